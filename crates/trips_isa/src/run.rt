@@ -1,0 +1,35 @@
+/// A committed block and the exit that it took.
+#[derive(Clone, Copy, Debug, PartialEq, Eq)]
+pub struct Traced {
+    pub block: u32,
+    pub exit: u8,
+}
+
+/// What one step of the machine came to: it went on, it made system call 3, or system call 4.
+#[derive(Clone, Copy, Debug, PartialEq, Eq)]
+pub enum Stepped {
+    Went,
+    Ended,
+    StackFull,
+}
+
+/// How a run ends.
+///
+/// `Ended` is system call 3, `StackFull` system call 4, and `Budget` a run that made neither in its
+/// budget of blocks. `Trap` names a faulting block and its cause; nothing answers it yet.
+#[derive(Clone, Copy, Debug, PartialEq, Eq)]
+pub enum Ending {
+    Ended,
+    StackFull,
+    Budget,
+    Trap { block: u32, cause: u8 },
+}
+
+/// What a run took: cycles, and blocks fetched, committed and flushed.
+#[derive(Clone, Copy, Debug, PartialEq, Eq)]
+pub struct Counts {
+    pub cycles: u64,
+    pub fetched: u64,
+    pub committed: u64,
+    pub flushed: u64,
+}
