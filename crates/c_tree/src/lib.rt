@@ -1,13 +1,21 @@
-// A library with one function.
+//! Tokens, trees and typed trees of the C profile (docs/LANGUAGE.md), as plain data.
+//!
+//! Contracts see each of them whole: a [`Word`] is its list of bytes, an `Items` its list and a `Boxed`
+//! what it holds. Lines are counted from 1. A negative value in a `u64` stands modulo 2^64.
 #![tactic(auto)]
 
-ghost use Rattle.std.specs.Prelude.{◌≡◌};
-ghost use Rattle.c_tree.specs.Echo.{echo_of};
+mod token;
+mod tree;
+mod typed;
+mod word;
 
-// The `ensures` clause is the contract: what `echo` returns is `echo_of` of its argument, a definition
-// in `specs/Echo.antt`, which a caller's clause can cite too.
-pub fn echo(x: usize) -> usize
-    ensures { result ≡ echo_of x }
-{
-    x
-}
+pub use token::{Form, Key, Kind, Lexeme, Mark};
+pub use tree::{
+    ArraySize, BinaryOp, BumpOp, Expr, ExprNode, ForInit, Param, Program, Stmt, StmtNode, Top,
+    TopNode, UnaryOp,
+};
+pub use typed::{
+    Callee, Place, Slot, TypedArray, TypedExpr, TypedForInit, TypedFunc, TypedGlobal, TypedNode,
+    TypedProgram, TypedStmt,
+};
+pub use word::Word;

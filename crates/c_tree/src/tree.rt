@@ -1,0 +1,210 @@
+use crate::{Kind, Word};
+use base::{Boxed, Items};
+
+/// A unary operator other than `++` and `--` (C17 6.5.3.3).
+#[derive(Clone, Copy, Debug, PartialEq, Eq)]
+pub enum UnaryOp {
+    Plus,
+    Minus,
+    Complement,
+    Not,
+}
+
+/// `++` and `--` before and after their operand (C17 6.5.2.4, 6.5.3.1).
+#[derive(Clone, Copy, Debug, PartialEq, Eq)]
+pub enum BumpOp {
+    PreInc,
+    PreDec,
+    PostInc,
+    PostDec,
+}
+
+/// A binary operator (C17 6.5.5 to 6.5.14), from the loosest level to the tightest.
+#[derive(Clone, Copy, Debug, PartialEq, Eq)]
+pub enum BinaryOp {
+    LogicalOr,
+    LogicalAnd,
+    BitOr,
+    BitXor,
+    BitAnd,
+    Equal,
+    NotEqual,
+    Less,
+    Greater,
+    LessEqual,
+    GreaterEqual,
+    ShiftLeft,
+    ShiftRight,
+    Add,
+    Subtract,
+    Multiply,
+    Divide,
+    Remainder,
+}
+
+/// An expression (C17 6.5) and the line of its first token.
+#[derive(Drop)]
+#[cycle(expr)]
+pub struct Expr {
+    pub line: u32,
+    pub node: ExprNode,
+}
+
+/// What an expression is. A parenthesised one is a `Group`.
+///
+/// `Assign` has the operator of a compound assignment, and none for `=`.
+#[derive(Drop)]
+#[cycle(expr)]
+pub enum ExprNode {
+    Number {
+        value: u64,
+        kind: Kind,
+    },
+    Name(Word),
+    Element {
+        array: Word,
+        index: Boxed<Expr>,
+    },
+    Call {
+        function: Word,
+        args: Items<Expr>,
+    },
+    Group(Boxed<Expr>),
+    Unary {
+        op: UnaryOp,
+        e: Boxed<Expr>,
+    },
+    Cast {
+        to: Kind,
+        e: Boxed<Expr>,
+    },
+    Bump {
+        op: BumpOp,
+        e: Boxed<Expr>,
+    },
+    Binary {
+        op: BinaryOp,
+        left: Boxed<Expr>,
+        right: Boxed<Expr>,
+    },
+    Choice {
+        test: Boxed<Expr>,
+        yes: Boxed<Expr>,
+        no: Boxed<Expr>,
+    },
+    Assign {
+        op: Option<BinaryOp>,
+        left: Boxed<Expr>,
+        right: Boxed<Expr>,
+    },
+    Comma {
+        left: Boxed<Expr>,
+        right: Boxed<Expr>,
+    },
+}
+
+/// What follows a declared name: no brackets, empty ones, or ones with a size.
+#[derive(Drop)]
+pub enum ArraySize {
+    Scalar,
+    Open,
+    Sized(Expr),
+}
+
+/// A statement (C17 6.8) or a local declaration, and the line of its first token.
+///
+/// A `Declare` stands at the line of its name.
+#[derive(Drop)]
+#[cycle(stmt)]
+pub struct Stmt {
+    pub line: u32,
+    pub node: StmtNode,
+}
+
+/// What a statement is. A declaration gives one `Declare` for each of its declarators.
+#[derive(Drop)]
+#[cycle(stmt)]
+pub enum StmtNode {
+    Declare {
+        kind: Kind,
+        name: Word,
+        size: ArraySize,
+        init: Option<Expr>,
+    },
+    Plain(Option<Expr>),
+    Compound(Items<Stmt>),
+    If {
+        test: Expr,
+        yes: Boxed<Stmt>,
+        no: Option<Boxed<Stmt>>,
+    },
+    While {
+        test: Expr,
+        body: Boxed<Stmt>,
+    },
+    Do {
+        body: Boxed<Stmt>,
+        test: Expr,
+    },
+    For {
+        init: ForInit,
+        test: Option<Expr>,
+        post: Option<Expr>,
+        body: Boxed<Stmt>,
+    },
+    Break,
+    Continue,
+    Return(Option<Expr>),
+}
+
+/// The first part of a `for`: nothing, an expression, or the declarators of a declaration.
+#[derive(Drop)]
+#[cycle(stmt)]
+pub enum ForInit {
+    Nothing,
+    First(Expr),
+    Locals(Items<Stmt>),
+}
+
+/// A parameter, at the line of its name, or of its type where it has none.
+#[derive(Drop)]
+pub struct Param {
+    pub line: u32,
+    pub kind: Kind,
+    pub name: Option<Word>,
+    pub size: ArraySize,
+}
+
+/// An item of a translation unit (C17 6.9): the include at its line, others at the line of their name.
+#[derive(Drop)]
+pub struct Top {
+    pub line: u32,
+    pub node: TopNode,
+}
+
+/// What an item is. A declaration of globals gives one `Global` for each of its declarators.
+///
+/// A scalar's initialiser is a list of one. A `result` of none is void, and a `body` of none makes a
+/// prototype.
+#[derive(Drop)]
+pub enum TopNode {
+    Include,
+    Global {
+        kind: Kind,
+        name: Word,
+        size: ArraySize,
+        init: Items<Expr>,
+    },
+    Func {
+        result: Option<Kind>,
+        name: Word,
+        params: Items<Param>,
+        body: Option<Stmt>,
+    },
+}
+
+/// A translation unit (C17 6.9).
+#[derive(Drop)]
+pub struct Program {
+    pub items: Items<Top>,
+}

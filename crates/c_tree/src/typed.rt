@@ -1,0 +1,171 @@
+use crate::{BinaryOp, BumpOp, Kind, UnaryOp};
+use base::{Boxed, Items};
+
+/// A global, a scalar of the function or a local array of the function, by its number.
+///
+/// Globals, local arrays and the scalars after the parameters are numbered in the order of the text.
+#[derive(Clone, Copy, Debug, PartialEq, Eq)]
+pub enum Place {
+    Global(u32),
+    Scalar(u32),
+    Array(u32),
+}
+
+/// What a call calls: a definition of the program by its number, or a function of `<stdio.h>`.
+#[derive(Clone, Copy, Debug, PartialEq, Eq)]
+pub enum Callee {
+    Func(u32),
+    GetChar,
+    PutChar,
+}
+
+/// What a scalar slot of a function holds: a value, or the array that an array parameter stands for.
+#[derive(Clone, Copy, Debug, PartialEq, Eq)]
+pub enum Slot {
+    Scalar(Kind),
+    Address(Kind),
+}
+
+/// A local array.
+#[derive(Clone, Copy, Debug, PartialEq, Eq)]
+pub struct TypedArray {
+    pub kind: Kind,
+    pub length: u32,
+}
+
+/// A typed expression. Its kind is none for a call that gives no value.
+///
+/// An array's name has the kind of its elements.
+#[derive(Drop)]
+#[cycle(typed_expr)]
+pub struct TypedExpr {
+    pub kind: Option<Kind>,
+    pub node: TypedNode,
+}
+
+/// What a typed expression is.
+///
+/// Each conversion to another type that the typing adds (C17 6.3) is a `Convert`, but for those that a
+/// compound assignment's `at`, the type in which its operation is done, and a `Bump` imply. For `=` the
+/// `at` is the left side's type. A cast stays a `Cast`.
+#[derive(Drop)]
+#[cycle(typed_expr)]
+pub enum TypedNode {
+    Number(u64),
+    Name(Place),
+    Element {
+        array: Place,
+        index: Boxed<TypedExpr>,
+    },
+    Call {
+        function: Callee,
+        args: Items<TypedExpr>,
+    },
+    Unary {
+        op: UnaryOp,
+        e: Boxed<TypedExpr>,
+    },
+    Cast {
+        to: Kind,
+        e: Boxed<TypedExpr>,
+    },
+    Convert {
+        to: Kind,
+        e: Boxed<TypedExpr>,
+    },
+    Bump {
+        op: BumpOp,
+        e: Boxed<TypedExpr>,
+    },
+    Binary {
+        op: BinaryOp,
+        left: Boxed<TypedExpr>,
+        right: Boxed<TypedExpr>,
+    },
+    Choice {
+        test: Boxed<TypedExpr>,
+        yes: Boxed<TypedExpr>,
+        no: Boxed<TypedExpr>,
+    },
+    Assign {
+        op: Option<BinaryOp>,
+        at: Kind,
+        left: Boxed<TypedExpr>,
+        right: Boxed<TypedExpr>,
+    },
+    Comma {
+        left: Boxed<TypedExpr>,
+        right: Boxed<TypedExpr>,
+    },
+}
+
+/// A typed statement.
+#[derive(Drop)]
+#[cycle(typed_stmt)]
+pub enum TypedStmt {
+    Declare {
+        place: Place,
+        init: Option<TypedExpr>,
+    },
+    Plain(Option<TypedExpr>),
+    Compound(Items<TypedStmt>),
+    If {
+        test: TypedExpr,
+        yes: Boxed<TypedStmt>,
+        no: Option<Boxed<TypedStmt>>,
+    },
+    While {
+        test: TypedExpr,
+        body: Boxed<TypedStmt>,
+    },
+    Do {
+        body: Boxed<TypedStmt>,
+        test: TypedExpr,
+    },
+    For {
+        init: TypedForInit,
+        test: Option<TypedExpr>,
+        post: Option<TypedExpr>,
+        body: Boxed<TypedStmt>,
+    },
+    Break,
+    Continue,
+    Return(Option<TypedExpr>),
+}
+
+/// The first part of a typed `for`.
+#[derive(Drop)]
+#[cycle(typed_stmt)]
+pub enum TypedForInit {
+    Nothing,
+    First(TypedExpr),
+    Locals(Items<TypedStmt>),
+}
+
+/// A global: a scalar where its length is none. `init` has the values given, converted to the kind;
+/// the rest is zero.
+#[derive(Drop)]
+pub struct TypedGlobal {
+    pub kind: Kind,
+    pub length: Option<u32>,
+    pub init: Items<u64>,
+}
+
+/// A function: the first `params` of its scalars are its parameters. A `result` of none is void.
+#[derive(Drop)]
+pub struct TypedFunc {
+    pub result: Option<Kind>,
+    pub params: u32,
+    pub scalars: Items<Slot>,
+    pub arrays: Items<TypedArray>,
+    pub body: TypedStmt,
+}
+
+/// A typed program: its functions are the definitions in the order of the text, and `main` is the
+/// number of the function main.
+#[derive(Drop)]
+pub struct TypedProgram {
+    pub globals: Items<TypedGlobal>,
+    pub functions: Items<TypedFunc>,
+    pub main: u32,
+}
