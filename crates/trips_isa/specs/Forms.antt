@@ -1,0 +1,114 @@
+-- The form of each operation's word, and how the operation takes its operands.
+use Rattle.std.specs.Prelude.{ℕ, Bool, true, false}
+use Rattle.trips_isa.specs.declared.op.Op.{Op}
+use Rattle.trips_isa.specs.declared.op.Op.TheVariants.{Extsb, Extsh, Extsw, Extub, Extuh, Extuw, Mov, Null, Addi, Subi, Muli, Andi, Ori, Xori, Slli, Srli, Srai, Teqi, Tnei, Tlti, Tlei, Tgti, Tgei, Tltui, Tleui, Tgtui, Tgeui, Lb, Lbs, Lh, Lhs, Lw, Lws, Ld, Sb, Sh, Sw, Sd, Bro, Callo, Br, Ret, Scall, Genu, Gens, App}
+use Rattle.trips_isa.specs.declared.form.Form.{Form}
+use Rattle.trips_isa.specs.declared.form.Form.TheVariants.{General, Immediate, Load, Store, Branch, Constant}
+use Rattle.trips_isa.specs.declared.form.Role.{Role}
+use Rattle.trips_isa.specs.declared.form.Role.TheVariants.{Free, Nothing, Copy, One, Both}
+
+abbrev pub form_of : Op → Form
+form_of Addi = Immediate
+form_of Subi = Immediate
+form_of Muli = Immediate
+form_of Andi = Immediate
+form_of Ori = Immediate
+form_of Xori = Immediate
+form_of Slli = Immediate
+form_of Srli = Immediate
+form_of Srai = Immediate
+form_of Teqi = Immediate
+form_of Tnei = Immediate
+form_of Tlti = Immediate
+form_of Tlei = Immediate
+form_of Tgti = Immediate
+form_of Tgei = Immediate
+form_of Tltui = Immediate
+form_of Tleui = Immediate
+form_of Tgtui = Immediate
+form_of Tgeui = Immediate
+form_of Lb = Load
+form_of Lbs = Load
+form_of Lh = Load
+form_of Lhs = Load
+form_of Lw = Load
+form_of Lws = Load
+form_of Ld = Load
+form_of Sb = Store
+form_of Sh = Store
+form_of Sw = Store
+form_of Sd = Store
+form_of Bro = Branch
+form_of Callo = Branch
+form_of Br = Branch
+form_of Ret = Branch
+form_of Scall = Branch
+form_of Genu = Constant
+form_of Gens = Constant
+form_of App = Constant
+form_of _ = General
+
+abbrev pub general_role : Op → Role
+general_role Extsb = One
+general_role Extsh = One
+general_role Extsw = One
+general_role Extub = One
+general_role Extuh = One
+general_role Extuw = One
+general_role Mov = Copy
+general_role Null = Nothing
+general_role _ = Both
+
+abbrev pub branch_role : Op → Role
+branch_role Br = One
+branch_role Ret = One
+branch_role _ = Free
+
+abbrev pub constant_role : Op → Role
+constant_role App = One
+constant_role _ = Free
+
+abbrev pub role_in : Form → Op → Role
+role_in General op = general_role op
+role_in Immediate op = One
+role_in Load op = One
+role_in Store op = Both
+role_in Branch op = branch_role op
+role_in Constant op = constant_role op
+
+abbrev pub role_of : Op → Role
+role_of op = role_in (form_of op) op
+
+-- the bytes that a load or a store moves, and 0 for any other operation
+abbrev pub size_of : Op → ℕ
+size_of Sb = 1
+size_of Sh = 2
+size_of Sw = 4
+size_of Sd = 8
+size_of Lb = 1
+size_of Lbs = 1
+size_of Lh = 2
+size_of Lhs = 2
+size_of Lw = 4
+size_of Lws = 4
+size_of Ld = 8
+size_of _ = 0
+
+-- whether the left and the right operand are taken
+abbrev pub takes_left : Role → Bool
+takes_left Copy = true
+takes_left One = true
+takes_left Both = true
+takes_left _ = false
+
+abbrev pub takes_right : Role → Bool
+takes_right Both = true
+takes_right _ = false
+
+abbrev pub is_load : Form → Bool
+is_load Load = true
+is_load _ = false
+
+abbrev pub is_store : Form → Bool
+is_store Store = true
+is_store _ = false

@@ -1,0 +1,10 @@
+pub mod Alu
+pub mod Forms
+pub mod Fits
+pub mod Rule
+pub mod Places
+pub mod Tables
+pub mod Stores
+pub mod Blocks
+pub mod Outcomes
+pub mod Machine

@@ -1,0 +1,113 @@
+-- What a block comes to in an entry state: its writes, its stores, its exit and the next block.
+use Rattle.std.specs.Prelude.{ℕ, suc, ◌+◌, ◌/◌, ◌%◌, ◌^◌, Bool, true, false, ◌==◌, nat_lt, cond, max, List, [], ◌∷◌, take, Option, Some, None, length}
+use Rattle.std.specs.List.{sum_by}
+use Rattle.trips_isa.specs.declared.op.Op.{Op}
+use Rattle.trips_isa.specs.declared.op.Op.TheVariants.{Bro, Callo, Br, Ret, Scall}
+use Rattle.trips_isa.specs.declared.block.Token.{Token}
+use Rattle.trips_isa.specs.declared.block.Token.TheVariants.{Null, Word}
+use Rattle.trips_isa.specs.declared.block.Inst.{Inst}
+use Rattle.trips_isa.specs.declared.block.Stored.{Stored}
+use Rattle.trips_isa.specs.declared.block.Block.{Block}
+use Rattle.trips_isa.specs.Alu.{word}
+use Rattle.trips_isa.specs.Rule.{Answer}
+use Rattle.trips_isa.specs.Tables.{deepest}
+use Rattle.trips_isa.specs.Stores.{listed_below}
+use Rattle.trips_isa.specs.Blocks.{at_place, store_of, Leaving, leaving_of, token_of}
+
+-- where blocks begin, in chunks of 128 bytes --------------------------------------------------
+
+abbrev pub chunks_to : Option Inst → ℕ → ℕ
+chunks_to None j = 1
+chunks_to (Some i) j = j / 32 + 1
+
+-- the least number of body chunks, from 1, that holds all used slots
+abbrev pub body_chunks : ℕ → List (Option Inst) → ℕ
+body_chunks j [] = 1
+body_chunks j (i ∷ is) = max (chunks_to i j) (body_chunks (suc j) is)
+
+-- a header chunk and the body
+abbrev pub chunks : Block → ℕ
+chunks b = 1 + body_chunks 0 b.insts.items
+
+-- the chunk where block k begins
+abbrev pub chunk_of : List Block → ℕ → ℕ
+chunk_of blocks k = sum_by chunks (take k blocks)
+
+-- the block that begins at a chunk, of those from number k on, whose first begins at `here`; block 0 where none does
+abbrev pub block_at : List Block → ℕ → ℕ → ℕ → ℕ
+block_at [] k here chunk = 0
+block_at (b ∷ bs) k here chunk = cond (here == chunk) k (block_at bs (suc k) (here + chunks b) chunk)
+
+-- the next block --------------------------------------------------------------------------------
+
+-- an address is in bytes; a null one leads to block 0
+abbrev pub to_address : List Block → Token → ℕ
+to_address blocks Null = 0
+to_address blocks (Word a) = cond (a % 128 == 0) (block_at blocks 0 0 (a / 128)) 0
+
+abbrev pub to_offset : List Block → ℕ → ℕ → ℕ
+to_offset blocks k offset = block_at blocks 0 0 ((chunk_of blocks k + offset) % 2 ^ 64)
+
+abbrev pub to_following : List Block → ℕ → ℕ
+to_following blocks k = cond (nat_lt (k + 1) (length blocks)) (k + 1) 0
+
+abbrev pub next_by : Op → List Block → ℕ → Inst → Token → ℕ
+next_by Bro blocks k i t = to_offset blocks k (word i.imm)
+next_by Callo blocks k i t = to_offset blocks k (word i.imm)
+next_by Br blocks k i t = to_address blocks t
+next_by Ret blocks k i t = to_address blocks t
+next_by Scall blocks k i t = to_following blocks k
+next_by _ blocks k i t = 0
+
+-- the block after block k, where this branch fires
+abbrev pub next_of : List Block → ℕ → Leaving → ℕ
+next_of blocks k None = 0
+next_of blocks k (Some p) = next_by (p.0).op blocks k p.0 p.1
+
+abbrev pub is_scall : Op → Bool
+is_scall Scall = true
+is_scall _ = false
+
+abbrev pub is_system : Leaving → Bool
+is_system None = false
+is_system (Some p) = is_scall (p.0).op
+
+abbrev pub exit_of : Leaving → ℕ
+exit_of None = 0
+exit_of (Some p) = (p.0).number
+
+-- outcomes ----------------------------------------------------------------------------------------
+
+-- the token of each write, the stores in order of number, the exit, whether a system call follows, and the next block
+pub record Outcome : Type 0 where
+  pub writes : List Token
+  pub stores : List Stored
+  pub exit : ℕ
+  pub system : Bool
+  pub successor : ℕ
+
+abbrev pub or_null : Answer → Token
+or_null None = Null
+or_null (Some t) = t
+
+-- the tokens of the writes from write w on
+abbrev pub writes_from : (ℕ → Answer) → ℕ → List ℕ → List Token
+writes_from at w [] = []
+writes_from at w (r ∷ rs) = or_null (at (384 + w)) ∷ writes_from at (suc w) rs
+
+-- all 32 numbers; not an `abbrev`, since a numeral unrolls the recursion in each goal
+unfoldable pub all_stores : (ℕ → Option Stored) → List Stored
+all_stores stores = listed_below stores 32
+
+-- what a table of tokens comes to in block k
+abbrev pub outcome_by : List Block → ℕ → Block → (ℕ → Answer) → Outcome
+outcome_by blocks k b g = record {
+  writes = writes_from (at_place b g) 0 b.writes.items;
+  stores = all_stores (store_of b g);
+  exit = exit_of (leaving_of b g);
+  system = is_system (leaving_of b g);
+  successor = next_of blocks k (leaving_of b g);
+}
+
+abbrev pub outcome : List Block → ℕ → Block → List ℕ → List ℕ → Outcome
+outcome blocks k b regs mem = outcome_by blocks k b (token_of b regs mem deepest)

@@ -1,0 +1,77 @@
+-- Places of a block as numbers, and its reads and slots as nodes that name places.
+use Rattle.std.specs.Prelude.{ℕ, suc, ◌+◌, Bool, true, false, ◌==◌, ◌||◌, List, [], ◌∷◌, ◌++◌, map, Option, Some, None}
+use Rattle.trips_isa.specs.declared.block.Spot.{Spot}
+use Rattle.trips_isa.specs.declared.block.Spot.TheVariants as spot
+use Rattle.trips_isa.specs.declared.block.Sense.TheVariants.{Always}
+use Rattle.trips_isa.specs.declared.block.Inst.{Inst}
+use Rattle.trips_isa.specs.declared.block.ReadSlot.{ReadSlot}
+use Rattle.trips_isa.specs.declared.block.Block.{Block}
+use Rattle.trips_isa.specs.declared.form.Form.{Form}
+use Rattle.trips_isa.specs.declared.form.Form.TheVariants.{Load, Store, Branch}
+use Rattle.trips_isa.specs.declared.form.Role.TheVariants.{Empty, Reading}
+use Rattle.trips_isa.specs.declared.node.Node.{Node}
+use Rattle.trips_isa.specs.Forms.{form_of, role_of}
+
+-- s is the left operand of slot s, 128 + s the right one, 256 + s the predicate, 384 + w the write w, 416 + n the store number n, 448 the exit.
+-- They stand in the order of spots. 700 is no place.
+abbrev pub place_of : Spot → ℕ
+place_of (spot.Left s) = s
+place_of (spot.Right s) = 128 + s
+place_of (spot.Pred s) = 256 + s
+place_of (spot.Write w) = 384 + w
+place_of (spot.Store n) = 416 + n
+place_of _ = 700
+
+abbrev pub place_at : Option Spot → ℕ
+place_at None = 700
+place_at (Some s) = place_of s
+
+-- a store names its number and a branch the exit
+abbrev pub first_place : Form → Inst → ℕ
+first_place Store i = 416 + i.number
+first_place Branch i = 448
+first_place _ i = place_at i.first
+
+-- a load sees the stores of lower numbers
+abbrev pub load_bound : Form → Inst → ℕ
+load_bound Load i = 416 + i.number
+load_bound _ i = 0
+
+-- a read has no slot: none of its operands or its predicate is a place
+abbrev pub read_node : ReadSlot → Node
+read_node r = record { slot = 449; role = Reading; sense = Always; first = place_of r.first; second = place_at r.second; below = 0 }
+
+abbrev pub slot_node : ℕ → Option Inst → Node
+slot_node j None = record { slot = j; role = Empty; sense = Always; first = 700; second = 700; below = 0 }
+slot_node j (Some i) = record { slot = j; role = role_of i.op; sense = i.sense; first = first_place (form_of i.op) i; second = place_at i.second; below = load_bound (form_of i.op) i }
+
+abbrev pub slot_nodes : ℕ → List (Option Inst) → List Node
+slot_nodes j [] = []
+slot_nodes j (i ∷ is) = slot_node j i ∷ slot_nodes (suc j) is
+
+-- the reads, then the slots: node x is read x, or slot x less the number of reads
+abbrev pub nodes_of : Block → List Node
+nodes_of b = map read_node b.reads.items ++ slot_nodes 0 b.insts.items
+
+abbrev pub targets : Node → List ℕ
+targets n = n.first ∷ n.second ∷ []
+
+abbrev pub names : List ℕ → ℕ → Bool
+names [] q = false
+names (t ∷ ts) q = (t == q) || names ts q
+
+-- the reads, then the instructions in order of slot, that name a spot
+abbrev pub if_named : Bool → Spot → List Spot → List Spot
+if_named true s rest = s ∷ rest
+if_named false s rest = rest
+
+abbrev pub reads_naming : ℕ → List ReadSlot → ℕ → List Spot
+reads_naming i [] q = []
+reads_naming i (r ∷ rs) q = if_named (names (targets (read_node r)) q) (spot.Read i) (reads_naming (suc i) rs q)
+
+abbrev pub slots_naming : ℕ → List (Option Inst) → ℕ → List Spot
+slots_naming j [] q = []
+slots_naming j (i ∷ is) q = if_named (names (targets (slot_node j i)) q) (spot.Inst j) (slots_naming (suc j) is q)
+
+abbrev pub producers : Block → Spot → List Spot
+producers b s = reads_naming 0 b.reads.items (place_of s) ++ slots_naming 0 b.insts.items (place_of s)
