@@ -1,6 +1,7 @@
 pub mod Alu
 pub mod Forms
 pub mod Fits
+pub mod Images
 pub mod Rule
 pub mod Places
 pub mod Tables

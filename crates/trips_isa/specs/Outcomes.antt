@@ -1,6 +1,5 @@
 -- What a block comes to in an entry state: its writes, its stores, its exit and the next block.
-use Rattle.std.specs.Prelude.{ℕ, suc, ◌+◌, ◌/◌, ◌%◌, ◌^◌, Bool, true, false, ◌==◌, nat_lt, cond, max, List, [], ◌∷◌, take, Option, Some, None, length}
-use Rattle.std.specs.List.{sum_by}
+use Rattle.std.specs.Prelude.{ℕ, suc, ◌+◌, ◌/◌, ◌%◌, ◌^◌, Bool, true, false, ◌==◌, nat_lt, cond, List, [], ◌∷◌, Option, Some, None, length}
 use Rattle.trips_isa.specs.declared.op.Op.{Op}
 use Rattle.trips_isa.specs.declared.op.Op.TheVariants.{Bro, Callo, Br, Ret, Scall}
 use Rattle.trips_isa.specs.declared.block.Token.{Token}
@@ -9,34 +8,11 @@ use Rattle.trips_isa.specs.declared.block.Inst.{Inst}
 use Rattle.trips_isa.specs.declared.block.Stored.{Stored}
 use Rattle.trips_isa.specs.declared.block.Block.{Block}
 use Rattle.trips_isa.specs.Alu.{word}
+use Rattle.trips_isa.specs.Images.{chunk_of, block_at}
 use Rattle.trips_isa.specs.Rule.{Answer}
 use Rattle.trips_isa.specs.Tables.{deepest}
 use Rattle.trips_isa.specs.Stores.{listed_below}
 use Rattle.trips_isa.specs.Blocks.{at_place, store_of, Leaving, leaving_of, token_of}
-
--- where blocks begin, in chunks of 128 bytes --------------------------------------------------
-
-abbrev pub chunks_to : Option Inst → ℕ → ℕ
-chunks_to None j = 1
-chunks_to (Some i) j = j / 32 + 1
-
--- the least number of body chunks, from 1, that holds all used slots
-abbrev pub body_chunks : ℕ → List (Option Inst) → ℕ
-body_chunks j [] = 1
-body_chunks j (i ∷ is) = max (chunks_to i j) (body_chunks (suc j) is)
-
--- a header chunk and the body
-abbrev pub chunks : Block → ℕ
-chunks b = 1 + body_chunks 0 b.insts.items
-
--- the chunk where block k begins
-abbrev pub chunk_of : List Block → ℕ → ℕ
-chunk_of blocks k = sum_by chunks (take k blocks)
-
--- the block that begins at a chunk, of those from number k on, whose first begins at `here`; block 0 where none does
-abbrev pub block_at : List Block → ℕ → ℕ → ℕ → ℕ
-block_at [] k here chunk = 0
-block_at (b ∷ bs) k here chunk = cond (here == chunk) k (block_at bs (suc k) (here + chunks b) chunk)
 
 -- the next block --------------------------------------------------------------------------------
 

@@ -27,31 +27,52 @@ place_at None = 700
 place_at (Some s) = place_of s
 
 -- a store names its number and a branch the exit
-abbrev pub first_place : Form → Inst → ℕ
-first_place Store i = 416 + i.number
-first_place Branch i = 448
-first_place _ i = place_at i.first
+abbrev pub first_place : Form → ℕ → Option Spot → ℕ
+first_place Store n s = 416 + n
+first_place Branch n s = 448
+first_place _ n s = place_at s
 
 -- a load sees the stores of lower numbers
-abbrev pub load_bound : Form → Inst → ℕ
-load_bound Load i = 416 + i.number
-load_bound _ i = 0
+abbrev pub load_bound : Form → ℕ → ℕ
+load_bound Load n = 416 + n
+load_bound _ n = 0
 
 -- a read has no slot: none of its operands or its predicate is a place
 abbrev pub read_node : ReadSlot → Node
-read_node r = record { slot = 449; role = Reading; sense = Always; first = place_of r.first; second = place_at r.second; below = 0 }
+read_node r = record {
+  slot = 449;
+  role = Reading;
+  sense = Always;
+  first = place_of r.first;
+  second = place_at r.second;
+  below = 0;
+}
 
-abbrev pub slot_node : ℕ → Option Inst → Node
-slot_node j None = record { slot = j; role = Empty; sense = Always; first = 700; second = 700; below = 0 }
-slot_node j (Some i) = record { slot = j; role = role_of i.op; sense = i.sense; first = first_place (form_of i.op) i; second = place_at i.second; below = load_bound (form_of i.op) i }
+abbrev pub inst_node : ℕ → Option Inst → Node
+inst_node j None = record {
+  slot = j;
+  role = Empty;
+  sense = Always;
+  first = 700;
+  second = 700;
+  below = 0;
+}
+inst_node j (Some i) = record {
+  slot = j;
+  role = role_of i.op;
+  sense = i.sense;
+  first = first_place (form_of i.op) i.number i.first;
+  second = place_at i.second;
+  below = load_bound (form_of i.op) i.number;
+}
 
-abbrev pub slot_nodes : ℕ → List (Option Inst) → List Node
-slot_nodes j [] = []
-slot_nodes j (i ∷ is) = slot_node j i ∷ slot_nodes (suc j) is
+abbrev pub inst_nodes : ℕ → List (Option Inst) → List Node
+inst_nodes j [] = []
+inst_nodes j (i ∷ is) = inst_node j i ∷ inst_nodes (suc j) is
 
 -- the reads, then the slots: node x is read x, or slot x less the number of reads
 abbrev pub nodes_of : Block → List Node
-nodes_of b = map read_node b.reads.items ++ slot_nodes 0 b.insts.items
+nodes_of b = map read_node b.reads.items ++ inst_nodes 0 b.insts.items
 
 abbrev pub targets : Node → List ℕ
 targets n = n.first ∷ n.second ∷ []
@@ -71,7 +92,7 @@ reads_naming i (r ∷ rs) q = if_named (names (targets (read_node r)) q) (spot.R
 
 abbrev pub slots_naming : ℕ → List (Option Inst) → ℕ → List Spot
 slots_naming j [] q = []
-slots_naming j (i ∷ is) q = if_named (names (targets (slot_node j i)) q) (spot.Inst j) (slots_naming (suc j) is q)
+slots_naming j (i ∷ is) q = if_named (names (targets (inst_node j i)) q) (spot.Inst j) (slots_naming (suc j) is q)
 
 abbrev pub producers : Block → Spot → List Spot
 producers b s = reads_naming 0 b.reads.items (place_of s) ++ slots_naming 0 b.insts.items (place_of s)

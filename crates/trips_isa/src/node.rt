@@ -15,3 +15,16 @@ pub struct Node {
     pub second: u16,
     pub below: u16,
 }
+
+impl Default for Node {
+    fn default() -> Node {
+        Node {
+            slot: 0,
+            role: Role::Empty,
+            sense: Sense::Always,
+            first: 700,
+            second: 700,
+            below: 0,
+        }
+    }
+}

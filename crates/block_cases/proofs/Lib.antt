@@ -1,0 +1,6 @@
+pub mod StandardFacts
+pub mod Steady
+pub mod Alike
+pub mod OneToken
+pub mod AnyBits
+pub mod Placed

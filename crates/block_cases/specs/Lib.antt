@@ -1,0 +1,6 @@
+pub mod Nodes
+pub mod Cases
+pub mod Blocks
+pub mod Orders
+pub mod Good
+pub mod Shapes

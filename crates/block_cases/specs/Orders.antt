@@ -1,0 +1,95 @@
+-- The faults of a target and of a number, which hang on no case.
+use Rattle.std.specs.Prelude.{◌≡◌, ℕ, ◌<◌, Bool, true, false, ◌==◌, ◌&&◌, ◌||◌, nat_lt, List, [], ◌∷◌, take, length, Option, Some, None, slice_get, slice_index, slice_index_or}
+use Rattle.trips_isa.specs.declared.block.Sense.{Sense}
+use Rattle.trips_isa.specs.declared.block.Sense.TheVariants.{Always}
+use Rattle.trips_isa.specs.declared.block.Spot.{Spot}
+use Rattle.trips_isa.specs.declared.block.Spot.TheVariants as spot
+use Rattle.trips_isa.specs.declared.block.Inst.{Inst}
+use Rattle.trips_isa.specs.declared.block.ReadSlot.{ReadSlot}
+use Rattle.trips_isa.specs.declared.block.Block.{Block}
+use Rattle.block_cases.specs.Cases.{no}
+use Rattle.block_cases.specs.Blocks.{form_of, role_of, takes_left, takes_right, is_store, is_load, in_mask}
+
+abbrev pub is_guarded : Sense → Bool
+is_guarded Always = false
+is_guarded _ = true
+
+abbrev pub slot_of : Block → ℕ → Option Inst
+slot_of b s = slice_index_or b.insts.items s None
+
+abbrev pub left_of : Option Inst → Bool
+left_of None = false
+left_of (Some i) = takes_left (role_of i.op)
+
+abbrev pub right_of : Option Inst → Bool
+right_of None = false
+right_of (Some i) = takes_right (role_of i.op)
+
+abbrev pub guard_of : Option Inst → Bool
+guard_of None = false
+guard_of (Some i) = is_guarded i.sense
+
+abbrev pub target_good : Block → Spot → Bool
+target_good b (spot.Left s) = left_of (slot_of b s)
+target_good b (spot.Right s) = right_of (slot_of b s)
+target_good b (spot.Pred s) = guard_of (slot_of b s)
+target_good b (spot.Write w) = nat_lt w (length b.writes.items)
+target_good b _ = false
+
+abbrev pub targets_good : Block → Option Spot → Bool
+targets_good b None = true
+targets_good b (Some s) = target_good b s
+
+abbrev pub bad_read_slot : Block → Option ReadSlot → Bool
+bad_read_slot b None = false
+bad_read_slot b (Some r) = no (target_good b r.first && targets_good b r.second)
+
+abbrev pub bad_read : Block → ℕ → Bool
+bad_read b i = bad_read_slot b (slice_get b.reads.items i)
+
+abbrev pub bad_slot : Block → Option Inst → Bool
+bad_slot b None = false
+bad_slot b (Some i) = no (targets_good b i.first && targets_good b i.second)
+
+abbrev pub bad_inst : Block → ℕ → Bool
+bad_inst b j = bad_slot b (slot_of b j)
+
+abbrev pub loads : Option Inst → ℕ → Bool
+loads None n = false
+loads (Some i) n = is_load (form_of i.op) && (i.number == n)
+
+-- an earlier load of this number
+abbrev pub has_load : List (Option Inst) → ℕ → Bool
+has_load [] n = false
+has_load (i ∷ is) n = loads i n || has_load is n
+
+abbrev pub bad_slot_number : Block → ℕ → Option Inst → Bool
+bad_slot_number b j None = false
+bad_slot_number b j (Some i) =
+    (is_store (form_of i.op) && no (in_mask b.mask i.number)) || (is_load (form_of i.op) && (in_mask b.mask i.number || has_load (take j b.insts.items) i.number))
+
+abbrev pub bad_number : Block → ℕ → Bool
+bad_number b j = bad_slot_number b j (slot_of b j)
+
+abbrev pub has_item : List ℕ → ℕ → Bool
+has_item [] n = false
+has_item (r ∷ rs) n = (r == n) || has_item rs n
+
+-- an earlier write of the same register
+abbrev pub bad_write : Block → ℕ → Bool
+bad_write b w = has_item (take w b.writes.items) (slice_index b.writes.items w)
+
+pub record IsLeast (p : ℕ → Bool) (n k : ℕ) : Type 0 where
+  pub below : k < n
+  pub holds : p k ≡ true
+  pub least : (j : ℕ) → j < k → p j ≡ false
+
+abbrev pub NoneBelow : (ℕ → Bool) → ℕ → Type 0
+NoneBelow p n = (j : ℕ) → j < n → p j ≡ false
+
+-- no fault of these kinds
+pub record IsInOrder (b : Block) : Type 0 where
+  pub reads : NoneBelow (bad_read b) (length b.reads.items)
+  pub insts : NoneBelow (bad_inst b) 128
+  pub numbers : NoneBelow (bad_number b) 128
+  pub writes : NoneBelow (bad_write b) (length b.writes.items)

@@ -1,0 +1,46 @@
+-- Where the blocks of an image begin, and the images whose parts lie in their fields.
+use Rattle.std.specs.Prelude.{◌≡◌, ℕ, suc, ◌+◌, ◌/◌, ◌≤◌, ◌==◌, cond, max, List, [], ◌∷◌, take, Option, Some, None, All, length}
+use Rattle.std.specs.List.{sum_by}
+use Rattle.trips_isa.specs.declared.block.Inst.{Inst}
+use Rattle.trips_isa.specs.declared.block.Block.{Block}
+use Rattle.trips_isa.specs.declared.block.Image.{Image}
+use Rattle.trips_isa.specs.Fits.{FitsBlock}
+
+-- where blocks begin, in chunks of 128 bytes --------------------------------------------------
+
+abbrev pub chunks_to : Option Inst → ℕ → ℕ
+chunks_to None j = 1
+chunks_to (Some i) j = j / 32 + 1
+
+-- the least number of body chunks, from 1, that holds all used slots
+abbrev pub body_chunks : ℕ → List (Option Inst) → ℕ
+body_chunks j [] = 1
+body_chunks j (i ∷ is) = max (chunks_to i j) (body_chunks (suc j) is)
+
+-- a header chunk and the body
+abbrev pub chunks : Block → ℕ
+chunks b = 1 + body_chunks 0 b.insts.items
+
+-- the chunk where block k begins
+abbrev pub chunk_of : List Block → ℕ → ℕ
+chunk_of blocks k = sum_by chunks (take k blocks)
+
+-- the block that begins at a chunk, of those from number k on, whose first begins at `here`; block 0 where none does
+abbrev pub block_at : List Block → ℕ → ℕ → ℕ → ℕ
+block_at [] k here chunk = 0
+block_at (b ∷ bs) k here chunk = cond (here == chunk) k (block_at bs (suc k) (here + chunks b) chunk)
+
+-- images ------------------------------------------------------------------------------------------
+
+-- the last byte, or 1 where there is none
+abbrev pub last_byte : List ℕ → ℕ
+last_byte [] = 1
+last_byte (b ∷ []) = b
+last_byte (b ∷ c ∷ bs) = last_byte (c ∷ bs)
+
+pub record FitsImage (i : Image) : Type 0 where
+  pub some : 1 ≤ length i.blocks
+  pub each : All FitsBlock i.blocks
+  pub total : sum_by chunks i.blocks ≤ 524288
+  pub few : length i.bytes ≤ 4194304
+  pub last : last_byte i.bytes ≡ 0 → ⊥
