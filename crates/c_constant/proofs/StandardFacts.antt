@@ -1,0 +1,82 @@
+-- The definitions at worked values.
+use Rattle.std.proofs.Common.{◌≡◌, pos, negsuc, Some, None, refl}
+use Rattle.c_tree.specs.declared.Kind.TheVariants.{Char, UChar, Int, UInt, Long, ULong}
+use Rattle.c_tree.specs.declared.UnaryOp.TheVariants as one
+use Rattle.c_tree.specs.declared.BinaryOp.TheVariants as op
+use Rattle.c_constant.specs.Kinds.{common, converted}
+use Rattle.c_constant.specs.Operation.{c_operation, c_unary, operate, kind_at}
+
+overflow : c_operation op.Add Int (pos 2147483647) (pos 1) ≡ None
+overflow = refl
+
+no_overflow : c_operation op.Add Long (pos 2147483647) (pos 1) ≡ Some (pos 2147483648)
+no_overflow = refl
+
+wraps : c_operation op.Subtract UInt (pos 0) (pos 1) ≡ Some (pos 4294967295)
+wraps = refl
+
+square : c_operation op.Multiply Int (pos 46341) (pos 46341) ≡ None
+square = refl
+
+toward_zero : c_operation op.Divide Int (negsuc 6) (pos 2) ≡ Some (negsuc 2)
+toward_zero = refl
+
+by_zero : c_operation op.Divide ULong (pos 1) (pos 0) ≡ None
+by_zero = refl
+
+least_by_minus_one : c_operation op.Divide Int (negsuc 2147483647) (negsuc 0) ≡ None
+least_by_minus_one = refl
+
+dividend_sign : c_operation op.Remainder Int (negsuc 6) (pos 4) ≡ Some (negsuc 2)
+dividend_sign = refl
+
+least_over_minus_one : c_operation op.Remainder Int (negsuc 2147483647) (negsuc 0) ≡ None
+least_over_minus_one = refl
+
+into_the_sign : c_operation op.ShiftLeft Int (pos 1) (pos 31) ≡ None
+into_the_sign = refl
+
+by_the_width : c_operation op.ShiftLeft UInt (pos 1) (pos 32) ≡ None
+by_the_width = refl
+
+negative_left : c_operation op.ShiftLeft Long (negsuc 0) (pos 0) ≡ None
+negative_left = refl
+
+rounds_down : c_operation op.ShiftRight Int (negsuc 4) (pos 1) ≡ Some (negsuc 2)
+rounds_down = refl
+
+negative_count : c_operation op.ShiftRight ULong (pos 8) (negsuc 0) ≡ None
+negative_count = refl
+
+by_bits : c_operation op.BitAnd Int (negsuc 1) (pos 7) ≡ Some (pos 6)
+by_bits = refl
+
+is_above : c_operation op.GreaterEqual Int (pos 0) (negsuc 0) ≡ Some (pos 1)
+is_above = refl
+
+least_has_no_negative : c_unary one.Minus Int (negsuc 2147483647) ≡ None
+least_has_no_negative = refl
+
+all_ones : c_unary one.Complement UInt (pos 0) ≡ Some (pos 4294967295)
+all_ones = refl
+
+word_by_word : operate op.Less Int 18446744073709551615 0 ≡ Some 1
+unfolding operate
+word_by_word = refl
+
+low_bits : converted Char 511 ≡ 18446744073709551615
+unfolding converted
+low_bits = refl
+
+zero_extended : converted ULong 18446744073709551615 ≡ 18446744073709551615
+unfolding converted
+zero_extended = refl
+
+long_holds_unsigned : common UInt Long ≡ Long
+long_holds_unsigned = refl
+
+characters_are_ints : common Char UChar ≡ Int
+characters_are_ints = refl
+
+left_alone : kind_at op.ShiftLeft UChar ULong ≡ Int
+left_alone = refl

@@ -1,0 +1,36 @@
+-- How the names in scope are kept.
+use Rattle.std.specs.Prelude.{◌≡◌, ℕ, ◌-◌, ◌≤◌, cond, List, [], ◌∷◌, length, map, take, drop, Option, Some, None}
+use Rattle.std.specs.HashMap.{HashMap, get}
+use Rattle.c_scope.specs.declared.meaning.Entry.{Entry}
+use Rattle.c_scope.specs.Scope.{Scope, Frame, same_name}
+
+abbrev pub bindings : List Entry → Frame
+bindings = map (λ e. e.binding)
+
+-- the blocks, of which each but the outermost begins at a place
+abbrev pub frames : List ℕ → List Entry → Scope
+frames [] es = bindings es ∷ []
+frames (s ∷ ss) es = bindings (take (length es - s) es) ∷ frames ss (drop (length es - s) es)
+
+abbrev pub first_start : List ℕ → ℕ
+first_start [] = 0
+first_start (s ∷ ss) = s
+
+abbrev pub StartsFit : List ℕ → ℕ → Type 0
+StartsFit [] n = Unit {0}
+StartsFit (s ∷ ss) n = (s ≤ n) × StartsFit ss s
+
+-- the place of the newest binding of a name
+abbrev pub place_in : List Entry → List ℕ → Option ℕ
+place_in [] q = None
+place_in (e ∷ es) q = cond (same_name e.binding.name q) (Some (length es)) (place_in es q)
+
+-- each entry knows the one that it hides
+abbrev pub HidesRight : List Entry → Type 0
+HidesRight [] = Unit {0}
+HidesRight (e ∷ es) = (e.hidden ≡ place_in es e.binding.name) × HidesRight es
+
+-- the table finds the newest binding of each name
+pub record Kept {S : Type 0} (es : List Entry) (m : HashMap (List ℕ) ℕ S) : Type 0 where
+  pub hides : HidesRight es
+  pub finds : (q : List ℕ) → get same_name m q ≡ place_in es q

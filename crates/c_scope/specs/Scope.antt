@@ -1,0 +1,49 @@
+-- What the names mean.
+use Rattle.std.specs.Prelude.{ℕ, Bool, false, nat_eq, cond, List, [], ◌∷◌, Option, Some, None, is_some}
+use Rattle.std.specs.Cmp.Lexicographic.{pointwise}
+use Rattle.c_scope.specs.declared.meaning.Meaning.{Meaning}
+use Rattle.c_scope.specs.declared.meaning.Binding.{Binding}
+
+abbrev pub same_name : List ℕ → List ℕ → Bool
+same_name = pointwise nat_eq
+
+-- the names of one block, the newest first
+abbrev pub Frame : Type 0
+Frame = List Binding
+
+-- the blocks that are open, the innermost first
+abbrev pub Scope : Type 0
+Scope = List Frame
+
+abbrev pub or_else : Option Meaning → Option Meaning → Option Meaning
+or_else None n = n
+or_else (Some m) n = Some m
+
+abbrev pub find : Frame → List ℕ → Option Meaning
+find [] w = None
+find (b ∷ f) w = cond (same_name b.name w) (Some b.meaning) (find f w)
+
+-- the innermost meaning of a name
+abbrev pub look_up : Scope → List ℕ → Option Meaning
+look_up [] w = None
+look_up (f ∷ G) w = or_else (find f w) (look_up G w)
+
+-- is the name declared in the innermost block?
+abbrev pub is_here : Scope → List ℕ → Bool
+is_here [] w = false
+is_here (f ∷ G) w = is_some (find f w)
+
+abbrev pub opened : Scope → Scope
+opened G = [] ∷ G
+
+abbrev pub closed : Scope → Scope
+closed [] = []
+closed (f ∷ []) = f ∷ []
+closed (f ∷ g ∷ G) = g ∷ G
+
+abbrev pub declared_in : Binding → Scope → Scope
+declared_in b [] = (b ∷ []) ∷ []
+declared_in b (f ∷ G) = (b ∷ f) ∷ G
+
+abbrev pub bound : List ℕ → Meaning → Binding
+bound w m = record { name = w; meaning = m }

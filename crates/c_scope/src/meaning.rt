@@ -1,0 +1,33 @@
+use base::Items;
+use c_tree::{Callee, Kind, Place, Slot, Word};
+
+/// What a name means where it is in scope.
+#[derive(Drop)]
+pub enum Meaning {
+    Scalar(Kind, Place),
+    Array(Kind, Place),
+    /// A function. `callee` is what a call of it calls, none where the unit does not define it; `defined`
+    /// says whether its definition, or the include that stands for one, has come.
+    Function {
+        result: Option<Kind>,
+        params: Items<Slot>,
+        callee: Option<Callee>,
+        defined: bool,
+    },
+    /// The constant `EOF` of `<stdio.h>`.
+    EndOfFile,
+}
+
+/// A name and its meaning.
+#[derive(Drop)]
+pub struct Binding {
+    pub name: Word,
+    pub meaning: Meaning,
+}
+
+/// A binding, with the place of the one that it hides.
+#[derive(Drop)]
+pub struct Entry {
+    pub binding: Binding,
+    pub hidden: Option<usize>,
+}
