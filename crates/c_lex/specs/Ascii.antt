@@ -1,0 +1,149 @@
+-- The bytes that the rules name (the basic character set, C17 5.2.1, in ASCII).
+use Rattle.std.specs.Prelude.{ℕ}
+
+abbrev pub alert : ℕ
+alert = 7
+
+abbrev pub backspace : ℕ
+backspace = 8
+
+abbrev pub tab : ℕ
+tab = 9
+
+abbrev pub line_feed : ℕ
+line_feed = 10
+
+abbrev pub vertical_tab : ℕ
+vertical_tab = 11
+
+abbrev pub form_feed : ℕ
+form_feed = 12
+
+abbrev pub carriage_return : ℕ
+carriage_return = 13
+
+abbrev pub space : ℕ
+space = 32
+
+abbrev pub double_quote : ℕ
+double_quote = 34
+
+abbrev pub hash : ℕ
+hash = 35
+
+abbrev pub ampersand : ℕ
+ampersand = 38
+
+abbrev pub quote : ℕ
+quote = 39
+
+abbrev pub star : ℕ
+star = 42
+
+abbrev pub plus : ℕ
+plus = 43
+
+abbrev pub minus : ℕ
+minus = 45
+
+abbrev pub point : ℕ
+point = 46
+
+abbrev pub slash : ℕ
+slash = 47
+
+abbrev pub digit_0 : ℕ
+digit_0 = 48
+
+abbrev pub digit_1 : ℕ
+digit_1 = 49
+
+abbrev pub digit_9 : ℕ
+digit_9 = 57
+
+abbrev pub less : ℕ
+less = 60
+
+abbrev pub equal : ℕ
+equal = 61
+
+abbrev pub greater : ℕ
+greater = 62
+
+abbrev pub question : ℕ
+question = 63
+
+abbrev pub upper_a : ℕ
+upper_a = 65
+
+abbrev pub upper_e : ℕ
+upper_e = 69
+
+abbrev pub upper_f : ℕ
+upper_f = 70
+
+abbrev pub upper_l : ℕ
+upper_l = 76
+
+abbrev pub upper_p : ℕ
+upper_p = 80
+
+abbrev pub upper_u : ℕ
+upper_u = 85
+
+abbrev pub upper_x : ℕ
+upper_x = 88
+
+abbrev pub upper_z : ℕ
+upper_z = 90
+
+abbrev pub backslash : ℕ
+backslash = 92
+
+abbrev pub underscore : ℕ
+underscore = 95
+
+abbrev pub lower_a : ℕ
+lower_a = 97
+
+abbrev pub lower_b : ℕ
+lower_b = 98
+
+abbrev pub lower_e : ℕ
+lower_e = 101
+
+abbrev pub lower_f : ℕ
+lower_f = 102
+
+abbrev pub lower_l : ℕ
+lower_l = 108
+
+abbrev pub lower_n : ℕ
+lower_n = 110
+
+abbrev pub lower_p : ℕ
+lower_p = 112
+
+abbrev pub lower_r : ℕ
+lower_r = 114
+
+abbrev pub lower_t : ℕ
+lower_t = 116
+
+abbrev pub lower_u : ℕ
+lower_u = 117
+
+abbrev pub lower_v : ℕ
+lower_v = 118
+
+abbrev pub lower_x : ℕ
+lower_x = 120
+
+abbrev pub lower_z : ℕ
+lower_z = 122
+
+abbrev pub bar : ℕ
+bar = 124
+
+abbrev pub tilde : ℕ
+tilde = 126
