@@ -30,6 +30,15 @@ abbrev pub block_at : List Block → ℕ → ℕ → ℕ → ℕ
 block_at [] k here chunk = 0
 block_at (b ∷ bs) k here chunk = cond (here == chunk) k (block_at bs (suc k) (here + chunks b) chunk)
 
+-- the same, and none where no block begins there
+abbrev pub starting_from : List Block → ℕ → ℕ → ℕ → Option ℕ
+starting_from [] k here chunk = None
+starting_from (b ∷ bs) k here chunk = cond (here == chunk) (Some k) (starting_from bs (suc k) (here + chunks b) chunk)
+
+-- the block that begins at a chunk of an image
+abbrev pub starting_at : List Block → ℕ → Option ℕ
+starting_at blocks chunk = starting_from blocks 0 0 chunk
+
 -- images ------------------------------------------------------------------------------------------
 
 -- the last byte, or 1 where there is none

@@ -9,6 +9,7 @@ mod form;
 mod node;
 mod op;
 mod run;
+mod size;
 
 pub use arithmetic::{alu, loaded};
 pub use block::{Block, Image, Inst, ReadSlot, Sense, Spot, Stored, Token};
@@ -16,3 +17,4 @@ pub use form::{Form, Role, form_of, role_of, size_of};
 pub use node::Node;
 pub use op::Op;
 pub use run::{Counts, Ending, Stepped, Traced};
+pub use size::chunks;
