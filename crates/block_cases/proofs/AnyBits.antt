@@ -82,16 +82,20 @@ one_producer (m ∷ ms) f q l zero (suc y) n k a b = absurd (let s = head_token 
 one_producer (m ∷ ms) f q l (suc x) zero n k a b = absurd (let s = head_token m ms f q k b in let t = one_at ms (λ z. f (suc z)) q x (n.0, n.1, n.2) a in omega (arith, s, t))
 one_producer (m ∷ ms) f q l (suc x) (suc y) n k a b = ap suc (one_producer ms (λ z. f (suc z)) q (omega arith) x y (n.0, n.1, n.2) (k.0, k.1, k.2) a b)
 
-pub any_bits : (ns : List Node) (wanted : ℕ → Bool) → IsRanked ns → IsPlaced ns → Good ns wanted → (bits : ℕ → Bool) (q x y : ℕ) → q < 449 → NamesPlace ns x q → NamesPlace ns y q → fires ns bits deepest x ≢ Absent → fires ns bits deepest y ≢ Absent → x ≡ y
-any_bits ns wanted r w good bits q x y lt n k a b = one_producer ns (fires ns bits deepest) q (most (nat_lt q 448) refl) x y n k a b
+-- at the exit too
+pub one_at_most : (ns : List Node) (wanted : ℕ → Bool) (f : ℕ → CaseToken) → OneToken ns wanted f → (q : ℕ) → q < 449 → tokens ns f q ≤ 1
+one_at_most ns wanted f law q lt = most (nat_lt q 448) refl
   where
-    law : OneToken ns wanted (fires ns bits deepest)
-    law = one_token ns wanted r w good (fires ns bits deepest) (solves_own ns bits (fires ns bits deepest) (settled ns r.0 r.1 bits))
-
-    most : (v : Bool) → nat_lt q 448 ≡ v → tokens ns (fires ns bits deepest) q ≤ 1
+    most : (v : Bool) → nat_lt q 448 ≡ v → tokens ns f q ≤ 1
     most true e = law.at_most q (grind arith)
     most false e =
         let le : 448 ≤ q = grind arith in
         let is : q ≡ 448 = omega arith in
-        let t : tokens ns (fires ns bits deepest) q ≡ 1 = ap (λ z. tokens ns (fires ns bits deepest) z) is ∙ law.exit in
+        let t : tokens ns f q ≡ 1 = ap (λ z. tokens ns f z) is ∙ law.exit in
         omega arith
+
+pub any_bits : (ns : List Node) (wanted : ℕ → Bool) → IsRanked ns → IsPlaced ns → Good ns wanted → (bits : ℕ → Bool) (q x y : ℕ) → q < 449 → NamesPlace ns x q → NamesPlace ns y q → fires ns bits deepest x ≢ Absent → fires ns bits deepest y ≢ Absent → x ≡ y
+any_bits ns wanted r w good bits q x y lt n k a b = one_producer ns (fires ns bits deepest) q (one_at_most ns wanted (fires ns bits deepest) law q lt) x y n k a b
+  where
+    law : OneToken ns wanted (fires ns bits deepest)
+    law = one_token ns wanted r w good (fires ns bits deepest) (solves_own ns bits (fires ns bits deepest) (settled ns r.0 r.1 bits))

@@ -4,3 +4,6 @@ pub mod Alike
 pub mod OneToken
 pub mod AnyBits
 pub mod Placed
+pub mod Nodes
+pub mod Unique
+pub mod Settled

@@ -6,5 +6,8 @@
 mod law;
 mod token;
 
-pub use law::{any_bits_agree_with_a_case, good_blocks_keep_one_token, tables_agree_with_a_case};
+pub use law::{
+    any_bits_agree_with_a_case, entry_tables_are_unique, good_blocks_keep_one_token,
+    tables_agree_with_a_case, tables_are_unique,
+};
 pub use token::CaseToken;
