@@ -1,0 +1,10 @@
+mod Walk
+pub mod Rounds
+pub mod Adding
+pub mod Chains
+pub mod Ordering
+pub mod Exactness
+pub mod Building
+pub mod Fitting
+pub mod Counting
+pub mod Lowest

@@ -1,0 +1,11 @@
+use Rattle.std.proofs.Common.{◌≡◌, ◌<◌, ◌≤◌, ◌+◌, ℕ, length, slice_get, get_or, false, Some}
+use Rattle.block_check.specs.Placing.{Placing, AllStuck, Counting}
+use Rattle.block_check.proofs.order.pass.Given as goal
+
+abbrev pub invariant-loop-x : goal.invariant-loop-x
+invariant-loop-x l = record {
+  placing : Placing l.nodes l.ranks l.order l.placed;
+  counting : Counting l.nodes l.ranks l.counts;
+  more : l.before ≤ l.placed;
+  stuck : l.placed ≡ l.before → AllStuck l.nodes l.ranks l.x;
+}

@@ -1,0 +1,23 @@
+use Rattle.std.proofs.Common.{◌≡◌, ℕ, ◌+◌, ◌<◌, ◌≤◌, List, get_or, ◌∙◌, arith, length, ap, sym, false, inl, inr, refl, add-one}
+use Rattle.block_cases.specs.declared.token.CaseToken.{CaseToken}
+use Rattle.block_cases.specs.Cases.{bit}
+use Rattle.block_check.specs.Pass.{tok_at, once, rounds_from}
+use Rattle.block_check.proofs.Rounds.{settled_from}
+use Rattle.block_check.proofs.pass.settle.Goals as goal
+
+pub loop-changed-preserved : goal.loop-changed-preserved
+loop-changed-preserved c = record {
+  few = omega arith;
+  answers = λ x. rw add-one (c.round-changed.ensures.gives x ∙ (λ i. once c.args.nodes.now (bit c.args.bits.now) (λ y. c.loop-changed.invariant.answers y i) x));
+  stable = λ e x. c.round-changed.ensures.gives x ∙ (λ i. once c.args.nodes.now (bit c.args.bits.now) (λ y. sym (c.round-changed.ensures.same e y) i) x);
+}
+
+pub returns-else-rounds-lt160 : goal.returns-else-rounds-lt160
+returns-else-rounds-lt160 c =
+    settled_from c.args.nodes.now c.requires.ranked (bit c.args.bits.now) (tok_at c.args.toks.now) (tok_at c.loop-changed.toks) c.loop-changed.rounds c.loop-changed.invariant.answers c.loop-changed.invariant.few
+    (inr (omega arith))
+
+pub returns-after-loop-changed : goal.returns-after-loop-changed
+returns-after-loop-changed c =
+    settled_from c.args.nodes.now c.requires.ranked (bit c.args.bits.now) (tok_at c.args.toks.now) (tok_at c.loop-changed.toks) c.loop-changed.rounds c.loop-changed.invariant.answers c.loop-changed.invariant.few
+    (inl (c.loop-changed.invariant.stable c.loop-changed-test.false))

@@ -1,0 +1,49 @@
+-- The fault of the third to the eighth kind that is answered.
+use Rattle.std.specs.Prelude.{◌≡◌, ℕ, ◌<◌, ◌≤◌, Bool, true, List}
+use Rattle.trips_isa.specs.declared.node.Node.{Node}
+use Rattle.block_cases.specs.Nodes.{HasCycle}
+use Rattle.block_cases.specs.Cases.{cases, GetsTwo, GetsNone}
+use Rattle.block_cases.specs.Good.{IsAcyclic, NoTwo, NoGap}
+use Rattle.block_check.specs.declared.fault.NodeFault.{NodeFault}
+use Rattle.block_check.specs.declared.fault.NodeFault.TheVariants.{Cycle, TooManyCases, TwoTokens, NoToken, NoExit, TwoExits}
+
+-- the least place that gets two tokens
+pub record FirstTwo (ns : List Node) (q : ℕ) : Type 0 where
+  pub acyclic : IsAcyclic ns
+  pub few : cases ns ≤ 256
+  pub below : q < 448
+  pub two : GetsTwo ns q
+  pub least : (p : ℕ) → p < q → GetsTwo ns p → ⊥
+
+pub record FirstGap (ns : List Node) (wanted : ℕ → Bool) (q : ℕ) : Type 0 where
+  pub acyclic : IsAcyclic ns
+  pub few : cases ns ≤ 256
+  pub no_two : NoTwo ns
+  pub below : q < 448
+  pub is_wanted : wanted q ≡ true
+  pub none : GetsNone ns q
+  pub least : (p : ℕ) → p < q → wanted p ≡ true → GetsNone ns p → ⊥
+
+pub record LacksExit (ns : List Node) (wanted : ℕ → Bool) : Type 0 where
+  pub acyclic : IsAcyclic ns
+  pub few : cases ns ≤ 256
+  pub no_two : NoTwo ns
+  pub no_gap : NoGap ns wanted
+  pub none : GetsNone ns 448
+
+pub record HasTwoExits (ns : List Node) (wanted : ℕ → Bool) : Type 0 where
+  pub acyclic : IsAcyclic ns
+  pub few : cases ns ≤ 256
+  pub no_two : NoTwo ns
+  pub no_gap : NoGap ns wanted
+  pub exit : GetsNone ns 448 → ⊥
+  pub two : GetsTwo ns 448
+
+-- the fault with the lowest number, at its least place
+abbrev pub IsFault : List Node → (ℕ → Bool) → NodeFault → Type 0
+IsFault ns wanted Cycle = HasCycle ns
+IsFault ns wanted TooManyCases = IsAcyclic ns × (256 < cases ns)
+IsFault ns wanted (TwoTokens q) = FirstTwo ns q
+IsFault ns wanted (NoToken q) = FirstGap ns wanted q
+IsFault ns wanted NoExit = LacksExit ns wanted
+IsFault ns wanted TwoExits = HasTwoExits ns wanted

@@ -1,0 +1,9 @@
+pub mod Faults
+pub mod IsChecked
+pub mod Walk
+pub mod Pass
+pub mod Found
+pub mod Leads
+pub mod Placing
+pub mod Judged
+pub mod Checked

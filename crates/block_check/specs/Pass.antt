@@ -1,0 +1,26 @@
+-- Rounds from a guess, and the bounds of a node's places.
+use Rattle.std.specs.Prelude.{◌≡◌, ℕ, zero, suc, ◌<◌, Bool, List, All, slice_get, slice_index_or}
+use Rattle.block_cases.specs.declared.token.CaseToken.{CaseToken}
+use Rattle.block_cases.specs.declared.token.CaseToken.TheVariants.{Absent}
+use Rattle.trips_isa.specs.declared.node.Node.{Node}
+use Rattle.block_cases.specs.Cases.{pulled, first}
+
+pub record InPlace (n : Node) : Type 0 where
+  pub slot : n.slot < 512
+  pub first : n.first < 768
+  pub second : n.second < 768
+  pub below : n.below < 768
+
+abbrev pub AllInPlace : List Node → Type 0
+AllInPlace ns = All InPlace ns
+
+abbrev pub tok_at : List CaseToken → ℕ → CaseToken
+tok_at ts x = slice_index_or ts x Absent
+
+-- what each node gives where its producers give h
+abbrev pub once : List Node → (ℕ → Bool) → (ℕ → CaseToken) → ℕ → CaseToken
+once ns c h x = pulled (slice_get ns x) (c x) (λ q. first ns q h)
+
+abbrev pub rounds_from : List Node → (ℕ → Bool) → (ℕ → CaseToken) → ℕ → ℕ → CaseToken
+rounds_from ns c h zero x = h x
+rounds_from ns c h (suc k) x = once ns c (rounds_from ns c h k) x

@@ -1,0 +1,129 @@
+//! The choosers of a block.
+ghost use Rattle.std.specs.Prelude.{nat_le, nat_lt, ◌≡◌, ◌<◌, ◌≤◌, ◌+◌, ◌||◌, ◌&&◌, ◌==◌, ℕ, length, slice_index_or, slice_get, slice_set, false, true};
+ghost use Rattle.block_cases.specs.Nodes.{IsRanked, targets};
+ghost use Rattle.block_cases.specs.Cases.{bit, leads, deepest, is_chooser, is_copy, names_predicate, leads_from};
+ghost use Rattle.block_check.specs.Pass.{InPlace, AllInPlace};
+ghost use Rattle.block_check.specs.Leads.{at_slot, leads_on, leads_at};
+
+use trips_isa::{Node, Role};
+
+fn is_copy(role: Role) -> bool
+    ensures { result ≡ is_copy role }
+{
+    match role {
+        Role::Copy => true,
+        _ => false,
+    }
+}
+
+fn mark_copy(left: &mut [bool], node: Node, lead: bool)
+    requires left { length left.old ≡ 512 }
+    requires in_place { InPlace node }
+    ensures { (s : ℕ) → s < 512 → bit left.new s ≡ (bit left.old s || (is_copy node.role && ((node.slot == s) && lead))) }
+{
+    if is_copy(node.role) && lead {
+        left[node.slot as usize] = true;
+    }
+}
+
+/// Marks the slots with a mov that leads on.
+fn mark_copies(nodes: &[Node], lead: &[bool], left: &mut [bool])
+    requires in_place { AllInPlace nodes.now }
+    requires lead { length lead.now ≡ length nodes.now }
+    requires left { length left.old ≡ 512 }
+    ensures { (s : ℕ) → s < 512 → bit left.new s ≡ at_slot nodes.now s (bit lead.now) }
+{
+    for mark in left.iter_mut() {
+        *mark = false;
+    }
+    for x in 0..nodes.len() {
+        mark_copy(left, nodes[x], lead[x]);
+    }
+}
+
+fn left_at(left: &[bool], place: u16) -> bool
+    ensures { result ≡ bit left.now place }
+{
+    let place = place as usize;
+    place < left.len() && left[place]
+}
+
+fn is_predicate(place: u16) -> bool
+    ensures { result ≡ (nat_le 256 place && nat_lt place 384) }
+{
+    256 <= place && place < 384
+}
+
+fn goes_on(node: Node, left: &[bool]) -> bool
+    ensures { result ≡ leads_on node (bit left.now) }
+{
+    is_predicate(node.first) || is_predicate(node.second) || left_at(left, node.first) || left_at(left, node.second)
+}
+
+fn put(lead: &mut [bool], x: usize, leads: bool) -> bool
+    requires { x < length lead.old }
+    ensures set { lead.new ≡ slice_set lead.old x leads }
+    ensures same { result ≡ false → bit lead.old x ≡ leads }
+{
+    let changed = lead[x] != leads;
+    lead[x] = leads;
+    changed
+}
+
+/// One step further along the chains.
+fn lead_on(nodes: &[Node], left: &[bool], lead: &mut [bool]) -> bool
+    requires lead { length lead.old ≡ length nodes.now }
+    ensures same { result ≡ false → (x : ℕ) → bit lead.new x ≡ bit lead.old x }
+    ensures gives { (x : ℕ) → x < length nodes.now → bit lead.new x ≡ leads_at (slice_get nodes.now x) (bit left.now) }
+{
+    let mut changed = false;
+    for x in 0..nodes.len() {
+        let leads = goes_on(nodes[x], left);
+        if put(lead, x, leads) {
+            changed = true;
+        }
+    }
+    changed
+}
+
+fn round(nodes: &[Node], left: &mut [bool], lead: &mut [bool]) -> bool
+    requires in_place { AllInPlace nodes.now }
+    requires lead { length lead.old ≡ length nodes.now }
+    requires left { length left.old ≡ 512 }
+    ensures same { result ≡ false → (x : ℕ) → bit lead.new x ≡ bit lead.old x }
+    ensures gives { (x : ℕ) → bit lead.new x ≡ leads_from nodes.now (slice_get nodes.now x) (bit lead.old) }
+{
+    mark_copies(nodes, lead, left);
+    lead_on(nodes, left, lead)
+}
+
+/// Which nodes have a chain of targets, through movs only, to a predicate.
+fn find_leads(nodes: &[Node], lead: &mut [bool])
+    requires in_place { AllInPlace nodes.now }
+    requires lead { length lead.old ≡ length nodes.now }
+    ensures { (x : ℕ) → bit lead.new x ≡ leads nodes.now deepest x }
+{
+    for mark in lead.iter_mut() {
+        *mark = false;
+    }
+    let mut table = [false; 512];
+    let left = table.as_mut_slice();
+    let mut rounds: u8 = 0;
+    let mut changed = true;
+    while changed && rounds < 160 {
+        changed = round(nodes, left, lead);
+        rounds += 1;
+    }
+}
+
+/// Which nodes are choosers.
+pub fn find_choosers(nodes: &[Node], choosers: &mut [bool])
+    requires in_place { AllInPlace nodes.now }
+    requires choosers { length choosers.old ≡ length nodes.now }
+    ensures { (x : ℕ) → x < length nodes.now → bit choosers.new x ≡ is_chooser nodes.now x (slice_get nodes.now x) }
+{
+    find_leads(nodes, choosers);
+    for x in 0..nodes.len() {
+        choosers[x] = !is_copy(nodes[x].role) && choosers[x];
+    }
+}

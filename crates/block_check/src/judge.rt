@@ -1,0 +1,106 @@
+//! Whether a block is good.
+ghost use Rattle.std.specs.Prelude.{nat_le, nat_lt, ◌≡◌, ◌<◌, ◌≤◌, ◌+◌, ◌||◌, ◌&&◌, ◌==◌, ℕ, length, slice_index_or, slice_index, slice_get, slice_set, false, true, MatchResult, IfOk, IfErr};
+ghost use Rattle.block_cases.specs.Nodes.{IsRanked, HasCycle};
+ghost use Rattle.block_cases.specs.Cases.{bit};
+ghost use Rattle.block_check.specs.Pass.{InPlace, AllInPlace};
+ghost use Rattle.block_check.specs.Placing.{IsOrdered};
+ghost use Rattle.block_check.specs.Found.{Explored};
+ghost use Rattle.block_cases.specs.Good.{Good};
+ghost use Rattle.block_check.specs.Judged.{IsFault};
+
+use trips_isa::Node;
+use crate::fault::NodeFault;
+use crate::order::sort;
+use crate::search::explore;
+
+/// The least place below 448 that is marked, or 448.
+fn first_mark(marks: &[bool]) -> u16
+    requires { length marks.now ≡ 449 }
+    ensures within { result ≤ 448 }
+    ensures before { (p : ℕ) → p < result → bit marks.now p ≡ false }
+    ensures found { result < 448 → bit marks.now result ≡ true }
+{
+    for q in 0..448u16 {
+        if marks[q as usize] {
+            return q;
+        }
+    }
+    448
+}
+
+/// The least place below 448 that is marked and wanted, or 448.
+fn first_wanted(marks: &[bool], wanted: &[bool]) -> u16
+    requires marks { length marks.now ≡ 449 }
+    requires wanted { length wanted.now ≡ 449 }
+    ensures within { result ≤ 448 }
+    ensures before { (p : ℕ) → p < result → bit wanted.now p ≡ true → bit marks.now p ≡ false }
+    ensures found { result < 448 → bit marks.now result ≡ true }
+    ensures is_wanted { result < 448 → bit wanted.now result ≡ true }
+{
+    for q in 0..448u16 {
+        if wanted[q as usize] && marks[q as usize] {
+            return q;
+        }
+    }
+    448
+}
+
+fn judge_marks(nodes: &[Node], wanted: &[bool], count: usize, two: &[bool], none: &[bool]) -> Result<(), NodeFault>
+    requires ranked { IsRanked nodes.now }
+    requires wanted { length wanted.now ≡ 449 }
+    requires two { length two.now ≡ 449 }
+    requires none { length none.now ≡ 449 }
+    requires explored { Explored nodes.now count two.now none.now }
+    ensures { MatchResult result (λ u. Good nodes.now (bit wanted.now)) (λ e. IsFault nodes.now (bit wanted.now) e) }
+{
+    if count > 256 {
+        return Err(NodeFault::TooManyCases);
+    }
+    let first = first_mark(two);
+    if first < 448 {
+        return Err(NodeFault::TwoTokens(first));
+    }
+    let gap = first_wanted(none, wanted);
+    if gap < 448 {
+        return Err(NodeFault::NoToken(gap));
+    }
+    if none[448] {
+        return Err(NodeFault::NoExit);
+    }
+    if two[448] {
+        return Err(NodeFault::TwoExits);
+    }
+    Ok(())
+}
+
+fn judge_ordered(nodes: &[Node], order: &[usize], wanted: &[bool]) -> Result<(), NodeFault>
+    requires size { length nodes.now ≤ 160 }
+    requires in_place { AllInPlace nodes.now }
+    requires ordered { IsOrdered nodes.now order.now }
+    requires wanted { length wanted.now ≡ 449 }
+    ensures { MatchResult result (λ u. Good nodes.now (bit wanted.now)) (λ e. IsFault nodes.now (bit wanted.now) e) }
+{
+    let mut two_table = [false; 449];
+    let mut none_table = [false; 449];
+    let two = two_table.as_mut_slice();
+    let none = none_table.as_mut_slice();
+    let count = explore(nodes, order, two, none);
+    judge_marks(nodes, wanted, count, two, none)
+}
+
+/// Whether a block is good; else its fault with the lowest number, at the least place.
+pub fn judge(nodes: &[Node], wanted: &[bool]) -> Result<(), NodeFault>
+    requires size { length nodes.now ≤ 160 }
+    requires in_place { AllInPlace nodes.now }
+    requires wanted { length wanted.now ≡ 449 }
+    ensures good { IfOk result (λ u. Good nodes.now (bit wanted.now)) }
+    ensures ranked { IfOk result (λ u. IsRanked nodes.now) }
+    ensures fault { IfErr result (λ e. IsFault nodes.now (bit wanted.now) e) }
+{
+    let mut table = [0usize; 160];
+    let order = &mut table[..nodes.len()];
+    if !sort(nodes, order) {
+        return Err(NodeFault::Cycle);
+    }
+    judge_ordered(nodes, order, wanted)
+}

@@ -1,0 +1,17 @@
+//! The block checker: a block is good, or has a lowest fault at its least spot.
+#![tactic(auto)]
+
+mod checked_block;
+mod chooser;
+mod fault;
+mod judge;
+mod nodes;
+mod numbers;
+mod order;
+mod pass;
+mod search;
+mod targets;
+mod verdict;
+
+pub use checked_block::{CheckedBlock, check};
+pub use fault::CheckFault;
