@@ -23,17 +23,20 @@ Quiet (b ∷ bs) = (is_blank b ≡ false) × Goes (by_class not_feed) 0 (b ∷ b
 
 -- a class that has no line feed
 pub no_feed : (p : ℕ → Bool) (b : ℕ) → p 10 ≡ false → p b ≡ true → not_feed b ≡ true
-no_feed p b n e = elim (true_or_false (is_feed b))
-  [ inl y ↦ absurd (let f : p 10 ≡ true = subst (λ (x : ℕ). p x ≡ true) (eq_is b 10 y) e in let g : true ≡ false = sym f ∙ n in cc)
-  | inr y ↦ rw y refl ]
+no_feed p b n e = elim (true_or_false (is_feed b)) [
+  | inl y ↦ absurd (let f : p 10 ≡ true = subst (λ (x : ℕ). p x ≡ true) (eq_is b 10 y) e in let g : true ≡ false = sym f ∙ n in cc)
+  | inr y ↦ rw y refl
+]
 
 -- a class that has no space and no tab
 no_blank : (p : ℕ → Bool) (b : ℕ) → p 32 ≡ false → p 9 ≡ false → p b ≡ true → is_blank b ≡ false
-no_blank p b s t e = elim (true_or_false (nat_eq b 32))
-  [ inl y ↦ absurd (let f : p 32 ≡ true = subst (λ (x : ℕ). p x ≡ true) (eq_is b 32 y) e in let g : true ≡ false = sym f ∙ s in cc)
-  | inr y ↦ elim (true_or_false (nat_eq b 9))
-      [ inl z ↦ absurd (let f : p 9 ≡ true = subst (λ (x : ℕ). p x ≡ true) (eq_is b 9 z) e in let g : true ≡ false = sym f ∙ t in cc)
-      | inr z ↦ rw (y, z) refl ] ]
+no_blank p b s t e = elim (true_or_false (nat_eq b 32)) [
+  | inl y ↦ absurd (let f : p 32 ≡ true = subst (λ (x : ℕ). p x ≡ true) (eq_is b 32 y) e in let g : true ≡ false = sym f ∙ s in cc)
+  | inr y ↦ elim (true_or_false (nat_eq b 9)) [
+    | inl z ↦ absurd (let f : p 9 ≡ true = subst (λ (x : ℕ). p x ≡ true) (eq_is b 9 z) e in let g : true ≡ false = sym f ∙ t in cc)
+    | inr z ↦ rw (y, z) refl
+  ]
+]
 
 goes_quiet : (go : Going) (last : ℕ) (bs : Bytes) → ((last : ℕ) → go last 10 ≡ false) → Goes go last bs → Goes (by_class not_feed) last bs
 goes_quiet go last [] n g = tt
@@ -120,5 +123,11 @@ kept most old new n f x rest line starts grows =
     let quiet : Quiet p = token_quiet x.is tt in
     let z : feeds p ≡ 0 = no_feeds p quiet in
     let s : still_empty old.starts p ≡ false = no_start old.starts p quiet in
-    record { piece = p; reading = reads.Token f; longest = subst (λ (r : Bytes). piece.Longest old.starts old.rest p r (reads.Token f)) (sym rest) x;
-      line_is = line ∙ (rw z (omega arith)); starts_is = starts ∙ sym s; grows = grows }
+    record {
+      piece = p;
+      reading = reads.Token f;
+      longest = subst (λ (r : Bytes). piece.Longest old.starts old.rest p r (reads.Token f)) (sym rest) x;
+      line_is = line ∙ (rw z (omega arith));
+      starts_is = starts ∙ sym s;
+      grows = grows;
+    }
