@@ -1,2 +1,4 @@
 pub mod Shifts
 pub mod StandardFacts
+pub mod Nodes
+pub mod ExpressionFacts

@@ -4,7 +4,7 @@ use Rattle.c_tree.specs.declared.Kind.TheVariants.{Char, UChar, Int, UInt, Long,
 use Rattle.c_tree.specs.declared.UnaryOp.TheVariants as one
 use Rattle.c_tree.specs.declared.BinaryOp.TheVariants as op
 use Rattle.c_constant.specs.Kinds.{common, converted}
-use Rattle.c_constant.specs.Operation.{c_operation, c_unary, operate, kind_at}
+use Rattle.c_constant.specs.Operation.{c_operation, c_unary, operate, left_at, right_at, result_of}
 
 overflow : c_operation op.Add Int (pos 2147483647) (pos 1) ≡ None
 overflow = refl
@@ -78,5 +78,14 @@ long_holds_unsigned = refl
 characters_are_ints : common Char UChar ≡ Int
 characters_are_ints = refl
 
-left_alone : kind_at op.ShiftLeft UChar ULong ≡ Int
+left_alone : left_at op.ShiftLeft UChar ULong ≡ Int
 left_alone = refl
+
+right_alone : right_at op.ShiftLeft UChar ULong ≡ ULong
+right_alone = refl
+
+not_converted : left_at op.LogicalAnd Char Long ≡ Char
+not_converted = refl
+
+test_is_int : result_of op.LessEqual ULong ≡ Int
+test_is_int = refl

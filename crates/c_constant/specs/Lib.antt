@@ -1,2 +1,4 @@
 pub mod Kinds
 pub mod Operation
+pub mod Constant
+pub mod Need

@@ -80,11 +80,22 @@ operate op k a b = word_of (c_operation op k (number k a) (number k b))
 unfoldable pub operate_one : UnaryOp → Kind → ℕ → Option ℕ
 operate_one op k a = word_of (c_unary op k (number k a))
 
--- the type in which an operation is done on operands of two types: a shift has its left side's
-abbrev pub kind_at : BinaryOp → Kind → Kind → Kind
-kind_at ShiftLeft j k = promoted j
-kind_at ShiftRight j k = promoted j
-kind_at op j k = common j k
+-- the type to which an operation converts its left operand, in which it is done (6.3.1.8, 6.5.7); a
+-- shift promotes each operand alone, and `&&` and `||` convert none
+abbrev pub left_at : BinaryOp → Kind → Kind → Kind
+left_at LogicalOr j k = j
+left_at LogicalAnd j k = j
+left_at ShiftLeft j k = promoted j
+left_at ShiftRight j k = promoted j
+left_at op j k = common j k
+
+-- the type to which it converts its right operand
+abbrev pub right_at : BinaryOp → Kind → Kind → Kind
+right_at LogicalOr j k = k
+right_at LogicalAnd j k = k
+right_at ShiftLeft j k = promoted k
+right_at ShiftRight j k = promoted k
+right_at op j k = common j k
 
 -- the type of the result of an operation that is done in a type
 abbrev pub result_of : BinaryOp → Kind → Kind
@@ -97,6 +108,11 @@ result_of Greater k = Int
 result_of LessEqual k = Int
 result_of GreaterEqual k = Int
 result_of op k = k
+
+-- the type in which an operation on one operand is done: `!` converts none
+abbrev pub unary_at : UnaryOp → Kind → Kind
+unary_at Not k = k
+unary_at op k = promoted k
 
 abbrev pub unary_result : UnaryOp → Kind → Kind
 unary_result Not k = Int

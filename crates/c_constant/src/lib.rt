@@ -1,8 +1,16 @@
 //! The whole-number operations of C17, and what stands on them alone: constant expressions and need.
+//!
+//! A word is the number modulo 2^64, the same at each type that holds the number.
 #![tactic(auto)]
 
+mod constants;
+mod kinds;
+mod needs;
 mod signed;
 mod unsigned;
 mod words;
 
+pub use constants::{Constant, constant_of};
+pub use kinds::{common, left_at, promoted, result_of, right_at, unary_at, unary_result};
+pub use needs::need_fits;
 pub use words::{convert, operation, unary};

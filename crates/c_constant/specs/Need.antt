@@ -1,0 +1,65 @@
+-- How many temporaries an expression needs, if operands are computed from left to right.
+use Rattle.std.specs.Prelude.{ℕ, ◌+◌, max, min, Bool, nat_le, List, [], ◌∷◌, Option, Some, None}
+use Rattle.c_constant.specs.declared.needs.Need.{Need}
+use Rattle.c_tree.specs.declared.tree.Expr.{Expr, Expr-F, fold-Expr}
+use Rattle.c_tree.specs.declared.tree.ExprNode.TheOpen.{ExprNode-F, Number, Name, Element, Call, Group, Unary, Cast, Bump, Binary, Choice, Assign, Comma}
+
+-- the need of an expression, and of its index where it is an element, in any groups
+pub record Needs : Type 0 where
+  pub need : ℕ
+  pub index : Option ℕ
+
+abbrev pub plain : ℕ → Needs
+plain n = record { need = n; index = None }
+
+-- the greatest, over the arguments counted from i, of the need and the place
+abbrev pub args_need : ℕ → List Needs → ℕ
+args_need i [] = 0
+args_need i (e ∷ es) = max (e.need + i) (args_need (i + 1) es)
+
+abbrev pub call_need : List Needs → ℕ
+call_need [] = 1
+call_need (e ∷ es) = args_need 0 (e ∷ es)
+
+-- an assignment to a name, and to an element whose index has a need
+abbrev pub assign_need : Option ℕ → ℕ → ℕ
+assign_need None e = 1 + e
+assign_need (Some i) e = max i (2 + e)
+
+abbrev pub node_needs : ExprNode-F Needs Needs → Needs
+node_needs (Number v k) = plain 1
+node_needs (Name w) = plain 1
+node_needs (Element w i) = record { need = i.need; index = Some i.need }
+node_needs (Call w es) = plain (call_need es)
+node_needs (Group e) = e
+node_needs (Unary op e) = plain e.need
+node_needs (Cast to e) = plain e.need
+node_needs (Bump op e) = plain e.need
+node_needs (Binary op x y) = plain (max x.need (1 + y.need))
+node_needs (Choice c x y) = plain (max c.need (max x.need y.need))
+node_needs (Assign op x y) = plain (assign_need x.index y.need)
+node_needs (Comma x y) = plain (max x.need y.need)
+
+abbrev pub of_needs : Expr-F Needs Needs → Needs
+of_needs e = e.node
+
+unfoldable pub needs : Expr → Needs
+needs e = fold-Expr Needs Needs node_needs of_needs e
+
+abbrev pub need : Expr → ℕ
+need e = (needs e).need
+
+-- a need as the code counts it: no further than 17
+abbrev pub capped : ℕ → ℕ
+capped n = min n 17
+
+abbrev pub capped_if : Option ℕ → Option ℕ
+capped_if None = None
+capped_if (Some n) = Some (capped n)
+
+abbrev pub counted : Needs → Need
+counted n = record { need = capped n.need; index = capped_if n.index }
+
+-- the limit on a full expression
+abbrev pub need_fits : Expr → Bool
+need_fits e = nat_le (need e) 16

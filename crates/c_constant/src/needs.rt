@@ -1,0 +1,113 @@
+//! How many temporaries an expression needs.
+
+ghost use Rattle.std.specs.Prelude.{◌≡◌, ◌+◌, ◌≤◌, max, map, min, Option, Some, None, IsTrue, ℕ, ◌↔◌};
+ghost use Rattle.c_constant.specs.Need.{counted, capped, assign_need, call_need};
+ghost use Rattle.c_constant.specs.Need as needs;
+
+use base::Items;
+use c_tree::{Expr, ExprNode};
+
+/// A need, and the need of the index where the expression is an element, each counted up to 17.
+#[derive(Clone, Copy, Debug, PartialEq, Eq)]
+pub struct Need {
+    pub need: u64,
+    pub index: Option<u64>,
+}
+
+fn plain(need: u64) -> Need
+    ensures { result ≡ record { need = need; index = None } }
+{
+    Need { need, index: None }
+}
+
+fn larger(a: u64, b: u64) -> u64
+    ensures { result ≡ max a b }
+{
+    if a < b { b } else { a }
+}
+
+/// A need counted further.
+fn further(need: u64, by: u64) -> u64
+    requires { by ≤ 17 }
+    ensures { result ≡ capped (need + by) }
+{
+    if need < 17 { (need + by).min(17) } else { 17 }
+}
+
+fn assigned(index: Option<u64>, right: u64) -> u64
+    ensures { result ≡ capped (assign_need index right) }
+{
+    match index {
+        None => further(right, 1),
+        Some(index) => larger(index, further(right, 2)).min(17),
+    }
+}
+
+#[cycle(need)]
+fn args_need(args: &[Expr]) -> u64
+    ensures { result ≡ capped (needs.args_need 0 (map needs.needs args.now)) }
+{
+    let mut most = 0;
+    let mut at = 0;
+    for arg in args {
+        most = larger(most, further(counted_need(arg).need, at));
+        at = further(at, 1);
+    }
+    most
+}
+
+#[cycle(need)]
+fn call(args: &Items<Expr>) -> u64
+    ensures { result ≡ capped (call_need (map needs.needs args.now)) }
+{
+    if args.is_empty() {
+        1
+    } else {
+        args_need(args.as_slice())
+    }
+}
+
+#[cycle(need)]
+fn counted_need(e: &Expr) -> Need
+    ensures { result ≡ counted (needs.needs e.now) }
+{
+    match &e.node {
+        ExprNode::Number { .. } => plain(1),
+        ExprNode::Name(_) => plain(1),
+        ExprNode::Element { index, .. } => {
+            let need = counted_need(index.get()).need;
+            Need {
+                need,
+                index: Some(need),
+            }
+        }
+        ExprNode::Call { args, .. } => plain(call(args)),
+        ExprNode::Group(e) => counted_need(e.get()),
+        ExprNode::Unary { e, .. } => plain(counted_need(e.get()).need),
+        ExprNode::Cast { e, .. } => plain(counted_need(e.get()).need),
+        ExprNode::Bump { e, .. } => plain(counted_need(e.get()).need),
+        ExprNode::Binary { left, right, .. } => plain(larger(
+            counted_need(left.get()).need,
+            further(counted_need(right.get()).need, 1),
+        )),
+        ExprNode::Choice { test, yes, no } => plain(larger(
+            counted_need(test.get()).need,
+            larger(counted_need(yes.get()).need, counted_need(no.get()).need),
+        )),
+        ExprNode::Assign { left, right, .. } => plain(assigned(
+            counted_need(left.get()).index,
+            counted_need(right.get()).need,
+        )),
+        ExprNode::Comma { left, right } => plain(larger(
+            counted_need(left.get()).need,
+            counted_need(right.get()).need,
+        )),
+    }
+}
+
+/// Whether the need of a full expression is at most 16.
+pub fn need_fits(e: &Expr) -> bool
+    ensures { result ≡ needs.need_fits e.now }
+{
+    counted_need(e).need <= 16
+}
