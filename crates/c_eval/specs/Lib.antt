@@ -1,0 +1,7 @@
+pub mod State
+pub mod Word
+pub mod Task
+pub mod Call
+pub mod Expression
+pub mod Statement
+pub mod Eval
