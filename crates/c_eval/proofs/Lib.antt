@@ -1,1 +1,5 @@
 mod StandardFacts
+pub mod Puts
+pub mod Grows
+pub mod Equations
+pub mod Induction
