@@ -37,7 +37,7 @@ abbrev Below : ℕ → ℕ → Parts → Parts → Type 0
 Below d n rec rec' = (t : Task) (s : State) → s.stock < n → Grew d n (rec t s) (rec' t (more d s))
 
 abbrev NoneTaken : Parts → Type 0
-NoneTaken rec = (t : Task) (s : State) → Puts s.output (rec t s)
+NoneTaken rec = (t : Task) (s : State) → Puts s.output s.stock (rec t s)
 
 -- one task, from what is known of its parts
 grown_by : (P : TypedProgram) (d : ℕ) (rec rec' : Parts) (t : Task) (s : State) → Below d s.stock rec rec' → NoneTaken rec' → ((e : TypedExpr) → Grew d s.stock (rec (Of e) s) (rec' (Of e) (more d s))) → ((st : TypedStmt) → Grew d s.stock (rec (Run st) s) (rec' (Run st) (more d s))) → Grew d s.stock (perform rec P t s) (perform rec' P t (more d s))

@@ -1,6 +1,6 @@
 -- With more steps a result that is not More is the same, one that is More puts out no less, and the depth does not
 -- matter once it is enough.
-use Rattle.std.proofs.Common.{◌≡◌, ℕ, zero, suc, ◌+◌, ◌%◌, ◌<◌, ◌≤◌, Bool, true, false, cond, nat_le, nat_eq, length, List, [], ◌∷◌, ◌++◌, Option, Some, None, slice_get, slice_set, replicate, refl, sym, ap, arith, append-nil}
+use Rattle.std.proofs.Common.{◌≡◌, ℕ, zero, suc, ◌+◌, ◌%◌, ◌<◌, ◌≤◌, Bool, true, false, cond, nat_le, nat_eq, length, List, [], ◌∷◌, ◌++◌, Option, Some, None, slice_get, slice_set, replicate, refl, sym, ap, arith}
 use Rattle.c_tree.specs.declared.Kind.{Kind}
 use Rattle.c_tree.specs.declared.BinaryOp.{BinaryOp}
 use Rattle.c_tree.specs.declared.BinaryOp.TheVariants.{LogicalOr, LogicalAnd}
@@ -30,20 +30,48 @@ use Rattle.c_eval.specs.Task.{Task, Of, Run, Turn, Parts, element_in, element_of
 use Rattle.c_eval.specs.Call.{frame, entered, returned, entered_if, enter, read_from, get_char, put_char, called, arguments}
 use Rattle.c_eval.specs.Expression.{Node, node_of, converting, unary, operated, after_left, truth, after_and, after_or, binary, valued, after_choice, after_comma, assigned, compounded, assign_to, assign_element, assign, bump_object, bump_element, bump, opened, node, expression}
 use Rattle.c_eval.specs.Statement.{Level, First, going_on, sequence, dropped, initialised, unset, unset_row, declare, run_if, after_if, then_turn, locals, begin, after_body, after_test, turn, returning, begun, statement}
-use Rattle.c_eval.proofs.Puts.{Puts, p-then, p-spend_of, p-element, p-left, p-enter, p-get_char, p-put_char, p-argument, p-converting, p-unary, p-operated, p-after_left, p-truth, p-after_and, p-after_or, p-valued, p-after_choice, p-after_comma, p-assigned, p-compounded, p-assign_element, p-bump_element, p-opened, p-going_on, p-sequence, p-dropped, p-initialised, p-after_if, p-locals, p-after_body, p-after_test, p-returning, p-begun}
+use Rattle.c_eval.proofs.Puts.{Puts, stock_of, same-prefix, prefix-prefix, p-go, p-then, p-element, p-left, p-enter, p-get_char, p-put_char, p-argument, p-converting, p-unary, p-operated, p-after_left, p-truth, p-after_and, p-after_or, p-valued, p-after_choice, p-after_comma, p-assigned, p-compounded, p-assign_element, p-bump_element, p-opened, p-going_on, p-sequence, p-dropped, p-initialised, p-after_if, p-locals, p-after_body, p-after_test, p-returning, p-begun}
 
 -- the same state with d more steps
 abbrev pub more : ℕ → State → State
 more d s = record s { stock = s.stock + d }
 
--- r' is r with d more steps, and r leaves fewer than n steps
+-- what goes on has less than d steps left
+abbrev pub Within : ℕ → Result → Type 0
+Within d (Go v s) = s.stock < d
+Within d (Over why s) = Unit {0}
+
+-- r' is r with d more steps, and r leaves fewer than n steps; what needs more steps puts out no less with them, and
+-- leaves fewer than d of them
 abbrev pub Grows : ℕ → ℕ → Result → Result → Type 0
 Grows d n (Go v s) r' = (r' ≡ Go v (more d s)) × (s.stock < n)
-Grows d n (Over More s) r' = (d ≡ 0 → r' ≡ Over More (more d s)) × IsPrefix s.output (output_of r')
+Grows d n (Over More s) r' = (d ≡ 0 → r' ≡ Over More (more d s)) × IsPrefix s.output (output_of r') × Within d r'
 Grows d n (Over why s) r' = r' ≡ Over why (more d s)
 
 pub record Grew (d n : ℕ) (r r' : Result) : Type 0 where
   pub grows : Grows d n r r'
+
+within-less : (d k : ℕ) (r : Result) → k < d → stock_of r ≤ k → Within d r
+within-less d k (Go v s) h g = omega arith
+within-less d k (Over why s) h g = tt
+
+within-then : (d : ℕ) (r : Result) (f : Signal → State → Result) → Within d r → ((v : Signal) (u : State) → Puts u.output u.stock (f v u)) → Within d (then r f)
+within-then d (Over why s) f h p = tt
+within-then d (Go v s) f h p = within-less d s.stock (f v s) h (p v s).spends
+
+within-spent : (d k : ℕ) (s : State) (f : State → Result) → k ≡ d → ((u : State) → Puts u.output u.stock (f u)) → Within d (spend_of k s f)
+within-spent d zero s f e p = tt
+within-spent d (suc k) s f e p = within-less d k (f (record s { stock = k })) (omega arith) (p (record s { stock = k })).spends
+
+-- a result where no step is left and d were given, before a step is spent
+prefix-spent : (k : ℕ) (s : State) (f : State → Result) → ((u : State) → Puts u.output u.stock (f u)) → IsPrefix s.output (output_of (spend_of k s f))
+prefix-spent zero s f p = same-prefix s.output
+prefix-spent (suc k) s f p = (p (record s { stock = k })).puts
+
+-- the output of what follows a result
+prefix-then : (out : List ℕ) (r : Result) (f : Signal → State → Result) → IsPrefix out (output_of r) → ((v : Signal) (u : State) → Puts u.output u.stock (f v u)) → IsPrefix out (output_of (then r f))
+prefix-then out (Go v s) f h p = prefix-prefix out s.output (output_of (f v s)) h (p v s).puts
+prefix-then out (Over why s) f h p = h
 
 none_left : (k : ℕ) (s : State) (f : State → Result) → k ≡ 0 → spend_of k s f ≡ Over More s
 none_left zero s f e = refl
@@ -56,10 +84,10 @@ module _ (d n : ℕ) where
   g-undefined : (s : State) → Grew d n (Over Undefined s) (Over Undefined (more d s))
   g-undefined s = record { grows = refl }
 
-  g-then : (r r' : Result) (f f' : Signal → State → Result) → Grew d n r r' → ((v : Signal) (s : State) → s.stock < n → Grew d n (f v s) (f' v (more d s))) → ((v : Signal) (u : State) → Puts u.output (f' v u)) → Grew d n (then r f) (then r' f')
+  g-then : (r r' : Result) (f f' : Signal → State → Result) → Grew d n r r' → ((v : Signal) (s : State) → s.stock < n → Grew d n (f v s) (f' v (more d s))) → ((v : Signal) (u : State) → Puts u.output u.stock (f' v u)) → Grew d n (then r f) (then r' f')
   g-then (Go v s) r' f f' g h p = rw g.grows.0 (h v s g.grows.1)
   g-then (Over More s) r' f f' g h p = record {
-    grows = (λ e. ap (λ r. then r f') (g.grows.0 e), (p-then s.output r' f' (record { puts = g.grows.1 }) p).puts)
+    grows = (λ e. ap (λ r. then r f') (g.grows.0 e), prefix-then s.output r' f' g.grows.1 p, within-then d r' f' g.grows.2 p)
   }
   g-then (Over Undefined s) r' f f' g h p = record { grows = ap (λ r. then r f') g.grows }
   g-then (Over Deep s) r' f f' g h p = record { grows = ap (λ r. then r f') g.grows }
@@ -76,15 +104,19 @@ module _ (d n : ℕ) where
   g-cond true r r' q q' g h = g
   g-cond false r r' q q' g h = h
 
-  g-spend_of : (k : ℕ) (s : State) (f f' : State → Result) → k ≤ n → ((s : State) → s.stock < n → Grew d n (f s) (f' (more d s))) → ((u : State) → Puts u.output (f' u)) → Grew d n (spend_of k s f) (spend_of (k + d) (more d s) f')
+  g-spend_of : (k : ℕ) (s : State) (f f' : State → Result) → k ≤ n → ((s : State) → s.stock < n → Grew d n (f s) (f' (more d s))) → ((u : State) → Puts u.output u.stock (f' u)) → Grew d n (spend_of k s f) (spend_of (k + d) (more d s) f')
   g-spend_of zero s f f' h g p = record {
-    grows = (λ e. none_left (0 + d) (more d s) f' (omega arith), (p-spend_of (0 + d) (more d s) f' p).puts)
+    grows = (
+      λ e. none_left (0 + d) (more d s) f' (omega arith),
+      prefix-spent (0 + d) (more d s) f' p,
+      within-spent d (0 + d) (more d s) f' (omega arith) p,
+    )
   }
   g-spend_of (suc k) s f f' h g p =
       let e : suc k + d ≡ suc (k + d) = omega arith in
       rw e (g (record s { stock = k }) (omega arith))
 
-  g-spend : (s : State) (f f' : State → Result) → s.stock ≤ n → ((s : State) → s.stock < n → Grew d n (f s) (f' (more d s))) → ((u : State) → Puts u.output (f' u)) → Grew d n (spend s f) (spend (more d s) f')
+  g-spend : (s : State) (f f' : State → Result) → s.stock ≤ n → ((s : State) → s.stock < n → Grew d n (f s) (f' (more d s))) → ((u : State) → Puts u.output u.stock (f' u)) → Grew d n (spend s f) (spend (more d s) f')
   g-spend s f f' h g p = g-spend_of s.stock s f f' h g p
 
   -- STATES AND NAMES
@@ -169,7 +201,7 @@ module _ (d n : ℕ) where
   g-bump_object : (op : BumpOp) (k : Option Kind) (s : State) (x : Object) → s.stock < n → Grew d n (bump_object op k s x) (bump_object op k (more d s) x)
   g-bump_object op k s x h =
       g-held x s _ _ (λ old. g-some (bump_of op k old) s _ _ (λ new.
-      g-then (store s x new) _ _ _ (g-store s x new h) (λ v s h. g-go _ s h) (λ v u. record { puts = record { rest = []; joined = sym (append-nil u.output) } })))
+      g-then (store s x new) _ _ _ (g-store s x new h) (λ v s h. g-go _ s h) (λ v u. p-go _ u)))
 
   g-bump_element : (op : BumpOp) (k : Option Kind) (p : Place) (v : Signal) (s : State) → s.stock < n → Grew d n (bump_element op k p v s) (bump_element op k p v (more d s))
   g-bump_element op k p v s h = g-want v s _ _ (λ w. g-element_of p w s _ _ (λ x. g-bump_object op k s x h))
@@ -186,12 +218,12 @@ module _ (d n : ℕ) where
 
 -- WHERE THE PARTS GROW BELOW N
 
-module _ (d n : ℕ) (rec rec' : Parts) (below : (t : Task) (s : State) → s.stock < n → Grew d n (rec t s) (rec' t (more d s))) (puts : (t : Task) (s : State) → Puts s.output (rec' t s)) where
+module _ (d n : ℕ) (rec rec' : Parts) (below : (t : Task) (s : State) → s.stock < n → Grew d n (rec t s) (rec' t (more d s))) (puts : (t : Task) (s : State) → Puts s.output s.stock (rec' t s)) where
   -- an expression, a statement, and what follows
-  g-of : (e : TypedExpr) (s : State) (f f' : Signal → State → Result) → s.stock < n → ((v : Signal) (s : State) → s.stock < n → Grew d n (f v s) (f' v (more d s))) → ((v : Signal) (u : State) → Puts u.output (f' v u)) → Grew d n (then (rec (Of e) s) f) (then (rec' (Of e) (more d s)) f')
+  g-of : (e : TypedExpr) (s : State) (f f' : Signal → State → Result) → s.stock < n → ((v : Signal) (s : State) → s.stock < n → Grew d n (f v s) (f' v (more d s))) → ((v : Signal) (u : State) → Puts u.output u.stock (f' v u)) → Grew d n (then (rec (Of e) s) f) (then (rec' (Of e) (more d s)) f')
   g-of e s f f' h g p = g-then d n _ _ f f' (below (Of e) s h) g p
 
-  g-run : (st : TypedStmt) (s : State) (f f' : Signal → State → Result) → s.stock < n → ((v : Signal) (s : State) → s.stock < n → Grew d n (f v s) (f' v (more d s))) → ((v : Signal) (u : State) → Puts u.output (f' v u)) → Grew d n (then (rec (Run st) s) f) (then (rec' (Run st) (more d s)) f')
+  g-run : (st : TypedStmt) (s : State) (f f' : Signal → State → Result) → s.stock < n → ((v : Signal) (s : State) → s.stock < n → Grew d n (f v s) (f' v (more d s))) → ((v : Signal) (u : State) → Puts u.output u.stock (f' v u)) → Grew d n (then (rec (Run st) s) f) (then (rec' (Run st) (more d s)) f')
   g-run st s f f' h g p = g-then d n _ _ f f' (below (Run st) s h) g p
 
   -- CALLS

@@ -3,3 +3,4 @@ pub mod Puts
 pub mod Grows
 pub mod Equations
 pub mod Induction
+pub mod Stocks

@@ -6,3 +6,4 @@ pub mod Call
 pub mod Expression
 pub mod Statement
 pub mod Eval
+pub mod Laws

@@ -6,6 +6,10 @@
 //! program that evaluates speak of together, and each law is the contract of a function.
 #![tactic(auto)]
 
+mod laws;
 mod signal;
 
+pub use laws::{
+    output_goes_on, result_stays_with_more_steps, steps_of_done_are_least, task_means_by_its_parts,
+};
 pub use signal::{Ending, Object, Signal};
