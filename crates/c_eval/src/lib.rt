@@ -1,0 +1,15 @@
+//! The meaning of a typed program (docs/LANGUAGE.md) as a definition: its evaluation on an input with
+//! a stock of steps, `eval`, and the laws of it.
+//!
+//! The definitions stand in specs/, from `State`, which is what an evaluation goes over, to `Eval`,
+//! the evaluation of a program. Nothing here runs: the types below are what the definitions and a
+//! program that evaluates speak of together, and each law is the contract of a function.
+#![tactic(auto)]
+
+mod laws;
+mod signal;
+
+pub use laws::{
+    output_goes_on, result_stays_with_more_steps, steps_of_done_are_least, task_means_by_its_parts,
+};
+pub use signal::{Ending, Object, Signal};
