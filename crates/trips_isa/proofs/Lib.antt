@@ -1,2 +1,3 @@
 pub mod StandardFacts
 pub mod Sizes
+pub mod PlainFacts

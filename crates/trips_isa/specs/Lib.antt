@@ -9,3 +9,5 @@ pub mod Stores
 pub mod Blocks
 pub mod Outcomes
 pub mod Machine
+pub mod Plain
+pub mod PlainBlocks

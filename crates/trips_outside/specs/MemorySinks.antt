@@ -1,0 +1,52 @@
+-- What sinks in memory keep, and how their writes are answered.
+use Rattle.std.specs.Prelude.{ℕ, ◌+◌, ◌-◌, ◌==◌, ◌^◌, min, List, ◌++◌, length, take, Option, None, Some, if◌then◌else◌}
+use Rattle.trips_outside.specs.Outside.{next_count}
+use Rattle.trips_outside.specs.MemoryFiles.{is_listed}
+
+-- A sink that takes at most a piece a call, has room for so many bytes in all, and fails at the
+-- listed calls, numbered from 1.
+pub record ListedSink : Type 0 where
+  pub written : List ℕ
+  pub room : ℕ
+  pub piece : ℕ
+  pub failing : List ℕ
+  pub calls : ℕ
+  pub faults : ℕ
+
+-- the number, where it is not 0
+abbrev pub unless_zero : ℕ → Option ℕ
+unless_zero n = if n == 0 then None else Some n
+
+-- How many of so many bytes the next call takes. It takes none, and fails, exactly where there are
+-- some and it is listed or no room is left.
+abbrev pub count_taken : ListedSink → ℕ → Option ℕ
+count_taken sink size = if size == 0 then Some 0 else if is_listed sink.failing sink.calls then None else
+    unless_zero (min (min (sink.room - length sink.written) size) sink.piece)
+
+-- the sink after a call that took so many bytes, or failed
+abbrev pub after_write : ListedSink → List ℕ → Option ℕ → ListedSink
+after_write sink bytes None = record sink {
+  calls = next_count sink.calls;
+  faults = next_count sink.faults;
+}
+after_write sink bytes (Some count) = record sink {
+  calls = next_count sink.calls;
+  written = sink.written ++ take count bytes;
+}
+
+-- A sink that keeps the first bytes, up to its room, and counts the others.
+pub record KeepingSink : Type 0 where
+  pub kept : List ℕ
+  pub room : ℕ
+  pub lost : ℕ
+
+-- all that was written, where all of it was kept
+abbrev pub told_by : KeepingSink → Option (List ℕ)
+told_by sink = if sink.lost == 0 then Some sink.kept else None
+
+-- the sink after a write
+abbrev pub after_keeping : KeepingSink → List ℕ → KeepingSink
+after_keeping sink bytes = let count = min (sink.room - length sink.kept) (length bytes) in record sink {
+  kept = sink.kept ++ take count bytes;
+  lost = min (sink.lost + (length bytes - count)) (2 ^ 64 - 1);
+}
