@@ -1,0 +1,4 @@
+pub mod Numbers
+pub mod Agree
+pub mod Pieces
+pub mod Lists

@@ -1,0 +1,8 @@
+use Rattle.std.proofs.Common.{refl}
+use Rattle.c_grammar.proofs.Pieces.{opening, either_of, iff, forget, name_piece, word_piece, mark_piece, done, ends_with}
+use Rattle.c_grammar.proofs.ready.Goals as goal
+
+use Rattle.c_grammar.proofs.Lists.{listed_piece, tail_piece, many_piece, to_end_piece}
+
+pub returns : goal.returns
+returns c = refl
