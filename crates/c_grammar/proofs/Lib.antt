@@ -2,3 +2,4 @@ pub mod Numbers
 pub mod Agree
 pub mod Pieces
 pub mod Lists
+pub mod Types

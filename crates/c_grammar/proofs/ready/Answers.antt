@@ -4,5 +4,7 @@ use Rattle.c_grammar.proofs.ready.Goals as goal
 
 use Rattle.c_grammar.proofs.Lists.{listed_piece, tail_piece, many_piece, to_end_piece}
 
+use Rattle.c_grammar.proofs.Types.{type_piece, types_begin, types_shorter}
+
 pub returns : goal.returns
 returns c = refl
