@@ -3,3 +3,4 @@ pub mod Agree
 pub mod Pieces
 pub mod Lists
 pub mod Types
+pub mod Stops

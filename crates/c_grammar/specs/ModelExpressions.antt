@@ -1,5 +1,5 @@
 -- The model of the parser of expressions.
-use Rattle.std.specs.Prelude.{ℕ, zero, suc, ◌+◌, Bool, true, false, nat_eq, if◌then◌else◌, List, [], ◌∷◌, length, Option, Some, None, Ok}
+use Rattle.std.specs.Prelude.{ℕ, zero, suc, Bool, true, false, nat_eq, if◌then◌else◌, List, [], ◌∷◌, length, Option, Some, None, Ok}
 use Rattle.c_tree.specs.declared.token.Form.{Form}
 use Rattle.c_tree.specs.declared.token.Form.TheVariants as form
 use Rattle.c_tree.specs.declared.token.Mark.{Mark}
@@ -11,7 +11,7 @@ use Rattle.c_tree.specs.declared.tree.ExprNode.{ExprNode, out-ExprNode}
 use Rattle.c_tree.specs.declared.tree.ExprNode.TheVariants as node
 use Rattle.c_tree.specs.declared.tree.ExprNode.TheOpen.{ExprNode-F}
 use Rattle.c_grammar.specs.Tokens.{Tokens}
-use Rattle.c_grammar.specs.Operators.{at, Joiner, op, comma, below, joined, Prefix, sign, increase, decrease, prefix_mark, prefixed, Suffix, increased, decreased, suffixed, Assigner, simple, times, over, modulo, plus, minus, left, right, and, xor, or, assigner_mark, assigner_op}
+use Rattle.c_grammar.specs.Operators.{at, binary_level, Joiner, op, comma, below, joined, Prefix, sign, increase, decrease, prefix_mark, prefixed, Suffix, increased, decreased, suffixed, Assigner, simple, times, over, modulo, plus, minus, left, right, and, xor, or, assigner_mark, assigner_op}
 use Rattle.c_grammar.specs.Parsing.{Out, and_then, syntax, too_deep, by_option, tail, line_of, first, is_next, expect, name_of, listed}
 use Rattle.c_grammar.specs.ModelTypes.{begins_type, type_of}
 
@@ -32,10 +32,6 @@ enter k nested ts =
 abbrev pub is_name : Form → Bool
 is_name (form.Name w) = true
 is_name _ = false
-
-abbrev pub is_number : Form → Bool
-is_number (form.Number v k) = true
-is_number _ = false
 
 abbrev pub number_by : ℕ → Form → Tokens → Out Expr
 number_by l (form.Number v k) ts = Ok (at l (node.Number v k), tail ts)
@@ -120,6 +116,10 @@ is_unary_node _ = true
 unfoldable pub is_unary : Expr → Bool
 is_unary e = is_unary_node (out-ExprNode e.node)
 
+-- the operator of an assignment, where the left side may be assigned to
+abbrev pub assigner_for : Expr → Form → Option Assigner
+assigner_for a f = if is_unary a then assigner_of f else None
+
 -- phrases joined to the left; the number bounds the turns
 abbrev pub loop : (Tokens → Out Expr) → ℕ → ℕ → Expr → Tokens → Out Expr
 loop inner k zero a ts = Ok (a, ts)
@@ -171,8 +171,8 @@ module _ (nested : Nested) where
   unfoldable pub primary_of : Tokens → Out Expr
   primary_of ts =
       if first is_name ts then named_of ts
-      else if first is_number ts then number_of ts
-      else group_of ts
+      else if is_next mark.LeftParen ts then group_of ts
+      else number_of ts
 
   unfoldable pub postfix_of : Tokens → Out Expr
   postfix_of ts = and_then (primary_of ts) (λ e ts. suffixes (length ts) e ts)
@@ -203,7 +203,7 @@ module _ (nested : Nested) where
   -- so many levels of binary operators above a cast
   unfoldable pub binary_of : ℕ → Tokens → Out Expr
   binary_of zero ts = cast_of ts
-  binary_of (suc n) ts = and_then (binary_of n ts) (λ a ts. loop (binary_of n) (3 + n) (length ts) a ts)
+  binary_of (suc n) ts = and_then (binary_of n ts) (λ a ts. loop (binary_of n) (binary_level n) (length ts) a ts)
 
   unfoldable pub chosen_of : Expr → Tokens → Out Expr
   chosen_of a ts =
@@ -224,12 +224,9 @@ module _ (nested : Nested) where
       and_then (enter (assigner_mark s) nested ts) (λ _ ts.
       and_then (nested.assignment ts) (λ b ts. Ok (at a.line (node.Assign (assigner_op s) a b), ts)))
 
-  abbrev pub assigner_for : Expr → Tokens → Option Assigner
-  assigner_for a ts = if is_unary a then seen assigner_of ts else None
-
   -- `a`, or an assignment to it
   unfoldable pub assign_from : Expr → Tokens → Out Expr
-  assign_from a ts = by_option (assigner_for a ts) (Ok (a, ts)) (λ s. assigned_of s a ts)
+  assign_from a ts = by_option (seen (assigner_for a) ts) (Ok (a, ts)) (λ s. assigned_of s a ts)
 
   unfoldable pub assignment_of : Tokens → Out Expr
   assignment_of ts = and_then (conditional_of ts) (λ a ts. assign_from a ts)

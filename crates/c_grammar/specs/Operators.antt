@@ -1,5 +1,5 @@
 -- The operators of expressions (C17 6.5): their marks, their levels and what they make.
-use Rattle.std.specs.Prelude.{ℕ, Option, Some, None}
+use Rattle.std.specs.Prelude.{ℕ, zero, suc, Option, Some, None}
 use Rattle.c_tree.specs.declared.token.Form.{Form}
 use Rattle.c_tree.specs.declared.token.Form.TheVariants as form
 use Rattle.c_tree.specs.declared.token.Mark.{Mark}
@@ -21,6 +21,11 @@ unary_level = 2
 
 abbrev pub cast_level : ℕ
 cast_level = 3
+
+-- so many levels above a cast
+abbrev pub binary_level : ℕ → ℕ
+binary_level zero = cast_level
+binary_level (suc n) = suc (binary_level n)
 
 abbrev pub conditional : ℕ
 conditional = 14

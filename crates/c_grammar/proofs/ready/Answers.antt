@@ -6,5 +6,7 @@ use Rattle.c_grammar.proofs.Lists.{listed_piece, tail_piece, many_piece, to_end_
 
 use Rattle.c_grammar.proofs.Types.{type_piece, types_begin, types_shorter}
 
+use Rattle.c_grammar.proofs.Stops.{assigner_none}
+
 pub returns : goal.returns
 returns c = refl
