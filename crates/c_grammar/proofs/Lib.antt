@@ -1,0 +1,6 @@
+pub mod Numbers
+pub mod Agree
+pub mod Pieces
+pub mod Lists
+pub mod Types
+pub mod Stops

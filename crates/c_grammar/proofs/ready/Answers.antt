@@ -1,0 +1,12 @@
+use Rattle.std.proofs.Common.{refl}
+use Rattle.c_grammar.proofs.Pieces.{opening, either_of, iff, forget, name_piece, word_piece, mark_piece, done, ends_with}
+use Rattle.c_grammar.proofs.ready.Goals as goal
+
+use Rattle.c_grammar.proofs.Lists.{listed_piece, tail_piece, many_piece, to_end_piece}
+
+use Rattle.c_grammar.proofs.Types.{type_piece, types_begin, types_shorter}
+
+use Rattle.c_grammar.proofs.Stops.{assigner_none}
+
+pub returns : goal.returns
+returns c = refl

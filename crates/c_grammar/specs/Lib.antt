@@ -1,0 +1,12 @@
+pub mod Tokens
+pub mod Types
+pub mod Operators
+pub mod Expressions
+pub mod Statements
+pub mod Units
+pub mod Numbers
+pub mod Parsing
+pub mod ModelTypes
+pub mod ModelExpressions
+pub mod ModelStatements
+pub mod ModelUnits

@@ -1,0 +1,55 @@
+-- The model of the parser of types.
+use Rattle.std.specs.Prelude.{ℕ, Bool, true, false, ◌||◌, if◌then◌else◌, Ok}
+use Rattle.c_tree.specs.declared.token.Form.{Form}
+use Rattle.c_tree.specs.declared.token.Key.{Key}
+use Rattle.c_tree.specs.declared.token.Key.TheVariants as key
+use Rattle.c_tree.specs.declared.token.Kind.{Kind}
+use Rattle.c_tree.specs.declared.token.Kind.TheVariants as kind
+use Rattle.c_grammar.specs.Tokens.{Tokens}
+use Rattle.c_grammar.specs.Numbers.{is_key}
+use Rattle.c_grammar.specs.Parsing.{Out, and_then, first, is_word, expect_word}
+
+-- is it a word of a type?
+abbrev pub is_type : Form → Bool
+is_type f =
+    is_key key.Char f
+    || (is_key key.Int f || (is_key key.Long f || (is_key key.Signed f || is_key key.Unsigned f)))
+
+abbrev pub begins_type : Tokens → Bool
+begins_type ts = first is_type ts
+
+-- an `int` that may be left out; the line and the type are known
+unfoldable pub int_of : ℕ → Kind → Tokens → Out (ℕ × Kind)
+int_of l k ts = if is_word key.Int ts then and_then (expect_word key.Int ts) (λ _ ts. Ok ((l, k), ts)) else Ok ((l, k), ts)
+
+unfoldable pub char_of : ℕ → Kind → Tokens → Out (ℕ × Kind)
+char_of l k ts = and_then (expect_word key.Char ts) (λ _ ts. Ok ((l, k), ts))
+
+unfoldable pub long_of : ℕ → Kind → Tokens → Out (ℕ × Kind)
+long_of l k ts = and_then (expect_word key.Long ts) (λ _ ts. int_of l k ts)
+
+-- behind `signed` or `unsigned`, the types with `char`, `int` and `long`
+unfoldable pub sized_of : ℕ → Kind → Kind → Kind → Tokens → Out (ℕ × Kind)
+sized_of l c i g ts =
+    if is_word key.Char ts then char_of l c ts else if is_word key.Long ts then long_of l g ts else int_of l i ts
+
+unfoldable pub signed_of : Tokens → Out (ℕ × Kind)
+signed_of ts = and_then (expect_word key.Signed ts) (λ l ts. sized_of l kind.Char kind.Int kind.Long ts)
+
+unfoldable pub unsigned_of : Tokens → Out (ℕ × Kind)
+unsigned_of ts = and_then (expect_word key.Unsigned ts) (λ l ts. sized_of l kind.UChar kind.UInt kind.ULong ts)
+
+unfoldable pub plain_of : Key → Kind → Tokens → Out (ℕ × Kind)
+plain_of w k ts = and_then (expect_word w ts) (λ l ts. Ok ((l, k), ts))
+
+unfoldable pub longs_of : Tokens → Out (ℕ × Kind)
+longs_of ts = and_then (expect_word key.Long ts) (λ l ts. int_of l kind.Long ts)
+
+-- the line and the type
+unfoldable pub type_of : Tokens → Out (ℕ × Kind)
+type_of ts =
+    if is_word key.Char ts then plain_of key.Char kind.Char ts
+    else if is_word key.Int ts then plain_of key.Int kind.Int ts
+    else if is_word key.Long ts then longs_of ts
+    else if is_word key.Signed ts then signed_of ts
+    else unsigned_of ts

@@ -1,0 +1,148 @@
+-- The model of the parser of translation units.
+use Rattle.std.specs.Prelude.{ℕ, zero, suc, Bool, true, false, if◌then◌else◌, List, [], ◌∷◌, length, Option, Some, None, Ok}
+use Rattle.c_tree.specs.declared.token.Form.{Form}
+use Rattle.c_tree.specs.declared.token.Form.TheVariants as form
+use Rattle.c_tree.specs.declared.token.Mark.TheVariants as mark
+use Rattle.c_tree.specs.declared.token.Key.TheVariants as key
+use Rattle.c_tree.specs.declared.token.Kind.{Kind}
+use Rattle.c_tree.specs.declared.tree.Expr.{Expr}
+use Rattle.c_tree.specs.declared.tree.ArraySize.{ArraySize}
+use Rattle.c_tree.specs.declared.tree.ArraySize.TheVariants as sizes
+use Rattle.c_tree.specs.declared.tree.Stmt.{Stmt}
+use Rattle.c_tree.specs.declared.tree.StmtNode.TheVariants as node
+use Rattle.c_tree.specs.declared.tree.Param.{Param}
+use Rattle.c_tree.specs.declared.tree.Top.{Top}
+use Rattle.c_tree.specs.declared.tree.TopNode.TheVariants as tops
+use Rattle.c_grammar.specs.Tokens.{Tokens}
+use Rattle.c_grammar.specs.Statements as s
+use Rattle.c_grammar.specs.Units.{at, Shape, global, function, Label, parameter}
+use Rattle.c_grammar.specs.Parsing.{Out, and_then, syntax, tail, line_of, first, is_next, is_word, expect, expect_word, name_of, listed, listed_on, to_end}
+use Rattle.c_grammar.specs.ModelTypes.{type_of}
+use Rattle.c_grammar.specs.ModelExpressions.{Nested, inside, is_name, conditional_of}
+use Rattle.c_grammar.specs.ModelStatements.{Below, below_at, compound_of}
+
+abbrev pub is_include : Form → Bool
+is_include form.Include = true
+is_include _ = false
+
+unfoldable pub include_of : Tokens → Out (List Top)
+include_of ts = if first is_include ts then Ok (at (line_of ts) tops.Include ∷ [], tail ts) else syntax ts
+
+unfoldable pub label_of : ℕ → Tokens → Out Label
+label_of l ts = if first is_name ts then and_then (name_of ts) (λ n ts. Ok ((n.0, Some (n.1)), ts)) else Ok ((l, None), ts)
+
+abbrev pub or_sized : ArraySize → Tokens → Out Shape
+or_sized sizes.Scalar ts = syntax ts
+or_sized sizes.Open ts = syntax ts
+or_sized (sizes.Sized e) ts = Ok ((sizes.Sized e, []), ts)
+
+-- a compound statement, of which the entries stand at this depth
+abbrev pub Body : Type 0
+Body = Tokens → Out Stmt
+
+module _ (nested : Nested) where
+  unfoldable pub no_size_of : Tokens → Out ArraySize
+  no_size_of ts = and_then (expect mark.RightBracket ts) (λ _ ts. Ok (sizes.Open, ts))
+
+  unfoldable pub some_size_of : Tokens → Out ArraySize
+  some_size_of ts =
+      and_then (conditional_of nested ts) (λ e ts. and_then (expect mark.RightBracket ts) (λ _ ts. Ok (sizes.Sized e, ts)))
+
+  unfoldable pub size_of : Tokens → Out ArraySize
+  size_of ts = if is_next mark.RightBracket ts then no_size_of ts else some_size_of ts
+
+  unfoldable pub values_of : Tokens → Out (List Expr)
+  values_of ts = listed mark.RightBrace true (conditional_of nested) (suc (length ts)) ts
+
+  unfoldable pub filled_of : ArraySize → Tokens → Out Shape
+  filled_of a ts =
+      and_then (expect mark.Assign ts) (λ _ ts.
+      and_then (expect mark.LeftBrace ts) (λ _ ts.
+      and_then (values_of ts) (λ es ts. Ok ((a, es), ts))))
+
+  unfoldable pub after_size : ArraySize → Tokens → Out Shape
+  after_size a ts = if is_next mark.Assign ts then filled_of a ts else or_sized a ts
+
+  unfoldable pub array_of : Tokens → Out Shape
+  array_of ts = and_then (expect mark.LeftBracket ts) (λ _ ts. and_then (size_of ts) (λ a ts. after_size a ts))
+
+  unfoldable pub valued_of : Tokens → Out Shape
+  valued_of ts =
+      and_then (expect mark.Assign ts) (λ _ ts.
+      and_then (conditional_of nested ts) (λ e ts. Ok ((sizes.Scalar, e ∷ []), ts)))
+
+  unfoldable pub shape_of : Tokens → Out Shape
+  shape_of ts =
+      if is_next mark.Assign ts then valued_of ts
+      else if is_next mark.LeftBracket ts then array_of ts
+      else Ok ((sizes.Scalar, []), ts)
+
+  unfoldable pub global_of : Kind → Tokens → Out Top
+  global_of k ts = and_then (name_of ts) (λ n ts. and_then (shape_of ts) (λ s ts. Ok (global n.0 k n.1 s, ts)))
+
+  -- behind the name of the first one
+  unfoldable pub globals_of : Kind → ℕ → List ℕ → Tokens → Out (List Top)
+  globals_of k l w ts =
+      and_then (shape_of ts) (λ s ts.
+      listed_on mark.Semicolon false (global_of k) (length ts) (global l k w s) ts)
+
+  unfoldable pub some_brackets_of : Tokens → Out ArraySize
+  some_brackets_of ts = and_then (expect mark.LeftBracket ts) (λ _ ts. size_of ts)
+
+  unfoldable pub brackets_of : Tokens → Out ArraySize
+  brackets_of ts = if is_next mark.LeftBracket ts then some_brackets_of ts else Ok (sizes.Scalar, ts)
+
+  unfoldable pub param_of : Tokens → Out Param
+  param_of ts =
+      and_then (type_of ts) (λ k ts.
+      and_then (label_of k.0 ts) (λ n ts.
+      and_then (brackets_of ts) (λ a ts. Ok (parameter n k.1 a, ts))))
+
+  unfoldable pub no_params_of : Tokens → Out (List Param)
+  no_params_of ts = and_then (expect mark.RightParen ts) (λ _ ts. Ok ([], ts))
+
+  unfoldable pub void_params_of : Tokens → Out (List Param)
+  void_params_of ts = and_then (expect_word key.Void ts) (λ _ ts. no_params_of ts)
+
+  unfoldable pub params_of : Tokens → Out (List Param)
+  params_of ts =
+      if is_next mark.RightParen ts then no_params_of ts
+      else if is_word key.Void ts then void_params_of ts
+      else listed mark.RightParen false param_of (suc (length ts)) ts
+
+  module _ (body : Body) where
+    unfoldable pub defined_of : Option Kind → ℕ → List ℕ → List Param → Tokens → Out Top
+    defined_of r l w ps ts = and_then (body ts) (λ b ts. Ok (function l r w ps (Some b), ts))
+
+    unfoldable pub declared_of : Option Kind → ℕ → List ℕ → List Param → Tokens → Out Top
+    declared_of r l w ps ts = and_then (expect mark.Semicolon ts) (λ _ ts. Ok (function l r w ps None, ts))
+
+    unfoldable pub rest_of : Option Kind → ℕ → List ℕ → List Param → Tokens → Out Top
+    rest_of r l w ps ts = if is_next mark.LeftBrace ts then defined_of r l w ps ts else declared_of r l w ps ts
+
+    -- behind a function's name
+    unfoldable pub func_of : Option Kind → ℕ → List ℕ → Tokens → Out (List Top)
+    func_of r l w ts =
+        and_then (expect mark.LeftParen ts) (λ _ ts.
+        and_then (params_of ts) (λ ps ts.
+        and_then (rest_of r l w ps ts) (λ x ts. Ok (x ∷ [], ts))))
+
+    unfoldable pub after_name : Kind → ℕ → List ℕ → Tokens → Out (List Top)
+    after_name k l w ts = if is_next mark.LeftParen ts then func_of (Some k) l w ts else globals_of k l w ts
+
+    unfoldable pub void_item_of : Tokens → Out (List Top)
+    void_item_of ts =
+        and_then (expect_word key.Void ts) (λ _ ts. and_then (name_of ts) (λ n ts. func_of None n.0 n.1 ts))
+
+    unfoldable pub typed_item_of : Tokens → Out (List Top)
+    typed_item_of ts = and_then (type_of ts) (λ k ts. and_then (name_of ts) (λ n ts. after_name k.1 n.0 n.1 ts))
+
+    unfoldable pub item_of : Tokens → Out (List Top)
+    item_of ts =
+        if first is_include ts then include_of ts
+        else if is_word key.Void ts then void_item_of ts
+        else typed_item_of ts
+
+-- where so many depths may be opened in a function's body, which has depth 1 itself
+unfoldable pub unit_of : ℕ → Tokens → Out (List Top)
+unit_of n ts = to_end (item_of (inside (suc n)) (compound_of (inside n) (below_at n))) (suc (length ts)) ts

@@ -1,0 +1,41 @@
+-- Lists of tokens as the grammar reads them, and which tokens may open a depth.
+use Rattle.std.specs.Prelude.{ℕ, suc, Bool, true, false, ◌||◌, nat_le, List, [], ◌∷◌, length}
+use Rattle.c_tree.specs.declared.token.Lexeme.{Lexeme}
+use Rattle.c_tree.specs.declared.token.Form.{Form}
+use Rattle.c_tree.specs.declared.token.Form.TheVariants as form
+use Rattle.c_tree.specs.declared.token.Mark.{Mark}
+use Rattle.c_tree.specs.declared.token.Key.{Key}
+
+abbrev pub Tokens : Type 0
+Tokens = List Lexeme
+
+abbrev pub token : ℕ → Form → Lexeme
+token l f = record { line = l; form = f }
+
+abbrev pub punct : ℕ → Mark → Lexeme
+punct l m = token l (form.Mark m)
+
+abbrev pub word : ℕ → Key → Lexeme
+word l k = token l (form.Key k)
+
+abbrev pub named : ℕ → List ℕ → Lexeme
+named l w = token l (form.Name w)
+
+-- May a token open this depth? The list begins with that token.
+abbrev pub May : Type 0
+May = Tokens → ℕ → Bool
+
+-- no token opens a depth beyond m
+abbrev pub within : ℕ → May
+within m = λ q d. nat_le d m
+
+-- no token before the list does
+abbrev pub before : ℕ → Tokens → May
+before m tail = λ q d. nat_le (length q) (length tail) || nat_le d m
+
+-- no token before the one that stands before the list does
+abbrev pub late : ℕ → Tokens → May
+late m rest = λ q d. nat_le (length q) (suc (length rest)) || nat_le d m
+
+abbrev pub any_depth : May
+any_depth = λ q d. true
