@@ -1,0 +1,116 @@
+-- The numbers of each operation.
+use Rattle.std.specs.Prelude.{◌≡◌, ◌<◌, ◌≤◌, ℕ, ◌+◌, Option, Some, None, if◌then◌else◌, ◌==◌, ◌&&◌, nat_lt, get_or, Bool}
+use Rattle.trips_isa.specs.declared.op.Op.{Op}
+use Rattle.trips_isa.specs.declared.op.Op.TheVariants as op
+use Rattle.trips_isa.specs.declared.form.Form.{Form}
+use Rattle.trips_isa.specs.declared.form.Form.TheVariants as form
+use Rattle.isa_table.specs.declared.numbers.Code.{Code}
+use Rattle.isa_table.specs.declared.by_numbers.TheConstants.{BY_NUMBERS}
+
+-- opcode 1, told apart by the extended opcode
+abbrev pub general : ℕ → Code
+general extended = record { opcode = 1; extended = extended }
+
+-- opcode 2, told apart by the extended opcode
+abbrev pub immediate : ℕ → Code
+immediate extended = record { opcode = 2; extended = extended }
+
+-- an opcode that one operation has
+abbrev pub alone : ℕ → Code
+alone opcode = record { opcode = opcode; extended = 0 }
+
+-- the table of operations
+unfoldable pub code_of : Op → Code
+code_of op.Add = general 0
+code_of op.Sub = general 1
+code_of op.Mul = general 2
+code_of op.Divs = general 3
+code_of op.Divu = general 4
+code_of op.And = general 5
+code_of op.Or = general 6
+code_of op.Xor = general 7
+code_of op.Sll = general 8
+code_of op.Srl = general 9
+code_of op.Sra = general 10
+code_of op.Extsb = general 11
+code_of op.Extsh = general 12
+code_of op.Extsw = general 13
+code_of op.Extub = general 14
+code_of op.Extuh = general 15
+code_of op.Extuw = general 16
+code_of op.Teq = general 17
+code_of op.Tne = general 18
+code_of op.Tlt = general 19
+code_of op.Tle = general 20
+code_of op.Tgt = general 21
+code_of op.Tge = general 22
+code_of op.Tltu = general 23
+code_of op.Tleu = general 24
+code_of op.Tgtu = general 25
+code_of op.Tgeu = general 26
+code_of op.Mov = general 27
+code_of op.Null = general 28
+code_of op.Addi = immediate 0
+code_of op.Subi = immediate 1
+code_of op.Muli = immediate 2
+code_of op.Andi = immediate 5
+code_of op.Ori = immediate 6
+code_of op.Xori = immediate 7
+code_of op.Slli = immediate 8
+code_of op.Srli = immediate 9
+code_of op.Srai = immediate 10
+code_of op.Teqi = immediate 17
+code_of op.Tnei = immediate 18
+code_of op.Tlti = immediate 19
+code_of op.Tlei = immediate 20
+code_of op.Tgti = immediate 21
+code_of op.Tgei = immediate 22
+code_of op.Tltui = immediate 23
+code_of op.Tleui = immediate 24
+code_of op.Tgtui = immediate 25
+code_of op.Tgeui = immediate 26
+code_of op.Lb = alone 16
+code_of op.Lbs = alone 17
+code_of op.Lh = alone 18
+code_of op.Lhs = alone 19
+code_of op.Lw = alone 20
+code_of op.Lws = alone 21
+code_of op.Ld = alone 22
+code_of op.Sb = alone 24
+code_of op.Sh = alone 25
+code_of op.Sw = alone 26
+code_of op.Sd = alone 27
+code_of op.Bro = alone 32
+code_of op.Callo = alone 33
+code_of op.Br = alone 34
+code_of op.Ret = alone 35
+code_of op.Scall = alone 36
+code_of op.Genu = alone 48
+code_of op.Gens = alone 49
+code_of op.App = alone 50
+
+-- the opcodes and extended opcodes that a form may have
+abbrev pub GoodCode : Form → Code → Type 0
+GoodCode form.General code = (code.opcode ≡ 1) × (code.extended < 32)
+GoodCode form.Immediate code = (code.opcode ≡ 2) × (code.extended < 32)
+GoodCode f code = (3 ≤ code.opcode) × (code.opcode < 64) × (code.extended ≡ 0)
+
+-- where the operation of two numbers stands in the list by numbers, if there is one
+abbrev pub place_of_numbers : ℕ → ℕ → ℕ
+place_of_numbers opcode extended =
+    if opcode == 1 && nat_lt extended 32 then extended else (
+    if opcode == 2 && nat_lt extended 32 then 32 + extended else (
+    if nat_lt opcode 64 then 64 + opcode else 0))
+
+unfoldable pub candidate_by_numbers : ℕ → ℕ → Op
+candidate_by_numbers opcode extended = get_or BY_NUMBERS (place_of_numbers opcode extended) op.Add
+
+-- whether an operation has these numbers
+unfoldable pub has_numbers : Op → ℕ → ℕ → Bool
+has_numbers o opcode extended = (code_of o).opcode == opcode && (code_of o).extended == extended
+
+-- the operation of two numbers
+unfoldable pub op_with_numbers : ℕ → ℕ → Option Op
+op_with_numbers opcode extended =
+    if has_numbers (candidate_by_numbers opcode extended) opcode extended
+    then Some (candidate_by_numbers opcode extended) else None
