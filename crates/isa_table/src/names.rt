@@ -1,7 +1,8 @@
 ghost use Rattle.std.specs.Prelude.{◌≡◌, ◌↔◌, ◌<◌, Some, get_or, length};
 ghost use Rattle.trips_isa.specs.declared.op.Op.{Op};
 ghost use Rattle.trips_isa.specs.declared.op.Op.TheVariants.{Add};
-ghost use Rattle.isa_table.specs.Mnemonics.{mnemonic_of, mixed, candidate_by_mnemonic, op_with_mnemonic};
+ghost use Rattle.isa_table.specs.Mnemonics.{mnemonic_of, mixed, candidate_by_mnemonic};
+ghost use Rattle.isa_table.specs.Mnemonics.{op_with_mnemonic};
 
 use crate::by_mnemonic::BY_MNEMONIC;
 use trips_isa::Op;

@@ -1,7 +1,8 @@
 ghost use Rattle.std.specs.Prelude.{◌≡◌, ◌↔◌, ◌<◌, Some, get_or, length};
 ghost use Rattle.trips_isa.specs.declared.op.Op.{Op};
 ghost use Rattle.trips_isa.specs.declared.op.Op.TheVariants.{Add};
-ghost use Rattle.isa_table.specs.Codes.{general, immediate, alone, code_of, place_of_numbers, candidate_by_numbers, has_numbers, op_with_numbers};
+ghost use Rattle.isa_table.specs.Codes.{general, immediate, alone, code_of, place_of_numbers};
+ghost use Rattle.isa_table.specs.Codes.{candidate_by_numbers, has_numbers, op_with_numbers};
 
 use crate::by_numbers::BY_NUMBERS;
 use trips_isa::Op;
