@@ -71,7 +71,9 @@ impl<T> Items<T> {
 
     /// Takes the last item.
     pub fn pop(&mut self) -> Option<T>
-        ensures value { MatchOption result ((self.old ≡ []) × (self.new ≡ [])) (λ last. self.old ≡ self.new ++ last ∷ []) }
+        ensures value { MatchOption result
+            ((self.old ≡ []) × (self.new ≡ []))
+            (λ last. self.old ≡ self.new ++ last ∷ []) }
     {
         self.items.pop()
     }

@@ -34,7 +34,9 @@ impl<T> Queue<T> {
 
     /// Takes the first item.
     pub fn pop(&mut self) -> Option<T>
-        ensures value { MatchOption result ((self.old ≡ []) × (self.new ≡ [])) (λ first. self.old ≡ first ∷ self.new) }
+        ensures value { MatchOption result
+            ((self.old ≡ []) × (self.new ≡ []))
+            (λ first. self.old ≡ first ∷ self.new) }
     {
         self.reversed.pop()
     }
