@@ -73,13 +73,13 @@ following count next = if nat_lt (next + 1) count then next + 1 else 0
 -- a block's changes, all at once
 abbrev pub changed : Block → ℕ → State → State
 changed block successor s = record {
-    registers = writes_from block.insts.items 0 block.writes.items s.registers;
-    memory = s.memory;
-    next = successor;
-    rest = s.rest;
-    output = s.output;
-    trace = s.trace ++ (record { block = s.next; exit = unwrap_or (first_call block.insts.items) 0 }) ∷ [];
-  }
+  registers = writes_from block.insts.items 0 block.writes.items s.registers;
+  memory = s.memory;
+  next = successor;
+  rest = s.rest;
+  output = s.output;
+  trace = s.trace ++ (record { block = s.next; exit = unwrap_or (first_call block.insts.items) 0 }) ∷ [];
+}
 
 -- the input's next byte goes to register 3, or -1 at its end
 abbrev pub with_input : State → List ℕ → State
@@ -115,13 +115,13 @@ memory_of bytes = bytes ++ replicate (4194304 - length bytes) 0
 -- the state that a run starts from
 abbrev pub start : List ℕ → List ℕ → State
 start bytes input = record {
-    registers = replicate 128 0;
-    memory = memory_of bytes;
-    next = 0;
-    rest = input;
-    output = [];
-    trace = [];
-  }
+  registers = replicate 128 0;
+  memory = memory_of bytes;
+  next = 0;
+  rest = input;
+  output = [];
+  trace = [];
+}
 
 abbrev pub goes_on : List Block → State → Stepped → State × Stepped
 goes_on blocks s Went = step_of blocks s

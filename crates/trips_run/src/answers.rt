@@ -2,7 +2,8 @@ ghost use Rattle.std.specs.Prelude.{◌≡◌, ◌≤◌, ◌∷◌, [], IfOk};
 ghost use Rattle.trips_outside.specs.Outside.{Rose};
 ghost use Rattle.trips_run.specs.Request.{request_of};
 ghost use Rattle.trips_run.specs.Source.{return_block};
-ghost use Rattle.trips_run.specs.Answer.{block_budget, status_of, IsFixed, IsRunBy, IsRunOf, IsAnswer};
+ghost use Rattle.trips_run.specs.Answer.{block_budget, status_of, IsFixed, IsRunBy, IsRunOf};
+ghost use Rattle.trips_run.specs.Answer.{IsAnswer};
 
 use crate::image::return_image;
 use crate::report::run_text;

@@ -77,8 +77,9 @@ fn reports_the_number_whatever_the_pieces(rt: HostRuntime) -> Result<(), Fail> {
     ];
     for (text, status, report) in rows {
         for piece in [1usize, 4, 64] {
-            let mut files = MemFiles::make(one_file(alloc, text)?, piece.max(1), Vec::new(alloc));
-            let (answered, written) = run_in(alloc, &mut files, piece.max(1), Vec::new(alloc))?;
+            let piece = piece.max(1);
+            let mut files = MemFiles::make(one_file(alloc, text)?, piece, Vec::new(alloc));
+            let (answered, written) = run_in(alloc, &mut files, piece, Vec::new(alloc))?;
             assert_eq!(rt; answered, status, "{text} in pieces of {piece}");
             assert_eq!(rt;
                 written.as_slice(),
@@ -160,6 +161,30 @@ fn large_files_are_refused(rt: HostRuntime) -> Result<(), Fail> {
         let (status, written) = run_in(alloc, &mut files, 64, Vec::new(alloc))?;
         assert_eq!(rt; status, Status::Refused, "{size} bytes");
         assert_eq!(rt; written.as_slice(), NOT_BUILT.as_bytes(), "{size} bytes");
+    }
+    Ok(())
+}
+
+// Whichever allocation is refused, nothing was written or the answer is the right one.
+#[test]
+fn refused_memory_writes_nothing(rt: HostRuntime) -> Result<(), Fail> {
+    let alloc = rt.alloc();
+    let Ok(file) = one_file(alloc, SEVEN) else {
+        return Ok(());
+    };
+    let mut files = MemFiles::make(file, 64, Vec::new(alloc));
+    let Ok(words) = words_of(alloc, &["run", "a.c"]) else {
+        return Ok(());
+    };
+    let Ok(mut sink) = MemSink::make(alloc, 64, 100, Vec::new(alloc)) else {
+        return Ok(());
+    };
+    let status = trips_run(alloc, &words, &mut files, &mut sink);
+    if status == Status::Memory {
+        assert_eq!(rt; sink.written(), b"".as_slice());
+    } else {
+        assert_eq!(rt; status, Status::Ended);
+        assert_eq!(rt; sink.written(), SEVEN_REPORT.as_bytes());
     }
     Ok(())
 }
