@@ -1,4 +1,5 @@
-ghost use Rattle.std.specs.Prelude.{◌≡◌, ◌<◌, ◌≤◌, ◌+◌, ◌^◌, length, All, IfOk, slice_index, unwrap_or};
+ghost use Rattle.std.specs.Prelude.{◌≡◌, ◌<◌, ◌≤◌, ◌+◌, ◌^◌, length, All, IfOk, slice_index};
+ghost use Rattle.std.specs.Prelude.{unwrap_or};
 ghost use Rattle.trips_isa.specs.Plain.{start, step_of, first_call, changed, system_call};
 ghost use Rattle.trips_isa.specs.PlainBlocks.{IsPlain};
 

@@ -1,5 +1,6 @@
 ghost use Rattle.std.specs.Prelude.{◌≡◌, ◌<◌, ◌≤◌, ◌^◌, length, All};
-ghost use Rattle.trips_isa.specs.Plain.{names_write, first_word, first_call, writes_from, following};
+ghost use Rattle.trips_isa.specs.Plain.{names_write, first_word, first_call, writes_from};
+ghost use Rattle.trips_isa.specs.Plain.{following};
 
 use trips_isa::{Inst, Op, Spot};
 

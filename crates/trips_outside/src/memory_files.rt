@@ -3,7 +3,8 @@ ghost use Rattle.std.specs.Option.{option_copied};
 ghost use Rattle.std.specs.Result.{result_ok};
 ghost use Rattle.std.specs.String.{string_bytes};
 ghost use Rattle.trips_outside.specs.Outside.{Gives, HasCause};
-ghost use Rattle.trips_outside.specs.MemoryFiles.{held_among, or_empty, held_by, count_from, count_given, after_read};
+ghost use Rattle.trips_outside.specs.MemoryFiles.{held_among, or_empty, held_by, count_from};
+ghost use Rattle.trips_outside.specs.MemoryFiles.{count_given, after_read};
 
 use crate::{Failed, Files};
 use std::marker::Model;

@@ -1,4 +1,5 @@
-ghost use Rattle.std.specs.Prelude.{◌≡◌, ◌≤◌, ◌<◌, ◌==◌, min, if◌then◌else◌, length, take, IfOk, MatchResult, Ok, Some, None, []};
+ghost use Rattle.std.specs.Prelude.{◌≡◌, ◌≤◌, ◌<◌, ◌==◌, min, if◌then◌else◌, length, take, IfOk};
+ghost use Rattle.std.specs.Prelude.{MatchResult, Ok, Some, None, []};
 ghost use Rattle.std.specs.List.{list_any};
 ghost use Rattle.std.specs.Result.{result_ok};
 ghost use Rattle.trips_outside.specs.Outside.{Appended, HasCause};

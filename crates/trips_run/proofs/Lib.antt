@@ -1,0 +1,6 @@
+pub mod Text
+pub mod Runs
+pub mod Return
+pub mod Told
+pub mod Rows
+pub mod Causes

@@ -1,0 +1,55 @@
+-- The run of the program that returns a number.
+use Rattle.std.proofs.Common.{◌≡◌, ℕ, ◌<◌, ◌^◌, List, [], ◌∷◌, ◌++◌, replicate, true, nat_lt, slice_set, inl, inr, refl, sym, ◌∙◌, arith, lit<}
+use Rattle.std.proofs.lemmas.Fmt.{decimal_digit, decimal_injective}
+use Rattle.std.proofs.lemmas.List.{append_cancel_left, append_cancel_right}
+use Rattle.std.proofs.lemmas.Bool.{lt-ltb}
+use Rattle.std.specs.Fmt.{decimal}
+use Rattle.trips_isa.specs.declared.run.Ending.TheVariants as ending
+use Rattle.trips_isa.specs.declared.run.Stepped.TheVariants.{Ended}
+use Rattle.trips_isa.specs.Plain.{State, runs, start, step_of, memory_of}
+use Rattle.trips_run.specs.Source.{IsReturn, source, front, back, return_block}
+use Rattle.trips_run.specs.Report.{run_report, signed}
+use Rattle.trips_run.specs.Answer.{block_budget}
+use Rattle.trips_run.specs.Table.{return_report}
+use Rattle.trips_run.proofs.Runs.{none_yet, stopped}
+use Rattle.trips_run.proofs.Text.{no_feed}
+
+-- the end of the run
+abbrev pub end_of : ℕ → State
+end_of n = record {
+  registers = slice_set (slice_set (replicate 128 0) 0 3) 3 n;
+  memory = memory_of [];
+  next = 0;
+  rest = [];
+  output = [];
+  trace = record { block = 0; exit = 0 } ∷ [];
+}
+
+one_step : (n : ℕ) → step_of (return_block n ∷ []) (start [] []) ≡ (end_of n, Ended)
+one_step n = refl
+
+enough : 0 < block_budget
+unfolding block_budget
+enough = lit< tt
+
+pub return_runs : (n : ℕ) → runs (return_block n ∷ []) (start [] []) block_budget ≡ (end_of n, Ended)
+return_runs n =
+    stopped (return_block n ∷ []) (start [] []) (start [] []) (end_of n) Ended 0 block_budget enough tt
+    (none_yet (return_block n ∷ []) (start [] [])) (sym (one_step n))
+
+pub return_reports : (n : ℕ) → n < 2 ^ 16 → run_report ending.Ended (end_of n) ≡ return_report n
+return_reports n low =
+    let small : nat_lt n (2 ^ 63) ≡ true = lt-ltb n (2 ^ 63) (omega arith) in
+    let is : signed n ≡ decimal n = rw small refl in
+    let none : decimal 0 ≡ 48 ∷ [] = decimal_digit 0 (omega arith) in
+    rw (none, is) refl
+
+-- a text is that of one number
+pub one_number : (text : List ℕ) (m n : ℕ) → IsReturn text m → IsReturn text n → m ≡ n
+one_number text m n a b =
+    let same : source m ≡ source n → m ≡ n = λ e. decimal_injective m n (omega (arith, a.0)) (omega (arith, b.0))
+    (append_cancel_right (decimal m) (decimal n) back (append_cancel_left front (decimal m ++ back) (decimal n ++ back) e)) in
+    elim a.1 [
+      | inl e ↦ elim b.1 [ inl f ↦ same (sym e ∙ f) | inr f ↦ absurd (no_feed m (source n) (sym e ∙ f)) ]
+      | inr e ↦ elim b.1 [ inl f ↦ absurd (no_feed n (source m) (sym f ∙ e)) | inr f ↦ same (append_cancel_right (source m) (source n) (10 ∷ []) (sym e ∙ f)) ]
+    ]

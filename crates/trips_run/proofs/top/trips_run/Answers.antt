@@ -1,0 +1,34 @@
+use Rattle.trips_run.proofs.Causes as causes
+use Rattle.trips_run.proofs.top.trips_run.Goals as goal
+
+pub returns-in-Ok-write_all-clause-answered : goal.returns-in-Ok-write_all-clause-answered
+returns-in-Ok-write_all-clause-answered g c =
+    causes.whole _ _ _ _ _ _ _ c.in-Ok.answer.report.items c.in-Ok.ensures.answer (rw c.deref.ensures.value at c.in-Ok-write_all.ensures.ok)
+
+pub returns-in-Ok-write_all-clause-headline : goal.returns-in-Ok-write_all-clause-headline
+returns-in-Ok-write_all-clause-headline g c =
+    causes.headline _ _ _ _ _ _ _ (returns-in-Ok-write_all-clause-answered g c)
+
+pub returns-in-Ok-write_all-clause-usage_only : goal.returns-in-Ok-write_all-clause-usage_only
+returns-in-Ok-write_all-clause-usage_only g c =
+    causes.usage_only _ _ _ _ _ _ _ (returns-in-Ok-write_all-clause-answered g c)
+
+pub returns-in-Ok-write_all-clause-read_fault : goal.returns-in-Ok-write_all-clause-read_fault
+returns-in-Ok-write_all-clause-read_fault g c =
+    causes.read_fault _ _ _ _ _ _ _ (returns-in-Ok-write_all-clause-answered g c)
+
+pub returns-in-Ok-write_all-clause-refused_only : goal.returns-in-Ok-write_all-clause-refused_only
+returns-in-Ok-write_all-clause-refused_only g c =
+    causes.refused_only _ _ _ _ _ _ _ (returns-in-Ok-write_all-clause-answered g c)
+
+pub returns-in-Ok-write_all-clause-refused_comes : goal.returns-in-Ok-write_all-clause-refused_comes
+returns-in-Ok-write_all-clause-refused_comes g c =
+    causes.refused_comes _ _ _ _ _ _ _ (returns-in-Ok-write_all-clause-answered g c)
+
+pub returns-in-Ok-write_all-clause-write_fault : goal.returns-in-Ok-write_all-clause-write_fault
+returns-in-Ok-write_all-clause-write_fault g c =
+    causes.write_fault _ _ _ _ _ _ _ (returns-in-Ok-write_all-clause-answered g c)
+
+pub returns-in-Ok-write_all-clause-memory : goal.returns-in-Ok-write_all-clause-memory
+returns-in-Ok-write_all-clause-memory g c =
+    causes.memory _ _ _ _ _ _ _ (returns-in-Ok-write_all-clause-answered g c)

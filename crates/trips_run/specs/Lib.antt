@@ -1,0 +1,5 @@
+pub mod Request
+pub mod Source
+pub mod Report
+pub mod Answer
+pub mod Table

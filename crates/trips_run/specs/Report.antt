@@ -1,0 +1,43 @@
+-- The texts that the program writes.
+use Rattle.std.specs.Prelude.{ℕ, ◌-◌, ◌^◌, nat_lt, if◌then◌else◌, List, [], ◌∷◌, ◌++◌, length, codes, slice_index, decimal}
+use Rattle.trips_isa.specs.declared.run.Ending.{Ending}
+use Rattle.trips_isa.specs.declared.run.Ending.TheVariants as ending
+use Rattle.trips_isa.specs.declared.run.Stepped.{Stepped}
+use Rattle.trips_isa.specs.declared.run.Stepped.TheVariants as stepped
+use Rattle.trips_isa.specs.Plain.{State}
+
+-- how a run ended, of which so many steps were made as the budget has
+abbrev pub ending_of : Stepped → Ending
+ending_of stepped.Went = ending.Budget
+ending_of stepped.Ended = ending.Ended
+ending_of stepped.StackFull = ending.StackFull
+
+-- a word as a signed number in decimal digits
+abbrev pub signed : ℕ → List ℕ
+signed word = if nat_lt word (2 ^ 63) then decimal word else 45 ∷ decimal (2 ^ 64 - word)
+
+-- the line of an ending, of register 3 and of how many blocks were run
+abbrev pub ending_line : Ending → ℕ → ℕ → List ℕ
+ending_line ending.Ended word blocks = codes "result " ++ signed word
+ending_line ending.StackFull word blocks = codes "stack full"
+ending_line ending.Budget word blocks = codes "budget " ++ decimal blocks
+ending_line (ending.Trap block cause) word blocks =
+    codes "trap block " ++ (decimal block ++ (codes " cause " ++ decimal cause))
+
+-- the output's length, the output, and a line
+abbrev pub report_of : List ℕ → List ℕ → List ℕ
+report_of output line =
+    codes "output " ++ decimal (length output) ++ 10 ∷ [] ++ output ++ 10 ∷ [] ++ line ++ 10 ∷ []
+
+-- the report of a run, from how it ended and the state at its end
+abbrev pub run_report : Ending → State → List ℕ
+run_report ending s = report_of s.output (ending_line ending (slice_index s.registers 3) (length s.trace))
+
+unfoldable pub usage_text : List ℕ
+usage_text = codes "usage\n"
+
+unfoldable pub read_fault_text : List ℕ
+read_fault_text = codes "read fault\n"
+
+unfoldable pub form_text : List ℕ
+form_text = codes "refused form 1 FormNotBuilt\n"

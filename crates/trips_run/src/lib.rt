@@ -1,0 +1,21 @@
+//! What the program does: one request, from the words of the command line to the exit status.
+//!
+//! [`trips_run`] makes the whole report before it writes the first byte of it. Its contract is a
+//! table by status over one relation that has a row for each command (`specs/Answer.antt`), with a
+//! clause beside it for the cause of each answer.
+#![tactic(auto)]
+
+mod answers;
+mod image;
+mod report;
+mod running;
+mod source;
+mod status;
+mod top;
+mod words;
+
+pub use status::Status;
+pub use top::trips_run;
+
+#[cfg(test)]
+mod tests;
