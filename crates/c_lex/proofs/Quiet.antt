@@ -1,17 +1,16 @@
 -- A token holds no line feed, and its line is not empty after it.
-use Rattle.std.proofs.Common.{◌≡◌, ℕ, ◌+◌, Bool, true, false, not, ◌&&◌, ◌||◌, inl, inr, [], ◌∷◌, ◌++◌, length, take, drop, Option, Some, None, refl, sym, ap, ◌∙◌, subst, arith, nat_eq}
+use Rattle.std.proofs.Common.{◌≡◌, ℕ, Bool, true, false, not, ◌&&◌, inl, inr, [], ◌∷◌, ◌++◌, take, drop, refl, sym, ap, ◌∙◌, subst, arith, nat_eq}
 use Rattle.std.specs.Prelude.{is_some}
 use Rattle.c_tree.specs.declared.Form.{Form}
-use Rattle.c_tree.specs.declared.Mark.{Mark}
 use Rattle.c_lex.specs.declared.piece.Reading.{Reading}
 use Rattle.c_lex.specs.declared.piece.Reading.TheVariants as reads
 use Rattle.c_lex.specs.Bytes.{Bytes, Going, Goes, Each, by_class, is_feed, not_feed, is_blank, is_letter, is_word, is_digit, in_number, feeds, still_empty}
-use Rattle.c_lex.specs.Tables.{lookup, marks}
+use Rattle.c_lex.specs.Tables.{marks}
 use Rattle.c_lex.specs.Constants.{Character, plain, escape, octal, hexadecimal, is_digit_in, is_plain, simple}
 use Rattle.c_lex.specs.Pieces as piece
 use Rattle.c_lex.specs.Pieces.{Piece, Front}
 use Rattle.c_lex.specs.Turns.{Grows, Place, Moved}
-use Rattle.c_lex.proofs.Basics.{and_left, and_right, not_true, eq_is, true_or_false, none_some}
+use Rattle.c_lex.proofs.Basics.{and_left, and_right, not_true, eq_is, true_or_false}
 use Rattle.c_lex.proofs.Runs.{each_any}
 use Rattle.c_lex.proofs.Groups.{all_rows, row_is}
 use Rattle.c_lex.proofs.Lines.{each_append, include_line}
