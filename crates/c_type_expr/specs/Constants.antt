@@ -42,9 +42,8 @@ fixed_line e = e.node e.line
 unfoldable pub not_fixed : Expr → Scope → Blame
 not_fixed e = fold-Expr (ℕ → Scope → Blame) (Scope → Blame) node_fixed fixed_line e
 
--- a constant expression: its parts, then whether it has a value
-abbrev pub constant_fault : Expr → Scope → Blame
-constant_fault e G = first (not_fixed e G) (unless (is_some (constant e).value) (Mismatch e.line))
+abbrev pub value_fault : Option ℕ → ℕ → Blame
+value_fault v l = unless (is_some v) (Mismatch l)
 
 abbrev pub need_fault : Expr → Blame
 need_fault e = unless (need_fits e) (Need e.line)
@@ -53,9 +52,10 @@ need_fault e = unless (need_fits e) (Need e.line)
 abbrev pub full : Expr → Role → Scope → Blame
 full e r G = first (fault e G r) (need_fault e)
 
--- a full expression that is a constant
+-- a full expression that is a constant: its parts, its value, its need
 abbrev pub full_constant : Expr → Scope → Blame
-full_constant e G = first (constant_fault e G) (need_fault e)
+full_constant e G =
+    first (not_fixed e G) (first (value_fault (constant e).value e.line) (need_fault e))
 
 abbrev pub word_in : Option ℕ → ℕ
 word_in None = 0
@@ -80,4 +80,4 @@ length_of e = length_in (constant e).kind (constant e).value
 
 -- a size: a constant of at least 1
 abbrev pub size_fault : Expr → Scope → Blame
-size_fault e G = first (not_fixed e G) (unless (is_some (length_of e)) (Mismatch e.line))
+size_fault e G = first (not_fixed e G) (value_fault (length_of e) e.line)

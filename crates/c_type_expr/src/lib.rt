@@ -6,12 +6,14 @@
 
 mod arguments;
 mod build;
+mod constants;
 mod expressions;
 mod fault;
 mod found;
 mod role;
 
 pub use build::converted;
+pub use constants::{full, full_constant, size_length};
 pub use expressions::type_expr;
 pub use fault::TypeFault;
 pub use role::Role;
