@@ -1,0 +1,83 @@
+-- The first fault of a constant expression and of a full expression (C17 6.6, 6.8).
+use Rattle.std.specs.Prelude.{ℕ, Bool, true, false, cond, is_some, nat_lt, ℤ, pos, negsuc, List, [], ◌∷◌, Option, Some, None}
+use Rattle.c_tree.specs.declared.tree.Expr.{Expr, Expr-F, fold-Expr}
+use Rattle.c_tree.specs.declared.tree.ExprNode.TheOpen.{ExprNode-F, Number, Name, Element, Call, Group, Unary, Cast, Bump, Binary, Choice, Assign, Comma}
+use Rattle.c_scope.specs.Scope.{Scope, look_up}
+use Rattle.c_constant.specs.Kinds.{number, converted}
+use Rattle.c_constant.specs.Constant.{constant}
+use Rattle.c_constant.specs.Need.{need_fits}
+use Rattle.c_tree.specs.declared.token.Kind.{Kind}
+use Rattle.c_type_expr.specs.declared.fault.TypeFault.TheVariants.{Unknown, Mismatch, Need}
+use Rattle.c_type_expr.specs.declared.role.Role.{Role}
+use Rattle.c_type_expr.specs.Roles.{Blame, first, unless}
+use Rattle.c_type_expr.specs.Faults.{fault}
+
+abbrev pub no_constant : Bool → ℕ → Blame
+no_constant true l = Some (Mismatch l)
+no_constant false l = Some (Unknown l)
+
+abbrev pub all_fixed : List (Scope → Blame) → Scope → Blame
+all_fixed [] G = None
+all_fixed (e ∷ es) G = first (e G) (all_fixed es G)
+
+-- numbers, groups, casts and operators are constants; a name is none, known or not
+abbrev pub node_fixed : ExprNode-F (ℕ → Scope → Blame) (Scope → Blame) → ℕ → Scope → Blame
+node_fixed (Number v k) l G = None
+node_fixed (Name w) l G = no_constant (is_some (look_up G w)) l
+node_fixed (Element w i) l G = first (i G) (Some (Mismatch l))
+node_fixed (Call w es) l G = first (all_fixed es G) (Some (Mismatch l))
+node_fixed (Group e) l G = e G
+node_fixed (Unary op e) l G = e G
+node_fixed (Cast to e) l G = e G
+node_fixed (Bump op e) l G = first (e G) (Some (Mismatch l))
+node_fixed (Binary op x y) l G = first (x G) (y G)
+node_fixed (Choice t x y) l G = first (t G) (first (x G) (y G))
+node_fixed (Assign op x y) l G = first (x G) (first (y G) (Some (Mismatch l)))
+node_fixed (Comma x y) l G = first (x G) (first (y G) (Some (Mismatch l)))
+
+abbrev pub fixed_line : Expr-F (ℕ → Scope → Blame) (Scope → Blame) → Scope → Blame
+fixed_line e = e.node e.line
+
+-- the first part of an expression that is no constant
+unfoldable pub not_fixed : Expr → Scope → Blame
+not_fixed e = fold-Expr (ℕ → Scope → Blame) (Scope → Blame) node_fixed fixed_line e
+
+abbrev pub value_fault : Option ℕ → ℕ → Blame
+value_fault v l = unless (is_some v) (Mismatch l)
+
+abbrev pub need_fault : Expr → Blame
+need_fault e = unless (need_fits e) (Need e.line)
+
+-- a full expression
+abbrev pub full : Expr → Role → Scope → Blame
+full e r G = first (fault e G r) (need_fault e)
+
+-- a full expression that is a constant: its parts, its value, its need
+abbrev pub full_constant : Expr → Scope → Blame
+full_constant e G =
+    first (not_fixed e G) (first (value_fault (constant e).value e.line) (need_fault e))
+
+abbrev pub word_in : Option ℕ → ℕ
+word_in None = 0
+word_in (Some w) = w
+
+-- the word of a constant's value at a type
+abbrev pub constant_at : Kind → Expr → ℕ
+constant_at k e = converted k (word_in (constant e).value)
+
+-- the length that a number gives: none below 1
+abbrev pub length_from : ℤ → Option ℕ
+length_from (pos n) = cond (nat_lt 0 n) (Some n) None
+length_from (negsuc n) = None
+
+abbrev pub length_in : Kind → Option ℕ → Option ℕ
+length_in k None = None
+length_in k (Some w) = length_from (number k w)
+
+-- the length that a size stands for
+abbrev pub length_of : Expr → Option ℕ
+length_of e = length_in (constant e).kind (constant e).value
+
+-- a size: a constant of at least 1
+abbrev pub size_fault : Expr → Scope → Blame
+size_fault e G = first (not_fixed e G) (value_fault (length_of e) e.line)

@@ -1,0 +1,122 @@
+-- The first node of an expression that fails, in the order of the text (C17 6.5).
+use Rattle.std.specs.Prelude.{ℕ, Bool, true, false, nat_eq, length, List, [], ◌∷◌, Option, Some, None}
+use Rattle.c_tree.specs.declared.token.Kind.{Kind}
+use Rattle.c_tree.specs.declared.tree.Expr.{Expr, Expr-F, fold-Expr}
+use Rattle.c_tree.specs.declared.tree.ExprNode.{ExprNode}
+use Rattle.c_tree.specs.declared.tree.ExprNode.TheOpen.{ExprNode-F, Number, Name, Element, Call, Group, Unary, Cast, Bump, Binary, Choice, Assign, Comma}
+use Rattle.c_tree.specs.declared.typed.Callee.{Callee}
+use Rattle.c_tree.specs.declared.typed.Slot.{Slot}
+use Rattle.c_tree.specs.declared.typed.Slot.TheVariants as slot
+use Rattle.c_scope.specs.declared.meaning.Meaning.{Meaning}
+use Rattle.c_scope.specs.declared.meaning.Meaning.TheVariants as meaning
+use Rattle.c_scope.specs.Scope.{Scope, look_up}
+use Rattle.c_type_expr.specs.declared.fault.TypeFault.TheVariants.{Unknown, Mismatch, Arity}
+use Rattle.c_type_expr.specs.declared.role.Role.{Role}
+use Rattle.c_type_expr.specs.declared.role.Role.TheVariants.{Value, Free, Array, Surplus}
+use Rattle.c_type_expr.specs.Roles.{Blame, first, unless, takes_value, takes_element, takes_void, takes_array, left_role}
+
+abbrev pub value_fault : Role → ℕ → Blame
+value_fault r l = unless (takes_value r) (Mismatch l)
+
+abbrev pub takes_name : Meaning → Role → Bool
+takes_name (meaning.Scalar k p) r = takes_element r
+takes_name (meaning.Array k p) r = takes_array k r
+takes_name (meaning.Function result params callee defined) r = false
+takes_name meaning.EndOfFile r = takes_value r
+
+abbrev pub name_fault : Option Meaning → Role → ℕ → Blame
+name_fault None r l = Some (Unknown l)
+name_fault (Some m) r l = unless (takes_name m r) (Mismatch l)
+
+abbrev pub element_fault : Option Meaning → Role → ℕ → Blame
+element_fault None r l = Some (Unknown l)
+element_fault (Some (meaning.Array k p)) r l = unless (takes_element r) (Mismatch l)
+element_fault (Some _) r l = Some (Mismatch l)
+
+abbrev pub takes_result : Option Kind → Role → Bool
+takes_result None r = takes_void r
+takes_result (Some k) r = takes_value r
+
+-- a call of a function that the unit does not define, or of something else
+abbrev pub callee_fault : Option Callee → Option Kind → List Slot → ℕ → Role → ℕ → Blame
+callee_fault None result params args r l = Some (Unknown l)
+callee_fault (Some c) result params args r l =
+    first (unless (takes_result result r) (Mismatch l)) (unless (nat_eq args (length params)) (Arity l))
+
+abbrev pub call_fault : Option Meaning → ℕ → Role → ℕ → Blame
+call_fault None args r l = Some (Unknown l)
+call_fault (Some (meaning.Function result params callee defined)) args r l =
+    callee_fault callee result params args r l
+call_fault (Some _) args r l = Some (Mismatch l)
+
+-- what the arguments are wanted for
+abbrev pub slots_of : Option Meaning → List Slot
+slots_of (Some (meaning.Function result params callee defined)) = params
+slots_of _ = []
+
+abbrev pub role_of : Slot → Role
+role_of (slot.Scalar k) = Value
+role_of (slot.Address k) = Array k
+
+abbrev pub role_at : List Slot → Role
+role_at [] = Surplus
+role_at (s ∷ slots) = role_of s
+
+abbrev pub rest_of : List Slot → List Slot
+rest_of [] = []
+rest_of (s ∷ slots) = slots
+
+-- an expression: is it a name or an element, in any groups, and what of it fails in a role?
+pub record Judged : Type 0 where
+  pub place : Bool
+  pub blame : Scope → Role → Blame
+
+abbrev pub args_blame : List Slot → List Judged → Scope → Blame
+args_blame slots [] G = None
+args_blame slots (e ∷ es) G = first (e.blame G (role_at slots)) (args_blame (rest_of slots) es G)
+
+abbrev pub node_place : ExprNode-F (ℕ → Judged) Judged → Bool
+node_place (Name w) = true
+node_place (Element w i) = true
+node_place (Group e) = e.place
+node_place _ = false
+
+abbrev pub node_blame : ExprNode-F (ℕ → Judged) Judged → ℕ → Scope → Role → Blame
+node_blame (Number v k) l G r = value_fault r l
+node_blame (Name w) l G r = name_fault (look_up G w) r l
+node_blame (Element w i) l G r = first (i.blame G Value) (element_fault (look_up G w) r l)
+node_blame (Call w es) l G r =
+    first (args_blame (slots_of (look_up G w)) es G) (call_fault (look_up G w) (length es) r l)
+node_blame (Group e) l G r = e.blame G r
+node_blame (Unary op e) l G r = first (e.blame G Value) (value_fault r l)
+node_blame (Cast to e) l G r = first (e.blame G Value) (value_fault r l)
+node_blame (Bump op e) l G r =
+    first (e.blame G (left_role e.place)) (first (unless e.place (Mismatch l)) (value_fault r l))
+node_blame (Binary op x y) l G r = first (x.blame G Value) (first (y.blame G Value) (value_fault r l))
+node_blame (Choice t x y) l G r =
+    first (t.blame G Value) (first (x.blame G Value) (first (y.blame G Value) (value_fault r l)))
+node_blame (Assign op x y) l G r =
+    first (x.blame G (left_role x.place))
+    (first (y.blame G Value) (first (unless x.place (Mismatch l)) (value_fault r l)))
+node_blame (Comma x y) l G r = first (x.blame G Free) (first (y.blame G Value) (value_fault r l))
+
+abbrev pub node_judged : ExprNode-F (ℕ → Judged) Judged → ℕ → Judged
+node_judged n l = record { place = node_place n; blame = node_blame n l }
+
+abbrev pub at_line : Expr-F (ℕ → Judged) Judged → Judged
+at_line e = e.node e.line
+
+unfoldable pub judged : Expr → Judged
+judged e = fold-Expr (ℕ → Judged) Judged node_judged at_line e
+
+unfoldable pub is_place : Expr → Bool
+is_place e = (judged e).place
+
+-- the first failing node of an expression, its operands before it
+unfoldable pub fault : Expr → Scope → Role → Blame
+fault e = (judged e).blame
+
+-- the first of the arguments that fails, each as its parameter takes it
+abbrev pub args_fault : List Slot → List Expr → Scope → Blame
+args_fault slots [] G = None
+args_fault slots (e ∷ es) G = first (fault e G (role_at slots)) (args_fault (rest_of slots) es G)

@@ -1,0 +1,5 @@
+pub mod Roles
+pub mod Faults
+pub mod Trees
+pub mod Constants
+pub mod Says

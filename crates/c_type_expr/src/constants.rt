@@ -1,0 +1,162 @@
+//! Constant expressions and full expressions.
+
+ghost use Rattle.std.specs.Prelude.{◌≡◌, map, Option};
+ghost use Rattle.c_type_expr.specs.Constants as constants;
+ghost use Rattle.c_type_expr.specs.Roles as roles;
+ghost use Rattle.c_type_expr.specs.Trees.{tree};
+ghost use Rattle.c_type_expr.specs.Says.{Says};
+
+use crate::expressions::type_expr;
+use crate::fault::TypeFault;
+use crate::role::Role;
+use base::Items;
+use c_constant::{constant_of, convert, need_fits};
+use c_scope::Scopes;
+use c_tree::{Expr, ExprNode, Kind, TypedExpr};
+use std::alloc::Global;
+
+fn first(a: Option<TypeFault>, b: Option<TypeFault>) -> Option<TypeFault>
+    ensures { result ≡ roles.first a b }
+{
+    match a {
+        None => b,
+        Some(_) => a,
+    }
+}
+
+fn no_constant(is_known: bool, line: u32) -> Option<TypeFault>
+    ensures { result ≡ constants.no_constant is_known line }
+{
+    if is_known {
+        Some(TypeFault::Mismatch(line))
+    } else {
+        Some(TypeFault::Unknown(line))
+    }
+}
+
+fn mismatch(line: u32) -> Option<TypeFault>
+    ensures { result ≡ Some (TypeFault.Mismatch line) }
+{
+    Some(TypeFault::Mismatch(line))
+}
+
+#[cycle(fixed)]
+fn none_fixed(scope: &Scopes, args: &[Expr]) -> Option<TypeFault>
+    ensures { result ≡ constants.all_fixed (map constants.not_fixed args.now) scope.now }
+{
+    let mut found = None;
+    for arg in args {
+        found = first(found, not_fixed(scope, arg));
+    }
+    found
+}
+
+#[cycle(fixed)]
+fn call_fixed(scope: &Scopes, args: &Items<Expr>, line: u32) -> Option<TypeFault>
+    ensures { result ≡ roles.first (constants.all_fixed (map constants.not_fixed args.now) scope.now) (Some (TypeFault.Mismatch line)) }
+{
+    first(none_fixed(scope, args.as_slice()), mismatch(line))
+}
+
+/// The first part of an expression that is no constant.
+#[cycle(fixed)]
+fn not_fixed(scope: &Scopes, e: &Expr) -> Option<TypeFault>
+    ensures { result ≡ constants.not_fixed e.now scope.now }
+{
+    match &e.node {
+        ExprNode::Number { .. } => None,
+        ExprNode::Name(word) => no_constant(scope.look_up(word).is_some(), e.line),
+        ExprNode::Element { index, .. } => first(not_fixed(scope, index.get()), mismatch(e.line)),
+        ExprNode::Call { args, .. } => call_fixed(scope, args, e.line),
+        ExprNode::Group(e) => not_fixed(scope, e.get()),
+        ExprNode::Unary { e, .. } => not_fixed(scope, e.get()),
+        ExprNode::Cast { e, .. } => not_fixed(scope, e.get()),
+        ExprNode::Bump { e: operand, .. } => {
+            first(not_fixed(scope, operand.get()), mismatch(e.line))
+        }
+        ExprNode::Binary { left, right, .. } => {
+            first(not_fixed(scope, left.get()), not_fixed(scope, right.get()))
+        }
+        ExprNode::Choice { test, yes, no } => first(
+            not_fixed(scope, test.get()),
+            first(not_fixed(scope, yes.get()), not_fixed(scope, no.get())),
+        ),
+        ExprNode::Assign { left, right, .. } => first(
+            not_fixed(scope, left.get()),
+            first(not_fixed(scope, right.get()), mismatch(e.line)),
+        ),
+        ExprNode::Comma { left, right } => first(
+            not_fixed(scope, left.get()),
+            first(not_fixed(scope, right.get()), mismatch(e.line)),
+        ),
+    }
+}
+
+/// Nothing where nothing fails.
+fn refuse(fault: Option<TypeFault>) -> Result<(), TypeFault>
+    ensures { Says fault tt result }
+{
+    match fault {
+        None => Ok(()),
+        Some(fault) => Err(fault),
+    }
+}
+
+/// The typed tree of a full expression: its need is judged after its nodes.
+pub fn full(alloc: Global, scope: &Scopes, role: Role, e: Expr) -> Result<TypedExpr, TypeFault>
+    ensures { Says (constants.full e role scope.now) (tree e scope.now) result }
+{
+    let line = e.line;
+    let fits = need_fits(&e);
+    let typed = type_expr(alloc, scope, role, e)?;
+    if fits { Ok(typed) } else { Err(TypeFault::Need(line)) }
+}
+
+fn value_in(value: Option<u64>, line: u32) -> Result<u64, TypeFault>
+    ensures { Says (constants.value_fault value line) (constants.word_in value) result }
+{
+    match value {
+        None => Err(TypeFault::Mismatch(line)),
+        Some(word) => Ok(word),
+    }
+}
+
+fn need_of(e: &Expr) -> Result<(), TypeFault>
+    ensures { Says (constants.need_fault e.now) tt result }
+{
+    if need_fits(e) { Ok(()) } else { Err(TypeFault::Need(e.line)) }
+}
+
+/// The word, at a kind, of a full expression that is a constant.
+pub fn full_constant(scope: &Scopes, kind: Kind, e: &Expr) -> Result<u64, TypeFault>
+    ensures { Says (constants.full_constant e.now scope.now) (constants.constant_at kind e.now) result }
+{
+    refuse(not_fixed(scope, e))?;
+    let word = value_in(constant_of(e).value, e.line)?;
+    need_of(e)?;
+    Ok(convert(kind, word))
+}
+
+fn length_in(kind: Kind, value: Option<u64>) -> Option<u64>
+    ensures { result ≡ constants.length_in kind value }
+{
+    match value {
+        None => None,
+        Some(word) => {
+            let is_negative = match kind {
+                Kind::Char | Kind::Int | Kind::Long => word >= 0x8000_0000_0000_0000,
+                _ => false,
+            };
+            if is_negative || word == 0 { None } else { Some(word) }
+        }
+    }
+}
+
+/// The length that a size stands for: a constant of at least 1.
+pub fn size_length(scope: &Scopes, e: &Expr) -> Result<u64, TypeFault>
+    ensures { Says (constants.size_fault e.now scope.now) (constants.word_in (constants.length_of e.now)) result }
+{
+    refuse(not_fixed(scope, e))?;
+    let found = constant_of(e);
+    value_in(length_in(found.kind, found.value), e.line)
+}

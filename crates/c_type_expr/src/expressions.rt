@@ -1,0 +1,312 @@
+//! The typing of expressions, node by node.
+
+ghost use Rattle.std.specs.Prelude.{◌≡◌};
+ghost use Rattle.c_tree.specs.declared.tree.ExprNode.TheVariants as node;
+ghost use Rattle.c_type_expr.specs.Roles as roles;
+ghost use Rattle.c_type_expr.specs.Faults as faults;
+ghost use Rattle.c_type_expr.specs.Faults.{fault, role_at};
+ghost use Rattle.c_type_expr.specs.Trees.{tree};
+ghost use Rattle.c_type_expr.specs.Trees as trees;
+ghost use Rattle.c_type_expr.specs.Says.{Says, Types, at};
+
+use crate::arguments::{after_first, converted_for, role_for};
+use crate::build;
+use crate::fault::TypeFault;
+use crate::found::{call_at, element_at, name_at, place_at, slots_in, value_at};
+use crate::role::Role;
+use base::{Boxed, Items, Queue};
+use c_scope::Scopes;
+use c_tree::{
+    BinaryOp, BumpOp, Expr, ExprNode, Kind, Slot, TypedExpr, TypedNode, UnaryOp, Word,
+};
+use std::alloc::Global;
+
+/// Whether an expression is a name or an element, in any groups.
+fn is_place(e: &Expr) -> bool
+    ensures { result ≡ faults.is_place e.now }
+{
+    match &e.node {
+        ExprNode::Name(_) => true,
+        ExprNode::Element { .. } => true,
+        ExprNode::Group(e) => is_place(e.get()),
+        ExprNode::Number { .. } => false,
+        ExprNode::Call { .. } => false,
+        ExprNode::Unary { .. } => false,
+        ExprNode::Cast { .. } => false,
+        ExprNode::Bump { .. } => false,
+        ExprNode::Binary { .. } => false,
+        ExprNode::Choice { .. } => false,
+        ExprNode::Assign { .. } => false,
+        ExprNode::Comma { .. } => false,
+    }
+}
+
+fn left_role(is_place: bool) -> Role
+    ensures { result ≡ roles.left_role is_place }
+{
+    if is_place { Role::Written } else { Role::Value }
+}
+
+#[tactic(auto, using(crate::proofs::Nodes::on_name))]
+fn name(scope: &Scopes, role: Role, line: u32, word: Word) -> Result<TypedExpr, TypeFault>
+    ensures { Types (at line (node.Name word)) role scope.now result }
+{
+    name_at(scope.look_up(&word), role, line)
+}
+
+#[tactic(auto, using(crate::proofs::Nodes::on_number))]
+fn number(
+    scope: &Scopes,
+    role: Role,
+    line: u32,
+    value: u64,
+    kind: Kind,
+) -> Result<TypedExpr, TypeFault>
+    ensures { Types (at line (node.Number value kind)) role scope.now result }
+{
+    value_at(role, line)?;
+    Ok(TypedExpr {
+        kind: Some(kind),
+        node: TypedNode::Number(value),
+    })
+}
+
+#[cycle(expr)]
+fn operand(
+    alloc: Global,
+    scope: &Scopes,
+    role: Role,
+    e: Boxed<Expr>,
+) -> Result<Boxed<TypedExpr>, TypeFault>
+    ensures { Says (fault e scope.now role) (tree e scope.now) result }
+{
+    let e = type_expr(alloc, scope, role, e.into_inner())?;
+    Ok(Boxed::new(alloc, e)?)
+}
+
+#[cycle(expr)]
+#[tactic(auto, using(crate::proofs::Nodes::on_element))]
+fn element(
+    alloc: Global,
+    scope: &Scopes,
+    role: Role,
+    line: u32,
+    array: Word,
+    index: Boxed<Expr>,
+) -> Result<TypedExpr, TypeFault>
+    ensures { Types (at line (node.Element array index)) role scope.now result }
+{
+    let index = operand(alloc, scope, Role::Value, index)?;
+    let (kind, place) = element_at(scope.look_up(&array), role, line)?;
+    Ok(build::element(kind, place, index))
+}
+
+#[cycle(expr)]
+#[tactic(auto, using(crate::proofs::Nodes::on_call))]
+fn call(
+    alloc: Global,
+    scope: &Scopes,
+    role: Role,
+    line: u32,
+    function: Word,
+    args: Items<Expr>,
+) -> Result<TypedExpr, TypeFault>
+    ensures { Types (at line (node.Call function args)) role scope.now result }
+{
+    let found = scope.look_up(&function);
+    let count = args.len();
+    let args = arguments(alloc, scope, slots_in(found), args)?;
+    let (kind, function) = call_at(found, count, role, line)?;
+    Ok(TypedExpr {
+        kind,
+        node: TypedNode::Call { function, args },
+    })
+}
+
+#[cycle(expr)]
+fn argument(
+    alloc: Global,
+    scope: &Scopes,
+    slots: &[Slot],
+    arg: Expr,
+) -> Result<Boxed<TypedExpr>, TypeFault>
+    ensures { Says (fault arg scope.now (role_at slots.now)) (trees.argument slots.now (tree arg scope.now)) result }
+{
+    let arg = type_expr(alloc, scope, role_for(slots), arg)?;
+    let arg = Boxed::new(alloc, arg)?;
+    converted_for(alloc, slots, arg)
+}
+
+#[cycle(expr)]
+fn arguments(
+    alloc: Global,
+    scope: &Scopes,
+    slots: &[Slot],
+    args: Items<Expr>,
+) -> Result<Items<TypedExpr>, TypeFault>
+    ensures { Says (faults.args_fault slots.now args scope.now) (trees.args_tree slots.now args scope.now) result }
+{
+    let mut slots = slots;
+    let mut rest = Queue::from_items(args);
+    let mut found = Items::new(alloc);
+    while let Some(arg) = rest.pop() {
+        let arg = argument(alloc, scope, slots, arg)?;
+        found.push(arg.into_inner())?;
+        slots = after_first(slots);
+    }
+    Ok(found)
+}
+
+#[cycle(expr)]
+#[tactic(auto, using(crate::proofs::Nodes::on_unary))]
+fn unary(
+    alloc: Global,
+    scope: &Scopes,
+    role: Role,
+    line: u32,
+    op: UnaryOp,
+    e: Boxed<Expr>,
+) -> Result<TypedExpr, TypeFault>
+    ensures { Types (at line (node.Unary op e)) role scope.now result }
+{
+    let e = operand(alloc, scope, Role::Value, e)?;
+    value_at(role, line)?;
+    Ok(build::unary(alloc, op, e)?)
+}
+
+#[cycle(expr)]
+#[tactic(auto, using(crate::proofs::Nodes::on_cast))]
+fn cast(
+    alloc: Global,
+    scope: &Scopes,
+    role: Role,
+    line: u32,
+    to: Kind,
+    e: Boxed<Expr>,
+) -> Result<TypedExpr, TypeFault>
+    ensures { Types (at line (node.Cast to e)) role scope.now result }
+{
+    let e = operand(alloc, scope, Role::Value, e)?;
+    value_at(role, line)?;
+    Ok(build::cast(to, e))
+}
+
+#[cycle(expr)]
+#[tactic(auto, using(crate::proofs::Nodes::on_bump))]
+fn bump(
+    alloc: Global,
+    scope: &Scopes,
+    role: Role,
+    line: u32,
+    op: BumpOp,
+    e: Boxed<Expr>,
+) -> Result<TypedExpr, TypeFault>
+    ensures { Types (at line (node.Bump op e)) role scope.now result }
+{
+    let is_place = is_place(e.get());
+    let e = operand(alloc, scope, left_role(is_place), e)?;
+    place_at(is_place, line)?;
+    value_at(role, line)?;
+    Ok(build::bump(op, e))
+}
+
+#[cycle(expr)]
+#[tactic(auto, using(crate::proofs::Nodes::on_binary))]
+fn binary(
+    alloc: Global,
+    scope: &Scopes,
+    role: Role,
+    line: u32,
+    op: BinaryOp,
+    left: Boxed<Expr>,
+    right: Boxed<Expr>,
+) -> Result<TypedExpr, TypeFault>
+    ensures { Types (at line (node.Binary op left right)) role scope.now result }
+{
+    let left = operand(alloc, scope, Role::Value, left)?;
+    let right = operand(alloc, scope, Role::Value, right)?;
+    value_at(role, line)?;
+    Ok(build::binary(alloc, op, left, right)?)
+}
+
+#[cycle(expr)]
+#[tactic(auto, using(crate::proofs::Nodes::on_choice))]
+fn choice(
+    alloc: Global,
+    scope: &Scopes,
+    role: Role,
+    line: u32,
+    test: Boxed<Expr>,
+    yes: Boxed<Expr>,
+    no: Boxed<Expr>,
+) -> Result<TypedExpr, TypeFault>
+    ensures { Types (at line (node.Choice test yes no)) role scope.now result }
+{
+    let test = operand(alloc, scope, Role::Value, test)?;
+    let yes = operand(alloc, scope, Role::Value, yes)?;
+    let no = operand(alloc, scope, Role::Value, no)?;
+    value_at(role, line)?;
+    Ok(build::choice(alloc, test, yes, no)?)
+}
+
+#[cycle(expr)]
+#[tactic(auto, using(crate::proofs::Nodes::on_assign))]
+fn assign(
+    alloc: Global,
+    scope: &Scopes,
+    role: Role,
+    line: u32,
+    op: Option<BinaryOp>,
+    left: Boxed<Expr>,
+    right: Boxed<Expr>,
+) -> Result<TypedExpr, TypeFault>
+    ensures { Types (at line (node.Assign op left right)) role scope.now result }
+{
+    let is_place = is_place(left.get());
+    let left = operand(alloc, scope, left_role(is_place), left)?;
+    let right = operand(alloc, scope, Role::Value, right)?;
+    place_at(is_place, line)?;
+    value_at(role, line)?;
+    Ok(build::assign(alloc, op, left, right)?)
+}
+
+#[cycle(expr)]
+#[tactic(auto, using(crate::proofs::Nodes::on_comma))]
+fn comma(
+    alloc: Global,
+    scope: &Scopes,
+    role: Role,
+    line: u32,
+    left: Boxed<Expr>,
+    right: Boxed<Expr>,
+) -> Result<TypedExpr, TypeFault>
+    ensures { Types (at line (node.Comma left right)) role scope.now result }
+{
+    let left = operand(alloc, scope, Role::Free, left)?;
+    let right = operand(alloc, scope, Role::Value, right)?;
+    value_at(role, line)?;
+    Ok(build::comma(left, right))
+}
+
+/// The typed tree of an expression, or its first fault.
+#[cycle(expr)]
+#[tactic(auto, using(crate::proofs::Nodes::on_group))]
+pub fn type_expr(alloc: Global, scope: &Scopes, role: Role, e: Expr) -> Result<TypedExpr, TypeFault>
+    ensures { Types e role scope.now result }
+{
+    let Expr { line, node } = e;
+    match node {
+        ExprNode::Number { value, kind } => number(scope, role, line, value, kind),
+        ExprNode::Name(word) => name(scope, role, line, word),
+        ExprNode::Element { array, index } => element(alloc, scope, role, line, array, index),
+        ExprNode::Call { function, args } => call(alloc, scope, role, line, function, args),
+        ExprNode::Group(e) => type_expr(alloc, scope, role, e.into_inner()),
+        ExprNode::Unary { op, e } => unary(alloc, scope, role, line, op, e),
+        ExprNode::Cast { to, e } => cast(alloc, scope, role, line, to, e),
+        ExprNode::Bump { op, e } => bump(alloc, scope, role, line, op, e),
+        ExprNode::Binary { op, left, right } => binary(alloc, scope, role, line, op, left, right),
+        ExprNode::Choice { test, yes, no } => choice(alloc, scope, role, line, test, yes, no),
+        ExprNode::Assign { op, left, right } => assign(alloc, scope, role, line, op, left, right),
+        ExprNode::Comma { left, right } => comma(alloc, scope, role, line, left, right),
+    }
+}

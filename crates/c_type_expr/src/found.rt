@@ -1,0 +1,160 @@
+//! What a name that was looked up gives in a role.
+
+ghost use Rattle.std.specs.Prelude.{◌≡◌};
+ghost use Rattle.std.specs.Option.{option_copied};
+ghost use Rattle.c_type_expr.specs.Faults.{value_fault, name_fault, element_fault, call_fault, callee_fault, slots_of, takes_result};
+ghost use Rattle.c_type_expr.specs.Roles.{unless};
+ghost use Rattle.c_type_expr.specs.Trees.{name_tree, array_kind, array_place, result_kind, callee_of, callee_or};
+ghost use Rattle.c_type_expr.specs.Says.{Says};
+
+use crate::fault::TypeFault;
+use crate::role::Role;
+use c_scope::Meaning;
+use c_tree::{Callee, Kind, Place, Slot, TypedExpr, TypedNode};
+
+/// Whether a value may stand where the role is wanted.
+pub fn value_at(role: Role, line: u32) -> Result<(), TypeFault>
+    ensures { Says (value_fault role line) tt result }
+{
+    if role.takes_value() { Ok(()) } else { Err(TypeFault::Mismatch(line)) }
+}
+
+/// Whether a left side may be written to.
+pub fn place_at(is_place: bool, line: u32) -> Result<(), TypeFault>
+    ensures { Says (unless is_place (TypeFault.Mismatch line)) tt result }
+{
+    if is_place { Ok(()) } else { Err(TypeFault::Mismatch(line)) }
+}
+
+fn named(kind: Kind, place: Place) -> TypedExpr
+    ensures { result ≡ record { kind = Some kind; node = TypedNode.Name place } }
+{
+    TypedExpr {
+        kind: Some(kind),
+        node: TypedNode::Name(place),
+    }
+}
+
+fn end_of_file() -> TypedExpr
+    ensures { result ≡ Rattle.c_type_expr.specs.Trees.end_of_file }
+{
+    TypedExpr {
+        kind: Some(Kind::Int),
+        node: TypedNode::Number(u64::MAX),
+    }
+}
+
+pub fn name_at(found: Option<&Meaning>, role: Role, line: u32) -> Result<TypedExpr, TypeFault>
+    ensures { Says (name_fault (option_copied found.entry) role line) (name_tree (option_copied found.entry)) result }
+{
+    match found {
+        None => Err(TypeFault::Unknown(line)),
+        Some(Meaning::Scalar(kind, place)) => {
+            if role.takes_element() {
+                Ok(named(*kind, *place))
+            } else {
+                Err(TypeFault::Mismatch(line))
+            }
+        }
+        Some(Meaning::Array(kind, place)) => {
+            if role.takes_array(*kind) {
+                Ok(named(*kind, *place))
+            } else {
+                Err(TypeFault::Mismatch(line))
+            }
+        }
+        Some(Meaning::Function { .. }) => Err(TypeFault::Mismatch(line)),
+        Some(Meaning::EndOfFile) => {
+            if role.takes_value() {
+                Ok(end_of_file())
+            } else {
+                Err(TypeFault::Mismatch(line))
+            }
+        }
+    }
+}
+
+pub fn element_at(
+    found: Option<&Meaning>,
+    role: Role,
+    line: u32,
+) -> Result<(Kind, Place), TypeFault>
+    ensures { Says (element_fault (option_copied found.entry) role line) (array_kind (option_copied found.entry), array_place (option_copied found.entry)) result }
+{
+    match found {
+        None => Err(TypeFault::Unknown(line)),
+        Some(Meaning::Array(kind, place)) => {
+            if role.takes_element() {
+                Ok((*kind, *place))
+            } else {
+                Err(TypeFault::Mismatch(line))
+            }
+        }
+        Some(_) => Err(TypeFault::Mismatch(line)),
+    }
+}
+
+pub fn slots_in(found: Option<&Meaning>) -> &[Slot]
+    ensures { result.now ≡ slots_of (option_copied found.entry) }
+{
+    match found {
+        Some(Meaning::Function { params, .. }) => params.as_slice(),
+        _ => &[],
+    }
+}
+
+fn may_give(kind: Option<Kind>, role: Role) -> bool
+    ensures { result ≡ takes_result kind role }
+{
+    match kind {
+        None => role.takes_void(),
+        Some(_) => role.takes_value(),
+    }
+}
+
+fn called(
+    callee: Option<Callee>,
+    given: Option<Kind>,
+    params: &[Slot],
+    count: usize,
+    role: Role,
+    line: u32,
+) -> Result<Callee, TypeFault>
+    ensures { Says (callee_fault callee given params.now count role line) (callee_or callee) result }
+{
+    let Some(callee) = callee else {
+        return Err(TypeFault::Unknown(line));
+    };
+    if !may_give(given, role) {
+        return Err(TypeFault::Mismatch(line));
+    }
+    if count != params.len() {
+        return Err(TypeFault::Arity(line));
+    }
+    Ok(callee)
+}
+
+pub fn call_at(
+    found: Option<&Meaning>,
+    count: usize,
+    role: Role,
+    line: u32,
+) -> Result<(Option<Kind>, Callee), TypeFault>
+    ensures { Says (call_fault (option_copied found.entry) count role line) (result_kind (option_copied found.entry), callee_of (option_copied found.entry)) result }
+{
+    match found {
+        None => Err(TypeFault::Unknown(line)),
+        Some(
+            Meaning::Function {
+                result: given,
+                params,
+                callee,
+                ..
+            },
+        ) => {
+            let callee = called(*callee, *given, params.as_slice(), count, role, line)?;
+            Ok((*given, callee))
+        }
+        Some(_) => Err(TypeFault::Mismatch(line)),
+    }
+}

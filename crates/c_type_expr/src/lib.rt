@@ -1,0 +1,19 @@
+//! The typing of expressions (C17 6.5, 6.6): the first node that fails, or the typed tree.
+//!
+//! Every conversion that C17 makes is a node of the typed tree. A fault stands at the first failing node
+//! in the order of the text, a node's operands before the node.
+#![tactic(auto)]
+
+mod arguments;
+mod build;
+mod constants;
+mod expressions;
+mod fault;
+mod found;
+mod role;
+
+pub use build::converted;
+pub use constants::{full, full_constant, size_length};
+pub use expressions::type_expr;
+pub use fault::TypeFault;
+pub use role::Role;

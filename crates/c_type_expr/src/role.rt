@@ -1,0 +1,64 @@
+//! What expressions are wanted for.
+
+ghost use Rattle.std.specs.Prelude.{◌≡◌};
+ghost use Rattle.c_type_expr.specs.Roles as roles;
+
+use c_tree::Kind;
+
+/// What an expression is wanted for.
+#[derive(Clone, Copy, Debug, PartialEq, Eq)]
+pub enum Role {
+    /// Its value is used.
+    Value,
+    /// Its value is not used, so it may be a call that gives none.
+    Free,
+    /// It is written to.
+    Written,
+    /// It is the argument of an array parameter.
+    Array(Kind),
+    /// It is an argument that no parameter takes.
+    Surplus,
+}
+
+impl Role {
+    /// Whether a value may stand there that is no scalar or element.
+    pub fn takes_value(self) -> bool
+        ensures { result ≡ roles.takes_value self }
+    {
+        match self {
+            Role::Written | Role::Array(_) => false,
+            _ => true,
+        }
+    }
+
+    /// Whether a scalar or an element may stand there.
+    pub fn takes_element(self) -> bool
+        ensures { result ≡ roles.takes_element self }
+    {
+        match self {
+            Role::Array(_) => false,
+            _ => true,
+        }
+    }
+
+    /// Whether a call that gives no value may stand there.
+    pub fn takes_void(self) -> bool
+        ensures { result ≡ roles.takes_void self }
+    {
+        match self {
+            Role::Free => true,
+            _ => false,
+        }
+    }
+
+    /// Whether the name of an array of a kind may stand there.
+    pub fn takes_array(self, kind: Kind) -> bool
+        ensures { result ≡ roles.takes_array kind self }
+    {
+        match self {
+            Role::Array(wanted) => kind == wanted,
+            Role::Surplus => true,
+            _ => false,
+        }
+    }
+}
