@@ -8,3 +8,5 @@ pub mod Building
 pub mod Fitting
 pub mod Counting
 pub mod Lowest
+pub mod Starts
+pub mod Making

@@ -1,5 +1,7 @@
 pub mod Faults
 pub mod IsChecked
+pub mod Images
+pub mod Holds
 pub mod Walk
 pub mod Pass
 pub mod Found
