@@ -1,0 +1,16 @@
+pub mod Each
+pub mod Widths
+pub mod Fields
+pub mod Words
+pub mod WordsTaken
+pub mod Lists
+pub mod HeaderLaws
+pub mod BodyLaws
+pub mod Chunks
+pub mod BlockLaws
+pub mod ImageLaws
+pub mod Prefix
+pub mod FaultLaws
+pub mod FaultsAgain
+pub mod Loops
+pub mod Writing

@@ -1,0 +1,111 @@
+-- Reading blocks one after the other.
+use Rattle.std.proofs.Common.{take, subst, ◌≡◌, ℕ, zero, suc, ◌+◌, ◌-◌, ◌*◌, ◌<◌, ◌≤◌, Bool, true, false, cond, List, [], ◌∷◌, ◌++◌, length, drop, get_or, Result, Ok, Err, refl, sym, ap, ◌∙◌, arith, append_assoc, nat_eq}
+use Rattle.std.specs.Prelude.{MatchResult, IfOk}
+use Rattle.std.proofs.lemmas.List.{append-nil, take_rest}
+use Rattle.block_image.specs.declared.fault.ImageFault.{ImageFault}
+use Rattle.block_image.specs.declared.fault.ImageFault.TheVariants.{Magic, Version, Truncated, Trailing, BadField, Memory}
+use Rattle.block_image.proofs.Each.{Each, each_byte}
+use Rattle.trips_isa.specs.declared.block.Block.{Block}
+use Rattle.trips_isa.specs.declared.block.Image.{Image}
+use Rattle.block_image.specs.Spelling.{ImageBytes, chunks_of, spelling}
+use Rattle.block_image.specs.Reading.{all_empty, ◌>>=◌, block_at, Slots}
+use Rattle.trips_isa.specs.Images.{last_byte}
+use Rattle.block_image.specs.ImageReading.{blocks_at, with_blocks, Fails, wants, image_at, Answers, IsMemory}
+use Rattle.block_image.proofs.ImageLaws.{image_takes, image_again}
+use Rattle.block_image.proofs.Lists.{ok_is}
+use Rattle.block_image.proofs.Chunks.{chunks_is, least_chunks}
+
+pub fails_of : {Y : Type 0} (e : ImageFault) (read : Result Y ImageFault) → read ≡ Err e → Fails e read
+fails_of Magic read h = h
+fails_of Version read h = h
+fails_of (Truncated n) read h = h
+fails_of (Trailing n) read h = h
+fails_of (BadField n) read h = h
+fails_of Memory read h = tt
+
+pub fails_along : {Y Z : Type 0} (e : ImageFault) (read : Result Y ImageFault) (other : Result Z ImageFault) → ((f : ImageFault) → read ≡ Err f → other ≡ Err f) → Fails e read → Fails e other
+fails_along Magic read other k h = k Magic h
+fails_along Version read other k h = k Version h
+fails_along (Truncated n) read other k h = k (Truncated n) h
+fails_along (Trailing n) read other k h = k (Trailing n) h
+fails_along (BadField n) read other k h = k (BadField n) h
+fails_along Memory read other k h = tt
+
+regroup : (front : List Block) (b : Block) (r : Result (List Block) ImageFault) → with_blocks front (r >>= λ bs. Ok (b ∷ bs)) ≡ with_blocks (front ++ b ∷ []) r
+regroup front b (Ok bs) = ap (λ (x : List Block). Ok x) (sym (append_assoc front (b ∷ []) bs))
+regroup front b (Err e) = refl
+
+pub blocks_next : (front : List Block) (b : Block) (n k total size at : ℕ) (bytes : List ℕ) (all : Result (List Block) ImageFault) → k < n → size ≡ 1 + chunks_of b.insts.items → block_at total (at + 128 * total) bytes ≡ Ok b
+    → with_blocks front (blocks_at (n - k) total (at + 128 * total) bytes) ≡ all → with_blocks (front ++ b ∷ []) (blocks_at (n - (k + 1)) (total + size) (at + 128 * (total + size)) bytes) ≡ all
+blocks_next front b n k total size at bytes all l s e h =
+    let m : n - k ≡ suc (n - (k + 1)) = omega arith in
+    let c = chunks_of b.insts.items in
+    let t : total + 1 + c ≡ total + size = omega arith in
+    let p : at + 128 * total + 128 + 128 * c ≡ at + 128 * (total + size) = omega arith in
+    let one : blocks_at (n - k) total (at + 128 * total) bytes ≡ (blocks_at (n - (k + 1)) (total + size) (at + 128 * (total + size)) bytes >>= λ bs. Ok (b ∷ bs)) = rw (m, e, t, p) refl in
+    sym (regroup front b (blocks_at (n - (k + 1)) (total + size) (at + 128 * (total + size)) bytes)) ∙ sym (ap (with_blocks front) one) ∙ h
+
+pub blocks_fail : (front : List Block) (n k total at : ℕ) (bytes : List ℕ) (f : ImageFault) (all : Result (List Block) ImageFault) → k < n → block_at total (at + 128 * total) bytes ≡ Err f
+    → with_blocks front (blocks_at (n - k) total (at + 128 * total) bytes) ≡ all → all ≡ Err f
+blocks_fail front n k total at bytes f all l e h =
+    let m : n - k ≡ suc (n - (k + 1)) = omega arith in
+    let one : blocks_at (n - k) total (at + 128 * total) bytes ≡ Err f = rw (m, e) refl in
+    sym h ∙ ap (with_blocks front) one
+
+pub blocks_end : (front : List Block) (n k total at : ℕ) (bytes : List ℕ) (all : Result (List Block) ImageFault) (b : Bool) → n ≤ k → nat_eq (at + 128 * total) (length bytes) ≡ b
+    → with_blocks front (blocks_at (n - k) total (at + 128 * total) bytes) ≡ all → all ≡ cond b (Ok front) (Err (Trailing (at + 128 * total)))
+blocks_end front n k total at bytes all b l e h =
+    let m : n - k ≡ 0 = omega arith in
+    let one : blocks_at (n - k) total (at + 128 * total) bytes ≡ (wants b (Trailing (at + 128 * total)) >>= λ u. Ok []) = rw (m, e) refl in
+    sym h ∙ ap (with_blocks front) one ∙ by b
+  where
+    by : (b : Bool) → with_blocks front (wants b (Trailing (at + 128 * total)) >>= λ u. Ok []) ≡ cond b (Ok front) (Err (Trailing (at + 128 * total)))
+    by true = ap (λ (x : List Block). Ok x) (append-nil front)
+    by false = refl
+
+-- ---- small facts of the code
+
+pub empty_rest : (k : ℕ) (s : Slots) → all_empty (take (length s - k) (drop k s)) ≡ all_empty (drop k s)
+empty_rest k s = ap all_empty (take_rest s k)
+
+pub one_chunk : (s : Slots) → length s ≡ 128 → all_empty (drop 32 s) ≡ true → 1 ≡ chunks_of s
+unfolding least_chunks
+one_chunk s l a = rw (chunks_is s l, a) refl
+
+pub two_chunks : (s : Slots) → length s ≡ 128 → all_empty (drop 32 s) ≡ false → all_empty (drop 64 s) ≡ true → 2 ≡ chunks_of s
+unfolding least_chunks
+two_chunks s l a b = rw (chunks_is s l, a, b) refl
+
+pub three_chunks : (s : Slots) → length s ≡ 128 → all_empty (drop 32 s) ≡ false → all_empty (drop 64 s) ≡ false → all_empty (drop 96 s) ≡ true → 3 ≡ chunks_of s
+unfolding least_chunks
+three_chunks s l a b c = rw (chunks_is s l, a, b, c) refl
+
+pub four_chunks : (s : Slots) → length s ≡ 128 → all_empty (drop 32 s) ≡ false → all_empty (drop 64 s) ≡ false → all_empty (drop 96 s) ≡ false → 4 ≡ chunks_of s
+unfolding least_chunks
+four_chunks s l a b c = rw (chunks_is s l, a, b, c) refl
+
+pub last_is : (bs : List ℕ) → 0 < length bs → get_or bs (length bs - 1) 0 ≡ last_byte bs
+last_is [] l = absurd (omega arith)
+last_is (b ∷ []) l = refl
+last_is (b ∷ c ∷ bs) l =
+    let e : length (b ∷ c ∷ bs) - 1 ≡ suc (length (c ∷ bs) - 1) = omega arith in
+    ap (λ (n : ℕ). get_or (b ∷ c ∷ bs) n 0) e ∙ last_is (c ∷ bs) (omega arith)
+
+pub found : (bytes : List ℕ) (r : Result Image ImageFault) → ((i : ℕ) → get_or bytes i 0 < 256) → Answers (λ v. v) r (image_at bytes) → IfOk r (λ v. ImageBytes (v) bytes)
+found bytes (Ok v) f h = image_takes bytes (v) (each_byte bytes f) h
+found bytes (Err e) f h = tt
+
+no_fails : {Y : Type 0} (e : ImageFault) (y : Y) → Fails e (Ok y) → IsMemory e
+no_fails Magic y h = absurd cc
+no_fails Version y h = absurd cc
+no_fails (Truncated n) y h = absurd cc
+no_fails (Trailing n) y h = absurd cc
+no_fails (BadField n) y h = absurd cc
+no_fails Memory y h = refl
+
+pub only : (bytes : List ℕ) (r : Result Image ImageFault) → Answers (λ v. v) r (image_at bytes) → (i : Image) → ImageBytes i bytes → MatchResult r (λ v. v ≡ i) IsMemory
+only bytes r h i s = by r (subst (λ (x : Result Image ImageFault). Answers (λ v. v) r x) (ap image_at s.spelled ∙ image_again i s.fits) h)
+  where
+    by : (r : Result Image ImageFault) → Answers (λ v. v) r (Ok i) → MatchResult r (λ v. v ≡ i) IsMemory
+    by (Ok v) h = sym (ok_is i (v) h)
+    by (Err e) h = no_fails e i h

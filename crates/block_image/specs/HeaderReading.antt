@@ -1,0 +1,51 @@
+-- Reading the words of a header.
+use Rattle.std.specs.Prelude.{ℕ, suc, ◌+◌, ◌-◌, ◌*◌, ◌/◌, ◌%◌, List, [], ◌∷◌, Option, Some, None, Bool, ◌&&◌, ◌||◌, not, nat_le, nat_lt, ◌==◌, if◌then◌else◌}
+use Rattle.trips_isa.specs.declared.block.Spot.{Spot}
+use Rattle.trips_isa.specs.declared.block.Spot.TheVariants as spot
+use Rattle.trips_isa.specs.declared.block.ReadSlot.{ReadSlot}
+
+-- the info bits of all words, after those of the words before
+abbrev pub info_from : ℕ → List ℕ → ℕ
+info_from info [] = info
+info_from info (w ∷ ws) = info_from (info * 4 + w / 1073741824) ws
+
+abbrev pub mask_in : ℕ → ℕ
+mask_in info = info / 4294967296
+
+abbrev pub reads_in : ℕ → ℕ
+reads_in info = info / 67108864 % 64
+
+abbrev pub writes_in : ℕ → ℕ
+writes_in info = info / 1048576 % 64
+
+abbrev pub chunks_in : ℕ → ℕ
+chunks_in info = info / 131072 % 8
+
+-- at most 32 reads, 32 writes, from 1 to 4 body chunks, and zeros
+abbrev pub is_good_info : ℕ → Bool
+is_good_info info =
+    nat_le (reads_in info) 32 && nat_le (writes_in info) 32 && nat_lt 0 (chunks_in info) && nat_le (chunks_in info) 4
+    && (info % 131072 == 0)
+
+-- fields past the counts, and at word 16 the info bits
+unfoldable pub is_bad : ℕ → ℕ → ℕ → Bool
+is_bad info i w =
+    (nat_le (reads_in info) i && not (w / 128 % 8388608 == 0)) || (nat_le (writes_in info) i && not (w % 128 == 0))
+    || (i == 16 && not (is_good_info info))
+
+unfoldable pub first_bad : ℕ → ℕ → List ℕ → Option ℕ
+first_bad info i [] = None
+first_bad info i (w ∷ ws) = if is_bad info i w then Some i else first_bad info (suc i) ws
+
+unfoldable pub operand_at : ℕ → Spot
+operand_at n = if nat_lt n 128 then spot.Left n else spot.Right (n - 128)
+
+unfoldable pub read_at : ℕ → ReadSlot
+read_at w = record {
+  register = w / 8388608 % 128;
+  first = operand_at (w / 128 % 256);
+  second = if w / 32768 % 256 == w / 128 % 256 then None else Some (operand_at (w / 32768 % 256));
+}
+
+abbrev pub write_at : ℕ → ℕ
+write_at w = w % 128

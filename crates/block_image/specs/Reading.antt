@@ -1,0 +1,78 @@
+-- Reading a block from left to right, with the first fault that is met.
+use Rattle.std.specs.Prelude.{◌≡◌, ℕ, zero, suc, ◌+◌, ◌-◌, ◌*◌, List, [], ◌∷◌, ◌++◌, length, map, take, drop, replicate, Option, Some, None, Result, Ok, Err, Bool, true, false, ◌&&◌, nat_lt, if◌then◌else◌}
+use Rattle.byteorder.specs.Endian.{big_number}
+use Rattle.trips_isa.specs.declared.block.Inst.{Inst}
+use Rattle.trips_isa.specs.declared.block.Block.{Block}
+use Rattle.block_image.specs.declared.fault.ImageFault.{ImageFault}
+use Rattle.block_image.specs.declared.fault.ImageFault.TheVariants.{Truncated, BadField}
+use Rattle.block_image.specs.WordReading.{slot_at}
+use Rattle.block_image.specs.HeaderReading.{info_from, first_bad, read_at, write_at, reads_in, writes_in, mask_in, chunks_in}
+
+infixl 10 ◌>>=◌
+abbrev pub ◌>>=◌ : {A B : Type 0} → Result A ImageFault → (A → Result B ImageFault) → Result B ImageFault
+(Ok x) >>= f = f x
+(Err e) >>= f = Err e
+
+abbrev pub Slots : Type 0
+Slots = List (Option Inst)
+
+abbrev pub all_empty : Slots → Bool
+all_empty [] = true
+all_empty (None ∷ slots) = all_empty slots
+all_empty (Some i ∷ slots) = false
+
+unfoldable pub words : ℕ → List ℕ → List ℕ
+words zero bytes = []
+words (suc n) bytes = big_number 4 bytes ∷ words n (drop 4 bytes)
+
+abbrev pub slot_or_fault : ℕ → Option (Option Inst) → Result (Option Inst) ImageFault
+slot_or_fault at None = Err (BadField at)
+slot_or_fault at (Some s) = Ok s
+
+-- what was read before, and what is still read
+abbrev pub with_front : Slots → Result Slots ImageFault → Result Slots ImageFault
+with_front front read = read >>= λ slots. Ok (front ++ slots)
+
+abbrev pub slots_at : ℕ → List ℕ → Result Slots ImageFault
+slots_at at [] = Ok []
+slots_at at (w ∷ ws) = slot_or_fault at (slot_at w) >>= λ s. with_front (s ∷ []) (slots_at (at + 4) ws)
+
+-- a chunk is taken whole
+unfoldable pub chunk_at : ℕ → List ℕ → Result (List ℕ) ImageFault
+chunk_at at bytes =
+    if nat_lt (length bytes) (at + 128) then Err (Truncated (length bytes)) else Ok (words 32 (drop at bytes))
+
+abbrev pub body_at : ℕ → ℕ → List ℕ → Result Slots ImageFault
+body_at zero at bytes = Ok []
+body_at (suc n) at bytes = chunk_at at bytes >>= λ ws. slots_at at ws >>= λ s. with_front s (body_at n (at + 128) bytes)
+
+abbrev pub fault_at : ℕ → Option ℕ → Result (Unit {0}) ImageFault
+fault_at at None = Ok tt
+fault_at at (Some i) = Err (BadField (at + 4 * i))
+
+-- the info bits, where the total of chunks and each word is good
+unfoldable pub header_at : ℕ → ℕ → List ℕ → Result ℕ ImageFault
+header_at total at ws =
+    if nat_lt 524288 (total + 1 + chunks_in (info_from 0 ws)) then Err (BadField at)
+    else (fault_at at (first_bad (info_from 0 ws) 0 ws) >>= λ u. Ok (info_from 0 ws))
+
+unfoldable pub parts_from : ℕ → List ℕ → Slots → Block
+parts_from info ws slots = record {
+  reads = record { items = map read_at (take (reads_in info) ws) };
+  writes = record { items = map write_at (take (writes_in info) ws) };
+  mask = mask_in info;
+  insts = record { items = slots ++ replicate (128 - length slots) None };
+}
+
+-- the number of body chunks is the least
+unfoldable pub least_at : ℕ → ℕ → Slots → Result Slots ImageFault
+least_at at chunks slots =
+    if nat_lt 1 chunks && all_empty (drop (32 * (chunks - 1)) slots) then Err (BadField (at + 64)) else Ok slots
+
+unfoldable pub block_at : ℕ → ℕ → List ℕ → Result Block ImageFault
+block_at total at bytes = do
+  ws ← chunk_at at bytes
+  info ← header_at total at ws
+  slots ← body_at (chunks_in info) (at + 128) bytes
+  good ← least_at at (chunks_in info) slots
+  Ok (parts_from info ws good)

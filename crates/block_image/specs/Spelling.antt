@@ -1,0 +1,44 @@
+-- The bytes of an image that fits: its one spelling.
+use Rattle.std.specs.Prelude.{◌≡◌, ℕ, ◌*◌, List, [], ◌∷◌, ◌++◌, length, map, take, Option}
+use Rattle.std.specs.List.{flat_map}
+use Rattle.byteorder.specs.Endian.{big_bytes}
+use Rattle.trips_isa.specs.declared.block.Inst.{Inst}
+use Rattle.trips_isa.specs.declared.block.Block.{Block}
+use Rattle.trips_isa.specs.declared.block.Image.{Image}
+use Rattle.trips_isa.specs.Images.{body_chunks, FitsImage}
+use Rattle.block_image.specs.Words.{slot_word}
+use Rattle.block_image.specs.Headers.{words_from, info_of}
+
+-- the least number of body chunks, from 1, that holds all used slots
+unfoldable pub chunks_of : List (Option Inst) → ℕ
+chunks_of slots = body_chunks 0 slots
+
+abbrev pub header_words : Block → List ℕ
+header_words b =
+    words_from 32 (info_of b.mask (length b.reads.items) (length b.writes.items) (chunks_of b.insts.items)) b.reads.items b.writes.items
+
+abbrev pub body_words : Block → List ℕ
+body_words b = map slot_word (take (32 * chunks_of b.insts.items) b.insts.items)
+
+-- words of 32 bits, the most significant byte first
+abbrev pub words_bytes : List ℕ → List ℕ
+words_bytes words = flat_map (big_bytes 4) words
+
+unfoldable pub block_bytes : Block → List ℕ
+block_bytes b = words_bytes (header_words b ++ body_words b)
+
+-- `TRIPSIMG`
+abbrev pub magic : List ℕ
+magic = 84 ∷ 82 ∷ 73 ∷ 80 ∷ 83 ∷ 73 ∷ 77 ∷ 71 ∷ []
+
+-- what stands before the blocks: the magic, the version, the numbers of blocks and of data bytes, and these
+abbrev pub container : ℕ → List ℕ → List ℕ
+container blocks bytes = magic ++ (big_bytes 4 1 ++ (big_bytes 4 blocks ++ (big_bytes 4 (length bytes) ++ bytes)))
+
+abbrev pub spelling : Image → List ℕ
+spelling i = container (length i.blocks) i.bytes ++ flat_map block_bytes i.blocks
+
+-- the bytes are the image's
+pub record ImageBytes (image : Image) (bytes : List ℕ) : Type 0 where
+  pub fits : FitsImage image
+  pub spelled : bytes ≡ spelling image

@@ -1,0 +1,173 @@
+//! Blocks: read.
+ghost use Rattle.std.specs.Prelude.{◌≡◌, ◌+◌, ◌-◌, ◌*◌, ◌<◌, ◌≤◌, ◌^◌, ◌++◌, length, drop, replicate, IfOk, OnOk, None, true};
+ghost use Rattle.block_image.specs.HeaderReading.{is_good_info, chunks_in};
+ghost use Rattle.block_image.specs.WordReading.{slot_at};
+ghost use Rattle.block_image.specs.Spelling.{chunks_of};
+ghost use Rattle.block_image.specs.Reading.{all_empty, chunk_at, slots_at, slot_or_fault, body_at, header_at, least_at, block_at, parts_from};
+ghost use Rattle.block_image.specs.ImageReading.{Gives, Adds};
+
+use crate::fault::ImageFault;
+use crate::header::{bad_word, info, reads, words_of, writes};
+use crate::word::slot_of;
+use arrayvec::ArrayVec;
+use trips_isa::{Block, Inst};
+
+#[tactic(auto, unfolding(crate::specs::Reading::chunk_at))]
+fn chunk(bytes: &[u8], at: usize) -> Result<[u32; 32], ImageFault>
+    requires { at < 2 ^ 63 }
+    ensures value { result ≡ chunk_at at bytes.now }
+{
+    if bytes.len() < at + 128 {
+        return Err(ImageFault::Truncated(bytes.len() as u64));
+    }
+    Ok(words_of(&bytes[at..at + 128]))
+}
+
+fn slot(word: u32, at: usize) -> Result<Option<Inst>, ImageFault>
+    ensures value { result ≡ slot_or_fault at (slot_at word) }
+{
+    match slot_of(word) {
+        None => Err(ImageFault::BadField(at as u64)),
+        Some(slot) => Ok(slot),
+    }
+}
+
+/// Adds the slots of a chunk.
+fn slots(out: &mut ArrayVec<Option<Inst>, 128>, words: &[u32], at: usize) -> Result<(), ImageFault>
+    requires place { at < 2 ^ 63 }
+    requires words { length words.now ≡ 32 }
+    requires room { length out.old.items + 32 ≤ 128 }
+    ensures read { Adds out.old.items out.new.items result (slots_at at words.now) }
+    ensures size { length out.new.items ≤ length out.old.items + 32 }
+{
+    for i in 0..words.len() {
+        match slot(words[i], at + 4 * i) {
+            Err(fault) => return Err(fault),
+            Ok(slot) => out.push(slot),
+        }
+    }
+    Ok(())
+}
+
+/// Adds the slots of the body's chunks.
+fn body(
+    out: &mut ArrayVec<Option<Inst>, 128>,
+    bytes: &[u8],
+    at: usize,
+    chunks: usize,
+) -> Result<(), ImageFault>
+    requires place { at < 2 ^ 62 }
+    requires chunks { chunks ≤ 4 }
+    requires empty { length out.old.items ≡ 0 }
+    ensures read { Adds out.old.items out.new.items result (body_at chunks at bytes.now) }
+    ensures size { length out.new.items ≤ 128 }
+    ensures full { OnOk result (length out.new.items ≡ 32 * chunks) }
+{
+    for k in 0..chunks {
+        let words = match chunk(bytes, at + 128 * k) {
+            Err(fault) => return Err(fault),
+            Ok(words) => words,
+        };
+        match slots(out, &words, at + 128 * k) {
+            Err(fault) => return Err(fault),
+            Ok(()) => (),
+        }
+    }
+    Ok(())
+}
+
+#[tactic(auto, unfolding(crate::specs::Reading::header_at))]
+fn header(total: u32, at: usize, words: &[u32]) -> Result<u64, ImageFault>
+    requires place { at < 2 ^ 62 }
+    requires total { total ≤ 524288 }
+    requires words { length words.now ≡ 32 }
+    ensures read { result ≡ header_at total at words.now }
+    ensures good { IfOk result (λ info. is_good_info info ≡ true) }
+{
+    let info = info(words);
+    let chunks = (info / 131072 % 8) as u32;
+    if total + 1 + chunks > 524288 {
+        return Err(ImageFault::BadField(at as u64));
+    }
+    match bad_word(info, words) {
+        Some(i) => Err(ImageFault::BadField((at + 4 * i) as u64)),
+        None => Ok(info),
+    }
+}
+
+pub(crate) fn are_empty(slots: &[Option<Inst>]) -> bool
+    ensures value { result ≡ all_empty slots.now }
+{
+    for slot in slots {
+        if let Some(_) = slot {
+            return false;
+        }
+    }
+    true
+}
+
+#[tactic(auto, unfolding(crate::specs::Reading::least_at))]
+fn least(at: usize, chunks: usize, slots: &[Option<Inst>]) -> Result<(), ImageFault>
+    requires place { at < 2 ^ 62 }
+    requires chunks { chunks ≤ 4 }
+    requires all { 32 * (chunks - 1) ≤ length slots.now }
+    ensures { Gives (λ u. slots.now) result (least_at at chunks slots.now) }
+{
+    if 1 < chunks && are_empty(&slots[32 * (chunks - 1)..]) {
+        return Err(ImageFault::BadField((at + 64) as u64));
+    }
+    Ok(())
+}
+
+fn pad(insts: &mut ArrayVec<Option<Inst>, 128>)
+    requires { length insts.old.items ≤ 128 }
+    ensures { insts.new.items ≡ insts.old.items ++ replicate (128 - length insts.old.items) None }
+{
+    for _ in insts.len()..128 {
+        insts.push(None);
+    }
+}
+
+#[tactic(auto, unfolding(crate::specs::Reading::parts_from))]
+fn made(info: u64, words: &[u32], slots: ArrayVec<Option<Inst>, 128>) -> Block
+    requires words { length words.now ≡ 32 }
+    requires slots { length slots.items ≤ 128 }
+    requires good { is_good_info info ≡ true }
+    ensures value { result ≡ parts_from info words.now slots.items }
+{
+    let mut insts = slots;
+    pad(&mut insts);
+    Block {
+        reads: reads(words, (info / 67108864 % 64) as usize),
+        writes: writes(words, (info / 1048576 % 64) as usize),
+        mask: (info / 4294967296) as u32,
+        insts,
+    }
+}
+
+/// The block that begins at a place, and its chunks.
+#[tactic(auto, unfolding(crate::specs::Reading::block_at))]
+pub(crate) fn block(bytes: &[u8], total: u32, at: usize) -> Result<(Block, u32), ImageFault>
+    requires place { at < 2 ^ 61 }
+    requires total { total ≤ 524288 }
+    ensures read { Gives (λ x. x.0) result (block_at total at bytes.now) }
+    ensures size { IfOk result (λ x. (x.1 ≡ 1 + chunks_of x.0.insts.items) × (total + x.1 ≤ 524288)) }
+{
+    let words = match chunk(bytes, at) {
+        Err(fault) => return Err(fault),
+        Ok(words) => words,
+    };
+    let info = match header(total, at, &words) {
+        Err(fault) => return Err(fault),
+        Ok(info) => info,
+    };
+    let mut insts = ArrayVec::new();
+    let chunks = (info / 131072 % 8) as usize;
+    if let Err(fault) = body(&mut insts, bytes, at + 128, chunks) {
+        return Err(fault);
+    }
+    if let Err(fault) = least(at, chunks, insts.as_slice()) {
+        return Err(fault);
+    }
+    Ok((made(info, &words, insts), 1 + chunks as u32))
+}
