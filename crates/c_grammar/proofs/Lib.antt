@@ -4,3 +4,6 @@ pub mod Pieces
 pub mod Lists
 pub mod Types
 pub mod Stops
+pub mod Levels
+pub mod Joins
+pub mod Expressions

@@ -8,5 +8,9 @@ use Rattle.c_grammar.proofs.Types.{type_piece, types_begin, types_shorter}
 
 use Rattle.c_grammar.proofs.Stops.{assigner_none}
 
+use Rattle.c_grammar.proofs.Joins.{joins_piece, suffixes_piece}
+
+use Rattle.c_grammar.proofs.Expressions.{unary_piece}
+
 pub returns : goal.returns
 returns c = refl
