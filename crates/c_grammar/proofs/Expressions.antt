@@ -39,7 +39,7 @@ abbrev args_here : List Expr → Tokens → Out (List Expr)
 args_here es t = Ok (es, t)
 
 -- an expression up to a mark, and what is made of it
-closed : {A : Type 0} {n d m : ℕ} {run : Tokens → Out Expr} (k : Mark) → n < bind (form.Mark k) → (make : Expr → A) → Piece same_tree (Level n d) any always (ends_at n) zero_first m run → {Ends : A → Tokens → Type 0}
+pub closed : {A : Type 0} {n d m : ℕ} {run : Tokens → Out Expr} (k : Mark) → n < bind (form.Mark k) → (make : Expr → A) → Piece same_tree (Level n d) any always (ends_at n) zero_first m run → {Ends : A → Tokens → Type 0}
     → Piece same_tree (Then (Level n d) (λ e. Then (Is k) (λ l. Done (make e)))) any always Ends (λ t. zero_token ∷ punct 0 k ∷ t) m (λ ts. and_then (run ts) (λ e ts. and_then (expect k ts) (λ _ ts. Ok (make e, ts))))
 closed {n = n} {m = m} k lt make p =
     seq (λ e ts. and_then (expect k ts) (λ _ ts. Ok (make e, ts))) p
@@ -51,7 +51,7 @@ pub data Among {X P : Type 0} (R : P → Rel X) (S : Rel X) (may : May) (x : X) 
   by : (p : P) → R p may x f t → Among R S may x f t
   plain : S may x f t → Among R S may x f t
 
-among : {X A P : Type 0} {tree : X → A} {R : P → Rel X} {S : Rel X} {Ends : X → Tokens → Type 0} {after : Tokens → Tokens} {m : ℕ} {run : P → Tokens → Out A} {run' : Tokens → Out A} (look : Form → Option P)
+pub among : {X A P : Type 0} {tree : X → A} {R : P → Rel X} {S : Rel X} {Ends : X → Tokens → Type 0} {after : Tokens → Tokens} {m : ℕ} {run : P → Tokens → Out A} {run' : Tokens → Out A} (look : Form → Option P)
     → ((p : P) (ts : Tokens) → seen look ts ≡ Some p → Sound tree (R p) always m ts (run p ts)) → ((p : P) → Complete tree (R p) Ends m (run p)) → Piece tree S any always Ends after m run'
     → ((p : P) (may : May) (x : X) (f t : Tokens) → R p may x f t → seen look f ≡ Some p) → ((may : May) (x : X) (f t : Tokens) → S may x f t → Ends x t → seen look f ≡ None)
     → Piece tree (Among R S) any always Ends after m (λ ts. by_option (seen look ts) (run' ts) (λ p. run p ts))
@@ -76,7 +76,7 @@ module _ (m d : ℕ) (nested : Nested) (known : Deeper nested m d) where
   abbrev GroupIs : Rel Expr
   GroupIs = Then (OpenIs mark.LeftParen d) GroupRest
 
-  group_rest : (l : ℕ) → nested.allowed ≡ true → Piece same_tree (GroupRest l) any always (ends_at 0) (λ t. zero_token ∷ punct 0 mark.RightParen ∷ t) m
+  pub group_rest : (l : ℕ) → nested.allowed ≡ true → Piece same_tree (GroupRest l) any always (ends_at 0) (λ t. zero_token ∷ punct 0 mark.RightParen ∷ t) m
       (λ ts. and_then (nested.expression ts) (λ e ts. and_then (expect mark.RightParen ts) (λ _ ts. expr_here (at l (node.Group e)) ts)))
   group_rest l h = closed mark.RightParen (omega arith) (λ e. at l (node.Group e)) (known.expression_in h)
 

@@ -7,3 +7,4 @@ pub mod Stops
 pub mod Levels
 pub mod Joins
 pub mod Expressions
+pub mod Casts

@@ -12,5 +12,7 @@ use Rattle.c_grammar.proofs.Joins.{joins_piece, suffixes_piece}
 
 use Rattle.c_grammar.proofs.Expressions.{unary_piece}
 
+use Rattle.c_grammar.proofs.Casts.{cast_piece}
+
 pub returns : goal.returns
 returns c = refl
