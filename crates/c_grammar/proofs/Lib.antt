@@ -8,3 +8,4 @@ pub mod Levels
 pub mod Joins
 pub mod Expressions
 pub mod Casts
+pub mod Inside

@@ -14,5 +14,7 @@ use Rattle.c_grammar.proofs.Expressions.{unary_piece}
 
 use Rattle.c_grammar.proofs.Casts.{cast_piece}
 
+use Rattle.c_grammar.proofs.Inside.{inside_known}
+
 pub returns : goal.returns
 returns c = refl
