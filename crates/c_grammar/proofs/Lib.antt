@@ -9,3 +9,5 @@ pub mod Joins
 pub mod Expressions
 pub mod Casts
 pub mod Inside
+pub mod Begins
+pub mod Parts

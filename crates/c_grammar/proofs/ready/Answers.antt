@@ -16,5 +16,9 @@ use Rattle.c_grammar.proofs.Casts.{cast_piece}
 
 use Rattle.c_grammar.proofs.Inside.{inside_known}
 
+use Rattle.c_grammar.proofs.Begins.{begins_is, type_alone, writes_shorter}
+
+use Rattle.c_grammar.proofs.Parts.{locals_piece}
+
 pub returns : goal.returns
 returns c = refl
