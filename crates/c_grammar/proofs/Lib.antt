@@ -4,3 +4,10 @@ pub mod Pieces
 pub mod Lists
 pub mod Types
 pub mod Stops
+pub mod Levels
+pub mod Joins
+pub mod Expressions
+pub mod Casts
+pub mod Inside
+pub mod Begins
+pub mod Parts

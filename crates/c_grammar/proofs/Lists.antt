@@ -9,7 +9,7 @@ use Rattle.c_grammar.specs.Numbers.{is_mark}
 use Rattle.c_grammar.specs.Parsing.{Stop, Out, and_then, syntax, tail, line_of, is_next, expect, closes, listed, listed_on, many, is_end, to_end}
 use Rattle.c_grammar.proofs.Numbers.{mark_self}
 use Rattle.c_grammar.proofs.Agree.{split_if, if_true, if_false, trans_le, next_is, tail_short, Way, stay, one, both, Grows, frees_after, frees_all, place, Tied, end, at_cut, alike, head_step, tied_first, Brief, fine, short_then, short_if, short_expect, Lands, good, past, lands_by, bind_lands}
-use Rattle.c_grammar.proofs.Pieces.{Rel, Front, Sound, read, stuck, Least, Then, always, any, Piece, seq_sound, same_tree, sound_short, turn}
+use Rattle.c_grammar.proofs.Pieces.{Rel, Front, Sound, read, stuck, Least, Then, always, any, Piece, seq_sound, same_tree, sound_short, turn, prepend}
 
 abbrev took : Tokens → Out ℕ
 took ts = Ok (line_of ts, tail ts)
@@ -57,21 +57,10 @@ module _ {A : Type 0} (R : Rel A) (L : Rel (List A)) (Ends : A → Tokens → Ty
         read (x ∷ []) (tail ts) (record { put = λ u. punct (line_of ts) k ∷ u; way = one _; is = next_is k ts h.1; again = λ may w u. trails h.0 }) tt)
       (λ e. turn (λ may ys f t r. subst (λ (ys : List A). Tail L k trailing x may ys (punct l mark.Comma ∷ f) t) (sym r.2) (goes r.1)) ts (consed_sound x ts (listed k trailing run n ts) (below ts)))
 
-  behind_comma : {X : Type 0} {S S' : Rel X} (ts : Tokens) → is_next mark.Comma ts ≡ true → ((may : May) (x : X) (f t : Tokens) → S may x f t → S' may x (punct (line_of ts) mark.Comma ∷ f) t)
-      → {out : Out X} → Sound same_tree S always m (tail ts) out → Sound same_tree S' always m ts out
-  behind_comma {X = X} {S = S} {S' = S'} ts e h {out = out} s = by out s
-    where
-      by : (out : Out X) → Sound same_tree S always m (tail ts) out → Sound same_tree S' always m ts out
-      by _ (read x t a kept) =
-          read x t (record { put = λ u. punct (line_of ts) mark.Comma ∷ a.put u; way = both (one _) a.way; is = next_is mark.Comma ts e ∙ ap (λ u. punct (line_of ts) mark.Comma ∷ u) a.is; again = λ may w u. h may x _ u (a.again may w u) }) kept
-      by _ (stuck s o) =
-          stuck s (record { put = λ u. punct (line_of ts) mark.Comma ∷ o.put u; way = both (one _) o.way; is = next_is mark.Comma ts e ∙ ap (λ u. punct (line_of ts) mark.Comma ∷ u) o.is; more = o.more; grows = o.grows; held = o.held;
-            completes = λ u. let c = o.completes u in (c.0, h (_) c.0 _ u c.1) })
-
   tail_sound : (x : A) (n : ℕ) → ((ts : Tokens) → Sound same_tree L always m ts (listed k trailing run n ts)) → (ts : Tokens) → Sound same_tree (Tail L k trailing x) always m ts (listed_on k trailing run n x ts)
   tail_sound x n below ts =
       split_if (Sound same_tree (Tail L k trailing x) always m ts) (is_next mark.Comma ts) _ _
-      (λ e. behind_comma ts e (λ may ys f t r. r) (comma_sound x n (line_of ts) below (tail ts)))
+      (λ e. prepend (punct (line_of ts) mark.Comma) ts (next_is mark.Comma ts e) (λ may ys f t r. r) (comma_sound x n (line_of ts) below (tail ts)))
       (λ _. closing (is_next k ts) refl)
     where
       closing : (b : Bool) → is_next k ts ≡ b → Sound same_tree (Tail L k trailing x) always m ts (and_then (cond b (took ts) (syntax ts)) (λ _ ts. Ok (x ∷ [], ts)))

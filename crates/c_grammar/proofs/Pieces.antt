@@ -191,6 +191,18 @@ iff {after = after} p to from =
       complete = λ cut g g' may x f' t' r e f tied. p.complete cut g g' may x f' t' (from may x f' t' r) e f tied;
     }
 
+-- behind a token
+pub prepend : {X A : Type 0} {tree : X → A} {R R' : Rel X} {Kept : X → Tokens → Type 0} {m : ℕ} (x : Lexeme) (ts : Tokens) → ts ≡ x ∷ tail ts
+    → ((may : May) (y : X) (f t : Tokens) → R may y f t → R' may y (x ∷ f) t) → {out : Out A} → Sound tree R Kept m (tail ts) out → Sound tree R' Kept m ts out
+prepend x ts e h (read y t a k) = read y t (record { put = λ u. x ∷ a.put u; way = both (one _) a.way; is = e ∙ ap (λ u. x ∷ u) a.is; again = λ may w u. h may y _ u (a.again may w u) }) k
+prepend x ts e h (stuck s o) =
+    stuck s (record { put = λ u. x ∷ o.put u; way = both (one _) o.way; is = e ∙ ap (λ u. x ∷ u) o.is; more = o.more; grows = o.grows; held = o.held; completes = λ u. let c = o.completes u in (c.0, h (_) c.0 _ u c.1) })
+
+-- less may be asked of what follows
+pub ends_by : {X A : Type 0} {tree : X → A} {R : Rel X} {Given : Tokens → Type 0} {Kept Ends Ends' : X → Tokens → Type 0} {after : Tokens → Tokens} {m : ℕ} {run : Tokens → Out A}
+    → Piece tree R Given Kept Ends after m run → ((x : X) (t : Tokens) → Ends' x t → Ends x t) → Piece tree R Given Kept Ends' after m run
+ends_by p h = record { grow = p.grow; least = p.least; sound = p.sound; complete = λ cut g g' may x f' t' r e f tied. p.complete cut g g' may x f' t' r (h x t' e) f tied }
+
 -- ---- one or another, by the first token
 
 pub data Either {X : Type 0} (R S : Rel X) (may : May) (x : X) (f t : Tokens) : Type 0 where

@@ -8,5 +8,17 @@ use Rattle.c_grammar.proofs.Types.{type_piece, types_begin, types_shorter}
 
 use Rattle.c_grammar.proofs.Stops.{assigner_none}
 
+use Rattle.c_grammar.proofs.Joins.{joins_piece, suffixes_piece}
+
+use Rattle.c_grammar.proofs.Expressions.{unary_piece}
+
+use Rattle.c_grammar.proofs.Casts.{cast_piece}
+
+use Rattle.c_grammar.proofs.Inside.{inside_known}
+
+use Rattle.c_grammar.proofs.Begins.{begins_is, type_alone, writes_shorter}
+
+use Rattle.c_grammar.proofs.Parts.{locals_piece}
+
 pub returns : goal.returns
 returns c = refl
