@@ -1,5 +1,6 @@
 //! Where the blocks of an image begin.
-ghost use Rattle.std.specs.Prelude.{◌≡◌, ◌+◌, ◌≤◌, ◌<◌, ◌^◌, ℤ, All, Option, pos, ◌+ℤ◌, ℕ, suc, length, IsTrue, IfOk, OnOk, ◌++◌, ◌-◌, replicate, ◌∷◌};
+ghost use Rattle.std.specs.Prelude.{◌≡◌, ◌+◌, ◌≤◌, ◌<◌, ◌^◌, ℤ, All, Option, pos, ◌+ℤ◌, ℕ, suc};
+ghost use Rattle.std.specs.Prelude.{length, IsTrue, IfOk, OnOk, ◌++◌, ◌-◌, replicate, ◌∷◌};
 ghost use Rattle.trips_isa.specs.Fits.{FitsBlock};
 ghost use Rattle.trips_isa.specs.Images.{chunks};
 ghost use Rattle.target_asm.specs.Chunks.{goal_of, start_row, starts_from, goal_in, named};

@@ -4,7 +4,8 @@ ghost use Rattle.std.specs.Fmt.{decimal, signed_decimal};
 ghost use Rattle.trips_isa.specs.Forms.{form_of};
 ghost use Rattle.isa_table.specs.Mnemonics.{mnemonic_of};
 ghost use Rattle.target_asm.specs.Numbers.{hex_digit, hex_byte, hex_word};
-ghost use Rattle.target_asm.specs.Fields.{indexed, at_slot, spot_text, target_text, sense_text, goal_text, branch_text, numbers_text};
+ghost use Rattle.target_asm.specs.Fields.{indexed, at_slot, spot_text, target_text, sense_text};
+ghost use Rattle.target_asm.specs.Fields.{goal_text, branch_text, numbers_text};
 
 use itoa::Buffer;
 use std::alloc::AllocError;

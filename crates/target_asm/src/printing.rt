@@ -1,12 +1,15 @@
 //! Images as text.
-ghost use Rattle.std.specs.Prelude.{◌≡◌, ◌+◌, ◌≤◌, ◌<◌, ℕ, length, take, All, IfOk, OnOk, ◌++◌, Some, pos, ◌+ℤ◌, ◌^◌};
+ghost use Rattle.std.specs.Prelude.{◌≡◌, ◌+◌, ◌≤◌, ◌<◌, ℕ, length, take, All, IfOk, OnOk, ◌++◌};
+ghost use Rattle.std.specs.Prelude.{Some, pos, ◌+ℤ◌, ◌^◌};
 ghost use Rattle.std.specs.List.{sum_by};
 ghost use Rattle.isa_table.specs.Mnemonics.{mnemonic_of};
 ghost use Rattle.trips_isa.specs.Fits.{FitsBlock};
 ghost use Rattle.trips_isa.specs.Images.{FitsImage, chunks, chunk_of};
 ghost use Rattle.target_asm.specs.Numbers.{numbered};
 ghost use Rattle.target_asm.specs.Chunks.{goal_of, goal_in, starts_from};
-ghost use Rattle.target_asm.specs.Text.{TargetText, image_text, head_lines, byte_text, block_text, block_line, read_line, write_line, inst_line, op_text, targets_text, slot_text, block_in};
+ghost use Rattle.target_asm.specs.Text.{TargetText, image_text, head_lines, byte_text, block_text};
+ghost use Rattle.target_asm.specs.Text.{block_line, read_line, write_line, inst_line, op_text};
+ghost use Rattle.target_asm.specs.Text.{targets_text, slot_text, block_in};
 
 use crate::chunks::{goal, starts};
 use crate::fields::{
