@@ -1,4 +1,4 @@
--- The fields of a line: indexed names, targets, numbers of an instruction.
+-- The fields of an instruction's line: targets, predicates and numbers.
 use Rattle.std.specs.Prelude.{ℕ, ℤ, List, [], ◌∷◌, ◌++◌, Option, Some, None, codes}
 use Rattle.std.specs.Fmt.{decimal, signed_decimal}
 use Rattle.trips_isa.specs.declared.op.Op.{Op}
@@ -6,26 +6,10 @@ use Rattle.trips_isa.specs.declared.op.Op.TheVariants.{Bro, Callo}
 use Rattle.trips_isa.specs.declared.form.Form.{Form}
 use Rattle.trips_isa.specs.declared.form.Form.TheVariants.{General, Immediate, Load, Store, Branch, Constant}
 use Rattle.trips_isa.specs.declared.block.Spot.{Spot}
-use Rattle.trips_isa.specs.declared.block.Spot.TheVariants as spot
 use Rattle.trips_isa.specs.declared.block.Sense.{Sense}
 use Rattle.trips_isa.specs.declared.block.Sense.TheVariants.{Always, OnTrue, OnFalse}
 use Rattle.trips_isa.specs.declared.block.Inst.{Inst}
-
--- a letter with an index, as `G[5]`
-unfoldable pub indexed : ℕ → ℕ → List ℕ
-indexed letter n = letter ∷ 91 ∷ (decimal n ++ 93 ∷ [])
-
--- a place at a slot, as `N[5,p]`
-unfoldable pub at_slot : ℕ → ℕ → List ℕ
-at_slot place n = 78 ∷ 91 ∷ (decimal n ++ 44 ∷ place ∷ 93 ∷ [])
-
--- no other spot is a target
-abbrev pub spot_text : Spot → List ℕ
-spot_text (spot.Write w) = indexed 87 w
-spot_text (spot.Pred s) = at_slot 112 s
-spot_text (spot.Left s) = at_slot 48 s
-spot_text (spot.Right s) = at_slot 49 s
-spot_text s = []
+use Rattle.text_pieces.specs.Spots.{spot_text}
 
 abbrev pub target_text : Option Spot → List ℕ
 target_text None = []

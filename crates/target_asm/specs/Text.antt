@@ -8,8 +8,9 @@ use Rattle.trips_isa.specs.declared.block.Image.{Image}
 use Rattle.trips_isa.specs.Forms.{form_of}
 use Rattle.trips_isa.specs.Images.{chunk_of, FitsImage}
 use Rattle.isa_table.specs.Mnemonics.{mnemonic_of}
+use Rattle.text_pieces.specs.Spots.{indexed}
 use Rattle.target_asm.specs.Numbers.{hex_byte, hex_word, numbered}
-use Rattle.target_asm.specs.Fields.{indexed, target_text, sense_text, numbers_text}
+use Rattle.target_asm.specs.Fields.{target_text, sense_text, numbers_text}
 use Rattle.target_asm.specs.Chunks.{goal_of}
 
 unfoldable pub read_line : ℕ → ReadSlot → List ℕ

@@ -1,31 +1,14 @@
 //! The fields of a line, written.
 ghost use Rattle.std.specs.Prelude.{◌≡◌, ◌<◌, ◌++◌, ◌∷◌, [], OnOk};
 ghost use Rattle.std.specs.Fmt.{decimal, signed_decimal};
-ghost use Rattle.trips_isa.specs.Forms.{form_of};
-ghost use Rattle.isa_table.specs.Mnemonics.{mnemonic_of};
 ghost use Rattle.target_asm.specs.Numbers.{hex_digit, hex_byte, hex_word};
-ghost use Rattle.target_asm.specs.Fields.{indexed, at_slot, spot_text, target_text, sense_text};
+ghost use Rattle.text_pieces.specs.Spots.{spot_text};
+ghost use Rattle.target_asm.specs.Fields.{target_text, sense_text};
 ghost use Rattle.target_asm.specs.Fields.{goal_text, branch_text, numbers_text};
 
-use itoa::Buffer;
 use std::alloc::AllocError;
-use trips_isa::{Form, Inst, Op, Sense, Spot, form_of};
-
-/// Writes a number.
-pub fn put_number(out: &mut Vec<u8>, n: u64) -> Result<(), AllocError>
-    ensures ok { OnOk result (out.new.items ≡ out.old.items ++ decimal n) }
-{
-    let mut buffer = Buffer::new();
-    out.extend_from_slice(buffer.format(n).as_bytes())
-}
-
-/// Writes a number with its sign.
-pub fn put_signed(out: &mut Vec<u8>, n: i32) -> Result<(), AllocError>
-    ensures ok { OnOk result (out.new.items ≡ out.old.items ++ signed_decimal n) }
-{
-    let mut buffer = Buffer::new();
-    out.extend_from_slice(buffer.format(n).as_bytes())
-}
+use text_pieces::{put_number, put_signed, put_spot};
+use trips_isa::{Form, Inst, Op, Sense, Spot};
 
 fn digit(d: u8) -> u8
     requires { d < 16 }
@@ -52,42 +35,6 @@ pub fn put_word(out: &mut Vec<u8>, word: u32) -> Result<(), AllocError>
     put_byte(out, (word / 256 % 256) as u8)?;
     put_byte(out, (word % 256) as u8)?;
     Ok(())
-}
-
-/// Writes a letter with an index.
-#[tactic(auto, unfolding(crate::specs::Fields::indexed))]
-pub fn put_indexed(out: &mut Vec<u8>, letter: u8, n: u64) -> Result<(), AllocError>
-    ensures ok { OnOk result (out.new.items ≡ out.old.items ++ indexed letter n) }
-{
-    out.push(letter)?;
-    out.push(b'[')?;
-    put_number(out, n)?;
-    out.push(b']')?;
-    Ok(())
-}
-
-#[tactic(auto, unfolding(crate::specs::Fields::at_slot))]
-fn put_at_slot(out: &mut Vec<u8>, place: u8, n: u64) -> Result<(), AllocError>
-    ensures ok { OnOk result (out.new.items ≡ out.old.items ++ at_slot place n) }
-{
-    out.extend_from_slice(b"N[")?;
-    put_number(out, n)?;
-    out.push(b',')?;
-    out.push(place)?;
-    out.push(b']')?;
-    Ok(())
-}
-
-fn put_spot(out: &mut Vec<u8>, spot: Spot) -> Result<(), AllocError>
-    ensures ok { OnOk result (out.new.items ≡ out.old.items ++ spot_text spot) }
-{
-    match spot {
-        Spot::Write(w) => put_indexed(out, b'W', w as u64),
-        Spot::Pred(s) => put_at_slot(out, b'p', s as u64),
-        Spot::Left(s) => put_at_slot(out, b'0', s as u64),
-        Spot::Right(s) => put_at_slot(out, b'1', s as u64),
-        _ => Ok(()),
-    }
 }
 
 /// Writes a target, if there is one, after a space.

@@ -12,12 +12,11 @@ ghost use Rattle.target_asm.specs.Text.{block_line, read_line, write_line, inst_
 ghost use Rattle.target_asm.specs.Text.{targets_text, slot_text, block_in};
 
 use crate::chunks::{goal, starts};
-use crate::fields::{
-    put_byte, put_indexed, put_number, put_numbers, put_sense, put_target, put_word,
-};
+use crate::fields::{put_byte, put_numbers, put_sense, put_target, put_word};
 use base::Memory;
 use isa_table::mnemonic_of;
 use std::alloc::{AllocError, Global};
+use text_pieces::{put_indexed, put_number};
 use trips_isa::{Block, Image, Inst, ReadSlot, chunks, form_of};
 
 #[tactic(auto, unfolding(crate::specs::Text::read_line))]
