@@ -44,7 +44,8 @@ impl Model for Arch {
       budget = a.budget;
     } };
 
-    ghost invariant = { λ a. (a.taken ≤ vec_len a.input) × (vec_len a.output ≤ vec_len a.trace) × (vec_len a.trace ≤ a.budget)
+    ghost invariant = { λ a. (a.taken ≤ vec_len a.input)
+        × (vec_len a.output ≤ vec_len a.trace) × (vec_len a.trace ≤ a.budget)
         × (a.budget ≤ vec_capacity a.output) × (a.budget ≤ vec_capacity a.trace) };
 }
 

@@ -23,16 +23,16 @@ use Rattle.block_image.proofs.WordsTaken.{slot_takes}
 
 -- ---- results that fail
 
-err_is : {A : Type 0} (d e : ImageFault) → ◌≡◌ {A = Result A ImageFault} (Err d) (Err e) → d ≡ e
+pub err_is : {A : Type 0} (d e : ImageFault) → ◌≡◌ {A = Result A ImageFault} (Err d) (Err e) → d ≡ e
 err_is d e h = cc
 
 abbrev fail : {A : Type 0} → ImageFault → Result A ImageFault
 fail e = Err e
 
-err_as : {A B : Type 0} (d e : ImageFault) → ◌≡◌ {A = Result B ImageFault} (Err d) (Err e) → ◌≡◌ {A = Result A ImageFault} (Err d) (Err e)
+pub err_as : {A B : Type 0} (d e : ImageFault) → ◌≡◌ {A = Result B ImageFault} (Err d) (Err e) → ◌≡◌ {A = Result A ImageFault} (Err d) (Err e)
 err_as {A} {B} d e h = ap (λ x. fail {A = A} x) (err_is {A = B} d e h)
 
-split : {A B : Type 0} (r : Result A ImageFault) (f : A → Result B ImageFault) (e : ImageFault) → (r >>= f) ≡ Err e → (r ≡ Err e) ⊎ ((x : A) × (r ≡ Ok x) × (f x ≡ Err e))
+pub split : {A B : Type 0} (r : Result A ImageFault) (f : A → Result B ImageFault) (e : ImageFault) → (r >>= f) ≡ Err e → (r ≡ Err e) ⊎ ((x : A) × (r ≡ Ok x) × (f x ≡ Err e))
 split (Ok x) f e h = inr (x, refl, h)
 split {A} {B} (Err d) f e h = inl (err_as {A = A} {B = B} d e h)
 

@@ -29,32 +29,32 @@ pub want_ok : (b : Bool) (f : ImageFault) (u : Unit {0}) → wants b f ≡ Ok u 
 want_ok true f u e = refl
 want_ok false f u e = absurd cc
 
-lt_true : (a b : ℕ) → nat_lt a b ≡ true → a < b
+pub lt_true : (a b : ℕ) → nat_lt a b ≡ true → a < b
 lt_true a b e = grind (arith, nat_tests)
 
 pub true_lt : (a b : ℕ) → a < b → nat_lt a b ≡ true
 true_lt a b e = grind (arith, nat_tests)
 
-le_true : (a b : ℕ) → nat_le a b ≡ true → a ≤ b
+pub le_true : (a b : ℕ) → nat_le a b ≡ true → a ≤ b
 le_true a b e = grind (arith, nat_tests)
 
-true_le : (a b : ℕ) → a ≤ b → nat_le a b ≡ true
+pub true_le : (a b : ℕ) → a ≤ b → nat_le a b ≡ true
 true_le a b e = grind (arith, nat_tests)
 
 pub eq_true : (a b : ℕ) → nat_eq a b ≡ true → a ≡ b
 eq_true a b e = grind (arith, nat_tests)
 
-true_eq : (a b : ℕ) → a ≡ b → nat_eq a b ≡ true
+pub true_eq : (a b : ℕ) → a ≡ b → nat_eq a b ≡ true
 true_eq a b e = grind (arith, nat_tests)
 
 -- ---- numbers
 
-record NumberTaken (at : ℕ) (bytes : List ℕ) (n : ℕ) : Type 0 where
+pub record NumberTaken (at : ℕ) (bytes : List ℕ) (n : ℕ) : Type 0 where
   pub inside : at + 4 ≤ length bytes
   pub below : n < 2 ^ 32
   pub spelled : drop at bytes ≡ big_bytes 4 n ++ drop (at + 4) bytes
 
-number_found : (at : ℕ) (bytes : List ℕ) (n : ℕ) → AreBytes bytes → number_at at bytes ≡ Ok n → NumberTaken at bytes n
+pub number_found : (at : ℕ) (bytes : List ℕ) (n : ℕ) → AreBytes bytes → number_at at bytes ≡ Ok n → NumberTaken at bytes n
 unfolding number_at
 number_found at bytes n f e =
     let t = test_false (nat_lt (length bytes) (at + 4)) (Truncated (length bytes)) (big_number 4 (drop at bytes)) n e in
@@ -182,7 +182,7 @@ image_takes bytes i f e =
           ∙ ap (λ (x : ℕ). magic ++ (big_bytes 4 1 ++ (big_bytes 4 (length bs) ++ (big_bytes 4 x ++ (take d (drop 20 bytes) ++ flat_map block_bytes bs))))) (sym ld);
     })
 
-number_again_at : (at n : ℕ) (bytes rest : List ℕ) → n < 2 ^ 32 → drop at bytes ≡ big_bytes 4 n ++ rest → number_at at bytes ≡ Ok n
+pub number_again_at : (at n : ℕ) (bytes rest : List ℕ) → n < 2 ^ 32 → drop at bytes ≡ big_bytes 4 n ++ rest → number_at at bytes ≡ Ok n
 unfolding number_at
 number_again_at at n bytes rest l e =
     let size : length bytes - at ≡ length (big_bytes 4 n ++ rest) = sym (length-drop at bytes) ∙ ap length e in
@@ -193,7 +193,7 @@ pub least_total : (bs : List Block) → length bs ≤ chunks_in_all bs
 least_total [] = lit≤ tt
 least_total (b ∷ bs) = let r = least_total bs in omega arith
 
-positive : (n : ℕ) → (n ≡ 0 → ⊥) → 0 < n
+pub positive : (n : ℕ) → (n ≡ 0 → ⊥) → 0 < n
 positive zero h = absurd (h refl)
 positive (suc n) h = omega arith
 

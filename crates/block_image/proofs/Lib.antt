@@ -14,3 +14,6 @@ pub mod FaultLaws
 pub mod FaultsAgain
 pub mod Loops
 pub mod Writing
+pub mod FirstFaultLaws
+pub mod FirstFaultAgain
+pub mod Decoded

@@ -90,22 +90,3 @@ last_is (b ∷ []) l = refl
 last_is (b ∷ c ∷ bs) l =
     let e : length (b ∷ c ∷ bs) - 1 ≡ suc (length (c ∷ bs) - 1) = omega arith in
     ap (λ (n : ℕ). get_or (b ∷ c ∷ bs) n 0) e ∙ last_is (c ∷ bs) (omega arith)
-
-pub found : (bytes : List ℕ) (r : Result Image ImageFault) → ((i : ℕ) → get_or bytes i 0 < 256) → Answers (λ v. v) r (image_at bytes) → IfOk r (λ v. ImageBytes (v) bytes)
-found bytes (Ok v) f h = image_takes bytes (v) (each_byte bytes f) h
-found bytes (Err e) f h = tt
-
-no_fails : {Y : Type 0} (e : ImageFault) (y : Y) → Fails e (Ok y) → IsMemory e
-no_fails Magic y h = absurd cc
-no_fails Version y h = absurd cc
-no_fails (Truncated n) y h = absurd cc
-no_fails (Trailing n) y h = absurd cc
-no_fails (BadField n) y h = absurd cc
-no_fails Memory y h = refl
-
-pub only : (bytes : List ℕ) (r : Result Image ImageFault) → Answers (λ v. v) r (image_at bytes) → (i : Image) → ImageBytes i bytes → MatchResult r (λ v. v ≡ i) IsMemory
-only bytes r h i s = by r (subst (λ (x : Result Image ImageFault). Answers (λ v. v) r x) (ap image_at s.spelled ∙ image_again i s.fits) h)
-  where
-    by : (r : Result Image ImageFault) → Answers (λ v. v) r (Ok i) → MatchResult r (λ v. v ≡ i) IsMemory
-    by (Ok v) h = sym (ok_is i (v) h)
-    by (Err e) h = no_fails e i h

@@ -1,9 +1,11 @@
 //! Images: read.
-ghost use Rattle.std.specs.Prelude.{◌≡◌, ◌+◌, ◌*◌, ◌<◌, ◌≤◌, ◌^◌, IfOk, MatchResult};
+ghost use Rattle.std.specs.Prelude.{◌≡◌, ◌+◌, ◌*◌, ◌<◌, ◌≤◌, ◌^◌, IfOk, IfErr, MatchResult};
 ghost use Rattle.trips_isa.specs.declared.block.Image.{Image};
 ghost use Rattle.trips_isa.specs.Images.{last_byte};
+ghost use Rattle.block_image.specs.declared.fault.ImageFault.{ImageFault};
 ghost use Rattle.block_image.specs.Spelling.{ImageBytes};
-ghost use Rattle.block_image.specs.ImageReading.{Gives, Answers, IsMemory, number_at, magic_at, version_at, count_at, size_at, data_at, blocks_at, image_at};
+ghost use Rattle.block_image.specs.FirstFault.{FirstFault};
+ghost use Rattle.block_image.specs.ImageReading.{Gives, Answers, IsMemory, IsMemoryOr, number_at, magic_at, version_at, count_at, size_at, data_at, blocks_at, image_at};
 
 use crate::body::block;
 use crate::fault::ImageFault;
@@ -170,6 +172,8 @@ fn image(alloc: Global, bytes: &[u8]) -> Result<Image, ImageFault>
 pub fn decode(alloc: Global, bytes: &[u8]) -> Result<Image, ImageFault>
     ensures ok { IfOk result (λ image. ImageBytes image bytes.now) }
     ensures only_ok { (image : Image) → ImageBytes image bytes.now → MatchResult result (λ v. v ≡ image) IsMemory }
+    ensures err { IfErr result (IsMemoryOr (FirstFault bytes.now)) }
+    ensures only_err { (fault : ImageFault) → FirstFault bytes.now fault → MatchResult result (λ v. ⊥) (IsMemoryOr (λ e. e ≡ fault)) }
 {
     image(alloc, bytes)
 }

@@ -1,5 +1,7 @@
--- The sequential machine on plain blocks, which give constants to writes and leave by a system call.
-use Rattle.std.specs.Prelude.{ℕ, zero, suc, ◌+◌, ◌-◌, ◌%◌, ◌^◌, ◌==◌, nat_lt, Bool, true, false, ◌&&◌, if◌then◌else◌, List, [], ◌∷◌, ◌++◌, Option, None, Some, is_some, unwrap_or, length, replicate, slice_get, slice_index, slice_set}
+-- The sequential machine on plain blocks: constants to writes, and one system call.
+use Rattle.std.specs.Prelude.{ℕ, zero, suc, ◌+◌, ◌-◌, ◌%◌, ◌^◌, ◌==◌, nat_lt, Bool, true, false}
+use Rattle.std.specs.Prelude.{◌&&◌, if◌then◌else◌, List, [], ◌∷◌, ◌++◌, Option, None, Some, is_some}
+use Rattle.std.specs.Prelude.{unwrap_or, length, replicate, slice_get, slice_index, slice_set}
 use Rattle.std.specs.Int.{w64, cast_unsigned}
 use Rattle.trips_isa.specs.declared.block.Block.{Block}
 use Rattle.trips_isa.specs.declared.block.Inst.{Inst}
@@ -47,7 +49,8 @@ gives w inst = is_constant inst.op && names_write w inst.first
 abbrev pub first_word : ℕ → List (Option Inst) → Option ℕ
 first_word w [] = None
 first_word w (None ∷ insts) = first_word w insts
-first_word w (Some inst ∷ insts) = if gives w inst then Some (cast_unsigned w64 inst.imm) else first_word w insts
+first_word w (Some inst ∷ insts) =
+    if gives w inst then Some (cast_unsigned w64 inst.imm) else first_word w insts
 
 -- the exit of the first system call
 abbrev pub first_call : List (Option Inst) → Option ℕ
@@ -62,13 +65,18 @@ set_word registers r (Some word) = slice_set registers r word
 -- the registers after the writes from a number on
 abbrev pub writes_from : List (Option Inst) → ℕ → List ℕ → List ℕ → List ℕ
 writes_from insts w [] registers = registers
-writes_from insts w (r ∷ rs) registers = writes_from insts (w + 1) rs (set_word registers r (first_word w insts))
+writes_from insts w (r ∷ rs) registers =
+    writes_from insts (w + 1) rs (set_word registers r (first_word w insts))
 
 -- steps ----------------------------------------------------------------------------------------
 
 -- the block that follows, or block 0 where there is none
 abbrev pub following : ℕ → ℕ → ℕ
 following count next = if nat_lt (next + 1) count then next + 1 else 0
+
+-- the entry of the trace for a block and the exit of its system call
+abbrev pub left_by : ℕ → Option ℕ → Traced
+left_by block call = record { block = block; exit = unwrap_or call 0 }
 
 -- a block's changes, all at once
 abbrev pub changed : Block → ℕ → State → State
@@ -78,8 +86,12 @@ changed block successor s = record {
   next = successor;
   rest = s.rest;
   output = s.output;
-  trace = s.trace ++ (record { block = s.next; exit = unwrap_or (first_call block.insts.items) 0 }) ∷ [];
+  trace = s.trace ++ left_by s.next (first_call block.insts.items) ∷ [];
 }
+
+-- a byte is put out
+abbrev pub with_output : State → ℕ → State
+with_output s byte = record s { output = s.output ++ byte ∷ [] }
 
 -- the input's next byte goes to register 3, or -1 at its end
 abbrev pub with_input : State → List ℕ → State
@@ -89,7 +101,7 @@ with_input s (byte ∷ rest) = record s { registers = slice_set s.registers 3 by
 -- what register 0 says: 1 puts a byte out, 2 takes one in, 3 ends, 4 is stack full
 abbrev pub system_call : ℕ → State → State × Stepped
 system_call call s =
-    if call == 1 then (record s { output = s.output ++ (slice_index s.registers 3 % 256) ∷ [] }, Went)
+    if call == 1 then (with_output s (slice_index s.registers 3 % 256), Went)
     else if call == 2 then (with_input s s.rest, Went)
     else if call == 3 then (s, Ended) else if call == 4 then (s, StackFull) else (s, Went)
 
@@ -100,7 +112,8 @@ then_system system s = if system then system_call (slice_index s.registers 0) s 
 abbrev pub step_in : List Block → Option Block → State → State × Stepped
 step_in blocks None s = (s, Went)
 step_in blocks (Some block) s =
-    then_system (is_some (first_call block.insts.items)) (changed block (following (length blocks) s.next) s)
+    then_system (is_some (first_call block.insts.items))
+    (changed block (following (length blocks) s.next) s)
 
 -- one step: the next block, whole
 abbrev pub step_of : List Block → State → State × Stepped

@@ -1,5 +1,6 @@
 -- The condition on plain blocks.
-use Rattle.std.specs.Prelude.{◌≡◌, ℕ, ℤ, pos, negsuc, ◌^◌, ◌<◌, Bool, false, [], Option, None, Some, All, count_by, length}
+use Rattle.std.specs.Prelude.{◌≡◌, ℕ, ℤ, pos, negsuc, ◌^◌, ◌<◌, Bool, false, [], Option, None, Some}
+use Rattle.std.specs.Prelude.{All, count_by, length}
 use Rattle.trips_isa.specs.declared.block.Block.{Block}
 use Rattle.trips_isa.specs.declared.block.Inst.{Inst}
 use Rattle.trips_isa.specs.declared.block.Sense.TheVariants.{Always}
@@ -25,7 +26,7 @@ FitsOp count inst Genu = IsConstant inst.imm × NamesWrite count inst.first inst
 FitsOp count inst Scall = (inst.imm ≡ pos 0) × (inst.first ≡ None) × (inst.second ≡ None)
 FitsOp count inst op = ⊥
 
--- in a block with so many writes, this slot is empty, a constant or a system call, and not predicated
+-- in a block with so many writes, this slot is empty, or an unpredicated constant or system call
 abbrev pub IsPlainSlot : ℕ → Option Inst → Type 0
 IsPlainSlot count None = Unit {0}
 IsPlainSlot count (Some inst) = (inst.sense ≡ Always) × FitsOp count inst inst.op
@@ -44,5 +45,6 @@ pub record IsPlain (block : Block) : Type 0 where
   pub mask : block.mask ≡ 0
   pub registers : All (λ r. r < 128) block.writes.items
   pub slots : All (IsPlainSlot (length block.writes.items)) block.insts.items
-  pub writes : (w : ℕ) → w < length block.writes.items → count_by (slot_gives w) block.insts.items ≡ 1
+  pub writes : (w : ℕ) → w < length block.writes.items
+      → count_by (slot_gives w) block.insts.items ≡ 1
   pub call : count_by slot_calls block.insts.items ≡ 1

@@ -1,8 +1,11 @@
 -- Worked rows of the definitions.
-use Rattle.std.proofs.Common.{◌≡◌, ◌^◌, ◌-◌, [], ◌∷◌, Some, None, refl, codes, true, false, arith, lit≤}
+use Rattle.std.proofs.Common.{◌≡◌, ◌^◌, ◌-◌, [], ◌∷◌, Some, None, refl, codes, true, false, arith}
+use Rattle.std.proofs.Common.{lit≤}
 use Rattle.trips_outside.specs.Outside.{next_count, Rose, Appended}
-use Rattle.trips_outside.specs.MemoryFiles.{held_among, held_by, count_given, after_read, ListedFiles}
-use Rattle.trips_outside.specs.MemorySinks.{count_taken, after_write, told_by, after_keeping, ListedSink, KeepingSink}
+use Rattle.trips_outside.specs.MemoryFiles.{held_among, held_by, count_given, after_read}
+use Rattle.trips_outside.specs.MemoryFiles.{ListedFiles}
+use Rattle.trips_outside.specs.MemorySinks.{count_taken, after_write, told_by, after_keeping}
+use Rattle.trips_outside.specs.MemorySinks.{ListedSink, KeepingSink}
 
 -- a count stands still at the greatest 64-bit number
 pub counts : (next_count 0 ≡ 1) × (next_count (2 ^ 64 - 1) ≡ 2 ^ 64 - 1)
@@ -17,18 +20,27 @@ pub appends : Appended None (Some []) [] ≡ ⊥
 appends = refl
 
 -- of two entries of one name the first counts
-pub first_counts : held_among ((codes "b", 1 ∷ []) ∷ (codes "a", 2 ∷ []) ∷ (codes "a", 3 ∷ []) ∷ []) (codes "a") ≡ Some (2 ∷ [])
+pub first_counts : held_among ((codes "b", 1 ∷ []) ∷ (codes "a", 2 ∷ []) ∷ (codes "a", 3 ∷ []) ∷ [])
+    (codes "a") ≡ Some (2 ∷ [])
 first_counts = refl
 
 -- a name that is not held
-pub not_held : (held_among ((codes "ab", []) ∷ []) (codes "a") ≡ None) × (held_by [] (codes "a") ≡ Some [])
+pub not_held : (held_among ((codes "ab", []) ∷ []) (codes "a") ≡ None)
+    × (held_by [] (codes "a") ≡ Some [])
 not_held = (refl, refl)
 
 abbrev five : ListedFiles
-five = record { entries = (codes "a", codes "abcde") ∷ []; piece = 2; failing = 2 ∷ []; calls = 0; faults = 0 }
+five = record {
+  entries = (codes "a", codes "abcde") ∷ [];
+  piece = 2;
+  failing = 2 ∷ [];
+  calls = 0;
+  faults = 0;
+}
 
 -- a piece, the rest, the end, a short buffer, another name
-pub given : (count_given five (codes "a") 0 9 ≡ Some 2) × (count_given five (codes "a") 4 9 ≡ Some 1)
+pub given : (count_given five (codes "a") 0 9 ≡ Some 2)
+    × (count_given five (codes "a") 4 9 ≡ Some 1)
     × (count_given five (codes "a") 5 9 ≡ Some 0) × (count_given five (codes "a") 0 1 ≡ Some 1)
     × (count_given five (codes "b") 0 9 ≡ None)
 given = (refl, refl, refl, refl, refl)
@@ -44,7 +56,8 @@ three = record { written = []; room = 3; piece = 2; failing = 3 ∷ []; calls = 
 -- a piece, what room is left, the listed call with and without bytes, no room
 pub taken : (count_taken three 9 ≡ Some 2)
     × (count_taken (after_write three (codes "ab") (Some 2)) 9 ≡ Some 1)
-    × (count_taken (record three { calls = 2 }) 9 ≡ None) × (count_taken (record three { calls = 2 }) 0 ≡ Some 0)
+    × (count_taken (record three { calls = 2 }) 9 ≡ None)
+    × (count_taken (record three { calls = 2 }) 0 ≡ Some 0)
     × (count_taken (record three { room = 0 }) 1 ≡ None)
 taken = (refl, refl, refl, refl, refl)
 
@@ -53,5 +66,6 @@ two = record { kept = []; room = 2; lost = 0 }
 
 -- it tells its bytes while they fit
 pub kept : (told_by (after_keeping two (codes "ab")) ≡ Some (codes "ab"))
-    × ((after_keeping two (codes "abc")).kept ≡ codes "ab") × (told_by (after_keeping two (codes "abc")) ≡ None)
+    × ((after_keeping two (codes "abc")).kept ≡ codes "ab")
+    × (told_by (after_keeping two (codes "abc")) ≡ None)
 kept = (refl, refl, refl)

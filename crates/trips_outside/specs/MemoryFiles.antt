@@ -1,12 +1,14 @@
 -- What files in memory hold, and how their reads are answered.
-use Rattle.std.specs.Prelude.{ℕ, ◌-◌, ◌==◌, min, Bool, List, [], ◌∷◌, length, Option, None, Some, option_map, if◌then◌else◌, bytes_eq}
+use Rattle.std.specs.Prelude.{ℕ, ◌-◌, ◌==◌, min, Bool, List, [], ◌∷◌, length, Option, None, Some}
+use Rattle.std.specs.Prelude.{option_map, if◌then◌else◌, bytes_eq}
 use Rattle.std.specs.List.{list_any}
 use Rattle.trips_outside.specs.Outside.{next_count}
 
 -- what the first entry of a name holds
 abbrev pub held_among : List (List ℕ × List ℕ) → List ℕ → Option (List ℕ)
 held_among [] name = None
-held_among (entry ∷ entries) name = if bytes_eq entry.0 name then Some entry.1 else held_among entries name
+held_among (entry ∷ entries) name =
+    if bytes_eq entry.0 name then Some entry.1 else held_among entries name
 
 -- the bytes, or none where nothing is held
 abbrev pub or_empty : Option (List ℕ) → List ℕ
@@ -30,8 +32,12 @@ abbrev pub is_listed : List ℕ → ℕ → Bool
 is_listed failing calls = list_any (λ number. number == next_count calls) failing
 
 -- how many bytes are given from a place on to a buffer of this length
+abbrev pub count_left : List ℕ → ℕ → ℕ → ℕ
+count_left held at room = min (length held - at) room
+
+-- the same, at most a piece
 abbrev pub count_from : List ℕ → ℕ → ℕ → ℕ → ℕ
-count_from held at room piece = min (min (length held - at) room) piece
+count_from held at room piece = min (count_left held at room) piece
 
 -- How many bytes the next call gives. It gives none, and fails, exactly where it is listed or the
 -- name is not held.

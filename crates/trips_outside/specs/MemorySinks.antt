@@ -1,5 +1,6 @@
 -- What sinks in memory keep, and how their writes are answered.
-use Rattle.std.specs.Prelude.{ℕ, ◌+◌, ◌-◌, ◌==◌, ◌^◌, min, List, ◌++◌, length, take, Option, None, Some, if◌then◌else◌}
+use Rattle.std.specs.Prelude.{ℕ, ◌+◌, ◌-◌, ◌==◌, ◌^◌, min, List, ◌++◌, length, take, Option, None}
+use Rattle.std.specs.Prelude.{Some, if◌then◌else◌}
 use Rattle.trips_outside.specs.Outside.{next_count}
 use Rattle.trips_outside.specs.MemoryFiles.{is_listed}
 
@@ -20,7 +21,8 @@ unless_zero n = if n == 0 then None else Some n
 -- How many of so many bytes the next call takes. It takes none, and fails, exactly where there are
 -- some and it is listed or no room is left.
 abbrev pub count_taken : ListedSink → ℕ → Option ℕ
-count_taken sink size = if size == 0 then Some 0 else if is_listed sink.failing sink.calls then None else
+count_taken sink size =
+    if size == 0 then Some 0 else if is_listed sink.failing sink.calls then None else
     unless_zero (min (min (sink.room - length sink.written) size) sink.piece)
 
 -- the sink after a call that took so many bytes, or failed
@@ -46,7 +48,8 @@ told_by sink = if sink.lost == 0 then Some sink.kept else None
 
 -- the sink after a write
 abbrev pub after_keeping : KeepingSink → List ℕ → KeepingSink
-after_keeping sink bytes = let count = min (sink.room - length sink.kept) (length bytes) in record sink {
-  kept = sink.kept ++ take count bytes;
-  lost = min (sink.lost + (length bytes - count)) (2 ^ 64 - 1);
-}
+after_keeping sink bytes =
+    let count = min (sink.room - length sink.kept) (length bytes) in record sink {
+      kept = sink.kept ++ take count bytes;
+      lost = min (sink.lost + (length bytes - count)) (2 ^ 64 - 1);
+    }

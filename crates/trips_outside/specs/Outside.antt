@@ -1,5 +1,6 @@
 -- What a source of named bytes and a sink of bytes tell, and when they may fail.
-use Rattle.std.specs.Prelude.{◌≡◌, ℕ, ◌+◌, ◌^◌, ◌-◌, ◌≤◌, ◌<◌, min, List, ◌++◌, length, take, drop, ⊤, None, Some, Option, Result, IfSome, OnErr}
+use Rattle.std.specs.Prelude.{◌≡◌, ℕ, ◌+◌, ◌^◌, ◌-◌, ◌≤◌, ◌<◌, min, List, ◌++◌, length, take, drop}
+use Rattle.std.specs.Prelude.{⊤, None, Some, Option, Result, IfSome, OnErr}
 
 -- one more, at most the greatest 64-bit number
 abbrev pub next_count : ℕ → ℕ

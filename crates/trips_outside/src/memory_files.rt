@@ -3,7 +3,8 @@ ghost use Rattle.std.specs.Option.{option_copied};
 ghost use Rattle.std.specs.Result.{result_ok};
 ghost use Rattle.std.specs.String.{string_bytes};
 ghost use Rattle.trips_outside.specs.Outside.{Gives, HasCause};
-ghost use Rattle.trips_outside.specs.MemoryFiles.{held_among, or_empty, held_by, count_from};
+ghost use Rattle.trips_outside.specs.MemoryFiles.{held_among, or_empty, held_by, count_left};
+ghost use Rattle.trips_outside.specs.MemoryFiles.{count_from};
 ghost use Rattle.trips_outside.specs.MemoryFiles.{count_given, after_read};
 
 use crate::{Failed, Files};
@@ -143,7 +144,8 @@ impl Files for HonestFiles {
     ghost faults = { λ s. 0 };
 
     fn read_at(&mut self, name: &str, at: u64, into: &mut [u8]) -> Result<usize, Failed>
-        ensures count { result ≡ Ok (min (length (or_empty (held_among self.old name.now)) - at) (length into.new)) }
+        ensures count { result
+            ≡ Ok (count_left (or_empty (held_among self.old name.now)) at (length into.new)) }
         ensures after { self.new ≡ self.old }
         ensures bound { IfOk result (λ k. k ≤ length into.new) }
         ensures bytes { IfOk result (Gives (held_by self.old name.now) at into.new) }

@@ -39,12 +39,14 @@ impl Model for MemSink {
       faults = s.faults;
     } };
 
-    ghost invariant = { λ s. (length s.written.items ≤ s.room) × (s.room ≤ vec_capacity s.written) × (0 < s.piece) };
+    ghost invariant = { λ s. (length s.written.items ≤ s.room)
+        × (s.room ≤ vec_capacity s.written) × (0 < s.piece) };
 }
 
 // How many of so many bytes the next call takes, and none where it is to fail.
 fn next_count(failing: &[u64], number: u64, room: usize, piece: usize, size: usize) -> usize
-    ensures { result ≡ (if list_any (λ listed. listed == number) failing.now then 0 else min (min room size) piece) }
+    ensures { result ≡ (if list_any (λ listed. listed == number) failing.now then 0
+        else min (min room size) piece) }
 {
     if failing.contains(&number) {
         return 0;

@@ -48,7 +48,8 @@ pub fn load<F: Files>(
     ensures limit { IfOk result (λ all. length all.items ≤ limit) }
     ensures too_large { IsErrOf result LoadFault.TooLarge
         → IfSome (F.held files.old name.now) (λ held. limit < length held) }
-    ensures fault { IsErrOf result LoadFault.Fault → Rose (F.faults files.old) (F.faults files.new) }
+    ensures fault { IsErrOf result LoadFault.Fault
+        → Rose (F.faults files.old) (F.faults files.new) }
     ensures kept { F.held files.new ≡ F.held files.old }
     ensures later { F.faults files.old ≤ F.faults files.new }
 {

@@ -1,5 +1,6 @@
 -- The causes of the answers, from the table.
-use Rattle.std.proofs.Common.{◌≡◌, ◌≢◌, ℕ, List, [], ◌∷◌, Option, None, Some, ◌⊎◌, inl, inr, refl, subst}
+use Rattle.std.proofs.Common.{◌≡◌, ◌≢◌, ℕ, List, [], ◌∷◌, Option, None, Some, ◌⊎◌, inl, inr, refl}
+use Rattle.std.proofs.Common.{subst}
 use Rattle.trips_outside.specs.Outside.{Appended}
 use Rattle.trips_run.specs.declared.status.Status.{Status}
 use Rattle.trips_run.specs.declared.status.Status.TheVariants as status
@@ -7,15 +8,18 @@ use Rattle.trips_run.specs.Request.{Request, Run}
 use Rattle.trips_run.specs.Source.{IsReturn}
 use Rattle.trips_run.specs.Answer.{IsAnswer, MayBeRefused, IsRefused}
 use Rattle.trips_run.specs.Table.{IsAnswered, IsCutOff, IsOneOf, return_report}
-use Rattle.trips_run.proofs.Rows.{usage_row, read_fault_row, refused_row, no_row, usage_comes_row, refused_comes_row, headline_row}
+use Rattle.trips_run.proofs.Rows.{usage_row, read_fault_row, refused_row, no_row, usage_comes_row}
+use Rattle.trips_run.proofs.Rows.{refused_comes_row, headline_row}
 
-module _ (held : List ℕ → Option (List ℕ)) (rose : Type 0) (old new : Option (List ℕ)) (cut : Type 0) (q : Option Request) where
+module _ (held : List ℕ → Option (List ℕ)) (rose : Type 0) (old new : Option (List ℕ))
+    (cut : Type 0) (q : Option Request) where
   -- the whole report was written
   IsWhole : Status → Type 0
   IsWhole s = (report : List ℕ) × IsAnswer q held rose s report × Appended old new report
 
   -- nothing was written, a part, or the whole
-  split : (s : Status) → IsAnswered q held rose old new cut s → (s ≡ status.Memory) ⊎ (((s ≡ status.WriteFault) × cut) ⊎ IsWhole s)
+  split : (s : Status) → IsAnswered q held rose old new cut s → (s ≡ status.Memory)
+      ⊎ (((s ≡ status.WriteFault) × cut) ⊎ IsWhole s)
   unfolding IsWhole
   split status.Memory a = inl refl
   split status.WriteFault a = inr (inl (refl, a.0))
@@ -29,9 +33,12 @@ module _ (held : List ℕ → Option (List ℕ)) (rose : Type 0) (old new : Opti
   split status.Undefined a = inr (inr a)
 
   -- a whole report makes the row of its status
-  pub whole : (s : Status) (report : List ℕ) → IsAnswer q held rose s report → Appended old new report → IsAnswered q held rose old new cut s
-  whole status.Memory report a w = absurd (no_row held rose status.Memory report q status.Memory a refl (inl refl))
-  whole status.WriteFault report a w = absurd (no_row held rose status.WriteFault report q status.WriteFault a refl (inr refl))
+  pub whole : (s : Status) (report : List ℕ) → IsAnswer q held rose s report
+      → Appended old new report → IsAnswered q held rose old new cut s
+  whole status.Memory report a w = absurd
+      (no_row held rose status.Memory report q status.Memory a refl (inl refl))
+  whole status.WriteFault report a w = absurd
+      (no_row held rose status.WriteFault report q status.WriteFault a refl (inr refl))
   whole status.Ended report a w = (report, a, w)
   whole status.Usage report a w = (report, a, w)
   whole status.ReadFault report a w = (report, a, w)
@@ -43,23 +50,30 @@ module _ (held : List ℕ → Option (List ℕ)) (rose : Type 0) (old new : Opti
 
   pub usage_only : (s : Status) → IsAnswered q held rose old new cut s → s ≡ status.Usage → q ≡ None
   usage_only s a e =
-      let row = subst (IsAnswered q held rose old new cut) e a in usage_row held rose status.Usage row.0 q row.1 refl
+      let row = subst (IsAnswered q held rose old new cut) e a in usage_row held rose status.Usage
+      row.0 q row.1 refl
 
   pub read_fault : (s : Status) → IsAnswered q held rose old new cut s → s ≡ status.ReadFault → rose
   read_fault s a e =
-      let row = subst (IsAnswered q held rose old new cut) e a in read_fault_row held rose status.ReadFault row.0 q row.1 refl
+      let row = subst (IsAnswered q held rose old new cut) e a in read_fault_row held rose
+      status.ReadFault row.0 q row.1 refl
 
-  pub refused_only : (s : Status) → IsAnswered q held rose old new cut s → s ≡ status.Refused → MayBeRefused q held
+  pub refused_only : (s : Status) → IsAnswered q held rose old new cut s → s ≡ status.Refused
+      → MayBeRefused q held
   refused_only s a e =
-      let row = subst (IsAnswered q held rose old new cut) e a in refused_row held rose status.Refused row.0 q row.1 refl
+      let row = subst (IsAnswered q held rose old new cut) e a in refused_row held rose
+      status.Refused row.0 q row.1 refl
 
-  pub write_fault : (s : Status) → IsAnswered q held rose old new cut s → s ≡ status.WriteFault → cut
+  pub write_fault : (s : Status) → IsAnswered q held rose old new cut s → s ≡ status.WriteFault
+      → cut
   write_fault s a e = (subst (IsAnswered q held rose old new cut) e a).0
 
-  pub cut_off : (s : Status) → IsAnswered q held rose old new cut s → s ≡ status.WriteFault → IsCutOff q held rose old new
+  pub cut_off : (s : Status) → IsAnswered q held rose old new cut s → s ≡ status.WriteFault
+      → IsCutOff q held rose old new
   cut_off s a e = (subst (IsAnswered q held rose old new cut) e a).1
 
-  pub memory : (s : Status) → IsAnswered q held rose old new cut s → s ≡ status.Memory → Appended old new []
+  pub memory : (s : Status) → IsAnswered q held rose old new cut s → s ≡ status.Memory
+      → Appended old new []
   memory s a e = subst (IsAnswered q held rose old new cut) e a
 
   pub usage_comes : (s : Status) → IsAnswered q held rose old new cut s → q ≡ None
@@ -77,10 +91,12 @@ module _ (held : List ℕ → Option (List ℕ)) (rose : Type 0) (old new : Opti
   refused_comes s a out = elim (split s a) [
     | inl m ↦ inr (inr (inl m))
     | inr (inl w) ↦ inr (inr (inr (inl w.0)))
-    | inr (inr row) ↦ elim (refused_comes_row held rose s row.0 q row.1 out) [ inl r ↦ inl r | inr f ↦ inr (inl f) ]
+    | inr (inr row) ↦ elim (refused_comes_row held rose s row.0 q row.1 out)
+        [ inl r ↦ inl r | inr f ↦ inr (inl f) ]
   ]
 
-  pub headline : (s : Status) → IsAnswered q held rose old new cut s → (file text : List ℕ) (n : ℕ) → q ≡ Some (Run file)
+  pub headline : (s : Status) → IsAnswered q held rose old new cut s → (file text : List ℕ) (n : ℕ)
+      → q ≡ Some (Run file)
       → held file ≡ Some text → IsReturn text n → (rose → ⊥) → (cut → ⊥) → s ≢ status.Memory
       → (s ≡ status.Ended) × Appended old new (return_report n)
   unfolding IsWhole
@@ -88,5 +104,6 @@ module _ (held : List ℕ → Option (List ℕ)) (rose : Type 0) (old new : Opti
     | inl none ↦ absurd (m none)
     | inr (inl w) ↦ absurd (c w.1)
     | inr (inr row) ↦
-        let told = headline_row held rose s row.0 q file text n row.1 e h is r in (told.0, subst (Appended old new) told.1 row.2)
+        let told = headline_row held rose s row.0 q file text n row.1 e h is r
+        in (told.0, subst (Appended old new) told.1 row.2)
   ]

@@ -1,5 +1,6 @@
 -- The run of the program that returns a number.
-use Rattle.std.proofs.Common.{◌≡◌, ℕ, ◌<◌, ◌^◌, List, [], ◌∷◌, ◌++◌, replicate, true, nat_lt, slice_set, inl, inr, refl, sym, ◌∙◌, arith, lit<}
+use Rattle.std.proofs.Common.{◌≡◌, ℕ, ◌<◌, ◌^◌, List, [], ◌∷◌, ◌++◌, replicate, true, nat_lt}
+use Rattle.std.proofs.Common.{slice_set, inl, inr, refl, sym, ◌∙◌, arith, lit<}
 use Rattle.std.proofs.lemmas.Fmt.{decimal_digit, decimal_injective}
 use Rattle.std.proofs.lemmas.List.{append_cancel_left, append_cancel_right}
 use Rattle.std.proofs.lemmas.Bool.{lt-ltb}
@@ -32,9 +33,11 @@ enough : 0 < block_budget
 unfolding block_budget
 enough = lit< tt
 
-pub return_runs : (n : ℕ) → runs (return_block n ∷ []) (start [] []) block_budget ≡ (end_of n, Ended)
+pub return_runs : (n : ℕ)
+    → runs (return_block n ∷ []) (start [] []) block_budget ≡ (end_of n, Ended)
 return_runs n =
-    stopped (return_block n ∷ []) (start [] []) (start [] []) (end_of n) Ended 0 block_budget enough tt
+    stopped (return_block n ∷ []) (start [] []) (start [] [])
+    (end_of n) Ended 0 block_budget enough tt
     (none_yet (return_block n ∷ []) (start [] [])) (sym (one_step n))
 
 pub return_reports : (n : ℕ) → n < 2 ^ 16 → run_report ending.Ended (end_of n) ≡ return_report n
@@ -47,9 +50,19 @@ return_reports n low =
 -- a text is that of one number
 pub one_number : (text : List ℕ) (m n : ℕ) → IsReturn text m → IsReturn text n → m ≡ n
 one_number text m n a b =
-    let same : source m ≡ source n → m ≡ n = λ e. decimal_injective m n (omega (arith, a.0)) (omega (arith, b.0))
-    (append_cancel_right (decimal m) (decimal n) back (append_cancel_left front (decimal m ++ back) (decimal n ++ back) e)) in
+    let same : source m ≡ source n
+    → m ≡ n = λ e. decimal_injective m n (omega (arith, a.0)) (omega (arith, b.0))
+    (append_cancel_right (decimal m) (decimal n) back
+    (append_cancel_left front (decimal m ++ back) (decimal n ++ back) e)) in
     elim a.1 [
-      | inl e ↦ elim b.1 [ inl f ↦ same (sym e ∙ f) | inr f ↦ absurd (no_feed m (source n) (sym e ∙ f)) ]
-      | inr e ↦ elim b.1 [ inl f ↦ absurd (no_feed n (source m) (sym f ∙ e)) | inr f ↦ same (append_cancel_right (source m) (source n) (10 ∷ []) (sym e ∙ f)) ]
+      | inl e ↦ elim b.1 [
+        | inl f ↦ same (sym e ∙ f)
+        | inr f ↦ absurd
+            (no_feed m (source n) (sym e ∙ f))
+      ]
+      | inr e ↦ elim b.1 [
+        | inl f ↦ absurd (no_feed n (source m) (sym f ∙ e))
+        | inr f ↦ same
+            (append_cancel_right (source m) (source n) (10 ∷ []) (sym e ∙ f))
+      ]
     ]

@@ -1,5 +1,6 @@
 -- What is answered to a request: the status and the report, a row for each command.
-use Rattle.std.specs.Prelude.{◌≡◌, ℕ, ◌<◌, ◌≤◌, List, [], ◌∷◌, Option, None, Some, IfSome, IsSomeAnd, length, ◌⊎◌}
+use Rattle.std.specs.Prelude.{◌≡◌, ℕ, ◌<◌, ◌≤◌, List, [], ◌∷◌, Option, None, Some, IfSome}
+use Rattle.std.specs.Prelude.{IsSomeAnd, length, ◌⊎◌}
 use Rattle.trips_outside.specs.Outside.{Holds}
 use Rattle.trips_isa.specs.declared.block.Block.{Block}
 use Rattle.trips_isa.specs.declared.run.Ending.{Ending}
@@ -62,7 +63,8 @@ IsRunAnswer (Bytes text) s report = IsRunOf text s report
 
 -- The rows: of the request (none where the words make none), of what names hold, and of whether the
 -- count of the files' faults rose, this is the answer.
-abbrev pub IsAnswer : Option Request → (List ℕ → Option (List ℕ)) → Type 0 → Status → List ℕ → Type 0
+abbrev pub IsAnswer :
+    Option Request → (List ℕ → Option (List ℕ)) → Type 0 → Status → List ℕ → Type 0
 IsAnswer None held rose s report = IsFixed status.Usage usage_text s report
 IsAnswer (Some (Run file)) held rose s report =
     (read : Read) × IsRead (held file) rose most_bytes read × IsRunAnswer read s report

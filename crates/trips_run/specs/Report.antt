@@ -1,5 +1,6 @@
 -- The texts that the program writes.
-use Rattle.std.specs.Prelude.{ℕ, ◌-◌, ◌^◌, nat_lt, if◌then◌else◌, List, [], ◌∷◌, ◌++◌, length, codes, slice_index, decimal}
+use Rattle.std.specs.Prelude.{ℕ, ◌-◌, ◌^◌, nat_lt, if◌then◌else◌, List, [], ◌∷◌, ◌++◌, length}
+use Rattle.std.specs.Prelude.{codes, slice_index, decimal}
 use Rattle.trips_isa.specs.declared.run.Ending.{Ending}
 use Rattle.trips_isa.specs.declared.run.Ending.TheVariants as ending
 use Rattle.trips_isa.specs.declared.run.Stepped.{Stepped}
@@ -27,11 +28,13 @@ ending_line (ending.Trap block cause) word blocks =
 -- the output's length, the output, and a line
 abbrev pub report_of : List ℕ → List ℕ → List ℕ
 report_of output line =
-    codes "output " ++ decimal (length output) ++ 10 ∷ [] ++ output ++ 10 ∷ [] ++ line ++ 10 ∷ []
+    codes "output " ++ decimal (length output) ++ 10 ∷ []
+    ++ output ++ 10 ∷ [] ++ line ++ 10 ∷ []
 
 -- the report of a run, from how it ended and the state at its end
 abbrev pub run_report : Ending → State → List ℕ
-run_report ending s = report_of s.output (ending_line ending (slice_index s.registers 3) (length s.trace))
+run_report ending s =
+    report_of s.output (ending_line ending (slice_index s.registers 3) (length s.trace))
 
 unfoldable pub usage_text : List ℕ
 usage_text = codes "usage\n"

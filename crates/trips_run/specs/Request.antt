@@ -1,5 +1,6 @@
 -- Which request the words of a command line make.
-use Rattle.std.specs.Prelude.{ℕ, Bool, not, ◌&&◌, if◌then◌else◌, List, [], ◌∷◌, map, String, Option, None, Some, codes, nat_eq, bytes_eq, string_bytes}
+use Rattle.std.specs.Prelude.{ℕ, Bool, not, ◌&&◌, if◌then◌else◌, List, [], ◌∷◌, map, String, Option}
+use Rattle.std.specs.Prelude.{None, Some, codes, nat_eq, bytes_eq, string_bytes}
 use Rattle.std.specs.List.{starts_with, ends_with}
 
 -- a request, with the name of its file
@@ -14,7 +15,8 @@ is_c_name word =
 
 -- `run FILE`, and nothing else
 abbrev pub asked : List (List ℕ) → Option Request
-asked (command ∷ file ∷ []) = if bytes_eq command (codes "run") && is_c_name file then Some (Run file) else None
+asked (command ∷ file ∷ []) =
+    if bytes_eq command (codes "run") && is_c_name file then Some (Run file) else None
 asked words = None
 
 -- the request of the words of a command line, without the program's name

@@ -1,5 +1,6 @@
 -- The program texts that are accepted today, and their blocks.
-use Rattle.std.specs.Prelude.{◌≡◌, ℕ, ◌<◌, ◌^◌, pos, List, [], ◌∷◌, ◌++◌, Option, None, Some, codes, replicate, ◌⊎◌, decimal}
+use Rattle.std.specs.Prelude.{◌≡◌, ℕ, ◌<◌, ◌^◌, pos, List, [], ◌∷◌, ◌++◌, Option, None, Some, codes}
+use Rattle.std.specs.Prelude.{replicate, ◌⊎◌, decimal}
 use Rattle.trips_isa.specs.declared.block.Block.{Block}
 use Rattle.trips_isa.specs.declared.block.Inst.{Inst}
 use Rattle.trips_isa.specs.declared.block.Sense.TheVariants.{Always}
@@ -26,7 +27,14 @@ IsOutOfForm text = (n : ℕ) → ¬ (IsReturn text n)
 
 -- a constant for a write
 abbrev pub constant : ℕ → ℕ → Inst
-constant n write = record { op = Genu; sense = Always; imm = pos n; number = 0; first = Some (Write write); second = None }
+constant n write = record {
+  op = Genu;
+  sense = Always;
+  imm = pos n;
+  number = 0;
+  first = Some (Write write);
+  second = None;
+}
 
 abbrev pub call : Inst
 call = record { op = Scall; sense = Always; imm = pos 0; number = 0; first = None; second = None }

@@ -61,7 +61,8 @@ fn returned_by(alloc: Global, body: &[u8]) -> Result<Option<u16>, AllocError>
 
 /// The number that the program returns, and none where the text is not of the form.
 pub fn returned(alloc: Global, text: &[u8]) -> Result<Option<u16>, AllocError>
-    ensures { IfOk result (λ found. MatchOption found (IsOutOfForm text.now) (λ n. IsReturn text.now n)) }
+    ensures { IfOk result (λ found.
+        MatchOption found (IsOutOfForm text.now) (λ n. IsReturn text.now n)) }
 {
     match without_back(text, b"\n") {
         Some(body) => returned_by(alloc, body),

@@ -21,12 +21,14 @@ pub fn trips_run<F: Files, K: Sink>(
     // An accepted program's number is reported, where the file is told, neither the files nor the
     // sink failed in this call, and memory was not refused.
     ensures headline { (file text : List ℕ) (n : ℕ)
-        → request_of words.now ≡ Some (Run file) → F.held files.old file ≡ Some text → IsReturn text n
+        → request_of words.now ≡ Some (Run file)
+        → F.held files.old file ≡ Some text → IsReturn text n
         → ¬ Rose (F.faults files.old) (F.faults files.new)
         → ¬ Rose (K.faults sink.old) (K.faults sink.new) → result ≢ Status.Memory
-        → (result ≡ Status.Ended) × Appended (K.written sink.old) (K.written sink.new) (return_report n) }
+        → (result ≡ Status.Ended)
+        × Appended (K.written sink.old) (K.written sink.new) (return_report n) }
 
-    // The table: whatever comes, it is the row of the request, of what was read and of how writing went.
+    // The table: whatever comes, it is the row of the request, of what was read and of the writing.
     ensures answered { IsAnswered (request_of words.now) (F.held files.old)
         (Rose (F.faults files.old) (F.faults files.new)) (K.written sink.old) (K.written sink.new)
         (Rose (K.faults sink.old) (K.faults sink.new)) result }
@@ -34,14 +36,20 @@ pub fn trips_run<F: Files, K: Sink>(
     ensures usage_only { result ≡ Status.Usage → request_of words.now ≡ None }
     ensures usage_comes { request_of words.now ≡ None
         → IsOneOf result (Status.Usage ∷ Status.Memory ∷ Status.WriteFault ∷ []) }
-    ensures read_fault { result ≡ Status.ReadFault → Rose (F.faults files.old) (F.faults files.new) }
-    ensures refused_only { result ≡ Status.Refused → MayBeRefused (request_of words.now) (F.held files.old) }
+    ensures read_fault { result ≡ Status.ReadFault
+        → Rose (F.faults files.old) (F.faults files.new) }
+    ensures refused_only { result ≡ Status.Refused
+        → MayBeRefused (request_of words.now) (F.held files.old) }
     ensures refused_comes { IsRefused (request_of words.now) (F.held files.old)
-        → IsOneOf result (Status.Refused ∷ Status.ReadFault ∷ Status.Memory ∷ Status.WriteFault ∷ []) }
-    ensures write_fault { result ≡ Status.WriteFault → Rose (K.faults sink.old) (K.faults sink.new) }
-    ensures cut_off { result ≡ Status.WriteFault → IsCutOff (request_of words.now) (F.held files.old)
+        → IsOneOf result (Status.Refused ∷ Status.ReadFault
+        ∷ Status.Memory ∷ Status.WriteFault ∷ []) }
+    ensures write_fault { result ≡ Status.WriteFault
+        → Rose (K.faults sink.old) (K.faults sink.new) }
+    ensures cut_off { result ≡ Status.WriteFault
+        → IsCutOff (request_of words.now) (F.held files.old)
         (Rose (F.faults files.old) (F.faults files.new)) (K.written sink.old) (K.written sink.new) }
-    ensures memory { result ≡ Status.Memory → Appended (K.written sink.old) (K.written sink.new) [] }
+    ensures memory { result ≡ Status.Memory
+        → Appended (K.written sink.old) (K.written sink.new) [] }
     ensures kept { F.held files.new ≡ F.held files.old }
     ensures reads_later { F.faults files.old ≤ F.faults files.new }
     ensures writes_later { K.faults sink.old ≤ K.faults sink.new }

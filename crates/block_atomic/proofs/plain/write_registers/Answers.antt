@@ -8,8 +8,10 @@ loop-write-preserved c =
     elim c.match-word_to.branch [
       | in-Some w ↦
           c.loop-write.invariant
-          ∙ words_next c.args.insts.now _ _ _ _ _ c.loop-write-test.true (sym w.in-Some.is ∙ c.word_to.ensures) w.registers-is
+          ∙ words_next c.args.insts.now _ _ _ _ _ c.loop-write-test.true
+          (sym w.in-Some.is ∙ c.word_to.ensures) w.registers-is
       | in_default w ↦
           c.loop-write.invariant
-          ∙ words_next c.args.insts.now _ _ _ _ _ c.loop-write-test.true (sym w.in_default.is ∙ c.word_to.ensures) w.registers-is
+          ∙ words_next c.args.insts.now _ _ _ _ _ c.loop-write-test.true
+          (sym w.in_default.is ∙ c.word_to.ensures) w.registers-is
     ]

@@ -4,4 +4,5 @@ use Rattle.block_atomic.proofs.plain.write_registers.Given as goal
 
 abbrev pub invariant-loop-write : goal.invariant-loop-write
 invariant-loop-write l =
-    writes_from l.insts 0 l.writes l.fn.registers ≡ writes_from l.insts l.write (drop l.write l.writes) l.registers
+    writes_from l.insts 0 l.writes l.fn.registers ≡ writes_from l.insts l.write
+    (drop l.write l.writes) l.registers

@@ -9,5 +9,7 @@ run_blocks-ending-requires-clause-plain c =
 pub returns : goal.returns
 returns c =
     run_told c.args.word c.in_ok-image.image.blocks _ _ _ _ c.run_blocks-ending.result _ _
-    c.in_ok-image.ensures.blocks c.in_ok-image.ensures.bytes c.new.ensures.items c.in-Ok.ensures.state
-    c.run_blocks-ending.ensures.state c.run_blocks-ending.ensures.ending c.status_for.ensures c.in_ok-report.ensures
+    c.in_ok-image.ensures.blocks c.in_ok-image.ensures.bytes c.new.ensures.items
+    c.in-Ok.ensures.state
+    c.run_blocks-ending.ensures.state c.run_blocks-ending.ensures.ending c.status_for.ensures
+    c.in_ok-report.ensures

@@ -16,19 +16,27 @@ loop-turn-init c = record {
 
 pub returns-in-Ended-clause-state : goal.returns-in-Ended-clause-state
 returns-in-Ended-clause-state c =
-    sym (ap (λ (r : State × Stepped). r.0) (stopped _ _ _ _ Ended _ _ c.loop-turn-test.true tt c.loop-turn.invariant.so_far c.in-Ended.ensures.step))
+    sym (ap (λ (r : State × Stepped). r.0)
+    (stopped _ _ _ _ Ended _ _ c.loop-turn-test.true tt c.loop-turn.invariant.so_far
+    c.in-Ended.ensures.step))
 
 pub returns-in-Ended-clause-ending : goal.returns-in-Ended-clause-ending
 returns-in-Ended-clause-ending c =
-    sym (ap (λ (r : State × Stepped). ending_of r.1) (stopped _ _ _ _ Ended _ _ c.loop-turn-test.true tt c.loop-turn.invariant.so_far c.in-Ended.ensures.step))
+    sym (ap (λ (r : State × Stepped). ending_of r.1)
+    (stopped _ _ _ _ Ended _ _ c.loop-turn-test.true tt c.loop-turn.invariant.so_far
+    c.in-Ended.ensures.step))
 
 pub returns-in-StackFull-clause-state : goal.returns-in-StackFull-clause-state
 returns-in-StackFull-clause-state c =
-    sym (ap (λ (r : State × Stepped). r.0) (stopped _ _ _ _ StackFull _ _ c.loop-turn-test.true tt c.loop-turn.invariant.so_far c.in-StackFull.ensures.step))
+    sym (ap (λ (r : State × Stepped). r.0)
+    (stopped _ _ _ _ StackFull _ _ c.loop-turn-test.true tt c.loop-turn.invariant.so_far
+    c.in-StackFull.ensures.step))
 
 pub returns-in-StackFull-clause-ending : goal.returns-in-StackFull-clause-ending
 returns-in-StackFull-clause-ending c =
-    sym (ap (λ (r : State × Stepped). ending_of r.1) (stopped _ _ _ _ StackFull _ _ c.loop-turn-test.true tt c.loop-turn.invariant.so_far c.in-StackFull.ensures.step))
+    sym (ap (λ (r : State × Stepped). ending_of r.1)
+    (stopped _ _ _ _ StackFull _ _ c.loop-turn-test.true tt c.loop-turn.invariant.so_far
+    c.in-StackFull.ensures.step))
 
 pub loop-turn-preserved : goal.loop-turn-preserved
 loop-turn-preserved c = record {

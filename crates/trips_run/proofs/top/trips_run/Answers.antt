@@ -3,7 +3,8 @@ use Rattle.trips_run.proofs.top.trips_run.Goals as goal
 
 pub returns-in-Ok-write_all-clause-answered : goal.returns-in-Ok-write_all-clause-answered
 returns-in-Ok-write_all-clause-answered g c =
-    causes.whole _ _ _ _ _ _ _ c.in-Ok.answer.report.items c.in-Ok.ensures.answer (rw c.deref.ensures.value at c.in-Ok-write_all.ensures.ok)
+    causes.whole _ _ _ _ _ _ _ c.in-Ok.answer.report.items c.in-Ok.ensures.answer
+    (rw c.deref.ensures.value at c.in-Ok-write_all.ensures.ok)
 
 pub returns-in-Ok-write_all-clause-headline : goal.returns-in-Ok-write_all-clause-headline
 returns-in-Ok-write_all-clause-headline g c =
