@@ -23,25 +23,30 @@ Quiet (b ∷ bs) = (is_blank b ≡ false) × Goes (by_class not_feed) 0 (b ∷ b
 -- a class that has no line feed
 pub no_feed : (p : ℕ → Bool) (b : ℕ) → p 10 ≡ false → p b ≡ true → not_feed b ≡ true
 no_feed p b n e = elim (true_or_false (is_feed b)) [
-  | inl y ↦ absurd (let f : p 10 ≡ true = subst (λ (x : ℕ). p x ≡ true) (eq_is b 10 y) e in let g : true ≡ false = sym f ∙ n in cc)
+  | inl y ↦ absurd (let f : p 10 ≡ true = subst (λ (x : ℕ). p x ≡ true) (eq_is b 10 y) e in
+      let g : true ≡ false = sym f ∙ n in cc)
   | inr y ↦ rw y refl
 ]
 
 -- a class that has no space and no tab
 no_blank : (p : ℕ → Bool) (b : ℕ) → p 32 ≡ false → p 9 ≡ false → p b ≡ true → is_blank b ≡ false
 no_blank p b s t e = elim (true_or_false (nat_eq b 32)) [
-  | inl y ↦ absurd (let f : p 32 ≡ true = subst (λ (x : ℕ). p x ≡ true) (eq_is b 32 y) e in let g : true ≡ false = sym f ∙ s in cc)
+  | inl y ↦ absurd (let f : p 32 ≡ true = subst (λ (x : ℕ). p x ≡ true) (eq_is b 32 y) e in
+      let g : true ≡ false = sym f ∙ s in cc)
   | inr y ↦ elim (true_or_false (nat_eq b 9)) [
-    | inl z ↦ absurd (let f : p 9 ≡ true = subst (λ (x : ℕ). p x ≡ true) (eq_is b 9 z) e in let g : true ≡ false = sym f ∙ t in cc)
+    | inl z ↦ absurd (let f : p 9 ≡ true = subst (λ (x : ℕ). p x ≡ true) (eq_is b 9 z) e in
+        let g : true ≡ false = sym f ∙ t in cc)
     | inr z ↦ rw (y, z) refl
   ]
 ]
 
-goes_quiet : (go : Going) (last : ℕ) (bs : Bytes) → ((last : ℕ) → go last 10 ≡ false) → Goes go last bs → Goes (by_class not_feed) last bs
+goes_quiet : (go : Going) (last : ℕ) (bs : Bytes) → ((last : ℕ) → go last 10 ≡ false)
+    → Goes go last bs → Goes (by_class not_feed) last bs
 goes_quiet go last [] n g = tt
 goes_quiet go last (b ∷ bs) n g = (no_feed (go last) b (n last) g.0, goes_quiet go b bs n g.1)
 
-each_quiet : (p : ℕ → Bool) (last : ℕ) (bs : Bytes) → p 10 ≡ false → Goes (by_class p) last bs → Goes (by_class not_feed) last bs
+each_quiet : (p : ℕ → Bool) (last : ℕ) (bs : Bytes) → p 10 ≡ false → Goes (by_class p) last bs
+    → Goes (by_class not_feed) last bs
 each_quiet p last bs n g = goes_quiet (by_class p) last bs (λ _. n) g
 
 -- the bytes between the quotes
@@ -49,7 +54,8 @@ character_quiet : (c : Bytes) (v : ℕ) → Character c v → Each not_feed c
 character_quiet c v (plain {b = b} e) = (no_feed is_plain b refl e, tt)
 character_quiet c v (escape {b = b} e) = (refl, (no_feed (λ x. is_some (simple x)) b refl (ap is_some e), tt))
 character_quiet c v (octal {d = d} {ds = ds} g l n) = (refl, each_quiet (is_digit_in 8) 92 (d ∷ ds) refl g)
-character_quiet c v (hexadecimal {d = d} {ds = ds} g n) = (refl, (refl, each_quiet (is_digit_in 16) 120 (d ∷ ds) refl g))
+character_quiet c v (hexadecimal {d = d} {ds = ds} g n) =
+    (refl, (refl, each_quiet (is_digit_in 16) 120 (d ∷ ds) refl g))
 
 -- a punctuator's bytes
 abbrev all_quiet : Bytes → Bool
@@ -66,11 +72,17 @@ marks_quiet = refl
 
 quiet_all : (last : ℕ) (bs : Bytes) → all_quiet bs ≡ true → Goes (by_class not_feed) last bs
 quiet_all last [] e = tt
-quiet_all last (b ∷ bs) e = (and_left (not_feed b) (all_quiet bs) e, quiet_all b bs (and_right (not_feed b) (all_quiet bs) e))
+quiet_all last (b ∷ bs) e = (
+  and_left (not_feed b) (all_quiet bs) e,
+  quiet_all b bs (and_right (not_feed b) (all_quiet bs) e),
+)
 
 mark_is_quiet : (p : Bytes) → mark_quiet p ≡ true → Quiet p
 mark_is_quiet [] e = absurd (cc)
-mark_is_quiet (b ∷ bs) e = (not_true _ (and_left (not (is_blank b)) (all_quiet (b ∷ bs)) e), quiet_all 0 (b ∷ bs) (and_right (not (is_blank b)) (all_quiet (b ∷ bs)) e))
+mark_is_quiet (b ∷ bs) e = (
+  not_true _ (and_left (not (is_blank b)) (all_quiet (b ∷ bs)) e),
+  quiet_all 0 (b ∷ bs) (and_right (not (is_blank b)) (all_quiet (b ∷ bs)) e),
+)
 
 along : (p p' : Bytes) → p ≡ p' → Quiet p' → Quiet p
 along p p' e q = subst (λ (x : Bytes). Quiet x) (sym e) q
@@ -86,20 +98,35 @@ token_quiet (piece.line_comment e s) t = absurd t
 token_quiet (piece.comment body e s) t = absurd t
 token_quiet (piece.opening e) t = absurd t
 token_quiet {p = p} (piece.word {b = b} {bs = bs} e s r) t =
-    along p (b ∷ bs) e (no_blank is_letter b refl refl s, (no_feed is_letter b refl s, each_quiet is_word b bs refl (each_any is_word 0 b bs r)))
+    along p (b ∷ bs) e (
+      no_blank is_letter b refl refl s,
+      (no_feed is_letter b refl s, each_quiet is_word b bs refl (each_any is_word 0 b bs r)),
+    )
 token_quiet {p = p} (piece.number {b = b} {bs = bs} e s r c) t =
-    along p (b ∷ bs) e (no_blank is_digit b refl refl s, (no_feed is_digit b refl s, goes_quiet in_number b bs (λ last. refl) r))
+    along p (b ∷ bs) e (
+      no_blank is_digit b refl refl s,
+      (no_feed is_digit b refl s, goes_quiet in_number b bs (λ last. refl) r),
+    )
 token_quiet (piece.bad_number e s r n) t = absurd t
 token_quiet {p = p} (piece.character {v = v} c e x) t =
-    along p (39 ∷ c ++ 39 ∷ []) e (refl, (refl, each_any not_feed 0 39 (c ++ 39 ∷ []) (each_append not_feed 0 c (39 ∷ []) (character_quiet c v x) (refl, tt))))
+    along p (39 ∷ c ++ 39 ∷ []) e (
+      refl,
+      (
+        refl,
+        each_any not_feed 0 39 (c ++ 39 ∷ [])
+            (each_append not_feed 0 c (39 ∷ []) (character_quiet c v x) (refl, tt)),
+      ),
+    )
 token_quiet (piece.quote e) t = absurd t
 token_quiet {p = p} (piece.mark {m = m} e) t = mark_is_quiet p (row_is mark_quiet p marks m marks_quiet e)
-token_quiet {p = p} (piece.include {line = line} s e i) t = along p (35 ∷ line) e (refl, (refl, each_any not_feed 0 35 line (include_line line i)))
+token_quiet {p = p} (piece.include {line = line} s e i) t =
+    along p (35 ∷ line) e (refl, (refl, each_any not_feed 0 35 line (include_line line i)))
 token_quiet (piece.other_line s e i n) t = absurd t
 
 quiet_feeds : (last : ℕ) (bs : Bytes) → Goes (by_class not_feed) last bs → feeds bs ≡ 0
 quiet_feeds last [] g = refl
-quiet_feeds last (b ∷ bs) g = rw (not_true (is_feed b) g.0) (let h : feeds bs ≡ 0 = quiet_feeds b bs g.1 in omega arith)
+quiet_feeds last (b ∷ bs) g =
+    rw (not_true (is_feed b) g.0) (let h : feeds bs ≡ 0 = quiet_feeds b bs g.1 in omega arith)
 
 still_full : (last : ℕ) (bs : Bytes) → Goes (by_class not_feed) last bs → still_empty false bs ≡ false
 still_full last [] g = refl
@@ -115,7 +142,9 @@ no_start true (b ∷ bs) q = rw (not_true (is_feed b) q.1.0, q.0) (still_full b 
 no_start false (b ∷ bs) q = rw (not_true (is_feed b) q.1.0) (still_full b bs q.1.1)
 
 -- a token is passed by, and the line stays
-pub kept : (most : ℕ) (old new : Place) (n : ℕ) (f : Form) → Front old.starts old.rest n (reads.Token f) → new.rest ≡ drop n old.rest → new.line ≡ old.line → new.starts ≡ false
+pub kept : (most : ℕ) (old new : Place) (n : ℕ) (f : Form)
+    → Front old.starts old.rest n (reads.Token f) → new.rest ≡ drop n old.rest → new.line ≡ old.line
+    → new.starts ≡ false
     → Grows most old.line (reads.Token f) old.tokens new.tokens → Moved most old new
 kept most old new n f x rest line starts grows =
     let p = take n old.rest in
