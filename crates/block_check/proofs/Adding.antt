@@ -140,3 +140,7 @@ count_same ns x n f q old e p a = a ∙ sym (omega arith) ∙ ap (λ m. tokens (
 
 pub room_more : (n : Node) (q x old new : ℕ) → old ≤ 2 * x → new ≡ old + hits (targets n) q → new ≤ 2 * (x + 1)
 room_more n q x old new a b = let two = hits_le n q in omega (arith, a, b, two)
+
+-- what is said from a chooser on is said from a place before it that no chooser parts from it
+pub skip_to : (ns : List Node) (order : List ℕ) (from at : ℕ) (c : List Bool) (c0 c1 : ℕ) (t0 t1 n0 n1 : List Bool) → ((d : List Bool) → others ns (drop from order) d ≡ others ns (drop at order) d) → AddedAt ns order at c c0 c1 t0 t1 n0 n1 → AddedAt ns order from c c0 c1 t0 t1 n0 n1
+skip_to ns order from at c c0 c1 t0 t1 n0 n1 s a = subst (λ l. Added ns l c0 c1 t0 t1 n0 n1) (sym (s c)) a

@@ -10,3 +10,4 @@ pub mod Counting
 pub mod Lowest
 pub mod Starts
 pub mod Making
+pub mod Sparing

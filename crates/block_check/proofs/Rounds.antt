@@ -51,6 +51,13 @@ set_other (v ∷ vs) zero (suc y) t e lt = refl
 set_other (v ∷ vs) (suc x) zero t e lt = refl
 set_other (v ∷ vs) (suc x) (suc y) t e lt = set_other vs x y t e (omega arith)
 
+pub set_away : (ts : List CaseToken) (x y : ℕ) (t : CaseToken) → x < y → tok_at (slice_set ts x t) y ≡ tok_at ts y
+set_away [] x y t lt = refl
+set_away (v ∷ vs) zero zero t lt = absurd (omega arith)
+set_away (v ∷ vs) zero (suc y) t lt = refl
+set_away (v ∷ vs) (suc x) zero t lt = absurd (omega arith)
+set_away (v ∷ vs) (suc x) (suc y) t lt = set_away vs x y t (omega arith)
+
 pub far : (ts : List CaseToken) (x : ℕ) → length ts ≤ x → tok_at ts x ≡ Absent
 far [] x h = refl
 far (t ∷ ts) zero h = absurd (omega arith)

@@ -1,7 +1,7 @@
 -- What the search keeps of the cases that it has visited.
-use Rattle.std.specs.Prelude.{◌≡◌, ℕ, zero, suc, ◌+◌, ◌<◌, ◌≤◌, Bool, true, false, ◌||◌, ◌==◌, nat_lt, List, [], ◌∷◌, ◌++◌, slice_set}
+use Rattle.std.specs.Prelude.{◌≡◌, ℕ, zero, suc, ◌+◌, ◌<◌, ◌≤◌, Bool, true, false, ◌||◌, ◌==◌, nat_lt, List, [], ◌∷◌, ◌++◌, length, slice_get, slice_set}
 use Rattle.trips_isa.specs.declared.node.Node.{Node}
-use Rattle.block_cases.specs.Cases.{bit, token, tokens, has_bit, cases, GetsTwo, GetsNone}
+use Rattle.block_cases.specs.Cases.{bit, token, tokens, is_chooser, has_bit, cases, GetsTwo, GetsNone}
 use Rattle.block_check.specs.Walk.{tally}
 
 abbrev pub extra : Bool → List Bool → List (List Bool) → List (List Bool)
@@ -12,6 +12,10 @@ extra false c cs = []
 abbrev pub others : List Node → List ℕ → List Bool → List (List Bool)
 others ns [] c = []
 others ns (x ∷ xs) c = others ns xs c ++ extra (has_bit ns c x) (slice_set c x true) (others ns xs (slice_set c x true))
+
+-- which nodes are choosers
+abbrev pub Choosing : List Node → List Bool → Type 0
+Choosing ns choosers = (x : ℕ) → x < length ns → bit choosers x ≡ is_chooser ns x (slice_get ns x)
 
 abbrev pub gets_two : List Node → ℕ → List Bool → Bool
 gets_two ns q c = nat_lt 1 (tokens ns (token ns c) q)

@@ -1,7 +1,8 @@
--- Rounds from a guess, and the bounds of a node's places.
-use Rattle.std.specs.Prelude.{◌≡◌, ℕ, zero, suc, ◌<◌, Bool, List, All, slice_get, slice_index_or}
+-- Rounds from a guess, the bounds of a node's places, and the empty slots at the end.
+use Rattle.std.specs.Prelude.{◌≡◌, ℕ, zero, suc, ◌<◌, ◌≤◌, Bool, List, Some, All, slice_get, slice_index_or}
 use Rattle.block_cases.specs.declared.token.CaseToken.{CaseToken}
 use Rattle.block_cases.specs.declared.token.CaseToken.TheVariants.{Absent}
+use Rattle.trips_isa.specs.declared.form.Role.TheVariants.{Empty}
 use Rattle.trips_isa.specs.declared.node.Node.{Node}
 use Rattle.block_cases.specs.Cases.{pulled, first}
 
@@ -14,8 +15,16 @@ pub record InPlace (n : Node) : Type 0 where
 abbrev pub AllInPlace : List Node → Type 0
 AllInPlace ns = All InPlace ns
 
+-- the nodes from `used` on are empty slots
+abbrev pub Spare : List Node → ℕ → Type 0
+Spare ns used = (x : ℕ) (n : Node) → used ≤ x → slice_get ns x ≡ Some n → n.role ≡ Empty
+
 abbrev pub tok_at : List CaseToken → ℕ → CaseToken
 tok_at ts x = slice_index_or ts x Absent
+
+-- no token from `used` on
+abbrev pub AbsentFrom : ℕ → List CaseToken → Type 0
+AbsentFrom used ts = (x : ℕ) → used ≤ x → tok_at ts x ≡ Absent
 
 -- what each node gives where its producers give h
 abbrev pub once : List Node → (ℕ → Bool) → (ℕ → CaseToken) → ℕ → CaseToken

@@ -3,6 +3,7 @@ ghost use Rattle.std.specs.Prelude.{nat_le, nat_lt, ◌≡◌, ◌<◌, ◌≤�
 ghost use Rattle.block_cases.specs.Nodes.{IsRanked, targets};
 ghost use Rattle.block_cases.specs.Cases.{bit, leads, deepest, is_chooser, is_copy, names_predicate, leads_from};
 ghost use Rattle.block_check.specs.Pass.{InPlace, AllInPlace};
+ghost use Rattle.block_check.specs.Found.{Choosing};
 ghost use Rattle.block_check.specs.Leads.{at_slot, leads_on, leads_at};
 
 use trips_isa::{Node, Role};
@@ -117,10 +118,10 @@ fn find_leads(nodes: &[Node], lead: &mut [bool])
 }
 
 /// Which nodes are choosers.
-pub fn find_choosers(nodes: &[Node], choosers: &mut [bool])
+pub(crate) fn find_choosers(nodes: &[Node], choosers: &mut [bool])
     requires in_place { AllInPlace nodes.now }
     requires choosers { length choosers.old ≡ length nodes.now }
-    ensures { (x : ℕ) → x < length nodes.now → bit choosers.new x ≡ is_chooser nodes.now x (slice_get nodes.now x) }
+    ensures { Choosing nodes.now choosers.new }
 {
     find_leads(nodes, choosers);
     for x in 0..nodes.len() {

@@ -2,16 +2,25 @@
 ghost use Rattle.std.specs.Prelude.{nat_le, nat_lt, ◌≡◌, ◌<◌, ◌≤◌, ◌+◌, ◌||◌, ◌&&◌, ◌==◌, ℕ, length, slice_index_or, slice_index, slice_get, slice_set, false, true, MatchResult, IfOk, IfErr};
 ghost use Rattle.block_cases.specs.Nodes.{IsRanked, HasCycle};
 ghost use Rattle.block_cases.specs.Cases.{bit};
-ghost use Rattle.block_check.specs.Pass.{InPlace, AllInPlace};
+ghost use Rattle.block_check.specs.Pass.{AllInPlace, Spare};
 ghost use Rattle.block_check.specs.Placing.{IsOrdered};
 ghost use Rattle.block_check.specs.Found.{Explored};
 ghost use Rattle.block_cases.specs.Good.{Good};
 ghost use Rattle.block_check.specs.Judged.{IsFault};
 
-use trips_isa::Node;
+use trips_isa::{Node, Role};
 use crate::fault::NodeFault;
 use crate::order::sort;
 use crate::search::explore;
+
+fn is_empty(role: Role) -> bool
+    ensures { result ≡ true → role ≡ Role.Empty }
+{
+    match role {
+        Role::Empty => true,
+        _ => false,
+    }
+}
 
 /// The least place below 448 that is marked, or 448.
 fn first_mark(marks: &[bool]) -> u16
@@ -45,13 +54,22 @@ fn first_wanted(marks: &[bool], wanted: &[bool]) -> u16
     448
 }
 
-fn judge_marks(nodes: &[Node], wanted: &[bool], count: usize, two: &[bool], none: &[bool]) -> Result<(), NodeFault>
+fn judge_marks(
+    nodes: &[Node],
+    wanted: &[bool],
+    count: usize,
+    two: &[bool],
+    none: &[bool],
+) -> Result<(), NodeFault>
     requires ranked { IsRanked nodes.now }
     requires wanted { length wanted.now ≡ 449 }
     requires two { length two.now ≡ 449 }
     requires none { length none.now ≡ 449 }
     requires explored { Explored nodes.now count two.now none.now }
-    ensures { MatchResult result (λ u. Good nodes.now (bit wanted.now)) (λ e. IsFault nodes.now (bit wanted.now) e) }
+    ensures {
+        MatchResult result
+            (λ u. Good nodes.now (bit wanted.now)) (IsFault nodes.now (bit wanted.now))
+    }
 {
     if count > 256 {
         return Err(NodeFault::TooManyCases);
@@ -73,29 +91,45 @@ fn judge_marks(nodes: &[Node], wanted: &[bool], count: usize, two: &[bool], none
     Ok(())
 }
 
+/// How many nodes stand before the empty slots at the end.
+fn count_used(nodes: &[Node]) -> usize
+    ensures used { result ≤ length nodes.now }
+    ensures spare { Spare nodes.now result }
+{
+    let mut used = nodes.len();
+    while used > 0 && is_empty(nodes[used - 1].role) {
+        used -= 1;
+    }
+    used
+}
+
 fn judge_ordered(nodes: &[Node], order: &[usize], wanted: &[bool]) -> Result<(), NodeFault>
     requires size { length nodes.now ≤ 160 }
     requires in_place { AllInPlace nodes.now }
     requires ordered { IsOrdered nodes.now order.now }
     requires wanted { length wanted.now ≡ 449 }
-    ensures { MatchResult result (λ u. Good nodes.now (bit wanted.now)) (λ e. IsFault nodes.now (bit wanted.now) e) }
+    ensures {
+        MatchResult result
+            (λ u. Good nodes.now (bit wanted.now)) (IsFault nodes.now (bit wanted.now))
+    }
 {
     let mut two_table = [false; 449];
     let mut none_table = [false; 449];
     let two = two_table.as_mut_slice();
     let none = none_table.as_mut_slice();
-    let count = explore(nodes, order, two, none);
+    let used = count_used(nodes);
+    let count = explore(nodes, used, order, two, none);
     judge_marks(nodes, wanted, count, two, none)
 }
 
-/// Whether a block is good; else its fault with the lowest number, at the least place.
-pub fn judge(nodes: &[Node], wanted: &[bool]) -> Result<(), NodeFault>
+/// Whether nodes are good; else their fault with the lowest number, at the least place.
+pub(crate) fn judge(nodes: &[Node], wanted: &[bool]) -> Result<(), NodeFault>
     requires size { length nodes.now ≤ 160 }
     requires in_place { AllInPlace nodes.now }
     requires wanted { length wanted.now ≡ 449 }
     ensures good { IfOk result (λ u. Good nodes.now (bit wanted.now)) }
     ensures ranked { IfOk result (λ u. IsRanked nodes.now) }
-    ensures fault { IfErr result (λ e. IsFault nodes.now (bit wanted.now) e) }
+    ensures fault { IfErr result (IsFault nodes.now (bit wanted.now)) }
 {
     let mut table = [0usize; 160];
     let order = &mut table[..nodes.len()];

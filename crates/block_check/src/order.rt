@@ -122,6 +122,68 @@ fn pass(nodes: &[Node], ranks: &mut [u8], order: &mut [usize], counts: &mut [u16
     placed
 }
 
+/// The node that has this place as an operand or as its predicate; a number past the nodes where
+/// none has.
+fn consumer(nodes: usize, place: u16) -> usize {
+    let slot = place as usize % 128;
+    if place < 384 && 128 <= nodes { nodes - 128 + slot } else { nodes }
+}
+
+/// Places the consumer at a place where all that feed it are placed.
+fn try_consumer(
+    nodes: &[Node],
+    ranks: &mut [u8],
+    order: &mut [usize],
+    counts: &mut [u16],
+    placed: usize,
+    place: u16,
+) -> usize
+    requires size { length nodes.now ≤ 160 }
+    requires in_place { AllInPlace nodes.now }
+    requires counts { length counts.old ≡ 768 }
+    requires counting { Counting nodes.now ranks.old counts.old }
+    requires placing { Placing nodes.now ranks.old order.old placed }
+    ensures placing { Placing nodes.now ranks.new order.new result }
+    ensures counting { Counting nodes.now ranks.new counts.new }
+    ensures more { placed ≤ result }
+{
+    let x = consumer(nodes.len(), place);
+    if x < nodes.len() {
+        return try_place(nodes, ranks, order, counts, placed, x);
+    }
+    placed
+}
+
+/// Tries the consumers of each node as soon as the node is placed, so that a block without stores
+/// before loads is placed in one go, whatever the order of its slots.
+fn follow(
+    nodes: &[Node],
+    ranks: &mut [u8],
+    order: &mut [usize],
+    counts: &mut [u16],
+    before: usize,
+) -> usize
+    requires size { length nodes.now ≤ 160 }
+    requires in_place { AllInPlace nodes.now }
+    requires counts { length counts.old ≡ 768 }
+    requires counting { Counting nodes.now ranks.old counts.old }
+    requires placing { Placing nodes.now ranks.old order.old before }
+    ensures placing { Placing nodes.now ranks.new order.new result }
+    ensures counting { Counting nodes.now ranks.new counts.new }
+    ensures more { before ≤ result }
+{
+    let mut placed = before;
+    let mut head = 0;
+    while head < placed {
+        let node = nodes[order[head]];
+        placed = try_consumer(nodes, ranks, order, counts, placed, node.first);
+        placed = try_consumer(nodes, ranks, order, counts, placed, node.second);
+        head += 1;
+    }
+    placed
+}
+
+/// Places what can be placed.
 fn place_all(nodes: &[Node], ranks: &mut [u8], order: &mut [usize], counts: &mut [u16]) -> usize
     requires size { length nodes.now ≤ 160 }
     requires in_place { AllInPlace nodes.now }
@@ -131,11 +193,13 @@ fn place_all(nodes: &[Node], ranks: &mut [u8], order: &mut [usize], counts: &mut
     ensures placing { Placing nodes.now ranks.new order.new result }
     ensures stuck { result < length nodes.now → AllStuck nodes.now ranks.new (length nodes.now) }
 {
-    let mut before = 0;
-    let mut placed = pass(nodes, ranks, order, counts, before);
-    while placed != before && placed < nodes.len() {
-        before = placed;
+    let first = pass(nodes, ranks, order, counts, 0);
+    let mut placed = follow(nodes, ranks, order, counts, first);
+    let mut changed = true;
+    while changed && placed < nodes.len() {
+        let before = placed;
         placed = pass(nodes, ranks, order, counts, before);
+        changed = placed != before;
     }
     placed
 }
@@ -150,7 +214,7 @@ fn count_with(nodes: &[Node], toks: &mut [CaseToken], counts: &mut [u16])
     for tok in toks.iter_mut() {
         *tok = CaseToken::Null;
     }
-    count_tokens(nodes, toks, counts);
+    count_tokens(nodes, nodes.len(), toks, counts);
 }
 
 /// Counts the targets that name each place.

@@ -1,15 +1,16 @@
 //! The search over the cases.
-ghost use Rattle.std.specs.Prelude.{◌≡◌, ◌<◌, ◌≤◌, ◌+◌, ◌*◌, ◌||◌, ◌&&◌, ◌==◌, ℕ, [], ◌∷◌, length, slice_index_or, slice_index, slice_get, slice_set, false, true, nat_lt, drop, All};
+ghost use Rattle.std.specs.Prelude.{◌≡◌, ◌<◌, ◌≤◌, ◌+◌, ◌||◌, ◌&&◌, ◌==◌, ℕ, List, Bool, [], ◌∷◌};
+ghost use Rattle.std.specs.Prelude.{length, slice_index, slice_get, true, nat_lt, drop, All};
 ghost use Rattle.block_cases.specs.Nodes.{IsRanked, targets, hits};
 ghost use Rattle.block_cases.specs.Cases.{bit, token, tokens, is_chooser, present};
 ghost use Rattle.block_check.specs.Placing.{IsOrdered};
-ghost use Rattle.block_check.specs.Pass.{InPlace, AllInPlace, tok_at};
-ghost use Rattle.block_check.specs.Found.{Explored, Added, others, gets_two, gets_none};
+ghost use Rattle.block_check.specs.Pass.{InPlace, AllInPlace, Spare, AbsentFrom, tok_at};
+ghost use Rattle.block_check.specs.Found.{Explored, Added, Choosing, others};
 
-use block_cases::CaseToken;
-use trips_isa::Node;
 use crate::chooser::find_choosers;
 use crate::pass::run;
+use block_cases::CaseToken;
+use trips_isa::Node;
 
 fn is_present(token: CaseToken) -> bool
     ensures { result ≡ present token }
@@ -25,24 +26,31 @@ fn add_tokens(counts: &mut [u16], node: Node)
     requires counts { length counts.old ≡ 768 }
     requires room { (q : ℕ) → q < 768 → slice_index counts.old q ≤ 1000 }
     requires in_place { InPlace node }
-    ensures { (q : ℕ) → q < 768 → slice_index counts.new q ≡ slice_index counts.old q + hits (targets node) q }
+    ensures {
+        (q : ℕ) → q < 768 →
+            slice_index counts.new q ≡ slice_index counts.old q + hits (targets node) q
+    }
 {
     counts[node.first as usize] += 1;
     counts[node.second as usize] += 1;
 }
 
 /// How many tokens each place gets.
-pub fn count_tokens(nodes: &[Node], toks: &[CaseToken], counts: &mut [u16])
+pub(crate) fn count_tokens(nodes: &[Node], used: usize, toks: &[CaseToken], counts: &mut [u16])
     requires size { length nodes.now ≤ 160 }
     requires in_place { AllInPlace nodes.now }
+    requires used { used ≤ length nodes.now }
     requires toks { length toks.now ≡ length nodes.now }
+    requires rest { AbsentFrom used toks.now }
     requires counts { length counts.old ≡ 768 }
-    ensures { (q : ℕ) → q < 768 → slice_index counts.new q ≡ tokens nodes.now (tok_at toks.now) q }
+    ensures {
+        (q : ℕ) → q < 768 → slice_index counts.new q ≡ tokens nodes.now (tok_at toks.now) q
+    }
 {
     for count in counts.iter_mut() {
         *count = 0;
     }
-    for x in 0..nodes.len() {
+    for x in 0..used {
         if is_present(toks[x]) {
             add_tokens(counts, nodes[x]);
         }
@@ -50,17 +58,31 @@ pub fn count_tokens(nodes: &[Node], toks: &[CaseToken], counts: &mut [u16])
 }
 
 /// Marks the places that get two tokens, and those that get none.
-fn mark(nodes: &[Node], toks: &[CaseToken], two: &mut [bool], none: &mut [bool])
+fn mark(
+    nodes: &[Node],
+    used: usize,
+    toks: &[CaseToken],
+    two: &mut [bool],
+    none: &mut [bool],
+)
     requires size { length nodes.now ≤ 160 }
     requires in_place { AllInPlace nodes.now }
+    requires used { used ≤ length nodes.now }
     requires toks { length toks.now ≡ length nodes.now }
+    requires rest { AbsentFrom used toks.now }
     requires two { length two.old ≡ 449 }
     requires none { length none.old ≡ 449 }
-    ensures two { (q : ℕ) → q < 449 → bit two.new q ≡ (bit two.old q || nat_lt 1 (tokens nodes.now (tok_at toks.now) q)) }
-    ensures none { (q : ℕ) → q < 449 → bit none.new q ≡ (bit none.old q || (tokens nodes.now (tok_at toks.now) q == 0)) }
+    ensures two {
+        (q : ℕ) → q < 449 →
+            bit two.new q ≡ (bit two.old q || nat_lt 1 (tokens nodes.now (tok_at toks.now) q))
+    }
+    ensures none {
+        (q : ℕ) → q < 449 →
+            bit none.new q ≡ (bit none.old q || (tokens nodes.now (tok_at toks.now) q == 0))
+    }
 {
     let mut counts = [0u16; 768];
-    count_tokens(nodes, toks, counts.as_mut_slice());
+    count_tokens(nodes, used, toks, counts.as_mut_slice());
     for q in 0..449 {
         two[q] = two[q] || counts[q] > 1;
         none[q] = none[q] || counts[q] == 0;
@@ -68,10 +90,21 @@ fn mark(nodes: &[Node], toks: &[CaseToken], two: &mut [bool], none: &mut [bool])
 }
 
 /// Visits a case.
-fn visit(nodes: &[Node], order: &[usize], bits: &[bool], toks: &mut [CaseToken], count: usize, two: &mut [bool], none: &mut [bool]) -> usize
+fn visit(
+    nodes: &[Node],
+    used: usize,
+    order: &[usize],
+    bits: &[bool],
+    toks: &mut [CaseToken],
+    count: usize,
+    two: &mut [bool],
+    none: &mut [bool],
+) -> usize
     requires size { length nodes.now ≤ 160 }
     requires ranked { IsRanked nodes.now }
     requires in_place { AllInPlace nodes.now }
+    requires used { used ≤ length nodes.now }
+    requires spare { Spare nodes.now used }
     requires bits { length bits.now ≡ length nodes.now }
     requires toks { length toks.old ≡ length nodes.now }
     requires count { count ≤ 256 }
@@ -79,10 +112,12 @@ fn visit(nodes: &[Node], order: &[usize], bits: &[bool], toks: &mut [CaseToken],
     requires none { length none.old ≡ 449 }
     ensures toks { (x : ℕ) → tok_at toks.new x ≡ token nodes.now bits.now x }
     ensures count { result ≤ 257 }
-    ensures added { Added nodes.now (bits.now ∷ []) count result two.old two.new none.old none.new }
+    ensures added {
+        Added nodes.now (bits.now ∷ []) count result two.old two.new none.old none.new
+    }
 {
-    run(nodes, order, bits, toks);
-    mark(nodes, toks, two, none);
+    run(nodes, used, order, bits, toks);
+    mark(nodes, used, toks, two, none);
     count + 1
 }
 
@@ -95,15 +130,48 @@ fn has_bit(choosers: &[bool], toks: &[CaseToken], x: usize) -> bool
     choosers[x] && is_present(toks[x])
 }
 
-/// Visits the cases that follow in the order from `at` on.
-fn search(nodes: &[Node], choosers: &[bool], order: &[usize], at: usize, bits: &mut [bool], toks: &[CaseToken], count: usize, two: &mut [bool], none: &mut [bool]) -> usize
+/// The first place in the order from `from` on that holds a chooser, or its end.
+fn next_chooser(nodes: &[Node], choosers: &[bool], order: &[usize], from: usize) -> usize
+    requires choosers { length choosers.now ≡ length nodes.now }
+    requires chosen { Choosing nodes.now choosers.now }
+    requires order { All (λ x. x < length nodes.now) order.now }
+    requires from { from ≤ length order.now }
+    ensures above { from ≤ result }
+    ensures within { result ≤ length order.now }
+    ensures same {
+        (c : List Bool) →
+            others nodes.now (drop from order.now) c ≡ others nodes.now (drop result order.now) c
+    }
+{
+    let mut at = from;
+    while at < order.len() && !choosers[order[at]] {
+        at += 1;
+    }
+    at
+}
+
+/// Visits the cases that follow in the order from `from` on.
+fn search(
+    nodes: &[Node],
+    used: usize,
+    choosers: &[bool],
+    order: &[usize],
+    from: usize,
+    bits: &mut [bool],
+    toks: &[CaseToken],
+    count: usize,
+    two: &mut [bool],
+    none: &mut [bool],
+) -> usize
     requires size { length nodes.now ≤ 160 }
     requires ranked { IsRanked nodes.now }
     requires in_place { AllInPlace nodes.now }
+    requires used { used ≤ length nodes.now }
+    requires spare { Spare nodes.now used }
     requires choosers { length choosers.now ≡ length nodes.now }
-    requires chosen { (x : ℕ) → x < length nodes.now → bit choosers.now x ≡ is_chooser nodes.now x (slice_get nodes.now x) }
+    requires chosen { Choosing nodes.now choosers.now }
     requires order { All (λ x. x < length nodes.now) order.now }
-    requires at { at ≤ length order.now }
+    requires from { from ≤ length order.now }
     requires bits { length bits.old ≡ length nodes.now }
     requires length { length toks.now ≡ length nodes.now }
     requires toks { (x : ℕ) → tok_at toks.now x ≡ token nodes.now bits.old x }
@@ -112,12 +180,18 @@ fn search(nodes: &[Node], choosers: &[bool], order: &[usize], at: usize, bits: &
     requires none { length none.old ≡ 449 }
     ensures bits { bits.new ≡ bits.old }
     ensures count { result ≤ 257 }
-    ensures added { Added nodes.now (others nodes.now (drop at order.now) bits.old) count result two.old two.new none.old none.new }
+    ensures added {
+        Added nodes.now (others nodes.now (drop from order.now) bits.old) count result
+            two.old two.new none.old none.new
+    }
 {
+    let at = next_chooser(nodes, choosers, order, from);
     if at >= order.len() || count > 256 {
         return count;
     }
-    let count = search(nodes, choosers, order, at + 1, bits, toks, count, two, none);
+    let count = search(
+        nodes, used, choosers, order, at + 1, bits, toks, count, two, none,
+    );
     let x = order[at];
     if count > 256 {
         return count;
@@ -129,19 +203,32 @@ fn search(nodes: &[Node], choosers: &[bool], order: &[usize], at: usize, bits: &
     bits[x] = true;
     let mut table = [CaseToken::Absent; 160];
     let next = &mut table[..nodes.len()];
-    let count = visit(nodes, order, bits, next, count, two, none);
-    let count = search(nodes, choosers, order, at + 1, bits, next, count, two, none);
+    let count = visit(nodes, used, order, bits, next, count, two, none);
+    let count = search(
+        nodes, used, choosers, order, at + 1, bits, next, count, two, none,
+    );
     bits[x] = before;
     count
 }
 
 /// Visits every case, or at least 257.
-fn explore_from(nodes: &[Node], choosers: &[bool], order: &[usize], bits: &mut [bool], toks: &mut [CaseToken], two: &mut [bool], none: &mut [bool]) -> usize
+fn explore_from(
+    nodes: &[Node],
+    used: usize,
+    choosers: &[bool],
+    order: &[usize],
+    bits: &mut [bool],
+    toks: &mut [CaseToken],
+    two: &mut [bool],
+    none: &mut [bool],
+) -> usize
     requires size { length nodes.now ≤ 160 }
     requires ordered { IsOrdered nodes.now order.now }
     requires in_place { AllInPlace nodes.now }
+    requires used { used ≤ length nodes.now }
+    requires spare { Spare nodes.now used }
     requires choosers { length choosers.now ≡ length nodes.now }
-    requires chosen { (x : ℕ) → x < length nodes.now → bit choosers.now x ≡ is_chooser nodes.now x (slice_get nodes.now x) }
+    requires chosen { Choosing nodes.now choosers.now }
     requires bits { length bits.old ≡ length nodes.now }
     requires toks { length toks.old ≡ length nodes.now }
     requires two { length two.old ≡ 449 }
@@ -157,15 +244,23 @@ fn explore_from(nodes: &[Node], choosers: &[bool], order: &[usize], bits: &mut [
     for bit in bits.iter_mut() {
         *bit = false;
     }
-    let count = visit(nodes, order, bits, toks, 0, two, none);
-    search(nodes, choosers, order, 0, bits, toks, count, two, none)
+    let count = visit(nodes, used, order, bits, toks, 0, two, none);
+    search(nodes, used, choosers, order, 0, bits, toks, count, two, none)
 }
 
 /// Visits every case, or at least 257, and marks the places that get two tokens in one, or none.
-pub fn explore(nodes: &[Node], order: &[usize], two: &mut [bool], none: &mut [bool]) -> usize
+pub(crate) fn explore(
+    nodes: &[Node],
+    used: usize,
+    order: &[usize],
+    two: &mut [bool],
+    none: &mut [bool],
+) -> usize
     requires size { length nodes.now ≤ 160 }
     requires ordered { IsOrdered nodes.now order.now }
     requires in_place { AllInPlace nodes.now }
+    requires used { used ≤ length nodes.now }
+    requires spare { Spare nodes.now used }
     requires two { length two.old ≡ 449 }
     requires none { length none.old ≡ 449 }
     ensures { Explored nodes.now result two.new none.new }
@@ -175,6 +270,8 @@ pub fn explore(nodes: &[Node], order: &[usize], two: &mut [bool], none: &mut [bo
     let mut bit_table = [false; 160];
     let mut tok_table = [CaseToken::Absent; 160];
     let choosers = &mut chooser_table[..n];
+    let bits = &mut bit_table[..n];
+    let toks = &mut tok_table[..n];
     find_choosers(nodes, choosers);
-    explore_from(nodes, choosers, order, &mut bit_table[..n], &mut tok_table[..n], two, none)
+    explore_from(nodes, used, choosers, order, bits, toks, two, none)
 }

@@ -1,14 +1,13 @@
-use Rattle.std.proofs.Common.{◌≡◌, ◌<◌, ◌≤◌, ◌+◌, ◌-◌, ℕ, length, slice_get, get_or, false, Some}
+use Rattle.std.proofs.Common.{◌≡◌, ◌<◌, ◌≤◌, ◌+◌, ◌-◌, ℕ, length, false, cond}
 use Rattle.block_check.specs.Placing.{Placing, AllStuck, Counting}
 use Rattle.block_check.proofs.order.place_all.Given as goal
 
-abbrev pub invariant-loop-placed : goal.invariant-loop-placed
-invariant-loop-placed l = record {
+abbrev pub invariant-loop-changed : goal.invariant-loop-changed
+invariant-loop-changed l = record {
   placing : Placing l.nodes l.ranks l.order l.placed;
   counting : Counting l.nodes l.ranks l.counts;
-  more : l.before ≤ l.placed;
-  stuck : l.placed ≡ l.before → AllStuck l.nodes l.ranks (length l.nodes);
+  stuck : l.changed ≡ false → AllStuck l.nodes l.ranks (length l.nodes);
 }
 
-abbrev pub decreases-loop-placed : goal.decreases-loop-placed
-decreases-loop-placed l = length l.nodes - l.before
+abbrev pub decreases-loop-changed : goal.decreases-loop-changed
+decreases-loop-changed l = (length l.nodes - l.placed) + cond l.changed 1 0

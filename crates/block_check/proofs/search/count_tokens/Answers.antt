@@ -4,6 +4,7 @@ use Rattle.block_cases.specs.Nodes.{targets, hits}
 use Rattle.block_cases.specs.Cases.{tokens, weighed, present}
 use Rattle.block_check.specs.Pass.{tok_at}
 use Rattle.block_check.proofs.Adding.{count_more, count_same, room_more, blank}
+use Rattle.block_check.proofs.Sparing.{tokens_spare}
 use Rattle.block_check.proofs.search.count_tokens.Goals as goal
 use Rattle.block_check.proofs.search.count_tokens.Goals.{then-is_present, else-is_present}
 
@@ -29,3 +30,10 @@ loop-x-preserved c =
             ∙ count_same c.args.nodes.now c.loop-x.x (get_or c.args.nodes.now c.loop-x.x blank) (tok_at c.args.toks.now) q _ here (sym c.is_present.ensures ∙ w.if-is_present.false) (c.loop-x.invariant.counted q lt);
       }
     ]
+
+pub returns : goal.returns
+returns c q lt =
+    let all : c.loop-x.x ≡ c.args.used = omega arith in
+    c.loop-x.invariant.counted q lt
+    ∙ ap (λ k. tokens (take k c.args.nodes.now) (tok_at c.args.toks.now) q) all
+    ∙ tokens_spare c.args.nodes.now c.args.used (tok_at c.args.toks.now) q c.requires.rest
