@@ -11,3 +11,4 @@ pub mod Casts
 pub mod Inside
 pub mod Begins
 pub mod Parts
+pub mod Stmts

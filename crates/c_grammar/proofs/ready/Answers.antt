@@ -20,5 +20,7 @@ use Rattle.c_grammar.proofs.Begins.{begins_is, type_alone, writes_shorter}
 
 use Rattle.c_grammar.proofs.Parts.{locals_piece}
 
+use Rattle.c_grammar.proofs.Stmts.{stmt_piece}
+
 pub returns : goal.returns
 returns c = refl
