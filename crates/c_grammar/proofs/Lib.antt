@@ -12,3 +12,5 @@ pub mod Inside
 pub mod Begins
 pub mod Parts
 pub mod Stmts
+pub mod Below
+pub mod Globals
