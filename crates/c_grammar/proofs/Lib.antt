@@ -14,3 +14,4 @@ pub mod Parts
 pub mod Stmts
 pub mod Below
 pub mod Globals
+pub mod Units

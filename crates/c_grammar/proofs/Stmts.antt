@@ -57,6 +57,9 @@ InitIs d may i f t = Writes may (init i) d f t
 abbrev pub EntriesAre : ℕ → Rel (List Stmt)
 EntriesAre d may ss f t = Writes may (entries ss) d f t
 
+abbrev pub BodyIs : ℕ → Rel Stmt
+BodyIs d = Then (Is mark.LeftBrace) (λ l. Then (EntriesAre d) (λ ss. Done (at l (node.Compound ss))))
+
 abbrev no_else : List Stmt → Tokens → Type 0
 no_else s t = is_word key.Else t ≡ false
 
@@ -244,6 +247,13 @@ module _ (m d : ℕ) (nested : Nested) (deeper : Deeper nested m d) (below : Bel
   compound_piece =
       seq (λ l ts. and_then (entries_of nested below ts) (λ ss ts. stmt_here (at l (node.Compound ss)) ts)) (mark_piece mark.LeftBrace m)
       (λ l. seq (λ ss ts. stmt_here (at l (node.Compound ss)) ts) entries_piece (λ ss. done pair_tree (false, at l (node.Compound ss)) m (λ t h e. never e)) (λ t. omega arith) (λ may x y u t r h. tt)) (λ t. omega arith) (λ may x y u t r h. tt)
+
+  -- the body of a function
+  pub body_piece : Piece same_tree (BodyIs d) any always always (λ t. punct 0 mark.LeftBrace ∷ punct 0 mark.RightBrace ∷ t) m (compound_of nested below)
+  unfolding compound_of
+  body_piece =
+      seq (λ l ts. and_then (entries_of nested below ts) (λ ss ts. stmt_here (at l (node.Compound ss)) ts)) (mark_piece mark.LeftBrace m)
+      (λ l. seq (λ ss ts. stmt_here (at l (node.Compound ss)) ts) entries_piece (λ ss. done same_tree (at l (node.Compound ss)) m (λ t h. tt)) (λ t. omega arith) (λ may x y u t r h. tt)) (λ t. omega arith) (λ may x y u t r h. tt)
 
   abbrev PlainIs : Rel (Bool × Stmt)
   PlainIs = Then (Level 16 d) (λ e. Then (Is mark.Semicolon) (λ k. Done (false, at e.line (node.Plain (Some e)))))

@@ -10,3 +10,4 @@ pub mod ModelTypes
 pub mod ModelExpressions
 pub mod ModelStatements
 pub mod ModelUnits
+pub mod Places

@@ -25,5 +25,7 @@ use Rattle.c_grammar.proofs.Stmts.{stmt_piece}
 use Rattle.c_grammar.proofs.Below.{below_good}
 use Rattle.c_grammar.proofs.Globals.{globals_piece, params_piece}
 
+use Rattle.c_grammar.proofs.Units.{unit_piece}
+
 pub returns : goal.returns
 returns c = refl
