@@ -15,3 +15,5 @@ pub mod Stmts
 pub mod Below
 pub mod Globals
 pub mod Units
+pub mod Late
+pub mod Whole

@@ -27,5 +27,8 @@ use Rattle.c_grammar.proofs.Globals.{globals_piece, params_piece}
 
 use Rattle.c_grammar.proofs.Units.{unit_piece}
 
+use Rattle.c_grammar.proofs.Late.{units_far}
+use Rattle.c_grammar.proofs.Whole.{exact, only}
+
 pub returns : goal.returns
 returns c = refl
