@@ -17,3 +17,4 @@ pub mod Globals
 pub mod Units
 pub mod Late
 pub mod Whole
+pub mod Parsed

@@ -11,3 +11,4 @@ pub mod ModelExpressions
 pub mod ModelStatements
 pub mod ModelUnits
 pub mod Places
+pub mod Answers
