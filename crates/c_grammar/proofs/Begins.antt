@@ -99,10 +99,10 @@ until_no_type (given semicolon x) = starts_no_type _ (level_starts x)
 pub locals_begin : {may : May} {d : ℕ} {ss : List Stmt} {f t : Tokens} → Writes may (locals ss) d f t → begins_type f ≡ true
 locals_begin (declaration x y) = types_begin x
 
-type_no_word : (k : Key) → is_type (form.Key k) ≡ false → (ts : Tokens) → begins_type ts ≡ true → is_word k ts ≡ false
+pub type_no_word : (k : Key) → is_type (form.Key k) ≡ false → (ts : Tokens) → begins_type ts ≡ true → is_word k ts ≡ false
 type_no_word k no' ts h = apart is_type (is_key k) (λ f p q. false≢true (sym no' ∙ ap is_type (sym (key_is k f q)) ∙ p)) ts h
 
-type_no_mark : (k : Mark) → (ts : Tokens) → begins_type ts ≡ true → is_next k ts ≡ false
+pub type_no_mark : (k : Mark) → (ts : Tokens) → begins_type ts ≡ true → is_next k ts ≡ false
 type_no_mark k ts h = apart is_type (is_mark k) (λ f p q. false≢true (ap is_type (sym (mark_is k f q)) ∙ p)) ts h
 
 pub entry_no_else : {may : May} {d : ℕ} {ss : List Stmt} {f t : Tokens} → Writes may (entry ss) d f t → is_word key.Else f ≡ false

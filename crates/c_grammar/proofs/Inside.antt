@@ -161,7 +161,7 @@ module _ (m d : ℕ) (nested : Nested) (known : Deeper nested m d) where
 pub not_deeper : (m d : ℕ) → d + 0 ≡ m → leb (suc d) m ≡ false
 not_deeper m d e = is_false (leb (suc d) m) (λ h. let h' = leb-true (suc d) m h in omega (arith, e, h'))
 
-never : {A : Type 0} → false ≡ true → A
+pub never : {A : Type 0} → false ≡ true → A
 never e = absurd (false≢true e)
 
 pub inside_known : (m left d : ℕ) → d + left ≡ m → Deeper (inside left) m d

@@ -11,3 +11,10 @@ pub mod Casts
 pub mod Inside
 pub mod Begins
 pub mod Parts
+pub mod Stmts
+pub mod Below
+pub mod Globals
+pub mod Units
+pub mod Late
+pub mod Whole
+pub mod Parsed

@@ -74,7 +74,7 @@ expr_is e t = Ok (e, t)
 abbrev shape_here : ArraySize × Option Expr → Tokens → Out (ArraySize × Option Expr)
 shape_here s t = Ok (s, t)
 
-abbrev stmt_here : Stmt → Tokens → Out Stmt
+abbrev pub stmt_here : Stmt → Tokens → Out Stmt
 stmt_here s t = Ok (s, t)
 
 module _ (m d : ℕ) (nested : Nested) (known : Deeper nested m d) where

@@ -10,3 +10,5 @@ pub mod ModelTypes
 pub mod ModelExpressions
 pub mod ModelStatements
 pub mod ModelUnits
+pub mod Places
+pub mod Answers

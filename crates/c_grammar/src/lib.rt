@@ -1,13 +1,15 @@
-//! The grammar of the C profile as a relation, the model of its parser, and the theorems on both.
+//! The grammar of the C profile (C17 6.5 to 6.9) as a relation between trees and tokens, where the fault of
+//! any other token list stands, and a model parser of which both are proved.
+//!
+//! The relation has one constructor for each production (`specs/Expressions.antt`, `specs/Statements.antt`,
+//! `specs/Units.antt`); `specs/Places.antt` and `specs/Answers.antt` say which list is accepted and where a
+//! fault stands. The two functions here carry the laws; they do nothing when they run.
 #![tactic(auto)]
 
-ghost use Rattle.std.specs.Prelude.{◌≡◌, true};
+ghost use Rattle.c_grammar.specs.Answers.{OneTree};
 
-use c_tree::Lexeme;
-
-pub fn ready(x: &Lexeme) -> bool
-    ensures { result ≡ true }
+/// A list of tokens has at most one tree, whatever depth is allowed.
+pub fn one_tree()
+    ensures law { OneTree }
 {
-    let _line = x.line;
-    true
 }

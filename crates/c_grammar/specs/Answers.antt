@@ -1,0 +1,52 @@
+-- What is answered of a list of tokens: its tree, or a fault and the line of its place.
+use Rattle.std.specs.Prelude.{◌≡◌, ℕ, List, [], ◌∷◌, ◌++◌}
+use Rattle.c_tree.specs.declared.token.Lexeme.{Lexeme}
+use Rattle.c_tree.specs.declared.tree.Top.{Top}
+use Rattle.c_grammar.specs.Tokens.{Tokens, May}
+use Rattle.c_grammar.specs.Units.{Units, unit}
+use Rattle.c_grammar.specs.Places.{Rel, Spelled, SyntaxAt, EndsEarly, DeepAt}
+
+-- the deepest construct
+abbrev pub limit : ℕ
+limit = 64
+
+abbrev pub UnitIs : Rel (List Top)
+UnitIs may xs f t = Units may (unit xs) f t
+
+-- the tokens spell the unit, and no construct of it is too deep
+abbrev pub IsUnit : Tokens → List Top → Type 0
+IsUnit tokens xs = Spelled UnitIs limit xs tokens
+
+-- the line of the last token, or 1
+abbrev pub last_line : Tokens → ℕ
+last_line [] = 1
+last_line (t ∷ []) = t.line
+last_line (t ∷ u ∷ ts) = last_line (u ∷ ts)
+
+-- The tokens are no unit, whatever the depth; the line is that of the first token with which no unit goes on,
+-- or the last one's where the tokens only end too early.
+pub data HasSyntaxFault (tokens : Tokens) : ℕ → Type 0 where
+  wrong_token : {front back : Tokens} {t : Lexeme} → SyntaxAt UnitIs limit tokens front t back → HasSyntaxFault tokens t.line
+  too_short : EndsEarly UnitIs limit tokens → HasSyntaxFault tokens (last_line tokens)
+
+-- the line is that of the first token that opens a construct that is too deep
+pub data IsTooDeep (tokens : Tokens) : ℕ → Type 0 where
+  opener : {front back : Tokens} {t : Lexeme} → DeepAt UnitIs limit tokens front t back → IsTooDeep tokens t.line
+
+pub data Answer : Type 0 where
+  tree : List Top → Answer
+  syntax : ℕ → Answer
+  too_deep : ℕ → Answer
+
+abbrev pub Answers : Tokens → Answer → Type 0
+Answers tokens (tree xs) = IsUnit tokens xs
+Answers tokens (syntax l) = HasSyntaxFault tokens l
+Answers tokens (too_deep l) = IsTooDeep tokens l
+
+-- a list of tokens has at most one tree, whatever depth is allowed
+abbrev pub OneTree : Type 0
+OneTree = (m : ℕ) (tokens : Tokens) (xs ys : List Top) → Spelled UnitIs m xs tokens → Spelled UnitIs m ys tokens → xs ≡ ys
+
+-- every list of tokens has an answer, and only one
+abbrev pub OneAnswer : Type 0
+OneAnswer = (tokens : Tokens) → (a : Answer) × Answers tokens a × ((b : Answer) → Answers tokens b → b ≡ a)

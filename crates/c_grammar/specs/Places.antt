@@ -1,0 +1,71 @@
+-- Which token lists are accepted, and where the fault of any other stands; for any relation that says what
+-- spells a whole text.
+use Rattle.std.specs.Prelude.{◌≡◌, ℕ, suc, Bool, true, false, List, [], ◌∷◌, ◌++◌, Result, Ok, Err}
+use Rattle.c_tree.specs.declared.token.Lexeme.{Lexeme}
+use Rattle.c_grammar.specs.Tokens.{Tokens, May, within, before, late, any_depth}
+use Rattle.c_grammar.specs.Parsing.{Out, Stop}
+
+-- the tokens from the first list up to the second spell the tree, under a test of openers
+abbrev pub Rel : Type 0 → Type 1
+Rel X = May → X → Tokens → Tokens → Type 0
+
+module _ {X : Type 0} (R : Rel X) where
+  abbrev pub Spelled : ℕ → X → Tokens → Type 0
+  Spelled m x tokens = R (within m) x tokens []
+
+  -- some list of the grammar, of any depth and length, begins with the front
+  abbrev pub Starts : Tokens → Type 0
+  Starts front = (rest : Tokens) × (x : X) × R any_depth x (front ++ rest) []
+
+  -- some list does, in which no token of the front opens a depth beyond m
+  abbrev pub StartsWithin : ℕ → Tokens → Type 0
+  StartsWithin m front = (rest : Tokens) × (x : X) × R (before m rest) x (front ++ rest) []
+
+  -- some list does, in which no token of the front but the last one does
+  abbrev pub StartsBut : ℕ → Tokens → Lexeme → Type 0
+  StartsBut m front t = (rest : Tokens) × (x : X) × R (late m rest) x (front ++ t ∷ rest) []
+
+  -- some list begins with the tokens, in which none of them but maybe the last one does
+  abbrev pub StartsLate : ℕ → Tokens → Type 0
+  StartsLate m tokens = (rest : Tokens) × (x : X) × R (late m rest) x (tokens ++ rest) []
+
+  -- the first token with which the tokens do not start
+  pub record SyntaxAt (m : ℕ) (tokens front : Tokens) (t : Lexeme) (back : Tokens) : Type 0 where
+    pub split : tokens ≡ front ++ t ∷ back
+    pub before_it : StartsWithin m front
+    pub with_it : Starts (front ++ t ∷ []) → ⊥
+
+  -- the tokens start, and only end too early
+  pub record EndsEarly (m : ℕ) (tokens : Tokens) : Type 0 where
+    pub starts : StartsLate m tokens
+    pub is_none : (x : X) → R any_depth x tokens [] → ⊥
+
+  -- the first token that opens a depth beyond m, in every list that begins so
+  pub record DeepAt (m : ℕ) (tokens front : Tokens) (t : Lexeme) (back : Tokens) : Type 0 where
+    pub split : tokens ≡ front ++ t ∷ back
+    pub but_for_it : StartsBut m front t
+    pub with_it : StartsWithin m (front ++ t ∷ []) → ⊥
+    pub not_early : EndsEarly m tokens → ⊥
+
+  -- what a stop says: whether the depth is at fault, and the tokens from it on
+  abbrev pub FaultAt : ℕ → Tokens → Bool → Tokens → Type 0
+  FaultAt m tokens false [] = EndsEarly m tokens
+  FaultAt m tokens false (t ∷ back) = (front : Tokens) × SyntaxAt m tokens front t back
+  FaultAt m tokens true [] = ⊥
+  FaultAt m tokens true (t ∷ back) = (front : Tokens) × DeepAt m tokens front t back
+
+-- a token that would open too deep and is the last one only ends the text too early
+abbrev pub settle_stop : Bool → Tokens → Stop
+settle_stop true (t ∷ []) = record { deep = false; rest = [] }
+settle_stop true [] = record { deep = true; rest = [] }
+settle_stop true (t ∷ u ∷ rest) = record { deep = true; rest = t ∷ u ∷ rest }
+settle_stop false rest = record { deep = false; rest = rest }
+
+abbrev pub settle : {A : Type 0} → Out A → Out A
+settle (Ok p) = Ok p
+settle (Err s) = Err (settle_stop s.deep s.rest)
+
+-- what an outcome says of the tokens
+abbrev pub Exact : {X : Type 0} → Rel X → ℕ → Tokens → Out X → Type 0
+Exact R m tokens (Ok p) = (p.1 ≡ []) × Spelled R m p.0 tokens
+Exact R m tokens (Err s) = FaultAt R m tokens s.deep s.rest
