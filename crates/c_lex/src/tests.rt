@@ -1,6 +1,6 @@
 //! Texts with the tokens or the fault that C17 and docs/LANGUAGE.md give them.
 
-use crate::{LexFault, MOST, lex};
+use crate::{LexFault, MOST_TOKENS, lex};
 use c_tree::{Form, Key, Kind, Lexeme, Mark};
 use std::test::Fail;
 
@@ -218,9 +218,9 @@ fn lexes_each_text_as_the_standard_does(rt: HostRuntime) {
 
 #[test]
 fn refuses_the_first_token_past_the_limit(rt: HostRuntime) -> Result<(), Fail> {
-    let mut text = vec![in rt.alloc(); b';'; MOST]?;
+    let mut text = vec![in rt.alloc(); b';'; MOST_TOKENS]?;
     text.push(b'\n')?;
-    assert!(rt; lex(rt.alloc(), &text).is_ok_and(|tokens| tokens.len() == MOST));
+    assert!(rt; lex(rt.alloc(), &text).is_ok_and(|tokens| tokens.len() == MOST_TOKENS));
     for (next, fault) in [
         (b';', LexFault::TooManyTokens(2)),
         (b'@', LexFault::BadByte(2)),
