@@ -1,4 +1,7 @@
-//! Finds a row of a table by a guess: the row that the bytes may have, compared with them.
+//! Finds a row of a table by a guess: the one row that the bytes may have is compared with them.
+//!
+//! Row `r` of a table stands at the spread of its bytes. The proof tries this of each row, so that
+//! no table and no spread can be changed alone.
 
 ghost use Rattle.std.specs.Prelude.{◌≡◌, ◌<◌, map, length, slice_index};
 ghost use Rattle.c_lex.specs.Tables.{lookup, keywords, marks};

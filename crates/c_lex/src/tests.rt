@@ -1,6 +1,6 @@
 //! Texts with the tokens or the fault that C17 and docs/LANGUAGE.md give them.
 
-use crate::{LexFault, MOST, lex};
+use crate::{LexFault, MOST_TOKENS, lex};
 use c_tree::{Form, Key, Kind, Lexeme, Mark};
 use std::test::Fail;
 
@@ -16,7 +16,7 @@ enum Want {
 
 type Row = (&'static [u8], Result<&'static [(u32, Want)], LexFault>);
 
-const ROWS: [Row; 74] = [
+const ROWS: [Row; 82] = [
     (b"", Ok(&[])),
     (b" \t\n\x0B\x0C\r", Ok(&[])),
     (
@@ -173,6 +173,21 @@ const ROWS: [Row; 74] = [
     (b"#include", Err(LexFault::Directive(1))),
     (b"#define A 1\n", Err(LexFault::Directive(1))),
     (b"x #include <stdio.h>", Err(LexFault::BadByte(1))),
+    // Whole texts, and texts that end too early.
+    (
+        b"int main(void) { return 18446744073709551616; }",
+        Err(LexFault::BadLiteral(1)),
+    ),
+    (
+        b"int main(void) { return 0xE+1; }",
+        Err(LexFault::BadLiteral(1)),
+    ),
+    (b"/*", Err(LexFault::Unclosed(1))),
+    (b"'", Err(LexFault::BadLiteral(1))),
+    (b"x\n'\\", Err(LexFault::BadLiteral(2))),
+    (b"\n#", Err(LexFault::Directive(2))),
+    (b"/* */ #include <stdio.h>", Err(LexFault::BadByte(1))),
+    (b"#include <stdio.h>\r\n", Err(LexFault::Directive(1))),
     // Other bytes.
     (b"\n@", Err(LexFault::BadByte(2))),
     (b"\0", Err(LexFault::BadByte(1))),
@@ -218,9 +233,9 @@ fn lexes_each_text_as_the_standard_does(rt: HostRuntime) {
 
 #[test]
 fn refuses_the_first_token_past_the_limit(rt: HostRuntime) -> Result<(), Fail> {
-    let mut text = vec![in rt.alloc(); b';'; MOST]?;
+    let mut text = vec![in rt.alloc(); b';'; MOST_TOKENS]?;
     text.push(b'\n')?;
-    assert!(rt; lex(rt.alloc(), &text).is_ok_and(|tokens| tokens.len() == MOST));
+    assert!(rt; lex(rt.alloc(), &text).is_ok_and(|tokens| tokens.len() == MOST_TOKENS));
     for (next, fault) in [
         (b';', LexFault::TooManyTokens(2)),
         (b'@', LexFault::BadByte(2)),

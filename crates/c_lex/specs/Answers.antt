@@ -1,0 +1,37 @@
+-- What the lexer answers.
+use Rattle.std.specs.Prelude.{◌≡◌, ◌≤◌, ℕ, length}
+use Rattle.c_lex.specs.declared.fault.LexFault.{LexFault}
+use Rattle.c_lex.specs.declared.fault.LexFault.TheVariants as fault
+use Rattle.c_lex.specs.Bytes.{Bytes}
+use Rattle.c_lex.specs.Lexes.{Tokens, Lexes, Fault, BadByte, BadLiteral, Unclosed, TooManyTokens, Directive, FaultAt}
+
+-- the error is this fault, with this line
+abbrev pub Says : LexFault → Fault → ℕ → Type 0
+Says (fault.BadByte l) f line = (f ≡ BadByte) × (l ≡ line)
+Says (fault.BadLiteral l) f line = (f ≡ BadLiteral) × (l ≡ line)
+Says (fault.Unclosed l) f line = (f ≡ Unclosed) × (l ≡ line)
+Says (fault.TooManyTokens l) f line = (f ≡ TooManyTokens) × (l ≡ line)
+Says (fault.Directive l) f line = (f ≡ Directive) × (l ≡ line)
+Says fault.Memory f line = ⊥
+
+-- the text has these tokens, few enough
+abbrev pub Lexed : ℕ → Bytes → Tokens → Type 0
+Lexed most text ts = Lexes text ts × (length ts ≤ most)
+
+-- the fault of the text, or want of memory
+abbrev pub Fails : ℕ → Bytes → LexFault → Type 0
+Fails most text (fault.BadByte line) = FaultAt most text BadByte line
+Fails most text (fault.BadLiteral line) = FaultAt most text BadLiteral line
+Fails most text (fault.Unclosed line) = FaultAt most text Unclosed line
+Fails most text (fault.TooManyTokens line) = FaultAt most text TooManyTokens line
+Fails most text (fault.Directive line) = FaultAt most text Directive line
+Fails most text fault.Memory = Unit {0}
+
+abbrev pub IsMemory : LexFault → Type 0
+IsMemory fault.Memory = Unit {0}
+IsMemory _ = ⊥
+
+-- the fault comes, unless memory runs out
+abbrev pub Tells : Fault → ℕ → LexFault → Type 0
+Tells f line fault.Memory = Unit {0}
+Tells f line e = Says e f line
