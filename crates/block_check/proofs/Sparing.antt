@@ -30,7 +30,7 @@ pulled_spare ns used x v f s le = go (slice_get ns x) refl
     go : (o : Option Node) → slice_get ns x ≡ o → pulled o v f ≡ Absent
     go None e = refl
     go (Some n) e =
-        ap (λ r. if_matched (matches n.sense (f (256 + n.slot))) (gives r v (f n.slot) (f (128 + n.slot)))) (s x n le e)
+        ap (λ r. if_matched (matches n.sense (f (256 + n.slot))) (gives r v (f n.slot) (f (128 + n.slot)))) (s x n le e).role
         ∙ none (matches n.sense (f (256 + n.slot)))
 
 weighed_none : (t : CaseToken) (k : ℕ) → t ≡ Absent → weighed t k ≡ 0

@@ -2,7 +2,7 @@
 ghost use Rattle.std.specs.Prelude.{nat_le, nat_lt, ◌≡◌, ◌<◌, ◌≤◌, ◌+◌, ◌||◌, ◌&&◌, ◌==◌, ℕ, length, slice_index_or, slice_index, slice_get, slice_set, false, true, MatchResult, IfOk, IfErr};
 ghost use Rattle.block_cases.specs.Nodes.{IsRanked, HasCycle};
 ghost use Rattle.block_cases.specs.Cases.{bit};
-ghost use Rattle.block_check.specs.Pass.{AllInPlace, Spare};
+ghost use Rattle.block_check.specs.Pass.{AllInPlace, IsSpare, Spare};
 ghost use Rattle.block_check.specs.Placing.{IsOrdered};
 ghost use Rattle.block_check.specs.Found.{Explored};
 ghost use Rattle.block_cases.specs.Good.{Good};
@@ -20,6 +20,12 @@ fn is_empty(role: Role) -> bool
         Role::Empty => true,
         _ => false,
     }
+}
+
+fn is_spare(node: Node) -> bool
+    ensures { result ≡ true → IsSpare node }
+{
+    is_empty(node.role) && node.first == 700 && node.second == 700
 }
 
 /// The least place below 448 that is marked, or 448.
@@ -97,7 +103,7 @@ fn count_used(nodes: &[Node]) -> usize
     ensures spare { Spare nodes.now result }
 {
     let mut used = nodes.len();
-    while used > 0 && is_empty(nodes[used - 1].role) {
+    while used > 0 && is_spare(nodes[used - 1]) {
         used -= 1;
     }
     used

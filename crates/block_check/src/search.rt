@@ -272,6 +272,6 @@ pub(crate) fn explore(
     let choosers = &mut chooser_table[..n];
     let bits = &mut bit_table[..n];
     let toks = &mut tok_table[..n];
-    find_choosers(nodes, choosers);
+    find_choosers(nodes, used, order, choosers);
     explore_from(nodes, used, choosers, order, bits, toks, two, none)
 }
