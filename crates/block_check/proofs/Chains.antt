@@ -5,7 +5,7 @@ use Rattle.trips_isa.specs.declared.node.Node.{Node}
 use Rattle.block_cases.specs.Nodes.{targets, names, Edge, Ranked, IsRanked}
 use Rattle.block_cases.specs.Cases.{bit, is_copy, names_predicate, asks, through, leads_from, leads, deepest}
 use Rattle.block_check.specs.Pass.{InPlace, AllInPlace, Spare}
-use Rattle.block_check.specs.Leads.{at_slot, leads_on, leads_at, FalseFrom, led_from}
+use Rattle.block_check.specs.Leads.{at_slot, leads_on, leads_at, FalseFrom, led_from, NoneNamesPredicate}
 use Rattle.block_cases.proofs.Steady.{deepest_is, to_left}
 use Rattle.block_check.proofs.Rounds.{slot_fits, far_node}
 
@@ -74,7 +74,7 @@ high_slot (m ∷ ms) q f h le = ap₂ (λ p r. p || r) here (high_slot ms q (λ 
         go true = refl
         go false = refl
 
-bit_past : (l : List Bool) (x : ℕ) → length l ≤ x → bit l x ≡ false
+pub bit_past : (l : List Bool) (x : ℕ) → length l ≤ x → bit l x ≡ false
 bit_past [] x h = refl
 bit_past (v ∷ vs) zero h = absurd (omega arith)
 bit_past (v ∷ vs) (suc x) h = bit_past vs x (omega arith)
@@ -168,3 +168,26 @@ all_led ns r k f g le e (inr all) x = e x ∙ many_led ns r.0 r.1 f k deepest x 
 
 pub mark_more : (ns : List Node) (x : ℕ) (n : Node) (s : ℕ) (f : ℕ → Bool) (old new : Bool) → slice_get ns x ≡ Some n → old ≡ at_slot (take x ns) s f → new ≡ (old || (is_copy n.role && ((n.slot == s) && f x))) → new ≡ at_slot (take (x + 1) ns) s f
 mark_more ns x n s f old new e a b = b ∙ ap (λ v. v || (is_copy n.role && ((n.slot == s) && f x))) a ∙ sym (at_slot_more ns x n s f e)
+
+pub spare_names_none : (ns : List Node) (used x : ℕ) (n : Node) → Spare ns used → used ≤ x → slice_get ns x ≡ Some n → names_predicate (targets n) ≡ false
+spare_names_none ns used x n s le e = let spare = s x n le e in ap₂ (λ a b. names_predicate (a ∷ b ∷ [])) spare.first spare.second
+
+-- where no predicate is named nothing leads on
+none_through : (ms : List Node) (ts : List ℕ) (f : ℕ → Bool) → ((x : ℕ) → f x ≡ false) → through ms ts f ≡ false
+none_through [] ts f h = refl
+none_through (m ∷ ms) ts f h = ap₂ (λ a b. a || b) (head (is_copy m.role && names ts m.slot)) (none_through ms ts (λ y. f (suc y)) (λ x. h (suc x)))
+  where
+    head : (b : Bool) → asks b f ≡ false
+    head true = h 0
+    head false = refl
+
+none_lead : (ns : List Node) → NoneNamesPredicate ns → (k x : ℕ) → leads ns k x ≡ false
+none_lead ns h zero x = refl
+none_lead ns h (suc k) x = go (slice_get ns x) refl (λ y. none_lead ns h k y)
+  where
+    go : (o : Option Node) → slice_get ns x ≡ o → ((y : ℕ) → leads ns k y ≡ false) → leads_from ns o (leads ns k) ≡ false
+    go None e r = refl
+    go (Some n) e r = ap₂ (λ a b. a || b) (h x n e) (none_through ns (targets n) (leads ns k) r)
+
+pub no_leads : (ns : List Node) → NoneNamesPredicate ns → (x : ℕ) → false ≡ leads ns deepest x
+no_leads ns h x = sym (none_lead ns h deepest x)

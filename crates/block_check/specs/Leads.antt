@@ -23,3 +23,6 @@ FalseFrom used l = (x : ℕ) → used ≤ x → bit l x ≡ false
 abbrev pub led_from : List Node → (ℕ → Bool) → ℕ → ℕ → Bool
 led_from ns f zero x = f x
 led_from ns f (suc k) x = leads_from ns (slice_get ns x) (led_from ns f k)
+
+abbrev pub NoneNamesPredicate : List Node → Type 0
+NoneNamesPredicate ns = (x : ℕ) (n : Node) → slice_get ns x ≡ Some n → names_predicate (targets n) ≡ false

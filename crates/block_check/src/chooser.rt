@@ -4,7 +4,7 @@ ghost use Rattle.block_cases.specs.Nodes.{IsRanked, targets};
 ghost use Rattle.block_cases.specs.Cases.{bit, leads, deepest, is_chooser, is_copy, names_predicate, leads_from};
 ghost use Rattle.block_check.specs.Pass.{InPlace, AllInPlace, Spare};
 ghost use Rattle.block_check.specs.Found.{Choosing};
-ghost use Rattle.block_check.specs.Leads.{at_slot, leads_on, leads_at, FalseFrom};
+ghost use Rattle.block_check.specs.Leads.{at_slot, leads_on, leads_at, FalseFrom, NoneNamesPredicate};
 
 use trips_isa::{Node, Role};
 
@@ -60,13 +60,16 @@ fn is_predicate(place: u16) -> bool
     256 <= place && place < 384
 }
 
+fn names_predicate(node: Node) -> bool
+    ensures { result ≡ names_predicate (targets node) }
+{
+    is_predicate(node.first) || is_predicate(node.second)
+}
+
 fn goes_on(node: Node, left: &[bool]) -> bool
     ensures { result ≡ leads_on node (bit left.now) }
 {
-    is_predicate(node.first)
-        || is_predicate(node.second)
-        || left_at(left, node.first)
-        || left_at(left, node.second)
+    names_predicate(node) || left_at(left, node.first) || left_at(left, node.second)
 }
 
 fn put(lead: &mut [bool], x: usize, leads: bool) -> bool
@@ -148,13 +151,33 @@ fn guess_leads(
     requires left { length left.old ≡ 512 }
     ensures rest { FalseFrom used lead.new }
 {
-    for mark in lead.iter_mut() {
-        *mark = false;
-    }
+    clear(lead);
     let mut k = order.len();
     while k > 0 {
         k -= 1;
         guess_one(nodes, used, order[k], left, lead);
+    }
+}
+
+/// Whether a node before `used` names a predicate.
+fn any_names_predicate(nodes: &[Node], used: usize) -> bool
+    requires used { used ≤ length nodes.now }
+    requires spare { Spare nodes.now used }
+    ensures { result ≡ false → NoneNamesPredicate nodes.now }
+{
+    for x in 0..used {
+        if names_predicate(nodes[x]) {
+            return true;
+        }
+    }
+    false
+}
+
+fn clear(lead: &mut [bool])
+    ensures { (x : ℕ) → bit lead.new x ≡ false }
+{
+    for mark in lead.iter_mut() {
+        *mark = false;
     }
 }
 
@@ -167,6 +190,10 @@ fn find_leads(nodes: &[Node], used: usize, order: &[usize], lead: &mut [bool])
     requires lead { length lead.old ≡ length nodes.now }
     ensures { (x : ℕ) → bit lead.new x ≡ leads nodes.now deepest x }
 {
+    if !any_names_predicate(nodes, used) {
+        clear(lead);
+        return;
+    }
     let mut table = [false; 512];
     let left = table.as_mut_slice();
     guess_leads(nodes, used, order, left, lead);

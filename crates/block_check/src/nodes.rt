@@ -85,14 +85,17 @@ fn inst_node(slot: u16, inst: Option<Inst>) -> Node
             second: NOWHERE,
             below: 0,
         },
-        Some(i) => Node {
-            slot,
-            role: role_of(i.op),
-            sense: i.sense,
-            first: first_place(form_of(i.op), i.number, i.first),
-            second: place_at(i.second),
-            below: load_bound(form_of(i.op), i.number),
-        },
+        Some(i) => {
+            let form = form_of(i.op);
+            Node {
+                slot,
+                role: role_of(i.op),
+                sense: i.sense,
+                first: first_place(form, i.number, i.first),
+                second: place_at(i.second),
+                below: load_bound(form, i.number),
+            }
+        }
     }
 }
 

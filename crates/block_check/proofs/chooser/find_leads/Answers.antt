@@ -1,6 +1,6 @@
 use Rattle.std.proofs.Common.{◌≡◌, ◌<◌, ◌≤◌, ◌∙◌, ℕ, length, slice_get, arith, inl, inr, add-one, sym}
 use Rattle.block_cases.specs.Cases.{bit, leads_from}
-use Rattle.block_check.proofs.Chains.{all_led}
+use Rattle.block_check.proofs.Chains.{all_led, no_leads}
 use Rattle.block_check.proofs.chooser.find_leads.Goals as goal
 
 pub loop-changed-preserved : goal.loop-changed-preserved
@@ -16,3 +16,6 @@ returns-else-rounds-lt160 c = all_led c.args.nodes.now c.requires.ranked c.loop-
 
 pub returns-after-loop-changed : goal.returns-after-loop-changed
 returns-after-loop-changed c = all_led c.args.nodes.now c.requires.ranked c.loop-changed.rounds (bit c.guess_leads.new.lead) (bit c.loop-changed.lead) c.loop-changed.invariant.few c.loop-changed.invariant.gives (inl (c.loop-changed.invariant.stable c.loop-changed-test.false))
+
+pub returns-then-not-any_names_predicate : goal.returns-then-not-any_names_predicate
+returns-then-not-any_names_predicate c x = c.clear.ensures x ∙ no_leads c.args.nodes.now (c.any_names_predicate.ensures c.if-not-any_names_predicate.true) x

@@ -1,10 +1,6 @@
-use Rattle.std.proofs.Common.{◌≡◌, ◌<◌, ◌≤◌, ℕ, length, false}
-use Rattle.block_cases.specs.Cases.{bit}
+use Rattle.std.proofs.Common.{◌≤◌, length}
 use Rattle.block_check.specs.Leads.{FalseFrom}
 use Rattle.block_check.proofs.chooser.guess_leads.Given as goal
-
-abbrev pub invariant-loop-mark : goal.invariant-loop-mark
-invariant-loop-mark l = (k : ℕ) → k < l.mark-index → bit l.lead k ≡ false
 
 abbrev pub invariant-loop-k : goal.invariant-loop-k
 invariant-loop-k l = record {
