@@ -1,5 +1,6 @@
 -- The movs of a slot that lead on.
-use Rattle.std.specs.Prelude.{◌≡◌, ℕ, zero, suc, ◌≤◌, Bool, true, false, ◌||◌, ◌&&◌, ◌==◌, List, [], ◌∷◌, Option, Some, None, slice_get}
+use Rattle.std.specs.Prelude.{◌≡◌, ℕ, zero, suc, ◌≤◌, Bool, false, ◌||◌, ◌&&◌, ◌==◌, List, [], ◌∷◌}
+use Rattle.std.specs.Prelude.{Option, Some, None, slice_get}
 use Rattle.trips_isa.specs.declared.node.Node.{Node}
 use Rattle.block_cases.specs.Nodes.{targets}
 use Rattle.block_cases.specs.Cases.{bit, is_copy, names_predicate, leads_from}
@@ -25,4 +26,5 @@ led_from ns f zero x = f x
 led_from ns f (suc k) x = leads_from ns (slice_get ns x) (led_from ns f k)
 
 abbrev pub NoneNamesPredicate : List Node → Type 0
-NoneNamesPredicate ns = (x : ℕ) (n : Node) → slice_get ns x ≡ Some n → names_predicate (targets n) ≡ false
+NoneNamesPredicate ns = (x : ℕ) (n : Node) → slice_get ns x ≡ Some n →
+    names_predicate (targets n) ≡ false

@@ -1,10 +1,13 @@
 //! The choosers of a block.
-ghost use Rattle.std.specs.Prelude.{nat_le, nat_lt, ◌≡◌, ◌<◌, ◌≤◌, ◌+◌, ◌||◌, ◌&&◌, ◌==◌, ℕ, length, slice_index_or, slice_get, slice_set, false, true};
+ghost use Rattle.std.specs.Prelude.{nat_le, nat_lt, ◌≡◌, ◌<◌, ◌≤◌, ◌+◌, ◌||◌, ◌&&◌, ◌==◌, ℕ};
+ghost use Rattle.std.specs.Prelude.{length, slice_index_or, slice_get, slice_set, false, true};
 ghost use Rattle.block_cases.specs.Nodes.{IsRanked, targets};
-ghost use Rattle.block_cases.specs.Cases.{bit, leads, deepest, is_chooser, is_copy, names_predicate, leads_from};
+ghost use Rattle.block_cases.specs.Cases.{bit, leads, deepest, is_chooser, is_copy};
+ghost use Rattle.block_cases.specs.Cases.{names_predicate, leads_from};
 ghost use Rattle.block_check.specs.Pass.{InPlace, AllInPlace, Spare};
 ghost use Rattle.block_check.specs.Found.{Choosing};
-ghost use Rattle.block_check.specs.Leads.{at_slot, leads_on, leads_at, FalseFrom, NoneNamesPredicate};
+ghost use Rattle.block_check.specs.Leads.{at_slot, leads_on, leads_at, FalseFrom};
+ghost use Rattle.block_check.specs.Leads.{NoneNamesPredicate};
 
 use trips_isa::{Node, Role};
 
@@ -20,10 +23,8 @@ fn is_copy(role: Role) -> bool
 fn mark_copy(left: &mut [bool], node: Node, lead: bool)
     requires left { length left.old ≡ 512 }
     requires in_place { InPlace node }
-    ensures {
-        (s : ℕ) → s < 512 → bit left.new s
-            ≡ (bit left.old s || (is_copy node.role && ((node.slot == s) && lead)))
-    }
+    ensures { (s : ℕ) → s < 512 → bit left.new s
+        ≡ (bit left.old s || (is_copy node.role && ((node.slot == s) && lead))) }
 {
     if is_copy(node.role) && lead {
         left[node.slot as usize] = true;
@@ -88,9 +89,7 @@ fn lead_on(nodes: &[Node], used: usize, left: &[bool], lead: &mut [bool]) -> boo
     requires lead { length lead.old ≡ length nodes.now }
     requires rest { FalseFrom used lead.old }
     ensures same { result ≡ false → (x : ℕ) → bit lead.new x ≡ bit lead.old x }
-    ensures gives {
-        (x : ℕ) → x < used → bit lead.new x ≡ leads_at (slice_get nodes.now x) (bit left.now)
-    }
+    ensures gives { (x : ℕ) → x < used → bit lead.new x ≡ leads_at (slice_get nodes.now x) (bit left.now) }
     ensures rest { FalseFrom used lead.new }
 {
     let mut changed = false;
@@ -111,9 +110,7 @@ fn round(nodes: &[Node], used: usize, left: &mut [bool], lead: &mut [bool]) -> b
     requires rest { FalseFrom used lead.old }
     requires left { length left.old ≡ 512 }
     ensures same { result ≡ false → (x : ℕ) → bit lead.new x ≡ bit lead.old x }
-    ensures gives {
-        (x : ℕ) → bit lead.new x ≡ leads_from nodes.now (slice_get nodes.now x) (bit lead.old)
-    }
+    ensures gives { (x : ℕ) → bit lead.new x ≡ leads_from nodes.now (slice_get nodes.now x) (bit lead.old) }
     ensures rest { FalseFrom used lead.new }
 {
     mark_copies(nodes, used, lead, left);
@@ -138,13 +135,7 @@ fn guess_one(nodes: &[Node], used: usize, x: usize, left: &mut [bool], lead: &mu
 }
 
 /// A guess at the nodes that lead on, in an order of the nodes.
-fn guess_leads(
-    nodes: &[Node],
-    used: usize,
-    order: &[usize],
-    left: &mut [bool],
-    lead: &mut [bool],
-)
+fn guess_leads(nodes: &[Node], used: usize, order: &[usize], left: &mut [bool], lead: &mut [bool])
     requires in_place { AllInPlace nodes.now }
     requires used { used ≤ length nodes.now }
     requires lead { length lead.old ≡ length nodes.now }

@@ -1,4 +1,5 @@
-use Rattle.std.proofs.Common.{◌≡◌, ◌<◌, ◌≤◌, ◌+◌, ◌∙◌, ℕ, Bool, true, false, nat_lt, Some, slice_get, get_or, refl, sym, ap, ap₂, arith}
+use Rattle.std.proofs.Common.{◌≡◌, ◌<◌, ◌≤◌, ◌∙◌, Bool, true, false, nat_lt, slice_get, get_or}
+use Rattle.std.proofs.Common.{refl, sym, ap, arith}
 use Rattle.std.proofs.lemmas.Option.{get_or_from_slice_get}
 use Rattle.trips_isa.specs.declared.node.Node.{Node}
 use Rattle.block_cases.specs.Nodes.{targets}
@@ -15,8 +16,10 @@ loop-x-preserved c y n lt e = go (nat_lt y c.loop-x.x) refl
     go false i =
         let past : c.loop-x.x ≤ y = grind arith in
         let here : y ≡ c.loop-x.x = omega arith in
-        let node : get_or c.args.nodes.now c.loop-x.x blank ≡ n = get_or_from_slice_get c.args.nodes.now c.loop-x.x n blank (ap (slice_get c.args.nodes.now) (sym here) ∙ e) in
-        ap (λ (m : Node). names_predicate (targets m)) (sym node) ∙ sym c.names_predicate.ensures ∙ c.if-names_predicate.false
+        let node : get_or c.args.nodes.now c.loop-x.x blank ≡ n = get_or_from_slice_get
+        c.args.nodes.now c.loop-x.x n blank (ap (slice_get c.args.nodes.now) (sym here) ∙ e) in
+        ap (λ (m : Node). names_predicate (targets m)) (sym node) ∙ sym c.names_predicate.ensures
+        ∙ c.if-names_predicate.false
 
 pub returns : goal.returns
 returns c e x n i = go (nat_lt x c.args.used) refl

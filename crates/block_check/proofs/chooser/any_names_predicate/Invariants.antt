@@ -5,4 +5,5 @@ use Rattle.block_cases.specs.Cases.{names_predicate}
 use Rattle.block_check.proofs.chooser.any_names_predicate.Given as goal
 
 abbrev pub invariant-loop-x : goal.invariant-loop-x
-invariant-loop-x l = (y : ℕ) (n : Node) → y < l.x → slice_get l.nodes y ≡ Some n → names_predicate (targets n) ≡ false
+invariant-loop-x l = (y : ℕ) (n : Node) → y < l.x → slice_get l.nodes y ≡ Some n →
+    names_predicate (targets n) ≡ false

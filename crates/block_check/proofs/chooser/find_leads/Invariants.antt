@@ -1,4 +1,4 @@
-use Rattle.std.proofs.Common.{◌≡◌, ◌<◌, ◌≤◌, ◌+◌, ◌-◌, ℕ, length, slice_get, false, suc}
+use Rattle.std.proofs.Common.{◌≡◌, ◌≤◌, ◌-◌, ℕ, slice_get, false}
 use Rattle.block_cases.specs.Cases.{bit, leads_from}
 use Rattle.block_check.specs.Leads.{FalseFrom, led_from}
 use Rattle.block_check.proofs.chooser.find_leads.Given as goal
@@ -8,7 +8,8 @@ invariant-loop-changed l = record {
   few : l.rounds ≤ 160;
   rest : FalseFrom l.used l.lead;
   gives : (x : ℕ) → bit l.lead x ≡ led_from l.nodes (bit l.initial.lead) l.rounds x;
-  stable : l.changed ≡ false → (x : ℕ) → bit l.lead x ≡ leads_from l.nodes (slice_get l.nodes x) (bit l.lead);
+  stable : l.changed ≡ false → (x : ℕ) → bit l.lead x ≡ leads_from l.nodes (slice_get l.nodes x)
+      (bit l.lead);
 }
 
 abbrev pub decreases-loop-changed : goal.decreases-loop-changed

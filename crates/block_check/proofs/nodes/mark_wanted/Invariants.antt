@@ -11,4 +11,5 @@ invariant-loop-w l = (q : ℕ) → q < 449 → bit l.wanted q ≡ (nat_le 384 q 
 
 abbrev pub invariant-loop-n : goal.invariant-loop-n
 invariant-loop-n l = (q : ℕ) → q < 449 → bit l.wanted q
-    ≡ ((nat_le 384 q && nat_lt q (384 + length l.block.writes.items)) || (nat_le 416 q && (nat_lt q (416 + l.n) && in_mask l.block.mask (q - 416))))
+    ≡ ((nat_le 384 q && nat_lt q (384 + length l.block.writes.items)) || (nat_le 416 q
+    && (nat_lt q (416 + l.n) && in_mask l.block.mask (q - 416))))
