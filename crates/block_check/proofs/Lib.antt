@@ -11,3 +11,4 @@ pub mod Lowest
 pub mod Starts
 pub mod Making
 pub mod Sparing
+pub mod Owing

@@ -1,10 +1,12 @@
 -- Where blocks begin: the list of their first chunks rises, and finds each block.
-use Rattle.std.proofs.Common.{◌≡◌, ℕ, zero, suc, ◌+◌, ◌*◌, ◌<◌, ◌≤◌, Bool, true, false, cond, List, [], ◌∷◌, ◌++◌, length, get_or, take, Option, Some, None, refl, sym, ap, ◌∙◌, arith, ◌==◌, max}
+use Rattle.std.proofs.Common.{◌≡◌, ℕ, zero, suc, ◌+◌, ◌*◌, ◌<◌, ◌≤◌, Bool, true, false, cond, List}
+use Rattle.std.proofs.Common.{[], ◌∷◌, ◌++◌, length, get_or, take, Option, Some, None, refl, sym}
+use Rattle.std.proofs.Common.{ap, ◌∙◌, arith, ◌==◌}
 use Rattle.std.specs.List.{sum_by}
 use Rattle.std.proofs.lemmas.List.Sums.{sum_by-cons, sum_by-append}
 use Rattle.trips_isa.specs.declared.block.Inst.{Inst}
 use Rattle.trips_isa.specs.declared.block.Block.{Block}
-use Rattle.trips_isa.specs.Images.{chunks, body_chunks, chunks_to, starting_from}
+use Rattle.trips_isa.specs.Images.{chunks, body_chunks, starting_from}
 use Rattle.block_check.specs.Images.{starts_from}
 
 body_least : (j : ℕ) (is : List (Option Inst)) → 1 ≤ body_chunks j is
@@ -18,7 +20,8 @@ pub starts_length : (here : ℕ) (bs : List Block) → length (starts_from here 
 starts_length here [] = refl
 starts_length here (b ∷ bs) = ap suc (starts_length (here + chunks b) bs)
 
-pub starts_at : (here : ℕ) (bs : List Block) (k : ℕ) → k < length bs → get_or (starts_from here bs) k 0 ≡ here + sum_by chunks (take k bs)
+pub starts_at : (here : ℕ) (bs : List Block) (k : ℕ) → k < length bs →
+    get_or (starts_from here bs) k 0 ≡ here + sum_by chunks (take k bs)
 starts_at here [] k h = absurd (omega arith)
 starts_at here (b ∷ bs) zero h = omega arith
 starts_at here (b ∷ bs) (suc k) h =
@@ -26,27 +29,38 @@ starts_at here (b ∷ bs) (suc k) h =
     let s = sum_by-cons chunks b (take k bs) in
     r ∙ omega (arith, s)
 
-pub starts_push : (here : ℕ) (bs : List Block) (b : Block) → starts_from here (bs ++ (b ∷ [])) ≡ starts_from here bs ++ ((here + sum_by chunks bs) ∷ [])
+pub starts_push : (here : ℕ) (bs : List Block) (b : Block) →
+    starts_from here (bs ++ (b ∷ [])) ≡ starts_from here bs ++ ((here + sum_by chunks bs) ∷ [])
 starts_push here [] b = ap (λ n. n ∷ []) (omega arith)
 starts_push here (a ∷ bs) b =
     let s = sum_by-cons chunks a bs in
-    let same : here + chunks a + sum_by chunks bs ≡ here + sum_by chunks (a ∷ bs) = omega (arith, s) in
-    ap (λ l. here ∷ l) (starts_push (here + chunks a) bs b ∙ ap (λ n. starts_from (here + chunks a) bs ++ (n ∷ [])) same)
+    let same : here + chunks a + sum_by chunks bs ≡ here + sum_by chunks (a ∷ bs) = omega (
+      arith,
+      s,
+    ) in
+    ap (λ l. here ∷ l) (starts_push (here + chunks a) bs b
+    ∙ ap (λ n. starts_from (here + chunks a) bs ++ (n ∷ [])) same)
 
-pub sum_push : (bs : List Block) (b : Block) → sum_by chunks (bs ++ (b ∷ [])) ≡ sum_by chunks bs + chunks b
-sum_push bs b = let a = sum_by-append chunks bs (b ∷ []) in let c = sum_by-cons chunks b [] in omega (arith, a, c)
+pub sum_push : (bs : List Block) (b : Block) → sum_by chunks (bs ++ (b ∷ [])) ≡ sum_by chunks bs +
+    chunks b
+sum_push bs b = let a = sum_by-append chunks bs (b ∷ []) in let c = sum_by-cons chunks b [] in
+    omega (arith, a, c)
 
 pub sum_front : (xs ys : List Block) → sum_by chunks xs ≤ sum_by chunks (xs ++ ys)
 sum_front xs ys = let a = sum_by-append chunks xs ys in omega (arith, a)
 
 pub sum_least : (bs : List Block) → 2 * length bs ≤ sum_by chunks bs
 sum_least [] = omega arith
-sum_least (b ∷ bs) = let r = sum_least bs in let c = chunks_least b in let s = sum_by-cons chunks b bs in omega (arith, r, c, s)
+sum_least (b ∷ bs) = let r = sum_least bs in let c = chunks_least b in
+    let s = sum_by-cons chunks b bs in omega (arith, r, c, s)
 
-above : (here : ℕ) (bs : List Block) (k : ℕ) → k < length bs → here ≤ get_or (starts_from here bs) k 0
+above : (here : ℕ) (bs : List Block) (k : ℕ) → k < length bs →
+    here ≤ get_or (starts_from here bs) k 0
 above here bs k h = let r = starts_at here bs k h in omega (arith, r)
 
-pub starts_rise : (here : ℕ) (bs : List Block) (i j : ℕ) → i ≤ j → j < length (starts_from here bs) → get_or (starts_from here bs) i 0 ≤ get_or (starts_from here bs) j 0
+pub starts_rise : (here : ℕ) (bs : List Block) (i j : ℕ) → i ≤ j →
+    j < length (starts_from here bs) → get_or (starts_from here bs) i 0 ≤ get_or (starts_from here
+    bs) j 0
 starts_rise here [] i j le h = absurd (omega arith)
 starts_rise here (b ∷ bs) zero zero le h = omega arith
 starts_rise here (b ∷ bs) zero (suc j) le h =
@@ -54,7 +68,8 @@ starts_rise here (b ∷ bs) zero (suc j) le h =
     let r = above (here + chunks b) bs j (omega (arith, s)) in
     omega (arith, r)
 starts_rise here (b ∷ bs) (suc i) zero le h = absurd (omega arith)
-starts_rise here (b ∷ bs) (suc i) (suc j) le h = starts_rise (here + chunks b) bs i j (omega arith) (omega arith)
+starts_rise here (b ∷ bs) (suc i) (suc j) le h = starts_rise (here + chunks b) bs i j (omega arith)
+    (omega arith)
 
 same_is : (a : ℕ) → (a == a) ≡ true
 same_is a = grind arith
@@ -62,30 +77,38 @@ same_is a = grind arith
 below_not : (a b : ℕ) → a < b → (a == b) ≡ false
 below_not a b h = grind arith
 
-pub starts_found : (number here : ℕ) (bs : List Block) (k chunk : ℕ) → k < length bs → get_or (starts_from here bs) k 0 ≡ chunk → starting_from bs number here chunk ≡ Some (number + k)
+pub starts_found : (number here : ℕ) (bs : List Block) (k chunk : ℕ) → k < length bs →
+    get_or (starts_from here bs) k 0 ≡ chunk → starting_from bs number here chunk ≡ Some (number +
+    k)
 starts_found number here [] k chunk h e = absurd (omega arith)
 starts_found number here (b ∷ bs) zero chunk h e =
     let first : here ≡ chunk = e in
     let none : number ≡ number + 0 = omega arith in
-    ap (λ n. cond (here == n) (Some number) (starting_from bs (suc number) (here + chunks b) chunk)) (sym first)
-    ∙ ap (λ v. cond v (Some number) (starting_from bs (suc number) (here + chunks b) chunk)) (same_is here)
+    ap (λ n. cond (here == n) (Some number) (starting_from bs (suc number) (here + chunks b)
+    chunk)) (sym first)
+    ∙ ap (λ v. cond v (Some number) (starting_from bs (suc number) (here + chunks b) chunk))
+    (same_is here)
     ∙ ap (λ n. Some n) none
 starts_found number here (b ∷ bs) (suc k) chunk h e =
     let c = chunks_least b in
     let r = above (here + chunks b) bs k (omega arith) in
     let up : here < chunk = omega (arith, c, r, e) in
     let next : suc number + k ≡ number + suc k = omega arith in
-    ap (λ v. cond v (Some number) (starting_from bs (suc number) (here + chunks b) chunk)) (below_not here chunk up)
+    ap (λ v. cond v (Some number) (starting_from bs (suc number) (here + chunks b) chunk))
+    (below_not here chunk up)
     ∙ starts_found (suc number) (here + chunks b) bs k chunk (omega arith) e
     ∙ ap (λ n. Some n) next
 
 eq_is : (a b : ℕ) → (a == b) ≡ true → a ≡ b
 eq_is a b e = grind arith
 
-pub starts_missing : (number here : ℕ) (bs : List Block) (chunk : ℕ) → ((k : ℕ) → k < length bs → get_or (starts_from here bs) k 0 ≡ chunk → ⊥) → starting_from bs number here chunk ≡ None
+pub starts_missing : (number here : ℕ) (bs : List Block) (chunk : ℕ) → ((k : ℕ) → k < length bs →
+    get_or (starts_from here bs) k 0 ≡ chunk → ⊥) → starting_from bs number here chunk ≡ None
 starts_missing number here [] chunk h = refl
-starts_missing number here (b ∷ bs) chunk h = go (here == chunk) refl (starts_missing (suc number) (here + chunks b) bs chunk (λ k lt q. h (suc k) (omega arith) q))
+starts_missing number here (b ∷ bs) chunk h = go (here == chunk) refl (starts_missing (suc number)
+    (here + chunks b) bs chunk (λ k lt q. h (suc k) (omega arith) q))
   where
-    go : (v : Bool) → (here == chunk) ≡ v → starting_from bs (suc number) (here + chunks b) chunk ≡ None → cond v (Some number) (starting_from bs (suc number) (here + chunks b) chunk) ≡ None
+    go : (v : Bool) → (here == chunk) ≡ v → starting_from bs (suc number) (here + chunks b) chunk ≡
+        None → cond v (Some number) (starting_from bs (suc number) (here + chunks b) chunk) ≡ None
     go true e r = absurd (h 0 (omega arith) (eq_is here chunk e))
     go false e r = r

@@ -1,15 +1,19 @@
 -- The fault that the search finds, before it is known as the lowest.
-use Rattle.std.specs.Prelude.{◌≡◌, ℕ, ◌+◌, ◌-◌, ◌<◌, ◌≤◌, Bool, true, false, cond, nat_lt, length}
+use Rattle.std.specs.Prelude.{◌≡◌, ℕ, ◌-◌, ◌<◌, cond, nat_lt, length}
 use Rattle.block_check.specs.declared.fault.NodeFault.{NodeFault}
 use Rattle.block_check.specs.declared.fault.NodeFault.TheVariants as net
 use Rattle.trips_isa.specs.declared.block.Spot.{Spot}
-use Rattle.trips_isa.specs.declared.block.Spot.TheVariants.{Read, Inst, Left, Right, Pred, Write, Store}
+use Rattle.trips_isa.specs.declared.block.Spot.TheVariants.{Read, Inst, Left, Right, Pred, Write}
+use Rattle.trips_isa.specs.declared.block.Spot.TheVariants.{Store}
 use Rattle.trips_isa.specs.declared.block.Block.{Block}
 use Rattle.block_check.specs.declared.fault.CheckFault.{CheckFault}
-use Rattle.block_check.specs.declared.fault.CheckFault.TheVariants.{BadTarget, BadNumber, Cycle, TooManyCases, TwoTokens, NoToken, NoExit, TwoExits}
+use Rattle.block_check.specs.declared.fault.CheckFault.TheVariants.{BadTarget, BadNumber, Cycle}
+use Rattle.block_check.specs.declared.fault.CheckFault.TheVariants.{TooManyCases, TwoTokens}
+use Rattle.block_check.specs.declared.fault.CheckFault.TheVariants.{NoToken, NoExit, TwoExits}
 use Rattle.block_check.specs.Judged.{IsFault}
 use Rattle.block_cases.specs.Blocks.{nodes_of, wanted_of}
-use Rattle.block_cases.specs.Orders.{bad_read, bad_inst, bad_number, bad_write, IsLeast, NoneBelow, IsInOrder}
+use Rattle.block_cases.specs.Orders.{bad_read, bad_inst, bad_number, bad_write, IsLeast, NoneBelow}
+use Rattle.block_cases.specs.Orders.{IsInOrder}
 
 pub record BadInst (b : Block) (j : ℕ) : Type 0 where
   pub reads : NoneBelow (bad_read b) (length b.reads.items)
@@ -43,7 +47,8 @@ IsOrderFault b _ = ⊥
 
 -- the spot of a place
 abbrev pub spot_of : ℕ → Spot
-spot_of q = cond (nat_lt q 128) (Left q) (cond (nat_lt q 256) (Right (q - 128)) (cond (nat_lt q 384) (Pred (q - 256)) (cond (nat_lt q 416) (Write (q - 384)) (Store (q - 416)))))
+spot_of q = cond (nat_lt q 128) (Left q) (cond (nat_lt q 256) (Right (q - 128)) (cond (nat_lt q
+    384) (Pred (q - 256)) (cond (nat_lt q 416) (Write (q - 384)) (Store (q - 416)))))
 
 abbrev pub fault_of : NodeFault → CheckFault
 fault_of net.Cycle = Cycle

@@ -1,13 +1,16 @@
 -- The faults that a block has, the order in which they are answered, and good blocks.
-use Rattle.std.specs.Prelude.{◌≡◌, ℕ, ◌+◌, ◌*◌, ◌<◌, ◌≤◌, true, length}
+use Rattle.std.specs.Prelude.{◌≡◌, ℕ, ◌+◌, ◌<◌, ◌≤◌, true, length}
 use Rattle.trips_isa.specs.declared.block.Spot.{Spot}
-use Rattle.trips_isa.specs.declared.block.Spot.TheVariants.{Read, Inst, Left, Right, Pred, Write, Store}
+use Rattle.trips_isa.specs.declared.block.Spot.TheVariants.{Read, Inst, Left, Right, Pred, Write}
+use Rattle.trips_isa.specs.declared.block.Spot.TheVariants.{Store}
 use Rattle.trips_isa.specs.declared.block.Block.{Block}
 use Rattle.block_cases.specs.Nodes.{HasCycle}
 use Rattle.block_cases.specs.Cases.{cases, GetsTwo, GetsNone}
 use Rattle.block_cases.specs.Blocks.{place_of, in_mask, nodes_of}
 use Rattle.block_check.specs.declared.fault.CheckFault.{CheckFault}
-use Rattle.block_check.specs.declared.fault.CheckFault.TheVariants.{BadTarget, BadNumber, Cycle, TooManyCases, TwoTokens, NoToken, NoExit, TwoExits}
+use Rattle.block_check.specs.declared.fault.CheckFault.TheVariants.{BadTarget, BadNumber, Cycle}
+use Rattle.block_check.specs.declared.fault.CheckFault.TheVariants.{TooManyCases, TwoTokens}
+use Rattle.block_check.specs.declared.fault.CheckFault.TheVariants.{NoToken, NoExit, TwoExits}
 use Rattle.block_cases.specs.Orders.{bad_read, bad_inst, bad_number, bad_write}
 
 -- the read or the slot names a target that it may not name

@@ -1,7 +1,9 @@
 -- What the search keeps of the cases that it has visited.
-use Rattle.std.specs.Prelude.{◌≡◌, ℕ, zero, suc, ◌+◌, ◌<◌, ◌≤◌, Bool, true, false, ◌||◌, ◌==◌, nat_lt, List, [], ◌∷◌, ◌++◌, length, slice_get, slice_set}
+use Rattle.std.specs.Prelude.{◌≡◌, ℕ, ◌+◌, ◌<◌, ◌≤◌, Bool, true, false, ◌||◌, ◌==◌, nat_lt, List}
+use Rattle.std.specs.Prelude.{[], ◌∷◌, ◌++◌, length, slice_get, slice_set}
 use Rattle.trips_isa.specs.declared.node.Node.{Node}
-use Rattle.block_cases.specs.Cases.{bit, token, tokens, is_chooser, has_bit, cases, GetsTwo, GetsNone}
+use Rattle.block_cases.specs.Cases.{bit, token, tokens, is_chooser, has_bit, cases, GetsTwo}
+use Rattle.block_cases.specs.Cases.{GetsNone}
 use Rattle.block_check.specs.Walk.{tally}
 
 abbrev pub extra : Bool → List Bool → List (List Bool) → List (List Bool)
@@ -11,7 +13,8 @@ extra false c cs = []
 -- the cases of a walk but for c itself
 abbrev pub others : List Node → List ℕ → List Bool → List (List Bool)
 others ns [] c = []
-others ns (x ∷ xs) c = others ns xs c ++ extra (has_bit ns c x) (slice_set c x true) (others ns xs (slice_set c x true))
+others ns (x ∷ xs) c = others ns xs c ++ extra (has_bit ns c x) (slice_set c x true) (others ns xs
+    (slice_set c x true))
 
 -- which nodes are choosers
 abbrev pub Choosing : List Node → List Bool → Type 0
@@ -27,12 +30,15 @@ abbrev pub any : List Bool → Bool
 any c = true
 
 -- what is known after these cases were visited, where more than 256 are not told apart
-pub record Added (ns : List Node) (cs : List (List Bool)) (count count' : ℕ) (two two' none none' : List Bool) : Type 0 where
+pub record Added (ns : List Node) (cs : List (List Bool)) (count count' : ℕ) (two two' none none' :
+    List Bool) : Type 0 where
   pub more : count ≤ count'
   pub many : 256 < count' → 256 < count + tally any cs
   pub few : count' ≤ 256 → count' ≡ count + tally any cs
-  pub twos : count' ≤ 256 → (q : ℕ) → q < 449 → bit two' q ≡ (bit two q || nat_lt 0 (tally (gets_two ns q) cs))
-  pub nones : count' ≤ 256 → (q : ℕ) → q < 449 → bit none' q ≡ (bit none q || nat_lt 0 (tally (gets_none ns q) cs))
+  pub twos : count' ≤ 256 → (q : ℕ) → q < 449 → bit two' q ≡ (bit two q
+      || nat_lt 0 (tally (gets_two ns q) cs))
+  pub nones : count' ≤ 256 → (q : ℕ) → q < 449 → bit none' q ≡ (bit none q
+      || nat_lt 0 (tally (gets_none ns q) cs))
 
 -- what is known of all cases
 pub record Explored (ns : List Node) (count : ℕ) (two none : List Bool) : Type 0 where

@@ -5,7 +5,8 @@ use Rattle.block_cases.specs.Nodes.{HasCycle}
 use Rattle.block_cases.specs.Cases.{cases, GetsTwo, GetsNone}
 use Rattle.block_cases.specs.Good.{IsAcyclic, NoTwo, NoGap}
 use Rattle.block_check.specs.declared.fault.NodeFault.{NodeFault}
-use Rattle.block_check.specs.declared.fault.NodeFault.TheVariants.{Cycle, TooManyCases, TwoTokens, NoToken, NoExit, TwoExits}
+use Rattle.block_check.specs.declared.fault.NodeFault.TheVariants.{Cycle, TooManyCases, TwoTokens}
+use Rattle.block_check.specs.declared.fault.NodeFault.TheVariants.{NoToken, NoExit, TwoExits}
 
 -- the least place that gets two tokens
 pub record FirstTwo (ns : List Node) (q : ℕ) : Type 0 where

@@ -1,8 +1,9 @@
 -- The movs of a slot that lead on.
-use Rattle.std.specs.Prelude.{◌≡◌, ℕ, zero, suc, Bool, true, false, ◌||◌, ◌&&◌, ◌==◌, List, [], ◌∷◌, Option, Some, None}
+use Rattle.std.specs.Prelude.{◌≡◌, ℕ, zero, suc, ◌≤◌, Bool, false, ◌||◌, ◌&&◌, ◌==◌, List, [], ◌∷◌}
+use Rattle.std.specs.Prelude.{Option, Some, None, slice_get}
 use Rattle.trips_isa.specs.declared.node.Node.{Node}
 use Rattle.block_cases.specs.Nodes.{targets}
-use Rattle.block_cases.specs.Cases.{is_copy, names_predicate}
+use Rattle.block_cases.specs.Cases.{bit, is_copy, names_predicate, leads_from}
 
 abbrev pub at_slot : List Node → ℕ → (ℕ → Bool) → Bool
 at_slot [] s f = false
@@ -14,3 +15,16 @@ leads_on n left = names_predicate (targets n) || (left n.first || left n.second)
 abbrev pub leads_at : Option Node → (ℕ → Bool) → Bool
 leads_at None left = false
 leads_at (Some n) left = leads_on n left
+
+-- no bit is 1 from `used` on
+abbrev pub FalseFrom : ℕ → List Bool → Type 0
+FalseFrom used l = (x : ℕ) → used ≤ x → bit l x ≡ false
+
+-- k steps along the chains from what f says of each node
+abbrev pub led_from : List Node → (ℕ → Bool) → ℕ → ℕ → Bool
+led_from ns f zero x = f x
+led_from ns f (suc k) x = leads_from ns (slice_get ns x) (led_from ns f k)
+
+abbrev pub NoneNamesPredicate : List Node → Type 0
+NoneNamesPredicate ns = (x : ℕ) (n : Node) → slice_get ns x ≡ Some n →
+    names_predicate (targets n) ≡ false

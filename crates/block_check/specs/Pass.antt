@@ -1,5 +1,6 @@
 -- Rounds from a guess, the bounds of a node's places, and the empty slots at the end.
-use Rattle.std.specs.Prelude.{◌≡◌, ℕ, zero, suc, ◌<◌, ◌≤◌, Bool, List, Some, All, slice_get, slice_index_or}
+use Rattle.std.specs.Prelude.{◌≡◌, ℕ, zero, suc, ◌<◌, ◌≤◌, Bool, List, Some, All, slice_get}
+use Rattle.std.specs.Prelude.{slice_index_or}
 use Rattle.block_cases.specs.declared.token.CaseToken.{CaseToken}
 use Rattle.block_cases.specs.declared.token.CaseToken.TheVariants.{Absent}
 use Rattle.trips_isa.specs.declared.form.Role.TheVariants.{Empty}
@@ -15,9 +16,14 @@ pub record InPlace (n : Node) : Type 0 where
 abbrev pub AllInPlace : List Node → Type 0
 AllInPlace ns = All InPlace ns
 
+pub record IsSpare (n : Node) : Type 0 where
+  pub role : n.role ≡ Empty
+  pub first : n.first ≡ 700
+  pub second : n.second ≡ 700
+
 -- the nodes from `used` on are empty slots
 abbrev pub Spare : List Node → ℕ → Type 0
-Spare ns used = (x : ℕ) (n : Node) → used ≤ x → slice_get ns x ≡ Some n → n.role ≡ Empty
+Spare ns used = (x : ℕ) (n : Node) → used ≤ x → slice_get ns x ≡ Some n → IsSpare n
 
 abbrev pub tok_at : List CaseToken → ℕ → CaseToken
 tok_at ts x = slice_index_or ts x Absent

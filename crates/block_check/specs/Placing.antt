@@ -1,7 +1,9 @@
--- Nodes that are put in an order, each after those that feed it. The rank of a node that is not placed is 255.
-use Rattle.std.specs.Prelude.{◌≡◌, ℕ, zero, suc, ◌+◌, ◌<◌, ◌≤◌, Bool, true, false, ◌==◌, List, [], ◌∷◌, Option, Some, None, length, slice_index, slice_get, All}
+-- Nodes that are put in an order, each after those that feed it. The rank of a node that is not
+-- placed is 255.
+use Rattle.std.specs.Prelude.{◌≡◌, ℕ, ◌+◌, ◌<◌, ◌≤◌, Bool, true, false, ◌==◌, List, [], ◌∷◌, Some}
+use Rattle.std.specs.Prelude.{length, slice_index, slice_get, All}
 use Rattle.trips_isa.specs.declared.node.Node.{Node}
-use Rattle.block_cases.specs.Nodes.{targets, feeds, one_if, Edge, Ranked, HasCycle}
+use Rattle.block_cases.specs.Nodes.{feeds, one_if, Edge, Ranked}
 use Rattle.block_cases.specs.declared.token.CaseToken.{CaseToken}
 use Rattle.block_cases.specs.declared.token.CaseToken.TheVariants.{Absent, Null}
 use Rattle.block_cases.specs.Cases.{tokens}
@@ -30,15 +32,18 @@ pub record Placing (ns : List Node) (ranks order : List ℕ) (placed : ℕ) : Ty
   pub either : (x : ℕ) → slice_index ranks x ≤ 255
   pub in_order : (k : ℕ) → k < placed → slice_index order k < length ns
   pub ordered : (k : ℕ) → k < placed → slice_index ranks (slice_index order k) ≡ k
-  pub rises : (x y : ℕ) → Edge ns x y → slice_index ranks y < 255 → slice_index ranks x < slice_index ranks y
+  pub rises : (x y : ℕ) → Edge ns x y → slice_index ranks y < 255 →
+      slice_index ranks x < slice_index ranks y
   pub left : placed + unplaced ranks ≡ length ns
 
 -- each node that is not placed waits for another one
 abbrev pub AllStuck : List Node → List ℕ → ℕ → Type 0
-AllStuck ns ranks end = (x : ℕ) (n : Node) → x < end → slice_get ns x ≡ Some n → slice_index ranks x ≡ 255 → Stuck ns ranks n
+AllStuck ns ranks end = (x : ℕ) (n : Node) → x < end → slice_get ns x ≡ Some n →
+    slice_index ranks x ≡ 255 → Stuck ns ranks n
 
 abbrev pub IsOrdered : List Node → List ℕ → Type 0
-IsOrdered ns order = (rank : ℕ → ℕ) × Ranked ns rank × Order ns rank order × All (λ x. x < length ns) order
+IsOrdered ns order = (rank : ℕ → ℕ) × Ranked ns rank × Order ns rank order
+    × All (λ x. x < length ns) order
 
 -- what a node that is not placed holds up
 abbrev pub holding : Bool → CaseToken

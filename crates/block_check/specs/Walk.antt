@@ -1,13 +1,8 @@
 -- The search over the cases in an order of the nodes.
-use Rattle.std.specs.Prelude.{◌≡◌, ℕ, zero, suc, ◌+◌, ◌<◌, ◌≤◌, Bool, true, false, List, [], ◌∷◌, ◌++◌, slice_set, length}
-use Rattle.trips_isa.specs.declared.form.Role.{Role}
-use Rattle.trips_isa.specs.declared.form.Role.TheVariants.{Empty, Reading, Free, Nothing, Copy, One, Both}
-use Rattle.trips_isa.specs.declared.block.Sense.{Sense}
-use Rattle.trips_isa.specs.declared.block.Sense.TheVariants.{Always, OnTrue, OnFalse}
-use Rattle.block_cases.specs.declared.token.CaseToken.{CaseToken}
-use Rattle.block_cases.specs.declared.token.CaseToken.TheVariants.{Absent, Null, Bit}
+use Rattle.std.specs.Prelude.{◌≡◌, ℕ, zero, suc, ◌+◌, ◌<◌, ◌≤◌, Bool, true, false, List, [], ◌∷◌}
+use Rattle.std.specs.Prelude.{◌++◌, slice_set, length}
 use Rattle.trips_isa.specs.declared.node.Node.{Node}
-use Rattle.block_cases.specs.Nodes.{targets, names, one_if}
+use Rattle.block_cases.specs.Nodes.{names, one_if}
 use Rattle.block_cases.specs.Cases.{has_bit}
 
 abbrev pub branch : Bool → List (List Bool) → List (List Bool) → List (List Bool)
@@ -26,7 +21,8 @@ tally t (c ∷ cs) = one_if (t c) + tally t cs
 -- an order along the ranks, without repeats
 abbrev pub Sorted : (ℕ → ℕ) → List ℕ → Type 0
 Sorted rank [] = Unit {0}
-Sorted rank (x ∷ xs) = ((z : ℕ) → names xs z ≡ true → rank x ≤ rank z) × (names xs x ≡ false) × Sorted rank xs
+Sorted rank (x ∷ xs) = ((z : ℕ) → names xs z ≡ true → rank x ≤ rank z) × (names xs x ≡ false)
+    × Sorted rank xs
 
 abbrev pub zeros : ℕ → List Bool
 zeros zero = []

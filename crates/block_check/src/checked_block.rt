@@ -3,8 +3,8 @@ ghost use Rattle.trips_isa.specs.Fits.{FitsBlock};
 ghost use Rattle.block_check.specs.Faults.{IsGood, IsLowestFault};
 ghost use Rattle.block_check.specs.IsChecked.{IsChecked};
 
-use crate::verdict::judge_block;
 use crate::fault::CheckFault;
+use crate::verdict::judge_block;
 use std::marker::Model;
 use trips_isa::Block;
 

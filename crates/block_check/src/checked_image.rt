@@ -1,4 +1,5 @@
-ghost use Rattle.std.specs.Prelude.{◌≡◌, ◌<◌, ◌≤◌, ◌+◌, ◌^◌, [], ◌∷◌, ◌++◌, Some, All, length, slice_get};
+ghost use Rattle.std.specs.Prelude.{◌≡◌, ◌<◌, ◌≤◌, ◌+◌, ◌^◌, [], ◌∷◌, ◌++◌, Some, All, length};
+ghost use Rattle.std.specs.Prelude.{slice_get};
 ghost use Rattle.std.specs.Prelude.{IfOk, IfErr, OnOk};
 ghost use Rattle.trips_isa.specs.Fits.{FitsBlock};
 ghost use Rattle.trips_isa.specs.Images.{chunks, chunk_of, starting_at, FitsImage};
@@ -129,7 +130,10 @@ impl CheckedImage {
         ensures checked { OnOk result (IsCheckedImage image) }
         ensures err { IfErr result (IsRefusal image) }
     {
-        let Image { blocks: rest, bytes } = image;
+        let Image {
+            blocks: rest,
+            bytes,
+        } = image;
         let mut blocks = Vec::with_capacity(alloc, rest.len())?;
         let mut starts = Vec::with_capacity(alloc, rest.len())?;
         let mut queue = Queue::from_items(rest);
@@ -137,7 +141,11 @@ impl CheckedImage {
         while let Some(block) = queue.pop() {
             next = add(&mut blocks, &mut starts, next, block)?;
         }
-        Ok(CheckedImage { blocks, starts, bytes })
+        Ok(CheckedImage {
+            blocks,
+            starts,
+            bytes,
+        })
     }
 
     /// How many blocks there are.

@@ -3,11 +3,11 @@ use trips_isa::Spot;
 /// Why a block is not good, in the order of the answers (docs/MACHINE.md, "Good blocks").
 #[derive(Clone, Copy, Debug, PartialEq, Eq)]
 pub enum CheckFault {
-    /// The read or the slot names an empty slot, an operand or a predicate that an instruction does
-    /// not take, or a write that is not declared.
+    /// The read or the slot names an empty slot, an operand or a predicate that an instruction
+    /// does not take, or a write that is not declared.
     BadTarget(Spot),
-    /// The slot stores with a number outside the mask, or loads with one of the mask or with that of
-    /// an earlier load; or the write names the register of an earlier one.
+    /// The slot stores with a number outside the mask, or loads with one of the mask or with that
+    /// of an earlier load; or the write names the register of an earlier one.
     BadNumber(Spot),
     /// Producers, consumers, and stores before loads of higher numbers go round in a circle.
     Cycle,

@@ -1,17 +1,19 @@
 //! Whether a block is good.
-ghost use Rattle.std.specs.Prelude.{nat_le, nat_lt, ◌≡◌, ◌<◌, ◌≤◌, ◌+◌, ◌||◌, ◌&&◌, ◌==◌, ℕ, length, slice_index_or, slice_index, slice_get, slice_set, false, true, MatchResult, IfOk, IfErr};
+ghost use Rattle.std.specs.Prelude.{nat_le, nat_lt, ◌≡◌, ◌<◌, ◌≤◌, ◌+◌, ◌||◌, ◌&&◌, ◌==◌, ℕ};
+ghost use Rattle.std.specs.Prelude.{length, slice_index_or, slice_index, slice_get, slice_set};
+ghost use Rattle.std.specs.Prelude.{false, true, MatchResult, IfOk, IfErr};
 ghost use Rattle.block_cases.specs.Nodes.{IsRanked, HasCycle};
 ghost use Rattle.block_cases.specs.Cases.{bit};
-ghost use Rattle.block_check.specs.Pass.{AllInPlace, Spare};
+ghost use Rattle.block_check.specs.Pass.{AllInPlace, IsSpare, Spare};
 ghost use Rattle.block_check.specs.Placing.{IsOrdered};
 ghost use Rattle.block_check.specs.Found.{Explored};
 ghost use Rattle.block_cases.specs.Good.{Good};
 ghost use Rattle.block_check.specs.Judged.{IsFault};
 
-use trips_isa::{Node, Role};
 use crate::fault::NodeFault;
 use crate::order::sort;
 use crate::search::explore;
+use trips_isa::{Node, Role};
 
 fn is_empty(role: Role) -> bool
     ensures { result ≡ true → role ≡ Role.Empty }
@@ -20,6 +22,12 @@ fn is_empty(role: Role) -> bool
         Role::Empty => true,
         _ => false,
     }
+}
+
+fn is_spare(node: Node) -> bool
+    ensures { result ≡ true → IsSpare node }
+{
+    is_empty(node.role) && node.first == 700 && node.second == 700
 }
 
 /// The least place below 448 that is marked, or 448.
@@ -66,10 +74,8 @@ fn judge_marks(
     requires two { length two.now ≡ 449 }
     requires none { length none.now ≡ 449 }
     requires explored { Explored nodes.now count two.now none.now }
-    ensures {
-        MatchResult result
-            (λ u. Good nodes.now (bit wanted.now)) (IsFault nodes.now (bit wanted.now))
-    }
+    ensures { MatchResult result
+        (λ u. Good nodes.now (bit wanted.now)) (IsFault nodes.now (bit wanted.now)) }
 {
     if count > 256 {
         return Err(NodeFault::TooManyCases);
@@ -97,7 +103,7 @@ fn count_used(nodes: &[Node]) -> usize
     ensures spare { Spare nodes.now result }
 {
     let mut used = nodes.len();
-    while used > 0 && is_empty(nodes[used - 1].role) {
+    while used > 0 && is_spare(nodes[used - 1]) {
         used -= 1;
     }
     used
@@ -108,10 +114,8 @@ fn judge_ordered(nodes: &[Node], order: &[usize], wanted: &[bool]) -> Result<(),
     requires in_place { AllInPlace nodes.now }
     requires ordered { IsOrdered nodes.now order.now }
     requires wanted { length wanted.now ≡ 449 }
-    ensures {
-        MatchResult result
-            (λ u. Good nodes.now (bit wanted.now)) (IsFault nodes.now (bit wanted.now))
-    }
+    ensures { MatchResult result
+        (λ u. Good nodes.now (bit wanted.now)) (IsFault nodes.now (bit wanted.now)) }
 {
     let mut two_table = [false; 449];
     let mut none_table = [false; 449];

@@ -85,14 +85,17 @@ fn inst_node(slot: u16, inst: Option<Inst>) -> Node
             second: NOWHERE,
             below: 0,
         },
-        Some(i) => Node {
-            slot,
-            role: role_of(i.op),
-            sense: i.sense,
-            first: first_place(form_of(i.op), i.number, i.first),
-            second: place_at(i.second),
-            below: load_bound(form_of(i.op), i.number),
-        },
+        Some(i) => {
+            let form = form_of(i.op);
+            Node {
+                slot,
+                role: role_of(i.op),
+                sense: i.sense,
+                first: first_place(form, i.number, i.first),
+                second: place_at(i.second),
+                below: load_bound(form, i.number),
+            }
+        }
     }
 }
 
@@ -120,24 +123,19 @@ pub(crate) fn in_mask(mask: u32, number: u8) -> bool
     number < 32 && (mask >> number) % 2 == 1
 }
 
-fn is_wanted(block: &Block, place: usize) -> bool
-    requires { FitsBlock block.now }
-    ensures { result ≡ wanted_of block.now place }
-{
-    if place < 416 {
-        384 <= place && place < 384 + block.writes.len()
-    } else {
-        place < 448 && in_mask(block.mask, (place - 416) as u8)
-    }
-}
-
 /// Marks the places of the declared writes and of the numbers of the mask.
 pub(crate) fn mark_wanted(block: &Block, wanted: &mut [bool])
     requires fits { FitsBlock block.now }
     requires wanted { length wanted.old ≡ 449 }
     ensures { (q : ℕ) → q < 449 → bit wanted.new q ≡ wanted_of block.now q }
 {
-    for q in 0..449 {
-        wanted[q] = is_wanted(block, q);
+    for mark in wanted.iter_mut() {
+        *mark = false;
+    }
+    for w in 0..block.writes.len() {
+        wanted[384 + w] = true;
+    }
+    for n in 0..32 {
+        wanted[416 + n] = in_mask(block.mask, n as u8);
     }
 }

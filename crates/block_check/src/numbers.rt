@@ -94,10 +94,8 @@ fn is_bad_write(block: &Block, w: usize) -> bool
 /// The first slot with a bad number.
 pub(crate) fn find_bad_number(block: &Block) -> Option<u8>
     requires { FitsBlock block.now }
-    ensures {
-        MatchOption result
-            (NoneBelow (bad_number block.now) 128) (IsLeast (bad_number block.now) 128)
-    }
+    ensures { MatchOption result
+        (NoneBelow (bad_number block.now) 128) (IsLeast (bad_number block.now) 128) }
 {
     for j in 0..128u8 {
         if is_bad_number(block, j) {
@@ -110,11 +108,9 @@ pub(crate) fn find_bad_number(block: &Block) -> Option<u8>
 /// The first write of a register that an earlier one names.
 pub(crate) fn find_bad_write(block: &Block) -> Option<u8>
     requires { FitsBlock block.now }
-    ensures {
-        let count = length block.now.writes.items in
+    ensures { let count = length block.now.writes.items in
         MatchOption result
-            (NoneBelow (bad_write block.now) count) (IsLeast (bad_write block.now) count)
-    }
+        (NoneBelow (bad_write block.now) count) (IsLeast (bad_write block.now) count) }
 {
     for w in 0..block.writes.len() {
         if is_bad_write(block, w) {

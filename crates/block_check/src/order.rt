@@ -1,14 +1,17 @@
 //! An order of the nodes along the edges.
-ghost use Rattle.std.specs.Prelude.{nat_le, nat_lt, ◌≡◌, ◌<◌, ◌≤◌, ◌+◌, ◌||◌, ◌&&◌, ◌==◌, ℕ, length, slice_index_or, slice_index, slice_get, slice_set, false, true, Some, List};
-ghost use Rattle.block_cases.specs.Nodes.{IsRanked, targets, names, hits, stores_below, feeds, HasCycle};
+ghost use Rattle.std.specs.Prelude.{nat_le, nat_lt, ◌≡◌, ◌<◌, ◌≤◌, ◌+◌, ◌||◌, ◌&&◌, ◌==◌, ℕ};
+ghost use Rattle.std.specs.Prelude.{length, slice_index_or, slice_index, slice_get, slice_set};
+ghost use Rattle.std.specs.Prelude.{false, true, Some, List};
+ghost use Rattle.block_cases.specs.Nodes.{IsRanked, targets, names, hits, stores_below, feeds};
+ghost use Rattle.block_cases.specs.Nodes.{HasCycle};
 ghost use Rattle.block_check.specs.Pass.{InPlace, AllInPlace};
-ghost use Rattle.block_check.specs.Placing.{Stuck, Placing, AllStuck, IsOrdered, unplaced, Counting};
-
+ghost use Rattle.block_check.specs.Placing.{Stuck, Placing, AllStuck, IsOrdered, unplaced};
+ghost use Rattle.block_check.specs.Placing.{Counting};
 ghost use Rattle.trips_isa.specs.declared.node.Node.{Node};
 
+use crate::search::count_tokens;
 use block_cases::CaseToken;
 use trips_isa::Node;
-use crate::search::count_tokens;
 
 /// Whether a count from `from` on and below `end` is not 0.
 fn any_waits(counts: &[u16], end: u16) -> bool
@@ -44,7 +47,8 @@ fn is_blocked(nodes: &[Node], ranks: &[u8], counts: &[u16], node: Node) -> bool
     requires counts { length counts.now ≡ 768 }
     requires counting { Counting nodes.now ranks.now counts.now }
     requires in_place { InPlace node }
-    ensures free { result ≡ false → (y : ℕ) (m : Node) → slice_get nodes.now y ≡ Some m → slice_index ranks.now y ≡ 255 → feeds m node ≡ false }
+    ensures free { result ≡ false → (y : ℕ) (m : Node) → slice_get nodes.now y ≡ Some m →
+        slice_index ranks.now y ≡ 255 → feeds m node ≡ false }
     ensures stuck { result ≡ true → Stuck nodes.now ranks.now node }
 {
     let slot = node.slot as usize;
@@ -60,7 +64,8 @@ fn drop_node(counts: &mut [u16], node: Node)
     requires counts { length counts.old ≡ 768 }
     requires in_place { InPlace node }
     requires held { (q : ℕ) → q < 768 → hits (targets node) q ≤ slice_index counts.old q }
-    ensures { (q : ℕ) → q < 768 → slice_index counts.new q + hits (targets node) q ≡ slice_index counts.old q }
+    ensures { (q : ℕ) → q < 768 →
+        slice_index counts.new q + hits (targets node) q ≡ slice_index counts.old q }
 {
     counts[node.first as usize] -= 1;
     counts[node.second as usize] -= 1;
@@ -78,7 +83,14 @@ fn place(ranks: &mut [u8], order: &mut [usize], placed: usize, x: usize)
 }
 
 /// Places a node where all that feed it are placed.
-fn try_place(nodes: &[Node], ranks: &mut [u8], order: &mut [usize], counts: &mut [u16], placed: usize, x: usize) -> usize
+fn try_place(
+    nodes: &[Node],
+    ranks: &mut [u8],
+    order: &mut [usize],
+    counts: &mut [u16],
+    placed: usize,
+    x: usize,
+) -> usize
     requires size { length nodes.now ≤ 160 }
     requires in_place { AllInPlace nodes.now }
     requires counts { length counts.old ≡ 768 }
@@ -89,7 +101,8 @@ fn try_place(nodes: &[Node], ranks: &mut [u8], order: &mut [usize], counts: &mut
     ensures counting { Counting nodes.now ranks.new counts.new }
     ensures more { placed ≤ result }
     ensures same { result ≡ placed → ranks.new ≡ ranks.old }
-    ensures stuck { result ≡ placed → (n : Node) → slice_get nodes.now x ≡ Some n → slice_index ranks.old x ≡ 255 → Stuck nodes.now ranks.old n }
+    ensures stuck { result ≡ placed → (n : Node) → slice_get nodes.now x ≡ Some n →
+        slice_index ranks.old x ≡ 255 → Stuck nodes.now ranks.old n }
 {
     if ranks[x] != 255 {
         return placed;
@@ -104,7 +117,13 @@ fn try_place(nodes: &[Node], ranks: &mut [u8], order: &mut [usize], counts: &mut
 }
 
 /// Tries each node once.
-fn pass(nodes: &[Node], ranks: &mut [u8], order: &mut [usize], counts: &mut [u16], before: usize) -> usize
+fn pass(
+    nodes: &[Node],
+    ranks: &mut [u8],
+    order: &mut [usize],
+    counts: &mut [u16],
+    before: usize,
+) -> usize
     requires size { length nodes.now ≤ 160 }
     requires in_place { AllInPlace nodes.now }
     requires counts { length counts.old ≡ 768 }
@@ -126,7 +145,11 @@ fn pass(nodes: &[Node], ranks: &mut [u8], order: &mut [usize], counts: &mut [u16
 /// none has.
 fn consumer(nodes: usize, place: u16) -> usize {
     let slot = place as usize % 128;
-    if place < 384 && 128 <= nodes { nodes - 128 + slot } else { nodes }
+    if place < 384 && 128 <= nodes {
+        nodes - 128 + slot
+    } else {
+        nodes
+    }
 }
 
 /// Places the consumer at a place where all that feed it are placed.
@@ -209,7 +232,8 @@ fn count_with(nodes: &[Node], toks: &mut [CaseToken], counts: &mut [u16])
     requires in_place { AllInPlace nodes.now }
     requires toks { length toks.old ≡ length nodes.now }
     requires counts { length counts.old ≡ 768 }
-    ensures { (ranks : List ℕ) → ((k : ℕ) → k < length nodes.now → slice_index ranks k ≡ 255) → Counting nodes.now ranks counts.new }
+    ensures { (ranks : List ℕ) → ((k : ℕ) → k < length nodes.now → slice_index ranks k ≡ 255) →
+        Counting nodes.now ranks counts.new }
 {
     for tok in toks.iter_mut() {
         *tok = CaseToken::Null;
@@ -222,7 +246,8 @@ fn count_all(nodes: &[Node], counts: &mut [u16])
     requires size { length nodes.now ≤ 160 }
     requires in_place { AllInPlace nodes.now }
     requires counts { length counts.old ≡ 768 }
-    ensures { (ranks : List ℕ) → ((k : ℕ) → k < length nodes.now → slice_index ranks k ≡ 255) → Counting nodes.now ranks counts.new }
+    ensures { (ranks : List ℕ) → ((k : ℕ) → k < length nodes.now → slice_index ranks k ≡ 255) →
+        Counting nodes.now ranks counts.new }
 {
     let mut table = [CaseToken::Null; 160];
     count_with(nodes, &mut table[..nodes.len()], counts);
@@ -246,7 +271,7 @@ fn sort_by(nodes: &[Node], ranks: &mut [u8], order: &mut [usize], counts: &mut [
 }
 
 /// An order of the nodes; false where they have a cycle.
-pub fn sort(nodes: &[Node], order: &mut [usize]) -> bool
+pub(crate) fn sort(nodes: &[Node], order: &mut [usize]) -> bool
     requires size { length nodes.now ≤ 160 }
     requires in_place { AllInPlace nodes.now }
     requires order { length order.old ≡ length nodes.now }
@@ -255,5 +280,10 @@ pub fn sort(nodes: &[Node], order: &mut [usize]) -> bool
 {
     let mut table = [255u8; 160];
     let mut counts = [0u16; 768];
-    sort_by(nodes, &mut table[..nodes.len()], order, counts.as_mut_slice())
+    sort_by(
+        nodes,
+        &mut table[..nodes.len()],
+        order,
+        counts.as_mut_slice(),
+    )
 }

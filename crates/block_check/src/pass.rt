@@ -1,5 +1,6 @@
 //! One case: what each node gives where the bits are chosen.
-ghost use Rattle.std.specs.Prelude.{◌≡◌, ◌<◌, ◌≤◌, ◌+◌, ℕ, length, slice_get, false, cond, slice_set};
+ghost use Rattle.std.specs.Prelude.{◌≡◌, ◌<◌, ◌≤◌, ◌+◌, ℕ, length, slice_get, false, cond};
+ghost use Rattle.std.specs.Prelude.{slice_set};
 ghost use Rattle.block_cases.specs.Nodes.{targets, names, IsRanked};
 ghost use Rattle.block_cases.specs.Cases.{matches, one_word, both_words, gives, fire};
 ghost use Rattle.block_cases.specs.Cases.{first, pulled, bit, token, or_else};
@@ -74,10 +75,8 @@ fn fired(node: Node, v: bool, left: CaseToken, right: CaseToken, guard: CaseToke
 fn offer(spots: &mut [CaseToken], node: Node, token: CaseToken)
     requires spots { length spots.old ≡ 768 }
     requires in_place { InPlace node }
-    ensures {
-        (q : ℕ) → q < 768 → tok_at spots.new q
-            ≡ or_else (cond (names (targets node) q) token CaseToken.Absent) (tok_at spots.old q)
-    }
+    ensures { (q : ℕ) → q < 768 → tok_at spots.new q
+        ≡ or_else (cond (names (targets node) q) token CaseToken.Absent) (tok_at spots.old q) }
 {
     if token != CaseToken::Absent {
         spots[node.second as usize] = token;
@@ -131,17 +130,21 @@ fn sweep(
     requires rest { AbsentFrom used toks.old }
     requires spots { length spots.now ≡ 768 }
     ensures same { result ≡ false → (x : ℕ) → tok_at toks.new x ≡ tok_at toks.old x }
-    ensures gives {
-        (x : ℕ) → x < length nodes.now → tok_at toks.new x
-            ≡ pulled (slice_get nodes.now x) (bit bits.now x) (tok_at spots.now)
-    }
+    ensures gives { (x : ℕ) → x < length nodes.now → tok_at toks.new x
+        ≡ pulled (slice_get nodes.now x) (bit bits.now x) (tok_at spots.now) }
     ensures rest { AbsentFrom used toks.new }
 {
     let mut changed = false;
     for x in 0..used {
         let node = nodes[x];
         let slot = node.slot as usize;
-        let token = fired(node, bits[x], spots[slot], spots[128 + slot], spots[256 + slot]);
+        let token = fired(
+            node,
+            bits[x],
+            spots[slot],
+            spots[128 + slot],
+            spots[256 + slot],
+        );
         if put(toks, x, token) {
             changed = true;
         }
@@ -165,9 +168,7 @@ fn round(
     requires rest { AbsentFrom used toks.old }
     requires spots { length spots.old ≡ 768 }
     ensures same { result ≡ false → (x : ℕ) → tok_at toks.new x ≡ tok_at toks.old x }
-    ensures gives {
-        (x : ℕ) → tok_at toks.new x ≡ once nodes.now (bit bits.now) (tok_at toks.old) x
-    }
+    ensures gives { (x : ℕ) → tok_at toks.new x ≡ once nodes.now (bit bits.now) (tok_at toks.old) x }
     ensures rest { AbsentFrom used toks.new }
 {
     spread(nodes, used, toks, spots);
@@ -206,7 +207,13 @@ fn guess_one(
     }
     let node = nodes[x];
     let slot = node.slot as usize;
-    let token = fired(node, bits[x], spots[slot], spots[128 + slot], spots[256 + slot]);
+    let token = fired(
+        node,
+        bits[x],
+        spots[slot],
+        spots[128 + slot],
+        spots[256 + slot],
+    );
     toks[x] = token;
     offer_if_free(spots, node.first, token);
     offer_if_free(spots, node.second, token);

@@ -26,10 +26,8 @@ fn add_tokens(counts: &mut [u16], node: Node)
     requires counts { length counts.old ≡ 768 }
     requires room { (q : ℕ) → q < 768 → slice_index counts.old q ≤ 1000 }
     requires in_place { InPlace node }
-    ensures {
-        (q : ℕ) → q < 768 →
-            slice_index counts.new q ≡ slice_index counts.old q + hits (targets node) q
-    }
+    ensures { (q : ℕ) → q < 768 →
+        slice_index counts.new q ≡ slice_index counts.old q + hits (targets node) q }
 {
     counts[node.first as usize] += 1;
     counts[node.second as usize] += 1;
@@ -43,9 +41,7 @@ pub(crate) fn count_tokens(nodes: &[Node], used: usize, toks: &[CaseToken], coun
     requires toks { length toks.now ≡ length nodes.now }
     requires rest { AbsentFrom used toks.now }
     requires counts { length counts.old ≡ 768 }
-    ensures {
-        (q : ℕ) → q < 768 → slice_index counts.new q ≡ tokens nodes.now (tok_at toks.now) q
-    }
+    ensures { (q : ℕ) → q < 768 → slice_index counts.new q ≡ tokens nodes.now (tok_at toks.now) q }
 {
     for count in counts.iter_mut() {
         *count = 0;
@@ -58,13 +54,7 @@ pub(crate) fn count_tokens(nodes: &[Node], used: usize, toks: &[CaseToken], coun
 }
 
 /// Marks the places that get two tokens, and those that get none.
-fn mark(
-    nodes: &[Node],
-    used: usize,
-    toks: &[CaseToken],
-    two: &mut [bool],
-    none: &mut [bool],
-)
+fn mark(nodes: &[Node], used: usize, toks: &[CaseToken], two: &mut [bool], none: &mut [bool])
     requires size { length nodes.now ≤ 160 }
     requires in_place { AllInPlace nodes.now }
     requires used { used ≤ length nodes.now }
@@ -72,14 +62,10 @@ fn mark(
     requires rest { AbsentFrom used toks.now }
     requires two { length two.old ≡ 449 }
     requires none { length none.old ≡ 449 }
-    ensures two {
-        (q : ℕ) → q < 449 →
-            bit two.new q ≡ (bit two.old q || nat_lt 1 (tokens nodes.now (tok_at toks.now) q))
-    }
-    ensures none {
-        (q : ℕ) → q < 449 →
-            bit none.new q ≡ (bit none.old q || (tokens nodes.now (tok_at toks.now) q == 0))
-    }
+    ensures two { (q : ℕ) → q < 449 →
+        bit two.new q ≡ (bit two.old q || nat_lt 1 (tokens nodes.now (tok_at toks.now) q)) }
+    ensures none { (q : ℕ) → q < 449 →
+        bit none.new q ≡ (bit none.old q || (tokens nodes.now (tok_at toks.now) q == 0)) }
 {
     let mut counts = [0u16; 768];
     count_tokens(nodes, used, toks, counts.as_mut_slice());
@@ -112,9 +98,7 @@ fn visit(
     requires none { length none.old ≡ 449 }
     ensures toks { (x : ℕ) → tok_at toks.new x ≡ token nodes.now bits.now x }
     ensures count { result ≤ 257 }
-    ensures added {
-        Added nodes.now (bits.now ∷ []) count result two.old two.new none.old none.new
-    }
+    ensures added { Added nodes.now (bits.now ∷ []) count result two.old two.new none.old none.new }
 {
     run(nodes, used, order, bits, toks);
     mark(nodes, used, toks, two, none);
@@ -138,10 +122,8 @@ fn next_chooser(nodes: &[Node], choosers: &[bool], order: &[usize], from: usize)
     requires from { from ≤ length order.now }
     ensures above { from ≤ result }
     ensures within { result ≤ length order.now }
-    ensures same {
-        (c : List Bool) →
-            others nodes.now (drop from order.now) c ≡ others nodes.now (drop result order.now) c
-    }
+    ensures same { (c : List Bool) →
+        others nodes.now (drop from order.now) c ≡ others nodes.now (drop result order.now) c }
 {
     let mut at = from;
     while at < order.len() && !choosers[order[at]] {
@@ -180,17 +162,24 @@ fn search(
     requires none { length none.old ≡ 449 }
     ensures bits { bits.new ≡ bits.old }
     ensures count { result ≤ 257 }
-    ensures added {
-        Added nodes.now (others nodes.now (drop from order.now) bits.old) count result
-            two.old two.new none.old none.new
-    }
+    ensures added { Added nodes.now (others nodes.now (drop from order.now) bits.old) count result
+        two.old two.new none.old none.new }
 {
     let at = next_chooser(nodes, choosers, order, from);
     if at >= order.len() || count > 256 {
         return count;
     }
     let count = search(
-        nodes, used, choosers, order, at + 1, bits, toks, count, two, none,
+        nodes,
+        used,
+        choosers,
+        order,
+        at + 1,
+        bits,
+        toks,
+        count,
+        two,
+        none,
     );
     let x = order[at];
     if count > 256 {
@@ -205,7 +194,16 @@ fn search(
     let next = &mut table[..nodes.len()];
     let count = visit(nodes, used, order, bits, next, count, two, none);
     let count = search(
-        nodes, used, choosers, order, at + 1, bits, next, count, two, none,
+        nodes,
+        used,
+        choosers,
+        order,
+        at + 1,
+        bits,
+        next,
+        count,
+        two,
+        none,
     );
     bits[x] = before;
     count
@@ -245,7 +243,9 @@ fn explore_from(
         *bit = false;
     }
     let count = visit(nodes, used, order, bits, toks, 0, two, none);
-    search(nodes, used, choosers, order, 0, bits, toks, count, two, none)
+    search(
+        nodes, used, choosers, order, 0, bits, toks, count, two, none,
+    )
 }
 
 /// Visits every case, or at least 257, and marks the places that get two tokens in one, or none.
@@ -272,6 +272,6 @@ pub(crate) fn explore(
     let choosers = &mut chooser_table[..n];
     let bits = &mut bit_table[..n];
     let toks = &mut tok_table[..n];
-    find_choosers(nodes, choosers);
+    find_choosers(nodes, used, order, choosers);
     explore_from(nodes, used, choosers, order, bits, toks, two, none)
 }

@@ -40,7 +40,11 @@ pub(crate) fn slot_of(block: &Block, slot: u8) -> Option<Inst>
 {
     let insts = block.insts.as_slice();
     let slot = slot as usize;
-    if slot < insts.len() { insts[slot] } else { None }
+    if slot < insts.len() {
+        insts[slot]
+    } else {
+        None
+    }
 }
 
 fn is_target_good(block: &Block, spot: Spot) -> bool
@@ -93,10 +97,9 @@ fn is_bad_inst(block: &Block, j: u8) -> bool
 /// The first read with a bad target.
 pub(crate) fn find_bad_read(block: &Block) -> Option<u8>
     requires { FitsBlock block.now }
-    ensures {
-        let count = length block.now.reads.items in
-        MatchOption result (NoneBelow (bad_read block.now) count) (IsLeast (bad_read block.now) count)
-    }
+    ensures { let count = length block.now.reads.items in
+        MatchOption result
+        (NoneBelow (bad_read block.now) count) (IsLeast (bad_read block.now) count) }
 {
     for i in 0..block.reads.len() {
         if is_bad_read(block, i) {
@@ -108,9 +111,7 @@ pub(crate) fn find_bad_read(block: &Block) -> Option<u8>
 
 /// The first slot with a bad target.
 pub(crate) fn find_bad_inst(block: &Block) -> Option<u8>
-    ensures {
-        MatchOption result (NoneBelow (bad_inst block.now) 128) (IsLeast (bad_inst block.now) 128)
-    }
+    ensures { MatchOption result (NoneBelow (bad_inst block.now) 128) (IsLeast (bad_inst block.now) 128) }
 {
     for j in 0..128u8 {
         if is_bad_inst(block, j) {

@@ -1,4 +1,4 @@
-use Rattle.std.proofs.Common.{◌≡◌, ◌<◌, ◌≤◌, ◌+◌, ℕ, length, slice_get, false}
+use Rattle.std.proofs.Common.{◌≡◌, ◌<◌, ◌≤◌, ℕ, slice_get}
 use Rattle.block_cases.specs.Cases.{bit, leads, deepest, is_chooser}
 use Rattle.block_check.proofs.chooser.find_choosers.Given as goal
 

@@ -1,15 +1,15 @@
-use Rattle.std.proofs.Common.{◌≡◌, ◌<◌, ◌≤◌, ◌+◌, ◌-◌, ℕ, length, slice_get, false, suc}
-use Rattle.block_cases.specs.Cases.{bit, leads}
+use Rattle.std.proofs.Common.{◌≡◌, ◌≤◌, ◌-◌, ℕ, slice_get, false}
+use Rattle.block_cases.specs.Cases.{bit, leads_from}
+use Rattle.block_check.specs.Leads.{FalseFrom, led_from}
 use Rattle.block_check.proofs.chooser.find_leads.Given as goal
-
-abbrev pub invariant-loop-mark : goal.invariant-loop-mark
-invariant-loop-mark l = (k : ℕ) → k < l.mark-index → bit l.lead k ≡ false
 
 abbrev pub invariant-loop-changed : goal.invariant-loop-changed
 invariant-loop-changed l = record {
   few : l.rounds ≤ 160;
-  gives : (x : ℕ) → bit l.lead x ≡ leads l.nodes l.rounds x;
-  stable : l.changed ≡ false → (x : ℕ) → leads l.nodes (suc l.rounds) x ≡ leads l.nodes l.rounds x;
+  rest : FalseFrom l.used l.lead;
+  gives : (x : ℕ) → bit l.lead x ≡ led_from l.nodes (bit l.initial.lead) l.rounds x;
+  stable : l.changed ≡ false → (x : ℕ) → bit l.lead x ≡ leads_from l.nodes (slice_get l.nodes x)
+      (bit l.lead);
 }
 
 abbrev pub decreases-loop-changed : goal.decreases-loop-changed

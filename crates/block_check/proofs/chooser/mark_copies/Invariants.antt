@@ -1,4 +1,4 @@
-use Rattle.std.proofs.Common.{◌≡◌, ◌<◌, ◌≤◌, ◌+◌, ℕ, length, take, false}
+use Rattle.std.proofs.Common.{◌≡◌, ◌<◌, ℕ, take, false}
 use Rattle.block_cases.specs.Cases.{bit}
 use Rattle.block_check.specs.Leads.{at_slot}
 use Rattle.block_check.proofs.chooser.mark_copies.Given as goal

@@ -1,4 +1,4 @@
-use Rattle.std.proofs.Common.{◌≡◌, ◌<◌, ℕ, false, true}
+use Rattle.std.proofs.Common.{◌≡◌, ◌<◌, ℕ, false}
 use Rattle.block_cases.specs.Cases.{bit}
 use Rattle.block_check.proofs.judge.first_mark.Given as goal
 

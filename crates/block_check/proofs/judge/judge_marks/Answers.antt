@@ -1,5 +1,4 @@
-use Rattle.std.proofs.Common.{◌≡◌, ◌<◌, ◌≤◌, ℕ, length, get_or, arith, subst, sym, ◌∙◌}
-use Rattle.block_cases.specs.Cases.{cases}
+use Rattle.std.proofs.Common.{◌≡◌, ◌≤◌, ℕ, arith}
 use Rattle.block_check.proofs.Exactness.{ranked_acyclic}
 use Rattle.block_check.proofs.judge.judge_marks.Goals as goal
 
@@ -7,7 +6,10 @@ few_of : (k n : ℕ) → k ≤ 256 → n ≡ k → n ≤ 256
 few_of k n h e = omega arith
 
 pub returns-then-count-gt256 : goal.returns-then-count-gt256
-returns-then-count-gt256 c = (ranked_acyclic c.args.nodes.now c.requires.ranked, c.requires.explored.many c.if-count-gt256.true)
+returns-then-count-gt256 c = (
+  ranked_acyclic c.args.nodes.now c.requires.ranked,
+  c.requires.explored.many c.if-count-gt256.true,
+)
 
 pub returns-then-first-lt448 : goal.returns-then-first-lt448
 returns-then-first-lt448 c =
@@ -16,8 +18,10 @@ returns-then-first-lt448 c =
       acyclic = ranked_acyclic c.args.nodes.now c.requires.ranked;
       few = few_of _ _ few (c.requires.explored.few few);
       below = c.if-first-lt448.true;
-      two = c.requires.explored.twos few _ (omega arith) (c.first_mark-first.ensures.found c.if-first-lt448.true);
-      least = λ p lt. c.requires.explored.no_twos few p (omega arith) (c.first_mark-first.ensures.before p lt);
+      two = c.requires.explored.twos few _ (omega arith) (c.first_mark-first.ensures.found
+          c.if-first-lt448.true);
+      least = λ p lt. c.requires.explored.no_twos few p (omega arith)
+          (c.first_mark-first.ensures.before p lt);
     }
 
 pub returns-then-gap-lt448 : goal.returns-then-gap-lt448
@@ -26,11 +30,14 @@ returns-then-gap-lt448 c =
     record {
       acyclic = ranked_acyclic c.args.nodes.now c.requires.ranked;
       few = few_of _ _ few (c.requires.explored.few few);
-      no_two = λ p lt. c.requires.explored.no_twos few p (omega arith) (c.first_mark-first.ensures.before p (omega arith));
+      no_two = λ p lt. c.requires.explored.no_twos few p (omega arith)
+          (c.first_mark-first.ensures.before p (omega arith));
       below = c.if-gap-lt448.true;
       is_wanted = c.first_wanted-gap.ensures.is_wanted c.if-gap-lt448.true;
-      none = c.requires.explored.nones few _ (omega arith) (c.first_wanted-gap.ensures.found c.if-gap-lt448.true);
-      least = λ p lt w. c.requires.explored.no_nones few p (omega arith) (c.first_wanted-gap.ensures.before p lt w);
+      none = c.requires.explored.nones few _ (omega arith) (c.first_wanted-gap.ensures.found
+          c.if-gap-lt448.true);
+      least = λ p lt w. c.requires.explored.no_nones few p (omega arith)
+          (c.first_wanted-gap.ensures.before p lt w);
     }
 
 pub returns-then-none : goal.returns-then-none
@@ -39,8 +46,10 @@ returns-then-none c =
     record {
       acyclic = ranked_acyclic c.args.nodes.now c.requires.ranked;
       few = few_of _ _ few (c.requires.explored.few few);
-      no_two = λ p lt. c.requires.explored.no_twos few p (omega arith) (c.first_mark-first.ensures.before p (omega arith));
-      no_gap = λ p lt w. c.requires.explored.no_nones few p (omega arith) (c.first_wanted-gap.ensures.before p (omega arith) w);
+      no_two = λ p lt. c.requires.explored.no_twos few p (omega arith)
+          (c.first_mark-first.ensures.before p (omega arith));
+      no_gap = λ p lt w. c.requires.explored.no_nones few p (omega arith)
+          (c.first_wanted-gap.ensures.before p (omega arith) w);
       none = c.requires.explored.nones few 448 (omega arith) c.if-none.true;
     }
 
@@ -50,8 +59,10 @@ returns-then-two c =
     record {
       acyclic = ranked_acyclic c.args.nodes.now c.requires.ranked;
       few = few_of _ _ few (c.requires.explored.few few);
-      no_two = λ p lt. c.requires.explored.no_twos few p (omega arith) (c.first_mark-first.ensures.before p (omega arith));
-      no_gap = λ p lt w. c.requires.explored.no_nones few p (omega arith) (c.first_wanted-gap.ensures.before p (omega arith) w);
+      no_two = λ p lt. c.requires.explored.no_twos few p (omega arith)
+          (c.first_mark-first.ensures.before p (omega arith));
+      no_gap = λ p lt w. c.requires.explored.no_nones few p (omega arith)
+          (c.first_wanted-gap.ensures.before p (omega arith) w);
       exit = c.requires.explored.no_nones few 448 (omega arith) c.if-none.false;
       two = c.requires.explored.twos few 448 (omega arith) c.if-two.true;
     }
@@ -62,8 +73,10 @@ returns c =
     record {
       acyclic = ranked_acyclic c.args.nodes.now c.requires.ranked;
       few = few_of _ _ few (c.requires.explored.few few);
-      no_two = λ p lt. c.requires.explored.no_twos few p (omega arith) (c.first_mark-first.ensures.before p (omega arith));
-      no_gap = λ p lt w. c.requires.explored.no_nones few p (omega arith) (c.first_wanted-gap.ensures.before p (omega arith) w);
+      no_two = λ p lt. c.requires.explored.no_twos few p (omega arith)
+          (c.first_mark-first.ensures.before p (omega arith));
+      no_gap = λ p lt w. c.requires.explored.no_nones few p (omega arith)
+          (c.first_wanted-gap.ensures.before p (omega arith) w);
       exit = c.requires.explored.no_nones few 448 (omega arith) c.if-none.false;
       one_exit = c.requires.explored.no_twos few 448 (omega arith) c.if-two.false;
     }

@@ -1,4 +1,4 @@
-use Rattle.std.proofs.Common.{◌≡◌, ◌<◌, ◌≤◌, ◌+◌, ℕ, length, slice_get, get_or, false, Some}
+use Rattle.std.proofs.Common.{◌≡◌, ◌≤◌}
 use Rattle.block_check.specs.Placing.{Placing, AllStuck, Counting}
 use Rattle.block_check.proofs.order.pass.Given as goal
 

@@ -1,4 +1,4 @@
-use Rattle.std.proofs.Common.{◌≡◌, ◌<◌, ◌≤◌, ◌+◌, ◌-◌, ℕ, length, false, cond}
+use Rattle.std.proofs.Common.{◌≡◌, ◌+◌, ◌-◌, length, false, cond}
 use Rattle.block_check.specs.Placing.{Placing, AllStuck, Counting}
 use Rattle.block_check.proofs.order.place_all.Given as goal
 

@@ -1,4 +1,4 @@
-use Rattle.std.proofs.Common.{◌≡◌, ◌<◌, ◌≤◌, ◌+◌, ℕ, length, drop, suc}
+use Rattle.std.proofs.Common.{◌≡◌, ◌<◌, ◌≤◌, ◌+◌, ℕ, length, drop}
 use Rattle.block_cases.specs.declared.token.CaseToken.TheVariants.{Absent}
 use Rattle.block_cases.specs.Cases.{first}
 use Rattle.block_check.specs.Pass.{tok_at}
@@ -10,7 +10,8 @@ invariant-loop-spot l = (k : ℕ) → k < l.spot-index → tok_at l.spots k ≡ 
 abbrev pub invariant-loop-x : goal.invariant-loop-x
 invariant-loop-x l = record {
   within : l.x ≤ length l.nodes;
-  done : (q : ℕ) → q < 768 → tok_at l.spots q ≡ first (drop l.x l.nodes) q (λ y. tok_at l.toks (l.x + y));
+  done : (q : ℕ) → q < 768 → tok_at l.spots q ≡ first (drop l.x l.nodes) q (λ y. tok_at l.toks (l.x
+      + y));
 }
 
 abbrev pub decreases-loop-x : goal.decreases-loop-x

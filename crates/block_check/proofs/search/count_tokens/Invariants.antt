@@ -1,4 +1,4 @@
-use Rattle.std.proofs.Common.{◌≡◌, ◌<◌, ◌≤◌, ◌+◌, ◌*◌, ℕ, length, take, get_or}
+use Rattle.std.proofs.Common.{◌≡◌, ◌<◌, ◌≤◌, ◌*◌, ℕ, take, get_or}
 use Rattle.block_cases.specs.Cases.{tokens}
 use Rattle.block_check.specs.Pass.{tok_at}
 use Rattle.block_check.proofs.search.count_tokens.Given as goal

@@ -6,7 +6,8 @@ abbrev pub invariant-loop-at : goal.invariant-loop-at
 invariant-loop-at l = record {
   above : l.from ≤ l.at;
   within : l.at ≤ length l.order;
-  same : (c : List Bool) → others l.nodes (drop l.from l.order) c ≡ others l.nodes (drop l.at l.order) c;
+  same : (c : List Bool) → others l.nodes (drop l.from l.order) c ≡ others l.nodes (drop l.at
+      l.order) c;
 }
 
 abbrev pub decreases-loop-at : goal.decreases-loop-at
