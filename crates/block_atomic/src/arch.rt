@@ -1,14 +1,23 @@
-ghost use Rattle.std.specs.Prelude.{◌≡◌, ◌<◌, ◌≤◌, ◌+◌, ◌^◌, length, All, IfOk, slice_index};
-ghost use Rattle.std.specs.Prelude.{unwrap_or};
-ghost use Rattle.trips_isa.specs.Plain.{start, step_of, first_call, changed, system_call};
-ghost use Rattle.trips_isa.specs.PlainBlocks.{IsPlain};
+ghost use Rattle.std.specs.Prelude.{◌≡◌, ◌<◌, ◌≤◌, ◌+◌, ℕ, All, IfOk, length, slice_get};
+ghost use Rattle.std.specs.Prelude.{slice_index, slice_index_or, vec_len, None, ◌++◌, ◌∷◌, []};
+ghost use Rattle.trips_isa.specs.Fits.{FitsBlock};
+ghost use Rattle.trips_isa.specs.Stores.{data_size, store_all};
+ghost use Rattle.trips_isa.specs.Outcomes.{Outcome, all_stores, writes_from};
+ghost use Rattle.trips_isa.specs.Machine.{memory_of, start, step_of, system_call, then_system, write_all};
+ghost use Rattle.block_check.specs.IsChecked.{IsChecked};
+ghost use Rattle.block_check.specs.Images.{IsCheckedImage};
+ghost use Rattle.block_atomic.specs.Bounds.{StoreFits};
 
+use crate::effects::{make_stores, write_registers};
+use crate::exits::{exit, is_system, leaving, successor};
 use crate::memory::data_memory;
-use crate::plain::{call_exit, next_block, write_registers};
+use crate::rounds::{clear_table, settle};
+use crate::used::used_slots;
 use base::Memory;
-use std::alloc::Global;
+use block_check::CheckedImage;
+use std::alloc::{AllocError, Global};
 use std::marker::Model;
-use trips_isa::{Block, Image, Stepped, Traced};
+use trips_isa::{Block, Stepped, Stored, Token, Traced};
 
 /// The machine between two blocks: 128 registers, 4,194,304 bytes of data memory, the next block,
 /// the rest of the input, the output and the trace.
@@ -27,8 +36,9 @@ pub struct Arch {
 }
 
 impl Model for Arch {
-    ghost use Rattle.std.specs.Prelude.{◌≤◌, drop, vec_len, vec_capacity};
-    ghost use Rattle.trips_isa.specs.Plain.{Machine};
+    ghost use Rattle.std.specs.Prelude.{◌≡◌, ◌≤◌, drop, vec_len, vec_capacity};
+    ghost use Rattle.trips_isa.specs.Stores.{data_size};
+    ghost use Rattle.trips_isa.specs.Machine.{Machine};
 
     ghost Value = { Machine };
 
@@ -44,20 +54,32 @@ impl Model for Arch {
       budget = a.budget;
     } };
 
-    ghost invariant = { λ a. (a.taken ≤ vec_len a.input)
-        × (vec_len a.output ≤ vec_len a.trace) × (vec_len a.trace ≤ a.budget)
+    ghost invariant = { λ a. (vec_len a.memory ≡ data_size) × (a.taken ≤ vec_len a.input) × (vec_len a.output ≤ vec_len a.trace) × (vec_len a.trace ≤ a.budget)
         × (a.budget ≤ vec_capacity a.output) × (a.budget ≤ vec_capacity a.trace) };
+}
+
+// Data memory at the start of an image's run.
+fn image_memory(alloc: Global, image: &CheckedImage) -> Result<Vec<u8>, AllocError>
+    ensures items { IfOk result (λ memory. memory.items ≡ memory_of image.now.bytes) }
+    ensures size { IfOk result (λ memory. vec_len memory ≡ data_size) }
+{
+    let _count = image.count();
+    data_memory(alloc, image.bytes())
 }
 
 impl Arch {
     /// A machine at the start of the image's run, with room for `budget` steps. Want of memory is
     /// the only error.
-    pub fn make(alloc: Global, image: &Image, input: Vec<u8>, budget: u32) -> Result<Arch, Memory>
-        requires { length image.now.bytes ≤ 4194304 }
+    pub fn make(
+        alloc: Global,
+        image: &CheckedImage,
+        input: Vec<u8>,
+        budget: u32,
+    ) -> Result<Arch, Memory>
         ensures state { IfOk result (λ arch. arch.state ≡ start image.now.bytes input.items) }
         ensures budget { IfOk result (λ arch. arch.budget ≡ budget) }
     {
-        let memory = data_memory(alloc, image.bytes.as_slice())?;
+        let memory = image_memory(alloc, image)?;
         let output = Vec::with_capacity(alloc, budget as usize)?;
         let trace = Vec::with_capacity(alloc, budget as usize)?;
         Ok(Arch {
@@ -73,9 +95,7 @@ impl Arch {
     }
 
     /// Executes the next block whole. `room` says that fewer steps were made than the budget.
-    pub fn step(&mut self, image: &Image) -> Stepped
-        requires plain { All IsPlain image.now.blocks }
-        requires few { length image.now.blocks < 2 ^ 32 }
+    pub fn step(&mut self, image: &CheckedImage) -> Stepped
         requires next { self.old.state.next < length image.now.blocks }
         requires room { length self.old.state.trace < self.old.budget }
         ensures step { (self.new.state, result) ≡ step_of image.now.blocks self.old.state }
@@ -83,36 +103,97 @@ impl Arch {
         ensures trace { length self.new.state.trace ≡ length self.old.state.trace + 1 }
         ensures budget { self.new.budget ≡ self.old.budget }
     {
-        let block = &image.blocks.as_slice()[self.next as usize];
-        let call = call_exit(block.insts.as_slice());
-        let successor = next_block(self.next, image.blocks.len());
-        self.change(block, call.unwrap_or(0), successor);
-        if call.is_some() {
-            self.system_call()
-        } else {
-            Stepped::Went
-        }
+        let mut places = [None; 416];
+        let mut stores = [None; 32];
+        let mut table = [None; 128];
+        self.step_with(image, &mut places, &mut stores, &mut table)
+    }
+
+    // A step, with room for the tokens at the places, the stores and the table.
+    fn step_with(
+        &mut self,
+        image: &CheckedImage,
+        places: &mut [Option<Token>],
+        stores: &mut [Option<Stored>],
+        table: &mut [Option<Token>],
+    ) -> Stepped
+        requires next { self.old.state.next < length image.now.blocks }
+        requires room { length self.old.state.trace < self.old.budget }
+        requires places { length places.old ≡ 416 }
+        requires stores { length stores.old ≡ 32 }
+        requires table { length table.old ≡ 128 }
+        ensures step { (self.new.state, result) ≡ step_of image.now.blocks self.old.state }
+        ensures next { self.new.state.next < length image.now.blocks }
+        ensures trace { length self.new.state.trace ≡ length self.old.state.trace + 1 }
+        ensures budget { self.new.budget ≡ self.old.budget }
+    {
+        let _count = image.count();
+        let block = image.at(self.next).block();
+        let insts = block.insts.as_slice();
+        let used = used_slots(insts);
+        clear_table(table);
+        settle(
+            block,
+            used,
+            &self.registers,
+            &self.memory,
+            places,
+            stores,
+            table,
+        );
+        let branch = leaving(insts, used, table);
+        let next = successor(image, self.next, branch);
+        self.change(block.writes.as_slice(), places, stores, exit(branch), next);
+        self.then_system(is_system(branch))
     }
 
     // Makes the block's changes, all at once.
-    fn change(&mut self, block: &Block, exit: u8, successor: u32)
-        requires plain { IsPlain block.now }
-        requires exit { exit ≡ unwrap_or (first_call block.now.insts.items) 0 }
+    fn change(
+        &mut self,
+        writes: &[u8],
+        places: &[Option<Token>],
+        stores: &[Option<Stored>],
+        exit: u8,
+        successor: u32,
+    )
+        requires writes { All (λ r. r < 128) writes.now }
+        requires count { length writes.now ≤ 32 }
+        requires places { length places.now ≡ 416 }
+        requires stores { length stores.now ≡ 32 }
+        requires fits { (n : ℕ) → n < 32 → StoreFits (slice_index_or stores.now n None) }
         requires room { length self.old.state.trace < self.old.budget }
-        ensures state { self.new.state ≡ changed block.now successor self.old.state }
+        ensures registers { self.new.state.registers ≡ write_all self.old.state.registers writes.now
+            (writes_from (λ q. slice_index_or places.now q None) 0 writes.now) }
+        ensures memory { self.new.state.memory ≡ store_all self.old.state.memory (all_stores (λ n. slice_index_or stores.now n None)) }
+        ensures trace { self.new.state.trace ≡ self.old.state.trace ++ (record { block = self.old.state.next; exit = exit }) ∷ [] }
+        ensures next { self.new.state.next ≡ successor }
+        ensures rest { self.new.state.rest ≡ self.old.state.rest }
+        ensures output { self.new.state.output ≡ self.old.state.output }
         ensures room { length self.new.state.output < length self.new.state.trace }
         ensures budget { self.new.budget ≡ self.old.budget }
     {
-        write_registers(
-            &mut self.registers,
-            block.writes.as_slice(),
-            block.insts.as_slice(),
-        );
+        write_registers(&mut self.registers, writes, places);
+        make_stores(&mut self.memory, stores);
         self.trace.push_reserved(Traced {
             block: self.next,
             exit,
         });
         self.next = successor;
+    }
+
+    // The system call, where one follows.
+    fn then_system(&mut self, system: bool) -> Stepped
+        requires { length self.old.state.output < length self.old.state.trace }
+        ensures answer { (self.new.state, result) ≡ then_system system self.old.state }
+        ensures next { self.new.state.next ≡ self.old.state.next }
+        ensures trace { self.new.state.trace ≡ self.old.state.trace }
+        ensures budget { self.new.budget ≡ self.old.budget }
+    {
+        if system {
+            self.system_call()
+        } else {
+            Stepped::Went
+        }
     }
 
     // Does what register 0 says.

@@ -95,11 +95,11 @@ unfolding deepest given all_stores
 stored = refl
 
 pub ended : (runs image small 2).1 ≡ Ended
-unfolding deepest given all_stores
+unfolding deepest given all_stores runs
 ended = refl
 
 pub loaded : slice_index (runs image small 2).0.registers 3 ≡ 171
-unfolding deepest given all_stores
+unfolding deepest given all_stores runs
 loaded = refl
 
 pub divide_is_asked : producers storing (Left 4) ≡ InstSpot 2 ∷ []

@@ -1,5 +1,5 @@
 -- Where the blocks of an image begin, and the images whose parts lie in their fields.
-use Rattle.std.specs.Prelude.{◌≡◌, ℕ, suc, ◌+◌, ◌/◌, ◌≤◌, ◌==◌, cond, max, List, [], ◌∷◌, take, Option, Some, None, All, length}
+use Rattle.std.specs.Prelude.{◌≡◌, ℕ, suc, ◌+◌, ◌/◌, ◌≤◌, ◌==◌, cond, max, List, [], ◌∷◌, take, Option, Some, None, All, length, unwrap_or}
 use Rattle.std.specs.List.{sum_by}
 use Rattle.trips_isa.specs.declared.block.Inst.{Inst}
 use Rattle.trips_isa.specs.declared.block.Block.{Block}
@@ -25,19 +25,18 @@ chunks b = 1 + body_chunks 0 b.insts.items
 abbrev pub chunk_of : List Block → ℕ → ℕ
 chunk_of blocks k = sum_by chunks (take k blocks)
 
--- the block that begins at a chunk, of those from number k on, whose first begins at `here`; block 0 where none does
-abbrev pub block_at : List Block → ℕ → ℕ → ℕ → ℕ
-block_at [] k here chunk = 0
-block_at (b ∷ bs) k here chunk = cond (here == chunk) k (block_at bs (suc k) (here + chunks b) chunk)
-
--- the same, and none where no block begins there
+-- the block that begins at a chunk, of those from number k on, whose first begins at `here`
 abbrev pub starting_from : List Block → ℕ → ℕ → ℕ → Option ℕ
 starting_from [] k here chunk = None
 starting_from (b ∷ bs) k here chunk = cond (here == chunk) (Some k) (starting_from bs (suc k) (here + chunks b) chunk)
 
--- the block that begins at a chunk of an image
+-- the block that begins at a chunk of an image, and none where none does
 abbrev pub starting_at : List Block → ℕ → Option ℕ
 starting_at blocks chunk = starting_from blocks 0 0 chunk
+
+-- the same, and block 0 where none does
+abbrev pub block_at : List Block → ℕ → ℕ
+block_at blocks chunk = unwrap_or (starting_at blocks chunk) 0
 
 -- images ------------------------------------------------------------------------------------------
 

@@ -69,11 +69,15 @@ step_in blocks (Some b) s = apply b.writes.items (outcome blocks s.next b s.regi
 abbrev pub step_of : List Block → State → State × Stepped
 step_of blocks s = step_in blocks (slice_get blocks s.next) s
 
+-- data memory: the image's bytes, followed by zeros
+unfoldable pub memory_of : List ℕ → List ℕ
+memory_of bytes = bytes ++ replicate (data_size - length bytes) 0
+
 -- the state that a run starts from
 abbrev pub start : List ℕ → List ℕ → State
 start bytes input = record {
   registers = replicate 128 0;
-  memory = bytes ++ replicate (data_size - length bytes) 0;
+  memory = memory_of bytes;
   next = 0;
   rest = input;
   output = [];
@@ -85,13 +89,10 @@ goes_on blocks s Went = step_of blocks s
 goes_on blocks s Ended = (s, Ended)
 goes_on blocks s StackFull = (s, StackFull)
 
-abbrev pub runs_on : (State × Stepped → State × Stepped) → ℕ → State × Stepped → State × Stepped
-runs_on step zero s = s
-runs_on step (suc n) s = step (runs_on step n s)
-
 -- the state after n steps, or after the step that ended the run if that was earlier
-abbrev pub runs : List Block → State → ℕ → State × Stepped
-runs blocks s n = runs_on (λ t. goes_on blocks t.0 t.1) n (s, Went)
+unfoldable pub runs : List Block → State → ℕ → State × Stepped
+runs blocks s zero = (s, Went)
+runs blocks s (suc n) = let before = runs blocks s n in goes_on blocks before.0 before.1
 
 -- a machine that may make as many steps as its budget
 pub record Machine : Type 0 where

@@ -19,10 +19,10 @@ use Rattle.trips_isa.specs.Blocks.{at_place, store_of, Leaving, leaving_of, toke
 -- an address is in bytes; a null one leads to block 0
 abbrev pub to_address : List Block → Token → ℕ
 to_address blocks Null = 0
-to_address blocks (Word a) = cond (a % 128 == 0) (block_at blocks 0 0 (a / 128)) 0
+to_address blocks (Word a) = cond (a % 128 == 0) (block_at blocks (a / 128)) 0
 
 abbrev pub to_offset : List Block → ℕ → ℕ → ℕ
-to_offset blocks k offset = block_at blocks 0 0 ((chunk_of blocks k + offset) % 2 ^ 64)
+to_offset blocks k offset = block_at blocks ((chunk_of blocks k + offset) % 2 ^ 64)
 
 abbrev pub to_following : List Block → ℕ → ℕ
 to_following blocks k = cond (nat_lt (k + 1) (length blocks)) (k + 1) 0
