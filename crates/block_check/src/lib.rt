@@ -1,7 +1,7 @@
 //! The block checker.
 //!
-//! [`check`] takes a block exactly where it is good (docs/MACHINE.md, "Good blocks"), and else hands
-//! it back unchanged with the fault of the lowest number at its least spot. It takes no memory.
+//! [`check`] takes a block exactly where it is good (docs/MACHINE.md, "Good blocks"), and else
+//! hands it back unchanged with the fault of the lowest number at its least spot, taking no memory.
 //! A [`CheckedBlock`] stands for what every machine may rely on: the block fits and is good, its
 //! nodes have an order along their edges, and whatever its reads and loads are answered, no spot
 //! gets two tokens, each declared write and store number gets one, and one exit is taken.

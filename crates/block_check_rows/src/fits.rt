@@ -1,9 +1,10 @@
-//! Whether a block whose immediates are all 0 fits.
+//! Whether blocks whose immediates are all 0, and images of them without bytes, fit.
 ghost use Rattle.std.specs.Prelude.{◌≡◌, ◌<◌, ◌≤◌, All, IsTrue, length, pos};
 ghost use Rattle.trips_isa.specs.Fits.{FitsTarget, FitsTargets, FitsForm, FitsSlot};
+ghost use Rattle.trips_isa.specs.Images.{FitsImage};
 ghost use Rattle.trips_isa.specs.Fits.{FitsOperand, FitsSecond, FitsRead, FitsBlock};
 
-use trips_isa::{Block, Form, Inst, ReadSlot, Sense, Spot, form_of};
+use trips_isa::{Block, Form, Image, Inst, ReadSlot, Sense, Spot, chunks, form_of};
 
 fn target_fits(target: Option<Spot>) -> bool
     ensures { IsTrue result → FitsTarget target }
@@ -113,6 +114,25 @@ pub fn block_fits(block: &Block) -> bool
     let _mask = block.mask;
     block.insts.len() == 128
         && block.reads.as_slice().iter().all(|read| read_fits(*read))
-        && block.writes.as_slice().iter().all(|register| *register < 128)
+        && block
+            .writes
+            .as_slice()
+            .iter()
+            .all(|register| *register < 128)
         && block.insts.as_slice().iter().all(|slot| slot_fits(*slot))
+}
+
+/// Whether an image of blocks with immediates 0 and without bytes fits; no other image is said to.
+pub fn image_fits(image: &Image) -> bool
+    ensures { IsTrue result → FitsImage image.now }
+{
+    let blocks = image.blocks.as_slice();
+    let mut total: u32 = 0;
+    for block in blocks {
+        if !block_fits(block) || total > 500_000 {
+            return false;
+        }
+        total += chunks(block);
+    }
+    image.bytes.is_empty() && blocks.len() >= 1 && total <= 524_288
 }

@@ -2,6 +2,5 @@
 #![tactic(auto)]
 
 pub mod fits;
-
 #[cfg(test)]
 mod tests;
