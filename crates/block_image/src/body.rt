@@ -77,7 +77,7 @@ fn body(
 }
 
 #[tactic(auto, unfolding(crate::specs::Reading::header_at))]
-fn header(total: u32, at: usize, words: &[u32]) -> Result<u64, ImageFault>
+pub(crate) fn header(total: u32, at: usize, words: &[u32]) -> Result<u64, ImageFault>
     requires place { at < 2 ^ 62 }
     requires total { total ≤ 524288 }
     requires words { length words.now ≡ 32 }
@@ -95,7 +95,7 @@ fn header(total: u32, at: usize, words: &[u32]) -> Result<u64, ImageFault>
     }
 }
 
-pub(crate) fn are_empty(slots: &[Option<Inst>]) -> bool
+fn are_empty(slots: &[Option<Inst>]) -> bool
     ensures value { result ≡ all_empty slots.now }
 {
     for slot in slots {
