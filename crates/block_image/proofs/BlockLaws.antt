@@ -188,15 +188,15 @@ block_again total at bytes rest b f l e =
     rw (ck, hd, bd', ls, parts_again b info f i) refl
 
 -- the chunks of a block that was read are those of its header
-pub size_read : (total at info : ℕ) (ws : List ℕ) (s t : Slots) (b : Block) → header_at total at ws ≡ Ok info → is_good_info info ≡ true → length s ≡ 32 * chunks_in info
-    → least_at at (chunks_in info) s ≡ Ok t → b ≡ parts_from info ws s → (1 + chunks_in info ≡ 1 + chunks_of b.insts.items) × (total + (1 + chunks_in info) ≤ 524288)
-unfolding least_at parts_from padded
-size_read total at info ws s t b h good n l e =
+pub size_read : (total at info : ℕ) (ws : List ℕ) (s t new : Slots) → header_at total at ws ≡ Ok info → is_good_info info ≡ true → length s ≡ 32 * chunks_in info
+    → least_at at (chunks_in info) s ≡ Ok t → new ≡ s ++ replicate (128 - length s) None → (1 + chunks_in info ≡ 1 + chunks_of new) × (total + (1 + chunks_in info) ≤ 524288)
+unfolding least_at padded
+size_read total at info ws s t new h good n l e =
     let k = counts info good in
     let c = chunks_in info in
     let k0 = k.some in let k1 = k.chunks in
     let g = test_false (nat_lt 1 c && all_empty (drop (32 * (c - 1)) s)) (BadField (at + 64)) s t l in
     let ch : chunks_of (padded s) ≡ c = chunks_takes c s k0 k1 n g.0 in
-    let same : chunks_of b.insts.items ≡ c = ap (λ (x : Block). chunks_of x.insts.items) e ∙ ch in
+    let same : chunks_of new ≡ c = ap chunks_of e ∙ ch in
     let hd = (header_takes total at ws info h).total_is in
     (ap (λ (x : ℕ). 1 + x) (sym same), omega arith)
