@@ -1,23 +1,22 @@
 -- A block that is read is the block that was written.
-use Rattle.std.proofs.Common.{◌≡◌, ℕ, zero, suc, ◌+◌, ◌-◌, ◌*◌, ◌/◌, ◌%◌, ◌^◌, ◌<◌, ◌≤◌, Bool, true, false, cond, List, [], ◌∷◌, ◌++◌, length, take, drop, map, replicate, Option, Some, None, Result, Ok, Err, refl, sym, ap, subst, ◌∙◌, arith, nat_lt, ◌&&◌, append_assoc, lit<, lit≤}
+use Rattle.std.proofs.Common.{◌≡◌, ℕ, zero, suc, ◌+◌, ◌-◌, ◌*◌, ◌^◌, ◌<◌, ◌≤◌, Bool, true, false, cond, List, [], ◌∷◌, ◌++◌, length, take, drop, map, replicate, Option, Some, None, Result, Ok, Err, refl, sym, ap, subst, ◌∙◌, arith, nat_lt, ◌&&◌, append_assoc}
 use Rattle.std.proofs.lemmas.Bool.{ltb-false, le-ltb}
-use Rattle.std.proofs.lemmas.List.{take-append-drop, length-append, length-take, length-drop, drop-drop, drop_at, take_at, length-map, length-replicate, drop-take, drop-append-le}
+use Rattle.std.proofs.lemmas.List.{take-append-drop, length-append, length-take, length-drop, take_at, length-map, length-replicate, drop-append-le}
 use Rattle.trips_isa.specs.declared.block.Inst.{Inst}
-use Rattle.trips_isa.specs.declared.block.ReadSlot.{ReadSlot}
 use Rattle.block_image.specs.declared.fault.ImageFault.{ImageFault}
-use Rattle.block_image.specs.declared.fault.ImageFault.TheVariants.{Truncated, BadField}
+use Rattle.block_image.specs.declared.fault.ImageFault.TheVariants.{BadField}
 use Rattle.block_image.specs.Words.{slot_word}
 use Rattle.trips_isa.specs.Fits.{FitsSlot, FitsRead, FitsBlock}
 use Rattle.block_image.specs.Headers.{words_from, info_of}
 use Rattle.block_image.specs.HeaderReading.{info_from, mask_in, reads_in, writes_in, chunks_in, is_good_info, first_bad, read_at, write_at}
 use Rattle.trips_isa.specs.declared.block.Block.{Block}
-use Rattle.block_image.proofs.Each.{Each, AreBytes, AreWords, each_take, each_both, each_of, all_of}
-use Rattle.block_image.specs.Spelling.{words_bytes, chunks_of, header_words, body_words, block_bytes}
+use Rattle.block_image.proofs.Each.{Each, AreBytes, each_take, each_both, each_of, all_of}
+use Rattle.block_image.specs.Spelling.{words_bytes, chunks_of, block_bytes}
 use Rattle.block_image.specs.Reading.{all_empty, ◌>>=◌, Slots, chunk_at, body_at, fault_at, header_at, parts_from, least_at, block_at}
-use Rattle.block_image.proofs.Lists.{bind_ok, ok_is, Counts, counts, good_info}
+use Rattle.block_image.proofs.Lists.{bind_ok, ok_is, counts, good_info}
 use Rattle.block_image.proofs.HeaderLaws.{words_takes, read_fits, info_again, info_below, length-words_from, words_from_below, reads_again, writes_again, none_bad, InfoIs, info_is, info_takes}
 use Rattle.block_image.proofs.BodyLaws.{BodyTaken, words_bytes_both, test_false, chunk_takes, chunk_again, after_chunk, body_takes, body_again, ChunkTaken}
-use Rattle.block_image.proofs.Chunks.{padded, length-padded, chunks_takes, chunks_least, Least, empty_both, empty_is}
+use Rattle.block_image.proofs.Chunks.{padded, chunks_takes, chunks_least, Least, empty_both, empty_is}
 
 -- ---- taken
 

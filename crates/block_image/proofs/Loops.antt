@@ -1,19 +1,14 @@
 -- Reading blocks one after the other.
-use Rattle.std.proofs.Common.{slice_set, take, subst, ◌≡◌, ℕ, zero, suc, ◌+◌, ◌-◌, ◌*◌, ◌<◌, ◌≤◌, Bool, true, false, cond, List, [], ◌∷◌, ◌++◌, length, drop, get_or, Result, Ok, Err, refl, sym, ap, ◌∙◌, arith, append_assoc, nat_eq}
-use Rattle.std.specs.Prelude.{MatchResult, IfOk}
+use Rattle.std.proofs.Common.{slice_set, take, ◌≡◌, ℕ, suc, ◌+◌, ◌-◌, ◌*◌, ◌<◌, ◌≤◌, Bool, true, false, cond, List, [], ◌∷◌, ◌++◌, length, drop, get_or, Result, Ok, Err, refl, sym, ap, ◌∙◌, arith, append_assoc, nat_eq}
 use Rattle.std.proofs.lemmas.List.{append-nil, take_rest, set_at}
 use Rattle.std.proofs.Math.Seq.{get_or-append_seam}
 use Rattle.block_image.specs.declared.fault.ImageFault.{ImageFault}
 use Rattle.block_image.specs.declared.fault.ImageFault.TheVariants.{Magic, Version, Truncated, Trailing, BadField, Memory}
-use Rattle.block_image.proofs.Each.{Each, each_byte}
 use Rattle.trips_isa.specs.declared.block.Block.{Block}
-use Rattle.trips_isa.specs.declared.block.Image.{Image}
-use Rattle.block_image.specs.Spelling.{ImageBytes, chunks_of, spelling}
+use Rattle.block_image.specs.Spelling.{chunks_of}
 use Rattle.block_image.specs.Reading.{all_empty, ◌>>=◌, chunk_at, rest_at, block_at, Slots}
 use Rattle.trips_isa.specs.Images.{last_byte}
-use Rattle.block_image.specs.ImageReading.{blocks_at, with_blocks, Fails, wants, image_at, Answers, IsMemory}
-use Rattle.block_image.proofs.ImageLaws.{image_takes, image_again}
-use Rattle.block_image.proofs.Lists.{ok_is}
+use Rattle.block_image.specs.ImageReading.{blocks_at, with_blocks, Fails, wants}
 
 pub fails_of : {Y : Type 0} (e : ImageFault) (read : Result Y ImageFault) → read ≡ Err e → Fails e read
 fails_of Magic read h = h

@@ -1,19 +1,15 @@
 -- Worked rows of the definitions, by evaluation: the example of docs/MACHINE.md, "The image", and single words.
-use Rattle.std.proofs.Common.{◌≡◌, ◌+◌, ◌*◌, ◌-◌, ℕ, List, [], ◌∷◌, ◌++◌, replicate, Option, Some, None, refl, lit≤}
+use Rattle.std.proofs.Common.{◌≡◌, ◌+◌, ◌*◌, ℕ, List, [], ◌∷◌, ◌++◌, replicate, Option, Some, None, refl}
 use Rattle.std.specs.Prelude.{pos, negsuc, length}
 use Rattle.trips_isa.specs.declared.op.Op.TheVariants as op
 use Rattle.trips_isa.specs.declared.block.Sense.TheVariants.{Always, OnTrue, OnFalse}
 use Rattle.trips_isa.specs.declared.block.Spot.TheVariants as spot
 use Rattle.trips_isa.specs.declared.block.Inst.{Inst}
-use Rattle.trips_isa.specs.declared.block.Block.{Block}
 use Rattle.trips_isa.specs.declared.block.Image.{Image}
 use Rattle.isa_table.specs.Codes.{code_of}
-use Rattle.block_image.specs.declared.fault.ImageFault.TheVariants.{Truncated, Trailing, BadField, Magic, Version}
-use Rattle.block_image.specs.Words.{inst_word, slot_word}
-use Rattle.block_image.specs.WordReading.{slot_at}
-use Rattle.block_image.specs.Headers.{words_from, info_of, read_fields}
-use Rattle.block_image.specs.Spelling.{magic, words_bytes, block_bytes, chunks_of, spelling}
-use Rattle.block_image.specs.Reading.{Slots}
+use Rattle.block_image.specs.Words.{inst_word}
+use Rattle.block_image.specs.Headers.{words_from, read_fields}
+use Rattle.block_image.specs.Spelling.{magic, block_bytes, chunks_of, spelling}
 
 -- words of each form --------------------------------------------------------------------------------
 

@@ -1,9 +1,11 @@
 //! Blocks: read.
-ghost use Rattle.std.specs.Prelude.{◌≡◌, ◌+◌, ◌-◌, ◌*◌, ◌<◌, ◌≤◌, ◌^◌, ◌++◌, length, drop, replicate, IfOk, OnOk, None, true, []};
+ghost use Rattle.std.specs.Prelude.{◌≡◌, ◌+◌, ◌-◌, ◌*◌, ◌<◌, ◌≤◌, ◌^◌, ◌++◌, length, drop};
+ghost use Rattle.std.specs.Prelude.{replicate, IfOk, OnOk, None, true, []};
 ghost use Rattle.block_image.specs.HeaderReading.{is_good_info, chunks_in};
 ghost use Rattle.block_image.specs.WordReading.{slot_at};
 ghost use Rattle.block_image.specs.Spelling.{chunks_of};
-ghost use Rattle.block_image.specs.Reading.{all_empty, chunk_at, slots_at, slot_or_fault, body_at, header_at, least_at, rest_at, parts_from};
+ghost use Rattle.block_image.specs.Reading.{all_empty, chunk_at, slots_at, slot_or_fault, body_at};
+ghost use Rattle.block_image.specs.Reading.{header_at, least_at, rest_at, parts_from};
 ghost use Rattle.block_image.specs.ImageReading.{Gives, Adds};
 
 use crate::fault::ImageFault;

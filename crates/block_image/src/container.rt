@@ -5,7 +5,9 @@ ghost use Rattle.trips_isa.specs.Images.{last_byte};
 ghost use Rattle.block_image.specs.declared.fault.ImageFault.{ImageFault};
 ghost use Rattle.block_image.specs.Spelling.{ImageBytes};
 ghost use Rattle.block_image.specs.FirstFault.{FirstFault};
-ghost use Rattle.block_image.specs.ImageReading.{Gives, Answers, IsMemory, IsMemoryOr, number_at, magic_at, version_at, count_at, size_at, data_at, blocks_at, image_at};
+ghost use Rattle.block_image.specs.ImageReading.{Gives, Answers, IsMemory, IsMemoryOr, number_at};
+ghost use Rattle.block_image.specs.ImageReading.{magic_at, version_at, count_at, size_at, data_at};
+ghost use Rattle.block_image.specs.ImageReading.{blocks_at, image_at};
 
 use crate::body::{blank, chunk, fill};
 use crate::fault::ImageFault;

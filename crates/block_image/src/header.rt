@@ -1,6 +1,9 @@
 //! The words of headers: read.
-ghost use Rattle.std.specs.Prelude.{◌≡◌, ℕ, ◌+◌, ◌*◌, ◌<◌, ◌≤◌, ◌^◌, length, drop, take, map, IfSome, []};
-ghost use Rattle.block_image.specs.HeaderReading.{info_from, reads_in, writes_in, chunks_in, mask_in, is_good_info, is_bad, first_bad, operand_at, read_at, write_at};
+ghost use Rattle.std.specs.Prelude.{◌≡◌, ℕ, ◌+◌, ◌*◌, ◌<◌, ◌≤◌, ◌^◌, length, drop, take, map};
+ghost use Rattle.std.specs.Prelude.{IfSome, []};
+ghost use Rattle.block_image.specs.HeaderReading.{info_from, reads_in, writes_in, chunks_in};
+ghost use Rattle.block_image.specs.HeaderReading.{mask_in, is_good_info, is_bad, first_bad};
+ghost use Rattle.block_image.specs.HeaderReading.{operand_at, read_at, write_at};
 ghost use Rattle.block_image.specs.Reading.{words};
 
 use arrayvec::ArrayVec;

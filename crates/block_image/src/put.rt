@@ -1,11 +1,13 @@
 //! Images: written.
-ghost use Rattle.std.specs.Prelude.{◌≡◌, ◌+◌, ◌-◌, ◌*◌, ◌/◌, ◌<◌, ◌≤◌, ◌^◌, ◌++◌, length, take, map, All, IfOk, OnOk};
+ghost use Rattle.std.specs.Prelude.{◌≡◌, ◌+◌, ◌-◌, ◌*◌, ◌/◌, ◌<◌, ◌≤◌, ◌^◌, ◌++◌, length, take};
+ghost use Rattle.std.specs.Prelude.{map, All, IfOk, OnOk};
 ghost use Rattle.byteorder.specs.Endian.{big_bytes};
 ghost use Rattle.trips_isa.specs.Fits.{FitsSlot, FitsRead, FitsBlock};
 ghost use Rattle.trips_isa.specs.Images.{FitsImage};
 ghost use Rattle.block_image.specs.Words.{slot_word};
 ghost use Rattle.block_image.specs.Headers.{words_from};
-ghost use Rattle.block_image.specs.Spelling.{words_bytes, block_bytes, chunks_of, spelling, ImageBytes};
+ghost use Rattle.block_image.specs.Spelling.{words_bytes, block_bytes, chunks_of, spelling};
+ghost use Rattle.block_image.specs.Spelling.{ImageBytes};
 
 use crate::field::{fields_at, slot_word, write_at};
 use base::Memory;

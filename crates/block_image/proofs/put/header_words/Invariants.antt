@@ -1,4 +1,3 @@
-use Rattle.std.proofs.Common.{◌≡◌}
 use Rattle.block_image.specs.Headers.{words_from}
 use Rattle.block_image.proofs.Writing.{HeaderWritten}
 use Rattle.block_image.proofs.put.header_words.Given as goal
