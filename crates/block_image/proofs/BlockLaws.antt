@@ -1,23 +1,22 @@
 -- A block that is read is the block that was written.
-use Rattle.std.proofs.Common.{◌≡◌, ℕ, zero, suc, ◌+◌, ◌-◌, ◌*◌, ◌/◌, ◌%◌, ◌^◌, ◌<◌, ◌≤◌, Bool, true, false, cond, List, [], ◌∷◌, ◌++◌, length, take, drop, map, replicate, Option, Some, None, Result, Ok, Err, refl, sym, ap, subst, ◌∙◌, arith, nat_lt, ◌&&◌, append_assoc, lit<, lit≤}
+use Rattle.std.proofs.Common.{◌≡◌, ℕ, zero, suc, ◌+◌, ◌-◌, ◌*◌, ◌^◌, ◌<◌, ◌≤◌, Bool, true, false, cond, List, [], ◌∷◌, ◌++◌, length, take, drop, map, replicate, Option, Some, None, Result, Ok, Err, refl, sym, ap, subst, ◌∙◌, arith, nat_lt, ◌&&◌, append_assoc}
 use Rattle.std.proofs.lemmas.Bool.{ltb-false, le-ltb}
-use Rattle.std.proofs.lemmas.List.{take-append-drop, length-append, length-take, length-drop, drop-drop, drop_at, take_at, length-map, length-replicate, drop-take, drop-append-le}
+use Rattle.std.proofs.lemmas.List.{take-append-drop, length-append, length-take, length-drop, take_at, length-map, length-replicate, drop-append-le}
 use Rattle.trips_isa.specs.declared.block.Inst.{Inst}
-use Rattle.trips_isa.specs.declared.block.ReadSlot.{ReadSlot}
 use Rattle.block_image.specs.declared.fault.ImageFault.{ImageFault}
-use Rattle.block_image.specs.declared.fault.ImageFault.TheVariants.{Truncated, BadField}
+use Rattle.block_image.specs.declared.fault.ImageFault.TheVariants.{BadField}
 use Rattle.block_image.specs.Words.{slot_word}
 use Rattle.trips_isa.specs.Fits.{FitsSlot, FitsRead, FitsBlock}
 use Rattle.block_image.specs.Headers.{words_from, info_of}
 use Rattle.block_image.specs.HeaderReading.{info_from, mask_in, reads_in, writes_in, chunks_in, is_good_info, first_bad, read_at, write_at}
 use Rattle.trips_isa.specs.declared.block.Block.{Block}
-use Rattle.block_image.proofs.Each.{Each, AreBytes, AreWords, each_take, each_both, each_of, all_of}
-use Rattle.block_image.specs.Spelling.{words_bytes, chunks_of, header_words, body_words, block_bytes}
+use Rattle.block_image.proofs.Each.{Each, AreBytes, each_take, each_both, each_of, all_of}
+use Rattle.block_image.specs.Spelling.{words_bytes, chunks_of, block_bytes}
 use Rattle.block_image.specs.Reading.{all_empty, ◌>>=◌, Slots, chunk_at, body_at, fault_at, header_at, parts_from, least_at, block_at}
-use Rattle.block_image.proofs.Lists.{bind_ok, ok_is, Counts, counts, good_info}
+use Rattle.block_image.proofs.Lists.{bind_ok, ok_is, counts, good_info}
 use Rattle.block_image.proofs.HeaderLaws.{words_takes, read_fits, info_again, info_below, length-words_from, words_from_below, reads_again, writes_again, none_bad, InfoIs, info_is, info_takes}
 use Rattle.block_image.proofs.BodyLaws.{BodyTaken, words_bytes_both, test_false, chunk_takes, chunk_again, after_chunk, body_takes, body_again, ChunkTaken}
-use Rattle.block_image.proofs.Chunks.{padded, length-padded, chunks_takes, chunks_least, Least, empty_both, empty_is}
+use Rattle.block_image.proofs.Chunks.{padded, chunks_takes, chunks_least, Least, empty_both, empty_is}
 
 -- ---- taken
 
@@ -188,15 +187,15 @@ block_again total at bytes rest b f l e =
     rw (ck, hd, bd', ls, parts_again b info f i) refl
 
 -- the chunks of a block that was read are those of its header
-pub size_read : (total at info : ℕ) (ws : List ℕ) (s t : Slots) (b : Block) → header_at total at ws ≡ Ok info → is_good_info info ≡ true → length s ≡ 32 * chunks_in info
-    → least_at at (chunks_in info) s ≡ Ok t → b ≡ parts_from info ws s → (1 + chunks_in info ≡ 1 + chunks_of b.insts.items) × (total + (1 + chunks_in info) ≤ 524288)
-unfolding least_at parts_from padded
-size_read total at info ws s t b h good n l e =
+pub size_read : (total at info : ℕ) (ws : List ℕ) (s t new : Slots) → header_at total at ws ≡ Ok info → is_good_info info ≡ true → length s ≡ 32 * chunks_in info
+    → least_at at (chunks_in info) s ≡ Ok t → new ≡ s ++ replicate (128 - length s) None → (1 + chunks_in info ≡ 1 + chunks_of new) × (total + (1 + chunks_in info) ≤ 524288)
+unfolding least_at padded
+size_read total at info ws s t new h good n l e =
     let k = counts info good in
     let c = chunks_in info in
     let k0 = k.some in let k1 = k.chunks in
     let g = test_false (nat_lt 1 c && all_empty (drop (32 * (c - 1)) s)) (BadField (at + 64)) s t l in
     let ch : chunks_of (padded s) ≡ c = chunks_takes c s k0 k1 n g.0 in
-    let same : chunks_of b.insts.items ≡ c = ap (λ (x : Block). chunks_of x.insts.items) e ∙ ch in
+    let same : chunks_of new ≡ c = ap chunks_of e ∙ ch in
     let hd = (header_takes total at ws info h).total_is in
     (ap (λ (x : ℕ). 1 + x) (sym same), omega arith)

@@ -4,7 +4,7 @@ use Rattle.std.specs.Prelude.{All, IfOk, IfErr, MatchResult}
 use Rattle.trips_isa.specs.declared.block.Image.{Image}
 use Rattle.block_image.specs.declared.fault.ImageFault.{ImageFault}
 use Rattle.block_image.specs.declared.fault.ImageFault.TheVariants.{Magic, Version, Truncated, Trailing, BadField, Memory}
-use Rattle.block_image.specs.Spelling.{ImageBytes, spelling}
+use Rattle.block_image.specs.Spelling.{ImageBytes}
 use Rattle.block_image.specs.ImageReading.{Fails, Answers, IsMemory, IsMemoryOr, image_at}
 use Rattle.block_image.specs.FirstFault.{FirstFault}
 use Rattle.block_image.proofs.Each.{AreBytes, each_of, each_byte}

@@ -1,8 +1,7 @@
 -- The fault that reading gives is the first one.
-use Rattle.std.proofs.Common.{◌≡◌, ℕ, zero, suc, ◌+◌, ◌-◌, ◌*◌, ◌^◌, ◌<◌, ◌≤◌, Bool, true, false, cond, List, [], ◌∷◌, ◌++◌, length, take, drop, get_or, map, Option, Some, None, Result, Ok, Err, refl, sym, ap, subst, ◌∙◌, arith, nat_lt, ◌&&◌, append_assoc, ◌⊎◌, inl, inr}
-use Rattle.std.proofs.lemmas.Bool.{ltb-false, ltb-true, le-ltb}
-use Rattle.std.proofs.lemmas.Bool.Decides.{nat_tests}
-use Rattle.std.proofs.lemmas.List.{length-append, map-append, length-drop, take-append-drop, length-take, drop-drop, length-map}
+use Rattle.std.proofs.Common.{◌≡◌, ℕ, zero, suc, ◌+◌, ◌-◌, ◌*◌, ◌<◌, ◌≤◌, Bool, true, false, cond, List, [], ◌∷◌, ◌++◌, length, drop, get_or, map, Option, Some, None, Result, Ok, Err, refl, sym, ap, subst, ◌∙◌, arith, nat_lt, ◌&&◌, append_assoc, ◌⊎◌, inl, inr}
+use Rattle.std.proofs.lemmas.Bool.{ltb-false, ltb-true}
+use Rattle.std.proofs.lemmas.List.{length-append, map-append, length-map}
 use Rattle.trips_isa.specs.declared.block.Inst.{Inst}
 use Rattle.block_image.specs.declared.fault.ImageFault.{ImageFault}
 use Rattle.block_image.specs.declared.fault.ImageFault.TheVariants.{Truncated, BadField}
@@ -13,11 +12,10 @@ use Rattle.block_image.specs.HeaderReading.{info_from, chunks_in, is_bad, first_
 use Rattle.block_image.proofs.Each.{Each, IsWord, AreBytes, AreWords, each_both, each_of, all_of}
 use Rattle.block_image.specs.Spelling.{words_bytes}
 use Rattle.block_image.specs.Reading.{all_empty, ◌>>=◌, words, Slots, slot_or_fault, with_front, slots_at, chunk_at, body_at, fault_at, header_at, least_at, block_at, parts_from}
-use Rattle.trips_isa.specs.declared.block.Block.{Block}
 use Rattle.block_image.specs.Faults.{Stands, SpellsNone, BodyFault, short, bad_slot, GoodHeader, BlockFault, no_header, too_many, bad_word, in_body, empty_chunk}
-use Rattle.block_image.proofs.Words.{slot_again, slot_below}
+use Rattle.block_image.proofs.Words.{slot_again}
 use Rattle.block_image.proofs.Lists.{no_bad_at, and_true, lt_true}
-use Rattle.block_image.proofs.BodyLaws.{ChunkTaken, chunk_takes, chunk_again, after_chunk, body_takes, body_again, words_bytes_both, slots_takes, slots_again, slots_are_words, slot_found, SlotsTaken, BodyTaken}
+use Rattle.block_image.proofs.BodyLaws.{ChunkTaken, chunk_takes, body_takes, words_bytes_both, slots_takes, slots_are_words, slot_found, SlotsTaken, BodyTaken}
 use Rattle.block_image.proofs.BlockLaws.{header_takes, HeaderTaken}
 use Rattle.block_image.proofs.WordsTaken.{slot_takes}
 

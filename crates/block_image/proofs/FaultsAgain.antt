@@ -1,9 +1,8 @@
 -- Where a fault is the first one, reading gives it.
-use Rattle.std.proofs.Common.{◌≡◌, ℕ, zero, suc, ◌+◌, ◌-◌, ◌*◌, ◌^◌, ◌<◌, ◌≤◌, Bool, true, false, cond, List, [], ◌∷◌, ◌++◌, length, take, drop, get_or, map, Option, Some, None, Result, Ok, Err, refl, sym, ap, subst, ◌∙◌, arith, nat_lt, ◌&&◌, append_assoc}
+use Rattle.std.proofs.Common.{◌≡◌, ℕ, zero, suc, ◌+◌, ◌-◌, ◌*◌, ◌^◌, ◌<◌, ◌≤◌, true, false, List, [], ◌∷◌, ◌++◌, length, take, drop, get_or, map, Option, Some, None, Result, Ok, Err, refl, sym, ap, subst, ◌∙◌, arith, nat_lt, append_assoc}
 use Rattle.std.proofs.lemmas.Bool.{le-ltb}
-use Rattle.std.proofs.lemmas.Bool.Decides.{nat_tests}
-use Rattle.std.proofs.lemmas.List.{length-append, map-append, length-drop, take-append-drop, length-take, drop-drop, length-map}
-use Rattle.byteorder.specs.Endian.{big_bytes, big_number}
+use Rattle.std.proofs.lemmas.List.{length-append, map-append, length-drop, take-append-drop, length-take, length-map}
+use Rattle.byteorder.specs.Endian.{big_bytes}
 use Rattle.trips_isa.specs.declared.block.Inst.{Inst}
 use Rattle.block_image.specs.declared.fault.ImageFault.{ImageFault}
 use Rattle.block_image.specs.declared.fault.ImageFault.TheVariants.{Truncated, BadField}
@@ -13,7 +12,7 @@ use Rattle.block_image.specs.WordReading.{slot_at}
 use Rattle.block_image.specs.HeaderReading.{info_from, chunks_in, is_bad, first_bad}
 use Rattle.block_image.proofs.Each.{IsWord, Each, AreWords, each_take, each_drop, each_of, all_of}
 use Rattle.block_image.specs.Spelling.{words_bytes}
-use Rattle.block_image.specs.Reading.{all_empty, ◌>>=◌, words, Slots, slot_or_fault, with_front, slots_at, chunk_at, body_at, fault_at, header_at, least_at, block_at, parts_from}
+use Rattle.block_image.specs.Reading.{all_empty, words, Slots, slots_at, chunk_at, body_at, header_at, least_at, block_at}
 use Rattle.block_image.specs.Faults.{Stands, SpellsNone, BodyFault, short, bad_slot, GoodHeader, BlockFault, no_header, too_many, bad_word, in_body, empty_chunk}
 use Rattle.block_image.proofs.Words.{slot_again}
 use Rattle.block_image.proofs.BodyLaws.{chunk_again, after_chunk, body_again, words_bytes_both, slots_again, slots_are_words, number_again}

@@ -1,5 +1,5 @@
 -- The fields of a word: what is read is spelled so, and what was written is read again.
-use Rattle.std.proofs.Common.{◌≡◌, ℕ, ◌+◌, ◌-◌, ◌*◌, ◌/◌, ◌%◌, ◌^◌, ◌<◌, ◌≤◌, Bool, true, false, cond, List, [], ◌∷◌, Option, Some, None, refl, sym, ap, subst, ◌∙◌, arith, nat_eq, nat_lt, lit<}
+use Rattle.std.proofs.Common.{◌≡◌, ℕ, ◌+◌, ◌-◌, ◌/◌, ◌%◌, ◌^◌, ◌<◌, ◌≤◌, Bool, true, false, cond, [], ◌∷◌, Option, Some, None, refl, sym, ap, subst, arith, nat_eq, nat_lt, lit<}
 use Rattle.std.specs.Prelude.{ℤ, pos, negsuc}
 use Rattle.std.proofs.lemmas.Bool.Decides.{nat_tests}
 use Rattle.std.proofs.lemmas.Option.{same_Some}
@@ -8,9 +8,9 @@ use Rattle.trips_isa.specs.declared.op.Op.TheVariants.{Bro, Callo, Gens}
 use Rattle.trips_isa.specs.declared.block.Spot.TheVariants as spot
 use Rattle.trips_isa.specs.declared.block.Sense.{Sense}
 use Rattle.trips_isa.specs.declared.block.Sense.TheVariants.{Always, OnTrue, OnFalse}
-use Rattle.trips_isa.specs.Fits.{FitsTarget, FitsTargets, FitsSigned, FitsUnsigned, FitsOffset, FitsConstant}
+use Rattle.trips_isa.specs.Fits.{FitsTarget, FitsSigned, FitsUnsigned, FitsOffset, FitsConstant}
 use Rattle.block_image.specs.Words.{word_of, sense_number, target_number, signed_number}
-use Rattle.block_image.specs.WordReading.{◌>>=◌, part, sense_at, Target, target_at, signed_at, pair_of, offset_at, constant_of}
+use Rattle.block_image.specs.WordReading.{◌>>=◌, part, sense_at, Target, target_at, signed_at, offset_at, constant_of}
 
 pub bind_some : {A B : Type 0} (o : Option A) (f : A → Option B) (y : B) → (o >>= f) ≡ Some y → (x : A) × (o ≡ Some x) × (f x ≡ Some y)
 bind_some None f y e = absurd cc

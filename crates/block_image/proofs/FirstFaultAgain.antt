@@ -1,12 +1,12 @@
 -- Where a fault is the first one, reading an image gives it.
-use Rattle.std.proofs.Common.{◌≡◌, ℕ, zero, suc, ◌+◌, ◌-◌, ◌*◌, ◌^◌, ◌<◌, ◌≤◌, Bool, true, false, cond, List, [], ◌∷◌, ◌++◌, length, take, drop, Result, Ok, Err, refl, sym, ap, subst, ◌∙◌, arith, nat_lt, nat_le, nat_eq, append_assoc, lit<}
+use Rattle.std.proofs.Common.{◌≡◌, ℕ, zero, suc, ◌+◌, ◌-◌, ◌*◌, ◌^◌, ◌<◌, ◌≤◌, Bool, true, false, List, [], ◌∷◌, ◌++◌, length, take, drop, Result, Ok, Err, refl, sym, ap, subst, ◌∙◌, arith, nat_lt, nat_le, nat_eq, append_assoc, lit<}
 use Rattle.std.specs.List.{flat_map, sum_by}
 use Rattle.std.specs.Str.{bytes_eq}
 use Rattle.std.proofs.lemmas.Slice.Eq.{bytes_eq-Decides}
 use Rattle.std.proofs.lemmas.Bool.{le-ltb}
 use Rattle.std.proofs.lemmas.Bool.Decides.{nat_tests}
 use Rattle.std.proofs.lemmas.List.{length-append, length-drop, drop-drop, drop_at, take_at}
-use Rattle.byteorder.specs.Endian.{big_bytes, big_number}
+use Rattle.byteorder.specs.Endian.{big_bytes}
 use Rattle.trips_isa.specs.declared.block.Block.{Block}
 use Rattle.trips_isa.specs.declared.block.Image.{Image}
 use Rattle.trips_isa.specs.Fits.{FitsBlock}
@@ -15,7 +15,7 @@ use Rattle.block_image.specs.declared.fault.ImageFault.{ImageFault}
 use Rattle.block_image.specs.declared.fault.ImageFault.TheVariants.{Magic, Version, Truncated, Trailing, BadField}
 use Rattle.block_image.specs.Spelling.{magic, container, block_bytes, chunks_of, spelling}
 use Rattle.block_image.specs.Reading.{◌>>=◌, block_at}
-use Rattle.block_image.specs.ImageReading.{wants, number_at, magic_at, version_at, count_at, size_at, data_at, blocks_at, image_at}
+use Rattle.block_image.specs.ImageReading.{number_at, magic_at, version_at, count_at, size_at, data_at, blocks_at, image_at}
 use Rattle.block_image.specs.Faults.{BlockFault}
 use Rattle.block_image.specs.FirstFault.{counted, sized, GoodFront, GoodBlocks, FirstFault, no_magic, bad_magic, no_version, bad_version, no_count, no_block, no_size, large, no_bytes, zero_last, in_block, trailing}
 use Rattle.block_image.proofs.Each.{Each, each_of}

@@ -17,7 +17,7 @@ use Rattle.block_image.specs.Spelling.{magic, container, block_bytes, chunks_of,
 use Rattle.block_image.specs.Reading.{◌>>=◌, block_at}
 use Rattle.block_image.specs.ImageReading.{wants, number_at, magic_at, version_at, count_at, size_at, data_at, blocks_at, image_at}
 use Rattle.block_image.specs.Faults.{BlockFault}
-use Rattle.block_image.specs.FirstFault.{counted, sized, GoodFront, GoodBlocks, FirstFault, no_magic, bad_magic, no_version, bad_version, no_count, no_block, no_size, large, no_bytes, zero_last, in_block, trailing}
+use Rattle.block_image.specs.FirstFault.{counted, sized, GoodFront, FirstFault, no_magic, bad_magic, no_version, bad_version, no_count, no_block, no_size, large, no_bytes, zero_last, in_block, trailing}
 use Rattle.block_image.proofs.Each.{Each, AreBytes, all_of}
 use Rattle.block_image.proofs.Lists.{bind_ok, ok_is}
 use Rattle.block_image.proofs.BlockLaws.{BlockTaken, block_takes, cond_ok}

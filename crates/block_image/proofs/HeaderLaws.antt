@@ -1,5 +1,5 @@
 -- A header that is read is the header of what was read, and what was written is read again.
-use Rattle.std.proofs.Common.{◌≡◌, ℕ, zero, suc, ◌+◌, ◌-◌, ◌*◌, ◌/◌, ◌%◌, ◌^◌, ◌<◌, ◌≤◌, Bool, true, false, cond, List, [], ◌∷◌, ◌++◌, length, take, drop, get_or, map, Option, Some, None, refl, sym, ap, subst, ◌∙◌, arith, nat_eq, nat_le, nat_lt, ◌&&◌, ◌||◌, not, lit<}
+use Rattle.std.proofs.Common.{◌≡◌, ℕ, zero, suc, ◌+◌, ◌-◌, ◌*◌, ◌/◌, ◌%◌, ◌^◌, ◌<◌, ◌≤◌, Bool, true, false, cond, List, [], ◌∷◌, length, take, map, Option, Some, None, refl, sym, ap, subst, ◌∙◌, arith, nat_eq, nat_le, nat_lt, ◌&&◌, ◌||◌, not, lit<}
 use Rattle.std.proofs.Math.Nat.{add-mul, mul_assoc, add_assoc, one-le-pow, pow-succ', mul-le-mul_right}
 use Rattle.std.proofs.lemmas.Nat.{div-mul-add, mod-mul-add, div_below, mod_below, div-add-mod'}
 use Rattle.std.proofs.lemmas.Bool.Decides.{nat_tests}
@@ -10,7 +10,7 @@ use Rattle.block_image.specs.Headers.{first_of, rest_of, operand_number, second_
 use Rattle.block_image.specs.HeaderReading.{info_from, mask_in, reads_in, writes_in, chunks_in, is_good_info, is_bad, first_bad, operand_at, read_at, write_at}
 use Rattle.block_image.proofs.Each.{Each, AreWords}
 use Rattle.trips_isa.specs.Fits.{FitsOperand, FitsSecond, FitsRead}
-use Rattle.block_image.proofs.Lists.{Counts, counts, or_false, not_false}
+use Rattle.block_image.proofs.Lists.{Counts, or_false}
 use Rattle.trips_isa.specs.declared.block.Spot.TheVariants as spot
 
 eq_no : (a b : ℕ) → (a ≡ b → ⊥) → nat_eq a b ≡ false

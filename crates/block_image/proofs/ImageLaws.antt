@@ -1,5 +1,5 @@
 -- An image that is read is the image that was written.
-use Rattle.std.proofs.Common.{◌≡◌, ℕ, zero, suc, ◌+◌, ◌-◌, ◌*◌, ◌/◌, ◌%◌, ◌^◌, ◌<◌, ◌≤◌, Bool, true, false, cond, List, [], ◌∷◌, ◌++◌, length, take, drop, map, Option, Some, None, Result, Ok, Err, refl, sym, ap, subst, ◌∙◌, arith, nat_lt, nat_le, nat_eq, append_assoc, lit<, lit≤}
+use Rattle.std.proofs.Common.{◌≡◌, ℕ, zero, suc, ◌+◌, ◌-◌, ◌*◌, ◌^◌, ◌<◌, ◌≤◌, Bool, true, false, List, [], ◌∷◌, ◌++◌, length, take, drop, map, Result, Ok, refl, sym, ap, subst, ◌∙◌, arith, nat_lt, nat_le, nat_eq, lit<, lit≤}
 use Rattle.std.specs.List.{flat_map, sum_by}
 use Rattle.std.specs.Str.{bytes_eq}
 use Rattle.std.proofs.lemmas.Slice.Eq.{bytes_eq-Decides}
@@ -12,15 +12,15 @@ use Rattle.block_image.specs.declared.fault.ImageFault.TheVariants.{Magic, Versi
 use Rattle.block_image.specs.Words.{slot_word}
 use Rattle.trips_isa.specs.declared.block.Block.{Block}
 use Rattle.trips_isa.specs.declared.block.Image.{Image}
-use Rattle.block_image.proofs.Each.{Each, AreBytes, each_drop, each_take, each_of, all_of}
+use Rattle.block_image.proofs.Each.{Each, AreBytes, each_drop, each_of, all_of}
 use Rattle.trips_isa.specs.Fits.{FitsBlock}
 use Rattle.trips_isa.specs.Images.{FitsImage, last_byte, chunks, body_chunks}
-use Rattle.block_image.specs.Spelling.{ImageBytes, block_bytes, chunks_of, magic, container, spelling, words_bytes, header_words, body_words}
+use Rattle.block_image.specs.Spelling.{ImageBytes, block_bytes, chunks_of, magic, spelling, header_words}
 use Rattle.block_image.specs.Reading.{◌>>=◌, block_at}
 use Rattle.block_image.specs.ImageReading.{wants, number_at, magic_at, version_at, count_at, size_at, data_at, blocks_at, image_at}
 use Rattle.block_image.proofs.Lists.{bind_ok, ok_is}
 use Rattle.block_image.proofs.BodyLaws.{test_false, number_takes, number_again, length-words_bytes}
-use Rattle.block_image.proofs.BlockLaws.{block_takes, block_again, cond_ok, BlockTaken}
+use Rattle.block_image.proofs.BlockLaws.{block_takes, block_again, cond_ok}
 use Rattle.block_image.proofs.Chunks.{chunks_least}
 use Rattle.block_image.proofs.HeaderLaws.{length-words_from}
 use Rattle.std.proofs.lemmas.List.Sums.{sum_by-cons}

@@ -17,3 +17,4 @@ pub mod Writing
 pub mod FirstFaultLaws
 pub mod FirstFaultAgain
 pub mod Decoded
+pub mod StandardFacts

@@ -1,14 +1,12 @@
 -- Words of chunks.
-use Rattle.std.proofs.Common.{◌≡◌, ℕ, zero, suc, ◌+◌, ◌-◌, ◌*◌, ◌/◌, ◌%◌, ◌^◌, ◌<◌, ◌≤◌, Bool, true, false, cond, List, [], ◌∷◌, ◌++◌, length, take, drop, get_or, Option, Some, None, refl, sym, ap, subst, ◌∙◌, arith, Result, Ok, Err, append_assoc, nat_eq, nat_le, nat_lt, ◌&&◌, ◌||◌, not, IsTrue}
-use Rattle.std.proofs.lemmas.List.{drop-drop, drop_more, drop_all, append-nil, drop-take, length-append}
+use Rattle.std.proofs.Common.{◌≡◌, ℕ, zero, suc, ◌+◌, ◌-◌, ◌*◌, ◌/◌, ◌%◌, ◌^◌, ◌<◌, ◌≤◌, Bool, true, false, cond, List, [], ◌∷◌, ◌++◌, length, take, drop, get_or, Some, None, refl, sym, ap, ◌∙◌, arith, Result, Ok, Err, append_assoc, nat_eq, nat_le, nat_lt, ◌&&◌, ◌||◌, not}
+use Rattle.std.proofs.lemmas.List.{drop-drop, drop_more, drop_all, drop-take}
 use Rattle.std.proofs.Math.Nat.{pow-le-pow_right}
 use Rattle.byteorder.specs.Endian.{big_number, IsRead}
 use Rattle.block_image.specs.Reading.{words, ◌>>=◌, Slots, with_front, slot_or_fault, slots_at, chunk_at, body_at}
 use Rattle.block_image.specs.HeaderReading.{is_bad, first_bad, is_good_info, reads_in, writes_in, chunks_in}
 use Rattle.byteorder.specs.Numbers.{big_from-take}
-use Rattle.trips_isa.specs.declared.block.Inst.{Inst}
 use Rattle.block_image.specs.declared.fault.ImageFault.{ImageFault}
-use Rattle.block_image.specs.declared.fault.ImageFault.TheVariants.{BadField}
 use Rattle.block_image.specs.WordReading.{slot_at}
 use Rattle.std.proofs.lemmas.Bool.Decides.{nat_tests}
 

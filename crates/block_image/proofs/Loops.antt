@@ -1,19 +1,14 @@
 -- Reading blocks one after the other.
-use Rattle.std.proofs.Common.{take, subst, ◌≡◌, ℕ, zero, suc, ◌+◌, ◌-◌, ◌*◌, ◌<◌, ◌≤◌, Bool, true, false, cond, List, [], ◌∷◌, ◌++◌, length, drop, get_or, Result, Ok, Err, refl, sym, ap, ◌∙◌, arith, append_assoc, nat_eq}
-use Rattle.std.specs.Prelude.{MatchResult, IfOk}
-use Rattle.std.proofs.lemmas.List.{append-nil, take_rest}
+use Rattle.std.proofs.Common.{slice_set, take, ◌≡◌, ℕ, suc, ◌+◌, ◌-◌, ◌*◌, ◌<◌, ◌≤◌, Bool, true, false, cond, List, [], ◌∷◌, ◌++◌, length, drop, get_or, Result, Ok, Err, refl, sym, ap, ◌∙◌, arith, append_assoc, nat_eq}
+use Rattle.std.proofs.lemmas.List.{append-nil, take_rest, set_at}
+use Rattle.std.proofs.Math.Seq.{get_or-append_seam}
 use Rattle.block_image.specs.declared.fault.ImageFault.{ImageFault}
 use Rattle.block_image.specs.declared.fault.ImageFault.TheVariants.{Magic, Version, Truncated, Trailing, BadField, Memory}
-use Rattle.block_image.proofs.Each.{Each, each_byte}
 use Rattle.trips_isa.specs.declared.block.Block.{Block}
-use Rattle.trips_isa.specs.declared.block.Image.{Image}
-use Rattle.block_image.specs.Spelling.{ImageBytes, chunks_of, spelling}
-use Rattle.block_image.specs.Reading.{all_empty, ◌>>=◌, block_at, Slots}
+use Rattle.block_image.specs.Spelling.{chunks_of}
+use Rattle.block_image.specs.Reading.{all_empty, ◌>>=◌, chunk_at, rest_at, block_at, Slots}
 use Rattle.trips_isa.specs.Images.{last_byte}
-use Rattle.block_image.specs.ImageReading.{blocks_at, with_blocks, Fails, wants, image_at, Answers, IsMemory}
-use Rattle.block_image.proofs.ImageLaws.{image_takes, image_again}
-use Rattle.block_image.proofs.Lists.{ok_is}
-use Rattle.block_image.proofs.Chunks.{chunks_is, least_chunks}
+use Rattle.block_image.specs.ImageReading.{blocks_at, with_blocks, Fails, wants}
 
 pub fails_of : {Y : Type 0} (e : ImageFault) (read : Result Y ImageFault) → read ≡ Err e → Fails e read
 fails_of Magic read h = h
@@ -68,25 +63,26 @@ blocks_end front n k total at bytes all b l e h =
 pub empty_rest : (k : ℕ) (s : Slots) → all_empty (take (length s - k) (drop k s)) ≡ all_empty (drop k s)
 empty_rest k s = ap all_empty (take_rest s k)
 
-pub one_chunk : (s : Slots) → length s ≡ 128 → all_empty (drop 32 s) ≡ true → 1 ≡ chunks_of s
-unfolding least_chunks
-one_chunk s l a = rw (chunks_is s l, a) refl
-
-pub two_chunks : (s : Slots) → length s ≡ 128 → all_empty (drop 32 s) ≡ false → all_empty (drop 64 s) ≡ true → 2 ≡ chunks_of s
-unfolding least_chunks
-two_chunks s l a b = rw (chunks_is s l, a, b) refl
-
-pub three_chunks : (s : Slots) → length s ≡ 128 → all_empty (drop 32 s) ≡ false → all_empty (drop 64 s) ≡ false → all_empty (drop 96 s) ≡ true → 3 ≡ chunks_of s
-unfolding least_chunks
-three_chunks s l a b c = rw (chunks_is s l, a, b, c) refl
-
-pub four_chunks : (s : Slots) → length s ≡ 128 → all_empty (drop 32 s) ≡ false → all_empty (drop 64 s) ≡ false → all_empty (drop 96 s) ≡ false → 4 ≡ chunks_of s
-unfolding least_chunks
-four_chunks s l a b c = rw (chunks_is s l, a, b, c) refl
-
 pub last_is : (bs : List ℕ) → 0 < length bs → get_or bs (length bs - 1) 0 ≡ last_byte bs
 last_is [] l = absurd (omega arith)
 last_is (b ∷ []) l = refl
 last_is (b ∷ c ∷ bs) l =
     let e : length (b ∷ c ∷ bs) - 1 ≡ suc (length (c ∷ bs) - 1) = omega arith in
     ap (λ (n : ℕ). get_or (b ∷ c ∷ bs) n 0) e ∙ last_is (c ∷ bs) (omega arith)
+
+-- ---- a block that was put at the end and filled there
+
+pub filled_is : (xs new : List Block) (y b : Block) (k : ℕ) → new ≡ xs ++ y ∷ [] → length xs ≡ k → slice_set new k b ≡ xs ++ b ∷ []
+filled_is xs new y b k e l = ap (λ (x : List Block). slice_set x k b) e ∙ set_at xs y [] b k l
+
+pub last_pushed : (xs new : List Block) (y d : Block) (k : ℕ) → new ≡ xs ++ y ∷ [] → length xs ≡ k → d ≡ get_or new k d → d ≡ y
+last_pushed xs new y d k e l h =
+    h ∙ ap (λ (x : List Block). get_or x k d) e ∙ ap (λ (n : ℕ). get_or (xs ++ y ∷ []) n d) (sym l) ∙ get_or-append_seam xs y [] d
+
+pub no_block : (total at : ℕ) (bytes : List ℕ) (f : ImageFault) → chunk_at at bytes ≡ Err f → block_at total at bytes ≡ Err f
+unfolding block_at
+no_block total at bytes f e = rw e refl
+
+pub block_of : (total at : ℕ) (bytes ws : List ℕ) (r : Result Block ImageFault) → chunk_at at bytes ≡ Ok ws → rest_at total at bytes ws ≡ r → block_at total at bytes ≡ r
+unfolding block_at
+block_of total at bytes ws r e h = rw e h

@@ -1,22 +1,19 @@
 -- No spelling begins another.
-use Rattle.std.proofs.Common.{◌≡◌, ℕ, zero, suc, ◌+◌, ◌-◌, ◌*◌, ◌<◌, ◌≤◌, ◌^◌, Bool, true, false, cond, List, [], ◌∷◌, ◌++◌, length, take, drop, Result, Ok, Err, refl, sym, ap, subst, ◌∙◌, arith, nat_lt, nat_le, nat_eq, append_assoc, lit<}
+use Rattle.std.proofs.Common.{◌≡◌, ℕ, zero, suc, ◌+◌, ◌*◌, ◌≤◌, List, [], ◌∷◌, ◌++◌, length, drop, Result, Ok, refl, sym, ap, subst, ◌∙◌, arith, nat_eq, append_assoc}
 use Rattle.std.specs.List.{flat_map}
-use Rattle.std.proofs.lemmas.Bool.{le-ltb}
-use Rattle.std.proofs.lemmas.List.{length-append, length-drop, drop-drop, drop_at, drop_all, take_at, append-nil}
-use Rattle.byteorder.specs.Endian.{big_bytes}
+use Rattle.std.proofs.lemmas.List.{drop-drop, drop_at, drop_all}
 use Rattle.block_image.specs.declared.fault.ImageFault.{ImageFault}
 use Rattle.block_image.specs.declared.fault.ImageFault.TheVariants.{Trailing}
 use Rattle.trips_isa.specs.declared.block.Block.{Block}
 use Rattle.trips_isa.specs.declared.block.Image.{Image}
 use Rattle.block_image.proofs.Each.{Each, each_of}
 use Rattle.trips_isa.specs.Fits.{FitsBlock}
-use Rattle.trips_isa.specs.Images.{FitsImage, last_byte, chunks}
-use Rattle.block_image.specs.Spelling.{ImageBytes, block_bytes, chunks_of, magic, container, spelling}
+use Rattle.block_image.specs.Spelling.{ImageBytes, block_bytes, chunks_of, spelling}
 use Rattle.block_image.specs.Reading.{◌>>=◌, block_at}
 use Rattle.block_image.specs.ImageReading.{wants, blocks_at, image_at}
 use Rattle.block_image.proofs.Lists.{bind_ok, ok_is}
 use Rattle.block_image.proofs.BlockLaws.{block_again}
-use Rattle.block_image.proofs.ImageLaws.{image_again, length-block, want_ok, eq_true, image_from, image_takes, chunks_in_all, all_chunks}
+use Rattle.block_image.proofs.ImageLaws.{image_again, length-block, want_ok, eq_true, image_from, chunks_in_all, all_chunks}
 
 same_ok : {A : Type 0} (r : Result A ImageFault) (x y : A) → r ≡ Ok x → r ≡ Ok y → x ≡ y
 same_ok r x y a b = ok_is x y (sym a ∙ b)

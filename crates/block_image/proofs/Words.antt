@@ -1,20 +1,19 @@
 -- A word that is read is the word of what was read, and what was written is read again.
-use Rattle.std.proofs.Common.{◌≡◌, ℕ, ◌+◌, ◌*◌, ◌/◌, ◌%◌, ◌^◌, ◌<◌, ◌≤◌, cond, false, [], ◌∷◌, Option, Some, None, refl, sym, ap, subst, ◌∙◌, arith, nat_eq, nat_lt, lit<}
-use Rattle.std.specs.Prelude.{ℤ, pos, negsuc}
+use Rattle.std.proofs.Common.{◌≡◌, ℕ, ◌^◌, ◌<◌, ◌≤◌, cond, false, Option, Some, None, refl, sym, ap, subst, ◌∙◌, arith, nat_eq, nat_lt, lit<}
+use Rattle.std.specs.Prelude.{ℤ, pos}
 use Rattle.trips_isa.specs.declared.op.Op.{Op}
 use Rattle.trips_isa.specs.declared.form.Form.{Form}
 use Rattle.trips_isa.specs.declared.form.Form.TheVariants.{General, Immediate, Load, Store, Branch, Constant}
 use Rattle.trips_isa.specs.declared.block.Sense.{Sense}
-use Rattle.trips_isa.specs.declared.block.Sense.TheVariants.{Always}
 use Rattle.trips_isa.specs.declared.block.Inst.{Inst}
 use Rattle.trips_isa.specs.Forms.{form_of}
-use Rattle.trips_isa.specs.Fits.{FitsTargets, FitsSigned, FitsForm, FitsInst, FitsSlot}
+use Rattle.trips_isa.specs.Fits.{FitsTargets, FitsForm, FitsSlot}
 use Rattle.isa_table.specs.declared.numbers.Code.{Code}
 use Rattle.isa_table.specs.Codes.{code_of, op_with_numbers, GoodCode}
 use Rattle.isa_table.proofs.ByNumbers.{code_good, numbers_taken, numbers_again}
-use Rattle.block_image.specs.Words.{word_of, sense_number, target_number, signed_number, form_word, inst_word, slot_word}
-use Rattle.block_image.specs.WordReading.{◌>>=◌, part, sense_at, sense_in, Target, target_at, signed_at, pair_of, targets_at, offset_at, constant_of, general_at, immediate_at, load_at, store_at, branch_at, constant_at, form_at, op_in, inst_at, slot_at}
-use Rattle.block_image.proofs.Fields.{bind_some, Parts, parts, whole, BranchParts, branch_parts, branch_whole, ConstantParts, constant_parts, constant_whole, sense_below, sense_again, sense_takes, eq_is, eq_no, lt_yes, lt_no, pick, found, nothing, Spells, target_below, target_again, target_takes, signed_below, signed_again, signed_takes, offset_again, offset_takes, constant_again, constant_takes}
+use Rattle.block_image.specs.Words.{sense_number, target_number, signed_number, form_word, slot_word}
+use Rattle.block_image.specs.WordReading.{part, Target, pair_of, targets_at, general_at, immediate_at, load_at, store_at, branch_at, constant_at, form_at, op_in, inst_at, slot_at}
+use Rattle.block_image.proofs.Fields.{Parts, parts, BranchParts, branch_parts, ConstantParts, constant_parts, sense_below, sense_again, eq_no, lt_yes, lt_no, found, target_below, target_again, signed_below, signed_again, offset_again, constant_again}
 use Rattle.block_image.proofs.Widths.{wider, offset_fits, constant_fits}
 
 -- ---- the operation

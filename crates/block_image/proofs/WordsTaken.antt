@@ -1,6 +1,6 @@
 -- A word that is read is the word of what was read.
-use Rattle.std.proofs.Common.{◌≡◌, ℕ, ◌+◌, ◌*◌, ◌/◌, ◌%◌, ◌^◌, ◌<◌, ◌≤◌, cond, Bool, true, false, [], ◌∷◌, Option, Some, None, refl, sym, ap, subst, ◌∙◌, arith, nat_eq, nat_lt, lit<}
-use Rattle.std.specs.Prelude.{ℤ, pos, negsuc}
+use Rattle.std.proofs.Common.{◌≡◌, ℕ, ◌^◌, ◌<◌, cond, Option, Some, None, refl, sym, subst, arith, nat_eq}
+use Rattle.std.specs.Prelude.{ℤ, pos}
 use Rattle.trips_isa.specs.declared.op.Op.{Op}
 use Rattle.trips_isa.specs.declared.form.Form.{Form}
 use Rattle.trips_isa.specs.declared.form.Form.TheVariants.{General, Immediate, Load, Store, Branch, Constant}
@@ -12,8 +12,8 @@ use Rattle.trips_isa.specs.Fits.{FitsForm, FitsInst, FitsSlot}
 use Rattle.isa_table.specs.declared.numbers.Code.{Code}
 use Rattle.isa_table.specs.Codes.{code_of, GoodCode}
 use Rattle.isa_table.proofs.ByNumbers.{code_good}
-use Rattle.block_image.specs.Words.{word_of, sense_number, target_number, signed_number, form_word, inst_word, slot_word}
-use Rattle.block_image.specs.WordReading.{◌>>=◌, part, sense_at, sense_in, Target, target_at, signed_at, pair_of, targets_at, offset_at, constant_of, general_at, immediate_at, load_at, store_at, branch_at, constant_at, form_at, op_in, inst_at, slot_at}
+use Rattle.block_image.specs.Words.{sense_number, target_number, signed_number, form_word, inst_word, slot_word}
+use Rattle.block_image.specs.WordReading.{◌>>=◌, part, sense_in, Target, target_at, signed_at, pair_of, targets_at, offset_at, constant_of, general_at, immediate_at, load_at, store_at, branch_at, constant_at, form_at, op_in, inst_at, slot_at}
 use Rattle.block_image.proofs.Fields.{bind_some, whole, branch_whole, constant_whole, sense_takes, eq_is, pick, found, nothing, Spells, target_takes, signed_takes, offset_takes, constant_takes}
 use Rattle.block_image.proofs.Words.{OpIs, op_is, pair_takes}
 

@@ -1,5 +1,5 @@
 -- The words of a block's header: in word i two info bits, read i and the register of write i.
-use Rattle.std.specs.Prelude.{ℕ, zero, suc, ◌+◌, ◌*◌, ◌/◌, ◌%◌, ◌^◌, List, [], ◌∷◌, Option, Some, None}
+use Rattle.std.specs.Prelude.{ℕ, zero, suc, ◌+◌, ◌/◌, ◌%◌, ◌^◌, List, [], ◌∷◌, Option, Some, None}
 use Rattle.trips_isa.specs.declared.block.Spot.{Spot}
 use Rattle.trips_isa.specs.declared.block.Spot.TheVariants as spot
 use Rattle.trips_isa.specs.declared.block.ReadSlot.{ReadSlot}

@@ -1,5 +1,5 @@
 -- Reading a block from left to right, with the first fault that is met.
-use Rattle.std.specs.Prelude.{◌≡◌, ℕ, zero, suc, ◌+◌, ◌-◌, ◌*◌, List, [], ◌∷◌, ◌++◌, length, map, take, drop, replicate, Option, Some, None, Result, Ok, Err, Bool, true, false, ◌&&◌, nat_lt, if◌then◌else◌}
+use Rattle.std.specs.Prelude.{ℕ, zero, suc, ◌+◌, ◌-◌, ◌*◌, List, [], ◌∷◌, ◌++◌, length, map, take, drop, replicate, Option, Some, None, Result, Ok, Err, Bool, true, false, ◌&&◌, nat_lt, if◌then◌else◌}
 use Rattle.byteorder.specs.Endian.{big_number}
 use Rattle.trips_isa.specs.declared.block.Inst.{Inst}
 use Rattle.trips_isa.specs.declared.block.Block.{Block}
@@ -69,10 +69,13 @@ unfoldable pub least_at : ℕ → ℕ → Slots → Result Slots ImageFault
 least_at at chunks slots =
     if nat_lt 1 chunks && all_empty (drop (32 * (chunks - 1)) slots) then Err (BadField (at + 64)) else Ok slots
 
+-- the block whose header has these words
+abbrev pub rest_at : ℕ → ℕ → List ℕ → List ℕ → Result Block ImageFault
+rest_at total at bytes ws =
+    header_at total at ws >>= λ info.
+    body_at (chunks_in info) (at + 128) bytes >>= λ slots.
+    least_at at (chunks_in info) slots >>= λ good.
+    Ok (parts_from info ws good)
+
 unfoldable pub block_at : ℕ → ℕ → List ℕ → Result Block ImageFault
-block_at total at bytes = do
-  ws ← chunk_at at bytes
-  info ← header_at total at ws
-  slots ← body_at (chunks_in info) (at + 128) bytes
-  good ← least_at at (chunks_in info) slots
-  Ok (parts_from info ws good)
+block_at total at bytes = chunk_at at bytes >>= λ ws. rest_at total at bytes ws

@@ -1,19 +1,21 @@
 //! Blocks: read.
-ghost use Rattle.std.specs.Prelude.{◌≡◌, ◌+◌, ◌-◌, ◌*◌, ◌<◌, ◌≤◌, ◌^◌, ◌++◌, length, drop, replicate, IfOk, OnOk, None, true};
+ghost use Rattle.std.specs.Prelude.{◌≡◌, ◌+◌, ◌-◌, ◌*◌, ◌<◌, ◌≤◌, ◌^◌, ◌++◌, length, drop};
+ghost use Rattle.std.specs.Prelude.{replicate, IfOk, OnOk, None, true, []};
 ghost use Rattle.block_image.specs.HeaderReading.{is_good_info, chunks_in};
 ghost use Rattle.block_image.specs.WordReading.{slot_at};
 ghost use Rattle.block_image.specs.Spelling.{chunks_of};
-ghost use Rattle.block_image.specs.Reading.{all_empty, chunk_at, slots_at, slot_or_fault, body_at, header_at, least_at, block_at, parts_from};
+ghost use Rattle.block_image.specs.Reading.{all_empty, chunk_at, slots_at, slot_or_fault, body_at};
+ghost use Rattle.block_image.specs.Reading.{header_at, least_at, rest_at, parts_from};
 ghost use Rattle.block_image.specs.ImageReading.{Gives, Adds};
 
 use crate::fault::ImageFault;
-use crate::header::{bad_word, info, reads, words_of, writes};
+use crate::header::{add_reads, add_writes, bad_word, info, words_of};
 use crate::word::slot_of;
 use arrayvec::ArrayVec;
 use trips_isa::{Block, Inst};
 
 #[tactic(auto, unfolding(crate::specs::Reading::chunk_at))]
-fn chunk(bytes: &[u8], at: usize) -> Result<[u32; 32], ImageFault>
+pub(crate) fn chunk(bytes: &[u8], at: usize) -> Result<[u32; 32], ImageFault>
     requires { at < 2 ^ 63 }
     ensures value { result ≡ chunk_at at bytes.now }
 {
@@ -77,7 +79,7 @@ fn body(
 }
 
 #[tactic(auto, unfolding(crate::specs::Reading::header_at))]
-fn header(total: u32, at: usize, words: &[u32]) -> Result<u64, ImageFault>
+pub(crate) fn header(total: u32, at: usize, words: &[u32]) -> Result<u64, ImageFault>
     requires place { at < 2 ^ 62 }
     requires total { total ≤ 524288 }
     requires words { length words.now ≡ 32 }
@@ -95,7 +97,7 @@ fn header(total: u32, at: usize, words: &[u32]) -> Result<u64, ImageFault>
     }
 }
 
-pub(crate) fn are_empty(slots: &[Option<Inst>]) -> bool
+fn are_empty(slots: &[Option<Inst>]) -> bool
     ensures value { result ≡ all_empty slots.now }
 {
     for slot in slots {
@@ -128,46 +130,53 @@ fn pad(insts: &mut ArrayVec<Option<Inst>, 128>)
     }
 }
 
-#[tactic(auto, unfolding(crate::specs::Reading::parts_from))]
-fn made(info: u64, words: &[u32], slots: ArrayVec<Option<Inst>, 128>) -> Block
-    requires words { length words.now ≡ 32 }
-    requires slots { length slots.items ≤ 128 }
-    requires good { is_good_info info ≡ true }
-    ensures value { result ≡ parts_from info words.now slots.items }
+/// A block without reads, writes and slots.
+pub(crate) fn blank() -> Block
+    ensures reads { result.reads.items ≡ [] }
+    ensures writes { result.writes.items ≡ [] }
+    ensures insts { result.insts.items ≡ [] }
 {
-    let mut insts = slots;
-    pad(&mut insts);
     Block {
-        reads: reads(words, (info / 67108864 % 64) as usize),
-        writes: writes(words, (info / 1048576 % 64) as usize),
-        mask: (info / 4294967296) as u32,
-        insts,
+        reads: ArrayVec::new(),
+        writes: ArrayVec::new(),
+        mask: 0,
+        insts: ArrayVec::new(),
     }
 }
 
-/// The block that begins at a place, and its chunks.
-#[tactic(auto, unfolding(crate::specs::Reading::block_at))]
-pub(crate) fn block(bytes: &[u8], total: u32, at: usize) -> Result<(Block, u32), ImageFault>
+/// Fills a blank block from the words of its header and the body that follows it at a place, and tells
+/// its chunks.
+#[tactic(auto, unfolding(crate::specs::Reading::parts_from))]
+pub(crate) fn fill(
+    block: &mut Block,
+    words: &[u32],
+    bytes: &[u8],
+    total: u32,
+    at: usize,
+) -> Result<u32, ImageFault>
     requires place { at < 2 ^ 61 }
     requires total { total ≤ 524288 }
-    ensures read { Gives (λ x. x.0) result (block_at total at bytes.now) }
-    ensures size { IfOk result (λ x. (x.1 ≡ 1 + chunks_of x.0.insts.items) × (total + x.1 ≤ 524288)) }
+    requires words { length words.now ≡ 32 }
+    requires reads { block.old.reads.items ≡ [] }
+    requires writes { block.old.writes.items ≡ [] }
+    requires insts { block.old.insts.items ≡ [] }
+    ensures read { Gives (λ size. block.new) result (rest_at total at bytes.now words.now) }
+    ensures size { IfOk result (λ size. (size ≡ 1 + chunks_of block.new.insts.items) × (total + size ≤ 524288)) }
 {
-    let words = match chunk(bytes, at) {
-        Err(fault) => return Err(fault),
-        Ok(words) => words,
-    };
-    let info = match header(total, at, &words) {
+    let info = match header(total, at, words) {
         Err(fault) => return Err(fault),
         Ok(info) => info,
     };
-    let mut insts = ArrayVec::new();
     let chunks = (info / 131072 % 8) as usize;
-    if let Err(fault) = body(&mut insts, bytes, at + 128, chunks) {
+    if let Err(fault) = body(&mut block.insts, bytes, at + 128, chunks) {
         return Err(fault);
     }
-    if let Err(fault) = least(at, chunks, insts.as_slice()) {
+    if let Err(fault) = least(at, chunks, block.insts.as_slice()) {
         return Err(fault);
     }
-    Ok((made(info, &words, insts), 1 + chunks as u32))
+    pad(&mut block.insts);
+    add_reads(&mut block.reads, words, (info / 67108864 % 64) as usize);
+    add_writes(&mut block.writes, words, (info / 1048576 % 64) as usize);
+    block.mask = (info / 4294967296) as u32;
+    Ok(1 + chunks as u32)
 }

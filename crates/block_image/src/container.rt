@@ -5,9 +5,11 @@ ghost use Rattle.trips_isa.specs.Images.{last_byte};
 ghost use Rattle.block_image.specs.declared.fault.ImageFault.{ImageFault};
 ghost use Rattle.block_image.specs.Spelling.{ImageBytes};
 ghost use Rattle.block_image.specs.FirstFault.{FirstFault};
-ghost use Rattle.block_image.specs.ImageReading.{Gives, Answers, IsMemory, IsMemoryOr, number_at, magic_at, version_at, count_at, size_at, data_at, blocks_at, image_at};
+ghost use Rattle.block_image.specs.ImageReading.{Gives, Answers, IsMemory, IsMemoryOr, number_at};
+ghost use Rattle.block_image.specs.ImageReading.{magic_at, version_at, count_at, size_at, data_at};
+ghost use Rattle.block_image.specs.ImageReading.{blocks_at, image_at};
 
-use crate::body::block;
+use crate::body::{blank, chunk, fill};
 use crate::fault::ImageFault;
 use base::Items;
 use byteorder::{BigEndian, ByteOrder};
@@ -115,13 +117,17 @@ fn blocks(alloc: Global, bytes: &[u8], count: u32, at: usize) -> Result<Vec<Bloc
     let mut blocks = Vec::new(alloc);
     let mut total = 0;
     for k in 0..count {
-        let (block, size) = match block(bytes, total, at + 128 * total as usize) {
+        let place = at + 128 * total as usize;
+        let words = match chunk(bytes, place) {
             Err(fault) => return Err(fault),
-            Ok(found) => found,
+            Ok(words) => words,
         };
-        total += size;
-        if let Err(_) = blocks.push(block) {
+        if let Err(_) = blocks.push(blank()) {
             return Err(ImageFault::Memory);
+        }
+        match fill(&mut blocks[k as usize], &words, bytes, total, place) {
+            Err(fault) => return Err(fault),
+            Ok(size) => total += size,
         }
     }
     let end = at + 128 * total as usize;

@@ -1,9 +1,11 @@
 //! The words of instructions and the fields of headers: made.
 ghost use Rattle.std.specs.Prelude.{◌≡◌, ◌+◌, ◌*◌, ◌<◌, ◌≤◌, ◌^◌, drop, All, Some};
 ghost use Rattle.trips_isa.specs.declared.form.Form.TheVariants as forms;
-ghost use Rattle.trips_isa.specs.Fits.{FitsTarget, FitsSigned, FitsForm, FitsInst, FitsSlot, FitsOperand, FitsRead};
+ghost use Rattle.trips_isa.specs.Fits.{FitsTarget, FitsSigned, FitsForm, FitsInst, FitsSlot};
+ghost use Rattle.trips_isa.specs.Fits.{FitsOperand, FitsRead};
 ghost use Rattle.isa_table.specs.Codes.{GoodCode};
-ghost use Rattle.block_image.specs.Words.{target_number, sense_number, signed_number, form_word, inst_word, slot_word};
+ghost use Rattle.block_image.specs.Words.{target_number, sense_number, signed_number, form_word};
+ghost use Rattle.block_image.specs.Words.{inst_word, slot_word};
 ghost use Rattle.block_image.specs.Headers.{first_of, operand_number, read_fields, write_field};
 
 use isa_table::{Code, code_of};

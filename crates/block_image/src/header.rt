@@ -1,6 +1,9 @@
 //! The words of headers: read.
-ghost use Rattle.std.specs.Prelude.{◌≡◌, ℕ, ◌+◌, ◌*◌, ◌<◌, ◌≤◌, ◌^◌, length, drop, take, map, IfSome};
-ghost use Rattle.block_image.specs.HeaderReading.{info_from, reads_in, writes_in, chunks_in, mask_in, is_good_info, is_bad, first_bad, operand_at, read_at, write_at};
+ghost use Rattle.std.specs.Prelude.{◌≡◌, ℕ, ◌+◌, ◌*◌, ◌<◌, ◌≤◌, ◌^◌, length, drop, take, map};
+ghost use Rattle.std.specs.Prelude.{IfSome, []};
+ghost use Rattle.block_image.specs.HeaderReading.{info_from, reads_in, writes_in, chunks_in};
+ghost use Rattle.block_image.specs.HeaderReading.{mask_in, is_good_info, is_bad, first_bad};
+ghost use Rattle.block_image.specs.HeaderReading.{operand_at, read_at, write_at};
 ghost use Rattle.block_image.specs.Reading.{words};
 
 use arrayvec::ArrayVec;
@@ -92,28 +95,26 @@ fn read_in(word: u32) -> ReadSlot
     }
 }
 
-/// The reads of the first words.
-pub(crate) fn reads(words: &[u32], count: usize) -> ArrayVec<ReadSlot, 32>
+/// Adds the reads of the first words.
+pub(crate) fn add_reads(reads: &mut ArrayVec<ReadSlot, 32>, words: &[u32], count: usize)
     requires words { length words.now ≡ 32 }
     requires count { count ≤ 32 }
-    ensures value { result.items ≡ map read_at (take count words.now) }
+    requires empty { reads.old.items ≡ [] }
+    ensures value { reads.new.items ≡ map read_at (take count words.now) }
 {
-    let mut reads = ArrayVec::new();
     for i in 0..count {
         reads.push(read_in(words[i]));
     }
-    reads
 }
 
-/// The writes of the first words.
-pub(crate) fn writes(words: &[u32], count: usize) -> ArrayVec<u8, 32>
+/// Adds the writes of the first words.
+pub(crate) fn add_writes(writes: &mut ArrayVec<u8, 32>, words: &[u32], count: usize)
     requires words { length words.now ≡ 32 }
     requires count { count ≤ 32 }
-    ensures value { result.items ≡ map write_at (take count words.now) }
+    requires empty { writes.old.items ≡ [] }
+    ensures value { writes.new.items ≡ map write_at (take count words.now) }
 {
-    let mut writes = ArrayVec::new();
     for i in 0..count {
         writes.push((words[i] % 128) as u8);
     }
-    writes
 }

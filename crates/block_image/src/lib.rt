@@ -12,6 +12,8 @@ mod field;
 mod header;
 mod law;
 mod put;
+#[cfg(test)]
+mod tests;
 mod word;
 
 pub use container::decode;

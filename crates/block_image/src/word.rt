@@ -1,6 +1,9 @@
 //! The words of instructions: read.
 ghost use Rattle.std.specs.Prelude.{◌≡◌, ℕ, ◌+◌, ◌<◌, ◌^◌};
-ghost use Rattle.block_image.specs.WordReading.{sense_at, target_at, signed_at, pair_of, targets_at, offset_at, constant_of, general_at, immediate_at, load_at, store_at, branch_at, constant_at, form_at, op_in, inst_at, slot_at};
+ghost use Rattle.block_image.specs.WordReading.{sense_at, target_at, signed_at, pair_of};
+ghost use Rattle.block_image.specs.WordReading.{targets_at, offset_at, constant_of, general_at};
+ghost use Rattle.block_image.specs.WordReading.{immediate_at, load_at, store_at, branch_at};
+ghost use Rattle.block_image.specs.WordReading.{constant_at, form_at, op_in, inst_at, slot_at};
 
 use isa_table::with_numbers;
 use trips_isa::{Form, Inst, Op, Sense, Spot, form_of};

@@ -1,4 +1,4 @@
-use Rattle.std.proofs.Common.{◌≡◌, ◌++◌, ◌+◌, ◌*◌, ◌-◌, List, drop, length, ◌∷◌}
+use Rattle.std.proofs.Common.{◌≡◌, ◌++◌, ◌+◌, ◌*◌, ◌-◌, length}
 use Rattle.block_image.specs.Reading.{body_at, with_front, Slots}
 use Rattle.block_image.proofs.body.body.Given as goal
 

@@ -1,4 +1,4 @@
-use Rattle.std.proofs.Common.{sym, ◌∙◌}
+use Rattle.std.proofs.Common.{sym}
 use Rattle.block_image.proofs.Lists.{good_info}
 use Rattle.block_image.proofs.body.header.Goals as goal
 

@@ -1,5 +1,4 @@
-use Rattle.std.proofs.Common.{◌≡◌, ◌++◌, ◌+◌, ◌*◌, List, drop, length, ◌∷◌}
-use Rattle.trips_isa.specs.declared.block.Inst.{Inst}
+use Rattle.std.proofs.Common.{◌≡◌, ◌++◌, ◌+◌, ◌*◌, drop, length}
 use Rattle.block_image.specs.Reading.{slots_at, with_front, Slots}
 use Rattle.block_image.proofs.body.slots.Given as goal
 

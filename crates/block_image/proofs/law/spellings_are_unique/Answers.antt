@@ -1,5 +1,4 @@
 use Rattle.std.proofs.Common.{sym, ◌∙◌}
-use Rattle.block_image.proofs.ImageLaws.{image_takes}
 use Rattle.block_image.proofs.Prefix.{one_image, no_front}
 use Rattle.block_image.proofs.law.spellings_are_unique.Goals as goal
 
