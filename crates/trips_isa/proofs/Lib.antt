@@ -1,3 +1,2 @@
 pub mod StandardFacts
 pub mod Sizes
-pub mod PlainFacts

@@ -9,5 +9,3 @@ pub mod Stores
 pub mod Blocks
 pub mod Outcomes
 pub mod Machine
-pub mod Plain
-pub mod PlainBlocks
