@@ -6,9 +6,11 @@ use Rattle.trips_run.specs.declared.status.Status.{Status}
 use Rattle.trips_run.specs.declared.status.Status.TheVariants as status
 use Rattle.trips_run.specs.Request.{Request, Run}
 use Rattle.trips_run.specs.Source.{IsReturn}
-use Rattle.trips_run.specs.Answer.{IsAnswer, MayBeRefused, IsRefused}
+use Rattle.trips_run.specs.Answer.{IsAnswer}
+use Rattle.trips_run.specs.Refused.{MayBeRefused, IsRefused}
 use Rattle.trips_run.specs.Table.{IsAnswered, IsCutOff, IsOneOf, return_report}
-use Rattle.trips_run.proofs.Rows.{usage_row, read_fault_row, refused_row, no_row, usage_comes_row}
+use Rattle.trips_run.proofs.Rows.{kind, usage_row, read_fault_row, refused_row, no_row}
+use Rattle.trips_run.proofs.Rows.{usage_comes_row}
 use Rattle.trips_run.proofs.Rows.{refused_comes_row, headline_row}
 
 module _ (held : List ℕ → Option (List ℕ)) (rose : Type 0) (old new : Option (List ℕ))
@@ -35,10 +37,11 @@ module _ (held : List ℕ → Option (List ℕ)) (rose : Type 0) (old new : Opti
   -- a whole report makes the row of its status
   pub whole : (s : Status) (report : List ℕ) → IsAnswer q held rose s report
       → Appended old new report → IsAnswered q held rose old new cut s
-  whole status.Memory report a w = absurd
-      (no_row held rose status.Memory report q status.Memory a refl (inl refl))
-  whole status.WriteFault report a w = absurd
-      (no_row held rose status.WriteFault report q status.WriteFault a refl (inr refl))
+  whole status.Memory report a w =
+      absurd (no_row q held rose status.Memory (kind q held rose status.Memory report a) (inl refl))
+  whole status.WriteFault report a w =
+      absurd (no_row q held rose status.WriteFault (kind q held rose status.WriteFault report a)
+      (inr refl))
   whole status.Ended report a w = (report, a, w)
   whole status.Usage report a w = (report, a, w)
   whole status.ReadFault report a w = (report, a, w)
@@ -50,19 +53,20 @@ module _ (held : List ℕ → Option (List ℕ)) (rose : Type 0) (old new : Opti
 
   pub usage_only : (s : Status) → IsAnswered q held rose old new cut s → s ≡ status.Usage → q ≡ None
   usage_only s a e =
-      let row = subst (IsAnswered q held rose old new cut) e a in usage_row held rose status.Usage
-      row.0 q row.1 refl
+      let row = subst (IsAnswered q held rose old new cut) e a in
+      usage_row q held rose status.Usage (kind q held rose status.Usage row.0 row.1) refl
 
   pub read_fault : (s : Status) → IsAnswered q held rose old new cut s → s ≡ status.ReadFault → rose
   read_fault s a e =
-      let row = subst (IsAnswered q held rose old new cut) e a in read_fault_row held rose
-      status.ReadFault row.0 q row.1 refl
+      let row = subst (IsAnswered q held rose old new cut) e a in
+      read_fault_row q held rose status.ReadFault
+      (kind q held rose status.ReadFault row.0 row.1) refl
 
   pub refused_only : (s : Status) → IsAnswered q held rose old new cut s → s ≡ status.Refused
       → MayBeRefused q held
   refused_only s a e =
-      let row = subst (IsAnswered q held rose old new cut) e a in refused_row held rose
-      status.Refused row.0 q row.1 refl
+      let row = subst (IsAnswered q held rose old new cut) e a in
+      refused_row q held rose status.Refused (kind q held rose status.Refused row.0 row.1) refl
 
   pub write_fault : (s : Status) → IsAnswered q held rose old new cut s → s ≡ status.WriteFault
       → cut
@@ -82,7 +86,7 @@ module _ (held : List ℕ → Option (List ℕ)) (rose : Type 0) (old new : Opti
   usage_comes s a e = elim (split s a) [
     | inl m ↦ inr (inl m)
     | inr (inl w) ↦ inr (inr (inl w.0))
-    | inr (inr row) ↦ inl (usage_comes_row held rose s row.0 q row.1 e)
+    | inr (inr row) ↦ inl (usage_comes_row q held rose s row.0 row.1 e)
   ]
 
   pub refused_comes : (s : Status) → IsAnswered q held rose old new cut s → IsRefused q held
@@ -91,7 +95,7 @@ module _ (held : List ℕ → Option (List ℕ)) (rose : Type 0) (old new : Opti
   refused_comes s a out = elim (split s a) [
     | inl m ↦ inr (inr (inl m))
     | inr (inl w) ↦ inr (inr (inr (inl w.0)))
-    | inr (inr row) ↦ elim (refused_comes_row held rose s row.0 q row.1 out)
+    | inr (inr row) ↦ elim (refused_comes_row q held rose s (kind q held rose s row.0 row.1) out)
         [ inl r ↦ inl r | inr f ↦ inr (inl f) ]
   ]
 
@@ -104,6 +108,6 @@ module _ (held : List ℕ → Option (List ℕ)) (rose : Type 0) (old new : Opti
     | inl none ↦ absurd (m none)
     | inr (inl w) ↦ absurd (c w.1)
     | inr (inr row) ↦
-        let told = headline_row held rose s row.0 q file text n row.1 e h is r
+        let told = headline_row q held rose s row.0 file text n row.1 e h is r
         in (told.0, subst (Appended old new) told.1 row.2)
   ]

@@ -7,7 +7,10 @@ use Rattle.std.proofs.lemmas.Bool.{lt-ltb}
 use Rattle.std.specs.Fmt.{decimal}
 use Rattle.trips_isa.specs.declared.run.Ending.TheVariants as ending
 use Rattle.trips_isa.specs.declared.run.Stepped.TheVariants.{Ended}
-use Rattle.trips_isa.specs.Plain.{State, runs, start, step_of, memory_of}
+use Rattle.trips_isa.specs.Tables.{deepest}
+use Rattle.trips_isa.specs.Blocks.{given}
+use Rattle.trips_isa.specs.Outcomes.{all_stores}
+use Rattle.trips_isa.specs.Machine.{State, runs, start, step_of, memory_of}
 use Rattle.trips_run.specs.Source.{IsReturn, source, front, back, return_block}
 use Rattle.trips_run.specs.Report.{run_report, signed}
 use Rattle.trips_run.specs.Answer.{block_budget}
@@ -15,19 +18,37 @@ use Rattle.trips_run.specs.Table.{return_report}
 use Rattle.trips_run.proofs.Runs.{none_yet, stopped}
 use Rattle.trips_run.proofs.Text.{no_feed}
 
--- the end of the run
-abbrev pub end_of : ℕ → State
-end_of n = record {
+-- the start and the end of the run, with any data memory
+abbrev pub begin_with : List ℕ → State
+begin_with memory = record {
+  registers = replicate 128 0;
+  memory = memory;
+  next = 0;
+  rest = [];
+  output = [];
+  trace = [];
+}
+
+abbrev pub end_with : List ℕ → ℕ → State
+end_with memory n = record {
   registers = slice_set (slice_set (replicate 128 0) 0 3) 3 n;
-  memory = memory_of [];
+  memory = memory;
   next = 0;
   rest = [];
   output = [];
   trace = record { block = 0; exit = 0 } ∷ [];
 }
 
+one_step_with : (memory : List ℕ) (n : ℕ)
+    → step_of (return_block n ∷ []) (begin_with memory) ≡ (end_with memory n, Ended)
+unfolding given deepest all_stores
+one_step_with memory n = refl
+
+abbrev pub end_of : ℕ → State
+end_of n = end_with (memory_of []) n
+
 one_step : (n : ℕ) → step_of (return_block n ∷ []) (start [] []) ≡ (end_of n, Ended)
-one_step n = refl
+one_step n = one_step_with (memory_of []) n
 
 enough : 0 < block_budget
 unfolding block_budget

@@ -3,7 +3,7 @@ use Rattle.std.proofs.Common.{◌≡◌, ℕ, zero, suc, ◌+◌, ◌-◌, ◌<�
 use Rattle.trips_isa.specs.declared.block.Block.{Block}
 use Rattle.trips_isa.specs.declared.run.Stepped.{Stepped}
 use Rattle.trips_isa.specs.declared.run.Stepped.TheVariants.{Went, Ended, StackFull}
-use Rattle.trips_isa.specs.Plain.{State, step_of, goes_on, runs}
+use Rattle.trips_isa.specs.Machine.{State, step_of, goes_on, runs}
 
 -- a run that has ended goes no further
 abbrev pub HasStopped : Stepped → Type 0

@@ -5,7 +5,7 @@ use Rattle.trips_isa.specs.declared.run.Ending.{Ending}
 use Rattle.trips_isa.specs.declared.run.Ending.TheVariants as ending
 use Rattle.trips_isa.specs.declared.run.Stepped.{Stepped}
 use Rattle.trips_isa.specs.declared.run.Stepped.TheVariants as stepped
-use Rattle.trips_isa.specs.Plain.{State}
+use Rattle.trips_isa.specs.Machine.{State}
 
 -- how a run ended, of which so many steps were made as the budget has
 abbrev pub ending_of : Stepped → Ending
@@ -41,6 +41,3 @@ usage_text = codes "usage\n"
 
 unfoldable pub read_fault_text : List ℕ
 read_fault_text = codes "read fault\n"
-
-unfoldable pub form_text : List ℕ
-form_text = codes "refused form 1 FormNotBuilt\n"

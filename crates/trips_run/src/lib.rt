@@ -5,17 +5,24 @@
 //! clause beside it for the cause of each answer.
 #![tactic(auto)]
 
+mod answer;
 mod answers;
 mod image;
+mod image_answer;
+mod reading;
+mod refusals;
 mod report;
 mod running;
 mod source;
 mod status;
+mod text_answer;
 mod top;
 mod words;
 
 pub use status::Status;
 pub use top::trips_run;
 
+#[cfg(test)]
+mod image_tests;
 #[cfg(test)]
 mod tests;

@@ -1,15 +1,33 @@
-ghost use Rattle.std.specs.Prelude.{◌≡◌, ◌<◌, ◌≤◌, ◌+◌, ◌^◌, length, All};
-ghost use Rattle.trips_isa.specs.Plain.{runs};
-ghost use Rattle.trips_isa.specs.PlainBlocks.{IsPlain};
+ghost use Rattle.std.specs.Prelude.{◌≡◌, ◌<◌, ◌≤◌, ◌+◌, [], length, IfOk};
+ghost use Rattle.trips_isa.specs.Machine.{runs};
 ghost use Rattle.trips_run.specs.Report.{ending_of};
+ghost use Rattle.trips_run.specs.Answer.{block_budget, status_of, IsRunBy};
 
+use crate::answer::Answer;
+use crate::report::run_text;
+use crate::status::Status;
 use block_atomic::Arch;
-use trips_isa::{Ending, Image, Stepped};
+use block_check::CheckedImage;
+use std::alloc::{AllocError, Global};
+use trips_isa::{Ending, Stepped};
 
-/// Executes blocks until the run ends or the budget is spent.
-pub fn run_blocks(arch: &mut Arch, image: &Image, budget: u32) -> Ending
-    requires plain { All IsPlain image.now.blocks }
-    requires few { length image.now.blocks < 2 ^ 32 }
+/// How many blocks a run may take.
+const BLOCK_BUDGET: u32 = 1_000_000;
+
+// The status that tells an ending.
+fn status_for(ending: Ending) -> Status
+    ensures { result ≡ status_of ending }
+{
+    match ending {
+        Ending::Ended => Status::Ended,
+        Ending::StackFull => Status::StackFull,
+        Ending::Budget => Status::Budget,
+        Ending::Trap { .. } => Status::Trap,
+    }
+}
+
+// Executes blocks until the run ends or the budget is spent.
+fn run_blocks(arch: &mut Arch, image: &CheckedImage, budget: u32) -> Ending
     requires next { arch.old.state.next < length image.now.blocks }
     requires room { length arch.old.state.trace + budget ≤ arch.old.budget }
     ensures state { arch.new.state ≡ (runs image.now.blocks arch.old.state budget).0 }
@@ -23,4 +41,21 @@ pub fn run_blocks(arch: &mut Arch, image: &Image, budget: u32) -> Ending
         }
     }
     Ending::Budget
+}
+
+/// Runs an image without input, and tells how its run ended. Want of memory is the only error.
+pub fn run_image(alloc: Global, image: &CheckedImage) -> Result<Answer, AllocError>
+    requires { 0 < length image.now.blocks }
+    ensures { IfOk result (λ answer. IsRunBy image.now.blocks image.now.bytes [] block_budget
+        answer.status answer.report.items) }
+{
+    let Ok(mut arch) = Arch::make(alloc, image, Vec::new(alloc), BLOCK_BUDGET) else {
+        return Err(AllocError);
+    };
+    let ending = run_blocks(&mut arch, image, BLOCK_BUDGET);
+    let report = run_text(alloc, ending, &arch)?;
+    Ok(Answer {
+        status: status_for(ending),
+        report,
+    })
 }

@@ -108,11 +108,10 @@ fn reports_to_an_honest_sink(rt: HostRuntime) -> Result<(), Fail> {
 #[test]
 fn other_words_are_usage(rt: HostRuntime) -> Result<(), Fail> {
     let alloc = rt.alloc();
-    let rows: [&[&str]; 7] = [
+    let rows: [&[&str]; 6] = [
         &[],
         &["run"],
         &["run", "-a"],
-        &["run", "a.img"],
         &["run", "a.tasl"],
         &["eval", "a.c"],
         &["run", "a.c", "b.c"],

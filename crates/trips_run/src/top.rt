@@ -2,7 +2,7 @@ ghost use Rattle.std.specs.Prelude.{◌≡◌, ◌≢◌, ◌≤◌, ◌∷◌, 
 ghost use Rattle.trips_outside.specs.Outside.{Rose, Appended};
 ghost use Rattle.trips_run.specs.Request.{Run, request_of};
 ghost use Rattle.trips_run.specs.Source.{IsReturn};
-ghost use Rattle.trips_run.specs.Answer.{MayBeRefused, IsRefused};
+ghost use Rattle.trips_run.specs.Refused.{MayBeRefused, IsRefused};
 ghost use Rattle.trips_run.specs.Table.{IsAnswered, IsCutOff, IsOneOf, return_report};
 
 use crate::answers::answer_for;

@@ -1,31 +1,16 @@
-use Rattle.std.proofs.Common.{ap, Err}
-use Rattle.trips_run.specs.Answer.{Fault, TooLarge, Bytes}
-use Rattle.trips_run.specs.Report.{form_text, read_fault_text, usage_text}
-use Rattle.trips_run.proofs.Told.{file_told, usage_told, limit_is}
+use Rattle.trips_run.proofs.Told.{source_told, image_told}
 use Rattle.trips_run.proofs.answers.answer_for.Goals as goal
 
-pub returns-in_default-clause-answer : goal.returns-in_default-clause-answer
-unfolding usage_text
-returns-in_default-clause-answer g c = usage_told _ _ _ _ c.in_default.ensures c.fixed.ensures
+pub returns-in_ok-reading-in-Some-Run-clause-answer :
+    goal.returns-in_ok-reading-in-Some-Run-clause-answer
+returns-in_ok-reading-in-Some-Run-clause-answer g c =
+    source_told _ _ _ _ c.in_ok-reading-in-Some-Run.reading _
+    (rw c.in-Some-Run.field-0-is at c.in-Some-Run.ensures)
+    c.in_ok-reading-in-Some-Run.ensures.ok c.source_answer.ensures
 
-pub returns-in-Ok-clause-answer : goal.returns-in-Ok-clause-answer
-returns-in-Ok-clause-answer g c =
-    file_told _ _ _ _ (Bytes _) _ c.in-Some.ensures (
-      rw c.deref.ensures.value c.in-Ok.ensures.ok,
-      rw
-          (c.deref.ensures.value, ← limit_is) c.in-Ok.ensures.limit,
-    ) c.text_answer.ensures
-
-pub returns-in-Err-Fault-clause-answer : goal.returns-in-Err-Fault-clause-answer
-unfolding read_fault_text
-returns-in-Err-Fault-clause-answer g c =
-    file_told _ _ _ _ Fault _ c.in-Some.ensures
-    (c.in-Err-Fault.ensures.fault (ap Err c.in-Err-Fault.field-0-is))
-    c.fixed-in-Err-Fault.ensures
-
-pub returns-in-Err-TooLarge-clause-answer : goal.returns-in-Err-TooLarge-clause-answer
-unfolding form_text
-returns-in-Err-TooLarge-clause-answer g c =
-    file_told _ _ _ _ TooLarge _ c.in-Some.ensures
-    (rw (← limit_is) (c.in-Err-TooLarge.ensures.too_large (ap Err c.in-Err-TooLarge.field-0-is)))
-    c.fixed-in-Err-TooLarge.ensures
+pub returns-in_ok-reading-in-Some-RunImage-clause-answer :
+    goal.returns-in_ok-reading-in-Some-RunImage-clause-answer
+returns-in_ok-reading-in-Some-RunImage-clause-answer g c =
+    image_told _ _ _ _ c.in_ok-reading-in-Some-RunImage.reading _
+    (rw c.in-Some-RunImage.field-0-is at c.in-Some-RunImage.ensures)
+    c.in_ok-reading-in-Some-RunImage.ensures.ok c.image_answer.ensures

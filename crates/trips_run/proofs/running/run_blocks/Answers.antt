@@ -1,7 +1,7 @@
 use Rattle.std.proofs.Common.{◌∙◌, refl, sym, ap, arith}
 use Rattle.trips_isa.specs.declared.run.Stepped.{Stepped}
 use Rattle.trips_isa.specs.declared.run.Stepped.TheVariants.{Ended, StackFull}
-use Rattle.trips_isa.specs.Plain.{State}
+use Rattle.trips_isa.specs.Machine.{State}
 use Rattle.trips_run.specs.Report.{ending_of}
 use Rattle.trips_run.proofs.Runs.{none_yet, goes, stopped}
 use Rattle.trips_run.proofs.running.run_blocks.Goals as goal

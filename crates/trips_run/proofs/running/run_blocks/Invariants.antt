@@ -1,6 +1,6 @@
 use Rattle.std.proofs.Common.{◌≡◌, ◌<◌, ◌+◌, length}
 use Rattle.trips_isa.specs.declared.run.Stepped.TheVariants.{Went}
-use Rattle.trips_isa.specs.Plain.{runs}
+use Rattle.trips_isa.specs.Machine.{runs}
 use Rattle.trips_run.proofs.running.run_blocks.Given as goal
 
 abbrev pub invariant-loop-turn : goal.invariant-loop-turn

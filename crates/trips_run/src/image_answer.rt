@@ -1,0 +1,58 @@
+ghost use Rattle.std.specs.Prelude.{◌≡◌, IfOk};
+ghost use Rattle.trips_isa.specs.Images.{FitsImage};
+ghost use Rattle.trips_run.specs.Answer.{IsFixed, IsRunOfImage, IsRunOfBytes, IsImageAnswer};
+
+use crate::answer::{Answer, fixed, unread};
+use crate::reading::Reading;
+use crate::refusals::{check_text, image_text};
+use crate::running::run_image;
+use crate::status::Status;
+use block_check::{CheckedImage, ImageRefusal};
+use block_image::{ImageFault, decode};
+use std::alloc::{AllocError, Global};
+use trips_isa::Image;
+
+// A refusal with this text.
+fn refused(report: Vec<u8>) -> Answer
+    ensures { IsFixed Status.Refused report.items result.status result.report.items }
+{
+    Answer {
+        status: Status::Refused,
+        report,
+    }
+}
+
+// Runs the image where its blocks are good.
+fn checked_answer(alloc: Global, image: Image) -> Result<Answer, AllocError>
+    requires { FitsImage image }
+    ensures { IfOk result (λ answer. IsRunOfImage image answer.status answer.report.items) }
+{
+    match CheckedImage::make(alloc, image) {
+        Ok(checked) => run_image(alloc, &checked),
+        Err(ImageRefusal::Bad(number, fault)) => Ok(refused(check_text(alloc, number, fault)?)),
+        Err(ImageRefusal::Memory) => Err(AllocError),
+    }
+}
+
+// What `run` answers for the bytes of a file.
+fn bytes_answer(alloc: Global, bytes: &[u8]) -> Result<Answer, AllocError>
+    ensures { IfOk result (λ answer. IsRunOfBytes bytes.now answer.status answer.report.items) }
+{
+    match decode(alloc, bytes) {
+        Ok(image) => checked_answer(alloc, image),
+        Err(ImageFault::Memory) => Err(AllocError),
+        Err(fault) => Ok(refused(image_text(alloc, fault)?)),
+    }
+}
+
+/// What `run` answers for what reading an image's file came to.
+#[tactic(auto, unfolding(crate::specs::Refusal::too_large_text))]
+pub fn image_answer(alloc: Global, reading: &Reading) -> Result<Answer, AllocError>
+    ensures { IfOk result (λ answer. IsImageAnswer reading.now answer.status answer.report.items) }
+{
+    match reading {
+        Reading::Fault => unread(alloc),
+        Reading::TooLarge => fixed(alloc, Status::Refused, b"refused file 2 TooLarge\n"),
+        Reading::Bytes(bytes) => bytes_answer(alloc, bytes.as_slice()),
+    }
+}

@@ -1,0 +1,35 @@
+ghost use Rattle.std.specs.Prelude.{◌≡◌, ◌≤◌, IfOk};
+ghost use Rattle.trips_outside.specs.Outside.{Rose};
+ghost use Rattle.trips_run.specs.Read.{IsRead};
+
+use base::Items;
+use std::alloc::{AllocError, Global};
+use trips_outside::{Files, LoadFault, load};
+
+/// What reading a file came to.
+#[derive(Drop)]
+pub enum Reading {
+    Fault,
+    TooLarge,
+    Bytes(Items<u8>),
+}
+
+/// Reads a file of at most `limit` bytes. Want of memory is the only error.
+pub fn read<F: Files>(
+    alloc: Global,
+    files: &mut F,
+    name: &str,
+    limit: u64,
+) -> Result<Reading, AllocError>
+    ensures ok { IfOk result (IsRead (F.held files.old name.now)
+        (Rose (F.faults files.old) (F.faults files.new)) limit) }
+    ensures kept { F.held files.new ≡ F.held files.old }
+    ensures later { F.faults files.old ≤ F.faults files.new }
+{
+    match load(alloc, files, name, limit) {
+        Ok(bytes) => Ok(Reading::Bytes(Items::from_vec(bytes))),
+        Err(LoadFault::Fault) => Ok(Reading::Fault),
+        Err(LoadFault::TooLarge) => Ok(Reading::TooLarge),
+        Err(LoadFault::Memory) => Err(AllocError),
+    }
+}
