@@ -9,7 +9,8 @@ use Rattle.block_check.specs.Placing.{IsOrdered}
 use Rattle.block_check.specs.Found.{others, gets_two, gets_none, any, Added, Explored}
 use Rattle.block_cases.specs.Good.{IsAcyclic}
 use Rattle.block_cases.proofs.Alike.{and_true, both_true}
-use Rattle.block_check.proofs.Walk.{count_same, walk_exact}
+use Rattle.block_check.proofs.Walk.{walk_exact}
+use Rattle.block_check.proofs.Lists.{count_same}
 use Rattle.block_check.proofs.Adding.{added_both, walk_others}
 
 rises : (ns : List Node) (rank : ℕ → ℕ) → Ranked ns rank → (x y : ℕ) → Walk ns x y → rank x < rank y

@@ -12,3 +12,6 @@ pub mod Starts
 pub mod Making
 pub mod Sparing
 pub mod Owing
+pub mod Spots
+pub mod Lists
+pub mod Cycles

@@ -1,6 +1,7 @@
 use Rattle.std.proofs.Common.{◌≡◌, ◌<◌, ◌≤◌, ◌+◌, ℕ, length, arith, true, false, leb}
 use Rattle.block_check.specs.Placing.{unplaced}
-use Rattle.block_check.proofs.Ordering.{placing_none, all_ordered, stuck_cycle}
+use Rattle.block_check.proofs.Ordering.{placing_none, all_ordered}
+use Rattle.block_check.proofs.Cycles.{stuck_cycle}
 use Rattle.block_check.proofs.order.sort_by.Goals as goal
 
 pub place_all-placed-requires-clause-placing : goal.place_all-placed-requires-clause-placing
