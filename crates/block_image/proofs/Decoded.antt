@@ -1,9 +1,11 @@
 -- What decoding answers: the image that the bytes spell, or their first fault.
-use Rattle.std.proofs.Common.{◌≡◌, ℕ, ◌<◌, List, Result, Ok, Err, get_or, refl, sym, ap, subst, ◌∙◌, ◌⊎◌, inl, inr}
+use Rattle.std.proofs.Common.{◌≡◌, ℕ, ◌<◌, List, Result, Ok, Err, get_or, refl, sym, ap, subst, ◌∙◌}
+use Rattle.std.proofs.Common.{◌⊎◌, inl, inr}
 use Rattle.std.specs.Prelude.{All, IfOk, IfErr, MatchResult}
 use Rattle.trips_isa.specs.declared.block.Image.{Image}
 use Rattle.block_image.specs.declared.fault.ImageFault.{ImageFault}
-use Rattle.block_image.specs.declared.fault.ImageFault.TheVariants.{Magic, Version, Truncated, Trailing, BadField, Memory}
+use Rattle.block_image.specs.declared.fault.ImageFault.TheVariants.{Magic, Version, Truncated}
+use Rattle.block_image.specs.declared.fault.ImageFault.TheVariants.{Trailing, BadField, Memory}
 use Rattle.block_image.specs.Spelling.{ImageBytes}
 use Rattle.block_image.specs.ImageReading.{Fails, Answers, IsMemory, IsMemoryOr, image_at}
 use Rattle.block_image.specs.FirstFault.{FirstFault}
@@ -20,22 +22,28 @@ read_again i bytes s = ap image_at s.spelled ∙ image_again i s.fits
 
 -- ---- the laws of faults
 
-pub one_fault : (bytes : List ℕ) (f g : ImageFault) → FirstFault bytes f → FirstFault bytes g → f ≡ g
-one_fault bytes f g a b = err_is {A = Image} f g (sym (image_fault_again bytes f a) ∙ image_fault_again bytes g b)
+pub one_fault : (bytes : List ℕ) (f g : ImageFault) → FirstFault bytes f → FirstFault bytes g
+    → f ≡ g
+one_fault bytes f g a b = err_is {A = Image} f g
+    (sym (image_fault_again bytes f a) ∙ image_fault_again bytes g b)
 
-pub not_both : (i : Image) (bytes : List ℕ) (f : ImageFault) → ImageBytes i bytes → FirstFault bytes f → ⊥
+pub not_both : (i : Image) (bytes : List ℕ) (f : ImageFault) → ImageBytes i bytes
+    → FirstFault bytes f → ⊥
 not_both i bytes f a b = let x = read_again i bytes a in let y = image_fault_again bytes f b in cc
 
-pub either : (bytes : List ℕ) → All (λ b. b < 256) bytes → ((i : Image) × ImageBytes i bytes) ⊎ ((f : ImageFault) × FirstFault bytes f)
+pub either : (bytes : List ℕ) → All (λ b. b < 256) bytes
+    → ((i : Image) × ImageBytes i bytes) ⊎ ((f : ImageFault) × FirstFault bytes f)
 either bytes a = by (image_at bytes) refl
   where
-    by : (r : Result Image ImageFault) → image_at bytes ≡ r → ((i : Image) × ImageBytes i bytes) ⊎ ((f : ImageFault) × FirstFault bytes f)
+    by : (r : Result Image ImageFault) → image_at bytes ≡ r
+        → ((i : Image) × ImageBytes i bytes) ⊎ ((f : ImageFault) × FirstFault bytes f)
     by (Ok i) e = inl (i, image_takes bytes i (each_of (λ b. b < 256) bytes a) e)
     by (Err f) e = inr (f, image_fault bytes f (each_of (λ b. b < 256) bytes a) e)
 
 -- ---- the answers
 
-pub decoded : (bytes : List ℕ) (r : Result Image ImageFault) → ((i : ℕ) → get_or bytes i 0 < 256) → Answers (λ v. v) r (image_at bytes) → IfOk r (λ v. ImageBytes v bytes)
+pub decoded : (bytes : List ℕ) (r : Result Image ImageFault) → ((i : ℕ) → get_or bytes i 0 < 256)
+    → Answers (λ v. v) r (image_at bytes) → IfOk r (λ v. ImageBytes v bytes)
 decoded bytes (Ok v) f h = image_takes bytes v (each_byte bytes f) h
 decoded bytes (Err e) f h = tt
 
@@ -47,14 +55,19 @@ no_fails (Trailing n) i h = absurd cc
 no_fails (BadField n) i h = absurd cc
 no_fails Memory i h = refl
 
-pub decoded_only : (bytes : List ℕ) (r : Result Image ImageFault) → Answers (λ v. v) r (image_at bytes) → (i : Image) → ImageBytes i bytes → MatchResult r (λ v. v ≡ i) IsMemory
-decoded_only bytes r h i s = by r (subst (λ (x : Result Image ImageFault). Answers (λ v. v) r x) (read_again i bytes s) h)
+pub decoded_only : (bytes : List ℕ) (r : Result Image ImageFault)
+    → Answers (λ v. v) r (image_at bytes) → (i : Image) → ImageBytes i bytes
+    → MatchResult r (λ v. v ≡ i) IsMemory
+decoded_only bytes r h i s =
+    by r (subst (λ (x : Result Image ImageFault). Answers (λ v. v) r x) (read_again i bytes s) h)
   where
-    by : (r : Result Image ImageFault) → Answers (λ v. v) r (Ok i) → MatchResult r (λ v. v ≡ i) IsMemory
+    by : (r : Result Image ImageFault) → Answers (λ v. v) r (Ok i)
+        → MatchResult r (λ v. v ≡ i) IsMemory
     by (Ok v) h = sym (ok_is i v h)
     by (Err e) h = no_fails e i h
 
-fails_first : (bytes : List ℕ) (e : ImageFault) → AreBytes bytes → Fails e (image_at bytes) → IsMemoryOr (FirstFault bytes) e
+fails_first : (bytes : List ℕ) (e : ImageFault) → AreBytes bytes → Fails e (image_at bytes)
+    → IsMemoryOr (FirstFault bytes) e
 fails_first bytes Magic a h = inr (image_fault bytes Magic a h)
 fails_first bytes Version a h = inr (image_fault bytes Version a h)
 fails_first bytes (Truncated n) a h = inr (image_fault bytes (Truncated n) a h)
@@ -62,7 +75,8 @@ fails_first bytes (Trailing n) a h = inr (image_fault bytes (Trailing n) a h)
 fails_first bytes (BadField n) a h = inr (image_fault bytes (BadField n) a h)
 fails_first bytes Memory a h = inl refl
 
-pub refused : (bytes : List ℕ) (r : Result Image ImageFault) → ((i : ℕ) → get_or bytes i 0 < 256) → Answers (λ v. v) r (image_at bytes) → IfErr r (IsMemoryOr (FirstFault bytes))
+pub refused : (bytes : List ℕ) (r : Result Image ImageFault) → ((i : ℕ) → get_or bytes i 0 < 256)
+    → Answers (λ v. v) r (image_at bytes) → IfErr r (IsMemoryOr (FirstFault bytes))
 refused bytes (Ok v) f h = tt
 refused bytes (Err e) f h = fails_first bytes e (each_byte bytes f) h
 
@@ -74,9 +88,14 @@ fails_alone (Trailing n) f h = inr (sym (err_is {A = Image} f (Trailing n) h))
 fails_alone (BadField n) f h = inr (sym (err_is {A = Image} f (BadField n) h))
 fails_alone Memory f h = inl refl
 
-pub refused_only : (bytes : List ℕ) (r : Result Image ImageFault) → Answers (λ v. v) r (image_at bytes) → (f : ImageFault) → FirstFault bytes f → MatchResult r (λ v. ⊥) (IsMemoryOr (λ e. e ≡ f))
-refused_only bytes r h f s = by r (subst (λ (x : Result Image ImageFault). Answers (λ v. v) r x) (image_fault_again bytes f s) h)
+pub refused_only : (bytes : List ℕ) (r : Result Image ImageFault)
+    → Answers (λ v. v) r (image_at bytes) → (f : ImageFault) → FirstFault bytes f
+    → MatchResult r (λ v. ⊥) (IsMemoryOr (λ e. e ≡ f))
+refused_only bytes r h f s =
+    by r (subst (λ (x : Result Image ImageFault). Answers (λ v. v) r x)
+    (image_fault_again bytes f s) h)
   where
-    by : (r : Result Image ImageFault) → Answers (λ v. v) r (Err f) → MatchResult r (λ v. ⊥) (IsMemoryOr (λ e. e ≡ f))
+    by : (r : Result Image ImageFault) → Answers (λ v. v) r (Err f)
+        → MatchResult r (λ v. ⊥) (IsMemoryOr (λ e. e ≡ f))
     by (Ok v) h = absurd (let q : ◌≡◌ {A = Result Image ImageFault} (Err f) (Ok v) = h in cc)
     by (Err e) h = fails_alone e f h

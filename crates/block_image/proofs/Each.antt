@@ -1,5 +1,6 @@
 -- What holds of each item of a list, by recursion on the list.
-use Rattle.std.proofs.Common.{ℕ, zero, suc, ◌^◌, ◌<◌, List, [], ◌∷◌, ◌++◌, take, drop, get_or, arith}
+use Rattle.std.proofs.Common.{ℕ, zero, suc, ◌^◌, ◌<◌, List, [], ◌∷◌, ◌++◌, take, drop, get_or}
+use Rattle.std.proofs.Common.{arith}
 use Rattle.std.specs.Prelude.{All}
 use Rattle.std.proofs.lemmas.List.Elements.{All-head, All-tail, All-cons}
 
@@ -34,7 +35,8 @@ each_take P zero xs f = tt
 each_take P (suc n) [] f = tt
 each_take P (suc n) (x ∷ xs) f = (f.0, each_take P n xs f.1)
 
-pub each_both : {A : Type 0} (P : A → Type 0) (xs ys : List A) → Each P xs → Each P ys → Each P (xs ++ ys)
+pub each_both : {A : Type 0} (P : A → Type 0) (xs ys : List A) → Each P xs → Each P ys
+    → Each P (xs ++ ys)
 each_both P [] ys f g = g
 each_both P (x ∷ xs) ys f g = (f.0, each_both P xs ys f.1 g)
 

@@ -1,5 +1,7 @@
 -- The fields of a word: what is read is spelled so, and what was written is read again.
-use Rattle.std.proofs.Common.{◌≡◌, ℕ, ◌+◌, ◌-◌, ◌/◌, ◌%◌, ◌^◌, ◌<◌, ◌≤◌, Bool, true, false, cond, [], ◌∷◌, Option, Some, None, refl, sym, ap, subst, arith, nat_eq, nat_lt, lit<}
+use Rattle.std.proofs.Common.{◌≡◌, ℕ, ◌+◌, ◌-◌, ◌/◌, ◌%◌, ◌^◌, ◌<◌, ◌≤◌, Bool, true, false, cond}
+use Rattle.std.proofs.Common.{[], ◌∷◌, Option, Some, None, refl, sym, ap, subst, arith, nat_eq}
+use Rattle.std.proofs.Common.{nat_lt, lit<}
 use Rattle.std.specs.Prelude.{ℤ, pos, negsuc}
 use Rattle.std.proofs.lemmas.Bool.Decides.{nat_tests}
 use Rattle.std.proofs.lemmas.Option.{same_Some}
@@ -10,9 +12,11 @@ use Rattle.trips_isa.specs.declared.block.Sense.{Sense}
 use Rattle.trips_isa.specs.declared.block.Sense.TheVariants.{Always, OnTrue, OnFalse}
 use Rattle.trips_isa.specs.Fits.{FitsTarget, FitsSigned, FitsUnsigned, FitsOffset, FitsConstant}
 use Rattle.block_image.specs.Words.{word_of, sense_number, target_number, signed_number}
-use Rattle.block_image.specs.WordReading.{◌>>=◌, part, sense_at, Target, target_at, signed_at, offset_at, constant_of}
+use Rattle.block_image.specs.WordReading.{◌>>=◌, part, sense_at, Target, target_at, signed_at}
+use Rattle.block_image.specs.WordReading.{offset_at, constant_of}
 
-pub bind_some : {A B : Type 0} (o : Option A) (f : A → Option B) (y : B) → (o >>= f) ≡ Some y → (x : A) × (o ≡ Some x) × (f x ≡ Some y)
+pub bind_some : {A B : Type 0} (o : Option A) (f : A → Option B) (y : B) → (o >>= f) ≡ Some y
+    → (x : A) × (o ≡ Some x) × (f x ≡ Some y)
 bind_some None f y e = absurd cc
 bind_some (Some x) f y e = (x, refl, e)
 
@@ -25,10 +29,19 @@ pub record Parts (w a b c d e : ℕ) : Type 0 where
   pub upper : part w 512 512 ≡ d
   pub lower : part w 1 512 ≡ e
 
-pub parts : (a b c d e : ℕ) → a < 128 → b < 4 → c < 32 → d < 512 → e < 512 → Parts (word_of ((7, a) ∷ (2, b) ∷ (5, c) ∷ (9, d) ∷ (9, e) ∷ [])) a b c d e
-parts a b c d e la lb lc ld le = record { opcode = omega arith; sense = omega arith; extended = omega arith; upper = omega arith; lower = omega arith }
+pub parts : (a b c d e : ℕ) → a < 128 → b < 4 → c < 32 → d < 512 → e < 512
+    → Parts (word_of ((7, a) ∷ (2, b) ∷ (5, c) ∷ (9, d) ∷ (9, e) ∷ [])) a b c d e
+parts a b c d e la lb lc ld le =
+    record {
+      opcode = omega arith;
+      sense = omega arith;
+      extended = omega arith;
+      upper = omega arith;
+      lower = omega arith;
+    }
 
-pub whole : (w a b c d e : ℕ) → w < 2 ^ 32 → Parts w a b c d e → word_of ((7, a) ∷ (2, b) ∷ (5, c) ∷ (9, d) ∷ (9, e) ∷ []) ≡ w
+pub whole : (w a b c d e : ℕ) → w < 2 ^ 32 → Parts w a b c d e
+    → word_of ((7, a) ∷ (2, b) ∷ (5, c) ∷ (9, d) ∷ (9, e) ∷ []) ≡ w
 whole w a b c d e lt p =
     let q0 : w / 33554432 % 128 ≡ a = p.opcode in
     let q1 : w / 8388608 % 4 ≡ b = p.sense in
@@ -43,10 +56,13 @@ pub record BranchParts (w a b c d : ℕ) : Type 0 where
   pub exit : part w 1048576 8 ≡ c
   pub offset : part w 1 1048576 ≡ d
 
-pub branch_parts : (a b c d : ℕ) → a < 128 → b < 4 → c < 8 → d < 1048576 → BranchParts (word_of ((7, a) ∷ (2, b) ∷ (3, c) ∷ (20, d) ∷ [])) a b c d
-branch_parts a b c d la lb lc ld = record { opcode = omega arith; sense = omega arith; exit = omega arith; offset = omega arith }
+pub branch_parts : (a b c d : ℕ) → a < 128 → b < 4 → c < 8 → d < 1048576
+    → BranchParts (word_of ((7, a) ∷ (2, b) ∷ (3, c) ∷ (20, d) ∷ [])) a b c d
+branch_parts a b c d la lb lc ld =
+    record { opcode = omega arith; sense = omega arith; exit = omega arith; offset = omega arith }
 
-pub branch_whole : (w a b c d : ℕ) → w < 2 ^ 32 → BranchParts w a b c d → word_of ((7, a) ∷ (2, b) ∷ (3, c) ∷ (20, d) ∷ []) ≡ w
+pub branch_whole : (w a b c d : ℕ) → w < 2 ^ 32 → BranchParts w a b c d
+    → word_of ((7, a) ∷ (2, b) ∷ (3, c) ∷ (20, d) ∷ []) ≡ w
 branch_whole w a b c d lt p =
     let q0 : w / 33554432 % 128 ≡ a = p.opcode in
     let q1 : w / 8388608 % 4 ≡ b = p.sense in
@@ -59,10 +75,13 @@ pub record ConstantParts (w a b c : ℕ) : Type 0 where
   pub constant : part w 512 65536 ≡ b
   pub lower : part w 1 512 ≡ c
 
-pub constant_parts : (a b c : ℕ) → a < 128 → b < 65536 → c < 512 → ConstantParts (word_of ((7, a) ∷ (16, b) ∷ (9, c) ∷ [])) a b c
-constant_parts a b c la lb lc = record { opcode = omega arith; constant = omega arith; lower = omega arith }
+pub constant_parts : (a b c : ℕ) → a < 128 → b < 65536 → c < 512
+    → ConstantParts (word_of ((7, a) ∷ (16, b) ∷ (9, c) ∷ [])) a b c
+constant_parts a b c la lb lc =
+    record { opcode = omega arith; constant = omega arith; lower = omega arith }
 
-pub constant_whole : (w a b c : ℕ) → w < 2 ^ 32 → ConstantParts w a b c → word_of ((7, a) ∷ (16, b) ∷ (9, c) ∷ []) ≡ w
+pub constant_whole : (w a b c : ℕ) → w < 2 ^ 32 → ConstantParts w a b c
+    → word_of ((7, a) ∷ (16, b) ∷ (9, c) ∷ []) ≡ w
 constant_whole w a b c lt p =
     let q0 : w / 33554432 % 128 ≡ a = p.opcode in
     let q1 : w / 512 % 65536 ≡ b = p.constant in
@@ -86,7 +105,8 @@ pub eq_is : (a b : ℕ) → nat_eq a b ≡ true → a ≡ b
 eq_is a b e = grind (arith, nat_tests)
 
 -- a choice of readings, each of which gives what holds, gives what holds
-pub pick : {A : Type 0} (P : A → Type 0) (b : Bool) (x y : Option A) (t : A) → (b ≡ true → x ≡ Some t → P t) → (b ≡ false → y ≡ Some t → P t) → cond b x y ≡ Some t → P t
+pub pick : {A : Type 0} (P : A → Type 0) (b : Bool) (x y : Option A) (t : A)
+    → (b ≡ true → x ≡ Some t → P t) → (b ≡ false → y ≡ Some t → P t) → cond b x y ≡ Some t → P t
 pick P true x y t f g e = f refl e
 pick P false x y t f g e = g refl e
 
@@ -136,19 +156,47 @@ target_again (Some (spot.Write w)) h =
     let l : w < 32 = h in
     let n : ℕ = 32 + w in
     let e : 32 + w - 32 ≡ w = omega arith in
-    rw (eq_no (32 + w) 0 (λ z. omega arith), lt_no (32 + w) 32 (omega arith), lt_yes (32 + w) 64 (omega arith), e) refl
+    rw (
+      eq_no (32 + w) 0 (λ z. omega arith),
+      lt_no (32 + w) 32 (omega arith),
+      lt_yes (32 + w) 64 (omega arith),
+      e,
+    ) refl
 target_again (Some (spot.Pred s)) h =
     let l : s < 128 = h in
     let e : 128 + s - 128 ≡ s = omega arith in
-    rw (eq_no (128 + s) 0 (λ z. omega arith), lt_no (128 + s) 32 (omega arith), lt_no (128 + s) 64 (omega arith), lt_no (128 + s) 128 (omega arith), lt_yes (128 + s) 256 (omega arith), e) refl
+    rw (
+      eq_no (128 + s) 0 (λ z. omega arith),
+      lt_no (128 + s) 32 (omega arith),
+      lt_no (128 + s) 64 (omega arith),
+      lt_no (128 + s) 128 (omega arith),
+      lt_yes (128 + s) 256 (omega arith),
+      e,
+    ) refl
 target_again (Some (spot.Left s)) h =
     let l : s < 128 = h in
     let e : 256 + s - 256 ≡ s = omega arith in
-    rw (eq_no (256 + s) 0 (λ z. omega arith), lt_no (256 + s) 32 (omega arith), lt_no (256 + s) 64 (omega arith), lt_no (256 + s) 128 (omega arith), lt_no (256 + s) 256 (omega arith), lt_yes (256 + s) 384 (omega arith), e) refl
+    rw (
+      eq_no (256 + s) 0 (λ z. omega arith),
+      lt_no (256 + s) 32 (omega arith),
+      lt_no (256 + s) 64 (omega arith),
+      lt_no (256 + s) 128 (omega arith),
+      lt_no (256 + s) 256 (omega arith),
+      lt_yes (256 + s) 384 (omega arith),
+      e,
+    ) refl
 target_again (Some (spot.Right s)) h =
     let l : s < 128 = h in
     let e : 384 + s - 384 ≡ s = omega arith in
-    rw (eq_no (384 + s) 0 (λ z. omega arith), lt_no (384 + s) 32 (omega arith), lt_no (384 + s) 64 (omega arith), lt_no (384 + s) 128 (omega arith), lt_no (384 + s) 256 (omega arith), lt_no (384 + s) 384 (omega arith), e) refl
+    rw (
+      eq_no (384 + s) 0 (λ z. omega arith),
+      lt_no (384 + s) 32 (omega arith),
+      lt_no (384 + s) 64 (omega arith),
+      lt_no (384 + s) 128 (omega arith),
+      lt_no (384 + s) 256 (omega arith),
+      lt_no (384 + s) 384 (omega arith),
+      e,
+    ) refl
 target_again (Some (spot.Read s)) h = absurd h
 target_again (Some (spot.Inst s)) h = absurd h
 target_again (Some (spot.Store s)) h = absurd h
@@ -160,19 +208,30 @@ pub target_takes : (n : ℕ) (t : Target) → n < 512 → target_at n ≡ Some t
 unfolding target_at
 target_takes n t lt =
     let P : Target → Type 0 = λ t. Spells t n in
-    pick P (nat_eq n 0) _ _ t (λ b. let q : n ≡ 0 = eq_is n 0 b in found P None t (tt, sym q)) (λ b0.
+    pick P (nat_eq n 0) _ _ t (λ b. let q : n ≡ 0 = eq_is n 0 b in found P None t (tt, sym q))
+    (λ b0.
     pick P (nat_lt n 32) _ _ t (λ b. nothing P t) (λ b1. let l1 : 32 ≤ n = le_is n 32 b1 in
-    pick P (nat_lt n 64) _ _ t (λ b. let l : n < 64 = lt_is n 64 b in found P (Some (spot.Write (n - 32))) t (omega arith, omega arith)) (λ b2. let l2 : 64 ≤ n = le_is n 64 b2 in
+    pick P (nat_lt n 64) _ _ t
+    (λ b. let l : n < 64 = lt_is n 64 b in
+    found P (Some (spot.Write (n - 32))) t (omega arith, omega arith))
+    (λ b2. let l2 : 64 ≤ n = le_is n 64 b2 in
     pick P (nat_lt n 128) _ _ t (λ b. nothing P t) (λ b3. let l3 : 128 ≤ n = le_is n 128 b3 in
-    pick P (nat_lt n 256) _ _ t (λ b. let l : n < 256 = lt_is n 256 b in found P (Some (spot.Pred (n - 128))) t (omega arith, omega arith)) (λ b4. let l4 : 256 ≤ n = le_is n 256 b4 in
-    pick P (nat_lt n 384) _ _ t (λ b. let l : n < 384 = lt_is n 384 b in found P (Some (spot.Left (n - 256))) t (omega arith, omega arith)) (λ b5. let l5 : 384 ≤ n = le_is n 384 b5 in
+    pick P (nat_lt n 256) _ _ t
+    (λ b. let l : n < 256 = lt_is n 256 b in
+    found P (Some (spot.Pred (n - 128))) t (omega arith, omega arith))
+    (λ b4. let l4 : 256 ≤ n = le_is n 256 b4 in
+    pick P (nat_lt n 384) _ _ t
+    (λ b. let l : n < 384 = lt_is n 384 b in
+    found P (Some (spot.Left (n - 256))) t (omega arith, omega arith))
+    (λ b5. let l5 : 384 ≤ n = le_is n 384 b5 in
     found P (Some (spot.Right (n - 384))) t (omega arith, omega arith)))))))
 
 pub signed_below : (values : ℕ) (z : ℤ) → FitsSigned values z → signed_number values z < values
 signed_below values (pos n) h = h
 signed_below values (negsuc n) h = let l : n < values = h in omega arith
 
-pub signed_again : (half : ℕ) (z : ℤ) → FitsSigned half z → signed_at half (signed_number (half + half) z) ≡ z
+pub signed_again : (half : ℕ) (z : ℤ) → FitsSigned half z
+    → signed_at half (signed_number (half + half) z) ≡ z
 unfolding signed_at
 signed_again half (pos n) h = let l : n < half = h in rw (lt_yes n half l) refl
 signed_again half (negsuc n) h =
@@ -180,10 +239,13 @@ signed_again half (negsuc n) h =
     let e : half + half - 1 - (half + half - 1 - n) ≡ n = omega arith in
     rw (lt_no (half + half - 1 - n) half (omega arith), e) refl
 
-pub signed_takes : (half n : ℕ) → n < half + half → FitsSigned half (signed_at half n) × (signed_number (half + half) (signed_at half n) ≡ n)
+pub signed_takes : (half n : ℕ) → n < half + half → FitsSigned half (signed_at half n)
+    × (signed_number (half + half) (signed_at half n) ≡ n)
 unfolding signed_at
 signed_takes half n lt =
-    let P : Bool → Type 0 = λ b. nat_lt n half ≡ b → FitsSigned half (cond b (pos n) (negsuc (half + half - 1 - n))) × (signed_number (half + half) (cond b (pos n) (negsuc (half + half - 1 - n))) ≡ n) in
+    let P : Bool → Type 0 = λ b. nat_lt n half ≡ b
+    → FitsSigned half (cond b (pos n) (negsuc (half + half - 1 - n)))
+    × (signed_number (half + half) (cond b (pos n) (negsuc (half + half - 1 - n))) ≡ n) in
     elim (nat_lt n half) as (λ b. P b) [
       | true ↦ λ e. (lt_is n half e, refl)
       | false ↦ λ e. let l : half ≤ n = le_is n half e in (omega arith, omega arith)
@@ -191,13 +253,15 @@ signed_takes half n lt =
 
 -- ---- offsets and constants
 
-no_offset : (z : ℤ) → z ≡ pos 0 → cond (nat_eq (signed_number 1048576 z) 0) (Some (pos 0)) None ≡ Some z
+no_offset : (z : ℤ) → z ≡ pos 0
+    → cond (nat_eq (signed_number 1048576 z) 0) (Some (pos 0)) None ≡ Some z
 no_offset z e = rw e refl
 
 abbrev some : {A : Type 0} → A → Option A
 some x = Some x
 
-pub offset_again : (op : Op) (z : ℤ) → FitsOffset op z → offset_at op (signed_number 1048576 z) ≡ Some z
+pub offset_again : (op : Op) (z : ℤ) → FitsOffset op z
+    → offset_at op (signed_number 1048576 z) ≡ Some z
 unfolding offset_at
 offset_again Bro z f = ap some (signed_again 524288 z f)
 offset_again Callo z f = ap some (signed_again 524288 z f)
@@ -210,19 +274,24 @@ abbrev NoOffset : ℕ → ℤ → Type 0
 NoOffset n z = (z ≡ pos 0) × (signed_number 1048576 z ≡ n)
 
 no_offset_takes : (n : ℕ) (z : ℤ) → cond (nat_eq n 0) (Some (pos 0)) None ≡ Some z → NoOffset n z
-no_offset_takes n z = pick (NoOffset n) (nat_eq n 0) _ _ z (λ b. found (NoOffset n) (pos 0) z (refl, sym (eq_is n 0 b))) (λ b. nothing (NoOffset n) z)
+no_offset_takes n z = pick (NoOffset n) (nat_eq n 0) _ _ z
+    (λ b. found (NoOffset n) (pos 0) z (refl, sym (eq_is n 0 b))) (λ b. nothing (NoOffset n) z)
 
-pub offset_takes : (op : Op) (n : ℕ) (z : ℤ) → n < 1048576 → offset_at op n ≡ Some z → OffsetIs op n z
+pub offset_takes : (op : Op) (n : ℕ) (z : ℤ) → n < 1048576 → offset_at op n ≡ Some z
+    → OffsetIs op n z
 unfolding offset_at
-offset_takes Bro n z lt e = let t = signed_takes 524288 n lt in found (OffsetIs Bro n) (signed_at 524288 n) z (t.0, t.1) e
-offset_takes Callo n z lt e = let t = signed_takes 524288 n lt in found (OffsetIs Callo n) (signed_at 524288 n) z (t.0, t.1) e
+offset_takes Bro n z lt e = let t = signed_takes 524288 n lt in
+    found (OffsetIs Bro n) (signed_at 524288 n) z (t.0, t.1) e
+offset_takes Callo n z lt e = let t = signed_takes 524288 n lt in
+    found (OffsetIs Callo n) (signed_at 524288 n) z (t.0, t.1) e
 offset_takes op n z lt e = no_offset_takes n z e
 
 unsigned_again : (z : ℤ) → FitsUnsigned 65536 z → pos (signed_number 65536 z) ≡ z
 unsigned_again (pos n) f = refl
 unsigned_again (negsuc n) f = absurd f
 
-pub constant_again : (op : Op) (z : ℤ) → FitsConstant op z → constant_of op (signed_number 65536 z) ≡ z
+pub constant_again : (op : Op) (z : ℤ) → FitsConstant op z
+    → constant_of op (signed_number 65536 z) ≡ z
 unfolding constant_of
 constant_again Gens z f = signed_again 32768 z f
 constant_again op z f = unsigned_again z f

@@ -1,13 +1,20 @@
 -- A header that is read is the header of what was read, and what was written is read again.
-use Rattle.std.proofs.Common.{◌≡◌, ℕ, zero, suc, ◌+◌, ◌-◌, ◌*◌, ◌/◌, ◌%◌, ◌^◌, ◌<◌, ◌≤◌, Bool, true, false, cond, List, [], ◌∷◌, length, take, map, Option, Some, None, refl, sym, ap, subst, ◌∙◌, arith, nat_eq, nat_le, nat_lt, ◌&&◌, ◌||◌, not, lit<}
-use Rattle.std.proofs.Math.Nat.{add-mul, mul_assoc, add_assoc, one-le-pow, pow-succ', mul-le-mul_right}
+use Rattle.std.proofs.Common.{◌≡◌, ℕ, zero, suc, ◌+◌, ◌-◌, ◌*◌, ◌/◌, ◌%◌, ◌^◌, ◌<◌, ◌≤◌, Bool, true}
+use Rattle.std.proofs.Common.{false, cond, List, [], ◌∷◌, length, take, map, Option, Some, None}
+use Rattle.std.proofs.Common.{refl, sym, ap, subst, ◌∙◌, arith, nat_eq, nat_le, nat_lt, ◌&&◌, ◌||◌}
+use Rattle.std.proofs.Common.{not, lit<}
+use Rattle.std.proofs.Math.Nat.{add-mul, mul_assoc, add_assoc, one-le-pow, pow-succ'}
+use Rattle.std.proofs.Math.Nat.{mul-le-mul_right}
 use Rattle.std.proofs.lemmas.Nat.{div-mul-add, mod-mul-add, div_below, mod_below, div-add-mod'}
 use Rattle.std.proofs.lemmas.Bool.Decides.{nat_tests}
 use Rattle.trips_isa.specs.declared.block.Spot.{Spot}
 use Rattle.trips_isa.specs.declared.block.ReadSlot.{ReadSlot}
 use Rattle.block_image.specs.Words.{word_of}
-use Rattle.block_image.specs.Headers.{first_of, rest_of, operand_number, second_number, read_fields, write_field, header_word, words_from, info_of}
-use Rattle.block_image.specs.HeaderReading.{info_from, mask_in, reads_in, writes_in, chunks_in, is_good_info, is_bad, first_bad, operand_at, read_at, write_at}
+use Rattle.block_image.specs.Headers.{first_of, rest_of, operand_number, second_number, read_fields}
+use Rattle.block_image.specs.Headers.{write_field, header_word, words_from, info_of}
+use Rattle.block_image.specs.HeaderReading.{info_from, mask_in, reads_in, writes_in, chunks_in}
+use Rattle.block_image.specs.HeaderReading.{is_good_info, is_bad, first_bad, operand_at, read_at}
+use Rattle.block_image.specs.HeaderReading.{write_at}
 use Rattle.block_image.proofs.Each.{Each, AreWords}
 use Rattle.trips_isa.specs.Fits.{FitsOperand, FitsSecond, FitsRead}
 use Rattle.block_image.proofs.Lists.{Counts, or_false}
@@ -57,7 +64,8 @@ operand_below (spot.Store n) h = absurd h
 operand_again : (s : Spot) → FitsOperand s → operand_at (operand_number s) ≡ s
 unfolding operand_at
 operand_again (spot.Left n) h = rw (lt_yes n 128 h) refl
-operand_again (spot.Right n) h = let e : 128 + n - 128 ≡ n = omega arith in rw (lt_no (128 + n) 128 (omega arith), e) refl
+operand_again (spot.Right n) h = let e : 128 + n - 128 ≡ n = omega arith in
+    rw (lt_no (128 + n) 128 (omega arith), e) refl
 operand_again (spot.Read n) h = absurd h
 operand_again (spot.Inst n) h = absurd h
 operand_again (spot.Pred n) h = absurd h
@@ -70,26 +78,39 @@ OperandIs s n = FitsOperand s × (operand_number s ≡ n)
 operand_takes : (n : ℕ) → n < 256 → OperandIs (operand_at n) n
 unfolding operand_at
 operand_takes n l =
-    let P : Bool → Type 0 = λ b. nat_lt n 128 ≡ b → OperandIs (cond b (spot.Left n) (spot.Right (n - 128))) n in
+    let P : Bool → Type 0 = λ b. nat_lt n 128 ≡ b
+    → OperandIs (cond b (spot.Left n) (spot.Right (n - 128))) n in
     elim (nat_lt n 128) as (λ b. P b) [
       | true ↦ λ e. (lt_is n 128 e, refl)
       | false ↦ λ e. let g : 128 ≤ n = lt_not n 128 e in (omega arith, omega arith)
     ] refl
 
-second_below : (first : Spot) (second : Option Spot) → FitsOperand first → FitsSecond first second → second_number first second < 256
+second_below : (first : Spot) (second : Option Spot) → FitsOperand first → FitsSecond first second
+    → second_number first second < 256
 second_below first None f h = operand_below first f
 second_below first (Some s) f h = operand_below s h.0
 
 second_again : (first : Spot) (second : Option Spot) → FitsOperand first → FitsSecond first second
-    → cond (nat_eq (second_number first second) (operand_number first)) None (Some (operand_at (second_number first second))) ≡ second
+    → cond (nat_eq (second_number first second) (operand_number first)) None
+    (Some (operand_at (second_number first second))) ≡ second
 second_again first None f h = rw (eq_yes (operand_number first) (operand_number first) refl) refl
 second_again first (Some s) f h =
-    let differ : operand_number s ≡ operand_number first → ⊥ = λ e. h.1 (sym (operand_again s h.0) ∙ ap operand_at e ∙ operand_again first f) in
+    let differ : operand_number s ≡ operand_number first
+    → ⊥ = λ e. h.1 (sym (operand_again s h.0) ∙ ap operand_at e ∙ operand_again first f) in
     rw (eq_no (operand_number s) (operand_number first) differ, operand_again s h.0) refl
 
-read_from : (w : ℕ) (r : ReadSlot) → FitsRead r → w / 8388608 % 128 ≡ r.register → w / 128 % 256 ≡ operand_number r.first → w / 32768 % 256 ≡ second_number r.first r.second → read_at w ≡ r
+read_from : (w : ℕ) (r : ReadSlot) → FitsRead r → w / 8388608 % 128 ≡ r.register
+    → w / 128 % 256 ≡ operand_number r.first → w / 32768 % 256 ≡ second_number r.first r.second
+    → read_at w ≡ r
 unfolding read_at
-read_from w r f e1 e2 e3 = rw (e1, e2, e3, operand_again r.first f.first, second_again r.first r.second f.first f.second) refl
+read_from w r f e1 e2 e3 =
+    rw (
+      e1,
+      e2,
+      e3,
+      operand_again r.first f.first,
+      second_again r.first r.second f.first f.second,
+    ) refl
 
 pub read_fits : (w : ℕ) → FitsRead (read_at w)
 unfolding read_at
@@ -98,7 +119,8 @@ read_fits w =
     let b = w / 32768 % 256 in
     let oa = operand_takes a (omega arith) in
     let ob = operand_takes b (omega arith) in
-    let P : Bool → Type 0 = λ t. nat_eq b a ≡ t → FitsSecond (operand_at a) (cond t None (Some (operand_at b))) in
+    let P : Bool → Type 0 = λ t. nat_eq b a ≡ t
+    → FitsSecond (operand_at a) (cond t None (Some (operand_at b))) in
     record {
       register = omega arith;
       first = oa.0;
@@ -116,8 +138,10 @@ read_fields_at w =
     let b = w / 32768 % 256 in
     let oa = operand_takes a (omega arith) in
     let ob = operand_takes b (omega arith) in
-    let P : Bool → Type 0 = λ t. nat_eq b a ≡ t → second_number (operand_at a) (cond t None (Some (operand_at b))) ≡ b in
-    let second : second_number (operand_at a) (cond (nat_eq b a) None (Some (operand_at b))) ≡ b = elim (nat_eq b a) as (λ t. P t) [
+    let P : Bool → Type 0 = λ t. nat_eq b a ≡ t
+    → second_number (operand_at a) (cond t None (Some (operand_at b))) ≡ b in
+    let second : second_number (operand_at a) (cond (nat_eq b a) None (Some (operand_at b))) ≡ b =
+    elim (nat_eq b a) as (λ t. P t) [
       | true ↦ λ e. oa.1 ∙ sym (eq_is b a e)
       | false ↦ λ e. ob.1
     ] refl in
@@ -130,7 +154,8 @@ record HeaderParts (w q r x : ℕ) : Type 0 where
   pub read : w / 128 % 8388608 ≡ r
   pub write : w % 128 ≡ x
 
-header_parts : (q r x : ℕ) → q < 4 → r < 8388608 → x < 128 → HeaderParts (word_of ((2, q) ∷ (23, r) ∷ (7, x) ∷ [])) q r x
+header_parts : (q r x : ℕ) → q < 4 → r < 8388608 → x < 128
+    → HeaderParts (word_of ((2, q) ∷ (23, r) ∷ (7, x) ∷ [])) q r x
 header_parts q r x lq lr lx = record { pair = omega arith; read = omega arith; write = omega arith }
 
 FitsFirst : Option ReadSlot → Type 0
@@ -155,10 +180,13 @@ unfolding FitsWrite
 write_below None f = lit< tt
 write_below (Some w) f = f
 
-one_word : (q : ℕ) (r : Option ReadSlot) (w : Option ℕ) → q < 4 → FitsFirst r → FitsWrite w → HeaderParts (header_word q r w) q (read_fields r) (write_field w)
-one_word q r w l f g = header_parts q (read_fields r) (write_field w) l (fields_below r f) (write_below w g)
+one_word : (q : ℕ) (r : Option ReadSlot) (w : Option ℕ) → q < 4 → FitsFirst r → FitsWrite w
+    → HeaderParts (header_word q r w) q (read_fields r) (write_field w)
+one_word q r w l f g = header_parts q (read_fields r) (write_field w) l (fields_below r f)
+    (write_below w g)
 
-read_again : (q : ℕ) (r : ReadSlot) (w : Option ℕ) → q < 4 → FitsRead r → FitsWrite w → read_at (header_word q (Some r) w) ≡ r
+read_again : (q : ℕ) (r : ReadSlot) (w : Option ℕ) → q < 4 → FitsRead r → FitsWrite w
+    → read_at (header_word q (Some r) w) ≡ r
 unfolding FitsFirst
 read_again q r w l f g =
     let h = header_word q (Some r) w in
@@ -194,25 +222,35 @@ pub power : (n : ℕ) → 4 ^ suc n ≡ 4 * 4 ^ n
 power n = pow-succ' 4 n
 
 pub digit_below : (n info : ℕ) → info < 4 ^ suc n → info / 4 ^ n < 4
-digit_below n info l = div_below info (4 ^ n) 4 (one-le-pow n 4 (omega arith)) (subst (λ (p : ℕ). info < p) (power n) l)
+digit_below n info l = div_below info (4 ^ n) 4 (one-le-pow n 4 (omega arith))
+    (subst (λ (p : ℕ). info < p) (power n) l)
 
 pub rest_below : (n info : ℕ) → info % 4 ^ n < 4 ^ n
 rest_below n info = mod_below info (4 ^ n) (one-le-pow n 4 (omega arith))
 
 shift : (acc q p r : ℕ) → (acc * 4 + q) * p + r ≡ acc * (4 * p) + (q * p + r)
-shift acc q p r = ap (λ (x : ℕ). x + r) (add-mul (acc * 4) q p ∙ ap (λ (x : ℕ). x + q * p) (mul_assoc acc 4 p)) ∙ add_assoc (acc * (4 * p)) (q * p) r
+shift acc q p r = ap (λ (x : ℕ). x + r)
+    (add-mul (acc * 4) q p ∙ ap (λ (x : ℕ). x + q * p) (mul_assoc acc 4 p))
+    ∙ add_assoc (acc * (4 * p)) (q * p) r
 
-pub info_again : (n acc info : ℕ) (rs : List ReadSlot) (ws : List ℕ) → info < 4 ^ n → FitReads rs → FitWrites ws → info_from acc (words_from n info rs ws) ≡ acc * 4 ^ n + info
+pub info_again : (n acc info : ℕ) (rs : List ReadSlot) (ws : List ℕ) → info < 4 ^ n → FitReads rs
+    → FitWrites ws → info_from acc (words_from n info rs ws) ≡ acc * 4 ^ n + info
 unfolding words_from
 info_again zero acc info rs ws l f g = omega arith
 info_again (suc n) acc info rs ws l f g =
     let q = info / 4 ^ n in
-    let p = one_word q (first_of rs) (first_of ws) (digit_below n info l) (each_first rs f) (each_write ws g) in
-    let rest = info_again n (acc * 4 + q) (info % 4 ^ n) (rest_of rs) (rest_of ws) (rest_below n info) (each_rest FitsRead rs f) (each_rest (λ w. w < 128) ws g) in
-    ap (λ (x : ℕ). info_from (acc * 4 + x) (words_from n (info % 4 ^ n) (rest_of rs) (rest_of ws))) p.pair
-    ∙ rest ∙ shift acc q (4 ^ n) (info % 4 ^ n) ∙ ap (λ (x : ℕ). acc * (4 * 4 ^ n) + x) (div-add-mod' info (4 ^ n)) ∙ ap (λ (x : ℕ). acc * x + info) (sym (power n))
+    let p = one_word q (first_of rs) (first_of ws) (digit_below n info l) (each_first rs f)
+    (each_write ws g) in
+    let rest = info_again n (acc * 4 + q) (info % 4 ^ n) (rest_of rs) (rest_of ws)
+    (rest_below n info) (each_rest FitsRead rs f) (each_rest (λ w. w < 128) ws g) in
+    ap (λ (x : ℕ). info_from (acc * 4 + x) (words_from n (info % 4 ^ n) (rest_of rs) (rest_of ws)))
+    p.pair
+    ∙ rest ∙ shift acc q (4 ^ n) (info % 4 ^ n)
+    ∙ ap (λ (x : ℕ). acc * (4 * 4 ^ n) + x) (div-add-mod' info (4 ^ n))
+    ∙ ap (λ (x : ℕ). acc * x + info) (sym (power n))
 
-pub info_moves : (n acc : ℕ) (ws : List ℕ) → length ws ≡ n → info_from acc ws ≡ acc * 4 ^ n + info_from 0 ws
+pub info_moves : (n acc : ℕ) (ws : List ℕ) → length ws ≡ n
+    → info_from acc ws ≡ acc * 4 ^ n + info_from 0 ws
 info_moves zero acc [] e = omega arith
 info_moves zero acc (w ∷ ws) e = absurd (omega arith)
 info_moves (suc n) acc [] e = absurd (omega arith)
@@ -221,8 +259,10 @@ info_moves (suc n) acc (w ∷ ws) e =
     let a = info_moves n (acc * 4 + q) ws (omega arith) in
     let b = info_moves n (0 * 4 + q) ws (omega arith) in
     let z : 0 * 4 + q ≡ q = omega arith in
-    let b' : info_from (0 * 4 + q) ws ≡ q * 4 ^ n + info_from 0 ws = b ∙ ap (λ (x : ℕ). x * 4 ^ n + info_from 0 ws) z in
-    a ∙ shift acc q (4 ^ n) (info_from 0 ws) ∙ ap (λ (x : ℕ). acc * (4 * 4 ^ n) + x) (sym b') ∙ ap (λ (x : ℕ). acc * x + info_from (0 * 4 + q) ws) (sym (power n))
+    let b' : info_from (0 * 4 + q) ws ≡ q * 4 ^ n + info_from 0 ws = b
+    ∙ ap (λ (x : ℕ). x * 4 ^ n + info_from 0 ws) z in
+    a ∙ shift acc q (4 ^ n) (info_from 0 ws) ∙ ap (λ (x : ℕ). acc * (4 * 4 ^ n) + x) (sym b')
+    ∙ ap (λ (x : ℕ). acc * x + info_from (0 * 4 + q) ws) (sym (power n))
 
 pub info_below : (n : ℕ) (ws : List ℕ) → length ws ≡ n → AreWords ws → info_from 0 ws < 4 ^ n
 info_below zero [] e f = omega arith
@@ -234,7 +274,8 @@ info_below (suc n) (w ∷ ws) e f =
     let low : w < 2 ^ 32 = f.0 in
     let m = info_moves n (0 * 4 + q) ws len in
     let z : 0 * 4 + q ≡ q = omega arith in
-    let all : info_from (0 * 4 + q) ws ≡ q * 4 ^ n + info_from 0 ws = m ∙ ap (λ (x : ℕ). x * 4 ^ n + info_from 0 ws) z in
+    let all : info_from (0 * 4 + q) ws ≡ q * 4 ^ n + info_from 0 ws = m
+    ∙ ap (λ (x : ℕ). x * 4 ^ n + info_from 0 ws) z in
     let r : info_from 0 ws < 4 ^ n = info_below n ws len f.1 in
     let t : q ≤ 3 = omega arith in
     let u : q * 4 ^ n ≤ 3 * 4 ^ n = mul-le-mul_right (4 ^ n) t in
@@ -243,14 +284,17 @@ info_below (suc n) (w ∷ ws) e f =
 
 -- ---- what is read is spelled so
 
-word_takes : (w kr kw : ℕ) (ws : List ℕ) → w < 2 ^ 32 → (kr ≡ 0 → w / 128 % 8388608 ≡ 0) → (kw ≡ 0 → w % 128 ≡ 0)
-    → header_word (w / 1073741824) (first_of (map read_at (take kr (w ∷ ws)))) (first_of (map write_at (take kw (w ∷ ws)))) ≡ w
+word_takes : (w kr kw : ℕ) (ws : List ℕ) → w < 2 ^ 32 → (kr ≡ 0 → w / 128 % 8388608 ≡ 0)
+    → (kw ≡ 0 → w % 128 ≡ 0)
+    → header_word (w / 1073741824) (first_of (map read_at (take kr (w ∷ ws))))
+    (first_of (map write_at (take kw (w ∷ ws)))) ≡ w
 word_takes w zero zero ws l f g = let a = f refl in let b = g refl in omega arith
 word_takes w zero (suc kw) ws l f g = let a = f refl in omega arith
 word_takes w (suc kr) zero ws l f g = let b = g refl in let r = read_fields_at w in omega arith
 word_takes w (suc kr) (suc kw) ws l f g = let r = read_fields_at w in omega arith
 
-rest_take : {A : Type 0} (f : ℕ → A) (k w : ℕ) (ws : List ℕ) → rest_of (map f (take k (w ∷ ws))) ≡ map f (take (k - 1) ws)
+rest_take : {A : Type 0} (f : ℕ → A) (k w : ℕ) (ws : List ℕ)
+    → rest_of (map f (take k (w ∷ ws))) ≡ map f (take (k - 1) ws)
 rest_take f zero w ws = refl
 rest_take f (suc k) w ws = let e : suc k - 1 ≡ k = omega arith in rw e refl
 
@@ -271,20 +315,26 @@ clean info i w e =
     let a = or_false (x || y) (nat_eq i 16 && not (is_good_info info)) e in
     let b = or_false x y a.0 in
     record {
-      read = λ l. eq_is _ 0 (and_not (nat_le (reads_in info) i) (nat_eq (w / 128 % 8388608) 0) b.0 (le_yes _ _ l));
-      write = λ l. eq_is _ 0 (and_not (nat_le (writes_in info) i) (nat_eq (w % 128) 0) b.1 (le_yes _ _ l));
+      read = λ l. eq_is _ 0 (and_not (nat_le (reads_in info) i) (nat_eq (w / 128 % 8388608) 0) b.0
+          (le_yes _ _ l));
+      write = λ l. eq_is _ 0 (and_not (nat_le (writes_in info) i) (nat_eq (w % 128) 0) b.1
+          (le_yes _ _ l));
     }
 
-first_none : (info i w : ℕ) (ws : List ℕ) → first_bad info i (w ∷ ws) ≡ None → (is_bad info i w ≡ false) × (first_bad info (suc i) ws ≡ None)
+first_none : (info i w : ℕ) (ws : List ℕ) → first_bad info i (w ∷ ws) ≡ None
+    → (is_bad info i w ≡ false) × (first_bad info (suc i) ws ≡ None)
 unfolding first_bad
 first_none info i w ws = by (is_bad info i w)
   where
-    by : (b : Bool) → cond b (Some i) (first_bad info (suc i) ws) ≡ None → (b ≡ false) × (first_bad info (suc i) ws ≡ None)
+    by : (b : Bool) → cond b (Some i) (first_bad info (suc i) ws) ≡ None → (b ≡ false)
+        × (first_bad info (suc i) ws ≡ None)
     by true e = absurd (let q : Some i ≡ None = e in cc)
     by false e = (refl, e)
 
-pub words_takes : (info n i : ℕ) (ws : List ℕ) → length ws ≡ n → AreWords ws → first_bad info i ws ≡ None
-    → words_from n (info_from 0 ws) (map read_at (take (reads_in info - i) ws)) (map write_at (take (writes_in info - i) ws)) ≡ ws
+pub words_takes : (info n i : ℕ) (ws : List ℕ) → length ws ≡ n → AreWords ws
+    → first_bad info i ws ≡ None
+    → words_from n (info_from 0 ws) (map read_at (take (reads_in info - i) ws))
+    (map write_at (take (writes_in info - i) ws)) ≡ ws
 unfolding words_from
 words_takes info zero i [] e f h = refl
 words_takes info zero i (w ∷ ws) e f h = absurd (omega arith)
@@ -298,9 +348,12 @@ words_takes info (suc n) i (w ∷ ws) e f h =
     let len : length ws ≡ n = omega arith in
     let below : info_from 0 ws < 4 ^ n = info_below n ws len f.1 in
     let z : 0 * 4 + q ≡ q = omega arith in
-    let all : info_from (0 * 4 + q) ws ≡ q * 4 ^ n + info_from 0 ws = info_moves n (0 * 4 + q) ws len ∙ ap (λ (x : ℕ). x * 4 ^ n + info_from 0 ws) z in
-    let top : info_from (0 * 4 + q) ws / 4 ^ n ≡ q = ap (λ (x : ℕ). x / 4 ^ n) all ∙ div-mul-add q (4 ^ n) (info_from 0 ws) below in
-    let low : info_from (0 * 4 + q) ws % 4 ^ n ≡ info_from 0 ws = ap (λ (x : ℕ). x % 4 ^ n) all ∙ mod-mul-add q (4 ^ n) (info_from 0 ws) below in
+    let all : info_from (0 * 4 + q) ws ≡ q * 4 ^ n + info_from 0 ws =
+    info_moves n (0 * 4 + q) ws len ∙ ap (λ (x : ℕ). x * 4 ^ n + info_from 0 ws) z in
+    let top : info_from (0 * 4 + q) ws / 4 ^ n ≡ q = ap (λ (x : ℕ). x / 4 ^ n) all
+    ∙ div-mul-add q (4 ^ n) (info_from 0 ws) below in
+    let low : info_from (0 * 4 + q) ws % 4 ^ n ≡ info_from 0 ws = ap (λ (x : ℕ). x % 4 ^ n) all
+    ∙ mod-mul-add q (4 ^ n) (info_from 0 ws) below in
     let er : kr - 1 ≡ reads_in info - suc i = omega arith in
     let ew : kw - 1 ≡ writes_in info - suc i = omega arith in
     let one = word_takes w kr kw ws f.0 (λ z. c.read (omega arith)) (λ z. c.write (omega arith)) in
@@ -309,40 +362,64 @@ words_takes info (suc n) i (w ∷ ws) e f h =
 
 -- ---- what is written is read again
 
-pub length-words_from : (n info : ℕ) (rs : List ReadSlot) (ws : List ℕ) → length (words_from n info rs ws) ≡ n
+pub length-words_from : (n info : ℕ) (rs : List ReadSlot) (ws : List ℕ)
+    → length (words_from n info rs ws) ≡ n
 unfolding words_from
 length-words_from zero info rs ws = refl
-length-words_from (suc n) info rs ws = ap suc (length-words_from n (info % 4 ^ n) (rest_of rs) (rest_of ws))
+length-words_from (suc n) info rs ws =
+    ap suc (length-words_from n (info % 4 ^ n) (rest_of rs) (rest_of ws))
 
-pub words_from_below : (n info : ℕ) (rs : List ReadSlot) (ws : List ℕ) → info < 4 ^ n → FitReads rs → FitWrites ws → AreWords (words_from n info rs ws)
+pub words_from_below : (n info : ℕ) (rs : List ReadSlot) (ws : List ℕ) → info < 4 ^ n → FitReads rs
+    → FitWrites ws → AreWords (words_from n info rs ws)
 unfolding words_from
 words_from_below zero info rs ws l f g = tt
 words_from_below (suc n) info rs ws l f g =
     let q = digit_below n info l in
     let a = fields_below (first_of rs) (each_first rs f) in
-    let b = write_below (first_of ws) (each_write ws g) in
-    (omega arith, words_from_below n (info % 4 ^ n) (rest_of rs) (rest_of ws) (rest_below n info) (each_rest FitsRead rs f) (each_rest (λ w. w < 128) ws g))
+    let b = write_below (first_of ws) (each_write ws g) in (
+      omega arith,
+      words_from_below n (info % 4 ^ n) (rest_of rs) (rest_of ws) (rest_below n info)
+          (each_rest FitsRead rs f) (each_rest (λ w. w < 128) ws g),
+    )
 
-pub reads_again : (n info : ℕ) (rs : List ReadSlot) (ws : List ℕ) → info < 4 ^ n → FitReads rs → FitWrites ws → length rs ≤ n → map read_at (take (length rs) (words_from n info rs ws)) ≡ rs
+pub reads_again : (n info : ℕ) (rs : List ReadSlot) (ws : List ℕ) → info < 4 ^ n → FitReads rs
+    → FitWrites ws → length rs ≤ n → map read_at (take (length rs) (words_from n info rs ws)) ≡ rs
 unfolding words_from
 reads_again n info [] ws l f g h = refl
 reads_again zero info (r ∷ rs) ws l f g h = absurd (omega arith)
 reads_again (suc n) info (r ∷ rs) ws l f g h =
-    rw (read_again (info / 4 ^ n) r (first_of ws) (digit_below n info l) f.0 (each_write ws g), reads_again n (info % 4 ^ n) rs (rest_of ws) (rest_below n info) f.1 (each_rest (λ w. w < 128) ws g) (omega arith)) refl
+    rw (
+      read_again (info / 4 ^ n) r (first_of ws) (digit_below n info l) f.0 (each_write ws g),
+      reads_again n (info % 4 ^ n) rs (rest_of ws) (rest_below n info) f.1
+          (each_rest (λ w. w < 128) ws g) (omega arith),
+    ) refl
 
-pub writes_again : (n info : ℕ) (rs : List ReadSlot) (ws : List ℕ) → info < 4 ^ n → FitReads rs → FitWrites ws → length ws ≤ n → map write_at (take (length ws) (words_from n info rs ws)) ≡ ws
+pub writes_again : (n info : ℕ) (rs : List ReadSlot) (ws : List ℕ) → info < 4 ^ n → FitReads rs
+    → FitWrites ws → length ws ≤ n → map write_at (take (length ws) (words_from n info rs ws)) ≡ ws
 unfolding words_from
 writes_again n info rs [] l f g h = refl
 writes_again zero info rs (w ∷ ws) l f g h = absurd (omega arith)
 writes_again (suc n) info rs (w ∷ ws) l f g h =
-    let p = one_word (info / 4 ^ n) (first_of rs) (Some w) (digit_below n info l) (each_first rs f) (each_write (w ∷ ws) g) in
+    let p = one_word (info / 4 ^ n) (first_of rs) (Some w) (digit_below n info l) (each_first rs f)
+    (each_write (w ∷ ws) g) in
     let e : header_word (info / 4 ^ n) (first_of rs) (Some w) % 128 ≡ w = p.write in
-    rw (e, writes_again n (info % 4 ^ n) (rest_of rs) ws (rest_below n info) (each_rest FitsRead rs f) g.1 (omega arith)) refl
+    rw (
+      e,
+      writes_again n (info % 4 ^ n) (rest_of rs) ws (rest_below n info)
+          (each_rest FitsRead rs f) g.1 (omega arith),
+    ) refl
 
-not_bad : (info i w : ℕ) → (reads_in info ≤ i → w / 128 % 8388608 ≡ 0) → (writes_in info ≤ i → w % 128 ≡ 0) → is_good_info info ≡ true → is_bad info i w ≡ false
+not_bad : (info i w : ℕ) → (reads_in info ≤ i → w / 128 % 8388608 ≡ 0)
+    → (writes_in info ≤ i → w % 128 ≡ 0) → is_good_info info ≡ true → is_bad info i w ≡ false
 unfolding is_bad
 not_bad info i w f g h =
-    rw (tests (nat_le (reads_in info) i) (nat_eq (w / 128 % 8388608) 0) (λ e. eq_yes _ 0 (f (le_is _ _ e))), tests (nat_le (writes_in info) i) (nat_eq (w % 128) 0) (λ e. eq_yes _ 0 (g (le_is _ _ e))), h, last (nat_eq i 16)) refl
+    rw (
+      tests (nat_le (reads_in info) i) (nat_eq (w / 128 % 8388608) 0)
+          (λ e. eq_yes _ 0 (f (le_is _ _ e))),
+      tests (nat_le (writes_in info) i) (nat_eq (w % 128) 0) (λ e. eq_yes _ 0 (g (le_is _ _ e))),
+      h,
+      last (nat_eq i 16),
+    ) refl
   where
     tests : (a b : Bool) → (a ≡ true → b ≡ true) → (a && not b) ≡ false
     tests true true f = refl
@@ -361,19 +438,23 @@ length-rest : {A : Type 0} (xs : List A) → length (rest_of xs) ≡ length xs -
 length-rest [] = refl
 length-rest (x ∷ xs) = omega arith
 
-pub none_bad : (all n i info : ℕ) (rs : List ReadSlot) (ws : List ℕ) → info < 4 ^ n → FitReads rs → FitWrites ws → is_good_info all ≡ true
-    → length rs ≡ reads_in all - i → length ws ≡ writes_in all - i → first_bad all i (words_from n info rs ws) ≡ None
+pub none_bad : (all n i info : ℕ) (rs : List ReadSlot) (ws : List ℕ) → info < 4 ^ n → FitReads rs
+    → FitWrites ws → is_good_info all ≡ true
+    → length rs ≡ reads_in all - i → length ws ≡ writes_in all - i
+    → first_bad all i (words_from n info rs ws) ≡ None
 unfolding words_from first_bad
 none_bad all zero i info rs ws l f g h a b = refl
 none_bad all (suc n) i info rs ws l f g h a b =
     let w = header_word (info / 4 ^ n) (first_of rs) (first_of ws) in
-    let p = one_word (info / 4 ^ n) (first_of rs) (first_of ws) (digit_below n info l) (each_first rs f) (each_write ws g) in
+    let p = one_word (info / 4 ^ n) (first_of rs) (first_of ws) (digit_below n info l)
+    (each_first rs f) (each_write ws g) in
     let la = length-rest rs in
     let lb = length-rest ws in
     let ok : is_bad all i w ≡ false = not_bad all i w
     (λ le. p.read ∙ ap read_fields (no_first rs (omega arith)))
     (λ le. p.write ∙ ap write_field (no_first ws (omega arith))) h in
-    rw ok (none_bad all n (suc i) (info % 4 ^ n) (rest_of rs) (rest_of ws) (rest_below n info) (each_rest FitsRead rs f) (each_rest (λ w. w < 128) ws g) h (omega arith) (omega arith))
+    rw ok (none_bad all n (suc i) (info % 4 ^ n) (rest_of rs) (rest_of ws) (rest_below n info)
+    (each_rest FitsRead rs f) (each_rest (λ w. w < 128) ws g) h (omega arith) (omega arith))
 
 -- ---- the info bits
 
@@ -385,7 +466,8 @@ pub record InfoIs (info mask reads writes chunks : ℕ) : Type 0 where
   pub chunks_are : chunks_in info ≡ chunks
   pub good : is_good_info info ≡ true
 
-pub info_is : (mask reads writes chunks : ℕ) → mask < 2 ^ 32 → reads ≤ 32 → writes ≤ 32 → 1 ≤ chunks → chunks ≤ 4 → InfoIs (info_of mask reads writes chunks) mask reads writes chunks
+pub info_is : (mask reads writes chunks : ℕ) → mask < 2 ^ 32 → reads ≤ 32 → writes ≤ 32 → 1 ≤ chunks
+    → chunks ≤ 4 → InfoIs (info_of mask reads writes chunks) mask reads writes chunks
 info_is mask reads writes chunks a b c d e =
     let info = info_of mask reads writes chunks in
     let r : reads_in info ≡ reads = omega arith in
@@ -398,8 +480,15 @@ info_is mask reads writes chunks a b c d e =
       reads_are = r;
       writes_are = w;
       chunks_are = k;
-      good = rw (le_yes (reads_in info) 32 (omega arith), le_yes (writes_in info) 32 (omega arith), lt_yes 0 (chunks_in info) (omega arith), le_yes (chunks_in info) 4 (omega arith), eq_yes (info % 131072) 0 z) refl;
+      good = rw (
+        le_yes (reads_in info) 32 (omega arith),
+        le_yes (writes_in info) 32 (omega arith),
+        lt_yes 0 (chunks_in info) (omega arith),
+        le_yes (chunks_in info) 4 (omega arith),
+        eq_yes (info % 131072) 0 z,
+      ) refl;
     }
 
-pub info_takes : (info : ℕ) → info < 2 ^ 64 → Counts info → info_of (mask_in info) (reads_in info) (writes_in info) (chunks_in info) ≡ info
+pub info_takes : (info : ℕ) → info < 2 ^ 64 → Counts info
+    → info_of (mask_in info) (reads_in info) (writes_in info) (chunks_in info) ≡ info
 info_takes info l c = let z : info % 131072 ≡ 0 = c.zeros in omega arith

@@ -1,5 +1,7 @@
--- Worked rows of the definitions, by evaluation: the example of docs/MACHINE.md, "The image", and single words.
-use Rattle.std.proofs.Common.{◌≡◌, ◌+◌, ◌*◌, ℕ, List, [], ◌∷◌, ◌++◌, replicate, Option, Some, None, refl}
+-- Worked rows of the definitions, by evaluation: the example of docs/MACHINE.md, "The image", and
+-- single words.
+use Rattle.std.proofs.Common.{◌≡◌, ◌+◌, ◌*◌, ℕ, List, [], ◌∷◌, ◌++◌, replicate, Option, Some, None}
+use Rattle.std.proofs.Common.{refl}
 use Rattle.std.specs.Prelude.{pos, negsuc, length}
 use Rattle.trips_isa.specs.declared.op.Op.TheVariants as op
 use Rattle.trips_isa.specs.declared.block.Sense.TheVariants.{Always, OnTrue, OnFalse}
@@ -11,53 +13,116 @@ use Rattle.block_image.specs.Words.{inst_word}
 use Rattle.block_image.specs.Headers.{words_from, read_fields}
 use Rattle.block_image.specs.Spelling.{magic, block_bytes, chunks_of, spelling}
 
--- words of each form --------------------------------------------------------------------------------
+-- words of each form
+-- --------------------------------------------------------------------------------
 
--- opcode 1, on false 2, extended 27, second target the left operand of slot 2, first the predicate of slot 1
-pub mov_word : inst_word (record { op = op.Mov; sense = OnFalse; imm = pos 0; number = 0; first = Some (spot.Pred 1); second = Some (spot.Left 2) }) ≡ 0x036e0481
+-- opcode 1, on false 2, extended 27, second target the left operand of slot 2, first the predicate
+-- of slot 1
+pub mov_word : inst_word (record {
+  op = op.Mov;
+  sense = OnFalse;
+  imm = pos 0;
+  number = 0;
+  first = Some (spot.Pred 1);
+  second = Some (spot.Left 2);
+}) ≡ 0x036e0481
 unfolding code_of
 mov_word = refl
 
 -- opcode 2, on true 3, extended 1, immediate -2, W[1]
-pub subi_word : inst_word (record { op = op.Subi; sense = OnTrue; imm = negsuc 1; number = 0; first = Some (spot.Write 1); second = None }) ≡ 0x0587fc21
+pub subi_word : inst_word (record {
+  op = op.Subi;
+  sense = OnTrue;
+  imm = negsuc 1;
+  number = 0;
+  first = Some (spot.Write 1);
+  second = None;
+}) ≡ 0x0587fc21
 unfolding code_of
 subi_word = refl
 
 -- opcode 22, number 31, immediate 255, the right operand of slot 127
-pub ld_word : inst_word (record { op = op.Ld; sense = Always; imm = pos 255; number = 31; first = Some (spot.Right 127); second = None }) ≡ 0x2c7dffff
+pub ld_word : inst_word (record {
+  op = op.Ld;
+  sense = Always;
+  imm = pos 255;
+  number = 31;
+  first = Some (spot.Right 127);
+  second = None;
+}) ≡ 0x2c7dffff
 unfolding code_of
 ld_word = refl
 
 -- opcode 24, number 1, immediate -256
-pub sb_word : inst_word (record { op = op.Sb; sense = Always; imm = negsuc 255; number = 1; first = None; second = None }) ≡ 0x30060000
+pub sb_word : inst_word (record {
+  op = op.Sb;
+  sense = Always;
+  imm = negsuc 255;
+  number = 1;
+  first = None;
+  second = None;
+}) ≡ 0x30060000
 unfolding code_of
 sb_word = refl
 
 -- opcode 33, exit 7, offset -1
-pub callo_word : inst_word (record { op = op.Callo; sense = Always; imm = negsuc 0; number = 7; first = None; second = None }) ≡ 0x427fffff
+pub callo_word : inst_word
+    (record {
+      op = op.Callo;
+      sense = Always;
+      imm = negsuc 0;
+      number = 7;
+      first = None;
+      second = None;
+    }) ≡ 0x427fffff
 unfolding code_of
 callo_word = refl
 
 -- opcode 49, constant -32768
-pub gens_word : inst_word (record { op = op.Gens; sense = Always; imm = negsuc 32767; number = 0; first = None; second = None }) ≡ 0x63000000
+pub gens_word : inst_word (record {
+  op = op.Gens;
+  sense = Always;
+  imm = negsuc 32767;
+  number = 0;
+  first = None;
+  second = None;
+}) ≡ 0x63000000
 unfolding code_of
 gens_word = refl
 
 -- register 127, both targets the right operand of slot 127
-pub last_read : read_fields (Some (record { register = 127; first = spot.Right 127; second = None })) ≡ 0x7fffff
+pub last_read : read_fields
+    (Some (record { register = 127; first = spot.Right 127; second = None })) ≡ 0x7fffff
 last_read = refl
 
 -- register 1, second target the right operand of slot 5, first the left
-pub two_targets : read_fields (Some (record { register = 1; first = spot.Left 5; second = Some (spot.Right 5) })) ≡ 65536 + 133 * 256 + 5
+pub two_targets : read_fields
+    (Some (record { register = 1; first = spot.Left 5; second = Some (spot.Right 5) })) ≡ 65536 +
+    133 * 256 + 5
 two_targets = refl
 
--- the example -----------------------------------------------------------------------------------------
+-- the example
+-- -----------------------------------------------------------------------------------------
 
 pub genu : ℕ → ℕ → Option Inst
-genu n w = Some (record { op = op.Genu; sense = Always; imm = pos n; number = 0; first = Some (spot.Write w); second = None })
+genu n w = Some (record {
+  op = op.Genu;
+  sense = Always;
+  imm = pos n;
+  number = 0;
+  first = Some (spot.Write w);
+  second = None;
+})
 
 pub scall : Option Inst
-scall = Some (record { op = op.Scall; sense = Always; imm = pos 0; number = 0; first = None; second = None })
+scall = Some (record {
+  op = op.Scall;
+  sense = Always;
+  imm = pos 0;
+  number = 0;
+  first = None;
+  second = None;
+})
 
 pub example : Image
 example = record {

@@ -1,5 +1,6 @@
 -- Where the first fault of a block stands, in the order of its bytes.
-use Rattle.std.specs.Prelude.{◌≡◌, ◌≤◌, ◌<◌, ◌+◌, ◌-◌, ◌*◌, ◌^◌, ℕ, List, [], ◌∷◌, ◌++◌, length, map, drop, get_or, Option, true, false, All}
+use Rattle.std.specs.Prelude.{◌≡◌, ◌≤◌, ◌<◌, ◌+◌, ◌-◌, ◌*◌, ◌^◌, ℕ, List, [], ◌∷◌, ◌++◌, length}
+use Rattle.std.specs.Prelude.{map, drop, get_or, Option, true, false, All}
 use Rattle.trips_isa.specs.declared.block.Inst.{Inst}
 use Rattle.trips_isa.specs.Fits.{FitsSlot}
 use Rattle.block_image.specs.declared.fault.ImageFault.{ImageFault}
@@ -19,13 +20,17 @@ pub record Stands (at : ℕ) (bytes words : List ℕ) : Type 0 where
 abbrev pub SpellsNone : ℕ → Type 0
 SpellsNone w = (s : Option Inst) → FitsSlot s → slot_word s ≡ w → ⊥
 
--- The first fault of a body of so many chunks: after k whole chunks of slots there is no whole chunk, or in a whole
+-- The first fault of a body of so many chunks: after k whole chunks of slots there is no whole
+-- chunk, or in a whole
 -- chunk, after good slots, a word is no slot's.
 pub data BodyFault (chunks at : ℕ) (bytes : List ℕ) : ImageFault → Type 0 where
   short : (k : ℕ) (slots : Slots) → k < chunks → length slots ≡ 32 * k → All FitsSlot slots
-      → Stands at bytes (map slot_word slots) → length bytes < at + 128 * k + 128 → BodyFault chunks at bytes (Truncated (length bytes))
-  bad_slot : (k : ℕ) (slots : Slots) (w : ℕ) → k < chunks → 32 * k ≤ length slots → length slots < 32 * k + 32 → All FitsSlot slots
-      → Stands at bytes (map slot_word slots ++ (w ∷ [])) → at + 128 * k + 128 ≤ length bytes → SpellsNone w
+      → Stands at bytes (map slot_word slots) → length bytes < at + 128 * k + 128
+      → BodyFault chunks at bytes (Truncated (length bytes))
+  bad_slot : (k : ℕ) (slots : Slots) (w : ℕ) → k < chunks → 32 * k ≤ length slots
+      → length slots < 32 * k + 32 → All FitsSlot slots
+      → Stands at bytes (map slot_word slots ++ (w ∷ [])) → at + 128 * k + 128 ≤ length bytes
+      → SpellsNone w
       → BodyFault chunks at bytes (BadField (at + 4 * length slots))
 
 -- the chunks before this header, the header and its body are within the limit
@@ -45,13 +50,19 @@ pub record GoodHeader (total at : ℕ) (bytes ws : List ℕ) : Type 0 where
 
 pub data BlockFault (total at : ℕ) (bytes : List ℕ) : ImageFault → Type 0 where
   no_header : length bytes < at + 128 → BlockFault total at bytes (Truncated (length bytes))
-  too_many : (ws : List ℕ) → length ws ≡ 32 → Stands at bytes ws → 524288 < total + 1 + chunks_in (info_from 0 ws)
+  too_many : (ws : List ℕ) → length ws ≡ 32 → Stands at bytes ws
+      → 524288 < total + 1 + chunks_in (info_from 0 ws)
       → BlockFault total at bytes (BadField at)
   bad_word : (ws : List ℕ) (i : ℕ) → length ws ≡ 32 → Stands at bytes ws → IsWithin total ws
-      → i < 32 → is_bad (info_from 0 ws) i (get_or ws i 0) ≡ true → ((j : ℕ) → j < i → IsGoodWord ws j)
+      → i < 32 → is_bad (info_from 0 ws) i (get_or ws i 0) ≡ true
+      → ((j : ℕ) → j < i → IsGoodWord ws j)
       → BlockFault total at bytes (BadField (at + 4 * i))
-  in_body : (ws : List ℕ) (f : ImageFault) → GoodHeader total at bytes ws → BodyFault (chunks_in (info_from 0 ws)) (at + 128) bytes f
+  in_body : (ws : List ℕ) (f : ImageFault) → GoodHeader total at bytes ws
+      → BodyFault (chunks_in (info_from 0 ws)) (at + 128) bytes f
       → BlockFault total at bytes f
-  empty_chunk : (ws : List ℕ) (slots : Slots) → GoodHeader total at bytes ws → length slots ≡ 32 * chunks_in (info_from 0 ws)
-      → All FitsSlot slots → Stands (at + 128) bytes (map slot_word slots) → 1 < chunks_in (info_from 0 ws)
-      → all_empty (drop (32 * (chunks_in (info_from 0 ws) - 1)) slots) ≡ true → BlockFault total at bytes (BadField (at + 64))
+  empty_chunk : (ws : List ℕ) (slots : Slots) → GoodHeader total at bytes ws
+      → length slots ≡ 32 * chunks_in (info_from 0 ws)
+      → All FitsSlot slots → Stands (at + 128) bytes (map slot_word slots)
+      → 1 < chunks_in (info_from 0 ws)
+      → all_empty (drop (32 * (chunks_in (info_from 0 ws) - 1)) slots) ≡ true
+      → BlockFault total at bytes (BadField (at + 64))

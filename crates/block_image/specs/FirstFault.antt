@@ -7,7 +7,8 @@ use Rattle.trips_isa.specs.declared.block.Image.{Image}
 use Rattle.trips_isa.specs.Fits.{FitsBlock}
 use Rattle.trips_isa.specs.Images.{chunks, last_byte, FitsImage}
 use Rattle.block_image.specs.declared.fault.ImageFault.{ImageFault}
-use Rattle.block_image.specs.declared.fault.ImageFault.TheVariants.{Magic, Version, Truncated, Trailing, BadField}
+use Rattle.block_image.specs.declared.fault.ImageFault.TheVariants.{Magic, Version, Truncated}
+use Rattle.block_image.specs.declared.fault.ImageFault.TheVariants.{Trailing, BadField}
 use Rattle.block_image.specs.Spelling.{magic, container, block_bytes, spelling}
 use Rattle.block_image.specs.Faults.{BlockFault}
 
@@ -37,26 +38,36 @@ pub data FirstFault (bytes : List ℕ) : ImageFault → Type 0 where
   no_magic : length bytes < 8 → FirstFault bytes (Truncated (length bytes))
   bad_magic : 8 ≤ length bytes → (take 8 bytes ≡ magic → ⊥) → FirstFault bytes Magic
   -- the version
-  no_version : (rest : List ℕ) → bytes ≡ magic ++ rest → length rest < 4 → FirstFault bytes (Truncated (length bytes))
-  bad_version : (v : ℕ) (rest : List ℕ) → bytes ≡ magic ++ (big_bytes 4 v ++ rest) → v < 2 ^ 32 → (v ≡ 1 → ⊥)
+  no_version : (rest : List ℕ) → bytes ≡ magic ++ rest → length rest < 4
+      → FirstFault bytes (Truncated (length bytes))
+  bad_version : (v : ℕ) (rest : List ℕ) → bytes ≡ magic ++ (big_bytes 4 v ++ rest) → v < 2 ^ 32
+      → (v ≡ 1 → ⊥)
       → FirstFault bytes Version
   -- the number of blocks
-  no_count : (rest : List ℕ) → bytes ≡ magic ++ (big_bytes 4 1 ++ rest) → length rest < 4 → FirstFault bytes (Truncated (length bytes))
+  no_count : (rest : List ℕ) → bytes ≡ magic ++ (big_bytes 4 1 ++ rest) → length rest < 4
+      → FirstFault bytes (Truncated (length bytes))
   no_block : (rest : List ℕ) → bytes ≡ counted 0 ++ rest → FirstFault bytes (BadField 12)
   -- the number of data bytes
-  no_size : (n : ℕ) (rest : List ℕ) → bytes ≡ counted n ++ rest → 1 ≤ n → n < 2 ^ 32 → length rest < 4
+  no_size : (n : ℕ) (rest : List ℕ) → bytes ≡ counted n ++ rest → 1 ≤ n → n < 2 ^ 32
+      → length rest < 4
       → FirstFault bytes (Truncated (length bytes))
-  large : (n d : ℕ) (rest : List ℕ) → bytes ≡ sized n d ++ rest → 1 ≤ n → n < 2 ^ 32 → 4194304 < d → d < 2 ^ 32
+  large : (n d : ℕ) (rest : List ℕ) → bytes ≡ sized n d ++ rest → 1 ≤ n → n < 2 ^ 32 → 4194304 < d
+      → d < 2 ^ 32
       → FirstFault bytes (BadField 16)
   -- the data bytes
-  no_bytes : (n d : ℕ) (rest : List ℕ) → bytes ≡ sized n d ++ rest → 1 ≤ n → n < 2 ^ 32 → d ≤ 4194304 → length rest < d
+  no_bytes : (n d : ℕ) (rest : List ℕ) → bytes ≡ sized n d ++ rest → 1 ≤ n → n < 2 ^ 32
+      → d ≤ 4194304 → length rest < d
       → FirstFault bytes (Truncated (length bytes))
   zero_last : (n : ℕ) (front rest : List ℕ) → bytes ≡ container n front ++ rest → 1 ≤ n → n < 2 ^ 32
-      → length front ≤ 4194304 → last_byte front ≡ 0 → FirstFault bytes (BadField (19 + length front))
+      → length front ≤ 4194304 → last_byte front ≡ 0
+      → FirstFault bytes (BadField (19 + length front))
   -- the blocks
-  in_block : (n : ℕ) (front rest : List ℕ) (blocks : List Block) (f : ImageFault) → GoodFront n front → GoodBlocks n blocks
+  in_block : (n : ℕ) (front rest : List ℕ) (blocks : List Block) (f : ImageFault)
+      → GoodFront n front → GoodBlocks n blocks
       → bytes ≡ container n front ++ (flat_map block_bytes blocks ++ rest)
-      → BlockFault (sum_by chunks blocks) (20 + length front + 128 * sum_by chunks blocks) bytes f → FirstFault bytes f
+      → BlockFault (sum_by chunks blocks) (20 + length front + 128 * sum_by chunks blocks) bytes f
+      → FirstFault bytes f
   -- what follows
-  trailing : (image : Image) (b : ℕ) (rest : List ℕ) → FitsImage image → bytes ≡ spelling image ++ (b ∷ rest)
+  trailing : (image : Image) (b : ℕ) (rest : List ℕ) → FitsImage image
+      → bytes ≡ spelling image ++ (b ∷ rest)
       → FirstFault bytes (Trailing (length (spelling image)))

@@ -1,5 +1,6 @@
 -- Reading the words of a header.
-use Rattle.std.specs.Prelude.{ℕ, suc, ◌+◌, ◌-◌, ◌*◌, ◌/◌, ◌%◌, List, [], ◌∷◌, Option, Some, None, Bool, ◌&&◌, ◌||◌, not, nat_le, nat_lt, ◌==◌, if◌then◌else◌}
+use Rattle.std.specs.Prelude.{ℕ, suc, ◌+◌, ◌-◌, ◌*◌, ◌/◌, ◌%◌, List, [], ◌∷◌, Option, Some, None}
+use Rattle.std.specs.Prelude.{Bool, ◌&&◌, ◌||◌, not, nat_le, nat_lt, ◌==◌, if◌then◌else◌}
 use Rattle.trips_isa.specs.declared.block.Spot.{Spot}
 use Rattle.trips_isa.specs.declared.block.Spot.TheVariants as spot
 use Rattle.trips_isa.specs.declared.block.ReadSlot.{ReadSlot}
@@ -24,13 +25,15 @@ chunks_in info = info / 131072 % 8
 -- at most 32 reads, 32 writes, from 1 to 4 body chunks, and zeros
 abbrev pub is_good_info : ℕ → Bool
 is_good_info info =
-    nat_le (reads_in info) 32 && nat_le (writes_in info) 32 && nat_lt 0 (chunks_in info) && nat_le (chunks_in info) 4
+    nat_le (reads_in info) 32 && nat_le (writes_in info) 32 && nat_lt 0 (chunks_in info) && nat_le
+    (chunks_in info) 4
     && (info % 131072 == 0)
 
 -- fields past the counts, and at word 16 the info bits
 unfoldable pub is_bad : ℕ → ℕ → ℕ → Bool
 is_bad info i w =
-    (nat_le (reads_in info) i && not (w / 128 % 8388608 == 0)) || (nat_le (writes_in info) i && not (w % 128 == 0))
+    (nat_le (reads_in info) i && not (w / 128 % 8388608 == 0)) ||
+    (nat_le (writes_in info) i && not (w % 128 == 0))
     || (i == 16 && not (is_good_info info))
 
 unfoldable pub first_bad : ℕ → ℕ → List ℕ → Option ℕ

@@ -27,7 +27,8 @@ second_number first (Some s) = operand_number s
 -- register, second target, first target; fields past the count are 0
 abbrev pub read_fields : Option ReadSlot → ℕ
 read_fields None = 0
-read_fields (Some r) = word_of ((7, r.register) ∷ (8, second_number r.first r.second) ∷ (8, operand_number r.first) ∷ [])
+read_fields (Some r) = word_of
+    ((7, r.register) ∷ (8, second_number r.first r.second) ∷ (8, operand_number r.first) ∷ [])
 
 abbrev pub write_field : Option ℕ → ℕ
 write_field None = 0
@@ -35,14 +36,18 @@ write_field (Some register) = register
 
 -- the two info bits, the fields of the read and the register of the write
 abbrev pub header_word : ℕ → Option ReadSlot → Option ℕ → ℕ
-header_word pair read write = word_of ((2, pair) ∷ (23, read_fields read) ∷ (7, write_field write) ∷ [])
+header_word pair read write =
+    word_of ((2, pair) ∷ (23, read_fields read) ∷ (7, write_field write) ∷ [])
 
--- The last n words: the top two of 2n info bits, the first read and the first write, then the others.
+-- The last n words: the top two of 2n info bits, the first read and the first write, then the
+-- others.
 unfoldable pub words_from : ℕ → ℕ → List ReadSlot → List ℕ → List ℕ
 words_from zero info reads writes = []
 words_from (suc n) info reads writes =
-    header_word (info / 4 ^ n) (first_of reads) (first_of writes) ∷ words_from n (info % 4 ^ n) (rest_of reads) (rest_of writes)
+    header_word (info / 4 ^ n) (first_of reads) (first_of writes) ∷ words_from n (info % 4 ^ n)
+    (rest_of reads) (rest_of writes)
 
 -- the 64 info bits: the store mask, the numbers of reads, writes and body chunks, and zeros
 abbrev pub info_of : ℕ → ℕ → ℕ → ℕ → ℕ
-info_of mask reads writes chunks = word_of ((32, mask) ∷ (6, reads) ∷ (6, writes) ∷ (3, chunks) ∷ (17, 0) ∷ [])
+info_of mask reads writes chunks =
+    word_of ((32, mask) ∷ (6, reads) ∷ (6, writes) ∷ (3, chunks) ∷ (17, 0) ∷ [])

@@ -1,15 +1,19 @@
 -- Reading a block from left to right, with the first fault that is met.
-use Rattle.std.specs.Prelude.{ℕ, zero, suc, ◌+◌, ◌-◌, ◌*◌, List, [], ◌∷◌, ◌++◌, length, map, take, drop, replicate, Option, Some, None, Result, Ok, Err, Bool, true, false, ◌&&◌, nat_lt, if◌then◌else◌}
+use Rattle.std.specs.Prelude.{ℕ, zero, suc, ◌+◌, ◌-◌, ◌*◌, List, [], ◌∷◌, ◌++◌, length, map, take}
+use Rattle.std.specs.Prelude.{drop, replicate, Option, Some, None, Result, Ok, Err, Bool, true}
+use Rattle.std.specs.Prelude.{false, ◌&&◌, nat_lt, if◌then◌else◌}
 use Rattle.byteorder.specs.Endian.{big_number}
 use Rattle.trips_isa.specs.declared.block.Inst.{Inst}
 use Rattle.trips_isa.specs.declared.block.Block.{Block}
 use Rattle.block_image.specs.declared.fault.ImageFault.{ImageFault}
 use Rattle.block_image.specs.declared.fault.ImageFault.TheVariants.{Truncated, BadField}
 use Rattle.block_image.specs.WordReading.{slot_at}
-use Rattle.block_image.specs.HeaderReading.{info_from, first_bad, read_at, write_at, reads_in, writes_in, mask_in, chunks_in}
+use Rattle.block_image.specs.HeaderReading.{info_from, first_bad, read_at, write_at, reads_in}
+use Rattle.block_image.specs.HeaderReading.{writes_in, mask_in, chunks_in}
 
 infixl 10 ◌>>=◌
-abbrev pub ◌>>=◌ : {A B : Type 0} → Result A ImageFault → (A → Result B ImageFault) → Result B ImageFault
+abbrev pub ◌>>=◌ : {A B : Type 0} → Result A ImageFault → (A → Result B ImageFault)
+    → Result B ImageFault
 (Ok x) >>= f = f x
 (Err e) >>= f = Err e
 
@@ -35,16 +39,19 @@ with_front front read = read >>= λ slots. Ok (front ++ slots)
 
 abbrev pub slots_at : ℕ → List ℕ → Result Slots ImageFault
 slots_at at [] = Ok []
-slots_at at (w ∷ ws) = slot_or_fault at (slot_at w) >>= λ s. with_front (s ∷ []) (slots_at (at + 4) ws)
+slots_at at (w ∷ ws) = slot_or_fault at (slot_at w) >>= λ s. with_front (s ∷ [])
+    (slots_at (at + 4) ws)
 
 -- a chunk is taken whole
 unfoldable pub chunk_at : ℕ → List ℕ → Result (List ℕ) ImageFault
 chunk_at at bytes =
-    if nat_lt (length bytes) (at + 128) then Err (Truncated (length bytes)) else Ok (words 32 (drop at bytes))
+    if nat_lt (length bytes) (at + 128) then Err (Truncated (length bytes)) else Ok
+    (words 32 (drop at bytes))
 
 abbrev pub body_at : ℕ → ℕ → List ℕ → Result Slots ImageFault
 body_at zero at bytes = Ok []
-body_at (suc n) at bytes = chunk_at at bytes >>= λ ws. slots_at at ws >>= λ s. with_front s (body_at n (at + 128) bytes)
+body_at (suc n) at bytes =
+    chunk_at at bytes >>= λ ws. slots_at at ws >>= λ s. with_front s (body_at n (at + 128) bytes)
 
 abbrev pub fault_at : ℕ → Option ℕ → Result (Unit {0}) ImageFault
 fault_at at None = Ok tt
@@ -67,7 +74,8 @@ parts_from info ws slots = record {
 -- the number of body chunks is the least
 unfoldable pub least_at : ℕ → ℕ → Slots → Result Slots ImageFault
 least_at at chunks slots =
-    if nat_lt 1 chunks && all_empty (drop (32 * (chunks - 1)) slots) then Err (BadField (at + 64)) else Ok slots
+    if nat_lt 1 chunks && all_empty (drop (32 * (chunks - 1)) slots) then Err
+    (BadField (at + 64)) else Ok slots
 
 -- the block whose header has these words
 abbrev pub rest_at : ℕ → ℕ → List ℕ → List ℕ → Result Block ImageFault

@@ -15,7 +15,8 @@ chunks_of slots = body_chunks 0 slots
 
 abbrev pub header_words : Block → List ℕ
 header_words b =
-    words_from 32 (info_of b.mask (length b.reads.items) (length b.writes.items) (chunks_of b.insts.items)) b.reads.items b.writes.items
+    words_from 32 (info_of b.mask (length b.reads.items) (length b.writes.items)
+    (chunks_of b.insts.items)) b.reads.items b.writes.items
 
 abbrev pub body_words : Block → List ℕ
 body_words b = map slot_word (take (32 * chunks_of b.insts.items) b.insts.items)
@@ -31,9 +32,11 @@ block_bytes b = words_bytes (header_words b ++ body_words b)
 abbrev pub magic : List ℕ
 magic = 84 ∷ 82 ∷ 73 ∷ 80 ∷ 83 ∷ 73 ∷ 77 ∷ 71 ∷ []
 
--- what stands before the blocks: the magic, the version, the numbers of blocks and of data bytes, and these
+-- what stands before the blocks: the magic, the version, the numbers of blocks and of data bytes,
+-- and these
 abbrev pub container : ℕ → List ℕ → List ℕ
-container blocks bytes = magic ++ (big_bytes 4 1 ++ (big_bytes 4 blocks ++ (big_bytes 4 (length bytes) ++ bytes)))
+container blocks bytes = magic ++
+    (big_bytes 4 1 ++ (big_bytes 4 blocks ++ (big_bytes 4 (length bytes) ++ bytes)))
 
 abbrev pub spelling : Image → List ℕ
 spelling i = container (length i.blocks) i.bytes ++ flat_map block_bytes i.blocks

@@ -1,9 +1,11 @@
 -- Reading the word of an instruction.
-use Rattle.std.specs.Prelude.{ℕ, ◌+◌, ◌-◌, ◌/◌, ◌%◌, ℤ, pos, negsuc, Option, Some, None, if◌then◌else◌, nat_lt, ◌==◌}
+use Rattle.std.specs.Prelude.{ℕ, ◌+◌, ◌-◌, ◌/◌, ◌%◌, ℤ, pos, negsuc, Option, Some, None}
+use Rattle.std.specs.Prelude.{if◌then◌else◌, nat_lt, ◌==◌}
 use Rattle.trips_isa.specs.declared.op.Op.{Op}
 use Rattle.trips_isa.specs.declared.op.Op.TheVariants.{Bro, Callo, Gens}
 use Rattle.trips_isa.specs.declared.form.Form.{Form}
-use Rattle.trips_isa.specs.declared.form.Form.TheVariants.{General, Immediate, Load, Store, Branch, Constant}
+use Rattle.trips_isa.specs.declared.form.Form.TheVariants.{General, Immediate, Load, Store, Branch}
+use Rattle.trips_isa.specs.declared.form.Form.TheVariants.{Constant}
 use Rattle.trips_isa.specs.declared.block.Spot.{Spot}
 use Rattle.trips_isa.specs.declared.block.Spot.TheVariants as spot
 use Rattle.trips_isa.specs.declared.block.Sense.{Sense}
@@ -22,7 +24,8 @@ abbrev pub part : ℕ → ℕ → ℕ → ℕ
 part word unit values = word / unit % values
 
 unfoldable pub sense_at : ℕ → Option Sense
-sense_at n = if n == 0 then Some Always else (if n == 2 then Some OnFalse else (if n == 3 then Some OnTrue else None))
+sense_at n = if n == 0 then Some Always else
+    (if n == 2 then Some OnFalse else (if n == 3 then Some OnTrue else None))
 
 abbrev pub sense_in : ℕ → Option Sense
 sense_in w = sense_at (part w 8388608 4)
@@ -50,7 +53,8 @@ pair_of None None = Some (None, None)
 pair_of None (Some s) = None
 
 unfoldable pub targets_at : ℕ → Option (Target × Target)
-targets_at w = target_at (part w 1 512) >>= λ first. target_at (part w 512 512) >>= λ second. pair_of first second
+targets_at w = target_at (part w 1 512) >>= λ first. target_at (part w 512 512)
+    >>= λ second. pair_of first second
 
 unfoldable pub offset_at : Op → ℕ → Option ℤ
 offset_at Bro n = Some (signed_at 524288 n)
@@ -104,14 +108,15 @@ store_at op w = sense_in w >>= λ sense. if part w 1 512 == 0 then Some (record 
 }) else None
 
 unfoldable pub branch_at : Op → ℕ → Option Inst
-branch_at op w = sense_in w >>= λ sense. offset_at op (part w 1 1048576) >>= λ offset. Some (record {
-  op = op;
-  sense = sense;
-  imm = offset;
-  number = part w 1048576 8;
-  first = None;
-  second = None;
-})
+branch_at op w = sense_in w >>= λ sense. offset_at op (part w 1 1048576) >>= λ offset. Some
+    (record {
+      op = op;
+      sense = sense;
+      imm = offset;
+      number = part w 1048576 8;
+      first = None;
+      second = None;
+    })
 
 unfoldable pub constant_at : Op → ℕ → Option Inst
 constant_at op w = target_at (part w 1 512) >>= λ first. Some (record {
@@ -133,7 +138,8 @@ form_at Constant op w = constant_at op w
 
 -- the operation that the word names; only the first two opcodes have an extended one
 unfoldable pub op_in : ℕ → Option Op
-op_in w = op_with_numbers (part w 33554432 128) (if nat_lt (part w 33554432 128) 3 then part w 262144 32 else 0)
+op_in w = op_with_numbers (part w 33554432 128)
+    (if nat_lt (part w 33554432 128) 3 then part w 262144 32 else 0)
 
 unfoldable pub inst_at : ℕ → Option Inst
 inst_at w = op_in w >>= λ op. form_at (form_of op) op w

@@ -1,7 +1,10 @@
--- The word of an instruction: its fields from the most significant bit, by the form of its operation.
-use Rattle.std.specs.Prelude.{ℕ, ◌+◌, ◌-◌, ◌*◌, ◌^◌, ℤ, pos, negsuc, List, [], ◌∷◌, Option, Some, None}
+-- The word of an instruction: its fields from the most significant bit, by the form of its
+-- operation.
+use Rattle.std.specs.Prelude.{ℕ, ◌+◌, ◌-◌, ◌*◌, ◌^◌, ℤ, pos, negsuc, List, [], ◌∷◌, Option, Some}
+use Rattle.std.specs.Prelude.{None}
 use Rattle.trips_isa.specs.declared.form.Form.{Form}
-use Rattle.trips_isa.specs.declared.form.Form.TheVariants.{General, Immediate, Load, Store, Branch, Constant}
+use Rattle.trips_isa.specs.declared.form.Form.TheVariants.{General, Immediate, Load, Store, Branch}
+use Rattle.trips_isa.specs.declared.form.Form.TheVariants.{Constant}
 use Rattle.trips_isa.specs.declared.block.Spot.{Spot}
 use Rattle.trips_isa.specs.declared.block.Spot.TheVariants as spot
 use Rattle.trips_isa.specs.declared.block.Sense.{Sense}
@@ -41,19 +44,26 @@ abbrev pub signed_number : ℕ → ℤ → ℕ
 signed_number values (pos n) = n
 signed_number values (negsuc n) = values - 1 - n
 
--- The fields of each form: opcode; predicate; extended opcode, number or exit; immediate, constant or offset; targets.
+-- The fields of each form: opcode; predicate; extended opcode, number or exit; immediate, constant
+-- or offset; targets.
 abbrev pub fields_of : Form → Code → Inst → List (ℕ × ℕ)
 fields_of General c i =
-    (7, c.opcode) ∷ (2, sense_number i.sense) ∷ (5, c.extended) ∷ (9, target_number i.second) ∷ (9, target_number i.first) ∷ []
+    (7, c.opcode) ∷ (2, sense_number i.sense) ∷ (5, c.extended) ∷ (9, target_number i.second) ∷
+    (9, target_number i.first) ∷ []
 fields_of Immediate c i =
-    (7, c.opcode) ∷ (2, sense_number i.sense) ∷ (5, c.extended) ∷ (9, signed_number 512 i.imm) ∷ (9, target_number i.first) ∷ []
+    (7, c.opcode) ∷ (2, sense_number i.sense) ∷ (5, c.extended) ∷ (9, signed_number 512 i.imm) ∷
+    (9, target_number i.first) ∷ []
 fields_of Load c i =
-    (7, c.opcode) ∷ (2, sense_number i.sense) ∷ (5, i.number) ∷ (9, signed_number 512 i.imm) ∷ (9, target_number i.first) ∷ []
+    (7, c.opcode) ∷ (2, sense_number i.sense) ∷ (5, i.number) ∷ (9, signed_number 512 i.imm) ∷
+    (9, target_number i.first) ∷ []
 fields_of Store c i =
-    (7, c.opcode) ∷ (2, sense_number i.sense) ∷ (5, i.number) ∷ (9, signed_number 512 i.imm) ∷ (9, 0) ∷ []
+    (7, c.opcode) ∷ (2, sense_number i.sense) ∷ (5, i.number) ∷ (9, signed_number 512 i.imm) ∷
+    (9, 0) ∷ []
 fields_of Branch c i =
-    (7, c.opcode) ∷ (2, sense_number i.sense) ∷ (3, i.number) ∷ (20, signed_number 1048576 i.imm) ∷ []
-fields_of Constant c i = (7, c.opcode) ∷ (16, signed_number 65536 i.imm) ∷ (9, target_number i.first) ∷ []
+    (7, c.opcode) ∷ (2, sense_number i.sense) ∷ (3, i.number) ∷
+    (20, signed_number 1048576 i.imm) ∷ []
+fields_of Constant c i = (7, c.opcode) ∷ (16, signed_number 65536 i.imm) ∷
+    (9, target_number i.first) ∷ []
 
 abbrev pub form_word : Form → Code → Inst → ℕ
 form_word f c i = word_of (fields_of f c i)

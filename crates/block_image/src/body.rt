@@ -161,7 +161,8 @@ pub(crate) fn fill(
     requires writes { block.old.writes.items ≡ [] }
     requires insts { block.old.insts.items ≡ [] }
     ensures read { Gives (λ size. block.new) result (rest_at total at bytes.now words.now) }
-    ensures size { IfOk result (λ size. (size ≡ 1 + chunks_of block.new.insts.items) × (total + size ≤ 524288)) }
+    ensures size { IfOk result (λ size. (size ≡ 1 + chunks_of block.new.insts.items)
+        × (total + size ≤ 524288)) }
 {
     let info = match header(total, at, words) {
         Err(fault) => return Err(fault),

@@ -177,9 +177,11 @@ fn image(alloc: Global, bytes: &[u8]) -> Result<Image, ImageFault>
 /// The bytes are read once, and no memory is taken for blocks that are not there.
 pub fn decode(alloc: Global, bytes: &[u8]) -> Result<Image, ImageFault>
     ensures ok { IfOk result (λ image. ImageBytes image bytes.now) }
-    ensures only_ok { (image : Image) → ImageBytes image bytes.now → MatchResult result (λ v. v ≡ image) IsMemory }
+    ensures only_ok { (image : Image) → ImageBytes image bytes.now
+        → MatchResult result (λ v. v ≡ image) IsMemory }
     ensures err { IfErr result (IsMemoryOr (FirstFault bytes.now)) }
-    ensures only_err { (fault : ImageFault) → FirstFault bytes.now fault → MatchResult result (λ v. ⊥) (IsMemoryOr (λ e. e ≡ fault)) }
+    ensures only_err { (fault : ImageFault) → FirstFault bytes.now fault
+        → MatchResult result (λ v. ⊥) (IsMemoryOr (λ e. e ≡ fault)) }
 {
     image(alloc, bytes)
 }

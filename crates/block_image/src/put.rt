@@ -50,7 +50,8 @@ fn put_slots(out: &mut Vec<u8>, insts: &[Option<Inst>], chunks: usize) -> Result
     requires fits { All FitsSlot insts.now }
     requires few { chunks ≤ 4 }
     requires size { length insts.now ≡ 128 }
-    ensures { OnOk result (out.new.items ≡ out.old.items ++ words_bytes (map slot_word (take (32 * chunks) insts.now))) }
+    ensures { OnOk result (out.new.items
+        ≡ out.old.items ++ words_bytes (map slot_word (take (32 * chunks) insts.now))) }
 {
     for k in 0..chunks {
         let words = chunk_words(&insts[32 * k..32 * k + 32]);

@@ -2,4 +2,5 @@ use Rattle.std.proofs.Common.{◌≡◌, ◌++◌, ◌-◌, length, replicate, N
 use Rattle.block_image.proofs.body.pad.Given as goal
 
 abbrev pub invariant-loop : goal.invariant-loop
-invariant-loop l = l.insts.items ≡ l.initial.insts.items ++ replicate (l.counter - length l.initial.insts.items) None
+invariant-loop l = l.insts.items ≡ l.initial.insts.items ++ replicate
+    (l.counter - length l.initial.insts.items) None

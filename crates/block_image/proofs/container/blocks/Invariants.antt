@@ -6,4 +6,6 @@ abbrev pub invariant-loop-k : goal.invariant-loop-k
 invariant-loop-k l =
     (l.total ≤ 524288)
     × (length l.blocks.items ≡ l.k)
-    × (with_blocks l.blocks.items (blocks_at (l.count - l.k) l.total (l.at + 128 * l.total) l.bytes) ≡ blocks_at l.count 0 l.at l.bytes)
+    × (with_blocks l.blocks.items
+    (blocks_at (l.count - l.k) l.total (l.at + 128 * l.total) l.bytes) ≡ blocks_at l.count 0 l.at
+    l.bytes)

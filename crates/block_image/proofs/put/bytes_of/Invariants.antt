@@ -5,4 +5,5 @@ use Rattle.block_image.proofs.put.bytes_of.Given as goal
 
 abbrev pub invariant-loop-block : goal.invariant-loop-block
 invariant-loop-block l =
-    l.out.items ≡ container (length l.image.blocks) l.image.bytes ++ flat_map block_bytes (take l.block-index l.image.blocks)
+    l.out.items ≡ container (length l.image.blocks) l.image.bytes ++ flat_map block_bytes
+    (take l.block-index l.image.blocks)
