@@ -26,7 +26,8 @@ use Rattle.block_check.specs.Faults.{spot_order, fault_order, IsLowestFault, IsG
 use Rattle.block_cases.specs.Good.{GoodBlock}
 use Rattle.block_check.specs.Checked.{BadTargetAt, BadNumberAt, IsCheckFault, IsCaseFault, spot_of}
 use Rattle.block_check.specs.Checked.{fault_of}
-use Rattle.block_check.proofs.Spots.{not_before, spot_low, place_order, at_spot, takes_below, true_lt, owed_wanted, owed_takes, wanted_owed}
+use Rattle.block_check.proofs.Spots.{not_before, spot_low, place_order, at_spot, takes_below}
+use Rattle.block_check.proofs.Spots.{true_lt, owed_wanted, owed_takes, wanted_owed}
 
 -- the first two kinds ----------------------------------------------------------------------------
 

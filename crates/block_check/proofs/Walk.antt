@@ -9,7 +9,8 @@ use Rattle.block_cases.specs.Cases.{ones_pass, is_case, IsCase, count}
 use Rattle.block_check.specs.Walk.{branch, walk, tally, Sorted, zeros, Order}
 use Rattle.block_cases.proofs.Steady.{or_left, or_right, present_below}
 use Rattle.block_cases.proofs.Alike.{both_true, and_true, get_none}
-use Rattle.block_check.proofs.Lists.{same_test, not_true, count_same, count_split, agree, agree_at, agree_from, one_list}
+use Rattle.block_check.proofs.Lists.{same_test, not_true, count_same, count_split, agree, agree_at}
+use Rattle.block_check.proofs.Lists.{agree_from, one_list}
 
 -- cases -----------------------------------------------------------------------------------------
 
