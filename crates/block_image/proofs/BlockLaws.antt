@@ -21,8 +21,8 @@ use Rattle.block_image.specs.Reading.{all_empty, ◌>>=◌, Slots, chunk_at, bod
 use Rattle.block_image.specs.Reading.{header_at, parts_from, least_at, block_at}
 use Rattle.block_image.proofs.Lists.{bind_ok, ok_is, counts, good_info}
 use Rattle.block_image.proofs.HeaderLaws.{words_takes, read_fits, info_again, info_below}
-use Rattle.block_image.proofs.HeaderLaws.{length-words_from, words_from_below, reads_again}
-use Rattle.block_image.proofs.HeaderLaws.{writes_again, none_bad, InfoIs, info_is, info_takes}
+use Rattle.block_image.proofs.HeaderAgain.{length-words_from, words_from_below, reads_again}
+use Rattle.block_image.proofs.HeaderAgain.{writes_again, none_bad, InfoIs, info_is, info_takes}
 use Rattle.block_image.proofs.BodyLaws.{BodyTaken, words_bytes_both, test_false, chunk_takes}
 use Rattle.block_image.proofs.BodyLaws.{chunk_again, after_chunk, body_takes, body_again}
 use Rattle.block_image.proofs.BodyLaws.{ChunkTaken}

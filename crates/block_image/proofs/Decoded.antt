@@ -13,7 +13,7 @@ use Rattle.block_image.proofs.Each.{AreBytes, each_of, each_byte}
 use Rattle.block_image.proofs.Lists.{ok_is}
 use Rattle.block_image.proofs.FaultLaws.{err_is}
 use Rattle.block_image.proofs.ImageLaws.{image_takes, image_again}
-use Rattle.block_image.proofs.FirstFaultLaws.{image_fault}
+use Rattle.block_image.proofs.FirstFaultBlocks.{image_fault}
 use Rattle.block_image.proofs.FirstFaultAgain.{image_fault_again}
 
 -- reading gives the image that the bytes spell

@@ -243,7 +243,8 @@ body_fault (suc c) at bytes f a e =
                   spelled = ck.spelled ∙ ap (λ (x : List ℕ). words_bytes x ++ drop (at + 128) bytes)
                       whole ∙ ap (λ (x : List ℕ). x ++ drop (at + 128) bytes)
                       (words_bytes_both front r.rest)
-                      ∙ append_assoc (words_bytes front) (words_bytes r.rest) (drop (at + 128) bytes);
+                      ∙ append_assoc (words_bytes front) (words_bytes r.rest)
+                      (drop (at + 128) bytes);
                 })
                 (omega arith) r.none)
             | inr g ↦ later c at bytes ws g.0 f ck (slots_takes at ws g.0 ck.words_are g.1)

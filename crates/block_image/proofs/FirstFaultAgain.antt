@@ -30,7 +30,7 @@ use Rattle.block_image.proofs.BlockLaws.{block_again}
 use Rattle.block_image.proofs.FaultsAgain.{block_fault_again}
 use Rattle.block_image.proofs.ImageLaws.{true_lt, true_le, positive, number_again_at, length-block}
 use Rattle.block_image.proofs.ImageLaws.{chunks_in_all, all_chunks}
-use Rattle.block_image.proofs.FirstFaultLaws.{length-spelling}
+use Rattle.block_image.proofs.FirstFaultBlocks.{length-spelling}
 use Rattle.block_image.proofs.Writing.{few_blocks}
 
 no_eq : (a b : ℕ) → (a ≡ b → ⊥) → nat_eq a b ≡ false

@@ -1,44 +1,39 @@
 -- The fault that reading an image gives is the first one.
-use Rattle.std.proofs.Common.{◌≡◌, ℕ, zero, suc, ◌+◌, ◌*◌, ◌^◌, ◌<◌, ◌≤◌, Bool, true, false, cond}
-use Rattle.std.proofs.Common.{List, [], ◌∷◌, ◌++◌, length, take, drop, get_or, Result, Ok, Err}
+use Rattle.std.proofs.Common.{◌≡◌, ℕ, ◌+◌, ◌^◌, ◌<◌, ◌≤◌, Bool, true, false, cond}
+use Rattle.std.proofs.Common.{List, ◌++◌, length, take, drop, Result, Ok, Err}
 use Rattle.std.proofs.Common.{refl, sym, ap, subst, ◌∙◌, arith, nat_lt, nat_le, nat_eq}
-use Rattle.std.proofs.Common.{append_assoc, inl, inr}
-use Rattle.std.specs.List.{flat_map, sum_by}
+use Rattle.std.proofs.Common.{inl, inr}
 use Rattle.std.specs.Str.{bytes_eq}
 use Rattle.std.proofs.lemmas.Slice.Eq.{bytes_eq-Decides}
 use Rattle.std.proofs.lemmas.Bool.{ltb-false, ltb-true}
 use Rattle.std.proofs.lemmas.Bool.Decides.{nat_tests}
-use Rattle.std.proofs.lemmas.List.{take-append-drop, length-append, length-drop, length-take}
-use Rattle.std.proofs.lemmas.List.{drop-drop, drop_more}
+use Rattle.std.proofs.lemmas.List.{take-append-drop, length-drop, length-take}
+use Rattle.std.proofs.lemmas.List.{drop-drop}
 use Rattle.byteorder.specs.Endian.{big_bytes, big_number}
-use Rattle.trips_isa.specs.declared.block.Block.{Block}
-use Rattle.trips_isa.specs.declared.block.Image.{Image}
-use Rattle.trips_isa.specs.Fits.{FitsBlock}
-use Rattle.trips_isa.specs.Images.{chunks, last_byte}
+use Rattle.trips_isa.specs.Images.{last_byte}
 use Rattle.block_image.specs.declared.fault.ImageFault.{ImageFault}
 use Rattle.block_image.specs.declared.fault.ImageFault.TheVariants.{Magic, Version, Truncated}
-use Rattle.block_image.specs.declared.fault.ImageFault.TheVariants.{Trailing, BadField}
-use Rattle.block_image.specs.Spelling.{magic, container, block_bytes, chunks_of, spelling}
-use Rattle.block_image.specs.Reading.{◌>>=◌, block_at}
+use Rattle.block_image.specs.declared.fault.ImageFault.TheVariants.{BadField}
+use Rattle.block_image.specs.Spelling.{magic, container}
+use Rattle.block_image.specs.Reading.{◌>>=◌}
 use Rattle.block_image.specs.ImageReading.{wants, number_at, magic_at, version_at, count_at}
-use Rattle.block_image.specs.ImageReading.{size_at, data_at, blocks_at, image_at}
-use Rattle.block_image.specs.Faults.{BlockFault}
+use Rattle.block_image.specs.ImageReading.{size_at, data_at}
 use Rattle.block_image.specs.FirstFault.{counted, sized, GoodFront, FirstFault, no_magic, bad_magic}
 use Rattle.block_image.specs.FirstFault.{no_version, bad_version, no_count, no_block, no_size}
-use Rattle.block_image.specs.FirstFault.{large, no_bytes, zero_last, in_block, trailing}
-use Rattle.block_image.proofs.Each.{Each, AreBytes, all_of}
+use Rattle.block_image.specs.FirstFault.{large, no_bytes, zero_last}
+use Rattle.block_image.proofs.Each.{AreBytes}
 use Rattle.block_image.proofs.Lists.{bind_ok, ok_is}
-use Rattle.block_image.proofs.BlockLaws.{BlockTaken, block_takes, cond_ok}
-use Rattle.block_image.proofs.FaultLaws.{split, err_is, block_fault}
+use Rattle.block_image.proofs.BlockLaws.{cond_ok}
+use Rattle.block_image.proofs.FaultLaws.{split, err_is}
 use Rattle.block_image.proofs.ImageLaws.{want_ok, lt_true, le_true, eq_true, NumberTaken}
-use Rattle.block_image.proofs.ImageLaws.{number_found, chunks_in_all, all_chunks, length-block}
+use Rattle.block_image.proofs.ImageLaws.{number_found}
 
 -- ---- tests that fail
 
 false_le : (a b : ℕ) → nat_le a b ≡ false → b < a
 false_le a b e = grind (arith, nat_tests)
 
-false_eq : (a b : ℕ) → nat_eq a b ≡ false → a ≡ b → ⊥
+pub false_eq : (a b : ℕ) → nat_eq a b ≡ false → a ≡ b → ⊥
 false_eq a b e f = grind (arith, nat_tests)
 
 false_lt : (a b : ℕ) → nat_lt a b ≡ false → b ≤ a
@@ -49,7 +44,7 @@ want_fails true d f e = absurd cc
 want_fails false d f e = (refl, err_is {A = Unit {0}} d f e)
 
 -- a wanted test and then a value
-wanted_fails : {A : Type 0} (b : Bool) (d f : ImageFault) (x : A)
+pub wanted_fails : {A : Type 0} (b : Bool) (d f : ImageFault) (x : A)
     → (wants b d >>= λ u. Ok x) ≡ Err f → (b ≡ false) × (d ≡ f)
 wanted_fails true d f x e = absurd cc
 wanted_fails {A} false d f x e = (refl, err_is {A = A} d f e)
@@ -73,11 +68,11 @@ number_fails at bytes f e = by (nat_lt (length bytes) (at + 4)) refl e
 
 -- ---- the front
 
-record MagicRead (bytes : List ℕ) : Type 0 where
+pub record MagicRead (bytes : List ℕ) : Type 0 where
   pub long : 8 ≤ length bytes
   pub spelled : bytes ≡ magic ++ drop 8 bytes
 
-magic_read : (bytes : List ℕ) (u : Unit {0}) → magic_at bytes ≡ Ok u → MagicRead bytes
+pub magic_read : (bytes : List ℕ) (u : Unit {0}) → magic_at bytes ≡ Ok u → MagicRead bytes
 unfolding magic_at
 magic_read bytes u e =
     let m = cond_ok (nat_lt (length bytes) 8) (Truncated (length bytes))
@@ -90,7 +85,7 @@ magic_read bytes u e =
           ∙ ap (λ (x : List ℕ). x ++ drop 8 bytes) is;
     }
 
-magic_fault : (bytes : List ℕ) (f : ImageFault) → magic_at bytes ≡ Err f → FirstFault bytes f
+pub magic_fault : (bytes : List ℕ) (f : ImageFault) → magic_at bytes ≡ Err f → FirstFault bytes f
 unfolding magic_at
 magic_fault bytes f e =
     cut_or (nat_lt (length bytes) 8) (Truncated (length bytes)) f
@@ -106,13 +101,14 @@ magic_fault bytes f e =
 short_rest : (at : ℕ) (bytes : List ℕ) → length bytes < at + 4 → length (drop at bytes) < 4
 short_rest at bytes l = let e = length-drop at bytes in omega arith
 
-version_fault : (bytes : List ℕ) (f : ImageFault) → AreBytes bytes → MagicRead bytes
+pub version_fault : (bytes : List ℕ) (f : ImageFault) → AreBytes bytes → MagicRead bytes
     → version_at bytes ≡ Err f → FirstFault bytes f
 unfolding version_at
 version_fault bytes f a m e =
     elim (split (number_at 8 bytes) (λ v. wants (nat_eq v 1) Version) f e) [
       | inl h ↦ let n = number_fails 8 bytes f h in
-          subst (FirstFault bytes) n.1 (no_version (drop 8 bytes) m.spelled (short_rest 8 bytes n.0))
+          subst (FirstFault bytes) n.1
+          (no_version (drop 8 bytes) m.spelled (short_rest 8 bytes n.0))
       | inr h ↦
           let t = number_found 8 bytes h.0 a h.1 in
           let w = want_fails (nat_eq h.0 1) Version f h.2 in
@@ -121,10 +117,10 @@ version_fault bytes f a m e =
           (m.spelled ∙ ap (λ (x : List ℕ). magic ++ x) t.spelled) t.below (false_eq h.0 1 w.0))
     ]
 
-record VersionRead (bytes : List ℕ) : Type 0 where
+pub record VersionRead (bytes : List ℕ) : Type 0 where
   pub spelled : bytes ≡ magic ++ (big_bytes 4 1 ++ drop 12 bytes)
 
-version_read : (bytes : List ℕ) (u : Unit {0}) → AreBytes bytes → MagicRead bytes
+pub version_read : (bytes : List ℕ) (u : Unit {0}) → AreBytes bytes → MagicRead bytes
     → version_at bytes ≡ Ok u → VersionRead bytes
 unfolding version_at
 version_read bytes u a m e =
@@ -134,13 +130,14 @@ version_read bytes u a m e =
     subst (NumberTaken 8 bytes) is (number_found 8 bytes v.0 a v.1) in
     record { spelled = m.spelled ∙ ap (λ (x : List ℕ). magic ++ x) t.spelled }
 
-count_fault : (bytes : List ℕ) (f : ImageFault) → AreBytes bytes → VersionRead bytes
+pub count_fault : (bytes : List ℕ) (f : ImageFault) → AreBytes bytes → VersionRead bytes
     → count_at bytes ≡ Err f → FirstFault bytes f
 unfolding count_at
 count_fault bytes f a v e =
     elim (split (number_at 12 bytes) (λ n. wants (nat_lt 0 n) (BadField 12) >>= λ u. Ok n) f e) [
       | inl h ↦ let n = number_fails 12 bytes f h in
-          subst (FirstFault bytes) n.1 (no_count (drop 12 bytes) v.spelled (short_rest 12 bytes n.0))
+          subst (FirstFault bytes) n.1
+          (no_count (drop 12 bytes) v.spelled (short_rest 12 bytes n.0))
       | inr h ↦
           let t = number_found 12 bytes h.0 a h.1 in
           let w = wanted_fails (nat_lt 0 h.0) (BadField 12) f h.0 h.2 in
@@ -151,12 +148,13 @@ count_fault bytes f a v e =
           (t.spelled ∙ ap (λ (x : ℕ). big_bytes 4 x ++ drop 16 bytes) z)))
     ]
 
-record CountRead (n : ℕ) (bytes : List ℕ) : Type 0 where
+pub record CountRead (n : ℕ) (bytes : List ℕ) : Type 0 where
   pub some : 1 ≤ n
   pub below : n < 2 ^ 32
   pub spelled : bytes ≡ counted n ++ drop 16 bytes
 
-count_read : (n : ℕ) (bytes : List ℕ) → AreBytes bytes → VersionRead bytes → count_at bytes ≡ Ok n
+pub count_read : (n : ℕ) (bytes : List ℕ) → AreBytes bytes → VersionRead bytes
+    → count_at bytes ≡ Ok n
     → CountRead n bytes
 unfolding count_at
 count_read n bytes a v e =
@@ -173,7 +171,7 @@ count_read n bytes a v e =
           ∙ ap (λ (x : List ℕ). magic ++ (big_bytes 4 1 ++ x)) t.spelled;
     })
 
-size_fault : (n : ℕ) (bytes : List ℕ) (f : ImageFault) → AreBytes bytes → CountRead n bytes
+pub size_fault : (n : ℕ) (bytes : List ℕ) (f : ImageFault) → AreBytes bytes → CountRead n bytes
     → size_at bytes ≡ Err f → FirstFault bytes f
 unfolding size_at
 size_fault n bytes f a c e =
@@ -191,13 +189,14 @@ size_fault n bytes f a c e =
           (false_le h.0 4194304 w.0) t.below)
     ]
 
-record SizeRead (n d : ℕ) (bytes : List ℕ) : Type 0 where
+pub record SizeRead (n d : ℕ) (bytes : List ℕ) : Type 0 where
   pub count : CountRead n bytes
   pub few : d ≤ 4194304
   pub inside : 20 ≤ length bytes
   pub spelled : bytes ≡ sized n d ++ drop 20 bytes
 
-size_read : (n d : ℕ) (bytes : List ℕ) → AreBytes bytes → CountRead n bytes → size_at bytes ≡ Ok d
+pub size_read : (n d : ℕ) (bytes : List ℕ) → AreBytes bytes → CountRead n bytes
+    → size_at bytes ≡ Ok d
     → SizeRead n d bytes
 unfolding size_at
 size_read n d bytes a c e =
@@ -213,7 +212,7 @@ size_read n d bytes a c e =
       spelled = c.spelled ∙ ap (λ (x : List ℕ). counted n ++ x) t.spelled;
     })
 
-data_fault : (n d : ℕ) (bytes : List ℕ) (f : ImageFault) → SizeRead n d bytes
+pub data_fault : (n d : ℕ) (bytes : List ℕ) (f : ImageFault) → SizeRead n d bytes
     → data_at d bytes ≡ Err f → FirstFault bytes f
 unfolding data_at
 data_fault n d bytes f s e =
@@ -242,13 +241,13 @@ data_fault n d bytes f s e =
     (zero_last n front (drop d (drop 20 bytes)) whole c.some c.below (omega arith) (omega arith)))
     e
 
-record DataRead (n d : ℕ) (bytes front : List ℕ) : Type 0 where
+pub record DataRead (n d : ℕ) (bytes front : List ℕ) : Type 0 where
   pub good : GoodFront n front
   pub size : length front ≡ d
   pub inside : 20 + d ≤ length bytes
   pub spelled : bytes ≡ container n front ++ drop (20 + d) bytes
 
-data_read : (n d : ℕ) (bytes front : List ℕ) → SizeRead n d bytes → data_at d bytes ≡ Ok front
+pub data_read : (n d : ℕ) (bytes front : List ℕ) → SizeRead n d bytes → data_at d bytes ≡ Ok front
     → DataRead n d bytes front
 unfolding data_at
 data_read n d bytes front s e =
@@ -275,176 +274,3 @@ data_read n d bytes front s e =
           (sym (take-append-drop d (drop 20 bytes))
           ∙ ap (λ (x : List ℕ). take d (drop 20 bytes) ++ x) (drop-drop d 20 bytes));
     })
-
--- ---- the blocks
-
-data BlocksFault (n total at : ℕ) (bytes : List ℕ) (f : ImageFault) : Type 0 where
-  stopped : (bs : List Block) (rest : List ℕ) → length bs < n → Each FitsBlock bs
-      → total + chunks_in_all bs ≤ 524288 → drop at bytes ≡ flat_map block_bytes bs ++ rest
-      → BlockFault (total + chunks_in_all bs) (at + 128 * chunks_in_all bs) bytes f
-      → BlocksFault n total at bytes f
-  left_over : (bs : List Block) (b : ℕ) (rest : List ℕ) → length bs ≡ n → Each FitsBlock bs
-      → total + chunks_in_all bs ≤ 524288 → drop at bytes ≡ flat_map block_bytes bs ++ (b ∷ rest)
-      → Trailing (at + 128 * chunks_in_all bs) ≡ f → BlocksFault n total at bytes f
-
-one_more : (n total at : ℕ) (bytes : List ℕ) (b : Block) (f : ImageFault)
-    → BlockTaken total at bytes b
-    → BlocksFault n (total + 1 + chunks_of b.insts.items)
-    (at + 128 + 128 * chunks_of b.insts.items) bytes f → BlocksFault (suc n) total at bytes f
-one_more n total at bytes b f t r = elim r as (λ r. BlocksFault (suc n) total at bytes f) [
-  | stopped bs rest l each m e g ↦
-      let k = chunks_of b.insts.items in
-      let x : total + 1 + k + chunks_in_all bs ≡ total + (1 + k + chunks_in_all bs) = omega arith in
-      let y : at + 128 + 128 * k + 128 * chunks_in_all bs ≡ at + 128 * (1 + k + chunks_in_all bs) =
-      omega arith in
-      stopped (b ∷ bs) rest (omega arith) (t.fits, each) (omega arith)
-      (t.spelled ∙ ap (λ (z : List ℕ). block_bytes b ++ z) e
-      ∙ sym (append_assoc (block_bytes b) (flat_map block_bytes bs) rest))
-      (subst (λ (z : ℕ). BlockFault z (at + 128 * (1 + k + chunks_in_all bs)) bytes f) x
-      (subst (λ (z : ℕ). BlockFault (total + 1 + k + chunks_in_all bs) z bytes f) y g))
-  | left_over bs c rest l each m e g ↦
-      let k = chunks_of b.insts.items in
-      let y : at + 128 + 128 * k + 128 * chunks_in_all bs ≡ at + 128 * (1 + k + chunks_in_all bs) =
-      omega arith in
-      left_over (b ∷ bs) c rest (omega arith) (t.fits, each) (omega arith)
-      (t.spelled ∙ ap (λ (z : List ℕ). block_bytes b ++ z) e
-      ∙ sym (append_assoc (block_bytes b) (flat_map block_bytes bs) (c ∷ rest)))
-      (ap (λ (z : ℕ). Trailing z) (sym y) ∙ g)
-]
-
-with_block_fails : (b : Block) (r : Result (List Block) ImageFault) (f : ImageFault)
-    → (r >>= λ bs. Ok (b ∷ bs)) ≡ Err f → r ≡ Err f
-with_block_fails b (Ok bs) f e = absurd cc
-with_block_fails b (Err d) f e = cc
-
-blocks_fault : (n total at : ℕ) (bytes : List ℕ) (f : ImageFault) → AreBytes bytes → total ≤ 524288
-    → at ≤ length bytes → blocks_at n total at bytes ≡ Err f → BlocksFault n total at bytes f
-blocks_fault zero total at bytes f a l i e =
-    let w = wanted_fails (nat_eq at (length bytes)) (Trailing at) f [] e in
-    let no : at ≡ length bytes → ⊥ = false_eq at (length bytes) w.0 in
-    let less : at < length bytes = grind arith in
-    let z : at + 128 * 0 ≡ at = omega arith in
-    left_over [] (get_or bytes at 0) (drop (at + 1) bytes) refl tt (omega arith)
-    (drop_more bytes at 0 less) (ap (λ (x : ℕ). Trailing x) z ∙ w.1)
-blocks_fault (suc n) total at bytes f a l i e =
-    elim (split (block_at total at bytes)
-    (λ b. blocks_at n (total + 1 + chunks_of b.insts.items)
-    (at + 128 + 128 * chunks_of b.insts.items) bytes >>= λ bs. Ok (b ∷ bs)) f e) [
-      | inl h ↦
-          let z : total ≡ total + 0 = omega arith in
-          let y : at ≡ at + 128 * 0 = omega arith in
-          let g = block_fault total at bytes f a h in
-          stopped [] (drop at bytes) (omega arith) tt (omega arith) refl
-          (subst (λ (x : ℕ). BlockFault x (at + 128 * 0) bytes f) z
-          (subst (λ (x : ℕ). BlockFault total x bytes f) y g))
-      | inr h ↦
-          let b = h.0 in
-          let t = block_takes total at bytes b a h.1 in
-          let m = t.total_is in
-          one_more n total at bytes b f t
-          (blocks_fault n (total + 1 + chunks_of b.insts.items)
-          (at + 128 + 128 * chunks_of b.insts.items) bytes f a (omega arith) t.inside
-          (with_block_fails b (blocks_at n (total + 1 + chunks_of b.insts.items)
-          (at + 128 + 128 * chunks_of b.insts.items) bytes) f h.2))
-    ]
-
--- ---- the image
-
-pub length-blocks : (bs : List Block) → Each FitsBlock bs
-    → length (flat_map block_bytes bs) ≡ 128 * chunks_in_all bs
-length-blocks [] f = refl
-length-blocks (b ∷ bs) f =
-    let one = length-block b f.0.insts in
-    let others = length-blocks bs f.1 in
-    omega (arith, length-append (block_bytes b) (flat_map block_bytes bs))
-
-pub length-spelling : (i : Image) → Each FitsBlock i.blocks
-    → length (spelling i) ≡ 20 + length i.bytes + 128 * chunks_in_all i.blocks
-length-spelling i f =
-    let blocks = length-blocks i.blocks f in
-    omega (arith, length-append i.bytes (flat_map block_bytes i.blocks))
-
-blocks_first : (n d : ℕ) (bytes front : List ℕ) (f : ImageFault) → DataRead n d bytes front
-    → BlocksFault n 0 (20 + d) bytes f → FirstFault bytes f
-blocks_first n d bytes front f r g = elim g as (λ g. FirstFault bytes f) [
-  | stopped bs rest l each m e fault ↦
-      let s : 0 + chunks_in_all bs ≡ sum_by chunks bs = omega (arith, all_chunks bs) in
-      let size = r.size in
-      let p : 20 + d + 128 * chunks_in_all bs ≡ 20 + length front + 128 * sum_by chunks bs =
-      omega (arith, all_chunks bs) in
-      in_block n front rest bs f r.good
-      (record {
-        fewer = l;
-        each = all_of FitsBlock bs each;
-        total = omega (arith, all_chunks bs);
-      })
-      (r.spelled ∙ ap (λ (x : List ℕ). container n front ++ x) e)
-      (subst (λ (x : ℕ). BlockFault x (20 + length front + 128 * sum_by chunks bs) bytes f) s
-      (subst (λ (x : ℕ). BlockFault (0 + chunks_in_all bs) x bytes f) p fault))
-  | left_over bs b rest l each m e fault ↦
-      let image : Image = record { blocks = bs; bytes = front } in
-      let good = r.good in
-      let some = good.some in
-      let size = r.size in
-      let flat = flat_map block_bytes bs in
-      let p : 20 + d + 128 * chunks_in_all bs ≡ length (spelling image) =
-      omega (arith, length-spelling image each) in
-      subst (FirstFault bytes) (ap (λ (x : ℕ). Trailing x) (sym p) ∙ fault)
-      (trailing image b rest (record {
-        some = omega arith;
-        each = all_of FitsBlock bs each;
-        total = omega (arith, all_chunks bs);
-        few = good.few;
-        last = good.last;
-      })
-      (r.spelled ∙ ap (λ (x : List ℕ). container n front ++ x) e
-      ∙ sym (append_assoc (container n front) flat (b ∷ rest))
-      ∙ ap (λ (x : ℕ). (container x front ++ flat) ++ (b ∷ rest)) (sym l)))
-]
-
-made_fails : (front : List ℕ) (r : Result (List Block) ImageFault) (f : ImageFault)
-    → (r >>= λ bs. let i : Image = record { blocks = bs; bytes = front } in Ok i) ≡ Err f
-    → r ≡ Err f
-made_fails front (Ok bs) f e = absurd cc
-made_fails front (Err d) f e = cc
-
-abbrev made : List ℕ → List Block → Result Image ImageFault
-made front bs = Ok (record { blocks = bs; bytes = front })
-
-pub image_fault : (bytes : List ℕ) (f : ImageFault) → AreBytes bytes → image_at bytes ≡ Err f
-    → FirstFault bytes f
-unfolding image_at
-image_fault bytes f a e =
-    elim (split (magic_at bytes)
-    (λ u. version_at bytes >>= λ v. count_at bytes >>= λ n. size_at bytes >>= λ d. data_at d bytes
-    >>= λ ds. blocks_at n 0 (20 + d) bytes >>= made ds) f e) [
-      | inl h ↦ magic_fault bytes f h
-      | inr h ↦ let m = magic_read bytes h.0 h.1 in
-          elim (split (version_at bytes)
-          (λ v. count_at bytes >>= λ n. size_at bytes >>= λ d. data_at d bytes
-          >>= λ ds. blocks_at n 0 (20 + d) bytes >>= made ds) f h.2) [
-            | inl g ↦ version_fault bytes f a m g
-            | inr g ↦ let v = version_read bytes g.0 a m g.1 in
-                elim (split (count_at bytes)
-                (λ n. size_at bytes >>= λ d. data_at d bytes >>= λ ds. blocks_at n 0
-                (20 + d) bytes >>= made ds) f g.2) [
-                  | inl k ↦ count_fault bytes f a v k
-                  | inr k ↦ let n = k.0 in let c = count_read n bytes a v k.1 in
-                      elim (split (size_at bytes)
-                      (λ d. data_at d bytes >>= λ ds. blocks_at n 0 (20 + d) bytes >>= made ds) f
-                      k.2) [
-                        | inl l ↦ size_fault n bytes f a c l
-                        | inr l ↦ let d = l.0 in let s = size_read n d bytes a c l.1 in
-                            elim (split (data_at d bytes)
-                            (λ ds. blocks_at n 0 (20 + d) bytes >>= made ds) f l.2) [
-                              | inl q ↦ data_fault n d bytes f s q
-                              | inr q ↦
-                                  let r = data_read n d bytes q.0 s q.1 in
-                                  blocks_first n d bytes q.0 f r
-                                  (blocks_fault n 0 (20 + d) bytes f a (omega arith) r.inside
-                                  (made_fails q.0 (blocks_at n 0 (20 + d) bytes) f q.2))
-                            ]
-                      ]
-                ]
-          ]
-    ]

@@ -11,19 +11,19 @@ use Rattle.trips_isa.specs.declared.block.Spot.{Spot}
 use Rattle.trips_isa.specs.declared.block.ReadSlot.{ReadSlot}
 use Rattle.block_image.specs.Words.{word_of}
 use Rattle.block_image.specs.Headers.{first_of, rest_of, operand_number, second_number, read_fields}
-use Rattle.block_image.specs.Headers.{write_field, header_word, words_from, info_of}
-use Rattle.block_image.specs.HeaderReading.{info_from, mask_in, reads_in, writes_in, chunks_in}
+use Rattle.block_image.specs.Headers.{write_field, header_word, words_from}
+use Rattle.block_image.specs.HeaderReading.{info_from, reads_in, writes_in}
 use Rattle.block_image.specs.HeaderReading.{is_good_info, is_bad, first_bad, operand_at, read_at}
 use Rattle.block_image.specs.HeaderReading.{write_at}
 use Rattle.block_image.proofs.Each.{Each, AreWords}
 use Rattle.trips_isa.specs.Fits.{FitsOperand, FitsSecond, FitsRead}
-use Rattle.block_image.proofs.Lists.{Counts, or_false}
+use Rattle.block_image.proofs.Lists.{or_false}
 use Rattle.trips_isa.specs.declared.block.Spot.TheVariants as spot
 
 eq_no : (a b : ℕ) → (a ≡ b → ⊥) → nat_eq a b ≡ false
 eq_no a b h = grind (arith, nat_tests)
 
-eq_yes : (a b : ℕ) → a ≡ b → nat_eq a b ≡ true
+pub eq_yes : (a b : ℕ) → a ≡ b → nat_eq a b ≡ true
 eq_yes a b h = grind (arith, nat_tests)
 
 eq_is : (a b : ℕ) → nat_eq a b ≡ true → a ≡ b
@@ -32,7 +32,7 @@ eq_is a b e = grind (arith, nat_tests)
 not_eq : (a b : ℕ) → nat_eq a b ≡ false → a ≡ b → ⊥
 not_eq a b e f = grind (arith, nat_tests)
 
-lt_yes : (a b : ℕ) → a < b → nat_lt a b ≡ true
+pub lt_yes : (a b : ℕ) → a < b → nat_lt a b ≡ true
 lt_yes a b h = grind (arith, nat_tests)
 
 lt_no : (a b : ℕ) → b ≤ a → nat_lt a b ≡ false
@@ -44,10 +44,10 @@ lt_is a b h = grind (arith, nat_tests)
 lt_not : (a b : ℕ) → nat_lt a b ≡ false → b ≤ a
 lt_not a b h = grind (arith, nat_tests)
 
-le_yes : (a b : ℕ) → a ≤ b → nat_le a b ≡ true
+pub le_yes : (a b : ℕ) → a ≤ b → nat_le a b ≡ true
 le_yes a b h = grind (arith, nat_tests)
 
-le_is : (a b : ℕ) → nat_le a b ≡ true → a ≤ b
+pub le_is : (a b : ℕ) → nat_le a b ≡ true → a ≤ b
 le_is a b h = grind (arith, nat_tests)
 
 -- ---- operands and reads
@@ -149,7 +149,7 @@ read_fields_at w =
 
 -- ---- one word
 
-record HeaderParts (w q r x : ℕ) : Type 0 where
+pub record HeaderParts (w q r x : ℕ) : Type 0 where
   pub pair : w / 1073741824 ≡ q
   pub read : w / 128 % 8388608 ≡ r
   pub write : w % 128 ≡ x
@@ -158,15 +158,15 @@ header_parts : (q r x : ℕ) → q < 4 → r < 8388608 → x < 128
     → HeaderParts (word_of ((2, q) ∷ (23, r) ∷ (7, x) ∷ [])) q r x
 header_parts q r x lq lr lx = record { pair = omega arith; read = omega arith; write = omega arith }
 
-FitsFirst : Option ReadSlot → Type 0
+pub FitsFirst : Option ReadSlot → Type 0
 FitsFirst None = Unit {0}
 FitsFirst (Some r) = FitsRead r
 
-FitsWrite : Option ℕ → Type 0
+pub FitsWrite : Option ℕ → Type 0
 FitsWrite None = Unit {0}
 FitsWrite (Some w) = w < 128
 
-fields_below : (r : Option ReadSlot) → FitsFirst r → read_fields r < 8388608
+pub fields_below : (r : Option ReadSlot) → FitsFirst r → read_fields r < 8388608
 unfolding FitsFirst
 fields_below None f = lit< tt
 fields_below (Some r) f =
@@ -175,17 +175,17 @@ fields_below (Some r) f =
     let c : operand_number r.first < 256 = operand_below r.first f.first in
     omega arith
 
-write_below : (w : Option ℕ) → FitsWrite w → write_field w < 128
+pub write_below : (w : Option ℕ) → FitsWrite w → write_field w < 128
 unfolding FitsWrite
 write_below None f = lit< tt
 write_below (Some w) f = f
 
-one_word : (q : ℕ) (r : Option ReadSlot) (w : Option ℕ) → q < 4 → FitsFirst r → FitsWrite w
+pub one_word : (q : ℕ) (r : Option ReadSlot) (w : Option ℕ) → q < 4 → FitsFirst r → FitsWrite w
     → HeaderParts (header_word q r w) q (read_fields r) (write_field w)
 one_word q r w l f g = header_parts q (read_fields r) (write_field w) l (fields_below r f)
     (write_below w g)
 
-read_again : (q : ℕ) (r : ReadSlot) (w : Option ℕ) → q < 4 → FitsRead r → FitsWrite w
+pub read_again : (q : ℕ) (r : ReadSlot) (w : Option ℕ) → q < 4 → FitsRead r → FitsWrite w
     → read_at (header_word q (Some r) w) ≡ r
 unfolding FitsFirst
 read_again q r w l f g =
@@ -196,26 +196,26 @@ read_again q r w l f g =
     let c : operand_number r.first < 256 = operand_below r.first f.first in
     read_from h r f (omega arith) (omega arith) (omega arith)
 
-each_first : (rs : List ReadSlot) → Each FitsRead rs → FitsFirst (first_of rs)
+pub each_first : (rs : List ReadSlot) → Each FitsRead rs → FitsFirst (first_of rs)
 unfolding FitsFirst
 each_first [] f = tt
 each_first (r ∷ rs) f = f.0
 
-each_rest : {A : Type 0} (P : A → Type 0) (rs : List A) → Each P rs → Each P (rest_of rs)
+pub each_rest : {A : Type 0} (P : A → Type 0) (rs : List A) → Each P rs → Each P (rest_of rs)
 each_rest P [] f = tt
 each_rest P (r ∷ rs) f = f.1
 
-each_write : (ws : List ℕ) → Each (λ w. w < 128) ws → FitsWrite (first_of ws)
+pub each_write : (ws : List ℕ) → Each (λ w. w < 128) ws → FitsWrite (first_of ws)
 unfolding FitsWrite
 each_write [] f = tt
 each_write (w ∷ ws) f = f.0
 
 -- ---- the info bits as digits of base 4
 
-abbrev FitReads : List ReadSlot → Type 0
+abbrev pub FitReads : List ReadSlot → Type 0
 FitReads rs = Each FitsRead rs
 
-abbrev FitWrites : List ℕ → Type 0
+abbrev pub FitWrites : List ℕ → Type 0
 FitWrites ws = Each (λ w. w < 128) ws
 
 pub power : (n : ℕ) → 4 ^ suc n ≡ 4 * 4 ^ n
@@ -359,136 +359,3 @@ words_takes info (suc n) i (w ∷ ws) e f h =
     let one = word_takes w kr kw ws f.0 (λ z. c.read (omega arith)) (λ z. c.write (omega arith)) in
     let rest = words_takes info n (suc i) ws len f.1 s.1 in
     rw (top, low, rest_take read_at kr w ws, rest_take write_at kw w ws, er, ew, rest, one) refl
-
--- ---- what is written is read again
-
-pub length-words_from : (n info : ℕ) (rs : List ReadSlot) (ws : List ℕ)
-    → length (words_from n info rs ws) ≡ n
-unfolding words_from
-length-words_from zero info rs ws = refl
-length-words_from (suc n) info rs ws =
-    ap suc (length-words_from n (info % 4 ^ n) (rest_of rs) (rest_of ws))
-
-pub words_from_below : (n info : ℕ) (rs : List ReadSlot) (ws : List ℕ) → info < 4 ^ n → FitReads rs
-    → FitWrites ws → AreWords (words_from n info rs ws)
-unfolding words_from
-words_from_below zero info rs ws l f g = tt
-words_from_below (suc n) info rs ws l f g =
-    let q = digit_below n info l in
-    let a = fields_below (first_of rs) (each_first rs f) in
-    let b = write_below (first_of ws) (each_write ws g) in (
-      omega arith,
-      words_from_below n (info % 4 ^ n) (rest_of rs) (rest_of ws) (rest_below n info)
-          (each_rest FitsRead rs f) (each_rest (λ w. w < 128) ws g),
-    )
-
-pub reads_again : (n info : ℕ) (rs : List ReadSlot) (ws : List ℕ) → info < 4 ^ n → FitReads rs
-    → FitWrites ws → length rs ≤ n → map read_at (take (length rs) (words_from n info rs ws)) ≡ rs
-unfolding words_from
-reads_again n info [] ws l f g h = refl
-reads_again zero info (r ∷ rs) ws l f g h = absurd (omega arith)
-reads_again (suc n) info (r ∷ rs) ws l f g h =
-    rw (
-      read_again (info / 4 ^ n) r (first_of ws) (digit_below n info l) f.0 (each_write ws g),
-      reads_again n (info % 4 ^ n) rs (rest_of ws) (rest_below n info) f.1
-          (each_rest (λ w. w < 128) ws g) (omega arith),
-    ) refl
-
-pub writes_again : (n info : ℕ) (rs : List ReadSlot) (ws : List ℕ) → info < 4 ^ n → FitReads rs
-    → FitWrites ws → length ws ≤ n → map write_at (take (length ws) (words_from n info rs ws)) ≡ ws
-unfolding words_from
-writes_again n info rs [] l f g h = refl
-writes_again zero info rs (w ∷ ws) l f g h = absurd (omega arith)
-writes_again (suc n) info rs (w ∷ ws) l f g h =
-    let p = one_word (info / 4 ^ n) (first_of rs) (Some w) (digit_below n info l) (each_first rs f)
-    (each_write (w ∷ ws) g) in
-    let e : header_word (info / 4 ^ n) (first_of rs) (Some w) % 128 ≡ w = p.write in
-    rw (
-      e,
-      writes_again n (info % 4 ^ n) (rest_of rs) ws (rest_below n info)
-          (each_rest FitsRead rs f) g.1 (omega arith),
-    ) refl
-
-not_bad : (info i w : ℕ) → (reads_in info ≤ i → w / 128 % 8388608 ≡ 0)
-    → (writes_in info ≤ i → w % 128 ≡ 0) → is_good_info info ≡ true → is_bad info i w ≡ false
-unfolding is_bad
-not_bad info i w f g h =
-    rw (
-      tests (nat_le (reads_in info) i) (nat_eq (w / 128 % 8388608) 0)
-          (λ e. eq_yes _ 0 (f (le_is _ _ e))),
-      tests (nat_le (writes_in info) i) (nat_eq (w % 128) 0) (λ e. eq_yes _ 0 (g (le_is _ _ e))),
-      h,
-      last (nat_eq i 16),
-    ) refl
-  where
-    tests : (a b : Bool) → (a ≡ true → b ≡ true) → (a && not b) ≡ false
-    tests true true f = refl
-    tests true false f = absurd (let e = f refl in cc)
-    tests false b f = refl
-
-    last : (a : Bool) → (a && false) ≡ false
-    last true = refl
-    last false = refl
-
-no_first : {A : Type 0} (xs : List A) → length xs ≡ 0 → first_of xs ≡ None
-no_first [] e = refl
-no_first (x ∷ xs) e = absurd (omega arith)
-
-length-rest : {A : Type 0} (xs : List A) → length (rest_of xs) ≡ length xs - 1
-length-rest [] = refl
-length-rest (x ∷ xs) = omega arith
-
-pub none_bad : (all n i info : ℕ) (rs : List ReadSlot) (ws : List ℕ) → info < 4 ^ n → FitReads rs
-    → FitWrites ws → is_good_info all ≡ true
-    → length rs ≡ reads_in all - i → length ws ≡ writes_in all - i
-    → first_bad all i (words_from n info rs ws) ≡ None
-unfolding words_from first_bad
-none_bad all zero i info rs ws l f g h a b = refl
-none_bad all (suc n) i info rs ws l f g h a b =
-    let w = header_word (info / 4 ^ n) (first_of rs) (first_of ws) in
-    let p = one_word (info / 4 ^ n) (first_of rs) (first_of ws) (digit_below n info l)
-    (each_first rs f) (each_write ws g) in
-    let la = length-rest rs in
-    let lb = length-rest ws in
-    let ok : is_bad all i w ≡ false = not_bad all i w
-    (λ le. p.read ∙ ap read_fields (no_first rs (omega arith)))
-    (λ le. p.write ∙ ap write_field (no_first ws (omega arith))) h in
-    rw ok (none_bad all n (suc i) (info % 4 ^ n) (rest_of rs) (rest_of ws) (rest_below n info)
-    (each_rest FitsRead rs f) (each_rest (λ w. w < 128) ws g) h (omega arith) (omega arith))
-
--- ---- the info bits
-
-pub record InfoIs (info mask reads writes chunks : ℕ) : Type 0 where
-  pub below : info < 2 ^ 64
-  pub mask_is : mask_in info ≡ mask
-  pub reads_are : reads_in info ≡ reads
-  pub writes_are : writes_in info ≡ writes
-  pub chunks_are : chunks_in info ≡ chunks
-  pub good : is_good_info info ≡ true
-
-pub info_is : (mask reads writes chunks : ℕ) → mask < 2 ^ 32 → reads ≤ 32 → writes ≤ 32 → 1 ≤ chunks
-    → chunks ≤ 4 → InfoIs (info_of mask reads writes chunks) mask reads writes chunks
-info_is mask reads writes chunks a b c d e =
-    let info = info_of mask reads writes chunks in
-    let r : reads_in info ≡ reads = omega arith in
-    let w : writes_in info ≡ writes = omega arith in
-    let k : chunks_in info ≡ chunks = omega arith in
-    let z : info % 131072 ≡ 0 = omega arith in
-    record {
-      below = omega arith;
-      mask_is = omega arith;
-      reads_are = r;
-      writes_are = w;
-      chunks_are = k;
-      good = rw (
-        le_yes (reads_in info) 32 (omega arith),
-        le_yes (writes_in info) 32 (omega arith),
-        lt_yes 0 (chunks_in info) (omega arith),
-        le_yes (chunks_in info) 4 (omega arith),
-        eq_yes (info % 131072) 0 z,
-      ) refl;
-    }
-
-pub info_takes : (info : ℕ) → info < 2 ^ 64 → Counts info
-    → info_of (mask_in info) (reads_in info) (writes_in info) (chunks_in info) ≡ info
-info_takes info l c = let z : info % 131072 ≡ 0 = c.zeros in omega arith

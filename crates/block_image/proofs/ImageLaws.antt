@@ -28,7 +28,7 @@ use Rattle.block_image.proofs.Lists.{bind_ok, ok_is}
 use Rattle.block_image.proofs.BodyLaws.{test_false, number_takes, number_again, length-words_bytes}
 use Rattle.block_image.proofs.BlockLaws.{block_takes, block_again, cond_ok}
 use Rattle.block_image.proofs.Chunks.{chunks_least}
-use Rattle.block_image.proofs.HeaderLaws.{length-words_from}
+use Rattle.block_image.proofs.HeaderAgain.{length-words_from}
 use Rattle.std.proofs.lemmas.List.Sums.{sum_by-cons}
 
 pub want_ok : (b : Bool) (f : ImageFault) (u : Unit {0}) → wants b f ≡ Ok u → b ≡ true

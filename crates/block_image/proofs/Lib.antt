@@ -5,6 +5,7 @@ pub mod Words
 pub mod WordsTaken
 pub mod Lists
 pub mod HeaderLaws
+pub mod HeaderAgain
 pub mod BodyLaws
 pub mod Chunks
 pub mod BlockLaws
@@ -15,6 +16,7 @@ pub mod FaultsAgain
 pub mod Loops
 pub mod Writing
 pub mod FirstFaultLaws
+pub mod FirstFaultBlocks
 pub mod FirstFaultAgain
 pub mod Decoded
 pub mod StandardFacts

@@ -64,7 +64,8 @@ general_takes op w i lt e =
       op_is = refl;
       fits = (record { first = first'.0; second = second'.0; order = p.fits }, refl, refl);
       word = λ c o g. let one : c.opcode ≡ 1 = g.0 in
-          whole w c.opcode (sense_number sense) c.extended (target_number t.1) (target_number t.0) lt
+          whole w c.opcode (sense_number sense) c.extended (target_number t.1)
+          (target_number t.0) lt
           (record {
             opcode = sym o.opcode;
             sense = sym s;
