@@ -91,10 +91,10 @@ meaning-is P t s =
     let e : enough s.stock ≡ suc k = omega arith in
     let step : evaluated (enough s.stock) P t s ≡ perform (evaluated k P) P t s = ap (λ n. evaluated n P t s) e in
     let g : Grew 0 s.stock (perform (evaluated k P) P t s) (perform (meaning P) P t (more 0 s)) =
-        grown_by P 0 (evaluated k P) (meaning P) t s
-        (λ t u lt. let a = weight-le t u.stock in let b = weight-le t (u.stock + 0) in
-        weaker 0 u.stock s.stock _ _ (omega arith) (grown P 0 k (enough (u.stock + 0)) t u (omega arith) b))
-        (p-meaning P)
-        (λ x. grown P 0 k (enough (s.stock + 0)) (Of x) s (omega arith) (omega arith))
-        (λ x. grown P 0 k (enough (s.stock + 0)) (Run x) s (omega arith) (omega arith)) in
+    grown_by P 0 (evaluated k P) (meaning P) t s
+    (λ t u lt. let a = weight-le t u.stock in let b = weight-le t (u.stock + 0) in
+    weaker 0 u.stock s.stock _ _ (omega arith) (grown P 0 k (enough (u.stock + 0)) t u (omega arith) b))
+    (p-meaning P)
+    (λ x. grown P 0 k (enough (s.stock + 0)) (Of x) s (omega arith) (omega arith))
+    (λ x. grown P 0 k (enough (s.stock + 0)) (Run x) s (omega arith) (omega arith)) in
     step ∙ (sym (same_result s.stock _ _ g) ∙ ap (perform (meaning P) P t) (more-zero s))

@@ -87,7 +87,7 @@ module _ (d n : ℕ) where
   g-then : (r r' : Result) (f f' : Signal → State → Result) → Grew d n r r' → ((v : Signal) (s : State) → s.stock < n → Grew d n (f v s) (f' v (more d s))) → ((v : Signal) (u : State) → Puts u.output u.stock (f' v u)) → Grew d n (then r f) (then r' f')
   g-then (Go v s) r' f f' g h p = rw g.grows.0 (h v s g.grows.1)
   g-then (Over More s) r' f f' g h p = record {
-    grows = (λ e. ap (λ r. then r f') (g.grows.0 e), prefix-then s.output r' f' g.grows.1 p, within-then d r' f' g.grows.2 p)
+    grows = (λ e. ap (λ r. then r f') (g.grows.0 e), prefix-then s.output r' f' g.grows.1 p, within-then d r' f' g.grows.2 p);
   }
   g-then (Over Undefined s) r' f f' g h p = record { grows = ap (λ r. then r f') g.grows }
   g-then (Over Deep s) r' f f' g h p = record { grows = ap (λ r. then r f') g.grows }
@@ -110,7 +110,7 @@ module _ (d n : ℕ) where
       λ e. none_left (0 + d) (more d s) f' (omega arith),
       prefix-spent (0 + d) (more d s) f' p,
       within-spent d (0 + d) (more d s) f' (omega arith) p,
-    )
+    );
   }
   g-spend_of (suc k) s f f' h g p =
       let e : suc k + d ≡ suc (k + d) = omega arith in

@@ -12,7 +12,7 @@ use Rattle.c_eval.proofs.Equations.{weight, weight-some, meaning-more}
 pub meaning-falls : (P : TypedProgram) (t : Task) (s : State) (v : Signal) (s' : State) → meaning P t s ≡ Go v s' → s'.stock < s.stock
 meaning-falls P t s v s' e =
     let h : Grew 0 s.stock (Go v s') (meaning P t (more 0 s)) =
-        subst (λ (r : Result). Grew 0 s.stock r (meaning P t (more 0 s))) e (meaning-more P 0 t s) in
+    subst (λ (r : Result). Grew 0 s.stock r (meaning P t (more 0 s))) e (meaning-more P 0 t s) in
     h.grows.1
 
 module _ (Q : Task → State → Type 0) (parts : (t : Task) (s : State) → ((u : Task) (x : State) → weight u x.stock < weight t s.stock → Q u x) → Q t s) where

@@ -47,7 +47,7 @@ same-prefix out = record { rest = []; joined = sym (append-nil out) }
 pub prefix-prefix : (a b c : List ℕ) → IsPrefix a b → IsPrefix b c → IsPrefix a c
 prefix-prefix a b c h g = record {
   rest = h.rest ++ g.rest;
-  joined = g.joined ∙ (ap (λ xs. xs ++ g.rest) h.joined ∙ append_assoc a h.rest g.rest)
+  joined = g.joined ∙ (ap (λ xs. xs ++ g.rest) h.joined ∙ append_assoc a h.rest g.rest);
 }
 
 pub p-go : (v : Signal) (s : State) → Puts s.output s.stock (Go v s)

@@ -98,7 +98,7 @@ fewer_is_more P input n k steps out result e l lt (inl h) = h
 fewer_is_more P input n k steps out result e l lt (inr h) =
     let split : k + (n - k) ≡ n = omega arith in
     let same : eval P input n ≡ eval P input k =
-        ap (eval P input) (sym split) ∙ stays-with-more-steps P input k (n - k) h in
+    ap (eval P input) (sym split) ∙ stays-with-more-steps P input k (n - k) h in
     let most : steps ≤ k = most_of P input k out result steps (sym same ∙ e) in
     absurd (omega arith)
 
@@ -110,10 +110,9 @@ exact P input n out result steps (Go v s) is e l whole =
     let split : steps + s.stock ≡ n = omega arith in
     let there : run P input (steps + s.stock) ≡ Go v s = ap (run P input) split ∙ is in
     let not : ¬ IsMore (eval P input steps) =
-        enough steps s.stock (run P input steps) (run P input (steps + s.stock)) v s (grown P input steps s.stock) there refl in
+    enough steps s.stock (run P input steps) (run P input (steps + s.stock)) v s (grown P input steps s.stock) there refl in
     let same : eval P input (steps + s.stock) ≡ eval P input steps = stays-with-more-steps P input steps s.stock not in
-    let most : steps ≤ n = omega arith in
-    (
+    let most : steps ≤ n = omega arith in (
       most,
       sym same ∙ (ap (eval P input) split ∙ whole),
       λ k lt. fewer_is_more P input n k steps out result whole most lt (more_or_not (eval P input k)),

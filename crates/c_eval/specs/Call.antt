@@ -46,7 +46,7 @@ entered f done s = record s {
   scalars = scalars_of f done;
   arrays = s.arrays ++ map unset_array f.arrays;
   base = length s.arrays;
-  room = s.room + frame f
+  room = s.room + frame f;
 }
 
 -- a call gives the value that is returned, if there is one; a function that falls off its end gives none

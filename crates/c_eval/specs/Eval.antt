@@ -47,9 +47,13 @@ first_cells g = map Some g.init ++ replicate (length_of g.length - length g.init
 
 abbrev pub start : TypedProgram → List ℕ → ℕ → State
 start P input n = record {
-  stock = n; input = input; output = []; scalars = [];
+  stock = n;
+  input = input;
+  output = [];
+  scalars = [];
   arrays = map first_cells P.globals;
-  base = 0; room = 0
+  base = 0;
+  room = 0;
 }
 
 -- how an evaluation ends, with the output so far

@@ -1,0 +1,5 @@
+pub mod Rows
+pub mod Lays
+pub mod Lists
+pub mod Turns
+pub mod Results

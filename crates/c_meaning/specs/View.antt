@@ -1,0 +1,91 @@
+-- What the evaluator's values stand for.
+use Rattle.std.specs.Prelude.{◌≡◌, ℕ, List, [], ◌∷◌, map, reverse, Option, Some, None, Vec}
+use Rattle.std.specs.Borrow.{Bor}
+use Rattle.c_tree.specs.declared.TypedExpr.{TypedExpr}
+use Rattle.c_tree.specs.declared.TypedStmt.{TypedStmt}
+use Rattle.c_eval.specs.declared.Signal.{Signal}
+use Rattle.c_eval.specs.declared.Ending.{Ending}
+use Rattle.c_eval.specs.State.{State}
+use Rattle.c_eval.specs.Task.{Of, Run, Turn}
+use Rattle.c_eval.specs.Task as meant
+use Rattle.c_steps.specs.Follow.{Follow, FConverting, FUnary, FElement, FArgument, FLeft, FRight, FAnd, FOr, FTruth, FValued, FChoice, FComma, FAssignElement, FAssigned, FCompounded, FBumpElement, FCaller, FDropped, FInitialised, FSequence, FIf, FThenTurn, FLocals, FTest, FBody, FReturning, Step, Pushes, Does, Gives, Ends}
+use Rattle.c_steps.specs.Ahead.{Next, ToDo, Given, Ended, IsStep}
+use Rattle.c_meaning.specs.declared.store.Store.{Store}
+use Rattle.c_meaning.specs.declared.machine.Machine.{Machine}
+use Rattle.c_meaning.specs.declared.frame.Task.{Task}
+use Rattle.c_meaning.specs.declared.frame.Task.TheVariants as task
+use Rattle.c_meaning.specs.declared.frame.Operand.{Operand}
+use Rattle.c_meaning.specs.declared.frame.Operand.TheVariants as operand
+use Rattle.c_meaning.specs.declared.frame.Stage.{Stage}
+use Rattle.c_meaning.specs.declared.frame.Stage.TheVariants as stage
+use Rattle.c_meaning.specs.declared.frame.Frame.{Frame}
+use Rattle.c_meaning.specs.declared.frame.Frame.TheVariants as frame
+use Rattle.c_meaning.specs.declared.frame.Move.{Move}
+use Rattle.c_meaning.specs.declared.frame.Move.TheVariants as move
+
+abbrev pub view : Store → State
+view s = record {
+  stock = s.stock;
+  input = s.input.now;
+  output = s.output.items;
+  scalars = s.scalars.items;
+  arrays = s.arrays;
+  base = s.base;
+  room = s.room;
+}
+
+abbrev pub behind : {A : Type 0} → Option (Bor A) → Option A
+behind None = None
+behind (Some x) = Some x.now
+
+abbrev pub task_of : Task → meant.Task
+task_of (task.Of e) = Of e.now
+task_of (task.Run st) = Run st.now
+task_of (task.Turn l) = Turn (behind l.test) (behind l.post) l.body.now
+
+abbrev pub follow_operand : Operand → TypedExpr → Follow
+follow_operand (operand.Right op k) right = FLeft op k right
+follow_operand operand.OfAnd right = FAnd right
+follow_operand operand.OfOr right = FOr right
+follow_operand operand.OfComma right = FComma right
+follow_operand (operand.Stored op to at p) right = FAssignElement op to at p right
+
+abbrev pub follow_turn : Stage → List TypedStmt → Option TypedExpr → Option TypedExpr → TypedStmt → Follow
+follow_turn stage.Begins rest test post body = FLocals rest test post body
+follow_turn stage.Turns rest test post body = FThenTurn test post body
+follow_turn stage.Tests rest test post body = FTest test post body
+follow_turn stage.Ran rest test post body = FBody test post body
+
+abbrev pub follow : Frame → Follow
+follow (frame.Converting to) = FConverting to
+follow (frame.Unary op k) = FUnary op k
+follow (frame.Element p) = FElement p
+follow (frame.Argument f rest done) = FArgument f rest.now done.items
+follow (frame.Operand o right) = follow_operand o right.now
+follow (frame.Operated op k a) = FRight op k a
+follow frame.Truth = FTruth
+follow frame.Valued = FValued
+follow (frame.Choice one other) = FChoice one.now other.now
+follow (frame.Assigned x) = FAssigned x
+follow (frame.Compounded op to at x old) = FCompounded op to at x old
+follow (frame.BumpElement op k p) = FBumpElement op k p
+follow (frame.Caller scalars count base room) = FCaller scalars.items count base room
+follow frame.Dropped = FDropped
+follow (frame.Initialised i) = FInitialised i
+follow (frame.Sequence rest) = FSequence rest.now
+follow (frame.If one other) = FIf one.now (behind other)
+follow (frame.Turning stage rest l) = follow_turn stage rest.now (behind l.test) (behind l.post) l.body.now
+follow frame.Returning = FReturning
+
+-- the frames, the topmost first
+unfoldable pub frames : List Frame → List Follow
+frames fs = reverse (map follow fs)
+
+abbrev pub next : Move → Next
+next (move.Do t) = ToDo (task_of t)
+next (move.Give v) = Given v
+next (move.End why) = Ended why
+
+-- a move of the machine is the step
+abbrev pub Steps : Step → Move → Machine → Machine → Type 0
+Steps step m old new = IsStep step (next m) (view new.store) (frames old.stack.items) (frames new.stack.items)

@@ -1,0 +1,230 @@
+ghost use Rattle.std.specs.Prelude.{◌≡◌, ◌+◌, ◌-◌, ◌*◌, ◌<◌, ◌≤◌, ◌^◌, ◌++◌, ◌∷◌, [], map, length, replicate, true, Some, None, IfOk, OnOk, SomeIff, slice_get};
+ghost use Rattle.c_eval.specs.Call.{array_bytes, frame as frame_of, scalars_of, unset_array};
+ghost use Rattle.c_steps.specs.ExpressionSteps.{entered_step, enter_step, read_step, get_step, put_step, called_step, arguments_step};
+ghost use Rattle.c_meaning.specs.View.{view, behind, Steps};
+
+use crate::arrays::Arrays;
+use crate::frame::{Frame, Move, Task};
+use crate::machine::Machine;
+use c_eval::{Ending, Signal};
+use c_tree::{Callee, Kind, TypedArray, TypedExpr, TypedFunc, TypedProgram};
+use std::alloc::{AllocError, Global};
+
+/// The bytes that the frames of the active functions may have.
+const ROOM: u64 = 1_048_576;
+
+/// An empty list, which may have been used before.
+pub fn spare<T: Drop>(alloc: Global, pool: &mut Vec<Vec<T>>) -> Vec<T>
+    ensures { result.items ≡ [] }
+{
+    match pool.pop() {
+        None => Vec::new(alloc),
+        Some(mut list) => {
+            list.clear();
+            list
+        }
+    }
+}
+
+fn bytes_of(a: &TypedArray) -> u64
+    ensures value { result ≡ array_bytes a.now }
+    ensures bound { result < 2 ^ 36 }
+{
+    match a.kind {
+        Kind::Char | Kind::UChar => (a.length as u64 * 1 + 7) / 8 * 8,
+        Kind::Int | Kind::UInt => (a.length as u64 * 4 + 7) / 8 * 8,
+        Kind::Long | Kind::ULong => (a.length as u64 * 8 + 7) / 8 * 8,
+    }
+}
+
+/// The bytes of the active frames with that of f, if so many are allowed.
+fn room_with(room: u32, f: &TypedFunc) -> Option<u32>
+    ensures { SomeIff result (room + frame_of f.now ≤ 1048576) (room + frame_of f.now) }
+{
+    let scalars = f.scalars.len() as u64;
+    if scalars > ROOM {
+        return None;
+    }
+    let mut total = room as u64 + 8 * (18 + scalars);
+    if total > ROOM {
+        return None;
+    }
+    for a in f.arrays.as_slice() {
+        total += bytes_of(a);
+        if total > ROOM {
+            return None;
+        }
+    }
+    Some(total as u32)
+}
+
+/// Adds scalars that are not set.
+fn pad(scalars: &mut Vec<Option<u64>>, count: usize) -> Result<(), AllocError>
+    ensures { OnOk result (scalars.new.items ≡ scalars.old.items ++ replicate count None) }
+{
+    for _i in 0..count {
+        scalars.push(None)?;
+    }
+    Ok(())
+}
+
+/// Puts the arguments of a call into a list, and then unset scalars.
+fn put_scalars(
+    scalars: &mut Vec<Option<u64>>,
+    f: &TypedFunc,
+    done: &[u64],
+) -> Result<(), AllocError>
+    requires { scalars.old.items ≡ [] }
+    ensures { OnOk result (scalars.new.items ≡ scalars_of f.now done.now) }
+{
+    for word in done {
+        scalars.push(Some(*word))?;
+    }
+    pad(scalars, f.scalars.len().saturating_sub(done.len()))
+}
+
+fn add_arrays(arrays: &mut Arrays, f: &TypedFunc) -> Result<(), AllocError>
+    ensures { OnOk result (arrays.new ≡ arrays.old ++ map unset_array f.now.arrays) }
+{
+    for a in f.arrays.as_slice() {
+        arrays.add_unset(a.length)?;
+    }
+    Ok(())
+}
+
+impl<'a> Machine<'a> {
+    pub fn arguments(
+        &mut self,
+        program: &'a TypedProgram,
+        callee: Callee,
+        rest: &'a [TypedExpr],
+        done: Vec<u64>,
+    ) -> Result<Move<'a>, AllocError>
+        ensures { IfOk result (λ m. Steps (arguments_step program.now callee rest.now done.items (view self.old.store)) m self.old self.new) }
+    {
+        match rest.split_first() {
+            None => {
+                let moved = self.called(program, callee, done.as_slice())?;
+                self.spare_words.push(done)?;
+                Ok(moved)
+            }
+            Some((e, rest)) => self.push(Task::Of(e), Frame::Argument { callee, rest, done }),
+        }
+    }
+
+    pub fn argument(
+        &mut self,
+        program: &'a TypedProgram,
+        callee: Callee,
+        rest: &'a [TypedExpr],
+        mut done: Vec<u64>,
+        w: u64,
+    ) -> Result<Move<'a>, AllocError>
+        ensures { IfOk result (λ m. Steps (arguments_step program.now callee rest.now (done.items ++ w ∷ []) (view self.old.store)) m self.old self.new) }
+    {
+        done.push(w)?;
+        self.arguments(program, callee, rest, done)
+    }
+
+    pub fn called(
+        &mut self,
+        program: &'a TypedProgram,
+        callee: Callee,
+        done: &[u64],
+    ) -> Result<Move<'a>, AllocError>
+        ensures { IfOk result (λ m. Steps (called_step program.now callee done.now (view self.old.store)) m self.old self.new) }
+    {
+        if self.store.stock == 0 {
+            return Ok(Move::End(Ending::More));
+        }
+        self.store.stock -= 1;
+        match callee {
+            Callee::Func(f) => self.enter(program.functions.as_slice().get(f as usize), done),
+            Callee::GetChar => Ok(self.get_char(done)),
+            Callee::PutChar => self.put_char(done),
+        }
+    }
+
+    fn get_char(&mut self, done: &[u64]) -> Move<'a>
+        ensures { Steps (get_step done.now (view self.old.store)) result self.old self.new }
+    {
+        match done {
+            [] => self.read(),
+            _ => Move::End(Ending::Undefined),
+        }
+    }
+
+    fn read(&mut self) -> Move<'a>
+        ensures { Steps (read_step (view self.old.store).input (view self.old.store)) result self.old self.new }
+    {
+        match self.store.input.split_first() {
+            None => Move::Give(Signal::Value(0xffff_ffff_ffff_ffff)),
+            Some((b, rest)) => {
+                self.store.input = rest;
+                Move::Give(Signal::Value(*b as u64))
+            }
+        }
+    }
+
+    fn put_char(&mut self, done: &[u64]) -> Result<Move<'a>, AllocError>
+        ensures { IfOk result (λ m. Steps (put_step done.now (view self.old.store)) m self.old self.new) }
+    {
+        match done {
+            [w] => {
+                self.store.output.push((*w % 256) as u8)?;
+                Ok(Move::Give(Signal::Value(*w % 256)))
+            }
+            _ => Ok(Move::End(Ending::Undefined)),
+        }
+    }
+
+    fn enter(&mut self, f: Option<&'a TypedFunc>, done: &[u64]) -> Result<Move<'a>, AllocError>
+        ensures { IfOk result (λ m. Steps (enter_step (behind f.entry) done.now (view self.old.store)) m self.old self.new) }
+    {
+        match f {
+            None => Ok(Move::End(Ending::Undefined)),
+            Some(f) => {
+                if done.len() != f.params as usize {
+                    return Ok(Move::End(Ending::Undefined));
+                }
+                match room_with(self.store.room, f) {
+                    None => Ok(Move::End(Ending::Deep)),
+                    Some(room) => {
+                        let moved = self.enter_with(f, done, room)?;
+                        Ok(moved)
+                    }
+                }
+            }
+        }
+    }
+
+    fn enter_with(
+        &mut self,
+        f: &'a TypedFunc,
+        done: &[u64],
+        room: u32,
+    ) -> Result<Move<'a>, AllocError>
+        requires room { room ≡ self.old.store.room + frame_of f.now }
+        requires small { room ≤ 1048576 }
+        ensures { IfOk result (λ m. Steps (entered_step true f.now done.now (view self.old.store)) m self.old self.new) }
+    {
+        let count = self.store.arrays.len();
+        if count > 0xffff_ffff {
+            return Err(AllocError);
+        }
+        let mut scalars = spare(self.alloc, &mut self.spare_scalars);
+        put_scalars(&mut scalars, f, done)?;
+        add_arrays(&mut self.store.arrays, f)?;
+        let scalars = std::mem::replace(&mut self.store.scalars, scalars);
+        let frame = Frame::Caller {
+            scalars,
+            count,
+            base: self.store.base,
+            room: self.store.room,
+        };
+        self.store.base = count as u32;
+        self.store.room = room;
+        let moved = self.push(Task::Run(&f.body), frame)?;
+        Ok(moved)
+    }
+}

@@ -1,0 +1,187 @@
+ghost use Rattle.std.specs.Prelude.{◌≡◌, ◌+◌, ◌<◌, [], map, length, false, IfOk, OnOk};
+ghost use Rattle.c_eval.specs.Call.{called as called_by};
+ghost use Rattle.c_eval.specs.Eval.{first_cells, length_of as length_in, start, outcome, main_result as result_of_main, eval, meaning};
+ghost use Rattle.c_steps.specs.Ahead.{ahead_next, rank, is_over as is_over_of, IsReached};
+ghost use Rattle.c_meaning.specs.View.{next, view, frames};
+ghost use Rattle.c_meaning.specs.Answer.{answer};
+
+use crate::arrays::Arrays;
+use crate::frame::Move;
+use crate::machine::Machine;
+use crate::outcome::Outcome;
+use crate::store::Store;
+use base::{Items, Memory};
+use c_eval::{Ending, Signal};
+use c_tree::{Callee, TypedProgram};
+use std::alloc::{AllocError, Global};
+
+fn length_of(length: Option<u32>) -> usize
+    ensures { result ≡ length_in length }
+{
+    match length {
+        None => 1,
+        Some(n) => n as usize,
+    }
+}
+
+/// The globals at the start.
+fn global_arrays(alloc: Global, program: &TypedProgram) -> Result<Arrays, AllocError>
+    ensures { IfOk result (λ arrays. arrays ≡ map first_cells program.now.globals) }
+{
+    let mut arrays = Arrays::new(alloc);
+    for g in program.globals.as_slice() {
+        let zeros = length_of(g.length).saturating_sub(g.init.len());
+        arrays.add_set(g.init.as_slice(), zeros)?;
+    }
+    Ok(arrays)
+}
+
+fn first_store<'a>(
+    alloc: Global,
+    program: &TypedProgram,
+    input: &'a [u8],
+    n: u64,
+) -> Result<Store<'a>, AllocError>
+    ensures { IfOk result (λ s. view s ≡ start program.now input.now n) }
+{
+    let arrays = global_arrays(alloc, program)?;
+    Ok(Store {
+        stock: n,
+        input,
+        output: Vec::new(alloc),
+        scalars: Vec::new(alloc),
+        arrays,
+        base: 0,
+        room: 0,
+    })
+}
+
+/// What main returns, as an int: the low 32 bits by sign.
+fn main_result(signal: Signal) -> i32
+    ensures { result ≡ result_of_main signal }
+{
+    match signal {
+        Signal::Value(w) => ((w % 0x1_0000_0000) as u32).cast_signed(),
+        _ => 0,
+    }
+}
+
+impl<'a> Machine<'a> {
+    /// Whether nothing is left to be done.
+    fn is_over(&self, now: &Move<'a>) -> bool
+        ensures { result ≡ is_over_of (next now.now) (frames self.now.stack.items) }
+    {
+        match now {
+            Move::Do(_) => false,
+            Move::Give(_) => self.stack.len() == 0,
+            Move::End(_) => true,
+        }
+    }
+
+    /// One move, after which as much is ahead and less is to be done.
+    fn advance(&mut self, program: &'a TypedProgram, now: Move<'a>) -> Result<Move<'a>, AllocError>
+        requires { is_over_of (next now) (frames self.old.stack.items) ≡ false }
+        ensures kept { IfOk result (λ m. ahead_next program.now (next m) (frames self.new.stack.items) (view self.new.store) ≡ ahead_next program.now (next now.entry) (frames self.old.stack.items) (view self.old.store)) }
+        ensures less { IfOk result (λ m. rank (next m) self.new.store.stock (length self.new.stack.items) < rank (next now.entry) self.old.store.stock (length self.old.stack.items)) }
+    {
+        match now {
+            Move::Do(task) => {
+                let moved = self.act(program, task)?;
+                Ok(moved)
+            }
+            Move::Give(signal) => match self.stack.pop() {
+                None => unreachable!(),
+                Some(frame) => {
+                    let moved = self.resume(program, frame, signal)?;
+                    Ok(moved)
+                }
+            },
+            Move::End(_) => unreachable!(),
+        }
+    }
+
+    /// All that is left to be done.
+    fn go(&mut self, program: &'a TypedProgram, start: Move<'a>) -> Result<Move<'a>, AllocError>
+        ensures { IfOk result (λ m. IsReached (next m) (view self.new.store) (ahead_next program.now (next start.entry) (frames self.old.stack.items) (view self.old.store))) }
+    {
+        let mut now = start;
+        while !self.is_over(&now) {
+            now = self.advance(program, now)?;
+        }
+        Ok(now)
+    }
+
+    /// The call of main.
+    fn run_main(&mut self, program: &'a TypedProgram) -> Result<Move<'a>, AllocError>
+        requires { self.old.stack.items ≡ [] }
+        ensures { IfOk result (λ m. IsReached (next m) (view self.new.store) (called_by (meaning program.now) program.now (Callee.Func program.now.main) [] (view self.old.store))) }
+    {
+        let first = self.called(program, Callee::Func(program.main), &[])?;
+        let last = self.go(program, first)?;
+        Ok(last)
+    }
+}
+
+/// The outcome of an evaluation that is over.
+fn ended(now: Move, store: Store, n: u64) -> Result<Outcome, AllocError>
+    ensures { IfOk result (λ o. (r : _) → IsReached (next now.entry) (view store.entry) r → o ≡ answer (outcome n r)) }
+{
+    match now {
+        Move::Give(signal) => {
+            let steps = n.saturating_sub(store.stock);
+            Ok(Outcome::Done {
+                output: Items::from_vec(store.output),
+                result: main_result(signal),
+                steps,
+            })
+        }
+        Move::End(Ending::More) => Ok(Outcome::More),
+        Move::End(Ending::Undefined) => Ok(Outcome::Undefined),
+        Move::End(Ending::Deep) => Ok(Outcome::Deep),
+        Move::Do(_) => Err(AllocError),
+    }
+}
+
+fn evaluate_from<'a>(
+    program: &'a TypedProgram,
+    machine: Machine<'a>,
+    n: u64,
+) -> Result<Outcome, AllocError>
+    requires { machine.stack.items ≡ [] }
+    ensures { IfOk result (λ o. o ≡ answer (outcome n (called_by (meaning program.now) program.now (Callee.Func program.now.main) [] (view machine.entry.store)))) }
+{
+    let mut machine = machine;
+    let last = machine.run_main(program)?;
+    let Machine {
+        alloc: _,
+        store,
+        stack: _,
+        spare_scalars: _,
+        spare_words: _,
+    } = machine;
+    ended(last, store, n)
+}
+
+/// The evaluation of a program on an input with a stock of `n` steps: the definition's outcome, without
+/// the output so far of one that has not come to its end. Want of memory is the only error.
+///
+/// The active calls stand on a list, so the host's stack does not grow with the program's recursion.
+pub fn evaluate(
+    alloc: Global,
+    program: &TypedProgram,
+    input: &[u8],
+    n: u64,
+) -> Result<Outcome, Memory>
+    ensures ok { IfOk result (λ o. o ≡ answer (eval program.now input.now n)) }
+{
+    let store = first_store(alloc, program, input, n)?;
+    let machine = Machine {
+        alloc,
+        store,
+        stack: Vec::new(alloc),
+        spare_scalars: Vec::new(alloc),
+        spare_words: Vec::new(alloc),
+    };
+    let outcome = evaluate_from(program, machine, n)?;
+    Ok(outcome)
+}

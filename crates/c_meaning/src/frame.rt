@@ -1,0 +1,116 @@
+use c_eval::{Ending, Object, Signal};
+use c_tree::{BinaryOp, BumpOp, Callee, Kind, Place, TypedExpr, TypedStmt, UnaryOp};
+
+/// A loop from its test on.
+#[derive(Clone, Copy)]
+pub struct Loop<'a> {
+    pub test: Option<&'a TypedExpr>,
+    pub post: Option<&'a TypedExpr>,
+    pub body: &'a TypedStmt,
+}
+
+/// A part of the program that is to be evaluated.
+#[derive(Clone, Copy)]
+pub enum Task<'a> {
+    Of(&'a TypedExpr),
+    Run(&'a TypedStmt),
+    Turn(Loop<'a>),
+}
+
+/// What an expression that is evaluated next is to the node in which it stands.
+#[derive(Clone, Copy)]
+pub enum Operand {
+    Right {
+        op: BinaryOp,
+        kind: Option<Kind>,
+    },
+    OfAnd,
+    OfOr,
+    OfComma,
+    Stored {
+        op: Option<BinaryOp>,
+        to: Option<Kind>,
+        at: Kind,
+        place: Place,
+    },
+}
+
+/// Where a loop is: before its declarations, its first turn, after its test or after its body.
+#[derive(Clone, Copy)]
+pub enum Stage {
+    Begins,
+    Turns,
+    Tests,
+    Ran,
+}
+
+/// What follows a part.
+#[derive(Drop)]
+pub enum Frame<'a> {
+    Converting(Kind),
+    Unary {
+        op: UnaryOp,
+        kind: Option<Kind>,
+    },
+    Element(Place),
+    Argument {
+        callee: Callee,
+        rest: &'a [TypedExpr],
+        done: Vec<u64>,
+    },
+    Operand {
+        operand: Operand,
+        right: &'a TypedExpr,
+    },
+    Operated {
+        op: BinaryOp,
+        kind: Option<Kind>,
+        left: u64,
+    },
+    Truth,
+    Valued,
+    Choice {
+        first: &'a TypedExpr,
+        other: &'a TypedExpr,
+    },
+    Assigned(Object),
+    Compounded {
+        op: BinaryOp,
+        to: Option<Kind>,
+        at: Kind,
+        object: Object,
+        old: u64,
+    },
+    BumpElement {
+        op: BumpOp,
+        kind: Option<Kind>,
+        place: Place,
+    },
+    Caller {
+        scalars: Vec<Option<u64>>,
+        count: usize,
+        base: u32,
+        room: u32,
+    },
+    Dropped,
+    Initialised(u32),
+    Sequence(&'a [TypedStmt]),
+    If {
+        first: &'a TypedStmt,
+        other: Option<&'a TypedStmt>,
+    },
+    Turning {
+        stage: Stage,
+        rest: &'a [TypedStmt],
+        turn: Loop<'a>,
+    },
+    Returning,
+}
+
+/// What is done next.
+#[derive(Clone, Copy)]
+pub enum Move<'a> {
+    Do(Task<'a>),
+    Give(Signal),
+    End(Ending),
+}

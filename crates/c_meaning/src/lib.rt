@@ -1,0 +1,18 @@
+//! The evaluation of typed programs (docs/LANGUAGE.md), exactly as the definition `eval` of `c_eval`
+//! has it.
+#![tactic(auto)]
+
+mod arrays;
+mod call;
+mod evaluation;
+mod expression;
+mod frame;
+mod machine;
+mod outcome;
+mod resume;
+mod statement;
+mod store;
+mod words;
+
+pub use evaluation::evaluate;
+pub use outcome::{Bytes, Outcome};

@@ -1,0 +1,49 @@
+ghost use Rattle.std.specs.Prelude.{◌≡◌, IfOk};
+ghost use Rattle.c_eval.specs.Expression.{node_of};
+ghost use Rattle.c_steps.specs.Follow.{Pushes, given_step, store_step};
+ghost use Rattle.c_meaning.specs.View.{view, task_of, follow, Steps};
+
+use crate::frame::{Frame, Move, Task};
+use crate::store::Store;
+use c_eval::{Ending, Object, Signal};
+use std::alloc::{AllocError, Global};
+
+/// An evaluation under way: what it goes over, and what follows.
+///
+/// The lists that a call needs are used again by later calls.
+#[derive(Drop)]
+pub struct Machine<'a> {
+    pub alloc: Global,
+    pub store: Store<'a>,
+    pub stack: Vec<Frame<'a>>,
+    pub spare_scalars: Vec<Vec<Option<u64>>>,
+    pub spare_words: Vec<Vec<u64>>,
+}
+
+impl<'a> Machine<'a> {
+    pub fn push(&mut self, task: Task<'a>, frame: Frame<'a>) -> Result<Move<'a>, AllocError>
+        ensures { IfOk result (λ m. Steps (Pushes (task_of task.entry) (follow frame.entry) (view self.old.store)) m self.old self.new) }
+    {
+        self.stack.push(frame)?;
+        Ok(Move::Do(task))
+    }
+
+    pub fn given(&self, value: Option<u64>) -> Move<'a>
+        ensures { Steps (given_step value (view self.now.store)) result self.now self.now }
+    {
+        match value {
+            Some(w) => Move::Give(Signal::Value(w)),
+            None => Move::End(Ending::Undefined),
+        }
+    }
+
+    pub fn stored(&mut self, object: Object, w: u64, signal: Signal) -> Move<'a>
+        ensures { Steps (store_step (view self.old.store) object w signal) result self.old self.new }
+    {
+        if self.store.set(object, w) {
+            Move::Give(signal)
+        } else {
+            Move::End(Ending::Undefined)
+        }
+    }
+}

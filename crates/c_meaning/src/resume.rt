@@ -1,0 +1,276 @@
+ghost use Rattle.std.specs.Prelude.{◌≡◌, IfOk, take, cond};
+ghost use Rattle.c_eval.specs.Word.{is_false, truth_of};
+ghost use Rattle.c_eval.specs.Task.{Run};
+ghost use Rattle.c_steps.specs.Follow.{FBody, Pushes, Does, Gives, some_step, store_step};
+ghost use Rattle.c_steps.specs.StatementSteps.{sequence_step, locals_step, act_step};
+ghost use Rattle.c_steps.specs.ResumeSteps.{if_step, value_step, returned_step, going_on_step, body_step, resume_step};
+ghost use Rattle.c_meaning.specs.View.{view, behind, task_of, follow, follow_operand, follow_turn, Steps};
+
+use crate::frame::{Frame, Loop, Move, Operand, Stage, Task};
+use crate::machine::Machine;
+use crate::words::{binary_of, compound_of, unary_of};
+use c_constant::convert;
+use c_eval::{Ending, Object, Signal};
+use c_tree::{TypedExpr, TypedProgram, TypedStmt};
+use std::alloc::AllocError;
+
+impl<'a> Machine<'a> {
+    pub fn act(&mut self, program: &'a TypedProgram, task: Task<'a>) -> Result<Move<'a>, AllocError>
+        ensures { IfOk result (λ m. Steps (act_step program.now (task_of task.entry) (view self.old.store)) m self.old self.new) }
+    {
+        match task {
+            Task::Of(e) => self.of(program, e),
+            Task::Run(st) => self.run(st),
+            Task::Turn(turn) => self.turn(turn),
+        }
+    }
+
+    fn with_operand(
+        &mut self,
+        program: &'a TypedProgram,
+        operand: Operand,
+        right: &'a TypedExpr,
+        w: u64,
+    ) -> Result<Move<'a>, AllocError>
+        ensures { IfOk result (λ m. Steps (value_step program.now (follow_operand operand right.now) w (view self.old.store)) m self.old self.new) }
+    {
+        match operand {
+            Operand::Right { op, kind } => {
+                self.push(Task::Of(right), Frame::Operated { op, kind, left: w })
+            }
+            Operand::OfAnd => {
+                if w == 0 {
+                    Ok(Move::Give(Signal::Value(0)))
+                } else {
+                    self.push(Task::Of(right), Frame::Truth)
+                }
+            }
+            Operand::OfOr => {
+                if w == 0 {
+                    self.push(Task::Of(right), Frame::Truth)
+                } else {
+                    Ok(Move::Give(Signal::Value(1)))
+                }
+            }
+            Operand::OfComma => Ok(Move::End(Ending::Undefined)),
+            Operand::Stored { op, to, at, place } => {
+                let object = self.store.element_of(place, w);
+                self.assign_to(op, to, at, right, object)
+            }
+        }
+    }
+
+    fn with_truth(&self, w: u64) -> Move<'a>
+        ensures { Steps (Gives (Signal.Value (truth_of w)) (view self.now.store)) result self.now self.now }
+    {
+        if w == 0 {
+            Move::Give(Signal::Value(0))
+        } else {
+            Move::Give(Signal::Value(1))
+        }
+    }
+
+    fn after_if(&self, first: &'a TypedStmt, other: Option<&'a TypedStmt>, w: u64) -> Move<'a>
+        ensures { Steps (cond (is_false w) (if_step (behind other.entry) (view self.now.store)) (Does (Run first.now) (view self.now.store))) result self.now self.now }
+    {
+        if w == 0 {
+            match other {
+                None => Move::Give(Signal::Nothing),
+                Some(other) => Move::Do(Task::Run(other)),
+            }
+        } else {
+            Move::Do(Task::Run(first))
+        }
+    }
+
+    fn after_test(&mut self, turn: Loop<'a>, w: u64) -> Result<Move<'a>, AllocError>
+        ensures { IfOk result (λ m. Steps (cond (is_false w) (Gives Signal.Nothing (view self.old.store)) (Pushes (Run turn.entry.body.now) (FBody (behind turn.entry.test) (behind turn.entry.post) turn.entry.body.now) (view self.old.store))) m self.old self.new) }
+    {
+        if w == 0 {
+            Ok(Move::Give(Signal::Nothing))
+        } else {
+            self.push(
+                Task::Run(turn.body),
+                Frame::Turning {
+                    stage: Stage::Ran,
+                    rest: &[],
+                    turn,
+                },
+            )
+        }
+    }
+
+    fn compounded(&mut self, object: Object, value: Option<u64>) -> Move<'a>
+        ensures { Steps (some_step value (view self.old.store) (λ r. store_step (view self.old.store) object r (Signal.Value r))) result self.old self.new }
+    {
+        match value {
+            None => Move::End(Ending::Undefined),
+            Some(r) => self.stored(object, r, Signal::Value(r)),
+        }
+    }
+
+    fn with_value(
+        &mut self,
+        program: &'a TypedProgram,
+        frame: Frame<'a>,
+        w: u64,
+    ) -> Result<Move<'a>, AllocError>
+        ensures { IfOk result (λ m. Steps (value_step program.now (follow frame.entry) w (view self.old.store)) m self.old self.new) }
+    {
+        match frame {
+            Frame::Converting(to) => Ok(Move::Give(Signal::Value(convert(to, w)))),
+            Frame::Unary { op, kind } => Ok(self.given(unary_of(op, kind, w))),
+            Frame::Element(place) => {
+                let object = self.store.element_of(place, w);
+                Ok(self.element(object))
+            }
+            Frame::Argument { callee, rest, done } => {
+                self.argument(program, callee, rest, done, w)
+            }
+            Frame::Operand { operand, right } => self.with_operand(program, operand, right, w),
+            Frame::Operated { op, kind, left } => Ok(self.given(binary_of(op, kind, left, w))),
+            Frame::Truth => Ok(self.with_truth(w)),
+            Frame::Valued => Ok(Move::Give(Signal::Value(w))),
+            Frame::Choice { first, other } => {
+                if w == 0 {
+                    self.push(Task::Of(other), Frame::Valued)
+                } else {
+                    self.push(Task::Of(first), Frame::Valued)
+                }
+            }
+            Frame::Assigned(object) => Ok(self.stored(object, w, Signal::Value(w))),
+            Frame::Compounded {
+                op,
+                to,
+                at,
+                object,
+                old,
+            } => { Ok(self.compounded(object, compound_of(op, to, at, old, w))) }
+            Frame::BumpElement { op, kind, place } => {
+                let object = self.store.element_of(place, w);
+                Ok(self.bump_object(op, kind, object))
+            }
+            Frame::Initialised(i) => {
+                Ok(self.stored(Object::InScalar(i as u64), w, Signal::Nothing))
+            }
+            Frame::If { first, other } => Ok(self.after_if(first, other, w)),
+            Frame::Turning {
+                stage: Stage::Tests,
+                rest: _,
+                turn,
+            } => self.after_test(turn, w),
+            Frame::Returning => Ok(Move::Give(Signal::Returns(Some(w)))),
+            _ => Ok(Move::End(Ending::Undefined)),
+        }
+    }
+
+    pub fn resume(
+        &mut self,
+        program: &'a TypedProgram,
+        frame: Frame<'a>,
+        signal: Signal,
+    ) -> Result<Move<'a>, AllocError>
+        ensures { IfOk result (λ m. Steps (resume_step program.now (follow frame.entry) signal (view self.old.store)) m self.old self.new) }
+    {
+        match frame {
+            Frame::Operand {
+                operand: Operand::OfComma,
+                right,
+            } => { self.push(Task::Of(right), Frame::Valued) }
+            Frame::Caller {
+                scalars,
+                count,
+                base,
+                room,
+            } => { self.leave(scalars, count, base, room, signal) }
+            Frame::Dropped => Ok(Move::Give(Signal::Nothing)),
+            Frame::Sequence(rest) => self.after_statement(rest, signal),
+            Frame::Turning {
+                stage: Stage::Begins,
+                rest,
+                turn,
+            } => { self.after_local(rest, turn, signal) }
+            Frame::Turning {
+                stage: Stage::Turns,
+                rest: _,
+                turn,
+            } => { Ok(Move::Do(Task::Turn(turn))) }
+            Frame::Turning {
+                stage: Stage::Ran,
+                rest: _,
+                turn,
+            } => self.after_body(turn, signal),
+            frame => match signal {
+                Signal::Value(w) => self.with_value(program, frame, w),
+                _ => Ok(Move::End(Ending::Undefined)),
+            },
+        }
+    }
+
+    fn leave(
+        &mut self,
+        scalars: Vec<Option<u64>>,
+        count: usize,
+        base: u32,
+        room: u32,
+        signal: Signal,
+    ) -> Result<Move<'a>, AllocError>
+        ensures { IfOk result (λ m. Steps (returned_step signal (record (view self.old.store) { scalars = scalars.items; arrays = take count (view self.old.store).arrays; base = base; room = room })) m self.old self.new) }
+    {
+        let used = std::mem::replace(&mut self.store.scalars, scalars);
+        self.store.arrays.keep_first(count);
+        self.store.base = base;
+        self.store.room = room;
+        self.spare_scalars.push(used)?;
+        Ok(self.returned(signal))
+    }
+
+    fn returned(&self, signal: Signal) -> Move<'a>
+        ensures { Steps (returned_step signal (view self.now.store)) result self.now self.now }
+    {
+        match signal {
+            Signal::Returns(Some(w)) => Move::Give(Signal::Value(w)),
+            Signal::Returns(None) => Move::Give(Signal::Nothing),
+            Signal::Nothing => Move::Give(Signal::Nothing),
+            _ => Move::End(Ending::Undefined),
+        }
+    }
+
+    fn after_statement(
+        &mut self,
+        rest: &'a [TypedStmt],
+        signal: Signal,
+    ) -> Result<Move<'a>, AllocError>
+        ensures { IfOk result (λ m. Steps (going_on_step signal (view self.old.store) (sequence_step rest.now (view self.old.store))) m self.old self.new) }
+    {
+        match signal {
+            Signal::Nothing => self.sequence(rest),
+            other => Ok(Move::Give(other)),
+        }
+    }
+
+    fn after_local(
+        &mut self,
+        rest: &'a [TypedStmt],
+        turn: Loop<'a>,
+        signal: Signal,
+    ) -> Result<Move<'a>, AllocError>
+        ensures { IfOk result (λ m. Steps (going_on_step signal (view self.old.store) (locals_step rest.now (behind turn.entry.test) (behind turn.entry.post) turn.entry.body.now (view self.old.store))) m self.old self.new) }
+    {
+        match signal {
+            Signal::Nothing => self.locals(rest, turn),
+            other => Ok(Move::Give(other)),
+        }
+    }
+
+    fn after_body(&mut self, turn: Loop<'a>, signal: Signal) -> Result<Move<'a>, AllocError>
+        ensures { IfOk result (λ m. Steps (body_step (behind turn.entry.test) (behind turn.entry.post) turn.entry.body.now signal (view self.old.store)) m self.old self.new) }
+    {
+        match signal {
+            Signal::Nothing => self.then_turn(turn.post, turn),
+            Signal::Continues => self.then_turn(turn.post, turn),
+            Signal::Breaks => Ok(Move::Give(Signal::Nothing)),
+            other => Ok(Move::Give(other)),
+        }
+    }
+}

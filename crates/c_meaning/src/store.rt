@@ -1,0 +1,108 @@
+ghost use Rattle.std.specs.Prelude.{◌≡◌, map, Some, replicate, ◌++◌, ◌-◌, length, ◌↔◌, IsTrue, IsFalse, IsSome, IfOk, OnOk, slice_get, slice_set, None};
+ghost use Rattle.c_eval.specs.State.{held, cell, written};
+ghost use Rattle.c_eval.specs.Task.{array_of as array_number, element_of as element_object, scalar_of as scalar_object};
+ghost use Rattle.c_meaning.specs.View.{view};
+
+use crate::arrays::Arrays;
+use c_eval::Object;
+use c_tree::Place;
+use std::alloc::AllocError;
+
+/// What an evaluation goes over.
+#[derive(Drop)]
+pub struct Store<'a> {
+    pub stock: u64,
+    pub input: &'a [u8],
+    pub output: Vec<u8>,
+    pub scalars: Vec<Option<u64>>,
+    pub arrays: Arrays,
+    pub base: u32,
+    pub room: u32,
+}
+
+fn scalar_at(scalars: &[Option<u64>], at: u64) -> Option<u64>
+    ensures { result ≡ held (slice_get scalars.now at) }
+{
+    match scalars.get(at as usize) {
+        None => None,
+        Some(value) => *value,
+    }
+}
+
+/// Writes a scalar, if it is there.
+fn write_scalar(scalars: &mut Vec<Option<u64>>, at: u64, value: Option<u64>) -> bool
+    ensures there { IsTrue result ↔ IsSome (slice_get scalars.old.items at) }
+    ensures after { scalars.new.items ≡ slice_set scalars.old.items at value }
+    ensures same { IsFalse result → scalars.new.items ≡ scalars.old.items }
+{
+    if (at as usize) < scalars.len() {
+        scalars[at as usize] = value;
+        true
+    } else {
+        false
+    }
+}
+
+/// The scalar that a name names.
+pub fn scalar_of(place: Place) -> Option<Object>
+    ensures { result ≡ scalar_object place }
+{
+    match place {
+        Place::Global(g) => Some(Object::InArray(g as u64, 0)),
+        Place::Scalar(i) => Some(Object::InScalar(i as u64)),
+        Place::Array(_) => None,
+    }
+}
+
+impl<'a> Store<'a> {
+    /// What an object holds, if it is there and is set.
+    pub fn load(&self, object: Object) -> Option<u64>
+        ensures { result ≡ held (cell (view self.now) object) }
+    {
+        match object {
+            Object::InScalar(i) => scalar_at(self.scalars.as_slice(), i),
+            Object::InArray(a, i) => self.arrays.get(a, i),
+        }
+    }
+
+    /// Sets an object, if it is there.
+    pub fn set(&mut self, object: Object, word: u64) -> bool
+        ensures there { IsTrue result ↔ IsSome (cell (view self.old) object) }
+        ensures after { IsTrue result → view self.new ≡ written (view self.old) object (Some word) }
+        ensures same { IsFalse result → view self.new ≡ view self.old }
+    {
+        match object {
+            Object::InScalar(i) => write_scalar(&mut self.scalars, i, Some(word)),
+            Object::InArray(a, i) => self.arrays.set(a, i, word),
+        }
+    }
+
+    /// Unsets a scalar, if it is there.
+    pub fn unset_scalar(&mut self, i: u64) -> bool
+        ensures there { IsTrue result ↔ IsSome (slice_get (view self.old).scalars i) }
+        ensures after { IsTrue result → view self.new ≡ written (view self.old) (Object.InScalar i) None }
+        ensures same { IsFalse result → view self.new ≡ view self.old }
+    {
+        write_scalar(&mut self.scalars, i, None)
+    }
+
+    fn array_of(&self, place: Place) -> Option<u64>
+        ensures { result ≡ array_number place (view self.now) }
+    {
+        match place {
+            Place::Global(g) => Some(g as u64),
+            Place::Scalar(i) => scalar_at(self.scalars.as_slice(), i as u64),
+            Place::Array(a) => Some(self.base as u64 + a as u64),
+        }
+    }
+
+    /// An element by the word of its index.
+    pub fn element_of(&self, place: Place, index: u64) -> Option<Object>
+        ensures { result ≡ element_object place index (view self.now) }
+    {
+        match self.array_of(place) {
+            None => None,
+            Some(array) => Some(Object::InArray(array, index)),
+        }
+    }
+}

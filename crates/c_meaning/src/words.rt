@@ -1,0 +1,83 @@
+ghost use Rattle.std.specs.Prelude.{◌≡◌};
+ghost use Rattle.c_constant.specs.Kinds as kinds;
+ghost use Rattle.c_eval.specs.Word as words;
+
+use c_constant::{convert, operation, unary};
+use c_tree::{BinaryOp, BumpOp, Kind, UnaryOp};
+
+pub fn binary_of(op: BinaryOp, kind: Option<Kind>, a: u64, b: u64) -> Option<u64>
+    ensures { result ≡ words.binary_of op kind a b }
+{
+    match kind {
+        None => None,
+        Some(kind) => operation(op, kind, a, b),
+    }
+}
+
+pub fn unary_of(op: UnaryOp, kind: Option<Kind>, a: u64) -> Option<u64>
+    ensures { result ≡ words.unary_of op kind a }
+{
+    match kind {
+        None => None,
+        Some(kind) => unary(op, kind, a),
+    }
+}
+
+fn converted_if(kind: Kind, word: Option<u64>) -> Option<u64>
+    ensures { result ≡ words.converted_if kind word }
+{
+    match word {
+        None => None,
+        Some(word) => Some(convert(kind, word)),
+    }
+}
+
+/// A compound assignment's new value.
+pub fn compound_of(op: BinaryOp, to: Option<Kind>, at: Kind, old: u64, b: u64) -> Option<u64>
+    ensures { result ≡ words.compound_of op to at old b }
+{
+    match to {
+        None => None,
+        Some(to) => converted_if(to, operation(op, at, convert(at, old), b)),
+    }
+}
+
+fn promoted(kind: Kind) -> Kind
+    ensures { result ≡ kinds.promoted kind }
+{
+    match kind {
+        Kind::Char | Kind::UChar | Kind::Int => Kind::Int,
+        Kind::UInt => Kind::UInt,
+        Kind::Long => Kind::Long,
+        Kind::ULong => Kind::ULong,
+    }
+}
+
+fn bump_operation(op: BumpOp) -> BinaryOp
+    ensures { result ≡ words.bump_operation op }
+{
+    match op {
+        BumpOp::PreInc | BumpOp::PostInc => BinaryOp::Add,
+        BumpOp::PreDec | BumpOp::PostDec => BinaryOp::Subtract,
+    }
+}
+
+/// What `++` or `--` stores.
+pub fn bump_of(op: BumpOp, kind: Option<Kind>, old: u64) -> Option<u64>
+    ensures { result ≡ words.bump_of op kind old }
+{
+    match kind {
+        None => None,
+        Some(kind) => converted_if(kind, operation(bump_operation(op), promoted(kind), old, 1)),
+    }
+}
+
+/// What `++` or `--` gives.
+pub fn bump_value(op: BumpOp, old: u64, new: u64) -> u64
+    ensures { result ≡ words.bump_value op old new }
+{
+    match op {
+        BumpOp::PreInc | BumpOp::PreDec => new,
+        BumpOp::PostInc | BumpOp::PostDec => old,
+    }
+}

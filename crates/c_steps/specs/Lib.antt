@@ -1,0 +1,6 @@
+pub mod Follow
+pub mod ExpressionSteps
+pub mod StatementSteps
+pub mod ResumeSteps
+pub mod Ahead
+pub mod Keeps
