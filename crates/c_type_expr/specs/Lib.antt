@@ -3,3 +3,4 @@ pub mod Faults
 pub mod Trees
 pub mod Constants
 pub mod Says
+pub mod Typed

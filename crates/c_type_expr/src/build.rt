@@ -28,10 +28,13 @@ pub fn converted(
     if kind_of(e.get()) == to {
         return Ok(e);
     }
-    Boxed::new(alloc, TypedExpr {
-        kind: Some(to),
-        node: TypedNode::Convert { to, e },
-    })
+    Boxed::new(
+        alloc,
+        TypedExpr {
+            kind: Some(to),
+            node: TypedNode::Convert { to, e },
+        },
+    )
 }
 
 pub fn unary(alloc: Global, op: UnaryOp, e: Boxed<TypedExpr>) -> Result<TypedExpr, AllocError>

@@ -109,7 +109,11 @@ pub fn full(alloc: Global, scope: &Scopes, role: Role, e: Expr) -> Result<TypedE
     let line = e.line;
     let fits = need_fits(&e);
     let typed = type_expr(alloc, scope, role, e)?;
-    if fits { Ok(typed) } else { Err(TypeFault::Need(line)) }
+    if fits {
+        Ok(typed)
+    } else {
+        Err(TypeFault::Need(line))
+    }
 }
 
 fn value_in(value: Option<u64>, line: u32) -> Result<u64, TypeFault>
@@ -124,7 +128,11 @@ fn value_in(value: Option<u64>, line: u32) -> Result<u64, TypeFault>
 fn need_of(e: &Expr) -> Result<(), TypeFault>
     ensures { Says (constants.need_fault e.now) tt result }
 {
-    if need_fits(e) { Ok(()) } else { Err(TypeFault::Need(e.line)) }
+    if need_fits(e) {
+        Ok(())
+    } else {
+        Err(TypeFault::Need(e.line))
+    }
 }
 
 /// The word, at a kind, of a full expression that is a constant.
@@ -147,7 +155,11 @@ fn length_in(kind: Kind, value: Option<u64>) -> Option<u64>
                 Kind::Char | Kind::Int | Kind::Long => word >= 0x8000_0000_0000_0000,
                 _ => false,
             };
-            if is_negative || word == 0 { None } else { Some(word) }
+            if is_negative || word == 0 {
+                None
+            } else {
+                Some(word)
+            }
         }
     }
 }

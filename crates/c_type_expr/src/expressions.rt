@@ -16,9 +16,7 @@ use crate::found::{call_at, element_at, name_at, place_at, slots_in, value_at};
 use crate::role::Role;
 use base::{Boxed, Items, Queue};
 use c_scope::Scopes;
-use c_tree::{
-    BinaryOp, BumpOp, Expr, ExprNode, Kind, Slot, TypedExpr, TypedNode, UnaryOp, Word,
-};
+use c_tree::{BinaryOp, BumpOp, Expr, ExprNode, Kind, Slot, TypedExpr, TypedNode, UnaryOp, Word};
 use std::alloc::Global;
 
 /// Whether an expression is a name or an element, in any groups.

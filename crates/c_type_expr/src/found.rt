@@ -16,14 +16,22 @@ use c_tree::{Callee, Kind, Place, Slot, TypedExpr, TypedNode};
 pub fn value_at(role: Role, line: u32) -> Result<(), TypeFault>
     ensures { Says (value_fault role line) tt result }
 {
-    if role.takes_value() { Ok(()) } else { Err(TypeFault::Mismatch(line)) }
+    if role.takes_value() {
+        Ok(())
+    } else {
+        Err(TypeFault::Mismatch(line))
+    }
 }
 
 /// Whether a left side may be written to.
 pub fn place_at(is_place: bool, line: u32) -> Result<(), TypeFault>
     ensures { Says (unless is_place (TypeFault.Mismatch line)) tt result }
 {
-    if is_place { Ok(()) } else { Err(TypeFault::Mismatch(line)) }
+    if is_place {
+        Ok(())
+    } else {
+        Err(TypeFault::Mismatch(line))
+    }
 }
 
 fn named(kind: Kind, place: Place) -> TypedExpr

@@ -7,6 +7,7 @@
 mod arguments;
 mod build;
 mod constants;
+mod exact;
 mod expressions;
 mod fault;
 mod found;
@@ -14,6 +15,7 @@ mod role;
 
 pub use build::converted;
 pub use constants::{full, full_constant, size_length};
+pub use exact::typing_is_exact;
 pub use expressions::type_expr;
 pub use fault::TypeFault;
 pub use role::Role;
