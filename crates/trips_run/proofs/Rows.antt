@@ -27,7 +27,7 @@ use Rattle.trips_run.specs.Read.{IsRead}
 use Rattle.trips_run.specs.Source.{IsReturn, IsOutOfForm, return_block}
 use Rattle.trips_run.specs.Report.{ending_of, run_report}
 use Rattle.trips_run.specs.Answer.{block_budget, most_source_bytes, most_image_bytes, status_of}
-use Rattle.trips_run.specs.Answer.{IsRunBy, IsTextAnswer, IsRunOfImage}
+use Rattle.trips_run.specs.Answer.{IsRunBy, IsRefusalOfText, IsTextAnswer, IsRunOfImage}
 use Rattle.trips_run.specs.Answer.{IsImageAnswer, IsAnswer}
 use Rattle.trips_run.specs.Refused.{IsBadImage, MayBeRefused, IsRefused}
 use Rattle.trips_run.specs.Table.{return_report}
@@ -82,6 +82,11 @@ not_both_text : (told : Option (List ℕ)) (text : List ℕ) (n : ℕ) → Holds
 not_both_text None text n h is out = out
 not_both_text (Some bytes) text n h is out = out n (subst (λ t. IsReturn t n) h is)
 
+is_refusal : (text : List ℕ) (s : Status) (report : List ℕ) → IsRefusalOfText text s report
+    → s ≡ status.Refused
+is_refusal text s report (inl fault) = fault.3.0
+is_refusal text s report (inr lexed) = lexed.2.0
+
 text_kind : (file : List ℕ) (held : List ℕ
     → Option (List ℕ)) (rose : Type 0) (reading : Reading) (s : Status) (report : List ℕ)
     → IsRead (held file) rose most_source_bytes reading → IsTextAnswer reading s report
@@ -91,7 +96,7 @@ text_kind file held rose TooLarge s report h a = refused a.0 (large_is_out_of_fo
 text_kind file held rose (Bytes text) s report h (inl run) =
     ran (run_tells _ [] s report run.2) (not_both_text (held file) text run.0 h.0 run.1)
 text_kind file held rose (Bytes text) s report h (inr out) =
-    refused out.1.0 (out_of_form (held file) text h.0 out.0)
+    refused (is_refusal text s report out.1) (out_of_form (held file) text h.0 out.0)
 
 -- images --------------------------------------------------------------------------------------
 

@@ -22,7 +22,10 @@ use Rattle.trips_run.specs.Source.{IsReturn, IsOutOfForm, return_block}
 use Rattle.trips_run.specs.Report.{ending_of, run_report, usage_text}
 use Rattle.trips_run.specs.Refusal.{form_text}
 use Rattle.trips_run.specs.Answer.{block_budget, most_source_bytes, most_image_bytes, status_of}
-use Rattle.trips_run.specs.Answer.{IsFixed, IsRunBy, IsRunOfText, IsTextAnswer}
+use Rattle.c_lex.specs.Lexes.{Tokens}
+use Rattle.c_lex.specs.Answers.{Lexed}
+use Rattle.trips_run.specs.Answer.{most_tokens, IsFixed, IsRunBy, IsRefusalOfText, IsRunOfText}
+use Rattle.trips_run.specs.Answer.{IsTextAnswer}
 use Rattle.trips_run.specs.Answer.{IsImageAnswer, IsAnswer}
 use Rattle.trips_run.proofs.ReturnGood.{return_fits, return_good}
 
@@ -109,11 +112,19 @@ text_told text n (Err e) is run = tt
 text_told text n (Ok a) is run = inl (n, is, run)
 
 -- the refusal of a text that is not of the form
-pub form_told : {E : Type 0} (text : List ℕ) (r : Result Answer E) → IsOutOfForm text
-    → IfOk r (λ a. IsFixed status.Refused form_text a.status a.report.items)
+pub refusal_told : {E : Type 0} (text : List ℕ) (r : Result Answer E) → IsOutOfForm text
+    → IfOk r (λ a. IsRefusalOfText text a.status a.report.items)
     → IfOk r (λ a. IsRunOfText text a.status a.report.items)
-form_told text (Err e) out f = tt
-form_told text (Ok a) out f = inr (out, f)
+refusal_told text (Err e) out f = tt
+refusal_told text (Ok a) out f = inr (out, f)
+
+-- the refusal of a text that has tokens, and is not of the form
+pub lexed_told : {E : Type 0} (text : List ℕ) (tokens : Tokens) (r : Result Answer E)
+    → Lexed most_tokens text tokens
+    → IfOk r (λ a. IsFixed status.Refused form_text a.status a.report.items)
+    → IfOk r (λ a. IsRefusalOfText text a.status a.report.items)
+lexed_told text tokens (Err e) has f = tt
+lexed_told text tokens (Ok a) has f = inr (tokens, has, f)
 
 -- the answer for words that are no request
 pub usage_told : {E : Type 0} (request : Option Request) (held : List ℕ → Option (List ℕ))

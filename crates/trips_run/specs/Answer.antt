@@ -1,11 +1,15 @@
 -- What is answered to a request: the status and the report, a row for each command.
-use Rattle.std.specs.Prelude.{◌≡◌, ℕ, List, [], ◌∷◌, Option, None, Some}
+use Rattle.std.specs.Prelude.{◌≡◌, ◌≢◌, ℕ, List, [], ◌∷◌, Option, None, Some}
 use Rattle.std.specs.Prelude.{◌⊎◌, All}
 use Rattle.trips_isa.specs.declared.block.Block.{Block}
 use Rattle.trips_isa.specs.declared.block.Image.{Image}
 use Rattle.trips_isa.specs.declared.run.Ending.{Ending}
 use Rattle.trips_isa.specs.declared.run.Ending.TheVariants as ending
 use Rattle.trips_isa.specs.Machine.{runs, start}
+use Rattle.c_lex.specs.declared.fault.LexFault.{LexFault}
+use Rattle.c_lex.specs.declared.fault.LexFault.TheVariants as lexical
+use Rattle.c_lex.specs.Lexes.{Tokens}
+use Rattle.c_lex.specs.Answers.{Lexed, Fails}
 use Rattle.block_image.specs.declared.fault.ImageFault.{ImageFault}
 use Rattle.block_image.specs.Spelling.{ImageBytes}
 use Rattle.block_image.specs.FirstFault.{FirstFault}
@@ -16,7 +20,8 @@ use Rattle.trips_run.specs.Request.{Request, Run, RunImage}
 use Rattle.trips_run.specs.Read.{IsRead}
 use Rattle.trips_run.specs.Source.{IsReturn, IsOutOfForm, return_block}
 use Rattle.trips_run.specs.Report.{ending_of, run_report, usage_text, read_fault_text}
-use Rattle.trips_run.specs.Refusal.{form_text, too_large_text, image_refusal, check_refusal}
+use Rattle.trips_run.specs.Refusal.{form_text, too_large_text, lex_refusal}
+use Rattle.trips_run.specs.Refusal.{image_refusal, check_refusal}
 use Rattle.trips_run.specs.declared.reading.Reading.{Reading}
 use Rattle.trips_run.specs.declared.reading.Reading.TheVariants.{Fault, TooLarge, Bytes}
 use Rattle.trips_run.specs.declared.status.Status.{Status}
@@ -29,6 +34,10 @@ block_budget = 1000000
 -- how many bytes a file of C may have
 unfoldable pub most_source_bytes : ℕ
 most_source_bytes = 262144
+
+-- how many tokens a text of C may have
+abbrev pub most_tokens : ℕ
+most_tokens = 8192
 
 -- how many bytes an image may have
 unfoldable pub most_image_bytes : ℕ
@@ -52,16 +61,24 @@ IsRunBy blocks bytes input budget s report = let run = runs blocks (start bytes 
 
 -- `run` on a text of C ------------------------------------------------------------------------
 
+-- the refusal of a text that has no tokens, or of one that has some
+abbrev pub IsRefusalOfText : List ℕ → Status → List ℕ → Type 0
+IsRefusalOfText text s report =
+    ((fault : LexFault) × (fault ≢ lexical.Memory) × Fails most_tokens text fault
+    × IsFixed status.Refused (lex_refusal fault) s report)
+    ⊎ ((tokens : Tokens) × Lexed most_tokens text tokens
+    × IsFixed status.Refused form_text s report)
+
 -- the run of the text's image, or the refusal of a text that is not of the form
 abbrev pub IsRunOfText : List ℕ → Status → List ℕ → Type 0
 IsRunOfText text s report =
     ((n : ℕ) × IsReturn text n × IsRunBy (return_block n ∷ []) [] [] block_budget s report)
-    ⊎ (IsOutOfForm text × IsFixed status.Refused form_text s report)
+    ⊎ (IsOutOfForm text × IsRefusalOfText text s report)
 
 -- the same of what reading the file came to
 abbrev pub IsTextAnswer : Reading → Status → List ℕ → Type 0
 IsTextAnswer Fault s report = IsFixed status.ReadFault read_fault_text s report
-IsTextAnswer TooLarge s report = IsFixed status.Refused form_text s report
+IsTextAnswer TooLarge s report = IsFixed status.Refused too_large_text s report
 IsTextAnswer (Bytes text) s report = IsRunOfText text s report
 
 -- `run` on an image ---------------------------------------------------------------------------

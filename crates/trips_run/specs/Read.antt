@@ -10,3 +10,9 @@ abbrev pub IsRead : Option (List ℕ) → Type 0 → ℕ → Reading → Type 0
 IsRead held rose limit Fault = rose
 IsRead held rose limit TooLarge = IfSome held (λ bytes. limit < length bytes)
 IsRead held rose limit (Bytes bytes) = Holds held bytes × (length bytes ≤ limit)
+
+-- what was read is within the limit
+abbrev pub IsWithin : ℕ → Reading → Type 0
+IsWithin limit Fault = Unit {0}
+IsWithin limit TooLarge = Unit {0}
+IsWithin limit (Bytes bytes) = length bytes ≤ limit

@@ -1,6 +1,8 @@
 -- The texts of refusals.
 use Rattle.std.specs.Prelude.{ℕ, List, [], ◌++◌, codes, decimal}
 use Rattle.text_pieces.specs.Spots.{spot_text}
+use Rattle.c_lex.specs.declared.fault.LexFault.{LexFault}
+use Rattle.c_lex.specs.declared.fault.LexFault.TheVariants as lexical
 use Rattle.block_image.specs.declared.fault.ImageFault.{ImageFault}
 use Rattle.block_image.specs.declared.fault.ImageFault.TheVariants as image
 use Rattle.block_check.specs.declared.fault.CheckFault.{CheckFault}
@@ -11,6 +13,19 @@ form_text = codes "refused form 1 FormNotBuilt\n"
 
 unfoldable pub too_large_text : List ℕ
 too_large_text = codes "refused file 2 TooLarge\n"
+
+-- a fault's name, and its line
+abbrev pub at_line : List ℕ → ℕ → List ℕ
+at_line name line = name ++ (codes " line " ++ (decimal line ++ codes "\n"))
+
+-- of a text that has no tokens; want of memory is no refusal
+abbrev pub lex_refusal : LexFault → List ℕ
+lex_refusal (lexical.BadByte line) = at_line (codes "refused lex 1 BadByte") line
+lex_refusal (lexical.BadLiteral line) = at_line (codes "refused lex 2 BadLiteral") line
+lex_refusal (lexical.Unclosed line) = at_line (codes "refused lex 3 Unclosed") line
+lex_refusal (lexical.TooManyTokens line) = at_line (codes "refused lex 4 TooManyTokens") line
+lex_refusal (lexical.Directive line) = at_line (codes "refused lex 5 Directive") line
+lex_refusal lexical.Memory = []
 
 -- of a file that is no image: the fault, and the place of its first byte where it has one. Want of
 -- memory is no refusal.

@@ -30,3 +30,13 @@ pub fn unread(alloc: Global) -> Result<Answer, AllocError>
 {
     fixed(alloc, Status::ReadFault, b"read fault\n")
 }
+
+/// A refusal with this text.
+pub fn refused(report: Vec<u8>) -> Answer
+    ensures { IsFixed Status.Refused report.items result.status result.report.items }
+{
+    Answer {
+        status: Status::Refused,
+        report,
+    }
+}

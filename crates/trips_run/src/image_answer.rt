@@ -1,8 +1,8 @@
 ghost use Rattle.std.specs.Prelude.{◌≡◌, IfOk};
 ghost use Rattle.trips_isa.specs.Images.{FitsImage};
-ghost use Rattle.trips_run.specs.Answer.{IsFixed, IsRunOfImage, IsRunOfBytes, IsImageAnswer};
+ghost use Rattle.trips_run.specs.Answer.{IsRunOfImage, IsRunOfBytes, IsImageAnswer};
 
-use crate::answer::{Answer, fixed, unread};
+use crate::answer::{Answer, fixed, refused, unread};
 use crate::reading::Reading;
 use crate::refusals::{check_text, image_text};
 use crate::running::run_image;
@@ -11,16 +11,6 @@ use block_check::{CheckedImage, ImageRefusal};
 use block_image::{ImageFault, decode};
 use std::alloc::{AllocError, Global};
 use trips_isa::Image;
-
-// A refusal with this text.
-fn refused(report: Vec<u8>) -> Answer
-    ensures { IsFixed Status.Refused report.items result.status result.report.items }
-{
-    Answer {
-        status: Status::Refused,
-        report,
-    }
-}
 
 // Runs the image where its blocks are good.
 fn checked_answer(alloc: Global, image: Image) -> Result<Answer, AllocError>

@@ -1,6 +1,6 @@
 ghost use Rattle.std.specs.Prelude.{◌≡◌, ◌≤◌, IfOk};
 ghost use Rattle.trips_outside.specs.Outside.{Rose};
-ghost use Rattle.trips_run.specs.Read.{IsRead};
+ghost use Rattle.trips_run.specs.Read.{IsRead, IsWithin};
 
 use base::Items;
 use std::alloc::{AllocError, Global};
@@ -23,6 +23,7 @@ pub fn read<F: Files>(
 ) -> Result<Reading, AllocError>
     ensures ok { IfOk result (IsRead (F.held files.old name.now)
         (Rose (F.faults files.old) (F.faults files.new)) limit) }
+    ensures within { IfOk result (IsWithin limit) }
     ensures kept { F.held files.new ≡ F.held files.old }
     ensures later { F.faults files.old ≤ F.faults files.new }
 {

@@ -1,12 +1,40 @@
 ghost use Rattle.std.specs.Prelude.{◌≡◌, ◌≢◌, ◌++◌, OnOk, IfOk, codes, decimal};
 ghost use Rattle.text_pieces.specs.Spots.{spot_text};
-ghost use Rattle.trips_run.specs.Refusal.{image_refusal, fault_text, check_refusal};
+ghost use Rattle.trips_run.specs.Refusal.{at_line, lex_refusal, image_refusal, fault_text};
+ghost use Rattle.trips_run.specs.Refusal.{check_refusal};
 
 use block_check::CheckFault;
 use block_image::ImageFault;
+use c_lex::LexFault;
 use std::alloc::{AllocError, Global};
 use text_pieces::{put_number, put_spot};
 use trips_isa::Spot;
+
+// A fault's name and its line.
+fn on_line(alloc: Global, name: &[u8], line: u32) -> Result<Vec<u8>, AllocError>
+    ensures { IfOk result (λ text. text.items ≡ at_line name.now line) }
+{
+    let mut text = Vec::from_slice(alloc, name)?;
+    text.extend_from_slice(b" line ")?;
+    put_number(&mut text, line as u64)?;
+    text.push(b'\n')?;
+    Ok(text)
+}
+
+/// The refusal of a text that has no tokens.
+pub fn lex_text(alloc: Global, fault: LexFault) -> Result<Vec<u8>, AllocError>
+    requires { fault ≢ LexFault.Memory }
+    ensures { IfOk result (λ text. text.items ≡ lex_refusal fault) }
+{
+    match fault {
+        LexFault::BadByte(line) => on_line(alloc, b"refused lex 1 BadByte", line),
+        LexFault::BadLiteral(line) => on_line(alloc, b"refused lex 2 BadLiteral", line),
+        LexFault::Unclosed(line) => on_line(alloc, b"refused lex 3 Unclosed", line),
+        LexFault::TooManyTokens(line) => on_line(alloc, b"refused lex 4 TooManyTokens", line),
+        LexFault::Directive(line) => on_line(alloc, b"refused lex 5 Directive", line),
+        LexFault::Memory => unreachable!(),
+    }
+}
 
 // A fault's name and the place of its first byte.
 fn at_place(alloc: Global, name: &[u8], at: u64) -> Result<Vec<u8>, AllocError>

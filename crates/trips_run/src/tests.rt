@@ -74,6 +74,23 @@ fn reports_the_number_whatever_the_pieces(rt: HostRuntime) -> Result<(), Fail> {
             NOT_BUILT,
         ),
         ("", Status::Refused, NOT_BUILT),
+        ("@", Status::Refused, "refused lex 1 BadByte line 1\n"),
+        (
+            "int main(void) {\n return 18446744073709551616; }",
+            Status::Refused,
+            "refused lex 2 BadLiteral line 2\n",
+        ),
+        (
+            "int main(void) { return 0xE+1; }",
+            Status::Refused,
+            "refused lex 2 BadLiteral line 1\n",
+        ),
+        ("/*", Status::Refused, "refused lex 3 Unclosed line 1\n"),
+        (
+            "#define A 1\n",
+            Status::Refused,
+            "refused lex 5 Directive line 1\n",
+        ),
     ];
     for (text, status, report) in rows {
         for piece in [1usize, 4, 64] {
@@ -147,19 +164,25 @@ fn faults_are_told(rt: HostRuntime) -> Result<(), Fail> {
     Ok(())
 }
 
-// A file above the limit is refused, and one at the limit is judged by its text.
+// A file above the limit is refused, and one at the limit is judged by its text, whose tokens may be
+// too many.
 #[test]
 fn large_files_are_refused(rt: HostRuntime) -> Result<(), Fail> {
     let alloc = rt.alloc();
-    for size in [262_144usize, 262_145] {
+    let rows = [
+        (262_145usize, b' ', "refused file 2 TooLarge\n"),
+        (262_144, b' ', NOT_BUILT),
+        (8_193, b';', "refused lex 4 TooManyTokens line 1\n"),
+    ];
+    for (size, byte, report) in rows {
         let mut text = Vec::new(alloc);
-        text.resize(size, b' ')?;
+        text.resize(size, byte)?;
         let mut named = Vec::new(alloc);
         named.push((String::from_str(alloc, "a.c")?, text))?;
         let mut files = HonestFiles::make(named);
         let (status, written) = run_in(alloc, &mut files, 64, Vec::new(alloc))?;
         assert_eq!(rt; status, Status::Refused, "{size} bytes");
-        assert_eq!(rt; written.as_slice(), NOT_BUILT.as_bytes(), "{size} bytes");
+        assert_eq!(rt; written.as_slice(), report.as_bytes(), "{size} bytes");
     }
     Ok(())
 }
