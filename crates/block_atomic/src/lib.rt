@@ -6,6 +6,7 @@
 #![tactic(auto)]
 
 mod arch;
+mod arch_state;
 mod effects;
 mod exits;
 mod firing;

@@ -14,7 +14,7 @@ use Rattle.block_atomic.specs.Bounds.{StoreFits}
 use Rattle.block_atomic.specs.Slots.{slots_give, left_by, IsUsedTo}
 use Rattle.block_atomic.proofs.Storing.{stores_fit}
 use Rattle.block_atomic.proofs.Stepping.{step_is}
-use Rattle.block_atomic.proofs.arch.Arch.step_with.Goals as goal
+use Rattle.block_atomic.proofs.arch_state.ArchState.step_with.Goals as goal
 
 pub change-requires-clause-fits : goal.change-requires-clause-fits
 change-requires-clause-fits c n h =

@@ -1,0 +1,255 @@
+ghost use Rattle.std.specs.Prelude.{◌≡◌, ◌<◌, ◌≤◌, ◌+◌, ℕ, All, IfOk, length, slice_get};
+ghost use Rattle.std.specs.Prelude.{slice_index, slice_index_or, vec_len, None, ◌++◌, ◌∷◌, []};
+ghost use Rattle.trips_isa.specs.Fits.{FitsBlock};
+ghost use Rattle.trips_isa.specs.Stores.{data_size, store_all};
+ghost use Rattle.trips_isa.specs.Outcomes.{Outcome, all_stores, writes_from};
+ghost use Rattle.trips_isa.specs.Machine.{memory_of, start, step_of, system_call, then_system, write_all};
+ghost use Rattle.block_check.specs.IsChecked.{IsChecked};
+ghost use Rattle.block_check.specs.Images.{IsCheckedImage};
+ghost use Rattle.block_atomic.specs.Bounds.{StoreFits};
+
+use crate::effects::{make_stores, write_registers};
+use crate::exits::{exit, is_system, leaving, successor};
+use crate::memory::data_memory;
+use crate::rounds::{clear_table, settle};
+use crate::used::used_slots;
+use base::Memory;
+use block_check::CheckedImage;
+use std::alloc::{AllocError, Global};
+use std::marker::Model;
+use trips_isa::{Block, Stepped, Stored, Token, Traced};
+
+/// The state between two blocks: 128 registers, 4,194,304 bytes of data memory, the next block,
+/// the rest of the input, the output and the trace.
+///
+/// Its room for output and trace is taken when it is made, so that no step takes memory.
+#[derive(Drop)]
+pub struct ArchState {
+    registers: [u64; 128],
+    memory: Vec<u8>,
+    next: u32,
+    input: Vec<u8>,
+    taken: usize,
+    output: Vec<u8>,
+    trace: Vec<Traced>,
+    budget: u32,
+}
+
+impl Model for ArchState {
+    ghost use Rattle.std.specs.Prelude.{◌≡◌, ◌≤◌, drop, vec_len, vec_capacity};
+    ghost use Rattle.trips_isa.specs.Stores.{data_size};
+    ghost use Rattle.trips_isa.specs.Machine.{Machine};
+
+    ghost Value = { Machine };
+
+    ghost view = { λ a. record {
+      state = record {
+        registers = a.registers;
+        memory = a.memory.items;
+        next = a.next;
+        rest = drop a.taken a.input.items;
+        output = a.output.items;
+        trace = a.trace.items;
+      };
+      budget = a.budget;
+    } };
+
+    ghost invariant = { λ a. (vec_len a.memory ≡ data_size) × (a.taken ≤ vec_len a.input) × (vec_len a.output ≤ vec_len a.trace) × (vec_len a.trace ≤ a.budget)
+        × (a.budget ≤ vec_capacity a.output) × (a.budget ≤ vec_capacity a.trace) };
+}
+
+// Data memory at the start of an image's run.
+fn image_memory(alloc: Global, image: &CheckedImage) -> Result<Vec<u8>, AllocError>
+    ensures items { IfOk result (λ memory. memory.items ≡ memory_of image.now.bytes) }
+    ensures size { IfOk result (λ memory. vec_len memory ≡ data_size) }
+{
+    let _count = image.count();
+    data_memory(alloc, image.bytes())
+}
+
+impl ArchState {
+    /// A machine at the start of the image's run, with room for `budget` steps. Want of memory is
+    /// the only error.
+    pub fn make(
+        alloc: Global,
+        image: &CheckedImage,
+        input: Vec<u8>,
+        budget: u32,
+    ) -> Result<ArchState, Memory>
+        ensures state { IfOk result (λ arch. arch.state ≡ start image.now.bytes input.items) }
+        ensures budget { IfOk result (λ arch. arch.budget ≡ budget) }
+    {
+        let memory = image_memory(alloc, image)?;
+        let output = Vec::with_capacity(alloc, budget as usize)?;
+        let trace = Vec::with_capacity(alloc, budget as usize)?;
+        Ok(ArchState {
+            registers: [0; 128],
+            memory,
+            next: 0,
+            input,
+            taken: 0,
+            output,
+            trace,
+            budget,
+        })
+    }
+
+    /// A step, with room for the tokens at the places, the stores and the table.
+    pub fn step_with(
+        &mut self,
+        image: &CheckedImage,
+        places: &mut [Option<Token>],
+        stores: &mut [Option<Stored>],
+        table: &mut [Option<Token>],
+    ) -> Stepped
+        requires next { self.old.state.next < length image.now.blocks }
+        requires room { length self.old.state.trace < self.old.budget }
+        requires places { length places.old ≡ 416 }
+        requires stores { length stores.old ≡ 32 }
+        requires table { length table.old ≡ 128 }
+        ensures step { (self.new.state, result) ≡ step_of image.now.blocks self.old.state }
+        ensures next { self.new.state.next < length image.now.blocks }
+        ensures trace { length self.new.state.trace ≡ length self.old.state.trace + 1 }
+        ensures budget { self.new.budget ≡ self.old.budget }
+    {
+        let _count = image.count();
+        let block = image.at(self.next).block();
+        let insts = block.insts.as_slice();
+        let used = used_slots(insts);
+        clear_table(table);
+        settle(
+            block,
+            used,
+            &self.registers,
+            &self.memory,
+            places,
+            stores,
+            table,
+        );
+        let branch = leaving(insts, used, table);
+        let next = successor(image, self.next, branch);
+        self.change(block.writes.as_slice(), places, stores, exit(branch), next);
+        self.then_system(is_system(branch))
+    }
+
+    // Makes the block's changes, all at once.
+    fn change(
+        &mut self,
+        writes: &[u8],
+        places: &[Option<Token>],
+        stores: &[Option<Stored>],
+        exit: u8,
+        successor: u32,
+    )
+        requires writes { All (λ r. r < 128) writes.now }
+        requires count { length writes.now ≤ 32 }
+        requires places { length places.now ≡ 416 }
+        requires stores { length stores.now ≡ 32 }
+        requires fits { (n : ℕ) → n < 32 → StoreFits (slice_index_or stores.now n None) }
+        requires room { length self.old.state.trace < self.old.budget }
+        ensures registers { self.new.state.registers ≡ write_all self.old.state.registers writes.now
+            (writes_from (λ q. slice_index_or places.now q None) 0 writes.now) }
+        ensures memory { self.new.state.memory ≡ store_all self.old.state.memory (all_stores (λ n. slice_index_or stores.now n None)) }
+        ensures trace { self.new.state.trace ≡ self.old.state.trace ++ (record { block = self.old.state.next; exit = exit }) ∷ [] }
+        ensures next { self.new.state.next ≡ successor }
+        ensures rest { self.new.state.rest ≡ self.old.state.rest }
+        ensures output { self.new.state.output ≡ self.old.state.output }
+        ensures room { length self.new.state.output < length self.new.state.trace }
+        ensures budget { self.new.budget ≡ self.old.budget }
+    {
+        write_registers(&mut self.registers, writes, places);
+        make_stores(&mut self.memory, stores);
+        self.trace.push_reserved(Traced {
+            block: self.next,
+            exit,
+        });
+        self.next = successor;
+    }
+
+    // The system call, where one follows.
+    fn then_system(&mut self, system: bool) -> Stepped
+        requires { length self.old.state.output < length self.old.state.trace }
+        ensures answer { (self.new.state, result) ≡ then_system system self.old.state }
+        ensures next { self.new.state.next ≡ self.old.state.next }
+        ensures trace { self.new.state.trace ≡ self.old.state.trace }
+        ensures budget { self.new.budget ≡ self.old.budget }
+    {
+        if system {
+            self.system_call()
+        } else {
+            Stepped::Went
+        }
+    }
+
+    // Does what register 0 says.
+    fn system_call(&mut self) -> Stepped
+        requires { length self.old.state.output < length self.old.state.trace }
+        ensures answer { (self.new.state, result)
+            ≡ system_call (slice_index self.old.state.registers 0) self.old.state }
+        ensures next { self.new.state.next ≡ self.old.state.next }
+        ensures trace { self.new.state.trace ≡ self.old.state.trace }
+        ensures budget { self.new.budget ≡ self.old.budget }
+    {
+        match self.registers[0] {
+            1 => {
+                self.output.push_reserved((self.registers[3] % 256) as u8);
+                Stepped::Went
+            }
+            2 => {
+                if self.taken < self.input.len() {
+                    self.registers[3] = self.input[self.taken] as u64;
+                    self.taken += 1;
+                } else {
+                    self.registers[3] = u64::MAX;
+                }
+                Stepped::Went
+            }
+            3 => Stepped::Ended,
+            4 => Stepped::StackFull,
+            _ => Stepped::Went,
+        }
+    }
+
+    /// A register's word.
+    pub fn register(&self, r: u8) -> u64
+        requires { r < 128 }
+        ensures { result ≡ slice_index self.now.state.registers r }
+    {
+        self.registers[r as usize]
+    }
+
+    /// Data memory.
+    pub fn memory(&self) -> &[u8]
+        ensures { result.now ≡ self.now.state.memory }
+    {
+        &self.memory
+    }
+
+    /// The number of the next block.
+    pub fn next(&self) -> u32
+        ensures { result ≡ self.now.state.next }
+    {
+        self.next
+    }
+
+    /// The input that was not read yet.
+    pub fn rest(&self) -> &[u8]
+        ensures { result.now ≡ self.now.state.rest }
+    {
+        &self.input[self.taken..]
+    }
+
+    /// The bytes that were put out.
+    pub fn output(&self) -> &[u8]
+        ensures { result.now ≡ self.now.state.output }
+    {
+        &self.output
+    }
+
+    /// The blocks that were executed, in order, each with its exit.
+    pub fn trace(&self) -> &[Traced]
+        ensures { result.now ≡ self.now.state.trace }
+    {
+        &self.trace
+    }
+}
