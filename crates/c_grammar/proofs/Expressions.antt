@@ -15,7 +15,7 @@ use Rattle.c_grammar.specs.Expressions.{expr, args, arg_list, Spells, number, na
 use Rattle.c_grammar.specs.Numbers.{is_mark}
 use Rattle.c_grammar.specs.Parsing.{Out, and_then, syntax, too_deep, by_option, tail, line_of, first, is_next, expect, name_of, listed}
 use Rattle.c_grammar.specs.ModelTypes.{begins_type, type_of}
-use Rattle.c_grammar.specs.ModelExpressions.{Nested, enter, is_name, number_by, number_of, prefix_of, assigner_for, is_unary, seen, loop, suffixes, is_cast, group_of, element_of, no_args_of, args_of, call_of, after_name, named_of, primary_of, postfix_of, operand_of, prefixed_of, unary_of, cast_in, cast_of, binary_of, chosen_of, choice_from, conditional_of, assigned_of, assign_from, assignment_of, expression_of}
+use Rattle.c_grammar.specs.ModelExpressions.{Nested, enter, is_name, number_by, number_of, prefix_of, assigner_for, is_unary, seen, loop, suffixes, is_cast, group_of, element_of, no_args_of, arg_list_of, args_of, call_of, after_name, named_of, primary_of, postfix_of, operand_of, prefixed_of, unary_of, cast_in, cast_of, binary_of, chosen_of, choice_from, conditional_of, assigned_of, assign_from, assignment_of, expression_of}
 use Rattle.c_grammar.specs.ModelStatements.{begins_expression}
 use Rattle.c_grammar.proofs.Numbers.{mark_self}
 use Rattle.c_grammar.proofs.Agree.{split_if, if_true, if_false, Way, stay, one, Grows, place, Tied, end, at_cut, alike, head_step, tied_first, Brief, fine, short_then, short_if, Lands, good, past, deep, lands_by}
@@ -102,7 +102,8 @@ module _ (m d : ℕ) (nested : Nested) (known : Deeper nested m d) where
   abbrev ListIs : Rel (List Expr)
   ListIs may es f t = Spells may (arg_list es) (suc d) f t
 
-  list_piece : nested.allowed ≡ true → Piece same_tree ListIs any always always (λ t. zero_token ∷ punct 0 mark.RightParen ∷ t) m (λ ts. listed mark.RightParen false nested.assignment (suc (length ts)) ts)
+  list_piece : nested.allowed ≡ true → Piece same_tree ListIs any always always (λ t. zero_token ∷ punct 0 mark.RightParen ∷ t) m (arg_list_of nested)
+  unfolding arg_list_of
   list_piece h = listed_piece (Level 15 (suc d)) ListIs (ends_at 15) zero_first m nested.assignment (known.assignment_in h) mark.RightParen false to from refl (λ x l t. (omega arith, omega arith)) (λ may xs f t r e. absurd (false≢true e))
     where
       to_tail : (may : May) (e : Expr) (es : List Expr) (f u t : Tokens) → Spells may (expr 15 e) (suc d) f u → Tail ListIs mark.RightParen false e may es u t → Spells may (arg_list es) (suc d) f t

@@ -20,7 +20,7 @@ use Rattle.c_grammar.specs.Numbers.{is_mark, is_key}
 use Rattle.c_grammar.specs.Parsing.{Out, and_then, syntax, first, is_next, is_word, expect, expect_word, name_of, listed, listed_on}
 use Rattle.c_grammar.specs.ModelTypes.{is_type, begins_type, type_of}
 use Rattle.c_grammar.specs.ModelExpressions.{Nested, is_name, conditional_of}
-use Rattle.c_grammar.specs.ModelUnits.{label_of, or_sized, no_size_of, some_size_of, size_of, values_of, filled_of, after_size, array_of, valued_of, shape_of, global_of, globals_of, some_brackets_of, brackets_of, param_of, no_params_of, void_params_of, params_of}
+use Rattle.c_grammar.specs.ModelUnits.{label_of, or_sized, no_size_of, some_size_of, size_of, values_of, filled_of, after_size, array_of, valued_of, shape_of, global_of, more_globals_of, globals_of, some_brackets_of, brackets_of, param_of, no_params_of, void_params_of, param_list_of, params_of}
 use Rattle.c_grammar.proofs.Agree.{split_if, if_true, if_false, stay, Tied, tied_first, Lands, good, lands_by}
 use Rattle.c_grammar.proofs.Pieces.{Rel, Sound, read, stuck, Complete, Least, Then, always, any, Piece, seq, done, Done, iff, turn, ends_by, ends_with, same_tree, Either, this, that, either, either_of, Is, mark_piece, IsWord, word_piece, Named, name_piece, name_first}
 use Rattle.c_grammar.proofs.Lists.{Tail, ends, trails, goes, listed_piece, tail_piece, tail_meets}
@@ -253,20 +253,21 @@ module _ (m : ℕ) (nested : Nested) (known : Deeper nested m 0) where
   globals_in _ k may _ _ t (next_global {l = l} {j = j} {k = i} {w = w} {s = h} {gs = gs} {m = v} {m' = v'} x y) e =
       (global l i w h, punct j mark.Comma ∷ v', ((l, w), v, refl, (h, punct j mark.Comma ∷ v', x, (ap (λ (i : Kind). global l i w h) (sym e), refl))), goes (subst (λ (i : Kind). GlobalsAre i may gs v' t) e y))
 
+  behind : (k : Kind) (x : Top) → Piece same_tree (Tail (GlobalsAre k) mark.Semicolon false x) any always always (λ t. punct 0 mark.Semicolon ∷ t) m (more_globals_of nested k x)
+  unfolding more_globals_of
+  behind k x =
+      tail_piece (GlobalIs k) (GlobalsAre k) global_ends name_first m (global_of nested k) (global_piece k) mark.Semicolon false (globals_to k) (λ may gs f t x. globals_in k k may gs f t x refl) refl (λ x l t. (omega arith, omega arith))
+      (λ may xs f t r e. absurd (false≢true e)) x
+
   abbrev pub GlobalsFrom : Kind → ℕ → List ℕ → Rel (List Top)
   GlobalsFrom k l w = Then ShapeIs (λ s. Tail (GlobalsAre k) mark.Semicolon false (global l k w s))
 
   pub globals_piece : (k : Kind) (l : ℕ) (w : List ℕ) → Piece same_tree (GlobalsFrom k l w) any always always (λ t. punct 0 mark.Semicolon ∷ t) m (globals_of nested k l w)
   unfolding globals_of
   globals_piece k l w =
-      seq (λ s ts. listed_on mark.Semicolon false (global_of nested k) (length ts) (global l k w s) ts) shape_piece (λ s. behind (global l k w s)) (λ t. omega arith)
+      seq (λ s ts. more_globals_of nested k (global l k w s) ts) shape_piece (λ s. behind k (global l k w s)) (λ t. omega arith)
       (λ may s gs u t r h. tail_meets (GlobalIs k) (GlobalsAre k) global_ends name_first m (global_of nested k) (global_piece k) mark.Semicolon false (globals_to k) (λ may gs f t x. globals_in k k may gs f t x refl) refl (λ x l t. (omega arith, omega arith))
         (λ may xs f t r e. absurd (false≢true e)) may (global l k w s) gs u t r)
-    where
-      behind : (x : Top) → Piece same_tree (Tail (GlobalsAre k) mark.Semicolon false x) any always always (λ t. punct 0 mark.Semicolon ∷ t) m (λ ts. listed_on mark.Semicolon false (global_of nested k) (length ts) x ts)
-      behind x =
-          tail_piece (GlobalIs k) (GlobalsAre k) global_ends name_first m (global_of nested k) (global_piece k) mark.Semicolon false (globals_to k) (λ may gs f t x. globals_in k k may gs f t x refl) refl (λ x l t. (omega arith, omega arith))
-          (λ may xs f t r e. absurd (false≢true e)) x
 
   -- ---- parameters
 
@@ -368,7 +369,8 @@ module _ (m : ℕ) (nested : Nested) (known : Deeper nested m 0) where
   list_starts may _ f t (last_param {p = p} x) = param_starts may p f _ x
   list_starts may _ f t (next_param {p = p} x y) = param_starts may p f _ x
 
-  list_piece : Piece same_tree ParamList any always always (λ t. type_first (punct 0 mark.RightParen ∷ t)) m (λ ts. listed mark.RightParen false (param_of nested) (suc (length ts)) ts)
+  list_piece : Piece same_tree ParamList any always always (λ t. type_first (punct 0 mark.RightParen ∷ t)) m (param_list_of nested)
+  unfolding param_list_of
   list_piece =
       listed_piece ParamIs ParamList param_ends type_first m (param_of nested) param_piece mark.RightParen false to from refl (λ x l t. ((refl, refl, refl), (refl, refl, refl))) (λ may xs f t r e. absurd (false≢true e))
     where

@@ -21,7 +21,7 @@ use Rattle.c_grammar.proofs.Joins.{Level, ends_at, expr_here, JoinsFrom, joins_t
 use Rattle.c_grammar.proofs.Expressions.{Deeper, Among, by, plain, among, unary_piece}
 use Rattle.c_grammar.proofs.Casts.{cast_piece}
 
-level_is : (n : ℕ) → binary_level n ≡ 3 + n
+pub level_is : (n : ℕ) → binary_level n ≡ 3 + n
 level_is zero = refl
 level_is (suc n) = let h = level_is n in omega (arith, h)
 
@@ -32,7 +32,7 @@ comma_joins : Joining 15
 comma_joins = record { many = omega arith; not_choice = λ e. omega (arith, e); not_assign = λ e. omega (arith, e) }
 
 module _ (m d : ℕ) (nested : Nested) (known : Deeper nested m d) where
-  binary_piece : (n : ℕ) → n ≤ 10 → Piece same_tree (Level (binary_level n) d) any always (ends_at (binary_level n)) zero_first m (binary_of nested n)
+  pub binary_piece : (n : ℕ) → n ≤ 10 → Piece same_tree (Level (binary_level n) d) any always (ends_at (binary_level n)) zero_first m (binary_of nested n)
   unfolding binary_of
   binary_piece zero le = cast_piece m d nested known
   binary_piece (suc n) le =

@@ -80,11 +80,13 @@ module _ (nested : Nested) where
   unfoldable pub global_of : Kind → Tokens → Out Top
   global_of k ts = and_then (name_of ts) (λ n ts. and_then (shape_of ts) (λ s ts. Ok (global n.0 k n.1 s, ts)))
 
+  -- behind the first one
+  unfoldable pub more_globals_of : Kind → Top → Tokens → Out (List Top)
+  more_globals_of k x ts = listed_on mark.Semicolon false (global_of k) (length ts) x ts
+
   -- behind the name of the first one
   unfoldable pub globals_of : Kind → ℕ → List ℕ → Tokens → Out (List Top)
-  globals_of k l w ts =
-      and_then (shape_of ts) (λ s ts.
-      listed_on mark.Semicolon false (global_of k) (length ts) (global l k w s) ts)
+  globals_of k l w ts = and_then (shape_of ts) (λ s ts. more_globals_of k (global l k w s) ts)
 
   unfoldable pub some_brackets_of : Tokens → Out ArraySize
   some_brackets_of ts = and_then (expect mark.LeftBracket ts) (λ _ ts. size_of ts)
@@ -104,11 +106,14 @@ module _ (nested : Nested) where
   unfoldable pub void_params_of : Tokens → Out (List Param)
   void_params_of ts = and_then (expect_word key.Void ts) (λ _ ts. no_params_of ts)
 
+  unfoldable pub param_list_of : Tokens → Out (List Param)
+  param_list_of ts = listed mark.RightParen false param_of (suc (length ts)) ts
+
   unfoldable pub params_of : Tokens → Out (List Param)
   params_of ts =
       if is_next mark.RightParen ts then no_params_of ts
       else if is_word key.Void ts then void_params_of ts
-      else listed mark.RightParen false param_of (suc (length ts)) ts
+      else param_list_of ts
 
   module _ (body : Body) where
     unfoldable pub defined_of : Option Kind → ℕ → List ℕ → List Param → Tokens → Out Top
