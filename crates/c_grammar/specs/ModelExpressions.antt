@@ -238,7 +238,12 @@ module _ (nested : Nested) where
 -- what stands inside, where so many more depths may be opened
 unfoldable pub inside : ℕ → Nested
 inside zero = record {
-  allowed = false; unary = too_deep; cast = too_deep; conditional = too_deep; assignment = too_deep; expression = too_deep;
+  allowed = false;
+  unary = too_deep;
+  cast = too_deep;
+  conditional = too_deep;
+  assignment = too_deep;
+  expression = too_deep;
 }
 inside (suc n) = record {
   allowed = true;

@@ -1,5 +1,5 @@
 -- The model of the parser of translation units.
-use Rattle.std.specs.Prelude.{ℕ, zero, suc, Bool, true, false, if◌then◌else◌, List, [], ◌∷◌, length, Option, Some, None, Ok}
+use Rattle.std.specs.Prelude.{ℕ, suc, Bool, true, false, if◌then◌else◌, List, [], ◌∷◌, length, Option, Some, None, Ok}
 use Rattle.c_tree.specs.declared.token.Form.{Form}
 use Rattle.c_tree.specs.declared.token.Form.TheVariants as form
 use Rattle.c_tree.specs.declared.token.Mark.TheVariants as mark
@@ -9,17 +9,15 @@ use Rattle.c_tree.specs.declared.tree.Expr.{Expr}
 use Rattle.c_tree.specs.declared.tree.ArraySize.{ArraySize}
 use Rattle.c_tree.specs.declared.tree.ArraySize.TheVariants as sizes
 use Rattle.c_tree.specs.declared.tree.Stmt.{Stmt}
-use Rattle.c_tree.specs.declared.tree.StmtNode.TheVariants as node
 use Rattle.c_tree.specs.declared.tree.Param.{Param}
 use Rattle.c_tree.specs.declared.tree.Top.{Top}
 use Rattle.c_tree.specs.declared.tree.TopNode.TheVariants as tops
 use Rattle.c_grammar.specs.Tokens.{Tokens}
-use Rattle.c_grammar.specs.Statements as s
 use Rattle.c_grammar.specs.Units.{at, Shape, global, function, Label, parameter}
 use Rattle.c_grammar.specs.Parsing.{Out, and_then, syntax, tail, line_of, first, is_next, is_word, expect, expect_word, name_of, listed, listed_on, to_end}
 use Rattle.c_grammar.specs.ModelTypes.{type_of}
 use Rattle.c_grammar.specs.ModelExpressions.{Nested, inside, is_name, conditional_of}
-use Rattle.c_grammar.specs.ModelStatements.{Below, below_at, compound_of}
+use Rattle.c_grammar.specs.ModelStatements.{below_at, compound_of}
 
 abbrev pub is_include : Form → Bool
 is_include form.Include = true
