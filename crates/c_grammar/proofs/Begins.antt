@@ -1,5 +1,5 @@
 -- Facts on statements: what they begin with, how long they are.
-use Rattle.std.proofs.Common.{◌≡◌, ℕ, zero, suc, ◌+◌, ◌<◌, ◌≤◌, Bool, true, false, cond, ◌||◌, List, [], ◌∷◌, ◌++◌, length, Option, Some, None, refl, sym, ap, ◌∙◌, subst, arith}
+use Rattle.std.proofs.Common.{◌≡◌, ℕ, suc, ◌<◌, ◌≤◌, Bool, true, false, List, [], ◌∷◌, length, Option, Some, None, refl, sym, ap, ◌∙◌, arith}
 use Rattle.std.proofs.lemmas.Bool.{false≢true}
 use Rattle.c_tree.specs.declared.token.Lexeme.{Lexeme}
 use Rattle.c_tree.specs.declared.token.Form.{Form}
@@ -16,20 +16,20 @@ use Rattle.c_tree.specs.declared.tree.UnaryOp.TheVariants as unary
 use Rattle.c_tree.specs.declared.tree.ForInit.TheVariants as inits
 use Rattle.c_tree.specs.declared.tree.Stmt.{Stmt}
 use Rattle.c_tree.specs.declared.tree.StmtNode.TheVariants as node
-use Rattle.c_grammar.specs.Tokens.{Tokens, token, punct, word, named, May}
+use Rattle.c_grammar.specs.Tokens.{Tokens, token, punct, word, May}
 use Rattle.c_grammar.specs.Types.{Types}
 use Rattle.c_grammar.specs.Types as types
 use Rattle.c_grammar.specs.Operators.{Prefix, sign, increase, decrease, prefixed, prefix_mark, operand_level}
 use Rattle.c_grammar.specs.Operators as e
 use Rattle.c_grammar.specs.Expressions.{Spells, expr}
 use Rattle.c_grammar.specs.Expressions as x
-use Rattle.c_grammar.specs.Statements.{at, Phrase, Writes, semicolon, paren, until, shape, stmt, inner, entry, init, entries, locals, absent, given, tested, bare, value, array, last_decl, next_decl, declaration, inner_is, entry_stmt, entry_local, stop, go, compound, empty, plain, if_only, if_else, while, repeat, init_local, init_plain, for, break, continue, return}
+use Rattle.c_grammar.specs.Statements.{at, Phrase, Writes, semicolon, paren, until, shape, stmt, inner, entry, entries, locals, absent, given, tested, bare, value, array, last_decl, next_decl, declaration, inner_is, entry_stmt, entry_local, stop, go, compound, empty, plain, if_only, if_else, while, repeat, init_local, init_plain, for, break, continue, return}
 use Rattle.c_grammar.specs.Numbers.{is_mark, is_key}
 use Rattle.c_grammar.specs.Parsing.{first, is_next, is_word}
 use Rattle.c_grammar.specs.ModelTypes.{is_type, begins_type}
 use Rattle.c_grammar.specs.ModelStatements.{begins_expression, begins_statement}
 use Rattle.c_grammar.proofs.Numbers.{mark_is, key_is}
-use Rattle.c_grammar.proofs.Agree.{apart, is_false, Grows, Frees}
+use Rattle.c_grammar.proofs.Agree.{apart, Grows, Frees}
 use Rattle.c_grammar.proofs.Types.{types_shorter, types_begin}
 use Rattle.c_grammar.proofs.Levels.{zero_token, zero_expr, shortest, level_starts, spells_shorter, starts_no_type}
 
@@ -192,11 +192,17 @@ form_shortest l (form.Key key.If) h =
 form_shortest l (form.Key key.While) h =
     record { rest = λ u. test_first (semi u); grows = λ u. omega arith; writes = λ may d u fr. ((false, at l (node.While zero_expr (void_at 0))), while (tested (shortest 16)) (inner_empty d u (fr _ _ (omega arith)))) }
 form_shortest l (form.Key key.Do) h =
-    record { rest = λ u. semi (word 0 key.While ∷ test_first (semi u)); grows = λ u. omega arith;
-      writes = λ may d u fr. ((false, at l (node.Do (void_at 0) zero_expr)), repeat (inner_empty d (word 0 key.While ∷ test_first (semi u)) (fr _ _ (omega arith))) (tested (shortest 16))) }
+    record {
+      rest = λ u. semi (word 0 key.While ∷ test_first (semi u));
+      grows = λ u. omega arith;
+      writes = λ may d u fr. ((false, at l (node.Do (void_at 0) zero_expr)), repeat (inner_empty d (word 0 key.While ∷ test_first (semi u)) (fr _ _ (omega arith))) (tested (shortest 16)));
+    }
 form_shortest l (form.Key key.For) h =
-    record { rest = λ u. punct 0 mark.LeftParen ∷ semi (semi (punct 0 mark.RightParen ∷ semi u)); grows = λ u. omega arith;
-      writes = λ may d u fr. ((false, at l (node.For inits.Nothing None None (void_at 0))), for (init_plain (absent semicolon)) (absent semicolon) (absent paren) (inner_empty d u (fr _ _ (omega arith)))) }
+    record {
+      rest = λ u. punct 0 mark.LeftParen ∷ semi (semi (punct 0 mark.RightParen ∷ semi u));
+      grows = λ u. omega arith;
+      writes = λ may d u fr. ((false, at l (node.For inits.Nothing None None (void_at 0))), for (init_plain (absent semicolon)) (absent semicolon) (absent paren) (inner_empty d u (fr _ _ (omega arith))));
+    }
 form_shortest l (form.Key key.Break) h = record { rest = semi; grows = λ u. omega arith; writes = λ may d u fr. ((false, at l node.Break), break) }
 form_shortest l (form.Key key.Continue) h = record { rest = semi; grows = λ u. omega arith; writes = λ may d u fr. ((false, at l node.Continue), continue) }
 form_shortest l (form.Key key.Return) h = record { rest = semi; grows = λ u. omega arith; writes = λ may d u fr. ((false, at l (node.Return None)), return (absent semicolon)) }
@@ -207,8 +213,11 @@ form_shortest l (form.Mark mark.Not) h = prefix_shortest l (sign unary.Not)
 form_shortest l (form.Mark mark.PlusPlus) h = prefix_shortest l increase
 form_shortest l (form.Mark mark.MinusMinus) h = prefix_shortest l decrease
 form_shortest l (form.Mark mark.LeftParen) h =
-    record { rest = λ u. zero_token ∷ punct 0 mark.RightParen ∷ semi u; grows = λ u. omega arith;
-      writes = λ may d u fr. ((false, at l (node.Plain (Some (e.at l (exprs.Group zero_expr))))), plain (ups (x.up (x.up (x.group (fr _ _ (omega arith)) (shortest 16)))))) }
+    record {
+      rest = λ u. zero_token ∷ punct 0 mark.RightParen ∷ semi u;
+      grows = λ u. omega arith;
+      writes = λ may d u fr. ((false, at l (node.Plain (Some (e.at l (exprs.Group zero_expr))))), plain (ups (x.up (x.up (x.group (fr _ _ (omega arith)) (shortest 16))))));
+    }
 form_shortest l (form.Mark mark.LeftBrace) h = record { rest = λ u. punct 0 mark.RightBrace ∷ u; grows = λ u. omega arith; writes = λ may d u fr. ((false, at l (node.Compound [])), compound stop) }
 form_shortest l (form.Mark mark.Semicolon) h = record { rest = λ u. u; grows = λ u. omega arith; writes = λ may d u fr. ((false, at l (node.Plain None)), empty) }
 form_shortest l _ h = absurd (false≢true h)

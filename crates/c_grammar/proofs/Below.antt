@@ -1,8 +1,7 @@
 -- Statements and declarations at every depth.
-use Rattle.std.proofs.Common.{◌≡◌, ℕ, zero, suc, ◌+◌, ◌<◌, ◌≤◌, Bool, true, false, cond, leb, List, [], ◌∷◌, length, Option, Some, None, Result, Ok, Err, refl, sym, ap, ◌∙◌, subst, arith}
+use Rattle.std.proofs.Common.{◌≡◌, ℕ, zero, suc, ◌+◌, Bool, true, false, cond, leb, [], ◌∷◌, Some, None, refl, ◌∙◌, arith}
 use Rattle.std.proofs.lemmas.Bool.{false≢true, le-leb}
 use Rattle.c_tree.specs.declared.token.Lexeme.{Lexeme}
-use Rattle.c_tree.specs.declared.token.Form.TheVariants as form
 use Rattle.c_tree.specs.declared.token.Mark.TheVariants as mark
 use Rattle.c_tree.specs.declared.token.Kind.{Kind}
 use Rattle.c_tree.specs.declared.token.Kind.TheVariants as kind
@@ -11,13 +10,13 @@ use Rattle.c_tree.specs.declared.tree.Stmt.{Stmt}
 use Rattle.c_tree.specs.declared.tree.StmtNode.TheVariants as node
 use Rattle.c_grammar.specs.Tokens.{Tokens, punct, May, before}
 use Rattle.c_grammar.specs.Types.{Types, unsigned}
-use Rattle.c_grammar.specs.Statements.{at, declared, locals, stmt, inner, Writes, bare, last_decl, declaration, inner_is, plain}
+use Rattle.c_grammar.specs.Statements.{at, declared, stmt, inner, Writes, bare, last_decl, declaration, inner_is, plain}
 use Rattle.c_grammar.specs.Parsing.{Out, syntax, too_deep, first}
 use Rattle.c_grammar.specs.ModelTypes.{is_type, begins_type}
 use Rattle.c_grammar.specs.ModelExpressions.{inside}
-use Rattle.c_grammar.specs.ModelStatements.{Below, begins_statement, below_at}
-use Rattle.c_grammar.proofs.Agree.{split_if, if_true, trans_le, stay, Grows, Opens, opens, Frees, frees_all, tied_first, deep}
-use Rattle.c_grammar.proofs.Pieces.{Rel, Sound, read, stuck, Least, always, any, same_tree, name_first}
+use Rattle.c_grammar.specs.ModelStatements.{begins_statement, below_at}
+use Rattle.c_grammar.proofs.Agree.{split_if, if_true, trans_le, stay, Opens, opens, frees_all, tied_first, deep}
+use Rattle.c_grammar.proofs.Pieces.{Rel, Sound, read, stuck, Least, always, same_tree, name_first}
 use Rattle.c_grammar.proofs.Levels.{zero_expr, shortest}
 use Rattle.c_grammar.proofs.Inside.{inside_known, not_deeper}
 use Rattle.c_grammar.proofs.Begins.{inner_begins, locals_begin, begins_is, type_alone}
@@ -41,22 +40,29 @@ barred_inner : (m d : ℕ) (ts : Tokens) → Sound pair_tree (InnerIs d) closed_
 barred_inner m d ts =
     split_if (Sound pair_tree (InnerIs d) closed_off m ts) (first begins_statement ts) _ _
     (λ e.
-      let b = begins_is ts e in
-      let w = b.3 in
-      stuck _ (record {
-        put = λ u. u;
-        way = stay;
-        is = refl;
-        more = λ u. b.0 ∷ w.rest u;
-        grows = λ u. trans_le (w.grows u) (omega arith);
-        held = (b.0, b.1, w.rest, b.2, λ u. refl);
-        completes = λ u.
+    let b = begins_is ts e in
+    let w = b.3 in
+    stuck _ (record {
+      put = λ u. u;
+      way = stay;
+      is = refl;
+      more = λ u. b.0 ∷ w.rest u;
+      grows = λ u. trans_le (w.grows u) (omega arith);
+      held = (b.0, b.1, w.rest, b.2, λ u. refl);
+      completes = λ u.
           let fr = frees_all m (b.0 ∷ w.rest u) in
           let c = w.writes (before m (b.0 ∷ w.rest u)) (suc d) u fr in
           (c.0, inner_is (fr (b.0 ∷ w.rest u) (suc d) (omega arith)) c.1);
-      }))
-    (λ e. stuck _ (record { put = λ u. u; way = stay; is = refl; more = stmt_first; grows = λ u. omega arith; held = tt;
-      completes = λ u. ((false, at 0 (node.Plain (Some zero_expr))), inner_plain d u (frees_all m (stmt_first u) (stmt_first u) (suc d) (omega arith))) }))
+    }))
+    (λ e. stuck _ (record {
+      put = λ u. u;
+      way = stay;
+      is = refl;
+      more = stmt_first;
+      grows = λ u. omega arith;
+      held = tt;
+      completes = λ u. ((false, at 0 (node.Plain (Some zero_expr))), inner_plain d u (frees_all m (stmt_first u) (stmt_first u) (suc d) (omega arith)));
+    }))
 
 type_is : (ts : Tokens) → begins_type ts ≡ true → (t : Lexeme) × (o : Tokens) × (k : Kind) × (ts ≡ t ∷ o) × ((u : Tokens) → Types t.line k (t ∷ u) u)
 type_is [] e = absurd (false≢true e)
@@ -66,19 +72,26 @@ barred_locals : (m d : ℕ) (ts : Tokens) → Sound same_tree (LocalsIn d) alway
 barred_locals m d ts =
     split_if (Sound same_tree (LocalsIn d) always m ts) (begins_type ts) _ _
     (λ e.
-      let b = type_is ts e in
-      let more : Tokens → Tokens = λ u. b.0 ∷ name_first (punct 0 mark.Semicolon ∷ u) in
-      stuck _ (record {
-        put = λ u. u;
-        way = stay;
-        is = refl;
-        more = more;
-        grows = λ u. omega arith;
-        held = (b.0, b.1, (λ u. name_first (punct 0 mark.Semicolon ∷ u)), b.3, λ u. refl);
-        completes = λ u. (x_declared b.2 ∷ [], (frees_all m (more u) (more u) (suc d) (omega arith), declaration (b.4 (name_first (punct 0 mark.Semicolon ∷ u))) (last_decl bare)));
-      }))
-    (λ e. stuck _ (record { put = λ u. u; way = stay; is = refl; more = locals_first; grows = λ u. omega arith; held = tt;
-      completes = λ u. (x_declared kind.UInt ∷ [], (frees_all m (locals_first u) (locals_first u) (suc d) (omega arith), declaration unsigned (last_decl bare))) }))
+    let b = type_is ts e in
+    let more : Tokens → Tokens = λ u. b.0 ∷ name_first (punct 0 mark.Semicolon ∷ u) in
+    stuck _ (record {
+      put = λ u. u;
+      way = stay;
+      is = refl;
+      more = more;
+      grows = λ u. omega arith;
+      held = (b.0, b.1, (λ u. name_first (punct 0 mark.Semicolon ∷ u)), b.3, λ u. refl);
+      completes = λ u. (x_declared b.2 ∷ [], (frees_all m (more u) (more u) (suc d) (omega arith), declaration (b.4 (name_first (punct 0 mark.Semicolon ∷ u))) (last_decl bare)));
+    }))
+    (λ e. stuck _ (record {
+      put = λ u. u;
+      way = stay;
+      is = refl;
+      more = locals_first;
+      grows = λ u. omega arith;
+      held = tt;
+      completes = λ u. (x_declared kind.UInt ∷ [], (frees_all m (locals_first u) (locals_first u) (suc d) (omega arith), declaration unsigned (last_decl bare)));
+    }))
 
 inner_may : {may : May} {b : Bool} {d : ℕ} {s : Stmt} {f t : Tokens} → Writes may (inner b s) d f t → may f (suc d) ≡ true
 inner_may (inner_is ok x) = ok
@@ -101,14 +114,14 @@ below_good m zero d fits =
         least = inner_least d;
         sound = λ ts h. barred_inner m d ts;
         complete = λ cut g g' may p f' t' x e f tied.
-          deep f f' (suc d) tied (if_true (first begins_statement f) (too_deep f) (syntax f) (tied_first cut g g' begins_statement tied ∙ inner_begins x)) (inner_may x) (not_deeper m d fits);
+            deep f f' (suc d) tied (if_true (first begins_statement f) (too_deep f) (syntax f) (tied_first cut g g' begins_statement tied ∙ inner_begins x)) (inner_may x) (not_deeper m d fits);
       };
       locals_in = record {
         grow = λ t. omega arith;
         least = locals_least d;
         sound = λ ts h. barred_locals m d ts;
         complete = λ cut g g' may ss f' t' x e f tied.
-          deep f f' (suc d) tied (if_true (begins_type f) (too_deep f) (syntax f) (tied_first cut g g' is_type tied ∙ locals_begin x.1)) x.0 (not_deeper m d fits);
+            deep f f' (suc d) tied (if_true (begins_type f) (too_deep f) (syntax f) (tied_first cut g g' is_type tied ∙ locals_begin x.1)) x.0 (not_deeper m d fits);
       };
     }
 below_good m (suc left) d fits =

@@ -1,28 +1,22 @@
 -- Casts: they are told from groups by the token behind the parenthesis.
-use Rattle.std.proofs.Common.{◌≡◌, ℕ, zero, suc, ◌+◌, ◌<◌, ◌≤◌, Bool, true, false, cond, leb, List, [], ◌∷◌, length, Option, Some, None, Result, Ok, Err, refl, sym, ap, ◌∙◌, subst, arith}
-use Rattle.std.proofs.lemmas.Bool.{false≢true}
-use Rattle.c_tree.specs.declared.token.Lexeme.{Lexeme}
-use Rattle.c_tree.specs.declared.token.Form.TheVariants as form
-use Rattle.c_tree.specs.declared.token.Mark.{Mark}
+use Rattle.std.proofs.Common.{◌≡◌, ℕ, suc, Bool, true, false, cond, ◌∷◌, length, Ok, refl, sym, ap, ◌∙◌, subst, arith}
 use Rattle.c_tree.specs.declared.token.Mark.TheVariants as mark
-use Rattle.c_tree.specs.declared.token.Key.TheVariants as key
-use Rattle.c_tree.specs.declared.token.Kind.{Kind}
 use Rattle.c_tree.specs.declared.token.Kind.TheVariants as kind
 use Rattle.c_tree.specs.declared.tree.Expr.{Expr}
 use Rattle.c_tree.specs.declared.tree.ExprNode.TheVariants as node
-use Rattle.c_grammar.specs.Tokens.{Tokens, token, punct, word, May}
+use Rattle.c_grammar.specs.Tokens.{Tokens, punct, May}
 use Rattle.c_grammar.specs.Types.{Types, unsigned}
 use Rattle.c_grammar.specs.Operators.{at}
 use Rattle.c_grammar.specs.Expressions.{expr, Spells, number, name, group, element, call, suffix, prefix, cast, join, choice, assign, up}
 use Rattle.c_grammar.specs.Numbers.{is_mark}
-use Rattle.c_grammar.specs.Parsing.{Out, and_then, syntax, too_deep, tail, line_of, first, is_next, expect}
+use Rattle.c_grammar.specs.Parsing.{Out, and_then, syntax, too_deep, tail, line_of, is_next, expect}
 use Rattle.c_grammar.specs.ModelTypes.{is_type, begins_type, type_of}
-use Rattle.c_grammar.specs.ModelExpressions.{Nested, enter, is_cast, group_of, primary_of, postfix_of, unary_of, cast_in, cast_of, suffixes}
-use Rattle.c_grammar.proofs.Agree.{split_if, next_is, if_true, if_false, Grows, place, Tied, end, at_cut, alike, tied_first, Brief, fine, short_then, short_if, Lands, good, past, deep, lands_by}
+use Rattle.c_grammar.specs.ModelExpressions.{Nested, is_cast, group_of, primary_of, postfix_of, unary_of, cast_in, cast_of, suffixes}
+use Rattle.c_grammar.proofs.Agree.{split_if, next_is, if_true, if_false, place, Tied, at_cut, alike, tied_first, Brief, short_then, short_if, Lands, past, deep, lands_by}
 use Rattle.c_grammar.proofs.Pieces.{Rel, Sound, Then, always, any, Piece, seq, done, Done, turn, ends_with, same_tree, sound_short, Is, mark_piece, OpenIs, opening}
-use Rattle.c_grammar.proofs.Types.{TypeIs, type_piece, type_ends, type_first, types_begin}
+use Rattle.c_grammar.proofs.Types.{TypeIs, type_piece, type_first, types_begin}
 use Rattle.c_grammar.proofs.Stops.{Stops, lower, below_joins}
-use Rattle.c_grammar.proofs.Levels.{zero_token, zero_expr, zero_first, shortest, unary_no_cast, paren_opens}
+use Rattle.c_grammar.proofs.Levels.{zero_expr, zero_first, shortest, unary_no_cast, paren_opens}
 use Rattle.c_grammar.proofs.Joins.{Level, ends_at, expr_here, SuffixesOf, suffixes_piece}
 use Rattle.c_grammar.proofs.Expressions.{Deeper, group_rest, unary_piece}
 
@@ -43,8 +37,8 @@ module _ (m d : ℕ) (nested : Nested) (known : Deeper nested m d) where
   cast_rest h l =
       seq (λ k ts. and_then (expect mark.RightParen ts) (λ _ ts. and_then (nested.cast ts) (λ e ts. expr_here (at l (node.Cast k.1 e)) ts))) (type_piece m)
       (λ k. seq (λ _ ts. and_then (nested.cast ts) (λ e ts. expr_here (at l (node.Cast k.1 e)) ts)) (mark_piece mark.RightParen m)
-        (λ j. seq (λ e ts. expr_here (at l (node.Cast k.1 e)) ts) (known.cast_deep h) (λ e. done same_tree (at l (node.Cast k.1 e)) m (λ t h. tt)) (λ t. omega arith) (λ may x y u t r s. subst (Stops 3) (sym r.1) s))
-        (λ t. omega arith) (λ may x y u t r s. tt))
+      (λ j. seq (λ e ts. expr_here (at l (node.Cast k.1 e)) ts) (known.cast_deep h) (λ e. done same_tree (at l (node.Cast k.1 e)) m (λ t h. tt)) (λ t. omega arith) (λ may x y u t r s. subst (Stops 3) (sym r.1) s))
+      (λ t. omega arith) (λ may x y u t r s. tt))
       (λ t. omega arith) (λ may x y u t r s. ap begins_type r.2)
 
   cast_least : (l : ℕ) (may : May) (t : Tokens) → (e : Expr) × CastRest l may e (cast_first t) t
@@ -83,16 +77,21 @@ module _ (m d : ℕ) (nested : Nested) (known : Deeper nested m d) where
   cast_brief : nested.allowed ≡ true → (l : ℕ) (cut : Bool) (g g' : Tokens) → Brief cut g g' (cast_in nested (punct l mark.LeftParen ∷ g))
   unfolding cast_in
   cast_brief e l cut g g' =
-      record { le = omega (arith, ap (λ (b : Bool). length (place (and_then (enter_by b (punct l mark.LeftParen ∷ g)) cast_rest_of))) e,
-        sound_short same_tree (CastRest l) always m g (cast_rest_of l g) ((cast_rest e l).sound g tt)) }
+      record {
+        le = omega (
+          arith,
+          ap (λ (b : Bool). length (place (and_then (enter_by b (punct l mark.LeftParen ∷ g)) cast_rest_of))) e,
+          sound_short same_tree (CastRest l) always m g (cast_rest_of l g) ((cast_rest e l).sound g tt),
+        );
+      }
 
   unary_brief : nested.allowed ≡ true → (l : ℕ) (cut : Bool) (g g' : Tokens) → Brief cut g g' (unary_of nested (punct l mark.LeftParen ∷ g))
   unary_brief e l cut g g' =
       let p = group_rest m d nested known l e in
       let i = unary_group l g ∙ ap (λ (b : Bool). group_then (enter_by b (punct l mark.LeftParen ∷ g))) e in
       let b : Brief cut g g' (and_then (group_rest_of l g) (λ e ts. suffixes (length ts) e ts)) =
-          short_then cut g g' (group_rest_of l g) (λ e ts. suffixes (length ts) e ts) (record { le = sound_short same_tree _ always m g (group_rest_of l g) (p.sound g tt) })
-          (λ e r le. record { le = omega (arith, le, sound_short same_tree (SuffixesOf e) always m r (suffixes (length r) e r) ((suffixes_piece m e).sound r tt)) }) in
+      short_then cut g g' (group_rest_of l g) (λ e ts. suffixes (length ts) e ts) (record { le = sound_short same_tree _ always m g (group_rest_of l g) (p.sound g tt) })
+      (λ e r le. record { le = omega (arith, le, sound_short same_tree (SuffixesOf e) always m r (suffixes (length r) e r) ((suffixes_piece m e).sound r tt)) }) in
       record { le = omega (arith, b.le, ap (λ (o : Out Expr). length (place o)) i) }
 
   brief : nested.allowed ≡ true → (l : ℕ) (cut : Bool) (g g' : Tokens) → Brief cut g g' (cast_of nested (punct l mark.LeftParen ∷ g))
@@ -159,8 +158,8 @@ module _ (m d : ℕ) (nested : Nested) (known : Deeper nested m d) where
   cast_lands cut g g' may _ _ t' (cast {l = l} {j = j} {k = k} {c = c} {e = i} {m = v} {u = u} ok x y) q s f tied =
       at_paren cut g g' (λ w. Lands cut g g' may m (cast_of nested w) (λ to. Ok (at l (node.Cast c i), to)) t') l v f tied
       (λ r tr. lands_by cut g g' may m (if_true (is_cast (punct l mark.LeftParen ∷ r)) _ _ (is_cast_here true cut g g' l r v tr (types_begin x)))
-        (cast_in_piece.complete cut g g' may (at l (node.Cast c i)) (punct l mark.LeftParen ∷ v) t' (l, v, (refl, ok), ((j, c), punct k mark.RightParen ∷ u, x, (k, u, refl, (i, t', y, (refl, refl))))) s
-          (punct l mark.LeftParen ∷ r) (alike (punct l mark.LeftParen) tr)))
+      (cast_in_piece.complete cut g g' may (at l (node.Cast c i)) (punct l mark.LeftParen ∷ v) t' (l, v, (refl, ok), ((j, c), punct k mark.RightParen ∷ u, x, (k, u, refl, (i, t', y, (refl, refl))))) s
+      (punct l mark.LeftParen ∷ r) (alike (punct l mark.LeftParen) tr)))
       (λ h tc. paren_cut cut g g' may (at l (node.Cast c i)) l (punct l mark.LeftParen ∷ v) t' h ok tc)
   cast_lands cut g g' may _ f' t' (join j x y) q s f tied = absurd (omega (arith, q, (below_joins j).many))
   cast_lands cut g g' may _ f' t' (choice x ok y z) q s f tied = absurd (omega (arith, q))

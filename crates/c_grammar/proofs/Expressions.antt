@@ -1,7 +1,6 @@
 -- The parser of expressions is sound and complete, where what stands one deeper is.
-use Rattle.std.proofs.Common.{◌≡◌, ℕ, zero, suc, ◌+◌, ◌<◌, ◌≤◌, Bool, true, false, cond, leb, List, [], ◌∷◌, length, Option, Some, None, Result, Ok, Err, refl, sym, ap, ◌∙◌, subst, arith}
+use Rattle.std.proofs.Common.{◌≡◌, ℕ, suc, ◌<◌, ◌≤◌, Bool, true, false, List, [], ◌∷◌, length, Option, Some, None, Ok, refl, sym, ap, ◌∙◌, subst, arith}
 use Rattle.std.proofs.lemmas.Bool.{false≢true}
-use Rattle.c_tree.specs.declared.token.Lexeme.{Lexeme}
 use Rattle.c_tree.specs.declared.token.Form.{Form}
 use Rattle.c_tree.specs.declared.token.Form.TheVariants as form
 use Rattle.c_tree.specs.declared.token.Mark.{Mark}
@@ -10,21 +9,17 @@ use Rattle.c_tree.specs.declared.token.Kind.{Kind}
 use Rattle.c_tree.specs.declared.tree.Expr.{Expr}
 use Rattle.c_tree.specs.declared.tree.ExprNode.TheVariants as node
 use Rattle.c_grammar.specs.Tokens.{Tokens, token, punct, named, May}
-use Rattle.c_grammar.specs.Operators.{at, binary_level, Prefix, sign, increase, decrease, prefix_mark, operand_level, prefixed, Assigner, simple, assigner_mark, assigner_op}
+use Rattle.c_grammar.specs.Operators.{at, Prefix, sign, increase, decrease, prefix_mark, operand_level, prefixed}
 use Rattle.c_grammar.specs.Expressions.{expr, args, arg_list, Spells, number, name, group, element, call, none, some, last, next, suffix, prefix, cast, join, choice, assign, up}
 use Rattle.c_grammar.specs.Numbers.{is_mark}
-use Rattle.c_grammar.specs.Parsing.{Out, and_then, syntax, too_deep, by_option, tail, line_of, first, is_next, expect, name_of, listed}
-use Rattle.c_grammar.specs.ModelTypes.{begins_type, type_of}
-use Rattle.c_grammar.specs.ModelExpressions.{Nested, enter, is_name, number_by, number_of, prefix_of, assigner_for, is_unary, seen, loop, suffixes, is_cast, group_of, element_of, no_args_of, args_of, call_of, after_name, named_of, primary_of, postfix_of, operand_of, prefixed_of, unary_of, cast_in, cast_of, binary_of, chosen_of, choice_from, conditional_of, assigned_of, assign_from, assignment_of, expression_of}
-use Rattle.c_grammar.specs.ModelStatements.{begins_expression}
-use Rattle.c_grammar.proofs.Numbers.{mark_self}
-use Rattle.c_grammar.proofs.Agree.{split_if, if_true, if_false, Way, stay, one, Grows, place, Tied, end, at_cut, alike, head_step, tied_first, Brief, fine, short_then, short_if, Lands, good, past, deep, lands_by}
-use Rattle.c_grammar.proofs.Pieces.{Rel, Sound, read, stuck, Complete, Least, Then, always, any, Piece, seq, done, Done, iff, turn, ends_by, ends_with, same_tree, sound_short, Either, this, that, either_of, Is, mark_piece, Named, name_piece, Reach, OpenIs, opening}
+use Rattle.c_grammar.specs.Parsing.{Out, and_then, syntax, by_option, first, is_next, expect}
+use Rattle.c_grammar.specs.ModelExpressions.{Nested, is_name, number_by, number_of, prefix_of, seen, suffixes, group_of, element_of, no_args_of, arg_list_of, args_of, call_of, after_name, named_of, primary_of, postfix_of, operand_of, prefixed_of, unary_of}
+use Rattle.c_grammar.proofs.Agree.{stay, one, Tied, head_step, fine, Lands, good, past, lands_by}
+use Rattle.c_grammar.proofs.Pieces.{Rel, Sound, read, stuck, Complete, Then, always, any, Piece, seq, done, Done, iff, turn, ends_by, ends_with, same_tree, Either, this, that, either_of, Is, mark_piece, Named, name_piece, Reach, OpenIs, opening}
 use Rattle.c_grammar.proofs.Lists.{Tail, ends, trails, goes, listed_piece}
-use Rattle.c_grammar.proofs.Types.{TypeIs, type_piece, type_ends, types_begin}
-use Rattle.c_grammar.proofs.Stops.{Stops, bind, lower, gap, not_next, mark_stops, seen_is, tied_seen, by_none, by_some, by_step, prefix_self, prefix_is, assigner_for_is, assigner_for_self, assigner_unary, assigner_none, bind_assigner, Joining, below_joins}
-use Rattle.c_grammar.proofs.Levels.{zero_token, zero_expr, zero_first, shortest, as_conditional, level_starts, list_starts, starts_no_mark, starts_no_type, unary_no_cast, paren_opens, unary_is, unary_only}
-use Rattle.c_grammar.proofs.Joins.{Level, ends_at, expr_here, JoinsFrom, joins_to, joins_from, joins_piece, joins_meets, SuffixesOf, suffixes_stop, suffixes_to, suffixes_from, suffixes_piece}
+use Rattle.c_grammar.proofs.Stops.{Stops, bind, lower, gap, not_next, mark_stops, tied_seen, by_none, by_some, by_step, prefix_self, below_joins}
+use Rattle.c_grammar.proofs.Levels.{zero_token, zero_expr, zero_first, shortest, list_starts, starts_no_mark}
+use Rattle.c_grammar.proofs.Joins.{Level, ends_at, expr_here, suffixes_stop, suffixes_to, suffixes_from, suffixes_piece}
 
 -- what is known of what stands one deeper
 pub record Deeper (nested : Nested) (m d : ℕ) : Type 0 where
@@ -102,15 +97,18 @@ module _ (m d : ℕ) (nested : Nested) (known : Deeper nested m d) where
   abbrev ListIs : Rel (List Expr)
   ListIs may es f t = Spells may (arg_list es) (suc d) f t
 
-  list_piece : nested.allowed ≡ true → Piece same_tree ListIs any always always (λ t. zero_token ∷ punct 0 mark.RightParen ∷ t) m (λ ts. listed mark.RightParen false nested.assignment (suc (length ts)) ts)
+  list_piece : nested.allowed ≡ true → Piece same_tree ListIs any always always (λ t. zero_token ∷ punct 0 mark.RightParen ∷ t) m (arg_list_of nested)
+  unfolding arg_list_of
   list_piece h = listed_piece (Level 15 (suc d)) ListIs (ends_at 15) zero_first m nested.assignment (known.assignment_in h) mark.RightParen false to from refl (λ x l t. (omega arith, omega arith)) (λ may xs f t r e. absurd (false≢true e))
     where
       to_tail : (may : May) (e : Expr) (es : List Expr) (f u t : Tokens) → Spells may (expr 15 e) (suc d) f u → Tail ListIs mark.RightParen false e may es u t → Spells may (arg_list es) (suc d) f t
       to_tail may e _ f _ t x ends = last x
       to_tail may e _ f _ t x (trails q) = absurd (false≢true q)
       to_tail may e _ f _ t x (goes r) = next x r
+
       to : (may : May) (es : List Expr) (f t : Tokens) → Then (Level 15 (suc d)) (λ x. Tail ListIs mark.RightParen false x) may es f t → ListIs may es f t
       to may es f t r = to_tail may r.0 es f r.1 t r.2 r.3
+
       from : (may : May) (es : List Expr) (f t : Tokens) → ListIs may es f t → Then (Level 15 (suc d)) (λ x. Tail ListIs mark.RightParen false x) may es f t
       from may _ f t (last {k = k} {e = e} x) = (e, punct k mark.RightParen ∷ t, x, ends)
       from may _ f t (next {k = k} {e = e} {m = v} x y) = (e, punct k mark.Comma ∷ v, x, goes y)
@@ -130,6 +128,7 @@ module _ (m d : ℕ) (nested : Nested) (known : Deeper nested m d) where
       to : (may : May) (es : List Expr) (f t : Tokens) → Either NoArgs ListIs may es f t → ArgsAre may es f t
       to may es f t (this r) = subst (λ (u : Tokens). ArgsAre may es u t) (sym r.2) (ends_with (λ es t. ArgsAre may es (punct r.0 mark.RightParen ∷ r.1) t) none r.3)
       to may es f t (that r) = some r
+
       from : (may : May) (es : List Expr) (f t : Tokens) → ArgsAre may es f t → Either NoArgs ListIs may es f t
       from may _ _ t (none {k = k}) = this (k, t, refl, (refl, refl))
       from may es f t (some r) = that r
@@ -152,7 +151,7 @@ module _ (m d : ℕ) (nested : Nested) (known : Deeper nested m d) where
   after_name_piece l w =
       either_of (is_mark mark.LeftBracket) (element_piece l w)
       (either_of (is_mark mark.LeftParen) (call_piece l w) (done same_tree (at l (node.Name w)) m (λ t h. tt)) (λ may x f t r. ap (is_next mark.LeftParen) r.2.0)
-        (λ may x f t r e. not_next mark.LeftParen 0 f (subst (Stops 0) (sym r.1) e) (omega arith)))
+      (λ may x f t r e. not_next mark.LeftParen 0 f (subst (Stops 0) (sym r.1) e) (omega arith)))
       (λ may x f t r. ap (is_next mark.LeftBracket) r.2.0) no_bracket
     where
       no_bracket : (may : May) (x : Expr) (f t : Tokens) → Either (CallIs l w) (Done (at l (node.Name w))) may x f t → Stops 0 t → is_next mark.LeftBracket f ≡ false
@@ -175,12 +174,15 @@ module _ (m d : ℕ) (nested : Nested) (known : Deeper nested m d) where
     where
       wanted : (ts : Tokens) → Sound same_tree NumberIs always m ts (syntax ts)
       wanted ts = stuck _ (record { put = λ u. u; way = stay; is = refl; more = zero_first; grows = λ u. omega arith; held = tt; completes = λ u. (zero_expr, number_is) })
+
       by_form : (l : ℕ) (f : Form) (ts : Tokens) → Sound same_tree NumberIs always m (token l f ∷ ts) (number_by l f (token l f ∷ ts))
       by_form l (form.Number v k) ts = read (at l (node.Number v k)) ts (record { put = λ u. token l (form.Number v k) ∷ u; way = one _; is = refl; again = λ may w u. number_is }) tt
       by_form l _ ts = wanted _
+
       sound : (ts : Tokens) → Sound same_tree NumberIs always m ts (number_of ts)
       sound [] = wanted []
       sound (t ∷ ts) = by_form t.line t.form ts
+
       whole : (cut : Bool) (g g' : Tokens) (may : May) (x : Expr) (f' t' : Tokens) → NumberIs may x f' t' → (f : Tokens) → Tied cut g g' f f' → Lands cut g g' may m (number_of f) (λ to. Ok (x, to)) t'
       whole cut g g' may _ _ t' (number_is {l = l} {v = v} {k = k}) f tied =
           head_step cut g g' (λ u. Lands cut g g' may m (number_of u) (λ to. Ok (at l (node.Number v k), to)) t') tied (λ r tr. good r tr refl) (λ c. past c (fine cut g g' (omega arith)))
@@ -230,6 +232,7 @@ module _ (m d : ℕ) (nested : Nested) (known : Deeper nested m d) where
     where
       no_paren : (may : May) (x : Expr) (f t : Tokens) → NumberIs may x f t → Stops 0 t → is_next mark.LeftParen f ≡ false
       no_paren may _ _ t number_is e = refl
+
       no_name : (may : May) (x : Expr) (f t : Tokens) → Either GroupIs NumberIs may x f t → Stops 0 t → first is_name f ≡ false
       no_name may x f t (this r) e = ap (first is_name) r.2.0
       no_name may _ _ t (that number_is) e = refl
@@ -293,5 +296,5 @@ module _ (m d : ℕ) (nested : Nested) (known : Deeper nested m d) where
   unfolding unary_of
   unary_piece =
       iff (among prefix_of (λ p ts e. (prefixed_piece p).sound ts tt) (λ p. (prefixed_piece p).complete) (ends_by postfix_piece (λ x t s. lower 1 2 t (omega arith) s))
-        (λ p may x f t r. ap (seen prefix_of) r.2.0 ∙ prefix_self p) (λ may x f t r e. no_prefix r (omega arith)))
+      (λ p may x f t r. ap (seen prefix_of) r.2.0 ∙ prefix_self p) (λ may x f t r e. no_prefix r (omega arith)))
       unary_to (λ may e f t x. unary_from may e f t x refl)

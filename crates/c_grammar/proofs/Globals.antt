@@ -1,9 +1,6 @@
 -- Globals and parameters, which stand at depth 0.
-use Rattle.std.proofs.Common.{◌≡◌, ℕ, zero, suc, ◌+◌, ◌<◌, ◌≤◌, Bool, true, false, cond, List, [], ◌∷◌, ◌++◌, length, Option, Some, None, Result, Ok, Err, refl, sym, ap, ◌∙◌, subst, arith}
+use Rattle.std.proofs.Common.{◌≡◌, ℕ, Bool, true, false, List, [], ◌∷◌, Option, Some, None, Ok, refl, sym, ap, ◌∙◌, subst, arith}
 use Rattle.std.proofs.lemmas.Bool.{false≢true}
-use Rattle.c_tree.specs.declared.token.Lexeme.{Lexeme}
-use Rattle.c_tree.specs.declared.token.Form.TheVariants as form
-use Rattle.c_tree.specs.declared.token.Mark.{Mark}
 use Rattle.c_tree.specs.declared.token.Mark.TheVariants as mark
 use Rattle.c_tree.specs.declared.token.Key.TheVariants as key
 use Rattle.c_tree.specs.declared.token.Kind.{Kind}
@@ -13,16 +10,15 @@ use Rattle.c_tree.specs.declared.tree.ArraySize.TheVariants as sizes
 use Rattle.c_tree.specs.declared.tree.Param.{Param}
 use Rattle.c_tree.specs.declared.tree.Top.{Top}
 use Rattle.c_grammar.specs.Tokens.{Tokens, punct, word, named, May}
-use Rattle.c_grammar.specs.Types.{Types}
 use Rattle.c_grammar.specs.Expressions.{expr, Spells}
 use Rattle.c_grammar.specs.Units.{global, parameter, Units, size, values, shape, globals, label, brackets, param, params, param_list, no_size, some_size, last_value, last_comma, next_value, bare, valued, sized, filled, last_global, next_global, unlabelled, labelled, no_brackets, some_brackets, param_is, no_params, void_params, some_params, last_param, next_param}
 use Rattle.c_grammar.specs.Numbers.{is_mark, is_key}
-use Rattle.c_grammar.specs.Parsing.{Out, and_then, syntax, first, is_next, is_word, expect, expect_word, name_of, listed, listed_on}
-use Rattle.c_grammar.specs.ModelTypes.{is_type, begins_type, type_of}
+use Rattle.c_grammar.specs.Parsing.{Out, and_then, syntax, first, is_next, is_word, expect, name_of}
+use Rattle.c_grammar.specs.ModelTypes.{begins_type}
 use Rattle.c_grammar.specs.ModelExpressions.{Nested, is_name, conditional_of}
-use Rattle.c_grammar.specs.ModelUnits.{label_of, or_sized, no_size_of, some_size_of, size_of, values_of, filled_of, after_size, array_of, valued_of, shape_of, global_of, globals_of, some_brackets_of, brackets_of, param_of, no_params_of, void_params_of, params_of}
+use Rattle.c_grammar.specs.ModelUnits.{label_of, or_sized, no_size_of, some_size_of, size_of, values_of, filled_of, after_size, array_of, valued_of, shape_of, global_of, more_globals_of, globals_of, some_brackets_of, brackets_of, param_of, no_params_of, void_params_of, param_list_of, params_of}
 use Rattle.c_grammar.proofs.Agree.{split_if, if_true, if_false, stay, Tied, tied_first, Lands, good, lands_by}
-use Rattle.c_grammar.proofs.Pieces.{Rel, Sound, read, stuck, Complete, Least, Then, always, any, Piece, seq, done, Done, iff, turn, ends_by, ends_with, same_tree, Either, this, that, either, either_of, Is, mark_piece, IsWord, word_piece, Named, name_piece, name_first}
+use Rattle.c_grammar.proofs.Pieces.{Rel, Sound, read, stuck, Then, always, any, Piece, seq, done, Done, iff, turn, ends_by, ends_with, same_tree, Either, this, that, either_of, Is, mark_piece, IsWord, word_piece, Named, name_piece, name_first}
 use Rattle.c_grammar.proofs.Lists.{Tail, ends, trails, goes, listed_piece, tail_piece, tail_meets}
 use Rattle.c_grammar.proofs.Types.{TypeIs, type_piece, type_first, types_begin}
 use Rattle.c_grammar.proofs.Stops.{Stops, lower, tied_stops, not_next}
@@ -99,6 +95,7 @@ module _ (m : ℕ) (nested : Nested) (known : Deeper nested m 0) where
       to : (may : May) (a : ArraySize) (f t : Tokens) → Either NoSize SomeSize may a f t → SizeIs may a f t
       to may a f t (this r) = subst (λ (f : Tokens). SizeIs may a f t) (sym r.2) (ends_with (λ a t. SizeIs may a (punct r.0 mark.RightBracket ∷ r.1) t) no_size r.3)
       to may a f t (that r) = let k = r.3 in ends_with (λ a t. SizeIs may a f t) (some_size (subst (λ (u : Tokens). Spells may (expr 14 r.0) 0 f u) k.2 r.2)) k.3
+
       from : (may : May) (a : ArraySize) (f t : Tokens) → SizeIs may a f t → Either NoSize SomeSize may a f t
       from may _ _ t (no_size {k = k}) = this (k, t, refl, (refl, refl))
       from may _ f t (some_size {k = k} {e = e} x) = that (e, punct k mark.RightBracket ∷ t, x, (k, t, refl, (refl, refl)))
@@ -117,8 +114,10 @@ module _ (m : ℕ) (nested : Nested) (known : Deeper nested m 0) where
       to_tail may e _ f _ t x ends = last_value x
       to_tail may e _ f _ t x (trails q) = last_comma x
       to_tail may e _ f _ t x (goes r) = next_value x r
+
       to : (may : May) (es : List Expr) (f t : Tokens) → Then (Level 14 0) (λ x. Tail ValuesAre mark.RightBrace true x) may es f t → ValuesAre may es f t
       to may es f t r = to_tail may r.0 es f r.1 t r.2 r.3
+
       from : (may : May) (es : List Expr) (f t : Tokens) → ValuesAre may es f t → Then (Level 14 0) (λ x. Tail ValuesAre mark.RightBrace true x) may es f t
       from may _ f t (last_value {k = k} {e = e} x) = (e, punct k mark.RightBrace ∷ t, x, ends)
       from may _ f t (last_comma {k = k} {k' = k'} {e = e} x) = (e, punct k mark.Comma ∷ punct k' mark.RightBrace ∷ t, x, trails refl)
@@ -137,7 +136,7 @@ module _ (m : ℕ) (nested : Nested) (known : Deeper nested m 0) where
   filled_piece a =
       seq (λ _ ts. and_then (expect mark.LeftBrace ts) (λ _ ts. and_then (values_of nested ts) (λ es ts. shape_here (a, es) ts))) (mark_piece mark.Assign m)
       (λ k. seq (λ _ ts. and_then (values_of nested ts) (λ es ts. shape_here (a, es) ts)) (mark_piece mark.LeftBrace m)
-        (λ k'. seq (λ es ts. shape_here (a, es) ts) values_piece (λ es. done same_tree (a, es) m (λ t h. tt)) (λ t. omega arith) (λ may x y u t r h. tt)) (λ t. omega arith) (λ may x y u t r h. tt))
+      (λ k'. seq (λ es ts. shape_here (a, es) ts) values_piece (λ es. done same_tree (a, es) m (λ t h. tt)) (λ t. omega arith) (λ may x y u t r h. tt)) (λ t. omega arith) (λ may x y u t r h. tt))
       (λ t. omega arith) (λ may x y u t r h. tt)
 
   -- where there was a size, the list in braces may be left out
@@ -152,19 +151,28 @@ module _ (m : ℕ) (nested : Nested) (known : Deeper nested m 0) where
         grow = λ t. omega arith;
         least = λ may t fr fr'. let l = (filled_piece a).least may t fr fr' in (l.0, this l.1);
         sound = λ ts h.
-          split_if (Sound same_tree (Either (FilledIs a) (SizedIs a)) always m ts) (is_next mark.Assign ts) _ _
-          (λ e. turn (λ may x f t r. this r) ts ((filled_piece a).sound ts tt)) (λ e. or_sound ts a refl);
+            split_if (Sound same_tree (Either (FilledIs a) (SizedIs a)) always m ts) (is_next mark.Assign ts) _ _
+            (λ e. turn (λ may x f t r. this r) ts ((filled_piece a).sound ts tt)) (λ e. or_sound ts a refl);
         complete = λ cut g g' may s f' t' r e f tied. whole cut g g' may s f' t' r e f tied;
       }
     where
       wanted : (ts : Tokens) → Sound same_tree (Either (FilledIs a) (SizedIs a)) always m ts (syntax ts)
       wanted ts =
-          stuck _ (record { put = λ u. u; way = stay; is = refl; more = filled_first; grows = λ u. omega arith; held = tt;
-            completes = λ u. ((a, zero_expr ∷ []), this (0, punct 0 mark.LeftBrace ∷ zero_token ∷ punct 0 mark.RightBrace ∷ u, refl, (0, zero_token ∷ punct 0 mark.RightBrace ∷ u, refl, (zero_expr ∷ [], u, last_value (shortest 14), (refl, refl))))) })
+          stuck _ (record {
+            put = λ u. u;
+            way = stay;
+            is = refl;
+            more = filled_first;
+            grows = λ u. omega arith;
+            held = tt;
+            completes = λ u. ((a, zero_expr ∷ []), this (0, punct 0 mark.LeftBrace ∷ zero_token ∷ punct 0 mark.RightBrace ∷ u, refl, (0, zero_token ∷ punct 0 mark.RightBrace ∷ u, refl, (zero_expr ∷ [], u, last_value (shortest 14), (refl, refl)))));
+          })
+
       or_sound : (ts : Tokens) (b : ArraySize) → a ≡ b → Sound same_tree (Either (FilledIs a) (SizedIs a)) always m ts (or_sized b ts)
       or_sound ts sizes.Scalar q = wanted ts
       or_sound ts sizes.Open q = wanted ts
       or_sound ts (sizes.Sized e) q = read (sizes.Sized e, []) ts (record { put = λ u. u; way = stay; is = refl; again = λ may w u. that (alone q) }) tt
+
       whole : (cut : Bool) (g g' : Tokens) (may : May) (s : ArraySize × List Expr) (f' t' : Tokens) → Either (FilledIs a) (SizedIs a) may s f' t' → Stops 15 t' → (f : Tokens) → Tied cut g g' f f' → Lands cut g g' may m (after_size nested a f) (λ to. Ok (s, to)) t'
       whole cut g g' may s f' t' (this r) e f tied =
           lands_by cut g g' may m (if_true (is_next mark.Assign f) _ _ (tied_first cut g g' (is_mark mark.Assign) tied ∙ ap (is_next mark.Assign) r.2)) ((filled_piece a).complete cut g g' may s f' t' r e f tied)
@@ -188,7 +196,7 @@ module _ (m : ℕ) (nested : Nested) (known : Deeper nested m 0) where
   valued_piece =
       seq (λ _ ts. and_then (conditional_of nested ts) (λ e ts. shape_here (sizes.Scalar, e ∷ []) ts)) (mark_piece mark.Assign m)
       (λ k. seq (λ e ts. shape_here (sizes.Scalar, e ∷ []) ts) (conditional_piece m 0 nested known) (λ e. done same_tree (sizes.Scalar, e ∷ []) m (λ t h. tt)) (λ t. omega arith)
-        (λ may x y u t r h. lower 14 15 u (omega arith) (subst (Stops 15) (sym r.1) h))) (λ t. omega arith) (λ may x y u t r h. tt)
+      (λ may x y u t r h. lower 14 15 u (omega arith) (subst (Stops 15) (sym r.1) h))) (λ t. omega arith) (λ may x y u t r h. tt)
 
   abbrev BareIs : Rel (ArraySize × List Expr)
   BareIs = Done (sizes.Scalar, [])
@@ -197,24 +205,27 @@ module _ (m : ℕ) (nested : Nested) (known : Deeper nested m 0) where
   unfolding shape_of
   shape_piece =
       iff (either_of (is_mark mark.Assign) valued_piece
-        (either_of (is_mark mark.LeftBracket) array_piece (done same_tree (sizes.Scalar, []) m (λ t h. tt)) (λ may x f t r. ap (is_next mark.LeftBracket) r.2)
-          (λ may x f t r e. not_next mark.LeftBracket 15 f (subst (Stops 15) (sym r.1) e) (omega arith)))
-        (λ may x f t r. ap (is_next mark.Assign) r.2) no_assign) to from
+      (either_of (is_mark mark.LeftBracket) array_piece (done same_tree (sizes.Scalar, []) m (λ t h. tt)) (λ may x f t r. ap (is_next mark.LeftBracket) r.2)
+      (λ may x f t r e. not_next mark.LeftBracket 15 f (subst (Stops 15) (sym r.1) e) (omega arith)))
+      (λ may x f t r. ap (is_next mark.Assign) r.2) no_assign) to from
     where
       no_assign : (may : May) (s : ArraySize × List Expr) (f t : Tokens) → Either ArrayIs BareIs may s f t → Stops 15 t → is_next mark.Assign f ≡ false
       no_assign may s f t (this r) e = ap (is_next mark.Assign) r.2
       no_assign may s f t (that r) e = not_next mark.Assign 15 f (subst (Stops 15) (sym r.1) e) (omega arith)
+
       array_to : (may : May) (k : ℕ) (a : ArraySize) (s : ArraySize × List Expr) (f u t : Tokens) → Units may (size a) f u → Either (FilledIs a) (SizedIs a) may s u t → ShapeIs may s (punct k mark.LeftBracket ∷ f) t
       array_to may k a s f u t x (this r) =
           let b = r.3 in let v = b.3 in
           ends_with (λ s t. ShapeIs may s (punct k mark.LeftBracket ∷ f) t) (filled (subst (λ (u : Tokens). Units may (size a) f u) (r.2 ∙ ap (λ u. punct r.0 mark.Assign ∷ u) b.2) x) v.2) v.3
       array_to may k a _ f u _ x (that (alone {t = t} q)) = sized (subst (λ (a : ArraySize). Units may (size a) f t) q x)
+
       to : (may : May) (s : ArraySize × List Expr) (f t : Tokens) → Either ValuedIs (Either ArrayIs BareIs) may s f t → ShapeIs may s f t
       to may s f t (this r) =
           let x = r.3 in
           subst (λ (f : Tokens). ShapeIs may s f t) (sym r.2) (ends_with (λ s t. ShapeIs may s (punct r.0 mark.Assign ∷ r.1) t) (valued x.2) x.3)
       to may s f t (that (this r)) = let a = r.3 in subst (λ (f : Tokens). ShapeIs may s f t) (sym r.2) (array_to may r.0 a.0 s r.1 a.1 t a.2 a.3)
       to may s f t (that (that r)) = ends_with (λ s t. ShapeIs may s f t) bare r
+
       from : (may : May) (s : ArraySize × List Expr) (f t : Tokens) → ShapeIs may s f t → Either ValuedIs (Either ArrayIs BareIs) may s f t
       from may _ _ t bare = that (that (refl, refl))
       from may _ _ t (valued {k = k} {e = e} {m = u} x) = this (k, u, refl, (e, t, x, (refl, refl)))
@@ -253,20 +264,21 @@ module _ (m : ℕ) (nested : Nested) (known : Deeper nested m 0) where
   globals_in _ k may _ _ t (next_global {l = l} {j = j} {k = i} {w = w} {s = h} {gs = gs} {m = v} {m' = v'} x y) e =
       (global l i w h, punct j mark.Comma ∷ v', ((l, w), v, refl, (h, punct j mark.Comma ∷ v', x, (ap (λ (i : Kind). global l i w h) (sym e), refl))), goes (subst (λ (i : Kind). GlobalsAre i may gs v' t) e y))
 
+  behind : (k : Kind) (x : Top) → Piece same_tree (Tail (GlobalsAre k) mark.Semicolon false x) any always always (λ t. punct 0 mark.Semicolon ∷ t) m (more_globals_of nested k x)
+  unfolding more_globals_of
+  behind k x =
+      tail_piece (GlobalIs k) (GlobalsAre k) global_ends name_first m (global_of nested k) (global_piece k) mark.Semicolon false (globals_to k) (λ may gs f t x. globals_in k k may gs f t x refl) refl (λ x l t. (omega arith, omega arith))
+      (λ may xs f t r e. absurd (false≢true e)) x
+
   abbrev pub GlobalsFrom : Kind → ℕ → List ℕ → Rel (List Top)
   GlobalsFrom k l w = Then ShapeIs (λ s. Tail (GlobalsAre k) mark.Semicolon false (global l k w s))
 
   pub globals_piece : (k : Kind) (l : ℕ) (w : List ℕ) → Piece same_tree (GlobalsFrom k l w) any always always (λ t. punct 0 mark.Semicolon ∷ t) m (globals_of nested k l w)
   unfolding globals_of
   globals_piece k l w =
-      seq (λ s ts. listed_on mark.Semicolon false (global_of nested k) (length ts) (global l k w s) ts) shape_piece (λ s. behind (global l k w s)) (λ t. omega arith)
+      seq (λ s ts. more_globals_of nested k (global l k w s) ts) shape_piece (λ s. behind k (global l k w s)) (λ t. omega arith)
       (λ may s gs u t r h. tail_meets (GlobalIs k) (GlobalsAre k) global_ends name_first m (global_of nested k) (global_piece k) mark.Semicolon false (globals_to k) (λ may gs f t x. globals_in k k may gs f t x refl) refl (λ x l t. (omega arith, omega arith))
-        (λ may xs f t r e. absurd (false≢true e)) may (global l k w s) gs u t r)
-    where
-      behind : (x : Top) → Piece same_tree (Tail (GlobalsAre k) mark.Semicolon false x) any always always (λ t. punct 0 mark.Semicolon ∷ t) m (λ ts. listed_on mark.Semicolon false (global_of nested k) (length ts) x ts)
-      behind x =
-          tail_piece (GlobalIs k) (GlobalsAre k) global_ends name_first m (global_of nested k) (global_piece k) mark.Semicolon false (globals_to k) (λ may gs f t x. globals_in k k may gs f t x refl) refl (λ x l t. (omega arith, omega arith))
-          (λ may xs f t r e. absurd (false≢true e)) x
+      (λ may xs f t r e. absurd (false≢true e)) may (global l k w s) gs u t r)
 
   -- ---- parameters
 
@@ -286,12 +298,15 @@ module _ (m : ℕ) (nested : Nested) (known : Deeper nested m 0) where
     where
       labelled_piece : Piece same_tree LabelledIs any always label_ends name_first m (λ ts. and_then (name_of ts) (λ n ts. label_here (n.0, Some (n.1)) ts))
       labelled_piece = seq (λ n ts. label_here (n.0, Some (n.1)) ts) (name_piece m) (λ n. done same_tree (n.0, Some (n.1)) m (λ t h. tt)) (λ t. omega arith) (λ may x y u t r h. tt)
+
       to : (may : May) (n : ℕ × Option (List ℕ)) (f t : Tokens) → Either LabelledIs (Done (l, None)) may n f t → LabelIs l may n f t
       to may n f t (this r) = subst (λ (f : Tokens). LabelIs l may n f t) (sym r.2) (ends_with (λ n t. LabelIs l may n (named r.0.0 r.0.1 ∷ r.1) t) labelled r.3)
       to may n f t (that r) = ends_with (λ n t. LabelIs l may n f t) unlabelled r
+
       from' : (j : ℕ) (may : May) (n : ℕ × Option (List ℕ)) (f t : Tokens) → Units may (label j n) f t → j ≡ l → Either LabelledIs (Done (l, None)) may n f t
       from' _ may _ _ t (unlabelled {l = j}) e = that (ap (λ (j : ℕ). (j, None)) (sym e), refl)
       from' _ may _ _ t (labelled {k = k} {w = w}) e = this ((k, w), t, refl, (refl, refl))
+
       from : (may : May) (n : ℕ × Option (List ℕ)) (f t : Tokens) → LabelIs l may n f t → Either LabelledIs (Done (l, None)) may n f t
       from may n f t x = from' l may n f t x refl
 
@@ -316,6 +331,7 @@ module _ (m : ℕ) (nested : Nested) (known : Deeper nested m 0) where
       to : (may : May) (a : ArraySize) (f t : Tokens) → Either SomeBrackets (Done sizes.Scalar) may a f t → BracketsAre may a f t
       to may a f t (this r) = subst (λ (f : Tokens). BracketsAre may a f t) (sym r.2) (some_brackets r.3)
       to may a f t (that r) = ends_with (λ a t. BracketsAre may a f t) no_brackets r
+
       from : (may : May) (a : ArraySize) (f t : Tokens) → BracketsAre may a f t → Either SomeBrackets (Done sizes.Scalar) may a f t
       from may _ _ t no_brackets = that (refl, refl)
       from may a _ t (some_brackets {k = k} {m = u} x) = this (k, u, refl, x)
@@ -347,9 +363,9 @@ module _ (m : ℕ) (nested : Nested) (known : Deeper nested m 0) where
   chain_piece =
       seq (λ k ts. and_then (label_of k.0 ts) (λ n ts. and_then (brackets_of nested ts) (λ a ts. param_here (parameter n k.1 a) ts))) (type_piece m)
       (λ k. seq (λ n ts. and_then (brackets_of nested ts) (λ a ts. param_here (parameter n k.1 a) ts)) (label_piece k.0)
-        (λ n. seq (λ a ts. param_here (parameter n k.1 a) ts) brackets_piece (λ a. done same_tree (parameter n k.1 a) m (λ t h. tt)) (λ t. omega arith)
-          (λ may x y u t r h. subst (λ (u : Tokens). is_next mark.LeftBracket u ≡ false) (sym r.1) h.1))
-        (λ t. omega arith) (λ may n p u t r h. brackets_no_name may r.0 u r.1 r.2 (subst (λ (u : Tokens). first is_name u ≡ false) (sym r.3.1) h.0)))
+      (λ n. seq (λ a ts. param_here (parameter n k.1 a) ts) brackets_piece (λ a. done same_tree (parameter n k.1 a) m (λ t h. tt)) (λ t. omega arith)
+      (λ may x y u t r h. subst (λ (u : Tokens). is_next mark.LeftBracket u ≡ false) (sym r.1) h.1))
+      (λ t. omega arith) (λ may n p u t r h. brackets_no_name may r.0 u r.1 r.2 (subst (λ (u : Tokens). first is_name u ≡ false) (sym r.3.1) h.0)))
       (λ t. omega arith)
       (λ may k p u t r h. let b = r.3 in label_no_type may k.0 r.0 u r.1 r.2 (brackets_no_type may b.0 r.1 b.1 b.2 (subst (λ (u : Tokens). begins_type u ≡ false) (sym b.3.1) h.2)))
 
@@ -358,6 +374,7 @@ module _ (m : ℕ) (nested : Nested) (known : Deeper nested m 0) where
     where
       to : (may : May) (p : Param) (f t : Tokens) → ParamChain may p f t → ParamIs may p f t
       to may p f t r = let n = r.3 in let a = n.3 in ends_with (λ p t. ParamIs may p f t) (param_is r.2 n.2 a.2) a.3
+
       from : (may : May) (p : Param) (f t : Tokens) → ParamIs may p f t → ParamChain may p f t
       from may _ f t (param_is {l = l} {k = k} {n = n} {a = a} {m = u} {m' = v} x y z) = ((l, k), u, x, (n, v, y, (a, t, z, (refl, refl))))
 
@@ -368,7 +385,8 @@ module _ (m : ℕ) (nested : Nested) (known : Deeper nested m 0) where
   list_starts may _ f t (last_param {p = p} x) = param_starts may p f _ x
   list_starts may _ f t (next_param {p = p} x y) = param_starts may p f _ x
 
-  list_piece : Piece same_tree ParamList any always always (λ t. type_first (punct 0 mark.RightParen ∷ t)) m (λ ts. listed mark.RightParen false (param_of nested) (suc (length ts)) ts)
+  list_piece : Piece same_tree ParamList any always always (λ t. type_first (punct 0 mark.RightParen ∷ t)) m (param_list_of nested)
+  unfolding param_list_of
   list_piece =
       listed_piece ParamIs ParamList param_ends type_first m (param_of nested) param_piece mark.RightParen false to from refl (λ x l t. ((refl, refl, refl), (refl, refl, refl))) (λ may xs f t r e. absurd (false≢true e))
     where
@@ -376,8 +394,10 @@ module _ (m : ℕ) (nested : Nested) (known : Deeper nested m 0) where
       to_tail may p _ f _ t x ends = last_param x
       to_tail may p _ f _ t x (trails q) = absurd (false≢true q)
       to_tail may p _ f _ t x (goes r) = next_param x r
+
       to : (may : May) (ps : List Param) (f t : Tokens) → Then ParamIs (λ x. Tail ParamList mark.RightParen false x) may ps f t → ParamList may ps f t
       to may ps f t r = to_tail may r.0 ps f r.1 t r.2 r.3
+
       from : (may : May) (ps : List Param) (f t : Tokens) → ParamList may ps f t → Then ParamIs (λ x. Tail ParamList mark.RightParen false x) may ps f t
       from may _ f t (last_param {k = k} {p = p} x) = (p, punct k mark.RightParen ∷ t, x, ends)
       from may _ f t (next_param {k = k} {p = p} {m = v} x y) = (p, punct k mark.Comma ∷ v, x, goes y)
@@ -406,18 +426,20 @@ module _ (m : ℕ) (nested : Nested) (known : Deeper nested m 0) where
   unfolding params_of
   params_piece =
       iff (either_of (is_mark mark.RightParen) no_params_piece
-        (either_of (is_key key.Void) void_params_piece list_piece (λ may ps f t r. ap (is_word key.Void) r.2) (λ may ps f t r e. type_no_void f (list_starts may ps f t r)))
-        (λ may ps f t r. ap (is_next mark.RightParen) r.2) no_paren) to from
+      (either_of (is_key key.Void) void_params_piece list_piece (λ may ps f t r. ap (is_word key.Void) r.2) (λ may ps f t r e. type_no_void f (list_starts may ps f t r)))
+      (λ may ps f t r. ap (is_next mark.RightParen) r.2) no_paren) to from
     where
       no_paren : (may : May) (ps : List Param) (f t : Tokens) → Either VoidParams ParamList may ps f t → always ps t → is_next mark.RightParen f ≡ false
       no_paren may ps f t (this r) e = ap (is_next mark.RightParen) r.2
       no_paren may ps f t (that r) e = type_no_paren f (list_starts may ps f t r)
+
       to : (may : May) (ps : List Param) (f t : Tokens) → Either NoParams (Either VoidParams ParamList) may ps f t → ParamsAre may ps f t
       to may ps f t (this r) = subst (λ (f : Tokens). ParamsAre may ps f t) (sym r.2) (ends_with (λ ps t. ParamsAre may ps (punct r.0 mark.RightParen ∷ r.1) t) no_params r.3)
       to may ps f t (that (this r)) =
           let k = r.3 in
           subst (λ (f : Tokens). ParamsAre may ps f t) (sym (r.2 ∙ ap (λ u. word r.0 key.Void ∷ u) k.2)) (ends_with (λ ps t. ParamsAre may ps (word r.0 key.Void ∷ punct k.0 mark.RightParen ∷ k.1) t) void_params k.3)
       to may ps f t (that (that r)) = some_params r
+
       from : (may : May) (ps : List Param) (f t : Tokens) → ParamsAre may ps f t → Either NoParams (Either VoidParams ParamList) may ps f t
       from may _ _ t (no_params {k = k}) = this (k, t, refl, (refl, refl))
       from may _ _ t (void_params {k = k} {k' = k'}) = that (this (k, punct k' mark.RightParen ∷ t, refl, (k', t, refl, (refl, refl))))

@@ -1,27 +1,24 @@
 -- Binary, conditional, assignment and comma expressions, and with them expressions at every depth.
-use Rattle.std.proofs.Common.{◌≡◌, ℕ, zero, suc, ◌+◌, ◌<◌, ◌≤◌, Bool, true, false, cond, leb, List, [], ◌∷◌, length, Option, Some, None, Result, Ok, Err, refl, sym, ap, ◌∙◌, subst, arith}
+use Rattle.std.proofs.Common.{◌≡◌, ℕ, zero, suc, ◌+◌, ◌<◌, ◌≤◌, true, false, leb, ◌∷◌, length, refl, sym, ap, ◌∙◌, subst, arith}
 use Rattle.std.proofs.lemmas.Bool.{false≢true, le-leb, leb-true}
-use Rattle.c_tree.specs.declared.token.Lexeme.{Lexeme}
-use Rattle.c_tree.specs.declared.token.Form.TheVariants as form
-use Rattle.c_tree.specs.declared.token.Mark.{Mark}
 use Rattle.c_tree.specs.declared.token.Mark.TheVariants as mark
 use Rattle.c_tree.specs.declared.tree.Expr.{Expr}
 use Rattle.c_tree.specs.declared.tree.ExprNode.TheVariants as node
-use Rattle.c_grammar.specs.Tokens.{Tokens, token, punct, May}
+use Rattle.c_grammar.specs.Tokens.{Tokens, punct, May}
 use Rattle.c_grammar.specs.Operators.{at, binary_level, Assigner, assigner_mark, assigner_op}
 use Rattle.c_grammar.specs.Expressions.{expr, Spells, number, name, group, element, call, suffix, prefix, cast, join, choice, assign, up}
 use Rattle.c_grammar.specs.Numbers.{is_mark}
-use Rattle.c_grammar.specs.Parsing.{Out, and_then, too_deep, by_option, tail, line_of, is_next, expect}
-use Rattle.c_grammar.specs.ModelExpressions.{Nested, enter, assigner_for, is_unary, seen, loop, binary_of, chosen_of, choice_from, conditional_of, assigned_of, assign_from, assignment_of, expression_of, cast_of, unary_of, inside}
-use Rattle.c_grammar.proofs.Agree.{if_true, if_false, is_false, Grows, Tied, Lands, lands_by}
-use Rattle.c_grammar.proofs.Pieces.{Rel, Sound, Complete, Then, always, any, Piece, seq, done, Done, iff, turn, ends_by, ends_with, same_tree, Either, this, that, either_of, Is, mark_piece, OpenIs, opening}
+use Rattle.c_grammar.specs.Parsing.{and_then, is_next, expect}
+use Rattle.c_grammar.specs.ModelExpressions.{Nested, assigner_for, is_unary, seen, loop, binary_of, chosen_of, choice_from, conditional_of, assigned_of, assign_from, assignment_of, expression_of, inside}
+use Rattle.c_grammar.proofs.Agree.{is_false}
+use Rattle.c_grammar.proofs.Pieces.{Rel, Then, always, any, Piece, seq, done, Done, iff, turn, ends_with, same_tree, Either, this, that, either_of, Is, mark_piece, OpenIs, opening}
 use Rattle.c_grammar.proofs.Stops.{Stops, lower, not_next, mark_stops, assigner_for_self, assigner_unary, assigner_none, bind_assigner, Joining, below_joins}
 use Rattle.c_grammar.proofs.Levels.{zero_token, zero_expr, zero_first, shortest, as_conditional, unary_is, unary_only}
-use Rattle.c_grammar.proofs.Joins.{Level, ends_at, expr_here, JoinsFrom, joins_to, joins_from, joins_piece, joins_meets}
+use Rattle.c_grammar.proofs.Joins.{Level, ends_at, expr_here, joins_to, joins_from, joins_piece, joins_meets}
 use Rattle.c_grammar.proofs.Expressions.{Deeper, Among, by, plain, among, unary_piece}
 use Rattle.c_grammar.proofs.Casts.{cast_piece}
 
-level_is : (n : ℕ) → binary_level n ≡ 3 + n
+pub level_is : (n : ℕ) → binary_level n ≡ 3 + n
 level_is zero = refl
 level_is (suc n) = let h = level_is n in omega (arith, h)
 
@@ -32,14 +29,14 @@ comma_joins : Joining 15
 comma_joins = record { many = omega arith; not_choice = λ e. omega (arith, e); not_assign = λ e. omega (arith, e) }
 
 module _ (m d : ℕ) (nested : Nested) (known : Deeper nested m d) where
-  binary_piece : (n : ℕ) → n ≤ 10 → Piece same_tree (Level (binary_level n) d) any always (ends_at (binary_level n)) zero_first m (binary_of nested n)
+  pub binary_piece : (n : ℕ) → n ≤ 10 → Piece same_tree (Level (binary_level n) d) any always (ends_at (binary_level n)) zero_first m (binary_of nested n)
   unfolding binary_of
   binary_piece zero le = cast_piece m d nested known
   binary_piece (suc n) le =
       let p = binary_piece n (omega (arith, le)) in
       iff (seq (λ a ts. loop (binary_of nested n) (binary_level n) (length ts) a ts) p (λ a. joins_piece m d (binary_level n) (binary_of nested n) p a) (λ t. omega arith)
-          (joins_meets m d (binary_level n) (binary_of nested n) p))
-        joins_to (joins_from (level_joins n (omega (arith, le))))
+      (joins_meets m d (binary_level n) (binary_of nested n) p))
+      joins_to (joins_from (level_joins n (omega (arith, le))))
 
   -- ---- conditional expressions
 
@@ -53,10 +50,10 @@ module _ (m d : ℕ) (nested : Nested) (known : Deeper nested m d) where
       opening same_tree (λ k. Then (Level 16 (suc d)) (λ b. Then (Is mark.Colon) (λ k'. Then (Level 14 (suc d)) (λ c. Done (at a.line (node.Choice a b c)))))) always (ends_at 14) (λ t. zero_token ∷ punct 0 mark.Colon ∷ zero_token ∷ t) m d mark.Question _ (λ t. omega arith)
       (λ k may t fr fr'. (at a.line (node.Choice a zero_expr zero_expr), (zero_expr, punct 0 mark.Colon ∷ zero_token ∷ t, shortest 16, (0, zero_token ∷ t, refl, (zero_expr, t, shortest 14, (refl, refl)))))) nested known.reach
       (λ h k. seq (λ b ts. and_then (expect mark.Colon ts) (λ _ ts. and_then (nested.conditional ts) (λ c ts. expr_here (at a.line (node.Choice a b c)) ts))) (known.expression_in h)
-        (λ b. seq (λ _ ts. and_then (nested.conditional ts) (λ c ts. expr_here (at a.line (node.Choice a b c)) ts)) (mark_piece mark.Colon m)
-          (λ k'. seq (λ c ts. expr_here (at a.line (node.Choice a b c)) ts) (known.conditional_in h) (λ c. done same_tree (at a.line (node.Choice a b c)) m (λ t h. tt)) (λ t. omega arith) (λ may x y u t r s. subst (Stops 14) (sym r.1) s))
-          (λ t. omega arith) (λ may x y u t r s. tt))
-        (λ t. omega arith) (λ may x y u t r s. mark_stops 16 mark.Colon (omega arith) r.0 r.1 u r.2))
+      (λ b. seq (λ _ ts. and_then (nested.conditional ts) (λ c ts. expr_here (at a.line (node.Choice a b c)) ts)) (mark_piece mark.Colon m)
+      (λ k'. seq (λ c ts. expr_here (at a.line (node.Choice a b c)) ts) (known.conditional_in h) (λ c. done same_tree (at a.line (node.Choice a b c)) m (λ t h. tt)) (λ t. omega arith) (λ may x y u t r s. subst (Stops 14) (sym r.1) s))
+      (λ t. omega arith) (λ may x y u t r s. tt))
+      (λ t. omega arith) (λ may x y u t r s. mark_stops 16 mark.Colon (omega arith) r.0 r.1 u r.2))
 
   abbrev ChoiceFrom : Expr → Rel Expr
   ChoiceFrom a = Either (ChosenIs a) (Done a)
@@ -156,7 +153,7 @@ module _ (m d : ℕ) (nested : Nested) (known : Deeper nested m d) where
   unfolding expression_of
   expression_piece =
       iff (seq (λ a ts. loop (assignment_of nested) 15 (length ts) a ts) assignment_piece (λ a. joins_piece m d 15 (assignment_of nested) assignment_piece a) (λ t. omega arith)
-        (joins_meets m d 15 (assignment_of nested) assignment_piece)) joins_to (joins_from comma_joins)
+      (joins_meets m d 15 (assignment_of nested) assignment_piece)) joins_to (joins_from comma_joins)
 
 pub not_deeper : (m d : ℕ) → d + 0 ≡ m → leb (suc d) m ≡ false
 not_deeper m d e = is_false (leb (suc d) m) (λ h. let h' = leb-true (suc d) m h in omega (arith, e, h'))

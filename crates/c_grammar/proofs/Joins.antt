@@ -1,16 +1,15 @@
 -- Loops of the parser of expressions: phrases joined to the left, and suffixes.
-use Rattle.std.proofs.Common.{◌≡◌, ℕ, zero, suc, ◌+◌, ◌<◌, ◌≤◌, Bool, true, false, cond, List, [], ◌∷◌, length, Option, Some, None, Result, Ok, Err, refl, sym, ap, ◌∙◌, subst, arith}
-use Rattle.std.proofs.lemmas.Bool.{false≢true}
+use Rattle.std.proofs.Common.{◌≡◌, ℕ, zero, suc, ◌≤◌, Bool, ◌∷◌, length, Ok, refl, ap, subst, arith}
 use Rattle.c_tree.specs.declared.token.Lexeme.{Lexeme}
 use Rattle.c_tree.specs.declared.token.Form.TheVariants as form
 use Rattle.c_tree.specs.declared.tree.Expr.{Expr}
 use Rattle.c_grammar.specs.Tokens.{Tokens, punct, May}
 use Rattle.c_grammar.specs.Operators.{Joiner, joiner_mark, below, joined, Suffix, suffix_mark, suffixed}
 use Rattle.c_grammar.specs.Expressions.{expr, Spells, number, name, group, element, call, suffix, prefix, cast, join, choice, assign, up}
-use Rattle.c_grammar.specs.Parsing.{Out, and_then, by_option, tail, line_of}
+use Rattle.c_grammar.specs.Parsing.{Out, and_then, tail, line_of}
 use Rattle.c_grammar.specs.ModelExpressions.{joiner, suffix_of, seen, loop, suffixes}
-use Rattle.c_grammar.proofs.Agree.{Way, stay, one, both, place, Tied, end, at_cut, alike, head_step, Brief, fine, Lands, good, past, lands_by, bind_lands}
-use Rattle.c_grammar.proofs.Pieces.{Rel, Sound, read, stuck, Then, always, any, Piece, seq_sound, same_tree, sound_short, prepend}
+use Rattle.c_grammar.proofs.Agree.{stay, place, Tied, at_cut, alike, head_step, Lands, good, past, lands_by, bind_lands}
+use Rattle.c_grammar.proofs.Pieces.{Rel, Sound, read, Then, always, any, Piece, seq_sound, same_tree, sound_short, prepend}
 use Rattle.c_grammar.proofs.Stops.{Stops, lower, tied_stops, seen_is, by_none, by_some, by_step, bind_joiner, joiner_self, joiner_is, joiner_below, joiner_none, Joining, below_joins, suffix_self, suffix_is, suffix_none, bind_suffix}
 use Rattle.c_grammar.proofs.Levels.{zero_first}
 
@@ -27,7 +26,7 @@ expr_here e t = Ok (e, t)
 pub data Joins (d k : ℕ) (may : May) (r : Expr) : Expr → Tokens → Tokens → Type 0 where
   over : {t : Tokens} → Joins d k may r r t t
   on : {l : ℕ} {a b : Expr} {m u t : Tokens} → (j : Joiner) → below j ≡ k → Spells may (expr k b) d m u → Joins d k may r (joined j a b) u t
-    → Joins d k may r a (punct l (joiner_mark j) ∷ m) t
+      → Joins d k may r a (punct l (joiner_mark j) ∷ m) t
 
 abbrev pub JoinsFrom : ℕ → ℕ → Expr → Rel Expr
 JoinsFrom d k a may r f t = Joins d k may r a f t
@@ -86,7 +85,7 @@ module _ (m d k : ℕ) (inner : Tokens → Out Expr) (item : Piece same_tree (Le
       by_step (Sound same_tree (JoinsFrom d k a) always m ts) (seen (joiner k) ts) _ _
       (λ e. read a ts (record { put = λ u. u; way = stay; is = refl; again = λ may w u. over }) tt)
       (λ j e. prepend (punct (line_of ts) (joiner_mark j)) ts (seen_is (joiner k) joiner_mark (λ f j e. (joiner_is k f j e).0) ts j e) (λ may r f t q. on j (joiner_below k ts j e) q.2 q.3)
-        (turn_sound n a j (joins_sound n) (tail ts)))
+      (turn_sound n a j (joins_sound n) (tail ts)))
 
   loop_stops : (n : ℕ) (a : Expr) (ts : Tokens) → Stops (suc k) ts → loop inner k n a ts ≡ Ok (a, ts)
   loop_stops zero a ts s = refl
@@ -103,18 +102,27 @@ module _ (m d k : ℕ) (inner : Tokens → Out Expr) (item : Piece same_tree (Le
   joins_land cut g g' may (suc n) a r f' t' (on {l = l} {b = b} {m = v} {u = u} j e y js) s f le tied =
       head_step cut g g' (λ w. length w ≤ suc n → Lands cut g g' may m (loop inner k (suc n) a w) (λ to. Ok (r, to)) t') tied
       (λ w tw le. lands_by cut g g' may m (loop_joins n l a j w e)
-        (bind_lands cut g g' may m b (inner w) (λ b ts. loop inner k n (joined j a b) ts) (λ to. Ok (r, to)) u t' (item.complete cut g g' may b v u y (joins_stop js s) w tw)
-          (λ x v le. record { le = omega (arith, le, sound_short same_tree (JoinsFrom d k (joined j a x)) always m v (loop inner k n (joined j a x) v) (joins_sound n (joined j a x) v)) })
-          (λ mid tm i. joins_land cut g g' may n (joined j a b) r u t' js s mid
-            (omega (arith, le, sound_short same_tree (Level k d) always m w (inner w) (item.sound w tt), ap (λ (o : Out Expr). length (place o)) i)) tm)))
-      (λ c le. past c (record { le = omega (arith, ap (λ (o : Out Expr). length (place o)) (loop_joins n l a j g e),
-        sound_short same_tree (Then (Level k d) (λ b. JoinsFrom d k (joined j a b))) always m g (and_then (inner g) (λ b ts. loop inner k n (joined j a b) ts)) (turn_sound n a j (joins_sound n) g)) }))
+      (bind_lands cut g g' may m b (inner w) (λ b ts. loop inner k n (joined j a b) ts) (λ to. Ok (r, to)) u t' (item.complete cut g g' may b v u y (joins_stop js s) w tw)
+      (λ x v le. record { le = omega (arith, le, sound_short same_tree (JoinsFrom d k (joined j a x)) always m v (loop inner k n (joined j a x) v) (joins_sound n (joined j a x) v)) })
+      (λ mid tm i. joins_land cut g g' may n (joined j a b) r u t' js s mid
+      (omega (arith, le, sound_short same_tree (Level k d) always m w (inner w) (item.sound w tt), ap (λ (o : Out Expr). length (place o)) i)) tm)))
+      (λ c le. past c (record {
+        le = omega (
+          arith,
+          ap (λ (o : Out Expr). length (place o)) (loop_joins n l a j g e),
+          sound_short same_tree (Then (Level k d) (λ b. JoinsFrom d k (joined j a b))) always m g (and_then (inner g) (λ b ts. loop inner k n (joined j a b) ts)) (turn_sound n a j (joins_sound n) g),
+        );
+      }))
       le
 
   pub joins_piece : (a : Expr) → Piece same_tree (JoinsFrom d k a) any always (ends_at (suc k)) (λ t. t) m (λ ts. loop inner k (length ts) a ts)
   joins_piece a =
-      record { grow = λ t. omega arith; least = λ may t fr fr'. (a, over); sound = λ ts h. joins_sound (length ts) a ts;
-        complete = λ cut g g' may r f' t' x s f tied. joins_land cut g g' may (length f) a r f' t' x s f (omega arith) tied }
+      record {
+        grow = λ t. omega arith;
+        least = λ may t fr fr'. (a, over);
+        sound = λ ts h. joins_sound (length ts) a ts;
+        complete = λ cut g g' may r f' t' x s f tied. joins_land cut g g' may (length f) a r f' t' x s f (omega arith) tied;
+      }
 
   pub joins_meets : (may : May) (a r : Expr) (u t : Tokens) → JoinsFrom d k a may r u t → Stops (suc k) t → Stops k u
   joins_meets may a r u t js s = joins_stop js s
@@ -181,11 +189,20 @@ module _ (m : ℕ) where
   suffixes_land cut g g' may (suc n) a r f' t' (on' {l = l} {u = u} x js) s f le tied =
       head_step cut g g' (λ w. length w ≤ suc n → Lands cut g g' may m (suffixes (suc n) a w) (λ to. Ok (r, to)) t') tied
       (λ w tw le. lands_by cut g g' may m (suffixes_on n l a x w) (suffixes_land cut g g' may n (suffixed x a) r u t' js s w (omega (arith, le)) tw))
-      (λ c le. past c (record { le = omega (arith, ap (λ (o : Out Expr). length (place o)) (suffixes_on n l a x g),
-        sound_short same_tree (SuffixesOf (suffixed x a)) always m g (suffixes n (suffixed x a) g) (suffixes_sound n (suffixed x a) g)) }))
+      (λ c le. past c (record {
+        le = omega (
+          arith,
+          ap (λ (o : Out Expr). length (place o)) (suffixes_on n l a x g),
+          sound_short same_tree (SuffixesOf (suffixed x a)) always m g (suffixes n (suffixed x a) g) (suffixes_sound n (suffixed x a) g),
+        );
+      }))
       le
 
   pub suffixes_piece : (a : Expr) → Piece same_tree (SuffixesOf a) any always (ends_at 1) (λ t. t) m (λ ts. suffixes (length ts) a ts)
   suffixes_piece a =
-      record { grow = λ t. omega arith; least = λ may t fr fr'. (a, over'); sound = λ ts h. suffixes_sound (length ts) a ts;
-        complete = λ cut g g' may r f' t' x s f tied. suffixes_land cut g g' may (length f) a r f' t' x s f (omega arith) tied }
+      record {
+        grow = λ t. omega arith;
+        least = λ may t fr fr'. (a, over');
+        sound = λ ts h. suffixes_sound (length ts) a ts;
+        complete = λ cut g g' may r f' t' x s f tied. suffixes_land cut g g' may (length f) a r f' t' x s f (omega arith) tied;
+      }

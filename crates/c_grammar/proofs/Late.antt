@@ -1,5 +1,5 @@
 -- Every opener of a phrase stands before what is left, and none is the last token of a unit.
-use Rattle.std.proofs.Common.{◌≡◌, ℕ, zero, suc, ◌+◌, ◌<◌, ◌≤◌, Bool, true, false, List, [], ◌∷◌, ◌++◌, length, refl, arith}
+use Rattle.std.proofs.Common.{◌≡◌, ℕ, suc, ◌<◌, ◌≤◌, true, List, length, arith}
 use Rattle.c_tree.specs.declared.tree.Stmt.{Stmt}
 use Rattle.c_grammar.specs.Tokens.{Tokens, May}
 use Rattle.c_grammar.specs.Expressions.{Spells}

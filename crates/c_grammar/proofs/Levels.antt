@@ -1,5 +1,5 @@
 -- Facts on expressions of a level: what they begin with, what may be assigned to, what opens.
-use Rattle.std.proofs.Common.{◌≡◌, ℕ, zero, suc, ◌+◌, ◌<◌, ◌≤◌, Bool, true, false, cond, ◌||◌, List, [], ◌∷◌, length, Option, Some, None, refl, sym, ap, ◌∙◌, subst, arith}
+use Rattle.std.proofs.Common.{◌≡◌, ℕ, zero, suc, ◌<◌, ◌≤◌, true, false, List, [], ◌∷◌, length, refl, sym, ap, ◌∙◌, arith}
 use Rattle.std.proofs.lemmas.Bool.{false≢true}
 use Rattle.c_tree.specs.declared.token.Lexeme.{Lexeme}
 use Rattle.c_tree.specs.declared.token.Form.{Form}
@@ -9,20 +9,19 @@ use Rattle.c_tree.specs.declared.token.Mark.TheVariants as mark
 use Rattle.c_tree.specs.declared.token.Kind.TheVariants as kind
 use Rattle.c_tree.specs.declared.tree.UnaryOp.TheVariants as unary
 use Rattle.c_tree.specs.declared.tree.Expr.{Expr}
-use Rattle.c_tree.specs.declared.tree.ExprNode.{ExprNode, out-ExprNode}
 use Rattle.c_tree.specs.declared.tree.ExprNode.TheVariants as node
 use Rattle.c_tree.specs.declared.tree.BumpOp.TheVariants as bump
-use Rattle.c_grammar.specs.Tokens.{Tokens, token, punct, May}
-use Rattle.c_grammar.specs.Operators.{at, Joiner, op, comma, joiner_mark, below, joined, Prefix, sign, increase, decrease, prefix_mark, Suffix, increased, decreased, Assigner, assigner_op}
-use Rattle.c_grammar.specs.Expressions.{Phrase, expr, args, arg_list, Spells, number, name, group, element, call, none, some, last, next, suffix, prefix, cast, join, choice, assign, up}
+use Rattle.c_grammar.specs.Tokens.{Tokens, token, May}
+use Rattle.c_grammar.specs.Operators.{at, op, comma, sign, increase, decrease, increased, decreased, assigner_op}
+use Rattle.c_grammar.specs.Expressions.{Phrase, expr, arg_list, Spells, number, name, group, element, call, none, some, last, next, suffix, prefix, cast, join, choice, assign, up}
 use Rattle.c_grammar.specs.Numbers.{is_mark}
-use Rattle.c_grammar.specs.Parsing.{tail, first, is_next}
+use Rattle.c_grammar.specs.Parsing.{first, is_next}
 use Rattle.c_grammar.specs.ModelTypes.{is_type, begins_type}
-use Rattle.c_grammar.specs.ModelExpressions.{is_unary_node, is_unary, is_cast, is_name, prefix_of, seen}
+use Rattle.c_grammar.specs.ModelExpressions.{is_unary_node, is_unary, is_cast}
 use Rattle.c_grammar.specs.ModelStatements.{begins_expression}
 use Rattle.c_grammar.proofs.Numbers.{mark_is}
-use Rattle.c_grammar.proofs.Agree.{apart, is_false, Frees}
-use Rattle.c_grammar.proofs.Stops.{Joining, below_joins}
+use Rattle.c_grammar.proofs.Agree.{apart}
+use Rattle.c_grammar.proofs.Stops.{below_joins}
 use Rattle.c_grammar.proofs.Types.{types_shorter}
 
 -- ---- the shortest expression

@@ -18,3 +18,4 @@ pub mod Units
 pub mod Late
 pub mod Whole
 pub mod Parsed
+pub mod OneAnswer

@@ -1,15 +1,15 @@
 -- Lists of items, each a part of its own.
-use Rattle.std.proofs.Common.{◌≡◌, ℕ, zero, suc, ◌+◌, ◌<◌, ◌≤◌, Bool, true, false, cond, List, [], ◌∷◌, ◌++◌, length, Option, Some, None, Result, Ok, Err, refl, sym, ap, ◌∙◌, subst, arith, length-append}
+use Rattle.std.proofs.Common.{◌≡◌, ℕ, zero, suc, ◌<◌, ◌≤◌, Bool, true, false, cond, List, [], ◌∷◌, ◌++◌, length, Ok, refl, sym, ap, ◌∙◌, subst, arith, length-append}
 use Rattle.std.proofs.lemmas.Bool.{false≢true}
 use Rattle.c_tree.specs.declared.token.Mark.{Mark}
 use Rattle.c_tree.specs.declared.token.Form.TheVariants as form
 use Rattle.c_tree.specs.declared.token.Mark.TheVariants as mark
 use Rattle.c_grammar.specs.Tokens.{Tokens, punct, May, within}
 use Rattle.c_grammar.specs.Numbers.{is_mark}
-use Rattle.c_grammar.specs.Parsing.{Stop, Out, and_then, syntax, tail, line_of, is_next, expect, closes, listed, listed_on, many, is_end, to_end}
+use Rattle.c_grammar.specs.Parsing.{Out, and_then, syntax, tail, line_of, is_next, expect, closes, listed, listed_on, many, is_end, to_end}
 use Rattle.c_grammar.proofs.Numbers.{mark_self}
-use Rattle.c_grammar.proofs.Agree.{split_if, if_true, if_false, trans_le, next_is, tail_short, Way, stay, one, both, Grows, frees_after, frees_all, place, Tied, end, at_cut, alike, head_step, tied_first, Brief, fine, short_then, short_if, short_expect, Lands, good, past, lands_by, bind_lands}
-use Rattle.c_grammar.proofs.Pieces.{Rel, Front, Sound, read, stuck, Least, Then, always, any, Piece, seq_sound, same_tree, sound_short, turn, prepend}
+use Rattle.c_grammar.proofs.Agree.{split_if, if_true, if_false, trans_le, next_is, tail_short, stay, one, Grows, frees_after, frees_all, place, Tied, end, at_cut, alike, head_step, tied_first, Brief, fine, short_then, short_if, short_expect, Lands, good, past, lands_by, bind_lands}
+use Rattle.c_grammar.proofs.Pieces.{Rel, Sound, read, stuck, Least, Then, always, any, Piece, seq_sound, same_tree, sound_short, turn, prepend}
 
 abbrev took : Tokens → Out ℕ
 took ts = Ok (line_of ts, tail ts)
@@ -50,11 +50,11 @@ module _ {A : Type 0} (R : Rel A) (L : Rel (List A)) (Ends : A → Tokens → Ty
   -- behind a comma
   comma_sound : (x : A) (n l : ℕ) → ((ts : Tokens) → Sound same_tree L always m ts (listed k trailing run n ts)) → (ts : Tokens)
       → Sound same_tree (λ may ys f t. Tail L k trailing x may ys (punct l mark.Comma ∷ f) t) always m ts
-        (cond (closes k trailing ts) (Ok (x ∷ [], tail ts)) (and_then (listed k trailing run n ts) (λ xs ts. Ok (x ∷ xs, ts))))
+      (cond (closes k trailing ts) (Ok (x ∷ [], tail ts)) (and_then (listed k trailing run n ts) (λ xs ts. Ok (x ∷ xs, ts))))
   comma_sound x n l below ts =
       split_if (Sound same_tree (λ may ys f t. Tail L k trailing x may ys (punct l mark.Comma ∷ f) t) always m ts) (closes k trailing ts) _ _
       (λ e. let h = and_is trailing (is_next k ts) e in
-        read (x ∷ []) (tail ts) (record { put = λ u. punct (line_of ts) k ∷ u; way = one _; is = next_is k ts h.1; again = λ may w u. trails h.0 }) tt)
+      read (x ∷ []) (tail ts) (record { put = λ u. punct (line_of ts) k ∷ u; way = one _; is = next_is k ts h.1; again = λ may w u. trails h.0 }) tt)
       (λ e. turn (λ may ys f t r. subst (λ (ys : List A). Tail L k trailing x may ys (punct l mark.Comma ∷ f) t) (sym r.2) (goes r.1)) ts (consed_sound x ts (listed k trailing run n ts) (below ts)))
 
   tail_sound : (x : A) (n : ℕ) → ((ts : Tokens) → Sound same_tree L always m ts (listed k trailing run n ts)) → (ts : Tokens) → Sound same_tree (Tail L k trailing x) always m ts (listed_on k trailing run n x ts)
@@ -69,15 +69,22 @@ module _ {A : Type 0} (R : Rel A) (L : Rel (List A)) (Ends : A → Tokens → Ty
 
   pub listed_sound : (n : ℕ) (ts : Tokens) → Sound same_tree L always m ts (listed k trailing run n ts)
   listed_sound zero ts =
-      stuck _ (record { put = λ u. u; way = stay; is = refl; more = λ u. after (punct 0 k ∷ u); grows = grows_all; held = tt;
-        completes = λ u. listed_least _ u (frees_after m (λ u. after (punct 0 k ∷ u)) grows_all u) (λ q d le. frees_after m (λ u. u) (λ u. omega arith) (after (punct 0 k ∷ u)) q d le) })
+      stuck _ (record {
+        put = λ u. u;
+        way = stay;
+        is = refl;
+        more = λ u. after (punct 0 k ∷ u);
+        grows = grows_all;
+        held = tt;
+        completes = λ u. listed_least _ u (frees_after m (λ u. after (punct 0 k ∷ u)) grows_all u) (λ q d le. frees_after m (λ u. u) (λ u. omega arith) (after (punct 0 k ∷ u)) q d le);
+      })
     where
       grows_all : Grows (λ u. after (punct 0 k ∷ u))
       grows_all u = trans_le (omega arith) (item.grow (punct 0 k ∷ u))
   listed_sound (suc n) ts =
       turn to ts
       (seq_sound same_tree same_tree R (λ x. Tail L k trailing x) always always m ts (run ts) (listed_on k trailing run n) (λ t. punct 0 k ∷ t) (λ t. omega arith) (λ x may t fr fr'. (x ∷ [], ends)) (item.sound ts tt)
-        (λ x u _. tail_sound x n (listed_sound n) u))
+      (λ x u _. tail_sound x n (listed_sound n) u))
 
   module _ (from : (may : May) (xs : List A) (f t : Tokens) → L may xs f t → Then R (λ x. Tail L k trailing x) may xs f t) (comma_not : is_mark mark.Comma (form.Mark k) ≡ false)
       (meets : (x : A) (l : ℕ) (t : Tokens) → Ends x (punct l mark.Comma ∷ t) × Ends x (punct l k ∷ t)) (begins : (may : May) (xs : List A) (f t : Tokens) → L may xs f t → trailing ≡ true → is_next k f ≡ false) where
@@ -105,24 +112,24 @@ module _ {A : Type 0} (R : Rel A) (L : Rel (List A)) (Ends : A → Tokens → Ty
     tail_lands cut g g' may n below x _ _ t' (ends {l = l}) mid lt tm =
         lands_by cut g g' may m (if_false (is_next mark.Comma mid) _ _ (tied_first cut g g' (is_mark mark.Comma) tm ∙ comma_not))
         (head_step cut g g' (λ u. Lands cut g g' may m (and_then (expect k u) (λ _ ts. Ok (x ∷ [], ts))) (λ to. Ok (x ∷ [], to)) t') tm
-          (λ r tr. good r tr (ap (λ (o : Out ℕ). and_then o (λ _ ts. Ok (x ∷ [], ts))) (if_true _ _ _ (mark_self k))))
-          (λ c. past c (record { le = omega (arith, ap (λ (o : Out (List A)). length (place o)) (ap (λ (o : Out ℕ). and_then o (λ _ ts. Ok (x ∷ [], ts))) (if_true (is_next k (punct l k ∷ g)) (took (punct l k ∷ g)) (syntax (punct l k ∷ g)) (mark_self k)))) })))
+        (λ r tr. good r tr (ap (λ (o : Out ℕ). and_then o (λ _ ts. Ok (x ∷ [], ts))) (if_true _ _ _ (mark_self k))))
+        (λ c. past c (record { le = omega (arith, ap (λ (o : Out (List A)). length (place o)) (ap (λ (o : Out ℕ). and_then o (λ _ ts. Ok (x ∷ [], ts))) (if_true (is_next k (punct l k ∷ g)) (took (punct l k ∷ g)) (syntax (punct l k ∷ g)) (mark_self k)))) })))
     tail_lands cut g g' may n below x _ _ t' (trails {l = l} {l' = l'} yes') mid lt tm =
         lands_by cut g g' may m (if_true (is_next mark.Comma mid) _ _ (tied_first cut g g' (is_mark mark.Comma) tm))
         (head_step cut g g' (λ w. Lands cut g g' may m (cond (closes k trailing (tail w)) (Ok (x ∷ [], tail (tail w))) (and_then (listed k trailing run n (tail w)) (λ xs ts. Ok (x ∷ xs, ts)))) (λ to. Ok (x ∷ [], to)) t') tm
-          (λ r tr. lands_by cut g g' may m (if_true _ _ _ (closing_here trailing yes' r (tied_first cut g g' (is_mark k) tr ∙ mark_self k)))
-            (head_step cut g g' (λ w. Lands cut g g' may m (one_here (tail w)) one_here t') tr (λ z tz. good z tz refl) (λ c. past c (fine cut g g' (omega arith)))))
-          (λ c. past c (behind_short cut g g' n x g (omega arith))))
+        (λ r tr. lands_by cut g g' may m (if_true _ _ _ (closing_here trailing yes' r (tied_first cut g g' (is_mark k) tr ∙ mark_self k)))
+        (head_step cut g g' (λ w. Lands cut g g' may m (one_here (tail w)) one_here t') tr (λ z tz. good z tz refl) (λ c. past c (fine cut g g' (omega arith)))))
+        (λ c. past c (behind_short cut g g' n x g (omega arith))))
       where
         one_here : Tokens → Out (List A)
         one_here t = Ok (x ∷ [], t)
     tail_lands cut g g' may n below x _ _ t' (goes {l = l} {xs = xs} {u = v} h) mid lt tm =
         lands_by cut g g' may m (if_true (is_next mark.Comma mid) _ _ (tied_first cut g g' (is_mark mark.Comma) tm))
         (head_step cut g g' (λ w. length w < suc n → Lands cut g g' may m (cond (closes k trailing (tail w)) (Ok (x ∷ [], tail (tail w))) (and_then (listed k trailing run n (tail w)) (λ xs ts. Ok (x ∷ xs, ts)))) (λ to. Ok (x ∷ xs, to)) t') tm
-          (λ r tr lt. lands_by cut g g' may m (if_false _ _ _ (not_closing cut g g' trailing refl r v tr (begins may xs v t' h)))
-            (bind_lands cut g g' may m xs (listed k trailing run n r) (λ xs ts. Ok (x ∷ xs, ts)) (λ to. Ok (x ∷ xs, to)) t' t' (below xs v t' h r (omega (arith, lt)) tr) (λ ys w le. fine cut g g' le) (λ mid2 t2 i2. good mid2 t2 refl)))
-          (λ c lt. past c (behind_short cut g g' n x g (omega arith)))
-          lt)
+        (λ r tr lt. lands_by cut g g' may m (if_false _ _ _ (not_closing cut g g' trailing refl r v tr (begins may xs v t' h)))
+        (bind_lands cut g g' may m xs (listed k trailing run n r) (λ xs ts. Ok (x ∷ xs, ts)) (λ to. Ok (x ∷ xs, to)) t' t' (below xs v t' h r (omega (arith, lt)) tr) (λ ys w le. fine cut g g' le) (λ mid2 t2 i2. good mid2 t2 refl)))
+        (λ c lt. past c (behind_short cut g g' n x g (omega arith)))
+        lt)
 
     pub tail_meets : (may : May) (x : A) (ys : List A) (u t : Tokens) → Tail L k trailing x may ys u t → Ends x u
     tail_meets may x _ _ t (ends {l = l}) = (meets x l t).1
@@ -135,12 +142,16 @@ module _ {A : Type 0} (R : Rel A) (L : Rel (List A)) (Ends : A → Tokens → Ty
         let r = from may xs f' t' l in
         bind_lands cut g g' may m r.0 (run f) (listed_on k trailing run n) (λ to. Ok (xs, to)) r.1 t' (item.complete cut g g' may r.0 f' r.1 r.2 (tail_meets may r.0 xs r.1 t' r.3) f tied) (λ y v le. tail_brief cut g g' n y v le)
         (λ mid tm i. tail_lands cut g g' may n (λ xs f' t' l f lt tied. listed_complete cut g g' may n xs f' t' l f lt tied) r.0 xs r.1 t' r.3 mid
-          (omega (arith, lt, sound_short same_tree R always m f (run f) (item.sound f tt), ap (λ (o : Out A). length (place o)) i)) tm)
+        (omega (arith, lt, sound_short same_tree R always m f (run f) (item.sound f tt), ap (λ (o : Out A). length (place o)) i)) tm)
 
     pub listed_piece : Piece same_tree L any always always (λ t. after (punct 0 k ∷ t)) m (λ ts. listed k trailing run (suc (length ts)) ts)
     listed_piece =
-        record { grow = λ u. trans_le (omega arith) (item.grow (punct 0 k ∷ u)); least = listed_least; sound = λ ts h. listed_sound (suc (length ts)) ts;
-          complete = λ cut g g' may xs f' t' l e f tied. listed_complete cut g g' may (suc (length f)) xs f' t' l f (omega arith) tied }
+        record {
+          grow = λ u. trans_le (omega arith) (item.grow (punct 0 k ∷ u));
+          least = listed_least;
+          sound = λ ts h. listed_sound (suc (length ts)) ts;
+          complete = λ cut g g' may xs f' t' l e f tied. listed_complete cut g g' may (suc (length f)) xs f' t' l f (omega arith) tied;
+        }
 
     -- behind an item, for the text that is left
     pub tail_piece : (x : A) → Piece same_tree (Tail L k trailing x) any always always (λ t. punct 0 k ∷ t) m (λ ts. listed_on k trailing run (length ts) x ts)
@@ -177,9 +188,9 @@ module _ {A : Type 0} (R L : Rel (List A)) (Ends : List A → Tokens → Type 0)
       split_if (Sound same_tree L always m ts) (is_next k ts) _ _
       (λ e. read [] (tail ts) (record { put = λ u. punct (line_of ts) k ∷ u; way = one _; is = next_is k ts e; again = λ may w u. to may [] _ u over }) tt)
       (λ e. turn (λ may ys f t r. let c = r.3 in subst (λ (ys : List A). L may ys f t) (sym c.2) (to may _ f t (more r.2 c.1))) ts
-        (seq_sound same_tree same_tree R (λ x. appended x L) always always m ts (run ts) (λ x ts. and_then (many k run n ts) (λ xs ts. Ok (x ++ xs, ts))) (λ t. punct 0 k ∷ t) (λ t. omega arith)
-          (λ x may t fr fr'. let l = many_least may t fr fr' in (x ++ l.0, (l.0, l.1, refl))) (item.sound ts tt)
-          (λ x u _. appended_sound x u (many k run n u) (many_sound n u))))
+      (seq_sound same_tree same_tree R (λ x. appended x L) always always m ts (run ts) (λ x ts. and_then (many k run n ts) (λ xs ts. Ok (x ++ xs, ts))) (λ t. punct 0 k ∷ t) (λ t. omega arith)
+      (λ x may t fr fr'. let l = many_least may t fr fr' in (x ++ l.0, (l.0, l.1, refl))) (item.sound ts tt)
+      (λ x u _. appended_sound x u (many k run n u) (many_sound n u))))
 
   module _ (from : (may : May) (xs : List A) (f t : Tokens) → L may xs f t → Many R L k may xs f t) (strict : (may : May) (x : List A) (f t : Tokens) → R may x f t → length t < length f)
       (begins : (may : May) (x : List A) (f t : Tokens) → R may x f t → is_next k f ≡ false) (meets : (may : May) (x xs : List A) (u t : Tokens) → L may xs u t → Ends x u) where
@@ -194,10 +205,10 @@ module _ {A : Type 0} (R L : Rel (List A)) (Ends : List A → Tokens → Type 0)
     many_turn cut g g' may n below _ f' t' (more {x = x} {xs = xs} {u = u} r l) f lt tied =
         lands_by cut g g' may m (if_false (is_next k f) _ _ (tied_first cut g g' (is_mark k) tied ∙ begins may x f' u r))
         (bind_lands cut g g' may m x (run f) (λ x ts. and_then (many k run n ts) (λ xs ts. Ok (x ++ xs, ts))) (λ to. Ok (x ++ xs, to)) u t'
-          (item.complete cut g g' may x f' u r (meets may x xs u t' l) f tied)
-          (λ y v le. short_then cut g g' (many k run n v) _ (record { le = trans_le (sound_short same_tree L always m v (many k run n v) (many_sound n v)) le }) (λ ys w le. fine cut g g' le))
-          (λ mid tm i. let sh = read_shorter strict f x (run f) mid (item.sound f tt) i in
-            bind_lands cut g g' may m xs (many k run n mid) (λ xs ts. Ok (x ++ xs, ts)) (λ to. Ok (x ++ xs, to)) t' t' (below xs u t' l mid (omega (arith, sh, lt)) tm) (λ ys w le. fine cut g g' le) (λ mid2 t2 i2. good mid2 t2 refl)))
+        (item.complete cut g g' may x f' u r (meets may x xs u t' l) f tied)
+        (λ y v le. short_then cut g g' (many k run n v) _ (record { le = trans_le (sound_short same_tree L always m v (many k run n v) (many_sound n v)) le }) (λ ys w le. fine cut g g' le))
+        (λ mid tm i. let sh = read_shorter strict f x (run f) mid (item.sound f tt) i in
+        bind_lands cut g g' may m xs (many k run n mid) (λ xs ts. Ok (x ++ xs, ts)) (λ to. Ok (x ++ xs, to)) t' t' (below xs u t' l mid (omega (arith, sh, lt)) tm) (λ ys w le. fine cut g g' le) (λ mid2 t2 i2. good mid2 t2 refl)))
 
     pub many_complete : (cut : Bool) (g g' : Tokens) (may : May) (n : ℕ) (xs : List A) (f' t' : Tokens) → L may xs f' t' → (f : Tokens) → length f < n → Tied cut g g' f f' → Lands cut g g' may m (many k run n f) (λ to. Ok (xs, to)) t'
     many_complete cut g g' may zero xs f' t' l f lt tied = absurd (omega (arith, lt))
@@ -251,9 +262,9 @@ module _ {A : Type 0} (R L : Rel (List A)) (after : Tokens → Tokens) (m : ℕ)
   to_end_sound (suc n) ts =
       turn to ts
       (seq_sound same_tree same_tree R (λ x. EndTail L x) always at_end m ts (run ts) _ (λ t. t) (λ t. omega arith) (λ x may t fr fr'. (x, end_here)) (one'.sound ts tt)
-        (λ x u _. split_if (Sound same_tree (EndTail L x) at_end m u) (is_end u) _ _
-          (λ e. read x u (record { put = λ v. v; way = stay; is = refl; again = λ may w v. end_here }) (is_end_is u e))
-          (λ e. end_appended x u (to_end run n u) (to_end_sound n u))))
+      (λ x u _. split_if (Sound same_tree (EndTail L x) at_end m u) (is_end u) _ _
+      (λ e. read x u (record { put = λ v. v; way = stay; is = refl; again = λ may w v. end_here }) (is_end_is u e))
+      (λ e. end_appended x u (to_end run n u) (to_end_sound n u))))
 
   L_some : (may : May) (xs : List A) (f t : Tokens) → L may xs f t → 0 < length f
   L_some may xs f t l = let r = from may xs f t l in let h = strict may r.0 f r.1 r.2 in omega arith
@@ -275,7 +286,7 @@ module _ {A : Type 0} (R L : Rel (List A)) (after : Tokens → Tokens) (m : ℕ)
       let r = from may xs f' t' l in
       bind_lands cut g g' may m r.0 (run f) _ (λ to. Ok (xs, to)) r.1 t' (one'.complete cut g g' may r.0 f' r.1 r.2 tt f tied)
       (λ y v le. short_if cut g g' (is_end v) _ _ (fine cut g g' le)
-        (short_then cut g g' (to_end run n v) _ (record { le = trans_le (sound_short same_tree L at_end m v (to_end run n v) (to_end_sound n v)) le }) (λ ys w le. fine cut g g' le)))
+      (short_then cut g g' (to_end run n v) _ (record { le = trans_le (sound_short same_tree L at_end m v (to_end run n v) (to_end_sound n v)) le }) (λ ys w le. fine cut g g' le)))
       (λ mid tm i. end_turn cut g g' may n (λ xs f' t' l z f lt tied. to_end_complete cut g g' may n xs f' t' l z f lt tied) f lt r.0 xs r.1 t' r.3 z mid (read_shorter strict f r.0 (run f) mid (one'.sound f tt) i) tm)
 
   pub to_end_piece : Piece same_tree L any at_end at_end after m (λ ts. to_end run (suc (length ts)) ts)

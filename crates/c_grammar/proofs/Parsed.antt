@@ -1,18 +1,17 @@
 -- The model of the parser of units is the grammar, both ways, and so each list of tokens has one answer.
-use Rattle.std.proofs.Common.{◌≡◌, ℕ, zero, suc, ◌+◌, ◌<◌, ◌≤◌, Bool, true, false, leb, ◌||◌, List, [], ◌∷◌, ◌++◌, length, Result, Ok, Err, refl, sym, ap, ◌∙◌, subst, append_assoc, arith, length-append}
-use Rattle.std.proofs.lemmas.Bool.{false≢true, leb-true, le-leb}
-use Rattle.c_tree.specs.declared.token.Lexeme.{Lexeme}
+use Rattle.std.proofs.Common.{◌≡◌, ℕ, suc, List, [], Ok, Err, refl, sym, ap, ◌∙◌, arith}
+use Rattle.std.proofs.lemmas.Bool.{leb-true, le-leb}
 use Rattle.c_tree.specs.declared.tree.Top.{Top}
-use Rattle.c_grammar.specs.Tokens.{Tokens, May, within, before, late, any_depth}
-use Rattle.c_grammar.specs.Parsing.{Stop, Out}
+use Rattle.c_grammar.specs.Tokens.{Tokens, May, within}
+use Rattle.c_grammar.specs.Parsing.{Out}
 use Rattle.c_grammar.specs.ModelUnits.{unit_of}
-use Rattle.c_grammar.specs.Places.{Spelled, Starts, StartsWithin, StartsBut, StartsLate, SyntaxAt, EndsEarly, DeepAt, FaultAt, Exact, settle}
-use Rattle.c_grammar.specs.Answers.{limit, UnitIs, IsUnit, last_line, HasSyntaxFault, wrong_token, too_short, IsTooDeep, opener, Answer, tree, syntax, too_deep, Answers, OneTree, OneAnswer}
+use Rattle.c_grammar.specs.Places.{Spelled, Exact, settle}
+use Rattle.c_grammar.specs.Answers.{UnitIs, OneTree}
 use Rattle.c_grammar.proofs.Units.{unit_first, unit_piece}
 use Rattle.c_grammar.proofs.Late.{Passes, units_far}
 use Rattle.c_grammar.proofs.Whole.{exact, only}
 
-unit_far : (may may' : May) (xs : List Top) (f : Tokens) → Passes may may' 1 → UnitIs may xs f [] → UnitIs may' xs f []
+pub unit_far : (may may' : May) (xs : List Top) (f : Tokens) → Passes may may' 1 → UnitIs may xs f [] → UnitIs may' xs f []
 unit_far may may' xs f h r = units_far h r
 
 pub unit_exact : (left : ℕ) (ts : Tokens) → Exact UnitIs (suc left) ts (settle (unit_of left ts))

@@ -1,32 +1,28 @@
 -- The parts of statements below statements: expressions that may be absent, conditions, declarations.
-use Rattle.std.proofs.Common.{◌≡◌, ℕ, zero, suc, ◌+◌, ◌<◌, ◌≤◌, Bool, true, false, cond, List, [], ◌∷◌, ◌++◌, length, Option, Some, None, Result, Ok, Err, refl, sym, ap, ◌∙◌, subst, arith}
+use Rattle.std.proofs.Common.{◌≡◌, ℕ, ◌<◌, false, List, [], ◌∷◌, Option, Some, None, Ok, refl, sym, ap, ◌∙◌, subst, arith}
 use Rattle.std.proofs.lemmas.Bool.{false≢true}
-use Rattle.c_tree.specs.declared.token.Lexeme.{Lexeme}
 use Rattle.c_tree.specs.declared.token.Form.TheVariants as form
-use Rattle.c_tree.specs.declared.token.Mark.{Mark}
 use Rattle.c_tree.specs.declared.token.Mark.TheVariants as mark
 use Rattle.c_tree.specs.declared.token.Kind.{Kind}
-use Rattle.c_tree.specs.declared.token.Kind.TheVariants as kind
 use Rattle.c_tree.specs.declared.tree.Expr.{Expr}
 use Rattle.c_tree.specs.declared.tree.ArraySize.{ArraySize}
 use Rattle.c_tree.specs.declared.tree.ArraySize.TheVariants as size
 use Rattle.c_tree.specs.declared.tree.Stmt.{Stmt}
 use Rattle.c_grammar.specs.Tokens.{Tokens, punct, named, May}
-use Rattle.c_grammar.specs.Types.{Types}
 use Rattle.c_grammar.specs.Expressions.{expr, Spells}
-use Rattle.c_grammar.specs.Statements.{Shape, declared, Closer, semicolon, paren, closer_mark, until, test, shape, decls, locals, Writes, absent, given, tested, bare, value, array, last_decl, next_decl, declaration}
+use Rattle.c_grammar.specs.Statements.{declared, Closer, semicolon, paren, closer_mark, until, test, shape, decls, locals, Writes, absent, given, tested, bare, value, array, last_decl, next_decl, declaration}
 use Rattle.c_grammar.specs.Numbers.{is_mark}
-use Rattle.c_grammar.specs.Parsing.{Out, and_then, is_next, expect, name_of, listed}
-use Rattle.c_grammar.specs.ModelTypes.{begins_type, type_of}
+use Rattle.c_grammar.specs.Parsing.{Out, and_then, is_next, expect}
+use Rattle.c_grammar.specs.ModelTypes.{begins_type}
 use Rattle.c_grammar.specs.ModelExpressions.{Nested, expression_of, assignment_of, conditional_of}
 use Rattle.c_grammar.specs.ModelStatements.{begins_expression, absent_of, given_of, until_of, test_of, value_of, array_of, shape_of, decl_of, decls_of, locals_of}
 use Rattle.c_grammar.proofs.Numbers.{mark_self}
 use Rattle.c_grammar.proofs.Pieces.{Rel, Then, always, any, Piece, seq, done, Done, iff, ends_with, same_tree, Either, this, that, either_of, Is, mark_piece, Named, name_piece, name_first}
 use Rattle.c_grammar.proofs.Lists.{Tail, ends, trails, goes, listed_piece}
 use Rattle.c_grammar.proofs.Types.{TypeIs, type_piece, type_first}
-use Rattle.c_grammar.proofs.Stops.{Stops, bind, not_next, mark_stops}
-use Rattle.c_grammar.proofs.Levels.{zero_token, zero_expr, shortest, level_starts, starts_no_mark}
-use Rattle.c_grammar.proofs.Joins.{Level, ends_at}
+use Rattle.c_grammar.proofs.Stops.{Stops, bind, not_next}
+use Rattle.c_grammar.proofs.Levels.{zero_token, level_starts, starts_no_mark}
+use Rattle.c_grammar.proofs.Joins.{Level}
 use Rattle.c_grammar.proofs.Expressions.{Deeper, closed}
 use Rattle.c_grammar.proofs.Inside.{conditional_piece, assignment_piece, expression_piece}
 
@@ -96,11 +92,12 @@ module _ (m d : ℕ) (nested : Nested) (known : Deeper nested m d) where
   unfolding until_of
   until_piece c =
       iff (either_of (is_mark (closer_mark c)) (absent_piece c) (given_piece c) (λ may x f t r. ap (is_next (closer_mark c)) r.2 ∙ mark_self (closer_mark c))
-        (λ may x f t r e. starts_no_mark (closer_mark c) (closer_no_start c) f (level_starts r.2))) to from
+      (λ may x f t r e. starts_no_mark (closer_mark c) (closer_no_start c) f (level_starts r.2))) to from
     where
       to : (may : May) (o : Option Expr) (f t : Tokens) → Either (AbsentIs c) (GivenIs c) may o f t → Until c d may o f t
       to may o f t (this r) = subst (λ (u : Tokens). Until c d may o u t) (sym r.2) (ends_with (λ o t. Until c d may o (punct r.0 (closer_mark c) ∷ r.1) t) (absent c) r.3)
       to may o f t (that r) = let k = r.3 in ends_with (λ o t. Until c d may o f t) (given c (subst (λ (u : Tokens). Spells may (expr 16 r.0) d f u) k.2 r.2)) k.3
+
       from : (may : May) (o : Option Expr) (f t : Tokens) → Until c d may o f t → Either (AbsentIs c) (GivenIs c) may o f t
       from may _ _ t (absent {k = k} c) = this (k, t, refl, (refl, refl))
       from may _ f t (given {k = k} {e = e} c x) = that (e, punct k (closer_mark c) ∷ t, x, (k, t, refl, (refl, refl)))
@@ -112,12 +109,13 @@ module _ (m d : ℕ) (nested : Nested) (known : Deeper nested m d) where
   unfolding test_of
   test_piece =
       iff (seq (λ _ ts. and_then (expression_of nested ts) (λ e ts. and_then (expect mark.RightParen ts) (λ _ ts. expr_is e ts))) (mark_piece mark.LeftParen m)
-        (λ k. closed mark.RightParen (omega arith) (λ e. e) (expression_piece m d nested known)) (λ t. omega arith) (λ may x y u t r h. tt)) to from
+      (λ k. closed mark.RightParen (omega arith) (λ e. e) (expression_piece m d nested known)) (λ t. omega arith) (λ may x y u t r h. tt)) to from
     where
       to : (may : May) (e : Expr) (f t : Tokens) → TestChain may e f t → Test d may e f t
       to may e f t r =
           let x = r.3 in let k = x.3 in
           subst (λ (f : Tokens). Test d may e f t) (sym r.2) (ends_with (λ e' t. Test d may e' (punct r.0 mark.LeftParen ∷ r.1) t) (tested (subst (λ (u : Tokens). Spells may (expr 16 x.0) d r.1 u) k.2 x.2)) k.3)
+
       from : (may : May) (e : Expr) (f t : Tokens) → Test d may e f t → TestChain may e f t
       from may e _ t (tested {k = k} {k' = k'} {m = u} x) = (k, u, refl, (e, punct k' mark.RightParen ∷ t, x, (k', t, refl, (refl, refl))))
 
@@ -149,13 +147,14 @@ module _ (m d : ℕ) (nested : Nested) (known : Deeper nested m d) where
   unfolding shape_of
   shape_piece =
       iff (either_of (is_mark mark.Assign) value_piece
-        (either_of (is_mark mark.LeftBracket) array_piece (done same_tree (size.Scalar, no_expr) m (λ t h. tt)) (λ may x f t r. ap (is_next mark.LeftBracket) r.2)
-          (λ may x f t r e. not_next mark.LeftBracket 15 f (subst (Stops 15) (sym r.1) e) (omega arith)))
-        (λ may x f t r. ap (is_next mark.Assign) r.2) no_assign) to from
+      (either_of (is_mark mark.LeftBracket) array_piece (done same_tree (size.Scalar, no_expr) m (λ t h. tt)) (λ may x f t r. ap (is_next mark.LeftBracket) r.2)
+      (λ may x f t r e. not_next mark.LeftBracket 15 f (subst (Stops 15) (sym r.1) e) (omega arith)))
+      (λ may x f t r. ap (is_next mark.Assign) r.2) no_assign) to from
     where
       no_assign : (may : May) (s : ArraySize × Option Expr) (f t : Tokens) → Either ArrayIs BareIs may s f t → Stops 15 t → is_next mark.Assign f ≡ false
       no_assign may s f t (this r) e = ap (is_next mark.Assign) r.2
       no_assign may s f t (that r) e = not_next mark.Assign 15 f (subst (Stops 15) (sym r.1) e) (omega arith)
+
       to : (may : May) (s : ArraySize × Option Expr) (f t : Tokens) → Either ValueIs (Either ArrayIs BareIs) may s f t → ShapeIs d may s f t
       to may s f t (this r) =
           let x = r.3 in
@@ -165,10 +164,12 @@ module _ (m d : ℕ) (nested : Nested) (known : Deeper nested m d) where
           subst (λ (f : Tokens). ShapeIs d may s f t) (sym r.2)
           (ends_with (λ s t. ShapeIs d may s (punct r.0 mark.LeftBracket ∷ r.1) t) (array (subst (λ (u : Tokens). Spells may (expr 14 x.0) d r.1 u) k.2 x.2)) k.3)
       to may s f t (that (that r)) = ends_with (λ s t. ShapeIs d may s f t) bare r
+
       from' : (may : May) (a : ArraySize × Option Expr) (f t : Tokens) → Writes may (shape a) d f t → Either ValueIs (Either ArrayIs BareIs) may a f t
       from' may _ _ t bare = that (that (refl, refl))
       from' may _ _ t (value {k = k} {e = e} {m = u} x) = this (k, u, refl, (e, t, x, (refl, refl)))
       from' may _ _ t (array {k = k} {k' = k'} {e = e} {m = u} x) = that (this (k, u, refl, (e, punct k' mark.RightBracket ∷ t, x, (k', t, refl, (refl, refl)))))
+
       from : (may : May) (s : ArraySize × Option Expr) (f t : Tokens) → ShapeIs d may s f t → Either ValueIs (Either ArrayIs BareIs) may s f t
       from may s f t x = from' may s f t x
 
@@ -200,15 +201,18 @@ module _ (m d : ℕ) (nested : Nested) (known : Deeper nested m d) where
       to_tail may n v _ t h x _ w e ends = subst (λ (y : Stmt). Writes may (decls k (y ∷ [])) d (named n.0 n.1 ∷ v) t) e (last_decl w)
       to_tail may n v _ t h x _ w e (trails q) = absurd (false≢true q)
       to_tail may n v _ t h x _ w e (goes {xs = ss} r) = subst (λ (y : Stmt). Writes may (decls k (y ∷ ss)) d (named n.0 n.1 ∷ v) t) e (next_decl w r)
+
       to : (may : May) (ss : List Stmt) (f t : Tokens) → Then (DeclIs k) (λ x. Tail (DeclsAre k) mark.Semicolon false x) may ss f t → Writes may (decls k ss) d f t
       to may ss f t r =
           let x = r.2 in let h = x.3 in
           subst (λ (f : Tokens). Writes may (decls k ss) d f t) (sym x.2) (to_tail may x.0 x.1 r.1 t h.0 r.0 ss (subst (λ (u : Tokens). Writes may (shape h.0) d x.1 u) h.3.1 h.2) h.3.0 r.3)
+
       from' : (j : Kind) (may : May) (ss : List Stmt) (f t : Tokens) → Writes may (decls j ss) d f t → j ≡ k → Then (DeclIs k) (λ x. Tail (DeclsAre k) mark.Semicolon false x) may ss f t
       from' _ may _ _ t (last_decl {l = l} {j = j} {k = i} {w = w} {s = h} {m = v} x) e =
           (declared l i w h, punct j mark.Semicolon ∷ t, ((l, w), v, refl, (h, punct j mark.Semicolon ∷ t, x, (ap (λ (i : Kind). declared l i w h) (sym e), refl))), ends)
       from' _ may _ _ t (next_decl {l = l} {j = j} {k = i} {w = w} {s = h} {ss = ss} {m = v} {m' = v'} x y) e =
           (declared l i w h, punct j mark.Comma ∷ v', ((l, w), v, refl, (h, punct j mark.Comma ∷ v', x, (ap (λ (i : Kind). declared l i w h) (sym e), refl))), goes (subst (λ (i : Kind). Writes may (decls i ss) d v' t) e y))
+
       from : (may : May) (ss : List Stmt) (f t : Tokens) → Writes may (decls k ss) d f t → Then (DeclIs k) (λ x. Tail (DeclsAre k) mark.Semicolon false x) may ss f t
       from may ss f t x = from' k may ss f t x refl
 
@@ -226,5 +230,6 @@ module _ (m d : ℕ) (nested : Nested) (known : Deeper nested m d) where
     where
       to : (may : May) (ss : List Stmt) (f t : Tokens) → LocalsChain may ss f t → LocalsAre d may ss f t
       to may ss f t r = declaration r.2 r.3
+
       from : (may : May) (ss : List Stmt) (f t : Tokens) → LocalsAre d may ss f t → LocalsChain may ss f t
       from may ss f t (declaration {l = l} {k = k} {m = v} x y) = ((l, k), v, x, y)

@@ -1,17 +1,16 @@
 -- Pieces of a parser, and how they go together.
-use Rattle.std.proofs.Common.{◌≡◌, ℕ, zero, suc, ◌+◌, ◌<◌, ◌≤◌, Bool, true, false, cond, leb, List, [], ◌∷◌, ◌++◌, length, Option, Some, None, Result, Ok, Err, refl, sym, ap, ◌∙◌, subst, arith, length-append}
-use Rattle.std.proofs.lemmas.Bool.{false≢true}
+use Rattle.std.proofs.Common.{◌≡◌, ℕ, suc, ◌≤◌, Bool, true, false, cond, leb, List, [], ◌∷◌, length, Ok, Err, refl, sym, ap, ◌∙◌, subst, arith}
 use Rattle.c_tree.specs.declared.token.Lexeme.{Lexeme}
 use Rattle.c_tree.specs.declared.token.Form.{Form}
 use Rattle.c_tree.specs.declared.token.Form.TheVariants as form
 use Rattle.c_tree.specs.declared.token.Mark.{Mark}
 use Rattle.c_tree.specs.declared.token.Key.{Key}
-use Rattle.c_grammar.specs.Tokens.{Tokens, token, punct, word, named, May, within, before}
+use Rattle.c_grammar.specs.Tokens.{Tokens, token, punct, word, named, May, before}
 use Rattle.c_grammar.specs.Numbers.{is_mark}
 use Rattle.c_grammar.specs.Parsing.{Stop, Out, and_then, syntax, too_deep, tail, line_of, first, is_next, is_word, expect, expect_word, name_by, name_of}
 use Rattle.c_grammar.specs.ModelExpressions.{Nested, enter}
 use Rattle.c_grammar.proofs.Numbers.{mark_self, key_self}
-use Rattle.c_grammar.proofs.Agree.{split_if, if_true, if_false, trans_le, next_is, word_is, Way, stay, one, both, behind, Grows, Held, held_after, Opens, opens, Frees, frees_after, frees_all, place, Tied, head_step, tied_first, Brief, Lands, good, past, deep, lands_by}
+use Rattle.c_grammar.proofs.Agree.{split_if, if_true, if_false, trans_le, next_is, word_is, Way, stay, one, both, behind, Grows, Held, held_after, Opens, opens, Frees, frees_after, frees_all, place, Tied, head_step, tied_first, Lands, good, past, deep, lands_by}
 
 abbrev pub Rel : Type 0 → Type 1
 Rel X = May → X → Tokens → Tokens → Type 0
@@ -97,9 +96,9 @@ module _ {X A Y B : Type 0} (tree : X → A) (tree' : Y → B) (R : Rel X) (S : 
         grows = λ v. trans_le (grow v) (o.grows (after v));
         held = held_after s.deep s.rest o.more after o.held;
         completes = λ v.
-          let c = o.completes (after v) in
-          let l = least c.0 (before m (o.more (after v))) v (frees_after m (λ w. o.more (after w)) (λ w. trans_le (grow w) (o.grows (after w))) v) (frees_after m o.more o.grows (after v)) in
-          (l.0, (c.0, after v, c.1, l.1));
+            let c = o.completes (after v) in
+            let l = least c.0 (before m (o.more (after v))) v (frees_after m (λ w. o.more (after w)) (λ w. trans_le (grow w) (o.grows (after w))) v) (frees_after m o.more o.grows (after v)) in
+            (l.0, (c.0, after v, c.1, l.1));
       }
 
   pub seq_sound : (ts : Tokens) (out : Out A) (f : A → Tokens → Out B) (after : Tokens → Tokens) → Grows after → ((x : X) → Least (S x) after) → Sound tree R Kept m ts out
@@ -245,13 +244,13 @@ mark_piece k m =
       grow = λ t. omega arith;
       least = λ may t fr fr'. (0, refl);
       sound = λ ts h.
-        split_if (Sound same_tree (Is k) always m ts) (is_next k ts) _ _
-        (λ e. read (line_of ts) (tail ts) (record { put = λ u. punct (line_of ts) k ∷ u; way = one _; is = next_is k ts e; again = λ may w u. refl }) tt)
-        (λ e. stuck _ (record { put = λ u. u; way = stay; is = refl; more = λ u. punct 0 k ∷ u; grows = λ u. omega arith; held = tt; completes = λ u. (0, refl) }));
+          split_if (Sound same_tree (Is k) always m ts) (is_next k ts) _ _
+          (λ e. read (line_of ts) (tail ts) (record { put = λ u. punct (line_of ts) k ∷ u; way = one _; is = next_is k ts e; again = λ may w u. refl }) tt)
+          (λ e. stuck _ (record { put = λ u. u; way = stay; is = refl; more = λ u. punct 0 k ∷ u; grows = λ u. omega arith; held = tt; completes = λ u. (0, refl) }));
       complete = λ cut g g' may l f' t' r e f tied.
-        head_step cut g g' (λ u. Lands cut g g' may m (expect k u) (λ to. Ok (l, to)) t') (subst (λ (u : Tokens). Tied cut g g' f u) r tied)
-        (λ v tv. good v tv (if_true _ _ _ (mark_self k)))
-        (λ c. past c (record { le = at_cut l g }));
+          head_step cut g g' (λ u. Lands cut g g' may m (expect k u) (λ to. Ok (l, to)) t') (subst (λ (u : Tokens). Tied cut g g' f u) r tied)
+          (λ v tv. good v tv (if_true _ _ _ (mark_self k)))
+          (λ c. past c (record { le = at_cut l g }));
     }
   where
     at_cut : (l : ℕ) (g : Tokens) → length (place (expect k (punct l k ∷ g))) ≤ length g
@@ -266,13 +265,13 @@ word_piece k m =
       grow = λ t. omega arith;
       least = λ may t fr fr'. (0, refl);
       sound = λ ts h.
-        split_if (Sound same_tree (IsWord k) always m ts) (is_word k ts) _ _
-        (λ e. read (line_of ts) (tail ts) (record { put = λ u. word (line_of ts) k ∷ u; way = one _; is = word_is k ts e; again = λ may w u. refl }) tt)
-        (λ e. stuck _ (record { put = λ u. u; way = stay; is = refl; more = λ u. word 0 k ∷ u; grows = λ u. omega arith; held = tt; completes = λ u. (0, refl) }));
+          split_if (Sound same_tree (IsWord k) always m ts) (is_word k ts) _ _
+          (λ e. read (line_of ts) (tail ts) (record { put = λ u. word (line_of ts) k ∷ u; way = one _; is = word_is k ts e; again = λ may w u. refl }) tt)
+          (λ e. stuck _ (record { put = λ u. u; way = stay; is = refl; more = λ u. word 0 k ∷ u; grows = λ u. omega arith; held = tt; completes = λ u. (0, refl) }));
       complete = λ cut g g' may l f' t' r e f tied.
-        head_step cut g g' (λ u. Lands cut g g' may m (expect_word k u) (λ to. Ok (l, to)) t') (subst (λ (u : Tokens). Tied cut g g' f u) r tied)
-        (λ v tv. good v tv (if_true _ _ _ (key_self k)))
-        (λ c. past c (record { le = at_cut l g }));
+          head_step cut g g' (λ u. Lands cut g g' may m (expect_word k u) (λ to. Ok (l, to)) t') (subst (λ (u : Tokens). Tied cut g g' f u) r tied)
+          (λ v tv. good v tv (if_true _ _ _ (key_self k)))
+          (λ c. past c (record { le = at_cut l g }));
     }
   where
     at_cut : (l : ℕ) (g : Tokens) → length (place (expect_word k (word l k ∷ g))) ≤ length g
@@ -291,15 +290,17 @@ name_piece m =
       least = λ may t fr fr'. ((0, 120 ∷ []), refl);
       sound = λ ts h. sound ts;
       complete = λ cut g g' may n f' t' r e f tied.
-        head_step cut g g' (λ u. Lands cut g g' may m (name_of u) (λ to. Ok (n, to)) t') (subst (λ (u : Tokens). Tied cut g g' f u) r tied)
-        (λ v tv. good v tv refl) (λ c. past c (record { le = omega arith }));
+          head_step cut g g' (λ u. Lands cut g g' may m (name_of u) (λ to. Ok (n, to)) t') (subst (λ (u : Tokens). Tied cut g g' f u) r tied)
+          (λ v tv. good v tv refl) (λ c. past c (record { le = omega arith }));
     }
   where
     wanted : (ts : Tokens) → Sound same_tree Named always m ts (syntax ts)
     wanted ts = stuck _ (record { put = λ u. u; way = stay; is = refl; more = name_first; grows = λ u. omega arith; held = tt; completes = λ u. ((0, 120 ∷ []), refl) })
+
     by : (l : ℕ) (f : Form) (ts : Tokens) → Sound same_tree Named always m (token l f ∷ ts) (name_by l f (token l f ∷ ts))
     by l (form.Name w) ts = read (l, w) ts (record { put = λ u. named l w ∷ u; way = one _; is = refl; again = λ may w' u. refl }) tt
     by l _ ts = wanted _
+
     sound : (ts : Tokens) → Sound same_tree Named always m ts (name_of ts)
     sound [] = wanted []
     sound (t ∷ ts) = by t.line t.form ts
@@ -322,14 +323,21 @@ open_piece k m d ok =
       grow = λ t. omega arith;
       least = λ may t fr fr'. (0, (refl, fr' (punct 0 k ∷ t) (suc d) (omega arith)));
       sound = λ ts h.
-        split_if (Sound same_tree (OpenIs k d) always m ts) (is_next k ts) _ _
-        (λ e. read (line_of ts) (tail ts) (record { put = λ u. punct (line_of ts) k ∷ u; way = one _; is = next_is k ts e; again = λ may w u. (refl, w _ (suc d) ok) }) tt)
-        (λ e. stuck _ (record { put = λ u. u; way = stay; is = refl; more = λ u. punct 0 k ∷ u; grows = λ u. omega arith; held = tt;
-          completes = λ u. (0, (refl, frees_all m (punct 0 k ∷ u) (punct 0 k ∷ u) (suc d) (omega arith))) }));
+          split_if (Sound same_tree (OpenIs k d) always m ts) (is_next k ts) _ _
+          (λ e. read (line_of ts) (tail ts) (record { put = λ u. punct (line_of ts) k ∷ u; way = one _; is = next_is k ts e; again = λ may w u. (refl, w _ (suc d) ok) }) tt)
+          (λ e. stuck _ (record {
+            put = λ u. u;
+            way = stay;
+            is = refl;
+            more = λ u. punct 0 k ∷ u;
+            grows = λ u. omega arith;
+            held = tt;
+            completes = λ u. (0, (refl, frees_all m (punct 0 k ∷ u) (punct 0 k ∷ u) (suc d) (omega arith)));
+          }));
       complete = λ cut g g' may l f' t' r e f tied.
-        head_step cut g g' (λ u. Lands cut g g' may m (enter_by true k u) (λ to. Ok (l, to)) t') (subst (λ (u : Tokens). Tied cut g g' f u) r.0 tied)
-        (λ v tv. good v tv (if_true _ _ _ (mark_self k)))
-        (λ c. past c (record { le = at_cut l g }));
+          head_step cut g g' (λ u. Lands cut g g' may m (enter_by true k u) (λ to. Ok (l, to)) t') (subst (λ (u : Tokens). Tied cut g g' f u) r.0 tied)
+          (λ v tv. good v tv (if_true _ _ _ (mark_self k)))
+          (λ c. past c (record { le = at_cut l g }));
     }
   where
     at_cut : (l : ℕ) (g : Tokens) → length (place (enter_by true k (punct l k ∷ g))) ≤ length g
@@ -350,15 +358,25 @@ module _ {Y B : Type 0} (tree : Y → B) (S : ℕ → Rel Y) (Kept Ends : Y → 
     where
       grown : (l : ℕ) → Grows (λ u. punct l k ∷ after u)
       grown l u = omega (arith, grow u)
+
       whole : (l : ℕ) (u : Tokens) → (y : Y) × Whole (before m (punct l k ∷ after u)) y (punct l k ∷ after u) u
       whole l u =
           let more : Tokens → Tokens = λ w. punct l k ∷ after w in
           let a = least l (before m (more u)) u (frees_after m more (grown l) u) (frees_after m (λ w. punct l k ∷ w) (λ w. omega arith) (after u)) in
           (a.0, (l, after u, (refl, frees_all m (more u) (more u) (suc d) (omega arith)), a.1))
+
       held : is_next k ts ≡ true → Sound tree Whole Kept m ts (too_deep ts)
       held e =
-          stuck _ (record { put = λ u. u; way = stay; is = refl; more = λ u. punct (line_of ts) k ∷ after u; grows = grown (line_of ts);
-            held = (punct (line_of ts) k, tail ts, after, next_is k ts e, λ u. refl); completes = whole (line_of ts) })
+          stuck _ (record {
+            put = λ u. u;
+            way = stay;
+            is = refl;
+            more = λ u. punct (line_of ts) k ∷ after u;
+            grows = grown (line_of ts);
+            held = (punct (line_of ts) k, tail ts, after, next_is k ts e, λ u. refl);
+            completes = whole (line_of ts);
+          })
+
       missing : is_next k ts ≡ false → Sound tree Whole Kept m ts (syntax ts)
       missing e = stuck _ (record { put = λ u. u; way = stay; is = refl; more = λ u. punct 0 k ∷ after u; grows = grown 0; held = tt; completes = whole 0 })
 

@@ -1,9 +1,8 @@
 -- Statements, a production a part, where those one deeper are known.
-use Rattle.std.proofs.Common.{◌≡◌, ℕ, zero, suc, ◌+◌, ◌<◌, ◌≤◌, Bool, true, false, cond, leb, List, [], ◌∷◌, ◌++◌, length, Option, Some, None, Result, Ok, Err, refl, sym, ap, ◌∙◌, subst, arith}
+use Rattle.std.proofs.Common.{◌≡◌, ℕ, suc, Bool, true, false, List, [], ◌∷◌, Some, None, Ok, refl, sym, ap, ◌∙◌, subst, arith}
 use Rattle.std.proofs.lemmas.Bool.{false≢true}
 use Rattle.c_tree.specs.declared.token.Lexeme.{Lexeme}
 use Rattle.c_tree.specs.declared.token.Form.TheVariants as form
-use Rattle.c_tree.specs.declared.token.Mark.{Mark}
 use Rattle.c_tree.specs.declared.token.Mark.TheVariants as mark
 use Rattle.c_tree.specs.declared.token.Key.{Key}
 use Rattle.c_tree.specs.declared.token.Key.TheVariants as key
@@ -15,22 +14,22 @@ use Rattle.c_tree.specs.declared.tree.ForInit.{ForInit}
 use Rattle.c_tree.specs.declared.tree.ForInit.TheVariants as inits
 use Rattle.c_grammar.specs.Tokens.{Tokens, punct, word, May}
 use Rattle.c_grammar.specs.Expressions.{expr, Spells}
-use Rattle.c_grammar.specs.Statements.{at, Closer, semicolon, paren, for_init, until, test, locals, stmt, inner, entry, init, entries, Writes, inner_is, entry_stmt, entry_local, stop, go, compound, empty, plain, if_only, if_else, while, repeat, init_local, init_plain, for, break, continue, return}
+use Rattle.c_grammar.specs.Statements.{at, semicolon, paren, for_init, test, locals, stmt, inner, entry, init, entries, Writes, entry_stmt, entry_local, stop, go, compound, empty, plain, if_only, if_else, while, repeat, init_local, init_plain, for, break, continue, return}
 use Rattle.c_grammar.specs.Numbers.{is_mark, is_key}
-use Rattle.c_grammar.specs.Parsing.{Out, and_then, first, is_next, is_word, expect, expect_word, many}
-use Rattle.c_grammar.specs.ModelTypes.{is_type, begins_type}
-use Rattle.c_grammar.specs.ModelExpressions.{Nested, expression_of}
-use Rattle.c_grammar.specs.ModelStatements.{Below, begins_expression, until_of, test_of, one_of, entry_of, entries_of, init_local_of, init_plain_of, init_of, else_of, no_of, if_of, while_of, do_of, for_of, leave_of, return_of, empty_of, compound_of, plain_of, simple_of, stmt_of}
+use Rattle.c_grammar.specs.Parsing.{Out, and_then, is_next, is_word, expect, expect_word}
+use Rattle.c_grammar.specs.ModelTypes.{is_type}
+use Rattle.c_grammar.specs.ModelExpressions.{Nested}
+use Rattle.c_grammar.specs.ModelStatements.{Below, until_of, test_of, one_of, entry_of, entries_of, init_local_of, init_plain_of, init_of, else_of, no_of, if_of, while_of, do_of, for_of, leave_of, return_of, empty_of, compound_of, plain_of, simple_of, stmt_of}
 use Rattle.c_grammar.proofs.Agree.{stay, Tied, Lands, good, bind_lands, fine}
 use Rattle.c_grammar.proofs.Pieces.{Rel, Sound, read, stuck, Complete, Then, always, any, Piece, seq, forget, done, Done, iff, turn, ends_by, ends_with, same_tree, Either, this, that, either, either_of, Is, mark_piece, IsWord, word_piece}
 use Rattle.c_grammar.proofs.Lists.{Many, over, more, many_piece}
 use Rattle.c_grammar.proofs.Stops.{mark_stops}
 use Rattle.c_grammar.proofs.Levels.{zero_token, level_starts, starts_no_mark}
-use Rattle.c_grammar.proofs.Joins.{Level, ends_at}
+use Rattle.c_grammar.proofs.Joins.{Level}
 use Rattle.c_grammar.proofs.Expressions.{Deeper}
 use Rattle.c_grammar.proofs.Inside.{expression_piece, never}
-use Rattle.c_grammar.proofs.Begins.{inner_begins, begins_no_word, begins_no_type, until_no_type, locals_begin, starts_no_word, entry_no_brace, entries_no_else, writes_shorter}
-use Rattle.c_grammar.proofs.Parts.{Until, closer_first, until_piece, Test, test_first, test_piece, LocalsAre, locals_first, stmt_here}
+use Rattle.c_grammar.proofs.Begins.{inner_begins, begins_no_type, until_no_type, locals_begin, starts_no_word, entry_no_brace, entries_no_else, writes_shorter}
+use Rattle.c_grammar.proofs.Parts.{Until, closer_first, until_piece, Test, test_first, test_piece, locals_first, stmt_here}
 
 abbrev pub pair_tree : Bool × Stmt → Stmt
 pair_tree p = p.1
@@ -116,12 +115,13 @@ module _ (m d : ℕ) (nested : Nested) (deeper : Deeper nested m d) (below : Bel
   unfolding entry_of
   entry_piece =
       iff (either is_type (λ ts h e. known.locals_in.sound ts tt) (ends_by {Ends' = no_else} known.locals_in (λ x t e. tt)).complete (λ t. omega arith)
-        (λ may t fr fr'. let l = known.inner_piece.least may t fr fr' in (l.0.1 ∷ [], (l.0, l.1, refl))) (λ ts h e. one_sound ts) one_complete
-        (λ may ss f t r. locals_begin r.1) (λ may ss f t r e. begins_no_type f (inner_begins r.1))) to from
+      (λ may t fr fr'. let l = known.inner_piece.least may t fr fr' in (l.0.1 ∷ [], (l.0, l.1, refl))) (λ ts h e. one_sound ts) one_complete
+      (λ may ss f t r. locals_begin r.1) (λ may ss f t r e. begins_no_type f (inner_begins r.1))) to from
     where
       to : (may : May) (ss : List Stmt) (f t : Tokens) → EntryChain may ss f t → EntryIs d may ss f t
       to may ss f t (this r) = entry_local r.0 r.1
       to may ss f t (that r) = subst (λ (ss : List Stmt). EntryIs d may ss f t) (sym r.2) (entry_stmt r.1)
+
       from : (may : May) (ss : List Stmt) (f t : Tokens) → EntryIs d may ss f t → EntryChain may ss f t
       from may ss f t (entry_local ok x) = this (ok, x)
       from may _ f t (entry_stmt {b = b} {s = s} x) = that ((b, s), x, refl)
@@ -134,6 +134,7 @@ module _ (m d : ℕ) (nested : Nested) (deeper : Deeper nested m d) (below : Bel
       to : (may : May) (ss : List Stmt) (f t : Tokens) → Many (EntryIs d) (EntriesAre d) mark.RightBrace may ss f t → Writes may (entries ss) d f t
       to may _ _ t over = stop
       to may _ f t (more r l) = go r l
+
       from : (may : May) (ss : List Stmt) (f t : Tokens) → Writes may (entries ss) d f t → Many (EntryIs d) (EntriesAre d) mark.RightBrace may ss f t
       from may _ _ t stop = over
       from may _ f t (go x y) = more x y
@@ -162,6 +163,7 @@ module _ (m d : ℕ) (nested : Nested) (deeper : Deeper nested m d) (below : Bel
       to : (may : May) (i : ForInit) (f t : Tokens) → Either InitLocal InitPlain may i f t → InitIs d may i f t
       to may i f t (this r) = ends_with (λ i t. InitIs d may i f t) (init_local r.2.0 r.2.1) r.3
       to may i f t (that r) = ends_with (λ i t. InitIs d may i f t) (init_plain r.2) r.3
+
       from : (may : May) (i : ForInit) (f t : Tokens) → InitIs d may i f t → Either InitLocal InitPlain may i f t
       from may _ f t (init_local {ss = ss} ok x) = this (ss, t, (ok, x), (refl, refl))
       from may _ f t (init_plain {o = o} x) = that (o, t, x, (refl, refl))
@@ -189,12 +191,12 @@ module _ (m d : ℕ) (nested : Nested) (deeper : Deeper nested m d) (below : Bel
   do_piece =
       seq (λ l ts. and_then (below.inner ts) (λ s ts. and_then (expect_word key.While ts) (λ _ ts. and_then (test_of nested ts) (λ c ts. and_then (expect mark.Semicolon ts) (λ _ ts. stmt_here (at l (node.Do s c)) ts))))) (word_piece key.Do m)
       (λ l. seq (λ s ts. and_then (expect_word key.While ts) (λ _ ts. and_then (test_of nested ts) (λ c ts. and_then (expect mark.Semicolon ts) (λ _ ts. stmt_here (at l (node.Do s c)) ts)))) known.inner_piece
-        (λ p. forget (seq (λ _ ts. and_then (test_of nested ts) (λ c ts. and_then (expect mark.Semicolon ts) (λ _ ts. stmt_here (at l (node.Do (p.1) c)) ts))) (word_piece key.While m)
-          (λ k. seq (λ c ts. and_then (expect mark.Semicolon ts) (λ _ ts. stmt_here (at l (node.Do (p.1) c)) ts)) (test_piece m d nested deeper)
-            (λ c. seq (λ _ ts. stmt_here (at l (node.Do (p.1) c)) ts) (mark_piece mark.Semicolon m) (λ k'. done pair_tree (false, at l (node.Do (p.1) c)) m (λ t h e. never e)) (λ t. omega arith) (λ may x y u t r h. tt))
-            (λ t. omega arith) (λ may x y u t r h. tt))
-          (λ t. omega arith) (λ may x y u t r h. tt)))
-        (λ t. omega arith) (λ may p y u t r h. λ b. ap (is_word key.Else) r.2))
+      (λ p. forget (seq (λ _ ts. and_then (test_of nested ts) (λ c ts. and_then (expect mark.Semicolon ts) (λ _ ts. stmt_here (at l (node.Do (p.1) c)) ts))) (word_piece key.While m)
+      (λ k. seq (λ c ts. and_then (expect mark.Semicolon ts) (λ _ ts. stmt_here (at l (node.Do (p.1) c)) ts)) (test_piece m d nested deeper)
+      (λ c. seq (λ _ ts. stmt_here (at l (node.Do (p.1) c)) ts) (mark_piece mark.Semicolon m) (λ k'. done pair_tree (false, at l (node.Do (p.1) c)) m (λ t h e. never e)) (λ t. omega arith) (λ may x y u t r h. tt))
+      (λ t. omega arith) (λ may x y u t r h. tt))
+      (λ t. omega arith) (λ may x y u t r h. tt)))
+      (λ t. omega arith) (λ may p y u t r h. λ b. ap (is_word key.Else) r.2))
       (λ t. omega arith) (λ may x y u t r h. tt)
 
   abbrev ForIs : Rel (Bool × Stmt)
@@ -206,12 +208,12 @@ module _ (m d : ℕ) (nested : Nested) (deeper : Deeper nested m d) (below : Bel
   for_piece =
       seq (λ l ts. and_then (expect mark.LeftParen ts) (λ _ ts. and_then (init_of nested below ts) (λ i ts. and_then (until_of nested semicolon ts) (λ o ts. and_then (until_of nested paren ts) (λ o' ts. and_then (below.inner ts) (λ s ts. stmt_here (at l (node.For i o o' s)) ts)))))) (word_piece key.For m)
       (λ l. seq (λ _ ts. and_then (init_of nested below ts) (λ i ts. and_then (until_of nested semicolon ts) (λ o ts. and_then (until_of nested paren ts) (λ o' ts. and_then (below.inner ts) (λ s ts. stmt_here (at l (node.For i o o' s)) ts))))) (mark_piece mark.LeftParen m)
-        (λ k. seq (λ i ts. and_then (until_of nested semicolon ts) (λ o ts. and_then (until_of nested paren ts) (λ o' ts. and_then (below.inner ts) (λ s ts. stmt_here (at l (node.For i o o' s)) ts)))) init_piece
-          (λ i. seq (λ o ts. and_then (until_of nested paren ts) (λ o' ts. and_then (below.inner ts) (λ s ts. stmt_here (at l (node.For i o o' s)) ts))) (until_piece m d nested deeper semicolon)
-            (λ o. seq (λ o' ts. and_then (below.inner ts) (λ s ts. stmt_here (at l (node.For i o o' s)) ts)) (until_piece m d nested deeper paren) (λ o'. inner_last (λ s. at l (node.For i o o' s))) (λ t. omega arith) (λ may x y u t r h. tt))
-            (λ t. omega arith) (λ may x y u t r h. tt))
-          (λ t. omega arith) (λ may x y u t r h. tt))
-        (λ t. omega arith) (λ may x y u t r h. tt))
+      (λ k. seq (λ i ts. and_then (until_of nested semicolon ts) (λ o ts. and_then (until_of nested paren ts) (λ o' ts. and_then (below.inner ts) (λ s ts. stmt_here (at l (node.For i o o' s)) ts)))) init_piece
+      (λ i. seq (λ o ts. and_then (until_of nested paren ts) (λ o' ts. and_then (below.inner ts) (λ s ts. stmt_here (at l (node.For i o o' s)) ts))) (until_piece m d nested deeper semicolon)
+      (λ o. seq (λ o' ts. and_then (below.inner ts) (λ s ts. stmt_here (at l (node.For i o o' s)) ts)) (until_piece m d nested deeper paren) (λ o'. inner_last (λ s. at l (node.For i o o' s))) (λ t. omega arith) (λ may x y u t r h. tt))
+      (λ t. omega arith) (λ may x y u t r h. tt))
+      (λ t. omega arith) (λ may x y u t r h. tt))
+      (λ t. omega arith) (λ may x y u t r h. tt))
       (λ t. omega arith) (λ may x y u t r h. tt)
 
   abbrev LeaveIs : Key → StmtNode → Rel (Bool × Stmt)
@@ -306,7 +308,7 @@ module _ (m d : ℕ) (nested : Nested) (deeper : Deeper nested m d) (below : Bel
   if_piece =
       seq (λ l ts. and_then (test_of nested ts) (λ c ts. and_then (below.inner ts) (λ s ts. no_of nested below l c s ts))) (word_piece key.If m)
       (λ l. seq (λ c ts. and_then (below.inner ts) (λ s ts. no_of nested below l c s ts)) (test_piece m d nested deeper)
-        (λ c. seq (λ s ts. no_of nested below l c s ts) known.inner_piece (λ p. no_piece l c p) (λ t. omega arith) (no_meets l c)) (λ t. omega arith) (λ may x y u t r h. tt))
+      (λ c. seq (λ s ts. no_of nested below l c s ts) known.inner_piece (λ p. no_piece l c p) (λ t. omega arith) (no_meets l c)) (λ t. omega arith) (λ may x y u t r h. tt))
       (λ t. omega arith) (λ may x y u t r h. tt)
 
   -- ---- any statement
@@ -354,10 +356,10 @@ module _ (m d : ℕ) (nested : Nested) (deeper : Deeper nested m d) (below : Bel
   simple_piece =
       either_of (is_key key.Return) return_piece
       (either_of (is_key key.Break) (leave_piece key.Break node.Break)
-        (either_of (is_key key.Continue) (leave_piece key.Continue node.Continue)
-          (either_of (is_mark mark.Semicolon) empty_piece plain_piece (λ may y f t r. ap (is_next mark.Semicolon) r.2) (λ may y f t r e. starts_no_mark mark.Semicolon refl f (level_starts r.2)))
-          (λ may y f t r. ap (is_word key.Continue) r.2) (λ may y f t r e. simple3_no key.Continue may y f t r))
-        (λ may y f t r. ap (is_word key.Break) r.2) (λ may y f t r e. simple2_no key.Break refl may y f t r))
+      (either_of (is_key key.Continue) (leave_piece key.Continue node.Continue)
+      (either_of (is_mark mark.Semicolon) empty_piece plain_piece (λ may y f t r. ap (is_next mark.Semicolon) r.2) (λ may y f t r e. starts_no_mark mark.Semicolon refl f (level_starts r.2)))
+      (λ may y f t r. ap (is_word key.Continue) r.2) (λ may y f t r e. simple3_no key.Continue may y f t r))
+      (λ may y f t r. ap (is_word key.Break) r.2) (λ may y f t r e. simple2_no key.Break refl may y f t r))
       (λ may y f t r. ap (is_word key.Return) r.2) (λ may y f t r e. simple1_no key.Return refl refl may y f t r)
 
   abbrev Stmt4 : Rel (Bool × Stmt)
@@ -402,12 +404,12 @@ module _ (m d : ℕ) (nested : Nested) (deeper : Deeper nested m d) (below : Bel
   chain_piece =
       either_of (is_mark mark.LeftBrace) compound_piece
       (either_of (is_key key.If) if_piece
-        (either_of (is_key key.While) while_piece
-          (either_of (is_key key.Do) do_piece
-            (either_of (is_key key.For) for_piece simple_piece (λ may y f t r. ap (is_word key.For) r.2) (λ may y f t r e. simple_no key.For refl refl refl may y f t r))
-            (λ may y f t r. ap (is_word key.Do) r.2) (λ may y f t r e. stmt4_no may y f t r))
-          (λ may y f t r. ap (is_word key.While) r.2) (λ may y f t r e. stmt3_no may y f t r))
-        (λ may y f t r. ap (is_word key.If) r.2) (λ may y f t r e. stmt2_no may y f t r))
+      (either_of (is_key key.While) while_piece
+      (either_of (is_key key.Do) do_piece
+      (either_of (is_key key.For) for_piece simple_piece (λ may y f t r. ap (is_word key.For) r.2) (λ may y f t r e. simple_no key.For refl refl refl may y f t r))
+      (λ may y f t r. ap (is_word key.Do) r.2) (λ may y f t r e. stmt4_no may y f t r))
+      (λ may y f t r. ap (is_word key.While) r.2) (λ may y f t r e. stmt3_no may y f t r))
+      (λ may y f t r. ap (is_word key.If) r.2) (λ may y f t r e. stmt2_no may y f t r))
       (λ may y f t r. ap (is_next mark.LeftBrace) r.2) (λ may y f t r e. stmt1_no may y f t r)
 
   from_front : {x : Lexeme} (may : May) (y : Bool × Stmt) (f u t : Tokens) → f ≡ x ∷ u → StmtIs d may y (x ∷ u) t → StmtIs d may y f t
@@ -428,7 +430,7 @@ module _ (m d : ℕ) (nested : Nested) (deeper : Deeper nested m d) (below : Bel
       let p = r.3 in let w = p.3 in let c = w.3 in let k = c.3 in
       from_front may y f r.1 t r.2
       (ends_with (λ y t. StmtIs d may y (word r.0 key.Do ∷ r.1) t)
-        (repeat (subst (λ (u : Tokens). Writes may (inner (p.0.0) (p.0.1)) d r.1 u) w.2 p.2) (subst (λ (u : Tokens). Writes may (test c.0) d w.1 u) k.2 c.2)) k.3)
+      (repeat (subst (λ (u : Tokens). Writes may (inner (p.0.0) (p.0.1)) d r.1 u) w.2 p.2) (subst (λ (u : Tokens). Writes may (test c.0) d w.1 u) k.2 c.2)) k.3)
   stmt_to may y f t (that (that (that (that (this r))))) =
       let k = r.3 in let i = k.3 in let o = i.3 in let o' = o.3 in let p = o'.3 in
       from_front may y f r.1 t r.2

@@ -1,7 +1,6 @@
 -- Which tokens go on with a phrase of a level, and which operator a token is.
-use Rattle.std.proofs.Common.{◌≡◌, ℕ, zero, suc, ◌+◌, ◌<◌, ◌≤◌, Bool, true, false, cond, eqb, List, [], ◌∷◌, length, Option, Some, None, refl, sym, ap, ◌∙◌, subst, arith}
-use Rattle.std.proofs.lemmas.Bool.{eqb-true, eq-eqb, false≢true}
-use Rattle.c_tree.specs.declared.token.Lexeme.{Lexeme}
+use Rattle.std.proofs.Common.{◌≡◌, ℕ, suc, ◌<◌, ◌≤◌, Bool, true, false, eqb, [], ◌∷◌, Option, Some, None, refl, sym, ap, ◌∙◌, subst, arith}
+use Rattle.std.proofs.lemmas.Bool.{eqb-true, eq-eqb}
 use Rattle.c_tree.specs.declared.token.Form.{Form}
 use Rattle.c_tree.specs.declared.token.Form.TheVariants as form
 use Rattle.c_tree.specs.declared.token.Mark.{Mark}
@@ -10,7 +9,7 @@ use Rattle.c_tree.specs.declared.tree.Expr.{Expr}
 use Rattle.c_tree.specs.declared.tree.UnaryOp.TheVariants as unary
 use Rattle.c_tree.specs.declared.tree.BinaryOp.TheVariants as binary
 use Rattle.c_grammar.specs.Tokens.{Tokens, token, punct}
-use Rattle.c_grammar.specs.Operators.{Joiner, op, comma, joiner_mark, below, Prefix, sign, increase, decrease, prefix_mark, Suffix, increased, decreased, suffix_mark, Assigner, simple, times, over, modulo, plus, minus, left, right, and, xor, or, assigner_mark}
+use Rattle.c_grammar.specs.Operators.{Joiner, op, comma, joiner_mark, below, Prefix, sign, increase, decrease, prefix_mark, Suffix, increased, decreased, suffix_mark, Assigner, simple, assigner_mark}
 use Rattle.c_grammar.specs.Numbers.{is_mark}
 use Rattle.c_grammar.specs.Parsing.{by_option, tail, line_of, is_next}
 use Rattle.c_grammar.specs.ModelExpressions.{marked_joiner, if_below, joiner, prefix_of, suffix_of, assigner_of, assigner_for, is_unary, seen}

@@ -1,8 +1,6 @@
 -- The parser of types is sound and complete.
-use Rattle.std.proofs.Common.{◌≡◌, ℕ, zero, suc, ◌+◌, ◌<◌, ◌≤◌, Bool, true, false, cond, ◌||◌, List, [], ◌∷◌, length, Result, Ok, Err, refl, sym, ap, ◌∙◌, subst, arith}
+use Rattle.std.proofs.Common.{◌≡◌, ℕ, ◌<◌, Bool, true, false, ◌||◌, [], ◌∷◌, length, Ok, refl, sym, ap, ◌∙◌, subst, arith}
 use Rattle.std.proofs.lemmas.Bool.{false≢true}
-use Rattle.c_tree.specs.declared.token.Form.{Form}
-use Rattle.c_tree.specs.declared.token.Form.TheVariants as form
 use Rattle.c_tree.specs.declared.token.Key.{Key}
 use Rattle.c_tree.specs.declared.token.Key.TheVariants as key
 use Rattle.c_tree.specs.declared.token.Kind.{Kind}
@@ -10,10 +8,9 @@ use Rattle.c_tree.specs.declared.token.Kind.TheVariants as kind
 use Rattle.c_grammar.specs.Tokens.{Tokens, word, May}
 use Rattle.c_grammar.specs.Types.{Types, char, signed_char, unsigned_char, int, signed, signed_int, unsigned, unsigned_int, long, long_int, signed_long, signed_long_int, unsigned_long, unsigned_long_int}
 use Rattle.c_grammar.specs.Numbers.{is_key}
-use Rattle.c_grammar.specs.Parsing.{Out, and_then, first, is_word, expect_word}
-use Rattle.c_grammar.specs.ModelTypes.{is_type, begins_type, int_of, char_of, long_of, sized_of, signed_of, unsigned_of, plain_of, longs_of, type_of}
+use Rattle.c_grammar.specs.Parsing.{Out, and_then, is_word, expect_word}
+use Rattle.c_grammar.specs.ModelTypes.{begins_type, int_of, char_of, long_of, sized_of, signed_of, unsigned_of, plain_of, longs_of, type_of}
 use Rattle.c_grammar.proofs.Numbers.{key_self}
-use Rattle.c_grammar.proofs.Agree.{is_false}
 use Rattle.c_grammar.proofs.Pieces.{Rel, Then, always, any, same_tree, Piece, seq, done, Done, iff, either_of, Either, this, that, IsWord, word_piece, ends_with}
 
 abbrev Named : Type 0
@@ -65,12 +62,13 @@ module _ (m : ℕ) where
   unfolding int_of
   int_piece l k =
       iff (either_of (is_key key.Int) (word_then m key.Int (λ _. (l, k))) (done same_tree (l, k) {Given = any} {Kept = always} {Ends = type_ends} m (λ t h. tt))
-        (λ may x f t r. word_begins key.Int r.0 f r.1 r.2) (λ may x f t r e. not_int f (subst (λ (u : Tokens). begins_type u ≡ false) (sym r.1) e)))
+      (λ may x f t r. word_begins key.Int r.0 f r.1 r.2) (λ may x f t r e. not_int f (subst (λ (u : Tokens). begins_type u ≡ false) (sym r.1) e)))
       to from
     where
       to : (may : May) (x : ℕ × Kind) (f t : Tokens) → Either (WordThen key.Int (λ _. (l, k))) (Done (l, k)) may x f t → IntIs l k may x f t
       to may x f t (this r) = subst (λ (u : Tokens). IntIs l k may x u t) (sym r.2) (ends_with (λ x t. IntIs l k may x (word r.0 key.Int ∷ r.1) t) given r.3)
       to may x f t (that r) = ends_with (λ x t. IntIs l k may x f t) left_out r
+
       from : (may : May) (x : ℕ × Kind) (f t : Tokens) → IntIs l k may x f t → Either (WordThen key.Int (λ _. (l, k))) (Done (l, k)) may x f t
       from may _ _ t left_out = that (refl, refl)
       from may _ _ t (given {j = j}) = this (j, t, refl, (refl, refl))
@@ -101,17 +99,19 @@ module _ (m : ℕ) where
   unfolding sized_of
   sized_piece l c i g =
       iff (either_of (is_key key.Char) (char_piece l c)
-          (either_of (is_key key.Long) (long_piece l g) (int_piece l i) (λ may x f t r. word_begins key.Long r.0 f r.1 r.2) (λ may x f t r e. int_no_long may l i x f t r e))
-          (λ may x f t r. word_begins key.Char r.0 f r.1 r.2) no_char)
-        to from
+      (either_of (is_key key.Long) (long_piece l g) (int_piece l i) (λ may x f t r. word_begins key.Long r.0 f r.1 r.2) (λ may x f t r e. int_no_long may l i x f t r e))
+      (λ may x f t r. word_begins key.Char r.0 f r.1 r.2) no_char)
+      to from
     where
       no_char : (may : May) (x : ℕ × Kind) (f t : Tokens) → Either (LongIs l g) (IntIs l i) may x f t → type_ends x t → is_word key.Char f ≡ false
       no_char may x f t (this r) e = ap (is_word key.Char) r.2
       no_char may x f t (that r) e = int_no_char may l i x f t r e
+
       to : (may : May) (x : ℕ × Kind) (f t : Tokens) → SizedChain l c i g may x f t → SizedIs l c i g may x f t
       to may x f t (this r) = subst (λ (u : Tokens). SizedIs l c i g may x u t) (sym r.2) (ends_with (λ x t. SizedIs l c i g may x (word r.0 key.Char ∷ r.1) t) chars r.3)
       to may x f t (that (this r)) = subst (λ (u : Tokens). SizedIs l c i g may x u t) (sym r.2) (longs r.3)
       to may x f t (that (that r)) = ints r
+
       from : (may : May) (x : ℕ × Kind) (f t : Tokens) → SizedIs l c i g may x f t → SizedChain l c i g may x f t
       from may _ _ t (chars {j = j}) = this (j, t, refl, (refl, refl))
       from may _ _ t (longs {j = j} {u = u} r) = that (this (j, u, refl, r))
@@ -214,21 +214,23 @@ pub type_piece : (m : ℕ) → Piece same_tree TypeIs any always type_ends type_
 unfolding type_of
 type_piece m =
     iff (either_of (is_key key.Char) (plain_piece m key.Char kind.Char)
-        (either_of (is_key key.Int) (plain_piece m key.Int kind.Int)
-          (either_of (is_key key.Long) (longs_piece m)
-            (either_of (is_key key.Signed) (signed_piece m) (unsigned_piece m) (λ may x f t r. word_begins key.Signed r.0 f r.1 r.2) (λ may x f t r e. ap (is_word key.Signed) r.2))
-            (λ may x f t r. word_begins key.Long r.0 f r.1 r.2) no_long)
-          (λ may x f t r. word_begins key.Int r.0 f r.1 r.2) no_int)
-        (λ may x f t r. word_begins key.Char r.0 f r.1 r.2) no_char)
-      type_to (λ may x f t r. type_from may x.0 x.1 f t r)
+    (either_of (is_key key.Int) (plain_piece m key.Int kind.Int)
+    (either_of (is_key key.Long) (longs_piece m)
+    (either_of (is_key key.Signed) (signed_piece m) (unsigned_piece m) (λ may x f t r. word_begins key.Signed r.0 f r.1 r.2) (λ may x f t r e. ap (is_word key.Signed) r.2))
+    (λ may x f t r. word_begins key.Long r.0 f r.1 r.2) no_long)
+    (λ may x f t r. word_begins key.Int r.0 f r.1 r.2) no_int)
+    (λ may x f t r. word_begins key.Char r.0 f r.1 r.2) no_char)
+    type_to (λ may x f t r. type_from may x.0 x.1 f t r)
   where
     no_long : (may : May) (x : ℕ × Kind) (f t : Tokens) → Either FromSigned FromUnsigned may x f t → type_ends x t → is_word key.Long f ≡ false
     no_long may x f t (this r) e = ap (is_word key.Long) r.2
     no_long may x f t (that r) e = ap (is_word key.Long) r.2
+
     no_int : (may : May) (x : ℕ × Kind) (f t : Tokens) → Either FromLong (Either FromSigned FromUnsigned) may x f t → type_ends x t → is_word key.Int f ≡ false
     no_int may x f t (this r) e = ap (is_word key.Int) r.2
     no_int may x f t (that (this r)) e = ap (is_word key.Int) r.2
     no_int may x f t (that (that r)) e = ap (is_word key.Int) r.2
+
     no_char : (may : May) (x : ℕ × Kind) (f t : Tokens) → Either (WordThen key.Int (λ l. (l, kind.Int))) (Either FromLong (Either FromSigned FromUnsigned)) may x f t → type_ends x t → is_word key.Char f ≡ false
     no_char may x f t (this r) e = ap (is_word key.Char) r.2
     no_char may x f t (that (this r)) e = ap (is_word key.Char) r.2

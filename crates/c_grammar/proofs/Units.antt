@@ -1,10 +1,8 @@
 -- Translation units.
-use Rattle.std.proofs.Common.{◌≡◌, ℕ, zero, suc, ◌+◌, ◌<◌, ◌≤◌, Bool, true, false, cond, List, [], ◌∷◌, ◌++◌, length, Option, Some, None, Result, Ok, Err, refl, sym, ap, ◌∙◌, subst, arith}
+use Rattle.std.proofs.Common.{◌≡◌, ℕ, suc, ◌+◌, ◌<◌, ◌≤◌, Bool, true, false, List, [], ◌∷◌, length, Option, Some, None, Ok, refl, sym, ap, ◌∙◌, subst, arith}
 use Rattle.std.proofs.lemmas.Bool.{false≢true}
-use Rattle.c_tree.specs.declared.token.Lexeme.{Lexeme}
 use Rattle.c_tree.specs.declared.token.Form.{Form}
 use Rattle.c_tree.specs.declared.token.Form.TheVariants as form
-use Rattle.c_tree.specs.declared.token.Mark.{Mark}
 use Rattle.c_tree.specs.declared.token.Mark.TheVariants as mark
 use Rattle.c_tree.specs.declared.token.Key.TheVariants as key
 use Rattle.c_tree.specs.declared.token.Kind.{Kind}
@@ -19,13 +17,13 @@ use Rattle.c_grammar.specs.Tokens.{Tokens, token, punct, word, named, May}
 use Rattle.c_grammar.specs.Types.{Types}
 use Rattle.c_grammar.specs.Statements.{Writes, entries}
 use Rattle.c_grammar.specs.Statements as s
-use Rattle.c_grammar.specs.Units.{at, global, function, Phrase, Units, size, values, shape, globals, label, brackets, param, params, param_list, result, func, item, unit, no_size, some_size, last_value, last_comma, next_value, bare, valued, sized, filled, last_global, next_global, unlabelled, labelled, no_brackets, some_brackets, param_is, no_params, void_params, some_params, last_param, next_param, void, typed, prototype, definition, include, a_function, some_globals, last_item, next_item}
+use Rattle.c_grammar.specs.Units.{at, global, function, Phrase, Units, shape, globals, label, brackets, params, result, func, item, unit, no_size, some_size, last_value, last_comma, next_value, bare, valued, sized, filled, last_global, next_global, unlabelled, labelled, no_brackets, some_brackets, param_is, no_params, void_params, some_params, last_param, next_param, void, typed, prototype, definition, include, a_function, some_globals, last_item, next_item}
 use Rattle.c_grammar.specs.Numbers.{is_mark, is_key}
-use Rattle.c_grammar.specs.Parsing.{Out, and_then, syntax, tail, line_of, first, is_next, is_word, expect, expect_word, name_of, to_end}
-use Rattle.c_grammar.specs.ModelTypes.{is_type, begins_type, type_of}
+use Rattle.c_grammar.specs.Parsing.{Out, and_then, tail, line_of, first, is_next, is_word, name_of, to_end}
+use Rattle.c_grammar.specs.ModelTypes.{is_type, begins_type}
 use Rattle.c_grammar.specs.ModelExpressions.{Nested, inside}
 use Rattle.c_grammar.specs.ModelStatements.{below_at, compound_of}
-use Rattle.c_grammar.specs.ModelUnits.{is_include, include_of, params_of, globals_of, defined_of, declared_of, rest_of, func_of, after_name, void_item_of, typed_item_of, item_of, unit_of}
+use Rattle.c_grammar.specs.ModelUnits.{is_include, include_of, params_of, defined_of, declared_of, rest_of, func_of, after_name, void_item_of, typed_item_of, item_of, unit_of}
 use Rattle.c_grammar.proofs.Agree.{split_if, apart, stay, one, Tied, head_step, Lands, good, past, fine}
 use Rattle.c_grammar.proofs.Pieces.{Rel, Sound, read, stuck, Then, always, any, Piece, seq, done, Done, iff, ends_with, same_tree, Either, this, that, either_of, Is, mark_piece, IsWord, word_piece, Named, name_piece, name_first}
 use Rattle.c_grammar.proofs.Lists.{Tail, ends, trails, goes, at_end, EndTail, end_here, goes_on, to_end_piece}
@@ -34,7 +32,7 @@ use Rattle.c_grammar.proofs.Levels.{spells_shorter}
 use Rattle.c_grammar.proofs.Expressions.{Deeper}
 use Rattle.c_grammar.proofs.Inside.{inside_known}
 use Rattle.c_grammar.proofs.Begins.{type_no_word, writes_shorter}
-use Rattle.c_grammar.proofs.Stmts.{EntriesAre, BodyIs, body_piece}
+use Rattle.c_grammar.proofs.Stmts.{BodyIs, body_piece}
 use Rattle.c_grammar.proofs.Below.{below_good}
 use Rattle.c_grammar.proofs.Globals.{GlobalsAre, GlobalsFrom, globals_piece, ParamsAre, params_piece}
 
@@ -111,9 +109,9 @@ include_piece m =
       grow = λ t. omega arith;
       least = λ may t fr fr'. (at 0 tops.Include ∷ [], include_is);
       sound = λ ts h.
-        split_if (Sound same_tree IncludeIs always m ts) (first is_include ts) _ _
-        (λ e. read (at (line_of ts) tops.Include ∷ []) (tail ts) (record { put = λ u. token (line_of ts) form.Include ∷ u; way = one _; is = include_next ts e; again = λ may w u. include_is }) tt)
-        (λ e. stuck _ (record { put = λ u. u; way = stay; is = refl; more = λ u. token 0 form.Include ∷ u; grows = λ u. omega arith; held = tt; completes = λ u. (at 0 tops.Include ∷ [], include_is) }));
+          split_if (Sound same_tree IncludeIs always m ts) (first is_include ts) _ _
+          (λ e. read (at (line_of ts) tops.Include ∷ []) (tail ts) (record { put = λ u. token (line_of ts) form.Include ∷ u; way = one _; is = include_next ts e; again = λ may w u. include_is }) tt)
+          (λ e. stuck _ (record { put = λ u. u; way = stay; is = refl; more = λ u. token 0 form.Include ∷ u; grows = λ u. omega arith; held = tt; completes = λ u. (at 0 tops.Include ∷ [], include_is) }));
       complete = λ cut g g' may xs f' t' r e f tied. whole cut g g' may xs f' t' r f tied;
     }
   where
@@ -152,7 +150,7 @@ module _ (m : ℕ) (nested : Nested) (known : Deeper nested m 0) (body : Tokens 
   func_piece r l w =
       seq (λ _ ts. and_then (params_of nested ts) (λ ps ts. and_then (rest_of nested body r l w ps ts) (λ x ts. tops_here (x ∷ []) ts))) (mark_piece mark.LeftParen m)
       (λ k. seq (λ ps ts. and_then (rest_of nested body r l w ps ts) (λ x ts. tops_here (x ∷ []) ts)) (params_piece m nested known)
-        (λ ps. seq (λ x ts. tops_here (x ∷ []) ts) (rest_piece r l w ps) (λ x. done same_tree (x ∷ []) m (λ t h. tt)) (λ t. omega arith) (λ may x y u t r h. tt)) (λ t. omega arith) (λ may x y u t r h. tt))
+      (λ ps. seq (λ x ts. tops_here (x ∷ []) ts) (rest_piece r l w ps) (λ x. done same_tree (x ∷ []) m (λ t h. tt)) (λ t. omega arith) (λ may x y u t r h. tt)) (λ t. omega arith) (λ may x y u t r h. tt))
       (λ t. omega arith) (λ may x y u t r h. tt)
 
   abbrev AfterName : Kind → ℕ → List ℕ → Rel (List Top)
@@ -200,17 +198,20 @@ module _ (m : ℕ) (nested : Nested) (known : Deeper nested m 0) (body : Tokens 
       let b = q.2 in let e = b.3 in
       ends_with (λ x t. Units may (func r x) (named l w ∷ punct k mark.LeftParen ∷ f) t)
       (subst (λ (c : Stmt). Units may (func r (function l r w ps (Some c))) (named l w ∷ punct k mark.LeftParen ∷ f) q.1) (e.3.0)
-        (subst (λ (v : Tokens). Units may (func r (function l r w ps (Some (s.at b.0 (node.Compound e.0))))) (named l w ∷ punct k mark.LeftParen ∷ f) v) (e.3.1)
-          (definition (subst (λ (u : Tokens). Units may (params ps) f u) b.2 p) e.2)))
+      (subst (λ (v : Tokens). Units may (func r (function l r w ps (Some (s.at b.0 (node.Compound e.0))))) (named l w ∷ punct k mark.LeftParen ∷ f) v) (e.3.1)
+      (definition (subst (λ (u : Tokens). Units may (params ps) f u) b.2 p) e.2)))
       q.3
   rest_to may k r l w ps x f u t p (that q) =
       ends_with (λ x t. Units may (func r x) (named l w ∷ punct k mark.LeftParen ∷ f) t) (prototype (subst (λ (u : Tokens). Units may (params ps) f u) q.2 p)) q.3
 
   func_to : (may : May) (r : Option Kind) (l : ℕ) (w : List ℕ) (xs : List Top) (f t : Tokens) → FuncIs r l w may xs f t → (x : Top) × (x ∷ [] ≡ xs) × Units may (func r x) (named l w ∷ f) t
   func_to may r l w xs f t q =
-      let p = q.3 in let x = p.3 in
-      (x.0, x.3.0, subst (λ (t : Tokens). Units may (func r x.0) (named l w ∷ f) t) x.3.1
-        (subst (λ (f : Tokens). Units may (func r x.0) (named l w ∷ f) x.1) (sym q.2) (rest_to may q.0 r l w p.0 x.0 q.1 p.1 x.1 p.2 x.2)))
+      let p = q.3 in let x = p.3 in (
+        x.0,
+        x.3.0,
+        subst (λ (t : Tokens). Units may (func r x.0) (named l w ∷ f) t) x.3.1
+            (subst (λ (f : Tokens). Units may (func r x.0) (named l w ∷ f) x.1) (sym q.2) (rest_to may q.0 r l w p.0 x.0 q.1 p.1 x.1 p.2 x.2)),
+      )
 
   globals_are : (may : May) (k : Kind) (l : ℕ) (w : List ℕ) (h : ArraySize × List Expr) (gs : List Top) (v u t : Tokens) → Units may (shape h) v u → Tail (GlobalsAre k) mark.Semicolon false (global l k w h) may gs u t → GlobalsAre k may gs (named l w ∷ v) t
   globals_are may k l w h _ v _ t x ends = last_global x
@@ -232,9 +233,22 @@ module _ (m : ℕ) (nested : Nested) (known : Deeper nested m 0) (body : Tokens 
   func_from : (may : May) (r : Option Kind) (x : Top) (f t : Tokens) → Units may (func r x) f t → (n : ℕ × List ℕ) × (u : Tokens) × (f ≡ named n.0 n.1 ∷ u) × FuncIs r n.0 n.1 may (x ∷ []) u t
   func_from may r _ _ t (prototype {l = l} {k = k} {k' = k'} {w = w} {ps = ps} {m = v} x) =
       ((l, w), punct k mark.LeftParen ∷ v, refl, (k, v, refl, (ps, punct k' mark.Semicolon ∷ t, x, (function l r w ps None, t, that (k', t, refl, (refl, refl)), (refl, refl)))))
-  func_from may r _ _ t (definition {l = l} {k = k} {k' = k'} {w = w} {ps = ps} {ss = ss} {m = v} {m' = v'} x z) =
-      ((l, w), punct k mark.LeftParen ∷ v, refl, (k, v, refl, (ps, punct k' mark.LeftBrace ∷ v', x,
-        (function l r w ps (Some (s.at k' (node.Compound ss))), t, this (s.at k' (node.Compound ss), t, (k', v', refl, (ss, t, z, (refl, refl))), (refl, refl)), (refl, refl)))))
+  func_from may r _ _ t (definition {l = l} {k = k} {k' = k'} {w = w} {ps = ps} {ss = ss} {m = v} {m' = v'} x z) = (
+    (l, w),
+    punct k mark.LeftParen ∷ v,
+    refl,
+    (
+      k,
+      v,
+      refl,
+      (
+        ps,
+        punct k' mark.LeftBrace ∷ v',
+        x,
+        (function l r w ps (Some (s.at k' (node.Compound ss))), t, this (s.at k' (node.Compound ss), t, (k', v', refl, (ss, t, z, (refl, refl))), (refl, refl)), (refl, refl)),
+      ),
+    ),
+  )
 
   func_item : (may : May) (r : Option Kind) (x : Top) (f u t : Tokens) → Units may (result r) f u → Units may (func r x) u t → ItemChain may (x ∷ []) f t
   func_item may _ x _ u t (void {l = l}) y = let n = func_from may None x u t y in that (this (l, u, refl, (n.0, n.1, n.2, n.3)))
@@ -244,8 +258,22 @@ module _ (m : ℕ) (nested : Nested) (known : Deeper nested m 0) (body : Tokens 
   globals_item may l' k _ _ f _ t z (last_global {l = l} {j = j} {k = i} {w = w} {s = h} {m = v} x) e =
       that (that ((l', k), named l w ∷ v, z, ((l, w), v, refl, that (h, punct j mark.Semicolon ∷ t, x, subst (λ (i' : Kind). Tail (GlobalsAre k) mark.Semicolon false (global l k w h) may (global l i' w h ∷ []) (punct j mark.Semicolon ∷ t) t) (sym e) ends))))
   globals_item may l' k _ _ f _ t z (next_global {l = l} {j = j} {k = i} {w = w} {s = h} {gs = gs} {m = v} {m' = v'} x y) e =
-      that (that ((l', k), named l w ∷ v, z, ((l, w), v, refl, that (h, punct j mark.Comma ∷ v', x,
-        subst (λ (i' : Kind). Tail (GlobalsAre k) mark.Semicolon false (global l k w h) may (global l i' w h ∷ gs) (punct j mark.Comma ∷ v') t) (sym e) (goes (subst (λ (i : Kind). GlobalsAre i may gs v' t) e y))))))
+      that (that (
+        (l', k),
+        named l w ∷ v,
+        z,
+        (
+          (l, w),
+          v,
+          refl,
+          that (
+            h,
+            punct j mark.Comma ∷ v',
+            x,
+            subst (λ (i' : Kind). Tail (GlobalsAre k) mark.Semicolon false (global l k w h) may (global l i' w h ∷ gs) (punct j mark.Comma ∷ v') t) (sym e) (goes (subst (λ (i : Kind). GlobalsAre i may gs v' t) e y)),
+          ),
+        ),
+      ))
 
   item_from : (may : May) (xs : List Top) (f t : Tokens) → ItemIs may xs f t → ItemChain may xs f t
   item_from may _ _ t include = this include_is
@@ -259,11 +287,12 @@ module _ (m : ℕ) (nested : Nested) (known : Deeper nested m 0) (body : Tokens 
   unfolding item_of
   item_piece =
       iff (either_of is_include (include_piece m)
-        (either_of (is_key key.Void) void_item_piece typed_item_piece (λ may xs f t q. ap (is_word key.Void) q.2) (λ may xs f t q e. type_no_word key.Void refl f (types_begin q.2)))
-        no_void no_include) item_to item_from
+      (either_of (is_key key.Void) void_item_piece typed_item_piece (λ may xs f t q. ap (is_word key.Void) q.2) (λ may xs f t q e. type_no_word key.Void refl f (types_begin q.2)))
+      no_void no_include) item_to item_from
     where
       no_void : (may : May) (xs : List Top) (f t : Tokens) → IncludeIs may xs f t → first is_include f ≡ true
       no_void may _ _ t include_is = refl
+
       no_include : (may : May) (xs : List Top) (f t : Tokens) → Either VoidItem TypedItem may xs f t → always xs t → first is_include f ≡ false
       no_include may xs f t (this q) e = ap (first is_include) q.2
       no_include may xs f t (that q) e = type_no_include f (types_begin q.2)
@@ -274,8 +303,10 @@ module _ (m : ℕ) (nested : Nested) (known : Deeper nested m 0) (body : Tokens 
       to_tail : (may : May) (x xs : List Top) (f u t : Tokens) → Units may (item x) f u → EndTail UnitIs x may xs u t → Units may (unit xs) f t
       to_tail may x _ f _ t y end_here = last_item y
       to_tail may x _ f u t y (goes_on z) = next_item y z
+
       to : (may : May) (xs : List Top) (f t : Tokens) → Then ItemIs (λ x. EndTail UnitIs x) may xs f t → Units may (unit xs) f t
       to may xs f t r = to_tail may r.0 xs f r.1 t r.2 r.3
+
       from : (may : May) (xs : List Top) (f t : Tokens) → Units may (unit xs) f t → Then ItemIs (λ x. EndTail UnitIs x) may xs f t
       from may xs f t (last_item x) = (xs, t, x, end_here)
       from may _ f t (next_item {xs = xs} {m = u} x y) = (xs, u, x, goes_on y)

@@ -1,12 +1,12 @@
 -- A part that reads up to the end accepts exactly what is spelled, and stops exactly where the fault stands.
-use Rattle.std.proofs.Common.{◌≡◌, ℕ, zero, suc, ◌+◌, ◌<◌, ◌≤◌, Bool, true, false, leb, ◌||◌, List, [], ◌∷◌, ◌++◌, length, Result, Ok, Err, refl, sym, ap, ◌∙◌, subst, append_assoc, arith, length-append}
+use Rattle.std.proofs.Common.{◌≡◌, ℕ, suc, ◌<◌, Bool, true, false, leb, ◌||◌, [], ◌∷◌, ◌++◌, length, Ok, Err, refl, sym, ap, ◌∙◌, subst, append_assoc, arith, length-append}
 use Rattle.std.proofs.lemmas.Bool.{false≢true, leb-true, le-leb}
 use Rattle.c_tree.specs.declared.token.Lexeme.{Lexeme}
 use Rattle.c_grammar.specs.Tokens.{Tokens, May, within, before, late, any_depth}
-use Rattle.c_grammar.specs.Parsing.{Stop, Out, and_then, syntax, too_deep}
-use Rattle.c_grammar.specs.Places.{Spelled, Starts, StartsWithin, StartsBut, SyntaxAt, EndsEarly, DeepAt, FaultAt, Exact, StartsLate, settle, settle_stop}
-use Rattle.c_grammar.proofs.Agree.{Way, Held, opens, place, Tied, end, at_cut, alike, Brief, Lands, good, past, deep}
-use Rattle.c_grammar.proofs.Pieces.{Rel, Front, Open, Sound, read, stuck, Complete, any, Piece, same_tree}
+use Rattle.c_grammar.specs.Parsing.{Stop, Out, too_deep}
+use Rattle.c_grammar.specs.Places.{Spelled, StartsWithin, StartsBut, FaultAt, Exact, StartsLate, settle, settle_stop}
+use Rattle.c_grammar.proofs.Agree.{place, Tied, end, at_cut, alike, Lands, good, past, deep}
+use Rattle.c_grammar.proofs.Pieces.{Rel, Open, Sound, read, stuck, any, Piece, same_tree}
 use Rattle.c_grammar.proofs.Lists.{at_end}
 use Rattle.c_grammar.proofs.Late.{Passes}
 
@@ -44,7 +44,7 @@ append_nil (x ∷ xs) = ap (λ (u : Tokens). x ∷ u) (append_nil xs)
 abbrev err : {A : Type 0} → Stop → Out A
 err s = Err s
 
-or_mono : (a b c : Bool) → (a ≡ true → b ≡ true) → a || c ≡ true → b || c ≡ true
+pub or_mono : (a b c : Bool) → (a ≡ true → b ≡ true) → a || c ≡ true → b || c ≡ true
 or_mono true b c h e = by b (h refl)
   where
     by : (b : Bool) → b ≡ true → b || c ≡ true
@@ -105,9 +105,14 @@ module _ {X : Type 0} (R : Rel X) (after : Tokens → Tokens) (m : ℕ) (run : T
   starts_deep ts q o =
       let c = o.completes [] in
       let h = o.held in
-      let e = h.4 [] in
-      (o.way.front, h.0, h.1, h.3, o.is ∙ o.way.law q ∙ ap (λ (u : Tokens). o.way.front ++ u) h.3,
-        (h.2 [], c.0, subst (λ (u : Tokens). R (before m u) c.0 (o.way.front ++ u) []) e (subst (λ (u : Tokens). R (before m (o.more [])) c.0 u []) (o.way.law (o.more [])) c.1)))
+      let e = h.4 [] in (
+        o.way.front,
+        h.0,
+        h.1,
+        h.3,
+        o.is ∙ o.way.law q ∙ ap (λ (u : Tokens). o.way.front ++ u) h.3,
+        (h.2 [], c.0, subst (λ (u : Tokens). R (before m u) c.0 (o.way.front ++ u) []) e (subst (λ (u : Tokens). R (before m (o.more [])) c.0 u []) (o.way.law (o.more [])) c.1)),
+      )
 
   early_late : (ts : Tokens) → StartsWithin R m ts → StartsLate R m ts
   early_late ts w = (w.0, w.1, far (before m w.0) (late m w.0) w.1 (ts ++ w.0) (λ q d lt e. late_of m w.0 q d e) w.2)
@@ -124,16 +129,18 @@ module _ {X : Type 0} (R : Rel X) (after : Tokens → Tokens) (m : ℕ) (run : T
         is_none = λ x r. no_tree any_depth ts x _ h (p.complete false [] [] any_depth x ts [] r refl ts (same ts)) (λ q q' d u i y. false≢true (ap (λ (s : Stop). s.deep) i));
       }
   fault_at ts false (t ∷ back) o h =
-      let a = starts_open ts _ o in
-      (a.0, record {
-        split = a.1;
-        before_it = a.2;
-        with_it = λ w.
-          let r = subst (λ (u : Tokens). R any_depth w.1 u []) (append_assoc a.0 (t ∷ []) w.0) w.2 in
-          let tied = subst (λ (u : Tokens). Tied true back w.0 u (a.0 ++ t ∷ w.0)) (sym a.1) (tie a.0 t back w.0) in
-          refuses any_depth ts back w.0 t w.1 _ h refl (p.complete true back w.0 any_depth w.1 (a.0 ++ t ∷ w.0) [] r refl ts tied)
-          (λ q q' d u i y n. false≢true (ap (λ (s : Stop). s.deep) i));
-      })
+      let a = starts_open ts _ o in (
+        a.0,
+        record {
+          split = a.1;
+          before_it = a.2;
+          with_it = λ w.
+              let r = subst (λ (u : Tokens). R any_depth w.1 u []) (append_assoc a.0 (t ∷ []) w.0) w.2 in
+              let tied = subst (λ (u : Tokens). Tied true back w.0 u (a.0 ++ t ∷ w.0)) (sym a.1) (tie a.0 t back w.0) in
+              refuses any_depth ts back w.0 t w.1 _ h refl (p.complete true back w.0 any_depth w.1 (a.0 ++ t ∷ w.0) [] r refl ts tied)
+              (λ q q' d u i y n. false≢true (ap (λ (s : Stop). s.deep) i));
+        },
+      )
   fault_at ts true [] o h =
       let a = starts_deep ts [] o in
       let i = a.3 in cc
@@ -147,7 +154,7 @@ module _ {X : Type 0} (R : Rel X) (after : Tokens → Tokens) (m : ℕ) (run : T
       record {
         starts = (w.0, w.1, subst (λ (u : Tokens). R (late m w.0) w.1 u []) (sym (ap (λ (u : Tokens). u ++ w.0) split ∙ append_assoc a.0 (a.1 ∷ []) w.0)) w.2);
         is_none = λ x r. no_tree two ts x _ h (p.complete false [] [] two x ts [] (far any_depth two x ts (λ q d lt e. le-leb 2 (length q) (omega (arith, lt))) r) refl ts (same ts))
-          (λ q q' d u i y. let y' = leb-true 2 (length q') y in omega (arith, y', same_length u, ap (λ (s : Stop). length (s.rest)) i));
+            (λ q q' d u i y. let y' = leb-true 2 (length q') y in omega (arith, y', same_length u, ap (λ (s : Stop). length (s.rest)) i));
       }
   fault_at ts true (t ∷ t' ∷ back') o h =
       let back = t' ∷ back' in
@@ -155,23 +162,25 @@ module _ {X : Type 0} (R : Rel X) (after : Tokens → Tokens) (m : ℕ) (run : T
       let i = a.3 in
       let it : t ≡ a.1 = cc in
       let ib : back ≡ a.2 = cc in
-      let split : ts ≡ a.0 ++ t ∷ back = a.4 ∙ ap (λ (u : Tokens). a.0 ++ u) (sym i) in
-      (a.0, record {
-        split = split;
-        but_for_it = subst (λ (u : Lexeme). StartsBut R m a.0 u) (sym it) a.5;
-        with_it = λ w.
-          let r = subst (λ (u : Tokens). R (before m w.0) w.1 u []) (append_assoc a.0 (t ∷ []) w.0) w.2 in
-          let tied = subst (λ (u : Tokens). Tied true back w.0 u (a.0 ++ t ∷ w.0)) (sym split) (tie a.0 t back w.0) in
-          refuses (before m w.0) ts back w.0 t w.1 _ h refl (p.complete true back w.0 (before m w.0) w.1 (a.0 ++ t ∷ w.0) [] r refl ts tied)
-          (λ q q' d u i y n. both_ways (leb d m) (if_longer (length q') (length w.0) (leb d m) (tied_longer u) y) n);
-        not_early = λ early.
-          let w = early.starts in
-          let g' = back ++ w.0 in
-          let r = subst (λ (u : Tokens). R (late m w.0) w.1 u []) (ap (λ (u : Tokens). u ++ w.0) split ∙ append_assoc a.0 (t ∷ back) w.0) w.2 in
-          let tied = subst (λ (u : Tokens). Tied true back g' u (a.0 ++ t ∷ g')) (sym split) (tie a.0 t back g') in
-          refuses (late m w.0) ts back g' t w.1 _ h refl (p.complete true back g' (late m w.0) w.1 (a.0 ++ t ∷ g') [] r refl ts tied)
-          (λ q q' d u i y n. both_ways (leb d m) (if_longer (length q') (suc (length w.0)) (leb d m) (omega (arith, tied_longer u, length-append back' w.0)) y) n);
-      })
+      let split : ts ≡ a.0 ++ t ∷ back = a.4 ∙ ap (λ (u : Tokens). a.0 ++ u) (sym i) in (
+        a.0,
+        record {
+          split = split;
+          but_for_it = subst (λ (u : Lexeme). StartsBut R m a.0 u) (sym it) a.5;
+          with_it = λ w.
+              let r = subst (λ (u : Tokens). R (before m w.0) w.1 u []) (append_assoc a.0 (t ∷ []) w.0) w.2 in
+              let tied = subst (λ (u : Tokens). Tied true back w.0 u (a.0 ++ t ∷ w.0)) (sym split) (tie a.0 t back w.0) in
+              refuses (before m w.0) ts back w.0 t w.1 _ h refl (p.complete true back w.0 (before m w.0) w.1 (a.0 ++ t ∷ w.0) [] r refl ts tied)
+              (λ q q' d u i y n. both_ways (leb d m) (if_longer (length q') (length w.0) (leb d m) (tied_longer u) y) n);
+          not_early = λ early.
+              let w = early.starts in
+              let g' = back ++ w.0 in
+              let r = subst (λ (u : Tokens). R (late m w.0) w.1 u []) (ap (λ (u : Tokens). u ++ w.0) split ∙ append_assoc a.0 (t ∷ back) w.0) w.2 in
+              let tied = subst (λ (u : Tokens). Tied true back g' u (a.0 ++ t ∷ g')) (sym split) (tie a.0 t back g') in
+              refuses (late m w.0) ts back g' t w.1 _ h refl (p.complete true back g' (late m w.0) w.1 (a.0 ++ t ∷ g') [] r refl ts tied)
+              (λ q q' d u i y n. both_ways (leb d m) (if_longer (length q') (suc (length w.0)) (leb d m) (omega (arith, tied_longer u, length-append back' w.0)) y) n);
+        },
+      )
 
   -- the outcome says where the fault stands
   pub exact : (ts : Tokens) → Exact R m ts (settle (run ts))

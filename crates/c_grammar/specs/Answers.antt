@@ -1,8 +1,8 @@
 -- What is answered of a list of tokens: its tree, or a fault and the line of its place.
-use Rattle.std.specs.Prelude.{◌≡◌, ℕ, List, [], ◌∷◌, ◌++◌}
+use Rattle.std.specs.Prelude.{◌≡◌, ℕ, List, [], ◌∷◌}
 use Rattle.c_tree.specs.declared.token.Lexeme.{Lexeme}
 use Rattle.c_tree.specs.declared.tree.Top.{Top}
-use Rattle.c_grammar.specs.Tokens.{Tokens, May}
+use Rattle.c_grammar.specs.Tokens.{Tokens}
 use Rattle.c_grammar.specs.Units.{Units, unit}
 use Rattle.c_grammar.specs.Places.{Rel, Spelled, SyntaxAt, EndsEarly, DeepAt}
 

@@ -149,10 +149,11 @@ module _ (nested : Nested) where
   unfoldable pub no_args_of : Tokens → Out (List Expr)
   no_args_of ts = and_then (expect mark.RightParen ts) (λ _ ts. Ok ([], ts))
 
+  unfoldable pub arg_list_of : Tokens → Out (List Expr)
+  arg_list_of ts = listed mark.RightParen false nested.assignment (suc (length ts)) ts
+
   unfoldable pub args_of : Tokens → Out (List Expr)
-  args_of ts =
-      if is_next mark.RightParen ts then no_args_of ts
-      else listed mark.RightParen false nested.assignment (suc (length ts)) ts
+  args_of ts = if is_next mark.RightParen ts then no_args_of ts else arg_list_of ts
 
   unfoldable pub call_of : ℕ → List ℕ → Tokens → Out Expr
   call_of l w ts =
@@ -237,7 +238,12 @@ module _ (nested : Nested) where
 -- what stands inside, where so many more depths may be opened
 unfoldable pub inside : ℕ → Nested
 inside zero = record {
-  allowed = false; unary = too_deep; cast = too_deep; conditional = too_deep; assignment = too_deep; expression = too_deep;
+  allowed = false;
+  unary = too_deep;
+  cast = too_deep;
+  conditional = too_deep;
+  assignment = too_deep;
+  expression = too_deep;
 }
 inside (suc n) = record {
   allowed = true;

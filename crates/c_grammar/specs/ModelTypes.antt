@@ -1,5 +1,5 @@
 -- The model of the parser of types.
-use Rattle.std.specs.Prelude.{ℕ, Bool, true, false, ◌||◌, if◌then◌else◌, Ok}
+use Rattle.std.specs.Prelude.{ℕ, Bool, ◌||◌, if◌then◌else◌, Ok}
 use Rattle.c_tree.specs.declared.token.Form.{Form}
 use Rattle.c_tree.specs.declared.token.Key.{Key}
 use Rattle.c_tree.specs.declared.token.Key.TheVariants as key

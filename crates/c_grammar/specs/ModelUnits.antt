@@ -1,5 +1,5 @@
 -- The model of the parser of translation units.
-use Rattle.std.specs.Prelude.{ℕ, zero, suc, Bool, true, false, if◌then◌else◌, List, [], ◌∷◌, length, Option, Some, None, Ok}
+use Rattle.std.specs.Prelude.{ℕ, suc, Bool, true, false, if◌then◌else◌, List, [], ◌∷◌, length, Option, Some, None, Ok}
 use Rattle.c_tree.specs.declared.token.Form.{Form}
 use Rattle.c_tree.specs.declared.token.Form.TheVariants as form
 use Rattle.c_tree.specs.declared.token.Mark.TheVariants as mark
@@ -9,17 +9,15 @@ use Rattle.c_tree.specs.declared.tree.Expr.{Expr}
 use Rattle.c_tree.specs.declared.tree.ArraySize.{ArraySize}
 use Rattle.c_tree.specs.declared.tree.ArraySize.TheVariants as sizes
 use Rattle.c_tree.specs.declared.tree.Stmt.{Stmt}
-use Rattle.c_tree.specs.declared.tree.StmtNode.TheVariants as node
 use Rattle.c_tree.specs.declared.tree.Param.{Param}
 use Rattle.c_tree.specs.declared.tree.Top.{Top}
 use Rattle.c_tree.specs.declared.tree.TopNode.TheVariants as tops
 use Rattle.c_grammar.specs.Tokens.{Tokens}
-use Rattle.c_grammar.specs.Statements as s
 use Rattle.c_grammar.specs.Units.{at, Shape, global, function, Label, parameter}
 use Rattle.c_grammar.specs.Parsing.{Out, and_then, syntax, tail, line_of, first, is_next, is_word, expect, expect_word, name_of, listed, listed_on, to_end}
 use Rattle.c_grammar.specs.ModelTypes.{type_of}
 use Rattle.c_grammar.specs.ModelExpressions.{Nested, inside, is_name, conditional_of}
-use Rattle.c_grammar.specs.ModelStatements.{Below, below_at, compound_of}
+use Rattle.c_grammar.specs.ModelStatements.{below_at, compound_of}
 
 abbrev pub is_include : Form → Bool
 is_include form.Include = true
@@ -80,11 +78,13 @@ module _ (nested : Nested) where
   unfoldable pub global_of : Kind → Tokens → Out Top
   global_of k ts = and_then (name_of ts) (λ n ts. and_then (shape_of ts) (λ s ts. Ok (global n.0 k n.1 s, ts)))
 
+  -- behind the first one
+  unfoldable pub more_globals_of : Kind → Top → Tokens → Out (List Top)
+  more_globals_of k x ts = listed_on mark.Semicolon false (global_of k) (length ts) x ts
+
   -- behind the name of the first one
   unfoldable pub globals_of : Kind → ℕ → List ℕ → Tokens → Out (List Top)
-  globals_of k l w ts =
-      and_then (shape_of ts) (λ s ts.
-      listed_on mark.Semicolon false (global_of k) (length ts) (global l k w s) ts)
+  globals_of k l w ts = and_then (shape_of ts) (λ s ts. more_globals_of k (global l k w s) ts)
 
   unfoldable pub some_brackets_of : Tokens → Out ArraySize
   some_brackets_of ts = and_then (expect mark.LeftBracket ts) (λ _ ts. size_of ts)
@@ -104,11 +104,14 @@ module _ (nested : Nested) where
   unfoldable pub void_params_of : Tokens → Out (List Param)
   void_params_of ts = and_then (expect_word key.Void ts) (λ _ ts. no_params_of ts)
 
+  unfoldable pub param_list_of : Tokens → Out (List Param)
+  param_list_of ts = listed mark.RightParen false param_of (suc (length ts)) ts
+
   unfoldable pub params_of : Tokens → Out (List Param)
   params_of ts =
       if is_next mark.RightParen ts then no_params_of ts
       else if is_word key.Void ts then void_params_of ts
-      else listed mark.RightParen false param_of (suc (length ts)) ts
+      else param_list_of ts
 
   module _ (body : Body) where
     unfoldable pub defined_of : Option Kind → ℕ → List ℕ → List Param → Tokens → Out Top

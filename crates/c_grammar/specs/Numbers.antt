@@ -1,5 +1,5 @@
 -- Numbers of the marks and the keywords, by which they are told apart.
-use Rattle.std.specs.Prelude.{ℕ, Bool, true, false, nat_eq}
+use Rattle.std.specs.Prelude.{ℕ, Bool, false, nat_eq}
 use Rattle.c_tree.specs.declared.token.Form.{Form}
 use Rattle.c_tree.specs.declared.token.Form.TheVariants as form
 use Rattle.c_tree.specs.declared.token.Mark.{Mark}

@@ -1,5 +1,5 @@
 -- Parts of a parser, as functions of the list of tokens.
-use Rattle.std.specs.Prelude.{ℕ, zero, suc, Bool, true, false, if◌then◌else◌, List, [], ◌∷◌, ◌++◌, length, Option, Some, None, Result, Ok, Err}
+use Rattle.std.specs.Prelude.{ℕ, zero, suc, Bool, true, false, if◌then◌else◌, List, [], ◌∷◌, ◌++◌, Option, Some, None, Result, Ok, Err}
 use Rattle.c_tree.specs.declared.token.Form.{Form}
 use Rattle.c_tree.specs.declared.token.Form.TheVariants as form
 use Rattle.c_tree.specs.declared.token.Mark.{Mark}
@@ -76,16 +76,16 @@ listed k trailing item zero ts = syntax ts
 listed k trailing item (suc n) ts =
     and_then (item ts) (λ x ts.
     if is_next mark.Comma ts then
-      if closes k trailing (tail ts) then Ok (x ∷ [], tail (tail ts))
-      else and_then (listed k trailing item n (tail ts)) (λ xs ts. Ok (x ∷ xs, ts))
+    if closes k trailing (tail ts) then Ok (x ∷ [], tail (tail ts))
+    else and_then (listed k trailing item n (tail ts)) (λ xs ts. Ok (x ∷ xs, ts))
     else and_then (expect k ts) (λ _ ts. Ok (x ∷ [], ts)))
 
 -- behind an item of such a list
 abbrev pub listed_on : {A : Type 0} → Mark → Bool → (Tokens → Out A) → ℕ → A → Tokens → Out (List A)
 listed_on k trailing item n x ts =
     if is_next mark.Comma ts then
-      if closes k trailing (tail ts) then Ok (x ∷ [], tail (tail ts))
-      else and_then (listed k trailing item n (tail ts)) (λ xs ts. Ok (x ∷ xs, ts))
+    if closes k trailing (tail ts) then Ok (x ∷ [], tail (tail ts))
+    else and_then (listed k trailing item n (tail ts)) (λ xs ts. Ok (x ∷ xs, ts))
     else and_then (expect k ts) (λ _ ts. Ok (x ∷ [], ts))
 
 -- items, each of which is some of what is listed, up to a mark

@@ -19,7 +19,7 @@ pub data Types : ℕ → Kind → Tokens → Tokens → Type 0 where
   long_int : {l k : ℕ} {t : Tokens} → Types l kind.Long (word l key.Long ∷ word k key.Int ∷ t) t
   signed_long : {l k : ℕ} {t : Tokens} → Types l kind.Long (word l key.Signed ∷ word k key.Long ∷ t) t
   signed_long_int : {l k j : ℕ} {t : Tokens}
-    → Types l kind.Long (word l key.Signed ∷ word k key.Long ∷ word j key.Int ∷ t) t
+      → Types l kind.Long (word l key.Signed ∷ word k key.Long ∷ word j key.Int ∷ t) t
   unsigned_long : {l k : ℕ} {t : Tokens} → Types l kind.ULong (word l key.Unsigned ∷ word k key.Long ∷ t) t
   unsigned_long_int : {l k j : ℕ} {t : Tokens}
-    → Types l kind.ULong (word l key.Unsigned ∷ word k key.Long ∷ word j key.Int ∷ t) t
+      → Types l kind.ULong (word l key.Unsigned ∷ word k key.Long ∷ word j key.Int ∷ t) t

@@ -1,5 +1,5 @@
 -- What token lists spell which translation units (C17 6.9).
-use Rattle.std.specs.Prelude.{ℕ, zero, suc, List, [], ◌∷◌, ◌++◌, Option, Some, None}
+use Rattle.std.specs.Prelude.{ℕ, List, [], ◌∷◌, ◌++◌, Option, Some, None}
 use Rattle.c_tree.specs.declared.token.Form.TheVariants as form
 use Rattle.c_tree.specs.declared.token.Mark.TheVariants as mark
 use Rattle.c_tree.specs.declared.token.Key.TheVariants as key
@@ -68,61 +68,61 @@ pub data Units (may : May) : Phrase → Tokens → Tokens → Type 0 where
   -- 6.7.6.2
   no_size : {k : ℕ} {t : Tokens} → Units may (size sizes.Open) (punct k mark.RightBracket ∷ t) t
   some_size : {k : ℕ} {e : Expr} {f t : Tokens} → Spells may (expr conditional e) 0 f (punct k mark.RightBracket ∷ t)
-    → Units may (size (sizes.Sized e)) f t
+      → Units may (size (sizes.Sized e)) f t
   -- 6.7.9
   last_value : {k : ℕ} {e : Expr} {f t : Tokens} → Spells may (expr conditional e) 0 f (punct k mark.RightBrace ∷ t)
-    → Units may (values (e ∷ [])) f t
+      → Units may (values (e ∷ [])) f t
   last_comma : {k k' : ℕ} {e : Expr} {f t : Tokens}
-    → Spells may (expr conditional e) 0 f (punct k mark.Comma ∷ punct k' mark.RightBrace ∷ t)
-    → Units may (values (e ∷ [])) f t
+      → Spells may (expr conditional e) 0 f (punct k mark.Comma ∷ punct k' mark.RightBrace ∷ t)
+      → Units may (values (e ∷ [])) f t
   next_value : {k : ℕ} {e : Expr} {es : List Expr} {f m t : Tokens}
-    → Spells may (expr conditional e) 0 f (punct k mark.Comma ∷ m) → Units may (values es) m t
-    → Units may (values (e ∷ es)) f t
+      → Spells may (expr conditional e) 0 f (punct k mark.Comma ∷ m) → Units may (values es) m t
+      → Units may (values (e ∷ es)) f t
   bare : {t : Tokens} → Units may (shape (sizes.Scalar, [])) t t
   valued : {k : ℕ} {e : Expr} {m t : Tokens} → Spells may (expr conditional e) 0 m t
-    → Units may (shape (sizes.Scalar, e ∷ [])) (punct k mark.Assign ∷ m) t
+      → Units may (shape (sizes.Scalar, e ∷ [])) (punct k mark.Assign ∷ m) t
   sized : {k : ℕ} {e : Expr} {m t : Tokens} → Units may (size (sizes.Sized e)) m t
-    → Units may (shape (sizes.Sized e, [])) (punct k mark.LeftBracket ∷ m) t
+      → Units may (shape (sizes.Sized e, [])) (punct k mark.LeftBracket ∷ m) t
   filled : {k k' k'' : ℕ} {a : ArraySize} {es : List Expr} {m m' t : Tokens}
-    → Units may (size a) m (punct k' mark.Assign ∷ punct k'' mark.LeftBrace ∷ m') → Units may (values es) m' t
-    → Units may (shape (a, es)) (punct k mark.LeftBracket ∷ m) t
+      → Units may (size a) m (punct k' mark.Assign ∷ punct k'' mark.LeftBrace ∷ m') → Units may (values es) m' t
+      → Units may (shape (a, es)) (punct k mark.LeftBracket ∷ m) t
   last_global : {l j : ℕ} {k : Kind} {w : List ℕ} {s : Shape} {m t : Tokens}
-    → Units may (shape s) m (punct j mark.Semicolon ∷ t)
-    → Units may (globals k (global l k w s ∷ [])) (named l w ∷ m) t
+      → Units may (shape s) m (punct j mark.Semicolon ∷ t)
+      → Units may (globals k (global l k w s ∷ [])) (named l w ∷ m) t
   next_global : {l j : ℕ} {k : Kind} {w : List ℕ} {s : Shape} {gs : List Top} {m m' t : Tokens}
-    → Units may (shape s) m (punct j mark.Comma ∷ m') → Units may (globals k gs) m' t
-    → Units may (globals k (global l k w s ∷ gs)) (named l w ∷ m) t
+      → Units may (shape s) m (punct j mark.Comma ∷ m') → Units may (globals k gs) m' t
+      → Units may (globals k (global l k w s ∷ gs)) (named l w ∷ m) t
   -- 6.7.6.3
   unlabelled : {l : ℕ} {t : Tokens} → Units may (label l (l, None)) t t
   labelled : {l k : ℕ} {w : List ℕ} {t : Tokens} → Units may (label l (k, Some w)) (named k w ∷ t) t
   no_brackets : {t : Tokens} → Units may (brackets sizes.Scalar) t t
   some_brackets : {k : ℕ} {a : ArraySize} {m t : Tokens} → Units may (size a) m t
-    → Units may (brackets a) (punct k mark.LeftBracket ∷ m) t
+      → Units may (brackets a) (punct k mark.LeftBracket ∷ m) t
   param_is : {l : ℕ} {k : Kind} {n : Label} {a : ArraySize} {f m m' t : Tokens} → Types l k f m
-    → Units may (label l n) m m' → Units may (brackets a) m' t → Units may (param (parameter n k a)) f t
+      → Units may (label l n) m m' → Units may (brackets a) m' t → Units may (param (parameter n k a)) f t
   no_params : {k : ℕ} {t : Tokens} → Units may (params []) (punct k mark.RightParen ∷ t) t
   void_params : {k k' : ℕ} {t : Tokens} → Units may (params []) (word k key.Void ∷ punct k' mark.RightParen ∷ t) t
   some_params : {ps : List Param} {f t : Tokens} → Units may (param_list ps) f t → Units may (params ps) f t
   last_param : {k : ℕ} {p : Param} {f t : Tokens} → Units may (param p) f (punct k mark.RightParen ∷ t)
-    → Units may (param_list (p ∷ [])) f t
+      → Units may (param_list (p ∷ [])) f t
   next_param : {k : ℕ} {p : Param} {ps : List Param} {f m t : Tokens} → Units may (param p) f (punct k mark.Comma ∷ m)
-    → Units may (param_list ps) m t → Units may (param_list (p ∷ ps)) f t
+      → Units may (param_list ps) m t → Units may (param_list (p ∷ ps)) f t
   -- 6.9.1
   void : {l : ℕ} {t : Tokens} → Units may (result None) (word l key.Void ∷ t) t
   typed : {l : ℕ} {k : Kind} {f t : Tokens} → Types l k f t → Units may (result (Some k)) f t
   prototype : {l k k' : ℕ} {r : Option Kind} {w : List ℕ} {ps : List Param} {m t : Tokens}
-    → Units may (params ps) m (punct k' mark.Semicolon ∷ t)
-    → Units may (func r (function l r w ps None)) (named l w ∷ punct k mark.LeftParen ∷ m) t
+      → Units may (params ps) m (punct k' mark.Semicolon ∷ t)
+      → Units may (func r (function l r w ps None)) (named l w ∷ punct k mark.LeftParen ∷ m) t
   -- a function's body has depth 1
   definition : {l k k' : ℕ} {r : Option Kind} {w : List ℕ} {ps : List Param} {ss : List Stmt} {m m' t : Tokens}
-    → Units may (params ps) m (punct k' mark.LeftBrace ∷ m') → Writes may (entries ss) 1 m' t
-    → Units may (func r (function l r w ps (Some (s.at k' (node.Compound ss))))) (named l w ∷ punct k mark.LeftParen ∷ m) t
+      → Units may (params ps) m (punct k' mark.LeftBrace ∷ m') → Writes may (entries ss) 1 m' t
+      → Units may (func r (function l r w ps (Some (s.at k' (node.Compound ss))))) (named l w ∷ punct k mark.LeftParen ∷ m) t
   -- 6.9, 6.10.2
   include : {l : ℕ} {t : Tokens} → Units may (item (at l tops.Include ∷ [])) (token l form.Include ∷ t) t
   a_function : {r : Option Kind} {x : Top} {f m t : Tokens} → Units may (result r) f m → Units may (func r x) m t
-    → Units may (item (x ∷ [])) f t
+      → Units may (item (x ∷ [])) f t
   some_globals : {l : ℕ} {k : Kind} {gs : List Top} {f m t : Tokens} → Types l k f m → Units may (globals k gs) m t
-    → Units may (item gs) f t
+      → Units may (item gs) f t
   last_item : {xs : List Top} {f t : Tokens} → Units may (item xs) f t → Units may (unit xs) f t
   next_item : {xs ys : List Top} {f m t : Tokens} → Units may (item xs) f m → Units may (unit ys) m t
-    → Units may (unit (xs ++ ys)) f t
+      → Units may (unit (xs ++ ys)) f t

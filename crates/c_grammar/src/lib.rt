@@ -6,10 +6,14 @@
 //! fault stands. The two functions here carry the laws; they do nothing when they run.
 #![tactic(auto)]
 
-ghost use Rattle.c_grammar.specs.Answers.{OneTree};
+ghost use Rattle.c_grammar.specs.Answers.{OneAnswer, OneTree};
 
 /// A list of tokens has at most one tree, whatever depth is allowed.
 pub fn one_tree()
     ensures law { OneTree }
-{
-}
+{}
+
+/// Every list of tokens has exactly one answer: its tree, or one of the two faults with one line.
+pub fn one_answer()
+    ensures law { OneAnswer }
+{}

@@ -1,4 +1,4 @@
-use Rattle.c_grammar.proofs.Parsed.{one_tree, unit_exact}
+use Rattle.c_grammar.proofs.Parsed.{one_tree}
 use Rattle.c_grammar.proofs.one_tree.Goals as goal
 
 pub returns : goal.returns
