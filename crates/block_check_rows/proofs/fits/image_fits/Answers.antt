@@ -21,18 +21,18 @@ sum_more bs i d lt =
 pub loop-block-preserved : goal.loop-block-preserved
 loop-block-preserved c =
     let item : c.block-item.result ≡ get_or c.as_slice-blocks.result.now c.loop-block.block-index
-        c.block-item.result =
+    c.block-item.result =
     c.block-item.is in
     let fits : FitsBlock c.block-item.result = c.block_fits.ensures c.if-not-block_fits.false in
     let more = sum_more c.as_slice-blocks.result.now c.loop-block.block-index c.block-item.result
-        c.loop-block-test.true in
+    c.loop-block-test.true in
     record {
       each = All-more FitsBlock c.as_slice-blocks.result.now c.loop-block.block-index
           c.block-item.result
           c.loop-block-test.true c.loop-block.invariant.each (subst FitsBlock item fits);
       total_is = ap (λ n. c.loop-block.total + n) (c.chunks-total.ensures.value ∙ ap chunks item)
           ∙ ap (λ n. n + chunks (get_or c.as_slice-blocks.result.now c.loop-block.block-index
-              c.block-item.result)) c.loop-block.invariant.total_is
+          c.block-item.result)) c.loop-block.invariant.total_is
           ∙ sym more;
       low = omega arith;
     }
