@@ -33,12 +33,13 @@ fn function(alloc: Global, f: &Sketched) -> Result<TypedFunc, AllocError> {
     })
 }
 
-/// A program of these functions, of which the last is main, and of a global array of longs where it has
+/// A program of these functions, of which main has this number, and of a global array of longs where it has
 /// a length.
 fn program(
     alloc: Global,
     globals: &[u32],
     functions: &[Sketched],
+    main: u32,
 ) -> Result<TypedProgram, AllocError> {
     let mut made = Vec::new(alloc);
     for f in functions {
@@ -55,7 +56,7 @@ fn program(
     Ok(TypedProgram {
         globals: Items::from_vec(arrays),
         functions: Items::from_vec(made),
-        main: functions.len().saturating_sub(1) as u32,
+        main,
     })
 }
 
@@ -66,7 +67,7 @@ fn main_alone(alloc: Global, scalars: usize, items: &[Item]) -> Result<TypedProg
         arrays: &[],
         items,
     };
-    program(alloc, &[], &[main])
+    program(alloc, &[], &[main], 0)
 }
 
 /// The result, or what stands for another outcome, the steps and the output.
@@ -327,7 +328,7 @@ fn elements_are_within_their_array(rt: HostRuntime) {
             arrays: &[],
             items: DOUBLING,
         };
-        let p = program(alloc, &[length], &[main]).expect(&rt, "memory");
+        let p = program(alloc, &[length], &[main], 0).expect(&rt, "memory");
         let got = told(alloc, &p, &[], 1000).expect(&rt, "memory");
         assert_eq!(rt; got.0, result, "an array of {length}");
     }
@@ -385,7 +386,7 @@ fn frames_have_a_limit(rt: HostRuntime) {
                 items: CALLS_IT,
             },
         ];
-        let p = program(alloc, &[], &functions).expect(&rt, "memory");
+        let p = program(alloc, &[], &functions, 1).expect(&rt, "memory");
         let got = told(alloc, &p, &[], n).expect(&rt, "memory");
         assert_eq!(rt;
             (got.0, got.1),
