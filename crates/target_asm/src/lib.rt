@@ -17,3 +17,6 @@ mod scan;
 pub use assembling::assemble;
 pub use fault::AsmFault;
 pub use printing::print;
+
+#[cfg(test)]
+mod tests;
