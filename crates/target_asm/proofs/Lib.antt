@@ -1,3 +1,5 @@
+pub mod StandardFacts
 pub mod Numbered
 pub mod Starts
 pub mod Blocks
+pub mod Ends
