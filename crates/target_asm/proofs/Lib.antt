@@ -1,5 +1,3 @@
-pub mod StandardFacts
 pub mod Numbered
 pub mod Starts
 pub mod Blocks
-pub mod Ends
