@@ -3,7 +3,8 @@ ghost use Rattle.std.specs.Prelude.{slice_index, slice_index_or, vec_len, None, 
 ghost use Rattle.trips_isa.specs.Fits.{FitsBlock};
 ghost use Rattle.trips_isa.specs.Stores.{data_size, store_all};
 ghost use Rattle.trips_isa.specs.Outcomes.{Outcome, all_stores, writes_from};
-ghost use Rattle.trips_isa.specs.Machine.{memory_of, start, step_of, system_call, then_system, write_all};
+ghost use Rattle.trips_isa.specs.Machine.{memory_of, start, step_of, system_call, then_system};
+ghost use Rattle.trips_isa.specs.Machine.{write_all};
 ghost use Rattle.block_check.specs.IsChecked.{IsChecked};
 ghost use Rattle.block_check.specs.Images.{IsCheckedImage};
 ghost use Rattle.block_atomic.specs.Bounds.{StoreFits};
@@ -54,7 +55,8 @@ impl Model for ArchState {
       budget = a.budget;
     } };
 
-    ghost invariant = { λ a. (vec_len a.memory ≡ data_size) × (a.taken ≤ vec_len a.input) × (vec_len a.output ≤ vec_len a.trace) × (vec_len a.trace ≤ a.budget)
+    ghost invariant = { λ a. (vec_len a.memory ≡ data_size) × (a.taken ≤ vec_len a.input)
+        × (vec_len a.output ≤ vec_len a.trace) × (vec_len a.trace ≤ a.budget)
         × (a.budget ≤ vec_capacity a.output) × (a.budget ≤ vec_capacity a.trace) };
 }
 
@@ -149,8 +151,10 @@ impl ArchState {
         requires room { length self.old.state.trace < self.old.budget }
         ensures registers { self.new.state.registers ≡ write_all self.old.state.registers writes.now
             (writes_from (λ q. slice_index_or places.now q None) 0 writes.now) }
-        ensures memory { self.new.state.memory ≡ store_all self.old.state.memory (all_stores (λ n. slice_index_or stores.now n None)) }
-        ensures trace { self.new.state.trace ≡ self.old.state.trace ++ (record { block = self.old.state.next; exit = exit }) ∷ [] }
+        ensures memory { self.new.state.memory ≡ store_all self.old.state.memory
+            (all_stores (λ n. slice_index_or stores.now n None)) }
+        ensures trace { self.new.state.trace ≡ self.old.state.trace
+            ++ (record { block = self.old.state.next; exit = exit }) ∷ [] }
         ensures next { self.new.state.next ≡ successor }
         ensures rest { self.new.state.rest ≡ self.old.state.rest }
         ensures output { self.new.state.output ≡ self.old.state.output }

@@ -62,7 +62,8 @@ pub fn make_stores(memory: &mut [u8], stores: &[Option<Stored>])
     requires memory { length memory.old ≡ data_size }
     requires stores { length stores.now ≡ 32 }
     requires fits { (n : ℕ) → n < 32 → StoreFits (slice_index_or stores.now n None) }
-    ensures value { memory.new ≡ store_all memory.old (all_stores (λ n. slice_index_or stores.now n None)) }
+    ensures value { memory.new ≡ store_all memory.old (all_stores
+        (λ n. slice_index_or stores.now n None)) }
 {
     for number in 0..32 {
         store(memory, stores[number]);

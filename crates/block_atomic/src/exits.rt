@@ -36,7 +36,8 @@ pub fn leaving(
     requires used { IsUsedTo insts.now used }
     requires bound { used ≤ 128 }
     requires table { length table.now ≡ 128 }
-    ensures value { result ≡ slots_give (left_by (λ j. slice_index_or table.now j None)) 0 insts.now }
+    ensures value { result ≡ slots_give (left_by (λ j. slice_index_or table.now j None)) 0
+        insts.now }
 {
     let mut found = None;
     let mut slot = used;

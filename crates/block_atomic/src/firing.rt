@@ -38,7 +38,8 @@ fn word_of(stores: &[Option<Stored>], memory: &[u8], inst: Inst, left: u64, righ
     requires memory { length memory.now ≡ data_size }
     requires number { inst.number ≤ 32 }
     ensures { result ≡ form_computes (form_of inst.op) inst (λ address.
-        bytes_seen (λ n. slice_index_or stores.now n None) memory.now inst.number address (size_of inst.op)) left right }
+        bytes_seen (λ n. slice_index_or stores.now n None) memory.now inst.number address
+        (size_of inst.op)) left right }
 {
     match form_of(inst.op) {
         Form::General => alu(inst.op, left, right),
@@ -61,7 +62,8 @@ fn give(
     requires memory { length memory.now ≡ data_size }
     requires number { inst.number ≤ 32 }
     ensures { result ≡ gives (role_of inst.op) (form_computes (form_of inst.op) inst (λ address.
-        bytes_seen (λ n. slice_index_or stores.now n None) memory.now inst.number address (size_of inst.op))) left right }
+        bytes_seen (λ n. slice_index_or stores.now n None) memory.now inst.number address
+        (size_of inst.op))) left right }
 {
     match role_of(inst.op) {
         Role::Empty => None,

@@ -84,7 +84,8 @@ pub fn load(stores: &[Option<Stored>], memory: &[u8], inst: Inst, left: u64) -> 
     requires memory { length memory.now ≡ data_size }
     requires number { inst.number ≤ 32 }
     ensures value { result ≡ load_of inst (λ address.
-        bytes_seen (λ n. slice_index_or stores.now n None) memory.now inst.number address (size_of inst.op)) left }
+        bytes_seen (λ n. slice_index_or stores.now n None) memory.now inst.number address
+        (size_of inst.op)) left }
 {
     let size = size_of(inst.op);
     let address = left.wrapping_add(immediate(inst.imm));

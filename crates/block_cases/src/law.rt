@@ -17,7 +17,8 @@ ghost use Rattle.block_cases.specs.Shapes.{shape};
 pub fn tables_are_unique()
     ensures only { (ns : List Node) → IsRanked ns → (a : Computes) (g : ℕ → Answer) → IsTable ns a g
         → (x : ℕ) → g x ≡ pulled ns a deepest x }
-    ensures some { (ns : List Node) → IsRanked ns → (a : Computes) → IsTable ns a (pulled ns a deepest) }
+    ensures some { (ns : List Node) → IsRanked ns → (a : Computes)
+        → IsTable ns a (pulled ns a deepest) }
 {}
 
 /// In an entry state a block without a cycle has one table that agrees with itself, and depth 160
@@ -26,7 +27,8 @@ pub fn entry_tables_are_unique()
     ensures only { (b : Block) → IsRanked (nodes_of b) → (regs mem : List ℕ) (g : ℕ → Answer)
         → Solves b (answers_in b regs mem g) g → (x : ℕ) → g x ≡ token_of b regs mem deepest x }
     ensures some { (b : Block) → IsRanked (nodes_of b) → (regs mem : List ℕ)
-        → Solves b (answers_in b regs mem (token_of b regs mem deepest)) (token_of b regs mem deepest) }
+        → Solves b (answers_in b regs mem (token_of b regs mem deepest))
+        (token_of b regs mem deepest) }
 {}
 
 /// Whatever nodes compute: no place gets two tokens, each write and number gets one, and one exit
@@ -48,7 +50,8 @@ pub fn any_bits_agree_with_a_case()
 pub fn good_blocks_keep_one_token()
     ensures tokens { (b : Block) → FitsBlock b → GoodBlock b → (answers : Answers) (g : ℕ → Answer)
         → Solves b answers g → OneToken (nodes_of b) (wanted_of b) (λ x. shape (g x)) }
-    ensures producers { (b : Block) → FitsBlock b → GoodBlock b → (answers : Answers) (g : ℕ → Answer)
+    ensures producers { (b : Block) → FitsBlock b → GoodBlock b
+        → (answers : Answers) (g : ℕ → Answer)
         → Solves b answers g → (q x y : ℕ) → q < 449 → NamesPlace (nodes_of b) x q
         → NamesPlace (nodes_of b) y q → g x ≢ None → g y ≢ None → x ≡ y }
     ensures once { (b : Block) → FitsBlock b → GoodBlock b → (answers : Answers) (g : ℕ → Answer)

@@ -89,7 +89,8 @@ fn lead_on(nodes: &[Node], used: usize, left: &[bool], lead: &mut [bool]) -> boo
     requires lead { length lead.old ≡ length nodes.now }
     requires rest { FalseFrom used lead.old }
     ensures same { result ≡ false → (x : ℕ) → bit lead.new x ≡ bit lead.old x }
-    ensures gives { (x : ℕ) → x < used → bit lead.new x ≡ leads_at (slice_get nodes.now x) (bit left.now) }
+    ensures gives { (x : ℕ) → x < used → bit lead.new x ≡ leads_at (slice_get nodes.now x)
+        (bit left.now) }
     ensures rest { FalseFrom used lead.new }
 {
     let mut changed = false;
@@ -110,7 +111,8 @@ fn round(nodes: &[Node], used: usize, left: &mut [bool], lead: &mut [bool]) -> b
     requires rest { FalseFrom used lead.old }
     requires left { length left.old ≡ 512 }
     ensures same { result ≡ false → (x : ℕ) → bit lead.new x ≡ bit lead.old x }
-    ensures gives { (x : ℕ) → bit lead.new x ≡ leads_from nodes.now (slice_get nodes.now x) (bit lead.old) }
+    ensures gives { (x : ℕ) → bit lead.new x ≡ leads_from nodes.now (slice_get nodes.now x)
+        (bit lead.old) }
     ensures rest { FalseFrom used lead.new }
 {
     mark_copies(nodes, used, lead, left);

@@ -18,7 +18,8 @@ fn any_waits(counts: &[u16], end: u16) -> bool
     requires counts { length counts.now ≡ 768 }
     requires end { end < 768 }
     ensures free { result ≡ false → (q : ℕ) → 416 ≤ q → q < end → slice_index counts.now q ≡ 0 }
-    ensures stuck { result ≡ true → (q : ℕ) × (416 ≤ q) × (q < end) × (0 < slice_index counts.now q) }
+    ensures stuck { result ≡ true → (q : ℕ) × (416 ≤ q) × (q < end)
+        × (0 < slice_index counts.now q) }
 {
     for q in 416..end {
         if counts[q as usize] > 0 {

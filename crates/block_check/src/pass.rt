@@ -168,7 +168,8 @@ fn round(
     requires rest { AbsentFrom used toks.old }
     requires spots { length spots.old ≡ 768 }
     ensures same { result ≡ false → (x : ℕ) → tok_at toks.new x ≡ tok_at toks.old x }
-    ensures gives { (x : ℕ) → tok_at toks.new x ≡ once nodes.now (bit bits.now) (tok_at toks.old) x }
+    ensures gives { (x : ℕ) → tok_at toks.new x ≡ once nodes.now (bit bits.now) (tok_at toks.old)
+        x }
     ensures rest { AbsentFrom used toks.new }
 {
     spread(nodes, used, toks, spots);

@@ -111,7 +111,8 @@ pub(crate) fn find_bad_read(block: &Block) -> Option<u8>
 
 /// The first slot with a bad target.
 pub(crate) fn find_bad_inst(block: &Block) -> Option<u8>
-    ensures { MatchOption result (NoneBelow (bad_inst block.now) 128) (IsLeast (bad_inst block.now) 128) }
+    ensures { MatchOption result (NoneBelow (bad_inst block.now) 128)
+        (IsLeast (bad_inst block.now) 128) }
 {
     for j in 0..128u8 {
         if is_bad_inst(block, j) {

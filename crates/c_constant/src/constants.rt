@@ -118,7 +118,8 @@ fn choice_value(kind: Kind, test: Option<u64>, yes: Option<u64>, no: Option<u64>
 }
 
 fn one(op: UnaryOp, e: Constant) -> Constant
-    ensures { result ≡ values.given (operations.unary_result op (operations.unary_at op e.kind)) (values.one_value op e.kind e.value) }
+    ensures { result ≡ values.given (operations.unary_result op (operations.unary_at op e.kind))
+        (values.one_value op e.kind e.value) }
 {
     Constant {
         kind: unary_result(op, unary_at(op, e.kind)),
@@ -127,7 +128,9 @@ fn one(op: UnaryOp, e: Constant) -> Constant
 }
 
 fn two(op: BinaryOp, left: Constant, right: Constant) -> Constant
-    ensures { result ≡ values.given (operations.result_of op (operations.left_at op left.kind right.kind)) (values.binary_value op left.kind right.kind left.value right.value) }
+    ensures { result ≡ values.given (operations.result_of op
+        (operations.left_at op left.kind right.kind)) (values.binary_value op left.kind right.kind
+        left.value right.value) }
 {
     Constant {
         kind: result_of(op, left_at(op, left.kind, right.kind)),
@@ -136,7 +139,8 @@ fn two(op: BinaryOp, left: Constant, right: Constant) -> Constant
 }
 
 fn three(test: Constant, yes: Constant, no: Constant) -> Constant
-    ensures { result ≡ values.given (kinds.common yes.kind no.kind) (values.choice_value (kinds.common yes.kind no.kind) test.value yes.value no.value) }
+    ensures { result ≡ values.given (kinds.common yes.kind no.kind)
+        (values.choice_value (kinds.common yes.kind no.kind) test.value yes.value no.value) }
 {
     let kind = common(yes.kind, no.kind);
     Constant {

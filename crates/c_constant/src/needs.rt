@@ -1,6 +1,7 @@
 //! How many temporaries an expression needs.
 
-ghost use Rattle.std.specs.Prelude.{◌≡◌, ◌+◌, ◌≤◌, max, map, min, Option, Some, None, IsTrue, ℕ, ◌↔◌};
+ghost use Rattle.std.specs.Prelude.{◌≡◌, ◌+◌, ◌≤◌, max, map, min, Option, Some, None, IsTrue, ℕ};
+ghost use Rattle.std.specs.Prelude.{◌↔◌};
 ghost use Rattle.c_constant.specs.Need.{counted, capped, assign_need, call_need};
 ghost use Rattle.c_constant.specs.Need as needs;
 

@@ -1,9 +1,11 @@
 //! Operations at the signed kinds.
 
-ghost use Rattle.std.specs.Prelude.{◌≡◌, ◌<◌, ◌+◌, ◌*◌, ◌^◌, ◌+ℤ◌, ◌-ℤ◌, ◌*ℤ◌, int_lt, int_div, int_rem, pos, negsuc, IsTrue};
+ghost use Rattle.std.specs.Prelude.{◌≡◌, ◌<◌, ◌+◌, ◌*◌, ◌^◌, ◌+ℤ◌, ◌-ℤ◌, ◌*ℤ◌, int_lt, int_div};
+ghost use Rattle.std.specs.Prelude.{int_rem, pos, negsuc, IsTrue};
 ghost use Rattle.c_constant.specs.Kinds.{in_kind, is_signed, word_of, width};
 ghost use Rattle.c_constant.specs.Kinds as kinds;
-ghost use Rattle.c_constant.specs.Operation.{c_operation, c_unary, quotient, remainder, answer, shifted_left, shifted_right};
+ghost use Rattle.c_constant.specs.Operation.{c_operation, c_unary, quotient, remainder, answer};
+ghost use Rattle.c_constant.specs.Operation.{shifted_left, shifted_right};
 
 use c_tree::{BinaryOp, Kind, UnaryOp};
 

@@ -2,7 +2,8 @@
 
 ghost use Rattle.std.specs.Prelude.{◌≡◌, ◌<◌, ◌*◌, ◌^◌, ◌+ℤ◌, ◌-ℤ◌, ◌*ℤ◌, pos, IsTrue, not, ℤ};
 ghost use Rattle.c_constant.specs.Kinds.{in_kind, is_signed, word_of, width, reduced};
-ghost use Rattle.c_constant.specs.Operation.{c_operation, c_unary, quotient, remainder, shifted_left, shifted_right};
+ghost use Rattle.c_constant.specs.Operation.{c_operation, c_unary, quotient, remainder};
+ghost use Rattle.c_constant.specs.Operation.{shifted_left, shifted_right};
 
 use crate::signed::{truth, width_of};
 use c_tree::{BinaryOp, Kind, UnaryOp};

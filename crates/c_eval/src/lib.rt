@@ -1,5 +1,5 @@
-//! The meaning of a typed program (docs/LANGUAGE.md) as a definition: its evaluation on an input with
-//! a stock of steps, `eval`, and the laws of it.
+//! The meaning of a typed program (docs/LANGUAGE.md) as a definition: its evaluation on an input
+//! with a stock of steps, `eval`, and the laws of it.
 //!
 //! The definitions stand in specs/, from `State`, which is what an evaluation goes over, to `Eval`,
 //! the evaluation of a program. Nothing here runs: the types below are what the definitions and a

@@ -1,6 +1,7 @@
 //! The bindings in the order of their declarations, and the table that finds the newest of a name.
 
-ghost use Rattle.std.specs.Prelude.{◌≡◌, [], ◌∷◌, ◌++◌, OnOk, OnErr, IsSome, cond, take, reverse, length, ◌-◌, ℕ, List, Option};
+ghost use Rattle.std.specs.Prelude.{◌≡◌, [], ◌∷◌, ◌++◌, OnOk, OnErr, IsSome, cond, take, reverse};
+ghost use Rattle.std.specs.Prelude.{length, ◌-◌, ℕ, List, Option};
 ghost use Rattle.std.specs.HashMap.{get};
 ghost use Rattle.c_scope.specs.Scope.{same_name};
 ghost use Rattle.c_scope.specs.Frames.{Kept, first_start};
@@ -28,7 +29,8 @@ pub fn add(
 ) -> Result<(), AllocError>
     requires { Kept (reverse entries.old.items) newest.old }
     ensures kept { Kept (reverse entries.new.items) newest.new }
-    ensures ok { OnOk result ((h : Option ℕ) × (entries.new.items ≡ entries.old.items ++ (record { binding = binding; hidden = h }) ∷ [])) }
+    ensures ok { OnOk result ((h : Option ℕ) × (entries.new.items ≡ entries.old.items
+        ++ (record { binding = binding; hidden = h }) ∷ [])) }
     ensures err { OnErr result (entries.new.items ≡ entries.old.items) }
 {
     let hidden = newest.get(&binding.name).copied();
@@ -47,7 +49,8 @@ pub fn add(
 /// Brings back what an entry hid.
 fn forget(newest: &mut HashMap<Word, usize>, entry: Entry)
     requires { IsSome (get same_name newest.old entry.binding.name) }
-    ensures { (q : List ℕ) → get same_name newest.new q ≡ cond (same_name entry.binding.name q) entry.hidden (get same_name newest.old q) }
+    ensures { (q : List ℕ) → get same_name newest.new q ≡ cond (same_name entry.binding.name q)
+        entry.hidden (get same_name newest.old q) }
 {
     match entry.hidden {
         None => {

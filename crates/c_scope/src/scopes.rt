@@ -29,7 +29,8 @@ impl Model for Scopes {
 
     ghost view = { λ s. frames (reverse s.starts.items) (reverse s.entries.items) };
 
-    ghost invariant = { λ s. Kept (reverse s.entries.items) s.newest × StartsFit (reverse s.starts.items) (length s.entries.items) };
+    ghost invariant = { λ s. Kept (reverse s.entries.items) s.newest
+        × StartsFit (reverse s.starts.items) (length s.entries.items) };
 }
 
 impl Scopes {

@@ -1,5 +1,5 @@
-//! The moves of a machine that evaluates a typed program, as definitions: what follows a part of the
-//! program is a list of frames, one for each continuation of `eval` (crate `c_eval`).
+//! The moves of a machine that evaluates a typed program, as definitions: what follows a part of
+//! the program is a list of frames, one for each continuation of `eval` (crate `c_eval`).
 #![tactic(auto)]
 
 ghost use Rattle.c_steps.specs.Keeps.{MovesKeepWhatIsAhead, MovesLeaveLess};

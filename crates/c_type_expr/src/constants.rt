@@ -53,7 +53,8 @@ fn none_fixed(scope: &Scopes, args: &[Expr]) -> Option<TypeFault>
 
 #[cycle(fixed)]
 fn call_fixed(scope: &Scopes, args: &Items<Expr>, line: u32) -> Option<TypeFault>
-    ensures { result ≡ roles.first (constants.all_fixed (map constants.not_fixed args.now) scope.now) (Some (TypeFault.Mismatch line)) }
+    ensures { result ≡ roles.first (constants.all_fixed (map constants.not_fixed args.now)
+        scope.now) (Some (TypeFault.Mismatch line)) }
 {
     first(none_fixed(scope, args.as_slice()), mismatch(line))
 }
@@ -137,7 +138,8 @@ fn need_of(e: &Expr) -> Result<(), TypeFault>
 
 /// The word, at a kind, of a full expression that is a constant.
 pub fn full_constant(scope: &Scopes, kind: Kind, e: &Expr) -> Result<u64, TypeFault>
-    ensures { Says (constants.full_constant e.now scope.now) (constants.constant_at kind e.now) result }
+    ensures { Says (constants.full_constant e.now scope.now) (constants.constant_at kind e.now)
+        result }
 {
     refuse(not_fixed(scope, e))?;
     let word = value_in(constant_of(e).value, e.line)?;
@@ -166,7 +168,8 @@ fn length_in(kind: Kind, value: Option<u64>) -> Option<u64>
 
 /// The length that a size stands for: a constant of at least 1.
 pub fn size_length(scope: &Scopes, e: &Expr) -> Result<u64, TypeFault>
-    ensures { Says (constants.size_fault e.now scope.now) (constants.word_in (constants.length_of e.now)) result }
+    ensures { Says (constants.size_fault e.now scope.now)
+        (constants.word_in (constants.length_of e.now)) result }
 {
     refuse(not_fixed(scope, e))?;
     let found = constant_of(e);

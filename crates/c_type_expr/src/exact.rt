@@ -11,5 +11,6 @@ ghost use Rattle.c_type_expr.specs.Typed.{Typed};
 
 /// The rules give an expression a typed tree exactly where no node of it fails, and then one alone.
 pub fn typing_is_exact()
-    ensures { (G : Scope) (r : Role) (e : Expr) (t : TypedExpr) → Typed G r e t ↔ ((fault e G r ≡ None) × (t ≡ tree e G)) }
+    ensures { (G : Scope) (r : Role) (e : Expr) (t : TypedExpr) → Typed G r e t
+        ↔ ((fault e G r ≡ None) × (t ≡ tree e G)) }
 {}

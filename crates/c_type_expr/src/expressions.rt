@@ -128,7 +128,8 @@ fn argument(
     slots: &[Slot],
     arg: Expr,
 ) -> Result<Boxed<TypedExpr>, TypeFault>
-    ensures { Says (fault arg scope.now (role_at slots.now)) (trees.argument slots.now (tree arg scope.now)) result }
+    ensures { Says (fault arg scope.now (role_at slots.now))
+        (trees.argument slots.now (tree arg scope.now)) result }
 {
     let arg = type_expr(alloc, scope, role_for(slots), arg)?;
     let arg = Boxed::new(alloc, arg)?;
@@ -142,7 +143,8 @@ fn arguments(
     slots: &[Slot],
     args: Items<Expr>,
 ) -> Result<Items<TypedExpr>, TypeFault>
-    ensures { Says (faults.args_fault slots.now args scope.now) (trees.args_tree slots.now args scope.now) result }
+    ensures { Says (faults.args_fault slots.now args scope.now)
+        (trees.args_tree slots.now args scope.now) result }
 {
     let mut slots = slots;
     let mut rest = Queue::from_items(args);

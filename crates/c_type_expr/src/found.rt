@@ -2,9 +2,11 @@
 
 ghost use Rattle.std.specs.Prelude.{◌≡◌};
 ghost use Rattle.std.specs.Option.{option_copied};
-ghost use Rattle.c_type_expr.specs.Faults.{value_fault, name_fault, element_fault, call_fault, callee_fault, slots_of, takes_result};
+ghost use Rattle.c_type_expr.specs.Faults.{value_fault, name_fault, element_fault, call_fault};
+ghost use Rattle.c_type_expr.specs.Faults.{callee_fault, slots_of, takes_result};
 ghost use Rattle.c_type_expr.specs.Roles.{unless};
-ghost use Rattle.c_type_expr.specs.Trees.{name_tree, array_kind, array_place, result_kind, callee_of, callee_or};
+ghost use Rattle.c_type_expr.specs.Trees.{name_tree, array_kind, array_place, result_kind};
+ghost use Rattle.c_type_expr.specs.Trees.{callee_of, callee_or};
 ghost use Rattle.c_type_expr.specs.Says.{Says};
 
 use crate::fault::TypeFault;
@@ -53,7 +55,8 @@ fn end_of_file() -> TypedExpr
 }
 
 pub fn name_at(found: Option<&Meaning>, role: Role, line: u32) -> Result<TypedExpr, TypeFault>
-    ensures { Says (name_fault (option_copied found.entry) role line) (name_tree (option_copied found.entry)) result }
+    ensures { Says (name_fault (option_copied found.entry) role line)
+        (name_tree (option_copied found.entry)) result }
 {
     match found {
         None => Err(TypeFault::Unknown(line)),
@@ -87,7 +90,8 @@ pub fn element_at(
     role: Role,
     line: u32,
 ) -> Result<(Kind, Place), TypeFault>
-    ensures { Says (element_fault (option_copied found.entry) role line) (array_kind (option_copied found.entry), array_place (option_copied found.entry)) result }
+    ensures { Says (element_fault (option_copied found.entry) role line)
+        (array_kind (option_copied found.entry), array_place (option_copied found.entry)) result }
 {
     match found {
         None => Err(TypeFault::Unknown(line)),
@@ -128,7 +132,8 @@ fn called(
     role: Role,
     line: u32,
 ) -> Result<Callee, TypeFault>
-    ensures { Says (callee_fault callee given params.now count role line) (callee_or callee) result }
+    ensures { Says (callee_fault callee given params.now count role line) (callee_or callee)
+        result }
 {
     let Some(callee) = callee else {
         return Err(TypeFault::Unknown(line));
@@ -148,7 +153,8 @@ pub fn call_at(
     role: Role,
     line: u32,
 ) -> Result<(Option<Kind>, Callee), TypeFault>
-    ensures { Says (call_fault (option_copied found.entry) count role line) (result_kind (option_copied found.entry), callee_of (option_copied found.entry)) result }
+    ensures { Says (call_fault (option_copied found.entry) count role line)
+        (result_kind (option_copied found.entry), callee_of (option_copied found.entry)) result }
 {
     match found {
         None => Err(TypeFault::Unknown(line)),

@@ -173,7 +173,8 @@ fn found(opcode: u32, extended: u32) -> Option<Op>
 /// The operation with this opcode and this extended opcode, if there is one.
 pub fn with_numbers(opcode: u32, extended: u32) -> Option<Op>
     ensures value { result ≡ op_with_numbers opcode extended }
-    ensures exact { (op : Op) → (result ≡ Some op) ↔ ((code_of op).opcode ≡ opcode) × ((code_of op).extended ≡ extended) }
+    ensures exact { (op : Op) → (result ≡ Some op) ↔ ((code_of op).opcode ≡ opcode)
+        × ((code_of op).extended ≡ extended) }
 {
     found(opcode, extended)
 }

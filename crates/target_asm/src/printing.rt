@@ -127,7 +127,8 @@ fn put_data_byte(out: &mut Vec<u8>, count: usize, at: usize, byte: u8) -> Result
 }
 
 fn put_data(out: &mut Vec<u8>, bytes: &[u8]) -> Result<(), AllocError>
-    ensures ok { OnOk result (out.new.items ≡ out.old.items ++ numbered (byte_text (length bytes.now)) 0 bytes.now) }
+    ensures ok { OnOk result (out.new.items ≡ out.old.items
+        ++ numbered (byte_text (length bytes.now)) 0 bytes.now) }
 {
     let count = bytes.len();
     for (at, byte) in bytes.iter().enumerate() {
@@ -143,7 +144,8 @@ fn put_slot(
     slot: usize,
     inst: Option<Inst>,
 ) -> Result<(), AllocError>
-    ensures ok { OnOk result (out.new.items ≡ out.old.items ++ slot_text (goal_in starts.now) here slot inst) }
+    ensures ok { OnOk result (out.new.items ≡ out.old.items
+        ++ slot_text (goal_in starts.now) here slot inst) }
 {
     match inst {
         None => Ok(()),
@@ -157,7 +159,8 @@ fn put_slots(
     here: u32,
     slots: &[Option<Inst>],
 ) -> Result<(), AllocError>
-    ensures ok { OnOk result (out.new.items ≡ out.old.items ++ numbered (slot_text (goal_in starts.now) here) 0 slots.now) }
+    ensures ok { OnOk result (out.new.items ≡ out.old.items
+        ++ numbered (slot_text (goal_in starts.now) here) 0 slots.now) }
 {
     for (slot, inst) in slots.iter().enumerate() {
         put_slot(out, starts, here, slot, *inst)?;
@@ -174,7 +177,8 @@ fn put_block(
     k: usize,
     block: &Block,
 ) -> Result<(), AllocError>
-    ensures ok { OnOk result (out.new.items ≡ out.old.items ++ block_text (goal_in starts.now) here k block.now) }
+    ensures ok { OnOk result (out.new.items ≡ out.old.items
+        ++ block_text (goal_in starts.now) here k block.now) }
 {
     put_block_line(out, k as u64, block.mask)?;
     put_reads(out, block.reads.as_slice())?;
@@ -187,7 +191,8 @@ fn put_blocks(out: &mut Vec<u8>, starts: &[u32], blocks: &[Block]) -> Result<(),
     requires fit { All FitsBlock blocks.now }
     requires few { sum_by chunks blocks.now < 2 ^ 32 }
     ensures ok { OnOk result (out.new.items ≡ out.old.items
-        ++ numbered (λ k b. block_text (goal_in starts.now) (chunk_of blocks.now k) k b) 0 blocks.now) }
+        ++ numbered (λ k b. block_text (goal_in starts.now) (chunk_of blocks.now k) k b) 0
+        blocks.now) }
 {
     let mut here = 0;
     for (k, block) in blocks.iter().enumerate() {

@@ -2,7 +2,8 @@ ghost use Rattle.std.specs.Prelude.{◌≡◌, ◌<◌, ◌≤◌, ◌^◌, ◌�
 ghost use Rattle.trips_run.specs.Source.{return_block};
 ghost use Rattle.trips_run.specs.Read.{IsWithin};
 ghost use Rattle.trips_run.specs.Refusal.{form_text};
-ghost use Rattle.trips_run.specs.Answer.{block_budget, IsFixed, IsRunBy, IsRefusalOfText, IsRunOfText};
+ghost use Rattle.trips_run.specs.Answer.{block_budget, IsFixed, IsRunBy, IsRefusalOfText};
+ghost use Rattle.trips_run.specs.Answer.{IsRunOfText};
 ghost use Rattle.trips_run.specs.Answer.{IsTextAnswer};
 
 use crate::answer::{Answer, fixed, refused, unread};
