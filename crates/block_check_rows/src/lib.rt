@@ -1,6 +1,10 @@
 //! Small blocks and images with the answers of the checker.
 #![tactic(auto)]
 
+#[cfg(test)]
+mod fault_tests;
 pub mod fits;
 #[cfg(test)]
-mod tests;
+mod making;
+#[cfg(test)]
+mod token_tests;
