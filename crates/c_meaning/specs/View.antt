@@ -86,6 +86,6 @@ next (move.Do t) = ToDo (task_of t)
 next (move.Give v) = Given v
 next (move.End why) = Ended why
 
--- a move of the machine is the step
-abbrev pub Steps : Step → Move → Machine → Machine → Type 0
-Steps step m old new = IsStep step (next m) (view new.store) (frames old.stack.items) (frames new.stack.items)
+-- a move that makes the step which is due
+abbrev pub Makes : (State → Step) → Machine → Machine → Move → Type 0
+Makes step old new m = IsStep (step (view old.store)) (next m) (view new.store) (frames old.stack.items) (frames new.stack.items)

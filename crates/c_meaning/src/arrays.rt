@@ -1,6 +1,9 @@
-ghost use Rattle.std.specs.Prelude.{◌≡◌, ◌+◌, ◌-◌, ◌<◌, ◌≤◌, ℕ, [], ◌∷◌, ◌++◌, map, length, take, replicate, slice_get, slice_set, Some, None, ◌↔◌, IsTrue, IsFalse, IsSome, IfOk, OnOk};
+ghost use Rattle.std.specs.Prelude.{◌≡◌, ◌+◌, ◌-◌, ◌<◌, ◌≤◌, ℕ, [], ◌∷◌, ◌++◌, map, length, take};
+ghost use Rattle.std.specs.Prelude.{replicate, slice_get, slice_set, Some, None, ◌↔◌, IsTrue};
+ghost use Rattle.std.specs.Prelude.{IsFalse, IsSome, IfOk, OnOk};
 ghost use Rattle.c_eval.specs.State.{cell_in, held, row_in, element_set};
-ghost use Rattle.c_meaning.specs.Cells.{CellsKnown, SpansKnown, Follows, shown, worded, rows, total};
+ghost use Rattle.c_meaning.specs.Cells.{CellsKnown, SpansKnown, Follows, shown, worded, rows};
+ghost use Rattle.c_meaning.specs.Cells.{total};
 
 use std::alloc::{AllocError, Global};
 use std::marker::Model;
@@ -44,7 +47,8 @@ impl Model for Arrays {
 fn pad(cells: &mut Vec<Cell>, cell: Cell, count: usize) -> Result<(), AllocError>
     ensures ok { OnOk result (cells.new.items ≡ cells.old.items ++ replicate count cell) }
     ensures longer { length cells.old.items ≤ length cells.new.items }
-    ensures known { (last : ℕ) → cell.stamp ≤ last → CellsKnown last cells.old.items → CellsKnown last cells.new.items }
+    ensures known { (last : ℕ) → cell.stamp ≤ last → CellsKnown last cells.old.items
+        → CellsKnown last cells.new.items }
 {
     for _i in 0..count {
         cells.push(cell)?;
@@ -56,7 +60,8 @@ fn pad(cells: &mut Vec<Cell>, cell: Cell, count: usize) -> Result<(), AllocError
 fn put_words(cells: &mut Vec<Cell>, stamp: u64, words: &[u64]) -> Result<(), AllocError>
     ensures ok { OnOk result (cells.new.items ≡ cells.old.items ++ map (worded stamp) words.now) }
     ensures longer { length cells.old.items ≤ length cells.new.items }
-    ensures known { (last : ℕ) → stamp ≤ last → CellsKnown last cells.old.items → CellsKnown last cells.new.items }
+    ensures known { (last : ℕ) → stamp ≤ last → CellsKnown last cells.old.items
+        → CellsKnown last cells.new.items }
 {
     for word in words {
         cells.push(Cell { stamp, word: *word })?;
@@ -123,11 +128,14 @@ fn read(spans: &[Span], cells: &[Cell], array: u64, at: u64) -> Option<u64>
 fn write(spans: &[Span], cells: &mut Vec<Cell>, array: u64, at: u64, word: u64) -> bool
     requires follows { Follows 0 spans.now }
     requires fits { total spans.now ≤ length cells.old.items }
-    ensures there { IsTrue result ↔ IsSome (cell_in (slice_get (rows spans.now cells.old.items) array) at) }
-    ensures set { IsTrue result → rows spans.now cells.new.items ≡ element_set (rows spans.now cells.old.items) array at (Some word) }
+    ensures there { IsTrue result
+        ↔ IsSome (cell_in (slice_get (rows spans.now cells.old.items) array) at) }
+    ensures set { IsTrue result → rows spans.now cells.new.items
+        ≡ element_set (rows spans.now cells.old.items) array at (Some word) }
     ensures same { IsFalse result → cells.new.items ≡ cells.old.items }
     ensures length { length cells.new.items ≡ length cells.old.items }
-    ensures known { (last : ℕ) → SpansKnown last spans.now → CellsKnown last cells.old.items → CellsKnown last cells.new.items }
+    ensures known { (last : ℕ) → SpansKnown last spans.now → CellsKnown last cells.old.items
+        → CellsKnown last cells.new.items }
 {
     match span_at(spans, array) {
         None => false,
@@ -184,7 +192,8 @@ impl Arrays {
     /// Unsets a whole array, if it is there. Want of memory is the only error.
     pub fn unset(&mut self, array: u64) -> Result<bool, AllocError>
         ensures there { IfOk result (λ b. IsTrue b ↔ IsSome (slice_get self.old array)) }
-        ensures unset { IfOk result (λ b. IsTrue b → self.new ≡ slice_set self.old array (replicate (length (row_in (slice_get self.old array))) None)) }
+        ensures unset { IfOk result (λ b. IsTrue b → self.new ≡ slice_set self.old array
+            (replicate (length (row_in (slice_get self.old array))) None)) }
         ensures same { IfOk result (λ b. IsFalse b → self.new ≡ self.old) }
     {
         let stamp = next_stamp(self.last)?;
@@ -222,7 +231,8 @@ impl Arrays {
 
     /// Adds an array of these words and then zeros. Want of memory is the only error.
     pub fn add_set(&mut self, words: &[u64], zeros: usize) -> Result<(), AllocError>
-        ensures ok { OnOk result (self.new ≡ self.old ++ (map Some words.now ++ replicate zeros (Some 0)) ∷ []) }
+        ensures ok { OnOk result (self.new
+            ≡ self.old ++ (map Some words.now ++ replicate zeros (Some 0)) ∷ []) }
     {
         let stamp = next_stamp(self.last)?;
         let length = sum_of(words.len(), zeros)?;

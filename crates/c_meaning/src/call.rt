@@ -1,7 +1,9 @@
-ghost use Rattle.std.specs.Prelude.{◌≡◌, ◌+◌, ◌-◌, ◌*◌, ◌<◌, ◌≤◌, ◌^◌, ◌++◌, ◌∷◌, [], map, length, replicate, true, Some, None, IfOk, OnOk, SomeIff, slice_get};
+ghost use Rattle.std.specs.Prelude.{◌≡◌, ◌+◌, ◌-◌, ◌*◌, ◌<◌, ◌≤◌, ◌^◌, ◌++◌, ◌∷◌, [], map, length};
+ghost use Rattle.std.specs.Prelude.{replicate, true, Some, None, IfOk, OnOk, SomeIff, slice_get};
 ghost use Rattle.c_eval.specs.Call.{array_bytes, frame as frame_of, scalars_of, unset_array};
-ghost use Rattle.c_steps.specs.ExpressionSteps.{entered_step, enter_step, read_step, get_step, put_step, called_step, arguments_step};
-ghost use Rattle.c_meaning.specs.View.{view, behind, Steps};
+ghost use Rattle.c_steps.specs.ExpressionSteps.{entered_step, enter_step, read_step, get_step};
+ghost use Rattle.c_steps.specs.ExpressionSteps.{put_step, called_step, arguments_step};
+ghost use Rattle.c_meaning.specs.View.{behind, Makes};
 
 use crate::arrays::Arrays;
 use crate::frame::{Frame, Move, Task};
@@ -100,7 +102,9 @@ impl<'a> Machine<'a> {
         rest: &'a [TypedExpr],
         done: Vec<u64>,
     ) -> Result<Move<'a>, AllocError>
-        ensures { IfOk result (λ m. Steps (arguments_step program.now callee rest.now done.items (view self.old.store)) m self.old self.new) }
+        ensures { IfOk result (Makes
+            (arguments_step program.now callee rest.now done.items)
+            self.old self.new) }
     {
         match rest.split_first() {
             None => {
@@ -120,7 +124,9 @@ impl<'a> Machine<'a> {
         mut done: Vec<u64>,
         w: u64,
     ) -> Result<Move<'a>, AllocError>
-        ensures { IfOk result (λ m. Steps (arguments_step program.now callee rest.now (done.items ++ w ∷ []) (view self.old.store)) m self.old self.new) }
+        ensures { IfOk result (Makes
+            (arguments_step program.now callee rest.now (done.items ++ w ∷ []))
+            self.old self.new) }
     {
         done.push(w)?;
         self.arguments(program, callee, rest, done)
@@ -132,7 +138,7 @@ impl<'a> Machine<'a> {
         callee: Callee,
         done: &[u64],
     ) -> Result<Move<'a>, AllocError>
-        ensures { IfOk result (λ m. Steps (called_step program.now callee done.now (view self.old.store)) m self.old self.new) }
+        ensures { IfOk result (Makes (called_step program.now callee done.now) self.old self.new) }
     {
         if self.store.stock == 0 {
             return Ok(Move::End(Ending::More));
@@ -146,7 +152,7 @@ impl<'a> Machine<'a> {
     }
 
     fn get_char(&mut self, done: &[u64]) -> Move<'a>
-        ensures { Steps (get_step done.now (view self.old.store)) result self.old self.new }
+        ensures { Makes (get_step done.now) self.old self.new result }
     {
         match done {
             [] => self.read(),
@@ -155,7 +161,7 @@ impl<'a> Machine<'a> {
     }
 
     fn read(&mut self) -> Move<'a>
-        ensures { Steps (read_step (view self.old.store).input (view self.old.store)) result self.old self.new }
+        ensures { Makes (λ s. read_step s.input s) self.old self.new result }
     {
         match self.store.input.split_first() {
             None => Move::Give(Signal::Value(0xffff_ffff_ffff_ffff)),
@@ -167,7 +173,7 @@ impl<'a> Machine<'a> {
     }
 
     fn put_char(&mut self, done: &[u64]) -> Result<Move<'a>, AllocError>
-        ensures { IfOk result (λ m. Steps (put_step done.now (view self.old.store)) m self.old self.new) }
+        ensures { IfOk result (Makes (put_step done.now) self.old self.new) }
     {
         match done {
             [w] => {
@@ -179,7 +185,7 @@ impl<'a> Machine<'a> {
     }
 
     fn enter(&mut self, f: Option<&'a TypedFunc>, done: &[u64]) -> Result<Move<'a>, AllocError>
-        ensures { IfOk result (λ m. Steps (enter_step (behind f.entry) done.now (view self.old.store)) m self.old self.new) }
+        ensures { IfOk result (Makes (enter_step (behind f.entry) done.now) self.old self.new) }
     {
         match f {
             None => Ok(Move::End(Ending::Undefined)),
@@ -206,7 +212,7 @@ impl<'a> Machine<'a> {
     ) -> Result<Move<'a>, AllocError>
         requires room { room ≡ self.old.store.room + frame_of f.now }
         requires small { room ≤ 1048576 }
-        ensures { IfOk result (λ m. Steps (entered_step true f.now done.now (view self.old.store)) m self.old self.new) }
+        ensures { IfOk result (Makes (entered_step true f.now done.now) self.old self.new) }
     {
         let count = self.store.arrays.len();
         if count > 0xffff_ffff {

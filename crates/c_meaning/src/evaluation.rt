@@ -1,6 +1,8 @@
 ghost use Rattle.std.specs.Prelude.{◌≡◌, ◌+◌, ◌<◌, [], map, length, false, IfOk, OnOk};
+ghost use Rattle.c_eval.specs.State.{Result as Reached};
 ghost use Rattle.c_eval.specs.Call.{called as called_by};
-ghost use Rattle.c_eval.specs.Eval.{first_cells, length_of as length_in, start, outcome, main_result as result_of_main, eval, meaning};
+ghost use Rattle.c_eval.specs.Eval.{first_cells, length_of as length_in, start, outcome};
+ghost use Rattle.c_eval.specs.Eval.{main_result as result_of_main, eval, meaning};
 ghost use Rattle.c_steps.specs.Ahead.{ahead_next, rank, is_over as is_over_of, IsReached};
 ghost use Rattle.c_meaning.specs.View.{next, view, frames};
 ghost use Rattle.c_meaning.specs.Answer.{answer};
@@ -81,8 +83,13 @@ impl<'a> Machine<'a> {
     /// One move, after which as much is ahead and less is to be done.
     fn advance(&mut self, program: &'a TypedProgram, now: Move<'a>) -> Result<Move<'a>, AllocError>
         requires { is_over_of (next now) (frames self.old.stack.items) ≡ false }
-        ensures kept { IfOk result (λ m. ahead_next program.now (next m) (frames self.new.stack.items) (view self.new.store) ≡ ahead_next program.now (next now.entry) (frames self.old.stack.items) (view self.old.store)) }
-        ensures less { IfOk result (λ m. rank (next m) self.new.store.stock (length self.new.stack.items) < rank (next now.entry) self.old.store.stock (length self.old.stack.items)) }
+        ensures kept { IfOk result (λ m.
+            ahead_next program.now (next m) (frames self.new.stack.items) (view self.new.store)
+            ≡ ahead_next program.now (next now.entry) (frames self.old.stack.items)
+            (view self.old.store)) }
+        ensures less { IfOk result (λ m.
+            rank (next m) self.new.store.stock (length self.new.stack.items)
+            < rank (next now.entry) self.old.store.stock (length self.old.stack.items)) }
     {
         match now {
             Move::Do(task) => {
@@ -102,7 +109,9 @@ impl<'a> Machine<'a> {
 
     /// All that is left to be done.
     fn go(&mut self, program: &'a TypedProgram, start: Move<'a>) -> Result<Move<'a>, AllocError>
-        ensures { IfOk result (λ m. IsReached (next m) (view self.new.store) (ahead_next program.now (next start.entry) (frames self.old.stack.items) (view self.old.store))) }
+        ensures { IfOk result (λ m. IsReached (next m) (view self.new.store)
+            (ahead_next program.now (next start.entry) (frames self.old.stack.items)
+            (view self.old.store))) }
     {
         let mut now = start;
         while !self.is_over(&now) {
@@ -114,7 +123,9 @@ impl<'a> Machine<'a> {
     /// The call of main.
     fn run_main(&mut self, program: &'a TypedProgram) -> Result<Move<'a>, AllocError>
         requires { self.old.stack.items ≡ [] }
-        ensures { IfOk result (λ m. IsReached (next m) (view self.new.store) (called_by (meaning program.now) program.now (Callee.Func program.now.main) [] (view self.old.store))) }
+        ensures { IfOk result (λ m. IsReached (next m) (view self.new.store)
+            (called_by (meaning program.now) program.now (Callee.Func program.now.main) []
+            (view self.old.store))) }
     {
         let first = self.called(program, Callee::Func(program.main), &[])?;
         let last = self.go(program, first)?;
@@ -124,7 +135,8 @@ impl<'a> Machine<'a> {
 
 /// The outcome of an evaluation that is over.
 fn ended(now: Move, store: Store, n: u64) -> Result<Outcome, AllocError>
-    ensures { IfOk result (λ o. (r : _) → IsReached (next now.entry) (view store.entry) r → o ≡ answer (outcome n r)) }
+    ensures { IfOk result (λ o. (r : Reached) → IsReached (next now.entry) (view store.entry) r
+        → o ≡ answer (outcome n r)) }
 {
     match now {
         Move::Give(signal) => {
@@ -148,7 +160,9 @@ fn evaluate_from<'a>(
     n: u64,
 ) -> Result<Outcome, AllocError>
     requires { machine.stack.items ≡ [] }
-    ensures { IfOk result (λ o. o ≡ answer (outcome n (called_by (meaning program.now) program.now (Callee.Func program.now.main) [] (view machine.entry.store)))) }
+    ensures { IfOk result (λ o. o ≡ answer (outcome n
+        (called_by (meaning program.now) program.now (Callee.Func program.now.main) []
+        (view machine.entry.store)))) }
 {
     let mut machine = machine;
     let last = machine.run_main(program)?;
@@ -162,10 +176,10 @@ fn evaluate_from<'a>(
     ended(last, store, n)
 }
 
-/// The evaluation of a program on an input with a stock of `n` steps: the definition's outcome, without
-/// the output so far of one that has not come to its end. Want of memory is the only error.
+/// The evaluation of a program on an input with a stock of `n` steps: the definition's outcome,
+/// without the output so far of one that has not come to its end. Want of memory is the only error.
 ///
-/// The active calls stand on a list, so the host's stack does not grow with the program's recursion.
+/// The active calls stand on a list, so the host's stack does not grow with the recursion.
 pub fn evaluate(
     alloc: Global,
     program: &TypedProgram,

@@ -2,8 +2,10 @@ ghost use Rattle.std.specs.Prelude.{◌≡◌, IfOk, slice_get};
 ghost use Rattle.c_eval.specs.Expression.{node_of};
 ghost use Rattle.c_eval.specs.Task.{is_array as is_array_in, has_length};
 ghost use Rattle.c_steps.specs.Follow.{some_step, load_step};
-ghost use Rattle.c_steps.specs.ExpressionSteps.{name_step, assign_to_step, assign_step, bump_object_step, bump_step, binary_step, opened_step, node_step, conversion_step, of_step};
-ghost use Rattle.c_meaning.specs.View.{view, Steps};
+ghost use Rattle.c_steps.specs.ExpressionSteps.{name_step, assign_to_step, assign_step};
+ghost use Rattle.c_steps.specs.ExpressionSteps.{bump_object_step, bump_step, binary_step};
+ghost use Rattle.c_steps.specs.ExpressionSteps.{opened_step, node_step, conversion_step, of_step};
+ghost use Rattle.c_meaning.specs.View.{view, Makes};
 
 use crate::call::spare;
 use crate::frame::{Frame, Move, Operand, Task};
@@ -29,7 +31,7 @@ impl<'a> Machine<'a> {
         program: &'a TypedProgram,
         e: &'a TypedExpr,
     ) -> Result<Move<'a>, AllocError>
-        ensures { IfOk result (λ m. Steps (of_step program.now (node_of e.now) (view self.old.store)) m self.old self.new) }
+        ensures { IfOk result (Makes (of_step program.now (node_of e.now)) self.old self.new) }
     {
         match &e.node {
             TypedNode::Convert { to, e } => self.conversion(*to, e.get()),
@@ -41,7 +43,7 @@ impl<'a> Machine<'a> {
     }
 
     fn conversion(&mut self, to: Kind, e: &'a TypedExpr) -> Result<Move<'a>, AllocError>
-        ensures { IfOk result (λ m. Steps (conversion_step to e.now (node_of e.now) (view self.old.store)) m self.old self.new) }
+        ensures { IfOk result (Makes (conversion_step to e.now (node_of e.now)) self.old self.new) }
     {
         match &e.node {
             TypedNode::Convert { to: _, e: _ } => {
@@ -57,7 +59,7 @@ impl<'a> Machine<'a> {
     }
 
     fn node(&mut self, program: &'a TypedProgram, e: &'a TypedExpr) -> Result<Move<'a>, AllocError>
-        ensures { IfOk result (λ m. Steps (node_step program.now (node_of e.now) (view self.old.store)) m self.old self.new) }
+        ensures { IfOk result (Makes (node_step program.now (node_of e.now)) self.old self.new) }
     {
         if self.store.stock == 0 {
             Ok(Move::End(Ending::More))
@@ -72,7 +74,7 @@ impl<'a> Machine<'a> {
         program: &'a TypedProgram,
         e: &'a TypedExpr,
     ) -> Result<Move<'a>, AllocError>
-        ensures { IfOk result (λ m. Steps (opened_step program.now (node_of e.now) (view self.old.store)) m self.old self.new) }
+        ensures { IfOk result (Makes (opened_step program.now (node_of e.now)) self.old self.new) }
     {
         match &e.node {
             TypedNode::Number(w) => Ok(Move::Give(Signal::Value(*w))),
@@ -127,7 +129,7 @@ impl<'a> Machine<'a> {
         left: &'a TypedExpr,
         right: &'a TypedExpr,
     ) -> Result<Move<'a>, AllocError>
-        ensures { IfOk result (λ m. Steps (binary_step op left.now right.now (view self.old.store)) m self.old self.new) }
+        ensures { IfOk result (Makes (binary_step op left.now right.now) self.old self.new) }
     {
         let operand = match op {
             BinaryOp::LogicalAnd => Operand::OfAnd,
@@ -141,7 +143,7 @@ impl<'a> Machine<'a> {
     }
 
     fn name(&self, program: &TypedProgram, place: Place) -> Move<'a>
-        ensures { Steps (name_step program.now place (view self.now.store)) result self.now self.now }
+        ensures { Makes (name_step program.now place) self.now self.now result }
     {
         match place {
             Place::Global(g) => {
@@ -157,7 +159,7 @@ impl<'a> Machine<'a> {
     }
 
     pub fn element(&self, object: Option<Object>) -> Move<'a>
-        ensures { Steps (some_step object (view self.now.store) (λ x. load_step x (view self.now.store))) result self.now self.now }
+        ensures { Makes (λ s. some_step object s (λ x. load_step x s)) self.now self.now result }
     {
         match object {
             None => Move::End(Ending::Undefined),
@@ -172,7 +174,9 @@ impl<'a> Machine<'a> {
         left: &'a TypedExpr,
         right: &'a TypedExpr,
     ) -> Result<Move<'a>, AllocError>
-        ensures { IfOk result (λ m. Steps (assign_step op left.now.kind at (node_of left.now) right.now (view self.old.store)) m self.old self.new) }
+        ensures { IfOk result (Makes
+            (assign_step op left.now.kind at (node_of left.now) right.now)
+            self.old self.new) }
     {
         match &left.node {
             TypedNode::Name(place) => self.assign_to(op, left.kind, at, right, scalar_of(*place)),
@@ -197,7 +201,9 @@ impl<'a> Machine<'a> {
         right: &'a TypedExpr,
         object: Option<Object>,
     ) -> Result<Move<'a>, AllocError>
-        ensures { IfOk result (λ m. Steps (some_step object (view self.old.store) (assign_to_step op to at right.now (view self.old.store))) m self.old self.new) }
+        ensures { IfOk result (Makes
+            (λ s. some_step object s (assign_to_step op to at right.now s))
+            self.old self.new) }
     {
         match object {
             None => Ok(Move::End(Ending::Undefined)),
@@ -221,7 +227,7 @@ impl<'a> Machine<'a> {
     }
 
     fn bump(&mut self, op: BumpOp, e: &'a TypedExpr) -> Result<Move<'a>, AllocError>
-        ensures { IfOk result (λ m. Steps (bump_step op e.now.kind (node_of e.now) (view self.old.store)) m self.old self.new) }
+        ensures { IfOk result (Makes (bump_step op e.now.kind (node_of e.now)) self.old self.new) }
     {
         match &e.node {
             TypedNode::Name(place) => Ok(self.bump_object(op, e.kind, scalar_of(*place))),
@@ -243,7 +249,9 @@ impl<'a> Machine<'a> {
         kind: Option<Kind>,
         object: Option<Object>,
     ) -> Move<'a>
-        ensures { Steps (some_step object (view self.old.store) (bump_object_step op kind (view self.old.store))) result self.old self.new }
+        ensures { Makes
+            (λ s. some_step object s (bump_object_step op kind s))
+            self.old self.new result }
     {
         match object {
             None => Move::End(Ending::Undefined),

@@ -1,7 +1,7 @@
 ghost use Rattle.std.specs.Prelude.{◌≡◌, IfOk};
 ghost use Rattle.c_eval.specs.Expression.{node_of};
 ghost use Rattle.c_steps.specs.Follow.{Pushes, given_step, store_step};
-ghost use Rattle.c_meaning.specs.View.{view, task_of, follow, Steps};
+ghost use Rattle.c_meaning.specs.View.{view, task_of, follow, Makes};
 
 use crate::frame::{Frame, Move, Task};
 use crate::store::Store;
@@ -22,14 +22,16 @@ pub struct Machine<'a> {
 
 impl<'a> Machine<'a> {
     pub fn push(&mut self, task: Task<'a>, frame: Frame<'a>) -> Result<Move<'a>, AllocError>
-        ensures { IfOk result (λ m. Steps (Pushes (task_of task.entry) (follow frame.entry) (view self.old.store)) m self.old self.new) }
+        ensures { IfOk result (Makes
+            (Pushes (task_of task.entry) (follow frame.entry))
+            self.old self.new) }
     {
         self.stack.push(frame)?;
         Ok(Move::Do(task))
     }
 
     pub fn given(&self, value: Option<u64>) -> Move<'a>
-        ensures { Steps (given_step value (view self.now.store)) result self.now self.now }
+        ensures { Makes (given_step value) self.now self.now result }
     {
         match value {
             Some(w) => Move::Give(Signal::Value(w)),
@@ -38,7 +40,7 @@ impl<'a> Machine<'a> {
     }
 
     pub fn stored(&mut self, object: Object, w: u64, signal: Signal) -> Move<'a>
-        ensures { Steps (store_step (view self.old.store) object w signal) result self.old self.new }
+        ensures { Makes (λ s. store_step s object w signal) self.old self.new result }
     {
         if self.store.set(object, w) {
             Move::Give(signal)

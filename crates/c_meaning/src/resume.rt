@@ -3,8 +3,10 @@ ghost use Rattle.c_eval.specs.Word.{is_false, truth_of};
 ghost use Rattle.c_eval.specs.Task.{Run};
 ghost use Rattle.c_steps.specs.Follow.{FBody, Pushes, Does, Gives, some_step, store_step};
 ghost use Rattle.c_steps.specs.StatementSteps.{sequence_step, locals_step, act_step};
-ghost use Rattle.c_steps.specs.ResumeSteps.{if_step, value_step, returned_step, going_on_step, body_step, resume_step};
-ghost use Rattle.c_meaning.specs.View.{view, behind, task_of, follow, follow_operand, follow_turn, Steps};
+ghost use Rattle.c_steps.specs.ResumeSteps.{if_step, value_step, returned_step, going_on_step};
+ghost use Rattle.c_steps.specs.ResumeSteps.{body_step, resume_step};
+ghost use Rattle.c_meaning.specs.View.{view, behind, task_of, follow, follow_operand, follow_turn};
+ghost use Rattle.c_meaning.specs.View.{Steps};
 
 use crate::frame::{Frame, Loop, Move, Operand, Stage, Task};
 use crate::machine::Machine;
@@ -16,7 +18,9 @@ use std::alloc::AllocError;
 
 impl<'a> Machine<'a> {
     pub fn act(&mut self, program: &'a TypedProgram, task: Task<'a>) -> Result<Move<'a>, AllocError>
-        ensures { IfOk result (λ m. Steps (act_step program.now (task_of task.entry) (view self.old.store)) m self.old self.new) }
+        ensures { IfOk result (Makes
+            (act_step program.now (task_of task.entry))
+            self.old self.new) }
     {
         match task {
             Task::Of(e) => self.of(program, e),
@@ -32,7 +36,9 @@ impl<'a> Machine<'a> {
         right: &'a TypedExpr,
         w: u64,
     ) -> Result<Move<'a>, AllocError>
-        ensures { IfOk result (λ m. Steps (value_step program.now (follow_operand operand right.now) w (view self.old.store)) m self.old self.new) }
+        ensures { IfOk result (Makes
+            (value_step program.now (follow_operand operand right.now) w)
+            self.old self.new) }
     {
         match operand {
             Operand::Right { op, kind } => {
@@ -61,7 +67,7 @@ impl<'a> Machine<'a> {
     }
 
     fn with_truth(&self, w: u64) -> Move<'a>
-        ensures { Steps (Gives (Signal.Value (truth_of w)) (view self.now.store)) result self.now self.now }
+        ensures { Makes (Gives (Signal.Value (truth_of w))) self.now self.now result }
     {
         if w == 0 {
             Move::Give(Signal::Value(0))
@@ -71,7 +77,9 @@ impl<'a> Machine<'a> {
     }
 
     fn after_if(&self, first: &'a TypedStmt, other: Option<&'a TypedStmt>, w: u64) -> Move<'a>
-        ensures { Steps (cond (is_false w) (if_step (behind other.entry) (view self.now.store)) (Does (Run first.now) (view self.now.store))) result self.now self.now }
+        ensures { Makes
+            (λ s. cond (is_false w) (if_step (behind other.entry) s) (Does (Run first.now) s))
+            self.now self.now result }
     {
         if w == 0 {
             match other {
@@ -84,7 +92,10 @@ impl<'a> Machine<'a> {
     }
 
     fn after_test(&mut self, turn: Loop<'a>, w: u64) -> Result<Move<'a>, AllocError>
-        ensures { IfOk result (λ m. Steps (cond (is_false w) (Gives Signal.Nothing (view self.old.store)) (Pushes (Run turn.entry.body.now) (FBody (behind turn.entry.test) (behind turn.entry.post) turn.entry.body.now) (view self.old.store))) m self.old self.new) }
+        ensures { IfOk result (Makes
+            (λ s. cond (is_false w) (Gives Signal.Nothing s) (Pushes (Run turn.entry.body.now)
+            (FBody (behind turn.entry.test) (behind turn.entry.post) turn.entry.body.now) s))
+            self.old self.new) }
     {
         if w == 0 {
             Ok(Move::Give(Signal::Nothing))
@@ -101,7 +112,9 @@ impl<'a> Machine<'a> {
     }
 
     fn compounded(&mut self, object: Object, value: Option<u64>) -> Move<'a>
-        ensures { Steps (some_step value (view self.old.store) (λ r. store_step (view self.old.store) object r (Signal.Value r))) result self.old self.new }
+        ensures { Makes
+            (λ s. some_step value s (λ r. store_step s object r (Signal.Value r)))
+            self.old self.new result }
     {
         match value {
             None => Move::End(Ending::Undefined),
@@ -115,7 +128,9 @@ impl<'a> Machine<'a> {
         frame: Frame<'a>,
         w: u64,
     ) -> Result<Move<'a>, AllocError>
-        ensures { IfOk result (λ m. Steps (value_step program.now (follow frame.entry) w (view self.old.store)) m self.old self.new) }
+        ensures { IfOk result (Makes
+            (value_step program.now (follow frame.entry) w)
+            self.old self.new) }
     {
         match frame {
             Frame::Converting(to) => Ok(Move::Give(Signal::Value(convert(to, w)))),
@@ -170,7 +185,9 @@ impl<'a> Machine<'a> {
         frame: Frame<'a>,
         signal: Signal,
     ) -> Result<Move<'a>, AllocError>
-        ensures { IfOk result (λ m. Steps (resume_step program.now (follow frame.entry) signal (view self.old.store)) m self.old self.new) }
+        ensures { IfOk result (Makes
+            (resume_step program.now (follow frame.entry) signal)
+            self.old self.new) }
     {
         match frame {
             Frame::Operand {
@@ -215,7 +232,14 @@ impl<'a> Machine<'a> {
         room: u32,
         signal: Signal,
     ) -> Result<Move<'a>, AllocError>
-        ensures { IfOk result (λ m. Steps (returned_step signal (record (view self.old.store) { scalars = scalars.items; arrays = take count (view self.old.store).arrays; base = base; room = room })) m self.old self.new) }
+        ensures { IfOk result (Makes
+            (λ s. returned_step signal (record s {
+              scalars = scalars.items;
+              arrays = take count s.arrays;
+              base = base;
+              room = room;
+            }))
+            self.old self.new) }
     {
         let used = std::mem::replace(&mut self.store.scalars, scalars);
         self.store.arrays.keep_first(count);
@@ -226,7 +250,7 @@ impl<'a> Machine<'a> {
     }
 
     fn returned(&self, signal: Signal) -> Move<'a>
-        ensures { Steps (returned_step signal (view self.now.store)) result self.now self.now }
+        ensures { Makes (returned_step signal) self.now self.now result }
     {
         match signal {
             Signal::Returns(Some(w)) => Move::Give(Signal::Value(w)),
@@ -241,7 +265,9 @@ impl<'a> Machine<'a> {
         rest: &'a [TypedStmt],
         signal: Signal,
     ) -> Result<Move<'a>, AllocError>
-        ensures { IfOk result (λ m. Steps (going_on_step signal (view self.old.store) (sequence_step rest.now (view self.old.store))) m self.old self.new) }
+        ensures { IfOk result (Makes
+            (λ s. going_on_step signal s (sequence_step rest.now s))
+            self.old self.new) }
     {
         match signal {
             Signal::Nothing => self.sequence(rest),
@@ -255,7 +281,10 @@ impl<'a> Machine<'a> {
         turn: Loop<'a>,
         signal: Signal,
     ) -> Result<Move<'a>, AllocError>
-        ensures { IfOk result (λ m. Steps (going_on_step signal (view self.old.store) (locals_step rest.now (behind turn.entry.test) (behind turn.entry.post) turn.entry.body.now (view self.old.store))) m self.old self.new) }
+        ensures { IfOk result (Makes
+            (λ s. going_on_step signal s (locals_step rest.now (behind turn.entry.test)
+            (behind turn.entry.post) turn.entry.body.now s))
+            self.old self.new) }
     {
         match signal {
             Signal::Nothing => self.locals(rest, turn),
@@ -264,7 +293,9 @@ impl<'a> Machine<'a> {
     }
 
     fn after_body(&mut self, turn: Loop<'a>, signal: Signal) -> Result<Move<'a>, AllocError>
-        ensures { IfOk result (λ m. Steps (body_step (behind turn.entry.test) (behind turn.entry.post) turn.entry.body.now signal (view self.old.store)) m self.old self.new) }
+        ensures { IfOk result (Makes
+            (body_step (behind turn.entry.test) (behind turn.entry.post) turn.entry.body.now signal)
+            self.old self.new) }
     {
         match signal {
             Signal::Nothing => self.then_turn(turn.post, turn),

@@ -3,8 +3,10 @@ ghost use Rattle.c_eval.specs.Task.{Run};
 ghost use Rattle.c_steps.specs.Follow.{Pushes, FBody};
 ghost use Rattle.c_tree.specs.declared.TypedStmt.{out-TypedStmt};
 ghost use Rattle.c_tree.specs.declared.TypedForInit.{out-TypedForInit};
-ghost use Rattle.c_steps.specs.StatementSteps.{sequence_step, declare_step, unset_row_step, then_turn_step, locals_step, begin_step, turn_step, begun_step, statement_step};
-ghost use Rattle.c_meaning.specs.View.{view, behind, Steps};
+ghost use Rattle.c_steps.specs.StatementSteps.{sequence_step, declare_step, unset_row_step};
+ghost use Rattle.c_steps.specs.StatementSteps.{then_turn_step, locals_step, begin_step, turn_step};
+ghost use Rattle.c_steps.specs.StatementSteps.{begun_step, statement_step};
+ghost use Rattle.c_meaning.specs.View.{behind, Makes};
 
 use crate::frame::{Frame, Loop, Move, Stage, Task};
 use crate::machine::Machine;
@@ -24,7 +26,7 @@ fn unboxed<'a>(st: &'a Option<Boxed<TypedStmt>>) -> Option<&'a TypedStmt>
 
 impl<'a> Machine<'a> {
     pub fn run(&mut self, st: &'a TypedStmt) -> Result<Move<'a>, AllocError>
-        ensures { IfOk result (λ m. Steps (statement_step (out-TypedStmt st.now) (view self.old.store)) m self.old self.new) }
+        ensures { IfOk result (Makes (statement_step (out-TypedStmt st.now)) self.old self.new) }
     {
         if self.store.stock == 0 {
             Ok(Move::End(Ending::More))
@@ -35,7 +37,7 @@ impl<'a> Machine<'a> {
     }
 
     fn begun(&mut self, st: &'a TypedStmt) -> Result<Move<'a>, AllocError>
-        ensures { IfOk result (λ m. Steps (begun_step (out-TypedStmt st.now) (view self.old.store)) m self.old self.new) }
+        ensures { IfOk result (Makes (begun_step (out-TypedStmt st.now)) self.old self.new) }
     {
         match st {
             TypedStmt::Declare { place, init } => self.declare(*place, init.as_ref()),
@@ -80,7 +82,9 @@ impl<'a> Machine<'a> {
         test: &'a TypedExpr,
         body: &'a TypedStmt,
     ) -> Result<Move<'a>, AllocError>
-        ensures { IfOk result (λ m. Steps (Pushes (Run body.now) (FBody (Some test.now) None body.now) (view self.old.store)) m self.old self.new) }
+        ensures { IfOk result (Makes
+            (Pushes (Run body.now) (FBody (Some test.now) None body.now))
+            self.old self.new) }
     {
         let turn = Loop {
             test: Some(test),
@@ -98,7 +102,7 @@ impl<'a> Machine<'a> {
     }
 
     pub fn sequence(&mut self, all: &'a [TypedStmt]) -> Result<Move<'a>, AllocError>
-        ensures { IfOk result (λ m. Steps (sequence_step all.now (view self.old.store)) m self.old self.new) }
+        ensures { IfOk result (Makes (sequence_step all.now) self.old self.new) }
     {
         match all.split_first() {
             None => Ok(Move::Give(Signal::Nothing)),
@@ -107,7 +111,7 @@ impl<'a> Machine<'a> {
     }
 
     fn declare(&mut self, place: Place, init: Option<&'a TypedExpr>) -> Result<Move<'a>, AllocError>
-        ensures { IfOk result (λ m. Steps (declare_step place (behind init.entry) (view self.old.store)) m self.old self.new) }
+        ensures { IfOk result (Makes (declare_step place (behind init.entry)) self.old self.new) }
     {
         match place {
             Place::Scalar(i) => {
@@ -129,7 +133,9 @@ impl<'a> Machine<'a> {
     }
 
     fn declare_array(&mut self, at: u64) -> Result<Move<'a>, AllocError>
-        ensures { IfOk result (λ m. Steps (unset_row_step at (slice_get (view self.old.store).arrays at) (view self.old.store)) m self.old self.new) }
+        ensures { IfOk result (Makes
+            (λ s. unset_row_step at (slice_get s.arrays at) s)
+            self.old self.new) }
     {
         if self.store.arrays.unset(at)? {
             Ok(Move::Give(Signal::Nothing))
@@ -143,7 +149,10 @@ impl<'a> Machine<'a> {
         e: Option<&'a TypedExpr>,
         turn: Loop<'a>,
     ) -> Result<Move<'a>, AllocError>
-        ensures { IfOk result (λ m. Steps (then_turn_step (behind e.entry) (behind turn.entry.test) (behind turn.entry.post) turn.entry.body.now (view self.old.store)) m self.old self.new) }
+        ensures { IfOk result (Makes
+            (then_turn_step (behind e.entry) (behind turn.entry.test) (behind turn.entry.post)
+            turn.entry.body.now)
+            self.old self.new) }
     {
         match e {
             None => Ok(Move::Do(Task::Turn(turn))),
@@ -161,7 +170,10 @@ impl<'a> Machine<'a> {
     }
 
     pub fn locals(&mut self, all: &'a [TypedStmt], turn: Loop<'a>) -> Result<Move<'a>, AllocError>
-        ensures { IfOk result (λ m. Steps (locals_step all.now (behind turn.entry.test) (behind turn.entry.post) turn.entry.body.now (view self.old.store)) m self.old self.new) }
+        ensures { IfOk result (Makes
+            (locals_step all.now (behind turn.entry.test) (behind turn.entry.post)
+            turn.entry.body.now)
+            self.old self.new) }
     {
         match all.split_first() {
             None => Ok(Move::Do(Task::Turn(turn))),
@@ -179,7 +191,10 @@ impl<'a> Machine<'a> {
     }
 
     fn begin(&mut self, init: &'a TypedForInit, turn: Loop<'a>) -> Result<Move<'a>, AllocError>
-        ensures { IfOk result (λ m. Steps (begin_step (out-TypedForInit init.now) (behind turn.entry.test) (behind turn.entry.post) turn.entry.body.now (view self.old.store)) m self.old self.new) }
+        ensures { IfOk result (Makes
+            (begin_step (out-TypedForInit init.now) (behind turn.entry.test)
+            (behind turn.entry.post) turn.entry.body.now)
+            self.old self.new) }
     {
         match init {
             TypedForInit::Nothing => Ok(Move::Do(Task::Turn(turn))),
@@ -189,7 +204,9 @@ impl<'a> Machine<'a> {
     }
 
     pub fn turn(&mut self, turn: Loop<'a>) -> Result<Move<'a>, AllocError>
-        ensures { IfOk result (λ m. Steps (turn_step (behind turn.entry.test) (behind turn.entry.post) turn.entry.body.now (view self.old.store)) m self.old self.new) }
+        ensures { IfOk result (Makes
+            (turn_step (behind turn.entry.test) (behind turn.entry.post) turn.entry.body.now)
+            self.old self.new) }
     {
         match turn.test {
             None => self.push(

@@ -1,6 +1,8 @@
-ghost use Rattle.std.specs.Prelude.{◌≡◌, map, Some, replicate, ◌++◌, ◌-◌, length, ◌↔◌, IsTrue, IsFalse, IsSome, IfOk, OnOk, slice_get, slice_set, None};
+ghost use Rattle.std.specs.Prelude.{◌≡◌, map, Some, replicate, ◌++◌, ◌-◌, length, ◌↔◌, IsTrue};
+ghost use Rattle.std.specs.Prelude.{IsFalse, IsSome, IfOk, OnOk, slice_get, slice_set, None};
 ghost use Rattle.c_eval.specs.State.{held, cell, written};
-ghost use Rattle.c_eval.specs.Task.{array_of as array_number, element_of as element_object, scalar_of as scalar_object};
+ghost use Rattle.c_eval.specs.Task.{array_of as array_number, element_of as element_object};
+ghost use Rattle.c_eval.specs.Task.{scalar_of as scalar_object};
 ghost use Rattle.c_meaning.specs.View.{view};
 
 use crate::arrays::Arrays;
@@ -80,7 +82,8 @@ impl<'a> Store<'a> {
     /// Unsets a scalar, if it is there.
     pub fn unset_scalar(&mut self, i: u64) -> bool
         ensures there { IsTrue result ↔ IsSome (slice_get (view self.old).scalars i) }
-        ensures after { IsTrue result → view self.new ≡ written (view self.old) (Object.InScalar i) None }
+        ensures after { IsTrue result → view self.new
+            ≡ written (view self.old) (Object.InScalar i) None }
         ensures same { IsFalse result → view self.new ≡ view self.old }
     {
         write_scalar(&mut self.scalars, i, None)
