@@ -1,5 +1,6 @@
 -- Bytes of words, and what a load makes of them.
-use Rattle.std.proofs.Common.{◌≡◌, ℕ, ◌+◌, ◌*◌, ◌/◌, ◌%◌, ◌^◌, ◌<◌, ◌≤◌, true, List, sym, refl, arith}
+use Rattle.std.proofs.Common.{◌≡◌, ℕ, ◌+◌, ◌*◌, ◌/◌, ◌%◌, ◌^◌, ◌<◌, ◌≤◌, true, List, sym, refl}
+use Rattle.std.proofs.Common.{arith}
 use Rattle.std.specs.Prelude.{Option}
 use Rattle.std.proofs.Math.Nat.{div-eq_of_lt, pow-le-pow_right}
 use Rattle.trips_isa.specs.declared.block.Inst.{Inst}
@@ -24,7 +25,9 @@ room v k h l =
 
 -- at a good address
 pub load_good :
-    (stores : ℕ → Option Stored) (mem : List ℕ) (i : Inst) (left a size b r : ℕ) → a ≡ (left + word i.imm) % 2 ^ 64 → size ≡ size_of i.op →
-    true ≡ is_good_address a size → b ≡ bytes_seen stores mem i.number a size → r ≡ loaded_as i.op b → r ≡ load_of i (λ address. bytes_seen stores mem i.number address (size_of i.op)) left
+    (stores : ℕ → Option Stored) (mem : List ℕ) (i : Inst) (left a size b r : ℕ)
+    → a ≡ (left + word i.imm) % 2 ^ 64 → size ≡ size_of i.op →
+    true ≡ is_good_address a size → b ≡ bytes_seen stores mem i.number a size → r ≡ loaded_as i.op b
+    → r ≡ load_of i (λ address. bytes_seen stores mem i.number address (size_of i.op)) left
 load_good stores mem i left a size b r ea es good eb er =
     rw (← ea, ← es, ← good, ← eb) er

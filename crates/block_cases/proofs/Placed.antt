@@ -1,5 +1,6 @@
 -- The nodes of a block stand in its slots, and its reads have no predicate.
-use Rattle.std.proofs.Common.{◌≡◌, ℕ, zero, suc, ◌+◌, ◌≤◌, inl, inr, List, [], ◌∷◌, ◌++◌, map, length, Option, Some, None, ap, arith}
+use Rattle.std.proofs.Common.{◌≡◌, ℕ, zero, suc, ◌+◌, ◌≤◌, inl, inr, List, [], ◌∷◌, ◌++◌, map}
+use Rattle.std.proofs.Common.{length, Option, Some, None, ap, arith}
 use Rattle.trips_isa.specs.declared.node.Node.{Node}
 use Rattle.trips_isa.specs.declared.block.Inst.{Inst}
 use Rattle.trips_isa.specs.declared.block.ReadSlot.{ReadSlot}
@@ -8,7 +9,8 @@ use Rattle.trips_isa.specs.Fits.{FitsBlock}
 use Rattle.block_cases.specs.Good.{IsPlaced}
 use Rattle.block_cases.specs.Blocks.{read_node, inst_node, inst_nodes, nodes_of}
 
-reads_placed : (rs : List ReadSlot) (rest : List Node) → IsPlaced rest → IsPlaced (map read_node rs ++ rest)
+reads_placed : (rs : List ReadSlot) (rest : List Node) → IsPlaced rest
+    → IsPlaced (map read_node rs ++ rest)
 reads_placed [] rest g k n e = g k n e
 reads_placed (r ∷ rs) rest g zero n e = inr (ap (λ (k : Node). k.sense) (same n e))
   where
@@ -26,4 +28,5 @@ insts_placed j (i ∷ is) b zero n e = inl (let s : n.slot ≡ j = slot i n e in
 insts_placed j (i ∷ is) b (suc k) n e = insts_placed (suc j) is (omega arith) k n e
 
 pub nodes_placed : (b : Block) → FitsBlock b → IsPlaced (nodes_of b)
-nodes_placed b f = reads_placed b.reads.items (inst_nodes 0 b.insts.items) (insts_placed 0 b.insts.items (let s : length b.insts.items ≡ 128 = f.insts in omega arith))
+nodes_placed b f = reads_placed b.reads.items (inst_nodes 0 b.insts.items)
+    (insts_placed 0 b.insts.items (let s : length b.insts.items ≡ 128 = f.insts in omega arith))

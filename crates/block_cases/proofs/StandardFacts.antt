@@ -12,7 +12,8 @@ node s r e a b = record { slot = s; role = r; sense = e; first = a; second = b; 
 
 -- a read chooses between two constants for a write
 abbrev pair : List Node
-pair = node 449 Reading Always 0 700 ∷ node 0 One Always 257 258 ∷ node 1 Free OnTrue 384 700 ∷ node 2 Free OnFalse 384 700 ∷ node 3 Free Always 448 700 ∷ []
+pair = node 449 Reading Always 0 700 ∷ node 0 One Always 257 258 ∷ node 1 Free
+    OnTrue 384 700 ∷ node 2 Free OnFalse 384 700 ∷ node 3 Free Always 448 700 ∷ []
 
 pub pair_cases : cases pair ≡ 2
 unfolding deepest
@@ -20,15 +21,21 @@ pair_cases = refl
 
 -- both constants come in one case
 abbrev twice : List Node
-twice = node 449 Reading Always 0 700 ∷ node 0 One Always 257 700 ∷ node 1 Free OnTrue 384 700 ∷ node 2 Free Always 384 700 ∷ node 3 Free Always 448 700 ∷ []
+twice = node 449 Reading Always 0 700 ∷ node 0 One Always 257 700 ∷ node 1 Free
+    OnTrue 384 700 ∷ node 2 Free Always 384 700 ∷ node 3 Free Always 448 700 ∷ []
 
 pub two_tokens : GetsTwo twice 384
 unfolding deepest
-two_tokens = (false ∷ true ∷ false ∷ false ∷ false ∷ [], record { size = refl; bits = refl }, lit< tt)
+two_tokens = (
+  false ∷ true ∷ false ∷ false ∷ false ∷ [],
+  record { size = refl; bits = refl },
+  lit< tt,
+)
 
 -- no constant comes where the read gives an even word
 abbrev missing : List Node
-missing = node 449 Reading Always 257 700 ∷ node 1 Free OnTrue 384 700 ∷ node 3 Free Always 448 700 ∷ []
+missing = node 449 Reading Always 257 700 ∷ node 1 Free OnTrue 384 700 ∷ node 3 Free
+    Always 448 700 ∷ []
 
 pub no_token : GetsNone missing 384
 unfolding deepest
@@ -36,7 +43,8 @@ no_token = (false ∷ false ∷ false ∷ [], record { size = refl; bits = refl 
 
 -- an instruction that names one spot twice, and never fires: no spot gets two
 abbrev twin : List Node
-twin = node 0 Nothing Always 257 700 ∷ node 1 Free OnTrue 384 384 ∷ node 2 Free Always 384 700 ∷ node 3 Free Always 448 700 ∷ []
+twin = node 0 Nothing Always 257 700 ∷ node 1 Free OnTrue 384 384 ∷ node 2 Free
+    Always 384 700 ∷ node 3 Free Always 448 700 ∷ []
 
 pub twin_cases : cases twin ≡ 2
 unfolding deepest

@@ -27,7 +27,8 @@ NoTwo ns = (q : ℕ) → q < 448 → GetsTwo ns q → ⊥
 abbrev pub NoGap : List Node → (ℕ → Bool) → Type 0
 NoGap ns wanted = (q : ℕ) → q < 448 → wanted q ≡ true → GetsNone ns q → ⊥
 
--- no fault of the third to the eighth kind, where `wanted` says which writes and numbers are declared
+-- no fault of the third to the eighth kind, where `wanted` says which writes and numbers are
+-- declared
 pub record Good (ns : List Node) (wanted : ℕ → Bool) : Type 0 where
   pub acyclic : HasCycle ns → ⊥
   pub few : cases ns ≤ 256

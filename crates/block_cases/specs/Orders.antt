@@ -1,5 +1,7 @@
 -- The faults of a target and of a number, which hang on no case.
-use Rattle.std.specs.Prelude.{◌≡◌, ℕ, ◌<◌, Bool, true, false, ◌==◌, ◌&&◌, ◌||◌, nat_lt, List, [], ◌∷◌, take, length, Option, Some, None, slice_get, slice_index, slice_index_or}
+use Rattle.std.specs.Prelude.{◌≡◌, ℕ, ◌<◌, Bool, true, false, ◌==◌, ◌&&◌, ◌||◌, nat_lt, List, []}
+use Rattle.std.specs.Prelude.{◌∷◌, take, length, Option, Some, None, slice_get, slice_index}
+use Rattle.std.specs.Prelude.{slice_index_or}
 use Rattle.trips_isa.specs.declared.block.Sense.{Sense}
 use Rattle.trips_isa.specs.declared.block.Sense.TheVariants.{Always}
 use Rattle.trips_isa.specs.declared.block.Spot.{Spot}
@@ -8,7 +10,8 @@ use Rattle.trips_isa.specs.declared.block.Inst.{Inst}
 use Rattle.trips_isa.specs.declared.block.ReadSlot.{ReadSlot}
 use Rattle.trips_isa.specs.declared.block.Block.{Block}
 use Rattle.block_cases.specs.Cases.{no}
-use Rattle.block_cases.specs.Blocks.{form_of, role_of, takes_left, takes_right, is_store, is_load, in_mask}
+use Rattle.block_cases.specs.Blocks.{form_of, role_of, takes_left, takes_right, is_store, is_load}
+use Rattle.block_cases.specs.Blocks.{in_mask}
 
 abbrev pub is_guarded : Sense → Bool
 is_guarded Always = false
@@ -66,7 +69,9 @@ has_load (i ∷ is) n = loads i n || has_load is n
 abbrev pub bad_slot_number : Block → ℕ → Option Inst → Bool
 bad_slot_number b j None = false
 bad_slot_number b j (Some i) =
-    (is_store (form_of i.op) && no (in_mask b.mask i.number)) || (is_load (form_of i.op) && (in_mask b.mask i.number || has_load (take j b.insts.items) i.number))
+    (is_store (form_of i.op) && no (in_mask b.mask i.number)) ||
+    (is_load (form_of i.op) && (in_mask b.mask i.number || has_load
+    (take j b.insts.items) i.number))
 
 abbrev pub bad_number : Block → ℕ → Bool
 bad_number b j = bad_slot_number b j (slot_of b j)

@@ -1,4 +1,5 @@
--- What a case keeps of a token: whether it is there, whether it is null, and the low bit of its word.
+-- What a case keeps of a token: whether it is there, whether it is null, and the low bit of its
+-- word.
 use Rattle.std.specs.Prelude.{Some, None}
 use Rattle.trips_isa.specs.declared.block.Token.TheVariants.{Null as NullToken, Word}
 use Rattle.trips_isa.specs.Rule.{Answer, low}

@@ -72,7 +72,8 @@ pub or_rest : (a b : Bool) → (a || b) ≡ true → a ≡ false → b ≡ true
 or_rest true b e h = absurd (cc)
 or_rest false b e h = e
 
-pub agree_at : (r : ℕ → Bool) (c l : List Bool) → length c ≡ length l → agree r c l ≡ true → (y : ℕ) →
+pub agree_at : (r : ℕ → Bool) (c l : List Bool) → length c ≡ length l → agree r c l ≡ true
+    → (y : ℕ) →
     r y ≡ false → bit c y ≡ bit l y
 agree_at r [] [] s e y h = refl
 agree_at r [] (v ∷ vs) s e y h = absurd (cc)

@@ -8,7 +8,8 @@ use Rattle.c_tree.specs.declared.Kind.TheVariants.{Char, UChar, Int, UInt, Long,
 use Rattle.c_constant.specs.Kinds.{in_kind, is_signed}
 
 -- no signed type holds a number from 2^63 on
-pub beyond : (k : Kind) (n : ℕ) → IsTrue (is_signed k) → 9223372036854775807 < n → in_kind k (pos n) ≡ None
+pub beyond : (k : Kind) (n : ℕ) → IsTrue (is_signed k) → 9223372036854775807 < n
+    → in_kind k (pos n) ≡ None
 beyond Char n s h = grind (arith, common_steps)
 beyond UChar n s h = cc
 beyond Int n s h = grind (arith, common_steps)

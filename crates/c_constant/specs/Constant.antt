@@ -6,10 +6,13 @@ use Rattle.c_tree.specs.declared.tree.UnaryOp.{UnaryOp}
 use Rattle.c_tree.specs.declared.tree.BinaryOp.{BinaryOp}
 use Rattle.c_tree.specs.declared.tree.BinaryOp.TheVariants.{LogicalOr, LogicalAnd}
 use Rattle.c_tree.specs.declared.tree.Expr.{Expr, Expr-F, fold-Expr}
-use Rattle.c_tree.specs.declared.tree.ExprNode.TheOpen.{ExprNode-F, Number, Name, Element, Call, Group, Unary, Cast, Bump, Binary, Choice, Assign, Comma}
+use Rattle.c_tree.specs.declared.tree.ExprNode.TheOpen.{ExprNode-F, Number, Name, Element, Call}
+use Rattle.c_tree.specs.declared.tree.ExprNode.TheOpen.{Group, Unary, Cast, Bump, Binary, Choice}
+use Rattle.c_tree.specs.declared.tree.ExprNode.TheOpen.{Assign, Comma}
 use Rattle.c_constant.specs.declared.constants.Constant.{Constant}
 use Rattle.c_constant.specs.Kinds.{common, converted}
-use Rattle.c_constant.specs.Operation.{operate, operate_one, left_at, right_at, unary_at, result_of, unary_result}
+use Rattle.c_constant.specs.Operation.{operate, operate_one, left_at, right_at, unary_at, result_of}
+use Rattle.c_constant.specs.Operation.{unary_result}
 
 abbrev pub given : Kind → Option ℕ → Constant
 given k v = record { kind = k; value = v }

@@ -1,5 +1,6 @@
 -- The six integer types, their words and their conversions (C17 6.2.5, 6.2.6.2, 6.3.1).
-use Rattle.std.specs.Prelude.{ℕ, ◌+◌, ◌-◌, ◌%◌, ℤ, pos, negsuc, Bool, true, false, cond, nat_lt, int_le, ◌&&◌, Option, Some, None}
+use Rattle.std.specs.Prelude.{ℕ, ◌+◌, ◌-◌, ◌%◌, ℤ, pos, negsuc, Bool, true, false, cond, nat_lt}
+use Rattle.std.specs.Prelude.{int_le, ◌&&◌, Option, Some, None}
 use Rattle.std.specs.Int.{w64, cast_signed, cast_unsigned}
 use Rattle.c_tree.specs.declared.Kind.{Kind}
 use Rattle.c_tree.specs.declared.Kind.TheVariants.{Char, UChar, Int, UInt, Long, ULong}

@@ -2,7 +2,9 @@
 use Rattle.std.specs.Prelude.{ℕ, ◌+◌, max, min, Bool, nat_le, List, [], ◌∷◌, Option, Some, None}
 use Rattle.c_constant.specs.declared.needs.Need.{Need}
 use Rattle.c_tree.specs.declared.tree.Expr.{Expr, Expr-F, fold-Expr}
-use Rattle.c_tree.specs.declared.tree.ExprNode.TheOpen.{ExprNode-F, Number, Name, Element, Call, Group, Unary, Cast, Bump, Binary, Choice, Assign, Comma}
+use Rattle.c_tree.specs.declared.tree.ExprNode.TheOpen.{ExprNode-F, Number, Name, Element, Call}
+use Rattle.c_tree.specs.declared.tree.ExprNode.TheOpen.{Group, Unary, Cast, Bump, Binary, Choice}
+use Rattle.c_tree.specs.declared.tree.ExprNode.TheOpen.{Assign, Comma}
 
 -- the need of an expression, and of its index where it is an element, in any groups
 pub record Needs : Type 0 where

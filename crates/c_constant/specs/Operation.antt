@@ -1,12 +1,18 @@
--- What an operation gives, over whole numbers without bound, or none where it is undefined (C17 6.5).
-use Rattle.std.specs.Prelude.{ℕ, ◌*◌, ℤ, pos, negsuc, ◌^◌, ◌+ℤ◌, ◌-ℤ◌, ◌*ℤ◌, Bool, false, cond, not, ◌&&◌, ◌||◌, nat_lt, nat_eq, int_lt, int_le, int_div, int_rem, bit_and, bit_or, bit_xor, Option, Some, None}
+-- What an operation gives, over whole numbers without bound, or none where it is undefined (C17
+-- 6.5).
+use Rattle.std.specs.Prelude.{ℕ, ◌*◌, ℤ, pos, negsuc, ◌^◌, ◌+ℤ◌, ◌-ℤ◌, ◌*ℤ◌, Bool, false, cond, not}
+use Rattle.std.specs.Prelude.{◌&&◌, ◌||◌, nat_lt, nat_eq, int_lt, int_le, int_div, int_rem, bit_and}
+use Rattle.std.specs.Prelude.{bit_or, bit_xor, Option, Some, None}
 use Rattle.std.specs.Int.{int_shr}
 use Rattle.c_tree.specs.declared.Kind.{Kind}
 use Rattle.c_tree.specs.declared.Kind.TheVariants.{Int}
 use Rattle.c_tree.specs.declared.UnaryOp.{UnaryOp}
 use Rattle.c_tree.specs.declared.UnaryOp.TheVariants.{Plus, Minus, Complement, Not}
 use Rattle.c_tree.specs.declared.BinaryOp.{BinaryOp}
-use Rattle.c_tree.specs.declared.BinaryOp.TheVariants.{LogicalOr, LogicalAnd, BitOr, BitXor, BitAnd, Equal, NotEqual, Less, Greater, LessEqual, GreaterEqual, ShiftLeft, ShiftRight, Add, Subtract, Multiply, Divide, Remainder}
+use Rattle.c_tree.specs.declared.BinaryOp.TheVariants.{LogicalOr, LogicalAnd, BitOr, BitXor, BitAnd}
+use Rattle.c_tree.specs.declared.BinaryOp.TheVariants.{Equal, NotEqual, Less, Greater, LessEqual}
+use Rattle.c_tree.specs.declared.BinaryOp.TheVariants.{GreaterEqual, ShiftLeft, ShiftRight, Add}
+use Rattle.c_tree.specs.declared.BinaryOp.TheVariants.{Subtract, Multiply, Divide, Remainder}
 use Rattle.c_constant.specs.Kinds.{width, number, word, word_of, in_kind, promoted, common}
 
 -- a test's answer, of type int

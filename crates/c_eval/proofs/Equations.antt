@@ -1,5 +1,6 @@
 -- The meaning without its depth: one equation for each task, and the law of more steps.
-use Rattle.std.proofs.Common.{◌≡◌, ℕ, zero, suc, ◌+◌, ◌*◌, ◌<◌, ◌≤◌, refl, sym, ap, ◌∙◌, arith, add-zero}
+use Rattle.std.proofs.Common.{◌≡◌, ℕ, zero, suc, ◌+◌, ◌*◌, ◌<◌, ◌≤◌, refl, sym, ap, ◌∙◌, arith}
+use Rattle.std.proofs.Common.{add-zero}
 use Rattle.c_tree.specs.declared.TypedExpr.{TypedExpr}
 use Rattle.c_tree.specs.declared.TypedStmt.{TypedStmt, out-TypedStmt}
 use Rattle.c_tree.specs.declared.TypedProgram.{TypedProgram}
@@ -40,13 +41,21 @@ abbrev NoneTaken : Parts → Type 0
 NoneTaken rec = (t : Task) (s : State) → Puts s.output s.stock (rec t s)
 
 -- one task, from what is known of its parts
-grown_by : (P : TypedProgram) (d : ℕ) (rec rec' : Parts) (t : Task) (s : State) → Below d s.stock rec rec' → NoneTaken rec' → ((e : TypedExpr) → Grew d s.stock (rec (Of e) s) (rec' (Of e) (more d s))) → ((st : TypedStmt) → Grew d s.stock (rec (Run st) s) (rec' (Run st) (more d s))) → Grew d s.stock (perform rec P t s) (perform rec' P t (more d s))
-grown_by P d rec rec' (Of e) s b p he hs = g-expression d s.stock rec rec' b p P (node_of e) s (omega arith)
-grown_by P d rec rec' (Run st) s b p he hs = g-statement d s.stock rec rec' b p (out-TypedStmt st) s (omega arith)
-grown_by P d rec rec' (Turn test post body) s b p he hs = g-turn d s.stock rec rec' b p test post body s he hs
+grown_by : (P : TypedProgram) (d : ℕ) (rec rec' : Parts) (t : Task) (s : State)
+    → Below d s.stock rec rec' → NoneTaken rec'
+    → ((e : TypedExpr) → Grew d s.stock (rec (Of e) s) (rec' (Of e) (more d s)))
+    → ((st : TypedStmt) → Grew d s.stock (rec (Run st) s) (rec' (Run st) (more d s)))
+    → Grew d s.stock (perform rec P t s) (perform rec' P t (more d s))
+grown_by P d rec rec' (Of e) s b p he hs =
+    g-expression d s.stock rec rec' b p P (node_of e) s (omega arith)
+grown_by P d rec rec' (Run st) s b p he hs =
+    g-statement d s.stock rec rec' b p (out-TypedStmt st) s (omega arith)
+grown_by P d rec rec' (Turn test post body) s b p he hs =
+    g-turn d s.stock rec rec' b p test post body s he hs
 
 -- a depth that is enough gives the same, with more steps too
-pub grown : (P : TypedProgram) (d k k' : ℕ) (t : Task) (s : State) → weight t s.stock ≤ k → weight t (s.stock + d) ≤ k' → Grew d s.stock (evaluated k P t s) (evaluated k' P t (more d s))
+pub grown : (P : TypedProgram) (d k k' : ℕ) (t : Task) (s : State) → weight t s.stock ≤ k
+    → weight t (s.stock + d) ≤ k' → Grew d s.stock (evaluated k P t s) (evaluated k' P t (more d s))
 unfolding evaluated
 grown P d zero k' t s h h' = let w = weight-some t s.stock in absurd (omega arith)
 grown P d (suc k) zero t s h h' = let w = weight-some t (s.stock + d) in absurd (omega arith)
@@ -78,13 +87,16 @@ same_result n (Over Undefined s) r' g = g.grows ∙ ap (Over Undefined) (more-ze
 same_result n (Over Deep s) r' g = g.grows ∙ ap (Over Deep) (more-zero s)
 
 -- more steps: the law for every task
-pub meaning-more : (P : TypedProgram) (d : ℕ) (t : Task) (s : State) → Grew d s.stock (meaning P t s) (meaning P t (more d s))
+pub meaning-more : (P : TypedProgram) (d : ℕ) (t : Task) (s : State)
+    → Grew d s.stock (meaning P t s) (meaning P t (more d s))
 unfolding meaning
 meaning-more P d t s = let a = weight-le t s.stock in let b = weight-le t (s.stock + d) in
     grown P d (enough s.stock) (enough (s.stock + d)) t s a b
 
--- What a task means, by what its parts mean: all that a proof over evaluations needs to know of `meaning`.
-pub meaning-is : (P : TypedProgram) (t : Task) (s : State) → meaning P t s ≡ perform (meaning P) P t s
+-- What a task means, by what its parts mean: all that a proof over evaluations needs to know of
+-- `meaning`.
+pub meaning-is : (P : TypedProgram) (t : Task) (s : State)
+    → meaning P t s ≡ perform (meaning P) P t s
 unfolding meaning evaluated
 meaning-is P t s =
     let k : ℕ = 2 * s.stock + 1 in
@@ -93,7 +105,8 @@ meaning-is P t s =
     let g : Grew 0 s.stock (perform (evaluated k P) P t s) (perform (meaning P) P t (more 0 s)) =
     grown_by P 0 (evaluated k P) (meaning P) t s
     (λ t u lt. let a = weight-le t u.stock in let b = weight-le t (u.stock + 0) in
-    weaker 0 u.stock s.stock _ _ (omega arith) (grown P 0 k (enough (u.stock + 0)) t u (omega arith) b))
+    weaker 0 u.stock s.stock _ _ (omega arith)
+    (grown P 0 k (enough (u.stock + 0)) t u (omega arith) b))
     (p-meaning P)
     (λ x. grown P 0 k (enough (s.stock + 0)) (Of x) s (omega arith) (omega arith))
     (λ x. grown P 0 k (enough (s.stock + 0)) (Run x) s (omega arith) (omega arith)) in

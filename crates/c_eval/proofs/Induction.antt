@@ -9,7 +9,8 @@ use Rattle.c_eval.proofs.Grows.{more, Grew}
 use Rattle.c_eval.proofs.Equations.{weight, weight-some, meaning-more}
 
 -- a part that goes on has spent a step
-pub meaning-falls : (P : TypedProgram) (t : Task) (s : State) (v : Signal) (s' : State) → meaning P t s ≡ Go v s' → s'.stock < s.stock
+pub meaning-falls : (P : TypedProgram) (t : Task) (s : State) (v : Signal) (s' : State)
+    → meaning P t s ≡ Go v s' → s'.stock < s.stock
 meaning-falls P t s v s' e =
     let h : Grew 0 s.stock (Go v s') (meaning P t (more 0 s)) =
     subst (λ (r : Result). Grew 0 s.stock r (meaning P t (more 0 s))) e (meaning-more P 0 t s) in

@@ -1,5 +1,7 @@
 -- Calls: their arguments, their frames, and what they give.
-use Rattle.std.specs.Prelude.{ℕ, ◌+◌, ◌-◌, ◌*◌, ◌/◌, ◌%◌, ◌^◌, Bool, cond, nat_eq, nat_le, List, [], ◌∷◌, ◌++◌, map, Option, Some, None, slice_get, length, take, replicate}
+use Rattle.std.specs.Prelude.{ℕ, ◌+◌, ◌-◌, ◌*◌, ◌/◌, ◌%◌, ◌^◌, Bool, cond, nat_eq, nat_le, List, []}
+use Rattle.std.specs.Prelude.{◌∷◌, ◌++◌, map, Option, Some, None, slice_get, length, take}
+use Rattle.std.specs.Prelude.{replicate}
 use Rattle.c_tree.specs.declared.Kind.{Kind}
 use Rattle.c_tree.specs.declared.Kind.TheVariants.{Char, UChar, Int, UInt, Long, ULong}
 use Rattle.c_tree.specs.declared.Callee.{Callee}
@@ -49,7 +51,8 @@ entered f done s = record s {
   room = s.room + frame f;
 }
 
--- a call gives the value that is returned, if there is one; a function that falls off its end gives none
+-- a call gives the value that is returned, if there is one; a function that falls off its end gives
+-- none
 abbrev pub returned : Signal → State → Result
 returned (Returns (Some w)) s = Go (Value w) s
 returned (Returns None) s = Go Nothing s
@@ -59,7 +62,12 @@ returned _ s = Over Undefined s
 -- the caller's state again: its scalars, the count of arrays, its base and its room
 abbrev pub left : List (Option ℕ) → ℕ → ℕ → ℕ → Signal → State → Result
 left scalars count base room v s =
-    returned v (record s { scalars = scalars; arrays = take count s.arrays; base = base; room = room })
+    returned v (record s {
+      scalars = scalars;
+      arrays = take count s.arrays;
+      base = base;
+      room = room;
+    })
 
 abbrev pub entered_if : Parts → Bool → TypedFunc → List ℕ → State → Result
 entered_if rec fits f done s =

@@ -1,5 +1,6 @@
 -- The evaluation of a program on an input with a stock of steps.
-use Rattle.std.specs.Prelude.{ℕ, zero, suc, ℤ, ◌+◌, ◌-◌, ◌*◌, List, [], ◌++◌, map, Option, Some, None, length, replicate}
+use Rattle.std.specs.Prelude.{ℕ, zero, suc, ℤ, ◌+◌, ◌-◌, ◌*◌, List, [], ◌++◌, map, Option, Some}
+use Rattle.std.specs.Prelude.{None, length, replicate}
 use Rattle.c_tree.specs.declared.Kind.TheVariants.{Int}
 use Rattle.c_tree.specs.declared.Callee.TheVariants.{Func}
 use Rattle.c_tree.specs.declared.TypedGlobal.{TypedGlobal}
@@ -22,8 +23,9 @@ perform rec P (Of e) s = expression rec P (node_of e) s
 perform rec P (Run st) s = statement rec (out-TypedStmt st) s
 perform rec P (Turn test post body) s = turn rec test post body s
 
--- Evaluation to a depth of k parts. Each part but a loop's turn spends a step before its own, so 2 n + 2 is enough
--- for n steps; no more of the depth is seen by the law `meaning P t s ≡ perform (meaning P) P t s`.
+-- Evaluation to a depth of k parts. Each part but a loop's turn spends a step before its own, so 2
+-- n + 2 is enough for n steps; no more of the depth is seen by the law `meaning P t s ≡ perform
+-- (meaning P) P t s`.
 unfoldable pub evaluated : ℕ → TypedProgram → Task → State → Result
 evaluated zero P t s = Over More s
 evaluated (suc k) P t s = perform (evaluated k P) P t s

@@ -8,15 +8,19 @@ use Rattle.c_tree.specs.declared.BumpOp.{BumpOp}
 use Rattle.c_tree.specs.declared.Place.{Place}
 use Rattle.c_tree.specs.declared.TypedExpr.{TypedExpr}
 use Rattle.c_tree.specs.declared.TypedNode.{TypedNode, out-TypedNode}
-use Rattle.c_tree.specs.declared.TypedNode.TheOpen.{TypedNode-F, Number, Name, Element, Call, Unary, Cast, Convert, Bump, Binary, Choice, Assign, Comma}
+use Rattle.c_tree.specs.declared.TypedNode.TheOpen.{TypedNode-F, Number, Name, Element, Call, Unary}
+use Rattle.c_tree.specs.declared.TypedNode.TheOpen.{Cast, Convert, Bump, Binary, Choice, Assign}
+use Rattle.c_tree.specs.declared.TypedNode.TheOpen.{Comma}
 use Rattle.c_tree.specs.declared.TypedProgram.{TypedProgram}
 use Rattle.c_eval.specs.declared.signal.Signal.{Signal}
 use Rattle.c_eval.specs.declared.signal.Signal.TheVariants.{Value}
 use Rattle.c_eval.specs.declared.signal.Ending.TheVariants.{Undefined}
 use Rattle.c_eval.specs.declared.signal.Object.{Object}
-use Rattle.c_eval.specs.State.{State, Result, Go, Over, then, spend, want, with_some, given, cell, held, store}
+use Rattle.c_eval.specs.State.{State, Result, Go, Over, then, spend, want, with_some, given, cell}
+use Rattle.c_eval.specs.State.{held, store}
 use Rattle.c_constant.specs.Kinds.{converted}
-use Rattle.c_eval.specs.Word.{is_false, truth_of, binary_of, unary_of, compound_of, bump_of, bump_value}
+use Rattle.c_eval.specs.Word.{is_false, truth_of, binary_of, unary_of, compound_of, bump_of}
+use Rattle.c_eval.specs.Word.{bump_value}
 use Rattle.c_eval.specs.Task.{Parts, Of, element_of, scalar_of, name, element}
 use Rattle.c_eval.specs.Call.{arguments}
 
@@ -46,10 +50,12 @@ truth v s = want v s (λ w. Go (Value (truth_of w)) s)
 
 -- the right side of && and || is evaluated only where the left one does not tell
 abbrev pub after_and : Parts → TypedExpr → Signal → State → Result
-after_and rec right v s = want v s (λ w. cond (is_false w) (Go (Value 0) s) (then (rec (Of right) s) truth))
+after_and rec right v s = want v s (λ w. cond (is_false w) (Go (Value 0) s)
+    (then (rec (Of right) s) truth))
 
 abbrev pub after_or : Parts → TypedExpr → Signal → State → Result
-after_or rec right v s = want v s (λ w. cond (is_false w) (then (rec (Of right) s) truth) (Go (Value 1) s))
+after_or rec right v s = want v s (λ w. cond (is_false w) (then (rec (Of right) s) truth)
+    (Go (Value 1) s))
 
 abbrev pub binary : Parts → BinaryOp → TypedExpr → TypedExpr → State → Result
 binary rec LogicalAnd left right s = then (rec (Of left) s) (after_and rec right)
@@ -62,7 +68,8 @@ valued v s = want v s (λ w. Go (Value w) s)
 
 abbrev pub after_choice : Parts → TypedExpr → TypedExpr → Signal → State → Result
 after_choice rec one other v s =
-    want v s (λ w. cond (is_false w) (then (rec (Of other) s) valued) (then (rec (Of one) s) valued))
+    want v s (λ w. cond (is_false w) (then (rec (Of other) s) valued)
+    (then (rec (Of one) s) valued))
 
 abbrev pub after_comma : Parts → TypedExpr → Signal → State → Result
 after_comma rec right v s = then (rec (Of right) s) valued
@@ -73,22 +80,26 @@ abbrev pub assigned : Object → Signal → State → Result
 assigned x v s = want v s (λ w. store s x w)
 
 abbrev pub compounded : BinaryOp → Option Kind → Kind → Object → ℕ → Signal → State → Result
-compounded op to at x old v s = want v s (λ b. with_some (compound_of op to at old b) s (λ w. store s x w))
+compounded op to at x old v s = want v s (λ b. with_some (compound_of op to at old b) s
+    (λ w. store s x w))
 
 -- a compound assignment reads the old value before the right side is evaluated
-abbrev pub assign_to : Parts → Option BinaryOp → Option Kind → Kind → TypedExpr → State → Object → Result
+abbrev pub assign_to : Parts → Option BinaryOp → Option Kind → Kind → TypedExpr → State → Object
+    → Result
 assign_to rec None to at right s x = then (rec (Of right) s) (assigned x)
 assign_to rec (Some op) to at right s x =
     with_some (held (cell s x)) s (λ old. then (rec (Of right) s) (compounded op to at x old))
 
-abbrev pub assign_element : Parts → Option BinaryOp → Option Kind → Kind → Place → TypedExpr → Signal → State → Result
+abbrev pub assign_element : Parts → Option BinaryOp → Option Kind → Kind → Place → TypedExpr
+    → Signal → State → Result
 assign_element rec op to at p right v s =
     want v s (λ w. with_some (element_of p w s) s (assign_to rec op to at right s))
 
 -- of the left side only an index is evaluated
 abbrev pub assign : Parts → Option BinaryOp → Option Kind → Kind → Node → TypedExpr → State → Result
 assign rec op to at (Name p) right s = with_some (scalar_of p) s (assign_to rec op to at right s)
-assign rec op to at (Element p index) right s = then (rec (Of index) s) (assign_element rec op to at p right)
+assign rec op to at (Element p index) right s =
+    then (rec (Of index) s) (assign_element rec op to at p right)
 assign rec op to at _ right s = Over Undefined s
 
 abbrev pub giving : ℕ → Signal → State → Result

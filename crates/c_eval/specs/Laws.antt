@@ -21,14 +21,16 @@ output_in (Done out result steps) = out
 -- a result other than More stays with more steps
 abbrev pub StaysWithMoreSteps : Type 0
 StaysWithMoreSteps =
-    (P : TypedProgram) (input : List ℕ) (n d : ℕ) → ¬ IsMore (eval P input n) → eval P input (n + d) ≡ eval P input n
+    (P : TypedProgram) (input : List ℕ) (n d : ℕ) → ¬ IsMore (eval P input n)
+    → eval P input (n + d) ≡ eval P input n
 
 -- the steps of Done are the least stock that gives it
 abbrev pub StepsAreLeast : Type 0
 StepsAreLeast =
     (P : TypedProgram) (input : List ℕ) (n : ℕ) (out : List ℕ) (result : ℤ) (steps : ℕ)
     → eval P input n ≡ Done out result steps
-    → (steps ≤ n) × (eval P input steps ≡ Done out result steps) × ((k : ℕ) → k < steps → IsMore (eval P input k))
+    → (steps ≤ n) × (eval P input steps ≡ Done out result steps)
+    × ((k : ℕ) → k < steps → IsMore (eval P input k))
 
 -- the output so far goes on with more steps
 abbrev pub OutputGoesOn : Type 0

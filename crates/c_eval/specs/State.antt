@@ -7,9 +7,10 @@ use Rattle.c_eval.specs.declared.signal.Ending.TheVariants.{More, Undefined}
 use Rattle.c_eval.specs.declared.signal.Object.{Object}
 use Rattle.c_eval.specs.declared.signal.Object.TheVariants.{InScalar, InArray}
 
--- A value is held as its word: the number modulo 2^64. What is not set is none. Arrays are numbered: the
--- globals come first, a global scalar being an array of length 1, and then the arrays of each active function.
--- The scalar of an array parameter holds the number of the array that it stands for.
+-- A value is held as its word: the number modulo 2^64. What is not set is none. Arrays are
+-- numbered: the globals come first, a global scalar being an array of length 1, and then the arrays
+-- of each active function. The scalar of an array parameter holds the number of the array that it
+-- stands for.
 pub record State : Type 0 where
   -- the steps that are left
   pub stock : ℕ

@@ -1,11 +1,14 @@
 -- Statements: each spends a step, and control goes on, or leaves a loop or the function.
-use Rattle.std.specs.Prelude.{ℕ, ◌+◌, cond, List, [], ◌∷◌, Option, Some, None, slice_get, slice_set, length, replicate}
+use Rattle.std.specs.Prelude.{ℕ, ◌+◌, cond, List, [], ◌∷◌, Option, Some, None, slice_get, slice_set}
+use Rattle.std.specs.Prelude.{length, replicate}
 use Rattle.c_tree.specs.declared.Place.{Place}
 use Rattle.c_tree.specs.declared.Place.TheVariants.{Scalar, Array}
 use Rattle.c_tree.specs.declared.TypedExpr.{TypedExpr}
 use Rattle.c_tree.specs.declared.TypedStmt.{TypedStmt}
 use Rattle.c_tree.specs.declared.TypedForInit.{TypedForInit, out-TypedForInit}
-use Rattle.c_tree.specs.declared.TypedForInit.TheOpen.{TypedStmt-F, Declare, Plain, Compound, If, While, Do, For, Break, Continue, Return, TypedForInit-F}
+use Rattle.c_tree.specs.declared.TypedForInit.TheOpen.{TypedStmt-F, Declare, Plain, Compound, If}
+use Rattle.c_tree.specs.declared.TypedForInit.TheOpen.{While, Do, For, Break, Continue, Return}
+use Rattle.c_tree.specs.declared.TypedForInit.TheOpen.{TypedForInit-F}
 use Rattle.c_tree.specs.declared.TypedForInit.TheOpen as init
 use Rattle.c_eval.specs.declared.signal.Signal.{Signal}
 use Rattle.c_eval.specs.declared.signal.Signal.TheVariants.{Nothing, Breaks, Continues, Returns}
@@ -47,7 +50,10 @@ unset rec i (Some e) (Some c) s = then (rec (Of e) (written s (InScalar i) None)
 
 abbrev pub unset_row : ℕ → Option (List (Option ℕ)) → State → Result
 unset_row a None s = Over Undefined s
-unset_row a (Some row) s = Go Nothing (record s { arrays = slice_set s.arrays a (replicate (length row) None) })
+unset_row a (Some row) s = Go Nothing (record s {
+  arrays = slice_set s.arrays a
+      (replicate (length row) None);
+})
 
 -- a local is unset each time its declaration is reached, before its initialiser
 abbrev pub declare : Parts → Place → Option TypedExpr → State → Result
@@ -62,15 +68,18 @@ run_if rec None s = Go Nothing s
 run_if rec (Some st) s = rec (Run st) s
 
 abbrev pub after_if : Parts → TypedStmt → Option TypedStmt → Signal → State → Result
-after_if rec one other v s = want v s (λ w. cond (is_false w) (run_if rec other s) (rec (Run one) s))
+after_if rec one other v s = want v s (λ w. cond (is_false w) (run_if rec other s)
+    (rec (Run one) s))
 
 -- an expression, if there is one, without its value, and then a loop's next turn
-abbrev pub then_turn : Parts → Option TypedExpr → Option TypedExpr → Option TypedExpr → TypedStmt → State → Result
+abbrev pub then_turn : Parts → Option TypedExpr → Option TypedExpr → Option TypedExpr → TypedStmt
+    → State → Result
 then_turn rec None test post body s = rec (Turn test post body) s
 then_turn rec (Some e) test post body s = then (rec (Of e) s) (λ v s. rec (Turn test post body) s)
 
 -- the declarations of a for, and then its first turn
-abbrev pub locals : Parts → List TypedStmt → Option TypedExpr → Option TypedExpr → TypedStmt → State → Result
+abbrev pub locals : Parts → List TypedStmt → Option TypedExpr → Option TypedExpr → TypedStmt → State
+    → Result
 locals rec [] test post body s = rec (Turn test post body) s
 locals rec (st ∷ rest) test post body s =
     then (rec (Run st) s) (λ v s. going_on v s (locals rec rest test post body))
@@ -80,15 +89,18 @@ begin rec init.Nothing test post body s = rec (Turn test post body) s
 begin rec (init.First e) test post body s = then_turn rec (Some e) test post body s
 begin rec (init.Locals all) test post body s = locals rec all test post body s
 
-abbrev pub after_body : Parts → Option TypedExpr → Option TypedExpr → TypedStmt → Signal → State → Result
+abbrev pub after_body : Parts → Option TypedExpr → Option TypedExpr → TypedStmt → Signal → State
+    → Result
 after_body rec test post body Nothing s = then_turn rec post test post body s
 after_body rec test post body Continues s = then_turn rec post test post body s
 after_body rec test post body Breaks s = Go Nothing s
 after_body rec test post body v s = Go v s
 
-abbrev pub after_test : Parts → Option TypedExpr → Option TypedExpr → TypedStmt → Signal → State → Result
+abbrev pub after_test : Parts → Option TypedExpr → Option TypedExpr → TypedStmt → Signal → State
+    → Result
 after_test rec test post body v s =
-    want v s (λ w. cond (is_false w) (Go Nothing s) (then (rec (Run body) s) (after_body rec test post body)))
+    want v s (λ w. cond (is_false w) (Go Nothing s)
+    (then (rec (Run body) s) (after_body rec test post body)))
 
 -- a loop without a test has no other end than its body
 abbrev pub turn : Parts → Option TypedExpr → Option TypedExpr → TypedStmt → State → Result

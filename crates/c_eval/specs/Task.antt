@@ -32,7 +32,8 @@ abbrev pub element_in : Option ℕ → ℕ → Option Object
 element_in None w = None
 element_in (Some a) w = Some (InArray a w)
 
--- an element by the word of its index; that it is outside its array is met where it is read or stored
+-- an element by the word of its index; that it is outside its array is met where it is read or
+-- stored
 abbrev pub element_of : Place → ℕ → State → Option Object
 element_of p w s = element_in (array_of p s) w
 
@@ -52,7 +53,8 @@ is_array (Some g) = has_length g.length
 
 -- the value of a name; an array's is its number
 abbrev pub name : TypedProgram → Place → State → Result
-name P (Global g) s = cond (is_array (slice_get P.globals g)) (Go (Value g) s) (load (InArray g 0) s)
+name P (Global g) s = cond (is_array (slice_get P.globals g)) (Go (Value g) s)
+    (load (InArray g 0) s)
 name P (Scalar i) s = load (InScalar i) s
 name P (Array a) s = Go (Value (s.base + a)) s
 

@@ -16,8 +16,9 @@ is_false w = nat_eq w 0
 abbrev pub truth_of : ℕ → ℕ
 truth_of w = cond (is_false w) 0 1
 
--- An operation is done at the kind of its left operand: typing gives both operands that kind, but for the count of
--- a shift, and a count below the width is the same number at each kind. A void call has no kind.
+-- An operation is done at the kind of its left operand: typing gives both operands that kind, but
+-- for the count of a shift, and a count below the width is the same number at each kind. A void
+-- call has no kind.
 abbrev pub binary_of : BinaryOp → Option Kind → ℕ → ℕ → Option ℕ
 binary_of op None a b = None
 binary_of op (Some k) a b = operate op k a b
@@ -46,7 +47,8 @@ abbrev pub bump_of : BumpOp → Option Kind → ℕ → Option ℕ
 bump_of op None old = None
 bump_of op (Some k) old = converted_if k (operate (bump_operation op) (promoted k) old 1)
 
--- and give the new value where they stand before their operand, and the old one where they stand after it
+-- and give the new value where they stand before their operand, and the old one where they stand
+-- after it
 abbrev pub bump_value : BumpOp → ℕ → ℕ → ℕ
 bump_value PreInc old new = new
 bump_value PreDec old new = new

@@ -1,17 +1,21 @@
 -- Lists of tokens that agree up to a token, and where an outcome of the model lands on them.
-use Rattle.std.proofs.Common.{◌≡◌, ℕ, ◌≤◌, Bool, true, false, cond, ◌||◌, leb, [], ◌∷◌, ◌++◌, length, Ok, Err, refl, sym, ap, ◌∙◌, append_assoc, arith, length-append}
+use Rattle.std.proofs.Common.{◌≡◌, ℕ, ◌≤◌, Bool, true, false, cond, ◌||◌, leb, [], ◌∷◌, ◌++◌}
+use Rattle.std.proofs.Common.{length, Ok, Err, refl, sym, ap, ◌∙◌, append_assoc, arith}
+use Rattle.std.proofs.Common.{length-append}
 use Rattle.std.proofs.lemmas.Bool.{le-leb, false≢true}
 use Rattle.c_tree.specs.declared.token.Lexeme.{Lexeme}
 use Rattle.c_tree.specs.declared.token.Form.{Form}
 use Rattle.c_tree.specs.declared.token.Mark.{Mark}
 use Rattle.c_tree.specs.declared.token.Key.{Key}
 use Rattle.c_grammar.specs.Tokens.{Tokens, token, punct, word, May, within, before}
-use Rattle.c_grammar.specs.Parsing.{Stop, Out, and_then, too_deep, tail, line_of, first, is_next, is_word, expect}
+use Rattle.c_grammar.specs.Parsing.{Stop, Out, and_then, too_deep, tail, line_of, first, is_next}
+use Rattle.c_grammar.specs.Parsing.{is_word, expect}
 use Rattle.c_grammar.proofs.Numbers.{mark_is, key_is}
 
 -- ---- cases
 
-pub split_if : {A : Type 0} (P : A → Type 0) (b : Bool) (x y : A) → (b ≡ true → P x) → (b ≡ false → P y) → P (cond b x y)
+pub split_if : {A : Type 0} (P : A → Type 0) (b : Bool) (x y : A) → (b ≡ true → P x)
+    → (b ≡ false → P y) → P (cond b x y)
 split_if P true x y p q = p refl
 split_if P false x y p q = q refl
 
@@ -53,7 +57,8 @@ tail_short [] = omega arith
 tail_short (t ∷ ts) = omega arith
 
 -- two classes of forms that share none
-pub apart : (p q : Form → Bool) → ((f : Form) → p f ≡ true → q f ≡ true → ⊥) → (ts : Tokens) → first p ts ≡ true → first q ts ≡ false
+pub apart : (p q : Form → Bool) → ((f : Form) → p f ≡ true → q f ≡ true → ⊥) → (ts : Tokens)
+    → first p ts ≡ true → first q ts ≡ false
 apart p q h [] e = absurd (false≢true e)
 apart p q h (t ∷ ts) e = is_false (q t.form) (h t.form e)
 
@@ -70,9 +75,14 @@ pub one : (l : Lexeme) → Way (λ x. l ∷ x)
 one l = record { front = l ∷ []; law = λ x. refl }
 
 pub both : {p q : Tokens → Tokens} → Way p → Way q → Way (λ x. p (q x))
-both {p} a b = record { front = a.front ++ b.front; law = λ x. ap p (b.law x) ∙ a.law (b.front ++ x) ∙ sym (append_assoc a.front b.front x) }
+both {p} a b = record {
+  front = a.front ++ b.front;
+  law = λ x. ap p (b.law x) ∙ a.law (b.front ++ x)
+      ∙ sym (append_assoc a.front b.front x);
+}
 
-pub behind : (put : Tokens → Tokens) → Way put → (ts rest : Tokens) → ts ≡ put rest → length rest ≤ length ts
+pub behind : (put : Tokens → Tokens) → Way put → (ts rest : Tokens) → ts ≡ put rest
+    → length rest ≤ length ts
 behind put w ts rest e = omega (arith, ap length (e ∙ w.law rest), length-append w.front rest)
 
 abbrev pub Grows : (Tokens → Tokens) → Type 0
@@ -81,9 +91,11 @@ Grows f = (x : Tokens) → length x ≤ length (f x)
 -- the token that may not open a depth is kept
 abbrev pub Held : Bool → Tokens → (Tokens → Tokens) → Type 0
 Held false rest more = Unit {0}
-Held true rest more = (t : Lexeme) × (o : Tokens) × (more' : Tokens → Tokens) × (rest ≡ t ∷ o) × ((x : Tokens) → more x ≡ t ∷ more' x)
+Held true rest more = (t : Lexeme) × (o : Tokens) × (more' : Tokens → Tokens) × (rest ≡ t ∷ o)
+    × ((x : Tokens) → more x ≡ t ∷ more' x)
 
-pub held_after : (b : Bool) (rest : Tokens) (more after : Tokens → Tokens) → Held b rest more → Held b rest (λ x. more (after x))
+pub held_after : (b : Bool) (rest : Tokens) (more after : Tokens → Tokens) → Held b rest more
+    → Held b rest (λ x. more (after x))
 held_after false rest more after h = tt
 held_after true rest more after h = (h.0, h.1, λ x. h.2 (after x), h.3, λ x. h.4 (after x))
 
@@ -99,8 +111,10 @@ opens m tail' q d e = or_right (leb (length q) (length tail')) (leb d m) e
 abbrev pub Frees : Tokens → May → Type 0
 Frees rest may = (q : Tokens) (d : ℕ) → length q ≤ length rest → may q d ≡ true
 
-pub frees_after : (m : ℕ) (more : Tokens → Tokens) → Grows more → (u : Tokens) → Frees u (before m (more u))
-frees_after m more grow u q d le = or_left (leb (length q) (length (more u))) (leb d m) (le-leb _ _ (trans_le le (grow u)))
+pub frees_after : (m : ℕ) (more : Tokens → Tokens) → Grows more → (u : Tokens)
+    → Frees u (before m (more u))
+frees_after m more grow u q d le = or_left (leb (length q) (length (more u))) (leb d m)
+    (le-leb _ _ (trans_le le (grow u)))
 
 pub frees_all : (m : ℕ) (u : Tokens) → Frees u (before m u)
 frees_all m u = frees_after m (λ u. u) (λ u. omega arith) u
@@ -112,13 +126,15 @@ place (Ok p) = p.1
 place (Err s) = s.rest
 
 module _ (cut : Bool) (g g' : Tokens) where
-  -- The first list agrees with the second up to its end, or up to a last token, behind which stand g and g'.
+  -- The first list agrees with the second up to its end, or up to a last token, behind which stand
+  -- g and g'.
   pub data Tied : Tokens → Tokens → Type 0 where
     end : cut ≡ false → Tied [] []
     at_cut : (t : Lexeme) → cut ≡ true → Tied (t ∷ g) (t ∷ g')
     alike : (t : Lexeme) {ts ts' : Tokens} → Tied ts ts' → Tied (t ∷ ts) (t ∷ ts')
 
-  pub head_step : (P : Tokens → Type 0) {x : Lexeme} {r' ts : Tokens} → Tied ts (x ∷ r') → ((r : Tokens) → Tied r r' → P (x ∷ r)) → (cut ≡ true → P (x ∷ g)) → P ts
+  pub head_step : (P : Tokens → Type 0) {x : Lexeme} {r' ts : Tokens} → Tied ts (x ∷ r')
+      → ((r : Tokens) → Tied r r' → P (x ∷ r)) → (cut ≡ true → P (x ∷ g)) → P ts
   head_step P (at_cut t c) p q = q c
   head_step P (alike t x) p q = p _ x
 
@@ -140,29 +156,41 @@ module _ (cut : Bool) (g g' : Tokens) where
   abbrev pub Shorts : {A B : Type 0} → (A → Tokens → Out B) → Type 0
   Shorts {A} f = (a : A) (r : Tokens) → length r ≤ length g → Brief (f a r)
 
-  pub short_then : {A B : Type 0} (out : Out A) (f : A → Tokens → Out B) → Brief out → Shorts f → Brief (and_then out f)
+  pub short_then : {A B : Type 0} (out : Out A) (f : A → Tokens → Out B) → Brief out → Shorts f
+      → Brief (and_then out f)
   short_then (Ok p) f l h = h p.0 p.1 l.le
   short_then (Err s) f l h = failed l.le
 
   pub short_if : {A : Type 0} (b : Bool) (x y : Out A) → Brief x → Brief y → Brief (cond b x y)
   short_if b x y p q = split_if (λ o. Brief o) b x y (λ _. p) (λ _. q)
 
-  pub short_expect : {B : Type 0} (x : Mark) (ts : Tokens) (f : ℕ → Tokens → Out B) → length ts ≤ length g → Shorts f → Brief (and_then (expect x ts) f)
-  short_expect x ts f l h = short_then (expect x ts) f (short_if (is_next x ts) _ _ (fine (omega (arith, tail_short ts, l))) (failed l)) h
+  pub short_expect : {B : Type 0} (x : Mark) (ts : Tokens) (f : ℕ → Tokens → Out B)
+      → length ts ≤ length g → Shorts f → Brief (and_then (expect x ts) f)
+  short_expect x ts f l h = short_then (expect x ts) f
+      (short_if (is_next x ts) _ _ (fine (omega (arith, tail_short ts, l))) (failed l)) h
 
   module _ (may : May) (m : ℕ) where
     pub data Lands {A : Type 0} (out : Out A) (want : Tokens → Out A) (to' : Tokens) : Type 0 where
       good : (to : Tokens) → Tied to to' → out ≡ want to → Lands out want to'
       past : cut ≡ true → Brief out → Lands out want to'
-      deep : (q q' : Tokens) (d : ℕ) → Tied q q' → out ≡ too_deep q → may q' d ≡ true → leb d m ≡ false → Lands out want to'
+      deep : (q q' : Tokens) (d : ℕ) → Tied q q' → out ≡ too_deep q → may q' d ≡ true
+          → leb d m ≡ false → Lands out want to'
 
-    pub lands_by : {A : Type 0} {out out' : Out A} {want : Tokens → Out A} {to' : Tokens} → out ≡ out' → Lands out' want to' → Lands out want to'
+    pub lands_by : {A : Type 0} {out out' : Out A} {want : Tokens → Out A} {to' : Tokens}
+        → out ≡ out' → Lands out' want to' → Lands out want to'
     lands_by e (good to t e') = good to t (e ∙ e')
-    lands_by e (past c l) = past c (record { le = omega (arith, l.le, ap (λ o. length (place o)) e) })
+    lands_by e (past c l) = past c (record {
+      le = omega
+          (arith, l.le, ap (λ o. length (place o)) e);
+    })
     lands_by e (deep q q' d t e' y l) = deep q q' d t (e ∙ e') y l
 
-    pub bind_lands : {A B : Type 0} (a : A) (out : Out A) (f : A → Tokens → Out B) (want : Tokens → Out B) (mid' to' : Tokens) → Lands out (λ to. Ok (a, to)) mid' → Shorts f
-        → ((mid : Tokens) → Tied mid mid' → out ≡ Ok (a, mid) → Lands (f a mid) want to') → Lands (and_then out f) want to'
-    bind_lands a out f want mid' to' (good mid t e) s h = lands_by (ap (λ o. and_then o f) e) (h mid t e)
+    pub bind_lands : {A B : Type 0} (a : A) (out : Out A) (f : A → Tokens → Out B)
+        (want : Tokens → Out B) (mid' to' : Tokens) → Lands out (λ to. Ok (a, to)) mid' → Shorts f
+        → ((mid : Tokens) → Tied mid mid' → out ≡ Ok (a, mid) → Lands (f a mid) want to')
+        → Lands (and_then out f) want to'
+    bind_lands a out f want mid' to' (good mid t e) s h =
+        lands_by (ap (λ o. and_then o f) e) (h mid t e)
     bind_lands a out f want mid' to' (past c l) s h = past c (short_then out f l s)
-    bind_lands a out f want mid' to' (deep q q' d t e y l) s h = deep q q' d t (ap (λ o. and_then o f) e) y l
+    bind_lands a out f want mid' to' (deep q q' d t e y l) s h =
+        deep q q' d t (ap (λ o. and_then o f) e) y l

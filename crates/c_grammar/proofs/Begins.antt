@@ -1,5 +1,6 @@
 -- Facts on statements: what they begin with, how long they are.
-use Rattle.std.proofs.Common.{◌≡◌, ℕ, suc, ◌<◌, ◌≤◌, Bool, true, false, List, [], ◌∷◌, length, Option, Some, None, refl, sym, ap, ◌∙◌, arith}
+use Rattle.std.proofs.Common.{◌≡◌, ℕ, suc, ◌<◌, ◌≤◌, Bool, true, false, List, [], ◌∷◌, length}
+use Rattle.std.proofs.Common.{Option, Some, None, refl, sym, ap, ◌∙◌, arith}
 use Rattle.std.proofs.lemmas.Bool.{false≢true}
 use Rattle.c_tree.specs.declared.token.Lexeme.{Lexeme}
 use Rattle.c_tree.specs.declared.token.Form.{Form}
@@ -19,11 +20,17 @@ use Rattle.c_tree.specs.declared.tree.StmtNode.TheVariants as node
 use Rattle.c_grammar.specs.Tokens.{Tokens, token, punct, word, May}
 use Rattle.c_grammar.specs.Types.{Types}
 use Rattle.c_grammar.specs.Types as types
-use Rattle.c_grammar.specs.Operators.{Prefix, sign, increase, decrease, prefixed, prefix_mark, operand_level}
+use Rattle.c_grammar.specs.Operators.{Prefix, sign, increase, decrease, prefixed, prefix_mark}
+use Rattle.c_grammar.specs.Operators.{operand_level}
 use Rattle.c_grammar.specs.Operators as e
 use Rattle.c_grammar.specs.Expressions.{Spells, expr}
 use Rattle.c_grammar.specs.Expressions as x
-use Rattle.c_grammar.specs.Statements.{at, Phrase, Writes, semicolon, paren, until, shape, stmt, inner, entry, entries, locals, absent, given, tested, bare, value, array, last_decl, next_decl, declaration, inner_is, entry_stmt, entry_local, stop, go, compound, empty, plain, if_only, if_else, while, repeat, init_local, init_plain, for, break, continue, return}
+use Rattle.c_grammar.specs.Statements.{at, Phrase, Writes, semicolon, paren, until, shape, stmt}
+use Rattle.c_grammar.specs.Statements.{inner, entry, entries, locals, absent, given, tested, bare}
+use Rattle.c_grammar.specs.Statements.{value, array, last_decl, next_decl, declaration, inner_is}
+use Rattle.c_grammar.specs.Statements.{entry_stmt, entry_local, stop, go, compound, empty, plain}
+use Rattle.c_grammar.specs.Statements.{if_only, if_else, while, repeat, init_local, init_plain, for}
+use Rattle.c_grammar.specs.Statements.{break, continue, return}
 use Rattle.c_grammar.specs.Numbers.{is_mark, is_key}
 use Rattle.c_grammar.specs.Parsing.{first, is_next, is_word}
 use Rattle.c_grammar.specs.ModelTypes.{is_type, begins_type}
@@ -31,7 +38,8 @@ use Rattle.c_grammar.specs.ModelStatements.{begins_expression, begins_statement}
 use Rattle.c_grammar.proofs.Numbers.{mark_is, key_is}
 use Rattle.c_grammar.proofs.Agree.{apart, Grows, Frees}
 use Rattle.c_grammar.proofs.Types.{types_shorter, types_begin}
-use Rattle.c_grammar.proofs.Levels.{zero_token, zero_expr, shortest, level_starts, spells_shorter, starts_no_type}
+use Rattle.c_grammar.proofs.Levels.{zero_token, zero_expr, shortest, level_starts, spells_shorter}
+use Rattle.c_grammar.proofs.Levels.{starts_no_type}
 
 -- ---- first tokens
 
@@ -47,11 +55,13 @@ form_begins (form.Mark mark.PlusPlus) h = refl
 form_begins (form.Mark mark.MinusMinus) h = refl
 form_begins _ h = absurd (false≢true h)
 
-pub starts_begin : (ts : Tokens) → first begins_expression ts ≡ true → first begins_statement ts ≡ true
+pub starts_begin : (ts : Tokens) → first begins_expression ts ≡ true
+    → first begins_statement ts ≡ true
 starts_begin [] h = absurd (false≢true h)
 starts_begin (t ∷ ts) h = form_begins t.form h
 
-pub stmt_begins : {may : May} {b : Bool} {d : ℕ} {s : Stmt} {f t : Tokens} → Writes may (stmt b s) d f t → first begins_statement f ≡ true
+pub stmt_begins : {may : May} {b : Bool} {d : ℕ} {s : Stmt} {f t : Tokens}
+    → Writes may (stmt b s) d f t → first begins_statement f ≡ true
 stmt_begins (compound x) = refl
 stmt_begins empty = refl
 stmt_begins (plain x) = starts_begin _ (level_starts x)
@@ -64,17 +74,24 @@ stmt_begins break = refl
 stmt_begins continue = refl
 stmt_begins (return x) = refl
 
-pub inner_begins : {may : May} {b : Bool} {d : ℕ} {s : Stmt} {f t : Tokens} → Writes may (inner b s) d f t → first begins_statement f ≡ true
+pub inner_begins : {may : May} {b : Bool} {d : ℕ} {s : Stmt} {f t : Tokens}
+    → Writes may (inner b s) d f t → first begins_statement f ≡ true
 inner_begins (inner_is ok x) = stmt_begins x
 
-pub begins_no_word : (k : Key) → begins_statement (form.Key k) ≡ false → (ts : Tokens) → first begins_statement ts ≡ true → is_word k ts ≡ false
-begins_no_word k no' ts h = apart begins_statement (is_key k) (λ f p q. false≢true (sym no' ∙ ap begins_statement (sym (key_is k f q)) ∙ p)) ts h
+pub begins_no_word : (k : Key) → begins_statement (form.Key k) ≡ false → (ts : Tokens)
+    → first begins_statement ts ≡ true → is_word k ts ≡ false
+begins_no_word k no' ts h = apart begins_statement (is_key k)
+    (λ f p q. false≢true (sym no' ∙ ap begins_statement (sym (key_is k f q)) ∙ p)) ts h
 
-pub begins_no_mark : (k : Mark) → begins_statement (form.Mark k) ≡ false → (ts : Tokens) → first begins_statement ts ≡ true → is_next k ts ≡ false
-begins_no_mark k no' ts h = apart begins_statement (is_mark k) (λ f p q. false≢true (sym no' ∙ ap begins_statement (sym (mark_is k f q)) ∙ p)) ts h
+pub begins_no_mark : (k : Mark) → begins_statement (form.Mark k) ≡ false → (ts : Tokens)
+    → first begins_statement ts ≡ true → is_next k ts ≡ false
+begins_no_mark k no' ts h = apart begins_statement (is_mark k)
+    (λ f p q. false≢true (sym no' ∙ ap begins_statement (sym (mark_is k f q)) ∙ p)) ts h
 
-pub starts_no_word : (k : Key) → (ts : Tokens) → first begins_expression ts ≡ true → is_word k ts ≡ false
-starts_no_word k ts h = apart begins_expression (is_key k) (λ f p q. false≢true (ap begins_expression (sym (key_is k f q)) ∙ p)) ts h
+pub starts_no_word : (k : Key) → (ts : Tokens) → first begins_expression ts ≡ true
+    → is_word k ts ≡ false
+starts_no_word k ts h = apart begins_expression (is_key k)
+    (λ f p q. false≢true (ap begins_expression (sym (key_is k f q)) ∙ p)) ts h
 
 no_type_form : (f : Form) → begins_statement f ≡ true → is_type f ≡ false
 no_type_form (form.Name w) h = refl
@@ -90,30 +107,39 @@ no_type_form (form.Key key.Return) h = refl
 no_type_form _ h = absurd (false≢true h)
 
 pub begins_no_type : (ts : Tokens) → first begins_statement ts ≡ true → begins_type ts ≡ false
-begins_no_type ts h = apart begins_statement is_type (λ f p q. false≢true (sym (no_type_form f p) ∙ q)) ts h
+begins_no_type ts h = apart begins_statement is_type
+    (λ f p q. false≢true (sym (no_type_form f p) ∙ q)) ts h
 
-pub until_no_type : {may : May} {d : ℕ} {o : Option Expr} {f t : Tokens} → Writes may (until semicolon o) d f t → begins_type f ≡ false
+pub until_no_type : {may : May} {d : ℕ} {o : Option Expr} {f t : Tokens}
+    → Writes may (until semicolon o) d f t → begins_type f ≡ false
 until_no_type (absent semicolon) = refl
 until_no_type (given semicolon x) = starts_no_type _ (level_starts x)
 
-pub locals_begin : {may : May} {d : ℕ} {ss : List Stmt} {f t : Tokens} → Writes may (locals ss) d f t → begins_type f ≡ true
+pub locals_begin : {may : May} {d : ℕ} {ss : List Stmt} {f t : Tokens}
+    → Writes may (locals ss) d f t → begins_type f ≡ true
 locals_begin (declaration x y) = types_begin x
 
-pub type_no_word : (k : Key) → is_type (form.Key k) ≡ false → (ts : Tokens) → begins_type ts ≡ true → is_word k ts ≡ false
-type_no_word k no' ts h = apart is_type (is_key k) (λ f p q. false≢true (sym no' ∙ ap is_type (sym (key_is k f q)) ∙ p)) ts h
+pub type_no_word : (k : Key) → is_type (form.Key k) ≡ false → (ts : Tokens) → begins_type ts ≡ true
+    → is_word k ts ≡ false
+type_no_word k no' ts h = apart is_type (is_key k)
+    (λ f p q. false≢true (sym no' ∙ ap is_type (sym (key_is k f q)) ∙ p)) ts h
 
 pub type_no_mark : (k : Mark) → (ts : Tokens) → begins_type ts ≡ true → is_next k ts ≡ false
-type_no_mark k ts h = apart is_type (is_mark k) (λ f p q. false≢true (ap is_type (sym (mark_is k f q)) ∙ p)) ts h
+type_no_mark k ts h = apart is_type (is_mark k)
+    (λ f p q. false≢true (ap is_type (sym (mark_is k f q)) ∙ p)) ts h
 
-pub entry_no_else : {may : May} {d : ℕ} {ss : List Stmt} {f t : Tokens} → Writes may (entry ss) d f t → is_word key.Else f ≡ false
+pub entry_no_else : {may : May} {d : ℕ} {ss : List Stmt} {f t : Tokens}
+    → Writes may (entry ss) d f t → is_word key.Else f ≡ false
 entry_no_else (entry_stmt x) = begins_no_word key.Else refl _ (inner_begins x)
 entry_no_else (entry_local {f = f} ok x) = type_no_word key.Else refl f (locals_begin x)
 
-pub entry_no_brace : {may : May} {d : ℕ} {ss : List Stmt} {f t : Tokens} → Writes may (entry ss) d f t → is_next mark.RightBrace f ≡ false
+pub entry_no_brace : {may : May} {d : ℕ} {ss : List Stmt} {f t : Tokens}
+    → Writes may (entry ss) d f t → is_next mark.RightBrace f ≡ false
 entry_no_brace (entry_stmt x) = begins_no_mark mark.RightBrace refl _ (inner_begins x)
 entry_no_brace (entry_local {f = f} ok x) = type_no_mark mark.RightBrace f (locals_begin x)
 
-pub entries_no_else : {may : May} {d : ℕ} {ss : List Stmt} {f t : Tokens} → Writes may (entries ss) d f t → is_word key.Else f ≡ false
+pub entries_no_else : {may : May} {d : ℕ} {ss : List Stmt} {f t : Tokens}
+    → Writes may (entries ss) d f t → is_word key.Else f ≡ false
 entries_no_else stop = refl
 entries_no_else (go x y) = entry_no_else x
 
@@ -124,7 +150,8 @@ abbrev pub Takes : Phrase → Tokens → Tokens → Type 0
 Takes (shape s) f t = length t ≤ length f
 Takes _ f t = length t < length f
 
-pub writes_shorter : {may : May} {p : Phrase} {d : ℕ} {f t : Tokens} → Writes may p d f t → Takes p f t
+pub writes_shorter : {may : May} {p : Phrase} {d : ℕ} {f t : Tokens} → Writes may p d f t
+    → Takes p f t
 writes_shorter (absent c) = omega arith
 writes_shorter (given c x) = let h = spells_shorter x in omega arith
 writes_shorter (tested x) = let h = spells_shorter x in omega arith
@@ -158,7 +185,8 @@ writes_shorter (return x) = let h = writes_shorter x in omega arith
 pub record Shortest (t : Lexeme) : Type 0 where
   pub rest : Tokens → Tokens
   pub grows : Grows rest
-  pub writes : (may : May) (d : ℕ) (u : Tokens) → Frees (t ∷ rest u) may → (p : Bool × Stmt) × Writes may (stmt p.0 p.1) d (t ∷ rest u) u
+  pub writes : (may : May) (d : ℕ) (u : Tokens) → Frees (t ∷ rest u) may
+      → (p : Bool × Stmt) × Writes may (stmt p.0 p.1) d (t ∷ rest u) u
 
 abbrev semi : Tokens → Tokens
 semi u = punct 0 mark.Semicolon ∷ u
@@ -169,43 +197,111 @@ test_first u = punct 0 mark.LeftParen ∷ zero_token ∷ punct 0 mark.RightParen
 abbrev void_at : ℕ → Stmt
 void_at l = at l (node.Plain None)
 
-inner_empty : {may : May} (d : ℕ) (u : Tokens) → may (semi u) (suc d) ≡ true → Writes may (inner false (void_at 0)) d (semi u) u
+inner_empty : {may : May} (d : ℕ) (u : Tokens) → may (semi u) (suc d) ≡ true
+    → Writes may (inner false (void_at 0)) d (semi u) u
 inner_empty d u h = inner_is h empty
 
-ups : {may : May} {d : ℕ} {i : Expr} {f t : Tokens} → Spells may (expr 2 i) d f t → Spells may (expr 16 i) d f t
-ups y = x.up (x.up (x.up (x.up (x.up (x.up (x.up (x.up (x.up (x.up (x.up (x.up (x.up (x.up y)))))))))))))
+ups : {may : May} {d : ℕ} {i : Expr} {f t : Tokens} → Spells may (expr 2 i) d f t
+    → Spells may (expr 16 i) d f t
+ups y = x.up (x.up (x.up (x.up (x.up (x.up
+    (x.up (x.up (x.up (x.up (x.up (x.up (x.up (x.up y)))))))))))))
 
 prefix_shortest : (l : ℕ) (p : Prefix) → Shortest (punct l (prefix_mark p))
 prefix_shortest l p =
-    record { rest = λ u. zero_token ∷ semi u; grows = λ u. omega arith; writes = λ may d u fr. by may d u (fr (punct l (prefix_mark p) ∷ zero_token ∷ semi u) (suc d) (omega arith)) }
+    record {
+      rest = λ u. zero_token ∷ semi u;
+      grows = λ u. omega arith;
+      writes = λ may d u fr. by may d u (fr (punct l (prefix_mark p) ∷ zero_token ∷ semi u) (suc d)
+          (omega arith));
+    }
   where
-    by : (may : May) (d : ℕ) (u : Tokens) → may (punct l (prefix_mark p) ∷ zero_token ∷ semi u) (suc d) ≡ true → (p' : Bool × Stmt) × Writes may (stmt p'.0 p'.1) d (punct l (prefix_mark p) ∷ zero_token ∷ semi u) u
-    by may d u h = ((false, at (prefixed l p zero_expr).line (node.Plain (Some (prefixed l p zero_expr)))), plain (ups (x.prefix p h (shortest (operand_level p)))))
+    by : (may : May) (d : ℕ) (u : Tokens)
+        → may (punct l (prefix_mark p) ∷ zero_token ∷ semi u) (suc d) ≡ true
+        → (p' : Bool × Stmt) × Writes may (stmt p'.0 p'.1) d
+        (punct l (prefix_mark p) ∷ zero_token ∷ semi u) u
+    by may d u h = (
+      (
+        false,
+        at (prefixed l p zero_expr).line
+            (node.Plain (Some (prefixed l p zero_expr))),
+      ),
+      plain (ups (x.prefix p h (shortest (operand_level p)))),
+    )
 
 form_shortest : (l : ℕ) (f : Form) → begins_statement f ≡ true → Shortest (token l f)
 form_shortest l (form.Name w) h =
-    record { rest = semi; grows = λ u. omega arith; writes = λ may d u fr. ((false, at l (node.Plain (Some (e.at l (exprs.Name w))))), plain (ups (x.up (x.up x.name)))) }
+    record {
+      rest = semi;
+      grows = λ u. omega arith;
+      writes = λ may d u fr. (
+        (false, at l (node.Plain (Some (e.at l (exprs.Name w))))),
+        plain (ups (x.up (x.up x.name))),
+      );
+    }
 form_shortest l (form.Number v k) h =
-    record { rest = semi; grows = λ u. omega arith; writes = λ may d u fr. ((false, at l (node.Plain (Some (e.at l (exprs.Number v k))))), plain (ups (x.up (x.up x.number)))) }
+    record {
+      rest = semi;
+      grows = λ u. omega arith;
+      writes = λ may d u fr. (
+        (false, at l (node.Plain (Some (e.at l (exprs.Number v k))))),
+        plain (ups (x.up (x.up x.number))),
+      );
+    }
 form_shortest l (form.Key key.If) h =
-    record { rest = λ u. test_first (semi u); grows = λ u. omega arith; writes = λ may d u fr. ((true, at l (node.If zero_expr (void_at 0) None)), if_only (tested (shortest 16)) (inner_empty d u (fr _ _ (omega arith)))) }
+    record {
+      rest = λ u. test_first (semi u);
+      grows = λ u. omega arith;
+      writes = λ may d u fr. (
+        (true, at l (node.If zero_expr (void_at 0) None)),
+        if_only (tested (shortest 16)) (inner_empty d u (fr _ _ (omega arith))),
+      );
+    }
 form_shortest l (form.Key key.While) h =
-    record { rest = λ u. test_first (semi u); grows = λ u. omega arith; writes = λ may d u fr. ((false, at l (node.While zero_expr (void_at 0))), while (tested (shortest 16)) (inner_empty d u (fr _ _ (omega arith)))) }
+    record {
+      rest = λ u. test_first (semi u);
+      grows = λ u. omega arith;
+      writes = λ may d u fr. (
+        (false, at l (node.While zero_expr (void_at 0))),
+        while (tested (shortest 16)) (inner_empty d u (fr _ _ (omega arith))),
+      );
+    }
 form_shortest l (form.Key key.Do) h =
     record {
       rest = λ u. semi (word 0 key.While ∷ test_first (semi u));
       grows = λ u. omega arith;
-      writes = λ may d u fr. ((false, at l (node.Do (void_at 0) zero_expr)), repeat (inner_empty d (word 0 key.While ∷ test_first (semi u)) (fr _ _ (omega arith))) (tested (shortest 16)));
+      writes = λ may d u fr. (
+        (false, at l (node.Do (void_at 0) zero_expr)),
+        repeat (inner_empty d (word 0 key.While ∷ test_first (semi u)) (fr _ _ (omega arith)))
+            (tested (shortest 16)),
+      );
     }
 form_shortest l (form.Key key.For) h =
     record {
       rest = λ u. punct 0 mark.LeftParen ∷ semi (semi (punct 0 mark.RightParen ∷ semi u));
       grows = λ u. omega arith;
-      writes = λ may d u fr. ((false, at l (node.For inits.Nothing None None (void_at 0))), for (init_plain (absent semicolon)) (absent semicolon) (absent paren) (inner_empty d u (fr _ _ (omega arith))));
+      writes = λ may d u fr. (
+        (false, at l (node.For inits.Nothing None None (void_at 0))),
+        for (init_plain (absent semicolon)) (absent semicolon) (absent paren)
+            (inner_empty d u (fr _ _ (omega arith))),
+      );
     }
-form_shortest l (form.Key key.Break) h = record { rest = semi; grows = λ u. omega arith; writes = λ may d u fr. ((false, at l node.Break), break) }
-form_shortest l (form.Key key.Continue) h = record { rest = semi; grows = λ u. omega arith; writes = λ may d u fr. ((false, at l node.Continue), continue) }
-form_shortest l (form.Key key.Return) h = record { rest = semi; grows = λ u. omega arith; writes = λ may d u fr. ((false, at l (node.Return None)), return (absent semicolon)) }
+form_shortest l (form.Key key.Break) h = record {
+  rest = semi;
+  grows = λ u. omega arith;
+  writes = λ may d u fr. ((false, at l node.Break), break);
+}
+form_shortest l (form.Key key.Continue) h =
+    record {
+      rest = semi;
+      grows = λ u. omega arith;
+      writes = λ may d u fr. ((false, at l node.Continue), continue);
+    }
+form_shortest l (form.Key key.Return) h =
+    record {
+      rest = semi;
+      grows = λ u. omega arith;
+      writes = λ may d u fr. ((false, at l (node.Return None)), return (absent semicolon));
+    }
 form_shortest l (form.Mark mark.Plus) h = prefix_shortest l (sign unary.Plus)
 form_shortest l (form.Mark mark.Minus) h = prefix_shortest l (sign unary.Minus)
 form_shortest l (form.Mark mark.Tilde) h = prefix_shortest l (sign unary.Complement)
@@ -216,18 +312,33 @@ form_shortest l (form.Mark mark.LeftParen) h =
     record {
       rest = λ u. zero_token ∷ punct 0 mark.RightParen ∷ semi u;
       grows = λ u. omega arith;
-      writes = λ may d u fr. ((false, at l (node.Plain (Some (e.at l (exprs.Group zero_expr))))), plain (ups (x.up (x.up (x.group (fr _ _ (omega arith)) (shortest 16))))));
+      writes = λ may d u fr. (
+        (false, at l (node.Plain (Some (e.at l (exprs.Group zero_expr))))),
+        plain (ups (x.up (x.up (x.group (fr _ _ (omega arith)) (shortest 16))))),
+      );
     }
-form_shortest l (form.Mark mark.LeftBrace) h = record { rest = λ u. punct 0 mark.RightBrace ∷ u; grows = λ u. omega arith; writes = λ may d u fr. ((false, at l (node.Compound [])), compound stop) }
-form_shortest l (form.Mark mark.Semicolon) h = record { rest = λ u. u; grows = λ u. omega arith; writes = λ may d u fr. ((false, at l (node.Plain None)), empty) }
+form_shortest l (form.Mark mark.LeftBrace) h =
+    record {
+      rest = λ u. punct 0 mark.RightBrace ∷ u;
+      grows = λ u. omega arith;
+      writes = λ may d u fr. ((false, at l (node.Compound [])), compound stop);
+    }
+form_shortest l (form.Mark mark.Semicolon) h =
+    record {
+      rest = λ u. u;
+      grows = λ u. omega arith;
+      writes = λ may d u fr. ((false, at l (node.Plain None)), empty);
+    }
 form_shortest l _ h = absurd (false≢true h)
 
-pub begins_is : (ts : Tokens) → first begins_statement ts ≡ true → (t : Lexeme) × (o : Tokens) × (ts ≡ t ∷ o) × Shortest t
+pub begins_is : (ts : Tokens) → first begins_statement ts ≡ true
+    → (t : Lexeme) × (o : Tokens) × (ts ≡ t ∷ o) × Shortest t
 begins_is [] h = absurd (false≢true h)
 begins_is (t ∷ o) h = (t, o, refl, form_shortest t.line t.form h)
 
 -- each word of a type is a type alone
-pub type_alone : (l : ℕ) (f : Form) → is_type f ≡ true → (k : Kind) × ((u : Tokens) → Types l k (token l f ∷ u) u)
+pub type_alone : (l : ℕ) (f : Form) → is_type f ≡ true
+    → (k : Kind) × ((u : Tokens) → Types l k (token l f ∷ u) u)
 type_alone l (form.Key key.Char) h = (kind.Char, λ u. types.char)
 type_alone l (form.Key key.Int) h = (kind.Int, λ u. types.int)
 type_alone l (form.Key key.Long) h = (kind.Long, λ u. types.long)

@@ -1,5 +1,6 @@
 -- Globals and parameters, which stand at depth 0.
-use Rattle.std.proofs.Common.{◌≡◌, ℕ, Bool, true, false, List, [], ◌∷◌, Option, Some, None, Ok, refl, sym, ap, ◌∙◌, subst, arith}
+use Rattle.std.proofs.Common.{◌≡◌, ℕ, Bool, true, false, List, [], ◌∷◌, Option, Some, None, Ok}
+use Rattle.std.proofs.Common.{refl, sym, ap, ◌∙◌, subst, arith}
 use Rattle.std.proofs.lemmas.Bool.{false≢true}
 use Rattle.c_tree.specs.declared.token.Mark.TheVariants as mark
 use Rattle.c_tree.specs.declared.token.Key.TheVariants as key
@@ -11,18 +12,32 @@ use Rattle.c_tree.specs.declared.tree.Param.{Param}
 use Rattle.c_tree.specs.declared.tree.Top.{Top}
 use Rattle.c_grammar.specs.Tokens.{Tokens, punct, word, named, May}
 use Rattle.c_grammar.specs.Expressions.{expr, Spells}
-use Rattle.c_grammar.specs.Units.{global, parameter, Units, size, values, shape, globals, label, brackets, param, params, param_list, no_size, some_size, last_value, last_comma, next_value, bare, valued, sized, filled, last_global, next_global, unlabelled, labelled, no_brackets, some_brackets, param_is, no_params, void_params, some_params, last_param, next_param}
+use Rattle.c_grammar.specs.Units.{global, parameter, Units, size, values, shape, globals, label}
+use Rattle.c_grammar.specs.Units.{brackets, param, params, param_list, no_size, some_size}
+use Rattle.c_grammar.specs.Units.{last_value, last_comma, next_value, bare, valued, sized, filled}
+use Rattle.c_grammar.specs.Units.{last_global, next_global, unlabelled, labelled, no_brackets}
+use Rattle.c_grammar.specs.Units.{some_brackets, param_is, no_params, void_params, some_params}
+use Rattle.c_grammar.specs.Units.{last_param, next_param}
 use Rattle.c_grammar.specs.Numbers.{is_mark, is_key}
 use Rattle.c_grammar.specs.Parsing.{Out, and_then, syntax, first, is_next, is_word, expect, name_of}
 use Rattle.c_grammar.specs.ModelTypes.{begins_type}
 use Rattle.c_grammar.specs.ModelExpressions.{Nested, is_name, conditional_of}
-use Rattle.c_grammar.specs.ModelUnits.{label_of, or_sized, no_size_of, some_size_of, size_of, values_of, filled_of, after_size, array_of, valued_of, shape_of, global_of, more_globals_of, globals_of, some_brackets_of, brackets_of, param_of, no_params_of, void_params_of, param_list_of, params_of}
-use Rattle.c_grammar.proofs.Agree.{split_if, if_true, if_false, stay, Tied, tied_first, Lands, good, lands_by}
-use Rattle.c_grammar.proofs.Pieces.{Rel, Sound, read, stuck, Then, always, any, Piece, seq, done, Done, iff, turn, ends_by, ends_with, same_tree, Either, this, that, either_of, Is, mark_piece, IsWord, word_piece, Named, name_piece, name_first}
+use Rattle.c_grammar.specs.ModelUnits.{label_of, or_sized, no_size_of, some_size_of, size_of}
+use Rattle.c_grammar.specs.ModelUnits.{values_of, filled_of, after_size, array_of, valued_of}
+use Rattle.c_grammar.specs.ModelUnits.{shape_of, global_of, more_globals_of, globals_of}
+use Rattle.c_grammar.specs.ModelUnits.{some_brackets_of, brackets_of, param_of, no_params_of}
+use Rattle.c_grammar.specs.ModelUnits.{void_params_of, param_list_of, params_of}
+use Rattle.c_grammar.proofs.Agree.{split_if, if_true, if_false, stay, Tied, tied_first, Lands, good}
+use Rattle.c_grammar.proofs.Agree.{lands_by}
+use Rattle.c_grammar.proofs.Pieces.{Rel, Sound, read, stuck, Then, always, any, Piece, seq, done}
+use Rattle.c_grammar.proofs.Pieces.{Done, iff, turn, ends_by, ends_with, same_tree, Either, this}
+use Rattle.c_grammar.proofs.Pieces.{that, either_of, Is, mark_piece, IsWord, word_piece, Named}
+use Rattle.c_grammar.proofs.Pieces.{name_piece, name_first}
 use Rattle.c_grammar.proofs.Lists.{Tail, ends, trails, goes, listed_piece, tail_piece, tail_meets}
 use Rattle.c_grammar.proofs.Types.{TypeIs, type_piece, type_first, types_begin}
 use Rattle.c_grammar.proofs.Stops.{Stops, lower, tied_stops, not_next}
-use Rattle.c_grammar.proofs.Levels.{zero_token, zero_expr, zero_first, shortest, level_starts, starts_no_mark}
+use Rattle.c_grammar.proofs.Levels.{zero_token, zero_expr, zero_first, shortest, level_starts}
+use Rattle.c_grammar.proofs.Levels.{starts_no_mark}
 use Rattle.c_grammar.proofs.Joins.{Level, ends_at}
 use Rattle.c_grammar.proofs.Expressions.{Deeper, closed}
 use Rattle.c_grammar.proofs.Inside.{conditional_piece}
@@ -79,64 +94,94 @@ module _ (m : ℕ) (nested : Nested) (known : Deeper nested m 0) where
   abbrev SomeSize : Rel ArraySize
   SomeSize = Then (Level 14 0) (λ e. Then (Is mark.RightBracket) (λ k. Done (sizes.Sized e)))
 
-  no_size_piece : Piece same_tree NoSize any always always (λ t. punct 0 mark.RightBracket ∷ t) m (no_size_of nested)
+  no_size_piece : Piece same_tree NoSize any always always (λ t. punct 0 mark.RightBracket ∷ t) m
+      (no_size_of nested)
   unfolding no_size_of
-  no_size_piece = seq (λ _ ts. size_here sizes.Open ts) (mark_piece mark.RightBracket m) (λ k. done same_tree sizes.Open m (λ t h. tt)) (λ t. omega arith) (λ may x y u t r h. tt)
+  no_size_piece = seq (λ _ ts. size_here sizes.Open ts) (mark_piece mark.RightBracket m)
+      (λ k. done same_tree sizes.Open m (λ t h. tt)) (λ t. omega arith) (λ may x y u t r h. tt)
 
-  some_size_piece : Piece same_tree SomeSize any always always (λ t. zero_token ∷ punct 0 mark.RightBracket ∷ t) m (some_size_of nested)
+  some_size_piece : Piece same_tree SomeSize any always always
+      (λ t. zero_token ∷ punct 0 mark.RightBracket ∷ t) m (some_size_of nested)
   unfolding some_size_of
-  some_size_piece = closed mark.RightBracket (omega arith) (λ e. sizes.Sized e) (conditional_piece m 0 nested known)
+  some_size_piece = closed mark.RightBracket (omega arith) (λ e. sizes.Sized e)
+      (conditional_piece m 0 nested known)
 
-  size_piece : Piece same_tree SizeIs any always always (λ t. zero_token ∷ punct 0 mark.RightBracket ∷ t) m (size_of nested)
+  size_piece : Piece same_tree SizeIs any always always
+      (λ t. zero_token ∷ punct 0 mark.RightBracket ∷ t) m (size_of nested)
   unfolding size_of
   size_piece =
-      iff (either_of (is_mark mark.RightBracket) no_size_piece some_size_piece (λ may x f t r. ap (is_next mark.RightBracket) r.2) (λ may x f t r e. starts_no_mark mark.RightBracket refl f (level_starts r.2))) to from
+      iff (either_of (is_mark mark.RightBracket) no_size_piece some_size_piece
+      (λ may x f t r. ap (is_next mark.RightBracket) r.2)
+      (λ may x f t r e. starts_no_mark mark.RightBracket refl f (level_starts r.2))) to from
     where
-      to : (may : May) (a : ArraySize) (f t : Tokens) → Either NoSize SomeSize may a f t → SizeIs may a f t
-      to may a f t (this r) = subst (λ (f : Tokens). SizeIs may a f t) (sym r.2) (ends_with (λ a t. SizeIs may a (punct r.0 mark.RightBracket ∷ r.1) t) no_size r.3)
+      to : (may : May) (a : ArraySize) (f t : Tokens) → Either NoSize SomeSize may a f t
+          → SizeIs may a f t
+      to may a f t (this r) = subst (λ (f : Tokens). SizeIs may a f t) (sym r.2)
+          (ends_with (λ a t. SizeIs may a (punct r.0 mark.RightBracket ∷ r.1) t) no_size r.3)
       to may a f t (that r) = let k = r.3 in ends_with (λ a t. SizeIs may a f t) (some_size (subst (λ (u : Tokens). Spells may (expr 14 r.0) 0 f u) k.2 r.2)) k.3
 
-      from : (may : May) (a : ArraySize) (f t : Tokens) → SizeIs may a f t → Either NoSize SomeSize may a f t
+      from : (may : May) (a : ArraySize) (f t : Tokens) → SizeIs may a f t
+          → Either NoSize SomeSize may a f t
       from may _ _ t (no_size {k = k}) = this (k, t, refl, (refl, refl))
-      from may _ f t (some_size {k = k} {e = e} x) = that (e, punct k mark.RightBracket ∷ t, x, (k, t, refl, (refl, refl)))
+      from may _ f t (some_size {k = k} {e = e} x) =
+          that (e, punct k mark.RightBracket ∷ t, x, (k, t, refl, (refl, refl)))
 
-  values_start : (may : May) (es : List Expr) (f t : Tokens) → ValuesAre may es f t → is_next mark.RightBrace f ≡ false
+  values_start : (may : May) (es : List Expr) (f t : Tokens) → ValuesAre may es f t
+      → is_next mark.RightBrace f ≡ false
   values_start may _ f t (last_value x) = starts_no_mark mark.RightBrace refl f (level_starts x)
   values_start may _ f t (last_comma x) = starts_no_mark mark.RightBrace refl f (level_starts x)
   values_start may _ f t (next_value x y) = starts_no_mark mark.RightBrace refl f (level_starts x)
 
-  values_piece : Piece same_tree ValuesAre any always always (λ t. zero_token ∷ punct 0 mark.RightBrace ∷ t) m (values_of nested)
+  values_piece : Piece same_tree ValuesAre any always always
+      (λ t. zero_token ∷ punct 0 mark.RightBrace ∷ t) m (values_of nested)
   unfolding values_of
   values_piece =
-      listed_piece (Level 14 0) ValuesAre (ends_at 14) zero_first m (conditional_of nested) (conditional_piece m 0 nested known) mark.RightBrace true to from refl (λ x l t. (omega arith, omega arith)) (λ may xs f t r e. values_start may xs f t r)
+      listed_piece (Level 14 0) ValuesAre (ends_at 14) zero_first m (conditional_of nested)
+      (conditional_piece m 0 nested known) mark.RightBrace true to from refl
+      (λ x l t. (omega arith, omega arith)) (λ may xs f t r e. values_start may xs f t r)
     where
-      to_tail : (may : May) (e : Expr) (es : List Expr) (f u t : Tokens) → Spells may (expr 14 e) 0 f u → Tail ValuesAre mark.RightBrace true e may es u t → ValuesAre may es f t
+      to_tail : (may : May) (e : Expr) (es : List Expr) (f u t : Tokens)
+          → Spells may (expr 14 e) 0 f u → Tail ValuesAre mark.RightBrace true e may es u t
+          → ValuesAre may es f t
       to_tail may e _ f _ t x ends = last_value x
       to_tail may e _ f _ t x (trails q) = last_comma x
       to_tail may e _ f _ t x (goes r) = next_value x r
 
-      to : (may : May) (es : List Expr) (f t : Tokens) → Then (Level 14 0) (λ x. Tail ValuesAre mark.RightBrace true x) may es f t → ValuesAre may es f t
+      to : (may : May) (es : List Expr) (f t : Tokens)
+          → Then (Level 14 0) (λ x. Tail ValuesAre mark.RightBrace true x) may es f t
+          → ValuesAre may es f t
       to may es f t r = to_tail may r.0 es f r.1 t r.2 r.3
 
-      from : (may : May) (es : List Expr) (f t : Tokens) → ValuesAre may es f t → Then (Level 14 0) (λ x. Tail ValuesAre mark.RightBrace true x) may es f t
+      from : (may : May) (es : List Expr) (f t : Tokens) → ValuesAre may es f t
+          → Then (Level 14 0) (λ x. Tail ValuesAre mark.RightBrace true x) may es f t
       from may _ f t (last_value {k = k} {e = e} x) = (e, punct k mark.RightBrace ∷ t, x, ends)
-      from may _ f t (last_comma {k = k} {k' = k'} {e = e} x) = (e, punct k mark.Comma ∷ punct k' mark.RightBrace ∷ t, x, trails refl)
-      from may _ f t (next_value {k = k} {e = e} {m = v} x y) = (e, punct k mark.Comma ∷ v, x, goes y)
+      from may _ f t (last_comma {k = k} {k' = k'} {e = e} x) =
+          (e, punct k mark.Comma ∷ punct k' mark.RightBrace ∷ t, x, trails refl)
+      from may _ f t (next_value {k = k} {e = e} {m = v} x y) =
+          (e, punct k mark.Comma ∷ v, x, goes y)
 
   -- ---- what stands behind the name of a global
 
   abbrev FilledIs : ArraySize → Rel (ArraySize × List Expr)
-  FilledIs a = Then (Is mark.Assign) (λ k. Then (Is mark.LeftBrace) (λ k'. Then ValuesAre (λ es. Done (a, es))))
+  FilledIs a = Then (Is mark.Assign) (λ k. Then (Is mark.LeftBrace)
+      (λ k'. Then ValuesAre (λ es. Done (a, es))))
 
   abbrev filled_first : Tokens → Tokens
-  filled_first t = punct 0 mark.Assign ∷ punct 0 mark.LeftBrace ∷ zero_token ∷ punct 0 mark.RightBrace ∷ t
+  filled_first t = punct 0 mark.Assign ∷ punct 0 mark.LeftBrace ∷ zero_token ∷ punct 0
+      mark.RightBrace ∷ t
 
-  filled_piece : (a : ArraySize) → Piece same_tree (FilledIs a) any always shape_ends filled_first m (filled_of nested a)
+  filled_piece : (a : ArraySize) → Piece same_tree (FilledIs a) any always shape_ends filled_first m
+      (filled_of nested a)
   unfolding filled_of
   filled_piece a =
-      seq (λ _ ts. and_then (expect mark.LeftBrace ts) (λ _ ts. and_then (values_of nested ts) (λ es ts. shape_here (a, es) ts))) (mark_piece mark.Assign m)
-      (λ k. seq (λ _ ts. and_then (values_of nested ts) (λ es ts. shape_here (a, es) ts)) (mark_piece mark.LeftBrace m)
-      (λ k'. seq (λ es ts. shape_here (a, es) ts) values_piece (λ es. done same_tree (a, es) m (λ t h. tt)) (λ t. omega arith) (λ may x y u t r h. tt)) (λ t. omega arith) (λ may x y u t r h. tt))
+      seq (λ _ ts. and_then (expect mark.LeftBrace ts)
+      (λ _ ts. and_then (values_of nested ts) (λ es ts. shape_here (a, es) ts)))
+      (mark_piece mark.Assign m)
+      (λ k. seq (λ _ ts. and_then (values_of nested ts) (λ es ts. shape_here (a, es) ts))
+      (mark_piece mark.LeftBrace m)
+      (λ k'. seq (λ es ts. shape_here (a, es) ts) values_piece
+      (λ es. done same_tree (a, es) m (λ t h. tt)) (λ t. omega arith) (λ may x y u t r h. tt))
+      (λ t. omega arith) (λ may x y u t r h. tt))
       (λ t. omega arith) (λ may x y u t r h. tt)
 
   -- where there was a size, the list in braces may be left out
@@ -144,19 +189,23 @@ module _ (m : ℕ) (nested : Nested) (known : Deeper nested m 0) where
     alone : {e : Expr} {t : Tokens} → a ≡ sizes.Sized e → SizedIs a may (sizes.Sized e, []) t t
 
   -- the shortest text is a list in braces, whatever the size is
-  after_size_piece : (a : ArraySize) → Piece same_tree (Either (FilledIs a) (SizedIs a)) any always shape_ends filled_first m (after_size nested a)
+  after_size_piece : (a : ArraySize) → Piece same_tree
+      (Either (FilledIs a) (SizedIs a)) any always shape_ends filled_first m (after_size nested a)
   unfolding after_size
   after_size_piece a =
       record {
         grow = λ t. omega arith;
         least = λ may t fr fr'. let l = (filled_piece a).least may t fr fr' in (l.0, this l.1);
         sound = λ ts h.
-            split_if (Sound same_tree (Either (FilledIs a) (SizedIs a)) always m ts) (is_next mark.Assign ts) _ _
-            (λ e. turn (λ may x f t r. this r) ts ((filled_piece a).sound ts tt)) (λ e. or_sound ts a refl);
+            split_if (Sound same_tree (Either (FilledIs a) (SizedIs a)) always m ts)
+            (is_next mark.Assign ts) _ _
+            (λ e. turn (λ may x f t r. this r) ts ((filled_piece a).sound ts tt))
+            (λ e. or_sound ts a refl);
         complete = λ cut g g' may s f' t' r e f tied. whole cut g g' may s f' t' r e f tied;
       }
     where
-      wanted : (ts : Tokens) → Sound same_tree (Either (FilledIs a) (SizedIs a)) always m ts (syntax ts)
+      wanted : (ts : Tokens) → Sound same_tree (Either (FilledIs a) (SizedIs a)) always m ts
+          (syntax ts)
       wanted ts =
           stuck _ (record {
             put = λ u. u;
@@ -165,38 +214,67 @@ module _ (m : ℕ) (nested : Nested) (known : Deeper nested m 0) where
             more = filled_first;
             grows = λ u. omega arith;
             held = tt;
-            completes = λ u. ((a, zero_expr ∷ []), this (0, punct 0 mark.LeftBrace ∷ zero_token ∷ punct 0 mark.RightBrace ∷ u, refl, (0, zero_token ∷ punct 0 mark.RightBrace ∷ u, refl, (zero_expr ∷ [], u, last_value (shortest 14), (refl, refl)))));
+            completes = λ u. (
+              (a, zero_expr ∷ []),
+              this (
+                0,
+                punct 0 mark.LeftBrace ∷ zero_token ∷ punct 0 mark.RightBrace ∷ u,
+                refl,
+                (
+                  0,
+                  zero_token ∷ punct 0 mark.RightBrace ∷ u,
+                  refl,
+                  (zero_expr ∷ [], u, last_value (shortest 14), (refl, refl)),
+                ),
+              ),
+            );
           })
 
-      or_sound : (ts : Tokens) (b : ArraySize) → a ≡ b → Sound same_tree (Either (FilledIs a) (SizedIs a)) always m ts (or_sized b ts)
+      or_sound : (ts : Tokens) (b : ArraySize) → a ≡ b
+          → Sound same_tree (Either (FilledIs a) (SizedIs a)) always m ts (or_sized b ts)
       or_sound ts sizes.Scalar q = wanted ts
       or_sound ts sizes.Open q = wanted ts
-      or_sound ts (sizes.Sized e) q = read (sizes.Sized e, []) ts (record { put = λ u. u; way = stay; is = refl; again = λ may w u. that (alone q) }) tt
+      or_sound ts (sizes.Sized e) q = read (sizes.Sized e, []) ts
+          (record { put = λ u. u; way = stay; is = refl; again = λ may w u. that (alone q) }) tt
 
-      whole : (cut : Bool) (g g' : Tokens) (may : May) (s : ArraySize × List Expr) (f' t' : Tokens) → Either (FilledIs a) (SizedIs a) may s f' t' → Stops 15 t' → (f : Tokens) → Tied cut g g' f f' → Lands cut g g' may m (after_size nested a f) (λ to. Ok (s, to)) t'
+      whole : (cut : Bool) (g g' : Tokens) (may : May) (s : ArraySize × List Expr) (f' t' : Tokens)
+          → Either (FilledIs a) (SizedIs a) may s f' t' → Stops 15 t' → (f : Tokens)
+          → Tied cut g g' f f' → Lands cut g g' may m (after_size nested a f) (λ to. Ok (s, to)) t'
       whole cut g g' may s f' t' (this r) e f tied =
-          lands_by cut g g' may m (if_true (is_next mark.Assign f) _ _ (tied_first cut g g' (is_mark mark.Assign) tied ∙ ap (is_next mark.Assign) r.2)) ((filled_piece a).complete cut g g' may s f' t' r e f tied)
+          lands_by cut g g' may m (if_true (is_next mark.Assign f) _ _
+          (tied_first cut g g' (is_mark mark.Assign) tied ∙ ap (is_next mark.Assign) r.2))
+          ((filled_piece a).complete cut g g' may s f' t' r e f tied)
       whole cut g g' may _ _ t' (that (alone q)) e f tied =
-          good f tied (if_false (is_next mark.Assign f) (filled_of nested a f) (or_sized a f) (not_next mark.Assign 15 f (tied_stops 15 tied e) (omega arith)) ∙ ap (λ (a : ArraySize). or_sized a f) q)
+          good f tied (if_false (is_next mark.Assign f) (filled_of nested a f) (or_sized a f)
+          (not_next mark.Assign 15 f (tied_stops 15 tied e) (omega arith))
+          ∙ ap (λ (a : ArraySize). or_sized a f) q)
 
   abbrev ArrayIs : Rel (ArraySize × List Expr)
   ArrayIs = Then (Is mark.LeftBracket) (λ k. Then SizeIs (λ a. Either (FilledIs a) (SizedIs a)))
 
-  array_piece : Piece same_tree ArrayIs any always shape_ends (λ t. punct 0 mark.LeftBracket ∷ zero_token ∷ punct 0 mark.RightBracket ∷ filled_first t) m (array_of nested)
+  array_piece : Piece same_tree ArrayIs any always shape_ends
+      (λ t. punct 0 mark.LeftBracket ∷ zero_token ∷ punct 0 mark.RightBracket ∷ filled_first t) m
+      (array_of nested)
   unfolding array_of
   array_piece =
-      seq (λ _ ts. and_then (size_of nested ts) (λ a ts. after_size nested a ts)) (mark_piece mark.LeftBracket m)
-      (λ k. seq (λ a ts. after_size nested a ts) size_piece after_size_piece (λ t. omega arith) (λ may x y u t r h. tt)) (λ t. omega arith) (λ may x y u t r h. tt)
+      seq (λ _ ts. and_then (size_of nested ts) (λ a ts. after_size nested a ts))
+      (mark_piece mark.LeftBracket m)
+      (λ k. seq (λ a ts. after_size nested a ts) size_piece after_size_piece (λ t. omega arith)
+      (λ may x y u t r h. tt)) (λ t. omega arith) (λ may x y u t r h. tt)
 
   abbrev ValuedIs : Rel (ArraySize × List Expr)
   ValuedIs = Then (Is mark.Assign) (λ k. Then (Level 14 0) (λ e. Done (sizes.Scalar, e ∷ [])))
 
-  valued_piece : Piece same_tree ValuedIs any always shape_ends (λ t. punct 0 mark.Assign ∷ zero_token ∷ t) m (valued_of nested)
+  valued_piece : Piece same_tree ValuedIs any always shape_ends
+      (λ t. punct 0 mark.Assign ∷ zero_token ∷ t) m (valued_of nested)
   unfolding valued_of
   valued_piece =
-      seq (λ _ ts. and_then (conditional_of nested ts) (λ e ts. shape_here (sizes.Scalar, e ∷ []) ts)) (mark_piece mark.Assign m)
-      (λ k. seq (λ e ts. shape_here (sizes.Scalar, e ∷ []) ts) (conditional_piece m 0 nested known) (λ e. done same_tree (sizes.Scalar, e ∷ []) m (λ t h. tt)) (λ t. omega arith)
-      (λ may x y u t r h. lower 14 15 u (omega arith) (subst (Stops 15) (sym r.1) h))) (λ t. omega arith) (λ may x y u t r h. tt)
+      seq (λ _ ts. and_then (conditional_of nested ts)
+      (λ e ts. shape_here (sizes.Scalar, e ∷ []) ts)) (mark_piece mark.Assign m)
+      (λ k. seq (λ e ts. shape_here (sizes.Scalar, e ∷ []) ts) (conditional_piece m 0 nested known)
+      (λ e. done same_tree (sizes.Scalar, e ∷ []) m (λ t h. tt)) (λ t. omega arith)
+      (λ may x y u t r h. lower 14 15 u (omega arith) (subst (Stops 15) (sym r.1) h)))
+      (λ t. omega arith) (λ may x y u t r h. tt)
 
   abbrev BareIs : Rel (ArraySize × List Expr)
   BareIs = Done (sizes.Scalar, [])
@@ -205,33 +283,62 @@ module _ (m : ℕ) (nested : Nested) (known : Deeper nested m 0) where
   unfolding shape_of
   shape_piece =
       iff (either_of (is_mark mark.Assign) valued_piece
-      (either_of (is_mark mark.LeftBracket) array_piece (done same_tree (sizes.Scalar, []) m (λ t h. tt)) (λ may x f t r. ap (is_next mark.LeftBracket) r.2)
-      (λ may x f t r e. not_next mark.LeftBracket 15 f (subst (Stops 15) (sym r.1) e) (omega arith)))
+      (either_of (is_mark mark.LeftBracket) array_piece
+      (done same_tree (sizes.Scalar, []) m (λ t h. tt))
+      (λ may x f t r. ap (is_next mark.LeftBracket) r.2)
+      (λ may x f t r e. not_next mark.LeftBracket 15 f (subst (Stops 15) (sym r.1) e)
+      (omega arith)))
       (λ may x f t r. ap (is_next mark.Assign) r.2) no_assign) to from
     where
-      no_assign : (may : May) (s : ArraySize × List Expr) (f t : Tokens) → Either ArrayIs BareIs may s f t → Stops 15 t → is_next mark.Assign f ≡ false
+      no_assign : (may : May) (s : ArraySize × List Expr) (f t : Tokens)
+          → Either ArrayIs BareIs may s f t → Stops 15 t → is_next mark.Assign f ≡ false
       no_assign may s f t (this r) e = ap (is_next mark.Assign) r.2
-      no_assign may s f t (that r) e = not_next mark.Assign 15 f (subst (Stops 15) (sym r.1) e) (omega arith)
+      no_assign may s f t (that r) e = not_next mark.Assign 15 f (subst (Stops 15) (sym r.1) e)
+          (omega arith)
 
-      array_to : (may : May) (k : ℕ) (a : ArraySize) (s : ArraySize × List Expr) (f u t : Tokens) → Units may (size a) f u → Either (FilledIs a) (SizedIs a) may s u t → ShapeIs may s (punct k mark.LeftBracket ∷ f) t
+      array_to : (may : May) (k : ℕ) (a : ArraySize) (s : ArraySize × List Expr) (f u t : Tokens)
+          → Units may (size a) f u → Either (FilledIs a) (SizedIs a) may s u t
+          → ShapeIs may s (punct k mark.LeftBracket ∷ f) t
       array_to may k a s f u t x (this r) =
           let b = r.3 in let v = b.3 in
-          ends_with (λ s t. ShapeIs may s (punct k mark.LeftBracket ∷ f) t) (filled (subst (λ (u : Tokens). Units may (size a) f u) (r.2 ∙ ap (λ u. punct r.0 mark.Assign ∷ u) b.2) x) v.2) v.3
-      array_to may k a _ f u _ x (that (alone {t = t} q)) = sized (subst (λ (a : ArraySize). Units may (size a) f t) q x)
+          ends_with (λ s t. ShapeIs may s (punct k mark.LeftBracket ∷ f) t)
+          (filled (subst (λ (u : Tokens). Units may (size a) f u)
+          (r.2 ∙ ap (λ u. punct r.0 mark.Assign ∷ u) b.2) x) v.2) v.3
+      array_to may k a _ f u _ x (that (alone {t = t} q)) =
+          sized (subst (λ (a : ArraySize). Units may (size a) f t) q x)
 
-      to : (may : May) (s : ArraySize × List Expr) (f t : Tokens) → Either ValuedIs (Either ArrayIs BareIs) may s f t → ShapeIs may s f t
+      to : (may : May) (s : ArraySize × List Expr) (f t : Tokens)
+          → Either ValuedIs (Either ArrayIs BareIs) may s f t → ShapeIs may s f t
       to may s f t (this r) =
           let x = r.3 in
-          subst (λ (f : Tokens). ShapeIs may s f t) (sym r.2) (ends_with (λ s t. ShapeIs may s (punct r.0 mark.Assign ∷ r.1) t) (valued x.2) x.3)
+          subst (λ (f : Tokens). ShapeIs may s f t) (sym r.2)
+          (ends_with (λ s t. ShapeIs may s (punct r.0 mark.Assign ∷ r.1) t) (valued x.2) x.3)
       to may s f t (that (this r)) = let a = r.3 in subst (λ (f : Tokens). ShapeIs may s f t) (sym r.2) (array_to may r.0 a.0 s r.1 a.1 t a.2 a.3)
       to may s f t (that (that r)) = ends_with (λ s t. ShapeIs may s f t) bare r
 
-      from : (may : May) (s : ArraySize × List Expr) (f t : Tokens) → ShapeIs may s f t → Either ValuedIs (Either ArrayIs BareIs) may s f t
+      from : (may : May) (s : ArraySize × List Expr) (f t : Tokens) → ShapeIs may s f t
+          → Either ValuedIs (Either ArrayIs BareIs) may s f t
       from may _ _ t bare = that (that (refl, refl))
       from may _ _ t (valued {k = k} {e = e} {m = u} x) = this (k, u, refl, (e, t, x, (refl, refl)))
-      from may _ _ t (sized {k = k} {e = e} {m = u} x) = that (this (k, u, refl, (sizes.Sized e, t, x, that (alone refl))))
+      from may _ _ t (sized {k = k} {e = e} {m = u} x) =
+          that (this (k, u, refl, (sizes.Sized e, t, x, that (alone refl))))
       from may _ _ t (filled {k = k} {k' = k'} {k'' = k''} {a = a} {es = es} {m = u} {m' = v} x y) =
-          that (this (k, u, refl, (a, punct k' mark.Assign ∷ punct k'' mark.LeftBrace ∷ v, x, this (k', punct k'' mark.LeftBrace ∷ v, refl, (k'', v, refl, (es, t, y, (refl, refl)))))))
+          that (this (
+            k,
+            u,
+            refl,
+            (
+              a,
+              punct k' mark.Assign ∷ punct k'' mark.LeftBrace ∷ v,
+              x,
+              this (
+                k',
+                punct k'' mark.LeftBrace ∷ v,
+                refl,
+                (k'', v, refl, (es, t, y, (refl, refl))),
+              ),
+            ),
+          ))
 
   -- ---- globals
 
@@ -241,43 +348,97 @@ module _ (m : ℕ) (nested : Nested) (known : Deeper nested m 0) where
   abbrev global_ends : Top → Tokens → Type 0
   global_ends x t = Stops 15 t
 
-  global_piece : (k : Kind) → Piece same_tree (GlobalIs k) any always global_ends name_first m (global_of nested k)
+  global_piece : (k : Kind) → Piece same_tree (GlobalIs k) any always global_ends name_first m
+      (global_of nested k)
   unfolding global_of
   global_piece k =
-      seq (λ n ts. and_then (shape_of nested ts) (λ s ts. top_here (global n.0 k n.1 s) ts)) (name_piece m)
-      (λ n. seq (λ s ts. top_here (global n.0 k n.1 s) ts) shape_piece (λ s. done same_tree (global n.0 k n.1 s) m (λ t h. tt)) (λ t. omega arith) (λ may x y u t r h. subst (Stops 15) (sym r.1) h)) (λ t. omega arith) (λ may x y u t r h. tt)
+      seq (λ n ts. and_then (shape_of nested ts) (λ s ts. top_here (global n.0 k n.1 s) ts))
+      (name_piece m)
+      (λ n. seq (λ s ts. top_here (global n.0 k n.1 s) ts) shape_piece
+      (λ s. done same_tree (global n.0 k n.1 s) m (λ t h. tt)) (λ t. omega arith)
+      (λ may x y u t r h. subst (Stops 15) (sym r.1) h)) (λ t. omega arith)
+      (λ may x y u t r h. tt)
 
-  globals_tail : (may : May) (k : Kind) (n : ℕ × List ℕ) (v u t : Tokens) (h : ArraySize × List Expr) (x : Top) (gs : List Top) → Units may (shape h) v u → global n.0 k n.1 h ≡ x → Tail (GlobalsAre k) mark.Semicolon false x may gs u t
+  globals_tail : (may : May) (k : Kind) (n : ℕ × List ℕ) (v u t : Tokens)
+      (h : ArraySize × List Expr) (x : Top) (gs : List Top) → Units may (shape h) v u
+      → global n.0 k n.1 h ≡ x → Tail (GlobalsAre k) mark.Semicolon false x may gs u t
       → GlobalsAre k may gs (named n.0 n.1 ∷ v) t
-  globals_tail may k n v _ t h x _ w e ends = subst (λ (y : Top). GlobalsAre k may (y ∷ []) (named n.0 n.1 ∷ v) t) e (last_global w)
+  globals_tail may k n v _ t h x _ w e ends =
+      subst (λ (y : Top). GlobalsAre k may (y ∷ []) (named n.0 n.1 ∷ v) t) e (last_global w)
   globals_tail may k n v _ t h x _ w e (trails q) = absurd (false≢true q)
-  globals_tail may k n v _ t h x _ w e (goes {xs = gs} r) = subst (λ (y : Top). GlobalsAre k may (y ∷ gs) (named n.0 n.1 ∷ v) t) e (next_global w r)
+  globals_tail may k n v _ t h x _ w e (goes {xs = gs} r) =
+      subst (λ (y : Top). GlobalsAre k may (y ∷ gs) (named n.0 n.1 ∷ v) t) e (next_global w r)
 
-  globals_to : (k : Kind) (may : May) (gs : List Top) (f t : Tokens) → Then (GlobalIs k) (λ x. Tail (GlobalsAre k) mark.Semicolon false x) may gs f t → GlobalsAre k may gs f t
+  globals_to : (k : Kind) (may : May) (gs : List Top) (f t : Tokens)
+      → Then (GlobalIs k) (λ x. Tail (GlobalsAre k) mark.Semicolon false x) may gs f t
+      → GlobalsAre k may gs f t
   globals_to k may gs f t r =
       let x = r.2 in let h = x.3 in
-      subst (λ (f : Tokens). GlobalsAre k may gs f t) (sym x.2) (globals_tail may k x.0 x.1 r.1 t h.0 r.0 gs (subst (λ (u : Tokens). Units may (shape h.0) x.1 u) h.3.1 h.2) h.3.0 r.3)
+      subst (λ (f : Tokens). GlobalsAre k may gs f t) (sym x.2)
+      (globals_tail may k x.0 x.1 r.1 t h.0 r.0 gs
+      (subst (λ (u : Tokens). Units may (shape h.0) x.1 u) h.3.1 h.2) h.3.0 r.3)
 
-  globals_in : (i k : Kind) (may : May) (gs : List Top) (f t : Tokens) → GlobalsAre i may gs f t → i ≡ k → Then (GlobalIs k) (λ x. Tail (GlobalsAre k) mark.Semicolon false x) may gs f t
-  globals_in _ k may _ _ t (last_global {l = l} {j = j} {k = i} {w = w} {s = h} {m = v} x) e =
-      (global l i w h, punct j mark.Semicolon ∷ t, ((l, w), v, refl, (h, punct j mark.Semicolon ∷ t, x, (ap (λ (i : Kind). global l i w h) (sym e), refl))), ends)
-  globals_in _ k may _ _ t (next_global {l = l} {j = j} {k = i} {w = w} {s = h} {gs = gs} {m = v} {m' = v'} x y) e =
-      (global l i w h, punct j mark.Comma ∷ v', ((l, w), v, refl, (h, punct j mark.Comma ∷ v', x, (ap (λ (i : Kind). global l i w h) (sym e), refl))), goes (subst (λ (i : Kind). GlobalsAre i may gs v' t) e y))
+  globals_in : (i k : Kind) (may : May) (gs : List Top) (f t : Tokens) → GlobalsAre i may gs f t
+      → i ≡ k → Then (GlobalIs k) (λ x. Tail (GlobalsAre k) mark.Semicolon false x) may gs f t
+  globals_in _ k may _ _ t (last_global {l = l} {j = j} {k = i} {w = w} {s = h} {m = v} x) e = (
+    global l i w h,
+    punct j mark.Semicolon ∷ t,
+    (
+      (l, w),
+      v,
+      refl,
+      (
+        h,
+        punct j mark.Semicolon ∷ t,
+        x,
+        (ap (λ (i : Kind). global l i w h) (sym e), refl),
+      ),
+    ),
+    ends,
+  )
+  globals_in _ k may _ _ t (next_global {l = l} {j = j} {k = i} {w = w} {s = h} {gs = gs} {m = v}
+      {m' = v'} x y) e = (
+        global l i w h,
+        punct j mark.Comma ∷ v',
+        (
+          (l, w),
+          v,
+          refl,
+          (
+            h,
+            punct j mark.Comma ∷ v',
+            x,
+            (ap (λ (i : Kind). global l i w h) (sym e), refl),
+          ),
+        ),
+        goes (subst (λ (i : Kind). GlobalsAre i may gs v' t) e y),
+      )
 
-  behind : (k : Kind) (x : Top) → Piece same_tree (Tail (GlobalsAre k) mark.Semicolon false x) any always always (λ t. punct 0 mark.Semicolon ∷ t) m (more_globals_of nested k x)
+  behind : (k : Kind) (x : Top) → Piece same_tree
+      (Tail (GlobalsAre k) mark.Semicolon false x) any always always
+      (λ t. punct 0 mark.Semicolon ∷ t) m (more_globals_of nested k x)
   unfolding more_globals_of
   behind k x =
-      tail_piece (GlobalIs k) (GlobalsAre k) global_ends name_first m (global_of nested k) (global_piece k) mark.Semicolon false (globals_to k) (λ may gs f t x. globals_in k k may gs f t x refl) refl (λ x l t. (omega arith, omega arith))
+      tail_piece (GlobalIs k) (GlobalsAre k) global_ends name_first m (global_of nested k)
+      (global_piece k) mark.Semicolon false (globals_to k)
+      (λ may gs f t x. globals_in k k may gs f t x refl) refl
+      (λ x l t. (omega arith, omega arith))
       (λ may xs f t r e. absurd (false≢true e)) x
 
   abbrev pub GlobalsFrom : Kind → ℕ → List ℕ → Rel (List Top)
   GlobalsFrom k l w = Then ShapeIs (λ s. Tail (GlobalsAre k) mark.Semicolon false (global l k w s))
 
-  pub globals_piece : (k : Kind) (l : ℕ) (w : List ℕ) → Piece same_tree (GlobalsFrom k l w) any always always (λ t. punct 0 mark.Semicolon ∷ t) m (globals_of nested k l w)
+  pub globals_piece : (k : Kind) (l : ℕ) (w : List ℕ)
+      → Piece same_tree (GlobalsFrom k l w) any always always (λ t. punct 0 mark.Semicolon ∷ t) m
+      (globals_of nested k l w)
   unfolding globals_of
   globals_piece k l w =
-      seq (λ s ts. more_globals_of nested k (global l k w s) ts) shape_piece (λ s. behind k (global l k w s)) (λ t. omega arith)
-      (λ may s gs u t r h. tail_meets (GlobalIs k) (GlobalsAre k) global_ends name_first m (global_of nested k) (global_piece k) mark.Semicolon false (globals_to k) (λ may gs f t x. globals_in k k may gs f t x refl) refl (λ x l t. (omega arith, omega arith))
+      seq (λ s ts. more_globals_of nested k (global l k w s) ts) shape_piece
+      (λ s. behind k (global l k w s)) (λ t. omega arith)
+      (λ may s gs u t r h. tail_meets (GlobalIs k) (GlobalsAre k) global_ends name_first m
+      (global_of nested k) (global_piece k) mark.Semicolon false (globals_to k)
+      (λ may gs f t x. globals_in k k may gs f t x refl) refl
+      (λ x l t. (omega arith, omega arith))
       (λ may xs f t r e. absurd (false≢true e)) may (global l k w s) gs u t r)
 
   -- ---- parameters
@@ -294,20 +455,29 @@ module _ (m : ℕ) (nested : Nested) (known : Deeper nested m 0) where
   label_piece : (l : ℕ) → Piece same_tree (LabelIs l) any always label_ends (λ t. t) m (label_of l)
   unfolding label_of
   label_piece l =
-      iff (either_of is_name labelled_piece (done same_tree (l, None) m (λ t h. tt)) (λ may n f t r. ap (first is_name) r.2) (λ may n f t r e. subst (λ (u : Tokens). first is_name u ≡ false) (sym r.1) e)) to from
+      iff (either_of is_name labelled_piece (done same_tree (l, None) m (λ t h. tt))
+      (λ may n f t r. ap (first is_name) r.2)
+      (λ may n f t r e. subst (λ (u : Tokens). first is_name u ≡ false) (sym r.1) e)) to from
     where
-      labelled_piece : Piece same_tree LabelledIs any always label_ends name_first m (λ ts. and_then (name_of ts) (λ n ts. label_here (n.0, Some (n.1)) ts))
-      labelled_piece = seq (λ n ts. label_here (n.0, Some (n.1)) ts) (name_piece m) (λ n. done same_tree (n.0, Some (n.1)) m (λ t h. tt)) (λ t. omega arith) (λ may x y u t r h. tt)
+      labelled_piece : Piece same_tree LabelledIs any always label_ends name_first m
+          (λ ts. and_then (name_of ts) (λ n ts. label_here (n.0, Some (n.1)) ts))
+      labelled_piece = seq (λ n ts. label_here (n.0, Some (n.1)) ts) (name_piece m)
+          (λ n. done same_tree (n.0, Some (n.1)) m (λ t h. tt)) (λ t. omega arith)
+          (λ may x y u t r h. tt)
 
-      to : (may : May) (n : ℕ × Option (List ℕ)) (f t : Tokens) → Either LabelledIs (Done (l, None)) may n f t → LabelIs l may n f t
-      to may n f t (this r) = subst (λ (f : Tokens). LabelIs l may n f t) (sym r.2) (ends_with (λ n t. LabelIs l may n (named r.0.0 r.0.1 ∷ r.1) t) labelled r.3)
+      to : (may : May) (n : ℕ × Option (List ℕ)) (f t : Tokens)
+          → Either LabelledIs (Done (l, None)) may n f t → LabelIs l may n f t
+      to may n f t (this r) = subst (λ (f : Tokens). LabelIs l may n f t) (sym r.2)
+          (ends_with (λ n t. LabelIs l may n (named r.0.0 r.0.1 ∷ r.1) t) labelled r.3)
       to may n f t (that r) = ends_with (λ n t. LabelIs l may n f t) unlabelled r
 
-      from' : (j : ℕ) (may : May) (n : ℕ × Option (List ℕ)) (f t : Tokens) → Units may (label j n) f t → j ≡ l → Either LabelledIs (Done (l, None)) may n f t
+      from' : (j : ℕ) (may : May) (n : ℕ × Option (List ℕ)) (f t : Tokens)
+          → Units may (label j n) f t → j ≡ l → Either LabelledIs (Done (l, None)) may n f t
       from' _ may _ _ t (unlabelled {l = j}) e = that (ap (λ (j : ℕ). (j, None)) (sym e), refl)
       from' _ may _ _ t (labelled {k = k} {w = w}) e = this ((k, w), t, refl, (refl, refl))
 
-      from : (may : May) (n : ℕ × Option (List ℕ)) (f t : Tokens) → LabelIs l may n f t → Either LabelledIs (Done (l, None)) may n f t
+      from : (may : May) (n : ℕ × Option (List ℕ)) (f t : Tokens) → LabelIs l may n f t
+          → Either LabelledIs (Done (l, None)) may n f t
       from may n f t x = from' l may n f t x refl
 
   abbrev BracketsAre : Rel ArraySize
@@ -319,26 +489,38 @@ module _ (m : ℕ) (nested : Nested) (known : Deeper nested m 0) where
   abbrev brackets_end : ArraySize → Tokens → Type 0
   brackets_end a t = is_next mark.LeftBracket t ≡ false
 
-  some_brackets_piece : Piece same_tree SomeBrackets any always brackets_end (λ t. punct 0 mark.LeftBracket ∷ zero_token ∷ punct 0 mark.RightBracket ∷ t) m (some_brackets_of nested)
+  some_brackets_piece : Piece same_tree SomeBrackets any always brackets_end
+      (λ t. punct 0 mark.LeftBracket ∷ zero_token ∷ punct 0 mark.RightBracket ∷ t) m
+      (some_brackets_of nested)
   unfolding some_brackets_of
-  some_brackets_piece = seq (λ _ ts. size_of nested ts) (mark_piece mark.LeftBracket m) (λ k. ends_by size_piece (λ x t h. tt)) (λ t. omega arith) (λ may x y u t r h. tt)
+  some_brackets_piece = seq (λ _ ts. size_of nested ts) (mark_piece mark.LeftBracket m)
+      (λ k. ends_by size_piece (λ x t h. tt)) (λ t. omega arith) (λ may x y u t r h. tt)
 
-  brackets_piece : Piece same_tree BracketsAre any always brackets_end (λ t. t) m (brackets_of nested)
+  brackets_piece : Piece same_tree BracketsAre any always brackets_end (λ t. t) m
+      (brackets_of nested)
   unfolding brackets_of
   brackets_piece =
-      iff (either_of (is_mark mark.LeftBracket) some_brackets_piece (done same_tree sizes.Scalar m (λ t h. tt)) (λ may a f t r. ap (is_next mark.LeftBracket) r.2) (λ may a f t r e. subst (λ (u : Tokens). is_next mark.LeftBracket u ≡ false) (sym r.1) e)) to from
+      iff (either_of (is_mark mark.LeftBracket) some_brackets_piece
+      (done same_tree sizes.Scalar m (λ t h. tt))
+      (λ may a f t r. ap (is_next mark.LeftBracket) r.2)
+      (λ may a f t r e. subst (λ (u : Tokens). is_next mark.LeftBracket u ≡ false) (sym r.1) e))
+      to from
     where
-      to : (may : May) (a : ArraySize) (f t : Tokens) → Either SomeBrackets (Done sizes.Scalar) may a f t → BracketsAre may a f t
-      to may a f t (this r) = subst (λ (f : Tokens). BracketsAre may a f t) (sym r.2) (some_brackets r.3)
+      to : (may : May) (a : ArraySize) (f t : Tokens)
+          → Either SomeBrackets (Done sizes.Scalar) may a f t → BracketsAre may a f t
+      to may a f t (this r) = subst (λ (f : Tokens). BracketsAre may a f t) (sym r.2)
+          (some_brackets r.3)
       to may a f t (that r) = ends_with (λ a t. BracketsAre may a f t) no_brackets r
 
-      from : (may : May) (a : ArraySize) (f t : Tokens) → BracketsAre may a f t → Either SomeBrackets (Done sizes.Scalar) may a f t
+      from : (may : May) (a : ArraySize) (f t : Tokens) → BracketsAre may a f t
+          → Either SomeBrackets (Done sizes.Scalar) may a f t
       from may _ _ t no_brackets = that (refl, refl)
       from may a _ t (some_brackets {k = k} {m = u} x) = this (k, u, refl, x)
 
   -- a comma or a closing parenthesis follows
   abbrev param_ends : Param → Tokens → Type 0
-  param_ends p t = (first is_name t ≡ false) × (is_next mark.LeftBracket t ≡ false) × (begins_type t ≡ false)
+  param_ends p t = (first is_name t ≡ false) × (is_next mark.LeftBracket t ≡ false)
+      × (begins_type t ≡ false)
 
   abbrev LabelThen : ℕ → Kind → Rel Param
   LabelThen l k = Then (LabelIs l) (λ n. Then BracketsAre (λ a. Done (parameter n k a)))
@@ -346,26 +528,34 @@ module _ (m : ℕ) (nested : Nested) (known : Deeper nested m 0) where
   abbrev ParamChain : Rel Param
   ParamChain = Then TypeIs (λ k. LabelThen k.0 k.1)
 
-  brackets_no_name : (may : May) (a : ArraySize) (u t : Tokens) → BracketsAre may a u t → first is_name t ≡ false → first is_name u ≡ false
+  brackets_no_name : (may : May) (a : ArraySize) (u t : Tokens) → BracketsAre may a u t
+      → first is_name t ≡ false → first is_name u ≡ false
   brackets_no_name may _ _ t no_brackets e = e
   brackets_no_name may a _ t (some_brackets x) e = refl
 
-  brackets_no_type : (may : May) (a : ArraySize) (u t : Tokens) → BracketsAre may a u t → begins_type t ≡ false → begins_type u ≡ false
+  brackets_no_type : (may : May) (a : ArraySize) (u t : Tokens) → BracketsAre may a u t
+      → begins_type t ≡ false → begins_type u ≡ false
   brackets_no_type may _ _ t no_brackets e = e
   brackets_no_type may a _ t (some_brackets x) e = refl
 
-  label_no_type : (may : May) (l : ℕ) (n : ℕ × Option (List ℕ)) (u t : Tokens) → LabelIs l may n u t → begins_type t ≡ false → begins_type u ≡ false
+  label_no_type : (may : May) (l : ℕ) (n : ℕ × Option (List ℕ)) (u t : Tokens) → LabelIs l may n u t
+      → begins_type t ≡ false → begins_type u ≡ false
   label_no_type may _ _ _ t unlabelled e = e
   label_no_type may l _ _ t labelled e = refl
 
   chain_piece : Piece same_tree ParamChain any always param_ends type_first m (param_of nested)
   unfolding param_of
   chain_piece =
-      seq (λ k ts. and_then (label_of k.0 ts) (λ n ts. and_then (brackets_of nested ts) (λ a ts. param_here (parameter n k.1 a) ts))) (type_piece m)
-      (λ k. seq (λ n ts. and_then (brackets_of nested ts) (λ a ts. param_here (parameter n k.1 a) ts)) (label_piece k.0)
-      (λ n. seq (λ a ts. param_here (parameter n k.1 a) ts) brackets_piece (λ a. done same_tree (parameter n k.1 a) m (λ t h. tt)) (λ t. omega arith)
+      seq (λ k ts. and_then (label_of k.0 ts)
+      (λ n ts. and_then (brackets_of nested ts) (λ a ts. param_here (parameter n k.1 a) ts)))
+      (type_piece m)
+      (λ k. seq (λ n ts. and_then (brackets_of nested ts)
+      (λ a ts. param_here (parameter n k.1 a) ts)) (label_piece k.0)
+      (λ n. seq (λ a ts. param_here (parameter n k.1 a) ts) brackets_piece
+      (λ a. done same_tree (parameter n k.1 a) m (λ t h. tt)) (λ t. omega arith)
       (λ may x y u t r h. subst (λ (u : Tokens). is_next mark.LeftBracket u ≡ false) (sym r.1) h.1))
-      (λ t. omega arith) (λ may n p u t r h. brackets_no_name may r.0 u r.1 r.2 (subst (λ (u : Tokens). first is_name u ≡ false) (sym r.3.1) h.0)))
+      (λ t. omega arith) (λ may n p u t r h. brackets_no_name may r.0 u r.1 r.2
+      (subst (λ (u : Tokens). first is_name u ≡ false) (sym r.3.1) h.0)))
       (λ t. omega arith)
       (λ may k p u t r h. let b = r.3 in label_no_type may k.0 r.0 u r.1 r.2 (brackets_no_type may b.0 r.1 b.1 b.2 (subst (λ (u : Tokens). begins_type u ≡ false) (sym b.3.1) h.2)))
 
@@ -376,31 +566,42 @@ module _ (m : ℕ) (nested : Nested) (known : Deeper nested m 0) where
       to may p f t r = let n = r.3 in let a = n.3 in ends_with (λ p t. ParamIs may p f t) (param_is r.2 n.2 a.2) a.3
 
       from : (may : May) (p : Param) (f t : Tokens) → ParamIs may p f t → ParamChain may p f t
-      from may _ f t (param_is {l = l} {k = k} {n = n} {a = a} {m = u} {m' = v} x y z) = ((l, k), u, x, (n, v, y, (a, t, z, (refl, refl))))
+      from may _ f t (param_is {l = l} {k = k} {n = n} {a = a} {m = u} {m' = v} x y z) =
+          ((l, k), u, x, (n, v, y, (a, t, z, (refl, refl))))
 
   param_starts : (may : May) (p : Param) (f t : Tokens) → ParamIs may p f t → begins_type f ≡ true
   param_starts may _ f t (param_is x y z) = types_begin x
 
-  list_starts : (may : May) (ps : List Param) (f t : Tokens) → ParamList may ps f t → begins_type f ≡ true
+  list_starts : (may : May) (ps : List Param) (f t : Tokens) → ParamList may ps f t
+      → begins_type f ≡ true
   list_starts may _ f t (last_param {p = p} x) = param_starts may p f _ x
   list_starts may _ f t (next_param {p = p} x y) = param_starts may p f _ x
 
-  list_piece : Piece same_tree ParamList any always always (λ t. type_first (punct 0 mark.RightParen ∷ t)) m (param_list_of nested)
+  list_piece : Piece same_tree ParamList any always always
+      (λ t. type_first (punct 0 mark.RightParen ∷ t)) m (param_list_of nested)
   unfolding param_list_of
   list_piece =
-      listed_piece ParamIs ParamList param_ends type_first m (param_of nested) param_piece mark.RightParen false to from refl (λ x l t. ((refl, refl, refl), (refl, refl, refl))) (λ may xs f t r e. absurd (false≢true e))
+      listed_piece ParamIs ParamList param_ends type_first m
+      (param_of nested) param_piece mark.RightParen false to from refl
+      (λ x l t. ((refl, refl, refl), (refl, refl, refl)))
+      (λ may xs f t r e. absurd (false≢true e))
     where
-      to_tail : (may : May) (p : Param) (ps : List Param) (f u t : Tokens) → ParamIs may p f u → Tail ParamList mark.RightParen false p may ps u t → ParamList may ps f t
+      to_tail : (may : May) (p : Param) (ps : List Param) (f u t : Tokens) → ParamIs may p f u
+          → Tail ParamList mark.RightParen false p may ps u t → ParamList may ps f t
       to_tail may p _ f _ t x ends = last_param x
       to_tail may p _ f _ t x (trails q) = absurd (false≢true q)
       to_tail may p _ f _ t x (goes r) = next_param x r
 
-      to : (may : May) (ps : List Param) (f t : Tokens) → Then ParamIs (λ x. Tail ParamList mark.RightParen false x) may ps f t → ParamList may ps f t
+      to : (may : May) (ps : List Param) (f t : Tokens)
+          → Then ParamIs (λ x. Tail ParamList mark.RightParen false x) may ps f t
+          → ParamList may ps f t
       to may ps f t r = to_tail may r.0 ps f r.1 t r.2 r.3
 
-      from : (may : May) (ps : List Param) (f t : Tokens) → ParamList may ps f t → Then ParamIs (λ x. Tail ParamList mark.RightParen false x) may ps f t
+      from : (may : May) (ps : List Param) (f t : Tokens) → ParamList may ps f t
+          → Then ParamIs (λ x. Tail ParamList mark.RightParen false x) may ps f t
       from may _ f t (last_param {k = k} {p = p} x) = (p, punct k mark.RightParen ∷ t, x, ends)
-      from may _ f t (next_param {k = k} {p = p} {m = v} x y) = (p, punct k mark.Comma ∷ v, x, goes y)
+      from may _ f t (next_param {k = k} {p = p} {m = v} x y) =
+          (p, punct k mark.Comma ∷ v, x, goes y)
 
   abbrev NoParams : Rel (List Param)
   NoParams = Then (Is mark.RightParen) (λ k. Done [])
@@ -408,13 +609,17 @@ module _ (m : ℕ) (nested : Nested) (known : Deeper nested m 0) where
   abbrev VoidParams : Rel (List Param)
   VoidParams = Then (IsWord key.Void) (λ k. NoParams)
 
-  no_params_piece : Piece same_tree NoParams any always always (λ t. punct 0 mark.RightParen ∷ t) m (no_params_of nested)
+  no_params_piece : Piece same_tree NoParams any always always (λ t. punct 0 mark.RightParen ∷ t) m
+      (no_params_of nested)
   unfolding no_params_of
-  no_params_piece = seq (λ _ ts. params_here [] ts) (mark_piece mark.RightParen m) (λ k. done same_tree [] m (λ t h. tt)) (λ t. omega arith) (λ may x y u t r h. tt)
+  no_params_piece = seq (λ _ ts. params_here [] ts) (mark_piece mark.RightParen m)
+      (λ k. done same_tree [] m (λ t h. tt)) (λ t. omega arith) (λ may x y u t r h. tt)
 
-  void_params_piece : Piece same_tree VoidParams any always always (λ t. word 0 key.Void ∷ punct 0 mark.RightParen ∷ t) m (void_params_of nested)
+  void_params_piece : Piece same_tree VoidParams any always always
+      (λ t. word 0 key.Void ∷ punct 0 mark.RightParen ∷ t) m (void_params_of nested)
   unfolding void_params_of
-  void_params_piece = seq (λ _ ts. no_params_of nested ts) (word_piece key.Void m) (λ k. no_params_piece) (λ t. omega arith) (λ may x y u t r h. tt)
+  void_params_piece = seq (λ _ ts. no_params_of nested ts) (word_piece key.Void m)
+      (λ k. no_params_piece) (λ t. omega arith) (λ may x y u t r h. tt)
 
   type_no_paren : (f : Tokens) → begins_type f ≡ true → is_next mark.RightParen f ≡ false
   type_no_paren f e = type_no_mark mark.RightParen f e
@@ -422,25 +627,36 @@ module _ (m : ℕ) (nested : Nested) (known : Deeper nested m 0) where
   type_no_void : (f : Tokens) → begins_type f ≡ true → is_word key.Void f ≡ false
   type_no_void f e = type_no_word key.Void refl f e
 
-  pub params_piece : Piece same_tree ParamsAre any always always (λ t. type_first (punct 0 mark.RightParen ∷ t)) m (params_of nested)
+  pub params_piece : Piece same_tree ParamsAre any always always
+      (λ t. type_first (punct 0 mark.RightParen ∷ t)) m (params_of nested)
   unfolding params_of
   params_piece =
       iff (either_of (is_mark mark.RightParen) no_params_piece
-      (either_of (is_key key.Void) void_params_piece list_piece (λ may ps f t r. ap (is_word key.Void) r.2) (λ may ps f t r e. type_no_void f (list_starts may ps f t r)))
+      (either_of (is_key key.Void) void_params_piece list_piece
+      (λ may ps f t r. ap (is_word key.Void) r.2)
+      (λ may ps f t r e. type_no_void f (list_starts may ps f t r)))
       (λ may ps f t r. ap (is_next mark.RightParen) r.2) no_paren) to from
     where
-      no_paren : (may : May) (ps : List Param) (f t : Tokens) → Either VoidParams ParamList may ps f t → always ps t → is_next mark.RightParen f ≡ false
+      no_paren : (may : May) (ps : List Param) (f t : Tokens)
+          → Either VoidParams ParamList may ps f t → always ps t → is_next mark.RightParen f ≡ false
       no_paren may ps f t (this r) e = ap (is_next mark.RightParen) r.2
       no_paren may ps f t (that r) e = type_no_paren f (list_starts may ps f t r)
 
-      to : (may : May) (ps : List Param) (f t : Tokens) → Either NoParams (Either VoidParams ParamList) may ps f t → ParamsAre may ps f t
-      to may ps f t (this r) = subst (λ (f : Tokens). ParamsAre may ps f t) (sym r.2) (ends_with (λ ps t. ParamsAre may ps (punct r.0 mark.RightParen ∷ r.1) t) no_params r.3)
+      to : (may : May) (ps : List Param) (f t : Tokens)
+          → Either NoParams (Either VoidParams ParamList) may ps f t → ParamsAre may ps f t
+      to may ps f t (this r) = subst (λ (f : Tokens). ParamsAre may ps f t) (sym r.2)
+          (ends_with (λ ps t. ParamsAre may ps (punct r.0 mark.RightParen ∷ r.1) t) no_params r.3)
       to may ps f t (that (this r)) =
           let k = r.3 in
-          subst (λ (f : Tokens). ParamsAre may ps f t) (sym (r.2 ∙ ap (λ u. word r.0 key.Void ∷ u) k.2)) (ends_with (λ ps t. ParamsAre may ps (word r.0 key.Void ∷ punct k.0 mark.RightParen ∷ k.1) t) void_params k.3)
+          subst (λ (f : Tokens). ParamsAre may ps f t)
+          (sym (r.2 ∙ ap (λ u. word r.0 key.Void ∷ u) k.2))
+          (ends_with (λ ps t. ParamsAre may ps
+          (word r.0 key.Void ∷ punct k.0 mark.RightParen ∷ k.1) t) void_params k.3)
       to may ps f t (that (that r)) = some_params r
 
-      from : (may : May) (ps : List Param) (f t : Tokens) → ParamsAre may ps f t → Either NoParams (Either VoidParams ParamList) may ps f t
+      from : (may : May) (ps : List Param) (f t : Tokens) → ParamsAre may ps f t
+          → Either NoParams (Either VoidParams ParamList) may ps f t
       from may _ _ t (no_params {k = k}) = this (k, t, refl, (refl, refl))
-      from may _ _ t (void_params {k = k} {k' = k'}) = that (this (k, punct k' mark.RightParen ∷ t, refl, (k', t, refl, (refl, refl))))
+      from may _ _ t (void_params {k = k} {k' = k'}) =
+          that (this (k, punct k' mark.RightParen ∷ t, refl, (k', t, refl, (refl, refl))))
       from may ps f t (some_params x) = that (that x)

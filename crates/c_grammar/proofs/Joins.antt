@@ -4,13 +4,20 @@ use Rattle.c_tree.specs.declared.token.Lexeme.{Lexeme}
 use Rattle.c_tree.specs.declared.token.Form.TheVariants as form
 use Rattle.c_tree.specs.declared.tree.Expr.{Expr}
 use Rattle.c_grammar.specs.Tokens.{Tokens, punct, May}
-use Rattle.c_grammar.specs.Operators.{Joiner, joiner_mark, below, joined, Suffix, suffix_mark, suffixed}
-use Rattle.c_grammar.specs.Expressions.{expr, Spells, number, name, group, element, call, suffix, prefix, cast, join, choice, assign, up}
+use Rattle.c_grammar.specs.Operators.{Joiner, joiner_mark, below, joined, Suffix, suffix_mark}
+use Rattle.c_grammar.specs.Operators.{suffixed}
+use Rattle.c_grammar.specs.Expressions.{expr, Spells, number, name, group, element, call, suffix}
+use Rattle.c_grammar.specs.Expressions.{prefix, cast, join, choice, assign, up}
 use Rattle.c_grammar.specs.Parsing.{Out, and_then, tail, line_of}
 use Rattle.c_grammar.specs.ModelExpressions.{joiner, suffix_of, seen, loop, suffixes}
-use Rattle.c_grammar.proofs.Agree.{stay, place, Tied, at_cut, alike, head_step, Lands, good, past, lands_by, bind_lands}
-use Rattle.c_grammar.proofs.Pieces.{Rel, Sound, read, Then, always, any, Piece, seq_sound, same_tree, sound_short, prepend}
-use Rattle.c_grammar.proofs.Stops.{Stops, lower, tied_stops, seen_is, by_none, by_some, by_step, bind_joiner, joiner_self, joiner_is, joiner_below, joiner_none, Joining, below_joins, suffix_self, suffix_is, suffix_none, bind_suffix}
+use Rattle.c_grammar.proofs.Agree.{stay, place, Tied, at_cut, alike, head_step, Lands, good, past}
+use Rattle.c_grammar.proofs.Agree.{lands_by, bind_lands}
+use Rattle.c_grammar.proofs.Pieces.{Rel, Sound, read, Then, always, any, Piece, seq_sound}
+use Rattle.c_grammar.proofs.Pieces.{same_tree, sound_short, prepend}
+use Rattle.c_grammar.proofs.Stops.{Stops, lower, tied_stops, seen_is, by_none, by_some, by_step}
+use Rattle.c_grammar.proofs.Stops.{bind_joiner, joiner_self, joiner_is, joiner_below, joiner_none}
+use Rattle.c_grammar.proofs.Stops.{Joining, below_joins, suffix_self, suffix_is, suffix_none}
+use Rattle.c_grammar.proofs.Stops.{bind_suffix}
 use Rattle.c_grammar.proofs.Levels.{zero_first}
 
 abbrev pub Level : ℕ → ℕ → Rel Expr
@@ -25,28 +32,37 @@ expr_here e t = Ok (e, t)
 -- from a phrase, what joins on to it
 pub data Joins (d k : ℕ) (may : May) (r : Expr) : Expr → Tokens → Tokens → Type 0 where
   over : {t : Tokens} → Joins d k may r r t t
-  on : {l : ℕ} {a b : Expr} {m u t : Tokens} → (j : Joiner) → below j ≡ k → Spells may (expr k b) d m u → Joins d k may r (joined j a b) u t
+  on : {l : ℕ} {a b : Expr} {m u t : Tokens} → (j : Joiner) → below j ≡ k
+      → Spells may (expr k b) d m u → Joins d k may r (joined j a b) u t
       → Joins d k may r a (punct l (joiner_mark j) ∷ m) t
 
 abbrev pub JoinsFrom : ℕ → ℕ → Expr → Rel Expr
 JoinsFrom d k a may r f t = Joins d k may r a f t
 
-joins_stop : {d k : ℕ} {may : May} {r a : Expr} {u t : Tokens} → Joins d k may r a u t → Stops (suc k) t → Stops k u
+joins_stop : {d k : ℕ} {may : May} {r a : Expr} {u t : Tokens} → Joins d k may r a u t
+    → Stops (suc k) t → Stops k u
 joins_stop {k = k} (over {t = t}) s = lower k (suc k) t (omega arith) s
 joins_stop (on j e y js) s = let b = bind_joiner j in omega (arith, b, e)
 
-join_at : {may : May} {d l : ℕ} {a b : Expr} {f u t : Tokens} → (j : Joiner) (k : ℕ) → below j ≡ k → Spells may (expr (suc k) a) d f (punct l (joiner_mark j) ∷ u) → Spells may (expr k b) d u t → Spells may (expr (suc k) (joined j a b)) d f t
+join_at : {may : May} {d l : ℕ} {a b : Expr} {f u t : Tokens} → (j : Joiner) (k : ℕ) → below j ≡ k
+    → Spells may (expr (suc k) a) d f (punct l (joiner_mark j) ∷ u) → Spells may (expr k b) d u t
+    → Spells may (expr (suc k) (joined j a b)) d f t
 join_at {may} {d} {l} {a} {b} {f} {u} {t} j k e =
-    subst (λ (k : ℕ). Spells may (expr (suc k) a) d f (punct l (joiner_mark j) ∷ u) → Spells may (expr k b) d u t → Spells may (expr (suc k) (joined j a b)) d f t) e (join j)
+    subst (λ (k : ℕ). Spells may (expr (suc k) a) d f (punct l (joiner_mark j) ∷ u)
+    → Spells may (expr k b) d u t → Spells may (expr (suc k) (joined j a b)) d f t) e (join j)
 
-join_to : {may : May} {d k : ℕ} {r a : Expr} {f u t : Tokens} → Spells may (expr (suc k) a) d f u → Joins d k may r a u t → Spells may (expr (suc k) r) d f t
+join_to : {may : May} {d k : ℕ} {r a : Expr} {f u t : Tokens} → Spells may (expr (suc k) a) d f u
+    → Joins d k may r a u t → Spells may (expr (suc k) r) d f t
 join_to x over = x
 join_to {k = k} x (on j e y js) = join_to (join_at j k e x y) js
 
-pub joins_to : {d k : ℕ} (may : May) (r : Expr) (f t : Tokens) → Then (Level k d) (JoinsFrom d k) may r f t → Level (suc k) d may r f t
+pub joins_to : {d k : ℕ} (may : May) (r : Expr) (f t : Tokens)
+    → Then (Level k d) (JoinsFrom d k) may r f t → Level (suc k) d may r f t
 joins_to may r f t q = join_to (up q.2) q.3
 
-join_from : {may : May} {n d : ℕ} {r a : Expr} {f u t : Tokens} → (k : ℕ) → Joining k → Spells may (expr n a) d f u → n ≡ suc k → Joins d k may r a u t → Then (Level k d) (JoinsFrom d k) may r f t
+join_from : {may : May} {n d : ℕ} {r a : Expr} {f u t : Tokens} → (k : ℕ) → Joining k
+    → Spells may (expr n a) d f u → n ≡ suc k → Joins d k may r a u t
+    → Then (Level k d) (JoinsFrom d k) may r f t
 join_from k g number e js = absurd (omega (arith, e))
 join_from k g name e js = absurd (omega (arith, e))
 join_from k g (group ok x) e js = absurd (omega (arith, e))
@@ -64,90 +80,137 @@ join_from {may} {d = d} {r} {a} {f} {u} k g (up {n = n} x) e js =
     let i : n ≡ k = omega (arith, e) in
     (a, u, subst (λ (k : ℕ). Spells may (expr k a) d f u) i x, js)
 
-pub joins_from : {d k : ℕ} → Joining k → (may : May) (r : Expr) (f t : Tokens) → Level (suc k) d may r f t → Then (Level k d) (JoinsFrom d k) may r f t
+pub joins_from : {d k : ℕ} → Joining k → (may : May) (r : Expr) (f t : Tokens)
+    → Level (suc k) d may r f t → Then (Level k d) (JoinsFrom d k) may r f t
 joins_from {k = k} g may r f t x = join_from k g x refl over
 
-none_left : {cut : Bool} {g g' ts ts' : Tokens} {x : Lexeme} → Tied cut g g' ts (x ∷ ts') → length ts ≤ 0 → ⊥
+none_left : {cut : Bool} {g g' ts ts' : Tokens} {x : Lexeme} → Tied cut g g' ts (x ∷ ts')
+    → length ts ≤ 0 → ⊥
 none_left (at_cut t c) le = omega (arith, le)
 none_left (alike t x) le = omega (arith, le)
 
 module _ (m d k : ℕ) (inner : Tokens → Out Expr) (item : Piece same_tree (Level k d) any always (ends_at k) zero_first m inner) where
   -- behind a joiner
-  turn_sound : (n : ℕ) (a : Expr) (j : Joiner) → ((a : Expr) (ts : Tokens) → Sound same_tree (JoinsFrom d k a) always m ts (loop inner k n a ts)) → (ts : Tokens)
-      → Sound same_tree (Then (Level k d) (λ b. JoinsFrom d k (joined j a b))) always m ts (and_then (inner ts) (λ b ts. loop inner k n (joined j a b) ts))
+  turn_sound : (n : ℕ) (a : Expr) (j : Joiner)
+      → ((a : Expr) (ts : Tokens) → Sound same_tree (JoinsFrom d k a) always m ts
+      (loop inner k n a ts)) → (ts : Tokens)
+      → Sound same_tree (Then (Level k d) (λ b. JoinsFrom d k (joined j a b))) always m ts
+      (and_then (inner ts) (λ b ts. loop inner k n (joined j a b) ts))
   turn_sound n a j below' ts =
-      seq_sound same_tree same_tree (Level k d) (λ b. JoinsFrom d k (joined j a b)) always always m ts (inner ts) (λ b ts. loop inner k n (joined j a b) ts) (λ t. t) (λ t. omega arith)
+      seq_sound same_tree same_tree (Level k d)
+      (λ b. JoinsFrom d k (joined j a b)) always always m ts (inner ts)
+      (λ b ts. loop inner k n (joined j a b) ts) (λ t. t) (λ t. omega arith)
       (λ b may t fr fr'. (joined j a b, over)) (item.sound ts tt) (λ b u _. below' (joined j a b) u)
 
-  joins_sound : (n : ℕ) (a : Expr) (ts : Tokens) → Sound same_tree (JoinsFrom d k a) always m ts (loop inner k n a ts)
-  joins_sound zero a ts = read a ts (record { put = λ u. u; way = stay; is = refl; again = λ may w u. over }) tt
+  joins_sound : (n : ℕ) (a : Expr) (ts : Tokens)
+      → Sound same_tree (JoinsFrom d k a) always m ts (loop inner k n a ts)
+  joins_sound zero a ts = read a ts (record {
+    put = λ u. u;
+    way = stay;
+    is = refl;
+    again = λ may w u. over;
+  }) tt
   joins_sound (suc n) a ts =
       by_step (Sound same_tree (JoinsFrom d k a) always m ts) (seen (joiner k) ts) _ _
       (λ e. read a ts (record { put = λ u. u; way = stay; is = refl; again = λ may w u. over }) tt)
-      (λ j e. prepend (punct (line_of ts) (joiner_mark j)) ts (seen_is (joiner k) joiner_mark (λ f j e. (joiner_is k f j e).0) ts j e) (λ may r f t q. on j (joiner_below k ts j e) q.2 q.3)
+      (λ j e. prepend (punct (line_of ts) (joiner_mark j)) ts
+      (seen_is (joiner k) joiner_mark (λ f j e. (joiner_is k f j e).0) ts j e)
+      (λ may r f t q. on j (joiner_below k ts j e) q.2 q.3)
       (turn_sound n a j (joins_sound n) (tail ts)))
 
-  loop_stops : (n : ℕ) (a : Expr) (ts : Tokens) → Stops (suc k) ts → loop inner k n a ts ≡ Ok (a, ts)
+  loop_stops : (n : ℕ) (a : Expr) (ts : Tokens) → Stops (suc k) ts
+      → loop inner k n a ts ≡ Ok (a, ts)
   loop_stops zero a ts s = refl
   loop_stops (suc n) a ts s = by_none (seen (joiner k) ts) _ _ (joiner_none k ts s)
 
-  loop_joins : (n l : ℕ) (a : Expr) (j : Joiner) (r : Tokens) → below j ≡ k → loop inner k (suc n) a (punct l (joiner_mark j) ∷ r) ≡ and_then (inner r) (λ b ts. loop inner k n (joined j a b) ts)
-  loop_joins n l a j r e = by_some (joiner k (form.Mark (joiner_mark j))) j (expr_here a (punct l (joiner_mark j) ∷ r)) (λ j. and_then (inner r) (λ b ts. loop inner k n (joined j a b) ts)) (joiner_self j k e)
+  loop_joins : (n l : ℕ) (a : Expr) (j : Joiner) (r : Tokens) → below j ≡ k
+      → loop inner k (suc n) a (punct l (joiner_mark j) ∷ r)
+      ≡ and_then (inner r) (λ b ts. loop inner k n (joined j a b) ts)
+  loop_joins n l a j r e = by_some (joiner k (form.Mark (joiner_mark j))) j
+      (expr_here a (punct l (joiner_mark j) ∷ r))
+      (λ j. and_then (inner r) (λ b ts. loop inner k n (joined j a b) ts)) (joiner_self j k e)
 
-  joins_land : (cut : Bool) (g g' : Tokens) (may : May) (n : ℕ) (a r : Expr) (f' t' : Tokens) → Joins d k may r a f' t' → Stops (suc k) t' → (f : Tokens) → length f ≤ n → Tied cut g g' f f'
+  joins_land : (cut : Bool) (g g' : Tokens) (may : May) (n : ℕ) (a r : Expr) (f' t' : Tokens)
+      → Joins d k may r a f' t' → Stops (suc k) t' → (f : Tokens) → length f ≤ n → Tied cut g g' f f'
       → Lands cut g g' may m (loop inner k n a f) (λ to. Ok (r, to)) t'
   joins_land cut g g' may zero a r f' t' over s f le tied = good f tied refl
   joins_land cut g g' may zero a r f' t' (on j e y js) s f le tied = absurd (none_left tied le)
-  joins_land cut g g' may (suc n) a r f' t' over s f le tied = good f tied (loop_stops (suc n) a f (tied_stops (suc k) tied s))
-  joins_land cut g g' may (suc n) a r f' t' (on {l = l} {b = b} {m = v} {u = u} j e y js) s f le tied =
-      head_step cut g g' (λ w. length w ≤ suc n → Lands cut g g' may m (loop inner k (suc n) a w) (λ to. Ok (r, to)) t') tied
+  joins_land cut g g' may (suc n) a r f' t' over s f le tied =
+      good f tied (loop_stops (suc n) a f (tied_stops (suc k) tied s))
+  joins_land cut g g' may (suc n) a r f' t'
+      (on {l = l} {b = b} {m = v} {u = u} j e y js) s f le tied =
+      head_step cut g g' (λ w. length w ≤ suc n
+      → Lands cut g g' may m (loop inner k (suc n) a w) (λ to. Ok (r, to)) t') tied
       (λ w tw le. lands_by cut g g' may m (loop_joins n l a j w e)
-      (bind_lands cut g g' may m b (inner w) (λ b ts. loop inner k n (joined j a b) ts) (λ to. Ok (r, to)) u t' (item.complete cut g g' may b v u y (joins_stop js s) w tw)
-      (λ x v le. record { le = omega (arith, le, sound_short same_tree (JoinsFrom d k (joined j a x)) always m v (loop inner k n (joined j a x) v) (joins_sound n (joined j a x) v)) })
+      (bind_lands cut g g' may m b (inner w) (λ b ts. loop inner k n (joined j a b) ts)
+      (λ to. Ok (r, to)) u t' (item.complete cut g g' may b v u y (joins_stop js s) w tw)
+      (λ x v le. record {
+        le = omega (
+          arith,
+          le,
+          sound_short same_tree (JoinsFrom d k (joined j a x)) always m v
+              (loop inner k n (joined j a x) v) (joins_sound n (joined j a x) v),
+        );
+      })
       (λ mid tm i. joins_land cut g g' may n (joined j a b) r u t' js s mid
-      (omega (arith, le, sound_short same_tree (Level k d) always m w (inner w) (item.sound w tt), ap (λ (o : Out Expr). length (place o)) i)) tm)))
+      (omega (
+        arith,
+        le,
+        sound_short same_tree (Level k d) always m w (inner w) (item.sound w tt),
+        ap (λ (o : Out Expr). length (place o)) i,
+      )) tm)))
       (λ c le. past c (record {
         le = omega (
           arith,
           ap (λ (o : Out Expr). length (place o)) (loop_joins n l a j g e),
-          sound_short same_tree (Then (Level k d) (λ b. JoinsFrom d k (joined j a b))) always m g (and_then (inner g) (λ b ts. loop inner k n (joined j a b) ts)) (turn_sound n a j (joins_sound n) g),
+          sound_short same_tree (Then (Level k d) (λ b. JoinsFrom d k (joined j a b))) always m g
+              (and_then (inner g) (λ b ts. loop inner k n (joined j a b) ts))
+              (turn_sound n a j (joins_sound n) g),
         );
       }))
       le
 
-  pub joins_piece : (a : Expr) → Piece same_tree (JoinsFrom d k a) any always (ends_at (suc k)) (λ t. t) m (λ ts. loop inner k (length ts) a ts)
+  pub joins_piece : (a : Expr) → Piece same_tree (JoinsFrom d k a) any always (ends_at (suc k))
+      (λ t. t) m (λ ts. loop inner k (length ts) a ts)
   joins_piece a =
       record {
         grow = λ t. omega arith;
         least = λ may t fr fr'. (a, over);
         sound = λ ts h. joins_sound (length ts) a ts;
-        complete = λ cut g g' may r f' t' x s f tied. joins_land cut g g' may (length f) a r f' t' x s f (omega arith) tied;
+        complete = λ cut g g' may r f' t' x s f tied. joins_land cut g g' may
+            (length f) a r f' t' x s f (omega arith) tied;
       }
 
-  pub joins_meets : (may : May) (a r : Expr) (u t : Tokens) → JoinsFrom d k a may r u t → Stops (suc k) t → Stops k u
+  pub joins_meets : (may : May) (a r : Expr) (u t : Tokens) → JoinsFrom d k a may r u t
+      → Stops (suc k) t → Stops k u
   joins_meets may a r u t js s = joins_stop js s
 
 -- ---- suffixes
 
 pub data Suffixes (may : May) (r : Expr) : Expr → Tokens → Tokens → Type 0 where
   over' : {t : Tokens} → Suffixes may r r t t
-  on' : {l : ℕ} {a : Expr} {u t : Tokens} → (s : Suffix) → Suffixes may r (suffixed s a) u t → Suffixes may r a (punct l (suffix_mark s) ∷ u) t
+  on' : {l : ℕ} {a : Expr} {u t : Tokens} → (s : Suffix) → Suffixes may r (suffixed s a) u t
+      → Suffixes may r a (punct l (suffix_mark s) ∷ u) t
 
 abbrev pub SuffixesOf : Expr → Rel Expr
 SuffixesOf a may r f t = Suffixes may r a f t
 
-pub suffixes_stop : (may : May) (a r : Expr) (u t : Tokens) → SuffixesOf a may r u t → Stops 1 t → Stops 0 u
+pub suffixes_stop : (may : May) (a r : Expr) (u t : Tokens) → SuffixesOf a may r u t → Stops 1 t
+    → Stops 0 u
 suffixes_stop may a _ _ t over' s = lower 0 1 t (omega arith) s
 suffixes_stop may a r _ t (on' x js) s = let b = bind_suffix x in omega (arith, b)
 
-suffix_to : {may : May} {d : ℕ} {r a : Expr} {f u t : Tokens} → Spells may (expr 1 a) d f u → Suffixes may r a u t → Spells may (expr 1 r) d f t
+suffix_to : {may : May} {d : ℕ} {r a : Expr} {f u t : Tokens} → Spells may (expr 1 a) d f u
+    → Suffixes may r a u t → Spells may (expr 1 r) d f t
 suffix_to x over' = x
 suffix_to x (on' s js) = suffix_to (suffix s x) js
 
-pub suffixes_to : {d : ℕ} (may : May) (r : Expr) (f t : Tokens) → Then (Level 0 d) SuffixesOf may r f t → Level 1 d may r f t
+pub suffixes_to : {d : ℕ} (may : May) (r : Expr) (f t : Tokens)
+    → Then (Level 0 d) SuffixesOf may r f t → Level 1 d may r f t
 suffixes_to may r f t q = suffix_to (up q.2) q.3
 
-suffix_from : {may : May} {n d : ℕ} {r a : Expr} {f u t : Tokens} → Spells may (expr n a) d f u → n ≡ 1 → Suffixes may r a u t → Then (Level 0 d) SuffixesOf may r f t
+suffix_from : {may : May} {n d : ℕ} {r a : Expr} {f u t : Tokens} → Spells may (expr n a) d f u
+    → n ≡ 1 → Suffixes may r a u t → Then (Level 0 d) SuffixesOf may r f t
 suffix_from number e js = absurd (omega (arith, e))
 suffix_from name e js = absurd (omega (arith, e))
 suffix_from (group ok x) e js = absurd (omega (arith, e))
@@ -163,46 +226,64 @@ suffix_from {may} {d = d} {r} {a} {f} {u} (up {n = n} x) e js =
     let i : n ≡ 0 = omega (arith, e) in
     (a, u, subst (λ (k : ℕ). Spells may (expr k a) d f u) i x, js)
 
-pub suffixes_from : {d : ℕ} (may : May) (r : Expr) (f t : Tokens) → Level 1 d may r f t → Then (Level 0 d) SuffixesOf may r f t
+pub suffixes_from : {d : ℕ} (may : May) (r : Expr) (f t : Tokens) → Level 1 d may r f t
+    → Then (Level 0 d) SuffixesOf may r f t
 suffixes_from may r f t x = suffix_from x refl over'
 
 module _ (m : ℕ) where
-  suffixes_sound : (n : ℕ) (a : Expr) (ts : Tokens) → Sound same_tree (SuffixesOf a) always m ts (suffixes n a ts)
-  suffixes_sound zero a ts = read a ts (record { put = λ u. u; way = stay; is = refl; again = λ may w u. over' }) tt
+  suffixes_sound : (n : ℕ) (a : Expr) (ts : Tokens)
+      → Sound same_tree (SuffixesOf a) always m ts (suffixes n a ts)
+  suffixes_sound zero a ts = read a ts (record {
+    put = λ u. u;
+    way = stay;
+    is = refl;
+    again = λ may w u. over';
+  }) tt
   suffixes_sound (suc n) a ts =
       by_step (Sound same_tree (SuffixesOf a) always m ts) (seen suffix_of ts) _ _
       (λ e. read a ts (record { put = λ u. u; way = stay; is = refl; again = λ may w u. over' }) tt)
-      (λ s e. prepend (punct (line_of ts) (suffix_mark s)) ts (seen_is suffix_of suffix_mark suffix_is ts s e) (λ may r f t q. on' s q) (suffixes_sound n (suffixed s a) (tail ts)))
+      (λ s e. prepend (punct (line_of ts) (suffix_mark s)) ts
+      (seen_is suffix_of suffix_mark suffix_is ts s e) (λ may r f t q. on' s q)
+      (suffixes_sound n (suffixed s a) (tail ts)))
 
   suffixes_stops : (n : ℕ) (a : Expr) (ts : Tokens) → Stops 1 ts → suffixes n a ts ≡ Ok (a, ts)
   suffixes_stops zero a ts s = refl
   suffixes_stops (suc n) a ts s = by_none (seen suffix_of ts) _ _ (suffix_none ts s)
 
-  suffixes_on : (n l : ℕ) (a : Expr) (s : Suffix) (r : Tokens) → suffixes (suc n) a (punct l (suffix_mark s) ∷ r) ≡ suffixes n (suffixed s a) r
-  suffixes_on n l a s r = by_some (suffix_of (form.Mark (suffix_mark s))) s (expr_here a (punct l (suffix_mark s) ∷ r)) (λ s. suffixes n (suffixed s a) r) (suffix_self s)
+  suffixes_on : (n l : ℕ) (a : Expr) (s : Suffix) (r : Tokens)
+      → suffixes (suc n) a (punct l (suffix_mark s) ∷ r) ≡ suffixes n (suffixed s a) r
+  suffixes_on n l a s r = by_some (suffix_of (form.Mark (suffix_mark s))) s
+      (expr_here a (punct l (suffix_mark s) ∷ r)) (λ s. suffixes n (suffixed s a) r) (suffix_self s)
 
-  suffixes_land : (cut : Bool) (g g' : Tokens) (may : May) (n : ℕ) (a r : Expr) (f' t' : Tokens) → Suffixes may r a f' t' → Stops 1 t' → (f : Tokens) → length f ≤ n → Tied cut g g' f f'
+  suffixes_land : (cut : Bool) (g g' : Tokens) (may : May) (n : ℕ) (a r : Expr) (f' t' : Tokens)
+      → Suffixes may r a f' t' → Stops 1 t' → (f : Tokens) → length f ≤ n → Tied cut g g' f f'
       → Lands cut g g' may m (suffixes n a f) (λ to. Ok (r, to)) t'
   suffixes_land cut g g' may zero a r f' t' over' s f le tied = good f tied refl
   suffixes_land cut g g' may zero a r f' t' (on' x js) s f le tied = absurd (none_left tied le)
-  suffixes_land cut g g' may (suc n) a r f' t' over' s f le tied = good f tied (suffixes_stops (suc n) a f (tied_stops 1 tied s))
+  suffixes_land cut g g' may (suc n) a r f' t' over' s f le tied =
+      good f tied (suffixes_stops (suc n) a f (tied_stops 1 tied s))
   suffixes_land cut g g' may (suc n) a r f' t' (on' {l = l} {u = u} x js) s f le tied =
-      head_step cut g g' (λ w. length w ≤ suc n → Lands cut g g' may m (suffixes (suc n) a w) (λ to. Ok (r, to)) t') tied
-      (λ w tw le. lands_by cut g g' may m (suffixes_on n l a x w) (suffixes_land cut g g' may n (suffixed x a) r u t' js s w (omega (arith, le)) tw))
+      head_step cut g g' (λ w. length w ≤ suc n
+      → Lands cut g g' may m (suffixes (suc n) a w) (λ to. Ok (r, to)) t') tied
+      (λ w tw le. lands_by cut g g' may m (suffixes_on n l a x w)
+      (suffixes_land cut g g' may n (suffixed x a) r u t' js s w (omega (arith, le)) tw))
       (λ c le. past c (record {
         le = omega (
           arith,
           ap (λ (o : Out Expr). length (place o)) (suffixes_on n l a x g),
-          sound_short same_tree (SuffixesOf (suffixed x a)) always m g (suffixes n (suffixed x a) g) (suffixes_sound n (suffixed x a) g),
+          sound_short same_tree (SuffixesOf (suffixed x a)) always m g (suffixes n (suffixed x a) g)
+              (suffixes_sound n (suffixed x a) g),
         );
       }))
       le
 
-  pub suffixes_piece : (a : Expr) → Piece same_tree (SuffixesOf a) any always (ends_at 1) (λ t. t) m (λ ts. suffixes (length ts) a ts)
+  pub suffixes_piece : (a : Expr) → Piece same_tree (SuffixesOf a) any always (ends_at 1) (λ t. t) m
+      (λ ts. suffixes (length ts) a ts)
   suffixes_piece a =
       record {
         grow = λ t. omega arith;
         least = λ may t fr fr'. (a, over');
         sound = λ ts h. suffixes_sound (length ts) a ts;
-        complete = λ cut g g' may r f' t' x s f tied. suffixes_land cut g g' may (length f) a r f' t' x s f (omega arith) tied;
+        complete = λ cut g g' may r f' t' x s f tied. suffixes_land cut g g' may
+            (length f) a r f' t' x s f (omega arith) tied;
       }

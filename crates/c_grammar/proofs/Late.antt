@@ -20,7 +20,8 @@ Passes may may' n = (q : Tokens) (d : ℕ) → n < length q → may q d ≡ true
 pub later : {may may' : May} {n n' : ℕ} → n ≤ n' → Passes may may' n → Passes may may' n'
 later {n = n} {n' = n'} le h q d lt e = h q d (omega (arith, le, lt)) e
 
-pub spells_far : {may may' : May} {p : e.Phrase} {d : ℕ} {f t : Tokens} → Passes may may' (length t) → Spells may p d f t → Spells may' p d f t
+pub spells_far : {may may' : May} {p : e.Phrase} {d : ℕ} {f t : Tokens} → Passes may may' (length t)
+    → Spells may p d f t → Spells may' p d f t
 spells_far h e.number = e.number
 spells_far h e.name = e.name
 spells_far h (e.group ok x) = let l = spells_shorter x in e.group (h _ _ (omega arith) ok) (spells_far (later (omega arith) h) x)
@@ -39,7 +40,8 @@ spells_far h (e.choice x ok y z) =
 spells_far h (e.assign s x ok y) = let l = spells_shorter y in e.assign s (spells_far (later (omega arith) h) x) (h _ _ (omega arith) ok) (spells_far h y)
 spells_far h (e.up x) = e.up (spells_far h x)
 
-pub writes_far : {may may' : May} {p : s.Phrase} {d : ℕ} {f t : Tokens} → Passes may may' (length t) → Writes may p d f t → Writes may' p d f t
+pub writes_far : {may may' : May} {p : s.Phrase} {d : ℕ} {f t : Tokens} → Passes may may' (length t)
+    → Writes may p d f t → Writes may' p d f t
 writes_far h (s.absent c) = s.absent c
 writes_far h (s.given c x) = s.given c (spells_far (later (omega arith) h) x)
 writes_far h (s.tested x) = s.tested (spells_far (later (omega arith) h) x)
@@ -66,13 +68,16 @@ writes_far h (s.init_local ok x) = s.init_local (h _ _ (writes_shorter x) ok) (w
 writes_far h (s.init_plain x) = s.init_plain (writes_far h x)
 writes_far h (s.for i o o' x) =
     let l = writes_shorter x in let l' = writes_shorter o' in let l'' = writes_shorter o in
-    s.for (writes_far (later (omega arith) h) i) (writes_far (later (omega arith) h) o) (writes_far (later (omega arith) h) o') (writes_far h x)
+    s.for (writes_far (later (omega arith) h) i) (writes_far (later (omega arith) h) o)
+    (writes_far (later (omega arith) h) o') (writes_far h x)
 writes_far h s.break = s.break
 writes_far h s.continue = s.continue
 writes_far h (s.return x) = s.return (writes_far h x)
 
 -- an entry of a list is never the last thing: a brace is
-entries_far : {may may' : May} {ss : List Stmt} {d : ℕ} {f t : Tokens} → Passes may may' (suc (length t)) → Writes may (entries ss) d f t → Writes may' (entries ss) d f t
+entries_far : {may may' : May} {ss : List Stmt} {d : ℕ} {f t : Tokens}
+    → Passes may may' (suc (length t)) → Writes may (entries ss) d f t
+    → Writes may' (entries ss) d f t
 entries_far h s.stop = s.stop
 entries_far h (s.go x y) = let l = writes_shorter y in s.go (writes_far (later (omega arith) h) x) (entries_far h y)
 
@@ -81,7 +86,8 @@ abbrev Needs : u.Phrase → Tokens → ℕ
 Needs (u.shape s) t = length t
 Needs _ t = suc (length t)
 
-pub units_far : {may may' : May} {p : u.Phrase} {f t : Tokens} → Passes may may' (Needs p t) → Units may p f t → Units may' p f t
+pub units_far : {may may' : May} {p : u.Phrase} {f t : Tokens} → Passes may may' (Needs p t)
+    → Units may p f t → Units may' p f t
 units_far h u.no_size = u.no_size
 units_far h (u.some_size x) = u.some_size (spells_far (later (omega arith) h) x)
 units_far h (u.last_value x) = u.last_value (spells_far (later (omega arith) h) x)

@@ -1,5 +1,6 @@
 -- Facts on expressions of a level: what they begin with, what may be assigned to, what opens.
-use Rattle.std.proofs.Common.{◌≡◌, ℕ, zero, suc, ◌<◌, ◌≤◌, true, false, List, [], ◌∷◌, length, refl, sym, ap, ◌∙◌, arith}
+use Rattle.std.proofs.Common.{◌≡◌, ℕ, zero, suc, ◌<◌, ◌≤◌, true, false, List, [], ◌∷◌, length, refl}
+use Rattle.std.proofs.Common.{sym, ap, ◌∙◌, arith}
 use Rattle.std.proofs.lemmas.Bool.{false≢true}
 use Rattle.c_tree.specs.declared.token.Lexeme.{Lexeme}
 use Rattle.c_tree.specs.declared.token.Form.{Form}
@@ -12,8 +13,11 @@ use Rattle.c_tree.specs.declared.tree.Expr.{Expr}
 use Rattle.c_tree.specs.declared.tree.ExprNode.TheVariants as node
 use Rattle.c_tree.specs.declared.tree.BumpOp.TheVariants as bump
 use Rattle.c_grammar.specs.Tokens.{Tokens, token, May}
-use Rattle.c_grammar.specs.Operators.{at, op, comma, sign, increase, decrease, increased, decreased, assigner_op}
-use Rattle.c_grammar.specs.Expressions.{Phrase, expr, arg_list, Spells, number, name, group, element, call, none, some, last, next, suffix, prefix, cast, join, choice, assign, up}
+use Rattle.c_grammar.specs.Operators.{at, op, comma, sign, increase, decrease, increased, decreased}
+use Rattle.c_grammar.specs.Operators.{assigner_op}
+use Rattle.c_grammar.specs.Expressions.{Phrase, expr, arg_list, Spells, number, name, group}
+use Rattle.c_grammar.specs.Expressions.{element, call, none, some, last, next, suffix, prefix, cast}
+use Rattle.c_grammar.specs.Expressions.{join, choice, assign, up}
 use Rattle.c_grammar.specs.Numbers.{is_mark}
 use Rattle.c_grammar.specs.Parsing.{first, is_next}
 use Rattle.c_grammar.specs.ModelTypes.{is_type, begins_type}
@@ -35,16 +39,19 @@ zero_expr = at 0 (node.Number 0 kind.Int)
 abbrev pub zero_first : Tokens → Tokens
 zero_first t = zero_token ∷ t
 
-pub shortest : {may : May} {d : ℕ} {t : Tokens} → (n : ℕ) → Spells may (expr n zero_expr) d (zero_token ∷ t) t
+pub shortest : {may : May} {d : ℕ} {t : Tokens} → (n : ℕ)
+    → Spells may (expr n zero_expr) d (zero_token ∷ t) t
 shortest zero = number
 shortest (suc n) = up (shortest n)
 
-pub as_conditional : {may : May} {d : ℕ} {e : Expr} {f t : Tokens} → Spells may (expr 2 e) d f t → Spells may (expr 14 e) d f t
+pub as_conditional : {may : May} {d : ℕ} {e : Expr} {f t : Tokens} → Spells may (expr 2 e) d f t
+    → Spells may (expr 14 e) d f t
 as_conditional x = up (up (up (up (up (up (up (up (up (up (up (up x)))))))))))
 
 -- ---- first tokens
 
-pub level_starts : {may : May} {n d : ℕ} {e : Expr} {f t : Tokens} → Spells may (expr n e) d f t → first begins_expression f ≡ true
+pub level_starts : {may : May} {n d : ℕ} {e : Expr} {f t : Tokens} → Spells may (expr n e) d f t
+    → first begins_expression f ≡ true
 level_starts number = refl
 level_starts name = refl
 level_starts (group ok x) = refl
@@ -61,12 +68,15 @@ level_starts (choice x ok y z) = level_starts x
 level_starts (assign s x ok y) = level_starts x
 level_starts (up x) = level_starts x
 
-pub list_starts : {may : May} {d : ℕ} {es : List Expr} {f t : Tokens} → Spells may (arg_list es) d f t → first begins_expression f ≡ true
+pub list_starts : {may : May} {d : ℕ} {es : List Expr} {f t : Tokens}
+    → Spells may (arg_list es) d f t → first begins_expression f ≡ true
 list_starts (last x) = level_starts x
 list_starts (next x y) = level_starts x
 
-pub starts_no_mark : (k : Mark) → begins_expression (form.Mark k) ≡ false → (ts : Tokens) → first begins_expression ts ≡ true → is_next k ts ≡ false
-starts_no_mark k no' ts e = apart begins_expression (is_mark k) (λ f p q. false≢true (sym no' ∙ ap begins_expression (sym (mark_is k f q)) ∙ p)) ts e
+pub starts_no_mark : (k : Mark) → begins_expression (form.Mark k) ≡ false → (ts : Tokens)
+    → first begins_expression ts ≡ true → is_next k ts ≡ false
+starts_no_mark k no' ts e = apart begins_expression (is_mark k)
+    (λ f p q. false≢true (sym no' ∙ ap begins_expression (sym (mark_is k f q)) ∙ p)) ts e
 
 starts_no_type_form : (f : Form) → begins_expression f ≡ true → is_type f ≡ false
 starts_no_type_form (form.Name w) e = refl
@@ -79,7 +89,8 @@ starts_no_type [] e = absurd (false≢true e)
 starts_no_type (t ∷ ts) e = starts_no_type_form t.form e
 
 -- a unary expression is no cast
-pub unary_no_cast : {may : May} {n d : ℕ} {e : Expr} {f t : Tokens} → Spells may (expr n e) d f t → n ≤ 2 → is_cast f ≡ false
+pub unary_no_cast : {may : May} {n d : ℕ} {e : Expr} {f t : Tokens} → Spells may (expr n e) d f t
+    → n ≤ 2 → is_cast f ≡ false
 unary_no_cast number le = refl
 unary_no_cast name le = refl
 unary_no_cast (group ok x) le = starts_no_type _ (level_starts x)
@@ -100,7 +111,8 @@ unary_no_cast (assign s x ok y) le = absurd (omega (arith, le))
 unary_no_cast (up x) le = unary_no_cast x (omega (arith, le))
 
 -- a parenthesis that an expression begins with opens a depth
-pub paren_opens : {may : May} {n d : ℕ} {e : Expr} {f t : Tokens} → Spells may (expr n e) d f t → is_next mark.LeftParen f ≡ true → may f (suc d) ≡ true
+pub paren_opens : {may : May} {n d : ℕ} {e : Expr} {f t : Tokens} → Spells may (expr n e) d f t
+    → is_next mark.LeftParen f ≡ true → may f (suc d) ≡ true
 paren_opens number h = absurd (false≢true h)
 paren_opens name h = absurd (false≢true h)
 paren_opens (group ok x) h = ok
@@ -119,7 +131,8 @@ paren_opens (up x) h = paren_opens x h
 
 -- ---- what may be assigned to
 
-pub unary_is : {may : May} {n d : ℕ} {e : Expr} {f t : Tokens} → Spells may (expr n e) d f t → n ≤ 2 → is_unary e ≡ true
+pub unary_is : {may : May} {n d : ℕ} {e : Expr} {f t : Tokens} → Spells may (expr n e) d f t → n ≤ 2
+    → is_unary e ≡ true
 unfolding is_unary
 unary_is (number {v = v} {k = k}) le = ap is_unary_node (node.outs-Number v k)
 unary_is (name {w = w}) le = ap is_unary_node (node.outs-Name w)
@@ -137,7 +150,8 @@ unary_is (choice x ok y z) le = absurd (omega (arith, le))
 unary_is (assign s x ok y) le = absurd (omega (arith, le))
 unary_is (up x) le = unary_is x (omega (arith, le))
 
-pub unary_only : {may : May} {n d : ℕ} {e : Expr} {f t : Tokens} → Spells may (expr n e) d f t → is_unary e ≡ true → Spells may (expr 2 e) d f t
+pub unary_only : {may : May} {n d : ℕ} {e : Expr} {f t : Tokens} → Spells may (expr n e) d f t
+    → is_unary e ≡ true → Spells may (expr 2 e) d f t
 unfolding is_unary
 unary_only number h = up (up number)
 unary_only name h = up (up name)
@@ -146,16 +160,22 @@ unary_only (element ok x) h = up (up (element ok x))
 unary_only (call ok x) h = up (up (call ok x))
 unary_only (suffix s x) h = up (suffix s x)
 unary_only (prefix p ok x) h = prefix p ok x
-unary_only (cast {c = c} {e = e} ok x y) h = absurd (false≢true (sym (ap is_unary_node (node.outs-Cast c e)) ∙ h))
-unary_only (join {a = a} {b = b} (op o) x y) h = absurd (false≢true (sym (ap is_unary_node (node.outs-Binary o a b)) ∙ h))
-unary_only (join {a = a} {b = b} comma x y) h = absurd (false≢true (sym (ap is_unary_node (node.outs-Comma a b)) ∙ h))
-unary_only (choice {a = a} {b = b} {c = c} x ok y z) h = absurd (false≢true (sym (ap is_unary_node (node.outs-Choice a b c)) ∙ h))
-unary_only (assign {a = a} {b = b} s x ok y) h = absurd (false≢true (sym (ap is_unary_node (node.outs-Assign (assigner_op s) a b)) ∙ h))
+unary_only (cast {c = c} {e = e} ok x y) h =
+    absurd (false≢true (sym (ap is_unary_node (node.outs-Cast c e)) ∙ h))
+unary_only (join {a = a} {b = b} (op o) x y) h =
+    absurd (false≢true (sym (ap is_unary_node (node.outs-Binary o a b)) ∙ h))
+unary_only (join {a = a} {b = b} comma x y) h =
+    absurd (false≢true (sym (ap is_unary_node (node.outs-Comma a b)) ∙ h))
+unary_only (choice {a = a} {b = b} {c = c} x ok y z) h =
+    absurd (false≢true (sym (ap is_unary_node (node.outs-Choice a b c)) ∙ h))
+unary_only (assign {a = a} {b = b} s x ok y) h =
+    absurd (false≢true (sym (ap is_unary_node (node.outs-Assign (assigner_op s) a b)) ∙ h))
 unary_only (up x) h = unary_only x h
 
 -- ---- lengths
 
-pub spells_shorter : {may : May} {p : Phrase} {d : ℕ} {f t : Tokens} → Spells may p d f t → length t < length f
+pub spells_shorter : {may : May} {p : Phrase} {d : ℕ} {f t : Tokens} → Spells may p d f t
+    → length t < length f
 spells_shorter number = omega arith
 spells_shorter name = omega arith
 spells_shorter (group ok x) = let h = spells_shorter x in omega arith

@@ -1,13 +1,19 @@
--- Each list of tokens has one answer: the tree and the two faults shut each other out, and so do their places.
-use Rattle.std.proofs.Common.{◌≡◌, ℕ, suc, ◌≤◌, Bool, true, false, leb, ◌||◌, List, [], ◌∷◌, ◌++◌, length, Ok, Err, refl, sym, ap, ◌∙◌, subst, append_assoc, arith, length-append}
+-- Each list of tokens has one answer: the tree and the two faults shut each other out, and so do
+-- their places.
+use Rattle.std.proofs.Common.{◌≡◌, ℕ, suc, ◌≤◌, Bool, true, false, leb, ◌||◌, List, [], ◌∷◌, ◌++◌}
+use Rattle.std.proofs.Common.{length, Ok, Err, refl, sym, ap, ◌∙◌, subst, append_assoc, arith}
+use Rattle.std.proofs.Common.{length-append}
 use Rattle.std.proofs.lemmas.Bool.{leb-true, le-leb}
 use Rattle.c_tree.specs.declared.token.Lexeme.{Lexeme}
 use Rattle.c_tree.specs.declared.tree.Top.{Top}
 use Rattle.c_grammar.specs.Tokens.{Tokens, May, within, before, late, any_depth}
 use Rattle.c_grammar.specs.Parsing.{Out}
 use Rattle.c_grammar.specs.ModelUnits.{unit_of}
-use Rattle.c_grammar.specs.Places.{Starts, StartsWithin, SyntaxAt, EndsEarly, DeepAt, FaultAt, Exact, settle}
-use Rattle.c_grammar.specs.Answers.{limit, UnitIs, IsUnit, last_line, HasSyntaxFault, wrong_token, too_short, IsTooDeep, opener, Answer, tree, syntax, too_deep, Answers, OneAnswer}
+use Rattle.c_grammar.specs.Places.{Starts, StartsWithin, SyntaxAt, EndsEarly, DeepAt, FaultAt}
+use Rattle.c_grammar.specs.Places.{Exact, settle}
+use Rattle.c_grammar.specs.Answers.{limit, UnitIs, IsUnit, last_line, HasSyntaxFault, wrong_token}
+use Rattle.c_grammar.specs.Answers.{too_short, IsTooDeep, opener, Answer, tree, syntax, too_deep}
+use Rattle.c_grammar.specs.Answers.{Answers, OneAnswer}
 use Rattle.c_grammar.proofs.Late.{Passes}
 use Rattle.c_grammar.proofs.Whole.{or_mono}
 use Rattle.c_grammar.proofs.Parsed.{unit_far, unit_exact, one_tree}
@@ -16,10 +22,20 @@ any_passes : (may : May) (n : ℕ) → Passes may any_depth n
 any_passes may n q d lt e = refl
 
 starts_prefix : (u v : Tokens) → Starts UnitIs (u ++ v) → Starts UnitIs u
-starts_prefix u v w = (v ++ w.0, w.1, subst (λ (f : Tokens). UnitIs any_depth w.1 f []) (append_assoc u v w.0) w.2)
+starts_prefix u v w = (
+  v ++ w.0,
+  w.1,
+  subst (λ (f : Tokens). UnitIs any_depth w.1 f [])
+      (append_assoc u v w.0) w.2,
+)
 
 starts_any : (u : Tokens) → StartsWithin UnitIs limit u → Starts UnitIs u
-starts_any u w = (w.0, w.1, unit_far (before limit w.0) any_depth w.1 (u ++ w.0) (any_passes (before limit w.0) 1) w.2)
+starts_any u w = (
+  w.0,
+  w.1,
+  unit_far (before limit w.0) any_depth w.1 (u ++ w.0)
+      (any_passes (before limit w.0) 1) w.2,
+)
 
 looser_length : (a b : ℕ) (c : Bool) → a ≤ b → (n : ℕ) → leb n a || c ≡ true → leb n b || c ≡ true
 looser_length a b c le n e = or_mono (leb n a) (leb n b) c (λ h. let h' = leb-true n a h in le-leb n b (omega (arith, h', le))) e
@@ -28,14 +44,22 @@ within_prefix : (u v : Tokens) → StartsWithin UnitIs limit (u ++ v) → Starts
 within_prefix u v w = (
   v ++ w.0,
   w.1,
-  unit_far (before limit w.0) (before limit (v ++ w.0)) w.1 (u ++ (v ++ w.0)) (λ q d lt e. looser_length (length w.0) (length (v ++ w.0)) (leb d limit) (omega (arith, length-append v w.0)) (length q) e)
+  unit_far (before limit w.0) (before limit (v ++ w.0)) w.1 (u ++ (v ++ w.0))
+      (λ q d lt e. looser_length (length w.0) (length (v ++ w.0)) (leb d limit)
+      (omega (arith, length-append v w.0)) (length q) e)
       (subst (λ (f : Tokens). UnitIs (before limit w.0) w.1 f []) (append_assoc u v w.0) w.2),
 )
 
 -- a list that is spelled starts within the limit, up to each of its tokens
-spelled_within : (xs : List Top) (tokens u v : Tokens) → IsUnit tokens xs → tokens ≡ u ++ v → StartsWithin UnitIs limit u
-spelled_within xs tokens u v r e =
-    (v, xs, unit_far (within limit) (before limit v) xs (u ++ v) (λ q d lt h. or_right (leb (length q) (length v)) (leb d limit) h) (subst (λ (f : Tokens). UnitIs (within limit) xs f []) e r))
+spelled_within : (xs : List Top) (tokens u v : Tokens) → IsUnit tokens xs → tokens ≡ u ++ v
+    → StartsWithin UnitIs limit u
+spelled_within xs tokens u v r e = (
+  v,
+  xs,
+  unit_far (within limit) (before limit v) xs (u ++ v)
+      (λ q d lt h. or_right (leb (length q) (length v)) (leb d limit) h)
+      (subst (λ (f : Tokens). UnitIs (within limit) xs f []) e r),
+)
   where
     or_right : (a b : Bool) → b ≡ true → a || b ≡ true
     or_right true b h = refl
@@ -76,42 +100,61 @@ places (x ∷ u) (y ∷ v) t t' a b e = by (places u v t t' a b (ap rest_of e))
 module _ (tokens : Tokens) where
   -- ---- the tree shuts out the faults
 
-  no_syntax_at : (xs : List Top) {f b : Tokens} {t : Lexeme} → IsUnit tokens xs → SyntaxAt UnitIs limit tokens f t b → ⊥
-  no_syntax_at xs {f} {b} {t} r s = s.with_it (starts_any (f ++ t ∷ []) (spelled_within xs tokens (f ++ t ∷ []) b r (s.split ∙ snoc f t b)))
+  no_syntax_at : (xs : List Top) {f b : Tokens} {t : Lexeme} → IsUnit tokens xs
+      → SyntaxAt UnitIs limit tokens f t b → ⊥
+  no_syntax_at xs {f} {b} {t} r s = s.with_it
+      (starts_any (f ++ t ∷ []) (spelled_within xs tokens (f ++ t ∷ []) b r (s.split ∙ snoc f t b)))
 
   no_early : (xs : List Top) → IsUnit tokens xs → EndsEarly UnitIs limit tokens → ⊥
-  no_early xs r s = s.is_none xs (unit_far (within limit) any_depth xs tokens (any_passes (within limit) 1) r)
+  no_early xs r s = s.is_none xs (unit_far (within limit) any_depth xs tokens
+      (any_passes (within limit) 1) r)
 
-  no_deep_at : (xs : List Top) {f b : Tokens} {t : Lexeme} → IsUnit tokens xs → DeepAt UnitIs limit tokens f t b → ⊥
-  no_deep_at xs {f} {b} {t} r s = s.with_it (spelled_within xs tokens (f ++ t ∷ []) b r (s.split ∙ snoc f t b))
+  no_deep_at : (xs : List Top) {f b : Tokens} {t : Lexeme} → IsUnit tokens xs
+      → DeepAt UnitIs limit tokens f t b → ⊥
+  no_deep_at xs {f} {b} {t} r s = s.with_it
+      (spelled_within xs tokens (f ++ t ∷ []) b r (s.split ∙ snoc f t b))
 
   -- ---- the places of the faults
 
-  syntax_before : {f b f' b' : Tokens} {t t' : Lexeme} (w : Tokens) → SyntaxAt UnitIs limit tokens f t b → SyntaxAt UnitIs limit tokens f' t' b' → f' ≡ f ++ t ∷ w → ⊥
+  syntax_before : {f b f' b' : Tokens} {t t' : Lexeme} (w : Tokens)
+      → SyntaxAt UnitIs limit tokens f t b → SyntaxAt UnitIs limit tokens f' t' b' → f' ≡ f ++ t ∷ w
+      → ⊥
   syntax_before {f = f} {f' = f'} {t = t} w s s' e =
-      s.with_it (starts_prefix (f ++ t ∷ []) w (subst (λ (u : Tokens). Starts UnitIs u) (e ∙ snoc f t w) (starts_any f' s'.before_it)))
+      s.with_it (starts_prefix (f ++ t ∷ []) w
+      (subst (λ (u : Tokens). Starts UnitIs u) (e ∙ snoc f t w) (starts_any f' s'.before_it)))
 
-  syntax_once : {f b f' b' : Tokens} {t t' : Lexeme} → SyntaxAt UnitIs limit tokens f t b → SyntaxAt UnitIs limit tokens f' t' b' → t ≡ t'
-  syntax_once {f = f} {b = b} {f' = f'} {b' = b'} {t = t} {t' = t'} s s' = by (places f f' t t' b b' (sym s.split ∙ s'.split))
+  syntax_once : {f b f' b' : Tokens} {t t' : Lexeme} → SyntaxAt UnitIs limit tokens f t b
+      → SyntaxAt UnitIs limit tokens f' t' b' → t ≡ t'
+  syntax_once {f = f} {b = b} {f' = f'} {b' = b'} {t = t} {t' = t'} s s' =
+      by (places f f' t t' b b' (sym s.split ∙ s'.split))
     where
       by : Places f f' t t' → t ≡ t'
       by (same p q) = p
       by (earlier w q) = absurd (syntax_before w s s' q)
       by (later w q) = absurd (syntax_before w s' s q)
 
-  syntax_no_early : {f b : Tokens} {t : Lexeme} → SyntaxAt UnitIs limit tokens f t b → EndsEarly UnitIs limit tokens → ⊥
+  syntax_no_early : {f b : Tokens} {t : Lexeme} → SyntaxAt UnitIs limit tokens f t b
+      → EndsEarly UnitIs limit tokens → ⊥
   syntax_no_early {f = f} {b = b} {t = t} s e =
       let w = e.starts in
       let all : Starts UnitIs tokens = (w.0, w.1, unit_far (late limit w.0) any_depth w.1 (tokens ++ w.0) (any_passes (late limit w.0) 1) w.2) in
-      s.with_it (starts_prefix (f ++ t ∷ []) b (subst (λ (u : Tokens). Starts UnitIs u) (s.split ∙ snoc f t b) all))
+      s.with_it (starts_prefix (f ++ t ∷ []) b
+      (subst (λ (u : Tokens). Starts UnitIs u) (s.split ∙ snoc f t b) all))
 
-  deep_starts : {f b : Tokens} {t : Lexeme} → DeepAt UnitIs limit tokens f t b → Starts UnitIs (f ++ t ∷ [])
+  deep_starts : {f b : Tokens} {t : Lexeme} → DeepAt UnitIs limit tokens f t b
+      → Starts UnitIs (f ++ t ∷ [])
   deep_starts {f = f} {t = t} s =
-      let w = s.but_for_it in
-      (w.0, w.1, subst (λ (u : Tokens). UnitIs any_depth w.1 u []) (snoc f t w.0) (unit_far (late limit w.0) any_depth w.1 (f ++ t ∷ w.0) (any_passes (late limit w.0) 1) w.2))
+      let w = s.but_for_it in (
+        w.0,
+        w.1,
+        subst (λ (u : Tokens). UnitIs any_depth w.1 u []) (snoc f t w.0)
+            (unit_far (late limit w.0) any_depth w.1 (f ++ t ∷ w.0)
+            (any_passes (late limit w.0) 1) w.2),
+      )
 
   -- up to the token before the one that is too deep all is within the limit
-  deep_within : {f b : Tokens} {t : Lexeme} (u v : Tokens) (x : Lexeme) → DeepAt UnitIs limit tokens f t b → f ≡ u ++ x ∷ v → StartsWithin UnitIs limit (u ++ x ∷ [])
+  deep_within : {f b : Tokens} {t : Lexeme} (u v : Tokens) (x : Lexeme)
+      → DeepAt UnitIs limit tokens f t b → f ≡ u ++ x ∷ v → StartsWithin UnitIs limit (u ++ x ∷ [])
   deep_within {f = f} {t = t} u v x s e =
       let w = s.but_for_it in
       let rest = v ++ t ∷ w.0 in
@@ -119,19 +162,28 @@ module _ (tokens : Tokens) where
         rest,
         w.1,
         unit_far (late limit w.0) (before limit rest) w.1 ((u ++ x ∷ []) ++ rest)
-            (λ q d lt h. looser_length (suc (length w.0)) (length rest) (leb d limit) (omega (arith, length-append v (t ∷ w.0))) (length q) h) (subst (λ (z : Tokens). UnitIs (late limit w.0) w.1 z []) i w.2),
+            (λ q d lt h. looser_length (suc (length w.0)) (length rest) (leb d limit)
+            (omega (arith, length-append v (t ∷ w.0))) (length q) h)
+            (subst (λ (z : Tokens). UnitIs (late limit w.0) w.1 z []) i w.2),
       )
 
-  syntax_no_deep : {f b f' b' : Tokens} {t t' : Lexeme} → SyntaxAt UnitIs limit tokens f t b → DeepAt UnitIs limit tokens f' t' b' → ⊥
-  syntax_no_deep {f = f} {b = b} {f' = f'} {b' = b'} {t = t} {t' = t'} s s' = by (places f f' t t' b b' (sym s.split ∙ s'.split))
+  syntax_no_deep : {f b f' b' : Tokens} {t t' : Lexeme} → SyntaxAt UnitIs limit tokens f t b
+      → DeepAt UnitIs limit tokens f' t' b' → ⊥
+  syntax_no_deep {f = f} {b = b} {f' = f'} {b' = b'} {t = t} {t' = t'} s s' =
+      by (places f f' t t' b b' (sym s.split ∙ s'.split))
     where
       by : Places f f' t t' → ⊥
-      by (same p q) = s.with_it (subst (λ (u : Tokens). Starts UnitIs u) (ap (λ (u : Tokens). u ++ t' ∷ []) (sym q) ∙ ap (λ (x : Lexeme). f ++ x ∷ []) (sym p)) (deep_starts s'))
+      by (same p q) = s.with_it (subst (λ (u : Tokens). Starts UnitIs u)
+          (ap (λ (u : Tokens). u ++ t' ∷ []) (sym q) ∙ ap (λ (x : Lexeme). f ++ x ∷ []) (sym p))
+          (deep_starts s'))
       by (earlier w q) = s.with_it (starts_any (f ++ t ∷ []) (deep_within f w t s' q))
-      by (later w q) = s'.with_it (within_prefix (f' ++ t' ∷ []) w (subst (λ (u : Tokens). StartsWithin UnitIs limit u) (q ∙ snoc f' t' w) s.before_it))
+      by (later w q) = s'.with_it (within_prefix (f' ++ t' ∷ []) w
+          (subst (λ (u : Tokens). StartsWithin UnitIs limit u) (q ∙ snoc f' t' w) s.before_it))
 
-  deep_once : {f b f' b' : Tokens} {t t' : Lexeme} → DeepAt UnitIs limit tokens f t b → DeepAt UnitIs limit tokens f' t' b' → t ≡ t'
-  deep_once {f = f} {b = b} {f' = f'} {b' = b'} {t = t} {t' = t'} s s' = by (places f f' t t' b b' (sym s.split ∙ s'.split))
+  deep_once : {f b f' b' : Tokens} {t t' : Lexeme} → DeepAt UnitIs limit tokens f t b
+      → DeepAt UnitIs limit tokens f' t' b' → t ≡ t'
+  deep_once {f = f} {b = b} {f' = f'} {b' = b'} {t = t} {t' = t'} s s' =
+      by (places f f' t t' b b' (sym s.split ∙ s'.split))
     where
       by : Places f f' t t' → t ≡ t'
       by (same p q) = p
@@ -161,7 +213,8 @@ module _ (tokens : Tokens) where
   one_depth _ _ (opener s) (opener s') = ap (λ (t : Lexeme). t.line) (deep_once s s')
 
   pub same_answer : (a b : Answer) → Answers tokens a → Answers tokens b → b ≡ a
-  same_answer (tree xs) (tree ys) r s = ap (λ (zs : List Top). tree zs) (one_tree limit tokens ys xs s r)
+  same_answer (tree xs) (tree ys) r s = ap (λ (zs : List Top). tree zs)
+      (one_tree limit tokens ys xs s r)
   same_answer (tree xs) (syntax l) r s = absurd (no_fault xs l r s)
   same_answer (tree xs) (too_deep l) r s = absurd (no_depth xs l r s)
   same_answer (syntax l) (tree xs) r s = absurd (no_fault xs l s r)
@@ -182,18 +235,22 @@ answer_of tokens (Err s) = fault s.deep s.rest
     fault true [] = syntax 0
     fault true (t ∷ back) = too_deep t.line
 
-fault_answers : (tokens : Tokens) (deep : Bool) (rest : Tokens) → FaultAt UnitIs limit tokens deep rest → Answers tokens (answer_of tokens (Err (record { deep = deep; rest = rest })))
+fault_answers : (tokens : Tokens) (deep : Bool) (rest : Tokens)
+    → FaultAt UnitIs limit tokens deep rest
+    → Answers tokens (answer_of tokens (Err (record { deep = deep; rest = rest })))
 fault_answers tokens false [] e = too_short e
 fault_answers tokens false (t ∷ back) h = wrong_token h.1
 fault_answers tokens true [] h = absurd h
 fault_answers tokens true (t ∷ back) h = opener h.1
 
-pub exact_answers : (tokens : Tokens) (out : Out (List Top)) → Exact UnitIs limit tokens out → Answers tokens (answer_of tokens out)
+pub exact_answers : (tokens : Tokens) (out : Out (List Top)) → Exact UnitIs limit tokens out
+    → Answers tokens (answer_of tokens out)
 exact_answers tokens (Ok p) h = h.1
 exact_answers tokens (Err s) h = fault_answers tokens s.deep s.rest h
 
 -- the answer of the model is the answer
-pub model_answers : (tokens : Tokens) → Answers tokens (answer_of tokens (settle (unit_of 63 tokens)))
+pub model_answers : (tokens : Tokens) → Answers tokens
+    (answer_of tokens (settle (unit_of 63 tokens)))
 model_answers tokens = exact_answers tokens (settle (unit_of 63 tokens)) (unit_exact 63 tokens)
 
 pub one_answer : OneAnswer

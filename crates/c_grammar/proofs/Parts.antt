@@ -1,5 +1,7 @@
--- The parts of statements below statements: expressions that may be absent, conditions, declarations.
-use Rattle.std.proofs.Common.{◌≡◌, ℕ, ◌<◌, false, List, [], ◌∷◌, Option, Some, None, Ok, refl, sym, ap, ◌∙◌, subst, arith}
+-- The parts of statements below statements: expressions that may be absent, conditions,
+-- declarations.
+use Rattle.std.proofs.Common.{◌≡◌, ℕ, ◌<◌, false, List, [], ◌∷◌, Option, Some, None, Ok, refl, sym}
+use Rattle.std.proofs.Common.{ap, ◌∙◌, subst, arith}
 use Rattle.std.proofs.lemmas.Bool.{false≢true}
 use Rattle.c_tree.specs.declared.token.Form.TheVariants as form
 use Rattle.c_tree.specs.declared.token.Mark.TheVariants as mark
@@ -10,14 +12,20 @@ use Rattle.c_tree.specs.declared.tree.ArraySize.TheVariants as size
 use Rattle.c_tree.specs.declared.tree.Stmt.{Stmt}
 use Rattle.c_grammar.specs.Tokens.{Tokens, punct, named, May}
 use Rattle.c_grammar.specs.Expressions.{expr, Spells}
-use Rattle.c_grammar.specs.Statements.{declared, Closer, semicolon, paren, closer_mark, until, test, shape, decls, locals, Writes, absent, given, tested, bare, value, array, last_decl, next_decl, declaration}
+use Rattle.c_grammar.specs.Statements.{declared, Closer, semicolon, paren, closer_mark, until, test}
+use Rattle.c_grammar.specs.Statements.{shape, decls, locals, Writes, absent, given, tested, bare}
+use Rattle.c_grammar.specs.Statements.{value, array, last_decl, next_decl, declaration}
 use Rattle.c_grammar.specs.Numbers.{is_mark}
 use Rattle.c_grammar.specs.Parsing.{Out, and_then, is_next, expect}
 use Rattle.c_grammar.specs.ModelTypes.{begins_type}
 use Rattle.c_grammar.specs.ModelExpressions.{Nested, expression_of, assignment_of, conditional_of}
-use Rattle.c_grammar.specs.ModelStatements.{begins_expression, absent_of, given_of, until_of, test_of, value_of, array_of, shape_of, decl_of, decls_of, locals_of}
+use Rattle.c_grammar.specs.ModelStatements.{begins_expression, absent_of, given_of, until_of}
+use Rattle.c_grammar.specs.ModelStatements.{test_of, value_of, array_of, shape_of, decl_of}
+use Rattle.c_grammar.specs.ModelStatements.{decls_of, locals_of}
 use Rattle.c_grammar.proofs.Numbers.{mark_self}
-use Rattle.c_grammar.proofs.Pieces.{Rel, Then, always, any, Piece, seq, done, Done, iff, ends_with, same_tree, Either, this, that, either_of, Is, mark_piece, Named, name_piece, name_first}
+use Rattle.c_grammar.proofs.Pieces.{Rel, Then, always, any, Piece, seq, done, Done, iff, ends_with}
+use Rattle.c_grammar.proofs.Pieces.{same_tree, Either, this, that, either_of, Is, mark_piece, Named}
+use Rattle.c_grammar.proofs.Pieces.{name_piece, name_first}
 use Rattle.c_grammar.proofs.Lists.{Tail, ends, trails, goes, listed_piece}
 use Rattle.c_grammar.proofs.Types.{TypeIs, type_piece, type_first}
 use Rattle.c_grammar.proofs.Stops.{Stops, bind, not_next}
@@ -80,44 +88,62 @@ module _ (m d : ℕ) (nested : Nested) (known : Deeper nested m d) where
   abbrev GivenIs : Closer → Rel (Option Expr)
   GivenIs c = Then (Level 16 d) (λ e. Then (Is (closer_mark c)) (λ k. Done (Some e)))
 
-  absent_piece : (c : Closer) → Piece same_tree (AbsentIs c) any always always (closer_first c) m (absent_of nested c)
+  absent_piece : (c : Closer) → Piece same_tree (AbsentIs c) any always always (closer_first c) m
+      (absent_of nested c)
   unfolding absent_of
-  absent_piece c = seq (λ _ ts. option_here no_expr ts) (mark_piece (closer_mark c) m) (λ k. done same_tree no_expr m (λ t h. tt)) (λ t. omega arith) (λ may x y u t r h. tt)
+  absent_piece c = seq (λ _ ts. option_here no_expr ts) (mark_piece (closer_mark c) m)
+      (λ k. done same_tree no_expr m (λ t h. tt)) (λ t. omega arith) (λ may x y u t r h. tt)
 
-  given_piece : (c : Closer) → Piece same_tree (GivenIs c) any always always (λ t. zero_token ∷ closer_first c t) m (given_of nested c)
+  given_piece : (c : Closer) → Piece same_tree (GivenIs c) any always always
+      (λ t. zero_token ∷ closer_first c t) m (given_of nested c)
   unfolding given_of
-  given_piece c = closed (closer_mark c) (closer_binds c) (λ e. Some e) (expression_piece m d nested known)
+  given_piece c = closed (closer_mark c) (closer_binds c) (λ e. Some e)
+      (expression_piece m d nested known)
 
-  pub until_piece : (c : Closer) → Piece same_tree (Until c d) any always always (λ t. zero_token ∷ closer_first c t) m (until_of nested c)
+  pub until_piece : (c : Closer) → Piece same_tree (Until c d) any always always
+      (λ t. zero_token ∷ closer_first c t) m (until_of nested c)
   unfolding until_of
   until_piece c =
-      iff (either_of (is_mark (closer_mark c)) (absent_piece c) (given_piece c) (λ may x f t r. ap (is_next (closer_mark c)) r.2 ∙ mark_self (closer_mark c))
-      (λ may x f t r e. starts_no_mark (closer_mark c) (closer_no_start c) f (level_starts r.2))) to from
+      iff (either_of (is_mark (closer_mark c)) (absent_piece c) (given_piece c)
+      (λ may x f t r. ap (is_next (closer_mark c)) r.2 ∙ mark_self (closer_mark c))
+      (λ may x f t r e. starts_no_mark (closer_mark c) (closer_no_start c) f (level_starts r.2))) to
+      from
     where
-      to : (may : May) (o : Option Expr) (f t : Tokens) → Either (AbsentIs c) (GivenIs c) may o f t → Until c d may o f t
-      to may o f t (this r) = subst (λ (u : Tokens). Until c d may o u t) (sym r.2) (ends_with (λ o t. Until c d may o (punct r.0 (closer_mark c) ∷ r.1) t) (absent c) r.3)
+      to : (may : May) (o : Option Expr) (f t : Tokens) → Either (AbsentIs c) (GivenIs c) may o f t
+          → Until c d may o f t
+      to may o f t (this r) = subst (λ (u : Tokens). Until c d may o u t) (sym r.2)
+          (ends_with (λ o t. Until c d may o (punct r.0 (closer_mark c) ∷ r.1) t) (absent c) r.3)
       to may o f t (that r) = let k = r.3 in ends_with (λ o t. Until c d may o f t) (given c (subst (λ (u : Tokens). Spells may (expr 16 r.0) d f u) k.2 r.2)) k.3
 
-      from : (may : May) (o : Option Expr) (f t : Tokens) → Until c d may o f t → Either (AbsentIs c) (GivenIs c) may o f t
+      from : (may : May) (o : Option Expr) (f t : Tokens) → Until c d may o f t
+          → Either (AbsentIs c) (GivenIs c) may o f t
       from may _ _ t (absent {k = k} c) = this (k, t, refl, (refl, refl))
-      from may _ f t (given {k = k} {e = e} c x) = that (e, punct k (closer_mark c) ∷ t, x, (k, t, refl, (refl, refl)))
+      from may _ f t (given {k = k} {e = e} c x) =
+          that (e, punct k (closer_mark c) ∷ t, x, (k, t, refl, (refl, refl)))
 
   abbrev TestChain : Rel Expr
-  TestChain = Then (Is mark.LeftParen) (λ k. Then (Level 16 d) (λ e. Then (Is mark.RightParen) (λ l. Done e)))
+  TestChain = Then (Is mark.LeftParen) (λ k. Then (Level 16 d)
+      (λ e. Then (Is mark.RightParen) (λ l. Done e)))
 
   pub test_piece : Piece same_tree (Test d) any always always test_first m (test_of nested)
   unfolding test_of
   test_piece =
-      iff (seq (λ _ ts. and_then (expression_of nested ts) (λ e ts. and_then (expect mark.RightParen ts) (λ _ ts. expr_is e ts))) (mark_piece mark.LeftParen m)
-      (λ k. closed mark.RightParen (omega arith) (λ e. e) (expression_piece m d nested known)) (λ t. omega arith) (λ may x y u t r h. tt)) to from
+      iff (seq (λ _ ts. and_then (expression_of nested ts)
+      (λ e ts. and_then (expect mark.RightParen ts) (λ _ ts. expr_is e ts)))
+      (mark_piece mark.LeftParen m)
+      (λ k. closed mark.RightParen (omega arith) (λ e. e) (expression_piece m d nested known))
+      (λ t. omega arith) (λ may x y u t r h. tt)) to from
     where
       to : (may : May) (e : Expr) (f t : Tokens) → TestChain may e f t → Test d may e f t
       to may e f t r =
           let x = r.3 in let k = x.3 in
-          subst (λ (f : Tokens). Test d may e f t) (sym r.2) (ends_with (λ e' t. Test d may e' (punct r.0 mark.LeftParen ∷ r.1) t) (tested (subst (λ (u : Tokens). Spells may (expr 16 x.0) d r.1 u) k.2 x.2)) k.3)
+          subst (λ (f : Tokens). Test d may e f t) (sym r.2)
+          (ends_with (λ e' t. Test d may e' (punct r.0 mark.LeftParen ∷ r.1) t)
+          (tested (subst (λ (u : Tokens). Spells may (expr 16 x.0) d r.1 u) k.2 x.2)) k.3)
 
       from : (may : May) (e : Expr) (f t : Tokens) → Test d may e f t → TestChain may e f t
-      from may e _ t (tested {k = k} {k' = k'} {m = u} x) = (k, u, refl, (e, punct k' mark.RightParen ∷ t, x, (k', t, refl, (refl, refl))))
+      from may e _ t (tested {k = k} {k' = k'} {m = u} x) =
+          (k, u, refl, (e, punct k' mark.RightParen ∷ t, x, (k', t, refl, (refl, refl))))
 
   -- ---- what stands behind the name of a local
 
@@ -125,52 +151,82 @@ module _ (m d : ℕ) (nested : Nested) (known : Deeper nested m d) where
   ValueIs = Then (Is mark.Assign) (λ k. Then (Level 15 d) (λ e. Done (size.Scalar, Some e)))
 
   abbrev ArrayIs : Rel (ArraySize × Option Expr)
-  ArrayIs = Then (Is mark.LeftBracket) (λ k. Then (Level 14 d) (λ e. Then (Is mark.RightBracket) (λ k'. Done (size.Sized e, no_expr))))
+  ArrayIs = Then (Is mark.LeftBracket) (λ k. Then (Level 14 d)
+      (λ e. Then (Is mark.RightBracket) (λ k'. Done (size.Sized e, no_expr))))
 
   abbrev BareIs : Rel (ArraySize × Option Expr)
   BareIs = Done (size.Scalar, no_expr)
 
-  value_piece : Piece same_tree ValueIs any always shape_ends (λ t. punct 0 mark.Assign ∷ zero_token ∷ t) m (value_of nested)
+  value_piece : Piece same_tree ValueIs any always shape_ends
+      (λ t. punct 0 mark.Assign ∷ zero_token ∷ t) m (value_of nested)
   unfolding value_of
   value_piece =
-      seq (λ _ ts. and_then (assignment_of nested ts) (λ e ts. shape_here (size.Scalar, Some e) ts)) (mark_piece mark.Assign m)
-      (λ k. seq (λ e ts. shape_here (size.Scalar, Some e) ts) (assignment_piece m d nested known) (λ e. done same_tree (size.Scalar, Some e) m (λ t h. tt)) (λ t. omega arith) (λ may x y u t r h. subst (Stops 15) (sym r.1) h))
+      seq (λ _ ts. and_then (assignment_of nested ts) (λ e ts. shape_here (size.Scalar, Some e) ts))
+      (mark_piece mark.Assign m)
+      (λ k. seq (λ e ts. shape_here (size.Scalar, Some e) ts) (assignment_piece m d nested known)
+      (λ e. done same_tree (size.Scalar, Some e) m (λ t h. tt)) (λ t. omega arith)
+      (λ may x y u t r h. subst (Stops 15) (sym r.1) h))
       (λ t. omega arith) (λ may x y u t r h. tt)
 
-  array_piece : Piece same_tree ArrayIs any always shape_ends (λ t. punct 0 mark.LeftBracket ∷ zero_token ∷ punct 0 mark.RightBracket ∷ t) m (array_of nested)
+  array_piece : Piece same_tree ArrayIs any always shape_ends
+      (λ t. punct 0 mark.LeftBracket ∷ zero_token ∷ punct 0 mark.RightBracket ∷ t) m (array_of nested)
   unfolding array_of
   array_piece =
-      seq (λ _ ts. and_then (conditional_of nested ts) (λ e ts. and_then (expect mark.RightBracket ts) (λ _ ts. shape_here (size.Sized e, no_expr) ts))) (mark_piece mark.LeftBracket m)
-      (λ k. closed mark.RightBracket (omega arith) (λ e. (size.Sized e, no_expr)) (conditional_piece m d nested known)) (λ t. omega arith) (λ may x y u t r h. tt)
+      seq (λ _ ts. and_then (conditional_of nested ts)
+      (λ e ts. and_then (expect mark.RightBracket ts)
+      (λ _ ts. shape_here (size.Sized e, no_expr) ts))) (mark_piece mark.LeftBracket m)
+      (λ k. closed mark.RightBracket (omega arith) (λ e. (size.Sized e, no_expr))
+      (conditional_piece m d nested known)) (λ t. omega arith) (λ may x y u t r h. tt)
 
   shape_piece : Piece same_tree (ShapeIs d) any always shape_ends (λ t. t) m (shape_of nested)
   unfolding shape_of
   shape_piece =
       iff (either_of (is_mark mark.Assign) value_piece
-      (either_of (is_mark mark.LeftBracket) array_piece (done same_tree (size.Scalar, no_expr) m (λ t h. tt)) (λ may x f t r. ap (is_next mark.LeftBracket) r.2)
-      (λ may x f t r e. not_next mark.LeftBracket 15 f (subst (Stops 15) (sym r.1) e) (omega arith)))
+      (either_of (is_mark mark.LeftBracket) array_piece
+      (done same_tree (size.Scalar, no_expr) m (λ t h. tt))
+      (λ may x f t r. ap (is_next mark.LeftBracket) r.2)
+      (λ may x f t r e. not_next mark.LeftBracket 15 f (subst (Stops 15) (sym r.1) e)
+      (omega arith)))
       (λ may x f t r. ap (is_next mark.Assign) r.2) no_assign) to from
     where
-      no_assign : (may : May) (s : ArraySize × Option Expr) (f t : Tokens) → Either ArrayIs BareIs may s f t → Stops 15 t → is_next mark.Assign f ≡ false
+      no_assign : (may : May) (s : ArraySize × Option Expr) (f t : Tokens)
+          → Either ArrayIs BareIs may s f t → Stops 15 t → is_next mark.Assign f ≡ false
       no_assign may s f t (this r) e = ap (is_next mark.Assign) r.2
-      no_assign may s f t (that r) e = not_next mark.Assign 15 f (subst (Stops 15) (sym r.1) e) (omega arith)
+      no_assign may s f t (that r) e = not_next mark.Assign 15 f (subst (Stops 15) (sym r.1) e)
+          (omega arith)
 
-      to : (may : May) (s : ArraySize × Option Expr) (f t : Tokens) → Either ValueIs (Either ArrayIs BareIs) may s f t → ShapeIs d may s f t
+      to : (may : May) (s : ArraySize × Option Expr) (f t : Tokens)
+          → Either ValueIs (Either ArrayIs BareIs) may s f t → ShapeIs d may s f t
       to may s f t (this r) =
           let x = r.3 in
-          subst (λ (f : Tokens). ShapeIs d may s f t) (sym r.2) (ends_with (λ s t. ShapeIs d may s (punct r.0 mark.Assign ∷ r.1) t) (value x.2) x.3)
+          subst (λ (f : Tokens). ShapeIs d may s f t) (sym r.2)
+          (ends_with (λ s t. ShapeIs d may s (punct r.0 mark.Assign ∷ r.1) t) (value x.2) x.3)
       to may s f t (that (this r)) =
           let x = r.3 in let k = x.3 in
           subst (λ (f : Tokens). ShapeIs d may s f t) (sym r.2)
-          (ends_with (λ s t. ShapeIs d may s (punct r.0 mark.LeftBracket ∷ r.1) t) (array (subst (λ (u : Tokens). Spells may (expr 14 x.0) d r.1 u) k.2 x.2)) k.3)
+          (ends_with (λ s t. ShapeIs d may s (punct r.0 mark.LeftBracket ∷ r.1) t)
+          (array (subst (λ (u : Tokens). Spells may (expr 14 x.0) d r.1 u) k.2 x.2)) k.3)
       to may s f t (that (that r)) = ends_with (λ s t. ShapeIs d may s f t) bare r
 
-      from' : (may : May) (a : ArraySize × Option Expr) (f t : Tokens) → Writes may (shape a) d f t → Either ValueIs (Either ArrayIs BareIs) may a f t
+      from' : (may : May) (a : ArraySize × Option Expr) (f t : Tokens) → Writes may (shape a) d f t
+          → Either ValueIs (Either ArrayIs BareIs) may a f t
       from' may _ _ t bare = that (that (refl, refl))
       from' may _ _ t (value {k = k} {e = e} {m = u} x) = this (k, u, refl, (e, t, x, (refl, refl)))
-      from' may _ _ t (array {k = k} {k' = k'} {e = e} {m = u} x) = that (this (k, u, refl, (e, punct k' mark.RightBracket ∷ t, x, (k', t, refl, (refl, refl)))))
+      from' may _ _ t (array {k = k} {k' = k'} {e = e} {m = u} x) =
+          that (this (
+            k,
+            u,
+            refl,
+            (
+              e,
+              punct k' mark.RightBracket ∷ t,
+              x,
+              (k', t, refl, (refl, refl)),
+            ),
+          ))
 
-      from : (may : May) (s : ArraySize × Option Expr) (f t : Tokens) → ShapeIs d may s f t → Either ValueIs (Either ArrayIs BareIs) may s f t
+      from : (may : May) (s : ArraySize × Option Expr) (f t : Tokens) → ShapeIs d may s f t
+          → Either ValueIs (Either ArrayIs BareIs) may s f t
       from may s f t x = from' may s f t x
 
   -- ---- declarations
@@ -184,52 +240,104 @@ module _ (m d : ℕ) (nested : Nested) (known : Deeper nested m d) where
   abbrev DeclsAre : Kind → Rel (List Stmt)
   DeclsAre k may ss f t = Writes may (decls k ss) d f t
 
-  decl_piece : (k : Kind) → Piece same_tree (DeclIs k) any always decl_ends name_first m (decl_of nested k)
+  decl_piece : (k : Kind) → Piece same_tree (DeclIs k) any always decl_ends name_first m
+      (decl_of nested k)
   unfolding decl_of
   decl_piece k =
-      seq (λ n ts. and_then (shape_of nested ts) (λ s ts. stmt_here (declared n.0 k n.1 s) ts)) (name_piece m)
-      (λ n. seq (λ s ts. stmt_here (declared n.0 k n.1 s) ts) shape_piece (λ s. done same_tree (declared n.0 k n.1 s) m (λ t h. tt)) (λ t. omega arith) (λ may x y u t r h. subst (Stops 15) (sym r.1) h))
+      seq (λ n ts. and_then (shape_of nested ts) (λ s ts. stmt_here (declared n.0 k n.1 s) ts))
+      (name_piece m)
+      (λ n. seq (λ s ts. stmt_here (declared n.0 k n.1 s) ts) shape_piece
+      (λ s. done same_tree (declared n.0 k n.1 s) m (λ t h. tt)) (λ t. omega arith)
+      (λ may x y u t r h. subst (Stops 15) (sym r.1) h))
       (λ t. omega arith) (λ may x y u t r h. tt)
 
-  decls_piece : (k : Kind) → Piece same_tree (DeclsAre k) any always always (λ t. name_first (punct 0 mark.Semicolon ∷ t)) m (decls_of nested k)
+  decls_piece : (k : Kind) → Piece same_tree (DeclsAre k) any always always
+      (λ t. name_first (punct 0 mark.Semicolon ∷ t)) m (decls_of nested k)
   unfolding decls_of
   decls_piece k =
-      listed_piece (DeclIs k) (DeclsAre k) decl_ends name_first m (decl_of nested k) (decl_piece k) mark.Semicolon false to from refl (λ x l t. (omega arith, omega arith)) (λ may xs f t r e. absurd (false≢true e))
+      listed_piece (DeclIs k) (DeclsAre k) decl_ends name_first m (decl_of nested k)
+      (decl_piece k) mark.Semicolon false to from refl (λ x l t. (omega arith, omega arith))
+      (λ may xs f t r e. absurd (false≢true e))
     where
-      to_tail : (may : May) (n : ℕ × List ℕ) (v u t : Tokens) (h : ArraySize × Option Expr) (x : Stmt) (ss : List Stmt) → Writes may (shape h) d v u → declared n.0 k n.1 h ≡ x → Tail (DeclsAre k) mark.Semicolon false x may ss u t
+      to_tail : (may : May) (n : ℕ × List ℕ) (v u t : Tokens) (h : ArraySize × Option Expr)
+          (x : Stmt) (ss : List Stmt) → Writes may (shape h) d v u → declared n.0 k n.1 h ≡ x
+          → Tail (DeclsAre k) mark.Semicolon false x may ss u t
           → Writes may (decls k ss) d (named n.0 n.1 ∷ v) t
-      to_tail may n v _ t h x _ w e ends = subst (λ (y : Stmt). Writes may (decls k (y ∷ [])) d (named n.0 n.1 ∷ v) t) e (last_decl w)
+      to_tail may n v _ t h x _ w e ends =
+          subst (λ (y : Stmt). Writes may (decls k (y ∷ [])) d (named n.0 n.1 ∷ v) t) e (last_decl w)
       to_tail may n v _ t h x _ w e (trails q) = absurd (false≢true q)
-      to_tail may n v _ t h x _ w e (goes {xs = ss} r) = subst (λ (y : Stmt). Writes may (decls k (y ∷ ss)) d (named n.0 n.1 ∷ v) t) e (next_decl w r)
+      to_tail may n v _ t h x _ w e (goes {xs = ss} r) =
+          subst (λ (y : Stmt). Writes may (decls k (y ∷ ss)) d (named n.0 n.1 ∷ v) t) e
+          (next_decl w r)
 
-      to : (may : May) (ss : List Stmt) (f t : Tokens) → Then (DeclIs k) (λ x. Tail (DeclsAre k) mark.Semicolon false x) may ss f t → Writes may (decls k ss) d f t
+      to : (may : May) (ss : List Stmt) (f t : Tokens)
+          → Then (DeclIs k) (λ x. Tail (DeclsAre k) mark.Semicolon false x) may ss f t
+          → Writes may (decls k ss) d f t
       to may ss f t r =
           let x = r.2 in let h = x.3 in
-          subst (λ (f : Tokens). Writes may (decls k ss) d f t) (sym x.2) (to_tail may x.0 x.1 r.1 t h.0 r.0 ss (subst (λ (u : Tokens). Writes may (shape h.0) d x.1 u) h.3.1 h.2) h.3.0 r.3)
+          subst (λ (f : Tokens). Writes may (decls k ss) d f t) (sym x.2)
+          (to_tail may x.0 x.1 r.1 t h.0 r.0 ss
+          (subst (λ (u : Tokens). Writes may (shape h.0) d x.1 u) h.3.1 h.2) h.3.0 r.3)
 
-      from' : (j : Kind) (may : May) (ss : List Stmt) (f t : Tokens) → Writes may (decls j ss) d f t → j ≡ k → Then (DeclIs k) (λ x. Tail (DeclsAre k) mark.Semicolon false x) may ss f t
-      from' _ may _ _ t (last_decl {l = l} {j = j} {k = i} {w = w} {s = h} {m = v} x) e =
-          (declared l i w h, punct j mark.Semicolon ∷ t, ((l, w), v, refl, (h, punct j mark.Semicolon ∷ t, x, (ap (λ (i : Kind). declared l i w h) (sym e), refl))), ends)
-      from' _ may _ _ t (next_decl {l = l} {j = j} {k = i} {w = w} {s = h} {ss = ss} {m = v} {m' = v'} x y) e =
-          (declared l i w h, punct j mark.Comma ∷ v', ((l, w), v, refl, (h, punct j mark.Comma ∷ v', x, (ap (λ (i : Kind). declared l i w h) (sym e), refl))), goes (subst (λ (i : Kind). Writes may (decls i ss) d v' t) e y))
+      from' : (j : Kind) (may : May) (ss : List Stmt) (f t : Tokens) → Writes may (decls j ss) d f t
+          → j ≡ k → Then (DeclIs k) (λ x. Tail (DeclsAre k) mark.Semicolon false x) may ss f t
+      from' _ may _ _ t (last_decl {l = l} {j = j} {k = i} {w = w} {s = h} {m = v} x) e = (
+        declared l i w h,
+        punct j mark.Semicolon ∷ t,
+        (
+          (l, w),
+          v,
+          refl,
+          (
+            h,
+            punct j mark.Semicolon ∷ t,
+            x,
+            (ap (λ (i : Kind). declared l i w h) (sym e), refl),
+          ),
+        ),
+        ends,
+      )
+      from' _ may _ _ t (next_decl {l = l} {j = j} {k = i} {w = w} {s = h} {ss = ss} {m = v}
+          {m' = v'} x y) e = (
+            declared l i w h,
+            punct j mark.Comma ∷ v',
+            (
+              (l, w),
+              v,
+              refl,
+              (
+                h,
+                punct j mark.Comma ∷ v',
+                x,
+                (ap (λ (i : Kind). declared l i w h) (sym e), refl),
+              ),
+            ),
+            goes (subst (λ (i : Kind). Writes may (decls i ss) d v' t) e y),
+          )
 
-      from : (may : May) (ss : List Stmt) (f t : Tokens) → Writes may (decls k ss) d f t → Then (DeclIs k) (λ x. Tail (DeclsAre k) mark.Semicolon false x) may ss f t
+      from : (may : May) (ss : List Stmt) (f t : Tokens) → Writes may (decls k ss) d f t
+          → Then (DeclIs k) (λ x. Tail (DeclsAre k) mark.Semicolon false x) may ss f t
       from may ss f t x = from' k may ss f t x refl
 
-  decls_no_type : (may : May) (k : Kind) (ss : List Stmt) (f t : Tokens) → Writes may (decls k ss) d f t → begins_type f ≡ false
+  decls_no_type : (may : May) (k : Kind) (ss : List Stmt) (f t : Tokens)
+      → Writes may (decls k ss) d f t → begins_type f ≡ false
   decls_no_type may k _ _ t (last_decl x) = refl
   decls_no_type may k _ _ t (next_decl x y) = refl
 
   abbrev LocalsChain : Rel (List Stmt)
   LocalsChain = Then TypeIs (λ k. DeclsAre k.1)
 
-  pub locals_piece : Piece same_tree (LocalsAre d) any always always locals_first m (locals_of nested)
+  pub locals_piece : Piece same_tree (LocalsAre d) any always always locals_first m
+      (locals_of nested)
   unfolding locals_of
   locals_piece =
-      iff (seq (λ k ts. decls_of nested k.1 ts) (type_piece m) (λ k. decls_piece k.1) (λ t. omega arith) (λ may k ss u t r h. decls_no_type may k.1 ss u t r)) to from
+      iff (seq (λ k ts. decls_of nested k.1 ts) (type_piece m) (λ k. decls_piece k.1)
+      (λ t. omega arith) (λ may k ss u t r h. decls_no_type may k.1 ss u t r)) to from
     where
-      to : (may : May) (ss : List Stmt) (f t : Tokens) → LocalsChain may ss f t → LocalsAre d may ss f t
+      to : (may : May) (ss : List Stmt) (f t : Tokens) → LocalsChain may ss f t
+          → LocalsAre d may ss f t
       to may ss f t r = declaration r.2 r.3
 
-      from : (may : May) (ss : List Stmt) (f t : Tokens) → LocalsAre d may ss f t → LocalsChain may ss f t
+      from : (may : May) (ss : List Stmt) (f t : Tokens) → LocalsAre d may ss f t
+          → LocalsChain may ss f t
       from may ss f t (declaration {l = l} {k = k} {m = v} x y) = ((l, k), v, x, y)

@@ -1,5 +1,6 @@
 -- Pieces of a parser, and how they go together.
-use Rattle.std.proofs.Common.{◌≡◌, ℕ, suc, ◌≤◌, Bool, true, false, cond, leb, List, [], ◌∷◌, length, Ok, Err, refl, sym, ap, ◌∙◌, subst, arith}
+use Rattle.std.proofs.Common.{◌≡◌, ℕ, suc, ◌≤◌, Bool, true, false, cond, leb, List, [], ◌∷◌, length}
+use Rattle.std.proofs.Common.{Ok, Err, refl, sym, ap, ◌∙◌, subst, arith}
 use Rattle.c_tree.specs.declared.token.Lexeme.{Lexeme}
 use Rattle.c_tree.specs.declared.token.Form.{Form}
 use Rattle.c_tree.specs.declared.token.Form.TheVariants as form
@@ -7,15 +8,20 @@ use Rattle.c_tree.specs.declared.token.Mark.{Mark}
 use Rattle.c_tree.specs.declared.token.Key.{Key}
 use Rattle.c_grammar.specs.Tokens.{Tokens, token, punct, word, named, May, before}
 use Rattle.c_grammar.specs.Numbers.{is_mark}
-use Rattle.c_grammar.specs.Parsing.{Stop, Out, and_then, syntax, too_deep, tail, line_of, first, is_next, is_word, expect, expect_word, name_by, name_of}
+use Rattle.c_grammar.specs.Parsing.{Stop, Out, and_then, syntax, too_deep, tail, line_of, first}
+use Rattle.c_grammar.specs.Parsing.{is_next, is_word, expect, expect_word, name_by, name_of}
 use Rattle.c_grammar.specs.ModelExpressions.{Nested, enter}
 use Rattle.c_grammar.proofs.Numbers.{mark_self, key_self}
-use Rattle.c_grammar.proofs.Agree.{split_if, if_true, if_false, trans_le, next_is, word_is, Way, stay, one, both, behind, Grows, Held, held_after, Opens, opens, Frees, frees_after, frees_all, place, Tied, head_step, tied_first, Lands, good, past, deep, lands_by}
+use Rattle.c_grammar.proofs.Agree.{split_if, if_true, if_false, trans_le, next_is, word_is, Way}
+use Rattle.c_grammar.proofs.Agree.{stay, one, both, behind, Grows, Held, held_after, Opens, opens}
+use Rattle.c_grammar.proofs.Agree.{Frees, frees_after, frees_all, place, Tied, head_step}
+use Rattle.c_grammar.proofs.Agree.{tied_first, Lands, good, past, deep, lands_by}
 
 abbrev pub Rel : Type 0 → Type 1
 Rel X = May → X → Tokens → Tokens → Type 0
 
--- what was read may be followed by anything, and may stand under any test that lets pass what the limit does
+-- what was read may be followed by anything, and may stand under any test that lets pass what the
+-- limit does
 pub record Front {X : Type 0} (R : Rel X) (m : ℕ) (x : X) (f t : Tokens) : Type 0 where
   pub put : Tokens → Tokens
   pub way : Way put
@@ -33,17 +39,21 @@ pub record Open {X : Type 0} (R : Rel X) (m : ℕ) (ts : Tokens) (s : Stop) : Ty
   pub completes : (u : Tokens) → (x : X) × R (before m (more u)) x (put (more u)) u
 
 pub data Sound {X A : Type 0} (tree : X → A) (R : Rel X) (Kept : X → Tokens → Type 0) (m : ℕ) (ts : Tokens) : Out A → Type 0 where
-  read : (x : X) (t : Tokens) → Front R m x ts t → Kept x t → Sound tree R Kept m ts (Ok (tree x, t))
+  read : (x : X) (t : Tokens) → Front R m x ts t → Kept x t
+      → Sound tree R Kept m ts (Ok (tree x, t))
   stuck : (s : Stop) → Open R m ts s → Sound tree R Kept m ts (Err s)
 
-abbrev pub Complete : {X A : Type 0} → (X → A) → Rel X → (X → Tokens → Type 0) → ℕ → (Tokens → Out A) → Type 0
+abbrev pub Complete : {X A : Type 0} → (X → A) → Rel X → (X → Tokens → Type 0) → ℕ
+    → (Tokens → Out A) → Type 0
 Complete {X} {A} tree R Ends m run =
-    (cut : Bool) (g g' : Tokens) (may : May) (x : X) (f' t' : Tokens) → R may x f' t' → Ends x t' → (f : Tokens) → Tied cut g g' f f'
+    (cut : Bool) (g g' : Tokens) (may : May) (x : X) (f' t' : Tokens) → R may x f' t' → Ends x t'
+    → (f : Tokens) → Tied cut g g' f f'
     → Lands cut g g' may m (run f) (λ to. Ok (tree x, to)) t'
 
 -- there is a shortest phrase
 abbrev pub Least : {X : Type 0} → Rel X → (Tokens → Tokens) → Type 0
-Least {X} R after = (may : May) (t : Tokens) → Frees t may → Frees (after t) may → (x : X) × R may x (after t) t
+Least {X} R after = (may : May) (t : Tokens) → Frees t may → Frees (after t) may
+    → (x : X) × R may x (after t) t
 
 abbrev pub Then : {X Y : Type 0} → Rel X → (X → Rel Y) → Rel Y
 Then {X} {Y} R S may y f t = (x : X) × (u : Tokens) × R may x f u × S x may y u t
@@ -65,7 +75,8 @@ pub record Piece {X A : Type 0} (tree : X → A) (R : Rel X) (Given : Tokens →
   pub complete : Complete tree R Ends m run
 
 module _ {X A : Type 0} (tree : X → A) (R : Rel X) (Kept : X → Tokens → Type 0) (m : ℕ) where
-  pub sound_short : (ts : Tokens) (out : Out A) → Sound tree R Kept m ts out → length (place out) ≤ length ts
+  pub sound_short : (ts : Tokens) (out : Out A) → Sound tree R Kept m ts out
+      → length (place out) ≤ length ts
   sound_short ts _ (read x t a k) = behind a.put a.way ts t a.is
   sound_short ts _ (stuck s o) = behind o.put o.way ts s.rest o.is
 
@@ -73,7 +84,8 @@ module _ {X A : Type 0} (tree : X → A) (R : Rel X) (Kept : X → Tokens → Ty
 
 module _ {X A Y B : Type 0} (tree : X → A) (tree' : Y → B) (R : Rel X) (S : X → Rel Y) (Kept : X → Tokens → Type 0) (Kept' : Y → Tokens → Type 0) (m : ℕ) where
   -- a stop in the second part
-  open_second : (ts u : Tokens) (x : X) (s : Stop) → Front R m x ts u → Open (S x) m u s → Open (Then R S) m ts s
+  open_second : (ts u : Tokens) (x : X) (s : Stop) → Front R m x ts u → Open (S x) m u s
+      → Open (Then R S) m ts s
   open_second ts u x s a o =
       record {
         put = λ v. a.put (o.put v);
@@ -86,7 +98,8 @@ module _ {X A Y B : Type 0} (tree : X → A) (tree' : Y → B) (R : Rel X) (S : 
       }
 
   -- a stop in the first part: the second one is completed by its shortest text
-  open_first : (ts : Tokens) (s : Stop) (after : Tokens → Tokens) → Grows after → ((x : X) → Least (S x) after) → Open R m ts s → Open (Then R S) m ts s
+  open_first : (ts : Tokens) (s : Stop) (after : Tokens → Tokens) → Grows after
+      → ((x : X) → Least (S x) after) → Open R m ts s → Open (Then R S) m ts s
   open_first ts s after grow least o =
       record {
         put = o.put;
@@ -101,49 +114,78 @@ module _ {X A Y B : Type 0} (tree : X → A) (tree' : Y → B) (R : Rel X) (S : 
             (l.0, (c.0, after v, c.1, l.1));
       }
 
-  pub seq_sound : (ts : Tokens) (out : Out A) (f : A → Tokens → Out B) (after : Tokens → Tokens) → Grows after → ((x : X) → Least (S x) after) → Sound tree R Kept m ts out
-      → ((x : X) (u : Tokens) → Kept x u → Sound tree' (S x) Kept' m u (f (tree x) u)) → Sound tree' (Then R S) Kept' m ts (and_then out f)
+  pub seq_sound : (ts : Tokens) (out : Out A) (f : A → Tokens → Out B) (after : Tokens → Tokens)
+      → Grows after → ((x : X) → Least (S x) after) → Sound tree R Kept m ts out
+      → ((x : X) (u : Tokens) → Kept x u → Sound tree' (S x) Kept' m u (f (tree x) u))
+      → Sound tree' (Then R S) Kept' m ts (and_then out f)
   seq_sound ts _ f after grow least (stuck s o) k = stuck s (open_first ts s after grow least o)
   seq_sound ts _ f after grow least (read x u a kept) k = second (f (tree x) u) (k x u kept)
     where
-      second : (out : Out B) → Sound tree' (S x) Kept' m u out → Sound tree' (Then R S) Kept' m ts out
+      second : (out : Out B) → Sound tree' (S x) Kept' m u out
+          → Sound tree' (Then R S) Kept' m ts out
       second _ (stuck s o) = stuck s (open_second ts u x s a o)
       second _ (read y t b kept') =
-          read y t (record { put = λ v. a.put (b.put v); way = both a.way b.way; is = a.is ∙ ap a.put b.is; again = λ may w v. (x, b.put v, a.again may w _, b.again may w v) }) kept'
+          read y t (record {
+            put = λ v. a.put (b.put v);
+            way = both a.way b.way;
+            is = a.is
+                ∙ ap a.put b.is;
+            again = λ may w v. (x, b.put v, a.again may w _, b.again may w v);
+          })
+          kept'
 
-  seq_short : (ts : Tokens) (out : Out A) (f : A → Tokens → Out B) → Sound tree R Kept m ts out → ((x : X) (u : Tokens) → Kept x u → Sound tree' (S x) Kept' m u (f (tree x) u))
+  seq_short : (ts : Tokens) (out : Out A) (f : A → Tokens → Out B) → Sound tree R Kept m ts out
+      → ((x : X) (u : Tokens) → Kept x u → Sound tree' (S x) Kept' m u (f (tree x) u))
       → length (place (and_then out f)) ≤ length (place out)
   seq_short ts _ f (stuck s o) k = omega arith
-  seq_short ts _ f (read x u a kept) k = sound_short tree' (S x) Kept' m u (f (tree x) u) (k x u kept)
+  seq_short ts _ f (read x u a kept) k = sound_short tree' (S x) Kept' m u (f (tree x) u)
+      (k x u kept)
 
-  seq_complete : (Ends : X → Tokens → Type 0) (Ends' : Y → Tokens → Type 0) (run : Tokens → Out A) (f : A → Tokens → Out B) → ((ts : Tokens) → Sound tree R Kept m ts (run ts))
-      → ((x : X) (u : Tokens) → Kept x u → Sound tree' (S x) Kept' m u (f (tree x) u)) → ((may : May) (x : X) (y : Y) (u t : Tokens) → S x may y u t → Ends' y t → Ends x u)
-      → Complete tree R Ends m run → ((x : X) → Complete tree' (S x) Ends' m (f (tree x))) → Complete tree' (Then R S) Ends' m (λ ts. and_then (run ts) f)
+  seq_complete : (Ends : X → Tokens → Type 0) (Ends' : Y → Tokens → Type 0) (run : Tokens → Out A)
+      (f : A → Tokens → Out B) → ((ts : Tokens) → Sound tree R Kept m ts (run ts))
+      → ((x : X) (u : Tokens) → Kept x u → Sound tree' (S x) Kept' m u (f (tree x) u))
+      → ((may : May) (x : X) (y : Y) (u t : Tokens) → S x may y u t → Ends' y t → Ends x u)
+      → Complete tree R Ends m run → ((x : X) → Complete tree' (S x) Ends' m (f (tree x)))
+      → Complete tree' (Then R S) Ends' m (λ ts. and_then (run ts) f)
   seq_complete Ends Ends' run f sound k meets c1 c2 cut g g' may y f' t' r e from tied =
       go (c1 cut g g' may r.0 f' r.1 r.2 (meets may r.0 y r.1 t' r.3 e) from tied)
     where
-      go : Lands cut g g' may m (run from) (λ to. Ok (tree r.0, to)) r.1 → Lands cut g g' may m (and_then (run from) f) (λ to. Ok (tree' y, to)) t'
-      go (good mid tm i) = lands_by cut g g' may m (ap (λ (o : Out A). and_then o f) i) (c2 r.0 cut g g' may y r.1 t' r.3 e mid tm)
-      go (past c l) = past c (record { le = trans_le (seq_short from (run from) f (sound from) k) l.le })
+      go : Lands cut g g' may m (run from) (λ to. Ok (tree r.0, to)) r.1
+          → Lands cut g g' may m (and_then (run from) f) (λ to. Ok (tree' y, to)) t'
+      go (good mid tm i) = lands_by cut g g' may m (ap (λ (o : Out A). and_then o f) i)
+          (c2 r.0 cut g g' may y r.1 t' r.3 e mid tm)
+      go (past c l) = past c (record {
+        le = trans_le
+            (seq_short from (run from) f (sound from) k) l.le;
+      })
       go (deep q q' d t i y' n) = deep q q' d t (ap (λ (o : Out A). and_then o f) i) y' n
 
-abbrev pub Meets : {X Y : Type 0} → (X → Rel Y) → (X → Tokens → Type 0) → (Y → Tokens → Type 0) → Type 0
-Meets {X} {Y} S Ends Ends' = (may : May) (x : X) (y : Y) (u t : Tokens) → S x may y u t → Ends' y t → Ends x u
+abbrev pub Meets : {X Y : Type 0} → (X → Rel Y) → (X → Tokens → Type 0) → (Y → Tokens → Type 0)
+    → Type 0
+Meets {X} {Y} S Ends Ends' = (may : May) (x : X) (y : Y) (u t : Tokens) → S x may y u t → Ends' y t
+    → Ends x u
 
 -- nothing is asked of the text before the first part
-pub seq : {X A Y B : Type 0} {tree : X → A} {tree' : Y → B} {R : Rel X} {S : X → Rel Y} {Kept Ends : X → Tokens → Type 0} {Kept' Ends' : Y → Tokens → Type 0}
+pub seq : {X A Y B : Type 0} {tree : X → A} {tree' : Y → B} {R : Rel X} {S : X → Rel Y}
+    {Kept Ends : X → Tokens → Type 0} {Kept' Ends' : Y → Tokens → Type 0}
     {after after' : Tokens → Tokens} {m : ℕ} {run : Tokens → Out A} (f : A → Tokens → Out B)
-    → Piece tree R any Kept Ends after m run → ((x : X) → Piece tree' (S x) (Kept x) Kept' Ends' after' m (f (tree x))) → Grows after' → Meets S Ends Ends'
+    → Piece tree R any Kept Ends after m run
+    → ((x : X) → Piece tree' (S x) (Kept x) Kept' Ends' after' m (f (tree x))) → Grows after'
+    → Meets S Ends Ends'
     → Piece tree' (Then R S) any Kept' Ends' (λ t. after (after' t)) m (λ ts. and_then (run ts) f)
-seq {tree = tree} {tree' = tree'} {R = R} {S = S} {Kept = Kept} {Ends = Ends} {Kept' = Kept'} {Ends' = Ends'} {after = after} {after' = after'} {m = m} {run = run} f p q grow meets =
+seq {tree = tree} {tree' = tree'} {R = R} {S = S} {Kept = Kept} {Ends = Ends} {Kept' = Kept'}
+    {Ends' = Ends'} {after = after} {after' = after'} {m = m} {run = run} f p q grow meets =
     record {
       grow = λ t. trans_le (grow t) (p.grow (after' t));
       least = λ may t fr fr'. first' may t fr fr';
-      sound = λ ts h. seq_sound tree tree' R S Kept Kept' m ts (run ts) f after' grow (λ x. (q x).least) (p.sound ts tt) (λ x u k. (q x).sound u k);
-      complete = seq_complete tree tree' R S Kept Kept' m Ends Ends' run f (λ ts. p.sound ts tt) (λ x u k. (q x).sound u k) meets p.complete (λ x. (q x).complete);
+      sound = λ ts h. seq_sound tree tree' R S Kept Kept' m ts (run ts) f after' grow
+          (λ x. (q x).least) (p.sound ts tt) (λ x u k. (q x).sound u k);
+      complete = seq_complete tree tree' R S Kept Kept' m Ends Ends' run f (λ ts. p.sound ts tt)
+          (λ x u k. (q x).sound u k) meets p.complete (λ x. (q x).complete);
     }
   where
-    first' : (may : May) (t : Tokens) → Frees t may → Frees (after (after' t)) may → (y : _) × Then R S may y (after (after' t)) t
+    first' : (may : May) (t : Tokens) → Frees t may → Frees (after (after' t)) may
+        → (y : _) × Then R S may y (after (after' t)) t
     first' may t fr fr' =
         let fr1 : Frees (after' t) may = λ u d le. fr' u d (trans_le le (p.grow (after' t))) in
         let a = p.least may (after' t) fr1 fr' in
@@ -151,56 +193,96 @@ seq {tree = tree} {tree' = tree'} {R = R} {S = S} {Kept = Kept} {Ends = Ends} {K
         (b.0, (a.0, after' t, a.1, b.1))
 
 -- where something is known of the text before
-pub forget : {X A : Type 0} {tree : X → A} {R : Rel X} {Given : Tokens → Type 0} {Kept Ends : X → Tokens → Type 0} {after : Tokens → Tokens} {m : ℕ} {run : Tokens → Out A}
+pub forget : {X A : Type 0} {tree : X → A} {R : Rel X} {Given : Tokens → Type 0}
+    {Kept Ends : X → Tokens → Type 0} {after : Tokens → Tokens} {m : ℕ} {run : Tokens → Out A}
     → Piece tree R any Kept Ends after m run → Piece tree R Given Kept Ends after m run
-forget p = record { grow = p.grow; least = p.least; sound = λ ts h. p.sound ts tt; complete = p.complete }
+forget p = record {
+  grow = p.grow;
+  least = p.least;
+  sound = λ ts h. p.sound ts tt;
+  complete = p.complete;
+}
 
 -- nothing more
 abbrev pub Done : {X : Type 0} → X → Rel X
 Done v may y u t = (v ≡ y) × (u ≡ t)
 
-pub done : {X A : Type 0} (tree : X → A) (v : X) {Given : Tokens → Type 0} {Kept Ends : X → Tokens → Type 0} (m : ℕ) → ((t : Tokens) → Given t → Kept v t)
+pub done : {X A : Type 0} (tree : X → A) (v : X) {Given : Tokens → Type 0}
+    {Kept Ends : X → Tokens → Type 0} (m : ℕ) → ((t : Tokens) → Given t → Kept v t)
     → Piece tree (Done v) Given Kept Ends (λ t. t) m (λ ts. Ok (tree v, ts))
 done tree v m kept =
     record {
       grow = λ t. omega arith;
       least = λ may t fr fr'. (v, (refl, refl));
-      sound = λ ts h. read v ts (record { put = λ u. u; way = stay; is = refl; again = λ may w u. (refl, refl) }) (kept ts h);
-      complete = λ cut g g' may x f' t' r e f tied. good f (subst (λ (u : Tokens). Tied cut g g' f u) r.1 tied) (ap (λ y. Ok (tree y, f)) r.0);
+      sound = λ ts h. read v ts (record {
+        put = λ u. u;
+        way = stay;
+        is = refl;
+        again = λ may w u. (refl, refl);
+      }) (kept ts h);
+      complete = λ cut g g' may x f' t' r e f tied. good f
+          (subst (λ (u : Tokens). Tied cut g g' f u) r.1 tied) (ap (λ y. Ok (tree y, f)) r.0);
     }
 
-pub ends_with : {X : Type 0} (P : X → Tokens → Type 0) {v y : X} {u t : Tokens} → P v u → (v ≡ y) × (u ≡ t) → P y t
+pub ends_with : {X : Type 0} (P : X → Tokens → Type 0) {v y : X} {u t : Tokens} → P v u
+    → (v ≡ y) × (u ≡ t) → P y t
 ends_with P {v = v} {y = y} {u = u} {t = t} p e = subst (λ t. P y t) e.1 (subst (λ y. P y u) e.0 p)
 
 -- ---- the same under another name
 
-pub turn : {X A : Type 0} {tree : X → A} {R R' : Rel X} {Kept : X → Tokens → Type 0} {m : ℕ} → ((may : May) (x : X) (f t : Tokens) → R may x f t → R' may x f t)
+pub turn : {X A : Type 0} {tree : X → A} {R R' : Rel X} {Kept : X → Tokens → Type 0} {m : ℕ}
+    → ((may : May) (x : X) (f t : Tokens) → R may x f t → R' may x f t)
     → (ts : Tokens) {out : Out A} → Sound tree R Kept m ts out → Sound tree R' Kept m ts out
-turn h ts (read x t a k) = read x t (record { put = a.put; way = a.way; is = a.is; again = λ may w u. h may x _ u (a.again may w u) }) k
+turn h ts (read x t a k) = read x t (record {
+  put = a.put;
+  way = a.way;
+  is = a.is;
+  again = λ may w u. h may x _ u (a.again may w u);
+}) k
 turn h ts (stuck s o) = stuck s (record { put = o.put; way = o.way; is = o.is; more = o.more; grows = o.grows; held = o.held; completes = λ u. let c = o.completes u in (c.0, h (_) c.0 _ u c.1) })
 
-pub iff : {X A : Type 0} {tree : X → A} {R R' : Rel X} {Given : Tokens → Type 0} {Kept Ends : X → Tokens → Type 0} {after : Tokens → Tokens} {m : ℕ} {run : Tokens → Out A}
-    → Piece tree R Given Kept Ends after m run → ((may : May) (x : X) (f t : Tokens) → R may x f t → R' may x f t) → ((may : May) (x : X) (f t : Tokens) → R' may x f t → R may x f t)
+pub iff : {X A : Type 0} {tree : X → A} {R R' : Rel X} {Given : Tokens → Type 0}
+    {Kept Ends : X → Tokens → Type 0} {after : Tokens → Tokens} {m : ℕ} {run : Tokens → Out A}
+    → Piece tree R Given Kept Ends after m run
+    → ((may : May) (x : X) (f t : Tokens) → R may x f t → R' may x f t)
+    → ((may : May) (x : X) (f t : Tokens) → R' may x f t → R may x f t)
     → Piece tree R' Given Kept Ends after m run
 iff {after = after} p to from =
     record {
       grow = p.grow;
       least = λ may t fr fr'. let a = p.least may t fr fr' in (a.0, to may a.0 (after t) t a.1);
       sound = λ ts h. turn to ts (p.sound ts h);
-      complete = λ cut g g' may x f' t' r e f tied. p.complete cut g g' may x f' t' (from may x f' t' r) e f tied;
+      complete = λ cut g g' may x f' t' r e f tied. p.complete cut g g' may x f' t'
+          (from may x f' t' r) e f tied;
     }
 
 -- behind a token
-pub prepend : {X A : Type 0} {tree : X → A} {R R' : Rel X} {Kept : X → Tokens → Type 0} {m : ℕ} (x : Lexeme) (ts : Tokens) → ts ≡ x ∷ tail ts
-    → ((may : May) (y : X) (f t : Tokens) → R may y f t → R' may y (x ∷ f) t) → {out : Out A} → Sound tree R Kept m (tail ts) out → Sound tree R' Kept m ts out
-prepend x ts e h (read y t a k) = read y t (record { put = λ u. x ∷ a.put u; way = both (one _) a.way; is = e ∙ ap (λ u. x ∷ u) a.is; again = λ may w u. h may y _ u (a.again may w u) }) k
+pub prepend : {X A : Type 0} {tree : X → A} {R R' : Rel X} {Kept : X → Tokens → Type 0}
+    {m : ℕ} (x : Lexeme) (ts : Tokens) → ts ≡ x ∷ tail ts
+    → ((may : May) (y : X) (f t : Tokens) → R may y f t → R' may y (x ∷ f) t) → {out : Out A}
+    → Sound tree R Kept m (tail ts) out → Sound tree R' Kept m ts out
+prepend x ts e h (read y t a k) = read y t
+    (record {
+      put = λ u. x ∷ a.put u;
+      way = both (one _) a.way;
+      is = e ∙ ap (λ u. x ∷ u) a.is;
+      again = λ may w u. h may y _ u (a.again may w u);
+    }) k
 prepend x ts e h (stuck s o) =
     stuck s (record { put = λ u. x ∷ o.put u; way = both (one _) o.way; is = e ∙ ap (λ u. x ∷ u) o.is; more = o.more; grows = o.grows; held = o.held; completes = λ u. let c = o.completes u in (c.0, h (_) c.0 _ u c.1) })
 
 -- less may be asked of what follows
-pub ends_by : {X A : Type 0} {tree : X → A} {R : Rel X} {Given : Tokens → Type 0} {Kept Ends Ends' : X → Tokens → Type 0} {after : Tokens → Tokens} {m : ℕ} {run : Tokens → Out A}
-    → Piece tree R Given Kept Ends after m run → ((x : X) (t : Tokens) → Ends' x t → Ends x t) → Piece tree R Given Kept Ends' after m run
-ends_by p h = record { grow = p.grow; least = p.least; sound = p.sound; complete = λ cut g g' may x f' t' r e f tied. p.complete cut g g' may x f' t' r (h x t' e) f tied }
+pub ends_by : {X A : Type 0} {tree : X → A} {R : Rel X} {Given : Tokens → Type 0}
+    {Kept Ends Ends' : X → Tokens → Type 0} {after : Tokens → Tokens} {m : ℕ} {run : Tokens → Out A}
+    → Piece tree R Given Kept Ends after m run → ((x : X) (t : Tokens) → Ends' x t → Ends x t)
+    → Piece tree R Given Kept Ends' after m run
+ends_by p h = record {
+  grow = p.grow;
+  least = p.least;
+  sound = p.sound;
+  complete = λ cut g g' may x f' t' r e f tied. p.complete cut g g' may x f' t' r
+      (h x t' e) f tied;
+}
 
 -- ---- one or another, by the first token
 
@@ -209,46 +291,81 @@ pub data Either {X : Type 0} (R S : Rel X) (may : May) (x : X) (f t : Tokens) : 
   that : S may x f t → Either R S may x f t
 
 -- the shortest text is one of the second
-pub either : {X A : Type 0} {tree : X → A} {R S : Rel X} {Given : Tokens → Type 0} {Kept Ends : X → Tokens → Type 0} {after : Tokens → Tokens} {m : ℕ} {run run' : Tokens → Out A} (p : Form → Bool)
-    → ((ts : Tokens) → Given ts → first p ts ≡ true → Sound tree R Kept m ts (run ts)) → Complete tree R Ends m run
-    → Grows after → Least S after → ((ts : Tokens) → Given ts → first p ts ≡ false → Sound tree S Kept m ts (run' ts)) → Complete tree S Ends m run'
-    → ((may : May) (x : X) (f t : Tokens) → R may x f t → first p f ≡ true) → ((may : May) (x : X) (f t : Tokens) → S may x f t → Ends x t → first p f ≡ false)
+pub either : {X A : Type 0} {tree : X → A} {R S : Rel X} {Given : Tokens → Type 0}
+    {Kept Ends : X → Tokens → Type 0} {after : Tokens → Tokens} {m : ℕ}
+    {run run' : Tokens → Out A} (p : Form → Bool)
+    → ((ts : Tokens) → Given ts → first p ts ≡ true → Sound tree R Kept m ts (run ts))
+    → Complete tree R Ends m run
+    → Grows after → Least S after → ((ts : Tokens) → Given ts → first p ts ≡ false
+    → Sound tree S Kept m ts (run' ts)) → Complete tree S Ends m run'
+    → ((may : May) (x : X) (f t : Tokens) → R may x f t → first p f ≡ true)
+    → ((may : May) (x : X) (f t : Tokens) → S may x f t → Ends x t → first p f ≡ false)
     → Piece tree (Either R S) Given Kept Ends after m (λ ts. cond (first p ts) (run ts) (run' ts))
-either {tree = tree} {R = R} {S = S} {Kept = Kept} {Ends = Ends} {m = m} {run = run} {run' = run'} p sound complete grow least sound' complete' is_this is_that =
+either {tree = tree} {R = R} {S = S} {Kept = Kept} {Ends = Ends} {m = m} {run = run}
+    {run' = run'} p sound complete grow least sound' complete' is_this is_that =
     record {
       grow = grow;
       least = λ may t fr fr'. let a = least may t fr fr' in (a.0, that a.1);
-      sound = λ ts h. split_if (Sound tree (Either R S) Kept m ts) (first p ts) _ _ (λ e. turn (λ may x f t r. this r) ts (sound ts h e)) (λ e. turn (λ may x f t r. that r) ts (sound' ts h e));
+      sound = λ ts h. split_if (Sound tree (Either R S) Kept m ts) (first p ts) _ _
+          (λ e. turn (λ may x f t r. this r) ts (sound ts h e))
+          (λ e. turn (λ may x f t r. that r) ts (sound' ts h e));
       complete = λ cut g g' may x f' t' r e f tied. whole cut g g' may x f' t' r e f tied;
     }
   where
-    whole : (cut : Bool) (g g' : Tokens) (may : May) (x : _) (f' t' : Tokens) → Either R S may x f' t' → Ends x t' → (f : Tokens) → Tied cut g g' f f' → Lands cut g g' may m (cond (first p f) (run f) (run' f)) (λ to. Ok (tree x, to)) t'
-    whole cut g g' may x f' t' (this r) e f tied = lands_by cut g g' may m (if_true (first p f) _ _ (tied_first cut g g' p tied ∙ is_this may x f' t' r)) (complete cut g g' may x f' t' r e f tied)
-    whole cut g g' may x f' t' (that r) e f tied = lands_by cut g g' may m (if_false (first p f) _ _ (tied_first cut g g' p tied ∙ is_that may x f' t' r e)) (complete' cut g g' may x f' t' r e f tied)
+    whole : (cut : Bool) (g g' : Tokens) (may : May) (x : _) (f' t' : Tokens)
+        → Either R S may x f' t' → Ends x t' → (f : Tokens) → Tied cut g g' f f'
+        → Lands cut g g' may m (cond (first p f) (run f) (run' f)) (λ to. Ok (tree x, to)) t'
+    whole cut g g' may x f' t' (this r) e f tied =
+        lands_by cut g g' may m (if_true (first p f) _ _
+        (tied_first cut g g' p tied ∙ is_this may x f' t' r))
+        (complete cut g g' may x f' t' r e f tied)
+    whole cut g g' may x f' t' (that r) e f tied =
+        lands_by cut g g' may m (if_false (first p f) _ _
+        (tied_first cut g g' p tied ∙ is_that may x f' t' r e))
+        (complete' cut g g' may x f' t' r e f tied)
 
 -- of two pieces
-pub either_of : {X A : Type 0} {tree : X → A} {R S : Rel X} {Kept Ends : X → Tokens → Type 0} {after after' : Tokens → Tokens} {m : ℕ} {run run' : Tokens → Out A} (p : Form → Bool)
+pub either_of : {X A : Type 0} {tree : X → A} {R S : Rel X} {Kept Ends : X → Tokens → Type 0}
+    {after after' : Tokens → Tokens} {m : ℕ} {run run' : Tokens → Out A} (p : Form → Bool)
     → Piece tree R any Kept Ends after' m run → Piece tree S any Kept Ends after m run'
-    → ((may : May) (x : X) (f t : Tokens) → R may x f t → first p f ≡ true) → ((may : May) (x : X) (f t : Tokens) → S may x f t → Ends x t → first p f ≡ false)
+    → ((may : May) (x : X) (f t : Tokens) → R may x f t → first p f ≡ true)
+    → ((may : May) (x : X) (f t : Tokens) → S may x f t → Ends x t → first p f ≡ false)
     → Piece tree (Either R S) any Kept Ends after m (λ ts. cond (first p ts) (run ts) (run' ts))
-either_of p a b is_this is_that = either p (λ ts h e. a.sound ts tt) a.complete b.grow b.least (λ ts h e. b.sound ts tt) b.complete is_this is_that
+either_of p a b is_this is_that = either p (λ ts h e. a.sound ts tt) a.complete b.grow b.least
+    (λ ts h e. b.sound ts tt) b.complete is_this is_that
 
 -- ---- a mark, a word, a name
 
 abbrev pub Is : Mark → Rel ℕ
 Is k may l f t = f ≡ punct l k ∷ t
 
-pub mark_piece : (k : Mark) (m : ℕ) → Piece same_tree (Is k) any always always (λ t. punct 0 k ∷ t) m (expect k)
+pub mark_piece : (k : Mark) (m : ℕ) → Piece same_tree (Is k) any always always
+    (λ t. punct 0 k ∷ t) m (expect k)
 mark_piece k m =
     record {
       grow = λ t. omega arith;
       least = λ may t fr fr'. (0, refl);
       sound = λ ts h.
           split_if (Sound same_tree (Is k) always m ts) (is_next k ts) _ _
-          (λ e. read (line_of ts) (tail ts) (record { put = λ u. punct (line_of ts) k ∷ u; way = one _; is = next_is k ts e; again = λ may w u. refl }) tt)
-          (λ e. stuck _ (record { put = λ u. u; way = stay; is = refl; more = λ u. punct 0 k ∷ u; grows = λ u. omega arith; held = tt; completes = λ u. (0, refl) }));
+          (λ e. read (line_of ts) (tail ts)
+          (record {
+            put = λ u. punct (line_of ts) k ∷ u;
+            way = one _;
+            is = next_is k ts e;
+            again = λ may w u. refl;
+          }) tt)
+          (λ e. stuck _ (record {
+            put = λ u. u;
+            way = stay;
+            is = refl;
+            more = λ u. punct 0 k ∷ u;
+            grows = λ u. omega arith;
+            held = tt;
+            completes = λ u. (0, refl);
+          }));
       complete = λ cut g g' may l f' t' r e f tied.
-          head_step cut g g' (λ u. Lands cut g g' may m (expect k u) (λ to. Ok (l, to)) t') (subst (λ (u : Tokens). Tied cut g g' f u) r tied)
+          head_step cut g g' (λ u. Lands cut g g' may m (expect k u) (λ to. Ok (l, to)) t')
+          (subst (λ (u : Tokens). Tied cut g g' f u) r tied)
           (λ v tv. good v tv (if_true _ _ _ (mark_self k)))
           (λ c. past c (record { le = at_cut l g }));
     }
@@ -259,17 +376,33 @@ mark_piece k m =
 abbrev pub IsWord : Key → Rel ℕ
 IsWord k may l f t = f ≡ word l k ∷ t
 
-pub word_piece : (k : Key) (m : ℕ) → Piece same_tree (IsWord k) any always always (λ t. word 0 k ∷ t) m (expect_word k)
+pub word_piece : (k : Key) (m : ℕ) → Piece same_tree (IsWord k) any always always
+    (λ t. word 0 k ∷ t) m (expect_word k)
 word_piece k m =
     record {
       grow = λ t. omega arith;
       least = λ may t fr fr'. (0, refl);
       sound = λ ts h.
           split_if (Sound same_tree (IsWord k) always m ts) (is_word k ts) _ _
-          (λ e. read (line_of ts) (tail ts) (record { put = λ u. word (line_of ts) k ∷ u; way = one _; is = word_is k ts e; again = λ may w u. refl }) tt)
-          (λ e. stuck _ (record { put = λ u. u; way = stay; is = refl; more = λ u. word 0 k ∷ u; grows = λ u. omega arith; held = tt; completes = λ u. (0, refl) }));
+          (λ e. read (line_of ts) (tail ts)
+          (record {
+            put = λ u. word (line_of ts) k ∷ u;
+            way = one _;
+            is = word_is k ts e;
+            again = λ may w u. refl;
+          }) tt)
+          (λ e. stuck _ (record {
+            put = λ u. u;
+            way = stay;
+            is = refl;
+            more = λ u. word 0 k ∷ u;
+            grows = λ u. omega arith;
+            held = tt;
+            completes = λ u. (0, refl);
+          }));
       complete = λ cut g g' may l f' t' r e f tied.
-          head_step cut g g' (λ u. Lands cut g g' may m (expect_word k u) (λ to. Ok (l, to)) t') (subst (λ (u : Tokens). Tied cut g g' f u) r tied)
+          head_step cut g g' (λ u. Lands cut g g' may m (expect_word k u) (λ to. Ok (l, to)) t')
+          (subst (λ (u : Tokens). Tied cut g g' f u) r tied)
           (λ v tv. good v tv (if_true _ _ _ (key_self k)))
           (λ c. past c (record { le = at_cut l g }));
     }
@@ -290,15 +423,26 @@ name_piece m =
       least = λ may t fr fr'. ((0, 120 ∷ []), refl);
       sound = λ ts h. sound ts;
       complete = λ cut g g' may n f' t' r e f tied.
-          head_step cut g g' (λ u. Lands cut g g' may m (name_of u) (λ to. Ok (n, to)) t') (subst (λ (u : Tokens). Tied cut g g' f u) r tied)
+          head_step cut g g' (λ u. Lands cut g g' may m (name_of u) (λ to. Ok (n, to)) t')
+          (subst (λ (u : Tokens). Tied cut g g' f u) r tied)
           (λ v tv. good v tv refl) (λ c. past c (record { le = omega arith }));
     }
   where
     wanted : (ts : Tokens) → Sound same_tree Named always m ts (syntax ts)
-    wanted ts = stuck _ (record { put = λ u. u; way = stay; is = refl; more = name_first; grows = λ u. omega arith; held = tt; completes = λ u. ((0, 120 ∷ []), refl) })
+    wanted ts = stuck _ (record {
+      put = λ u. u;
+      way = stay;
+      is = refl;
+      more = name_first;
+      grows = λ u. omega arith;
+      held = tt;
+      completes = λ u. ((0, 120 ∷ []), refl);
+    })
 
-    by : (l : ℕ) (f : Form) (ts : Tokens) → Sound same_tree Named always m (token l f ∷ ts) (name_by l f (token l f ∷ ts))
-    by l (form.Name w) ts = read (l, w) ts (record { put = λ u. named l w ∷ u; way = one _; is = refl; again = λ may w' u. refl }) tt
+    by : (l : ℕ) (f : Form) (ts : Tokens)
+        → Sound same_tree Named always m (token l f ∷ ts) (name_by l f (token l f ∷ ts))
+    by l (form.Name w) ts = read (l, w) ts
+        (record { put = λ u. named l w ∷ u; way = one _; is = refl; again = λ may w' u. refl }) tt
     by l _ ts = wanted _
 
     sound : (ts : Tokens) → Sound same_tree Named always m ts (name_of ts)
@@ -309,7 +453,8 @@ name_piece m =
 
 -- the depth that may still be opened
 abbrev pub Reach : Nested → ℕ → ℕ → Type 0
-Reach nested m d = (nested.allowed ≡ true → leb (suc d) m ≡ true) × (nested.allowed ≡ false → leb (suc d) m ≡ false)
+Reach nested m d = (nested.allowed ≡ true → leb (suc d) m ≡ true)
+    × (nested.allowed ≡ false → leb (suc d) m ≡ false)
 
 abbrev pub OpenIs : Mark → ℕ → Rel ℕ
 OpenIs k d may l f t = (f ≡ punct l k ∷ t) × (may (punct l k ∷ t) (suc d) ≡ true)
@@ -317,14 +462,21 @@ OpenIs k d may l f t = (f ≡ punct l k ∷ t) × (may (punct l k ∷ t) (suc d)
 abbrev enter_by : Bool → Mark → Tokens → Out ℕ
 enter_by b k ts = cond (is_next k ts) (cond b (Ok (line_of ts, tail ts)) (too_deep ts)) (syntax ts)
 
-open_piece : (k : Mark) (m d : ℕ) → leb (suc d) m ≡ true → Piece same_tree (OpenIs k d) any always always (λ t. punct 0 k ∷ t) m (enter_by true k)
+open_piece : (k : Mark) (m d : ℕ) → leb (suc d) m ≡ true
+    → Piece same_tree (OpenIs k d) any always always (λ t. punct 0 k ∷ t) m (enter_by true k)
 open_piece k m d ok =
     record {
       grow = λ t. omega arith;
       least = λ may t fr fr'. (0, (refl, fr' (punct 0 k ∷ t) (suc d) (omega arith)));
       sound = λ ts h.
           split_if (Sound same_tree (OpenIs k d) always m ts) (is_next k ts) _ _
-          (λ e. read (line_of ts) (tail ts) (record { put = λ u. punct (line_of ts) k ∷ u; way = one _; is = next_is k ts e; again = λ may w u. (refl, w _ (suc d) ok) }) tt)
+          (λ e. read (line_of ts) (tail ts)
+          (record {
+            put = λ u. punct (line_of ts) k ∷ u;
+            way = one _;
+            is = next_is k ts e;
+            again = λ may w u. (refl, w _ (suc d) ok);
+          }) tt)
           (λ e. stuck _ (record {
             put = λ u. u;
             way = stay;
@@ -332,10 +484,18 @@ open_piece k m d ok =
             more = λ u. punct 0 k ∷ u;
             grows = λ u. omega arith;
             held = tt;
-            completes = λ u. (0, (refl, frees_all m (punct 0 k ∷ u) (punct 0 k ∷ u) (suc d) (omega arith)));
+            completes = λ u. (
+              0,
+              (
+                refl,
+                frees_all m (punct 0 k ∷ u) (punct 0 k ∷ u) (suc d)
+                    (omega arith),
+              ),
+            );
           }));
       complete = λ cut g g' may l f' t' r e f tied.
-          head_step cut g g' (λ u. Lands cut g g' may m (enter_by true k u) (λ to. Ok (l, to)) t') (subst (λ (u : Tokens). Tied cut g g' f u) r.0 tied)
+          head_step cut g g' (λ u. Lands cut g g' may m (enter_by true k u) (λ to. Ok (l, to)) t')
+          (subst (λ (u : Tokens). Tied cut g g' f u) r.0 tied)
           (λ v tv. good v tv (if_true _ _ _ (mark_self k)))
           (λ c. past c (record { le = at_cut l g }));
     }
@@ -354,12 +514,14 @@ module _ {Y B : Type 0} (tree : Y → B) (S : ℕ → Rel Y) (Kept Ends : Y → 
       (l.0, (0, after t, (refl, fr' (punct 0 k ∷ after t) (suc d) (omega arith)), l.1))
 
   barred_sound : (ts : Tokens) → Sound tree Whole Kept m ts (and_then (enter_by false k ts) f)
-  barred_sound ts = split_if (λ (o : Out ℕ). Sound tree Whole Kept m ts (and_then o f)) (is_next k ts) _ _ held missing
+  barred_sound ts = split_if (λ (o : Out ℕ). Sound tree Whole Kept m ts (and_then o f))
+      (is_next k ts) _ _ held missing
     where
       grown : (l : ℕ) → Grows (λ u. punct l k ∷ after u)
       grown l u = omega (arith, grow u)
 
-      whole : (l : ℕ) (u : Tokens) → (y : Y) × Whole (before m (punct l k ∷ after u)) y (punct l k ∷ after u) u
+      whole : (l : ℕ) (u : Tokens) → (y : Y)
+          × Whole (before m (punct l k ∷ after u)) y (punct l k ∷ after u) u
       whole l u =
           let more : Tokens → Tokens = λ w. punct l k ∷ after w in
           let a = least l (before m (more u)) u (frees_after m more (grown l) u) (frees_after m (λ w. punct l k ∷ w) (λ w. omega arith) (after u)) in
@@ -378,20 +540,41 @@ module _ {Y B : Type 0} (tree : Y → B) (S : ℕ → Rel Y) (Kept Ends : Y → 
           })
 
       missing : is_next k ts ≡ false → Sound tree Whole Kept m ts (syntax ts)
-      missing e = stuck _ (record { put = λ u. u; way = stay; is = refl; more = λ u. punct 0 k ∷ after u; grows = grown 0; held = tt; completes = whole 0 })
+      missing e = stuck _ (record {
+        put = λ u. u;
+        way = stay;
+        is = refl;
+        more = λ u. punct 0 k ∷ after u;
+        grows = grown 0;
+        held = tt;
+        completes = whole 0;
+      })
 
-  barred_complete : leb (suc d) m ≡ false → Complete tree Whole Ends m (λ ts. and_then (enter_by false k ts) f)
+  barred_complete : leb (suc d) m ≡ false
+      → Complete tree Whole Ends m (λ ts. and_then (enter_by false k ts) f)
   barred_complete nope cut g g' may y f' t' r e from tied =
       let o = r.2 in
-      deep from f' (suc d) tied (ap (λ (o : Out ℕ). and_then o f) (if_true (is_next k from) _ _ (tied_first cut g g' (is_mark k) tied ∙ ap (is_next k) o.0 ∙ mark_self k)))
+      deep from f' (suc d) tied (ap (λ (o : Out ℕ). and_then o f)
+      (if_true (is_next k from) _ _ (tied_first cut g g' (is_mark k) tied ∙ ap (is_next k) o.0
+      ∙ mark_self k)))
       (subst (λ (u : Tokens). may u (suc d) ≡ true) (sym o.0) o.1) nope
 
-  opening_by : (b : Bool) → (b ≡ true → leb (suc d) m ≡ true) → (b ≡ false → leb (suc d) m ≡ false) → (b ≡ true → (l : ℕ) → Piece tree (S l) any Kept Ends after m (f l))
-      → Piece tree Whole any Kept Ends (λ t. punct 0 k ∷ after t) m (λ ts. and_then (enter_by b k ts) f)
-  opening_by true aye nope rest = seq f (open_piece k m d (aye refl)) (λ l. rest refl l) grow (λ may x y u t r h. tt)
+  opening_by : (b : Bool) → (b ≡ true → leb (suc d) m ≡ true) → (b ≡ false → leb (suc d) m ≡ false)
+      → (b ≡ true → (l : ℕ) → Piece tree (S l) any Kept Ends after m (f l))
+      → Piece tree Whole any Kept Ends (λ t. punct 0 k ∷ after t) m
+      (λ ts. and_then (enter_by b k ts) f)
+  opening_by true aye nope rest = seq f (open_piece k m d (aye refl)) (λ l. rest refl l) grow
+      (λ may x y u t r h. tt)
   opening_by false aye nope rest =
-      record { grow = λ t. omega (arith, grow t); least = barred_least; sound = λ ts h. barred_sound ts; complete = barred_complete (nope refl) }
+      record {
+        grow = λ t. omega (arith, grow t);
+        least = barred_least;
+        sound = λ ts h. barred_sound ts;
+        complete = barred_complete (nope refl);
+      }
 
-  pub opening : (nested : Nested) → Reach nested m d → (nested.allowed ≡ true → (l : ℕ) → Piece tree (S l) any Kept Ends after m (f l))
-      → Piece tree Whole any Kept Ends (λ t. punct 0 k ∷ after t) m (λ ts. and_then (enter k nested ts) f)
+  pub opening : (nested : Nested) → Reach nested m d
+      → (nested.allowed ≡ true → (l : ℕ) → Piece tree (S l) any Kept Ends after m (f l))
+      → Piece tree Whole any Kept Ends (λ t. punct 0 k ∷ after t) m
+      (λ ts. and_then (enter k nested ts) f)
   opening nested reach rest = opening_by nested.allowed reach.0 reach.1 rest

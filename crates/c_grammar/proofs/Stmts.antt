@@ -1,5 +1,6 @@
 -- Statements, a production a part, where those one deeper are known.
-use Rattle.std.proofs.Common.{◌≡◌, ℕ, suc, Bool, true, false, List, [], ◌∷◌, Some, None, Ok, refl, sym, ap, ◌∙◌, subst, arith}
+use Rattle.std.proofs.Common.{◌≡◌, ℕ, suc, Bool, true, false, List, [], ◌∷◌, Some, None, Ok, refl}
+use Rattle.std.proofs.Common.{sym, ap, ◌∙◌, subst, arith}
 use Rattle.std.proofs.lemmas.Bool.{false≢true}
 use Rattle.c_tree.specs.declared.token.Lexeme.{Lexeme}
 use Rattle.c_tree.specs.declared.token.Form.TheVariants as form
@@ -14,22 +15,33 @@ use Rattle.c_tree.specs.declared.tree.ForInit.{ForInit}
 use Rattle.c_tree.specs.declared.tree.ForInit.TheVariants as inits
 use Rattle.c_grammar.specs.Tokens.{Tokens, punct, word, May}
 use Rattle.c_grammar.specs.Expressions.{expr, Spells}
-use Rattle.c_grammar.specs.Statements.{at, semicolon, paren, for_init, test, locals, stmt, inner, entry, init, entries, Writes, entry_stmt, entry_local, stop, go, compound, empty, plain, if_only, if_else, while, repeat, init_local, init_plain, for, break, continue, return}
+use Rattle.c_grammar.specs.Statements.{at, semicolon, paren, for_init, test, locals, stmt, inner}
+use Rattle.c_grammar.specs.Statements.{entry, init, entries, Writes, entry_stmt, entry_local, stop}
+use Rattle.c_grammar.specs.Statements.{go, compound, empty, plain, if_only, if_else, while, repeat}
+use Rattle.c_grammar.specs.Statements.{init_local, init_plain, for, break, continue, return}
 use Rattle.c_grammar.specs.Numbers.{is_mark, is_key}
 use Rattle.c_grammar.specs.Parsing.{Out, and_then, is_next, is_word, expect, expect_word}
 use Rattle.c_grammar.specs.ModelTypes.{is_type}
 use Rattle.c_grammar.specs.ModelExpressions.{Nested}
-use Rattle.c_grammar.specs.ModelStatements.{Below, until_of, test_of, one_of, entry_of, entries_of, init_local_of, init_plain_of, init_of, else_of, no_of, if_of, while_of, do_of, for_of, leave_of, return_of, empty_of, compound_of, plain_of, simple_of, stmt_of}
+use Rattle.c_grammar.specs.ModelStatements.{Below, until_of, test_of, one_of, entry_of, entries_of}
+use Rattle.c_grammar.specs.ModelStatements.{init_local_of, init_plain_of, init_of, else_of, no_of}
+use Rattle.c_grammar.specs.ModelStatements.{if_of, while_of, do_of, for_of, leave_of, return_of}
+use Rattle.c_grammar.specs.ModelStatements.{empty_of, compound_of, plain_of, simple_of, stmt_of}
 use Rattle.c_grammar.proofs.Agree.{stay, Tied, Lands, good, bind_lands, fine}
-use Rattle.c_grammar.proofs.Pieces.{Rel, Sound, read, stuck, Complete, Then, always, any, Piece, seq, forget, done, Done, iff, turn, ends_by, ends_with, same_tree, Either, this, that, either, either_of, Is, mark_piece, IsWord, word_piece}
+use Rattle.c_grammar.proofs.Pieces.{Rel, Sound, read, stuck, Complete, Then, always, any, Piece}
+use Rattle.c_grammar.proofs.Pieces.{seq, forget, done, Done, iff, turn, ends_by, ends_with}
+use Rattle.c_grammar.proofs.Pieces.{same_tree, Either, this, that, either, either_of, Is}
+use Rattle.c_grammar.proofs.Pieces.{mark_piece, IsWord, word_piece}
 use Rattle.c_grammar.proofs.Lists.{Many, over, more, many_piece}
 use Rattle.c_grammar.proofs.Stops.{mark_stops}
 use Rattle.c_grammar.proofs.Levels.{zero_token, level_starts, starts_no_mark}
 use Rattle.c_grammar.proofs.Joins.{Level}
 use Rattle.c_grammar.proofs.Expressions.{Deeper}
 use Rattle.c_grammar.proofs.Inside.{expression_piece, never}
-use Rattle.c_grammar.proofs.Begins.{inner_begins, begins_no_type, until_no_type, locals_begin, starts_no_word, entry_no_brace, entries_no_else, writes_shorter}
-use Rattle.c_grammar.proofs.Parts.{Until, closer_first, until_piece, Test, test_first, test_piece, locals_first, stmt_here}
+use Rattle.c_grammar.proofs.Begins.{inner_begins, begins_no_type, until_no_type, locals_begin}
+use Rattle.c_grammar.proofs.Begins.{starts_no_word, entry_no_brace, entries_no_else, writes_shorter}
+use Rattle.c_grammar.proofs.Parts.{Until, closer_first, until_piece, Test, test_first, test_piece}
+use Rattle.c_grammar.proofs.Parts.{locals_first, stmt_here}
 
 abbrev pub pair_tree : Bool × Stmt → Stmt
 pair_tree p = p.1
@@ -57,7 +69,8 @@ abbrev pub EntriesAre : ℕ → Rel (List Stmt)
 EntriesAre d may ss f t = Writes may (entries ss) d f t
 
 abbrev pub BodyIs : ℕ → Rel Stmt
-BodyIs d = Then (Is mark.LeftBrace) (λ l. Then (EntriesAre d) (λ ss. Done (at l (node.Compound ss))))
+BodyIs d = Then (Is mark.LeftBrace) (λ l. Then (EntriesAre d)
+    (λ ss. Done (at l (node.Compound ss))))
 
 abbrev no_else : List Stmt → Tokens → Type 0
 no_else s t = is_word key.Else t ≡ false
@@ -76,12 +89,15 @@ pub record Good (below : Below) (m d : ℕ) : Type 0 where
   pub inner_piece : Piece pair_tree (InnerIs d) any closed_off closed_off stmt_first m below.inner
   pub locals_in : Piece same_tree (LocalsIn d) any always always locals_first m below.locals
 
-not_open : (b : Bool) (rest : Tokens) → (b ≡ true → is_word key.Else rest ≡ false) → is_word key.Else rest ≡ true → b ≡ false
+not_open : (b : Bool) (rest : Tokens) → (b ≡ true → is_word key.Else rest ≡ false)
+    → is_word key.Else rest ≡ true → b ≡ false
 not_open true rest h e = absurd (false≢true (sym (h refl) ∙ e))
 not_open false rest h e = refl
 
 kept_off : {v y : Bool × Stmt} {u t : Tokens} → (v ≡ y) × (u ≡ t) → closed_off y t → closed_off v u
-kept_off {v = v} {y = y} {u = u} {t = t} r h = subst (λ (q : Bool × Stmt). closed_off q u) (sym r.0) (subst (λ (w : Tokens). closed_off y w) (sym r.1) h)
+kept_off {v = v} {y = y} {u = u} {t = t} r h =
+    subst (λ (q : Bool × Stmt). closed_off q u) (sym r.0)
+    (subst (λ (w : Tokens). closed_off y w) (sym r.1) h)
 
 module _ (m d : ℕ) (nested : Nested) (deeper : Deeper nested m d) (below : Below) (known : Good below m d) where
   -- ---- entries of a compound statement
@@ -93,8 +109,15 @@ module _ (m d : ℕ) (nested : Nested) (deeper : Deeper nested m d) (below : Bel
   unfolding one_of
   one_sound ts = by_out (below.inner ts) (known.inner_piece.sound ts tt)
     where
-      by_out : (out : Out Stmt) → Sound pair_tree (InnerIs d) closed_off m ts out → Sound same_tree OneIs always m ts (and_then out (λ s ts. list_here (s ∷ []) ts))
-      by_out _ (read p t a k) = read (p.1 ∷ []) t (record { put = a.put; way = a.way; is = a.is; again = λ may w u. (p, a.again may w u, refl) }) tt
+      by_out : (out : Out Stmt) → Sound pair_tree (InnerIs d) closed_off m ts out
+          → Sound same_tree OneIs always m ts (and_then out (λ s ts. list_here (s ∷ []) ts))
+      by_out _ (read p t a k) = read (p.1 ∷ []) t
+          (record {
+            put = a.put;
+            way = a.way;
+            is = a.is;
+            again = λ may w u. (p, a.again may w u, refl);
+          }) tt
       by_out _ (stuck s o) =
           stuck s (record { put = o.put; way = o.way; is = o.is; more = o.more; grows = o.grows; held = o.held; completes = λ u. let c = o.completes u in (c.0.1 ∷ [], (c.0, c.1, refl)) })
 
@@ -103,9 +126,12 @@ module _ (m d : ℕ) (nested : Nested) (deeper : Deeper nested m d) (below : Bel
   one_complete cut g g' may ss f' t' r e f tied =
       by_lands (known.inner_piece.complete cut g g' may r.0 f' t' r.1 (λ _. e) f tied)
     where
-      by_lands : Lands cut g g' may m (below.inner f) (λ to. Ok (r.0.1, to)) t' → Lands cut g g' may m (and_then (below.inner f) (λ s ts. list_here (s ∷ []) ts)) (λ to. Ok (ss, to)) t'
+      by_lands : Lands cut g g' may m (below.inner f) (λ to. Ok (r.0.1, to)) t'
+          → Lands cut g g' may m (and_then (below.inner f) (λ s ts. list_here (s ∷ []) ts))
+          (λ to. Ok (ss, to)) t'
       by_lands l =
-          bind_lands cut g g' may m r.0.1 (below.inner f) (λ s ts. list_here (s ∷ []) ts) (λ to. Ok (ss, to)) t' t' l (λ a u le. fine cut g g' le)
+          bind_lands cut g g' may m r.0.1 (below.inner f) (λ s ts. list_here (s ∷ []) ts)
+          (λ to. Ok (ss, to)) t' t' l (λ a u le. fine cut g g' le)
           (λ mid tm i. good mid tm (ap (λ (ss : List Stmt). list_here ss mid) (sym r.2)))
 
   abbrev EntryChain : Rel (List Stmt)
@@ -114,28 +140,39 @@ module _ (m d : ℕ) (nested : Nested) (deeper : Deeper nested m d) (below : Bel
   entry_piece : Piece same_tree (EntryIs d) any always no_else stmt_first m (entry_of nested below)
   unfolding entry_of
   entry_piece =
-      iff (either is_type (λ ts h e. known.locals_in.sound ts tt) (ends_by {Ends' = no_else} known.locals_in (λ x t e. tt)).complete (λ t. omega arith)
+      iff (either is_type (λ ts h e. known.locals_in.sound ts tt)
+      (ends_by {Ends' = no_else} known.locals_in (λ x t e. tt)).complete (λ t. omega arith)
       (λ may t fr fr'. let l = known.inner_piece.least may t fr fr' in (l.0.1 ∷ [], (l.0, l.1, refl))) (λ ts h e. one_sound ts) one_complete
-      (λ may ss f t r. locals_begin r.1) (λ may ss f t r e. begins_no_type f (inner_begins r.1))) to from
+      (λ may ss f t r. locals_begin r.1) (λ may ss f t r e. begins_no_type f (inner_begins r.1))) to
+      from
     where
-      to : (may : May) (ss : List Stmt) (f t : Tokens) → EntryChain may ss f t → EntryIs d may ss f t
+      to : (may : May) (ss : List Stmt) (f t : Tokens) → EntryChain may ss f t
+          → EntryIs d may ss f t
       to may ss f t (this r) = entry_local r.0 r.1
-      to may ss f t (that r) = subst (λ (ss : List Stmt). EntryIs d may ss f t) (sym r.2) (entry_stmt r.1)
+      to may ss f t (that r) = subst (λ (ss : List Stmt). EntryIs d may ss f t) (sym r.2)
+          (entry_stmt r.1)
 
-      from : (may : May) (ss : List Stmt) (f t : Tokens) → EntryIs d may ss f t → EntryChain may ss f t
+      from : (may : May) (ss : List Stmt) (f t : Tokens) → EntryIs d may ss f t
+          → EntryChain may ss f t
       from may ss f t (entry_local ok x) = this (ok, x)
       from may _ f t (entry_stmt {b = b} {s = s} x) = that ((b, s), x, refl)
 
-  pub entries_piece : Piece same_tree (EntriesAre d) any always always (λ t. punct 0 mark.RightBrace ∷ t) m (entries_of nested below)
+  pub entries_piece : Piece same_tree (EntriesAre d) any always always
+      (λ t. punct 0 mark.RightBrace ∷ t) m (entries_of nested below)
   unfolding entries_of
   entries_piece =
-      many_piece (EntryIs d) (EntriesAre d) no_else stmt_first m (entry_of nested below) entry_piece mark.RightBrace to from (λ may x f t r. writes_shorter r) (λ may x f t r. entry_no_brace r) (λ may x xs u t l. entries_no_else l)
+      many_piece (EntryIs d) (EntriesAre d) no_else stmt_first m
+      (entry_of nested below) entry_piece mark.RightBrace to from
+      (λ may x f t r. writes_shorter r) (λ may x f t r. entry_no_brace r)
+      (λ may x xs u t l. entries_no_else l)
     where
-      to : (may : May) (ss : List Stmt) (f t : Tokens) → Many (EntryIs d) (EntriesAre d) mark.RightBrace may ss f t → Writes may (entries ss) d f t
+      to : (may : May) (ss : List Stmt) (f t : Tokens)
+          → Many (EntryIs d) (EntriesAre d) mark.RightBrace may ss f t → Writes may (entries ss) d f t
       to may _ _ t over = stop
       to may _ f t (more r l) = go r l
 
-      from : (may : May) (ss : List Stmt) (f t : Tokens) → Writes may (entries ss) d f t → Many (EntryIs d) (EntriesAre d) mark.RightBrace may ss f t
+      from : (may : May) (ss : List Stmt) (f t : Tokens) → Writes may (entries ss) d f t
+          → Many (EntryIs d) (EntriesAre d) mark.RightBrace may ss f t
       from may _ _ t stop = over
       from may _ f t (go x y) = more x y
 
@@ -147,53 +184,88 @@ module _ (m d : ℕ) (nested : Nested) (deeper : Deeper nested m d) (below : Bel
   abbrev InitPlain : Rel ForInit
   InitPlain = Then (Until semicolon d) (λ o. Done (for_init o))
 
-  init_local_piece : Piece same_tree InitLocal any always always locals_first m (init_local_of nested below)
+  init_local_piece : Piece same_tree InitLocal any always always locals_first m
+      (init_local_of nested below)
   unfolding init_local_of
-  init_local_piece = seq (λ ss ts. init_here (inits.Locals ss) ts) known.locals_in (λ ss. done same_tree (inits.Locals ss) m (λ t h. tt)) (λ t. omega arith) (λ may x y u t r h. tt)
+  init_local_piece = seq (λ ss ts. init_here (inits.Locals ss) ts) known.locals_in
+      (λ ss. done same_tree (inits.Locals ss) m (λ t h. tt)) (λ t. omega arith)
+      (λ may x y u t r h. tt)
 
-  init_plain_piece : Piece same_tree InitPlain any always always stmt_first m (init_plain_of nested below)
+  init_plain_piece : Piece same_tree InitPlain any always always stmt_first m
+      (init_plain_of nested below)
   unfolding init_plain_of
-  init_plain_piece = seq (λ o ts. init_here (for_init o) ts) (until_piece m d nested deeper semicolon) (λ o. done same_tree (for_init o) m (λ t h. tt)) (λ t. omega arith) (λ may x y u t r h. tt)
+  init_plain_piece = seq (λ o ts. init_here (for_init o) ts)
+      (until_piece m d nested deeper semicolon) (λ o. done same_tree (for_init o) m (λ t h. tt))
+      (λ t. omega arith) (λ may x y u t r h. tt)
 
   init_piece : Piece same_tree (InitIs d) any always always stmt_first m (init_of nested below)
   unfolding init_of
   init_piece =
-      iff (either_of is_type init_local_piece init_plain_piece (λ may x f t r. locals_begin r.2.1) (λ may x f t r e. until_no_type r.2)) to from
+      iff (either_of is_type init_local_piece init_plain_piece (λ may x f t r. locals_begin r.2.1)
+      (λ may x f t r e. until_no_type r.2)) to from
     where
-      to : (may : May) (i : ForInit) (f t : Tokens) → Either InitLocal InitPlain may i f t → InitIs d may i f t
+      to : (may : May) (i : ForInit) (f t : Tokens) → Either InitLocal InitPlain may i f t
+          → InitIs d may i f t
       to may i f t (this r) = ends_with (λ i t. InitIs d may i f t) (init_local r.2.0 r.2.1) r.3
       to may i f t (that r) = ends_with (λ i t. InitIs d may i f t) (init_plain r.2) r.3
 
-      from : (may : May) (i : ForInit) (f t : Tokens) → InitIs d may i f t → Either InitLocal InitPlain may i f t
+      from : (may : May) (i : ForInit) (f t : Tokens) → InitIs d may i f t
+          → Either InitLocal InitPlain may i f t
       from may _ f t (init_local {ss = ss} ok x) = this (ss, t, (ok, x), (refl, refl))
       from may _ f t (init_plain {o = o} x) = that (o, t, x, (refl, refl))
 
   -- ---- the productions
 
-  inner_last : (make : Stmt → Stmt) → Piece pair_tree (Then (InnerIs d) (λ p. Done (p.0, make (p.1)))) any closed_off closed_off stmt_first m (λ ts. and_then (below.inner ts) (λ s ts. stmt_here (make s) ts))
-  inner_last make = seq (λ s ts. stmt_here (make s) ts) known.inner_piece (λ p. done pair_tree (p.0, make (p.1)) m (λ t h. h)) (λ t. omega arith) (λ may x y u t r h. kept_off r h)
+  inner_last : (make : Stmt → Stmt) → Piece pair_tree
+      (Then (InnerIs d) (λ p. Done (p.0, make (p.1)))) any closed_off closed_off stmt_first m
+      (λ ts. and_then (below.inner ts) (λ s ts. stmt_here (make s) ts))
+  inner_last make = seq (λ s ts. stmt_here (make s) ts) known.inner_piece
+      (λ p. done pair_tree (p.0, make (p.1)) m (λ t h. h)) (λ t. omega arith)
+      (λ may x y u t r h. kept_off r h)
 
   abbrev WhileIs : Rel (Bool × Stmt)
-  WhileIs = Then (IsWord key.While) (λ l. Then (Test d) (λ c. Then (InnerIs d) (λ p. Done (p.0, at l (node.While c (p.1))))))
+  WhileIs = Then (IsWord key.While) (λ l. Then (Test d)
+      (λ c. Then (InnerIs d) (λ p. Done (p.0, at l (node.While c (p.1))))))
 
-  while_piece : Piece pair_tree WhileIs any closed_off closed_off (λ t. word 0 key.While ∷ test_first (stmt_first t)) m (while_of nested below)
+  while_piece : Piece pair_tree WhileIs any closed_off closed_off
+      (λ t. word 0 key.While ∷ test_first (stmt_first t)) m (while_of nested below)
   unfolding while_of
   while_piece =
-      seq (λ l ts. and_then (test_of nested ts) (λ c ts. and_then (below.inner ts) (λ s ts. stmt_here (at l (node.While c s)) ts))) (word_piece key.While m)
-      (λ l. seq (λ c ts. and_then (below.inner ts) (λ s ts. stmt_here (at l (node.While c s)) ts)) (test_piece m d nested deeper) (λ c. inner_last (λ s. at l (node.While c s))) (λ t. omega arith) (λ may x y u t r h. tt))
+      seq (λ l ts. and_then (test_of nested ts)
+      (λ c ts. and_then (below.inner ts) (λ s ts. stmt_here (at l (node.While c s)) ts)))
+      (word_piece key.While m)
+      (λ l. seq (λ c ts. and_then (below.inner ts) (λ s ts. stmt_here (at l (node.While c s)) ts))
+      (test_piece m d nested deeper) (λ c. inner_last (λ s. at l (node.While c s)))
+      (λ t. omega arith) (λ may x y u t r h. tt))
       (λ t. omega arith) (λ may x y u t r h. tt)
 
   abbrev DoIs : Rel (Bool × Stmt)
-  DoIs = Then (IsWord key.Do) (λ l. Then (InnerIs d) (λ p. Then (IsWord key.While) (λ k. Then (Test d) (λ c. Then (Is mark.Semicolon) (λ k'. Done (false, at l (node.Do (p.1) c)))))))
+  DoIs = Then (IsWord key.Do) (λ l. Then (InnerIs d)
+      (λ p. Then (IsWord key.While) (λ k. Then (Test d)
+      (λ c. Then (Is mark.Semicolon) (λ k'. Done (false, at l (node.Do (p.1) c)))))))
 
-  do_piece : Piece pair_tree DoIs any closed_off closed_off (λ t. word 0 key.Do ∷ stmt_first (word 0 key.While ∷ test_first (punct 0 mark.Semicolon ∷ t))) m (do_of nested below)
+  do_piece : Piece pair_tree DoIs any closed_off closed_off
+      (λ t. word 0 key.Do ∷ stmt_first (word 0 key.While ∷ test_first (punct 0 mark.Semicolon ∷ t))) m
+      (do_of nested below)
   unfolding do_of
   do_piece =
-      seq (λ l ts. and_then (below.inner ts) (λ s ts. and_then (expect_word key.While ts) (λ _ ts. and_then (test_of nested ts) (λ c ts. and_then (expect mark.Semicolon ts) (λ _ ts. stmt_here (at l (node.Do s c)) ts))))) (word_piece key.Do m)
-      (λ l. seq (λ s ts. and_then (expect_word key.While ts) (λ _ ts. and_then (test_of nested ts) (λ c ts. and_then (expect mark.Semicolon ts) (λ _ ts. stmt_here (at l (node.Do s c)) ts)))) known.inner_piece
-      (λ p. forget (seq (λ _ ts. and_then (test_of nested ts) (λ c ts. and_then (expect mark.Semicolon ts) (λ _ ts. stmt_here (at l (node.Do (p.1) c)) ts))) (word_piece key.While m)
-      (λ k. seq (λ c ts. and_then (expect mark.Semicolon ts) (λ _ ts. stmt_here (at l (node.Do (p.1) c)) ts)) (test_piece m d nested deeper)
-      (λ c. seq (λ _ ts. stmt_here (at l (node.Do (p.1) c)) ts) (mark_piece mark.Semicolon m) (λ k'. done pair_tree (false, at l (node.Do (p.1) c)) m (λ t h e. never e)) (λ t. omega arith) (λ may x y u t r h. tt))
+      seq (λ l ts. and_then (below.inner ts)
+      (λ s ts. and_then (expect_word key.While ts)
+      (λ _ ts. and_then (test_of nested ts)
+      (λ c ts. and_then (expect mark.Semicolon ts) (λ _ ts. stmt_here (at l (node.Do s c)) ts)))))
+      (word_piece key.Do m)
+      (λ l. seq (λ s ts. and_then (expect_word key.While ts)
+      (λ _ ts. and_then (test_of nested ts)
+      (λ c ts. and_then (expect mark.Semicolon ts) (λ _ ts. stmt_here (at l (node.Do s c)) ts))))
+      known.inner_piece
+      (λ p. forget (seq (λ _ ts. and_then (test_of nested ts)
+      (λ c ts. and_then (expect mark.Semicolon ts)
+      (λ _ ts. stmt_here (at l (node.Do (p.1) c)) ts))) (word_piece key.While m)
+      (λ k. seq (λ c ts. and_then (expect mark.Semicolon ts)
+      (λ _ ts. stmt_here (at l (node.Do (p.1) c)) ts)) (test_piece m d nested deeper)
+      (λ c. seq (λ _ ts. stmt_here (at l (node.Do (p.1) c)) ts) (mark_piece mark.Semicolon m)
+      (λ k'. done pair_tree (false, at l (node.Do (p.1) c)) m (λ t h e. never e))
+      (λ t. omega arith) (λ may x y u t r h. tt))
       (λ t. omega arith) (λ may x y u t r h. tt))
       (λ t. omega arith) (λ may x y u t r h. tt)))
       (λ t. omega arith) (λ may p y u t r h. λ b. ap (is_word key.Else) r.2))
@@ -201,16 +273,38 @@ module _ (m d : ℕ) (nested : Nested) (deeper : Deeper nested m d) (below : Bel
 
   abbrev ForIs : Rel (Bool × Stmt)
   ForIs =
-      Then (IsWord key.For) (λ l. Then (Is mark.LeftParen) (λ k. Then (InitIs d) (λ i. Then (Until semicolon d) (λ o. Then (Until paren d) (λ o'. Then (InnerIs d) (λ p. Done (p.0, at l (node.For i o o' (p.1)))))))))
+      Then (IsWord key.For) (λ l. Then (Is mark.LeftParen)
+      (λ k. Then (InitIs d) (λ i. Then (Until semicolon d)
+      (λ o. Then (Until paren d) (λ o'. Then (InnerIs d)
+      (λ p. Done (p.0, at l (node.For i o o' (p.1)))))))))
 
-  for_piece : Piece pair_tree ForIs any closed_off closed_off (λ t. word 0 key.For ∷ punct 0 mark.LeftParen ∷ stmt_first (stmt_first (zero_token ∷ closer_first paren (stmt_first t)))) m (for_of nested below)
+  for_piece : Piece pair_tree ForIs any closed_off closed_off
+      (λ t. word 0 key.For ∷ punct 0 mark.LeftParen ∷ stmt_first
+      (stmt_first (zero_token ∷ closer_first paren (stmt_first t)))) m (for_of nested below)
   unfolding for_of
   for_piece =
-      seq (λ l ts. and_then (expect mark.LeftParen ts) (λ _ ts. and_then (init_of nested below ts) (λ i ts. and_then (until_of nested semicolon ts) (λ o ts. and_then (until_of nested paren ts) (λ o' ts. and_then (below.inner ts) (λ s ts. stmt_here (at l (node.For i o o' s)) ts)))))) (word_piece key.For m)
-      (λ l. seq (λ _ ts. and_then (init_of nested below ts) (λ i ts. and_then (until_of nested semicolon ts) (λ o ts. and_then (until_of nested paren ts) (λ o' ts. and_then (below.inner ts) (λ s ts. stmt_here (at l (node.For i o o' s)) ts))))) (mark_piece mark.LeftParen m)
-      (λ k. seq (λ i ts. and_then (until_of nested semicolon ts) (λ o ts. and_then (until_of nested paren ts) (λ o' ts. and_then (below.inner ts) (λ s ts. stmt_here (at l (node.For i o o' s)) ts)))) init_piece
-      (λ i. seq (λ o ts. and_then (until_of nested paren ts) (λ o' ts. and_then (below.inner ts) (λ s ts. stmt_here (at l (node.For i o o' s)) ts))) (until_piece m d nested deeper semicolon)
-      (λ o. seq (λ o' ts. and_then (below.inner ts) (λ s ts. stmt_here (at l (node.For i o o' s)) ts)) (until_piece m d nested deeper paren) (λ o'. inner_last (λ s. at l (node.For i o o' s))) (λ t. omega arith) (λ may x y u t r h. tt))
+      seq (λ l ts. and_then (expect mark.LeftParen ts)
+      (λ _ ts. and_then (init_of nested below ts)
+      (λ i ts. and_then (until_of nested semicolon ts)
+      (λ o ts. and_then (until_of nested paren ts)
+      (λ o' ts. and_then (below.inner ts) (λ s ts. stmt_here (at l (node.For i o o' s)) ts))))))
+      (word_piece key.For m)
+      (λ l. seq (λ _ ts. and_then (init_of nested below ts)
+      (λ i ts. and_then (until_of nested semicolon ts)
+      (λ o ts. and_then (until_of nested paren ts)
+      (λ o' ts. and_then (below.inner ts) (λ s ts. stmt_here (at l (node.For i o o' s)) ts)))))
+      (mark_piece mark.LeftParen m)
+      (λ k. seq (λ i ts. and_then (until_of nested semicolon ts)
+      (λ o ts. and_then (until_of nested paren ts)
+      (λ o' ts. and_then (below.inner ts) (λ s ts. stmt_here (at l (node.For i o o' s)) ts))))
+      init_piece
+      (λ i. seq (λ o ts. and_then (until_of nested paren ts)
+      (λ o' ts. and_then (below.inner ts) (λ s ts. stmt_here (at l (node.For i o o' s)) ts)))
+      (until_piece m d nested deeper semicolon)
+      (λ o. seq (λ o' ts. and_then (below.inner ts)
+      (λ s ts. stmt_here (at l (node.For i o o' s)) ts)) (until_piece m d nested deeper paren)
+      (λ o'. inner_last (λ s. at l (node.For i o o' s))) (λ t. omega arith)
+      (λ may x y u t r h. tt))
       (λ t. omega arith) (λ may x y u t r h. tt))
       (λ t. omega arith) (λ may x y u t r h. tt))
       (λ t. omega arith) (λ may x y u t r h. tt))
@@ -219,63 +313,99 @@ module _ (m d : ℕ) (nested : Nested) (deeper : Deeper nested m d) (below : Bel
   abbrev LeaveIs : Key → StmtNode → Rel (Bool × Stmt)
   LeaveIs k n = Then (IsWord k) (λ l. Then (Is mark.Semicolon) (λ j. Done (false, at l n)))
 
-  leave_piece : (k : Key) (n : StmtNode) → Piece pair_tree (LeaveIs k n) any closed_off closed_off (λ t. word 0 k ∷ punct 0 mark.Semicolon ∷ t) m (leave_of nested below k n)
+  leave_piece : (k : Key) (n : StmtNode) → Piece pair_tree (LeaveIs k n) any closed_off closed_off
+      (λ t. word 0 k ∷ punct 0 mark.Semicolon ∷ t) m (leave_of nested below k n)
   unfolding leave_of
   leave_piece k n =
-      seq (λ l ts. and_then (expect mark.Semicolon ts) (λ _ ts. stmt_here (at l n) ts)) (word_piece k m)
-      (λ l. seq (λ _ ts. stmt_here (at l n) ts) (mark_piece mark.Semicolon m) (λ j. done pair_tree (false, at l n) m (λ t h e. never e)) (λ t. omega arith) (λ may x y u t r h. tt)) (λ t. omega arith) (λ may x y u t r h. tt)
+      seq (λ l ts. and_then (expect mark.Semicolon ts) (λ _ ts. stmt_here (at l n) ts))
+      (word_piece k m)
+      (λ l. seq (λ _ ts. stmt_here (at l n) ts) (mark_piece mark.Semicolon m)
+      (λ j. done pair_tree (false, at l n) m (λ t h e. never e)) (λ t. omega arith)
+      (λ may x y u t r h. tt)) (λ t. omega arith) (λ may x y u t r h. tt)
 
   abbrev ReturnIs : Rel (Bool × Stmt)
-  ReturnIs = Then (IsWord key.Return) (λ l. Then (Until semicolon d) (λ o. Done (false, at l (node.Return o))))
+  ReturnIs = Then (IsWord key.Return) (λ l. Then (Until semicolon d)
+      (λ o. Done (false, at l (node.Return o))))
 
-  return_piece : Piece pair_tree ReturnIs any closed_off closed_off (λ t. word 0 key.Return ∷ stmt_first t) m (return_of nested below)
+  return_piece : Piece pair_tree ReturnIs any closed_off closed_off
+      (λ t. word 0 key.Return ∷ stmt_first t) m (return_of nested below)
   unfolding return_of
   return_piece =
-      seq (λ l ts. and_then (until_of nested semicolon ts) (λ o ts. stmt_here (at l (node.Return o)) ts)) (word_piece key.Return m)
-      (λ l. seq (λ o ts. stmt_here (at l (node.Return o)) ts) (until_piece m d nested deeper semicolon) (λ o. done pair_tree (false, at l (node.Return o)) m (λ t h e. never e)) (λ t. omega arith) (λ may x y u t r h. tt)) (λ t. omega arith) (λ may x y u t r h. tt)
+      seq (λ l ts. and_then (until_of nested semicolon ts)
+      (λ o ts. stmt_here (at l (node.Return o)) ts)) (word_piece key.Return m)
+      (λ l. seq (λ o ts. stmt_here (at l (node.Return o)) ts)
+      (until_piece m d nested deeper semicolon)
+      (λ o. done pair_tree (false, at l (node.Return o)) m (λ t h e. never e)) (λ t. omega arith)
+      (λ may x y u t r h. tt)) (λ t. omega arith) (λ may x y u t r h. tt)
 
   abbrev EmptyIs : Rel (Bool × Stmt)
   EmptyIs = Then (Is mark.Semicolon) (λ l. Done (false, at l (node.Plain None)))
 
-  empty_piece : Piece pair_tree EmptyIs any closed_off closed_off (λ t. punct 0 mark.Semicolon ∷ t) m (empty_of nested below)
+  empty_piece : Piece pair_tree EmptyIs any closed_off closed_off
+      (λ t. punct 0 mark.Semicolon ∷ t) m (empty_of nested below)
   unfolding empty_of
-  empty_piece = seq (λ l ts. stmt_here (at l (node.Plain None)) ts) (mark_piece mark.Semicolon m) (λ l. done pair_tree (false, at l (node.Plain None)) m (λ t h e. never e)) (λ t. omega arith) (λ may x y u t r h. tt)
+  empty_piece = seq (λ l ts. stmt_here (at l (node.Plain None)) ts) (mark_piece mark.Semicolon m)
+      (λ l. done pair_tree (false, at l (node.Plain None)) m (λ t h e. never e)) (λ t. omega arith)
+      (λ may x y u t r h. tt)
 
   abbrev CompoundIs : Rel (Bool × Stmt)
-  CompoundIs = Then (Is mark.LeftBrace) (λ l. Then (EntriesAre d) (λ ss. Done (false, at l (node.Compound ss))))
+  CompoundIs = Then (Is mark.LeftBrace) (λ l. Then (EntriesAre d)
+      (λ ss. Done (false, at l (node.Compound ss))))
 
-  compound_piece : Piece pair_tree CompoundIs any closed_off closed_off (λ t. punct 0 mark.LeftBrace ∷ punct 0 mark.RightBrace ∷ t) m (compound_of nested below)
+  compound_piece : Piece pair_tree CompoundIs any closed_off closed_off
+      (λ t. punct 0 mark.LeftBrace ∷ punct 0 mark.RightBrace ∷ t) m (compound_of nested below)
   unfolding compound_of
   compound_piece =
-      seq (λ l ts. and_then (entries_of nested below ts) (λ ss ts. stmt_here (at l (node.Compound ss)) ts)) (mark_piece mark.LeftBrace m)
-      (λ l. seq (λ ss ts. stmt_here (at l (node.Compound ss)) ts) entries_piece (λ ss. done pair_tree (false, at l (node.Compound ss)) m (λ t h e. never e)) (λ t. omega arith) (λ may x y u t r h. tt)) (λ t. omega arith) (λ may x y u t r h. tt)
+      seq (λ l ts. and_then (entries_of nested below ts)
+      (λ ss ts. stmt_here (at l (node.Compound ss)) ts)) (mark_piece mark.LeftBrace m)
+      (λ l. seq (λ ss ts. stmt_here (at l (node.Compound ss)) ts) entries_piece
+      (λ ss. done pair_tree (false, at l (node.Compound ss)) m (λ t h e. never e))
+      (λ t. omega arith) (λ may x y u t r h. tt)) (λ t. omega arith) (λ may x y u t r h. tt)
 
   -- the body of a function
-  pub body_piece : Piece same_tree (BodyIs d) any always always (λ t. punct 0 mark.LeftBrace ∷ punct 0 mark.RightBrace ∷ t) m (compound_of nested below)
+  pub body_piece : Piece same_tree (BodyIs d) any always always
+      (λ t. punct 0 mark.LeftBrace ∷ punct 0 mark.RightBrace ∷ t) m (compound_of nested below)
   unfolding compound_of
   body_piece =
-      seq (λ l ts. and_then (entries_of nested below ts) (λ ss ts. stmt_here (at l (node.Compound ss)) ts)) (mark_piece mark.LeftBrace m)
-      (λ l. seq (λ ss ts. stmt_here (at l (node.Compound ss)) ts) entries_piece (λ ss. done same_tree (at l (node.Compound ss)) m (λ t h. tt)) (λ t. omega arith) (λ may x y u t r h. tt)) (λ t. omega arith) (λ may x y u t r h. tt)
+      seq (λ l ts. and_then (entries_of nested below ts)
+      (λ ss ts. stmt_here (at l (node.Compound ss)) ts)) (mark_piece mark.LeftBrace m)
+      (λ l. seq (λ ss ts. stmt_here (at l (node.Compound ss)) ts) entries_piece
+      (λ ss. done same_tree (at l (node.Compound ss)) m (λ t h. tt)) (λ t. omega arith)
+      (λ may x y u t r h. tt)) (λ t. omega arith) (λ may x y u t r h. tt)
 
   abbrev PlainIs : Rel (Bool × Stmt)
-  PlainIs = Then (Level 16 d) (λ e. Then (Is mark.Semicolon) (λ k. Done (false, at e.line (node.Plain (Some e)))))
+  PlainIs = Then (Level 16 d) (λ e. Then (Is mark.Semicolon)
+      (λ k. Done (false, at e.line (node.Plain (Some e)))))
 
-  plain_piece : Piece pair_tree PlainIs any closed_off closed_off stmt_first m (plain_of nested below)
+  plain_piece : Piece pair_tree PlainIs any closed_off closed_off stmt_first m
+      (plain_of nested below)
   unfolding plain_of
   plain_piece =
-      seq (λ e ts. and_then (expect mark.Semicolon ts) (λ _ ts. stmt_here (at e.line (node.Plain (Some e))) ts)) (expression_piece m d nested deeper)
-      (λ e. seq (λ _ ts. stmt_here (at e.line (node.Plain (Some e))) ts) (mark_piece mark.Semicolon m) (λ k. done pair_tree (false, at e.line (node.Plain (Some e))) m (λ t h e. never e)) (λ t. omega arith) (λ may x y u t r h. tt))
-      (λ t. omega arith) (λ may x y u t r h. mark_stops 16 mark.Semicolon (omega arith) r.0 r.1 u r.2)
+      seq (λ e ts. and_then (expect mark.Semicolon ts)
+      (λ _ ts. stmt_here (at e.line (node.Plain (Some e))) ts))
+      (expression_piece m d nested deeper)
+      (λ e. seq (λ _ ts. stmt_here (at e.line (node.Plain (Some e))) ts)
+      (mark_piece mark.Semicolon m) (λ k. done pair_tree
+      (false, at e.line (node.Plain (Some e))) m (λ t h e. never e)) (λ t. omega arith)
+      (λ may x y u t r h. tt))
+      (λ t. omega arith) (λ may x y u t r h. mark_stops 16 mark.Semicolon
+      (omega arith) r.0 r.1 u r.2)
 
   -- ---- `if`
 
   abbrev ElseIs : ℕ → Expr → Bool × Stmt → Rel (Bool × Stmt)
-  ElseIs l c p = Then (IsWord key.Else) (λ k. Then (InnerIs d) (λ q. Done (q.0, at l (node.If c (p.1) (Some (q.1))))))
+  ElseIs l c p = Then (IsWord key.Else) (λ k. Then (InnerIs d)
+      (λ q. Done (q.0, at l (node.If c (p.1) (Some (q.1))))))
 
-  else_piece : (l : ℕ) (c : Expr) (p : Bool × Stmt) → Piece pair_tree (ElseIs l c p) any closed_off closed_off (λ t. word 0 key.Else ∷ stmt_first t) m (else_of nested below l c (p.1))
+  else_piece : (l : ℕ) (c : Expr) (p : Bool × Stmt)
+      → Piece pair_tree (ElseIs l c p) any closed_off closed_off
+      (λ t. word 0 key.Else ∷ stmt_first t) m (else_of nested below l c (p.1))
   unfolding else_of
   else_piece l c p =
-      seq (λ _ ts. and_then (below.inner ts) (λ nay ts. stmt_here (at l (node.If c (p.1) (Some nay))) ts)) (word_piece key.Else m) (λ k. inner_last (λ s. at l (node.If c (p.1) (Some s)))) (λ t. omega arith) (λ may x y u t r h. tt)
+      seq (λ _ ts. and_then (below.inner ts)
+      (λ nay ts. stmt_here (at l (node.If c (p.1) (Some nay))) ts)) (word_piece key.Else m)
+      (λ k. inner_last (λ s. at l (node.If c (p.1) (Some s)))) (λ t. omega arith)
+      (λ may x y u t r h. tt)
 
   -- with `else` only where the first part is closed
   abbrev OtherIs : ℕ → Expr → Bool × Stmt → Rel (Bool × Stmt)
@@ -284,31 +414,47 @@ module _ (m d : ℕ) (nested : Nested) (deeper : Deeper nested m d) (below : Bel
   abbrev AloneIs : ℕ → Expr → Bool × Stmt → Rel (Bool × Stmt)
   AloneIs l c p = Done (true, at l (node.If c (p.1) None))
 
-  alone_no_else : (l : ℕ) (c : Expr) (p y : Bool × Stmt) (u t : Tokens) → ((true, at l (node.If c (p.1) None)) ≡ y) × (u ≡ t) → closed_off y t → is_word key.Else u ≡ false
+  alone_no_else : (l : ℕ) (c : Expr) (p y : Bool × Stmt) (u t : Tokens)
+      → ((true, at l (node.If c (p.1) None)) ≡ y) × (u ≡ t) → closed_off y t
+      → is_word key.Else u ≡ false
   alone_no_else l c p y u t r h = kept_off r h refl
 
-  no_piece : (l : ℕ) (c : Expr) (p : Bool × Stmt) → Piece pair_tree (Either (OtherIs l c p) (AloneIs l c p)) (closed_off p) closed_off closed_off (λ t. t) m (no_of nested below l c (p.1))
+  no_piece : (l : ℕ) (c : Expr) (p : Bool × Stmt)
+      → Piece pair_tree (Either (OtherIs l c p) (AloneIs l c p)) (closed_off p) closed_off closed_off
+      (λ t. t) m (no_of nested below l c (p.1))
   unfolding no_of
   no_piece l c p =
-      either (is_key key.Else) (λ ts h e. turn (λ may y f t r. (not_open p.0 ts h e, r)) ts ((else_piece l c p).sound ts tt)) (λ cut g g' may y f' t' r e f tied. (else_piece l c p).complete cut g g' may y f' t' r.1 e f tied)
+      either (is_key key.Else) (λ ts h e. turn (λ may y f t r. (not_open p.0 ts h e, r)) ts
+      ((else_piece l c p).sound ts tt))
+      (λ cut g g' may y f' t' r e f tied.
+      (else_piece l c p).complete cut g g' may y f' t' r.1 e f tied)
       (λ t. omega arith) (λ may t fr fr'. ((true, at l (node.If c (p.1) None)), (refl, refl)))
-      (λ ts h e. read (true, at l (node.If c (p.1) None)) ts (record { put = λ u. u; way = stay; is = refl; again = λ may w u. (refl, refl) }) (λ _. e))
-      (λ cut g g' may y f' t' r e f tied. good f (subst (λ (u : Tokens). Tied cut g g' f u) r.1 tied) (ap (λ y. Ok (pair_tree y, f)) r.0))
+      (λ ts h e. read (true, at l (node.If c (p.1) None)) ts
+      (record { put = λ u. u; way = stay; is = refl; again = λ may w u. (refl, refl) }) (λ _. e))
+      (λ cut g g' may y f' t' r e f tied. good f
+      (subst (λ (u : Tokens). Tied cut g g' f u) r.1 tied) (ap (λ y. Ok (pair_tree y, f)) r.0))
       (λ may y f t r. ap (is_word key.Else) r.1.2) (λ may y f t r e. alone_no_else l c p y f t r e)
 
-  no_meets : (l : ℕ) (c : Expr) → (may : May) (p y : Bool × Stmt) (u t : Tokens) → Either (OtherIs l c p) (AloneIs l c p) may y u t → closed_off y t → closed_off p u
+  no_meets : (l : ℕ) (c : Expr) → (may : May) (p y : Bool × Stmt) (u t : Tokens)
+      → Either (OtherIs l c p) (AloneIs l c p) may y u t → closed_off y t → closed_off p u
   no_meets l c may p y u t (this r) h = λ b. never (sym r.0 ∙ b)
   no_meets l c may p y u t (that r) h = λ _. alone_no_else l c p y u t r h
 
   abbrev IfIs : Rel (Bool × Stmt)
-  IfIs = Then (IsWord key.If) (λ l. Then (Test d) (λ c. Then (InnerIs d) (λ p. Either (OtherIs l c p) (AloneIs l c p))))
+  IfIs = Then (IsWord key.If) (λ l. Then (Test d)
+      (λ c. Then (InnerIs d) (λ p. Either (OtherIs l c p) (AloneIs l c p))))
 
-  if_piece : Piece pair_tree IfIs any closed_off closed_off (λ t. word 0 key.If ∷ test_first (stmt_first t)) m (if_of nested below)
+  if_piece : Piece pair_tree IfIs any closed_off closed_off
+      (λ t. word 0 key.If ∷ test_first (stmt_first t)) m (if_of nested below)
   unfolding if_of
   if_piece =
-      seq (λ l ts. and_then (test_of nested ts) (λ c ts. and_then (below.inner ts) (λ s ts. no_of nested below l c s ts))) (word_piece key.If m)
-      (λ l. seq (λ c ts. and_then (below.inner ts) (λ s ts. no_of nested below l c s ts)) (test_piece m d nested deeper)
-      (λ c. seq (λ s ts. no_of nested below l c s ts) known.inner_piece (λ p. no_piece l c p) (λ t. omega arith) (no_meets l c)) (λ t. omega arith) (λ may x y u t r h. tt))
+      seq (λ l ts. and_then (test_of nested ts)
+      (λ c ts. and_then (below.inner ts) (λ s ts. no_of nested below l c s ts)))
+      (word_piece key.If m)
+      (λ l. seq (λ c ts. and_then (below.inner ts) (λ s ts. no_of nested below l c s ts))
+      (test_piece m d nested deeper)
+      (λ c. seq (λ s ts. no_of nested below l c s ts) known.inner_piece (λ p. no_piece l c p)
+      (λ t. omega arith) (no_meets l c)) (λ t. omega arith) (λ may x y u t r h. tt))
       (λ t. omega arith) (λ may x y u t r h. tt)
 
   -- ---- any statement
@@ -325,42 +471,57 @@ module _ (m d : ℕ) (nested : Nested) (deeper : Deeper nested m d) (below : Bel
   abbrev SimpleIs : Rel (Bool × Stmt)
   SimpleIs = Either ReturnIs Simple1
 
-  plain_no_word : (k : Key) (may : May) (y : Bool × Stmt) (f t : Tokens) → PlainIs may y f t → is_word k f ≡ false
+  plain_no_word : (k : Key) (may : May) (y : Bool × Stmt) (f t : Tokens) → PlainIs may y f t
+      → is_word k f ≡ false
   plain_no_word k may y f t r = starts_no_word k f (level_starts r.2)
 
-  simple3_no : (k : Key) (may : May) (y : Bool × Stmt) (f t : Tokens) → Simple3 may y f t → is_word k f ≡ false
+  simple3_no : (k : Key) (may : May) (y : Bool × Stmt) (f t : Tokens) → Simple3 may y f t
+      → is_word k f ≡ false
   simple3_no k may y f t (this r) = ap (is_word k) r.2
   simple3_no k may y f t (that r) = plain_no_word k may y f t r
 
-  simple2_no : (k : Key) → is_key k (form.Key key.Continue) ≡ false → (may : May) (y : Bool × Stmt) (f t : Tokens) → Simple2 may y f t → is_word k f ≡ false
+  simple2_no : (k : Key) → is_key k (form.Key key.Continue) ≡ false
+      → (may : May) (y : Bool × Stmt) (f t : Tokens) → Simple2 may y f t → is_word k f ≡ false
   simple2_no k a may y f t (this r) = ap (is_word k) r.2 ∙ a
   simple2_no k a may y f t (that r) = simple3_no k may y f t r
 
-  simple1_no : (k : Key) → is_key k (form.Key key.Break) ≡ false → is_key k (form.Key key.Continue) ≡ false → (may : May) (y : Bool × Stmt) (f t : Tokens) → Simple1 may y f t → is_word k f ≡ false
+  simple1_no : (k : Key) → is_key k (form.Key key.Break) ≡ false
+      → is_key k (form.Key key.Continue) ≡ false → (may : May) (y : Bool × Stmt) (f t : Tokens)
+      → Simple1 may y f t → is_word k f ≡ false
   simple1_no k a b may y f t (this r) = ap (is_word k) r.2 ∙ a
   simple1_no k a b may y f t (that r) = simple2_no k b may y f t r
 
-  simple_no : (k : Key) → is_key k (form.Key key.Return) ≡ false → is_key k (form.Key key.Break) ≡ false → is_key k (form.Key key.Continue) ≡ false → (may : May) (y : Bool × Stmt) (f t : Tokens) → SimpleIs may y f t → is_word k f ≡ false
+  simple_no : (k : Key) → is_key k (form.Key key.Return) ≡ false
+      → is_key k (form.Key key.Break) ≡ false → is_key k (form.Key key.Continue) ≡ false
+      → (may : May) (y : Bool × Stmt) (f t : Tokens) → SimpleIs may y f t → is_word k f ≡ false
   simple_no k a b c may y f t (this r) = ap (is_word k) r.2 ∙ a
   simple_no k a b c may y f t (that r) = simple1_no k b c may y f t r
 
-  simple_no_brace : (may : May) (y : Bool × Stmt) (f t : Tokens) → SimpleIs may y f t → is_next mark.LeftBrace f ≡ false
+  simple_no_brace : (may : May) (y : Bool × Stmt) (f t : Tokens) → SimpleIs may y f t
+      → is_next mark.LeftBrace f ≡ false
   simple_no_brace may y f t (this r) = ap (is_next mark.LeftBrace) r.2
   simple_no_brace may y f t (that (this r)) = ap (is_next mark.LeftBrace) r.2
   simple_no_brace may y f t (that (that (this r))) = ap (is_next mark.LeftBrace) r.2
   simple_no_brace may y f t (that (that (that (this r)))) = ap (is_next mark.LeftBrace) r.2
-  simple_no_brace may y f t (that (that (that (that r)))) = starts_no_mark mark.LeftBrace refl f (level_starts r.2)
+  simple_no_brace may y f t (that (that (that (that r)))) =
+      starts_no_mark mark.LeftBrace refl f (level_starts r.2)
 
-  simple_piece : Piece pair_tree SimpleIs any closed_off closed_off stmt_first m (simple_of nested below)
+  simple_piece : Piece pair_tree SimpleIs any closed_off closed_off stmt_first m
+      (simple_of nested below)
   unfolding simple_of
   simple_piece =
       either_of (is_key key.Return) return_piece
       (either_of (is_key key.Break) (leave_piece key.Break node.Break)
       (either_of (is_key key.Continue) (leave_piece key.Continue node.Continue)
-      (either_of (is_mark mark.Semicolon) empty_piece plain_piece (λ may y f t r. ap (is_next mark.Semicolon) r.2) (λ may y f t r e. starts_no_mark mark.Semicolon refl f (level_starts r.2)))
-      (λ may y f t r. ap (is_word key.Continue) r.2) (λ may y f t r e. simple3_no key.Continue may y f t r))
-      (λ may y f t r. ap (is_word key.Break) r.2) (λ may y f t r e. simple2_no key.Break refl may y f t r))
-      (λ may y f t r. ap (is_word key.Return) r.2) (λ may y f t r e. simple1_no key.Return refl refl may y f t r)
+      (either_of (is_mark mark.Semicolon) empty_piece plain_piece
+      (λ may y f t r. ap (is_next mark.Semicolon) r.2)
+      (λ may y f t r e. starts_no_mark mark.Semicolon refl f (level_starts r.2)))
+      (λ may y f t r. ap (is_word key.Continue) r.2)
+      (λ may y f t r e. simple3_no key.Continue may y f t r))
+      (λ may y f t r. ap (is_word key.Break) r.2)
+      (λ may y f t r e. simple2_no key.Break refl may y f t r))
+      (λ may y f t r. ap (is_word key.Return) r.2)
+      (λ may y f t r e. simple1_no key.Return refl refl may y f t r)
 
   abbrev Stmt4 : Rel (Bool × Stmt)
   Stmt4 = Either ForIs SimpleIs
@@ -377,90 +538,158 @@ module _ (m d : ℕ) (nested : Nested) (deeper : Deeper nested m d) (below : Bel
   abbrev StmtChain : Rel (Bool × Stmt)
   StmtChain = Either CompoundIs Stmt1
 
-  stmt4_no : (may : May) (y : Bool × Stmt) (f t : Tokens) → Stmt4 may y f t → is_word key.Do f ≡ false
+  stmt4_no : (may : May) (y : Bool × Stmt) (f t : Tokens) → Stmt4 may y f t
+      → is_word key.Do f ≡ false
   stmt4_no may y f t (this r) = ap (is_word key.Do) r.2
   stmt4_no may y f t (that r) = simple_no key.Do refl refl refl may y f t r
 
-  stmt3_no : (may : May) (y : Bool × Stmt) (f t : Tokens) → Stmt3 may y f t → is_word key.While f ≡ false
+  stmt3_no : (may : May) (y : Bool × Stmt) (f t : Tokens) → Stmt3 may y f t
+      → is_word key.While f ≡ false
   stmt3_no may y f t (this r) = ap (is_word key.While) r.2
   stmt3_no may y f t (that (this r)) = ap (is_word key.While) r.2
   stmt3_no may y f t (that (that r)) = simple_no key.While refl refl refl may y f t r
 
-  stmt2_no : (may : May) (y : Bool × Stmt) (f t : Tokens) → Stmt2 may y f t → is_word key.If f ≡ false
+  stmt2_no : (may : May) (y : Bool × Stmt) (f t : Tokens) → Stmt2 may y f t
+      → is_word key.If f ≡ false
   stmt2_no may y f t (this r) = ap (is_word key.If) r.2
   stmt2_no may y f t (that (this r)) = ap (is_word key.If) r.2
   stmt2_no may y f t (that (that (this r))) = ap (is_word key.If) r.2
   stmt2_no may y f t (that (that (that r))) = simple_no key.If refl refl refl may y f t r
 
-  stmt1_no : (may : May) (y : Bool × Stmt) (f t : Tokens) → Stmt1 may y f t → is_next mark.LeftBrace f ≡ false
+  stmt1_no : (may : May) (y : Bool × Stmt) (f t : Tokens) → Stmt1 may y f t
+      → is_next mark.LeftBrace f ≡ false
   stmt1_no may y f t (this r) = ap (is_next mark.LeftBrace) r.2
   stmt1_no may y f t (that (this r)) = ap (is_next mark.LeftBrace) r.2
   stmt1_no may y f t (that (that (this r))) = ap (is_next mark.LeftBrace) r.2
   stmt1_no may y f t (that (that (that (this r)))) = ap (is_next mark.LeftBrace) r.2
   stmt1_no may y f t (that (that (that (that r)))) = simple_no_brace may y f t r
 
-  chain_piece : Piece pair_tree StmtChain any closed_off closed_off stmt_first m (stmt_of nested below)
+  chain_piece : Piece pair_tree StmtChain any closed_off closed_off stmt_first m
+      (stmt_of nested below)
   unfolding stmt_of
   chain_piece =
       either_of (is_mark mark.LeftBrace) compound_piece
       (either_of (is_key key.If) if_piece
       (either_of (is_key key.While) while_piece
       (either_of (is_key key.Do) do_piece
-      (either_of (is_key key.For) for_piece simple_piece (λ may y f t r. ap (is_word key.For) r.2) (λ may y f t r e. simple_no key.For refl refl refl may y f t r))
+      (either_of (is_key key.For) for_piece simple_piece (λ may y f t r. ap (is_word key.For) r.2)
+      (λ may y f t r e. simple_no key.For refl refl refl may y f t r))
       (λ may y f t r. ap (is_word key.Do) r.2) (λ may y f t r e. stmt4_no may y f t r))
       (λ may y f t r. ap (is_word key.While) r.2) (λ may y f t r e. stmt3_no may y f t r))
       (λ may y f t r. ap (is_word key.If) r.2) (λ may y f t r e. stmt2_no may y f t r))
       (λ may y f t r. ap (is_next mark.LeftBrace) r.2) (λ may y f t r e. stmt1_no may y f t r)
 
-  from_front : {x : Lexeme} (may : May) (y : Bool × Stmt) (f u t : Tokens) → f ≡ x ∷ u → StmtIs d may y (x ∷ u) t → StmtIs d may y f t
+  from_front : {x : Lexeme} (may : May) (y : Bool × Stmt) (f u t : Tokens) → f ≡ x ∷ u
+      → StmtIs d may y (x ∷ u) t → StmtIs d may y f t
   from_front may y f u t e w = subst (λ (f : Tokens). StmtIs d may y f t) (sym e) w
 
-  no_to : (may : May) (l : ℕ) (c : Expr) (p y : Bool × Stmt) (f u v t : Tokens) → Writes may (test c) d f u → Writes may (inner (p.0) (p.1)) d u v → Either (OtherIs l c p) (AloneIs l c p) may y v t → StmtIs d may y (word l key.If ∷ f) t
-  no_to may l c p y f u v t x z (that r) = ends_with (λ y t. StmtIs d may y (word l key.If ∷ f) t) (if_only x z) r
+  no_to : (may : May) (l : ℕ) (c : Expr) (p y : Bool × Stmt) (f u v t : Tokens)
+      → Writes may (test c) d f u → Writes may (inner (p.0) (p.1)) d u v
+      → Either (OtherIs l c p) (AloneIs l c p) may y v t → StmtIs d may y (word l key.If ∷ f) t
+  no_to may l c p y f u v t x z (that r) =
+      ends_with (λ y t. StmtIs d may y (word l key.If ∷ f) t) (if_only x z) r
   no_to may l c p y f u v t x z (this r) =
       let k = r.1 in let q = k.3 in
       ends_with (λ y t. StmtIs d may y (word l key.If ∷ f) t)
-      (if_else x (subst (λ (w : Tokens). Writes may (inner false (p.1)) d u w) k.2 (subst (λ (b : Bool). Writes may (inner b (p.1)) d u v) r.0 z)) q.2) q.3
+      (if_else x (subst (λ (w : Tokens). Writes may (inner false (p.1)) d u w) k.2
+      (subst (λ (b : Bool). Writes may (inner b (p.1)) d u v) r.0 z)) q.2) q.3
 
   stmt_to : (may : May) (y : Bool × Stmt) (f t : Tokens) → StmtChain may y f t → StmtIs d may y f t
-  stmt_to may y f t (this r) = from_front may y f r.1 t r.2 (ends_with (λ y t. StmtIs d may y (punct r.0 mark.LeftBrace ∷ r.1) t) (compound r.3.2) r.3.3)
+  stmt_to may y f t (this r) = from_front may y f r.1 t r.2
+      (ends_with (λ y t. StmtIs d may y (punct r.0 mark.LeftBrace ∷ r.1) t) (compound r.3.2) r.3.3)
   stmt_to may y f t (that (this r)) = let c = r.3 in let p = c.3 in from_front may y f r.1 t r.2 (no_to may r.0 c.0 p.0 y r.1 c.1 p.1 t c.2 p.2 p.3)
   stmt_to may y f t (that (that (this r))) = let c = r.3 in let p = c.3 in from_front may y f r.1 t r.2 (ends_with (λ y t. StmtIs d may y (word r.0 key.While ∷ r.1) t) (while c.2 p.2) p.3)
   stmt_to may y f t (that (that (that (this r)))) =
       let p = r.3 in let w = p.3 in let c = w.3 in let k = c.3 in
       from_front may y f r.1 t r.2
       (ends_with (λ y t. StmtIs d may y (word r.0 key.Do ∷ r.1) t)
-      (repeat (subst (λ (u : Tokens). Writes may (inner (p.0.0) (p.0.1)) d r.1 u) w.2 p.2) (subst (λ (u : Tokens). Writes may (test c.0) d w.1 u) k.2 c.2)) k.3)
+      (repeat (subst (λ (u : Tokens). Writes may (inner (p.0.0) (p.0.1)) d r.1 u) w.2 p.2)
+      (subst (λ (u : Tokens). Writes may (test c.0) d w.1 u) k.2 c.2)) k.3)
   stmt_to may y f t (that (that (that (that (this r))))) =
       let k = r.3 in let i = k.3 in let o = i.3 in let o' = o.3 in let p = o'.3 in
       from_front may y f r.1 t r.2
-      (subst (λ (u : Tokens). StmtIs d may y (word r.0 key.For ∷ u) t) (sym k.2) (ends_with (λ y t. StmtIs d may y (word r.0 key.For ∷ punct k.0 mark.LeftParen ∷ k.1) t) (for i.2 o.2 o'.2 p.2) p.3))
-  stmt_to may y f t (that (that (that (that (that (this r)))))) = from_front may y f r.1 t r.2 (ends_with (λ y t. StmtIs d may y (word r.0 key.Return ∷ r.1) t) (return r.3.2) r.3.3)
+      (subst (λ (u : Tokens). StmtIs d may y (word r.0 key.For ∷ u) t) (sym k.2)
+      (ends_with (λ y t. StmtIs d may y (word r.0 key.For ∷ punct k.0 mark.LeftParen ∷ k.1) t)
+      (for i.2 o.2 o'.2 p.2) p.3))
+  stmt_to may y f t (that (that (that (that (that (this r)))))) =
+      from_front may y f r.1 t r.2 (ends_with (λ y t. StmtIs d may y (word r.0 key.Return ∷ r.1) t)
+      (return r.3.2) r.3.3)
   stmt_to may y f t (that (that (that (that (that (that (this r))))))) =
       let k = r.3 in from_front may y f r.1 t r.2 (subst (λ (u : Tokens). StmtIs d may y (word r.0 key.Break ∷ u) t) (sym k.2) (ends_with (λ y t. StmtIs d may y (word r.0 key.Break ∷ punct k.0 mark.Semicolon ∷ k.1) t) break k.3))
   stmt_to may y f t (that (that (that (that (that (that (that (this r)))))))) =
       let k = r.3 in from_front may y f r.1 t r.2 (subst (λ (u : Tokens). StmtIs d may y (word r.0 key.Continue ∷ u) t) (sym k.2) (ends_with (λ y t. StmtIs d may y (word r.0 key.Continue ∷ punct k.0 mark.Semicolon ∷ k.1) t) continue k.3))
-  stmt_to may y f t (that (that (that (that (that (that (that (that (this r))))))))) = from_front may y f r.1 t r.2 (ends_with (λ y t. StmtIs d may y (punct r.0 mark.Semicolon ∷ r.1) t) empty r.3)
+  stmt_to may y f t (that (that (that (that (that (that (that (that (this r))))))))) =
+      from_front may y f r.1 t r.2 (ends_with
+      (λ y t. StmtIs d may y (punct r.0 mark.Semicolon ∷ r.1) t) empty r.3)
   stmt_to may y f t (that (that (that (that (that (that (that (that (that r))))))))) = let k = r.3 in ends_with (λ y t. StmtIs d may y f t) (plain (subst (λ (u : Tokens). Spells may (expr 16 r.0) d f u) k.2 r.2)) k.3
 
-  is_simple : {may : May} {y : Bool × Stmt} {f t : Tokens} → SimpleIs may y f t → StmtChain may y f t
+  is_simple : {may : May} {y : Bool × Stmt} {f t : Tokens} → SimpleIs may y f t
+      → StmtChain may y f t
   is_simple r = that (that (that (that (that r))))
 
-  stmt_from : (may : May) (b : Bool) (s : Stmt) (f t : Tokens) → Writes may (stmt b s) d f t → StmtChain may (b, s) f t
-  stmt_from may _ _ _ t (compound {l = l} {ss = ss} {m = u} x) = this (l, u, refl, (ss, t, x, (refl, refl)))
-  stmt_from may _ _ _ t (if_only {l = l} {b = b} {c = c} {aye = s} {m = u} {m' = v} x z) = that (this (l, u, refl, (c, v, x, ((b, s), t, z, that (refl, refl)))))
-  stmt_from may _ _ _ t (if_else {l = l} {k = k} {b = b} {c = c} {aye = s} {nay = n} {m = u} {m' = v} {m'' = w} x z y) =
-      that (this (l, u, refl, (c, v, x, ((false, s), word k key.Else ∷ w, z, this (refl, (k, w, refl, ((b, n), t, y, (refl, refl))))))))
-  stmt_from may _ _ _ t (while {l = l} {b = b} {c = c} {s = s} {m = u} {m' = v} x z) = that (that (this (l, u, refl, (c, v, x, ((b, s), t, z, (refl, refl))))))
-  stmt_from may _ _ _ t (repeat {l = l} {k = k} {k' = k'} {b = b} {c = c} {s = s} {m = u} {m' = v} z x) =
-      that (that (that (this (l, u, refl, ((b, s), word k key.While ∷ v, z, (k, v, refl, (c, punct k' mark.Semicolon ∷ t, x, (k', t, refl, (refl, refl)))))))))
-  stmt_from may _ _ _ t (for {l = l} {k = k} {b = b} {i = i} {s = s} {o = o} {o' = o'} {m = u} {m1 = u1} {m2 = u2} {m3 = u3} xi xo xo' z) =
-      that (that (that (that (this (l, punct k mark.LeftParen ∷ u, refl, (k, u, refl, (i, u1, xi, (o, u2, xo, (o', u3, xo', ((b, s), t, z, (refl, refl)))))))))))
-  stmt_from may _ _ _ t (return {l = l} {o = o} {m = u} x) = is_simple (this (l, u, refl, (o, t, x, (refl, refl))))
-  stmt_from may _ _ _ t (break {l = l} {k = k}) = is_simple (that (this (l, punct k mark.Semicolon ∷ t, refl, (k, t, refl, (refl, refl)))))
-  stmt_from may _ _ _ t (continue {l = l} {k = k}) = is_simple (that (that (this (l, punct k mark.Semicolon ∷ t, refl, (k, t, refl, (refl, refl))))))
-  stmt_from may _ _ _ t (empty {l = l}) = is_simple (that (that (that (this (l, t, refl, (refl, refl))))))
-  stmt_from may _ _ f t (plain {k = k} {e = e} x) = is_simple (that (that (that (that (e, punct k mark.Semicolon ∷ t, x, (k, t, refl, (refl, refl)))))))
+  stmt_from : (may : May) (b : Bool) (s : Stmt) (f t : Tokens) → Writes may (stmt b s) d f t
+      → StmtChain may (b, s) f t
+  stmt_from may _ _ _ t (compound {l = l} {ss = ss} {m = u} x) =
+      this (l, u, refl, (ss, t, x, (refl, refl)))
+  stmt_from may _ _ _ t (if_only {l = l} {b = b} {c = c} {aye = s} {m = u} {m' = v} x z) =
+      that (this (l, u, refl, (c, v, x, ((b, s), t, z, that (refl, refl)))))
+  stmt_from may _ _ _ t (if_else {l = l} {k = k} {b = b} {c = c} {aye = s} {nay = n} {m = u}
+      {m' = v} {m'' = w} x z y) =
+      that (this (
+        l,
+        u,
+        refl,
+        (
+          c,
+          v,
+          x,
+          (
+            (false, s),
+            word k key.Else ∷ w,
+            z,
+            this (refl, (k, w, refl, ((b, n), t, y, (refl, refl)))),
+          ),
+        ),
+      ))
+  stmt_from may _ _ _ t (while {l = l} {b = b} {c = c} {s = s} {m = u} {m' = v} x z) =
+      that (that (this (l, u, refl, (c, v, x, ((b, s), t, z, (refl, refl))))))
+  stmt_from may _ _ _ t (repeat {l = l} {k = k} {k' = k'} {b = b} {c = c} {s = s} {m = u}
+      {m' = v} z x) =
+      that (that (that (this (
+        l,
+        u,
+        refl,
+        (
+          (b, s),
+          word k key.While ∷ v,
+          z,
+          (k, v, refl, (c, punct k' mark.Semicolon ∷ t, x, (k', t, refl, (refl, refl)))),
+        ),
+      ))))
+  stmt_from may _ _ _ t (for {l = l} {k = k} {b = b} {i = i} {s = s} {o = o} {o' = o'} {m = u}
+      {m1 = u1} {m2 = u2} {m3 = u3} xi xo xo' z) =
+      that (that (that (that (this (
+        l,
+        punct k mark.LeftParen ∷ u,
+        refl,
+        (k, u, refl, (i, u1, xi, (o, u2, xo, (o', u3, xo', ((b, s), t, z, (refl, refl)))))),
+      )))))
+  stmt_from may _ _ _ t (return {l = l} {o = o} {m = u} x) =
+      is_simple (this (l, u, refl, (o, t, x, (refl, refl))))
+  stmt_from may _ _ _ t (break {l = l} {k = k}) =
+      is_simple (that (this (l, punct k mark.Semicolon ∷ t, refl, (k, t, refl, (refl, refl)))))
+  stmt_from may _ _ _ t (continue {l = l} {k = k}) =
+      is_simple (that (that (this (l, punct k mark.Semicolon ∷ t, refl, (k, t, refl, (refl, refl))))))
+  stmt_from may _ _ _ t (empty {l = l}) =
+      is_simple (that (that (that (this (l, t, refl, (refl, refl))))))
+  stmt_from may _ _ f t (plain {k = k} {e = e} x) =
+      is_simple (that (that (that (that (
+        e,
+        punct k mark.Semicolon ∷ t,
+        x,
+        (k, t, refl, (refl, refl)),
+      )))))
 
-  pub stmt_piece : Piece pair_tree (StmtIs d) any closed_off closed_off stmt_first m (stmt_of nested below)
+  pub stmt_piece : Piece pair_tree (StmtIs d) any closed_off closed_off stmt_first m
+      (stmt_of nested below)
   stmt_piece = iff chain_piece stmt_to (λ may y f t x. stmt_from may y.0 y.1 f t x)

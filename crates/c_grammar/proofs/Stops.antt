@@ -1,5 +1,6 @@
 -- Which tokens go on with a phrase of a level, and which operator a token is.
-use Rattle.std.proofs.Common.{◌≡◌, ℕ, suc, ◌<◌, ◌≤◌, Bool, true, false, eqb, [], ◌∷◌, Option, Some, None, refl, sym, ap, ◌∙◌, subst, arith}
+use Rattle.std.proofs.Common.{◌≡◌, ℕ, suc, ◌<◌, ◌≤◌, Bool, true, false, eqb, [], ◌∷◌, Option, Some}
+use Rattle.std.proofs.Common.{None, refl, sym, ap, ◌∙◌, subst, arith}
 use Rattle.std.proofs.lemmas.Bool.{eqb-true, eq-eqb}
 use Rattle.c_tree.specs.declared.token.Form.{Form}
 use Rattle.c_tree.specs.declared.token.Form.TheVariants as form
@@ -9,10 +10,13 @@ use Rattle.c_tree.specs.declared.tree.Expr.{Expr}
 use Rattle.c_tree.specs.declared.tree.UnaryOp.TheVariants as unary
 use Rattle.c_tree.specs.declared.tree.BinaryOp.TheVariants as binary
 use Rattle.c_grammar.specs.Tokens.{Tokens, token, punct}
-use Rattle.c_grammar.specs.Operators.{Joiner, op, comma, joiner_mark, below, Prefix, sign, increase, decrease, prefix_mark, Suffix, increased, decreased, suffix_mark, Assigner, simple, assigner_mark}
+use Rattle.c_grammar.specs.Operators.{Joiner, op, comma, joiner_mark, below, Prefix, sign, increase}
+use Rattle.c_grammar.specs.Operators.{decrease, prefix_mark, Suffix, increased, decreased}
+use Rattle.c_grammar.specs.Operators.{suffix_mark, Assigner, simple, assigner_mark}
 use Rattle.c_grammar.specs.Numbers.{is_mark}
 use Rattle.c_grammar.specs.Parsing.{by_option, tail, line_of, is_next}
-use Rattle.c_grammar.specs.ModelExpressions.{marked_joiner, if_below, joiner, prefix_of, suffix_of, assigner_of, assigner_for, is_unary, seen}
+use Rattle.c_grammar.specs.ModelExpressions.{marked_joiner, if_below, joiner, prefix_of, suffix_of}
+use Rattle.c_grammar.specs.ModelExpressions.{assigner_of, assigner_for, is_unary, seen}
 use Rattle.c_grammar.proofs.Numbers.{mark_is}
 use Rattle.c_grammar.proofs.Agree.{split_if, is_false, if_true, Tied, end, at_cut, alike}
 
@@ -80,26 +84,32 @@ pub gap : (ts : Tokens) → Stops 2 ts → Stops 3 ts
 gap [] s = tt
 gap (t ∷ ts) s = gap_form t.form s
 
-pub tied_stops : {cut : Bool} {g g' : Tokens} (n : ℕ) {ts ts' : Tokens} → Tied cut g g' ts ts' → Stops n ts' → Stops n ts
+pub tied_stops : {cut : Bool} {g g' : Tokens} (n : ℕ) {ts ts' : Tokens} → Tied cut g g' ts ts'
+    → Stops n ts' → Stops n ts
 tied_stops n (end c) s = s
 tied_stops n (at_cut t c) s = s
 tied_stops n (alike t x) s = s
 
-pub not_next : (x : Mark) (n : ℕ) (ts : Tokens) → Stops n ts → bind (form.Mark x) ≤ n → is_next x ts ≡ false
+pub not_next : (x : Mark) (n : ℕ) (ts : Tokens) → Stops n ts → bind (form.Mark x) ≤ n
+    → is_next x ts ≡ false
 not_next x n [] s le = refl
 not_next x n (t ∷ ts) s le = is_false (is_mark x t.form) (λ e. let h = ap bind (mark_is x t.form e) in omega (arith, h, s, le))
 
-pub mark_stops : (n : ℕ) (k : Mark) → n < bind (form.Mark k) → (l : ℕ) (v u : Tokens) → u ≡ punct l k ∷ v → Stops n u
+pub mark_stops : (n : ℕ) (k : Mark) → n < bind (form.Mark k) → (l : ℕ) (v u : Tokens)
+    → u ≡ punct l k ∷ v → Stops n u
 mark_stops n k lt l v u e = subst (Stops n) (sym e) lt
 
 -- ---- what a token is
 
-pub tied_seen : {A : Type 0} {cut : Bool} {g g' : Tokens} (f : Form → Option A) {ts ts' : Tokens} → Tied cut g g' ts ts' → seen f ts ≡ seen f ts'
+pub tied_seen : {A : Type 0} {cut : Bool} {g g' : Tokens} (f : Form → Option A) {ts ts' : Tokens}
+    → Tied cut g g' ts ts' → seen f ts ≡ seen f ts'
 tied_seen f (end c) = refl
 tied_seen f (at_cut t c) = refl
 tied_seen f (alike t x) = refl
 
-pub seen_is : {A : Type 0} (look : Form → Option A) (k : A → Mark) → ((f : Form) (a : A) → look f ≡ Some a → f ≡ form.Mark (k a)) → (ts : Tokens) (a : A) → seen look ts ≡ Some a → ts ≡ punct (line_of ts) (k a) ∷ tail ts
+pub seen_is : {A : Type 0} (look : Form → Option A) (k : A → Mark)
+    → ((f : Form) (a : A) → look f ≡ Some a → f ≡ form.Mark (k a)) → (ts : Tokens) (a : A)
+    → seen look ts ≡ Some a → ts ≡ punct (line_of ts) (k a) ∷ tail ts
 seen_is look k h [] a e = absurd cc
 seen_is look k h (t ∷ ts) a e = ap (λ (f : Form). token t.line f ∷ ts) (h t.form a e)
 
@@ -113,11 +123,13 @@ some_of x = Some x
 some_is : {A : Type 0} (x y : A) → some_of x ≡ some_of y → x ≡ y
 some_is x y e = cc
 
-pub by_some : {A B : Type 0} (o : Option A) (a : A) (x : B) (f : A → B) → o ≡ Some a → by_option o x f ≡ f a
+pub by_some : {A B : Type 0} (o : Option A) (a : A) (x : B) (f : A → B) → o ≡ Some a
+    → by_option o x f ≡ f a
 by_some None a x f e = absurd cc
 by_some (Some b) a x f e = ap f (some_is b a e)
 
-pub by_step : {A B : Type 0} (P : B → Type 0) (o : Option A) (x : B) (f : A → B) → (o ≡ None → P x) → ((a : A) → o ≡ Some a → P (f a)) → P (by_option o x f)
+pub by_step : {A B : Type 0} (P : B → Type 0) (o : Option A) (x : B) (f : A → B) → (o ≡ None → P x)
+    → ((a : A) → o ≡ Some a → P (f a)) → P (by_option o x f)
 by_step P None x f p q = p refl
 by_step P (Some a) x f p q = q a refl
 
@@ -138,7 +150,8 @@ marked_self (op _) = refl
 marked_self comma = refl
 
 pub joiner_self : (j : Joiner) (k : ℕ) → below j ≡ k → joiner k (form.Mark (joiner_mark j)) ≡ Some j
-joiner_self j k e = ap (if_below k) (marked_self j) ∙ if_true (eqb (below j) k) (Some j) None (eq-eqb (below j) k e)
+joiner_self j k e = ap (if_below k) (marked_self j)
+    ∙ if_true (eqb (below j) k) (Some j) None (eq-eqb (below j) k e)
 
 marked_is : (m : Mark) (j : Joiner) → marked_joiner m ≡ Some j → m ≡ joiner_mark j
 marked_is mark.Star j e = ap joiner_mark (some_is _ _ e)
@@ -162,13 +175,16 @@ marked_is mark.OrOr j e = ap joiner_mark (some_is _ _ e)
 marked_is mark.Comma j e = ap joiner_mark (some_is _ _ e)
 marked_is _ j e = absurd cc
 
-if_below_is : (k : ℕ) (o : Option Joiner) (j : Joiner) → if_below k o ≡ Some j → (o ≡ Some j) × (below j ≡ k)
+if_below_is : (k : ℕ) (o : Option Joiner) (j : Joiner) → if_below k o ≡ Some j
+    → (o ≡ Some j) × (below j ≡ k)
 if_below_is k None j e = absurd cc
 if_below_is k (Some i) j e =
-    split_if (λ (r : Option Joiner). r ≡ Some j → (Some i ≡ Some j) × (below j ≡ k)) (eqb (below i) k) (Some i) None
+    split_if (λ (r : Option Joiner). r ≡ Some j → (Some i ≡ Some j) × (below j ≡ k))
+    (eqb (below i) k) (Some i) None
     (λ t h. (h, ap below (sym (some_is i j h)) ∙ eqb-true (below i) k t)) (λ t h. absurd cc) e
 
-pub joiner_is : (k : ℕ) (f : Form) (j : Joiner) → joiner k f ≡ Some j → (f ≡ form.Mark (joiner_mark j)) × (below j ≡ k)
+pub joiner_is : (k : ℕ) (f : Form) (j : Joiner) → joiner k f ≡ Some j
+    → (f ≡ form.Mark (joiner_mark j)) × (below j ≡ k)
 joiner_is k (form.Mark m) j e = let h = if_below_is k (marked_joiner m) j e in (ap (λ (m : Mark). form.Mark m) (marked_is m j h.0), h.1)
 joiner_is k _ j e = absurd cc
 
@@ -187,9 +203,21 @@ pub record Joining (k : ℕ) : Type 0 where
   pub not_assign : k ≡ 14 → ⊥
 
 pub below_joins : (j : Joiner) → Joining (below j)
-below_joins (op binary.LogicalOr) = record { many = omega arith; not_choice = λ e. omega (arith, e); not_assign = λ e. omega (arith, e) }
-below_joins (op _) = record { many = omega arith; not_choice = λ e. omega (arith, e); not_assign = λ e. omega (arith, e) }
-below_joins comma = record { many = omega arith; not_choice = λ e. omega (arith, e); not_assign = λ e. omega (arith, e) }
+below_joins (op binary.LogicalOr) = record {
+  many = omega arith;
+  not_choice = λ e. omega (arith, e);
+  not_assign = λ e. omega (arith, e);
+}
+below_joins (op _) = record {
+  many = omega arith;
+  not_choice = λ e. omega (arith, e);
+  not_assign = λ e. omega (arith, e);
+}
+below_joins comma = record {
+  many = omega arith;
+  not_choice = λ e. omega (arith, e);
+  not_assign = λ e. omega (arith, e);
+}
 
 -- ---- prefixes, suffixes, assignments
 
@@ -237,26 +265,33 @@ assigner_is : (f : Form) (s : Assigner) → assigner_of f ≡ Some s → f ≡ f
 assigner_is (form.Mark mark.Assign) s e = ap (λ s. form.Mark (assigner_mark s)) (some_is _ _ e)
 assigner_is (form.Mark mark.StarAssign) s e = ap (λ s. form.Mark (assigner_mark s)) (some_is _ _ e)
 assigner_is (form.Mark mark.SlashAssign) s e = ap (λ s. form.Mark (assigner_mark s)) (some_is _ _ e)
-assigner_is (form.Mark mark.PercentAssign) s e = ap (λ s. form.Mark (assigner_mark s)) (some_is _ _ e)
+assigner_is (form.Mark mark.PercentAssign) s e =
+    ap (λ s. form.Mark (assigner_mark s)) (some_is _ _ e)
 assigner_is (form.Mark mark.PlusAssign) s e = ap (λ s. form.Mark (assigner_mark s)) (some_is _ _ e)
 assigner_is (form.Mark mark.MinusAssign) s e = ap (λ s. form.Mark (assigner_mark s)) (some_is _ _ e)
-assigner_is (form.Mark mark.ShiftLeftAssign) s e = ap (λ s. form.Mark (assigner_mark s)) (some_is _ _ e)
-assigner_is (form.Mark mark.ShiftRightAssign) s e = ap (λ s. form.Mark (assigner_mark s)) (some_is _ _ e)
+assigner_is (form.Mark mark.ShiftLeftAssign) s e =
+    ap (λ s. form.Mark (assigner_mark s)) (some_is _ _ e)
+assigner_is (form.Mark mark.ShiftRightAssign) s e =
+    ap (λ s. form.Mark (assigner_mark s)) (some_is _ _ e)
 assigner_is (form.Mark mark.AndAssign) s e = ap (λ s. form.Mark (assigner_mark s)) (some_is _ _ e)
 assigner_is (form.Mark mark.XorAssign) s e = ap (λ s. form.Mark (assigner_mark s)) (some_is _ _ e)
 assigner_is (form.Mark mark.OrAssign) s e = ap (λ s. form.Mark (assigner_mark s)) (some_is _ _ e)
 assigner_is _ s e = absurd cc
 
 -- where the left side may be assigned to
-pub assigner_for_is : (a : Expr) (f : Form) (s : Assigner) → assigner_for a f ≡ Some s → (f ≡ form.Mark (assigner_mark s)) × (is_unary a ≡ true)
+pub assigner_for_is : (a : Expr) (f : Form) (s : Assigner) → assigner_for a f ≡ Some s
+    → (f ≡ form.Mark (assigner_mark s)) × (is_unary a ≡ true)
 assigner_for_is a f s e =
-    split_if (λ (o : Option Assigner). o ≡ Some s → (f ≡ form.Mark (assigner_mark s)) × (is_unary a ≡ true)) (is_unary a) (assigner_of f) None
+    split_if (λ (o : Option Assigner). o ≡ Some s
+    → (f ≡ form.Mark (assigner_mark s)) × (is_unary a ≡ true)) (is_unary a) (assigner_of f) None
     (λ t h. (assigner_is f s h, t)) (λ t h. absurd cc) e
 
-pub assigner_for_self : (a : Expr) (s : Assigner) → is_unary a ≡ true → assigner_for a (form.Mark (assigner_mark s)) ≡ Some s
+pub assigner_for_self : (a : Expr) (s : Assigner) → is_unary a ≡ true
+    → assigner_for a (form.Mark (assigner_mark s)) ≡ Some s
 assigner_for_self a s e = if_true (is_unary a) _ _ e ∙ assigner_self s
 
-pub assigner_unary : (a : Expr) (ts : Tokens) (s : Assigner) → seen (assigner_for a) ts ≡ Some s → is_unary a ≡ true
+pub assigner_unary : (a : Expr) (ts : Tokens) (s : Assigner) → seen (assigner_for a) ts ≡ Some s
+    → is_unary a ≡ true
 assigner_unary a [] s e = absurd cc
 assigner_unary a (t ∷ ts) s e = (assigner_for_is a t.form s e).1
 

@@ -1,17 +1,22 @@
 -- The parser of types is sound and complete.
-use Rattle.std.proofs.Common.{◌≡◌, ℕ, ◌<◌, Bool, true, false, ◌||◌, [], ◌∷◌, length, Ok, refl, sym, ap, ◌∙◌, subst, arith}
+use Rattle.std.proofs.Common.{◌≡◌, ℕ, ◌<◌, Bool, true, false, ◌||◌, [], ◌∷◌, length, Ok, refl, sym}
+use Rattle.std.proofs.Common.{ap, ◌∙◌, subst, arith}
 use Rattle.std.proofs.lemmas.Bool.{false≢true}
 use Rattle.c_tree.specs.declared.token.Key.{Key}
 use Rattle.c_tree.specs.declared.token.Key.TheVariants as key
 use Rattle.c_tree.specs.declared.token.Kind.{Kind}
 use Rattle.c_tree.specs.declared.token.Kind.TheVariants as kind
 use Rattle.c_grammar.specs.Tokens.{Tokens, word, May}
-use Rattle.c_grammar.specs.Types.{Types, char, signed_char, unsigned_char, int, signed, signed_int, unsigned, unsigned_int, long, long_int, signed_long, signed_long_int, unsigned_long, unsigned_long_int}
+use Rattle.c_grammar.specs.Types.{Types, char, signed_char, unsigned_char, int, signed, signed_int}
+use Rattle.c_grammar.specs.Types.{unsigned, unsigned_int, long, long_int, signed_long}
+use Rattle.c_grammar.specs.Types.{signed_long_int, unsigned_long, unsigned_long_int}
 use Rattle.c_grammar.specs.Numbers.{is_key}
 use Rattle.c_grammar.specs.Parsing.{Out, and_then, is_word, expect_word}
-use Rattle.c_grammar.specs.ModelTypes.{begins_type, int_of, char_of, long_of, sized_of, signed_of, unsigned_of, plain_of, longs_of, type_of}
+use Rattle.c_grammar.specs.ModelTypes.{begins_type, int_of, char_of, long_of, sized_of, signed_of}
+use Rattle.c_grammar.specs.ModelTypes.{unsigned_of, plain_of, longs_of, type_of}
 use Rattle.c_grammar.proofs.Numbers.{key_self}
-use Rattle.c_grammar.proofs.Pieces.{Rel, Then, always, any, same_tree, Piece, seq, done, Done, iff, either_of, Either, this, that, IsWord, word_piece, ends_with}
+use Rattle.c_grammar.proofs.Pieces.{Rel, Then, always, any, same_tree, Piece, seq, done, Done, iff}
+use Rattle.c_grammar.proofs.Pieces.{either_of, Either, this, that, IsWord, word_piece, ends_with}
 
 abbrev Named : Type 0
 Named = ℕ × Kind
@@ -30,11 +35,13 @@ not_char (t ∷ ts) e = (or_false (is_key key.Char t.form) _ e).0
 
 not_int : (ts : Tokens) → begins_type ts ≡ false → is_word key.Int ts ≡ false
 not_int [] e = refl
-not_int (t ∷ ts) e = (or_false (is_key key.Int t.form) _ (or_false (is_key key.Char t.form) _ e).1).0
+not_int (t ∷ ts) e = (or_false (is_key key.Int t.form) _
+    (or_false (is_key key.Char t.form) _ e).1).0
 
 not_long : (ts : Tokens) → begins_type ts ≡ false → is_word key.Long ts ≡ false
 not_long [] e = refl
-not_long (t ∷ ts) e = (or_false (is_key key.Long t.form) _ (or_false (is_key key.Int t.form) _ (or_false (is_key key.Char t.form) _ e).1).1).0
+not_long (t ∷ ts) e = (or_false (is_key key.Long t.form) _
+    (or_false (is_key key.Int t.form) _ (or_false (is_key key.Char t.form) _ e).1).1).0
 
 word_begins : (k : Key) (l : ℕ) (f u : Tokens) → f ≡ word l k ∷ u → is_word k f ≡ true
 word_begins k l f u e = ap (is_word k) e ∙ key_self k
@@ -45,7 +52,8 @@ data IntIs (l : ℕ) (k : Kind) (may : May) : ℕ × Kind → Tokens → Tokens 
 
 data SizedIs (l : ℕ) (c i g : Kind) (may : May) : ℕ × Kind → Tokens → Tokens → Type 0 where
   chars : {j : ℕ} {t : Tokens} → SizedIs l c i g may (l, c) (word j key.Char ∷ t) t
-  longs : {j : ℕ} {x : ℕ × Kind} {u t : Tokens} → IntIs l g may x u t → SizedIs l c i g may x (word j key.Long ∷ u) t
+  longs : {j : ℕ} {x : ℕ × Kind} {u t : Tokens} → IntIs l g may x u t
+      → SizedIs l c i g may x (word j key.Long ∷ u) t
   ints : {x : ℕ × Kind} {f t : Tokens} → IntIs l i may x f t → SizedIs l c i g may x f t
 
 abbrev named_here : ℕ × Kind → Tokens → Out (ℕ × Kind)
@@ -54,65 +62,88 @@ named_here x ts = Ok (x, ts)
 abbrev WordThen : Key → (ℕ → ℕ × Kind) → Rel (ℕ × Kind)
 WordThen w v = Then (IsWord w) (λ l. Done (v l))
 
-word_then : (m : ℕ) (w : Key) (v : ℕ → ℕ × Kind) → Piece same_tree (WordThen w v) any always type_ends (λ t. word 0 w ∷ t) m (λ ts. and_then (expect_word w ts) (λ l ts. named_here (v l) ts))
-word_then m w v = seq (λ l ts. named_here (v l) ts) (word_piece w m) (λ l. done same_tree (v l) m (λ t h. tt)) (λ t. omega arith) (λ may x y u t r h. tt)
+word_then : (m : ℕ) (w : Key) (v : ℕ → ℕ × Kind)
+    → Piece same_tree (WordThen w v) any always type_ends (λ t. word 0 w ∷ t) m
+    (λ ts. and_then (expect_word w ts) (λ l ts. named_here (v l) ts))
+word_then m w v = seq (λ l ts. named_here (v l) ts) (word_piece w m)
+    (λ l. done same_tree (v l) m (λ t h. tt)) (λ t. omega arith) (λ may x y u t r h. tt)
 
 module _ (m : ℕ) where
-  int_piece : (l : ℕ) (k : Kind) → Piece same_tree (IntIs l k) any always type_ends (λ t. t) m (int_of l k)
+  int_piece : (l : ℕ) (k : Kind) → Piece same_tree (IntIs l k) any always type_ends (λ t. t) m
+      (int_of l k)
   unfolding int_of
   int_piece l k =
-      iff (either_of (is_key key.Int) (word_then m key.Int (λ _. (l, k))) (done same_tree (l, k) {Given = any} {Kept = always} {Ends = type_ends} m (λ t h. tt))
-      (λ may x f t r. word_begins key.Int r.0 f r.1 r.2) (λ may x f t r e. not_int f (subst (λ (u : Tokens). begins_type u ≡ false) (sym r.1) e)))
+      iff (either_of (is_key key.Int) (word_then m key.Int (λ _. (l, k)))
+      (done same_tree (l, k) {Given = any} {Kept = always} {Ends = type_ends} m (λ t h. tt))
+      (λ may x f t r. word_begins key.Int r.0 f r.1 r.2)
+      (λ may x f t r e. not_int f (subst (λ (u : Tokens). begins_type u ≡ false) (sym r.1) e)))
       to from
     where
-      to : (may : May) (x : ℕ × Kind) (f t : Tokens) → Either (WordThen key.Int (λ _. (l, k))) (Done (l, k)) may x f t → IntIs l k may x f t
-      to may x f t (this r) = subst (λ (u : Tokens). IntIs l k may x u t) (sym r.2) (ends_with (λ x t. IntIs l k may x (word r.0 key.Int ∷ r.1) t) given r.3)
+      to : (may : May) (x : ℕ × Kind) (f t : Tokens)
+          → Either (WordThen key.Int (λ _. (l, k))) (Done (l, k)) may x f t → IntIs l k may x f t
+      to may x f t (this r) = subst (λ (u : Tokens). IntIs l k may x u t) (sym r.2)
+          (ends_with (λ x t. IntIs l k may x (word r.0 key.Int ∷ r.1) t) given r.3)
       to may x f t (that r) = ends_with (λ x t. IntIs l k may x f t) left_out r
 
-      from : (may : May) (x : ℕ × Kind) (f t : Tokens) → IntIs l k may x f t → Either (WordThen key.Int (λ _. (l, k))) (Done (l, k)) may x f t
+      from : (may : May) (x : ℕ × Kind) (f t : Tokens) → IntIs l k may x f t
+          → Either (WordThen key.Int (λ _. (l, k))) (Done (l, k)) may x f t
       from may _ _ t left_out = that (refl, refl)
       from may _ _ t (given {j = j}) = this (j, t, refl, (refl, refl))
 
   abbrev LongIs : ℕ → Kind → Rel (ℕ × Kind)
   LongIs l g = Then (IsWord key.Long) (λ j. IntIs l g)
 
-  long_piece : (l : ℕ) (g : Kind) → Piece same_tree (LongIs l g) any always type_ends (λ t. word 0 key.Long ∷ t) m (long_of l g)
+  long_piece : (l : ℕ) (g : Kind) → Piece same_tree (LongIs l g) any always type_ends
+      (λ t. word 0 key.Long ∷ t) m (long_of l g)
   unfolding long_of
-  long_piece l g = seq (λ _ ts. int_of l g ts) (word_piece key.Long m) (λ j. int_piece l g) (λ t. omega arith) (λ may x y u t r h. tt)
+  long_piece l g = seq (λ _ ts. int_of l g ts) (word_piece key.Long m) (λ j. int_piece l g)
+      (λ t. omega arith) (λ may x y u t r h. tt)
 
-  char_piece : (l : ℕ) (c : Kind) → Piece same_tree (WordThen key.Char (λ _. (l, c))) any always type_ends (λ t. word 0 key.Char ∷ t) m (char_of l c)
+  char_piece : (l : ℕ) (c : Kind) → Piece same_tree
+      (WordThen key.Char (λ _. (l, c))) any always type_ends (λ t. word 0 key.Char ∷ t) m
+      (char_of l c)
   unfolding char_of
   char_piece l c = word_then m key.Char (λ _. (l, c))
 
-  int_no_char : (may : May) (l : ℕ) (k : Kind) (x : ℕ × Kind) (f t : Tokens) → IntIs l k may x f t → begins_type t ≡ false → is_word key.Char f ≡ false
+  int_no_char : (may : May) (l : ℕ) (k : Kind) (x : ℕ × Kind) (f t : Tokens) → IntIs l k may x f t
+      → begins_type t ≡ false → is_word key.Char f ≡ false
   int_no_char may l k _ _ t left_out e = not_char t e
   int_no_char may l k _ _ t given e = refl
 
-  int_no_long : (may : May) (l : ℕ) (k : Kind) (x : ℕ × Kind) (f t : Tokens) → IntIs l k may x f t → begins_type t ≡ false → is_word key.Long f ≡ false
+  int_no_long : (may : May) (l : ℕ) (k : Kind) (x : ℕ × Kind) (f t : Tokens) → IntIs l k may x f t
+      → begins_type t ≡ false → is_word key.Long f ≡ false
   int_no_long may l k _ _ t left_out e = not_long t e
   int_no_long may l k _ _ t given e = refl
 
   abbrev SizedChain : ℕ → Kind → Kind → Kind → Rel (ℕ × Kind)
   SizedChain l c i g = Either (WordThen key.Char (λ _. (l, c))) (Either (LongIs l g) (IntIs l i))
 
-  sized_piece : (l : ℕ) (c i g : Kind) → Piece same_tree (SizedIs l c i g) any always type_ends (λ t. t) m (sized_of l c i g)
+  sized_piece : (l : ℕ) (c i g : Kind) → Piece same_tree (SizedIs l c i g) any always type_ends
+      (λ t. t) m (sized_of l c i g)
   unfolding sized_of
   sized_piece l c i g =
       iff (either_of (is_key key.Char) (char_piece l c)
-      (either_of (is_key key.Long) (long_piece l g) (int_piece l i) (λ may x f t r. word_begins key.Long r.0 f r.1 r.2) (λ may x f t r e. int_no_long may l i x f t r e))
+      (either_of (is_key key.Long) (long_piece l g) (int_piece l i)
+      (λ may x f t r. word_begins key.Long r.0 f r.1 r.2)
+      (λ may x f t r e. int_no_long may l i x f t r e))
       (λ may x f t r. word_begins key.Char r.0 f r.1 r.2) no_char)
       to from
     where
-      no_char : (may : May) (x : ℕ × Kind) (f t : Tokens) → Either (LongIs l g) (IntIs l i) may x f t → type_ends x t → is_word key.Char f ≡ false
+      no_char : (may : May) (x : ℕ × Kind) (f t : Tokens)
+          → Either (LongIs l g) (IntIs l i) may x f t → type_ends x t → is_word key.Char f ≡ false
       no_char may x f t (this r) e = ap (is_word key.Char) r.2
       no_char may x f t (that r) e = int_no_char may l i x f t r e
 
-      to : (may : May) (x : ℕ × Kind) (f t : Tokens) → SizedChain l c i g may x f t → SizedIs l c i g may x f t
-      to may x f t (this r) = subst (λ (u : Tokens). SizedIs l c i g may x u t) (sym r.2) (ends_with (λ x t. SizedIs l c i g may x (word r.0 key.Char ∷ r.1) t) chars r.3)
-      to may x f t (that (this r)) = subst (λ (u : Tokens). SizedIs l c i g may x u t) (sym r.2) (longs r.3)
+      to : (may : May) (x : ℕ × Kind) (f t : Tokens) → SizedChain l c i g may x f t
+          → SizedIs l c i g may x f t
+      to may x f t (this r) = subst (λ (u : Tokens). SizedIs l c i g may x u t) (sym r.2)
+          (ends_with (λ x t. SizedIs l c i g may x (word r.0 key.Char ∷ r.1) t) chars r.3)
+      to may x f t (that (this r)) = subst (λ (u : Tokens). SizedIs l c i g may x u t) (sym r.2)
+          (longs r.3)
       to may x f t (that (that r)) = ints r
 
-      from : (may : May) (x : ℕ × Kind) (f t : Tokens) → SizedIs l c i g may x f t → SizedChain l c i g may x f t
+      from : (may : May) (x : ℕ × Kind) (f t : Tokens) → SizedIs l c i g may x f t
+          → SizedChain l c i g may x f t
       from may _ _ t (chars {j = j}) = this (j, t, refl, (refl, refl))
       from may _ _ t (longs {j = j} {u = u} r) = that (this (j, u, refl, r))
       from may _ _ t (ints r) = that (that r)
@@ -126,19 +157,26 @@ module _ (m : ℕ) where
   abbrev LongsAre : Rel (ℕ × Kind)
   LongsAre = Then (IsWord key.Long) (λ l. IntIs l kind.Long)
 
-  signed_piece : Piece same_tree SignedIs any always type_ends (λ t. word 0 key.Signed ∷ t) m signed_of
+  signed_piece : Piece same_tree SignedIs any always type_ends
+      (λ t. word 0 key.Signed ∷ t) m signed_of
   unfolding signed_of
-  signed_piece = seq (λ l ts. sized_of l kind.Char kind.Int kind.Long ts) (word_piece key.Signed m) (λ l. sized_piece l kind.Char kind.Int kind.Long) (λ t. omega arith) (λ may x y u t r h. tt)
+  signed_piece = seq (λ l ts. sized_of l kind.Char kind.Int kind.Long ts) (word_piece key.Signed m)
+      (λ l. sized_piece l kind.Char kind.Int kind.Long) (λ t. omega arith) (λ may x y u t r h. tt)
 
-  unsigned_piece : Piece same_tree UnsignedIs any always type_ends (λ t. word 0 key.Unsigned ∷ t) m unsigned_of
+  unsigned_piece : Piece same_tree UnsignedIs any always type_ends
+      (λ t. word 0 key.Unsigned ∷ t) m unsigned_of
   unfolding unsigned_of
-  unsigned_piece = seq (λ l ts. sized_of l kind.UChar kind.UInt kind.ULong ts) (word_piece key.Unsigned m) (λ l. sized_piece l kind.UChar kind.UInt kind.ULong) (λ t. omega arith) (λ may x y u t r h. tt)
+  unsigned_piece = seq (λ l ts. sized_of l kind.UChar kind.UInt kind.ULong ts)
+      (word_piece key.Unsigned m) (λ l. sized_piece l kind.UChar kind.UInt kind.ULong)
+      (λ t. omega arith) (λ may x y u t r h. tt)
 
   longs_piece : Piece same_tree LongsAre any always type_ends (λ t. word 0 key.Long ∷ t) m longs_of
   unfolding longs_of
-  longs_piece = seq (λ l ts. int_of l kind.Long ts) (word_piece key.Long m) (λ l. int_piece l kind.Long) (λ t. omega arith) (λ may x y u t r h. tt)
+  longs_piece = seq (λ l ts. int_of l kind.Long ts) (word_piece key.Long m)
+      (λ l. int_piece l kind.Long) (λ t. omega arith) (λ may x y u t r h. tt)
 
-  plain_piece : (w : Key) (k : Kind) → Piece same_tree (WordThen w (λ l. (l, k))) any always type_ends (λ t. word 0 w ∷ t) m (plain_of w k)
+  plain_piece : (w : Key) (k : Kind) → Piece same_tree
+      (WordThen w (λ l. (l, k))) any always type_ends (λ t. word 0 w ∷ t) m (plain_of w k)
   unfolding plain_of
   plain_piece w k = word_then m w (λ l. (l, k))
 
@@ -158,20 +196,25 @@ abbrev FromLong : Rel (ℕ × Kind)
 FromLong = Then (IsWord key.Long) (λ l. IntIs l kind.Long)
 
 abbrev TypeChain : Rel (ℕ × Kind)
-TypeChain = Either (WordThen key.Char (λ l. (l, kind.Char))) (Either (WordThen key.Int (λ l. (l, kind.Int))) (Either FromLong (Either FromSigned FromUnsigned)))
+TypeChain = Either (WordThen key.Char (λ l. (l, kind.Char)))
+    (Either (WordThen key.Int (λ l. (l, kind.Int)))
+    (Either FromLong (Either FromSigned FromUnsigned)))
 
-long_to : (may : May) (l : ℕ) (x : ℕ × Kind) (u t : Tokens) → IntIs l kind.Long may x u t → TypeIs may x (word l key.Long ∷ u) t
+long_to : (may : May) (l : ℕ) (x : ℕ × Kind) (u t : Tokens) → IntIs l kind.Long may x u t
+    → TypeIs may x (word l key.Long ∷ u) t
 long_to may l _ _ t left_out = long
 long_to may l _ _ t given = long_int
 
-signed_to : (may : May) (l : ℕ) (x : ℕ × Kind) (u t : Tokens) → SizedIs l kind.Char kind.Int kind.Long may x u t → TypeIs may x (word l key.Signed ∷ u) t
+signed_to : (may : May) (l : ℕ) (x : ℕ × Kind) (u t : Tokens)
+    → SizedIs l kind.Char kind.Int kind.Long may x u t → TypeIs may x (word l key.Signed ∷ u) t
 signed_to may l _ _ t chars = signed_char
 signed_to may l _ _ t (longs left_out) = signed_long
 signed_to may l _ _ t (longs given) = signed_long_int
 signed_to may l _ _ t (ints left_out) = signed
 signed_to may l _ _ t (ints given) = signed_int
 
-unsigned_to : (may : May) (l : ℕ) (x : ℕ × Kind) (u t : Tokens) → SizedIs l kind.UChar kind.UInt kind.ULong may x u t → TypeIs may x (word l key.Unsigned ∷ u) t
+unsigned_to : (may : May) (l : ℕ) (x : ℕ × Kind) (u t : Tokens)
+    → SizedIs l kind.UChar kind.UInt kind.ULong may x u t → TypeIs may x (word l key.Unsigned ∷ u) t
 unsigned_to may l _ _ t chars = unsigned_char
 unsigned_to may l _ _ t (longs left_out) = unsigned_long
 unsigned_to may l _ _ t (longs given) = unsigned_long_int
@@ -179,19 +222,27 @@ unsigned_to may l _ _ t (ints left_out) = unsigned
 unsigned_to may l _ _ t (ints given) = unsigned_int
 
 type_to : (may : May) (x : ℕ × Kind) (f t : Tokens) → TypeChain may x f t → TypeIs may x f t
-type_to may x f t (this r) = subst (λ (u : Tokens). TypeIs may x u t) (sym r.2) (ends_with (λ x t. TypeIs may x (word r.0 key.Char ∷ r.1) t) char r.3)
-type_to may x f t (that (this r)) = subst (λ (u : Tokens). TypeIs may x u t) (sym r.2) (ends_with (λ x t. TypeIs may x (word r.0 key.Int ∷ r.1) t) int r.3)
-type_to may x f t (that (that (this r))) = subst (λ (u : Tokens). TypeIs may x u t) (sym r.2) (long_to may r.0 x r.1 t r.3)
-type_to may x f t (that (that (that (this r)))) = subst (λ (u : Tokens). TypeIs may x u t) (sym r.2) (signed_to may r.0 x r.1 t r.3)
-type_to may x f t (that (that (that (that r)))) = subst (λ (u : Tokens). TypeIs may x u t) (sym r.2) (unsigned_to may r.0 x r.1 t r.3)
+type_to may x f t (this r) = subst (λ (u : Tokens). TypeIs may x u t) (sym r.2)
+    (ends_with (λ x t. TypeIs may x (word r.0 key.Char ∷ r.1) t) char r.3)
+type_to may x f t (that (this r)) = subst (λ (u : Tokens). TypeIs may x u t) (sym r.2)
+    (ends_with (λ x t. TypeIs may x (word r.0 key.Int ∷ r.1) t) int r.3)
+type_to may x f t (that (that (this r))) =
+    subst (λ (u : Tokens). TypeIs may x u t) (sym r.2) (long_to may r.0 x r.1 t r.3)
+type_to may x f t (that (that (that (this r)))) =
+    subst (λ (u : Tokens). TypeIs may x u t) (sym r.2) (signed_to may r.0 x r.1 t r.3)
+type_to may x f t (that (that (that (that r)))) =
+    subst (λ (u : Tokens). TypeIs may x u t) (sym r.2) (unsigned_to may r.0 x r.1 t r.3)
 
-abbrev is_long : {may : May} {x : ℕ × Kind} {f t : Tokens} → FromLong may x f t → TypeChain may x f t
+abbrev is_long : {may : May} {x : ℕ × Kind} {f t : Tokens} → FromLong may x f t
+    → TypeChain may x f t
 is_long r = that (that (this r))
 
-abbrev is_signed : {may : May} {x : ℕ × Kind} {f t : Tokens} → FromSigned may x f t → TypeChain may x f t
+abbrev is_signed : {may : May} {x : ℕ × Kind} {f t : Tokens} → FromSigned may x f t
+    → TypeChain may x f t
 is_signed r = that (that (that (this r)))
 
-abbrev is_unsigned : {may : May} {x : ℕ × Kind} {f t : Tokens} → FromUnsigned may x f t → TypeChain may x f t
+abbrev is_unsigned : {may : May} {x : ℕ × Kind} {f t : Tokens} → FromUnsigned may x f t
+    → TypeChain may x f t
 is_unsigned r = that (that (that (that r)))
 
 type_from : (may : May) (l : ℕ) (k : Kind) (f t : Tokens) → Types l k f t → TypeChain may (l, k) f t
@@ -202,13 +253,17 @@ type_from may l _ _ t (long_int {k = k}) = is_long (l, word k key.Int ∷ t, ref
 type_from may l _ _ t (signed_char {k = k}) = is_signed (l, word k key.Char ∷ t, refl, chars)
 type_from may l _ _ t signed = is_signed (l, t, refl, ints left_out)
 type_from may l _ _ t (signed_int {k = k}) = is_signed (l, word k key.Int ∷ t, refl, ints given)
-type_from may l _ _ t (signed_long {k = k}) = is_signed (l, word k key.Long ∷ t, refl, longs left_out)
-type_from may l _ _ t (signed_long_int {k = k} {j = j}) = is_signed (l, word k key.Long ∷ word j key.Int ∷ t, refl, longs given)
+type_from may l _ _ t (signed_long {k = k}) =
+    is_signed (l, word k key.Long ∷ t, refl, longs left_out)
+type_from may l _ _ t (signed_long_int {k = k} {j = j}) =
+    is_signed (l, word k key.Long ∷ word j key.Int ∷ t, refl, longs given)
 type_from may l _ _ t (unsigned_char {k = k}) = is_unsigned (l, word k key.Char ∷ t, refl, chars)
 type_from may l _ _ t unsigned = is_unsigned (l, t, refl, ints left_out)
 type_from may l _ _ t (unsigned_int {k = k}) = is_unsigned (l, word k key.Int ∷ t, refl, ints given)
-type_from may l _ _ t (unsigned_long {k = k}) = is_unsigned (l, word k key.Long ∷ t, refl, longs left_out)
-type_from may l _ _ t (unsigned_long_int {k = k} {j = j}) = is_unsigned (l, word k key.Long ∷ word j key.Int ∷ t, refl, longs given)
+type_from may l _ _ t (unsigned_long {k = k}) =
+    is_unsigned (l, word k key.Long ∷ t, refl, longs left_out)
+type_from may l _ _ t (unsigned_long_int {k = k} {j = j}) =
+    is_unsigned (l, word k key.Long ∷ word j key.Int ∷ t, refl, longs given)
 
 pub type_piece : (m : ℕ) → Piece same_tree TypeIs any always type_ends type_first m type_of
 unfolding type_of
@@ -216,22 +271,30 @@ type_piece m =
     iff (either_of (is_key key.Char) (plain_piece m key.Char kind.Char)
     (either_of (is_key key.Int) (plain_piece m key.Int kind.Int)
     (either_of (is_key key.Long) (longs_piece m)
-    (either_of (is_key key.Signed) (signed_piece m) (unsigned_piece m) (λ may x f t r. word_begins key.Signed r.0 f r.1 r.2) (λ may x f t r e. ap (is_word key.Signed) r.2))
+    (either_of (is_key key.Signed) (signed_piece m) (unsigned_piece m)
+    (λ may x f t r. word_begins key.Signed r.0 f r.1 r.2)
+    (λ may x f t r e. ap (is_word key.Signed) r.2))
     (λ may x f t r. word_begins key.Long r.0 f r.1 r.2) no_long)
     (λ may x f t r. word_begins key.Int r.0 f r.1 r.2) no_int)
     (λ may x f t r. word_begins key.Char r.0 f r.1 r.2) no_char)
     type_to (λ may x f t r. type_from may x.0 x.1 f t r)
   where
-    no_long : (may : May) (x : ℕ × Kind) (f t : Tokens) → Either FromSigned FromUnsigned may x f t → type_ends x t → is_word key.Long f ≡ false
+    no_long : (may : May) (x : ℕ × Kind) (f t : Tokens) → Either FromSigned FromUnsigned may x f t
+        → type_ends x t → is_word key.Long f ≡ false
     no_long may x f t (this r) e = ap (is_word key.Long) r.2
     no_long may x f t (that r) e = ap (is_word key.Long) r.2
 
-    no_int : (may : May) (x : ℕ × Kind) (f t : Tokens) → Either FromLong (Either FromSigned FromUnsigned) may x f t → type_ends x t → is_word key.Int f ≡ false
+    no_int : (may : May) (x : ℕ × Kind) (f t : Tokens)
+        → Either FromLong (Either FromSigned FromUnsigned) may x f t → type_ends x t
+        → is_word key.Int f ≡ false
     no_int may x f t (this r) e = ap (is_word key.Int) r.2
     no_int may x f t (that (this r)) e = ap (is_word key.Int) r.2
     no_int may x f t (that (that r)) e = ap (is_word key.Int) r.2
 
-    no_char : (may : May) (x : ℕ × Kind) (f t : Tokens) → Either (WordThen key.Int (λ l. (l, kind.Int))) (Either FromLong (Either FromSigned FromUnsigned)) may x f t → type_ends x t → is_word key.Char f ≡ false
+    no_char : (may : May) (x : ℕ × Kind) (f t : Tokens)
+        → Either (WordThen key.Int (λ l. (l, kind.Int)))
+        (Either FromLong (Either FromSigned FromUnsigned)) may x f t → type_ends x t
+        → is_word key.Char f ≡ false
     no_char may x f t (this r) e = ap (is_word key.Char) r.2
     no_char may x f t (that (this r)) e = ap (is_word key.Char) r.2
     no_char may x f t (that (that (this r))) e = ap (is_word key.Char) r.2

@@ -1,16 +1,21 @@
--- A part that reads up to the end accepts exactly what is spelled, and stops exactly where the fault stands.
-use Rattle.std.proofs.Common.{◌≡◌, ℕ, suc, ◌<◌, Bool, true, false, leb, ◌||◌, [], ◌∷◌, ◌++◌, length, Ok, Err, refl, sym, ap, ◌∙◌, subst, append_assoc, arith, length-append}
+-- A part that reads up to the end accepts exactly what is spelled, and stops exactly where the
+-- fault stands.
+use Rattle.std.proofs.Common.{◌≡◌, ℕ, suc, ◌<◌, Bool, true, false, leb, ◌||◌, [], ◌∷◌, ◌++◌, length}
+use Rattle.std.proofs.Common.{Ok, Err, refl, sym, ap, ◌∙◌, subst, append_assoc, arith}
+use Rattle.std.proofs.Common.{length-append}
 use Rattle.std.proofs.lemmas.Bool.{false≢true, leb-true, le-leb}
 use Rattle.c_tree.specs.declared.token.Lexeme.{Lexeme}
 use Rattle.c_grammar.specs.Tokens.{Tokens, May, within, before, late, any_depth}
 use Rattle.c_grammar.specs.Parsing.{Stop, Out, too_deep}
-use Rattle.c_grammar.specs.Places.{Spelled, StartsWithin, StartsBut, FaultAt, Exact, StartsLate, settle, settle_stop}
+use Rattle.c_grammar.specs.Places.{Spelled, StartsWithin, StartsBut, FaultAt, Exact, StartsLate}
+use Rattle.c_grammar.specs.Places.{settle, settle_stop}
 use Rattle.c_grammar.proofs.Agree.{place, Tied, end, at_cut, alike, Lands, good, past, deep}
 use Rattle.c_grammar.proofs.Pieces.{Rel, Open, Sound, read, stuck, any, Piece, same_tree}
 use Rattle.c_grammar.proofs.Lists.{at_end}
 use Rattle.c_grammar.proofs.Late.{Passes}
 
-tie : (front : Tokens) (t : Lexeme) (g g' : Tokens) → Tied true g g' (front ++ t ∷ g) (front ++ t ∷ g')
+tie : (front : Tokens) (t : Lexeme) (g g' : Tokens)
+    → Tied true g g' (front ++ t ∷ g) (front ++ t ∷ g')
 tie [] t g g' = at_cut t refl
 tie (x ∷ front) t g g' = alike x (tie front t g g')
 
@@ -71,7 +76,8 @@ module _ {X : Type 0} (R : Rel X) (after : Tokens → Tokens) (m : ℕ) (run : T
   stops_same : (s s' : Stop) (a b : Out X) → a ≡ Err s → b ≡ Err s' → a ≡ b → s ≡ s'
   stops_same s s' a b p q r = let h : err {A = X} s ≡ err s' = sym p ∙ r ∙ q in cc
 
-  not_okay : (ts : Tokens) (s : Stop) (a : X) (to : Tokens) → run ts ≡ Err s → run ts ≡ Ok (a, to) → ⊥
+  not_okay : (ts : Tokens) (s : Stop) (a : X) (to : Tokens) → run ts ≡ Err s → run ts ≡ Ok (a, to)
+      → ⊥
   not_okay ts s a to h i = let j : err {A = X} s ≡ Ok (a, to) = sym h ∙ i in cc
 
   -- what is spelled is accepted, with this tree
@@ -84,24 +90,42 @@ module _ {X : Type 0} (R : Rel X) (after : Tokens → Tokens) (m : ℕ) (run : T
       by (deep q q' d t i y n) = absurd (both_ways _ y n)
 
   -- no list that begins with the tokens up to a fault is spelled under a test, but for a depth
-  refuses : (may : May) (ts g g' : Tokens) (t : Lexeme) (x : X) (s : Stop) → run ts ≡ Err s → s.rest ≡ t ∷ g → Lands true g g' may m (run ts) (λ to. Ok (x, to)) []
-      → ((q q' : Tokens) (d : ℕ) → Tied true g g' q q' → s ≡ record { deep = true; rest = q } → may q' d ≡ true → leb d m ≡ false → ⊥) → ⊥
+  refuses : (may : May) (ts g g' : Tokens) (t : Lexeme) (x : X) (s : Stop) → run ts ≡ Err s
+      → s.rest ≡ t ∷ g → Lands true g g' may m (run ts) (λ to. Ok (x, to)) []
+      → ((q q' : Tokens) (d : ℕ) → Tied true g g' q q' → s ≡ record { deep = true; rest = q }
+      → may q' d ≡ true → leb d m ≡ false → ⊥) → ⊥
   refuses may ts g g' t x s h r (good to u i) k = not_okay ts s x to h i
-  refuses may ts g g' t x s h r (past c l) k = omega (arith, l.le, ap (λ (o : Out X). length (place o)) h, ap length r)
-  refuses may ts g g' t x s h r (deep q q' d u i y n) k = k q q' d u (stops_same s _ (run ts) (too_deep q) h refl i) y n
+  refuses may ts g g' t x s h r (past c l) k =
+      omega (arith, l.le, ap (λ (o : Out X). length (place o)) h, ap length r)
+  refuses may ts g g' t x s h r (deep q q' d u i y n) k =
+      k q q' d u (stops_same s _ (run ts) (too_deep q) h refl i) y n
 
-  no_tree : (may : May) (ts : Tokens) (x : X) (s : Stop) → run ts ≡ Err s → Lands false [] [] may m (run ts) (λ to. Ok (x, to)) []
-      → ((q q' : Tokens) (d : ℕ) → Tied false [] [] q q' → s ≡ record { deep = true; rest = q } → may q' d ≡ true → ⊥) → ⊥
+  no_tree : (may : May) (ts : Tokens) (x : X) (s : Stop) → run ts ≡ Err s
+      → Lands false [] [] may m (run ts) (λ to. Ok (x, to)) []
+      → ((q q' : Tokens) (d : ℕ) → Tied false [] [] q q' → s ≡ record { deep = true; rest = q }
+      → may q' d ≡ true → ⊥) → ⊥
   no_tree may ts x s h (good to u i) k = not_okay ts s x to h i
   no_tree may ts x s h (past c l) k = false≢true c
-  no_tree may ts x s h (deep q q' d u i y n) k = k q q' d u (stops_same s _ (run ts) (too_deep q) h refl i) y
+  no_tree may ts x s h (deep q q' d u i y n) k =
+      k q q' d u (stops_same s _ (run ts) (too_deep q) h refl i) y
 
-  starts_open : (ts : Tokens) (s : Stop) → Open R m ts s → (front : Tokens) × (ts ≡ front ++ s.rest) × StartsWithin R m front
+  starts_open : (ts : Tokens) (s : Stop) → Open R m ts s
+      → (front : Tokens) × (ts ≡ front ++ s.rest) × StartsWithin R m front
   starts_open ts s o =
-      let c = o.completes [] in
-      (o.way.front, o.is ∙ o.way.law s.rest, (o.more [], c.0, subst (λ (u : Tokens). R (before m (o.more [])) c.0 u []) (o.way.law (o.more [])) c.1))
+      let c = o.completes [] in (
+        o.way.front,
+        o.is ∙ o.way.law s.rest,
+        (
+          o.more [],
+          c.0,
+          subst (λ (u : Tokens). R (before m (o.more [])) c.0 u [])
+              (o.way.law (o.more [])) c.1,
+        ),
+      )
 
-  starts_deep : (ts q : Tokens) → Open R m ts (record { deep = true; rest = q }) → (front : Tokens) × (t : Lexeme) × (back : Tokens) × (q ≡ t ∷ back) × (ts ≡ front ++ t ∷ back) × StartsBut R m front t
+  starts_deep : (ts q : Tokens) → Open R m ts (record { deep = true; rest = q })
+      → (front : Tokens) × (t : Lexeme) × (back : Tokens) × (q ≡ t ∷ back) × (ts ≡ front ++ t ∷ back)
+      × StartsBut R m front t
   starts_deep ts q o =
       let c = o.completes [] in
       let h = o.held in
@@ -111,22 +135,37 @@ module _ {X : Type 0} (R : Rel X) (after : Tokens → Tokens) (m : ℕ) (run : T
         h.1,
         h.3,
         o.is ∙ o.way.law q ∙ ap (λ (u : Tokens). o.way.front ++ u) h.3,
-        (h.2 [], c.0, subst (λ (u : Tokens). R (before m u) c.0 (o.way.front ++ u) []) e (subst (λ (u : Tokens). R (before m (o.more [])) c.0 u []) (o.way.law (o.more [])) c.1)),
+        (
+          h.2 [],
+          c.0,
+          subst (λ (u : Tokens). R (before m u) c.0 (o.way.front ++ u) []) e
+              (subst (λ (u : Tokens). R (before m (o.more [])) c.0 u []) (o.way.law (o.more [])) c.1),
+        ),
       )
 
   early_late : (ts : Tokens) → StartsWithin R m ts → StartsLate R m ts
-  early_late ts w = (w.0, w.1, far (before m w.0) (late m w.0) w.1 (ts ++ w.0) (λ q d lt e. late_of m w.0 q d e) w.2)
+  early_late ts w = (
+    w.0,
+    w.1,
+    far (before m w.0) (late m w.0) w.1 (ts ++ w.0)
+        (λ q d lt e. late_of m w.0 q d e) w.2,
+  )
 
   Settled : Tokens → Bool → Tokens → Type 0
   Settled ts deep' rest = let s = settle_stop deep' rest in FaultAt R m ts s.deep s.rest
 
-  fault_at : (ts : Tokens) (deep' : Bool) (rest : Tokens) → Open R m ts (record { deep = deep'; rest = rest }) → run ts ≡ Err (record { deep = deep'; rest = rest }) → Settled ts deep' rest
+  fault_at : (ts : Tokens) (deep' : Bool) (rest : Tokens)
+      → Open R m ts (record { deep = deep'; rest = rest })
+      → run ts ≡ Err (record { deep = deep'; rest = rest }) → Settled ts deep' rest
   unfolding Settled two
   fault_at ts false [] o h =
       let a = starts_open ts _ o in
       record {
-        starts = early_late ts (subst (λ (u : Tokens). StartsWithin R m u) (sym (a.1 ∙ append_nil a.0)) a.2);
-        is_none = λ x r. no_tree any_depth ts x _ h (p.complete false [] [] any_depth x ts [] r refl ts (same ts)) (λ q q' d u i y. false≢true (ap (λ (s : Stop). s.deep) i));
+        starts = early_late ts (subst (λ (u : Tokens). StartsWithin R m u)
+            (sym (a.1 ∙ append_nil a.0)) a.2);
+        is_none = λ x r. no_tree any_depth ts x _ h
+            (p.complete false [] [] any_depth x ts [] r refl ts (same ts))
+            (λ q q' d u i y. false≢true (ap (λ (s : Stop). s.deep) i));
       }
   fault_at ts false (t ∷ back) o h =
       let a = starts_open ts _ o in (
@@ -137,7 +176,8 @@ module _ {X : Type 0} (R : Rel X) (after : Tokens → Tokens) (m : ℕ) (run : T
           with_it = λ w.
               let r = subst (λ (u : Tokens). R any_depth w.1 u []) (append_assoc a.0 (t ∷ []) w.0) w.2 in
               let tied = subst (λ (u : Tokens). Tied true back w.0 u (a.0 ++ t ∷ w.0)) (sym a.1) (tie a.0 t back w.0) in
-              refuses any_depth ts back w.0 t w.1 _ h refl (p.complete true back w.0 any_depth w.1 (a.0 ++ t ∷ w.0) [] r refl ts tied)
+              refuses any_depth ts back w.0 t w.1 _ h refl
+              (p.complete true back w.0 any_depth w.1 (a.0 ++ t ∷ w.0) [] r refl ts tied)
               (λ q q' d u i y n. false≢true (ap (λ (s : Stop). s.deep) i));
         },
       )
@@ -152,8 +192,16 @@ module _ {X : Type 0} (R : Rel X) (after : Tokens → Tokens) (m : ℕ) (run : T
       let ib : [] ≡ a.2 = cc in
       let split : ts ≡ a.0 ++ a.1 ∷ [] = a.4 ∙ ap (λ (u : Tokens). a.0 ++ a.1 ∷ u) (sym ib) in
       record {
-        starts = (w.0, w.1, subst (λ (u : Tokens). R (late m w.0) w.1 u []) (sym (ap (λ (u : Tokens). u ++ w.0) split ∙ append_assoc a.0 (a.1 ∷ []) w.0)) w.2);
-        is_none = λ x r. no_tree two ts x _ h (p.complete false [] [] two x ts [] (far any_depth two x ts (λ q d lt e. le-leb 2 (length q) (omega (arith, lt))) r) refl ts (same ts))
+        starts = (
+          w.0,
+          w.1,
+          subst (λ (u : Tokens). R (late m w.0) w.1 u [])
+              (sym (ap (λ (u : Tokens). u ++ w.0) split ∙ append_assoc a.0 (a.1 ∷ []) w.0)) w.2,
+        );
+        is_none = λ x r. no_tree two ts x _ h
+            (p.complete false [] [] two x ts []
+            (far any_depth two x ts (λ q d lt e. le-leb 2 (length q) (omega (arith, lt))) r) refl ts
+            (same ts))
             (λ q q' d u i y. let y' = leb-true 2 (length q') y in omega (arith, y', same_length u, ap (λ (s : Stop). length (s.rest)) i));
       }
   fault_at ts true (t ∷ t' ∷ back') o h =
@@ -170,15 +218,20 @@ module _ {X : Type 0} (R : Rel X) (after : Tokens → Tokens) (m : ℕ) (run : T
           with_it = λ w.
               let r = subst (λ (u : Tokens). R (before m w.0) w.1 u []) (append_assoc a.0 (t ∷ []) w.0) w.2 in
               let tied = subst (λ (u : Tokens). Tied true back w.0 u (a.0 ++ t ∷ w.0)) (sym split) (tie a.0 t back w.0) in
-              refuses (before m w.0) ts back w.0 t w.1 _ h refl (p.complete true back w.0 (before m w.0) w.1 (a.0 ++ t ∷ w.0) [] r refl ts tied)
-              (λ q q' d u i y n. both_ways (leb d m) (if_longer (length q') (length w.0) (leb d m) (tied_longer u) y) n);
+              refuses (before m w.0) ts back w.0 t w.1 _ h refl
+              (p.complete true back w.0 (before m w.0) w.1 (a.0 ++ t ∷ w.0) [] r refl ts tied)
+              (λ q q' d u i y n. both_ways (leb d m)
+              (if_longer (length q') (length w.0) (leb d m) (tied_longer u) y) n);
           not_early = λ early.
               let w = early.starts in
               let g' = back ++ w.0 in
               let r = subst (λ (u : Tokens). R (late m w.0) w.1 u []) (ap (λ (u : Tokens). u ++ w.0) split ∙ append_assoc a.0 (t ∷ back) w.0) w.2 in
               let tied = subst (λ (u : Tokens). Tied true back g' u (a.0 ++ t ∷ g')) (sym split) (tie a.0 t back g') in
-              refuses (late m w.0) ts back g' t w.1 _ h refl (p.complete true back g' (late m w.0) w.1 (a.0 ++ t ∷ g') [] r refl ts tied)
-              (λ q q' d u i y n. both_ways (leb d m) (if_longer (length q') (suc (length w.0)) (leb d m) (omega (arith, tied_longer u, length-append back' w.0)) y) n);
+              refuses (late m w.0) ts back g' t w.1 _ h refl
+              (p.complete true back g' (late m w.0) w.1 (a.0 ++ t ∷ g') [] r refl ts tied)
+              (λ q q' d u i y n. both_ways (leb d m)
+              (if_longer (length q') (suc (length w.0)) (leb d m)
+              (omega (arith, tied_longer u, length-append back' w.0)) y) n);
         },
       )
 
@@ -187,6 +240,11 @@ module _ {X : Type 0} (R : Rel X) (after : Tokens → Tokens) (m : ℕ) (run : T
   unfolding Settled
   exact ts = by (run ts) (p.sound ts tt) refl
     where
-      by : (out : Out X) → Sound same_tree R at_end m ts out → run ts ≡ out → Exact R m ts (settle out)
+      by : (out : Out X) → Sound same_tree R at_end m ts out → run ts ≡ out
+          → Exact R m ts (settle out)
       by _ (stuck s o) h = fault_at ts s.deep s.rest o h
-      by _ (read x t a k) h = (k, subst (λ (u : Tokens). R (within m) x u []) (sym (a.is ∙ ap a.put k)) (a.again (within m) (λ q d e. e) []))
+      by _ (read x t a k) h = (
+        k,
+        subst (λ (u : Tokens). R (within m) x u [])
+            (sym (a.is ∙ ap a.put k)) (a.again (within m) (λ q d e. e) []),
+      )

@@ -23,15 +23,17 @@ last_line [] = 1
 last_line (t ∷ []) = t.line
 last_line (t ∷ u ∷ ts) = last_line (u ∷ ts)
 
--- The tokens are no unit, whatever the depth; the line is that of the first token with which no unit goes on,
--- or the last one's where the tokens only end too early.
+-- The tokens are no unit, whatever the depth; the line is that of the first token with which no
+-- unit goes on, or the last one's where the tokens only end too early.
 pub data HasSyntaxFault (tokens : Tokens) : ℕ → Type 0 where
-  wrong_token : {front back : Tokens} {t : Lexeme} → SyntaxAt UnitIs limit tokens front t back → HasSyntaxFault tokens t.line
+  wrong_token : {front back : Tokens} {t : Lexeme} → SyntaxAt UnitIs limit tokens front t back
+      → HasSyntaxFault tokens t.line
   too_short : EndsEarly UnitIs limit tokens → HasSyntaxFault tokens (last_line tokens)
 
 -- the line is that of the first token that opens a construct that is too deep
 pub data IsTooDeep (tokens : Tokens) : ℕ → Type 0 where
-  opener : {front back : Tokens} {t : Lexeme} → DeepAt UnitIs limit tokens front t back → IsTooDeep tokens t.line
+  opener : {front back : Tokens} {t : Lexeme} → DeepAt UnitIs limit tokens front t back
+      → IsTooDeep tokens t.line
 
 pub data Answer : Type 0 where
   tree : List Top → Answer
@@ -45,8 +47,10 @@ Answers tokens (too_deep l) = IsTooDeep tokens l
 
 -- a list of tokens has at most one tree, whatever depth is allowed
 abbrev pub OneTree : Type 0
-OneTree = (m : ℕ) (tokens : Tokens) (xs ys : List Top) → Spelled UnitIs m xs tokens → Spelled UnitIs m ys tokens → xs ≡ ys
+OneTree = (m : ℕ) (tokens : Tokens) (xs ys : List Top) → Spelled UnitIs m xs tokens
+    → Spelled UnitIs m ys tokens → xs ≡ ys
 
 -- every list of tokens has an answer, and only one
 abbrev pub OneAnswer : Type 0
-OneAnswer = (tokens : Tokens) → (a : Answer) × Answers tokens a × ((b : Answer) → Answers tokens b → b ≡ a)
+OneAnswer = (tokens : Tokens) → (a : Answer) × Answers tokens a
+    × ((b : Answer) → Answers tokens b → b ≡ a)

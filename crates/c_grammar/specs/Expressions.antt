@@ -7,7 +7,10 @@ use Rattle.c_tree.specs.declared.tree.Expr.{Expr}
 use Rattle.c_tree.specs.declared.tree.ExprNode.TheVariants as node
 use Rattle.c_grammar.specs.Tokens.{Tokens, token, punct, named, May}
 use Rattle.c_grammar.specs.Types.{Types}
-use Rattle.c_grammar.specs.Operators.{at, cast_level, conditional, assignment, expression, Joiner, joiner_mark, below, joined, Prefix, prefix_mark, operand_level, prefixed, Suffix, suffix_mark, suffixed, Assigner, assigner_mark, assigner_op}
+use Rattle.c_grammar.specs.Operators.{at, cast_level, conditional, assignment, expression, Joiner}
+use Rattle.c_grammar.specs.Operators.{joiner_mark, below, joined, Prefix, prefix_mark}
+use Rattle.c_grammar.specs.Operators.{operand_level, prefixed, Suffix, suffix_mark, suffixed}
+use Rattle.c_grammar.specs.Operators.{Assigner, assigner_mark, assigner_op}
 
 pub data Phrase : Type 0 where
   -- an expression of a level
@@ -21,42 +24,52 @@ pub data Spells (may : May) : Phrase → ℕ → Tokens → Tokens → Type 0 wh
   -- 6.5.1
   number : {l v d : ℕ} {k : Kind} {t : Tokens}
       → Spells may (expr 0 (at l (node.Number v k))) d (token l (form.Number v k) ∷ t) t
-  name : {l d : ℕ} {w : List ℕ} {t : Tokens} → Spells may (expr 0 (at l (node.Name w))) d (named l w ∷ t) t
+  name : {l d : ℕ} {w : List ℕ} {t : Tokens}
+      → Spells may (expr 0 (at l (node.Name w))) d (named l w ∷ t) t
   group : {l k d : ℕ} {e : Expr} {m t : Tokens} → may (punct l mark.LeftParen ∷ m) (suc d) ≡ true
       → Spells may (expr expression e) (suc d) m (punct k mark.RightParen ∷ t)
       → Spells may (expr 0 (at l (node.Group e))) d (punct l mark.LeftParen ∷ m) t
   -- 6.5.2.1
-  element : {l k k' d : ℕ} {w : List ℕ} {e : Expr} {m t : Tokens} → may (punct k mark.LeftBracket ∷ m) (suc d) ≡ true
+  element : {l k k' d : ℕ} {w : List ℕ} {e : Expr} {m t : Tokens}
+      → may (punct k mark.LeftBracket ∷ m) (suc d) ≡ true
       → Spells may (expr expression e) (suc d) m (punct k' mark.RightBracket ∷ t)
       → Spells may (expr 0 (at l (node.Element w e))) d (named l w ∷ punct k mark.LeftBracket ∷ m) t
   -- 6.5.2.2
-  call : {l k d : ℕ} {w : List ℕ} {es : List Expr} {m t : Tokens} → may (punct k mark.LeftParen ∷ m) (suc d) ≡ true
+  call : {l k d : ℕ} {w : List ℕ} {es : List Expr} {m t : Tokens}
+      → may (punct k mark.LeftParen ∷ m) (suc d) ≡ true
       → Spells may (args es) (suc d) m t
       → Spells may (expr 0 (at l (node.Call w es))) d (named l w ∷ punct k mark.LeftParen ∷ m) t
   none : {k d : ℕ} {t : Tokens} → Spells may (args []) d (punct k mark.RightParen ∷ t) t
-  some : {d : ℕ} {es : List Expr} {f t : Tokens} → Spells may (arg_list es) d f t → Spells may (args es) d f t
-  last : {k d : ℕ} {e : Expr} {f t : Tokens} → Spells may (expr assignment e) d f (punct k mark.RightParen ∷ t)
+  some : {d : ℕ} {es : List Expr} {f t : Tokens} → Spells may (arg_list es) d f t
+      → Spells may (args es) d f t
+  last : {k d : ℕ} {e : Expr} {f t : Tokens}
+      → Spells may (expr assignment e) d f (punct k mark.RightParen ∷ t)
       → Spells may (arg_list (e ∷ [])) d f t
   next : {k d : ℕ} {e : Expr} {es : List Expr} {f m t : Tokens}
       → Spells may (expr assignment e) d f (punct k mark.Comma ∷ m) → Spells may (arg_list es) d m t
       → Spells may (arg_list (e ∷ es)) d f t
   -- 6.5.2.4
-  suffix : {k d : ℕ} {e : Expr} {f t : Tokens} → (s : Suffix) → Spells may (expr 1 e) d f (punct k (suffix_mark s) ∷ t)
+  suffix : {k d : ℕ} {e : Expr} {f t : Tokens} → (s : Suffix)
+      → Spells may (expr 1 e) d f (punct k (suffix_mark s) ∷ t)
       → Spells may (expr 1 (suffixed s e)) d f t
   -- 6.5.3.1, 6.5.3.3
-  prefix : {l d : ℕ} {e : Expr} {m t : Tokens} → (p : Prefix) → may (punct l (prefix_mark p) ∷ m) (suc d) ≡ true
+  prefix : {l d : ℕ} {e : Expr} {m t : Tokens} → (p : Prefix)
+      → may (punct l (prefix_mark p) ∷ m) (suc d) ≡ true
       → Spells may (expr (operand_level p) e) (suc d) m t
       → Spells may (expr 2 (prefixed l p e)) d (punct l (prefix_mark p) ∷ m) t
   -- 6.5.4
-  cast : {l j k d : ℕ} {c : Kind} {e : Expr} {m u t : Tokens} → may (punct l mark.LeftParen ∷ m) (suc d) ≡ true
+  cast : {l j k d : ℕ} {c : Kind} {e : Expr} {m u t : Tokens}
+      → may (punct l mark.LeftParen ∷ m) (suc d) ≡ true
       → Types j c m (punct k mark.RightParen ∷ u) → Spells may (expr cast_level e) (suc d) u t
       → Spells may (expr cast_level (at l (node.Cast c e))) d (punct l mark.LeftParen ∷ m) t
   -- 6.5.5 to 6.5.14, 6.5.17
   join : {k d : ℕ} {a b : Expr} {f m t : Tokens} → (j : Joiner)
-      → Spells may (expr (suc (below j)) a) d f (punct k (joiner_mark j) ∷ m) → Spells may (expr (below j) b) d m t
+      → Spells may (expr (suc (below j)) a) d f (punct k (joiner_mark j) ∷ m)
+      → Spells may (expr (below j) b) d m t
       → Spells may (expr (suc (below j)) (joined j a b)) d f t
   -- 6.5.15
-  choice : {k k' d : ℕ} {a b c : Expr} {f m m' t : Tokens} → Spells may (expr 13 a) d f (punct k mark.Question ∷ m)
+  choice : {k k' d : ℕ} {a b c : Expr} {f m m' t : Tokens}
+      → Spells may (expr 13 a) d f (punct k mark.Question ∷ m)
       → may (punct k mark.Question ∷ m) (suc d) ≡ true
       → Spells may (expr expression b) (suc d) m (punct k' mark.Colon ∷ m')
       → Spells may (expr conditional c) (suc d) m' t
@@ -68,4 +81,5 @@ pub data Spells (may : May) : Phrase → ℕ → Tokens → Tokens → Type 0 wh
       → Spells may (expr assignment b) (suc d) m t
       → Spells may (expr assignment (at a.line (node.Assign (assigner_op s) a b))) d f t
   -- an expression of a level is one of each looser level
-  up : {n d : ℕ} {e : Expr} {f t : Tokens} → Spells may (expr n e) d f t → Spells may (expr (suc n) e) d f t
+  up : {n d : ℕ} {e : Expr} {f t : Tokens} → Spells may (expr n e) d f t
+      → Spells may (expr (suc n) e) d f t

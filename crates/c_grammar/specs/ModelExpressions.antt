@@ -1,5 +1,6 @@
 -- The model of the parser of expressions.
-use Rattle.std.specs.Prelude.{ℕ, zero, suc, Bool, true, false, nat_eq, if◌then◌else◌, List, [], ◌∷◌, length, Option, Some, None, Ok}
+use Rattle.std.specs.Prelude.{ℕ, zero, suc, Bool, true, false, nat_eq, if◌then◌else◌, List, [], ◌∷◌}
+use Rattle.std.specs.Prelude.{length, Option, Some, None, Ok}
 use Rattle.c_tree.specs.declared.token.Form.{Form}
 use Rattle.c_tree.specs.declared.token.Form.TheVariants as form
 use Rattle.c_tree.specs.declared.token.Mark.{Mark}
@@ -11,8 +12,13 @@ use Rattle.c_tree.specs.declared.tree.ExprNode.{ExprNode, out-ExprNode}
 use Rattle.c_tree.specs.declared.tree.ExprNode.TheVariants as node
 use Rattle.c_tree.specs.declared.tree.ExprNode.TheOpen.{ExprNode-F}
 use Rattle.c_grammar.specs.Tokens.{Tokens}
-use Rattle.c_grammar.specs.Operators.{at, binary_level, Joiner, op, comma, below, joined, Prefix, sign, increase, decrease, prefix_mark, prefixed, Suffix, increased, decreased, suffixed, Assigner, simple, times, over, modulo, plus, minus, left, right, and, xor, or, assigner_mark, assigner_op}
-use Rattle.c_grammar.specs.Parsing.{Out, and_then, syntax, too_deep, by_option, tail, line_of, first, is_next, expect, name_of, listed}
+use Rattle.c_grammar.specs.Operators.{at, binary_level, Joiner, op, comma, below, joined, Prefix}
+use Rattle.c_grammar.specs.Operators.{sign, increase, decrease, prefix_mark, prefixed, Suffix}
+use Rattle.c_grammar.specs.Operators.{increased, decreased, suffixed, Assigner, simple, times, over}
+use Rattle.c_grammar.specs.Operators.{modulo, plus, minus, left, right, and, xor, or, assigner_mark}
+use Rattle.c_grammar.specs.Operators.{assigner_op}
+use Rattle.c_grammar.specs.Parsing.{Out, and_then, syntax, too_deep, by_option, tail, line_of}
+use Rattle.c_grammar.specs.Parsing.{first, is_next, expect, name_of, listed}
 use Rattle.c_grammar.specs.ModelTypes.{begins_type, type_of}
 
 -- what stands one deeper, if it may
@@ -27,7 +33,8 @@ pub record Nested : Type 0 where
 -- takes a mark that opens a depth
 abbrev pub enter : Mark → Nested → Tokens → Out ℕ
 enter k nested ts =
-    if is_next k ts then if nested.allowed then Ok (line_of ts, tail ts) else too_deep ts else syntax ts
+    if is_next k ts then if nested.allowed then Ok
+    (line_of ts, tail ts) else too_deep ts else syntax ts
 
 abbrev pub is_name : Form → Bool
 is_name (form.Name w) = true
@@ -124,11 +131,13 @@ assigner_for a f = if is_unary a then assigner_of f else None
 abbrev pub loop : (Tokens → Out Expr) → ℕ → ℕ → Expr → Tokens → Out Expr
 loop inner k zero a ts = Ok (a, ts)
 loop inner k (suc n) a ts =
-    by_option (seen (joiner k) ts) (Ok (a, ts)) (λ j. and_then (inner (tail ts)) (λ b ts. loop inner k n (joined j a b) ts))
+    by_option (seen (joiner k) ts) (Ok (a, ts))
+    (λ j. and_then (inner (tail ts)) (λ b ts. loop inner k n (joined j a b) ts))
 
 abbrev pub suffixes : ℕ → Expr → Tokens → Out Expr
 suffixes zero a ts = Ok (a, ts)
-suffixes (suc n) a ts = by_option (seen suffix_of ts) (Ok (a, ts)) (λ s. suffixes n (suffixed s a) (tail ts))
+suffixes (suc n) a ts = by_option (seen suffix_of ts) (Ok (a, ts))
+    (λ s. suffixes n (suffixed s a) (tail ts))
 
 abbrev pub is_cast : Tokens → Bool
 is_cast ts = if is_next mark.LeftParen ts then begins_type (tail ts) else false
@@ -204,7 +213,8 @@ module _ (nested : Nested) where
   -- so many levels of binary operators above a cast
   unfoldable pub binary_of : ℕ → Tokens → Out Expr
   binary_of zero ts = cast_of ts
-  binary_of (suc n) ts = and_then (binary_of n ts) (λ a ts. loop (binary_of n) (binary_level n) (length ts) a ts)
+  binary_of (suc n) ts = and_then (binary_of n ts)
+      (λ a ts. loop (binary_of n) (binary_level n) (length ts) a ts)
 
   unfoldable pub chosen_of : Expr → Tokens → Out Expr
   chosen_of a ts =
@@ -223,7 +233,8 @@ module _ (nested : Nested) where
   unfoldable pub assigned_of : Assigner → Expr → Tokens → Out Expr
   assigned_of s a ts =
       and_then (enter (assigner_mark s) nested ts) (λ _ ts.
-      and_then (nested.assignment ts) (λ b ts. Ok (at a.line (node.Assign (assigner_op s) a b), ts)))
+      and_then (nested.assignment ts) (λ b ts. Ok
+      (at a.line (node.Assign (assigner_op s) a b), ts)))
 
   -- `a`, or an assignment to it
   unfoldable pub assign_from : Expr → Tokens → Out Expr

@@ -1,5 +1,6 @@
 -- The model of the parser of statements.
-use Rattle.std.specs.Prelude.{ℕ, zero, suc, Bool, true, false, if◌then◌else◌, List, [], ◌∷◌, length, Option, Some, None, Ok}
+use Rattle.std.specs.Prelude.{ℕ, zero, suc, Bool, true, false, if◌then◌else◌, List, [], ◌∷◌, length}
+use Rattle.std.specs.Prelude.{Option, Some, None, Ok}
 use Rattle.c_tree.specs.declared.token.Form.{Form}
 use Rattle.c_tree.specs.declared.token.Form.TheVariants as form
 use Rattle.c_tree.specs.declared.token.Mark.TheVariants as mark
@@ -14,10 +15,13 @@ use Rattle.c_tree.specs.declared.tree.StmtNode.TheVariants as node
 use Rattle.c_tree.specs.declared.tree.ForInit.{ForInit}
 use Rattle.c_tree.specs.declared.tree.ForInit.TheVariants as inits
 use Rattle.c_grammar.specs.Tokens.{Tokens}
-use Rattle.c_grammar.specs.Statements.{at, Shape, declared, Closer, semicolon, paren, closer_mark, for_init}
-use Rattle.c_grammar.specs.Parsing.{Out, and_then, syntax, too_deep, first, is_next, is_word, expect, expect_word, name_of, listed, many}
+use Rattle.c_grammar.specs.Statements.{at, Shape, declared, Closer, semicolon, paren, closer_mark}
+use Rattle.c_grammar.specs.Statements.{for_init}
+use Rattle.c_grammar.specs.Parsing.{Out, and_then, syntax, too_deep, first, is_next, is_word}
+use Rattle.c_grammar.specs.Parsing.{expect, expect_word, name_of, listed, many}
 use Rattle.c_grammar.specs.ModelTypes.{begins_type, type_of}
-use Rattle.c_grammar.specs.ModelExpressions.{Nested, inside, expression_of, assignment_of, conditional_of}
+use Rattle.c_grammar.specs.ModelExpressions.{Nested, inside, expression_of, assignment_of}
+use Rattle.c_grammar.specs.ModelExpressions.{conditional_of}
 
 -- can an expression begin with it?
 abbrev pub begins_expression : Form → Bool
@@ -56,7 +60,8 @@ module _ (nested : Nested) where
 
   unfoldable pub given_of : Closer → Tokens → Out (Option Expr)
   given_of c ts =
-      and_then (expression_of nested ts) (λ e ts. and_then (expect (closer_mark c) ts) (λ _ ts. Ok (Some e, ts)))
+      and_then (expression_of nested ts) (λ e ts. and_then (expect (closer_mark c) ts)
+      (λ _ ts. Ok (Some e, ts)))
 
   unfoldable pub until_of : Closer → Tokens → Out (Option Expr)
   until_of c ts = if is_next (closer_mark c) ts then absent_of c ts else given_of c ts
@@ -85,7 +90,8 @@ module _ (nested : Nested) where
       else Ok ((size.Scalar, None), ts)
 
   unfoldable pub decl_of : Kind → Tokens → Out Stmt
-  decl_of k ts = and_then (name_of ts) (λ n ts. and_then (shape_of ts) (λ s ts. Ok (declared n.0 k n.1 s, ts)))
+  decl_of k ts = and_then (name_of ts) (λ n ts. and_then (shape_of ts)
+      (λ s ts. Ok (declared n.0 k n.1 s, ts)))
 
   unfoldable pub decls_of : Kind → Tokens → Out (List Stmt)
   decls_of k ts = listed mark.Semicolon false (decl_of k) (suc (length ts)) ts
@@ -118,7 +124,8 @@ module _ (nested : Nested) where
         and_then (below.inner ts) (λ nay ts. Ok (at l (node.If c aye (Some nay)), ts)))
 
     unfoldable pub no_of : ℕ → Expr → Stmt → Tokens → Out Stmt
-    no_of l c aye ts = if is_word key.Else ts then else_of l c aye ts else Ok (at l (node.If c aye None), ts)
+    no_of l c aye ts = if is_word key.Else ts then else_of l c aye ts else Ok
+        (at l (node.If c aye None), ts)
 
     unfoldable pub if_of : Tokens → Out Stmt
     if_of ts =
@@ -128,7 +135,8 @@ module _ (nested : Nested) where
     unfoldable pub while_of : Tokens → Out Stmt
     while_of ts =
         and_then (expect_word key.While ts) (λ l ts.
-        and_then (test_of ts) (λ c ts. and_then (below.inner ts) (λ s ts. Ok (at l (node.While c s), ts))))
+        and_then (test_of ts) (λ c ts. and_then (below.inner ts)
+        (λ s ts. Ok (at l (node.While c s), ts))))
 
     unfoldable pub do_of : Tokens → Out Stmt
     do_of ts =
@@ -148,18 +156,21 @@ module _ (nested : Nested) where
         and_then (below.inner ts) (λ s ts. Ok (at l (node.For i o o' s), ts)))))))
 
     unfoldable pub leave_of : Key → StmtNode → Tokens → Out Stmt
-    leave_of k n ts = and_then (expect_word k ts) (λ l ts. and_then (expect mark.Semicolon ts) (λ _ ts. Ok (at l n, ts)))
+    leave_of k n ts = and_then (expect_word k ts)
+        (λ l ts. and_then (expect mark.Semicolon ts) (λ _ ts. Ok (at l n, ts)))
 
     unfoldable pub return_of : Tokens → Out Stmt
     return_of ts =
-        and_then (expect_word key.Return ts) (λ l ts. and_then (until_of semicolon ts) (λ o ts. Ok (at l (node.Return o), ts)))
+        and_then (expect_word key.Return ts)
+        (λ l ts. and_then (until_of semicolon ts) (λ o ts. Ok (at l (node.Return o), ts)))
 
     unfoldable pub empty_of : Tokens → Out Stmt
     empty_of ts = and_then (expect mark.Semicolon ts) (λ l ts. Ok (at l (node.Plain None), ts))
 
     unfoldable pub compound_of : Tokens → Out Stmt
     compound_of ts =
-        and_then (expect mark.LeftBrace ts) (λ l ts. and_then (entries_of ts) (λ ss ts. Ok (at l (node.Compound ss), ts)))
+        and_then (expect mark.LeftBrace ts)
+        (λ l ts. and_then (entries_of ts) (λ ss ts. Ok (at l (node.Compound ss), ts)))
 
     unfoldable pub plain_of : Tokens → Out Stmt
     plain_of ts =

@@ -20,7 +20,8 @@ begins_type ts = first is_type ts
 
 -- an `int` that may be left out; the line and the type are known
 unfoldable pub int_of : ℕ → Kind → Tokens → Out (ℕ × Kind)
-int_of l k ts = if is_word key.Int ts then and_then (expect_word key.Int ts) (λ _ ts. Ok ((l, k), ts)) else Ok ((l, k), ts)
+int_of l k ts = if is_word key.Int ts then and_then (expect_word key.Int ts)
+    (λ _ ts. Ok ((l, k), ts)) else Ok ((l, k), ts)
 
 unfoldable pub char_of : ℕ → Kind → Tokens → Out (ℕ × Kind)
 char_of l k ts = and_then (expect_word key.Char ts) (λ _ ts. Ok ((l, k), ts))
@@ -31,13 +32,16 @@ long_of l k ts = and_then (expect_word key.Long ts) (λ _ ts. int_of l k ts)
 -- behind `signed` or `unsigned`, the types with `char`, `int` and `long`
 unfoldable pub sized_of : ℕ → Kind → Kind → Kind → Tokens → Out (ℕ × Kind)
 sized_of l c i g ts =
-    if is_word key.Char ts then char_of l c ts else if is_word key.Long ts then long_of l g ts else int_of l i ts
+    if is_word key.Char ts then char_of l c ts else if is_word key.Long ts then long_of l g ts else
+    int_of l i ts
 
 unfoldable pub signed_of : Tokens → Out (ℕ × Kind)
-signed_of ts = and_then (expect_word key.Signed ts) (λ l ts. sized_of l kind.Char kind.Int kind.Long ts)
+signed_of ts = and_then (expect_word key.Signed ts)
+    (λ l ts. sized_of l kind.Char kind.Int kind.Long ts)
 
 unfoldable pub unsigned_of : Tokens → Out (ℕ × Kind)
-unsigned_of ts = and_then (expect_word key.Unsigned ts) (λ l ts. sized_of l kind.UChar kind.UInt kind.ULong ts)
+unsigned_of ts = and_then (expect_word key.Unsigned ts)
+    (λ l ts. sized_of l kind.UChar kind.UInt kind.ULong ts)
 
 unfoldable pub plain_of : Key → Kind → Tokens → Out (ℕ × Kind)
 plain_of w k ts = and_then (expect_word w ts) (λ l ts. Ok ((l, k), ts))

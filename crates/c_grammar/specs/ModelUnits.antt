@@ -1,5 +1,6 @@
 -- The model of the parser of translation units.
-use Rattle.std.specs.Prelude.{ℕ, suc, Bool, true, false, if◌then◌else◌, List, [], ◌∷◌, length, Option, Some, None, Ok}
+use Rattle.std.specs.Prelude.{ℕ, suc, Bool, true, false, if◌then◌else◌, List, [], ◌∷◌, length}
+use Rattle.std.specs.Prelude.{Option, Some, None, Ok}
 use Rattle.c_tree.specs.declared.token.Form.{Form}
 use Rattle.c_tree.specs.declared.token.Form.TheVariants as form
 use Rattle.c_tree.specs.declared.token.Mark.TheVariants as mark
@@ -14,7 +15,8 @@ use Rattle.c_tree.specs.declared.tree.Top.{Top}
 use Rattle.c_tree.specs.declared.tree.TopNode.TheVariants as tops
 use Rattle.c_grammar.specs.Tokens.{Tokens}
 use Rattle.c_grammar.specs.Units.{at, Shape, global, function, Label, parameter}
-use Rattle.c_grammar.specs.Parsing.{Out, and_then, syntax, tail, line_of, first, is_next, is_word, expect, expect_word, name_of, listed, listed_on, to_end}
+use Rattle.c_grammar.specs.Parsing.{Out, and_then, syntax, tail, line_of, first, is_next, is_word}
+use Rattle.c_grammar.specs.Parsing.{expect, expect_word, name_of, listed, listed_on, to_end}
 use Rattle.c_grammar.specs.ModelTypes.{type_of}
 use Rattle.c_grammar.specs.ModelExpressions.{Nested, inside, is_name, conditional_of}
 use Rattle.c_grammar.specs.ModelStatements.{below_at, compound_of}
@@ -24,10 +26,12 @@ is_include form.Include = true
 is_include _ = false
 
 unfoldable pub include_of : Tokens → Out (List Top)
-include_of ts = if first is_include ts then Ok (at (line_of ts) tops.Include ∷ [], tail ts) else syntax ts
+include_of ts = if first is_include ts then Ok
+    (at (line_of ts) tops.Include ∷ [], tail ts) else syntax ts
 
 unfoldable pub label_of : ℕ → Tokens → Out Label
-label_of l ts = if first is_name ts then and_then (name_of ts) (λ n ts. Ok ((n.0, Some (n.1)), ts)) else Ok ((l, None), ts)
+label_of l ts = if first is_name ts then and_then (name_of ts)
+    (λ n ts. Ok ((n.0, Some (n.1)), ts)) else Ok ((l, None), ts)
 
 abbrev pub or_sized : ArraySize → Tokens → Out Shape
 or_sized sizes.Scalar ts = syntax ts
@@ -44,7 +48,8 @@ module _ (nested : Nested) where
 
   unfoldable pub some_size_of : Tokens → Out ArraySize
   some_size_of ts =
-      and_then (conditional_of nested ts) (λ e ts. and_then (expect mark.RightBracket ts) (λ _ ts. Ok (sizes.Sized e, ts)))
+      and_then (conditional_of nested ts)
+      (λ e ts. and_then (expect mark.RightBracket ts) (λ _ ts. Ok (sizes.Sized e, ts)))
 
   unfoldable pub size_of : Tokens → Out ArraySize
   size_of ts = if is_next mark.RightBracket ts then no_size_of ts else some_size_of ts
@@ -62,7 +67,8 @@ module _ (nested : Nested) where
   after_size a ts = if is_next mark.Assign ts then filled_of a ts else or_sized a ts
 
   unfoldable pub array_of : Tokens → Out Shape
-  array_of ts = and_then (expect mark.LeftBracket ts) (λ _ ts. and_then (size_of ts) (λ a ts. after_size a ts))
+  array_of ts = and_then (expect mark.LeftBracket ts)
+      (λ _ ts. and_then (size_of ts) (λ a ts. after_size a ts))
 
   unfoldable pub valued_of : Tokens → Out Shape
   valued_of ts =
@@ -76,7 +82,8 @@ module _ (nested : Nested) where
       else Ok ((sizes.Scalar, []), ts)
 
   unfoldable pub global_of : Kind → Tokens → Out Top
-  global_of k ts = and_then (name_of ts) (λ n ts. and_then (shape_of ts) (λ s ts. Ok (global n.0 k n.1 s, ts)))
+  global_of k ts = and_then (name_of ts) (λ n ts. and_then (shape_of ts)
+      (λ s ts. Ok (global n.0 k n.1 s, ts)))
 
   -- behind the first one
   unfoldable pub more_globals_of : Kind → Top → Tokens → Out (List Top)
@@ -90,7 +97,8 @@ module _ (nested : Nested) where
   some_brackets_of ts = and_then (expect mark.LeftBracket ts) (λ _ ts. size_of ts)
 
   unfoldable pub brackets_of : Tokens → Out ArraySize
-  brackets_of ts = if is_next mark.LeftBracket ts then some_brackets_of ts else Ok (sizes.Scalar, ts)
+  brackets_of ts = if is_next mark.LeftBracket ts then some_brackets_of ts else Ok
+      (sizes.Scalar, ts)
 
   unfoldable pub param_of : Tokens → Out Param
   param_of ts =
@@ -118,10 +126,12 @@ module _ (nested : Nested) where
     defined_of r l w ps ts = and_then (body ts) (λ b ts. Ok (function l r w ps (Some b), ts))
 
     unfoldable pub declared_of : Option Kind → ℕ → List ℕ → List Param → Tokens → Out Top
-    declared_of r l w ps ts = and_then (expect mark.Semicolon ts) (λ _ ts. Ok (function l r w ps None, ts))
+    declared_of r l w ps ts = and_then (expect mark.Semicolon ts)
+        (λ _ ts. Ok (function l r w ps None, ts))
 
     unfoldable pub rest_of : Option Kind → ℕ → List ℕ → List Param → Tokens → Out Top
-    rest_of r l w ps ts = if is_next mark.LeftBrace ts then defined_of r l w ps ts else declared_of r l w ps ts
+    rest_of r l w ps ts = if is_next mark.LeftBrace ts then defined_of r l w ps ts else declared_of
+        r l w ps ts
 
     -- behind a function's name
     unfoldable pub func_of : Option Kind → ℕ → List ℕ → Tokens → Out (List Top)
@@ -131,14 +141,17 @@ module _ (nested : Nested) where
         and_then (rest_of r l w ps ts) (λ x ts. Ok (x ∷ [], ts))))
 
     unfoldable pub after_name : Kind → ℕ → List ℕ → Tokens → Out (List Top)
-    after_name k l w ts = if is_next mark.LeftParen ts then func_of (Some k) l w ts else globals_of k l w ts
+    after_name k l w ts = if is_next mark.LeftParen ts then func_of
+        (Some k) l w ts else globals_of k l w ts
 
     unfoldable pub void_item_of : Tokens → Out (List Top)
     void_item_of ts =
-        and_then (expect_word key.Void ts) (λ _ ts. and_then (name_of ts) (λ n ts. func_of None n.0 n.1 ts))
+        and_then (expect_word key.Void ts)
+        (λ _ ts. and_then (name_of ts) (λ n ts. func_of None n.0 n.1 ts))
 
     unfoldable pub typed_item_of : Tokens → Out (List Top)
-    typed_item_of ts = and_then (type_of ts) (λ k ts. and_then (name_of ts) (λ n ts. after_name k.1 n.0 n.1 ts))
+    typed_item_of ts = and_then (type_of ts)
+        (λ k ts. and_then (name_of ts) (λ n ts. after_name k.1 n.0 n.1 ts))
 
     unfoldable pub item_of : Tokens → Out (List Top)
     item_of ts =
@@ -148,4 +161,5 @@ module _ (nested : Nested) where
 
 -- where so many depths may be opened in a function's body, which has depth 1 itself
 unfoldable pub unit_of : ℕ → Tokens → Out (List Top)
-unit_of n ts = to_end (item_of (inside (suc n)) (compound_of (inside n) (below_at n))) (suc (length ts)) ts
+unit_of n ts = to_end (item_of (inside (suc n)) (compound_of (inside n) (below_at n)))
+    (suc (length ts)) ts

@@ -11,8 +11,8 @@ use Rattle.c_tree.specs.declared.tree.Expr.{Expr}
 use Rattle.c_tree.specs.declared.tree.ExprNode.{ExprNode}
 use Rattle.c_tree.specs.declared.tree.ExprNode.TheVariants as node
 
--- Levels of an expression, from the tightest: 0 primary, 1 postfix, 2 unary, 3 cast, 4 to 13 the binary
--- operators from `*` to `||`, 14 conditional, 15 assignment, 16 comma.
+-- Levels of an expression, from the tightest: 0 primary, 1 postfix, 2 unary, 3 cast, 4 to 13 the
+-- binary operators from `*` to `||`, 14 conditional, 15 assignment, 16 comma.
 abbrev pub unary_level : ℕ
 unary_level = 2
 

@@ -1,5 +1,5 @@
--- Which token lists are accepted, and where the fault of any other stands; for any relation that says what
--- spells a whole text.
+-- Which token lists are accepted, and where the fault of any other stands; for any relation that
+-- says what spells a whole text.
 use Rattle.std.specs.Prelude.{◌≡◌, ℕ, Bool, true, false, [], ◌∷◌, ◌++◌, Ok, Err}
 use Rattle.c_tree.specs.declared.token.Lexeme.{Lexeme}
 use Rattle.c_grammar.specs.Tokens.{Tokens, May, within, before, late, any_depth}

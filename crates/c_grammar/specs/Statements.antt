@@ -1,5 +1,6 @@
 -- What token lists spell which statements and local declarations (C17 6.7, 6.8).
-use Rattle.std.specs.Prelude.{◌≡◌, ℕ, suc, Bool, true, false, List, [], ◌∷◌, ◌++◌, Option, Some, None}
+use Rattle.std.specs.Prelude.{◌≡◌, ℕ, suc, Bool, true, false, List, [], ◌∷◌, ◌++◌, Option, Some}
+use Rattle.std.specs.Prelude.{None}
 use Rattle.c_tree.specs.declared.token.Mark.{Mark}
 use Rattle.c_tree.specs.declared.token.Mark.TheVariants as mark
 use Rattle.c_tree.specs.declared.token.Key.TheVariants as key
@@ -63,16 +64,20 @@ pub data Phrase : Type 0 where
 
 -- The tokens from the first list up to the second spell the phrase, which stands at this depth.
 pub data Writes (may : May) : Phrase → ℕ → Tokens → Tokens → Type 0 where
-  absent : {k d : ℕ} {t : Tokens} → (c : Closer) → Writes may (until c None) d (punct k (closer_mark c) ∷ t) t
+  absent : {k d : ℕ} {t : Tokens} → (c : Closer)
+      → Writes may (until c None) d (punct k (closer_mark c) ∷ t) t
   given : {k d : ℕ} {e : Expr} {f t : Tokens} → (c : Closer)
-      → Spells may (expr expression e) d f (punct k (closer_mark c) ∷ t) → Writes may (until c (Some e)) d f t
-  tested : {k k' d : ℕ} {e : Expr} {m t : Tokens} → Spells may (expr expression e) d m (punct k' mark.RightParen ∷ t)
+      → Spells may (expr expression e) d f (punct k (closer_mark c) ∷ t)
+      → Writes may (until c (Some e)) d f t
+  tested : {k k' d : ℕ} {e : Expr} {m t : Tokens}
+      → Spells may (expr expression e) d m (punct k' mark.RightParen ∷ t)
       → Writes may (test e) d (punct k mark.LeftParen ∷ m) t
   -- 6.7.6, 6.7.9
   bare : {d : ℕ} {t : Tokens} → Writes may (shape (size.Scalar, None)) d t t
   value : {k d : ℕ} {e : Expr} {m t : Tokens} → Spells may (expr assignment e) d m t
       → Writes may (shape (size.Scalar, Some e)) d (punct k mark.Assign ∷ m) t
-  array : {k k' d : ℕ} {e : Expr} {m t : Tokens} → Spells may (expr conditional e) d m (punct k' mark.RightBracket ∷ t)
+  array : {k k' d : ℕ} {e : Expr} {m t : Tokens}
+      → Spells may (expr conditional e) d m (punct k' mark.RightBracket ∷ t)
       → Writes may (shape (size.Sized e, None)) d (punct k mark.LeftBracket ∷ m) t
   last_decl : {l j d : ℕ} {k : Kind} {w : List ℕ} {s : Shape} {m t : Tokens}
       → Writes may (shape s) d m (punct j mark.Semicolon ∷ t)
@@ -80,49 +85,64 @@ pub data Writes (may : May) : Phrase → ℕ → Tokens → Tokens → Type 0 wh
   next_decl : {l j d : ℕ} {k : Kind} {w : List ℕ} {s : Shape} {ss : List Stmt} {m m' t : Tokens}
       → Writes may (shape s) d m (punct j mark.Comma ∷ m') → Writes may (decls k ss) d m' t
       → Writes may (decls k (declared l k w s ∷ ss)) d (named l w ∷ m) t
-  declaration : {l d : ℕ} {k : Kind} {ss : List Stmt} {f m t : Tokens} → Types l k f m → Writes may (decls k ss) d m t
+  declaration : {l d : ℕ} {k : Kind} {ss : List Stmt} {f m t : Tokens} → Types l k f m
+      → Writes may (decls k ss) d m t
       → Writes may (locals ss) d f t
-  inner_is : {d : ℕ} {b : Bool} {s : Stmt} {f t : Tokens} → may f (suc d) ≡ true → Writes may (stmt b s) (suc d) f t
+  inner_is : {d : ℕ} {b : Bool} {s : Stmt} {f t : Tokens} → may f (suc d) ≡ true
+      → Writes may (stmt b s) (suc d) f t
       → Writes may (inner b s) d f t
   -- 6.8.2
   entry_stmt : {d : ℕ} {b : Bool} {s : Stmt} {f t : Tokens} → Writes may (inner b s) d f t
       → Writes may (entry (s ∷ [])) d f t
-  entry_local : {d : ℕ} {ss : List Stmt} {f t : Tokens} → may f (suc d) ≡ true → Writes may (locals ss) (suc d) f t
+  entry_local : {d : ℕ} {ss : List Stmt} {f t : Tokens} → may f (suc d) ≡ true
+      → Writes may (locals ss) (suc d) f t
       → Writes may (entry ss) d f t
   stop : {k d : ℕ} {t : Tokens} → Writes may (entries []) d (punct k mark.RightBrace ∷ t) t
-  go : {d : ℕ} {ss rest : List Stmt} {f m t : Tokens} → Writes may (entry ss) d f m → Writes may (entries rest) d m t
+  go : {d : ℕ} {ss rest : List Stmt} {f m t : Tokens} → Writes may (entry ss) d f m
+      → Writes may (entries rest) d m t
       → Writes may (entries (ss ++ rest)) d f t
   compound : {l d : ℕ} {ss : List Stmt} {m t : Tokens} → Writes may (entries ss) d m t
       → Writes may (stmt false (at l (node.Compound ss))) d (punct l mark.LeftBrace ∷ m) t
   -- 6.8.3
-  empty : {l d : ℕ} {t : Tokens} → Writes may (stmt false (at l (node.Plain None))) d (punct l mark.Semicolon ∷ t) t
-  plain : {k d : ℕ} {e : Expr} {f t : Tokens} → Spells may (expr expression e) d f (punct k mark.Semicolon ∷ t)
+  empty : {l d : ℕ} {t : Tokens} → Writes may (stmt false (at l (node.Plain None))) d
+      (punct l mark.Semicolon ∷ t) t
+  plain : {k d : ℕ} {e : Expr} {f t : Tokens}
+      → Spells may (expr expression e) d f (punct k mark.Semicolon ∷ t)
       → Writes may (stmt false (at e.line (node.Plain (Some e)))) d f t
   -- 6.8.4.1
-  if_only : {l d : ℕ} {b : Bool} {c : Expr} {aye : Stmt} {m m' t : Tokens} → Writes may (test c) d m m'
+  if_only : {l d : ℕ} {b : Bool} {c : Expr} {aye : Stmt} {m m' t : Tokens}
+      → Writes may (test c) d m m'
       → Writes may (inner b aye) d m' t
       → Writes may (stmt true (at l (node.If c aye None))) d (word l key.If ∷ m) t
-  if_else : {l k d : ℕ} {b : Bool} {c : Expr} {aye nay : Stmt} {m m' m'' t : Tokens} → Writes may (test c) d m m'
+  if_else : {l k d : ℕ} {b : Bool} {c : Expr} {aye nay : Stmt} {m m' m'' t : Tokens}
+      → Writes may (test c) d m m'
       → Writes may (inner false aye) d m' (word k key.Else ∷ m'') → Writes may (inner b nay) d m'' t
       → Writes may (stmt b (at l (node.If c aye (Some nay)))) d (word l key.If ∷ m) t
   -- 6.8.5
   while : {l d : ℕ} {b : Bool} {c : Expr} {s : Stmt} {m m' t : Tokens} → Writes may (test c) d m m'
-      → Writes may (inner b s) d m' t → Writes may (stmt b (at l (node.While c s))) d (word l key.While ∷ m) t
+      → Writes may (inner b s) d m' t → Writes may (stmt b (at l (node.While c s))) d
+      (word l key.While ∷ m) t
   repeat : {l k k' d : ℕ} {b : Bool} {c : Expr} {s : Stmt} {m m' t : Tokens}
-      → Writes may (inner b s) d m (word k key.While ∷ m') → Writes may (test c) d m' (punct k' mark.Semicolon ∷ t)
+      → Writes may (inner b s) d m (word k key.While ∷ m')
+      → Writes may (test c) d m' (punct k' mark.Semicolon ∷ t)
       → Writes may (stmt false (at l (node.Do s c))) d (word l key.Do ∷ m) t
-  init_local : {d : ℕ} {ss : List Stmt} {f t : Tokens} → may f (suc d) ≡ true → Writes may (locals ss) (suc d) f t
+  init_local : {d : ℕ} {ss : List Stmt} {f t : Tokens} → may f (suc d) ≡ true
+      → Writes may (locals ss) (suc d) f t
       → Writes may (init (first.Locals ss)) d f t
   init_plain : {d : ℕ} {o : Option Expr} {f t : Tokens} → Writes may (until semicolon o) d f t
       → Writes may (init (for_init o)) d f t
   for : {l k d : ℕ} {b : Bool} {i : ForInit} {s : Stmt} {o o' : Option Expr} {m m1 m2 m3 t : Tokens}
-      → Writes may (init i) d m m1 → Writes may (until semicolon o) d m1 m2 → Writes may (until paren o') d m2 m3
+      → Writes may (init i) d m m1 → Writes may (until semicolon o) d m1 m2
+      → Writes may (until paren o') d m2 m3
       → Writes may (inner b s) d m3 t
-      → Writes may (stmt b (at l (node.For i o o' s))) d (word l key.For ∷ punct k mark.LeftParen ∷ m) t
+      → Writes may (stmt b (at l (node.For i o o' s))) d
+      (word l key.For ∷ punct k mark.LeftParen ∷ m) t
   -- 6.8.6
   break : {l k d : ℕ} {t : Tokens}
-      → Writes may (stmt false (at l node.Break)) d (word l key.Break ∷ punct k mark.Semicolon ∷ t) t
+      → Writes may (stmt false (at l node.Break)) d
+      (word l key.Break ∷ punct k mark.Semicolon ∷ t) t
   continue : {l k d : ℕ} {t : Tokens}
-      → Writes may (stmt false (at l node.Continue)) d (word l key.Continue ∷ punct k mark.Semicolon ∷ t) t
+      → Writes may (stmt false (at l node.Continue)) d
+      (word l key.Continue ∷ punct k mark.Semicolon ∷ t) t
   return : {l d : ℕ} {o : Option Expr} {m t : Tokens} → Writes may (until semicolon o) d m t
       → Writes may (stmt false (at l (node.Return o))) d (word l key.Return ∷ m) t

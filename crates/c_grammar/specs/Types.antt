@@ -8,18 +8,23 @@ use Rattle.c_grammar.specs.Tokens.{Tokens, word}
 -- the tokens from the first list up to the second name the type
 pub data Types : ℕ → Kind → Tokens → Tokens → Type 0 where
   char : {l : ℕ} {t : Tokens} → Types l kind.Char (word l key.Char ∷ t) t
-  signed_char : {l k : ℕ} {t : Tokens} → Types l kind.Char (word l key.Signed ∷ word k key.Char ∷ t) t
-  unsigned_char : {l k : ℕ} {t : Tokens} → Types l kind.UChar (word l key.Unsigned ∷ word k key.Char ∷ t) t
+  signed_char : {l k : ℕ} {t : Tokens} → Types l kind.Char
+      (word l key.Signed ∷ word k key.Char ∷ t) t
+  unsigned_char : {l k : ℕ} {t : Tokens} → Types l kind.UChar
+      (word l key.Unsigned ∷ word k key.Char ∷ t) t
   int : {l : ℕ} {t : Tokens} → Types l kind.Int (word l key.Int ∷ t) t
   signed : {l : ℕ} {t : Tokens} → Types l kind.Int (word l key.Signed ∷ t) t
   signed_int : {l k : ℕ} {t : Tokens} → Types l kind.Int (word l key.Signed ∷ word k key.Int ∷ t) t
   unsigned : {l : ℕ} {t : Tokens} → Types l kind.UInt (word l key.Unsigned ∷ t) t
-  unsigned_int : {l k : ℕ} {t : Tokens} → Types l kind.UInt (word l key.Unsigned ∷ word k key.Int ∷ t) t
+  unsigned_int : {l k : ℕ} {t : Tokens} → Types l kind.UInt
+      (word l key.Unsigned ∷ word k key.Int ∷ t) t
   long : {l : ℕ} {t : Tokens} → Types l kind.Long (word l key.Long ∷ t) t
   long_int : {l k : ℕ} {t : Tokens} → Types l kind.Long (word l key.Long ∷ word k key.Int ∷ t) t
-  signed_long : {l k : ℕ} {t : Tokens} → Types l kind.Long (word l key.Signed ∷ word k key.Long ∷ t) t
+  signed_long : {l k : ℕ} {t : Tokens} → Types l kind.Long
+      (word l key.Signed ∷ word k key.Long ∷ t) t
   signed_long_int : {l k j : ℕ} {t : Tokens}
       → Types l kind.Long (word l key.Signed ∷ word k key.Long ∷ word j key.Int ∷ t) t
-  unsigned_long : {l k : ℕ} {t : Tokens} → Types l kind.ULong (word l key.Unsigned ∷ word k key.Long ∷ t) t
+  unsigned_long : {l k : ℕ} {t : Tokens} → Types l kind.ULong
+      (word l key.Unsigned ∷ word k key.Long ∷ t) t
   unsigned_long_int : {l k j : ℕ} {t : Tokens}
       → Types l kind.ULong (word l key.Unsigned ∷ word k key.Long ∷ word j key.Int ∷ t) t

@@ -67,10 +67,12 @@ pub data Phrase : Type 0 where
 pub data Units (may : May) : Phrase → Tokens → Tokens → Type 0 where
   -- 6.7.6.2
   no_size : {k : ℕ} {t : Tokens} → Units may (size sizes.Open) (punct k mark.RightBracket ∷ t) t
-  some_size : {k : ℕ} {e : Expr} {f t : Tokens} → Spells may (expr conditional e) 0 f (punct k mark.RightBracket ∷ t)
+  some_size : {k : ℕ} {e : Expr} {f t : Tokens}
+      → Spells may (expr conditional e) 0 f (punct k mark.RightBracket ∷ t)
       → Units may (size (sizes.Sized e)) f t
   -- 6.7.9
-  last_value : {k : ℕ} {e : Expr} {f t : Tokens} → Spells may (expr conditional e) 0 f (punct k mark.RightBrace ∷ t)
+  last_value : {k : ℕ} {e : Expr} {f t : Tokens}
+      → Spells may (expr conditional e) 0 f (punct k mark.RightBrace ∷ t)
       → Units may (values (e ∷ [])) f t
   last_comma : {k k' : ℕ} {e : Expr} {f t : Tokens}
       → Spells may (expr conditional e) 0 f (punct k mark.Comma ∷ punct k' mark.RightBrace ∷ t)
@@ -84,7 +86,8 @@ pub data Units (may : May) : Phrase → Tokens → Tokens → Type 0 where
   sized : {k : ℕ} {e : Expr} {m t : Tokens} → Units may (size (sizes.Sized e)) m t
       → Units may (shape (sizes.Sized e, [])) (punct k mark.LeftBracket ∷ m) t
   filled : {k k' k'' : ℕ} {a : ArraySize} {es : List Expr} {m m' t : Tokens}
-      → Units may (size a) m (punct k' mark.Assign ∷ punct k'' mark.LeftBrace ∷ m') → Units may (values es) m' t
+      → Units may (size a) m (punct k' mark.Assign ∷ punct k'' mark.LeftBrace ∷ m')
+      → Units may (values es) m' t
       → Units may (shape (a, es)) (punct k mark.LeftBracket ∷ m) t
   last_global : {l j : ℕ} {k : Kind} {w : List ℕ} {s : Shape} {m t : Tokens}
       → Units may (shape s) m (punct j mark.Semicolon ∷ t)
@@ -99,13 +102,18 @@ pub data Units (may : May) : Phrase → Tokens → Tokens → Type 0 where
   some_brackets : {k : ℕ} {a : ArraySize} {m t : Tokens} → Units may (size a) m t
       → Units may (brackets a) (punct k mark.LeftBracket ∷ m) t
   param_is : {l : ℕ} {k : Kind} {n : Label} {a : ArraySize} {f m m' t : Tokens} → Types l k f m
-      → Units may (label l n) m m' → Units may (brackets a) m' t → Units may (param (parameter n k a)) f t
+      → Units may (label l n) m m' → Units may (brackets a) m' t
+      → Units may (param (parameter n k a)) f t
   no_params : {k : ℕ} {t : Tokens} → Units may (params []) (punct k mark.RightParen ∷ t) t
-  void_params : {k k' : ℕ} {t : Tokens} → Units may (params []) (word k key.Void ∷ punct k' mark.RightParen ∷ t) t
-  some_params : {ps : List Param} {f t : Tokens} → Units may (param_list ps) f t → Units may (params ps) f t
-  last_param : {k : ℕ} {p : Param} {f t : Tokens} → Units may (param p) f (punct k mark.RightParen ∷ t)
+  void_params : {k k' : ℕ} {t : Tokens} → Units may (params [])
+      (word k key.Void ∷ punct k' mark.RightParen ∷ t) t
+  some_params : {ps : List Param} {f t : Tokens} → Units may (param_list ps) f t
+      → Units may (params ps) f t
+  last_param : {k : ℕ} {p : Param} {f t : Tokens}
+      → Units may (param p) f (punct k mark.RightParen ∷ t)
       → Units may (param_list (p ∷ [])) f t
-  next_param : {k : ℕ} {p : Param} {ps : List Param} {f m t : Tokens} → Units may (param p) f (punct k mark.Comma ∷ m)
+  next_param : {k : ℕ} {p : Param} {ps : List Param} {f m t : Tokens}
+      → Units may (param p) f (punct k mark.Comma ∷ m)
       → Units may (param_list ps) m t → Units may (param_list (p ∷ ps)) f t
   -- 6.9.1
   void : {l : ℕ} {t : Tokens} → Units may (result None) (word l key.Void ∷ t) t
@@ -114,15 +122,21 @@ pub data Units (may : May) : Phrase → Tokens → Tokens → Type 0 where
       → Units may (params ps) m (punct k' mark.Semicolon ∷ t)
       → Units may (func r (function l r w ps None)) (named l w ∷ punct k mark.LeftParen ∷ m) t
   -- a function's body has depth 1
-  definition : {l k k' : ℕ} {r : Option Kind} {w : List ℕ} {ps : List Param} {ss : List Stmt} {m m' t : Tokens}
+  definition : {l k k' : ℕ} {r : Option Kind} {w : List ℕ} {ps : List Param} {ss : List Stmt}
+      {m m' t : Tokens}
       → Units may (params ps) m (punct k' mark.LeftBrace ∷ m') → Writes may (entries ss) 1 m' t
-      → Units may (func r (function l r w ps (Some (s.at k' (node.Compound ss))))) (named l w ∷ punct k mark.LeftParen ∷ m) t
+      → Units may (func r (function l r w ps (Some (s.at k' (node.Compound ss)))))
+      (named l w ∷ punct k mark.LeftParen ∷ m) t
   -- 6.9, 6.10.2
-  include : {l : ℕ} {t : Tokens} → Units may (item (at l tops.Include ∷ [])) (token l form.Include ∷ t) t
-  a_function : {r : Option Kind} {x : Top} {f m t : Tokens} → Units may (result r) f m → Units may (func r x) m t
+  include : {l : ℕ} {t : Tokens} → Units may (item (at l tops.Include ∷ []))
+      (token l form.Include ∷ t) t
+  a_function : {r : Option Kind} {x : Top} {f m t : Tokens} → Units may (result r) f m
+      → Units may (func r x) m t
       → Units may (item (x ∷ [])) f t
-  some_globals : {l : ℕ} {k : Kind} {gs : List Top} {f m t : Tokens} → Types l k f m → Units may (globals k gs) m t
+  some_globals : {l : ℕ} {k : Kind} {gs : List Top} {f m t : Tokens} → Types l k f m
+      → Units may (globals k gs) m t
       → Units may (item gs) f t
   last_item : {xs : List Top} {f t : Tokens} → Units may (item xs) f t → Units may (unit xs) f t
-  next_item : {xs ys : List Top} {f m t : Tokens} → Units may (item xs) f m → Units may (unit ys) m t
+  next_item : {xs ys : List Top} {f m t : Tokens} → Units may (item xs) f m
+      → Units may (unit ys) m t
       → Units may (unit (xs ++ ys)) f t

@@ -1,12 +1,15 @@
 -- A token holds no line feed, and its line is not empty after it.
-use Rattle.std.proofs.Common.{◌≡◌, ℕ, Bool, true, false, not, ◌&&◌, inl, inr, [], ◌∷◌, ◌++◌, take, drop, refl, sym, ap, ◌∙◌, subst, arith, nat_eq}
+use Rattle.std.proofs.Common.{◌≡◌, ℕ, Bool, true, false, not, ◌&&◌, inl, inr, [], ◌∷◌, ◌++◌, take}
+use Rattle.std.proofs.Common.{drop, refl, sym, ap, ◌∙◌, subst, arith, nat_eq}
 use Rattle.std.specs.Prelude.{is_some}
 use Rattle.c_tree.specs.declared.Form.{Form}
 use Rattle.c_lex.specs.declared.piece.Reading.{Reading}
 use Rattle.c_lex.specs.declared.piece.Reading.TheVariants as reads
-use Rattle.c_lex.specs.Bytes.{Bytes, Going, Goes, Each, by_class, is_feed, not_feed, is_blank, is_letter, is_word, is_digit, in_number, feeds, still_empty}
+use Rattle.c_lex.specs.Bytes.{Bytes, Going, Goes, Each, by_class, is_feed, not_feed, is_blank}
+use Rattle.c_lex.specs.Bytes.{is_letter, is_word, is_digit, in_number, feeds, still_empty}
 use Rattle.c_lex.specs.Tables.{marks}
-use Rattle.c_lex.specs.Constants.{Character, plain, escape, octal, hexadecimal, is_digit_in, is_plain, simple}
+use Rattle.c_lex.specs.Constants.{Character, plain, escape, octal, hexadecimal, is_digit_in}
+use Rattle.c_lex.specs.Constants.{is_plain, simple}
 use Rattle.c_lex.specs.Pieces as piece
 use Rattle.c_lex.specs.Pieces.{Piece, Front}
 use Rattle.c_lex.specs.Turns.{Grows, Place, Moved}
@@ -52,8 +55,12 @@ each_quiet p last bs n g = goes_quiet (by_class p) last bs (λ _. n) g
 -- the bytes between the quotes
 character_quiet : (c : Bytes) (v : ℕ) → Character c v → Each not_feed c
 character_quiet c v (plain {b = b} e) = (no_feed is_plain b refl e, tt)
-character_quiet c v (escape {b = b} e) = (refl, (no_feed (λ x. is_some (simple x)) b refl (ap is_some e), tt))
-character_quiet c v (octal {d = d} {ds = ds} g l n) = (refl, each_quiet (is_digit_in 8) 92 (d ∷ ds) refl g)
+character_quiet c v (escape {b = b} e) = (
+  refl,
+  (no_feed (λ x. is_some (simple x)) b refl (ap is_some e), tt),
+)
+character_quiet c v (octal {d = d} {ds = ds} g l n) =
+    (refl, each_quiet (is_digit_in 8) 92 (d ∷ ds) refl g)
 character_quiet c v (hexadecimal {d = d} {ds = ds} g n) =
     (refl, (refl, each_quiet (is_digit_in 16) 120 (d ∷ ds) refl g))
 
@@ -118,7 +125,8 @@ token_quiet {p = p} (piece.character {v = v} c e x) t =
       ),
     )
 token_quiet (piece.quote e) t = absurd t
-token_quiet {p = p} (piece.mark {m = m} e) t = mark_is_quiet p (row_is mark_quiet p marks m marks_quiet e)
+token_quiet {p = p} (piece.mark {m = m} e) t =
+    mark_is_quiet p (row_is mark_quiet p marks m marks_quiet e)
 token_quiet {p = p} (piece.include {line = line} s e i) t =
     along p (35 ∷ line) e (refl, (refl, each_any not_feed 0 35 line (include_line line i)))
 token_quiet (piece.other_line s e i n) t = absurd t
@@ -128,7 +136,8 @@ quiet_feeds last [] g = refl
 quiet_feeds last (b ∷ bs) g =
     rw (not_true (is_feed b) g.0) (let h : feeds bs ≡ 0 = quiet_feeds b bs g.1 in omega arith)
 
-still_full : (last : ℕ) (bs : Bytes) → Goes (by_class not_feed) last bs → still_empty false bs ≡ false
+still_full : (last : ℕ) (bs : Bytes) → Goes (by_class not_feed) last bs
+    → still_empty false bs ≡ false
 still_full last [] g = refl
 still_full last (b ∷ bs) g = rw (not_true (is_feed b) g.0) (still_full b bs g.1)
 
@@ -154,7 +163,8 @@ kept most old new n f x rest line starts grows =
     record {
       piece = p;
       reading = reads.Token f;
-      longest = subst (λ (r : Bytes). piece.Longest old.starts old.rest p r (reads.Token f)) (sym rest) x;
+      longest = subst (λ (r : Bytes). piece.Longest old.starts old.rest p r (reads.Token f))
+          (sym rest) x;
       line_is = line ∙ (rw z (omega arith));
       starts_is = starts ∙ sym s;
       grows = grows;

@@ -3,7 +3,8 @@ use Rattle.std.specs.Prelude.{◌≡◌, ◌≤◌, ℕ, length}
 use Rattle.c_lex.specs.declared.fault.LexFault.{LexFault}
 use Rattle.c_lex.specs.declared.fault.LexFault.TheVariants as fault
 use Rattle.c_lex.specs.Bytes.{Bytes}
-use Rattle.c_lex.specs.Lexes.{Tokens, Lexes, Fault, BadByte, BadLiteral, Unclosed, TooManyTokens, Directive, FaultAt}
+use Rattle.c_lex.specs.Lexes.{Tokens, Lexes, Fault, BadByte, BadLiteral, Unclosed, TooManyTokens}
+use Rattle.c_lex.specs.Lexes.{Directive, FaultAt}
 
 -- the error is this fault, with this line
 abbrev pub Says : LexFault → Fault → ℕ → Type 0

@@ -29,7 +29,8 @@ outer_is_not_here = refl
 inner_is_here : is_here inner (120 ∷ []) ≡ true
 inner_is_here = refl
 
-newest_first : look_up (declared_in (bound (120 ∷ []) (Scalar Long (place.Scalar 2))) inner) (120 ∷ []) ≡ Some (Scalar Long (place.Scalar 2))
+newest_first : look_up (declared_in (bound (120 ∷ []) (Scalar Long (place.Scalar 2))) inner)
+    (120 ∷ []) ≡ Some (Scalar Long (place.Scalar 2))
 newest_first = refl
 
 outermost_stays : closed outer ≡ outer

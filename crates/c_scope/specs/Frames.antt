@@ -1,5 +1,6 @@
 -- How the names in scope are kept.
-use Rattle.std.specs.Prelude.{◌≡◌, ℕ, ◌-◌, ◌≤◌, cond, List, [], ◌∷◌, length, map, take, drop, Option, Some, None}
+use Rattle.std.specs.Prelude.{◌≡◌, ℕ, ◌-◌, ◌≤◌, cond, List, [], ◌∷◌, length, map, take, drop}
+use Rattle.std.specs.Prelude.{Option, Some, None}
 use Rattle.std.specs.HashMap.{HashMap, get}
 use Rattle.c_scope.specs.declared.meaning.Entry.{Entry}
 use Rattle.c_scope.specs.Scope.{Scope, Frame, same_name}

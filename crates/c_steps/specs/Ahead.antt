@@ -7,10 +7,17 @@ use Rattle.c_eval.specs.declared.Ending.{Ending}
 use Rattle.c_eval.specs.State.{State, Result, Go, Over, then, want}
 use Rattle.c_eval.specs.Task.{Task, Of, Run, Turn, element}
 use Rattle.c_eval.specs.Call.{left, arguments}
-use Rattle.c_eval.specs.Expression.{Node, node_of, converting, unary, operated, after_left, truth, after_and, after_or, valued, after_choice, after_comma, assigned, compounded, assign_element, bump_element}
-use Rattle.c_eval.specs.Statement.{going_on, sequence, dropped, initialised, after_if, locals, after_body, after_test, returning}
+use Rattle.c_eval.specs.Expression.{Node, node_of, converting, unary, operated, after_left, truth}
+use Rattle.c_eval.specs.Expression.{after_and, after_or, valued, after_choice, after_comma}
+use Rattle.c_eval.specs.Expression.{assigned, compounded, assign_element, bump_element}
+use Rattle.c_eval.specs.Statement.{going_on, sequence, dropped, initialised, after_if, locals}
+use Rattle.c_eval.specs.Statement.{after_body, after_test, returning}
 use Rattle.c_eval.specs.Eval.{meaning}
-use Rattle.c_steps.specs.Follow.{Follow, FConverting, FUnary, FElement, FArgument, FLeft, FRight, FAnd, FOr, FTruth, FValued, FChoice, FComma, FAssignElement, FAssigned, FCompounded, FBumpElement, FCaller, FDropped, FInitialised, FSequence, FIf, FThenTurn, FLocals, FTest, FBody, FReturning, Step, Pushes, Does, Gives, Ends}
+use Rattle.c_steps.specs.Follow.{Follow, FConverting, FUnary, FElement, FArgument, FLeft, FRight}
+use Rattle.c_steps.specs.Follow.{FAnd, FOr, FTruth, FValued, FChoice, FComma, FAssignElement}
+use Rattle.c_steps.specs.Follow.{FAssigned, FCompounded, FBumpElement, FCaller, FDropped}
+use Rattle.c_steps.specs.Follow.{FInitialised, FSequence, FIf, FThenTurn, FLocals, FTest, FBody}
+use Rattle.c_steps.specs.Follow.{FReturning, Step, Pushes, Does, Gives, Ends}
 
 -- what is to be done next
 pub data Next : Type 0 where
@@ -23,7 +30,8 @@ abbrev pub back_of : TypedProgram → Follow → Signal → State → Result
 back_of P (FConverting to) v s = converting to v s
 back_of P (FUnary op k) v s = unary op k v s
 back_of P (FElement p) v s = element p v s
-back_of P (FArgument f rest done) v s = want v s (λ w. arguments (meaning P) P f rest (done ++ w ∷ []) s)
+back_of P (FArgument f rest done) v s = want v s
+    (λ w. arguments (meaning P) P f rest (done ++ w ∷ []) s)
 back_of P (FLeft op k right) v s = after_left (meaning P) op k right v s
 back_of P (FRight op k a) v s = operated op k a v s
 back_of P (FAnd right) v s = after_and (meaning P) right v s

@@ -1,5 +1,6 @@
 -- The moves of expressions and calls.
-use Rattle.std.specs.Prelude.{ℕ, ◌+◌, ◌-◌, ◌%◌, ◌^◌, Bool, cond, nat_eq, nat_le, List, [], ◌∷◌, ◌++◌, Option, Some, None, slice_get, length}
+use Rattle.std.specs.Prelude.{ℕ, ◌+◌, ◌-◌, ◌%◌, ◌^◌, Bool, cond, nat_eq, nat_le, List, [], ◌∷◌}
+use Rattle.std.specs.Prelude.{◌++◌, Option, Some, None, slice_get, length}
 use Rattle.c_tree.specs.declared.Kind.{Kind}
 use Rattle.c_tree.specs.declared.BinaryOp.{BinaryOp}
 use Rattle.c_tree.specs.declared.BinaryOp.TheVariants.{LogicalOr, LogicalAnd}
@@ -9,7 +10,8 @@ use Rattle.c_tree.specs.declared.Place.TheVariants as place
 use Rattle.c_tree.specs.declared.Callee.{Callee}
 use Rattle.c_tree.specs.declared.Callee.TheVariants.{Func, GetChar, PutChar}
 use Rattle.c_tree.specs.declared.TypedExpr.{TypedExpr}
-use Rattle.c_tree.specs.declared.TypedNode.TheOpen.{Number, Name, Element, Call, Unary, Cast, Convert, Bump, Binary, Choice, Assign, Comma}
+use Rattle.c_tree.specs.declared.TypedNode.TheOpen.{Number, Name, Element, Call, Unary, Cast}
+use Rattle.c_tree.specs.declared.TypedNode.TheOpen.{Convert, Bump, Binary, Choice, Assign, Comma}
 use Rattle.c_tree.specs.declared.TypedFunc.{TypedFunc}
 use Rattle.c_tree.specs.declared.TypedProgram.{TypedProgram}
 use Rattle.c_eval.specs.declared.Signal.TheVariants.{Value}
@@ -21,10 +23,14 @@ use Rattle.c_eval.specs.Word.{bump_of, bump_value}
 use Rattle.c_eval.specs.Task.{Of, Run, scalar_of, is_array}
 use Rattle.c_eval.specs.Call.{frame, entered, left}
 use Rattle.c_eval.specs.Expression.{Node, node_of}
-use Rattle.c_steps.specs.Follow.{FConverting, FUnary, FElement, FArgument, FLeft, FAnd, FOr, FChoice, FComma, FAssignElement, FAssigned, FCompounded, FBumpElement, FCaller, Step, Pushes, Gives, Ends, spend_step, some_step, load_step, store_step}
+use Rattle.c_steps.specs.Follow.{FConverting, FUnary, FElement, FArgument, FLeft, FAnd, FOr}
+use Rattle.c_steps.specs.Follow.{FChoice, FComma, FAssignElement, FAssigned, FCompounded}
+use Rattle.c_steps.specs.Follow.{FBumpElement, FCaller, Step, Pushes, Gives, Ends, spend_step}
+use Rattle.c_steps.specs.Follow.{some_step, load_step, store_step}
 
 abbrev pub name_step : TypedProgram → Place → State → Step
-name_step P (place.Global g) s = cond (is_array (slice_get P.globals g)) (Gives (Value g) s) (load_step (InArray g 0) s)
+name_step P (place.Global g) s = cond (is_array (slice_get P.globals g)) (Gives (Value g) s)
+    (load_step (InArray g 0) s)
 name_step P (place.Scalar i) s = load_step (InScalar i) s
 name_step P (place.Array a) s = Gives (Value (s.base + a)) s
 
@@ -37,7 +43,8 @@ assign_to_step (Some op) to at right s x =
 
 abbrev pub assign_step : Option BinaryOp → Option Kind → Kind → Node → TypedExpr → State → Step
 assign_step op to at (Name p) right s = some_step (scalar_of p) s (assign_to_step op to at right s)
-assign_step op to at (Element p index) right s = Pushes (Of index) (FAssignElement op to at p right) s
+assign_step op to at (Element p index) right s =
+    Pushes (Of index) (FAssignElement op to at p right) s
 assign_step op to at _ right s = Ends Undefined s
 
 abbrev pub bump_object_step : BumpOp → Option Kind → State → Object → Step

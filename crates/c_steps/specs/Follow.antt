@@ -30,7 +30,8 @@ pub data Follow : Type 0 where
   FValued : Follow
   FChoice : (one other : TypedExpr) → Follow
   FComma : (right : TypedExpr) → Follow
-  FAssignElement : (op : Option BinaryOp) (to : Option Kind) (at : Kind) (p : Place) (right : TypedExpr) → Follow
+  FAssignElement : (op : Option BinaryOp) (to : Option Kind) (at : Kind) (p : Place)
+      (right : TypedExpr) → Follow
   FAssigned : (x : Object) → Follow
   FCompounded : (op : BinaryOp) (to : Option Kind) (at : Kind) (x : Object) (old : ℕ) → Follow
   FBumpElement : (op : BumpOp) (k : Option Kind) (p : Place) → Follow

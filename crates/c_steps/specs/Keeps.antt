@@ -13,12 +13,16 @@ use Rattle.c_steps.specs.Ahead.{Next, ToDo, Given, IsStep, ahead_next, rank}
 abbrev pub MovesKeepWhatIsAhead : Type 0
 MovesKeepWhatIsAhead =
     (P : TypedProgram) (s s' : State) (n : Next) (before after : List Follow)
-    → ((t : Task) → IsStep (act_step P t s) n s' before after → ahead_next P n after s' ≡ ahead_next P (ToDo t) before s)
-    × ((f : Follow) (v : Signal) → IsStep (resume_step P f v s) n s' before after → ahead_next P n after s' ≡ ahead_next P (Given v) (f ∷ before) s)
+    → ((t : Task) → IsStep (act_step P t s) n s' before after
+    → ahead_next P n after s' ≡ ahead_next P (ToDo t) before s)
+    × ((f : Follow) (v : Signal) → IsStep (resume_step P f v s) n s' before after
+    → ahead_next P n after s' ≡ ahead_next P (Given v) (f ∷ before) s)
 
 -- and leave less to be done, so that a machine comes to its end
 abbrev pub MovesLeaveLess : Type 0
 MovesLeaveLess =
     (P : TypedProgram) (s s' : State) (n : Next) (before after : List Follow)
-    → ((t : Task) → IsStep (act_step P t s) n s' before after → rank n s'.stock (length after) < rank (ToDo t) s.stock (length before))
-    × ((f : Follow) (v : Signal) → IsStep (resume_step P f v s) n s' before after → rank n s'.stock (length after) < rank (Given v) s.stock (suc (length before)))
+    → ((t : Task) → IsStep (act_step P t s) n s' before after
+    → rank n s'.stock (length after) < rank (ToDo t) s.stock (length before))
+    × ((f : Follow) (v : Signal) → IsStep (resume_step P f v s) n s' before after
+    → rank n s'.stock (length after) < rank (Given v) s.stock (suc (length before)))

@@ -11,7 +11,12 @@ use Rattle.c_constant.specs.Kinds.{converted}
 use Rattle.c_eval.specs.State.{State}
 use Rattle.c_eval.specs.Word.{is_false, truth_of, binary_of, unary_of, compound_of}
 use Rattle.c_eval.specs.Task.{Of, Run, Turn, element_of}
-use Rattle.c_steps.specs.Follow.{Follow, FConverting, FUnary, FElement, FArgument, FLeft, FRight, FAnd, FOr, FTruth, FValued, FChoice, FComma, FAssignElement, FAssigned, FCompounded, FBumpElement, FCaller, FDropped, FInitialised, FSequence, FIf, FThenTurn, FLocals, FTest, FBody, FReturning, Step, Pushes, Does, Gives, Ends, want_step, some_step, given_step, load_step, store_step}
+use Rattle.c_steps.specs.Follow.{Follow, FConverting, FUnary, FElement, FArgument, FLeft, FRight}
+use Rattle.c_steps.specs.Follow.{FAnd, FOr, FTruth, FValued, FChoice, FComma, FAssignElement}
+use Rattle.c_steps.specs.Follow.{FAssigned, FCompounded, FBumpElement, FCaller, FDropped}
+use Rattle.c_steps.specs.Follow.{FInitialised, FSequence, FIf, FThenTurn, FLocals, FTest, FBody}
+use Rattle.c_steps.specs.Follow.{FReturning, Step, Pushes, Does, Gives, Ends, want_step, some_step}
+use Rattle.c_steps.specs.Follow.{given_step, load_step, store_step}
 use Rattle.c_steps.specs.ExpressionSteps.{assign_to_step, bump_object_step, arguments_step}
 use Rattle.c_steps.specs.StatementSteps.{sequence_step, then_turn_step, locals_step}
 
@@ -31,14 +36,18 @@ value_step P (FAnd right) w s = cond (is_false w) (Gives (Value 0) s) (Pushes (O
 value_step P (FOr right) w s = cond (is_false w) (Pushes (Of right) FTruth s) (Gives (Value 1) s)
 value_step P FTruth w s = Gives (Value (truth_of w)) s
 value_step P FValued w s = Gives (Value w) s
-value_step P (FChoice one other) w s = cond (is_false w) (Pushes (Of other) FValued s) (Pushes (Of one) FValued s)
-value_step P (FAssignElement op to at p right) w s = some_step (element_of p w s) s (assign_to_step op to at right s)
+value_step P (FChoice one other) w s = cond (is_false w) (Pushes (Of other) FValued s)
+    (Pushes (Of one) FValued s)
+value_step P (FAssignElement op to at p right) w s =
+    some_step (element_of p w s) s (assign_to_step op to at right s)
 value_step P (FAssigned x) w s = store_step s x w (Value w)
-value_step P (FCompounded op to at x old) w s = some_step (compound_of op to at old w) s (λ r. store_step s x r (Value r))
+value_step P (FCompounded op to at x old) w s =
+    some_step (compound_of op to at old w) s (λ r. store_step s x r (Value r))
 value_step P (FBumpElement op k p) w s = some_step (element_of p w s) s (bump_object_step op k s)
 value_step P (FInitialised i) w s = store_step s (InScalar i) w Nothing
 value_step P (FIf one other) w s = cond (is_false w) (if_step other s) (Does (Run one) s)
-value_step P (FTest test post body) w s = cond (is_false w) (Gives Nothing s) (Pushes (Run body) (FBody test post body) s)
+value_step P (FTest test post body) w s =
+    cond (is_false w) (Gives Nothing s) (Pushes (Run body) (FBody test post body) s)
 value_step P FReturning w s = Gives (Returns (Some w)) s
 value_step P _ w s = Ends Undefined s
 
@@ -61,10 +70,16 @@ body_step test post body v s = Gives v s
 abbrev pub resume_step : TypedProgram → Follow → Signal → State → Step
 resume_step P (FComma right) v s = Pushes (Of right) FValued s
 resume_step P (FCaller scalars count base room) v s =
-    returned_step v (record s { scalars = scalars; arrays = take count s.arrays; base = base; room = room })
+    returned_step v (record s {
+      scalars = scalars;
+      arrays = take count s.arrays;
+      base = base;
+      room = room;
+    })
 resume_step P FDropped v s = Gives Nothing s
 resume_step P (FSequence rest) v s = going_on_step v s (sequence_step rest s)
 resume_step P (FThenTurn test post body) v s = Does (Turn test post body) s
-resume_step P (FLocals rest test post body) v s = going_on_step v s (locals_step rest test post body s)
+resume_step P (FLocals rest test post body) v s =
+    going_on_step v s (locals_step rest test post body s)
 resume_step P (FBody test post body) v s = body_step test post body v s
 resume_step P f v s = want_step v s (λ w. value_step P f w s)

@@ -1,11 +1,13 @@
 -- The moves of statements.
-use Rattle.std.specs.Prelude.{ℕ, ◌+◌, List, [], ◌∷◌, Option, Some, None, slice_get, slice_set, length, replicate}
+use Rattle.std.specs.Prelude.{ℕ, ◌+◌, List, [], ◌∷◌, Option, Some, None, slice_get, slice_set}
+use Rattle.std.specs.Prelude.{length, replicate}
 use Rattle.c_tree.specs.declared.Place.{Place}
 use Rattle.c_tree.specs.declared.Place.TheVariants as place
 use Rattle.c_tree.specs.declared.TypedExpr.{TypedExpr}
 use Rattle.c_tree.specs.declared.TypedStmt.{TypedStmt, out-TypedStmt}
 use Rattle.c_tree.specs.declared.TypedForInit.{out-TypedForInit}
-use Rattle.c_tree.specs.declared.TypedForInit.TheOpen.{Declare, Plain, Compound, If, While, Do, For, Break, Continue, Return}
+use Rattle.c_tree.specs.declared.TypedForInit.TheOpen.{Declare, Plain, Compound, If, While, Do, For}
+use Rattle.c_tree.specs.declared.TypedForInit.TheOpen.{Break, Continue, Return}
 use Rattle.c_tree.specs.declared.TypedForInit.TheOpen as init
 use Rattle.c_tree.specs.declared.TypedProgram.{TypedProgram}
 use Rattle.c_eval.specs.declared.Signal.TheVariants.{Nothing, Breaks, Continues, Returns}
@@ -15,7 +17,8 @@ use Rattle.c_eval.specs.State.{State, cell, written}
 use Rattle.c_eval.specs.Task.{Task, Of, Run, Turn}
 use Rattle.c_eval.specs.Expression.{node_of}
 use Rattle.c_eval.specs.Statement.{Level, First}
-use Rattle.c_steps.specs.Follow.{FDropped, FInitialised, FSequence, FIf, FThenTurn, FLocals, FTest, FBody, FReturning, Step, Pushes, Does, Gives, Ends, spend_step}
+use Rattle.c_steps.specs.Follow.{FDropped, FInitialised, FSequence, FIf, FThenTurn, FLocals, FTest}
+use Rattle.c_steps.specs.Follow.{FBody, FReturning, Step, Pushes, Does, Gives, Ends, spend_step}
 use Rattle.c_steps.specs.ExpressionSteps.{of_step}
 
 abbrev pub sequence_step : List TypedStmt → State → Step
@@ -29,18 +32,22 @@ unset_step i (Some e) (Some c) s = Pushes (Of e) (FInitialised i) (written s (In
 
 abbrev pub unset_row_step : ℕ → Option (List (Option ℕ)) → State → Step
 unset_row_step a None s = Ends Undefined s
-unset_row_step a (Some row) s = Gives Nothing (record s { arrays = slice_set s.arrays a (replicate (length row) None) })
+unset_row_step a (Some row) s = Gives Nothing
+    (record s { arrays = slice_set s.arrays a (replicate (length row) None) })
 
 abbrev pub declare_step : Place → Option TypedExpr → State → Step
 declare_step (place.Scalar i) e s = unset_step i e (cell s (InScalar i)) s
-declare_step (place.Array a) None s = unset_row_step (s.base + a) (slice_get s.arrays (s.base + a)) s
+declare_step (place.Array a) None s = unset_row_step (s.base + a)
+    (slice_get s.arrays (s.base + a)) s
 declare_step _ e s = Ends Undefined s
 
-abbrev pub then_turn_step : Option TypedExpr → Option TypedExpr → Option TypedExpr → TypedStmt → State → Step
+abbrev pub then_turn_step : Option TypedExpr → Option TypedExpr → Option TypedExpr → TypedStmt
+    → State → Step
 then_turn_step None test post body s = Does (Turn test post body) s
 then_turn_step (Some e) test post body s = Pushes (Of e) (FThenTurn test post body) s
 
-abbrev pub locals_step : List TypedStmt → Option TypedExpr → Option TypedExpr → TypedStmt → State → Step
+abbrev pub locals_step : List TypedStmt → Option TypedExpr → Option TypedExpr → TypedStmt → State
+    → Step
 locals_step [] test post body s = Does (Turn test post body) s
 locals_step (st ∷ rest) test post body s = Pushes (Run st) (FLocals rest test post body) s
 

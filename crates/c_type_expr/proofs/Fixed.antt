@@ -6,7 +6,8 @@ use Rattle.c_tree.specs.declared.tree.UnaryOp.{UnaryOp}
 use Rattle.c_tree.specs.declared.tree.BumpOp.{BumpOp}
 use Rattle.c_tree.specs.declared.tree.BinaryOp.{BinaryOp}
 use Rattle.c_tree.specs.declared.tree.Expr.{Expr, Expr-F, fold_out-Expr}
-use Rattle.c_tree.specs.declared.tree.ExprNode.{ExprNode, map-ExprNode, fold-roll-ExprNode, fold-ExprNode, roll-ExprNode}
+use Rattle.c_tree.specs.declared.tree.ExprNode.{ExprNode, map-ExprNode, fold-roll-ExprNode}
+use Rattle.c_tree.specs.declared.tree.ExprNode.{fold-ExprNode, roll-ExprNode}
 use Rattle.c_tree.specs.declared.tree.ExprNode.TheVariants as node
 use Rattle.c_tree.specs.declared.tree.ExprNode.TheOpen.{ExprNode-F}
 use Rattle.c_scope.specs.Scope.{Scope, look_up}
@@ -22,7 +23,8 @@ abbrev B : Type 0
 B = Scope → Blame
 
 fixed_by : (l : ℕ) (n : ExprNode) (x : ExprNode-F ExprNode Expr) → roll-ExprNode x ≡ n
-    → not_fixed (at l n) ≡ node_fixed (map-ExprNode ExprNode Expr A B (fold-ExprNode A B node_fixed fixed_line) not_fixed x) l
+    → not_fixed (at l n) ≡ node_fixed (map-ExprNode ExprNode Expr A B
+    (fold-ExprNode A B node_fixed fixed_line) not_fixed x) l
 unfolding not_fixed
 fixed_by l n x e =
     fold_out-Expr A B node_fixed fixed_line (at l n)
@@ -31,37 +33,58 @@ fixed_by l n x e =
 
 module _ (f : Expr) (G : Scope) where
   pub fixed-Number : (v : ℕ) (k : Kind) → f.node ≡ node.Number v k → not_fixed f G ≡ None
-  fixed-Number v k h = ap (λ n. not_fixed (at f.line n) G) h ∙ ap (λ (b : B). b G) (fixed_by f.line _ (ExprNode-F.Number v k) (node.rolls-Number v k))
+  fixed-Number v k h = ap (λ n. not_fixed (at f.line n) G) h
+      ∙ ap (λ (b : B). b G) (fixed_by f.line _ (ExprNode-F.Number v k) (node.rolls-Number v k))
 
-  pub fixed-Name : (w : List ℕ) → f.node ≡ node.Name w → not_fixed f G ≡ no_constant (is_some (look_up G w)) f.line
-  fixed-Name w h = ap (λ n. not_fixed (at f.line n) G) h ∙ ap (λ (b : B). b G) (fixed_by f.line _ (ExprNode-F.Name w) (node.rolls-Name w))
+  pub fixed-Name : (w : List ℕ) → f.node ≡ node.Name w
+      → not_fixed f G ≡ no_constant (is_some (look_up G w)) f.line
+  fixed-Name w h = ap (λ n. not_fixed (at f.line n) G) h
+      ∙ ap (λ (b : B). b G) (fixed_by f.line _ (ExprNode-F.Name w) (node.rolls-Name w))
 
-  pub fixed-Element : (w : List ℕ) (i : Expr) → f.node ≡ node.Element w i → not_fixed f G ≡ first (not_fixed i G) (Some (Mismatch f.line))
-  fixed-Element w i h = ap (λ n. not_fixed (at f.line n) G) h ∙ ap (λ (b : B). b G) (fixed_by f.line _ (ExprNode-F.Element w i) (node.rolls-Element w i))
+  pub fixed-Element : (w : List ℕ) (i : Expr) → f.node ≡ node.Element w i
+      → not_fixed f G ≡ first (not_fixed i G) (Some (Mismatch f.line))
+  fixed-Element w i h = ap (λ n. not_fixed (at f.line n) G) h
+      ∙ ap (λ (b : B). b G) (fixed_by f.line _ (ExprNode-F.Element w i) (node.rolls-Element w i))
 
-  pub fixed-Call : (w : List ℕ) (es : List Expr) → f.node ≡ node.Call w es → not_fixed f G ≡ first (all_fixed (map not_fixed es) G) (Some (Mismatch f.line))
-  fixed-Call w es h = ap (λ n. not_fixed (at f.line n) G) h ∙ ap (λ (b : B). b G) (fixed_by f.line _ (ExprNode-F.Call w es) (node.rolls-Call w es))
+  pub fixed-Call : (w : List ℕ) (es : List Expr) → f.node ≡ node.Call w es
+      → not_fixed f G ≡ first (all_fixed (map not_fixed es) G) (Some (Mismatch f.line))
+  fixed-Call w es h = ap (λ n. not_fixed (at f.line n) G) h
+      ∙ ap (λ (b : B). b G) (fixed_by f.line _ (ExprNode-F.Call w es) (node.rolls-Call w es))
 
   pub fixed-Group : (e : Expr) → f.node ≡ node.Group e → not_fixed f G ≡ not_fixed e G
-  fixed-Group e h = ap (λ n. not_fixed (at f.line n) G) h ∙ ap (λ (b : B). b G) (fixed_by f.line _ (ExprNode-F.Group e) (node.rolls-Group e))
+  fixed-Group e h = ap (λ n. not_fixed (at f.line n) G) h
+      ∙ ap (λ (b : B). b G) (fixed_by f.line _ (ExprNode-F.Group e) (node.rolls-Group e))
 
-  pub fixed-Unary : (op : UnaryOp) (e : Expr) → f.node ≡ node.Unary op e → not_fixed f G ≡ not_fixed e G
-  fixed-Unary op e h = ap (λ n. not_fixed (at f.line n) G) h ∙ ap (λ (b : B). b G) (fixed_by f.line _ (ExprNode-F.Unary op e) (node.rolls-Unary op e))
+  pub fixed-Unary : (op : UnaryOp) (e : Expr) → f.node ≡ node.Unary op e
+      → not_fixed f G ≡ not_fixed e G
+  fixed-Unary op e h = ap (λ n. not_fixed (at f.line n) G) h
+      ∙ ap (λ (b : B). b G) (fixed_by f.line _ (ExprNode-F.Unary op e) (node.rolls-Unary op e))
 
   pub fixed-Cast : (to : Kind) (e : Expr) → f.node ≡ node.Cast to e → not_fixed f G ≡ not_fixed e G
-  fixed-Cast to e h = ap (λ n. not_fixed (at f.line n) G) h ∙ ap (λ (b : B). b G) (fixed_by f.line _ (ExprNode-F.Cast to e) (node.rolls-Cast to e))
+  fixed-Cast to e h = ap (λ n. not_fixed (at f.line n) G) h
+      ∙ ap (λ (b : B). b G) (fixed_by f.line _ (ExprNode-F.Cast to e) (node.rolls-Cast to e))
 
-  pub fixed-Bump : (op : BumpOp) (e : Expr) → f.node ≡ node.Bump op e → not_fixed f G ≡ first (not_fixed e G) (Some (Mismatch f.line))
-  fixed-Bump op e h = ap (λ n. not_fixed (at f.line n) G) h ∙ ap (λ (b : B). b G) (fixed_by f.line _ (ExprNode-F.Bump op e) (node.rolls-Bump op e))
+  pub fixed-Bump : (op : BumpOp) (e : Expr) → f.node ≡ node.Bump op e
+      → not_fixed f G ≡ first (not_fixed e G) (Some (Mismatch f.line))
+  fixed-Bump op e h = ap (λ n. not_fixed (at f.line n) G) h
+      ∙ ap (λ (b : B). b G) (fixed_by f.line _ (ExprNode-F.Bump op e) (node.rolls-Bump op e))
 
-  pub fixed-Binary : (op : BinaryOp) (x y : Expr) → f.node ≡ node.Binary op x y → not_fixed f G ≡ first (not_fixed x G) (not_fixed y G)
-  fixed-Binary op x y h = ap (λ n. not_fixed (at f.line n) G) h ∙ ap (λ (b : B). b G) (fixed_by f.line _ (ExprNode-F.Binary op x y) (node.rolls-Binary op x y))
+  pub fixed-Binary : (op : BinaryOp) (x y : Expr) → f.node ≡ node.Binary op x y
+      → not_fixed f G ≡ first (not_fixed x G) (not_fixed y G)
+  fixed-Binary op x y h = ap (λ n. not_fixed (at f.line n) G) h
+      ∙ ap (λ (b : B). b G) (fixed_by f.line _ (ExprNode-F.Binary op x y) (node.rolls-Binary op x y))
 
-  pub fixed-Choice : (t x y : Expr) → f.node ≡ node.Choice t x y → not_fixed f G ≡ first (not_fixed t G) (first (not_fixed x G) (not_fixed y G))
-  fixed-Choice t x y h = ap (λ n. not_fixed (at f.line n) G) h ∙ ap (λ (b : B). b G) (fixed_by f.line _ (ExprNode-F.Choice t x y) (node.rolls-Choice t x y))
+  pub fixed-Choice : (t x y : Expr) → f.node ≡ node.Choice t x y
+      → not_fixed f G ≡ first (not_fixed t G) (first (not_fixed x G) (not_fixed y G))
+  fixed-Choice t x y h = ap (λ n. not_fixed (at f.line n) G) h
+      ∙ ap (λ (b : B). b G) (fixed_by f.line _ (ExprNode-F.Choice t x y) (node.rolls-Choice t x y))
 
-  pub fixed-Assign : (op : Option BinaryOp) (x y : Expr) → f.node ≡ node.Assign op x y → not_fixed f G ≡ first (not_fixed x G) (first (not_fixed y G) (Some (Mismatch f.line)))
-  fixed-Assign op x y h = ap (λ n. not_fixed (at f.line n) G) h ∙ ap (λ (b : B). b G) (fixed_by f.line _ (ExprNode-F.Assign op x y) (node.rolls-Assign op x y))
+  pub fixed-Assign : (op : Option BinaryOp) (x y : Expr) → f.node ≡ node.Assign op x y
+      → not_fixed f G ≡ first (not_fixed x G) (first (not_fixed y G) (Some (Mismatch f.line)))
+  fixed-Assign op x y h = ap (λ n. not_fixed (at f.line n) G) h
+      ∙ ap (λ (b : B). b G) (fixed_by f.line _ (ExprNode-F.Assign op x y) (node.rolls-Assign op x y))
 
-  pub fixed-Comma : (x y : Expr) → f.node ≡ node.Comma x y → not_fixed f G ≡ first (not_fixed x G) (first (not_fixed y G) (Some (Mismatch f.line)))
-  fixed-Comma x y h = ap (λ n. not_fixed (at f.line n) G) h ∙ ap (λ (b : B). b G) (fixed_by f.line _ (ExprNode-F.Comma x y) (node.rolls-Comma x y))
+  pub fixed-Comma : (x y : Expr) → f.node ≡ node.Comma x y
+      → not_fixed f G ≡ first (not_fixed x G) (first (not_fixed y G) (Some (Mismatch f.line)))
+  fixed-Comma x y h = ap (λ n. not_fixed (at f.line n) G) h
+      ∙ ap (λ (b : B). b G) (fixed_by f.line _ (ExprNode-F.Comma x y) (node.rolls-Comma x y))

@@ -1,11 +1,13 @@
 -- The definitions at each node.
-use Rattle.std.proofs.Common.{◌≡◌, ℕ, suc, Bool, true, false, List, [], ◌∷◌, map, length, max, Option, Some, None, refl, sym, ap, ◌∙◌}
+use Rattle.std.proofs.Common.{◌≡◌, ℕ, suc, Bool, true, false, List, [], ◌∷◌, map, length, max}
+use Rattle.std.proofs.Common.{Option, Some, None, refl, sym, ap, ◌∙◌}
 use Rattle.c_tree.specs.declared.token.Kind.{Kind}
 use Rattle.c_tree.specs.declared.tree.UnaryOp.{UnaryOp}
 use Rattle.c_tree.specs.declared.tree.BumpOp.{BumpOp}
 use Rattle.c_tree.specs.declared.tree.BinaryOp.{BinaryOp}
 use Rattle.c_tree.specs.declared.tree.Expr.{Expr, Expr-F, fold_out-Expr, size-Expr}
-use Rattle.c_tree.specs.declared.tree.ExprNode.{ExprNode, map-ExprNode, fold-roll-ExprNode, fold-ExprNode, roll-ExprNode}
+use Rattle.c_tree.specs.declared.tree.ExprNode.{ExprNode, map-ExprNode, fold-roll-ExprNode}
+use Rattle.c_tree.specs.declared.tree.ExprNode.{fold-ExprNode, roll-ExprNode}
 use Rattle.c_tree.specs.declared.tree.ExprNode.TheVariants as node
 use Rattle.c_tree.specs.declared.tree.ExprNode.TheOpen.{ExprNode-F}
 use Rattle.c_tree.specs.declared.typed.Slot.{Slot}
@@ -16,8 +18,12 @@ use Rattle.c_type_expr.specs.declared.fault.TypeFault.TheVariants.{Unknown, Mism
 use Rattle.c_type_expr.specs.declared.role.Role.{Role}
 use Rattle.c_type_expr.specs.declared.role.Role.TheVariants.{Value, Free, Written, Array, Surplus}
 use Rattle.c_type_expr.specs.Roles.{Blame, first, unless, takes_value, left_role}
-use Rattle.c_type_expr.specs.Faults.{Judged, node_judged, at_line, judged, is_place, fault, value_fault, name_fault, element_fault, call_fault, slots_of, role_at, rest_of, args_blame, args_fault}
-use Rattle.c_type_expr.specs.Trees.{a, name_tree, array_kind, array_place, result_kind, callee_of, argument, arguments, unary, cast, bump, binary, choice, assign, comma, node_tree, of_node, tree, args_tree}
+use Rattle.c_type_expr.specs.Faults.{Judged, node_judged, at_line, judged, is_place, fault}
+use Rattle.c_type_expr.specs.Faults.{value_fault, name_fault, element_fault, call_fault, slots_of}
+use Rattle.c_type_expr.specs.Faults.{role_at, rest_of, args_blame, args_fault}
+use Rattle.c_type_expr.specs.Trees.{a, name_tree, array_kind, array_place, result_kind, callee_of}
+use Rattle.c_type_expr.specs.Trees.{argument, arguments, unary, cast, bump, binary, choice, assign}
+use Rattle.c_type_expr.specs.Trees.{comma, node_tree, of_node, tree, args_tree}
 use Rattle.c_type_expr.specs.Says.{at}
 
 abbrev A : Type 0
@@ -27,7 +33,8 @@ abbrev C : Type 0
 C = Scope → TypedExpr
 
 judged_by : (l : ℕ) (n : ExprNode) (x : ExprNode-F ExprNode Expr) → roll-ExprNode x ≡ n
-    → judged (at l n) ≡ node_judged (map-ExprNode ExprNode Expr A Judged (fold-ExprNode A Judged node_judged at_line) judged x) l
+    → judged (at l n) ≡ node_judged (map-ExprNode ExprNode Expr A Judged
+    (fold-ExprNode A Judged node_judged at_line) judged x) l
 unfolding judged
 judged_by l n x e =
     fold_out-Expr A Judged node_judged at_line (at l n)
@@ -35,7 +42,8 @@ judged_by l n x e =
     ∙ ap (λ (f : A). f l) (fold-roll-ExprNode A Judged node_judged at_line x)
 
 tree_by : (l : ℕ) (n : ExprNode) (x : ExprNode-F ExprNode Expr) → roll-ExprNode x ≡ n
-    → tree (at l n) ≡ node_tree (map-ExprNode ExprNode Expr C C (fold-ExprNode C C node_tree of_node) tree x)
+    → tree (at l n) ≡ node_tree (map-ExprNode ExprNode Expr C C
+    (fold-ExprNode C C node_tree of_node) tree x)
 unfolding tree
 tree_by l n x e =
     fold_out-Expr C C node_tree of_node (at l n)
@@ -50,87 +58,128 @@ length_map : {X Y : Type 0} (f : X → Y) (xs : List X) → length (map f xs) �
 length_map f [] = refl
 length_map f (x ∷ xs) = ap suc (length_map f xs)
 
-args_same : (slots : List Slot) (es : List Expr) (G : Scope) → args_blame slots (map judged es) G ≡ args_fault slots es G
+args_same : (slots : List Slot) (es : List Expr) (G : Scope)
+    → args_blame slots (map judged es) G ≡ args_fault slots es G
 unfolding fault
 args_same slots [] G = refl
-args_same slots (e ∷ es) G = ap (λ (b : Blame). first (fault e G (role_at slots)) b) (args_same (rest_of slots) es G)
+args_same slots (e ∷ es) G = ap (λ (b : Blame). first (fault e G (role_at slots)) b)
+    (args_same (rest_of slots) es G)
 
-trees_same : (slots : List Slot) (es : List Expr) (G : Scope) → arguments slots (map tree es) G ≡ args_tree slots es G
+trees_same : (slots : List Slot) (es : List Expr) (G : Scope)
+    → arguments slots (map tree es) G ≡ args_tree slots es G
 trees_same slots [] G = refl
-trees_same slots (e ∷ es) G = ap (λ (ts : List TypedExpr). argument slots (tree e G) ∷ ts) (trees_same (rest_of slots) es G)
+trees_same slots (e ∷ es) G = ap (λ (ts : List TypedExpr). argument slots (tree e G) ∷ ts)
+    (trees_same (rest_of slots) es G)
 
 module _ (G : Scope) (r : Role) (l : ℕ) where
   pub fault-Number : (v : ℕ) (k : Kind) → fault (at l (node.Number v k)) G r ≡ value_fault r l
   unfolding fault is_place
-  fault-Number v k = ap (λ (j : Judged). j.blame G r) (judged_by l _ (ExprNode-F.Number v k) (node.rolls-Number v k))
+  fault-Number v k = ap (λ (j : Judged). j.blame G r)
+      (judged_by l _ (ExprNode-F.Number v k) (node.rolls-Number v k))
 
   pub fault-Name : (w : List ℕ) → fault (at l (node.Name w)) G r ≡ name_fault (look_up G w) r l
   unfolding fault is_place
-  fault-Name w = ap (λ (j : Judged). j.blame G r) (judged_by l _ (ExprNode-F.Name w) (node.rolls-Name w))
+  fault-Name w = ap (λ (j : Judged). j.blame G r)
+      (judged_by l _ (ExprNode-F.Name w) (node.rolls-Name w))
 
-  pub fault-Element : (w : List ℕ) (i : Expr) → fault (at l (node.Element w i)) G r ≡ first (fault i G Value) (element_fault (look_up G w) r l)
+  pub fault-Element : (w : List ℕ) (i : Expr)
+      → fault (at l (node.Element w i)) G r
+      ≡ first (fault i G Value) (element_fault (look_up G w) r l)
   unfolding fault is_place
-  fault-Element w i = ap (λ (j : Judged). j.blame G r) (judged_by l _ (ExprNode-F.Element w i) (node.rolls-Element w i))
+  fault-Element w i = ap (λ (j : Judged). j.blame G r)
+      (judged_by l _ (ExprNode-F.Element w i) (node.rolls-Element w i))
 
-  pub fault-Call : (w : List ℕ) (es : List Expr) → fault (at l (node.Call w es)) G r ≡ first (args_fault (slots_of (look_up G w)) es G) (call_fault (look_up G w) (length es) r l)
+  pub fault-Call : (w : List ℕ) (es : List Expr)
+      → fault (at l (node.Call w es)) G r ≡ first (args_fault (slots_of (look_up G w)) es G)
+      (call_fault (look_up G w) (length es) r l)
   unfolding fault is_place
   fault-Call w es =
       ap (λ (j : Judged). j.blame G r) (judged_by l _ (ExprNode-F.Call w es) (node.rolls-Call w es))
-      ∙ ap (λ (b : Blame). first b (call_fault (look_up G w) (length (map judged es)) r l)) (args_same (slots_of (look_up G w)) es G)
-      ∙ ap (λ n. first (args_fault (slots_of (look_up G w)) es G) (call_fault (look_up G w) n r l)) (length_map judged es)
+      ∙ ap (λ (b : Blame). first b (call_fault (look_up G w) (length (map judged es)) r l))
+      (args_same (slots_of (look_up G w)) es G)
+      ∙ ap (λ n. first (args_fault (slots_of (look_up G w)) es G) (call_fault (look_up G w) n r l))
+      (length_map judged es)
 
   pub fault-Group : (e : Expr) → fault (at l (node.Group e)) G r ≡ fault e G r
   unfolding fault is_place
-  fault-Group e = ap (λ (j : Judged). j.blame G r) (judged_by l _ (ExprNode-F.Group e) (node.rolls-Group e))
+  fault-Group e = ap (λ (j : Judged). j.blame G r)
+      (judged_by l _ (ExprNode-F.Group e) (node.rolls-Group e))
 
-  pub fault-Unary : (op : UnaryOp) (e : Expr) → fault (at l (node.Unary op e)) G r ≡ first (fault e G Value) (value_fault r l)
+  pub fault-Unary : (op : UnaryOp) (e : Expr)
+      → fault (at l (node.Unary op e)) G r ≡ first (fault e G Value) (value_fault r l)
   unfolding fault is_place
-  fault-Unary op e = ap (λ (j : Judged). j.blame G r) (judged_by l _ (ExprNode-F.Unary op e) (node.rolls-Unary op e))
+  fault-Unary op e = ap (λ (j : Judged). j.blame G r)
+      (judged_by l _ (ExprNode-F.Unary op e) (node.rolls-Unary op e))
 
-  pub fault-Cast : (to : Kind) (e : Expr) → fault (at l (node.Cast to e)) G r ≡ first (fault e G Value) (value_fault r l)
+  pub fault-Cast : (to : Kind) (e : Expr)
+      → fault (at l (node.Cast to e)) G r ≡ first (fault e G Value) (value_fault r l)
   unfolding fault is_place
-  fault-Cast to e = ap (λ (j : Judged). j.blame G r) (judged_by l _ (ExprNode-F.Cast to e) (node.rolls-Cast to e))
+  fault-Cast to e = ap (λ (j : Judged). j.blame G r)
+      (judged_by l _ (ExprNode-F.Cast to e) (node.rolls-Cast to e))
 
-  pub fault-Bump : (op : BumpOp) (e : Expr) → fault (at l (node.Bump op e)) G r ≡ first (fault e G (left_role (is_place e))) (first (unless (is_place e) (Mismatch l)) (value_fault r l))
+  pub fault-Bump : (op : BumpOp) (e : Expr)
+      → fault (at l (node.Bump op e)) G r ≡ first (fault e G (left_role (is_place e)))
+      (first (unless (is_place e) (Mismatch l)) (value_fault r l))
   unfolding fault is_place
-  fault-Bump op e = ap (λ (j : Judged). j.blame G r) (judged_by l _ (ExprNode-F.Bump op e) (node.rolls-Bump op e))
+  fault-Bump op e = ap (λ (j : Judged). j.blame G r)
+      (judged_by l _ (ExprNode-F.Bump op e) (node.rolls-Bump op e))
 
-  pub fault-Binary : (op : BinaryOp) (x y : Expr) → fault (at l (node.Binary op x y)) G r ≡ first (fault x G Value) (first (fault y G Value) (value_fault r l))
+  pub fault-Binary : (op : BinaryOp) (x y : Expr)
+      → fault (at l (node.Binary op x y)) G r
+      ≡ first (fault x G Value) (first (fault y G Value) (value_fault r l))
   unfolding fault is_place
-  fault-Binary op x y = ap (λ (j : Judged). j.blame G r) (judged_by l _ (ExprNode-F.Binary op x y) (node.rolls-Binary op x y))
+  fault-Binary op x y = ap (λ (j : Judged). j.blame G r)
+      (judged_by l _ (ExprNode-F.Binary op x y) (node.rolls-Binary op x y))
 
-  pub fault-Choice : (t x y : Expr) → fault (at l (node.Choice t x y)) G r ≡ first (fault t G Value) (first (fault x G Value) (first (fault y G Value) (value_fault r l)))
+  pub fault-Choice : (t x y : Expr) → fault (at l (node.Choice t x y)) G r
+      ≡ first (fault t G Value) (first (fault x G Value) (first (fault y G Value) (value_fault r l)))
   unfolding fault is_place
-  fault-Choice t x y = ap (λ (j : Judged). j.blame G r) (judged_by l _ (ExprNode-F.Choice t x y) (node.rolls-Choice t x y))
+  fault-Choice t x y = ap (λ (j : Judged). j.blame G r)
+      (judged_by l _ (ExprNode-F.Choice t x y) (node.rolls-Choice t x y))
 
-  pub fault-Assign : (op : Option BinaryOp) (x y : Expr) → fault (at l (node.Assign op x y)) G r ≡ first (fault x G (left_role (is_place x))) (first (fault y G Value) (first (unless (is_place x) (Mismatch l)) (value_fault r l)))
+  pub fault-Assign : (op : Option BinaryOp) (x y : Expr)
+      → fault (at l (node.Assign op x y)) G r
+      ≡ first (fault x G (left_role (is_place x)))
+      (first (fault y G Value) (first (unless (is_place x) (Mismatch l)) (value_fault r l)))
   unfolding fault is_place
-  fault-Assign op x y = ap (λ (j : Judged). j.blame G r) (judged_by l _ (ExprNode-F.Assign op x y) (node.rolls-Assign op x y))
+  fault-Assign op x y = ap (λ (j : Judged). j.blame G r)
+      (judged_by l _ (ExprNode-F.Assign op x y) (node.rolls-Assign op x y))
 
-  pub fault-Comma : (x y : Expr) → fault (at l (node.Comma x y)) G r ≡ first (fault x G Free) (first (fault y G Value) (value_fault r l))
+  pub fault-Comma : (x y : Expr) → fault (at l (node.Comma x y)) G r
+      ≡ first (fault x G Free) (first (fault y G Value) (value_fault r l))
   unfolding fault is_place
-  fault-Comma x y = ap (λ (j : Judged). j.blame G r) (judged_by l _ (ExprNode-F.Comma x y) (node.rolls-Comma x y))
+  fault-Comma x y = ap (λ (j : Judged). j.blame G r)
+      (judged_by l _ (ExprNode-F.Comma x y) (node.rolls-Comma x y))
 
 module _ (G : Scope) (l : ℕ) where
-  pub tree-Number : (v : ℕ) (k : Kind) → tree (at l (node.Number v k)) G ≡ a (Some k) (typed.Number v)
-  tree-Number v k = ap (λ (f : C). f G) (tree_by l _ (ExprNode-F.Number v k) (node.rolls-Number v k))
+  pub tree-Number : (v : ℕ) (k : Kind) → tree (at l (node.Number v k)) G
+      ≡ a (Some k) (typed.Number v)
+  tree-Number v k = ap (λ (f : C). f G) (tree_by l _ (ExprNode-F.Number v k)
+      (node.rolls-Number v k))
 
   pub tree-Name : (w : List ℕ) → tree (at l (node.Name w)) G ≡ name_tree (look_up G w)
   tree-Name w = ap (λ (f : C). f G) (tree_by l _ (ExprNode-F.Name w) (node.rolls-Name w))
 
-  pub tree-Element : (w : List ℕ) (i : Expr) → tree (at l (node.Element w i)) G ≡ a (Some (array_kind (look_up G w))) (typed.Element (array_place (look_up G w)) (tree i G))
-  tree-Element w i = ap (λ (f : C). f G) (tree_by l _ (ExprNode-F.Element w i) (node.rolls-Element w i))
+  pub tree-Element : (w : List ℕ) (i : Expr)
+      → tree (at l (node.Element w i)) G ≡ a (Some (array_kind (look_up G w)))
+      (typed.Element (array_place (look_up G w)) (tree i G))
+  tree-Element w i = ap (λ (f : C). f G) (tree_by l _ (ExprNode-F.Element w i)
+      (node.rolls-Element w i))
 
-  pub tree-Call : (w : List ℕ) (es : List Expr) → tree (at l (node.Call w es)) G ≡ a (result_kind (look_up G w)) (typed.Call (callee_of (look_up G w)) (args_tree (slots_of (look_up G w)) es G))
+  pub tree-Call : (w : List ℕ) (es : List Expr)
+      → tree (at l (node.Call w es)) G ≡ a (result_kind (look_up G w))
+      (typed.Call (callee_of (look_up G w)) (args_tree (slots_of (look_up G w)) es G))
   tree-Call w es =
       ap (λ (f : C). f G) (tree_by l _ (ExprNode-F.Call w es) (node.rolls-Call w es))
-      ∙ ap (λ (ts : List TypedExpr). a (result_kind (look_up G w)) (typed.Call (callee_of (look_up G w)) ts)) (trees_same (slots_of (look_up G w)) es G)
+      ∙ ap (λ (ts : List TypedExpr). a (result_kind (look_up G w))
+      (typed.Call (callee_of (look_up G w)) ts)) (trees_same (slots_of (look_up G w)) es G)
 
   pub tree-Group : (e : Expr) → tree (at l (node.Group e)) G ≡ tree e G
   tree-Group e = ap (λ (f : C). f G) (tree_by l _ (ExprNode-F.Group e) (node.rolls-Group e))
 
   pub tree-Unary : (op : UnaryOp) (e : Expr) → tree (at l (node.Unary op e)) G ≡ unary op (tree e G)
-  tree-Unary op e = ap (λ (f : C). f G) (tree_by l _ (ExprNode-F.Unary op e) (node.rolls-Unary op e))
+  tree-Unary op e = ap (λ (f : C). f G) (tree_by l _ (ExprNode-F.Unary op e)
+      (node.rolls-Unary op e))
 
   pub tree-Cast : (to : Kind) (e : Expr) → tree (at l (node.Cast to e)) G ≡ cast to (tree e G)
   tree-Cast to e = ap (λ (f : C). f G) (tree_by l _ (ExprNode-F.Cast to e) (node.rolls-Cast to e))
@@ -138,14 +187,20 @@ module _ (G : Scope) (l : ℕ) where
   pub tree-Bump : (op : BumpOp) (e : Expr) → tree (at l (node.Bump op e)) G ≡ bump op (tree e G)
   tree-Bump op e = ap (λ (f : C). f G) (tree_by l _ (ExprNode-F.Bump op e) (node.rolls-Bump op e))
 
-  pub tree-Binary : (op : BinaryOp) (x y : Expr) → tree (at l (node.Binary op x y)) G ≡ binary op (tree x G) (tree y G)
-  tree-Binary op x y = ap (λ (f : C). f G) (tree_by l _ (ExprNode-F.Binary op x y) (node.rolls-Binary op x y))
+  pub tree-Binary : (op : BinaryOp) (x y : Expr)
+      → tree (at l (node.Binary op x y)) G ≡ binary op (tree x G) (tree y G)
+  tree-Binary op x y = ap (λ (f : C). f G)
+      (tree_by l _ (ExprNode-F.Binary op x y) (node.rolls-Binary op x y))
 
-  pub tree-Choice : (t x y : Expr) → tree (at l (node.Choice t x y)) G ≡ choice (tree t G) (tree x G) (tree y G)
-  tree-Choice t x y = ap (λ (f : C). f G) (tree_by l _ (ExprNode-F.Choice t x y) (node.rolls-Choice t x y))
+  pub tree-Choice : (t x y : Expr) → tree (at l (node.Choice t x y)) G
+      ≡ choice (tree t G) (tree x G) (tree y G)
+  tree-Choice t x y = ap (λ (f : C). f G)
+      (tree_by l _ (ExprNode-F.Choice t x y) (node.rolls-Choice t x y))
 
-  pub tree-Assign : (op : Option BinaryOp) (x y : Expr) → tree (at l (node.Assign op x y)) G ≡ assign op (tree x G) (tree y G)
-  tree-Assign op x y = ap (λ (f : C). f G) (tree_by l _ (ExprNode-F.Assign op x y) (node.rolls-Assign op x y))
+  pub tree-Assign : (op : Option BinaryOp) (x y : Expr)
+      → tree (at l (node.Assign op x y)) G ≡ assign op (tree x G) (tree y G)
+  tree-Assign op x y = ap (λ (f : C). f G)
+      (tree_by l _ (ExprNode-F.Assign op x y) (node.rolls-Assign op x y))
 
   pub tree-Comma : (x y : Expr) → tree (at l (node.Comma x y)) G ≡ comma (tree x G) (tree y G)
   tree-Comma x y = ap (λ (f : C). f G) (tree_by l _ (ExprNode-F.Comma x y) (node.rolls-Comma x y))
@@ -153,51 +208,74 @@ module _ (G : Scope) (l : ℕ) where
 module _ (f : Expr) where
   pub place-Number : (v : ℕ) (k : Kind) → f.node ≡ node.Number v k → is_place f ≡ false
   unfolding is_place
-  place-Number v k h = ap (λ n. is_place (at f.line n)) h ∙ ap (λ (j : Judged). j.place) (judged_by f.line _ (ExprNode-F.Number v k) (node.rolls-Number v k))
+  place-Number v k h = ap (λ n. is_place (at f.line n)) h
+      ∙ ap (λ (j : Judged). j.place) (judged_by f.line _ (ExprNode-F.Number v k)
+      (node.rolls-Number v k))
 
   pub place-Name : (w : List ℕ) → f.node ≡ node.Name w → is_place f ≡ true
   unfolding is_place
-  place-Name w h = ap (λ n. is_place (at f.line n)) h ∙ ap (λ (j : Judged). j.place) (judged_by f.line _ (ExprNode-F.Name w) (node.rolls-Name w))
+  place-Name w h = ap (λ n. is_place (at f.line n)) h
+      ∙ ap (λ (j : Judged). j.place) (judged_by f.line _ (ExprNode-F.Name w) (node.rolls-Name w))
 
   pub place-Element : (w : List ℕ) (i : Expr) → f.node ≡ node.Element w i → is_place f ≡ true
   unfolding is_place
-  place-Element w i h = ap (λ n. is_place (at f.line n)) h ∙ ap (λ (j : Judged). j.place) (judged_by f.line _ (ExprNode-F.Element w i) (node.rolls-Element w i))
+  place-Element w i h = ap (λ n. is_place (at f.line n)) h
+      ∙ ap (λ (j : Judged). j.place) (judged_by f.line _ (ExprNode-F.Element w i)
+      (node.rolls-Element w i))
 
   pub place-Call : (w : List ℕ) (es : List Expr) → f.node ≡ node.Call w es → is_place f ≡ false
   unfolding is_place
-  place-Call w es h = ap (λ n. is_place (at f.line n)) h ∙ ap (λ (j : Judged). j.place) (judged_by f.line _ (ExprNode-F.Call w es) (node.rolls-Call w es))
+  place-Call w es h = ap (λ n. is_place (at f.line n)) h
+      ∙ ap (λ (j : Judged). j.place) (judged_by f.line _ (ExprNode-F.Call w es)
+      (node.rolls-Call w es))
 
   pub place-Group : (e : Expr) → f.node ≡ node.Group e → is_place f ≡ is_place e
   unfolding is_place
-  place-Group e h = ap (λ n. is_place (at f.line n)) h ∙ ap (λ (j : Judged). j.place) (judged_by f.line _ (ExprNode-F.Group e) (node.rolls-Group e))
+  place-Group e h = ap (λ n. is_place (at f.line n)) h
+      ∙ ap (λ (j : Judged). j.place) (judged_by f.line _ (ExprNode-F.Group e) (node.rolls-Group e))
 
   pub place-Unary : (op : UnaryOp) (e : Expr) → f.node ≡ node.Unary op e → is_place f ≡ false
   unfolding is_place
-  place-Unary op e h = ap (λ n. is_place (at f.line n)) h ∙ ap (λ (j : Judged). j.place) (judged_by f.line _ (ExprNode-F.Unary op e) (node.rolls-Unary op e))
+  place-Unary op e h = ap (λ n. is_place (at f.line n)) h
+      ∙ ap (λ (j : Judged). j.place) (judged_by f.line _ (ExprNode-F.Unary op e)
+      (node.rolls-Unary op e))
 
   pub place-Cast : (to : Kind) (e : Expr) → f.node ≡ node.Cast to e → is_place f ≡ false
   unfolding is_place
-  place-Cast to e h = ap (λ n. is_place (at f.line n)) h ∙ ap (λ (j : Judged). j.place) (judged_by f.line _ (ExprNode-F.Cast to e) (node.rolls-Cast to e))
+  place-Cast to e h = ap (λ n. is_place (at f.line n)) h
+      ∙ ap (λ (j : Judged). j.place) (judged_by f.line _ (ExprNode-F.Cast to e)
+      (node.rolls-Cast to e))
 
   pub place-Bump : (op : BumpOp) (e : Expr) → f.node ≡ node.Bump op e → is_place f ≡ false
   unfolding is_place
-  place-Bump op e h = ap (λ n. is_place (at f.line n)) h ∙ ap (λ (j : Judged). j.place) (judged_by f.line _ (ExprNode-F.Bump op e) (node.rolls-Bump op e))
+  place-Bump op e h = ap (λ n. is_place (at f.line n)) h
+      ∙ ap (λ (j : Judged). j.place) (judged_by f.line _ (ExprNode-F.Bump op e)
+      (node.rolls-Bump op e))
 
   pub place-Binary : (op : BinaryOp) (x y : Expr) → f.node ≡ node.Binary op x y → is_place f ≡ false
   unfolding is_place
-  place-Binary op x y h = ap (λ n. is_place (at f.line n)) h ∙ ap (λ (j : Judged). j.place) (judged_by f.line _ (ExprNode-F.Binary op x y) (node.rolls-Binary op x y))
+  place-Binary op x y h = ap (λ n. is_place (at f.line n)) h
+      ∙ ap (λ (j : Judged). j.place) (judged_by f.line _ (ExprNode-F.Binary op x y)
+      (node.rolls-Binary op x y))
 
   pub place-Choice : (t x y : Expr) → f.node ≡ node.Choice t x y → is_place f ≡ false
   unfolding is_place
-  place-Choice t x y h = ap (λ n. is_place (at f.line n)) h ∙ ap (λ (j : Judged). j.place) (judged_by f.line _ (ExprNode-F.Choice t x y) (node.rolls-Choice t x y))
+  place-Choice t x y h = ap (λ n. is_place (at f.line n)) h
+      ∙ ap (λ (j : Judged). j.place) (judged_by f.line _ (ExprNode-F.Choice t x y)
+      (node.rolls-Choice t x y))
 
-  pub place-Assign : (op : Option BinaryOp) (x y : Expr) → f.node ≡ node.Assign op x y → is_place f ≡ false
+  pub place-Assign : (op : Option BinaryOp) (x y : Expr) → f.node ≡ node.Assign op x y
+      → is_place f ≡ false
   unfolding is_place
-  place-Assign op x y h = ap (λ n. is_place (at f.line n)) h ∙ ap (λ (j : Judged). j.place) (judged_by f.line _ (ExprNode-F.Assign op x y) (node.rolls-Assign op x y))
+  place-Assign op x y h = ap (λ n. is_place (at f.line n)) h
+      ∙ ap (λ (j : Judged). j.place) (judged_by f.line _ (ExprNode-F.Assign op x y)
+      (node.rolls-Assign op x y))
 
   pub place-Comma : (x y : Expr) → f.node ≡ node.Comma x y → is_place f ≡ false
   unfolding is_place
-  place-Comma x y h = ap (λ n. is_place (at f.line n)) h ∙ ap (λ (j : Judged). j.place) (judged_by f.line _ (ExprNode-F.Comma x y) (node.rolls-Comma x y))
+  place-Comma x y h = ap (λ n. is_place (at f.line n)) h
+      ∙ ap (λ (j : Judged). j.place) (judged_by f.line _ (ExprNode-F.Comma x y)
+      (node.rolls-Comma x y))
 
 pub ruleset on_number = (fault-Number, tree-Number)
 

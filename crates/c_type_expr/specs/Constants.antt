@@ -1,7 +1,10 @@
 -- The first fault of a constant expression and of a full expression (C17 6.6, 6.8).
-use Rattle.std.specs.Prelude.{ℕ, Bool, true, false, cond, is_some, nat_lt, ℤ, pos, negsuc, List, [], ◌∷◌, Option, Some, None}
+use Rattle.std.specs.Prelude.{ℕ, Bool, true, false, cond, is_some, nat_lt, ℤ, pos, negsuc, List, []}
+use Rattle.std.specs.Prelude.{◌∷◌, Option, Some, None}
 use Rattle.c_tree.specs.declared.tree.Expr.{Expr, Expr-F, fold-Expr}
-use Rattle.c_tree.specs.declared.tree.ExprNode.TheOpen.{ExprNode-F, Number, Name, Element, Call, Group, Unary, Cast, Bump, Binary, Choice, Assign, Comma}
+use Rattle.c_tree.specs.declared.tree.ExprNode.TheOpen.{ExprNode-F, Number, Name, Element, Call}
+use Rattle.c_tree.specs.declared.tree.ExprNode.TheOpen.{Group, Unary, Cast, Bump, Binary, Choice}
+use Rattle.c_tree.specs.declared.tree.ExprNode.TheOpen.{Assign, Comma}
 use Rattle.c_scope.specs.Scope.{Scope, look_up}
 use Rattle.c_constant.specs.Kinds.{number, converted}
 use Rattle.c_constant.specs.Constant.{constant}

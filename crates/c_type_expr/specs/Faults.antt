@@ -1,9 +1,12 @@
 -- The first node of an expression that fails, in the order of the text (C17 6.5).
-use Rattle.std.specs.Prelude.{ℕ, Bool, true, false, nat_eq, length, List, [], ◌∷◌, Option, Some, None}
+use Rattle.std.specs.Prelude.{ℕ, Bool, true, false, nat_eq, length, List, [], ◌∷◌, Option, Some}
+use Rattle.std.specs.Prelude.{None}
 use Rattle.c_tree.specs.declared.token.Kind.{Kind}
 use Rattle.c_tree.specs.declared.tree.Expr.{Expr, Expr-F, fold-Expr}
 use Rattle.c_tree.specs.declared.tree.ExprNode.{ExprNode}
-use Rattle.c_tree.specs.declared.tree.ExprNode.TheOpen.{ExprNode-F, Number, Name, Element, Call, Group, Unary, Cast, Bump, Binary, Choice, Assign, Comma}
+use Rattle.c_tree.specs.declared.tree.ExprNode.TheOpen.{ExprNode-F, Number, Name, Element, Call}
+use Rattle.c_tree.specs.declared.tree.ExprNode.TheOpen.{Group, Unary, Cast, Bump, Binary, Choice}
+use Rattle.c_tree.specs.declared.tree.ExprNode.TheOpen.{Assign, Comma}
 use Rattle.c_tree.specs.declared.typed.Callee.{Callee}
 use Rattle.c_tree.specs.declared.typed.Slot.{Slot}
 use Rattle.c_tree.specs.declared.typed.Slot.TheVariants as slot
@@ -13,7 +16,8 @@ use Rattle.c_scope.specs.Scope.{Scope, look_up}
 use Rattle.c_type_expr.specs.declared.fault.TypeFault.TheVariants.{Unknown, Mismatch, Arity}
 use Rattle.c_type_expr.specs.declared.role.Role.{Role}
 use Rattle.c_type_expr.specs.declared.role.Role.TheVariants.{Value, Free, Array, Surplus}
-use Rattle.c_type_expr.specs.Roles.{Blame, first, unless, takes_value, takes_element, takes_void, takes_array, left_role}
+use Rattle.c_type_expr.specs.Roles.{Blame, first, unless, takes_value, takes_element, takes_void}
+use Rattle.c_type_expr.specs.Roles.{takes_array, left_role}
 
 abbrev pub value_fault : Role → ℕ → Blame
 value_fault r l = unless (takes_value r) (Mismatch l)
@@ -41,7 +45,8 @@ takes_result (Some k) r = takes_value r
 abbrev pub callee_fault : Option Callee → Option Kind → List Slot → ℕ → Role → ℕ → Blame
 callee_fault None result params args r l = Some (Unknown l)
 callee_fault (Some c) result params args r l =
-    first (unless (takes_result result r) (Mismatch l)) (unless (nat_eq args (length params)) (Arity l))
+    first (unless (takes_result result r) (Mismatch l))
+    (unless (nat_eq args (length params)) (Arity l))
 
 abbrev pub call_fault : Option Meaning → ℕ → Role → ℕ → Blame
 call_fault None args r l = Some (Unknown l)
@@ -92,7 +97,8 @@ node_blame (Unary op e) l G r = first (e.blame G Value) (value_fault r l)
 node_blame (Cast to e) l G r = first (e.blame G Value) (value_fault r l)
 node_blame (Bump op e) l G r =
     first (e.blame G (left_role e.place)) (first (unless e.place (Mismatch l)) (value_fault r l))
-node_blame (Binary op x y) l G r = first (x.blame G Value) (first (y.blame G Value) (value_fault r l))
+node_blame (Binary op x y) l G r = first (x.blame G Value)
+    (first (y.blame G Value) (value_fault r l))
 node_blame (Choice t x y) l G r =
     first (t.blame G Value) (first (x.blame G Value) (first (y.blame G Value) (value_fault r l)))
 node_blame (Assign op x y) l G r =

@@ -6,7 +6,9 @@ use Rattle.c_tree.specs.declared.tree.UnaryOp.{UnaryOp}
 use Rattle.c_tree.specs.declared.tree.BumpOp.{BumpOp}
 use Rattle.c_tree.specs.declared.tree.BinaryOp.{BinaryOp}
 use Rattle.c_tree.specs.declared.tree.Expr.{Expr, Expr-F, fold-Expr}
-use Rattle.c_tree.specs.declared.tree.ExprNode.TheOpen.{ExprNode-F, Number, Name, Element, Call, Group, Unary, Cast, Bump, Binary, Choice, Assign, Comma}
+use Rattle.c_tree.specs.declared.tree.ExprNode.TheOpen.{ExprNode-F, Number, Name, Element, Call}
+use Rattle.c_tree.specs.declared.tree.ExprNode.TheOpen.{Group, Unary, Cast, Bump, Binary, Choice}
+use Rattle.c_tree.specs.declared.tree.ExprNode.TheOpen.{Assign, Comma}
 use Rattle.c_tree.specs.declared.typed.Place.{Place}
 use Rattle.c_tree.specs.declared.typed.Place.TheVariants as place
 use Rattle.c_tree.specs.declared.typed.Callee.{Callee}
@@ -97,7 +99,8 @@ choice t x y =
     let k = common (kind_of x) (kind_of y) in
     a (Some k) (typed.Choice t (converted k x) (converted k y))
 
--- the type in which the operation of an assignment is done, and that to which its right side converts
+-- the type in which the operation of an assignment is done, and that to which its right side
+-- converts
 abbrev pub assigned_at : Option BinaryOp → Kind → Kind → Kind
 assigned_at None j k = j
 assigned_at (Some op) j k = left_at op j k

@@ -18,7 +18,8 @@ use Rattle.c_type_expr.specs.declared.role.Role.{Role}
 use Rattle.c_type_expr.specs.declared.role.Role.TheVariants.{Value, Free, Written, Array}
 use Rattle.c_type_expr.specs.Roles.{takes_value, takes_element, takes_array}
 use Rattle.c_type_expr.specs.Faults.{takes_result, is_place}
-use Rattle.c_type_expr.specs.Trees.{a, converted, end_of_file, unary, cast, bump, binary, choice, assign, comma}
+use Rattle.c_type_expr.specs.Trees.{a, converted, end_of_file, unary, cast, bump, binary, choice}
+use Rattle.c_type_expr.specs.Trees.{assign, comma}
 use Rattle.c_type_expr.specs.Says.{at}
 
 mutual
@@ -38,29 +39,41 @@ mutual
     element : {r : Role} {l : ℕ} {w : List ℕ} {k : Kind} {p : Place} {i : Expr} {j : TypedExpr}
         → Typed G Value i j → look_up G w ≡ Some (meaning.Array k p) → takes_element r ≡ true
         → Typed G r (at l (node.Element w i)) (a (Some k) (typed.Element p j))
-    call : {r : Role} {l : ℕ} {w : List ℕ} {result : Option Kind} {slots : List Slot} {c : Callee} {d : Bool} {es : List Expr} {ts : List TypedExpr}
-        → look_up G w ≡ Some (meaning.Function result slots (Some c) d) → Passed G slots es ts → takes_result result r ≡ true
+    call : {r : Role} {l : ℕ} {w : List ℕ} {result : Option Kind} {slots : List Slot} {c : Callee}
+        {d : Bool} {es : List Expr} {ts : List TypedExpr}
+        → look_up G w ≡ Some (meaning.Function result slots (Some c) d) → Passed G slots es ts
+        → takes_result result r ≡ true
         → Typed G r (at l (node.Call w es)) (a result (typed.Call c ts))
-    group : {r : Role} {l : ℕ} {e : Expr} {t : TypedExpr} → Typed G r e t → Typed G r (at l (node.Group e)) t
-    operator : {r : Role} {l : ℕ} {op : UnaryOp} {e : Expr} {t : TypedExpr} → Typed G Value e t → takes_value r ≡ true
+    group : {r : Role} {l : ℕ} {e : Expr} {t : TypedExpr} → Typed G r e t
+        → Typed G r (at l (node.Group e)) t
+    operator : {r : Role} {l : ℕ} {op : UnaryOp} {e : Expr} {t : TypedExpr} → Typed G Value e t
+        → takes_value r ≡ true
         → Typed G r (at l (node.Unary op e)) (unary op t)
-    conversion : {r : Role} {l : ℕ} {to : Kind} {e : Expr} {t : TypedExpr} → Typed G Value e t → takes_value r ≡ true
+    conversion : {r : Role} {l : ℕ} {to : Kind} {e : Expr} {t : TypedExpr} → Typed G Value e t
+        → takes_value r ≡ true
         → Typed G r (at l (node.Cast to e)) (cast to t)
-    step : {r : Role} {l : ℕ} {op : BumpOp} {e : Expr} {t : TypedExpr} → is_place e ≡ true → Typed G Written e t → takes_value r ≡ true
+    step : {r : Role} {l : ℕ} {op : BumpOp} {e : Expr} {t : TypedExpr} → is_place e ≡ true
+        → Typed G Written e t → takes_value r ≡ true
         → Typed G r (at l (node.Bump op e)) (bump op t)
-    operation : {r : Role} {l : ℕ} {op : BinaryOp} {x y : Expr} {s t : TypedExpr} → Typed G Value x s → Typed G Value y t → takes_value r ≡ true
+    operation : {r : Role} {l : ℕ} {op : BinaryOp} {x y : Expr} {s t : TypedExpr}
+        → Typed G Value x s → Typed G Value y t → takes_value r ≡ true
         → Typed G r (at l (node.Binary op x y)) (binary op s t)
-    either : {r : Role} {l : ℕ} {c x y : Expr} {d s t : TypedExpr} → Typed G Value c d → Typed G Value x s → Typed G Value y t → takes_value r ≡ true
+    either : {r : Role} {l : ℕ} {c x y : Expr} {d s t : TypedExpr} → Typed G Value c d
+        → Typed G Value x s → Typed G Value y t → takes_value r ≡ true
         → Typed G r (at l (node.Choice c x y)) (choice d s t)
-    assignment : {r : Role} {l : ℕ} {op : Option BinaryOp} {x y : Expr} {s t : TypedExpr} → is_place x ≡ true → Typed G Written x s → Typed G Value y t → takes_value r ≡ true
+    assignment : {r : Role} {l : ℕ} {op : Option BinaryOp} {x y : Expr} {s t : TypedExpr}
+        → is_place x ≡ true → Typed G Written x s → Typed G Value y t → takes_value r ≡ true
         → Typed G r (at l (node.Assign op x y)) (assign op s t)
-    sequence : {r : Role} {l : ℕ} {x y : Expr} {s t : TypedExpr} → Typed G Free x s → Typed G Value y t → takes_value r ≡ true
+    sequence : {r : Role} {l : ℕ} {x y : Expr} {s t : TypedExpr} → Typed G Free x s
+        → Typed G Value y t → takes_value r ≡ true
         → Typed G r (at l (node.Comma x y)) (comma s t)
 
   -- the arguments fit the parameters one by one
   pub data Passed (G : Scope) : List Slot → List Expr → List TypedExpr → Type 0 where
     none : Passed G [] [] []
-    value : {k : Kind} {e : Expr} {t : TypedExpr} {slots : List Slot} {es : List Expr} {ts : List TypedExpr} → Typed G Value e t → Passed G slots es ts
+    value : {k : Kind} {e : Expr} {t : TypedExpr} {slots : List Slot} {es : List Expr}
+        {ts : List TypedExpr} → Typed G Value e t → Passed G slots es ts
         → Passed G (slot.Scalar k ∷ slots) (e ∷ es) (converted k t ∷ ts)
-    address : {k : Kind} {e : Expr} {t : TypedExpr} {slots : List Slot} {es : List Expr} {ts : List TypedExpr} → Typed G (Array k) e t → Passed G slots es ts
+    address : {k : Kind} {e : Expr} {t : TypedExpr} {slots : List Slot} {es : List Expr}
+        {ts : List TypedExpr} → Typed G (Array k) e t → Passed G slots es ts
         → Passed G (slot.Address k ∷ slots) (e ∷ es) (t ∷ ts)

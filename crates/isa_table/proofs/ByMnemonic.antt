@@ -79,7 +79,8 @@ mnemonic_again op.Gens = refl
 mnemonic_again op.App = refl
 
 -- an operation that is found has the mnemonic that was asked for
-pub mnemonic_taken : (word : List ℕ) (op : Op) → op_with_mnemonic word ≡ Some op → mnemonic_of op ≡ word
+pub mnemonic_taken : (word : List ℕ) (op : Op) → op_with_mnemonic word ≡ Some op
+    → mnemonic_of op ≡ word
 unfolding op_with_mnemonic
 mnemonic_taken word op found =
     let guess = candidate_by_mnemonic word in
@@ -98,4 +99,5 @@ mnemonic_exact word found e op = (
 -- no two operations have one mnemonic
 pub mnemonic_one : (a b : Op) → mnemonic_of a ≡ mnemonic_of b → a ≡ b
 mnemonic_one a b e =
-    same_Some a b (sym (mnemonic_again a) ∙ subst (λ (w : List ℕ). op_with_mnemonic w ≡ Some b) (sym e) (mnemonic_again b))
+    same_Some a b (sym (mnemonic_again a)
+    ∙ subst (λ (w : List ℕ). op_with_mnemonic w ≡ Some b) (sym e) (mnemonic_again b))

@@ -1,11 +1,13 @@
 -- The table of operations read by its numbers, both ways.
-use Rattle.std.proofs.Common.{lit<, lit≤, subst, ℕ, ◌≡◌, Option, Some, Bool, true, false, ◌&&◌, refl, sym, arith, nat_eq, ◌∙◌, ◌↔◌}
+use Rattle.std.proofs.Common.{lit<, lit≤, subst, ℕ, ◌≡◌, Option, Some, Bool, true, false, ◌&&◌}
+use Rattle.std.proofs.Common.{refl, sym, arith, nat_eq, ◌∙◌, ◌↔◌}
 use Rattle.std.proofs.lemmas.Bool.Decides.{nat_tests}
 use Rattle.std.proofs.lemmas.Option.{cond_some}
 use Rattle.trips_isa.specs.declared.op.Op.{Op}
 use Rattle.trips_isa.specs.declared.op.Op.TheVariants as op
 use Rattle.trips_isa.specs.Forms.{form_of}
-use Rattle.isa_table.specs.Codes.{code_of, candidate_by_numbers, has_numbers, op_with_numbers, GoodCode}
+use Rattle.isa_table.specs.Codes.{code_of, candidate_by_numbers, has_numbers, op_with_numbers}
+use Rattle.isa_table.specs.Codes.{GoodCode}
 
 -- each operation stands where its numbers say
 pub numbers_again : (op : Op) → op_with_numbers (code_of op).opcode (code_of op).extended ≡ Some op
@@ -167,11 +169,16 @@ numbers_taken opcode extended op found =
     let chosen = cond_some (one && two) guess op found in
     let both = both_true one two chosen.0 in
     let P : Op → Type 0 = λ x. ((code_of x).opcode ≡ opcode) × ((code_of x).extended ≡ extended) in
-    subst P chosen.1 (nat_eq_is (code_of guess).opcode opcode both.0, nat_eq_is (code_of guess).extended extended both.1)
+    subst P chosen.1 (
+      nat_eq_is (code_of guess).opcode opcode both.0,
+      nat_eq_is (code_of guess).extended extended both.1,
+    )
 
 -- a look-up by numbers gives an operation exactly where it has them
-pub numbers_exact : (opcode extended : ℕ) (found : Option Op) → found ≡ op_with_numbers opcode extended
-    → (op : Op) → (found ≡ Some op) ↔ ((code_of op).opcode ≡ opcode) × ((code_of op).extended ≡ extended)
+pub numbers_exact : (opcode extended : ℕ) (found : Option Op)
+    → found ≡ op_with_numbers opcode extended
+    → (op : Op) → (found ≡ Some op) ↔ ((code_of op).opcode ≡ opcode)
+    × ((code_of op).extended ≡ extended)
 numbers_exact opcode extended found e op = (
   λ f. numbers_taken opcode extended op (sym e ∙ f),
   λ f. e ∙ subst (λ (n : ℕ). op_with_numbers n extended ≡ Some op) f.0

@@ -1,5 +1,6 @@
 -- The mnemonic of each operation, as the bytes of its text.
-use Rattle.std.specs.Prelude.{ℕ, ◌+◌, ◌*◌, ◌%◌, List, [], ◌∷◌, Option, Some, None, if◌then◌else◌, get_or, codes}
+use Rattle.std.specs.Prelude.{ℕ, ◌+◌, ◌*◌, ◌%◌, List, [], ◌∷◌, Option, Some, None, if◌then◌else◌}
+use Rattle.std.specs.Prelude.{get_or, codes}
 use Rattle.std.specs.Str.{bytes_eq}
 use Rattle.trips_isa.specs.declared.op.Op.{Op}
 use Rattle.trips_isa.specs.declared.op.Op.TheVariants as op

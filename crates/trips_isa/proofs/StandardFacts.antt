@@ -1,5 +1,6 @@
 -- Worked rows of the definitions, by evaluation.
-use Rattle.std.proofs.Common.{◌≡◌, ℕ, ◌-◌, ◌^◌, true, false, List, [], ◌∷◌, replicate, Option, Some, None, refl, pos, negsuc, slice_index, get_or}
+use Rattle.std.proofs.Common.{◌≡◌, ℕ, ◌-◌, ◌^◌, true, false, List, [], ◌∷◌, replicate, Option, Some}
+use Rattle.std.proofs.Common.{None, refl, pos, negsuc, slice_index, get_or}
 use Rattle.std.specs.Prelude.{ℤ}
 use Rattle.trips_isa.specs.declared.op.Op.{Op}
 use Rattle.trips_isa.specs.declared.op.Op.TheVariants as op
@@ -21,7 +22,8 @@ use Rattle.trips_isa.specs.Blocks.{given}
 use Rattle.trips_isa.specs.Outcomes.{all_stores}
 use Rattle.trips_isa.specs.Machine.{State, runs, step_of}
 
--- arithmetic: the least number by -1, a division by zero, a shift by 65, signs ------------------------
+-- arithmetic: the least number by -1, a division by zero, a shift by 65, signs
+-- ------------------------
 
 pub least_by_minus_one : alu_of op.Divs (2 ^ 63) (2 ^ 64 - 1) ≡ 2 ^ 63
 least_by_minus_one = refl
@@ -60,31 +62,55 @@ null_on_false = refl
 pub even_on_false : matched OnFalse (Some (Word 4)) ≡ true
 even_on_false = refl
 
--- two blocks: a late divide feeds a store, and the next block loads what it stored ----------------------
+-- two blocks: a late divide feeds a store, and the next block loads what it stored
+-- ----------------------
 
 abbrev inst : Op → ℤ → ℕ → Option Spot → Inst
-inst o imm number target = record { op = o; sense = Always; imm = imm; number = number; first = target; second = None }
+inst o imm number target = record {
+  op = o;
+  sense = Always;
+  imm = imm;
+  number = number;
+  first = target;
+  second = None;
+}
 
 abbrev plain : Op → ℤ → ℕ → Option Spot → Option Inst
 plain o imm number target = Some (inst o imm number target)
 
 abbrev block : List ReadSlot → List ℕ → ℕ → List (Option Inst) → Block
-block reads writes mask insts = record { reads = record { items = reads }; writes = record { items = writes }; mask = mask; insts = record { items = insts } }
+block reads writes mask insts = record {
+  reads = record { items = reads };
+  writes = record { items = writes };
+  mask = mask;
+  insts = record { items = insts };
+}
 
 abbrev storing : Block
 storing = block [] [] 1
-    (plain op.Genu (pos 7) 0 (Some (Left 2)) ∷ plain op.Genu (pos 1) 0 (Some (Right 2)) ∷ plain op.Divu (pos 0) 0 (Some (Left 4))
-    ∷ plain op.Genu (pos 171) 0 (Some (Right 4)) ∷ plain op.Sb (pos 0) 0 None ∷ plain op.Bro (pos 2) 0 None ∷ [])
+    (plain op.Genu (pos 7) 0 (Some (Left 2)) ∷ plain op.Genu (pos 1) 0
+    (Some (Right 2)) ∷ plain op.Divu (pos 0) 0 (Some (Left 4))
+    ∷ plain op.Genu (pos 171) 0 (Some (Right 4)) ∷ plain op.Sb (pos 0) 0 None ∷ plain op.Bro
+    (pos 2) 0 None ∷ [])
 
 abbrev loading : Block
 loading = block [] (0 ∷ 3 ∷ []) 0
-    (plain op.Genu (pos 0) 0 (Some (Left 1)) ∷ plain op.Ld (pos 0) 0 (Some (Write 1)) ∷ plain op.Genu (pos 3) 0 (Some (Write 0)) ∷ plain op.Scall (pos 0) 0 None ∷ [])
+    (plain op.Genu (pos 0) 0 (Some (Left 1)) ∷ plain op.Ld (pos 0) 0
+    (Some (Write 1)) ∷ plain op.Genu (pos 3) 0 (Some (Write 0)) ∷ plain op.Scall
+    (pos 0) 0 None ∷ [])
 
 abbrev image : List Block
 image = storing ∷ loading ∷ []
 
 abbrev small : State
-small = record { registers = replicate 8 0; memory = replicate 16 0; next = 0; rest = []; output = []; trace = [] }
+small = record {
+  registers = replicate 8 0;
+  memory = replicate 16 0;
+  next = 0;
+  rest = [];
+  output = [];
+  trace = [];
+}
 
 pub went : (step_of image small).1 ≡ Went
 unfolding deepest given all_stores
@@ -105,13 +131,20 @@ loaded = refl
 pub divide_is_asked : producers storing (Left 4) ≡ InstSpot 2 ∷ []
 divide_is_asked = refl
 
--- stores: a byte from two stores and memory, and a null store that hides nothing ----------------------------
+-- stores: a byte from two stores and memory, and a null store that hides nothing
+-- ----------------------------
 
 abbrev put : ℕ → ℕ → ℕ → Option ℕ → Stored
-put number address size value = record { number = number; address = address; size = size; value = value }
+put number address size value = record {
+  number = number;
+  address = address;
+  size = size;
+  value = value;
+}
 
 abbrev three_stores : ℕ → Option Stored
-three_stores n = get_or (Some (put 0 0 4 (Some 16909060)) ∷ Some (put 1 2 1 (Some 170)) ∷ Some (put 2 0 1 None) ∷ []) n None
+three_stores n = get_or (Some (put 0 0 4 (Some 16909060)) ∷ Some (put 1 2 1 (Some 170)) ∷ Some
+    (put 2 0 1 None) ∷ []) n None
 
 abbrev nines : List ℕ
 nines = replicate 8 9

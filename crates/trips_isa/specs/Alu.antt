@@ -1,8 +1,17 @@
--- What an operation gives on words, over whole numbers modulo 2^64; docs/MACHINE.md, "Operations", is its table.
-use Rattle.std.specs.Prelude.{ℕ, ℤ, ◌+◌, ◌-◌, ◌*◌, ◌/◌, ◌%◌, ◌^◌, Bool, true, false, nat_lt, nat_le, nat_eq, cond, bit_and, bit_or, bit_xor, int_lt, int_le, int_div}
+-- What an operation gives on words, over whole numbers modulo 2^64; docs/MACHINE.md, "Operations",
+-- is its table.
+use Rattle.std.specs.Prelude.{ℕ, ℤ, ◌+◌, ◌-◌, ◌*◌, ◌/◌, ◌%◌, ◌^◌, Bool, true, false, nat_lt, nat_le}
+use Rattle.std.specs.Prelude.{nat_eq, cond, bit_and, bit_or, bit_xor, int_lt, int_le, int_div}
 use Rattle.std.specs.Int.{w64, cast_signed, cast_unsigned, int_shr}
 use Rattle.trips_isa.specs.declared.op.Op.{Op}
-use Rattle.trips_isa.specs.declared.op.Op.TheVariants.{Add, Sub, Mul, Divs, Divu, And, Or, Xor, Sll, Srl, Sra, Extsb, Extsh, Extsw, Extub, Extuh, Extuw, Teq, Tne, Tlt, Tle, Tgt, Tge, Tltu, Tleu, Tgtu, Tgeu, Mov, Addi, Subi, Muli, Andi, Ori, Xori, Slli, Srli, Srai, Teqi, Tnei, Tlti, Tlei, Tgti, Tgei, Tltui, Tleui, Tgtui, Tgeui, Lbs, Lhs, Lws, Sb, Sh, Sw, Sd, Br, Ret, Genu, Gens, App}
+use Rattle.trips_isa.specs.declared.op.Op.TheVariants.{Add, Sub, Mul, Divs, Divu, And, Or, Xor, Sll}
+use Rattle.trips_isa.specs.declared.op.Op.TheVariants.{Srl, Sra, Extsb, Extsh, Extsw, Extub, Extuh}
+use Rattle.trips_isa.specs.declared.op.Op.TheVariants.{Extuw, Teq, Tne, Tlt, Tle, Tgt, Tge, Tltu}
+use Rattle.trips_isa.specs.declared.op.Op.TheVariants.{Tleu, Tgtu, Tgeu, Mov, Addi, Subi, Muli}
+use Rattle.trips_isa.specs.declared.op.Op.TheVariants.{Andi, Ori, Xori, Slli, Srli, Srai, Teqi}
+use Rattle.trips_isa.specs.declared.op.Op.TheVariants.{Tnei, Tlti, Tlei, Tgti, Tgei, Tltui, Tleui}
+use Rattle.trips_isa.specs.declared.op.Op.TheVariants.{Tgtui, Tgeui, Lbs, Lhs, Lws, Sb, Sh, Sw, Sd}
+use Rattle.trips_isa.specs.declared.op.Op.TheVariants.{Br, Ret, Genu, Gens, App}
 
 -- a word read as a signed number
 abbrev pub signed : ℕ → ℤ
@@ -27,7 +36,8 @@ quotient_unsigned a b = cond (nat_eq b 0) 0 (a / b)
 abbrev pub extended : ℕ → ℕ → ℕ
 extended k a = cond (nat_lt (a % 2 ^ k) (2 ^ (k - 1))) (a % 2 ^ k) (a % 2 ^ k + (2 ^ 64 - 2 ^ k))
 
--- the right operand stands for the immediate and the constant too; what makes no word of its own gives 0
+-- the right operand stands for the immediate and the constant too; what makes no word of its own
+-- gives 0
 abbrev pub alu_of : Op → ℕ → ℕ → ℕ
 alu_of Add a b = (a + b) % 2 ^ 64
 alu_of Addi a b = (a + b) % 2 ^ 64

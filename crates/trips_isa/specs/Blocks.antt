@@ -1,7 +1,9 @@
 -- The tables of a block: whatever its reads and loads are answered, and in an entry state.
-use Rattle.std.specs.Prelude.{ℕ, zero, suc, ◌+◌, ◌-◌, Bool, true, false, nat_lt, List, length, Option, Some, None, slice_get, slice_index, slice_index_or}
+use Rattle.std.specs.Prelude.{ℕ, zero, suc, ◌+◌, ◌-◌, Bool, true, false, nat_lt, List, length}
+use Rattle.std.specs.Prelude.{Option, Some, None, slice_get, slice_index, slice_index_or}
 use Rattle.trips_isa.specs.declared.form.Form.{Form}
-use Rattle.trips_isa.specs.declared.form.Form.TheVariants.{General, Immediate, Load, Store, Branch, Constant}
+use Rattle.trips_isa.specs.declared.form.Form.TheVariants.{General, Immediate, Load, Store, Branch}
+use Rattle.trips_isa.specs.declared.form.Form.TheVariants.{Constant}
 use Rattle.trips_isa.specs.declared.block.Token.{Token}
 use Rattle.trips_isa.specs.declared.block.Inst.{Inst}
 use Rattle.trips_isa.specs.declared.block.ReadSlot.{ReadSlot}
@@ -14,7 +16,8 @@ use Rattle.trips_isa.specs.Places.{nodes_of}
 use Rattle.trips_isa.specs.Tables.{Computes, IsTable, first, node_gives}
 use Rattle.trips_isa.specs.Stores.{stored_of, load_of, bytes_seen}
 
--- what each node is answered at each address: a read its register's word at address 0, a load the number that the bytes there make
+-- what each node is answered at each address: a read its register's word at address 0, a load the
+-- number that the bytes there make
 abbrev pub Answers : Type 0
 Answers = ℕ → ℕ → ℕ
 
@@ -103,15 +106,18 @@ slot_answered stores mem (Some i) address = bytes_seen stores mem i.number addre
 
 abbrev pub answered_if_read : Bool → Block → List ℕ → List ℕ → (ℕ → Answer) → ℕ → ℕ → ℕ
 answered_if_read true b regs mem g x address = read_word regs (slice_get b.reads.items x)
-answered_if_read false b regs mem g x address = slot_answered (store_of b g) mem (inst_at b x) address
+answered_if_read false b regs mem g x address =
+    slot_answered (store_of b g) mem (inst_at b x) address
 
--- a read is answered its register's word, and a load the bytes of the block's stores of lower numbers over memory
+-- a read is answered its register's word, and a load the bytes of the block's stores of lower
+-- numbers over memory
 abbrev pub answers_in : Block → List ℕ → List ℕ → (ℕ → Answer) → Answers
 answers_in b regs mem g x address = answered_if_read (is_read b x) b regs mem g x address
 
 -- what node x gives where its producers, and the stores that it sees, are as g says
 unfoldable pub given : Block → List ℕ → List ℕ → (ℕ → Answer) → ℕ → Answer
-given b regs mem g x = node_gives (slice_get (nodes_of b) x) (computes b (answers_in b regs mem g) x) (at_place b g)
+given b regs mem g x = node_gives (slice_get (nodes_of b) x)
+    (computes b (answers_in b regs mem g) x) (at_place b g)
 
 -- what node x gives in an entry state where it asks at most k deep
 abbrev pub token_of : Block → List ℕ → List ℕ → ℕ → ℕ → Answer

@@ -1,9 +1,12 @@
--- Blocks and images whose fields lie in their fields: the width of each, and none that a form does not have.
-use Rattle.std.specs.Prelude.{◌≡◌, ℕ, ◌^◌, ◌<◌, ◌≤◌, ℤ, pos, negsuc, Option, Some, None, All, length}
+-- Blocks and images whose fields lie in their fields: the width of each, and none that a form does
+-- not have.
+use Rattle.std.specs.Prelude.{◌≡◌, ℕ, ◌^◌, ◌<◌, ◌≤◌, ℤ, pos, negsuc, Option, Some, None, All}
+use Rattle.std.specs.Prelude.{length}
 use Rattle.trips_isa.specs.declared.op.Op.{Op}
 use Rattle.trips_isa.specs.declared.op.Op.TheVariants.{Bro, Callo, Gens}
 use Rattle.trips_isa.specs.declared.form.Form.{Form}
-use Rattle.trips_isa.specs.declared.form.Form.TheVariants.{General, Immediate, Load, Store, Branch, Constant}
+use Rattle.trips_isa.specs.declared.form.Form.TheVariants.{General, Immediate, Load, Store, Branch}
+use Rattle.trips_isa.specs.declared.form.Form.TheVariants.{Constant}
 use Rattle.trips_isa.specs.declared.block.Sense.TheVariants.{Always}
 use Rattle.trips_isa.specs.declared.block.Spot.{Spot}
 use Rattle.trips_isa.specs.declared.block.Spot.TheVariants as spot
@@ -64,7 +67,8 @@ FitsForm Immediate i = FitsOneTarget i × FitsSigned 256 i.imm × (i.number ≡ 
 FitsForm Load i = FitsOneTarget i × FitsSigned 256 i.imm × (i.number < 32)
 FitsForm Store i = FitsNoTarget i × FitsSigned 256 i.imm × (i.number < 32)
 FitsForm Branch i = FitsNoTarget i × FitsOffset i.op i.imm × (i.number < 8)
-FitsForm Constant i = FitsOneTarget i × FitsConstant i.op i.imm × (i.number ≡ 0) × (i.sense ≡ Always)
+FitsForm Constant i = FitsOneTarget i × FitsConstant i.op i.imm × (i.number ≡ 0)
+    × (i.sense ≡ Always)
 
 abbrev pub FitsInst : Inst → Type 0
 FitsInst i = FitsForm (form_of i.op) i

@@ -1,9 +1,15 @@
 -- The form of each operation's word, and how the operation takes its operands.
 use Rattle.std.specs.Prelude.{ℕ, Bool, true, false}
 use Rattle.trips_isa.specs.declared.op.Op.{Op}
-use Rattle.trips_isa.specs.declared.op.Op.TheVariants.{Extsb, Extsh, Extsw, Extub, Extuh, Extuw, Mov, Null, Addi, Subi, Muli, Andi, Ori, Xori, Slli, Srli, Srai, Teqi, Tnei, Tlti, Tlei, Tgti, Tgei, Tltui, Tleui, Tgtui, Tgeui, Lb, Lbs, Lh, Lhs, Lw, Lws, Ld, Sb, Sh, Sw, Sd, Bro, Callo, Br, Ret, Scall, Genu, Gens, App}
+use Rattle.trips_isa.specs.declared.op.Op.TheVariants.{Extsb, Extsh, Extsw, Extub, Extuh, Extuw}
+use Rattle.trips_isa.specs.declared.op.Op.TheVariants.{Mov, Null, Addi, Subi, Muli, Andi, Ori, Xori}
+use Rattle.trips_isa.specs.declared.op.Op.TheVariants.{Slli, Srli, Srai, Teqi, Tnei, Tlti, Tlei}
+use Rattle.trips_isa.specs.declared.op.Op.TheVariants.{Tgti, Tgei, Tltui, Tleui, Tgtui, Tgeui, Lb}
+use Rattle.trips_isa.specs.declared.op.Op.TheVariants.{Lbs, Lh, Lhs, Lw, Lws, Ld, Sb, Sh, Sw, Sd}
+use Rattle.trips_isa.specs.declared.op.Op.TheVariants.{Bro, Callo, Br, Ret, Scall, Genu, Gens, App}
 use Rattle.trips_isa.specs.declared.form.Form.{Form}
-use Rattle.trips_isa.specs.declared.form.Form.TheVariants.{General, Immediate, Load, Store, Branch, Constant}
+use Rattle.trips_isa.specs.declared.form.Form.TheVariants.{General, Immediate, Load, Store, Branch}
+use Rattle.trips_isa.specs.declared.form.Form.TheVariants.{Constant}
 use Rattle.trips_isa.specs.declared.form.Role.{Role}
 use Rattle.trips_isa.specs.declared.form.Role.TheVariants.{Free, Nothing, Copy, One, Both}
 

@@ -1,5 +1,6 @@
 -- Where the blocks of an image begin, and the images whose parts lie in their fields.
-use Rattle.std.specs.Prelude.{◌≡◌, ℕ, suc, ◌+◌, ◌/◌, ◌≤◌, ◌==◌, cond, max, List, [], ◌∷◌, take, Option, Some, None, All, length, unwrap_or}
+use Rattle.std.specs.Prelude.{◌≡◌, ℕ, suc, ◌+◌, ◌/◌, ◌≤◌, ◌==◌, cond, max, List, [], ◌∷◌, take}
+use Rattle.std.specs.Prelude.{Option, Some, None, All, length, unwrap_or}
 use Rattle.std.specs.List.{sum_by}
 use Rattle.trips_isa.specs.declared.block.Inst.{Inst}
 use Rattle.trips_isa.specs.declared.block.Block.{Block}
@@ -28,7 +29,8 @@ chunk_of blocks k = sum_by chunks (take k blocks)
 -- the block that begins at a chunk, of those from number k on, whose first begins at `here`
 abbrev pub starting_from : List Block → ℕ → ℕ → ℕ → Option ℕ
 starting_from [] k here chunk = None
-starting_from (b ∷ bs) k here chunk = cond (here == chunk) (Some k) (starting_from bs (suc k) (here + chunks b) chunk)
+starting_from (b ∷ bs) k here chunk = cond (here == chunk) (Some k)
+    (starting_from bs (suc k) (here + chunks b) chunk)
 
 -- the block that begins at a chunk of an image, and none where none does
 abbrev pub starting_at : List Block → ℕ → Option ℕ

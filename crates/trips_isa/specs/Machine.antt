@@ -1,5 +1,8 @@
--- The sequential machine: a block's outcome is applied all at once, and then the system call follows.
-use Rattle.std.specs.Prelude.{ℕ, zero, suc, ◌-◌, ◌%◌, ◌^◌, Bool, ◌==◌, cond, List, [], ◌∷◌, ◌++◌, Option, Some, None, slice_get, slice_index, slice_set, length, replicate}
+-- The sequential machine: a block's outcome is applied all at once, and then the system call
+-- follows.
+use Rattle.std.specs.Prelude.{ℕ, zero, suc, ◌-◌, ◌%◌, ◌^◌, Bool, ◌==◌, cond, List, [], ◌∷◌, ◌++◌}
+use Rattle.std.specs.Prelude.{Option, Some, None, slice_get, slice_index, slice_set, length}
+use Rattle.std.specs.Prelude.{replicate}
 use Rattle.trips_isa.specs.declared.block.Token.{Token}
 use Rattle.trips_isa.specs.declared.block.Token.TheVariants.{Null, Word}
 use Rattle.trips_isa.specs.declared.block.Block.{Block}
@@ -49,8 +52,12 @@ with_input s (b ∷ rest) = record s { registers = slice_set s.registers 3 b; re
 -- what register 0 says: 1 puts a byte out, 2 takes one in, 3 ends, 4 is stack full
 abbrev pub system_call : ℕ → State → State × Stepped
 system_call call s =
-    cond (call == 1) (record s { output = s.output ++ (slice_index s.registers 3 % 256) ∷ [] }, Went)
-    (cond (call == 2) (with_input s s.rest, Went) (cond (call == 3) (s, Ended) (cond (call == 4) (s, StackFull) (s, Went))))
+    cond (call == 1) (
+      record s { output = s.output ++ (slice_index s.registers 3 % 256) ∷ [] },
+      Went,
+    )
+    (cond (call == 2) (with_input s s.rest, Went)
+    (cond (call == 3) (s, Ended) (cond (call == 4) (s, StackFull) (s, Went))))
 
 -- the system call reads the registers after the block's writes
 abbrev pub then_system : Bool → State → State × Stepped

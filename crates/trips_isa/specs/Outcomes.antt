@@ -1,5 +1,6 @@
 -- What a block comes to in an entry state: its writes, its stores, its exit and the next block.
-use Rattle.std.specs.Prelude.{ℕ, suc, ◌+◌, ◌/◌, ◌%◌, ◌^◌, Bool, true, false, ◌==◌, nat_lt, cond, List, [], ◌∷◌, Option, Some, None, length}
+use Rattle.std.specs.Prelude.{ℕ, suc, ◌+◌, ◌/◌, ◌%◌, ◌^◌, Bool, true, false, ◌==◌, nat_lt, cond}
+use Rattle.std.specs.Prelude.{List, [], ◌∷◌, Option, Some, None, length}
 use Rattle.trips_isa.specs.declared.op.Op.{Op}
 use Rattle.trips_isa.specs.declared.op.Op.TheVariants.{Bro, Callo, Br, Ret, Scall}
 use Rattle.trips_isa.specs.declared.block.Token.{Token}
@@ -54,7 +55,8 @@ exit_of (Some p) = (p.0).number
 
 -- outcomes ----------------------------------------------------------------------------------------
 
--- the token of each write, the stores in order of number, the exit, whether a system call follows, and the next block
+-- the token of each write, the stores in order of number, the exit, whether a system call follows,
+-- and the next block
 pub record Outcome : Type 0 where
   pub writes : List Token
   pub stores : List Stored

@@ -1,5 +1,6 @@
 -- Places of a block as numbers, and its reads and slots as nodes that name places.
-use Rattle.std.specs.Prelude.{ℕ, suc, ◌+◌, Bool, true, false, ◌==◌, ◌||◌, List, [], ◌∷◌, ◌++◌, map, Option, Some, None}
+use Rattle.std.specs.Prelude.{ℕ, suc, ◌+◌, Bool, true, false, ◌==◌, ◌||◌, List, [], ◌∷◌, ◌++◌, map}
+use Rattle.std.specs.Prelude.{Option, Some, None}
 use Rattle.trips_isa.specs.declared.block.Spot.{Spot}
 use Rattle.trips_isa.specs.declared.block.Spot.TheVariants as spot
 use Rattle.trips_isa.specs.declared.block.Sense.TheVariants.{Always}
@@ -12,8 +13,8 @@ use Rattle.trips_isa.specs.declared.form.Role.TheVariants.{Empty, Reading}
 use Rattle.trips_isa.specs.declared.node.Node.{Node}
 use Rattle.trips_isa.specs.Forms.{form_of, role_of}
 
--- s is the left operand of slot s, 128 + s the right one, 256 + s the predicate, 384 + w the write w, 416 + n the store number n, 448 the exit.
--- They stand in the order of spots. 700 is no place.
+-- s is the left operand of slot s, 128 + s the right one, 256 + s the predicate, 384 + w the write
+-- w, 416 + n the store number n, 448 the exit. They stand in the order of spots. 700 is no place.
 abbrev pub place_of : Spot → ℕ
 place_of (spot.Left s) = s
 place_of (spot.Right s) = 128 + s
@@ -88,11 +89,14 @@ if_named false s rest = rest
 
 abbrev pub reads_naming : ℕ → List ReadSlot → ℕ → List Spot
 reads_naming i [] q = []
-reads_naming i (r ∷ rs) q = if_named (names (targets (read_node r)) q) (spot.Read i) (reads_naming (suc i) rs q)
+reads_naming i (r ∷ rs) q = if_named (names (targets (read_node r)) q) (spot.Read i)
+    (reads_naming (suc i) rs q)
 
 abbrev pub slots_naming : ℕ → List (Option Inst) → ℕ → List Spot
 slots_naming j [] q = []
-slots_naming j (i ∷ is) q = if_named (names (targets (inst_node j i)) q) (spot.Inst j) (slots_naming (suc j) is q)
+slots_naming j (i ∷ is) q = if_named (names (targets (inst_node j i)) q) (spot.Inst j)
+    (slots_naming (suc j) is q)
 
 abbrev pub producers : Block → Spot → List Spot
-producers b s = reads_naming 0 b.reads.items (place_of s) ++ slots_naming 0 b.insts.items (place_of s)
+producers b s = reads_naming 0 b.reads.items (place_of s) ++ slots_naming 0 b.insts.items
+    (place_of s)

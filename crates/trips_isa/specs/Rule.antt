@@ -1,11 +1,13 @@
--- The one rule of firing: what a read or an instruction gives of the tokens at its operands and its predicate.
+-- The one rule of firing: what a read or an instruction gives of the tokens at its operands and its
+-- predicate.
 use Rattle.std.specs.Prelude.{ℕ, ◌%◌, Bool, true, false, not, ◌==◌, Option, Some, None}
 use Rattle.trips_isa.specs.declared.block.Token.{Token}
 use Rattle.trips_isa.specs.declared.block.Token.TheVariants.{Null, Word}
 use Rattle.trips_isa.specs.declared.block.Sense.{Sense}
 use Rattle.trips_isa.specs.declared.block.Sense.TheVariants.{Always, OnTrue, OnFalse}
 use Rattle.trips_isa.specs.declared.form.Role.{Role}
-use Rattle.trips_isa.specs.declared.form.Role.TheVariants.{Empty, Reading, Free, Nothing, Copy, One, Both}
+use Rattle.trips_isa.specs.declared.form.Role.TheVariants.{Empty, Reading, Free, Nothing, Copy, One}
+use Rattle.trips_isa.specs.declared.form.Role.TheVariants.{Both}
 
 -- none where no token comes
 abbrev pub Answer : Type 0
@@ -15,7 +17,8 @@ Answer = Option Token
 abbrev pub low : ℕ → Bool
 low w = w % 2 == 1
 
--- whether an instruction may fire, by the token at its predicate; a null token matches neither sense
+-- whether an instruction may fire, by the token at its predicate; a null token matches neither
+-- sense
 abbrev pub matched : Sense → Answer → Bool
 matched Always p = true
 matched OnTrue None = false
@@ -39,7 +42,8 @@ of_both f None r = None
 of_both f (Some Null) r = null_beside r
 of_both f (Some (Word x)) r = of_one (f x) r
 
--- what a role gives of its operands' tokens, where `a` computes its word of their words; a null operand gives null
+-- what a role gives of its operands' tokens, where `a` computes its word of their words; a null
+-- operand gives null
 abbrev pub gives : Role → (ℕ → ℕ → ℕ) → Answer → Answer → Answer
 gives Empty a l r = None
 gives Reading a l r = Some (Word (a 0 0))

@@ -1,5 +1,7 @@
 -- Stores of a block by number, and the bytes that a load sees through them.
-use Rattle.std.specs.Prelude.{ℕ, zero, suc, ◌+◌, ◌-◌, ◌*◌, ◌/◌, ◌%◌, ◌^◌, Bool, ◌==◌, ◌&&◌, nat_lt, nat_le, cond, List, [], ◌∷◌, ◌++◌, Option, Some, None, slice_index, slice_set}
+use Rattle.std.specs.Prelude.{ℕ, zero, suc, ◌+◌, ◌-◌, ◌*◌, ◌/◌, ◌%◌, ◌^◌, Bool, ◌==◌, ◌&&◌, nat_lt}
+use Rattle.std.specs.Prelude.{nat_le, cond, List, [], ◌∷◌, ◌++◌, Option, Some, None, slice_index}
+use Rattle.std.specs.Prelude.{slice_set}
 use Rattle.trips_isa.specs.declared.block.Token.TheVariants.{Null, Word}
 use Rattle.trips_isa.specs.declared.block.Inst.{Inst}
 use Rattle.trips_isa.specs.declared.block.Stored.{Stored}
@@ -17,16 +19,20 @@ address_of i left = (left + word i.imm) % 2 ^ 64
 
 -- aligned and inside data memory
 abbrev pub is_good_address : ℕ → ℕ → Bool
-is_good_address address size = nat_lt 0 size && ((address % size == 0) && nat_le (address + size) data_size)
+is_good_address address size = nat_lt 0 size &&
+    ((address % size == 0) && nat_le (address + size) data_size)
 
 abbrev pub null_store : Inst → Stored
 null_store i = record { number = i.number; address = 0; size = size_of i.op; value = None }
 
 abbrev pub word_store : Inst → ℕ → ℕ → Stored
 word_store i address value =
-    cond (is_good_address address (size_of i.op)) (record { number = i.number; address = address; size = size_of i.op; value = Some value }) (null_store i)
+    cond (is_good_address address (size_of i.op))
+    (record { number = i.number; address = address; size = size_of i.op; value = Some value })
+    (null_store i)
 
--- what a store does with the tokens of its operands: a null operand and a bad address make a null store
+-- what a store does with the tokens of its operands: a null operand and a bad address make a null
+-- store
 abbrev pub stored_of : Inst → Answer → Answer → Option Stored
 stored_of i None r = None
 stored_of i (Some l) None = None
@@ -40,7 +46,8 @@ stored_of i (Some (Word a)) (Some (Word v)) = Some (word_store i (address_of i a
 abbrev pub byte_stored : Stored → Option ℕ → ℕ → Option ℕ
 byte_stored s None address = None
 byte_stored s (Some v) address =
-    cond (nat_le s.address address && nat_lt (address - s.address) s.size) (Some (v / 2 ^ (8 * (s.size - 1 - (address - s.address))) % 256)) None
+    cond (nat_le s.address address && nat_lt (address - s.address) s.size)
+    (Some (v / 2 ^ (8 * (s.size - 1 - (address - s.address))) % 256)) None
 
 abbrev pub byte_of : Option Stored → ℕ → Option ℕ
 byte_of None address = None
@@ -50,26 +57,32 @@ abbrev pub or_byte : Option ℕ → ℕ → ℕ
 or_byte (Some b) c = b
 or_byte None c = c
 
--- the byte that a load of number n sees: the store's of the greatest lower number that has one, else the memory's
+-- the byte that a load of number n sees: the store's of the greatest lower number that has one,
+-- else the memory's
 abbrev pub byte_seen : (ℕ → Option Stored) → List ℕ → ℕ → ℕ → ℕ
 byte_seen stores mem zero address = slice_index mem address
-byte_seen stores mem (suc n) address = or_byte (byte_of (stores n) address) (byte_seen stores mem n address)
+byte_seen stores mem (suc n) address = or_byte (byte_of (stores n) address)
+    (byte_seen stores mem n address)
 
 -- the number of the first k bytes from an address on, the most significant first
 abbrev pub bytes_seen : (ℕ → Option Stored) → List ℕ → ℕ → ℕ → ℕ → ℕ
 bytes_seen stores mem n address zero = 0
-bytes_seen stores mem n address (suc k) = bytes_seen stores mem n address k * 256 + byte_seen stores mem n (address + k)
+bytes_seen stores mem n address (suc k) =
+    bytes_seen stores mem n address k * 256 + byte_seen stores mem n (address + k)
 
--- what a load gives of its operand, where `answer` says which number the bytes at each address make; at a bad address it gives 0
+-- what a load gives of its operand, where `answer` says which number the bytes at each address
+-- make; at a bad address it gives 0
 abbrev pub load_of : Inst → (ℕ → ℕ) → ℕ → ℕ
-load_of i answer left = cond (is_good_address (address_of i left) (size_of i.op)) (loaded_as i.op (answer (address_of i left))) 0
+load_of i answer left = cond (is_good_address (address_of i left) (size_of i.op))
+    (loaded_as i.op (answer (address_of i left))) 0
 
 -- memory -----------------------------------------------------------------------------------
 
 -- the low k bytes of v from an address on, the most significant first
 abbrev pub put_bytes : List ℕ → ℕ → ℕ → ℕ → List ℕ
 put_bytes mem address zero v = mem
-put_bytes mem address (suc k) v = put_bytes (slice_set mem (address + k) (v % 256)) address k (v / 256)
+put_bytes mem address (suc k) v = put_bytes (slice_set mem (address + k) (v % 256)) address k
+    (v / 256)
 
 abbrev pub put_value : List ℕ → Stored → Option ℕ → List ℕ
 put_value mem s None = mem

@@ -1,5 +1,6 @@
 -- Tables of tokens: one for each node, by the rule, from the tokens that its producers give.
-use Rattle.std.specs.Prelude.{◌≡◌, ℕ, zero, suc, ◌+◌, ◌<◌, Bool, true, false, ◌&&◌, ◌||◌, nat_le, nat_lt, List, [], ◌∷◌, Option, Some, None, slice_get}
+use Rattle.std.specs.Prelude.{◌≡◌, ℕ, zero, suc, ◌+◌, ◌<◌, Bool, true, false, ◌&&◌, ◌||◌, nat_le}
+use Rattle.std.specs.Prelude.{nat_lt, List, [], ◌∷◌, Option, Some, None, slice_get}
 use Rattle.trips_isa.specs.declared.node.Node.{Node}
 use Rattle.trips_isa.specs.Rule.{Answer, rule}
 use Rattle.trips_isa.specs.Places.{targets, names}
@@ -13,7 +14,8 @@ abbrev pub or_else : {A : Type 0} → Option A → Option A → Option A
 or_else None u = u
 or_else (Some t) u = Some t
 
--- what the lowest node gives that names the place and gives something, where f says what each node gives; reads come before slots
+-- what the lowest node gives that names the place and gives something, where f says what each node
+-- gives; reads come before slots
 abbrev pub first : {A : Type 0} → List Node → ℕ → (ℕ → Option A) → Option A
 first [] q f = None
 first (n ∷ ns) q f = or_else (taken (names (targets n) q) f) (first ns q (λ y. f (suc y)))
@@ -21,7 +23,8 @@ first (n ∷ ns) q f = or_else (taken (names (targets n) q) f) (first ns q (λ y
 -- the token of a node, where `pull` says what stands at each place and `a` what the node computes
 abbrev pub node_gives : Option Node → (ℕ → ℕ → ℕ) → (ℕ → Answer) → Answer
 node_gives None a pull = None
-node_gives (Some n) a pull = rule n.role n.sense a (pull n.slot) (pull (128 + n.slot)) (pull (256 + n.slot))
+node_gives (Some n) a pull = rule n.role n.sense a (pull n.slot) (pull (128 + n.slot))
+    (pull (256 + n.slot))
 
 -- what each node computes of the words at its operands
 abbrev pub Computes : Type 0
@@ -36,7 +39,8 @@ abbrev pub pulled : List Node → Computes → ℕ → ℕ → Answer
 pulled ns a zero x = None
 pulled ns a (suc k) x = node_gives (slice_get ns x) (a x) (λ q. first ns q (pulled ns a k))
 
--- deeper than any chain of a block without a cycle: 32 reads and 128 slots; not an `abbrev`, since it would unroll in each goal
+-- deeper than any chain of a block without a cycle: 32 reads and 128 slots; not an `abbrev`, since
+-- it would unroll in each goal
 unfoldable pub deepest : ℕ
 deepest = 160
 
@@ -46,7 +50,8 @@ stores_below [] m = false
 stores_below (t ∷ ts) m = (nat_le 416 t && nat_lt t m) || stores_below ts m
 
 abbrev pub feeds : Node → Node → Bool
-feeds m n = names (targets m) n.slot || (names (targets m) (128 + n.slot) || (names (targets m) (256 + n.slot) || stores_below (targets m) n.below))
+feeds m n = names (targets m) n.slot || (names (targets m) (128 + n.slot) ||
+    (names (targets m) (256 + n.slot) || stores_below (targets m) n.below))
 
 pub record Edge (ns : List Node) (x y : ℕ) : Type 0 where
   pub source : Node

@@ -9,7 +9,9 @@ invariant-loop-store l = (n : ℕ) → n < l.store-index → get_or l.stores n N
 abbrev pub invariant-loop-slot : goal.invariant-loop-slot
 invariant-loop-slot l = record {
   bound : l.slot ≤ l.used;
-  kept : (n : ℕ) → n < 32 → get_or l.stores n None ≡ slots_give (kept_by (λ q. get_or l.places q None) n (λ j. get_or l.table j None)) l.slot (drop l.slot l.insts);
+  kept : (n : ℕ) → n < 32 → get_or l.stores n None
+      ≡ slots_give (kept_by (λ q. get_or l.places q None) n (λ j. get_or l.table j None)) l.slot
+      (drop l.slot l.insts);
 }
 
 abbrev pub decreases-loop-slot : goal.decreases-loop-slot

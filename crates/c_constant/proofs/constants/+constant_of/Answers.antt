@@ -1,5 +1,7 @@
 use Rattle.std.proofs.Common.{arith}
-use Rattle.c_constant.proofs.Nodes.{value-Number, value-Name, value-Element, value-Call, value-Unary, value-Bump, value-Binary, value-Choice, value-Assign, value-Comma, value-Cast, value-Group}
+use Rattle.c_constant.proofs.Nodes.{value-Number, value-Name, value-Element, value-Call}
+use Rattle.c_constant.proofs.Nodes.{value-Unary, value-Bump, value-Binary, value-Choice}
+use Rattle.c_constant.proofs.Nodes.{value-Assign, value-Comma, value-Cast, value-Group}
 use Rattle.c_constant.proofs.constants.+constant_of.Goals as goal
 
 pub returns-in-Number : goal.returns-in-Number

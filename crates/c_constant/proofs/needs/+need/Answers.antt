@@ -1,5 +1,7 @@
 use Rattle.std.proofs.Common.{arith}
-use Rattle.c_constant.proofs.Nodes.{needs-Number, needs-Name, needs-Element, needs-Call, needs-Unary, needs-Bump, needs-Binary, needs-Choice, needs-Assign, needs-Comma, needs-Cast, needs-Group}
+use Rattle.c_constant.proofs.Nodes.{needs-Number, needs-Name, needs-Element, needs-Call}
+use Rattle.c_constant.proofs.Nodes.{needs-Unary, needs-Bump, needs-Binary, needs-Choice}
+use Rattle.c_constant.proofs.Nodes.{needs-Assign, needs-Comma, needs-Cast, needs-Group}
 use Rattle.c_constant.proofs.needs.+need.Goals as goal
 
 pub counted_need-returns-in-Number : goal.counted_need-returns-in-Number

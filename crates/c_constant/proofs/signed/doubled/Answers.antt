@@ -1,4 +1,5 @@
-use Rattle.std.proofs.Common.{rules, ◌≡◌, ◌<◌, ◌*◌, ◌^◌, ◌≤◌, arith, sym, ◌∙◌, pos, to_z, of_z, w64, ap}
+use Rattle.std.proofs.Common.{rules, ◌≡◌, ◌<◌, ◌*◌, ◌^◌, ◌≤◌, arith, sym, ◌∙◌, pos, to_z, of_z, w64}
+use Rattle.std.proofs.Common.{ap}
 use Rattle.std.proofs.lemmas.Int.{ints}
 use Rattle.c_constant.specs.Kinds.{word_of, in_kind}
 use Rattle.c_constant.proofs.Shifts.{beyond, under, over}
@@ -7,7 +8,8 @@ use Rattle.c_constant.proofs.signed.doubled.Goals as goal
 pub returns-then-a-count : goal.returns-then-a-count
 returns-then-a-count c =
     let p : 0 < 2 ^ c.args.count = search rules in
-    sym (ap word_of (beyond c.args.kind (c.args.a * 2 ^ c.args.count) c.requires.signed (over c.args.a (2 ^ c.args.count) p c.if-a-count.true)))
+    sym (ap word_of (beyond c.args.kind (c.args.a * 2 ^ c.args.count) c.requires.signed
+    (over c.args.a (2 ^ c.args.count) p c.if-a-count.true)))
 
 pub returns : goal.returns
 returns c =

@@ -3,7 +3,8 @@ use Rattle.c_lex.proofs.Guesses.{lent_row, lent_past}
 use Rattle.c_lex.proofs.guess.row_at.Goals as goal
 
 pub returns-then-table-at : goal.returns-then-table-at
-returns-then-table-at g c = sym (lent_past c.args.at c.args.bytes.now c.args.table.now c.if-table-at.true)
+returns-then-table-at g c = sym (lent_past c.args.at c.args.bytes.now c.args.table.now
+    c.if-table-at.true)
 
 pub returns-then-eq : goal.returns-then-eq
 returns-then-eq g c =

@@ -1,5 +1,7 @@
 use Rattle.std.proofs.Common.{arith}
-use Rattle.c_type_expr.proofs.Fixed.{fixed-Number, fixed-Group, fixed-Unary, fixed-Cast, fixed-Binary, fixed-Choice, fixed-Name, fixed-Element, fixed-Call, fixed-Bump, fixed-Assign, fixed-Comma}
+use Rattle.c_type_expr.proofs.Fixed.{fixed-Number, fixed-Group, fixed-Unary, fixed-Cast}
+use Rattle.c_type_expr.proofs.Fixed.{fixed-Binary, fixed-Choice, fixed-Name, fixed-Element}
+use Rattle.c_type_expr.proofs.Fixed.{fixed-Call, fixed-Bump, fixed-Assign, fixed-Comma}
 use Rattle.c_type_expr.proofs.constants.+fixed.Goals as goal
 
 pub not_fixed-returns-in-Number : goal.not_fixed-returns-in-Number

@@ -1,5 +1,7 @@
 use Rattle.std.proofs.Common.{arith}
-use Rattle.c_type_expr.proofs.Nodes.{place-Number, place-Group, place-Unary, place-Cast, place-Binary, place-Choice, place-Name, place-Element, place-Call, place-Bump, place-Assign, place-Comma}
+use Rattle.c_type_expr.proofs.Nodes.{place-Number, place-Group, place-Unary, place-Cast}
+use Rattle.c_type_expr.proofs.Nodes.{place-Binary, place-Choice, place-Name, place-Element}
+use Rattle.c_type_expr.proofs.Nodes.{place-Call, place-Bump, place-Assign, place-Comma}
 use Rattle.c_type_expr.proofs.expressions.+is_place.Goals as goal
 
 pub returns-in-Number : goal.returns-in-Number

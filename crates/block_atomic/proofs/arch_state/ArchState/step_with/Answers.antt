@@ -1,4 +1,5 @@
-use Rattle.std.proofs.Common.{◌≡◌, ℕ, ◌<◌, ◌++◌, ◌∷◌, [], List, get_or, length, drop, ◌∙◌, ap, sym, subst, arith, Some}
+use Rattle.std.proofs.Common.{◌≡◌, ℕ, ◌<◌, ◌++◌, ◌∷◌, [], List, get_or, length, drop, ◌∙◌, ap, sym}
+use Rattle.std.proofs.Common.{subst, arith, Some}
 use Rattle.std.specs.Prelude.{None}
 use Rattle.trips_isa.specs.declared.block.Block.{Block}
 use Rattle.trips_isa.specs.declared.block.Inst.{Inst}
@@ -19,36 +20,52 @@ use Rattle.block_atomic.proofs.arch_state.ArchState.step_with.Goals as goal
 pub change-requires-clause-fits : goal.change-requires-clause-fits
 change-requires-clause-fits c n h =
     subst StoreFits (sym (c.settle.ensures.kept n h))
-    (stores_fit (λ q. get_or c.settle.new.places q None) n (λ j. get_or c.settle.new.table j None) 0 c.block-block.result.now.insts.items)
+    (stores_fit (λ q. get_or c.settle.new.places q None) n
+    (λ j. get_or c.settle.new.table j None) 0 c.block-block.result.now.insts.items)
 
 pub returns-clause-step : goal.returns-clause-step
 returns-clause-step c =
-    step_is c.args.image.now.blocks c.block-block.result.now inside c.change.new.self.state c.used_slots-used.result c.settle.new.places c.settle.new.table c.settle.new.stores
-    c.leaving-branch.result c.exit.result c.successor-next.result (c.then_system.new.self.state, c.then_system.result)
+    step_is c.args.image.now.blocks c.block-block.result.now inside c.change.new.self.state
+    c.used_slots-used.result c.settle.new.places c.settle.new.table c.settle.new.stores
+    c.leaving-branch.result c.exit.result c.successor-next.result
+    (c.then_system.new.self.state, c.then_system.result)
     (record {
       block = c.at.ensures.value ∙ ap (λ (b : Block). Some b) (sym c.block-block.ensures.value);
       fits = subst FitsBlock (sym c.block-block.ensures.value) c.block-block.ensures.checked.fits;
       bound = c.used_slots-used.ensures.bound;
-      used_to = subst (λ (is : List (Option Inst)). IsUsedTo is c.used_slots-used.result) c.as_slice-insts.ensures.value c.used_slots-used.ensures.used;
-      answers = λ x. c.settle.ensures.answers x ∙ ap (λ (mem : List ℕ). token_of c.block-block.result.now c.self.inside.registers mem deepest x) c.deref.ensures.value;
+      used_to = subst (λ (is : List (Option Inst)). IsUsedTo is c.used_slots-used.result)
+          c.as_slice-insts.ensures.value c.used_slots-used.ensures.used;
+      answers = λ x. c.settle.ensures.answers x
+          ∙ ap (λ (mem : List ℕ). token_of c.block-block.result.now c.self.inside.registers mem
+          deepest x) c.deref.ensures.value;
       placed = c.settle.ensures.placed;
       kept = c.settle.ensures.kept;
-      left = c.leaving-branch.ensures.value ∙ ap (slots_give (left_by (λ j. get_or c.settle.new.table j None)) 0) c.as_slice-insts.ensures.value;
+      left = c.leaving-branch.ensures.value
+          ∙ ap (slots_give (left_by (λ j. get_or c.settle.new.table j None)) 0)
+          c.as_slice-insts.ensures.value;
       successor = c.successor-next.ensures.value;
     })
     c.exit.ensures.value
     (record {
       registers =
           c.change.ensures.registers
-          ∙ ap (λ (m : Machine). write_all m.state.registers c.as_slice.result.now (writes_from (λ q. get_or c.settle.new.places q None) 0 c.as_slice.result.now)) (sym c.self.view_is)
-          ∙ ap (λ (ws : List ℕ). write_all c.self.inside.registers ws (writes_from (λ q. get_or c.settle.new.places q None) 0 ws)) c.as_slice.ensures.value;
-      memory = c.change.ensures.memory ∙ ap (λ (m : Machine). store_all m.state.memory (all_stores (λ n. get_or c.settle.new.stores n None))) (sym c.self.view_is);
-      trace = c.change.ensures.trace ∙ ap (λ (m : Machine). m.state.trace ++ (record { block = m.state.next; exit = c.exit.result }) ∷ []) (sym c.self.view_is);
+          ∙ ap (λ (m : Machine). write_all m.state.registers c.as_slice.result.now
+          (writes_from (λ q. get_or c.settle.new.places q None) 0 c.as_slice.result.now))
+          (sym c.self.view_is)
+          ∙ ap (λ (ws : List ℕ). write_all c.self.inside.registers ws
+          (writes_from (λ q. get_or c.settle.new.places q None) 0 ws)) c.as_slice.ensures.value;
+      memory = c.change.ensures.memory ∙ ap
+          (λ (m : Machine). store_all m.state.memory
+          (all_stores (λ n. get_or c.settle.new.stores n None))) (sym c.self.view_is);
+      trace = c.change.ensures.trace ∙ ap
+          (λ (m : Machine). m.state.trace ++
+          (record { block = m.state.next; exit = c.exit.result }) ∷ []) (sym c.self.view_is);
       next_is = c.change.ensures.next;
       rest = c.change.ensures.rest ∙ ap (λ (m : Machine). m.state.rest) (sym c.self.view_is);
       output = c.change.ensures.output ∙ ap (λ (m : Machine). m.state.output) (sym c.self.view_is);
     })
-    (c.then_system.ensures.answer ∙ ap (λ v. then_system v c.change.new.self.state) c.is_system.ensures.value)
+    (c.then_system.ensures.answer ∙ ap (λ v. then_system v c.change.new.self.state)
+    c.is_system.ensures.value)
     ∙ ap (λ (m : Machine). step_of c.args.image.now.blocks m.state) c.self.view_is
   where
     inside : State

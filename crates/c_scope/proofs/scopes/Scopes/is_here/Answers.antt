@@ -8,13 +8,19 @@ use Rattle.c_scope.proofs.scopes.Scopes.is_here.Goals as goal
 
 pub returns-in-Some : goal.returns-in-Some
 returns-in-Some c =
-    ap (λ (s : ℕ). nat_le s c.in-Some.at.now) (c.last_start-start.ensures ∙ ap (λ (l : List ℕ). first_start (reverse l)) c.deref.ensures.value)
-    ∙ here_is (reverse c.self.inside.starts.items) (reverse c.self.inside.entries.items) c.args.name.now c.in-Some.at.now
-    (subst (StartsFit (reverse c.self.inside.starts.items)) (sym (length-reverse c.self.inside.entries.items)) c.self.invariant.1)
+    ap (λ (s : ℕ). nat_le s c.in-Some.at.now)
+    (c.last_start-start.ensures ∙ ap (λ (l : List ℕ). first_start (reverse l))
+    c.deref.ensures.value)
+    ∙ here_is (reverse c.self.inside.starts.items)
+    (reverse c.self.inside.entries.items) c.args.name.now c.in-Some.at.now
+    (subst (StartsFit (reverse c.self.inside.starts.items))
+    (sym (length-reverse c.self.inside.entries.items)) c.self.invariant.1)
     (sym (c.self.invariant.0.finds c.args.name.now) ∙ sym c.in-Some.ensures.value)
     ∙ ap (λ (G : Scope). is_here G c.args.name.now) c.self.view_is
 
 pub returns-in-None : goal.returns-in-None
 returns-in-None c =
-    not_here (reverse c.self.inside.starts.items) (reverse c.self.inside.entries.items) c.args.name.now (sym (c.self.invariant.0.finds c.args.name.now) ∙ sym c.in-None.ensures.value)
+    not_here (reverse c.self.inside.starts.items)
+    (reverse c.self.inside.entries.items) c.args.name.now
+    (sym (c.self.invariant.0.finds c.args.name.now) ∙ sym c.in-None.ensures.value)
     ∙ ap (λ (G : Scope). is_here G c.args.name.now) c.self.view_is

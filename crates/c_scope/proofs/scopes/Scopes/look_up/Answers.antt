@@ -7,16 +7,21 @@ use Rattle.c_scope.proofs.scopes.Scopes.look_up.Goals as goal
 pub index-requires : goal.index-requires
 index-requires c =
     let lt : c.in-Some.at.now < length c.self.inside.entries.items =
-    look_within (reverse c.self.inside.starts.items) c.self.inside.entries.items c.self.inside.newest c.self.invariant.0 c.args.name.now c.in-Some.at.now (sym c.in-Some.ensures.value) in
+    look_within (reverse c.self.inside.starts.items) c.self.inside.entries.items
+    c.self.inside.newest c.self.invariant.0 c.args.name.now c.in-Some.at.now
+    (sym c.in-Some.ensures.value) in
     omega (arith, lt, c.self.inside.entries.ok.0)
 
 pub returns-in-Some : goal.returns-in-Some
 returns-in-Some c =
     ap (λ (e : Entry). Some e.binding.meaning) c.index.ensures
-    ∙ sym (look_some (reverse c.self.inside.starts.items) c.self.inside.entries.items c.self.inside.newest c.self.invariant.0 c.args.name.now c.in-Some.at.now c.index.result.now (sym c.in-Some.ensures.value))
+    ∙ sym (look_some (reverse c.self.inside.starts.items) c.self.inside.entries.items
+    c.self.inside.newest c.self.invariant.0 c.args.name.now c.in-Some.at.now c.index.result.now
+    (sym c.in-Some.ensures.value))
     ∙ ap (λ (G : Scope). look_up G c.args.name.now) c.self.view_is
 
 pub returns-in-None : goal.returns-in-None
 returns-in-None c =
-    sym (look_none (reverse c.self.inside.starts.items) c.self.inside.entries.items c.self.inside.newest c.self.invariant.0 c.args.name.now (sym c.in-None.ensures.value))
+    sym (look_none (reverse c.self.inside.starts.items) c.self.inside.entries.items
+    c.self.inside.newest c.self.invariant.0 c.args.name.now (sym c.in-None.ensures.value))
     ∙ ap (λ (G : Scope). look_up G c.args.name.now) c.self.view_is
