@@ -1,5 +1,6 @@
 -- Facts about lists that the evaluator's functions need.
-use Rattle.std.proofs.Common.{◌≡◌, ℕ, zero, suc, ◌+◌, ◌<◌, ◌≤◌, List, [], ◌∷◌, ◌++◌, map, reverse, length, drop, get_or, refl, ap, sym, ◌∙◌, arith}
+use Rattle.std.proofs.Common.{◌≡◌, ℕ, zero, suc, ◌+◌, ◌<◌, ◌≤◌, List, [], ◌∷◌, ◌++◌, map, reverse}
+use Rattle.std.proofs.Common.{length, drop, get_or, refl, ap, sym, ◌∙◌, arith}
 use Rattle.std.proofs.lemmas.List.{map-append, reverse-append}
 use Rattle.c_tree.specs.declared.TypedArray.{TypedArray}
 use Rattle.c_eval.specs.Call.{array_bytes, all_bytes}
@@ -7,10 +8,12 @@ use Rattle.c_meaning.specs.View.{follow}
 use Rattle.c_steps.specs.Follow.{Follow}
 use Rattle.c_meaning.specs.declared.frame.Frame.{Frame}
 
-pub stack_push : (xs : List Frame) (f : Frame) → reverse (map follow (xs ++ f ∷ [])) ≡ follow f ∷ reverse (map follow xs)
+pub stack_push : (xs : List Frame) (f : Frame)
+    → reverse (map follow (xs ++ f ∷ [])) ≡ follow f ∷ reverse (map follow xs)
 stack_push xs f = simp (map-append, reverse-append)
 
-pub all_drop : (xs : List TypedArray) (i : ℕ) (d : TypedArray) → i < length xs → all_bytes (drop i xs) ≡ array_bytes (get_or xs i d) + all_bytes (drop (suc i) xs)
+pub all_drop : (xs : List TypedArray) (i : ℕ) (d : TypedArray) → i < length xs
+    → all_bytes (drop i xs) ≡ array_bytes (get_or xs i d) + all_bytes (drop (suc i) xs)
 all_drop [] i d h = absurd (omega arith)
 all_drop (x ∷ xs) zero d h = refl
 all_drop (x ∷ xs) (suc i) d h = all_drop xs i d (omega arith)

@@ -1,4 +1,5 @@
--- The evaluator's answer: the definition's outcome, without the output so far of one that is not Done.
+-- The evaluator's answer: the definition's outcome, without the output so far of one that is not
+-- Done.
 use Rattle.std.specs.Prelude.{ℕ, ℤ, List}
 use Rattle.c_eval.specs.declared.Ending.TheVariants as ending
 use Rattle.c_eval.specs.Eval.{Stopped}

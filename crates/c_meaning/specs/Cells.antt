@@ -1,6 +1,8 @@
--- The arrays of an evaluation as they are kept: one after another in one list of cells. A cell is set where it has
--- the stamp of its array, so that an array is unset at once by a stamp that no cell has.
-use Rattle.std.specs.Prelude.{◌≡◌, ℕ, ◌+◌, ◌≤◌, cond, nat_eq, List, [], ◌∷◌, map, length, take, drop, Option, Some, None}
+-- The arrays of an evaluation as they are kept: one after another in one list of cells. A cell is
+-- set where it has the stamp of its array, so that an array is unset at once by a stamp that no
+-- cell has.
+use Rattle.std.specs.Prelude.{◌≡◌, ℕ, ◌+◌, ◌≤◌, cond, nat_eq, List, [], ◌∷◌, map, length, take}
+use Rattle.std.specs.Prelude.{drop, Option, Some, None}
 use Rattle.c_meaning.specs.declared.arrays.Cell.{Cell}
 use Rattle.c_meaning.specs.declared.arrays.Span.{Span}
 

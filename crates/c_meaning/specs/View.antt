@@ -8,7 +8,11 @@ use Rattle.c_eval.specs.declared.Ending.{Ending}
 use Rattle.c_eval.specs.State.{State}
 use Rattle.c_eval.specs.Task.{Of, Run, Turn}
 use Rattle.c_eval.specs.Task as meant
-use Rattle.c_steps.specs.Follow.{Follow, FConverting, FUnary, FElement, FArgument, FLeft, FRight, FAnd, FOr, FTruth, FValued, FChoice, FComma, FAssignElement, FAssigned, FCompounded, FBumpElement, FCaller, FDropped, FInitialised, FSequence, FIf, FThenTurn, FLocals, FTest, FBody, FReturning, Step, Pushes, Does, Gives, Ends}
+use Rattle.c_steps.specs.Follow.{Follow, FConverting, FUnary, FElement, FArgument, FLeft, FRight}
+use Rattle.c_steps.specs.Follow.{FAnd, FOr, FTruth, FValued, FChoice, FComma, FAssignElement}
+use Rattle.c_steps.specs.Follow.{FAssigned, FCompounded, FBumpElement, FCaller, FDropped}
+use Rattle.c_steps.specs.Follow.{FInitialised, FSequence, FIf, FThenTurn, FLocals, FTest, FBody}
+use Rattle.c_steps.specs.Follow.{FReturning, Step, Pushes, Does, Gives, Ends}
 use Rattle.c_steps.specs.Ahead.{Next, ToDo, Given, Ended, IsStep}
 use Rattle.c_meaning.specs.declared.store.Store.{Store}
 use Rattle.c_meaning.specs.declared.machine.Machine.{Machine}
@@ -50,7 +54,8 @@ follow_operand operand.OfOr right = FOr right
 follow_operand operand.OfComma right = FComma right
 follow_operand (operand.Stored op to at p) right = FAssignElement op to at p right
 
-abbrev pub follow_turn : Stage → List TypedStmt → Option TypedExpr → Option TypedExpr → TypedStmt → Follow
+abbrev pub follow_turn : Stage → List TypedStmt → Option TypedExpr → Option TypedExpr → TypedStmt
+    → Follow
 follow_turn stage.Begins rest test post body = FLocals rest test post body
 follow_turn stage.Turns rest test post body = FThenTurn test post body
 follow_turn stage.Tests rest test post body = FTest test post body
@@ -74,7 +79,8 @@ follow frame.Dropped = FDropped
 follow (frame.Initialised i) = FInitialised i
 follow (frame.Sequence rest) = FSequence rest.now
 follow (frame.If one other) = FIf one.now (behind other)
-follow (frame.Turning stage rest l) = follow_turn stage rest.now (behind l.test) (behind l.post) l.body.now
+follow (frame.Turning stage rest l) = follow_turn stage rest.now (behind l.test)
+    (behind l.post) l.body.now
 follow frame.Returning = FReturning
 
 -- the frames, the topmost first
@@ -88,4 +94,5 @@ next (move.End why) = Ended why
 
 -- a move that makes the step which is due
 abbrev pub Makes : (State → Step) → Machine → Machine → Move → Type 0
-Makes step old new m = IsStep (step (view old.store)) (next m) (view new.store) (frames old.stack.items) (frames new.stack.items)
+Makes step old new m = IsStep (step (view old.store)) (next m) (view new.store)
+    (frames old.stack.items) (frames new.stack.items)

@@ -6,7 +6,7 @@ ghost use Rattle.c_steps.specs.StatementSteps.{sequence_step, locals_step, act_s
 ghost use Rattle.c_steps.specs.ResumeSteps.{if_step, value_step, returned_step, going_on_step};
 ghost use Rattle.c_steps.specs.ResumeSteps.{body_step, resume_step};
 ghost use Rattle.c_meaning.specs.View.{view, behind, task_of, follow, follow_operand, follow_turn};
-ghost use Rattle.c_meaning.specs.View.{Steps};
+ghost use Rattle.c_meaning.specs.View.{Makes};
 
 use crate::frame::{Frame, Loop, Move, Operand, Stage, Task};
 use crate::machine::Machine;

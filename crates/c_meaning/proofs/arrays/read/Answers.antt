@@ -1,4 +1,5 @@
-use Rattle.std.proofs.Common.{◌≡◌, ◌<◌, ◌≤◌, ◌+◌, ◌*◌, sym, ap, ◌∙◌, arith, Option, List, ℕ, length, Fits, w64}
+use Rattle.std.proofs.Common.{◌≡◌, ◌<◌, ◌≤◌, ◌+◌, ◌*◌, sym, ap, ◌∙◌, arith, Option, List, ℕ, length}
+use Rattle.std.proofs.Common.{Fits, w64}
 use Rattle.c_eval.specs.State.{cell_in, held}
 use Rattle.c_meaning.specs.Cells.{total}
 use Rattle.c_meaning.proofs.Rows.{absent, outside, present, within}
@@ -21,12 +22,16 @@ offset_bounds-cells-span c =
 
 pub returns-in-None : goal.returns-in-None
 returns-in-None c =
-    sym (ap (λ (o : Option (List (Option ℕ))). held (cell_in o c.args.at)) (absent c.args.spans.now c.args.cells.now c.args.array (sym c.in-None.ensures)))
+    sym (ap (λ (o : Option (List (Option ℕ))). held (cell_in o c.args.at))
+    (absent c.args.spans.now c.args.cells.now c.args.array (sym c.in-None.ensures)))
 
 pub returns-then-at-span : goal.returns-then-at-span
 returns-then-at-span c =
-    sym (ap held (outside c.args.spans.now c.args.cells.now c.args.array c.args.at c.in-Some.span (sym c.in-Some.ensures) c.if-at-span.true))
+    sym (ap held (outside c.args.spans.now c.args.cells.now c.args.array c.args.at c.in-Some.span
+    (sym c.in-Some.ensures) c.if-at-span.true))
 
 pub returns-else-at-span : goal.returns-else-at-span
 returns-else-at-span c =
-    c.word_in.ensures ∙ sym (ap held (present c.args.spans.now c.args.cells.now c.args.array c.args.at c.in-Some.span _ c.requires.follows (sym c.in-Some.ensures) c.if-at-span.false c.requires.fits))
+    c.word_in.ensures ∙ sym (ap held (present c.args.spans.now c.args.cells.now c.args.array
+    c.args.at c.in-Some.span _ c.requires.follows
+    (sym c.in-Some.ensures) c.if-at-span.false c.requires.fits))

@@ -17,21 +17,26 @@ index_mut-requires c =
 
 pub returns-in-None-clause-there : goal.returns-in-None-clause-there
 returns-in-None-clause-there c =
-    never _ (ap (λ (o : Option (List (Option ℕ))). cell_in o c.args.at) (absent c.args.spans.now c.args.cells.now.items c.args.array (sym c.in-None.ensures)))
+    never _ (ap (λ (o : Option (List (Option ℕ))). cell_in o c.args.at)
+    (absent c.args.spans.now c.args.cells.now.items c.args.array (sym c.in-None.ensures)))
 
 pub returns-then-at-span-clause-there : goal.returns-then-at-span-clause-there
 returns-then-at-span-clause-there c =
-    never _ (outside c.args.spans.now c.args.cells.now.items c.args.array c.args.at c.in-Some.span (sym c.in-Some.ensures) c.if-at-span.true)
+    never _ (outside c.args.spans.now c.args.cells.now.items c.args.array c.args.at c.in-Some.span
+    (sym c.in-Some.ensures) c.if-at-span.true)
 
 pub returns-else-at-span-clause-there : goal.returns-else-at-span-clause-there
 returns-else-at-span-clause-there c =
-    always _ (is-present c.args.spans.now c.args.cells.now.items c.args.array c.args.at c.in-Some.span c.requires.follows (sym c.in-Some.ensures) c.if-at-span.false c.requires.fits)
+    always _ (is-present c.args.spans.now c.args.cells.now.items c.args.array c.args.at
+    c.in-Some.span c.requires.follows (sym c.in-Some.ensures) c.if-at-span.false c.requires.fits)
 
 pub returns-else-at-span-clause-set : goal.returns-else-at-span-clause-set
 returns-else-at-span-clause-set c = λ t.
-    rows-set c.args.spans.now c.args.cells.now.items c.args.array c.args.at c.args.word c.in-Some.span c.requires.follows (sym c.in-Some.ensures) c.if-at-span.false
+    rows-set c.args.spans.now c.args.cells.now.items c.args.array c.args.at c.args.word
+    c.in-Some.span c.requires.follows (sym c.in-Some.ensures) c.if-at-span.false
 
 pub returns-else-at-span-clause-known : goal.returns-else-at-span-clause-known
 returns-else-at-span-clause-known c = λ last s k.
-    cells-set last (c.in-Some.span.start + c.args.at) c.args.cells.now.items (worded c.in-Some.span.stamp c.args.word)
+    cells-set last (c.in-Some.span.start + c.args.at) c.args.cells.now.items
+    (worded c.in-Some.span.stamp c.args.word)
     (stamp-known last c.args.array c.args.spans.now c.in-Some.span s (sym c.in-Some.ensures)) k

@@ -9,5 +9,7 @@ use Rattle.c_meaning.proofs.evaluation.evaluate.Goals as goal
 pub returns : goal.returns
 unfolding eval
 returns c = record {
-  ok = c.in_ok-outcome.ensures ∙ ap (λ (s : State). answer (outcome c.args.n (called (meaning c.args.program.now) c.args.program.now (Func c.args.program.now.main) [] s))) c.in_ok-store.ensures;
+  ok = c.in_ok-outcome.ensures ∙ ap (λ (s : State). answer
+      (outcome c.args.n (called (meaning c.args.program.now) c.args.program.now
+      (Func c.args.program.now.main) [] s))) c.in_ok-store.ensures;
 }

@@ -9,4 +9,5 @@ use Rattle.c_meaning.proofs.evaluation.main_result.Goals as goal
 pub returns-in-Value : goal.returns-in-Value
 returns-in-Value c =
     let f : FitsSigned w32 c.cast_signed.result = search rules in
-    to_z-of_z w32 c.cast_signed.result f ∙ c.cast_signed.ensures ∙ low-bits c.in-Value.w ∙ ap main_result (sym c.in-Value.is)
+    to_z-of_z w32 c.cast_signed.result f ∙ c.cast_signed.ensures ∙ low-bits c.in-Value.w
+    ∙ ap main_result (sym c.in-Value.is)

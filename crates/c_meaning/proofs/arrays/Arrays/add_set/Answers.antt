@@ -1,6 +1,7 @@
 use Rattle.std.proofs.Common.{◌≡◌, ◌≤◌, ◌-◌, ◌+◌, length, refl, ap, sym, subst, ◌∙◌, arith, take}
 use Rattle.c_meaning.specs.Cells.{CellsKnown}
-use Rattle.c_meaning.proofs.Lays.{laid-cells, laid-add, rows-set_added, enough-filled, taken-length, cells-later, cells-take}
+use Rattle.c_meaning.proofs.Lays.{laid-cells, laid-add, rows-set_added, enough-filled, taken-length}
+use Rattle.c_meaning.proofs.Lays.{cells-later, cells-take}
 use Rattle.c_meaning.proofs.arrays.Arrays.add_set.Goals as goal
 
 pub invariant_of-self : goal.invariant_of-self
@@ -9,9 +10,11 @@ invariant_of-self c =
     let t = taken-length c.self.inside.used c.self.inside.cells.items c.truncate.new.self.items f c.truncate.ensures.items in
     let s = c.in_ok-stamp.ensures in
     let k = cells-later c.self.inside.last c.in_ok-stamp.stamp (take c.self.inside.used c.self.inside.cells.items) (omega arith) (cells-take c.self.inside.last c.self.inside.used c.self.inside.cells.items c.self.invariant.cells_known) in
-    laid-cells c.self.inside.spans.items c.self.inside.cells.items c.self.inside.used c.self.inside.last c.self.inside.spans.items c.put_words.new.cells.items c.in_ok-stamp.stamp
+    laid-cells c.self.inside.spans.items c.self.inside.cells.items c.self.inside.used
+    c.self.inside.last c.self.inside.spans.items c.put_words.new.cells.items c.in_ok-stamp.stamp
     c.self.invariant refl (omega arith) (omega arith)
-    (c.in_err-put_words.ensures.known c.in_ok-stamp.stamp (omega arith) (subst (CellsKnown c.in_ok-stamp.stamp) (sym c.truncate.ensures.items) k))
+    (c.in_err-put_words.ensures.known c.in_ok-stamp.stamp (omega arith)
+    (subst (CellsKnown c.in_ok-stamp.stamp) (sym c.truncate.ensures.items) k))
 
 pub invariant_of-self-in_err-pad : goal.invariant_of-self-in_err-pad
 invariant_of-self-in_err-pad c =
@@ -19,9 +22,12 @@ invariant_of-self-in_err-pad c =
     let t = taken-length c.self.inside.used c.self.inside.cells.items c.truncate.new.self.items f c.truncate.ensures.items in
     let s = c.in_ok-stamp.ensures in
     let k = cells-later c.self.inside.last c.in_ok-stamp.stamp (take c.self.inside.used c.self.inside.cells.items) (omega arith) (cells-take c.self.inside.last c.self.inside.used c.self.inside.cells.items c.self.invariant.cells_known) in
-    laid-cells c.self.inside.spans.items c.self.inside.cells.items c.self.inside.used c.self.inside.last c.self.inside.spans.items c.pad.new.cells.items c.in_ok-stamp.stamp
+    laid-cells c.self.inside.spans.items c.self.inside.cells.items c.self.inside.used
+    c.self.inside.last c.self.inside.spans.items c.pad.new.cells.items c.in_ok-stamp.stamp
     c.self.invariant refl (omega arith) (omega arith)
-    (c.in_err-pad.ensures.known c.in_ok-stamp.stamp (omega arith) (c.in_ok-put_words.ensures.known c.in_ok-stamp.stamp (omega arith) (subst (CellsKnown c.in_ok-stamp.stamp) (sym c.truncate.ensures.items) k)))
+    (c.in_err-pad.ensures.known c.in_ok-stamp.stamp (omega arith)
+    (c.in_ok-put_words.ensures.known c.in_ok-stamp.stamp (omega arith)
+    (subst (CellsKnown c.in_ok-stamp.stamp) (sym c.truncate.ensures.items) k)))
 
 pub invariant_of-self-in_err-push : goal.invariant_of-self-in_err-push
 invariant_of-self-in_err-push c =
@@ -29,9 +35,12 @@ invariant_of-self-in_err-push c =
     let t = taken-length c.self.inside.used c.self.inside.cells.items c.truncate.new.self.items f c.truncate.ensures.items in
     let s = c.in_ok-stamp.ensures in
     let k = cells-later c.self.inside.last c.in_ok-stamp.stamp (take c.self.inside.used c.self.inside.cells.items) (omega arith) (cells-take c.self.inside.last c.self.inside.used c.self.inside.cells.items c.self.invariant.cells_known) in
-    laid-cells c.self.inside.spans.items c.self.inside.cells.items c.self.inside.used c.self.inside.last c.push.new.self.items c.pad.new.cells.items c.in_ok-stamp.stamp
+    laid-cells c.self.inside.spans.items c.self.inside.cells.items c.self.inside.used
+    c.self.inside.last c.push.new.self.items c.pad.new.cells.items c.in_ok-stamp.stamp
     c.self.invariant c.in_err-push.ensures.items (omega arith) (omega arith)
-    (c.in_ok-pad.ensures.known c.in_ok-stamp.stamp (omega arith) (c.in_ok-put_words.ensures.known c.in_ok-stamp.stamp (omega arith) (subst (CellsKnown c.in_ok-stamp.stamp) (sym c.truncate.ensures.items) k)))
+    (c.in_ok-pad.ensures.known c.in_ok-stamp.stamp (omega arith)
+    (c.in_ok-put_words.ensures.known c.in_ok-stamp.stamp (omega arith)
+    (subst (CellsKnown c.in_ok-stamp.stamp) (sym c.truncate.ensures.items) k)))
 
 pub invariant_of-self-2 : goal.invariant_of-self-2
 invariant_of-self-2 c =
@@ -39,12 +48,20 @@ invariant_of-self-2 c =
     let s = c.in_ok-stamp.ensures in let u = c.in_ok-used.ensures in
     let k = cells-later c.self.inside.last c.in_ok-stamp.stamp (take c.self.inside.used c.self.inside.cells.items) (omega arith) (cells-take c.self.inside.last c.self.inside.used c.self.inside.cells.items c.self.invariant.cells_known) in
     let le = enough-filled c.self.inside.used c.args.zeros c.args.words.now c.in_ok-stamp.stamp c.in_ok-length.length c.self.inside.cells.items c.truncate.new.self.items c.put_words.new.cells.items c.pad.new.cells.items f (c.in_ok-length.ensures) c.truncate.ensures.items c.in_ok-put_words.ensures.ok c.in_ok-pad.ensures.ok in
-    laid-add c.self.inside.spans.items c.self.inside.cells.items c.self.inside.used c.self.inside.last c.push.new.self.items c.pad.new.cells.items c.in_ok-used.used c.in_ok-stamp.stamp c.in_ok-length.length
+    laid-add c.self.inside.spans.items c.self.inside.cells.items c.self.inside.used
+    c.self.inside.last c.push.new.self.items c.pad.new.cells.items c.in_ok-used.used
+    c.in_ok-stamp.stamp c.in_ok-length.length
     c.self.invariant s u c.in_ok-push.ensures.items (omega arith)
-    (c.in_ok-pad.ensures.known c.in_ok-stamp.stamp (omega arith) (c.in_ok-put_words.ensures.known c.in_ok-stamp.stamp (omega arith) (subst (CellsKnown c.in_ok-stamp.stamp) (sym c.truncate.ensures.items) k)))
+    (c.in_ok-pad.ensures.known c.in_ok-stamp.stamp (omega arith)
+    (c.in_ok-put_words.ensures.known c.in_ok-stamp.stamp (omega arith)
+    (subst (CellsKnown c.in_ok-stamp.stamp) (sym c.truncate.ensures.items) k)))
 
 pub returns : goal.returns
 returns c = record {
-  ok = rows-set_added c.self.inside.spans.items c.self.inside.cells.items c.self.inside.used c.self.inside.last c.push.new.self.items c.truncate.new.self.items c.put_words.new.cells.items c.pad.new.cells.items c.in_ok-stamp.stamp c.in_ok-length.length c.args.zeros c.args.words.now c.args.self.now
-      c.self.invariant c.self.view_is c.in_ok-length.ensures c.in_ok-push.ensures.items c.truncate.ensures.items c.in_ok-put_words.ensures.ok c.in_ok-pad.ensures.ok;
+  ok = rows-set_added c.self.inside.spans.items c.self.inside.cells.items c.self.inside.used
+      c.self.inside.last c.push.new.self.items c.truncate.new.self.items c.put_words.new.cells.items
+      c.pad.new.cells.items c.in_ok-stamp.stamp c.in_ok-length.length c.args.zeros c.args.words.now
+      c.args.self.now
+      c.self.invariant c.self.view_is c.in_ok-length.ensures c.in_ok-push.ensures.items
+      c.truncate.ensures.items c.in_ok-put_words.ensures.ok c.in_ok-pad.ensures.ok;
 }

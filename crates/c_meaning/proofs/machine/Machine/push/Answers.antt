@@ -6,5 +6,9 @@ use Rattle.c_meaning.proofs.machine.Machine.push.Goals as goal
 
 pub returns : goal.returns
 unfolding frames
-returns c =
-    (refl, refl, ap (λ (xs : List Frame). reverse (map follow xs)) c.in_ok-push.ensures.items ∙ stack_push c.args.self.now.stack.items c.args.frame)
+returns c = (
+  refl,
+  refl,
+  ap (λ (xs : List Frame). reverse (map follow xs)) c.in_ok-push.ensures.items
+      ∙ stack_push c.args.self.now.stack.items c.args.frame,
+)
