@@ -1,0 +1,100 @@
+use Rattle.std.proofs.Common.{◌≡◌, ◌≤◌, ◌<◌, ℕ, suc, ◌+◌, ◌-◌, ◌*◌, length, false}
+use Rattle.c_grammar.specs.Operators.{binary_level}
+use Rattle.c_grammar.specs.Parsing.{listed}
+use Rattle.c_grammar.specs.ModelExpressions.{arg_list_of, inside, loop, suffixes, binary_of, assignment_of, expression_of, postfix_of}
+use Rattle.c_tree.specs.declared.token.Mark.TheVariants as marks
+use Rattle.c_parse.specs.Reads.{opened, behind}
+use Rattle.c_parse.proofs.parser.Parser.+expression.Given as goal
+
+abbrev pub decreases-element : goal.decreases-element
+decreases-element l = 32 * l.left
+
+abbrev pub decreases-call : goal.decreases-call
+decreases-call l = 32 * l.left
+
+abbrev pub decreases-group : goal.decreases-group
+decreases-group l = 32 * l.left
+
+abbrev pub decreases-signed_by : goal.decreases-signed_by
+decreases-signed_by l = 32 * l.left
+
+abbrev pub decreases-increased : goal.decreases-increased
+decreases-increased l = 32 * l.left
+
+abbrev pub decreases-decreased : goal.decreases-decreased
+decreases-decreased l = 32 * l.left
+
+abbrev pub decreases-converted : goal.decreases-converted
+decreases-converted l = 32 * l.left
+
+abbrev pub decreases-chosen : goal.decreases-chosen
+decreases-chosen l = 32 * l.left
+
+abbrev pub decreases-assigned : goal.decreases-assigned
+decreases-assigned l = 32 * l.left
+
+abbrev pub decreases-after_name : goal.decreases-after_name
+decreases-after_name l = 32 * l.left + 1
+
+abbrev pub decreases-named : goal.decreases-named
+decreases-named l = 32 * l.left + 2
+
+abbrev pub decreases-primary : goal.decreases-primary
+decreases-primary l = 32 * l.left + 3
+
+abbrev pub decreases-postfix : goal.decreases-postfix
+decreases-postfix l = 32 * l.left + 4
+
+abbrev pub decreases-unary : goal.decreases-unary
+decreases-unary l = 32 * l.left + 5
+
+abbrev pub decreases-cast : goal.decreases-cast
+decreases-cast l = 32 * l.left + 6
+
+abbrev pub decreases-binary : goal.decreases-binary
+decreases-binary l = 32 * l.left + 7 + l.level
+
+abbrev pub decreases-choice : goal.decreases-choice
+decreases-choice l = 32 * l.left + 1
+
+abbrev pub decreases-conditional : goal.decreases-conditional
+decreases-conditional l = 32 * l.left + 18
+
+abbrev pub decreases-assign : goal.decreases-assign
+decreases-assign l = 32 * l.left + 1
+
+abbrev pub decreases-assignment : goal.decreases-assignment
+decreases-assignment l = 32 * l.left + 19
+
+abbrev pub decreases-expression : goal.decreases-expression
+decreases-expression l = 32 * l.left + 20
+
+abbrev pub decreases-arg_list : goal.decreases-arg_list
+decreases-arg_list l = 32 * l.left + 20
+
+abbrev pub decreases-args : goal.decreases-args
+decreases-args l = 32 * l.left + 21
+
+abbrev pub invariant-arg_list-loop-turn : goal.invariant-arg_list-loop-turn
+invariant-arg_list-loop-turn l =
+    behind l.found (listed marks.RightParen false (assignment_of (inside l.left)) (l.turns - l._turn) l.self.rest.now)
+    ≡ arg_list_of (opened l.left) l.fn.self.rest.now
+
+abbrev pub invariant-postfix-loop-op : goal.invariant-postfix-loop-op
+invariant-postfix-loop-op l = suffixes (length l.self.rest.now) l.whole l.self.rest.now ≡ postfix_of (inside l.left) l.fn.self.rest.now
+
+abbrev pub decreases-postfix-loop-op : goal.decreases-postfix-loop-op
+decreases-postfix-loop-op l = length l.self.rest.now
+
+abbrev pub invariant-binary-loop-op : goal.invariant-binary-loop-op
+invariant-binary-loop-op l =
+    (loop (binary_of (inside l.left) l.below) (binary_level l.below) (length l.self.rest.now) l.whole l.self.rest.now ≡ binary_of (inside l.left) l.level l.fn.self.rest.now) × (l.level ≡ l.below + 1) × (l.below < 10)
+
+abbrev pub decreases-binary-loop-op : goal.decreases-binary-loop-op
+decreases-binary-loop-op l = length l.self.rest.now
+
+abbrev pub invariant-expression-loop-self : goal.invariant-expression-loop-self
+invariant-expression-loop-self l = loop (assignment_of (inside l.left)) 15 (length l.self.rest.now) l.whole l.self.rest.now ≡ expression_of (inside l.left) l.fn.self.rest.now
+
+abbrev pub decreases-expression-loop-self : goal.decreases-expression-loop-self
+decreases-expression-loop-self l = length l.self.rest.now

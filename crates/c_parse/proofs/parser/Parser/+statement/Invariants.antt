@@ -1,0 +1,47 @@
+use Rattle.std.proofs.Common.{◌≡◌, ℕ, ◌+◌, ◌-◌, ◌*◌, length}
+use Rattle.c_grammar.specs.Parsing.{many}
+use Rattle.c_grammar.specs.ModelExpressions.{inside}
+use Rattle.c_grammar.specs.ModelStatements.{entry_of, entries_of, below_at}
+use Rattle.c_tree.specs.declared.token.Mark.TheVariants as marks
+use Rattle.c_parse.specs.Reads.{behind}
+use Rattle.c_parse.proofs.parser.Parser.+statement.Given as goal
+
+abbrev pub decreases-inner : goal.decreases-inner
+decreases-inner l = 16 * l.left
+
+abbrev pub decreases-one : goal.decreases-one
+decreases-one l = 16 * l.left + 1
+
+abbrev pub decreases-entry : goal.decreases-entry
+decreases-entry l = 16 * l.left + 2
+
+abbrev pub decreases-entries : goal.decreases-entries
+decreases-entries l = 16 * l.left + 3
+
+abbrev pub decreases-compound : goal.decreases-compound
+decreases-compound l = 16 * l.left + 4
+
+abbrev pub decreases-with_else : goal.decreases-with_else
+decreases-with_else l = 16 * l.left + 1
+
+abbrev pub decreases-after_if : goal.decreases-after_if
+decreases-after_if l = 16 * l.left + 2
+
+abbrev pub decreases-if_statement : goal.decreases-if_statement
+decreases-if_statement l = 16 * l.left + 3
+
+abbrev pub decreases-while_statement : goal.decreases-while_statement
+decreases-while_statement l = 16 * l.left + 3
+
+abbrev pub decreases-do_statement : goal.decreases-do_statement
+decreases-do_statement l = 16 * l.left + 3
+
+abbrev pub decreases-for_statement : goal.decreases-for_statement
+decreases-for_statement l = 16 * l.left + 3
+
+abbrev pub decreases-statement : goal.decreases-statement
+decreases-statement l = 16 * l.left + 5
+
+abbrev pub invariant-entries-loop-turn : goal.invariant-entries-loop-turn
+invariant-entries-loop-turn l =
+    behind l.found (many marks.RightBrace (entry_of (inside l.left) (below_at l.left)) (l.turns - l._turn) l.self.rest.now) ≡ entries_of (inside l.left) (below_at l.left) l.fn.self.rest.now

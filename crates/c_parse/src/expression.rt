@@ -1,0 +1,208 @@
+//! Binary, conditional, assignment and comma expressions (C17 6.5.5 to 6.5.17).
+
+ghost use Rattle.std.specs.Prelude.{◌≡◌, ◌≤◌, ◌<◌, length, [], ◌∷◌};
+ghost use Rattle.c_grammar.specs.ModelExpressions as model;
+ghost use Rattle.c_grammar.specs.Operators.{Assigner, assigner_mark, assigner_op};
+ghost use Rattle.c_parse.specs.Reads as reads;
+ghost use Rattle.c_parse.specs.Reads.{Reads, operator_at, joins_by, IsAssigner};
+
+use crate::fault::Stopped;
+use crate::make;
+use crate::parser::Parser;
+use c_tree::{BinaryOp, Expr, ExprNode, Form, Mark};
+
+#[tactic(auto, unfolding(c_grammar::specs::ModelExpressions::is_unary))]
+fn is_unary(e: &Expr) -> bool
+    ensures { result ≡ model.is_unary e.now }
+{
+    match &e.node {
+        ExprNode::Cast { .. }
+        | ExprNode::Binary { .. }
+        | ExprNode::Choice { .. }
+        | ExprNode::Assign { .. }
+        | ExprNode::Comma { .. } => false,
+        _ => true,
+    }
+}
+
+/// A binary operator, and how many levels above a cast its right side is.
+fn joins(form: &Form) -> Option<(u8, BinaryOp)>
+    ensures { result ≡ joins_by form.now }
+{
+    match form {
+        Form::Mark(Mark::Star) => Some((0, BinaryOp::Multiply)),
+        Form::Mark(Mark::Slash) => Some((0, BinaryOp::Divide)),
+        Form::Mark(Mark::Percent) => Some((0, BinaryOp::Remainder)),
+        Form::Mark(Mark::Plus) => Some((1, BinaryOp::Add)),
+        Form::Mark(Mark::Minus) => Some((1, BinaryOp::Subtract)),
+        Form::Mark(Mark::ShiftLeft) => Some((2, BinaryOp::ShiftLeft)),
+        Form::Mark(Mark::ShiftRight) => Some((2, BinaryOp::ShiftRight)),
+        Form::Mark(Mark::Less) => Some((3, BinaryOp::Less)),
+        Form::Mark(Mark::Greater) => Some((3, BinaryOp::Greater)),
+        Form::Mark(Mark::LessEqual) => Some((3, BinaryOp::LessEqual)),
+        Form::Mark(Mark::GreaterEqual) => Some((3, BinaryOp::GreaterEqual)),
+        Form::Mark(Mark::Equal) => Some((4, BinaryOp::Equal)),
+        Form::Mark(Mark::NotEqual) => Some((4, BinaryOp::NotEqual)),
+        Form::Mark(Mark::And) => Some((5, BinaryOp::BitAnd)),
+        Form::Mark(Mark::Xor) => Some((6, BinaryOp::BitXor)),
+        Form::Mark(Mark::Or) => Some((7, BinaryOp::BitOr)),
+        Form::Mark(Mark::AndAnd) => Some((8, BinaryOp::LogicalAnd)),
+        Form::Mark(Mark::OrOr) => Some((9, BinaryOp::LogicalOr)),
+        _ => None,
+    }
+}
+
+/// The operator, if it is of the level.
+fn of_level(level: u8, found: Option<(u8, BinaryOp)>) -> Option<BinaryOp>
+    ensures { result ≡ reads.of_level level found }
+{
+    match found {
+        Some((of, op)) => {
+            if of == level {
+                Some(op)
+            } else {
+                None
+            }
+        }
+        None => None,
+    }
+}
+
+impl Parser<'_> {
+    /// The operator that comes next, if phrases so many levels above a cast join by it.
+    #[tactic(auto, using(crate::proofs::Turns::operator_is))]
+    fn operator(&self, below: u8) -> Option<BinaryOp>
+        ensures { result ≡ operator_at below self.now.rest.now }
+    {
+        match self.rest {
+            [] => None,
+            [lexeme, ..] => of_level(below, joins(&lexeme.form)),
+        }
+    }
+
+    /// A phrase of so many levels of binary operators above a cast.
+    #[cycle(expression)]
+    fn binary(&mut self, left: u8, level: u8) -> Result<Expr, Stopped>
+        requires { level ≤ 10 }
+        ensures { Reads (model.binary_of (model.inside left) level self.old.rest.now) result self.new.rest.now }
+    {
+        if level == 0 {
+            return self.cast(left);
+        }
+        let below = level - 1;
+        let mut whole = self.binary(left, below)?;
+        while let Some(op) = self.operator(below) {
+            self.advance();
+            let right = self.binary(left, below)?;
+            whole = make::binary(self.alloc, op, whole, right)?;
+        }
+        Ok(whole)
+    }
+
+    #[cycle(expression)]
+    #[tactic(auto, unfolding(c_grammar::specs::ModelExpressions::chosen_of))]
+    fn chosen(&mut self, left: u8, test: Expr) -> Result<Expr, Stopped>
+        ensures { Reads (model.chosen_of (model.inside left) test self.old.rest.now) result self.new.rest.now }
+    {
+        let left = self.enter(Mark::Question, left)?;
+        let yes = self.expression(left)?;
+        self.expect(Mark::Colon)?;
+        let no = self.conditional(left)?;
+        Ok(make::choice(self.alloc, test, yes, no)?)
+    }
+
+    #[cycle(expression)]
+    #[tactic(auto, unfolding(c_grammar::specs::ModelExpressions::choice_from))]
+    fn choice(&mut self, left: u8, test: Expr) -> Result<Expr, Stopped>
+        ensures { Reads (model.choice_from (model.inside left) test self.old.rest.now) result self.new.rest.now }
+    {
+        if self.is_next(Mark::Question) {
+            return self.chosen(left, test);
+        }
+        Ok(test)
+    }
+
+    #[cycle(expression)]
+    #[tactic(auto, unfolding(c_grammar::specs::ModelExpressions::conditional_of))]
+    pub fn conditional(&mut self, left: u8) -> Result<Expr, Stopped>
+        ensures { Reads (model.conditional_of (model.inside left) self.old.rest.now) result self.new.rest.now }
+    {
+        let test = self.binary(left, 10)?;
+        self.choice(left, test)
+    }
+
+    /// The operator of an assignment to `to` that comes next, with its mark.
+    fn assigner(&self, to: &Expr) -> Option<(Mark, Option<BinaryOp>)>
+        ensures { IsAssigner result (model.seen (model.assigner_for to.now) self.now.rest.now) }
+    {
+        let [lexeme, ..] = self.rest else {
+            return None;
+        };
+        if !is_unary(to) {
+            return None;
+        }
+        assigner_of(&lexeme.form)
+    }
+
+    #[cycle(expression)]
+    #[tactic(auto, unfolding(c_grammar::specs::ModelExpressions::assigned_of))]
+    fn assigned(&mut self, left: u8, mark: Mark, op: Option<BinaryOp>, to: Expr) -> Result<Expr, Stopped>
+        ensures { (s : Assigner) → mark ≡ assigner_mark s → op ≡ assigner_op s → Reads (model.assigned_of (model.inside left) s to self.old.rest.now) result self.new.rest.now }
+    {
+        let left = self.enter(mark, left)?;
+        let value = self.assignment(left)?;
+        Ok(make::assignment(self.alloc, op, to, value)?)
+    }
+
+    #[cycle(expression)]
+    #[tactic(auto, unfolding(c_grammar::specs::ModelExpressions::assign_from))]
+    fn assign(&mut self, left: u8, to: Expr) -> Result<Expr, Stopped>
+        ensures { Reads (model.assign_from (model.inside left) to self.old.rest.now) result self.new.rest.now }
+    {
+        match self.assigner(&to) {
+            Some((mark, op)) => self.assigned(left, mark, op, to),
+            None => Ok(to),
+        }
+    }
+
+    #[cycle(expression)]
+    #[tactic(auto, unfolding(c_grammar::specs::ModelExpressions::assignment_of))]
+    pub fn assignment(&mut self, left: u8) -> Result<Expr, Stopped>
+        ensures { Reads (model.assignment_of (model.inside left) self.old.rest.now) result self.new.rest.now }
+    {
+        let to = self.conditional(left)?;
+        self.assign(left, to)
+    }
+
+    #[cycle(expression)]
+    pub fn expression(&mut self, left: u8) -> Result<Expr, Stopped>
+        ensures { Reads (model.expression_of (model.inside left) self.old.rest.now) result self.new.rest.now }
+    {
+        let mut whole = self.assignment(left)?;
+        while self.is_next(Mark::Comma) {
+            self.advance();
+            let right = self.assignment(left)?;
+            whole = make::comma(self.alloc, whole, right)?;
+        }
+        Ok(whole)
+    }
+}
+
+fn assigner_of(form: &Form) -> Option<(Mark, Option<BinaryOp>)>
+    ensures { IsAssigner result (model.assigner_of form.now) }
+{
+    match form {
+        Form::Mark(Mark::Assign) => Some((Mark::Assign, None)),
+        Form::Mark(Mark::StarAssign) => Some((Mark::StarAssign, Some(BinaryOp::Multiply))),
+        Form::Mark(Mark::SlashAssign) => Some((Mark::SlashAssign, Some(BinaryOp::Divide))),
+        Form::Mark(Mark::PercentAssign) => Some((Mark::PercentAssign, Some(BinaryOp::Remainder))),
+        Form::Mark(Mark::PlusAssign) => Some((Mark::PlusAssign, Some(BinaryOp::Add))),
+        Form::Mark(Mark::MinusAssign) => Some((Mark::MinusAssign, Some(BinaryOp::Subtract))),
+        Form::Mark(Mark::ShiftLeftAssign) => Some((Mark::ShiftLeftAssign, Some(BinaryOp::ShiftLeft))),
+        Form::Mark(Mark::ShiftRightAssign) => Some((Mark::ShiftRightAssign, Some(BinaryOp::ShiftRight))),
+        Form::Mark(Mark::AndAssign) => Some((Mark::AndAssign, Some(BinaryOp::BitAnd))),
+        Form::Mark(Mark::XorAssign) => Some((Mark::XorAssign, Some(BinaryOp::BitXor))),
+        Form::Mark(Mark::OrAssign) => Some((Mark::OrAssign, Some(BinaryOp::BitOr))),
+        _ => None,
+    }
+}

@@ -1,0 +1,148 @@
+//! Conditions, expressions that may be absent, and local declarations (C17 6.7).
+
+ghost use Rattle.std.specs.Prelude.{◌≡◌};
+ghost use Rattle.c_grammar.specs.Statements as grammar;
+ghost use Rattle.c_grammar.specs.ModelExpressions.{inside};
+ghost use Rattle.c_grammar.specs.ModelStatements as model;
+ghost use Rattle.c_parse.specs.Reads.{Reads};
+
+use crate::fault::Stopped;
+use crate::parser::Parser;
+use base::Items;
+use c_tree::{ArraySize, Expr, Kind, Mark, Stmt, StmtNode};
+
+impl Parser<'_> {
+    #[tactic(auto, unfolding(c_grammar::specs::ModelStatements::absent_of, c_grammar::specs::ModelStatements::given_of, c_grammar::specs::ModelStatements::until_of))]
+    pub fn until_semicolon(&mut self, left: u8) -> Result<Option<Expr>, Stopped>
+        ensures { Reads (model.until_of (inside left) grammar.semicolon self.old.rest.now) result self.new.rest.now }
+    {
+        if self.is_next(Mark::Semicolon) {
+            self.expect(Mark::Semicolon)?;
+            return Ok(None);
+        }
+        let e = self.expression(left)?;
+        self.expect(Mark::Semicolon)?;
+        Ok(Some(e))
+    }
+
+    #[tactic(auto, unfolding(c_grammar::specs::ModelStatements::absent_of, c_grammar::specs::ModelStatements::given_of, c_grammar::specs::ModelStatements::until_of))]
+    pub fn until_paren(&mut self, left: u8) -> Result<Option<Expr>, Stopped>
+        ensures { Reads (model.until_of (inside left) grammar.paren self.old.rest.now) result self.new.rest.now }
+    {
+        if self.is_next(Mark::RightParen) {
+            self.expect(Mark::RightParen)?;
+            return Ok(None);
+        }
+        let e = self.expression(left)?;
+        self.expect(Mark::RightParen)?;
+        Ok(Some(e))
+    }
+
+    /// A condition in its parentheses.
+    #[tactic(auto, unfolding(c_grammar::specs::ModelStatements::test_of))]
+    pub fn test(&mut self, left: u8) -> Result<Expr, Stopped>
+        ensures { Reads (model.test_of (inside left) self.old.rest.now) result self.new.rest.now }
+    {
+        self.expect(Mark::LeftParen)?;
+        let test = self.expression(left)?;
+        self.expect(Mark::RightParen)?;
+        Ok(test)
+    }
+
+    #[tactic(auto, unfolding(c_grammar::specs::ModelStatements::value_of))]
+    fn value(&mut self, left: u8) -> Result<(ArraySize, Option<Expr>), Stopped>
+        ensures { Reads (model.value_of (inside left) self.old.rest.now) result self.new.rest.now }
+    {
+        self.expect(Mark::Assign)?;
+        let value = self.assignment(left)?;
+        Ok((ArraySize::Scalar, Some(value)))
+    }
+
+    #[tactic(auto, unfolding(c_grammar::specs::ModelStatements::array_of))]
+    fn array(&mut self, left: u8) -> Result<(ArraySize, Option<Expr>), Stopped>
+        ensures { Reads (model.array_of (inside left) self.old.rest.now) result self.new.rest.now }
+    {
+        self.expect(Mark::LeftBracket)?;
+        let size = self.conditional(left)?;
+        self.expect(Mark::RightBracket)?;
+        Ok((ArraySize::Sized(size), None))
+    }
+
+    /// What stands behind the name of a local.
+    #[tactic(auto, unfolding(c_grammar::specs::ModelStatements::shape_of))]
+    fn shape(&mut self, left: u8) -> Result<(ArraySize, Option<Expr>), Stopped>
+        ensures { Reads (model.shape_of (inside left) self.old.rest.now) result self.new.rest.now }
+    {
+        if self.is_next(Mark::Assign) {
+            return self.value(left);
+        }
+        if self.is_next(Mark::LeftBracket) {
+            return self.array(left);
+        }
+        Ok((ArraySize::Scalar, None))
+    }
+
+    #[tactic(auto, unfolding(c_grammar::specs::ModelStatements::decl_of))]
+    fn declarator(&mut self, left: u8, kind: Kind) -> Result<Stmt, Stopped>
+        ensures { Reads (model.decl_of (inside left) kind self.old.rest.now) result self.new.rest.now }
+    {
+        let (line, name) = self.name()?;
+        let (size, init) = self.shape(left)?;
+        Ok(Stmt {
+            line,
+            node: StmtNode::Declare {
+                kind,
+                name,
+                size,
+                init,
+            },
+        })
+    }
+
+    /// Declarators up to the semicolon.
+    fn declarators(&mut self, left: u8, kind: Kind) -> Result<Items<Stmt>, Stopped>
+        ensures { Reads (model.decls_of (inside left) kind self.old.rest.now) result self.new.rest.now }
+    {
+        let mut found = Items::new(self.alloc);
+        let turns = self.rest.len() + 1;
+        for _turn in 0..turns {
+            let declarator = self.declarator(left, kind)?;
+            found.push(declarator)?;
+            if self.is_next(Mark::Comma) {
+                self.advance();
+            } else {
+                self.expect(Mark::Semicolon)?;
+                return Ok(found);
+            }
+        }
+        Err(Stopped::Syntax)
+    }
+
+    #[tactic(auto, unfolding(c_grammar::specs::ModelStatements::locals_of))]
+    fn locals(&mut self, left: u8) -> Result<Items<Stmt>, Stopped>
+        ensures { Reads (model.locals_of (inside left) self.old.rest.now) result self.new.rest.now }
+    {
+        let (_, kind) = self.type_name()?;
+        self.declarators(left, kind)
+    }
+
+    /// A declaration inside a statement.
+    pub fn locals_inside(&mut self, left: u8) -> Result<Items<Stmt>, Stopped>
+        ensures { Reads ((model.below_at left).locals self.old.rest.now) result self.new.rest.now }
+    {
+        if left == 0 {
+            return self.no_locals();
+        }
+        self.locals(left - 1)
+    }
+
+    fn no_locals(&mut self) -> Result<Items<Stmt>, Stopped>
+        ensures { Reads ((model.below_at 0).locals self.old.rest.now) result self.new.rest.now }
+    {
+        if self.begins_type() {
+            Err(Stopped::TooDeep)
+        } else {
+            Err(Stopped::Syntax)
+        }
+    }
+}

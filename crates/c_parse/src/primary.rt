@@ -1,0 +1,292 @@
+//! Primary, postfix, unary and cast expressions (C17 6.5.1 to 6.5.4).
+
+ghost use Rattle.std.specs.Prelude.{◌≡◌, suc, length, false, List, ℕ};
+ghost use Rattle.c_grammar.specs.Parsing as parsing;
+ghost use Rattle.c_grammar.specs.ModelExpressions as model;
+ghost use Rattle.c_grammar.specs.Operators.{sign, increase, decrease, prefix_mark};
+ghost use Rattle.c_tree.specs.declared.token.Mark.TheVariants as marks;
+ghost use Rattle.c_parse.specs.Reads.{Reads, opened, IsSuffix, IsPrefix};
+
+use crate::fault::Stopped;
+use crate::make;
+use crate::parser::Parser;
+use base::Items;
+use c_tree::{BumpOp, Expr, ExprNode, Form, Mark, UnaryOp, Word};
+
+/// What stands before an operand.
+#[derive(Clone, Copy, Debug, PartialEq, Eq)]
+pub enum Before {
+    Plus,
+    Minus,
+    Complement,
+    Not,
+    Increase,
+    Decrease,
+}
+
+impl Parser<'_> {
+    #[cycle(expression)]
+    #[tactic(auto, unfolding(c_grammar::specs::ModelExpressions::group_of))]
+    fn group(&mut self, left: u8) -> Result<Expr, Stopped>
+        ensures { Reads (model.group_of (model.inside left) self.old.rest.now) result self.new.rest.now }
+    {
+        let line = self.line();
+        let left = self.enter(Mark::LeftParen, left)?;
+        let inner = self.expression(left)?;
+        self.expect(Mark::RightParen)?;
+        Ok(make::group(self.alloc, line, inner)?)
+    }
+
+    #[cycle(expression)]
+    #[tactic(auto, unfolding(c_grammar::specs::ModelExpressions::element_of))]
+    fn element(&mut self, left: u8, line: u32, array: Word) -> Result<Expr, Stopped>
+        ensures { Reads (model.element_of (model.inside left) line array self.old.rest.now) result self.new.rest.now }
+    {
+        let left = self.enter(Mark::LeftBracket, left)?;
+        let index = self.expression(left)?;
+        self.expect(Mark::RightBracket)?;
+        Ok(make::element(self.alloc, line, array, index)?)
+    }
+
+    #[cycle(expression)]
+    #[tactic(auto, unfolding(c_grammar::specs::ModelExpressions::call_of))]
+    fn call(&mut self, left: u8, line: u32, function: Word) -> Result<Expr, Stopped>
+        ensures { Reads (model.call_of (model.inside left) line function self.old.rest.now) result self.new.rest.now }
+    {
+        let left = self.enter(Mark::LeftParen, left)?;
+        let args = self.args(left)?;
+        Ok(Expr {
+            line,
+            node: ExprNode::Call { function, args },
+        })
+    }
+
+    /// Arguments up to the closing parenthesis.
+    #[cycle(expression)]
+    #[tactic(auto, unfolding(c_grammar::specs::ModelExpressions::args_of, c_grammar::specs::ModelExpressions::no_args_of))]
+    fn args(&mut self, left: u8) -> Result<Items<Expr>, Stopped>
+        ensures { Reads (model.args_of (opened left) self.old.rest.now) result self.new.rest.now }
+    {
+        if self.is_next(Mark::RightParen) {
+            self.expect(Mark::RightParen)?;
+            return Ok(Items::new(self.alloc));
+        }
+        self.arg_list(left)
+    }
+
+    #[cycle(expression)]
+    fn arg_list(&mut self, left: u8) -> Result<Items<Expr>, Stopped>
+        ensures { Reads (model.arg_list_of (opened left) self.old.rest.now) result self.new.rest.now }
+    {
+        let mut found = Items::new(self.alloc);
+        let turns = self.rest.len() + 1;
+        for _turn in 0..turns {
+            let arg = self.assignment(left)?;
+            found.push(arg)?;
+            if self.is_next(Mark::Comma) {
+                self.advance();
+            } else {
+                self.expect(Mark::RightParen)?;
+                return Ok(found);
+            }
+        }
+        Err(Stopped::Syntax)
+    }
+
+    #[cycle(expression)]
+    #[tactic(auto, unfolding(c_grammar::specs::ModelExpressions::after_name))]
+    fn after_name(&mut self, left: u8, line: u32, name: Word) -> Result<Expr, Stopped>
+        ensures { Reads (model.after_name (model.inside left) line name self.old.rest.now) result self.new.rest.now }
+    {
+        if self.is_next(Mark::LeftBracket) {
+            return self.element(left, line, name);
+        }
+        if self.is_next(Mark::LeftParen) {
+            return self.call(left, line, name);
+        }
+        Ok(Expr {
+            line,
+            node: ExprNode::Name(name),
+        })
+    }
+
+    #[cycle(expression)]
+    #[tactic(auto, unfolding(c_grammar::specs::ModelExpressions::named_of))]
+    fn named(&mut self, left: u8) -> Result<Expr, Stopped>
+        ensures { Reads (model.named_of (model.inside left) self.old.rest.now) result self.new.rest.now }
+    {
+        let (line, name) = self.name()?;
+        self.after_name(left, line, name)
+    }
+
+    fn number(&mut self) -> Result<Expr, Stopped>
+        ensures { Reads (model.number_of self.old.rest.now) result self.new.rest.now }
+    {
+        let [lexeme, ..] = self.rest else {
+            return Err(Stopped::Syntax);
+        };
+        let line = lexeme.line;
+        match &lexeme.form {
+            Form::Number { value, kind } => {
+                let node = ExprNode::Number {
+                    value: *value,
+                    kind: *kind,
+                };
+                self.advance();
+                Ok(Expr { line, node })
+            }
+            _ => Err(Stopped::Syntax),
+        }
+    }
+
+    #[cycle(expression)]
+    #[tactic(auto, unfolding(c_grammar::specs::ModelExpressions::primary_of))]
+    fn primary(&mut self, left: u8) -> Result<Expr, Stopped>
+        ensures { Reads (model.primary_of (model.inside left) self.old.rest.now) result self.new.rest.now }
+    {
+        if self.is_name() {
+            return self.named(left);
+        }
+        if self.is_next(Mark::LeftParen) {
+            return self.group(left);
+        }
+        self.number()
+    }
+
+    /// The `++` or `--` that comes next.
+    fn suffix(&self) -> Option<BumpOp>
+        ensures { IsSuffix result (model.seen model.suffix_of self.now.rest.now) }
+    {
+        let [lexeme, ..] = self.rest else {
+            return None;
+        };
+        match &lexeme.form {
+            Form::Mark(Mark::PlusPlus) => Some(BumpOp::PostInc),
+            Form::Mark(Mark::MinusMinus) => Some(BumpOp::PostDec),
+            _ => None,
+        }
+    }
+
+    #[cycle(expression)]
+    #[tactic(auto, unfolding(c_grammar::specs::ModelExpressions::postfix_of))]
+    fn postfix(&mut self, left: u8) -> Result<Expr, Stopped>
+        ensures { Reads (model.postfix_of (model.inside left) self.old.rest.now) result self.new.rest.now }
+    {
+        let mut whole = self.primary(left)?;
+        while let Some(op) = self.suffix() {
+            self.advance();
+            let line = whole.line;
+            whole = make::bump(self.alloc, line, op, whole)?;
+        }
+        Ok(whole)
+    }
+
+    /// The operator before an operand that comes next.
+    fn before(&self) -> Option<Before>
+        ensures { IsPrefix result (model.seen model.prefix_of self.now.rest.now) }
+    {
+        let [lexeme, ..] = self.rest else {
+            return None;
+        };
+        match &lexeme.form {
+            Form::Mark(Mark::Plus) => Some(Before::Plus),
+            Form::Mark(Mark::Minus) => Some(Before::Minus),
+            Form::Mark(Mark::Tilde) => Some(Before::Complement),
+            Form::Mark(Mark::Not) => Some(Before::Not),
+            Form::Mark(Mark::PlusPlus) => Some(Before::Increase),
+            Form::Mark(Mark::MinusMinus) => Some(Before::Decrease),
+            _ => None,
+        }
+    }
+
+    #[cycle(expression)]
+    #[tactic(auto, unfolding(c_grammar::specs::ModelExpressions::prefixed_of))]
+    fn signed_by(&mut self, left: u8, mark: Mark, op: UnaryOp) -> Result<Expr, Stopped>
+        requires { mark ≡ prefix_mark (sign op) }
+        ensures { Reads (model.prefixed_of (model.inside left) (sign op) self.old.rest.now) result self.new.rest.now }
+    {
+        let line = self.line();
+        let left = self.enter(mark, left)?;
+        let operand = self.cast(left)?;
+        Ok(make::unary(self.alloc, line, op, operand)?)
+    }
+
+    #[cycle(expression)]
+    #[tactic(auto, unfolding(c_grammar::specs::ModelExpressions::prefixed_of))]
+    fn increased(&mut self, left: u8) -> Result<Expr, Stopped>
+        ensures { Reads (model.prefixed_of (model.inside left) increase self.old.rest.now) result self.new.rest.now }
+    {
+        let line = self.line();
+        let left = self.enter(Mark::PlusPlus, left)?;
+        let operand = self.unary(left)?;
+        Ok(make::bump(self.alloc, line, BumpOp::PreInc, operand)?)
+    }
+
+    #[cycle(expression)]
+    #[tactic(auto, unfolding(c_grammar::specs::ModelExpressions::prefixed_of))]
+    fn decreased(&mut self, left: u8) -> Result<Expr, Stopped>
+        ensures { Reads (model.prefixed_of (model.inside left) decrease self.old.rest.now) result self.new.rest.now }
+    {
+        let line = self.line();
+        let left = self.enter(Mark::MinusMinus, left)?;
+        let operand = self.unary(left)?;
+        Ok(make::bump(self.alloc, line, BumpOp::PreDec, operand)?)
+    }
+
+    #[cycle(expression)]
+    #[tactic(auto, unfolding(c_grammar::specs::ModelExpressions::unary_of))]
+    pub fn unary(&mut self, left: u8) -> Result<Expr, Stopped>
+        ensures { Reads (model.unary_of (model.inside left) self.old.rest.now) result self.new.rest.now }
+    {
+        match self.before() {
+            Some(Before::Plus) => self.signed_by(left, Mark::Plus, UnaryOp::Plus),
+            Some(Before::Minus) => self.signed_by(left, Mark::Minus, UnaryOp::Minus),
+            Some(Before::Complement) => self.signed_by(left, Mark::Tilde, UnaryOp::Complement),
+            Some(Before::Not) => self.signed_by(left, Mark::Not, UnaryOp::Not),
+            Some(Before::Increase) => self.increased(left),
+            Some(Before::Decrease) => self.decreased(left),
+            None => self.postfix(left),
+        }
+    }
+
+    /// Does a cast begin here, rather than a group?
+    fn is_cast(&self) -> bool
+        ensures { result ≡ model.is_cast self.now.rest.now }
+    {
+        if !self.is_next(Mark::LeftParen) {
+            return false;
+        }
+        let [_, rest @ ..] = self.rest else {
+            return false;
+        };
+        let behind = Parser {
+            alloc: self.alloc,
+            rest,
+        };
+        behind.begins_type()
+    }
+
+    #[cycle(expression)]
+    #[tactic(auto, unfolding(c_grammar::specs::ModelExpressions::cast_in))]
+    fn converted(&mut self, left: u8) -> Result<Expr, Stopped>
+        ensures { Reads (model.cast_in (model.inside left) self.old.rest.now) result self.new.rest.now }
+    {
+        let line = self.line();
+        let left = self.enter(Mark::LeftParen, left)?;
+        let (_, kind) = self.type_name()?;
+        self.expect(Mark::RightParen)?;
+        let operand = self.cast(left)?;
+        Ok(make::cast(self.alloc, line, kind, operand)?)
+    }
+
+    #[cycle(expression)]
+    #[tactic(auto, unfolding(c_grammar::specs::ModelExpressions::cast_of))]
+    pub fn cast(&mut self, left: u8) -> Result<Expr, Stopped>
+        ensures { Reads (model.cast_of (model.inside left) self.old.rest.now) result self.new.rest.now }
+    {
+        if self.is_cast() {
+            return self.converted(left);
+        }
+        self.unary(left)
+    }
+}

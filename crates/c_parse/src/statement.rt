@@ -1,0 +1,330 @@
+//! Statements and local declarations (C17 6.7, 6.8).
+
+ghost use Rattle.std.specs.Prelude.{◌≡◌, Some, None, length, [], ◌∷◌};
+ghost use Rattle.c_grammar.specs.Parsing as parsing;
+ghost use Rattle.c_grammar.specs.Statements as grammar;
+ghost use Rattle.c_grammar.specs.ModelExpressions.{inside};
+ghost use Rattle.c_grammar.specs.ModelStatements as model;
+ghost use Rattle.c_tree.specs.declared.token.Key.TheVariants as keys;
+ghost use Rattle.c_tree.specs.declared.tree.StmtNode.TheVariants as nodes;
+ghost use Rattle.c_parse.specs.Reads.{Reads};
+
+use crate::build;
+use crate::fault::Stopped;
+use crate::parser::Parser;
+use base::Items;
+use c_tree::{Expr, Form, ForInit, Key, Mark, Stmt, StmtNode};
+
+impl Parser<'_> {
+    /// Can a statement begin with the first token?
+    fn begins_statement(&self) -> bool
+        ensures { result ≡ parsing.first model.begins_statement self.now.rest.now }
+    {
+        match self.rest {
+            [] => false,
+            [lexeme, ..] => begins_with(&lexeme.form),
+        }
+    }
+
+    /// A statement inside another one.
+    #[cycle(statement)]
+    fn inner(&mut self, left: u8) -> Result<Stmt, Stopped>
+        ensures { Reads ((model.below_at left).inner self.old.rest.now) result self.new.rest.now }
+    {
+        if left == 0 {
+            return self.barred();
+        }
+        self.statement(left - 1)
+    }
+
+    /// Where no more depths may be opened.
+    fn barred(&mut self) -> Result<Stmt, Stopped>
+        ensures { Reads ((model.below_at 0).inner self.old.rest.now) result self.new.rest.now }
+    {
+        if self.begins_statement() {
+            Err(Stopped::TooDeep)
+        } else {
+            Err(Stopped::Syntax)
+        }
+    }
+
+    #[cycle(statement)]
+    #[tactic(auto, unfolding(c_grammar::specs::ModelStatements::one_of))]
+    fn one(&mut self, left: u8) -> Result<Items<Stmt>, Stopped>
+        ensures { Reads (model.one_of (inside left) (model.below_at left) self.old.rest.now) result self.new.rest.now }
+    {
+        let statement = self.inner(left)?;
+        let mut found = Items::new(self.alloc);
+        found.push(statement)?;
+        Ok(found)
+    }
+
+    /// A statement, or the declarators of a declaration.
+    #[cycle(statement)]
+    #[tactic(auto, unfolding(c_grammar::specs::ModelStatements::entry_of))]
+    fn entry(&mut self, left: u8) -> Result<Items<Stmt>, Stopped>
+        ensures { Reads (model.entry_of (inside left) (model.below_at left) self.old.rest.now) result self.new.rest.now }
+    {
+        if self.begins_type() {
+            return self.locals_inside(left);
+        }
+        self.one(left)
+    }
+
+    /// Entries up to the closing brace.
+    #[cycle(statement)]
+    fn entries(&mut self, left: u8) -> Result<Items<Stmt>, Stopped>
+        ensures { Reads (model.entries_of (inside left) (model.below_at left) self.old.rest.now) result self.new.rest.now }
+    {
+        let mut found = Items::new(self.alloc);
+        let turns = self.rest.len() + 1;
+        for _turn in 0..turns {
+            if self.is_next(Mark::RightBrace) {
+                self.advance();
+                return Ok(found);
+            }
+            let more = self.entry(left)?;
+            found.append(more)?;
+        }
+        Err(Stopped::Syntax)
+    }
+
+    #[cycle(statement)]
+    #[tactic(auto, unfolding(c_grammar::specs::ModelStatements::compound_of))]
+    pub fn compound(&mut self, left: u8) -> Result<Stmt, Stopped>
+        ensures { Reads (model.compound_of (inside left) (model.below_at left) self.old.rest.now) result self.new.rest.now }
+    {
+        let line = self.expect(Mark::LeftBrace)?;
+        let entries = self.entries(left)?;
+        Ok(Stmt {
+            line,
+            node: StmtNode::Compound(entries),
+        })
+    }
+
+    #[tactic(auto, unfolding(c_grammar::specs::ModelStatements::init_local_of))]
+    fn init_locals(&mut self, left: u8) -> Result<ForInit, Stopped>
+        ensures { Reads (model.init_local_of (inside left) (model.below_at left) self.old.rest.now) result self.new.rest.now }
+    {
+        let locals = self.locals_inside(left)?;
+        Ok(ForInit::Locals(locals))
+    }
+
+    #[tactic(auto, unfolding(c_grammar::specs::ModelStatements::init_plain_of))]
+    fn init_plain(&mut self, left: u8) -> Result<ForInit, Stopped>
+        ensures { Reads (model.init_plain_of (inside left) (model.below_at left) self.old.rest.now) result self.new.rest.now }
+    {
+        let given = self.until_semicolon(left)?;
+        Ok(build::for_init(given))
+    }
+
+    #[tactic(auto, unfolding(c_grammar::specs::ModelStatements::init_of))]
+    fn init(&mut self, left: u8) -> Result<ForInit, Stopped>
+        ensures { Reads (model.init_of (inside left) (model.below_at left) self.old.rest.now) result self.new.rest.now }
+    {
+        if self.begins_type() {
+            return self.init_locals(left);
+        }
+        self.init_plain(left)
+    }
+
+    #[cycle(statement)]
+    #[tactic(auto, unfolding(c_grammar::specs::ModelStatements::else_of))]
+    fn with_else(&mut self, left: u8, line: u32, test: Expr, yes: Stmt) -> Result<Stmt, Stopped>
+        ensures { Reads (model.else_of (inside left) (model.below_at left) line test yes self.old.rest.now) result self.new.rest.now }
+    {
+        self.expect_word(Key::Else)?;
+        let no = self.inner(left)?;
+        Ok(build::if_else(self.alloc, line, test, yes, no)?)
+    }
+
+    #[cycle(statement)]
+    #[tactic(auto, unfolding(c_grammar::specs::ModelStatements::no_of))]
+    fn after_if(&mut self, left: u8, line: u32, test: Expr, yes: Stmt) -> Result<Stmt, Stopped>
+        ensures { Reads (model.no_of (inside left) (model.below_at left) line test yes self.old.rest.now) result self.new.rest.now }
+    {
+        if self.is_word(Key::Else) {
+            return self.with_else(left, line, test, yes);
+        }
+        Ok(build::if_only(self.alloc, line, test, yes)?)
+    }
+
+    #[cycle(statement)]
+    #[tactic(auto, unfolding(c_grammar::specs::ModelStatements::if_of))]
+    fn if_statement(&mut self, left: u8) -> Result<Stmt, Stopped>
+        ensures { Reads (model.if_of (inside left) (model.below_at left) self.old.rest.now) result self.new.rest.now }
+    {
+        let line = self.expect_word(Key::If)?;
+        let test = self.test(left)?;
+        let yes = self.inner(left)?;
+        self.after_if(left, line, test, yes)
+    }
+
+    #[cycle(statement)]
+    #[tactic(auto, unfolding(c_grammar::specs::ModelStatements::while_of))]
+    fn while_statement(&mut self, left: u8) -> Result<Stmt, Stopped>
+        ensures { Reads (model.while_of (inside left) (model.below_at left) self.old.rest.now) result self.new.rest.now }
+    {
+        let line = self.expect_word(Key::While)?;
+        let test = self.test(left)?;
+        let body = self.inner(left)?;
+        Ok(build::while_loop(self.alloc, line, test, body)?)
+    }
+
+    #[cycle(statement)]
+    #[tactic(auto, unfolding(c_grammar::specs::ModelStatements::do_of))]
+    fn do_statement(&mut self, left: u8) -> Result<Stmt, Stopped>
+        ensures { Reads (model.do_of (inside left) (model.below_at left) self.old.rest.now) result self.new.rest.now }
+    {
+        let line = self.expect_word(Key::Do)?;
+        let body = self.inner(left)?;
+        self.expect_word(Key::While)?;
+        let test = self.test(left)?;
+        self.expect(Mark::Semicolon)?;
+        Ok(build::do_loop(self.alloc, line, body, test)?)
+    }
+
+    #[cycle(statement)]
+    #[tactic(auto, unfolding(c_grammar::specs::ModelStatements::for_of))]
+    fn for_statement(&mut self, left: u8) -> Result<Stmt, Stopped>
+        ensures { Reads (model.for_of (inside left) (model.below_at left) self.old.rest.now) result self.new.rest.now }
+    {
+        let line = self.expect_word(Key::For)?;
+        self.expect(Mark::LeftParen)?;
+        let init = self.init(left)?;
+        let test = self.until_semicolon(left)?;
+        let post = self.until_paren(left)?;
+        let body = self.inner(left)?;
+        Ok(build::for_loop(self.alloc, line, init, test, post, body)?)
+    }
+
+    #[tactic(auto, unfolding(c_grammar::specs::ModelStatements::leave_of))]
+    fn break_statement(&mut self, left: u8) -> Result<Stmt, Stopped>
+        ensures { Reads (model.leave_of (inside left) (model.below_at left) keys.Break nodes.Break self.old.rest.now) result self.new.rest.now }
+    {
+        let line = self.expect_word(Key::Break)?;
+        self.expect(Mark::Semicolon)?;
+        let _unused = left;
+        Ok(Stmt {
+            line,
+            node: StmtNode::Break,
+        })
+    }
+
+    #[tactic(auto, unfolding(c_grammar::specs::ModelStatements::leave_of))]
+    fn continue_statement(&mut self, left: u8) -> Result<Stmt, Stopped>
+        ensures { Reads (model.leave_of (inside left) (model.below_at left) keys.Continue nodes.Continue self.old.rest.now) result self.new.rest.now }
+    {
+        let line = self.expect_word(Key::Continue)?;
+        self.expect(Mark::Semicolon)?;
+        let _unused = left;
+        Ok(Stmt {
+            line,
+            node: StmtNode::Continue,
+        })
+    }
+
+    #[tactic(auto, unfolding(c_grammar::specs::ModelStatements::return_of))]
+    fn return_statement(&mut self, left: u8) -> Result<Stmt, Stopped>
+        ensures { Reads (model.return_of (inside left) (model.below_at left) self.old.rest.now) result self.new.rest.now }
+    {
+        let line = self.expect_word(Key::Return)?;
+        let value = self.until_semicolon(left)?;
+        Ok(Stmt {
+            line,
+            node: StmtNode::Return(value),
+        })
+    }
+
+    #[tactic(auto, unfolding(c_grammar::specs::ModelStatements::empty_of))]
+    fn empty(&mut self, left: u8) -> Result<Stmt, Stopped>
+        ensures { Reads (model.empty_of (inside left) (model.below_at left) self.old.rest.now) result self.new.rest.now }
+    {
+        let line = self.expect(Mark::Semicolon)?;
+        let _unused = left;
+        Ok(Stmt {
+            line,
+            node: StmtNode::Plain(None),
+        })
+    }
+
+    #[tactic(auto, unfolding(c_grammar::specs::ModelStatements::plain_of))]
+    fn plain_statement(&mut self, left: u8) -> Result<Stmt, Stopped>
+        ensures { Reads (model.plain_of (inside left) (model.below_at left) self.old.rest.now) result self.new.rest.now }
+    {
+        let e = self.expression(left)?;
+        self.expect(Mark::Semicolon)?;
+        let line = e.line;
+        Ok(Stmt {
+            line,
+            node: StmtNode::Plain(Some(e)),
+        })
+    }
+
+    #[tactic(auto, unfolding(c_grammar::specs::ModelStatements::simple_of))]
+    fn simple(&mut self, left: u8) -> Result<Stmt, Stopped>
+        ensures { Reads (model.simple_of (inside left) (model.below_at left) self.old.rest.now) result self.new.rest.now }
+    {
+        if self.is_word(Key::Return) {
+            return self.return_statement(left);
+        }
+        if self.is_word(Key::Break) {
+            return self.break_statement(left);
+        }
+        if self.is_word(Key::Continue) {
+            return self.continue_statement(left);
+        }
+        if self.is_next(Mark::Semicolon) {
+            return self.empty(left);
+        }
+        self.plain_statement(left)
+    }
+
+    #[cycle(statement)]
+    #[tactic(auto, unfolding(c_grammar::specs::ModelStatements::stmt_of))]
+    fn statement(&mut self, left: u8) -> Result<Stmt, Stopped>
+        ensures { Reads (model.stmt_of (inside left) (model.below_at left) self.old.rest.now) result self.new.rest.now }
+    {
+        if self.is_next(Mark::LeftBrace) {
+            return self.compound(left);
+        }
+        if self.is_word(Key::If) {
+            return self.if_statement(left);
+        }
+        if self.is_word(Key::While) {
+            return self.while_statement(left);
+        }
+        if self.is_word(Key::Do) {
+            return self.do_statement(left);
+        }
+        if self.is_word(Key::For) {
+            return self.for_statement(left);
+        }
+        self.simple(left)
+    }
+}
+
+fn begins_with(form: &Form) -> bool
+    ensures { result ≡ model.begins_statement form.now }
+{
+    match form {
+        Form::Name(_) | Form::Number { .. } => true,
+        Form::Key(key) => matches!(
+            key,
+            Key::If | Key::While | Key::Do | Key::For | Key::Break | Key::Continue | Key::Return
+        ),
+        Form::Mark(mark) => matches!(
+            mark,
+            Mark::LeftBrace
+                | Mark::Semicolon
+                | Mark::LeftParen
+                | Mark::Plus
+                | Mark::Minus
+                | Mark::Tilde
+                | Mark::Not
+                | Mark::PlusPlus
+                | Mark::MinusMinus
+        ),
+        Form::Include => false,
+    }
+}

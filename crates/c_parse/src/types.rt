@@ -1,0 +1,104 @@
+//! Names of types.
+
+ghost use Rattle.std.specs.Prelude.{◌≡◌};
+ghost use Rattle.c_grammar.specs.ModelTypes as model;
+ghost use Rattle.c_parse.specs.Reads.{Reads};
+
+use crate::fault::Stopped;
+use crate::parser::Parser;
+use c_tree::{Key, Kind};
+
+impl Parser<'_> {
+    /// An `int` that may be left out.
+    #[tactic(auto, unfolding(c_grammar::specs::ModelTypes::int_of))]
+    fn int(&mut self, line: u32, kind: Kind) -> Result<(u32, Kind), Stopped>
+        ensures { Reads (model.int_of line kind self.old.rest.now) result self.new.rest.now }
+    {
+        if self.is_word(Key::Int) {
+            self.expect_word(Key::Int)?;
+        }
+        Ok((line, kind))
+    }
+
+    #[tactic(auto, unfolding(c_grammar::specs::ModelTypes::char_of))]
+    fn char(&mut self, line: u32, kind: Kind) -> Result<(u32, Kind), Stopped>
+        ensures { Reads (model.char_of line kind self.old.rest.now) result self.new.rest.now }
+    {
+        self.expect_word(Key::Char)?;
+        Ok((line, kind))
+    }
+
+    #[tactic(auto, unfolding(c_grammar::specs::ModelTypes::long_of))]
+    fn long(&mut self, line: u32, kind: Kind) -> Result<(u32, Kind), Stopped>
+        ensures { Reads (model.long_of line kind self.old.rest.now) result self.new.rest.now }
+    {
+        self.expect_word(Key::Long)?;
+        self.int(line, kind)
+    }
+
+    /// Behind `signed` or `unsigned`: the types with `char`, `int` and `long`.
+    #[tactic(auto, unfolding(c_grammar::specs::ModelTypes::sized_of))]
+    fn sized(&mut self, line: u32, char: Kind, int: Kind, long: Kind) -> Result<(u32, Kind), Stopped>
+        ensures { Reads (model.sized_of line char int long self.old.rest.now) result self.new.rest.now }
+    {
+        if self.is_word(Key::Char) {
+            return self.char(line, char);
+        }
+        if self.is_word(Key::Long) {
+            return self.long(line, long);
+        }
+        self.int(line, int)
+    }
+
+    #[tactic(auto, unfolding(c_grammar::specs::ModelTypes::signed_of))]
+    fn signed(&mut self) -> Result<(u32, Kind), Stopped>
+        ensures { Reads (model.signed_of self.old.rest.now) result self.new.rest.now }
+    {
+        let line = self.expect_word(Key::Signed)?;
+        self.sized(line, Kind::Char, Kind::Int, Kind::Long)
+    }
+
+    #[tactic(auto, unfolding(c_grammar::specs::ModelTypes::unsigned_of))]
+    fn unsigned(&mut self) -> Result<(u32, Kind), Stopped>
+        ensures { Reads (model.unsigned_of self.old.rest.now) result self.new.rest.now }
+    {
+        let line = self.expect_word(Key::Unsigned)?;
+        self.sized(line, Kind::UChar, Kind::UInt, Kind::ULong)
+    }
+
+    #[tactic(auto, unfolding(c_grammar::specs::ModelTypes::plain_of))]
+    fn plain(&mut self, key: Key, kind: Kind) -> Result<(u32, Kind), Stopped>
+        ensures { Reads (model.plain_of key kind self.old.rest.now) result self.new.rest.now }
+    {
+        let line = self.expect_word(key)?;
+        Ok((line, kind))
+    }
+
+    #[tactic(auto, unfolding(c_grammar::specs::ModelTypes::longs_of))]
+    fn longs(&mut self) -> Result<(u32, Kind), Stopped>
+        ensures { Reads (model.longs_of self.old.rest.now) result self.new.rest.now }
+    {
+        let line = self.expect_word(Key::Long)?;
+        self.int(line, Kind::Long)
+    }
+
+    /// A type, and the line of its first word.
+    #[tactic(auto, unfolding(c_grammar::specs::ModelTypes::type_of))]
+    pub fn type_name(&mut self) -> Result<(u32, Kind), Stopped>
+        ensures { Reads (model.type_of self.old.rest.now) result self.new.rest.now }
+    {
+        if self.is_word(Key::Char) {
+            return self.plain(Key::Char, Kind::Char);
+        }
+        if self.is_word(Key::Int) {
+            return self.plain(Key::Int, Kind::Int);
+        }
+        if self.is_word(Key::Long) {
+            return self.longs();
+        }
+        if self.is_word(Key::Signed) {
+            return self.signed();
+        }
+        self.unsigned()
+    }
+}
