@@ -1,3 +1,5 @@
 pub mod Enters
 pub mod Turns
 pub mod Nested
+pub mod Lists
+pub mod Answered

@@ -1,11 +1,12 @@
 //! The nodes of statements, each from its parts.
 
-ghost use Rattle.std.specs.Prelude.{◌≡◌, IfOk, Some, None};
+ghost use Rattle.std.specs.Prelude.{◌≡◌, IfOk, Some, None, [], ◌∷◌};
 ghost use Rattle.c_grammar.specs.Statements as grammar;
 ghost use Rattle.c_tree.specs.declared.tree.StmtNode.TheVariants as node;
 
-use base::Boxed;
-use c_tree::{Expr, ForInit, Stmt, StmtNode};
+use crate::held::Held;
+use base::{Boxed, Items};
+use c_tree::{Expr, ForInit, Stmt, StmtNode, Top};
 use std::alloc::{AllocError, Global};
 
 pub fn if_only(alloc: Global, line: u32, test: Expr, yes: Stmt) -> Result<Stmt, AllocError>
@@ -22,6 +23,20 @@ pub fn if_only(alloc: Global, line: u32, test: Expr, yes: Stmt) -> Result<Stmt, 
     })
 }
 
+/// The two branches of an `if`.
+struct Branches {
+    yes: Boxed<Stmt>,
+    no: Boxed<Stmt>,
+}
+
+fn branches(alloc: Global, yes: Stmt, no: Stmt) -> Result<Branches, AllocError>
+    ensures { IfOk result (λ both. (both.yes ≡ yes) × (both.no ≡ no)) }
+{
+    let yes = Boxed::new(alloc, yes)?;
+    let no = Boxed::new(alloc, no)?;
+    Ok(Branches { yes, no })
+}
+
 pub fn if_else(
     alloc: Global,
     line: u32,
@@ -31,15 +46,11 @@ pub fn if_else(
 ) -> Result<Stmt, AllocError>
     ensures { IfOk result (λ s. s ≡ grammar.at line (node.If test yes (Some no))) }
 {
-    let yes = Boxed::new(alloc, yes)?;
-    let no = Boxed::new(alloc, no)?;
+    let Branches { yes, no } = branches(alloc, yes, no)?;
+    let no = Some(no);
     Ok(Stmt {
         line,
-        node: StmtNode::If {
-            test,
-            yes,
-            no: Some(no),
-        },
+        node: StmtNode::If { test, yes, no },
     })
 }
 
@@ -66,9 +77,9 @@ pub fn do_loop(alloc: Global, line: u32, body: Stmt, test: Expr) -> Result<Stmt,
 pub fn for_loop(
     alloc: Global,
     line: u32,
-    init: ForInit,
-    test: Option<Expr>,
-    post: Option<Expr>,
+    init: Held<ForInit>,
+    test: Held<Option<Expr>>,
+    post: Held<Option<Expr>>,
     body: Stmt,
 ) -> Result<Stmt, AllocError>
     ensures { IfOk result (λ s. s ≡ grammar.at line (node.For init test post body)) }
@@ -77,9 +88,9 @@ pub fn for_loop(
     Ok(Stmt {
         line,
         node: StmtNode::For {
-            init,
-            test,
-            post,
+            init: init.into_inner(),
+            test: test.into_inner(),
+            post: post.into_inner(),
             body,
         },
     })
@@ -93,4 +104,13 @@ pub fn for_init(given: Option<Expr>) -> ForInit
         None => ForInit::Nothing,
         Some(e) => ForInit::First(e),
     }
+}
+
+/// A list of one item.
+pub fn only(alloc: Global, item: Top) -> Result<Items<Top>, AllocError>
+    ensures { IfOk result (λ items. items ≡ item ∷ []) }
+{
+    let mut items = Items::new(alloc);
+    items.push(item)?;
+    Ok(items)
 }

@@ -1,15 +1,21 @@
-//! The parser of the C profile (C17 6.5 to 6.9): it accepts exactly the grammar of `c_grammar`, and places
-//! each fault exactly.
+//! The parser of the C profile (C17 6.5 to 6.9): it accepts exactly the grammar of `c_grammar`, and
+//! places each fault exactly.
 #![tactic(auto)]
 
-
+mod build;
+mod expression;
 mod fault;
+mod function;
+mod global;
+mod held;
+mod local;
 mod make;
 mod parser;
-
-mod types;
-mod expression;
 mod primary;
-mod build;
-mod local;
 mod statement;
+#[cfg(test)]
+mod tests;
+mod types;
+mod unit;
+
+pub use unit::{ParseFault, parse};

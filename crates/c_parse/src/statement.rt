@@ -11,6 +11,7 @@ ghost use Rattle.c_parse.specs.Reads.{Reads};
 
 use crate::build;
 use crate::fault::Stopped;
+use crate::held::Held;
 use crate::parser::Parser;
 use base::Items;
 use c_tree::{Expr, Form, ForInit, Key, Mark, Stmt, StmtNode};
@@ -191,9 +192,9 @@ impl Parser<'_> {
     {
         let line = self.expect_word(Key::For)?;
         self.expect(Mark::LeftParen)?;
-        let init = self.init(left)?;
-        let test = self.until_semicolon(left)?;
-        let post = self.until_paren(left)?;
+        let init = Held::new(self.init(left)?);
+        let test = Held::new(self.until_semicolon(left)?);
+        let post = Held::new(self.until_paren(left)?);
         let body = self.inner(left)?;
         Ok(build::for_loop(self.alloc, line, init, test, post, body)?)
     }

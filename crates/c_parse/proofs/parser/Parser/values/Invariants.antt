@@ -1,0 +1,10 @@
+use Rattle.std.proofs.Common.{◌≡◌, ℕ, ◌-◌, length, true}
+use Rattle.c_grammar.specs.Parsing.{listed}
+use Rattle.c_grammar.specs.ModelExpressions.{inside, conditional_of}
+use Rattle.c_grammar.specs.ModelUnits.{values_of}
+use Rattle.c_tree.specs.declared.token.Mark.TheVariants as marks
+use Rattle.c_parse.specs.Reads.{behind}
+use Rattle.c_parse.proofs.parser.Parser.values.Given as goal
+
+abbrev pub invariant-loop-turn : goal.invariant-loop-turn
+invariant-loop-turn l = behind l.found (listed marks.RightBrace true (conditional_of (inside l.left)) (l.turns - l._turn) l.self.rest.now) ≡ values_of (inside l.left) l.fn.self.rest.now

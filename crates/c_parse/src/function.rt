@@ -1,0 +1,239 @@
+//! Functions and translation units (C17 6.9).
+
+ghost use Rattle.std.specs.Prelude.{◌≡◌, Some, None, [], ◌∷◌};
+ghost use Rattle.c_grammar.specs.ModelExpressions.{inside};
+ghost use Rattle.c_grammar.specs.ModelStatements.{below_at, compound_of};
+ghost use Rattle.c_grammar.specs.ModelUnits as model;
+ghost use Rattle.c_grammar.specs.Parsing as parsing;
+ghost use Rattle.c_parse.specs.Reads.{Reads};
+
+use crate::build;
+use crate::fault::Stopped;
+use crate::parser::Parser;
+use base::Items;
+use c_tree::{ArraySize, Form, Key, Kind, Mark, Param, Top, TopNode, Word};
+
+impl Parser<'_> {
+    /// The name of a parameter, or the line of its type where it has none.
+    #[tactic(auto, unfolding(c_grammar::specs::ModelUnits::label_of))]
+    fn label(&mut self, line: u32) -> Result<(u32, Option<Word>), Stopped>
+        ensures { Reads (model.label_of line self.old.rest.now) result self.new.rest.now }
+    {
+        if self.is_name() {
+            let (line, name) = self.name()?;
+            return Ok((line, Some(name)));
+        }
+        Ok((line, None))
+    }
+
+    #[tactic(auto, unfolding(c_grammar::specs::ModelUnits::some_brackets_of, c_grammar::specs::ModelUnits::brackets_of))]
+    fn brackets(&mut self, left: u8) -> Result<ArraySize, Stopped>
+        ensures { Reads (model.brackets_of (inside left) self.old.rest.now) result self.new.rest.now }
+    {
+        if self.is_next(Mark::LeftBracket) {
+            self.expect(Mark::LeftBracket)?;
+            return self.size(left);
+        }
+        Ok(ArraySize::Scalar)
+    }
+
+    #[tactic(auto, unfolding(c_grammar::specs::ModelUnits::param_of))]
+    fn param(&mut self, left: u8) -> Result<Param, Stopped>
+        ensures { Reads (model.param_of (inside left) self.old.rest.now) result self.new.rest.now }
+    {
+        let (line, kind) = self.type_name()?;
+        let (line, name) = self.label(line)?;
+        let size = self.brackets(left)?;
+        Ok(Param {
+            line,
+            kind,
+            name,
+            size,
+        })
+    }
+
+    fn param_list(&mut self, left: u8) -> Result<Items<Param>, Stopped>
+        ensures { Reads (model.param_list_of (inside left) self.old.rest.now) result self.new.rest.now }
+    {
+        let mut found = Items::new(self.alloc);
+        let turns = self.rest.len() + 1;
+        for _turn in 0..turns {
+            let param = self.param(left)?;
+            found.push(param)?;
+            if self.is_next(Mark::Comma) {
+                self.advance();
+            } else {
+                self.expect(Mark::RightParen)?;
+                return Ok(found);
+            }
+        }
+        Err(Stopped::Syntax)
+    }
+
+    /// Parameters up to the closing parenthesis.
+    #[tactic(auto, unfolding(c_grammar::specs::ModelUnits::no_params_of, c_grammar::specs::ModelUnits::void_params_of, c_grammar::specs::ModelUnits::params_of))]
+    fn params(&mut self, left: u8) -> Result<Items<Param>, Stopped>
+        ensures { Reads (model.params_of (inside left) self.old.rest.now) result self.new.rest.now }
+    {
+        if self.is_next(Mark::RightParen) {
+            self.expect(Mark::RightParen)?;
+            return Ok(Items::new(self.alloc));
+        }
+        if self.is_word(Key::Void) {
+            self.expect_word(Key::Void)?;
+            self.expect(Mark::RightParen)?;
+            return Ok(Items::new(self.alloc));
+        }
+        self.param_list(left)
+    }
+
+    /// The semicolon of a prototype.
+    #[tactic(auto, unfolding(c_grammar::specs::ModelUnits::declared_of))]
+    fn prototype(&mut self, outer: u8, left: u8, given: Option<Kind>, line: u32, name: Word, params: Items<Param>) -> Result<Top, Stopped>
+        ensures { Reads (model.declared_of (inside outer) (compound_of (inside left) (below_at left)) given line name params self.old.rest.now) result self.new.rest.now }
+    {
+        let _unused = (outer, left);
+        self.expect(Mark::Semicolon)?;
+        Ok(Top {
+            line,
+            node: TopNode::Func {
+                result: given,
+                name,
+                params,
+                body: None,
+            },
+        })
+    }
+
+    /// A function's body.
+    #[tactic(auto, unfolding(c_grammar::specs::ModelUnits::defined_of))]
+    fn definition(&mut self, outer: u8, left: u8, given: Option<Kind>, line: u32, name: Word, params: Items<Param>) -> Result<Top, Stopped>
+        ensures { Reads (model.defined_of (inside outer) (compound_of (inside left) (below_at left)) given line name params self.old.rest.now) result self.new.rest.now }
+    {
+        let _unused = outer;
+        let body = self.compound(left)?;
+        Ok(Top {
+            line,
+            node: TopNode::Func {
+                result: given,
+                name,
+                params,
+                body: Some(body),
+            },
+        })
+    }
+
+    /// What stands behind the parameters: a body, or the semicolon of a prototype.
+    #[tactic(auto, unfolding(c_grammar::specs::ModelUnits::rest_of))]
+    fn rest_of_function(&mut self, outer: u8, left: u8, given: Option<Kind>, line: u32, name: Word, params: Items<Param>) -> Result<Top, Stopped>
+        ensures { Reads (model.rest_of (inside outer) (compound_of (inside left) (below_at left)) given line name params self.old.rest.now) result self.new.rest.now }
+    {
+        if self.is_next(Mark::LeftBrace) {
+            return self.definition(outer, left, given, line, name, params);
+        }
+        self.prototype(outer, left, given, line, name, params)
+    }
+
+    /// A function behind its name.
+    #[tactic(auto, unfolding(c_grammar::specs::ModelUnits::func_of))]
+    fn function(&mut self, outer: u8, left: u8, given: Option<Kind>, line: u32, name: Word) -> Result<Items<Top>, Stopped>
+        ensures { Reads (model.func_of (inside outer) (compound_of (inside left) (below_at left)) given line name self.old.rest.now) result self.new.rest.now }
+    {
+        self.expect(Mark::LeftParen)?;
+        let params = self.params(outer)?;
+        let function = self.rest_of_function(outer, left, given, line, name, params)?;
+        Ok(build::only(self.alloc, function)?)
+    }
+
+    #[tactic(auto, unfolding(c_grammar::specs::ModelUnits::after_name))]
+    fn named_item(&mut self, outer: u8, left: u8, kind: Kind, line: u32, name: Word) -> Result<Items<Top>, Stopped>
+        ensures { Reads (model.after_name (inside outer) (compound_of (inside left) (below_at left)) kind line name self.old.rest.now) result self.new.rest.now }
+    {
+        if self.is_next(Mark::LeftParen) {
+            return self.function(outer, left, Some(kind), line, name);
+        }
+        self.globals(outer, kind, line, name)
+    }
+
+    #[tactic(auto, unfolding(c_grammar::specs::ModelUnits::void_item_of))]
+    fn void_item(&mut self, outer: u8, left: u8) -> Result<Items<Top>, Stopped>
+        ensures { Reads (model.void_item_of (inside outer) (compound_of (inside left) (below_at left)) self.old.rest.now) result self.new.rest.now }
+    {
+        self.expect_word(Key::Void)?;
+        let (line, name) = self.name()?;
+        self.function(outer, left, None, line, name)
+    }
+
+    #[tactic(auto, unfolding(c_grammar::specs::ModelUnits::typed_item_of))]
+    fn typed_item(&mut self, outer: u8, left: u8) -> Result<Items<Top>, Stopped>
+        ensures { Reads (model.typed_item_of (inside outer) (compound_of (inside left) (below_at left)) self.old.rest.now) result self.new.rest.now }
+    {
+        let (_, kind) = self.type_name()?;
+        let (line, name) = self.name()?;
+        self.named_item(outer, left, kind, line, name)
+    }
+
+    /// Whether no token is left.
+    fn is_end(&self) -> bool
+        ensures { result ≡ parsing.is_end self.now.rest.now }
+    {
+        match self.rest {
+            [] => true,
+            _ => false,
+        }
+    }
+
+    fn is_include(&self) -> bool
+        ensures { result ≡ parsing.first model.is_include self.now.rest.now }
+    {
+        match self.rest {
+            [] => false,
+            [lexeme, ..] => matches!(&lexeme.form, Form::Include),
+        }
+    }
+
+    #[tactic(auto, unfolding(c_grammar::specs::ModelUnits::include_of))]
+    fn include(&mut self) -> Result<Items<Top>, Stopped>
+        ensures { Reads (model.include_of self.old.rest.now) result self.new.rest.now }
+    {
+        if !self.is_include() {
+            return Err(Stopped::Syntax);
+        }
+        let line = self.line();
+        self.advance();
+        let include = Top {
+            line,
+            node: TopNode::Include,
+        };
+        Ok(build::only(self.alloc, include)?)
+    }
+
+    #[tactic(auto, unfolding(c_grammar::specs::ModelUnits::item_of))]
+    fn item(&mut self, outer: u8, left: u8) -> Result<Items<Top>, Stopped>
+        ensures { Reads (model.item_of (inside outer) (compound_of (inside left) (below_at left)) self.old.rest.now) result self.new.rest.now }
+    {
+        if self.is_include() {
+            return self.include();
+        }
+        if self.is_word(Key::Void) {
+            return self.void_item(outer, left);
+        }
+        self.typed_item(outer, left)
+    }
+
+    /// Items up to the end, one at least.
+    pub fn unit(&mut self) -> Result<Items<Top>, Stopped>
+        ensures { Reads (model.unit_of 63 self.old.rest.now) result self.new.rest.now }
+    {
+        let mut found = Items::new(self.alloc);
+        let turns = self.rest.len() + 1;
+        for _turn in 0..turns {
+            let more = self.item(64, 63)?;
+            found.append(more)?;
+            if self.is_end() {
+                return Ok(found);
+            }
+        }
+        Err(Stopped::Syntax)
+    }
+}

@@ -1,0 +1,81 @@
+//! The public call.
+
+ghost use Rattle.std.specs.Prelude.{◌≡◌, ◌<◌, ℕ, Err, IfOk, [], length};
+ghost use Rattle.c_grammar.specs.Answers.{IsUnit, HasSyntaxFault, IsTooDeep};
+ghost use Rattle.c_grammar.specs.Answers as grammar;
+ghost use Rattle.c_parse.specs.Parses as parses;
+ghost use Rattle.c_parse.specs.declared.unit.ParseFault.TheVariants as faults;
+
+use crate::fault::Stopped;
+use crate::parser::Parser;
+use c_tree::{Lexeme, Program};
+use std::alloc::Global;
+use thiserror::Error;
+
+/// Why a list of tokens has no tree.
+#[derive(Debug, Drop, Error)]
+pub enum ParseFault {
+    /// No unit goes on with the token of this line; where the tokens only end too early, the line is
+    /// that of the last one, or 1 where there is none.
+    #[error("syntax error on line {0}")]
+    Syntax(u32),
+    /// A token of this line would open a construct at depth 65.
+    #[error("nested too deeply on line {0}")]
+    TooDeep(u32),
+    /// Want of memory.
+    #[error("out of memory")]
+    Memory,
+}
+
+/// The tree that spells the tokens (C17 6.9), as `c_grammar` says.
+///
+/// Each list of tokens has exactly one answer, its tree or one fault with its line
+/// (`c_grammar::one_answer`), and it is given here but for want of memory.
+pub fn parse(alloc: Global, tokens: &[Lexeme]) -> Result<Program, ParseFault>
+    ensures ok { IfOk result (λ program. IsUnit tokens.now program.items) }
+    ensures syntax { (line : ℕ) → result ≡ Err (faults.Syntax line)
+        → HasSyntaxFault tokens.now line }
+    ensures too_deep { (line : ℕ) → result ≡ Err (faults.TooDeep line) → IsTooDeep tokens.now line }
+{
+    let mut parser = Parser {
+        alloc,
+        rest: tokens,
+    };
+    match parser.unit() {
+        Ok(items) => Ok(Program { items }),
+        Err(Stopped::Syntax) => Err(ParseFault::Syntax(fault_line(tokens, parser.rest))),
+        Err(Stopped::TooDeep) => Err(depth_fault(tokens, parser.rest)),
+        Err(Stopped::Memory) => Err(ParseFault::Memory),
+    }
+}
+
+/// The line of the last token, or 1 where there is none.
+fn last_line(tokens: &[Lexeme]) -> u32
+    ensures { result ≡ grammar.last_line tokens.now }
+{
+    match tokens {
+        [] => 1,
+        [.., last] => last.line,
+    }
+}
+
+/// The line of the first token that is left, or of the last one where none is left.
+fn fault_line(tokens: &[Lexeme], rest: &[Lexeme]) -> u32
+    ensures { result ≡ parses.fault_line tokens.now rest.now }
+{
+    match rest {
+        [] => last_line(tokens),
+        [lexeme, ..] => lexeme.line,
+    }
+}
+
+/// What an opener says that may not stand, the first token that is left: where it is the last one,
+/// the tokens only end too early.
+fn depth_fault(tokens: &[Lexeme], rest: &[Lexeme]) -> ParseFault
+    ensures { result ≡ parses.depth_fault tokens.now rest.now }
+{
+    match rest {
+        [lexeme, _, ..] => ParseFault::TooDeep(lexeme.line),
+        _ => ParseFault::Syntax(last_line(tokens)),
+    }
+}
