@@ -33,4 +33,5 @@ has_depth_fault tokens (t ∷ u ∷ rest) e = opener (exact_here tokens (too_dee
 pub last_is : (ts : Tokens) (t : Lexeme) → 1 ≤ length ts → t ≡ get_or ts (length ts - 1) t → last_line ts ≡ t.line
 last_is [] t le e = absurd (omega (arith, le))
 last_is (u ∷ []) t le e = ap (λ (t : Lexeme). t.line) (sym e)
-last_is (u ∷ v ∷ ts) t le e = last_is (v ∷ ts) t (omega arith) e
+last_is (u ∷ v ∷ ts) t le e =
+    let i : length (u ∷ v ∷ ts) - 1 ≡ suc (length (v ∷ ts) - 1) = omega arith in last_is (v ∷ ts) t (omega arith) (e ∙ ap (λ (n : ℕ). get_or (u ∷ v ∷ ts) n t) i)

@@ -94,7 +94,7 @@ globals_init left turns k x ts e = let i : turns - 0 ≡ suc (length ts) = omega
 
 -- a comma: more globals stand behind it
 pub globals_on : (left : ℕ) (k : Kind) (x : Top) (ts rest : Tokens) → is_next mark.Comma ts ≡ true → rest ≡ tail ts → more_globals_of (inside left) k x ts ≡ behind (x ∷ []) (global_list_of (inside left) k rest)
-unfolding more_globals_of, global_list_of
+unfolding more_globals_of global_list_of
 globals_on left k x [] rest e r = absurd (false≢true e)
 globals_on left k x (t ∷ ts) rest e r = rw r (if_true (is_next mark.Comma (t ∷ ts)) _ _ e)
 

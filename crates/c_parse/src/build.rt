@@ -9,83 +9,60 @@ use base::{Boxed, Items};
 use c_tree::{Expr, ForInit, Stmt, StmtNode, Top};
 use std::alloc::{AllocError, Global};
 
-pub fn if_only(alloc: Global, line: u32, test: Expr, yes: Stmt) -> Result<Stmt, AllocError>
-    ensures { IfOk result (λ s. s ≡ grammar.at line (node.If test yes None)) }
+pub fn if_only(line: u32, test: Expr, yes: Boxed<Stmt>) -> Stmt
+    ensures { result ≡ grammar.at line (node.If test yes None) }
 {
-    let yes = Boxed::new(alloc, yes)?;
-    Ok(Stmt {
+    Stmt {
         line,
         node: StmtNode::If {
             test,
             yes,
             no: None,
         },
-    })
+    }
 }
 
-/// The two branches of an `if`.
-struct Branches {
-    yes: Boxed<Stmt>,
-    no: Boxed<Stmt>,
-}
-
-fn branches(alloc: Global, yes: Stmt, no: Stmt) -> Result<Branches, AllocError>
-    ensures { IfOk result (λ both. (both.yes ≡ yes) × (both.no ≡ no)) }
+pub fn if_else(line: u32, test: Expr, yes: Boxed<Stmt>, no: Boxed<Stmt>) -> Stmt
+    ensures { result ≡ grammar.at line (node.If test yes (Some no)) }
 {
-    let yes = Boxed::new(alloc, yes)?;
-    let no = Boxed::new(alloc, no)?;
-    Ok(Branches { yes, no })
-}
-
-pub fn if_else(
-    alloc: Global,
-    line: u32,
-    test: Expr,
-    yes: Stmt,
-    no: Stmt,
-) -> Result<Stmt, AllocError>
-    ensures { IfOk result (λ s. s ≡ grammar.at line (node.If test yes (Some no))) }
-{
-    let Branches { yes, no } = branches(alloc, yes, no)?;
-    let no = Some(no);
-    Ok(Stmt {
+    Stmt {
         line,
-        node: StmtNode::If { test, yes, no },
-    })
+        node: StmtNode::If {
+            test,
+            yes,
+            no: Some(no),
+        },
+    }
 }
 
-pub fn while_loop(alloc: Global, line: u32, test: Expr, body: Stmt) -> Result<Stmt, AllocError>
-    ensures { IfOk result (λ s. s ≡ grammar.at line (node.While test body)) }
+pub fn while_loop(line: u32, test: Expr, body: Boxed<Stmt>) -> Stmt
+    ensures { result ≡ grammar.at line (node.While test body) }
 {
-    let body = Boxed::new(alloc, body)?;
-    Ok(Stmt {
+    Stmt {
         line,
         node: StmtNode::While { test, body },
-    })
+    }
 }
 
-pub fn do_loop(alloc: Global, line: u32, body: Stmt, test: Expr) -> Result<Stmt, AllocError>
-    ensures { IfOk result (λ s. s ≡ grammar.at line (node.Do body test)) }
+pub fn do_loop(line: u32, body: Boxed<Stmt>, test: Expr) -> Stmt
+    ensures { result ≡ grammar.at line (node.Do body test) }
 {
-    let body = Boxed::new(alloc, body)?;
-    Ok(Stmt {
+    Stmt {
         line,
         node: StmtNode::Do { body, test },
-    })
+    }
 }
 
 pub fn for_loop(
-    alloc: Global,
     line: u32,
     init: Held<ForInit>,
     test: Held<Option<Expr>>,
     post: Held<Option<Expr>>,
-    body: Stmt,
-) -> Result<Stmt, AllocError>
-    ensures { IfOk result (λ s. s ≡ grammar.at line (node.For init test post body)) }
+    body: Boxed<Stmt>,
+) -> Stmt
+    ensures { result ≡ grammar.at line (node.For init test post body) }
 {
-    let body = Boxed::new(alloc, body)?;
-    Ok(Stmt {
+    Stmt {
         line,
         node: StmtNode::For {
             init: init.into_inner(),
@@ -93,7 +70,7 @@ pub fn for_loop(
             post: post.into_inner(),
             body,
         },
-    })
+    }
 }
 
 /// The first part of a `for` that declares nothing.

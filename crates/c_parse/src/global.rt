@@ -10,6 +10,7 @@ ghost use Rattle.c_parse.specs.Lists.{global_list_of};
 
 use crate::build;
 use crate::fault::Stopped;
+use crate::held::Held;
 use crate::parser::Parser;
 use base::Items;
 use c_tree::{ArraySize, Expr, Kind, Mark, Top, TopNode, Word};
@@ -52,13 +53,13 @@ impl Parser<'_> {
     }
 
     #[tactic(auto, unfolding(c_grammar::specs::ModelUnits::filled_of))]
-    fn filled(&mut self, left: u8, size: ArraySize) -> Result<(ArraySize, Items<Expr>), Stopped>
+    fn filled(&mut self, left: u8, size: Held<ArraySize>) -> Result<(ArraySize, Items<Expr>), Stopped>
         ensures { Reads (model.filled_of (inside left) size self.old.rest.now) result self.new.rest.now }
     {
         self.expect(Mark::Assign)?;
         self.expect(Mark::LeftBrace)?;
         let values = self.values(left)?;
-        Ok((size, values))
+        Ok((size.into_inner(), values))
     }
 
     fn or_sized(&mut self, size: ArraySize) -> Result<(ArraySize, Items<Expr>), Stopped>
@@ -75,7 +76,7 @@ impl Parser<'_> {
         ensures { Reads (model.after_size (inside left) size self.old.rest.now) result self.new.rest.now }
     {
         if self.is_next(Mark::Assign) {
-            return self.filled(left, size);
+            return self.filled(left, Held::new(size));
         }
         self.or_sized(size)
     }
@@ -153,8 +154,9 @@ impl Parser<'_> {
     fn only_global(&mut self, first: Top) -> Result<Items<Top>, Stopped>
         ensures { Reads (parsing.and_then (parsing.expect marks.Semicolon self.old.rest.now) (λ _ ts. Ok (first ∷ [], ts))) result self.new.rest.now }
     {
+        let found = build::only(self.alloc, first)?;
         self.expect(Mark::Semicolon)?;
-        Ok(build::only(self.alloc, first)?)
+        Ok(found)
     }
 
     #[tactic(auto, using(crate::proofs::Lists::globals_on, crate::proofs::Lists::globals_end))]

@@ -13,7 +13,7 @@ use crate::build;
 use crate::fault::Stopped;
 use crate::held::Held;
 use crate::parser::Parser;
-use base::Items;
+use base::{Boxed, Items};
 use c_tree::{Expr, Form, ForInit, Key, Mark, Stmt, StmtNode};
 
 impl Parser<'_> {
@@ -47,6 +47,15 @@ impl Parser<'_> {
         } else {
             Err(Stopped::Syntax)
         }
+    }
+
+    /// A statement inside another one, on the heap.
+    #[cycle(statement)]
+    fn branch(&mut self, left: u8) -> Result<Boxed<Stmt>, Stopped>
+        ensures { Reads ((model.below_at left).inner self.old.rest.now) result self.new.rest.now }
+    {
+        let statement = self.inner(left)?;
+        Ok(Boxed::new(self.alloc, statement)?)
     }
 
     #[cycle(statement)]
@@ -131,23 +140,23 @@ impl Parser<'_> {
 
     #[cycle(statement)]
     #[tactic(auto, unfolding(c_grammar::specs::ModelStatements::else_of))]
-    fn with_else(&mut self, left: u8, line: u32, test: Expr, yes: Stmt) -> Result<Stmt, Stopped>
+    fn with_else(&mut self, left: u8, line: u32, test: Expr, yes: Boxed<Stmt>) -> Result<Stmt, Stopped>
         ensures { Reads (model.else_of (inside left) (model.below_at left) line test yes self.old.rest.now) result self.new.rest.now }
     {
         self.expect_word(Key::Else)?;
-        let no = self.inner(left)?;
-        Ok(build::if_else(self.alloc, line, test, yes, no)?)
+        let no = self.branch(left)?;
+        Ok(build::if_else(line, test, yes, no))
     }
 
     #[cycle(statement)]
     #[tactic(auto, unfolding(c_grammar::specs::ModelStatements::no_of))]
-    fn after_if(&mut self, left: u8, line: u32, test: Expr, yes: Stmt) -> Result<Stmt, Stopped>
+    fn after_if(&mut self, left: u8, line: u32, test: Expr, yes: Boxed<Stmt>) -> Result<Stmt, Stopped>
         ensures { Reads (model.no_of (inside left) (model.below_at left) line test yes self.old.rest.now) result self.new.rest.now }
     {
         if self.is_word(Key::Else) {
             return self.with_else(left, line, test, yes);
         }
-        Ok(build::if_only(self.alloc, line, test, yes)?)
+        Ok(build::if_only(line, test, yes))
     }
 
     #[cycle(statement)]
@@ -157,7 +166,7 @@ impl Parser<'_> {
     {
         let line = self.expect_word(Key::If)?;
         let test = self.test(left)?;
-        let yes = self.inner(left)?;
+        let yes = self.branch(left)?;
         self.after_if(left, line, test, yes)
     }
 
@@ -168,8 +177,8 @@ impl Parser<'_> {
     {
         let line = self.expect_word(Key::While)?;
         let test = self.test(left)?;
-        let body = self.inner(left)?;
-        Ok(build::while_loop(self.alloc, line, test, body)?)
+        let body = self.branch(left)?;
+        Ok(build::while_loop(line, test, body))
     }
 
     #[cycle(statement)]
@@ -178,11 +187,11 @@ impl Parser<'_> {
         ensures { Reads (model.do_of (inside left) (model.below_at left) self.old.rest.now) result self.new.rest.now }
     {
         let line = self.expect_word(Key::Do)?;
-        let body = self.inner(left)?;
+        let body = self.branch(left)?;
         self.expect_word(Key::While)?;
         let test = self.test(left)?;
         self.expect(Mark::Semicolon)?;
-        Ok(build::do_loop(self.alloc, line, body, test)?)
+        Ok(build::do_loop(line, body, test))
     }
 
     #[cycle(statement)]
@@ -195,8 +204,8 @@ impl Parser<'_> {
         let init = Held::new(self.init(left)?);
         let test = Held::new(self.until_semicolon(left)?);
         let post = Held::new(self.until_paren(left)?);
-        let body = self.inner(left)?;
-        Ok(build::for_loop(self.alloc, line, init, test, post, body)?)
+        let body = self.branch(left)?;
+        Ok(build::for_loop(line, init, test, post, body))
     }
 
     #[tactic(auto, unfolding(c_grammar::specs::ModelStatements::leave_of))]

@@ -50,7 +50,7 @@ enum Answer {
     Memory,
 }
 
-fn answer(alloc: Global, tokens: &[Lexeme]) -> Answer {
+fn answer_to(alloc: Global, tokens: &[Lexeme]) -> Answer {
     match parse(alloc, tokens) {
         Ok(program) => Answer::Items(program.items.len()),
         Err(ParseFault::Syntax(line)) => Answer::Syntax(line),
@@ -116,7 +116,7 @@ fn assert_rows(rt: &impl Abort, alloc: Global, rows: &[Row]) -> Result<(), Fail>
     for (tokens, want) in rows {
         let mut list = Vec::new(alloc);
         add(alloc, &mut list, tokens)?;
-        assert_eq!(rt; answer(alloc, &list), *want, "{tokens:?}");
+        assert_eq!(rt; answer_to(alloc, &list), *want, "{tokens:?}");
     }
     Ok(())
 }
@@ -186,9 +186,9 @@ fn assert_nests(rt: &impl Abort, alloc: Global, nests: &[Nest]) -> Result<(), Fa
     for nest in nests {
         let opener = nest.opener;
         let list = nested(alloc, nest, nest.most)?;
-        assert_eq!(rt; answer(alloc, &list), Answer::Items(1), "{opener:?}");
+        assert_eq!(rt; answer_to(alloc, &list), Answer::Items(1), "{opener:?}");
         let list = nested(alloc, nest, nest.most.min(99) + 1)?;
-        assert_eq!(rt; answer(alloc, &list), Answer::TooDeep(deep_line(nest)), "{opener:?}");
+        assert_eq!(rt; answer_to(alloc, &list), Answer::TooDeep(deep_line(nest)), "{opener:?}");
     }
     Ok(())
 }
@@ -208,12 +208,12 @@ const WHOLE: &[Token] = &[
 fn ends_too_early_after_each_token(rt: HostRuntime) -> Result<(), Fail> {
     let alloc = rt.alloc();
     let mut list = Vec::new(alloc);
-    assert_eq!(rt; answer(alloc, &list), Answer::Syntax(1));
+    assert_eq!(rt; answer_to(alloc, &list), Answer::Syntax(1));
     for (at, token) in WHOLE.iter().enumerate() {
         add(alloc, &mut list, &[*token])?;
         let line = at.min(9_999) as u32 + 1;
         let want = if list.len() == WHOLE.len() { Answer::Items(1) } else { Answer::Syntax(line) };
-        assert_eq!(rt; answer(alloc, &list), want, "after {line} tokens");
+        assert_eq!(rt; answer_to(alloc, &list), want, "after {line} tokens");
     }
     Ok(())
 }

@@ -9,6 +9,9 @@ use Rattle.c_parse.proofs.parser.Parser.+statement.Given as goal
 abbrev pub decreases-inner : goal.decreases-inner
 decreases-inner l = 16 * l.left
 
+abbrev pub decreases-branch : goal.decreases-branch
+decreases-branch l = 16 * l.left + 1
+
 abbrev pub decreases-one : goal.decreases-one
 decreases-one l = 16 * l.left + 1
 
@@ -22,25 +25,25 @@ abbrev pub decreases-compound : goal.decreases-compound
 decreases-compound l = 16 * l.left + 4
 
 abbrev pub decreases-with_else : goal.decreases-with_else
-decreases-with_else l = 16 * l.left + 1
+decreases-with_else l = 16 * l.left + 2
 
 abbrev pub decreases-after_if : goal.decreases-after_if
-decreases-after_if l = 16 * l.left + 2
+decreases-after_if l = 16 * l.left + 3
 
 abbrev pub decreases-if_statement : goal.decreases-if_statement
-decreases-if_statement l = 16 * l.left + 3
+decreases-if_statement l = 16 * l.left + 4
 
 abbrev pub decreases-while_statement : goal.decreases-while_statement
-decreases-while_statement l = 16 * l.left + 3
+decreases-while_statement l = 16 * l.left + 4
 
 abbrev pub decreases-do_statement : goal.decreases-do_statement
-decreases-do_statement l = 16 * l.left + 3
+decreases-do_statement l = 16 * l.left + 4
 
 abbrev pub decreases-for_statement : goal.decreases-for_statement
-decreases-for_statement l = 16 * l.left + 3
+decreases-for_statement l = 16 * l.left + 4
 
 abbrev pub decreases-statement : goal.decreases-statement
-decreases-statement l = 16 * l.left + 5
+decreases-statement l = 16 * l.left + 6
 
 abbrev pub invariant-entries-loop-turn : goal.invariant-entries-loop-turn
 invariant-entries-loop-turn l =
