@@ -1,12 +1,11 @@
 -- A mark that opens a depth, taken or not.
-use Rattle.std.proofs.Common.{◌≡◌, ℕ, zero, suc, Bool, true, false, cond, List, [], ◌∷◌, Result, Ok, Err, refl, sym, ap, ◌∙◌, subst}
+use Rattle.std.proofs.Common.{◌≡◌, ℕ, suc, Bool, true, false, cond, Ok, refl, sym, ap, ◌∙◌}
 use Rattle.c_tree.specs.declared.token.Mark.{Mark}
 use Rattle.c_grammar.specs.Tokens.{Tokens}
 use Rattle.c_grammar.specs.Parsing.{Out, syntax, too_deep, tail, line_of, is_next}
 use Rattle.c_grammar.specs.ModelExpressions.{Nested, enter, inside}
-use Rattle.c_grammar.proofs.Agree.{if_true, if_false}
+use Rattle.c_grammar.proofs.Agree.{if_true}
 use Rattle.c_parse.specs.Reads.{opened, Enters}
-use Rattle.c_parse.specs.declared.fault.Stopped.TheVariants.{Syntax, TooDeep}
 
 inside_is : (l : ℕ) → inside (suc l) ≡ opened l
 unfolding inside

@@ -1,17 +1,17 @@
 -- The loops of lists in which a comma may stand behind the last item, of globals and of units.
-use Rattle.std.proofs.Common.{◌≡◌, ℕ, zero, suc, ◌+◌, ◌-◌, ◌<◌, ◌≤◌, Bool, true, false, cond, List, [], ◌∷◌, ◌++◌, length, Result, Ok, Err, refl, sym, ap, ◌∙◌, subst, arith, append_assoc}
+use Rattle.std.proofs.Common.{◌≡◌, ℕ, suc, ◌+◌, ◌-◌, ◌<◌, Bool, true, false, cond, List, [], ◌∷◌, ◌++◌, length, Ok, Err, refl, sym, ap, ◌∙◌, arith, append_assoc}
 use Rattle.std.proofs.lemmas.Bool.{false≢true}
 use Rattle.c_tree.specs.declared.token.Kind.{Kind}
 use Rattle.c_tree.specs.declared.token.Mark.{Mark}
 use Rattle.c_tree.specs.declared.token.Mark.TheVariants as mark
 use Rattle.c_tree.specs.declared.tree.Top.{Top}
 use Rattle.c_grammar.specs.Tokens.{Tokens}
-use Rattle.c_grammar.specs.Parsing.{Stop, Out, and_then, syntax, too_deep, tail, line_of, is_next, expect, listed, is_end, to_end}
-use Rattle.c_grammar.specs.ModelExpressions.{Nested, inside, conditional_of}
+use Rattle.c_grammar.specs.Parsing.{Stop, Out, and_then, syntax, tail, line_of, is_next, expect, listed, is_end, to_end}
+use Rattle.c_grammar.specs.ModelExpressions.{inside, conditional_of}
 use Rattle.c_grammar.specs.ModelStatements.{below_at, compound_of}
 use Rattle.c_grammar.specs.ModelUnits.{values_of, global_of, more_globals_of, param_of, param_list_of, item_of, unit_of}
 use Rattle.c_grammar.proofs.Agree.{if_true, if_false}
-use Rattle.c_parse.specs.Reads.{behind, Fails, Reads}
+use Rattle.c_parse.specs.Reads.{behind, Fails}
 use Rattle.c_parse.specs.Lists.{global_list_of}
 use Rattle.c_parse.specs.declared.fault.Stopped.{Stopped}
 use Rattle.c_parse.specs.declared.fault.Stopped.TheVariants as stopped

@@ -1,16 +1,14 @@
 -- What stands one deeper, and the loops of statements.
-use Rattle.std.proofs.Common.{◌≡◌, ℕ, zero, suc, ◌+◌, ◌-◌, ◌<◌, ◌≤◌, Bool, true, false, cond, List, [], ◌∷◌, ◌++◌, length, Result, Ok, Err, refl, sym, ap, ◌∙◌, subst, arith, append_assoc}
+use Rattle.std.proofs.Common.{◌≡◌, ℕ, suc, ◌+◌, ◌-◌, ◌<◌, true, false, cond, List, [], ◌∷◌, ◌++◌, length, Ok, Err, refl, sym, ap, ◌∙◌, arith, append_assoc}
 use Rattle.c_tree.specs.declared.token.Kind.{Kind}
 use Rattle.c_tree.specs.declared.token.Mark.{Mark}
 use Rattle.c_tree.specs.declared.token.Mark.TheVariants as mark
-use Rattle.c_tree.specs.declared.tree.Stmt.{Stmt}
 use Rattle.c_grammar.specs.Tokens.{Tokens}
 use Rattle.c_grammar.specs.Parsing.{Stop, Out, and_then, syntax, too_deep, tail, first, is_next, listed, many}
 use Rattle.c_grammar.specs.ModelTypes.{begins_type}
 use Rattle.c_grammar.specs.ModelExpressions.{inside}
-use Rattle.c_grammar.specs.ModelStatements.{Below, begins_statement, decl_of, decls_of, locals_of, entry_of, entries_of, stmt_of, below_at}
-use Rattle.c_grammar.proofs.Agree.{if_true}
-use Rattle.c_parse.specs.Reads.{behind, Fails, Reads}
+use Rattle.c_grammar.specs.ModelStatements.{begins_statement, decl_of, decls_of, locals_of, entry_of, entries_of, stmt_of, below_at}
+use Rattle.c_parse.specs.Reads.{behind, Fails}
 use Rattle.c_parse.specs.declared.fault.Stopped.{Stopped}
 use Rattle.c_parse.specs.declared.fault.Stopped.TheVariants as stopped
 use Rattle.c_parse.proofs.Turns.{listed_init, behind_none}

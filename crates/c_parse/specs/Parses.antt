@@ -16,7 +16,8 @@ abbrev pub fault_line : Tokens → Tokens → ℕ
 fault_line tokens [] = last_line tokens
 fault_line tokens (t ∷ rest) = t.line
 
--- an opener that may not stand, the first of these tokens; where it is the last one the tokens end too early
+-- an opener that may not stand, the first of these tokens; where it is the last one, the tokens end
+-- too early
 abbrev pub depth_fault : Tokens → Tokens → ParseFault
 depth_fault tokens [] = Syntax (last_line tokens)
 depth_fault tokens (t ∷ []) = Syntax (last_line tokens)

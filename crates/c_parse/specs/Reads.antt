@@ -1,5 +1,6 @@
 -- What the parser's methods ensure: they compute the model, unless memory runs out.
-use Rattle.std.specs.Prelude.{◌≡◌, ℕ, zero, suc, Bool, true, false, nat_eq, if◌then◌else◌, List, [], ◌∷◌, ◌++◌, Option, Some, None, Result, Ok, Err}
+use Rattle.std.specs.Prelude.{◌≡◌, ℕ, suc, true, nat_eq, if◌then◌else◌, List}
+use Rattle.std.specs.Prelude.{◌++◌, Option, Some, None, Result, Ok, Err}
 use Rattle.c_tree.specs.declared.token.Form.{Form}
 use Rattle.c_tree.specs.declared.token.Form.TheVariants as form
 use Rattle.c_tree.specs.declared.token.Mark.{Mark}
@@ -10,9 +11,13 @@ use Rattle.c_tree.specs.declared.tree.BumpOp.{BumpOp}
 use Rattle.c_tree.specs.declared.tree.BumpOp.TheVariants as bump
 use Rattle.c_tree.specs.declared.tree.UnaryOp.TheVariants as unary
 use Rattle.c_grammar.specs.Tokens.{Tokens}
-use Rattle.c_grammar.specs.Operators.{binary_level, Joiner, op, comma, Prefix, sign, increase, decrease, Suffix, increased, decreased, Assigner, assigner_mark, assigner_op}
-use Rattle.c_grammar.specs.Parsing.{Out, Stop, and_then, syntax, too_deep, tail, line_of}
-use Rattle.c_grammar.specs.ModelExpressions.{Nested, enter, inside, joiner, seen, suffix_of, assigner_for, unary_of, cast_of, conditional_of, assignment_of, expression_of}
+use Rattle.c_grammar.specs.Operators.{binary_level, Joiner, op, comma, Prefix, sign, increase}
+use Rattle.c_grammar.specs.Operators.{decrease, Suffix, increased, decreased, Assigner}
+use Rattle.c_grammar.specs.Operators.{assigner_mark, assigner_op}
+use Rattle.c_grammar.specs.Parsing.{Out, and_then, syntax, too_deep, line_of}
+use Rattle.c_grammar.specs.ModelExpressions.{Nested, enter, inside, joiner, seen}
+use Rattle.c_grammar.specs.ModelExpressions.{unary_of, cast_of, conditional_of}
+use Rattle.c_grammar.specs.ModelExpressions.{assignment_of, expression_of}
 use Rattle.c_parse.specs.declared.primary.Before.{Before}
 use Rattle.c_parse.specs.declared.primary.Before.TheVariants as befores
 use Rattle.c_parse.specs.declared.fault.Stopped.{Stopped}
@@ -40,7 +45,8 @@ opened l = record {
 
 -- a mark that opens a depth was taken
 abbrev pub Enters : Mark → ℕ → Tokens → Result ℕ Stopped → Tokens → Type 0
-Enters k left old (Ok l) new = (left ≡ suc l) × (inside left ≡ opened l) × (enter k (inside left) old ≡ Ok (line_of old, new))
+Enters k left old (Ok l) new =
+    (left ≡ suc l) × (inside left ≡ opened l) × (enter k (inside left) old ≡ Ok (line_of old, new))
 Enters k left old (Err e) new = Fails (enter k (inside left) old) e new
 
 abbrev pub operator_of : Option Joiner → Option BinaryOp

@@ -57,13 +57,7 @@ fn of_level(level: u8, found: Option<(u8, BinaryOp)>) -> Option<BinaryOp>
     ensures { result ≡ reads.of_level level found }
 {
     match found {
-        Some((of, op)) => {
-            if of == level {
-                Some(op)
-            } else {
-                None
-            }
-        }
+        Some((of, op)) => { if of == level { Some(op) } else { None } }
         None => None,
     }
 }
@@ -84,7 +78,8 @@ impl Parser<'_> {
     #[cycle(expression)]
     fn binary(&mut self, left: u8, level: u8) -> Result<Expr, Stopped>
         requires { level ≤ 10 }
-        ensures { Reads (model.binary_of (model.inside left) level self.old.rest.now) result self.new.rest.now }
+        ensures { Reads (model.binary_of (model.inside left) level self.old.rest.now) result
+            self.new.rest.now }
     {
         if level == 0 {
             return self.cast(left);
@@ -102,7 +97,8 @@ impl Parser<'_> {
     #[cycle(expression)]
     #[tactic(auto, unfolding(c_grammar::specs::ModelExpressions::chosen_of))]
     fn chosen(&mut self, left: u8, test: Expr) -> Result<Expr, Stopped>
-        ensures { Reads (model.chosen_of (model.inside left) test self.old.rest.now) result self.new.rest.now }
+        ensures { Reads (model.chosen_of (model.inside left) test self.old.rest.now) result
+            self.new.rest.now }
     {
         let left = self.enter(Mark::Question, left)?;
         let yes = self.expression(left)?;
@@ -114,7 +110,8 @@ impl Parser<'_> {
     #[cycle(expression)]
     #[tactic(auto, unfolding(c_grammar::specs::ModelExpressions::choice_from))]
     fn choice(&mut self, left: u8, test: Expr) -> Result<Expr, Stopped>
-        ensures { Reads (model.choice_from (model.inside left) test self.old.rest.now) result self.new.rest.now }
+        ensures { Reads (model.choice_from (model.inside left) test self.old.rest.now) result
+            self.new.rest.now }
     {
         if self.is_next(Mark::Question) {
             return self.chosen(left, test);
@@ -125,7 +122,8 @@ impl Parser<'_> {
     #[cycle(expression)]
     #[tactic(auto, unfolding(c_grammar::specs::ModelExpressions::conditional_of))]
     pub fn conditional(&mut self, left: u8) -> Result<Expr, Stopped>
-        ensures { Reads (model.conditional_of (model.inside left) self.old.rest.now) result self.new.rest.now }
+        ensures { Reads (model.conditional_of (model.inside left) self.old.rest.now) result
+            self.new.rest.now }
     {
         let test = self.binary(left, 10)?;
         self.choice(left, test)
@@ -146,8 +144,16 @@ impl Parser<'_> {
 
     #[cycle(expression)]
     #[tactic(auto, unfolding(c_grammar::specs::ModelExpressions::assigned_of))]
-    fn assigned(&mut self, left: u8, mark: Mark, op: Option<BinaryOp>, to: Expr) -> Result<Expr, Stopped>
-        ensures { (s : Assigner) → mark ≡ assigner_mark s → op ≡ assigner_op s → Reads (model.assigned_of (model.inside left) s to self.old.rest.now) result self.new.rest.now }
+    fn assigned(
+        &mut self,
+        left: u8,
+        mark: Mark,
+        op: Option<BinaryOp>,
+        to: Expr,
+    ) -> Result<Expr, Stopped>
+        ensures { (s : Assigner) → mark ≡ assigner_mark s → op ≡ assigner_op s
+            → Reads (model.assigned_of (model.inside left) s to self.old.rest.now) result
+            self.new.rest.now }
     {
         let left = self.enter(mark, left)?;
         let value = self.assignment(left)?;
@@ -157,7 +163,8 @@ impl Parser<'_> {
     #[cycle(expression)]
     #[tactic(auto, unfolding(c_grammar::specs::ModelExpressions::assign_from))]
     fn assign(&mut self, left: u8, to: Expr) -> Result<Expr, Stopped>
-        ensures { Reads (model.assign_from (model.inside left) to self.old.rest.now) result self.new.rest.now }
+        ensures { Reads (model.assign_from (model.inside left) to self.old.rest.now) result
+            self.new.rest.now }
     {
         match self.assigner(&to) {
             Some((mark, op)) => self.assigned(left, mark, op, to),
@@ -168,7 +175,8 @@ impl Parser<'_> {
     #[cycle(expression)]
     #[tactic(auto, unfolding(c_grammar::specs::ModelExpressions::assignment_of))]
     pub fn assignment(&mut self, left: u8) -> Result<Expr, Stopped>
-        ensures { Reads (model.assignment_of (model.inside left) self.old.rest.now) result self.new.rest.now }
+        ensures { Reads (model.assignment_of (model.inside left) self.old.rest.now) result
+            self.new.rest.now }
     {
         let to = self.conditional(left)?;
         self.assign(left, to)
@@ -176,7 +184,8 @@ impl Parser<'_> {
 
     #[cycle(expression)]
     pub fn expression(&mut self, left: u8) -> Result<Expr, Stopped>
-        ensures { Reads (model.expression_of (model.inside left) self.old.rest.now) result self.new.rest.now }
+        ensures { Reads (model.expression_of (model.inside left) self.old.rest.now) result
+            self.new.rest.now }
     {
         let mut whole = self.assignment(left)?;
         while self.is_next(Mark::Comma) {
@@ -198,8 +207,14 @@ fn assigner_of(form: &Form) -> Option<(Mark, Option<BinaryOp>)>
         Form::Mark(Mark::PercentAssign) => Some((Mark::PercentAssign, Some(BinaryOp::Remainder))),
         Form::Mark(Mark::PlusAssign) => Some((Mark::PlusAssign, Some(BinaryOp::Add))),
         Form::Mark(Mark::MinusAssign) => Some((Mark::MinusAssign, Some(BinaryOp::Subtract))),
-        Form::Mark(Mark::ShiftLeftAssign) => Some((Mark::ShiftLeftAssign, Some(BinaryOp::ShiftLeft))),
-        Form::Mark(Mark::ShiftRightAssign) => Some((Mark::ShiftRightAssign, Some(BinaryOp::ShiftRight))),
+        Form::Mark(Mark::ShiftLeftAssign) => Some((
+            Mark::ShiftLeftAssign,
+            Some(BinaryOp::ShiftLeft),
+        )),
+        Form::Mark(Mark::ShiftRightAssign) => Some((
+            Mark::ShiftRightAssign,
+            Some(BinaryOp::ShiftRight),
+        )),
         Form::Mark(Mark::AndAssign) => Some((Mark::AndAssign, Some(BinaryOp::BitAnd))),
         Form::Mark(Mark::XorAssign) => Some((Mark::XorAssign, Some(BinaryOp::BitXor))),
         Form::Mark(Mark::OrAssign) => Some((Mark::OrAssign, Some(BinaryOp::BitOr))),

@@ -28,7 +28,8 @@ impl Parser<'_> {
 
     #[tactic(auto, unfolding(c_grammar::specs::ModelUnits::some_brackets_of, c_grammar::specs::ModelUnits::brackets_of))]
     fn brackets(&mut self, left: u8) -> Result<ArraySize, Stopped>
-        ensures { Reads (model.brackets_of (inside left) self.old.rest.now) result self.new.rest.now }
+        ensures { Reads (model.brackets_of (inside left) self.old.rest.now) result
+            self.new.rest.now }
     {
         if self.is_next(Mark::LeftBracket) {
             self.expect(Mark::LeftBracket)?;
@@ -53,7 +54,8 @@ impl Parser<'_> {
     }
 
     fn param_list(&mut self, left: u8) -> Result<Items<Param>, Stopped>
-        ensures { Reads (model.param_list_of (inside left) self.old.rest.now) result self.new.rest.now }
+        ensures { Reads (model.param_list_of (inside left) self.old.rest.now) result
+            self.new.rest.now }
     {
         let mut found = Items::new(self.alloc);
         let turns = self.rest.len() + 1;
@@ -89,8 +91,18 @@ impl Parser<'_> {
 
     /// The semicolon of a prototype.
     #[tactic(auto, unfolding(c_grammar::specs::ModelUnits::declared_of))]
-    fn prototype(&mut self, outer: u8, left: u8, given: Option<Kind>, line: u32, name: Word, params: Items<Param>) -> Result<Top, Stopped>
-        ensures { Reads (model.declared_of (inside outer) (compound_of (inside left) (below_at left)) given line name params self.old.rest.now) result self.new.rest.now }
+    fn prototype(
+        &mut self,
+        outer: u8,
+        left: u8,
+        given: Option<Kind>,
+        line: u32,
+        name: Word,
+        params: Items<Param>,
+    ) -> Result<Top, Stopped>
+        ensures { Reads (model.declared_of (inside outer)
+            (compound_of (inside left) (below_at left)) given line name params self.old.rest.now)
+            result self.new.rest.now }
     {
         let _unused = (outer, left);
         self.expect(Mark::Semicolon)?;
@@ -107,8 +119,17 @@ impl Parser<'_> {
 
     /// A function's body.
     #[tactic(auto, unfolding(c_grammar::specs::ModelUnits::defined_of))]
-    fn definition(&mut self, outer: u8, left: u8, given: Option<Kind>, line: u32, name: Word, params: Items<Param>) -> Result<Top, Stopped>
-        ensures { Reads (model.defined_of (inside outer) (compound_of (inside left) (below_at left)) given line name params self.old.rest.now) result self.new.rest.now }
+    fn definition(
+        &mut self,
+        outer: u8,
+        left: u8,
+        given: Option<Kind>,
+        line: u32,
+        name: Word,
+        params: Items<Param>,
+    ) -> Result<Top, Stopped>
+        ensures { Reads (model.defined_of (inside outer) (compound_of (inside left) (below_at left))
+            given line name params self.old.rest.now) result self.new.rest.now }
     {
         let _unused = outer;
         let body = self.compound(left)?;
@@ -125,8 +146,17 @@ impl Parser<'_> {
 
     /// What stands behind the parameters: a body, or the semicolon of a prototype.
     #[tactic(auto, unfolding(c_grammar::specs::ModelUnits::rest_of))]
-    fn rest_of_function(&mut self, outer: u8, left: u8, given: Option<Kind>, line: u32, name: Word, params: Items<Param>) -> Result<Top, Stopped>
-        ensures { Reads (model.rest_of (inside outer) (compound_of (inside left) (below_at left)) given line name params self.old.rest.now) result self.new.rest.now }
+    fn rest_of_function(
+        &mut self,
+        outer: u8,
+        left: u8,
+        given: Option<Kind>,
+        line: u32,
+        name: Word,
+        params: Items<Param>,
+    ) -> Result<Top, Stopped>
+        ensures { Reads (model.rest_of (inside outer) (compound_of (inside left) (below_at left))
+            given line name params self.old.rest.now) result self.new.rest.now }
     {
         if self.is_next(Mark::LeftBrace) {
             return self.definition(outer, left, given, line, name, params);
@@ -136,8 +166,16 @@ impl Parser<'_> {
 
     /// A function behind its name.
     #[tactic(auto, unfolding(c_grammar::specs::ModelUnits::func_of))]
-    fn function(&mut self, outer: u8, left: u8, given: Option<Kind>, line: u32, name: Word) -> Result<Items<Top>, Stopped>
-        ensures { Reads (model.func_of (inside outer) (compound_of (inside left) (below_at left)) given line name self.old.rest.now) result self.new.rest.now }
+    fn function(
+        &mut self,
+        outer: u8,
+        left: u8,
+        given: Option<Kind>,
+        line: u32,
+        name: Word,
+    ) -> Result<Items<Top>, Stopped>
+        ensures { Reads (model.func_of (inside outer) (compound_of (inside left) (below_at left))
+            given line name self.old.rest.now) result self.new.rest.now }
     {
         self.expect(Mark::LeftParen)?;
         let params = self.params(outer)?;
@@ -146,8 +184,16 @@ impl Parser<'_> {
     }
 
     #[tactic(auto, unfolding(c_grammar::specs::ModelUnits::after_name))]
-    fn named_item(&mut self, outer: u8, left: u8, kind: Kind, line: u32, name: Word) -> Result<Items<Top>, Stopped>
-        ensures { Reads (model.after_name (inside outer) (compound_of (inside left) (below_at left)) kind line name self.old.rest.now) result self.new.rest.now }
+    fn named_item(
+        &mut self,
+        outer: u8,
+        left: u8,
+        kind: Kind,
+        line: u32,
+        name: Word,
+    ) -> Result<Items<Top>, Stopped>
+        ensures { Reads (model.after_name (inside outer) (compound_of (inside left) (below_at left))
+            kind line name self.old.rest.now) result self.new.rest.now }
     {
         if self.is_next(Mark::LeftParen) {
             return self.function(outer, left, Some(kind), line, name);
@@ -157,7 +203,9 @@ impl Parser<'_> {
 
     #[tactic(auto, unfolding(c_grammar::specs::ModelUnits::void_item_of))]
     fn void_item(&mut self, outer: u8, left: u8) -> Result<Items<Top>, Stopped>
-        ensures { Reads (model.void_item_of (inside outer) (compound_of (inside left) (below_at left)) self.old.rest.now) result self.new.rest.now }
+        ensures { Reads (model.void_item_of (inside outer)
+            (compound_of (inside left) (below_at left)) self.old.rest.now) result
+            self.new.rest.now }
     {
         self.expect_word(Key::Void)?;
         let (line, name) = self.name()?;
@@ -166,7 +214,9 @@ impl Parser<'_> {
 
     #[tactic(auto, unfolding(c_grammar::specs::ModelUnits::typed_item_of))]
     fn typed_item(&mut self, outer: u8, left: u8) -> Result<Items<Top>, Stopped>
-        ensures { Reads (model.typed_item_of (inside outer) (compound_of (inside left) (below_at left)) self.old.rest.now) result self.new.rest.now }
+        ensures { Reads (model.typed_item_of (inside outer)
+            (compound_of (inside left) (below_at left)) self.old.rest.now) result
+            self.new.rest.now }
     {
         let (_, kind) = self.type_name()?;
         let (line, name) = self.name()?;
@@ -210,7 +260,8 @@ impl Parser<'_> {
 
     #[tactic(auto, unfolding(c_grammar::specs::ModelUnits::item_of))]
     fn item(&mut self, outer: u8, left: u8) -> Result<Items<Top>, Stopped>
-        ensures { Reads (model.item_of (inside outer) (compound_of (inside left) (below_at left)) self.old.rest.now) result self.new.rest.now }
+        ensures { Reads (model.item_of (inside outer) (compound_of (inside left) (below_at left))
+            self.old.rest.now) result self.new.rest.now }
     {
         if self.is_include() {
             return self.include();

@@ -53,8 +53,13 @@ impl Parser<'_> {
     }
 
     #[tactic(auto, unfolding(c_grammar::specs::ModelUnits::filled_of))]
-    fn filled(&mut self, left: u8, size: Held<ArraySize>) -> Result<(ArraySize, Items<Expr>), Stopped>
-        ensures { Reads (model.filled_of (inside left) size self.old.rest.now) result self.new.rest.now }
+    fn filled(
+        &mut self,
+        left: u8,
+        size: Held<ArraySize>,
+    ) -> Result<(ArraySize, Items<Expr>), Stopped>
+        ensures { Reads (model.filled_of (inside left) size self.old.rest.now) result
+            self.new.rest.now }
     {
         self.expect(Mark::Assign)?;
         self.expect(Mark::LeftBrace)?;
@@ -73,7 +78,8 @@ impl Parser<'_> {
 
     #[tactic(auto, unfolding(c_grammar::specs::ModelUnits::after_size))]
     fn after_size(&mut self, left: u8, size: ArraySize) -> Result<(ArraySize, Items<Expr>), Stopped>
-        ensures { Reads (model.after_size (inside left) size self.old.rest.now) result self.new.rest.now }
+        ensures { Reads (model.after_size (inside left) size self.old.rest.now) result
+            self.new.rest.now }
     {
         if self.is_next(Mark::Assign) {
             return self.filled(left, Held::new(size));
@@ -117,7 +123,8 @@ impl Parser<'_> {
 
     #[tactic(auto, unfolding(c_grammar::specs::ModelUnits::global_of))]
     fn global(&mut self, left: u8, kind: Kind) -> Result<Top, Stopped>
-        ensures { Reads (model.global_of (inside left) kind self.old.rest.now) result self.new.rest.now }
+        ensures { Reads (model.global_of (inside left) kind self.old.rest.now) result
+            self.new.rest.now }
     {
         let (line, name) = self.name()?;
         let (size, init) = self.global_shape(left)?;
@@ -134,7 +141,8 @@ impl Parser<'_> {
 
     /// Globals up to the semicolon, behind those that were found.
     fn global_list(&mut self, left: u8, kind: Kind, first: Top) -> Result<Items<Top>, Stopped>
-        ensures { Reads (behind (first ∷ []) (global_list_of (inside left) kind self.old.rest.now)) result self.new.rest.now }
+        ensures { Reads (behind (first ∷ []) (global_list_of (inside left) kind self.old.rest.now))
+            result self.new.rest.now }
     {
         let mut found = build::only(self.alloc, first)?;
         let turns = self.rest.len() + 1;
@@ -152,7 +160,8 @@ impl Parser<'_> {
     }
 
     fn only_global(&mut self, first: Top) -> Result<Items<Top>, Stopped>
-        ensures { Reads (parsing.and_then (parsing.expect marks.Semicolon self.old.rest.now) (λ _ ts. Ok (first ∷ [], ts))) result self.new.rest.now }
+        ensures { Reads (parsing.and_then (parsing.expect marks.Semicolon self.old.rest.now)
+            (λ _ ts. Ok (first ∷ [], ts))) result self.new.rest.now }
     {
         let found = build::only(self.alloc, first)?;
         self.expect(Mark::Semicolon)?;
@@ -161,7 +170,8 @@ impl Parser<'_> {
 
     #[tactic(auto, using(crate::proofs::Lists::globals_on, crate::proofs::Lists::globals_end))]
     fn more_globals(&mut self, left: u8, kind: Kind, first: Top) -> Result<Items<Top>, Stopped>
-        ensures { Reads (model.more_globals_of (inside left) kind first self.old.rest.now) result self.new.rest.now }
+        ensures { Reads (model.more_globals_of (inside left) kind first self.old.rest.now) result
+            self.new.rest.now }
     {
         if self.is_next(Mark::Comma) {
             self.advance();
@@ -172,8 +182,15 @@ impl Parser<'_> {
 
     /// Globals behind the name of the first one.
     #[tactic(auto, unfolding(c_grammar::specs::ModelUnits::globals_of))]
-    pub fn globals(&mut self, left: u8, kind: Kind, line: u32, name: Word) -> Result<Items<Top>, Stopped>
-        ensures { Reads (model.globals_of (inside left) kind line name self.old.rest.now) result self.new.rest.now }
+    pub fn globals(
+        &mut self,
+        left: u8,
+        kind: Kind,
+        line: u32,
+        name: Word,
+    ) -> Result<Items<Top>, Stopped>
+        ensures { Reads (model.globals_of (inside left) kind line name self.old.rest.now) result
+            self.new.rest.now }
     {
         let (size, init) = self.global_shape(left)?;
         let first = Top {

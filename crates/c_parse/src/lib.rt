@@ -3,6 +3,8 @@
 #![tactic(auto)]
 
 mod build;
+#[cfg(test)]
+mod depth_tests;
 mod expression;
 mod fault;
 mod function;

@@ -14,7 +14,8 @@ use c_tree::{ArraySize, Expr, Kind, Mark, Stmt, StmtNode};
 impl Parser<'_> {
     #[tactic(auto, unfolding(c_grammar::specs::ModelStatements::absent_of, c_grammar::specs::ModelStatements::given_of, c_grammar::specs::ModelStatements::until_of))]
     pub fn until_semicolon(&mut self, left: u8) -> Result<Option<Expr>, Stopped>
-        ensures { Reads (model.until_of (inside left) grammar.semicolon self.old.rest.now) result self.new.rest.now }
+        ensures { Reads (model.until_of (inside left) grammar.semicolon self.old.rest.now) result
+            self.new.rest.now }
     {
         if self.is_next(Mark::Semicolon) {
             self.expect(Mark::Semicolon)?;
@@ -27,7 +28,8 @@ impl Parser<'_> {
 
     #[tactic(auto, unfolding(c_grammar::specs::ModelStatements::absent_of, c_grammar::specs::ModelStatements::given_of, c_grammar::specs::ModelStatements::until_of))]
     pub fn until_paren(&mut self, left: u8) -> Result<Option<Expr>, Stopped>
-        ensures { Reads (model.until_of (inside left) grammar.paren self.old.rest.now) result self.new.rest.now }
+        ensures { Reads (model.until_of (inside left) grammar.paren self.old.rest.now) result
+            self.new.rest.now }
     {
         if self.is_next(Mark::RightParen) {
             self.expect(Mark::RightParen)?;
@@ -84,7 +86,8 @@ impl Parser<'_> {
 
     #[tactic(auto, unfolding(c_grammar::specs::ModelStatements::decl_of))]
     fn declarator(&mut self, left: u8, kind: Kind) -> Result<Stmt, Stopped>
-        ensures { Reads (model.decl_of (inside left) kind self.old.rest.now) result self.new.rest.now }
+        ensures { Reads (model.decl_of (inside left) kind self.old.rest.now) result
+            self.new.rest.now }
     {
         let (line, name) = self.name()?;
         let (size, init) = self.shape(left)?;
@@ -101,7 +104,8 @@ impl Parser<'_> {
 
     /// Declarators up to the semicolon.
     fn declarators(&mut self, left: u8, kind: Kind) -> Result<Items<Stmt>, Stopped>
-        ensures { Reads (model.decls_of (inside left) kind self.old.rest.now) result self.new.rest.now }
+        ensures { Reads (model.decls_of (inside left) kind self.old.rest.now) result
+            self.new.rest.now }
     {
         let mut found = Items::new(self.alloc);
         let turns = self.rest.len() + 1;

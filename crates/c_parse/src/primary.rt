@@ -28,7 +28,8 @@ impl Parser<'_> {
     #[cycle(expression)]
     #[tactic(auto, unfolding(c_grammar::specs::ModelExpressions::group_of))]
     fn group(&mut self, left: u8) -> Result<Expr, Stopped>
-        ensures { Reads (model.group_of (model.inside left) self.old.rest.now) result self.new.rest.now }
+        ensures { Reads (model.group_of (model.inside left) self.old.rest.now) result
+            self.new.rest.now }
     {
         let line = self.line();
         let left = self.enter(Mark::LeftParen, left)?;
@@ -40,7 +41,8 @@ impl Parser<'_> {
     #[cycle(expression)]
     #[tactic(auto, unfolding(c_grammar::specs::ModelExpressions::element_of))]
     fn element(&mut self, left: u8, line: u32, array: Word) -> Result<Expr, Stopped>
-        ensures { Reads (model.element_of (model.inside left) line array self.old.rest.now) result self.new.rest.now }
+        ensures { Reads (model.element_of (model.inside left) line array self.old.rest.now) result
+            self.new.rest.now }
     {
         let left = self.enter(Mark::LeftBracket, left)?;
         let index = self.expression(left)?;
@@ -51,7 +53,8 @@ impl Parser<'_> {
     #[cycle(expression)]
     #[tactic(auto, unfolding(c_grammar::specs::ModelExpressions::call_of))]
     fn call(&mut self, left: u8, line: u32, function: Word) -> Result<Expr, Stopped>
-        ensures { Reads (model.call_of (model.inside left) line function self.old.rest.now) result self.new.rest.now }
+        ensures { Reads (model.call_of (model.inside left) line function self.old.rest.now) result
+            self.new.rest.now }
     {
         let left = self.enter(Mark::LeftParen, left)?;
         let args = self.args(left)?;
@@ -76,7 +79,8 @@ impl Parser<'_> {
 
     #[cycle(expression)]
     fn arg_list(&mut self, left: u8) -> Result<Items<Expr>, Stopped>
-        ensures { Reads (model.arg_list_of (opened left) self.old.rest.now) result self.new.rest.now }
+        ensures { Reads (model.arg_list_of (opened left) self.old.rest.now) result
+            self.new.rest.now }
     {
         let mut found = Items::new(self.alloc);
         let turns = self.rest.len() + 1;
@@ -96,7 +100,8 @@ impl Parser<'_> {
     #[cycle(expression)]
     #[tactic(auto, unfolding(c_grammar::specs::ModelExpressions::after_name))]
     fn after_name(&mut self, left: u8, line: u32, name: Word) -> Result<Expr, Stopped>
-        ensures { Reads (model.after_name (model.inside left) line name self.old.rest.now) result self.new.rest.now }
+        ensures { Reads (model.after_name (model.inside left) line name self.old.rest.now) result
+            self.new.rest.now }
     {
         if self.is_next(Mark::LeftBracket) {
             return self.element(left, line, name);
@@ -113,7 +118,8 @@ impl Parser<'_> {
     #[cycle(expression)]
     #[tactic(auto, unfolding(c_grammar::specs::ModelExpressions::named_of))]
     fn named(&mut self, left: u8) -> Result<Expr, Stopped>
-        ensures { Reads (model.named_of (model.inside left) self.old.rest.now) result self.new.rest.now }
+        ensures { Reads (model.named_of (model.inside left) self.old.rest.now) result
+            self.new.rest.now }
     {
         let (line, name) = self.name()?;
         self.after_name(left, line, name)
@@ -142,7 +148,8 @@ impl Parser<'_> {
     #[cycle(expression)]
     #[tactic(auto, unfolding(c_grammar::specs::ModelExpressions::primary_of))]
     fn primary(&mut self, left: u8) -> Result<Expr, Stopped>
-        ensures { Reads (model.primary_of (model.inside left) self.old.rest.now) result self.new.rest.now }
+        ensures { Reads (model.primary_of (model.inside left) self.old.rest.now) result
+            self.new.rest.now }
     {
         if self.is_name() {
             return self.named(left);
@@ -170,7 +177,8 @@ impl Parser<'_> {
     #[cycle(expression)]
     #[tactic(auto, unfolding(c_grammar::specs::ModelExpressions::postfix_of))]
     fn postfix(&mut self, left: u8) -> Result<Expr, Stopped>
-        ensures { Reads (model.postfix_of (model.inside left) self.old.rest.now) result self.new.rest.now }
+        ensures { Reads (model.postfix_of (model.inside left) self.old.rest.now) result
+            self.new.rest.now }
     {
         let mut whole = self.primary(left)?;
         while let Some(op) = self.suffix() {
@@ -203,7 +211,8 @@ impl Parser<'_> {
     #[tactic(auto, unfolding(c_grammar::specs::ModelExpressions::prefixed_of))]
     fn signed_by(&mut self, left: u8, mark: Mark, op: UnaryOp) -> Result<Expr, Stopped>
         requires { mark ≡ prefix_mark (sign op) }
-        ensures { Reads (model.prefixed_of (model.inside left) (sign op) self.old.rest.now) result self.new.rest.now }
+        ensures { Reads (model.prefixed_of (model.inside left) (sign op) self.old.rest.now) result
+            self.new.rest.now }
     {
         let line = self.line();
         let left = self.enter(mark, left)?;
@@ -214,7 +223,8 @@ impl Parser<'_> {
     #[cycle(expression)]
     #[tactic(auto, unfolding(c_grammar::specs::ModelExpressions::prefixed_of))]
     fn increased(&mut self, left: u8) -> Result<Expr, Stopped>
-        ensures { Reads (model.prefixed_of (model.inside left) increase self.old.rest.now) result self.new.rest.now }
+        ensures { Reads (model.prefixed_of (model.inside left) increase self.old.rest.now) result
+            self.new.rest.now }
     {
         let line = self.line();
         let left = self.enter(Mark::PlusPlus, left)?;
@@ -225,7 +235,8 @@ impl Parser<'_> {
     #[cycle(expression)]
     #[tactic(auto, unfolding(c_grammar::specs::ModelExpressions::prefixed_of))]
     fn decreased(&mut self, left: u8) -> Result<Expr, Stopped>
-        ensures { Reads (model.prefixed_of (model.inside left) decrease self.old.rest.now) result self.new.rest.now }
+        ensures { Reads (model.prefixed_of (model.inside left) decrease self.old.rest.now) result
+            self.new.rest.now }
     {
         let line = self.line();
         let left = self.enter(Mark::MinusMinus, left)?;
@@ -236,7 +247,8 @@ impl Parser<'_> {
     #[cycle(expression)]
     #[tactic(auto, unfolding(c_grammar::specs::ModelExpressions::unary_of))]
     pub fn unary(&mut self, left: u8) -> Result<Expr, Stopped>
-        ensures { Reads (model.unary_of (model.inside left) self.old.rest.now) result self.new.rest.now }
+        ensures { Reads (model.unary_of (model.inside left) self.old.rest.now) result
+            self.new.rest.now }
     {
         match self.before() {
             Some(Before::Plus) => self.signed_by(left, Mark::Plus, UnaryOp::Plus),
@@ -269,7 +281,8 @@ impl Parser<'_> {
     #[cycle(expression)]
     #[tactic(auto, unfolding(c_grammar::specs::ModelExpressions::cast_in))]
     fn converted(&mut self, left: u8) -> Result<Expr, Stopped>
-        ensures { Reads (model.cast_in (model.inside left) self.old.rest.now) result self.new.rest.now }
+        ensures { Reads (model.cast_in (model.inside left) self.old.rest.now) result
+            self.new.rest.now }
     {
         let line = self.line();
         let left = self.enter(Mark::LeftParen, left)?;
@@ -282,7 +295,8 @@ impl Parser<'_> {
     #[cycle(expression)]
     #[tactic(auto, unfolding(c_grammar::specs::ModelExpressions::cast_of))]
     pub fn cast(&mut self, left: u8) -> Result<Expr, Stopped>
-        ensures { Reads (model.cast_of (model.inside left) self.old.rest.now) result self.new.rest.now }
+        ensures { Reads (model.cast_of (model.inside left) self.old.rest.now) result
+            self.new.rest.now }
     {
         if self.is_cast() {
             return self.converted(left);

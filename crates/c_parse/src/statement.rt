@@ -14,7 +14,7 @@ use crate::fault::Stopped;
 use crate::held::Held;
 use crate::parser::Parser;
 use base::{Boxed, Items};
-use c_tree::{Expr, Form, ForInit, Key, Mark, Stmt, StmtNode};
+use c_tree::{Expr, ForInit, Form, Key, Mark, Stmt, StmtNode};
 
 impl Parser<'_> {
     /// Can a statement begin with the first token?
@@ -61,7 +61,8 @@ impl Parser<'_> {
     #[cycle(statement)]
     #[tactic(auto, unfolding(c_grammar::specs::ModelStatements::one_of))]
     fn one(&mut self, left: u8) -> Result<Items<Stmt>, Stopped>
-        ensures { Reads (model.one_of (inside left) (model.below_at left) self.old.rest.now) result self.new.rest.now }
+        ensures { Reads (model.one_of (inside left) (model.below_at left) self.old.rest.now) result
+            self.new.rest.now }
     {
         let statement = self.inner(left)?;
         let mut found = Items::new(self.alloc);
@@ -73,7 +74,8 @@ impl Parser<'_> {
     #[cycle(statement)]
     #[tactic(auto, unfolding(c_grammar::specs::ModelStatements::entry_of))]
     fn entry(&mut self, left: u8) -> Result<Items<Stmt>, Stopped>
-        ensures { Reads (model.entry_of (inside left) (model.below_at left) self.old.rest.now) result self.new.rest.now }
+        ensures { Reads (model.entry_of (inside left) (model.below_at left) self.old.rest.now)
+            result self.new.rest.now }
     {
         if self.begins_type() {
             return self.locals_inside(left);
@@ -84,7 +86,8 @@ impl Parser<'_> {
     /// Entries up to the closing brace.
     #[cycle(statement)]
     fn entries(&mut self, left: u8) -> Result<Items<Stmt>, Stopped>
-        ensures { Reads (model.entries_of (inside left) (model.below_at left) self.old.rest.now) result self.new.rest.now }
+        ensures { Reads (model.entries_of (inside left) (model.below_at left) self.old.rest.now)
+            result self.new.rest.now }
     {
         let mut found = Items::new(self.alloc);
         let turns = self.rest.len() + 1;
@@ -102,7 +105,8 @@ impl Parser<'_> {
     #[cycle(statement)]
     #[tactic(auto, unfolding(c_grammar::specs::ModelStatements::compound_of))]
     pub fn compound(&mut self, left: u8) -> Result<Stmt, Stopped>
-        ensures { Reads (model.compound_of (inside left) (model.below_at left) self.old.rest.now) result self.new.rest.now }
+        ensures { Reads (model.compound_of (inside left) (model.below_at left) self.old.rest.now)
+            result self.new.rest.now }
     {
         let line = self.expect(Mark::LeftBrace)?;
         let entries = self.entries(left)?;
@@ -114,7 +118,8 @@ impl Parser<'_> {
 
     #[tactic(auto, unfolding(c_grammar::specs::ModelStatements::init_local_of))]
     fn init_locals(&mut self, left: u8) -> Result<ForInit, Stopped>
-        ensures { Reads (model.init_local_of (inside left) (model.below_at left) self.old.rest.now) result self.new.rest.now }
+        ensures { Reads (model.init_local_of (inside left) (model.below_at left) self.old.rest.now)
+            result self.new.rest.now }
     {
         let locals = self.locals_inside(left)?;
         Ok(ForInit::Locals(locals))
@@ -122,7 +127,8 @@ impl Parser<'_> {
 
     #[tactic(auto, unfolding(c_grammar::specs::ModelStatements::init_plain_of))]
     fn init_plain(&mut self, left: u8) -> Result<ForInit, Stopped>
-        ensures { Reads (model.init_plain_of (inside left) (model.below_at left) self.old.rest.now) result self.new.rest.now }
+        ensures { Reads (model.init_plain_of (inside left) (model.below_at left) self.old.rest.now)
+            result self.new.rest.now }
     {
         let given = self.until_semicolon(left)?;
         Ok(build::for_init(given))
@@ -130,7 +136,8 @@ impl Parser<'_> {
 
     #[tactic(auto, unfolding(c_grammar::specs::ModelStatements::init_of))]
     fn init(&mut self, left: u8) -> Result<ForInit, Stopped>
-        ensures { Reads (model.init_of (inside left) (model.below_at left) self.old.rest.now) result self.new.rest.now }
+        ensures { Reads (model.init_of (inside left) (model.below_at left) self.old.rest.now) result
+            self.new.rest.now }
     {
         if self.begins_type() {
             return self.init_locals(left);
@@ -140,8 +147,15 @@ impl Parser<'_> {
 
     #[cycle(statement)]
     #[tactic(auto, unfolding(c_grammar::specs::ModelStatements::else_of))]
-    fn with_else(&mut self, left: u8, line: u32, test: Expr, yes: Boxed<Stmt>) -> Result<Stmt, Stopped>
-        ensures { Reads (model.else_of (inside left) (model.below_at left) line test yes self.old.rest.now) result self.new.rest.now }
+    fn with_else(
+        &mut self,
+        left: u8,
+        line: u32,
+        test: Expr,
+        yes: Boxed<Stmt>,
+    ) -> Result<Stmt, Stopped>
+        ensures { Reads (model.else_of (inside left) (model.below_at left) line test yes
+            self.old.rest.now) result self.new.rest.now }
     {
         self.expect_word(Key::Else)?;
         let no = self.branch(left)?;
@@ -150,8 +164,15 @@ impl Parser<'_> {
 
     #[cycle(statement)]
     #[tactic(auto, unfolding(c_grammar::specs::ModelStatements::no_of))]
-    fn after_if(&mut self, left: u8, line: u32, test: Expr, yes: Boxed<Stmt>) -> Result<Stmt, Stopped>
-        ensures { Reads (model.no_of (inside left) (model.below_at left) line test yes self.old.rest.now) result self.new.rest.now }
+    fn after_if(
+        &mut self,
+        left: u8,
+        line: u32,
+        test: Expr,
+        yes: Boxed<Stmt>,
+    ) -> Result<Stmt, Stopped>
+        ensures { Reads (model.no_of (inside left) (model.below_at left) line test yes
+            self.old.rest.now) result self.new.rest.now }
     {
         if self.is_word(Key::Else) {
             return self.with_else(left, line, test, yes);
@@ -162,7 +183,8 @@ impl Parser<'_> {
     #[cycle(statement)]
     #[tactic(auto, unfolding(c_grammar::specs::ModelStatements::if_of))]
     fn if_statement(&mut self, left: u8) -> Result<Stmt, Stopped>
-        ensures { Reads (model.if_of (inside left) (model.below_at left) self.old.rest.now) result self.new.rest.now }
+        ensures { Reads (model.if_of (inside left) (model.below_at left) self.old.rest.now) result
+            self.new.rest.now }
     {
         let line = self.expect_word(Key::If)?;
         let test = self.test(left)?;
@@ -173,7 +195,8 @@ impl Parser<'_> {
     #[cycle(statement)]
     #[tactic(auto, unfolding(c_grammar::specs::ModelStatements::while_of))]
     fn while_statement(&mut self, left: u8) -> Result<Stmt, Stopped>
-        ensures { Reads (model.while_of (inside left) (model.below_at left) self.old.rest.now) result self.new.rest.now }
+        ensures { Reads (model.while_of (inside left) (model.below_at left) self.old.rest.now)
+            result self.new.rest.now }
     {
         let line = self.expect_word(Key::While)?;
         let test = self.test(left)?;
@@ -184,7 +207,8 @@ impl Parser<'_> {
     #[cycle(statement)]
     #[tactic(auto, unfolding(c_grammar::specs::ModelStatements::do_of))]
     fn do_statement(&mut self, left: u8) -> Result<Stmt, Stopped>
-        ensures { Reads (model.do_of (inside left) (model.below_at left) self.old.rest.now) result self.new.rest.now }
+        ensures { Reads (model.do_of (inside left) (model.below_at left) self.old.rest.now) result
+            self.new.rest.now }
     {
         let line = self.expect_word(Key::Do)?;
         let body = self.branch(left)?;
@@ -197,7 +221,8 @@ impl Parser<'_> {
     #[cycle(statement)]
     #[tactic(auto, unfolding(c_grammar::specs::ModelStatements::for_of))]
     fn for_statement(&mut self, left: u8) -> Result<Stmt, Stopped>
-        ensures { Reads (model.for_of (inside left) (model.below_at left) self.old.rest.now) result self.new.rest.now }
+        ensures { Reads (model.for_of (inside left) (model.below_at left) self.old.rest.now) result
+            self.new.rest.now }
     {
         let line = self.expect_word(Key::For)?;
         self.expect(Mark::LeftParen)?;
@@ -210,7 +235,8 @@ impl Parser<'_> {
 
     #[tactic(auto, unfolding(c_grammar::specs::ModelStatements::leave_of))]
     fn break_statement(&mut self, left: u8) -> Result<Stmt, Stopped>
-        ensures { Reads (model.leave_of (inside left) (model.below_at left) keys.Break nodes.Break self.old.rest.now) result self.new.rest.now }
+        ensures { Reads (model.leave_of (inside left) (model.below_at left) keys.Break nodes.Break
+            self.old.rest.now) result self.new.rest.now }
     {
         let line = self.expect_word(Key::Break)?;
         self.expect(Mark::Semicolon)?;
@@ -223,7 +249,8 @@ impl Parser<'_> {
 
     #[tactic(auto, unfolding(c_grammar::specs::ModelStatements::leave_of))]
     fn continue_statement(&mut self, left: u8) -> Result<Stmt, Stopped>
-        ensures { Reads (model.leave_of (inside left) (model.below_at left) keys.Continue nodes.Continue self.old.rest.now) result self.new.rest.now }
+        ensures { Reads (model.leave_of (inside left) (model.below_at left) keys.Continue
+            nodes.Continue self.old.rest.now) result self.new.rest.now }
     {
         let line = self.expect_word(Key::Continue)?;
         self.expect(Mark::Semicolon)?;
@@ -236,7 +263,8 @@ impl Parser<'_> {
 
     #[tactic(auto, unfolding(c_grammar::specs::ModelStatements::return_of))]
     fn return_statement(&mut self, left: u8) -> Result<Stmt, Stopped>
-        ensures { Reads (model.return_of (inside left) (model.below_at left) self.old.rest.now) result self.new.rest.now }
+        ensures { Reads (model.return_of (inside left) (model.below_at left) self.old.rest.now)
+            result self.new.rest.now }
     {
         let line = self.expect_word(Key::Return)?;
         let value = self.until_semicolon(left)?;
@@ -248,7 +276,8 @@ impl Parser<'_> {
 
     #[tactic(auto, unfolding(c_grammar::specs::ModelStatements::empty_of))]
     fn empty(&mut self, left: u8) -> Result<Stmt, Stopped>
-        ensures { Reads (model.empty_of (inside left) (model.below_at left) self.old.rest.now) result self.new.rest.now }
+        ensures { Reads (model.empty_of (inside left) (model.below_at left) self.old.rest.now)
+            result self.new.rest.now }
     {
         let line = self.expect(Mark::Semicolon)?;
         let _unused = left;
@@ -260,7 +289,8 @@ impl Parser<'_> {
 
     #[tactic(auto, unfolding(c_grammar::specs::ModelStatements::plain_of))]
     fn plain_statement(&mut self, left: u8) -> Result<Stmt, Stopped>
-        ensures { Reads (model.plain_of (inside left) (model.below_at left) self.old.rest.now) result self.new.rest.now }
+        ensures { Reads (model.plain_of (inside left) (model.below_at left) self.old.rest.now)
+            result self.new.rest.now }
     {
         let e = self.expression(left)?;
         self.expect(Mark::Semicolon)?;
@@ -273,7 +303,8 @@ impl Parser<'_> {
 
     #[tactic(auto, unfolding(c_grammar::specs::ModelStatements::simple_of))]
     fn simple(&mut self, left: u8) -> Result<Stmt, Stopped>
-        ensures { Reads (model.simple_of (inside left) (model.below_at left) self.old.rest.now) result self.new.rest.now }
+        ensures { Reads (model.simple_of (inside left) (model.below_at left) self.old.rest.now)
+            result self.new.rest.now }
     {
         if self.is_word(Key::Return) {
             return self.return_statement(left);
@@ -293,7 +324,8 @@ impl Parser<'_> {
     #[cycle(statement)]
     #[tactic(auto, unfolding(c_grammar::specs::ModelStatements::stmt_of))]
     fn statement(&mut self, left: u8) -> Result<Stmt, Stopped>
-        ensures { Reads (model.stmt_of (inside left) (model.below_at left) self.old.rest.now) result self.new.rest.now }
+        ensures { Reads (model.stmt_of (inside left) (model.below_at left) self.old.rest.now) result
+            self.new.rest.now }
     {
         if self.is_next(Mark::LeftBrace) {
             return self.compound(left);

@@ -1,5 +1,5 @@
-//! Lists of tokens, each token on a line of its own, with the answer that C17 and docs/LANGUAGE.md give
-//! them.
+//! Lists of tokens, each token on a line of its own, with the answer that C17 and docs/LANGUAGE.md
+//! give them.
 
 use crate::{ParseFault, parse};
 use c_tree::{Form, Key, Kind, Lexeme, Mark, Word};
@@ -9,7 +9,7 @@ use std::test::Fail;
 
 /// A token of a row: the name `a`, the constant 1, or another one.
 #[derive(Clone, Copy, Debug)]
-enum Token {
+pub enum Token {
     Include,
     Key(Key),
     Mark(Mark),
@@ -17,40 +17,60 @@ enum Token {
     One,
 }
 
-use Token::{A, Include, One};
+pub use Token::{A, Include, One};
 
-const INT: Token = Token::Key(Key::Int);
-const VOID: Token = Token::Key(Key::Void);
-const IF: Token = Token::Key(Key::If);
-const ELSE: Token = Token::Key(Key::Else);
-const WHILE: Token = Token::Key(Key::While);
-const DO: Token = Token::Key(Key::Do);
-const FOR: Token = Token::Key(Key::For);
-const RETURN: Token = Token::Key(Key::Return);
-const OPEN: Token = Token::Mark(Mark::LeftParen);
-const CLOSE: Token = Token::Mark(Mark::RightParen);
-const BEGIN: Token = Token::Mark(Mark::LeftBrace);
-const END: Token = Token::Mark(Mark::RightBrace);
-const LEFT: Token = Token::Mark(Mark::LeftBracket);
-const RIGHT: Token = Token::Mark(Mark::RightBracket);
-const SEMICOLON: Token = Token::Mark(Mark::Semicolon);
-const COMMA: Token = Token::Mark(Mark::Comma);
-const ASSIGN: Token = Token::Mark(Mark::Assign);
-const PLUS: Token = Token::Mark(Mark::Plus);
-const MINUS: Token = Token::Mark(Mark::Minus);
-const QUESTION: Token = Token::Mark(Mark::Question);
-const COLON: Token = Token::Mark(Mark::Colon);
+pub const INT: Token = Token::Key(Key::Int);
+
+pub const VOID: Token = Token::Key(Key::Void);
+
+pub const IF: Token = Token::Key(Key::If);
+
+pub const ELSE: Token = Token::Key(Key::Else);
+
+pub const WHILE: Token = Token::Key(Key::While);
+
+pub const DO: Token = Token::Key(Key::Do);
+
+pub const FOR: Token = Token::Key(Key::For);
+
+pub const RETURN: Token = Token::Key(Key::Return);
+
+pub const OPEN: Token = Token::Mark(Mark::LeftParen);
+
+pub const CLOSE: Token = Token::Mark(Mark::RightParen);
+
+pub const BEGIN: Token = Token::Mark(Mark::LeftBrace);
+
+pub const END: Token = Token::Mark(Mark::RightBrace);
+
+pub const LEFT: Token = Token::Mark(Mark::LeftBracket);
+
+pub const RIGHT: Token = Token::Mark(Mark::RightBracket);
+
+pub const SEMICOLON: Token = Token::Mark(Mark::Semicolon);
+
+pub const COMMA: Token = Token::Mark(Mark::Comma);
+
+pub const ASSIGN: Token = Token::Mark(Mark::Assign);
+
+pub const PLUS: Token = Token::Mark(Mark::Plus);
+
+pub const MINUS: Token = Token::Mark(Mark::Minus);
+
+pub const QUESTION: Token = Token::Mark(Mark::Question);
+
+pub const COLON: Token = Token::Mark(Mark::Colon);
 
 /// How many items a unit has, or its fault's line.
 #[derive(Clone, Copy, Debug, PartialEq, Eq)]
-enum Answer {
+pub enum Answer {
     Items(usize),
     Syntax(u32),
     TooDeep(u32),
     Memory,
 }
 
-fn answer_to(alloc: Global, tokens: &[Lexeme]) -> Answer {
+pub fn answer_to(alloc: Global, tokens: &[Lexeme]) -> Answer {
     match parse(alloc, tokens) {
         Ok(program) => Answer::Items(program.items.len()),
         Err(ParseFault::Syntax(line)) => Answer::Syntax(line),
@@ -72,7 +92,7 @@ fn form_of(alloc: Global, token: Token) -> Result<Form, AllocError> {
     })
 }
 
-fn add(alloc: Global, list: &mut Vec<Lexeme>, tokens: &[Token]) -> Result<(), Fail> {
+pub fn add(alloc: Global, list: &mut Vec<Lexeme>, tokens: &[Token]) -> Result<(), Fail> {
     for token in tokens {
         let form = form_of(alloc, *token)?;
         let line = list.len().min(9_999) as u32 + 1;
@@ -92,23 +112,92 @@ const ROWS: [Row; 26] = [
     (&[VOID, A, SEMICOLON], Answer::Syntax(3)),
     (&[INT, A, LEFT, RIGHT, SEMICOLON], Answer::Syntax(5)),
     (&[INT, A, LEFT, One, RIGHT, SEMICOLON], Answer::Items(1)),
-    (&[INT, A, LEFT, RIGHT, ASSIGN, BEGIN, One, COMMA, END, SEMICOLON], Answer::Items(1)),
-    (&[INT, A, LEFT, RIGHT, ASSIGN, BEGIN, END, SEMICOLON], Answer::Syntax(7)),
-    (&[INT, A, LEFT, RIGHT, ASSIGN, BEGIN, One, COMMA, COMMA], Answer::Syntax(9)),
+    (
+        &[
+            INT, A, LEFT, RIGHT, ASSIGN, BEGIN, One, COMMA, END, SEMICOLON,
+        ],
+        Answer::Items(1),
+    ),
+    (
+        &[INT, A, LEFT, RIGHT, ASSIGN, BEGIN, END, SEMICOLON],
+        Answer::Syntax(7),
+    ),
+    (
+        &[INT, A, LEFT, RIGHT, ASSIGN, BEGIN, One, COMMA, COMMA],
+        Answer::Syntax(9),
+    ),
     (&[VOID, A, OPEN, VOID, CLOSE, SEMICOLON], Answer::Items(1)),
-    (&[INT, A, OPEN, INT, COMMA, INT, A, LEFT, RIGHT, CLOSE, SEMICOLON], Answer::Items(1)),
-    (&[INT, A, OPEN, INT, COMMA, CLOSE, SEMICOLON], Answer::Syntax(6)),
-    (&[INT, A, OPEN, CLOSE, BEGIN, RETURN, One, END], Answer::Syntax(8)),
-    (&[INT, A, OPEN, CLOSE, BEGIN, RETURN, OPEN, INT, CLOSE, One, SEMICOLON, END], Answer::Items(1)),
-    (&[INT, A, OPEN, CLOSE, BEGIN, RETURN, OPEN, INT, CLOSE, SEMICOLON, END], Answer::Syntax(10)),
-    (&[INT, A, OPEN, CLOSE, BEGIN, A, OPEN, CLOSE, SEMICOLON, END], Answer::Items(1)),
-    (&[INT, A, OPEN, CLOSE, BEGIN, A, ASSIGN, A, ASSIGN, One, SEMICOLON, END], Answer::Items(1)),
-    (&[INT, A, OPEN, CLOSE, BEGIN, A, PLUS, A, ASSIGN, One, SEMICOLON, END], Answer::Syntax(9)),
-    (&[INT, A, OPEN, CLOSE, BEGIN, ELSE, SEMICOLON, END], Answer::Syntax(6)),
-    (&[INT, A, OPEN, CLOSE, BEGIN, IF, OPEN, One, CLOSE, INT, A, SEMICOLON, END], Answer::Syntax(10)),
-    (&[INT, A, OPEN, CLOSE, BEGIN, FOR, OPEN, INT, A, SEMICOLON, SEMICOLON, CLOSE, SEMICOLON, END], Answer::Items(1)),
-    (&[INT, A, OPEN, CLOSE, BEGIN, FOR, OPEN, SEMICOLON, CLOSE, SEMICOLON, END], Answer::Syntax(9)),
-    (&[INT, A, OPEN, CLOSE, BEGIN, DO, SEMICOLON, WHILE, OPEN, One, CLOSE, END], Answer::Syntax(12)),
+    (
+        &[
+            INT, A, OPEN, INT, COMMA, INT, A, LEFT, RIGHT, CLOSE, SEMICOLON,
+        ],
+        Answer::Items(1),
+    ),
+    (
+        &[INT, A, OPEN, INT, COMMA, CLOSE, SEMICOLON],
+        Answer::Syntax(6),
+    ),
+    (
+        &[INT, A, OPEN, CLOSE, BEGIN, RETURN, One, END],
+        Answer::Syntax(8),
+    ),
+    (
+        &[
+            INT, A, OPEN, CLOSE, BEGIN, RETURN, OPEN, INT, CLOSE, One, SEMICOLON, END,
+        ],
+        Answer::Items(1),
+    ),
+    (
+        &[
+            INT, A, OPEN, CLOSE, BEGIN, RETURN, OPEN, INT, CLOSE, SEMICOLON, END,
+        ],
+        Answer::Syntax(10),
+    ),
+    (
+        &[INT, A, OPEN, CLOSE, BEGIN, A, OPEN, CLOSE, SEMICOLON, END],
+        Answer::Items(1),
+    ),
+    (
+        &[
+            INT, A, OPEN, CLOSE, BEGIN, A, ASSIGN, A, ASSIGN, One, SEMICOLON, END,
+        ],
+        Answer::Items(1),
+    ),
+    (
+        &[
+            INT, A, OPEN, CLOSE, BEGIN, A, PLUS, A, ASSIGN, One, SEMICOLON, END,
+        ],
+        Answer::Syntax(9),
+    ),
+    (
+        &[INT, A, OPEN, CLOSE, BEGIN, ELSE, SEMICOLON, END],
+        Answer::Syntax(6),
+    ),
+    (
+        &[
+            INT, A, OPEN, CLOSE, BEGIN, IF, OPEN, One, CLOSE, INT, A, SEMICOLON, END,
+        ],
+        Answer::Syntax(10),
+    ),
+    (
+        &[
+            INT, A, OPEN, CLOSE, BEGIN, FOR, OPEN, INT, A, SEMICOLON, SEMICOLON, CLOSE, SEMICOLON,
+            END,
+        ],
+        Answer::Items(1),
+    ),
+    (
+        &[
+            INT, A, OPEN, CLOSE, BEGIN, FOR, OPEN, SEMICOLON, CLOSE, SEMICOLON, END,
+        ],
+        Answer::Syntax(9),
+    ),
+    (
+        &[
+            INT, A, OPEN, CLOSE, BEGIN, DO, SEMICOLON, WHILE, OPEN, One, CLOSE, END,
+        ],
+        Answer::Syntax(12),
+    ),
     (&[INT, A, OPEN, CLOSE, BEGIN, END, END], Answer::Syntax(7)),
 ];
 
@@ -126,82 +215,11 @@ fn answers_each_list(rt: HostRuntime) -> Result<(), Fail> {
     assert_rows(&rt, rt.alloc(), &ROWS)
 }
 
-const HEAD: &[Token] = &[INT, A, OPEN, CLOSE, BEGIN];
-
-/// A construct in a function's body that stands in itself.
-struct Nest {
-    /// what begins the statement
-    before: &'static [Token],
-    opener: &'static [Token],
-    middle: &'static [Token],
-    closer: &'static [Token],
-    after: &'static [Token],
-    /// how many may stand in one another
-    most: usize,
-    /// the token of one more that is too deep, counted from its first one
-    deep: u32,
-}
-
-const NESTS: [Nest; 14] = [
-    Nest { before: &[RETURN], opener: &[OPEN], middle: &[One], closer: &[CLOSE], after: &[SEMICOLON], most: 62, deep: 0 },
-    Nest { before: &[RETURN], opener: &[MINUS], middle: &[One], closer: &[], after: &[SEMICOLON], most: 62, deep: 0 },
-    Nest { before: &[RETURN], opener: &[OPEN, INT, CLOSE], middle: &[One], closer: &[], after: &[SEMICOLON], most: 62, deep: 0 },
-    Nest { before: &[], opener: &[A, ASSIGN], middle: &[One], closer: &[], after: &[SEMICOLON], most: 62, deep: 1 },
-    Nest { before: &[], opener: &[A, OPEN], middle: &[], closer: &[CLOSE], after: &[SEMICOLON], most: 62, deep: 1 },
-    Nest { before: &[], opener: &[A, LEFT], middle: &[One], closer: &[RIGHT], after: &[SEMICOLON], most: 62, deep: 1 },
-    Nest { before: &[], opener: &[One, QUESTION], middle: &[One], closer: &[COLON, One], after: &[SEMICOLON], most: 62, deep: 1 },
-    Nest { before: &[], opener: &[One, QUESTION, One, COLON], middle: &[One], closer: &[], after: &[SEMICOLON], most: 62, deep: 1 },
-    Nest { before: &[], opener: &[BEGIN], middle: &[], closer: &[END], after: &[], most: 63, deep: 0 },
-    Nest { before: &[], opener: &[IF, OPEN, One, CLOSE], middle: &[SEMICOLON], closer: &[], after: &[], most: 62, deep: 4 },
-    Nest { before: &[], opener: &[IF, OPEN, One, CLOSE, SEMICOLON, ELSE], middle: &[SEMICOLON], closer: &[], after: &[], most: 62, deep: 4 },
-    Nest { before: &[], opener: &[WHILE, OPEN, One, CLOSE], middle: &[SEMICOLON], closer: &[], after: &[], most: 62, deep: 4 },
-    Nest { before: &[], opener: &[DO], middle: &[SEMICOLON], closer: &[WHILE, OPEN, One, CLOSE, SEMICOLON], after: &[], most: 62, deep: 1 },
-    Nest { before: &[], opener: &[FOR, OPEN, SEMICOLON, SEMICOLON, CLOSE], middle: &[SEMICOLON], closer: &[], after: &[], most: 62, deep: 5 },
-];
-
-fn nested(alloc: Global, nest: &Nest, count: usize) -> Result<Vec<Lexeme>, Fail> {
-    let mut list = Vec::new(alloc);
-    add(alloc, &mut list, HEAD)?;
-    add(alloc, &mut list, nest.before)?;
-    for _ in 0..count {
-        add(alloc, &mut list, nest.opener)?;
-    }
-    add(alloc, &mut list, nest.middle)?;
-    for _ in 0..count {
-        add(alloc, &mut list, nest.closer)?;
-    }
-    add(alloc, &mut list, nest.after)?;
-    add(alloc, &mut list, &[END])?;
-    Ok(list)
-}
-
-/// The line of the token that is too deep where one more stands than may.
-fn deep_line(nest: &Nest) -> u32 {
-    let before = (HEAD.len() + nest.before.len().min(9)) as u32;
-    let most = (nest.most.min(99) * nest.opener.len().min(9)) as u32;
-    before + most + nest.deep.min(9) + 1
-}
-
-fn assert_nests(rt: &impl Abort, alloc: Global, nests: &[Nest]) -> Result<(), Fail> {
-    for nest in nests {
-        let opener = nest.opener;
-        let list = nested(alloc, nest, nest.most)?;
-        assert_eq!(rt; answer_to(alloc, &list), Answer::Items(1), "{opener:?}");
-        let list = nested(alloc, nest, nest.most.min(99) + 1)?;
-        assert_eq!(rt; answer_to(alloc, &list), Answer::TooDeep(deep_line(nest)), "{opener:?}");
-    }
-    Ok(())
-}
-
-#[test]
-fn each_construct_may_stand_at_depth_64(rt: HostRuntime) -> Result<(), Fail> {
-    assert_nests(&rt, rt.alloc(), &NESTS)
-}
-
 const WHOLE: &[Token] = &[
-    INT, A, OPEN, INT, A, LEFT, RIGHT, CLOSE, BEGIN, INT, A, ASSIGN, One, COMMA, A, SEMICOLON, IF, OPEN, A, CLOSE,
-    WHILE, OPEN, A, CLOSE, SEMICOLON, ELSE, FOR, OPEN, A, SEMICOLON, A, SEMICOLON, A, CLOSE, BEGIN, END, RETURN, A,
-    QUESTION, OPEN, INT, CLOSE, One, COLON, A, OPEN, A, COMMA, One, CLOSE, SEMICOLON, END,
+    INT, A, OPEN, INT, A, LEFT, RIGHT, CLOSE, BEGIN, INT, A, ASSIGN, One, COMMA, A, SEMICOLON, IF,
+    OPEN, A, CLOSE, WHILE, OPEN, A, CLOSE, SEMICOLON, ELSE, FOR, OPEN, A, SEMICOLON, A, SEMICOLON,
+    A, CLOSE, BEGIN, END, RETURN, A, QUESTION, OPEN, INT, CLOSE, One, COLON, A, OPEN, A, COMMA,
+    One, CLOSE, SEMICOLON, END,
 ];
 
 #[test]
@@ -212,7 +230,11 @@ fn ends_too_early_after_each_token(rt: HostRuntime) -> Result<(), Fail> {
     for (at, token) in WHOLE.iter().enumerate() {
         add(alloc, &mut list, &[*token])?;
         let line = at.min(9_999) as u32 + 1;
-        let want = if list.len() == WHOLE.len() { Answer::Items(1) } else { Answer::Syntax(line) };
+        let want = if list.len() == WHOLE.len() {
+            Answer::Items(1)
+        } else {
+            Answer::Syntax(line)
+        };
         assert_eq!(rt; answer_to(alloc, &list), want, "after {line} tokens");
     }
     Ok(())

@@ -38,8 +38,15 @@ impl Parser<'_> {
 
     /// Behind `signed` or `unsigned`: the types with `char`, `int` and `long`.
     #[tactic(auto, unfolding(c_grammar::specs::ModelTypes::sized_of))]
-    fn sized(&mut self, line: u32, char: Kind, int: Kind, long: Kind) -> Result<(u32, Kind), Stopped>
-        ensures { Reads (model.sized_of line char int long self.old.rest.now) result self.new.rest.now }
+    fn sized(
+        &mut self,
+        line: u32,
+        char: Kind,
+        int: Kind,
+        long: Kind,
+    ) -> Result<(u32, Kind), Stopped>
+        ensures { Reads (model.sized_of line char int long self.old.rest.now) result
+            self.new.rest.now }
     {
         if self.is_word(Key::Char) {
             return self.char(line, char);

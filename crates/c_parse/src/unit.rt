@@ -15,8 +15,8 @@ use thiserror::Error;
 /// Why a list of tokens has no tree.
 #[derive(Debug, Drop, Error)]
 pub enum ParseFault {
-    /// No unit goes on with the token of this line; where the tokens only end too early, the line is
-    /// that of the last one, or 1 where there is none.
+    /// No unit goes on with the token of this line; where the tokens only end too early, the line
+    /// is that of the last one, or 1 where there is none.
     #[error("syntax error on line {0}")]
     Syntax(u32),
     /// A token of this line would open a construct at depth 65.

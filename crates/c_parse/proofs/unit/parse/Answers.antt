@@ -1,4 +1,4 @@
-use Rattle.std.proofs.Common.{◌≡◌, ℕ, sym, ◌∙◌}
+use Rattle.std.proofs.Common.{◌≡◌, sym, ◌∙◌}
 use Rattle.c_parse.specs.declared.unit.ParseFault.TheVariants as faults
 use Rattle.c_parse.proofs.Answered.{answers_unit, answers_syntax, answers_depth}
 use Rattle.c_parse.proofs.unit.parse.Goals as goal

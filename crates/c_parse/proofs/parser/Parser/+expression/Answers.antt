@@ -1,4 +1,4 @@
-use Rattle.std.proofs.Common.{◌≡◌, ℕ, suc, ◌+◌, ◌-◌, ◌<◌, length, arith, rules, sym, ap, ◌∙◌, subst, refl, List, false}
+use Rattle.std.proofs.Common.{◌+◌, ◌-◌, length, arith, rules, sym, ap, ◌∙◌, subst, refl, List, false}
 use Rattle.std.proofs.lemmas.Grind.{common_steps}
 use Rattle.c_tree.specs.declared.tree.Expr.{Expr}
 use Rattle.c_grammar.specs.Operators.{binary_level}
@@ -6,7 +6,7 @@ use Rattle.c_tree.specs.declared.token.Mark.TheVariants as marks
 use Rattle.c_grammar.specs.Parsing.{Out, and_then, listed}
 use Rattle.c_parse.specs.Reads.{Reads, behind}
 use Rattle.c_grammar.specs.ModelExpressions.{inside, loop, binary_of, assignment_of}
-use Rattle.c_parse.proofs.Turns.{listed_keeps, listed_fails, arg_list_init, assign_with, commas_of, comma_on, comma_off, commas_end, comma_shorter, binary_at, binary_zero, turn_on, turn_off, turns_end, turn_shorter}
+use Rattle.c_parse.proofs.Turns.{listed_keeps, arg_list_init, assign_with, commas_of, comma_on, comma_shorter, binary_at, binary_zero, turn_on, turns_end, turn_shorter}
 use Rattle.c_parse.proofs.parser.Parser.+expression.Goals as goal
 
 pub arg_list-loop-turn-init : goal.arg_list-loop-turn-init
@@ -66,7 +66,10 @@ binary-loop-op-smaller t c =
 pub binary-loop-op-preserved : goal.binary-loop-op-preserved
 binary-loop-op-preserved t c =
     let rest = c.binary-in-Some.new.self.rest.now in
-    let k = c.args.level - 1 in
-    (ap (λ (w : Expr). loop (binary_of (inside c.args.left) k) (binary_level k) (length rest) w rest) c.in_ok-whole-2.ensures
-    ∙ sym (turn_on c.args.left k (omega arith) c.loop-op.whole c.in_ok-right.right c.loop-op.self.rest.now rest c.in-Some.op (cc) (ap (binary_of (inside c.args.left) k) (sym c.advance.ensures) ∙ c.in_ok-right.ensures))
-    ∙ c.loop-op.invariant.0, omega arith, omega arith)
+    let k = c.args.level - 1 in (
+      ap (λ (w : Expr). loop (binary_of (inside c.args.left) k) (binary_level k) (length rest) w rest) c.in_ok-whole-2.ensures
+          ∙ sym (turn_on c.args.left k (omega arith) c.loop-op.whole c.in_ok-right.right c.loop-op.self.rest.now rest c.in-Some.op (cc) (ap (binary_of (inside c.args.left) k) (sym c.advance.ensures) ∙ c.in_ok-right.ensures))
+          ∙ c.loop-op.invariant.0,
+      omega arith,
+      omega arith,
+    )

@@ -1,4 +1,4 @@
-use Rattle.std.proofs.Common.{◌≡◌, ◌≤◌, ◌<◌, ℕ, suc, ◌+◌, ◌-◌, ◌*◌, length, false}
+use Rattle.std.proofs.Common.{◌≡◌, ◌<◌, ◌+◌, ◌-◌, ◌*◌, length, false}
 use Rattle.c_grammar.specs.Operators.{binary_level}
 use Rattle.c_grammar.specs.Parsing.{listed}
 use Rattle.c_grammar.specs.ModelExpressions.{arg_list_of, inside, loop, suffixes, binary_of, assignment_of, expression_of, postfix_of}

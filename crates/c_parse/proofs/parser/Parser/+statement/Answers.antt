@@ -1,11 +1,11 @@
-use Rattle.std.proofs.Common.{◌≡◌, ℕ, suc, ◌+◌, ◌-◌, ◌<◌, length, arith, rules, sym, ap, ◌∙◌, subst, refl, List, false}
+use Rattle.std.proofs.Common.{◌+◌, ◌-◌, length, sym, ap, ◌∙◌, subst, refl, List}
 use Rattle.c_tree.specs.declared.tree.Stmt.{Stmt}
 use Rattle.c_tree.specs.declared.token.Mark.TheVariants as marks
 use Rattle.c_grammar.specs.Parsing.{Out, many}
 use Rattle.c_grammar.specs.ModelExpressions.{inside}
 use Rattle.c_grammar.specs.ModelStatements.{entry_of, below_at}
 use Rattle.c_parse.specs.Reads.{Reads, behind}
-use Rattle.c_parse.proofs.Nested.{inner_none, inner_some, entries_init, many_keeps, many_done, many_fails}
+use Rattle.c_parse.proofs.Nested.{inner_none, inner_some, entries_init, many_keeps}
 use Rattle.c_parse.proofs.parser.Parser.+statement.Goals as goal
 
 pub entries-loop-turn-init : goal.entries-loop-turn-init

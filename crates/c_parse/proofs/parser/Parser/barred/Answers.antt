@@ -1,4 +1,4 @@
-use Rattle.std.proofs.Common.{◌≡◌, sym, ap, ◌∙◌}
+use Rattle.std.proofs.Common.{sym, ◌∙◌}
 use Rattle.c_grammar.specs.Parsing.{first, too_deep, syntax}
 use Rattle.c_grammar.specs.ModelStatements.{begins_statement}
 use Rattle.c_grammar.proofs.Agree.{if_true, if_false}

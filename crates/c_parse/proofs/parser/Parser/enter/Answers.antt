@@ -1,5 +1,4 @@
-use Rattle.std.proofs.Common.{◌≡◌, ℕ, suc, ◌+◌, ◌-◌, arith, sym, ap, ◌∙◌}
-use Rattle.c_parse.proofs.Turns.{listed_keeps, suffixes_of, commas_of, binary_at}
+use Rattle.std.proofs.Common.{◌-◌, arith, sym, ◌∙◌}
 use Rattle.c_parse.proofs.Enters.{enters_ok, enters_deep}
 use Rattle.c_parse.proofs.parser.Parser.enter.Goals as goal
 

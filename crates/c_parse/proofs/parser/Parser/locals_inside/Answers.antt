@@ -1,4 +1,4 @@
-use Rattle.std.proofs.Common.{◌≡◌, ◌-◌, sym, subst, List}
+use Rattle.std.proofs.Common.{sym, subst, List}
 use Rattle.c_tree.specs.declared.tree.Stmt.{Stmt}
 use Rattle.c_grammar.specs.Parsing.{Out}
 use Rattle.c_parse.specs.Reads.{Reads}

@@ -1,4 +1,4 @@
-use Rattle.std.proofs.Common.{◌≡◌, sym, ap, ◌∙◌}
+use Rattle.std.proofs.Common.{sym, ap, ◌∙◌}
 use Rattle.c_parse.proofs.Turns.{operator_here}
 use Rattle.c_parse.specs.Reads.{of_level}
 use Rattle.c_parse.proofs.parser.Parser.operator.Goals as goal

@@ -1,4 +1,4 @@
-use Rattle.std.proofs.Common.{◌≡◌, ℕ, ◌-◌, length, true}
+use Rattle.std.proofs.Common.{◌≡◌, ◌-◌, true}
 use Rattle.c_grammar.specs.Parsing.{listed}
 use Rattle.c_grammar.specs.ModelExpressions.{inside, conditional_of}
 use Rattle.c_grammar.specs.ModelUnits.{values_of}
