@@ -1,5 +1,6 @@
 -- What the outcome of the model says of the tokens.
-use Rattle.std.proofs.Common.{◌≡◌, ℕ, suc, ◌-◌, ◌≤◌, List, [], ◌∷◌, length, get_or, Result, Ok, Err, sym, ap, ◌∙◌, subst, arith}
+use Rattle.std.proofs.Common.{◌≡◌, ℕ, suc, ◌-◌, ◌≤◌, List, [], ◌∷◌, length, get_or, Result, Ok, Err, sym, ap, ◌∙◌}
+use Rattle.std.proofs.Common.{subst, arith}
 use Rattle.c_tree.specs.declared.token.Lexeme.{Lexeme}
 use Rattle.c_tree.specs.declared.tree.Top.{Top}
 use Rattle.c_grammar.specs.Tokens.{Tokens}
@@ -28,7 +29,8 @@ has_fault tokens [] e = too_short (exact_here tokens (syntax []) e)
 has_fault tokens (t ∷ rest) e = wrong_token (exact_here tokens (syntax (t ∷ rest)) e).1
 
 -- a stop for depth is at the first opener that is too deep, unless the tokens end with it
-has_depth_fault : (tokens rest : Tokens) → unit_of 63 tokens ≡ too_deep rest → ParseFails tokens (depth_fault tokens rest)
+has_depth_fault : (tokens rest : Tokens) → unit_of 63 tokens ≡ too_deep rest
+    → ParseFails tokens (depth_fault tokens rest)
 has_depth_fault tokens [] e = absurd (exact_here tokens (too_deep []) e)
 has_depth_fault tokens (t ∷ []) e = too_short (exact_here tokens (too_deep (t ∷ [])) e)
 has_depth_fault tokens (t ∷ u ∷ rest) e = opener (exact_here tokens (too_deep (t ∷ u ∷ rest)) e).1
@@ -36,17 +38,24 @@ has_depth_fault tokens (t ∷ u ∷ rest) e = opener (exact_here tokens (too_dee
 -- the same of what the parser answers
 module _ (tokens rest : Tokens) (r : Result (List Top) Stopped) (reads : Reads (unit_of 63 tokens) r rest) where
   pub answers_unit : (xs : List Top) → r ≡ Ok xs → IsUnit tokens xs
-  answers_unit xs e = is_unit tokens rest xs (subst (λ (r : Result (List Top) Stopped). Reads (unit_of 63 tokens) r rest) e reads)
+  answers_unit xs e =
+      is_unit tokens rest xs (subst (λ (r : Result (List Top) Stopped). Reads (unit_of 63 tokens) r rest) e reads)
 
   pub answers_syntax : (line : ℕ) → r ≡ Err stopped.Syntax → fault_line tokens rest ≡ line → HasSyntaxFault tokens line
-  answers_syntax line e f = subst (HasSyntaxFault tokens) f (has_fault tokens rest (subst (λ (r : Result (List Top) Stopped). Reads (unit_of 63 tokens) r rest) e reads))
+  answers_syntax line e f =
+      subst (HasSyntaxFault tokens) f (has_fault tokens rest
+      (subst (λ (r : Result (List Top) Stopped). Reads (unit_of 63 tokens) r rest) e reads))
 
-  pub answers_depth : (fault : ParseFault) → r ≡ Err stopped.TooDeep → depth_fault tokens rest ≡ fault → ParseFails tokens fault
-  answers_depth fault e f = subst (ParseFails tokens) f (has_depth_fault tokens rest (subst (λ (r : Result (List Top) Stopped). Reads (unit_of 63 tokens) r rest) e reads))
+  pub answers_depth : (fault : ParseFault) → r ≡ Err stopped.TooDeep → depth_fault tokens rest ≡ fault
+      → ParseFails tokens fault
+  answers_depth fault e f =
+      subst (ParseFails tokens) f (has_depth_fault tokens rest
+      (subst (λ (r : Result (List Top) Stopped). Reads (unit_of 63 tokens) r rest) e reads))
 
 -- the last token's line
 pub last_is : (ts : Tokens) (t : Lexeme) → 1 ≤ length ts → t ≡ get_or ts (length ts - 1) t → last_line ts ≡ t.line
 last_is [] t le e = absurd (omega (arith, le))
 last_is (u ∷ []) t le e = ap (λ (t : Lexeme). t.line) (sym e)
 last_is (u ∷ v ∷ ts) t le e =
-    let i : length (u ∷ v ∷ ts) - 1 ≡ suc (length (v ∷ ts) - 1) = omega arith in last_is (v ∷ ts) t (omega arith) (e ∙ ap (λ (n : ℕ). get_or (u ∷ v ∷ ts) n t) i)
+    let i : length (u ∷ v ∷ ts) - 1 ≡ suc (length (v ∷ ts) - 1) = omega arith in last_is (v ∷ ts) t (omega arith)
+    (e ∙ ap (λ (n : ℕ). get_or (u ∷ v ∷ ts) n t) i)

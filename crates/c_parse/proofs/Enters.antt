@@ -18,13 +18,22 @@ inside_none = refl
 abbrev line_here : ℕ → Tokens → Out ℕ
 line_here l ts = Ok (l, ts)
 
-enter_by : (k : Mark) (n : Nested) (b : Bool) (ts : Tokens) → n.allowed ≡ b → is_next k ts ≡ true → enter k n ts ≡ cond b (line_here (line_of ts) (tail ts)) (too_deep ts)
-enter_by k n b ts e h = if_true (is_next k ts) _ (syntax ts) h ∙ ap (λ (b : Bool). cond b (line_here (line_of ts) (tail ts)) (too_deep ts)) e
+enter_by : (k : Mark) (n : Nested) (b : Bool) (ts : Tokens) → n.allowed ≡ b → is_next k ts ≡ true
+    → enter k n ts ≡ cond b (line_here (line_of ts) (tail ts)) (too_deep ts)
+enter_by k n b ts e h =
+    if_true (is_next k ts) _ (syntax ts) h ∙ ap (λ (b : Bool). cond b (line_here (line_of ts) (tail ts)) (too_deep ts))
+    e
 
-pub enters_ok : (k : Mark) (left l : ℕ) (old new : Tokens) → is_next k old ≡ true → left ≡ suc l → new ≡ tail old → Enters k left old (Ok l) new
+pub enters_ok : (k : Mark) (left l : ℕ) (old new : Tokens) → is_next k old ≡ true → left ≡ suc l → new ≡ tail old
+    → Enters k left old (Ok l) new
 enters_ok k left l old new h e t =
-    let i : inside left ≡ opened l = ap inside e ∙ inside_is l in
-    (e, i, enter_by k (inside left) true old (ap (λ (n : Nested). n.allowed) i) h ∙ ap (λ (u : Tokens). line_here (line_of old) u) (sym t))
+    let i : inside left ≡ opened l = ap inside e ∙ inside_is l in (
+      e,
+      i,
+      enter_by k (inside left) true old (ap (λ (n : Nested). n.allowed) i) h
+          ∙ ap (λ (u : Tokens). line_here (line_of old) u) (sym t),
+    )
 
-pub enters_deep : (k : Mark) (left : ℕ) (old : Tokens) → is_next k old ≡ true → left ≡ 0 → enter k (inside left) old ≡ too_deep old
+pub enters_deep : (k : Mark) (left : ℕ) (old : Tokens) → is_next k old ≡ true → left ≡ 0
+    → enter k (inside left) old ≡ too_deep old
 enters_deep k left old h e = enter_by k (inside left) false old (ap (λ (n : ℕ). (inside n).allowed) e ∙ inside_none) h

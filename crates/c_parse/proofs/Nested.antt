@@ -1,5 +1,6 @@
 -- What stands one deeper, and the loops of statements.
-use Rattle.std.proofs.Common.{◌≡◌, ℕ, suc, ◌+◌, ◌-◌, ◌<◌, true, false, cond, List, [], ◌∷◌, ◌++◌, length, Ok, Err, refl, sym, ap, ◌∙◌, arith, append_assoc}
+use Rattle.std.proofs.Common.{◌≡◌, ℕ, suc, ◌+◌, ◌-◌, ◌<◌, true, false, cond, List, [], ◌∷◌, ◌++◌, length, Ok, Err, refl}
+use Rattle.std.proofs.Common.{sym, ap, ◌∙◌, arith, append_assoc}
 use Rattle.c_tree.specs.declared.token.Kind.{Kind}
 use Rattle.c_tree.specs.declared.token.Mark.{Mark}
 use Rattle.c_tree.specs.declared.token.Mark.TheVariants as mark
@@ -7,7 +8,8 @@ use Rattle.c_grammar.specs.Tokens.{Tokens}
 use Rattle.c_grammar.specs.Parsing.{Stop, Out, and_then, syntax, too_deep, tail, first, is_next, listed, many}
 use Rattle.c_grammar.specs.ModelTypes.{begins_type}
 use Rattle.c_grammar.specs.ModelExpressions.{inside}
-use Rattle.c_grammar.specs.ModelStatements.{begins_statement, decl_of, decls_of, locals_of, entry_of, entries_of, stmt_of, below_at}
+use Rattle.c_grammar.specs.ModelStatements.{begins_statement, decl_of, decls_of, locals_of, entry_of, entries_of}
+use Rattle.c_grammar.specs.ModelStatements.{stmt_of, below_at}
 use Rattle.c_parse.specs.Reads.{behind, Fails}
 use Rattle.c_parse.specs.declared.fault.Stopped.{Stopped}
 use Rattle.c_parse.specs.declared.fault.Stopped.TheVariants as stopped
@@ -35,16 +37,23 @@ locals_next n ts = refl
 pub inner_none : (left : ℕ) (ts : Tokens) → left ≡ 0 → (below_at left).inner ts ≡ (below_at 0).inner ts
 inner_none left ts e = ap (λ (n : ℕ). (below_at n).inner ts) e
 
-pub inner_some : (left : ℕ) (ts : Tokens) → (left ≡ 0 → ⊥) → (below_at left).inner ts ≡ stmt_of (inside (left - 1)) (below_at (left - 1)) ts
-inner_some left ts h = let e : left ≡ suc (left - 1) = omega (arith, h) in ap (λ (n : ℕ). (below_at n).inner ts) e ∙ inner_next (left - 1) ts
+pub inner_some : (left : ℕ) (ts : Tokens) → (left ≡ 0 → ⊥)
+    → (below_at left).inner ts ≡ stmt_of (inside (left - 1)) (below_at (left - 1)) ts
+inner_some left ts h =
+    let e : left ≡ suc (left - 1) = omega (arith, h) in ap (λ (n : ℕ). (below_at n).inner ts) e
+    ∙ inner_next (left - 1) ts
 
 pub locals_none : (left : ℕ) (ts : Tokens) → left ≡ 0 → (below_at left).locals ts ≡ (below_at 0).locals ts
 locals_none left ts e = ap (λ (n : ℕ). (below_at n).locals ts) e
 
-pub locals_some : (left : ℕ) (ts : Tokens) → (left ≡ 0 → ⊥) → (below_at left).locals ts ≡ locals_of (inside (left - 1)) ts
-locals_some left ts h = let e : left ≡ suc (left - 1) = omega (arith, h) in ap (λ (n : ℕ). (below_at n).locals ts) e ∙ locals_next (left - 1) ts
+pub locals_some : (left : ℕ) (ts : Tokens) → (left ≡ 0 → ⊥)
+    → (below_at left).locals ts ≡ locals_of (inside (left - 1)) ts
+locals_some left ts h =
+    let e : left ≡ suc (left - 1) = omega (arith, h) in ap (λ (n : ℕ). (below_at n).locals ts) e
+    ∙ locals_next (left - 1) ts
 
-pub decls_init : (left turns : ℕ) (k : Kind) (ts : Tokens) → turns ≡ length ts + 1 → behind [] (listed mark.Semicolon false (decl_of (inside left) k) (turns - 0) ts) ≡ decls_of (inside left) k ts
+pub decls_init : (left turns : ℕ) (k : Kind) (ts : Tokens) → turns ≡ length ts + 1
+    → behind [] (listed mark.Semicolon false (decl_of (inside left) k) (turns - 0) ts) ≡ decls_of (inside left) k ts
 unfolding decls_of
 decls_init left turns k ts e = listed_init mark.Semicolon (decl_of (inside left) k) turns ts e
 
@@ -54,35 +63,54 @@ append_nil : {A : Type 0} (xs : List A) → xs ++ [] ≡ xs
 append_nil [] = refl
 append_nil {A} (x ∷ xs) = ap (λ (u : List A). x ∷ u) (append_nil xs)
 
-appended : {A : Type 0} (found xs : List A) (out : Out (List A)) → behind found (and_then out (λ ys ts. Ok (xs ++ ys, ts))) ≡ behind (found ++ xs) out
+appended : {A : Type 0} (found xs : List A) (out : Out (List A))
+    → behind found (and_then out (λ ys ts. Ok (xs ++ ys, ts))) ≡ behind (found ++ xs) out
 appended found xs (Ok p) = ap (λ ys. Ok (ys, p.1)) (sym (append_assoc found xs p.0))
 appended found xs (Err s) = refl
 
 module _ {A : Type 0} (k : Mark) (run : Tokens → Out (List A)) where
-  many_turn : (n n' : ℕ) (found xs : List A) (ts mid : Tokens) → n ≡ suc n' → is_next k ts ≡ false → run ts ≡ Ok (xs, mid) → behind found (many k run n ts) ≡ behind (found ++ xs) (many k run n' mid)
+  many_turn : (n n' : ℕ) (found xs : List A) (ts mid : Tokens) → n ≡ suc n' → is_next k ts ≡ false
+      → run ts ≡ Ok (xs, mid) → behind found (many k run n ts) ≡ behind (found ++ xs) (many k run n' mid)
   many_turn n n' found xs ts mid e c h = rw e (rw c (rw h (appended found xs (many k run n' mid))))
 
-  many_last : (n n' : ℕ) (found : List A) (ts : Tokens) → n ≡ suc n' → is_next k ts ≡ true → behind found (many k run n ts) ≡ Ok (found, tail ts)
+  many_last : (n n' : ℕ) (found : List A) (ts : Tokens) → n ≡ suc n' → is_next k ts ≡ true
+      → behind found (many k run n ts) ≡ Ok (found, tail ts)
   many_last n n' found ts e c = rw e (rw c (ap (λ (ys : List A). Ok (ys, tail ts)) (append_nil found)))
 
-  many_err : (n n' : ℕ) (found : List A) (ts : Tokens) (s : Stop) → n ≡ suc n' → is_next k ts ≡ false → run ts ≡ Err s → behind found (many k run n ts) ≡ Err s
+  many_err : (n n' : ℕ) (found : List A) (ts : Tokens) (s : Stop) → n ≡ suc n' → is_next k ts ≡ false → run ts ≡ Err s
+      → behind found (many k run n ts) ≡ Err s
   many_err n n' found ts s e c h = rw e (rw c (rw h refl))
 
-  pub many_keeps : (turns turn' : ℕ) (found found' : List A) (ts rest : Tokens) (xs : List A) (whole : Out (List A)) → turn' < turns → behind found (many k run (turns - turn') ts) ≡ whole → is_next k ts ≡ false → run ts ≡ Ok (xs, rest)
+  pub many_keeps : (turns turn' : ℕ) (found found' : List A) (ts rest : Tokens) (xs : List A) (whole : Out (List A))
+      → turn' < turns → behind found (many k run (turns - turn') ts) ≡ whole → is_next k ts ≡ false
+      → run ts ≡ Ok (xs, rest)
       → found' ≡ found ++ xs → behind found' (many k run (turns - (turn' + 1)) rest) ≡ whole
-  many_keeps turns turn' found found' ts rest xs whole lt inv c h e = rw e (sym (many_turn (turns - turn') (turns - (turn' + 1)) found xs ts rest (omega (arith, lt)) c h) ∙ inv)
+  many_keeps turns turn' found found' ts rest xs whole lt inv c h e =
+      rw e (sym (many_turn (turns - turn') (turns - (turn' + 1)) found xs ts rest (omega (arith, lt)) c h) ∙ inv)
 
-  pub many_done : (turns turn' : ℕ) (found : List A) (ts rest : Tokens) (whole : Out (List A)) → turn' < turns → behind found (many k run (turns - turn') ts) ≡ whole → is_next k ts ≡ true → rest ≡ tail ts → whole ≡ Ok (found, rest)
-  many_done turns turn' found ts rest whole lt inv c e = sym inv ∙ many_last (turns - turn') (turns - (turn' + 1)) found ts (omega (arith, lt)) c ∙ ap (λ (u : Tokens). Ok (found, u)) (sym e)
+  pub many_done : (turns turn' : ℕ) (found : List A) (ts rest : Tokens) (whole : Out (List A)) → turn' < turns
+      → behind found (many k run (turns - turn') ts) ≡ whole → is_next k ts ≡ true → rest ≡ tail ts
+      → whole ≡ Ok (found, rest)
+  many_done turns turn' found ts rest whole lt inv c e =
+      sym inv ∙ many_last (turns - turn') (turns - (turn' + 1)) found ts (omega (arith, lt)) c
+      ∙ ap (λ (u : Tokens). Ok (found, u)) (sym e)
 
-  pub many_fails : (turns turn' : ℕ) (found : List A) (ts new : Tokens) (e : Stopped) (whole : Out (List A)) → turn' < turns → behind found (many k run (turns - turn') ts) ≡ whole → is_next k ts ≡ false → Fails (run ts) e new → Fails whole e new
-  many_fails turns turn' found ts new stopped.Syntax whole lt inv c h = sym inv ∙ many_err (turns - turn') (turns - (turn' + 1)) found ts _ (omega (arith, lt)) c h
-  many_fails turns turn' found ts new stopped.TooDeep whole lt inv c h = sym inv ∙ many_err (turns - turn') (turns - (turn' + 1)) found ts _ (omega (arith, lt)) c h
+  pub many_fails : (turns turn' : ℕ) (found : List A) (ts new : Tokens) (e : Stopped) (whole : Out (List A))
+      → turn' < turns → behind found (many k run (turns - turn') ts) ≡ whole → is_next k ts ≡ false
+      → Fails (run ts) e new → Fails whole e new
+  many_fails turns turn' found ts new stopped.Syntax whole lt inv c h =
+      sym inv ∙ many_err (turns - turn') (turns - (turn' + 1)) found ts _ (omega (arith, lt)) c h
+  many_fails turns turn' found ts new stopped.TooDeep whole lt inv c h =
+      sym inv ∙ many_err (turns - turn') (turns - (turn' + 1)) found ts _ (omega (arith, lt)) c h
   many_fails turns turn' found ts new stopped.Memory whole lt inv c h = tt
 
-  many_init : (turns : ℕ) (ts : Tokens) → turns ≡ length ts + 1 → behind [] (many k run (turns - 0) ts) ≡ many k run (suc (length ts)) ts
-  many_init turns ts e = let i : turns - 0 ≡ suc (length ts) = omega (arith, e) in behind_none _ ∙ ap (λ (n : ℕ). many k run n ts) i
+  many_init : (turns : ℕ) (ts : Tokens) → turns ≡ length ts + 1
+      → behind [] (many k run (turns - 0) ts) ≡ many k run (suc (length ts)) ts
+  many_init turns ts e =
+      let i : turns - 0 ≡ suc (length ts) = omega (arith, e) in behind_none _ ∙ ap (λ (n : ℕ). many k run n ts) i
 
-pub entries_init : (left turns : ℕ) (ts : Tokens) → turns ≡ length ts + 1 → behind [] (many mark.RightBrace (entry_of (inside left) (below_at left)) (turns - 0) ts) ≡ entries_of (inside left) (below_at left) ts
+pub entries_init : (left turns : ℕ) (ts : Tokens) → turns ≡ length ts + 1
+    → behind [] (many mark.RightBrace (entry_of (inside left) (below_at left)) (turns - 0) ts) ≡ entries_of
+    (inside left) (below_at left) ts
 unfolding entries_of
 entries_init left turns ts e = many_init mark.RightBrace (entry_of (inside left) (below_at left)) turns ts e

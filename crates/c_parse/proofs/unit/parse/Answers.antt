@@ -4,19 +4,23 @@ use Rattle.c_parse.proofs.Answered.{answers_unit, answers_syntax, answers_depth}
 use Rattle.c_parse.proofs.unit.parse.Goals as goal
 
 pub returns-in-Ok-clause-ok : goal.returns-in-Ok-clause-ok
-returns-in-Ok-clause-ok c = answers_unit c.args.tokens.now c.unit.new.self.rest.now c.unit.result c.unit.ensures c.in-Ok.items (cc)
+returns-in-Ok-clause-ok c =
+    answers_unit c.args.tokens.now c.unit.new.self.rest.now c.unit.result c.unit.ensures c.in-Ok.items (cc)
 
 pub returns-in-Err-Syntax-clause-syntax : goal.returns-in-Err-Syntax-clause-syntax
 returns-in-Err-Syntax-clause-syntax c = λ line e.
     let h : c.fault_line.result ≡ line = cc in
-    answers_syntax c.args.tokens.now c.unit.new.self.rest.now c.unit.result c.unit.ensures line (cc) (sym c.fault_line.ensures ∙ h)
+    answers_syntax c.args.tokens.now c.unit.new.self.rest.now c.unit.result c.unit.ensures line (cc)
+    (sym c.fault_line.ensures ∙ h)
 
 pub returns-in-Err-TooDeep-clause-syntax : goal.returns-in-Err-TooDeep-clause-syntax
 returns-in-Err-TooDeep-clause-syntax c = λ line e.
     let h : c.depth_fault.result ≡ faults.Syntax line = cc in
-    answers_depth c.args.tokens.now c.unit.new.self.rest.now c.unit.result c.unit.ensures (faults.Syntax line) (cc) (sym c.depth_fault.ensures ∙ h)
+    answers_depth c.args.tokens.now c.unit.new.self.rest.now c.unit.result c.unit.ensures (faults.Syntax line) (cc)
+    (sym c.depth_fault.ensures ∙ h)
 
 pub returns-in-Err-TooDeep-clause-too_deep : goal.returns-in-Err-TooDeep-clause-too_deep
 returns-in-Err-TooDeep-clause-too_deep c = λ line e.
     let h : c.depth_fault.result ≡ faults.TooDeep line = cc in
-    answers_depth c.args.tokens.now c.unit.new.self.rest.now c.unit.result c.unit.ensures (faults.TooDeep line) (cc) (sym c.depth_fault.ensures ∙ h)
+    answers_depth c.args.tokens.now c.unit.new.self.rest.now c.unit.result c.unit.ensures (faults.TooDeep line) (cc)
+    (sym c.depth_fault.ensures ∙ h)

@@ -1,7 +1,8 @@
 use Rattle.std.proofs.Common.{◌≡◌, ◌<◌, ◌+◌, ◌-◌, ◌*◌, length, false}
 use Rattle.c_grammar.specs.Operators.{binary_level}
 use Rattle.c_grammar.specs.Parsing.{listed}
-use Rattle.c_grammar.specs.ModelExpressions.{arg_list_of, inside, loop, suffixes, binary_of, assignment_of, expression_of, postfix_of}
+use Rattle.c_grammar.specs.ModelExpressions.{arg_list_of, inside, loop, suffixes, binary_of, assignment_of}
+use Rattle.c_grammar.specs.ModelExpressions.{expression_of, postfix_of}
 use Rattle.c_tree.specs.declared.token.Mark.TheVariants as marks
 use Rattle.c_parse.specs.Reads.{opened, behind}
 use Rattle.c_parse.proofs.parser.Parser.+expression.Given as goal
@@ -81,20 +82,24 @@ invariant-arg_list-loop-turn l =
     ≡ arg_list_of (opened l.left) l.fn.self.rest.now
 
 abbrev pub invariant-postfix-loop-op : goal.invariant-postfix-loop-op
-invariant-postfix-loop-op l = suffixes (length l.self.rest.now) l.whole l.self.rest.now ≡ postfix_of (inside l.left) l.fn.self.rest.now
+invariant-postfix-loop-op l =
+    suffixes (length l.self.rest.now) l.whole l.self.rest.now ≡ postfix_of (inside l.left) l.fn.self.rest.now
 
 abbrev pub decreases-postfix-loop-op : goal.decreases-postfix-loop-op
 decreases-postfix-loop-op l = length l.self.rest.now
 
 abbrev pub invariant-binary-loop-op : goal.invariant-binary-loop-op
 invariant-binary-loop-op l =
-    (loop (binary_of (inside l.left) l.below) (binary_level l.below) (length l.self.rest.now) l.whole l.self.rest.now ≡ binary_of (inside l.left) l.level l.fn.self.rest.now) × (l.level ≡ l.below + 1) × (l.below < 10)
+    (loop (binary_of (inside l.left) l.below) (binary_level l.below) (length l.self.rest.now) l.whole
+    l.self.rest.now ≡ binary_of (inside l.left) l.level l.fn.self.rest.now) × (l.level ≡ l.below + 1) × (l.below < 10)
 
 abbrev pub decreases-binary-loop-op : goal.decreases-binary-loop-op
 decreases-binary-loop-op l = length l.self.rest.now
 
 abbrev pub invariant-expression-loop-self : goal.invariant-expression-loop-self
-invariant-expression-loop-self l = loop (assignment_of (inside l.left)) 15 (length l.self.rest.now) l.whole l.self.rest.now ≡ expression_of (inside l.left) l.fn.self.rest.now
+invariant-expression-loop-self l =
+    loop (assignment_of (inside l.left)) 15 (length l.self.rest.now) l.whole l.self.rest.now ≡ expression_of
+    (inside l.left) l.fn.self.rest.now
 
 abbrev pub decreases-expression-loop-self : goal.decreases-expression-loop-self
 decreases-expression-loop-self l = length l.self.rest.now

@@ -47,4 +47,5 @@ decreases-statement l = 16 * l.left + 6
 
 abbrev pub invariant-entries-loop-turn : goal.invariant-entries-loop-turn
 invariant-entries-loop-turn l =
-    behind l.found (many marks.RightBrace (entry_of (inside l.left) (below_at l.left)) (l.turns - l._turn) l.self.rest.now) ≡ entries_of (inside l.left) (below_at l.left) l.fn.self.rest.now
+    behind l.found (many marks.RightBrace (entry_of (inside l.left) (below_at l.left)) (l.turns - l._turn)
+    l.self.rest.now) ≡ entries_of (inside l.left) (below_at l.left) l.fn.self.rest.now

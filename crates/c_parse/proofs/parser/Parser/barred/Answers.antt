@@ -7,8 +7,12 @@ use Rattle.c_parse.proofs.parser.Parser.barred.Goals as goal
 
 pub returns-then-begins_statement : goal.returns-then-begins_statement
 returns-then-begins_statement c =
-    inner_zero c.args.self.now.rest.now ∙ if_true (first begins_statement c.args.self.now.rest.now) (too_deep c.args.self.now.rest.now) (syntax c.args.self.now.rest.now) (sym c.begins_statement.ensures ∙ c.if-begins_statement.true)
+    inner_zero c.args.self.now.rest.now ∙ if_true (first begins_statement c.args.self.now.rest.now)
+    (too_deep c.args.self.now.rest.now) (syntax c.args.self.now.rest.now)
+    (sym c.begins_statement.ensures ∙ c.if-begins_statement.true)
 
 pub returns-else-begins_statement : goal.returns-else-begins_statement
 returns-else-begins_statement c =
-    inner_zero c.args.self.now.rest.now ∙ if_false (first begins_statement c.args.self.now.rest.now) (too_deep c.args.self.now.rest.now) (syntax c.args.self.now.rest.now) (sym c.begins_statement.ensures ∙ c.if-begins_statement.false)
+    inner_zero c.args.self.now.rest.now ∙ if_false (first begins_statement c.args.self.now.rest.now)
+    (too_deep c.args.self.now.rest.now) (syntax c.args.self.now.rest.now)
+    (sym c.begins_statement.ensures ∙ c.if-begins_statement.false)

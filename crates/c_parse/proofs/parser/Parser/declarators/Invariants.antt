@@ -7,4 +7,6 @@ use Rattle.c_parse.specs.Reads.{behind}
 use Rattle.c_parse.proofs.parser.Parser.declarators.Given as goal
 
 abbrev pub invariant-loop-turn : goal.invariant-loop-turn
-invariant-loop-turn l = behind l.found (listed marks.Semicolon false (decl_of (inside l.left) l.kind) (l.turns - l._turn) l.self.rest.now) ≡ decls_of (inside l.left) l.kind l.fn.self.rest.now
+invariant-loop-turn l =
+    behind l.found (listed marks.Semicolon false (decl_of (inside l.left) l.kind) (l.turns - l._turn)
+    l.self.rest.now) ≡ decls_of (inside l.left) l.kind l.fn.self.rest.now

@@ -11,10 +11,13 @@ use Rattle.c_parse.proofs.parser.Parser.global_list.Goals as goal
 
 pub loop-turn-init : goal.loop-turn-init
 loop-turn-init c =
-    ap (λ (found : List Top). behind found (listed marks.Semicolon false (global_of (inside c.args.left) c.args.kind) (length c.args.self.now.rest.now + 1 - 0) c.args.self.now.rest.now)) c.in_ok-found.ensures
-    ∙ globals_init c.args.left (length c.args.self.now.rest.now + 1) c.args.kind c.args.first c.args.self.now.rest.now refl
+    ap (λ (found : List Top). behind found (listed marks.Semicolon false (global_of (inside c.args.left) c.args.kind)
+    (length c.args.self.now.rest.now + 1 - 0) c.args.self.now.rest.now)) c.in_ok-found.ensures
+    ∙ globals_init c.args.left (length c.args.self.now.rest.now + 1) c.args.kind c.args.first c.args.self.now.rest.now
+    refl
 
 pub loop-turn-preserved : goal.loop-turn-preserved
 loop-turn-preserved c =
-    listed_keeps marks.Semicolon (global_of (inside c.args.left) c.args.kind) (length c.args.self.now.rest.now + 1) c.loop-turn._turn c.loop-turn.found _ c.loop-turn.self.rest.now c.global.new.self.rest.now _ c.in_ok-global.global _
+    listed_keeps marks.Semicolon (global_of (inside c.args.left) c.args.kind) (length c.args.self.now.rest.now + 1)
+    c.loop-turn._turn c.loop-turn.found _ c.loop-turn.self.rest.now c.global.new.self.rest.now _ c.in_ok-global.global _
     c.loop-turn-test.true c.loop-turn.invariant c.in_ok-global.ensures (cc) c.in_ok-push.ensures.ok c.advance.ensures

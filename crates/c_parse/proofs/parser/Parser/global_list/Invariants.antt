@@ -9,4 +9,5 @@ use Rattle.c_parse.proofs.parser.Parser.global_list.Given as goal
 
 abbrev pub invariant-loop-turn : goal.invariant-loop-turn
 invariant-loop-turn l =
-    behind l.found (listed marks.Semicolon false (global_of (inside l.left) l.kind) (l.turns - l._turn) l.self.rest.now) ≡ behind (l.fn.first ∷ []) (global_list_of (inside l.left) l.kind l.fn.self.rest.now)
+    behind l.found (listed marks.Semicolon false (global_of (inside l.left) l.kind) (l.turns - l._turn)
+    l.self.rest.now) ≡ behind (l.fn.first ∷ []) (global_list_of (inside l.left) l.kind l.fn.self.rest.now)

@@ -7,8 +7,10 @@ use Rattle.c_parse.proofs.parser.Parser.locals_inside.Goals as goal
 
 pub returns-then-left-eq0 : goal.returns-then-left-eq0
 returns-then-left-eq0 c =
-    subst (λ (o : Out (List Stmt)). Reads o c.no_locals.result c.no_locals.new.self.rest.now) (sym (locals_none c.args.left c.args.self.now.rest.now c.if-left-eq0.true)) c.no_locals.ensures
+    subst (λ (o : Out (List Stmt)). Reads o c.no_locals.result c.no_locals.new.self.rest.now)
+    (sym (locals_none c.args.left c.args.self.now.rest.now c.if-left-eq0.true)) c.no_locals.ensures
 
 pub returns : goal.returns
 returns c =
-    subst (λ (o : Out (List Stmt)). Reads o c.locals.result c.locals.new.self.rest.now) (sym (locals_some c.args.left c.args.self.now.rest.now c.if-left-eq0.false)) c.locals.ensures
+    subst (λ (o : Out (List Stmt)). Reads o c.locals.result c.locals.new.self.rest.now)
+    (sym (locals_some c.args.left c.args.self.now.rest.now c.if-left-eq0.false)) c.locals.ensures

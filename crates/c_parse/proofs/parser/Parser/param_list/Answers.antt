@@ -11,10 +11,12 @@ use Rattle.c_parse.proofs.parser.Parser.param_list.Goals as goal
 
 pub loop-turn-init : goal.loop-turn-init
 loop-turn-init c =
-    ap (λ (found : List Param). behind found (listed marks.RightParen false (param_of (inside c.args.left)) (length c.args.self.now.rest.now + 1 - 0) c.args.self.now.rest.now)) c.new-found.ensures.value
+    ap (λ (found : List Param). behind found (listed marks.RightParen false (param_of (inside c.args.left))
+    (length c.args.self.now.rest.now + 1 - 0) c.args.self.now.rest.now)) c.new-found.ensures.value
     ∙ params_init c.args.left (length c.args.self.now.rest.now + 1) c.args.self.now.rest.now refl
 
 pub loop-turn-preserved : goal.loop-turn-preserved
 loop-turn-preserved c =
-    listed_keeps marks.RightParen (param_of (inside c.args.left)) (length c.args.self.now.rest.now + 1) c.loop-turn._turn c.loop-turn.found _ c.loop-turn.self.rest.now c.param.new.self.rest.now _ c.in_ok-param.param _
+    listed_keeps marks.RightParen (param_of (inside c.args.left)) (length c.args.self.now.rest.now + 1)
+    c.loop-turn._turn c.loop-turn.found _ c.loop-turn.self.rest.now c.param.new.self.rest.now _ c.in_ok-param.param _
     c.loop-turn-test.true c.loop-turn.invariant c.in_ok-param.ensures (cc) c.in_ok-push.ensures.ok c.advance.ensures

@@ -7,4 +7,6 @@ use Rattle.c_parse.specs.Reads.{behind}
 use Rattle.c_parse.proofs.parser.Parser.param_list.Given as goal
 
 abbrev pub invariant-loop-turn : goal.invariant-loop-turn
-invariant-loop-turn l = behind l.found (listed marks.RightParen false (param_of (inside l.left)) (l.turns - l._turn) l.self.rest.now) ≡ param_list_of (inside l.left) l.fn.self.rest.now
+invariant-loop-turn l =
+    behind l.found (listed marks.RightParen false (param_of (inside l.left)) (l.turns - l._turn)
+    l.self.rest.now) ≡ param_list_of (inside l.left) l.fn.self.rest.now

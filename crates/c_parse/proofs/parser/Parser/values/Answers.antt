@@ -9,10 +9,14 @@ use Rattle.c_parse.proofs.parser.Parser.values.Goals as goal
 
 pub loop-turn-init : goal.loop-turn-init
 loop-turn-init c =
-    ap (λ (found : List Expr). behind found (listed marks.RightBrace true (conditional_of (inside c.args.left)) (length c.args.self.now.rest.now + 1 - 0) c.args.self.now.rest.now)) c.new-found.ensures.value
+    ap (λ (found : List Expr). behind found (listed marks.RightBrace true (conditional_of (inside c.args.left))
+    (length c.args.self.now.rest.now + 1 - 0) c.args.self.now.rest.now)) c.new-found.ensures.value
     ∙ values_init c.args.left (length c.args.self.now.rest.now + 1) c.args.self.now.rest.now refl
 
 pub loop-turn-preserved : goal.loop-turn-preserved
 loop-turn-preserved c =
-    trailed_keeps marks.RightBrace (conditional_of (inside c.args.left)) (length c.args.self.now.rest.now + 1) c.loop-turn._turn c.loop-turn.found _ c.loop-turn.self.rest.now c.conditional.new.self.rest.now _ c.in_ok-value.value _
-    c.loop-turn-test.true c.loop-turn.invariant c.in_ok-value.ensures (cc) c.in_ok-push.ensures.ok c.advance.ensures (cc)
+    trailed_keeps marks.RightBrace (conditional_of (inside c.args.left)) (length c.args.self.now.rest.now + 1)
+    c.loop-turn._turn c.loop-turn.found _ c.loop-turn.self.rest.now c.conditional.new.self.rest.now _
+    c.in_ok-value.value _
+    c.loop-turn-test.true c.loop-turn.invariant c.in_ok-value.ensures (cc) c.in_ok-push.ensures.ok c.advance.ensures
+    (cc)

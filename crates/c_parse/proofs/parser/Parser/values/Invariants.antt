@@ -7,4 +7,6 @@ use Rattle.c_parse.specs.Reads.{behind}
 use Rattle.c_parse.proofs.parser.Parser.values.Given as goal
 
 abbrev pub invariant-loop-turn : goal.invariant-loop-turn
-invariant-loop-turn l = behind l.found (listed marks.RightBrace true (conditional_of (inside l.left)) (l.turns - l._turn) l.self.rest.now) ≡ values_of (inside l.left) l.fn.self.rest.now
+invariant-loop-turn l =
+    behind l.found (listed marks.RightBrace true (conditional_of (inside l.left)) (l.turns - l._turn)
+    l.self.rest.now) ≡ values_of (inside l.left) l.fn.self.rest.now
