@@ -182,10 +182,17 @@ fn assert_nests(rt: &impl Abort, alloc: Global, nests: &[Nest]) -> Result<(), Fa
         let opener = nest.opener;
         let list = nested(alloc, nest, nest.most)?;
         assert_eq!(rt; answer_to(alloc, &list), Answer::Items(1), "{opener:?}");
-        let list = nested(alloc, nest, nest.most.min(99) + 1)?;
+        let mut list = nested(alloc, nest, nest.most.min(99) + 1)?;
         assert_eq!(rt;
             answer_to(alloc, &list),
             Answer::TooDeep(deep_line(nest)),
+            "{opener:?}"
+        );
+        // Where that token is the last one, the tokens only end too early.
+        list.truncate(deep_line(nest) as usize);
+        assert_eq!(rt;
+            answer_to(alloc, &list),
+            Answer::Syntax(deep_line(nest)),
             "{opener:?}"
         );
     }
