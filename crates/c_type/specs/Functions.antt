@@ -1,0 +1,139 @@
+-- Functions (C17 6.7.6.3, 6.9.1): parameters, prototypes and definitions.
+use Rattle.std.specs.Prelude.{ℕ, ◌+◌, Bool, true, false, cond, not, ◌||◌, is_some, nat_lt, length, List, [], ◌∷◌, ◌++◌, map, Option, Some, None}
+use Rattle.c_tree.specs.declared.token.Kind.{Kind}
+use Rattle.c_tree.specs.declared.tree.ArraySize.{ArraySize}
+use Rattle.c_tree.specs.declared.tree.ArraySize.TheVariants as size
+use Rattle.c_tree.specs.declared.tree.Param.{Param}
+use Rattle.c_tree.specs.declared.tree.Stmt.{Stmt}
+use Rattle.c_tree.specs.declared.tree.StmtNode.{StmtNode, out-StmtNode}
+use Rattle.c_tree.specs.declared.tree.ForInit.{ForInit}
+use Rattle.c_tree.specs.declared.tree.ForInit.TheOpen.{StmtNode-F, Compound}
+use Rattle.c_tree.specs.declared.typed.Callee.{Callee}
+use Rattle.c_tree.specs.declared.typed.Slot.{Slot}
+use Rattle.c_tree.specs.declared.typed.Slot.TheVariants as slot
+use Rattle.c_tree.specs.declared.typed.TypedFunc.{TypedFunc}
+use Rattle.c_tree.specs.declared.typed.TypedGlobal.{TypedGlobal}
+use Rattle.c_tree.specs.declared.typed.TypedStmt.TheVariants as typed
+use Rattle.c_scope.specs.declared.meaning.Meaning.{Meaning}
+use Rattle.c_scope.specs.declared.meaning.Meaning.TheVariants as meaning
+use Rattle.c_scope.specs.Scope.{Scope, look_up, same_name, opened, closed, declared_in, bound}
+use Rattle.c_type_expr.specs.declared.fault.TypeFault.TheVariants.{Twice, Mismatch, TooManyParams}
+use Rattle.c_type_expr.specs.Roles.{Blame, first, unless}
+use Rattle.c_type.specs.declared.file_scope.FileScope.{FileScope}
+use Rattle.c_type.specs.declared.state.State.{State}
+use Rattle.c_type.specs.States.{with_scalar, with_address}
+use Rattle.c_type.specs.Declarations.{is_end}
+use Rattle.c_type.specs.Statements.{Part, part, all_after, all_fault, all_trees}
+use Rattle.c_type.specs.Units.{function_fault}
+
+-- PARAMETERS
+
+abbrev pub slot_for : ArraySize → Kind → Slot
+slot_for size.Scalar k = slot.Scalar k
+slot_for _ k = slot.Address k
+
+abbrev pub slot_of : Param → Slot
+slot_of p = slot_for p.size p.kind
+
+abbrev pub is_named : Option (List ℕ) → List ℕ → Bool
+is_named None w = false
+is_named (Some v) w = same_name v w
+
+abbrev pub named_among : List Param → List ℕ → Bool
+named_among [] w = false
+named_among (p ∷ ps) w = is_named p.name w || named_among ps w
+
+-- a definition's parameters have names, each its own
+abbrev pub name_fault : Bool → Scope → List Param → Option (List ℕ) → ℕ → Blame
+name_fault is_def G seen None l = unless (not is_def) (Mismatch l)
+name_fault is_def G seen (Some w) l = unless (not (named_among seen w || is_end (look_up G w))) (Twice l)
+
+-- a parameter after others, of which there are at most eight
+abbrev pub param_fault : Bool → Scope → List Param → Param → Blame
+param_fault is_def G seen p =
+    first (name_fault is_def G seen p.name p.line) (unless (nat_lt (length seen) 8) (TooManyParams p.line))
+
+abbrev pub params_fault : Bool → Scope → List Param → List Param → Blame
+params_fault is_def G seen [] = None
+params_fault is_def G seen (p ∷ ps) = first (param_fault is_def G seen p) (params_fault is_def G (seen ++ p ∷ []) ps)
+
+-- what the function keeps of a parameter
+abbrev pub named_param : Option (List ℕ) → ArraySize → Kind → State → State
+named_param None s k v = v
+named_param (Some w) size.Scalar k v = with_scalar k w v
+named_param (Some w) _ k v = with_address k w v
+
+abbrev pub with_params : List Param → State → State
+with_params [] v = v
+with_params (p ∷ ps) v = with_params ps (named_param p.name p.size p.kind v)
+
+-- SIGNATURES: a call calls the definition that the unit has of the name, wherever it stands
+
+abbrev pub callee_in : Option Meaning → Option Callee
+callee_in (Some (meaning.Function result params callee defined)) = callee
+callee_in _ = None
+
+abbrev pub signature : Scope → List ℕ → Option Kind → List Slot → Bool → Meaning
+signature T w given slots defined = meaning.Function given slots (callee_in (look_up T w)) defined
+
+abbrev pub with_function : Scope → List ℕ → Option Kind → List Slot → Bool → Scope → Scope
+with_function T w given slots defined G = declared_in (bound w (signature T w given slots defined)) G
+
+-- a prototype that is repeated declares nothing
+abbrev pub with_prototype : Scope → List ℕ → Option Kind → List Slot → Scope → Scope
+with_prototype T w given slots G = cond (is_some (look_up G w)) G (with_function T w given slots false G)
+
+-- the parameters are judged before the function itself
+abbrev pub head_fault : Bool → Option Kind → List ℕ → List Param → ℕ → Scope → Blame
+head_fault is_def given w params l G =
+    first (params_fault is_def G [] params)
+    (function_fault is_def given (map slot_of params) (look_up G w) l)
+
+-- DEFINITIONS
+
+-- the outermost block of a body and the parameters are one scope
+abbrev pub body_in : StmtNode-F ForInit StmtNode Stmt → Stmt → Part
+body_in (Compound ss) s = record {
+  after = all_after (map part ss);
+  fault = all_fault (map part ss);
+  tree = λ v. typed.Compound (all_trees (map part ss) v);
+}
+body_in _ s = part s
+
+unfoldable pub body_part : Stmt → Part
+body_part s = body_in (out-StmtNode s.node) s
+
+abbrev pub started : Scope → Option Kind → State
+started G given = record { names = opened G; scalars = []; arrays = []; result = given }
+
+-- the state in which the body begins
+abbrev pub entry : Scope → List ℕ → Option Kind → List Param → Scope → State
+entry T w given params G =
+    with_params params (started (with_function T w given (map slot_of params) true G) given)
+
+abbrev pub definition_fault : Scope → Option Kind → List ℕ → List Param → Stmt → ℕ → FileScope → Blame
+definition_fault T given w params body l U =
+    first (head_fault true given w params l U.names)
+    ((body_part body).fault false (entry T w given params U.names))
+
+-- the function of a body that begins in a state
+abbrev pub typed_function : ℕ → Stmt → State → TypedFunc
+typed_function count body v = record {
+  result = ((body_part body).after v).result;
+  params = count;
+  scalars = ((body_part body).after v).scalars;
+  arrays = ((body_part body).after v).arrays;
+  body = (body_part body).tree v;
+}
+
+abbrev pub file_with : List TypedGlobal → ℕ → List TypedFunc → ℕ → Stmt → State → FileScope
+file_with globals bytes functions count body v = record {
+  names = closed ((body_part body).after v).names;
+  globals = globals;
+  bytes = bytes;
+  functions = functions ++ typed_function count body v ∷ [];
+}
+
+abbrev pub with_definition : Scope → Option Kind → List ℕ → List Param → Stmt → FileScope → FileScope
+with_definition T given w params body U =
+    file_with U.globals U.bytes U.functions (length params) body (entry T w given params U.names)

@@ -1,0 +1,12 @@
+pub use Rattle.c_type_expr.specs.Roles
+pub use Rattle.c_type_expr.specs.Faults
+pub use Rattle.c_type_expr.specs.Trees
+pub use Rattle.c_type_expr.specs.Constants
+pub use Rattle.c_type_expr.specs.Says
+pub mod States
+pub mod Declarations
+pub mod Statements
+pub mod Runs
+pub mod Units
+pub mod Functions
+pub mod Programs

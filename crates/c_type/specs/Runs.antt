@@ -1,0 +1,43 @@
+-- What the typing of statements answers, and the state that it leaves.
+use Rattle.std.specs.Prelude.{◌≡◌, Bool, List, [], ◌∷◌, Option, Some, None, Result, Ok, Err}
+use Rattle.c_tree.specs.declared.typed.TypedStmt.{TypedStmt}
+use Rattle.c_tree.specs.declared.typed.TypedForInit.{TypedForInit}
+use Rattle.c_type_expr.specs.declared.fault.TypeFault.{TypeFault}
+use Rattle.c_type_expr.specs.declared.fault.TypeFault.TheVariants.{Memory}
+use Rattle.c_type_expr.specs.Roles.{Blame, first}
+use Rattle.c_type_expr.specs.Says.{Stops}
+use Rattle.c_type.specs.declared.state.State.{State}
+use Rattle.c_type.specs.Statements.{Part, Beginning, all_after, all_fault, all_trees, else_after, else_fault, else_tree}
+
+-- a value and the state after it exactly where nothing fails
+abbrev pub Moves : {A : Type 0} → Blame → A → State → State → Result A TypeFault → Type 0
+Moves f t wanted new (Ok u) = (f ≡ None) × (u ≡ t) × (new ≡ wanted)
+Moves f t wanted new (Err e) = Stops f e
+
+abbrev pub Runs : Part → Bool → State → State → Result TypedStmt TypeFault → Type 0
+Runs p b old new (Ok t) = (p.fault b old ≡ None) × (t ≡ p.tree old) × (new ≡ p.after old)
+Runs p b old new (Err e) = Stops (p.fault b old) e
+
+abbrev pub Begins : Beginning → Bool → State → State → Result TypedForInit TypeFault → Type 0
+Begins p b old new (Ok t) = (p.fault b old ≡ None) × (t ≡ p.tree old) × (new ≡ p.after old)
+Begins p b old new (Err e) = Stops (p.fault b old) e
+
+-- the same of several
+abbrev pub RunAll : List Part → Bool → State → State → Result (List TypedStmt) TypeFault → Type 0
+RunAll ps b old new (Ok ts) = (all_fault ps b old ≡ None) × (ts ≡ all_trees ps old) × (new ≡ all_after ps old)
+RunAll ps b old new (Err e) = Stops (all_fault ps b old) e
+
+abbrev pub RunElse : Option Part → Bool → State → State → Result (Option TypedStmt) TypeFault → Type 0
+RunElse p b old new (Ok t) = (else_fault p b old ≡ None) × (t ≡ else_tree p old) × (new ≡ else_after p old)
+RunElse p b old new (Err e) = Stops (else_fault p b old) e
+
+-- the two legs of an `if`
+abbrev pub RunLegs : Part → Option Part → Bool → State → State → Result (TypedStmt × Option TypedStmt) TypeFault → Type 0
+RunLegs p q b old new (Ok t) =
+    (first (p.fault b old) (else_fault q b (p.after old)) ≡ None) × (t.0 ≡ p.tree old) × (t.1 ≡ else_tree q (p.after old)) × (new ≡ else_after q (p.after old))
+RunLegs p q b old new (Err e) = Stops (first (p.fault b old) (else_fault q b (p.after old))) e
+
+-- the state is that one, unless memory runs out
+abbrev pub Adds : State → State → Result (Unit {0}) TypeFault → Type 0
+Adds wanted new (Ok u) = new ≡ wanted
+Adds wanted new (Err e) = e ≡ Memory

@@ -1,0 +1,158 @@
+-- Statements (C17 6.8): the first fault, the typed tree, and the state after them.
+use Rattle.std.specs.Prelude.{◌≡◌, ℕ, Bool, true, false, List, [], ◌∷◌, map, Option, Some, None, Result, Ok, Err}
+use Rattle.c_tree.specs.declared.token.Kind.{Kind}
+use Rattle.c_tree.specs.declared.tree.Expr.{Expr}
+use Rattle.c_tree.specs.declared.tree.Stmt.{Stmt, Stmt-F, fold-Stmt}
+use Rattle.c_tree.specs.declared.tree.StmtNode.{StmtNode, out-StmtNode}
+use Rattle.c_tree.specs.declared.tree.ForInit.{ForInit, fold-ForInit}
+use Rattle.c_tree.specs.declared.tree.ForInit.TheOpen.{StmtNode-F, ForInit-F, Declare, Plain, Compound, If, While, Do, For, Break, Continue, Return, Nothing, First, Locals}
+use Rattle.c_tree.specs.declared.typed.TypedExpr.{TypedExpr}
+use Rattle.c_tree.specs.declared.typed.TypedStmt.{TypedStmt}
+use Rattle.c_tree.specs.declared.typed.TypedStmt.TheVariants as typed
+use Rattle.c_tree.specs.declared.typed.TypedForInit.{TypedForInit}
+use Rattle.c_tree.specs.declared.typed.TypedForInit.TheVariants as typed_init
+use Rattle.c_scope.specs.Scope.{Scope}
+use Rattle.c_type_expr.specs.declared.fault.TypeFault.{TypeFault}
+use Rattle.c_type_expr.specs.declared.fault.TypeFault.TheVariants.{Mismatch}
+use Rattle.c_type_expr.specs.declared.role.Role.TheVariants.{Value, Free}
+use Rattle.c_type_expr.specs.Roles.{Blame, first, unless}
+use Rattle.c_type_expr.specs.Trees.{tree}
+use Rattle.c_type_expr.specs.Constants.{full}
+use Rattle.c_type_expr.specs.Says.{Stops}
+use Rattle.c_type.specs.declared.state.State.{State}
+use Rattle.c_type.specs.States.{full_if, tree_if, value_of, entered, left}
+use Rattle.c_type.specs.Declarations.{declare_fault, declared, declare_tree}
+
+-- what a statement does to the state, its first fault (inside a loop or not) and its tree
+pub record Part : Type 0 where
+  pub after : State → State
+  pub fault : Bool → State → Blame
+  pub tree : State → TypedStmt
+
+-- the same of the first part of a `for`
+pub record Beginning : Type 0 where
+  pub after : State → State
+  pub fault : Bool → State → Blame
+  pub tree : State → TypedForInit
+
+abbrev pub all_after : List Part → State → State
+all_after [] v = v
+all_after (p ∷ ps) v = all_after ps (p.after v)
+
+abbrev pub all_fault : List Part → Bool → State → Blame
+all_fault [] b v = None
+all_fault (p ∷ ps) b v = first (p.fault b v) (all_fault ps b (p.after v))
+
+abbrev pub all_trees : List Part → State → List TypedStmt
+all_trees [] v = []
+all_trees (p ∷ ps) v = p.tree v ∷ all_trees ps (p.after v)
+
+abbrev pub else_after : Option Part → State → State
+else_after None v = v
+else_after (Some p) v = p.after v
+
+abbrev pub else_fault : Option Part → Bool → State → Blame
+else_fault None b v = None
+else_fault (Some p) b v = p.fault b v
+
+abbrev pub else_tree : Option Part → State → Option TypedStmt
+else_tree None v = None
+else_tree (Some p) v = Some (p.tree v)
+
+-- a return has a value exactly in a function that gives one
+abbrev pub return_fault : Option Kind → Option Expr → ℕ → Blame
+return_fault None None l = None
+return_fault None (Some e) l = Some (Mismatch l)
+return_fault (Some k) None l = Some (Mismatch l)
+return_fault (Some k) (Some e) l = None
+
+abbrev pub return_tree : Option Kind → Option Expr → Scope → Option TypedExpr
+return_tree None e G = tree_if e G
+return_tree (Some k) e G = value_of e k G
+
+abbrev pub do_part : Part → Expr → Part
+do_part body test = record {
+  after = body.after;
+  fault = λ b v. first (body.fault true v) (full test Value (body.after v).names);
+  tree = λ v. typed.Do (body.tree v) (tree test (body.after v).names);
+}
+
+-- a `for` is a block of its own, which holds its first part
+abbrev pub tail_fault : Option Expr → Part → State → Blame
+tail_fault post body v = first (full_if post Free v.names) (body.fault true v)
+
+abbrev pub rest_fault : Option Expr → Option Expr → Part → State → Blame
+rest_fault test post body v = first (full_if test Value v.names) (tail_fault post body v)
+
+abbrev pub for_fault : Beginning → Option Expr → Option Expr → Part → Bool → State → Blame
+for_fault init test post body b v = first (init.fault b v) (rest_fault test post body (init.after v))
+
+abbrev pub for_tree : Beginning → Option Expr → Option Expr → Part → State → TypedStmt
+for_tree init test post body v =
+    typed.For (init.tree v) (tree_if test (init.after v).names) (tree_if post (init.after v).names)
+    (body.tree (init.after v))
+
+abbrev pub for_part : Beginning → Option Expr → Option Expr → Part → Part
+for_part init test post body = record {
+  after = λ v. left (body.after (init.after (entered v)));
+  fault = λ b v. for_fault init test post body b (entered v);
+  tree = λ v. for_tree init test post body (entered v);
+}
+
+abbrev pub node_part : StmtNode-F Beginning (ℕ → Part) Part → ℕ → Part
+node_part (Declare k w size init) l = record {
+  after = declared size k w;
+  fault = λ b v. declare_fault size k w init l v;
+  tree = declare_tree size k w init;
+}
+node_part (Plain e) l = record {
+  after = λ v. v;
+  fault = λ b v. full_if e Free v.names;
+  tree = λ v. typed.Plain (tree_if e v.names);
+}
+node_part (Compound ps) l = record {
+  after = λ v. left (all_after ps (entered v));
+  fault = λ b v. all_fault ps b (entered v);
+  tree = λ v. typed.Compound (all_trees ps (entered v));
+}
+node_part (If test one other) l = record {
+  after = λ v. else_after other (one.after v);
+  fault = λ b v. first (full test Value v.names) (first (one.fault b v) (else_fault other b (one.after v)));
+  tree = λ v. typed.If (tree test v.names) (one.tree v) (else_tree other (one.after v));
+}
+node_part (While test body) l = record {
+  after = body.after;
+  fault = λ b v. first (full test Value v.names) (body.fault true v);
+  tree = λ v. typed.While (tree test v.names) (body.tree v);
+}
+node_part (Do body test) l = do_part body test
+node_part (For init test post body) l = for_part init test post body
+node_part Break l = record { after = λ v. v; fault = λ b v. unless b (Mismatch l); tree = λ v. typed.Break }
+node_part Continue l = record { after = λ v. v; fault = λ b v. unless b (Mismatch l); tree = λ v. typed.Continue }
+node_part (Return e) l = record {
+  after = λ v. v;
+  fault = λ b v. first (full_if e Value v.names) (return_fault v.result e l);
+  tree = λ v. typed.Return (return_tree v.result e v.names);
+}
+
+abbrev pub init_part : ForInit-F Beginning (ℕ → Part) Part → Beginning
+init_part Nothing = record { after = λ v. v; fault = λ b v. None; tree = λ v. typed_init.Nothing }
+init_part (First e) = record {
+  after = λ v. v;
+  fault = λ b v. full e Free v.names;
+  tree = λ v. typed_init.First (tree e v.names);
+}
+init_part (Locals ps) = record {
+  after = all_after ps;
+  fault = all_fault ps;
+  tree = λ v. typed_init.Locals (all_trees ps v);
+}
+
+abbrev pub at_line : Stmt-F Beginning (ℕ → Part) Part → Part
+at_line s = s.node s.line
+
+unfoldable pub part : Stmt → Part
+part s = fold-Stmt Beginning (ℕ → Part) Part init_part node_part at_line s
+
+unfoldable pub beginning_of : ForInit → Beginning
+beginning_of i = fold-ForInit Beginning (ℕ → Part) Part init_part node_part at_line i

@@ -1,0 +1,62 @@
+-- What the typing of a function keeps, and full expressions that may be left out.
+use Rattle.std.specs.Prelude.{◌≡◌, ℕ, Option, Some, None, List, [], ◌∷◌, ◌++◌, length}
+use Rattle.c_tree.specs.declared.token.Kind.{Kind}
+use Rattle.c_tree.specs.declared.tree.Expr.{Expr}
+use Rattle.c_tree.specs.declared.tree.Stmt.{Stmt}
+use Rattle.c_tree.specs.declared.tree.StmtNode.{StmtNode}
+use Rattle.c_tree.specs.declared.typed.Place.TheVariants as place
+use Rattle.c_tree.specs.declared.typed.Slot.TheVariants as slot
+use Rattle.c_tree.specs.declared.typed.TypedExpr.{TypedExpr}
+use Rattle.c_scope.specs.declared.meaning.Meaning.TheVariants as meaning
+use Rattle.c_scope.specs.Scope.{Scope, opened, closed, declared_in, bound}
+use Rattle.c_type_expr.specs.declared.role.Role.{Role}
+use Rattle.c_type_expr.specs.Roles.{Blame}
+use Rattle.c_type_expr.specs.Trees.{tree, converted}
+use Rattle.c_type_expr.specs.Constants.{full}
+use Rattle.c_type.specs.declared.state.State.{State}
+
+abbrev pub full_if : Option Expr → Role → Scope → Blame
+full_if None r G = None
+full_if (Some e) r G = full e r G
+
+abbrev pub tree_if : Option Expr → Scope → Option TypedExpr
+tree_if None G = None
+tree_if (Some e) G = Some (tree e G)
+
+-- a value converted to a type, where there is one
+abbrev pub value_of : Option Expr → Kind → Scope → Option TypedExpr
+value_of None k G = None
+value_of (Some e) k G = Some (converted k (tree e G))
+
+abbrev pub entered : State → State
+entered v = record v { names = opened v.names }
+
+abbrev pub left : State → State
+left v = record v { names = closed v.names }
+
+-- a scalar more, whose number is the count of those before it
+abbrev pub with_scalar : Kind → List ℕ → State → State
+with_scalar k w v =
+    record v {
+      names = declared_in (bound w (meaning.Scalar k (place.Scalar (length v.scalars)))) v.names;
+      scalars = v.scalars ++ slot.Scalar k ∷ [];
+    }
+
+-- an array parameter more, which takes a scalar's slot
+abbrev pub with_address : Kind → List ℕ → State → State
+with_address k w v =
+    record v {
+      names = declared_in (bound w (meaning.Array k (place.Scalar (length v.scalars)))) v.names;
+      scalars = v.scalars ++ slot.Address k ∷ [];
+    }
+
+-- a local array more
+abbrev pub with_array : Kind → List ℕ → ℕ → State → State
+with_array k w n v =
+    record v {
+      names = declared_in (bound w (meaning.Array k (place.Array (length v.arrays)))) v.names;
+      arrays = v.arrays ++ (record { kind = k; length = n }) ∷ [];
+    }
+
+abbrev pub at : ℕ → StmtNode → Stmt
+at l n = record { line = l; node = n }

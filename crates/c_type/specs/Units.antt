@@ -1,0 +1,149 @@
+-- File scope (C17 6.7, 6.9): the include, globals and the signatures of functions.
+use Rattle.std.specs.Prelude.{ℕ, ◌+◌, ◌*◌, Bool, true, false, cond, not, ◌&&◌, ◌||◌, is_some, nat_le, nat_lt, length, List, [], ◌∷◌, ◌++◌, map, Option, Some, None}
+use Rattle.c_tree.specs.declared.token.Kind.{Kind}
+use Rattle.c_tree.specs.declared.token.Kind.TheVariants.{Int}
+use Rattle.c_tree.specs.declared.tree.ArraySize.{ArraySize}
+use Rattle.c_tree.specs.declared.tree.ArraySize.TheVariants as size
+use Rattle.c_tree.specs.declared.tree.Expr.{Expr}
+use Rattle.c_tree.specs.declared.typed.Callee.{Callee}
+use Rattle.c_tree.specs.declared.typed.Callee.TheVariants as callee
+use Rattle.c_tree.specs.declared.typed.Place.TheVariants as place
+use Rattle.c_tree.specs.declared.typed.Slot.{Slot}
+use Rattle.c_tree.specs.declared.typed.Slot.TheVariants as slot
+use Rattle.c_constant.specs.Kinds.{same_kind}
+use Rattle.c_scope.specs.declared.meaning.Meaning.{Meaning}
+use Rattle.c_scope.specs.declared.meaning.Meaning.TheVariants as meaning
+use Rattle.c_scope.specs.Scope.{Scope, look_up, declared_in, bound}
+use Rattle.c_type_expr.specs.declared.fault.TypeFault.TheVariants.{Twice, Mismatch, TooLarge}
+use Rattle.c_type_expr.specs.Roles.{Blame, first, unless}
+use Rattle.c_type_expr.specs.Constants.{size_fault, length_of, word_in, full_constant, constant_at}
+use Rattle.c_type.specs.declared.file_scope.FileScope.{FileScope}
+use Rattle.c_type.specs.Declarations.{bytes, is_end, twice_fault}
+
+-- the names `EOF`, `getchar` and `putchar`
+abbrev pub eof_name : List ℕ
+eof_name = 69 ∷ 79 ∷ 70 ∷ []
+
+abbrev pub getchar_name : List ℕ
+getchar_name = 103 ∷ 101 ∷ 116 ∷ 99 ∷ 104 ∷ 97 ∷ 114 ∷ []
+
+abbrev pub putchar_name : List ℕ
+putchar_name = 112 ∷ 117 ∷ 116 ∷ 99 ∷ 104 ∷ 97 ∷ 114 ∷ []
+
+-- FUNCTIONS
+
+abbrev pub same_slot : Slot → Slot → Bool
+same_slot (slot.Scalar j) (slot.Scalar k) = same_kind j k
+same_slot (slot.Address j) (slot.Address k) = same_kind j k
+same_slot _ _ = false
+
+abbrev pub same_slots : List Slot → List Slot → Bool
+same_slots [] [] = true
+same_slots (s ∷ ss) (t ∷ ts) = same_slot s t && same_slots ss ts
+same_slots _ _ = false
+
+abbrev pub same_result : Option Kind → Option Kind → Bool
+same_result None None = true
+same_result (Some j) (Some k) = same_kind j k
+same_result _ _ = false
+
+-- a name that stands for something else, or a second definition
+abbrev pub defined_fault : Bool → Option Meaning → ℕ → Blame
+defined_fault is_def None l = None
+defined_fault is_def (Some (meaning.Function result params callee defined)) l =
+    unless (not (is_def && defined)) (Twice l)
+defined_fault is_def (Some _) l = Some (Twice l)
+
+-- declarations of one function that do not agree
+abbrev pub type_fault : Option Kind → List Slot → Option Meaning → ℕ → Blame
+type_fault given slots (Some (meaning.Function result params callee defined)) l =
+    unless (same_result result given && same_slots params slots) (Mismatch l)
+type_fault given slots _ l = None
+
+abbrev pub function_fault : Bool → Option Kind → List Slot → Option Meaning → ℕ → Blame
+function_fault is_def given slots m l = first (defined_fault is_def m l) (type_fault given slots m l)
+
+-- INCLUDE
+
+abbrev pub int_slots : List Slot
+int_slots = slot.Scalar Int ∷ []
+
+-- at one place the fault of the lowest number is answered: Twice before Mismatch
+abbrev pub include_clash : Scope → ℕ → Blame
+include_clash G l =
+    first (defined_fault true (look_up G getchar_name) l)
+    (first (defined_fault true (look_up G putchar_name) l)
+    (first (twice_fault G eof_name l)
+    (first (type_fault (Some Int) [] (look_up G getchar_name) l)
+    (type_fault (Some Int) int_slots (look_up G putchar_name) l))))
+
+-- a second include declares nothing
+abbrev pub include_fault : Scope → ℕ → Blame
+include_fault G l = cond (is_end (look_up G eof_name)) None (include_clash G l)
+
+abbrev pub get_char : Meaning
+get_char = meaning.Function (Some Int) [] (Some callee.GetChar) true
+
+abbrev pub put_char : Meaning
+put_char = meaning.Function (Some Int) int_slots (Some callee.PutChar) true
+
+abbrev pub with_include : Scope → Scope
+with_include G =
+    declared_in (bound eof_name meaning.EndOfFile)
+    (declared_in (bound putchar_name put_char) (declared_in (bound getchar_name get_char) G))
+
+abbrev pub included : Scope → Scope
+included G = cond (is_end (look_up G eof_name)) G (with_include G)
+
+-- GLOBALS
+
+-- the globals have at most 1,048,576 bytes, an array no more
+abbrev pub place_fault : ℕ → Kind → List ℕ → ℕ → FileScope → Blame
+place_fault n k w l U =
+    first (twice_fault U.names w l) (unless (nat_le (n * bytes k + U.bytes) 1048576) (TooLarge l))
+
+abbrev pub values_fault : List Expr → Scope → Blame
+values_fault [] G = None
+values_fault (e ∷ es) G = first (full_constant e G) (values_fault es G)
+
+abbrev pub global_meaning : ArraySize → Kind → ℕ → Meaning
+global_meaning size.Scalar k n = meaning.Scalar k (place.Global n)
+global_meaning _ k n = meaning.Array k (place.Global n)
+
+-- how many values a global holds
+abbrev pub count_of : ArraySize → List Expr → ℕ
+count_of size.Scalar init = 1
+count_of size.Open init = length init
+count_of (size.Sized e) init = word_in (length_of e)
+
+abbrev pub length_in : ArraySize → ℕ → Option ℕ
+length_in size.Scalar n = None
+length_in _ n = Some n
+
+abbrev pub global_names : ArraySize → Kind → List ℕ → FileScope → Scope
+global_names size k w U = declared_in (bound w (global_meaning size k (length U.globals))) U.names
+
+abbrev pub with_global : ArraySize → Kind → List ℕ → List Expr → FileScope → FileScope
+with_global size k w init U =
+    record U {
+      names = global_names size k w U;
+      globals = U.globals ++ (record { kind = k; length = length_in size (count_of size init); init = map (constant_at k) init }) ∷ [];
+      bytes = count_of size init * bytes k + U.bytes;
+    }
+
+-- the size comes before the declarator, and the values after it
+abbrev pub count_fault : ArraySize → List Expr → ℕ → Scope → Blame
+count_fault size.Scalar init l G = None
+count_fault size.Open init l G = unless (nat_lt 0 (length init)) (Mismatch l)
+count_fault (size.Sized e) init l G = size_fault e G
+
+-- what of the declarator comes before its values
+abbrev pub admitted_fault : ArraySize → Kind → List ℕ → List Expr → ℕ → FileScope → Blame
+admitted_fault size k w init l U =
+    first (count_fault size init l U.names) (place_fault (count_of size init) k w l U)
+
+abbrev pub global_fault : ArraySize → Kind → List ℕ → List Expr → ℕ → FileScope → Blame
+global_fault size k w init l U =
+    first (admitted_fault size k w init l U)
+    (first (values_fault init (global_names size k w U))
+    (unless (nat_le (length init) (count_of size init)) (Mismatch l)))

@@ -1,0 +1,241 @@
+//! Local declarations.
+
+ghost use Rattle.std.specs.Prelude.{◌≡◌, ◌<◌, length};
+ghost use Rattle.std.specs.Option.{option_copied};
+ghost use Rattle.c_tree.specs.declared.tree.StmtNode.TheVariants as node;
+ghost use Rattle.c_type_expr.specs.Roles.{first};
+ghost use Rattle.c_type_expr.specs.Constants as constants;
+ghost use Rattle.c_type_expr.specs.Says.{Says};
+ghost use Rattle.c_type.specs.States as states;
+ghost use Rattle.c_type.specs.Declarations as declarations;
+ghost use Rattle.c_type.specs.Statements.{part};
+ghost use Rattle.c_type.specs.Runs.{Runs, Moves, Adds};
+
+use crate::parts::value_to;
+use crate::state::State;
+use c_scope::{Meaning, Scopes};
+use c_tree::{ArraySize, Expr, Kind, Place, Slot, TypedArray, TypedStmt, Word};
+use c_type_expr::{TypeFault, size_length};
+use std::alloc::Global;
+
+/// How many bytes a value of a kind takes.
+pub fn bytes(kind: Kind) -> u64
+    ensures value { result ≡ declarations.bytes kind }
+    ensures some { 0 < result }
+{
+    match kind {
+        Kind::Char | Kind::UChar => 1,
+        Kind::Int | Kind::UInt => 4,
+        Kind::Long | Kind::ULong => 8,
+    }
+}
+
+pub fn is_end(found: Option<&Meaning>) -> bool
+    ensures { result ≡ declarations.is_end (option_copied found.entry) }
+{
+    match found {
+        Some(Meaning::EndOfFile) => true,
+        _ => false,
+    }
+}
+
+/// Whether the innermost block may not declare a name.
+pub fn is_taken(names: &Scopes, name: &Word) -> bool
+    ensures { result ≡ declarations.is_taken names.now name.now }
+{
+    names.is_here(name) || is_end(names.look_up(name))
+}
+
+pub fn twice(names: &Scopes, name: &Word, line: u32) -> Result<(), TypeFault>
+    ensures { Says (declarations.twice_fault names.now name.now line) tt result }
+{
+    if is_taken(names, name) { Err(TypeFault::Twice(line)) } else { Ok(()) }
+}
+
+/// The length of an array that may be declared.
+fn array_length(
+    names: &Scopes,
+    size: &Expr,
+    kind: Kind,
+    name: &Word,
+    line: u32,
+) -> Result<u32, TypeFault>
+    ensures { Says (first (constants.size_fault size.now names.now) (declarations.array_fault (constants.word_in (constants.length_of size.now)) kind name.now line names.now)) (constants.word_in (constants.length_of size.now)) result }
+{
+    let length = size_length(names, size)?;
+    twice(names, name, line)?;
+    if length > 1_048_576 / bytes(kind) {
+        return Err(TypeFault::TooLarge(line));
+    }
+    Ok(length as u32)
+}
+
+/// The place of a scalar that may be declared.
+fn scalar_place(state: &State, name: &Word, line: u32) -> Result<u32, TypeFault>
+    ensures { Says (declarations.scalar_fault name.now line state.now) (length state.now.scalars) result }
+{
+    twice(&state.names, name, line)?;
+    let place = state.scalars.len();
+    if place < 64 { Ok(place as u32) } else { Err(TypeFault::TooManyScalars(line)) }
+}
+
+fn array_place(state: &State) -> Result<u32, TypeFault>
+    ensures { Says None (length state.now.arrays) result }
+{
+    let count = state.arrays.len();
+    if count > 0xffff_ffff {
+        return Err(TypeFault::Memory);
+    }
+    Ok(count as u32)
+}
+
+pub fn add_scalar(
+    alloc: Global,
+    state: &mut State,
+    kind: Kind,
+    name: Word,
+    place: u32,
+) -> Result<(), TypeFault>
+    requires { place ≡ length state.old.scalars }
+    ensures { Adds (states.with_scalar kind name state.old) state.new result }
+{
+    state
+        .names
+        .declare(alloc, name, Meaning::Scalar(kind, Place::Scalar(place)))?;
+    state.scalars.push(Slot::Scalar(kind))?;
+    Ok(())
+}
+
+pub fn add_address(
+    alloc: Global,
+    state: &mut State,
+    kind: Kind,
+    name: Word,
+    place: u32,
+) -> Result<(), TypeFault>
+    requires { place ≡ length state.old.scalars }
+    ensures { Adds (states.with_address kind name state.old) state.new result }
+{
+    state
+        .names
+        .declare(alloc, name, Meaning::Array(kind, Place::Scalar(place)))?;
+    state.scalars.push(Slot::Address(kind))?;
+    Ok(())
+}
+
+fn add_array(
+    alloc: Global,
+    state: &mut State,
+    kind: Kind,
+    name: Word,
+    place: u32,
+    count: u32,
+) -> Result<(), TypeFault>
+    requires { place ≡ length state.old.arrays }
+    ensures { Adds (states.with_array kind name count state.old) state.new result }
+{
+    state
+        .names
+        .declare(alloc, name, Meaning::Array(kind, Place::Array(place)))?;
+    state.arrays.push(TypedArray {
+        kind,
+        length: count,
+    })?;
+    Ok(())
+}
+
+fn no_init(init: &Option<Expr>, line: u32) -> Result<(), TypeFault>
+    ensures { Says (declarations.no_init init.now line) tt result }
+{
+    match init {
+        None => Ok(()),
+        Some(_) => Err(TypeFault::Mismatch(line)),
+    }
+}
+
+/// The length of a local array that may be declared.
+fn bare_length(
+    names: &Scopes,
+    size: &Expr,
+    kind: Kind,
+    name: &Word,
+    init: &Option<Expr>,
+    line: u32,
+) -> Result<u32, TypeFault>
+    ensures { Says (declarations.sized_fault size.now kind name.now init.now line names.now) (constants.word_in (constants.length_of size.now)) result }
+{
+    let count = array_length(names, size, kind, name, line)?;
+    no_init(init, line)?;
+    Ok(count)
+}
+
+fn sized(
+    alloc: Global,
+    state: &mut State,
+    kind: Kind,
+    name: Word,
+    count: u32,
+) -> Result<TypedStmt, TypeFault>
+    ensures { Moves None (TypedStmt.Declare (Place.Array (length state.old.arrays)) None) (states.with_array kind name count state.old) state.new result }
+{
+    let place = array_place(state)?;
+    add_array(alloc, state, kind, name, place, count)?;
+    Ok(TypedStmt::Declare {
+        place: Place::Array(place),
+        init: None,
+    })
+}
+
+fn declare_array(
+    alloc: Global,
+    state: &mut State,
+    line: u32,
+    kind: Kind,
+    name: Word,
+    size: &Expr,
+    init: &Option<Expr>,
+) -> Result<TypedStmt, TypeFault>
+    ensures { Moves (declarations.sized_fault size.now kind name init.now line state.old.names) (TypedStmt.Declare (Place.Array (length state.old.arrays)) None) (states.with_array kind name (constants.word_in (constants.length_of size.now)) state.old) state.new result }
+{
+    let count = bare_length(&state.names, size, kind, &name, init, line)?;
+    sized(alloc, state, kind, name, count)
+}
+
+fn declare_scalar(
+    alloc: Global,
+    state: &mut State,
+    line: u32,
+    kind: Kind,
+    name: Word,
+    init: Option<Expr>,
+) -> Result<TypedStmt, TypeFault>
+    ensures { Moves (declarations.scalar_init_fault kind name init line state.old) (TypedStmt.Declare (Place.Scalar (length state.old.scalars)) (states.value_of init kind (states.with_scalar kind name state.old).names)) (states.with_scalar kind name state.old) state.new result }
+{
+    let place = scalar_place(state, &name, line)?;
+    add_scalar(alloc, state, kind, name, place)?;
+    let init = value_to(alloc, &state.names, kind, init)?;
+    Ok(TypedStmt::Declare {
+        place: Place::Scalar(place),
+        init,
+    })
+}
+
+#[tactic(auto, using(crate::proofs::Nodes::on_declare))]
+pub fn declare(
+    alloc: Global,
+    state: &mut State,
+    in_loop: bool,
+    line: u32,
+    kind: Kind,
+    name: Word,
+    size: ArraySize,
+    init: Option<Expr>,
+) -> Result<TypedStmt, TypeFault>
+    ensures { Runs (part (states.at line (node.Declare kind name size init))) in_loop state.old state.new result }
+{
+    match size {
+        ArraySize::Scalar => declare_scalar(alloc, state, line, kind, name, init),
+        ArraySize::Open => Err(TypeFault::Mismatch(line)),
+        ArraySize::Sized(size) => declare_array(alloc, state, line, kind, name, &size, &init),
+    }
+}

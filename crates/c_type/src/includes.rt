@@ -1,0 +1,98 @@
+//! The include of `<stdio.h>`: `getchar`, `putchar` and `EOF`.
+
+ghost use Rattle.std.specs.Prelude.{◌≡◌, [], ◌∷◌, IfOk};
+ghost use Rattle.c_type_expr.specs.Says.{Says};
+ghost use Rattle.c_type.specs.Units as units;
+
+use crate::declarations::{is_end, twice};
+use crate::signatures::{agrees, undefined};
+use base::Items;
+use c_scope::{Meaning, Scopes};
+use c_tree::{Callee, Kind, Slot, Word};
+use c_type_expr::TypeFault;
+use std::alloc::{AllocError, Global};
+
+pub fn eof_name(alloc: Global) -> Result<Word, AllocError>
+    ensures { IfOk result (λ w. w ≡ units.eof_name) }
+{
+    Word::from_slice(alloc, b"EOF")
+}
+
+pub fn getchar_name(alloc: Global) -> Result<Word, AllocError>
+    ensures { IfOk result (λ w. w ≡ units.getchar_name) }
+{
+    Word::from_slice(alloc, b"getchar")
+}
+
+pub fn putchar_name(alloc: Global) -> Result<Word, AllocError>
+    ensures { IfOk result (λ w. w ≡ units.putchar_name) }
+{
+    Word::from_slice(alloc, b"putchar")
+}
+
+fn int_slots(alloc: Global) -> Result<Items<Slot>, AllocError>
+    ensures { IfOk result (λ s. s ≡ units.int_slots) }
+{
+    Items::from_slice(alloc, &[Slot::Scalar(Kind::Int)])
+}
+
+pub fn get_char(alloc: Global) -> Meaning
+    ensures { result ≡ units.get_char }
+{
+    Meaning::Function {
+        result: Some(Kind::Int),
+        params: Items::new(alloc),
+        callee: Some(Callee::GetChar),
+        defined: true,
+    }
+}
+
+pub fn put_char(alloc: Global) -> Result<Meaning, AllocError>
+    ensures { IfOk result (λ m. m ≡ units.put_char) }
+{
+    Ok(Meaning::Function {
+        result: Some(Kind::Int),
+        params: int_slots(alloc)?,
+        callee: Some(Callee::PutChar),
+        defined: true,
+    })
+}
+
+/// Whether the include may stand where it does.
+fn clash(alloc: Global, names: &Scopes, line: u32) -> Result<(), TypeFault>
+    ensures { Says (units.include_clash names.now line) tt result }
+{
+    let eof = eof_name(alloc)?;
+    let get = getchar_name(alloc)?;
+    let put = putchar_name(alloc)?;
+    let slots = int_slots(alloc)?;
+    undefined(names.look_up(&get), true, line)?;
+    undefined(names.look_up(&put), true, line)?;
+    twice(names, &eof, line)?;
+    agrees(names.look_up(&get), Some(Kind::Int), &[], line)?;
+    agrees(names.look_up(&put), Some(Kind::Int), slots.as_slice(), line)
+}
+
+/// The names of the include, declared.
+fn declared(alloc: Global, names: Scopes) -> Result<Scopes, TypeFault>
+    ensures { Says None (units.with_include names) result }
+{
+    let mut names = names;
+    names.declare(alloc, getchar_name(alloc)?, get_char(alloc))?;
+    let put = put_char(alloc)?;
+    names.declare(alloc, putchar_name(alloc)?, put)?;
+    names.declare(alloc, eof_name(alloc)?, Meaning::EndOfFile)?;
+    Ok(names)
+}
+
+/// The names after the include.
+pub fn include(alloc: Global, names: Scopes, line: u32) -> Result<Scopes, TypeFault>
+    ensures { Says (units.include_fault names line) (units.included names) result }
+{
+    let eof = eof_name(alloc)?;
+    if is_end(names.look_up(&eof)) {
+        return Ok(names);
+    }
+    clash(alloc, &names, line)?;
+    declared(alloc, names)
+}

@@ -1,0 +1,18 @@
+//! The typing of a translation unit (C17 6.5 to 6.9).
+#![tactic(auto)]
+
+mod declarations;
+mod file_scope;
+mod functions;
+mod globals;
+mod includes;
+mod parts;
+mod program;
+mod signatures;
+mod state;
+mod statements;
+#[cfg(test)]
+mod tests;
+
+pub use c_type_expr::TypeFault;
+pub use program::type_program;

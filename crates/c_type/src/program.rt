@@ -1,0 +1,227 @@
+//! The typing of a translation unit, item by item.
+
+ghost use Rattle.std.specs.Prelude.{◌≡◌, [], ◌∷◌, None};
+ghost use Rattle.std.specs.Option.{option_copied};
+ghost use Rattle.c_type_expr.specs.Roles.{unless};
+ghost use Rattle.c_type_expr.specs.Says.{Says};
+ghost use Rattle.c_type.specs.Programs as programs;
+
+use crate::file_scope::FileScope;
+use crate::functions::{callee_in, definition, prototype};
+use crate::globals::global;
+use crate::includes::{get_char, getchar_name, include, put_char, putchar_name};
+use base::{Items, Queue};
+use c_scope::{Meaning, Scopes};
+use c_tree::{Callee, Kind, Param, Program, Top, TopNode, TypedProgram, Word};
+use c_type_expr::TypeFault;
+use std::alloc::Global;
+
+/// Notes what an item defines, as the function of that number.
+fn note(alloc: Global, table: &mut Scopes, node: &TopNode, number: u32) -> Result<(), TypeFault>
+    ensures { Rattle.c_type.specs.Programs.Notes (programs.noted node.now number table.old) table.new result }
+{
+    match node {
+        TopNode::Include => {
+            table.declare(alloc, getchar_name(alloc)?, get_char(alloc))?;
+            let put = put_char(alloc)?;
+            table.declare(alloc, putchar_name(alloc)?, put)?;
+            Ok(())
+        }
+        TopNode::Func {
+            name,
+            body: Some(_),
+            ..
+        } => {
+            let name = name.copy(alloc)?;
+            table.declare(alloc, name, Meaning::Function {
+                result: None,
+                params: Items::new(alloc),
+                callee: Some(Callee::Func(number)),
+                defined: true,
+            })?;
+            Ok(())
+        }
+        _ => Ok(()),
+    }
+}
+
+/// The number of the next definition.
+fn next(node: &TopNode, number: u32) -> Result<u32, TypeFault>
+    ensures { Says None (programs.count_after node.now number) result }
+{
+    match node {
+        TopNode::Func { body: Some(_), .. } => {
+            match number.checked_add(1) {
+                None => Err(TypeFault::Memory),
+                Some(number) => Ok(number),
+            }
+        }
+        _ => Ok(number),
+    }
+}
+
+/// The functions that a unit defines.
+fn table(alloc: Global, items: &[Top]) -> Result<Scopes, TypeFault>
+    ensures { Says None (programs.table items.now) result }
+{
+    let mut table = Scopes::new(alloc);
+    let mut number = 0;
+    for top in items {
+        note(alloc, &mut table, &top.node, number)?;
+        number = next(&top.node, number)?;
+    }
+    Ok(table)
+}
+
+/// The file scope after the include.
+fn include_at(alloc: Global, file: FileScope, line: u32) -> Result<FileScope, TypeFault>
+    ensures { Says (programs.node_fault ([] ∷ []) TopNode.Include line file) (programs.node_after ([] ∷ []) TopNode.Include file) result }
+{
+    let FileScope {
+        names,
+        globals,
+        bytes,
+        functions,
+    } = file;
+    let names = include(alloc, names, line)?;
+    Ok(FileScope {
+        names,
+        globals,
+        bytes,
+        functions,
+    })
+}
+
+/// The file scope after a prototype.
+fn prototype_at(
+    alloc: Global,
+    table: &Scopes,
+    file: FileScope,
+    line: u32,
+    given: Option<Kind>,
+    name: Word,
+    params: &[Param],
+) -> Result<FileScope, TypeFault>
+    ensures { Says (programs.prototype_fault given name params.now line file) (programs.with_prototype_at table.now given name params.now file) result }
+{
+    let FileScope {
+        names,
+        globals,
+        bytes,
+        functions,
+    } = file;
+    let names = prototype(alloc, table, names, line, given, name, params)?;
+    Ok(FileScope {
+        names,
+        globals,
+        bytes,
+        functions,
+    })
+}
+
+/// The file scope after an item.
+fn item(
+    alloc: Global,
+    table: &Scopes,
+    file: FileScope,
+    top: Top,
+) -> Result<FileScope, TypeFault>
+    ensures { Says (programs.item_fault table.now top file) (programs.item_after table.now top file) result }
+{
+    let Top { line, node } = top;
+    match node {
+        TopNode::Include => include_at(alloc, file, line),
+        TopNode::Global {
+            kind,
+            name,
+            size,
+            init,
+        } => global(alloc, file, line, kind, name, &size, init.as_slice()),
+        TopNode::Func {
+            result: given,
+            name,
+            params,
+            body: None,
+        } => prototype_at(alloc, table, file, line, given, name, params.as_slice()),
+        TopNode::Func {
+            result: given,
+            name,
+            params,
+            body: Some(body),
+        } => definition(alloc, table, file, line, given, name, params, body),
+    }
+}
+
+/// The file scope after all items.
+fn items(
+    alloc: Global,
+    table: &Scopes,
+    tops: Items<Top>,
+) -> Result<FileScope, TypeFault>
+    ensures { Says (programs.items_fault table.now tops programs.empty_file) (programs.items_after table.now tops programs.empty_file) result }
+{
+    let mut file = FileScope {
+        names: Scopes::new(alloc),
+        globals: Items::new(alloc),
+        bytes: 0,
+        functions: Items::new(alloc),
+    };
+    let mut rest = Queue::from_items(tops);
+    while let Some(top) = rest.pop() {
+        file = item(alloc, table, file, top)?;
+    }
+    Ok(file)
+}
+
+fn is_int(given: Option<Kind>) -> bool
+    ensures { result ≡ programs.is_int given }
+{
+    match given {
+        None => false,
+        Some(kind) => kind == Kind::Int,
+    }
+}
+
+fn is_main(found: Option<&Meaning>) -> bool
+    ensures { result ≡ programs.is_main (option_copied found.entry) }
+{
+    match found {
+        Some(
+            Meaning::Function {
+                result,
+                params,
+                defined,
+                ..
+            },
+        ) => is_int(*result) && params.is_empty() && *defined,
+        _ => false,
+    }
+}
+
+fn number_in(callee: Option<Callee>) -> u32
+    ensures { result ≡ programs.number_in callee }
+{
+    match callee {
+        Some(Callee::Func(number)) => number,
+        _ => 0,
+    }
+}
+
+/// The typed program of a unit, or the first fault of its items; a `main` that is missing is found last.
+pub fn type_program(alloc: Global, program: Program) -> Result<TypedProgram, TypeFault>
+    ensures { Says (programs.program_fault program) (programs.program_tree program) result }
+{
+    let Program { items: tops } = program;
+    let main = Word::from_slice(alloc, b"main")?;
+    let table = table(alloc, tops.as_slice())?;
+    let file = items(alloc, &table, tops)?;
+    if !is_main(file.names.look_up(&main)) {
+        return Err(TypeFault::NoMain);
+    }
+    let number = number_in(callee_in(file.names.look_up(&main)));
+    Ok(TypedProgram {
+        globals: file.globals,
+        functions: file.functions,
+        main: number,
+    })
+}

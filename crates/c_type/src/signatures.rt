@@ -1,0 +1,85 @@
+//! What the declarations of a function must agree on.
+
+ghost use Rattle.std.specs.Prelude.{◌≡◌};
+ghost use Rattle.std.specs.Option.{option_copied};
+ghost use Rattle.c_type_expr.specs.Says.{Says};
+ghost use Rattle.c_type.specs.Units as units;
+
+use c_scope::Meaning;
+use c_tree::{Kind, Slot};
+use c_type_expr::TypeFault;
+
+fn same_slot(a: Slot, b: Slot) -> bool
+    ensures { result ≡ units.same_slot a b }
+{
+    match (a, b) {
+        (Slot::Scalar(j), Slot::Scalar(k)) => j == k,
+        (Slot::Address(j), Slot::Address(k)) => j == k,
+        _ => false,
+    }
+}
+
+fn same_slots(a: &[Slot], b: &[Slot]) -> bool
+    ensures { result ≡ units.same_slots a.now b.now }
+{
+    match a {
+        [] => match b {
+            [] => true,
+            [_, ..] => false,
+        },
+        [s, ss @ ..] => match b {
+            [] => false,
+            [t, ts @ ..] => same_slot(*s, *t) && same_slots(ss, ts),
+        },
+    }
+}
+
+fn same_result(a: Option<Kind>, b: Option<Kind>) -> bool
+    ensures { result ≡ units.same_result a b }
+{
+    match (a, b) {
+        (None, None) => true,
+        (Some(j), Some(k)) => j == k,
+        _ => false,
+    }
+}
+
+/// Whether a name may be declared as a function, or defined as one.
+pub fn undefined(found: Option<&Meaning>, is_def: bool, line: u32) -> Result<(), TypeFault>
+    ensures { Says (units.defined_fault is_def (option_copied found.entry) line) tt result }
+{
+    match found {
+        None => Ok(()),
+        Some(Meaning::Function { defined, .. }) => {
+            if is_def && *defined { Err(TypeFault::Twice(line)) } else { Ok(()) }
+        }
+        Some(_) => Err(TypeFault::Twice(line)),
+    }
+}
+
+/// Whether the declarations of a function agree.
+pub fn agrees(
+    found: Option<&Meaning>,
+    given: Option<Kind>,
+    slots: &[Slot],
+    line: u32,
+) -> Result<(), TypeFault>
+    ensures { Says (units.type_fault given slots.now (option_copied found.entry) line) tt result }
+{
+    match found {
+        Some(
+            Meaning::Function {
+                result: declared,
+                params,
+                ..
+            },
+        ) => {
+            if same_result(*declared, given) && same_slots(params.as_slice(), slots) {
+                Ok(())
+            } else {
+                Err(TypeFault::Mismatch(line))
+            }
+        }
+        _ => Ok(()),
+    }
+}
