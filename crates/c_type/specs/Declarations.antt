@@ -44,7 +44,8 @@ scalar_fault w l v =
 
 -- an array has at most 1,048,576 bytes
 abbrev pub array_fault : ℕ → Kind → List ℕ → ℕ → Scope → Blame
-array_fault n k w l G = first (twice_fault G w l) (unless (nat_le (n * bytes k) 1048576) (TooLarge l))
+array_fault n k w l G =
+    first (twice_fault G w l) (unless (nat_le (n * bytes k) 1048576) (TooLarge l))
 
 -- a local array has no initialiser
 abbrev pub no_init : Option Expr → ℕ → Blame
@@ -53,7 +54,8 @@ no_init (Some e) l = Some (Mismatch l)
 
 -- the name is in scope in its own initialiser
 abbrev pub scalar_init_fault : Kind → List ℕ → Option Expr → ℕ → State → Blame
-scalar_init_fault k w init l v = first (scalar_fault w l v) (full_if init Value (with_scalar k w v).names)
+scalar_init_fault k w init l v =
+    first (scalar_fault w l v) (full_if init Value (with_scalar k w v).names)
 
 -- the size comes before the declarator
 abbrev pub sized_fault : Expr → Kind → List ℕ → Option Expr → ℕ → Scope → Blame

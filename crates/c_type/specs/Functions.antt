@@ -46,16 +46,19 @@ named_among (p ∷ ps) w = is_named p.name w || named_among ps w
 -- a definition's parameters have names, each its own
 abbrev pub name_fault : Bool → Scope → List Param → Option (List ℕ) → ℕ → Blame
 name_fault is_def G seen None l = unless (not is_def) (Mismatch l)
-name_fault is_def G seen (Some w) l = unless (not (named_among seen w || is_end (look_up G w))) (Twice l)
+name_fault is_def G seen (Some w) l =
+    unless (not (named_among seen w || is_end (look_up G w))) (Twice l)
 
 -- a parameter after others, of which there are at most eight
 abbrev pub param_fault : Bool → Scope → List Param → Param → Blame
 param_fault is_def G seen p =
-    first (name_fault is_def G seen p.name p.line) (unless (nat_lt (length seen) 8) (TooManyParams p.line))
+    first (name_fault is_def G seen p.name p.line)
+    (unless (nat_lt (length seen) 8) (TooManyParams p.line))
 
 abbrev pub params_fault : Bool → Scope → List Param → List Param → Blame
 params_fault is_def G seen [] = None
-params_fault is_def G seen (p ∷ ps) = first (param_fault is_def G seen p) (params_fault is_def G (seen ++ p ∷ []) ps)
+params_fault is_def G seen (p ∷ ps) =
+    first (param_fault is_def G seen p) (params_fault is_def G (seen ++ p ∷ []) ps)
 
 -- what the function keeps of a parameter
 abbrev pub named_param : Option (List ℕ) → ArraySize → Kind → State → State
@@ -77,11 +80,13 @@ abbrev pub signature : Scope → List ℕ → Option Kind → List Slot → Bool
 signature T w given slots defined = meaning.Function given slots (callee_in (look_up T w)) defined
 
 abbrev pub with_function : Scope → List ℕ → Option Kind → List Slot → Bool → Scope → Scope
-with_function T w given slots defined G = declared_in (bound w (signature T w given slots defined)) G
+with_function T w given slots defined G =
+    declared_in (bound w (signature T w given slots defined)) G
 
 -- a prototype that is repeated declares nothing
 abbrev pub with_prototype : Scope → List ℕ → Option Kind → List Slot → Scope → Scope
-with_prototype T w given slots G = cond (is_some (look_up G w)) G (with_function T w given slots false G)
+with_prototype T w given slots G =
+    cond (is_some (look_up G w)) G (with_function T w given slots false G)
 
 -- the parameters are judged before the function itself
 abbrev pub head_fault : Bool → Option Kind → List ℕ → List Param → ℕ → Scope → Blame
@@ -111,7 +116,8 @@ abbrev pub entry : Scope → List ℕ → Option Kind → List Param → Scope �
 entry T w given params G =
     with_params params (started (with_function T w given (map slot_of params) true G) given)
 
-abbrev pub definition_fault : Scope → Option Kind → List ℕ → List Param → Stmt → ℕ → FileScope → Blame
+abbrev pub definition_fault : Scope → Option Kind → List ℕ → List Param → Stmt → ℕ → FileScope
+    → Blame
 definition_fault T given w params body l U =
     first (head_fault true given w params l U.names)
     ((body_part body).fault false (entry T w given params U.names))
@@ -134,6 +140,7 @@ file_with globals bytes functions count body v = record {
   functions = functions ++ typed_function count body v ∷ [];
 }
 
-abbrev pub with_definition : Scope → Option Kind → List ℕ → List Param → Stmt → FileScope → FileScope
+abbrev pub with_definition : Scope → Option Kind → List ℕ → List Param → Stmt → FileScope
+    → FileScope
 with_definition T given w params body U =
     file_with U.globals U.bytes U.functions (length params) body (entry T w given params U.names)

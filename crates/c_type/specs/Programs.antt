@@ -1,4 +1,4 @@
--- A translation unit (C17 6.9): the first fault of its items, and `main` (C17 5.1.2.2.1) at the end.
+-- A translation unit (C17 6.9): the first fault of its items, and `main` at the end (C17 5.1.2.2.1).
 use Rattle.std.specs.Prelude.{ℕ, ◌+◌, Bool, true, false, ◌&&◌, List, [], ◌∷◌, map, Option, Some, None, Result, Ok, Err, ◌≡◌}
 use Rattle.c_tree.specs.declared.token.Kind.{Kind}
 use Rattle.c_tree.specs.declared.token.Kind.TheVariants.{Int}
@@ -22,15 +22,16 @@ use Rattle.c_type.specs.declared.file_scope.FileScope.{FileScope}
 use Rattle.c_type.specs.Units.{getchar_name, putchar_name, get_char, put_char, include_fault, included, global_fault, with_global}
 use Rattle.c_type.specs.Functions.{slot_of, head_fault, with_prototype, definition_fault, with_definition, callee_in}
 
--- the functions that the unit defines, wherever they stand, by their numbers in the order of the text;
--- the include stands for definitions of its two
+-- the functions that the unit defines, wherever they stand, by their numbers in the order of the
+-- text; the include stands for definitions of its two
 
 abbrev pub count_after : TopNode → ℕ → ℕ
 count_after (Func given w params (Some body)) n = n + 1
 count_after _ n = n
 
 abbrev pub noted : TopNode → ℕ → Scope → Scope
-noted Include n T = declared_in (bound putchar_name put_char) (declared_in (bound getchar_name get_char) T)
+noted Include n T =
+    declared_in (bound putchar_name put_char) (declared_in (bound getchar_name get_char) T)
 noted (Func given w params (Some body)) n T =
     declared_in (bound w (meaning.Function None [] (Some (callee.Func n)) true)) T
 noted _ n T = T
@@ -92,7 +93,8 @@ no_slots (s ∷ ss) = false
 
 -- a definition of type int(void)
 abbrev pub is_main : Option Meaning → Bool
-is_main (Some (meaning.Function result params callee defined)) = is_int result && no_slots params && defined
+is_main (Some (meaning.Function result params callee defined)) =
+    is_int result && no_slots params && defined
 is_main _ = false
 
 abbrev pub number_in : Option Callee → ℕ

@@ -24,17 +24,22 @@ Begins p b old new (Err e) = Stops (p.fault b old) e
 
 -- the same of several
 abbrev pub RunAll : List Part → Bool → State → State → Result (List TypedStmt) TypeFault → Type 0
-RunAll ps b old new (Ok ts) = (all_fault ps b old ≡ None) × (ts ≡ all_trees ps old) × (new ≡ all_after ps old)
+RunAll ps b old new (Ok ts) =
+    (all_fault ps b old ≡ None) × (ts ≡ all_trees ps old) × (new ≡ all_after ps old)
 RunAll ps b old new (Err e) = Stops (all_fault ps b old) e
 
-abbrev pub RunElse : Option Part → Bool → State → State → Result (Option TypedStmt) TypeFault → Type 0
-RunElse p b old new (Ok t) = (else_fault p b old ≡ None) × (t ≡ else_tree p old) × (new ≡ else_after p old)
+abbrev pub RunElse : Option Part → Bool → State → State → Result (Option TypedStmt) TypeFault
+    → Type 0
+RunElse p b old new (Ok t) =
+    (else_fault p b old ≡ None) × (t ≡ else_tree p old) × (new ≡ else_after p old)
 RunElse p b old new (Err e) = Stops (else_fault p b old) e
 
 -- the two legs of an `if`
-abbrev pub RunLegs : Part → Option Part → Bool → State → State → Result (TypedStmt × Option TypedStmt) TypeFault → Type 0
+abbrev pub RunLegs : Part → Option Part → Bool → State → State
+    → Result (TypedStmt × Option TypedStmt) TypeFault → Type 0
 RunLegs p q b old new (Ok t) =
-    (first (p.fault b old) (else_fault q b (p.after old)) ≡ None) × (t.0 ≡ p.tree old) × (t.1 ≡ else_tree q (p.after old)) × (new ≡ else_after q (p.after old))
+    (first (p.fault b old) (else_fault q b (p.after old)) ≡ None) × (t.0 ≡ p.tree old)
+    × (t.1 ≡ else_tree q (p.after old)) × (new ≡ else_after q (p.after old))
 RunLegs p q b old new (Err e) = Stops (first (p.fault b old) (else_fault q b (p.after old))) e
 
 -- the state is that one, unless memory runs out

@@ -85,7 +85,8 @@ abbrev pub rest_fault : Option Expr → Option Expr → Part → State → Blame
 rest_fault test post body v = first (full_if test Value v.names) (tail_fault post body v)
 
 abbrev pub for_fault : Beginning → Option Expr → Option Expr → Part → Bool → State → Blame
-for_fault init test post body b v = first (init.fault b v) (rest_fault test post body (init.after v))
+for_fault init test post body b v =
+    first (init.fault b v) (rest_fault test post body (init.after v))
 
 abbrev pub for_tree : Beginning → Option Expr → Option Expr → Part → State → TypedStmt
 for_tree init test post body v =
@@ -117,7 +118,8 @@ node_part (Compound ps) l = record {
 }
 node_part (If test one other) l = record {
   after = λ v. else_after other (one.after v);
-  fault = λ b v. first (full test Value v.names) (first (one.fault b v) (else_fault other b (one.after v)));
+  fault = λ b v. first (full test Value v.names)
+      (first (one.fault b v) (else_fault other b (one.after v)));
   tree = λ v. typed.If (tree test v.names) (one.tree v) (else_tree other (one.after v));
 }
 node_part (While test body) l = record {
@@ -127,8 +129,16 @@ node_part (While test body) l = record {
 }
 node_part (Do body test) l = do_part body test
 node_part (For init test post body) l = for_part init test post body
-node_part Break l = record { after = λ v. v; fault = λ b v. unless b (Mismatch l); tree = λ v. typed.Break }
-node_part Continue l = record { after = λ v. v; fault = λ b v. unless b (Mismatch l); tree = λ v. typed.Continue }
+node_part Break l = record {
+  after = λ v. v;
+  fault = λ b v. unless b (Mismatch l);
+  tree = λ v. typed.Break;
+}
+node_part Continue l = record {
+  after = λ v. v;
+  fault = λ b v. unless b (Mismatch l);
+  tree = λ v. typed.Continue;
+}
 node_part (Return e) l = record {
   after = λ v. v;
   fault = λ b v. first (full_if e Value v.names) (return_fault v.result e l);

@@ -10,6 +10,7 @@ use Rattle.c_tree.specs.declared.typed.Callee.TheVariants as callee
 use Rattle.c_tree.specs.declared.typed.Place.TheVariants as place
 use Rattle.c_tree.specs.declared.typed.Slot.{Slot}
 use Rattle.c_tree.specs.declared.typed.Slot.TheVariants as slot
+use Rattle.c_tree.specs.declared.typed.TypedGlobal.{TypedGlobal}
 use Rattle.c_constant.specs.Kinds.{same_kind}
 use Rattle.c_scope.specs.declared.meaning.Meaning.{Meaning}
 use Rattle.c_scope.specs.declared.meaning.Meaning.TheVariants as meaning
@@ -61,7 +62,8 @@ type_fault given slots (Some (meaning.Function result params callee defined)) l 
 type_fault given slots _ l = None
 
 abbrev pub function_fault : Bool → Option Kind → List Slot → Option Meaning → ℕ → Blame
-function_fault is_def given slots m l = first (defined_fault is_def m l) (type_fault given slots m l)
+function_fault is_def given slots m l =
+    first (defined_fault is_def m l) (type_fault given slots m l)
 
 -- INCLUDE
 
@@ -123,11 +125,18 @@ length_in _ n = Some n
 abbrev pub global_names : ArraySize → Kind → List ℕ → FileScope → Scope
 global_names size k w U = declared_in (bound w (global_meaning size k (length U.globals))) U.names
 
+abbrev pub typed_global : ArraySize → Kind → List Expr → TypedGlobal
+typed_global size k init = record {
+  kind = k;
+  length = length_in size (count_of size init);
+  init = map (constant_at k) init;
+}
+
 abbrev pub with_global : ArraySize → Kind → List ℕ → List Expr → FileScope → FileScope
 with_global size k w init U =
     record U {
       names = global_names size k w U;
-      globals = U.globals ++ (record { kind = k; length = length_in size (count_of size init); init = map (constant_at k) init }) ∷ [];
+      globals = U.globals ++ typed_global size k init ∷ [];
       bytes = count_of size init * bytes k + U.bytes;
     }
 

@@ -49,7 +49,11 @@ pub fn is_taken(names: &Scopes, name: &Word) -> bool
 pub fn twice(names: &Scopes, name: &Word, line: u32) -> Result<(), TypeFault>
     ensures { Says (declarations.twice_fault names.now name.now line) tt result }
 {
-    if is_taken(names, name) { Err(TypeFault::Twice(line)) } else { Ok(()) }
+    if is_taken(names, name) {
+        Err(TypeFault::Twice(line))
+    } else {
+        Ok(())
+    }
 }
 
 /// The length of an array that may be declared.
@@ -60,7 +64,10 @@ fn array_length(
     name: &Word,
     line: u32,
 ) -> Result<u32, TypeFault>
-    ensures { Says (first (constants.size_fault size.now names.now) (declarations.array_fault (constants.word_in (constants.length_of size.now)) kind name.now line names.now)) (constants.word_in (constants.length_of size.now)) result }
+    ensures { Says (first (constants.size_fault size.now names.now)
+        (declarations.array_fault (constants.word_in (constants.length_of size.now)) kind name.now
+        line names.now))
+        (constants.word_in (constants.length_of size.now)) result }
 {
     let length = size_length(names, size)?;
     twice(names, name, line)?;
@@ -72,11 +79,16 @@ fn array_length(
 
 /// The place of a scalar that may be declared.
 fn scalar_place(state: &State, name: &Word, line: u32) -> Result<u32, TypeFault>
-    ensures { Says (declarations.scalar_fault name.now line state.now) (length state.now.scalars) result }
+    ensures { Says (declarations.scalar_fault name.now line state.now) (length state.now.scalars)
+        result }
 {
     twice(&state.names, name, line)?;
     let place = state.scalars.len();
-    if place < 64 { Ok(place as u32) } else { Err(TypeFault::TooManyScalars(line)) }
+    if place < 64 {
+        Ok(place as u32)
+    } else {
+        Err(TypeFault::TooManyScalars(line))
+    }
 }
 
 fn array_place(state: &State) -> Result<u32, TypeFault>
@@ -162,7 +174,8 @@ fn bare_length(
     init: &Option<Expr>,
     line: u32,
 ) -> Result<u32, TypeFault>
-    ensures { Says (declarations.sized_fault size.now kind name.now init.now line names.now) (constants.word_in (constants.length_of size.now)) result }
+    ensures { Says (declarations.sized_fault size.now kind name.now init.now line names.now)
+        (constants.word_in (constants.length_of size.now)) result }
 {
     let count = array_length(names, size, kind, name, line)?;
     no_init(init, line)?;
@@ -176,7 +189,8 @@ fn sized(
     name: Word,
     count: u32,
 ) -> Result<TypedStmt, TypeFault>
-    ensures { Moves None (TypedStmt.Declare (Place.Array (length state.old.arrays)) None) (states.with_array kind name count state.old) state.new result }
+    ensures { Moves None (TypedStmt.Declare (Place.Array (length state.old.arrays)) None)
+        (states.with_array kind name count state.old) state.new result }
 {
     let place = array_place(state)?;
     add_array(alloc, state, kind, name, place, count)?;
@@ -195,7 +209,10 @@ fn declare_array(
     size: &Expr,
     init: &Option<Expr>,
 ) -> Result<TypedStmt, TypeFault>
-    ensures { Moves (declarations.sized_fault size.now kind name init.now line state.old.names) (TypedStmt.Declare (Place.Array (length state.old.arrays)) None) (states.with_array kind name (constants.word_in (constants.length_of size.now)) state.old) state.new result }
+    ensures { Moves (declarations.sized_fault size.now kind name init.now line state.old.names)
+        (TypedStmt.Declare (Place.Array (length state.old.arrays)) None)
+        (states.with_array kind name (constants.word_in (constants.length_of size.now)) state.old)
+        state.new result }
 {
     let count = bare_length(&state.names, size, kind, &name, init, line)?;
     sized(alloc, state, kind, name, count)
@@ -209,7 +226,10 @@ fn declare_scalar(
     name: Word,
     init: Option<Expr>,
 ) -> Result<TypedStmt, TypeFault>
-    ensures { Moves (declarations.scalar_init_fault kind name init line state.old) (TypedStmt.Declare (Place.Scalar (length state.old.scalars)) (states.value_of init kind (states.with_scalar kind name state.old).names)) (states.with_scalar kind name state.old) state.new result }
+    ensures { Moves (declarations.scalar_init_fault kind name init line state.old)
+        (TypedStmt.Declare (Place.Scalar (length state.old.scalars))
+        (states.value_of init kind (states.with_scalar kind name state.old).names))
+        (states.with_scalar kind name state.old) state.new result }
 {
     let place = scalar_place(state, &name, line)?;
     add_scalar(alloc, state, kind, name, place)?;
@@ -231,7 +251,8 @@ pub fn declare(
     size: ArraySize,
     init: Option<Expr>,
 ) -> Result<TypedStmt, TypeFault>
-    ensures { Runs (part (states.at line (node.Declare kind name size init))) in_loop state.old state.new result }
+    ensures { Runs (part (states.at line (node.Declare kind name size init))) in_loop state.old
+        state.new result }
 {
     match size {
         ArraySize::Scalar => declare_scalar(alloc, state, line, kind, name, init),

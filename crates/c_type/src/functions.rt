@@ -17,8 +17,7 @@ use crate::statements::{all, type_stmt};
 use base::{Items, Queue};
 use c_scope::{Meaning, Scopes};
 use c_tree::{
-    ArraySize, Callee, Kind, Param, Slot, Stmt, StmtNode, TypedFunc, TypedGlobal, TypedStmt,
-    Word,
+    ArraySize, Callee, Kind, Param, Slot, Stmt, StmtNode, TypedFunc, TypedGlobal, TypedStmt, Word,
 };
 use c_type_expr::TypeFault;
 use std::alloc::Global;
@@ -71,7 +70,13 @@ fn name_at(
     ensures { Says (functions.name_fault is_def names.now seen.now name.now line) tt result }
 {
     match name {
-        None => { if is_def { Err(TypeFault::Mismatch(line)) } else { Ok(()) } }
+        None => {
+            if is_def {
+                Err(TypeFault::Mismatch(line))
+            } else {
+                Ok(())
+            }
+        }
         Some(word) => {
             if named_among(seen, word) || is_end(names.look_up(word)) {
                 Err(TypeFault::Twice(line))
@@ -82,16 +87,15 @@ fn name_at(
     }
 }
 
-fn param_at(
-    names: &Scopes,
-    is_def: bool,
-    seen: &[Param],
-    param: &Param,
-) -> Result<(), TypeFault>
+fn param_at(names: &Scopes, is_def: bool, seen: &[Param], param: &Param) -> Result<(), TypeFault>
     ensures { Says (functions.param_fault is_def names.now seen.now param.now) tt result }
 {
     name_at(names, is_def, seen, &param.name, param.line)?;
-    if seen.len() < 8 { Ok(()) } else { Err(TypeFault::TooManyParams(param.line)) }
+    if seen.len() < 8 {
+        Ok(())
+    } else {
+        Err(TypeFault::TooManyParams(param.line))
+    }
 }
 
 /// Whether a function may have these parameters: the ninth is the last that is looked at.
@@ -114,7 +118,8 @@ fn head(
     params: &[Param],
     line: u32,
 ) -> Result<Items<Slot>, TypeFault>
-    ensures { Says (functions.head_fault is_def given name.now params.now line names.now) (map functions.slot_of params.now) result }
+    ensures { Says (functions.head_fault is_def given name.now params.now line names.now)
+        (map functions.slot_of params.now) result }
 {
     params_at(names, is_def, params)?;
     let slots = slots_of(alloc, params)?;
@@ -145,12 +150,16 @@ fn declared(
 {
     let callee = callee_in(table.look_up(&name));
     let mut names = names;
-    names.declare(alloc, name, Meaning::Function {
-        result: given,
-        params: slots,
-        callee,
-        defined,
-    })?;
+    names.declare(
+        alloc,
+        name,
+        Meaning::Function {
+            result: given,
+            params: slots,
+            callee,
+            defined,
+        },
+    )?;
     Ok(names)
 }
 
@@ -164,7 +173,10 @@ pub fn prototype(
     name: Word,
     params: &[Param],
 ) -> Result<Scopes, TypeFault>
-    ensures { Says (functions.head_fault Rattle.std.specs.Prelude.false given name params.now line names) (functions.with_prototype table.now name given (map functions.slot_of params.now) names) result }
+    ensures { Says
+        (functions.head_fault Rattle.std.specs.Prelude.false given name params.now line names)
+        (functions.with_prototype table.now name given (map functions.slot_of params.now) names)
+        result }
 {
     let slots = head(alloc, &names, false, given, &name, params, line)?;
     if names.look_up(&name).is_some() {
@@ -195,11 +207,15 @@ fn param_count(params: &[Param]) -> Result<u32, TypeFault>
 
 /// Keeps a parameter.
 fn add_param(alloc: Global, state: &mut State, param: Param) -> Result<(), TypeFault>
-    ensures { Adds (functions.named_param param.name param.size param.kind state.old) state.new result }
+    ensures { Adds (functions.named_param param.name param.size param.kind state.old) state.new
+        result }
 {
     let place = scalar_count(state)?;
     let Param {
-        kind, name, size, ..
+        kind,
+        name,
+        size,
+        ..
     } = param;
     let Some(name) = name else {
         return Ok(());
@@ -223,7 +239,8 @@ fn add_params(alloc: Global, state: &mut State, params: Items<Param>) -> Result<
 /// A body, whose outermost block is the scope of the parameters.
 #[tactic(auto, unfolding(crate::specs::Functions::body_part))]
 fn body(alloc: Global, state: &mut State, s: Stmt) -> Result<TypedStmt, TypeFault>
-    ensures { Runs (functions.body_part s) Rattle.std.specs.Prelude.false state.old state.new result }
+    ensures { Runs (functions.body_part s) Rattle.std.specs.Prelude.false state.old state.new
+        result }
 {
     let Stmt { line, node } = s;
     match node {
@@ -267,7 +284,9 @@ fn bodied(
     s: Stmt,
     count: u32,
 ) -> Result<(Scopes, TypedFunc), TypeFault>
-    ensures { Says ((functions.body_part s).fault Rattle.std.specs.Prelude.false state) (closed ((functions.body_part s).after state).names, functions.typed_function count s state) result }
+    ensures { Says ((functions.body_part s).fault Rattle.std.specs.Prelude.false state)
+        (closed ((functions.body_part s).after state).names, functions.typed_function count s state)
+        result }
 {
     let mut state = state;
     let body = body(alloc, &mut state, s)?;
@@ -301,7 +320,8 @@ fn defined(
     s: Stmt,
     count: u32,
 ) -> Result<FileScope, TypeFault>
-    ensures { Says ((body_part s).fault Rattle.std.specs.Prelude.false state) (file_with globals bytes functions count s state) result }
+    ensures { Says ((body_part s).fault Rattle.std.specs.Prelude.false state)
+        (file_with globals bytes functions count s state) result }
 {
     let (names, function) = bodied(alloc, state, s, count)?;
     let mut functions = functions;
@@ -325,9 +345,18 @@ pub fn definition(
     params: Items<Param>,
     s: Stmt,
 ) -> Result<FileScope, TypeFault>
-    ensures { Says (functions.definition_fault table.now given name params s line file) (functions.with_definition table.now given name params s file) result }
+    ensures { Says (functions.definition_fault table.now given name params s line file)
+        (functions.with_definition table.now given name params s file) result }
 {
-    let slots = head(alloc, &file.names, true, given, &name, params.as_slice(), line)?;
+    let slots = head(
+        alloc,
+        &file.names,
+        true,
+        given,
+        &name,
+        params.as_slice(),
+        line,
+    )?;
     let count = param_count(params.as_slice())?;
     let FileScope {
         names,

@@ -32,23 +32,28 @@ fn place_at(
     ensures { Says (units.place_fault count kind name.now line file.now) tt result }
 {
     twice(&file.names, name, line)?;
-    if has_room(count, kind, file.bytes) { Ok(()) } else { Err(TypeFault::TooLarge(line)) }
+    if has_room(count, kind, file.bytes) {
+        Ok(())
+    } else {
+        Err(TypeFault::TooLarge(line))
+    }
 }
 
 fn some_values(count: usize, line: u32) -> Result<(), TypeFault>
-    ensures { Says (unless (Rattle.std.specs.Prelude.nat_lt 0 count) (TypeFault.Mismatch line)) tt result }
+    ensures { Says (unless (Rattle.std.specs.Prelude.nat_lt 0 count) (TypeFault.Mismatch line)) tt
+        result }
 {
-    if count == 0 { Err(TypeFault::Mismatch(line)) } else { Ok(()) }
+    if count == 0 {
+        Err(TypeFault::Mismatch(line))
+    } else {
+        Ok(())
+    }
 }
 
 /// How many values a global holds.
-fn count_in(
-    names: &Scopes,
-    size: &ArraySize,
-    init: &[Expr],
-    line: u32,
-) -> Result<u64, TypeFault>
-    ensures { Says (units.count_fault size.now init.now line names.now) (units.count_of size.now init.now) result }
+fn count_in(names: &Scopes, size: &ArraySize, init: &[Expr], line: u32) -> Result<u64, TypeFault>
+    ensures { Says (units.count_fault size.now init.now line names.now)
+        (units.count_of size.now init.now) result }
 {
     match size {
         ArraySize::Scalar => Ok(1),
@@ -61,13 +66,9 @@ fn count_in(
 }
 
 /// The values of an initialiser at a kind.
-fn values(
-    alloc: Global,
-    names: &Scopes,
-    kind: Kind,
-    init: &[Expr],
-) -> Result<Items<u64>, TypeFault>
-    ensures { Says (units.values_fault init.now names.now) (map (constants.constant_at kind) init.now) result }
+fn values(alloc: Global, names: &Scopes, kind: Kind, init: &[Expr]) -> Result<Items<u64>, TypeFault>
+    ensures { Says (units.values_fault init.now names.now)
+        (map (constants.constant_at kind) init.now) result }
 {
     let mut found = Items::new(alloc);
     for e in init {
@@ -109,7 +110,11 @@ fn global_number(file: &FileScope) -> Result<u32, TypeFault>
 fn fits(count: u64, given: usize, line: u32) -> Result<(), TypeFault>
     ensures { Says (unless (nat_le given count) (TypeFault.Mismatch line)) tt result }
 {
-    if given as u64 <= count { Ok(()) } else { Err(TypeFault::Mismatch(line)) }
+    if given as u64 <= count {
+        Ok(())
+    } else {
+        Err(TypeFault::Mismatch(line))
+    }
 }
 
 /// The number of a global that may be declared, and how many values it holds.
@@ -121,7 +126,8 @@ fn admitted(
     size: &ArraySize,
     init: &[Expr],
 ) -> Result<(u64, u32), TypeFault>
-    ensures value { Says (units.admitted_fault size.now kind name.now init.now line file.now) (units.count_of size.now init.now, length file.now.globals) result }
+    ensures value { Says (units.admitted_fault size.now kind name.now init.now line file.now)
+        (units.count_of size.now init.now, length file.now.globals) result }
     ensures few { IfOk result (λ r. r.0 * declarations.bytes kind + file.now.bytes ≤ 1048576) }
 {
     let count = count_in(&file.names, size, init, line)?;
@@ -139,7 +145,9 @@ fn given(
     count: u64,
     init: &[Expr],
 ) -> Result<Items<u64>, TypeFault>
-    ensures { Says (first (units.values_fault init.now names.now) (unless (nat_le (length init.now) count) (TypeFault.Mismatch line))) (map (constants.constant_at kind) init.now) result }
+    ensures { Says (first (units.values_fault init.now names.now)
+        (unless (nat_le (length init.now) count) (TypeFault.Mismatch line)))
+        (map (constants.constant_at kind) init.now) result }
 {
     let words = values(alloc, names, kind, init)?;
     fits(count, init.len(), line)?;
@@ -156,11 +164,13 @@ pub fn global(
     size: &ArraySize,
     init: &[Expr],
 ) -> Result<FileScope, TypeFault>
-    ensures { Says (units.global_fault size.now kind name init.now line file) (units.with_global size.now kind name init.now file) result }
+    ensures { Says (units.global_fault size.now kind name init.now line file)
+        (units.with_global size.now kind name init.now file) result }
 {
     let mut file = file;
     let (count, number) = admitted(&file, line, kind, &name, size, init)?;
-    file.names.declare(alloc, name, meaning_of(size, kind, number))?;
+    file.names
+        .declare(alloc, name, meaning_of(size, kind, number))?;
     let init = given(alloc, &file.names, line, kind, count, init)?;
     file.bytes += count * bytes(kind);
     file.globals.push(TypedGlobal {

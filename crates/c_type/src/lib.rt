@@ -8,6 +8,8 @@ mod globals;
 mod includes;
 mod parts;
 mod program;
+#[cfg(test)]
+mod rows;
 mod signatures;
 mod state;
 mod statements;

@@ -37,7 +37,8 @@ pub fn value_to(
     kind: Kind,
     e: Option<Expr>,
 ) -> Result<Option<TypedExpr>, TypeFault>
-    ensures { Says (states.full_if e Role.Value names.now) (states.value_of e kind names.now) result }
+    ensures { Says (states.full_if e Role.Value names.now) (states.value_of e kind names.now)
+        result }
 {
     match e {
         None => Ok(None),
@@ -56,18 +57,28 @@ pub fn return_stmt(
     line: u32,
     e: Option<Expr>,
 ) -> Result<TypedStmt, TypeFault>
-    ensures { Says (first (states.full_if e Role.Value state.now.names) (return_fault state.now.result e line)) (TypedStmt.Return (return_tree state.now.result e state.now.names)) result }
+    ensures { Says (first (states.full_if e Role.Value state.now.names)
+        (return_fault state.now.result e line))
+        (TypedStmt.Return (return_tree state.now.result e state.now.names)) result }
 {
     match state.result {
         None => {
             let found = e.is_some();
             let e = full_if(alloc, &state.names, Role::Value, e)?;
-            if found { Err(TypeFault::Mismatch(line)) } else { Ok(TypedStmt::Return(e)) }
+            if found {
+                Err(TypeFault::Mismatch(line))
+            } else {
+                Ok(TypedStmt::Return(e))
+            }
         }
         Some(kind) => {
             let missing = e.is_none();
             let e = value_to(alloc, &state.names, kind, e)?;
-            if missing { Err(TypeFault::Mismatch(line)) } else { Ok(TypedStmt::Return(e)) }
+            if missing {
+                Err(TypeFault::Mismatch(line))
+            } else {
+                Ok(TypedStmt::Return(e))
+            }
         }
     }
 }

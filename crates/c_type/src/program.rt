@@ -12,13 +12,14 @@ use crate::globals::global;
 use crate::includes::{get_char, getchar_name, include, put_char, putchar_name};
 use base::{Items, Queue};
 use c_scope::{Meaning, Scopes};
-use c_tree::{Callee, Kind, Param, Program, Top, TopNode, TypedProgram, Word};
+use c_tree::{Callee, Kind, Param, Program, Stmt, Top, TopNode, TypedProgram, Word};
 use c_type_expr::TypeFault;
 use std::alloc::Global;
 
 /// Notes what an item defines, as the function of that number.
 fn note(alloc: Global, table: &mut Scopes, node: &TopNode, number: u32) -> Result<(), TypeFault>
-    ensures { Rattle.c_type.specs.Programs.Notes (programs.noted node.now number table.old) table.new result }
+    ensures { programs.Notes (programs.noted node.now number table.old)
+        table.new result }
 {
     match node {
         TopNode::Include => {
@@ -33,12 +34,16 @@ fn note(alloc: Global, table: &mut Scopes, node: &TopNode, number: u32) -> Resul
             ..
         } => {
             let name = name.copy(alloc)?;
-            table.declare(alloc, name, Meaning::Function {
-                result: None,
-                params: Items::new(alloc),
-                callee: Some(Callee::Func(number)),
-                defined: true,
-            })?;
+            table.declare(
+                alloc,
+                name,
+                Meaning::Function {
+                    result: None,
+                    params: Items::new(alloc),
+                    callee: Some(Callee::Func(number)),
+                    defined: true,
+                },
+            )?;
             Ok(())
         }
         _ => Ok(()),
@@ -75,7 +80,8 @@ fn table(alloc: Global, items: &[Top]) -> Result<Scopes, TypeFault>
 
 /// The file scope after the include.
 fn include_at(alloc: Global, file: FileScope, line: u32) -> Result<FileScope, TypeFault>
-    ensures { Says (programs.node_fault ([] ∷ []) TopNode.Include line file) (programs.node_after ([] ∷ []) TopNode.Include file) result }
+    ensures { Says (programs.node_fault ([] ∷ []) TopNode.Include line file)
+        (programs.node_after ([] ∷ []) TopNode.Include file) result }
 {
     let FileScope {
         names,
@@ -102,7 +108,8 @@ fn prototype_at(
     name: Word,
     params: &[Param],
 ) -> Result<FileScope, TypeFault>
-    ensures { Says (programs.prototype_fault given name params.now line file) (programs.with_prototype_at table.now given name params.now file) result }
+    ensures { Says (programs.prototype_fault given name params.now line file)
+        (programs.with_prototype_at table.now given name params.now file) result }
 {
     let FileScope {
         names,
@@ -119,14 +126,30 @@ fn prototype_at(
     })
 }
 
-/// The file scope after an item.
-fn item(
+/// The file scope after a prototype or a definition.
+fn function(
     alloc: Global,
     table: &Scopes,
     file: FileScope,
-    top: Top,
+    line: u32,
+    given: Option<Kind>,
+    name: Word,
+    params: Items<Param>,
+    body: Option<Stmt>,
 ) -> Result<FileScope, TypeFault>
-    ensures { Says (programs.item_fault table.now top file) (programs.item_after table.now top file) result }
+    ensures { Says (programs.node_fault table.now (TopNode.Func given name params body) line file)
+        (programs.node_after table.now (TopNode.Func given name params body) file) result }
+{
+    match body {
+        None => prototype_at(alloc, table, file, line, given, name, params.as_slice()),
+        Some(body) => definition(alloc, table, file, line, given, name, params, body),
+    }
+}
+
+/// The file scope after an item.
+fn item(alloc: Global, table: &Scopes, file: FileScope, top: Top) -> Result<FileScope, TypeFault>
+    ensures { Says (programs.item_fault table.now top file) (programs.item_after table.now top file)
+        result }
 {
     let Top { line, node } = top;
     match node {
@@ -141,24 +164,15 @@ fn item(
             result: given,
             name,
             params,
-            body: None,
-        } => prototype_at(alloc, table, file, line, given, name, params.as_slice()),
-        TopNode::Func {
-            result: given,
-            name,
-            params,
-            body: Some(body),
-        } => definition(alloc, table, file, line, given, name, params, body),
+            body,
+        } => function(alloc, table, file, line, given, name, params, body),
     }
 }
 
 /// The file scope after all items.
-fn items(
-    alloc: Global,
-    table: &Scopes,
-    tops: Items<Top>,
-) -> Result<FileScope, TypeFault>
-    ensures { Says (programs.items_fault table.now tops programs.empty_file) (programs.items_after table.now tops programs.empty_file) result }
+fn items(alloc: Global, table: &Scopes, tops: Items<Top>) -> Result<FileScope, TypeFault>
+    ensures { Says (programs.items_fault table.now tops programs.empty_file)
+        (programs.items_after table.now tops programs.empty_file) result }
 {
     let mut file = FileScope {
         names: Scopes::new(alloc),
@@ -207,7 +221,8 @@ fn number_in(callee: Option<Callee>) -> u32
     }
 }
 
-/// The typed program of a unit, or the first fault of its items; a `main` that is missing is found last.
+/// The typed program of a unit, or the first fault of its items; a `main` that is missing is found
+/// last.
 pub fn type_program(alloc: Global, program: Program) -> Result<TypedProgram, TypeFault>
     ensures { Says (programs.program_fault program) (programs.program_tree program) result }
 {

@@ -51,7 +51,11 @@ pub fn undefined(found: Option<&Meaning>, is_def: bool, line: u32) -> Result<(),
     match found {
         None => Ok(()),
         Some(Meaning::Function { defined, .. }) => {
-            if is_def && *defined { Err(TypeFault::Twice(line)) } else { Ok(()) }
+            if is_def && *defined {
+                Err(TypeFault::Twice(line))
+            } else {
+                Ok(())
+            }
         }
         Some(_) => Err(TypeFault::Twice(line)),
     }

@@ -45,14 +45,22 @@ fn give(
 fn break_stmt(state: &State, in_loop: bool, line: u32) -> Result<TypedStmt, TypeFault>
     ensures { Runs (part (at line node.Break)) in_loop state.now state.now result }
 {
-    if in_loop { Ok(TypedStmt::Break) } else { Err(TypeFault::Mismatch(line)) }
+    if in_loop {
+        Ok(TypedStmt::Break)
+    } else {
+        Err(TypeFault::Mismatch(line))
+    }
 }
 
 #[tactic(auto, using(crate::proofs::Nodes::on_continue))]
 fn continue_stmt(state: &State, in_loop: bool, line: u32) -> Result<TypedStmt, TypeFault>
     ensures { Runs (part (at line node.Continue)) in_loop state.now state.now result }
 {
-    if in_loop { Ok(TypedStmt::Continue) } else { Err(TypeFault::Mismatch(line)) }
+    if in_loop {
+        Ok(TypedStmt::Continue)
+    } else {
+        Err(TypeFault::Mismatch(line))
+    }
 }
 
 /// The statements of a block, one after another.
@@ -232,7 +240,9 @@ fn tail_of(
     state: &mut State,
     tail: Tail,
 ) -> Result<(Option<TypedExpr>, Boxed<TypedStmt>), TypeFault>
-    ensures { Moves (tail_fault tail.post (part tail.body) state.old) (tree_if tail.post state.old.names, (part tail.body).tree state.old) ((part tail.body).after state.old) state.new result }
+    ensures { Moves (tail_fault tail.post (part tail.body) state.old)
+        (tree_if tail.post state.old.names, (part tail.body).tree state.old)
+        ((part tail.body).after state.old) state.new result }
 {
     let Tail { post, body } = tail;
     let post = full_if(alloc, &state.names, Role::Free, post)?;
@@ -246,7 +256,14 @@ fn rest_of(
     state: &mut State,
     rest: Rest,
 ) -> Result<(Option<TypedExpr>, (Option<TypedExpr>, Boxed<TypedStmt>)), TypeFault>
-    ensures { Moves (rest_fault rest.test rest.tail.post (part rest.tail.body) state.old) (tree_if rest.test state.old.names, (tree_if rest.tail.post state.old.names, (part rest.tail.body).tree state.old)) ((part rest.tail.body).after state.old) state.new result }
+    ensures { Moves (rest_fault rest.test rest.tail.post (part rest.tail.body) state.old) (
+      tree_if rest.test state.old.names,
+      (
+        tree_if rest.tail.post state.old.names,
+        (part rest.tail.body).tree state.old,
+      ),
+    )
+        ((part rest.tail.body).after state.old) state.new result }
 {
     let Rest { test, tail } = rest;
     let test = full_if(alloc, &state.names, Role::Value, test)?;
@@ -264,7 +281,8 @@ fn for_stmt(
     init: ForInit,
     rest: Rest,
 ) -> Result<TypedStmt, TypeFault>
-    ensures { Runs (part (at line (node.For init rest.test rest.tail.post rest.tail.body))) in_loop state.old state.new result }
+    ensures { Runs (part (at line (node.For init rest.test rest.tail.post rest.tail.body))) in_loop
+        state.old state.new result }
 {
     state.names.open()?;
     let init = beginning(alloc, state, in_loop, init)?;

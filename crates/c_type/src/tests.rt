@@ -1,127 +1,161 @@
-//! Small units, built as trees, and what their typing answers.
+//! The rows of units, built as trees.
 
+use crate::rows::{Body, Item, ROWS, Row, Typed, Value};
 use crate::{TypeFault, type_program};
 use base::Items;
-use c_tree::{ArraySize, Expr, ExprNode, Kind, Program, Stmt, StmtNode, Top, TopNode, Word};
+use c_tree::{ArraySize, Expr, ExprNode, Kind, Param, Program, Stmt, StmtNode, Top, TopNode, Word};
 use std::alloc::Global;
+use std::process::Abort;
 
-fn number(line: u32, value: u64) -> Expr {
-    Expr {
-        line,
-        node: ExprNode::Number {
+fn expression(alloc: Global, line: u32, value: Value) -> Result<Expr, TypeFault> {
+    let node = match value {
+        Value::Number(value) => ExprNode::Number {
             value,
             kind: Kind::Int,
         },
-    }
+        Value::Name(name) => ExprNode::Name(Word::from_slice(alloc, name)?),
+        Value::Call(name) => ExprNode::Call {
+            function: Word::from_slice(alloc, name)?,
+            args: Items::new(alloc),
+        },
+    };
+    Ok(Expr { line, node })
 }
 
-fn name(alloc: Global, line: u32, bytes: &[u8]) -> Result<Expr, TypeFault> {
-    Ok(Expr {
+fn statement(alloc: Global, line: u32, body: Body) -> Result<Stmt, TypeFault> {
+    let node = match body {
+        Body::Give(value) => StmtNode::Return(Some(expression(alloc, line, value)?)),
+        Body::Leave => StmtNode::Return(None),
+        Body::Break => StmtNode::Break,
+        Body::Scalar(name, init) => StmtNode::Declare {
+            kind: Kind::Int,
+            name: Word::from_slice(alloc, name)?,
+            size: ArraySize::Scalar,
+            init: Some(expression(alloc, line, init)?),
+        },
+    };
+    Ok(Stmt { line, node })
+}
+
+fn block(alloc: Global, line: u32, body: Body) -> Result<Stmt, TypeFault> {
+    let mut all = Items::new(alloc);
+    all.push(statement(alloc, line, body)?)?;
+    Ok(Stmt {
         line,
-        node: ExprNode::Name(Word::from_slice(alloc, bytes)?),
+        node: StmtNode::Compound(all),
     })
 }
 
-fn give(line: u32, e: Expr) -> Stmt {
-    Stmt {
-        line,
-        node: StmtNode::Return(Some(e)),
+fn params(alloc: Global, line: u32, count: u8) -> Result<Items<Param>, TypeFault> {
+    let mut all = Items::new(alloc);
+    for number in 0..count {
+        all.push(Param {
+            line,
+            kind: Kind::Int,
+            name: Some(Word::from_slice(alloc, &[b'p'.wrapping_add(number)])?),
+            size: ArraySize::Scalar,
+        })?;
     }
+    Ok(all)
 }
 
-/// `kind name(void) { statement }`
-fn function(alloc: Global, line: u32, bytes: &[u8], s: Stmt) -> Result<Top, TypeFault> {
-    let mut body = Items::new(alloc);
-    body.push(s)?;
+fn function(
+    alloc: Global,
+    line: u32,
+    name: &[u8],
+    count: u8,
+    body: Option<Stmt>,
+) -> Result<Top, TypeFault> {
+    let params = params(alloc, line, count)?;
+    let name = Word::from_slice(alloc, name)?;
     Ok(Top {
         line,
         node: TopNode::Func {
             result: Some(Kind::Int),
-            name: Word::from_slice(alloc, bytes)?,
-            params: Items::new(alloc),
-            body: Some(Stmt {
-                line,
-                node: StmtNode::Compound(body),
-            }),
+            name,
+            params,
+            body,
         },
     })
 }
 
-fn global(alloc: Global, line: u32, bytes: &[u8], init: Expr) -> Result<Top, TypeFault> {
-    let mut values = Items::new(alloc);
-    values.push(init)?;
+fn global(
+    alloc: Global,
+    line: u32,
+    name: &[u8],
+    size: ArraySize,
+    init: Items<Expr>,
+) -> Result<Top, TypeFault> {
     Ok(Top {
         line,
         node: TopNode::Global {
             kind: Kind::Char,
-            name: Word::from_slice(alloc, bytes)?,
-            size: ArraySize::Scalar,
-            init: values,
+            name: Word::from_slice(alloc, name)?,
+            size,
+            init,
         },
     })
 }
 
-fn include(line: u32) -> Top {
-    Top {
-        line,
-        node: TopNode::Include,
+fn item(alloc: Global, item: Item) -> Result<Top, TypeFault> {
+    match item {
+        Item::Include(line) => Ok(Top {
+            line,
+            node: TopNode::Include,
+        }),
+        Item::Global(line, name, value) => {
+            let mut init = Items::new(alloc);
+            init.push(expression(alloc, line, value)?)?;
+            global(alloc, line, name, ArraySize::Scalar, init)
+        }
+        Item::Array(line, name, count) => {
+            let size = expression(alloc, line, Value::Number(count))?;
+            global(alloc, line, name, ArraySize::Sized(size), Items::new(alloc))
+        }
+        Item::Prototype(line, name, count) => function(alloc, line, name, count, None),
+        Item::Function(line, name, count, body) => {
+            let body = block(alloc, line.wrapping_add(1), body)?;
+            function(alloc, line, name, count, Some(body))
+        }
     }
 }
 
-fn unit(alloc: Global, first: Top, second: Top) -> Result<Program, TypeFault> {
-    let mut items = Items::new(alloc);
-    items.push(first)?;
-    items.push(second)?;
-    Ok(Program { items })
+fn unit(alloc: Global, items: &[Item]) -> Result<Program, TypeFault> {
+    let mut all = Items::new(alloc);
+    for one in items {
+        all.push(item(alloc, *one)?)?;
+    }
+    Ok(Program { items: all })
 }
 
-/// The fault of a unit.
-fn fault(alloc: Global, first: Top, second: Top) -> Option<TypeFault> {
-    match unit(alloc, first, second) {
-        Err(fault) => Some(fault),
-        Ok(program) => match type_program(alloc, program) {
-            Err(fault) => Some(fault),
-            Ok(_) => None,
-        },
+fn answer(alloc: Global, items: &[Item]) -> Result<Typed, TypeFault> {
+    let program = type_program(alloc, unit(alloc, items)?)?;
+    Ok(Typed {
+        globals: program.globals.len(),
+        functions: program.functions.len(),
+        main: program.main,
+    })
+}
+
+fn assert_rows(rt: &impl Abort, alloc: Global, rows: &[Row]) {
+    for (name, items, want) in rows {
+        assert_eq!(rt; answer(alloc, items), *want, "{name}");
     }
 }
 
 #[test]
-fn main_with_a_global_and_a_return(rt: HostRuntime) -> Result<(), TypeFault> {
+fn units_have_their_typing_or_their_fault(rt: HostRuntime) {
+    assert_rows(&rt, rt.alloc(), &ROWS);
+}
+
+#[test]
+fn values_of_globals_have_their_kind(rt: HostRuntime) -> Result<(), TypeFault> {
     let alloc = rt.alloc();
-    let answer = global(alloc, 1, b"x", number(1, 511))?;
-    let main = function(alloc, 2, b"main", give(3, name(alloc, 3, b"x")?))?;
-    let program = type_program(alloc, unit(alloc, answer, main)?)?;
+    let items = [
+        Item::Global(1, b"x", Value::Number(511)),
+        Item::Function(2, b"main", 0, Body::Give(Value::Name(b"x"))),
+    ];
+    let program = type_program(alloc, unit(alloc, &items)?)?;
     assert_eq!(rt; program.globals.as_slice()[0].init.as_slice()[0], u64::MAX);
-    assert_eq!(rt; program.main, 0);
-    Ok(())
-}
-
-#[test]
-fn faults_stand_at_their_lines(rt: HostRuntime) -> Result<(), TypeFault> {
-    let alloc = rt.alloc();
-    let main = function(alloc, 2, b"main", give(3, name(alloc, 4, b"y")?))?;
-    let found = fault(alloc, global(alloc, 1, b"x", number(1, 1))?, main);
-    assert_eq!(rt; found, Some(TypeFault::Unknown(4)), "an unknown name");
-    let main = function(alloc, 2, b"main", give(3, number(3, 0)))?;
-    let found = fault(alloc, global(alloc, 1, b"main", number(1, 1))?, main);
-    assert_eq!(rt; found, Some(TypeFault::Twice(2)), "a function with a global's name");
-    let other = function(alloc, 2, b"f", give(3, number(3, 0)))?;
-    let found = fault(alloc, global(alloc, 1, b"main", number(1, 1))?, other);
-    assert_eq!(rt; found, Some(TypeFault::NoMain), "a main that is no function");
-    let main = function(alloc, 2, b"main", give(3, number(3, 0)))?;
-    let found = fault(alloc, global(alloc, 1, b"x", name(alloc, 1, b"x")?)?, main);
-    assert_eq!(rt; found, Some(TypeFault::Mismatch(1)), "a global's own name in its initialiser");
-    let main = function(alloc, 2, b"main", give(3, number(3, 0)))?;
-    let found = fault(alloc, include(1), global(alloc, 7, b"EOF", number(7, 1))?);
-    assert_eq!(rt; found, Some(TypeFault::Twice(7)), "EOF after the include");
-    let found = fault(alloc, include(9), main);
-    assert_eq!(rt; found, None, "the include and a main");
-    let main = function(alloc, 2, b"main", give(3, name(alloc, 3, b"EOF")?))?;
-    let found = fault(alloc, include(1), main);
-    assert_eq!(rt; found, None, "EOF as a value");
-    let get = function(alloc, 2, b"getchar", give(3, number(3, 0)))?;
-    let found = fault(alloc, get, include(8));
-    assert_eq!(rt; found, Some(TypeFault::Twice(8)), "getchar defined before the include");
     Ok(())
 }
