@@ -30,14 +30,18 @@ use Rattle.c_type.specs.Runs.{Runs}
 abbrev A : Type 0
 A = ℕ → Part
 
+-- what a statement does is given by its node, whose parts are folded
 part_by : (l : ℕ) (n : StmtNode) (x : StmtNode-F ForInit StmtNode Stmt) → roll-StmtNode x ≡ n
-    → part (at l n) ≡ node_part (map-StmtNode ForInit StmtNode Stmt Beginning A Part (fold-ForInit Beginning A Part init_part node_part at_line) (fold-StmtNode Beginning A Part init_part node_part at_line) part x) l
+    → part (at l n) ≡ node_part (map-StmtNode ForInit StmtNode Stmt Beginning A Part
+    (fold-ForInit Beginning A Part init_part node_part at_line)
+    (fold-StmtNode Beginning A Part init_part node_part at_line) part x) l
 unfolding part
 part_by l n x e =
     fold_out-Stmt Beginning A Part init_part node_part at_line (at l n)
     ∙ ap (λ (m : StmtNode). fold-StmtNode Beginning A Part init_part node_part at_line m l) (sym e)
     ∙ ap (λ (f : A). f l) (fold-roll-StmtNode Beginning A Part init_part node_part at_line x)
 
+-- the measure of a list of statements, and of a leg that may be left out
 abbrev pub deepest : List Stmt → ℕ
 deepest [] = 0
 deepest (s ∷ ss) = max (size-Stmt s) (deepest ss)
@@ -46,75 +50,118 @@ abbrev pub else_size : Option Stmt → ℕ
 else_size None = 0
 else_size (Some s) = size-Stmt s
 
-pub after-Declare : (l : ℕ) (k : Kind) (w : List ℕ) (size : ArraySize) (init : Option Expr) (v : State) → (part (at l (node.Declare k w size init))).after v ≡ declared size k w v
-after-Declare l k w size init v = ap (λ (p : Part). p.after v) (part_by l _ (StmtNode-F.Declare k w size init) (node.rolls-Declare k w size init))
+-- a declaration: the state after it, its first fault and its tree
+pub after-Declare : (l : ℕ) (k : Kind) (w : List ℕ) (size : ArraySize) (init : Option Expr) (v : State)
+    → (part (at l (node.Declare k w size init))).after v ≡ declared size k w v
+after-Declare l k w size init v =
+    ap (λ (p : Part). p.after v) (part_by l _ (StmtNode-F.Declare k w size init) (node.rolls-Declare k w size init))
 
-pub fault-Declare : (l : ℕ) (k : Kind) (w : List ℕ) (size : ArraySize) (init : Option Expr) (b : Bool) (v : State) → (part (at l (node.Declare k w size init))).fault b v ≡ declare_fault size k w init l v
-fault-Declare l k w size init b v = ap (λ (p : Part). p.fault b v) (part_by l _ (StmtNode-F.Declare k w size init) (node.rolls-Declare k w size init))
+pub fault-Declare : (l : ℕ) (k : Kind) (w : List ℕ) (size : ArraySize) (init : Option Expr) (b : Bool) (v : State)
+    → (part (at l (node.Declare k w size init))).fault b v ≡ declare_fault size k w init l v
+fault-Declare l k w size init b v =
+    ap (λ (p : Part). p.fault b v) (part_by l _ (StmtNode-F.Declare k w size init) (node.rolls-Declare k w size init))
 
-pub tree-Declare : (l : ℕ) (k : Kind) (w : List ℕ) (size : ArraySize) (init : Option Expr) (v : State) → (part (at l (node.Declare k w size init))).tree v ≡ declare_tree size k w init v
-tree-Declare l k w size init v = ap (λ (p : Part). p.tree v) (part_by l _ (StmtNode-F.Declare k w size init) (node.rolls-Declare k w size init))
+pub tree-Declare : (l : ℕ) (k : Kind) (w : List ℕ) (size : ArraySize) (init : Option Expr) (v : State)
+    → (part (at l (node.Declare k w size init))).tree v ≡ declare_tree size k w init v
+tree-Declare l k w size init v =
+    ap (λ (p : Part). p.tree v) (part_by l _ (StmtNode-F.Declare k w size init) (node.rolls-Declare k w size init))
 
 pub ruleset on_declare = (after-Declare, fault-Declare, tree-Declare)
 
+-- an expression statement: the state after it, its first fault and its tree
 pub after-Plain : (l : ℕ) (e : Option Expr) (v : State) → (part (at l (node.Plain e))).after v ≡ v
 after-Plain l e v = ap (λ (p : Part). p.after v) (part_by l _ (StmtNode-F.Plain e) (node.rolls-Plain e))
 
-pub fault-Plain : (l : ℕ) (e : Option Expr) (b : Bool) (v : State) → (part (at l (node.Plain e))).fault b v ≡ full_if e Free v.names
+pub fault-Plain : (l : ℕ) (e : Option Expr) (b : Bool) (v : State)
+    → (part (at l (node.Plain e))).fault b v ≡ full_if e Free v.names
 fault-Plain l e b v = ap (λ (p : Part). p.fault b v) (part_by l _ (StmtNode-F.Plain e) (node.rolls-Plain e))
 
-pub tree-Plain : (l : ℕ) (e : Option Expr) (v : State) → (part (at l (node.Plain e))).tree v ≡ typed.Plain (tree_if e v.names)
+pub tree-Plain : (l : ℕ) (e : Option Expr) (v : State)
+    → (part (at l (node.Plain e))).tree v ≡ typed.Plain (tree_if e v.names)
 tree-Plain l e v = ap (λ (p : Part). p.tree v) (part_by l _ (StmtNode-F.Plain e) (node.rolls-Plain e))
 
 pub ruleset on_plain = (after-Plain, fault-Plain, tree-Plain)
 
-pub after-Compound : (l : ℕ) (ss : List Stmt) (v : State) → (part (at l (node.Compound ss))).after v ≡ left (all_after (map part ss) (entered v))
+-- a block: the state after it, its first fault and its tree
+pub after-Compound : (l : ℕ) (ss : List Stmt) (v : State)
+    → (part (at l (node.Compound ss))).after v ≡ left (all_after (map part ss) (entered v))
 after-Compound l ss v = ap (λ (p : Part). p.after v) (part_by l _ (StmtNode-F.Compound ss) (node.rolls-Compound ss))
 
-pub fault-Compound : (l : ℕ) (ss : List Stmt) (b : Bool) (v : State) → (part (at l (node.Compound ss))).fault b v ≡ all_fault (map part ss) b (entered v)
-fault-Compound l ss b v = ap (λ (p : Part). p.fault b v) (part_by l _ (StmtNode-F.Compound ss) (node.rolls-Compound ss))
+pub fault-Compound : (l : ℕ) (ss : List Stmt) (b : Bool) (v : State)
+    → (part (at l (node.Compound ss))).fault b v ≡ all_fault (map part ss) b (entered v)
+fault-Compound l ss b v =
+    ap (λ (p : Part). p.fault b v) (part_by l _ (StmtNode-F.Compound ss) (node.rolls-Compound ss))
 
-pub tree-Compound : (l : ℕ) (ss : List Stmt) (v : State) → (part (at l (node.Compound ss))).tree v ≡ typed.Compound (all_trees (map part ss) (entered v))
+pub tree-Compound : (l : ℕ) (ss : List Stmt) (v : State)
+    → (part (at l (node.Compound ss))).tree v ≡ typed.Compound (all_trees (map part ss) (entered v))
 tree-Compound l ss v = ap (λ (p : Part). p.tree v) (part_by l _ (StmtNode-F.Compound ss) (node.rolls-Compound ss))
 
 pub ruleset on_compound = (after-Compound, fault-Compound, tree-Compound)
 
-pub after-While : (l : ℕ) (test : Expr) (body : Stmt) (v : State) → (part (at l (node.While test body))).after v ≡ (part body).after v
-after-While l test body v = ap (λ (p : Part). p.after v) (part_by l _ (StmtNode-F.While test body) (node.rolls-While test body))
+-- a `while`: the state after it, its first fault and its tree
+pub after-While : (l : ℕ) (test : Expr) (body : Stmt) (v : State)
+    → (part (at l (node.While test body))).after v ≡ (part body).after v
+after-While l test body v =
+    ap (λ (p : Part). p.after v) (part_by l _ (StmtNode-F.While test body) (node.rolls-While test body))
 
-pub fault-While : (l : ℕ) (test : Expr) (body : Stmt) (b : Bool) (v : State) → (part (at l (node.While test body))).fault b v ≡ first (full test Value v.names) ((part body).fault true v)
-fault-While l test body b v = ap (λ (p : Part). p.fault b v) (part_by l _ (StmtNode-F.While test body) (node.rolls-While test body))
+pub fault-While : (l : ℕ) (test : Expr) (body : Stmt) (b : Bool) (v : State)
+    → (part (at l (node.While test body))).fault b v ≡ first (full test Value v.names) ((part body).fault true v)
+fault-While l test body b v =
+    ap (λ (p : Part). p.fault b v) (part_by l _ (StmtNode-F.While test body) (node.rolls-While test body))
 
-pub tree-While : (l : ℕ) (test : Expr) (body : Stmt) (v : State) → (part (at l (node.While test body))).tree v ≡ typed.While (tree test v.names) ((part body).tree v)
-tree-While l test body v = ap (λ (p : Part). p.tree v) (part_by l _ (StmtNode-F.While test body) (node.rolls-While test body))
+pub tree-While : (l : ℕ) (test : Expr) (body : Stmt) (v : State)
+    → (part (at l (node.While test body))).tree v ≡ typed.While (tree test v.names) ((part body).tree v)
+tree-While l test body v =
+    ap (λ (p : Part). p.tree v) (part_by l _ (StmtNode-F.While test body) (node.rolls-While test body))
 
 pub ruleset on_while = (after-While, fault-While, tree-While)
 
-pub after-Do : (l : ℕ) (body : Stmt) (test : Expr) (v : State) → (part (at l (node.Do body test))).after v ≡ (part body).after v
-after-Do l body test v = ap (λ (p : Part). p.after v) (part_by l _ (StmtNode-F.Do body test) (node.rolls-Do body test))
+-- a `do`: the state after it, its first fault and its tree
+pub after-Do : (l : ℕ) (body : Stmt) (test : Expr) (v : State)
+    → (part (at l (node.Do body test))).after v ≡ (part body).after v
+after-Do l body test v =
+    ap (λ (p : Part). p.after v) (part_by l _ (StmtNode-F.Do body test) (node.rolls-Do body test))
 
-pub fault-Do : (l : ℕ) (body : Stmt) (test : Expr) (b : Bool) (v : State) → (part (at l (node.Do body test))).fault b v ≡ first ((part body).fault true v) (full test Value ((part body).after v).names)
-fault-Do l body test b v = ap (λ (p : Part). p.fault b v) (part_by l _ (StmtNode-F.Do body test) (node.rolls-Do body test))
+pub fault-Do : (l : ℕ) (body : Stmt) (test : Expr) (b : Bool) (v : State)
+    → (part (at l (node.Do body test))).fault b v ≡ first ((part body).fault true v)
+    (full test Value ((part body).after v).names)
+fault-Do l body test b v =
+    ap (λ (p : Part). p.fault b v) (part_by l _ (StmtNode-F.Do body test) (node.rolls-Do body test))
 
-pub tree-Do : (l : ℕ) (body : Stmt) (test : Expr) (v : State) → (part (at l (node.Do body test))).tree v ≡ typed.Do ((part body).tree v) (tree test ((part body).after v).names)
+pub tree-Do : (l : ℕ) (body : Stmt) (test : Expr) (v : State)
+    → (part (at l (node.Do body test))).tree v ≡ typed.Do ((part body).tree v) (tree test ((part body).after v).names)
 tree-Do l body test v = ap (λ (p : Part). p.tree v) (part_by l _ (StmtNode-F.Do body test) (node.rolls-Do body test))
 
 pub ruleset on_do = (after-Do, fault-Do, tree-Do)
 
-pub after-For : (l : ℕ) (init : ForInit) (test post : Option Expr) (body : Stmt) (v : State) → (part (at l (node.For init test post body))).after v ≡ left ((part body).after ((beginning_of init).after (entered v)))
+-- a `for`: the state after it, its first fault and its tree
+pub after-For : (l : ℕ) (init : ForInit) (test post : Option Expr) (body : Stmt) (v : State)
+    → (part (at l (node.For init test post body))).after v ≡ left
+    ((part body).after ((beginning_of init).after (entered v)))
 unfolding beginning_of
-after-For l init test post body v = ap (λ (p : Part). p.after v) (part_by l _ (StmtNode-F.For init test post body) (node.rolls-For init test post body))
+after-For l init test post body v =
+    ap (λ (p : Part). p.after v) (part_by l _ (StmtNode-F.For init test post body)
+    (node.rolls-For init test post body))
 
-pub fault-For : (l : ℕ) (init : ForInit) (test post : Option Expr) (body : Stmt) (b : Bool) (v : State) → (part (at l (node.For init test post body))).fault b v ≡ for_fault (beginning_of init) test post (part body) b (entered v)
+pub fault-For : (l : ℕ) (init : ForInit) (test post : Option Expr) (body : Stmt) (b : Bool) (v : State)
+    → (part (at l (node.For init test post body))).fault b v ≡ for_fault (beginning_of init) test post (part body) b
+    (entered v)
 unfolding beginning_of
-fault-For l init test post body b v = ap (λ (p : Part). p.fault b v) (part_by l _ (StmtNode-F.For init test post body) (node.rolls-For init test post body))
+fault-For l init test post body b v =
+    ap (λ (p : Part). p.fault b v) (part_by l _ (StmtNode-F.For init test post body)
+    (node.rolls-For init test post body))
 
-pub tree-For : (l : ℕ) (init : ForInit) (test post : Option Expr) (body : Stmt) (v : State) → (part (at l (node.For init test post body))).tree v ≡ for_tree (beginning_of init) test post (part body) (entered v)
+pub tree-For : (l : ℕ) (init : ForInit) (test post : Option Expr) (body : Stmt) (v : State)
+    → (part (at l (node.For init test post body))).tree v ≡ for_tree (beginning_of init) test post (part body)
+    (entered v)
 unfolding beginning_of
-tree-For l init test post body v = ap (λ (p : Part). p.tree v) (part_by l _ (StmtNode-F.For init test post body) (node.rolls-For init test post body))
+tree-For l init test post body v =
+    ap (λ (p : Part). p.tree v) (part_by l _ (StmtNode-F.For init test post body)
+    (node.rolls-For init test post body))
 
 pub ruleset on_for = (after-For, fault-For, tree-For)
 
+-- a `break`: the state after it, its first fault and its tree
 pub after-Break : (l : ℕ) (v : State) → (part (at l node.Break)).after v ≡ v
 after-Break l v = ap (λ (p : Part). p.after v) (part_by l _ StmtNode-F.Break node.rolls-Break)
 
@@ -126,6 +173,7 @@ tree-Break l v = ap (λ (p : Part). p.tree v) (part_by l _ StmtNode-F.Break node
 
 pub ruleset on_break = (after-Break, fault-Break, tree-Break)
 
+-- a `continue`: the state after it, its first fault and its tree
 pub after-Continue : (l : ℕ) (v : State) → (part (at l node.Continue)).after v ≡ v
 after-Continue l v = ap (λ (p : Part). p.after v) (part_by l _ StmtNode-F.Continue node.rolls-Continue)
 
@@ -137,36 +185,56 @@ tree-Continue l v = ap (λ (p : Part). p.tree v) (part_by l _ StmtNode-F.Continu
 
 pub ruleset on_continue = (after-Continue, fault-Continue, tree-Continue)
 
+-- a `return`: the state after it, its first fault and its tree
 pub after-Return : (l : ℕ) (e : Option Expr) (v : State) → (part (at l (node.Return e))).after v ≡ v
 after-Return l e v = ap (λ (p : Part). p.after v) (part_by l _ (StmtNode-F.Return e) (node.rolls-Return e))
 
-pub fault-Return : (l : ℕ) (e : Option Expr) (b : Bool) (v : State) → (part (at l (node.Return e))).fault b v ≡ first (full_if e Value v.names) (return_fault v.result e l)
+pub fault-Return : (l : ℕ) (e : Option Expr) (b : Bool) (v : State)
+    → (part (at l (node.Return e))).fault b v ≡ first (full_if e Value v.names) (return_fault v.result e l)
 fault-Return l e b v = ap (λ (p : Part). p.fault b v) (part_by l _ (StmtNode-F.Return e) (node.rolls-Return e))
 
-pub tree-Return : (l : ℕ) (e : Option Expr) (v : State) → (part (at l (node.Return e))).tree v ≡ typed.Return (return_tree v.result e v.names)
+pub tree-Return : (l : ℕ) (e : Option Expr) (v : State)
+    → (part (at l (node.Return e))).tree v ≡ typed.Return (return_tree v.result e v.names)
 tree-Return l e v = ap (λ (p : Part). p.tree v) (part_by l _ (StmtNode-F.Return e) (node.rolls-Return e))
 
 pub ruleset on_return = (after-Return, fault-Return, tree-Return)
 
-pub after-If : (l : ℕ) (test : Expr) (one : Stmt) (other : Option Stmt) (v : State) → (part (at l (node.If test one other))).after v ≡ else_after (option_map part other) ((part one).after v)
-after-If l test one None v = ap (λ (p : Part). p.after v) (part_by l _ (StmtNode-F.If test one None) (node.rolls-If test one None))
-after-If l test one (Some s) v = ap (λ (p : Part). p.after v) (part_by l _ (StmtNode-F.If test one (Some s)) (node.rolls-If test one (Some s)))
+-- an `if`: the state after it, its first fault and its tree
+pub after-If : (l : ℕ) (test : Expr) (one : Stmt) (other : Option Stmt) (v : State)
+    → (part (at l (node.If test one other))).after v ≡ else_after (option_map part other) ((part one).after v)
+after-If l test one None v =
+    ap (λ (p : Part). p.after v) (part_by l _ (StmtNode-F.If test one None) (node.rolls-If test one None))
+after-If l test one (Some s) v =
+    ap (λ (p : Part). p.after v) (part_by l _ (StmtNode-F.If test one (Some s)) (node.rolls-If test one (Some s)))
 
-pub fault-If : (l : ℕ) (test : Expr) (one : Stmt) (other : Option Stmt) (b : Bool) (v : State) → (part (at l (node.If test one other))).fault b v ≡ first (full test Value v.names) (first ((part one).fault b v) (else_fault (option_map part other) b ((part one).after v)))
-fault-If l test one None b v = ap (λ (p : Part). p.fault b v) (part_by l _ (StmtNode-F.If test one None) (node.rolls-If test one None))
-fault-If l test one (Some s) b v = ap (λ (p : Part). p.fault b v) (part_by l _ (StmtNode-F.If test one (Some s)) (node.rolls-If test one (Some s)))
+pub fault-If : (l : ℕ) (test : Expr) (one : Stmt) (other : Option Stmt) (b : Bool) (v : State)
+    → (part (at l (node.If test one other))).fault b v ≡ first (full test Value v.names)
+    (first ((part one).fault b v) (else_fault (option_map part other) b ((part one).after v)))
+fault-If l test one None b v =
+    ap (λ (p : Part). p.fault b v) (part_by l _ (StmtNode-F.If test one None) (node.rolls-If test one None))
+fault-If l test one (Some s) b v =
+    ap (λ (p : Part). p.fault b v) (part_by l _ (StmtNode-F.If test one (Some s)) (node.rolls-If test one (Some s)))
 
-pub tree-If : (l : ℕ) (test : Expr) (one : Stmt) (other : Option Stmt) (v : State) → (part (at l (node.If test one other))).tree v ≡ typed.If (tree test v.names) ((part one).tree v) (else_tree (option_map part other) ((part one).after v))
-tree-If l test one None v = ap (λ (p : Part). p.tree v) (part_by l _ (StmtNode-F.If test one None) (node.rolls-If test one None))
-tree-If l test one (Some s) v = ap (λ (p : Part). p.tree v) (part_by l _ (StmtNode-F.If test one (Some s)) (node.rolls-If test one (Some s)))
+pub tree-If : (l : ℕ) (test : Expr) (one : Stmt) (other : Option Stmt) (v : State)
+    → (part (at l (node.If test one other))).tree v ≡ typed.If (tree test v.names) ((part one).tree v)
+    (else_tree (option_map part other) ((part one).after v))
+tree-If l test one None v =
+    ap (λ (p : Part). p.tree v) (part_by l _ (StmtNode-F.If test one None) (node.rolls-If test one None))
+tree-If l test one (Some s) v =
+    ap (λ (p : Part). p.tree v) (part_by l _ (StmtNode-F.If test one (Some s)) (node.rolls-If test one (Some s)))
 
 pub ruleset on_if = (after-If, fault-If, tree-If)
 
+-- what the first part of a `for` does is given by its node, whose parts are folded
 init_by : (i : ForInit) (x : ForInit-F ForInit StmtNode Stmt) → roll-ForInit x ≡ i
-    → beginning_of i ≡ init_part (map-ForInit ForInit StmtNode Stmt Beginning A Part (fold-ForInit Beginning A Part init_part node_part at_line) (fold-StmtNode Beginning A Part init_part node_part at_line) part x)
+    → beginning_of i ≡ init_part (map-ForInit ForInit StmtNode Stmt Beginning A Part
+    (fold-ForInit Beginning A Part init_part node_part at_line)
+    (fold-StmtNode Beginning A Part init_part node_part at_line) part x)
 unfolding beginning_of part
-init_by i x e = ap (λ (m : ForInit). fold-ForInit Beginning A Part init_part node_part at_line m) (sym e) ∙ fold-roll-ForInit Beginning A Part init_part node_part at_line x
+init_by i x e = ap (λ (m : ForInit). fold-ForInit Beginning A Part init_part node_part at_line m) (sym e)
+    ∙ fold-roll-ForInit Beginning A Part init_part node_part at_line x
 
+-- a first part that is left out
 pub after-Nothing : (v : State) → (beginning_of first_part.Nothing).after v ≡ v
 after-Nothing v = ap (λ (p : Beginning). p.after v) (init_by _ ForInit-F.Nothing first_part.rolls-Nothing)
 
@@ -176,43 +244,75 @@ fault-Nothing b v = ap (λ (p : Beginning). p.fault b v) (init_by _ ForInit-F.No
 pub tree-Nothing : (v : State) → (beginning_of first_part.Nothing).tree v ≡ typed_init.Nothing
 tree-Nothing v = ap (λ (p : Beginning). p.tree v) (init_by _ ForInit-F.Nothing first_part.rolls-Nothing)
 
+-- a first part that is an expression
 pub after-First : (e : Expr) (v : State) → (beginning_of (first_part.First e)).after v ≡ v
 after-First e v = ap (λ (p : Beginning). p.after v) (init_by _ (ForInit-F.First e) (first_part.rolls-First e))
 
-pub fault-First : (e : Expr) (b : Bool) (v : State) → (beginning_of (first_part.First e)).fault b v ≡ full e Free v.names
+pub fault-First : (e : Expr) (b : Bool) (v : State)
+    → (beginning_of (first_part.First e)).fault b v ≡ full e Free v.names
 fault-First e b v = ap (λ (p : Beginning). p.fault b v) (init_by _ (ForInit-F.First e) (first_part.rolls-First e))
 
-pub tree-First : (e : Expr) (v : State) → (beginning_of (first_part.First e)).tree v ≡ typed_init.First (tree e v.names)
+pub tree-First : (e : Expr) (v : State)
+    → (beginning_of (first_part.First e)).tree v ≡ typed_init.First (tree e v.names)
 tree-First e v = ap (λ (p : Beginning). p.tree v) (init_by _ (ForInit-F.First e) (first_part.rolls-First e))
 
-pub after-Locals : (ss : List Stmt) (v : State) → (beginning_of (first_part.Locals ss)).after v ≡ all_after (map part ss) v
+-- a first part that declares
+pub after-Locals : (ss : List Stmt) (v : State)
+    → (beginning_of (first_part.Locals ss)).after v ≡ all_after (map part ss) v
 after-Locals ss v = ap (λ (p : Beginning). p.after v) (init_by _ (ForInit-F.Locals ss) (first_part.rolls-Locals ss))
 
-pub fault-Locals : (ss : List Stmt) (b : Bool) (v : State) → (beginning_of (first_part.Locals ss)).fault b v ≡ all_fault (map part ss) b v
-fault-Locals ss b v = ap (λ (p : Beginning). p.fault b v) (init_by _ (ForInit-F.Locals ss) (first_part.rolls-Locals ss))
+pub fault-Locals : (ss : List Stmt) (b : Bool) (v : State)
+    → (beginning_of (first_part.Locals ss)).fault b v ≡ all_fault (map part ss) b v
+fault-Locals ss b v =
+    ap (λ (p : Beginning). p.fault b v) (init_by _ (ForInit-F.Locals ss) (first_part.rolls-Locals ss))
 
-pub tree-Locals : (ss : List Stmt) (v : State) → (beginning_of (first_part.Locals ss)).tree v ≡ typed_init.Locals (all_trees (map part ss) v)
+pub tree-Locals : (ss : List Stmt) (v : State)
+    → (beginning_of (first_part.Locals ss)).tree v ≡ typed_init.Locals (all_trees (map part ss) v)
 tree-Locals ss v = ap (λ (p : Beginning). p.tree v) (init_by _ (ForInit-F.Locals ss) (first_part.rolls-Locals ss))
 
-pub ruleset beginnings = (after-Nothing, fault-Nothing, tree-Nothing, after-First, fault-First, tree-First, after-Locals, fault-Locals, tree-Locals)
+pub ruleset beginnings = (
+  after-Nothing,
+  fault-Nothing,
+  tree-Nothing,
+  after-First,
+  fault-First,
+  tree-First,
+  after-Locals,
+  fault-Locals,
+  tree-Locals,
+)
 
-pub if_next : (l : ℕ) (test : Expr) (one : Stmt) (other : Option Stmt) (b : Bool) (v : State) → full test Value v.names ≡ None
-    → (part (at l (node.If test one other))).fault b v ≡ first ((part one).fault b v) (else_fault (option_map part other) b ((part one).after v))
+-- where the test has no fault, an `if`'s fault is that of its legs
+pub if_next : (l : ℕ) (test : Expr) (one : Stmt) (other : Option Stmt) (b : Bool) (v : State)
+    → full test Value v.names ≡ None
+    → (part (at l (node.If test one other))).fault b v ≡ first ((part one).fault b v)
+    (else_fault (option_map part other) b ((part one).after v))
 if_next l test one other b v e =
-    fault-If l test one other b v ∙ ap (λ f. first f (first ((part one).fault b v) (else_fault (option_map part other) b ((part one).after v)))) e
+    fault-If l test one other b v
+    ∙ ap (λ f. first f (first ((part one).fault b v) (else_fault (option_map part other) b ((part one).after v)))) e
 
-pub while_next : (l : ℕ) (test : Expr) (body : Stmt) (b : Bool) (v : State) → full test Value v.names ≡ None → (part (at l (node.While test body))).fault b v ≡ (part body).fault true v
+-- where the test has no fault, a `while`'s fault is that of its body
+pub while_next : (l : ℕ) (test : Expr) (body : Stmt) (b : Bool) (v : State) → full test Value v.names ≡ None
+    → (part (at l (node.While test body))).fault b v ≡ (part body).fault true v
 while_next l test body b v e = fault-While l test body b v ∙ ap (λ f. first f ((part body).fault true v)) e
 
+-- where the body has no fault, a `do`'s fault is that of its test
 pub do_next : (l : ℕ) (body : Stmt) (test : Expr) (b : Bool) (v : State) → (part body).fault true v ≡ None
     → (part (at l (node.Do body test))).fault b v ≡ full test Value ((part body).after v).names
-do_next l body test b v e = fault-Do l body test b v ∙ ap (λ f. first f (full test Value ((part body).after v).names)) e
+do_next l body test b v e =
+    fault-Do l body test b v ∙ ap (λ f. first f (full test Value ((part body).after v).names)) e
 
-pub for_next : (l : ℕ) (init : ForInit) (test post : Option Expr) (body : Stmt) (b : Bool) (v : State) → (beginning_of init).fault b (entered v) ≡ None
-    → (part (at l (node.For init test post body))).fault b v ≡ rest_fault test post (part body) ((beginning_of init).after (entered v))
+-- where the first part has no fault, a `for`'s fault is that of the rest
+pub for_next : (l : ℕ) (init : ForInit) (test post : Option Expr) (body : Stmt) (b : Bool) (v : State)
+    → (beginning_of init).fault b (entered v) ≡ None
+    → (part (at l (node.For init test post body))).fault b v ≡ rest_fault test post (part body)
+    ((beginning_of init).after (entered v))
 for_next l init test post body b v e =
-    fault-For l init test post body b v ∙ ap (λ f. first f (rest_fault test post (part body) ((beginning_of init).after (entered v)))) e
+    fault-For l init test post body b v
+    ∙ ap (λ f. first f (rest_fault test post (part body) ((beginning_of init).after (entered v)))) e
 
-pub stopped : (p : Part) (b : Bool) (old new : State) (r : Result TypedStmt TypeFault) (e : TypeFault) → IsErrAnd r (λ x. x ≡ e) → Stops (p.fault b old) e → Runs p b old new r
+-- an error that is handed on keeps its cause
+pub stopped : (p : Part) (b : Bool) (old new : State) (r : Result TypedStmt TypeFault) (e : TypeFault)
+    → IsErrAnd r (λ x. x ≡ e) → Stops (p.fault b old) e → Runs p b old new r
 stopped p b old new (Ok t) e h s = absurd h
 stopped p b old new (Err x) e h s = subst (Stops (p.fault b old)) (sym h) s

@@ -3,4 +3,5 @@ use Rattle.c_type.specs.Functions.{params_fault}
 use Rattle.c_type.proofs.functions.params_at.Given as goal
 
 abbrev pub invariant-loop-i : goal.invariant-loop-i
-invariant-loop-i l = params_fault l.is_def l.names [] l.params ≡ params_fault l.is_def l.names (take l.i l.params) (drop l.i l.params)
+invariant-loop-i l = params_fault l.is_def l.names [] l.params ≡ params_fault l.is_def l.names (take l.i l.params)
+    (drop l.i l.params)
