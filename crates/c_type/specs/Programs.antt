@@ -1,4 +1,4 @@
--- A translation unit (C17 6.9): the first fault of its items, and `main` at the end (C17 5.1.2.2.1).
+-- A translation unit (C17 6.9): the first fault of its items, and `main` last (C17 5.1.2.2.1).
 use Rattle.std.specs.Prelude.{ℕ, ◌+◌, Bool, true, false, ◌&&◌, List, [], ◌∷◌, map, Option, Some, None, Result, Ok, Err, ◌≡◌}
 use Rattle.c_tree.specs.declared.token.Kind.{Kind}
 use Rattle.c_tree.specs.declared.token.Kind.TheVariants.{Int}

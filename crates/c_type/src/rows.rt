@@ -1,5 +1,5 @@
-//! Small units as plain data, with the typed program or the fault that C17 and docs/LANGUAGE.md give
-//! them.
+//! Small units as plain data, with what C17 and docs/LANGUAGE.md give them: how much there is of the
+//! typed program, or the fault.
 
 use crate::TypeFault;
 
@@ -20,7 +20,7 @@ pub enum Body {
     Scalar(&'static [u8], Value),
 }
 
-/// An item at its line. A function is of type int, with so many parameters of type int: `p`, `q`, ..
+/// An item at its line. A function is of type int and has so many ints, `p`, `q`, .., as parameters.
 #[derive(Clone, Copy, Debug)]
 pub enum Item {
     Include(u32),

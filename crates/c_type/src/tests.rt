@@ -3,7 +3,10 @@
 use crate::rows::{Body, Item, ROWS, Row, Typed, Value};
 use crate::{TypeFault, type_program};
 use base::Items;
-use c_tree::{ArraySize, Expr, ExprNode, Kind, Param, Program, Stmt, StmtNode, Top, TopNode, Word};
+use c_tree::{
+    ArraySize, Expr, ExprNode, Kind, Param, Program, Stmt, StmtNode, Top, TopNode, TypedExpr,
+    TypedFunc, TypedGlobal, TypedNode, TypedStmt, Word,
+};
 use std::alloc::Global;
 use std::process::Abort;
 
@@ -148,14 +151,50 @@ fn units_have_their_typing_or_their_fault(rt: HostRuntime) {
     assert_rows(&rt, rt.alloc(), &ROWS);
 }
 
+/// The first value of the first global.
+fn first_value(globals: &[TypedGlobal]) -> Option<u64> {
+    match globals {
+        [global, ..] => global.init.as_slice().first().copied(),
+        [] => None,
+    }
+}
+
+/// Whether a body is `return e;` with an `e` that is converted to int.
+fn gives_converted(body: &[TypedStmt]) -> bool {
+    match body {
+        [TypedStmt::Return(Some(e))] => is_converted(e),
+        _ => false,
+    }
+}
+
+fn is_converted(e: &TypedExpr) -> bool {
+    match &e.node {
+        TypedNode::Convert { to, .. } => *to == Kind::Int,
+        _ => false,
+    }
+}
+
+fn has_converted(functions: &[TypedFunc]) -> bool {
+    match functions {
+        [function] => match &function.body {
+            TypedStmt::Compound(body) => gives_converted(body.as_slice()),
+            _ => false,
+        },
+        _ => false,
+    }
+}
+
 #[test]
-fn values_of_globals_have_their_kind(rt: HostRuntime) -> Result<(), TypeFault> {
+fn values_are_converted(rt: HostRuntime) -> Result<(), TypeFault> {
     let alloc = rt.alloc();
     let items = [
         Item::Global(1, b"x", Value::Number(511)),
         Item::Function(2, b"main", 0, Body::Give(Value::Name(b"x"))),
     ];
     let program = type_program(alloc, unit(alloc, &items)?)?;
-    assert_eq!(rt; program.globals.as_slice()[0].init.as_slice()[0], u64::MAX);
+    let value = first_value(program.globals.as_slice());
+    assert_eq!(rt; value, Some(u64::MAX), "511 as a char");
+    let converted = has_converted(program.functions.as_slice());
+    assert!(rt; converted, "a char that an int function returns");
     Ok(())
 }
