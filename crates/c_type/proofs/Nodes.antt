@@ -1,5 +1,5 @@
 -- The definitions at each statement.
-use Rattle.std.proofs.Common.{◌≡◌, ℕ, Bool, true, false, List, [], ◌∷◌, map, max, Option, Some, None, refl, sym, ap, ◌∙◌, subst}
+use Rattle.std.proofs.Common.{◌≡◌, ℕ, Bool, true, List, [], ◌∷◌, map, max, Option, Some, None, sym, ap, ◌∙◌, subst}
 use Rattle.std.specs.Prelude.{option_map, Result, Ok, Err}
 use Rattle.std.specs.Result.{IsErrAnd}
 use Rattle.c_tree.specs.declared.token.Kind.{Kind}
@@ -8,7 +8,7 @@ use Rattle.c_tree.specs.declared.tree.Expr.{Expr}
 use Rattle.c_tree.specs.declared.tree.ForInit.{ForInit, map-ForInit, fold-roll-ForInit, fold-ForInit, roll-ForInit}
 use Rattle.c_tree.specs.declared.tree.ForInit.TheVariants as first_part
 use Rattle.c_tree.specs.declared.tree.ForInit.TheOpen.{ForInit-F, StmtNode-F}
-use Rattle.c_tree.specs.declared.tree.Stmt.{Stmt, Stmt-F, fold_out-Stmt, size-Stmt}
+use Rattle.c_tree.specs.declared.tree.Stmt.{Stmt, fold_out-Stmt, size-Stmt}
 use Rattle.c_tree.specs.declared.tree.StmtNode.{StmtNode, map-StmtNode, fold-roll-StmtNode, fold-StmtNode, roll-StmtNode}
 use Rattle.c_tree.specs.declared.tree.StmtNode.TheVariants as node
 use Rattle.c_tree.specs.declared.typed.TypedStmt.{TypedStmt}

@@ -1,6 +1,5 @@
 -- The definitions at small units: their first faults, and what they declare.
-use Rattle.std.proofs.Common.{◌≡◌, ℕ, true, false, Option, Some, None, List, [], ◌∷◌, refl}
-use Rattle.c_tree.specs.declared.token.Kind.{Kind}
+use Rattle.std.proofs.Common.{◌≡◌, ℕ, true, false, Some, None, List, [], ◌∷◌, refl}
 use Rattle.c_tree.specs.declared.token.Kind.TheVariants.{Char, Int, UInt, Long}
 use Rattle.c_tree.specs.declared.tree.ArraySize.TheVariants as size
 use Rattle.c_tree.specs.declared.tree.Param.{Param}

@@ -1,5 +1,5 @@
 -- Local declarations (C17 6.7): the first fault, the typed tree, and the state after them.
-use Rattle.std.specs.Prelude.{ℕ, ◌*◌, Bool, true, false, not, ◌||◌, nat_le, nat_lt, length, List, [], ◌∷◌, Option, Some, None}
+use Rattle.std.specs.Prelude.{ℕ, ◌*◌, Bool, true, false, not, ◌||◌, nat_le, nat_lt, length, List, Option, Some, None}
 use Rattle.c_tree.specs.declared.token.Kind.{Kind}
 use Rattle.c_tree.specs.declared.token.Kind.TheVariants.{Char, UChar, Int, UInt, Long, ULong}
 use Rattle.c_tree.specs.declared.tree.ArraySize.{ArraySize}

@@ -1,5 +1,5 @@
 -- What the typing of statements answers, and the state that it leaves.
-use Rattle.std.specs.Prelude.{◌≡◌, Bool, List, [], ◌∷◌, Option, Some, None, Result, Ok, Err}
+use Rattle.std.specs.Prelude.{◌≡◌, Bool, List, Option, None, Result, Ok, Err}
 use Rattle.c_tree.specs.declared.typed.TypedStmt.{TypedStmt}
 use Rattle.c_tree.specs.declared.typed.TypedForInit.{TypedForInit}
 use Rattle.c_type_expr.specs.declared.fault.TypeFault.{TypeFault}

@@ -1,9 +1,8 @@
 -- Statements (C17 6.8): the first fault, the typed tree, and the state after them.
-use Rattle.std.specs.Prelude.{◌≡◌, ℕ, Bool, true, false, List, [], ◌∷◌, map, Option, Some, None, Result, Ok, Err}
+use Rattle.std.specs.Prelude.{ℕ, Bool, true, List, [], ◌∷◌, Option, Some, None}
 use Rattle.c_tree.specs.declared.token.Kind.{Kind}
 use Rattle.c_tree.specs.declared.tree.Expr.{Expr}
 use Rattle.c_tree.specs.declared.tree.Stmt.{Stmt, Stmt-F, fold-Stmt}
-use Rattle.c_tree.specs.declared.tree.StmtNode.{StmtNode, out-StmtNode}
 use Rattle.c_tree.specs.declared.tree.ForInit.{ForInit, fold-ForInit}
 use Rattle.c_tree.specs.declared.tree.ForInit.TheOpen.{StmtNode-F, ForInit-F, Declare, Plain, Compound, If, While, Do, For, Break, Continue, Return, Nothing, First, Locals}
 use Rattle.c_tree.specs.declared.typed.TypedExpr.{TypedExpr}
@@ -12,13 +11,11 @@ use Rattle.c_tree.specs.declared.typed.TypedStmt.TheVariants as typed
 use Rattle.c_tree.specs.declared.typed.TypedForInit.{TypedForInit}
 use Rattle.c_tree.specs.declared.typed.TypedForInit.TheVariants as typed_init
 use Rattle.c_scope.specs.Scope.{Scope}
-use Rattle.c_type_expr.specs.declared.fault.TypeFault.{TypeFault}
 use Rattle.c_type_expr.specs.declared.fault.TypeFault.TheVariants.{Mismatch}
 use Rattle.c_type_expr.specs.declared.role.Role.TheVariants.{Value, Free}
 use Rattle.c_type_expr.specs.Roles.{Blame, first, unless}
 use Rattle.c_type_expr.specs.Trees.{tree}
 use Rattle.c_type_expr.specs.Constants.{full}
-use Rattle.c_type_expr.specs.Says.{Stops}
 use Rattle.c_type.specs.declared.state.State.{State}
 use Rattle.c_type.specs.States.{full_if, tree_if, value_of, entered, left}
 use Rattle.c_type.specs.Declarations.{declare_fault, declared, declare_tree}

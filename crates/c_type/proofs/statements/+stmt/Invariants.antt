@@ -1,6 +1,6 @@
-use Rattle.std.proofs.Common.{◌≡◌, ℕ, ◌+◌, ◌*◌, ◌≤◌, ◌++◌, List, map, max, length}
+use Rattle.std.proofs.Common.{◌≡◌, ◌+◌, ◌*◌, ◌≤◌, ◌++◌, map, max, length}
 use Rattle.c_tree.specs.declared.tree.ForInit.{size-ForInit}
-use Rattle.c_tree.specs.declared.tree.Stmt.{Stmt, size-Stmt}
+use Rattle.c_tree.specs.declared.tree.Stmt.{size-Stmt}
 use Rattle.c_type.specs.Statements.{part, all_fault, all_trees, all_after}
 use Rattle.c_type.proofs.Nodes.{deepest, else_size}
 use Rattle.c_type.proofs.statements.+stmt.Given as goal
