@@ -1,0 +1,15 @@
+//! The typing relation and the definitions that the code answers by.
+
+ghost use Rattle.std.specs.Prelude.{◌≡◌, ◌↔◌, Bool, None};
+ghost use Rattle.c_tree.specs.declared.tree.Stmt.{Stmt};
+ghost use Rattle.c_tree.specs.declared.typed.TypedStmt.{TypedStmt};
+ghost use Rattle.c_type.specs.declared.state.State.{State};
+ghost use Rattle.c_type.specs.Statements.{part};
+ghost use Rattle.c_typing_rules.specs.Statements.{Types};
+
+/// The rules give a statement a typed tree and a state after it exactly where nothing in it fails, and
+/// then these alone.
+pub fn statements_are_exact()
+    ensures { (b : Bool) (v : State) (s : Stmt) (t : TypedStmt) (w : State) → Types b v s t w
+        ↔ (((part s).fault b v ≡ None) × (t ≡ (part s).tree v) × (w ≡ (part s).after v)) }
+{}
