@@ -46,7 +46,7 @@ pub not_held : (b : Bool) (f : TypeFault) → unless (not b) f ≡ None → b �
 not_held false f e = refl
 not_held true f e = absurd (cc)
 
-less : (n m : ℕ) → nat_lt n m ≡ true → n < m
+pub less : (n m : ℕ) → nat_lt n m ≡ true → n < m
 less n m h = grind arith
 
 pub at_most : (n m : ℕ) → nat_le n m ≡ true → n ≤ m
@@ -65,9 +65,9 @@ initialises G k None h = without_value
 initialises G k (Some e) h = with_value (full_typed G Value e h)
 
 -- a size without a fault has its length
-pub sized : (G : Scope) (e : Expr) (o : Option ℕ) → length_of e ≡ o → size_fault e G ≡ None → Size G e (word_in o)
-sized G e None e' h = let q = split _ _ h in absurd (false≢true (held _ _ (sym (ap (λ o. value_fault o e.line) e') ∙ q.1)))
-sized G e (Some n) e' h = let q = split _ _ h in (q.0, e')
+pub sized_typed : (G : Scope) (e : Expr) (o : Option ℕ) → length_of e ≡ o → size_fault e G ≡ None → Size G e (word_in o)
+sized_typed G e None e' h = let q = split _ _ h in absurd (false≢true (held _ _ (sym (ap (λ o. value_fault o e.line) e') ∙ q.1)))
+sized_typed G e (Some n) e' h = let q = split _ _ h in (q.0, e')
 
 -- a tree and a state by the rules, under equations
 moved : (b : Bool) (v : State) (s : Stmt) (t t' : TypedStmt) (w w' : State) → t' ≡ t → w' ≡ w → Types b v s t w → Types b v s t' w'
@@ -86,7 +86,7 @@ declares b l k w size.Open init v h = absurd (cc)
 declares b l k w (size.Sized e) None v h =
     let q = split _ _ (split _ _ h).0 in
     let r = split _ _ q.1 in
-    array_declared (sized v.names e (length_of e) refl q.0) (not_held _ _ r.0) (at_most _ _ (held _ _ r.1))
+    array_declared (sized_typed v.names e (length_of e) refl q.0) (not_held _ _ r.0) (at_most _ _ (held _ _ r.1))
 declares b l k w (size.Sized e) (Some init) v h = absurd (false≢true (held false (Mismatch l) (split _ _ h).1))
 
 leaves : (b : Bool) (l : ℕ) (v : State) (r : Option Kind) (e : Option Expr) → v.result ≡ r → full_if e Value v.names ≡ None → return_fault r e l ≡ None
@@ -187,8 +187,8 @@ module _ (I N S : Type 0) (of_i : I → ForInit) (of_n : N → StmtNode) (of_s :
       (first_locals (all_whole b v ss (sym (fault-Locals (map of_s ss) b v) ∙ h))))
 
 -- a statement without a fault has its tree by the rules
-pub whole : (s : Stmt) → Whole s
-whole =
+pub whole_stmt : (s : Stmt) → Whole s
+whole_stmt =
     ind-Stmt WholeFirst WholeNode Whole
     (λ x y e. subst (λ (x : ForInit-F ForInit StmtNode Stmt). WholeFirst (roll-ForInit x)) e (at_first _ _ _ (λ i. i.0) (λ n. n.0) (λ s. s.0) (λ i. i.1) (λ s. s.1) y))
     (λ x y e. subst (λ (x : StmtNode-F ForInit StmtNode Stmt). WholeNode (roll-StmtNode x)) e (at_node _ _ _ (λ i. i.0) (λ n. n.0) (λ s. s.0) (λ i. i.1) (λ s. s.1) y))
@@ -199,4 +199,4 @@ pub whole_all : (b : Bool) (v : State) (ss : List Stmt) → all_fault (map part 
     → TypesAll b v ss (all_trees (map part ss) v) (all_after (map part ss) v)
 whole_all b v [] h = no_more
 whole_all b v (s ∷ ss) h =
-    let q = split _ _ h in one_more (whole s b v q.0) (whole_all b ((part s).after v) ss q.1)
+    let q = split _ _ h in one_more (whole_stmt s b v q.0) (whole_all b ((part s).after v) ss q.1)

@@ -1,2 +1,5 @@
+pub mod Tests
 pub mod Sound
 pub mod Complete
+pub mod UnitsSound
+pub mod UnitsComplete

@@ -64,7 +64,7 @@ free G w l h = fine (not (is_taken G w)) (Twice l) (ap not h)
 pub size_fine : (G : Scope) (e : Expr) (n : ℕ) → Size G e n → size_fault e G ≡ None
 size_fine G e n (f, h) = both _ _ f (ap (λ o. value_fault o e.line) h)
 
-less : (n m : ℕ) → n < m → nat_lt n m ≡ true
+pub less : (n m : ℕ) → n < m → nat_lt n m ≡ true
 less n m h = grind arith
 
 pub at_most : (n m : ℕ) → n ≤ m → nat_le n m ≡ true

@@ -2,14 +2,25 @@
 
 ghost use Rattle.std.specs.Prelude.{◌≡◌, ◌↔◌, Bool, None};
 ghost use Rattle.c_tree.specs.declared.tree.Stmt.{Stmt};
+ghost use Rattle.c_tree.specs.declared.tree.Program.{Program};
 ghost use Rattle.c_tree.specs.declared.typed.TypedStmt.{TypedStmt};
+ghost use Rattle.c_tree.specs.declared.typed.TypedProgram.{TypedProgram};
 ghost use Rattle.c_type.specs.declared.state.State.{State};
 ghost use Rattle.c_type.specs.Statements.{part};
+ghost use Rattle.c_type.specs.Programs.{program_fault, program_tree};
 ghost use Rattle.c_typing_rules.specs.Statements.{Types};
+ghost use Rattle.c_typing_rules.specs.Units.{Accepts};
 
 /// The rules give a statement a typed tree and a state after it exactly where nothing in it fails, and
 /// then these alone.
 pub fn statements_are_exact()
     ensures { (b : Bool) (v : State) (s : Stmt) (t : TypedStmt) (w : State) → Types b v s t w
         ↔ (((part s).fault b v ≡ None) × (t ≡ (part s).tree v) × (w ≡ (part s).after v)) }
+{}
+
+/// The rules accept a translation unit with a typed program exactly where nothing in it fails, and
+/// then with that one alone.
+pub fn units_are_exact()
+    ensures { (p : Program) (t : TypedProgram) → Accepts p t
+        ↔ ((program_fault p ≡ None) × (t ≡ program_tree p)) }
 {}

@@ -4,12 +4,12 @@ use Rattle.c_type.specs.declared.state.State.{State}
 use Rattle.c_type.specs.Statements.{part}
 use Rattle.c_typing_rules.specs.Statements.{Types}
 use Rattle.c_typing_rules.proofs.Sound.{types_fine}
-use Rattle.c_typing_rules.proofs.Complete.{whole}
+use Rattle.c_typing_rules.proofs.Complete.{whole_stmt}
 use Rattle.c_typing_rules.proofs.exact.statements_are_exact.Goals as goal
 
 pub returns : goal.returns
 returns c = λ b v s t w. (
   types_fine b v s t w,
   λ h. subst (λ (t : TypedStmt). Types b v s t w) (sym h.1)
-      (subst (λ (w : State). Types b v s ((part s).tree v) w) (sym h.2) (whole s b v h.0)),
+      (subst (λ (w : State). Types b v s ((part s).tree v) w) (sym h.2) (whole_stmt s b v h.0)),
 )
