@@ -1,6 +1,6 @@
 -- A statement without a fault has what the folds give it by the rules.
-use Rattle.std.proofs.Common.{◌≡◌, ℕ, ◌<◌, ◌≤◌, ◌*◌, Bool, true, false, not, List, [], ◌∷◌, map, length, Option, Some, None, refl, sym, ap, ◌∙◌, subst, arith}
-use Rattle.std.specs.Prelude.{option_map, nat_lt, nat_le}
+use Rattle.std.proofs.Common.{◌≡◌, ℕ, ◌<◌, ◌≤◌, Bool, true, false, not, List, [], ◌∷◌, map, Option, Some, None, refl, sym, ap, ◌∙◌, subst, arith}
+use Rattle.std.specs.Prelude.{nat_lt, nat_le}
 use Rattle.std.proofs.lemmas.Bool.{false≢true}
 use Rattle.c_tree.specs.declared.token.Kind.{Kind}
 use Rattle.c_tree.specs.declared.tree.ArraySize.{ArraySize}
@@ -12,7 +12,6 @@ use Rattle.c_tree.specs.declared.tree.ForInit.TheVariants as first_part
 use Rattle.c_tree.specs.declared.tree.Stmt.{Stmt, Stmt-F, roll-Stmt, ind-Stmt}
 use Rattle.c_tree.specs.declared.tree.StmtNode.{StmtNode, roll-StmtNode, map-StmtNode}
 use Rattle.c_tree.specs.declared.tree.StmtNode.TheVariants as node
-use Rattle.c_tree.specs.declared.typed.TypedExpr.{TypedExpr}
 use Rattle.c_tree.specs.declared.typed.TypedStmt.{TypedStmt}
 use Rattle.c_tree.specs.declared.typed.TypedStmt.TheVariants as typed
 use Rattle.c_tree.specs.declared.typed.TypedForInit.{TypedForInit}
@@ -26,11 +25,13 @@ use Rattle.c_type_expr.specs.Trees.{tree}
 use Rattle.c_type_expr.specs.Constants.{full, length_of, word_in, value_fault, size_fault}
 use Rattle.c_type_expr.proofs.Theorem.{complete}
 use Rattle.c_type.specs.declared.state.State.{State}
-use Rattle.c_type.specs.States.{at, full_if, tree_if, value_of, entered, with_array}
-use Rattle.c_type.specs.Declarations.{bytes, is_taken, twice_fault, array_fault, declare_fault, declare_tree, declared}
-use Rattle.c_type.specs.Statements.{part, beginning_of, all_after, all_fault, all_trees, else_after, else_fault, else_tree, return_fault, return_tree}
-use Rattle.c_type.proofs.Nodes.{fault-Declare, tree-Declare, after-Declare, fault-Plain, tree-Plain, after-Plain, fault-Compound, tree-Compound, after-Compound, fault-If, tree-If, after-If, fault-While, tree-While, after-While, fault-Do, tree-Do, after-Do, fault-For, tree-For, after-For, fault-Break, tree-Break, after-Break, fault-Continue, tree-Continue, after-Continue, fault-Return, tree-Return, after-Return, fault-Nothing, tree-Nothing, after-Nothing, fault-First, tree-First, after-First, fault-Locals, tree-Locals, after-Locals}
-use Rattle.c_typing_rules.specs.Statements.{Full, FullIf, Initialises, Size, Types, TypesAll, TypesIf, Begins, absent, present, without_value, with_value, scalar_declared, array_declared, expression, block, either, while_loop, do_loop, for_loop, breaks, continues, returns, returns_value, no_more, one_more, without_else, with_else, no_first, first_value, first_locals}
+use Rattle.c_type.specs.States.{at, full_if, tree_if, value_of, entered}
+use Rattle.c_type.specs.Declarations.{declare_fault, declare_tree, declared}
+use Rattle.c_type.specs.Statements.{part, beginning_of, all_after, all_fault, all_trees, return_fault, return_tree}
+use Rattle.c_type.proofs.Nodes.{fault-Declare, tree-Declare, after-Declare, fault-Plain, tree-Plain, after-Plain, fault-Compound, tree-Compound, after-Compound, fault-If, tree-If, after-If, fault-While, tree-While, after-While, fault-Do, tree-Do, after-Do, fault-For, tree-For, after-For, fault-Break, tree-Break, after-Break, fault-Continue, tree-Continue, after-Continue, fault-Return, tree-Return, after-Return, tree-Nothing, after-Nothing, fault-First, tree-First, after-First, fault-Locals, tree-Locals, after-Locals}
+use Rattle.c_typing_rules.specs.Constants.{Size}
+use Rattle.c_typing_rules.specs.Statements.{Full, FullIf, Initialises, Types, TypesAll, Begins, absent, present, without_value, with_value, scalar_declared, array_declared, expression, block, either, while_loop, do_loop, for_loop, breaks, continues, returns, returns_value, no_more, one_more, without_else, with_else, no_first, first_value, first_locals}
+use Rattle.c_typing_rules.proofs.Constants.{constant_typed}
 
 -- where two parts have no fault together, neither has one
 pub split : (f g : Blame) → first f g ≡ None → (f ≡ None) × (g ≡ None)
@@ -65,18 +66,22 @@ initialises G k None h = without_value
 initialises G k (Some e) h = with_value (full_typed G Value e h)
 
 -- a size without a fault has its length
-pub sized_typed : (G : Scope) (e : Expr) (o : Option ℕ) → length_of e ≡ o → size_fault e G ≡ None → Size G e (word_in o)
-sized_typed G e None e' h = let q = split _ _ h in absurd (false≢true (held _ _ (sym (ap (λ o. value_fault o e.line) e') ∙ q.1)))
-sized_typed G e (Some n) e' h = let q = split _ _ h in (q.0, e')
+pub sized_typed : (G : Scope) (e : Expr) (o : Option ℕ) → length_of e ≡ o → size_fault e G ≡ None → Size e (word_in o)
+sized_typed G e None e' h = let q =
+    split _ _ h in absurd (false≢true (held _ _ (sym (ap (λ o. value_fault o e.line) e') ∙ q.1)))
+sized_typed G e (Some n) e' h = let q = split _ _ h in (constant_typed e G q.0, e')
 
 -- a tree and a state by the rules, under equations
-moved : (b : Bool) (v : State) (s : Stmt) (t t' : TypedStmt) (w w' : State) → t' ≡ t → w' ≡ w → Types b v s t w → Types b v s t' w'
+moved : (b : Bool) (v : State) (s : Stmt) (t t' : TypedStmt) (w w' : State) → t' ≡ t → w' ≡ w → Types b v s t w
+    → Types b v s t' w'
 moved b v s t t' w w' e f d = subst (λ t. Types b v s t w') (sym e) (subst (λ w. Types b v s t w) (sym f) d)
 
-begun : (b : Bool) (v : State) (i : ForInit) (t t' : TypedForInit) (w w' : State) → t' ≡ t → w' ≡ w → Begins b v i t w → Begins b v i t' w'
+begun : (b : Bool) (v : State) (i : ForInit) (t t' : TypedForInit) (w w' : State) → t' ≡ t → w' ≡ w → Begins b v i t w
+    → Begins b v i t' w'
 begun b v i t t' w w' e f d = subst (λ t. Begins b v i t w') (sym e) (subst (λ w. Begins b v i t w) (sym f) d)
 
-declares : (b : Bool) (l : ℕ) (k : Kind) (w : List ℕ) (s : ArraySize) (init : Option Expr) (v : State) → declare_fault s k w init l v ≡ None
+declares : (b : Bool) (l : ℕ) (k : Kind) (w : List ℕ) (s : ArraySize) (init : Option Expr) (v : State)
+    → declare_fault s k w init l v ≡ None
     → Types b v (at l (node.Declare k w s init)) (declare_tree s k w init v) (declared s k w v)
 declares b l k w size.Scalar init v h =
     let q = split _ _ h in
@@ -89,7 +94,8 @@ declares b l k w (size.Sized e) None v h =
     array_declared (sized_typed v.names e (length_of e) refl q.0) (not_held _ _ r.0) (at_most _ _ (held _ _ r.1))
 declares b l k w (size.Sized e) (Some init) v h = absurd (false≢true (held false (Mismatch l) (split _ _ h).1))
 
-leaves : (b : Bool) (l : ℕ) (v : State) (r : Option Kind) (e : Option Expr) → v.result ≡ r → full_if e Value v.names ≡ None → return_fault r e l ≡ None
+leaves : (b : Bool) (l : ℕ) (v : State) (r : Option Kind) (e : Option Expr) → v.result ≡ r
+    → full_if e Value v.names ≡ None → return_fault r e l ≡ None
     → Types b v (at l (node.Return e)) (typed.Return (return_tree r e v.names)) v
 leaves b l v None None m h g = returns m
 leaves b l v None (Some e) m h g = absurd (cc)
@@ -112,16 +118,19 @@ WholeNode n = (l : ℕ) → Whole (at l n)
 
 abbrev WholeFirst : ForInit → Type 0
 WholeFirst i =
-    (b : Bool) (v : State) → (beginning_of i).fault b v ≡ None → Begins b v i ((beginning_of i).tree v) ((beginning_of i).after v)
+    (b : Bool) (v : State) → (beginning_of i).fault b v ≡ None
+    → Begins b v i ((beginning_of i).tree v) ((beginning_of i).after v)
 
-module _ (I N S : Type 0) (of_i : I → ForInit) (of_n : N → StmtNode) (of_s : S → Stmt) (whole_i : (i : I) → WholeFirst (of_i i)) (whole_s : (s : S) → Whole (of_s s)) where
+module _ (I N S : Type 0) (of_i : I → ForInit) (of_n : N → StmtNode) (of_s : S → Stmt) (whole_i : (i : I)
+    → WholeFirst (of_i i)) (whole_s : (s : S) → Whole (of_s s)) where
   all_whole : (b : Bool) (v : State) (ss : List S) → all_fault (map part (map of_s ss)) b v ≡ None
       → TypesAll b v (map of_s ss) (all_trees (map part (map of_s ss)) v) (all_after (map part (map of_s ss)) v)
   all_whole b v [] h = no_more
   all_whole b v (s ∷ ss) h =
       let q = split _ _ h in one_more (whole_s s b v q.0) (all_whole b ((part (of_s s)).after v) ss q.1)
 
-  at_node : (y : StmtNode-F I N S) → WholeNode (roll-StmtNode (map-StmtNode I N S ForInit StmtNode Stmt of_i of_n of_s y))
+  at_node : (y : StmtNode-F I N S)
+      → WholeNode (roll-StmtNode (map-StmtNode I N S ForInit StmtNode Stmt of_i of_n of_s y))
   at_node (StmtNode-F.Declare k w s init) l =
       subst (λ n. Whole (at l n)) (sym (node.rolls-Declare k w s init))
       (λ b v h. moved _ _ _ _ _ _ _ (tree-Declare l k w s init v) (after-Declare l k w s init v)
@@ -159,7 +168,8 @@ module _ (I N S : Type 0) (of_i : I → ForInit) (of_n : N → StmtNode) (of_s :
       (λ b v h. let q = split _ _ (sym (fault-For l (of_i init) c p (of_s s) b v) ∙ h) in
       let r = split _ _ q.1 in let u = split _ _ r.1 in
       moved _ _ _ _ _ _ _ (tree-For l (of_i init) c p (of_s s) v) (after-For l (of_i init) c p (of_s s) v)
-      (for_loop (whole_i init b (entered v) q.0) (full_if_typed _ Value c r.0) (full_if_typed _ Free p u.0) (whole_s s true _ u.1)))
+      (for_loop (whole_i init b (entered v) q.0) (full_if_typed _ Value c r.0) (full_if_typed _ Free p u.0)
+      (whole_s s true _ u.1)))
   at_node StmtNode-F.Break l =
       subst (λ n. Whole (at l n)) (sym node.rolls-Break)
       (λ b v h. moved _ _ _ _ _ _ _ (tree-Break l v) (after-Break l v)
@@ -173,7 +183,8 @@ module _ (I N S : Type 0) (of_i : I → ForInit) (of_n : N → StmtNode) (of_s :
       (λ b v h. let q = split _ _ (sym (fault-Return l e b v) ∙ h) in
       moved _ _ _ _ _ _ _ (tree-Return l e v) (after-Return l e v) (leaves b l v v.result e refl q.0 q.1))
 
-  at_first : (y : ForInit-F I N S) → WholeFirst (roll-ForInit (map-ForInit I N S ForInit StmtNode Stmt of_i of_n of_s y))
+  at_first : (y : ForInit-F I N S)
+      → WholeFirst (roll-ForInit (map-ForInit I N S ForInit StmtNode Stmt of_i of_n of_s y))
   at_first ForInit-F.Nothing =
       subst WholeFirst (sym first_part.rolls-Nothing)
       (λ b v h. begun _ _ _ _ _ _ _ (tree-Nothing v) (after-Nothing v) no_first)
@@ -190,8 +201,10 @@ module _ (I N S : Type 0) (of_i : I → ForInit) (of_n : N → StmtNode) (of_s :
 pub whole_stmt : (s : Stmt) → Whole s
 whole_stmt =
     ind-Stmt WholeFirst WholeNode Whole
-    (λ x y e. subst (λ (x : ForInit-F ForInit StmtNode Stmt). WholeFirst (roll-ForInit x)) e (at_first _ _ _ (λ i. i.0) (λ n. n.0) (λ s. s.0) (λ i. i.1) (λ s. s.1) y))
-    (λ x y e. subst (λ (x : StmtNode-F ForInit StmtNode Stmt). WholeNode (roll-StmtNode x)) e (at_node _ _ _ (λ i. i.0) (λ n. n.0) (λ s. s.0) (λ i. i.1) (λ s. s.1) y))
+    (λ x y e. subst (λ (x : ForInit-F ForInit StmtNode Stmt). WholeFirst (roll-ForInit x)) e
+    (at_first _ _ _ (λ i. i.0) (λ n. n.0) (λ s. s.0) (λ i. i.1) (λ s. s.1) y))
+    (λ x y e. subst (λ (x : StmtNode-F ForInit StmtNode Stmt). WholeNode (roll-StmtNode x)) e
+    (at_node _ _ _ (λ i. i.0) (λ n. n.0) (λ s. s.0) (λ i. i.1) (λ s. s.1) y))
     (λ x y e. subst (λ (x : Stmt-F ForInit StmtNode Stmt). Whole (roll-Stmt x)) e (y.node.1 y.line))
 
 -- the same of several

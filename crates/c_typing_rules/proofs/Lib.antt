@@ -1,4 +1,5 @@
 pub mod Tests
+pub mod Constants
 pub mod Sound
 pub mod Complete
 pub mod UnitsSound

@@ -1,6 +1,6 @@
 -- An item, or a unit, without a fault has by the rules what the definitions compute.
-use Rattle.std.proofs.Common.{◌≡◌, ℕ, ◌+◌, ◌*◌, ◌<◌, ◌≤◌, Bool, true, false, not, List, [], ◌∷◌, ◌++◌, map, length, Option, Some, None, refl, sym, ap, ◌∙◌, subst}
-use Rattle.std.specs.Prelude.{◌&&◌, ◌||◌, cond, is_some}
+use Rattle.std.proofs.Common.{◌≡◌, ℕ, Bool, true, false, List, [], ◌∷◌, ◌++◌, map, Option, Some, None, refl, sym, ap, ◌∙◌, subst}
+use Rattle.std.specs.Prelude.{◌&&◌, cond, is_some}
 use Rattle.std.proofs.lemmas.Bool.{false≢true}
 use Rattle.c_tree.specs.declared.token.Kind.{Kind}
 use Rattle.c_tree.specs.declared.token.Kind.TheVariants.{Int}
@@ -19,27 +19,24 @@ use Rattle.c_tree.specs.declared.tree.TopNode.{TopNode}
 use Rattle.c_tree.specs.declared.tree.TopNode.TheVariants.{Include, Global, Func}
 use Rattle.c_tree.specs.declared.typed.Callee.{Callee}
 use Rattle.c_tree.specs.declared.typed.Slot.{Slot}
-use Rattle.c_tree.specs.declared.typed.TypedProgram.{TypedProgram}
-use Rattle.c_tree.specs.declared.typed.TypedStmt.{TypedStmt}
-use Rattle.c_tree.specs.declared.typed.TypedStmt.TheVariants as typed
 use Rattle.c_constant.specs.Kinds.{converted}
 use Rattle.c_constant.specs.Constant.{constant}
 use Rattle.c_constant.specs.Need.{need_fits}
 use Rattle.c_scope.specs.declared.meaning.Meaning.{Meaning}
 use Rattle.c_scope.specs.declared.meaning.Meaning.TheVariants as meaning
 use Rattle.c_scope.specs.Scope.{Scope, look_up}
-use Rattle.c_type_expr.specs.declared.fault.TypeFault.TheVariants.{Twice, Mismatch}
-use Rattle.c_type_expr.specs.Roles.{Blame, first, unless}
-use Rattle.c_type_expr.specs.Constants.{not_fixed, length_of, word_in, value_fault, constant_at}
+use Rattle.c_type_expr.specs.declared.fault.TypeFault.TheVariants.{Twice}
+use Rattle.c_type_expr.specs.Constants.{not_fixed, length_of, word_in, constant_at}
 use Rattle.c_type.specs.declared.file_scope.FileScope.{FileScope}
 use Rattle.c_type.specs.declared.state.State.{State}
 use Rattle.c_type.specs.States.{at}
 use Rattle.c_type.specs.Declarations.{is_end}
-use Rattle.c_type.specs.Units.{eof_name, getchar_name, putchar_name, int_slots, with_include, include_clash, global_names, count_of, count_fault, values_fault, function_fault, defined_fault, type_fault, same_result, same_slots}
-use Rattle.c_type.specs.Functions.{slot_of, named_among, params_fault, name_fault, head_fault, entry, body_in, body_part, callee_in}
-use Rattle.c_type.specs.Statements.{Part, part, all_after, all_trees}
-use Rattle.c_type.specs.Programs.{table, empty_file, main_name, number_in, is_int, no_slots, is_main, node_fault, node_after, item_after, items_fault, items_after, whole, program_fault, program_tree}
+use Rattle.c_type.specs.Units.{eof_name, getchar_name, putchar_name, int_slots, with_include, include_clash, global_names, count_of, count_fault, values_fault, function_fault, same_result, same_slots}
+use Rattle.c_type.specs.Functions.{slot_of, named_among, params_fault, name_fault, head_fault, entry, body_part, callee_in}
+use Rattle.c_type.specs.Statements.{Part}
+use Rattle.c_type.specs.Programs.{table, empty_file, is_int, no_slots, is_main, node_fault, node_after, item_after, items_fault, items_after, program_fault, program_tree}
 use Rattle.c_typing_rules.specs.Units.{Values, Count, Named, Params, Agrees, Heads, is_block, Body, Item, Items, Accepts, no_value, one_value, single, counted, sized, unnamed, named, no_param, one_param, fresh, again, outermost, other, include, include_again, global, prototype, definition, no_item, one_item, accepts}
+use Rattle.c_typing_rules.proofs.Constants.{constant_typed}
 use Rattle.c_typing_rules.proofs.Sound.{both}
 use Rattle.c_typing_rules.proofs.Complete.{split, held, not_held, less, at_most, sized_typed, whole_stmt, whole_all}
 use Rattle.c_typing_rules.proofs.UnitsSound.{block_body, plain_body}
@@ -47,14 +44,16 @@ use Rattle.c_typing_rules.proofs.Tests.{both_hold, neither_holds, kinds, params_
 
 -- a value without a fault has its word by the rules, before others
 value_typed : (G : Scope) (k : Kind) (e : Expr) (es : List Expr) (o : Option ℕ) → (constant e).value ≡ o
-    → not_fixed e G ≡ None → is_some o ≡ true → need_fits e ≡ true → Values G k es (map (constant_at k) es)
-    → Values G k (e ∷ es) (map (constant_at k) (e ∷ es))
+    → not_fixed e G ≡ None → is_some o ≡ true → need_fits e ≡ true → Values k es (map (constant_at k) es)
+    → Values k (e ∷ es) (map (constant_at k) (e ∷ es))
 value_typed G k e es None v f h n d = absurd (false≢true h)
 value_typed G k e es (Some w) v f h n d =
-    subst (λ o. Values G k (e ∷ es) (converted k (word_in o) ∷ map (constant_at k) es)) (sym v) (one_value f v n d)
+    subst (λ o. Values k (e ∷ es) (converted k (word_in o) ∷ map (constant_at k) es)) (sym v)
+    (one_value (constant_typed e G f) v n d)
 
 -- values without a fault have their words by the rules
-values_typed : (G : Scope) (k : Kind) (es : List Expr) → values_fault es G ≡ None → Values G k es (map (constant_at k) es)
+values_typed : (G : Scope) (k : Kind) (es : List Expr) → values_fault es G ≡ None
+    → Values k es (map (constant_at k) es)
 values_typed G k [] h = no_value
 values_typed G k (e ∷ es) h =
     let q = split _ _ h in
@@ -63,13 +62,15 @@ values_typed G k (e ∷ es) h =
     value_typed G k e es (constant e).value refl r.0 (held _ _ u.0) (held _ _ u.1) (values_typed G k es q.1)
 
 -- what a global holds has its count by the rules
-count_typed : (G : Scope) (init : List Expr) (s : ArraySize) (l : ℕ) → count_fault s init l G ≡ None → Count G init s (count_of s init)
+count_typed : (G : Scope) (init : List Expr) (s : ArraySize) (l : ℕ) → count_fault s init l G ≡ None
+    → Count init s (count_of s init)
 count_typed G init size.Scalar l h = single
 count_typed G init size.Open l h = counted (less _ _ (held _ _ h))
 count_typed G init (size.Sized e) l h = sized (sized_typed G e (length_of e) refl h)
 
 -- a parameter's name without a fault is one by the rules
-named_typed : (d : Bool) (G : Scope) (seen : List Param) (o : Option (List ℕ)) (l : ℕ) → name_fault d G seen o l ≡ None → Named d G seen o
+named_typed : (d : Bool) (G : Scope) (seen : List Param) (o : Option (List ℕ)) (l : ℕ)
+    → name_fault d G seen o l ≡ None → Named d G seen o
 named_typed d G seen None l h = unnamed (not_held _ _ h)
 named_typed d G seen (Some w) l h =
     let q = neither_holds (named_among seen w) (is_end (look_up G w)) (not_held _ _ h) in named q.0 q.1
@@ -80,22 +81,29 @@ params_typed d G seen [] h = no_param
 params_typed d G seen (p ∷ ps) h =
     let q = split _ _ h in
     let r = split _ _ q.0 in
-    one_param (named_typed d G seen p.name p.line r.0) (less _ _ (held _ _ r.1)) (params_typed d G (seen ++ p ∷ []) ps q.1)
+    one_param (named_typed d G seen p.name p.line r.0) (less _ _ (held _ _ r.1))
+    (params_typed d G (seen ++ p ∷ []) ps q.1)
 
 -- a function without a fault agrees with what its name means
-agrees_typed : (d : Bool) (r : Option Kind) (ss : List Slot) (m : Option Meaning) (l : ℕ) → function_fault d r ss m l ≡ None → Agrees d r ss m
+agrees_typed : (d : Bool) (r : Option Kind) (ss : List Slot) (m : Option Meaning) (l : ℕ)
+    → function_fault d r ss m l ≡ None → Agrees d r ss m
 agrees_typed d r ss None l h = fresh
-agrees_typed d r ss (Some (meaning.Scalar k p)) l h = absurd (false≢true (held false (Twice l) (split (Some (Twice l)) None h).0))
-agrees_typed d r ss (Some (meaning.Array k p)) l h = absurd (false≢true (held false (Twice l) (split (Some (Twice l)) None h).0))
-agrees_typed d r ss (Some meaning.EndOfFile) l h = absurd (false≢true (held false (Twice l) (split (Some (Twice l)) None h).0))
+agrees_typed d r ss (Some (meaning.Scalar k p)) l h =
+    absurd (false≢true (held false (Twice l) (split (Some (Twice l)) None h).0))
+agrees_typed d r ss (Some (meaning.Array k p)) l h =
+    absurd (false≢true (held false (Twice l) (split (Some (Twice l)) None h).0))
+agrees_typed d r ss (Some meaning.EndOfFile) l h =
+    absurd (false≢true (held false (Twice l) (split (Some (Twice l)) None h).0))
 agrees_typed d r ss (Some (meaning.Function r' ss' c s)) l h =
     let q = split _ _ h in
     let u = both_hold (same_result r' r) (same_slots ss' ss) (held _ _ q.1) in
     subst (λ r'. Agrees d r ss (Some (meaning.Function r' ss' c s))) (sym (results_are r' r u.0))
-    (subst (λ ss'. Agrees d r ss (Some (meaning.Function r ss' c s))) (sym (params_are ss' ss u.1)) (again (not_held _ _ q.0)))
+    (subst (λ ss'. Agrees d r ss (Some (meaning.Function r ss' c s))) (sym (params_are ss' ss u.1))
+    (again (not_held _ _ q.0)))
 
 -- what stands before a body is so by the rules
-heads_typed : (d : Bool) (r : Option Kind) (w : List ℕ) (ps : List Param) (l : ℕ) (G : Scope) → head_fault d r w ps l G ≡ None → Heads d r w ps G
+heads_typed : (d : Bool) (r : Option Kind) (w : List ℕ) (ps : List Param) (l : ℕ) (G : Scope)
+    → head_fault d r w ps l G ≡ None → Heads d r w ps G
 heads_typed d r w ps l G h =
     let q = split _ _ h in (params_typed d G [] ps q.0, agrees_typed d r (map slot_of ps) (look_up G w) l q.1)
 
@@ -124,7 +132,8 @@ body_typed : (s : Stmt) → WholeBody s
 body_typed s = whole_in s (out-StmtNode s.node) refl
 
 -- an include without a fault is one by the rules
-include_typed : (T : Scope) (l : ℕ) (U : FileScope) (b : Bool) → is_end (look_up U.names eof_name) ≡ b → cond b None (include_clash U.names l) ≡ None
+include_typed : (T : Scope) (l : ℕ) (U : FileScope) (b : Bool) → is_end (look_up U.names eof_name) ≡ b
+    → cond b None (include_clash U.names l) ≡ None
     → Item T U Include (record U { names = cond b U.names (with_include U.names) })
 include_typed T l U true e h = include_again e
 include_typed T l U false e h =
@@ -137,7 +146,8 @@ include_typed T l U false e h =
     (agrees_typed true (Some Int) int_slots (look_up U.names putchar_name) l (both _ _ b.0 d.1))
 
 -- an item without a fault leads by the rules to the file scope after it
-item_typed : (T : Scope) (l : ℕ) (U : FileScope) (n : TopNode) → node_fault T n l U ≡ None → Item T U n (node_after T n U)
+item_typed : (T : Scope) (l : ℕ) (U : FileScope) (n : TopNode) → node_fault T n l U ≡ None
+    → Item T U n (node_after T n U)
 item_typed T l U Include h = include_typed T l U (is_end (look_up U.names eof_name)) refl h
 item_typed T l U (Global k w s init) h =
     let q = split _ _ h in
@@ -152,7 +162,8 @@ item_typed T l U (Func given w params (Some s)) h =
     definition (heads_typed true given w params l U.names q.0) (body_typed s (entry T w given params U.names) q.1)
 
 -- items without a fault lead by the rules to the file scope after them
-items_typed : (T : Scope) (U : FileScope) (ts : List Top) → items_fault T ts U ≡ None → Items T U ts (items_after T ts U)
+items_typed : (T : Scope) (U : FileScope) (ts : List Top) → items_fault T ts U ≡ None
+    → Items T U ts (items_after T ts U)
 items_typed T U [] h = no_item
 items_typed T U (t ∷ ts) h =
     let q = split _ _ h in one_item (item_typed T t.line U t.node q.0) (items_typed T (item_after T t U) ts q.1)
@@ -163,7 +174,8 @@ main_parts true true false h = absurd (false≢true h)
 main_parts true false c h = absurd (false≢true h)
 main_parts false b c h = absurd (false≢true h)
 
-function_is : (r : Option Kind) (ps : List Slot) (c : Option Callee) (d : Bool) → is_int r ≡ true → no_slots ps ≡ true → d ≡ true
+function_is : (r : Option Kind) (ps : List Slot) (c : Option Callee) (d : Bool) → is_int r ≡ true → no_slots ps ≡ true
+    → d ≡ true
     → Some (meaning.Function r ps c d) ≡ Some (meaning.Function (Some Int) [] c true)
 function_is None ps c d h h' e = absurd (false≢true h)
 function_is (Some k) (s ∷ ss) c d h h' e = absurd (false≢true h')

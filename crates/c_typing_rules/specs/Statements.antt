@@ -19,10 +19,10 @@ use Rattle.c_type_expr.specs.declared.role.Role.{Role}
 use Rattle.c_type_expr.specs.declared.role.Role.TheVariants.{Value, Free}
 use Rattle.c_type_expr.specs.Trees.{converted}
 use Rattle.c_type_expr.specs.Typed.{Typed}
-use Rattle.c_type_expr.specs.Constants.{not_fixed, length_of}
 use Rattle.c_type.specs.declared.state.State.{State}
 use Rattle.c_type.specs.States.{at, entered, left, with_scalar, with_array}
 use Rattle.c_type.specs.Declarations.{bytes, is_taken}
+use Rattle.c_typing_rules.specs.Constants.{Size}
 
 -- a full expression, whose need is at most the limit
 abbrev pub Full : Scope → Role → Expr → TypedExpr → Type 0
@@ -39,12 +39,8 @@ pub data Initialises (G : Scope) (k : Kind) : Option Expr → Option TypedExpr �
   with_value : {e : Expr} {t : TypedExpr}
       → Full G Value e t → Initialises G k (Some e) (Some (converted k t))
 
--- an array's size: a constant expression of a value of at least 1
-abbrev pub Size : Scope → Expr → ℕ → Type 0
-Size G e n = (not_fixed e G ≡ None) × (length_of e ≡ Some n)
-
 mutual
-  -- inside a loop or not, the statement has the typed tree, and the second state is the one after it
+  -- inside a loop or not, the statement has the typed tree; the second state is the one after it
   pub data Types : Bool → State → Stmt → TypedStmt → State → Type 0 where
     scalar_declared : {b : Bool} {v : State} {l : ℕ} {k : Kind} {w : List ℕ} {init : Option Expr}
         {t : Option TypedExpr}
@@ -53,7 +49,7 @@ mutual
         → Types b v (at l (node.Declare k w size.Scalar init))
         (typed.Declare (place.Scalar (length v.scalars)) t) (with_scalar k w v)
     array_declared : {b : Bool} {v : State} {l n : ℕ} {k : Kind} {w : List ℕ} {e : Expr}
-        → Size v.names e n → is_taken v.names w ≡ false → n * bytes k ≤ 1048576
+        → Size e n → is_taken v.names w ≡ false → n * bytes k ≤ 1048576
         → Types b v (at l (node.Declare k w (size.Sized e) None))
         (typed.Declare (place.Array (length v.arrays)) None) (with_array k w n v)
     expression : {b : Bool} {v : State} {l : ℕ} {e : Option Expr} {t : Option TypedExpr}
@@ -61,18 +57,19 @@ mutual
     block : {b : Bool} {v w : State} {l : ℕ} {ss : List Stmt} {ts : List TypedStmt}
         → TypesAll b (entered v) ss ts w
         → Types b v (at l (node.Compound ss)) (typed.Compound ts) (left w)
-    either : {b : Bool} {v v' w : State} {l : ℕ} {c : Expr} {d : TypedExpr} {s : Stmt} {t : TypedStmt}
-        {other : Option Stmt} {u : Option TypedStmt}
+    either : {b : Bool} {v v' w : State} {l : ℕ} {c : Expr} {d : TypedExpr} {s : Stmt}
+        {t : TypedStmt} {other : Option Stmt} {u : Option TypedStmt}
         → Full v.names Value c d → Types b v s t v' → TypesIf b v' other u w
         → Types b v (at l (node.If c s other)) (typed.If d t u) w
-    while_loop : {b : Bool} {v w : State} {l : ℕ} {c : Expr} {d : TypedExpr} {s : Stmt} {t : TypedStmt}
+    while_loop : {b : Bool} {v w : State} {l : ℕ} {c : Expr} {d : TypedExpr} {s : Stmt}
+        {t : TypedStmt}
         → Full v.names Value c d → Types true v s t w
         → Types b v (at l (node.While c s)) (typed.While d t) w
     do_loop : {b : Bool} {v w : State} {l : ℕ} {c : Expr} {d : TypedExpr} {s : Stmt} {t : TypedStmt}
         → Types true v s t w → Full w.names Value c d
         → Types b v (at l (node.Do s c)) (typed.Do t d) w
-    for_loop : {b : Bool} {v v' w : State} {l : ℕ} {init : ForInit} {i : TypedForInit} {c p : Option Expr}
-        {d q : Option TypedExpr} {s : Stmt} {t : TypedStmt}
+    for_loop : {b : Bool} {v v' w : State} {l : ℕ} {init : ForInit} {i : TypedForInit}
+        {c p : Option Expr} {d q : Option TypedExpr} {s : Stmt} {t : TypedStmt}
         → Begins b (entered v) init i v' → FullIf v'.names Value c d → FullIf v'.names Free p q
         → Types true v' s t w
         → Types b v (at l (node.For init c p s)) (typed.For i d q t) (left w)
@@ -87,7 +84,8 @@ mutual
   -- several, one after another
   pub data TypesAll : Bool → State → List Stmt → List TypedStmt → State → Type 0 where
     no_more : {b : Bool} {v : State} → TypesAll b v [] [] v
-    one_more : {b : Bool} {v v' w : State} {s : Stmt} {t : TypedStmt} {ss : List Stmt} {ts : List TypedStmt}
+    one_more : {b : Bool} {v v' w : State} {s : Stmt} {t : TypedStmt} {ss : List Stmt}
+        {ts : List TypedStmt}
         → Types b v s t v' → TypesAll b v' ss ts w → TypesAll b v (s ∷ ss) (t ∷ ts) w
 
   -- a leg that may be left out

@@ -27,7 +27,6 @@ use Rattle.c_constant.specs.Need.{need_fits}
 use Rattle.c_scope.specs.declared.meaning.Meaning.{Meaning}
 use Rattle.c_scope.specs.declared.meaning.Meaning.TheVariants as meaning
 use Rattle.c_scope.specs.Scope.{Scope, look_up, closed}
-use Rattle.c_type_expr.specs.Constants.{not_fixed}
 use Rattle.c_type.specs.declared.file_scope.FileScope.{FileScope}
 use Rattle.c_type.specs.declared.state.State.{State}
 use Rattle.c_type.specs.States.{at}
@@ -35,22 +34,23 @@ use Rattle.c_type.specs.Declarations.{bytes, is_end, is_taken}
 use Rattle.c_type.specs.Units.{eof_name, getchar_name, putchar_name, int_slots, with_include, global_names, length_in}
 use Rattle.c_type.specs.Functions.{slot_of, named_among, with_prototype, entry}
 use Rattle.c_type.specs.Programs.{table, empty_file, main_name, number_in}
-use Rattle.c_typing_rules.specs.Statements.{Size, Types, TypesAll}
+use Rattle.c_typing_rules.specs.Constants.{IsConstant, Size}
+use Rattle.c_typing_rules.specs.Statements.{Types, TypesAll}
 
 -- CONSTANTS
 
 -- the words of constant expressions, each with a value and a need within the limit, at a type
-pub data Values (G : Scope) (k : Kind) : List Expr → List ℕ → Type 0 where
-  no_value : Values G k [] []
+pub data Values (k : Kind) : List Expr → List ℕ → Type 0 where
+  no_value : Values k [] []
   one_value : {e : Expr} {n : ℕ} {es : List Expr} {ns : List ℕ}
-      → not_fixed e G ≡ None → (constant e).value ≡ Some n → need_fits e ≡ true
-      → Values G k es ns → Values G k (e ∷ es) (converted k n ∷ ns)
+      → IsConstant e → (constant e).value ≡ Some n → need_fits e ≡ true
+      → Values k es ns → Values k (e ∷ es) (converted k n ∷ ns)
 
 -- how many values a global holds
-pub data Count (G : Scope) (init : List Expr) : ArraySize → ℕ → Type 0 where
-  single : Count G init size.Scalar 1
-  counted : 0 < length init → Count G init size.Open (length init)
-  sized : {e : Expr} {n : ℕ} → Size G e n → Count G init (size.Sized e) n
+pub data Count (init : List Expr) : ArraySize → ℕ → Type 0 where
+  single : Count init size.Scalar 1
+  counted : 0 < length init → Count init size.Open (length init)
+  sized : {e : Expr} {n : ℕ} → Size e n → Count init (size.Sized e) n
 
 -- FUNCTIONS
 
@@ -68,10 +68,11 @@ pub data Params (is_def : Bool) (G : Scope) : List Param → List Param → Type
       → Params is_def G seen (p ∷ ps)
 
 -- the name means nothing yet, or a function of the same type; a function has one definition
-pub data Agrees (is_def : Bool) (given : Option Kind) (slots : List Slot) : Option Meaning → Type 0 where
-  fresh : Agrees is_def given slots None
-  again : {c : Option Callee} {d : Bool} → is_def && d ≡ false
-      → Agrees is_def given slots (Some (meaning.Function given slots c d))
+pub data Agrees (is_def : Bool) (given : Option Kind) (slots : List Slot) : Option Meaning → Type 0
+  where
+    fresh : Agrees is_def given slots None
+    again : {c : Option Callee} {d : Bool} → is_def && d ≡ false
+        → Agrees is_def given slots (Some (meaning.Function given slots c d))
 
 abbrev pub Heads : Bool → Option Kind → List ℕ → List Param → Scope → Type 0
 Heads is_def given w params G =
@@ -107,9 +108,10 @@ pub data Item (T : Scope) : FileScope → TopNode → FileScope → Type 0 where
       → Agrees true (Some Int) int_slots (look_up U.names putchar_name)
       → Item T U Include (record U { names = with_include U.names })
   include_again : {U : FileScope} → is_end (look_up U.names eof_name) ≡ true → Item T U Include U
-  global : {U : FileScope} {k : Kind} {w : List ℕ} {s : ArraySize} {init : List Expr} {n : ℕ} {ns : List ℕ}
-      → Count U.names init s n → is_taken U.names w ≡ false → n * bytes k + U.bytes ≤ 1048576
-      → Values (global_names s k w U) k init ns → length init ≤ n
+  global : {U : FileScope} {k : Kind} {w : List ℕ} {s : ArraySize} {init : List Expr} {n : ℕ}
+      {ns : List ℕ}
+      → Count init s n → is_taken U.names w ≡ false → n * bytes k + U.bytes ≤ 1048576
+      → Values k init ns → length init ≤ n
       → Item T U (Global k w s init) (record U {
         names = global_names s k w U;
         globals = U.globals ++ (record { kind = k; length = length_in s n; init = ns }) ∷ [];

@@ -11,8 +11,8 @@ ghost use Rattle.c_type.specs.Programs.{program_fault, program_tree};
 ghost use Rattle.c_typing_rules.specs.Statements.{Types};
 ghost use Rattle.c_typing_rules.specs.Units.{Accepts};
 
-/// The rules give a statement a typed tree and a state after it exactly where nothing in it fails, and
-/// then these alone.
+/// The rules give a statement a typed tree and a state after it exactly where nothing in it fails,
+/// and then these alone.
 pub fn statements_are_exact()
     ensures { (b : Bool) (v : State) (s : Stmt) (t : TypedStmt) (w : State) → Types b v s t w
         ↔ (((part s).fault b v ≡ None) × (t ≡ (part s).tree v) × (w ≡ (part s).after v)) }

@@ -1,5 +1,5 @@
-//! The typing relation of statements, functions and translation units (C17 6.7 to 6.9), and that it is
-//! what the typing computes.
+//! The typing relation of statements, functions and translation units (C17 6.7 to 6.9), and that it
+//! is what the typing computes.
 #![tactic(auto)]
 
 mod exact;
