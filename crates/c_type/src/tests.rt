@@ -2,10 +2,10 @@
 
 use crate::rows::{Body, Item, ROWS, Row, Typed, Value};
 use crate::{TypeFault, type_program};
-use base::Items;
+use base::{Boxed, Items};
 use c_tree::{
-    ArraySize, Expr, ExprNode, Kind, Param, Program, Stmt, StmtNode, Top, TopNode, TypedExpr,
-    TypedFunc, TypedGlobal, TypedNode, TypedStmt, Word,
+    ArraySize, BinaryOp, Expr, ExprNode, Kind, Param, Program, Stmt, StmtNode, Top, TopNode,
+    TypedExpr, TypedFunc, TypedGlobal, TypedNode, TypedStmt, Word,
 };
 use std::alloc::Global;
 use std::process::Abort;
@@ -196,5 +196,35 @@ fn values_are_converted(rt: HostRuntime) -> Result<(), TypeFault> {
     assert_eq!(rt; value, Some(u64::MAX), "511 as a char");
     let converted = has_converted(program.functions.as_slice());
     assert!(rt; converted, "a char that an int function returns");
+    Ok(())
+}
+
+/// `0 + 0 + .. + 0`, grouped to the left.
+fn chain(alloc: Global, count: u32) -> Result<Boxed<Expr>, TypeFault> {
+    let mut sum = Boxed::new(alloc, expression(alloc, 1, Value::Number(0))?)?;
+    for _ in 0..count {
+        let right = Boxed::new(alloc, expression(alloc, 1, Value::Number(0))?)?;
+        let node = ExprNode::Binary {
+            op: BinaryOp::Add,
+            left: sum,
+            right,
+        };
+        sum = Boxed::new(alloc, Expr { line: 1, node })?;
+    }
+    Ok(sum)
+}
+
+#[test]
+fn a_chain_of_4000_additions_is_typed(rt: HostRuntime) -> Result<(), TypeFault> {
+    let alloc = rt.alloc();
+    let sum = chain(alloc, 4_000)?;
+    let give = Stmt {
+        line: 1,
+        node: StmtNode::Return(Some(sum.into_inner())),
+    };
+    let mut items = Items::new(alloc);
+    items.push(function(alloc, 1, b"main", 0, Some(give))?)?;
+    let program = type_program(alloc, Program { items })?;
+    assert_eq!(rt; program.functions.len(), 1);
     Ok(())
 }
