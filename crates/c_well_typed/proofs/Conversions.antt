@@ -1,0 +1,125 @@
+-- The types that operators want, once their operands are converted to them.
+use Rattle.std.proofs.Common.{◌≡◌, Bool, true, false, refl, sym}
+use Rattle.std.proofs.lemmas.Bool.{false≢true}
+use Rattle.c_tree.specs.declared.token.Kind.{Kind}
+use Rattle.c_tree.specs.declared.token.Kind.TheVariants.{Char, UChar, Int, UInt, Long, ULong}
+use Rattle.c_tree.specs.declared.tree.UnaryOp.{UnaryOp}
+use Rattle.c_tree.specs.declared.tree.UnaryOp.TheVariants.{Not}
+use Rattle.c_tree.specs.declared.tree.BinaryOp.{BinaryOp}
+use Rattle.c_tree.specs.declared.tree.BinaryOp.TheVariants.{LogicalOr, LogicalAnd, ShiftLeft, ShiftRight}
+use Rattle.c_constant.specs.Kinds.{same_kind, promoted, common}
+use Rattle.c_constant.specs.Operation.{left_at, right_at, unary_at}
+
+-- the test of two types tells whether they are one
+pub same : (j k : Kind) → same_kind j k ≡ true → j ≡ k
+same Char Char h = refl
+same Char UChar h = absurd (false≢true h)
+same Char Int h = absurd (false≢true h)
+same Char UInt h = absurd (false≢true h)
+same Char Long h = absurd (false≢true h)
+same Char ULong h = absurd (false≢true h)
+same UChar Char h = absurd (false≢true h)
+same UChar UChar h = refl
+same UChar Int h = absurd (false≢true h)
+same UChar UInt h = absurd (false≢true h)
+same UChar Long h = absurd (false≢true h)
+same UChar ULong h = absurd (false≢true h)
+same Int Char h = absurd (false≢true h)
+same Int UChar h = absurd (false≢true h)
+same Int Int h = refl
+same Int UInt h = absurd (false≢true h)
+same Int Long h = absurd (false≢true h)
+same Int ULong h = absurd (false≢true h)
+same UInt Char h = absurd (false≢true h)
+same UInt UChar h = absurd (false≢true h)
+same UInt Int h = absurd (false≢true h)
+same UInt UInt h = refl
+same UInt Long h = absurd (false≢true h)
+same UInt ULong h = absurd (false≢true h)
+same Long Char h = absurd (false≢true h)
+same Long UChar h = absurd (false≢true h)
+same Long Int h = absurd (false≢true h)
+same Long UInt h = absurd (false≢true h)
+same Long Long h = refl
+same Long ULong h = absurd (false≢true h)
+same ULong Char h = absurd (false≢true h)
+same ULong UChar h = absurd (false≢true h)
+same ULong Int h = absurd (false≢true h)
+same ULong UInt h = absurd (false≢true h)
+same ULong Long h = absurd (false≢true h)
+same ULong ULong h = refl
+
+-- a promoted type is promoted
+promoted_once : (k : Kind) → promoted (promoted k) ≡ promoted k
+promoted_once Char = refl
+promoted_once UChar = refl
+promoted_once Int = refl
+promoted_once UInt = refl
+promoted_once Long = refl
+promoted_once ULong = refl
+
+-- a common type is common with itself, and with each of the two
+pub record Common (j k : Kind) : Type 0 where
+  pub itself : common (common j k) (common j k) ≡ common j k
+  pub left : common j (common j k) ≡ common j k
+
+pub commons : (j k : Kind) → Common j k
+commons Char Char = record { itself = refl; left = refl }
+commons Char UChar = record { itself = refl; left = refl }
+commons Char Int = record { itself = refl; left = refl }
+commons Char UInt = record { itself = refl; left = refl }
+commons Char Long = record { itself = refl; left = refl }
+commons Char ULong = record { itself = refl; left = refl }
+commons UChar Char = record { itself = refl; left = refl }
+commons UChar UChar = record { itself = refl; left = refl }
+commons UChar Int = record { itself = refl; left = refl }
+commons UChar UInt = record { itself = refl; left = refl }
+commons UChar Long = record { itself = refl; left = refl }
+commons UChar ULong = record { itself = refl; left = refl }
+commons Int Char = record { itself = refl; left = refl }
+commons Int UChar = record { itself = refl; left = refl }
+commons Int Int = record { itself = refl; left = refl }
+commons Int UInt = record { itself = refl; left = refl }
+commons Int Long = record { itself = refl; left = refl }
+commons Int ULong = record { itself = refl; left = refl }
+commons UInt Char = record { itself = refl; left = refl }
+commons UInt UChar = record { itself = refl; left = refl }
+commons UInt Int = record { itself = refl; left = refl }
+commons UInt UInt = record { itself = refl; left = refl }
+commons UInt Long = record { itself = refl; left = refl }
+commons UInt ULong = record { itself = refl; left = refl }
+commons Long Char = record { itself = refl; left = refl }
+commons Long UChar = record { itself = refl; left = refl }
+commons Long Int = record { itself = refl; left = refl }
+commons Long UInt = record { itself = refl; left = refl }
+commons Long Long = record { itself = refl; left = refl }
+commons Long ULong = record { itself = refl; left = refl }
+commons ULong Char = record { itself = refl; left = refl }
+commons ULong UChar = record { itself = refl; left = refl }
+commons ULong Int = record { itself = refl; left = refl }
+commons ULong UInt = record { itself = refl; left = refl }
+commons ULong Long = record { itself = refl; left = refl }
+commons ULong ULong = record { itself = refl; left = refl }
+
+-- an operand that is converted to the type that a unary operator wants is of the type that it wants
+pub unary_settled : (op : UnaryOp) (k : Kind) → unary_at op (unary_at op k) ≡ unary_at op k
+unary_settled Not k = refl
+unary_settled _ k = promoted_once k
+
+-- the same of the operands of a binary operator, and of the right side of a compound assignment, whose
+-- left side is not converted
+pub record Settled (op : BinaryOp) (j k : Kind) : Type 0 where
+  pub left : left_at op (left_at op j k) (right_at op j k) ≡ left_at op j k
+  pub right : right_at op (left_at op j k) (right_at op j k) ≡ right_at op j k
+  pub at : left_at op j k ≡ left_at op j (right_at op j k)
+  pub from : right_at op j (right_at op j k) ≡ right_at op j k
+
+pub settled : (op : BinaryOp) (j k : Kind) → Settled op j k
+settled LogicalOr j k = record { left = refl; right = refl; at = refl; from = refl }
+settled LogicalAnd j k = record { left = refl; right = refl; at = refl; from = refl }
+settled ShiftLeft j k =
+    record { left = promoted_once j; right = promoted_once k; at = refl; from = promoted_once k }
+settled ShiftRight j k =
+    record { left = promoted_once j; right = promoted_once k; at = refl; from = promoted_once k }
+settled _ j k =
+    let c = commons j k in record { left = c.itself; right = c.itself; at = sym c.left; from = c.left }

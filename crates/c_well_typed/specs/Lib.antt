@@ -1,0 +1,5 @@
+pub mod Objects
+pub mod Expressions
+pub mod Needs
+pub mod Statements
+pub mod WellFormed

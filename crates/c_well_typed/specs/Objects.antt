@@ -1,0 +1,77 @@
+-- What the places and the calls of a function name: objects and functions of its program.
+use Rattle.std.specs.Prelude.{ℕ, List, [], ◌∷◌, Option, Some, None, option_map, slice_get, take}
+use Rattle.c_tree.specs.declared.token.Kind.{Kind}
+use Rattle.c_tree.specs.declared.token.Kind.TheVariants.{Int}
+use Rattle.c_tree.specs.declared.typed.Place.{Place}
+use Rattle.c_tree.specs.declared.typed.Place.TheVariants as place
+use Rattle.c_tree.specs.declared.typed.Callee.{Callee}
+use Rattle.c_tree.specs.declared.typed.Callee.TheVariants as callee
+use Rattle.c_tree.specs.declared.typed.Slot.{Slot}
+use Rattle.c_tree.specs.declared.typed.Slot.TheVariants as slot
+use Rattle.c_tree.specs.declared.typed.TypedArray.{TypedArray}
+use Rattle.c_tree.specs.declared.typed.TypedFunc.{TypedFunc}
+use Rattle.c_tree.specs.declared.typed.TypedGlobal.{TypedGlobal}
+use Rattle.c_tree.specs.declared.typed.TypedProgram.{TypedProgram}
+
+-- OBJECTS
+
+-- the type of a global without a length, and the type of the elements of one with a length
+abbrev pub scalar_kind : Kind → Option ℕ → Option Kind
+scalar_kind k None = Some k
+scalar_kind k (Some n) = None
+
+abbrev pub element_kind : Kind → Option ℕ → Option Kind
+element_kind k None = None
+element_kind k (Some n) = Some k
+
+abbrev pub global_scalar : Option TypedGlobal → Option Kind
+global_scalar None = None
+global_scalar (Some g) = scalar_kind g.kind g.length
+
+abbrev pub global_array : Option TypedGlobal → Option Kind
+global_array None = None
+global_array (Some g) = element_kind g.kind g.length
+
+abbrev pub slot_scalar : Option Slot → Option Kind
+slot_scalar (Some (slot.Scalar k)) = Some k
+slot_scalar _ = None
+
+abbrev pub slot_array : Option Slot → Option Kind
+slot_array (Some (slot.Address k)) = Some k
+slot_array _ = None
+
+abbrev pub local_array : Option TypedArray → Option Kind
+local_array None = None
+local_array (Some a) = Some a.kind
+
+-- the type of the scalar that a place names, none where it names no scalar
+abbrev pub scalar_at : TypedProgram → TypedFunc → Place → Option Kind
+scalar_at P f (place.Global n) = global_scalar (slice_get P.globals n)
+scalar_at P f (place.Scalar n) = slot_scalar (slice_get f.scalars n)
+scalar_at P f (place.Array n) = None
+
+-- the type of the elements of the array that a place names, none where it names no array; an array
+-- parameter names one
+abbrev pub array_at : TypedProgram → TypedFunc → Place → Option Kind
+array_at P f (place.Global n) = global_array (slice_get P.globals n)
+array_at P f (place.Scalar n) = slot_array (slice_get f.scalars n)
+array_at P f (place.Array n) = local_array (slice_get f.arrays n)
+
+-- FUNCTIONS
+
+-- what a function gives, none where it is void, and what it takes
+pub record Signature : Type 0 where
+  pub result : Option Kind
+  pub params : List Slot
+
+abbrev pub signature : Option Kind → List Slot → Signature
+signature result params = record { result = result; params = params }
+
+abbrev pub of_function : TypedFunc → Signature
+of_function f = signature f.result (take f.params f.scalars)
+
+-- the signature of what a call calls, none where the program has no such function
+abbrev pub signature_of : TypedProgram → Callee → Option Signature
+signature_of P (callee.Func n) = option_map of_function (slice_get P.functions n)
+signature_of P callee.GetChar = Some (signature (Some Int) [])
+signature_of P callee.PutChar = Some (signature (Some Int) (slot.Scalar Int ∷ []))

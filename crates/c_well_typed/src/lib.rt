@@ -1,0 +1,7 @@
+//! What typed programs satisfy: a public law, so that whoever takes a typed program need not look at
+//! how it was typed.
+#![tactic(auto)]
+
+mod law;
+
+pub use law::typed_programs_are_well_formed;
