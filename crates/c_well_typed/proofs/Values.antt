@@ -120,10 +120,10 @@ module _ (P : TypedProgram) (f : TypedFunc) where
   call_fits r None n h g = void_fits r n h g
   call_fits r (Some k) n h g = value_fits r k n h g
 
-  plain_has : (t : TypedExpr) (p : Plain t) → Has P f p.kind t
+  pub plain_has : (t : TypedExpr) (p : Plain t) → Has P f p.kind t
   plain_has t p = itself p.is p.gives
 
-  converted_has : (k : Kind) (t : TypedExpr) (p : Plain t) → Has P f k (converted k t)
+  pub converted_has : (k : Kind) (t : TypedExpr) (p : Plain t) → Has P f k (converted k t)
   converted_has k t p = by (same_kind (kind_of t) k) refl
     where
       is : kind_of t ≡ p.kind
