@@ -4,3 +4,4 @@ pub mod TypedNeeds
 pub mod Moves
 pub mod Parts
 pub mod Bodies
+pub mod Definitions

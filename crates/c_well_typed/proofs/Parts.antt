@@ -52,11 +52,11 @@ opened s x e = ap out-TypedStmt (sym e) ∙ out-roll-TypedStmt x
 
 -- LISTS
 
-at_end : {A : Type 0} (xs : List A) (x : A) (ys : List A) → slice_get ((xs ++ x ∷ []) ++ ys) (length xs) ≡ Some x
+pub at_end : {A : Type 0} (xs : List A) (x : A) (ys : List A) → slice_get ((xs ++ x ∷ []) ++ ys) (length xs) ≡ Some x
 at_end [] x ys = refl
 at_end (z ∷ xs) x ys = at_end xs x ys
 
-each_last : {A : Type 0} (Q : A → Type 0) (xs : List A) (x : A) → Each Q xs → Q x → Each Q (xs ++ x ∷ [])
+pub each_last : {A : Type 0} (Q : A → Type 0) (xs : List A) (x : A) → Each Q xs → Q x → Each Q (xs ++ x ∷ [])
 each_last Q [] x a b = (b, tt)
 each_last Q (y ∷ xs) x a b = (a.0, each_last Q xs x a.1 b)
 
@@ -77,6 +77,10 @@ in_some k (Some w) l e = from_some (number k w) l e
 -- a size without a fault is at least 1
 pub size_some : (e : Expr) (G : Scope) → size_fault e G ≡ None → 1 ≤ word_in (length_of e)
 size_some e G h = in_some (constant e).kind (constant e).value e.line (split _ _ h).1
+
+-- a declaration changes the innermost block alone
+pub outer_in : (b : Binding) (N : Scope) (F F' : Frame) (G : Scope) → N ≡ F ∷ F' ∷ G → (new : Frame) × (declared_in b N ≡ new ∷ F' ∷ G)
+outer_in b N F F' G e = (b ∷ F, ap (declared_in b) e)
 
 module _ (P : TypedProgram) (f : TypedFunc) where
   -- FULL EXPRESSIONS
@@ -208,12 +212,9 @@ module _ (P : TypedProgram) (f : TypedFunc) where
 
   -- DECLARATIONS
 
-  known_in : (b : Binding) (G : Scope) → Exists P f b.meaning → Known P f G → Known P f (declared_in b G)
+  pub known_in : (b : Binding) (G : Scope) → Exists P f b.meaning → Known P f G → Known P f (declared_in b G)
   known_in b [] x k = ((x, tt), tt)
   known_in b (F ∷ G) x k = ((x, k.0), k.1)
-
-  outer_in : (b : Binding) (N : Scope) (F F' : Frame) (G : Scope) → N ≡ F ∷ F' ∷ G → (new : Frame) × (declared_in b N ≡ new ∷ F' ∷ G)
-  outer_in b N F F' G e = (b ∷ F, ap (declared_in b) e)
 
   pub scalar_ahead : (k : Kind) (w : List ℕ) (v : State) → Ahead P f v (with_scalar k w v)
   scalar_ahead k w v = record {
