@@ -5,3 +5,5 @@ pub mod Moves
 pub mod Parts
 pub mod Bodies
 pub mod Definitions
+pub mod Frames
+pub mod Files
