@@ -117,7 +117,7 @@ module _ (P : TypedProgram) (H G : Scope) (given : Option Kind) (params : List P
   abbrev v0 : State
   v0 = with_params params (started G given)
 
-  abbrev the : TypedFunc
+  abbrev pub the : TypedFunc
   the = typed_function (length params) body v0
 
   -- the state after the body

@@ -7,3 +7,4 @@ pub mod Bodies
 pub mod Definitions
 pub mod Frames
 pub mod Files
+pub mod Steps
