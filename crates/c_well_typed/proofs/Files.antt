@@ -167,17 +167,22 @@ module _ (T : Scope) where
   built_in_signature P _ _ _ _ reads c e = ap (signature_of P) (sym (some_is _ _ e))
   built_in_signature P _ _ _ _ writes c e = ap (signature_of P) (sym (some_is _ _ e))
 
-  -- all definitions are known, so what a name means is in the program
-  exists : (P : TypedProgram) (F : Frame) (n : Names P T F) (f : TypedFunc) (w : List ℕ) (m : Meaning) → Bound P (F ∷ []) w m → Exists P f m
-  exists P F n f w (meaning.Scalar k p) b = b f
-  exists P F n f w (meaning.Array k p) b = b f
-  exists P F n f w (meaning.Function r s None d) b = tt
-  exists P F n f w (meaning.Function r s (Some c) d) b =
+  -- all definitions are known, so a call of a function's name calls one of its signature
+  pub calls : (P : TypedProgram) (F : Frame) → Names P T F → (w : List ℕ) (r : Option Kind) (s : List Slot) (c : Callee) (d : Bool)
+      → Bound P (F ∷ []) w (meaning.Function r s (Some c) d) → signature_of P c ≡ Some (signature r s)
+  calls P F n w r s c d b =
       ⊎_elim (λ e. let m = n.met w c (sym e) in
       m.signature
       ∙ ap (λ r. Some (signature r m.params)) (one_result (F ∷ []) w m.result r m.params s m.function b.0)
       ∙ ap (λ s. Some (signature r s)) (one_params (F ∷ []) w m.result r m.params s m.function b.0))
       (λ i. built_in_signature P w r s (Some c) i c refl) b.1
+
+  -- and what a name means is in the program
+  exists : (P : TypedProgram) (F : Frame) (n : Names P T F) (f : TypedFunc) (w : List ℕ) (m : Meaning) → Bound P (F ∷ []) w m → Exists P f m
+  exists P F n f w (meaning.Scalar k p) b = b f
+  exists P F n f w (meaning.Array k p) b = b f
+  exists P F n f w (meaning.Function r s None d) b = tt
+  exists P F n f w (meaning.Function r s (Some c) d) b = calls P F n w r s c d b
   exists P F n f w meaning.EndOfFile b = tt
 
   each_exists : (P : TypedProgram) (F : Frame) (n : Names P T F) (f : TypedFunc) (F' : Frame) → EachBound P (F ∷ []) F' → KnownFrame P f F'

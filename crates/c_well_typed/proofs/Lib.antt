@@ -8,3 +8,4 @@ pub mod Definitions
 pub mod Frames
 pub mod Files
 pub mod Steps
+pub mod Whole

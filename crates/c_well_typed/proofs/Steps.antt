@@ -173,7 +173,7 @@ module _ (T : Scope) (m : ℕ) where
         added = x ∷ []; are = refl; fit = λ P known old. old;
       }
 
-  nothing_new : (N : Scope) (n : ℕ) (F : Frame) (gs : List TypedGlobal) (b : ℕ) (fs : List TypedFunc) → Holds N n F gs b fs → Step N n F fs (file F gs b fs)
+  pub nothing_new : (N : Scope) (n : ℕ) (F : Frame) (gs : List TypedGlobal) (b : ℕ) (fs : List TypedFunc) → Holds N n F gs b fs → Step N n F fs (file F gs b fs)
   nothing_new N n F gs b fs i = record {
     frame = F; globals = gs; bytes = b; functions = fs; after = refl; holds = i; added = []; are = refl; fit = λ P known old. old;
   }
