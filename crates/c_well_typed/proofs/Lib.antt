@@ -9,3 +9,4 @@ pub mod Frames
 pub mod Files
 pub mod Steps
 pub mod Whole
+pub mod StandardFacts

@@ -24,7 +24,7 @@ use Rattle.c_well_typed.specs.Expressions.{Node}
 use Rattle.c_well_typed.specs.Needs.{node_needs, of_needs, typed_needs}
 
 -- the need of a typed expression, by its node
-by : (k : Option Kind) (n : TypedNode) (x : Node) → roll-TypedNode x ≡ n
+pub by : (k : Option Kind) (n : TypedNode) (x : Node) → roll-TypedNode x ≡ n
     → typed_needs (a k n) ≡ node_needs (map-TypedNode TypedNode TypedExpr Needs Needs (fold-TypedNode Needs Needs node_needs of_needs) typed_needs x)
 unfolding typed_needs
 by k n x e =

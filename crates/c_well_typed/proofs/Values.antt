@@ -158,7 +158,7 @@ module _ (P : TypedProgram) (f : TypedFunc) where
       fits _ _ _ (typing.operator {r = r} {op = op} {e = e} {t = t} d h) =
           let k = unary_at op (kind_of t) in
           value_fits r (unary_result op k) _ h
-          (closed _ _ _ (typed.rolls-Unary op (converted k t)) (rule.unary (converted_has k t (fits Value e t d)) (unary_settled op (kind_of t))))
+          (closed _ _ _ (typed.rolls-Unary op (converted k t)) (rule.unary (converted_has k t (fits Value e t d)) (unary_settled op (kind_of t)) refl))
       fits _ _ _ (typing.conversion {r = r} {to = to} {e = e} {t = t} d h) =
           value_fits r to _ h (closed _ _ _ (typed.rolls-Cast to t) (rule.cast (plain_has t (fits Value e t d))))
       fits _ _ _ (typing.step {r = r} {op = op} {e = e} {t = t} p d h) =
@@ -169,7 +169,7 @@ module _ (P : TypedProgram) (f : TypedFunc) where
           let c = settled op (kind_of s) (kind_of t) in
           value_fits r (result_of op j) _ h
           (closed _ _ _ (typed.rolls-Binary op (converted j s) (converted k t))
-          (rule.binary (converted_has j s (fits Value x s d)) (converted_has k t (fits Value y t d')) c.left c.right))
+          (rule.binary (converted_has j s (fits Value x s d)) (converted_has k t (fits Value y t d')) c.left c.right refl))
       fits _ _ _ (typing.either {r = r} {c = c} {x = x} {y = y} {d = d} {s = s} {t = t} d1 d2 d3 h) =
           let k = common (kind_of s) (kind_of t) in
           value_fits r k _ h

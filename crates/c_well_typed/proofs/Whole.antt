@@ -39,7 +39,7 @@ known_rest P f [] F k = k
 known_rest P f (b ∷ added) F k = known_rest P f added F k.1
 
 -- what holds of each holds of one
-each_at : {A : Type 0} (Q : A → Type 0) (xs : List A) (n : ℕ) (x : A) → Each Q xs → slice_get xs n ≡ Some x → Q x
+pub each_at : {A : Type 0} (Q : A → Type 0) (xs : List A) (n : ℕ) (x : A) → Each Q xs → slice_get xs n ≡ Some x → Q x
 each_at Q [] n x e h = absurd (cc)
 each_at Q (y ∷ xs) zero x e h = subst Q (some_is _ _ h) e.0
 each_at Q (y ∷ xs) (suc n) x e h = each_at Q xs n x e.1 h

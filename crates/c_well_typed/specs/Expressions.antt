@@ -34,14 +34,15 @@ mutual
         → array_at P f p ≡ Some k → Has P f j i → Gives P f (Some k) (Element p i)
     call : {r : Option Kind} {slots : List Slot} {c : Callee} {es : List TypedExpr}
         → signature_of P c ≡ Some (signature r slots) → Passes P f slots es → Gives P f r (Call c es)
-    unary : {op : UnaryOp} {k : Kind} {e : TypedExpr}
-        → Has P f k e → unary_at op k ≡ k → Gives P f (Some (unary_result op k)) (Unary op e)
+    -- the operand is converted to the type to which the operator converts it
+    unary : {op : UnaryOp} {j k : Kind} {e : TypedExpr}
+        → Has P f j e → unary_at op j ≡ j → k ≡ unary_result op j → Gives P f (Some k) (Unary op e)
     cast : {j k : Kind} {e : TypedExpr} → Has P f j e → Gives P f (Some k) (Cast k e)
     bump : {op : BumpOp} {k : Kind} {e : TypedExpr} → IsObject P f k e → Gives P f (Some k) (Bump op e)
-    -- the operands are converted to the types to which the operator converts them
-    binary : {op : BinaryOp} {j k : Kind} {x y : TypedExpr}
-        → Has P f j x → Has P f k y → left_at op j k ≡ j → right_at op j k ≡ k
-        → Gives P f (Some (result_of op j)) (Binary op x y)
+    -- each operand is
+    binary : {op : BinaryOp} {i j k : Kind} {x y : TypedExpr}
+        → Has P f i x → Has P f j y → left_at op i j ≡ i → right_at op i j ≡ j → k ≡ result_of op i
+        → Gives P f (Some k) (Binary op x y)
     -- the legs are of their common type
     choice : {j k : Kind} {t x y : TypedExpr}
         → Has P f j t → Has P f k x → Has P f k y → common k k ≡ k → Gives P f (Some k) (Choice t x y)
