@@ -1,7 +1,9 @@
 -- A function's definition: its parameters, and that its typed function is well formed.
-use Rattle.std.proofs.Common.{◌≡◌, ℕ, ◌+◌, ◌<◌, ◌≤◌, Bool, true, false, List, [], ◌∷◌, ◌++◌, map, length, take, drop, Option, Some, None, refl, sym, ap, ◌∙◌, subst, arith, append_assoc, append-nil, length-append, suc}
-use Rattle.std.specs.Prelude.{nat_lt, slice_get}
-use Rattle.std.proofs.lemmas.Bool.{false≢true, ltb-true}
+use Rattle.std.proofs.Common.{◌≡◌, ℕ, ◌+◌, ◌<◌, ◌≤◌, true, false, List, [], ◌∷◌, ◌++◌, map, length, take, drop, Option}
+use Rattle.std.proofs.Common.{Some, None, refl, sym, ap, ◌∙◌, subst, arith, append_assoc, append-nil, length-append}
+use Rattle.std.proofs.Common.{suc}
+use Rattle.std.specs.Prelude.{slice_get}
+use Rattle.std.proofs.lemmas.Bool.{ltb-true}
 use Rattle.c_tree.specs.declared.token.Kind.{Kind}
 use Rattle.c_tree.specs.declared.tree.ArraySize.{ArraySize}
 use Rattle.c_tree.specs.declared.tree.ArraySize.TheVariants as size
@@ -9,18 +11,15 @@ use Rattle.c_tree.specs.declared.tree.Param.{Param}
 use Rattle.c_tree.specs.declared.tree.Stmt.{Stmt}
 use Rattle.c_tree.specs.declared.typed.Place.TheVariants as place
 use Rattle.c_tree.specs.declared.typed.Slot.{Slot}
-use Rattle.c_tree.specs.declared.typed.Slot.TheVariants as slot
 use Rattle.c_tree.specs.declared.typed.TypedFunc.{TypedFunc}
 use Rattle.c_tree.specs.declared.typed.TypedProgram.{TypedProgram}
 use Rattle.c_scope.specs.declared.meaning.Meaning.TheVariants as meaning
-use Rattle.c_scope.specs.Scope.{Scope, Frame, opened, closed, declared_in, bound}
-use Rattle.c_type_expr.specs.Roles.{Blame, first, unless}
+use Rattle.c_scope.specs.Scope.{Scope, Frame, opened, closed, bound}
 use Rattle.c_type.specs.declared.state.State.{State}
-use Rattle.c_type.specs.States.{with_scalar, with_address}
-use Rattle.c_type.specs.Functions.{slot_for, slot_of, name_fault, param_fault, params_fault, named_param, with_params, body_part, started, typed_function}
-use Rattle.c_well_typed.specs.Objects.{Signature, signature, of_function, slot_scalar, slot_array}
+use Rattle.c_type.specs.Functions.{slot_for, slot_of, name_fault, params_fault, named_param, with_params, body_part}
+use Rattle.c_type.specs.Functions.{started, typed_function}
+use Rattle.c_well_typed.specs.Objects.{signature, of_function, slot_scalar, slot_array}
 use Rattle.c_well_typed.specs.WellFormed.{Each, IsScalar, ArrayFits, FunctionFits}
-use Rattle.c_well_typed.proofs.Values.{Exists}
 use Rattle.c_well_typed.proofs.Moves.{split, held, Known, Fine, Within, Ahead}
 use Rattle.c_well_typed.proofs.Parts.{at_end, known_in, outer_in}
 use Rattle.c_well_typed.proofs.Bodies.{body_sound}
@@ -35,9 +34,16 @@ record Began (slots : List Slot) (v u : State) : Type 0 where
   outer : (F F' : Frame) (G : Scope) → v.names ≡ F ∷ F' ∷ G → (new : Frame) × (u.names ≡ new ∷ F' ∷ G)
 
 named : (w : List ℕ) (s : ArraySize) (k : Kind) (v : State) → Began (slot_for s k ∷ []) v (named_param (Some w) s k v)
-named w size.Scalar k v = record { scalars = refl; arrays = refl; result = refl; outer = λ F F' G e. outer_in _ v.names F F' G e }
-named w size.Open k v = record { scalars = refl; arrays = refl; result = refl; outer = λ F F' G e. outer_in _ v.names F F' G e }
-named w (size.Sized n) k v = record { scalars = refl; arrays = refl; result = refl; outer = λ F F' G e. outer_in _ v.names F F' G e }
+named w size.Scalar k v =
+    record { scalars = refl; arrays = refl; result = refl; outer = λ F F' G e. outer_in _ v.names F F' G e }
+named w size.Open k v = record {
+  scalars = refl;
+  arrays = refl;
+  result = refl;
+  outer = λ F F' G e. outer_in _ v.names F F' G e;
+}
+named w (size.Sized n) k v =
+    record { scalars = refl; arrays = refl; result = refl; outer = λ F F' G e. outer_in _ v.names F F' G e }
 
 -- a parameter without a fault has a name
 one : (G : Scope) (seen : List Param) (name : Option (List ℕ)) (l : ℕ) (s : ArraySize) (k : Kind) (v : State)
@@ -45,7 +51,8 @@ one : (G : Scope) (seen : List Param) (name : Option (List ℕ)) (l : ℕ) (s : 
 one G seen None l s k v h = absurd (cc)
 one G seen (Some w) l s k v h = named w s k v
 
-began : (G : Scope) (seen ps : List Param) (v : State) → params_fault true G seen ps ≡ None → Began (map slot_of ps) v (with_params ps v)
+began : (G : Scope) (seen ps : List Param) (v : State) → params_fault true G seen ps ≡ None
+    → Began (map slot_of ps) v (with_params ps v)
 began G seen [] v h =
     record { scalars = sym (append-nil v.scalars); arrays = refl; result = refl; outer = λ F F' G e. (F, e) }
 began G seen (p ∷ ps) v h =
@@ -54,13 +61,15 @@ began G seen (p ∷ ps) v h =
     let a = one G seen p.name p.line p.size p.kind v (split _ _ s.0).0 in
     let b = began G (seen ++ p ∷ []) ps u s.1 in
     record {
-      scalars = b.scalars ∙ ap (λ ss. ss ++ map slot_of ps) a.scalars ∙ append_assoc v.scalars (slot_of p ∷ []) (map slot_of ps);
+      scalars = b.scalars ∙ ap (λ ss. ss ++ map slot_of ps) a.scalars
+          ∙ append_assoc v.scalars (slot_of p ∷ []) (map slot_of ps);
       arrays = b.arrays ∙ a.arrays;
       result = b.result ∙ a.result;
       outer = λ F F' G e. let o = a.outer F F' G e in b.outer o.0 F' G o.1;
     }
 
-few : (G : Scope) (seen ps : List Param) → length seen ≤ 8 → params_fault true G seen ps ≡ None → length seen + length ps ≤ 8
+few : (G : Scope) (seen ps : List Param) → length seen ≤ 8 → params_fault true G seen ps ≡ None
+    → length seen + length ps ≤ 8
 few G seen [] l h = omega (arith, l)
 few G seen (p ∷ ps) l h =
     let s = split _ _ h in
@@ -70,11 +79,15 @@ few G seen (p ∷ ps) l h =
 
 module _ (P : TypedProgram) (f : TypedFunc) where
   -- a parameter's name stands for its slot
-  slot_known : (w : List ℕ) (s : ArraySize) (k : Kind) (v : State) → slice_get f.scalars (length v.scalars) ≡ Some (slot_for s k)
+  slot_known : (w : List ℕ) (s : ArraySize) (k : Kind) (v : State) → slice_get f.scalars (length v.scalars)
+      ≡ Some (slot_for s k)
       → Known P f v.names → Known P f (named_param (Some w) s k v).names
-  slot_known w size.Scalar k v h g = known_in P f (bound w (meaning.Scalar k (place.Scalar (length v.scalars)))) v.names (ap slot_scalar h) g
-  slot_known w size.Open k v h g = known_in P f (bound w (meaning.Array k (place.Scalar (length v.scalars)))) v.names (ap slot_array h) g
-  slot_known w (size.Sized n) k v h g = known_in P f (bound w (meaning.Array k (place.Scalar (length v.scalars)))) v.names (ap slot_array h) g
+  slot_known w size.Scalar k v h g =
+      known_in P f (bound w (meaning.Scalar k (place.Scalar (length v.scalars)))) v.names (ap slot_scalar h) g
+  slot_known w size.Open k v h g =
+      known_in P f (bound w (meaning.Array k (place.Scalar (length v.scalars)))) v.names (ap slot_array h) g
+  slot_known w (size.Sized n) k v h g =
+      known_in P f (bound w (meaning.Array k (place.Scalar (length v.scalars)))) v.names (ap slot_array h) g
 
   one_known : (G : Scope) (seen : List Param) (name : Option (List ℕ)) (l : ℕ) (s : ArraySize) (k : Kind) (v : State)
       → name_fault true G seen name l ≡ None → slice_get f.scalars (length v.scalars) ≡ Some (slot_for s k)
@@ -92,7 +105,8 @@ module _ (P : TypedProgram) (f : TypedFunc) where
       let is : f.scalars ≡ ((v.scalars ++ slot_of p ∷ []) ++ map slot_of ps) ++ ss =
       e ∙ ap (λ xs. xs ++ ss) (sym (append_assoc v.scalars (slot_of p ∷ []) (map slot_of ps))) in
       let here : slice_get f.scalars (length v.scalars) ≡ Some (slot_of p) =
-      ap (λ xs. slice_get xs (length v.scalars)) (is ∙ append_assoc (v.scalars ++ slot_of p ∷ []) (map slot_of ps) ss) ∙ at_end v.scalars (slot_of p) (map slot_of ps ++ ss) in
+      ap (λ xs. slice_get xs (length v.scalars)) (is ∙ append_assoc (v.scalars ++ slot_of p ∷ []) (map slot_of ps) ss)
+      ∙ at_end v.scalars (slot_of p) (map slot_of ps ++ ss) in
       params_known G (seen ++ p ∷ []) ps u ss s.1 (is ∙ ap (λ xs. (xs ++ map slot_of ps) ++ ss) (sym a.scalars))
       (one_known G seen p.name p.line p.size p.kind v (split _ _ s.0).0 here k)
 
@@ -113,7 +127,8 @@ as_long (p ∷ ps) = ap suc (as_long ps)
 -- THE FUNCTION
 
 -- the function of a body, whose parameters stand in the file scope G
-module _ (P : TypedProgram) (H G : Scope) (given : Option Kind) (params : List Param) (body : Stmt) (fine : params_fault true H [] params ≡ None) where
+module _ (P : TypedProgram) (H G : Scope) (given : Option Kind) (params : List Param) (body : Stmt)
+    (fine : params_fault true H [] params ≡ None) where
   abbrev v0 : State
   v0 = with_params params (started G given)
 
@@ -149,16 +164,22 @@ module _ (P : TypedProgram) (H G : Scope) (given : Option Kind) (params : List P
   at_most = omega (arith, few H [] params (omega arith) fine)
 
   slots_long : length the.scalars ≡ length params + length goes.scalars
-  slots_long = ap length slots ∙ length-append (map slot_of params) goes.scalars ∙ ap (λ n. n + length goes.scalars) (as_long params)
+  slots_long = ap length slots ∙ length-append (map slot_of params) goes.scalars
+      ∙ ap (λ n. n + length goes.scalars) (as_long params)
 
   pub its_fitness : Known P the G → (body_part body).fault false v0 ≡ None → FunctionFits P the
   its_fitness k h =
-      let names : Known P the v0.names = params_known P the H [] params (started G given) goes.scalars fine slots (tt, k) in
+      let names : Known P the v0.names =
+      params_known P the H [] params (started G given) goes.scalars fine slots (tt, k) in
       let count : length v0.scalars ≤ 64 = omega (arith, at_most, ap length begins.scalars, as_long params) in
       let entry : Fine P the v0 = record {
-        names = names; result = sym goes.result; count = count; arrays = subst (Each ArrayFits) (sym begins.arrays) tt;
+        names = names;
+        result = sym goes.result;
+        count = count;
+        arrays = subst (Each ArrayFits) (sym begins.arrays) tt;
       } in
-      let within : Within P the end = record { scalars = []; arrays = []; are = sym (append-nil end.scalars); and = sym (append-nil end.arrays) } in
+      let within : Within P the end =
+      record { scalars = []; arrays = []; are = sym (append-nil end.scalars); and = sym (append-nil end.arrays) } in
       let r = (body_sound P the body).runs false v0 entry within h in
       record {
         params = at_most;

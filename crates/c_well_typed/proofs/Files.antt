@@ -1,5 +1,6 @@
 -- What holds of the names at file scope: objects and functions that the program has.
-use Rattle.std.proofs.Common.{◌≡◌, ℕ, zero, suc, Bool, true, false, cond, List, [], ◌∷◌, ◌++◌, Option, Some, None, ◌⊎◌, inl, inr, refl, sym, ap, ◌∙◌, subst, ⊎_elim}
+use Rattle.std.proofs.Common.{◌≡◌, ℕ, zero, suc, Bool, true, false, cond, List, [], ◌∷◌, ◌++◌, Option, Some, None, ◌⊎◌}
+use Rattle.std.proofs.Common.{refl, sym, ap, ◌∙◌, subst, ⊎_elim}
 use Rattle.std.specs.Prelude.{slice_get, option_map}
 use Rattle.std.specs.Cmp.Lexicographic.{bytes_decides}
 use Rattle.std.proofs.lemmas.Bool.{false≢true}
@@ -16,19 +17,21 @@ use Rattle.c_tree.specs.declared.typed.TypedProgram.{TypedProgram}
 use Rattle.c_scope.specs.declared.meaning.Binding.{Binding}
 use Rattle.c_scope.specs.declared.meaning.Meaning.{Meaning}
 use Rattle.c_scope.specs.declared.meaning.Meaning.TheVariants as meaning
-use Rattle.c_scope.specs.Scope.{Scope, Frame, same_name, find, look_up, declared_in, bound}
+use Rattle.c_scope.specs.Scope.{Scope, Frame, same_name, find, look_up, declared_in}
 use Rattle.c_type.specs.Declarations.{is_end}
 use Rattle.c_type.specs.Units.{eof_name, getchar_name, putchar_name, int_slots}
 use Rattle.c_type.specs.Functions.{callee_in}
-use Rattle.c_well_typed.specs.Objects.{scalar_at, array_at, global_scalar, global_array, signature, signature_of, of_function}
+use Rattle.c_well_typed.specs.Objects.{scalar_at, array_at, global_scalar, global_array, signature, signature_of}
+use Rattle.c_well_typed.specs.Objects.{of_function}
 use Rattle.c_well_typed.proofs.Values.{Exists}
 use Rattle.c_well_typed.proofs.Moves.{Known, KnownFrame, some_is}
-use Rattle.c_well_typed.proofs.Frames.{IsFunction, Agrees, stays, declared_look, one_block, one_result, one_params}
+use Rattle.c_well_typed.proofs.Frames.{IsFunction, Agrees, stays, declared_look, one_result, one_params}
 
 -- LONGER LISTS
 
 -- what is told of an element is told of it in a longer list
-kept : {A B : Type 0} (h : Option A → Option B) → h None ≡ None → (xs ys : List A) (n : ℕ) (y : B) → h (slice_get xs n) ≡ Some y → h (slice_get (xs ++ ys) n) ≡ Some y
+kept : {A B : Type 0} (h : Option A → Option B) → h None ≡ None → (xs ys : List A) (n : ℕ) (y : B) → h (slice_get xs n)
+    ≡ Some y → h (slice_get (xs ++ ys) n) ≡ Some y
 kept h z [] ys n y e = absurd (cc)
 kept h z (x ∷ xs) ys zero y e = e
 kept h z (x ∷ xs) ys (suc n) y e = kept h z xs ys n y e
@@ -53,7 +56,8 @@ module _ (P P' : TypedProgram) (more : More P P') where
   array_more f (place.Scalar n) k e = e
   array_more f (place.Array n) k e = e
 
-  signature_more : (c : Callee) (r : Option Kind) (s : List Slot) → signature_of P c ≡ Some (signature r s) → signature_of P' c ≡ Some (signature r s)
+  signature_more : (c : Callee) (r : Option Kind) (s : List Slot) → signature_of P c ≡ Some (signature r s)
+      → signature_of P' c ≡ Some (signature r s)
   signature_more (callee.Func n) r s e =
       ap (λ fs. option_map of_function (slice_get fs n)) more.and
       ∙ kept (option_map of_function) refl P.functions more.functions n (signature r s) e
@@ -80,11 +84,15 @@ pub record Met (P : TypedProgram) (G : Scope) (w : List ℕ) (c : Callee) : Type
   pub signature : signature_of P c ≡ Some (signature result params)
   pub named : NamedBy c w
 
-pub met_more : (P P' : TypedProgram) (G G' : Scope) → More P P' → ((w : List ℕ) (r : Option Kind) (s : List Slot) → IsFunction G w r s → IsFunction G' w r s)
+pub met_more : (P P' : TypedProgram) (G G' : Scope) → More P P'
+    → ((w : List ℕ) (r : Option Kind) (s : List Slot) → IsFunction G w r s → IsFunction G' w r s)
     → (w : List ℕ) (c : Callee) → Met P G w c → Met P' G' w c
 met_more P P' G G' more go w c m = record {
-  result = m.result; params = m.params; function = go w m.result m.params m.function;
-  signature = signature_more P P' more c m.result m.params m.signature; named = m.named;
+  result = m.result;
+  params = m.params;
+  function = go w m.result m.params m.function;
+  signature = signature_more P P' more c m.result m.params m.signature;
+  named = m.named;
 }
 
 module _ (T : Scope) where
@@ -110,23 +118,28 @@ module _ (T : Scope) where
     pub ends : is_end (look_up (F ∷ []) eof_name) ≡ true
         → Met P (F ∷ []) getchar_name callee.GetChar × Met P (F ∷ []) putchar_name callee.PutChar
 
-  bound_more : (P P' : TypedProgram) (G G' : Scope) → More P P' → ((w : List ℕ) (r : Option Kind) (s : List Slot) → IsFunction G w r s → IsFunction G' w r s)
+  bound_more : (P P' : TypedProgram) (G G' : Scope) → More P P'
+      → ((w : List ℕ) (r : Option Kind) (s : List Slot) → IsFunction G w r s → IsFunction G' w r s)
       → (w : List ℕ) (m : Meaning) → Bound P G w m → Bound P' G' w m
   bound_more P P' G G' more go w (meaning.Scalar k p) b = λ f. scalar_more P P' more f p k (b f)
   bound_more P P' G G' more go w (meaning.Array k p) b = λ f. array_more P P' more f p k (b f)
   bound_more P P' G G' more go w (meaning.Function r s c d) b = (go w r s b.0, b.1, b.2)
   bound_more P P' G G' more go w meaning.EndOfFile b = tt
 
-  each_more : (P P' : TypedProgram) (G G' : Scope) → More P P' → ((w : List ℕ) (r : Option Kind) (s : List Slot) → IsFunction G w r s → IsFunction G' w r s)
+  each_more : (P P' : TypedProgram) (G G' : Scope) → More P P'
+      → ((w : List ℕ) (r : Option Kind) (s : List Slot) → IsFunction G w r s → IsFunction G' w r s)
       → (F : Frame) → EachBound P G F → EachBound P' G' F
   each_more P P' G G' more go [] b = tt
-  each_more P P' G G' more go (x ∷ F) b = (bound_more P P' G G' more go x.name x.meaning b.0, each_more P P' G G' more go F b.1)
+  each_more P P' G G' more go (x ∷ F) b =
+      (bound_more P P' G G' more go x.name x.meaning b.0, each_more P P' G G' more go F b.1)
 
   abbrev pub Ends : TypedProgram → Frame → Type 0
-  Ends P F = is_end (look_up (F ∷ []) eof_name) ≡ true → Met P (F ∷ []) getchar_name callee.GetChar × Met P (F ∷ []) putchar_name callee.PutChar
+  Ends P F = is_end (look_up (F ∷ []) eof_name) ≡ true → Met P (F ∷ []) getchar_name callee.GetChar
+      × Met P (F ∷ []) putchar_name callee.PutChar
 
   -- a name is declared
-  pub declare : (P P' : TypedProgram) (N : Scope) (F : Frame) (x : Binding) → More P P' → Agrees x (F ∷ []) → Bound P' ((x ∷ F) ∷ []) x.name x.meaning
+  pub declare : (P P' : TypedProgram) (N : Scope) (F : Frame) (x : Binding) → More P P' → Agrees x (F ∷ [])
+      → Bound P' ((x ∷ F) ∷ []) x.name x.meaning
       → Ends P' (x ∷ F) → Names P N F → Names P' N (x ∷ F)
   declare P P' N F x more agrees b e n =
       let go = stays x (F ∷ []) agrees in
@@ -137,38 +150,52 @@ module _ (T : Scope) where
       }
 
   -- a name that is not `EOF` leaves what holds of `EOF`
-  pub still_ends : (P P' : TypedProgram) (N : Scope) (F : Frame) (x : Binding) → More P P' → Agrees x (F ∷ []) → is_end (Some x.meaning) ≡ false → Names P N F → Ends P' (x ∷ F)
+  pub still_ends : (P P' : TypedProgram) (N : Scope) (F : Frame) (x : Binding) → More P P' → Agrees x (F ∷ [])
+      → is_end (Some x.meaning) ≡ false → Names P N F → Ends P' (x ∷ F)
   still_ends P P' N F x more agrees f n h = by (same_name x.name eof_name) refl
     where
-      step : is_end (look_up ((x ∷ F) ∷ []) eof_name) ≡ is_end (cond (same_name x.name eof_name) (Some x.meaning) (look_up (F ∷ []) eof_name))
+      step : is_end (look_up ((x ∷ F) ∷ []) eof_name)
+          ≡ is_end (cond (same_name x.name eof_name) (Some x.meaning) (look_up (F ∷ []) eof_name))
       step = ap is_end (declared_look x (F ∷ []) eof_name)
 
-      by : (t : Bool) → same_name x.name eof_name ≡ t → Met P' ((x ∷ F) ∷ []) getchar_name callee.GetChar × Met P' ((x ∷ F) ∷ []) putchar_name callee.PutChar
-      by true e = absurd (false≢true (sym f ∙ sym (ap (λ t. is_end (cond t (Some x.meaning) (look_up (F ∷ []) eof_name))) e) ∙ sym step ∙ h))
+      by : (t : Bool) → same_name x.name eof_name ≡ t → Met P' ((x ∷ F) ∷ []) getchar_name callee.GetChar
+          × Met P' ((x ∷ F) ∷ []) putchar_name callee.PutChar
+      by true e = absurd (false≢true
+          (sym f ∙ sym (ap (λ t. is_end (cond t (Some x.meaning) (look_up (F ∷ []) eof_name))) e) ∙ sym step ∙ h))
       by false e =
-          let o = n.ends (sym (ap (λ t. is_end (cond t (Some x.meaning) (look_up (F ∷ []) eof_name))) e) ∙ sym step ∙ h) in
-          let go = stays x (F ∷ []) agrees in
-          (met_more P P' (F ∷ []) ((x ∷ F) ∷ []) more go getchar_name callee.GetChar o.0, met_more P P' (F ∷ []) ((x ∷ F) ∷ []) more go putchar_name callee.PutChar o.1)
+          let o = n.ends (sym (ap (λ t. is_end (cond t (Some x.meaning) (look_up (F ∷ []) eof_name))) e) ∙ sym step
+          ∙ h) in
+          let go = stays x (F ∷ []) agrees in (
+            met_more P P' (F ∷ []) ((x ∷ F) ∷ []) more go getchar_name callee.GetChar o.0,
+            met_more P P' (F ∷ []) ((x ∷ F) ∷ []) more go putchar_name callee.PutChar o.1,
+          )
 
   -- a definition is noted
-  pub note : (P : TypedProgram) (N : Scope) (F : Frame) (x : Binding) (c : Callee) → callee_in (Some x.meaning) ≡ Some c → Met P (F ∷ []) x.name c → Names P N F → Names P (declared_in x N) F
+  pub note : (P : TypedProgram) (N : Scope) (F : Frame) (x : Binding) (c : Callee) → callee_in (Some x.meaning) ≡ Some c
+      → Met P (F ∷ []) x.name c → Names P N F → Names P (declared_in x N) F
   note P N F x c e m n = record { bound = n.bound; met = λ w d h. by w d h (same_name x.name w) refl; ends = n.ends }
     where
-      by : (w : List ℕ) (d : Callee) → callee_in (look_up (declared_in x N) w) ≡ Some d → (t : Bool) → same_name x.name w ≡ t → Met P (F ∷ []) w d
+      by : (w : List ℕ) (d : Callee) → callee_in (look_up (declared_in x N) w) ≡ Some d → (t : Bool)
+          → same_name x.name w ≡ t → Met P (F ∷ []) w d
       by w d h true s =
-          let is : c ≡ d = some_is _ _ (sym e ∙ sym (ap (λ t. callee_in (cond t (Some x.meaning) (look_up N w))) s) ∙ sym (ap callee_in (declared_look x N w)) ∙ h) in
+          let is : c ≡ d = some_is _ _
+          (sym e ∙ sym (ap (λ t. callee_in (cond t (Some x.meaning) (look_up N w))) s)
+          ∙ sym (ap callee_in (declared_look x N w)) ∙ h) in
           subst (λ d. Met P (F ∷ []) w d) is (subst (λ w. Met P (F ∷ []) w c) ((bytes_decides x.name w).0 s) m)
       by w d h false s =
-          n.met w d (sym (ap (λ t. callee_in (cond t (Some x.meaning) (look_up N w))) s) ∙ sym (ap callee_in (declared_look x N w)) ∙ h)
+          n.met w d (sym (ap (λ t. callee_in (cond t (Some x.meaning) (look_up N w))) s)
+          ∙ sym (ap callee_in (declared_look x N w)) ∙ h)
 
   -- AT THE END
 
-  built_in_signature : (P : TypedProgram) (w : List ℕ) (r : Option Kind) (s : List Slot) (o : Option Callee) → BuiltIn w r s o → (c : Callee) → o ≡ Some c → signature_of P c ≡ Some (signature r s)
+  built_in_signature : (P : TypedProgram) (w : List ℕ) (r : Option Kind) (s : List Slot) (o : Option Callee)
+      → BuiltIn w r s o → (c : Callee) → o ≡ Some c → signature_of P c ≡ Some (signature r s)
   built_in_signature P _ _ _ _ reads c e = ap (signature_of P) (sym (some_is _ _ e))
   built_in_signature P _ _ _ _ writes c e = ap (signature_of P) (sym (some_is _ _ e))
 
   -- all definitions are known, so a call of a function's name calls one of its signature
-  pub calls : (P : TypedProgram) (F : Frame) → Names P T F → (w : List ℕ) (r : Option Kind) (s : List Slot) (c : Callee) (d : Bool)
+  pub calls : (P : TypedProgram) (F : Frame) → Names P T F
+      → (w : List ℕ) (r : Option Kind) (s : List Slot) (c : Callee) (d : Bool)
       → Bound P (F ∷ []) w (meaning.Function r s (Some c) d) → signature_of P c ≡ Some (signature r s)
   calls P F n w r s c d b =
       ⊎_elim (λ e. let m = n.met w c (sym e) in
@@ -178,14 +205,16 @@ module _ (T : Scope) where
       (λ i. built_in_signature P w r s (Some c) i c refl) b.1
 
   -- and what a name means is in the program
-  exists : (P : TypedProgram) (F : Frame) (n : Names P T F) (f : TypedFunc) (w : List ℕ) (m : Meaning) → Bound P (F ∷ []) w m → Exists P f m
+  exists : (P : TypedProgram) (F : Frame) (n : Names P T F) (f : TypedFunc) (w : List ℕ) (m : Meaning)
+      → Bound P (F ∷ []) w m → Exists P f m
   exists P F n f w (meaning.Scalar k p) b = b f
   exists P F n f w (meaning.Array k p) b = b f
   exists P F n f w (meaning.Function r s None d) b = tt
   exists P F n f w (meaning.Function r s (Some c) d) b = calls P F n w r s c d b
   exists P F n f w meaning.EndOfFile b = tt
 
-  each_exists : (P : TypedProgram) (F : Frame) (n : Names P T F) (f : TypedFunc) (F' : Frame) → EachBound P (F ∷ []) F' → KnownFrame P f F'
+  each_exists : (P : TypedProgram) (F : Frame) (n : Names P T F) (f : TypedFunc) (F' : Frame) → EachBound P (F ∷ []) F'
+      → KnownFrame P f F'
   each_exists P F n f [] b = tt
   each_exists P F n f (x ∷ F') b = (exists P F n f x.name x.meaning b.0, each_exists P F n f F' b.1)
 
@@ -193,7 +222,8 @@ module _ (T : Scope) where
   all_known P F n f = (each_exists P F n f F n.bound, tt)
 
   -- a name that is found is bound
-  pub find_bound : (P : TypedProgram) (G : Scope) (F : Frame) (w : List ℕ) (m : Meaning) → EachBound P G F → find F w ≡ Some m → Bound P G w m
+  pub find_bound : (P : TypedProgram) (G : Scope) (F : Frame) (w : List ℕ) (m : Meaning) → EachBound P G F → find F w
+      ≡ Some m → Bound P G w m
   find_bound P G [] w m b e = absurd (cc)
   find_bound P G (x ∷ F) w m b e = by (find_bound P G F w m b.1) (same_name x.name w) refl
     where

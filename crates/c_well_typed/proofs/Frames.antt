@@ -1,25 +1,21 @@
 -- The names at file scope: one block, in which declarations of a function agree.
-use Rattle.std.proofs.Common.{◌≡◌, ℕ, Bool, true, false, cond, List, [], ◌∷◌, Option, Some, None, ◌⊎◌, inl, inr, refl, sym, ap, ◌∙◌, subst}
-use Rattle.std.specs.Prelude.{is_some, ◌&&◌, ◌||◌, not, nat_eq}
+use Rattle.std.proofs.Common.{◌≡◌, ℕ, Bool, true, false, cond, List, [], ◌∷◌, Option, Some, None, refl, sym, ap, ◌∙◌}
+use Rattle.std.proofs.Common.{subst}
+use Rattle.std.specs.Prelude.{is_some, ◌&&◌, ◌||◌, not}
 use Rattle.std.specs.Cmp.Lexicographic.{bytes_decides}
 use Rattle.std.proofs.lemmas.Bool.{false≢true}
 use Rattle.c_tree.specs.declared.token.Kind.{Kind}
-use Rattle.c_tree.specs.declared.token.Kind.TheVariants.{Int}
 use Rattle.c_tree.specs.declared.typed.Callee.{Callee}
-use Rattle.c_tree.specs.declared.typed.Callee.TheVariants as callee
 use Rattle.c_tree.specs.declared.typed.Slot.{Slot}
 use Rattle.c_tree.specs.declared.typed.Slot.TheVariants as slot
 use Rattle.c_scope.specs.declared.meaning.Binding.{Binding}
 use Rattle.c_scope.specs.declared.meaning.Meaning.{Meaning}
 use Rattle.c_scope.specs.declared.meaning.Meaning.TheVariants as meaning
-use Rattle.c_scope.specs.Scope.{Scope, Frame, same_name, find, look_up, is_here, or_else, declared_in, bound}
-use Rattle.c_type_expr.specs.Roles.{Blame, first, unless}
-use Rattle.c_type.specs.Declarations.{is_end, is_taken, twice_fault}
-use Rattle.c_type.specs.Units.{same_slot, same_slots, same_result, defined_fault, type_fault, function_fault, int_slots, getchar_name, putchar_name}
-use Rattle.c_type.specs.Functions.{callee_in}
-use Rattle.c_well_typed.specs.WellFormed.{Each}
+use Rattle.c_scope.specs.Scope.{Scope, Frame, same_name, find, look_up, or_else, declared_in, bound}
+use Rattle.c_type.specs.Declarations.{is_end, twice_fault}
+use Rattle.c_type.specs.Units.{same_slot, same_slots, same_result, type_fault}
 use Rattle.c_well_typed.proofs.Conversions.{same}
-use Rattle.c_well_typed.proofs.Moves.{split, held, some_is}
+use Rattle.c_well_typed.proofs.Moves.{held, some_is}
 
 -- EQUAL SIGNATURES
 
@@ -49,7 +45,8 @@ result_is (Some j) (Some k) h = ap Some (same j k h)
 -- NAMES
 
 -- a name in the scope in which it is declared, and another
-pub declared_look : (b : Binding) (G : Scope) (w : List ℕ) → look_up (declared_in b G) w ≡ cond (same_name b.name w) (Some b.meaning) (look_up G w)
+pub declared_look : (b : Binding) (G : Scope) (w : List ℕ) → look_up (declared_in b G) w
+    ≡ cond (same_name b.name w) (Some b.meaning) (look_up G w)
 declared_look b [] w = by (same_name b.name w)
   where
     by : (t : Bool) → or_else (cond t (Some b.meaning) None) None ≡ cond t (Some b.meaning) None
@@ -57,7 +54,8 @@ declared_look b [] w = by (same_name b.name w)
     by false = refl
 declared_look b (F ∷ G) w = by (same_name b.name w)
   where
-    by : (t : Bool) → or_else (cond t (Some b.meaning) (find F w)) (look_up G w) ≡ cond t (Some b.meaning) (or_else (find F w) (look_up G w))
+    by : (t : Bool) → or_else (cond t (Some b.meaning) (find F w)) (look_up G w)
+        ≡ cond t (Some b.meaning) (or_else (find F w) (look_up G w))
     by true = refl
     by false = refl
 
@@ -84,25 +82,38 @@ abbrev pub Agrees : Binding → Scope → Type 0
 Agrees b G = (r : Option Kind) (s : List Slot) → IsFunction G b.name r s → IsSignature b.meaning r s
 
 -- so what is a function stays one
-pub stays : (b : Binding) (G : Scope) → Agrees b G → (w : List ℕ) (r : Option Kind) (s : List Slot) → IsFunction G w r s → IsFunction (declared_in b G) w r s
+pub stays : (b : Binding) (G : Scope) → Agrees b G → (w : List ℕ) (r : Option Kind) (s : List Slot) → IsFunction G w r s
+    → IsFunction (declared_in b G) w r s
 stays b G agrees w r s i = by (same_name b.name w) refl
   where
     by : (t : Bool) → same_name b.name w ≡ t → IsFunction (declared_in b G) w r s
     by true e =
         let g = agrees r s (subst (λ w. IsFunction G w r s) (sym ((bytes_decides b.name w).0 e)) i) in
-        record { callee = g.callee; defined = g.defined; is = declared_look b G w ∙ ap (λ t. cond t (Some b.meaning) (look_up G w)) e ∙ ap Some g.is }
+        record {
+          callee = g.callee;
+          defined = g.defined;
+          is = declared_look b G w
+              ∙ ap (λ t. cond t (Some b.meaning) (look_up G w)) e ∙ ap Some g.is;
+        }
     by false e =
-        record { callee = i.callee; defined = i.defined; is = declared_look b G w ∙ ap (λ t. cond t (Some b.meaning) (look_up G w)) e ∙ i.is }
+        record {
+          callee = i.callee;
+          defined = i.defined;
+          is = declared_look b G w
+              ∙ ap (λ t. cond t (Some b.meaning) (look_up G w)) e ∙ i.is;
+        }
 
 -- a name has one signature
-pub one_result : (G : Scope) (w : List ℕ) (r r' : Option Kind) (s s' : List Slot) → IsFunction G w r s → IsFunction G w r' s' → r ≡ r'
+pub one_result : (G : Scope) (w : List ℕ) (r r' : Option Kind) (s s' : List Slot) → IsFunction G w r s
+    → IsFunction G w r' s' → r ≡ r'
 one_result G w r r' s s' i j = ap result_in (some_is _ _ (sym i.is ∙ j.is))
   where
     result_in : Meaning → Option Kind
     result_in (meaning.Function r s c d) = r
     result_in _ = r
 
-pub one_params : (G : Scope) (w : List ℕ) (r r' : Option Kind) (s s' : List Slot) → IsFunction G w r s → IsFunction G w r' s' → s ≡ s'
+pub one_params : (G : Scope) (w : List ℕ) (r r' : Option Kind) (s s' : List Slot) → IsFunction G w r s
+    → IsFunction G w r' s' → s ≡ s'
 one_params G w r r' s s' i j = ap params_in (some_is _ _ (sym i.is ∙ j.is))
   where
     params_in : Meaning → List Slot
@@ -112,16 +123,24 @@ one_params G w r r' s s' i j = ap params_in (some_is _ _ (sym i.is ∙ j.is))
 -- WHAT MAY BE DECLARED
 
 -- a name that is not taken agrees
-pub fresh_agrees : (w : List ℕ) (m : Meaning) (l : ℕ) (F : Frame) → twice_fault (F ∷ []) w l ≡ None → Agrees (bound w m) (F ∷ [])
+pub fresh_agrees : (w : List ℕ) (m : Meaning) (l : ℕ) (F : Frame) → twice_fault (F ∷ []) w l ≡ None
+    → Agrees (bound w m) (F ∷ [])
 fresh_agrees w m l F h r s i = absurd (by (find F w) (sym (one_block F w) ∙ i.is) (held _ _ h))
   where
-    by : (o : Option Meaning) → o ≡ Some (meaning.Function r s i.callee i.defined) → not (is_some o || is_end (look_up (F ∷ []) w)) ≡ true → ⊥
+    by : (o : Option Meaning) → o ≡ Some (meaning.Function r s i.callee i.defined)
+        → not (is_some o || is_end (look_up (F ∷ []) w)) ≡ true → ⊥
     by None e k = absurd (cc)
     by (Some n) e k = absurd (false≢true k)
 
 -- a declaration of a function that has no fault agrees
-pub type_agrees : (w : List ℕ) (given : Option Kind) (slots : List Slot) (c : Option Callee) (d : Bool) (l : ℕ) (G : Scope)
+pub type_agrees : (w : List ℕ) (given : Option Kind) (slots : List Slot) (c : Option Callee) (d : Bool) (l : ℕ)
+    (G : Scope)
     → type_fault given slots (look_up G w) l ≡ None → Agrees (bound w (meaning.Function given slots c d)) G
 type_agrees w given slots c d l G h r s i =
     let e = both _ _ (held _ _ (sym (ap (λ m. type_fault given slots m l) i.is) ∙ h)) in
-    record { callee = c; defined = d; is = ap (λ r. meaning.Function r slots c d) (sym (result_is r given e.0)) ∙ ap (λ s. meaning.Function r s c d) (sym (slots_are s slots e.1)) }
+    record {
+      callee = c;
+      defined = d;
+      is = ap (λ r. meaning.Function r slots c d) (sym (result_is r given e.0))
+          ∙ ap (λ s. meaning.Function r s c d) (sym (slots_are s slots e.1));
+    }

@@ -1,11 +1,10 @@
 -- What a part of a function's body does to what typing keeps, and what it gives where it has no fault.
-use Rattle.std.proofs.Common.{◌≡◌, ℕ, ◌≤◌, Bool, true, false, cond, List, [], ◌∷◌, ◌++◌, length, Option, Some, None, refl, sym, ap, ◌∙◌, subst, append_assoc, append-nil, unwrap_or}
-use Rattle.c_tree.specs.declared.token.Kind.{Kind}
+use Rattle.std.proofs.Common.{◌≡◌, ℕ, ◌≤◌, Bool, true, false, cond, List, [], ◌∷◌, ◌++◌, length, Option, Some, None}
+use Rattle.std.proofs.Common.{refl, sym, ap, ◌∙◌, subst, append_assoc, append-nil, unwrap_or}
 use Rattle.c_tree.specs.declared.typed.Slot.{Slot}
 use Rattle.c_tree.specs.declared.typed.TypedArray.{TypedArray}
 use Rattle.c_tree.specs.declared.typed.TypedFunc.{TypedFunc}
 use Rattle.c_tree.specs.declared.typed.TypedProgram.{TypedProgram}
-use Rattle.c_scope.specs.declared.meaning.Binding.{Binding}
 use Rattle.c_scope.specs.declared.meaning.Meaning.{Meaning}
 use Rattle.c_scope.specs.Scope.{Scope, Frame, same_name, find, look_up, opened, closed, or_else}
 use Rattle.c_type_expr.specs.declared.fault.TypeFault.{TypeFault}
@@ -96,8 +95,13 @@ module _ (P : TypedProgram) (f : TypedFunc) where
 
   pub still : (v : State) → Ahead v v
   still v = record {
-    scalars = []; arrays = []; are = sym (append-nil v.scalars); and = sym (append-nil v.arrays);
-    hold = tt; result = refl; outer = λ F F' G e. (F, e);
+    scalars = [];
+    arrays = [];
+    are = sym (append-nil v.scalars);
+    and = sym (append-nil v.arrays);
+    hold = tt;
+    result = refl;
+    outer = λ F F' G e. (F, e);
   }
 
   pub further : (v u w : State) → Ahead v u → Ahead u w → Ahead v w
@@ -122,11 +126,13 @@ module _ (P : TypedProgram) (f : TypedFunc) where
   -- PARTS
 
   -- a part goes ahead, and where it has no fault, it keeps what holds and gives what it should
-  pub record Moves {T : Type 0} (Q : Bool → T → Type 0) (after : State → State) (fault : Bool → State → Blame) (tree : State → T) : Type 0 where
+  pub record Moves {T : Type 0} (Q : Bool → T → Type 0) (after : State → State) (fault : Bool → State → Blame)
+      (tree : State → T) : Type 0 where
     pub ahead : (v : State) → Ahead v (after v)
     pub runs : (b : Bool) (v : State) → Fine v → Within (after v) → fault b v ≡ None → Fine (after v) × Q b (tree v)
 
-  module _ {T : Type 0} {Q : Bool → T → Type 0} {after : State → State} {fault : Bool → State → Blame} {tree : State → T} where
+  module _ {T : Type 0} {Q : Bool → T → Type 0} {after : State → State} {fault : Bool → State → Blame} {tree : State
+      → T} where
     -- what it gives is made into something else
     pub made : {U : Type 0} {R : Bool → U → Type 0} (g : T → U) → ((b : Bool) (t : T) → Q b t → R b (g t))
         → Moves Q after fault tree → Moves R after fault (λ v. g (tree v))
@@ -140,25 +146,40 @@ module _ (P : TypedProgram) (f : TypedFunc) where
     looped m = record { ahead = m.ahead; runs = λ b. m.runs true }
 
     -- a block of its own
-    pub scoped : Moves Q after fault tree → Moves Q (λ v. left (after (entered v))) (λ b v. fault b (entered v)) (λ v. tree (entered v))
+    pub scoped : Moves Q after fault tree
+        → Moves Q (λ v. left (after (entered v))) (λ b v. fault b (entered v)) (λ v. tree (entered v))
     scoped m = record {
       ahead = λ v. let a = m.ahead (entered v) in record {
-        scalars = a.scalars; arrays = a.arrays; are = a.are; and = a.and; hold = a.hold; result = a.result;
+        scalars = a.scalars;
+        arrays = a.arrays;
+        are = a.are;
+        and = a.and;
+        hold = a.hold;
+        result = a.result;
         outer = λ F F' G e. let o = a.outer [] F (F' ∷ G) (ap opened e) in (F, ap closed o.1);
       };
       runs = λ b v i w e.
-          let within : Within (after (entered v)) = record { scalars = w.scalars; arrays = w.arrays; are = w.are; and = w.and } in
-          let fine : Fine (entered v) = record { names = (tt, i.names); result = i.result; count = i.count; arrays = i.arrays } in
+          let within : Within (after (entered v)) =
+          record { scalars = w.scalars; arrays = w.arrays; are = w.are; and = w.and } in
+          let fine : Fine (entered v) =
+          record { names = (tt, i.names); result = i.result; count = i.count; arrays = i.arrays } in
           let r = m.runs b (entered v) fine within e in
           let done : Fine (left (after (entered v))) =
-          record { names = known_closed (after (entered v)).names r.0.names; result = r.0.result; count = r.0.count; arrays = r.0.arrays } in
+          record {
+            names = known_closed (after (entered v)).names r.0.names;
+            result = r.0.result;
+            count = r.0.count;
+            arrays = r.0.arrays;
+          } in
           (done, r.1);
     }
 
     -- one part and then another
-    pub then : {U : Type 0} {R : Bool → U → Type 0} {after' : State → State} {fault' : Bool → State → Blame} {tree' : State → U}
+    pub then : {U : Type 0} {R : Bool → U → Type 0} {after' : State → State} {fault' : Bool → State
+        → Blame} {tree' : State → U}
         → Moves Q after fault tree → Moves R after' fault' tree'
-        → Moves {T = T × U} (λ b t. Q b t.0 × R b t.1) (λ v. after' (after v)) (λ b v. first (fault b v) (fault' b (after v))) (λ v. (tree v, tree' (after v)))
+        → Moves {T = T × U} (λ b t. Q b t.0 × R b t.1) (λ v. after' (after v))
+        (λ b v. first (fault b v) (fault' b (after v))) (λ v. (tree v, tree' (after v)))
     then {after'} m n = record {
       ahead = λ v. further v (after v) (after' (after v)) (m.ahead v) (n.ahead (after v));
       runs = λ b v i w e.

@@ -1,9 +1,10 @@
 -- The definitions at worked trees: some are well formed, and others are not.
-use Rattle.std.proofs.Common.{◌≡◌, ℕ, ◌≤◌, Bool, true, false, List, [], ◌∷◌, length, replicate, Option, Some, None, refl, sym, ap, ◌∙◌, subst, arith}
-use Rattle.std.proofs.lemmas.Bool.{false≢true, true≢false}
+use Rattle.std.proofs.Common.{◌≡◌, ℕ, ◌≤◌, Bool, true, false, List, [], ◌∷◌, replicate, Option, Some, None, refl, sym}
+use Rattle.std.proofs.Common.{ap, ◌∙◌, subst, arith}
+use Rattle.std.proofs.lemmas.Bool.{true≢false}
 use Rattle.c_tree.specs.declared.token.Kind.{Kind}
 use Rattle.c_tree.specs.declared.token.Kind.TheVariants.{Char, UChar, Int, UInt, Long, ULong}
-use Rattle.c_tree.specs.declared.tree.BinaryOp.TheVariants.{Add, ShiftLeft, Subtract}
+use Rattle.c_tree.specs.declared.tree.BinaryOp.TheVariants.{Add, ShiftLeft}
 use Rattle.c_tree.specs.declared.typed.Callee.TheVariants as callee
 use Rattle.c_tree.specs.declared.typed.Place.TheVariants as place
 use Rattle.c_tree.specs.declared.typed.Slot.{Slot}
@@ -11,21 +12,21 @@ use Rattle.c_tree.specs.declared.typed.Slot.TheVariants as slot
 use Rattle.c_tree.specs.declared.typed.TypedExpr.{TypedExpr}
 use Rattle.c_tree.specs.declared.typed.TypedFunc.{TypedFunc}
 use Rattle.c_tree.specs.declared.typed.TypedGlobal.{TypedGlobal}
-use Rattle.c_tree.specs.declared.typed.TypedNode.{TypedNode, roll-TypedNode, out-roll-TypedNode}
-use Rattle.c_tree.specs.declared.typed.TypedNode.TheOpen.{Number, Name, Element, Call, Convert, Binary, Assign}
+use Rattle.c_tree.specs.declared.typed.TypedNode.{roll-TypedNode, out-roll-TypedNode}
+use Rattle.c_tree.specs.declared.typed.TypedNode.TheOpen.{Number, Name, Call, Convert, Binary}
 use Rattle.c_tree.specs.declared.typed.TypedProgram.{TypedProgram}
 use Rattle.c_tree.specs.declared.typed.TypedStmt.{TypedStmt, roll-TypedStmt, out-TypedStmt, out-roll-TypedStmt}
-use Rattle.c_tree.specs.declared.typed.TypedForInit.TheOpen.{Declare, Plain, Compound, While, Break, Continue, Return}
+use Rattle.c_tree.specs.declared.typed.TypedForInit.TheOpen.{Compound, While, Break, Continue, Return}
 use Rattle.c_constant.specs.Kinds.{common, same_kind}
-use Rattle.c_constant.specs.Need.{Needs, plain}
+use Rattle.c_constant.specs.Need.{Needs}
 use Rattle.std.specs.Prelude.{option_map, slice_get}
 use Rattle.c_well_typed.specs.Objects.{slot_scalar, of_function}
 use Rattle.c_well_typed.specs.Expressions.{Node, node_of, Gives, Has, IsObject, Passes}
 use Rattle.c_well_typed.specs.Expressions as rule
-use Rattle.c_well_typed.specs.Needs.{FitsNeed, typed_needs}
+use Rattle.c_well_typed.specs.Needs.{FitsNeed}
 use Rattle.c_well_typed.specs.Statements.{Level, IsTest, Runs, RunsAll}
 use Rattle.c_well_typed.specs.Statements as run
-use Rattle.c_well_typed.specs.WellFormed.{Each, IsMain, GlobalFits, FunctionFits, WellFormed}
+use Rattle.c_well_typed.specs.WellFormed.{GlobalFits, FunctionFits, WellFormed}
 use Rattle.c_well_typed.proofs.Moves.{some_is}
 use Rattle.c_well_typed.proofs.TypedNeeds.{by}
 
@@ -37,7 +38,13 @@ statement s = roll-TypedStmt s
 
 -- a function of type int(void) with a local int
 abbrev function : List TypedStmt → TypedFunc
-function all = record { result = Some Int; params = 0; scalars = slot.Scalar Int ∷ []; arrays = []; body = statement (Compound all) }
+function all = record {
+  result = Some Int;
+  params = 0;
+  scalars = slot.Scalar Int ∷ [];
+  arrays = [];
+  body = statement (Compound all);
+}
 
 -- int g[3];
 abbrev three_ints : TypedGlobal
@@ -98,11 +105,13 @@ module _ (P : TypedProgram) (f : TypedFunc) where
   int_and_long r (rule.binary {i = j} {j = k} x z a b c) =
       let d = its_kind j Int (Number 1) x in
       let e = its_kind k Long (Number 2) z in
-      let h : common Int Long ≡ Int = subst (λ k. common Int k ≡ Int) (sym e) (subst (λ j. common j k ≡ j) (sym d) a) in absurd (cc)
+      let h : common Int Long ≡ Int = subst (λ k. common Int k ≡ Int) (sym e) (subst (λ j. common j k ≡ j) (sym d) a) in
+      absurd (cc)
 
   -- a conversion is of another type
   same_type : Has P f Int (of Int (Convert Int (of Int (Number 1)))) → ⊥
-  same_type (rule.itself e g) = no_node (subst (Gives P f (Some Int)) (out-roll-TypedNode (Convert Int (of Int (Number 1)))) g)
+  same_type (rule.itself e g) =
+      no_node (subst (Gives P f (Some Int)) (out-roll-TypedNode (Convert Int (of Int (Number 1)))) g)
     where
       no_node : Gives P f (Some Int) (Convert Int (of Int (Number 1))) → ⊥
       no_node g = elim g [ ]
@@ -115,7 +124,8 @@ module _ (P : TypedProgram) (f : TypedFunc) where
 
   -- a place that names no slot
   no_slot : (n : ℕ) (r : Option Kind) → f.scalars ≡ [] → Gives P f r (Name (place.Scalar n)) → ⊥
-  no_slot n r e (rule.scalar h) = let no : None ≡ Some _ = sym (ap (λ ss. slot_scalar (slice_get ss n)) e) ∙ h in absurd (cc)
+  no_slot n r e (rule.scalar h) = let no : None ≡ Some _ = sym (ap (λ ss. slot_scalar (slice_get ss n)) e)
+      ∙ h in absurd (cc)
 
   -- an argument that is missing
   no_argument : (s : Slot) (slots : List Slot) → Passes P f (s ∷ slots) [] → ⊥
@@ -127,7 +137,8 @@ module _ (P : TypedProgram) (f : TypedFunc) where
   surplus e es p = elim p [ ]
 
   -- a function that the program does not have
-  no_function : (n : ℕ) (r : Option Kind) (es : List TypedExpr) → P.functions ≡ [] → Gives P f r (Call (callee.Func n) es) → ⊥
+  no_function : (n : ℕ) (r : Option Kind) (es : List TypedExpr) → P.functions ≡ []
+      → Gives P f r (Call (callee.Func n) es) → ⊥
   no_function n r es e (rule.call h p) =
       let no : None ≡ Some _ = sym (ap (λ fs. option_map of_function (slice_get fs n)) e) ∙ h in absurd (cc)
 
@@ -166,8 +177,14 @@ seven_is = record {
   bytes = omega arith;
   functions = (
     record {
-      params = omega arith; slots = omega arith; scalars = omega arith; locals = (tt, tt); arrays = tt;
-      body = ran seven main false _ (run.compound (run.next (ran seven main false _ (run.returns (number seven main Int 7, one_need seven main Int 7))) run.end));
+      params = omega arith;
+      slots = omega arith;
+      scalars = omega arith;
+      locals = (tt, tt);
+      arrays = tt;
+      body = ran seven main false _
+          (run.compound (run.next (ran seven main false _
+          (run.returns (number seven main Int 7, one_need seven main Int 7))) run.end));
     },
     tt,
   );
@@ -179,7 +196,14 @@ nothing : (m : ℕ) → WellFormed (record { globals = []; functions = []; main 
 nothing m w = let no : None ≡ Some _ = w.main.is in absurd (cc)
 
 -- 65 scalars are too many
-crowd : (P : TypedProgram) (all : TypedStmt) → FunctionFits P (record { result = None; params = 0; scalars = replicate 65 (slot.Scalar Int); arrays = []; body = all }) → ⊥
+crowd : (P : TypedProgram) (all : TypedStmt)
+    → FunctionFits P (record {
+      result = None;
+      params = 0;
+      scalars = replicate 65 (slot.Scalar Int);
+      arrays = [];
+      body = all;
+    }) → ⊥
 crowd P all w = absurd (omega (arith, w.scalars))
 
 -- an array without elements

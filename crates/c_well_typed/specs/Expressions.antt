@@ -1,6 +1,6 @@
--- Typed expressions that are well formed (C17 6.5): each node's operands are of the types that the node
--- wants, with no conversion left to be made. A rule for each node.
-use Rattle.std.specs.Prelude.{◌≡◌, ℕ, Bool, false, List, [], ◌∷◌, Option, Some, None}
+-- Typed expressions that are well formed (C17 6.5): each node's operands are of the types that the
+-- node wants, with no conversion left to be made. A rule for each node.
+use Rattle.std.specs.Prelude.{◌≡◌, ℕ, false, List, [], ◌∷◌, Option, Some, None}
 use Rattle.c_tree.specs.declared.token.Kind.{Kind}
 use Rattle.c_tree.specs.declared.tree.UnaryOp.{UnaryOp}
 use Rattle.c_tree.specs.declared.tree.BumpOp.{BumpOp}
@@ -11,7 +11,9 @@ use Rattle.c_tree.specs.declared.typed.Slot.{Slot}
 use Rattle.c_tree.specs.declared.typed.Slot.TheVariants as slot
 use Rattle.c_tree.specs.declared.typed.TypedExpr.{TypedExpr}
 use Rattle.c_tree.specs.declared.typed.TypedNode.{TypedNode, out-TypedNode}
-use Rattle.c_tree.specs.declared.typed.TypedNode.TheOpen.{TypedNode-F, Number, Name, Element, Call, Unary, Cast, Convert, Bump, Binary, Choice, Assign, Comma}
+use Rattle.c_tree.specs.declared.typed.TypedNode.TheOpen.{TypedNode-F, Number, Name, Element, Call}
+use Rattle.c_tree.specs.declared.typed.TypedNode.TheOpen.{Unary, Cast, Convert, Bump, Binary}
+use Rattle.c_tree.specs.declared.typed.TypedNode.TheOpen.{Choice, Assign, Comma}
 use Rattle.c_tree.specs.declared.typed.TypedFunc.{TypedFunc}
 use Rattle.c_tree.specs.declared.typed.TypedProgram.{TypedProgram}
 use Rattle.c_constant.specs.Kinds.{same_kind, common}
@@ -33,22 +35,26 @@ mutual
     element : {k j : Kind} {p : Place} {i : TypedExpr}
         → array_at P f p ≡ Some k → Has P f j i → Gives P f (Some k) (Element p i)
     call : {r : Option Kind} {slots : List Slot} {c : Callee} {es : List TypedExpr}
-        → signature_of P c ≡ Some (signature r slots) → Passes P f slots es → Gives P f r (Call c es)
-    -- the operand is converted to the type to which the operator converts it
+        → signature_of P c ≡ Some (signature r slots) → Passes P f slots es
+        → Gives P f r (Call c es)
+    -- the operand is of the type to which the operator converts it
     unary : {op : UnaryOp} {j k : Kind} {e : TypedExpr}
         → Has P f j e → unary_at op j ≡ j → k ≡ unary_result op j → Gives P f (Some k) (Unary op e)
     cast : {j k : Kind} {e : TypedExpr} → Has P f j e → Gives P f (Some k) (Cast k e)
-    bump : {op : BumpOp} {k : Kind} {e : TypedExpr} → IsObject P f k e → Gives P f (Some k) (Bump op e)
-    -- each operand is
+    bump : {op : BumpOp} {k : Kind} {e : TypedExpr} → IsObject P f k e
+        → Gives P f (Some k) (Bump op e)
+    -- the same of both operands
     binary : {op : BinaryOp} {i j k : Kind} {x y : TypedExpr}
         → Has P f i x → Has P f j y → left_at op i j ≡ i → right_at op i j ≡ j → k ≡ result_of op i
         → Gives P f (Some k) (Binary op x y)
     -- the legs are of their common type
     choice : {j k : Kind} {t x y : TypedExpr}
-        → Has P f j t → Has P f k x → Has P f k y → common k k ≡ k → Gives P f (Some k) (Choice t x y)
+        → Has P f j t → Has P f k x → Has P f k y → common k k ≡ k
+        → Gives P f (Some k) (Choice t x y)
     assign : {k : Kind} {x y : TypedExpr}
         → IsObject P f k x → Has P f k y → Gives P f (Some k) (Assign None k x y)
-    -- the operation is done in the type that it has of both sides, to which the right one is converted
+    -- `at` is the type in which the operator works on both sides; the right side is of the type to
+    -- which the operator converts it
     compound : {op : BinaryOp} {k j at : Kind} {x y : TypedExpr}
         → IsObject P f k x → Has P f j y → at ≡ left_at op k j → right_at op k j ≡ j
         → Gives P f (Some k) (Assign (Some op) at x y)
@@ -59,7 +65,8 @@ mutual
   -- the expression has a value of the type, which it gives itself, or a conversion of a value of
   -- another type, which is no conversion
   pub data Has (P : TypedProgram) (f : TypedFunc) : Kind → TypedExpr → Type 0 where
-    itself : {k : Kind} {e : TypedExpr} → e.kind ≡ Some k → Gives P f (Some k) (node_of e) → Has P f k e
+    itself : {k : Kind} {e : TypedExpr} → e.kind ≡ Some k → Gives P f (Some k) (node_of e)
+        → Has P f k e
     converted : {j k : Kind} {e i : TypedExpr}
         → e.kind ≡ Some k → node_of e ≡ Convert k i → i.kind ≡ Some j → same_kind j k ≡ false
         → Gives P f (Some j) (node_of i) → Has P f k e

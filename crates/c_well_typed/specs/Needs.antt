@@ -1,7 +1,9 @@
 -- How many temporaries a typed expression needs, if operands are computed from left to right.
-use Rattle.std.specs.Prelude.{ℕ, ◌+◌, ◌≤◌, max, Option, Some, None}
+use Rattle.std.specs.Prelude.{◌+◌, ◌≤◌, max, Some}
 use Rattle.c_tree.specs.declared.typed.TypedExpr.{TypedExpr, TypedExpr-F, fold-TypedExpr}
-use Rattle.c_tree.specs.declared.typed.TypedNode.TheOpen.{TypedNode-F, Number, Name, Element, Call, Unary, Cast, Convert, Bump, Binary, Choice, Assign, Comma}
+use Rattle.c_tree.specs.declared.typed.TypedNode.TheOpen.{TypedNode-F, Number, Name, Element, Call}
+use Rattle.c_tree.specs.declared.typed.TypedNode.TheOpen.{Unary, Cast, Convert, Bump, Binary}
+use Rattle.c_tree.specs.declared.typed.TypedNode.TheOpen.{Choice, Assign, Comma}
 use Rattle.c_constant.specs.Need.{Needs, plain, call_need, assign_need}
 
 -- a conversion needs what its operand needs

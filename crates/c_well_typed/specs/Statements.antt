@@ -1,5 +1,5 @@
 -- Typed statements that are well formed (C17 6.8). A rule for each production.
-use Rattle.std.specs.Prelude.{◌≡◌, ℕ, Bool, true, false, List, [], ◌∷◌, Option, Some, None, slice_get}
+use Rattle.std.specs.Prelude.{◌≡◌, ℕ, Bool, true, List, [], ◌∷◌, Option, Some, None, slice_get}
 use Rattle.c_tree.specs.declared.token.Kind.{Kind}
 use Rattle.c_tree.specs.declared.typed.Place.TheVariants as place
 use Rattle.c_tree.specs.declared.typed.Slot.TheVariants as slot
@@ -9,7 +9,10 @@ use Rattle.c_tree.specs.declared.typed.TypedFunc.{TypedFunc}
 use Rattle.c_tree.specs.declared.typed.TypedProgram.{TypedProgram}
 use Rattle.c_tree.specs.declared.typed.TypedStmt.{TypedStmt, out-TypedStmt}
 use Rattle.c_tree.specs.declared.typed.TypedForInit.{TypedForInit, out-TypedForInit}
-use Rattle.c_tree.specs.declared.typed.TypedForInit.TheOpen.{TypedStmt-F, TypedForInit-F, Declare, Plain, Compound, If, While, Do, For, Break, Continue, Return, Nothing, First, Locals}
+use Rattle.c_tree.specs.declared.typed.TypedForInit.TheOpen.{TypedStmt-F, TypedForInit-F, Declare}
+use Rattle.c_tree.specs.declared.typed.TypedForInit.TheOpen.{Plain, Compound, If, While, Do, For}
+use Rattle.c_tree.specs.declared.typed.TypedForInit.TheOpen.{Break, Continue, Return, Nothing}
+use Rattle.c_tree.specs.declared.typed.TypedForInit.TheOpen.{First, Locals}
 use Rattle.c_well_typed.specs.Expressions.{Gives, Has, node_of}
 use Rattle.c_well_typed.specs.Needs.{FitsNeed}
 

@@ -1,5 +1,6 @@
 -- A typed program that is well formed: what evaluation and translation may rely on.
-use Rattle.std.specs.Prelude.{◌≡◌, ℕ, ◌+◌, ◌*◌, ◌≤◌, Bool, false, List, [], ◌∷◌, Option, Some, None, length, drop, slice_get}
+use Rattle.std.specs.Prelude.{◌≡◌, ℕ, ◌+◌, ◌*◌, ◌≤◌, false, List, [], ◌∷◌, Option, Some, None}
+use Rattle.std.specs.Prelude.{length, drop, slice_get}
 use Rattle.c_tree.specs.declared.token.Kind.{Kind}
 use Rattle.c_tree.specs.declared.token.Kind.TheVariants.{Int}
 use Rattle.c_tree.specs.declared.typed.Slot.{Slot}
