@@ -8,5 +8,8 @@ pub mod Definitions
 pub mod Frames
 pub mod Files
 pub mod Steps
+pub mod Globals
+pub mod Callables
+pub mod Includes
 pub mod Whole
 pub mod StandardFacts

@@ -32,8 +32,10 @@ use Rattle.c_well_typed.proofs.Conversions.{same}
 use Rattle.c_well_typed.proofs.Moves.{split, held, some_is, KnownFrame}
 use Rattle.c_well_typed.proofs.Frames.{both, declared_look, one_block}
 use Rattle.c_well_typed.proofs.Files.{BuiltIn, reads, writes, NamedBy, Names, Bound, calls, all_known, find_bound}
-use Rattle.c_well_typed.proofs.Steps.{program, file, Holds, Step, Has, on_global, on_prototype, on_definition}
-use Rattle.c_well_typed.proofs.Steps.{on_include, nothing_new}
+use Rattle.c_well_typed.proofs.Steps.{program, file, Holds, Step, nothing_new}
+use Rattle.c_well_typed.proofs.Globals.{on_global}
+use Rattle.c_well_typed.proofs.Callables.{Has, on_prototype, on_definition}
+use Rattle.c_well_typed.proofs.Includes.{on_include}
 
 -- LISTS
 

@@ -1,5 +1,5 @@
-//! What typed programs satisfy: a public law, so that whoever takes a typed program need not look at
-//! how it was typed.
+//! What typed programs satisfy, as a public law: whoever takes a typed program need not look at how
+//! it was typed.
 #![tactic(auto)]
 
 mod law;
