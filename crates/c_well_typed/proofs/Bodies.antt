@@ -18,9 +18,11 @@ use Rattle.c_well_typed.proofs.Parts.{Sound, SoundFirst, SoundAll, run, on_plain
 use Rattle.c_well_typed.proofs.Parts.{on_while, on_do, on_for, on_break, on_continue, on_return, on_declare, on_nothing}
 use Rattle.c_well_typed.proofs.Parts.{on_first, on_locals}
 
+-- a part, once its line is known
 abbrev A : Type 0
 A = ℕ → Part
 
+-- what the definitions give of the first part of a `for`, and of a node
 abbrev init_fold : ForInit → Beginning
 init_fold = fold-ForInit Beginning A Part init_part node_part at_line
 
@@ -28,6 +30,7 @@ abbrev node_fold : StmtNode → A
 node_fold = fold-StmtNode Beginning A Part init_part node_part at_line
 
 module _ (P : TypedProgram) (f : TypedFunc) where
+  -- what is shown of each
   abbrev InitGood : ForInit → Type 0
   InitGood i = SoundFirst P f (init_fold i)
 
@@ -39,13 +42,16 @@ module _ (P : TypedProgram) (f : TypedFunc) where
 
   module _ (I N S : Type 0) (of_i : I → ForInit) (of_n : N → StmtNode) (of_s : S → Stmt)
       (good_i : (i : I) → InitGood (of_i i)) (good_s : (s : S) → StmtGood (of_s s)) where
+    -- each of several statements
     each_good : (ss : List S) → Each (Sound P f) (map part (map of_s ss))
     each_good [] = tt
     each_good (s ∷ ss) = (good_s s, each_good ss)
 
+    -- and all of them in order
     all_good : (ss : List S) → SoundAll P f (map part (map of_s ss))
     all_good ss = on_all P f (map part (map of_s ss)) (each_good ss)
 
+    -- each production, from its parts
     node_good : (l : ℕ) (y : StmtNode-F I N S)
         → Sound P f (node_part (map-StmtNode ForInit StmtNode Stmt Beginning A Part init_fold node_fold part
         (map-StmtNode I N S ForInit StmtNode Stmt of_i of_n of_s y)) l)
@@ -65,6 +71,7 @@ module _ (P : TypedProgram) (f : TypedFunc) where
     node_good l StmtNode-F.Continue = on_continue P f l
     node_good l (StmtNode-F.Return e) = on_return P f e l
 
+    -- each first part of a `for`, from its parts
     init_good : (y : ForInit-F I N S)
         → SoundFirst P f (init_part
         (map-ForInit ForInit StmtNode Stmt Beginning A Part init_fold node_fold part
@@ -73,6 +80,7 @@ module _ (P : TypedProgram) (f : TypedFunc) where
     init_good (ForInit-F.First e) = on_first P f e
     init_good (ForInit-F.Locals ss) = on_locals P f (map part (map of_s ss)) (all_good ss)
 
+    -- the same of a node as it is rolled
     at_node : (y : StmtNode-F I N S)
         → NodeGood (roll-StmtNode (map-StmtNode I N S ForInit StmtNode Stmt of_i of_n of_s y))
     unfolding part
@@ -82,6 +90,7 @@ module _ (P : TypedProgram) (f : TypedFunc) where
         (map-StmtNode I N S ForInit StmtNode Stmt of_i of_n of_s y)))
         (node_good l y)
 
+    -- the same of a first part as it is rolled
     at_init : (y : ForInit-F I N S) → InitGood (roll-ForInit (map-ForInit I N S ForInit StmtNode Stmt of_i of_n of_s y))
     unfolding part
     at_init y =
@@ -90,6 +99,7 @@ module _ (P : TypedProgram) (f : TypedFunc) where
         (map-ForInit I N S ForInit StmtNode Stmt of_i of_n of_s y)))
         (init_good y)
 
+  -- a statement is its node at its line
   at_stmt : (l : ℕ) (n : StmtNode) → NodeGood n → StmtGood (at l n)
   unfolding part
   at_stmt l n h = subst (Sound P f) (sym (fold_out-Stmt Beginning A Part init_part node_part at_line (at l n))) (h l)
@@ -106,10 +116,12 @@ module _ (P : TypedProgram) (f : TypedFunc) where
       (λ x y e. subst (λ (x : Stmt-F ForInit StmtNode Stmt). StmtGood (roll-Stmt x)) e
       (at_stmt y.line y.node.0 y.node.1))
 
+  -- the same of each of several
   each_sound : (ss : List Stmt) → Each (Sound P f) (map part ss)
   each_sound [] = tt
   each_sound (s ∷ ss) = (sound s, each_sound ss)
 
+  -- a body that is a compound opens no block
   in_sound : (x : StmtNode-F ForInit StmtNode Stmt) (s : Stmt) → Sound P f (body_in x s)
   in_sound (StmtNode-F.Compound ss) s =
       made P f typed.Compound (λ b t r. run P f b _ _ (typed.rolls-Compound t) (rule.compound r))

@@ -1,14 +1,9 @@
 -- Prototypes and definitions: each keeps what holds at file scope.
-use Rattle.std.proofs.Common.{◌≡◌, ℕ, suc, ◌+◌, ◌*◌, ◌≤◌, Bool, true, false, cond, List, [], ◌∷◌, ◌++◌, map, length}
-use Rattle.std.proofs.Common.{Option, Some, None, inl, inr, refl, sym, ap, ◌∙◌, subst, arith, append-nil, length-append}
+use Rattle.std.proofs.Common.{◌≡◌, ℕ, ◌+◌, Bool, true, false, cond, List, [], ◌∷◌, ◌++◌, map, length}
+use Rattle.std.proofs.Common.{Option, Some, None, inl, refl, sym, ap, ◌∙◌, arith, append-nil, length-append}
 use Rattle.std.specs.Prelude.{slice_get, option_map, is_some}
-use Rattle.std.specs.Cmp.Lexicographic.{bytes_decides}
-use Rattle.std.proofs.lemmas.Bool.{false≢true, leb-true, ltb-true}
+use Rattle.std.proofs.lemmas.Bool.{false≢true}
 use Rattle.c_tree.specs.declared.token.Kind.{Kind}
-use Rattle.c_tree.specs.declared.token.Kind.TheVariants.{Int}
-use Rattle.c_tree.specs.declared.tree.ArraySize.{ArraySize}
-use Rattle.c_tree.specs.declared.tree.ArraySize.TheVariants as size
-use Rattle.c_tree.specs.declared.tree.Expr.{Expr}
 use Rattle.c_tree.specs.declared.tree.Param.{Param}
 use Rattle.c_tree.specs.declared.tree.Stmt.{Stmt}
 use Rattle.c_tree.specs.declared.typed.Callee.{Callee}
@@ -18,32 +13,30 @@ use Rattle.c_tree.specs.declared.typed.TypedFunc.{TypedFunc}
 use Rattle.c_tree.specs.declared.typed.TypedGlobal.{TypedGlobal}
 use Rattle.c_tree.specs.declared.typed.TypedProgram.{TypedProgram}
 use Rattle.c_scope.specs.declared.meaning.Binding.{Binding}
-use Rattle.c_scope.specs.declared.meaning.Meaning.{Meaning}
 use Rattle.c_scope.specs.declared.meaning.Meaning.TheVariants as meaning
 use Rattle.c_scope.specs.Scope.{Scope, Frame, look_up, declared_in, bound}
-use Rattle.c_type_expr.specs.Constants.{constant_at}
-use Rattle.c_type.specs.declared.file_scope.FileScope.{FileScope}
-use Rattle.c_type.specs.Declarations.{bytes, is_end}
-use Rattle.c_type.specs.Units.{eof_name, getchar_name, putchar_name, int_slots, get_char, put_char, type_fault}
-use Rattle.c_type.specs.Units.{include_clash, include_fault, included, with_include, global_meaning, count_of}
-use Rattle.c_type.specs.Units.{length_in, typed_global, with_global, count_fault, global_fault}
+use Rattle.c_type.specs.Units.{type_fault}
 use Rattle.c_type.specs.Functions.{slot_of, callee_in, signature, with_function, definition_fault, with_definition}
 use Rattle.c_type.specs.Programs.{with_prototype_at, prototype_fault}
 use Rattle.c_well_typed.specs.Objects as object
-use Rattle.c_well_typed.specs.WellFormed.{Each, IsWord, GlobalFits, FunctionFits, global_bytes, all_bytes}
-use Rattle.c_well_typed.specs.WellFormed as fits
-use Rattle.c_well_typed.proofs.Moves.{split, held, Known}
-use Rattle.c_well_typed.proofs.Parts.{each_last, size_some}
+use Rattle.c_well_typed.specs.WellFormed.{FunctionFits}
+use Rattle.c_well_typed.proofs.Moves.{split}
+use Rattle.c_well_typed.proofs.Parts.{each_last}
 use Rattle.c_well_typed.proofs.Definitions.{the, file_stays, its_signature, its_fitness}
-use Rattle.c_well_typed.proofs.Frames.{Agrees, declared_look, fresh_agrees, type_agrees}
-use Rattle.c_well_typed.proofs.Files.{More, Met, Names, Bound, reads, writes, declare, still_ends, note}
+use Rattle.c_well_typed.proofs.Frames.{Agrees, type_agrees}
+use Rattle.c_well_typed.proofs.Files.{More, Met, Names, Bound, declare, still_ends, note}
 use Rattle.c_well_typed.proofs.Steps.{at_last, found, program, file, Holds, Step, same_program, nothing_new}
+
+-- a function more
+counted : (n : ℕ) (fs : List TypedFunc) (f : TypedFunc) → n ≡ length fs → n + 1 ≡ length (fs ++ f ∷ [])
+counted n fs f h = omega (arith, h, length-append fs (f ∷ []))
 
 module _ (T : Scope) (m : ℕ) where
   -- what N has of a name is there in T
   abbrev pub Has : Scope → List ℕ → Type 0
   Has N w = (c : Callee) × (callee_in (look_up N w) ≡ Some c)
 
+  -- a function that is declared calls what the unit defines by the name
   declared_bound : (w : List ℕ) (given : Option Kind) (slots : List Slot) (d : Bool) (F : Frame) (P : TypedProgram)
       → (d ≡ true → Has T w)
       → Bound T P (declared_in (bound w (signature T w given slots d)) (F ∷ [])) w (signature T w given slots d)
@@ -53,6 +46,7 @@ module _ (T : Scope) (m : ℕ) where
     h,
   )
 
+  -- a prototype of a new name
   prototype_new : (given : Option Kind) (w : List ℕ) (slots : List Slot) (l : ℕ) (N : Scope) (n : ℕ) (F : Frame)
       (gs : List TypedGlobal) (b : ℕ) (fs : List TypedFunc)
       → Holds T m N n F gs b fs → type_fault given slots (look_up (F ∷ []) w) l ≡ None
@@ -86,6 +80,7 @@ module _ (T : Scope) (m : ℕ) where
         fit = λ P known old. old;
       }
 
+  -- a prototype that has no fault
   pub on_prototype : (given : Option Kind) (w : List ℕ) (params : List Param) (l : ℕ) (N : Scope) (n : ℕ) (F : Frame)
       (gs : List TypedGlobal) (b : ℕ) (fs : List TypedFunc)
       → Holds T m N n F gs b fs → prototype_fault given w params l (file T m F gs b fs) ≡ None
@@ -106,11 +101,13 @@ module _ (T : Scope) (m : ℕ) where
   abbrev pub noted_as : List ℕ → ℕ → Binding
   noted_as w n = bound w (meaning.Function None [] (Some (callee.Func n)) true)
 
+  -- a definition that has no fault
   pub on_definition : (given : Option Kind) (w : List ℕ) (params : List Param) (body : Stmt) (l : ℕ) (N : Scope) (n : ℕ)
       (F : Frame) (gs : List TypedGlobal) (b : ℕ) (fs : List TypedFunc)
       → Holds T m N n F gs b fs → ((v : List ℕ) → Has (declared_in (noted_as w n) N) v → Has T v)
       → definition_fault T given w params body l (file T m F gs b fs) ≡ None
-      → Step T m (declared_in (noted_as w n) N) (n + 1) F fs (with_definition T given w params body (file T m F gs b fs))
+      → Step T m (declared_in (noted_as w n) N) (n + 1) F fs
+      (with_definition T given w params body (file T m F gs b fs))
   on_definition given w params body l N n F gs b fs i later h =
       let s = split _ _ h in
       let q = split _ _ s.0 in
@@ -149,7 +146,7 @@ module _ (T : Scope) (m : ℕ) where
             (file_stays P (F ∷ []) G given params body q.0 (x ∷ F) refl);
         holds = record {
           names = note T P' N (x ∷ F) (noted_as w n) (callee.Func n) refl met names;
-          count = omega (arith, i.count, length-append fs (f ∷ []));
+          count = counted n fs f i.count;
           globals = i.globals;
           bytes = i.bytes;
           room = i.room;

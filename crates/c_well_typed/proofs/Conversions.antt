@@ -63,6 +63,7 @@ pub record Common (j k : Kind) : Type 0 where
   pub itself : common (common j k) (common j k) ≡ common j k
   pub left : common j (common j k) ≡ common j k
 
+-- each of the 36 pairs
 pub commons : (j k : Kind) → Common j k
 commons Char Char = record { itself = refl; left = refl }
 commons Char UChar = record { itself = refl; left = refl }
@@ -114,6 +115,7 @@ pub record Settled (op : BinaryOp) (j k : Kind) : Type 0 where
   pub at : left_at op j k ≡ left_at op j (right_at op j k)
   pub from : right_at op j (right_at op j k) ≡ right_at op j k
 
+-- each operator
 pub settled : (op : BinaryOp) (j k : Kind) → Settled op j k
 settled LogicalOr j k = record { left = refl; right = refl; at = refl; from = refl }
 settled LogicalAnd j k = record { left = refl; right = refl; at = refl; from = refl }

@@ -33,6 +33,7 @@ record Began (slots : List Slot) (v u : State) : Type 0 where
   result : u.result ≡ v.result
   outer : (F F' : Frame) (G : Scope) → v.names ≡ F ∷ F' ∷ G → (new : Frame) × (u.names ≡ new ∷ F' ∷ G)
 
+-- a named parameter adds its slot
 named : (w : List ℕ) (s : ArraySize) (k : Kind) (v : State) → Began (slot_for s k ∷ []) v (named_param (Some w) s k v)
 named w size.Scalar k v =
     record { scalars = refl; arrays = refl; result = refl; outer = λ F F' G e. outer_in _ v.names F F' G e }
@@ -51,6 +52,7 @@ one : (G : Scope) (seen : List Param) (name : Option (List ℕ)) (l : ℕ) (s : 
 one G seen None l s k v h = absurd (cc)
 one G seen (Some w) l s k v h = named w s k v
 
+-- all parameters together
 began : (G : Scope) (seen ps : List Param) (v : State) → params_fault true G seen ps ≡ None
     → Began (map slot_of ps) v (with_params ps v)
 began G seen [] v h =
@@ -68,14 +70,22 @@ began G seen (p ∷ ps) v h =
       outer = λ F F' G e. let o = a.outer F F' G e in b.outer o.0 F' G o.1;
     }
 
+-- one more than fewer than eight
+one_more : (seen : List Param) (p : Param) → length seen < 8 → length (seen ++ p ∷ []) ≤ 8
+one_more seen p h = omega (arith, h, length-append seen (p ∷ []))
+
+-- the parameters that were seen, and those that follow
+counted : (seen : List Param) (p : Param) (n : ℕ) → length (seen ++ p ∷ []) + n ≤ 8 → length seen + suc n ≤ 8
+counted seen p n h = omega (arith, h, length-append seen (p ∷ []))
+
+-- there are at most eight
 few : (G : Scope) (seen ps : List Param) → length seen ≤ 8 → params_fault true G seen ps ≡ None
     → length seen + length ps ≤ 8
 few G seen [] l h = omega (arith, l)
 few G seen (p ∷ ps) l h =
     let s = split _ _ h in
-    let lt : length seen < 8 = ltb-true (length seen) 8 (held _ _ (split _ _ s.0).1) in
-    let more : length (seen ++ p ∷ []) ≤ 8 = omega (arith, lt, length-append seen (p ∷ [])) in
-    omega (arith, few G (seen ++ p ∷ []) ps more s.1, length-append seen (p ∷ []))
+    let fewer = ltb-true (length seen) 8 (held _ _ (split _ _ s.0).1) in
+    counted seen p (length ps) (few G (seen ++ p ∷ []) ps (one_more seen p fewer) s.1)
 
 module _ (P : TypedProgram) (f : TypedFunc) where
   -- a parameter's name stands for its slot
@@ -89,12 +99,14 @@ module _ (P : TypedProgram) (f : TypedFunc) where
   slot_known w (size.Sized n) k v h g =
       known_in P f (bound w (meaning.Array k (place.Scalar (length v.scalars)))) v.names (ap slot_array h) g
 
+  -- the same of a parameter that has no fault
   one_known : (G : Scope) (seen : List Param) (name : Option (List ℕ)) (l : ℕ) (s : ArraySize) (k : Kind) (v : State)
       → name_fault true G seen name l ≡ None → slice_get f.scalars (length v.scalars) ≡ Some (slot_for s k)
       → Known P f v.names → Known P f (named_param name s k v).names
   one_known G seen None l s k v h e g = absurd (cc)
   one_known G seen (Some w) l s k v h e g = slot_known w s k v e g
 
+  -- the same of all parameters
   params_known : (G : Scope) (seen ps : List Param) (v : State) (ss : List Slot) → params_fault true G seen ps ≡ None
       → f.scalars ≡ (v.scalars ++ map slot_of ps) ++ ss → Known P f v.names → Known P f (with_params ps v).names
   params_known G seen [] v ss h e k = k
@@ -112,14 +124,17 @@ module _ (P : TypedProgram) (f : TypedFunc) where
 
 -- LISTS
 
+-- the first slots are the parameters
 taken : (ps : List Param) (ss : List Slot) → take (length ps) (map slot_of ps ++ ss) ≡ map slot_of ps
 taken [] ss = refl
 taken (p ∷ ps) ss = ap (λ xs. slot_of p ∷ xs) (taken ps ss)
 
+-- and the others follow
 dropped : (ps : List Param) (ss : List Slot) → drop (length ps) (map slot_of ps ++ ss) ≡ ss
 dropped [] ss = refl
 dropped (p ∷ ps) ss = dropped ps ss
 
+-- each parameter has a slot
 as_long : (ps : List Param) → length (map slot_of ps) ≡ length ps
 as_long [] = refl
 as_long (p ∷ ps) = ap suc (as_long ps)
@@ -129,9 +144,11 @@ as_long (p ∷ ps) = ap suc (as_long ps)
 -- the function of a body, whose parameters stand in the file scope G
 module _ (P : TypedProgram) (H G : Scope) (given : Option Kind) (params : List Param) (body : Stmt)
     (fine : params_fault true H [] params ≡ None) where
+  -- the state in which the body begins
   abbrev v0 : State
   v0 = with_params params (started G given)
 
+  -- the typed function
   abbrev pub the : TypedFunc
   the = typed_function (length params) body v0
 
@@ -139,12 +156,15 @@ module _ (P : TypedProgram) (H G : Scope) (given : Option Kind) (params : List P
   abbrev end : State
   end = (body_part body).after v0
 
+  -- what the parameters add
   begins : Began (map slot_of params) (started G given) v0
   begins = began H [] params (started G given) fine
 
+  -- what the body adds
   goes : Ahead P the v0 end
   goes = (body_sound P the body).ahead v0
 
+  -- all slots of the function
   slots : the.scalars ≡ map slot_of params ++ goes.scalars
   slots = goes.are ∙ ap (λ ss. ss ++ goes.scalars) begins.scalars
 
@@ -160,13 +180,16 @@ module _ (P : TypedProgram) (H G : Scope) (given : Option Kind) (params : List P
       let a = begins.outer [] F [] (ap opened e) in
       let b = goes.outer a.0 F [] a.1 in ap closed b.1 ∙ sym e
 
+  -- eight parameters at most
   at_most : length params ≤ 8
   at_most = omega (arith, few H [] params (omega arith) fine)
 
+  -- how many slots there are
   slots_long : length the.scalars ≡ length params + length goes.scalars
   slots_long = ap length slots ∙ length-append (map slot_of params) goes.scalars
       ∙ ap (λ n. n + length goes.scalars) (as_long params)
 
+  -- the function is well formed where the body has no fault
   pub its_fitness : Known P the G → (body_part body).fault false v0 ≡ None → FunctionFits P the
   its_fitness k h =
       let names : Known P the v0.names =

@@ -44,18 +44,21 @@ pub record More (P P' : TypedProgram) : Type 0 where
   pub and : P'.functions ≡ P.functions ++ functions
 
 module _ (P P' : TypedProgram) (more : More P P') where
+  -- a scalar stays one
   scalar_more : (f : TypedFunc) (p : Place) (k : Kind) → scalar_at P f p ≡ Some k → scalar_at P' f p ≡ Some k
   scalar_more f (place.Global n) k e =
       ap (λ gs. global_scalar (slice_get gs n)) more.are ∙ kept global_scalar refl P.globals more.globals n k e
   scalar_more f (place.Scalar n) k e = e
   scalar_more f (place.Array n) k e = e
 
+  -- an array stays one
   array_more : (f : TypedFunc) (p : Place) (k : Kind) → array_at P f p ≡ Some k → array_at P' f p ≡ Some k
   array_more f (place.Global n) k e =
       ap (λ gs. global_array (slice_get gs n)) more.are ∙ kept global_array refl P.globals more.globals n k e
   array_more f (place.Scalar n) k e = e
   array_more f (place.Array n) k e = e
 
+  -- a function keeps its signature
   signature_more : (c : Callee) (r : Option Kind) (s : List Slot) → signature_of P c ≡ Some (signature r s)
       → signature_of P' c ≡ Some (signature r s)
   signature_more (callee.Func n) r s e =
@@ -84,6 +87,7 @@ pub record Met (P : TypedProgram) (G : Scope) (w : List ℕ) (c : Callee) : Type
   pub signature : signature_of P c ≡ Some (signature result params)
   pub named : NamedBy c w
 
+-- what is met stays met
 pub met_more : (P P' : TypedProgram) (G G' : Scope) → More P P'
     → ((w : List ℕ) (r : Option Kind) (s : List Slot) → IsFunction G w r s → IsFunction G' w r s)
     → (w : List ℕ) (c : Callee) → Met P G w c → Met P' G' w c
@@ -107,6 +111,7 @@ module _ (T : Scope) where
   Bound P G w (meaning.Function r s c d) = IsFunction G w r s × Calls w r s c × (d ≡ true → (x : Callee) × (c ≡ Some x))
   Bound P G w meaning.EndOfFile = Unit {0}
 
+  -- the same of all bindings
   abbrev pub EachBound : TypedProgram → Scope → Frame → Type 0
   EachBound P G [] = Unit {0}
   EachBound P G (b ∷ F) = Bound P G b.name b.meaning × EachBound P G F
@@ -118,6 +123,7 @@ module _ (T : Scope) where
     pub ends : is_end (look_up (F ∷ []) eof_name) ≡ true
         → Met P (F ∷ []) getchar_name callee.GetChar × Met P (F ∷ []) putchar_name callee.PutChar
 
+  -- what is bound stays bound
   bound_more : (P P' : TypedProgram) (G G' : Scope) → More P P'
       → ((w : List ℕ) (r : Option Kind) (s : List Slot) → IsFunction G w r s → IsFunction G' w r s)
       → (w : List ℕ) (m : Meaning) → Bound P G w m → Bound P' G' w m
@@ -126,6 +132,7 @@ module _ (T : Scope) where
   bound_more P P' G G' more go w (meaning.Function r s c d) b = (go w r s b.0, b.1, b.2)
   bound_more P P' G G' more go w meaning.EndOfFile b = tt
 
+  -- the same of all bindings
   each_more : (P P' : TypedProgram) (G G' : Scope) → More P P'
       → ((w : List ℕ) (r : Option Kind) (s : List Slot) → IsFunction G w r s → IsFunction G' w r s)
       → (F : Frame) → EachBound P G F → EachBound P' G' F
@@ -133,6 +140,7 @@ module _ (T : Scope) where
   each_more P P' G G' more go (x ∷ F) b =
       (bound_more P P' G G' more go x.name x.meaning b.0, each_more P P' G G' more go F b.1)
 
+  -- where `EOF` is declared, the functions of `<stdio.h>` are
   abbrev pub Ends : TypedProgram → Frame → Type 0
   Ends P F = is_end (look_up (F ∷ []) eof_name) ≡ true → Met P (F ∷ []) getchar_name callee.GetChar
       × Met P (F ∷ []) putchar_name callee.PutChar
@@ -188,6 +196,7 @@ module _ (T : Scope) where
 
   -- AT THE END
 
+  -- the functions of `<stdio.h>` have their signatures
   built_in_signature : (P : TypedProgram) (w : List ℕ) (r : Option Kind) (s : List Slot) (o : Option Callee)
       → BuiltIn w r s o → (c : Callee) → o ≡ Some c → signature_of P c ≡ Some (signature r s)
   built_in_signature P _ _ _ _ reads c e = ap (signature_of P) (sym (some_is _ _ e))
@@ -213,11 +222,13 @@ module _ (T : Scope) where
   exists P F n f w (meaning.Function r s (Some c) d) b = calls P F n w r s c d b
   exists P F n f w meaning.EndOfFile b = tt
 
+  -- the same of all bindings
   each_exists : (P : TypedProgram) (F : Frame) (n : Names P T F) (f : TypedFunc) (F' : Frame) → EachBound P (F ∷ []) F'
       → KnownFrame P f F'
   each_exists P F n f [] b = tt
   each_exists P F n f (x ∷ F') b = (exists P F n f x.name x.meaning b.0, each_exists P F n f F' b.1)
 
+  -- so all names at file scope are known
   pub all_known : (P : TypedProgram) (F : Frame) → Names P T F → (f : TypedFunc) → Known P f (F ∷ [])
   all_known P F n f = (each_exists P F n f F n.bound, tt)
 

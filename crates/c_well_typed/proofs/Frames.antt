@@ -19,16 +19,19 @@ use Rattle.c_well_typed.proofs.Moves.{held, some_is}
 
 -- EQUAL SIGNATURES
 
+-- two tests that both hold
 pub both : (a b : Bool) → (a && b) ≡ true → (a ≡ true) × (b ≡ true)
 both true b h = (refl, h)
 both false b h = absurd (false≢true h)
 
+-- equal slots are one
 slot_is : (s t : Slot) → same_slot s t ≡ true → s ≡ t
 slot_is (slot.Scalar j) (slot.Scalar k) h = ap slot.Scalar (same j k h)
 slot_is (slot.Scalar j) (slot.Address k) h = absurd (false≢true h)
 slot_is (slot.Address j) (slot.Scalar k) h = absurd (false≢true h)
 slot_is (slot.Address j) (slot.Address k) h = ap slot.Address (same j k h)
 
+-- equal lists of slots are one
 slots_are : (ss ts : List Slot) → same_slots ss ts ≡ true → ss ≡ ts
 slots_are [] [] h = refl
 slots_are [] (t ∷ ts) h = absurd (false≢true h)
@@ -36,6 +39,7 @@ slots_are (s ∷ ss) [] h = absurd (false≢true h)
 slots_are (s ∷ ss) (t ∷ ts) h =
     let p = both _ _ h in ap (λ x. x ∷ ss) (slot_is s t p.0) ∙ ap (λ xs. t ∷ xs) (slots_are ss ts p.1)
 
+-- equal results are one
 result_is : (a b : Option Kind) → same_result a b ≡ true → a ≡ b
 result_is None None h = refl
 result_is None (Some k) h = absurd (false≢true h)
@@ -59,6 +63,7 @@ declared_look b (F ∷ G) w = by (same_name b.name w)
     by true = refl
     by false = refl
 
+-- of one block a name is looked for there alone
 pub one_block : (F : Frame) (w : List ℕ) → look_up (F ∷ []) w ≡ find F w
 one_block F w = by (find F w)
   where
@@ -112,6 +117,7 @@ one_result G w r r' s s' i j = ap result_in (some_is _ _ (sym i.is ∙ j.is))
     result_in (meaning.Function r s c d) = r
     result_in _ = r
 
+-- and takes one list of parameters
 pub one_params : (G : Scope) (w : List ℕ) (r r' : Option Kind) (s s' : List Slot) → IsFunction G w r s
     → IsFunction G w r' s' → s ≡ s'
 one_params G w r r' s s' i j = ap params_in (some_is _ _ (sym i.is ∙ j.is))

@@ -1,44 +1,28 @@
 -- Globals: each keeps what holds at file scope.
-use Rattle.std.proofs.Common.{◌≡◌, ℕ, suc, ◌+◌, ◌*◌, ◌≤◌, Bool, true, false, cond, List, [], ◌∷◌, ◌++◌, map, length}
-use Rattle.std.proofs.Common.{Option, Some, None, inl, inr, refl, sym, ap, ◌∙◌, subst, arith, append-nil, length-append}
-use Rattle.std.specs.Prelude.{slice_get, option_map, is_some}
-use Rattle.std.specs.Cmp.Lexicographic.{bytes_decides}
-use Rattle.std.proofs.lemmas.Bool.{false≢true, leb-true, ltb-true}
+use Rattle.std.proofs.Common.{◌≡◌, ℕ, suc, ◌+◌, ◌*◌, ◌≤◌, false, List, [], ◌∷◌, ◌++◌, map, length}
+use Rattle.std.proofs.Common.{Some, None, refl, sym, ap, ◌∙◌, subst, arith, append-nil}
+use Rattle.std.proofs.lemmas.Bool.{leb-true, ltb-true}
 use Rattle.c_tree.specs.declared.token.Kind.{Kind}
-use Rattle.c_tree.specs.declared.token.Kind.TheVariants.{Int}
 use Rattle.c_tree.specs.declared.tree.ArraySize.{ArraySize}
 use Rattle.c_tree.specs.declared.tree.ArraySize.TheVariants as size
 use Rattle.c_tree.specs.declared.tree.Expr.{Expr}
-use Rattle.c_tree.specs.declared.tree.Param.{Param}
-use Rattle.c_tree.specs.declared.tree.Stmt.{Stmt}
-use Rattle.c_tree.specs.declared.typed.Callee.{Callee}
-use Rattle.c_tree.specs.declared.typed.Callee.TheVariants as callee
-use Rattle.c_tree.specs.declared.typed.Slot.{Slot}
 use Rattle.c_tree.specs.declared.typed.TypedFunc.{TypedFunc}
 use Rattle.c_tree.specs.declared.typed.TypedGlobal.{TypedGlobal}
-use Rattle.c_tree.specs.declared.typed.TypedProgram.{TypedProgram}
-use Rattle.c_scope.specs.declared.meaning.Binding.{Binding}
-use Rattle.c_scope.specs.declared.meaning.Meaning.{Meaning}
-use Rattle.c_scope.specs.declared.meaning.Meaning.TheVariants as meaning
-use Rattle.c_scope.specs.Scope.{Scope, Frame, look_up, declared_in, bound}
+use Rattle.c_scope.specs.Scope.{Scope, Frame, bound}
 use Rattle.c_type_expr.specs.Constants.{constant_at}
-use Rattle.c_type.specs.declared.file_scope.FileScope.{FileScope}
 use Rattle.c_type.specs.Declarations.{bytes, is_end}
-use Rattle.c_type.specs.Units.{eof_name, getchar_name, putchar_name, int_slots, get_char, put_char, type_fault}
-use Rattle.c_type.specs.Units.{include_clash, include_fault, included, with_include, global_meaning, count_of}
+use Rattle.c_type.specs.Units.{global_meaning, count_of}
 use Rattle.c_type.specs.Units.{length_in, typed_global, with_global, count_fault, global_fault}
-use Rattle.c_type.specs.Functions.{slot_of, callee_in, signature, with_function, definition_fault, with_definition}
-use Rattle.c_type.specs.Programs.{with_prototype_at, prototype_fault}
 use Rattle.c_well_typed.specs.Objects as object
 use Rattle.c_well_typed.specs.WellFormed.{Each, IsWord, GlobalFits, FunctionFits, global_bytes, all_bytes}
 use Rattle.c_well_typed.specs.WellFormed as fits
-use Rattle.c_well_typed.proofs.Moves.{split, held, Known}
+use Rattle.c_well_typed.proofs.Moves.{split, held}
 use Rattle.c_well_typed.proofs.Parts.{each_last, size_some}
-use Rattle.c_well_typed.proofs.Definitions.{the, file_stays, its_signature, its_fitness}
-use Rattle.c_well_typed.proofs.Frames.{Agrees, declared_look, fresh_agrees, type_agrees}
-use Rattle.c_well_typed.proofs.Files.{More, Met, Names, Bound, reads, writes, declare, still_ends, note}
+use Rattle.c_well_typed.proofs.Frames.{Agrees, fresh_agrees}
+use Rattle.c_well_typed.proofs.Files.{More, Bound, declare, still_ends}
 use Rattle.c_well_typed.proofs.Steps.{at_last, program, file, Holds, Step}
 
+-- a global more takes its bytes
 bytes_more : (gs : List TypedGlobal) (g : TypedGlobal) → all_bytes (gs ++ g ∷ []) ≡ global_bytes g + all_bytes gs
 bytes_more [] g = refl
 bytes_more (x ∷ gs) g = omega (arith, bytes_more gs g)
@@ -50,26 +34,31 @@ holds_as size.Scalar init = refl
 holds_as size.Open init = refl
 holds_as (size.Sized e) init = refl
 
+-- a global without a fault has a value
 some_values : (size : ArraySize) (init : List Expr) (l : ℕ) (G : Scope) → count_fault size init l G ≡ None
     → 1 ≤ count_of size init
 some_values size.Scalar init l G h = omega arith
 some_values size.Open init l G h = ltb-true 0 (length init) (held _ _ h)
 some_values (size.Sized e) init l G h = size_some e G h
 
+-- its values are of its type
 words_in : (k : Kind) (init : List Expr) → Each (IsWord k) (map (constant_at k) init)
 words_in k [] = tt
 words_in k (e ∷ init) = (record { of = _; is = refl }, words_in k init)
 
+-- as many as are given
 as_many : (k : Kind) (init : List Expr) → length (map (constant_at k) init) ≡ length init
 as_many k [] = refl
 as_many k (e ∷ init) = ap suc (as_many k init)
 
+-- a global is not `EOF`
 not_end : (size : ArraySize) (k : Kind) (n : ℕ) → is_end (Some (global_meaning size k n)) ≡ false
 not_end size.Scalar k n = refl
 not_end size.Open k n = refl
 not_end (size.Sized e) k n = refl
 
 module _ (T : Scope) (m : ℕ) where
+  -- the name of a global names it
   global_bound : (size : ArraySize) (k : Kind) (w : List ℕ) (init : List Expr) (G : Scope) (gs : List TypedGlobal)
       (fs : List TypedFunc)
       → Bound T (program T m (gs ++ typed_global size k init ∷ []) fs) G w (global_meaning size k (length gs))
@@ -79,6 +68,7 @@ module _ (T : Scope) (m : ℕ) where
   global_bound (size.Sized e) k w init G gs fs =
       λ f. ap object.global_array (at_last gs (typed_global (size.Sized e) k init))
 
+  -- a global that has no fault
   pub on_global : (k : Kind) (w : List ℕ) (size : ArraySize) (init : List Expr) (l : ℕ) (N : Scope) (n : ℕ) (F : Frame)
       (gs : List TypedGlobal) (b : ℕ) (fs : List TypedFunc)
       → Holds T m N n F gs b fs → global_fault size k w init l (file T m F gs b fs) ≡ None

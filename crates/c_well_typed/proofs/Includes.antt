@@ -1,54 +1,34 @@
 -- The include keeps what holds at file scope.
-use Rattle.std.proofs.Common.{◌≡◌, ℕ, suc, ◌+◌, ◌*◌, ◌≤◌, Bool, true, false, cond, List, [], ◌∷◌, ◌++◌, map, length}
-use Rattle.std.proofs.Common.{Option, Some, None, inl, inr, refl, sym, ap, ◌∙◌, subst, arith, append-nil, length-append}
-use Rattle.std.specs.Prelude.{slice_get, option_map, is_some}
-use Rattle.std.specs.Cmp.Lexicographic.{bytes_decides}
-use Rattle.std.proofs.lemmas.Bool.{false≢true, leb-true, ltb-true}
-use Rattle.c_tree.specs.declared.token.Kind.{Kind}
+use Rattle.std.proofs.Common.{◌≡◌, ℕ, Bool, true, false, cond, List, [], ◌∷◌}
+use Rattle.std.proofs.Common.{Some, None, inr, refl, sym, ap, ◌∙◌}
 use Rattle.c_tree.specs.declared.token.Kind.TheVariants.{Int}
-use Rattle.c_tree.specs.declared.tree.ArraySize.{ArraySize}
-use Rattle.c_tree.specs.declared.tree.ArraySize.TheVariants as size
-use Rattle.c_tree.specs.declared.tree.Expr.{Expr}
-use Rattle.c_tree.specs.declared.tree.Param.{Param}
-use Rattle.c_tree.specs.declared.tree.Stmt.{Stmt}
-use Rattle.c_tree.specs.declared.typed.Callee.{Callee}
 use Rattle.c_tree.specs.declared.typed.Callee.TheVariants as callee
-use Rattle.c_tree.specs.declared.typed.Slot.{Slot}
 use Rattle.c_tree.specs.declared.typed.TypedFunc.{TypedFunc}
 use Rattle.c_tree.specs.declared.typed.TypedGlobal.{TypedGlobal}
 use Rattle.c_tree.specs.declared.typed.TypedProgram.{TypedProgram}
-use Rattle.c_scope.specs.declared.meaning.Binding.{Binding}
-use Rattle.c_scope.specs.declared.meaning.Meaning.{Meaning}
 use Rattle.c_scope.specs.declared.meaning.Meaning.TheVariants as meaning
 use Rattle.c_scope.specs.Scope.{Scope, Frame, look_up, declared_in, bound}
-use Rattle.c_type_expr.specs.Constants.{constant_at}
-use Rattle.c_type.specs.declared.file_scope.FileScope.{FileScope}
-use Rattle.c_type.specs.Declarations.{bytes, is_end}
-use Rattle.c_type.specs.Units.{eof_name, getchar_name, putchar_name, int_slots, get_char, put_char, type_fault}
-use Rattle.c_type.specs.Units.{include_clash, include_fault, included, with_include, global_meaning, count_of}
-use Rattle.c_type.specs.Units.{length_in, typed_global, with_global, count_fault, global_fault}
-use Rattle.c_type.specs.Functions.{slot_of, callee_in, signature, with_function, definition_fault, with_definition}
-use Rattle.c_type.specs.Programs.{with_prototype_at, prototype_fault}
-use Rattle.c_well_typed.specs.Objects as object
-use Rattle.c_well_typed.specs.WellFormed.{Each, IsWord, GlobalFits, FunctionFits, global_bytes, all_bytes}
-use Rattle.c_well_typed.specs.WellFormed as fits
-use Rattle.c_well_typed.proofs.Moves.{split, held, Known}
-use Rattle.c_well_typed.proofs.Parts.{each_last, size_some}
-use Rattle.c_well_typed.proofs.Definitions.{the, file_stays, its_signature, its_fitness}
-use Rattle.c_well_typed.proofs.Frames.{Agrees, declared_look, fresh_agrees, type_agrees}
-use Rattle.c_well_typed.proofs.Files.{More, Met, Names, Bound, reads, writes, declare, still_ends, note}
-use Rattle.c_well_typed.proofs.Steps.{program, file, Holds, Step, same_program}
+use Rattle.c_type.specs.Declarations.{is_end}
+use Rattle.c_type.specs.Units.{eof_name, getchar_name, putchar_name, int_slots, get_char, put_char}
+use Rattle.c_type.specs.Units.{include_clash, include_fault, included, with_include}
+use Rattle.c_well_typed.proofs.Moves.{split}
+use Rattle.c_well_typed.proofs.Frames.{Agrees, fresh_agrees, type_agrees}
+use Rattle.c_well_typed.proofs.Files.{More, Met, Names, reads, writes, declare, still_ends, note}
+use Rattle.c_well_typed.proofs.Steps.{program, Holds, Step, same_program}
 
 module _ (T : Scope) (m : ℕ) where
+  -- the include as it is noted
   abbrev noted_include : Scope → Scope
   noted_include N = declared_in (bound putchar_name put_char) (declared_in (bound getchar_name get_char) N)
 
+  -- its two functions are noted together
   note_both : (P : TypedProgram) (N : Scope) (F : Frame) → Met P (F ∷ []) getchar_name callee.GetChar
       → Met P (F ∷ []) putchar_name callee.PutChar → Names T P N F → Names T P (noted_include N) F
   note_both P N F g p n =
       note T P (declared_in (bound getchar_name get_char) N) F (bound putchar_name put_char) callee.PutChar refl p
       (note T P N F (bound getchar_name get_char) callee.GetChar refl g n)
 
+  -- an include that declares its three names
   include_names : (P : TypedProgram) (N : Scope) (F : Frame) (l : ℕ) → More P P → include_clash (F ∷ []) l ≡ None
       → Names T P N F
       → Names T P (noted_include N)
@@ -90,9 +70,11 @@ module _ (T : Scope) (m : ℕ) where
       } in
       note_both P N (eof ∷ put ∷ get ∷ F) g p (declare T P P N (put ∷ get ∷ F) eof more a3 tt (λ e. (g, p)) n2)
 
+  -- an include that has no fault
   pub on_include : (l : ℕ) (N : Scope) (n : ℕ) (F : Frame) (gs : List TypedGlobal) (b : ℕ) (fs : List TypedFunc)
       → Holds T m N n F gs b fs → include_fault (F ∷ []) l ≡ None
-      → Step T m (noted_include N) n F fs (record { names = included (F ∷ []); globals = gs; bytes = b; functions = fs })
+      → Step T m (noted_include N) n F fs
+      (record { names = included (F ∷ []); globals = gs; bytes = b; functions = fs })
   on_include l N n F gs b fs i h = by (is_end (look_up (F ∷ []) eof_name)) refl
     where
       by : (t : Bool) → is_end (look_up (F ∷ []) eof_name) ≡ t

@@ -16,14 +16,17 @@ use Rattle.c_well_typed.proofs.Values.{Exists, Knows}
 
 -- FAULTS
 
+-- where the first of two faults is none, both are
 pub split : (f g : Blame) → first f g ≡ None → (f ≡ None) × (g ≡ None)
 split None g e = (refl, e)
 split (Some f) g e = absurd (cc)
 
+-- a test without a fault holds
 pub held : (b : Bool) (f : TypeFault) → unless b f ≡ None → b ≡ true
 held true f e = refl
 held false f e = absurd (cc)
 
+-- what two equal options hold is equal
 pub some_is : {A : Type 0} (x y : A) → Some x ≡ Some y → x ≡ y
 some_is x y e = ap (λ o. unwrap_or o x) e
 
@@ -35,10 +38,12 @@ module _ (P : TypedProgram) (f : TypedFunc) where
   KnownFrame [] = Unit {0}
   KnownFrame (b ∷ bs) = Exists P f b.meaning × KnownFrame bs
 
+  -- the same of all blocks
   abbrev pub Known : Scope → Type 0
   Known [] = Unit {0}
   Known (F ∷ G) = KnownFrame F × Known G
 
+  -- what is found in a block is in the program
   frame_knows : (F : Frame) (w : List ℕ) (m : Meaning) → KnownFrame F → find F w ≡ Some m → Exists P f m
   frame_knows [] w m k e = absurd (cc)
   frame_knows (b ∷ bs) w m k e = by (frame_knows bs w m k.1) (same_name b.name w) refl
@@ -49,6 +54,7 @@ module _ (P : TypedProgram) (f : TypedFunc) where
           subst (Exists P f) (some_is _ _ is) k.0
       by rec false h = rec (sym (ap (λ t. cond t (Some b.meaning) (find bs w)) h) ∙ e)
 
+  -- what is found in a scope is in the program
   pub knows : (G : Scope) → Known G → Knows P f G
   knows [] k w m e = absurd (cc)
   knows (F ∷ G) k w m e = by (knows G k.1 w m) (find F w) refl
@@ -57,6 +63,7 @@ module _ (P : TypedProgram) (f : TypedFunc) where
       by rec None h = rec (sym (ap (λ o. or_else o (look_up G w)) h) ∙ e)
       by rec (Some n) h = frame_knows F w m k.0 (h ∙ sym (ap (λ o. or_else o (look_up G w)) h) ∙ e)
 
+  -- a block that is closed takes nothing else away
   pub known_closed : (G : Scope) → Known G → Known (closed G)
   known_closed [] k = tt
   known_closed (F ∷ []) k = k
@@ -89,10 +96,12 @@ module _ (P : TypedProgram) (f : TypedFunc) where
     pub result : u.result ≡ v.result
     pub outer : (F F' : Frame) (G : Scope) → v.names ≡ F ∷ F' ∷ G → (new : Frame) × (u.names ≡ new ∷ F' ∷ G)
 
+  -- what holds of two lists holds of both in one
   each_append : {A : Type 0} (Q : A → Type 0) (xs ys : List A) → Each Q xs → Each Q ys → Each Q (xs ++ ys)
   each_append Q [] ys a b = b
   each_append Q (x ∷ xs) ys a b = (a.0, each_append Q xs ys a.1 b)
 
+  -- nothing is added
   pub still : (v : State) → Ahead v v
   still v = record {
     scalars = [];
@@ -104,6 +113,7 @@ module _ (P : TypedProgram) (f : TypedFunc) where
     outer = λ F F' G e. (F, e);
   }
 
+  -- what two steps add
   pub further : (v u w : State) → Ahead v u → Ahead u w → Ahead v w
   further v u w a b = record {
     scalars = a.scalars ++ b.scalars;
@@ -115,6 +125,7 @@ module _ (P : TypedProgram) (f : TypedFunc) where
     outer = λ F F' G e. let o = a.outer F F' G e in b.outer o.0 F' G o.1;
   }
 
+  -- what is within the later state is within the earlier
   pub before : (v u : State) → Ahead v u → Within u → Within v
   before v u a w = record {
     scalars = a.scalars ++ w.scalars;

@@ -47,21 +47,25 @@ use Rattle.c_well_typed.proofs.TypedNeeds.{same_needs, converted_need}
 use Rattle.c_well_typed.proofs.Moves.{split, held, Known, knows, Fine, Within, Ahead, Moves, still, made, looped}
 use Rattle.c_well_typed.proofs.Moves.{scoped, then}
 
+-- a statement that is built is open again
 opened : (s : TypedStmt) (x : Level) → roll-TypedStmt x ≡ s → out-TypedStmt s ≡ x
 opened s x e = ap out-TypedStmt (sym e) ∙ out-roll-TypedStmt x
 
 -- LISTS
 
+-- an element stands behind those before it
 pub at_end : {A : Type 0} (xs : List A) (x : A) (ys : List A) → slice_get ((xs ++ x ∷ []) ++ ys) (length xs) ≡ Some x
 at_end [] x ys = refl
 at_end (z ∷ xs) x ys = at_end xs x ys
 
+-- what holds of a list and one element more
 pub each_last : {A : Type 0} (Q : A → Type 0) (xs : List A) (x : A) → Each Q xs → Q x → Each Q (xs ++ x ∷ [])
 each_last Q [] x a b = (b, tt)
 each_last Q (y ∷ xs) x a b = (a.0, each_last Q xs x a.1 b)
 
 -- SIZES
 
+-- a length that a number gives is at least 1
 from_some : (z : ℤ) (l : ℕ) → value_fault (length_from z) l ≡ None → 1 ≤ word_in (length_from z)
 from_some (pos n) l e = by (nat_lt 0 n) refl
   where
@@ -70,6 +74,7 @@ from_some (pos n) l e = by (nat_lt 0 n) refl
     by false h = absurd (false≢true (held _ _ (sym (ap (λ b. value_fault (cond b (Some n) None) l) h) ∙ e)))
 from_some (negsuc n) l e = absurd (false≢true (held _ _ e))
 
+-- the same of the value of a constant
 in_some : (k : Kind) (v : Option ℕ) (l : ℕ) → value_fault (length_in k v) l ≡ None → 1 ≤ word_in (length_in k v)
 in_some k None l e = absurd (false≢true (held _ _ e))
 in_some k (Some w) l e = from_some (number k w) l e
@@ -86,25 +91,30 @@ outer_in b N F F' G e = (b ∷ F, ap (declared_in b) e)
 module _ (P : TypedProgram) (f : TypedFunc) where
   -- FULL EXPRESSIONS
 
+  -- a tree needs no more than its expression
   needs_fit : (e : Expr) (t : TypedExpr) → typed_needs t ≡ needs e → need_fault e ≡ None → FitsNeed t
   needs_fit e t h n = subst (λ (n : Needs). n.need ≤ 16) (sym h) (leb-true (need e) 16 (held _ _ n))
 
+  -- a full expression whose value is wanted
   pub full_value : (e : Expr) (G : Scope) → Known P f G → full e Value G ≡ None → (p : Plain P f (tree e G))
       × FitsNeed (tree e G)
   full_value e G k h =
       let s = split _ _ h in let d = complete e G Value s.0 in
       (fits P f G (knows P f G k) Value e _ d, needs_fit e _ (same_needs G Value e _ d) s.1)
 
+  -- the same, converted to a type
   full_converted : (k : Kind) (e : Expr) (G : Scope) → Known P f G → full e Value G ≡ None
       → IsValue P f k (converted k (tree e G))
   full_converted k e G g h =
       let v = full_value e G g h in
       (converted_has P f k (tree e G) v.0, subst (λ n. n ≤ 16) (sym (converted_need k (tree e G))) v.1)
 
+  -- a full expression that tells whether to go on
   full_test : (e : Expr) (G : Scope) → Known P f G → full e Value G ≡ None → IsTest P f (tree e G)
   full_test e G k h =
       let v = full_value e G k h in record { kind = v.0.kind; value = (plain_has P f (tree e G) v.0, v.1) }
 
+  -- a full expression whose value is not wanted
   full_effect : (e : Expr) (G : Scope) → Known P f G → full e Free G ≡ None → IsEffect P f (tree e G)
   full_effect e G k h =
       let s = split _ _ h in let d = complete e G Free s.0 in
@@ -115,17 +125,21 @@ module _ (P : TypedProgram) (f : TypedFunc) where
       → ((b : Bool) (v : State) → Fine P f v → fault b v ≡ None → Q b (t v)) → Moves P f Q (λ v. v) fault t
   asks Q fault t h = record { ahead = still P f; runs = λ b v i w e. (i, h b v i e) }
 
+  -- a test, as a part
   test_part : (e : Expr) → Moves P f (λ b. IsTest P f) (λ v. v) (λ b v. full e Value v.names) (λ v. tree e v.names)
   test_part e = asks _ _ _ (λ b v i h. full_test e v.names i.names h)
 
+  -- a test that may be left out
   test_if : (e : Option Expr)
       → Moves P f (λ b. IsTestIf P f) (λ v. v) (λ b v. full_if e Value v.names) (λ v. tree_if e v.names)
   test_if None = asks _ _ _ (λ b v i h. tt)
   test_if (Some e) = asks _ _ _ (λ b v i h. full_test e v.names i.names h)
 
+  -- an expression without a value, as a part
   effect_part : (e : Expr) → Moves P f (λ b. IsEffect P f) (λ v. v) (λ b v. full e Free v.names) (λ v. tree e v.names)
   effect_part e = asks _ _ _ (λ b v i h. full_effect e v.names i.names h)
 
+  -- one that may be left out
   effect_if : (e : Option Expr)
       → Moves P f (λ b. IsEffectIf P f) (λ v. v) (λ b v. full_if e Free v.names) (λ v. tree_if e v.names)
   effect_if None = asks _ _ _ (λ b v i h. tt)
@@ -133,27 +147,35 @@ module _ (P : TypedProgram) (f : TypedFunc) where
 
   -- STATEMENTS
 
+  -- the tree of a statement is well formed
   abbrev pub Run : Bool → TypedStmt → Type 0
   Run b s = Runs P f b (out-TypedStmt s)
 
+  -- the tree of the first part of a `for` is
   abbrev pub Begin : Bool → TypedForInit → Type 0
   Begin b s = Begins P f b (out-TypedForInit s)
 
+  -- a statement keeps what holds, and its tree is well formed
   abbrev pub Sound : Part → Type 0
   Sound p = Moves P f Run p.after p.fault p.tree
 
+  -- the same of the first part of a `for`
   abbrev pub SoundFirst : Beginning → Type 0
   SoundFirst p = Moves P f Begin p.after p.fault p.tree
 
+  -- the same of several statements
   abbrev pub SoundAll : List Part → Type 0
   SoundAll ps = Moves P f (RunsAll P f) (all_after ps) (all_fault ps) (all_trees ps)
 
+  -- the same of an `else`, if there is one
   abbrev pub SoundElse : Option Part → Type 0
   SoundElse p = Moves P f (RunsElse P f) (else_after p) (else_fault p) (else_tree p)
 
+  -- a node that is well formed makes a statement that is
   pub run : (b : Bool) (s : TypedStmt) (x : Level) → roll-TypedStmt x ≡ s → Runs P f b x → Run b s
   run b s x e r = subst (Runs P f b) (sym (opened s x e)) r
 
+  -- the same of the first part of a `for`
   begin : (b : Bool) (s : TypedForInit) (x : rule.Beginning) → roll-TypedForInit x ≡ s → Begins P f b x → Begin b s
   begin b s x e r = subst (Begins P f b) (sym (ap out-TypedForInit (sym e) ∙ out-roll-TypedForInit x)) r
 
@@ -161,21 +183,26 @@ module _ (P : TypedProgram) (f : TypedFunc) where
   abbrev Node : Type 0
   Node = StmtNode-F Beginning (ℕ → Part) Part
 
+  -- an expression statement
   pub on_plain : (e : Option Expr) (l : ℕ) → Sound (node_part (StmtNode-F.Plain e) l)
   on_plain e l = made P f typed.Plain (λ b t r. run b _ _ (typed.rolls-Plain t) (rule.plain r)) (effect_if e)
 
+  -- statements in order
   pub on_all : (ps : List Part) → Each Sound ps → SoundAll ps
   on_all [] h = asks _ _ _ (λ b v i e. rule.end)
   on_all (p ∷ ps) h = made P f (λ t. t.0 ∷ t.1) (λ b t r. rule.next r.0 r.1) (then P f h.0 (on_all ps h.1))
 
+  -- an `else`
   pub on_else : (p : Option Part) → IfSome p Sound → SoundElse p
   on_else None h = asks _ _ _ (λ b v i e. rule.without)
   on_else (Some p) h = made P f Some (λ b t r. rule.with_else r) h
 
+  -- a compound
   pub on_compound : (ps : List Part) (l : ℕ) → SoundAll ps → Sound (node_part (StmtNode-F.Compound ps) l)
   on_compound ps l h =
       made P f typed.Compound (λ b t r. run b _ _ (typed.rolls-Compound t) (rule.compound r)) (scoped P f h)
 
+  -- an `if`
   pub on_if : (test : Expr) (one : Part) (other : Option Part) (l : ℕ) → Sound one → SoundElse other
       → Sound (node_part (StmtNode-F.If test one other) l)
   on_if test one other l h g =
@@ -183,16 +210,19 @@ module _ (P : TypedProgram) (f : TypedFunc) where
       (λ b t r. run b _ _ (typed.rolls-If t.0 t.1.0 t.1.1) (rule.choice r.0 r.1.0 r.1.1))
       (then P f (test_part test) (then P f h g))
 
+  -- a `while`
   pub on_while : (test : Expr) (body : Part) (l : ℕ) → Sound body → Sound (node_part (StmtNode-F.While test body) l)
   on_while test body l h =
       made P f (λ t. typed.While t.0 t.1) (λ b t r. run b _ _ (typed.rolls-While t.0 t.1) (rule.while_loop r.0 r.1))
       (then P f (test_part test) (looped P f h))
 
+  -- a `do`
   pub on_do : (body : Part) (test : Expr) (l : ℕ) → Sound body → Sound (node_part (StmtNode-F.Do body test) l)
   on_do body test l h =
       made P f (λ t. typed.Do t.0 t.1) (λ b t r. run b _ _ (typed.rolls-Do t.0 t.1) (rule.do_loop r.0 r.1))
       (then P f (looped P f h) (test_part test))
 
+  -- a `for`
   pub on_for : (init : Beginning) (test post : Option Expr) (body : Part) (l : ℕ) → SoundFirst init → Sound body
       → Sound (node_part (StmtNode-F.For init test post body) l)
   on_for init test post body l h g =
@@ -200,15 +230,18 @@ module _ (P : TypedProgram) (f : TypedFunc) where
       (λ b t r. run b _ _ (typed.rolls-For t.0 t.1.0 t.1.1.0 t.1.1.1) (rule.for_loop r.0 r.1.0 r.1.1.0 r.1.1.1))
       (scoped P f (then P f h (then P f (test_if test) (then P f (effect_if post) (looped P f g)))))
 
+  -- a `break`
   pub on_break : (l : ℕ) → Sound (node_part StmtNode-F.Break l)
   on_break l = asks _ _ _ (λ b v i h. subst (λ b. Run b typed.Break) (sym (held _ _ h))
       (run true _ _ typed.rolls-Break rule.breaks))
 
+  -- a `continue`
   pub on_continue : (l : ℕ) → Sound (node_part StmtNode-F.Continue l)
   on_continue l = asks _ _ _
       (λ b v i h. subst (λ b. Run b typed.Continue) (sym (held _ _ h))
       (run true _ _ typed.rolls-Continue rule.continues))
 
+  -- a value is returned exactly where the function gives one
   return_fits : (r : Option Kind) (e : Option Expr) (G : Scope) (l : ℕ) → Known P f G → full_if e Value G ≡ None
       → return_fault r e l ≡ None → IsReturn P f r (return_tree r e G)
   return_fits None None G l k h e = tt
@@ -216,6 +249,7 @@ module _ (P : TypedProgram) (f : TypedFunc) where
   return_fits (Some j) None G l k h e = absurd (cc)
   return_fits (Some j) (Some x) G l k h e = full_converted j x G k h
 
+  -- a `return`
   pub on_return : (e : Option Expr) (l : ℕ) → Sound (node_part (StmtNode-F.Return e) l)
   on_return e l =
       asks _ _ _ (λ b v i h. let s = split _ _ h in
@@ -225,10 +259,12 @@ module _ (P : TypedProgram) (f : TypedFunc) where
 
   -- DECLARATIONS
 
+  -- a name that is in the program is declared
   pub known_in : (b : Binding) (G : Scope) → Exists P f b.meaning → Known P f G → Known P f (declared_in b G)
   known_in b [] x k = ((x, tt), tt)
   known_in b (F ∷ G) x k = ((x, k.0), k.1)
 
+  -- a local scalar is one slot more
   pub scalar_ahead : (k : Kind) (w : List ℕ) (v : State) → Ahead P f v (with_scalar k w v)
   scalar_ahead k w v = record {
     scalars = slot.Scalar k ∷ [];
@@ -240,6 +276,7 @@ module _ (P : TypedProgram) (f : TypedFunc) where
     outer = λ F F' G e. outer_in _ v.names F F' G e;
   }
 
+  -- a local array is one array more
   array_ahead : (k : Kind) (w : List ℕ) (n : ℕ) (v : State) → Ahead P f v (with_array k w n v)
   array_ahead k w n v = record {
     scalars = [];
@@ -251,23 +288,28 @@ module _ (P : TypedProgram) (f : TypedFunc) where
     outer = λ F F' G e. outer_in _ v.names F F' G e;
   }
 
+  -- the slot of a local scalar
   scalar_is : (k : Kind) (w : List ℕ) (v : State) → Within P f (with_scalar k w v)
       → slice_get f.scalars (length v.scalars) ≡ Some (slot.Scalar k)
   scalar_is k w v i = ap (λ ss. slice_get ss (length v.scalars)) i.are ∙ at_end v.scalars (slot.Scalar k) i.scalars
 
+  -- the array of a local array
   array_is : (k : Kind) (w : List ℕ) (n : ℕ) (v : State) → Within P f (with_array k w n v)
       → slice_get f.arrays (length v.arrays) ≡ Some (record { kind = k; length = n })
   array_is k w n v i = ap (λ ss. slice_get ss (length v.arrays)) i.and
       ∙ at_end v.arrays (record { kind = k; length = n }) i.arrays
 
+  -- an initialiser is converted to the type of its scalar
   init_fits : (k : Kind) (init : Option Expr) (G : Scope) → Known P f G → full_if init Value G ≡ None
       → IsValueIf P f k (value_of init k G)
   init_fits k None G g h = tt
   init_fits k (Some e) G g h = full_converted k e G g h
 
+  -- one more than fewer than 64
   one_more : (ss : List Slot) (s : Slot) → length ss < 64 → length (ss ++ s ∷ []) ≤ 64
   one_more ss s h = omega (arith, h, length-append ss (s ∷ []))
 
+  -- the declaration of a local scalar
   scalar_runs : (k : Kind) (w : List ℕ) (init : Option Expr) (l : ℕ) (b : Bool) (v : State) → Fine P f v
       → Within P f (with_scalar k w v)
       → scalar_init_fault k w init l v ≡ None → Fine P f (with_scalar k w v)
@@ -282,6 +324,7 @@ module _ (P : TypedProgram) (f : TypedFunc) where
         run b _ _ (typed.rolls-Declare _ _) (rule.scalar is (init_fits k init (with_scalar k w v).names known s.1)),
       )
 
+  -- the declaration of a local array
   array_runs : (e : Expr) (k : Kind) (w : List ℕ) (init : Option Expr) (l : ℕ) (b : Bool) (v : State) → Fine P f v
       → Within P f (with_array k w (word_in (length_of e)) v)
       → sized_fault e k w init l v.names ≡ None → Fine P f (with_array k w (word_in (length_of e)) v)
@@ -303,6 +346,7 @@ module _ (P : TypedProgram) (f : TypedFunc) where
         run b _ _ (typed.rolls-Declare _ _) (rule.array is),
       )
 
+  -- a declaration
   pub on_declare : (k : Kind) (w : List ℕ) (size : ArraySize) (init : Option Expr) (l : ℕ)
       → Sound (node_part (StmtNode-F.Declare k w size init) l)
   on_declare k w size.Scalar init l = record { ahead = scalar_ahead k w; runs = scalar_runs k w init l }
@@ -312,12 +356,15 @@ module _ (P : TypedProgram) (f : TypedFunc) where
 
   -- FIRST PARTS
 
+  -- no first part
   pub on_nothing : SoundFirst (init_part ForInit-F.Nothing)
   on_nothing = asks _ _ _ (λ b v i h. begin b _ _ typed_init.rolls-Nothing rule.nothing)
 
+  -- an expression
   pub on_first : (e : Expr) → SoundFirst (init_part (ForInit-F.First e))
   on_first e = made P f typed_init.First (λ b t r. begin b _ _ (typed_init.rolls-First t) (rule.first r))
       (effect_part e)
 
+  -- declarations
   pub on_locals : (ps : List Part) → SoundAll ps → SoundFirst (init_part (ForInit-F.Locals ps))
   on_locals ps h = made P f typed_init.Locals (λ b t r. begin b _ _ (typed_init.rolls-Locals t) (rule.locals r)) h

@@ -30,9 +30,11 @@ use Rattle.c_well_typed.specs.WellFormed.{GlobalFits, FunctionFits, WellFormed}
 use Rattle.c_well_typed.proofs.Moves.{some_is}
 use Rattle.c_well_typed.proofs.TypedNeeds.{by}
 
+-- an expression of a type
 abbrev of : Kind → Node → TypedExpr
 of k n = record { kind = Some k; node = roll-TypedNode n }
 
+-- a statement of its node
 abbrev statement : Level → TypedStmt
 statement s = roll-TypedStmt s
 
@@ -50,6 +52,7 @@ function all = record {
 abbrev three_ints : TypedGlobal
 three_ints = record { kind = Int; length = Some 3; init = [] }
 
+-- a program with one global
 abbrev program : List TypedStmt → TypedProgram
 program all = record { globals = three_ints ∷ []; functions = function all ∷ []; main = 0 }
 
@@ -63,12 +66,15 @@ module _ (P : TypedProgram) (f : TypedFunc) where
   given : (k : Kind) (n : Node) → Gives P f (Some k) n → Has P f k (of k n)
   given k n g = rule.itself refl (subst (Gives P f (Some k)) (sym (out-roll-TypedNode n)) g)
 
+  -- a number has any type that it is given
   number : (k : Kind) (w : ℕ) → Has P f k (of k (Number w))
   number k w = given k (Number w) rule.number
 
+  -- a statement as it is built
   ran : (b : Bool) (s : Level) → Runs P f b s → Runs P f b (out-TypedStmt (statement s))
   ran b s r = subst (Runs P f b) (sym (out-roll-TypedStmt s)) r
 
+  -- a number needs one temporary
   one_need : (k : Kind) (w : ℕ) → FitsNeed (of k (Number w))
   one_need k w = subst (λ (n : Needs). n.need ≤ 16) (sym (by (Some k) _ (Number w) refl)) (omega arith)
 
@@ -87,6 +93,7 @@ module _ (P : TypedProgram) (f : TypedFunc) where
   shift : Gives P f (Some Int) (Binary ShiftLeft (of Int (Number 1)) (of Long (Number 2)))
   shift = rule.binary (number Int 1) (number Long 2) refl refl refl
 
+  -- no type has char in common with a char
   not_char : (k : Kind) → common Char k ≡ Char → ⊥
   not_char Char h = absurd (cc)
   not_char UChar h = absurd (cc)
@@ -148,9 +155,11 @@ module _ (P : TypedProgram) (f : TypedFunc) where
   loop : Runs P f false (While (of Int (Number 1)) (statement Break))
   loop = run.while_loop (record { kind = Int; value = (number Int 1, one_need Int 1) }) (ran true Break run.breaks)
 
+  -- a `break` in no loop
   lonely_break : Runs P f false Break → ⊥
   lonely_break r = elim r [ ]
 
+  -- a `continue` in no loop
   lonely_continue : Runs P f false Continue → ⊥
   lonely_continue r = elim r [ ]
 
@@ -168,9 +177,11 @@ module _ (P : TypedProgram) (f : TypedFunc) where
 abbrev seven : TypedProgram
 seven = program (statement (Return (Some (of Int (Number 7)))) ∷ [])
 
+-- its only function
 abbrev main : TypedFunc
 main = function (statement (Return (Some (of Int (Number 7)))) ∷ [])
 
+-- it is well formed
 seven_is : WellFormed seven
 seven_is = record {
   globals = (record { some = omega arith; holds = omega arith; words = tt }, tt);

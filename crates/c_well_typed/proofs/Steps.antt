@@ -1,42 +1,18 @@
 -- What holds at file scope, and what an item of a translation unit comes to.
-use Rattle.std.proofs.Common.{◌≡◌, ℕ, suc, ◌+◌, ◌*◌, ◌≤◌, Bool, true, false, cond, List, [], ◌∷◌, ◌++◌, map, length}
-use Rattle.std.proofs.Common.{Option, Some, None, inl, inr, refl, sym, ap, ◌∙◌, subst, arith, append-nil, length-append}
-use Rattle.std.specs.Prelude.{slice_get, option_map, is_some}
+use Rattle.std.proofs.Common.{◌≡◌, ℕ, ◌≤◌, cond, List, [], ◌∷◌, ◌++◌, length}
+use Rattle.std.proofs.Common.{Some, refl, sym, ap, ◌∙◌, append-nil}
+use Rattle.std.specs.Prelude.{slice_get}
 use Rattle.std.specs.Cmp.Lexicographic.{bytes_decides}
-use Rattle.std.proofs.lemmas.Bool.{false≢true, leb-true, ltb-true}
-use Rattle.c_tree.specs.declared.token.Kind.{Kind}
-use Rattle.c_tree.specs.declared.token.Kind.TheVariants.{Int}
-use Rattle.c_tree.specs.declared.tree.ArraySize.{ArraySize}
-use Rattle.c_tree.specs.declared.tree.ArraySize.TheVariants as size
-use Rattle.c_tree.specs.declared.tree.Expr.{Expr}
-use Rattle.c_tree.specs.declared.tree.Param.{Param}
-use Rattle.c_tree.specs.declared.tree.Stmt.{Stmt}
-use Rattle.c_tree.specs.declared.typed.Callee.{Callee}
-use Rattle.c_tree.specs.declared.typed.Callee.TheVariants as callee
-use Rattle.c_tree.specs.declared.typed.Slot.{Slot}
 use Rattle.c_tree.specs.declared.typed.TypedFunc.{TypedFunc}
 use Rattle.c_tree.specs.declared.typed.TypedGlobal.{TypedGlobal}
 use Rattle.c_tree.specs.declared.typed.TypedProgram.{TypedProgram}
-use Rattle.c_scope.specs.declared.meaning.Binding.{Binding}
 use Rattle.c_scope.specs.declared.meaning.Meaning.{Meaning}
-use Rattle.c_scope.specs.declared.meaning.Meaning.TheVariants as meaning
 use Rattle.c_scope.specs.Scope.{Scope, Frame, look_up, declared_in, bound}
-use Rattle.c_type_expr.specs.Constants.{constant_at}
 use Rattle.c_type.specs.declared.file_scope.FileScope.{FileScope}
-use Rattle.c_type.specs.Declarations.{bytes, is_end}
-use Rattle.c_type.specs.Units.{eof_name, getchar_name, putchar_name, int_slots, get_char, put_char, type_fault}
-use Rattle.c_type.specs.Units.{include_clash, include_fault, included, with_include, global_meaning, count_of}
-use Rattle.c_type.specs.Units.{length_in, typed_global, with_global, count_fault, global_fault}
-use Rattle.c_type.specs.Functions.{slot_of, callee_in, signature, with_function, definition_fault, with_definition}
-use Rattle.c_type.specs.Programs.{with_prototype_at, prototype_fault}
-use Rattle.c_well_typed.specs.Objects as object
-use Rattle.c_well_typed.specs.WellFormed.{Each, IsWord, GlobalFits, FunctionFits, global_bytes, all_bytes}
-use Rattle.c_well_typed.specs.WellFormed as fits
-use Rattle.c_well_typed.proofs.Moves.{split, held, Known}
-use Rattle.c_well_typed.proofs.Parts.{each_last, size_some}
-use Rattle.c_well_typed.proofs.Definitions.{the, file_stays, its_signature, its_fitness}
-use Rattle.c_well_typed.proofs.Frames.{Agrees, declared_look, fresh_agrees, type_agrees}
-use Rattle.c_well_typed.proofs.Files.{More, Met, Names, Bound, reads, writes, declare, still_ends, note}
+use Rattle.c_well_typed.specs.WellFormed.{Each, GlobalFits, FunctionFits, all_bytes}
+use Rattle.c_well_typed.proofs.Moves.{Known}
+use Rattle.c_well_typed.proofs.Frames.{declared_look}
+use Rattle.c_well_typed.proofs.Files.{More, Names}
 
 -- what stands last
 pub at_last : {A : Type 0} (xs : List A) (x : A) → slice_get (xs ++ x ∷ []) (length xs) ≡ Some x
@@ -48,9 +24,11 @@ pub found : (w : List ℕ) (m : Meaning) (G : Scope) → look_up (declared_in (b
 found w m G = declared_look (bound w m) G w ∙ ap (λ t. cond t (Some m) (look_up G w)) ((bytes_decides w w).1 refl)
 
 module _ (T : Scope) (m : ℕ) where
+  -- the program so far
   abbrev pub program : List TypedGlobal → List TypedFunc → TypedProgram
   program gs fs = record { globals = gs; functions = fs; main = m }
 
+  -- the file scope of one block
   abbrev pub file : Frame → List TypedGlobal → ℕ → List TypedFunc → FileScope
   file F gs b fs = record { names = F ∷ []; globals = gs; bytes = b; functions = fs }
 
@@ -79,6 +57,7 @@ module _ (T : Scope) (m : ℕ) where
   pub same_program : (gs : List TypedGlobal) (fs : List TypedFunc) → More (program gs fs) (program gs fs)
   same_program gs fs = record { globals = []; functions = []; are = sym (append-nil gs); and = sym (append-nil fs) }
 
+  -- an item that declares nothing
   pub nothing_new : (N : Scope) (n : ℕ) (F : Frame) (gs : List TypedGlobal) (b : ℕ) (fs : List TypedFunc)
       → Holds N n F gs b fs → Step N n F fs (file F gs b fs)
   nothing_new N n F gs b fs i = record {

@@ -31,6 +31,7 @@ by k n x e =
     ∙ ap (λ (m : TypedNode). fold-TypedNode Needs Needs node_needs of_needs m) (sym e)
     ∙ fold-roll-TypedNode Needs Needs node_needs of_needs x
 
+-- the need of a typed expression
 abbrev typed_need : TypedExpr → ℕ
 typed_need t = (typed_needs t).need
 
@@ -102,6 +103,7 @@ module _ (G : Scope) where
         ∙ ap (λ (n : Needs). plain (max n.need (typed_need t))) (same_needs _ x s d)
         ∙ ap (λ (n : Needs). plain (max (need x) n.need)) (same_needs _ y t d') ∙ sym (needs-Comma _ x y refl)
 
+    -- the needs of a call
     passed_need : (slots : List Slot) (es : List Expr) (ts : List TypedExpr) → Passed G slots es ts
         → call_need (map typed_needs ts) ≡ call_need (map needs es)
     passed_need _ _ _ none = refl
@@ -111,6 +113,7 @@ module _ (G : Scope) where
     passed_need _ _ _ (address {k = k} {e = e} {t = t} {slots = slots} {es = es} {ts = ts} d ds) =
         args_next 0 _ _ _ _ (ap (λ (n : Needs). n.need) (same_needs _ e t d)) (args_same 1 slots es ts ds)
 
+    -- the needs of its arguments from one on
     args_same : (i : ℕ) (slots : List Slot) (es : List Expr) (ts : List TypedExpr) → Passed G slots es ts
         → args_need i (map typed_needs ts) ≡ args_need i (map needs es)
     args_same i _ _ _ none = refl

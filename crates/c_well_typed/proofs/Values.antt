@@ -37,6 +37,7 @@ Exists P f (meaning.Function result slots None d) = Unit {0}
 Exists P f (meaning.Function result slots (Some c) d) = signature_of P c ≡ Some (signature result slots)
 Exists P f meaning.EndOfFile = Unit {0}
 
+-- so for all names in scope
 abbrev pub Knows : TypedProgram → TypedFunc → Scope → Type 0
 Knows P f G = (w : List ℕ) (m : Meaning) → look_up G w ≡ Some m → Exists P f m
 
@@ -76,6 +77,7 @@ module _ (P : TypedProgram) (f : TypedFunc) where
       → Gives P f r (out-TypedNode n)
   closed r n x e g = subst (Gives P f r) (sym (opened n x e)) g
 
+  -- a value that is no object fits where a value may stand
   value_fits : (r : Role) (k : Kind) (n : TypedNode) → takes_value r ≡ true → Gives P f (Some k) (out-TypedNode n)
       → Fits r (a (Some k) n)
   value_fits Value k n h g = record { kind = k; is = refl; gives = g }
@@ -84,6 +86,7 @@ module _ (P : TypedProgram) (f : TypedFunc) where
   value_fits (Array j) k n h g = absurd (false≢true h)
   value_fits Surplus k n h g = tt
 
+  -- the name of a scalar
   scalar_fits : (r : Role) (k : Kind) (p : Place) → takes_element r ≡ true → scalar_at P f p ≡ Some k
       → Fits r (a (Some k) (typed.Name p))
   scalar_fits Value k p h s = record { kind = k; is = refl; gives = closed _ _ _ (typed.rolls-Name p) (rule.scalar s) }
@@ -92,6 +95,7 @@ module _ (P : TypedProgram) (f : TypedFunc) where
   scalar_fits (Array j) k p h s = absurd (false≢true h)
   scalar_fits Surplus k p h s = tt
 
+  -- the name of an array
   array_fits : (r : Role) (k : Kind) (p : Place) → takes_array k r ≡ true → array_at P f p ≡ Some k
       → Fits r (a (Some k) (typed.Name p))
   array_fits Value k p h s = absurd (false≢true h)
@@ -102,6 +106,7 @@ module _ (P : TypedProgram) (f : TypedFunc) where
       record { place = p; is = ap Some e; node = opened _ _ (typed.rolls-Name p); array = s ∙ ap Some e }
   array_fits Surplus k p h s = tt
 
+  -- an element
   element_fits : (r : Role) (k j : Kind) (p : Place) (i : TypedExpr) → takes_element r ≡ true → array_at P f p ≡ Some k
       → Has P f j i → Fits r (a (Some k) (typed.Element p i))
   element_fits Value k j p i h s g =
@@ -112,6 +117,7 @@ module _ (P : TypedProgram) (f : TypedFunc) where
   element_fits (Array l) k j p i h s g = absurd (false≢true h)
   element_fits Surplus k j p i h s g = tt
 
+  -- a call without a value
   void_fits : (r : Role) (n : TypedNode) → takes_result None r ≡ true → Gives P f None (out-TypedNode n)
       → Fits r (a None n)
   void_fits Value n h g = absurd (false≢true h)
@@ -120,14 +126,17 @@ module _ (P : TypedProgram) (f : TypedFunc) where
   void_fits (Array j) n h g = absurd (false≢true h)
   void_fits Surplus n h g = absurd (false≢true h)
 
+  -- a call
   call_fits : (r : Role) (result : Option Kind) (n : TypedNode) → takes_result result r ≡ true
       → Gives P f result (out-TypedNode n) → Fits r (a result n)
   call_fits r None n h g = void_fits r n h g
   call_fits r (Some k) n h g = value_fits r k n h g
 
+  -- a value that no conversion gives has its type
   pub plain_has : (t : TypedExpr) (p : Plain t) → Has P f p.kind t
   plain_has t p = itself p.is p.gives
 
+  -- a converted value has the type to which it is converted
   pub converted_has : (k : Kind) (t : TypedExpr) (p : Plain t) → Has P f k (converted k t)
   converted_has k t p = by (same_kind (kind_of t) k) refl
     where
@@ -144,6 +153,7 @@ module _ (P : TypedProgram) (f : TypedFunc) where
   object : (t : TypedExpr) → Writes t → IsObject P f (kind_of t) t
   object t w = subst (λ k. IsObject P f k t) (sym (ap kind_in w.is)) w.object
 
+  -- a comma has the type of its right side
   sequence : (r : Role) (s t : TypedExpr) → takes_value r ≡ true → Gives P f s.kind (node_of s) → Plain t
       → Fits r (comma s t)
   sequence r s t h g p =

@@ -39,6 +39,7 @@ use Rattle.c_well_typed.proofs.Includes.{on_include}
 
 -- LISTS
 
+-- what is known of all bindings is known of the older ones
 known_rest : (P : TypedProgram) (f : TypedFunc) (added F : Frame) → KnownFrame P f (added ++ F) → KnownFrame P f F
 known_rest P f [] F k = k
 known_rest P f (b ∷ added) F k = known_rest P f added F k.1
@@ -58,6 +59,7 @@ none_taken (suc n) (x ∷ xs) l e = absurd (cc)
 module _ (T : Scope) (m : ℕ) where
   -- DEFINITIONS NOTED
 
+  -- what is noted stays noted where a name is added
   declared_keeps : (x : Binding) (c : Callee) (N : Scope) (w : List ℕ) → callee_in (Some x.meaning) ≡ Some c
       → Has T m N w → Has T m (declared_in x N) w
   declared_keeps x c N w e h = by (same_name x.name w) refl
@@ -74,12 +76,14 @@ module _ (T : Scope) (m : ℕ) where
             ∙ ap (λ t. callee_in (cond t (Some x.meaning) (look_up N w))) s ∙ h.1,
       )
 
+  -- the same where an item is noted
   noted_keeps : (t : TopNode) (n : ℕ) (N : Scope) (w : List ℕ) → Has T m N w → Has T m (noted t n N) w
   noted_keeps Include n N w h = declared_keeps _ callee.PutChar _ w refl (declared_keeps _ callee.GetChar N w refl h)
   noted_keeps (Global k v size init) n N w h = h
   noted_keeps (Func given v params None) n N w h = h
   noted_keeps (Func given v params (Some body)) n N w h = declared_keeps _ (callee.Func n) N w refl h
 
+  -- the same where all items are
   definitions_keep : (ts : List Top) (n : ℕ) (N : Scope) (w : List ℕ) → Has T m N w → Has T m (definitions ts n N) w
   definitions_keep [] n N w h = h
   definitions_keep (t ∷ ts) n N w h =
@@ -87,6 +91,7 @@ module _ (T : Scope) (m : ℕ) where
 
   -- ITEMS
 
+  -- an item that has no fault
   one_item : (t : TopNode) (l : ℕ) (N : Scope) (n : ℕ) (F : Frame) (gs : List TypedGlobal) (b : ℕ) (fs : List TypedFunc)
       → Holds T m N n F gs b fs
       → ((w : List ℕ) → Has T m (noted t n N) w → Has T m T w) → node_fault T t l (file T m F gs b fs) ≡ None
@@ -102,6 +107,11 @@ module _ (T : Scope) (m : ℕ) where
     count : ℕ
     step : Step T m T count F fs U
 
+  -- what follows an item follows the file scope that it comes to
+  joined : (ts : List Top) {U V W : FileScope} → U ≡ V → items_after T ts V ≡ W → items_after T ts U ≡ W
+  joined ts e h = ap (items_after T ts) e ∙ h
+
+  -- items without a fault, one after another
   run : (ts : List Top) (N : Scope) (n : ℕ) (F : Frame) (gs : List TypedGlobal) (b : ℕ) (fs : List TypedFunc)
       → Holds T m N n F gs b fs
       → definitions ts n N ≡ T → items_fault T ts (file T m F gs b fs) ≡ None
@@ -123,7 +133,7 @@ module _ (T : Scope) (m : ℕ) where
           globals = q.globals;
           bytes = q.bytes;
           functions = q.functions;
-          after = ap (items_after T ts) o.after ∙ q.after;
+          after = joined ts o.after q.after;
           holds = q.holds;
           added = q.added ++ o.added;
           are = q.are ∙ ap (λ F. q.added ++ F) o.are ∙ sym (append_assoc q.added o.added F);
@@ -137,6 +147,7 @@ module _ (T : Scope) (m : ℕ) where
 
   -- MAIN
 
+  -- a function of type int(void) is main
   main_at : (P : TypedProgram) (r : Option Kind) (s : List Slot) (o : Option TypedFunc) → slice_get P.functions P.main
       ≡ o → option_map of_function o ≡ Some (signature r s)
       → r ≡ Some Int → s ≡ [] → Each (FunctionFits P) P.functions → IsMain P
@@ -151,18 +162,22 @@ module _ (T : Scope) (m : ℕ) where
             (ap (λ (x : Signature). x.params) is ∙ se);
       }
 
+  -- another name is not that of main
   not_main : (w : List ℕ) → same_name w main_name ≡ false → w ≡ main_name → ⊥
   not_main w h e = false≢true (sym h ∙ (bytes_decides w main_name).1 e)
 
+  -- no function of `<stdio.h>` is main
   not_built_in : (w : List ℕ) (r : Option Kind) (s : List Slot) (c : Option Callee) → BuiltIn w r s c → w ≡ main_name
       → ⊥
   not_built_in _ _ _ _ reads e = not_main getchar_name refl e
   not_built_in _ _ _ _ writes e = not_main putchar_name refl e
 
+  -- the result is int
   int_is : (r : Option Kind) → is_int r ≡ true → r ≡ Some Int
   int_is None h = absurd (false≢true h)
   int_is (Some k) h = ap Some (same k Int h)
 
+  -- there are no parameters
   slots_are : (s : List Slot) → no_slots s ≡ true → s ≡ []
   slots_are [] h = refl
   slots_are (x ∷ s) h = absurd (false≢true h)
@@ -178,6 +193,7 @@ module _ (T : Scope) (m : ℕ) where
   called F gs fs r s callee.GetChar e nm h ri se fit = absurd (not_main getchar_name refl nm)
   called F gs fs r s callee.PutChar e nm h ri se fit = absurd (not_main putchar_name refl nm)
 
+  -- the function that is found by the name of main
   main_fits : (F : Frame) (gs : List TypedGlobal) (fs : List TypedFunc) → Names T (program T m gs fs) T F
       → Each (FunctionFits (program T m gs fs)) fs
       → (o : Option Meaning) → look_up (F ∷ []) main_name ≡ o → is_main o ≡ true → m ≡ number_in (callee_in o)
@@ -199,6 +215,7 @@ module _ (T : Scope) (m : ℕ) where
       (subst (λ c. Bound T P (F ∷ []) main_name (meaning.Function r s c d)) x.1 b) in
       called F gs fs r s x.0 (q ∙ ap number_in x.1) named there (int_is r u.0) (slots_are s u.1) fit
 
+  -- at the start nothing is declared
   start : Holds T m ([] ∷ []) 0 [] [] 0 []
   start = record {
     names = record { bound = tt; met = λ w c h. absurd (cc); ends = λ h. absurd (false≢true h) };
