@@ -25,8 +25,12 @@ use Rattle.c_constant.specs.Need.{need_fits}
 use Rattle.c_scope.specs.declared.meaning.Meaning.{Meaning}
 use Rattle.c_scope.specs.declared.meaning.Meaning.TheVariants as meaning
 use Rattle.c_scope.specs.Scope.{Scope, look_up}
+use Rattle.c_type_expr.specs.declared.fault.TypeFault.{TypeFault}
 use Rattle.c_type_expr.specs.declared.fault.TypeFault.TheVariants.{Twice}
+use Rattle.c_type_expr.specs.declared.fault.TypeFault.TheVariants as fault
 use Rattle.c_type_expr.specs.Constants.{not_fixed, length_of, word_in, constant_at}
+use Rattle.c_type_expr.specs.Roles.{Blame}
+use Rattle.c_type_expr.specs.Says.{Stops}
 use Rattle.c_type.specs.declared.file_scope.FileScope.{FileScope}
 use Rattle.c_type.specs.declared.state.State.{State}
 use Rattle.c_type.specs.States.{at}
@@ -196,3 +200,21 @@ main_is (Some (meaning.Function r ps c d)) h =
 pub accepts_typed : (p : Program) → program_fault p ≡ None → Accepts p (program_tree p)
 accepts_typed p h =
     let q = split _ _ h in accepts (items_typed (table p.items) empty_file p.items q.0) (main_is _ (held _ _ q.1))
+
+no_stop : (e : TypeFault) → None ≡ Some e → false ≡ true
+no_stop e h = ap is_some h
+
+-- where nothing fails, no error stops but want of memory
+pub stops_by_memory : (f : Blame) (e : TypeFault) → f ≡ None → Stops f e → e ≡ fault.Memory
+stops_by_memory f fault.Memory h s = refl
+stops_by_memory f (fault.Unknown l) h s = absurd (false≢true (no_stop (fault.Unknown l) (sym h ∙ s)))
+stops_by_memory f (fault.Twice l) h s = absurd (false≢true (no_stop (fault.Twice l) (sym h ∙ s)))
+stops_by_memory f (fault.Mismatch l) h s = absurd (false≢true (no_stop (fault.Mismatch l) (sym h ∙ s)))
+stops_by_memory f (fault.Arity l) h s = absurd (false≢true (no_stop (fault.Arity l) (sym h ∙ s)))
+stops_by_memory f fault.NoMain h s = absurd (false≢true (no_stop fault.NoMain (sym h ∙ s)))
+stops_by_memory f (fault.TooManyScalars l) h s =
+    absurd (false≢true (no_stop (fault.TooManyScalars l) (sym h ∙ s)))
+stops_by_memory f (fault.TooManyParams l) h s =
+    absurd (false≢true (no_stop (fault.TooManyParams l) (sym h ∙ s)))
+stops_by_memory f (fault.Need l) h s = absurd (false≢true (no_stop (fault.Need l) (sym h ∙ s)))
+stops_by_memory f (fault.TooLarge l) h s = absurd (false≢true (no_stop (fault.TooLarge l) (sym h ∙ s)))

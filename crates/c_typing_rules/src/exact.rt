@@ -1,10 +1,13 @@
 //! The typing relation and the definitions that the code answers by.
 
-ghost use Rattle.std.specs.Prelude.{◌≡◌, ◌↔◌, Bool, None};
+ghost use Rattle.std.specs.Prelude.{◌≡◌, ◌↔◌, Bool, None, Ok, Err};
 ghost use Rattle.c_tree.specs.declared.tree.Stmt.{Stmt};
 ghost use Rattle.c_tree.specs.declared.tree.Program.{Program};
 ghost use Rattle.c_tree.specs.declared.typed.TypedStmt.{TypedStmt};
 ghost use Rattle.c_tree.specs.declared.typed.TypedProgram.{TypedProgram};
+ghost use Rattle.c_type_expr.specs.declared.fault.TypeFault.{TypeFault};
+ghost use Rattle.c_type_expr.specs.declared.fault.TypeFault.TheVariants.{Memory};
+ghost use Rattle.c_type_expr.specs.Says.{Says};
 ghost use Rattle.c_type.specs.declared.state.State.{State};
 ghost use Rattle.c_type.specs.Statements.{part};
 ghost use Rattle.c_type.specs.Programs.{program_fault, program_tree};
@@ -23,4 +26,14 @@ pub fn statements_are_exact()
 pub fn units_are_exact()
     ensures { (p : Program) (t : TypedProgram) → Accepts p t
         ↔ ((program_fault p ≡ None) × (t ≡ program_tree p)) }
+{}
+
+/// What the typing answers to a unit is what the rules say: a typed program that it gives is that
+/// with which they accept the unit, and to a unit that they accept it answers no error but for want
+/// of memory.
+pub fn answers_are_exact()
+    ensures ok { (p : Program) (t : TypedProgram)
+        → Says (program_fault p) (program_tree p) (Ok t) → Accepts p t }
+    ensures err { (p : Program) (t : TypedProgram) (e : TypeFault) → Accepts p t
+        → Says (program_fault p) (program_tree p) (Err e) → e ≡ Memory }
 {}
