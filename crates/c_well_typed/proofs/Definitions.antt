@@ -195,9 +195,11 @@ module _ (P : TypedProgram) (H G : Scope) (given : Option Kind) (params : List P
       let names : Known P the v0.names =
       params_known P the H [] params (started G given) goes.scalars fine slots (tt, k) in
       let count : length v0.scalars ≤ 64 = omega (arith, at_most, ap length begins.scalars, as_long params) in
+      let all : length params ≤ length v0.scalars = omega (arith, ap length begins.scalars, as_long params) in
       let entry : Fine P the v0 = record {
         names = names;
         result = sym goes.result;
+        params = all;
         count = count;
         arrays = subst (Each ArrayFits) (sym begins.arrays) tt;
       } in

@@ -13,3 +13,4 @@ pub mod Callables
 pub mod Includes
 pub mod Whole
 pub mod StandardFacts
+pub mod Uses

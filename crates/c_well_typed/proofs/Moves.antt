@@ -75,6 +75,7 @@ module _ (P : TypedProgram) (f : TypedFunc) where
   pub record Fine (v : State) : Type 0 where
     pub names : Known v.names
     pub result : v.result ≡ f.result
+    pub params : f.params ≤ length v.scalars
     pub count : length v.scalars ≤ 64
     pub arrays : Each ArrayFits v.arrays
 
@@ -173,12 +174,13 @@ module _ (P : TypedProgram) (f : TypedFunc) where
           let within : Within (after (entered v)) =
           record { scalars = w.scalars; arrays = w.arrays; are = w.are; and = w.and } in
           let fine : Fine (entered v) =
-          record { names = (tt, i.names); result = i.result; count = i.count; arrays = i.arrays } in
+          record { names = (tt, i.names); result = i.result; params = i.params; count = i.count; arrays = i.arrays } in
           let r = m.runs b (entered v) fine within e in
           let done : Fine (left (after (entered v))) =
           record {
             names = known_closed (after (entered v)).names r.0.names;
             result = r.0.result;
+            params = r.0.params;
             count = r.0.count;
             arrays = r.0.arrays;
           } in

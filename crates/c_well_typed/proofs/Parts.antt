@@ -305,6 +305,10 @@ module _ (P : TypedProgram) (f : TypedFunc) where
   init_fits k None G g h = tt
   init_fits k (Some e) G g h = full_converted k e G g h
 
+  -- a slot more, where there are enough
+  still_more : (ss : List Slot) (s : Slot) (n : ℕ) → n ≤ length ss → n ≤ length (ss ++ s ∷ [])
+  still_more ss s n h = omega (arith, h, length-append ss (s ∷ []))
+
   -- one more than fewer than 64
   one_more : (ss : List Slot) (s : Slot) → length ss < 64 → length (ss ++ s ∷ []) ≤ 64
   one_more ss s h = omega (arith, h, length-append ss (s ∷ []))
@@ -320,8 +324,15 @@ module _ (P : TypedProgram) (f : TypedFunc) where
       let is = scalar_is k w v within in
       let known = known_in (bound w (meaning.Scalar k (place.Scalar (length v.scalars)))) v.names
       (ap slot_scalar is) i.names in (
-        record { names = known; result = i.result; count = one_more v.scalars (slot.Scalar k) few; arrays = i.arrays },
-        run b _ _ (typed.rolls-Declare _ _) (rule.scalar is (init_fits k init (with_scalar k w v).names known s.1)),
+        record {
+          names = known;
+          result = i.result;
+          params = still_more v.scalars (slot.Scalar k) f.params i.params;
+          count = one_more v.scalars (slot.Scalar k) few;
+          arrays = i.arrays;
+        },
+        run b _ _ (typed.rolls-Declare _ _)
+            (rule.scalar i.params is (init_fits k init (with_scalar k w v).names known s.1)),
       )
 
   -- the declaration of a local array
@@ -340,6 +351,7 @@ module _ (P : TypedProgram) (f : TypedFunc) where
         record {
           names = known;
           result = i.result;
+          params = i.params;
           count = i.count;
           arrays = each_last ArrayFits v.arrays (record { kind = k; length = n }) i.arrays fits;
         },

@@ -16,7 +16,7 @@ use Rattle.c_tree.specs.declared.typed.TypedNode.{roll-TypedNode, out-roll-Typed
 use Rattle.c_tree.specs.declared.typed.TypedNode.TheOpen.{Number, Name, Call, Convert, Binary}
 use Rattle.c_tree.specs.declared.typed.TypedProgram.{TypedProgram}
 use Rattle.c_tree.specs.declared.typed.TypedStmt.{TypedStmt, roll-TypedStmt, out-TypedStmt, out-roll-TypedStmt}
-use Rattle.c_tree.specs.declared.typed.TypedForInit.TheOpen.{Compound, While, Break, Continue, Return}
+use Rattle.c_tree.specs.declared.typed.TypedForInit.TheOpen.{Declare, Compound, While, Break, Continue, Return}
 use Rattle.c_constant.specs.Kinds.{common, same_kind}
 use Rattle.c_constant.specs.Need.{Needs}
 use Rattle.std.specs.Prelude.{option_map, slice_get}
@@ -162,6 +162,10 @@ module _ (P : TypedProgram) (f : TypedFunc) where
   -- a `continue` in no loop
   lonely_continue : Runs P f false Continue → ⊥
   lonely_continue r = elim r [ ]
+
+  -- a parameter is not declared again
+  declared_parameter : (b : Bool) → f.params ≡ 1 → Runs P f b (Declare (place.Scalar 0) None) → ⊥
+  declared_parameter b e (run.scalar h s i) = absurd (omega (arith, e, h))
 
   -- a function that gives a value returns none
   nothing_returned : (b : Bool) (k : Kind) → f.result ≡ Some k → Runs P f b (Return None) → ⊥

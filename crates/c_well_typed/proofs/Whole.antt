@@ -133,7 +133,7 @@ module _ (T : Scope) (m : ℕ) where
           globals = q.globals;
           bytes = q.bytes;
           functions = q.functions;
-          after = joined ts o.after q.after;
+          after = joined ts {W = file T m q.frame q.globals q.bytes q.functions} o.after q.after;
           holds = q.holds;
           added = q.added ++ o.added;
           are = q.are ∙ ap (λ F. q.added ++ F) o.are ∙ sym (append_assoc q.added o.added F);

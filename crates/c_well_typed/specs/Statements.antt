@@ -1,5 +1,5 @@
 -- Typed statements that are well formed (C17 6.8). A rule for each production.
-use Rattle.std.specs.Prelude.{◌≡◌, ℕ, Bool, true, List, [], ◌∷◌, Option, Some, None, slice_get}
+use Rattle.std.specs.Prelude.{◌≡◌, ℕ, ◌≤◌, Bool, true, List, [], ◌∷◌, Option, Some, None, slice_get}
 use Rattle.c_tree.specs.declared.token.Kind.{Kind}
 use Rattle.c_tree.specs.declared.typed.Place.TheVariants as place
 use Rattle.c_tree.specs.declared.typed.Slot.TheVariants as slot
@@ -59,9 +59,9 @@ IsReturn P f (Some k) (Some e) = IsValue P f k e
 mutual
   -- the statement is well formed, inside a loop or not
   pub data Runs (P : TypedProgram) (f : TypedFunc) : Bool → Level → Type 0 where
-    -- a local scalar, whose initialiser is of its type
+    -- a local scalar, no parameter, whose initialiser is of its type
     scalar : {b : Bool} {n : ℕ} {k : Kind} {init : Option TypedExpr}
-        → slice_get f.scalars n ≡ Some (slot.Scalar k) → IsValueIf P f k init
+        → f.params ≤ n → slice_get f.scalars n ≡ Some (slot.Scalar k) → IsValueIf P f k init
         → Runs P f b (Declare (place.Scalar n) init)
     -- a local array, which has no initialiser
     array : {b : Bool} {n : ℕ} {a : TypedArray} → slice_get f.arrays n ≡ Some a
