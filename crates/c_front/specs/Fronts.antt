@@ -1,0 +1,73 @@
+-- Which texts of C are accepted, with which typed program, and which stage refuses the others.
+use Rattle.std.specs.Prelude.{◌≡◌, ℕ, List, Some, None}
+use Rattle.c_tree.specs.declared.tree.Program.{Program}
+use Rattle.c_tree.specs.declared.typed.TypedProgram.{TypedProgram}
+use Rattle.c_lex.specs.declared.fault.LexFault.{LexFault}
+use Rattle.c_lex.specs.declared.fault.LexFault.TheVariants as lex
+use Rattle.c_lex.specs.Lexes.{Tokens}
+use Rattle.c_lex.specs.Answers.{Lexed, Fails}
+use Rattle.c_grammar.specs.Answers.{IsUnit, HasSyntaxFault, IsTooDeep}
+use Rattle.c_parse.specs.declared.unit.ParseFault.{ParseFault}
+use Rattle.c_parse.specs.declared.unit.ParseFault.TheVariants as parse
+use Rattle.c_type_expr.specs.declared.fault.TypeFault.{TypeFault}
+use Rattle.c_type_expr.specs.declared.fault.TypeFault.TheVariants as typing
+use Rattle.c_type.specs.Programs.{program_fault, program_tree}
+use Rattle.c_front.specs.declared.refusal.Refusal.{Refusal}
+use Rattle.c_front.specs.declared.refusal.Refusal.TheVariants.{Lex, Parse, Typing, Memory}
+
+-- how many tokens a text may have
+abbrev pub most_tokens : ℕ
+most_tokens = 8192
+
+-- the text's tokens spell this unit, and no construct of it is too deep
+abbrev pub HasTree : List ℕ → Program → Type 0
+HasTree text tree = (tokens : Tokens) × Lexed most_tokens text tokens × IsUnit tokens tree.items
+
+-- the tree has this typed program, and no node of it fails
+abbrev pub HasTypes : Program → TypedProgram → Type 0
+HasTypes tree program = (program_fault tree ≡ None) × (program ≡ program_tree tree)
+
+-- the text is a program of C in this profile
+abbrev pub IsAccepted : List ℕ → TypedProgram → Type 0
+IsAccepted text program = (tree : Program) × HasTree text tree × HasTypes tree program
+
+-- the text is refused by its tokens
+abbrev pub IsRefusedByLexer : List ℕ → LexFault → Type 0
+IsRefusedByLexer text lex.Memory = ⊥
+IsRefusedByLexer text e = Fails most_tokens text e
+
+-- the text has tokens, and they are refused by the grammar
+abbrev pub AreRefused : Tokens → ParseFault → Type 0
+AreRefused tokens (parse.Syntax line) = HasSyntaxFault tokens line
+AreRefused tokens (parse.TooDeep line) = IsTooDeep tokens line
+AreRefused tokens parse.Memory = ⊥
+
+abbrev pub IsRefusedByGrammar : List ℕ → ParseFault → Type 0
+IsRefusedByGrammar text e = (tokens : Tokens) × Lexed most_tokens text tokens × AreRefused tokens e
+
+-- the tree's first node that fails
+abbrev pub HasNoTypes : Program → TypeFault → Type 0
+HasNoTypes tree typing.Memory = ⊥
+HasNoTypes tree e = program_fault tree ≡ Some e
+
+-- the text has a tree, and it is refused by the typing
+abbrev pub IsRefusedByTyping : List ℕ → TypeFault → Type 0
+IsRefusedByTyping text e = (tree : Program) × HasTree text tree × HasNoTypes tree e
+
+-- the first stage that refuses the text, with its fault
+abbrev pub IsRefused : List ℕ → Refusal → Type 0
+IsRefused text (Lex e) = IsRefusedByLexer text e
+IsRefused text (Parse e) = IsRefusedByGrammar text e
+IsRefused text (Typing e) = IsRefusedByTyping text e
+IsRefused text Memory = ⊥
+
+-- the same, but for want of memory
+abbrev pub MayBeRefused : List ℕ → Refusal → Type 0
+MayBeRefused text Memory = Unit {0}
+MayBeRefused text r = IsRefused text r
+
+-- the tree is refused by its typing, but for want of memory
+abbrev pub MayHaveNoTypes : Program → Refusal → Type 0
+MayHaveNoTypes tree (Typing e) = HasNoTypes tree e
+MayHaveNoTypes tree Memory = Unit {0}
+MayHaveNoTypes tree r = ⊥

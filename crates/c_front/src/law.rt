@@ -1,0 +1,13 @@
+ghost use Rattle.c_front.specs.Laws.{AcceptedOnce, NotBoth, RefusedOnce};
+
+/// A text has at most one typed program. It does nothing when it runs.
+pub fn accepted_once()
+    ensures law { AcceptedOnce }
+{}
+
+/// A text is accepted or refused, not both, and by one stage with one fault. It does nothing when it
+/// runs.
+pub fn one_stage_answers()
+    ensures not_both { NotBoth }
+    ensures once { RefusedOnce }
+{}

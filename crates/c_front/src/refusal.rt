@@ -1,0 +1,13 @@
+use c_lex::LexFault;
+use c_parse::ParseFault;
+use c_type::TypeFault;
+
+/// Why a text of C has no typed program: the fault of the first stage that refuses it. The fault is
+/// never want of memory, which is a refusal of its own.
+#[derive(Debug, Drop)]
+pub enum Refusal {
+    Lex(LexFault),
+    Parse(ParseFault),
+    Typing(TypeFault),
+    Memory,
+}
