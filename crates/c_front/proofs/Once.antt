@@ -171,7 +171,7 @@ typing_once text e f r s =
 -- ---- the laws
 
 -- a text whose tree has types is not refused
-not_refused : (text : List ℕ) (p : Program) (r : Refusal) → HasTree text p
+pub not_refused : (text : List ℕ) (p : Program) (r : Refusal) → HasTree text p
     → program_fault p ≡ None → IsRefused text r → ⊥
 not_refused text p (Lex e) t n r = no_tokens text e t.0 r t.1
 not_refused text p (Parse e) t n r = no_tree text e p r t

@@ -5,8 +5,8 @@ pub fn accepted_once()
     ensures law { AcceptedOnce }
 {}
 
-/// A text is accepted or refused, not both, and by one stage with one fault. It does nothing when it
-/// runs.
+/// A text is accepted or refused, not both, and by one stage with one fault. It does nothing when
+/// it runs.
 pub fn one_stage_answers()
     ensures not_both { NotBoth }
     ensures once { RefusedOnce }

@@ -50,8 +50,8 @@ pub fn type_read(alloc: Global, tree: Program) -> Result<TypedProgram, Refusal>
 
 /// The typed program of a text, or its first refusal.
 ///
-/// No text has another program or another refusal (`accepted_once`, `one_stage_answers`), so that only
-/// want of memory is left open.
+/// No text has another program or another refusal (`accepted_once`, `one_stage_answers`), so that
+/// only want of memory is left open.
 pub fn front(alloc: Global, text: &[u8]) -> Result<TypedProgram, Refusal>
     requires short { length text.now < 4_294_967_295 }
     ensures ok { IfOk result (IsAccepted text.now) }

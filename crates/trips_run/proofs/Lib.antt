@@ -1,8 +1,11 @@
-pub mod Text
 pub mod Runs
 pub mod Return
 pub mod Lonely
 pub mod ReturnGood
+pub mod Forms
 pub mod Told
 pub mod Rows
+pub mod Headlines
+pub mod Ends
 pub mod Causes
+pub mod Numbers

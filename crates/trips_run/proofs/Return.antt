@@ -1,8 +1,7 @@
 -- The run of the program that returns a number.
-use Rattle.std.proofs.Common.{◌≡◌, ℕ, ◌<◌, ◌^◌, List, [], ◌∷◌, ◌++◌, replicate, true, nat_lt}
-use Rattle.std.proofs.Common.{slice_set, inl, inr, refl, sym, ◌∙◌, arith, lit<}
-use Rattle.std.proofs.lemmas.Fmt.{decimal_digit, decimal_injective}
-use Rattle.std.proofs.lemmas.List.{append_cancel_left, append_cancel_right}
+use Rattle.std.proofs.Common.{◌≡◌, ℕ, ◌<◌, ◌^◌, List, [], ◌∷◌, replicate, true, nat_lt}
+use Rattle.std.proofs.Common.{slice_set, refl, sym, arith, lit<}
+use Rattle.std.proofs.lemmas.Fmt.{decimal_digit}
 use Rattle.std.proofs.lemmas.Bool.{lt-ltb}
 use Rattle.std.specs.Fmt.{decimal}
 use Rattle.trips_isa.specs.declared.run.Ending.TheVariants as ending
@@ -11,12 +10,11 @@ use Rattle.trips_isa.specs.Tables.{deepest}
 use Rattle.trips_isa.specs.Blocks.{given}
 use Rattle.trips_isa.specs.Outcomes.{all_stores}
 use Rattle.trips_isa.specs.Machine.{State, runs, start, step_of, memory_of}
-use Rattle.trips_run.specs.Source.{IsReturn, source, front, back, return_block}
+use Rattle.trips_run.specs.Source.{return_block}
 use Rattle.trips_run.specs.Report.{run_report, signed}
 use Rattle.trips_run.specs.Answer.{block_budget}
 use Rattle.trips_run.specs.Table.{return_report}
 use Rattle.trips_run.proofs.Runs.{none_yet, stopped}
-use Rattle.trips_run.proofs.Text.{no_feed}
 
 -- the start and the end of the run, with any data memory
 abbrev pub begin_with : List ℕ → State
@@ -67,23 +65,3 @@ return_reports n low =
     let is : signed n ≡ decimal n = rw small refl in
     let none : decimal 0 ≡ 48 ∷ [] = decimal_digit 0 (omega arith) in
     rw (none, is) refl
-
--- a text is that of one number
-pub one_number : (text : List ℕ) (m n : ℕ) → IsReturn text m → IsReturn text n → m ≡ n
-one_number text m n a b =
-    let same : source m ≡ source n
-    → m ≡ n = λ e. decimal_injective m n (omega (arith, a.0)) (omega (arith, b.0))
-    (append_cancel_right (decimal m) (decimal n) back
-    (append_cancel_left front (decimal m ++ back) (decimal n ++ back) e)) in
-    elim a.1 [
-      | inl e ↦ elim b.1 [
-        | inl f ↦ same (sym e ∙ f)
-        | inr f ↦ absurd
-            (no_feed m (source n) (sym e ∙ f))
-      ]
-      | inr e ↦ elim b.1 [
-        | inl f ↦ absurd (no_feed n (source m) (sym f ∙ e))
-        | inr f ↦ same
-            (append_cancel_right (source m) (source n) (10 ∷ []) (sym e ∙ f))
-      ]
-    ]

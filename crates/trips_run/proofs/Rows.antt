@@ -10,10 +10,15 @@ use Rattle.trips_isa.specs.declared.block.Block.{Block}
 use Rattle.trips_isa.specs.declared.block.Image.{Image}
 use Rattle.trips_isa.specs.declared.run.Ending.{Ending}
 use Rattle.trips_isa.specs.declared.run.Ending.TheVariants as ending
-use Rattle.trips_isa.specs.declared.run.Stepped.{Stepped}
-use Rattle.trips_isa.specs.Machine.{State, runs, start}
+use Rattle.trips_isa.specs.Machine.{runs, start}
+use Rattle.c_tree.specs.declared.tree.Program.{Program}
+use Rattle.c_type.specs.Programs.{program_fault}
+use Rattle.c_front.specs.Fronts.{HasTree}
+use Rattle.c_front.proofs.Once.{tree_once, not_refused}
+use Rattle.c_meaning.specs.declared.outcome.Outcome.{Outcome}
+use Rattle.c_meaning.specs.declared.outcome.Outcome.TheVariants as outcome
 use Rattle.block_image.specs.Spelling.{ImageBytes}
-use Rattle.block_image.proofs.Decoded.{not_both}
+use Rattle.block_image.proofs.Decoded as decoded
 use Rattle.block_image.proofs.Prefix.{one_image}
 use Rattle.block_check.specs.declared.fault.CheckFault.{CheckFault}
 use Rattle.block_check.specs.Faults.{IsGood}
@@ -22,24 +27,25 @@ use Rattle.trips_run.specs.declared.status.Status.{Status}
 use Rattle.trips_run.specs.declared.status.Status.TheVariants as status
 use Rattle.trips_run.specs.declared.reading.Reading.{Reading}
 use Rattle.trips_run.specs.declared.reading.Reading.TheVariants.{Fault, TooLarge, Bytes}
-use Rattle.trips_run.specs.Request.{Request, Run, RunImage}
-use Rattle.trips_run.specs.Read.{IsRead}
-use Rattle.trips_run.specs.Source.{IsReturn, IsOutOfForm, return_block}
-use Rattle.trips_run.specs.Report.{ending_of, run_report}
-use Rattle.trips_run.specs.Answer.{block_budget, most_source_bytes, most_image_bytes, status_of}
-use Rattle.trips_run.specs.Answer.{IsRunBy, IsRefusalOfText, IsTextAnswer, IsRunOfImage}
-use Rattle.trips_run.specs.Answer.{IsImageAnswer, IsAnswer}
-use Rattle.trips_run.specs.Refused.{IsBadImage, MayBeRefused, IsRefused}
-use Rattle.trips_run.specs.Table.{return_report}
-use Rattle.trips_run.proofs.Return.{one_number, return_runs, return_reports}
-use Rattle.trips_run.proofs.Text.{lengths}
+use Rattle.trips_run.specs.Request.{Request, Run, RunImage, Eval}
+use Rattle.trips_run.specs.Read.{IsRead, IsInputRead}
+use Rattle.trips_run.specs.Read.{most_source_bytes, most_input_bytes, most_image_bytes}
+use Rattle.trips_run.specs.Source.{returned, return_block}
+use Rattle.trips_run.specs.Report.{ending_of}
+use Rattle.trips_run.specs.Answer.{block_budget, status_of, IsRunBy, AfterReading, IsRunOfForm}
+use Rattle.trips_run.specs.Answer.{IsRunOfText, eval_status, outcome_of}
+use Rattle.trips_run.specs.Answer.{IsEvaluationOfText, IsEvalAnswer, IsRunOfImage, IsRunOfBytes}
+use Rattle.trips_run.specs.Answer.{IsAnswer}
+use Rattle.trips_run.specs.Refused.{IsBadSource, IsNoSource, IsBadImage, IsLarge}
+use Rattle.trips_run.specs.Refused.{MayBeRefused, IsRefused}
 
--- the statuses that tell how a run ended
-pub is_told : Status → Bool
+-- the statuses that tell how a run or an evaluation ended
+unfoldable pub is_told : Status → Bool
 is_told status.Ended = true
 is_told status.StackFull = true
 is_told status.Budget = true
 is_told status.Trap = true
+is_told status.Undefined = true
 is_told other = false
 
 tells : (e : Ending) → is_told (status_of e) ≡ true
@@ -64,51 +70,128 @@ pub data Kind (q : Option Request) (held : List ℕ
 
 -- texts ---------------------------------------------------------------------------------------
 
-out_of_form : (told : Option (List ℕ)) (text : List ℕ) → Holds told text → IsOutOfForm text
-    → IfSome told IsOutOfForm
-out_of_form None text h out = tt
-out_of_form (Some bytes) text h out = subst IsOutOfForm h out
+-- what is said of the bytes that were read is said of those that are told
+of_told : (P : List ℕ → Type 0) (told : Option (List ℕ)) (bytes : List ℕ) → Holds told bytes
+    → P bytes → IfSome told P
+of_told P None bytes h p = tt
+of_told P (Some held) bytes h p = subst P h p
 
-large_is_out_of_form : (told : Option (List ℕ))
-    → IfSome told (λ bytes. most_source_bytes < length bytes)
-    → IfSome told IsOutOfForm
-unfolding most_source_bytes
-large_is_out_of_form None h = tt
-large_is_out_of_form (Some bytes) h = λ n is. let l = lengths bytes n is in absurd
-    (omega (arith, l, h))
+-- and the other way round
+of_read : (P : List ℕ → Type 0) (told : Option (List ℕ)) (bytes : List ℕ) → Holds told bytes
+    → IsSomeAnd told P → P bytes
+of_read P None bytes h p = absurd p
+of_read P (Some held) bytes h p = subst P (sym h) p
 
-not_both_text : (told : Option (List ℕ)) (text : List ℕ) (n : ℕ) → Holds told text → IsReturn text n
-    → IsSomeAnd told IsOutOfForm → ⊥
-not_both_text None text n h is out = out
-not_both_text (Some bytes) text n h is out = out n (subst (λ t. IsReturn t n) h is)
+-- a file that is too large is told to be so
+if_large : (P : List ℕ → Type 0) (limit : ℕ) (told : Option (List ℕ))
+    → ((bytes : List ℕ) → limit < length bytes → P bytes)
+    → IfSome told (λ bytes. limit < length bytes) → IfSome told P
+if_large P limit None large h = tt
+if_large P limit (Some bytes) large h = large bytes h
 
-is_refusal : (text : List ℕ) (s : Status) (report : List ℕ) → IsRefusalOfText text s report
-    → s ≡ status.Refused
-is_refusal text s report (inl fault) = fault.3.0
-is_refusal text s report (inr lexed) = lexed.2.0
+-- a text whose tree has types is not bad
+not_bad_source : (text : List ℕ) (tree : Program) → length text ≤ most_source_bytes
+    → HasTree text tree → program_fault tree ≡ None → IsBadSource text → ⊥
+not_bad_source text tree few has types (inl large) = absurd (omega arith)
+not_bad_source text tree few has types (inr bad) =
+    not_refused text tree bad.0 has types bad.1
+
+-- and where it returns a number it is built
+not_no_source : (text : List ℕ) (tree : Program) (n : ℕ) → length text ≤ most_source_bytes
+    → HasTree text tree → program_fault tree ≡ None → returned tree ≡ Some n
+    → IsNoSource text → ⊥
+not_no_source text tree n few has types is (inl bad) =
+    not_bad_source text tree few has types bad
+not_no_source text tree n few has types is (inr out) =
+    let same : out.tree ≡ tree = tree_once text out.tree tree out.has_tree has in
+    let none : None ≡ Some n = sym out.returns ∙ ap returned same ∙ is in
+    absurd (cc)
+
+form_kind : (file : List ℕ) (held : List ℕ → Option (List ℕ)) (rose : Type 0) (text : List ℕ)
+    (tree : Program) (s : Status) (report : List ℕ) (form : Option ℕ) → Holds (held file) text
+    → length text ≤ most_source_bytes → HasTree text tree → program_fault tree ≡ None
+    → returned tree ≡ form → IsRunOfForm form s report → Kind (Some (Run file)) held rose s
+form_kind file held rose text tree s report None h few has types is a =
+    refused a.0 (of_told IsNoSource (held file) text h
+    (inr (record { tree = tree; has_tree = has; has_types = types; returns = is })))
+form_kind file held rose text tree s report (Some n) h few has types is a =
+    ran (run_tells (return_block n ∷ []) [] s report a)
+    (λ bad. not_no_source text tree n few has types is (of_read IsNoSource (held file) text h bad))
 
 text_kind : (file : List ℕ) (held : List ℕ
     → Option (List ℕ)) (rose : Type 0) (reading : Reading) (s : Status) (report : List ℕ)
-    → IsRead (held file) rose most_source_bytes reading → IsTextAnswer reading s report
+    → IsRead (held file) rose most_source_bytes reading
+    → AfterReading reading (λ text. IsRunOfText text s report) s report
     → Kind (Some (Run file)) held rose s
 text_kind file held rose Fault s report h a = unread a.0 h
-text_kind file held rose TooLarge s report h a = refused a.0 (large_is_out_of_form (held file) h)
-text_kind file held rose (Bytes text) s report h (inl run) =
-    ran (run_tells _ [] s report run.2) (not_both_text (held file) text run.0 h.0 run.1)
-text_kind file held rose (Bytes text) s report h (inr out) =
-    refused (is_refusal text s report out.1) (out_of_form (held file) text h.0 out.0)
+text_kind file held rose TooLarge s report h a =
+    refused a.0 (if_large IsNoSource most_source_bytes (held file) (λ bytes lt. inl (inl lt)) h)
+text_kind file held rose (Bytes text) s report h (inl out) =
+    refused out.2.0 (of_told IsNoSource (held file) text h.0 (inl (inr (out.0, out.1))))
+text_kind file held rose (Bytes text) s report h (inr run) =
+    form_kind file held rose text run.0 s report (returned run.0) h.0 h.1 run.1.0 run.1.1 refl
+    run.1.2
+
+-- evaluations ---------------------------------------------------------------------------------
+
+eval_tells : (o : Outcome) → is_told (eval_status o) ≡ true
+unfolding is_told
+eval_tells outcome.More = refl
+eval_tells outcome.Undefined = refl
+eval_tells outcome.Deep = refl
+eval_tells (outcome.Done output result steps) = refl
+
+-- an input that was read is not too large
+not_large_input : (input : Option (List ℕ)) (held : List ℕ → Option (List ℕ)) (rose : Type 0)
+    (bytes : List ℕ) → IsInputRead input held rose (Bytes bytes) → IsLarge input held → ⊥
+not_large_input None held rose bytes h large = large
+not_large_input (Some name) held rose bytes h large =
+    let lt = of_read (λ (bs : List ℕ). most_input_bytes < length bs) (held name) bytes h.0 large in
+    absurd (omega (arith, h.1, lt))
+
+evaluation_kind : (file : List ℕ) (input : Option (List ℕ)) (steps : ℕ)
+    (held : List ℕ → Option (List ℕ)) (rose : Type 0) (text bytes : List ℕ) (s : Status)
+    (report : List ℕ) → Holds (held file) text → length text ≤ most_source_bytes
+    → IsInputRead input held rose (Bytes bytes) → IsEvaluationOfText steps text bytes s report
+    → Kind (Some (Eval file input steps)) held rose s
+evaluation_kind file input steps held rose text bytes s report h few i (inl out) =
+    refused out.2.0 (inl (of_told IsBadSource (held file) text h (inr (out.0, out.1))))
+evaluation_kind file input steps held rose text bytes s report h few i (inr run) =
+    ran (ap is_told run.2.0 ∙ eval_tells (outcome_of run.0 bytes steps)) not_bad_request
+  where
+    not_bad_request : IsRefused (Some (Eval file input steps)) held → ⊥
+    not_bad_request (inl bad) =
+        not_bad_source text run.1.0 few run.1.1 run.1.2.0
+        (of_read IsBadSource (held file) text h bad)
+    not_bad_request (inr large) = not_large_input input held rose bytes i large
+
+input_kind : (file : List ℕ) (input : Option (List ℕ)) (steps : ℕ)
+    (held : List ℕ → Option (List ℕ)) (rose : Type 0) (text : List ℕ) (reading : Reading)
+    (s : Status) (report : List ℕ) → Holds (held file) text → length text ≤ most_source_bytes
+    → IsInputRead input held rose reading
+    → AfterReading reading (λ bytes. IsEvaluationOfText steps text bytes s report) s report
+    → Kind (Some (Eval file input steps)) held rose s
+input_kind file None steps held rose text Fault s report h few i a = absurd (cc)
+input_kind file (Some name) steps held rose text Fault s report h few i a = unread a.0 i
+input_kind file None steps held rose text TooLarge s report h few i a = absurd (cc)
+input_kind file (Some name) steps held rose text TooLarge s report h few i a =
+    refused a.0 (inr i)
+input_kind file input steps held rose text (Bytes bytes) s report h few i a =
+    evaluation_kind file input steps held rose text bytes s report h few i a
+
+eval_kind : (file : List ℕ) (input : Option (List ℕ)) (steps : ℕ)
+    (held : List ℕ → Option (List ℕ)) (rose : Type 0) (reading : Reading) (s : Status)
+    (report : List ℕ) → IsRead (held file) rose most_source_bytes reading
+    → AfterReading reading (λ text. IsEvalAnswer input steps held rose text s report) s report
+    → Kind (Some (Eval file input steps)) held rose s
+eval_kind file input steps held rose Fault s report h a = unread a.0 h
+eval_kind file input steps held rose TooLarge s report h a =
+    refused a.0
+    (inl (if_large IsBadSource most_source_bytes (held file) (λ bytes lt. inl lt) h))
+eval_kind file input steps held rose (Bytes text) s report h a =
+    input_kind file input steps held rose text a.0 s report h.0 h.1 a.1 a.2
 
 -- images --------------------------------------------------------------------------------------
-
-bad_image : (told : Option (List ℕ)) (bytes : List ℕ) → Holds told bytes → IsBadImage bytes
-    → IfSome told IsBadImage
-bad_image None bytes h bad = tt
-bad_image (Some held) bytes h bad = subst IsBadImage h bad
-
-large_is_bad : (told : Option (List ℕ)) → IfSome told (λ bytes. most_image_bytes < length bytes)
-    → IfSome told IsBadImage
-large_is_bad None h = tt
-large_is_bad (Some bytes) h = inl h
 
 good_is_not_bad : (image : Image) (number : ℕ) (fault : CheckFault) → All IsGood image.blocks
     → IsFirstBad image number fault → ⊥
@@ -123,18 +206,11 @@ not_bad : (bytes : List ℕ) (image : Image) → length bytes ≤ most_image_byt
     → ImageBytes image bytes
     → All IsGood image.blocks → IsBadImage bytes → ⊥
 not_bad bytes image le spelled good (inl large) = absurd (omega arith)
-not_bad bytes image le spelled good (inr (inl fault)) = not_both image bytes fault.0 spelled fault.1
+not_bad bytes image le spelled good (inr (inl fault)) = decoded.not_both image bytes fault.0 spelled fault.1
 not_bad bytes image le spelled good (inr (inr bad)) =
     let same : bad.0 ≡ image = one_image bad.0 image bytes bad.1 spelled in
     good_is_not_bad image bad.2.0 bad.2.1 good
     (subst (λ i. IsFirstBad i bad.2.0 bad.2.1) same bad.2.2)
-
-not_both_image : (told : Option (List ℕ)) (bytes : List ℕ) (image : Image) → Holds told bytes
-    → length bytes ≤ most_image_bytes → ImageBytes image bytes → All IsGood image.blocks
-    → IsSomeAnd told IsBadImage → ⊥
-not_both_image None bytes image h le spelled good bad = bad
-not_both_image (Some held) bytes image h le spelled good bad =
-    not_bad bytes image le spelled good (subst IsBadImage (sym h) bad)
 
 image_run_kind : (file : List ℕ) (held : List ℕ
     → Option (List ℕ)) (rose : Type 0) (bytes : List ℕ) (image : Image) (s : Status)
@@ -144,21 +220,23 @@ image_run_kind : (file : List ℕ) (held : List ℕ
     → Kind (Some (RunImage file)) held rose s
 image_run_kind file held rose bytes image s report h le spelled (inl run) =
     ran (run_tells image.blocks image.bytes s report run.1)
-    (not_both_image (held file) bytes image h le spelled run.0)
+    (λ bad. not_bad bytes image le spelled run.0 (of_read IsBadImage (held file) bytes h bad))
 image_run_kind file held rose bytes image s report h le spelled (inr bad) =
-    refused bad.3.0 (bad_image (held file) bytes h
+    refused bad.3.0 (of_told IsBadImage (held file) bytes h
     (inr (inr (image, spelled, (bad.0, bad.1, bad.2)))))
 
 image_kind : (file : List ℕ) (held : List ℕ
     → Option (List ℕ)) (rose : Type 0) (reading : Reading) (s : Status) (report : List ℕ)
-    → IsRead (held file) rose most_image_bytes reading → IsImageAnswer reading s report
+    → IsRead (held file) rose most_image_bytes reading
+    → AfterReading reading (λ bytes. IsRunOfBytes bytes s report) s report
     → Kind (Some (RunImage file)) held rose s
 image_kind file held rose Fault s report h a = unread a.0 h
-image_kind file held rose TooLarge s report h a = refused a.0 (large_is_bad (held file) h)
+image_kind file held rose TooLarge s report h a =
+    refused a.0 (if_large IsBadImage most_image_bytes (held file) (λ bytes lt. inl lt) h)
 image_kind file held rose (Bytes bytes) s report h (inl found) =
     image_run_kind file held rose bytes found.0 s report h.0 h.1 found.1 found.2
 image_kind file held rose (Bytes bytes) s report h (inr fault) =
-    refused fault.2.0 (bad_image (held file) bytes h.0 (inr (inl (fault.0, fault.1))))
+    refused fault.2.0 (of_told IsBadImage (held file) bytes h.0 (inr (inl (fault.0, fault.1))))
 
 -- every answer is of one of the kinds
 pub kind : (q : Option Request) (held : List ℕ
@@ -167,6 +245,8 @@ pub kind : (q : Option Request) (held : List ℕ
 kind None held rose s report a = usage a.0 refl
 kind (Some (Run file)) held rose s report a = text_kind file held rose a.0 s report a.1 a.2
 kind (Some (RunImage file)) held rose s report a = image_kind file held rose a.0 s report a.1 a.2
+kind (Some (Eval file input steps)) held rose s report a =
+    eval_kind file input steps held rose a.0 s report a.1 a.2
 
 -- the causes ----------------------------------------------------------------------------------
 
@@ -228,58 +308,3 @@ pub usage_comes_row : (q : Option Request) (held : List ℕ
     → IsAnswer q held rose s report → q ≡ None → s ≡ status.Usage
 usage_comes_row None held rose s report a e = a.0
 usage_comes_row (Some r) held rose s report a e = absurd (cc)
-
--- the headline --------------------------------------------------------------------------------
-
--- a text that was read is the one that is told
-told_text : (told : Option (List ℕ)) (text read : List ℕ) → told ≡ Some text → Holds told read
-    → read ≡ text
-told_text None text read e h = absurd (cc)
-told_text (Some bytes) text read e h = let same : bytes ≡ text = cc in h ∙ same
-
-not_large : (told : Option (List ℕ)) (text : List ℕ) (n : ℕ) → told ≡ Some text → IsReturn text n
-    → IfSome told (λ bytes. most_source_bytes < length bytes) → ⊥
-unfolding most_source_bytes
-not_large None text n e is large = absurd (cc)
-not_large (Some bytes) text n e is large =
-    let same : text ≡ bytes = cc in let l = lengths text n is in
-    let m : length text ≡ length bytes = ap length same in absurd (omega (arith, l, large, m))
-
--- the run of the program that returns n
-ran_as : (m n : ℕ) (text : List ℕ) (s : Status) (report : List ℕ) → IsReturn text m
-    → IsReturn text n
-    → IsRunBy (return_block m ∷ []) [] [] block_budget s report
-    → (s ≡ status.Ended) × (report ≡ return_report n)
-ran_as m n text s report is also run =
-    let e = return_runs m in (
-      run.0 ∙ ap (λ (r : State × Stepped). status_of (ending_of r.1)) e,
-      run.1 ∙ ap (λ (r : State × Stepped). run_report (ending_of r.1) r.0) e
-          ∙ return_reports m is.0 ∙ ap return_report (one_number text m n is also),
-    )
-
-text_headline : (file : List ℕ) (held : List ℕ
-    → Option (List ℕ)) (rose : Type 0) (text : List ℕ) (n : ℕ) (reading : Reading) (s : Status)
-    (report : List ℕ)
-    → IsRead (held file) rose most_source_bytes reading → IsTextAnswer reading s report
-    → held file ≡ Some text → IsReturn text n → (rose → ⊥)
-    → (s ≡ status.Ended) × (report ≡ return_report n)
-text_headline file held rose text n Fault s report h a t is r = absurd (r h)
-text_headline file held rose text n TooLarge s report h a t is r =
-    absurd (not_large (held file) text n t is h)
-text_headline file held rose text n (Bytes read) s report h (inl run) t is r =
-    let same : read ≡ text = told_text (held file) text read t h.0 in
-    ran_as run.0 n text s report (subst (λ x. IsReturn x run.0) same run.1) is run.2
-text_headline file held rose text n (Bytes read) s report h (inr out) t is r =
-    let same : text ≡ read = sym (told_text (held file) text read t h.0) in
-    absurd (out.0 n (subst (λ x. IsReturn x n) same is))
-
-pub headline_row : (q : Option Request) (held : List ℕ
-    → Option (List ℕ)) (rose : Type 0) (s : Status) (report file text : List ℕ) (n : ℕ)
-    → IsAnswer q held rose s report → q ≡ Some (Run file)
-    → held file ≡ Some text → IsReturn text n → (rose → ⊥) → (s ≡ status.Ended)
-    × (report ≡ return_report n)
-headline_row None held rose s report file text n a e h is r = absurd (cc)
-headline_row (Some (RunImage other)) held rose s report file text n a e h is r = absurd (cc)
-headline_row (Some (Run other)) held rose s report file text n a e h is r =
-    let same : other ≡ file = cc in
-    text_headline other held rose text n a.0 s report a.1 a.2 (ap held same ∙ h) is r

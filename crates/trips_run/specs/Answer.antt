@@ -1,26 +1,32 @@
 -- What is answered to a request: the status and the report, a row for each command.
-use Rattle.std.specs.Prelude.{◌≡◌, ◌≢◌, ℕ, List, [], ◌∷◌, Option, None, Some}
+use Rattle.std.specs.Prelude.{◌≡◌, ℕ, List, [], ◌∷◌, Option, None, Some}
 use Rattle.std.specs.Prelude.{◌⊎◌, All}
 use Rattle.trips_isa.specs.declared.block.Block.{Block}
 use Rattle.trips_isa.specs.declared.block.Image.{Image}
 use Rattle.trips_isa.specs.declared.run.Ending.{Ending}
 use Rattle.trips_isa.specs.declared.run.Ending.TheVariants as ending
 use Rattle.trips_isa.specs.Machine.{runs, start}
-use Rattle.c_lex.specs.declared.fault.LexFault.{LexFault}
-use Rattle.c_lex.specs.declared.fault.LexFault.TheVariants as lexical
-use Rattle.c_lex.specs.Lexes.{Tokens}
-use Rattle.c_lex.specs.Answers.{Lexed, Fails}
+use Rattle.c_tree.specs.declared.tree.Program.{Program}
+use Rattle.c_tree.specs.declared.typed.TypedProgram.{TypedProgram}
+use Rattle.c_type.specs.Programs.{program_fault}
+use Rattle.c_front.specs.declared.refusal.Refusal.{Refusal}
+use Rattle.c_front.specs.Fronts.{HasTree, IsAccepted, IsRefused}
+use Rattle.c_eval.specs.Eval.{eval}
+use Rattle.c_meaning.specs.declared.outcome.Outcome.{Outcome}
+use Rattle.c_meaning.specs.declared.outcome.Outcome.TheVariants as outcome
+use Rattle.c_meaning.specs.Answer.{answer}
 use Rattle.block_image.specs.declared.fault.ImageFault.{ImageFault}
 use Rattle.block_image.specs.Spelling.{ImageBytes}
 use Rattle.block_image.specs.FirstFault.{FirstFault}
 use Rattle.block_check.specs.declared.fault.CheckFault.{CheckFault}
 use Rattle.block_check.specs.Faults.{IsGood}
 use Rattle.block_check.specs.Images.{IsFirstBad}
-use Rattle.trips_run.specs.Request.{Request, Run, RunImage}
-use Rattle.trips_run.specs.Read.{IsRead}
-use Rattle.trips_run.specs.Source.{IsReturn, IsOutOfForm, return_block}
+use Rattle.trips_run.specs.Request.{Request, Run, RunImage, Eval}
+use Rattle.trips_run.specs.Read.{IsRead, IsInputRead, most_source_bytes, most_image_bytes}
+use Rattle.trips_run.specs.Source.{returned, return_block}
 use Rattle.trips_run.specs.Report.{ending_of, run_report, usage_text, read_fault_text}
-use Rattle.trips_run.specs.Refusal.{form_text, too_large_text, lex_refusal}
+use Rattle.trips_run.specs.Report.{eval_report}
+use Rattle.trips_run.specs.Refusal.{form_text, too_large_text, front_refusal}
 use Rattle.trips_run.specs.Refusal.{image_refusal, check_refusal}
 use Rattle.trips_run.specs.declared.reading.Reading.{Reading}
 use Rattle.trips_run.specs.declared.reading.Reading.TheVariants.{Fault, TooLarge, Bytes}
@@ -30,18 +36,6 @@ use Rattle.trips_run.specs.declared.status.Status.TheVariants as status
 -- how many blocks a run may take
 unfoldable pub block_budget : ℕ
 block_budget = 1000000
-
--- how many bytes a file of C may have
-unfoldable pub most_source_bytes : ℕ
-most_source_bytes = 262144
-
--- how many tokens a text of C may have
-abbrev pub most_tokens : ℕ
-most_tokens = 8192
-
--- how many bytes an image may have
-unfoldable pub most_image_bytes : ℕ
-most_image_bytes = 71303188
 
 -- the status that tells an ending
 abbrev pub status_of : Ending → Status
@@ -59,27 +53,65 @@ abbrev pub IsRunBy : List Block → List ℕ → List ℕ → ℕ → Status →
 IsRunBy blocks bytes input budget s report = let run = runs blocks (start bytes input) budget in
     IsFixed (status_of (ending_of run.1)) (run_report (ending_of run.1) run.0) s report
 
+-- what a file was read to, or the answer where it was not read
+abbrev pub AfterReading : Reading → (List ℕ → Type 0) → Status → List ℕ → Type 0
+AfterReading Fault next s report = IsFixed status.ReadFault read_fault_text s report
+AfterReading TooLarge next s report = IsFixed status.Refused too_large_text s report
+AfterReading (Bytes bytes) next s report = next bytes
+
+-- the refusal of a text by the first stage that refuses it
+abbrev pub IsRefusalOf : List ℕ → Status → List ℕ → Type 0
+IsRefusalOf text s report =
+    (r : Refusal) × IsRefused text r × IsFixed status.Refused (front_refusal r) s report
+
 -- `run` on a text of C ------------------------------------------------------------------------
 
--- the refusal of a text that has no tokens, or of one that has some
-abbrev pub IsRefusalOfText : List ℕ → Status → List ℕ → Type 0
-IsRefusalOfText text s report =
-    ((fault : LexFault) × (fault ≢ lexical.Memory) × Fails most_tokens text fault
-    × IsFixed status.Refused (lex_refusal fault) s report)
-    ⊎ ((tokens : Tokens) × Lexed most_tokens text tokens
-    × IsFixed status.Refused form_text s report)
+-- the run of the block that returns the number, or the refusal of a program that is not built
+abbrev pub IsRunOfForm : Option ℕ → Status → List ℕ → Type 0
+IsRunOfForm None s report = IsFixed status.Refused form_text s report
+IsRunOfForm (Some n) s report = IsRunBy (return_block n ∷ []) [] [] block_budget s report
 
--- the run of the text's image, or the refusal of a text that is not of the form
+-- the same of the tree of a text, which has types
+abbrev pub IsRunOfTree : List ℕ → Program → Status → List ℕ → Type 0
+IsRunOfTree text tree s report =
+    HasTree text tree × (program_fault tree ≡ None) × IsRunOfForm (returned tree) s report
+
+-- the refusal of a text, or what is answered to its tree
 abbrev pub IsRunOfText : List ℕ → Status → List ℕ → Type 0
 IsRunOfText text s report =
-    ((n : ℕ) × IsReturn text n × IsRunBy (return_block n ∷ []) [] [] block_budget s report)
-    ⊎ (IsOutOfForm text × IsRefusalOfText text s report)
+    IsRefusalOf text s report ⊎ ((tree : Program) × IsRunOfTree text tree s report)
 
--- the same of what reading the file came to
-abbrev pub IsTextAnswer : Reading → Status → List ℕ → Type 0
-IsTextAnswer Fault s report = IsFixed status.ReadFault read_fault_text s report
-IsTextAnswer TooLarge s report = IsFixed status.Refused too_large_text s report
-IsTextAnswer (Bytes text) s report = IsRunOfText text s report
+-- `eval` --------------------------------------------------------------------------------------
+
+-- the status that tells an outcome
+abbrev pub eval_status : Outcome → Status
+eval_status outcome.More = status.Budget
+eval_status outcome.Undefined = status.Undefined
+eval_status outcome.Deep = status.StackFull
+eval_status (outcome.Done output result steps) = status.Ended
+
+-- what the definition says of a program, an input and a number of steps
+abbrev pub outcome_of : TypedProgram → List ℕ → ℕ → Outcome
+outcome_of program input steps = answer (eval program input steps)
+
+-- These tell the evaluation of a program on an input, within some steps.
+abbrev pub IsEvaluation : TypedProgram → List ℕ → ℕ → Status → List ℕ → Type 0
+IsEvaluation program input steps s report = let o = outcome_of program input steps in
+    IsFixed (eval_status o) (eval_report o) s report
+
+-- the refusal of a text, or the evaluation of its program
+abbrev pub IsEvaluationOfText : ℕ → List ℕ → List ℕ → Status → List ℕ → Type 0
+IsEvaluationOfText steps text input s report =
+    IsRefusalOf text s report
+    ⊎ ((program : TypedProgram) × IsAccepted text program
+    × IsEvaluation program input steps s report)
+
+-- the text is read first, then its input
+abbrev pub IsEvalAnswer : Option (List ℕ) → ℕ → (List ℕ → Option (List ℕ)) → Type 0
+    → List ℕ → Status → List ℕ → Type 0
+IsEvalAnswer input steps held rose text s report =
+    (reading : Reading) × IsInputRead input held rose reading
+    × AfterReading reading (λ bytes. IsEvaluationOfText steps text bytes s report) s report
 
 -- `run` on an image ---------------------------------------------------------------------------
 
@@ -97,12 +129,6 @@ IsRunOfBytes bytes s report =
     ⊎ ((fault : ImageFault) × FirstFault bytes fault
     × IsFixed status.Refused (image_refusal fault) s report)
 
--- the same of what reading the file came to
-abbrev pub IsImageAnswer : Reading → Status → List ℕ → Type 0
-IsImageAnswer Fault s report = IsFixed status.ReadFault read_fault_text s report
-IsImageAnswer TooLarge s report = IsFixed status.Refused too_large_text s report
-IsImageAnswer (Bytes bytes) s report = IsRunOfBytes bytes s report
-
 -- The rows ------------------------------------------------------------------------------------
 
 -- Of the request (none where the words make none), of what names hold, and of whether the count of
@@ -111,6 +137,11 @@ abbrev pub IsAnswer :
     Option Request → (List ℕ → Option (List ℕ)) → Type 0 → Status → List ℕ → Type 0
 IsAnswer None held rose s report = IsFixed status.Usage usage_text s report
 IsAnswer (Some (Run file)) held rose s report = (reading : Reading)
-    × IsRead (held file) rose most_source_bytes reading × IsTextAnswer reading s report
+    × IsRead (held file) rose most_source_bytes reading
+    × AfterReading reading (λ text. IsRunOfText text s report) s report
 IsAnswer (Some (RunImage file)) held rose s report = (reading : Reading)
-    × IsRead (held file) rose most_image_bytes reading × IsImageAnswer reading s report
+    × IsRead (held file) rose most_image_bytes reading
+    × AfterReading reading (λ bytes. IsRunOfBytes bytes s report) s report
+IsAnswer (Some (Eval file input steps)) held rose s report = (reading : Reading)
+    × IsRead (held file) rose most_source_bytes reading
+    × AfterReading reading (λ text. IsEvalAnswer input steps held rose text s report) s report

@@ -4,5 +4,9 @@ pub mod Read
 pub mod Report
 pub mod Refusal
 pub mod Answer
+pub mod Trees
 pub mod Refused
 pub mod Table
+pub mod Number
+pub mod Options
+pub mod Seen

@@ -3,6 +3,12 @@ use Rattle.std.specs.Prelude.{ℕ, List, [], ◌++◌, codes, decimal}
 use Rattle.text_pieces.specs.Spots.{spot_text}
 use Rattle.c_lex.specs.declared.fault.LexFault.{LexFault}
 use Rattle.c_lex.specs.declared.fault.LexFault.TheVariants as lexical
+use Rattle.c_parse.specs.declared.unit.ParseFault.{ParseFault}
+use Rattle.c_parse.specs.declared.unit.ParseFault.TheVariants as parse
+use Rattle.c_type_expr.specs.declared.fault.TypeFault.{TypeFault}
+use Rattle.c_type_expr.specs.declared.fault.TypeFault.TheVariants as typing
+use Rattle.c_front.specs.declared.refusal.Refusal.{Refusal}
+use Rattle.c_front.specs.declared.refusal.Refusal.TheVariants as stage
 use Rattle.block_image.specs.declared.fault.ImageFault.{ImageFault}
 use Rattle.block_image.specs.declared.fault.ImageFault.TheVariants as image
 use Rattle.block_check.specs.declared.fault.CheckFault.{CheckFault}
@@ -26,6 +32,32 @@ lex_refusal (lexical.Unclosed line) = at_line (codes "refused lex 3 Unclosed") l
 lex_refusal (lexical.TooManyTokens line) = at_line (codes "refused lex 4 TooManyTokens") line
 lex_refusal (lexical.Directive line) = at_line (codes "refused lex 5 Directive") line
 lex_refusal lexical.Memory = []
+
+-- of a text whose tokens have no tree
+abbrev pub parse_refusal : ParseFault → List ℕ
+parse_refusal (parse.Syntax line) = at_line (codes "refused parse 1 Syntax") line
+parse_refusal (parse.TooDeep line) = at_line (codes "refused parse 2 TooDeep") line
+parse_refusal parse.Memory = []
+
+-- of a text whose tree has no types
+abbrev pub type_refusal : TypeFault → List ℕ
+type_refusal (typing.Unknown line) = at_line (codes "refused type 1 Unknown") line
+type_refusal (typing.Twice line) = at_line (codes "refused type 2 Twice") line
+type_refusal (typing.Mismatch line) = at_line (codes "refused type 3 Mismatch") line
+type_refusal (typing.Arity line) = at_line (codes "refused type 4 Arity") line
+type_refusal typing.NoMain = codes "refused type 5 NoMain\n"
+type_refusal (typing.TooManyScalars line) = at_line (codes "refused type 6 TooManyScalars") line
+type_refusal (typing.TooManyParams line) = at_line (codes "refused type 7 TooManyParams") line
+type_refusal (typing.Need line) = at_line (codes "refused type 8 Need") line
+type_refusal (typing.TooLarge line) = at_line (codes "refused type 9 TooLarge") line
+type_refusal typing.Memory = []
+
+-- of a text that the front end refuses
+abbrev pub front_refusal : Refusal → List ℕ
+front_refusal (stage.Lex fault) = lex_refusal fault
+front_refusal (stage.Parse fault) = parse_refusal fault
+front_refusal (stage.Typing fault) = type_refusal fault
+front_refusal stage.Memory = []
 
 -- of a file that is no image: the fault, and the place of its first byte where it has one. Want of
 -- memory is no refusal.

@@ -1,6 +1,9 @@
 -- The texts that the program writes.
 use Rattle.std.specs.Prelude.{ℕ, ◌-◌, ◌^◌, nat_lt, if◌then◌else◌, List, [], ◌∷◌, ◌++◌, length}
-use Rattle.std.specs.Prelude.{codes, slice_index, decimal}
+use Rattle.std.specs.Prelude.{codes, slice_index, decimal, ℤ}
+use Rattle.std.specs.Fmt.{signed_decimal}
+use Rattle.c_meaning.specs.declared.outcome.Outcome.{Outcome}
+use Rattle.c_meaning.specs.declared.outcome.Outcome.TheVariants as outcome
 use Rattle.trips_isa.specs.declared.run.Ending.{Ending}
 use Rattle.trips_isa.specs.declared.run.Ending.TheVariants as ending
 use Rattle.trips_isa.specs.declared.run.Stepped.{Stepped}
@@ -35,6 +38,18 @@ report_of output line =
 abbrev pub run_report : Ending → State → List ℕ
 run_report ending s =
     report_of s.output (ending_line ending (slice_index s.registers 3) (length s.trace))
+
+-- the lines of what main returned and of how many steps were taken
+abbrev pub done_lines : ℤ → ℕ → List ℕ
+done_lines result steps =
+    codes "result " ++ (signed_decimal result ++ (codes "\nsteps " ++ decimal steps))
+
+-- the report of an evaluation
+abbrev pub eval_report : Outcome → List ℕ
+eval_report outcome.More = codes "more\n"
+eval_report outcome.Undefined = codes "undefined\n"
+eval_report outcome.Deep = codes "deep\n"
+eval_report (outcome.Done output result steps) = report_of output (done_lines result steps)
 
 unfoldable pub usage_text : List ℕ
 usage_text = codes "usage\n"

@@ -1,29 +1,87 @@
--- The program texts that are accepted today, and their blocks.
-use Rattle.std.specs.Prelude.{◌≡◌, ℕ, ◌<◌, ◌^◌, pos, List, [], ◌∷◌, ◌++◌, Option, None, Some, codes}
-use Rattle.std.specs.Prelude.{replicate, ◌⊎◌, decimal}
+-- The programs that `run` builds today, by their trees, and their blocks.
+use Rattle.std.specs.Prelude.{◌≡◌, ℕ, ◌≤◌, ◌^◌, nat_lt, pos, if◌then◌else◌, List, [], ◌∷◌, length}
+use Rattle.std.specs.Prelude.{Option, None, Some, codes, bytes_eq, replicate}
+use Rattle.c_tree.specs.declared.token.Kind.{Kind}
+use Rattle.c_tree.specs.declared.token.Kind.TheVariants.{Int}
+use Rattle.c_tree.specs.declared.tree.Expr.{Expr}
+use Rattle.c_tree.specs.declared.tree.ExprNode.{ExprNode, out-ExprNode}
+use Rattle.c_tree.specs.declared.tree.ExprNode.TheOpen.{ExprNode-F, Number}
+use Rattle.c_tree.specs.declared.tree.Stmt.{Stmt}
+use Rattle.c_tree.specs.declared.tree.StmtNode.{StmtNode, out-StmtNode}
+use Rattle.c_tree.specs.declared.tree.ForInit.{ForInit}
+use Rattle.c_tree.specs.declared.tree.ForInit.TheOpen.{StmtNode-F, Compound, Return}
+use Rattle.c_tree.specs.declared.tree.Program.{Program}
+use Rattle.c_tree.specs.declared.tree.Top.{Top}
+use Rattle.c_tree.specs.declared.tree.TopNode.{TopNode}
+use Rattle.c_tree.specs.declared.tree.TopNode.TheVariants.{Func}
+use Rattle.c_type.specs.Programs.{program_fault}
+use Rattle.c_front.specs.Fronts.{HasTree}
 use Rattle.trips_isa.specs.declared.block.Block.{Block}
 use Rattle.trips_isa.specs.declared.block.Inst.{Inst}
 use Rattle.trips_isa.specs.declared.block.Sense.TheVariants.{Always}
 use Rattle.trips_isa.specs.declared.block.Spot.TheVariants.{Write}
 use Rattle.trips_isa.specs.declared.op.Op.TheVariants.{Genu, Scall}
+use Rattle.trips_run.specs.Read.{most_source_bytes}
 
-unfoldable pub front : List ℕ
-front = codes "int main(void) { return "
+-- The number that a tree returns: none where the tree is not one function `main` of type int(void)
+-- whose body is one `return` of one number of type int, below 2^16, in no group.
 
-unfoldable pub back : List ℕ
-back = codes "; }"
+-- a value of type int that fits in sixteen bits
+abbrev pub small_int : ℕ → Kind → Option ℕ
+small_int value Int = if nat_lt value 65536 then Some value else None
+small_int value kind = None
 
--- the text of a program that returns a number
-abbrev pub source : ℕ → List ℕ
-source n = front ++ (decimal n ++ back)
+abbrev pub number_in : ExprNode-F ExprNode Expr → Option ℕ
+number_in (Number value kind) = small_int value kind
+number_in node = None
 
--- the text, with or without a line feed behind it, of the program that returns n
-abbrev pub IsReturn : List ℕ → ℕ → Type 0
-IsReturn text n = (n < 2 ^ 16) × ((text ≡ source n) ⊎ (text ≡ source n ++ 10 ∷ []))
+unfoldable pub number_of : Expr → Option ℕ
+number_of e = number_in (out-ExprNode e.node)
 
--- no text of the form
-abbrev pub IsOutOfForm : List ℕ → Type 0
-IsOutOfForm text = (n : ℕ) → ¬ (IsReturn text n)
+abbrev pub return_in : StmtNode-F ForInit StmtNode Stmt → Option ℕ
+return_in (Return (Some e)) = number_of e
+return_in node = None
+
+unfoldable pub return_of : Stmt → Option ℕ
+return_of s = return_in (out-StmtNode s.node)
+
+abbrev pub only_return : List Stmt → Option ℕ
+only_return (s ∷ []) = return_of s
+only_return statements = None
+
+abbrev pub body_in : StmtNode-F ForInit StmtNode Stmt → Option ℕ
+body_in (Compound statements) = only_return statements
+body_in node = None
+
+unfoldable pub body_of : Stmt → Option ℕ
+body_of s = body_in (out-StmtNode s.node)
+
+abbrev pub main_in : TopNode → Option ℕ
+main_in (Func (Some Int) name [] (Some body)) =
+    if bytes_eq name (codes "main") then body_of body else None
+main_in node = None
+
+abbrev pub only_main : List Top → Option ℕ
+only_main (item ∷ []) = main_in item.node
+only_main items = None
+
+abbrev pub returned : Program → Option ℕ
+returned tree = only_main tree.items
+
+-- The text is of a program that returns n: it is within the limit, and its tree has types.
+pub record IsReturn (text : List ℕ) (n : ℕ) : Type 0 where
+  pub few : length text ≤ most_source_bytes
+  pub tree : Program
+  pub has_tree : HasTree text tree
+  pub has_types : program_fault tree ≡ None
+  pub returns : returned tree ≡ Some n
+
+-- the text is of a program that is not built
+pub record IsNotBuilt (text : List ℕ) : Type 0 where
+  pub tree : Program
+  pub has_tree : HasTree text tree
+  pub has_types : program_fault tree ≡ None
+  pub returns : returned tree ≡ None
 
 -- a constant for a write
 abbrev pub constant : ℕ → ℕ → Inst

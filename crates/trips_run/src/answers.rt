@@ -4,6 +4,7 @@ ghost use Rattle.trips_run.specs.Request.{request_of};
 ghost use Rattle.trips_run.specs.Answer.{IsAnswer};
 
 use crate::answer::{Answer, fixed};
+use crate::eval_answer::eval_answer;
 use crate::image_answer::image_answer;
 use crate::reading::read;
 use crate::status::Status;
@@ -39,6 +40,10 @@ pub fn answer_for<F: Files>(
         Some(Asked::RunImage(file)) => {
             let reading = read(alloc, files, file, MOST_IMAGE_BYTES)?;
             image_answer(alloc, &reading)
+        }
+        Some(Asked::Eval { file, input, steps }) => {
+            let reading = read(alloc, files, file, MOST_SOURCE_BYTES)?;
+            eval_answer(alloc, files, &reading, input, steps)
         }
     }
 }

@@ -1,12 +1,11 @@
 ghost use Rattle.std.specs.Prelude.{◌≡◌, IfOk};
 ghost use Rattle.trips_isa.specs.Images.{FitsImage};
-ghost use Rattle.trips_run.specs.Answer.{IsRunOfImage, IsRunOfBytes, IsImageAnswer};
+ghost use Rattle.trips_run.specs.Answer.{IsRunOfImage, IsRunOfBytes, AfterReading};
 
-use crate::answer::{Answer, fixed, refused, unread};
+use crate::answer::{Answer, refused, too_large, unread};
 use crate::reading::Reading;
 use crate::refusals::{check_text, image_text};
 use crate::running::run_image;
-use crate::status::Status;
 use block_check::{CheckedImage, ImageRefusal};
 use block_image::{ImageFault, decode};
 use std::alloc::{AllocError, Global};
@@ -36,13 +35,14 @@ fn bytes_answer(alloc: Global, bytes: &[u8]) -> Result<Answer, AllocError>
 }
 
 /// What `run` answers for what reading an image's file came to.
-#[tactic(auto, unfolding(crate::specs::Refusal::too_large_text))]
 pub fn image_answer(alloc: Global, reading: &Reading) -> Result<Answer, AllocError>
-    ensures { IfOk result (λ answer. IsImageAnswer reading.now answer.status answer.report.items) }
+    ensures { IfOk result (λ answer. AfterReading reading.now
+        (λ bytes. IsRunOfBytes bytes answer.status answer.report.items)
+        answer.status answer.report.items) }
 {
     match reading {
         Reading::Fault => unread(alloc),
-        Reading::TooLarge => fixed(alloc, Status::Refused, b"refused file 2 TooLarge\n"),
+        Reading::TooLarge => too_large(alloc),
         Reading::Bytes(bytes) => bytes_answer(alloc, bytes.as_slice()),
     }
 }

@@ -7,8 +7,11 @@
 
 mod answer;
 mod answers;
+mod eval_answer;
 mod image;
 mod image_answer;
+mod number;
+mod options;
 mod reading;
 mod refusals;
 mod report;
@@ -22,6 +25,12 @@ mod words;
 pub use status::Status;
 pub use top::trips_run;
 
+#[cfg(test)]
+mod eval_tests;
+#[cfg(test)]
+mod front_tests;
+#[cfg(test)]
+mod harness;
 #[cfg(test)]
 mod image_tests;
 #[cfg(test)]

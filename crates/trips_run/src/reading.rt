@@ -1,10 +1,13 @@
-ghost use Rattle.std.specs.Prelude.{◌≡◌, ◌≤◌, IfOk};
+ghost use Rattle.std.specs.Prelude.{◌≡◌, ◌≤◌, option_copied, IfOk};
 ghost use Rattle.trips_outside.specs.Outside.{Rose};
-ghost use Rattle.trips_run.specs.Read.{IsRead, IsWithin};
+ghost use Rattle.trips_run.specs.Read.{IsRead, IsInputRead, IsWithin};
 
 use base::Items;
 use std::alloc::{AllocError, Global};
 use trips_outside::{Files, LoadFault, load};
+
+/// How many bytes an input may have.
+const MOST_INPUT_BYTES: u64 = 1_048_576;
 
 /// What reading a file came to.
 #[derive(Drop)]
@@ -32,5 +35,23 @@ pub fn read<F: Files>(
         Err(LoadFault::Fault) => Ok(Reading::Fault),
         Err(LoadFault::TooLarge) => Ok(Reading::TooLarge),
         Err(LoadFault::Memory) => Err(AllocError),
+    }
+}
+
+/// Reads the input, which is empty where no file is named. Want of memory is the only error.
+#[tactic(auto, unfolding(crate::specs::Read::most_input_bytes))]
+pub fn read_input<F: Files>(
+    alloc: Global,
+    files: &mut F,
+    name: Option<&str>,
+) -> Result<Reading, AllocError>
+    ensures ok { IfOk result (IsInputRead (option_copied name.entry) (F.held files.old)
+        (Rose (F.faults files.old) (F.faults files.new))) }
+    ensures kept { F.held files.new ≡ F.held files.old }
+    ensures later { F.faults files.old ≤ F.faults files.new }
+{
+    match name {
+        None => Ok(Reading::Bytes(Items::new(alloc))),
+        Some(name) => read(alloc, files, name, MOST_INPUT_BYTES),
     }
 }

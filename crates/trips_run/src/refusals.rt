@@ -1,11 +1,13 @@
 ghost use Rattle.std.specs.Prelude.{◌≡◌, ◌≢◌, ◌++◌, OnOk, IfOk, codes, decimal};
 ghost use Rattle.text_pieces.specs.Spots.{spot_text};
-ghost use Rattle.trips_run.specs.Refusal.{at_line, lex_refusal, image_refusal, fault_text};
-ghost use Rattle.trips_run.specs.Refusal.{check_refusal};
+ghost use Rattle.trips_run.specs.Refusal.{at_line, lex_refusal, parse_refusal, type_refusal};
+ghost use Rattle.trips_run.specs.Refusal.{image_refusal, fault_text, check_refusal};
 
 use block_check::CheckFault;
 use block_image::ImageFault;
 use c_lex::LexFault;
+use c_parse::ParseFault;
+use c_type::TypeFault;
 use std::alloc::{AllocError, Global};
 use text_pieces::{put_number, put_spot};
 use trips_isa::Spot;
@@ -21,9 +23,8 @@ fn on_line(alloc: Global, name: &[u8], line: u32) -> Result<Vec<u8>, AllocError>
     Ok(text)
 }
 
-/// The refusal of a text that has no tokens.
+/// The refusal of a text that has no tokens. Want of memory is none, and stays an error.
 pub fn lex_text(alloc: Global, fault: LexFault) -> Result<Vec<u8>, AllocError>
-    requires { fault ≢ LexFault.Memory }
     ensures { IfOk result (λ text. text.items ≡ lex_refusal fault) }
 {
     match fault {
@@ -32,7 +33,36 @@ pub fn lex_text(alloc: Global, fault: LexFault) -> Result<Vec<u8>, AllocError>
         LexFault::Unclosed(line) => on_line(alloc, b"refused lex 3 Unclosed", line),
         LexFault::TooManyTokens(line) => on_line(alloc, b"refused lex 4 TooManyTokens", line),
         LexFault::Directive(line) => on_line(alloc, b"refused lex 5 Directive", line),
-        LexFault::Memory => unreachable!(),
+        LexFault::Memory => Err(AllocError),
+    }
+}
+
+/// The refusal of a text whose tokens have no tree. Want of memory is none, and stays an error.
+pub fn parse_text(alloc: Global, fault: ParseFault) -> Result<Vec<u8>, AllocError>
+    ensures { IfOk result (λ text. text.items ≡ parse_refusal fault) }
+{
+    match fault {
+        ParseFault::Syntax(line) => on_line(alloc, b"refused parse 1 Syntax", line),
+        ParseFault::TooDeep(line) => on_line(alloc, b"refused parse 2 TooDeep", line),
+        ParseFault::Memory => Err(AllocError),
+    }
+}
+
+/// The refusal of a text whose tree has no types. Want of memory is none, and stays an error.
+pub fn type_text(alloc: Global, fault: TypeFault) -> Result<Vec<u8>, AllocError>
+    ensures { IfOk result (λ text. text.items ≡ type_refusal fault) }
+{
+    match fault {
+        TypeFault::Unknown(line) => on_line(alloc, b"refused type 1 Unknown", line),
+        TypeFault::Twice(line) => on_line(alloc, b"refused type 2 Twice", line),
+        TypeFault::Mismatch(line) => on_line(alloc, b"refused type 3 Mismatch", line),
+        TypeFault::Arity(line) => on_line(alloc, b"refused type 4 Arity", line),
+        TypeFault::NoMain => Vec::from_slice(alloc, b"refused type 5 NoMain\n"),
+        TypeFault::TooManyScalars(line) => on_line(alloc, b"refused type 6 TooManyScalars", line),
+        TypeFault::TooManyParams(line) => on_line(alloc, b"refused type 7 TooManyParams", line),
+        TypeFault::Need(line) => on_line(alloc, b"refused type 8 Need", line),
+        TypeFault::TooLarge(line) => on_line(alloc, b"refused type 9 TooLarge", line),
+        TypeFault::Memory => Err(AllocError),
     }
 }
 

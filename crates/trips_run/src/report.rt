@@ -1,7 +1,9 @@
 ghost use Rattle.std.specs.Prelude.{◌≡◌, IfOk, string_bytes};
 ghost use Rattle.trips_run.specs.Report.{signed, ending_line, report_of, run_report};
+ghost use Rattle.trips_run.specs.Report.{done_lines, eval_report};
 
 use block_atomic::Arch;
+use c_meaning::Outcome;
 use std::alloc::{AllocError, Global};
 use trips_isa::Ending;
 
@@ -57,4 +59,30 @@ pub fn run_text(alloc: Global, ending: Ending, arch: &Arch) -> Result<Vec<u8>, A
 {
     let line = ending_text(alloc, ending, arch.register(3), arch.trace().len())?;
     report_text(alloc, arch.output(), line.as_str())
+}
+
+// The lines of what main returned and of how many steps were taken.
+fn done_text(alloc: Global, value: i32, steps: u64) -> Result<String, AllocError>
+    ensures { IfOk result (λ text. string_bytes text ≡ done_lines value steps) }
+{
+    format!(in alloc; "result {value}\nsteps {steps}")
+}
+
+/// The report of an evaluation.
+pub fn eval_text(alloc: Global, outcome: &Outcome) -> Result<Vec<u8>, AllocError>
+    ensures { IfOk result (λ report. report.items ≡ eval_report outcome.now) }
+{
+    match outcome {
+        Outcome::More => Vec::from_slice(alloc, b"more\n"),
+        Outcome::Undefined => Vec::from_slice(alloc, b"undefined\n"),
+        Outcome::Deep => Vec::from_slice(alloc, b"deep\n"),
+        Outcome::Done {
+            output,
+            result,
+            steps,
+        } => {
+            let lines = done_text(alloc, *result, *steps)?;
+            report_text(alloc, output.as_slice(), lines.as_str())
+        }
+    }
 }

@@ -1,71 +1,99 @@
-ghost use Rattle.std.specs.Prelude.{◌≡◌, ◌<◌, ◌^◌, ◌++◌, ◌≢◌, ℕ, List, MatchOption, IfOk, decimal};
-ghost use Rattle.trips_run.specs.Source.{IsReturn, IsOutOfForm, source};
+//! The programs that `run` builds today, by their trees.
 
-use std::alloc::{AllocError, Global};
+ghost use Rattle.std.specs.Prelude.{◌≡◌, if◌then◌else◌, None, codes, bytes_eq};
+ghost use Rattle.trips_run.specs.Source.{small_int, number_of, return_of, only_return, body_of};
+ghost use Rattle.trips_run.specs.Source.{main_in, returned};
 
-// What comes after the front, where the text begins with it.
-#[tactic(auto, using(crate::proofs::Text::strips_front))]
-fn without_front<'a>(text: &'a [u8], front: &[u8]) -> Option<&'a [u8]>
-    ensures { MatchOption result
-        ((rest : List ℕ) → text.now ≢ front.now ++ rest)
-        (λ rest. text.now ≡ front.now ++ rest.now) }
+use c_tree::{Expr, ExprNode, Kind, Program, Stmt, StmtNode, TopNode, Word};
+
+// The value, where it is of type int and fits in sixteen bits.
+fn small(value: u64, kind: Kind) -> Option<u16>
+    ensures { result ≡ small_int value kind }
 {
-    text.strip_prefix(front)
-}
-
-// What comes before the back, where the text ends with it.
-#[tactic(auto, using(crate::proofs::Text::strips_back))]
-fn without_back<'a>(text: &'a [u8], back: &[u8]) -> Option<&'a [u8]>
-    ensures { MatchOption result
-        ((rest : List ℕ) → text.now ≢ rest ++ back.now)
-        (λ rest. text.now ≡ rest.now ++ back.now) }
-{
-    text.strip_suffix(back)
-}
-
-// The number below 2^16 that these are the digits of. It is guessed, printed and compared, so that
-// no other spelling is taken.
-fn number(alloc: Global, digits: &[u8]) -> Result<Option<u16>, AllocError>
-    ensures { IfOk result (λ found. MatchOption found
-        ((n : ℕ) → n < 2 ^ 16 → digits.now ≢ decimal n)
-        (λ n. (n < 2 ^ 16) × (digits.now ≡ decimal n))) }
-{
-    let Ok(word) = str::from_utf8(digits) else {
-        return Ok(None);
-    };
-    let Ok(n) = word.parse::<u16>() else {
-        return Ok(None);
-    };
-    if n.to_string(alloc)?.as_bytes() == digits {
-        Ok(Some(n))
-    } else {
-        Ok(None)
+    match kind {
+        Kind::Int if value < 65_536 => Some(value as u16),
+        _ => None,
     }
 }
 
-// The number that is returned, in a text with no line feed behind it.
-#[tactic(auto, unfolding(crate::specs::Source::front, crate::specs::Source::back))]
-fn returned_by(alloc: Global, body: &[u8]) -> Result<Option<u16>, AllocError>
-    ensures { IfOk result (λ found. MatchOption found
-        ((n : ℕ) → n < 2 ^ 16 → body.now ≢ source n)
-        (λ n. (n < 2 ^ 16) × (body.now ≡ source n))) }
+#[tactic(auto, unfolding(crate::specs::Source::number_of))]
+fn number(e: &Expr) -> Option<u16>
+    ensures { result ≡ number_of e.now }
 {
-    let Some(rest) = without_front(body, b"int main(void) { return ") else {
-        return Ok(None);
-    };
-    let Some(digits) = without_back(rest, b"; }") else {
-        return Ok(None);
-    };
-    number(alloc, digits)
+    match &e.node {
+        ExprNode::Number { value, kind } => small(*value, *kind),
+        _ => None,
+    }
 }
 
-/// The number that the program returns, and none where the text is not of the form.
-pub fn returned(alloc: Global, text: &[u8]) -> Result<Option<u16>, AllocError>
-    ensures { IfOk result (λ found.
-        MatchOption found (IsOutOfForm text.now) (λ n. IsReturn text.now n)) }
+#[tactic(auto, unfolding(crate::specs::Source::return_of))]
+fn number_returned(statement: &Stmt) -> Option<u16>
+    ensures { result ≡ return_of statement.now }
 {
-    match without_back(text, b"\n") {
-        Some(body) => returned_by(alloc, body),
-        None => returned_by(alloc, text),
+    match &statement.node {
+        StmtNode::Return(Some(e)) => number(e),
+        _ => None,
+    }
+}
+
+fn only_statement(statements: &[Stmt]) -> Option<u16>
+    ensures { result ≡ only_return statements.now }
+{
+    if statements.len() == 1 {
+        number_returned(&statements[0])
+    } else {
+        None
+    }
+}
+
+#[tactic(auto, unfolding(crate::specs::Source::body_of))]
+fn body(statement: &Stmt) -> Option<u16>
+    ensures { result ≡ body_of statement.now }
+{
+    match &statement.node {
+        StmtNode::Compound(statements) => only_statement(statements.as_slice()),
+        _ => None,
+    }
+}
+
+fn main_body(name: &Word, statement: &Stmt) -> Option<u16>
+    ensures { result ≡ (if bytes_eq name.now (codes "main") then body_of statement.now else None) }
+{
+    if name.as_slice() == b"main".as_slice() {
+        body(statement)
+    } else {
+        None
+    }
+}
+
+fn main_function(node: &TopNode) -> Option<u16>
+    ensures { result ≡ main_in node.now }
+{
+    match node {
+        TopNode::Func {
+            result: Some(Kind::Int),
+            name,
+            params,
+            body: Some(statement),
+        } => {
+            if params.is_empty() {
+                main_body(name, statement)
+            } else {
+                None
+            }
+        }
+        _ => None,
+    }
+}
+
+/// The number that a program returns, and none where its tree is not of the form.
+pub fn returned_number(tree: &Program) -> Option<u16>
+    ensures { result ≡ returned tree.now }
+{
+    let items = tree.items.as_slice();
+    if items.len() == 1 {
+        main_function(&items[0].node)
+    } else {
+        None
     }
 }

@@ -65,32 +65,8 @@ fn reports_the_number_whatever_the_pieces(rt: HostRuntime) -> Result<(), Fail> {
             Status::Refused,
             NOT_BUILT,
         ),
-        ("int main(void) { return 07; }", Status::Refused, NOT_BUILT),
-        ("int main(void) { return +7; }", Status::Refused, NOT_BUILT),
-        ("int main(void) { return ; }", Status::Refused, NOT_BUILT),
-        (
-            "int main(void) { return 7; }\n\n",
-            Status::Refused,
-            NOT_BUILT,
-        ),
-        ("", Status::Refused, NOT_BUILT),
+        ("", Status::Refused, "refused parse 1 Syntax line 1\n"),
         ("@", Status::Refused, "refused lex 1 BadByte line 1\n"),
-        (
-            "int main(void) {\n return 18446744073709551616; }",
-            Status::Refused,
-            "refused lex 2 BadLiteral line 2\n",
-        ),
-        (
-            "int main(void) { return 0xE+1; }",
-            Status::Refused,
-            "refused lex 2 BadLiteral line 1\n",
-        ),
-        ("/*", Status::Refused, "refused lex 3 Unclosed line 1\n"),
-        (
-            "#define A 1\n",
-            Status::Refused,
-            "refused lex 5 Directive line 1\n",
-        ),
     ];
     for (text, status, report) in rows {
         for piece in [1usize, 4, 64] {
@@ -125,12 +101,11 @@ fn reports_to_an_honest_sink(rt: HostRuntime) -> Result<(), Fail> {
 #[test]
 fn other_words_are_usage(rt: HostRuntime) -> Result<(), Fail> {
     let alloc = rt.alloc();
-    let rows: [&[&str]; 6] = [
+    let rows: [&[&str]; 5] = [
         &[],
         &["run"],
         &["run", "-a"],
         &["run", "a.tasl"],
-        &["eval", "a.c"],
         &["run", "a.c", "b.c"],
     ];
     for row in rows {
@@ -164,14 +139,14 @@ fn faults_are_told(rt: HostRuntime) -> Result<(), Fail> {
     Ok(())
 }
 
-// A file above the limit is refused, and one at the limit is judged by its text, whose tokens may be
-// too many.
+// A file above the limit is refused, and one at the limit is judged by its text, whose tokens may
+// be too many.
 #[test]
 fn large_files_are_refused(rt: HostRuntime) -> Result<(), Fail> {
     let alloc = rt.alloc();
     let rows = [
         (262_145usize, b' ', "refused file 2 TooLarge\n"),
-        (262_144, b' ', NOT_BUILT),
+        (262_144, b' ', "refused parse 1 Syntax line 1\n"),
         (8_193, b';', "refused lex 4 TooManyTokens line 1\n"),
     ];
     for (size, byte, report) in rows {

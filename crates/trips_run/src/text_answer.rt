@@ -1,21 +1,25 @@
-ghost use Rattle.std.specs.Prelude.{◌≡◌, ◌<◌, ◌≤◌, ◌^◌, ◌∷◌, [], length, IfOk};
-ghost use Rattle.trips_run.specs.Source.{return_block};
-ghost use Rattle.trips_run.specs.Read.{IsWithin};
-ghost use Rattle.trips_run.specs.Refusal.{form_text};
-ghost use Rattle.trips_run.specs.Answer.{block_budget, IsFixed, IsRunBy, IsRefusalOfText};
-ghost use Rattle.trips_run.specs.Answer.{IsRunOfText};
-ghost use Rattle.trips_run.specs.Answer.{IsTextAnswer};
+//! `run` on a text of C.
 
-use crate::answer::{Answer, fixed, refused, unread};
+ghost use Rattle.std.specs.Prelude.{◌≡◌, ◌≢◌, ◌<◌, ◌≤◌, ◌∷◌, [], ◌⊎◌, None, length, IfOk};
+ghost use Rattle.c_type.specs.Programs.{program_fault};
+ghost use Rattle.c_front.specs.Fronts.{MayHaveNoTypes};
+ghost use Rattle.c_front.specs.declared.refusal.Refusal.TheVariants.{Memory};
+ghost use Rattle.trips_run.specs.Source.{return_block, returned};
+ghost use Rattle.trips_run.specs.Read.{IsWithin};
+ghost use Rattle.trips_run.specs.Refusal.{form_text, front_refusal};
+ghost use Rattle.trips_run.specs.Answer.{block_budget, IsFixed, IsRunBy, IsRunOfForm};
+ghost use Rattle.trips_run.specs.Answer.{IsRunOfText, AfterReading};
+ghost use Rattle.trips_run.specs.Trees.{IsAnswerOfTree};
+
+use crate::answer::{Answer, fixed, stage_refused, too_large, unread};
 use crate::image::return_image;
 use crate::reading::Reading;
-use crate::refusals::lex_text;
 use crate::running::run_image;
-use crate::source::returned;
+use crate::source::returned_number;
 use crate::status::Status;
 use block_check::{CheckedImage, ImageRefusal};
-use c_lex::{LexFault, lex};
-use c_tree::Lexeme;
+use c_front::{read, type_read};
+use c_tree::Program;
 use std::alloc::{AllocError, Global};
 
 // Runs the program that returns the number. Its image is good.
@@ -31,24 +35,25 @@ fn run_number(alloc: Global, word: u16) -> Result<Answer, AllocError>
     }
 }
 
-// The refusal of a text that has tokens, and is not of the form.
+// Runs the program that returns the number, or refuses one that is not built.
 #[tactic(auto, unfolding(crate::specs::Refusal::form_text))]
-fn not_built(alloc: Global, tokens: Vec<Lexeme>) -> Result<Answer, AllocError>
-    ensures { IfOk result (λ answer.
-        IsFixed Status.Refused form_text answer.status answer.report.items) }
+fn form_answer(alloc: Global, number: Option<u16>) -> Result<Answer, AllocError>
+    ensures { IfOk result (λ answer. IsRunOfForm number answer.status answer.report.items) }
 {
-    fixed(alloc, Status::Refused, b"refused form 1 FormNotBuilt\n")
+    match number {
+        Some(word) => run_number(alloc, word),
+        None => fixed(alloc, Status::Refused, b"refused form 1 FormNotBuilt\n"),
+    }
 }
 
-// The refusal of a text that is not of the form.
-fn text_refusal(alloc: Global, text: &[u8]) -> Result<Answer, AllocError>
-    requires { length text.now ≤ 262144 }
-    ensures { IfOk result (λ answer. IsRefusalOfText text.now answer.status answer.report.items) }
+// What `run` answers for a tree.
+fn tree_answer(alloc: Global, tree: Program) -> Result<Answer, AllocError>
+    ensures { IfOk result (λ answer. IsAnswerOfTree tree answer.status answer.report.items) }
 {
-    match lex(alloc, text) {
-        Ok(tokens) => not_built(alloc, tokens),
-        Err(LexFault::Memory) => Err(AllocError),
-        Err(fault) => Ok(refused(lex_text(alloc, fault)?)),
+    let number = returned_number(&tree);
+    match type_read(alloc, tree) {
+        Ok(program) => form_answer(alloc, number),
+        Err(refusal) => stage_refused(alloc, refusal),
     }
 }
 
@@ -57,21 +62,22 @@ fn text_answer(alloc: Global, text: &[u8]) -> Result<Answer, AllocError>
     requires { length text.now ≤ 262144 }
     ensures { IfOk result (λ answer. IsRunOfText text.now answer.status answer.report.items) }
 {
-    match returned(alloc, text)? {
-        Some(word) => run_number(alloc, word),
-        None => text_refusal(alloc, text),
+    match read(alloc, text) {
+        Ok(tree) => tree_answer(alloc, tree),
+        Err(refusal) => stage_refused(alloc, refusal),
     }
 }
 
 /// What `run` answers for what reading a file of C came to.
-#[tactic(auto, unfolding(crate::specs::Refusal::too_large_text))]
 pub fn source_answer(alloc: Global, reading: &Reading) -> Result<Answer, AllocError>
     requires { IsWithin 262144 reading.now }
-    ensures { IfOk result (λ answer. IsTextAnswer reading.now answer.status answer.report.items) }
+    ensures { IfOk result (λ answer. AfterReading reading.now
+        (λ text. IsRunOfText text answer.status answer.report.items)
+        answer.status answer.report.items) }
 {
     match reading {
         Reading::Fault => unread(alloc),
-        Reading::TooLarge => fixed(alloc, Status::Refused, b"refused file 2 TooLarge\n"),
+        Reading::TooLarge => too_large(alloc),
         Reading::Bytes(text) => text_answer(alloc, text.as_slice()),
     }
 }

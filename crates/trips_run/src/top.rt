@@ -1,9 +1,13 @@
-ghost use Rattle.std.specs.Prelude.{◌≡◌, ◌≢◌, ◌≤◌, ◌∷◌, [], List, ℕ, None, Some};
+ghost use Rattle.std.specs.Prelude.{◌≡◌, ◌≢◌, ◌≤◌, ◌∷◌, [], List, ℕ, Option, None, Some};
+ghost use Rattle.c_tree.specs.declared.typed.TypedProgram.{TypedProgram};
 ghost use Rattle.trips_outside.specs.Outside.{Rose, Appended};
-ghost use Rattle.trips_run.specs.Request.{Run, request_of};
+ghost use Rattle.trips_run.specs.Request.{Run, Eval, request_of};
 ghost use Rattle.trips_run.specs.Source.{IsReturn};
 ghost use Rattle.trips_run.specs.Refused.{MayBeRefused, IsRefused};
+ghost use Rattle.trips_run.specs.Answer.{eval_status, outcome_of};
+ghost use Rattle.trips_run.specs.Report.{eval_report};
 ghost use Rattle.trips_run.specs.Table.{IsAnswered, IsCutOff, IsOneOf, return_report};
+ghost use Rattle.trips_run.specs.Table.{AsksFor, EvalEnds};
 
 use crate::answers::answer_for;
 use crate::status::Status;
@@ -28,6 +32,16 @@ pub fn trips_run<F: Files, K: Sink>(
         → (result ≡ Status.Ended)
         × Appended (K.written sink.old) (K.written sink.new) (return_report n) }
 
+    // An accepted program's evaluation is reported, where it and its input are told and within
+    // their limits, and nothing failed.
+    ensures evaluation { (program : TypedProgram) (bytes : List ℕ) (steps : ℕ)
+        → AsksFor (request_of words.now) (F.held files.old) program bytes steps
+        → ¬ Rose (F.faults files.old) (F.faults files.new)
+        → ¬ Rose (K.faults sink.old) (K.faults sink.new) → result ≢ Status.Memory
+        → (result ≡ eval_status (outcome_of program bytes steps))
+        × Appended (K.written sink.old) (K.written sink.new)
+        (eval_report (outcome_of program bytes steps)) }
+
     // The table: whatever comes, it is the row of the request, of what was read and of the writing.
     ensures answered { IsAnswered (request_of words.now) (F.held files.old)
         (Rose (F.faults files.old) (F.faults files.new)) (K.written sink.old) (K.written sink.new)
@@ -43,6 +57,12 @@ pub fn trips_run<F: Files, K: Sink>(
     ensures refused_comes { IsRefused (request_of words.now) (F.held files.old)
         → IsOneOf result (Status.Refused ∷ Status.ReadFault
         ∷ Status.Memory ∷ Status.WriteFault ∷ []) }
+    ensures undefined_only { result ≡ Status.Undefined
+        → EvalEnds (request_of words.now) (F.held files.old) result }
+    ensures eval_ends { (file : List ℕ) (input : Option (List ℕ)) (steps : ℕ)
+        → request_of words.now ≡ Some (Eval file input steps)
+        → IsOneOf result (Status.Ended ∷ Status.Budget ∷ Status.StackFull ∷ Status.Undefined ∷ [])
+        → EvalEnds (request_of words.now) (F.held files.old) result }
     ensures write_fault { result ≡ Status.WriteFault
         → Rose (K.faults sink.old) (K.faults sink.new) }
     ensures cut_off { result ≡ Status.WriteFault

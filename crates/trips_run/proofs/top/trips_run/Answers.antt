@@ -10,6 +10,10 @@ pub returns-in-Ok-write_all-clause-headline : goal.returns-in-Ok-write_all-claus
 returns-in-Ok-write_all-clause-headline g c =
     causes.headline _ _ _ _ _ _ _ (returns-in-Ok-write_all-clause-answered g c)
 
+pub returns-in-Ok-write_all-clause-evaluation : goal.returns-in-Ok-write_all-clause-evaluation
+returns-in-Ok-write_all-clause-evaluation g c =
+    causes.evaluation _ _ _ _ _ _ _ (returns-in-Ok-write_all-clause-answered g c)
+
 pub returns-in-Ok-write_all-clause-usage_only : goal.returns-in-Ok-write_all-clause-usage_only
 returns-in-Ok-write_all-clause-usage_only g c =
     causes.usage_only _ _ _ _ _ _ _ (returns-in-Ok-write_all-clause-answered g c)
@@ -33,3 +37,11 @@ returns-in-Ok-write_all-clause-write_fault g c =
 pub returns-in-Ok-write_all-clause-memory : goal.returns-in-Ok-write_all-clause-memory
 returns-in-Ok-write_all-clause-memory g c =
     causes.memory _ _ _ _ _ _ _ (returns-in-Ok-write_all-clause-answered g c)
+
+pub returns-in-Ok-write_all-clause-undefined_only : goal.returns-in-Ok-write_all-clause-undefined_only
+returns-in-Ok-write_all-clause-undefined_only g c =
+    causes.undefined_only _ _ _ _ _ _ _ (returns-in-Ok-write_all-clause-answered g c)
+
+pub returns-in-Ok-write_all-clause-eval_ends : goal.returns-in-Ok-write_all-clause-eval_ends
+returns-in-Ok-write_all-clause-eval_ends g c =
+    causes.eval_ends _ _ _ _ _ _ _ (returns-in-Ok-write_all-clause-answered g c)

@@ -1,0 +1,314 @@
+//! `eval` on texts of C: outcomes, options, and inputs.
+use crate::Status;
+use crate::harness::answer_of;
+use std::alloc::{AllocError, Global};
+use std::process::Abort;
+use std::test::Fail;
+
+// Texts and their whole reports.
+const COUNTED: &[(&str, &str)] = &[
+    ("int main(void) { return 7; }", "output 0\n\nresult 7\nsteps 4\n"),
+    ("int main(void) { }", "output 0\n\nresult 0\nsteps 2\n"),
+];
+
+// Texts with how their reports begin.
+const ENDED: &[(&str, &str)] = &[
+    ("int main(void) { return -7 / 2 * 10 + -7 % 2; }", "output 0\n\nresult -31\nsteps "),
+    (
+        "int main(void) { long x = -1; unsigned int y = 1; \
+         return (0u - 1 > 0) * 2 + (x - y < 0); }",
+        "output 0\n\nresult 3\nsteps ",
+    ),
+    (
+        "int main(void) { int a = 0; int b = 1; int x = 5; \
+         if (a) if (b) x = 1; else x = 2; return x; }",
+        "output 0\n\nresult 5\nsteps ",
+    ),
+    (
+        "long a[9]; int main(void) { int i; a[0] = 1; \
+         for (i = 1; i < 9; i++) a[i] = a[i - 1] * 2; return (int) a[8]; }",
+        "output 0\n\nresult 256\nsteps ",
+    ),
+    (
+        "int main(void) { int i; int s = 0; for (i = 4; i != 0; i--) s += 24 / i; return s; }",
+        "output 0\n\nresult 50\nsteps ",
+    ),
+    ("int main(void) { return (int) (1u << 31 >> 31); }", "output 0\n\nresult 1\nsteps "),
+    (
+        "#include <stdio.h>\nint main(void) { putchar('a'); putchar(10); return EOF; }",
+        "output 2\na\n\nresult -1\nsteps ",
+    ),
+    ("int f(void) { } int main(void) { f(); return 3; }", "output 0\n\nresult 3\nsteps "),
+];
+
+// Expressions that are undefined, each before one just inside its range, with its value.
+const EDGES: &[(&str, &str, &str)] = &[
+    ("2147483647 + 1", "2147483646 + 1", "2147483647"),
+    ("-2147483647 - 2", "-2147483647 - 1", "-2147483648"),
+    ("46341 * 46341", "46340 * 46340", "2147395600"),
+    ("-(-2147483647 - 1)", "-(-2147483647)", "2147483647"),
+    ("1 / 0", "1 / 1", "1"),
+    ("1 % 0", "1 % 1", "0"),
+    ("(-2147483647 - 1) / -1", "-2147483647 / -1", "2147483647"),
+    ("(-2147483647 - 1) % -1", "-2147483647 % -1", "0"),
+    ("1 << 32", "1 << 30", "1073741824"),
+    ("1 << -1", "1 << 0", "1"),
+    ("1 << 31", "-1 >> 31", "-1"),
+    ("-1 << 0", "0 << 31", "0"),
+    ("1 >> 32", "1 >> 31", "0"),
+    ("(int) (9223372036854775807 + 1)", "(int) (9223372036854775806 + 1)", "-1"),
+    ("(int) (1L << 63)", "(int) (1L << 62 >> 62)", "1"),
+];
+
+// Texts that are undefined, each before one that is not and has result 3.
+const UNSET: &[(&str, &str)] = &[
+    ("int main(void) { int x; return x; }", "int main(void) { int x = 3; return x; }"),
+    ("int main(void) { int x; x; return 3; }", "int main(void) { int x; ; return 3; }"),
+    (
+        "int a[2]; int main(void) { return a[2]; }",
+        "int a[2]; int main(void) { return a[1] + 3; }",
+    ),
+    (
+        "int a[2]; int main(void) { return a[-1]; }",
+        "int a[2]; int main(void) { return a[0] + 3; }",
+    ),
+    (
+        "int main(void) { int a[2]; a[0] = 3; return a[1]; }",
+        "int main(void) { int a[2]; a[0] = 3; return a[0]; }",
+    ),
+    (
+        "int main(void) { int i; int s = 0; \
+         for (i = 0; i < 3; i++) { int x; if (i == 0) x = 1; s += x; } return s; }",
+        "int main(void) { int i; int s = 0; \
+         for (i = 0; i < 3; i++) { int x; if (i >= 0) x = 1; s += x; } return s; }",
+    ),
+    (
+        "int f(int x) { if (x) return 3; } int main(void) { return f(0); }",
+        "int f(int x) { if (x) return 3; } int main(void) { return f(1); }",
+    ),
+    (
+        "int f(void) { } int main(void) { return 1 + f(); }",
+        "int f(void) { } int main(void) { return f(), 3; }",
+    ),
+];
+
+// Each text is answered by its whole report.
+fn assert_reports(
+    rt: &impl Abort,
+    alloc: Global,
+    status: Status,
+    rows: &[(&str, &str)],
+) -> Result<(), AllocError> {
+    for (text, report) in rows {
+        let (answered, written) = answer_of(alloc, &["eval", "a.c"], &[("a.c", text.as_bytes())])?;
+        assert_eq!(rt; answered, status, "{text}");
+        assert_eq!(rt; written.as_slice(), report.as_bytes(), "{text}");
+    }
+    Ok(())
+}
+
+// The text is answered by a report that begins so.
+fn assert_begins(
+    rt: &impl Abort,
+    alloc: Global,
+    text: &str,
+    input: &[u8],
+    report: &str,
+) -> Result<(), AllocError> {
+    let (status, written) = answer_of(
+        alloc,
+        &["eval", "a.c", "--input", "t"],
+        &[("a.c", text.as_bytes()), ("t", input)],
+    )?;
+    assert_eq!(rt; status, Status::Ended, "{text}");
+    assert!(rt; written.starts_with(report.as_bytes()), "{text}");
+    Ok(())
+}
+
+#[test]
+fn counts_each_step(rt: HostRuntime) -> Result<(), Fail> {
+    assert_reports(&rt, rt.alloc(), Status::Ended, COUNTED)?;
+    Ok(())
+}
+
+#[test]
+fn evaluates_as_the_standard_does(rt: HostRuntime) -> Result<(), Fail> {
+    for (text, report) in ENDED {
+        assert_begins(&rt, rt.alloc(), text, b"", report)?;
+    }
+    Ok(())
+}
+
+// The text of a program that returns an expression.
+fn returning(alloc: Global, expression: &str) -> Result<String, AllocError> {
+    let mut text = String::from_str(alloc, "int main(void) { return ")?;
+    text.push_str(expression)?;
+    text.push_str("; }")?;
+    Ok(text)
+}
+
+#[test]
+fn is_undefined_just_outside_of_a_range(rt: HostRuntime) -> Result<(), Fail> {
+    let alloc = rt.alloc();
+    for (outside, inside, value) in EDGES {
+        let text = returning(alloc, outside)?;
+        assert_reports(&rt, alloc, Status::Undefined, &[(text.as_str(), "undefined\n")])?;
+        let text = returning(alloc, inside)?;
+        let mut report = String::from_str(alloc, "output 0\n\nresult ")?;
+        report.push_str(*value)?;
+        report.push_str("\nsteps ")?;
+        assert_begins(&rt, alloc, text.as_str(), b"", report.as_str())?;
+    }
+    Ok(())
+}
+
+#[test]
+fn is_undefined_where_nothing_was_set(rt: HostRuntime) -> Result<(), Fail> {
+    let alloc = rt.alloc();
+    for (outside, inside) in UNSET {
+        assert_reports(&rt, alloc, Status::Undefined, &[(*outside, "undefined\n")])?;
+        assert_begins(&rt, alloc, inside, b"", "output 0\n\nresult 3\nsteps ")?;
+    }
+    Ok(())
+}
+
+const WORDS: &str = "#include <stdio.h>
+int main(void) {
+  int c; int in = 0; int words = 0;
+  while ((c = getchar()) != EOF) {
+    if (c == ' ' || c == '\\n' || c == '\\t') in = 0;
+    else if (!in) { in = 1; words++; }
+  }
+  putchar('0' + words); putchar('\\n');
+  return words;
+}
+";
+
+#[test]
+fn reads_its_input(rt: HostRuntime) -> Result<(), Fail> {
+    let alloc = rt.alloc();
+    assert_begins(&rt, alloc, WORDS, b"a bb\nccc", "output 2\n3\n\nresult 3\nsteps ")?;
+    assert_begins(&rt, alloc, WORDS, b"", "output 2\n0\n\nresult 0\nsteps ")?;
+    let (status, written) = answer_of(alloc, &["eval", "a.c"], &[("a.c", WORDS.as_bytes())])?;
+    assert_eq!(rt; status, Status::Ended);
+    assert!(rt; written.starts_with(b"output 2\n0\n\nresult 0\nsteps "));
+    Ok(())
+}
+
+// The frames of 6,897 calls and of `main` fill a mebibyte, and eight bytes more do not fit.
+const DEEP: &str = "int f(int n) { if (n == 0) return 0; return f(n - 1) + 1; } \
+     int main(void) { char pad[88]; return f(6896); }";
+
+const DEEPER: &str = "int f(int n) { if (n == 0) return 0; return f(n - 1) + 1; } \
+     int main(void) { char pad[89]; return f(6896); }";
+
+#[test]
+fn stops_where_steps_or_frames_are_spent(rt: HostRuntime) -> Result<(), Fail> {
+    let alloc = rt.alloc();
+    let rows = [
+        (DEEP, "1000000", Status::Ended, "output 0\n\nresult 6896\nsteps 89662\n"),
+        (DEEP, "89662", Status::Ended, "output 0\n\nresult 6896\nsteps 89662\n"),
+        (DEEP, "89661", Status::Budget, "more\n"),
+        (DEEPER, "4000000", Status::StackFull, "deep\n"),
+        ("int main(void) { }", "1", Status::Budget, "more\n"),
+        ("int main(void) { }", "002", Status::Ended, "output 0\n\nresult 0\nsteps 2\n"),
+        ("int main(void) { while (1) ; }", "4000000", Status::Budget, "more\n"),
+    ];
+    for (text, steps, status, report) in rows {
+        let (answered, written) = answer_of(
+            alloc,
+            &["eval", "a.c", "--steps", steps],
+            &[("a.c", text.as_bytes())],
+        )?;
+        assert_eq!(rt; answered, status, "{text} {steps}");
+        assert_eq!(rt; written.as_slice(), report.as_bytes(), "{text} {steps}");
+    }
+    Ok(())
+}
+
+const USAGES: &[&[&str]] = &[
+    &["eval"],
+    &["eval", "-a.c"],
+    &["eval", "a.c", "--steps"],
+    &["eval", "a.c", "--steps", "0"],
+    &["eval", "a.c", "--steps", "4000001"],
+    &["eval", "a.c", "--steps", "-1"],
+    &["eval", "a.c", "--steps", "+1"],
+    &["eval", "a.c", "--steps", ""],
+    &["eval", "a.c", "--steps", "1e3"],
+    &["eval", "a.c", "--steps", "99999999999999999999"],
+    &["eval", "a.c", "--steps", "1", "--steps", "1"],
+    &["eval", "a.c", "--input", "t", "--input", "t"],
+    &["eval", "a.c", "--input", "--steps"],
+    &["eval", "a.c", "--blocks", "1"],
+    &["eval", "a.c", "b.c"],
+    &["eval", "--steps", "1", "a.c"],
+    &["run", "a.c", "--steps", "1"],
+];
+
+#[test]
+fn other_options_are_usage(rt: HostRuntime) -> Result<(), Fail> {
+    for words in USAGES {
+        let (status, written) = answer_of(
+            rt.alloc(),
+            words,
+            &[("a.c", b"int main(void) { }"), ("t", b"")],
+        )?;
+        assert_eq!(rt; status, Status::Usage, "{words:?}");
+        assert_eq!(rt; written.as_slice(), b"usage\n".as_slice(), "{words:?}");
+    }
+    Ok(())
+}
+
+#[test]
+fn takes_both_options_in_either_order(rt: HostRuntime) -> Result<(), Fail> {
+    let orders: [&[&str]; 2] = [
+        &["eval", "a.c", "--input", "t", "--steps", "9"],
+        &["eval", "a.c", "--steps", "9", "--input", "t"],
+    ];
+    let text = b"#include <stdio.h>\nint main(void) { return getchar(); }";
+    for words in orders {
+        let (status, written) =
+            answer_of(rt.alloc(), words, &[("a.c", text.as_slice()), ("t", b"a")])?;
+        assert_eq!(rt; status, Status::Ended, "{words:?}");
+        assert!(rt; written.starts_with(b"output 0\n\nresult 97\nsteps "), "{words:?}");
+    }
+    Ok(())
+}
+
+// The program is read before its input, and both before the program is judged.
+#[test]
+fn reads_the_program_and_then_its_input(rt: HostRuntime) -> Result<(), Fail> {
+    let alloc = rt.alloc();
+    let mut large = Vec::new(alloc);
+    large.resize(1_048_577usize, b' ')?;
+    let most = &large[..1_048_576];
+    let source = &large[..262_145];
+    let rows: [(&[u8], Option<&[u8]>, Status, &str); 7] = [
+        (b"int main(void) { }", None, Status::ReadFault, "read fault\n"),
+        (b"@", None, Status::ReadFault, "read fault\n"),
+        (source, None, Status::Refused, "refused file 2 TooLarge\n"),
+        (b"@", Some(large.as_slice()), Status::Refused, "refused file 2 TooLarge\n"),
+        (b"@", Some(most), Status::Refused, "refused lex 1 BadByte line 1\n"),
+        (b"int main(void) { }", Some(most), Status::Ended, "output 0\n\nresult 0\nsteps 2\n"),
+        (
+            b"int main(void) { }",
+            Some(large.as_slice()),
+            Status::Refused,
+            "refused file 2 TooLarge\n",
+        ),
+    ];
+    for (text, input, status, report) in rows {
+        let (answered, written) = match input {
+            Some(bytes) => answer_of(
+                alloc,
+                &["eval", "a.c", "--input", "t"],
+                &[("a.c", text), ("t", bytes)],
+            )?,
+            None => answer_of(alloc, &["eval", "a.c", "--input", "t"], &[("a.c", text)])?,
+        };
+        assert_eq!(rt; answered, status, "{report}");
+        assert_eq!(rt; written.as_slice(), report.as_bytes(), "{report}");
+    }
+    Ok(())
+}
