@@ -5,10 +5,34 @@ use std::alloc::{AllocError, Global};
 use std::process::Abort;
 use std::test::Fail;
 
-// Texts and their whole reports.
+// Texts and their reports. A statement, a declarator and a node cost a step each, and a call one
+// more; groups and conversions cost none.
 const COUNTED: &[(&str, &str)] = &[
     ("int main(void) { return 7; }", "output 0\n\nresult 7\nsteps 4\n"),
     ("int main(void) { }", "output 0\n\nresult 0\nsteps 2\n"),
+    ("int main(void) { ; }", "output 0\n\nresult 0\nsteps 3\n"),
+    ("int main(void) { int x; }", "output 0\n\nresult 0\nsteps 3\n"),
+    ("int main(void) { int x = 1; }", "output 0\n\nresult 0\nsteps 4\n"),
+    ("int main(void) { long x = 1; }", "output 0\n\nresult 0\nsteps 4\n"),
+    ("int main(void) { (7); }", "output 0\n\nresult 0\nsteps 4\n"),
+    ("int main(void) { (char) 7; }", "output 0\n\nresult 0\nsteps 5\n"),
+    ("int main(void) { -7; }", "output 0\n\nresult 0\nsteps 5\n"),
+    ("int main(void) { 1 + 2; }", "output 0\n\nresult 0\nsteps 6\n"),
+    ("int main(void) { 0 && 1; }", "output 0\n\nresult 0\nsteps 5\n"),
+    ("int main(void) { 1 && 1; }", "output 0\n\nresult 0\nsteps 6\n"),
+    ("int main(void) { 1 ? 2 : 3; }", "output 0\n\nresult 0\nsteps 6\n"),
+    ("int main(void) { 1, 2; }", "output 0\n\nresult 0\nsteps 6\n"),
+    ("int main(void) { int x; x = 1; }", "output 0\n\nresult 0\nsteps 6\n"),
+    ("int main(void) { int x = 1; x += 1; }", "output 0\n\nresult 0\nsteps 7\n"),
+    ("int main(void) { int x = 1; x++; }", "output 0\n\nresult 0\nsteps 6\n"),
+    ("int a[2]; int main(void) { a[1] = 2; }", "output 0\n\nresult 0\nsteps 6\n"),
+    ("int main(void) { while (0) ; }", "output 0\n\nresult 0\nsteps 4\n"),
+    ("int main(void) { do ; while (0); }", "output 0\n\nresult 0\nsteps 5\n"),
+    ("int main(void) { for (;;) break; }", "output 0\n\nresult 0\nsteps 4\n"),
+    ("int main(void) { if (1) ; else ; }", "output 0\n\nresult 0\nsteps 5\n"),
+    ("int f(void) { return 1; } int main(void) { f(); }", "output 0\n\nresult 0\nsteps 8\n"),
+    ("#include <stdio.h>\nint main(void) { EOF; }", "output 0\n\nresult 0\nsteps 4\n"),
+    ("#include <stdio.h>\nint main(void) { getchar(); }", "output 0\n\nresult 0\nsteps 5\n"),
 ];
 
 // Texts with how their reports begin.

@@ -1,7 +1,7 @@
 //! What the tests share: a call over files and a sink in memory.
 use crate::{Status, trips_run};
 use std::alloc::{AllocError, Global};
-use trips_outside::{HonestFiles, HonestSink};
+use trips_outside::{HonestSink, MemFiles};
 
 /// What the words are answered, and what is written, where the files are these.
 pub fn answer_of(
@@ -20,7 +20,7 @@ pub fn answer_of(
             Vec::from_slice(alloc, *bytes)?,
         ))?;
     }
-    let mut files = HonestFiles::make(named);
+    let mut files = MemFiles::make(named, 65_536, Vec::new(alloc));
     let Ok(mut sink) = HonestSink::make(alloc, 300) else {
         return Err(AllocError);
     };

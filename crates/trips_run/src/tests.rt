@@ -166,22 +166,28 @@ fn large_files_are_refused(rt: HostRuntime) -> Result<(), Fail> {
 #[test]
 fn refused_memory_writes_nothing(rt: HostRuntime) -> Result<(), Fail> {
     let alloc = rt.alloc();
-    let Ok(file) = one_file(alloc, SEVEN) else {
-        return Ok(());
-    };
-    let mut files = MemFiles::make(file, 64, Vec::new(alloc));
-    let Ok(words) = words_of(alloc, &["run", "a.c"]) else {
-        return Ok(());
-    };
-    let Ok(mut sink) = MemSink::make(alloc, 64, 100, Vec::new(alloc)) else {
-        return Ok(());
-    };
-    let status = trips_run(alloc, &words, &mut files, &mut sink);
-    if status == Status::Memory {
-        assert_eq!(rt; sink.written(), b"".as_slice());
-    } else {
-        assert_eq!(rt; status, Status::Ended);
-        assert_eq!(rt; sink.written(), SEVEN_REPORT.as_bytes());
+    let rows = [
+        ("run", SEVEN_REPORT),
+        ("eval", "output 0\n\nresult 7\nsteps 4\n"),
+    ];
+    for (command, report) in rows {
+        let Ok(file) = one_file(alloc, SEVEN) else {
+            return Ok(());
+        };
+        let mut files = MemFiles::make(file, 64, Vec::new(alloc));
+        let Ok(words) = words_of(alloc, &[command, "a.c"]) else {
+            return Ok(());
+        };
+        let Ok(mut sink) = MemSink::make(alloc, 64, 100, Vec::new(alloc)) else {
+            return Ok(());
+        };
+        let status = trips_run(alloc, &words, &mut files, &mut sink);
+        if status == Status::Memory {
+            assert_eq!(rt; sink.written(), b"".as_slice(), "{command}");
+        } else {
+            assert_eq!(rt; status, Status::Ended, "{command}");
+            assert_eq!(rt; sink.written(), report.as_bytes(), "{command}");
+        }
     }
     Ok(())
 }
