@@ -1,6 +1,6 @@
 -- How an evaluation that was asked for ended, from the row of its request.
-use Rattle.std.proofs.Common.{◌≡◌, ℕ, ◌≤◌, Bool, true, false, List, [], ◌∷◌, Option, None, Some}
-use Rattle.std.proofs.Common.{length, ◌⊎◌, inl, inr, refl, sym, ◌∙◌, ap, subst}
+use Rattle.std.proofs.Common.{◌≡◌, ℕ, true, false, List, [], ◌∷◌, Option, None, Some}
+use Rattle.std.proofs.Common.{inl, inr, refl, sym, ◌∙◌, ap, subst}
 use Rattle.trips_outside.specs.Outside.{Holds}
 use Rattle.trips_isa.specs.declared.block.Block.{Block}
 use Rattle.trips_isa.specs.declared.run.Ending.{Ending}
@@ -12,12 +12,12 @@ use Rattle.trips_run.specs.declared.reading.Reading.{Reading}
 use Rattle.trips_run.specs.declared.reading.Reading.TheVariants.{Fault, TooLarge, Bytes}
 use Rattle.trips_run.specs.Request.{Request, Run, RunImage, Eval}
 use Rattle.trips_run.specs.Read.{IsRead, IsInputRead, HoldsInput}
-use Rattle.trips_run.specs.Read.{most_source_bytes, most_image_bytes}
+use Rattle.trips_run.specs.Read.{most_source_bytes}
 use Rattle.trips_run.specs.Source.{return_block}
 use Rattle.trips_run.specs.Report.{ending_of}
 use Rattle.trips_run.specs.Answer.{block_budget, status_of, IsRunBy, AfterReading, IsRunOfForm}
 use Rattle.trips_run.specs.Answer.{IsRunOfText, IsEvaluationOfText, IsEvalAnswer}
-use Rattle.trips_run.specs.Answer.{IsRunOfImage, IsRunOfBytes, IsAnswer}
+use Rattle.trips_run.specs.Answer.{IsRunOfBytes, IsAnswer}
 use Rattle.trips_run.specs.Table.{EndsAs, EvalEnds}
 use Rattle.trips_run.proofs.Rows.{is_told}
 

@@ -1,6 +1,6 @@
 -- The number that a tree returns is small.
 use Rattle.std.proofs.Common.{◌≡◌, ℕ, ◌<◌, ◌^◌, Bool, true, false, cond, nat_lt, List, [], ◌∷◌}
-use Rattle.std.proofs.Common.{Option, None, Some, arith}
+use Rattle.std.proofs.Common.{None, Some, arith}
 use Rattle.std.specs.Str.{bytes_eq}
 use Rattle.std.specs.Prelude.{codes}
 use Rattle.std.proofs.lemmas.Bool.Decides.{nat_tests}
@@ -18,7 +18,7 @@ use Rattle.c_tree.specs.declared.tree.Top.{Top}
 use Rattle.c_tree.specs.declared.tree.TopNode.{TopNode}
 use Rattle.c_tree.specs.declared.tree.TopNode.TheVariants.{Func}
 use Rattle.trips_run.specs.Source.{small_int, number_in, number_of, return_in, return_of}
-use Rattle.trips_run.specs.Source.{only_return, body_in, body_of, main_in, only_main, returned}
+use Rattle.trips_run.specs.Source.{body_in, body_of, main_in, only_main, returned}
 
 test_small : (v n : ℕ) → cond (nat_lt v 65536) (Some v) None ≡ Some n → n < 2 ^ 16
 test_small v n e = grind (arith, nat_tests)

@@ -1,6 +1,6 @@
 -- The value of digits only grows.
-use Rattle.std.proofs.Common.{◌≡◌, ℕ, suc, ◌+◌, ◌-◌, ◌*◌, ◌<◌, ◌≤◌, nat_le, cond, List, []}
-use Rattle.std.proofs.Common.{◌∷◌, length, get_or, drop, Option, None, Some, arith, ap, ◌∙◌}
+use Rattle.std.proofs.Common.{◌≡◌, ℕ, ◌+◌, ◌-◌, ◌*◌, ◌<◌, ◌≤◌, nat_le, cond, List, []}
+use Rattle.std.proofs.Common.{◌∷◌, length, get_or, drop, None, Some, arith, ap, ◌∙◌}
 use Rattle.std.proofs.Common.{sym, add-one, drop-cons}
 use Rattle.std.proofs.lemmas.Bool.Decides.{nat_tests}
 use Rattle.trips_run.specs.Number.{value_from}

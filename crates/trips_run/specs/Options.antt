@@ -1,5 +1,5 @@
 -- The options of a command: `--input FILE`, and one that takes a number.
-use Rattle.std.specs.Prelude.{ℕ, Bool, not, ◌&&◌, nat_lt, if◌then◌else◌, List, [], ◌∷◌, length}
+use Rattle.std.specs.Prelude.{ℕ, Bool, ◌&&◌, nat_lt, if◌then◌else◌, List, [], ◌∷◌, length}
 use Rattle.std.specs.Prelude.{Option, None, Some, is_some, option_map, option_and_then}
 use Rattle.std.specs.Prelude.{codes, nat_eq, bytes_eq}
 use Rattle.std.specs.List.{starts_with}

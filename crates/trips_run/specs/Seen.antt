@@ -1,5 +1,5 @@
 -- What the code's requests and options stand for.
-use Rattle.std.specs.Prelude.{Option, option_copied}
+use Rattle.std.specs.Prelude.{option_copied}
 use Rattle.trips_run.specs.Options.{Options}
 use Rattle.trips_run.specs.declared.options.Options.{Options as CodeOptions}
 

@@ -8,36 +8,102 @@ use std::test::Fail;
 // Texts and their reports. A statement, a declarator and a node cost a step each, and a call one
 // more; groups and conversions cost none.
 const COUNTED: &[(&str, &str)] = &[
-    ("int main(void) { return 7; }", "output 0\n\nresult 7\nsteps 4\n"),
+    (
+        "int main(void) { return 7; }",
+        "output 0\n\nresult 7\nsteps 4\n",
+    ),
     ("int main(void) { }", "output 0\n\nresult 0\nsteps 2\n"),
     ("int main(void) { ; }", "output 0\n\nresult 0\nsteps 3\n"),
-    ("int main(void) { int x; }", "output 0\n\nresult 0\nsteps 3\n"),
-    ("int main(void) { int x = 1; }", "output 0\n\nresult 0\nsteps 4\n"),
-    ("int main(void) { long x = 1; }", "output 0\n\nresult 0\nsteps 4\n"),
+    (
+        "int main(void) { int x; }",
+        "output 0\n\nresult 0\nsteps 3\n",
+    ),
+    (
+        "int main(void) { int x = 1; }",
+        "output 0\n\nresult 0\nsteps 4\n",
+    ),
+    (
+        "int main(void) { long x = 1; }",
+        "output 0\n\nresult 0\nsteps 4\n",
+    ),
     ("int main(void) { (7); }", "output 0\n\nresult 0\nsteps 4\n"),
-    ("int main(void) { (char) 7; }", "output 0\n\nresult 0\nsteps 5\n"),
+    (
+        "int main(void) { (char) 7; }",
+        "output 0\n\nresult 0\nsteps 5\n",
+    ),
     ("int main(void) { -7; }", "output 0\n\nresult 0\nsteps 5\n"),
-    ("int main(void) { 1 + 2; }", "output 0\n\nresult 0\nsteps 6\n"),
-    ("int main(void) { 0 && 1; }", "output 0\n\nresult 0\nsteps 5\n"),
-    ("int main(void) { 1 && 1; }", "output 0\n\nresult 0\nsteps 6\n"),
-    ("int main(void) { 1 ? 2 : 3; }", "output 0\n\nresult 0\nsteps 6\n"),
-    ("int main(void) { 1, 2; }", "output 0\n\nresult 0\nsteps 6\n"),
-    ("int main(void) { int x; x = 1; }", "output 0\n\nresult 0\nsteps 6\n"),
-    ("int main(void) { int x = 1; x += 1; }", "output 0\n\nresult 0\nsteps 7\n"),
-    ("int main(void) { int x = 1; x++; }", "output 0\n\nresult 0\nsteps 6\n"),
-    ("int a[2]; int main(void) { a[1] = 2; }", "output 0\n\nresult 0\nsteps 6\n"),
-    ("int main(void) { while (0) ; }", "output 0\n\nresult 0\nsteps 4\n"),
-    ("int main(void) { do ; while (0); }", "output 0\n\nresult 0\nsteps 5\n"),
-    ("int main(void) { for (;;) break; }", "output 0\n\nresult 0\nsteps 4\n"),
-    ("int main(void) { if (1) ; else ; }", "output 0\n\nresult 0\nsteps 5\n"),
-    ("int f(void) { return 1; } int main(void) { f(); }", "output 0\n\nresult 0\nsteps 8\n"),
-    ("#include <stdio.h>\nint main(void) { EOF; }", "output 0\n\nresult 0\nsteps 4\n"),
-    ("#include <stdio.h>\nint main(void) { getchar(); }", "output 0\n\nresult 0\nsteps 5\n"),
+    (
+        "int main(void) { 1 + 2; }",
+        "output 0\n\nresult 0\nsteps 6\n",
+    ),
+    (
+        "int main(void) { 0 && 1; }",
+        "output 0\n\nresult 0\nsteps 5\n",
+    ),
+    (
+        "int main(void) { 1 && 1; }",
+        "output 0\n\nresult 0\nsteps 6\n",
+    ),
+    (
+        "int main(void) { 1 ? 2 : 3; }",
+        "output 0\n\nresult 0\nsteps 6\n",
+    ),
+    (
+        "int main(void) { 1, 2; }",
+        "output 0\n\nresult 0\nsteps 6\n",
+    ),
+    (
+        "int main(void) { int x; x = 1; }",
+        "output 0\n\nresult 0\nsteps 6\n",
+    ),
+    (
+        "int main(void) { int x = 1; x += 1; }",
+        "output 0\n\nresult 0\nsteps 7\n",
+    ),
+    (
+        "int main(void) { int x = 1; x++; }",
+        "output 0\n\nresult 0\nsteps 6\n",
+    ),
+    (
+        "int a[2]; int main(void) { a[1] = 2; }",
+        "output 0\n\nresult 0\nsteps 6\n",
+    ),
+    (
+        "int main(void) { while (0) ; }",
+        "output 0\n\nresult 0\nsteps 4\n",
+    ),
+    (
+        "int main(void) { do ; while (0); }",
+        "output 0\n\nresult 0\nsteps 5\n",
+    ),
+    (
+        "int main(void) { for (;;) break; }",
+        "output 0\n\nresult 0\nsteps 4\n",
+    ),
+    (
+        "int main(void) { if (1) ; else ; }",
+        "output 0\n\nresult 0\nsteps 5\n",
+    ),
+    (
+        "int f(void) { return 1; } int main(void) { f(); }",
+        "output 0\n\nresult 0\nsteps 8\n",
+    ),
+    (
+        "#include <stdio.h>\nint main(void) { EOF; }",
+        "output 0\n\nresult 0\nsteps 4\n",
+    ),
+    (
+        "#include <stdio.h>\nint main(void) { getchar(); }",
+        "output 0\n\nresult 0\nsteps 5\n",
+    ),
 ];
 
 // Texts with how their reports begin.
 const ENDED: &[(&str, &str)] = &[
-    ("int main(void) { return -7 / 2 * 10 + -7 % 2; }", "output 0\n\nresult -31\nsteps "),
+    (
+        "int main(void) { return -7 / 2 * 10 + -7 % 2; }",
+        "output 0\n\nresult -31\nsteps ",
+    ),
     (
         "int main(void) { long x = -1; unsigned int y = 1; \
          return (0u - 1 > 0) * 2 + (x - y < 0); }",
@@ -57,12 +123,18 @@ const ENDED: &[(&str, &str)] = &[
         "int main(void) { int i; int s = 0; for (i = 4; i != 0; i--) s += 24 / i; return s; }",
         "output 0\n\nresult 50\nsteps ",
     ),
-    ("int main(void) { return (int) (1u << 31 >> 31); }", "output 0\n\nresult 1\nsteps "),
+    (
+        "int main(void) { return (int) (1u << 31 >> 31); }",
+        "output 0\n\nresult 1\nsteps ",
+    ),
     (
         "#include <stdio.h>\nint main(void) { putchar('a'); putchar(10); return EOF; }",
         "output 2\na\n\nresult -1\nsteps ",
     ),
-    ("int f(void) { } int main(void) { f(); return 3; }", "output 0\n\nresult 3\nsteps "),
+    (
+        "int f(void) { } int main(void) { f(); return 3; }",
+        "output 0\n\nresult 3\nsteps ",
+    ),
 ];
 
 // Expressions that are undefined, each before one just inside its range, with its value.
@@ -80,14 +152,24 @@ const EDGES: &[(&str, &str, &str)] = &[
     ("1 << 31", "-1 >> 31", "-1"),
     ("-1 << 0", "0 << 31", "0"),
     ("1 >> 32", "1 >> 31", "0"),
-    ("(int) (9223372036854775807 + 1)", "(int) (9223372036854775806 + 1)", "-1"),
+    (
+        "(int) (9223372036854775807 + 1)",
+        "(int) (9223372036854775806 + 1)",
+        "-1",
+    ),
     ("(int) (1L << 63)", "(int) (1L << 62 >> 62)", "1"),
 ];
 
 // Texts that are undefined, each before one that is not and has result 3.
 const UNSET: &[(&str, &str)] = &[
-    ("int main(void) { int x; return x; }", "int main(void) { int x = 3; return x; }"),
-    ("int main(void) { int x; x; return 3; }", "int main(void) { int x; ; return 3; }"),
+    (
+        "int main(void) { int x; return x; }",
+        "int main(void) { int x = 3; return x; }",
+    ),
+    (
+        "int main(void) { int x; x; return 3; }",
+        "int main(void) { int x; ; return 3; }",
+    ),
     (
         "int a[2]; int main(void) { return a[2]; }",
         "int a[2]; int main(void) { return a[1] + 3; }",
@@ -176,7 +258,12 @@ fn is_undefined_just_outside_of_a_range(rt: HostRuntime) -> Result<(), Fail> {
     let alloc = rt.alloc();
     for (outside, inside, value) in EDGES {
         let text = returning(alloc, outside)?;
-        assert_reports(&rt, alloc, Status::Undefined, &[(text.as_str(), "undefined\n")])?;
+        assert_reports(
+            &rt,
+            alloc,
+            Status::Undefined,
+            &[(text.as_str(), "undefined\n")],
+        )?;
         let text = returning(alloc, inside)?;
         let mut report = String::from_str(alloc, "output 0\n\nresult ")?;
         report.push_str(*value)?;
@@ -211,7 +298,13 @@ int main(void) {
 #[test]
 fn reads_its_input(rt: HostRuntime) -> Result<(), Fail> {
     let alloc = rt.alloc();
-    assert_begins(&rt, alloc, WORDS, b"a bb\nccc", "output 2\n3\n\nresult 3\nsteps ")?;
+    assert_begins(
+        &rt,
+        alloc,
+        WORDS,
+        b"a bb\nccc",
+        "output 2\n3\n\nresult 3\nsteps ",
+    )?;
     assert_begins(&rt, alloc, WORDS, b"", "output 2\n0\n\nresult 0\nsteps ")?;
     let (status, written) = answer_of(alloc, &["eval", "a.c"], &[("a.c", WORDS.as_bytes())])?;
     assert_eq!(rt; status, Status::Ended);
@@ -230,13 +323,33 @@ const DEEPER: &str = "int f(int n) { if (n == 0) return 0; return f(n - 1) + 1; 
 fn stops_where_steps_or_frames_are_spent(rt: HostRuntime) -> Result<(), Fail> {
     let alloc = rt.alloc();
     let rows = [
-        (DEEP, "1000000", Status::Ended, "output 0\n\nresult 6896\nsteps 89662\n"),
-        (DEEP, "89662", Status::Ended, "output 0\n\nresult 6896\nsteps 89662\n"),
+        (
+            DEEP,
+            "1000000",
+            Status::Ended,
+            "output 0\n\nresult 6896\nsteps 89662\n",
+        ),
+        (
+            DEEP,
+            "89662",
+            Status::Ended,
+            "output 0\n\nresult 6896\nsteps 89662\n",
+        ),
         (DEEP, "89661", Status::Budget, "more\n"),
         (DEEPER, "4000000", Status::StackFull, "deep\n"),
         ("int main(void) { }", "1", Status::Budget, "more\n"),
-        ("int main(void) { }", "002", Status::Ended, "output 0\n\nresult 0\nsteps 2\n"),
-        ("int main(void) { while (1) ; }", "4000000", Status::Budget, "more\n"),
+        (
+            "int main(void) { }",
+            "002",
+            Status::Ended,
+            "output 0\n\nresult 0\nsteps 2\n",
+        ),
+        (
+            "int main(void) { while (1) ; }",
+            "4000000",
+            Status::Budget,
+            "more\n",
+        ),
     ];
     for (text, steps, status, report) in rows {
         let (answered, written) = answer_of(
@@ -246,93 +359,6 @@ fn stops_where_steps_or_frames_are_spent(rt: HostRuntime) -> Result<(), Fail> {
         )?;
         assert_eq!(rt; answered, status, "{text} {steps}");
         assert_eq!(rt; written.as_slice(), report.as_bytes(), "{text} {steps}");
-    }
-    Ok(())
-}
-
-const USAGES: &[&[&str]] = &[
-    &["eval"],
-    &["eval", "-a.c"],
-    &["eval", "a.c", "--steps"],
-    &["eval", "a.c", "--steps", "0"],
-    &["eval", "a.c", "--steps", "4000001"],
-    &["eval", "a.c", "--steps", "-1"],
-    &["eval", "a.c", "--steps", "+1"],
-    &["eval", "a.c", "--steps", ""],
-    &["eval", "a.c", "--steps", "1e3"],
-    &["eval", "a.c", "--steps", "99999999999999999999"],
-    &["eval", "a.c", "--steps", "1", "--steps", "1"],
-    &["eval", "a.c", "--input", "t", "--input", "t"],
-    &["eval", "a.c", "--input", "--steps"],
-    &["eval", "a.c", "--blocks", "1"],
-    &["eval", "a.c", "b.c"],
-    &["eval", "--steps", "1", "a.c"],
-    &["run", "a.c", "--steps", "1"],
-];
-
-#[test]
-fn other_options_are_usage(rt: HostRuntime) -> Result<(), Fail> {
-    for words in USAGES {
-        let (status, written) = answer_of(
-            rt.alloc(),
-            words,
-            &[("a.c", b"int main(void) { }"), ("t", b"")],
-        )?;
-        assert_eq!(rt; status, Status::Usage, "{words:?}");
-        assert_eq!(rt; written.as_slice(), b"usage\n".as_slice(), "{words:?}");
-    }
-    Ok(())
-}
-
-#[test]
-fn takes_both_options_in_either_order(rt: HostRuntime) -> Result<(), Fail> {
-    let orders: [&[&str]; 2] = [
-        &["eval", "a.c", "--input", "t", "--steps", "9"],
-        &["eval", "a.c", "--steps", "9", "--input", "t"],
-    ];
-    let text = b"#include <stdio.h>\nint main(void) { return getchar(); }";
-    for words in orders {
-        let (status, written) =
-            answer_of(rt.alloc(), words, &[("a.c", text.as_slice()), ("t", b"a")])?;
-        assert_eq!(rt; status, Status::Ended, "{words:?}");
-        assert!(rt; written.starts_with(b"output 0\n\nresult 97\nsteps "), "{words:?}");
-    }
-    Ok(())
-}
-
-// The program is read before its input, and both before the program is judged.
-#[test]
-fn reads_the_program_and_then_its_input(rt: HostRuntime) -> Result<(), Fail> {
-    let alloc = rt.alloc();
-    let mut large = Vec::new(alloc);
-    large.resize(1_048_577usize, b' ')?;
-    let most = &large[..1_048_576];
-    let source = &large[..262_145];
-    let rows: [(&[u8], Option<&[u8]>, Status, &str); 7] = [
-        (b"int main(void) { }", None, Status::ReadFault, "read fault\n"),
-        (b"@", None, Status::ReadFault, "read fault\n"),
-        (source, None, Status::Refused, "refused file 2 TooLarge\n"),
-        (b"@", Some(large.as_slice()), Status::Refused, "refused file 2 TooLarge\n"),
-        (b"@", Some(most), Status::Refused, "refused lex 1 BadByte line 1\n"),
-        (b"int main(void) { }", Some(most), Status::Ended, "output 0\n\nresult 0\nsteps 2\n"),
-        (
-            b"int main(void) { }",
-            Some(large.as_slice()),
-            Status::Refused,
-            "refused file 2 TooLarge\n",
-        ),
-    ];
-    for (text, input, status, report) in rows {
-        let (answered, written) = match input {
-            Some(bytes) => answer_of(
-                alloc,
-                &["eval", "a.c", "--input", "t"],
-                &[("a.c", text), ("t", bytes)],
-            )?,
-            None => answer_of(alloc, &["eval", "a.c", "--input", "t"], &[("a.c", text)])?,
-        };
-        assert_eq!(rt; answered, status, "{report}");
-        assert_eq!(rt; written.as_slice(), report.as_bytes(), "{report}");
     }
     Ok(())
 }

@@ -1,6 +1,6 @@
 //! `run` on texts of C: what is built, and what each stage refuses.
-use crate::harness::answer_of;
 use crate::Status;
+use crate::harness::answer_of;
 use std::alloc::{AllocError, Global};
 use std::process::Abort;
 use std::test::Fail;
@@ -9,57 +9,153 @@ const BUILT: &[(&str, &str)] = &[
     ("int main(void) { return 7; }", "output 0\n\nresult 7\n"),
     ("int main() { return 7; }", "output 0\n\nresult 7\n"),
     ("int main(void){return 7;}\n\n", "output 0\n\nresult 7\n"),
-    ("/* seven */ signed int\nmain ( ) // none\n{ return 07 ; }", "output 0\n\nresult 7\n"),
-    ("int main(void) { return 0xfFfF; }", "output 0\n\nresult 65535\n"),
+    (
+        "/* seven */ signed int\nmain ( ) // none\n{ return 07 ; }",
+        "output 0\n\nresult 7\n",
+    ),
+    (
+        "int main(void) { return 0xfFfF; }",
+        "output 0\n\nresult 65535\n",
+    ),
     ("int main(void) { return 'a'; }", "output 0\n\nresult 97\n"),
 ];
 
 const NOT_BUILT: &[(&str, &str)] = &[
-    ("int main(void) { return 65536; }", "refused form 1 FormNotBuilt\n"),
-    ("int main(void) { return 7u; }", "refused form 1 FormNotBuilt\n"),
-    ("int main(void) { return 7L; }", "refused form 1 FormNotBuilt\n"),
-    ("int main(void) { return +7; }", "refused form 1 FormNotBuilt\n"),
-    ("int main(void) { return -7; }", "refused form 1 FormNotBuilt\n"),
-    ("int main(void) { return '\\377'; }", "refused form 1 FormNotBuilt\n"),
-    ("int main(void) { return (7); }", "refused form 1 FormNotBuilt\n"),
-    ("int main(void) { return (int) 7; }", "refused form 1 FormNotBuilt\n"),
-    ("int main(void) { return 3 + 4; }", "refused form 1 FormNotBuilt\n"),
-    ("int main(void) { ; return 7; }", "refused form 1 FormNotBuilt\n"),
-    ("int main(void) { return 7; ; }", "refused form 1 FormNotBuilt\n"),
-    ("int main(void) { { return 7; } }", "refused form 1 FormNotBuilt\n"),
+    (
+        "int main(void) { return 65536; }",
+        "refused form 1 FormNotBuilt\n",
+    ),
+    (
+        "int main(void) { return 7u; }",
+        "refused form 1 FormNotBuilt\n",
+    ),
+    (
+        "int main(void) { return 7L; }",
+        "refused form 1 FormNotBuilt\n",
+    ),
+    (
+        "int main(void) { return +7; }",
+        "refused form 1 FormNotBuilt\n",
+    ),
+    (
+        "int main(void) { return -7; }",
+        "refused form 1 FormNotBuilt\n",
+    ),
+    (
+        "int main(void) { return '\\377'; }",
+        "refused form 1 FormNotBuilt\n",
+    ),
+    (
+        "int main(void) { return (7); }",
+        "refused form 1 FormNotBuilt\n",
+    ),
+    (
+        "int main(void) { return (int) 7; }",
+        "refused form 1 FormNotBuilt\n",
+    ),
+    (
+        "int main(void) { return 3 + 4; }",
+        "refused form 1 FormNotBuilt\n",
+    ),
+    (
+        "int main(void) { ; return 7; }",
+        "refused form 1 FormNotBuilt\n",
+    ),
+    (
+        "int main(void) { return 7; ; }",
+        "refused form 1 FormNotBuilt\n",
+    ),
+    (
+        "int main(void) { { return 7; } }",
+        "refused form 1 FormNotBuilt\n",
+    ),
     ("int main(void) { }", "refused form 1 FormNotBuilt\n"),
-    ("int x; int main(void) { return 7; }", "refused form 1 FormNotBuilt\n"),
-    ("int main(void); int main(void) { return 7; }", "refused form 1 FormNotBuilt\n"),
-    ("#include <stdio.h>\nint main(void) { return 7; }", "refused form 1 FormNotBuilt\n"),
+    (
+        "int x; int main(void) { return 7; }",
+        "refused form 1 FormNotBuilt\n",
+    ),
+    (
+        "int main(void); int main(void) { return 7; }",
+        "refused form 1 FormNotBuilt\n",
+    ),
+    (
+        "#include <stdio.h>\nint main(void) { return 7; }",
+        "refused form 1 FormNotBuilt\n",
+    ),
 ];
 
 const LEXER: &[(&str, &str)] = &[
     ("@", "refused lex 1 BadByte line 1\n"),
-    ("int main(void) {\n return 18446744073709551616; }", "refused lex 2 BadLiteral line 2\n"),
-    ("int main(void) { return 0xE+1; }", "refused lex 2 BadLiteral line 1\n"),
+    (
+        "int main(void) {\n return 18446744073709551616; }",
+        "refused lex 2 BadLiteral line 2\n",
+    ),
+    (
+        "int main(void) { return 0xE+1; }",
+        "refused lex 2 BadLiteral line 1\n",
+    ),
     ("/*", "refused lex 3 Unclosed line 1\n"),
     ("#define A 1\n", "refused lex 5 Directive line 1\n"),
-    ("int main(void) { return }\n@", "refused lex 1 BadByte line 2\n"),
+    (
+        "int main(void) { return }\n@",
+        "refused lex 1 BadByte line 2\n",
+    ),
 ];
 
 const GRAMMAR: &[(&str, &str)] = &[
     ("", "refused parse 1 Syntax line 1\n"),
     ("\n\n", "refused parse 1 Syntax line 1\n"),
-    ("int main(void) { return 1 }", "refused parse 1 Syntax line 1\n"),
-    ("int main(void)\n{ return 1;\n", "refused parse 1 Syntax line 2\n"),
-    ("int main(void)\n{ return y; }\n}", "refused parse 1 Syntax line 3\n"),
-    ("int main(void) { else return 7; }", "refused parse 1 Syntax line 1\n"),
-    ("int main(void) { return 7; } static", "refused parse 1 Syntax line 1\n"),
+    (
+        "int main(void) { return 1 }",
+        "refused parse 1 Syntax line 1\n",
+    ),
+    (
+        "int main(void)\n{ return 1;\n",
+        "refused parse 1 Syntax line 2\n",
+    ),
+    (
+        "int main(void)\n{ return y; }\n}",
+        "refused parse 1 Syntax line 3\n",
+    ),
+    (
+        "int main(void) { else return 7; }",
+        "refused parse 1 Syntax line 1\n",
+    ),
+    (
+        "int main(void) { return 7; } static",
+        "refused parse 1 Syntax line 1\n",
+    ),
 ];
 
 const TYPING: &[(&str, &str)] = &[
-    ("int main(void) { return y; }", "refused type 1 Unknown line 1\n"),
-    ("int main(void) { return\n f(); }", "refused type 1 Unknown line 2\n"),
-    ("int x;\nint x;\nint main(void) { return 7; }", "refused type 2 Twice line 2\n"),
-    ("int main(void) { return; }", "refused type 3 Mismatch line 1\n"),
-    ("int main(void) {\n 1 = 2; return 7; }", "refused type 3 Mismatch line 2\n"),
-    ("int main(void) {\n break; return 7; }", "refused type 3 Mismatch line 2\n"),
-    ("int f(int a) { return a; }\nint main(void) { return f(); }", "refused type 4 Arity line 2\n"),
+    (
+        "int main(void) { return y; }",
+        "refused type 1 Unknown line 1\n",
+    ),
+    (
+        "int main(void) { return\n f(); }",
+        "refused type 1 Unknown line 2\n",
+    ),
+    (
+        "int x;\nint x;\nint main(void) { return 7; }",
+        "refused type 2 Twice line 2\n",
+    ),
+    (
+        "int main(void) { return; }",
+        "refused type 3 Mismatch line 1\n",
+    ),
+    (
+        "int main(void) {\n 1 = 2; return 7; }",
+        "refused type 3 Mismatch line 2\n",
+    ),
+    (
+        "int main(void) {\n break; return 7; }",
+        "refused type 3 Mismatch line 2\n",
+    ),
+    (
+        "int f(int a) { return a; }\nint main(void) { return f(); }",
+        "refused type 4 Arity line 2\n",
+    ),
     ("int x;", "refused type 5 NoMain\n"),
     ("long main(void) { return 7; }", "refused type 5 NoMain\n"),
     (
@@ -67,7 +163,10 @@ const TYPING: &[(&str, &str)] = &[
          int main(void) { return 7; }",
         "refused type 7 TooManyParams line 2\n",
     ),
-    ("int main(void) {\n char a[1048577]; return 7; }", "refused type 9 TooLarge line 2\n"),
+    (
+        "int main(void) {\n char a[1048577]; return 7; }",
+        "refused type 9 TooLarge line 2\n",
+    ),
 ];
 
 // Each text under this command is answered by its report, with this status.
@@ -127,7 +226,13 @@ fn nests_to_a_depth_of_64(rt: HostRuntime) -> Result<(), Fail> {
             text.push_str(")")?;
         }
         text.push_str("; }")?;
-        assert_rows(&rt, alloc, "run", Status::Refused, &[(text.as_str(), report)])?;
+        assert_rows(
+            &rt,
+            alloc,
+            "run",
+            Status::Refused,
+            &[(text.as_str(), report)],
+        )?;
     }
     Ok(())
 }
@@ -150,7 +255,13 @@ fn takes_64_scalars(rt: HostRuntime) -> Result<(), Fail> {
         text.push_str("\n")?;
         text.push_str(more)?;
         text.push_str(" return 0; }")?;
-        assert_rows(&rt, alloc, "run", Status::Refused, &[(text.as_str(), report)])?;
+        assert_rows(
+            &rt,
+            alloc,
+            "run",
+            Status::Refused,
+            &[(text.as_str(), report)],
+        )?;
     }
     Ok(())
 }
@@ -175,91 +286,13 @@ fn takes_a_need_of_16(rt: HostRuntime) -> Result<(), Fail> {
             text.push_str(")")?;
         }
         text.push_str("); }")?;
-        assert_rows(&rt, alloc, "run", Status::Refused, &[(text.as_str(), report)])?;
-    }
-    Ok(())
-}
-
-// Two programs as their tokens, each behind a space.
-const DOUBLED: &[&str] = &[
-    "long", "a", "[", "9", "]", ";", "int", "main", "(", "void", ")", "{", "int", "i", ";", "a",
-    "[", "0", "]", "=", "1", ";", "for", "(", "i", "=", "1", ";", "i", "<", "9", ";", "i", "++",
-    ")", "a", "[", "i", "]", "=", "a", "[", "i", "-", "1", "]", "*", "2", ";", "return", "(",
-    "int", ")", "a", "[", "8", "]", ";", "}",
-];
-
-const WORDS: &[&str] = &[
-    "\n#include <stdio.h>\n", "int", "main", "(", "void", ")", "{", "int", "c", ";", "int", "in",
-    "=", "0", ";", "int", "words", "=", "0", ";", "while", "(", "(", "c", "=", "getchar", "(",
-    ")", ")", "!=", "EOF", ")", "{", "if", "(", "c", "==", "' '", "||", "c", "==", "'\\n'", "||",
-    "c", "==", "'\\t'", ")", "in", "=", "0", ";", "else", "if", "(", "!", "in", ")", "{", "in",
-    "=", "1", ";", "words", "++", ";", "}", "}", "putchar", "(", "'0'", "+", "words", ")", ";",
-    "putchar", "(", "'\\n'", ")", ";", "return", "words", ";", "}",
-];
-
-// The text of the tokens before a place.
-fn begin(alloc: Global, tokens: &[&str], end: usize) -> Result<String, AllocError> {
-    let mut text = String::new(alloc);
-    for token in tokens.iter().take(end) {
-        text.push_str(" ")?;
-        text.push_str(*token)?;
-    }
-    Ok(text)
-}
-
-// The text with another token at a place.
-fn with_token(alloc: Global, tokens: &[&str], at: usize, other: &str) -> Result<String, AllocError> {
-    let mut text = begin(alloc, tokens, at)?;
-    text.push_str(" ")?;
-    text.push_str(other)?;
-    for token in tokens.iter().skip(at).skip(1) {
-        text.push_str(" ")?;
-        text.push_str(*token)?;
-    }
-    Ok(text)
-}
-
-// The text is refused by the grammar.
-fn assert_no_tree(rt: &impl Abort, alloc: Global, text: &str) -> Result<(), AllocError> {
-    let (status, written) = answer_of(alloc, &["eval", "a.c"], &[("a.c", text.as_bytes())])?;
-    assert_eq!(rt; status, Status::Refused, "{text}");
-    assert!(rt; written.starts_with(b"refused parse 1 Syntax line "), "{text}");
-    Ok(())
-}
-
-fn assert_tokens_matter(rt: &impl Abort, alloc: Global, tokens: &[&str]) -> Result<(), AllocError> {
-    let mut at = 0usize;
-    for token in tokens {
-        for other in [")", "else"] {
-            if *token != other {
-                let text = with_token(alloc, tokens, at, other)?;
-                assert_no_tree(rt, alloc, text.as_str())?;
-            }
-        }
-        at = at.saturating_add(1);
-    }
-    Ok(())
-}
-
-#[test]
-fn refuses_a_parenthesis_or_an_else_in_place_of_any_token(rt: HostRuntime) -> Result<(), Fail> {
-    assert_tokens_matter(&rt, rt.alloc(), DOUBLED)?;
-    assert_tokens_matter(&rt, rt.alloc(), WORDS)?;
-    Ok(())
-}
-
-// Behind its declaration the program of one array is a unit without `main`.
-#[test]
-fn refuses_a_text_that_ends_after_any_of_its_tokens(rt: HostRuntime) -> Result<(), Fail> {
-    let alloc = rt.alloc();
-    for end in 0..DOUBLED.len() {
-        let text = begin(alloc, DOUBLED, end)?;
-        let report = if end == 6 {
-            "refused type 5 NoMain\n"
-        } else {
-            "refused parse 1 Syntax line 1\n"
-        };
-        assert_rows(&rt, alloc, "run", Status::Refused, &[(text.as_str(), report)])?;
+        assert_rows(
+            &rt,
+            alloc,
+            "run",
+            Status::Refused,
+            &[(text.as_str(), report)],
+        )?;
     }
     Ok(())
 }

@@ -34,4 +34,8 @@ mod harness;
 #[cfg(test)]
 mod image_tests;
 #[cfg(test)]
+mod option_tests;
+#[cfg(test)]
 mod tests;
+#[cfg(test)]
+mod token_tests;

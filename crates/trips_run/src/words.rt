@@ -40,7 +40,11 @@ fn run_command<'a>(file: &'a str, words: &[String]) -> Option<Asked<'a>>
     ensures { option_map request_seen result
         ≡ run_with file.now (map (λ word. string_bytes word) words.now) }
 {
-    if words.is_empty() { run_file(file) } else { None }
+    if words.is_empty() {
+        run_file(file)
+    } else {
+        None
+    }
 }
 
 // How many steps are asked for.

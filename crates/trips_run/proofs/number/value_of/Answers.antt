@@ -1,4 +1,4 @@
-use Rattle.std.proofs.Common.{arith, ap, ◌+◌, ◌*◌, ℕ, refl}
+use Rattle.std.proofs.Common.{ap, ◌+◌, ◌*◌, ℕ}
 use Rattle.trips_run.proofs.Numbers.{too_large}
 use Rattle.trips_run.proofs.number.value_of.Goals as goal
 
