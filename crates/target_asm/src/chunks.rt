@@ -3,7 +3,7 @@ ghost use Rattle.std.specs.Prelude.{◌≡◌, ◌+◌, ◌≤◌, ◌<◌, ◌^
 ghost use Rattle.std.specs.Prelude.{length, IsTrue, IfOk, OnOk, ◌++◌, ◌-◌, replicate, ◌∷◌};
 ghost use Rattle.trips_isa.specs.Fits.{FitsBlock};
 ghost use Rattle.trips_isa.specs.Images.{chunks};
-ghost use Rattle.target_asm.specs.Chunks.{goal_of, start_row, starts_from, goal_in, named};
+ghost use Rattle.target_text.specs.Chunks.{goal_of, start_row, starts_from, goal_in, named};
 
 use std::alloc::{AllocError, Global};
 use trips_isa::{Block, chunks};

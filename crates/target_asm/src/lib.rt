@@ -1,4 +1,5 @@
-//! Images as target text (docs/MACHINE.md, "Target text"): [`print`] writes the one text of an image.
+//! Images as target text (docs/MACHINE.md, "Target text"): [`print`] writes the one text of an
+//! image.
 #![tactic(auto)]
 
 mod chunks;

@@ -1,5 +1,5 @@
 use Rattle.std.proofs.Common.{◌≡◌, take}
-use Rattle.target_asm.specs.Chunks.{starts_from}
+use Rattle.target_text.specs.Chunks.{starts_from}
 use Rattle.target_asm.proofs.chunks.starts.Given as goal
 
 -- the table of the blocks so far

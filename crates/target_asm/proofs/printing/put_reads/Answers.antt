@@ -1,6 +1,7 @@
-use Rattle.target_asm.specs.Text.{read_line}
+use Rattle.target_text.specs.Text.{read_line}
 use Rattle.target_asm.proofs.Numbered.{numbered_step}
 use Rattle.target_asm.proofs.printing.put_reads.Goals as goal
 
 pub loop-i-preserved : goal.loop-i-preserved
-loop-i-preserved c = numbered_step read_line c.loop-i.i c.args.reads.now _ c.args.out.now.items c.loop-i.out.items _ c.loop-i-test.true c.loop-i.invariant c.in_ok-put_read.ensures.ok
+loop-i-preserved c = numbered_step read_line c.loop-i.i c.args.reads.now _ c.args.out.now.items
+    c.loop-i.out.items _ c.loop-i-test.true c.loop-i.invariant c.in_ok-put_read.ensures.ok

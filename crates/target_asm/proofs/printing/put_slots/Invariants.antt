@@ -1,9 +1,10 @@
 use Rattle.std.proofs.Common.{◌≡◌, ◌++◌, take}
-use Rattle.target_asm.specs.Numbers.{numbered}
-use Rattle.target_asm.specs.Chunks.{goal_in}
-use Rattle.target_asm.specs.Text.{slot_text}
+use Rattle.target_text.specs.Numbers.{numbered}
+use Rattle.target_text.specs.Chunks.{goal_in}
+use Rattle.target_text.specs.Text.{slot_text}
 use Rattle.target_asm.proofs.printing.put_slots.Given as goal
 
 -- the lines of the slots so far are written
 abbrev pub invariant-loop-slot : goal.invariant-loop-slot
-invariant-loop-slot l = l.out.items ≡ l.initial.out.items ++ numbered (slot_text (goal_in l.starts) l.here) 0 (take l.slot l.slots)
+invariant-loop-slot l = l.out.items ≡ l.initial.out.items ++ numbered
+    (slot_text (goal_in l.starts) l.here) 0 (take l.slot l.slots)

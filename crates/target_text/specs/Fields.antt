@@ -4,7 +4,8 @@ use Rattle.std.specs.Fmt.{decimal, signed_decimal}
 use Rattle.trips_isa.specs.declared.op.Op.{Op}
 use Rattle.trips_isa.specs.declared.op.Op.TheVariants.{Bro, Callo}
 use Rattle.trips_isa.specs.declared.form.Form.{Form}
-use Rattle.trips_isa.specs.declared.form.Form.TheVariants.{General, Immediate, Load, Store, Branch, Constant}
+use Rattle.trips_isa.specs.declared.form.Form.TheVariants.{General, Immediate, Load, Store, Branch}
+use Rattle.trips_isa.specs.declared.form.Form.TheVariants.{Constant}
 use Rattle.trips_isa.specs.declared.block.Spot.{Spot}
 use Rattle.trips_isa.specs.declared.block.Sense.{Sense}
 use Rattle.trips_isa.specs.declared.block.Sense.TheVariants.{Always, OnTrue, OnFalse}
@@ -20,7 +21,8 @@ sense_text Always = []
 sense_text OnTrue = codes "_t"
 sense_text OnFalse = codes "_f"
 
--- where a branch goes that names the block by an offset: a block of the image, or a place where none starts
+-- where a branch goes that names the block by an offset: a block of the image, or a place where
+-- none starts
 abbrev pub goal_text : Option ℕ → ℤ → List ℕ
 goal_text (Some k) offset = 64 ∷ decimal k
 goal_text None offset = 33 ∷ signed_decimal offset

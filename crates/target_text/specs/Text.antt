@@ -1,5 +1,6 @@
 -- The text of an image (docs/MACHINE.md, "Target text"): its lines, each ended by a line feed.
-use Rattle.std.specs.Prelude.{◌≡◌, ℕ, ℤ, pos, ◌+ℤ◌, ◌+◌, ◌%◌, ◌==◌, List, [], ◌∷◌, ◌++◌, length, ◌||◌, Option, Some, None, codes, if◌then◌else◌}
+use Rattle.std.specs.Prelude.{◌≡◌, ℕ, ℤ, pos, ◌+ℤ◌, ◌+◌, ◌%◌, ◌==◌, List, [], ◌∷◌, ◌++◌, length}
+use Rattle.std.specs.Prelude.{◌||◌, Option, Some, None, codes, if◌then◌else◌}
 use Rattle.std.specs.Fmt.{decimal}
 use Rattle.trips_isa.specs.declared.block.Inst.{Inst}
 use Rattle.trips_isa.specs.declared.block.ReadSlot.{ReadSlot}
@@ -9,9 +10,9 @@ use Rattle.trips_isa.specs.Forms.{form_of}
 use Rattle.trips_isa.specs.Images.{chunk_of, FitsImage}
 use Rattle.isa_table.specs.Mnemonics.{mnemonic_of}
 use Rattle.text_pieces.specs.Spots.{indexed}
-use Rattle.target_asm.specs.Numbers.{hex_byte, hex_word, numbered}
-use Rattle.target_asm.specs.Fields.{target_text, sense_text, numbers_text}
-use Rattle.target_asm.specs.Chunks.{goal_of}
+use Rattle.target_text.specs.Numbers.{hex_byte, hex_word, numbered}
+use Rattle.target_text.specs.Fields.{target_text, sense_text, numbers_text}
+use Rattle.target_text.specs.Chunks.{goal_of}
 
 unfoldable pub read_line : ℕ → ReadSlot → List ℕ
 read_line i r = indexed 82 i ++ (codes " read " ++ (indexed 71 r.register ++ (target_text (Some r.first) ++ (target_text r.second ++ 10 ∷ []))))
@@ -31,7 +32,8 @@ targets_text i = target_text i.first ++ (target_text i.second ++ 10 ∷ [])
 unfoldable pub inst_line : ℕ → Inst → Option ℕ → List ℕ
 inst_line s i goal = indexed 78 s ++ (32 ∷ (op_text i goal ++ targets_text i))
 
--- what stands in slot s, of a block that begins at `here`, where the block that begins at a chunk is told
+-- what stands in slot s, of a block that begins at `here`, where the block that begins at a chunk
+-- is told
 abbrev pub slot_text : (ℤ → Option ℕ) → ℕ → ℕ → Option Inst → List ℕ
 slot_text goal here s None = []
 slot_text goal here s (Some i) = inst_line s i (goal (pos here +ℤ i.imm))
@@ -42,7 +44,8 @@ block_line k mask = codes "block " ++ (decimal k ++ (codes " mask " ++ (hex_word
 -- block k, which begins at `here`
 unfoldable pub block_text : (ℤ → Option ℕ) → ℕ → ℕ → Block → List ℕ
 block_text goal here k b =
-    block_line k b.mask ++ (numbered read_line 0 b.reads.items ++ (numbered write_line 0 b.writes.items ++ numbered (slot_text goal here) 0 b.insts.items))
+    block_line k b.mask ++ (numbered read_line 0 b.reads.items ++
+    (numbered write_line 0 b.writes.items ++ numbered (slot_text goal here) 0 b.insts.items))
 
 abbrev pub block_in : List Block → ℕ → Block → List ℕ
 block_in blocks k b = block_text (goal_of blocks) (chunk_of blocks k) k b
@@ -60,7 +63,8 @@ head_lines count = codes "trips 1\ndata " ++ (decimal count ++ 10 ∷ [])
 
 -- the one text of an image
 abbrev pub image_text : Image → List ℕ
-image_text i = head_lines (length i.bytes) ++ (numbered (byte_text (length i.bytes)) 0 i.bytes ++ numbered (block_in i.blocks) 0 i.blocks)
+image_text i = head_lines (length i.bytes) ++
+    (numbered (byte_text (length i.bytes)) 0 i.bytes ++ numbered (block_in i.blocks) 0 i.blocks)
 
 -- an image that fits, and its text
 pub record TargetText (i : Image) (text : List ℕ) : Type 0 where

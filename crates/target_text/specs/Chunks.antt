@@ -1,8 +1,10 @@
--- Where branches that name a block by an offset go, and the table of the chunks at which blocks begin.
-use Rattle.std.specs.Prelude.{ℕ, zero, suc, ℤ, pos, negsuc, ◌-◌, get_or, List, ◌∷◌, replicate, Option, Some, None}
+-- Where branches that name a block by an offset go, and the table of the chunks at which blocks
+-- begin.
+use Rattle.std.specs.Prelude.{ℕ, zero, suc, ℤ, pos, negsuc, ◌-◌, get_or, List, ◌∷◌, replicate}
+use Rattle.std.specs.Prelude.{Option, Some, None}
 use Rattle.trips_isa.specs.declared.block.Block.{Block}
 use Rattle.trips_isa.specs.Images.{chunks, starting_at}
-use Rattle.target_asm.specs.Numbers.{numbered}
+use Rattle.target_text.specs.Numbers.{numbered}
 
 -- the block that begins at a chunk, if one does; none begins before the first chunk
 abbrev pub goal_of : List Block → ℤ → Option ℕ

@@ -1,0 +1,6 @@
+pub mod Leads
+pub mod Steps
+pub mod Views
+pub mod Checked
+pub mod Cleanness
+pub mod StandardFacts

@@ -1,0 +1,47 @@
+-- Flat programs as plain data, which their meaning and the passes recurse on.
+use Rattle.std.specs.Prelude.{ℕ, Bool, List, Option}
+use Rattle.trips_isa.specs.declared.op.Op.{Op}
+use Rattle.ir_forms.specs.declared.flat.Arg.{Arg}
+
+-- A call has besides the variables that stay set over it.
+mutual
+  pub data Step : Type 0 where
+    Let : (to : ℕ) (op : Op) (a b : Arg) → Step
+    Frame : (to at : ℕ) → Step
+    Load : (to : ℕ) (op : Op) (address : Arg) → Step
+    Save : (op : Op) (address value : Arg) → Step
+    Call : (function : ℕ) (args : List Arg) (to : Option ℕ) (kept : ℕ → Bool) → Step
+    Put : (value : Arg) → Step
+    Get : (to : ℕ) → Step
+    If : (test : Arg) (one other : Code) → Step
+    Loop : (body post : Code) → Step
+    Break : Step
+    Continue : Step
+    Return : (value : Option Arg) → Step
+
+  -- statements in order
+  pub data Code : Type 0 where
+    Nop : Code
+    ◌▹◌ : (s : Step) (rest : Code) → Code
+
+infixr 50 ◌▹◌
+-- one after the other
+abbrev pub Then : Code → Code → Code
+Then Nop b = b
+Then (s ▹ a) b = s ▹ Then a b
+
+abbrev pub only : Step → Code
+only s = s ▹ Nop
+
+pub record Function : Type 0 where
+  pub params : ℕ
+  pub scalars : ℕ
+  -- the bytes of its local arrays
+  pub arrays : ℕ
+  pub body : Code
+
+pub record Program : Type 0 where
+  pub functions : List Function
+  -- the start of data memory
+  pub bytes : List ℕ
+  pub main : ℕ

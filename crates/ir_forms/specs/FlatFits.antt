@@ -1,0 +1,155 @@
+-- Flat programs that the passes take: what each statement may name, and the counts that they prove
+-- bounds with.
+use Rattle.std.specs.Prelude.{◌≡◌, ℕ, ◌+◌, ◌%◌, ◌≤◌, Bool, true, false, cond, ◌&&◌, ◌||◌, nat_le}
+use Rattle.std.specs.Prelude.{nat_lt, List, [], ◌∷◌, Option, Some, None, slice_get, length}
+use Rattle.trips_isa.specs.declared.op.Op.{Op}
+use Rattle.trips_isa.specs.declared.op.Op.TheVariants.{Null}
+use Rattle.trips_isa.specs.declared.form.Form.{Form}
+use Rattle.trips_isa.specs.declared.form.Form.TheVariants.{General}
+use Rattle.trips_isa.specs.Forms.{form_of, is_load, is_store}
+use Rattle.trips_isa.specs.Stores.{data_size}
+use Rattle.ir_forms.specs.declared.flat.Arg.{Arg}
+use Rattle.ir_forms.specs.declared.flat.Arg.TheVariants.{Const, Var}
+use Rattle.ir_forms.specs.FlatCode.{Step, Let, Frame, Load, Save, Call, Put, Get, If, Loop, Break}
+use Rattle.ir_forms.specs.FlatCode.{Continue, Return, Code, Nop, ◌▹◌, Function, Program}
+use Rattle.ir_forms.specs.Frames.{frames_at, frame_limit}
+
+-- OPERATIONS
+
+abbrev pub is_general : Form → Bool
+is_general General = true
+is_general _ = false
+
+-- an operation on one or two words, in its general form
+abbrev pub operates : Op → Bool
+operates Null = false
+operates op = is_general (form_of op)
+
+abbrev pub loads : Op → Bool
+loads op = is_load (form_of op)
+
+abbrev pub stores : Op → Bool
+stores op = is_store (form_of op)
+
+-- VARIABLES
+
+-- a scalar of the function or a temporary: it stays set over a call, and may be an argument
+abbrev pub is_lasting : ℕ → ℕ → Bool
+is_lasting scalars v = nat_lt v scalars || (nat_le 64 v && nat_lt v 80)
+
+-- or a scratch variable
+abbrev pub is_variable : ℕ → ℕ → Bool
+is_variable scalars v = is_lasting scalars v || (nat_le 80 v && nat_lt v 88)
+
+abbrev pub FitsVar : ℕ → ℕ → Type 0
+FitsVar scalars v = is_variable scalars v ≡ true
+
+abbrev pub FitsArg : ℕ → Arg → Type 0
+FitsArg scalars (Const w) = Unit {0}
+FitsArg scalars (Var v) = FitsVar scalars v
+
+abbrev pub FitsLasting : ℕ → Arg → Type 0
+FitsLasting scalars (Const w) = Unit {0}
+FitsLasting scalars (Var v) = is_lasting scalars v ≡ true
+
+abbrev pub FitsLastings : ℕ → List Arg → Type 0
+FitsLastings scalars [] = Unit {0}
+FitsLastings scalars (a ∷ rest) = FitsLasting scalars a × FitsLastings scalars rest
+
+abbrev pub FitsResult : ℕ → Option ℕ → Type 0
+FitsResult scalars None = Unit {0}
+FitsResult scalars (Some v) = is_lasting scalars v ≡ true
+
+abbrev pub FitsReturn : ℕ → Option Arg → Type 0
+FitsReturn scalars None = Unit {0}
+FitsReturn scalars (Some a) = FitsArg scalars a
+
+-- STATEMENTS
+
+-- a call has the arguments that its function takes
+pub record FitsCall (fs : List Function) (f : ℕ) (args : List Arg) : Type 0 where
+  pub function : Function
+  pub found : slice_get fs f ≡ Some function
+  pub arity : length args ≡ function.params
+
+-- whether a statement stands in the body of a loop says whether it may break
+abbrev mutual
+  pub FitsStep : List Function → ℕ → Bool → Step → Type 0
+  FitsStep fs n inside (Let to op a b) =
+      (operates op ≡ true) × FitsVar n to × FitsArg n a × FitsArg n b
+  FitsStep fs n inside (Frame to at) = FitsVar n to
+  FitsStep fs n inside (Load to op a) = (loads op ≡ true) × FitsVar n to × FitsArg n a
+  FitsStep fs n inside (Save op a v) = (stores op ≡ true) × FitsArg n a × FitsArg n v
+  FitsStep fs n inside (Call f args to kept) =
+      FitsCall fs f args × FitsLastings n args × FitsResult n to
+  FitsStep fs n inside (Put a) = FitsArg n a
+  FitsStep fs n inside (Get to) = FitsVar n to
+  FitsStep fs n inside (If a one other) =
+      FitsArg n a × FitsCode fs n inside one × FitsCode fs n inside other
+  FitsStep fs n inside (Loop body post) = FitsCode fs n true body × FitsCode fs n false post
+  FitsStep fs n inside Break = inside ≡ true
+  FitsStep fs n inside Continue = inside ≡ true
+  FitsStep fs n inside (Return a) = FitsReturn n a
+
+  pub FitsCode : List Function → ℕ → Bool → Code → Type 0
+  FitsCode fs n inside Nop = Unit {0}
+  FitsCode fs n inside (s ▹ rest) = FitsStep fs n inside s × FitsCode fs n inside rest
+
+-- COUNTS
+
+abbrev mutual
+  pub steps_in : Step → ℕ
+  steps_in (If a one other) = 1 + (steps_of one + steps_of other)
+  steps_in (Loop body post) = 1 + (steps_of body + steps_of post)
+  steps_in _ = 1
+
+  -- the statements of code, those in parts among them
+  pub steps_of : Code → ℕ
+  steps_of Nop = 0
+  steps_of (s ▹ rest) = steps_in s + steps_of rest
+
+abbrev pub steps_of_all : List Function → ℕ
+steps_of_all [] = 0
+steps_of_all (f ∷ fs) = 1 + steps_of f.body + steps_of_all fs
+
+-- a leg that is empty or one operation
+abbrev pub is_small_leg : Code → Bool
+is_small_leg Nop = true
+is_small_leg (Let to op a b ▹ Nop) = true
+is_small_leg _ = false
+
+abbrev pub is_empty : Code → Bool
+is_empty Nop = true
+is_empty (s ▹ rest) = false
+
+-- a small if: its legs are each empty or one operation, and not both empty
+abbrev pub small_if : Code → Code → ℕ
+small_if one other =
+    cond (is_small_leg one && is_small_leg other) (cond (is_empty one && is_empty other) 0 1) 0
+
+abbrev mutual
+  pub small_ifs_in : Step → ℕ
+  small_ifs_in (If a one other) = small_if one other + (small_ifs one + small_ifs other)
+  small_ifs_in (Loop body post) = small_ifs body + small_ifs post
+  small_ifs_in _ = 0
+
+  pub small_ifs : Code → ℕ
+  small_ifs Nop = 0
+  small_ifs (s ▹ rest) = small_ifs_in s + small_ifs rest
+
+-- PROGRAMS
+
+pub record FitsFunction (fs : List Function) (f : Function) : Type 0 where
+  pub scalars : f.scalars ≤ 64
+  pub params : f.params ≤ f.scalars
+  pub few : f.params ≤ 8
+  -- its frame is made of whole words
+  pub words : f.arrays % 8 ≡ 0
+  pub body : FitsCode fs f.scalars false f.body
+
+pub record FitsProgram (P : Program) : Type 0 where
+  pub each : (f : ℕ) (g : Function) → slice_get P.functions f ≡ Some g → FitsFunction P.functions g
+  pub main : FitsCall P.functions P.main []
+  pub few : steps_of_all P.functions ≤ 16777216
+  -- globals and frames lie inside data memory
+  pub room : frames_at P.bytes + frame_limit ≤ data_size

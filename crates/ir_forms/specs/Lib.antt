@@ -1,0 +1,16 @@
+pub mod Faults
+pub mod FlatCode
+pub mod FlatViews
+pub mod Frames
+pub mod Cells
+pub mod FlatSteps
+pub mod FlatRuns
+pub mod FlatFits
+pub mod HyperCode
+pub mod HyperViews
+pub mod HyperRuns
+pub mod HyperFits
+pub mod FlowRuns
+pub mod FlowFits
+pub mod Agreement
+pub mod Laws
