@@ -1,9 +1,16 @@
 //! Images as target text (docs/MACHINE.md, "Target text"): [`print`] writes the one text of an
-//! image.
+//! image, and [`assemble`] reads it back.
 #![tactic(auto)]
 
+mod assembling;
 mod chunks;
 mod fields;
+mod fits;
 mod printing;
 
+pub use assembling::assemble;
 pub use printing::print;
+pub use target_read::AsmFault;
+
+#[cfg(test)]
+mod tests;

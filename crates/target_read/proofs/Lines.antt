@@ -19,8 +19,8 @@ use Rattle.target_read.specs.declared.spelled.SpelledBlock.{SpelledBlock}
 use Rattle.target_read.specs.Reading.{◌>>=◌, after_in, digits_in, number_in, index_in, word_in}
 use Rattle.target_read.specs.Reading.{field_in}
 use Rattle.target_read.specs.Places.{target_in, next_in, spot_of, maybe_spot}
-use Rattle.target_read.specs.Registers.{operands_fit, second_fits, only_if, operands_in, read_in}
-use Rattle.target_read.specs.Registers.{write_line_in}
+use Rattle.target_read.specs.Registers.{same_text, operands_fit, second_fits, only_if, operands_in}
+use Rattle.target_read.specs.Registers.{read_in, write_line_in}
 use Rattle.target_read.specs.Registers.{block_line_in, read_of}
 use Rattle.target_read.proofs.Numbers.{after_front, number_pos, index_again, indexed_is}
 use Rattle.target_read.proofs.Numbers.{field_again}
@@ -53,32 +53,33 @@ second_target first None f = tt
 second_target first (Some s) f = operand_target s f.0
 
 -- two operands that differ are told apart
-second_good : (first : Spot) (second : Option Spot) → FitsOperand first → FitsSecond first second
-    → operands_fit (spelled_spot first) (spelled_target second) ≡ true
+second_good : (alike : Bool) (first : Spot) (second : Option Spot) → FitsOperand first
+    → FitsSecond first second
+    → operands_fit alike (spelled_spot first) (spelled_target second) ≡ true
 unfolding operands_fit second_fits
-second_good (spot.Left n) None f s = refl
-second_good (spot.Right n) None f s = refl
-second_good (spot.Left n) (Some (spot.Left m)) f s =
+second_good alike (spot.Left n) None f s = refl
+second_good alike (spot.Right n) None f s = refl
+second_good alike (spot.Left n) (Some (spot.Left m)) f s =
     let e : (n == m) ≡ false = ne_eqb n m (λ e. s.1 (ap spot.Left (sym e))) in rw e refl
-second_good (spot.Left n) (Some (spot.Right m)) f s = refl
-second_good (spot.Right n) (Some (spot.Left m)) f s = refl
-second_good (spot.Right n) (Some (spot.Right m)) f s =
+second_good alike (spot.Left n) (Some (spot.Right m)) f s = refl
+second_good alike (spot.Right n) (Some (spot.Left m)) f s = refl
+second_good alike (spot.Right n) (Some (spot.Right m)) f s =
     let e : (n == m) ≡ false = ne_eqb n m (λ e. s.1 (ap spot.Right (sym e))) in rw e refl
-second_good (spot.Left n) (Some (spot.Pred m)) f s = absurd s.0
-second_good (spot.Left n) (Some (spot.Write m)) f s = absurd s.0
-second_good (spot.Left n) (Some (spot.Read m)) f s = absurd s.0
-second_good (spot.Left n) (Some (spot.Inst m)) f s = absurd s.0
-second_good (spot.Left n) (Some (spot.Store m)) f s = absurd s.0
-second_good (spot.Right n) (Some (spot.Pred m)) f s = absurd s.0
-second_good (spot.Right n) (Some (spot.Write m)) f s = absurd s.0
-second_good (spot.Right n) (Some (spot.Read m)) f s = absurd s.0
-second_good (spot.Right n) (Some (spot.Inst m)) f s = absurd s.0
-second_good (spot.Right n) (Some (spot.Store m)) f s = absurd s.0
-second_good (spot.Pred n) second f s = absurd f
-second_good (spot.Write n) second f s = absurd f
-second_good (spot.Read n) second f s = absurd f
-second_good (spot.Inst n) second f s = absurd f
-second_good (spot.Store n) second f s = absurd f
+second_good alike (spot.Left n) (Some (spot.Pred m)) f s = absurd s.0
+second_good alike (spot.Left n) (Some (spot.Write m)) f s = absurd s.0
+second_good alike (spot.Left n) (Some (spot.Read m)) f s = absurd s.0
+second_good alike (spot.Left n) (Some (spot.Inst m)) f s = absurd s.0
+second_good alike (spot.Left n) (Some (spot.Store m)) f s = absurd s.0
+second_good alike (spot.Right n) (Some (spot.Pred m)) f s = absurd s.0
+second_good alike (spot.Right n) (Some (spot.Write m)) f s = absurd s.0
+second_good alike (spot.Right n) (Some (spot.Read m)) f s = absurd s.0
+second_good alike (spot.Right n) (Some (spot.Inst m)) f s = absurd s.0
+second_good alike (spot.Right n) (Some (spot.Store m)) f s = absurd s.0
+second_good alike (spot.Pred n) second f s = absurd f
+second_good alike (spot.Write n) second f s = absurd f
+second_good alike (spot.Read n) second f s = absurd f
+second_good alike (spot.Inst n) second f s = absurd f
+second_good alike (spot.Store n) second f s = absurd f
 
 -- the operands of a read, and the end of its line
 operands_again : (number register : ℤ) (first : Spot) (second : Option Spot) (rest : List ℕ)
@@ -103,7 +104,8 @@ operands_again number register first second rest f s =
     let c : next_in t ≡ Some (spelled_target second, 10 ∷ rest) =
     next_again second (10 ∷ rest) (second_target first second s) (feed_ends rest) in
     let d : after_in (codes "\n") (10 ∷ rest) ≡ Some rest = after_front (codes "\n") rest in
-    let e : operands_fit (spelled_spot first) (spelled_target second) ≡ true = second_good first second f s in
+    let e : operands_fit (same_text (spot_text first ++ t) t) (spelled_spot first) (spelled_target second) ≡ true =
+    second_good (same_text (spot_text first ++ t) t) first second f s in
     rw (a, b, c, d, e) refl
 
 -- the line of a read, from the left

@@ -1,6 +1,6 @@
 -- The lines of blocks, reads and writes, read.
 use Rattle.std.specs.Prelude.{ℕ, ℤ, pos, negsuc, List, Option, Some, None, Bool, true, false}
-use Rattle.std.specs.Prelude.{◌==◌, if◌then◌else◌, codes}
+use Rattle.std.specs.Prelude.{◌==◌, ◌-◌, ◌&&◌, if◌then◌else◌, codes, length, take, is_some}
 use Rattle.trips_isa.specs.declared.block.ReadSlot.{ReadSlot}
 use Rattle.target_read.specs.declared.spelled.SpelledTarget.{SpelledTarget}
 use Rattle.target_read.specs.declared.spelled.SpelledTarget.TheVariants as spelled
@@ -28,15 +28,22 @@ same_operand (spelled.Left n) (spelled.Left m) = same_number n m
 same_operand (spelled.Right n) (spelled.Right m) = same_number n m
 same_operand t u = false
 
--- a second operand is another than the first
-unfoldable pub second_fits : SpelledTarget → Option SpelledTarget → Bool
-second_fits first None = true
-second_fits first (Some second) =
-    if is_operand second then (if same_operand first second then false else true) else false
+-- whether the next target of `rest` is spelled as the one between `text` and `rest`, so that two
+-- numbers past every field are told apart
+unfoldable pub same_text : List ℕ → List ℕ → Bool
+same_text text rest =
+    is_some (after_in (codes " ") rest >>= after_in (take (length text - length rest) text))
+
+-- a second operand is another than the first, where it is told whether both are spelled alike
+unfoldable pub second_fits : Bool → SpelledTarget → Option SpelledTarget → Bool
+second_fits alike first None = true
+second_fits alike first (Some second) =
+    if is_operand second then (if same_operand first second && alike then false else true) else
+    false
 
 -- one operand, or two different ones
-unfoldable pub operands_fit : SpelledTarget → Option SpelledTarget → Bool
-operands_fit first second = if is_operand first then second_fits first second else false
+unfoldable pub operands_fit : Bool → SpelledTarget → Option SpelledTarget → Bool
+operands_fit alike first second = if is_operand first then second_fits alike first second else false
 
 -- what reading gives where a test holds
 abbrev pub only_if : {A : Type 0} → Bool → A → Option A
@@ -48,7 +55,7 @@ unfoldable pub operands_in : ℤ → ℤ → List ℕ → Option (SpelledRead ×
 operands_in number register text =
     after_in (codes " ") text >>= λ a. target_in a >>= λ first. next_in first.1 >>= λ second.
     after_in (codes "\n") second.1 >>= λ rest.
-    only_if (operands_fit first.0 second.0) (
+    only_if (operands_fit (same_text a first.1) first.0 second.0) (
       record {
         number = number;
         register = register;
