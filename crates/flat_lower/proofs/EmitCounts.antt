@@ -1,0 +1,72 @@
+-- Counts of statements, which fall from a statement to its parts, and statements one by one.
+use Rattle.std.proofs.Common.{◌≡◌, ℕ, suc, ◌+◌, ◌≤◌, List, [], ◌∷◌, refl, sym, ap, ◌∙◌, arith}
+use Rattle.c_tree.specs.declared.TypedStmt.{TypedStmt}
+use Rattle.ir_forms.specs.declared.flat.FlatStmt.{FlatStmt}
+use Rattle.ir_forms.specs.FlatCode.{Then}
+use Rattle.ir_forms.specs.FlatViews.{code_of}
+use Rattle.flat_lower.specs.Tree.{Stmt, Declare, Plain, Compound, If, While, Do, For, Break}
+use Rattle.flat_lower.specs.Tree.{Continue, Return, Stmts, NoStmts, WithStmt, First, Nothing}
+use Rattle.flat_lower.specs.Tree.{FirstOf, Locals}
+use Rattle.flat_lower.specs.TreeViews.{stmt_of}
+use Rattle.flat_lower.specs.Objects.{Context}
+use Rattle.flat_lower.specs.Statements.{stmt_code, stmts_code}
+use Rattle.flat_lower.specs.Emitted.{Adds, block_of}
+use Rattle.flat_lower.proofs.Emits.{then_then, then_nop}
+
+abbrev mutual
+  -- the statements of a statement
+  pub stmts_in : Stmt → ℕ
+  stmts_in (Declare p e) = 1
+  stmts_in (Plain e) = 1
+  stmts_in (Compound all) = suc (stmts_in_all all)
+  stmts_in (If t one other) = suc (stmts_in one + stmts_in_all other)
+  stmts_in (While t body) = suc (stmts_in body)
+  stmts_in (Do body t) = suc (stmts_in body)
+  stmts_in (For first t p body) = suc (stmts_in_first first + stmts_in body)
+  stmts_in Break = 1
+  stmts_in Continue = 1
+  stmts_in (Return e) = 1
+
+  pub stmts_in_all : Stmts → ℕ
+  stmts_in_all NoStmts = 0
+  stmts_in_all (WithStmt s rest) = stmts_in s + stmts_in_all rest
+
+  pub stmts_in_first : First → ℕ
+  stmts_in_first Nothing = 0
+  stmts_in_first (FirstOf e) = 0
+  stmts_in_first (Locals all) = suc (stmts_in_all all)
+
+abbrev pub count_stmt : TypedStmt → ℕ
+count_stmt s = stmts_in (stmt_of s)
+
+abbrev pub count_block : List TypedStmt → ℕ
+count_block all = stmts_in_all (block_of all)
+
+-- some statements are emitted, and `rest` are to come
+pub record StmtsSoFar (c : Context) (all rest : List TypedStmt) (old code : List FlatStmt) : Type 0 where
+  pub written : Then (code_of code) (stmts_code c (block_of rest))
+      ≡ Then (code_of old) (stmts_code c (block_of all))
+  pub fewer : count_block rest ≤ count_block all
+
+-- at the start
+pub stmts_start : (c : Context) (all : List TypedStmt) (old : List FlatStmt)
+    → StmtsSoFar c all all old old
+stmts_start c all old = record { written = refl; fewer = omega arith }
+
+-- one statement more
+pub stmts_go_on : (c : Context) (all rest : List TypedStmt) (a : TypedStmt)
+    (old code code' : List FlatStmt)
+    → StmtsSoFar c all (a ∷ rest) old code → Adds code code' (stmt_code c (stmt_of a))
+    → StmtsSoFar c all rest old code'
+stmts_go_on c all rest a old code code' s h = record {
+  written =
+      ap (λ z. Then z (stmts_code c (block_of rest))) h.is
+      ∙ then_then (code_of code) (stmt_code c (stmt_of a)) (stmts_code c (block_of rest))
+      ∙ s.written;
+  fewer = omega (arith, s.fewer);
+}
+
+-- at the end
+pub stmts_end : (c : Context) (all : List TypedStmt) (old code : List FlatStmt)
+    → StmtsSoFar c all [] old code → Adds old code (stmts_code c (block_of all))
+stmts_end c all old code s = record { is = sym (then_nop (code_of code)) ∙ s.written }

@@ -1,0 +1,228 @@
+-- One predicate for expressions, statements, loops and calls: what a flat run does where the
+-- evaluation went so.
+use Rattle.std.proofs.Common.{◌≡◌, ◌≢◌, ℕ, zero, suc, ◌+◌, ◌-◌, ◌*◌, ◌<◌, ◌≤◌, List, [], ◌∷◌}
+use Rattle.std.proofs.Common.{Option, Some, None, refl, sym, ap, ◌∙◌, subst, arith}
+use Rattle.c_eval.specs.declared.signal.Signal.{Signal}
+use Rattle.c_eval.specs.declared.signal.Signal.TheVariants.{Nothing, Value, Breaks, Continues}
+use Rattle.c_eval.specs.declared.signal.Signal.TheVariants.{Returns}
+use Rattle.c_eval.specs.declared.signal.Ending.{Ending}
+use Rattle.c_eval.specs.declared.signal.Ending.TheVariants.{More, Undefined, Deep}
+use Rattle.c_eval.specs.State.{Result, Go, Over, then, spend_of, spend, want, with_some}
+use Rattle.c_eval.specs.State as eval
+use Rattle.ir_forms.specs.FlatCode.{Code, Then, Function}
+use Rattle.ir_forms.specs.FlatSteps.{State, Env, Res, Gone, Broke, Again, Gave, TooDeep, Unfinished}
+use Rattle.ir_forms.specs.FlatSteps.{Wild, settle, then_run}
+use Rattle.ir_forms.specs.FlatRuns.{checked}
+use Rattle.ir_forms.proofs.Leads.{Run, Leads, Stops, Moves, Waits, leads_from, stops_from}
+use Rattle.ir_forms.proofs.Leads.{waits_stop}
+use Rattle.ir_forms.proofs.Steps.{code_run, then_moves, first_leads, first_stops, code_waits}
+
+-- how a run goes on behind what gave a signal
+abbrev pub ends : Signal → State → ℕ → Res
+ends Nothing = settle
+ends (Value w) = settle
+ends Breaks = Broke
+ends Continues = Again
+ends (Returns w) = Gave w
+
+-- the run goes on behind it
+abbrev pub Settles : Signal → Type 0
+Settles Nothing = Unit {0}
+Settles (Value w) = Unit {0}
+Settles Breaks = ⊥
+Settles Continues = ⊥
+Settles (Returns w) = ⊥
+
+abbrev pub Post : Type 1
+Post = Signal → eval.State → State → Type 0
+
+-- it comes to a state within turns that the steps pay, and the steps are bounded by the rounds
+pub record Goes (most : ℕ) (P : Post) (run : Run) (top low : ℕ) (v : Signal) (s : eval.State) : Type 0 where
+  pub t : ℕ
+  pub to : State
+  pub upper : t + 8 * s.stock ≤ top
+  pub lower : low ≤ s.stock + most * to.rounds
+  pub holds : P v s to
+  pub leads : Leads run t (ends v to)
+
+pub record Dives (run : Run) (top : ℕ) (out : List ℕ) : Type 0 where
+  pub t : ℕ
+  pub upper : t ≤ top
+  pub leads : Leads run t (λ k. TooDeep out)
+
+pub record Halts (most : ℕ) (run : Run) (top low : ℕ) (out : List ℕ) : Type 0 where
+  pub t : ℕ
+  pub r : ℕ
+  pub upper : t ≤ top
+  pub lower : low ≤ most * r
+  pub stops : Stops run t out r
+
+abbrev pub FollowsOver : ℕ → Run → ℕ → ℕ → Ending → List ℕ → Type 0
+FollowsOver most run top low More out = Halts most run top low out
+FollowsOver most run top low Undefined out = Unit {0}
+FollowsOver most run top low Deep out = Dives run top out
+
+abbrev pub Follows : ℕ → Post → Run → ℕ → ℕ → Result → Type 0
+Follows most P run top low (Go v s) = Goes most P run top low v s
+Follows most P run top low (Over why s) = FollowsOver most run top low why s.output
+
+-- the prefix of a run costs its turns
+over_moved : (most : ℕ) (run next : Run) (t top low : ℕ) (why : Ending) (out : List ℕ)
+    → Moves run t next → t ≤ top → FollowsOver most next (top - t) low why out
+    → FollowsOver most run top low why out
+over_moved most run next t top low More out m h g = record {
+  t = t + g.t;
+  r = g.r;
+  upper = omega (arith, g.upper);
+  lower = g.lower;
+  stops = stops_from run next t g.t out g.r m g.stops;
+}
+over_moved most run next t top low Undefined out m h g = tt
+over_moved most run next t top low Deep out m h g = record {
+  t = t + g.t;
+  upper = omega (arith, g.upper);
+  leads = leads_from run next t g.t (λ k. TooDeep out) m g.leads;
+}
+
+pub moved : (most : ℕ) (P : Post) (run next : Run) (t top low : ℕ) (r : Result) → Moves run t next
+    → t ≤ top → Follows most P next (top - t) low r → Follows most P run top low r
+moved most P run next t top low (Go v s) m h g = record {
+  t = t + g.t;
+  to = g.to;
+  upper = omega (arith, g.upper);
+  lower = g.lower;
+  holds = g.holds;
+  leads = leads_from run next t g.t (ends v g.to) m g.leads;
+}
+moved most P run next t top low (Over why s) m h g =
+    over_moved most run next t top low why s.output m h g
+
+-- more turns, and fewer steps to account for
+over_weaker : (most : ℕ) (run : Run) (top low up down : ℕ) (why : Ending) (out : List ℕ) → up ≤ top
+    → low ≤ down → FollowsOver most run up down why out → FollowsOver most run top low why out
+over_weaker most run top low up down More out h k g =
+    record {
+      t = g.t;
+      r = g.r;
+      upper = omega (arith, g.upper);
+      lower = omega (arith, g.lower);
+      stops = g.stops;
+    }
+over_weaker most run top low up down Undefined out h k g = tt
+over_weaker most run top low up down Deep out h k g =
+    record { t = g.t; upper = omega (arith, g.upper); leads = g.leads }
+
+-- a step that is spent; with none left the run has not ended
+pub spends : (most : ℕ) (P : Post) (run : Run) (top low : ℕ) (s : eval.State) (c : ℕ)
+    (next : eval.State → Result) → Waits run s.output c → low ≤ s.stock + most * c
+    → ((n : ℕ) → s.stock ≡ suc n → Follows most P run top low (next (record s { stock = n })))
+    → Follows most P run top low (spend s next)
+spends most P run top low s c next w h f = go s.stock refl
+  where
+    go : (n : ℕ) → s.stock ≡ n → Follows most P run top low (spend_of n s next)
+    go zero e = record {
+      t = 0;
+      r = c;
+      upper = omega arith;
+      lower = omega arith;
+      stops = waits_stop run s.output c w;
+    }
+    go (suc n) e = f n e
+
+-- with what is there
+pub needed : {A : Type 0} (most : ℕ) (P : Post) (run : Run) (top low : ℕ) (o : Option A)
+    (s : eval.State) (next : A → Result) → ((a : A) → o ≡ Some a
+    → Follows most P run top low (next a)) → Follows most P run top low (with_some o s next)
+needed most P run top low None s next f = tt
+needed most P run top low (Some a) s next f = f a refl
+
+-- a value that is taken
+pub wanted : (most : ℕ) (P : Post) (run : Run) (top low : ℕ) (v : Signal) (s : eval.State)
+    (next : ℕ → Result) → ((w : ℕ) → v ≡ Value w → Follows most P run top low (next w))
+    → Follows most P run top low (want v s next)
+wanted most P run top low Nothing s next f = tt
+wanted most P run top low (Value w) s next f = f w refl
+wanted most P run top low Breaks s next f = tt
+wanted most P run top low Continues s next f = tt
+wanted most P run top low (Returns w) s next f = tt
+
+-- another predicate for what the run comes to
+pub weaker : (most : ℕ) (P Q : Post) (run : Run) (top low : ℕ) (r : Result)
+    → ((v : Signal) (s : eval.State) (f : State) → P v s f → Q v s f) → Follows most P run top low r
+    → Follows most Q run top low r
+weaker most P Q run top low (Go v s) h g =
+    record {
+      t = g.t;
+      to = g.to;
+      upper = g.upper;
+      lower = g.lower;
+      holds = h v s g.to g.holds;
+      leads = g.leads;
+    }
+weaker most P Q run top low (Over why s) h g = g
+
+module _ (fs : List Function) (base most : ℕ) (e : Env) where
+  abbrev pub run_of : Code → State → Run
+  run_of a f = code_run checked fs base e a f
+
+  over_first : (a b : Code) (f : State) (up down top low : ℕ) (why : Ending) (out : List ℕ)
+      → up ≤ top → low ≤ down → FollowsOver most (run_of a f) up down why out
+      → FollowsOver most (run_of (Then a b) f) top low why out
+  over_first a b f up down top low More out h k g = record {
+    t = g.t;
+    r = g.r;
+    upper = omega (arith, g.upper);
+    lower = omega (arith, g.lower);
+    stops = first_stops checked fs base e a b f g.t out g.r g.stops;
+  }
+  over_first a b f up down top low Undefined out h k g = tt
+  over_first a b f up down top low Deep out h k g = record {
+    t = g.t;
+    upper = omega (arith, g.upper);
+    leads = first_leads checked fs base e a b f g.t (λ k. TooDeep out) (λ k next. refl) g.leads;
+  }
+
+  settles_is : (v : Signal) → Settles v → ends v ≡ settle
+  settles_is Nothing h = refl
+  settles_is (Value w) h = refl
+  settles_is Breaks h = absurd h
+  settles_is Continues h = absurd h
+  settles_is (Returns w) h = absurd h
+
+  -- a part and what follows it, where what follows knows that the run goes on
+  pub then_follows : (P Q : Post) (a b : Code) (f : State) (up down top low : ℕ) (r : Result)
+      (next : Signal → eval.State → Result) → Follows most P (run_of a f) up down r → up ≤ top
+      → low ≤ down
+      → ((v : Signal) (s : eval.State) (g : State) (t : ℕ) → r ≡ Go v s → P v s g
+      → t + 8 * s.stock ≤ up → down ≤ s.stock + most * g.rounds
+      → Settles v × Follows most Q (run_of b g) (top - t) low (next v s))
+      → Follows most Q (run_of (Then a b) f) top low (then r next)
+  then_follows P Q a b f up down top low (Go v s) next g hu hd h =
+      let k = h v s g.to g.t refl g.holds g.upper g.lower in
+      let l : Leads (run_of a f) g.t (settle g.to) = subst (λ x. Leads (run_of a f) g.t (x g.to)) (settles_is v k.0) g.leads in
+      moved most Q (run_of (Then a b) f) (run_of b g.to) g.t top low (next v s)
+      (then_moves checked fs base e a b f g.to g.t l) (omega (arith, g.upper)) k.1
+  then_follows P Q a b f up down top low (Over why s) next g hu hd h =
+      over_first a b f up down top low why s.output hu hd g
+
+  -- a statement and those behind it: what leaves the first leaves both
+  pub leaves_first : (P : Post) (a b : Code) (f : State) (up down top low : ℕ) (v : Signal)
+      (s : eval.State) → (Settles v → ⊥) → up ≤ top → low ≤ down
+      → Goes most P (run_of a f) up down v s → Goes most P (run_of (Then a b) f) top low v s
+  leaves_first P a b f up down top low v s n hu hd g = record {
+    t = g.t;
+    to = g.to;
+    upper = omega (arith, g.upper);
+    lower = omega (arith, g.lower);
+    holds = g.holds;
+    leads = first_leads checked fs base e a b f g.t (ends v g.to)
+        (λ k next. stays v n k next) g.leads;
+  }
+    where
+      stays : (v : Signal) → (Settles v → ⊥) → (k : ℕ) (next : State → ℕ → Res)
+          → then_run (ends v g.to k) next ≡ ends v g.to k
+      stays Nothing n k next = absurd (n tt)
+      stays (Value w) n k next = absurd (n tt)
+      stays Breaks n k next = refl
+      stays Continues n k next = refl
+      stays (Returns w) n k next = refl

@@ -1,0 +1,241 @@
+-- Typed programs that are lowered: what typing gives of each node, and temporaries that suffice.
+use Rattle.std.specs.Prelude.{◌≡◌, ℕ, suc, ◌+◌, ◌<◌, ◌≤◌, true, false, List, [], ◌∷◌, length, take}
+use Rattle.std.specs.Prelude.{All, Option, Some, None, slice_get}
+use Rattle.c_tree.specs.declared.Kind.{Kind}
+use Rattle.c_tree.specs.declared.Kind.TheVariants.{Int}
+use Rattle.c_tree.specs.declared.UnaryOp.{UnaryOp}
+use Rattle.c_tree.specs.declared.UnaryOp.TheVariants.{Not}
+use Rattle.c_tree.specs.declared.BinaryOp.{BinaryOp}
+use Rattle.c_tree.specs.declared.BinaryOp.TheVariants.{LogicalOr, LogicalAnd, ShiftLeft, ShiftRight}
+use Rattle.c_tree.specs.declared.Place.{Place}
+use Rattle.c_tree.specs.declared.Place.TheVariants.{Global, Scalar, Array}
+use Rattle.c_tree.specs.declared.Callee.{Callee}
+use Rattle.c_tree.specs.declared.Callee.TheVariants as callee
+use Rattle.c_tree.specs.declared.Slot.{Slot}
+use Rattle.c_tree.specs.declared.Slot.TheVariants as slot
+use Rattle.c_tree.specs.declared.TypedArray.{TypedArray}
+use Rattle.c_tree.specs.declared.TypedGlobal.{TypedGlobal}
+use Rattle.c_constant.specs.Operation.{result_of, unary_result}
+use Rattle.c_eval.specs.Eval.{length_of}
+use Rattle.trips_isa.specs.Stores.{data_size}
+use Rattle.ir_forms.specs.Frames.{frames_at, frame_limit}
+use Rattle.flat_lower.specs.Tree.{Expr, Number, Name, Element, Call, Unary, Cast, Convert, Bump}
+use Rattle.flat_lower.specs.Tree.{Binary, Choice, Assign, Comma, Exprs, NoExprs, WithExpr, Stmt}
+use Rattle.flat_lower.specs.Tree.{Declare, Plain, Compound, If, While, Do, For, Break, Continue}
+use Rattle.flat_lower.specs.Tree.{Return, Stmts, NoStmts, WithStmt, First, Nothing, FirstOf, Locals}
+use Rattle.flat_lower.specs.Tree.{Func, Source, kind_of}
+use Rattle.flat_lower.specs.Kinds.{IsWord, IsArithmetic}
+use Rattle.flat_lower.specs.Expressions.{operand_at, right_at}
+use Rattle.flat_lower.specs.Statements.{globals_image}
+
+-- what names and calls stand for in a function
+pub record Scope : Type 0 where
+  pub globals : List TypedGlobal
+  pub functions : List Func
+  pub scalars : List Slot
+  pub arrays : List TypedArray
+
+-- NAMES
+
+-- a global, and its type
+pub record GlobalIs (c : Scope) (g : ℕ) (k : Kind) (length : Option ℕ) : Type 0 where
+  pub global : TypedGlobal
+  pub found : slice_get c.globals g ≡ Some global
+  pub kind : global.kind ≡ k
+  pub long : global.length ≡ length
+
+pub record ArrayIs (c : Scope) (a : ℕ) (k : Kind) : Type 0 where
+  pub array : TypedArray
+  pub found : slice_get c.arrays a ≡ Some array
+  pub kind : array.kind ≡ k
+
+abbrev pub FitsName : Scope → Kind → Place → Type 0
+FitsName c k (Global g) = GlobalIs c g k None
+FitsName c k (Scalar i) = slice_get c.scalars i ≡ Some (slot.Scalar k)
+FitsName c k (Array a) = ⊥
+
+-- an array whose elements are of a type
+abbrev pub FitsWhole : Scope → Kind → Place → Type 0
+FitsWhole c k (Global g) = (n : ℕ) × GlobalIs c g k (Some n)
+FitsWhole c k (Scalar i) = slice_get c.scalars i ≡ Some (slot.Address k)
+FitsWhole c k (Array a) = ArrayIs c a k
+
+-- EXPRESSIONS
+
+abbrev pub IsOperand : UnaryOp → Kind → Type 0
+IsOperand Not k = Unit {0}
+IsOperand o k = IsArithmetic k
+
+-- the count of a shift may be of another type
+abbrev pub FitsRight : BinaryOp → Kind → Option Kind → Type 0
+FitsRight ShiftLeft k j = Unit {0}
+FitsRight ShiftRight k j = Unit {0}
+FitsRight o k j = j ≡ Some k
+
+-- an operation on both operands, and its type
+abbrev pub FitsStrict : BinaryOp → Kind → Option Kind → Kind → Type 0
+FitsStrict o j r k = IsArithmetic j × FitsRight o j r × (k ≡ result_of o j)
+
+abbrev pub FitsBinary : BinaryOp → Option Kind → Option Kind → Kind → Type 0
+FitsBinary LogicalOr l r k = k ≡ Int
+FitsBinary LogicalAnd l r k = k ≡ Int
+FitsBinary o None r k = ⊥
+FitsBinary o (Some j) r k = FitsStrict o j r k
+
+abbrev pub FitsUnary : UnaryOp → Option Kind → Kind → Type 0
+FitsUnary o None k = ⊥
+FitsUnary o (Some j) k = IsOperand o j × (k ≡ unary_result o j)
+
+-- a compound assignment's operation gives a value of its own type
+abbrev pub FitsCompound : Option BinaryOp → Kind → Kind → Option Kind → Type 0
+FitsCompound None at k r = r ≡ Some k
+FitsCompound (Some LogicalOr) at k r = ⊥
+FitsCompound (Some LogicalAnd) at k r = ⊥
+FitsCompound (Some o) at k r = FitsStrict o at r at
+
+abbrev pub FitsKind : Option Kind → (Kind → Type 0) → Type 0
+FitsKind None f = ⊥
+FitsKind (Some k) f = f k
+
+abbrev pub FitsNumber : ℕ → Option Kind → ℕ → Type 0
+FitsNumber d None w = ⊥
+FitsNumber d (Some k) w = (d < 16) × IsWord k w
+
+abbrev pub FitsNamed : Scope → ℕ → Option Kind → Place → Type 0
+FitsNamed c d None p = ⊥
+FitsNamed c d (Some k) p = (d < 16) × FitsName c k p
+
+abbrev pub FitsElement : Scope → Option Kind → Place → Type 0
+FitsElement c None p = ⊥
+FitsElement c (Some k) p = FitsWhole c k p
+
+-- a call, where `args` says that the arguments fit some parameters, and `one` that they are one
+-- value
+abbrev pub FitsCall : Scope → Option Kind → Callee → (List Slot → Type 0) → Type 0 → Exprs → Type 0
+FitsCall c k (callee.Func f) args one es =
+    (g : Func) × (slice_get c.functions f ≡ Some g) × (k ≡ g.result)
+    × args (take g.params g.scalars)
+FitsCall c k callee.GetChar args one es = (k ≡ Some Int) × (es ≡ NoExprs)
+FitsCall c k callee.PutChar args one es = (k ≡ Some Int) × one
+
+-- an argument for a parameter, where `fits` says that it is an expression
+abbrev pub FitsArg : Scope → ℕ → Slot → Type 0 → Expr → Type 0
+FitsArg c d (slot.Scalar k) fits e = fits × (kind_of e ≡ Some k)
+FitsArg c d (slot.Address k) fits (Name j p) = (d < 16) × (j ≡ Some k) × FitsWhole c k p
+FitsArg c d (slot.Address k) fits _ = ⊥
+
+-- the temporaries from d on
+abbrev mutual
+  pub FitsExpr : Scope → ℕ → Expr → Type 0
+  FitsExpr c d (Number k w) = FitsNumber d k w
+  FitsExpr c d (Name k p) = FitsNamed c d k p
+  FitsExpr c d (Element k p index) = FitsElement c k p × FitsExpr c d index
+  FitsExpr c d (Call k f args) =
+      (d < 16) × FitsCall c k f (λ slots. FitsArgs c d slots args) (FitsOne c d args) args
+  FitsExpr c d (Unary k o e) = FitsExpr c d e × FitsKind k (FitsUnary o (kind_of e))
+  FitsExpr c d (Cast k to e) = FitsExpr c d e × (k ≡ Some to)
+  FitsExpr c d (Convert k to e) = FitsExpr c d e × (k ≡ Some to)
+  FitsExpr c d (Bump k o e) = FitsLeft c d k e
+  FitsExpr c d (Binary k o l r) =
+      FitsExpr c d l × FitsExpr c (operand_at o d) r
+      × FitsKind k (FitsBinary o (kind_of l) (kind_of r))
+  FitsExpr c d (Choice k t one other) =
+      FitsExpr c d t × FitsExpr c d one × FitsExpr c d other × (kind_of one ≡ k)
+      × (kind_of other ≡ k)
+  FitsExpr c d (Assign k o at l r) =
+      FitsLeft c d k l × FitsExpr c (right_at o d l) r
+      × FitsKind k (λ k. FitsCompound o at k (kind_of r))
+  FitsExpr c d (Comma k l r) = FitsExpr c d l × FitsExpr c d r × (kind_of r ≡ k)
+
+  -- a left side has the type of what it is a part of
+  pub FitsLeft : Scope → ℕ → Option Kind → Expr → Type 0
+  FitsLeft c d k (Name j p) = (j ≡ k) × FitsNamed c d k p
+  FitsLeft c d k (Element j p index) = (j ≡ k) × FitsElement c k p × FitsExpr c d index
+  FitsLeft c d k _ = ⊥
+
+  -- the one argument of `putchar`
+  pub FitsOne : Scope → ℕ → Exprs → Type 0
+  FitsOne c d NoExprs = ⊥
+  FitsOne c d (WithExpr e rest) = FitsExpr c d e × (rest ≡ NoExprs)
+
+  pub FitsArgs : Scope → ℕ → List Slot → Exprs → Type 0
+  FitsArgs c d [] NoExprs = Unit {0}
+  FitsArgs c d [] (WithExpr e rest) = ⊥
+  FitsArgs c d (s ∷ ss) NoExprs = ⊥
+  FitsArgs c d (s ∷ ss) (WithExpr e rest) =
+      FitsArg c d s (FitsExpr c d e) e × FitsArgs c (suc d) ss rest
+
+-- STATEMENTS
+
+abbrev pub FitsExprIf : Scope → Option Expr → Type 0
+FitsExprIf c None = Unit {0}
+FitsExprIf c (Some e) = FitsExpr c 0 e
+
+abbrev pub FitsDeclare : Scope → Place → Option Expr → Type 0
+FitsDeclare c (Scalar i) (Some e) =
+    (k : Kind) × (slice_get c.scalars i ≡ Some (slot.Scalar k)) × FitsExpr c 0 e
+    × (kind_of e ≡ Some k)
+FitsDeclare c p e = Unit {0}
+
+-- a value is returned exactly where the function has a type
+abbrev pub FitsReturn : Scope → Option Kind → Option Expr → Type 0
+FitsReturn c None None = Unit {0}
+FitsReturn c None (Some e) = ⊥
+FitsReturn c (Some k) None = ⊥
+FitsReturn c (Some k) (Some e) = FitsExpr c 0 e × (kind_of e ≡ Some k)
+
+abbrev mutual
+  pub FitsStmt : Scope → Option Kind → Stmt → Type 0
+  FitsStmt c k (Declare p e) = FitsDeclare c p e
+  FitsStmt c k (Plain e) = FitsExprIf c e
+  FitsStmt c k (Compound all) = FitsStmts c k all
+  FitsStmt c k (If t one other) = FitsExpr c 0 t × FitsStmt c k one × FitsStmts c k other
+  FitsStmt c k (While t body) = FitsExpr c 0 t × FitsStmt c k body
+  FitsStmt c k (Do body t) = FitsStmt c k body × FitsExpr c 0 t
+  FitsStmt c k (For first test post body) =
+      FitsFirst c k first × FitsExprIf c test × FitsExprIf c post × FitsStmt c k body
+  FitsStmt c k Break = Unit {0}
+  FitsStmt c k Continue = Unit {0}
+  FitsStmt c k (Return e) = FitsReturn c k e
+
+  pub FitsStmts : Scope → Option Kind → Stmts → Type 0
+  FitsStmts c k NoStmts = Unit {0}
+  FitsStmts c k (WithStmt s rest) = FitsStmt c k s × FitsStmts c k rest
+
+  pub FitsFirst : Scope → Option Kind → First → Type 0
+  FitsFirst c k Nothing = Unit {0}
+  FitsFirst c k (FirstOf e) = FitsExpr c 0 e
+  FitsFirst c k (Locals all) = FitsStmts c k all
+
+-- PROGRAMS
+
+abbrev pub scope_of : Source → Func → Scope
+scope_of P f = record {
+  globals = P.globals;
+  functions = P.functions;
+  scalars = f.scalars;
+  arrays = f.arrays;
+}
+
+pub record FitsFunc (P : Source) (f : Func) : Type 0 where
+  pub scalars : length f.scalars ≤ 64
+  pub params : f.params ≤ length f.scalars
+  pub body : FitsStmt (scope_of P f) f.result f.body
+
+-- a global's values are words of its type, and no more than it has room for
+pub record FitsGlobal (g : TypedGlobal) : Type 0 where
+  pub words : All (IsWord g.kind) g.init
+  pub few : length g.init ≤ length_of g.length
+
+-- main returns an int and has no parameters
+pub record FitsMain (P : Source) : Type 0 where
+  pub main : Func
+  pub found : slice_get P.functions P.main ≡ Some main
+  pub result : main.result ≡ Some Int
+  pub params : main.params ≡ 0
+
+pub record FitsSource (P : Source) : Type 0 where
+  pub each : (n : ℕ) (f : Func) → slice_get P.functions n ≡ Some f → FitsFunc P f
+  pub globals : All FitsGlobal P.globals
+  pub main : FitsMain P
+  pub room : frames_at (globals_image P.globals) + frame_limit ≤ data_size

@@ -1,0 +1,10 @@
+pub mod Tree
+pub mod TreeViews
+pub mod Kinds
+pub mod Operations
+pub mod Objects
+pub mod Expressions
+pub mod Statements
+pub mod Emitted
+pub mod Fits
+pub mod Sizes

@@ -1,0 +1,63 @@
+-- The nodes and statements of a program: what one pass through it, without a loop's turn or a call,
+-- can cost.
+use Rattle.std.specs.Prelude.{ℕ, ◌+◌, ◌≤◌, List, [], ◌∷◌, Option, Some, None, slice_get, ◌≡◌}
+use Rattle.flat_lower.specs.Tree.{Expr, Number, Name, Element, Call, Unary, Cast, Convert, Bump}
+use Rattle.flat_lower.specs.Tree.{Binary, Choice, Assign, Comma, Exprs, NoExprs, WithExpr, Stmt}
+use Rattle.flat_lower.specs.Tree.{Declare, Plain, Compound, If, While, Do, For, Break, Continue}
+use Rattle.flat_lower.specs.Tree.{Return, Stmts, NoStmts, WithStmt, First, Nothing, FirstOf, Locals}
+use Rattle.flat_lower.specs.Tree.{Func, Source}
+
+-- a conversion that typing adds costs nothing, and of a left side only an index counts
+abbrev mutual
+  pub nodes : Expr → ℕ
+  nodes (Number k w) = 1
+  nodes (Name k p) = 1
+  nodes (Element k p index) = 1 + nodes index
+  nodes (Call k f args) = 2 + all_nodes args
+  nodes (Unary k o e) = 1 + nodes e
+  nodes (Cast k to e) = 1 + nodes e
+  nodes (Convert k to e) = nodes e
+  nodes (Bump k o e) = 1 + left_nodes e
+  nodes (Binary k o l r) = 1 + (nodes l + nodes r)
+  nodes (Choice k t one other) = 1 + (nodes t + (nodes one + nodes other))
+  nodes (Assign k o at l r) = 1 + (left_nodes l + nodes r)
+  nodes (Comma k l r) = 1 + (nodes l + nodes r)
+
+  pub left_nodes : Expr → ℕ
+  left_nodes (Element k p index) = nodes index
+  left_nodes _ = 0
+
+  pub all_nodes : Exprs → ℕ
+  all_nodes NoExprs = 0
+  all_nodes (WithExpr e rest) = nodes e + all_nodes rest
+
+abbrev pub nodes_if : Option Expr → ℕ
+nodes_if None = 0
+nodes_if (Some e) = nodes e
+
+abbrev mutual
+  pub size_of : Stmt → ℕ
+  size_of (Declare p e) = 1 + nodes_if e
+  size_of (Plain e) = 1 + nodes_if e
+  size_of (Compound all) = 1 + size_of_all all
+  size_of (If t one other) = 1 + (nodes t + (size_of one + size_of_all other))
+  size_of (While t body) = 1 + (nodes t + size_of body)
+  size_of (Do body t) = 1 + (size_of body + nodes t)
+  size_of (For first test post body) = 1 +
+      (size_of_first first + (nodes_if test + (nodes_if post + size_of body)))
+  size_of Break = 1
+  size_of Continue = 1
+  size_of (Return e) = 1 + nodes_if e
+
+  pub size_of_all : Stmts → ℕ
+  size_of_all NoStmts = 0
+  size_of_all (WithStmt s rest) = size_of s + size_of_all rest
+
+  pub size_of_first : First → ℕ
+  size_of_first Nothing = 0
+  size_of_first (FirstOf e) = nodes e
+  size_of_first (Locals all) = size_of_all all
+
+-- no function's body is larger, and a call has a step besides
+abbrev pub IsMost : Source → ℕ → Type 0
+IsMost P most = (n : ℕ) (f : Func) → slice_get P.functions n ≡ Some f → 1 + size_of f.body ≤ most

@@ -1,0 +1,132 @@
+-- The flat code of statements, functions and programs.
+use Rattle.std.specs.Prelude.{ℕ, ◌+◌, ◌-◌, ◌*◌, ◌/◌, ◌%◌, ◌^◌, zero, suc, List, [], ◌∷◌, ◌++◌, map}
+use Rattle.std.specs.Prelude.{replicate, length, Option, Some, None, Bool, cond, nat_eq}
+use Rattle.c_tree.specs.declared.Kind.{Kind}
+use Rattle.c_tree.specs.declared.Place.{Place}
+use Rattle.c_tree.specs.declared.Place.TheVariants.{Global, Scalar, Array}
+use Rattle.c_tree.specs.declared.TypedGlobal.{TypedGlobal}
+use Rattle.c_tree.specs.declared.TypedProgram.{TypedProgram}
+use Rattle.c_eval.specs.Call.{size_of, all_bytes}
+use Rattle.c_eval.specs.Eval.{length_of}
+use Rattle.ir_forms.specs.declared.flat.Arg.TheVariants.{Const, Var}
+use Rattle.ir_forms.specs.FlatCode.{Code, Nop, Then, only, Loop, Function, Program}
+use Rattle.ir_forms.specs.FlatCode as flat
+use Rattle.flat_lower.specs.Tree.{Expr, Stmt, Declare, Plain, Compound, If, While, Do, For, Break}
+use Rattle.flat_lower.specs.Tree.{Continue, Return, Stmts, NoStmts, WithStmt, First, Nothing}
+use Rattle.flat_lower.specs.Tree.{FirstOf, Locals, Func, Source}
+use Rattle.flat_lower.specs.TreeViews.{source_of}
+use Rattle.flat_lower.specs.Operations.{temp, set_word, copied}
+use Rattle.flat_lower.specs.Objects.{Context, global_bytes}
+use Rattle.flat_lower.specs.Expressions.{expr_code}
+
+-- STATEMENTS
+
+abbrev pub expr_if_code : Context → Option Expr → Code
+expr_if_code c None = Nop
+expr_if_code c (Some e) = expr_code c 0 e
+
+-- a local is set by its initialiser alone
+abbrev pub declare_code : Context → Place → Option Expr → Code
+declare_code c (Scalar i) (Some e) = Then (expr_code c 0 e) (copied i (temp 0))
+declare_code c p e = Nop
+
+abbrev pub return_code : Context → Option Expr → Code
+return_code c None = only (flat.Return None)
+return_code c (Some e) = Then (expr_code c 0 e) (only (flat.Return (Some (Var (temp 0)))))
+
+-- a loop's body where the test in temporary 0 holds; else the loop is left
+abbrev pub if_so : Code → Code
+if_so body = only (flat.If (Var (temp 0)) body (only flat.Break))
+
+-- the test of a while or a for, if there is one, and the body
+abbrev pub turn_code : Context → Option Expr → Code → Code
+turn_code c None body = body
+turn_code c (Some t) body = Then (expr_code c 0 t) (if_so body)
+
+abbrev pub loop_code : Context → Option Expr → Option Expr → Code → Code
+loop_code c test post body = only (Loop (turn_code c test body) (expr_if_code c post))
+
+-- the test of a do stands behind its body, where a continue goes on too; the first turn is taken
+abbrev pub do_code : Context → Expr → Code → Code
+do_code c t body = Then (set_word (temp 0) 1) (only (Loop (if_so body) (expr_code c 0 t)))
+
+abbrev mutual
+  pub stmt_code : Context → Stmt → Code
+  stmt_code c (Declare p e) = declare_code c p e
+  stmt_code c (Plain e) = expr_if_code c e
+  stmt_code c (Compound all) = stmts_code c all
+  stmt_code c (If t one other) =
+      Then (expr_code c 0 t) (only (flat.If (Var (temp 0)) (stmt_code c one) (stmts_code c other)))
+  stmt_code c (While t body) = loop_code c (Some t) None (stmt_code c body)
+  stmt_code c (Do body t) = do_code c t (stmt_code c body)
+  stmt_code c (For first test post body) =
+      Then (first_code c first) (loop_code c test post (stmt_code c body))
+  stmt_code c Break = only flat.Break
+  stmt_code c Continue = only flat.Continue
+  stmt_code c (Return e) = return_code c e
+
+  pub stmts_code : Context → Stmts → Code
+  stmts_code c NoStmts = Nop
+  stmts_code c (WithStmt s rest) = Then (stmt_code c s) (stmts_code c rest)
+
+  pub first_code : Context → First → Code
+  first_code c Nothing = Nop
+  first_code c (FirstOf e) = expr_code c 0 e
+  first_code c (Locals all) = stmts_code c all
+
+-- FUNCTIONS
+
+-- the end of main returns 0
+abbrev pub end_code : Bool → Code
+end_code is_main = cond is_main (only (flat.Return (Some (Const 0)))) Nop
+
+abbrev pub context_of : List TypedGlobal → Func → Context
+context_of globals f = record { globals = globals; arrays = f.arrays }
+
+abbrev pub lowered_func : List TypedGlobal → Bool → Func → Function
+lowered_func globals is_main f = record {
+  params = f.params;
+  scalars = length f.scalars;
+  arrays = all_bytes f.arrays;
+  body = Then (stmt_code (context_of globals f) f.body) (end_code is_main);
+}
+
+-- the functions from number n on
+abbrev pub lowered_from : List TypedGlobal → ℕ → ℕ → List Func → List Function
+lowered_from globals main n [] = []
+lowered_from globals main n (f ∷ fs) =
+    lowered_func globals (nat_eq n main) f ∷ lowered_from globals main (suc n) fs
+
+-- GLOBALS
+
+-- the low bytes of a word, the most significant first
+abbrev pub word_bytes : ℕ → ℕ → List ℕ
+word_bytes zero w = []
+word_bytes (suc n) w = (w / 256 ^ n) % 256 ∷ word_bytes n w
+
+abbrev pub init_bytes : ℕ → List ℕ → List ℕ
+init_bytes size [] = []
+init_bytes size (w ∷ ws) = word_bytes size w ++ init_bytes size ws
+
+-- the values given, and then zeros up to whole words
+abbrev pub global_image : TypedGlobal → List ℕ
+global_image g =
+    init_bytes (size_of g.kind) g.init ++ replicate
+    (global_bytes g - length g.init * size_of g.kind) 0
+
+abbrev pub globals_image : List TypedGlobal → List ℕ
+globals_image [] = []
+globals_image (g ∷ gs) = global_image g ++ globals_image gs
+
+-- PROGRAMS
+
+unfoldable pub lowered : Source → Program
+lowered P = record {
+  functions = lowered_from P.globals P.main 0 P.functions;
+  bytes = globals_image P.globals;
+  main = P.main;
+}
+
+-- the flat program of a typed program
+abbrev pub lowered_program : TypedProgram → Program
+lowered_program P = lowered (source_of P)

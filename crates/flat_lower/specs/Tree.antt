@@ -1,0 +1,82 @@
+-- Typed programs as plain data, which the lowering and its proof recurse on.
+use Rattle.std.specs.Prelude.{ℕ, List, Option}
+use Rattle.c_tree.specs.declared.Kind.{Kind}
+use Rattle.c_tree.specs.declared.UnaryOp.{UnaryOp}
+use Rattle.c_tree.specs.declared.BumpOp.{BumpOp}
+use Rattle.c_tree.specs.declared.BinaryOp.{BinaryOp}
+use Rattle.c_tree.specs.declared.Place.{Place}
+use Rattle.c_tree.specs.declared.Callee.{Callee}
+use Rattle.c_tree.specs.declared.Slot.{Slot}
+use Rattle.c_tree.specs.declared.TypedArray.{TypedArray}
+use Rattle.c_tree.specs.declared.TypedGlobal.{TypedGlobal}
+
+-- each node has its kind, none where it gives no value
+mutual
+  pub data Expr : Type 0 where
+    Number : (k : Option Kind) (w : ℕ) → Expr
+    Name : (k : Option Kind) (p : Place) → Expr
+    Element : (k : Option Kind) (p : Place) (index : Expr) → Expr
+    Call : (k : Option Kind) (f : Callee) (args : Exprs) → Expr
+    Unary : (k : Option Kind) (op : UnaryOp) (e : Expr) → Expr
+    Cast : (k : Option Kind) (to : Kind) (e : Expr) → Expr
+    Convert : (k : Option Kind) (to : Kind) (e : Expr) → Expr
+    Bump : (k : Option Kind) (op : BumpOp) (e : Expr) → Expr
+    Binary : (k : Option Kind) (op : BinaryOp) (left right : Expr) → Expr
+    Choice : (k : Option Kind) (test one other : Expr) → Expr
+    Assign : (k : Option Kind) (op : Option BinaryOp) (at : Kind) (left right : Expr) → Expr
+    Comma : (k : Option Kind) (left right : Expr) → Expr
+
+  -- the arguments of a call, from the left
+  pub data Exprs : Type 0 where
+    NoExprs : Exprs
+    WithExpr : (e : Expr) (rest : Exprs) → Exprs
+
+-- the else of an if is a list of at most one statement
+mutual
+  pub data Stmt : Type 0 where
+    Declare : (p : Place) (init : Option Expr) → Stmt
+    Plain : (e : Option Expr) → Stmt
+    Compound : (all : Stmts) → Stmt
+    If : (test : Expr) (one : Stmt) (other : Stmts) → Stmt
+    While : (test : Expr) (body : Stmt) → Stmt
+    Do : (body : Stmt) (test : Expr) → Stmt
+    For : (first : First) (test post : Option Expr) (body : Stmt) → Stmt
+    Break : Stmt
+    Continue : Stmt
+    Return : (e : Option Expr) → Stmt
+
+  pub data Stmts : Type 0 where
+    NoStmts : Stmts
+    WithStmt : (s : Stmt) (rest : Stmts) → Stmts
+
+  -- the first part of a for
+  pub data First : Type 0 where
+    Nothing : First
+    FirstOf : (e : Expr) → First
+    Locals : (all : Stmts) → First
+
+pub record Func : Type 0 where
+  pub result : Option Kind
+  pub params : ℕ
+  pub scalars : List Slot
+  pub arrays : List TypedArray
+  pub body : Stmt
+
+pub record Source : Type 0 where
+  pub globals : List TypedGlobal
+  pub functions : List Func
+  pub main : ℕ
+
+abbrev pub kind_of : Expr → Option Kind
+kind_of (Number k w) = k
+kind_of (Name k p) = k
+kind_of (Element k p index) = k
+kind_of (Call k f args) = k
+kind_of (Unary k op e) = k
+kind_of (Cast k to e) = k
+kind_of (Convert k to e) = k
+kind_of (Bump k op e) = k
+kind_of (Binary k op left right) = k
+kind_of (Choice k test one other) = k
+kind_of (Assign k op at left right) = k
+kind_of (Comma k left right) = k

@@ -1,0 +1,147 @@
+//! The flat code of functions.
+
+ghost use Rattle.std.specs.Prelude.{◌≡◌, ◌+◌, ◌≤◌, map, IfOk, OnOk};
+ghost use Rattle.c_eval.specs.Call as call;
+ghost use Rattle.ir_forms.specs.FlatCode.{Then};
+ghost use Rattle.ir_forms.specs.FlatViews.{code_of, function_of};
+ghost use Rattle.flat_lower.specs.TreeViews.{stmt_of, func_of};
+ghost use Rattle.flat_lower.specs.Objects.{global_bytes};
+ghost use Rattle.flat_lower.specs.Statements.{stmt_code, end_code, lowered_func, lowered_from};
+ghost use Rattle.flat_lower.specs.Emitted.{Adds, starts_from};
+
+use crate::emit::put_return;
+use crate::globals::size_of;
+use crate::places::Places;
+use crate::statements::put_stmt;
+use base::{Items, Memory};
+use c_tree::{TypedArray, TypedFunc, TypedGlobal, TypedStmt};
+use ir_forms::{Arg, FlatFunc, FlatStmt};
+use std::alloc::Global;
+
+/// The bytes of an array, rounded up to 8.
+fn array_bytes(array: &TypedArray) -> u64
+    ensures { result ≡ call.array_bytes array.now }
+{
+    let bytes = array.length as u64 * size_of(array.kind) as u64;
+    (bytes + 7) / 8 * 8
+}
+
+fn further(at: u32, by: u64) -> Result<u32, Memory>
+    ensures { IfOk result (λ n. n ≡ at + by) }
+{
+    if by <= (u32::MAX - at) as u64 {
+        Ok(at + by as u32)
+    } else {
+        Err(Memory)
+    }
+}
+
+/// The place of each array of a function among its arrays.
+fn starts_of(alloc: Global, arrays: &[TypedArray]) -> Result<Items<u32>, Memory>
+    ensures { IfOk result (λ found. found ≡ starts_from 0 (map call.array_bytes arrays.now)) }
+{
+    let mut found = Items::new(alloc);
+    let mut at = 0;
+    for array in arrays {
+        found.push(at)?;
+        at = further(at, array_bytes(array))?;
+    }
+    Ok(found)
+}
+
+/// The bytes of all arrays of a function.
+fn total_of(arrays: &[TypedArray]) -> Result<u32, Memory>
+    ensures { IfOk result (λ n. n ≡ call.all_bytes arrays.now) }
+{
+    let mut total = 0;
+    for array in arrays {
+        total = further(total, array_bytes(array))?;
+    }
+    Ok(total)
+}
+
+/// The end of main returns 0.
+#[tactic(auto, using(crate::proofs::Emits::nothing))]
+fn put_end(code: &mut Items<FlatStmt>, is_main: bool) -> Result<(), Memory>
+    ensures { OnOk result (Adds code.old code.new (end_code is_main)) }
+{
+    if is_main {
+        put_return(code, Some(Arg::Const(0)))
+    } else {
+        Ok(())
+    }
+}
+
+fn body_of(
+    alloc: Global,
+    places: &Places,
+    is_main: bool,
+    s: &TypedStmt,
+) -> Result<Items<FlatStmt>, Memory>
+    ensures { IfOk result (λ code.
+        code_of code ≡ Then (stmt_code places.now (stmt_of s.now)) (end_code is_main)) }
+{
+    let mut code = Items::new(alloc);
+    put_stmt(&mut code, alloc, places, s)?;
+    put_end(&mut code, is_main)?;
+    Ok(code)
+}
+
+fn params_of(n: u32) -> Result<u8, Memory>
+    ensures { IfOk result (λ m. m ≡ n) }
+{
+    if n <= 255 { Ok(n as u8) } else { Err(Memory) }
+}
+
+fn scalars_of(n: usize) -> Result<u8, Memory>
+    ensures { IfOk result (λ m. m ≡ n) }
+{
+    if n <= 255 { Ok(n as u8) } else { Err(Memory) }
+}
+
+fn lower_func(
+    alloc: Global,
+    globals: &[TypedGlobal],
+    addresses: &[u64],
+    is_main: bool,
+    f: &TypedFunc,
+) -> Result<FlatFunc, Memory>
+    requires { addresses.now ≡ starts_from 0 (map global_bytes globals.now) }
+    ensures { IfOk result (λ g.
+        function_of g ≡ lowered_func globals.now is_main (func_of f.now)) }
+{
+    let params = params_of(f.params)?;
+    let scalars = scalars_of(f.scalars.len())?;
+    let arrays = total_of(f.arrays.as_slice())?;
+    let starts = starts_of(alloc, f.arrays.as_slice())?;
+    let places = Places::new(globals, addresses, f.arrays.as_slice(), starts.as_slice());
+    let body = body_of(alloc, &places, is_main, &f.body)?;
+    Ok(FlatFunc {
+        params,
+        scalars,
+        arrays,
+        body,
+    })
+}
+
+/// Each function in its order.
+pub fn lower_funcs(
+    alloc: Global,
+    globals: &[TypedGlobal],
+    addresses: &[u64],
+    main: u32,
+    functions: &[TypedFunc],
+) -> Result<Items<FlatFunc>, Memory>
+    requires { addresses.now ≡ starts_from 0 (map global_bytes globals.now) }
+    ensures { IfOk result (λ all.
+        map function_of all ≡ lowered_from globals.now main 0 (map func_of functions.now)) }
+{
+    let mut all = Items::new(alloc);
+    let mut n: usize = 0;
+    for f in functions {
+        let lowered = lower_func(alloc, globals, addresses, n == main as usize, f)?;
+        all.push(lowered)?;
+        n += 1;
+    }
+    Ok(all)
+}

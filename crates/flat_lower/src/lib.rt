@@ -1,0 +1,27 @@
+//! From typed C programs to the flat form.
+//!
+//! [`lower`] gives the flat program that specs/Statements.antt defines. Each emitter adds
+//! the code of one kind of node to what stands already.
+#![tactic(auto)]
+
+mod addressing;
+mod assignments;
+mod bumping;
+mod calling;
+mod emit;
+mod expressions;
+mod functions;
+mod globals;
+mod loops;
+mod lowering;
+mod names;
+mod operations;
+mod places;
+mod results;
+mod side;
+mod sides;
+mod statements;
+#[cfg(test)]
+mod tests;
+
+pub use lowering::lower;

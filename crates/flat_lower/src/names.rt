@@ -1,0 +1,123 @@
+//! The flat code of names and elements.
+
+ghost use Rattle.std.specs.Prelude.{false, OnOk};
+ghost use Rattle.c_tree.specs.declared.Place.TheVariants.{Global, Scalar, Array};
+ghost use Rattle.flat_lower.specs.Operations as operations;
+ghost use Rattle.flat_lower.specs.Expressions.{with_kind, global_code, name_code, element_code};
+ghost use Rattle.flat_lower.specs.Emitted.{Adds};
+
+use crate::addressing::{put_address, put_whole};
+use crate::emit::{put_load, scalar, temp};
+use crate::operations::{load_op, put_copy};
+use crate::places::Places;
+use base::{Items, Memory};
+use c_tree::{Kind, Place};
+use ir_forms::{Arg, FlatStmt};
+
+fn put_global_value(
+    code: &mut Items<FlatStmt>,
+    places: &Places,
+    g: u32,
+    to: u16,
+    kind: Kind,
+) -> Result<(), Memory>
+    ensures { OnOk result (Adds code.old code.new (global_code places.now false g to kind)) }
+{
+    let at = places.global(g)?;
+    put_load(code, to, load_op(kind), Arg::Const(at))
+}
+
+fn put_global(
+    code: &mut Items<FlatStmt>,
+    places: &Places,
+    g: u32,
+    to: u16,
+    kind: Kind,
+) -> Result<(), Memory>
+    ensures { OnOk result (Adds code.old code.new (name_code places.now (Global g) to kind)) }
+{
+    if places.is_array(g) {
+        put_whole(code, places, Place::Global(g), to)
+    } else {
+        put_global_value(code, places, g, to, kind)
+    }
+}
+
+fn put_scalar(
+    code: &mut Items<FlatStmt>,
+    places: &Places,
+    i: u32,
+    to: u16,
+    kind: Kind,
+) -> Result<(), Memory>
+    ensures { OnOk result (Adds code.old code.new (name_code places.now (Scalar i) to kind)) }
+{
+    let x = scalar(i)?;
+    put_copy(code, to, x)
+}
+
+fn put_name_of(
+    code: &mut Items<FlatStmt>,
+    places: &Places,
+    place: Place,
+    to: u16,
+    kind: Kind,
+) -> Result<(), Memory>
+    ensures { OnOk result (Adds code.old code.new (name_code places.now place to kind)) }
+{
+    match place {
+        Place::Global(g) => put_global(code, places, g, to, kind),
+        Place::Scalar(i) => put_scalar(code, places, i, to, kind),
+        Place::Array(a) => put_whole(code, places, Place::Array(a), to),
+    }
+}
+
+/// A scalar's value, or the address that an array's name stands for.
+#[tactic(auto, using(crate::proofs::Emits::nothing))]
+pub fn put_name(
+    code: &mut Items<FlatStmt>,
+    places: &Places,
+    kind: Option<Kind>,
+    place: Place,
+    to: u16,
+) -> Result<(), Memory>
+    ensures { OnOk result (Adds code.old code.new (with_kind kind
+        (name_code places.now place to))) }
+{
+    match kind {
+        None => Ok(()),
+        Some(kind) => put_name_of(code, places, place, to, kind),
+    }
+}
+
+fn put_element_of(
+    code: &mut Items<FlatStmt>,
+    places: &Places,
+    array: Place,
+    d: u8,
+    kind: Kind,
+) -> Result<(), Memory>
+    ensures { OnOk result (Adds code.old code.new (element_code places.now array d kind)) }
+{
+    put_address(code, places, array, kind, temp(d), temp(d))?;
+    put_load(code, temp(d), load_op(kind), Arg::Var(temp(d)))?;
+    Ok(())
+}
+
+/// The element whose index stands in temporary d.
+#[tactic(auto, using(crate::proofs::Emits::nothing))]
+pub fn put_element(
+    code: &mut Items<FlatStmt>,
+    places: &Places,
+    kind: Option<Kind>,
+    array: Place,
+    d: u8,
+) -> Result<(), Memory>
+    ensures { OnOk result (Adds code.old code.new (with_kind kind
+        (element_code places.now array d))) }
+{
+    match kind {
+        None => Ok(()),
+        Some(kind) => put_element_of(code, places, array, d, kind),
+    }
+}

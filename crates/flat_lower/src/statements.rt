@@ -1,0 +1,277 @@
+//! The flat code of statements.
+
+ghost use Rattle.std.specs.Prelude.{◌≡◌, Some, None, OnOk, IfOk};
+ghost use Rattle.ir_forms.specs.FlatCode as flat;
+ghost use Rattle.ir_forms.specs.FlatCode.{Then, only};
+ghost use Rattle.ir_forms.specs.FlatViews.{code_of};
+ghost use Rattle.c_tree.specs.declared.Place.TheVariants.{Scalar};
+ghost use Rattle.flat_lower.specs.Tree as tree;
+ghost use Rattle.flat_lower.specs.TreeViews.{expr_of, expr_if, stmt_of};
+ghost use Rattle.flat_lower.specs.Operations as operations;
+ghost use Rattle.flat_lower.specs.Expressions.{expr_code};
+ghost use Rattle.flat_lower.specs.Statements.{expr_if_code, declare_code, return_code, if_so};
+ghost use Rattle.flat_lower.specs.Statements.{turn_code, loop_code, do_code, stmt_code, stmts_code};
+ghost use Rattle.flat_lower.specs.Statements.{first_code};
+ghost use Rattle.flat_lower.specs.Emitted.{Adds, block_of, first_of, other_of};
+
+use crate::emit::{put_break, put_continue, put_if, put_return, scalar, temp};
+use crate::expressions::put_value;
+use crate::loops::{put_do, put_for, put_while};
+use crate::operations::put_copy;
+use crate::places::Places;
+use base::{Boxed, Items, Memory};
+use c_tree::{Place, TypedExpr, TypedForInit, TypedStmt};
+use ir_forms::{Arg, FlatStmt};
+use std::alloc::Global;
+
+/// An expression, where there is one.
+#[tactic(auto, using(crate::proofs::Emits::nothing))]
+pub fn put_value_if(
+    code: &mut Items<FlatStmt>,
+    alloc: Global,
+    places: &Places,
+    e: &Option<TypedExpr>,
+) -> Result<(), Memory>
+    ensures { OnOk result (Adds code.old code.new (expr_if_code places.now (expr_if e.now))) }
+{
+    match e {
+        None => Ok(()),
+        Some(e) => put_value(code, alloc, places, 0, e),
+    }
+}
+
+fn put_initialised(
+    code: &mut Items<FlatStmt>,
+    alloc: Global,
+    places: &Places,
+    i: u32,
+    e: &TypedExpr,
+) -> Result<(), Memory>
+    ensures { OnOk result (Adds code.old code.new
+        (Then (expr_code places.now 0 (expr_of e.now)) (operations.copied i (operations.temp 0)))) }
+{
+    put_value(code, alloc, places, 0, e)?;
+    put_copy(code, scalar(i)?, temp(0))?;
+    Ok(())
+}
+
+#[tactic(auto, using(crate::proofs::Emits::nothing))]
+fn put_scalar_declared(
+    code: &mut Items<FlatStmt>,
+    alloc: Global,
+    places: &Places,
+    i: u32,
+    init: &Option<TypedExpr>,
+) -> Result<(), Memory>
+    ensures { OnOk result (Adds code.old code.new
+        (declare_code places.now (Scalar i) (expr_if init.now))) }
+{
+    match init {
+        None => Ok(()),
+        Some(e) => put_initialised(code, alloc, places, i, e),
+    }
+}
+
+/// A declaration: a scalar is set by its initialiser alone.
+#[tactic(auto, using(crate::proofs::Emits::nothing))]
+fn put_declared(
+    code: &mut Items<FlatStmt>,
+    alloc: Global,
+    places: &Places,
+    place: Place,
+    init: &Option<TypedExpr>,
+) -> Result<(), Memory>
+    ensures { OnOk result (Adds code.old code.new
+        (declare_code places.now place (expr_if init.now))) }
+{
+    match place {
+        Place::Global(_) => Ok(()),
+        Place::Scalar(i) => put_scalar_declared(code, alloc, places, i, init),
+        Place::Array(_) => Ok(()),
+    }
+}
+
+fn put_value_returned(
+    code: &mut Items<FlatStmt>,
+    alloc: Global,
+    places: &Places,
+    e: &TypedExpr,
+) -> Result<(), Memory>
+    ensures { OnOk result (Adds code.old code.new
+        (return_code places.now (Some (expr_of e.now)))) }
+{
+    put_value(code, alloc, places, 0, e)?;
+    put_return(code, Some(Arg::Var(temp(0))))?;
+    Ok(())
+}
+
+fn put_returned(
+    code: &mut Items<FlatStmt>,
+    alloc: Global,
+    places: &Places,
+    e: &Option<TypedExpr>,
+) -> Result<(), Memory>
+    ensures { OnOk result (Adds code.old code.new (return_code places.now (expr_if e.now))) }
+{
+    match e {
+        None => put_return(code, None),
+        Some(e) => put_value_returned(code, alloc, places, e),
+    }
+}
+
+#[cycle(stmt)]
+fn put_stmts(
+    code: &mut Items<FlatStmt>,
+    alloc: Global,
+    places: &Places,
+    all: &[TypedStmt],
+) -> Result<(), Memory>
+    ensures { OnOk result (Adds code.old code.new (stmts_code places.now (block_of all.now))) }
+{
+    for s in all {
+        put_stmt(code, alloc, places, s)?;
+    }
+    Ok(())
+}
+
+/// The code of a statement, on its own.
+#[cycle(stmt)]
+fn stmt(alloc: Global, places: &Places, s: &TypedStmt) -> Result<Items<FlatStmt>, Memory>
+    ensures { IfOk result (λ code. code_of code ≡ stmt_code places.now (stmt_of s.now)) }
+{
+    let mut code = Items::new(alloc);
+    put_stmt(&mut code, alloc, places, s)?;
+    Ok(code)
+}
+
+/// The code of the statement behind an `else`, where there is one, on its own.
+#[cycle(stmt)]
+fn stmt_if(
+    alloc: Global,
+    places: &Places,
+    s: &Option<Boxed<TypedStmt>>,
+) -> Result<Items<FlatStmt>, Memory>
+    ensures { IfOk result (λ code.
+        code_of code ≡ stmts_code places.now (other_of s.now)) }
+{
+    match s {
+        None => Ok(Items::new(alloc)),
+        Some(s) => stmt(alloc, places, s.get()),
+    }
+}
+
+#[cycle(stmt)]
+fn put_choice(
+    code: &mut Items<FlatStmt>,
+    alloc: Global,
+    places: &Places,
+    test: &TypedExpr,
+    yes: &TypedStmt,
+    no: &Option<Boxed<TypedStmt>>,
+) -> Result<(), Memory>
+    ensures { OnOk result (Adds code.old code.new (stmt_code places.now
+        (tree.If (expr_of test.now) (stmt_of yes.now) (other_of no.now)))) }
+{
+    put_value(code, alloc, places, 0, test)?;
+    let yes = stmt(alloc, places, yes)?;
+    let no = stmt_if(alloc, places, no)?;
+    put_if(code, Arg::Var(temp(0)), yes, no)?;
+    Ok(())
+}
+
+#[cycle(stmt)]
+fn put_while_loop(
+    code: &mut Items<FlatStmt>,
+    alloc: Global,
+    places: &Places,
+    test: &TypedExpr,
+    body: &TypedStmt,
+) -> Result<(), Memory>
+    ensures { OnOk result (Adds code.old code.new (stmt_code places.now
+        (tree.While (expr_of test.now) (stmt_of body.now)))) }
+{
+    let body = stmt(alloc, places, body)?;
+    put_while(code, alloc, places, test, body)?;
+    Ok(())
+}
+
+#[cycle(stmt)]
+fn put_do_loop(
+    code: &mut Items<FlatStmt>,
+    alloc: Global,
+    places: &Places,
+    body: &TypedStmt,
+    test: &TypedExpr,
+) -> Result<(), Memory>
+    ensures { OnOk result (Adds code.old code.new (stmt_code places.now
+        (tree.Do (stmt_of body.now) (expr_of test.now)))) }
+{
+    let body = stmt(alloc, places, body)?;
+    put_do(code, alloc, places, test, body)?;
+    Ok(())
+}
+
+#[cycle(stmt)]
+#[tactic(auto, using(crate::proofs::Emits::nothing))]
+fn put_first(
+    code: &mut Items<FlatStmt>,
+    alloc: Global,
+    places: &Places,
+    first: &TypedForInit,
+) -> Result<(), Memory>
+    ensures { OnOk result (Adds code.old code.new (first_code places.now (first_of first.now))) }
+{
+    match first {
+        TypedForInit::Nothing => Ok(()),
+        TypedForInit::First(e) => put_value(code, alloc, places, 0, e),
+        TypedForInit::Locals(all) => put_stmts(code, alloc, places, all.as_slice()),
+    }
+}
+
+#[cycle(stmt)]
+fn put_for_loop(
+    code: &mut Items<FlatStmt>,
+    alloc: Global,
+    places: &Places,
+    first: &TypedForInit,
+    test: &Option<TypedExpr>,
+    post: &Option<TypedExpr>,
+    body: &TypedStmt,
+) -> Result<(), Memory>
+    ensures { OnOk result (Adds code.old code.new (stmt_code places.now (tree.For
+        (first_of first.now) (expr_if test.now) (expr_if post.now) (stmt_of body.now)))) }
+{
+    put_first(code, alloc, places, first)?;
+    let body = stmt(alloc, places, body)?;
+    put_for(code, alloc, places, test, post, body)?;
+    Ok(())
+}
+
+/// A statement.
+#[cycle(stmt)]
+pub fn put_stmt(
+    code: &mut Items<FlatStmt>,
+    alloc: Global,
+    places: &Places,
+    s: &TypedStmt,
+) -> Result<(), Memory>
+    ensures { OnOk result (Adds code.old code.new (stmt_code places.now (stmt_of s.now))) }
+{
+    match s {
+        TypedStmt::Declare { place, init } => put_declared(code, alloc, places, *place, init),
+        TypedStmt::Plain(e) => put_value_if(code, alloc, places, e),
+        TypedStmt::Compound(all) => put_stmts(code, alloc, places, all.as_slice()),
+        TypedStmt::If { test, yes, no } => put_choice(code, alloc, places, test, yes.get(), no),
+        TypedStmt::While { test, body } => { put_while_loop(code, alloc, places, test, body.get()) }
+        TypedStmt::Do { body, test } => put_do_loop(code, alloc, places, body.get(), test),
+        TypedStmt::For {
+            init,
+            test,
+            post,
+            body,
+        } => put_for_loop(code, alloc, places, init, test, post, body.get()),
+        TypedStmt::Break => put_break(code),
+        TypedStmt::Continue => put_continue(code),
+        TypedStmt::Return(e) => put_returned(code, alloc, places, e),
+    }
+}
