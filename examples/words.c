@@ -1,6 +1,12 @@
 #include <stdio.h>
 
-/* Counts the words of the input. */
+/* Counts the words of the input, puts the number out and returns it. */
+
+void put_number(int n) {
+  if (n > 9) put_number(n / 10);
+  putchar('0' + n % 10);
+}
+
 int main(void) {
   int c;
   int in = 0;
@@ -9,7 +15,7 @@ int main(void) {
     if (c == ' ' || c == '\n' || c == '\t') in = 0;
     else if (!in) { in = 1; words++; }
   }
-  putchar('0' + words);
+  put_number(words);
   putchar('\n');
   return words;
 }
