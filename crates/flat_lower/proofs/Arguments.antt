@@ -158,8 +158,7 @@ module _ (P : TypedProgram) (most : ℕ) (S : Scene) (y : IsScene P S) where
       subst (λ j. Follows most (ArgIs (slot.Address k) d f)
       (run P most S y (name_code (context P S) p (temp d) j) f) top low
       (name P p (record s { stock = n }))) (sym same)
-      (whole_arg p k d top low (record s { stock = n }) f t.0 t.2 rn (omega arith)
-      (omega arith)))
+      (whole_arg p k d top low (record s { stock = n }) f t.0 t.2 rn (omega arith) (omega arith)))
   address_node (node.Number w) j T k d top low s f t r hu hl = absurd t
   address_node (node.Element p index) j T k d top low s f t r hu hl = absurd t
   address_node (node.Call c args) j T k d top low s f t r hu hl = absurd t
@@ -250,6 +249,5 @@ module _ (P : TypedProgram) (most : ℕ) (S : Scene) (y : IsScene P S) where
             (go (w ∷ ws) (a.value ∷ vs) s2 g2 up (a.scalar, are)
             (ap₂ beside (var_read (functions P most) (base P most) S.env g2 (temp d) a.value
             (ke.kept d (omega arith) ∙ a.is)) reads)
-            (keeps_both S d (suc d) f g g2 s1 s2 (omega arith) a.keeps ke)
-            (omega arith) hu2 hl2))),
+            (keeps_both S d (suc d) f g g2 s1 s2 (omega arith) a.keeps ke) (omega arith) hu2 hl2))),
       )))

@@ -68,7 +68,7 @@ load_same k m n a h = go k h
 
 -- WHAT A SAVE DOES
 
-byte_here : (m : Memory) (a b : ℕ) → byte_put m a b a ≡ record { mark = Held; byte = b }
+pub byte_here : (m : Memory) (a b : ℕ) → byte_put m a b a ≡ record { mark = Held; byte = b }
 byte_here m a b = let e : nat_eq a a ≡ true = grind (arith, nat_tests) in ap (λ t. cond t (record { mark = Held; byte = b }) (m a)) e
 
 byte_there : (m : Memory) (a b k : ℕ) → k ≢ a → byte_put m a b k ≡ m k
@@ -134,7 +134,7 @@ open_each m a (suc k) h i lt = go (open_each m a k
         let q : i ≢ k = grind (arith, nat_tests) in
         rest (omega arith)
 
-each_open : (m : Memory) (a k : ℕ) → ((i : ℕ) → i < k → is_open (m (a + i)).mark ≡ true)
+pub each_open : (m : Memory) (a k : ℕ) → ((i : ℕ) → i < k → is_open (m (a + i)).mark ≡ true)
     → all_open m a k ≡ true
 each_open m a zero h = refl
 each_open m a (suc k) h = ap₂ (λ x y. x && y) (each_open m a k (λ i lt. h i (omega arith)))

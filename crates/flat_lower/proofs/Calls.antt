@@ -34,8 +34,8 @@ use Rattle.ir_forms.specs.FlatCode as flat
 use Rattle.ir_forms.specs.FlatViews.{stays}
 use Rattle.ir_forms.specs.Frames.{frame_limit, frame_of}
 use Rattle.ir_forms.specs.Cells.{apply}
-use Rattle.ir_forms.specs.FlatSteps.{State, TooDeep, settle, read_all, with_output, with_next}
-use Rattle.ir_forms.specs.FlatSteps.{with_var, var_put}
+use Rattle.ir_forms.specs.FlatSteps.{State, TooDeep, counted, settle, read_all, with_output}
+use Rattle.ir_forms.specs.FlatSteps.{with_next, with_var, var_put}
 use Rattle.ir_forms.specs.FlatRuns.{checked}
 use Rattle.ir_forms.proofs.Leads.{Leads}
 use Rattle.ir_forms.proofs.Steps.{call_leads, get_leads, put_leads, then_moves, then_nop}
@@ -50,7 +50,8 @@ use Rattle.flat_lower.specs.Fits.{FitsStmt}
 use Rattle.flat_lower.specs.Sizes.{nodes, all_nodes, size_of, IsMost}
 use Rattle.flat_lower.proofs.Straight.{puts_let, var_read, put_at, put_other}
 use Rattle.flat_lower.proofs.Follows.{Post, Goes, Follows, FollowsOver, wanted, moved}
-use Rattle.flat_lower.proofs.Related.{Scene, IsScene, scope, context, frames_from, Related, unseen}
+use Rattle.flat_lower.proofs.Related.{Scene, IsScene, scope, context, frames_from, Related}
+use Rattle.flat_lower.proofs.Related.{recounted, unseen}
 use Rattle.flat_lower.proofs.Values.{KeptIs, ValueIs, Valued, value_at, keeps_all, keeps_both}
 use Rattle.flat_lower.proofs.Values.{functions, base, FollowsOf, run, code, value_end, operand}
 use Rattle.flat_lower.proofs.Values.{spending}
@@ -80,19 +81,19 @@ func_at (g ∷ fs) zero f h = let e : g ≡ f = cc h in ap (λ f. Some (func_of 
 func_at (g ∷ fs) (suc j) f h = func_at fs j f h
 
 -- the limit of the frames, as either test says it
-within : (x m : ℕ) → nat_le x m ≡ true → nat_lt m x ≡ false
+pub within : (x m : ℕ) → nat_le x m ≡ true → nat_lt m x ≡ false
 within x m h = grind (arith, nat_tests)
 
-beyond : (x m : ℕ) → nat_le x m ≡ false → nat_lt m x ≡ true
+pub beyond : (x m : ℕ) → nat_le x m ≡ false → nat_lt m x ≡ true
 beyond x m h = grind (arith, nat_tests)
 
-under : (x m : ℕ) → nat_le x m ≡ true → x ≤ m
+pub under : (x m : ℕ) → nat_le x m ≡ true → x ≤ m
 under x m h = grind (arith, nat_tests)
 
 same_count : (n m : ℕ) → nat_eq n m ≡ true → n ≡ m
 same_count n m h = grind (arith, nat_tests)
 
-limit : frame_limit ≡ 1048576
+pub limit : frame_limit ≡ 1048576
 unfolding frame_limit
 limit = refl
 
@@ -117,12 +118,12 @@ module _ (P : TypedProgram) (most : ℕ) (sound : FitsSource (source_of P)) (lar
       let same : s.room + frame f ≡ S.env.used + frame_of F = ap₂ (λ a b. a + b) ke.rel.room (frame_is P f F (lowered_is P most f (nat_eq j P.main))) in
       let full : nat_lt frame_limit (S.env.used + frame_of F) ≡ true = subst (λ m. nat_lt m (S.env.used + frame_of F) ≡ true) (sym limit) (beyond (S.env.used + frame_of F) 1048576 (subst (λ x. nat_le x 1048576 ≡ false) same e)) in
       record {
-        t = 10;
+        t = 11;
         upper = omega arith;
         leads = call_leads checked (functions P most) (base P most) S.env j xs
-            (result_var k d) stays g vs 0 (λ n. TooDeep g.output) (λ n. TooDeep s.output) reads
+            (result_var k d) stays g vs 1 (λ n. TooDeep g.output) (λ n. TooDeep s.output) reads
             (λ n. ap TooDeep ke.rel.output)
-            (call_dives P most S y j f found vs g full);
+            (call_dives P most S.env.used j f found vs (counted g) full);
       }
   entering j f found xs ws vs d top low k s f0 g ld h ek are reads ke count hu hl true e =
       let F = lowered_of P most f (nat_eq j P.main) in
@@ -137,10 +138,10 @@ module _ (P : TypedProgram) (most : ℕ) (sound : FitsSource (source_of P)) (lar
       let le : S.env.used + frame_of F ≤ frame_limit = subst (λ m. S.env.used + frame_of F ≤ m) (sym limit) (under (S.env.used + frame_of F) 1048576 below) in
       let all = sound.room in
       let scene = called_is P S y f F is few (omega arith) in
-      let first = begins P S y f F is ws vs s g (omega arith) are ke.rel in
+      let first = begins P S y f F is ws vs s (counted g) (omega arith) are (recounted S s g ke.rel) in
       comes_back P most S y j f found vs g xs reads d ld k ek f0 room s top low
       (meaning P (Run f.body) (entered f ws s)) ke.rel ke (omega arith)
-      (h (called_scene P S f F) scene (top - 11) low _ fits.body first (omega arith)
+      (h (called_scene P S f F) scene (top - 11) low _ fits.body (omega arith) first (omega arith)
       (omega (arith, mul-suc most g.rounds)))
 
   -- the whole call, from its arguments on
@@ -157,8 +158,7 @@ module _ (P : TypedProgram) (most : ℕ) (sound : FitsSource (source_of P)) (lar
       spending P most S y (Valued S d k f0) a s g top low
       (enter (meaning P) (slice_get P.functions j) ws) ke.rel (omega arith) (λ n e rn.
       let s0 = record s { stock = n } in
-      subst (λ o. FollowsHere P most S y d k f0 a g top low (enter (meaning P) o ws s0))
-      (sym found)
+      subst (λ o. FollowsHere P most S y d k f0 a g top low (enter (meaning P) o ws s0)) (sym found)
       (go n s0 (h f.body (entered f ws s0) (omega arith)) (record { rel = rn; kept = ke.kept })
       (omega arith) (omega arith) (nat_eq (length ws) f.params) refl))
     where
@@ -291,11 +291,10 @@ module _ (P : TypedProgram) (most : ℕ) (sound : FitsSource (source_of P)) (lar
       top low (opened (meaning P) P (node.Call (callee.Func j) es)) r (omega arith) (λ n q rn.
       let s0 = record s { stock = n } in
       args_follow P most S y (Valued S d k f) es (take x.f.params x.f.scalars) [] d tail
-      (callee.Func j) s0 f top low s.stock he (omega arith) fits.1 rn (omega arith)
-      (omega arith)
+      (callee.Func j) s0 f top low s.stock he (omega arith) fits.1 rn (omega arith) (omega arith)
       (λ ws vs s1 g up are reads ke le hu1 hl1.
-      calling j x.f x.found (temps d (exprs_of (map expr_of es))) ws vs d up low s.stock k
-      s1 f g t.0 hs (omega arith) fits.0 are reads ke hu1 hl1))
+      calling j x.f x.found (temps d (exprs_of (map expr_of es))) ws vs d up low s.stock k s1 f g
+      t.0 hs (omega arith) fits.0 are reads ke hu1 hl1))
   call_node k callee.GetChar [] d top low s f he hs t r hu hl =
       subst (λ k. FollowsHere P most S y d k f (only (Get (temp d))) f top low
       (spend s (opened (meaning P) P (node.Call callee.GetChar [])))) (sym t.1.0)
@@ -335,5 +334,4 @@ module _ (P : TypedProgram) (most : ℕ) (sound : FitsSource (source_of P)) (lar
         is_kind = x.is_kind;
         fits = x.fits;
         is = x.is;
-      }) (omega arith)
-      (omega arith)))))))
+      }) (omega arith) (omega arith)))))))

@@ -76,7 +76,7 @@ module _ (P : TypedProgram) (most : ℕ) (S : Scene) (y : IsScene P S) (j : ℕ)
 
     -- the call's run, from its function's
     goes : (u : ℕ) (q : ℕ → Res) (h : State) (o : Option ℕ)
-        → Leads (this_call P most S y j f found vs g) u q
+        → Leads (this_call P most S.env.used j f found vs (counted g)) u q
         → ((n : ℕ) → after_call g stays (result_var k d) (q n)
         ≡ settle (after P most S y j f found vs g h (result_var k d) o) n)
         → Leads (run P most S y C g) (10 + u)
@@ -104,18 +104,18 @@ module _ (P : TypedProgram) (most : ℕ) (S : Scene) (y : IsScene P S) (j : ℕ)
       pub leads : Leads (run P most S y C g) (10 + u)
           (settle (after P most S y j f found vs g h (result_var k d) value))
 
-    falls_off : (h : State) (t : ℕ) → Leads (body_run P most S y j f found vs g B) t (settle h)
-        → FallsOff h t
+    falls_off : (h : State) (t : ℕ) → Leads
+        (body_run P most S.env.used j f found vs (counted g) B) t (settle h) → FallsOff h t
     falls_off h t l = go (nat_eq j P.main) refl
       where
         env : Env
         env = env_of (base P most) F S.env.used
 
         with_end : (b : Bool) → nat_eq j P.main ≡ b → (u : ℕ) (r : ℕ → Res)
-            → Leads (body_run P most S y j f found vs g (Then B (end_code b))) u r
-            → Leads (body_run P most S y j f found vs g F.body) u r
+            → Leads (body_run P most S.env.used j f found vs (counted g) (Then B (end_code b))) u r
+            → Leads (body_run P most S.env.used j f found vs (counted g) F.body) u r
         with_end b e u r x = subst (λ b. Leads
-            (body_run P most S y j f found vs g (Then B (end_code b))) u r) (sym e) x
+            (body_run P most S.env.used j f found vs (counted g) (Then B (end_code b))) u r) (sym e) x
 
         go : (b : Bool) → nat_eq j P.main ≡ b → FallsOff h t
         go false e =
@@ -125,7 +125,7 @@ module _ (P : TypedProgram) (most : ℕ) (S : Scene) (y : IsScene P S) (j : ℕ)
               few = omega arith;
               value = None;
               leads = goes (t + 0) (settle (closed at F.arrays h)) h None
-                  (closed_leads P most S y j f found vs g room (t + 0) (settle h)
+                  (closed_leads P most S.env.used j f found vs (counted g) room (t + 0) (settle h)
                   (settle (closed at F.arrays h)) (closing_settled h)
                   (with_end false e (t + 0) (settle h) x)) (after_settled h);
             }
@@ -136,20 +136,20 @@ module _ (P : TypedProgram) (most : ℕ) (S : Scene) (y : IsScene P S) (j : ℕ)
               few = omega arith;
               value = Some 0;
               leads = goes (t + 1) (Gave (Some 0) (closed at F.arrays h)) h (Some 0)
-                  (closed_leads P most S y j f found vs g room (t + 1) (Gave (Some 0) h)
-                  (Gave (Some 0) (closed at F.arrays h)) (λ n. refl)
+                  (closed_leads P most S.env.used j f found vs (counted g) room (t + 1)
+                  (Gave (Some 0) h) (Gave (Some 0) (closed at F.arrays h)) (λ n. refl)
                   (with_end true e (t + 1) (Gave (Some 0) h) x)) (λ n. refl);
             }
 
     gives : (h : State) (t : ℕ) (w : Option ℕ)
-        → Leads (body_run P most S y j f found vs g B) t (Gave w h)
+        → Leads (body_run P most S.env.used j f found vs (counted g) B) t (Gave w h)
         → Leads (run P most S y C g) (10 + t)
         (settle (after P most S y j f found vs g h (result_var k d) w))
     gives h t w l =
         let x = first_leads checked (functions P most) (base P most) (env_of (base P most) F S.env.used) B (end_code (nat_eq j P.main)) (begun (base P most) F vs S.env.used (counted g)) t (Gave w h) (λ n next. refl) l in
         goes t (Gave w (closed at F.arrays h)) h w
-        (closed_leads P most S y j f found vs g room t (Gave w h) (Gave w (closed at F.arrays h))
-        (λ n. refl) x) (λ n. refl)
+        (closed_leads P most S.env.used j f found vs (counted g) room t (Gave w h)
+        (Gave w (closed at F.arrays h)) (λ n. refl) x) (λ n. refl)
 
     to_is : (v : ℕ) → result_var k d ≡ Some v → v ≡ temp d
     to_is v h = go k h
@@ -161,7 +161,7 @@ module _ (P : TypedProgram) (most : ℕ) (S : Scene) (y : IsScene P S) (j : ℕ)
     -- whatever the body came to
     pub comes_back : (s : eval.State) (top low : ℕ) (r : Result) → Related S s g → KeptIs S d f0 s g
         → 11 ≤ top → Follows most (Ended (called_scene P S f F))
-        (body_run P most S y j f found vs g B) (top - 11) low r
+        (body_run P most S.env.used j f found vs (counted g) B) (top - 11) low r
         → Follows most (Valued S d k f0) (run P most S y C g) top low
         (then r (left s.scalars (length s.arrays) s.base s.room))
     comes_back s top low (Go Nothing s2) rel ke lt h =
@@ -219,7 +219,7 @@ module _ (P : TypedProgram) (most : ℕ) (S : Scene) (y : IsScene P S) (j : ℕ)
       lower = h.lower;
       stops = call_stops checked (functions P most) (base P most) S.env j xs
           (result_var k d) stays g vs h.t s2.output h.r are
-          (closed_stops P most S y j f found vs g room h.t s2.output h.r
+          (closed_stops P most S.env.used j f found vs (counted g) room h.t s2.output h.r
           (first_stops checked (functions P most) (base P most)
           (env_of (base P most) F S.env.used) B (end_code (nat_eq j P.main))
           (begun (base P most) F vs S.env.used (counted g)) h.t s2.output h.r h.stops));
@@ -231,7 +231,7 @@ module _ (P : TypedProgram) (most : ℕ) (S : Scene) (y : IsScene P S) (j : ℕ)
       leads = call_leads checked (functions P most) (base P most) S.env j xs
           (result_var k d) stays g vs h.t (λ n. TooDeep s2.output) (λ n. TooDeep s2.output) are
           (λ n. refl)
-          (closed_leads P most S y j f found vs g room h.t (λ n. TooDeep s2.output)
+          (closed_leads P most S.env.used j f found vs (counted g) room h.t (λ n. TooDeep s2.output)
           (λ n. TooDeep s2.output) (λ n. refl)
           (first_leads checked (functions P most) (base P most)
           (env_of (base P most) F S.env.used) B (end_code (nat_eq j P.main))

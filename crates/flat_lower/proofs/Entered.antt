@@ -45,7 +45,7 @@ pub get_second : {A : Type 0} (xs ys : List A) (i : ℕ)
 get_second [] ys i = ap (slice_get ys) (omega arith)
 get_second (x ∷ xs) ys i = let e : suc (length xs) + i ≡ suc (length xs + i) = omega arith in ap (slice_get (x ∷ (xs ++ ys))) e ∙ get_second xs ys i
 
-none_of : {A : Type 0} (n i : ℕ) (a : A) → slice_get (replicate n None) i ≡ Some (Some a) → ⊥
+pub none_of : {A : Type 0} (n i : ℕ) (a : A) → slice_get (replicate n None) i ≡ Some (Some a) → ⊥
 none_of zero i a h = cc h
 none_of (suc n) zero a h = cc h
 none_of (suc n) (suc i) a h = none_of n i a h
@@ -247,8 +247,7 @@ module _ (P : TypedProgram) where
   pub begins : (S : Scene) → IsScene P S → (f : TypedFunc) (F : Function) → LoweredIs f F
       → (ws vs : List ℕ) (s : eval.State) (g : State) → length ws ≤ length f.scalars
       → ArgsAre S.objects (take f.params f.scalars) ws vs → Related S s g
-      → Related (called_scene S f F) (entered f ws s)
-      (begun (frames_from P) F vs S.env.used (counted g))
+      → Related (called_scene S f F) (entered f ws s) (begun (frames_from P) F vs S.env.used g)
   begins S y f F l ws vs s g le a r =
       let at = arrays_at (frames_from P) F S.env.used in
       let own = own_objects at f.arrays in

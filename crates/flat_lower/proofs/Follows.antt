@@ -182,7 +182,7 @@ module _ (fs : List Function) (base most : ℕ) (e : Env) where
     leads = first_leads checked fs base e a b f g.t (λ k. TooDeep out) (λ k next. refl) g.leads;
   }
 
-  settles_is : (v : Signal) → Settles v → ends v ≡ settle
+  pub settles_is : (v : Signal) → Settles v → ends v ≡ settle
   settles_is Nothing h = refl
   settles_is (Value w) h = refl
   settles_is Breaks h = absurd h

@@ -21,6 +21,13 @@ pub mod Returns
 pub mod Comes
 pub mod Arguments
 pub mod Calls
+pub mod EveryExpr
+pub mod Ends
+pub mod Loops
+pub mod EveryStmt
+pub mod Image
+pub mod Starts
+pub mod Whole
 pub mod StandardFacts
 pub mod Emits
 pub mod EmitStarts

@@ -72,10 +72,10 @@ laid_at lo hi (p ∷ os) (suc k) o h e =
 -- ELEMENTS
 
 -- sizes by their type: 1, 4 or 8
-abbrev SizeIs : ℕ → Type 0
+abbrev pub SizeIs : ℕ → Type 0
 SizeIs s = (s ≡ 1) ⊎ ((s ≡ 4) ⊎ (s ≡ 8))
 
-size_is : (k : Kind) → SizeIs (size_of k)
+pub size_is : (k : Kind) → SizeIs (size_of k)
 size_is Char = inl refl
 size_is UChar = inl refl
 size_is Int = inr (inl refl)
@@ -84,7 +84,7 @@ size_is Long = inr (inr refl)
 size_is ULong = inr (inr refl)
 
 -- what follows of elements holds where it holds for each size
-by_size : (P : ℕ → Type 0) (s : ℕ) → SizeIs s → P 1 → P 4 → P 8 → P s
+pub by_size : (P : ℕ → Type 0) (s : ℕ) → SizeIs s → P 1 → P 4 → P 8 → P s
 by_size P s (inl e) a b c = subst P (sym e) a
 by_size P s (inr (inl e)) a b c = subst P (sym e) b
 by_size P s (inr (inr e)) a b c = subst P (sym e) c

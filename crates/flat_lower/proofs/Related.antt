@@ -29,7 +29,8 @@ use Rattle.ir_forms.specs.declared.flat.Arg.TheVariants.{Const, Var}
 use Rattle.ir_forms.specs.FlatCode.{Code, Then, only, Let, Frame, Function}
 use Rattle.ir_forms.specs.Frames.{frames_at}
 use Rattle.ir_forms.specs.Cells.{Memory, apply, load, save}
-use Rattle.ir_forms.specs.FlatSteps.{State, Env, settle, var_put, with_var, with_memory, read}
+use Rattle.ir_forms.specs.FlatSteps.{State, Env, settle, counted, var_put, with_var, with_memory}
+use Rattle.ir_forms.specs.FlatSteps.{read}
 use Rattle.ir_forms.specs.FlatRuns.{checked}
 use Rattle.ir_forms.proofs.Leads.{Leads}
 use Rattle.ir_forms.proofs.Steps.{code_run, frame_leads}
@@ -108,6 +109,19 @@ pub record Related (S : Scene) (s : eval.State) (f : State) : Type 0 where
 pub spent : (S : Scene) (s : eval.State) (f : State) (n : ℕ) → Related S s f
     → Related S (record s { stock = n }) f
 spent S s f n r = record {
+  scalars = r.scalars;
+  count = r.count;
+  stored = r.stored;
+  input = r.input;
+  bytes = r.bytes;
+  output = r.output;
+  first = r.first;
+  room = r.room;
+}
+
+-- nor is a round that is counted
+pub recounted : (S : Scene) (s : eval.State) (f : State) → Related S s f → Related S s (counted f)
+recounted S s f r = record {
   scalars = r.scalars;
   count = r.count;
   stored = r.stored;

@@ -28,12 +28,12 @@ use Rattle.ir_forms.specs.FlatViews.{stays}
 use Rattle.ir_forms.specs.Frames.{frame_limit, frame_of, arrays_at}
 use Rattle.ir_forms.specs.Cells.{Closed, marked}
 use Rattle.ir_forms.specs.FlatSteps.{State, Env, Res, Gone, Broke, Again, Gave, TooDeep, Unfinished}
-use Rattle.ir_forms.specs.FlatSteps.{Wild, settle, read_all, var_put, result_put, back_in}
+use Rattle.ir_forms.specs.FlatSteps.{Wild, turn, settle, read_all, var_put, result_put, back_in}
 use Rattle.ir_forms.specs.FlatSteps.{after_call, counted, exec}
 use Rattle.ir_forms.specs.FlatRuns.{checked, closed, closing, begun, env_of, enter, enter_if}
 use Rattle.ir_forms.specs.FlatRuns.{calls_within}
-use Rattle.ir_forms.proofs.Leads.{Run, Leads, Stops}
-use Rattle.ir_forms.proofs.Steps.{code_run, call_run, call_leads, call_stops, first_leads}
+use Rattle.ir_forms.proofs.Leads.{Run, Leads, Stops, Waits}
+use Rattle.ir_forms.proofs.Steps.{at_zero, code_run, call_run, call_leads, call_stops, first_leads}
 use Rattle.ir_forms.proofs.Steps.{first_stops, both_lead, nop_leads, return_leads}
 use Rattle.flat_lower.specs.Tree.{Func}
 use Rattle.flat_lower.specs.TreeViews.{func_of, stmt_of}
@@ -74,7 +74,8 @@ module _ (P : TypedProgram) (most : ℕ) where
   abbrev pub FollowsRun : TypedStmt → eval.State → Type 0
   FollowsRun st s =
       (S : Scene) → IsScene P S → (top low : ℕ) (f : State)
-      → FitsStmt (scope P S) S.func.result (stmt_of st) → Related S s f → 8 * s.stock ≤ top + 4
+      → FitsStmt (scope P S) S.func.result (stmt_of st) → size_of (stmt_of st) ≤ most
+      → Related S s f → 8 * s.stock ≤ top + 4
       → low ≤ s.stock + most * f.rounds - size_of (stmt_of st)
       → Follows most (Ended S) (run_of (functions P most) (base P most) most S.env
       (stmt_code (context P S) (stmt_of st)) f) top low (meaning P (task.Run st) s)
@@ -105,56 +106,83 @@ module _ (P : TypedProgram) (most : ℕ) where
   pub lowered_is : (f : TypedFunc) (b : Bool) → LoweredIs P f (lowered_of f b)
   lowered_is f b = record { scalars = refl; arrays = refl }
 
+  -- a call that begins in a state, where frames take some bytes
+  module _ (used : ℕ) (j : ℕ) (f : TypedFunc) (found : slice_get P.functions j ≡ Some f) (vs : List ℕ) (c : State) where
+    abbrev called : Function
+    called = lowered_of f (nat_eq j P.main)
+
+    abbrev own : ℕ
+    own = arrays_at (base P most) called used
+
+    abbrev first : State
+    first = begun (base P most) called vs used c
+
+    abbrev pub body_run : Code → Run
+    body_run a = code_run checked (functions P most) (base P most)
+        (env_of (base P most) called used) a first
+
+    abbrev pub this_call : Run
+    this_call = call_run checked (functions P most) (base P most) j vs used c
+
+    -- a call is its function's body, where its frame has room
+    call_is : nat_lt frame_limit (used + frame_of called) ≡ false → (d i m : ℕ)
+        → this_call d i m ≡ closing own called.arrays (body_run called.body d i m)
+    call_is e d i m =
+        ap (λ o. enter_if checked (calls_within checked (functions P most) (base P most) d)
+        (base P most) o vs used c m) (function_at j f found)
+        ∙ ap (λ b. enter b checked (calls_within checked (functions P most) (base P most) d)
+        (base P most) called vs used c m) e
+
+    pub call_dives : nat_lt frame_limit (used + frame_of called) ≡ true
+        → Leads this_call 1 (λ k. TooDeep c.output)
+    call_dives e = record {
+      by = λ k m d i q le lt.
+          let q1 : m ≡ suc k = omega arith in
+          ap (λ o. enter_if checked (calls_within checked (functions P most) (base P most) d)
+          (base P most) o vs used c m) (function_at j f found)
+          ∙ ap (λ b. enter b checked (calls_within checked (functions P most) (base P most) d)
+          (base P most) called vs used c m) e
+          ∙ ap (λ m. turn c m (λ m. TooDeep c.output)) q1;
+    }
+
+    pub call_waits : Waits this_call c.output c.rounds
+    call_waits = record {
+      by = λ d i lt. ap
+          (λ o. enter_if checked (calls_within checked (functions P most) (base P most) d)
+          (base P most) o vs used c 0) (function_at j f found)
+          ∙ go d (nat_lt frame_limit (used + frame_of called));
+    }
+      where
+        go : (d : ℕ) (b : Bool) → enter b checked
+            (calls_within checked (functions P most) (base P most) d) (base P most) called vs used c 0
+            ≡ Unfinished c.output c.rounds
+        go d true = refl
+        go d false = ap (closing own called.arrays)
+            (at_zero checked (functions P most) (base P most) d
+            (env_of (base P most) called used) called.body first)
+
+    pub closed_leads : nat_lt frame_limit (used + frame_of called) ≡ false → (t : ℕ) (h k : ℕ → Res)
+        → ((n : ℕ) → closing own called.arrays (h n) ≡ k n) → Leads (body_run called.body) t h
+        → Leads this_call t k
+    closed_leads e t h k w l = record {
+      by = λ n m d i q le lt. call_is e d i m
+          ∙ ap (closing own called.arrays) (l.by n m d i q le lt) ∙ w n;
+    }
+
+    pub closed_stops : nat_lt frame_limit (used + frame_of called) ≡ false
+        → (t : ℕ) (out : List ℕ) (r : ℕ) → Stops (body_run called.body) t out r
+        → Stops this_call t out r
+    closed_stops e t out r l = record {
+      by = λ d i le lt. call_is e d i t
+          ∙ ap (closing own called.arrays) (l.by d i le lt);
+    }
+
   module _ (S : Scene) (y : IsScene P S) (j : ℕ) (f : TypedFunc) (found : slice_get P.functions j ≡ Some f) (vs : List ℕ) (g : State) where
     abbrev F : Function
     F = lowered_of f (nat_eq j P.main)
 
     abbrev at : ℕ
     at = arrays_at (base P most) F S.env.used
-
-    abbrev first : State
-    first = begun (base P most) F vs S.env.used (counted g)
-
-    abbrev pub body_run : Code → Run
-    body_run a = code_run checked (functions P most) (base P most)
-        (env_of (base P most) F S.env.used) a first
-
-    abbrev pub this_call : Run
-    this_call = call_run checked (functions P most) (base P most) j vs S.env.used (counted g)
-
-    -- a call is its function's body, where its frame has room
-    call_is : nat_lt frame_limit (S.env.used + frame_of F) ≡ false → (d i m : ℕ)
-        → this_call d i m ≡ closing at F.arrays (body_run F.body d i m)
-    call_is e d i m =
-        ap (λ o. enter_if checked (calls_within checked (functions P most) (base P most) d)
-        (base P most) o vs S.env.used (counted g) m) (function_at j f found)
-        ∙ ap (λ b. enter b checked (calls_within checked (functions P most) (base P most) d)
-        (base P most) F vs S.env.used (counted g) m) e
-
-    pub call_dives : nat_lt frame_limit (S.env.used + frame_of F) ≡ true
-        → Leads this_call 0 (λ k. TooDeep g.output)
-    call_dives e = record {
-      by = λ k m d i q le lt.
-          ap (λ o. enter_if checked (calls_within checked (functions P most) (base P most) d)
-          (base P most) o vs S.env.used (counted g) m) (function_at j f found)
-          ∙ ap (λ b. enter b checked (calls_within checked (functions P most) (base P most) d)
-          (base P most) F vs S.env.used (counted g) m) e;
-    }
-
-    pub closed_leads : nat_lt frame_limit (S.env.used + frame_of F) ≡ false
-        → (t : ℕ) (h k : ℕ → Res) → ((n : ℕ) → closing at F.arrays (h n) ≡ k n)
-        → Leads (body_run F.body) t h → Leads this_call t k
-    closed_leads e t h k w l = record {
-      by = λ n m d i q le lt. call_is e d i m
-          ∙ ap (closing at F.arrays) (l.by n m d i q le lt) ∙ w n;
-    }
-
-    pub closed_stops : nat_lt frame_limit (S.env.used + frame_of F) ≡ false
-        → (t : ℕ) (out : List ℕ) (r : ℕ) → Stops (body_run F.body) t out r → Stops this_call t out r
-    closed_stops e t out r l = record {
-      by = λ d i le lt. call_is e d i t
-          ∙ ap (closing at F.arrays) (l.by d i le lt);
-    }
 
     -- THE CALLER AGAIN
 

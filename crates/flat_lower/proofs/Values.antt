@@ -53,8 +53,8 @@ Valued S d k f0 Breaks s f = ⊥
 Valued S d k f0 Continues s f = ⊥
 Valued S d k f0 (Returns w) s f = ⊥
 
-valued_settles : (S : Scene) (d : ℕ) (k : Option Kind) (f0 : State) (v : Signal) (s : eval.State)
-    (f : State) → Valued S d k f0 v s f → Settles v
+pub valued_settles : (S : Scene) (d : ℕ) (k : Option Kind) (f0 : State) (v : Signal)
+    (s : eval.State) (f : State) → Valued S d k f0 v s f → Settles v
 valued_settles S d k f0 Nothing s f h = tt
 valued_settles S d k f0 (Value w) s f h = tt
 valued_settles S d k f0 Breaks s f h = absurd h

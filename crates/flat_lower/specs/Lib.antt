@@ -8,3 +8,4 @@ pub mod Statements
 pub mod Emitted
 pub mod Fits
 pub mod Sizes
+pub mod Keeps

@@ -12,7 +12,7 @@ mod emit;
 mod expressions;
 mod functions;
 mod globals;
-mod loops;
+mod looping;
 mod lowering;
 mod names;
 mod operations;

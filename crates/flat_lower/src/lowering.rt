@@ -1,6 +1,7 @@
 ghost use Rattle.std.specs.Prelude.{◌≡◌, IfOk};
 ghost use Rattle.ir_forms.specs.FlatViews.{program_of};
 ghost use Rattle.flat_lower.specs.Statements.{lowered_program};
+ghost use Rattle.flat_lower.specs.Keeps.{Means};
 
 use crate::functions::lower_funcs;
 use crate::globals::{addresses_of, image_of};
@@ -9,12 +10,7 @@ use c_tree::TypedProgram;
 use ir_forms::FlatProgram;
 use std::alloc::Global;
 
-/// The flat program of a typed program.
-///
-/// Want of memory is the only error; a number that has no room in the flat form counts as that:
-/// a parameter or scalar beyond 255, a function's arrays beyond 2^32 - 1 bytes, a place that the
-/// program has not, or an expression more than 255 operands deep.
-pub fn lower(alloc: Global, program: &TypedProgram) -> Result<FlatProgram, Memory>
+fn flat_of(alloc: Global, program: &TypedProgram) -> Result<FlatProgram, Memory>
     ensures ok { IfOk result (λ flat. program_of flat ≡ lowered_program program.now) }
 {
     let globals = program.globals.as_slice();
@@ -32,4 +28,17 @@ pub fn lower(alloc: Global, program: &TypedProgram) -> Result<FlatProgram, Memor
         bytes,
         main: program.main,
     })
+}
+
+/// The flat program of a typed program, which does what the program means.
+///
+/// Want of memory is the only error, and a number that has no room in the flat form counts as that:
+/// a parameter or scalar beyond 255, a function's arrays beyond 2^32 - 1 bytes, the number of a
+/// place that the program has not, or an expression more than 255 operands deep.
+pub fn lower(alloc: Global, program: &TypedProgram) -> Result<FlatProgram, Memory>
+    ensures ok { IfOk result (λ flat. program_of flat ≡ lowered_program program.now) }
+    ensures meaning { IfOk result (λ flat. Means program.now (program_of flat)) }
+{
+    let flat = flat_of(alloc, program)?;
+    Ok(flat)
 }

@@ -16,7 +16,7 @@ ghost use Rattle.flat_lower.specs.Emitted.{Adds, block_of, first_of, other_of};
 
 use crate::emit::{put_break, put_continue, put_if, put_return, scalar, temp};
 use crate::expressions::put_value;
-use crate::loops::{put_do, put_for, put_while};
+use crate::looping::{put_do, put_for, put_while};
 use crate::operations::put_copy;
 use crate::places::Places;
 use base::{Boxed, Items, Memory};

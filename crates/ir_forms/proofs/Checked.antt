@@ -263,7 +263,8 @@ module _ (c d : Checks) (weaker : Weaker d c) where
       → Agrees (call f ws used s m) (other f ws used s m))
       → (base : ℕ) (f : Function) (ws : List ℕ) (used : ℕ) (s : State) (m : ℕ)
       → Agrees (enter b c call base f ws used s m) (enter b d other base f ws used s m)
-  a-enter true call other calls base f ws used s m = refl
+  a-enter true call other calls base f ws used s zero = refl
+  a-enter true call other calls base f ws used s (suc m) = refl
   a-enter false call other calls base f ws used s m =
       a-closing (arrays_at base f used) f.arrays _ _
       (a-exec call other calls (env_of base f used) f.body

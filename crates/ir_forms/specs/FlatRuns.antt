@@ -5,7 +5,7 @@ use Rattle.ir_forms.specs.FlatCode.{Function, Program}
 use Rattle.ir_forms.specs.Frames.{frames_at, frame_limit, frame_of, arrays_at}
 use Rattle.ir_forms.specs.Cells.{Mark, Closed, Open, Held, Memory, Checks, marked}
 use Rattle.ir_forms.specs.FlatSteps.{State, Env, Res, Gone, Broke, Again, Gave, TooDeep, Unfinished}
-use Rattle.ir_forms.specs.FlatSteps.{Wild, unfinished, with_memory, Calls, exec}
+use Rattle.ir_forms.specs.FlatSteps.{Wild, unfinished, turn, with_memory, Calls, exec}
 
 -- CALLS
 
@@ -36,8 +36,9 @@ begun base f ws used s = record s {
 abbrev pub env_of : ℕ → Function → ℕ → Env
 env_of base f used = record { arrays = arrays_at base f used; used = used + frame_of f }
 
+-- that there is no room for a frame is met with a turn left
 abbrev pub enter : Bool → Checks → Calls → ℕ → Function → List ℕ → ℕ → State → ℕ → Res
-enter true c call base f ws used s m = TooDeep s.output
+enter true c call base f ws used s m = turn s m (λ m. TooDeep s.output)
 enter false c call base f ws used s m =
     closing (arrays_at base f used) f.arrays (exec c call (env_of base f used) f.body
     (begun base f ws used s) m)

@@ -1,6 +1,6 @@
 use Rattle.std.proofs.Common.{arith}
 use Rattle.flat_lower.proofs.Emits.{two}
-use Rattle.flat_lower.proofs.loops.put_do.Goals as goal
+use Rattle.flat_lower.proofs.looping.put_do.Goals as goal
 
 pub returns : goal.returns
 returns c = let h = two c.in_ok-put_word.ensures c.in_ok-put_loop.ensures in grind (arith, h)

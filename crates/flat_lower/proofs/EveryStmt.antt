@@ -1,0 +1,383 @@
+-- Every statement follows the evaluation where its parts do; and so everything does.
+use Rattle.std.proofs.Common.{◌≡◌, ◌≢◌, ℕ, zero, suc, ◌+◌, ◌-◌, ◌*◌, ◌<◌, ◌≤◌, Bool, true, false}
+use Rattle.std.proofs.Common.{cond, List, [], ◌∷◌, map, Option, Some, None, refl, sym, ap, ◌∙◌}
+use Rattle.std.proofs.Common.{subst, arith}
+use Rattle.c_tree.specs.declared.TypedExpr.{TypedExpr}
+use Rattle.c_tree.specs.declared.TypedStmt.{TypedStmt, out-TypedStmt}
+use Rattle.c_tree.specs.declared.TypedForInit.{TypedForInit, out-TypedForInit}
+use Rattle.c_tree.specs.declared.TypedForInit.TheOpen as stmt
+use Rattle.c_tree.specs.declared.TypedProgram.{TypedProgram}
+use Rattle.c_eval.specs.declared.signal.Signal.{Signal}
+use Rattle.c_eval.specs.declared.signal.Signal.TheVariants.{Nothing, Value, Breaks, Continues}
+use Rattle.c_eval.specs.declared.signal.Signal.TheVariants.{Returns}
+use Rattle.c_eval.specs.State.{Result, Go, Over, then, want}
+use Rattle.c_eval.specs.State as eval
+use Rattle.c_eval.specs.Word.{is_false}
+use Rattle.c_eval.specs.Task.{Task, Of, Turn}
+use Rattle.c_eval.specs.Task as task
+use Rattle.c_eval.specs.Statement.{Level, First, going_on, sequence, run_if, after_if, after_body}
+use Rattle.c_eval.specs.Statement.{locals, begin, begun, statement}
+use Rattle.c_eval.specs.Eval.{meaning}
+use Rattle.c_eval.proofs.Equations.{weight, meaning-is}
+use Rattle.c_eval.proofs.Induction.{by-parts}
+use Rattle.trips_isa.specs.declared.op.Op.TheVariants as op
+use Rattle.ir_forms.specs.declared.flat.Arg.TheVariants.{Const, Var}
+use Rattle.ir_forms.specs.FlatCode.{Code, Nop, Then, only, Loop, If}
+use Rattle.ir_forms.specs.Cells.{apply}
+use Rattle.ir_forms.specs.FlatSteps.{State}
+use Rattle.ir_forms.specs.FlatRuns.{checked}
+use Rattle.ir_forms.proofs.Leads.{Run, Moves}
+use Rattle.ir_forms.proofs.Steps.{then_nop, then_then, then_moves, loop_moves, if_one, if_other}
+use Rattle.flat_lower.specs.TreeViews.{expr_of, expr_if, stmt_of, stmts_of, source_of}
+use Rattle.flat_lower.specs.Operations.{temp, set_word}
+use Rattle.flat_lower.specs.Statements.{expr_if_code, if_so, turn_code, loop_code, do_code}
+use Rattle.flat_lower.specs.Statements.{stmt_code, stmts_code, first_code}
+use Rattle.flat_lower.specs.Fits.{FitsExpr, FitsExprIf, FitsStmt, FitsStmts, FitsFirst, FitsSource}
+use Rattle.flat_lower.specs.Sizes.{nodes, nodes_if, size_of, size_of_all, size_of_first, IsMost}
+use Rattle.flat_lower.proofs.Straight.{puts_let, var_read}
+use Rattle.flat_lower.proofs.TreeFacts.{plain_stmt, plain_first, stmt_is, first_of, first_is}
+use Rattle.flat_lower.proofs.Follows.{Post, Settles, Follows, moved, wanted, then_follows}
+use Rattle.flat_lower.proofs.Follows.{leaves_first}
+use Rattle.flat_lower.proofs.Related.{Scene, IsScene, scope, context, Related, sets_unseen}
+use Rattle.flat_lower.proofs.Values.{Valued, value_at, kept_at, functions, base, FollowsOf, run}
+use Rattle.flat_lower.proofs.Values.{code, operand, spending}
+use Rattle.flat_lower.proofs.Legs.{is_true}
+use Rattle.flat_lower.proofs.Returns.{Ended, FollowsRun}
+use Rattle.flat_lower.proofs.EveryExpr.{expr_follows}
+use Rattle.flat_lower.proofs.Ends.{EndsHere, nothing_left, dropped_ends, declare_ends, break_ends}
+use Rattle.flat_lower.proofs.Ends.{continue_ends, return_ends, value_ends}
+use Rattle.flat_lower.proofs.Loops.{so_part, after, so_falls, loop_of, post_of, stmt as stmt_at}
+use Rattle.flat_lower.proofs.Loops.{FollowsTurn, FollowsDo, turn_follows, do_follows, so_loop}
+
+zero_off : (n : ℕ) → n ≡ n - 0
+zero_off n = omega arith
+
+module _ (P : TypedProgram) (most : ℕ) where
+  -- WITH FEWER STEPS
+
+  pub record Below (n : ℕ) : Type 0 where
+    pub expr : (e : TypedExpr) (s : eval.State) → s.stock ≤ n → FollowsOf P most e s
+    pub run : (st : TypedStmt) (s : eval.State) → s.stock ≤ n → FollowsRun P most st s
+    pub turn : (test post : Option TypedExpr) (body : TypedStmt) (s : eval.State) → s.stock ≤ n
+        → FollowsTurn P most test post body s
+    pub again : (t : TypedExpr) (body : TypedStmt) (s : eval.State) → s.stock ≤ n
+        → FollowsDo P most t body s
+
+  module _ (S : Scene) (y : IsScene P S) where
+    -- a run that is another's at once
+    at_once : (a : Code) (f : State) (next : Run) (top low : ℕ) (r : Result)
+        → Moves (run P most S y a f) 0 next → Follows most (Ended S) next top low r
+        → EndsHere P most S y a f top low r
+    at_once a f next top low r m h =
+        moved most (Ended S) (run P most S y a f) next 0 top low r m (omega arith)
+        (subst (λ n. Follows most (Ended S) next n low r) (zero_off top) h)
+
+    -- a statement, and those behind it where it leaves nothing
+    seq_follows : (a b : Code) (f : State) (up down top low : ℕ) (r : Result)
+        (next : eval.State → Result) → EndsHere P most S y a f up down r → up ≤ top → low ≤ down
+        → ((s1 : eval.State) (g : State) (t : ℕ) → Related S s1 g → t + 8 * s1.stock ≤ up
+        → down ≤ s1.stock + most * g.rounds → EndsHere P most S y b g (top - t) low (next s1))
+        → EndsHere P most S y (Then a b) f top low (then r (λ v s. going_on v s next))
+    seq_follows a b f up down top low (Go Nothing s1) next h hu hl go =
+        then_follows (functions P most) (base P most) most S.env (Ended S)
+        (Ended S) a b f up down top low (Go Nothing s1) (λ v s. going_on v s next) h hu hl
+        (λ v s2 g t e holds us ds. nothing v s2 g t e holds us ds)
+      where
+        nothing : (v : Signal) (s2 : eval.State) (g : State) (t : ℕ) → Go Nothing s1 ≡ Go v s2
+            → Ended S v s2 g → t + 8 * s2.stock ≤ up → down ≤ s2.stock + most * g.rounds
+            → Settles v × EndsHere P most S y b g (top - t) low (going_on v s2 next)
+        nothing Nothing s2 g t e holds us ds = (tt, go s2 g t holds us ds)
+        nothing (Value w) s2 g t e holds us ds = absurd (cc e)
+        nothing Breaks s2 g t e holds us ds = absurd (cc e)
+        nothing Continues s2 g t e holds us ds = absurd (cc e)
+        nothing (Returns w) s2 g t e holds us ds = absurd (cc e)
+    seq_follows a b f up down top low (Go (Value w) s1) next h hu hl go = absurd h.holds
+    seq_follows a b f up down top low (Go Breaks s1) next h hu hl go =
+        leaves_first (functions P most) (base P most) most S.env
+        (Ended S) a b f up down top low Breaks s1 (λ x. x) hu hl h
+    seq_follows a b f up down top low (Go Continues s1) next h hu hl go =
+        leaves_first (functions P most) (base P most) most S.env
+        (Ended S) a b f up down top low Continues s1 (λ x. x) hu hl h
+    seq_follows a b f up down top low (Go (Returns w) s1) next h hu hl go =
+        leaves_first (functions P most) (base P most) most S.env (Ended S) a b f up down top low
+        (Returns w) s1 (λ x. x) hu hl h
+    seq_follows a b f up down top low (Over why s1) next h hu hl go =
+        then_follows (functions P most) (base P most) most S.env (Ended S)
+        (Ended S) a b f up down top low (Over why s1) (λ v s. going_on v s next) h hu hl
+        (λ v s2 g t e holds us ds. absurd (cc e))
+
+    -- LISTS
+
+    stmts_follow : (n : ℕ) → Below n → (all : List TypedStmt) (s : eval.State) (f : State)
+        (top low : ℕ) → s.stock ≤ n → FitsStmts (scope P S) S.func.result (stmts_of (map stmt_of all))
+        → size_of_all (stmts_of (map stmt_of all)) ≤ most → Related S s f → 8 * s.stock ≤ top
+        → low ≤ s.stock + most * f.rounds - size_of_all (stmts_of (map stmt_of all))
+        → EndsHere P most S y (stmts_code (context P S) (stmts_of (map stmt_of all))) f top low
+        (sequence (meaning P) all s)
+    stmts_follow n h [] s f top low le t z r hu hl =
+        nothing_left P most S y s f top low r hu (omega arith)
+    stmts_follow n h (st ∷ rest) s f top low le t z r hu hl =
+        let b = stmts_code (context P S) (stmts_of (map stmt_of rest)) in
+        let down = s.stock + most * f.rounds - size_of (stmt_of st) in
+        seq_follows (stmt_at P most S y st) b f (8 * s.stock) down top low
+        (meaning P (task.Run st) s) (sequence (meaning P) rest)
+        (h.run st s le S y (8 * s.stock) down f t.0 (omega arith) r (omega arith) (omega arith)) hu
+        (omega arith)
+        (λ s1 g t1 rel us ds. stmts_follow n h rest s1 g (top - t1) low (omega arith) t.1
+        (omega arith) rel (omega arith) (omega arith))
+
+    -- LOOPS
+
+    -- a loop begins with a turn
+    loop_starts : (n : ℕ) → Below n → (test post : Option TypedExpr) (body : TypedStmt)
+        (s : eval.State) (f : State) (top low : ℕ) → s.stock ≤ n
+        → FitsExprIf (scope P S) (expr_if test) → FitsExprIf (scope P S) (expr_if post)
+        → FitsStmt (scope P S) S.func.result (stmt_of body)
+        → nodes_if (expr_if test) + (nodes_if (expr_if post) + size_of (stmt_of body)) ≤ most
+        → Related S s f → 1 + 8 * s.stock ≤ top → low ≤ s.stock + most * f.rounds
+        → EndsHere P most S y (loop_code (context P S) (expr_if test) (expr_if post)
+        (stmt_at P most S y body)) f top low (meaning P (Turn test post body) s)
+    loop_starts n h test post body s f top low le tt0 tp tb z r hu hl =
+        let a = turn_code (context P S) (expr_if test) (stmt_at P most S y body) in
+        let b = expr_if_code (context P S) (expr_if post) in
+        at_once (only (Loop a b)) f (loop_of P most S y a b f) top low
+        (meaning P (Turn test post body) s)
+        (loop_moves checked (functions P most) (base P most) S.env a b f)
+        (h.turn test post body s le S y top low f tt0 tp tb z r hu hl)
+
+    -- a for's declarations, and then its first turn
+    locals_follow : (n : ℕ) → Below n → (all : List TypedStmt) (test post : Option TypedExpr)
+        (body : TypedStmt) (s : eval.State) (f : State) (top low : ℕ) → s.stock ≤ n
+        → FitsStmts (scope P S) S.func.result (stmts_of (map stmt_of all))
+        → size_of_all (stmts_of (map stmt_of all)) ≤ most → FitsExprIf (scope P S) (expr_if test)
+        → FitsExprIf (scope P S) (expr_if post) → FitsStmt (scope P S) S.func.result (stmt_of body)
+        → nodes_if (expr_if test) + (nodes_if (expr_if post) + size_of (stmt_of body)) ≤ most
+        → Related S s f → 1 + 8 * s.stock ≤ top
+        → low ≤ s.stock + most * f.rounds - size_of_all (stmts_of (map stmt_of all))
+        → EndsHere P most S y (Then (stmts_code (context P S) (stmts_of (map stmt_of all)))
+        (loop_code (context P S) (expr_if test) (expr_if post) (stmt_at P most S y body))) f top
+        low (locals (meaning P) all test post body s)
+    locals_follow n h [] test post body s f top low le t z tt0 tp tb zl r hu hl =
+        loop_starts n h test post body s f top low le tt0 tp tb zl r hu (omega arith)
+    locals_follow n h (st ∷ rest) test post body s f top low le t z tt0 tp tb zl r hu hl =
+        let b = stmts_code (context P S) (stmts_of (map stmt_of rest)) in
+        let l = loop_code (context P S) (expr_if test) (expr_if post) (stmt_at P most S y body) in
+        let down = s.stock + most * f.rounds - size_of (stmt_of st) in
+        subst (λ a. EndsHere P most S y a f top low
+        (locals (meaning P) (st ∷ rest) test post body s))
+        (sym (then_then (stmt_at P most S y st) b l))
+        (seq_follows (stmt_at P most S y st) (Then b l) f (8 * s.stock) down top low
+        (meaning P (task.Run st) s) (locals (meaning P) rest test post body)
+        (h.run st s le S y (8 * s.stock) down f t.0 (omega arith) r (omega arith) (omega arith))
+        (omega arith) (omega arith)
+        (λ s1 g t1 rel us ds. locals_follow n h rest test post body s1 g (top - t1) low
+        (omega arith) t.1 (omega arith) tt0 tp tb zl rel (omega arith) (omega arith)))
+
+    for_starts : (n : ℕ) → Below n → (x : First) (test post : Option TypedExpr) (body : TypedStmt)
+        (s : eval.State) (f : State) (top low : ℕ) → s.stock ≤ n
+        → FitsFirst (scope P S) S.func.result (plain_first x) → size_of_first (plain_first x) ≤ most
+        → FitsExprIf (scope P S) (expr_if test) → FitsExprIf (scope P S) (expr_if post)
+        → FitsStmt (scope P S) S.func.result (stmt_of body)
+        → nodes_if (expr_if test) + (nodes_if (expr_if post) + size_of (stmt_of body)) ≤ most
+        → Related S s f → 1 + 8 * s.stock ≤ top
+        → low ≤ s.stock + most * f.rounds - size_of_first (plain_first x)
+        → EndsHere P most S y (Then (first_code (context P S) (plain_first x))
+        (loop_code (context P S) (expr_if test) (expr_if post) (stmt_at P most S y body))) f top
+        low (begin (meaning P) x test post body s)
+    for_starts n h stmt.Nothing test post body s f top low le t z tt0 tp tb zl r hu hl =
+        loop_starts n h test post body s f top low le tt0 tp tb zl r hu (omega arith)
+    for_starts n h (stmt.First e) test post body s f top low le t z tt0 tp tb zl r hu hl =
+        let l = loop_code (context P S) (expr_if test) (expr_if post) (stmt_at P most S y body) in
+        operand P most S y (Ended S) e 0 l s f top low (λ v s. meaning P (Turn test post body) s)
+        (h.expr e s le) t r (omega arith) hl
+        (λ v s1 g t1 hv ls us ds. loop_starts n h test post body s1 g (top - t1) low
+        (omega arith) tt0 tp tb zl (kept_at S 0 e.kind f v s1 g hv).rel (omega arith)
+        (omega arith))
+    for_starts n h (stmt.Locals all) test post body s f top low le t z tt0 tp tb zl r hu hl =
+        locals_follow n h all test post body s f top low le t z tt0 tp tb zl r hu hl
+
+    -- the first turn of a do is taken
+    do_starts : (n : ℕ) → Below n → (t : TypedExpr) (body : TypedStmt) (s : eval.State) (f : State)
+        (top low : ℕ) → s.stock ≤ n → FitsExpr (scope P S) 0 (expr_of t)
+        → FitsStmt (scope P S) S.func.result (stmt_of body)
+        → nodes (expr_of t) + size_of (stmt_of body) ≤ most → Related S s f → 4 + 8 * s.stock ≤ top
+        → low ≤ s.stock + most * f.rounds
+        → EndsHere P most S y (do_code (context P S) (expr_of t) (stmt_at P most S y body)) f top
+        low (then (meaning P (task.Run body) s) (after P most (Some t) None body))
+    unfolding apply
+    do_starts n h t body s f top low le te tb z r hu hl =
+        let fs = functions P most in
+        let bs = base P most in
+        let a = if_so (stmt_at P most S y body) in
+        let b = code P most S y 0 t in
+        let p = puts_let fs bs S.env op.Mov (Const 1) (Const 0) f 1 (temp 0) 80 1 0 1 (omega arith) refl refl refl in
+        let rel = sets_unseen S y s f p.to (temp 0) 80 1 (omega arith) (omega arith) p.sets r in
+        let res = then (meaning P (task.Run body) s) (after P most (Some t) None body) in
+        moved most (Ended S) (run P most S y (Then (set_word (temp 0) 1) (only (Loop a b))) f)
+        (run P most S y (only (Loop a b)) p.to) p.t top low res
+        (then_moves checked fs bs S.env (set_word (temp 0) 1) (only (Loop a b)) f p.to p.t p.leads)
+        (omega (arith, p.few))
+        (at_once (only (Loop a b)) p.to (loop_of P most S y a b p.to) (top - p.t) low res
+        (loop_moves checked fs bs S.env a b p.to)
+        (subst (λ q. Follows most (Ended S) (loop_of P most S y a b p.to) (top - p.t) low
+        (then (cond q (Go Breaks s) (meaning P (task.Run body) s))
+        (after P most (Some t) None body))) (is_true 0)
+        (so_loop P most 1 t body s (suc s.stock) (h.run body s le) (λ s1 lt. h.again t body s1 (omega arith)) (λ v s1 e. let x = so_falls P most 1 body s v s1 e in omega arith)
+        S y (top - p.t) low p.to te tb z rel p.sets.value (omega (arith, p.few))
+        (subst (λ r. low ≤ s.stock + most * r) (sym p.sets.rounds) hl))))
+
+    -- CHOICES
+
+    if_follows : (n : ℕ) → Below n → (t : TypedExpr) (one : TypedStmt) (other : Option TypedStmt)
+        (B : Code) (m : ℕ) (s : eval.State) (f : State) (top low : ℕ) → s.stock ≤ n
+        → FitsExpr (scope P S) 0 (expr_of t) → FitsStmt (scope P S) S.func.result (stmt_of one)
+        → size_of (stmt_of one) ≤ most
+        → ((s1 : eval.State) (g : State) (up : ℕ) → s1.stock ≤ n → Related S s1 g
+        → 8 * s1.stock ≤ up → low ≤ s1.stock + most * g.rounds - m
+        → EndsHere P most S y B g up low (run_if (meaning P) other s1))
+        → Related S s f → 8 * s.stock ≤ top
+        → low ≤ s.stock + most * f.rounds - (nodes (expr_of t) + (size_of (stmt_of one) + m))
+        → EndsHere P most S y (Then (code P most S y 0 t)
+        (only (If (Var (temp 0)) (stmt_at P most S y one) B))) f top low
+        (then (meaning P (Of t) s) (after_if (meaning P) one other))
+    if_follows n h t one other B m s f top low le te tone zone hb r hu hl =
+        let A = stmt_at P most S y one in
+        operand P most S y (Ended S) t 0 (only (If (Var (temp 0)) A B)) s f top low
+        (after_if (meaning P) one other) (h.expr t s le) te r (omega arith) (omega arith)
+        (λ v s1 g t1 hv ls us ds.
+        wanted most (Ended S) (run P most S y (only (If (Var (temp 0)) A B)) g) (top - t1) low v s1
+        (λ w. cond (is_false w) (run_if (meaning P) other s1) (meaning P (task.Run one) s1))
+        (λ w ew.
+        let x = value_at S 0 t.kind f v w s1 g ew hv in
+        leg w s1 g (top - t1) (omega arith) x.keeps.rel x.is (omega arith) (omega arith)))
+      where
+        leg : (w : ℕ) (s1 : eval.State) (g : State) (up : ℕ) → s1.stock ≤ n → Related S s1 g
+            → g.vars (temp 0) ≡ Some w → 3 + 8 * s1.stock ≤ up
+            → low ≤ s1.stock + most * g.rounds - (size_of (stmt_of one) + m)
+            → EndsHere P most S y (only (If (Var (temp 0)) (stmt_at P most S y one) B)) g up low
+            (cond (is_false w) (run_if (meaning P) other s1) (meaning P (task.Run one) s1))
+        leg zero s1 g up le1 rel e hu1 hl1 =
+            moved most (Ended S) (run P most S y
+            (only (If (Var (temp 0)) (stmt_at P most S y one) B)) g) (run P most S y B g) 1 up low
+            (run_if (meaning P) other s1)
+            (if_other checked (functions P most) (base P most) S.env (Var (temp 0))
+            (stmt_at P most S y one) B g
+            (var_read (functions P most) (base P most) S.env g (temp 0) 0 e)) (omega arith)
+            (hb s1 g (up - 1) le1 rel (omega arith) (omega arith))
+        leg (suc w) s1 g up le1 rel e hu1 hl1 =
+            subst (λ b. EndsHere P most S y
+            (only (If (Var (temp 0)) (stmt_at P most S y one) B)) g up low
+            (cond b (run_if (meaning P) other s1) (meaning P (task.Run one) s1)))
+            (sym (is_true w))
+            (moved most (Ended S) (run P most S y
+            (only (If (Var (temp 0)) (stmt_at P most S y one) B)) g)
+            (run P most S y (stmt_at P most S y one) g) 1 up low (meaning P (task.Run one) s1)
+            (if_one checked (functions P most) (base P most) S.env (Var (temp 0))
+            (stmt_at P most S y one) B g w
+            (var_read (functions P most) (base P most) S.env g (temp 0) (suc w) e)) (omega arith)
+            (h.run one s1 le1 S y (up - 1) low g tone zone rel (omega arith) (omega arith)))
+
+    -- EVERY STATEMENT
+
+    begun_follows : (x : Level) (s : eval.State) (f : State) (top low : ℕ) → Below s.stock
+        → FitsStmt (scope P S) S.func.result (plain_stmt x) → size_of (plain_stmt x) ≤ most
+        → Related S s f → 4 + 8 * s.stock ≤ top
+        → low ≤ suc s.stock + most * f.rounds - size_of (plain_stmt x)
+        → EndsHere P most S y (stmt_code (context P S) (plain_stmt x)) f top low
+        (begun (meaning P) x s)
+    begun_follows (stmt.Declare p e) s f top low h t z r hu hl =
+        declare_ends P most S y p e top low s f h.expr t r (omega arith) (omega arith)
+    begun_follows (stmt.Plain None) s f top low h t z r hu hl =
+        nothing_left P most S y s f top low r (omega arith) (omega arith)
+    begun_follows (stmt.Plain (Some e)) s f top low h t z r hu hl =
+        dropped_ends P most S y e s f top low (h.expr e s (omega arith)) t r (omega arith)
+        (omega arith)
+    begun_follows (stmt.Compound all) s f top low h t z r hu hl =
+        stmts_follow s.stock h all s f top low (omega arith) t (omega arith) r (omega arith)
+        (omega arith)
+    begun_follows (stmt.If c one None) s f top low h t z r hu hl =
+        if_follows s.stock h c one None Nop 0 s f top low (omega arith) t.0 t.1 (omega arith)
+        (λ s1 g up le rel hu1 hl1. nothing_left P most S y s1 g up low rel hu1 (omega arith)) r
+        (omega arith) (omega arith)
+    begun_follows (stmt.If c one (Some other)) s f top low h t z r hu hl =
+        if_follows s.stock h c one (Some other) (Then (stmt_at P most S y other) Nop)
+        (size_of (stmt_of other)) s f top low (omega arith) t.0 t.1 (omega arith)
+        (λ s1 g up le rel hu1 hl1.
+        subst (λ a. EndsHere P most S y a g up low (meaning P (task.Run other) s1))
+        (sym (then_nop (stmt_at P most S y other)))
+        (h.run other s1 le S y up low g t.2.0 (omega arith) rel (omega arith) hl1)) r (omega arith)
+        (omega arith)
+    begun_follows (stmt.While c body) s f top low h t z r hu hl =
+        loop_starts s.stock h (Some c) None body s f top low (omega arith) t.0 tt t.1 (omega arith) r
+        (omega arith) (omega arith)
+    begun_follows (stmt.Do body c) s f top low h t z r hu hl =
+        do_starts s.stock h c body s f top low (omega arith) t.1 t.0 (omega arith) r (omega arith)
+        (omega arith)
+    begun_follows (stmt.For first test post body) s f top low h t z r hu hl =
+        let l = loop_code (context P S) (expr_if test) (expr_if post) (stmt_at P most S y body) in
+        let e = first_is first in
+        let t0 : FitsFirst (scope P S) S.func.result (plain_first (out-TypedForInit first)) = subst (FitsFirst (scope P S) S.func.result) e t.0 in
+        let size : size_of_first (first_of first) ≡ size_of_first (plain_first (out-TypedForInit first)) = ap size_of_first e in
+        subst (λ x. EndsHere P most S y (Then (first_code (context P S) x) l) f top low
+        (begin (meaning P) (out-TypedForInit first) test post body s)) (sym e)
+        (for_starts s.stock h (out-TypedForInit first) test post body s f top low (omega arith) t0
+        (omega arith) t.1 t.2 t.3 (omega arith) r (omega arith) (omega arith))
+    begun_follows stmt.Break s f top low h t z r hu hl =
+        break_ends P most S y s f top low r (omega arith) (omega arith)
+    begun_follows stmt.Continue s f top low h t z r hu hl =
+        continue_ends P most S y s f top low r (omega arith) (omega arith)
+    begun_follows (stmt.Return None) s f top low h t z r hu hl =
+        return_ends P most S y s f top low t r (omega arith) (omega arith)
+    begun_follows (stmt.Return (Some e)) s f top low h t z r hu hl =
+        value_ends P most S y e s f top low (h.expr e s (omega arith)) t r (omega arith) (omega arith)
+
+  stmt_follows : (st : TypedStmt) (s : eval.State) → ((n : ℕ) → s.stock ≡ suc n → Below n)
+      → FollowsRun P most st s
+  stmt_follows st s h S y top low f t z r hu hl =
+      let x = out-TypedStmt st in
+      subst (λ q. EndsHere P most S y (stmt_code (context P S) (stmt_of st)) f top low q)
+      (sym (meaning-is P (task.Run st) s))
+      (subst (λ q. FitsStmt (scope P S) S.func.result q → size_of q ≤ most
+      → low ≤ s.stock + most * f.rounds - size_of q
+      → EndsHere P most S y (stmt_code (context P S) q) f top low (statement (meaning P) x s))
+      (sym (stmt_is st))
+      (λ t z hl. spending P most S y (Ended S) (stmt_code (context P S) (plain_stmt x)) s f top low
+      (begun (meaning P) x) r (omega arith) (λ n e rn.
+      begun_follows S y x (record s { stock = n }) f top low (h n e) t z rn (omega arith)
+      (omega arith))) t z hl)
+
+  -- EVERYTHING
+
+  module _ (sound : FitsSource (source_of P)) (large : IsMost (source_of P) most) where
+    abbrev Followed : Task → eval.State → Type 0
+    Followed (Of e) s = FollowsOf P most e s
+    Followed (task.Run st) s = FollowsRun P most st s
+    Followed (Turn test post body) s = FollowsTurn P most test post body s
+        × ((t : TypedExpr) → test ≡ Some t → post ≡ None → FollowsDo P most t body s)
+
+    followed : (t : Task) (s : eval.State)
+        → ((u : Task) (x : eval.State) → weight u x.stock < weight t s.stock → Followed u x)
+        → Followed t s
+    followed (Of e) s h = expr_follows P most sound large e s
+        (λ e s1 lt. h (Of e) s1 (omega arith), λ st s1 lt. h (task.Run st) s1 (omega arith))
+    followed (task.Run st) s h = stmt_follows st s (λ n q. record {
+      expr = λ e s1 le. h (Of e) s1 (omega arith);
+      run = λ st s1 le. h (task.Run st) s1 (omega arith);
+      turn = λ test post body s1 le. (h (Turn test post body) s1 (omega arith)).0;
+      again = λ t body s1 le. (h (Turn (Some t) None body) s1 (omega arith)).1 t refl refl;
+    })
+    followed (Turn test post body) s h = (
+      turn_follows P most test post body s (λ e s1 le. h (Of e) s1 (omega arith))
+          (λ s1 le. h (task.Run body) s1 (omega arith))
+          (λ s1 lt. (h (Turn test post body) s1 (omega arith)).0),
+      λ t e1 e2. do_follows P most t body s (h (Of t) s (omega arith))
+          (λ s1 le. h (task.Run body) s1 (omega arith))
+          (λ s1 lt. (h (Turn (Some t) None body) s1 (omega arith)).1 t refl refl),
+    )
+
+    pub every_follows : (t : Task) (s : eval.State) → Followed t s
+    every_follows t s = by-parts Followed followed t s
+
+    -- every statement, whatever the steps
+    pub runs_follow : (st : TypedStmt) (s : eval.State) → FollowsRun P most st s
+    runs_follow st s = every_follows (task.Run st) s

@@ -1,0 +1,67 @@
+-- What a flat program does where the evaluation gave an outcome within n steps.
+use Rattle.std.specs.Prelude.{◌≡◌, ℕ, ℤ, ◌+◌, ◌*◌, ◌<◌, ◌≤◌, List, Option, Some, slice_get}
+use Rattle.c_tree.specs.declared.Kind.TheVariants.{Int}
+use Rattle.c_tree.specs.declared.TypedProgram.{TypedProgram}
+use Rattle.c_constant.specs.Kinds.{number}
+use Rattle.c_eval.specs.declared.signal.Ending.TheVariants.{More, Undefined, Deep}
+use Rattle.c_eval.specs.Eval.{Outcome, Stopped, Done, eval}
+use Rattle.ir_forms.specs.FlatSteps.{State, Res, Gave, TooDeep, Unfinished}
+use Rattle.ir_forms.specs.FlatCode.{Program}
+use Rattle.ir_forms.specs.FlatRuns.{checked, flat_run}
+use Rattle.flat_lower.specs.TreeViews.{source_of}
+use Rattle.flat_lower.specs.Kinds.{IsWord}
+use Rattle.flat_lower.specs.Statements.{lowered_program}
+use Rattle.flat_lower.specs.Fits.{FitsSource}
+use Rattle.flat_lower.specs.Sizes.{IsMost}
+
+-- A run here is one by the turns that it has. A turn is paid by the steps, eight a step; and the
+-- steps are paid by the rounds, with as many a round as one pass through a function can cost.
+
+-- the run ends as main returned
+pub record Finishes (run : ℕ → Res) (most steps : ℕ) (out : List ℕ) (result : ℤ) : Type 0 where
+  pub turns : ℕ
+  pub word : ℕ
+  pub to : State
+  pub few : turns ≤ 8 * steps
+  pub many : steps ≤ most * (to.rounds + 1)
+  pub fits : IsWord Int word
+  pub is : number Int word ≡ result
+  pub output : to.output ≡ out
+  pub ends : (k : ℕ) → run (turns + k) ≡ Gave (Some word) to k
+
+-- the run ends where a frame had no room
+pub record Overflows (run : ℕ → Res) (n : ℕ) (out : List ℕ) : Type 0 where
+  pub turns : ℕ
+  pub few : turns ≤ 8 * n
+  pub ends : (k : ℕ) → run (turns + k) ≡ TooDeep out
+
+-- the run has come as far as the evaluation, and has not ended
+pub record Runs (run : ℕ → Res) (most n : ℕ) (out : List ℕ) : Type 0 where
+  pub turns : ℕ
+  pub rounds : ℕ
+  pub few : turns ≤ 8 * n
+  pub many : n ≤ most * (rounds + 1)
+  pub is : run turns ≡ Unfinished out rounds
+
+-- of an undefined evaluation nothing is said
+abbrev pub Keeps : ℕ → (ℕ → Res) → ℕ → Outcome → Type 0
+Keeps most run n (Stopped More out) = Runs run most n out
+Keeps most run n (Stopped Undefined out) = Unit {0}
+Keeps most run n (Stopped Deep out) = Overflows run n out
+Keeps most run n (Done out result steps) = Finishes run most steps out result
+
+abbrev pub IsInput : List ℕ → Type 0
+IsInput input = (i b : ℕ) → slice_get input i ≡ Some b → b < 256
+
+-- A flat program does what the source means, where the source is as typing gives it: by the run
+-- with all checks, none of whose answers is Wild, so that what it reads was set, what it loads and
+-- saves it may, and nothing faults.
+abbrev pub Means : TypedProgram → Program → Type 0
+Means P flat =
+    (most : ℕ) → FitsSource (source_of P) → IsMost (source_of P) most
+    → (input : List ℕ) → IsInput input → (n : ℕ)
+    → Keeps most (flat_run checked flat input) n (eval P input n)
+
+-- the lowered program does
+abbrev pub KeepsMeaning : Type 0
+KeepsMeaning = (P : TypedProgram) → Means P (lowered_program P)
