@@ -1,3 +1,4 @@
 pub mod Words
+pub mod Assigners
 pub mod Trees
 pub mod TypedTrees

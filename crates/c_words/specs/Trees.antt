@@ -1,4 +1,5 @@
--- Trees each of whose numbers is a word of its type. A rule for each node.
+-- Trees each of whose numbers is a word of its type, and each of whose assignments has an operator
+-- that C gives one. A rule for each node.
 use Rattle.std.specs.Prelude.{ℕ, List, [], ◌∷◌, Option, Some, None}
 use Rattle.c_tree.specs.declared.token.Kind.{Kind}
 use Rattle.c_tree.specs.declared.tree.UnaryOp.{UnaryOp}
@@ -22,6 +23,7 @@ use Rattle.c_tree.specs.declared.tree.Top.{Top}
 use Rattle.c_tree.specs.declared.tree.TopNode.{TopNode}
 use Rattle.c_tree.specs.declared.tree.TopNode.TheVariants as top
 use Rattle.c_words.specs.Words.{IsWordOf}
+use Rattle.c_words.specs.Assigners.{IsAssigner}
 
 -- EXPRESSIONS
 
@@ -49,7 +51,8 @@ mutual
     either : {c x y : Expr}
         → NodeHasWords (node_of c) → NodeHasWords (node_of x) → NodeHasWords (node_of y)
         → NodeHasWords (Choice c x y)
-    assignment : {op : Option BinaryOp} {x y : Expr}
+    -- NB: an assignment's operator is one of C's
+    assignment : {op : Option BinaryOp} {x y : Expr} → IsAssigner op
         → NodeHasWords (node_of x) → NodeHasWords (node_of y) → NodeHasWords (Assign op x y)
     sequence : {x y : Expr}
         → NodeHasWords (node_of x) → NodeHasWords (node_of y) → NodeHasWords (Comma x y)

@@ -1,4 +1,5 @@
--- Typed trees each of whose numbers is a word of its type. A rule for each node.
+-- Typed trees each of whose numbers is a word of its type, and each of whose assignments has an
+-- operator that C gives one. A rule for each node.
 use Rattle.std.specs.Prelude.{ℕ, List, [], ◌∷◌, Option, Some, None}
 use Rattle.c_tree.specs.declared.token.Kind.{Kind}
 use Rattle.c_tree.specs.declared.tree.UnaryOp.{UnaryOp}
@@ -21,6 +22,7 @@ use Rattle.c_tree.specs.declared.typed.TypedGlobal.{TypedGlobal}
 use Rattle.c_tree.specs.declared.typed.TypedFunc.{TypedFunc}
 use Rattle.c_tree.specs.declared.typed.TypedProgram.{TypedProgram}
 use Rattle.c_words.specs.Words.{IsWordOf, AreWordsOf}
+use Rattle.c_words.specs.Assigners.{IsAssigner}
 
 -- EXPRESSIONS
 
@@ -54,8 +56,9 @@ mutual
     either : {r : Option Kind} {c x y : TypedExpr}
         → NodeHasWords c.kind (node_of c) → NodeHasWords x.kind (node_of x)
         → NodeHasWords y.kind (node_of y) → NodeHasWords r (Choice c x y)
+    -- NB: an assignment's operator is one of C's
     assignment : {r : Option Kind} {op : Option BinaryOp} {k : Kind} {x y : TypedExpr}
-        → NodeHasWords x.kind (node_of x) → NodeHasWords y.kind (node_of y)
+        → IsAssigner op → NodeHasWords x.kind (node_of x) → NodeHasWords y.kind (node_of y)
         → NodeHasWords r (Assign op k x y)
     sequence : {r : Option Kind} {x y : TypedExpr}
         → NodeHasWords x.kind (node_of x) → NodeHasWords y.kind (node_of y)
