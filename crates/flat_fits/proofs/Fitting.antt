@@ -1,0 +1,113 @@
+-- Code that fits, part by part, and the variables that lowering names.
+use Rattle.std.proofs.Common.{◌≡◌, ℕ, ◌<◌, ◌≤◌, Bool, true, false, List, Option, Some}
+use Rattle.std.proofs.Common.{None, refl, arith}
+use Rattle.std.specs.Prelude.{◌&&◌, ◌||◌, nat_le, nat_lt}
+use Rattle.std.proofs.lemmas.Bool.Decides.{nat_tests}
+use Rattle.c_tree.specs.declared.Kind.{Kind}
+use Rattle.trips_isa.specs.declared.op.Op.{Op}
+use Rattle.ir_forms.specs.declared.flat.Arg.{Arg}
+use Rattle.ir_forms.specs.FlatCode.{Step, Let, Frame, Load, Save, If, Loop, Code, Nop}
+use Rattle.ir_forms.specs.FlatCode.{◌▹◌, Then, only, Function}
+use Rattle.ir_forms.specs.FlatFits.{operates, loads, stores, is_lasting, FitsVar, FitsArg}
+use Rattle.ir_forms.specs.FlatFits.{FitsStep, FitsCode}
+use Rattle.flat_lower.specs.Operations.{temp, scratch}
+use Rattle.flat_lower.specs.Expressions.{with_kind}
+
+-- code that fits, as a record, so that the code is told by the fact
+pub record Fitting (fs : List Function) (n : ℕ) (inside : Bool) (x : Code) : Type 0 where
+  pub fits : FitsCode fs n inside x
+
+-- VARIABLES
+
+or_first : (a b : Bool) → a ≡ true → (a || b) ≡ true
+or_first true true e = refl
+or_first true false e = refl
+or_first false true e = refl
+or_first false false e = e
+
+or_second : (a b : Bool) → b ≡ true → (a || b) ≡ true
+or_second true true e = refl
+or_second true false e = refl
+or_second false true e = refl
+or_second false false e = e
+
+and_is : (a b : Bool) → a ≡ true → b ≡ true → (a && b) ≡ true
+and_is true true e g = refl
+and_is true false e g = g
+and_is false true e g = e
+and_is false false e g = e
+
+below : (a b : ℕ) → a < b → nat_lt a b ≡ true
+below a b h = grind (arith, nat_tests)
+
+upto : (a b : ℕ) → a ≤ b → nat_le a b ≡ true
+upto a b h = grind (arith, nat_tests)
+
+pub scalar_lasts : (n i : ℕ) → i < n → is_lasting n i ≡ true
+scalar_lasts n i h = or_first (nat_lt i n) (nat_le 64 i && nat_lt i 80) (below i n h)
+
+pub temp_lasts : (n d : ℕ) → d < 16 → is_lasting n (temp d) ≡ true
+temp_lasts n d h = or_second (nat_lt (temp d) n) (nat_le 64 (temp d) && nat_lt (temp d) 80)
+    (and_is (nat_le 64 (temp d)) (nat_lt (temp d) 80) (upto 64 (temp d) (omega arith))
+    (below (temp d) 80 (omega arith)))
+
+pub lasting_fits : (n v : ℕ) → is_lasting n v ≡ true → FitsVar n v
+lasting_fits n v e = or_first (is_lasting n v) (nat_le 80 v && nat_lt v 88) e
+
+pub scalar_fits : (n i : ℕ) → i < n → FitsVar n i
+scalar_fits n i h = lasting_fits n i (scalar_lasts n i h)
+
+pub temp_fits : (n d : ℕ) → d < 16 → FitsVar n (temp d)
+temp_fits n d h = lasting_fits n (temp d) (temp_lasts n d h)
+
+pub scratch_fits : (n s : ℕ) → s < 8 → FitsVar n (scratch s)
+scratch_fits n s h = or_second (is_lasting n (scratch s))
+    (nat_le 80 (scratch s) && nat_lt (scratch s) 88)
+    (and_is (nat_le 80 (scratch s)) (nat_lt (scratch s) 88) (upto 80 (scratch s) (omega arith))
+    (below (scratch s) 88 (omega arith)))
+
+-- CODE
+
+then_fits : (fs : List Function) (n : ℕ) (i : Bool) (a b : Code) → FitsCode fs n i a
+    → FitsCode fs n i b → FitsCode fs n i (Then a b)
+then_fits fs n i Nop b p q = q
+then_fits fs n i (s ▹ a) b p q = (p.0, then_fits fs n i a b p.1 q)
+
+module _ {fs : List Function} {n : ℕ} {i : Bool} where
+  pub nothing_fits : Fitting fs n i Nop
+  nothing_fits = record { fits = tt }
+
+  pub single_fits : (s : Step) → FitsStep fs n i s → Fitting fs n i (only s)
+  single_fits s p = record { fits = (p, tt) }
+
+  pub let_fits : (to : ℕ) (o : Op) (a b : Arg) → operates o ≡ true → FitsVar n to → FitsArg n a
+      → FitsArg n b → Fitting fs n i (only (Let to o a b))
+  let_fits to o a b e p q r = record { fits = ((e, p, q, r), tt) }
+
+  pub frame_fits : (to at : ℕ) → FitsVar n to → Fitting fs n i (only (Frame to at))
+  frame_fits to at p = record { fits = (p, tt) }
+
+  pub load_fits : (to : ℕ) (o : Op) (a : Arg) → loads o ≡ true → FitsVar n to → FitsArg n a
+      → Fitting fs n i (only (Load to o a))
+  load_fits to o a e p q = record { fits = ((e, p, q), tt) }
+
+  pub save_fits : (o : Op) (a v : Arg) → stores o ≡ true → FitsArg n a → FitsArg n v
+      → Fitting fs n i (only (Save o a v))
+  save_fits o a v e p q = record { fits = ((e, p, q), tt) }
+
+  pub if_fits : (a : Arg) (one other : Code) → FitsArg n a → Fitting fs n i one
+      → Fitting fs n i other → Fitting fs n i (only (If a one other))
+  if_fits a one other p q r = record { fits = ((p, q.fits, r.fits), tt) }
+
+  pub loop_fits : (body post : Code) → Fitting fs n true body → Fitting fs n false post
+      → Fitting fs n i (only (Loop body post))
+  loop_fits body post p q = record { fits = ((p.fits, q.fits), tt) }
+
+  pub with_kind_fits : (k : Option Kind) (f : Kind → Code) → ((k : Kind) → Fitting fs n i (f k))
+      → Fitting fs n i (with_kind k f)
+  with_kind_fits None f h = nothing_fits
+  with_kind_fits (Some k) f h = h k
+
+  -- code after code fits where both do
+  pub joined : {a b : Code} → Fitting fs n i a → Fitting fs n i b → Fitting fs n i (Then a b)
+  joined {a} {b} p q = record { fits = then_fits fs n i a b p.fits q.fits }

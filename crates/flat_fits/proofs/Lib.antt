@@ -1,0 +1,10 @@
+pub mod Fitting
+pub mod Operations
+pub mod Places
+pub mod Expressions
+pub mod Statements
+pub mod Programs
+pub mod Counts
+pub mod Lengths
+pub mod Whole
+pub mod StandardFacts
