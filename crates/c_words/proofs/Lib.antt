@@ -1,0 +1,2 @@
+pub mod LexedWords
+pub mod Counted

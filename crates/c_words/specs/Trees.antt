@@ -18,7 +18,6 @@ use Rattle.c_tree.specs.declared.tree.ForInit.{ForInit, out-ForInit}
 use Rattle.c_tree.specs.declared.tree.ForInit.TheOpen.{StmtNode-F, ForInit-F, Declare, Plain}
 use Rattle.c_tree.specs.declared.tree.ForInit.TheOpen.{Compound, If, While, Do, For, Break}
 use Rattle.c_tree.specs.declared.tree.ForInit.TheOpen.{Continue, Return, Nothing, First, Locals}
-use Rattle.c_tree.specs.declared.tree.Param.{Param}
 use Rattle.c_tree.specs.declared.tree.Top.{Top}
 use Rattle.c_tree.specs.declared.tree.TopNode.{TopNode}
 use Rattle.c_tree.specs.declared.tree.TopNode.TheVariants as top
@@ -51,7 +50,6 @@ mutual
     either : {c x y : Expr}
         → NodeHasWords (node_of c) → NodeHasWords (node_of x) → NodeHasWords (node_of y)
         → NodeHasWords (Choice c x y)
-    -- NB: an assignment's operator is one of C's
     assignment : {op : Option BinaryOp} {x y : Expr} → IsAssigner op
         → NodeHasWords (node_of x) → NodeHasWords (node_of y) → NodeHasWords (Assign op x y)
     sequence : {x y : Expr}

@@ -56,7 +56,6 @@ mutual
     either : {r : Option Kind} {c x y : TypedExpr}
         → NodeHasWords c.kind (node_of c) → NodeHasWords x.kind (node_of x)
         → NodeHasWords y.kind (node_of y) → NodeHasWords r (Choice c x y)
-    -- NB: an assignment's operator is one of C's
     assignment : {r : Option Kind} {op : Option BinaryOp} {k : Kind} {x y : TypedExpr}
         → IsAssigner op → NodeHasWords x.kind (node_of x) → NodeHasWords y.kind (node_of y)
         → NodeHasWords r (Assign op k x y)

@@ -1,2 +1,8 @@
 //! That each number of an accepted program is a word of its type, from the text to the typed tree.
 #![tactic(auto)]
+
+mod counts;
+mod lexing;
+
+pub use counts::globals_are_few;
+pub use lexing::tokens_have_words;
