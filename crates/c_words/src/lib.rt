@@ -3,6 +3,8 @@
 
 mod counts;
 mod lexing;
+mod parsing;
 
 pub use counts::globals_are_few;
 pub use lexing::tokens_have_words;
+pub use parsing::units_have_words;
