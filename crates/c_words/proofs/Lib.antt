@@ -3,3 +3,7 @@ pub mod Counted
 pub mod Spelled
 pub mod Written
 pub mod Units
+pub mod TypedWords
+pub mod ConstantWords
+pub mod StatementWords
+pub mod ItemWords
