@@ -5,7 +5,6 @@
 mod assembling;
 mod chunks;
 mod fields;
-mod fits;
 mod printing;
 
 pub use assembling::assemble;
