@@ -23,11 +23,11 @@ use Rattle.c_meaning.specs.View.{follow, frames}
 use Rattle.c_meaning.specs.declared.frame.Frame.{Frame}
 use Rattle.c_meaning.proofs.Lists.{stack_push}
 
-frames-length : (fs : List Frame) → length (frames fs) ≡ length fs
+pub frames-length : (fs : List Frame) → length (frames fs) ≡ length fs
 unfolding frames
 frames-length fs = simp (length-reverse, length-map)
 
-frames-top : (old rest : List Frame) (f : Frame) → old ≡ rest ++ f ∷ []
+pub frames-top : (old rest : List Frame) (f : Frame) → old ≡ rest ++ f ∷ []
     → frames old ≡ follow f ∷ frames rest
 unfolding frames
 frames-top old rest f e = ap (λ (fs : List Frame). reverse (map follow fs)) e ∙ stack_push rest f

@@ -1,10 +1,8 @@
 -- What the evaluator's values stand for.
-use Rattle.std.specs.Prelude.{◌≡◌, ℕ, List, [], ◌∷◌, map, reverse, Option, Some, None, Vec}
+use Rattle.std.specs.Prelude.{List, map, reverse, Option, Some, None}
 use Rattle.std.specs.Borrow.{Bor}
 use Rattle.c_tree.specs.declared.TypedExpr.{TypedExpr}
 use Rattle.c_tree.specs.declared.TypedStmt.{TypedStmt}
-use Rattle.c_eval.specs.declared.Signal.{Signal}
-use Rattle.c_eval.specs.declared.Ending.{Ending}
 use Rattle.c_eval.specs.State.{State}
 use Rattle.c_eval.specs.Task.{Of, Run, Turn}
 use Rattle.c_eval.specs.Task as meant
@@ -12,8 +10,12 @@ use Rattle.c_steps.specs.Follow.{Follow, FConverting, FUnary, FElement, FArgumen
 use Rattle.c_steps.specs.Follow.{FAnd, FOr, FTruth, FValued, FChoice, FComma, FAssignElement}
 use Rattle.c_steps.specs.Follow.{FAssigned, FCompounded, FBumpElement, FCaller, FDropped}
 use Rattle.c_steps.specs.Follow.{FInitialised, FSequence, FIf, FThenTurn, FLocals, FTest, FBody}
-use Rattle.c_steps.specs.Follow.{FReturning, Step, Pushes, Does, Gives, Ends}
+use Rattle.c_steps.specs.Follow.{FReturning, Step, Does, Gives, Ends}
 use Rattle.c_steps.specs.Ahead.{Next, ToDo, Given, Ended, IsStep}
+use Rattle.c_steps.specs.Operands.{Fetched, Failed}
+use Rattle.c_steps.specs.Operands as operands
+use Rattle.c_meaning.specs.declared.fetch.Fetch.{Fetch}
+use Rattle.c_meaning.specs.declared.fetch.Fetch.TheVariants as fetch
 use Rattle.c_meaning.specs.declared.store.Store.{Store}
 use Rattle.c_meaning.specs.declared.machine.Machine.{Machine}
 use Rattle.c_meaning.specs.declared.frame.Task.{Task}
@@ -87,10 +89,22 @@ follow frame.Returning = FReturning
 unfoldable pub frames : List Frame → List Follow
 frames fs = reverse (map follow fs)
 
+-- a fetch, with the state that it leaves
+abbrev pub fetched : Fetch → State → operands.Fetch
+fetched (fetch.Word w) s = Fetched w s
+fetched (fetch.Fails why) s = Failed why s
+fetched fetch.Deferred s = operands.Deferred s
+
 abbrev pub next : Move → Next
 next (move.Do t) = ToDo (task_of t)
 next (move.Give v) = Given v
 next (move.End why) = Ended why
+
+-- a move as a step
+abbrev pub step_of : Move → State → Step
+step_of (move.Do t) s = Does (task_of t) s
+step_of (move.Give v) s = Gives v s
+step_of (move.End why) s = Ends why s
 
 -- a move that makes the step which is due
 abbrev pub Makes : (State → Step) → Machine → Machine → Move → Type 0

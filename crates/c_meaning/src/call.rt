@@ -6,6 +6,7 @@ ghost use Rattle.c_steps.specs.ExpressionSteps.{put_step, called_step, arguments
 ghost use Rattle.c_meaning.specs.View.{behind, Makes};
 
 use crate::arrays::Arrays;
+use crate::fetch::Fetch;
 use crate::frame::{Frame, Move, Task};
 use crate::machine::Machine;
 use c_eval::{Ending, Signal};
@@ -106,14 +107,28 @@ impl<'a> Machine<'a> {
             (arguments_step program.now callee rest.now done.items)
             self.old self.new) }
     {
-        match rest.split_first() {
-            None => {
-                let moved = self.called(program, callee, done.as_slice())?;
-                self.spare_words.push(done)?;
-                Ok(moved)
+        let mut rest = rest;
+        let mut done = done;
+        while let Some((e, more)) = rest.split_first() {
+            match self.store.fetch(e) {
+                Fetch::Word(w) => {
+                    done.push(w)?;
+                    rest = more;
+                }
+                Fetch::Fails(why) => return Ok(Move::End(why)),
+                Fetch::Deferred => {
+                    let frame = Frame::Argument {
+                        callee,
+                        rest: more,
+                        done,
+                    };
+                    return self.push(Task::Of(e), frame);
+                }
             }
-            Some((e, rest)) => self.push(Task::Of(e), Frame::Argument { callee, rest, done }),
         }
+        let moved = self.called(program, callee, done.as_slice())?;
+        self.spare_words.push(done)?;
+        Ok(moved)
     }
 
     pub fn argument(

@@ -1,17 +1,22 @@
 ghost use Rattle.std.specs.Prelude.{◌≡◌, IfOk, slice_get};
 ghost use Rattle.c_eval.specs.Expression.{node_of};
 ghost use Rattle.c_eval.specs.Task.{is_array as is_array_in, has_length};
-ghost use Rattle.c_steps.specs.Follow.{some_step, load_step};
-ghost use Rattle.c_steps.specs.ExpressionSteps.{name_step, assign_to_step, assign_step};
+ghost use Rattle.c_steps.specs.Follow.{FElement, FLeft, FAssignElement, FAssigned, FCompounded};
+ghost use Rattle.c_steps.specs.Follow.{some_step, store_step};
+ghost use Rattle.c_steps.specs.Operands.{operand_step};
+ghost use Rattle.c_steps.specs.ExpressionSteps.{name_step, assigned_step, compounded_step};
+ghost use Rattle.c_steps.specs.ExpressionSteps.{assign_to_step, assign_element_step, assign_step};
+ghost use Rattle.c_steps.specs.ExpressionSteps.{right_step, element_step};
 ghost use Rattle.c_steps.specs.ExpressionSteps.{bump_object_step, bump_step, binary_step};
 ghost use Rattle.c_steps.specs.ExpressionSteps.{opened_step, node_step, conversion_step, of_step};
 ghost use Rattle.c_meaning.specs.View.{view, Makes};
 
 use crate::call::spare;
+use crate::fetch::Fetch;
 use crate::frame::{Frame, Move, Operand, Task};
 use crate::machine::Machine;
 use crate::store::scalar_of;
-use crate::words::{bump_of, bump_value};
+use crate::words::{binary_of, bump_of, bump_value, compound_of};
 use c_eval::{Ending, Object, Signal};
 use c_tree::{BinaryOp, BumpOp, Kind, Place, TypedExpr, TypedNode, TypedProgram};
 use std::alloc::AllocError;
@@ -79,9 +84,7 @@ impl<'a> Machine<'a> {
         match &e.node {
             TypedNode::Number(w) => Ok(Move::Give(Signal::Value(*w))),
             TypedNode::Name(place) => Ok(self.name(program, *place)),
-            TypedNode::Element { array, index } => {
-                self.push(Task::Of(index.get()), Frame::Element(*array))
-            }
+            TypedNode::Element { array, index } => self.indexed(*array, index.get()),
             TypedNode::Call { function, args } => {
                 let done = spare(self.alloc, &mut self.spare_words);
                 self.arguments(program, *function, args.as_slice(), done)
@@ -134,12 +137,62 @@ impl<'a> Machine<'a> {
         let operand = match op {
             BinaryOp::LogicalAnd => Operand::OfAnd,
             BinaryOp::LogicalOr => Operand::OfOr,
-            _ => Operand::Right {
-                op,
-                kind: left.kind,
-            },
+            _ => return self.operation(op, left, right),
         };
         self.push(Task::Of(left), Frame::Operand { operand, right })
+    }
+
+    fn operation(
+        &mut self,
+        op: BinaryOp,
+        left: &'a TypedExpr,
+        right: &'a TypedExpr,
+    ) -> Result<Move<'a>, AllocError>
+        ensures { IfOk result (Makes
+            (λ s. operand_step left.now (FLeft op left.now.kind right.now) s
+            (right_step op left.now.kind right.now))
+            self.old self.new) }
+    {
+        match self.store.fetch(left) {
+            Fetch::Word(a) => self.with_left(op, left.kind, right, a),
+            Fetch::Fails(why) => Ok(Move::End(why)),
+            Fetch::Deferred => {
+                let operand = Operand::Right {
+                    op,
+                    kind: left.kind,
+                };
+                let frame = Frame::Operand { operand, right };
+                self.push(Task::Of(left), frame)
+            }
+        }
+    }
+
+    pub fn with_left(
+        &mut self,
+        op: BinaryOp,
+        kind: Option<Kind>,
+        right: &'a TypedExpr,
+        left: u64,
+    ) -> Result<Move<'a>, AllocError>
+        ensures { IfOk result (Makes (right_step op kind right.now left) self.old self.new) }
+    {
+        match self.store.fetch(right) {
+            Fetch::Word(b) => Ok(self.given(binary_of(op, kind, left, b))),
+            Fetch::Fails(why) => Ok(Move::End(why)),
+            Fetch::Deferred => self.push(Task::Of(right), Frame::Operated { op, kind, left }),
+        }
+    }
+
+    fn indexed(&mut self, array: Place, index: &'a TypedExpr) -> Result<Move<'a>, AllocError>
+        ensures { IfOk result (Makes
+            (λ s. operand_step index.now (FElement array) s (element_step array))
+            self.old self.new) }
+    {
+        match self.store.fetch(index) {
+            Fetch::Word(w) => Ok(self.element(array, w)),
+            Fetch::Fails(why) => Ok(Move::End(why)),
+            Fetch::Deferred => self.push(Task::Of(index), Frame::Element(array)),
+        }
     }
 
     fn name(&self, program: &TypedProgram, place: Place) -> Move<'a>
@@ -158,10 +211,10 @@ impl<'a> Machine<'a> {
         }
     }
 
-    pub fn element(&self, object: Option<Object>) -> Move<'a>
-        ensures { Makes (λ s. some_step object s (λ x. load_step x s)) self.now self.now result }
+    pub fn element(&self, array: Place, index: u64) -> Move<'a>
+        ensures { Makes (element_step array index) self.now self.now result }
     {
-        match object {
+        match self.store.element_of(array, index) {
             None => Move::End(Ending::Undefined),
             Some(object) => self.given(self.store.load(object)),
         }
@@ -181,16 +234,51 @@ impl<'a> Machine<'a> {
         match &left.node {
             TypedNode::Name(place) => self.assign_to(op, left.kind, at, right, scalar_of(*place)),
             TypedNode::Element { array, index } => {
-                let operand = Operand::Stored {
-                    op,
-                    to: left.kind,
-                    at,
-                    place: *array,
-                };
-                self.push(Task::Of(index.get()), Frame::Operand { operand, right })
+                self.assign_indexed(op, left.kind, at, *array, index.get(), right)
             }
             _ => Ok(Move::End(Ending::Undefined)),
         }
+    }
+
+    fn assign_indexed(
+        &mut self,
+        op: Option<BinaryOp>,
+        to: Option<Kind>,
+        at: Kind,
+        place: Place,
+        index: &'a TypedExpr,
+        right: &'a TypedExpr,
+    ) -> Result<Move<'a>, AllocError>
+        ensures { IfOk result (Makes
+            (λ s. operand_step index.now (FAssignElement op to at place right.now) s
+            (assign_element_step op to at place right.now))
+            self.old self.new) }
+    {
+        match self.store.fetch(index) {
+            Fetch::Word(w) => self.assign_element(op, to, at, place, right, w),
+            Fetch::Fails(why) => Ok(Move::End(why)),
+            Fetch::Deferred => {
+                let operand = Operand::Stored { op, to, at, place };
+                self.push(Task::Of(index), Frame::Operand { operand, right })
+            }
+        }
+    }
+
+    pub fn assign_element(
+        &mut self,
+        op: Option<BinaryOp>,
+        to: Option<Kind>,
+        at: Kind,
+        place: Place,
+        right: &'a TypedExpr,
+        w: u64,
+    ) -> Result<Move<'a>, AllocError>
+        ensures { IfOk result (Makes
+            (assign_element_step op to at place right.now w)
+            self.old self.new) }
+    {
+        let object = self.store.element_of(place, w);
+        self.assign_to(op, to, at, right, object)
     }
 
     pub fn assign_to(
@@ -208,21 +296,65 @@ impl<'a> Machine<'a> {
         match object {
             None => Ok(Move::End(Ending::Undefined)),
             Some(object) => match op {
-                None => self.push(Task::Of(right), Frame::Assigned(object)),
+                None => self.assign_value(object, right),
                 Some(op) => match self.store.load(object) {
                     None => Ok(Move::End(Ending::Undefined)),
-                    Some(old) => self.push(
-                        Task::Of(right),
-                        Frame::Compounded {
-                            op,
-                            to,
-                            at,
-                            object,
-                            old,
-                        },
-                    ),
+                    Some(old) => self.compound(op, to, at, object, old, right),
                 },
             },
+        }
+    }
+
+    fn assign_value(&mut self, object: Object, right: &'a TypedExpr) -> Result<Move<'a>, AllocError>
+        ensures { IfOk result (Makes
+            (λ s. operand_step right.now (FAssigned object) s (assigned_step object))
+            self.old self.new) }
+    {
+        match self.store.fetch(right) {
+            Fetch::Word(w) => Ok(self.stored(object, w, Signal::Value(w))),
+            Fetch::Fails(why) => Ok(Move::End(why)),
+            Fetch::Deferred => self.push(Task::Of(right), Frame::Assigned(object)),
+        }
+    }
+
+    fn compound(
+        &mut self,
+        op: BinaryOp,
+        to: Option<Kind>,
+        at: Kind,
+        object: Object,
+        old: u64,
+        right: &'a TypedExpr,
+    ) -> Result<Move<'a>, AllocError>
+        ensures { IfOk result (Makes
+            (λ s. operand_step right.now (FCompounded op to at object old) s
+            (compounded_step op to at object old))
+            self.old self.new) }
+    {
+        match self.store.fetch(right) {
+            Fetch::Word(w) => Ok(self.compounded(object, compound_of(op, to, at, old, w))),
+            Fetch::Fails(why) => Ok(Move::End(why)),
+            Fetch::Deferred => self.push(
+                Task::Of(right),
+                Frame::Compounded {
+                    op,
+                    to,
+                    at,
+                    object,
+                    old,
+                },
+            ),
+        }
+    }
+
+    pub fn compounded(&mut self, object: Object, value: Option<u64>) -> Move<'a>
+        ensures { Makes
+            (λ s. some_step value s (λ r. store_step s object r (Signal.Value r)))
+            self.old self.new result }
+    {
+        match value {
+            None => Move::End(Ending::Undefined),
+            Some(r) => self.stored(object, r, Signal::Value(r)),
         }
     }
 

@@ -6,6 +6,7 @@ mod arrays;
 mod call;
 mod evaluation;
 mod expression;
+mod fetch;
 mod frame;
 mod machine;
 mod outcome;

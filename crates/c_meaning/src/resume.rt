@@ -1,9 +1,8 @@
-ghost use Rattle.std.specs.Prelude.{◌≡◌, IfOk, take, cond};
-ghost use Rattle.c_eval.specs.Word.{is_false, truth_of};
-ghost use Rattle.c_eval.specs.Task.{Run};
-ghost use Rattle.c_steps.specs.Follow.{FBody, Pushes, Does, Gives, some_step, store_step};
+ghost use Rattle.std.specs.Prelude.{◌≡◌, IfOk, take};
+ghost use Rattle.c_eval.specs.Word.{truth_of};
+ghost use Rattle.c_steps.specs.Follow.{Gives};
 ghost use Rattle.c_steps.specs.StatementSteps.{sequence_step, locals_step, act_step};
-ghost use Rattle.c_steps.specs.ResumeSteps.{if_step, value_step, returned_step, going_on_step};
+ghost use Rattle.c_steps.specs.ResumeSteps.{value_step, returned_step, going_on_step};
 ghost use Rattle.c_steps.specs.ResumeSteps.{body_step, resume_step};
 ghost use Rattle.c_meaning.specs.View.{view, behind, task_of, follow, follow_operand, follow_turn};
 ghost use Rattle.c_meaning.specs.View.{Makes};
@@ -24,7 +23,7 @@ impl<'a> Machine<'a> {
     {
         match task {
             Task::Of(e) => self.of(program, e),
-            Task::Run(st) => self.run(st),
+            Task::Run(st) => self.run(program, st),
             Task::Turn(turn) => self.turn(turn),
         }
     }
@@ -41,9 +40,7 @@ impl<'a> Machine<'a> {
             self.old self.new) }
     {
         match operand {
-            Operand::Right { op, kind } => {
-                self.push(Task::Of(right), Frame::Operated { op, kind, left: w })
-            }
+            Operand::Right { op, kind } => self.with_left(op, kind, right, w),
             Operand::OfAnd => {
                 if w == 0 {
                     Ok(Move::Give(Signal::Value(0)))
@@ -60,8 +57,7 @@ impl<'a> Machine<'a> {
             }
             Operand::OfComma => Ok(Move::End(Ending::Undefined)),
             Operand::Stored { op, to, at, place } => {
-                let object = self.store.element_of(place, w);
-                self.assign_to(op, to, at, right, object)
+                self.assign_element(op, to, at, place, right, w)
             }
         }
     }
@@ -73,52 +69,6 @@ impl<'a> Machine<'a> {
             Move::Give(Signal::Value(0))
         } else {
             Move::Give(Signal::Value(1))
-        }
-    }
-
-    fn after_if(&self, first: &'a TypedStmt, other: Option<&'a TypedStmt>, w: u64) -> Move<'a>
-        ensures { Makes
-            (λ s. cond (is_false w) (if_step (behind other.entry) s) (Does (Run first.now) s))
-            self.now self.now result }
-    {
-        if w == 0 {
-            match other {
-                None => Move::Give(Signal::Nothing),
-                Some(other) => Move::Do(Task::Run(other)),
-            }
-        } else {
-            Move::Do(Task::Run(first))
-        }
-    }
-
-    fn after_test(&mut self, turn: Loop<'a>, w: u64) -> Result<Move<'a>, AllocError>
-        ensures { IfOk result (Makes
-            (λ s. cond (is_false w) (Gives Signal.Nothing s) (Pushes (Run turn.entry.body.now)
-            (FBody (behind turn.entry.test) (behind turn.entry.post) turn.entry.body.now) s))
-            self.old self.new) }
-    {
-        if w == 0 {
-            Ok(Move::Give(Signal::Nothing))
-        } else {
-            self.push(
-                Task::Run(turn.body),
-                Frame::Turning {
-                    stage: Stage::Ran,
-                    rest: &[],
-                    turn,
-                },
-            )
-        }
-    }
-
-    fn compounded(&mut self, object: Object, value: Option<u64>) -> Move<'a>
-        ensures { Makes
-            (λ s. some_step value s (λ r. store_step s object r (Signal.Value r)))
-            self.old self.new result }
-    {
-        match value {
-            None => Move::End(Ending::Undefined),
-            Some(r) => self.stored(object, r, Signal::Value(r)),
         }
     }
 
@@ -135,10 +85,7 @@ impl<'a> Machine<'a> {
         match frame {
             Frame::Converting(to) => Ok(Move::Give(Signal::Value(convert(to, w)))),
             Frame::Unary { op, kind } => Ok(self.given(unary_of(op, kind, w))),
-            Frame::Element(place) => {
-                let object = self.store.element_of(place, w);
-                Ok(self.element(object))
-            }
+            Frame::Element(place) => Ok(self.element(place, w)),
             Frame::Argument { callee, rest, done } => {
                 self.argument(program, callee, rest, done, w)
             }
@@ -216,7 +163,7 @@ impl<'a> Machine<'a> {
                 stage: Stage::Ran,
                 rest: _,
                 turn,
-            } => self.after_body(turn, signal),
+            } => self.after_body(program, turn, signal),
             frame => match signal {
                 Signal::Value(w) => self.with_value(program, frame, w),
                 _ => Ok(Move::End(Ending::Undefined)),
@@ -292,14 +239,20 @@ impl<'a> Machine<'a> {
         }
     }
 
-    fn after_body(&mut self, turn: Loop<'a>, signal: Signal) -> Result<Move<'a>, AllocError>
+    fn after_body(
+        &mut self,
+        program: &'a TypedProgram,
+        turn: Loop<'a>,
+        signal: Signal,
+    ) -> Result<Move<'a>, AllocError>
         ensures { IfOk result (Makes
-            (body_step (behind turn.entry.test) (behind turn.entry.post) turn.entry.body.now signal)
+            (body_step program.now (behind turn.entry.test) (behind turn.entry.post)
+            turn.entry.body.now signal)
             self.old self.new) }
     {
         match signal {
-            Signal::Nothing => self.then_turn(turn.post, turn),
-            Signal::Continues => self.then_turn(turn.post, turn),
+            Signal::Nothing => self.then_turn(program, turn.post, turn),
+            Signal::Continues => self.then_turn(program, turn.post, turn),
             Signal::Breaks => Ok(Move::Give(Signal::Nothing)),
             other => Ok(Move::Give(other)),
         }

@@ -1,18 +1,26 @@
 ghost use Rattle.std.specs.Prelude.{◌≡◌, IfOk, slice_get, Some, None};
 ghost use Rattle.c_eval.specs.Task.{Run};
-ghost use Rattle.c_steps.specs.Follow.{Pushes, FBody};
+ghost use Rattle.c_steps.specs.Follow.{Pushes, FBody, FIf, FReturning, FInitialised, FTest};
+ghost use Rattle.c_steps.specs.Follow.{under};
+ghost use Rattle.c_steps.specs.Operands.{operand_step};
+ghost use Rattle.c_steps.specs.ExpressionSteps.{of_step};
+ghost use Rattle.c_steps.specs.StatementSteps.{plain_step};
+ghost use Rattle.c_eval.specs.Expression.{node_of};
+ghost use Rattle.c_meaning.specs.View.{follow, step_of};
 ghost use Rattle.c_tree.specs.declared.TypedStmt.{out-TypedStmt};
 ghost use Rattle.c_tree.specs.declared.TypedForInit.{out-TypedForInit};
 ghost use Rattle.c_steps.specs.StatementSteps.{sequence_step, declare_step, unset_row_step};
 ghost use Rattle.c_steps.specs.StatementSteps.{then_turn_step, locals_step, begin_step, turn_step};
-ghost use Rattle.c_steps.specs.StatementSteps.{begun_step, statement_step};
+ghost use Rattle.c_steps.specs.StatementSteps.{begun_step, statement_step, after_if_step};
+ghost use Rattle.c_steps.specs.StatementSteps.{after_test_step, returning_step, initialised_step};
 ghost use Rattle.c_meaning.specs.View.{behind, Makes};
 
+use crate::fetch::Fetch;
 use crate::frame::{Frame, Loop, Move, Stage, Task};
 use crate::machine::Machine;
 use base::Boxed;
-use c_eval::{Ending, Signal};
-use c_tree::{Place, TypedExpr, TypedForInit, TypedStmt};
+use c_eval::{Ending, Object, Signal};
+use c_tree::{Place, TypedExpr, TypedForInit, TypedProgram, TypedStmt};
 use std::alloc::AllocError;
 
 fn unboxed<'a>(st: &'a Option<Boxed<TypedStmt>>) -> Option<&'a TypedStmt>
@@ -25,32 +33,38 @@ fn unboxed<'a>(st: &'a Option<Boxed<TypedStmt>>) -> Option<&'a TypedStmt>
 }
 
 impl<'a> Machine<'a> {
-    pub fn run(&mut self, st: &'a TypedStmt) -> Result<Move<'a>, AllocError>
-        ensures { IfOk result (Makes (statement_step (out-TypedStmt st.now)) self.old self.new) }
+    pub fn run(
+        &mut self,
+        program: &'a TypedProgram,
+        st: &'a TypedStmt,
+    ) -> Result<Move<'a>, AllocError>
+        ensures { IfOk result (Makes
+            (statement_step program.now (out-TypedStmt st.now))
+            self.old self.new) }
     {
         if self.store.stock == 0 {
             Ok(Move::End(Ending::More))
         } else {
             self.store.stock -= 1;
-            self.begun(st)
+            self.begun(program, st)
         }
     }
 
-    fn begun(&mut self, st: &'a TypedStmt) -> Result<Move<'a>, AllocError>
-        ensures { IfOk result (Makes (begun_step (out-TypedStmt st.now)) self.old self.new) }
+    fn begun(
+        &mut self,
+        program: &'a TypedProgram,
+        st: &'a TypedStmt,
+    ) -> Result<Move<'a>, AllocError>
+        ensures { IfOk result (Makes
+            (begun_step program.now (out-TypedStmt st.now))
+            self.old self.new) }
     {
         match st {
             TypedStmt::Declare { place, init } => self.declare(*place, init.as_ref()),
             TypedStmt::Plain(None) => Ok(Move::Give(Signal::Nothing)),
-            TypedStmt::Plain(Some(e)) => self.push(Task::Of(e), Frame::Dropped),
+            TypedStmt::Plain(Some(e)) => self.plain(program, e),
             TypedStmt::Compound(all) => self.sequence(all.as_slice()),
-            TypedStmt::If { test, yes, no } => {
-                let frame = Frame::If {
-                    first: yes.get(),
-                    other: unboxed(no),
-                };
-                self.push(Task::Of(test), frame)
-            }
+            TypedStmt::If { test, yes, no } => self.branch(test, yes.get(), unboxed(no)),
             TypedStmt::While { test, body } => Ok(Move::Do(Task::Turn(Loop {
                 test: Some(test),
                 post: None,
@@ -68,12 +82,120 @@ impl<'a> Machine<'a> {
                     post: post.as_ref(),
                     body: body.get(),
                 };
-                self.begin(init, turn)
+                self.begin(program, init, turn)
             }
             TypedStmt::Break => Ok(Move::Give(Signal::Breaks)),
             TypedStmt::Continue => Ok(Move::Give(Signal::Continues)),
             TypedStmt::Return(None) => Ok(Move::Give(Signal::Returns(None))),
-            TypedStmt::Return(Some(e)) => self.push(Task::Of(e), Frame::Returning),
+            TypedStmt::Return(Some(e)) => self.returning(e),
+        }
+    }
+
+    /// An expression before a frame, which is taken off at once where the expression is evaluated.
+    fn followed(
+        &mut self,
+        program: &'a TypedProgram,
+        e: &'a TypedExpr,
+        frame: Frame<'a>,
+        after: Move<'a>,
+    ) -> Result<Move<'a>, AllocError>
+        ensures { IfOk result (Makes
+            (λ s. under (follow frame.entry) (λ v u. step_of after.entry u)
+            (of_step program.now (node_of e.now) s))
+            self.old self.new) }
+    {
+        self.stack.push(frame)?;
+        let moved = self.of(program, e)?;
+        match moved {
+            Move::Give(_) => match self.stack.pop() {
+                None => unreachable!(),
+                Some(_) => Ok(after),
+            },
+            Move::Do(task) => Ok(Move::Do(task)),
+            Move::End(why) => Ok(Move::End(why)),
+        }
+    }
+
+    fn plain(&mut self, program: &'a TypedProgram, e: &'a TypedExpr) -> Result<Move<'a>, AllocError>
+        ensures { IfOk result (Makes (plain_step program.now e.now) self.old self.new) }
+    {
+        self.followed(program, e, Frame::Dropped, Move::Give(Signal::Nothing))
+    }
+
+    fn branch(
+        &mut self,
+        test: &'a TypedExpr,
+        first: &'a TypedStmt,
+        other: Option<&'a TypedStmt>,
+    ) -> Result<Move<'a>, AllocError>
+        ensures { IfOk result (Makes
+            (λ s. operand_step test.now (FIf first.now (behind other.entry)) s
+            (after_if_step first.now (behind other.entry)))
+            self.old self.new) }
+    {
+        match self.store.fetch(test) {
+            Fetch::Word(w) => Ok(self.after_if(first, other, w)),
+            Fetch::Fails(why) => Ok(Move::End(why)),
+            Fetch::Deferred => self.push(Task::Of(test), Frame::If { first, other }),
+        }
+    }
+
+    pub fn after_if(&self, first: &'a TypedStmt, other: Option<&'a TypedStmt>, w: u64) -> Move<'a>
+        ensures { Makes
+            (after_if_step first.now (behind other.entry) w)
+            self.now self.now result }
+    {
+        if w == 0 {
+            match other {
+                None => Move::Give(Signal::Nothing),
+                Some(other) => Move::Do(Task::Run(other)),
+            }
+        } else {
+            Move::Do(Task::Run(first))
+        }
+    }
+
+    pub fn after_test(&mut self, turn: Loop<'a>, w: u64) -> Result<Move<'a>, AllocError>
+        ensures { IfOk result (Makes
+            (after_test_step (behind turn.entry.test) (behind turn.entry.post)
+            turn.entry.body.now w)
+            self.old self.new) }
+    {
+        if w == 0 {
+            Ok(Move::Give(Signal::Nothing))
+        } else {
+            self.push(
+                Task::Run(turn.body),
+                Frame::Turning {
+                    stage: Stage::Ran,
+                    rest: &[],
+                    turn,
+                },
+            )
+        }
+    }
+
+    fn returning(&mut self, e: &'a TypedExpr) -> Result<Move<'a>, AllocError>
+        ensures { IfOk result (Makes
+            (λ s. operand_step e.now FReturning s returning_step)
+            self.old self.new) }
+    {
+        match self.store.fetch(e) {
+            Fetch::Word(w) => Ok(Move::Give(Signal::Returns(Some(w)))),
+            Fetch::Fails(why) => Ok(Move::End(why)),
+            Fetch::Deferred => self.push(Task::Of(e), Frame::Returning),
+        }
+    }
+
+    fn initialise(&mut self, i: u32, e: &'a TypedExpr) -> Result<Move<'a>, AllocError>
+        ensures { IfOk result (Makes
+            (λ s. operand_step e.now (FInitialised i) s (initialised_step i))
+            self.old self.new) }
+    {
+        match self.store.fetch(e) {
+            Fetch::Word(w) => Ok(self.stored(Object::InScalar(i as u64), w, Signal::Nothing)),
+            Fetch::Fails(why) => Ok(Move::End(why)),
+            Fetch::Deferred => self.push(Task::Of(e), Frame::Initialised(i)),
         }
     }
 
@@ -118,7 +240,7 @@ impl<'a> Machine<'a> {
                 if self.store.unset_scalar(i as u64) {
                     match init {
                         None => Ok(Move::Give(Signal::Nothing)),
-                        Some(e) => self.push(Task::Of(e), Frame::Initialised(i)),
+                        Some(e) => self.initialise(i, e),
                     }
                 } else {
                     Ok(Move::End(Ending::Undefined))
@@ -146,25 +268,24 @@ impl<'a> Machine<'a> {
 
     pub fn then_turn(
         &mut self,
+        program: &'a TypedProgram,
         e: Option<&'a TypedExpr>,
         turn: Loop<'a>,
     ) -> Result<Move<'a>, AllocError>
         ensures { IfOk result (Makes
-            (then_turn_step (behind e.entry) (behind turn.entry.test) (behind turn.entry.post)
-            turn.entry.body.now)
+            (then_turn_step program.now (behind e.entry) (behind turn.entry.test)
+            (behind turn.entry.post) turn.entry.body.now)
             self.old self.new) }
     {
         match e {
             None => Ok(Move::Do(Task::Turn(turn))),
             Some(e) => {
-                self.push(
-                    Task::Of(e),
-                    Frame::Turning {
-                        stage: Stage::Turns,
-                        rest: &[],
-                        turn,
-                    },
-                )
+                let frame = Frame::Turning {
+                    stage: Stage::Turns,
+                    rest: &[],
+                    turn,
+                };
+                self.followed(program, e, frame, Move::Do(Task::Turn(turn)))
             }
         }
     }
@@ -190,15 +311,20 @@ impl<'a> Machine<'a> {
         }
     }
 
-    fn begin(&mut self, init: &'a TypedForInit, turn: Loop<'a>) -> Result<Move<'a>, AllocError>
+    fn begin(
+        &mut self,
+        program: &'a TypedProgram,
+        init: &'a TypedForInit,
+        turn: Loop<'a>,
+    ) -> Result<Move<'a>, AllocError>
         ensures { IfOk result (Makes
-            (begin_step (out-TypedForInit init.now) (behind turn.entry.test)
+            (begin_step program.now (out-TypedForInit init.now) (behind turn.entry.test)
             (behind turn.entry.post) turn.entry.body.now)
             self.old self.new) }
     {
         match init {
             TypedForInit::Nothing => Ok(Move::Do(Task::Turn(turn))),
-            TypedForInit::First(e) => self.then_turn(Some(e), turn),
+            TypedForInit::First(e) => self.then_turn(program, Some(e), turn),
             TypedForInit::Locals(all) => self.locals(all.as_slice(), turn),
         }
     }
@@ -217,16 +343,29 @@ impl<'a> Machine<'a> {
                     turn,
                 },
             ),
-            Some(test) => {
-                self.push(
-                    Task::Of(test),
-                    Frame::Turning {
-                        stage: Stage::Tests,
-                        rest: &[],
-                        turn,
-                    },
-                )
-            }
+            Some(test) => self.test(test, turn),
+        }
+    }
+
+    fn test(&mut self, test: &'a TypedExpr, turn: Loop<'a>) -> Result<Move<'a>, AllocError>
+        ensures { IfOk result (Makes
+            (λ s. operand_step test.now
+            (FTest (behind turn.entry.test) (behind turn.entry.post) turn.entry.body.now) s
+            (after_test_step (behind turn.entry.test) (behind turn.entry.post)
+            turn.entry.body.now))
+            self.old self.new) }
+    {
+        match self.store.fetch(test) {
+            Fetch::Word(w) => self.after_test(turn, w),
+            Fetch::Fails(why) => Ok(Move::End(why)),
+            Fetch::Deferred => self.push(
+                Task::Of(test),
+                Frame::Turning {
+                    stage: Stage::Tests,
+                    rest: &[],
+                    turn,
+                },
+            ),
         }
     }
 }

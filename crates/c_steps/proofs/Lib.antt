@@ -1,2 +1,4 @@
+pub mod Operands
 pub mod Moves
+pub mod Stocks
 pub mod Ranks

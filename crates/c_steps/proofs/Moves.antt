@@ -1,5 +1,5 @@
 -- The machine's moves keep what is meant.
-use Rattle.std.proofs.Common.{◌≡◌, ℕ, zero, suc, ◌+◌, Bool, true, false, cond, List, [], ◌∷◌}
+use Rattle.std.proofs.Common.{◌≡◌, ℕ, zero, suc, ◌+◌, Bool, true, false, cond, List, [], ◌∷◌, ◌++◌}
 use Rattle.std.proofs.Common.{Option, Some, None, slice_get, nat_le, nat_eq, length, refl, sym, ap}
 use Rattle.std.proofs.Common.{◌∙◌}
 use Rattle.c_tree.specs.declared.Kind.{Kind}
@@ -29,31 +29,39 @@ use Rattle.c_eval.specs.State.{State, Result, Go, Over, then, spend, spend_of, w
 use Rattle.c_eval.specs.State.{given, cell, held, store_in}
 use Rattle.c_eval.specs.Word.{is_false, compound_of, bump_of, bump_value}
 use Rattle.c_eval.specs.Task.{Task, Of, Run, Turn, Parts, element_of, scalar_of, is_array, name}
+use Rattle.c_eval.specs.Task.{element}
 use Rattle.c_eval.specs.Call.{frame, returned, entered_if, enter, read_from, get_char, put_char}
 use Rattle.c_eval.specs.Call.{called, arguments}
 use Rattle.c_eval.specs.Expression.{Node, node_of, converting, binary, assign_to, assign, giving}
-use Rattle.c_eval.specs.Expression.{bump_object, bump, opened, node, expression}
+use Rattle.c_eval.specs.Expression.{bump_object, bump, opened, node, expression, compounded}
+use Rattle.c_eval.specs.Expression.{assign_element, after_left}
 use Rattle.c_eval.specs.Statement.{Level, First, going_on, sequence, dropped, unset, unset_row}
 use Rattle.c_eval.specs.Statement.{declare, run_if, then_turn, locals, begin, after_body, turn}
-use Rattle.c_eval.specs.Statement.{begun, statement}
+use Rattle.c_eval.specs.Statement.{begun, statement, initialised, after_test, after_if}
 use Rattle.c_eval.specs.Eval.{meaning}
 use Rattle.c_steps.specs.Follow.{Follow, FConverting, FUnary, FElement, FArgument, FLeft, FRight}
 use Rattle.c_steps.specs.Follow.{FAnd, FOr, FTruth, FValued, FChoice, FComma, FAssignElement}
 use Rattle.c_steps.specs.Follow.{FAssigned, FCompounded, FBumpElement, FCaller, FDropped}
 use Rattle.c_steps.specs.Follow.{FInitialised, FSequence, FIf, FThenTurn, FLocals, FTest, FBody}
-use Rattle.c_steps.specs.Follow.{FReturning, Step, Pushes, Does, Gives, Ends, spend_step_of}
-use Rattle.c_steps.specs.Follow.{spend_step, want_step, some_step, given_step, store_step_in}
+use Rattle.c_steps.specs.Follow.{FReturning, Step, Pushes, Does, Gives, Ends, Behind, under}
+use Rattle.c_steps.specs.Follow.{spend_step_of, spend_step, want_step, some_step, given_step}
+use Rattle.c_steps.specs.Follow.{store_step_in}
 use Rattle.c_steps.specs.ExpressionSteps.{name_step, assign_to_step, assign_step, bump_object_step}
 use Rattle.c_steps.specs.ExpressionSteps.{bump_step, entered_step, enter_step, read_step, get_step}
 use Rattle.c_steps.specs.ExpressionSteps.{put_step, called_step, arguments_step, binary_step}
 use Rattle.c_steps.specs.ExpressionSteps.{opened_step, node_step, conversion_step, of_step}
+use Rattle.c_steps.specs.ExpressionSteps.{compounded_step, assign_element_step, right_step}
+use Rattle.c_steps.specs.ExpressionSteps.{element_step}
 use Rattle.c_steps.specs.StatementSteps.{sequence_step, unset_step, unset_row_step, declare_step}
 use Rattle.c_steps.specs.StatementSteps.{then_turn_step, locals_step, begin_step, turn_step}
-use Rattle.c_steps.specs.StatementSteps.{begun_step, statement_step, act_step}
-use Rattle.c_steps.specs.ResumeSteps.{if_step, returned_step, going_on_step, body_step, resume_step}
+use Rattle.c_steps.specs.StatementSteps.{begun_step, statement_step, act_step, if_step}
+use Rattle.c_steps.specs.StatementSteps.{dropped_step, turned_step}
+use Rattle.c_steps.specs.StatementSteps.{initialised_step, after_test_step, after_if_step}
+use Rattle.c_steps.specs.ResumeSteps.{returned_step, going_on_step, body_step, resume_step}
 use Rattle.c_steps.specs.Ahead.{Next, ToDo, Given, back_of, unwind_of, settle_of, ahead_of}
 use Rattle.c_steps.specs.Ahead.{ahead_next, IsStep}
 use Rattle.c_eval.proofs.Equations.{meaning-is}
+use Rattle.c_steps.proofs.Operands.{plain, s-operand}
 
 then-then : (r : Result) (f g : Signal → State → Result)
     → then (then r f) g ≡ then r (λ v s. then (f v s) g)
@@ -82,6 +90,8 @@ module _ (P : TypedProgram) where
   ahead-is (Does t s) fs = refl
   ahead-is (Gives v s) fs = refl
   ahead-is (Ends why s) fs = refl
+  ahead-is (Behind f step) fs = ahead-is step (f ∷ fs)
+      ∙ sym (then-then (settle step) (back f) (unwind fs))
 
   s-spend_of : (k : ℕ) (s : State) (f : State → Step) (g : State → Result)
       → ((s : State) → settle (f s) ≡ g s) → settle (spend_step_of k s f) ≡ spend_of k s g
@@ -127,17 +137,34 @@ module _ (P : TypedProgram) where
   s-name (place.Scalar i) s = s-given _ s
   s-name (place.Array a) s = refl
 
+  s-compounded : (op : BinaryOp) (to : Option Kind) (at : Kind) (x : Object) (old w : ℕ)
+      (s : State) → settle (compounded_step op to at x old w s)
+      ≡ compounded op to at x old (Value w) s
+  s-compounded op to at x old w s = s-some (compound_of op to at old w) s _ _
+      (λ r. s-store_alone (cell s x) s x r)
+
   s-assign_to : (op : Option BinaryOp) (to : Option Kind) (at : Kind) (right : TypedExpr)
       (s : State) (x : Object) → settle (assign_to_step op to at right s x)
       ≡ assign_to means op to at right s x
-  s-assign_to None to at right s x = refl
-  s-assign_to (Some op) to at right s x = s-some (held (cell s x)) s _ _ (λ old. refl)
+  s-assign_to None to at right s x = s-operand P right (FAssigned x) s _
+      (λ w u. s-store_alone (cell u x) u x w)
+  s-assign_to (Some op) to at right s x = s-some (held (cell s x)) s _ _
+      (λ old. s-operand P right (FCompounded op to at x old) s _
+      (λ w u. s-compounded op to at x old w u))
+
+  s-assign_element : (op : Option BinaryOp) (to : Option Kind) (at : Kind) (p : Place)
+      (right : TypedExpr) (w : ℕ) (s : State) → settle (assign_element_step op to at p right w s)
+      ≡ assign_element means op to at p right (Value w) s
+  s-assign_element op to at p right w s =
+      s-some (element_of p w s) s _ _ (λ x. s-assign_to op to at right s x)
 
   s-assign : (op : Option BinaryOp) (to : Option Kind) (at : Kind) (l : Node) (right : TypedExpr)
       (s : State) → settle (assign_step op to at l right s) ≡ assign means op to at l right s
   s-assign op to at (Name p) right s = s-some (scalar_of p) s _ _
       (λ x. s-assign_to op to at right s x)
-  s-assign op to at (Element p index) right s = refl
+  s-assign op to at (Element p index) right s =
+      s-operand P index (FAssignElement op to at p right) s _
+      (λ w u. s-assign_element op to at p right w u)
   s-assign op to at _ right s = refl
 
   s-bump_object : (op : BumpOp) (k : Option Kind) (s : State) (x : Object)
@@ -185,18 +212,28 @@ module _ (P : TypedProgram) where
   s-arguments : (f : Callee) (es : List TypedExpr) (done : List ℕ) (s : State)
       → settle (arguments_step P f es done s) ≡ arguments means P f es done s
   s-arguments f [] done s = s-called f done s
-  s-arguments f (e ∷ es) done s = refl
+  s-arguments f (e ∷ es) done s = s-operand P e (FArgument f es done) s _
+      (λ w u. s-arguments f es (done ++ w ∷ []) u)
+
+  s-right : (op : BinaryOp) (k : Option Kind) (r : TypedExpr) (a : ℕ) (s : State)
+      → settle (right_step op k r a s) ≡ after_left means op k r (Value a) s
+  s-right op k r a s = s-operand P r (FRight op k a) s _ (λ b u. s-given _ u)
+
+  s-element : (p : Place) (w : ℕ) (s : State)
+      → settle (element_step p w s) ≡ element p (Value w) s
+  s-element p w s = s-some (element_of p w s) s _ _ (λ x. s-given _ s)
 
   s-binary : (op : BinaryOp) (l r : TypedExpr) (s : State)
       → settle (binary_step op l r s) ≡ binary means op l r s
   s-binary LogicalAnd l r s = refl
   s-binary LogicalOr l r s = refl
-  s-binary _ l r s = refl
+  s-binary op l r s = s-operand P l (FLeft op l.kind r) s _
+      (λ a u. s-right op l.kind r a u)
 
   s-opened : (e : Node) (s : State) → settle (opened_step P e s) ≡ opened means P e s
   s-opened (Number w) s = refl
   s-opened (Name p) s = s-name p s
-  s-opened (Element p i) s = refl
+  s-opened (Element p i) s = s-operand P i (FElement p) s _ (λ w u. s-element p w u)
   s-opened (Call f args) s = s-arguments f args [] s
   s-opened (Unary op e) s = refl
   s-opened (Cast to e) s = refl
@@ -210,15 +247,10 @@ module _ (P : TypedProgram) where
   s-node : (e : Node) (s : State) → settle (node_step P e s) ≡ node means P e s
   s-node e s = s-spend s _ _ (λ s. s-opened e s)
 
-  -- what an expression means by its node, where that is no conversion
-  pub plain : (e : TypedExpr) (n : Node) (s : State) → node_of e ≡ n
-      → ((s : State) → expression means P n s ≡ node means P n s) → means (Of e) s ≡ node means P n s
-  plain e n s h g = meaning-is P (Of e) s ∙ ap (λ (n : Node). expression means P n s) h ∙ g s
-
   plainly : (to : Kind) (e : TypedExpr) (n : Node) (s : State) → node_of e ≡ n
       → ((s : State) → expression means P n s ≡ node means P n s)
       → then (means (Of e) s) (converting to) ≡ then (node means P n s) (converting to)
-  plainly to e n s h g = ap (λ (r : Result). then r (converting to)) (plain e n s h g)
+  plainly to e n s h g = ap (λ (r : Result). then r (converting to)) (plain P e n s h g)
 
   s-convert : (k : ℕ) (to to' : Kind) (e' : TypedExpr) (s : State)
       → settle (spend_step_of k s (λ u. Ends Undefined u))
@@ -246,6 +278,22 @@ module _ (P : TypedProgram) where
   s-of (Convert to e) s = s-conversion to e (node_of e) s refl
   s-of e s = s-node e s
 
+  -- a move before a frame
+  s-under : (f : Follow) (next : Signal → State → Step) (step : Step)
+      → ((v : Signal) (s : State) → settle (next v s) ≡ back f v s)
+      → settle (under f next step) ≡ then (settle step) (back f)
+  s-under f next (Pushes t g s) h = refl
+  s-under f next (Does t s) h = refl
+  s-under f next (Gives v s) h = h v s
+  s-under f next (Ends why s) h = refl
+  s-under f next (Behind g step) h = refl
+
+  s-followed : (e : TypedExpr) (f : Follow) (next : Signal → State → Step) (s : State)
+      → ((v : Signal) (s : State) → settle (next v s) ≡ back f v s)
+      → settle (under f next (of_step P (node_of e) s)) ≡ then (means (Of e) s) (back f)
+  s-followed e f next s h = s-under f next (of_step P (node_of e) s) h
+      ∙ ap (λ (r : Result). then r (back f)) (s-of (node_of e) s ∙ sym (meaning-is P (Of e) s))
+
   -- STATEMENTS
 
   s-sequence : (all : List TypedStmt) (s : State)
@@ -253,11 +301,16 @@ module _ (P : TypedProgram) where
   s-sequence [] s = refl
   s-sequence (st ∷ rest) s = refl
 
+  s-initialised : (i w : ℕ) (s : State)
+      → settle (initialised_step i w s) ≡ initialised i (Value w) s
+  s-initialised i w s =
+      s-store_in (cell s (InScalar i)) s (InScalar i) w Nothing dropped (λ s. refl)
+
   s-unset : (i : ℕ) (e : Option TypedExpr) (c : Option (Option ℕ)) (s : State)
       → settle (unset_step i e c s) ≡ unset means i e c s
   s-unset i e None s = refl
   s-unset i None (Some c) s = refl
-  s-unset i (Some e) (Some c) s = refl
+  s-unset i (Some e) (Some c) s = s-operand P e (FInitialised i) _ _ (λ w u. s-initialised i w u)
 
   s-unset_row : (a : ℕ) (row : Option (List (Option ℕ))) (s : State)
       → settle (unset_row_step a row s) ≡ unset_row a row s
@@ -272,9 +325,10 @@ module _ (P : TypedProgram) where
   s-declare (place.Global a) e s = refl
 
   s-then_turn : (o test post : Option TypedExpr) (body : TypedStmt) (s : State)
-      → settle (then_turn_step o test post body s) ≡ then_turn means o test post body s
+      → settle (then_turn_step P o test post body s) ≡ then_turn means o test post body s
   s-then_turn None test post body s = refl
-  s-then_turn (Some e) test post body s = refl
+  s-then_turn (Some e) test post body s =
+      s-followed e (FThenTurn test post body) (turned_step test post body) s (λ v s. refl)
 
   s-locals : (all : List TypedStmt) (test post : Option TypedExpr) (body : TypedStmt) (s : State)
       → settle (locals_step all test post body s) ≡ locals means all test post body s
@@ -282,38 +336,47 @@ module _ (P : TypedProgram) where
   s-locals (st ∷ rest) test post body s = refl
 
   s-begin : (f : First) (test post : Option TypedExpr) (body : TypedStmt) (s : State)
-      → settle (begin_step f test post body s) ≡ begin means f test post body s
+      → settle (begin_step P f test post body s) ≡ begin means f test post body s
   s-begin init.Nothing test post body s = refl
-  s-begin (init.First e) test post body s = refl
+  s-begin (init.First e) test post body s = s-then_turn (Some e) test post body s
   s-begin (init.Locals all) test post body s = s-locals all test post body s
+
+  s-after_test : (test post : Option TypedExpr) (body : TypedStmt) (w : ℕ) (s : State)
+      → settle (after_test_step test post body w s) ≡ after_test means test post body (Value w) s
+  s-after_test test post body w s = s-cond (is_false w) _ _ _ _ refl refl
+
+  s-if : (o : Option TypedStmt) (s : State) → settle (if_step o s) ≡ run_if means o s
+  s-if None s = refl
+  s-if (Some st) s = refl
+
+  s-after_if : (one : TypedStmt) (other : Option TypedStmt) (w : ℕ) (s : State)
+      → settle (after_if_step one other w s) ≡ after_if means one other (Value w) s
+  s-after_if one other w s = s-cond (is_false w) _ _ _ _ (s-if other s) refl
 
   s-turn : (test post : Option TypedExpr) (body : TypedStmt) (s : State)
       → settle (turn_step test post body s) ≡ turn means test post body s
   s-turn None post body s = refl
-  s-turn (Some t) post body s = refl
+  s-turn (Some t) post body s = s-operand P t (FTest (Some t) post body) s _
+      (λ w u. s-after_test (Some t) post body w u)
 
-  s-begun : (st : Level) (s : State) → settle (begun_step st s) ≡ begun means st s
+  s-begun : (st : Level) (s : State) → settle (begun_step P st s) ≡ begun means st s
   s-begun (Declare p e) s = s-declare p e s
   s-begun (Plain None) s = refl
-  s-begun (Plain (Some e)) s = refl
+  s-begun (Plain (Some e)) s = s-followed e FDropped dropped_step s (λ v s. refl)
   s-begun (Compound all) s = s-sequence all s
-  s-begun (If t a b) s = refl
+  s-begun (If t a b) s = s-operand P t (FIf a b) s _ (λ w u. s-after_if a b w u)
   s-begun (While t body) s = refl
   s-begun (Do body t) s = refl
   s-begun (For f test post body) s = s-begin (out-TypedForInit f) test post body s
   s-begun Break s = refl
   s-begun Continue s = refl
   s-begun (Return None) s = refl
-  s-begun (Return (Some e)) s = refl
+  s-begun (Return (Some e)) s = s-operand P e FReturning s _ (λ w u. refl)
 
-  s-statement : (st : Level) (s : State) → settle (statement_step st s) ≡ statement means st s
+  s-statement : (st : Level) (s : State) → settle (statement_step P st s) ≡ statement means st s
   s-statement st s = s-spend s _ _ (λ s. s-begun st s)
 
   -- WHAT FOLLOWS
-
-  s-if : (o : Option TypedStmt) (s : State) → settle (if_step o s) ≡ run_if means o s
-  s-if None s = refl
-  s-if (Some st) s = refl
 
   s-returned : (v : Signal) (s : State) → settle (returned_step v s) ≡ returned v s
   s-returned (Returns (Some w)) s = refl
@@ -327,7 +390,7 @@ module _ (P : TypedProgram) where
   s-going_on _ s f g h = refl
 
   s-body : (test post : Option TypedExpr) (body : TypedStmt) (v : Signal) (s : State)
-      → settle (body_step test post body v s) ≡ after_body means test post body v s
+      → settle (body_step P test post body v s) ≡ after_body means test post body v s
   s-body test post body Nothing s = s-then_turn post test post body s
   s-body test post body Continues s = s-then_turn post test post body s
   s-body test post body Breaks s = refl
@@ -336,10 +399,9 @@ module _ (P : TypedProgram) where
   pub s-resume : (f : Follow) (v : Signal) (s : State) → settle (resume_step P f v s) ≡ back f v s
   s-resume (FConverting to) v s = s-want v s _ _ (λ w. refl)
   s-resume (FUnary op k) v s = s-want v s _ _ (λ w. s-given _ s)
-  s-resume (FElement p) v s = s-want v s _ _
-      (λ w. s-some (element_of p w s) s _ _ (λ x. s-given _ s))
+  s-resume (FElement p) v s = s-want v s _ _ (λ w. s-element p w s)
   s-resume (FArgument f rest done) v s = s-want v s _ _ (λ w. s-arguments f rest _ s)
-  s-resume (FLeft op k right) v s = s-want v s _ _ (λ w. refl)
+  s-resume (FLeft op k right) v s = s-want v s _ _ (λ w. s-right op k right w s)
   s-resume (FRight op k a) v s = s-want v s _ _ (λ w. s-given _ s)
   s-resume (FAnd right) v s = s-want v s _ _ (λ w. s-cond (is_false w) _ _ _ _ refl refl)
   s-resume (FOr right) v s = s-want v s _ _ (λ w. s-cond (is_false w) _ _ _ _ refl refl)
@@ -348,23 +410,20 @@ module _ (P : TypedProgram) where
   s-resume (FChoice one other) v s = s-want v s _ _ (λ w. s-cond (is_false w) _ _ _ _ refl refl)
   s-resume (FComma right) v s = refl
   s-resume (FAssignElement op to at p right) v s =
-      s-want v s _ _ (λ w. s-some (element_of p w s) s _ _ (λ x. s-assign_to op to at right s x))
+      s-want v s _ _ (λ w. s-assign_element op to at p right w s)
   s-resume (FAssigned x) v s = s-want v s _ _ (λ w. s-store_alone (cell s x) s x w)
   s-resume (FCompounded op to at x old) v s =
-      s-want v s _ _ (λ w. s-some (compound_of op to at old w) s _ _
-      (λ r. s-store_alone (cell s x) s x r))
+      s-want v s _ _ (λ w. s-compounded op to at x old w s)
   s-resume (FBumpElement op k p) v s =
       s-want v s _ _ (λ w. s-some (element_of p w s) s _ _ (λ x. s-bump_object op k s x))
   s-resume (FCaller scalars count base room) v s = s-returned v _
   s-resume FDropped v s = refl
-  s-resume (FInitialised i) v s = s-want v s _ _
-      (λ w. s-store_in (cell s (InScalar i)) s (InScalar i) w Nothing dropped (λ s. refl))
+  s-resume (FInitialised i) v s = s-want v s _ _ (λ w. s-initialised i w s)
   s-resume (FSequence rest) v s = s-going_on v s _ _ (s-sequence rest s)
-  s-resume (FIf one other) v s = s-want v s _ _
-      (λ w. s-cond (is_false w) _ _ _ _ (s-if other s) refl)
+  s-resume (FIf one other) v s = s-want v s _ _ (λ w. s-after_if one other w s)
   s-resume (FThenTurn test post body) v s = refl
   s-resume (FLocals rest test post body) v s = s-going_on v s _ _ (s-locals rest test post body s)
-  s-resume (FTest test post body) v s = s-want v s _ _ (λ w. s-cond (is_false w) _ _ _ _ refl refl)
+  s-resume (FTest test post body) v s = s-want v s _ _ (λ w. s-after_test test post body w s)
   s-resume (FBody test post body) v s = s-body test post body v s
   s-resume FReturning v s = s-want v s _ _ (λ w. refl)
 
@@ -400,6 +459,7 @@ module _ (P : TypedProgram) where
   step-ahead (Gives v s) n s' before after h =
       ap (λ (n : Next). ahead_next P n after s') h.0
       ∙ (ap (λ (x : State). unwind after v x) h.1 ∙ ap (λ (fs : List Follow). unwind fs v s) h.2)
+  step-ahead (Behind f step) n s' before after h = step-ahead step n s' (f ∷ before) after h.0
   step-ahead (Ends why s) n s' before after h =
       ap (λ (n : Next). ahead_next P n after s') h.0 ∙ ap (λ (x : State). Over why x) h.1
 

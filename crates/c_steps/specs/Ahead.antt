@@ -17,7 +17,7 @@ use Rattle.c_steps.specs.Follow.{Follow, FConverting, FUnary, FElement, FArgumen
 use Rattle.c_steps.specs.Follow.{FAnd, FOr, FTruth, FValued, FChoice, FComma, FAssignElement}
 use Rattle.c_steps.specs.Follow.{FAssigned, FCompounded, FBumpElement, FCaller, FDropped}
 use Rattle.c_steps.specs.Follow.{FInitialised, FSequence, FIf, FThenTurn, FLocals, FTest, FBody}
-use Rattle.c_steps.specs.Follow.{FReturning, Step, Pushes, Does, Gives, Ends}
+use Rattle.c_steps.specs.Follow.{FReturning, Step, Pushes, Does, Gives, Ends, Behind}
 
 -- what is to be done next
 pub data Next : Type 0 where
@@ -66,12 +66,14 @@ settle_of P (Pushes t f s) = then (meaning P t s) (back_of P f)
 settle_of P (Does t s) = meaning P t s
 settle_of P (Gives v s) = Go v s
 settle_of P (Ends why s) = Over why s
+settle_of P (Behind f step) = then (settle_of P step) (back_of P f)
 
 abbrev pub ahead_of : TypedProgram → Step → List Follow → Result
 ahead_of P (Pushes t f s) fs = then (meaning P t s) (unwind_of P (f ∷ fs))
 ahead_of P (Does t s) fs = then (meaning P t s) (unwind_of P fs)
 ahead_of P (Gives v s) fs = unwind_of P fs v s
 ahead_of P (Ends why s) fs = Over why s
+ahead_of P (Behind f step) fs = ahead_of P step (f ∷ fs)
 
 -- what is ahead of what is to be done next, before a list of frames
 abbrev pub ahead_next : TypedProgram → Next → List Follow → State → Result
@@ -113,9 +115,15 @@ IsReached (ToDo t) s r = ⊥
 IsReached (Given v) s r = r ≡ Go v s
 IsReached (Ended why) s r = r ≡ Over why s
 
+-- nothing is given
+abbrev pub NotGiven : Next → Type 0
+NotGiven (Given v) = ⊥
+NotGiven _ = Unit {0}
+
 -- what is done next, the state and the frames after a step
 abbrev pub IsStep : Step → Next → State → List Follow → List Follow → Type 0
 IsStep (Pushes t f s) n s' before after = (n ≡ ToDo t) × (s' ≡ s) × (after ≡ f ∷ before)
 IsStep (Does t s) n s' before after = (n ≡ ToDo t) × (s' ≡ s) × (after ≡ before)
 IsStep (Gives v s) n s' before after = (n ≡ Given v) × (s' ≡ s) × (after ≡ before)
 IsStep (Ends why s) n s' before after = (n ≡ Ended why) × (s' ≡ s) × (after ≡ before)
+IsStep (Behind f step) n s' before after = IsStep step n s' (f ∷ before) after × NotGiven n

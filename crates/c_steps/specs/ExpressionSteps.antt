@@ -19,14 +19,15 @@ use Rattle.c_eval.specs.declared.Ending.TheVariants.{Undefined, Deep}
 use Rattle.c_eval.specs.declared.Object.{Object}
 use Rattle.c_eval.specs.declared.Object.TheVariants.{InScalar, InArray}
 use Rattle.c_eval.specs.State.{State, cell, held}
-use Rattle.c_eval.specs.Word.{bump_of, bump_value}
-use Rattle.c_eval.specs.Task.{Of, Run, scalar_of, is_array}
+use Rattle.c_eval.specs.Word.{bump_of, bump_value, binary_of, compound_of}
+use Rattle.c_eval.specs.Task.{Of, Run, scalar_of, is_array, element_of}
 use Rattle.c_eval.specs.Call.{frame, entered, left}
 use Rattle.c_eval.specs.Expression.{Node, node_of}
-use Rattle.c_steps.specs.Follow.{FConverting, FUnary, FElement, FArgument, FLeft, FAnd, FOr}
+use Rattle.c_steps.specs.Operands.{operand_step}
+use Rattle.c_steps.specs.Follow.{FConverting, FUnary, FElement, FArgument, FLeft, FRight, FAnd, FOr}
 use Rattle.c_steps.specs.Follow.{FChoice, FComma, FAssignElement, FAssigned, FCompounded}
 use Rattle.c_steps.specs.Follow.{FBumpElement, FCaller, Step, Pushes, Gives, Ends, spend_step}
-use Rattle.c_steps.specs.Follow.{some_step, load_step, store_step}
+use Rattle.c_steps.specs.Follow.{some_step, given_step, load_step, store_step}
 
 abbrev pub name_step : TypedProgram → Place → State → Step
 name_step P (place.Global g) s = cond (is_array (slice_get P.globals g)) (Gives (Value g) s)
@@ -36,15 +37,28 @@ name_step P (place.Array a) s = Gives (Value (s.base + a)) s
 
 -- ASSIGNMENT
 
+abbrev pub assigned_step : Object → ℕ → State → Step
+assigned_step x w s = store_step s x w (Value w)
+
+abbrev pub compounded_step : BinaryOp → Option Kind → Kind → Object → ℕ → ℕ → State → Step
+compounded_step op to at x old w s =
+    some_step (compound_of op to at old w) s (λ r. store_step s x r (Value r))
+
 abbrev pub assign_to_step : Option BinaryOp → Option Kind → Kind → TypedExpr → State → Object → Step
-assign_to_step None to at right s x = Pushes (Of right) (FAssigned x) s
+assign_to_step None to at right s x = operand_step right (FAssigned x) s (assigned_step x)
 assign_to_step (Some op) to at right s x =
-    some_step (held (cell s x)) s (λ old. Pushes (Of right) (FCompounded op to at x old) s)
+    some_step (held (cell s x)) s (λ old. operand_step right (FCompounded op to at x old) s
+    (compounded_step op to at x old))
+
+abbrev pub assign_element_step : Option BinaryOp → Option Kind → Kind → Place → TypedExpr → ℕ
+    → State → Step
+assign_element_step op to at p right w s =
+    some_step (element_of p w s) s (assign_to_step op to at right s)
 
 abbrev pub assign_step : Option BinaryOp → Option Kind → Kind → Node → TypedExpr → State → Step
 assign_step op to at (Name p) right s = some_step (scalar_of p) s (assign_to_step op to at right s)
 assign_step op to at (Element p index) right s =
-    Pushes (Of index) (FAssignElement op to at p right) s
+    operand_step index (FAssignElement op to at p right) s (assign_element_step op to at p right)
 assign_step op to at _ right s = Ends Undefined s
 
 abbrev pub bump_object_step : BumpOp → Option Kind → State → Object → Step
@@ -91,19 +105,30 @@ called_step P PutChar done s = spend_step s (put_step done)
 
 abbrev pub arguments_step : TypedProgram → Callee → List TypedExpr → List ℕ → State → Step
 arguments_step P f [] done s = called_step P f done s
-arguments_step P f (e ∷ es) done s = Pushes (Of e) (FArgument f es done) s
+arguments_step P f (e ∷ es) done s =
+    operand_step e (FArgument f es done) s (λ w u. arguments_step P f es (done ++ w ∷ []) u)
 
 -- NODES
+
+abbrev pub operated_step : BinaryOp → Option Kind → ℕ → ℕ → State → Step
+operated_step op k a b s = given_step (binary_of op k a b) s
+
+abbrev pub right_step : BinaryOp → Option Kind → TypedExpr → ℕ → State → Step
+right_step op k right a s = operand_step right (FRight op k a) s (operated_step op k a)
+
+abbrev pub element_step : Place → ℕ → State → Step
+element_step p w s = some_step (element_of p w s) s (λ x. load_step x s)
 
 abbrev pub binary_step : BinaryOp → TypedExpr → TypedExpr → State → Step
 binary_step LogicalAnd left right s = Pushes (Of left) (FAnd right) s
 binary_step LogicalOr left right s = Pushes (Of left) (FOr right) s
-binary_step op left right s = Pushes (Of left) (FLeft op left.kind right) s
+binary_step op left right s =
+    operand_step left (FLeft op left.kind right) s (right_step op left.kind right)
 
 abbrev pub opened_step : TypedProgram → Node → State → Step
 opened_step P (Number w) s = Gives (Value w) s
 opened_step P (Name p) s = name_step P p s
-opened_step P (Element p index) s = Pushes (Of index) (FElement p) s
+opened_step P (Element p index) s = operand_step index (FElement p) s (element_step p)
 opened_step P (Call f args) s = arguments_step P f args [] s
 opened_step P (Unary op e) s = Pushes (Of e) (FUnary op e.kind) s
 opened_step P (Cast to e) s = Pushes (Of e) (FConverting to) s

@@ -46,12 +46,14 @@ pub data Follow : Type 0 where
   FBody : (test post : Option TypedExpr) (body : TypedStmt) → Follow
   FReturning : Follow
 
--- one move: to a task and what follows it, to a task alone, with what a part gave, or to the end
+-- one move: to a task and what follows it, to a task alone, with what a part gave, to the end, or
+-- a move that is made with a frame more
 pub data Step : Type 0 where
   Pushes : (t : Task) (f : Follow) (s : State) → Step
   Does : (t : Task) (s : State) → Step
   Gives : (v : Signal) (s : State) → Step
   Ends : (why : Ending) (s : State) → Step
+  Behind : (f : Follow) (step : Step) → Step
 
 abbrev pub spend_step_of : ℕ → State → (State → Step) → Step
 spend_step_of zero s next = Ends More s
@@ -59,6 +61,11 @@ spend_step_of (suc n) s next = next (record s { stock = n })
 
 abbrev pub spend_step : State → (State → Step) → Step
 spend_step s next = spend_step_of s.stock s next
+
+-- a move before a frame, which is taken off at once where something is given
+abbrev pub under : Follow → (Signal → State → Step) → Step → Step
+under f next (Gives v s) = next v s
+under f next step = Behind f step
 
 abbrev pub want_step : Signal → State → (ℕ → Step) → Step
 want_step (Value w) s next = next w

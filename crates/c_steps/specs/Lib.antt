@@ -1,4 +1,5 @@
 pub mod Follow
+pub mod Operands
 pub mod ExpressionSteps
 pub mod StatementSteps
 pub mod ResumeSteps

@@ -2,7 +2,11 @@
 //! the program is a list of frames, one for each continuation of `eval` (crate `c_eval`).
 #![tactic(auto)]
 
+mod leaf;
+
 ghost use Rattle.c_steps.specs.Keeps.{MovesKeepWhatIsAhead, MovesLeaveLess};
+
+pub use leaf::{Leaf, leaf_at, leaf_of};
 
 /// Each move keeps what is ahead, which at the start is the evaluation and at the end its result.
 pub fn moves_keep_what_is_ahead()
