@@ -1,0 +1,12 @@
+//! From C texts to flat programs that do what the texts mean (docs/LANGUAGE.md).
+//!
+//! `specs/Flat.antt` says what the flat program of a text is.
+#![tactic(auto)]
+
+mod law;
+mod lowering;
+#[cfg(test)]
+mod tests;
+
+pub use law::accepted_texts_keep_meaning;
+pub use lowering::lower_text;
