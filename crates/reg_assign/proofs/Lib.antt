@@ -1,0 +1,10 @@
+pub mod Inclusion
+pub mod Follows
+pub mod Alive
+pub mod Groups
+pub mod ListFacts
+pub mod Listed
+pub mod Notes
+pub mod Seen
+pub mod Passes
+pub mod StandardFacts

@@ -1,0 +1,80 @@
+use Rattle.std.proofs.Common.{ap, ◌∙◌, arith}
+use Rattle.ir_forms.specs.FlatCode.{Step}
+use Rattle.ir_forms.specs.FlatViews.{step_of}
+use Rattle.ir_forms.proofs.Views.{step_let, step_frame, step_load, step_save, step_call, step_put}
+use Rattle.ir_forms.proofs.Views.{step_get, step_if, step_loop, step_break, step_continue}
+use Rattle.ir_forms.proofs.Views.{step_return}
+use Rattle.reg_assign.specs.Pass as pass
+use Rattle.reg_assign.proofs.walking.+walk.Goals as goal
+
+pub walk_stmt-returns-in-Let : goal.walk_stmt-returns-in-Let
+walk_stmt-returns-in-Let t c =
+    let h = ap (λ (st : Step). pass.walk_in st c.args.on_break c.args.on_continue c.args.walk.now)
+    (ap step_of c.in-Let.is ∙ step_let c.in-Let.to c.in-Let.op c.in-Let.a c.in-Let.b) in
+    grind (arith, h)
+
+pub walk_stmt-returns-in-Frame : goal.walk_stmt-returns-in-Frame
+walk_stmt-returns-in-Frame t c =
+    let h = ap (λ (st : Step). pass.walk_in st c.args.on_break c.args.on_continue c.args.walk.now)
+    (ap step_of c.in-Frame.is ∙ step_frame c.in-Frame.to c.in-Frame.at) in
+    grind (arith, h)
+
+pub walk_stmt-returns-in-Load : goal.walk_stmt-returns-in-Load
+walk_stmt-returns-in-Load t c =
+    let h = ap (λ (st : Step). pass.walk_in st c.args.on_break c.args.on_continue c.args.walk.now)
+    (ap step_of c.in-Load.is ∙ step_load c.in-Load.to c.in-Load.op c.in-Load.address) in
+    grind (arith, h)
+
+pub walk_stmt-returns-in-Save : goal.walk_stmt-returns-in-Save
+walk_stmt-returns-in-Save t c =
+    let h = ap (λ (st : Step). pass.walk_in st c.args.on_break c.args.on_continue c.args.walk.now)
+    (ap step_of c.in-Save.is ∙ step_save c.in-Save.op c.in-Save.address c.in-Save.value) in
+    grind (arith, h)
+
+pub walk_stmt-returns-in_ok-before_call-in-Call : goal.walk_stmt-returns-in_ok-before_call-in-Call
+walk_stmt-returns-in_ok-before_call-in-Call t c =
+    let h = ap (λ (st : Step). pass.walk_in st c.args.on_break c.args.on_continue c.args.walk.now)
+    (ap step_of c.in-Call.is ∙ step_call c.in-Call.function c.in-Call.args c.in-Call.to) in
+    grind (arith, h)
+
+pub walk_stmt-returns-in-Put : goal.walk_stmt-returns-in-Put
+walk_stmt-returns-in-Put t c =
+    let h = ap (λ (st : Step). pass.walk_in st c.args.on_break c.args.on_continue c.args.walk.now)
+    (ap step_of c.in-Put.is ∙ step_put c.in-Put.value) in
+    grind (arith, h)
+
+pub walk_stmt-returns-in-Get : goal.walk_stmt-returns-in-Get
+walk_stmt-returns-in-Get t c =
+    let h = ap (λ (st : Step). pass.walk_in st c.args.on_break c.args.on_continue c.args.walk.now)
+    (ap step_of c.in-Get.is ∙ step_get c.in-Get.to) in
+    grind (arith, h)
+
+pub walk_stmt-returns-in_ok-walk_stmts-in-If-2 : goal.walk_stmt-returns-in_ok-walk_stmts-in-If-2
+walk_stmt-returns-in_ok-walk_stmts-in-If-2 t c =
+    let h = ap (λ (st : Step). pass.walk_in st c.args.on_break c.args.on_continue c.args.walk.now)
+    (ap step_of c.in-If.is ∙ step_if c.in-If.test c.in-If.yes c.in-If.no) in
+    grind (arith, h)
+
+pub walk_stmt-returns-in_ok-walk_stmts-in-Loop-2 : goal.walk_stmt-returns-in_ok-walk_stmts-in-Loop-2
+walk_stmt-returns-in_ok-walk_stmts-in-Loop-2 t c =
+    let h = ap (λ (st : Step). pass.walk_in st c.args.on_break c.args.on_continue c.args.walk.now)
+    (ap step_of c.in-Loop.is ∙ step_loop c.in-Loop.body c.in-Loop.post) in
+    grind (arith, h)
+
+pub walk_stmt-returns-in-Break : goal.walk_stmt-returns-in-Break
+walk_stmt-returns-in-Break t c =
+    let h = ap (λ (st : Step). pass.walk_in st c.args.on_break c.args.on_continue c.args.walk.now)
+    (ap step_of c.in-Break.is ∙ step_break) in
+    grind (arith, h)
+
+pub walk_stmt-returns-in-Continue : goal.walk_stmt-returns-in-Continue
+walk_stmt-returns-in-Continue t c =
+    let h = ap (λ (st : Step). pass.walk_in st c.args.on_break c.args.on_continue c.args.walk.now)
+    (ap step_of c.in-Continue.is ∙ step_continue) in
+    grind (arith, h)
+
+pub walk_stmt-returns-in-Return : goal.walk_stmt-returns-in-Return
+walk_stmt-returns-in-Return t c =
+    let h = ap (λ (st : Step). pass.walk_in st c.args.on_break c.args.on_continue c.args.walk.now)
+    (ap step_of c.in-Return.is ∙ step_return c.in-Return.value) in
+    grind (arith, h)

@@ -1,0 +1,128 @@
+-- A flat program whose calls keep certain variables, and that it does what the program does.
+use Rattle.std.specs.Prelude.{◌≡◌, ℕ, zero, suc, ◌+◌, Bool, true, false, ◌||◌, nat_eq, List, []}
+use Rattle.std.specs.Prelude.{◌∷◌}
+use Rattle.std.specs.Prelude.{length}
+use Rattle.ir_forms.specs.FlatViews.{stays}
+use Rattle.ir_forms.specs.FlatCode.{Step, Let, Frame, Load, Save, Call, Put, Get, If, Loop, Break}
+use Rattle.ir_forms.specs.FlatCode.{Continue, Return, Code, Nop, ◌▹◌, Function, Program}
+use Rattle.ir_forms.specs.Cells.{Checks}
+use Rattle.ir_forms.specs.FlatSteps.{State, Res, Gone, Broke, Again, Gave, TooDeep, Unfinished}
+use Rattle.ir_forms.specs.FlatSteps.{Wild}
+use Rattle.ir_forms.specs.FlatRuns.{flat_run}
+use Rattle.reg_assign.specs.Live.{VarSet}
+
+-- NUMBERED CALLS
+
+abbrev mutual
+  pub calls_in : Step → ℕ
+  calls_in (Call f xs to kept) = 1
+  calls_in (If x a b) = calls a + calls b
+  calls_in (Loop a b) = calls a + calls b
+  calls_in _ = 0
+
+  -- how many calls stand in code
+  pub calls : Code → ℕ
+  calls Nop = 0
+  calls (s ▹ rest) = calls_in s + calls rest
+
+-- Calls keep what their numbers say; the first has the number k.
+abbrev mutual
+  pub keeping_in : (ℕ → VarSet) → ℕ → Step → Step
+  keeping_in keep k (Let to op x y) = Let to op x y
+  keeping_in keep k (Frame to at) = Frame to at
+  keeping_in keep k (Load to op x) = Load to op x
+  keeping_in keep k (Save op x y) = Save op x y
+  keeping_in keep k (Call f xs to kept) = Call f xs to (keep k)
+  keeping_in keep k (Put x) = Put x
+  keeping_in keep k (Get to) = Get to
+  keeping_in keep k (If x a b) = If x (keeping keep k a) (keeping keep (k + calls a) b)
+  keeping_in keep k (Loop a b) = Loop (keeping keep k a) (keeping keep (k + calls a) b)
+  keeping_in keep k Break = Break
+  keeping_in keep k Continue = Continue
+  keeping_in keep k (Return x) = Return x
+
+  pub keeping : (ℕ → VarSet) → ℕ → Code → Code
+  keeping keep k Nop = Nop
+  keeping keep k (s ▹ rest) = keeping_in keep k s ▹ keeping keep (k + calls_in s) rest
+
+abbrev pub with_body : Function → Code → Function
+with_body f c =
+    record { params = f.params; scalars = f.scalars; arrays = f.arrays; body = c }
+
+abbrev pub keeping_all : (ℕ → VarSet) → ℕ → List Function → List Function
+keeping_all keep k [] = []
+keeping_all keep k (f ∷ fs) =
+    with_body f (keeping keep k f.body) ∷ keeping_all keep (k + calls f.body) fs
+
+abbrev pub is_among : List ℕ → VarSet
+is_among [] v = false
+is_among (x ∷ xs) v = nat_eq v x || is_among xs v
+
+-- call number k keeps the variables of list k; where there is none, nothing
+abbrev pub kept_by : List (List ℕ) → ℕ → VarSet
+kept_by [] k v = false
+kept_by (vs ∷ more) zero v = is_among vs v
+kept_by (vs ∷ more) (suc k) v = kept_by more k v
+
+-- the program whose calls keep what the lists say
+abbrev pub assigned_program : Program → List (List ℕ) → Program
+assigned_program P lists = record {
+  functions = keeping_all (kept_by lists) 0 P.functions;
+  bytes = P.bytes;
+  main = P.main;
+}
+
+-- LISTS FOR A PROGRAM
+
+abbrev pub calls_of_all : List Function → ℕ
+calls_of_all [] = 0
+calls_of_all (f ∷ fs) = calls f.body + calls_of_all fs
+
+-- scalars and temporaries alone
+abbrev pub AreLasting : List ℕ → Type 0
+AreLasting [] = Unit {0}
+AreLasting (v ∷ vs) = (stays v ≡ true) × AreLasting vs
+
+abbrev pub EachLasting : List (List ℕ) → Type 0
+EachLasting [] = Unit {0}
+EachLasting (vs ∷ lists) = AreLasting vs × EachLasting lists
+
+-- one list for each call, of variables that can be kept
+pub record FitsLists (P : Program) (lists : List (List ℕ)) : Type 0 where
+  pub each : length lists ≡ calls_of_all P.functions
+  pub lasting : EachLasting lists
+
+-- WHAT IT DOES
+
+-- the states are the same but for variables
+pub record SameOutside (s t : State) : Type 0 where
+  pub memory : t.memory ≡ s.memory
+  pub input : t.input ≡ s.input
+  pub output : t.output ≡ s.output
+  pub rounds : t.rounds ≡ s.rounds
+
+pub record Reaches (end : State → Res) (s : State) (r : Res) : Type 0 where
+  pub state : State
+  pub same : r ≡ end state
+  pub outside : SameOutside s state
+
+-- the second ending is the first, but for variables and where the first is not Wild
+abbrev pub EndsAs : Res → Res → Type 0
+EndsAs (Gone s m) r = Reaches (λ t. Gone t m) s r
+EndsAs (Broke s m) r = Reaches (λ t. Broke t m) s r
+EndsAs (Again s m) r = Reaches (λ t. Again t m) s r
+EndsAs (Gave w s m) r = Reaches (λ t. Gave w t m) s r
+EndsAs (TooDeep out) r = r ≡ TooDeep out
+EndsAs (Unfinished out n) r = r ≡ Unfinished out n
+EndsAs Wild r = Unit {0}
+
+-- a mode in which runs that are not tame are Wild
+abbrev pub tame_and : Bool → Checks
+tame_and clean = record { tame = true; clean = clean }
+
+-- Wherever the program's run is tame, the run of the program whose calls keep only these variables
+-- ends as it does, with the same value, output, input, memory and rounds, and the same turns left.
+abbrev pub KeepsMeaning : Program → List (List ℕ) → Type 0
+KeepsMeaning P lists = (clean : Bool) (input : List ℕ) (m : ℕ)
+    → EndsAs (flat_run (tame_and clean) P input m)
+    (flat_run (tame_and clean) (assigned_program P lists) input m)
