@@ -1,0 +1,14 @@
+pub mod Found
+pub mod Renaming
+pub mod Standing
+pub mod Outcome
+pub mod Edges
+pub mod Alike
+pub mod Totals
+pub mod ListFacts
+pub mod Choosing
+pub mod StillFits
+pub mod StillGood
+pub mod StillInOrder
+pub mod Shuffles
+pub mod StandardFacts
