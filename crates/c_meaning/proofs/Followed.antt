@@ -1,10 +1,10 @@
 -- An expression before a frame, which is taken off at once where the expression is evaluated.
 use Rattle.std.proofs.Common.{◌≡◌, ℕ, suc, List, [], ◌∷◌, ◌++◌, map, reverse, length, refl, sym, ap}
 use Rattle.std.proofs.Common.{subst, ◌∙◌, arith}
-use Rattle.c_eval.specs.declared.Signal.{Signal}
-use Rattle.c_eval.specs.State.{State}
-use Rattle.c_steps.specs.Follow.{Follow, Step, Pushes, Does, Gives, Ends, Behind, under}
-use Rattle.c_steps.specs.Ahead.{Next, ToDo, Given, Ended, NotGiven, IsStep}
+use Rattle.c_meaning_spec.specs.declared.Signal.{Signal}
+use Rattle.c_meaning_spec.specs.State.{State}
+use Rattle.c_meaning_steps.specs.Follow.{Follow, Step, Pushes, Does, Gives, Ends, Behind, under}
+use Rattle.c_meaning_steps.specs.Ahead.{Next, ToDo, Given, Ended, NotGiven, IsStep}
 use Rattle.c_meaning.specs.View.{follow, frames, next, step_of}
 use Rattle.c_meaning.specs.declared.frame.Frame.{Frame}
 use Rattle.c_meaning.specs.declared.frame.Move.{Move}

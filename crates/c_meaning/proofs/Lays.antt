@@ -7,7 +7,7 @@ use Rattle.std.proofs.Common.{length-drop, append_assoc}
 use Rattle.std.proofs.lemmas.List.{take-append-le, drop-append-le, length-replicate, length-map}
 use Rattle.std.proofs.lemmas.List.{map-append}
 use Rattle.std.proofs.lemmas.Bool.Decides.{nat_tests}
-use Rattle.c_eval.specs.State.{cell_in, row_in}
+use Rattle.c_meaning_spec.specs.State.{cell_in, row_in}
 use Rattle.c_meaning.specs.declared.arrays.Cell.{Cell}
 use Rattle.c_meaning.specs.declared.arrays.Span.{Span}
 use Rattle.c_meaning.specs.Cells.{shown, row_of, rows, total, Follows, SpansKnown, CellsKnown}

@@ -7,7 +7,7 @@ use Rattle.std.specs.Prelude.{option_map}
 use Rattle.std.proofs.lemmas.List.{drop-set-lt, drop-set-add, take-set-le, map-set}
 use Rattle.std.proofs.Math.Seq.{take-set-lt}
 use Rattle.std.proofs.lemmas.Option.{slice_get-map, slice_get_past, slice_get-get_or}
-use Rattle.c_eval.specs.State.{cell_in, held, row_in, element_set}
+use Rattle.c_meaning_spec.specs.State.{cell_in, held, row_in, element_set}
 use Rattle.c_meaning.specs.declared.arrays.Cell.{Cell}
 use Rattle.c_meaning.specs.declared.arrays.Span.{Span}
 use Rattle.c_meaning.specs.Cells.{shown, row_of, rows, total, Follows}

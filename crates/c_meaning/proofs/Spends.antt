@@ -1,8 +1,8 @@
 -- A step that is spent.
 use Rattle.std.proofs.Common.{◌≡◌, ℕ, zero, suc, ◌-◌, refl, ap, arith}
-use Rattle.c_eval.specs.State.{State}
-use Rattle.c_steps.specs.Follow.{Step, spend_step_of}
-use Rattle.c_steps.specs.Operands.{Fetch, spend_fetch_of}
+use Rattle.c_meaning_spec.specs.State.{State}
+use Rattle.c_meaning_steps.specs.Follow.{Step, spend_step_of}
+use Rattle.c_meaning_steps.specs.Operands.{Fetch, spend_fetch_of}
 
 pub fetch-spent : (k : ℕ) (s : State) (next : State → Fetch) → (k ≡ 0 → ⊥)
     → next (record s { stock = k - 1 }) ≡ spend_fetch_of k s next

@@ -5,20 +5,20 @@ use Rattle.std.proofs.lemmas.Bool.Decides.{nat_tests}
 use Rattle.std.proofs.lemmas.List.{length-reverse, length-map}
 use Rattle.c_tree.specs.declared.Callee.{Callee}
 use Rattle.c_tree.specs.declared.TypedProgram.{TypedProgram}
-use Rattle.c_eval.specs.declared.Signal.{Signal}
-use Rattle.c_eval.specs.declared.Ending.{Ending}
-use Rattle.c_eval.specs.State.{State, Result, Go, Over, then}
-use Rattle.c_eval.specs.Task.{Task}
-use Rattle.c_eval.specs.Call.{called}
-use Rattle.c_eval.specs.Eval.{meaning}
-use Rattle.c_steps.specs.Follow.{Follow}
-use Rattle.c_steps.specs.ExpressionSteps.{called_step}
-use Rattle.c_steps.specs.StatementSteps.{act_step}
-use Rattle.c_steps.specs.ResumeSteps.{resume_step}
-use Rattle.c_steps.specs.Ahead.{Next, ToDo, Given, Ended, ahead_next, rank, is_over, is_empty}
-use Rattle.c_steps.specs.Ahead.{unwind_of, IsReached, IsStep}
-use Rattle.c_steps.proofs.Moves.{act-keeps, resume-keeps, step-ahead, ahead-is, s-called}
-use Rattle.c_steps.proofs.Ranks.{act-falls, resume-falls}
+use Rattle.c_meaning_spec.specs.declared.Signal.{Signal}
+use Rattle.c_meaning_spec.specs.declared.Ending.{Ending}
+use Rattle.c_meaning_spec.specs.State.{State, Result, Go, Over, then}
+use Rattle.c_meaning_spec.specs.Task.{Task}
+use Rattle.c_meaning_spec.specs.Call.{called}
+use Rattle.c_meaning_spec.specs.Eval.{meaning}
+use Rattle.c_meaning_steps.specs.Follow.{Follow}
+use Rattle.c_meaning_steps.specs.ExpressionSteps.{called_step}
+use Rattle.c_meaning_steps.specs.StatementSteps.{act_step}
+use Rattle.c_meaning_steps.specs.ResumeSteps.{resume_step}
+use Rattle.c_meaning_steps.specs.Ahead.{Next, ToDo, Given, Ended, ahead_next, rank, is_over, is_empty}
+use Rattle.c_meaning_steps.specs.Ahead.{unwind_of, IsReached, IsStep}
+use Rattle.c_meaning_steps.proofs.Moves.{act-keeps, resume-keeps, step-ahead, ahead-is, s-called}
+use Rattle.c_meaning_steps.proofs.Ranks.{act-falls, resume-falls}
 use Rattle.c_meaning.specs.View.{follow, frames}
 use Rattle.c_meaning.specs.declared.frame.Frame.{Frame}
 use Rattle.c_meaning.proofs.Lists.{stack_push}

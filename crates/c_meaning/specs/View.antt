@@ -3,17 +3,17 @@ use Rattle.std.specs.Prelude.{List, map, reverse, Option, Some, None}
 use Rattle.std.specs.Borrow.{Bor}
 use Rattle.c_tree.specs.declared.TypedExpr.{TypedExpr}
 use Rattle.c_tree.specs.declared.TypedStmt.{TypedStmt}
-use Rattle.c_eval.specs.State.{State}
-use Rattle.c_eval.specs.Task.{Of, Run, Turn}
-use Rattle.c_eval.specs.Task as meant
-use Rattle.c_steps.specs.Follow.{Follow, FConverting, FUnary, FElement, FArgument, FLeft, FRight}
-use Rattle.c_steps.specs.Follow.{FAnd, FOr, FTruth, FValued, FChoice, FComma, FAssignElement}
-use Rattle.c_steps.specs.Follow.{FAssigned, FCompounded, FBumpElement, FCaller, FDropped}
-use Rattle.c_steps.specs.Follow.{FInitialised, FSequence, FIf, FThenTurn, FLocals, FTest, FBody}
-use Rattle.c_steps.specs.Follow.{FReturning, Step, Does, Gives, Ends}
-use Rattle.c_steps.specs.Ahead.{Next, ToDo, Given, Ended, IsStep}
-use Rattle.c_steps.specs.Operands.{Fetched, Failed}
-use Rattle.c_steps.specs.Operands as operands
+use Rattle.c_meaning_spec.specs.State.{State}
+use Rattle.c_meaning_spec.specs.Task.{Of, Run, Turn}
+use Rattle.c_meaning_spec.specs.Task as meant
+use Rattle.c_meaning_steps.specs.Follow.{Follow, FConverting, FUnary, FElement, FArgument, FLeft, FRight}
+use Rattle.c_meaning_steps.specs.Follow.{FAnd, FOr, FTruth, FValued, FChoice, FComma, FAssignElement}
+use Rattle.c_meaning_steps.specs.Follow.{FAssigned, FCompounded, FBumpElement, FCaller, FDropped}
+use Rattle.c_meaning_steps.specs.Follow.{FInitialised, FSequence, FIf, FThenTurn, FLocals, FTest, FBody}
+use Rattle.c_meaning_steps.specs.Follow.{FReturning, Step, Does, Gives, Ends}
+use Rattle.c_meaning_steps.specs.Ahead.{Next, ToDo, Given, Ended, IsStep}
+use Rattle.c_meaning_steps.specs.Operands.{Fetched, Failed}
+use Rattle.c_meaning_steps.specs.Operands as operands
 use Rattle.c_meaning.specs.declared.fetch.Fetch.{Fetch}
 use Rattle.c_meaning.specs.declared.fetch.Fetch.TheVariants as fetch
 use Rattle.c_meaning.specs.declared.store.Store.{Store}

@@ -1,7 +1,7 @@
 ghost use Rattle.std.specs.Prelude.{◌≡◌, ◌+◌, ◌-◌, ◌<◌, ◌≤◌, ℕ, [], ◌∷◌, ◌++◌, map, length, take};
 ghost use Rattle.std.specs.Prelude.{replicate, slice_get, slice_set, Some, None, ◌↔◌, IsTrue};
 ghost use Rattle.std.specs.Prelude.{IsFalse, IsSome, IfOk, OnOk};
-ghost use Rattle.c_eval.specs.State.{cell_in, held, row_in, element_set};
+ghost use Rattle.c_meaning_spec.specs.State.{cell_in, held, row_in, element_set};
 ghost use Rattle.c_meaning.specs.Cells.{CellsKnown, SpansKnown, Follows, shown, worded, rows};
 ghost use Rattle.c_meaning.specs.Cells.{total};
 

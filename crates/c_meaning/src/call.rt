@@ -1,15 +1,15 @@
 ghost use Rattle.std.specs.Prelude.{◌≡◌, ◌+◌, ◌-◌, ◌*◌, ◌<◌, ◌≤◌, ◌^◌, ◌++◌, ◌∷◌, [], map, length};
 ghost use Rattle.std.specs.Prelude.{replicate, true, Some, None, IfOk, OnOk, SomeIff, slice_get};
-ghost use Rattle.c_eval.specs.Call.{array_bytes, frame as frame_of, scalars_of, unset_array};
-ghost use Rattle.c_steps.specs.ExpressionSteps.{entered_step, enter_step, read_step, get_step};
-ghost use Rattle.c_steps.specs.ExpressionSteps.{put_step, called_step, arguments_step};
+ghost use Rattle.c_meaning_spec.specs.Call.{array_bytes, frame as frame_of, scalars_of, unset_array};
+ghost use Rattle.c_meaning_steps.specs.ExpressionSteps.{entered_step, enter_step, read_step, get_step};
+ghost use Rattle.c_meaning_steps.specs.ExpressionSteps.{put_step, called_step, arguments_step};
 ghost use Rattle.c_meaning.specs.View.{behind, Makes};
 
 use crate::arrays::Arrays;
 use crate::fetch::Fetch;
 use crate::frame::{Frame, Move, Task};
 use crate::machine::Machine;
-use c_eval::{Ending, Signal};
+use c_meaning_spec::{Ending, Signal};
 use c_tree::{Callee, Kind, TypedArray, TypedExpr, TypedFunc, TypedProgram};
 use std::alloc::{AllocError, Global};
 

@@ -1,9 +1,9 @@
 ghost use Rattle.std.specs.Prelude.{◌≡◌, ◌+◌, ◌<◌, [], map, length, false, IfOk, OnOk};
-ghost use Rattle.c_eval.specs.State.{Result as Reached};
-ghost use Rattle.c_eval.specs.Call.{called as called_by};
-ghost use Rattle.c_eval.specs.Eval.{first_cells, length_of as length_in, start, outcome};
-ghost use Rattle.c_eval.specs.Eval.{main_result as result_of_main, eval, meaning};
-ghost use Rattle.c_steps.specs.Ahead.{ahead_next, rank, is_over as is_over_of, IsReached};
+ghost use Rattle.c_meaning_spec.specs.State.{Result as Reached};
+ghost use Rattle.c_meaning_spec.specs.Call.{called as called_by};
+ghost use Rattle.c_meaning_spec.specs.Eval.{first_cells, length_of as length_in, start, outcome};
+ghost use Rattle.c_meaning_spec.specs.Eval.{main_result as result_of_main, eval, meaning};
+ghost use Rattle.c_meaning_steps.specs.Ahead.{ahead_next, rank, is_over as is_over_of, IsReached};
 ghost use Rattle.c_meaning.specs.View.{next, view, frames};
 ghost use Rattle.c_meaning.specs.Answer.{answer};
 
@@ -13,7 +13,7 @@ use crate::machine::Machine;
 use crate::outcome::Outcome;
 use crate::store::Store;
 use base::{Items, Memory};
-use c_eval::{Ending, Signal};
+use c_meaning_spec::{Ending, Signal};
 use c_tree::{Callee, TypedProgram};
 use std::alloc::{AllocError, Global};
 

@@ -1,14 +1,14 @@
 ghost use Rattle.std.specs.Prelude.{◌≡◌, IfOk, slice_get};
-ghost use Rattle.c_eval.specs.Expression.{node_of};
-ghost use Rattle.c_eval.specs.Task.{is_array as is_array_in, has_length};
-ghost use Rattle.c_steps.specs.Follow.{FElement, FLeft, FAssignElement, FAssigned, FCompounded};
-ghost use Rattle.c_steps.specs.Follow.{some_step, store_step};
-ghost use Rattle.c_steps.specs.Operands.{operand_step};
-ghost use Rattle.c_steps.specs.ExpressionSteps.{name_step, assigned_step, compounded_step};
-ghost use Rattle.c_steps.specs.ExpressionSteps.{assign_to_step, assign_element_step, assign_step};
-ghost use Rattle.c_steps.specs.ExpressionSteps.{right_step, element_step};
-ghost use Rattle.c_steps.specs.ExpressionSteps.{bump_object_step, bump_step, binary_step};
-ghost use Rattle.c_steps.specs.ExpressionSteps.{opened_step, node_step, conversion_step, of_step};
+ghost use Rattle.c_meaning_spec.specs.Expression.{node_of};
+ghost use Rattle.c_meaning_spec.specs.Task.{is_array as is_array_in, has_length};
+ghost use Rattle.c_meaning_steps.specs.Follow.{FElement, FLeft, FAssignElement, FAssigned, FCompounded};
+ghost use Rattle.c_meaning_steps.specs.Follow.{some_step, store_step};
+ghost use Rattle.c_meaning_steps.specs.Operands.{operand_step};
+ghost use Rattle.c_meaning_steps.specs.ExpressionSteps.{name_step, assigned_step, compounded_step};
+ghost use Rattle.c_meaning_steps.specs.ExpressionSteps.{assign_to_step, assign_element_step, assign_step};
+ghost use Rattle.c_meaning_steps.specs.ExpressionSteps.{right_step, element_step};
+ghost use Rattle.c_meaning_steps.specs.ExpressionSteps.{bump_object_step, bump_step, binary_step};
+ghost use Rattle.c_meaning_steps.specs.ExpressionSteps.{opened_step, node_step, conversion_step, of_step};
 ghost use Rattle.c_meaning.specs.View.{view, Makes};
 
 use crate::call::spare;
@@ -17,7 +17,7 @@ use crate::frame::{Frame, Move, Operand, Task};
 use crate::machine::Machine;
 use crate::store::scalar_of;
 use crate::words::{binary_of, bump_of, bump_value, compound_of};
-use c_eval::{Ending, Object, Signal};
+use c_meaning_spec::{Ending, Object, Signal};
 use c_tree::{BinaryOp, BumpOp, Kind, Place, TypedExpr, TypedNode, TypedProgram};
 use std::alloc::AllocError;
 

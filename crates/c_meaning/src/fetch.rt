@@ -1,15 +1,15 @@
 ghost use Rattle.std.specs.Prelude.{◌≡◌, Some};
-ghost use Rattle.c_eval.specs.Expression.{node_of};
-ghost use Rattle.c_steps.specs.Operands.{given_fetch, leaf_fetch, operated_fetch, operation_fetch};
-ghost use Rattle.c_steps.specs.Operands.{binary_fetch, indexed_fetch, element_fetch};
-ghost use Rattle.c_steps.specs.Operands.{fetch as fetch_of, leaf_of as leaf_of_node};
-ghost use Rattle.c_steps.specs.Operands.{spend_fetch, then_fetch};
+ghost use Rattle.c_meaning_spec.specs.Expression.{node_of};
+ghost use Rattle.c_meaning_steps.specs.Operands.{given_fetch, leaf_fetch, operated_fetch, operation_fetch};
+ghost use Rattle.c_meaning_steps.specs.Operands.{binary_fetch, indexed_fetch, element_fetch};
+ghost use Rattle.c_meaning_steps.specs.Operands.{fetch as fetch_of, leaf_of as leaf_of_node};
+ghost use Rattle.c_meaning_steps.specs.Operands.{spend_fetch, then_fetch};
 ghost use Rattle.c_meaning.specs.View.{view, fetched};
 
 use crate::store::Store;
 use crate::words::binary_of;
-use c_eval::{Ending, Object};
-use c_steps::{Leaf, leaf_at, leaf_of};
+use c_meaning_spec::{Ending, Object};
+use c_meaning_steps::{Leaf, leaf_at, leaf_of};
 use c_tree::{BinaryOp, Kind, Place, TypedExpr, TypedNode};
 
 /// What fetching an operand comes to: its word, an ending, or nothing where it needs frames.

@@ -1,4 +1,4 @@
-use c_eval::{Ending, Object, Signal};
+use c_meaning_spec::{Ending, Object, Signal};
 use c_tree::{BinaryOp, BumpOp, Callee, Kind, Place, TypedExpr, TypedStmt, UnaryOp};
 
 /// A loop from its test on.

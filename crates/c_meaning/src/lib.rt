@@ -1,5 +1,5 @@
 //! The evaluation of typed programs (docs/LANGUAGE.md), exactly as the definition `eval` of
-//! `c_eval` has it.
+//! `c_meaning_spec` has it.
 #![tactic(auto)]
 
 mod arrays;

@@ -1,11 +1,11 @@
 ghost use Rattle.std.specs.Prelude.{◌≡◌, IfOk};
-ghost use Rattle.c_eval.specs.Expression.{node_of};
-ghost use Rattle.c_steps.specs.Follow.{Pushes, given_step, store_step};
+ghost use Rattle.c_meaning_spec.specs.Expression.{node_of};
+ghost use Rattle.c_meaning_steps.specs.Follow.{Pushes, given_step, store_step};
 ghost use Rattle.c_meaning.specs.View.{view, task_of, follow, Makes};
 
 use crate::frame::{Frame, Move, Task};
 use crate::store::Store;
-use c_eval::{Ending, Object, Signal};
+use c_meaning_spec::{Ending, Object, Signal};
 use std::alloc::{AllocError, Global};
 
 /// An evaluation under way: what it goes over, and what follows.

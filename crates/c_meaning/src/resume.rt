@@ -1,9 +1,9 @@
 ghost use Rattle.std.specs.Prelude.{◌≡◌, IfOk, take};
-ghost use Rattle.c_eval.specs.Word.{truth_of};
-ghost use Rattle.c_steps.specs.Follow.{Gives};
-ghost use Rattle.c_steps.specs.StatementSteps.{sequence_step, locals_step, act_step};
-ghost use Rattle.c_steps.specs.ResumeSteps.{value_step, returned_step, going_on_step};
-ghost use Rattle.c_steps.specs.ResumeSteps.{body_step, resume_step};
+ghost use Rattle.c_meaning_spec.specs.Word.{truth_of};
+ghost use Rattle.c_meaning_steps.specs.Follow.{Gives};
+ghost use Rattle.c_meaning_steps.specs.StatementSteps.{sequence_step, locals_step, act_step};
+ghost use Rattle.c_meaning_steps.specs.ResumeSteps.{value_step, returned_step, going_on_step};
+ghost use Rattle.c_meaning_steps.specs.ResumeSteps.{body_step, resume_step};
 ghost use Rattle.c_meaning.specs.View.{view, behind, task_of, follow, follow_operand, follow_turn};
 ghost use Rattle.c_meaning.specs.View.{Makes};
 
@@ -11,7 +11,7 @@ use crate::frame::{Frame, Loop, Move, Operand, Stage, Task};
 use crate::machine::Machine;
 use crate::words::{binary_of, compound_of, unary_of};
 use c_constant::convert;
-use c_eval::{Ending, Object, Signal};
+use c_meaning_spec::{Ending, Object, Signal};
 use c_tree::{TypedExpr, TypedProgram, TypedStmt};
 use std::alloc::AllocError;
 

@@ -1,25 +1,25 @@
 ghost use Rattle.std.specs.Prelude.{◌≡◌, IfOk, slice_get, Some, None};
-ghost use Rattle.c_eval.specs.Task.{Run};
-ghost use Rattle.c_steps.specs.Follow.{Pushes, FBody, FIf, FReturning, FInitialised, FTest};
-ghost use Rattle.c_steps.specs.Follow.{under};
-ghost use Rattle.c_steps.specs.Operands.{operand_step};
-ghost use Rattle.c_steps.specs.ExpressionSteps.{of_step};
-ghost use Rattle.c_steps.specs.StatementSteps.{plain_step};
-ghost use Rattle.c_eval.specs.Expression.{node_of};
+ghost use Rattle.c_meaning_spec.specs.Task.{Run};
+ghost use Rattle.c_meaning_steps.specs.Follow.{Pushes, FBody, FIf, FReturning, FInitialised, FTest};
+ghost use Rattle.c_meaning_steps.specs.Follow.{under};
+ghost use Rattle.c_meaning_steps.specs.Operands.{operand_step};
+ghost use Rattle.c_meaning_steps.specs.ExpressionSteps.{of_step};
+ghost use Rattle.c_meaning_steps.specs.StatementSteps.{plain_step};
+ghost use Rattle.c_meaning_spec.specs.Expression.{node_of};
 ghost use Rattle.c_meaning.specs.View.{follow, step_of};
 ghost use Rattle.c_tree.specs.declared.TypedStmt.{out-TypedStmt};
 ghost use Rattle.c_tree.specs.declared.TypedForInit.{out-TypedForInit};
-ghost use Rattle.c_steps.specs.StatementSteps.{sequence_step, declare_step, unset_row_step};
-ghost use Rattle.c_steps.specs.StatementSteps.{then_turn_step, locals_step, begin_step, turn_step};
-ghost use Rattle.c_steps.specs.StatementSteps.{begun_step, statement_step, after_if_step};
-ghost use Rattle.c_steps.specs.StatementSteps.{after_test_step, returning_step, initialised_step};
+ghost use Rattle.c_meaning_steps.specs.StatementSteps.{sequence_step, declare_step, unset_row_step};
+ghost use Rattle.c_meaning_steps.specs.StatementSteps.{then_turn_step, locals_step, begin_step, turn_step};
+ghost use Rattle.c_meaning_steps.specs.StatementSteps.{begun_step, statement_step, after_if_step};
+ghost use Rattle.c_meaning_steps.specs.StatementSteps.{after_test_step, returning_step, initialised_step};
 ghost use Rattle.c_meaning.specs.View.{behind, Makes};
 
 use crate::fetch::Fetch;
 use crate::frame::{Frame, Loop, Move, Stage, Task};
 use crate::machine::Machine;
 use base::Boxed;
-use c_eval::{Ending, Object, Signal};
+use c_meaning_spec::{Ending, Object, Signal};
 use c_tree::{Place, TypedExpr, TypedForInit, TypedProgram, TypedStmt};
 use std::alloc::AllocError;
 

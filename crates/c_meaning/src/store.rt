@@ -1,12 +1,12 @@
 ghost use Rattle.std.specs.Prelude.{◌≡◌, map, Some, replicate, ◌++◌, ◌-◌, length, ◌↔◌, IsTrue};
 ghost use Rattle.std.specs.Prelude.{IsFalse, IsSome, IfOk, OnOk, slice_get, slice_set, None};
-ghost use Rattle.c_eval.specs.State.{held, cell, written};
-ghost use Rattle.c_eval.specs.Task.{array_of as array_number, element_of as element_object};
-ghost use Rattle.c_eval.specs.Task.{scalar_of as scalar_object};
+ghost use Rattle.c_meaning_spec.specs.State.{held, cell, written};
+ghost use Rattle.c_meaning_spec.specs.Task.{array_of as array_number, element_of as element_object};
+ghost use Rattle.c_meaning_spec.specs.Task.{scalar_of as scalar_object};
 ghost use Rattle.c_meaning.specs.View.{view};
 
 use crate::arrays::Arrays;
-use c_eval::Object;
+use c_meaning_spec::Object;
 use c_tree::Place;
 use std::alloc::AllocError;
 

@@ -1,6 +1,6 @@
 ghost use Rattle.std.specs.Prelude.{◌≡◌};
 ghost use Rattle.c_constant.specs.Kinds as kinds;
-ghost use Rattle.c_eval.specs.Word as words;
+ghost use Rattle.c_meaning_spec.specs.Word as words;
 
 use c_constant::{convert, operation, unary};
 use c_tree::{BinaryOp, BumpOp, Kind, UnaryOp};

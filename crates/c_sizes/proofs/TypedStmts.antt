@@ -16,12 +16,12 @@ use Rattle.c_scope.specs.Scope.{Scope}
 use Rattle.c_type_expr.specs.declared.role.Role.{Role}
 use Rattle.c_type_expr.specs.Trees.{converted}
 use Rattle.c_type.specs.declared.state.State.{State}
-use Rattle.c_typing_rules.specs.Statements.{FullIf, absent, present, Initialises, without_value}
-use Rattle.c_typing_rules.specs.Statements.{with_value, Types, scalar_declared, array_declared}
-use Rattle.c_typing_rules.specs.Statements.{expression, block, either, while_loop, do_loop}
-use Rattle.c_typing_rules.specs.Statements.{for_loop, breaks, continues, returns, returns_value}
-use Rattle.c_typing_rules.specs.Statements.{TypesAll, no_more, one_more, without_else}
-use Rattle.c_typing_rules.specs.Statements.{with_else, Begins, no_first, first_value, first_locals}
+use Rattle.c_type_rules.specs.Statements.{FullIf, absent, present, Initialises, without_value}
+use Rattle.c_type_rules.specs.Statements.{with_value, Types, scalar_declared, array_declared}
+use Rattle.c_type_rules.specs.Statements.{expression, block, either, while_loop, do_loop}
+use Rattle.c_type_rules.specs.Statements.{for_loop, breaks, continues, returns, returns_value}
+use Rattle.c_type_rules.specs.Statements.{TypesAll, no_more, one_more, without_else}
+use Rattle.c_type_rules.specs.Statements.{with_else, Begins, no_first, first_value, first_locals}
 use Rattle.c_sizes.specs.Nodes as nodes
 use Rattle.c_sizes.proofs.Trees.{nodes-Declare, nodes-Plain, nodes-Compound, nodes-If, nodes-While}
 use Rattle.c_sizes.proofs.Trees.{nodes-Do, nodes-For, nodes-Break, nodes-Continue, nodes-Return}

@@ -9,9 +9,9 @@ use Rattle.c_tree.specs.declared.typed.TypedForInit.TheOpen as level
 use Rattle.c_scope.specs.Scope.{Scope}
 use Rattle.c_type.specs.declared.file_scope.FileScope.{FileScope}
 use Rattle.c_type.specs.declared.state.State.{State}
-use Rattle.c_typing_rules.specs.Units.{Body, outermost, other, typed_function, Item, include}
-use Rattle.c_typing_rules.specs.Units.{include_again, global, prototype, definition, Items, no_item}
-use Rattle.c_typing_rules.specs.Units.{one_item, accepts}
+use Rattle.c_type_rules.specs.Units.{Body, outermost, other, typed_function, Item, include}
+use Rattle.c_type_rules.specs.Units.{include_again, global, prototype, definition, Items, no_item}
+use Rattle.c_type_rules.specs.Units.{one_item, accepts}
 use Rattle.c_sizes.specs.Nodes.{stmt_nodes, top_nodes, unit_nodes}
 use Rattle.c_sizes.specs.Laws.{ProgramsAreSmall, ProgramsHaveRoom}
 use Rattle.c_sizes.proofs.Trees.{nodes-Compound}

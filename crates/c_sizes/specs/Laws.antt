@@ -5,9 +5,9 @@ use Rattle.c_tree.specs.declared.tree.Program.{Program}
 use Rattle.c_tree.specs.declared.tree.Top.{Top}
 use Rattle.c_tree.specs.declared.typed.TypedProgram.{TypedProgram}
 use Rattle.c_grammar.specs.Answers.{IsUnit}
-use Rattle.c_typing_rules.specs.Units.{Accepts}
+use Rattle.c_type_rules.specs.Units.{Accepts}
 use Rattle.flat_lower.specs.TreeViews.{source_of}
-use Rattle.flat_fits.specs.Nodes.{source_size}
+use Rattle.flat_lower_limits.specs.Nodes.{source_size}
 use Rattle.c_sizes.specs.Nodes.{unit_nodes}
 
 -- a unit has no more nodes than its text has tokens

@@ -34,8 +34,8 @@ use Rattle.c_constant.specs.Constant.{or_value, two_value, binary_value, choice_
 use Rattle.c_constant.proofs.Nodes.{value-Number, value-Group, value-Unary, value-Cast}
 use Rattle.c_constant.proofs.Nodes.{value-Binary, value-Choice}
 use Rattle.c_type_expr.specs.Says.{at}
-use Rattle.c_typing_rules.specs.Constants.{IsConstant}
-use Rattle.c_typing_rules.specs.Constants as is
+use Rattle.c_type_rules.specs.Constants.{IsConstant}
+use Rattle.c_type_rules.specs.Constants as is
 use Rattle.c_words.specs.Words.{IsWordOf}
 use Rattle.c_words.specs.Trees as plain
 use Rattle.c_words.proofs.TypedWords.{opened, word_of_number, in_group, in_unary, in_cast}

@@ -18,8 +18,8 @@ use Rattle.c_type.specs.declared.file_scope.FileScope.{FileScope}
 use Rattle.c_type.specs.declared.state.State.{State}
 use Rattle.c_type.specs.Functions.{entry}
 use Rattle.c_type.specs.Programs.{table, empty_file}
-use Rattle.c_typing_rules.specs.Units.{Values, Body, Item, Items, Accepts}
-use Rattle.c_typing_rules.specs.Units as typing
+use Rattle.c_type_rules.specs.Units.{Values, Body, Item, Items, Accepts}
+use Rattle.c_type_rules.specs.Units as typing
 use Rattle.c_words.specs.Words.{AreWordsOf}
 use Rattle.c_words.specs.Trees.{ExprsHaveWords, one_expr, StmtHasWords, TopHasWords, UnitHasWords}
 use Rattle.c_words.specs.TypedTrees.{GlobalsHaveWords, FunctionsHaveWords, ProgramHasWords}

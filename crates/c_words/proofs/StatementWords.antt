@@ -24,8 +24,8 @@ use Rattle.c_type_expr.specs.declared.role.Role.{Role}
 use Rattle.c_type_expr.specs.declared.role.Role.TheVariants.{Value, Free}
 use Rattle.c_type.specs.declared.state.State.{State}
 use Rattle.c_type.specs.States.{entered, with_scalar}
-use Rattle.c_typing_rules.specs.Statements.{FullIf, Initialises, Types, TypesAll, TypesIf, Begins}
-use Rattle.c_typing_rules.specs.Statements as typing
+use Rattle.c_type_rules.specs.Statements.{FullIf, Initialises, Types, TypesAll, TypesIf, Begins}
+use Rattle.c_type_rules.specs.Statements as typing
 use Rattle.c_words.specs.Trees as plain
 use Rattle.c_words.specs.TypedTrees as words
 use Rattle.c_words.proofs.TypedWords.{converted_has, typed_has}

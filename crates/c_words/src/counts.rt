@@ -4,7 +4,7 @@ ghost use Rattle.c_tree.specs.declared.tree.Program.{Program};
 ghost use Rattle.c_tree.specs.declared.tree.Top.{Top};
 ghost use Rattle.c_tree.specs.declared.typed.TypedProgram.{TypedProgram};
 ghost use Rattle.c_grammar.specs.Answers.{IsUnit};
-ghost use Rattle.c_typing_rules.specs.Units.{Accepts};
+ghost use Rattle.c_type_rules.specs.Units.{Accepts};
 
 /// A unit has no more items than tokens, and its typed program no more globals than the unit has
 /// items. It does nothing when it runs.

@@ -2,7 +2,7 @@
 
 ghost use Rattle.c_tree.specs.declared.tree.Program.{Program};
 ghost use Rattle.c_tree.specs.declared.typed.TypedProgram.{TypedProgram};
-ghost use Rattle.c_typing_rules.specs.Units.{Accepts};
+ghost use Rattle.c_type_rules.specs.Units.{Accepts};
 ghost use Rattle.c_words.specs.Trees.{UnitHasWords};
 ghost use Rattle.c_words.specs.TypedTrees.{ProgramHasWords};
 

@@ -12,18 +12,18 @@ use Rattle.c_tree.specs.declared.Slot.TheVariants as slot
 use Rattle.c_tree.specs.declared.TypedExpr.{TypedExpr}
 use Rattle.c_tree.specs.declared.TypedProgram.{TypedProgram}
 use Rattle.c_tree.specs.declared.TypedNode.TheOpen as node
-use Rattle.c_eval.specs.declared.signal.Signal.{Signal}
-use Rattle.c_eval.specs.declared.signal.Signal.TheVariants.{Nothing, Value, Breaks, Continues}
-use Rattle.c_eval.specs.declared.signal.Signal.TheVariants.{Returns}
-use Rattle.c_eval.specs.declared.signal.Object.TheVariants.{InScalar, InArray}
-use Rattle.c_eval.specs.State.{Result, Go, Over, then, spend, want, cell, held, load}
-use Rattle.c_eval.specs.State as eval
-use Rattle.c_eval.specs.Task.{Of, array_of, name, is_array}
-use Rattle.c_eval.specs.Call.{called, arguments}
-use Rattle.c_eval.specs.Expression.{Node, node_of, opened, expression}
-use Rattle.c_eval.specs.Eval.{meaning}
-use Rattle.c_eval.proofs.Equations.{meaning-is}
-use Rattle.c_eval.proofs.Induction.{meaning-falls}
+use Rattle.c_meaning_spec.specs.declared.signal.Signal.{Signal}
+use Rattle.c_meaning_spec.specs.declared.signal.Signal.TheVariants.{Nothing, Value, Breaks, Continues}
+use Rattle.c_meaning_spec.specs.declared.signal.Signal.TheVariants.{Returns}
+use Rattle.c_meaning_spec.specs.declared.signal.Object.TheVariants.{InScalar, InArray}
+use Rattle.c_meaning_spec.specs.State.{Result, Go, Over, then, spend, want, cell, held, load}
+use Rattle.c_meaning_spec.specs.State as eval
+use Rattle.c_meaning_spec.specs.Task.{Of, array_of, name, is_array}
+use Rattle.c_meaning_spec.specs.Call.{called, arguments}
+use Rattle.c_meaning_spec.specs.Expression.{Node, node_of, opened, expression}
+use Rattle.c_meaning_spec.specs.Eval.{meaning}
+use Rattle.c_meaning_spec.proofs.Equations.{meaning-is}
+use Rattle.c_meaning_spec.proofs.Induction.{meaning-falls}
 use Rattle.ir_forms.specs.declared.flat.Arg.TheVariants.{Const, Var}
 use Rattle.ir_forms.specs.FlatCode.{Code, Nop, Then}
 use Rattle.ir_forms.specs.FlatSteps.{State, read, read_all, beside}

@@ -20,18 +20,18 @@ use Rattle.c_tree.specs.declared.TypedProgram.{TypedProgram}
 use Rattle.c_tree.specs.declared.TypedNode.TheOpen as node
 use Rattle.c_constant.specs.Kinds.{converted}
 use Rattle.c_constant.specs.Operation.{operate, operate_one, result_of, unary_result}
-use Rattle.c_eval.specs.declared.signal.Signal.{Signal}
-use Rattle.c_eval.specs.declared.signal.Signal.TheVariants.{Nothing, Value, Breaks, Continues}
-use Rattle.c_eval.specs.declared.signal.Signal.TheVariants.{Returns}
-use Rattle.c_eval.specs.declared.signal.Object.{Object}
-use Rattle.c_eval.specs.declared.signal.Object.TheVariants.{InScalar, InArray}
-use Rattle.c_eval.specs.State.{Result, Go, Over, then, spend, want, given, cell, held, load}
-use Rattle.c_eval.specs.State as eval
-use Rattle.c_eval.specs.Word.{is_false, truth_of, unary_of, binary_of}
-use Rattle.c_eval.specs.Task.{Of, array_of, element_in, element_of, name, is_array, element}
-use Rattle.c_eval.specs.Expression.{converting, unary, operated, after_left, truth, after_and}
-use Rattle.c_eval.specs.Expression.{after_or, binary, valued, after_choice, after_comma, opened}
-use Rattle.c_eval.specs.Eval.{meaning, length_of}
+use Rattle.c_meaning_spec.specs.declared.signal.Signal.{Signal}
+use Rattle.c_meaning_spec.specs.declared.signal.Signal.TheVariants.{Nothing, Value, Breaks, Continues}
+use Rattle.c_meaning_spec.specs.declared.signal.Signal.TheVariants.{Returns}
+use Rattle.c_meaning_spec.specs.declared.signal.Object.{Object}
+use Rattle.c_meaning_spec.specs.declared.signal.Object.TheVariants.{InScalar, InArray}
+use Rattle.c_meaning_spec.specs.State.{Result, Go, Over, then, spend, want, given, cell, held, load}
+use Rattle.c_meaning_spec.specs.State as eval
+use Rattle.c_meaning_spec.specs.Word.{is_false, truth_of, unary_of, binary_of}
+use Rattle.c_meaning_spec.specs.Task.{Of, array_of, element_in, element_of, name, is_array, element}
+use Rattle.c_meaning_spec.specs.Expression.{converting, unary, operated, after_left, truth, after_and}
+use Rattle.c_meaning_spec.specs.Expression.{after_or, binary, valued, after_choice, after_comma, opened}
+use Rattle.c_meaning_spec.specs.Eval.{meaning, length_of}
 use Rattle.trips_isa.specs.declared.op.Op.TheVariants as op
 use Rattle.trips_isa.specs.Alu.{alu_of, test}
 use Rattle.ir_forms.specs.declared.flat.Arg.TheVariants.{Const, Var}
@@ -71,10 +71,10 @@ use Rattle.flat_lower.proofs.Values.{value_end, operand, spending}
 use Rattle.flat_lower.proofs.Simple.{FollowsHere}
 use Rattle.c_tree.specs.declared.BumpOp.{BumpOp}
 use Rattle.c_tree.specs.declared.BumpOp.TheVariants.{PreInc, PreDec, PostInc, PostDec}
-use Rattle.c_eval.specs.State.{written, store, with_some}
-use Rattle.c_eval.specs.Word.{bump_of, bump_value}
-use Rattle.c_eval.specs.Task.{scalar_of}
-use Rattle.c_eval.specs.Expression.{Node, node_of, giving, bump_object, bump_element, bump}
+use Rattle.c_meaning_spec.specs.State.{written, store, with_some}
+use Rattle.c_meaning_spec.specs.Word.{bump_of, bump_value}
+use Rattle.c_meaning_spec.specs.Task.{scalar_of}
+use Rattle.c_meaning_spec.specs.Expression.{Node, node_of, giving, bump_object, bump_element, bump}
 use Rattle.ir_forms.specs.declared.flat.Arg.{Arg}
 use Rattle.ir_forms.specs.FlatCode.{Save}
 use Rattle.ir_forms.specs.FlatSteps.{with_memory}
@@ -94,9 +94,9 @@ use Rattle.flat_lower.proofs.Simple.{ElementIs, element_is, element_loaded, is_s
 use Rattle.flat_lower.proofs.Simple.{global_loaded}
 use Rattle.flat_lower.proofs.Stores.{scalar_sets, element_saves, Reaches, put_reaches, both_reach}
 use Rattle.flat_lower.proofs.Stores.{save_reaches, store_is}
-use Rattle.c_eval.specs.State.{store_in}
-use Rattle.c_eval.specs.Word.{converted_if, compound_of}
-use Rattle.c_eval.specs.Expression.{assigned, compounded, assign_to, assign_element, assign}
+use Rattle.c_meaning_spec.specs.State.{store_in}
+use Rattle.c_meaning_spec.specs.Word.{converted_if, compound_of}
+use Rattle.c_meaning_spec.specs.Expression.{assigned, compounded, assign_to, assign_element, assign}
 use Rattle.flat_lower.specs.Operations.{converted_to}
 use Rattle.flat_lower.specs.Expressions.{assign_name, old_name, compound_code, old_element}
 use Rattle.flat_lower.specs.Expressions.{assign_element as element_assign, before_right, right_at}

@@ -7,7 +7,7 @@ use Rattle.std.proofs.lemmas.Bool.Decides.{nat_tests}
 use Rattle.c_tree.specs.declared.Kind.{Kind}
 use Rattle.c_tree.specs.declared.Kind.TheVariants.{Char, UChar, Int, UInt, Long, ULong}
 use Rattle.c_constant.specs.Kinds.{converted}
-use Rattle.c_eval.specs.Call.{size_of}
+use Rattle.c_meaning_spec.specs.Call.{size_of}
 use Rattle.trips_isa.specs.declared.op.Op.{Op}
 use Rattle.trips_isa.specs.Alu.{loaded_as}
 use Rattle.trips_isa.specs.Forms as isa

@@ -14,17 +14,17 @@ use Rattle.c_tree.specs.declared.TypedStmt.{TypedStmt}
 use Rattle.c_tree.specs.declared.TypedFunc.{TypedFunc}
 use Rattle.c_tree.specs.declared.TypedProgram.{TypedProgram}
 use Rattle.c_tree.specs.declared.TypedNode.TheOpen as node
-use Rattle.c_eval.specs.declared.signal.Signal.{Signal}
-use Rattle.c_eval.specs.declared.signal.Signal.TheVariants.{Nothing, Value, Breaks, Continues}
-use Rattle.c_eval.specs.declared.signal.Signal.TheVariants.{Returns}
-use Rattle.c_eval.specs.declared.signal.Ending.TheVariants.{Undefined, Deep}
-use Rattle.c_eval.specs.State.{Result, Go, Over, then, spend, want}
-use Rattle.c_eval.specs.State as eval
-use Rattle.c_eval.specs.Task.{Of, Run}
-use Rattle.c_eval.specs.Call.{frame, entered, entered_if, enter, left, read_from, get_char}
-use Rattle.c_eval.specs.Call.{put_char, called, arguments}
-use Rattle.c_eval.specs.Expression.{opened}
-use Rattle.c_eval.specs.Eval.{meaning}
+use Rattle.c_meaning_spec.specs.declared.signal.Signal.{Signal}
+use Rattle.c_meaning_spec.specs.declared.signal.Signal.TheVariants.{Nothing, Value, Breaks, Continues}
+use Rattle.c_meaning_spec.specs.declared.signal.Signal.TheVariants.{Returns}
+use Rattle.c_meaning_spec.specs.declared.signal.Ending.TheVariants.{Undefined, Deep}
+use Rattle.c_meaning_spec.specs.State.{Result, Go, Over, then, spend, want}
+use Rattle.c_meaning_spec.specs.State as eval
+use Rattle.c_meaning_spec.specs.Task.{Of, Run}
+use Rattle.c_meaning_spec.specs.Call.{frame, entered, entered_if, enter, left, read_from, get_char}
+use Rattle.c_meaning_spec.specs.Call.{put_char, called, arguments}
+use Rattle.c_meaning_spec.specs.Expression.{opened}
+use Rattle.c_meaning_spec.specs.Eval.{meaning}
 use Rattle.trips_isa.specs.declared.op.Op.TheVariants as op
 use Rattle.trips_isa.specs.Stores.{data_size}
 use Rattle.ir_forms.specs.declared.flat.Arg.{Arg}

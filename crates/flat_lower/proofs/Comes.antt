@@ -10,16 +10,16 @@ use Rattle.c_tree.specs.declared.TypedStmt.{TypedStmt}
 use Rattle.c_tree.specs.declared.TypedGlobal.{TypedGlobal}
 use Rattle.c_tree.specs.declared.TypedFunc.{TypedFunc}
 use Rattle.c_tree.specs.declared.TypedProgram.{TypedProgram}
-use Rattle.c_eval.specs.declared.signal.Signal.{Signal}
-use Rattle.c_eval.specs.declared.signal.Signal.TheVariants.{Nothing, Value, Breaks, Continues}
-use Rattle.c_eval.specs.declared.signal.Signal.TheVariants.{Returns}
-use Rattle.c_eval.specs.declared.signal.Ending.{Ending}
-use Rattle.c_eval.specs.declared.signal.Ending.TheVariants.{More, Undefined, Deep}
-use Rattle.c_eval.specs.State.{Result, Go, Over, then}
-use Rattle.c_eval.specs.State as eval
-use Rattle.c_eval.specs.Task as task
-use Rattle.c_eval.specs.Call.{returned, left}
-use Rattle.c_eval.specs.Eval.{meaning}
+use Rattle.c_meaning_spec.specs.declared.signal.Signal.{Signal}
+use Rattle.c_meaning_spec.specs.declared.signal.Signal.TheVariants.{Nothing, Value, Breaks, Continues}
+use Rattle.c_meaning_spec.specs.declared.signal.Signal.TheVariants.{Returns}
+use Rattle.c_meaning_spec.specs.declared.signal.Ending.{Ending}
+use Rattle.c_meaning_spec.specs.declared.signal.Ending.TheVariants.{More, Undefined, Deep}
+use Rattle.c_meaning_spec.specs.State.{Result, Go, Over, then}
+use Rattle.c_meaning_spec.specs.State as eval
+use Rattle.c_meaning_spec.specs.Task as task
+use Rattle.c_meaning_spec.specs.Call.{returned, left}
+use Rattle.c_meaning_spec.specs.Eval.{meaning}
 use Rattle.ir_forms.specs.declared.flat.Arg.{Arg}
 use Rattle.ir_forms.specs.declared.flat.Arg.TheVariants.{Const, Var}
 use Rattle.ir_forms.specs.FlatCode.{Code, Nop, Then, only, Function}

@@ -9,16 +9,16 @@ use Rattle.c_tree.specs.declared.Place.TheVariants.{Global, Scalar, Array}
 use Rattle.c_tree.specs.declared.Slot.TheVariants as slot
 use Rattle.c_tree.specs.declared.TypedExpr.{TypedExpr}
 use Rattle.c_tree.specs.declared.TypedProgram.{TypedProgram}
-use Rattle.c_eval.specs.declared.signal.Signal.{Signal}
-use Rattle.c_eval.specs.declared.signal.Signal.TheVariants.{Nothing, Value, Breaks, Continues}
-use Rattle.c_eval.specs.declared.signal.Signal.TheVariants.{Returns}
-use Rattle.c_eval.specs.declared.signal.Ending.TheVariants.{Undefined}
-use Rattle.c_eval.specs.declared.signal.Object.TheVariants.{InScalar}
-use Rattle.c_eval.specs.State.{Result, Go, Over, then, want, cell, written, store, store_in}
-use Rattle.c_eval.specs.State as eval
-use Rattle.c_eval.specs.Task.{Of}
-use Rattle.c_eval.specs.Statement.{dropped, initialised, unset, unset_row, declare, returning}
-use Rattle.c_eval.specs.Eval.{meaning}
+use Rattle.c_meaning_spec.specs.declared.signal.Signal.{Signal}
+use Rattle.c_meaning_spec.specs.declared.signal.Signal.TheVariants.{Nothing, Value, Breaks, Continues}
+use Rattle.c_meaning_spec.specs.declared.signal.Signal.TheVariants.{Returns}
+use Rattle.c_meaning_spec.specs.declared.signal.Ending.TheVariants.{Undefined}
+use Rattle.c_meaning_spec.specs.declared.signal.Object.TheVariants.{InScalar}
+use Rattle.c_meaning_spec.specs.State.{Result, Go, Over, then, want, cell, written, store, store_in}
+use Rattle.c_meaning_spec.specs.State as eval
+use Rattle.c_meaning_spec.specs.Task.{Of}
+use Rattle.c_meaning_spec.specs.Statement.{dropped, initialised, unset, unset_row, declare, returning}
+use Rattle.c_meaning_spec.specs.Eval.{meaning}
 use Rattle.trips_isa.specs.declared.op.Op.TheVariants as op
 use Rattle.ir_forms.specs.declared.flat.Arg.TheVariants.{Const, Var}
 use Rattle.ir_forms.specs.FlatCode.{Code, Nop, Then, only}

@@ -12,9 +12,9 @@ use Rattle.c_tree.specs.declared.TypedArray.{TypedArray}
 use Rattle.c_tree.specs.declared.TypedGlobal.{TypedGlobal}
 use Rattle.c_tree.specs.declared.TypedFunc.{TypedFunc}
 use Rattle.c_tree.specs.declared.TypedProgram.{TypedProgram}
-use Rattle.c_eval.specs.State as eval
-use Rattle.c_eval.specs.Call.{size_of, array_bytes, all_bytes, frame, unset_array, scalars_of}
-use Rattle.c_eval.specs.Call.{entered}
+use Rattle.c_meaning_spec.specs.State as eval
+use Rattle.c_meaning_spec.specs.Call.{size_of, array_bytes, all_bytes, frame, unset_array, scalars_of}
+use Rattle.c_meaning_spec.specs.Call.{entered}
 use Rattle.trips_isa.specs.Stores.{data_size}
 use Rattle.ir_forms.specs.FlatCode.{Function}
 use Rattle.ir_forms.specs.Frames.{slots_of, frame_of, arrays_at}

@@ -13,16 +13,16 @@ use Rattle.c_tree.specs.declared.TypedStmt.{TypedStmt}
 use Rattle.c_tree.specs.declared.TypedProgram.{TypedProgram}
 use Rattle.c_tree.specs.declared.TypedNode.TheOpen as node
 use Rattle.c_constant.specs.Kinds.{converted}
-use Rattle.c_eval.specs.declared.signal.Signal.{Signal}
-use Rattle.c_eval.specs.declared.signal.Signal.TheVariants.{Nothing, Value, Breaks, Continues}
-use Rattle.c_eval.specs.declared.signal.Signal.TheVariants.{Returns}
-use Rattle.c_eval.specs.State.{Result, Go, Over, then, spend_of, spend, want}
-use Rattle.c_eval.specs.State as eval
-use Rattle.c_eval.specs.Task.{Of}
-use Rattle.c_eval.specs.Expression as level
-use Rattle.c_eval.specs.Expression.{Node, node_of, opened, expression, converting}
-use Rattle.c_eval.specs.Eval.{meaning}
-use Rattle.c_eval.proofs.Equations.{meaning-is}
+use Rattle.c_meaning_spec.specs.declared.signal.Signal.{Signal}
+use Rattle.c_meaning_spec.specs.declared.signal.Signal.TheVariants.{Nothing, Value, Breaks, Continues}
+use Rattle.c_meaning_spec.specs.declared.signal.Signal.TheVariants.{Returns}
+use Rattle.c_meaning_spec.specs.State.{Result, Go, Over, then, spend_of, spend, want}
+use Rattle.c_meaning_spec.specs.State as eval
+use Rattle.c_meaning_spec.specs.Task.{Of}
+use Rattle.c_meaning_spec.specs.Expression as level
+use Rattle.c_meaning_spec.specs.Expression.{Node, node_of, opened, expression, converting}
+use Rattle.c_meaning_spec.specs.Eval.{meaning}
+use Rattle.c_meaning_spec.proofs.Equations.{meaning-is}
 use Rattle.ir_forms.specs.FlatSteps.{State}
 use Rattle.flat_lower.specs.Tree as tree
 use Rattle.flat_lower.specs.TreeViews.{expr_of, exprs_of, source_of}

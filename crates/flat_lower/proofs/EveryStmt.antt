@@ -7,19 +7,19 @@ use Rattle.c_tree.specs.declared.TypedStmt.{TypedStmt, out-TypedStmt}
 use Rattle.c_tree.specs.declared.TypedForInit.{TypedForInit, out-TypedForInit}
 use Rattle.c_tree.specs.declared.TypedForInit.TheOpen as stmt
 use Rattle.c_tree.specs.declared.TypedProgram.{TypedProgram}
-use Rattle.c_eval.specs.declared.signal.Signal.{Signal}
-use Rattle.c_eval.specs.declared.signal.Signal.TheVariants.{Nothing, Value, Breaks, Continues}
-use Rattle.c_eval.specs.declared.signal.Signal.TheVariants.{Returns}
-use Rattle.c_eval.specs.State.{Result, Go, Over, then, want}
-use Rattle.c_eval.specs.State as eval
-use Rattle.c_eval.specs.Word.{is_false}
-use Rattle.c_eval.specs.Task.{Task, Of, Turn}
-use Rattle.c_eval.specs.Task as task
-use Rattle.c_eval.specs.Statement.{Level, First, going_on, sequence, run_if, after_if, after_body}
-use Rattle.c_eval.specs.Statement.{locals, begin, begun, statement}
-use Rattle.c_eval.specs.Eval.{meaning}
-use Rattle.c_eval.proofs.Equations.{weight, meaning-is}
-use Rattle.c_eval.proofs.Induction.{by-parts}
+use Rattle.c_meaning_spec.specs.declared.signal.Signal.{Signal}
+use Rattle.c_meaning_spec.specs.declared.signal.Signal.TheVariants.{Nothing, Value, Breaks, Continues}
+use Rattle.c_meaning_spec.specs.declared.signal.Signal.TheVariants.{Returns}
+use Rattle.c_meaning_spec.specs.State.{Result, Go, Over, then, want}
+use Rattle.c_meaning_spec.specs.State as eval
+use Rattle.c_meaning_spec.specs.Word.{is_false}
+use Rattle.c_meaning_spec.specs.Task.{Task, Of, Turn}
+use Rattle.c_meaning_spec.specs.Task as task
+use Rattle.c_meaning_spec.specs.Statement.{Level, First, going_on, sequence, run_if, after_if, after_body}
+use Rattle.c_meaning_spec.specs.Statement.{locals, begin, begun, statement}
+use Rattle.c_meaning_spec.specs.Eval.{meaning}
+use Rattle.c_meaning_spec.proofs.Equations.{weight, meaning-is}
+use Rattle.c_meaning_spec.proofs.Induction.{by-parts}
 use Rattle.trips_isa.specs.declared.op.Op.TheVariants as op
 use Rattle.ir_forms.specs.declared.flat.Arg.TheVariants.{Const, Var}
 use Rattle.ir_forms.specs.FlatCode.{Code, Nop, Then, only, Loop, If}

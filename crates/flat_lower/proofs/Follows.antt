@@ -2,13 +2,13 @@
 -- evaluation went so.
 use Rattle.std.proofs.Common.{◌≡◌, ◌≢◌, ℕ, zero, suc, ◌+◌, ◌-◌, ◌*◌, ◌<◌, ◌≤◌, List, [], ◌∷◌}
 use Rattle.std.proofs.Common.{Option, Some, None, refl, sym, ap, ◌∙◌, subst, arith}
-use Rattle.c_eval.specs.declared.signal.Signal.{Signal}
-use Rattle.c_eval.specs.declared.signal.Signal.TheVariants.{Nothing, Value, Breaks, Continues}
-use Rattle.c_eval.specs.declared.signal.Signal.TheVariants.{Returns}
-use Rattle.c_eval.specs.declared.signal.Ending.{Ending}
-use Rattle.c_eval.specs.declared.signal.Ending.TheVariants.{More, Undefined, Deep}
-use Rattle.c_eval.specs.State.{Result, Go, Over, then, spend_of, spend, want, with_some}
-use Rattle.c_eval.specs.State as eval
+use Rattle.c_meaning_spec.specs.declared.signal.Signal.{Signal}
+use Rattle.c_meaning_spec.specs.declared.signal.Signal.TheVariants.{Nothing, Value, Breaks, Continues}
+use Rattle.c_meaning_spec.specs.declared.signal.Signal.TheVariants.{Returns}
+use Rattle.c_meaning_spec.specs.declared.signal.Ending.{Ending}
+use Rattle.c_meaning_spec.specs.declared.signal.Ending.TheVariants.{More, Undefined, Deep}
+use Rattle.c_meaning_spec.specs.State.{Result, Go, Over, then, spend_of, spend, want, with_some}
+use Rattle.c_meaning_spec.specs.State as eval
 use Rattle.ir_forms.specs.FlatCode.{Code, Then, Function}
 use Rattle.ir_forms.specs.FlatSteps.{State, Env, Res, Gone, Broke, Again, Gave, TooDeep, Unfinished}
 use Rattle.ir_forms.specs.FlatSteps.{Wild, settle, then_run}

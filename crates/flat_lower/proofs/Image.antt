@@ -10,8 +10,8 @@ use native.Mathlib.Nat.{div-div-eq-div-mul, zero-div, pow-zero}
 use Rattle.c_tree.specs.declared.Kind.{Kind}
 use Rattle.c_tree.specs.declared.Kind.TheVariants.{Char, UChar, Int, UInt, Long, ULong}
 use Rattle.c_tree.specs.declared.TypedGlobal.{TypedGlobal}
-use Rattle.c_eval.specs.Call.{size_of}
-use Rattle.c_eval.specs.Eval.{length_of, first_cells}
+use Rattle.c_meaning_spec.specs.Call.{size_of}
+use Rattle.c_meaning_spec.specs.Eval.{length_of, first_cells}
 use Rattle.trips_isa.specs.Stores.{data_size, is_good_address}
 use Rattle.ir_forms.specs.Frames.{frames_at, frame_limit, rounded}
 use Rattle.ir_forms.specs.Cells.{Memory, Mark, Held, Closed, Cell, load, number_put, byte_put}

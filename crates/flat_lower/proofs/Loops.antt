@@ -5,19 +5,19 @@ use Rattle.std.proofs.Common.{mul-suc, arith}
 use Rattle.c_tree.specs.declared.TypedExpr.{TypedExpr}
 use Rattle.c_tree.specs.declared.TypedStmt.{TypedStmt}
 use Rattle.c_tree.specs.declared.TypedProgram.{TypedProgram}
-use Rattle.c_eval.specs.declared.signal.Signal.{Signal}
-use Rattle.c_eval.specs.declared.signal.Signal.TheVariants.{Nothing, Value, Breaks, Continues}
-use Rattle.c_eval.specs.declared.signal.Signal.TheVariants.{Returns}
-use Rattle.c_eval.specs.declared.signal.Ending.TheVariants.{More, Undefined, Deep}
-use Rattle.c_eval.specs.State.{Result, Go, Over, then, want}
-use Rattle.c_eval.specs.State as eval
-use Rattle.c_eval.specs.Word.{is_false}
-use Rattle.c_eval.specs.Task.{Of, Turn}
-use Rattle.c_eval.specs.Task as task
-use Rattle.c_eval.specs.Statement.{then_turn, after_body, after_test, turn}
-use Rattle.c_eval.specs.Eval.{meaning}
-use Rattle.c_eval.proofs.Equations.{meaning-is}
-use Rattle.c_eval.proofs.Induction.{meaning-falls}
+use Rattle.c_meaning_spec.specs.declared.signal.Signal.{Signal}
+use Rattle.c_meaning_spec.specs.declared.signal.Signal.TheVariants.{Nothing, Value, Breaks, Continues}
+use Rattle.c_meaning_spec.specs.declared.signal.Signal.TheVariants.{Returns}
+use Rattle.c_meaning_spec.specs.declared.signal.Ending.TheVariants.{More, Undefined, Deep}
+use Rattle.c_meaning_spec.specs.State.{Result, Go, Over, then, want}
+use Rattle.c_meaning_spec.specs.State as eval
+use Rattle.c_meaning_spec.specs.Word.{is_false}
+use Rattle.c_meaning_spec.specs.Task.{Of, Turn}
+use Rattle.c_meaning_spec.specs.Task as task
+use Rattle.c_meaning_spec.specs.Statement.{then_turn, after_body, after_test, turn}
+use Rattle.c_meaning_spec.specs.Eval.{meaning}
+use Rattle.c_meaning_spec.proofs.Equations.{meaning-is}
+use Rattle.c_meaning_spec.proofs.Induction.{meaning-falls}
 use Rattle.ir_forms.specs.declared.flat.Arg.TheVariants.{Const, Var}
 use Rattle.ir_forms.specs.FlatCode.{Code, Nop, Then, only}
 use Rattle.ir_forms.specs.FlatCode as flat

@@ -7,7 +7,7 @@ use Rattle.std.specs.Prelude.{◌&&◌, nat_eq, nat_lt, nat_le, slice_get, slice
 use Rattle.std.proofs.lemmas.Bool.Decides.{nat_tests}
 use Rattle.c_tree.specs.declared.Kind.{Kind}
 use Rattle.c_tree.specs.declared.Kind.TheVariants.{Char, UChar, Int, UInt, Long, ULong}
-use Rattle.c_eval.specs.Call.{size_of}
+use Rattle.c_meaning_spec.specs.Call.{size_of}
 use Rattle.trips_isa.specs.Stores.{is_good_address, data_size}
 use Rattle.ir_forms.specs.Cells.{Mark, Closed, Open, Held, Cell, Memory, number_put, all_open}
 use Rattle.ir_forms.specs.Cells.{marked, load}

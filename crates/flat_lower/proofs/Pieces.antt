@@ -9,12 +9,12 @@ use Rattle.c_tree.specs.declared.Place.{Place}
 use Rattle.c_tree.specs.declared.Place.TheVariants.{Global, Scalar, Array}
 use Rattle.c_tree.specs.declared.Slot.TheVariants as slot
 use Rattle.c_tree.specs.declared.TypedProgram.{TypedProgram}
-use Rattle.c_eval.specs.declared.signal.Object.TheVariants.{InScalar, InArray}
-use Rattle.c_eval.specs.State.{cell, held}
-use Rattle.c_eval.specs.State as eval
-use Rattle.c_eval.specs.Task.{array_of}
-use Rattle.c_eval.specs.Call.{size_of}
-use Rattle.c_eval.specs.Eval.{length_of}
+use Rattle.c_meaning_spec.specs.declared.signal.Object.TheVariants.{InScalar, InArray}
+use Rattle.c_meaning_spec.specs.State.{cell, held}
+use Rattle.c_meaning_spec.specs.State as eval
+use Rattle.c_meaning_spec.specs.Task.{array_of}
+use Rattle.c_meaning_spec.specs.Call.{size_of}
+use Rattle.c_meaning_spec.specs.Eval.{length_of}
 use Rattle.trips_isa.specs.declared.op.Op.{Op}
 use Rattle.trips_isa.specs.declared.op.Op.TheVariants as op
 use Rattle.trips_isa.specs.Stores.{data_size}

@@ -14,15 +14,15 @@ use Rattle.c_tree.specs.declared.TypedArray.{TypedArray}
 use Rattle.c_tree.specs.declared.TypedGlobal.{TypedGlobal}
 use Rattle.c_tree.specs.declared.TypedFunc.{TypedFunc}
 use Rattle.c_tree.specs.declared.TypedProgram.{TypedProgram}
-use Rattle.c_eval.specs.declared.signal.Signal.{Signal}
-use Rattle.c_eval.specs.declared.signal.Signal.TheVariants.{Nothing, Value, Breaks, Continues}
-use Rattle.c_eval.specs.declared.signal.Signal.TheVariants.{Returns}
-use Rattle.c_eval.specs.declared.signal.Object.TheVariants.{InScalar, InArray}
-use Rattle.c_eval.specs.State.{cell, cell_in, held, row_in, element_set, written}
-use Rattle.c_eval.specs.State as eval
-use Rattle.c_eval.specs.Task.{array_of}
-use Rattle.c_eval.specs.Call.{size_of}
-use Rattle.c_eval.specs.Eval.{length_of}
+use Rattle.c_meaning_spec.specs.declared.signal.Signal.{Signal}
+use Rattle.c_meaning_spec.specs.declared.signal.Signal.TheVariants.{Nothing, Value, Breaks, Continues}
+use Rattle.c_meaning_spec.specs.declared.signal.Signal.TheVariants.{Returns}
+use Rattle.c_meaning_spec.specs.declared.signal.Object.TheVariants.{InScalar, InArray}
+use Rattle.c_meaning_spec.specs.State.{cell, cell_in, held, row_in, element_set, written}
+use Rattle.c_meaning_spec.specs.State as eval
+use Rattle.c_meaning_spec.specs.Task.{array_of}
+use Rattle.c_meaning_spec.specs.Call.{size_of}
+use Rattle.c_meaning_spec.specs.Eval.{length_of}
 use Rattle.trips_isa.specs.declared.op.Op.TheVariants as op
 use Rattle.trips_isa.specs.Stores.{data_size, is_good_address}
 use Rattle.ir_forms.specs.declared.flat.Arg.TheVariants.{Const, Var}

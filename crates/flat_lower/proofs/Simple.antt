@@ -19,18 +19,18 @@ use Rattle.c_tree.specs.declared.TypedProgram.{TypedProgram}
 use Rattle.c_tree.specs.declared.TypedNode.TheOpen as node
 use Rattle.c_constant.specs.Kinds.{converted}
 use Rattle.c_constant.specs.Operation.{operate, operate_one, result_of, unary_result}
-use Rattle.c_eval.specs.declared.signal.Signal.{Signal}
-use Rattle.c_eval.specs.declared.signal.Signal.TheVariants.{Nothing, Value, Breaks, Continues}
-use Rattle.c_eval.specs.declared.signal.Signal.TheVariants.{Returns}
-use Rattle.c_eval.specs.declared.signal.Object.{Object}
-use Rattle.c_eval.specs.declared.signal.Object.TheVariants.{InScalar, InArray}
-use Rattle.c_eval.specs.State.{Result, Go, Over, then, spend, want, given, cell, held, load}
-use Rattle.c_eval.specs.State as eval
-use Rattle.c_eval.specs.Word.{is_false, truth_of, unary_of, binary_of}
-use Rattle.c_eval.specs.Task.{Of, array_of, element_in, element_of, name, is_array, element}
-use Rattle.c_eval.specs.Expression.{converting, unary, operated, after_left, truth, after_and}
-use Rattle.c_eval.specs.Expression.{after_or, binary, valued, after_choice, after_comma, opened}
-use Rattle.c_eval.specs.Eval.{meaning, length_of}
+use Rattle.c_meaning_spec.specs.declared.signal.Signal.{Signal}
+use Rattle.c_meaning_spec.specs.declared.signal.Signal.TheVariants.{Nothing, Value, Breaks, Continues}
+use Rattle.c_meaning_spec.specs.declared.signal.Signal.TheVariants.{Returns}
+use Rattle.c_meaning_spec.specs.declared.signal.Object.{Object}
+use Rattle.c_meaning_spec.specs.declared.signal.Object.TheVariants.{InScalar, InArray}
+use Rattle.c_meaning_spec.specs.State.{Result, Go, Over, then, spend, want, given, cell, held, load}
+use Rattle.c_meaning_spec.specs.State as eval
+use Rattle.c_meaning_spec.specs.Word.{is_false, truth_of, unary_of, binary_of}
+use Rattle.c_meaning_spec.specs.Task.{Of, array_of, element_in, element_of, name, is_array, element}
+use Rattle.c_meaning_spec.specs.Expression.{converting, unary, operated, after_left, truth, after_and}
+use Rattle.c_meaning_spec.specs.Expression.{after_or, binary, valued, after_choice, after_comma, opened}
+use Rattle.c_meaning_spec.specs.Eval.{meaning, length_of}
 use Rattle.trips_isa.specs.declared.op.Op.TheVariants as op
 use Rattle.ir_forms.specs.declared.flat.Arg.TheVariants.{Const, Var}
 use Rattle.ir_forms.specs.FlatCode.{Code, Nop, Then, only, Let, Load, If}

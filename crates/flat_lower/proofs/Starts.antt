@@ -7,10 +7,10 @@ use Rattle.std.proofs.lemmas.Bool.Decides.{nat_tests}
 use Rattle.c_tree.specs.declared.TypedGlobal.{TypedGlobal}
 use Rattle.c_tree.specs.declared.TypedFunc.{TypedFunc}
 use Rattle.c_tree.specs.declared.TypedProgram.{TypedProgram}
-use Rattle.c_eval.specs.State as eval
-use Rattle.c_eval.specs.Call.{size_of}
-use Rattle.c_eval.specs.Eval.{length_of, first_cells}
-use Rattle.c_eval.specs.Eval as evaluation
+use Rattle.c_meaning_spec.specs.State as eval
+use Rattle.c_meaning_spec.specs.Call.{size_of}
+use Rattle.c_meaning_spec.specs.Eval.{length_of, first_cells}
+use Rattle.c_meaning_spec.specs.Eval as evaluation
 use Rattle.trips_isa.specs.Stores.{data_size}
 use Rattle.ir_forms.specs.Frames.{frames_at, frame_limit, rounded}
 use Rattle.ir_forms.specs.Cells.{Memory, Held, Closed}

@@ -7,13 +7,13 @@ use Rattle.std.proofs.lemmas.Bool.Decides.{nat_tests}
 use Rattle.c_tree.specs.declared.Kind.{Kind}
 use Rattle.c_tree.specs.declared.Slot.TheVariants as slot
 use Rattle.c_tree.specs.declared.TypedProgram.{TypedProgram}
-use Rattle.c_eval.specs.declared.signal.Signal.{Signal}
-use Rattle.c_eval.specs.declared.signal.Signal.TheVariants.{Nothing, Value}
-use Rattle.c_eval.specs.declared.signal.Object.{Object}
-use Rattle.c_eval.specs.declared.signal.Object.TheVariants.{InScalar, InArray}
-use Rattle.c_eval.specs.State.{Result, Go, Over, then, cell, held, written, store, store_in}
-use Rattle.c_eval.specs.State as eval
-use Rattle.c_eval.specs.Call.{size_of}
+use Rattle.c_meaning_spec.specs.declared.signal.Signal.{Signal}
+use Rattle.c_meaning_spec.specs.declared.signal.Signal.TheVariants.{Nothing, Value}
+use Rattle.c_meaning_spec.specs.declared.signal.Object.{Object}
+use Rattle.c_meaning_spec.specs.declared.signal.Object.TheVariants.{InScalar, InArray}
+use Rattle.c_meaning_spec.specs.State.{Result, Go, Over, then, cell, held, written, store, store_in}
+use Rattle.c_meaning_spec.specs.State as eval
+use Rattle.c_meaning_spec.specs.Call.{size_of}
 use Rattle.trips_isa.specs.Stores.{data_size}
 use Rattle.ir_forms.specs.declared.flat.Arg.{Arg}
 use Rattle.ir_forms.specs.declared.flat.Arg.TheVariants.{Const, Var}

@@ -17,7 +17,7 @@ use Rattle.c_tree.specs.declared.BinaryOp.TheVariants.{GreaterEqual, ShiftLeft, 
 use Rattle.c_tree.specs.declared.BinaryOp.TheVariants.{Subtract, Multiply, Divide, Remainder}
 use Rattle.c_constant.specs.Kinds.{is_signed, promoted, converted}
 use Rattle.c_constant.specs.Operation.{operate, operate_one, result_of, unary_result}
-use Rattle.c_eval.specs.Word.{converted_if, bump_operation, bump_of}
+use Rattle.c_meaning_spec.specs.Word.{converted_if, bump_operation, bump_of}
 use Rattle.trips_isa.specs.declared.op.Op.{Op}
 use Rattle.trips_isa.specs.declared.op.Op.TheVariants as op
 use Rattle.trips_isa.specs.Alu.{alu_of, test}

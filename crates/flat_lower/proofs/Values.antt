@@ -7,14 +7,14 @@ use Rattle.c_tree.specs.declared.Kind.{Kind}
 use Rattle.c_tree.specs.declared.TypedExpr.{TypedExpr}
 use Rattle.c_tree.specs.declared.TypedStmt.{TypedStmt}
 use Rattle.c_tree.specs.declared.TypedProgram.{TypedProgram}
-use Rattle.c_eval.specs.declared.signal.Signal.{Signal}
-use Rattle.c_eval.specs.declared.signal.Signal.TheVariants.{Nothing, Value, Breaks, Continues}
-use Rattle.c_eval.specs.declared.signal.Signal.TheVariants.{Returns}
-use Rattle.c_eval.specs.State.{Result, Go, Over, then, spend}
-use Rattle.c_eval.specs.State as eval
-use Rattle.c_eval.specs.Task.{Of}
-use Rattle.c_eval.specs.Eval.{meaning}
-use Rattle.c_eval.proofs.Induction.{meaning-falls}
+use Rattle.c_meaning_spec.specs.declared.signal.Signal.{Signal}
+use Rattle.c_meaning_spec.specs.declared.signal.Signal.TheVariants.{Nothing, Value, Breaks, Continues}
+use Rattle.c_meaning_spec.specs.declared.signal.Signal.TheVariants.{Returns}
+use Rattle.c_meaning_spec.specs.State.{Result, Go, Over, then, spend}
+use Rattle.c_meaning_spec.specs.State as eval
+use Rattle.c_meaning_spec.specs.Task.{Of}
+use Rattle.c_meaning_spec.specs.Eval.{meaning}
+use Rattle.c_meaning_spec.proofs.Induction.{meaning-falls}
 use Rattle.ir_forms.specs.FlatCode.{Code, Then, Function}
 use Rattle.ir_forms.specs.FlatSteps.{State}
 use Rattle.ir_forms.specs.FlatRuns.{checked}

@@ -11,17 +11,17 @@ use Rattle.c_tree.specs.declared.Slot.{Slot}
 use Rattle.c_tree.specs.declared.TypedFunc.{TypedFunc}
 use Rattle.c_tree.specs.declared.TypedProgram.{TypedProgram}
 use Rattle.c_constant.specs.Kinds.{number, converted}
-use Rattle.c_eval.specs.declared.signal.Signal.{Signal}
-use Rattle.c_eval.specs.declared.signal.Signal.TheVariants.{Nothing, Value, Breaks, Continues}
-use Rattle.c_eval.specs.declared.signal.Signal.TheVariants.{Returns}
-use Rattle.c_eval.specs.declared.signal.Ending.{Ending}
-use Rattle.c_eval.specs.declared.signal.Ending.TheVariants.{More, Undefined, Deep}
-use Rattle.c_eval.specs.State.{Result, Go, Over, then}
-use Rattle.c_eval.specs.State as eval
-use Rattle.c_eval.specs.Task as task
-use Rattle.c_eval.specs.Call.{frame, entered, entered_if, enter, left, called}
-use Rattle.c_eval.specs.Eval.{meaning, outcome, main_result}
-use Rattle.c_eval.specs.Eval as evaluation
+use Rattle.c_meaning_spec.specs.declared.signal.Signal.{Signal}
+use Rattle.c_meaning_spec.specs.declared.signal.Signal.TheVariants.{Nothing, Value, Breaks, Continues}
+use Rattle.c_meaning_spec.specs.declared.signal.Signal.TheVariants.{Returns}
+use Rattle.c_meaning_spec.specs.declared.signal.Ending.{Ending}
+use Rattle.c_meaning_spec.specs.declared.signal.Ending.TheVariants.{More, Undefined, Deep}
+use Rattle.c_meaning_spec.specs.State.{Result, Go, Over, then}
+use Rattle.c_meaning_spec.specs.State as eval
+use Rattle.c_meaning_spec.specs.Task as task
+use Rattle.c_meaning_spec.specs.Call.{frame, entered, entered_if, enter, left, called}
+use Rattle.c_meaning_spec.specs.Eval.{meaning, outcome, main_result}
+use Rattle.c_meaning_spec.specs.Eval as evaluation
 use Rattle.ir_forms.specs.declared.flat.Arg.TheVariants.{Const}
 use Rattle.ir_forms.specs.FlatCode.{Code, Then, only, Function, Program}
 use Rattle.ir_forms.specs.FlatCode as flat

@@ -16,7 +16,7 @@ use Rattle.c_tree.specs.declared.Slot.TheVariants as slot
 use Rattle.c_tree.specs.declared.TypedArray.{TypedArray}
 use Rattle.c_tree.specs.declared.TypedGlobal.{TypedGlobal}
 use Rattle.c_constant.specs.Operation.{result_of, unary_result}
-use Rattle.c_eval.specs.Eval.{length_of}
+use Rattle.c_meaning_spec.specs.Eval.{length_of}
 use Rattle.trips_isa.specs.Stores.{data_size}
 use Rattle.ir_forms.specs.Frames.{frames_at, frame_limit}
 use Rattle.flat_lower.specs.Tree.{Expr, Number, Name, Element, Call, Unary, Cast, Convert, Bump}

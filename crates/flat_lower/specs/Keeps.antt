@@ -3,8 +3,8 @@ use Rattle.std.specs.Prelude.{◌≡◌, ℕ, ℤ, ◌+◌, ◌*◌, ◌<◌, �
 use Rattle.c_tree.specs.declared.Kind.TheVariants.{Int}
 use Rattle.c_tree.specs.declared.TypedProgram.{TypedProgram}
 use Rattle.c_constant.specs.Kinds.{number}
-use Rattle.c_eval.specs.declared.signal.Ending.TheVariants.{More, Undefined, Deep}
-use Rattle.c_eval.specs.Eval.{Outcome, Stopped, Done, eval}
+use Rattle.c_meaning_spec.specs.declared.signal.Ending.TheVariants.{More, Undefined, Deep}
+use Rattle.c_meaning_spec.specs.Eval.{Outcome, Stopped, Done, eval}
 use Rattle.ir_forms.specs.FlatSteps.{State, Res, Gave, TooDeep, Unfinished}
 use Rattle.ir_forms.specs.FlatCode.{Program}
 use Rattle.ir_forms.specs.FlatRuns.{checked, flat_run}

@@ -6,9 +6,9 @@ use Rattle.c_tree.specs.declared.Place.{Place}
 use Rattle.c_tree.specs.declared.Place.TheVariants.{Global, Scalar, Array}
 use Rattle.c_tree.specs.declared.TypedArray.{TypedArray}
 use Rattle.c_tree.specs.declared.TypedGlobal.{TypedGlobal}
-use Rattle.c_eval.specs.Task.{is_array}
-use Rattle.c_eval.specs.Call.{size_of, array_bytes}
-use Rattle.c_eval.specs.Eval.{length_of}
+use Rattle.c_meaning_spec.specs.Task.{is_array}
+use Rattle.c_meaning_spec.specs.Call.{size_of, array_bytes}
+use Rattle.c_meaning_spec.specs.Eval.{length_of}
 use Rattle.trips_isa.specs.declared.op.Op.TheVariants as op
 use Rattle.ir_forms.specs.declared.flat.Arg.{Arg}
 use Rattle.ir_forms.specs.declared.flat.Arg.TheVariants.{Const, Var}

@@ -6,8 +6,8 @@ use Rattle.c_tree.specs.declared.Place.{Place}
 use Rattle.c_tree.specs.declared.Place.TheVariants.{Global, Scalar, Array}
 use Rattle.c_tree.specs.declared.TypedGlobal.{TypedGlobal}
 use Rattle.c_tree.specs.declared.TypedProgram.{TypedProgram}
-use Rattle.c_eval.specs.Call.{size_of, all_bytes}
-use Rattle.c_eval.specs.Eval.{length_of}
+use Rattle.c_meaning_spec.specs.Call.{size_of, all_bytes}
+use Rattle.c_meaning_spec.specs.Eval.{length_of}
 use Rattle.ir_forms.specs.declared.flat.Arg.TheVariants.{Const, Var}
 use Rattle.ir_forms.specs.FlatCode.{Code, Nop, Then, only, Loop, Function, Program}
 use Rattle.ir_forms.specs.FlatCode as flat

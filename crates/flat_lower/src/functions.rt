@@ -1,7 +1,7 @@
 //! The flat code of functions.
 
 ghost use Rattle.std.specs.Prelude.{◌≡◌, ◌+◌, ◌≤◌, map, IfOk, OnOk};
-ghost use Rattle.c_eval.specs.Call as call;
+ghost use Rattle.c_meaning_spec.specs.Call as call;
 ghost use Rattle.ir_forms.specs.FlatCode.{Then};
 ghost use Rattle.ir_forms.specs.FlatViews.{code_of, function_of};
 ghost use Rattle.flat_lower.specs.TreeViews.{stmt_of, func_of};

@@ -2,8 +2,8 @@
 
 ghost use Rattle.std.specs.Prelude.{◌≡◌, ◌+◌, ◌*◌, ◌/◌, ◌%◌, ◌^◌, ◌<◌, ◌≤◌, ◌++◌, map, replicate};
 ghost use Rattle.std.specs.Prelude.{OnOk, IfOk};
-ghost use Rattle.c_eval.specs.Call as call;
-ghost use Rattle.c_eval.specs.Eval as eval;
+ghost use Rattle.c_meaning_spec.specs.Call as call;
+ghost use Rattle.c_meaning_spec.specs.Eval as eval;
 ghost use Rattle.flat_lower.specs.Objects as objects;
 ghost use Rattle.flat_lower.specs.Statements.{word_bytes, init_bytes, global_image, globals_image};
 ghost use Rattle.flat_lower.specs.Emitted.{starts_from};

@@ -2,8 +2,8 @@
 
 ghost use Rattle.std.specs.Prelude.{◌≡◌, IfOk, slice_get};
 ghost use Rattle.std.specs.Prelude.{map};
-ghost use Rattle.c_eval.specs.Call.{array_bytes};
-ghost use Rattle.c_eval.specs.Task as task;
+ghost use Rattle.c_meaning_spec.specs.Call.{array_bytes};
+ghost use Rattle.c_meaning_spec.specs.Task as task;
 ghost use Rattle.flat_lower.specs.Objects.{global_at, array_at, global_bytes};
 ghost use Rattle.flat_lower.specs.Emitted.{starts_from};
 
@@ -23,7 +23,7 @@ pub struct Places<'a> {
 
 impl<'a> Model for Places<'a> {
     ghost use Rattle.std.specs.Prelude.{◌≡◌, map};
-    ghost use Rattle.c_eval.specs.Call.{array_bytes};
+    ghost use Rattle.c_meaning_spec.specs.Call.{array_bytes};
     ghost use Rattle.flat_lower.specs.Objects.{Context, global_bytes};
     ghost use Rattle.flat_lower.specs.Emitted.{starts_from};
 

@@ -14,11 +14,11 @@ use Rattle.c_tree.specs.declared.TypedNode.TheOpen as node
 use Rattle.c_tree.specs.declared.TypedFunc.{TypedFunc}
 use Rattle.c_tree.specs.declared.TypedProgram.{TypedProgram}
 use Rattle.c_constant.specs.Need.{Needs, args_need, call_need, assign_need}
-use Rattle.c_well_typed.specs.Objects.{Signature, signature, signature_of}
-use Rattle.c_well_typed.specs.Expressions.{Node, node_of, Gives, Has, IsObject, Passes}
-use Rattle.c_well_typed.specs.Expressions as rule
-use Rattle.c_well_typed.specs.Needs.{typed_needs}
-use Rattle.c_well_typed.proofs.Moves.{some_is}
+use Rattle.c_type_laws.specs.Objects.{Signature, signature, signature_of}
+use Rattle.c_type_laws.specs.Expressions.{Node, node_of, Gives, Has, IsObject, Passes}
+use Rattle.c_type_laws.specs.Expressions as rule
+use Rattle.c_type_laws.specs.Needs.{typed_needs}
+use Rattle.c_type_laws.proofs.Moves.{some_is}
 use Rattle.c_words.specs.TypedTrees.{NodeHasWords, ExprsHaveWords}
 use Rattle.c_words.specs.TypedTrees as word
 use Rattle.flat_lower.specs.Tree.{Expr, Number, Name, Element, Call, Unary, Cast, Convert, Bump}

@@ -8,12 +8,12 @@ use Rattle.c_tree.specs.declared.TypedFunc.{TypedFunc}
 use Rattle.c_tree.specs.declared.TypedGlobal.{TypedGlobal}
 use Rattle.c_tree.specs.declared.TypedProgram.{TypedProgram}
 use Rattle.c_type.specs.Declarations.{bytes}
-use Rattle.c_eval.specs.Call.{size_of}
-use Rattle.c_eval.specs.Eval.{length_of, eval}
-use Rattle.c_well_typed.specs.WellFormed.{Each, count_of, all_bytes, GlobalFits, FunctionFits}
-use Rattle.c_well_typed.specs.WellFormed.{WellFormed}
-use Rattle.c_well_typed.specs.WellFormed as typed
-use Rattle.c_well_typed.proofs.Uses.{function_at}
+use Rattle.c_meaning_spec.specs.Call.{size_of}
+use Rattle.c_meaning_spec.specs.Eval.{length_of, eval}
+use Rattle.c_type_laws.specs.WellFormed.{Each, count_of, all_bytes, GlobalFits, FunctionFits}
+use Rattle.c_type_laws.specs.WellFormed.{WellFormed}
+use Rattle.c_type_laws.specs.WellFormed as typed
+use Rattle.c_type_laws.proofs.Uses.{function_at}
 use Rattle.c_words.specs.Words.{AreWordsOf}
 use Rattle.c_words.specs.TypedTrees.{StmtHasWords, GlobalsHaveWords, FunctionsHaveWords}
 use Rattle.c_words.specs.TypedTrees.{ProgramHasWords}

@@ -7,10 +7,10 @@ use Rattle.c_tree.specs.declared.Place.TheVariants.{Global, Scalar, Array}
 use Rattle.c_tree.specs.declared.Slot.{Slot}
 use Rattle.c_tree.specs.declared.TypedFunc.{TypedFunc}
 use Rattle.c_tree.specs.declared.TypedProgram.{TypedProgram}
-use Rattle.c_well_typed.specs.Objects.{Signature, signature, of_function, scalar_at, array_at}
-use Rattle.c_well_typed.proofs.Moves.{some_is}
-use Rattle.c_well_typed.proofs.Uses.{scalar_slot, array_slot, global_scalar_at, global_array_at}
-use Rattle.c_well_typed.proofs.Uses.{local_array_at}
+use Rattle.c_type_laws.specs.Objects.{Signature, signature, of_function, scalar_at, array_at}
+use Rattle.c_type_laws.proofs.Moves.{some_is}
+use Rattle.c_type_laws.proofs.Uses.{scalar_slot, array_slot, global_scalar_at, global_array_at}
+use Rattle.c_type_laws.proofs.Uses.{local_array_at}
 use Rattle.flat_lower.specs.TreeViews.{func_of, source_of}
 use Rattle.flat_lower.specs.Fits.{Scope, scope_of, FitsName, FitsWhole}
 

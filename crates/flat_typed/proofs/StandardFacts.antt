@@ -14,12 +14,12 @@ use Rattle.c_tree.specs.declared.typed.TypedStmt.{out-roll-TypedStmt}
 use Rattle.c_tree.specs.declared.typed.TypedForInit.TheOpen as stmt
 use Rattle.c_constant.specs.Need.{Needs}
 use Rattle.c_constant.specs.Kinds.{converted}
-use Rattle.c_well_typed.specs.Expressions.{node_of, Gives, Has}
-use Rattle.c_well_typed.specs.Expressions as rule
-use Rattle.c_well_typed.specs.Needs.{FitsNeed}
-use Rattle.c_well_typed.specs.Statements.{Level, Runs}
-use Rattle.c_well_typed.specs.Statements as run
-use Rattle.c_well_typed.specs.WellFormed.{WellFormed}
+use Rattle.c_type_laws.specs.Expressions.{node_of, Gives, Has}
+use Rattle.c_type_laws.specs.Expressions as rule
+use Rattle.c_type_laws.specs.Needs.{FitsNeed}
+use Rattle.c_type_laws.specs.Statements.{Level, Runs}
+use Rattle.c_type_laws.specs.Statements as run
+use Rattle.c_type_laws.specs.WellFormed.{WellFormed}
 use Rattle.c_words.specs.TypedTrees.{NodeHasWords, LevelHasWords, ProgramHasWords}
 use Rattle.c_words.specs.TypedTrees as word
 use Rattle.c_words.specs.Words.{IsWordOf}

@@ -2,8 +2,8 @@
 
 ghost use Rattle.std.specs.Prelude.{ℕ, List};
 ghost use Rattle.c_tree.specs.declared.typed.TypedProgram.{TypedProgram};
-ghost use Rattle.c_eval.specs.Eval.{eval};
-ghost use Rattle.c_well_typed.specs.WellFormed.{WellFormed};
+ghost use Rattle.c_meaning_spec.specs.Eval.{eval};
+ghost use Rattle.c_type_laws.specs.WellFormed.{WellFormed};
 ghost use Rattle.c_words.specs.TypedTrees.{ProgramHasWords};
 ghost use Rattle.ir_forms.specs.FlatRuns.{checked, flat_run};
 ghost use Rattle.flat_lower.specs.TreeViews.{source_of};

@@ -2,7 +2,7 @@
 
 use crate::{Placing, place, rename, shuffle};
 use arrayvec::ArrayVec;
-use block_check_rows::fits::block_fits;
+use block_check_tests::fits::block_fits;
 use std::process::Abort;
 use trips_isa::{Block, Inst, Op, ReadSlot, Sense, Spot};
 

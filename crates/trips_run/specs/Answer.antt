@@ -11,7 +11,7 @@ use Rattle.c_tree.specs.declared.typed.TypedProgram.{TypedProgram}
 use Rattle.c_type.specs.Programs.{program_fault}
 use Rattle.c_front.specs.declared.refusal.Refusal.{Refusal}
 use Rattle.c_front.specs.Fronts.{HasTree, IsAccepted, IsRefused}
-use Rattle.c_eval.specs.Eval.{eval}
+use Rattle.c_meaning_spec.specs.Eval.{eval}
 use Rattle.c_meaning.specs.declared.outcome.Outcome.{Outcome}
 use Rattle.c_meaning.specs.declared.outcome.Outcome.TheVariants as outcome
 use Rattle.c_meaning.specs.Answer.{answer}

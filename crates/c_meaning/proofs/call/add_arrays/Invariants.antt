@@ -1,5 +1,5 @@
 use Rattle.std.proofs.Common.{◌≡◌, ◌++◌, map, take}
-use Rattle.c_eval.specs.Call.{unset_array}
+use Rattle.c_meaning_spec.specs.Call.{unset_array}
 use Rattle.c_meaning.proofs.call.add_arrays.Given as goal
 
 abbrev pub invariant-loop-a : goal.invariant-loop-a

@@ -1,5 +1,5 @@
 use Rattle.std.proofs.Common.{◌≡◌, ◌+◌, ◌*◌, ◌≤◌, drop, length}
-use Rattle.c_eval.specs.Call.{all_bytes}
+use Rattle.c_meaning_spec.specs.Call.{all_bytes}
 use Rattle.c_meaning.proofs.call.room_with.Given as goal
 
 abbrev pub invariant-loop-a : goal.invariant-loop-a

@@ -1,8 +1,8 @@
 use Rattle.std.proofs.Common.{◌≡◌, [], ap, ◌∙◌}
 use Rattle.c_tree.specs.declared.Callee.TheVariants.{Func}
-use Rattle.c_eval.specs.State.{State}
-use Rattle.c_eval.specs.Call.{called}
-use Rattle.c_eval.specs.Eval.{eval, outcome, meaning}
+use Rattle.c_meaning_spec.specs.State.{State}
+use Rattle.c_meaning_spec.specs.Call.{called}
+use Rattle.c_meaning_spec.specs.Eval.{eval, outcome, meaning}
 use Rattle.c_meaning.specs.Answer.{answer}
 use Rattle.c_meaning.proofs.evaluation.evaluate.Goals as goal
 

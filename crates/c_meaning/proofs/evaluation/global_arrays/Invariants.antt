@@ -1,5 +1,5 @@
 use Rattle.std.proofs.Common.{◌≡◌, map, take}
-use Rattle.c_eval.specs.Eval.{first_cells}
+use Rattle.c_meaning_spec.specs.Eval.{first_cells}
 use Rattle.c_meaning.proofs.evaluation.global_arrays.Given as goal
 
 abbrev pub invariant-loop-g : goal.invariant-loop-g

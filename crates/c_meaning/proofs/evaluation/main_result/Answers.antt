@@ -2,7 +2,7 @@ use Rattle.std.proofs.Common.{◌≡◌, ap, sym, ◌∙◌, ℤ, rules}
 use Rattle.std.specs.Int.{w32}
 use Rattle.std.specs.Int.RustNames.{FitsSigned}
 use Rattle.std.proofs.lemmas.Int.{to_z-of_z}
-use Rattle.c_eval.specs.Eval.{main_result}
+use Rattle.c_meaning_spec.specs.Eval.{main_result}
 use Rattle.c_meaning.proofs.Results.{low-bits}
 use Rattle.c_meaning.proofs.evaluation.main_result.Goals as goal
 

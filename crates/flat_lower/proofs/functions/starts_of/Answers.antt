@@ -1,5 +1,5 @@
 use Rattle.std.proofs.Common.{◌+◌, ◌++◌, drop, map, get_or, sym, ap, ◌∙◌, append-nil, arith}
-use Rattle.c_eval.specs.Call as call
+use Rattle.c_meaning_spec.specs.Call as call
 use Rattle.c_tree.specs.declared.Kind.TheVariants.{Char}
 use Rattle.c_tree.specs.declared.TypedArray.{TypedArray}
 use Rattle.flat_lower.specs.Emitted.{starts_from}

@@ -1,5 +1,5 @@
 use Rattle.std.proofs.Common.{◌≡◌, ◌++◌, drop, map}
-use Rattle.c_eval.specs.Call as call
+use Rattle.c_meaning_spec.specs.Call as call
 use Rattle.flat_lower.specs.Emitted.{starts_from}
 use Rattle.flat_lower.proofs.functions.starts_of.Given as goal
 

@@ -1,5 +1,5 @@
 use Rattle.std.proofs.Common.{◌≡◌, ◌+◌, drop}
-use Rattle.c_eval.specs.Call as call
+use Rattle.c_meaning_spec.specs.Call as call
 use Rattle.flat_lower.proofs.functions.total_of.Given as goal
 
 abbrev pub invariant-loop-array : goal.invariant-loop-array

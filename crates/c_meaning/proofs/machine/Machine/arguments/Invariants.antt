@@ -1,5 +1,5 @@
 use Rattle.std.proofs.Common.{◌≡◌, length}
-use Rattle.c_steps.specs.ExpressionSteps.{arguments_step}
+use Rattle.c_meaning_steps.specs.ExpressionSteps.{arguments_step}
 use Rattle.c_meaning.specs.View.{view}
 use Rattle.c_meaning.proofs.machine.Machine.arguments.Given as goal
 

@@ -1,7 +1,7 @@
 use Rattle.std.proofs.Common.{◌≡◌, ap, subst, length, arith}
-use Rattle.c_eval.specs.Expression.{node_of}
-use Rattle.c_steps.specs.Ahead.{IsStep}
-use Rattle.c_steps.specs.ExpressionSteps.{of_step}
+use Rattle.c_meaning_spec.specs.Expression.{node_of}
+use Rattle.c_meaning_steps.specs.Ahead.{IsStep}
+use Rattle.c_meaning_steps.specs.ExpressionSteps.{of_step}
 use Rattle.c_meaning.specs.View.{follow, frames, next, view, step_of}
 use Rattle.c_meaning.specs.declared.frame.Move.{Move}
 use Rattle.c_meaning.proofs.Turns.{frames-top}

@@ -1,6 +1,6 @@
 use Rattle.std.proofs.Common.{◌≡◌, length}
 use Rattle.c_meaning.specs.View.{next, view, frames}
-use Rattle.c_steps.specs.Ahead.{ahead_next, rank}
+use Rattle.c_meaning_steps.specs.Ahead.{ahead_next, rank}
 use Rattle.c_meaning.proofs.machine.Machine.go.Given as goal
 
 abbrev pub invariant-loop-self : goal.invariant-loop-self

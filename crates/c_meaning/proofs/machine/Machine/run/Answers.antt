@@ -1,9 +1,9 @@
 use Rattle.std.proofs.Common.{subst}
 use Rattle.std.specs.Prelude.{IfOk}
 use Rattle.c_tree.specs.declared.TypedStmt.{out-TypedStmt}
-use Rattle.c_steps.specs.Ahead.{IsStep}
-use Rattle.c_steps.specs.Follow.{Step}
-use Rattle.c_steps.specs.StatementSteps.{begun_step}
+use Rattle.c_meaning_steps.specs.Ahead.{IsStep}
+use Rattle.c_meaning_steps.specs.Follow.{Step}
+use Rattle.c_meaning_steps.specs.StatementSteps.{begun_step}
 use Rattle.c_meaning.specs.View.{view, next, frames}
 use Rattle.c_meaning.proofs.Spends.{step-spent}
 use Rattle.c_meaning.proofs.machine.Machine.run.Goals as goal

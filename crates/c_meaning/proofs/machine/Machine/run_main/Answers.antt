@@ -1,7 +1,7 @@
 use Rattle.std.proofs.Common.{◌≡◌, refl, [], subst}
 use Rattle.c_tree.specs.declared.Callee.TheVariants.{Func}
-use Rattle.c_eval.specs.State.{Result}
-use Rattle.c_steps.specs.Ahead.{IsReached}
+use Rattle.c_meaning_spec.specs.State.{Result}
+use Rattle.c_meaning_steps.specs.Ahead.{IsReached}
 use Rattle.c_meaning.specs.View.{next, view, frames}
 use Rattle.c_meaning.proofs.Turns.{called-ahead}
 use Rattle.c_meaning.proofs.machine.Machine.run_main.Goals as goal

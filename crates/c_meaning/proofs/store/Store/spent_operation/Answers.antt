@@ -1,5 +1,5 @@
 use Rattle.std.proofs.Common.{◌∙◌}
-use Rattle.c_steps.specs.Operands.{leaf_fetch, then_fetch, operated_fetch}
+use Rattle.c_meaning_steps.specs.Operands.{leaf_fetch, then_fetch, operated_fetch}
 use Rattle.c_meaning.specs.View.{view}
 use Rattle.c_meaning.proofs.Spends.{fetch-spent}
 use Rattle.c_meaning.proofs.store.Store.spent_operation.Goals as goal

@@ -1,0 +1,58 @@
+-- The lowered program of an accepted text is its flat program.
+use Rattle.std.proofs.Common.{◌≡◌, ℕ, ◌*◌, ◌≤◌, List, length, None, refl, sym, subst, arith}
+use Rattle.c_tree.specs.declared.token.Lexeme.{Lexeme}
+use Rattle.c_tree.specs.declared.tree.Program.{Program}
+use Rattle.c_tree.specs.declared.typed.TypedProgram.{TypedProgram}
+use Rattle.c_lex.specs.Answers.{Lexed}
+use Rattle.c_grammar.specs.Answers.{IsUnit}
+use Rattle.c_type_rules.specs.Units.{Accepts}
+use Rattle.c_type_rules.proofs.UnitsComplete.{accepts_typed}
+use Rattle.c_type_laws.specs.WellFormed.{WellFormed}
+use Rattle.c_type_laws.proofs.Whole.{well_formed}
+use Rattle.c_words.specs.TypedTrees.{ProgramHasWords}
+use Rattle.c_words.proofs.LexedWords.{lexed_has}
+use Rattle.c_words.proofs.Units.{units_have_words}
+use Rattle.c_words.proofs.ItemWords.{program_has}
+use Rattle.c_words.proofs.Counted.{items_few, globals_few}
+use Rattle.c_front.specs.Fronts.{most_tokens, IsAccepted}
+use Rattle.ir_forms.specs.FlatCode.{Program as FlatProgram}
+use Rattle.flat_lower.specs.TreeViews.{source_of}
+use Rattle.flat_lower.specs.Statements.{lowered_program}
+use Rattle.flat_typed.specs.Limits.{HasFewGlobals}
+use Rattle.flat_typed.proofs.FitPrograms.{source_fits, meaning_kept}
+use Rattle.flat_lower_limits.proofs.Whole.{lowered_fits}
+use Rattle.c_sizes.proofs.TypedUnits.{programs_have_room}
+use Rattle.c_compile.specs.Flat.{IsFlatOf}
+use Rattle.c_compile.proofs.Placed.{few_params, placed_jumps}
+
+pub accepted_flat : (text : List ℕ) (P : TypedProgram) → IsAccepted text P
+    → IsFlatOf text (lowered_program P)
+accepted_flat text P a =
+    let tree = a.0 in
+    let tokens = a.1.0 in
+    let lexed = a.1.1 in
+    let unit = a.1.2 in
+    let typed : Accepts tree P =
+    subst (λ (t : TypedProgram). Accepts tree t) (sym a.2.1) (accepts_typed tree a.2.0) in
+    let well : WellFormed P =
+    subst (λ (t : TypedProgram). WellFormed t) (sym a.2.1) (well_formed tree a.2.0) in
+    let words : ProgramHasWords P =
+    program_has tree P (units_have_words tokens tree.items (lexed_has most_tokens text tokens lexed) unit)
+    typed in
+    let globals = globals_few tree P typed in
+    let items = items_few tokens tree.items unit in
+    let tokens_few = lexed.1 in
+    let few : HasFewGlobals P = omega (arith, globals, items, tokens_few) in
+    record {
+      program = P;
+      accepted = a;
+      is = refl;
+      keeps = meaning_kept P well words few;
+      fits = lowered_fits (source_of P) (source_fits P well words few) (few_params P well)
+          (placed_jumps P well) (programs_have_room tokens tree P unit tokens_few typed);
+    }
+
+-- so is each one that equals it
+pub flat_is : (text : List ℕ) (P : TypedProgram) (F : FlatProgram) → IsAccepted text P
+    → F ≡ lowered_program P → IsFlatOf text F
+flat_is text P F a e = subst (λ (F : FlatProgram). IsFlatOf text F) (sym e) (accepted_flat text P a)

@@ -1,5 +1,0 @@
-use Rattle.c_eval.proofs.Stocks.{stays-with-more-steps}
-use Rattle.c_eval.proofs.laws.result_stays_with_more_steps.Goals as goal
-
-pub returns : goal.returns
-returns c = stays-with-more-steps

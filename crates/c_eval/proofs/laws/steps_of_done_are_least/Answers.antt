@@ -1,5 +1,0 @@
-use Rattle.c_eval.proofs.Stocks.{steps-are-least}
-use Rattle.c_eval.proofs.laws.steps_of_done_are_least.Goals as goal
-
-pub returns : goal.returns
-returns c = steps-are-least

@@ -1,0 +1,148 @@
+-- The laws of an evaluation, from those of its parts.
+use Rattle.std.proofs.Common.{◌≡◌, ℕ, ℤ, zero, suc, ◌+◌, ◌-◌, ◌<◌, ◌≤◌, ◌⊎◌, inl, inr, List, []}
+use Rattle.std.proofs.Common.{Option, refl, sym, ap, subst, ◌∙◌, arith}
+use Rattle.c_tree.specs.declared.Callee.TheVariants.{Func}
+use Rattle.c_tree.specs.declared.TypedProgram.{TypedProgram}
+use Rattle.c_meaning_spec.specs.declared.signal.Signal.{Signal}
+use Rattle.c_meaning_spec.specs.declared.signal.Ending.TheVariants.{More, Undefined, Deep}
+use Rattle.c_meaning_spec.specs.State.{State, Result, Go, Over}
+use Rattle.c_meaning_spec.specs.Output.{IsPrefix, output_of}
+use Rattle.c_meaning_spec.specs.Call.{called}
+use Rattle.c_meaning_spec.specs.Eval.{Outcome, Stopped, Done, meaning, main_result, start, outcome, eval}
+use Rattle.c_meaning_spec.specs.Laws.{IsMore, output_in, StaysWithMoreSteps, StepsAreLeast, OutputGoesOn}
+use Rattle.c_meaning_spec.specs.Laws.{MeansByParts}
+use Rattle.c_meaning_spec.proofs.Puts.{Puts, stock_of, same-prefix, p-meaning, p-called}
+use Rattle.c_meaning_spec.proofs.Grows.{more, Grew, Within, g-called}
+use Rattle.c_meaning_spec.proofs.Equations.{weaker, meaning-more, meaning-is}
+
+-- the call of main, with n steps
+abbrev run : TypedProgram → List ℕ → ℕ → Result
+run P input n = called (meaning P) P (Func P.main) [] (start P input n)
+
+grown : (P : TypedProgram) (input : List ℕ) (n d : ℕ)
+    → Grew d n (run P input n) (run P input (n + d))
+grown P input n d =
+    g-called d n (meaning P) (meaning P)
+    (λ t u lt. weaker d u.stock n _ _ (omega arith) (meaning-more P d t u))
+    (p-meaning P) P (Func P.main) [] (start P input n) (omega arith)
+
+spent : (P : TypedProgram) (input : List ℕ) (n : ℕ) → stock_of (run P input n) ≤ n
+spent P input n = (p-called (meaning P) (p-meaning P) P (Func P.main) [] (start P input n)).spends
+
+more_or_not : (o : Outcome) → IsMore o ⊎ (¬ IsMore o)
+more_or_not (Stopped More out) = inl tt
+more_or_not (Stopped Undefined out) = inr (λ h. h)
+more_or_not (Stopped Deep out) = inr (λ h. h)
+more_or_not (Done out result steps) = inr (λ h. h)
+
+-- MORE STEPS
+
+steps_same : (n d m : ℕ) → (n + d) - (m + d) ≡ n - m
+steps_same n d m = omega arith
+
+stays : (n d : ℕ) (r r' : Result) → Grew d n r r' → ¬ IsMore (outcome n r)
+    → outcome (n + d) r' ≡ outcome n r
+stays n d (Go v s) r' g h = ap (outcome (n + d)) g.grows.0
+    ∙ ap (λ (k : ℕ). Done s.output (main_result v) k) (steps_same n d s.stock)
+stays n d (Over More s) r' g h = absurd (h tt)
+stays n d (Over Undefined s) r' g h = ap (outcome (n + d)) g.grows
+stays n d (Over Deep s) r' g h = ap (outcome (n + d)) g.grows
+
+pub stays-with-more-steps : StaysWithMoreSteps
+unfolding eval
+stays-with-more-steps P input n d h = stays n d (run P input n) (run P input (n + d))
+    (grown P input n d) h
+
+-- OUTPUT
+
+output-outcome : (n : ℕ) (r : Result) → output_in (outcome n r) ≡ output_of r
+output-outcome n (Go v s) = refl
+output-outcome n (Over why s) = refl
+
+goes_on : (n d : ℕ) (r r' : Result) → Grew d n r r' → IsPrefix (output_of r) (output_of r')
+goes_on n d (Go v s) r' g = subst (λ (r : Result). IsPrefix s.output (output_of r)) (sym g.grows.0)
+    (same-prefix s.output)
+goes_on n d (Over More s) r' g = g.grows.1
+goes_on n d (Over Undefined s) r' g = subst (λ (r : Result). IsPrefix s.output (output_of r))
+    (sym g.grows) (same-prefix s.output)
+goes_on n d (Over Deep s) r' g = subst (λ (r : Result). IsPrefix s.output (output_of r))
+    (sym g.grows) (same-prefix s.output)
+
+prefix-outcome : (n m : ℕ) (r r' : Result) → IsPrefix (output_of r) (output_of r')
+    → IsPrefix (output_in (outcome n r)) (output_in (outcome m r'))
+prefix-outcome n m (Go v s) (Go v' s') h = h
+prefix-outcome n m (Go v s) (Over why' s') h = h
+prefix-outcome n m (Over why s) (Go v' s') h = h
+prefix-outcome n m (Over why s) (Over why' s') h = h
+
+pub output-goes-on : OutputGoesOn
+unfolding eval
+output-goes-on P input n d =
+    prefix-outcome n (n + d) (run P input n) (run P input (n + d))
+    (goes_on n d (run P input n) (run P input (n + d)) (grown P input n d))
+
+-- THE LEAST STOCK
+
+-- a run with m steps is not short of steps, where with d more it leaves d
+enough : (m d : ℕ) (r r' : Result) (v : Signal) (s : State) → Grew d m r r' → r' ≡ Go v s
+    → s.stock ≡ d → ¬ IsMore (outcome m r)
+enough m d (Go v1 s1) r' v s g e k h = h
+enough m d (Over More s1) r' v s g e k h =
+    let w : s.stock < d = subst (λ (r : Result). Within d r) e g.grows.2 in absurd (omega arith)
+enough m d (Over Undefined s1) r' v s g e k h = h
+enough m d (Over Deep s1) r' v s g e k h = h
+
+steps-most : (n : ℕ) (r : Result) (out : List ℕ) (result : ℤ) (steps : ℕ)
+    → outcome n r ≡ Done out result steps → steps ≤ n
+steps-most n (Go v s) out result steps e =
+    let k : n - s.stock ≡ steps = cc in omega arith
+steps-most n (Over why s) out result steps e = absurd (cc)
+
+abbrev Least : TypedProgram → List ℕ → ℕ → List ℕ → ℤ → ℕ → Type 0
+Least P input n out result steps =
+    (steps ≤ n) × (eval P input steps ≡ Done out result steps)
+    × ((k : ℕ) → k < steps → IsMore (eval P input k))
+
+most_of : (P : TypedProgram) (input : List ℕ) (k : ℕ) (out : List ℕ) (result : ℤ) (steps : ℕ)
+    → eval P input k ≡ Done out result steps → steps ≤ k
+unfolding eval
+most_of P input k out result steps e = steps-most k (run P input k) out result steps e
+
+fewer_is_more : (P : TypedProgram) (input : List ℕ) (n k steps : ℕ) (out : List ℕ) (result : ℤ)
+    → eval P input n ≡ Done out result steps → steps ≤ n → k < steps
+    → IsMore (eval P input k) ⊎ (¬ IsMore (eval P input k)) → IsMore (eval P input k)
+fewer_is_more P input n k steps out result e l lt (inl h) = h
+fewer_is_more P input n k steps out result e l lt (inr h) =
+    let split : k + (n - k) ≡ n = omega arith in
+    let same : eval P input n ≡ eval P input k =
+    ap (eval P input) (sym split) ∙ stays-with-more-steps P input k (n - k) h in
+    let most : steps ≤ k = most_of P input k out result steps (sym same ∙ e) in
+    absurd (omega arith)
+
+exact : (P : TypedProgram) (input : List ℕ) (n : ℕ) (out : List ℕ) (result : ℤ) (steps : ℕ)
+    (r : Result) → run P input n ≡ r → outcome n r ≡ Done out result steps → stock_of r ≤ n
+    → eval P input n ≡ Done out result steps → Least P input n out result steps
+unfolding eval
+exact P input n out result steps (Over why s) is e l whole = absurd (cc)
+exact P input n out result steps (Go v s) is e l whole =
+    let m : n - s.stock ≡ steps = cc in
+    let split : steps + s.stock ≡ n = omega arith in
+    let there : run P input (steps + s.stock) ≡ Go v s = ap (run P input) split ∙ is in
+    let not : ¬ IsMore (eval P input steps) =
+    enough steps s.stock (run P input steps) (run P input (steps + s.stock)) v s
+    (grown P input steps s.stock) there refl in
+    let same : eval P input (steps + s.stock) ≡ eval P input steps = stays-with-more-steps P input steps s.stock not in
+    let most : steps ≤ n = omega arith in (
+      most,
+      sym same ∙ (ap (eval P input) split ∙ whole),
+      λ k lt. fewer_is_more P input n k steps out result whole most lt
+          (more_or_not (eval P input k)),
+    )
+
+pub steps-are-least : StepsAreLeast
+unfolding eval
+steps-are-least P input n out result steps e =
+    exact P input n out result steps (run P input n) refl e (spent P input n) e
+
+pub means-by-parts : MeansByParts
+means-by-parts P t s = meaning-is P t s

@@ -1,0 +1,145 @@
+-- Expressions: operands from the left, side effects at once.
+use Rattle.std.specs.Prelude.{ℕ, cond, [], Option, Some, None}
+use Rattle.c_tree.specs.declared.Kind.{Kind}
+use Rattle.c_tree.specs.declared.BinaryOp.{BinaryOp}
+use Rattle.c_tree.specs.declared.BinaryOp.TheVariants.{LogicalOr, LogicalAnd}
+use Rattle.c_tree.specs.declared.UnaryOp.{UnaryOp}
+use Rattle.c_tree.specs.declared.BumpOp.{BumpOp}
+use Rattle.c_tree.specs.declared.Place.{Place}
+use Rattle.c_tree.specs.declared.TypedExpr.{TypedExpr}
+use Rattle.c_tree.specs.declared.TypedNode.{TypedNode, out-TypedNode}
+use Rattle.c_tree.specs.declared.TypedNode.TheOpen.{TypedNode-F, Number, Name, Element, Call, Unary}
+use Rattle.c_tree.specs.declared.TypedNode.TheOpen.{Cast, Convert, Bump, Binary, Choice, Assign}
+use Rattle.c_tree.specs.declared.TypedNode.TheOpen.{Comma}
+use Rattle.c_tree.specs.declared.TypedProgram.{TypedProgram}
+use Rattle.c_meaning_spec.specs.declared.signal.Signal.{Signal}
+use Rattle.c_meaning_spec.specs.declared.signal.Signal.TheVariants.{Value}
+use Rattle.c_meaning_spec.specs.declared.signal.Ending.TheVariants.{Undefined}
+use Rattle.c_meaning_spec.specs.declared.signal.Object.{Object}
+use Rattle.c_meaning_spec.specs.State.{State, Result, Go, Over, then, spend, want, with_some, given, cell}
+use Rattle.c_meaning_spec.specs.State.{held, store}
+use Rattle.c_constant.specs.Kinds.{converted}
+use Rattle.c_meaning_spec.specs.Word.{is_false, truth_of, binary_of, unary_of, compound_of, bump_of}
+use Rattle.c_meaning_spec.specs.Word.{bump_value}
+use Rattle.c_meaning_spec.specs.Task.{Parts, Of, element_of, scalar_of, name, element}
+use Rattle.c_meaning_spec.specs.Call.{arguments}
+
+-- one level of an expression
+abbrev pub Node : Type 0
+Node = TypedNode-F TypedNode TypedExpr
+
+abbrev pub node_of : TypedExpr → Node
+node_of e = out-TypedNode e.node
+
+-- OPERATIONS
+
+abbrev pub converting : Kind → Signal → State → Result
+converting to v s = want v s (λ w. Go (Value (converted to w)) s)
+
+abbrev pub unary : UnaryOp → Option Kind → Signal → State → Result
+unary op k v s = want v s (λ a. given (unary_of op k a) s)
+
+abbrev pub operated : BinaryOp → Option Kind → ℕ → Signal → State → Result
+operated op k a v s = want v s (λ b. given (binary_of op k a b) s)
+
+abbrev pub after_left : Parts → BinaryOp → Option Kind → TypedExpr → Signal → State → Result
+after_left rec op k right v s = want v s (λ a. then (rec (Of right) s) (operated op k a))
+
+abbrev pub truth : Signal → State → Result
+truth v s = want v s (λ w. Go (Value (truth_of w)) s)
+
+-- the right side of && and || is evaluated only where the left one does not tell
+abbrev pub after_and : Parts → TypedExpr → Signal → State → Result
+after_and rec right v s = want v s (λ w. cond (is_false w) (Go (Value 0) s)
+    (then (rec (Of right) s) truth))
+
+abbrev pub after_or : Parts → TypedExpr → Signal → State → Result
+after_or rec right v s = want v s (λ w. cond (is_false w) (then (rec (Of right) s) truth)
+    (Go (Value 1) s))
+
+abbrev pub binary : Parts → BinaryOp → TypedExpr → TypedExpr → State → Result
+binary rec LogicalAnd left right s = then (rec (Of left) s) (after_and rec right)
+binary rec LogicalOr left right s = then (rec (Of left) s) (after_or rec right)
+binary rec op left right s = then (rec (Of left) s) (after_left rec op left.kind right)
+
+-- a value is taken of the legs of a choice and of the right side of a comma
+abbrev pub valued : Signal → State → Result
+valued v s = want v s (λ w. Go (Value w) s)
+
+abbrev pub after_choice : Parts → TypedExpr → TypedExpr → Signal → State → Result
+after_choice rec one other v s =
+    want v s (λ w. cond (is_false w) (then (rec (Of other) s) valued)
+    (then (rec (Of one) s) valued))
+
+abbrev pub after_comma : Parts → TypedExpr → Signal → State → Result
+after_comma rec right v s = then (rec (Of right) s) valued
+
+-- ASSIGNMENT
+
+abbrev pub assigned : Object → Signal → State → Result
+assigned x v s = want v s (λ w. store s x w)
+
+abbrev pub compounded : BinaryOp → Option Kind → Kind → Object → ℕ → Signal → State → Result
+compounded op to at x old v s = want v s (λ b. with_some (compound_of op to at old b) s
+    (λ w. store s x w))
+
+-- a compound assignment reads the old value before the right side is evaluated
+abbrev pub assign_to : Parts → Option BinaryOp → Option Kind → Kind → TypedExpr → State → Object
+    → Result
+assign_to rec None to at right s x = then (rec (Of right) s) (assigned x)
+assign_to rec (Some op) to at right s x =
+    with_some (held (cell s x)) s (λ old. then (rec (Of right) s) (compounded op to at x old))
+
+abbrev pub assign_element : Parts → Option BinaryOp → Option Kind → Kind → Place → TypedExpr
+    → Signal → State → Result
+assign_element rec op to at p right v s =
+    want v s (λ w. with_some (element_of p w s) s (assign_to rec op to at right s))
+
+-- of the left side only an index is evaluated
+abbrev pub assign : Parts → Option BinaryOp → Option Kind → Kind → Node → TypedExpr → State → Result
+assign rec op to at (Name p) right s = with_some (scalar_of p) s (assign_to rec op to at right s)
+assign rec op to at (Element p index) right s =
+    then (rec (Of index) s) (assign_element rec op to at p right)
+assign rec op to at _ right s = Over Undefined s
+
+abbrev pub giving : ℕ → Signal → State → Result
+giving w v s = Go (Value w) s
+
+abbrev pub bump_object : BumpOp → Option Kind → State → Object → Result
+bump_object op k s x =
+    with_some (held (cell s x)) s (λ old.
+    with_some (bump_of op k old) s (λ new. then (store s x new) (giving (bump_value op old new))))
+
+abbrev pub bump_element : BumpOp → Option Kind → Place → Signal → State → Result
+bump_element op k p v s = want v s (λ w. with_some (element_of p w s) s (bump_object op k s))
+
+abbrev pub bump : Parts → BumpOp → Option Kind → Node → State → Result
+bump rec op k (Name p) s = with_some (scalar_of p) s (bump_object op k s)
+bump rec op k (Element p index) s = then (rec (Of index) s) (bump_element op k p)
+bump rec op k _ s = Over Undefined s
+
+-- NODES
+
+-- a node after its step; a conversion that stands in another is in no typed tree
+abbrev pub opened : Parts → TypedProgram → Node → State → Result
+opened rec P (Number w) s = Go (Value w) s
+opened rec P (Name p) s = name P p s
+opened rec P (Element p index) s = then (rec (Of index) s) (element p)
+opened rec P (Call f args) s = arguments rec P f args [] s
+opened rec P (Unary op e) s = then (rec (Of e) s) (unary op e.kind)
+opened rec P (Cast to e) s = then (rec (Of e) s) (converting to)
+opened rec P (Convert to e) s = Over Undefined s
+opened rec P (Bump op e) s = bump rec op e.kind (node_of e) s
+opened rec P (Binary op l r) s = binary rec op l r s
+opened rec P (Choice t one other) s = then (rec (Of t) s) (after_choice rec one other)
+opened rec P (Assign op at l r) s = assign rec op l.kind at (node_of l) r s
+opened rec P (Comma l r) s = then (rec (Of l) s) (after_comma rec r)
+
+-- each node spends its step before its parts
+abbrev pub node : Parts → TypedProgram → Node → State → Result
+node rec P n s = spend s (opened rec P n)
+
+-- a conversion that typing adds costs nothing
+abbrev pub expression : Parts → TypedProgram → Node → State → Result
+expression rec P (Convert to e) s = then (node rec P (node_of e) s) (converting to)
+expression rec P n s = node rec P n s

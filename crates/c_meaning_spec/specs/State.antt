@@ -1,0 +1,94 @@
+-- What an evaluation goes over: no addresses, but lists of optional numbers.
+use Rattle.std.specs.Prelude.{ℕ, zero, suc, List, [], Option, Some, None, slice_get, slice_set}
+use Rattle.c_meaning_spec.specs.declared.signal.Signal.{Signal}
+use Rattle.c_meaning_spec.specs.declared.signal.Signal.TheVariants.{Value}
+use Rattle.c_meaning_spec.specs.declared.signal.Ending.{Ending}
+use Rattle.c_meaning_spec.specs.declared.signal.Ending.TheVariants.{More, Undefined}
+use Rattle.c_meaning_spec.specs.declared.signal.Object.{Object}
+use Rattle.c_meaning_spec.specs.declared.signal.Object.TheVariants.{InScalar, InArray}
+
+-- A value is held as its word: the number modulo 2^64. What is not set is none. Arrays are
+-- numbered: the globals come first, a global scalar being an array of length 1, and then the arrays
+-- of each active function. The scalar of an array parameter holds the number of the array that it
+-- stands for.
+pub record State : Type 0 where
+  -- the steps that are left
+  pub stock : ℕ
+  -- the bytes that are not read yet, and those that were put out
+  pub input : List ℕ
+  pub output : List ℕ
+  -- the scalars of the function that runs
+  pub scalars : List (Option ℕ)
+  pub arrays : List (List (Option ℕ))
+  -- the number of the running function's first array
+  pub base : ℕ
+  -- the bytes of the frames of the active functions
+  pub room : ℕ
+
+-- a part of the program goes on, or the evaluation stops
+pub data Result : Type 0 where
+  Go : (v : Signal) (s : State) → Result
+  Over : (why : Ending) (s : State) → Result
+
+-- a part, and then what follows it
+abbrev pub then : Result → (Signal → State → Result) → Result
+then (Go v s) next = next v s
+then (Over why s) next = Over why s
+
+-- a step, if one is left
+abbrev pub spend_of : ℕ → State → (State → Result) → Result
+spend_of zero s next = Over More s
+spend_of (suc n) s next = next (record s { stock = n })
+
+abbrev pub spend : State → (State → Result) → Result
+spend s next = spend_of s.stock s next
+
+-- with the value that a part gave; taking the value of what gave none is undefined
+abbrev pub want : Signal → State → (ℕ → Result) → Result
+want (Value w) s next = next w
+want _ s next = Over Undefined s
+
+-- with what is there; otherwise it is undefined
+abbrev pub with_some : {A : Type 0} → Option A → State → (A → Result) → Result
+with_some None s next = Over Undefined s
+with_some (Some x) s next = next x
+
+abbrev pub given : Option ℕ → State → Result
+given c s = with_some c s (λ w. Go (Value w) s)
+
+-- OBJECTS
+
+abbrev pub cell_in : Option (List (Option ℕ)) → ℕ → Option (Option ℕ)
+cell_in None i = None
+cell_in (Some row) i = slice_get row i
+
+-- a scalar or an element, if there is one
+abbrev pub cell : State → Object → Option (Option ℕ)
+cell s (InScalar i) = slice_get s.scalars i
+cell s (InArray a i) = cell_in (slice_get s.arrays a) i
+
+-- what it holds, if it is there and is set
+abbrev pub held : Option (Option ℕ) → Option ℕ
+held None = None
+held (Some c) = c
+
+abbrev pub row_in : Option (List (Option ℕ)) → List (Option ℕ)
+row_in None = []
+row_in (Some row) = row
+
+abbrev pub element_set : List (List (Option ℕ)) → ℕ → ℕ → Option ℕ → List (List (Option ℕ))
+element_set rows a i c = slice_set rows a (slice_set (row_in (slice_get rows a)) i c)
+
+abbrev pub written : State → Object → Option ℕ → State
+written s (InScalar i) c = record s { scalars = slice_set s.scalars i c }
+written s (InArray a i) c = record s { arrays = element_set s.arrays a i c }
+
+abbrev pub load : Object → State → Result
+load x s = given (held (cell s x)) s
+
+abbrev pub store_in : Option (Option ℕ) → State → Object → ℕ → Result
+store_in None s x w = Over Undefined s
+store_in (Some c) s x w = Go (Value w) (written s x (Some w))
+
+abbrev pub store : State → Object → ℕ → Result
+store s x w = store_in (cell s x) s x w

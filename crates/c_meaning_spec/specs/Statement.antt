@@ -1,0 +1,131 @@
+-- Statements: each spends a step, and control goes on, or leaves a loop or the function.
+use Rattle.std.specs.Prelude.{ℕ, ◌+◌, cond, List, [], ◌∷◌, Option, Some, None, slice_get, slice_set}
+use Rattle.std.specs.Prelude.{length, replicate}
+use Rattle.c_tree.specs.declared.Place.{Place}
+use Rattle.c_tree.specs.declared.Place.TheVariants.{Scalar, Array}
+use Rattle.c_tree.specs.declared.TypedExpr.{TypedExpr}
+use Rattle.c_tree.specs.declared.TypedStmt.{TypedStmt}
+use Rattle.c_tree.specs.declared.TypedForInit.{TypedForInit, out-TypedForInit}
+use Rattle.c_tree.specs.declared.TypedForInit.TheOpen.{TypedStmt-F, Declare, Plain, Compound, If}
+use Rattle.c_tree.specs.declared.TypedForInit.TheOpen.{While, Do, For, Break, Continue, Return}
+use Rattle.c_tree.specs.declared.TypedForInit.TheOpen.{TypedForInit-F}
+use Rattle.c_tree.specs.declared.TypedForInit.TheOpen as init
+use Rattle.c_meaning_spec.specs.declared.signal.Signal.{Signal}
+use Rattle.c_meaning_spec.specs.declared.signal.Signal.TheVariants.{Nothing, Breaks, Continues, Returns}
+use Rattle.c_meaning_spec.specs.declared.signal.Ending.TheVariants.{Undefined}
+use Rattle.c_meaning_spec.specs.declared.signal.Object.TheVariants.{InScalar}
+use Rattle.c_meaning_spec.specs.State.{State, Result, Go, Over, then, spend, want, cell, written, store}
+use Rattle.c_meaning_spec.specs.Word.{is_false}
+use Rattle.c_meaning_spec.specs.Task.{Parts, Of, Run, Turn}
+
+-- one level of a statement, and of the first part of a for
+abbrev pub Level : Type 0
+Level = TypedStmt-F TypedForInit TypedStmt
+
+abbrev pub First : Type 0
+First = TypedForInit-F TypedForInit TypedStmt
+
+-- what follows where the statement before gave nothing
+abbrev pub going_on : Signal → State → (State → Result) → Result
+going_on Nothing s next = next s
+going_on v s next = Go v s
+
+abbrev pub sequence : Parts → List TypedStmt → State → Result
+sequence rec [] s = Go Nothing s
+sequence rec (st ∷ rest) s = then (rec (Run st) s) (λ v s. going_on v s (sequence rec rest))
+
+-- an expression statement takes no value
+abbrev pub dropped : Signal → State → Result
+dropped v s = Go Nothing s
+
+-- DECLARATIONS
+
+abbrev pub initialised : ℕ → Signal → State → Result
+initialised i v s = want v s (λ w. then (store s (InScalar i) w) dropped)
+
+abbrev pub unset : Parts → ℕ → Option TypedExpr → Option (Option ℕ) → State → Result
+unset rec i e None s = Over Undefined s
+unset rec i None (Some c) s = Go Nothing (written s (InScalar i) None)
+unset rec i (Some e) (Some c) s = then (rec (Of e) (written s (InScalar i) None)) (initialised i)
+
+abbrev pub unset_row : ℕ → Option (List (Option ℕ)) → State → Result
+unset_row a None s = Over Undefined s
+unset_row a (Some row) s = Go Nothing (record s {
+  arrays = slice_set s.arrays a
+      (replicate (length row) None);
+})
+
+-- a local is unset each time its declaration is reached, before its initialiser
+abbrev pub declare : Parts → Place → Option TypedExpr → State → Result
+declare rec (Scalar i) e s = unset rec i e (cell s (InScalar i)) s
+declare rec (Array a) None s = unset_row (s.base + a) (slice_get s.arrays (s.base + a)) s
+declare rec _ e s = Over Undefined s
+
+-- CHOICES AND LOOPS
+
+abbrev pub run_if : Parts → Option TypedStmt → State → Result
+run_if rec None s = Go Nothing s
+run_if rec (Some st) s = rec (Run st) s
+
+abbrev pub after_if : Parts → TypedStmt → Option TypedStmt → Signal → State → Result
+after_if rec one other v s = want v s (λ w. cond (is_false w) (run_if rec other s)
+    (rec (Run one) s))
+
+-- an expression, if there is one, without its value, and then a loop's next turn
+abbrev pub then_turn : Parts → Option TypedExpr → Option TypedExpr → Option TypedExpr → TypedStmt
+    → State → Result
+then_turn rec None test post body s = rec (Turn test post body) s
+then_turn rec (Some e) test post body s = then (rec (Of e) s) (λ v s. rec (Turn test post body) s)
+
+-- the declarations of a for, and then its first turn
+abbrev pub locals : Parts → List TypedStmt → Option TypedExpr → Option TypedExpr → TypedStmt → State
+    → Result
+locals rec [] test post body s = rec (Turn test post body) s
+locals rec (st ∷ rest) test post body s =
+    then (rec (Run st) s) (λ v s. going_on v s (locals rec rest test post body))
+
+abbrev pub begin : Parts → First → Option TypedExpr → Option TypedExpr → TypedStmt → State → Result
+begin rec init.Nothing test post body s = rec (Turn test post body) s
+begin rec (init.First e) test post body s = then_turn rec (Some e) test post body s
+begin rec (init.Locals all) test post body s = locals rec all test post body s
+
+abbrev pub after_body : Parts → Option TypedExpr → Option TypedExpr → TypedStmt → Signal → State
+    → Result
+after_body rec test post body Nothing s = then_turn rec post test post body s
+after_body rec test post body Continues s = then_turn rec post test post body s
+after_body rec test post body Breaks s = Go Nothing s
+after_body rec test post body v s = Go v s
+
+abbrev pub after_test : Parts → Option TypedExpr → Option TypedExpr → TypedStmt → Signal → State
+    → Result
+after_test rec test post body v s =
+    want v s (λ w. cond (is_false w) (Go Nothing s)
+    (then (rec (Run body) s) (after_body rec test post body)))
+
+-- a loop without a test has no other end than its body
+abbrev pub turn : Parts → Option TypedExpr → Option TypedExpr → TypedStmt → State → Result
+turn rec None post body s = then (rec (Run body) s) (after_body rec None post body)
+turn rec (Some t) post body s = then (rec (Of t) s) (after_test rec (Some t) post body)
+
+-- STATEMENTS
+
+abbrev pub returning : Signal → State → Result
+returning v s = want v s (λ w. Go (Returns (Some w)) s)
+
+-- a statement after its step
+abbrev pub begun : Parts → Level → State → Result
+begun rec (Declare p e) s = declare rec p e s
+begun rec (Plain None) s = Go Nothing s
+begun rec (Plain (Some e)) s = then (rec (Of e) s) dropped
+begun rec (Compound all) s = sequence rec all s
+begun rec (If t one other) s = then (rec (Of t) s) (after_if rec one other)
+begun rec (While t body) s = rec (Turn (Some t) None body) s
+begun rec (Do body t) s = then (rec (Run body) s) (after_body rec (Some t) None body)
+begun rec (For first test post body) s = begin rec (out-TypedForInit first) test post body s
+begun rec Break s = Go Breaks s
+begun rec Continue s = Go Continues s
+begun rec (Return None) s = Go (Returns None) s
+begun rec (Return (Some e)) s = then (rec (Of e) s) returning
+
+abbrev pub statement : Parts → Level → State → Result
+statement rec st s = spend s (begun rec st)

@@ -1,0 +1,62 @@
+-- What is evaluated, and what a name stands for.
+use Rattle.std.specs.Prelude.{ℕ, ◌+◌, Bool, true, false, cond, Option, Some, None, slice_get}
+use Rattle.c_tree.specs.declared.Place.{Place}
+use Rattle.c_tree.specs.declared.Place.TheVariants.{Global, Scalar, Array}
+use Rattle.c_tree.specs.declared.TypedExpr.{TypedExpr}
+use Rattle.c_tree.specs.declared.TypedStmt.{TypedStmt}
+use Rattle.c_tree.specs.declared.TypedGlobal.{TypedGlobal}
+use Rattle.c_tree.specs.declared.TypedProgram.{TypedProgram}
+use Rattle.c_meaning_spec.specs.declared.signal.Signal.{Signal}
+use Rattle.c_meaning_spec.specs.declared.signal.Signal.TheVariants.{Value}
+use Rattle.c_meaning_spec.specs.declared.signal.Object.{Object}
+use Rattle.c_meaning_spec.specs.declared.signal.Object.TheVariants.{InScalar, InArray}
+use Rattle.c_meaning_spec.specs.State.{State, Result, Go, want, with_some, cell, held, load}
+
+-- an expression, a statement, or a loop from its test on
+pub data Task : Type 0 where
+  Of : (e : TypedExpr) → Task
+  Run : (st : TypedStmt) → Task
+  Turn : (test post : Option TypedExpr) (body : TypedStmt) → Task
+
+-- what evaluates the parts of a task
+abbrev pub Parts : Type 0
+Parts = Task → State → Result
+
+-- the number of the array that a name names
+abbrev pub array_of : Place → State → Option ℕ
+array_of (Global g) s = Some g
+array_of (Scalar i) s = held (cell s (InScalar i))
+array_of (Array a) s = Some (s.base + a)
+
+abbrev pub element_in : Option ℕ → ℕ → Option Object
+element_in None w = None
+element_in (Some a) w = Some (InArray a w)
+
+-- an element by the word of its index; that it is outside its array is met where it is read or
+-- stored
+abbrev pub element_of : Place → ℕ → State → Option Object
+element_of p w s = element_in (array_of p s) w
+
+-- the scalar that a name names
+abbrev pub scalar_of : Place → Option Object
+scalar_of (Global g) = Some (InArray g 0)
+scalar_of (Scalar i) = Some (InScalar i)
+scalar_of (Array a) = None
+
+abbrev pub has_length : Option ℕ → Bool
+has_length None = false
+has_length (Some n) = true
+
+abbrev pub is_array : Option TypedGlobal → Bool
+is_array None = false
+is_array (Some g) = has_length g.length
+
+-- the value of a name; an array's is its number
+abbrev pub name : TypedProgram → Place → State → Result
+name P (Global g) s = cond (is_array (slice_get P.globals g)) (Go (Value g) s)
+    (load (InArray g 0) s)
+name P (Scalar i) s = load (InScalar i) s
+name P (Array a) s = Go (Value (s.base + a)) s
+
+abbrev pub element : Place → Signal → State → Result
+element p v s = want v s (λ w. with_some (element_of p w s) s (λ x. load x s))

@@ -1,0 +1,129 @@
+-- What is ahead of the machine: what a list of frames makes of what comes to it.
+use Rattle.std.specs.Prelude.{◌≡◌, ℕ, ◌*◌, ◌+◌, Bool, true, false, cond, List, [], ◌∷◌, ◌++◌}
+use Rattle.c_tree.specs.declared.TypedNode.TheOpen.{Convert}
+use Rattle.c_tree.specs.declared.TypedProgram.{TypedProgram}
+use Rattle.c_meaning_spec.specs.declared.Signal.{Signal}
+use Rattle.c_meaning_spec.specs.declared.Ending.{Ending}
+use Rattle.c_meaning_spec.specs.State.{State, Result, Go, Over, then, want}
+use Rattle.c_meaning_spec.specs.Task.{Task, Of, Run, Turn, element}
+use Rattle.c_meaning_spec.specs.Call.{left, arguments}
+use Rattle.c_meaning_spec.specs.Expression.{Node, node_of, converting, unary, operated, after_left, truth}
+use Rattle.c_meaning_spec.specs.Expression.{after_and, after_or, valued, after_choice, after_comma}
+use Rattle.c_meaning_spec.specs.Expression.{assigned, compounded, assign_element, bump_element}
+use Rattle.c_meaning_spec.specs.Statement.{going_on, sequence, dropped, initialised, after_if, locals}
+use Rattle.c_meaning_spec.specs.Statement.{after_body, after_test, returning}
+use Rattle.c_meaning_spec.specs.Eval.{meaning}
+use Rattle.c_meaning_steps.specs.Follow.{Follow, FConverting, FUnary, FElement, FArgument, FLeft, FRight}
+use Rattle.c_meaning_steps.specs.Follow.{FAnd, FOr, FTruth, FValued, FChoice, FComma, FAssignElement}
+use Rattle.c_meaning_steps.specs.Follow.{FAssigned, FCompounded, FBumpElement, FCaller, FDropped}
+use Rattle.c_meaning_steps.specs.Follow.{FInitialised, FSequence, FIf, FThenTurn, FLocals, FTest, FBody}
+use Rattle.c_meaning_steps.specs.Follow.{FReturning, Step, Pushes, Does, Gives, Ends, Behind}
+
+-- what is to be done next
+pub data Next : Type 0 where
+  ToDo : (t : Task) → Next
+  Given : (v : Signal) → Next
+  Ended : (why : Ending) → Next
+
+-- what a frame makes of what comes to it
+abbrev pub back_of : TypedProgram → Follow → Signal → State → Result
+back_of P (FConverting to) v s = converting to v s
+back_of P (FUnary op k) v s = unary op k v s
+back_of P (FElement p) v s = element p v s
+back_of P (FArgument f rest done) v s = want v s
+    (λ w. arguments (meaning P) P f rest (done ++ w ∷ []) s)
+back_of P (FLeft op k right) v s = after_left (meaning P) op k right v s
+back_of P (FRight op k a) v s = operated op k a v s
+back_of P (FAnd right) v s = after_and (meaning P) right v s
+back_of P (FOr right) v s = after_or (meaning P) right v s
+back_of P FTruth v s = truth v s
+back_of P FValued v s = valued v s
+back_of P (FChoice one other) v s = after_choice (meaning P) one other v s
+back_of P (FComma right) v s = after_comma (meaning P) right v s
+back_of P (FAssignElement op to at p right) v s = assign_element (meaning P) op to at p right v s
+back_of P (FAssigned x) v s = assigned x v s
+back_of P (FCompounded op to at x old) v s = compounded op to at x old v s
+back_of P (FBumpElement op k p) v s = bump_element op k p v s
+back_of P (FCaller scalars count base room) v s = left scalars count base room v s
+back_of P FDropped v s = dropped v s
+back_of P (FInitialised i) v s = initialised i v s
+back_of P (FSequence rest) v s = going_on v s (sequence (meaning P) rest)
+back_of P (FIf one other) v s = after_if (meaning P) one other v s
+back_of P (FThenTurn test post body) v s = meaning P (Turn test post body) s
+back_of P (FLocals rest test post body) v s = going_on v s (locals (meaning P) rest test post body)
+back_of P (FTest test post body) v s = after_test (meaning P) test post body v s
+back_of P (FBody test post body) v s = after_body (meaning P) test post body v s
+back_of P FReturning v s = returning v s
+
+-- what a list of frames makes of it
+unfoldable pub unwind_of : TypedProgram → List Follow → Signal → State → Result
+unwind_of P [] v s = Go v s
+unwind_of P (f ∷ fs) v s = then (back_of P f v s) (unwind_of P fs)
+
+-- what a move means by itself, and before a list of frames
+abbrev pub settle_of : TypedProgram → Step → Result
+settle_of P (Pushes t f s) = then (meaning P t s) (back_of P f)
+settle_of P (Does t s) = meaning P t s
+settle_of P (Gives v s) = Go v s
+settle_of P (Ends why s) = Over why s
+settle_of P (Behind f step) = then (settle_of P step) (back_of P f)
+
+abbrev pub ahead_of : TypedProgram → Step → List Follow → Result
+ahead_of P (Pushes t f s) fs = then (meaning P t s) (unwind_of P (f ∷ fs))
+ahead_of P (Does t s) fs = then (meaning P t s) (unwind_of P fs)
+ahead_of P (Gives v s) fs = unwind_of P fs v s
+ahead_of P (Ends why s) fs = Over why s
+ahead_of P (Behind f step) fs = ahead_of P step (f ∷ fs)
+
+-- what is ahead of what is to be done next, before a list of frames
+abbrev pub ahead_next : TypedProgram → Next → List Follow → State → Result
+ahead_next P (ToDo t) fs s = then (meaning P t s) (unwind_of P fs)
+ahead_next P (Given v) fs s = unwind_of P fs v s
+ahead_next P (Ended why) fs s = Over why s
+
+abbrev pub is_conversion : Node → Bool
+is_conversion (Convert to e) = true
+is_conversion _ = false
+
+-- how much is still to be done: each move makes it less
+abbrev pub task_rank : Task → ℕ
+task_rank (Of e) = cond (is_conversion (node_of e)) 3 1
+task_rank (Run st) = 1
+task_rank (Turn test post body) = 5
+
+abbrev pub next_rank : Next → ℕ
+next_rank (ToDo t) = task_rank t
+next_rank (Given v) = 6
+next_rank (Ended why) = 0
+
+abbrev pub rank : Next → ℕ → ℕ → ℕ
+rank n stock count = 8 * stock + (count + next_rank n)
+
+abbrev pub is_empty : {A : Type 0} → List A → Bool
+is_empty [] = true
+is_empty (x ∷ xs) = false
+
+-- whether nothing is left to be done
+abbrev pub is_over : Next → List Follow → Bool
+is_over (ToDo t) fs = false
+is_over (Given v) fs = is_empty fs
+is_over (Ended why) fs = true
+
+-- the result that is reached
+abbrev pub IsReached : Next → State → Result → Type 0
+IsReached (ToDo t) s r = ⊥
+IsReached (Given v) s r = r ≡ Go v s
+IsReached (Ended why) s r = r ≡ Over why s
+
+-- nothing is given
+abbrev pub NotGiven : Next → Type 0
+NotGiven (Given v) = ⊥
+NotGiven _ = Unit {0}
+
+-- what is done next, the state and the frames after a step
+abbrev pub IsStep : Step → Next → State → List Follow → List Follow → Type 0
+IsStep (Pushes t f s) n s' before after = (n ≡ ToDo t) × (s' ≡ s) × (after ≡ f ∷ before)
+IsStep (Does t s) n s' before after = (n ≡ ToDo t) × (s' ≡ s) × (after ≡ before)
+IsStep (Gives v s) n s' before after = (n ≡ Given v) × (s' ≡ s) × (after ≡ before)
+IsStep (Ends why s) n s' before after = (n ≡ Ended why) × (s' ≡ s) × (after ≡ before)
+IsStep (Behind f step) n s' before after = IsStep step n s' (f ∷ before) after × NotGiven n

@@ -1,0 +1,382 @@
+-- What each statement does to what typing keeps, and that its typed tree is well formed.
+use Rattle.std.proofs.Common.{◌≡◌, ℕ, ◌*◌, ◌<◌, ◌≤◌, Bool, true, false, cond, ℤ, pos, negsuc, List, [], ◌∷◌, ◌++◌}
+use Rattle.std.proofs.Common.{length, Option, Some, None, refl, sym, ap, ◌∙◌, subst, arith, append-nil, length-append}
+use Rattle.std.specs.Prelude.{IfSome, nat_lt, slice_get}
+use Rattle.std.proofs.lemmas.Bool.{false≢true, leb-true, ltb-true}
+use Rattle.c_tree.specs.declared.token.Kind.{Kind}
+use Rattle.c_tree.specs.declared.tree.ArraySize.{ArraySize}
+use Rattle.c_tree.specs.declared.tree.ArraySize.TheVariants as size
+use Rattle.c_tree.specs.declared.tree.Expr.{Expr}
+use Rattle.c_tree.specs.declared.typed.Place.TheVariants as place
+use Rattle.c_tree.specs.declared.typed.Slot.{Slot}
+use Rattle.c_tree.specs.declared.typed.Slot.TheVariants as slot
+use Rattle.c_tree.specs.declared.typed.TypedExpr.{TypedExpr}
+use Rattle.c_tree.specs.declared.typed.TypedFunc.{TypedFunc}
+use Rattle.c_tree.specs.declared.typed.TypedProgram.{TypedProgram}
+use Rattle.c_tree.specs.declared.typed.TypedStmt.{TypedStmt, roll-TypedStmt, out-TypedStmt, out-roll-TypedStmt}
+use Rattle.c_tree.specs.declared.typed.TypedStmt.TheVariants as typed
+use Rattle.c_tree.specs.declared.typed.TypedForInit.{TypedForInit, roll-TypedForInit, out-TypedForInit}
+use Rattle.c_tree.specs.declared.typed.TypedForInit.{out-roll-TypedForInit}
+use Rattle.c_tree.specs.declared.typed.TypedForInit.TheVariants as typed_init
+use Rattle.c_scope.specs.declared.meaning.Binding.{Binding}
+use Rattle.c_scope.specs.declared.meaning.Meaning.TheVariants as meaning
+use Rattle.c_scope.specs.Scope.{Scope, Frame, declared_in, bound}
+use Rattle.c_constant.specs.Constant.{constant}
+use Rattle.c_constant.specs.Kinds.{number}
+use Rattle.c_constant.specs.Need.{Needs, need, needs}
+use Rattle.c_type_expr.specs.declared.role.Role.TheVariants.{Value, Free}
+use Rattle.c_type_expr.specs.Roles.{Blame}
+use Rattle.c_type_expr.specs.Trees.{tree, converted}
+use Rattle.c_type_expr.specs.Constants.{full, need_fault, size_fault, value_fault, length_of, length_in, length_from}
+use Rattle.c_type_expr.specs.Constants.{word_in}
+use Rattle.c_type_expr.proofs.Theorem.{complete}
+use Rattle.c_type.specs.declared.state.State.{State}
+use Rattle.c_type.specs.States.{full_if, tree_if, value_of, with_scalar, with_array}
+use Rattle.c_type.specs.Declarations.{bytes, scalar_init_fault, sized_fault, declare_tree}
+use Rattle.c_type.specs.Statements.{Part, Beginning, node_part, init_part, all_after, all_fault, all_trees, else_after}
+use Rattle.c_type.specs.Statements.{else_fault, else_tree, return_fault, return_tree}
+use Rattle.c_tree.specs.declared.tree.ForInit.TheOpen.{StmtNode-F, ForInit-F}
+use Rattle.c_type_laws.specs.Objects.{slot_scalar, local_array}
+use Rattle.c_type_laws.specs.Needs.{FitsNeed, typed_needs}
+use Rattle.c_type_laws.specs.Statements.{Level, IsValue, IsTest, IsEffect, IsValueIf, IsTestIf, IsEffectIf, IsReturn}
+use Rattle.c_type_laws.specs.Statements.{Runs, RunsAll, RunsElse, Begins}
+use Rattle.c_type_laws.specs.Statements as rule
+use Rattle.c_type_laws.specs.WellFormed.{Each, ArrayFits}
+use Rattle.c_type_laws.proofs.Values.{Exists, Plain, fits, plain_has, converted_has}
+use Rattle.c_type_laws.proofs.TypedNeeds.{same_needs, converted_need}
+use Rattle.c_type_laws.proofs.Moves.{split, held, Known, knows, Fine, Within, Ahead, Moves, still, made, looped}
+use Rattle.c_type_laws.proofs.Moves.{scoped, then}
+
+-- a statement that is built is open again
+opened : (s : TypedStmt) (x : Level) → roll-TypedStmt x ≡ s → out-TypedStmt s ≡ x
+opened s x e = ap out-TypedStmt (sym e) ∙ out-roll-TypedStmt x
+
+-- LISTS
+
+-- an element stands behind those before it
+pub at_end : {A : Type 0} (xs : List A) (x : A) (ys : List A) → slice_get ((xs ++ x ∷ []) ++ ys) (length xs) ≡ Some x
+at_end [] x ys = refl
+at_end (z ∷ xs) x ys = at_end xs x ys
+
+-- what holds of a list and one element more
+pub each_last : {A : Type 0} (Q : A → Type 0) (xs : List A) (x : A) → Each Q xs → Q x → Each Q (xs ++ x ∷ [])
+each_last Q [] x a b = (b, tt)
+each_last Q (y ∷ xs) x a b = (a.0, each_last Q xs x a.1 b)
+
+-- SIZES
+
+-- a length that a number gives is at least 1
+from_some : (z : ℤ) (l : ℕ) → value_fault (length_from z) l ≡ None → 1 ≤ word_in (length_from z)
+from_some (pos n) l e = by (nat_lt 0 n) refl
+  where
+    by : (b : Bool) → nat_lt 0 n ≡ b → 1 ≤ word_in (length_from (pos n))
+    by true h = subst (λ b. 1 ≤ word_in (cond b (Some n) None)) (sym h) (ltb-true 0 n h)
+    by false h = absurd (false≢true (held _ _ (sym (ap (λ b. value_fault (cond b (Some n) None) l) h) ∙ e)))
+from_some (negsuc n) l e = absurd (false≢true (held _ _ e))
+
+-- the same of the value of a constant
+in_some : (k : Kind) (v : Option ℕ) (l : ℕ) → value_fault (length_in k v) l ≡ None → 1 ≤ word_in (length_in k v)
+in_some k None l e = absurd (false≢true (held _ _ e))
+in_some k (Some w) l e = from_some (number k w) l e
+
+-- a size without a fault is at least 1
+pub size_some : (e : Expr) (G : Scope) → size_fault e G ≡ None → 1 ≤ word_in (length_of e)
+size_some e G h = in_some (constant e).kind (constant e).value e.line (split _ _ h).1
+
+-- a declaration changes the innermost block alone
+pub outer_in : (b : Binding) (N : Scope) (F F' : Frame) (G : Scope) → N ≡ F ∷ F' ∷ G → (new : Frame)
+    × (declared_in b N ≡ new ∷ F' ∷ G)
+outer_in b N F F' G e = (b ∷ F, ap (declared_in b) e)
+
+module _ (P : TypedProgram) (f : TypedFunc) where
+  -- FULL EXPRESSIONS
+
+  -- a tree needs no more than its expression
+  needs_fit : (e : Expr) (t : TypedExpr) → typed_needs t ≡ needs e → need_fault e ≡ None → FitsNeed t
+  needs_fit e t h n = subst (λ (n : Needs). n.need ≤ 16) (sym h) (leb-true (need e) 16 (held _ _ n))
+
+  -- a full expression whose value is wanted
+  pub full_value : (e : Expr) (G : Scope) → Known P f G → full e Value G ≡ None → (p : Plain P f (tree e G))
+      × FitsNeed (tree e G)
+  full_value e G k h =
+      let s = split _ _ h in let d = complete e G Value s.0 in
+      (fits P f G (knows P f G k) Value e _ d, needs_fit e _ (same_needs G Value e _ d) s.1)
+
+  -- the same, converted to a type
+  full_converted : (k : Kind) (e : Expr) (G : Scope) → Known P f G → full e Value G ≡ None
+      → IsValue P f k (converted k (tree e G))
+  full_converted k e G g h =
+      let v = full_value e G g h in
+      (converted_has P f k (tree e G) v.0, subst (λ n. n ≤ 16) (sym (converted_need k (tree e G))) v.1)
+
+  -- a full expression that tells whether to go on
+  full_test : (e : Expr) (G : Scope) → Known P f G → full e Value G ≡ None → IsTest P f (tree e G)
+  full_test e G k h =
+      let v = full_value e G k h in record { kind = v.0.kind; value = (plain_has P f (tree e G) v.0, v.1) }
+
+  -- a full expression whose value is not wanted
+  full_effect : (e : Expr) (G : Scope) → Known P f G → full e Free G ≡ None → IsEffect P f (tree e G)
+  full_effect e G k h =
+      let s = split _ _ h in let d = complete e G Free s.0 in
+      (fits P f G (knows P f G k) Free e _ d, needs_fit e _ (same_needs G Free e _ d) s.1)
+
+  -- a part that keeps everything
+  asks : {T : Type 0} (Q : Bool → T → Type 0) (fault : Bool → State → Blame) (t : State → T)
+      → ((b : Bool) (v : State) → Fine P f v → fault b v ≡ None → Q b (t v)) → Moves P f Q (λ v. v) fault t
+  asks Q fault t h = record { ahead = still P f; runs = λ b v i w e. (i, h b v i e) }
+
+  -- a test, as a part
+  test_part : (e : Expr) → Moves P f (λ b. IsTest P f) (λ v. v) (λ b v. full e Value v.names) (λ v. tree e v.names)
+  test_part e = asks _ _ _ (λ b v i h. full_test e v.names i.names h)
+
+  -- a test that may be left out
+  test_if : (e : Option Expr)
+      → Moves P f (λ b. IsTestIf P f) (λ v. v) (λ b v. full_if e Value v.names) (λ v. tree_if e v.names)
+  test_if None = asks _ _ _ (λ b v i h. tt)
+  test_if (Some e) = asks _ _ _ (λ b v i h. full_test e v.names i.names h)
+
+  -- an expression without a value, as a part
+  effect_part : (e : Expr) → Moves P f (λ b. IsEffect P f) (λ v. v) (λ b v. full e Free v.names) (λ v. tree e v.names)
+  effect_part e = asks _ _ _ (λ b v i h. full_effect e v.names i.names h)
+
+  -- one that may be left out
+  effect_if : (e : Option Expr)
+      → Moves P f (λ b. IsEffectIf P f) (λ v. v) (λ b v. full_if e Free v.names) (λ v. tree_if e v.names)
+  effect_if None = asks _ _ _ (λ b v i h. tt)
+  effect_if (Some e) = asks _ _ _ (λ b v i h. full_effect e v.names i.names h)
+
+  -- STATEMENTS
+
+  -- the tree of a statement is well formed
+  abbrev pub Run : Bool → TypedStmt → Type 0
+  Run b s = Runs P f b (out-TypedStmt s)
+
+  -- the tree of the first part of a `for` is
+  abbrev pub Begin : Bool → TypedForInit → Type 0
+  Begin b s = Begins P f b (out-TypedForInit s)
+
+  -- a statement keeps what holds, and its tree is well formed
+  abbrev pub Sound : Part → Type 0
+  Sound p = Moves P f Run p.after p.fault p.tree
+
+  -- the same of the first part of a `for`
+  abbrev pub SoundFirst : Beginning → Type 0
+  SoundFirst p = Moves P f Begin p.after p.fault p.tree
+
+  -- the same of several statements
+  abbrev pub SoundAll : List Part → Type 0
+  SoundAll ps = Moves P f (RunsAll P f) (all_after ps) (all_fault ps) (all_trees ps)
+
+  -- the same of an `else`, if there is one
+  abbrev pub SoundElse : Option Part → Type 0
+  SoundElse p = Moves P f (RunsElse P f) (else_after p) (else_fault p) (else_tree p)
+
+  -- a node that is well formed makes a statement that is
+  pub run : (b : Bool) (s : TypedStmt) (x : Level) → roll-TypedStmt x ≡ s → Runs P f b x → Run b s
+  run b s x e r = subst (Runs P f b) (sym (opened s x e)) r
+
+  -- the same of the first part of a `for`
+  begin : (b : Bool) (s : TypedForInit) (x : rule.Beginning) → roll-TypedForInit x ≡ s → Begins P f b x → Begin b s
+  begin b s x e r = subst (Begins P f b) (sym (ap out-TypedForInit (sym e) ∙ out-roll-TypedForInit x)) r
+
+  -- a node of a statement, at a line
+  abbrev Node : Type 0
+  Node = StmtNode-F Beginning (ℕ → Part) Part
+
+  -- an expression statement
+  pub on_plain : (e : Option Expr) (l : ℕ) → Sound (node_part (StmtNode-F.Plain e) l)
+  on_plain e l = made P f typed.Plain (λ b t r. run b _ _ (typed.rolls-Plain t) (rule.plain r)) (effect_if e)
+
+  -- statements in order
+  pub on_all : (ps : List Part) → Each Sound ps → SoundAll ps
+  on_all [] h = asks _ _ _ (λ b v i e. rule.end)
+  on_all (p ∷ ps) h = made P f (λ t. t.0 ∷ t.1) (λ b t r. rule.next r.0 r.1) (then P f h.0 (on_all ps h.1))
+
+  -- an `else`
+  pub on_else : (p : Option Part) → IfSome p Sound → SoundElse p
+  on_else None h = asks _ _ _ (λ b v i e. rule.without)
+  on_else (Some p) h = made P f Some (λ b t r. rule.with_else r) h
+
+  -- a compound
+  pub on_compound : (ps : List Part) (l : ℕ) → SoundAll ps → Sound (node_part (StmtNode-F.Compound ps) l)
+  on_compound ps l h =
+      made P f typed.Compound (λ b t r. run b _ _ (typed.rolls-Compound t) (rule.compound r)) (scoped P f h)
+
+  -- an `if`
+  pub on_if : (test : Expr) (one : Part) (other : Option Part) (l : ℕ) → Sound one → SoundElse other
+      → Sound (node_part (StmtNode-F.If test one other) l)
+  on_if test one other l h g =
+      made P f (λ t. typed.If t.0 t.1.0 t.1.1)
+      (λ b t r. run b _ _ (typed.rolls-If t.0 t.1.0 t.1.1) (rule.choice r.0 r.1.0 r.1.1))
+      (then P f (test_part test) (then P f h g))
+
+  -- a `while`
+  pub on_while : (test : Expr) (body : Part) (l : ℕ) → Sound body → Sound (node_part (StmtNode-F.While test body) l)
+  on_while test body l h =
+      made P f (λ t. typed.While t.0 t.1) (λ b t r. run b _ _ (typed.rolls-While t.0 t.1) (rule.while_loop r.0 r.1))
+      (then P f (test_part test) (looped P f h))
+
+  -- a `do`
+  pub on_do : (body : Part) (test : Expr) (l : ℕ) → Sound body → Sound (node_part (StmtNode-F.Do body test) l)
+  on_do body test l h =
+      made P f (λ t. typed.Do t.0 t.1) (λ b t r. run b _ _ (typed.rolls-Do t.0 t.1) (rule.do_loop r.0 r.1))
+      (then P f (looped P f h) (test_part test))
+
+  -- a `for`
+  pub on_for : (init : Beginning) (test post : Option Expr) (body : Part) (l : ℕ) → SoundFirst init → Sound body
+      → Sound (node_part (StmtNode-F.For init test post body) l)
+  on_for init test post body l h g =
+      made P f (λ t. typed.For t.0 t.1.0 t.1.1.0 t.1.1.1)
+      (λ b t r. run b _ _ (typed.rolls-For t.0 t.1.0 t.1.1.0 t.1.1.1) (rule.for_loop r.0 r.1.0 r.1.1.0 r.1.1.1))
+      (scoped P f (then P f h (then P f (test_if test) (then P f (effect_if post) (looped P f g)))))
+
+  -- a `break`
+  pub on_break : (l : ℕ) → Sound (node_part StmtNode-F.Break l)
+  on_break l = asks _ _ _ (λ b v i h. subst (λ b. Run b typed.Break) (sym (held _ _ h))
+      (run true _ _ typed.rolls-Break rule.breaks))
+
+  -- a `continue`
+  pub on_continue : (l : ℕ) → Sound (node_part StmtNode-F.Continue l)
+  on_continue l = asks _ _ _
+      (λ b v i h. subst (λ b. Run b typed.Continue) (sym (held _ _ h))
+      (run true _ _ typed.rolls-Continue rule.continues))
+
+  -- a value is returned exactly where the function gives one
+  return_fits : (r : Option Kind) (e : Option Expr) (G : Scope) (l : ℕ) → Known P f G → full_if e Value G ≡ None
+      → return_fault r e l ≡ None → IsReturn P f r (return_tree r e G)
+  return_fits None None G l k h e = tt
+  return_fits None (Some x) G l k h e = absurd (cc)
+  return_fits (Some j) None G l k h e = absurd (cc)
+  return_fits (Some j) (Some x) G l k h e = full_converted j x G k h
+
+  -- a `return`
+  pub on_return : (e : Option Expr) (l : ℕ) → Sound (node_part (StmtNode-F.Return e) l)
+  on_return e l =
+      asks _ _ _ (λ b v i h. let s = split _ _ h in
+      run b _ _ (typed.rolls-Return (return_tree v.result e v.names))
+      (rule.returns (subst (λ r. IsReturn P f r (return_tree v.result e v.names)) i.result
+      (return_fits v.result e v.names l i.names s.0 s.1))))
+
+  -- DECLARATIONS
+
+  -- a name that is in the program is declared
+  pub known_in : (b : Binding) (G : Scope) → Exists P f b.meaning → Known P f G → Known P f (declared_in b G)
+  known_in b [] x k = ((x, tt), tt)
+  known_in b (F ∷ G) x k = ((x, k.0), k.1)
+
+  -- a local scalar is one slot more
+  pub scalar_ahead : (k : Kind) (w : List ℕ) (v : State) → Ahead P f v (with_scalar k w v)
+  scalar_ahead k w v = record {
+    scalars = slot.Scalar k ∷ [];
+    arrays = [];
+    are = refl;
+    and = sym (append-nil v.arrays);
+    hold = (tt, tt);
+    result = refl;
+    outer = λ F F' G e. outer_in _ v.names F F' G e;
+  }
+
+  -- a local array is one array more
+  array_ahead : (k : Kind) (w : List ℕ) (n : ℕ) (v : State) → Ahead P f v (with_array k w n v)
+  array_ahead k w n v = record {
+    scalars = [];
+    arrays = (record { kind = k; length = n }) ∷ [];
+    are = sym (append-nil v.scalars);
+    and = refl;
+    hold = tt;
+    result = refl;
+    outer = λ F F' G e. outer_in _ v.names F F' G e;
+  }
+
+  -- the slot of a local scalar
+  scalar_is : (k : Kind) (w : List ℕ) (v : State) → Within P f (with_scalar k w v)
+      → slice_get f.scalars (length v.scalars) ≡ Some (slot.Scalar k)
+  scalar_is k w v i = ap (λ ss. slice_get ss (length v.scalars)) i.are ∙ at_end v.scalars (slot.Scalar k) i.scalars
+
+  -- the array of a local array
+  array_is : (k : Kind) (w : List ℕ) (n : ℕ) (v : State) → Within P f (with_array k w n v)
+      → slice_get f.arrays (length v.arrays) ≡ Some (record { kind = k; length = n })
+  array_is k w n v i = ap (λ ss. slice_get ss (length v.arrays)) i.and
+      ∙ at_end v.arrays (record { kind = k; length = n }) i.arrays
+
+  -- an initialiser is converted to the type of its scalar
+  init_fits : (k : Kind) (init : Option Expr) (G : Scope) → Known P f G → full_if init Value G ≡ None
+      → IsValueIf P f k (value_of init k G)
+  init_fits k None G g h = tt
+  init_fits k (Some e) G g h = full_converted k e G g h
+
+  -- a slot more, where there are enough
+  still_more : (ss : List Slot) (s : Slot) (n : ℕ) → n ≤ length ss → n ≤ length (ss ++ s ∷ [])
+  still_more ss s n h = omega (arith, h, length-append ss (s ∷ []))
+
+  -- one more than fewer than 64
+  one_more : (ss : List Slot) (s : Slot) → length ss < 64 → length (ss ++ s ∷ []) ≤ 64
+  one_more ss s h = omega (arith, h, length-append ss (s ∷ []))
+
+  -- the declaration of a local scalar
+  scalar_runs : (k : Kind) (w : List ℕ) (init : Option Expr) (l : ℕ) (b : Bool) (v : State) → Fine P f v
+      → Within P f (with_scalar k w v)
+      → scalar_init_fault k w init l v ≡ None → Fine P f (with_scalar k w v)
+      × Run b (declare_tree size.Scalar k w init v)
+  scalar_runs k w init l b v i within h =
+      let s = split _ _ h in
+      let few : length v.scalars < 64 = ltb-true (length v.scalars) 64 (held _ _ (split _ _ s.0).1) in
+      let is = scalar_is k w v within in
+      let known = known_in (bound w (meaning.Scalar k (place.Scalar (length v.scalars)))) v.names
+      (ap slot_scalar is) i.names in (
+        record {
+          names = known;
+          result = i.result;
+          params = still_more v.scalars (slot.Scalar k) f.params i.params;
+          count = one_more v.scalars (slot.Scalar k) few;
+          arrays = i.arrays;
+        },
+        run b _ _ (typed.rolls-Declare _ _)
+            (rule.scalar i.params is (init_fits k init (with_scalar k w v).names known s.1)),
+      )
+
+  -- the declaration of a local array
+  array_runs : (e : Expr) (k : Kind) (w : List ℕ) (init : Option Expr) (l : ℕ) (b : Bool) (v : State) → Fine P f v
+      → Within P f (with_array k w (word_in (length_of e)) v)
+      → sized_fault e k w init l v.names ≡ None → Fine P f (with_array k w (word_in (length_of e)) v)
+      × Run b (declare_tree (size.Sized e) k w init v)
+  array_runs e k w init l b v i within h =
+      let s = split _ _ (split _ _ h).0 in
+      let n = word_in (length_of e) in
+      let is = array_is k w n v within in
+      let fits : ArrayFits (record { kind = k; length = n }) =
+      record { some = size_some e v.names s.0; bytes = leb-true (n * bytes k) 1048576 (held _ _ (split _ _ s.1).1) } in
+      let known = known_in (bound w (meaning.Array k (place.Array (length v.arrays)))) v.names
+      (ap local_array is) i.names in (
+        record {
+          names = known;
+          result = i.result;
+          params = i.params;
+          count = i.count;
+          arrays = each_last ArrayFits v.arrays (record { kind = k; length = n }) i.arrays fits;
+        },
+        run b _ _ (typed.rolls-Declare _ _) (rule.array is),
+      )
+
+  -- a declaration
+  pub on_declare : (k : Kind) (w : List ℕ) (size : ArraySize) (init : Option Expr) (l : ℕ)
+      → Sound (node_part (StmtNode-F.Declare k w size init) l)
+  on_declare k w size.Scalar init l = record { ahead = scalar_ahead k w; runs = scalar_runs k w init l }
+  on_declare k w size.Open init l = record { ahead = still P f; runs = λ b v i w e. absurd (cc) }
+  on_declare k w (size.Sized e) init l =
+      record { ahead = array_ahead k w (word_in (length_of e)); runs = array_runs e k w init l }
+
+  -- FIRST PARTS
+
+  -- no first part
+  pub on_nothing : SoundFirst (init_part ForInit-F.Nothing)
+  on_nothing = asks _ _ _ (λ b v i h. begin b _ _ typed_init.rolls-Nothing rule.nothing)
+
+  -- an expression
+  pub on_first : (e : Expr) → SoundFirst (init_part (ForInit-F.First e))
+  on_first e = made P f typed_init.First (λ b t r. begin b _ _ (typed_init.rolls-First t) (rule.first r))
+      (effect_part e)
+
+  -- declarations
+  pub on_locals : (ps : List Part) → SoundAll ps → SoundFirst (init_part (ForInit-F.Locals ps))
+  on_locals ps h = made P f typed_init.Locals (λ b t r. begin b _ _ (typed_init.rolls-Locals t) (rule.locals r)) h

@@ -1,0 +1,84 @@
+-- A typed program that is well formed: what evaluation and translation may rely on.
+use Rattle.std.specs.Prelude.{◌≡◌, ℕ, ◌+◌, ◌*◌, ◌≤◌, false, List, [], ◌∷◌, Option, Some, None}
+use Rattle.std.specs.Prelude.{length, drop, slice_get}
+use Rattle.c_tree.specs.declared.token.Kind.{Kind}
+use Rattle.c_tree.specs.declared.token.Kind.TheVariants.{Int}
+use Rattle.c_tree.specs.declared.typed.Slot.{Slot}
+use Rattle.c_tree.specs.declared.typed.Slot.TheVariants as slot
+use Rattle.c_tree.specs.declared.typed.TypedArray.{TypedArray}
+use Rattle.c_tree.specs.declared.typed.TypedFunc.{TypedFunc}
+use Rattle.c_tree.specs.declared.typed.TypedGlobal.{TypedGlobal}
+use Rattle.c_tree.specs.declared.typed.TypedProgram.{TypedProgram}
+use Rattle.c_tree.specs.declared.typed.TypedStmt.{out-TypedStmt}
+use Rattle.c_constant.specs.Kinds.{converted}
+use Rattle.c_type.specs.Declarations.{bytes}
+use Rattle.c_type_laws.specs.Statements.{Runs}
+
+-- the condition holds of each of the list
+abbrev pub Each : {A : Type 0} → (A → Type 0) → List A → Type 0
+Each Q [] = Unit {0}
+Each Q (x ∷ xs) = Q x × Each Q xs
+
+-- GLOBALS
+
+-- how many values a global holds
+abbrev pub count_of : Option ℕ → ℕ
+count_of None = 1
+count_of (Some n) = n
+
+abbrev pub global_bytes : TypedGlobal → ℕ
+global_bytes g = count_of g.length * bytes g.kind
+
+abbrev pub all_bytes : List TypedGlobal → ℕ
+all_bytes [] = 0
+all_bytes (g ∷ gs) = global_bytes g + all_bytes gs
+
+-- the word stands for a value of the type
+pub record IsWord (k : Kind) (w : ℕ) : Type 0 where
+  pub of : ℕ
+  pub is : w ≡ converted k of
+
+-- an array has an element; a global holds no fewer values than it is given, each of its type
+pub record GlobalFits (g : TypedGlobal) : Type 0 where
+  pub some : 1 ≤ count_of g.length
+  pub holds : length g.init ≤ count_of g.length
+  pub words : Each (IsWord g.kind) g.init
+
+-- FUNCTIONS
+
+-- a local array has an element, and at most 1,048,576 bytes
+pub record ArrayFits (a : TypedArray) : Type 0 where
+  pub some : 1 ≤ a.length
+  pub bytes : a.length * bytes a.kind ≤ 1048576
+
+-- the slot holds a value, and does not stand for an array
+abbrev pub IsScalar : Slot → Type 0
+IsScalar (slot.Scalar k) = Unit {0}
+IsScalar (slot.Address k) = ⊥
+
+pub record FunctionFits (P : TypedProgram) (f : TypedFunc) : Type 0 where
+  -- at most 8 parameters, each of which has a slot
+  pub params : f.params ≤ 8
+  pub slots : f.params ≤ length f.scalars
+  -- at most 64 slots, of which those after the parameters hold values
+  pub scalars : length f.scalars ≤ 64
+  pub locals : Each IsScalar (drop f.params f.scalars)
+  pub arrays : Each ArrayFits f.arrays
+  -- the body is well formed, and in no loop
+  pub body : Runs P f false (out-TypedStmt f.body)
+
+-- MAIN
+
+-- a function of type int(void)
+pub record IsMain (P : TypedProgram) : Type 0 where
+  pub function : TypedFunc
+  pub is : slice_get P.functions P.main ≡ Some function
+  pub result : function.result ≡ Some Int
+  pub params : function.params ≡ 0
+
+pub record WellFormed (P : TypedProgram) : Type 0 where
+  pub globals : Each GlobalFits P.globals
+  -- the globals have at most 1,048,576 bytes
+  pub bytes : all_bytes P.globals ≤ 1048576
+  pub functions : Each (FunctionFits P) P.functions
+  pub main : IsMain P

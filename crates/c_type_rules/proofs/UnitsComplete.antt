@@ -1,0 +1,220 @@
+-- An item, or a unit, without a fault has by the rules what the definitions compute.
+use Rattle.std.proofs.Common.{◌≡◌, ℕ, Bool, true, false, List, [], ◌∷◌, ◌++◌, map, Option, Some, None, refl, sym, ap, ◌∙◌, subst}
+use Rattle.std.specs.Prelude.{◌&&◌, cond, is_some}
+use Rattle.std.proofs.lemmas.Bool.{false≢true}
+use Rattle.c_tree.specs.declared.token.Kind.{Kind}
+use Rattle.c_tree.specs.declared.token.Kind.TheVariants.{Int}
+use Rattle.c_tree.specs.declared.tree.ArraySize.{ArraySize}
+use Rattle.c_tree.specs.declared.tree.ArraySize.TheVariants as size
+use Rattle.c_tree.specs.declared.tree.Expr.{Expr}
+use Rattle.c_tree.specs.declared.tree.Param.{Param}
+use Rattle.c_tree.specs.declared.tree.Program.{Program}
+use Rattle.c_tree.specs.declared.tree.Stmt.{Stmt}
+use Rattle.c_tree.specs.declared.tree.StmtNode.{StmtNode, out-StmtNode, roll-StmtNode, roll-out-StmtNode}
+use Rattle.c_tree.specs.declared.tree.StmtNode.TheVariants as node
+use Rattle.c_tree.specs.declared.tree.ForInit.{ForInit}
+use Rattle.c_tree.specs.declared.tree.ForInit.TheOpen.{StmtNode-F}
+use Rattle.c_tree.specs.declared.tree.Top.{Top}
+use Rattle.c_tree.specs.declared.tree.TopNode.{TopNode}
+use Rattle.c_tree.specs.declared.tree.TopNode.TheVariants.{Include, Global, Func}
+use Rattle.c_tree.specs.declared.typed.Callee.{Callee}
+use Rattle.c_tree.specs.declared.typed.Slot.{Slot}
+use Rattle.c_constant.specs.Kinds.{converted}
+use Rattle.c_constant.specs.Constant.{constant}
+use Rattle.c_constant.specs.Need.{need_fits}
+use Rattle.c_scope.specs.declared.meaning.Meaning.{Meaning}
+use Rattle.c_scope.specs.declared.meaning.Meaning.TheVariants as meaning
+use Rattle.c_scope.specs.Scope.{Scope, look_up}
+use Rattle.c_type_expr.specs.declared.fault.TypeFault.{TypeFault}
+use Rattle.c_type_expr.specs.declared.fault.TypeFault.TheVariants.{Twice}
+use Rattle.c_type_expr.specs.declared.fault.TypeFault.TheVariants as fault
+use Rattle.c_type_expr.specs.Constants.{not_fixed, length_of, word_in, constant_at}
+use Rattle.c_type_expr.specs.Roles.{Blame}
+use Rattle.c_type_expr.specs.Says.{Stops}
+use Rattle.c_type.specs.declared.file_scope.FileScope.{FileScope}
+use Rattle.c_type.specs.declared.state.State.{State}
+use Rattle.c_type.specs.States.{at}
+use Rattle.c_type.specs.Declarations.{is_end}
+use Rattle.c_type.specs.Units.{eof_name, getchar_name, putchar_name, int_slots, with_include, include_clash, global_names, count_of, count_fault, values_fault, function_fault, same_result, same_slots}
+use Rattle.c_type.specs.Functions.{slot_of, named_among, params_fault, name_fault, head_fault, entry, body_part, callee_in}
+use Rattle.c_type.specs.Statements.{Part}
+use Rattle.c_type.specs.Programs.{table, empty_file, is_int, no_slots, is_main, node_fault, node_after, item_after, items_fault, items_after, program_fault, program_tree}
+use Rattle.c_type_rules.specs.Units.{Values, Count, Named, Params, Agrees, Heads, is_block, Body, Item, Items, Accepts, no_value, one_value, single, counted, sized, unnamed, named, no_param, one_param, fresh, again, outermost, other, include, include_again, global, prototype, definition, no_item, one_item, accepts}
+use Rattle.c_type_rules.proofs.Constants.{constant_typed}
+use Rattle.c_type_rules.proofs.Sound.{both}
+use Rattle.c_type_rules.proofs.Complete.{split, held, not_held, less, at_most, sized_typed, whole_stmt, whole_all}
+use Rattle.c_type_rules.proofs.UnitsSound.{block_body, plain_body}
+use Rattle.c_type_rules.proofs.Tests.{both_hold, neither_holds, kinds, params_are, results_are}
+
+-- a value without a fault has its word by the rules, before others
+value_typed : (G : Scope) (k : Kind) (e : Expr) (es : List Expr) (o : Option ℕ) → (constant e).value ≡ o
+    → not_fixed e G ≡ None → is_some o ≡ true → need_fits e ≡ true → Values k es (map (constant_at k) es)
+    → Values k (e ∷ es) (map (constant_at k) (e ∷ es))
+value_typed G k e es None v f h n d = absurd (false≢true h)
+value_typed G k e es (Some w) v f h n d =
+    subst (λ o. Values k (e ∷ es) (converted k (word_in o) ∷ map (constant_at k) es)) (sym v)
+    (one_value (constant_typed e G f) v n d)
+
+-- values without a fault have their words by the rules
+values_typed : (G : Scope) (k : Kind) (es : List Expr) → values_fault es G ≡ None
+    → Values k es (map (constant_at k) es)
+values_typed G k [] h = no_value
+values_typed G k (e ∷ es) h =
+    let q = split _ _ h in
+    let r = split _ _ q.0 in
+    let u = split _ _ r.1 in
+    value_typed G k e es (constant e).value refl r.0 (held _ _ u.0) (held _ _ u.1) (values_typed G k es q.1)
+
+-- what a global holds has its count by the rules
+count_typed : (G : Scope) (init : List Expr) (s : ArraySize) (l : ℕ) → count_fault s init l G ≡ None
+    → Count init s (count_of s init)
+count_typed G init size.Scalar l h = single
+count_typed G init size.Open l h = counted (less _ _ (held _ _ h))
+count_typed G init (size.Sized e) l h = sized (sized_typed G e (length_of e) refl h)
+
+-- a parameter's name without a fault is one by the rules
+named_typed : (d : Bool) (G : Scope) (seen : List Param) (o : Option (List ℕ)) (l : ℕ)
+    → name_fault d G seen o l ≡ None → Named d G seen o
+named_typed d G seen None l h = unnamed (not_held _ _ h)
+named_typed d G seen (Some w) l h =
+    let q = neither_holds (named_among seen w) (is_end (look_up G w)) (not_held _ _ h) in named q.0 q.1
+
+-- parameters without a fault are some by the rules
+params_typed : (d : Bool) (G : Scope) (seen ps : List Param) → params_fault d G seen ps ≡ None → Params d G seen ps
+params_typed d G seen [] h = no_param
+params_typed d G seen (p ∷ ps) h =
+    let q = split _ _ h in
+    let r = split _ _ q.0 in
+    one_param (named_typed d G seen p.name p.line r.0) (less _ _ (held _ _ r.1))
+    (params_typed d G (seen ++ p ∷ []) ps q.1)
+
+-- a function without a fault agrees with what its name means
+agrees_typed : (d : Bool) (r : Option Kind) (ss : List Slot) (m : Option Meaning) (l : ℕ)
+    → function_fault d r ss m l ≡ None → Agrees d r ss m
+agrees_typed d r ss None l h = fresh
+agrees_typed d r ss (Some (meaning.Scalar k p)) l h =
+    absurd (false≢true (held false (Twice l) (split (Some (Twice l)) None h).0))
+agrees_typed d r ss (Some (meaning.Array k p)) l h =
+    absurd (false≢true (held false (Twice l) (split (Some (Twice l)) None h).0))
+agrees_typed d r ss (Some meaning.EndOfFile) l h =
+    absurd (false≢true (held false (Twice l) (split (Some (Twice l)) None h).0))
+agrees_typed d r ss (Some (meaning.Function r' ss' c s)) l h =
+    let q = split _ _ h in
+    let u = both_hold (same_result r' r) (same_slots ss' ss) (held _ _ q.1) in
+    subst (λ r'. Agrees d r ss (Some (meaning.Function r' ss' c s))) (sym (results_are r' r u.0))
+    (subst (λ ss'. Agrees d r ss (Some (meaning.Function r ss' c s))) (sym (params_are ss' ss u.1))
+    (again (not_held _ _ q.0)))
+
+-- what stands before a body is so by the rules
+heads_typed : (d : Bool) (r : Option Kind) (w : List ℕ) (ps : List Param) (l : ℕ) (G : Scope)
+    → head_fault d r w ps l G ≡ None → Heads d r w ps G
+heads_typed d r w ps l G h =
+    let q = split _ _ h in (params_typed d G [] ps q.0, agrees_typed d r (map slot_of ps) (look_up G w) l q.1)
+
+abbrev WholeBody : Stmt → Type 0
+WholeBody s =
+    (v : State) → (body_part s).fault false v ≡ None → Body v s ((body_part s).tree v) ((body_part s).after v)
+
+block_whole : (l : ℕ) (ss : List Stmt) → WholeBody (at l (node.Compound ss))
+block_whole l ss v =
+    subst (λ (p : Part). p.fault false v ≡ None → Body v (at l (node.Compound ss)) (p.tree v) (p.after v))
+    (sym (block_body l ss)) (λ h. outermost (whole_all false v ss h))
+
+other_whole : (s : Stmt) → is_block (out-StmtNode s.node) ≡ false → WholeBody s
+other_whole s e v =
+    subst (λ (p : Part). p.fault false v ≡ None → Body v s (p.tree v) (p.after v))
+    (sym (plain_body s e)) (λ h. other e (whole_stmt s false v h))
+
+whole_in : (s : Stmt) (x : StmtNode-F ForInit StmtNode Stmt) → out-StmtNode s.node ≡ x → WholeBody s
+whole_in s (StmtNode-F.Compound ss) e =
+    subst (λ n. WholeBody (at s.line n))
+    (sym (sym (roll-out-StmtNode s.node) ∙ ap roll-StmtNode e ∙ node.rolls-Compound ss)) (block_whole s.line ss)
+whole_in s _ e = other_whole s (ap is_block e)
+
+-- a body without a fault has its tree by the rules
+body_typed : (s : Stmt) → WholeBody s
+body_typed s = whole_in s (out-StmtNode s.node) refl
+
+-- an include without a fault is one by the rules
+include_typed : (T : Scope) (l : ℕ) (U : FileScope) (b : Bool) → is_end (look_up U.names eof_name) ≡ b
+    → cond b None (include_clash U.names l) ≡ None
+    → Item T U Include (record U { names = cond b U.names (with_include U.names) })
+include_typed T l U true e h = include_again e
+include_typed T l U false e h =
+    let a = split _ _ h in
+    let b = split _ _ a.1 in
+    let c = split _ _ b.1 in
+    let d = split _ _ c.1 in
+    include (not_held _ _ c.0)
+    (agrees_typed true (Some Int) [] (look_up U.names getchar_name) l (both _ _ a.0 d.0))
+    (agrees_typed true (Some Int) int_slots (look_up U.names putchar_name) l (both _ _ b.0 d.1))
+
+-- an item without a fault leads by the rules to the file scope after it
+item_typed : (T : Scope) (l : ℕ) (U : FileScope) (n : TopNode) → node_fault T n l U ≡ None
+    → Item T U n (node_after T n U)
+item_typed T l U Include h = include_typed T l U (is_end (look_up U.names eof_name)) refl h
+item_typed T l U (Global k w s init) h =
+    let q = split _ _ h in
+    let r = split _ _ q.0 in
+    let u = split _ _ r.1 in
+    let y = split _ _ q.1 in
+    global (count_typed U.names init s l r.0) (not_held _ _ u.0) (at_most _ _ (held _ _ u.1))
+    (values_typed (global_names s k w U) k init y.0) (at_most _ _ (held _ _ y.1))
+item_typed T l U (Func given w params None) h = prototype (heads_typed false given w params l U.names h)
+item_typed T l U (Func given w params (Some s)) h =
+    let q = split _ _ h in
+    definition (heads_typed true given w params l U.names q.0) (body_typed s (entry T w given params U.names) q.1)
+
+-- items without a fault lead by the rules to the file scope after them
+items_typed : (T : Scope) (U : FileScope) (ts : List Top) → items_fault T ts U ≡ None
+    → Items T U ts (items_after T ts U)
+items_typed T U [] h = no_item
+items_typed T U (t ∷ ts) h =
+    let q = split _ _ h in one_item (item_typed T t.line U t.node q.0) (items_typed T (item_after T t U) ts q.1)
+
+main_parts : (a b c : Bool) → a && b && c ≡ true → (a ≡ true) × (b ≡ true) × (c ≡ true)
+main_parts true true true h = (refl, refl, refl)
+main_parts true true false h = absurd (false≢true h)
+main_parts true false c h = absurd (false≢true h)
+main_parts false b c h = absurd (false≢true h)
+
+function_is : (r : Option Kind) (ps : List Slot) (c : Option Callee) (d : Bool) → is_int r ≡ true → no_slots ps ≡ true
+    → d ≡ true
+    → Some (meaning.Function r ps c d) ≡ Some (meaning.Function (Some Int) [] c true)
+function_is None ps c d h h' e = absurd (false≢true h)
+function_is (Some k) (s ∷ ss) c d h h' e = absurd (false≢true h')
+function_is (Some k) [] c d h h' e =
+    ap (λ k. Some (meaning.Function (Some k) [] c d)) (kinds k Int h)
+    ∙ ap (λ d. Some (meaning.Function (Some Int) [] c d)) e
+
+-- what the test takes for main is a definition of type int(void)
+main_is : (m : Option Meaning) → is_main m ≡ true → m ≡ Some (meaning.Function (Some Int) [] (callee_in m) true)
+main_is None h = absurd (false≢true h)
+main_is (Some (meaning.Scalar k p)) h = absurd (false≢true h)
+main_is (Some (meaning.Array k p)) h = absurd (false≢true h)
+main_is (Some meaning.EndOfFile) h = absurd (false≢true h)
+main_is (Some (meaning.Function r ps c d)) h =
+    let q = main_parts (is_int r) (no_slots ps) d h in function_is r ps c d q.0 q.1 q.2
+
+-- a unit without a fault is accepted by the rules with its typed program
+pub accepts_typed : (p : Program) → program_fault p ≡ None → Accepts p (program_tree p)
+accepts_typed p h =
+    let q = split _ _ h in accepts (items_typed (table p.items) empty_file p.items q.0) (main_is _ (held _ _ q.1))
+
+no_stop : (e : TypeFault) → None ≡ Some e → false ≡ true
+no_stop e h = ap is_some h
+
+-- where nothing fails, no error stops but want of memory
+pub stops_by_memory : (f : Blame) (e : TypeFault) → f ≡ None → Stops f e → e ≡ fault.Memory
+stops_by_memory f fault.Memory h s = refl
+stops_by_memory f (fault.Unknown l) h s = absurd (false≢true (no_stop (fault.Unknown l) (sym h ∙ s)))
+stops_by_memory f (fault.Twice l) h s = absurd (false≢true (no_stop (fault.Twice l) (sym h ∙ s)))
+stops_by_memory f (fault.Mismatch l) h s = absurd (false≢true (no_stop (fault.Mismatch l) (sym h ∙ s)))
+stops_by_memory f (fault.Arity l) h s = absurd (false≢true (no_stop (fault.Arity l) (sym h ∙ s)))
+stops_by_memory f fault.NoMain h s = absurd (false≢true (no_stop fault.NoMain (sym h ∙ s)))
+stops_by_memory f (fault.TooManyScalars l) h s =
+    absurd (false≢true (no_stop (fault.TooManyScalars l) (sym h ∙ s)))
+stops_by_memory f (fault.TooManyParams l) h s =
+    absurd (false≢true (no_stop (fault.TooManyParams l) (sym h ∙ s)))
+stops_by_memory f (fault.Need l) h s = absurd (false≢true (no_stop (fault.Need l) (sym h ∙ s)))
+stops_by_memory f (fault.TooLarge l) h s = absurd (false≢true (no_stop (fault.TooLarge l) (sym h ∙ s)))

@@ -1,0 +1,208 @@
+-- What the rules give an item, or a unit, has no fault, and is what the definitions compute.
+use Rattle.std.proofs.Common.{◌≡◌, ℕ, ◌+◌, ◌*◌, ◌≤◌, Bool, true, false, not, List, [], ◌∷◌, ◌++◌, map, length, Option, Some, None, refl, sym, ap, ◌∙◌, subst}
+use Rattle.std.specs.Prelude.{◌&&◌, ◌||◌, cond}
+use Rattle.std.proofs.lemmas.Bool.{false≢true}
+use Rattle.c_tree.specs.declared.token.Kind.{Kind}
+use Rattle.c_tree.specs.declared.token.Kind.TheVariants.{Int}
+use Rattle.c_tree.specs.declared.tree.ArraySize.{ArraySize}
+use Rattle.c_tree.specs.declared.tree.Expr.{Expr}
+use Rattle.c_tree.specs.declared.tree.Param.{Param}
+use Rattle.c_tree.specs.declared.tree.Program.{Program}
+use Rattle.c_tree.specs.declared.tree.Stmt.{Stmt}
+use Rattle.c_tree.specs.declared.tree.StmtNode.{StmtNode, out-StmtNode, out-roll-StmtNode}
+use Rattle.c_tree.specs.declared.tree.StmtNode.TheVariants as node
+use Rattle.c_tree.specs.declared.tree.ForInit.{ForInit}
+use Rattle.c_tree.specs.declared.tree.ForInit.TheOpen.{StmtNode-F}
+use Rattle.c_tree.specs.declared.tree.Top.{Top}
+use Rattle.c_tree.specs.declared.tree.TopNode.{TopNode}
+use Rattle.c_tree.specs.declared.typed.Slot.{Slot}
+use Rattle.c_tree.specs.declared.typed.TypedProgram.{TypedProgram}
+use Rattle.c_tree.specs.declared.typed.TypedStmt.{TypedStmt}
+use Rattle.c_tree.specs.declared.typed.TypedStmt.TheVariants as typed
+use Rattle.c_constant.specs.Kinds.{converted}
+use Rattle.c_constant.specs.Need.{need_fits}
+use Rattle.c_scope.specs.declared.meaning.Meaning.{Meaning}
+use Rattle.c_scope.specs.Scope.{Scope, look_up, is_here, closed}
+use Rattle.c_type_expr.specs.declared.fault.TypeFault.TheVariants.{Twice, Mismatch, TooManyParams, TooLarge, Need, NoMain}
+use Rattle.c_type_expr.specs.Roles.{unless}
+use Rattle.c_type_expr.specs.Constants.{word_in, value_fault, constant_at}
+use Rattle.c_type.specs.declared.file_scope.FileScope.{FileScope}
+use Rattle.c_type.specs.declared.state.State.{State}
+use Rattle.c_type.specs.States.{at}
+use Rattle.c_type.specs.Declarations.{bytes, is_end, is_taken}
+use Rattle.c_type.specs.Units.{eof_name, getchar_name, putchar_name, int_slots, with_include, include_clash, global_names, length_in, count_of, count_fault, values_fault, function_fault, same_slots}
+use Rattle.c_type.specs.Functions.{slot_of, params_fault, name_fault, head_fault, entry, body_in, body_part, callee_in}
+use Rattle.c_type.specs.Statements.{Part, part}
+use Rattle.c_type.specs.Programs.{table, empty_file, main_name, number_in, is_main, node_fault, node_after, items_fault, items_after, whole, program_fault, program_tree}
+use Rattle.c_type_rules.specs.Units.{Values, Count, Named, Params, Agrees, Heads, is_block, Body, Item, Items, Accepts, typed_function, no_value, one_value, single, counted, sized, unnamed, named, no_param, one_param, fresh, again, outermost, other, include, include_again, global, prototype, definition, no_item, one_item, accepts}
+use Rattle.c_type_rules.proofs.Constants.{constant_fine}
+use Rattle.c_type_rules.proofs.Sound.{both, fine, free, size_fine, less, at_most, types_fine, all_fine}
+use Rattle.c_type_rules.proofs.Complete.{split}
+use Rattle.c_type_rules.proofs.Tests.{neither_holds, result_itself, params_themselves}
+
+-- the values of a global have no fault, and their words
+values_fine : (G : Scope) (k : Kind) (es : List Expr) (ns : List ℕ) → Values k es ns
+    → (values_fault es G ≡ None) × (ns ≡ map (constant_at k) es)
+values_fine G k _ _ no_value = (refl, refl)
+values_fine G k _ _ (one_value {e = e} {n = n} {es = es} {ns = ns} f v n' d) =
+    let s = values_fine G k es ns d in (
+      both _ _ (both _ _ (constant_fine G e f) (both _ _ (ap (λ o. value_fault o e.line) v)
+          (fine (need_fits e) (Need e.line) n'))) s.0,
+      ap (λ o. converted k (word_in o) ∷ ns) (sym v) ∙ ap (λ ns. constant_at k e ∷ ns) s.1,
+    )
+
+-- what a global holds has no fault, and its count
+count_fine : (G : Scope) (init : List Expr) (s : ArraySize) (n : ℕ) (l : ℕ) → Count init s n
+    → (count_fault s init l G ≡ None) × (n ≡ count_of s init)
+count_fine G init _ _ l single = (refl, refl)
+count_fine G init _ _ l (counted h) = (fine _ (Mismatch l) (less _ _ h), refl)
+count_fine G init _ _ l (sized {e = e} {n = n} s) = (size_fine G e n s, ap word_in (sym s.1))
+
+-- a parameter's name has no fault
+named_fine : (d : Bool) (G : Scope) (seen : List Param) (o : Option (List ℕ)) (l : ℕ) → Named d G seen o
+    → name_fault d G seen o l ≡ None
+named_fine d G seen _ l (unnamed h) = fine _ (Mismatch l) (ap not h)
+named_fine d G seen _ l (named {w = w} h h') =
+    fine _ (Twice l) (ap (λ b. not (b || is_end (look_up G w))) h ∙ ap not h')
+
+-- parameters have no fault
+params_fine : (d : Bool) (G : Scope) (seen ps : List Param) → Params d G seen ps → params_fault d G seen ps ≡ None
+params_fine d G _ _ no_param = refl
+params_fine d G _ _ (one_param {seen = seen} {ps = ps} {p = p} n h r) =
+    both _ _ (both _ _ (named_fine d G seen p.name p.line n) (fine _ (TooManyParams p.line) (less _ _ h)))
+    (params_fine d G _ ps r)
+
+-- a function that agrees with what its name means has no fault
+agrees_fine : (d : Bool) (r : Option Kind) (ss : List Slot) (m : Option Meaning) (l : ℕ) → Agrees d r ss m
+    → function_fault d r ss m l ≡ None
+agrees_fine d r ss _ l fresh = refl
+agrees_fine d r ss _ l (again {c = c} {d = s} h) =
+    both _ _ (fine (not (d && s)) (Twice l) (ap not h))
+    (fine _ (Mismatch l) (ap (λ b. b && same_slots ss ss) (result_itself r) ∙ params_themselves ss))
+
+-- what stands before a body has no fault
+heads_fine : (d : Bool) (r : Option Kind) (w : List ℕ) (ps : List Param) (l : ℕ) (G : Scope) → Heads d r w ps G
+    → head_fault d r w ps l G ≡ None
+heads_fine d r w ps l G h =
+    both _ _ (params_fine d G [] ps h.0) (agrees_fine d r (map slot_of ps) (look_up G w) l h.1)
+
+abbrev BodyFine : State → Stmt → TypedStmt → State → Type 0
+BodyFine v s t w =
+    ((body_part s).fault false v ≡ None) × (t ≡ (body_part s).tree v) × (w ≡ (body_part s).after v)
+
+-- a body that is a block is judged without a scope of its own
+pub block_body : (l : ℕ) (ss : List Stmt)
+    → body_part (at l (node.Compound ss)) ≡ body_in (StmtNode-F.Compound ss) (at l (node.Compound ss))
+unfolding body_part
+block_body l ss =
+    ap (λ x. body_in x (at l (node.Compound ss)))
+    (ap out-StmtNode (sym (node.rolls-Compound ss)) ∙ out-roll-StmtNode (StmtNode-F.Compound ss))
+
+plain_in : (x : StmtNode-F ForInit StmtNode Stmt) (s : Stmt) → is_block x ≡ false → body_in x s ≡ part s
+plain_in (StmtNode-F.Compound ss) s h = absurd (false≢true (sym h))
+plain_in _ s h = refl
+
+-- another body is judged as a statement
+pub plain_body : (s : Stmt) → is_block (out-StmtNode s.node) ≡ false → body_part s ≡ part s
+unfolding body_part
+plain_body s h = plain_in (out-StmtNode s.node) s h
+
+-- a body has no fault, and its tree
+body_fine : (v : State) (s : Stmt) (t : TypedStmt) (w : State) → Body v s t w → BodyFine v s t w
+body_fine _ _ _ _ (outermost {v = v} {w = w} {l = l} {ss = ss} {ts = ts} d) =
+    let s = all_fine false v ss ts w d in
+    let e = block_body l ss in (
+      ap (λ (p : Part). p.fault false v) e ∙ s.0,
+      ap typed.Compound s.1 ∙ sym (ap (λ (p : Part). p.tree v) e),
+      s.2 ∙ sym (ap (λ (p : Part). p.after v) e),
+    )
+body_fine _ _ _ _ (other {v = v} {w = w} {s = s} {t = t} h d) =
+    let q = types_fine false v s t w d in
+    let e = plain_body s h in (
+      ap (λ (p : Part). p.fault false v) e ∙ q.0,
+      q.1 ∙ sym (ap (λ (p : Part). p.tree v) e),
+      q.2 ∙ sym (ap (λ (p : Part). p.after v) e),
+    )
+
+abbrev ItemFine : Scope → FileScope → TopNode → FileScope → ℕ → Type 0
+ItemFine T U n V l = (node_fault T n l U ≡ None) × (V ≡ node_after T n U)
+
+-- the first include has no fault
+clash_fine : (G : Scope) (l : ℕ) → is_taken G eof_name ≡ false → Agrees true (Some Int) [] (look_up G getchar_name)
+    → Agrees true (Some Int) int_slots (look_up G putchar_name)
+    → include_clash G l ≡ None
+clash_fine G l h a b =
+    let p = split _ _ (agrees_fine true (Some Int) [] (look_up G getchar_name) l a) in
+    let q = split _ _ (agrees_fine true (Some Int) int_slots (look_up G putchar_name) l b) in
+    both _ _ p.0 (both _ _ q.0 (both _ _ (free G eof_name l h) (both _ _ p.1 q.1)))
+
+-- an item has no fault, and leads to the file scope after it
+item_fine : (T : Scope) (l : ℕ) (U : FileScope) (n : TopNode) (V : FileScope) → Item T U n V → ItemFine T U n V l
+item_fine T l _ _ _ (include {U = U} h a b) =
+    let e = (neither_holds (is_here U.names eof_name) (is_end (look_up U.names eof_name)) h).1 in (
+      ap (λ b. cond b None (include_clash U.names l)) e ∙ clash_fine U.names l h a b,
+      ap (λ b. record U { names = cond b U.names (with_include U.names) }) (sym e),
+    )
+item_fine T l _ _ _ (include_again {U = U} e) = (
+  ap (λ b. cond b None (include_clash U.names l)) e,
+  ap (λ b. record U { names = cond b U.names (with_include U.names) }) (sym e),
+)
+item_fine T l _ _ _ (global {U = U} {k = k} {w = w} {s = s} {init = init} {n = n} {ns = ns} c h m d f) =
+    let p = count_fine U.names init s n l c in
+    let q = values_fine (global_names s k w U) k init ns d in (
+      both _ _
+          (both _ _ p.0 (both _ _ (free U.names w l h) (fine _ (TooLarge l)
+          (at_most _ _ (subst (λ n. n * bytes k + U.bytes ≤ 1048576) p.1 m)))))
+          (both _ _ q.0 (fine _ (Mismatch l) (at_most _ _ (subst (λ n. length init ≤ n) p.1 f)))),
+      ap (λ n. record U {
+        names = global_names s k w U;
+        globals = U.globals ++ (record { kind = k; length = length_in s n; init = ns }) ∷ [];
+        bytes = n * bytes k + U.bytes;
+      }) p.1
+          ∙ ap (λ ns. record U {
+            names = global_names s k w U;
+            globals = U.globals ++ (record { kind = k; length = length_in s (count_of s init); init = ns }) ∷ [];
+            bytes = count_of s init * bytes k + U.bytes;
+          }) q.1,
+    )
+item_fine T l _ _ _ (prototype {U = U} {given = given} {w = w} {params = params} h) =
+    (heads_fine false given w params l U.names h, refl)
+item_fine T l _ _ _ (definition {U = U} {given = given} {w = w} {params = params} {s = s} {t = t} {v = v} h d) =
+    let E = entry T w given params U.names in
+    let q = body_fine E s t v d in (
+      both _ _ (heads_fine true given w params l U.names h) q.0,
+      ap (λ t. record U {
+        names = closed v.names;
+        functions = U.functions ++ typed_function (length params) t v ∷ [];
+      }) q.1
+          ∙ ap (λ (v : State). record U {
+            names = closed v.names;
+            functions = U.functions ++ typed_function (length params) ((body_part s).tree E) v ∷ [];
+          }) q.2,
+    )
+
+-- items have no fault, and lead to the file scope after them
+items_fine : (T : Scope) (U : FileScope) (ts : List Top) (V : FileScope) → Items T U ts V
+    → (items_fault T ts U ≡ None) × (V ≡ items_after T ts U)
+items_fine T _ _ _ no_item = (refl, refl)
+items_fine T _ _ _ (one_item {U = U} {V = V} {W = W} {t = t} {ts = ts} d ds) =
+    let p = item_fine T t.line U t.node V d in
+    let q = items_fine T V ts W ds in (
+      both _ _ p.0 (ap (λ V. items_fault T ts V) (sym p.1) ∙ q.0),
+      q.1 ∙ ap (λ V. items_after T ts V) p.1,
+    )
+
+-- a unit that the rules accept has no fault, and its typed program
+pub accepts_fine : (p : Program) (t : TypedProgram) → Accepts p t → (program_fault p ≡ None) × (t ≡ program_tree p)
+accepts_fine _ _ (accepts {p = p} {U = U} {c = c} d h) =
+    let q = items_fine (table p.items) empty_file p.items U d in
+    let e = ap (λ (U : FileScope). look_up U.names main_name) (sym q.1) ∙ h in (
+      both _ _ q.0 (ap (λ m. unless (is_main m) NoMain) e),
+      ap (λ (U : FileScope). record { globals = U.globals; functions = U.functions; main = number_in c }) q.1
+          ∙ ap (λ m. record {
+            globals = (whole p).globals;
+            functions = (whole p).functions;
+            main =
+                number_in (callee_in m);
+          }) (sym e),
+    )

@@ -1,0 +1,143 @@
+-- Which typed programs a translation unit has, by one rule for each kind of item (C17 6.7, 6.9).
+use Rattle.std.specs.Prelude.{◌≡◌, ℕ, ◌+◌, ◌*◌, ◌≤◌, ◌<◌, Bool, true, false, ◌&&◌, length, List, [], ◌∷◌, ◌++◌, map, Option, Some, None}
+use Rattle.c_tree.specs.declared.token.Kind.{Kind}
+use Rattle.c_tree.specs.declared.token.Kind.TheVariants.{Int}
+use Rattle.c_tree.specs.declared.tree.ArraySize.{ArraySize}
+use Rattle.c_tree.specs.declared.tree.ArraySize.TheVariants as size
+use Rattle.c_tree.specs.declared.tree.Expr.{Expr}
+use Rattle.c_tree.specs.declared.tree.Param.{Param}
+use Rattle.c_tree.specs.declared.tree.Program.{Program}
+use Rattle.c_tree.specs.declared.tree.Stmt.{Stmt}
+use Rattle.c_tree.specs.declared.tree.StmtNode.{StmtNode, out-StmtNode}
+use Rattle.c_tree.specs.declared.tree.StmtNode.TheVariants as node
+use Rattle.c_tree.specs.declared.tree.ForInit.{ForInit}
+use Rattle.c_tree.specs.declared.tree.ForInit.TheOpen.{StmtNode-F, Compound}
+use Rattle.c_tree.specs.declared.tree.Top.{Top}
+use Rattle.c_tree.specs.declared.tree.TopNode.{TopNode}
+use Rattle.c_tree.specs.declared.tree.TopNode.TheVariants.{Include, Global, Func}
+use Rattle.c_tree.specs.declared.typed.Callee.{Callee}
+use Rattle.c_tree.specs.declared.typed.Slot.{Slot}
+use Rattle.c_tree.specs.declared.typed.TypedFunc.{TypedFunc}
+use Rattle.c_tree.specs.declared.typed.TypedProgram.{TypedProgram}
+use Rattle.c_tree.specs.declared.typed.TypedStmt.{TypedStmt}
+use Rattle.c_tree.specs.declared.typed.TypedStmt.TheVariants as typed
+use Rattle.c_constant.specs.Kinds.{converted}
+use Rattle.c_constant.specs.Constant.{constant}
+use Rattle.c_constant.specs.Need.{need_fits}
+use Rattle.c_scope.specs.declared.meaning.Meaning.{Meaning}
+use Rattle.c_scope.specs.declared.meaning.Meaning.TheVariants as meaning
+use Rattle.c_scope.specs.Scope.{Scope, look_up, closed}
+use Rattle.c_type.specs.declared.file_scope.FileScope.{FileScope}
+use Rattle.c_type.specs.declared.state.State.{State}
+use Rattle.c_type.specs.States.{at}
+use Rattle.c_type.specs.Declarations.{bytes, is_end, is_taken}
+use Rattle.c_type.specs.Units.{eof_name, getchar_name, putchar_name, int_slots, with_include, global_names, length_in}
+use Rattle.c_type.specs.Functions.{slot_of, named_among, with_prototype, entry}
+use Rattle.c_type.specs.Programs.{table, empty_file, main_name, number_in}
+use Rattle.c_type_rules.specs.Constants.{IsConstant, Size}
+use Rattle.c_type_rules.specs.Statements.{Types, TypesAll}
+
+-- CONSTANTS
+
+-- the words of constant expressions, each with a value and a need within the limit, at a type
+pub data Values (k : Kind) : List Expr → List ℕ → Type 0 where
+  no_value : Values k [] []
+  one_value : {e : Expr} {n : ℕ} {es : List Expr} {ns : List ℕ}
+      → IsConstant e → (constant e).value ≡ Some n → need_fits e ≡ true
+      → Values k es ns → Values k (e ∷ es) (converted k n ∷ ns)
+
+-- how many values a global holds
+pub data Count (init : List Expr) : ArraySize → ℕ → Type 0 where
+  single : Count init size.Scalar 1
+  counted : 0 < length init → Count init size.Open (length init)
+  sized : {e : Expr} {n : ℕ} → Size e n → Count init (size.Sized e) n
+
+-- FUNCTIONS
+
+-- a definition's parameters have names; each name is another, and none that no block may declare
+pub data Named (is_def : Bool) (G : Scope) (seen : List Param) : Option (List ℕ) → Type 0 where
+  unnamed : is_def ≡ false → Named is_def G seen None
+  named : {w : List ℕ} → named_among seen w ≡ false → is_end (look_up G w) ≡ false
+      → Named is_def G seen (Some w)
+
+-- parameters after others, at most eight in all
+pub data Params (is_def : Bool) (G : Scope) : List Param → List Param → Type 0 where
+  no_param : {seen : List Param} → Params is_def G seen []
+  one_param : {seen ps : List Param} {p : Param}
+      → Named is_def G seen p.name → length seen < 8 → Params is_def G (seen ++ p ∷ []) ps
+      → Params is_def G seen (p ∷ ps)
+
+-- the name means nothing yet, or a function of the same type; a function has one definition
+pub data Agrees (is_def : Bool) (given : Option Kind) (slots : List Slot) : Option Meaning → Type 0
+  where
+    fresh : Agrees is_def given slots None
+    again : {c : Option Callee} {d : Bool} → is_def && d ≡ false
+        → Agrees is_def given slots (Some (meaning.Function given slots c d))
+
+abbrev pub Heads : Bool → Option Kind → List ℕ → List Param → Scope → Type 0
+Heads is_def given w params G =
+    Params is_def G [] params × Agrees is_def given (map slot_of params) (look_up G w)
+
+abbrev pub is_block : StmtNode-F ForInit StmtNode Stmt → Bool
+is_block (Compound ss) = true
+is_block _ = false
+
+-- a body: its outermost block is the scope of the parameters
+pub data Body : State → Stmt → TypedStmt → State → Type 0 where
+  outermost : {v w : State} {l : ℕ} {ss : List Stmt} {ts : List TypedStmt}
+      → TypesAll false v ss ts w → Body v (at l (node.Compound ss)) (typed.Compound ts) w
+  other : {v w : State} {s : Stmt} {t : TypedStmt}
+      → is_block (out-StmtNode s.node) ≡ false → Types false v s t w → Body v s t w
+
+-- ITEMS
+
+-- the function of a body after which the state is that one
+abbrev pub typed_function : ℕ → TypedStmt → State → TypedFunc
+typed_function count t v = record {
+  result = v.result;
+  params = count;
+  scalars = v.scalars;
+  arrays = v.arrays;
+  body = t;
+}
+
+-- in a unit that defines these functions, the item leads from one file scope to the other
+pub data Item (T : Scope) : FileScope → TopNode → FileScope → Type 0 where
+  include : {U : FileScope} → is_taken U.names eof_name ≡ false
+      → Agrees true (Some Int) [] (look_up U.names getchar_name)
+      → Agrees true (Some Int) int_slots (look_up U.names putchar_name)
+      → Item T U Include (record U { names = with_include U.names })
+  include_again : {U : FileScope} → is_end (look_up U.names eof_name) ≡ true → Item T U Include U
+  global : {U : FileScope} {k : Kind} {w : List ℕ} {s : ArraySize} {init : List Expr} {n : ℕ}
+      {ns : List ℕ}
+      → Count init s n → is_taken U.names w ≡ false → n * bytes k + U.bytes ≤ 1048576
+      → Values k init ns → length init ≤ n
+      → Item T U (Global k w s init) (record U {
+        names = global_names s k w U;
+        globals = U.globals ++ (record { kind = k; length = length_in s n; init = ns }) ∷ [];
+        bytes = n * bytes k + U.bytes;
+      })
+  prototype : {U : FileScope} {given : Option Kind} {w : List ℕ} {params : List Param}
+      → Heads false given w params U.names
+      → Item T U (Func given w params None)
+      (record U { names = with_prototype T w given (map slot_of params) U.names })
+  definition : {U : FileScope} {given : Option Kind} {w : List ℕ} {params : List Param} {s : Stmt}
+      {t : TypedStmt} {v : State}
+      → Heads true given w params U.names → Body (entry T w given params U.names) s t v
+      → Item T U (Func given w params (Some s)) (record U {
+        names = closed v.names;
+        functions = U.functions ++ typed_function (length params) t v ∷ [];
+      })
+
+-- items, one after another
+pub data Items (T : Scope) : FileScope → List Top → FileScope → Type 0 where
+  no_item : {U : FileScope} → Items T U [] U
+  one_item : {U V W : FileScope} {t : Top} {ts : List Top}
+      → Item T U t.node V → Items T V ts W → Items T U (t ∷ ts) W
+
+-- the unit is accepted with the typed program: it defines `int main(void)`
+pub data Accepts : Program → TypedProgram → Type 0 where
+  accepts : {p : Program} {U : FileScope} {c : Option Callee}
+      → Items (table p.items) empty_file p.items U
+      → look_up U.names main_name ≡ Some (meaning.Function (Some Int) [] c true)
+      → Accepts p (record { globals = U.globals; functions = U.functions; main = number_in c })

@@ -1,5 +1,0 @@
-use Rattle.flat_fits.proofs.Lengths.{few_statements}
-use Rattle.flat_fits.proofs.law.statements_are_few.Goals as goal
-
-pub returns : goal.returns
-returns c = few_statements

@@ -1,0 +1,108 @@
+-- Worked sources: their sizes, their jumps, a program that fits, and one that shows that three
+-- statements a node would not do.
+use Rattle.std.proofs.Common.{◌≡◌, ℕ, zero, suc, ◌≤◌, true, false, [], ◌∷◌}
+use Rattle.std.proofs.Common.{Some, None, refl, subst, arith}
+use Rattle.std.specs.Prelude.{slice_get}
+use Rattle.c_tree.specs.declared.Kind.TheVariants.{Int, Long}
+use Rattle.c_tree.specs.declared.BinaryOp.TheVariants.{Add}
+use Rattle.c_tree.specs.declared.Place.TheVariants as place
+use Rattle.ir_forms.specs.FlatFits.{FitsProgram, steps_of_all}
+use Rattle.ir_forms.specs.Frames.{frame_limit}
+use Rattle.flat_lower.specs.Tree.{Expr, Number, Name, Element, Assign, Convert}
+use Rattle.flat_lower.specs.Tree.{Compound, If, While, Break, Continue, Return, NoStmts}
+use Rattle.flat_lower.specs.Tree.{WithStmt, Func, Source}
+use Rattle.flat_lower.specs.Fits.{FitsFunc, FitsSource}
+use Rattle.flat_lower.specs.Statements.{lowered}
+use Rattle.flat_lower_limits.specs.Nodes.{expr_nodes, source_size}
+use Rattle.flat_lower_limits.specs.Jumps.{JumpsInLoops}
+use Rattle.flat_lower_limits.proofs.Whole.{lowered_fits}
+
+abbrev n : ℕ → Expr
+n w = Number (Some Int) w
+
+-- NODES
+
+-- `a[0] += i` for an array of longs: the assignment, the element, its index, the conversion, the
+-- name
+added : expr_nodes (Assign (Some Long) (Some Add) Long (Element (Some Long) (place.Array 0) (n 0))
+    (Convert (Some Long) Long (Name (Some Int) (place.Scalar 0)))) ≡ 5
+added = refl
+
+-- JUMPS
+
+-- `while (1) if (1) break;`
+leaves : JumpsInLoops false (While (n 1) (If (n 1) Break NoStmts))
+leaves = (refl, tt)
+
+-- a continue behind a loop
+stray : JumpsInLoops false (Compound (WithStmt (While (n 1) Break) (WithStmt Continue NoStmts))) → ⊥
+stray h = false_is h.1.0
+  where
+    false_is : false ≡ true → ⊥
+    false_is e = cc e
+
+-- LENGTHS
+
+-- `a[a[.. 0 ..]]` for a local array of longs
+abbrev nested : ℕ → Expr
+nested zero = Number (Some Long) 0
+nested (suc m) = Element (Some Long) (place.Array 0) (nested m)
+
+-- `int main(void) { long a[1]; return (int)a[..]; }`, eight elements in one another
+abbrev deep : Source
+deep = record {
+  globals = [];
+  functions = record {
+    result = Some Int;
+    params = 0;
+    scalars = [];
+    arrays = record { kind = Long; length = 1 } ∷ [];
+    body = Return (Some (Convert (Some Int) Int (nested 8)));
+  } ∷ [];
+  main = 0;
+}
+
+deep_size : source_size deep ≡ 12
+deep_size = refl
+
+-- more than three for each
+deep_length : steps_of_all (lowered deep).functions ≡ 37
+unfolding lowered
+deep_length = refl
+
+-- A PROGRAM THAT FITS
+
+-- `int main(void) { return 7; }`
+abbrev seven : Func
+seven = record {
+  result = Some Int;
+  params = 0;
+  scalars = [];
+  arrays = [];
+  body = Return (Some (n 7));
+}
+
+abbrev small : Source
+small = record { globals = []; functions = seven ∷ []; main = 0 }
+
+-- what holds of the one function holds of each
+lone : (P : Func → Type 0) → P seven → (j : ℕ) (f : Func) → slice_get (seven ∷ []) j ≡ Some f → P f
+lone P h zero f e = let same : seven ≡ f = cc e in subst P same h
+lone P h (suc j) f e = let none : None ≡ Some f = e in absurd (cc none)
+
+small_source : FitsSource small
+unfolding frame_limit
+small_source = record {
+  each = lone (FitsFunc small) (record {
+    scalars = omega arith;
+    params = omega arith;
+    body = ((omega arith, record { below = omega arith; narrow = omega arith }), refl);
+  });
+  globals = λ k d h. absurd (omega (arith, h));
+  main = record { main = seven; found = refl; result = refl; params = refl };
+  room = omega arith;
+}
+
+small_fits : FitsProgram (lowered small)
+small_fits = lowered_fits small small_source (lone (λ f. f.params ≤ 8) (omega arith))
+    (lone (λ f. JumpsInLoops false f.body) tt) (omega arith)

@@ -1,0 +1,119 @@
+-- The code of a statement fits where its jumps stand in loops.
+use Rattle.std.proofs.Common.{ℕ, Bool, true, false, List, length, Option, Some}
+use Rattle.std.proofs.Common.{None, refl, arith}
+use Rattle.std.proofs.lemmas.Option.{slice_get_within}
+use Rattle.c_tree.specs.declared.Kind.{Kind}
+use Rattle.c_tree.specs.declared.Place.{Place}
+use Rattle.c_tree.specs.declared.Place.TheVariants.{Global, Scalar, Array}
+use Rattle.c_tree.specs.declared.Slot.TheVariants as slot
+use Rattle.ir_forms.specs.declared.flat.Arg.TheVariants.{Const, Var}
+use Rattle.ir_forms.specs.FlatCode.{Code, Nop, only, Function}
+use Rattle.ir_forms.specs.FlatCode as flat
+use Rattle.ir_forms.specs.FlatFits.{FitsVar}
+use Rattle.flat_lower.specs.Tree.{Expr, Stmt, Declare, Plain, Compound, If, While, Do, For, Break}
+use Rattle.flat_lower.specs.Tree.{Continue, Return, Stmts, NoStmts, WithStmt, First, Nothing}
+use Rattle.flat_lower.specs.Tree.{FirstOf, Locals}
+use Rattle.flat_lower.specs.Fits.{Scope, FitsExpr, FitsExprIf, FitsDeclare, FitsReturn, FitsStmt}
+use Rattle.flat_lower.specs.Fits.{FitsStmts, FitsFirst}
+use Rattle.flat_lower.specs.Operations.{temp}
+use Rattle.flat_lower.specs.Objects.{Context}
+use Rattle.flat_lower.specs.Expressions.{expr_code}
+use Rattle.flat_lower.specs.Statements.{expr_if_code, declare_code, return_code, if_so, turn_code}
+use Rattle.flat_lower.specs.Statements.{loop_code, do_code, stmt_code, stmts_code, first_code}
+use Rattle.flat_lower.specs.Statements.{end_code}
+use Rattle.flat_lower_limits.specs.Jumps.{JumpsInLoops, AllJumpsInLoops, FirstJumpsInLoops}
+use Rattle.flat_lower_limits.proofs.Fitting.{Fitting, nothing_fits, single_fits, if_fits, loop_fits, joined}
+use Rattle.flat_lower_limits.proofs.Fitting.{scalar_fits, temp_fits}
+use Rattle.flat_lower_limits.proofs.Operations.{word_fits, copied_fits}
+use Rattle.flat_lower_limits.proofs.Expressions.{Callable, expr_fits}
+
+module _ {fs : List Function} {n : ℕ} {i : Bool} where
+  pub end_fits : (b : Bool) → Fitting fs n i (end_code b)
+  end_fits true = single_fits (flat.Return (Some (Const 0))) tt
+  end_fits false = nothing_fits
+
+module _ (fs : List Function) (c : Scope) (k : Option Kind) (x : Context)
+    (known : Callable fs c.functions) where
+  -- PARTS
+
+  abbrev Fits : Bool → Code → Type 0
+  Fits inside code = Fitting fs (length c.scalars) inside code
+
+  value : (i : Bool) (d : ℕ) (e : Expr) → FitsExpr c d e → Fits i (expr_code x d e)
+  value i d e t = expr_fits fs c i x known d e t
+
+  first_temp : FitsVar (length c.scalars) (temp 0)
+  first_temp = temp_fits (length c.scalars) 0 (omega arith)
+
+  expr_if_fits : (i : Bool) (e : Option Expr) → FitsExprIf c e → Fits i (expr_if_code x e)
+  expr_if_fits i None t = nothing_fits
+  expr_if_fits i (Some e) t = value i 0 e t
+
+  declare_fits : (i : Bool) (p : Place) (e : Option Expr) → FitsDeclare c p e
+      → Fits i (declare_code x p e)
+  declare_fits i (Scalar j) (Some e) t = joined (value i 0 e t.2)
+      (copied_fits j (temp 0) (scalar_fits (length c.scalars) j
+      (slice_get_within c.scalars j (slot.Scalar t.0) t.1)) first_temp)
+  declare_fits i (Scalar j) None t = nothing_fits
+  declare_fits i (Global g) e t = nothing_fits
+  declare_fits i (Array a) e t = nothing_fits
+
+  return_fits : (i : Bool) (k : Option Kind) (e : Option Expr) → FitsReturn c k e
+      → Fits i (return_code x e)
+  return_fits i k None t = single_fits (flat.Return None) tt
+  return_fits i None (Some e) t = absurd t
+  return_fits i (Some k) (Some e) t = joined (value i 0 e t.0)
+      (single_fits (flat.Return (Some (Var (temp 0)))) first_temp)
+
+  if_so_fits : (body : Code) → Fits true body → Fits true (if_so body)
+  if_so_fits body p = if_fits (Var (temp 0)) body (only flat.Break) first_temp p
+      (single_fits flat.Break refl)
+
+  turn_fits : (test : Option Expr) (body : Code) → FitsExprIf c test
+      → Fits true body → Fits true (turn_code x test body)
+  turn_fits None body t p = p
+  turn_fits (Some e) body t p = joined (value true 0 e t) (if_so_fits body p)
+
+  loop_code_fits : (i : Bool) (test post : Option Expr) (body : Code) → FitsExprIf c test
+      → FitsExprIf c post → Fits true body
+      → Fits i (loop_code x test post body)
+  loop_code_fits i test post body t u p =
+      loop_fits (turn_code x test body) (expr_if_code x post) (turn_fits test body t p)
+      (expr_if_fits false post u)
+
+  do_code_fits : (i : Bool) (t : Expr) (body : Code) → FitsExpr c 0 t
+      → Fits true body → Fits i (do_code x t body)
+  do_code_fits i t body h p = joined (word_fits (temp 0) 1 first_temp)
+      (loop_fits (if_so body) (expr_code x 0 t) (if_so_fits body p) (value false 0 t h))
+
+  -- STATEMENTS
+
+  mutual
+    pub stmt_fits : (i : Bool) (s : Stmt) → FitsStmt c k s → JumpsInLoops i s
+        → Fits i (stmt_code x s)
+    stmt_fits i (Declare p e) t j = declare_fits i p e t
+    stmt_fits i (Plain e) t j = expr_if_fits i e t
+    stmt_fits i (Compound all) t j = stmts_fit i all t j
+    stmt_fits i (If e one other) t j = joined (value i 0 e t.0)
+        (if_fits (Var (temp 0)) (stmt_code x one) (stmts_code x other) first_temp
+        (stmt_fits i one t.1 j.0) (stmts_fit i other t.2 j.1))
+    stmt_fits i (While e body) t j = loop_code_fits i (Some e) None (stmt_code x body) t.0 tt
+        (stmt_fits true body t.1 j)
+    stmt_fits i (Do body e) t j = do_code_fits i e (stmt_code x body) t.1
+        (stmt_fits true body t.0 j)
+    stmt_fits i (For first test post body) t j = joined (first_fits i first t.0 j.0)
+        (loop_code_fits i test post (stmt_code x body) t.1 t.2 (stmt_fits true body t.3 j.1))
+    stmt_fits i Break t j = single_fits flat.Break j
+    stmt_fits i Continue t j = single_fits flat.Continue j
+    stmt_fits i (Return e) t j = return_fits i k e t
+
+    stmts_fit : (i : Bool) (all : Stmts) → FitsStmts c k all → AllJumpsInLoops i all
+        → Fits i (stmts_code x all)
+    stmts_fit i NoStmts t j = nothing_fits
+    stmts_fit i (WithStmt s rest) t j = joined (stmt_fits i s t.0 j.0) (stmts_fit i rest t.1 j.1)
+
+    first_fits : (i : Bool) (first : First) → FitsFirst c k first → FirstJumpsInLoops i first
+        → Fits i (first_code x first)
+    first_fits i Nothing t j = nothing_fits
+    first_fits i (FirstOf e) t j = value i 0 e t
+    first_fits i (Locals all) t j = stmts_fit i all t j

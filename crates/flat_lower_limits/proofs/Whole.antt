@@ -1,0 +1,11 @@
+-- The flat program of a source that is not too long fits.
+use Rattle.std.proofs.Common.{arith}
+use Rattle.flat_lower_limits.specs.Laws.{LoweredFits}
+use Rattle.flat_lower_limits.proofs.Programs.{fits_at_any_length}
+use Rattle.flat_lower_limits.proofs.Lengths.{few_statements}
+
+pub lowered_fits : LoweredFits
+lowered_fits P s few jumps short =
+    let f = fits_at_any_length P s few jumps in
+    let most = few_statements P in
+    record { each = f.each; main = f.main; few = omega (arith, most, short); room = f.room }

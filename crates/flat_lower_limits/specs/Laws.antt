@@ -1,0 +1,42 @@
+-- What the flat program of a source gives the later passes.
+use Rattle.std.specs.Prelude.{◌≡◌, ℕ, ◌+◌, ◌*◌, ◌≤◌, false, [], Some, slice_get}
+use Rattle.trips_isa.specs.Stores.{data_size}
+use Rattle.ir_forms.specs.FlatCode.{Function, Program}
+use Rattle.ir_forms.specs.FlatFits.{FitsFunction, FitsCall, FitsProgram, steps_of_all}
+use Rattle.ir_forms.specs.Frames.{frames_at, frame_limit}
+use Rattle.flat_lower.specs.Tree.{Func, Source}
+use Rattle.flat_lower.specs.Fits.{FitsSource}
+use Rattle.flat_lower.specs.Statements.{lowered}
+use Rattle.flat_lower_limits.specs.Nodes.{source_size}
+use Rattle.flat_lower_limits.specs.Jumps.{JumpsInLoops}
+
+-- each function has at most 8 parameters, as many as a call has registers for
+abbrev pub FewParams : Source → Type 0
+FewParams P = (n : ℕ) (f : Func) → slice_get P.functions n ≡ Some f → f.params ≤ 8
+
+-- each function's jumps stand in its loops
+abbrev pub PlacedJumps : Source → Type 0
+PlacedJumps P =
+    (n : ℕ) (f : Func) → slice_get P.functions n ≡ Some f → JumpsInLoops false f.body
+
+-- a fitting program but for its length, each part named as there
+pub record FitsButLength (P : Program) : Type 0 where
+  pub each : (f : ℕ) (g : Function) → slice_get P.functions f ≡ Some g → FitsFunction P.functions g
+  pub main : FitsCall P.functions P.main []
+  pub room : frames_at P.bytes + frame_limit ≤ data_size
+
+-- the flat program fits, but for its length
+abbrev pub FitsOfAnyLength : Type 0
+FitsOfAnyLength =
+    (P : Source) → FitsSource P → FewParams P → PlacedJumps P → FitsButLength (lowered P)
+
+-- at most four flat statements for each function and node; an element of a local array of longs
+-- takes four
+abbrev pub FewStatements : Type 0
+FewStatements = (P : Source) → steps_of_all (lowered P).functions ≤ 4 * source_size P
+
+-- the flat program of a source that is not too long fits
+abbrev pub LoweredFits : Type 0
+LoweredFits =
+    (P : Source) → FitsSource P → FewParams P → PlacedJumps P → 4 * source_size P ≤ 16777216
+    → FitsProgram (lowered P)

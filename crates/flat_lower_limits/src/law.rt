@@ -1,0 +1,21 @@
+//! That flat programs fit.
+
+ghost use Rattle.flat_lower_limits.specs.Laws.{FitsOfAnyLength, FewStatements, LoweredFits};
+
+/// The flat program of a source as typing gives it, with at most 8 parameters a function and with
+/// its jumps in loops, fits but for its length: each operation is of a fitting form, each variable
+/// one of its function's, each call has the arguments that its function takes, jumps stand in
+/// loops, and globals and frames lie inside data memory.
+pub fn flat_programs_fit_at_any_length()
+    ensures { FitsOfAnyLength }
+{}
+
+/// The flat program of any source has at most four statements for each function and each node.
+pub fn statements_are_few()
+    ensures { FewStatements }
+{}
+
+/// So the flat program of a source with at most 4,194,304 functions and nodes fits.
+pub fn flat_programs_fit()
+    ensures { LoweredFits }
+{}
