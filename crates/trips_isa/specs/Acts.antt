@@ -1,6 +1,6 @@
 -- What a block does that can fault: the divisions and the accesses of the instructions that fire,
 -- all their operands being words.
-use Rattle.std.specs.Prelude.{ℕ, zero, suc, ◌+◌, Bool, true, false, cond, not, ◌&&◌, nat_eq, List}
+use Rattle.std.specs.Prelude.{◌≡◌, ℕ, zero, suc, ◌+◌, Bool, true, false, cond, not, ◌&&◌, nat_eq, List}
 use Rattle.std.specs.Prelude.{[], ◌∷◌, ◌++◌, length, Option, Some, None, slice_get}
 use Rattle.trips_isa.specs.declared.op.Op.{Op}
 use Rattle.trips_isa.specs.declared.form.Form.{Form}
@@ -83,3 +83,7 @@ acts_to b g (suc n) = acts_to b g n ++ node_acts b g n
 -- what a block does
 abbrev pub block_acts : Block → (ℕ → Answer) → List Act
 block_acts b g = acts_to b g (length (nodes_of b))
+
+-- nothing that a node does faults, in whatever order the nodes stand
+abbrev pub IsClean : Block → (ℕ → Answer) → Type 0
+IsClean b g = (x : ℕ) → is_clean (node_acts b g x) ≡ true
