@@ -2,7 +2,7 @@
 ghost use Rattle.std.specs.Prelude.{◌≡◌, ℕ, List};
 ghost use Rattle.trips_isa.specs.declared.block.Block.{Block};
 ghost use Rattle.trips_isa.specs.Fits.{FitsBlock};
-ghost use Rattle.trips_isa.specs.Outcomes.{outcome};
+ghost use Rattle.trips_isa.specs.Outcomes.{plain};
 ghost use Rattle.block_cases.specs.Good.{GoodBlock};
 ghost use Rattle.grid_place.specs.Moves.{Permutes, IsPermutation, IsMoved};
 ghost use Rattle.grid_place.specs.Seeded.{seeded};
@@ -11,7 +11,7 @@ ghost use Rattle.grid_place.specs.Seeded.{seeded};
 pub fn moved_blocks_mean_the_same()
     ensures { (b c : Block) (p q : ℕ → ℕ) → FitsBlock b → GoodBlock b → Permutes p q
         → IsMoved p b c → (blocks : List Block) (k : ℕ) (regs mem : List ℕ)
-        → outcome blocks k c regs mem ≡ outcome blocks k b regs mem }
+        → plain blocks k c regs mem ≡ plain blocks k b regs mem }
 {}
 
 /// A block still fits, and a good block is still good.

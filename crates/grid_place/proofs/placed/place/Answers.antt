@@ -1,6 +1,6 @@
 use Rattle.std.proofs.Common.{sym, ◌∙◌, subst}
 use Rattle.grid_place.specs.Moves.{IsPermutation, goes}
-use Rattle.grid_place.proofs.Alike.{same_outcome}
+use Rattle.grid_place.proofs.Alike.{same_plain}
 use Rattle.grid_place.proofs.StillFits.{still_fits}
 use Rattle.grid_place.proofs.StillInOrder.{still_good}
 use Rattle.grid_place.proofs.Shuffles.{in_place_permutes, seeded_permutes, placing_permutes}
@@ -26,7 +26,7 @@ returns-clause-meaning c =
       | in-Seeded w ↦
           subst IsPermutation (sym (w.to-is ∙ w.seeded.ensures.value)) (seeded_permutes _)
     ] in
-    λ good blocks k regs mem. same_outcome (goes c.match-placing.to) h.back c.args.block.now
+    λ good blocks k regs mem. same_plain (goes c.match-placing.to) h.back c.args.block.now
     c.moved.result c.requires good h.permutes c.moved.ensures.moved regs mem blocks k
 
 pub returns-clause-fits : goal.returns-clause-fits
