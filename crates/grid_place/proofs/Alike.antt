@@ -121,10 +121,10 @@ module _ (p q : ℕ → ℕ) (b c : Block) (fits : FitsBlock b) (good : GoodBloc
     abbrev moved : ℕ → Answer
     moved y = tokens (node_goes q c y)
 
-    same : (x : ℕ) → moved (node_goes p b x) ≡ tokens x
+    pub same : (x : ℕ) → moved (node_goes p b x) ≡ tokens x
     same x = ap tokens (stand.returns x)
 
-    solves : Solves b (answers_in b regs mem tokens) tokens
+    pub solves : Solves b (answers_in b regs mem tokens) tokens
     solves = token_solves b regs mem good.ranked
 
     settled : (y : ℕ) → moved y ≡ given c regs mem moved y
@@ -134,7 +134,7 @@ module _ (p q : ℕ → ℕ) (b c : Block) (fits : FitsBlock b) (good : GoodBloc
         regs mem (node_goes q c y))
         ∙ ap (given c regs mem moved) (stand.returned y)
 
-    moved_tokens : moved ≡ token_of c regs mem deepest
+    pub moved_tokens : moved ≡ token_of c regs mem deepest
     moved_tokens = fun_ext (only_table c regs mem moved_ranked moved settled)
 
     abbrev leaves : Block → (ℕ → Answer) → ℕ → Leaving

@@ -2,6 +2,9 @@
 ghost use Rattle.std.specs.Prelude.{◌≡◌, List, ℕ, IfOk};
 ghost use Rattle.trips_isa.specs.declared.block.Block.{Block};
 ghost use Rattle.trips_isa.specs.Fits.{FitsBlock};
+ghost use Rattle.trips_isa.specs.Tables.{deepest};
+ghost use Rattle.trips_isa.specs.Blocks.{token_of};
+ghost use Rattle.trips_isa.specs.Acts.{IsClean};
 ghost use Rattle.trips_isa.specs.Outcomes.{plain};
 ghost use Rattle.block_cases.specs.Good.{GoodBlock};
 ghost use Rattle.grid_place.specs.Moves.{IsPermutation, IsMoved, goes};
@@ -49,6 +52,9 @@ pub fn place(_alloc: Global, block: &Block, placing: Placing) -> Result<Block, M
     ensures permutes { IsPermutation (list_of placing) }
     ensures meaning { IfOk result (λ c. GoodBlock block.now → (blocks : List Block) (k : ℕ)
         (regs mem : List ℕ) → plain blocks k c regs mem ≡ plain blocks k block.now regs mem) }
+    ensures clean { IfOk result (λ c. GoodBlock block.now → (regs mem : List ℕ)
+        → IsClean block.now (token_of block.now regs mem deepest)
+        → IsClean c (token_of c regs mem deepest)) }
     ensures fits { IfOk result FitsBlock }
     ensures good { IfOk result (λ c. GoodBlock block.now → GoodBlock c) }
 {
