@@ -1,4 +1,5 @@
--- The nodes of a block, and the places that it declares.
+-- The nodes of a block, and the places that it declares. Source: the store mask and the write slots of
+-- the TRIPS Processor Reference Manual, UT Austin TR-05-19.
 use Rattle.std.specs.Prelude.{ℕ, ◌+◌, ◌-◌, Bool, ◌&&◌, ◌||◌, nat_lt, nat_le}
 use Rattle.std.specs.Prelude.{length}
 use Rattle.trips_isa.specs.declared.block.Block.{Block}

@@ -1,4 +1,5 @@
--- The cases of a block, and what each spot gets in a case.
+-- The cases of a block, and what each spot gets in a case. Own: cases; the manual asks of a compiler
+-- what they decide of a block, one token at each spot (TRIPS Processor Reference Manual, TR-05-19).
 use Rattle.std.specs.Prelude.{◌≡◌, ℕ, zero, suc, ◌+◌, ◌<◌, Bool, true, false, ◌&&◌, ◌||◌, nat_lt}
 use Rattle.std.specs.Prelude.{nat_le, List, [], ◌∷◌, Option, Some, None, slice_get, slice_index_or}
 use Rattle.std.specs.Prelude.{length}

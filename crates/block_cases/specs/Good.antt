@@ -1,4 +1,6 @@
--- Good blocks, and what a machine may rely on in them.
+-- Good blocks, and what a machine may rely on in them (docs/MACHINE.md, "Good blocks"). Source: every
+-- write, store and exit of a block comes exactly once, TRIPS Processor Reference Manual, UT Austin
+-- TR-05-19. Own: the faults, and that at most 256 cases are judged.
 use Rattle.std.specs.Prelude.{◌≡◌, ℕ, ◌<◌, ◌≤◌, ◌⊎◌, Bool, true, List, Some, slice_get}
 use Rattle.trips_isa.specs.declared.block.Sense.TheVariants.{Always}
 use Rattle.block_cases.specs.declared.token.CaseToken.{CaseToken}

@@ -1,4 +1,4 @@
--- The faults of a target and of a number, which hang on no case.
+-- The faults of a target and of a number, which hang on no case. Own, as are all faults of a block.
 use Rattle.std.specs.Prelude.{◌≡◌, ℕ, ◌<◌, Bool, true, false, ◌==◌, ◌&&◌, ◌||◌, nat_lt, List, []}
 use Rattle.std.specs.Prelude.{◌∷◌, take, length, Option, Some, None, slice_get, slice_index}
 use Rattle.std.specs.Prelude.{slice_index_or}

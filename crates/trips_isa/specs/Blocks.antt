@@ -1,4 +1,5 @@
--- The tables of a block: whatever its reads and loads are answered, and in an entry state.
+-- The tables of a block: whatever its reads and loads are answered, and in an entry state. Own: the
+-- definition by pulling, over the rule of firing (specs/Rule).
 use Rattle.std.specs.Prelude.{ℕ, zero, suc, ◌+◌, ◌-◌, Bool, true, false, nat_lt, List, length}
 use Rattle.std.specs.Prelude.{[], ◌∷◌, Option, Some, None, slice_get, slice_index, slice_index_or}
 use Rattle.trips_isa.specs.declared.form.Form.{Form}

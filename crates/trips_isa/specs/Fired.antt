@@ -1,4 +1,5 @@
 -- What an instruction asks for when it fires, and the token that it gives once it is answered.
+-- Own: the analysis; the rule says the same at once (specs/Rule).
 use Rattle.std.specs.Prelude.{ℕ, Option, Some, None}
 use Rattle.trips_isa.specs.declared.form.Form.{Form}
 use Rattle.trips_isa.specs.declared.form.Form.TheVariants.{General, Immediate, Load, Store, Branch}

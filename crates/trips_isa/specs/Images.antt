@@ -1,4 +1,6 @@
--- Where the blocks of an image begin, and the images whose parts lie in their fields.
+-- Where the blocks of an image begin, and the images whose parts lie in their fields. Source: a header
+-- and one to four body chunks of 128 bytes, TRIPS Processor Reference Manual, UT Austin TR-05-19. Own:
+-- the image.
 use Rattle.std.specs.Prelude.{◌≡◌, ℕ, suc, ◌+◌, ◌/◌, ◌<◌, ◌≤◌, ◌==◌, cond, max, List, [], ◌∷◌, take}
 use Rattle.std.specs.Prelude.{Option, Some, None, All, length, unwrap_or}
 use Rattle.std.specs.List.{sum_by}

@@ -1,5 +1,6 @@
 -- The sequential machine: a block's effects are applied all at once, and then the system call
--- follows; a block that faults changes nothing.
+-- follows; a block that faults changes nothing. Source: blocks are atomic, Burger et al., IEEE Computer,
+-- July 2004; TRIPS Processor Reference Manual, UT Austin TR-05-19. Own: the system calls and the trace.
 use Rattle.std.specs.Prelude.{ℕ, zero, suc, ◌-◌, ◌%◌, ◌^◌, Bool, ◌==◌, cond, List, [], ◌∷◌, ◌++◌}
 use Rattle.std.specs.Prelude.{Option, Some, None, slice_get, slice_index, slice_set, length}
 use Rattle.std.specs.Prelude.{replicate}

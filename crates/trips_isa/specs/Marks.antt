@@ -1,4 +1,6 @@
--- Marks, pulled beside any fixed table of tokens, and the cause of a block.
+-- Marks, pulled beside any fixed table of tokens, and the cause of a block (docs/MACHINE.md,
+-- "Exceptions"). Source: an exception is taken at the block's boundary, TRIPS Processor Reference
+-- Manual, UT Austin TR-05-19. Own: that the least mark of all outputs counts, and what null hides.
 use Rattle.std.specs.Prelude.{◌≡◌, ℕ, zero, suc, ◌+◌, cond, min, List, []}
 use Rattle.std.specs.Prelude.{◌∷◌, ◌++◌, length, Option, Some, None, slice_get}
 use Rattle.trips_isa.specs.declared.block.Block.{Block}

@@ -1,5 +1,5 @@
 -- What the tokens at an instruction's operands are to its role: one is missing, one is null, or all
--- are words.
+-- are words. Own: the analysis; what null does is the rule's (specs/Rule).
 use Rattle.std.specs.Prelude.{ℕ, Bool, true, false, Some, None}
 use Rattle.trips_isa.specs.declared.block.Token.TheVariants.{Null, Word}
 use Rattle.trips_isa.specs.declared.block.Sense.{Sense}

@@ -1,5 +1,6 @@
 -- What a block comes to in an entry state: its writes, its stores, its exit and the next block, or
--- the cause of a fault.
+-- the cause of a fault. Source: the outputs of a block, Burger et al., IEEE Computer, July 2004. Own:
+-- that block 0 is next where no block begins.
 use Rattle.std.specs.Prelude.{ℕ, zero, suc, ◌+◌, ◌/◌, ◌%◌, ◌^◌, Bool, true, false, ◌==◌, nat_lt, cond}
 use Rattle.std.specs.Prelude.{List, [], ◌∷◌, Option, Some, None, length}
 use Rattle.trips_isa.specs.declared.op.Op.{Op}

@@ -1,4 +1,6 @@
--- Places of a block as numbers, and its reads and slots as nodes that name places.
+-- Places of a block as numbers, and its reads and slots as nodes that name places (docs/MACHINE.md,
+-- "Places"). Source: instructions name their consumers, Burger et al., IEEE Computer, July 2004. Own:
+-- the numbers, and that stores and branches name places like others.
 use Rattle.std.specs.Prelude.{ℕ, suc, ◌+◌, ◌/◌, ◌%◌, ◌^◌, Bool, true, false, ◌==◌, ◌&&◌, ◌||◌, nat_lt}
 use Rattle.std.specs.Prelude.{List, [], ◌∷◌, ◌++◌, map, Option, Some, None}
 use Rattle.trips_isa.specs.declared.block.Spot.{Spot}

@@ -1,4 +1,6 @@
--- Stores of a block by number, and the bytes that a load sees through them.
+-- Stores of a block by number, and the bytes that a load sees through them. Source: the numbers of
+-- loads and stores, and their order, TRIPS Processor Reference Manual, UT Austin TR-05-19. Own: the size
+-- of data memory, and what is done at a bad address.
 use Rattle.std.specs.Prelude.{ℕ, zero, suc, ◌+◌, ◌-◌, ◌*◌, ◌/◌, ◌%◌, ◌^◌, Bool, ◌==◌, ◌&&◌, nat_lt}
 use Rattle.std.specs.Prelude.{nat_le, cond, List, [], ◌∷◌, ◌++◌, Option, Some, None, slice_index}
 use Rattle.std.specs.Prelude.{slice_set}

@@ -1,4 +1,5 @@
--- Tables of tokens: one for each node, by the rule, from the tokens that its producers give.
+-- Tables of tokens: one for each node, by the rule, from the tokens that its producers give. Own: the
+-- machine pushes tokens to consumers; here a node pulls from its producers.
 use Rattle.std.specs.Prelude.{◌≡◌, ℕ, zero, suc, ◌+◌, ◌<◌, Bool, true, false, ◌&&◌, ◌||◌, nat_le}
 use Rattle.std.specs.Prelude.{nat_lt, List, [], ◌∷◌, Option, Some, None, slice_get}
 use Rattle.trips_isa.specs.declared.node.Node.{Node}
