@@ -9,5 +9,8 @@ mod slots;
 #[cfg(test)]
 mod tests;
 
-pub use law::{moved_blocks_mean_the_same, moved_blocks_stay_good, seeds_give_permutations};
+pub use law::{
+    moved_blocks_mean_the_same, moved_blocks_stay_clean, moved_blocks_stay_good,
+    seeds_give_permutations,
+};
 pub use placed::{Placing, place};

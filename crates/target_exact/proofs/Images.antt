@@ -101,6 +101,7 @@ whole_by text t u count bytes first bs f d e s =
           each = all_of FitsBlock bs s.read.each;
           total = omega (arith, total);
           few = omega (arith, size, f.few);
+          bytes = all_of Byte bytes d.bytes.each;
           last = d.last;
         };
         spelled =
