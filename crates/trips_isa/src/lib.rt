@@ -10,8 +10,6 @@ mod node;
 mod op;
 mod run;
 mod size;
-#[cfg(test)]
-mod tests;
 
 pub use arithmetic::{alu, loaded};
 pub use block::{Block, Image, Inst, ReadSlot, Sense, Spot, Stored, Token};

@@ -24,18 +24,3 @@ mod words;
 
 pub use status::Status;
 pub use top::trips_run;
-
-#[cfg(test)]
-mod eval_tests;
-#[cfg(test)]
-mod front_tests;
-#[cfg(test)]
-mod harness;
-#[cfg(test)]
-mod image_tests;
-#[cfg(test)]
-mod option_tests;
-#[cfg(test)]
-mod tests;
-#[cfg(test)]
-mod token_tests;
