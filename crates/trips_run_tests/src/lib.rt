@@ -10,6 +10,8 @@ mod harness;
 #[cfg(test)]
 mod image_tests;
 #[cfg(test)]
+mod machine_tests;
+#[cfg(test)]
 mod option_tests;
 #[cfg(test)]
 mod outside_tests;

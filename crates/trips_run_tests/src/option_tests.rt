@@ -1,4 +1,4 @@
-//! The options of `eval`, and what is read for it.
+//! The options of `run` and `eval`, and what is read for them.
 use crate::harness::answer_of;
 use std::alloc::{AllocError, Global};
 use std::test::Fail;
@@ -22,6 +22,12 @@ const USAGES: &[&[&str]] = &[
     &["eval", "a.c", "b.c"],
     &["eval", "--steps", "1", "a.c"],
     &["run", "a.c", "--steps", "1"],
+    &["run", "a.c", "--blocks"],
+    &["run", "a.c", "--blocks", "0"],
+    &["run", "a.c", "--blocks", "4000001"],
+    &["run", "a.c", "--input"],
+    &["run", "a.c", "--input", "t", "--input", "t"],
+    &["run", "--blocks", "1", "a.c"],
 ];
 
 #[test]

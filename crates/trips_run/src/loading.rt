@@ -1,3 +1,5 @@
+//! Files that are read whole.
+
 ghost use Rattle.std.specs.Prelude.{◌≡◌, ◌≤◌, option_copied, IfOk};
 ghost use Rattle.trips_outside.specs.Outside.{Rose};
 ghost use Rattle.trips_run.specs.Read.{IsRead, IsInputRead, IsWithin};
@@ -11,7 +13,7 @@ const MOST_INPUT_BYTES: u64 = 1_048_576;
 
 /// What reading a file came to.
 #[derive(Drop)]
-pub enum Reading {
+pub enum Loaded {
     Fault,
     TooLarge,
     Bytes(Items<u8>),
@@ -23,7 +25,7 @@ pub fn read<F: Files>(
     files: &mut F,
     name: &str,
     limit: u64,
-) -> Result<Reading, AllocError>
+) -> Result<Loaded, AllocError>
     ensures ok { IfOk result (IsRead (F.held files.old name.now)
         (Rose (F.faults files.old) (F.faults files.new)) limit) }
     ensures within { IfOk result (IsWithin limit) }
@@ -31,9 +33,9 @@ pub fn read<F: Files>(
     ensures later { F.faults files.old ≤ F.faults files.new }
 {
     match load(alloc, files, name, limit) {
-        Ok(bytes) => Ok(Reading::Bytes(Items::from_vec(bytes))),
-        Err(LoadFault::Fault) => Ok(Reading::Fault),
-        Err(LoadFault::TooLarge) => Ok(Reading::TooLarge),
+        Ok(bytes) => Ok(Loaded::Bytes(Items::from_vec(bytes))),
+        Err(LoadFault::Fault) => Ok(Loaded::Fault),
+        Err(LoadFault::TooLarge) => Ok(Loaded::TooLarge),
         Err(LoadFault::Memory) => Err(AllocError),
     }
 }
@@ -44,14 +46,14 @@ pub fn read_input<F: Files>(
     alloc: Global,
     files: &mut F,
     name: Option<&str>,
-) -> Result<Reading, AllocError>
+) -> Result<Loaded, AllocError>
     ensures ok { IfOk result (IsInputRead (option_copied name.entry) (F.held files.old)
         (Rose (F.faults files.old) (F.faults files.new))) }
     ensures kept { F.held files.new ≡ F.held files.old }
     ensures later { F.faults files.old ≤ F.faults files.new }
 {
     match name {
-        None => Ok(Reading::Bytes(Items::new(alloc))),
+        None => Ok(Loaded::Bytes(Items::new(alloc))),
         Some(name) => read(alloc, files, name, MOST_INPUT_BYTES),
     }
 }
