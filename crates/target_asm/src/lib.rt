@@ -10,6 +10,3 @@ mod printing;
 pub use assembling::assemble;
 pub use printing::print;
 pub use target_read::AsmFault;
-
-#[cfg(test)]
-mod tests;

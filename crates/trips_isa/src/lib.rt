@@ -15,8 +15,6 @@ mod operands;
 mod places;
 mod run;
 mod size;
-#[cfg(test)]
-mod tests;
 
 pub use arithmetic::{alu, loaded};
 pub use block::{Block, Image, Inst, ReadSlot, Sense, Spot, Stored, Token};

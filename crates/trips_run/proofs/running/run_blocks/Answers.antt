@@ -3,7 +3,7 @@ use Rattle.trips_isa.specs.declared.run.Stepped.{Stepped}
 use Rattle.trips_isa.specs.declared.run.Stepped.TheVariants.{Ended, StackFull}
 use Rattle.trips_isa.specs.Machine.{State}
 use Rattle.trips_run.specs.Report.{ending_of}
-use Rattle.trips_run.proofs.Runs.{none_yet, goes, stopped}
+use Rattle.trips_run.proofs.BlockRuns.{none_yet, goes, stopped}
 use Rattle.trips_run.proofs.running.run_blocks.Goals as goal
 
 pub loop-turn-init : goal.loop-turn-init
