@@ -22,12 +22,12 @@ use Rattle.block_check.specs.declared.fault.NodeFault.{NodeFault}
 use Rattle.block_check.specs.declared.fault.NodeFault.TheVariants as net
 use Rattle.block_cases.specs.Orders.{bad_read, bad_inst, bad_number, bad_write, IsLeast, NoneBelow}
 use Rattle.block_cases.specs.Orders.{IsInOrder}
-use Rattle.block_check.specs.Judged.{IsFault, FirstTwo, FirstGap, LacksExit, HasTwoExits}
+use Rattle.block_check.specs.inside.Judged.{IsFault, FirstTwo, FirstGap, LacksExit, HasTwoExits}
 use Rattle.block_check.specs.Faults.{HasBadTarget, HasBadNumber, HasFault}
 use Rattle.block_check.specs.Faults.{spot_order, fault_order, IsLowestFault, IsGood}
 use Rattle.block_cases.specs.Good.{GoodBlock}
-use Rattle.block_check.specs.Checked.{BadTargetAt, BadNumberAt, IsCheckFault, IsCaseFault, spot_of}
-use Rattle.block_check.specs.Checked.{fault_of}
+use Rattle.block_check.specs.inside.Checked.{BadTargetAt, BadNumberAt, IsCheckFault, IsCaseFault, spot_of}
+use Rattle.block_check.specs.inside.Checked.{fault_of}
 use Rattle.block_check.proofs.Spots.{not_before, spot_low, place_order, at_spot, takes_below}
 use Rattle.block_check.proofs.Spots.{true_lt, owed_wanted, owed_takes, wanted_owed}
 

@@ -9,7 +9,7 @@ use Rattle.block_cases.specs.Blocks.{nodes_of, wanted_of}
 use Rattle.block_cases.specs.Good.{GoodBlock}
 use Rattle.block_check.specs.declared.fault.CheckFault.TheVariants as say
 use Rattle.block_check.specs.Faults.{IsGood}
-use Rattle.block_check.specs.Checked.{spot_of}
+use Rattle.block_check.specs.inside.Checked.{spot_of}
 use Rattle.block_check.proofs.Lists.{not_true}
 use Rattle.block_check.proofs.Spots.{at_spot, wanted_owed}
 use Rattle.block_check.proofs.Lowest.{at_most, found_good}

@@ -11,7 +11,7 @@ use Rattle.block_cases.specs.Nodes.{feeds, IsRanked}
 use Rattle.block_cases.specs.Blocks.{read_node, inst_nodes, nodes_of}
 use Rattle.block_cases.specs.Good.{IsAcyclic}
 use Rattle.block_cases.proofs.Alike.{or_true, and_true}
-use Rattle.block_check.specs.Placing.{Stuck, Placing, AllStuck}
+use Rattle.block_check.specs.inside.PartOrder.{Stuck, PartOrder, AllStuck}
 use Rattle.block_check.proofs.Cycles.{eq_is, eq_not, near, same, some_node, stuck_cycle}
 use Rattle.block_check.proofs.Ordering.{placing_none, placing_more, all_ordered}
 
@@ -113,7 +113,7 @@ pick ns ranks (suc end) le = go (pick ns ranks end (omega arith)) (some_node ns 
             }))
 
 ranked_from : (ns : List Node) → length ns ≤ 160 → IsAcyclic ns → (left : ℕ) (ranks order : List ℕ)
-    (placed : ℕ) → Placing ns ranks order placed → placed + left ≡ length ns → IsRanked ns
+    (placed : ℕ) → PartOrder ns ranks order placed → placed + left ≡ length ns → IsRanked ns
 ranked_from ns size a zero ranks order placed p e =
     let o = all_ordered ns ranks order placed p size (omega arith) in
     (o.0, o.1)

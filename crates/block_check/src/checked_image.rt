@@ -5,7 +5,8 @@ ghost use Rattle.trips_isa.specs.Fits.{FitsBlock};
 ghost use Rattle.trips_isa.specs.Images.{chunks, chunk_of, starting_at, FitsImage};
 ghost use Rattle.block_check.specs.Faults.{IsLowestFault};
 ghost use Rattle.block_check.specs.IsChecked.{IsChecked};
-ghost use Rattle.block_check.specs.Images.{IsBadBlock, IsCheckedImage, IsRefusal};
+ghost use Rattle.block_check.specs.Images.{IsCheckedImage, IsRefusal};
+ghost use Rattle.block_check.specs.inside.Holds.{IsBadBlock};
 
 use crate::checked_block::{CheckedBlock, check};
 use crate::refusal::ImageRefusal;
@@ -27,7 +28,7 @@ pub struct CheckedImage {
 
 impl Model for CheckedImage {
     ghost use Rattle.trips_isa.specs.declared.block.Image.{Image};
-    ghost use Rattle.block_check.specs.Holds.{image_of, IsIndexed};
+    ghost use Rattle.block_check.specs.inside.Holds.{image_of, IsIndexed};
 
     ghost Value = { Image };
 

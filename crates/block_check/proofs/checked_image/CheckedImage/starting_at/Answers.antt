@@ -1,5 +1,5 @@
 use Rattle.std.proofs.Common.{arith, Ok, Err, refl}
-use Rattle.block_check.specs.Holds.{image_of}
+use Rattle.block_check.specs.inside.Holds.{image_of}
 use Rattle.block_check.proofs.Making.{indexed_search, small_count}
 use Rattle.block_check.proofs.checked_image.CheckedImage.starting_at.Goals as goal
 
