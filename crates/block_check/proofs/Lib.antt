@@ -15,3 +15,5 @@ pub mod Owing
 pub mod Spots
 pub mod Lists
 pub mod Cycles
+pub mod Ranking
+pub mod OneGood

@@ -6,7 +6,7 @@ use Rattle.trips_isa.specs.declared.node.Node.{Node}
 use Rattle.block_cases.specs.Nodes.{names, one_if, Ranked}
 use Rattle.block_cases.specs.Cases.{no, deepest, is_chooser, present, bit, token, has_bit}
 use Rattle.block_cases.specs.Cases.{ones_pass, is_case, IsCase, count}
-use Rattle.block_check.specs.Walk.{branch, walk, tally, Sorted, zeros, Order}
+use Rattle.block_check.specs.inside.Walk.{branch, walk, tally, Sorted, zeros, Order}
 use Rattle.block_cases.proofs.Steady.{or_left, or_right, present_below}
 use Rattle.block_cases.proofs.Alike.{both_true, and_true, get_none}
 use Rattle.block_check.proofs.Lists.{same_test, not_true, count_same, count_split, agree, agree_at}

@@ -4,11 +4,11 @@ ghost use Rattle.std.specs.Prelude.{length, slice_index_or, slice_index, slice_g
 ghost use Rattle.std.specs.Prelude.{false, true, MatchResult, IfOk, IfErr};
 ghost use Rattle.block_cases.specs.Nodes.{IsRanked, HasCycle};
 ghost use Rattle.block_cases.specs.Cases.{bit};
-ghost use Rattle.block_check.specs.Pass.{AllInPlace, IsSpare, Spare};
-ghost use Rattle.block_check.specs.Placing.{IsOrdered};
-ghost use Rattle.block_check.specs.Found.{Explored};
+ghost use Rattle.block_check.specs.inside.Pass.{AllInPlace, IsSpare, Spare};
+ghost use Rattle.block_check.specs.inside.PartOrder.{IsOrdered};
+ghost use Rattle.block_check.specs.inside.Found.{Explored};
 ghost use Rattle.block_cases.specs.Good.{Good};
-ghost use Rattle.block_check.specs.Judged.{IsFault};
+ghost use Rattle.block_check.specs.inside.Judged.{IsFault};
 
 use crate::fault::NodeFault;
 use crate::order::sort;

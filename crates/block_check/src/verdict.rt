@@ -5,8 +5,8 @@ ghost use Rattle.block_cases.specs.Blocks.{nodes_of, wanted_of};
 ghost use Rattle.block_cases.specs.Nodes.{IsRanked};
 ghost use Rattle.block_cases.specs.Orders.{IsInOrder};
 ghost use Rattle.block_cases.specs.Good.{Good, GoodBlock};
-ghost use Rattle.block_check.specs.Judged.{IsFault};
-ghost use Rattle.block_check.specs.Checked.{IsOrderFault, IsCheckFault, IsBelow, spot_of, fault_of};
+ghost use Rattle.block_check.specs.inside.Judged.{IsFault};
+ghost use Rattle.block_check.specs.inside.Checked.{IsOrderFault, IsCheckFault, IsBelow, spot_of, fault_of};
 
 use crate::fault::{CheckFault, NodeFault};
 use crate::judge::judge;

@@ -1,5 +1,5 @@
 use Rattle.std.proofs.Common.{subst, sym, ◌∙◌}
-use Rattle.block_check.specs.Pass.{AllInPlace}
+use Rattle.block_check.specs.inside.Pass.{AllInPlace}
 use Rattle.block_cases.specs.Blocks.{nodes_of, wanted_of}
 use Rattle.block_check.proofs.Fitting.{nodes_in_place, ok_same, err_same}
 use Rattle.block_check.proofs.verdict.judge_cases.Goals as goal

@@ -7,8 +7,9 @@ use Rattle.block_cases.specs.Nodes.{feeds, one_if, Edge, Ranked}
 use Rattle.block_cases.specs.declared.token.CaseToken.{CaseToken}
 use Rattle.block_cases.specs.declared.token.CaseToken.TheVariants.{Absent, Null}
 use Rattle.block_cases.specs.Cases.{tokens}
-use Rattle.block_check.specs.Walk.{Order}
+use Rattle.block_check.specs.inside.Walk.{Order}
 
+-- how many nodes are not placed
 abbrev pub unplaced : List ℕ → ℕ
 unplaced [] = 0
 unplaced (r ∷ rs) = one_if (r == 255) + unplaced rs
@@ -21,11 +22,13 @@ pub record Stuck (ns : List Node) (ranks : List ℕ) (n : Node) : Type 0 where
   pub waits : slice_index ranks source ≡ 255
   pub fed : feeds node n ≡ true
 
+-- node x has a rank, and stands in the order at it
 pub record Placed (ns : List Node) (ranks order : List ℕ) (x : ℕ) (placed : ℕ) : Type 0 where
   pub below : slice_index ranks x < placed
   pub there : slice_index order (slice_index ranks x) ≡ x
 
-pub record Placing (ns : List Node) (ranks order : List ℕ) (placed : ℕ) : Type 0 where
+-- an order along the edges of `placed` of the nodes
+pub record PartOrder (ns : List Node) (ranks order : List ℕ) (placed : ℕ) : Type 0 where
   pub ranks_size : length ranks ≡ length ns
   pub order_size : length order ≡ length ns
   pub ranked : (x : ℕ) → x < length ns → slice_index ranks x < 255 → Placed ns ranks order x placed
@@ -41,6 +44,7 @@ abbrev pub AllStuck : List Node → List ℕ → ℕ → Type 0
 AllStuck ns ranks end = (x : ℕ) (n : Node) → x < end → slice_get ns x ≡ Some n →
     slice_index ranks x ≡ 255 → Stuck ns ranks n
 
+-- an order of all nodes along their edges
 abbrev pub IsOrdered : List Node → List ℕ → Type 0
 IsOrdered ns order = (rank : ℕ → ℕ) × Ranked ns rank × Order ns rank order
     × All (λ x. x < length ns) order
@@ -50,6 +54,7 @@ abbrev pub holding : Bool → CaseToken
 holding true = Null
 holding false = Absent
 
+-- what each node that is not placed holds up
 abbrev pub waiting : List ℕ → ℕ → CaseToken
 waiting ranks y = holding (slice_index ranks y == 255)
 

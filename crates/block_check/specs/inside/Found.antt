@@ -4,8 +4,9 @@ use Rattle.std.specs.Prelude.{[], ◌∷◌, ◌++◌, length, slice_get, slice_
 use Rattle.trips_isa.specs.declared.node.Node.{Node}
 use Rattle.block_cases.specs.Cases.{bit, token, tokens, is_chooser, has_bit, cases, GetsTwo}
 use Rattle.block_cases.specs.Cases.{GetsNone}
-use Rattle.block_check.specs.Walk.{tally}
+use Rattle.block_check.specs.inside.Walk.{tally}
 
+-- c and further cases, where a node has a bit to set
 abbrev pub extra : Bool → List Bool → List (List Bool) → List (List Bool)
 extra true c cs = c ∷ cs
 extra false c cs = []
@@ -20,12 +21,15 @@ others ns (x ∷ xs) c = others ns xs c ++ extra (has_bit ns c x) (slice_set c x
 abbrev pub Choosing : List Node → List Bool → Type 0
 Choosing ns choosers = (x : ℕ) → x < length ns → bit choosers x ≡ is_chooser ns x (slice_get ns x)
 
+-- whether the place gets two tokens in the case c
 abbrev pub gets_two : List Node → ℕ → List Bool → Bool
 gets_two ns q c = nat_lt 1 (tokens ns (token ns c) q)
 
+-- whether it gets none
 abbrev pub gets_none : List Node → ℕ → List Bool → Bool
 gets_none ns q c = tokens ns (token ns c) q == 0
 
+-- the test that each case passes
 abbrev pub any : List Bool → Bool
 any c = true
 

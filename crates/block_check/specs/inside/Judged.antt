@@ -16,6 +16,7 @@ pub record FirstTwo (ns : List Node) (q : ℕ) : Type 0 where
   pub two : GetsTwo ns q
   pub least : (p : ℕ) → p < q → GetsTwo ns p → ⊥
 
+-- the least wanted place that gets no token, where none gets two
 pub record FirstGap (ns : List Node) (wanted : ℕ → Bool) (q : ℕ) : Type 0 where
   pub acyclic : IsAcyclic ns
   pub few : cases ns ≤ 256
@@ -25,6 +26,7 @@ pub record FirstGap (ns : List Node) (wanted : ℕ → Bool) (q : ℕ) : Type 0 
   pub none : GetsNone ns q
   pub least : (p : ℕ) → p < q → wanted p ≡ true → GetsNone ns p → ⊥
 
+-- no branch fires in some case, where nothing else is at fault
 pub record LacksExit (ns : List Node) (wanted : ℕ → Bool) : Type 0 where
   pub acyclic : IsAcyclic ns
   pub few : cases ns ≤ 256
@@ -32,6 +34,7 @@ pub record LacksExit (ns : List Node) (wanted : ℕ → Bool) : Type 0 where
   pub no_gap : NoGap ns wanted
   pub none : GetsNone ns 448
 
+-- two branches fire in some case, where nothing else is at fault
 pub record HasTwoExits (ns : List Node) (wanted : ℕ → Bool) : Type 0 where
   pub acyclic : IsAcyclic ns
   pub few : cases ns ≤ 256
