@@ -15,7 +15,7 @@ use Rattle.c_tree.specs.declared.typed.TypedForInit.{out-TypedForInit, out-roll-
 use Rattle.c_tree.specs.declared.typed.TypedFunc.{TypedFunc}
 use Rattle.c_constant.specs.Kinds.{same_kind}
 use Rattle.c_type_expr.specs.Trees.{a, kind_of, converted}
-use Rattle.c_meaning_spec.specs.Expression.{Node}
+use Rattle.c_tree.specs.TypedTrees.{Node}
 use Rattle.c_meaning_spec.specs.Statement as eval
 use Rattle.flat_lower.specs.TreeViews.{expr_of, expr_if, exprs_of, stmt_of, stmts_of, func_of}
 use Rattle.flat_lower.proofs.TreeFacts.{plain_node, expr_is, first_of, plain_stmt, plain_first}

@@ -15,7 +15,8 @@ use Rattle.c_meaning_spec.specs.State as eval
 use Rattle.c_meaning_spec.specs.Word.{is_false}
 use Rattle.c_meaning_spec.specs.Task.{Task, Of, Turn}
 use Rattle.c_meaning_spec.specs.Task as task
-use Rattle.c_meaning_spec.specs.Statement.{Level, First, going_on, sequence, run_if, after_if, after_body}
+use Rattle.c_tree.specs.TypedTrees.{Level, Beginning}
+use Rattle.c_meaning_spec.specs.Statement.{going_on, sequence, run_if, after_if, after_body}
 use Rattle.c_meaning_spec.specs.Statement.{locals, begin, begun, statement}
 use Rattle.c_meaning_spec.specs.Eval.{meaning}
 use Rattle.c_meaning_spec.proofs.Equations.{weight, meaning-is}

@@ -12,7 +12,7 @@ use Rattle.c_tree.specs.declared.TypedStmt.{fold_out-TypedStmt}
 use Rattle.c_tree.specs.declared.TypedForInit.{TypedForInit, out-TypedForInit, map-TypedForInit}
 use Rattle.c_tree.specs.declared.TypedForInit.{fold-TypedForInit, fold_out-TypedForInit}
 use Rattle.c_tree.specs.declared.TypedForInit.TheOpen as stmt
-use Rattle.c_meaning_spec.specs.Expression.{Node, node_of}
+use Rattle.c_tree.specs.TypedTrees.{Node, node_of}
 use Rattle.c_meaning_spec.specs.Statement as eval
 use Rattle.flat_lower.specs.Tree.{Expr, Number, Name, Element, Call, Unary, Cast, Convert, Bump}
 use Rattle.flat_lower.specs.Tree.{Binary, Choice, Assign, Comma, Exprs, NoExprs, WithExpr, Stmt}
