@@ -39,7 +39,7 @@ use Rattle.c_type.specs.Statements.{else_fault, else_tree, return_fault, return_
 use Rattle.c_tree.specs.declared.tree.ForInit.TheOpen.{StmtNode-F, ForInit-F}
 use Rattle.c_type_laws.specs.Objects.{slot_scalar, local_array}
 use Rattle.c_type_laws.specs.Needs.{FitsNeed, typed_needs}
-use Rattle.c_tree.specs.TypedTrees.{Level}
+use Rattle.c_tree.specs.TypedTrees as level
 use Rattle.c_type_laws.specs.Statements.{IsValue, IsTest, IsEffect, IsValueIf, IsTestIf, IsEffectIf, IsReturn}
 use Rattle.c_type_laws.specs.Statements.{Runs, RunsAll, RunsElse, Begins}
 use Rattle.c_type_laws.specs.Statements as rule
@@ -50,7 +50,7 @@ use Rattle.c_type_laws.proofs.Moves.{split, held, Known, knows, Fine, Within, Ah
 use Rattle.c_type_laws.proofs.Moves.{scoped, then}
 
 -- a statement that is built is open again
-opened : (s : TypedStmt) (x : Level) → roll-TypedStmt x ≡ s → out-TypedStmt s ≡ x
+opened : (s : TypedStmt) (x : level.Level) → roll-TypedStmt x ≡ s → out-TypedStmt s ≡ x
 opened s x e = ap out-TypedStmt (sym e) ∙ out-roll-TypedStmt x
 
 -- LISTS
@@ -174,11 +174,11 @@ module _ (P : TypedProgram) (f : TypedFunc) where
   SoundElse p = Moves P f (RunsElse P f) (else_after p) (else_fault p) (else_tree p)
 
   -- a node that is well formed makes a statement that is
-  pub run : (b : Bool) (s : TypedStmt) (x : Level) → roll-TypedStmt x ≡ s → Runs P f b x → Run b s
+  pub run : (b : Bool) (s : TypedStmt) (x : level.Level) → roll-TypedStmt x ≡ s → Runs P f b x → Run b s
   run b s x e r = subst (Runs P f b) (sym (opened s x e)) r
 
   -- the same of the first part of a `for`
-  begin : (b : Bool) (s : TypedForInit) (x : rule.Beginning) → roll-TypedForInit x ≡ s → Begins P f b x → Begin b s
+  begin : (b : Bool) (s : TypedForInit) (x : level.Beginning) → roll-TypedForInit x ≡ s → Begins P f b x → Begin b s
   begin b s x e r = subst (Begins P f b) (sym (ap out-TypedForInit (sym e) ∙ out-roll-TypedForInit x)) r
 
   -- a node of a statement, at a line
