@@ -13,6 +13,10 @@ const COUNTED: &[(&str, &str)] = &[
         "output 0\n\nresult 7\nsteps 4\n",
     ),
     ("int main(void) { }", "output 0\n\nresult 0\nsteps 2\n"),
+    (
+        "int n; int main(void) { if (n == 0) { n = 1; return main() + 5; } }",
+        "output 0\n\nresult 5\nsteps 20\n",
+    ),
     ("int main(void) { ; }", "output 0\n\nresult 0\nsteps 3\n"),
     (
         "int main(void) { int x; }",
