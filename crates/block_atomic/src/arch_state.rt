@@ -67,8 +67,8 @@ impl Model for ArchState {
 fn image_memory(alloc: Global, image: &CheckedImage) -> Result<Vec<u8>, AllocError>
     ensures items { IfOk result (λ memory. memory.items ≡ memory_of image.now.bytes) }
     ensures size { IfOk result (λ memory. vec_len memory ≡ data_size) }
+    ensures blocks { 0 < length image.now.blocks }
 {
-    let _count = image.count();
     data_memory(alloc, image.bytes())
 }
 
@@ -121,7 +121,6 @@ impl ArchState {
             → length self.new.state.trace ≡ length self.old.state.trace + 1 }
         ensures budget { self.new.budget ≡ self.old.budget }
     {
-        let _count = image.count();
         let block = image.at(self.next).block();
         let insts = block.insts.as_slice();
         let used = used_slots(insts);
@@ -174,7 +173,6 @@ impl ArchState {
         ensures trace { length self.new.state.trace ≡ length self.old.state.trace + 1 }
         ensures budget { self.new.budget ≡ self.old.budget }
     {
-        let _count = image.count();
         let block = image.at(self.next).block();
         self.change_by(block.writes.as_slice(), writes, stores, exit, successor);
         self.then_system(system)

@@ -1,15 +1,17 @@
 -- Runs, one block further, and past their end.
-use Rattle.std.proofs.Common.{◌≡◌, ℕ, zero, suc, ◌+◌, ◌-◌, ◌<◌, List, refl, sym, ◌∙◌, ap, arith}
+use Rattle.std.proofs.Common.{◌≡◌, ℕ, zero, suc, ◌+◌, ◌-◌, ◌<◌, List, refl, sym, ◌∙◌, ap, subst, arith}
 use Rattle.trips_isa.specs.declared.block.Block.{Block}
 use Rattle.trips_isa.specs.declared.run.Stepped.{Stepped}
-use Rattle.trips_isa.specs.declared.run.Stepped.TheVariants.{Went, Ended, StackFull}
+use Rattle.trips_isa.specs.declared.run.Stepped.TheVariants.{Went, Ended, StackFull, Trap}
 use Rattle.trips_isa.specs.Machine.{State, step_of, goes_on, runs}
+use Rattle.block_cases.specs.Plain.{IsTrap}
 
 -- a run that has ended goes no further
 abbrev pub HasStopped : Stepped → Type 0
 HasStopped Went = ⊥
 HasStopped Ended = Unit {0}
 HasStopped StackFull = Unit {0}
+HasStopped (Trap cause) = Unit {0}
 
 one_more : (blocks : List Block) (s : State) (n : ℕ)
     → runs blocks s (suc n) ≡ goes_on blocks (runs blocks s n).0 (runs blocks s n).1
@@ -34,6 +36,7 @@ stands : (blocks : List Block) (after : State) (stepped : Stepped) → HasStoppe
 stands blocks after Went ends = absurd ends
 stands blocks after Ended ends = refl
 stands blocks after StackFull ends = refl
+stands blocks after (Trap cause) ends = refl
 
 stays_for : (blocks : List Block) (s after : State) (stepped : Stepped) (n more : ℕ)
     → HasStopped stepped
@@ -57,3 +60,7 @@ stopped blocks s now after stepped n budget lt ends so_far step =
     ap (runs blocks s) rest
     ∙ stays_for blocks s after stepped (n + 1) (budget - (n + 1)) ends
     (goes blocks s now after stepped n so_far step)
+
+-- a step that goes on is no trap
+pub goes_by : {r : Stepped} → r ≡ Went → IsTrap r → ⊥
+goes_by e t = subst IsTrap e t

@@ -151,8 +151,8 @@ module _ (held : List ℕ → Option (List ℕ)) (rose : Type 0) (old new : Opti
       (bytes input : List ℕ) (image : Image) → Asks q held Run form.Image blocks bytes input
       → ImageBytes image bytes → All IsGood image.blocks → (rose → ⊥) → (cut → ⊥)
       → s ≢ status.Memory → let run = runs image.blocks (start image.bytes input) blocks in
-      (s ≡ status_of (ending_of run.1))
-      × Appended old new (run_report (ending_of run.1) run.0)
+      (s ≡ status_of (ending_of run.1 run.0.next))
+      × Appended old new (run_report (ending_of run.1 run.0.next) run.0)
   image_run s a blocks bytes input image asks spelled good r c m =
       let row = whole_of s a c m in
       let done = complete q held rose s row.0 row.1 r Run form.Image blocks bytes input asks in

@@ -80,7 +80,8 @@ ends_row request held rose s report q a e told =
 run_is_defined : (blocks : List Block) (bytes input : List ℕ) (budget : ℕ) (s : Status)
     (report : List ℕ) → IsRunBy blocks bytes input budget s report → s ≡ status.Undefined → ⊥
 run_is_defined blocks bytes input budget s report run e =
-    defined (ending_of (runs blocks (start bytes input) budget).1) (sym run.0 ∙ e)
+    defined (ending_of (runs blocks (start bytes input) budget).1
+    (runs blocks (start bytes input) budget).0.next) (sym run.0 ∙ e)
   where
     defined : (x : Ending) → status_of x ≡ status.Undefined → ⊥
     defined ending.Ended e = cc

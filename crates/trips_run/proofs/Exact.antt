@@ -170,8 +170,8 @@ ran_as : (n most : ℕ) (input : List ℕ) (s : Status) (report : List ℕ) → 
     → (s ≡ status.Ended) × (report ≡ return_report n)
 ran_as n most input s report low some run =
     let e = return_runs n input most some in (
-      run.0 ∙ ap (λ (r : State × Stepped). status_of (ending_of r.1)) e,
-      run.1 ∙ ap (λ (r : State × Stepped). run_report (ending_of r.1) r.0) e
+      run.0 ∙ ap (λ (r : State × Stepped). status_of (ending_of r.1 r.0.next)) e,
+      run.1 ∙ ap (λ (r : State × Stepped). run_report (ending_of r.1 r.0.next) r.0) e
           ∙ return_reports input n low,
     )
 

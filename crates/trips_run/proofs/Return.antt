@@ -8,6 +8,7 @@ use Rattle.trips_isa.specs.declared.run.Ending.TheVariants as ending
 use Rattle.trips_isa.specs.declared.run.Stepped.TheVariants.{Ended}
 use Rattle.trips_isa.specs.Tables.{deepest}
 use Rattle.trips_isa.specs.Blocks.{given}
+use Rattle.trips_isa.specs.Marks.{mark_given, mask_places}
 use Rattle.trips_isa.specs.Outcomes.{all_stores}
 use Rattle.trips_isa.specs.Machine.{State, runs, start, step_of, memory_of}
 use Rattle.trips_run.specs.Source.{return_block}
@@ -38,7 +39,7 @@ end_with memory input n = record {
 
 one_step_with : (memory input : List ℕ) (n : ℕ)
     → step_of (return_block n ∷ []) (begin_with memory input) ≡ (end_with memory input n, Ended)
-unfolding given deepest all_stores
+unfolding given deepest all_stores mark_given mask_places
 one_step_with memory input n = refl
 
 abbrev pub end_of : List ℕ → ℕ → State

@@ -46,7 +46,8 @@ tells (ending.Trap block cause) = refl
 run_tells : (blocks : List Block) (bytes input : List ℕ) (budget : ℕ) (s : Status)
     (report : List ℕ) → IsRunBy blocks bytes input budget s report → is_told s ≡ true
 run_tells blocks bytes input budget s report run =
-    ap is_told run.0 ∙ tells (ending_of (runs blocks (start bytes input) budget).1)
+    ap is_told run.0 ∙ tells (ending_of (runs blocks (start bytes input) budget).1
+    (runs blocks (start bytes input) budget).0.next)
 
 eval_tells : (o : Outcome) → is_told (eval_status o) ≡ true
 unfolding is_told

@@ -52,6 +52,7 @@ return_image_fits image n low blocks bytes = record {
   each = subst (All FitsBlock) (sym blocks) (one_fits (return_fits n low));
   total = rw blocks (omega arith);
   few = rw bytes (omega arith);
+  bytes = subst (All (λ b. b < 256)) (sym bytes) (λ k d lt. absurd (omega arith));
   last = rw bytes (λ out. absurd (omega arith));
 }
   where
@@ -80,17 +81,19 @@ checked_good image checked = λ k d lt. (checked.each k d lt).good
 pub run_told : (blocks : List Block) (bytes input begin_input : List ℕ) (budget : ℕ)
     (first after : State) (ending : Ending) (s : Status) (report : List ℕ) → begin_input ≡ input
     → first ≡ start bytes begin_input → after ≡ (runs blocks first budget).0
-    → ending ≡ ending_of (runs blocks first budget).1
+    → ending ≡ ending_of (runs blocks first budget).1 (runs blocks first budget).0.next
     → s ≡ status_of ending → report ≡ run_report ending after
     → IsRunBy blocks bytes input budget s report
 run_told blocks bytes input begin_input budget first after ending s report i f a e h t =
     let same : runs blocks first budget ≡ runs blocks (start bytes input) budget =
     ap (λ (st : State). runs blocks st budget) (f ∙ ap (start bytes) i) in
-    let ends : ending ≡ ending_of (runs blocks (start bytes input) budget).1 =
-    e ∙ ap (λ (r : State × Stepped). ending_of r.1) same in (
+    let ends : ending ≡ ending_of (runs blocks (start bytes input) budget).1
+    (runs blocks (start bytes input) budget).0.next =
+    e ∙ ap (λ (r : State × Stepped). ending_of r.1 r.0.next) same in (
       h ∙ ap status_of ends,
       t ∙ ap (λ (x : Ending). run_report x after) ends
-          ∙ ap (run_report (ending_of (runs blocks (start bytes input) budget).1))
+          ∙ ap (run_report (ending_of (runs blocks (start bytes input) budget).1
+          (runs blocks (start bytes input) budget).0.next))
           (a ∙ ap (λ (r : State × Stepped). r.0) same),
     )
 

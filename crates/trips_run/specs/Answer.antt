@@ -46,7 +46,8 @@ status_of (ending.Trap block cause) = status.Trap
 -- These tell the sequential machine's run of an image on an input, within a budget of blocks.
 abbrev pub IsRunBy : List Block → List ℕ → List ℕ → ℕ → Status → List ℕ → Type 0
 IsRunBy blocks bytes input budget s report = let run = runs blocks (start bytes input) budget in
-    IsFixed (status_of (ending_of run.1)) (run_report (ending_of run.1) run.0) s report
+    let ended = ending_of run.1 run.0.next in
+    IsFixed (status_of ended) (run_report ended run.0) s report
 
 -- the status that tells an outcome
 abbrev pub eval_status : Outcome → Status

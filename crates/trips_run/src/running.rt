@@ -31,13 +31,20 @@ fn run_blocks(arch: &mut Arch, image: &CheckedImage, budget: u32) -> Ending
     requires next { arch.old.state.next < length image.now.blocks }
     requires room { length arch.old.state.trace + budget ≤ arch.old.budget }
     ensures state { arch.new.state ≡ (runs image.now.blocks arch.old.state budget).0 }
-    ensures ending { result ≡ ending_of (runs image.now.blocks arch.old.state budget).1 }
+    ensures ending { result ≡ ending_of (runs image.now.blocks arch.old.state budget).1
+        (runs image.now.blocks arch.old.state budget).0.next }
 {
     for turn in 0..budget {
         match arch.step(image) {
             Stepped::Went => {}
             Stepped::Ended => return Ending::Ended,
             Stepped::StackFull => return Ending::StackFull,
+            Stepped::Trap(cause) => {
+                return Ending::Trap {
+                    block: arch.next(),
+                    cause,
+                };
+            }
         }
     }
     Ending::Budget

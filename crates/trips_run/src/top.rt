@@ -50,9 +50,9 @@ pub fn trips_run<F: Files, K: Sink>(
         → ¬ Rose (F.faults files.old) (F.faults files.new)
         → ¬ Rose (K.faults sink.old) (K.faults sink.new) → result ≢ Status.Memory
         → let run = runs image.blocks (start image.bytes input) blocks in
-        (result ≡ status_of (ending_of run.1))
+        (result ≡ status_of (ending_of run.1 run.0.next))
         × Appended (K.written sink.old) (K.written sink.new)
-        (run_report (ending_of run.1) run.0) }
+        (run_report (ending_of run.1 run.0.next) run.0) }
 
     // An accepted program's evaluation is reported.
     ensures evaluation { (how : FileForm) (steps : ℕ) (text input : List ℕ)

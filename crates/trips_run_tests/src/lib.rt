@@ -19,3 +19,5 @@ mod outside_tests;
 mod report_tests;
 #[cfg(test)]
 mod token_tests;
+#[cfg(test)]
+mod trap_tests;
