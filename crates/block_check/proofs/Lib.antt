@@ -17,3 +17,6 @@ pub mod Lists
 pub mod Cycles
 pub mod Ranking
 pub mod OneGood
+pub mod Cutting
+pub mod CutFaults
+pub mod UsedSlots

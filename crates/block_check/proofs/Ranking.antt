@@ -148,11 +148,11 @@ acyclic_ranked ns size a = ranked_from ns size a (length ns) (copies (length ns)
     (copies_length (length ns) 255) (copies_length (length ns) 0) (λ k lt. copies_at (length ns)
     255 k lt)) (omega arith)
 
-insts_count : (j : ℕ) (is : List (Option Inst)) → length (inst_nodes j is) ≡ length is
+pub insts_count : (j : ℕ) (is : List (Option Inst)) → length (inst_nodes j is) ≡ length is
 insts_count j [] = refl
 insts_count j (i ∷ is) = ap suc (insts_count (suc j) is)
 
-nodes_count : (rs : List ReadSlot) (rest : List Node) →
+pub nodes_count : (rs : List ReadSlot) (rest : List Node) →
     length (map read_node rs ++ rest) ≡ length rs + length rest
 nodes_count [] rest = sym (omega arith)
 nodes_count (r ∷ rs) rest = let h = nodes_count rs rest in omega (arith, h)

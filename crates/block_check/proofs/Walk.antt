@@ -290,12 +290,12 @@ visits ns rank o (x ∷ xs) c f t =
 
 -- the whole search --------------------------------------------------------------------------------
 
-bit_zeros : (n x : ℕ) → bit (zeros n) x ≡ false
+pub bit_zeros : (n x : ℕ) → bit (zeros n) x ≡ false
 bit_zeros zero x = refl
 bit_zeros (suc n) zero = refl
 bit_zeros (suc n) (suc x) = bit_zeros n x
 
-zeros_size : (n : ℕ) → length (zeros n) ≡ n
+pub zeros_size : (n : ℕ) → length (zeros n) ≡ n
 zeros_size zero = refl
 zeros_size (suc n) = ap suc (zeros_size n)
 

@@ -6,3 +6,4 @@ pub mod PartOrder
 pub mod Judged
 pub mod Checked
 pub mod Holds
+pub mod Used

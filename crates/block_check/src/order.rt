@@ -198,7 +198,7 @@ fn follow(
 {
     let mut placed = before;
     let mut head = 0;
-    while head < placed {
+    while head < placed && placed < nodes.len() {
         let node = nodes[order[head]];
         placed = try_consumer(nodes, ranks, order, counts, placed, node.first);
         placed = try_consumer(nodes, ranks, order, counts, placed, node.second);

@@ -1,12 +1,16 @@
 -- The fault of the third to the eighth kind that is answered.
-use Rattle.std.specs.Prelude.{◌≡◌, ℕ, ◌<◌, ◌≤◌, Bool, true, List}
+use Rattle.std.specs.Prelude.{◌≡◌, ℕ, ◌<◌, ◌≤◌, Bool, true, false, List}
 use Rattle.trips_isa.specs.declared.node.Node.{Node}
 use Rattle.block_cases.specs.Nodes.{HasCycle}
-use Rattle.block_cases.specs.Cases.{cases, GetsTwo, GetsNone}
+use Rattle.block_cases.specs.Cases.{bit, cases, GetsTwo, GetsNone}
 use Rattle.block_cases.specs.Good.{IsAcyclic, NoTwo, NoGap}
 use Rattle.block_check.specs.declared.fault.NodeFault.{NodeFault}
 use Rattle.block_check.specs.declared.fault.NodeFault.TheVariants.{Cycle, TooManyCases, TwoTokens}
 use Rattle.block_check.specs.declared.fault.NodeFault.TheVariants.{NoToken, NoExit, TwoExits}
+
+-- no place below `end` is marked
+abbrev pub FalseBelow : ℕ → List Bool → Type 0
+FalseBelow end l = (q : ℕ) → q < end → bit l q ≡ false
 
 -- the least place that gets two tokens
 pub record FirstTwo (ns : List Node) (q : ℕ) : Type 0 where
