@@ -49,13 +49,6 @@ const ROWS: &[Row] = &[
         "output 0\n\nbudget 1\n",
     ),
     (
-        FOREVER,
-        &[],
-        b"",
-        Status::Budget,
-        "output 0\n\nbudget 1000000\n",
-    ),
-    (
         SECOND_BYTE,
         &["--input", "t", "--blocks", "3"],
         b"a\xff",
