@@ -81,10 +81,10 @@ fn a_text_that_ends_early_or_begins_otherwise_is_refused(rt: HostRuntime) {
     let rows: [(&[u8], AsmFault); 28] = [
         (b"", Syntax(1)),
         (b"trips 1", Syntax(1)),
-        (b"trips 1\n", Syntax(1)),
+        (b"trips 1\n", Syntax(2)),
         (b"trips 1\ndata 0", Syntax(2)),
-        (b"trips 1\ndata 0\n", Syntax(2)),
-        (b"trips 1\ndata 1\n", Syntax(2)),
+        (b"trips 1\ndata 0\n", Syntax(3)),
+        (b"trips 1\ndata 1\n", Syntax(3)),
         (b"trips 1\ndata 1\nff", Syntax(3)),
         (b"trips 1\ndata 0\nblock 0 mask 00000000", Syntax(3)),
         (b"trips 2\ndata 0\n", Syntax(1)),
@@ -330,7 +330,7 @@ fn each_line_left_out_doubled_and_exchanged(rt: HostRuntime) -> Result<(), Fail>
             "without line {i} and 1"
         );
         let text = edited(rt.alloc(), DIVIDE, i + 1, Edit::Doubled)?;
-        let want = Some(Syntax(i as u64 + 2));
+        let want = Some(Syntax(i as u32 + 2));
         assert_eq!(rt;
             fault(rt.alloc(), text.as_slice()),
             want,
