@@ -108,13 +108,13 @@ fn given(count: usize, size: u32) -> Result<u64, Memory>
 }
 
 /// The values given, and then zeros up to whole words.
-fn put_global(bytes: &mut Items<u8>, global: &TypedGlobal) -> Result<(), Memory>
-    ensures { OnOk result (bytes.new ≡ bytes.old ++ global_image global.now) }
+fn put_global(image: &mut Items<u8>, global: &TypedGlobal) -> Result<(), Memory>
+    ensures { OnOk result (image.new ≡ image.old ++ global_image global.now) }
 {
     let size = bytes(global.kind);
     let given = given(global.init.len(), size)?;
-    put_init(bytes, size, global.init.as_slice())?;
-    put_zeros(bytes, global_bytes(global).saturating_sub(given))?;
+    put_init(image, size, global.init.as_slice())?;
+    put_zeros(image, global_bytes(global).saturating_sub(given))?;
     Ok(())
 }
 
