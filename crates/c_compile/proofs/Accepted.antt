@@ -9,19 +9,19 @@ use Rattle.c_type_rules.specs.Units.{Accepts}
 use Rattle.c_type_rules.proofs.UnitsComplete.{accepts_typed}
 use Rattle.c_type_laws.specs.WellFormed.{WellFormed}
 use Rattle.c_type_laws.proofs.Whole.{well_formed}
-use Rattle.c_words.specs.TypedTrees.{ProgramHasWords}
-use Rattle.c_words.proofs.LexedWords.{lexed_has}
-use Rattle.c_words.proofs.Units.{units_have_words}
-use Rattle.c_words.proofs.ItemWords.{program_has}
-use Rattle.c_words.proofs.Counted.{items_few, globals_few}
+use Rattle.flat_lower_premises.specs.TypedTrees.{ProgramHasWords}
+use Rattle.flat_lower_premises.proofs.LexedWords.{lexed_has}
+use Rattle.flat_lower_premises.proofs.UnitWords.{units_have_words}
+use Rattle.flat_lower_premises.proofs.ItemWords.{program_has}
+use Rattle.flat_lower_premises.proofs.Counted.{items_few, globals_few}
 use Rattle.c_front.specs.Fronts.{most_tokens, IsAccepted}
 use Rattle.ir_forms.specs.FlatCode.{Program as FlatProgram}
 use Rattle.flat_lower.specs.TreeViews.{source_of}
 use Rattle.flat_lower.specs.Statements.{lowered_program}
-use Rattle.flat_typed.specs.Limits.{HasFewGlobals}
-use Rattle.flat_typed.proofs.FitPrograms.{source_fits, meaning_kept}
+use Rattle.flat_lower_premises.specs.Limits.{HasFewGlobals}
+use Rattle.flat_lower_premises.proofs.FitPrograms.{source_fits, meaning_kept}
 use Rattle.flat_lower_limits.proofs.Whole.{lowered_fits}
-use Rattle.c_sizes.proofs.TypedUnits.{programs_have_room}
+use Rattle.flat_lower_premises.proofs.UnitSizes.{programs_have_room}
 use Rattle.c_compile.specs.Flat.{IsFlatOf}
 use Rattle.c_compile.proofs.Placed.{few_params, placed_jumps}
 

@@ -9,7 +9,7 @@ use Rattle.ir_forms.specs.FlatRuns.{checked, flat_run}
 use Rattle.flat_lower.specs.TreeViews.{source_of}
 use Rattle.flat_lower.specs.Statements.{lowered_program}
 use Rattle.flat_lower.specs.Keeps.{IsInput, Keeps}
-use Rattle.flat_typed.specs.Most.{most_of}
+use Rattle.flat_lower_premises.specs.Most.{most_of}
 
 -- On each input the flat program does what the program means within any number of steps, by the run
 -- with all checks.

@@ -3,7 +3,7 @@ use crate::machine::Stop;
 use crate::running::{Ran, run};
 use c_front::front;
 use c_meaning::{Outcome, evaluate};
-use c_tree::TypedProgram;
+use c_tree::{MOST_SOURCE_BYTES, TypedProgram};
 use flat_lower::lower;
 use ir_forms::FlatProgram;
 use std::alloc::Global;
@@ -37,7 +37,7 @@ pub enum Cut {
 
 impl Both {
     pub fn of_text(rt: &impl Abort, alloc: Global, name: &str, text: &[u8]) -> Both {
-        assert!(rt; text.len() <= 262_144, "{name}: the text is short");
+        assert!(rt; text.len() as u64 <= MOST_SOURCE_BYTES, "{name}: the text is short");
         let typed = front(alloc, text).expect(rt, name);
         let flat = lower(alloc, &typed).expect(rt, name);
         Both { typed, flat }

@@ -1,5 +1,6 @@
 -- What reading a file comes to.
 use Rattle.std.specs.Prelude.{◌≡◌, ℕ, ◌<◌, ◌≤◌, List, [], Option, None, Some, IfSome, length}
+use Rattle.c_tree.specs.declared.limits.TheConstants.{MOST_SOURCE_BYTES}
 use Rattle.trips_outside.specs.Outside.{Holds}
 use Rattle.trips_run.specs.declared.command_line.FileForm.{FileForm}
 use Rattle.trips_run.specs.declared.command_line.FileForm.TheVariants.{Source, Image}
@@ -9,7 +10,7 @@ use Rattle.trips_run.specs.Request.{Request}
 
 -- how many bytes a file of C may have
 unfoldable pub most_source_bytes : ℕ
-most_source_bytes = 262144
+most_source_bytes = MOST_SOURCE_BYTES
 
 -- how many bytes an input may have
 unfoldable pub most_input_bytes : ℕ

@@ -14,11 +14,9 @@ use crate::loading::{Loaded, read, read_input};
 use crate::status::Status;
 use crate::text_answer::text_answer;
 use base::Items;
+use c_tree::MOST_SOURCE_BYTES;
 use std::alloc::{AllocError, Global};
 use trips_outside::Files;
-
-/// How many bytes a file of C may have.
-const MOST_SOURCE_BYTES: u64 = 262_144;
 
 /// How many bytes an image may have.
 const MOST_IMAGE_BYTES: u64 = 71_303_188;

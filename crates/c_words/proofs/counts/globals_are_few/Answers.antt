@@ -1,5 +1,0 @@
-use Rattle.c_words.proofs.Counted.{items_few, globals_few}
-use Rattle.c_words.proofs.counts.globals_are_few.Goals as goal
-
-pub returns : goal.returns
-returns c = record { items = items_few; globals = globals_few }

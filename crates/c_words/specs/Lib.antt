@@ -1,4 +1,0 @@
-pub mod Words
-pub mod Assigners
-pub mod Trees
-pub mod TypedTrees

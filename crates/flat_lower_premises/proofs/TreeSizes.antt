@@ -1,0 +1,169 @@
+-- The nodes of untyped trees, level by level.
+use Rattle.std.proofs.Common.{◌≡◌, ℕ, ◌+◌, List, [], ◌∷◌, ◌++◌, Option, Some, None, sym}
+use Rattle.std.proofs.Common.{ap, ◌∙◌, arith}
+use Rattle.c_tree.specs.declared.token.Kind.{Kind}
+use Rattle.c_tree.specs.declared.tree.UnaryOp.{UnaryOp}
+use Rattle.c_tree.specs.declared.tree.BumpOp.{BumpOp}
+use Rattle.c_tree.specs.declared.tree.BinaryOp.{BinaryOp}
+use Rattle.c_tree.specs.declared.tree.ArraySize.{ArraySize}
+use Rattle.c_tree.specs.declared.tree.Expr.{Expr, fold_out-Expr}
+use Rattle.c_tree.specs.declared.tree.ExprNode.{ExprNode, map-ExprNode, fold-roll-ExprNode}
+use Rattle.c_tree.specs.declared.tree.ExprNode.{fold-ExprNode, roll-ExprNode}
+use Rattle.c_tree.specs.declared.tree.ExprNode.TheVariants as node
+use Rattle.c_tree.specs.declared.tree.ExprNode.TheOpen.{ExprNode-F}
+use Rattle.c_tree.specs.declared.tree.ForInit.{ForInit, map-ForInit, fold-roll-ForInit}
+use Rattle.c_tree.specs.declared.tree.ForInit.{fold-ForInit, roll-ForInit}
+use Rattle.c_tree.specs.declared.tree.ForInit.TheVariants as first
+use Rattle.c_tree.specs.declared.tree.ForInit.TheOpen.{ForInit-F, StmtNode-F}
+use Rattle.c_tree.specs.declared.tree.Stmt.{Stmt, fold_out-Stmt}
+use Rattle.c_tree.specs.declared.tree.StmtNode.{StmtNode, map-StmtNode, fold-roll-StmtNode}
+use Rattle.c_tree.specs.declared.tree.StmtNode.{fold-StmtNode, roll-StmtNode}
+use Rattle.c_tree.specs.declared.tree.StmtNode.TheVariants as stmt
+use Rattle.c_tree.specs.declared.tree.Top.{Top}
+use Rattle.c_grammar.specs.Operators.{at}
+use Rattle.c_grammar.specs.Statements as s
+use Rattle.flat_lower_premises.specs.Nodes.{level_nodes, of_level, expr_nodes, exprs_nodes}
+use Rattle.flat_lower_premises.specs.Nodes.{expr_if_nodes, stmt_level_nodes, first_level_nodes, of_stmt_level}
+use Rattle.flat_lower_premises.specs.Nodes.{stmt_nodes, first_nodes, stmts_nodes, stmt_if_nodes}
+use Rattle.flat_lower_premises.specs.Nodes.{unit_nodes}
+
+-- EXPRESSIONS
+
+by_node : (l : ℕ) (n : ExprNode) (x : ExprNode-F ExprNode Expr) → roll-ExprNode x ≡ n
+    → expr_nodes (at l n) ≡ level_nodes (map-ExprNode ExprNode Expr ℕ ℕ
+    (fold-ExprNode ℕ ℕ level_nodes of_level) expr_nodes x)
+unfolding expr_nodes
+by_node l n x e =
+    fold_out-Expr ℕ ℕ level_nodes of_level (at l n)
+    ∙ ap (λ (m : ExprNode). fold-ExprNode ℕ ℕ level_nodes of_level m) (sym e)
+    ∙ fold-roll-ExprNode ℕ ℕ level_nodes of_level x
+
+module _ (l : ℕ) where
+  pub nodes-Number : (v : ℕ) (k : Kind) → expr_nodes (at l (node.Number v k)) ≡ 1
+  nodes-Number v k = by_node l _ (ExprNode-F.Number v k) (node.rolls-Number v k)
+
+  pub nodes-Name : (w : List ℕ) → expr_nodes (at l (node.Name w)) ≡ 1
+  nodes-Name w = by_node l _ (ExprNode-F.Name w) (node.rolls-Name w)
+
+  pub nodes-Element : (w : List ℕ) (i : Expr)
+      → expr_nodes (at l (node.Element w i)) ≡ 1 + expr_nodes i
+  nodes-Element w i = by_node l _ (ExprNode-F.Element w i) (node.rolls-Element w i)
+
+  pub nodes-Call : (w : List ℕ) (es : List Expr)
+      → expr_nodes (at l (node.Call w es)) ≡ 1 + exprs_nodes es
+  nodes-Call w es = by_node l _ (ExprNode-F.Call w es) (node.rolls-Call w es)
+
+  pub nodes-Group : (e : Expr) → expr_nodes (at l (node.Group e)) ≡ expr_nodes e
+  nodes-Group e = by_node l _ (ExprNode-F.Group e) (node.rolls-Group e)
+
+  pub nodes-Unary : (op : UnaryOp) (e : Expr)
+      → expr_nodes (at l (node.Unary op e)) ≡ 1 + expr_nodes e
+  nodes-Unary op e = by_node l _ (ExprNode-F.Unary op e) (node.rolls-Unary op e)
+
+  pub nodes-Cast : (k : Kind) (e : Expr)
+      → expr_nodes (at l (node.Cast k e)) ≡ 1 + expr_nodes e
+  nodes-Cast k e = by_node l _ (ExprNode-F.Cast k e) (node.rolls-Cast k e)
+
+  pub nodes-Bump : (op : BumpOp) (e : Expr)
+      → expr_nodes (at l (node.Bump op e)) ≡ 1 + expr_nodes e
+  nodes-Bump op e = by_node l _ (ExprNode-F.Bump op e) (node.rolls-Bump op e)
+
+  pub nodes-Binary : (op : BinaryOp) (x y : Expr)
+      → expr_nodes (at l (node.Binary op x y)) ≡ 1 + (expr_nodes x + expr_nodes y)
+  nodes-Binary op x y = by_node l _ (ExprNode-F.Binary op x y) (node.rolls-Binary op x y)
+
+  pub nodes-Choice : (c x y : Expr)
+      → expr_nodes (at l (node.Choice c x y)) ≡ 1 + (expr_nodes c + (expr_nodes x + expr_nodes y))
+  nodes-Choice c x y = by_node l _ (ExprNode-F.Choice c x y) (node.rolls-Choice c x y)
+
+  pub nodes-Assign : (op : Option BinaryOp) (x y : Expr)
+      → expr_nodes (at l (node.Assign op x y)) ≡ 1 + (expr_nodes x + expr_nodes y)
+  nodes-Assign op x y = by_node l _ (ExprNode-F.Assign op x y) (node.rolls-Assign op x y)
+
+  pub nodes-Comma : (x y : Expr)
+      → expr_nodes (at l (node.Comma x y)) ≡ 1 + (expr_nodes x + expr_nodes y)
+  nodes-Comma x y = by_node l _ (ExprNode-F.Comma x y) (node.rolls-Comma x y)
+
+-- STATEMENTS
+
+by_stmt : (l : ℕ) (n : StmtNode) (x : StmtNode-F ForInit StmtNode Stmt) → roll-StmtNode x ≡ n
+    → stmt_nodes (s.at l n) ≡ stmt_level_nodes (map-StmtNode ForInit StmtNode Stmt ℕ ℕ ℕ first_nodes
+    (fold-StmtNode ℕ ℕ ℕ first_level_nodes stmt_level_nodes of_stmt_level) stmt_nodes x)
+unfolding stmt_nodes first_nodes
+by_stmt l n x e =
+    fold_out-Stmt ℕ ℕ ℕ first_level_nodes stmt_level_nodes of_stmt_level (s.at l n)
+    ∙ ap (λ (m : StmtNode). fold-StmtNode ℕ ℕ ℕ first_level_nodes stmt_level_nodes of_stmt_level m)
+    (sym e)
+    ∙ fold-roll-StmtNode ℕ ℕ ℕ first_level_nodes stmt_level_nodes of_stmt_level x
+
+module _ (l : ℕ) where
+  pub nodes-Declare : (k : Kind) (w : List ℕ) (size : ArraySize) (init : Option Expr)
+      → stmt_nodes (s.at l (stmt.Declare k w size init)) ≡ 1 + expr_if_nodes init
+  nodes-Declare k w size init =
+      by_stmt l _ (StmtNode-F.Declare k w size init) (stmt.rolls-Declare k w size init)
+
+  pub nodes-Plain : (e : Option Expr)
+      → stmt_nodes (s.at l (stmt.Plain e)) ≡ 1 + expr_if_nodes e
+  nodes-Plain e = by_stmt l _ (StmtNode-F.Plain e) (stmt.rolls-Plain e)
+
+  pub nodes-Compound : (ss : List Stmt)
+      → stmt_nodes (s.at l (stmt.Compound ss)) ≡ 1 + stmts_nodes ss
+  nodes-Compound ss = by_stmt l _ (StmtNode-F.Compound ss) (stmt.rolls-Compound ss)
+
+  pub nodes-If : (c : Expr) (b : Stmt) (other : Option Stmt)
+      → stmt_nodes (s.at l (stmt.If c b other))
+      ≡ 1 + (expr_nodes c + (stmt_nodes b + stmt_if_nodes other))
+  nodes-If c b None = by_stmt l _ (StmtNode-F.If c b None) (stmt.rolls-If c b None)
+  nodes-If c b (Some o) = by_stmt l _ (StmtNode-F.If c b (Some o)) (stmt.rolls-If c b (Some o))
+
+  pub nodes-While : (c : Expr) (b : Stmt)
+      → stmt_nodes (s.at l (stmt.While c b)) ≡ 1 + (expr_nodes c + stmt_nodes b)
+  nodes-While c b = by_stmt l _ (StmtNode-F.While c b) (stmt.rolls-While c b)
+
+  pub nodes-Do : (b : Stmt) (c : Expr)
+      → stmt_nodes (s.at l (stmt.Do b c)) ≡ 1 + (stmt_nodes b + expr_nodes c)
+  nodes-Do b c = by_stmt l _ (StmtNode-F.Do b c) (stmt.rolls-Do b c)
+
+  pub nodes-For : (i : ForInit) (c p : Option Expr) (b : Stmt)
+      → stmt_nodes (s.at l (stmt.For i c p b))
+      ≡ 1 + (first_nodes i + (expr_if_nodes c + (expr_if_nodes p + stmt_nodes b)))
+  nodes-For i c p b = by_stmt l _ (StmtNode-F.For i c p b) (stmt.rolls-For i c p b)
+
+  pub nodes-Break : stmt_nodes (s.at l stmt.Break) ≡ 1
+  nodes-Break = by_stmt l _ StmtNode-F.Break stmt.rolls-Break
+
+  pub nodes-Continue : stmt_nodes (s.at l stmt.Continue) ≡ 1
+  nodes-Continue = by_stmt l _ StmtNode-F.Continue stmt.rolls-Continue
+
+  pub nodes-Return : (e : Option Expr)
+      → stmt_nodes (s.at l (stmt.Return e)) ≡ 1 + expr_if_nodes e
+  nodes-Return e = by_stmt l _ (StmtNode-F.Return e) (stmt.rolls-Return e)
+
+by_first : (i : ForInit) (x : ForInit-F ForInit StmtNode Stmt) → roll-ForInit x ≡ i
+    → first_nodes i ≡ first_level_nodes (map-ForInit ForInit StmtNode Stmt ℕ ℕ ℕ first_nodes
+    (fold-StmtNode ℕ ℕ ℕ first_level_nodes stmt_level_nodes of_stmt_level) stmt_nodes x)
+unfolding stmt_nodes first_nodes
+by_first i x e =
+    ap (λ (j : ForInit). fold-ForInit ℕ ℕ ℕ first_level_nodes stmt_level_nodes of_stmt_level j)
+    (sym e)
+    ∙ fold-roll-ForInit ℕ ℕ ℕ first_level_nodes stmt_level_nodes of_stmt_level x
+
+pub nodes-Nothing : first_nodes first.Nothing ≡ 0
+nodes-Nothing = by_first _ ForInit-F.Nothing first.rolls-Nothing
+
+pub nodes-First : (e : Expr) → first_nodes (first.First e) ≡ expr_nodes e
+nodes-First e = by_first _ (ForInit-F.First e) (first.rolls-First e)
+
+pub nodes-Locals : (ss : List Stmt) → first_nodes (first.Locals ss) ≡ stmts_nodes ss
+nodes-Locals ss = by_first _ (ForInit-F.Locals ss) (first.rolls-Locals ss)
+
+-- LISTS
+
+pub stmts_append : (ss rest : List Stmt)
+    → stmts_nodes (ss ++ rest) ≡ stmts_nodes ss + stmts_nodes rest
+stmts_append [] rest = omega arith
+stmts_append (b ∷ ss) rest = let h = stmts_append ss rest in omega arith
+
+pub units_append : (xs ys : List Top) → unit_nodes (xs ++ ys) ≡ unit_nodes xs + unit_nodes ys
+units_append [] ys = omega arith
+units_append (x ∷ xs) ys = let h = units_append xs ys in omega arith

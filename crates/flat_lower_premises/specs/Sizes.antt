@@ -1,0 +1,30 @@
+-- How large a unit and its typed program may be, by the tokens of the text.
+use Rattle.std.specs.Prelude.{◌*◌, ◌≤◌, List, length}
+use Rattle.c_tree.specs.declared.limits.TheConstants.{MOST_TOKENS}
+use Rattle.c_tree.specs.declared.token.Lexeme.{Lexeme}
+use Rattle.c_tree.specs.declared.tree.Program.{Program}
+use Rattle.c_tree.specs.declared.tree.Top.{Top}
+use Rattle.c_tree.specs.declared.typed.TypedProgram.{TypedProgram}
+use Rattle.c_grammar.specs.Answers.{IsUnit}
+use Rattle.c_type_rules.specs.Units.{Accepts}
+use Rattle.flat_lower.specs.TreeViews.{source_of}
+use Rattle.flat_lower_limits.specs.Nodes.{source_size}
+use Rattle.flat_lower_premises.specs.Nodes.{unit_nodes}
+
+-- a unit has no more nodes than its text has tokens
+abbrev pub UnitsAreSmall : Type 0
+UnitsAreSmall =
+    (ts : List Lexeme) (xs : List Top) → IsUnit ts xs → unit_nodes xs ≤ length ts
+
+-- the source of its typed program has at most twice as many: typing adds at most one conversion
+-- to each expression
+abbrev pub ProgramsAreSmall : Type 0
+ProgramsAreSmall =
+    (p : Program) (t : TypedProgram) → Accepts p t
+    → source_size (source_of t) ≤ 2 * unit_nodes p.items
+
+-- so that of a text of no more tokens than the lexer gives is not too long to be lowered
+abbrev pub ProgramsHaveRoom : Type 0
+ProgramsHaveRoom =
+    (ts : List Lexeme) (p : Program) (t : TypedProgram) → IsUnit ts p.items → length ts ≤ MOST_TOKENS
+    → Accepts p t → 4 * source_size (source_of t) ≤ 16777216

@@ -1,0 +1,121 @@
+-- Trees each of whose numbers is a word of its type, and each of whose assignments has an operator
+-- that C gives one. A rule for each node.
+use Rattle.std.specs.Prelude.{ℕ, List, [], ◌∷◌, Option, Some, None}
+use Rattle.c_tree.specs.Trees.{Node, node_of, Level, level_of, Beginning}
+use Rattle.c_tree.specs.declared.token.Kind.{Kind}
+use Rattle.c_tree.specs.declared.tree.UnaryOp.{UnaryOp}
+use Rattle.c_tree.specs.declared.tree.BumpOp.{BumpOp}
+use Rattle.c_tree.specs.declared.tree.BinaryOp.{BinaryOp}
+use Rattle.c_tree.specs.declared.tree.ArraySize.{ArraySize}
+use Rattle.c_tree.specs.declared.tree.ArraySize.TheVariants as size
+use Rattle.c_tree.specs.declared.tree.Expr.{Expr}
+use Rattle.c_tree.specs.declared.tree.ExprNode.{ExprNode, out-ExprNode}
+use Rattle.c_tree.specs.declared.tree.ExprNode.TheOpen.{ExprNode-F, Number, Name, Element, Call}
+use Rattle.c_tree.specs.declared.tree.ExprNode.TheOpen.{Group, Unary, Cast, Bump, Binary, Choice}
+use Rattle.c_tree.specs.declared.tree.ExprNode.TheOpen.{Assign, Comma}
+use Rattle.c_tree.specs.declared.tree.Stmt.{Stmt}
+use Rattle.c_tree.specs.declared.tree.StmtNode.{StmtNode, out-StmtNode}
+use Rattle.c_tree.specs.declared.tree.ForInit.{ForInit, out-ForInit}
+use Rattle.c_tree.specs.declared.tree.ForInit.TheOpen.{StmtNode-F, ForInit-F, Declare, Plain}
+use Rattle.c_tree.specs.declared.tree.ForInit.TheOpen.{Compound, If, While, Do, For, Break}
+use Rattle.c_tree.specs.declared.tree.ForInit.TheOpen.{Continue, Return, Nothing, First, Locals}
+use Rattle.c_tree.specs.declared.tree.Top.{Top}
+use Rattle.c_tree.specs.declared.tree.TopNode.{TopNode}
+use Rattle.c_tree.specs.declared.tree.TopNode.TheVariants as top
+use Rattle.c_constant.specs.Kinds.{IsWord}
+use Rattle.flat_lower_premises.specs.Assigners.{IsAssigner}
+
+-- EXPRESSIONS
+
+mutual
+  pub data NodeHasWords : Node → Type 0 where
+    number : {v : ℕ} {k : Kind} → IsWord k v → NodeHasWords (Number v k)
+    name : {w : List ℕ} → NodeHasWords (Name w)
+    element : {w : List ℕ} {i : Expr}
+        → NodeHasWords (node_of i) → NodeHasWords (Element w i)
+    call : {w : List ℕ} {es : List Expr} → ExprsHaveWords es → NodeHasWords (Call w es)
+    group : {e : Expr} → NodeHasWords (node_of e) → NodeHasWords (Group e)
+    operator : {op : UnaryOp} {e : Expr}
+        → NodeHasWords (node_of e) → NodeHasWords (Unary op e)
+    conversion : {k : Kind} {e : Expr} → NodeHasWords (node_of e) → NodeHasWords (Cast k e)
+    step : {op : BumpOp} {e : Expr} → NodeHasWords (node_of e) → NodeHasWords (Bump op e)
+    operation : {op : BinaryOp} {x y : Expr}
+        → NodeHasWords (node_of x) → NodeHasWords (node_of y) → NodeHasWords (Binary op x y)
+    either : {c x y : Expr}
+        → NodeHasWords (node_of c) → NodeHasWords (node_of x) → NodeHasWords (node_of y)
+        → NodeHasWords (Choice c x y)
+    assignment : {op : Option BinaryOp} {x y : Expr} → IsAssigner op
+        → NodeHasWords (node_of x) → NodeHasWords (node_of y) → NodeHasWords (Assign op x y)
+    sequence : {x y : Expr}
+        → NodeHasWords (node_of x) → NodeHasWords (node_of y) → NodeHasWords (Comma x y)
+
+  pub data ExprsHaveWords : List Expr → Type 0 where
+    no_expr : ExprsHaveWords []
+    one_expr : {e : Expr} {es : List Expr}
+        → NodeHasWords (node_of e) → ExprsHaveWords es → ExprsHaveWords (e ∷ es)
+
+abbrev pub ExprHasWords : Expr → Type 0
+ExprHasWords e = NodeHasWords (node_of e)
+
+abbrev pub ExprIfHasWords : Option Expr → Type 0
+ExprIfHasWords None = Unit {0}
+ExprIfHasWords (Some e) = ExprHasWords e
+
+abbrev pub SizeHasWords : ArraySize → Type 0
+SizeHasWords (size.Sized e) = ExprHasWords e
+SizeHasWords _ = Unit {0}
+
+-- STATEMENTS
+
+mutual
+  pub data LevelHasWords : Level → Type 0 where
+    declared : {k : Kind} {w : List ℕ} {a : ArraySize} {init : Option Expr}
+        → SizeHasWords a → ExprIfHasWords init → LevelHasWords (Declare k w a init)
+    plain : {e : Option Expr} → ExprIfHasWords e → LevelHasWords (Plain e)
+    compound : {ss : List Stmt} → StmtsHaveWords ss → LevelHasWords (Compound ss)
+    choice : {c : Expr} {s : Stmt} {other : Option Stmt}
+        → ExprHasWords c → LevelHasWords (level_of s) → ElseHasWords other
+        → LevelHasWords (If c s other)
+    while_loop : {c : Expr} {s : Stmt}
+        → ExprHasWords c → LevelHasWords (level_of s) → LevelHasWords (While c s)
+    do_loop : {c : Expr} {s : Stmt}
+        → LevelHasWords (level_of s) → ExprHasWords c → LevelHasWords (Do s c)
+    for_loop : {i : ForInit} {c p : Option Expr} {s : Stmt}
+        → BeginningHasWords (out-ForInit i) → ExprIfHasWords c → ExprIfHasWords p
+        → LevelHasWords (level_of s) → LevelHasWords (For i c p s)
+    breaks : LevelHasWords Break
+    continues : LevelHasWords Continue
+    returns : {e : Option Expr} → ExprIfHasWords e → LevelHasWords (Return e)
+
+  pub data StmtsHaveWords : List Stmt → Type 0 where
+    no_stmt : StmtsHaveWords []
+    one_stmt : {s : Stmt} {ss : List Stmt}
+        → LevelHasWords (level_of s) → StmtsHaveWords ss → StmtsHaveWords (s ∷ ss)
+
+  pub data ElseHasWords : Option Stmt → Type 0 where
+    without_else : ElseHasWords None
+    with_else : {s : Stmt} → LevelHasWords (level_of s) → ElseHasWords (Some s)
+
+  pub data BeginningHasWords : Beginning → Type 0 where
+    nothing : BeginningHasWords Nothing
+    first : {e : Expr} → ExprHasWords e → BeginningHasWords (First e)
+    locals : {ss : List Stmt} → StmtsHaveWords ss → BeginningHasWords (Locals ss)
+
+abbrev pub StmtHasWords : Stmt → Type 0
+StmtHasWords s = LevelHasWords (level_of s)
+
+abbrev pub StmtIfHasWords : Option Stmt → Type 0
+StmtIfHasWords None = Unit {0}
+StmtIfHasWords (Some s) = StmtHasWords s
+
+-- UNITS
+
+-- an array parameter's size says nothing, and is not looked at
+abbrev pub TopHasWords : TopNode → Type 0
+TopHasWords top.Include = Unit {0}
+TopHasWords (top.Global k w a init) = SizeHasWords a × ExprsHaveWords init
+TopHasWords (top.Func r w ps body) = StmtIfHasWords body
+
+abbrev pub UnitHasWords : List Top → Type 0
+UnitHasWords [] = Unit {0}
+UnitHasWords (t ∷ ts) = TopHasWords t.node × UnitHasWords ts

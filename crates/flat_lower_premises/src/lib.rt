@@ -1,0 +1,18 @@
+//! What the lowering to the flat form asks of a typed program, from the text on: each number is a word
+//! of its type, a program is no larger than its text allows, and what typing gives is what lowering
+//! takes, so that lowered programs keep C's meaning. Nothing here runs.
+#![tactic(auto)]
+
+mod counts;
+mod fits;
+mod lengths;
+mod lexing;
+mod parsing;
+mod typing;
+
+pub use counts::globals_are_few;
+pub use fits::{lowered_programs_keep_meaning, most_of_is_most, typed_programs_fit};
+pub use lengths::{programs_are_small, programs_have_room, units_are_small};
+pub use lexing::tokens_have_words;
+pub use parsing::units_have_words;
+pub use typing::programs_have_words;
