@@ -7,6 +7,7 @@ use Rattle.c_meaning_spec.specs.Eval as meant
 use Rattle.c_meaning.specs.declared.outcome.Outcome.{Outcome}
 use Rattle.c_meaning.specs.declared.outcome.Outcome.TheVariants.{More, Undefined, Deep, Done}
 
+-- the outcome without the output of one that is not Done
 abbrev pub answer : meant.Outcome → Outcome
 answer (Stopped ending.More output) = More
 answer (Stopped ending.Undefined output) = Undefined

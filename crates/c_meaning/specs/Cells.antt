@@ -6,16 +6,20 @@ use Rattle.std.specs.Prelude.{drop, Option, Some, None}
 use Rattle.c_meaning.specs.declared.arrays.Cell.{Cell}
 use Rattle.c_meaning.specs.declared.arrays.Span.{Span}
 
+-- what a cell holds, where it has the stamp of its array
 abbrev pub shown : ℕ → Cell → Option ℕ
 shown stamp c = cond (nat_eq c.stamp stamp) (Some c.word) None
 
+-- the cells of one array
 abbrev pub row_of : Span → List Cell → List (Option ℕ)
 row_of span cells = map (shown span.stamp) (take span.length cells)
 
+-- the cells of all arrays
 abbrev pub rows : List Span → List Cell → List (List (Option ℕ))
 rows [] cells = []
 rows (span ∷ spans) cells = row_of span cells ∷ rows spans (drop span.length cells)
 
+-- how many cells the arrays have
 abbrev pub total : List Span → ℕ
 total [] = 0
 total (span ∷ spans) = span.length + total spans
@@ -30,10 +34,12 @@ abbrev pub SpansKnown : ℕ → List Span → Type 0
 SpansKnown last [] = Unit {0}
 SpansKnown last (span ∷ spans) = (span.stamp ≤ last) × SpansKnown last spans
 
+-- the same of the cells' stamps
 abbrev pub CellsKnown : ℕ → List Cell → Type 0
 CellsKnown last [] = Unit {0}
 CellsKnown last (c ∷ cells) = (c.stamp ≤ last) × CellsKnown last cells
 
+-- the arrays are laid out in the cells, of which so many are used, with no stamp later than the last
 pub record IsLaid (spans : List Span) (cells : List Cell) (used last : ℕ) : Type 0 where
   pub follows : Follows 0 spans
   pub counted : used ≡ total spans

@@ -29,6 +29,7 @@ use Rattle.c_meaning.specs.declared.frame.Frame.TheVariants as frame
 use Rattle.c_meaning.specs.declared.frame.Move.{Move}
 use Rattle.c_meaning.specs.declared.frame.Move.TheVariants as move
 
+-- what the evaluator holds, as a state of the definition
 abbrev pub view : Store → State
 view s = record {
   stock = s.stock;
@@ -40,15 +41,18 @@ view s = record {
   room = s.room;
 }
 
+-- what stands behind a reference, if there is one
 abbrev pub behind : {A : Type 0} → Option (Bor A) → Option A
 behind None = None
 behind (Some x) = Some x.now
 
+-- a task, as one of the definition
 abbrev pub task_of : Task → meant.Task
 task_of (task.Of e) = Of e.now
 task_of (task.Run st) = Run st.now
 task_of (task.Turn l) = Turn (behind l.test) (behind l.post) l.body.now
 
+-- a frame of an operand, as what follows it
 abbrev pub follow_operand : Operand → TypedExpr → Follow
 follow_operand (operand.Right op k) right = FLeft op k right
 follow_operand operand.OfAnd right = FAnd right
@@ -56,6 +60,7 @@ follow_operand operand.OfOr right = FOr right
 follow_operand operand.OfComma right = FComma right
 follow_operand (operand.Stored op to at p) right = FAssignElement op to at p right
 
+-- a frame of a loop, by its stage
 abbrev pub follow_turn : Stage → List TypedStmt → Option TypedExpr → Option TypedExpr → TypedStmt
     → Follow
 follow_turn stage.Begins rest test post body = FLocals rest test post body
@@ -63,6 +68,7 @@ follow_turn stage.Turns rest test post body = FThenTurn test post body
 follow_turn stage.Tests rest test post body = FTest test post body
 follow_turn stage.Ran rest test post body = FBody test post body
 
+-- a frame, as what follows a part
 abbrev pub follow : Frame → Follow
 follow (frame.Converting to) = FConverting to
 follow (frame.Unary op k) = FUnary op k
@@ -96,6 +102,7 @@ fetched (fetch.Word w) s = Fetched w s
 fetched (fetch.Fails why) s = Failed why s
 fetched fetch.Deferred s = operands.Deferred s
 
+-- a move, as what is to be done next
 abbrev pub next : Move → Next
 next (move.Do t) = ToDo (task_of t)
 next (move.Give v) = Given v

@@ -9,12 +9,14 @@ use std::alloc::{AllocError, Global};
 use std::marker::Model;
 
 #[derive(Clone, Copy)]
+// A word and the stamp of the array that it was stored in.
 struct Cell {
     stamp: u64,
     word: u64,
 }
 
 #[derive(Clone, Copy)]
+// Where an array's cells begin, how many they are, and the stamp of those that are set.
 struct Span {
     start: usize,
     length: usize,
@@ -69,6 +71,7 @@ fn put_words(cells: &mut Vec<Cell>, stamp: u64, words: &[u64]) -> Result<(), All
     Ok(())
 }
 
+// The span of an array by its number.
 fn span_at(spans: &[Span], array: u64) -> Option<Span>
     ensures { result ≡ slice_get spans.now array }
 {
@@ -99,6 +102,7 @@ fn next_stamp(last: u64) -> Result<u64, AllocError>
     }
 }
 
+// How many cells are used with some more.
 fn sum_of(used: usize, length: usize) -> Result<usize, AllocError>
     ensures { IfOk result (λ sum. sum ≡ used + length) }
 {
@@ -108,6 +112,7 @@ fn sum_of(used: usize, length: usize) -> Result<usize, AllocError>
     }
 }
 
+// The word of an element, if it is there and set.
 fn read(spans: &[Span], cells: &[Cell], array: u64, at: u64) -> Option<u64>
     requires follows { Follows 0 spans.now }
     requires fits { total spans.now ≤ length cells.now }
@@ -125,6 +130,7 @@ fn read(spans: &[Span], cells: &[Cell], array: u64, at: u64) -> Option<u64>
     }
 }
 
+// Stores a word into an element, if it is there.
 fn write(spans: &[Span], cells: &mut Vec<Cell>, array: u64, at: u64, word: u64) -> bool
     requires follows { Follows 0 spans.now }
     requires fits { total spans.now ≤ length cells.old.items }

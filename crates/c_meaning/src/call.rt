@@ -81,6 +81,7 @@ fn put_scalars(
     pad(scalars, f.scalars.len().saturating_sub(done.len()))
 }
 
+// Adds the arrays of a call, unset.
 fn add_arrays(arrays: &mut Arrays, f: &TypedFunc) -> Result<(), AllocError>
     ensures { OnOk result (arrays.new ≡ arrays.old ++ map unset_array f.now.arrays) }
 {
@@ -91,6 +92,7 @@ fn add_arrays(arrays: &mut Arrays, f: &TypedFunc) -> Result<(), AllocError>
 }
 
 impl<'a> Machine<'a> {
+    /// The arguments from the left, and then the call.
     pub fn arguments(
         &mut self,
         program: &'a TypedProgram,
@@ -126,6 +128,7 @@ impl<'a> Machine<'a> {
         Ok(moved)
     }
 
+    /// The value of an argument, and then the arguments after it.
     pub fn argument(
         &mut self,
         program: &'a TypedProgram,
@@ -142,6 +145,7 @@ impl<'a> Machine<'a> {
         self.arguments(program, callee, rest, done)
     }
 
+    /// A call's further step, and what the call does.
     pub fn called(
         &mut self,
         program: &'a TypedProgram,
@@ -164,6 +168,7 @@ impl<'a> Machine<'a> {
         }
     }
 
+    // `getchar` takes no argument.
     fn get_char(&mut self, done: &[u64]) -> Move<'a>
         ensures { Makes (get_step done.now) self.old self.new result }
     {
@@ -173,6 +178,7 @@ impl<'a> Machine<'a> {
         }
     }
 
+    // The next byte of the input, and -1 at its end.
     fn read(&mut self) -> Move<'a>
         ensures { Makes (λ s. read_step s.input s) self.old self.new result }
     {
@@ -185,6 +191,7 @@ impl<'a> Machine<'a> {
         }
     }
 
+    // `putchar` puts out the low byte of its argument.
     fn put_char(&mut self, done: &[u64]) -> Result<Move<'a>, AllocError>
         ensures { IfOk result (Makes (put_step done.now) self.old self.new) }
     {

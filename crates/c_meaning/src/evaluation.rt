@@ -19,6 +19,7 @@ use c_meaning_spec::{Ending, Signal};
 use c_tree::{Callee, TypedProgram};
 use std::alloc::{AllocError, Global};
 
+// How many cells a global has.
 fn length_of(length: Option<u32>) -> usize
     ensures { result ≡ length_in length }
 {
@@ -40,6 +41,7 @@ fn global_arrays(alloc: Global, program: &TypedProgram) -> Result<Arrays, AllocE
     Ok(arrays)
 }
 
+// The state before the call of main.
 fn first_store<'a>(
     alloc: Global,
     program: &TypedProgram,
@@ -154,6 +156,7 @@ fn ended(now: Move, store: Store, n: u64) -> Result<Outcome, AllocError>
     }
 }
 
+// An evaluation with an empty machine.
 fn evaluate_from<'a>(
     program: &'a TypedProgram,
     machine: Machine<'a>,

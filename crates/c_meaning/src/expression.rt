@@ -21,6 +21,7 @@ use c_meaning_spec::{Ending, Object, Signal};
 use c_tree::{BinaryOp, BumpOp, Kind, Place, TypedExpr, TypedNode, TypedProgram};
 use std::alloc::AllocError;
 
+// Whether a global is an array.
 fn is_array(program: &TypedProgram, g: u32) -> bool
     ensures { result ≡ is_array_in (slice_get program.now.globals g) }
 {
@@ -31,6 +32,7 @@ fn is_array(program: &TypedProgram, g: u32) -> bool
 }
 
 impl<'a> Machine<'a> {
+    /// An expression: a conversion that typing adds costs nothing.
     pub fn of(
         &mut self,
         program: &'a TypedProgram,
@@ -47,6 +49,7 @@ impl<'a> Machine<'a> {
         }
     }
 
+    // What stands in a conversion, which is none.
     fn conversion(&mut self, to: Kind, e: &'a TypedExpr) -> Result<Move<'a>, AllocError>
         ensures { IfOk result (Makes (conversion_step to e.now (node_of e.now)) self.old self.new) }
     {
@@ -63,6 +66,7 @@ impl<'a> Machine<'a> {
         }
     }
 
+    // A node spends its step first.
     fn node(&mut self, program: &'a TypedProgram, e: &'a TypedExpr) -> Result<Move<'a>, AllocError>
         ensures { IfOk result (Makes (node_step program.now (node_of e.now)) self.old self.new) }
     {
@@ -74,6 +78,7 @@ impl<'a> Machine<'a> {
         }
     }
 
+    // A node after its step.
     fn opened(
         &mut self,
         program: &'a TypedProgram,
@@ -126,6 +131,7 @@ impl<'a> Machine<'a> {
         }
     }
 
+    // An operation on two operands, of which `&&` and `||` may do without the second.
     fn binary(
         &mut self,
         op: BinaryOp,
@@ -142,6 +148,7 @@ impl<'a> Machine<'a> {
         self.push(Task::Of(left), Frame::Operand { operand, right })
     }
 
+    // An operation whose operands are both evaluated.
     fn operation(
         &mut self,
         op: BinaryOp,
@@ -167,6 +174,7 @@ impl<'a> Machine<'a> {
         }
     }
 
+    /// The right operand after the left one.
     pub fn with_left(
         &mut self,
         op: BinaryOp,
@@ -183,6 +191,7 @@ impl<'a> Machine<'a> {
         }
     }
 
+    // An element after its index.
     fn indexed(&mut self, array: Place, index: &'a TypedExpr) -> Result<Move<'a>, AllocError>
         ensures { IfOk result (Makes
             (λ s. operand_step index.now (FElement array) s (element_step array))
@@ -195,6 +204,7 @@ impl<'a> Machine<'a> {
         }
     }
 
+    // The value of a name.
     fn name(&self, program: &TypedProgram, place: Place) -> Move<'a>
         ensures { Makes (name_step program.now place) self.now self.now result }
     {
@@ -211,6 +221,7 @@ impl<'a> Machine<'a> {
         }
     }
 
+    /// The value of an element.
     pub fn element(&self, array: Place, index: u64) -> Move<'a>
         ensures { Makes (element_step array index) self.now self.now result }
     {
@@ -220,6 +231,7 @@ impl<'a> Machine<'a> {
         }
     }
 
+    // An assignment.
     fn assign(
         &mut self,
         op: Option<BinaryOp>,
@@ -240,6 +252,7 @@ impl<'a> Machine<'a> {
         }
     }
 
+    // An assignment to an element, of which the index comes first.
     fn assign_indexed(
         &mut self,
         op: Option<BinaryOp>,
@@ -264,6 +277,7 @@ impl<'a> Machine<'a> {
         }
     }
 
+    /// An assignment to an element by the value of its index.
     pub fn assign_element(
         &mut self,
         op: Option<BinaryOp>,
@@ -281,6 +295,7 @@ impl<'a> Machine<'a> {
         self.assign_to(op, to, at, right, object)
     }
 
+    /// The right side of an assignment to an object.
     pub fn assign_to(
         &mut self,
         op: Option<BinaryOp>,
@@ -305,6 +320,7 @@ impl<'a> Machine<'a> {
         }
     }
 
+    // The right side of `=`.
     fn assign_value(&mut self, object: Object, right: &'a TypedExpr) -> Result<Move<'a>, AllocError>
         ensures { IfOk result (Makes
             (λ s. operand_step right.now (FAssigned object) s (assigned_step object))
@@ -317,6 +333,7 @@ impl<'a> Machine<'a> {
         }
     }
 
+    // The right side of a compound assignment, which reads the old value before.
     fn compound(
         &mut self,
         op: BinaryOp,
@@ -347,6 +364,7 @@ impl<'a> Machine<'a> {
         }
     }
 
+    /// The result of the operation is stored.
     pub fn compounded(&mut self, object: Object, value: Option<u64>) -> Move<'a>
         ensures { Makes
             (λ s. some_step value s (λ r. store_step s object r (Signal.Value r)))
@@ -358,6 +376,7 @@ impl<'a> Machine<'a> {
         }
     }
 
+    // `++` and `--`.
     fn bump(&mut self, op: BumpOp, e: &'a TypedExpr) -> Result<Move<'a>, AllocError>
         ensures { IfOk result (Makes (bump_step op e.now.kind (node_of e.now)) self.old self.new) }
     {
@@ -375,6 +394,7 @@ impl<'a> Machine<'a> {
         }
     }
 
+    /// `++` and `--` on an object.
     pub fn bump_object(
         &mut self,
         op: BumpOp,

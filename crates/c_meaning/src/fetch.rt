@@ -21,6 +21,7 @@ pub enum Fetch {
 }
 
 impl<'a> Store<'a> {
+    // A value, if there is one.
     fn given(&self, word: Option<u64>) -> Fetch
         ensures { fetched result (view self.now) ≡ given_fetch word (view self.now) }
     {
@@ -30,6 +31,7 @@ impl<'a> Store<'a> {
         }
     }
 
+    // A leaf spends its step.
     fn leaf(&mut self, leaf: Leaf) -> Fetch
         ensures { fetched result (view self.new) ≡ leaf_fetch leaf (view self.old) }
     {
@@ -44,6 +46,7 @@ impl<'a> Store<'a> {
         }
     }
 
+    // The right operand after the left one.
     fn operated(&mut self, op: BinaryOp, kind: Option<Kind>, right: Leaf, a: u64) -> Fetch
         ensures { fetched result (view self.new)
             ≡ operated_fetch op kind right a (view self.old) }
@@ -55,6 +58,7 @@ impl<'a> Store<'a> {
         }
     }
 
+    // An operation on two leaves after its step.
     fn sides(&mut self, op: BinaryOp, kind: Option<Kind>, left: Leaf, right: Leaf) -> Fetch
         ensures { fetched result (view self.new)
             ≡ then_fetch (leaf_fetch left (view self.old)) (operated_fetch op kind right) }
@@ -66,6 +70,7 @@ impl<'a> Store<'a> {
         }
     }
 
+    // The step of an operation on two leaves, and the operation.
     fn spent_operation(
         &mut self,
         op: BinaryOp,
@@ -84,6 +89,7 @@ impl<'a> Store<'a> {
         }
     }
 
+    // An operation on two leaves; `&&` and `||` need frames.
     fn operation(&mut self, op: BinaryOp, kind: Option<Kind>, left: Leaf, right: Leaf) -> Fetch
         ensures { fetched result (view self.new)
             ≡ operation_fetch op kind left right (view self.old) }
@@ -95,6 +101,7 @@ impl<'a> Store<'a> {
         }
     }
 
+    // An operation on two operands, each of which may be a leaf.
     fn binary(&mut self, op: BinaryOp, left: &TypedExpr, right: &TypedExpr) -> Fetch
         ensures { fetched result (view self.new) ≡ binary_fetch op left.now.kind
             (leaf_of_node (node_of left.now)) (leaf_of_node (node_of right.now))
@@ -109,6 +116,7 @@ impl<'a> Store<'a> {
         }
     }
 
+    // The value of an element, by that of its index.
     fn indexed(&self, array: Place, index: u64) -> Fetch
         ensures { fetched result (view self.now) ≡ indexed_fetch array index (view self.now) }
     {
@@ -118,6 +126,7 @@ impl<'a> Store<'a> {
         }
     }
 
+    // An element whose index is a leaf, after its step.
     fn by_leaf(&mut self, array: Place, index: Leaf) -> Fetch
         ensures { fetched result (view self.new)
             ≡ then_fetch (leaf_fetch index (view self.old)) (indexed_fetch array) }
@@ -129,6 +138,7 @@ impl<'a> Store<'a> {
         }
     }
 
+    // An element whose index is a leaf.
     fn element(&mut self, array: Place, index: Leaf) -> Fetch
         ensures { fetched result (view self.new)
             ≡ element_fetch array (Some index) (view self.old) }

@@ -21,6 +21,7 @@ pub struct Machine<'a> {
 }
 
 impl<'a> Machine<'a> {
+    /// A task, and the frame of what follows it.
     pub fn push(&mut self, task: Task<'a>, frame: Frame<'a>) -> Result<Move<'a>, AllocError>
         ensures { IfOk result (Makes
             (Pushes (task_of task.entry) (follow frame.entry))
@@ -30,6 +31,7 @@ impl<'a> Machine<'a> {
         Ok(Move::Do(task))
     }
 
+    /// A value, if there is one.
     pub fn given(&self, value: Option<u64>) -> Move<'a>
         ensures { Makes (given_step value) self.now self.now result }
     {
@@ -39,6 +41,7 @@ impl<'a> Machine<'a> {
         }
     }
 
+    /// A word into an object, and then a signal.
     pub fn stored(&mut self, object: Object, w: u64, signal: Signal) -> Move<'a>
         ensures { Makes (λ s. store_step s object w signal) self.old self.new result }
     {

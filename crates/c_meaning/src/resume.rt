@@ -16,6 +16,7 @@ use c_tree::{TypedExpr, TypedProgram, TypedStmt};
 use std::alloc::AllocError;
 
 impl<'a> Machine<'a> {
+    /// The move of a task.
     pub fn act(&mut self, program: &'a TypedProgram, task: Task<'a>) -> Result<Move<'a>, AllocError>
         ensures { IfOk result (Makes
             (act_step program.now (task_of task.entry))
@@ -28,6 +29,7 @@ impl<'a> Machine<'a> {
         }
     }
 
+    // What follows the value of an operand.
     fn with_operand(
         &mut self,
         program: &'a TypedProgram,
@@ -62,6 +64,7 @@ impl<'a> Machine<'a> {
         }
     }
 
+    // 1 where the value is not 0, and else 0.
     fn with_truth(&self, w: u64) -> Move<'a>
         ensures { Makes (Gives (Signal.Value (truth_of w))) self.now self.now result }
     {
@@ -72,6 +75,7 @@ impl<'a> Machine<'a> {
         }
     }
 
+    // What a frame makes of a value.
     fn with_value(
         &mut self,
         program: &'a TypedProgram,
@@ -126,6 +130,7 @@ impl<'a> Machine<'a> {
         }
     }
 
+    /// What a frame makes of what a part gave.
     pub fn resume(
         &mut self,
         program: &'a TypedProgram,
@@ -215,6 +220,7 @@ impl<'a> Machine<'a> {
         }
     }
 
+    // The statements after one that gave nothing.
     fn after_statement(
         &mut self,
         rest: &'a [TypedStmt],
@@ -230,6 +236,7 @@ impl<'a> Machine<'a> {
         }
     }
 
+    // The declarations of a `for` after one, and then its first turn.
     fn after_local(
         &mut self,
         rest: &'a [TypedStmt],
@@ -247,6 +254,7 @@ impl<'a> Machine<'a> {
         }
     }
 
+    // What follows the body of a loop.
     fn after_body(
         &mut self,
         program: &'a TypedProgram,

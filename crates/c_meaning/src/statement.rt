@@ -23,6 +23,7 @@ use c_meaning_spec::{Ending, Object, Signal};
 use c_tree::{Place, TypedExpr, TypedForInit, TypedProgram, TypedStmt};
 use std::alloc::AllocError;
 
+// The statement in the box, if there is one.
 fn unboxed<'a>(st: &'a Option<Boxed<TypedStmt>>) -> Option<&'a TypedStmt>
     ensures { behind result ≡ st.now }
 {
@@ -33,6 +34,7 @@ fn unboxed<'a>(st: &'a Option<Boxed<TypedStmt>>) -> Option<&'a TypedStmt>
 }
 
 impl<'a> Machine<'a> {
+    /// A statement spends its step first.
     pub fn run(
         &mut self,
         program: &'a TypedProgram,
@@ -50,6 +52,7 @@ impl<'a> Machine<'a> {
         }
     }
 
+    // A statement after its step.
     fn begun(
         &mut self,
         program: &'a TypedProgram,
@@ -116,12 +119,14 @@ impl<'a> Machine<'a> {
         }
     }
 
+    // An expression statement.
     fn plain(&mut self, program: &'a TypedProgram, e: &'a TypedExpr) -> Result<Move<'a>, AllocError>
         ensures { IfOk result (Makes (plain_step program.now e.now) self.old self.new) }
     {
         self.followed(program, e, Frame::Dropped, Move::Give(Signal::Nothing))
     }
 
+    // An `if`.
     fn branch(
         &mut self,
         test: &'a TypedExpr,
@@ -140,6 +145,7 @@ impl<'a> Machine<'a> {
         }
     }
 
+    /// The branch that the test chooses.
     pub fn after_if(&self, first: &'a TypedStmt, other: Option<&'a TypedStmt>, w: u64) -> Move<'a>
         ensures { Makes
             (after_if_step first.now (behind other.entry) w)
@@ -155,6 +161,7 @@ impl<'a> Machine<'a> {
         }
     }
 
+    /// The body where the test holds.
     pub fn after_test(&mut self, turn: Loop<'a>, w: u64) -> Result<Move<'a>, AllocError>
         ensures { IfOk result (Makes
             (after_test_step (behind turn.entry.test) (behind turn.entry.post)
@@ -175,6 +182,7 @@ impl<'a> Machine<'a> {
         }
     }
 
+    // A return of a value.
     fn returning(&mut self, e: &'a TypedExpr) -> Result<Move<'a>, AllocError>
         ensures { IfOk result (Makes
             (λ s. operand_step e.now FReturning s returning_step)
@@ -187,6 +195,7 @@ impl<'a> Machine<'a> {
         }
     }
 
+    // A local's initialiser.
     fn initialise(&mut self, i: u32, e: &'a TypedExpr) -> Result<Move<'a>, AllocError>
         ensures { IfOk result (Makes
             (λ s. operand_step e.now (FInitialised i) s (initialised_step i))
@@ -199,6 +208,7 @@ impl<'a> Machine<'a> {
         }
     }
 
+    // A loop whose body comes before its test.
     fn first_body(
         &mut self,
         test: &'a TypedExpr,
@@ -223,6 +233,7 @@ impl<'a> Machine<'a> {
         )
     }
 
+    /// Statements one after another.
     pub fn sequence(&mut self, all: &'a [TypedStmt]) -> Result<Move<'a>, AllocError>
         ensures { IfOk result (Makes (sequence_step all.now) self.old self.new) }
     {
@@ -232,6 +243,7 @@ impl<'a> Machine<'a> {
         }
     }
 
+    // A local is unset, and then initialised.
     fn declare(&mut self, place: Place, init: Option<&'a TypedExpr>) -> Result<Move<'a>, AllocError>
         ensures { IfOk result (Makes (declare_step place (behind init.entry)) self.old self.new) }
     {
@@ -254,6 +266,7 @@ impl<'a> Machine<'a> {
         }
     }
 
+    // The declaration of an array.
     fn declare_array(&mut self, at: u64) -> Result<Move<'a>, AllocError>
         ensures { IfOk result (Makes
             (λ s. unset_row_step at (slice_get s.arrays at) s)
@@ -266,6 +279,7 @@ impl<'a> Machine<'a> {
         }
     }
 
+    /// An expression, if there is one, and then a turn.
     pub fn then_turn(
         &mut self,
         program: &'a TypedProgram,
@@ -290,6 +304,7 @@ impl<'a> Machine<'a> {
         }
     }
 
+    /// The declarations of a `for`, and then its first turn.
     pub fn locals(&mut self, all: &'a [TypedStmt], turn: Loop<'a>) -> Result<Move<'a>, AllocError>
         ensures { IfOk result (Makes
             (locals_step all.now (behind turn.entry.test) (behind turn.entry.post)
@@ -311,6 +326,7 @@ impl<'a> Machine<'a> {
         }
     }
 
+    // The first part of a `for`.
     fn begin(
         &mut self,
         program: &'a TypedProgram,
@@ -329,6 +345,7 @@ impl<'a> Machine<'a> {
         }
     }
 
+    /// A turn of a loop.
     pub fn turn(&mut self, turn: Loop<'a>) -> Result<Move<'a>, AllocError>
         ensures { IfOk result (Makes
             (turn_step (behind turn.entry.test) (behind turn.entry.post) turn.entry.body.now)
@@ -347,6 +364,7 @@ impl<'a> Machine<'a> {
         }
     }
 
+    // The test of a loop.
     fn test(&mut self, test: &'a TypedExpr, turn: Loop<'a>) -> Result<Move<'a>, AllocError>
         ensures { IfOk result (Makes
             (λ s. operand_step test.now

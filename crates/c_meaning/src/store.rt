@@ -22,6 +22,7 @@ pub struct Store<'a> {
     pub room: u32,
 }
 
+// The value of a scalar, if it is set.
 fn scalar_at(scalars: &[Option<u64>], at: u64) -> Option<u64>
     ensures { result ≡ held (slice_get scalars.now at) }
 {
@@ -89,6 +90,7 @@ impl<'a> Store<'a> {
         write_scalar(&mut self.scalars, i, None)
     }
 
+    // The number of the array that a place stands for.
     fn array_of(&self, place: Place) -> Option<u64>
         ensures { result ≡ array_number place (view self.now) }
     {

@@ -88,7 +88,8 @@ module _ (f : ℕ → ℕ → ℕ)
     narrow = below 32 a b x.narrow y.narrow;
   }
   closes Long t a b x y = record { below = below 64 a b x.below y.below; narrow = omega arith }
-  closes ULong t a b x y = record { below = below 64 a b x.below y.below; narrow = omega arith }
+  closes ULong t a b x y =
+      let l = below 64 a b x.below y.below in record { below = l; narrow = l }
 
   bits_give : (k : Kind) → IsArithmetic k → (a b w : ℕ) → IsWord k a → IsWord k b
       → word_of (on_bits f k (number k a) (number k b)) ≡ Some w → Gives k (f a b) w
