@@ -85,6 +85,7 @@ fn function(
 fn global(
     alloc: Global,
     line: u32,
+    kind: Kind,
     name: &[u8],
     size: ArraySize,
     init: Items<Expr>,
@@ -92,7 +93,7 @@ fn global(
     Ok(Top {
         line,
         node: TopNode::Global {
-            kind: Kind::Char,
+            kind,
             name: Word::from_slice(alloc, name)?,
             size,
             init,
@@ -109,11 +110,23 @@ fn item(alloc: Global, item: Item) -> Result<Top, TypeFault> {
         Item::Global(line, name, value) => {
             let mut init = Items::new(alloc);
             init.push(expression(alloc, line, value)?)?;
-            global(alloc, line, name, ArraySize::Scalar, init)
+            global(alloc, line, Kind::Char, name, ArraySize::Scalar, init)
         }
         Item::Array(line, name, count) => {
             let size = expression(alloc, line, Value::Number(count))?;
-            global(alloc, line, name, ArraySize::Sized(size), Items::new(alloc))
+            global(
+                alloc,
+                line,
+                Kind::Char,
+                name,
+                ArraySize::Sized(size),
+                Items::new(alloc),
+            )
+        }
+        Item::Open(line, name, value) => {
+            let mut init = Items::new(alloc);
+            init.push(expression(alloc, line.wrapping_add(1), value)?)?;
+            global(alloc, line, Kind::Long, name, ArraySize::Open, init)
         }
         Item::Prototype(line, name, count) => function(alloc, line, name, count, None),
         Item::Function(line, name, count, body) => {

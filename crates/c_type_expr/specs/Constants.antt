@@ -5,6 +5,8 @@ use Rattle.c_tree.specs.declared.tree.Expr.{Expr, Expr-F, fold-Expr}
 use Rattle.c_tree.specs.declared.tree.ExprNode.TheOpen.{ExprNode-F, Number, Name, Element, Call}
 use Rattle.c_tree.specs.declared.tree.ExprNode.TheOpen.{Group, Unary, Cast, Bump, Binary, Choice}
 use Rattle.c_tree.specs.declared.tree.ExprNode.TheOpen.{Assign, Comma}
+use Rattle.c_scope.specs.declared.meaning.Meaning.{Meaning}
+use Rattle.c_scope.specs.declared.meaning.Meaning.TheVariants as meaning
 use Rattle.c_scope.specs.Scope.{Scope, look_up}
 use Rattle.c_constant.specs.Kinds.{number, converted}
 use Rattle.c_constant.specs.Constant.{constant}
@@ -15,20 +17,30 @@ use Rattle.c_type_expr.specs.declared.role.Role.{Role}
 use Rattle.c_type_expr.specs.Roles.{Blame, first, unless}
 use Rattle.c_type_expr.specs.Faults.{fault}
 
+-- what is no constant: a known name, or an unknown one
 abbrev pub no_constant : Bool → ℕ → Blame
 no_constant true l = Some (Mismatch l)
 no_constant false l = Some (Unknown l)
 
+-- may a call of it be more than a call of a function that is not in scope or that the unit does not
+-- define?
+abbrev pub calls_known : Option Meaning → Bool
+calls_known None = false
+calls_known (Some (meaning.Function result params callee defined)) = is_some callee
+calls_known (Some _) = true
+
+-- the first of several expressions that is no constant
 abbrev pub all_fixed : List (Scope → Blame) → Scope → Blame
 all_fixed [] G = None
 all_fixed (e ∷ es) G = first (e G) (all_fixed es G)
 
--- numbers, groups, casts and operators are constants; a name is none, known or not
+-- numbers, groups, casts and operators are constants; a name is none, known or not, and a call is
+-- judged as the name that it calls
 abbrev pub node_fixed : ExprNode-F (ℕ → Scope → Blame) (Scope → Blame) → ℕ → Scope → Blame
 node_fixed (Number v k) l G = None
 node_fixed (Name w) l G = no_constant (is_some (look_up G w)) l
 node_fixed (Element w i) l G = first (i G) (Some (Mismatch l))
-node_fixed (Call w es) l G = first (all_fixed es G) (Some (Mismatch l))
+node_fixed (Call w es) l G = first (all_fixed es G) (no_constant (calls_known (look_up G w)) l)
 node_fixed (Group e) l G = e G
 node_fixed (Unary op e) l G = e G
 node_fixed (Cast to e) l G = e G
