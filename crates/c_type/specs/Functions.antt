@@ -1,5 +1,5 @@
 -- Functions (C17 6.7.6.3, 6.9.1): parameters, prototypes and definitions.
-use Rattle.std.specs.Prelude.{ℕ, Bool, true, false, cond, not, ◌||◌, is_some, nat_lt, length, List, [], ◌∷◌, ◌++◌, map, Option, Some, None}
+use Rattle.std.specs.Prelude.{ℕ, Bool, true, false, not, ◌||◌, nat_lt, length, List, [], ◌∷◌, ◌++◌, map, Option, Some, None}
 use Rattle.c_tree.specs.declared.token.Kind.{Kind}
 use Rattle.c_tree.specs.declared.tree.ArraySize.{ArraySize}
 use Rattle.c_tree.specs.declared.tree.ArraySize.TheVariants as size
@@ -16,7 +16,7 @@ use Rattle.c_tree.specs.declared.typed.TypedGlobal.{TypedGlobal}
 use Rattle.c_tree.specs.declared.typed.TypedStmt.TheVariants as typed
 use Rattle.c_scope.specs.declared.meaning.Meaning.{Meaning}
 use Rattle.c_scope.specs.declared.meaning.Meaning.TheVariants as meaning
-use Rattle.c_scope.specs.Scope.{Scope, look_up, same_name, opened, closed, declared_in, bound}
+use Rattle.c_scope.specs.Scope.{Scope, look_up, same_name, opened, closed}
 use Rattle.c_type_expr.specs.declared.fault.TypeFault.TheVariants.{Twice, Mismatch, TooManyParams}
 use Rattle.c_type_expr.specs.Roles.{Blame, first, unless}
 use Rattle.c_type.specs.declared.file_scope.FileScope.{FileScope}
@@ -25,6 +25,7 @@ use Rattle.c_type.specs.States.{with_scalar, with_address}
 use Rattle.c_type.specs.Declarations.{is_end}
 use Rattle.c_type.specs.Statements.{Part, part, all_after, all_fault, all_trees}
 use Rattle.c_type.specs.Units.{function_fault}
+use Rattle.c_type.specs.Signatures.{function_names, prototype_names}
 
 -- PARAMETERS
 
@@ -81,12 +82,11 @@ signature T w given slots defined = meaning.Function given slots (callee_in (loo
 
 abbrev pub with_function : Scope → List ℕ → Option Kind → List Slot → Bool → Scope → Scope
 with_function T w given slots defined G =
-    declared_in (bound w (signature T w given slots defined)) G
+    function_names (callee_in (look_up T w)) w given slots defined G
 
 -- a prototype that is repeated declares nothing
 abbrev pub with_prototype : Scope → List ℕ → Option Kind → List Slot → Scope → Scope
-with_prototype T w given slots G =
-    cond (is_some (look_up G w)) G (with_function T w given slots false G)
+with_prototype T w given slots G = prototype_names (callee_in (look_up T w)) w given slots G
 
 -- the parameters are judged before the function itself
 abbrev pub head_fault : Bool → Option Kind → List ℕ → List Param → ℕ → Scope → Blame
@@ -111,10 +111,14 @@ body_part s = body_in (out-StmtNode s.node) s
 abbrev pub started : Scope → Option Kind → State
 started G given = record { names = opened G; scalars = []; arrays = []; result = given }
 
--- the state in which the body begins
+-- the state in which the body of a function begins, of which a call calls that callee
+abbrev pub body_entry : Option Callee → List ℕ → Option Kind → List Param → Scope → State
+body_entry c w given params G =
+    with_params params (started (function_names c w given (map slot_of params) true G) given)
+
+-- the same of the callee that a table of definitions has
 abbrev pub entry : Scope → List ℕ → Option Kind → List Param → Scope → State
-entry T w given params G =
-    with_params params (started (with_function T w given (map slot_of params) true G) given)
+entry T w given params G = body_entry (callee_in (look_up T w)) w given params G
 
 abbrev pub definition_fault : Scope → Option Kind → List ℕ → List Param → Stmt → ℕ → FileScope
     → Blame
