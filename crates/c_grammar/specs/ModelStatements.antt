@@ -18,7 +18,7 @@ use Rattle.c_grammar.specs.Tokens.{Tokens}
 use Rattle.c_grammar.specs.Statements.{at, Shape, declared, Closer, semicolon, paren, closer_mark}
 use Rattle.c_grammar.specs.Statements.{for_init}
 use Rattle.c_grammar.specs.Parsing.{Out, and_then, syntax, too_deep, first, is_next, is_word}
-use Rattle.c_grammar.specs.Parsing.{expect, expect_word, name_of, listed, many}
+use Rattle.c_grammar.specs.Parsing.{expect, expect_keyword, name_of, listed, many}
 use Rattle.c_grammar.specs.ModelTypes.{begins_type, type_of}
 use Rattle.c_grammar.specs.ModelExpressions.{Nested, inside, expression_of, assignment_of}
 use Rattle.c_grammar.specs.ModelExpressions.{conditional_of}
@@ -120,7 +120,7 @@ module _ (nested : Nested) where
 
     unfoldable pub else_of : ℕ → Expr → Stmt → Tokens → Out Stmt
     else_of l c aye ts =
-        and_then (expect_word key.Else ts) (λ _ ts.
+        and_then (expect_keyword key.Else ts) (λ _ ts.
         and_then (below.inner ts) (λ nay ts. Ok (at l (node.If c aye (Some nay)), ts)))
 
     unfoldable pub no_of : ℕ → Expr → Stmt → Tokens → Out Stmt
@@ -129,26 +129,26 @@ module _ (nested : Nested) where
 
     unfoldable pub if_of : Tokens → Out Stmt
     if_of ts =
-        and_then (expect_word key.If ts) (λ l ts.
+        and_then (expect_keyword key.If ts) (λ l ts.
         and_then (test_of ts) (λ c ts. and_then (below.inner ts) (λ aye ts. no_of l c aye ts)))
 
     unfoldable pub while_of : Tokens → Out Stmt
     while_of ts =
-        and_then (expect_word key.While ts) (λ l ts.
+        and_then (expect_keyword key.While ts) (λ l ts.
         and_then (test_of ts) (λ c ts. and_then (below.inner ts)
         (λ s ts. Ok (at l (node.While c s), ts))))
 
     unfoldable pub do_of : Tokens → Out Stmt
     do_of ts =
-        and_then (expect_word key.Do ts) (λ l ts.
+        and_then (expect_keyword key.Do ts) (λ l ts.
         and_then (below.inner ts) (λ s ts.
-        and_then (expect_word key.While ts) (λ _ ts.
+        and_then (expect_keyword key.While ts) (λ _ ts.
         and_then (test_of ts) (λ c ts.
         and_then (expect mark.Semicolon ts) (λ _ ts. Ok (at l (node.Do s c), ts))))))
 
     unfoldable pub for_of : Tokens → Out Stmt
     for_of ts =
-        and_then (expect_word key.For ts) (λ l ts.
+        and_then (expect_keyword key.For ts) (λ l ts.
         and_then (expect mark.LeftParen ts) (λ _ ts.
         and_then (init_of ts) (λ i ts.
         and_then (until_of semicolon ts) (λ o ts.
@@ -156,12 +156,12 @@ module _ (nested : Nested) where
         and_then (below.inner ts) (λ s ts. Ok (at l (node.For i o o' s), ts)))))))
 
     unfoldable pub leave_of : Key → StmtNode → Tokens → Out Stmt
-    leave_of k n ts = and_then (expect_word k ts)
+    leave_of k n ts = and_then (expect_keyword k ts)
         (λ l ts. and_then (expect mark.Semicolon ts) (λ _ ts. Ok (at l n, ts)))
 
     unfoldable pub return_of : Tokens → Out Stmt
     return_of ts =
-        and_then (expect_word key.Return ts)
+        and_then (expect_keyword key.Return ts)
         (λ l ts. and_then (until_of semicolon ts) (λ o ts. Ok (at l (node.Return o), ts)))
 
     unfoldable pub empty_of : Tokens → Out Stmt

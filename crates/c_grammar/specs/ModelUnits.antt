@@ -16,7 +16,7 @@ use Rattle.c_tree.specs.declared.tree.TopNode.TheVariants as tops
 use Rattle.c_grammar.specs.Tokens.{Tokens}
 use Rattle.c_grammar.specs.Units.{at, Shape, global, function, Label, parameter}
 use Rattle.c_grammar.specs.Parsing.{Out, and_then, syntax, tail, line_of, first, is_next, is_word}
-use Rattle.c_grammar.specs.Parsing.{expect, expect_word, name_of, listed, listed_on, to_end}
+use Rattle.c_grammar.specs.Parsing.{expect, expect_keyword, name_of, listed, listed_on, to_end}
 use Rattle.c_grammar.specs.ModelTypes.{type_of}
 use Rattle.c_grammar.specs.ModelExpressions.{Nested, inside, is_name, conditional_of}
 use Rattle.c_grammar.specs.ModelStatements.{below_at, compound_of}
@@ -110,7 +110,7 @@ module _ (nested : Nested) where
   no_params_of ts = and_then (expect mark.RightParen ts) (λ _ ts. Ok ([], ts))
 
   unfoldable pub void_params_of : Tokens → Out (List Param)
-  void_params_of ts = and_then (expect_word key.Void ts) (λ _ ts. no_params_of ts)
+  void_params_of ts = and_then (expect_keyword key.Void ts) (λ _ ts. no_params_of ts)
 
   unfoldable pub param_list_of : Tokens → Out (List Param)
   param_list_of ts = listed mark.RightParen false param_of (suc (length ts)) ts
@@ -146,7 +146,7 @@ module _ (nested : Nested) where
 
     unfoldable pub void_item_of : Tokens → Out (List Top)
     void_item_of ts =
-        and_then (expect_word key.Void ts)
+        and_then (expect_keyword key.Void ts)
         (λ _ ts. and_then (name_of ts) (λ n ts. func_of None n.0 n.1 ts))
 
     unfoldable pub typed_item_of : Tokens → Out (List Top)

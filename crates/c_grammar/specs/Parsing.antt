@@ -55,8 +55,8 @@ is_word k ts = first (is_key k) ts
 abbrev pub expect : Mark → Tokens → Out ℕ
 expect k ts = if is_next k ts then Ok (line_of ts, tail ts) else syntax ts
 
-abbrev pub expect_word : Key → Tokens → Out ℕ
-expect_word k ts = if is_word k ts then Ok (line_of ts, tail ts) else syntax ts
+abbrev pub expect_keyword : Key → Tokens → Out ℕ
+expect_keyword k ts = if is_word k ts then Ok (line_of ts, tail ts) else syntax ts
 
 -- the line and the word of a name
 abbrev pub name_by : ℕ → Form → Tokens → Out (ℕ × List ℕ)
