@@ -1,6 +1,6 @@
 -- What the folds find first is what is found first in the order of the text.
 use Rattle.std.proofs.Common.{◌≡◌, ℕ, Bool, true, false, List, [], ◌∷◌, ◌++◌, map, length, Option, Some, None, refl, sym, ap, ◌∙◌}
-use Rattle.std.specs.Prelude.{option_map}
+use Rattle.std.specs.Prelude.{option_map, nat_le}
 use Rattle.c_tree.specs.declared.token.Kind.{Kind}
 use Rattle.c_tree.specs.declared.tree.ArraySize.{ArraySize}
 use Rattle.c_tree.specs.declared.tree.ArraySize.TheVariants as size
@@ -20,19 +20,20 @@ use Rattle.c_tree.specs.declared.tree.TopNode.TheVariants.{Include, Global, Func
 use Rattle.c_tree.specs.declared.typed.Slot.{Slot}
 use Rattle.c_scope.specs.Scope.{Scope, look_up}
 use Rattle.c_type_expr.specs.declared.role.Role.{Role}
-use Rattle.c_type_expr.specs.Roles.{Blame, first}
+use Rattle.c_type_expr.specs.declared.fault.TypeFault.TheVariants.{Mismatch}
+use Rattle.c_type_expr.specs.Roles.{Blame, first, unless}
 use Rattle.c_type_expr.specs.Faults.{fault, args_fault, call_fault, slots_of, role_at, rest_of}
-use Rattle.c_type_expr.specs.Constants.{not_fixed, all_fixed, no_constant, calls_known, full, full_constant, size_fault}
+use Rattle.c_type_expr.specs.Constants.{not_fixed, all_fixed, no_constant, calls_known, full, full_constant, size_fault, length_of, word_in}
 use Rattle.c_type_expr.specs.Says.{at}
 use Rattle.c_type_expr.proofs.Nodes.{fault-Number, fault-Name, fault-Element, fault-Call, fault-Group, fault-Unary, fault-Cast, fault-Bump, fault-Binary, fault-Choice, fault-Assign, fault-Comma}
 use Rattle.c_type_expr.proofs.Fixed.{fixed-Number, fixed-Name, fixed-Element, fixed-Call, fixed-Group, fixed-Unary, fixed-Cast, fixed-Bump, fixed-Binary, fixed-Choice, fixed-Assign, fixed-Comma}
 use Rattle.c_type.specs.declared.file_scope.FileScope.{FileScope}
 use Rattle.c_type.specs.declared.state.State.{State}
 use Rattle.c_type.specs.States.{full_if}
-use Rattle.c_type.specs.Declarations.{declare_fault}
+use Rattle.c_type.specs.Declarations.{declare_fault, array_fault, no_init}
 use Rattle.c_type.specs.Statements.{Part, part, beginning_of, all_fault, else_fault}
-use Rattle.c_type.specs.Units.{values_fault, global_fault}
-use Rattle.c_type.specs.Functions.{param_fault, params_fault, body_part}
+use Rattle.c_type.specs.Units.{values_fault, global_fault, count_fault, count_of, place_fault, global_names, function_fault}
+use Rattle.c_type.specs.Functions.{param_fault, params_fault, body_part, slot_of, entry}
 use Rattle.c_type.specs.Programs.{table, node_fault, item_fault, items_fault, program_fault}
 use Rattle.c_type.proofs.Nodes.{fault-Declare, fault-Plain, fault-Compound, fault-If, fault-While, fault-Do, fault-For, fault-Break, fault-Continue, fault-Return, fault-Nothing, fault-First, fault-Locals}
 use Rattle.c_type_rules.specs.Units.{is_block}
@@ -161,7 +162,8 @@ declare_follows : (s : ArraySize) (k : Kind) (w : List ℕ) (init : Option Expr)
     → declare_fault s k w init l v ≡ first_of (declare_parts s k w init l v)
 declare_follows size.Scalar k w init l v = refl
 declare_follows size.Open k w init l v = refl
-declare_follows (size.Sized e) k w init l v = assoc _ _ _
+declare_follows (size.Sized e) k w init l v =
+    assoc (size_fault e v.names) (array_fault (word_in (length_of e)) k w l v.names) (no_init init l)
 
 module _ (b : Bool) (v : State) (s : Stmt) where
   by_statement : (n : StmtNode) → s.node ≡ n → (part s).fault b v ≡ (part (record { line = s.line; node = n })).fault b v
@@ -210,18 +212,30 @@ body_follows v s _ h = ap (λ (p : Part). p.fault false v) (plain_body s (ap is_
 
 -- UNITS
 
+-- what of a global is judged behind its name
+abbrev behind_place : ArraySize → Kind → List ℕ → List Expr → ℕ → FileScope → Blame
+behind_place s k w init l U =
+    first (values_fault init (global_names s k w U)) (unless (nat_le (length init) (count_of s init)) (Mismatch l))
+
 global_follows : (s : ArraySize) (k : Kind) (w : List ℕ) (init : List Expr) (l : ℕ) (U : FileScope)
     → global_fault s k w init l U ≡ first_of (global_parts s k w init l U)
 global_follows size.Scalar k w init l U = refl
-global_follows size.Open k w init l U = assoc _ _ _
-global_follows (size.Sized e) k w init l U = assoc _ _ _
+global_follows size.Open k w init l U =
+    assoc (count_fault size.Open init l U.names) (place_fault (count_of size.Open init) k w l U)
+    (behind_place size.Open k w init l U)
+global_follows (size.Sized e) k w init l U =
+    assoc (count_fault (size.Sized e) init l U.names) (place_fault (count_of (size.Sized e) init) k w l U)
+    (behind_place (size.Sized e) k w init l U)
 
 item_follows : (unit : List Top) (U : FileScope) (l : ℕ) (n : TopNode)
     → node_fault (table unit) n l U ≡ first_of (item_parts unit U l n)
 item_follows unit U l Include = refl
 item_follows unit U l (Global k w s init) = global_follows s k w init l U
 item_follows unit U l (Func given w params None) = refl
-item_follows unit U l (Func given w params (Some s)) = assoc _ _ _
+item_follows unit U l (Func given w params (Some s)) =
+    assoc (params_fault true U.names [] params)
+    (function_fault true given (map slot_of params) (look_up U.names w) l)
+    ((body_part s).fault false (entry (table unit) w given params U.names))
 
 -- what is judged has the first fault of its parts, unless it is a test
 abbrev pub Follows : Judgement → Type 0

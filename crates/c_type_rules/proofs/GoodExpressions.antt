@@ -11,7 +11,7 @@ use Rattle.c_type_expr.specs.declared.fault.TypeFault.TheVariants.{Mismatch}
 use Rattle.c_type_expr.specs.declared.role.Role.{Role}
 use Rattle.c_type_expr.specs.declared.role.Role.TheVariants.{Value, Free}
 use Rattle.c_type_expr.specs.Roles.{Blame, unless, left_role}
-use Rattle.c_type_expr.specs.Faults.{is_place, slots_of, role_at, rest_of, call_fault}
+use Rattle.c_type_expr.specs.Faults.{value_fault, is_place, slots_of, role_at, rest_of, call_fault}
 use Rattle.c_type_expr.specs.Constants.{calls_known, length_of}
 use Rattle.c_type_expr.specs.Says.{at}
 use Rattle.c_type_rules.specs.Judgements.{Judgement, a_test, an_expression, a_full, an_optional, a_constant, a_full_constant, a_size, argument_parts, expression_parts, constant_parts}
@@ -32,8 +32,12 @@ GoodNode n = (l : ℕ) → GoodExpr (at l n)
 last : (b : Blame) → Sane b → AllGood (a_test b ∷ [])
 last b s = (test_good b s, tt)
 
-value_last : (r : Role) (l : ℕ) → AllGood (a_test (Rattle.c_type_expr.specs.Faults.value_fault r l) ∷ [])
-value_last r l = last _ (sane_value r l)
+-- whether a value may stand there, and then no more
+abbrev value_test : Role → ℕ → List Judgement
+value_test r l = a_test (value_fault r l) ∷ []
+
+value_last : (r : Role) (l : ℕ) → AllGood (value_test r l)
+value_last r l = last (value_fault r l) (sane_value r l)
 
 -- whether a left side may be written to, and what comes behind it
 place_last : (e : Expr) (l : ℕ) (xs : List Judgement) → AllGood xs
@@ -63,13 +67,13 @@ module _ (N E : Type 0) (node_of : N → ExprNode) (of : E → Expr) (good : (e 
   each_part G r l (ExprNode-F.Unary op e) = ((good e).asked G Value, value_last r l)
   each_part G r l (ExprNode-F.Cast k e) = ((good e).asked G Value, value_last r l)
   each_part G r l (ExprNode-F.Bump op e) =
-      ((good e).asked G (left_role (is_place (of e))), place_last (of e) l _ (value_last r l))
+      ((good e).asked G (left_role (is_place (of e))), place_last (of e) l (value_test r l) (value_last r l))
   each_part G r l (ExprNode-F.Binary op x y) =
       ((good x).asked G Value, ((good y).asked G Value, value_last r l))
   each_part G r l (ExprNode-F.Choice t x y) =
       ((good t).asked G Value, ((good x).asked G Value, ((good y).asked G Value, value_last r l)))
   each_part G r l (ExprNode-F.Assign op x y) =
-      ((good x).asked G (left_role (is_place (of x))), ((good y).asked G Value, place_last (of x) l _ (value_last r l)))
+      ((good x).asked G (left_role (is_place (of x))), ((good y).asked G Value, place_last (of x) l (value_test r l) (value_last r l)))
   each_part G r l (ExprNode-F.Comma x y) =
       ((good x).asked G Free, ((good y).asked G Value, value_last r l))
 
