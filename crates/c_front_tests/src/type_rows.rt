@@ -9,6 +9,8 @@ pub enum Value {
     Number(u64),
     Name(&'static [u8]),
     Call(&'static [u8]),
+    /// The first element of an array.
+    Element(&'static [u8]),
 }
 
 /// The statement of a body, one line below the function's name.
@@ -44,7 +46,7 @@ pub type Row = (&'static str, &'static [Item], Result<Typed, TypeFault>);
 
 const ZERO: Body = Body::Give(Value::Number(0));
 
-pub const ROWS: [Row; 47] = [
+pub const ROWS: [Row; 49] = [
     (
         "main alone",
         &[Item::Function(1, b"main", 0, ZERO)],
@@ -416,6 +418,23 @@ pub const ROWS: [Row; 47] = [
         &[
             Item::Global(1, b"x", Value::Number(1)),
             Item::Global(2, b"y", Value::Call(b"x")),
+            Item::Function(3, b"main", 0, ZERO),
+        ],
+        Err(TypeFault::Mismatch(2)),
+    ),
+    (
+        "a constant that reads an element of an array that is not in scope",
+        &[
+            Item::Global(1, b"x", Value::Element(b"a")),
+            Item::Function(2, b"main", 0, ZERO),
+        ],
+        Err(TypeFault::Unknown(1)),
+    ),
+    (
+        "a constant that reads an element",
+        &[
+            Item::Array(1, b"a", 1),
+            Item::Global(2, b"x", Value::Element(b"a")),
             Item::Function(3, b"main", 0, ZERO),
         ],
         Err(TypeFault::Mismatch(2)),

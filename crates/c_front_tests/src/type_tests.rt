@@ -10,6 +10,14 @@ use c_type::{TypeFault, type_program};
 use std::alloc::Global;
 use std::process::Abort;
 
+fn zero(line: u32) -> Expr {
+    let node = ExprNode::Number {
+        value: 0,
+        kind: Kind::Int,
+    };
+    Expr { line, node }
+}
+
 fn expression(alloc: Global, line: u32, value: Value) -> Result<Expr, TypeFault> {
     let node = match value {
         Value::Number(value) => ExprNode::Number {
@@ -20,6 +28,10 @@ fn expression(alloc: Global, line: u32, value: Value) -> Result<Expr, TypeFault>
         Value::Call(name) => ExprNode::Call {
             function: Word::from_slice(alloc, name)?,
             args: Items::new(alloc),
+        },
+        Value::Element(name) => ExprNode::Element {
+            array: Word::from_slice(alloc, name)?,
+            index: Boxed::new(alloc, zero(line))?,
         },
     };
     Ok(Expr { line, node })

@@ -28,6 +28,7 @@ Fails most text (fault.TooManyTokens line) = FaultAt most text TooManyTokens lin
 Fails most text (fault.Directive line) = FaultAt most text Directive line
 Fails most text fault.Memory = Unit {0}
 
+-- the error is want of memory
 abbrev pub IsMemory : LexFault → Type 0
 IsMemory fault.Memory = Unit {0}
 IsMemory _ = ⊥

@@ -29,17 +29,21 @@ use Rattle.c_type.specs.Signatures.{function_names, prototype_names}
 
 -- PARAMETERS
 
+-- a parameter takes a word, or the address of an array
 abbrev pub slot_for : ArraySize → Kind → Slot
 slot_for size.Scalar k = slot.Scalar k
 slot_for _ k = slot.Address k
 
+-- the same of a parameter
 abbrev pub slot_of : Param → Slot
 slot_of p = slot_for p.size p.kind
 
+-- is it the name?
 abbrev pub is_named : Option (List ℕ) → List ℕ → Bool
 is_named None w = false
 is_named (Some v) w = same_name v w
 
+-- does one of the parameters have the name?
 abbrev pub named_among : List Param → List ℕ → Bool
 named_among [] w = false
 named_among (p ∷ ps) w = is_named p.name w || named_among ps w
@@ -56,6 +60,7 @@ param_fault is_def G seen p =
     first (name_fault is_def G seen p.name p.line)
     (unless (nat_lt (length seen) 8) (TooManyParams p.line))
 
+-- the first fault of parameters after others
 abbrev pub params_fault : Bool → Scope → List Param → List Param → Blame
 params_fault is_def G seen [] = None
 params_fault is_def G seen (p ∷ ps) =
@@ -67,19 +72,23 @@ named_param None s k v = v
 named_param (Some w) size.Scalar k v = with_scalar k w v
 named_param (Some w) _ k v = with_address k w v
 
+-- the state with all parameters
 abbrev pub with_params : List Param → State → State
 with_params [] v = v
 with_params (p ∷ ps) v = with_params ps (named_param p.name p.size p.kind v)
 
 -- SIGNATURES: a call calls the definition that the unit has of the name, wherever it stands
 
+-- what a call of the meaning calls
 abbrev pub callee_in : Option Meaning → Option Callee
 callee_in (Some (meaning.Function result params callee defined)) = callee
 callee_in _ = None
 
+-- a function of this result and these parameters
 abbrev pub signature : Scope → List ℕ → Option Kind → List Slot → Bool → Meaning
 signature T w given slots defined = meaning.Function given slots (callee_in (look_up T w)) defined
 
+-- the names after its declaration
 abbrev pub with_function : Scope → List ℕ → Option Kind → List Slot → Bool → Scope → Scope
 with_function T w given slots defined G =
     function_names (callee_in (look_up T w)) w given slots defined G
@@ -105,9 +114,11 @@ body_in (Compound ss) s = record {
 }
 body_in _ s = part s
 
+-- what the body of a function does
 unfoldable pub body_part : Stmt → Part
 body_part s = body_in (out-StmtNode s.node) s
 
+-- the state before any parameter
 abbrev pub started : Scope → Option Kind → State
 started G given = record { names = opened G; scalars = []; arrays = []; result = given }
 
@@ -120,6 +131,7 @@ body_entry c w given params G =
 abbrev pub entry : Scope → List ℕ → Option Kind → List Param → Scope → State
 entry T w given params G = body_entry (callee_in (look_up T w)) w given params G
 
+-- the first fault of a definition: what stands before the body, then the body
 abbrev pub definition_fault : Scope → Option Kind → List ℕ → List Param → Stmt → ℕ → FileScope
     → Blame
 definition_fault T given w params body l U =
@@ -136,6 +148,7 @@ typed_function count body v = record {
   body = (body_part body).tree v;
 }
 
+-- the file scope after a body that began in a state
 abbrev pub file_with : List TypedGlobal → ℕ → List TypedFunc → ℕ → Stmt → State → FileScope
 file_with globals bytes functions count body v = record {
   names = closed ((body_part body).after v).names;
@@ -144,6 +157,7 @@ file_with globals bytes functions count body v = record {
   functions = functions ++ typed_function count body v ∷ [];
 }
 
+-- the file scope after a definition
 abbrev pub with_definition : Scope → Option Kind → List ℕ → List Param → Stmt → FileScope
     → FileScope
 with_definition T given w params body U =

@@ -42,7 +42,7 @@ module _ (f : Expr) (G : Scope) where
       ∙ ap (λ (b : B). b G) (fixed_by f.line _ (ExprNode-F.Name w) (node.rolls-Name w))
 
   pub fixed-Element : (w : List ℕ) (i : Expr) → f.node ≡ node.Element w i
-      → not_fixed f G ≡ first (not_fixed i G) (Some (Mismatch f.line))
+      → not_fixed f G ≡ first (not_fixed i G) (no_constant (is_some (look_up G w)) f.line)
   fixed-Element w i h = ap (λ n. not_fixed (at f.line n) G) h
       ∙ ap (λ (b : B). b G) (fixed_by f.line _ (ExprNode-F.Element w i) (node.rolls-Element w i))
 

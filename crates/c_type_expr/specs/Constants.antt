@@ -34,12 +34,12 @@ abbrev pub all_fixed : List (Scope → Blame) → Scope → Blame
 all_fixed [] G = None
 all_fixed (e ∷ es) G = first (e G) (all_fixed es G)
 
--- numbers, groups, casts and operators are constants; a name is none, known or not, and a call is
--- judged as the name that it calls
+-- numbers, groups, casts and operators are constants; a name is none, known or not, an element is
+-- judged as its array's name, and a call as the function's
 abbrev pub node_fixed : ExprNode-F (ℕ → Scope → Blame) (Scope → Blame) → ℕ → Scope → Blame
 node_fixed (Number v k) l G = None
 node_fixed (Name w) l G = no_constant (is_some (look_up G w)) l
-node_fixed (Element w i) l G = first (i G) (Some (Mismatch l))
+node_fixed (Element w i) l G = first (i G) (no_constant (is_some (look_up G w)) l)
 node_fixed (Call w es) l G = first (all_fixed es G) (no_constant (calls_known (look_up G w)) l)
 node_fixed (Group e) l G = e G
 node_fixed (Unary op e) l G = e G
@@ -50,6 +50,7 @@ node_fixed (Choice t x y) l G = first (t G) (first (x G) (y G))
 node_fixed (Assign op x y) l G = first (x G) (first (y G) (Some (Mismatch l)))
 node_fixed (Comma x y) l G = first (x G) (first (y G) (Some (Mismatch l)))
 
+-- the same of an expression, whose node has its line
 abbrev pub fixed_line : Expr-F (ℕ → Scope → Blame) (Scope → Blame) → Scope → Blame
 fixed_line e = e.node e.line
 
@@ -57,9 +58,11 @@ fixed_line e = e.node e.line
 unfoldable pub not_fixed : Expr → Scope → Blame
 not_fixed e = fold-Expr (ℕ → Scope → Blame) (Scope → Blame) node_fixed fixed_line e
 
+-- a value that is wanted and is none
 abbrev pub value_fault : Option ℕ → ℕ → Blame
 value_fault v l = unless (is_some v) (Mismatch l)
 
+-- more temporaries than a full expression may need
 abbrev pub need_fault : Expr → Blame
 need_fault e = unless (need_fits e) (Need e.line)
 
@@ -72,6 +75,7 @@ abbrev pub full_constant : Expr → Scope → Blame
 full_constant e G =
     first (not_fixed e G) (first (value_fault (constant [] e).value e.line) (need_fault e))
 
+-- the word of a value, 0 where there is none
 abbrev pub word_in : Option ℕ → ℕ
 word_in None = 0
 word_in (Some w) = w
@@ -85,6 +89,7 @@ abbrev pub length_from : ℤ → Option ℕ
 length_from (pos n) = cond (nat_lt 0 n) (Some n) None
 length_from (negsuc n) = None
 
+-- the length that a word of a type gives
 abbrev pub length_in : Kind → Option ℕ → Option ℕ
 length_in k None = None
 length_in k (Some w) = length_from (number k w)

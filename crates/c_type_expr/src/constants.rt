@@ -86,7 +86,10 @@ fn not_fixed(scope: &Scopes, e: &Expr) -> Option<TypeFault>
     match &e.node {
         ExprNode::Number { .. } => None,
         ExprNode::Name(word) => no_constant(scope.look_up(word).is_some(), e.line),
-        ExprNode::Element { index, .. } => first(not_fixed(scope, index.get()), mismatch(e.line)),
+        ExprNode::Element { array, index } => first(
+            not_fixed(scope, index.get()),
+            no_constant(scope.look_up(array).is_some(), e.line),
+        ),
         ExprNode::Call { function, args } => call_fixed(scope, function, args, e.line),
         ExprNode::Group(e) => not_fixed(scope, e.get()),
         ExprNode::Unary { e, .. } => not_fixed(scope, e.get()),

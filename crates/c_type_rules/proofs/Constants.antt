@@ -60,7 +60,7 @@ module _ (N E : Type 0) (node_of : N → ExprNode) (of : E → Expr) (whole : (e
       (sym (fixed-Name (at l (node.Name w)) G w refl) ∙ h))))
   at_node (ExprNode-F.Element w i) l =
       subst (λ n. Whole (at l n)) (sym (node.rolls-Element w (of i)))
-      (λ G h. absurd (false≢true (held false l
+      (λ G h. absurd (false≢true (no_name (is_some (look_up G w)) l
       (split _ _ (sym (fixed-Element (at l (node.Element w (of i))) G w (of i) refl) ∙ h)).1)))
   at_node (ExprNode-F.Call w es) l =
       subst (λ n. Whole (at l n)) (sym (node.rolls-Call w (map of es)))

@@ -81,7 +81,8 @@ module _ (N E : Type 0) (node_of : N → ExprNode) (of : E → Expr) (good : (e 
       → AllGood (constant_parts G l (map-ExprNode N E ExprNode Expr node_of of y))
   each_constant G l (ExprNode-F.Number v k) = tt
   each_constant G l (ExprNode-F.Name w) = last _ (sane_constant (is_some (look_up G w)) l)
-  each_constant G l (ExprNode-F.Element w i) = ((good i).fixed G, last _ tt)
+  each_constant G l (ExprNode-F.Element w i) =
+      ((good i).fixed G, last _ (sane_constant (is_some (look_up G w)) l))
   each_constant G l (ExprNode-F.Call w es) =
       good_append (map (a_constant G) (map of es)) _ (constants_good G es)
       (last _ (sane_constant (calls_known (look_up G w)) l))
@@ -125,7 +126,7 @@ optional_good G r (Some e) = good_by (an_optional G r (Some e)) refl (full_good 
 pub full_constant_good : (G : Scope) (e : Expr) → Good (a_full_constant G e)
 full_constant_good G e =
     good_by (a_full_constant G e) refl
-    ((good_expr e).fixed G, (test_good _ (sane_word (constant e).value e.line), last _ (sane_need e)))
+    ((good_expr e).fixed G, (test_good _ (sane_word (constant [] e).value e.line), last _ (sane_need e)))
 
 pub size_good : (G : Scope) (e : Expr) → Good (a_size G e)
 size_good G e = good_by (a_size G e) refl ((good_expr e).fixed G, last _ (sane_word (length_of e) e.line))

@@ -73,7 +73,7 @@ none_passes (a_constant G e) h = constant_typed e G h
 none_passes (a_full_constant G e) h =
     let q = split _ _ h in
     let r = split _ _ q.1 in
-    (constant_typed e G q.0, value_of (constant e).value e.line r.0, held _ _ r.1)
+    (constant_typed e G q.0, value_of (constant [] e).value e.line r.0, held _ _ r.1)
 none_passes (a_size G e) h = (_, sized_typed G e (length_of e) refl h)
 none_passes (a_statement b v s) h = (_, _, whole_stmt s b v h)
 none_passes (some_statements b v ss) h = (_, _, whole_all b v ss h)

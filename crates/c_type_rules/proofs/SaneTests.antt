@@ -83,7 +83,7 @@ sane_twice G w l = sane_unless (not (is_taken G w)) (Twice l) tt
 
 pub sane_scalar : (w : List ℕ) (l : ℕ) (v : State) → Sane (scalar_fault w l v)
 sane_scalar w l v =
-    sane_first _ _ (sane_twice v.names w l) (sane_unless (nat_lt (length v.scalars) 64) (TooManyScalars l) tt)
+    sane_first _ _ (sane_twice v.names w l) (sane_unless _ (TooManyScalars l) tt)
 
 pub sane_array : (n : ℕ) (k : Kind) (w : List ℕ) (l : ℕ) (G : Scope) → Sane (array_fault n k w l G)
 sane_array n k w l G = sane_first _ _ (sane_twice G w l) (sane_unless _ (TooLarge l) tt)

@@ -27,7 +27,7 @@ Passes (a_full G r e) = (t : TypedExpr) × Full G r e t
 Passes (an_optional G r e) = (t : Option TypedExpr) × FullIf G r e t
 Passes (a_constant G e) = IsConstant e
 Passes (a_full_constant G e) =
-    IsConstant e × ((n : ℕ) × ((constant e).value ≡ Some n)) × (need_fits e ≡ true)
+    IsConstant e × ((n : ℕ) × ((constant [] e).value ≡ Some n)) × (need_fits e ≡ true)
 Passes (a_size G e) = (n : ℕ) × Size e n
 Passes (a_statement b v s) = (t : TypedStmt) × (w : State) × Types b v s t w
 Passes (some_statements b v ss) = (ts : List TypedStmt) × (w : State) × TypesAll b v ss ts w

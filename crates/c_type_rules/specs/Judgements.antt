@@ -85,7 +85,8 @@ expression_parts G r l (Comma x y) =
 abbrev pub constant_parts : Scope → ℕ → ExprNode-F ExprNode Expr → List Judgement
 constant_parts G l (Number v k) = []
 constant_parts G l (Name w) = a_test (no_constant (is_some (look_up G w)) l) ∷ []
-constant_parts G l (Element w i) = a_constant G i ∷ a_test (Some (Mismatch l)) ∷ []
+constant_parts G l (Element w i) =
+    a_constant G i ∷ a_test (no_constant (is_some (look_up G w)) l) ∷ []
 constant_parts G l (Call w es) =
     map (a_constant G) es ++ a_test (no_constant (calls_known (look_up G w)) l) ∷ []
 constant_parts G l (Group e) = a_constant G e ∷ []

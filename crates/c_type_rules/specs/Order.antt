@@ -101,7 +101,7 @@ parts (an_optional G r None) = []
 parts (an_optional G r (Some e)) = a_full G r e ∷ []
 parts (a_constant G e) = constant_parts G e.line (out-ExprNode e.node)
 parts (a_full_constant G e) =
-    a_constant G e ∷ a_test (value_fault (constant e).value e.line) ∷ a_test (need_fault e) ∷ []
+    a_constant G e ∷ a_test (value_fault (constant [] e).value e.line) ∷ a_test (need_fault e) ∷ []
 parts (a_size G e) = a_constant G e ∷ a_test (value_fault (length_of e) e.line) ∷ []
 parts (a_statement b v s) = statement_parts b v s.line (out-StmtNode s.node)
 parts (some_statements b v []) = []

@@ -78,10 +78,12 @@ pub data Agrees (is_def : Bool) (given : Option Kind) (slots : List Slot) : Opti
     again : {c : Option Callee} {d : Bool} → is_def && d ≡ false
         → Agrees is_def given slots (Some (meaning.Function given slots c d))
 
+-- what stands before the body of a function: its parameters, and that it agrees with what the name means
 abbrev pub Heads : Bool → Option Kind → List ℕ → List Param → Scope → Type 0
 Heads is_def given w params G =
     Params is_def G [] params × Agrees is_def given (map slot_of params) (look_up G w)
 
+-- is the node a block?
 abbrev pub is_block : StmtNode-F ForInit StmtNode Stmt → Bool
 is_block (Compound ss) = true
 is_block _ = false
