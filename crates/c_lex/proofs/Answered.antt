@@ -2,6 +2,7 @@
 use Rattle.std.proofs.Common.{◌≡◌, ◌≤◌, ◌<◌, ℕ, zero, suc, ◌+◌, Bool, true, false, ◌&&◌, ◌||◌, ◌⊎◌, inl, inr, [], ◌∷◌}
 use Rattle.std.proofs.Common.{◌++◌, length, take, drop, Option, Some, None, refl, sym, ap, ◌∙◌, subst, arith, nat_eq, nat_lt}
 use Rattle.std.proofs.Common.{length-append}
+use Rattle.std.proofs.lemmas.Bool.Decides.{nat_tests}
 use Rattle.c_tree.specs.declared.Form.{Form}
 use Rattle.c_tree.specs.declared.Form.TheVariants as form
 use Rattle.c_tree.specs.declared.Kind.{Kind}
@@ -133,6 +134,16 @@ find_piece starts b bs = by_space starts b bs (is_space b) refl
 
 -- ---- from piece to piece
 
+below : (n m : ℕ) → nat_lt n m ≡ true → n < m
+below n m e = grind (arith, nat_tests)
+
+-- a count that is not below the most, and no more, is the most
+not_below : (n m : ℕ) → nat_lt n m ≡ false → m ≤ n
+not_below n m e = grind (arith, nat_tests)
+
+full : (n m : ℕ) → nat_lt n m ≡ false → n ≤ m → n ≡ m
+full n m e h = let k : m ≤ n = not_below n m e in omega arith
+
 -- the text is cut so far, in which there are so many tokens
 record So (text before : Bytes) (ts : Tokens) (rest : Bytes) : Type 0 where
   cut : Cut [] text ts before rest
@@ -175,7 +186,7 @@ module _ (n : ℕ) (text before rest : Bytes) (ts : Tokens) (short : length rest
       passed p r (reads.Token f) (ts ++ lexeme before f ∷ []) l (refl, (let h : length ts < 8192 = room in h))
     where
       room : length ts < 8192
-      room = grind (arith, e)
+      room = below (length ts) 8192 e
   token_at p r f false e l =
       stopped TooManyTokens (record {
         tokens = ts;
@@ -183,7 +194,7 @@ module _ (n : ℕ) (text before rest : Bytes) (ts : Tokens) (short : length rest
         after = rest;
         cut = so.cut;
         few = so.few;
-        stands = one_more (grind (arith, e, so.few)) l;
+        stands = one_more (full (length ts) 8192 e so.few) l;
         line_is = refl;
       })
 
