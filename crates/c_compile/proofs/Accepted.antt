@@ -6,7 +6,7 @@ use Rattle.c_tree.specs.declared.typed.TypedProgram.{TypedProgram}
 use Rattle.c_lex.specs.Answers.{Lexed}
 use Rattle.c_grammar.specs.Answers.{IsUnit}
 use Rattle.c_type_rules.specs.Units.{Accepts}
-use Rattle.c_type_rules.proofs.UnitsComplete.{accepts_typed}
+use Rattle.c_type_rules.proofs.UnitsSound.{accepts_fine}
 use Rattle.c_type_laws.specs.WellFormed.{WellFormed}
 use Rattle.c_type_laws.proofs.Whole.{well_formed}
 use Rattle.flat_lower_premises.specs.TypedTrees.{ProgramHasWords}
@@ -32,10 +32,10 @@ accepted_flat text P a =
     let tokens = a.1.0 in
     let lexed = a.1.1 in
     let unit = a.1.2 in
-    let typed : Accepts tree P =
-    subst (λ (t : TypedProgram). Accepts tree t) (sym a.2.1) (accepts_typed tree a.2.0) in
+    let typed : Accepts tree P = a.2 in
+    let fine = accepts_fine tree P typed in
     let well : WellFormed P =
-    subst (λ (t : TypedProgram). WellFormed t) (sym a.2.1) (well_formed tree a.2.0) in
+    subst (λ (t : TypedProgram). WellFormed t) (sym fine.1) (well_formed tree fine.0) in
     let words : ProgramHasWords P =
     program_has tree P (units_have_words tokens tree.items (lexed_has most_tokens text tokens lexed) unit)
     typed in

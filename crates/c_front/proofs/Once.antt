@@ -8,16 +8,18 @@ use Rattle.c_lex.specs.Lexes.{Tokens, Fault, FaultAt}
 use Rattle.c_lex.specs.Lexes as lexical
 use Rattle.c_lex.specs.Answers.{Lexed}
 use Rattle.c_lex.proofs.Once.{lexes_once, lexes_no_fault, fault_once}
-use Rattle.c_grammar.specs.Answers.{IsUnit, Answer, tree, syntax, too_deep, Answers}
-use Rattle.c_grammar.proofs.OneAnswer.{same_answer}
+use Rattle.c_grammar.specs.Answers.{IsUnit}
 use Rattle.c_parse.specs.declared.unit.ParseFault.{ParseFault}
-use Rattle.c_parse.specs.declared.unit.ParseFault.TheVariants as parse
+use Rattle.c_parse.specs.Parses.{HasFault}
+use Rattle.c_parse.proofs.Only as parses
 use Rattle.c_type_expr.specs.declared.fault.TypeFault.{TypeFault}
-use Rattle.c_type_expr.specs.declared.fault.TypeFault.TheVariants as typing
 use Rattle.c_type.specs.Programs.{program_fault, program_tree}
+use Rattle.c_type_rules.specs.Judgements.{a_unit}
+use Rattle.c_type_rules.proofs.FirstFaults.{fault_is}
+use Rattle.c_type_rules.proofs.UnitsSound.{accepts_fine}
 use Rattle.c_front.specs.declared.refusal.Refusal.{Refusal}
 use Rattle.c_front.specs.declared.refusal.Refusal.TheVariants.{Lex, Parse, Typing, Memory}
-use Rattle.c_front.specs.Fronts.{most_tokens, HasTree, HasNoTypes, AreRefused}
+use Rattle.c_front.specs.Fronts.{most_tokens, HasTree, HasTypes, HasNoTypes}
 use Rattle.c_front.specs.Fronts.{IsRefusedByLexer, IsRefusedByGrammar}
 use Rattle.c_front.specs.Fronts.{IsRefusedByTyping, IsRefused}
 use Rattle.c_front.specs.Laws.{AcceptedOnce, NotBoth, RefusedOnce}
@@ -26,19 +28,10 @@ use Rattle.c_front.specs.Laws.{AcceptedOnce, NotBoth, RefusedOnce}
 program_of : List Top → Program
 program_of xs = record { items = xs }
 
--- the items of an answer, and none of a fault
-items_of : List Top → Answer → List Top
-items_of other (tree xs) = xs
-items_of other (syntax l) = other
-items_of other (too_deep l) = other
-
 -- tokens spell one tree
 unit_once : (tokens : Tokens) (p q : Program) → IsUnit tokens p.items → IsUnit tokens q.items → p ≡ q
-unfolding program_of items_of
-unit_once tokens p q a b =
-    let same : tree q.items ≡ tree p.items =
-    same_answer tokens (tree p.items) (tree q.items) a b in
-    ap (λ (t : Answer). program_of (items_of p.items t)) (sym same)
+unfolding program_of
+unit_once tokens p q a b = ap program_of (parses.unit_once tokens p.items q.items a b)
 
 -- a text has one tree
 pub tree_once : (text : List ℕ) (p q : Program) → HasTree text p → HasTree text q → p ≡ q
@@ -95,77 +88,35 @@ lexer_once text e f r s =
 
 -- ---- the grammar
 
--- the error that says this answer
-parse_error : Answer → ParseFault
-parse_error (tree xs) = parse.Memory
-parse_error (syntax l) = parse.Syntax l
-parse_error (too_deep l) = parse.TooDeep l
-
--- a refusal of the grammar says the answer of the tokens, which is no tree
-record ParseSays (tokens : Tokens) (e : ParseFault) : Type 0 where
-  answer : Answer
-  there : Answers tokens answer
-  is : e ≡ parse_error answer
-  no_tree : (xs : List Top) → answer ≡ tree xs → ⊥
-
-parse_says : (tokens : Tokens) (e : ParseFault) → AreRefused tokens e → ParseSays tokens e
-unfolding parse_error
-parse_says tokens (parse.Syntax l) r = record {
-  answer = syntax l;
-  there = r;
-  is = refl;
-  no_tree = λ xs e. absurd (cc);
-}
-parse_says tokens (parse.TooDeep l) r = record {
-  answer = too_deep l;
-  there = r;
-  is = refl;
-  no_tree = λ xs e. absurd (cc);
-}
-parse_says tokens parse.Memory r = absurd r
-
--- tokens that the grammar refuses have no tree
-no_unit : (tokens : Tokens) (e : ParseFault) (xs : List Top) → AreRefused tokens e
-    → IsUnit tokens xs → ⊥
-no_unit tokens e xs r u =
-    let s = parse_says tokens e r in
-    s.no_tree xs (same_answer tokens (tree xs) s.answer u s.there)
-
 grammar_once : (text : List ℕ) (e f : ParseFault) → IsRefusedByGrammar text e
     → IsRefusedByGrammar text f → e ≡ f
 grammar_once text e f r s =
     let same : s.0 ≡ r.0 = lexes_once text s.0 r.0 s.1.0 r.1.0 in
-    let a = parse_says r.0 e r.2 in
-    let b = parse_says r.0 f (subst (λ (ts : Tokens). AreRefused ts f) same s.2) in
-    a.is ∙ ap parse_error (same_answer r.0 b.answer a.answer b.there a.there) ∙ sym b.is
+    parses.fault_once r.0 e f r.2 (subst (λ (ts : Tokens). HasFault ts f) same s.2)
 
 -- a text that the grammar refuses has no tree
 no_tree : (text : List ℕ) (e : ParseFault) (p : Program) → IsRefusedByGrammar text e
     → HasTree text p → ⊥
 no_tree text e p r t =
     let same : t.0 ≡ r.0 = lexes_once text t.0 r.0 t.1.0 r.1.0 in
-    no_unit r.0 e p.items r.2 (subst (λ (ts : Tokens). IsUnit ts p.items) same t.2)
+    parses.no_unit r.0 e p.items r.2 (subst (λ (ts : Tokens). IsUnit ts p.items) same t.2)
 
 -- ---- the typing
 
-type_fault : (p : Program) (e : TypeFault) → HasNoTypes p e → program_fault p ≡ Some e
-type_fault p (typing.Unknown l) r = r
-type_fault p (typing.Twice l) r = r
-type_fault p (typing.Mismatch l) r = r
-type_fault p (typing.Arity l) r = r
-type_fault p typing.NoMain r = r
-type_fault p (typing.TooManyScalars l) r = r
-type_fault p (typing.TooManyParams l) r = r
-type_fault p (typing.Need l) r = r
-type_fault p (typing.TooLarge l) r = r
-type_fault p typing.Memory r = absurd r
+-- what the rules say of a tree's typed program, and of its fault
+typed_is : (tree : Program) (p : TypedProgram) → HasTypes tree p
+    → (program_fault tree ≡ None) × (p ≡ program_tree tree)
+typed_is tree p h = accepts_fine tree p h
+
+fault_is_of : (tree : Program) (e : TypeFault) → HasNoTypes tree e → program_fault tree ≡ Some e
+fault_is_of tree e h = fault_is (a_unit tree) e h
 
 typing_once : (text : List ℕ) (e f : TypeFault) → IsRefusedByTyping text e
     → IsRefusedByTyping text f → e ≡ f
 typing_once text e f r s =
     let same : r.0 ≡ s.0 = tree_once text r.0 s.0 r.1 s.1 in
     let is : Some e ≡ Some f =
-    sym (type_fault r.0 e r.2) ∙ ap program_fault same ∙ type_fault s.0 f s.2 in
+    sym (fault_is_of r.0 e r.2) ∙ ap program_fault same ∙ fault_is_of s.0 f s.2 in
     cc
 
 -- ---- the laws
@@ -177,16 +128,17 @@ not_refused text p (Lex e) t n r = no_tokens text e t.0 r t.1
 not_refused text p (Parse e) t n r = no_tree text e p r t
 not_refused text p (Typing e) t n r =
     let same : p ≡ r.0 = tree_once text p r.0 t r.1 in
-    let is : None ≡ Some e = sym n ∙ ap program_fault same ∙ type_fault r.0 e r.2 in
+    let is : None ≡ Some e = sym n ∙ ap program_fault same ∙ fault_is_of r.0 e r.2 in
     absurd (cc)
 not_refused text p Memory t n r = absurd r
 
 pub accepted_once : AcceptedOnce
 accepted_once text p q a b =
-    a.2.1 ∙ ap program_tree (tree_once text a.0 b.0 a.1 b.1) ∙ sym b.2.1
+    (typed_is a.0 p a.2).1 ∙ ap program_tree (tree_once text a.0 b.0 a.1 b.1)
+    ∙ sym (typed_is b.0 q b.2).1
 
 pub not_both : NotBoth
-not_both text p r a out = not_refused text a.0 r a.1 a.2.0 out
+not_both text p r a out = not_refused text a.0 r a.1 (typed_is a.0 p a.2).0 out
 
 pub refused_once : RefusedOnce
 refused_once text (Lex e) (Lex f) r s = ap (λ (x : LexFault). Lex x) (lexer_once text e f r s)

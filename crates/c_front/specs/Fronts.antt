@@ -1,5 +1,5 @@
 -- Which texts of C are accepted, with which typed program, and which stage refuses the others.
-use Rattle.std.specs.Prelude.{◌≡◌, ℕ, List, Some, None}
+use Rattle.std.specs.Prelude.{ℕ, List}
 use Rattle.c_tree.specs.declared.limits.TheConstants.{MOST_TOKENS}
 use Rattle.c_tree.specs.declared.tree.Program.{Program}
 use Rattle.c_tree.specs.declared.typed.TypedProgram.{TypedProgram}
@@ -7,12 +7,12 @@ use Rattle.c_lex.specs.declared.fault.LexFault.{LexFault}
 use Rattle.c_lex.specs.declared.fault.LexFault.TheVariants as lex
 use Rattle.c_lex.specs.Lexes.{Tokens}
 use Rattle.c_lex.specs.Answers.{Lexed, Fails}
-use Rattle.c_grammar.specs.Answers.{IsUnit, HasSyntaxFault, IsTooDeep}
+use Rattle.c_grammar.specs.Answers.{IsUnit}
+use Rattle.c_parse.specs.Parses.{HasFault}
 use Rattle.c_parse.specs.declared.unit.ParseFault.{ParseFault}
-use Rattle.c_parse.specs.declared.unit.ParseFault.TheVariants as parse
 use Rattle.c_type_expr.specs.declared.fault.TypeFault.{TypeFault}
-use Rattle.c_type_expr.specs.declared.fault.TypeFault.TheVariants as typing
-use Rattle.c_type.specs.Programs.{program_fault, program_tree}
+use Rattle.c_type_rules.specs.Units.{Accepts}
+use Rattle.c_type_rules.specs.FirstFaults.{UnitFails}
 use Rattle.c_front.specs.declared.refusal.Refusal.{Refusal}
 use Rattle.c_front.specs.declared.refusal.Refusal.TheVariants.{Lex, Parse, Typing, Memory}
 
@@ -24,9 +24,9 @@ most_tokens = MOST_TOKENS
 abbrev pub HasTree : List ℕ → Program → Type 0
 HasTree text tree = (tokens : Tokens) × Lexed most_tokens text tokens × IsUnit tokens tree.items
 
--- the tree has this typed program, and no node of it fails
+-- the tree has this typed program by the rules
 abbrev pub HasTypes : Program → TypedProgram → Type 0
-HasTypes tree program = (program_fault tree ≡ None) × (program ≡ program_tree tree)
+HasTypes tree program = Accepts tree program
 
 -- the text is a program of C in this profile
 abbrev pub IsAccepted : List ℕ → TypedProgram → Type 0
@@ -38,18 +38,12 @@ IsRefusedByLexer text lex.Memory = ⊥
 IsRefusedByLexer text e = Fails most_tokens text e
 
 -- the text has tokens, and they are refused by the grammar
-abbrev pub AreRefused : Tokens → ParseFault → Type 0
-AreRefused tokens (parse.Syntax line) = HasSyntaxFault tokens line
-AreRefused tokens (parse.TooDeep line) = IsTooDeep tokens line
-AreRefused tokens parse.Memory = ⊥
-
 abbrev pub IsRefusedByGrammar : List ℕ → ParseFault → Type 0
-IsRefusedByGrammar text e = (tokens : Tokens) × Lexed most_tokens text tokens × AreRefused tokens e
+IsRefusedByGrammar text e = (tokens : Tokens) × Lexed most_tokens text tokens × HasFault tokens e
 
--- the tree's first node that fails
+-- the tree's first node, in the order of the text, that has no types fails so
 abbrev pub HasNoTypes : Program → TypeFault → Type 0
-HasNoTypes tree typing.Memory = ⊥
-HasNoTypes tree e = program_fault tree ≡ Some e
+HasNoTypes tree e = UnitFails tree e
 
 -- the text has a tree, and it is refused by the typing
 abbrev pub IsRefusedByTyping : List ℕ → TypeFault → Type 0

@@ -1,5 +1,5 @@
 -- What a text is, it is once.
-use Rattle.std.specs.Prelude.{◌≡◌, ℕ, List}
+use Rattle.std.specs.Prelude.{◌≡◌, ◌⊎◌, ℕ, List}
 use Rattle.c_tree.specs.declared.typed.TypedProgram.{TypedProgram}
 use Rattle.c_front.specs.declared.refusal.Refusal.{Refusal}
 use Rattle.c_front.specs.Fronts.{IsAccepted, IsRefused}
@@ -16,3 +16,8 @@ NotBoth = (text : List ℕ) (p : TypedProgram) (r : Refusal) → IsAccepted text
 -- a text is refused by one stage, with one fault
 abbrev pub RefusedOnce : Type 0
 RefusedOnce = (text : List ℕ) (r s : Refusal) → IsRefused text r → IsRefused text s → r ≡ s
+
+-- every text is accepted or refused
+abbrev pub EveryTextAnswers : Type 0
+EveryTextAnswers =
+    (text : List ℕ) → ((p : TypedProgram) × IsAccepted text p) ⊎ ((r : Refusal) × IsRefused text r)

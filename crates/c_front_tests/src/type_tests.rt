@@ -10,6 +10,14 @@ use c_type::{TypeFault, type_program};
 use std::alloc::Global;
 use std::process::Abort;
 
+fn zero(line: u32) -> Expr {
+    let node = ExprNode::Number {
+        value: 0,
+        kind: Kind::Int,
+    };
+    Expr { line, node }
+}
+
 fn expression(alloc: Global, line: u32, value: Value) -> Result<Expr, TypeFault> {
     let node = match value {
         Value::Number(value) => ExprNode::Number {
@@ -20,6 +28,10 @@ fn expression(alloc: Global, line: u32, value: Value) -> Result<Expr, TypeFault>
         Value::Call(name) => ExprNode::Call {
             function: Word::from_slice(alloc, name)?,
             args: Items::new(alloc),
+        },
+        Value::Element(name) => ExprNode::Element {
+            array: Word::from_slice(alloc, name)?,
+            index: Boxed::new(alloc, zero(line))?,
         },
     };
     Ok(Expr { line, node })
@@ -85,6 +97,7 @@ fn function(
 fn global(
     alloc: Global,
     line: u32,
+    kind: Kind,
     name: &[u8],
     size: ArraySize,
     init: Items<Expr>,
@@ -92,7 +105,7 @@ fn global(
     Ok(Top {
         line,
         node: TopNode::Global {
-            kind: Kind::Char,
+            kind,
             name: Word::from_slice(alloc, name)?,
             size,
             init,
@@ -109,11 +122,23 @@ fn item(alloc: Global, item: Item) -> Result<Top, TypeFault> {
         Item::Global(line, name, value) => {
             let mut init = Items::new(alloc);
             init.push(expression(alloc, line, value)?)?;
-            global(alloc, line, name, ArraySize::Scalar, init)
+            global(alloc, line, Kind::Char, name, ArraySize::Scalar, init)
         }
         Item::Array(line, name, count) => {
             let size = expression(alloc, line, Value::Number(count))?;
-            global(alloc, line, name, ArraySize::Sized(size), Items::new(alloc))
+            global(
+                alloc,
+                line,
+                Kind::Char,
+                name,
+                ArraySize::Sized(size),
+                Items::new(alloc),
+            )
+        }
+        Item::Open(line, name, value) => {
+            let mut init = Items::new(alloc);
+            init.push(expression(alloc, line.wrapping_add(1), value)?)?;
+            global(alloc, line, Kind::Long, name, ArraySize::Open, init)
         }
         Item::Prototype(line, name, count) => function(alloc, line, name, count, None),
         Item::Function(line, name, count, body) => {

@@ -9,7 +9,7 @@ use Rattle.c_tree.specs.declared.token.Key.{Key}
 use Rattle.c_grammar.specs.Tokens.{Tokens, token, punct, word, named, May, before}
 use Rattle.c_grammar.specs.Numbers.{is_mark}
 use Rattle.c_grammar.specs.Parsing.{Stop, Out, and_then, syntax, too_deep, tail, line_of, first}
-use Rattle.c_grammar.specs.Parsing.{is_next, is_word, expect, expect_word, name_by, name_of}
+use Rattle.c_grammar.specs.Parsing.{is_next, is_word, expect, expect_keyword, name_by, name_of}
 use Rattle.c_grammar.specs.ModelExpressions.{Nested, enter}
 use Rattle.c_grammar.proofs.Numbers.{mark_self, key_self}
 use Rattle.c_grammar.proofs.Agree.{split_if, if_true, if_false, trans_le, next_is, word_is, Way}
@@ -377,7 +377,7 @@ abbrev pub IsWord : Key → Rel ℕ
 IsWord k may l f t = f ≡ word l k ∷ t
 
 pub word_piece : (k : Key) (m : ℕ) → Piece same_tree (IsWord k) any always always
-    (λ t. word 0 k ∷ t) m (expect_word k)
+    (λ t. word 0 k ∷ t) m (expect_keyword k)
 word_piece k m =
     record {
       grow = λ t. omega arith;
@@ -401,13 +401,13 @@ word_piece k m =
             completes = λ u. (0, refl);
           }));
       complete = λ cut g g' may l f' t' r e f tied.
-          head_step cut g g' (λ u. Lands cut g g' may m (expect_word k u) (λ to. Ok (l, to)) t')
+          head_step cut g g' (λ u. Lands cut g g' may m (expect_keyword k u) (λ to. Ok (l, to)) t')
           (subst (λ (u : Tokens). Tied cut g g' f u) r tied)
           (λ v tv. good v tv (if_true _ _ _ (key_self k)))
           (λ c. past c (record { le = at_cut l g }));
     }
   where
-    at_cut : (l : ℕ) (g : Tokens) → length (place (expect_word k (word l k ∷ g))) ≤ length g
+    at_cut : (l : ℕ) (g : Tokens) → length (place (expect_keyword k (word l k ∷ g))) ≤ length g
     at_cut l g = rw (key_self k) (omega arith)
 
 abbrev pub Named : Rel (ℕ × List ℕ)

@@ -20,7 +20,7 @@ use Rattle.c_grammar.specs.Statements.{entry, init, entries, Writes, entry_stmt,
 use Rattle.c_grammar.specs.Statements.{go, compound, empty, plain, if_only, if_else, while, repeat}
 use Rattle.c_grammar.specs.Statements.{init_local, init_plain, for, break, continue, return}
 use Rattle.c_grammar.specs.Numbers.{is_mark, is_key}
-use Rattle.c_grammar.specs.Parsing.{Out, and_then, is_next, is_word, expect, expect_word}
+use Rattle.c_grammar.specs.Parsing.{Out, and_then, is_next, is_word, expect, expect_keyword}
 use Rattle.c_grammar.specs.ModelTypes.{is_type}
 use Rattle.c_grammar.specs.ModelExpressions.{Nested}
 use Rattle.c_grammar.specs.ModelStatements.{Below, until_of, test_of, one_of, entry_of, entries_of}
@@ -250,11 +250,11 @@ module _ (m d : ℕ) (nested : Nested) (deeper : Deeper nested m d) (below : Bel
   unfolding do_of
   do_piece =
       seq (λ l ts. and_then (below.inner ts)
-      (λ s ts. and_then (expect_word key.While ts)
+      (λ s ts. and_then (expect_keyword key.While ts)
       (λ _ ts. and_then (test_of nested ts)
       (λ c ts. and_then (expect mark.Semicolon ts) (λ _ ts. stmt_here (at l (node.Do s c)) ts)))))
       (word_piece key.Do m)
-      (λ l. seq (λ s ts. and_then (expect_word key.While ts)
+      (λ l. seq (λ s ts. and_then (expect_keyword key.While ts)
       (λ _ ts. and_then (test_of nested ts)
       (λ c ts. and_then (expect mark.Semicolon ts) (λ _ ts. stmt_here (at l (node.Do s c)) ts))))
       known.inner_piece

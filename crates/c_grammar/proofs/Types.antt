@@ -11,7 +11,7 @@ use Rattle.c_grammar.specs.Types.{Types, char, signed_char, unsigned_char, int, 
 use Rattle.c_grammar.specs.Types.{unsigned, unsigned_int, long, long_int, signed_long}
 use Rattle.c_grammar.specs.Types.{signed_long_int, unsigned_long, unsigned_long_int}
 use Rattle.c_grammar.specs.Numbers.{is_key}
-use Rattle.c_grammar.specs.Parsing.{Out, and_then, is_word, expect_word}
+use Rattle.c_grammar.specs.Parsing.{Out, and_then, is_word, expect_keyword}
 use Rattle.c_grammar.specs.ModelTypes.{begins_type, int_of, char_of, long_of, sized_of, signed_of}
 use Rattle.c_grammar.specs.ModelTypes.{unsigned_of, plain_of, longs_of, type_of}
 use Rattle.c_grammar.proofs.Numbers.{key_self}
@@ -64,7 +64,7 @@ WordThen w v = Then (IsWord w) (λ l. Done (v l))
 
 word_then : (m : ℕ) (w : Key) (v : ℕ → ℕ × Kind)
     → Piece same_tree (WordThen w v) any always type_ends (λ t. word 0 w ∷ t) m
-    (λ ts. and_then (expect_word w ts) (λ l ts. named_here (v l) ts))
+    (λ ts. and_then (expect_keyword w ts) (λ l ts. named_here (v l) ts))
 word_then m w v = seq (λ l ts. named_here (v l) ts) (word_piece w m)
     (λ l. done same_tree (v l) m (λ t h. tt)) (λ t. omega arith) (λ may x y u t r h. tt)
 

@@ -10,6 +10,7 @@ use Rattle.c_grammar.specs.Places.{Rel, Spelled, SyntaxAt, EndsEarly, DeepAt}
 abbrev pub limit : ℕ
 limit = 64
 
+-- the tokens between two places spell a unit
 abbrev pub UnitIs : Rel (List Top)
 UnitIs may xs f t = Units may (unit xs) f t
 
@@ -35,11 +36,13 @@ pub data IsTooDeep (tokens : Tokens) : ℕ → Type 0 where
   opener : {front back : Tokens} {t : Lexeme} → DeepAt UnitIs limit tokens front t back
       → IsTooDeep tokens t.line
 
+-- a tree, or one of the two faults with its line
 pub data Answer : Type 0 where
   tree : List Top → Answer
   syntax : ℕ → Answer
   too_deep : ℕ → Answer
 
+-- the answer is right of the tokens
 abbrev pub Answers : Tokens → Answer → Type 0
 Answers tokens (tree xs) = IsUnit tokens xs
 Answers tokens (syntax l) = HasSyntaxFault tokens l

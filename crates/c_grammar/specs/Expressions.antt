@@ -12,6 +12,7 @@ use Rattle.c_grammar.specs.Operators.{joiner_mark, below, joined, Prefix, prefix
 use Rattle.c_grammar.specs.Operators.{operand_level, prefixed, Suffix, suffix_mark, suffixed}
 use Rattle.c_grammar.specs.Operators.{Assigner, assigner_mark, assigner_op}
 
+-- what a part of an expression spells
 pub data Phrase : Type 0 where
   -- an expression of a level
   expr : ℕ → Expr → Phrase

@@ -18,7 +18,7 @@ use Rattle.c_grammar.specs.Tokens.{Tokens}
 use Rattle.c_grammar.specs.Statements.{at, Shape, declared, Closer, semicolon, paren, closer_mark}
 use Rattle.c_grammar.specs.Statements.{for_init}
 use Rattle.c_grammar.specs.Parsing.{Out, and_then, syntax, too_deep, first, is_next, is_word}
-use Rattle.c_grammar.specs.Parsing.{expect, expect_word, name_of, listed, many}
+use Rattle.c_grammar.specs.Parsing.{expect, expect_keyword, name_of, listed, many}
 use Rattle.c_grammar.specs.ModelTypes.{begins_type, type_of}
 use Rattle.c_grammar.specs.ModelExpressions.{Nested, inside, expression_of, assignment_of}
 use Rattle.c_grammar.specs.ModelExpressions.{conditional_of}
@@ -55,123 +55,150 @@ pub record Below : Type 0 where
   pub locals : Tokens → Out (List Stmt)
 
 module _ (nested : Nested) where
+  -- takes the end of an expression that is left out
   unfoldable pub absent_of : Closer → Tokens → Out (Option Expr)
   absent_of c ts = and_then (expect (closer_mark c) ts) (λ _ ts. Ok (None, ts))
 
+  -- takes an expression and its end
   unfoldable pub given_of : Closer → Tokens → Out (Option Expr)
   given_of c ts =
       and_then (expression_of nested ts) (λ e ts. and_then (expect (closer_mark c) ts)
       (λ _ ts. Ok (Some e, ts)))
 
+  -- takes an expression that may be left out, and its end
   unfoldable pub until_of : Closer → Tokens → Out (Option Expr)
   until_of c ts = if is_next (closer_mark c) ts then absent_of c ts else given_of c ts
 
+  -- takes a test in parentheses
   unfoldable pub test_of : Tokens → Out Expr
   test_of ts =
       and_then (expect mark.LeftParen ts) (λ _ ts.
       and_then (expression_of nested ts) (λ e ts.
       and_then (expect mark.RightParen ts) (λ _ ts. Ok (e, ts))))
 
+  -- takes an initialiser
   unfoldable pub value_of : Tokens → Out Shape
   value_of ts =
       and_then (expect mark.Assign ts) (λ _ ts.
       and_then (assignment_of nested ts) (λ e ts. Ok ((size.Scalar, Some e), ts)))
 
+  -- takes an array's size
   unfoldable pub array_of : Tokens → Out Shape
   array_of ts =
       and_then (expect mark.LeftBracket ts) (λ _ ts.
       and_then (conditional_of nested ts) (λ e ts.
       and_then (expect mark.RightBracket ts) (λ _ ts. Ok ((size.Sized e, None), ts))))
 
+  -- takes what stands behind a name
   unfoldable pub shape_of : Tokens → Out Shape
   shape_of ts =
       if is_next mark.Assign ts then value_of ts
       else if is_next mark.LeftBracket ts then array_of ts
       else Ok ((size.Scalar, None), ts)
 
+  -- takes one declarator
   unfoldable pub decl_of : Kind → Tokens → Out Stmt
   decl_of k ts = and_then (name_of ts) (λ n ts. and_then (shape_of ts)
       (λ s ts. Ok (declared n.0 k n.1 s, ts)))
 
+  -- takes declarators
   unfoldable pub decls_of : Kind → Tokens → Out (List Stmt)
   decls_of k ts = listed mark.Semicolon false (decl_of k) (suc (length ts)) ts
 
+  -- takes a local declaration
   unfoldable pub locals_of : Tokens → Out (List Stmt)
   locals_of ts = and_then (type_of ts) (λ k ts. decls_of k.1 ts)
 
   module _ (below : Below) where
+    -- takes a statement, as a list of one
     unfoldable pub one_of : Tokens → Out (List Stmt)
     one_of ts = and_then (below.inner ts) (λ s ts. Ok (s ∷ [], ts))
 
+    -- takes an entry of a block
     unfoldable pub entry_of : Tokens → Out (List Stmt)
     entry_of ts = if begins_type ts then below.locals ts else one_of ts
 
+    -- takes the entries of a block
     unfoldable pub entries_of : Tokens → Out (List Stmt)
     entries_of ts = many mark.RightBrace entry_of (suc (length ts)) ts
 
+    -- takes a declaration that begins a `for`
     unfoldable pub init_local_of : Tokens → Out ForInit
     init_local_of ts = and_then (below.locals ts) (λ ss ts. Ok (inits.Locals ss, ts))
 
+    -- takes an expression that begins a `for`
     unfoldable pub init_plain_of : Tokens → Out ForInit
     init_plain_of ts = and_then (until_of semicolon ts) (λ o ts. Ok (for_init o, ts))
 
+    -- takes what begins a `for`
     unfoldable pub init_of : Tokens → Out ForInit
     init_of ts = if begins_type ts then init_local_of ts else init_plain_of ts
 
+    -- takes an `else`
     unfoldable pub else_of : ℕ → Expr → Stmt → Tokens → Out Stmt
     else_of l c aye ts =
-        and_then (expect_word key.Else ts) (λ _ ts.
+        and_then (expect_keyword key.Else ts) (λ _ ts.
         and_then (below.inner ts) (λ nay ts. Ok (at l (node.If c aye (Some nay)), ts)))
 
+    -- takes an `else`, where one follows
     unfoldable pub no_of : ℕ → Expr → Stmt → Tokens → Out Stmt
     no_of l c aye ts = if is_word key.Else ts then else_of l c aye ts else Ok
         (at l (node.If c aye None), ts)
 
+    -- takes an `if`
     unfoldable pub if_of : Tokens → Out Stmt
     if_of ts =
-        and_then (expect_word key.If ts) (λ l ts.
+        and_then (expect_keyword key.If ts) (λ l ts.
         and_then (test_of ts) (λ c ts. and_then (below.inner ts) (λ aye ts. no_of l c aye ts)))
 
+    -- takes a `while`
     unfoldable pub while_of : Tokens → Out Stmt
     while_of ts =
-        and_then (expect_word key.While ts) (λ l ts.
+        and_then (expect_keyword key.While ts) (λ l ts.
         and_then (test_of ts) (λ c ts. and_then (below.inner ts)
         (λ s ts. Ok (at l (node.While c s), ts))))
 
+    -- takes a `do`
     unfoldable pub do_of : Tokens → Out Stmt
     do_of ts =
-        and_then (expect_word key.Do ts) (λ l ts.
+        and_then (expect_keyword key.Do ts) (λ l ts.
         and_then (below.inner ts) (λ s ts.
-        and_then (expect_word key.While ts) (λ _ ts.
+        and_then (expect_keyword key.While ts) (λ _ ts.
         and_then (test_of ts) (λ c ts.
         and_then (expect mark.Semicolon ts) (λ _ ts. Ok (at l (node.Do s c), ts))))))
 
+    -- takes a `for`
     unfoldable pub for_of : Tokens → Out Stmt
     for_of ts =
-        and_then (expect_word key.For ts) (λ l ts.
+        and_then (expect_keyword key.For ts) (λ l ts.
         and_then (expect mark.LeftParen ts) (λ _ ts.
         and_then (init_of ts) (λ i ts.
         and_then (until_of semicolon ts) (λ o ts.
         and_then (until_of paren ts) (λ o' ts.
         and_then (below.inner ts) (λ s ts. Ok (at l (node.For i o o' s), ts)))))))
 
+    -- takes a `break` or a `continue`
     unfoldable pub leave_of : Key → StmtNode → Tokens → Out Stmt
-    leave_of k n ts = and_then (expect_word k ts)
+    leave_of k n ts = and_then (expect_keyword k ts)
         (λ l ts. and_then (expect mark.Semicolon ts) (λ _ ts. Ok (at l n, ts)))
 
+    -- takes a `return`
     unfoldable pub return_of : Tokens → Out Stmt
     return_of ts =
-        and_then (expect_word key.Return ts)
+        and_then (expect_keyword key.Return ts)
         (λ l ts. and_then (until_of semicolon ts) (λ o ts. Ok (at l (node.Return o), ts)))
 
+    -- takes an empty statement
     unfoldable pub empty_of : Tokens → Out Stmt
     empty_of ts = and_then (expect mark.Semicolon ts) (λ l ts. Ok (at l (node.Plain None), ts))
 
+    -- takes a block
     unfoldable pub compound_of : Tokens → Out Stmt
     compound_of ts =
         and_then (expect mark.LeftBrace ts)
         (λ l ts. and_then (entries_of ts) (λ ss ts. Ok (at l (node.Compound ss), ts)))
 
+    -- takes an expression statement
     unfoldable pub plain_of : Tokens → Out Stmt
     plain_of ts =
         and_then (expression_of nested ts) (λ e ts.
@@ -186,6 +213,7 @@ module _ (nested : Nested) where
         else if is_next mark.Semicolon ts then empty_of ts
         else plain_of ts
 
+    -- takes a statement
     unfoldable pub stmt_of : Tokens → Out Stmt
     stmt_of ts =
         if is_next mark.LeftBrace ts then compound_of ts

@@ -16,23 +16,27 @@ use Rattle.c_tree.specs.declared.tree.TopNode.TheVariants as tops
 use Rattle.c_grammar.specs.Tokens.{Tokens}
 use Rattle.c_grammar.specs.Units.{at, Shape, global, function, Label, parameter}
 use Rattle.c_grammar.specs.Parsing.{Out, and_then, syntax, tail, line_of, first, is_next, is_word}
-use Rattle.c_grammar.specs.Parsing.{expect, expect_word, name_of, listed, listed_on, to_end}
+use Rattle.c_grammar.specs.Parsing.{expect, expect_keyword, name_of, listed, listed_on, to_end}
 use Rattle.c_grammar.specs.ModelTypes.{type_of}
 use Rattle.c_grammar.specs.ModelExpressions.{Nested, inside, is_name, conditional_of}
 use Rattle.c_grammar.specs.ModelStatements.{below_at, compound_of}
 
+-- is it the include?
 abbrev pub is_include : Form → Bool
 is_include form.Include = true
 is_include _ = false
 
+-- takes the include
 unfoldable pub include_of : Tokens → Out (List Top)
 include_of ts = if first is_include ts then Ok
     (at (line_of ts) tops.Include ∷ [], tail ts) else syntax ts
 
+-- takes a parameter's name, which may be left out
 unfoldable pub label_of : ℕ → Tokens → Out Label
 label_of l ts = if first is_name ts then and_then (name_of ts)
     (λ n ts. Ok ((n.0, Some (n.1)), ts)) else Ok ((l, None), ts)
 
+-- the size alone, where no list follows
 abbrev pub or_sized : ArraySize → Tokens → Out Shape
 or_sized sizes.Scalar ts = syntax ts
 or_sized sizes.Open ts = syntax ts
@@ -43,44 +47,54 @@ abbrev pub Body : Type 0
 Body = Tokens → Out Stmt
 
 module _ (nested : Nested) where
+  -- takes the end of empty brackets
   unfoldable pub no_size_of : Tokens → Out ArraySize
   no_size_of ts = and_then (expect mark.RightBracket ts) (λ _ ts. Ok (sizes.Open, ts))
 
+  -- takes a size and the end of the brackets
   unfoldable pub some_size_of : Tokens → Out ArraySize
   some_size_of ts =
       and_then (conditional_of nested ts)
       (λ e ts. and_then (expect mark.RightBracket ts) (λ _ ts. Ok (sizes.Sized e, ts)))
 
+  -- takes what stands in brackets
   unfoldable pub size_of : Tokens → Out ArraySize
   size_of ts = if is_next mark.RightBracket ts then no_size_of ts else some_size_of ts
 
+  -- takes values in braces
   unfoldable pub values_of : Tokens → Out (List Expr)
   values_of ts = listed mark.RightBrace true (conditional_of nested) (suc (length ts)) ts
 
+  -- takes a list of values behind brackets
   unfoldable pub filled_of : ArraySize → Tokens → Out Shape
   filled_of a ts =
       and_then (expect mark.Assign ts) (λ _ ts.
       and_then (expect mark.LeftBrace ts) (λ _ ts.
       and_then (values_of ts) (λ es ts. Ok ((a, es), ts))))
 
+  -- takes what stands behind brackets
   unfoldable pub after_size : ArraySize → Tokens → Out Shape
   after_size a ts = if is_next mark.Assign ts then filled_of a ts else or_sized a ts
 
+  -- takes the brackets of an array and what stands behind them
   unfoldable pub array_of : Tokens → Out Shape
   array_of ts = and_then (expect mark.LeftBracket ts)
       (λ _ ts. and_then (size_of ts) (λ a ts. after_size a ts))
 
+  -- takes an initialiser
   unfoldable pub valued_of : Tokens → Out Shape
   valued_of ts =
       and_then (expect mark.Assign ts) (λ _ ts.
       and_then (conditional_of nested ts) (λ e ts. Ok ((sizes.Scalar, e ∷ []), ts)))
 
+  -- takes what stands behind the name of a global
   unfoldable pub shape_of : Tokens → Out Shape
   shape_of ts =
       if is_next mark.Assign ts then valued_of ts
       else if is_next mark.LeftBracket ts then array_of ts
       else Ok ((sizes.Scalar, []), ts)
 
+  -- takes one global
   unfoldable pub global_of : Kind → Tokens → Out Top
   global_of k ts = and_then (name_of ts) (λ n ts. and_then (shape_of ts)
       (λ s ts. Ok (global n.0 k n.1 s, ts)))
@@ -93,28 +107,35 @@ module _ (nested : Nested) where
   unfoldable pub globals_of : Kind → ℕ → List ℕ → Tokens → Out (List Top)
   globals_of k l w ts = and_then (shape_of ts) (λ s ts. more_globals_of k (global l k w s) ts)
 
+  -- takes the brackets of an array parameter
   unfoldable pub some_brackets_of : Tokens → Out ArraySize
   some_brackets_of ts = and_then (expect mark.LeftBracket ts) (λ _ ts. size_of ts)
 
+  -- takes brackets, which may be left out
   unfoldable pub brackets_of : Tokens → Out ArraySize
   brackets_of ts = if is_next mark.LeftBracket ts then some_brackets_of ts else Ok
       (sizes.Scalar, ts)
 
+  -- takes a parameter
   unfoldable pub param_of : Tokens → Out Param
   param_of ts =
       and_then (type_of ts) (λ k ts.
       and_then (label_of k.0 ts) (λ n ts.
       and_then (brackets_of ts) (λ a ts. Ok (parameter n k.1 a, ts))))
 
+  -- takes the end of no parameters
   unfoldable pub no_params_of : Tokens → Out (List Param)
   no_params_of ts = and_then (expect mark.RightParen ts) (λ _ ts. Ok ([], ts))
 
+  -- takes `void` as no parameters
   unfoldable pub void_params_of : Tokens → Out (List Param)
-  void_params_of ts = and_then (expect_word key.Void ts) (λ _ ts. no_params_of ts)
+  void_params_of ts = and_then (expect_keyword key.Void ts) (λ _ ts. no_params_of ts)
 
+  -- takes parameters, one at least
   unfoldable pub param_list_of : Tokens → Out (List Param)
   param_list_of ts = listed mark.RightParen false param_of (suc (length ts)) ts
 
+  -- takes parameters
   unfoldable pub params_of : Tokens → Out (List Param)
   params_of ts =
       if is_next mark.RightParen ts then no_params_of ts
@@ -122,13 +143,16 @@ module _ (nested : Nested) where
       else param_list_of ts
 
   module _ (body : Body) where
+    -- takes the body of a function
     unfoldable pub defined_of : Option Kind → ℕ → List ℕ → List Param → Tokens → Out Top
     defined_of r l w ps ts = and_then (body ts) (λ b ts. Ok (function l r w ps (Some b), ts))
 
+    -- takes the end of a prototype
     unfoldable pub declared_of : Option Kind → ℕ → List ℕ → List Param → Tokens → Out Top
     declared_of r l w ps ts = and_then (expect mark.Semicolon ts)
         (λ _ ts. Ok (function l r w ps None, ts))
 
+    -- takes what stands behind the parameters of a function
     unfoldable pub rest_of : Option Kind → ℕ → List ℕ → List Param → Tokens → Out Top
     rest_of r l w ps ts = if is_next mark.LeftBrace ts then defined_of r l w ps ts else declared_of
         r l w ps ts
@@ -140,19 +164,23 @@ module _ (nested : Nested) where
         and_then (params_of ts) (λ ps ts.
         and_then (rest_of r l w ps ts) (λ x ts. Ok (x ∷ [], ts))))
 
+    -- takes what stands behind a type and a name
     unfoldable pub after_name : Kind → ℕ → List ℕ → Tokens → Out (List Top)
     after_name k l w ts = if is_next mark.LeftParen ts then func_of
         (Some k) l w ts else globals_of k l w ts
 
+    -- takes a function of no value
     unfoldable pub void_item_of : Tokens → Out (List Top)
     void_item_of ts =
-        and_then (expect_word key.Void ts)
+        and_then (expect_keyword key.Void ts)
         (λ _ ts. and_then (name_of ts) (λ n ts. func_of None n.0 n.1 ts))
 
+    -- takes a function with a value, or globals
     unfoldable pub typed_item_of : Tokens → Out (List Top)
     typed_item_of ts = and_then (type_of ts)
         (λ k ts. and_then (name_of ts) (λ n ts. after_name k.1 n.0 n.1 ts))
 
+    -- takes an item
     unfoldable pub item_of : Tokens → Out (List Top)
     item_of ts =
         if first is_include ts then include_of ts

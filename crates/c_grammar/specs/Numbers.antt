@@ -7,6 +7,7 @@ use Rattle.c_tree.specs.declared.token.Mark.TheVariants as mark
 use Rattle.c_tree.specs.declared.token.Key.{Key}
 use Rattle.c_tree.specs.declared.token.Key.TheVariants as key
 
+-- each mark has its number
 abbrev pub mark_number : Mark → ℕ
 mark_number mark.LeftParen = 0
 mark_number mark.RightParen = 1
@@ -52,6 +53,7 @@ mark_number mark.OrAssign = 40
 mark_number mark.PlusPlus = 41
 mark_number mark.MinusMinus = 42
 
+-- each keyword has its number
 abbrev pub key_number : Key → ℕ
 key_number key.Auto = 0
 key_number key.Break = 1
@@ -98,10 +100,12 @@ key_number key.Noreturn = 41
 key_number key.StaticAssert = 42
 key_number key.ThreadLocal = 43
 
+-- is it the mark?
 abbrev pub is_mark : Mark → Form → Bool
 is_mark k (form.Mark m) = nat_eq (mark_number k) (mark_number m)
 is_mark k _ = false
 
+-- is it the keyword?
 abbrev pub is_key : Key → Form → Bool
 is_key k (form.Key m) = nat_eq (key_number k) (key_number m)
 is_key k _ = false

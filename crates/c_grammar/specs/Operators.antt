@@ -16,6 +16,7 @@ use Rattle.c_tree.specs.declared.tree.ExprNode.TheVariants as node
 abbrev pub unary_level : ℕ
 unary_level = 2
 
+-- the level of casts, the tightest that operators join
 abbrev pub cast_level : ℕ
 cast_level = 3
 
@@ -24,15 +25,19 @@ abbrev pub binary_level : ℕ → ℕ
 binary_level zero = cast_level
 binary_level (suc n) = suc (binary_level n)
 
+-- the level of choices
 abbrev pub conditional : ℕ
 conditional = 14
 
+-- the level of assignments
 abbrev pub assignment : ℕ
 assignment = 15
 
+-- the level of commas, the loosest
 abbrev pub expression : ℕ
 expression = 16
 
+-- the expression of a line and a node
 abbrev pub at : ℕ → ExprNode → Expr
 at l n = record { line = l; node = n }
 
@@ -41,6 +46,7 @@ pub data Joiner : Type 0 where
   op : BinaryOp → Joiner
   comma : Joiner
 
+-- the mark of an operator
 abbrev pub joiner_mark : Joiner → Mark
 joiner_mark (op binary.Multiply) = mark.Star
 joiner_mark (op binary.Divide) = mark.Slash
@@ -84,6 +90,7 @@ below (op binary.LogicalAnd) = 11
 below (op binary.LogicalOr) = 12
 below comma = 15
 
+-- two expressions joined by an operator
 abbrev pub joined : Joiner → Expr → Expr → Expr
 joined (op o) a b = at a.line (node.Binary o a b)
 joined comma a b = at a.line (node.Comma a b)
@@ -94,6 +101,7 @@ pub data Prefix : Type 0 where
   increase : Prefix
   decrease : Prefix
 
+-- the mark of a prefix
 abbrev pub prefix_mark : Prefix → Mark
 prefix_mark (sign unary.Plus) = mark.Plus
 prefix_mark (sign unary.Minus) = mark.Minus
@@ -108,6 +116,7 @@ operand_level (sign o) = cast_level
 operand_level increase = unary_level
 operand_level decrease = unary_level
 
+-- an expression behind a prefix of that line
 abbrev pub prefixed : ℕ → Prefix → Expr → Expr
 prefixed l (sign o) e = at l (node.Unary o e)
 prefixed l increase e = at l (node.Bump bump.PreInc e)
@@ -118,10 +127,12 @@ pub data Suffix : Type 0 where
   increased : Suffix
   decreased : Suffix
 
+-- the mark of a suffix
 abbrev pub suffix_mark : Suffix → Mark
 suffix_mark increased = mark.PlusPlus
 suffix_mark decreased = mark.MinusMinus
 
+-- an expression before a suffix
 abbrev pub suffixed : Suffix → Expr → Expr
 suffixed increased e = at e.line (node.Bump bump.PostInc e)
 suffixed decreased e = at e.line (node.Bump bump.PostDec e)
@@ -140,6 +151,7 @@ pub data Assigner : Type 0 where
   xor : Assigner
   or : Assigner
 
+-- the mark of an assignment operator
 abbrev pub assigner_mark : Assigner → Mark
 assigner_mark simple = mark.Assign
 assigner_mark times = mark.StarAssign
@@ -153,6 +165,7 @@ assigner_mark and = mark.AndAssign
 assigner_mark xor = mark.XorAssign
 assigner_mark or = mark.OrAssign
 
+-- the operation that an assignment operator does first
 abbrev pub assigner_op : Assigner → Option BinaryOp
 assigner_op simple = None
 assigner_op times = Some binary.Multiply

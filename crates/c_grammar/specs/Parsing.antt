@@ -14,23 +14,29 @@ pub record Stop : Type 0 where
   pub deep : Bool
   pub rest : Tokens
 
+-- what a part of the parser gives: a value and the tokens behind it, or where it stops
 abbrev pub Out : Type 0 → Type 0
 Out A = Result (A × Tokens) Stop
 
+-- one part and then another
 abbrev pub and_then : {A B : Type 0} → Out A → (A → Tokens → Out B) → Out B
 and_then (Ok p) f = f p.0 p.1
 and_then (Err s) f = Err s
 
+-- a stop at a token that does not go on
 abbrev pub syntax : {A : Type 0} → Tokens → Out A
 syntax ts = Err (record { deep = false; rest = ts })
 
+-- a stop at an opener that is too deep
 abbrev pub too_deep : {A : Type 0} → Tokens → Out A
 too_deep ts = Err (record { deep = true; rest = ts })
 
+-- one of two values, by whether there is one
 abbrev pub by_option : {A B : Type 0} → Option A → B → (A → B) → B
 by_option None x f = x
 by_option (Some a) x f = f a
 
+-- the tokens behind the first one
 abbrev pub tail : Tokens → Tokens
 tail [] = []
 tail (t ∷ ts) = ts
@@ -45,9 +51,11 @@ abbrev pub first : (Form → Bool) → Tokens → Bool
 first p [] = false
 first p (t ∷ ts) = p t.form
 
+-- does the mark come next?
 abbrev pub is_next : Mark → Tokens → Bool
 is_next k ts = first (is_mark k) ts
 
+-- does the keyword come next?
 abbrev pub is_word : Key → Tokens → Bool
 is_word k ts = first (is_key k) ts
 
@@ -55,14 +63,16 @@ is_word k ts = first (is_key k) ts
 abbrev pub expect : Mark → Tokens → Out ℕ
 expect k ts = if is_next k ts then Ok (line_of ts, tail ts) else syntax ts
 
-abbrev pub expect_word : Key → Tokens → Out ℕ
-expect_word k ts = if is_word k ts then Ok (line_of ts, tail ts) else syntax ts
+-- takes a keyword, and gives its line
+abbrev pub expect_keyword : Key → Tokens → Out ℕ
+expect_keyword k ts = if is_word k ts then Ok (line_of ts, tail ts) else syntax ts
 
 -- the line and the word of a name
 abbrev pub name_by : ℕ → Form → Tokens → Out (ℕ × List ℕ)
 name_by l (form.Name w) ts = Ok ((l, w), tail ts)
 name_by l _ ts = syntax ts
 
+-- takes a name, and gives its line
 abbrev pub name_of : Tokens → Out (ℕ × List ℕ)
 name_of [] = syntax []
 name_of (t ∷ ts) = name_by t.line t.form (t ∷ ts)
@@ -96,6 +106,7 @@ many k item (suc n) ts =
     if is_next k ts then Ok ([], tail ts)
     else and_then (item ts) (λ xs ts. and_then (many k item n ts) (λ ys ts. Ok (xs ++ ys, ts)))
 
+-- is no token left?
 abbrev pub is_end : Tokens → Bool
 is_end [] = true
 is_end (t ∷ ts) = false

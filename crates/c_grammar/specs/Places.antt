@@ -10,6 +10,7 @@ abbrev pub Rel : Type 0 → Type 1
 Rel X = May → X → Tokens → Tokens → Type 0
 
 module _ {X : Type 0} (R : Rel X) where
+  -- all tokens spell the tree, and none opens a depth beyond m
   abbrev pub Spelled : ℕ → X → Tokens → Type 0
   Spelled m x tokens = R (within m) x tokens []
 
@@ -61,6 +62,7 @@ settle_stop true [] = record { deep = true; rest = [] }
 settle_stop true (t ∷ u ∷ rest) = record { deep = true; rest = t ∷ u ∷ rest }
 settle_stop false rest = record { deep = false; rest = rest }
 
+-- the same of an outcome
 abbrev pub settle : {A : Type 0} → Out A → Out A
 settle (Ok p) = Ok p
 settle (Err s) = Err (settle_stop s.deep s.rest)

@@ -18,6 +18,7 @@ use Rattle.c_grammar.specs.Types.{Types}
 use Rattle.c_grammar.specs.Operators.{conditional, assignment, expression}
 use Rattle.c_grammar.specs.Expressions.{Spells, expr}
 
+-- the statement of a line and a node
 abbrev pub at : ℕ → StmtNode → Stmt
 at l n = record { line = l; node = n }
 
@@ -25,6 +26,7 @@ at l n = record { line = l; node = n }
 abbrev pub Shape : Type 0
 Shape = ArraySize × Option Expr
 
+-- the declaration of a name
 abbrev pub declared : ℕ → Kind → List ℕ → Shape → Stmt
 declared l k w s = at l (node.Declare k w s.0 s.1)
 
@@ -33,10 +35,12 @@ pub data Closer : Type 0 where
   semicolon : Closer
   paren : Closer
 
+-- the mark that ends an expression
 abbrev pub closer_mark : Closer → Mark
 closer_mark semicolon = mark.Semicolon
 closer_mark paren = mark.RightParen
 
+-- an expression that may be left out, as what begins a `for`
 abbrev pub for_init : Option Expr → ForInit
 for_init None = first.Nothing
 for_init (Some e) = first.First e

@@ -6,18 +6,23 @@ use Rattle.c_tree.specs.declared.token.Form.TheVariants as form
 use Rattle.c_tree.specs.declared.token.Mark.{Mark}
 use Rattle.c_tree.specs.declared.token.Key.{Key}
 
+-- what the lexer gives
 abbrev pub Tokens : Type 0
 Tokens = List Lexeme
 
+-- the token of a line and a form
 abbrev pub token : ℕ → Form → Lexeme
 token l f = record { line = l; form = f }
 
+-- a mark as a token
 abbrev pub punct : ℕ → Mark → Lexeme
 punct l m = token l (form.Mark m)
 
+-- a keyword as a token
 abbrev pub word : ℕ → Key → Lexeme
 word l k = token l (form.Key k)
 
+-- a name as a token
 abbrev pub named : ℕ → List ℕ → Lexeme
 named l w = token l (form.Name w)
 
@@ -37,5 +42,6 @@ before m tail = λ q d. nat_le (length q) (length tail) || nat_le d m
 abbrev pub late : ℕ → Tokens → May
 late m rest = λ q d. nat_le (length q) (suc (length rest)) || nat_le d m
 
+-- any token may open any depth
 abbrev pub any_depth : May
 any_depth = λ q d. true

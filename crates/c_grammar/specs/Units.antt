@@ -20,6 +20,7 @@ use Rattle.c_grammar.specs.Expressions.{Spells, expr}
 use Rattle.c_grammar.specs.Statements as s
 use Rattle.c_grammar.specs.Statements.{Writes, entries}
 
+-- the item of a line and a node
 abbrev pub at : ℕ → TopNode → Top
 at l n = record { line = l; node = n }
 
@@ -27,9 +28,11 @@ at l n = record { line = l; node = n }
 abbrev pub Shape : Type 0
 Shape = ArraySize × List Expr
 
+-- a global
 abbrev pub global : ℕ → Kind → List ℕ → Shape → Top
 global l k w s = at l (tops.Global k w s.0 s.1)
 
+-- a prototype or a definition
 abbrev pub function : ℕ → Option Kind → List ℕ → List Param → Option Stmt → Top
 function l r w ps b = at l (tops.Func r w ps b)
 
@@ -37,9 +40,11 @@ function l r w ps b = at l (tops.Func r w ps b)
 abbrev pub Label : Type 0
 Label = ℕ × Option (List ℕ)
 
+-- a parameter
 abbrev pub parameter : Label → Kind → ArraySize → Param
 parameter n k a = record { line = n.0; kind = k; name = n.1; size = a }
 
+-- what a part of a unit spells
 pub data Phrase : Type 0 where
   -- a size or none, up to the bracket
   size : ArraySize → Phrase

@@ -1,5 +1,5 @@
 -- What the lexer answers.
-use Rattle.std.specs.Prelude.{◌≡◌, ◌≤◌, ℕ, length}
+use Rattle.std.specs.Prelude.{◌≡◌, ◌≤◌, ◌⊎◌, ℕ, length}
 use Rattle.c_lex.specs.declared.fault.LexFault.{LexFault}
 use Rattle.c_lex.specs.declared.fault.LexFault.TheVariants as fault
 use Rattle.c_lex.specs.Bytes.{Bytes}
@@ -28,6 +28,7 @@ Fails most text (fault.TooManyTokens line) = FaultAt most text TooManyTokens lin
 Fails most text (fault.Directive line) = FaultAt most text Directive line
 Fails most text fault.Memory = Unit {0}
 
+-- the error is want of memory
 abbrev pub IsMemory : LexFault → Type 0
 IsMemory fault.Memory = Unit {0}
 IsMemory _ = ⊥
@@ -36,3 +37,12 @@ IsMemory _ = ⊥
 abbrev pub Tells : Fault → ℕ → LexFault → Type 0
 Tells f line fault.Memory = Unit {0}
 Tells f line e = Says e f line
+
+-- the text has tokens, few enough, or a fault
+abbrev pub Answered : ℕ → Bytes → Type 0
+Answered most text =
+    ((ts : Tokens) × Lexed most text ts) ⊎ ((fault : Fault) × (line : ℕ) × FaultAt most text fault line)
+
+-- every text has tokens, few enough, or a fault
+abbrev pub EveryTextAnswers : ℕ → Type 0
+EveryTextAnswers most = (text : Bytes) → Answered most text

@@ -3,3 +3,4 @@ pub mod Turns
 pub mod Nested
 pub mod Lists
 pub mod Answered
+pub mod Only

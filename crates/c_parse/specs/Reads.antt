@@ -23,11 +23,13 @@ use Rattle.c_parse.specs.declared.primary.Before.TheVariants as befores
 use Rattle.c_parse.specs.declared.fault.Stopped.{Stopped}
 use Rattle.c_parse.specs.declared.fault.Stopped.TheVariants.{Syntax, TooDeep, Memory}
 
+-- the method stops where the model does, unless memory runs out
 abbrev pub Fails : {A : Type 0} → Out A → Stopped → Tokens → Type 0
 Fails out Syntax new = out ≡ syntax new
 Fails out TooDeep new = out ≡ too_deep new
 Fails out Memory new = Unit {0}
 
+-- the method gives what the model does, and leaves the same tokens
 abbrev pub Reads : {A : Type 0} → Out A → Result A Stopped → Tokens → Type 0
 Reads out (Ok a) new = out ≡ Ok (a, new)
 Reads out (Err e) new = Fails out e new
@@ -49,6 +51,7 @@ Enters k left old (Ok l) new =
     (left ≡ suc l) × (inside left ≡ opened l) × (enter k (inside left) old ≡ Ok (line_of old, new))
 Enters k left old (Err e) new = Fails (enter k (inside left) old) e new
 
+-- the operator of a joiner that is no comma
 abbrev pub operator_of : Option Joiner → Option BinaryOp
 operator_of None = None
 operator_of (Some comma) = None
@@ -103,6 +106,7 @@ joins_by (form.Mark mark.AndAnd) = Some (8, binary.LogicalAnd)
 joins_by (form.Mark mark.OrOr) = Some (9, binary.LogicalOr)
 joins_by _ = None
 
+-- the operator, where it joins at this level
 abbrev pub of_level : ℕ → Option (ℕ × BinaryOp) → Option BinaryOp
 of_level n None = None
 of_level n (Some p) = if nat_eq p.0 n then Some (p.1) else None

@@ -82,7 +82,7 @@ impl Parser<'_> {
             return Ok(Items::new(self.alloc));
         }
         if self.is_word(Key::Void) {
-            self.expect_word(Key::Void)?;
+            self.expect_keyword(Key::Void)?;
             self.expect(Mark::RightParen)?;
             return Ok(Items::new(self.alloc));
         }
@@ -207,7 +207,7 @@ impl Parser<'_> {
             (compound_of (inside left) (below_at left)) self.old.rest.now) result
             self.new.rest.now }
     {
-        self.expect_word(Key::Void)?;
+        self.expect_keyword(Key::Void)?;
         let (line, name) = self.name()?;
         self.function(outer, left, None, line, name)
     }

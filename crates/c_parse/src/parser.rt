@@ -87,8 +87,8 @@ impl Parser<'_> {
         }
     }
 
-    pub fn expect_word(&mut self, key: Key) -> Result<u32, Stopped>
-        ensures { Reads (model.expect_word key self.old.rest.now) result self.new.rest.now }
+    pub fn expect_keyword(&mut self, key: Key) -> Result<u32, Stopped>
+        ensures { Reads (model.expect_keyword key self.old.rest.now) result self.new.rest.now }
     {
         if self.is_word(key) {
             let line = self.line();

@@ -157,7 +157,7 @@ impl Parser<'_> {
         ensures { Reads (model.else_of (inside left) (model.below_at left) line test yes
             self.old.rest.now) result self.new.rest.now }
     {
-        self.expect_word(Key::Else)?;
+        self.expect_keyword(Key::Else)?;
         let no = self.branch(left)?;
         Ok(build::if_else(line, test, yes, no))
     }
@@ -186,7 +186,7 @@ impl Parser<'_> {
         ensures { Reads (model.if_of (inside left) (model.below_at left) self.old.rest.now) result
             self.new.rest.now }
     {
-        let line = self.expect_word(Key::If)?;
+        let line = self.expect_keyword(Key::If)?;
         let test = self.test(left)?;
         let yes = self.branch(left)?;
         self.after_if(left, line, test, yes)
@@ -198,7 +198,7 @@ impl Parser<'_> {
         ensures { Reads (model.while_of (inside left) (model.below_at left) self.old.rest.now)
             result self.new.rest.now }
     {
-        let line = self.expect_word(Key::While)?;
+        let line = self.expect_keyword(Key::While)?;
         let test = self.test(left)?;
         let body = self.branch(left)?;
         Ok(build::while_loop(line, test, body))
@@ -210,9 +210,9 @@ impl Parser<'_> {
         ensures { Reads (model.do_of (inside left) (model.below_at left) self.old.rest.now) result
             self.new.rest.now }
     {
-        let line = self.expect_word(Key::Do)?;
+        let line = self.expect_keyword(Key::Do)?;
         let body = self.branch(left)?;
-        self.expect_word(Key::While)?;
+        self.expect_keyword(Key::While)?;
         let test = self.test(left)?;
         self.expect(Mark::Semicolon)?;
         Ok(build::do_loop(line, body, test))
@@ -224,7 +224,7 @@ impl Parser<'_> {
         ensures { Reads (model.for_of (inside left) (model.below_at left) self.old.rest.now) result
             self.new.rest.now }
     {
-        let line = self.expect_word(Key::For)?;
+        let line = self.expect_keyword(Key::For)?;
         self.expect(Mark::LeftParen)?;
         let init = Held::new(self.init(left)?);
         let test = Held::new(self.until_semicolon(left)?);
@@ -238,7 +238,7 @@ impl Parser<'_> {
         ensures { Reads (model.leave_of (inside left) (model.below_at left) keys.Break nodes.Break
             self.old.rest.now) result self.new.rest.now }
     {
-        let line = self.expect_word(Key::Break)?;
+        let line = self.expect_keyword(Key::Break)?;
         self.expect(Mark::Semicolon)?;
         let _unused = left;
         Ok(Stmt {
@@ -252,7 +252,7 @@ impl Parser<'_> {
         ensures { Reads (model.leave_of (inside left) (model.below_at left) keys.Continue
             nodes.Continue self.old.rest.now) result self.new.rest.now }
     {
-        let line = self.expect_word(Key::Continue)?;
+        let line = self.expect_keyword(Key::Continue)?;
         self.expect(Mark::Semicolon)?;
         let _unused = left;
         Ok(Stmt {
@@ -266,7 +266,7 @@ impl Parser<'_> {
         ensures { Reads (model.return_of (inside left) (model.below_at left) self.old.rest.now)
             result self.new.rest.now }
     {
-        let line = self.expect_word(Key::Return)?;
+        let line = self.expect_keyword(Key::Return)?;
         let value = self.until_semicolon(left)?;
         Ok(Stmt {
             line,

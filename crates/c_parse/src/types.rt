@@ -15,7 +15,7 @@ impl Parser<'_> {
         ensures { Reads (model.int_of line kind self.old.rest.now) result self.new.rest.now }
     {
         if self.is_word(Key::Int) {
-            self.expect_word(Key::Int)?;
+            self.expect_keyword(Key::Int)?;
         }
         Ok((line, kind))
     }
@@ -24,7 +24,7 @@ impl Parser<'_> {
     fn char(&mut self, line: u32, kind: Kind) -> Result<(u32, Kind), Stopped>
         ensures { Reads (model.char_of line kind self.old.rest.now) result self.new.rest.now }
     {
-        self.expect_word(Key::Char)?;
+        self.expect_keyword(Key::Char)?;
         Ok((line, kind))
     }
 
@@ -32,7 +32,7 @@ impl Parser<'_> {
     fn long(&mut self, line: u32, kind: Kind) -> Result<(u32, Kind), Stopped>
         ensures { Reads (model.long_of line kind self.old.rest.now) result self.new.rest.now }
     {
-        self.expect_word(Key::Long)?;
+        self.expect_keyword(Key::Long)?;
         self.int(line, kind)
     }
 
@@ -61,7 +61,7 @@ impl Parser<'_> {
     fn signed(&mut self) -> Result<(u32, Kind), Stopped>
         ensures { Reads (model.signed_of self.old.rest.now) result self.new.rest.now }
     {
-        let line = self.expect_word(Key::Signed)?;
+        let line = self.expect_keyword(Key::Signed)?;
         self.sized(line, Kind::Char, Kind::Int, Kind::Long)
     }
 
@@ -69,7 +69,7 @@ impl Parser<'_> {
     fn unsigned(&mut self) -> Result<(u32, Kind), Stopped>
         ensures { Reads (model.unsigned_of self.old.rest.now) result self.new.rest.now }
     {
-        let line = self.expect_word(Key::Unsigned)?;
+        let line = self.expect_keyword(Key::Unsigned)?;
         self.sized(line, Kind::UChar, Kind::UInt, Kind::ULong)
     }
 
@@ -77,7 +77,7 @@ impl Parser<'_> {
     fn plain(&mut self, key: Key, kind: Kind) -> Result<(u32, Kind), Stopped>
         ensures { Reads (model.plain_of key kind self.old.rest.now) result self.new.rest.now }
     {
-        let line = self.expect_word(key)?;
+        let line = self.expect_keyword(key)?;
         Ok((line, kind))
     }
 
@@ -85,7 +85,7 @@ impl Parser<'_> {
     fn longs(&mut self) -> Result<(u32, Kind), Stopped>
         ensures { Reads (model.longs_of self.old.rest.now) result self.new.rest.now }
     {
-        let line = self.expect_word(Key::Long)?;
+        let line = self.expect_keyword(Key::Long)?;
         self.int(line, Kind::Long)
     }
 

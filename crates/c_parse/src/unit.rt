@@ -1,9 +1,12 @@
 //! The public call.
 
-ghost use Rattle.std.specs.Prelude.{◌≡◌, ◌<◌, ℕ, Err, IfOk, [], length};
+ghost use Rattle.std.specs.Prelude.{◌≡◌, ◌<◌, ℕ, Err, IfOk, MatchResult, List, [], length};
+ghost use Rattle.c_tree.specs.declared.tree.Top.{Top};
 ghost use Rattle.c_grammar.specs.Answers.{IsUnit, HasSyntaxFault, IsTooDeep};
 ghost use Rattle.c_grammar.specs.Answers as grammar;
 ghost use Rattle.c_parse.specs.Parses as parses;
+ghost use Rattle.c_parse.specs.Parses.{HasFault, IsMemory, Tells};
+ghost use Rattle.c_parse.specs.declared.unit.ParseFault.{ParseFault};
 ghost use Rattle.c_parse.specs.declared.unit.ParseFault.TheVariants as faults;
 
 use crate::fault::Stopped;
@@ -36,6 +39,10 @@ pub fn parse(alloc: Global, tokens: &[Lexeme]) -> Result<Program, ParseFault>
     ensures syntax { (line : ℕ) → result ≡ Err (faults.Syntax line)
         → HasSyntaxFault tokens.now line }
     ensures too_deep { (line : ℕ) → result ≡ Err (faults.TooDeep line) → IsTooDeep tokens.now line }
+    ensures only_ok { (xs : List Top) → IsUnit tokens.now xs
+        → MatchResult result (λ program. program.items ≡ xs) IsMemory }
+    ensures only_err { (fault : ParseFault) → HasFault tokens.now fault
+        → MatchResult result (λ _. ⊥) (Tells fault) }
 {
     let mut parser = Parser {
         alloc,

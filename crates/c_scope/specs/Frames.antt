@@ -5,6 +5,7 @@ use Rattle.std.specs.HashMap.{HashMap, get}
 use Rattle.c_scope.specs.declared.meaning.Entry.{Entry}
 use Rattle.c_scope.specs.Scope.{Scope, Frame, same_name}
 
+-- the bindings of entries
 abbrev pub bindings : List Entry → Frame
 bindings = map (λ e. e.binding)
 
@@ -13,10 +14,12 @@ abbrev pub frames : List ℕ → List Entry → Scope
 frames [] es = bindings es ∷ []
 frames (s ∷ ss) es = bindings (take (length es - s) es) ∷ frames ss (drop (length es - s) es)
 
+-- where the innermost block begins
 abbrev pub first_start : List ℕ → ℕ
 first_start [] = 0
 first_start (s ∷ ss) = s
 
+-- each block begins no later than the next inner one, and none behind the entries
 abbrev pub StartsFit : List ℕ → ℕ → Type 0
 StartsFit [] n = Unit {0}
 StartsFit (s ∷ ss) n = (s ≤ n) × StartsFit ss s

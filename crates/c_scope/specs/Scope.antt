@@ -5,6 +5,7 @@ use Rattle.std.specs.Cmp.Lexicographic.{pointwise}
 use Rattle.c_scope.specs.declared.meaning.Meaning.{Meaning}
 use Rattle.c_scope.specs.declared.meaning.Binding.{Binding}
 
+-- are the names the same, byte by byte?
 abbrev pub same_name : List ℕ → List ℕ → Bool
 same_name = pointwise nat_eq
 
@@ -16,10 +17,12 @@ Frame = List Binding
 abbrev pub Scope : Type 0
 Scope = List Frame
 
+-- the first meaning, or else the second
 abbrev pub or_else : Option Meaning → Option Meaning → Option Meaning
 or_else None n = n
 or_else (Some m) n = Some m
 
+-- what a name means in one block
 abbrev pub find : Frame → List ℕ → Option Meaning
 find [] w = None
 find (b ∷ f) w = cond (same_name b.name w) (Some b.meaning) (find f w)
@@ -34,17 +37,21 @@ abbrev pub is_here : Scope → List ℕ → Bool
 is_here [] w = false
 is_here (f ∷ G) w = is_some (find f w)
 
+-- the scope with one block more
 abbrev pub opened : Scope → Scope
 opened G = [] ∷ G
 
+-- the scope without its innermost block; the outermost one stays
 abbrev pub closed : Scope → Scope
 closed [] = []
 closed (f ∷ []) = f ∷ []
 closed (f ∷ g ∷ G) = g ∷ G
 
+-- the scope with one more binding in its innermost block
 abbrev pub declared_in : Binding → Scope → Scope
 declared_in b [] = (b ∷ []) ∷ []
 declared_in b (f ∷ G) = (b ∷ f) ∷ G
 
+-- a name with its meaning
 abbrev pub bound : List ℕ → Meaning → Binding
 bound w m = record { name = w; meaning = m }

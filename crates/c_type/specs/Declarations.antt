@@ -28,6 +28,7 @@ is_end _ = false
 abbrev pub is_taken : Scope → List ℕ → Bool
 is_taken G w = is_here G w || is_end (look_up G w)
 
+-- a name that may not be declared there
 abbrev pub twice_fault : Scope → List ℕ → ℕ → Blame
 twice_fault G w l = unless (not (is_taken G w)) (Twice l)
 
@@ -56,16 +57,19 @@ abbrev pub sized_fault : Expr → Kind → List ℕ → Option Expr → ℕ → 
 sized_fault e k w init l G =
     first (first (size_fault e G) (array_fault (word_in (length_of e)) k w l G)) (no_init init l)
 
+-- a declaration's first fault: the size, the declarator, then the initialiser
 abbrev pub declare_fault : ArraySize → Kind → List ℕ → Option Expr → ℕ → State → Blame
 declare_fault size.Scalar k w init l v = scalar_init_fault k w init l v
 declare_fault size.Open k w init l v = Some (Mismatch l)
 declare_fault (size.Sized e) k w init l v = sized_fault e k w init l v.names
 
+-- the state after a declaration
 abbrev pub declared : ArraySize → Kind → List ℕ → State → State
 declared size.Scalar k w v = with_scalar k w v
 declared size.Open k w v = v
 declared (size.Sized e) k w v = with_array k w (word_in (length_of e)) v
 
+-- the typed declaration
 abbrev pub declare_tree : ArraySize → Kind → List ℕ → Option Expr → State → TypedStmt
 declare_tree size.Scalar k w init v =
     typed.Declare (place.Scalar (length v.scalars)) (value_of init k (with_scalar k w v).names)

@@ -1,5 +1,5 @@
 -- Functions (C17 6.7.6.3, 6.9.1): parameters, prototypes and definitions.
-use Rattle.std.specs.Prelude.{ℕ, Bool, true, false, cond, not, ◌||◌, is_some, nat_lt, length, List, [], ◌∷◌, ◌++◌, map, Option, Some, None}
+use Rattle.std.specs.Prelude.{ℕ, Bool, true, false, not, ◌||◌, nat_lt, length, List, [], ◌∷◌, ◌++◌, map, Option, Some, None}
 use Rattle.c_tree.specs.declared.token.Kind.{Kind}
 use Rattle.c_tree.specs.declared.tree.ArraySize.{ArraySize}
 use Rattle.c_tree.specs.declared.tree.ArraySize.TheVariants as size
@@ -16,7 +16,7 @@ use Rattle.c_tree.specs.declared.typed.TypedGlobal.{TypedGlobal}
 use Rattle.c_tree.specs.declared.typed.TypedStmt.TheVariants as typed
 use Rattle.c_scope.specs.declared.meaning.Meaning.{Meaning}
 use Rattle.c_scope.specs.declared.meaning.Meaning.TheVariants as meaning
-use Rattle.c_scope.specs.Scope.{Scope, look_up, same_name, opened, closed, declared_in, bound}
+use Rattle.c_scope.specs.Scope.{Scope, look_up, same_name, opened, closed}
 use Rattle.c_type_expr.specs.declared.fault.TypeFault.TheVariants.{Twice, Mismatch, TooManyParams}
 use Rattle.c_type_expr.specs.Roles.{Blame, first, unless}
 use Rattle.c_type.specs.declared.file_scope.FileScope.{FileScope}
@@ -25,20 +25,25 @@ use Rattle.c_type.specs.States.{with_scalar, with_address}
 use Rattle.c_type.specs.Declarations.{is_end}
 use Rattle.c_type.specs.Statements.{Part, part, all_after, all_fault, all_trees}
 use Rattle.c_type.specs.Units.{function_fault}
+use Rattle.c_type.specs.Signatures.{function_names, prototype_names}
 
 -- PARAMETERS
 
+-- a parameter takes a word, or the address of an array
 abbrev pub slot_for : ArraySize → Kind → Slot
 slot_for size.Scalar k = slot.Scalar k
 slot_for _ k = slot.Address k
 
+-- the same of a parameter
 abbrev pub slot_of : Param → Slot
 slot_of p = slot_for p.size p.kind
 
+-- is it the name?
 abbrev pub is_named : Option (List ℕ) → List ℕ → Bool
 is_named None w = false
 is_named (Some v) w = same_name v w
 
+-- does one of the parameters have the name?
 abbrev pub named_among : List Param → List ℕ → Bool
 named_among [] w = false
 named_among (p ∷ ps) w = is_named p.name w || named_among ps w
@@ -55,6 +60,7 @@ param_fault is_def G seen p =
     first (name_fault is_def G seen p.name p.line)
     (unless (nat_lt (length seen) 8) (TooManyParams p.line))
 
+-- the first fault of parameters after others
 abbrev pub params_fault : Bool → Scope → List Param → List Param → Blame
 params_fault is_def G seen [] = None
 params_fault is_def G seen (p ∷ ps) =
@@ -66,27 +72,30 @@ named_param None s k v = v
 named_param (Some w) size.Scalar k v = with_scalar k w v
 named_param (Some w) _ k v = with_address k w v
 
+-- the state with all parameters
 abbrev pub with_params : List Param → State → State
 with_params [] v = v
 with_params (p ∷ ps) v = with_params ps (named_param p.name p.size p.kind v)
 
 -- SIGNATURES: a call calls the definition that the unit has of the name, wherever it stands
 
+-- what a call of the meaning calls
 abbrev pub callee_in : Option Meaning → Option Callee
 callee_in (Some (meaning.Function result params callee defined)) = callee
 callee_in _ = None
 
+-- a function of this result and these parameters
 abbrev pub signature : Scope → List ℕ → Option Kind → List Slot → Bool → Meaning
 signature T w given slots defined = meaning.Function given slots (callee_in (look_up T w)) defined
 
+-- the names after its declaration
 abbrev pub with_function : Scope → List ℕ → Option Kind → List Slot → Bool → Scope → Scope
 with_function T w given slots defined G =
-    declared_in (bound w (signature T w given slots defined)) G
+    function_names (callee_in (look_up T w)) w given slots defined G
 
 -- a prototype that is repeated declares nothing
 abbrev pub with_prototype : Scope → List ℕ → Option Kind → List Slot → Scope → Scope
-with_prototype T w given slots G =
-    cond (is_some (look_up G w)) G (with_function T w given slots false G)
+with_prototype T w given slots G = prototype_names (callee_in (look_up T w)) w given slots G
 
 -- the parameters are judged before the function itself
 abbrev pub head_fault : Bool → Option Kind → List ℕ → List Param → ℕ → Scope → Blame
@@ -105,17 +114,24 @@ body_in (Compound ss) s = record {
 }
 body_in _ s = part s
 
+-- what the body of a function does
 unfoldable pub body_part : Stmt → Part
 body_part s = body_in (out-StmtNode s.node) s
 
+-- the state before any parameter
 abbrev pub started : Scope → Option Kind → State
 started G given = record { names = opened G; scalars = []; arrays = []; result = given }
 
--- the state in which the body begins
-abbrev pub entry : Scope → List ℕ → Option Kind → List Param → Scope → State
-entry T w given params G =
-    with_params params (started (with_function T w given (map slot_of params) true G) given)
+-- the state in which the body of a function begins, of which a call calls that callee
+abbrev pub body_entry : Option Callee → List ℕ → Option Kind → List Param → Scope → State
+body_entry c w given params G =
+    with_params params (started (function_names c w given (map slot_of params) true G) given)
 
+-- the same of the callee that a table of definitions has
+abbrev pub entry : Scope → List ℕ → Option Kind → List Param → Scope → State
+entry T w given params G = body_entry (callee_in (look_up T w)) w given params G
+
+-- the first fault of a definition: what stands before the body, then the body
 abbrev pub definition_fault : Scope → Option Kind → List ℕ → List Param → Stmt → ℕ → FileScope
     → Blame
 definition_fault T given w params body l U =
@@ -132,6 +148,7 @@ typed_function count body v = record {
   body = (body_part body).tree v;
 }
 
+-- the file scope after a body that began in a state
 abbrev pub file_with : List TypedGlobal → ℕ → List TypedFunc → ℕ → Stmt → State → FileScope
 file_with globals bytes functions count body v = record {
   names = closed ((body_part body).after v).names;
@@ -140,6 +157,7 @@ file_with globals bytes functions count body v = record {
   functions = functions ++ typed_function count body v ∷ [];
 }
 
+-- the file scope after a definition
 abbrev pub with_definition : Scope → Option Kind → List ℕ → List Param → Stmt → FileScope
     → FileScope
 with_definition T given w params body U =

@@ -8,5 +8,6 @@ pub mod Declarations
 pub mod Statements
 pub mod Runs
 pub mod Units
+pub mod Signatures
 pub mod Functions
 pub mod Programs

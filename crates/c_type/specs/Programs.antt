@@ -25,10 +25,12 @@ use Rattle.c_type.specs.Functions.{slot_of, head_fault, with_prototype, definiti
 -- the functions that the unit defines, wherever they stand, by their numbers in the order of the
 -- text; the include stands for definitions of its two
 
+-- how many definitions there are behind an item
 abbrev pub count_after : TopNode → ℕ → ℕ
 count_after (Func given w params (Some body)) n = n + 1
 count_after _ n = n
 
+-- the table after an item
 abbrev pub noted : TopNode → ℕ → Scope → Scope
 noted Include n T =
     declared_in (bound putchar_name put_char) (declared_in (bound getchar_name get_char) T)
@@ -36,57 +38,70 @@ noted (Func given w params (Some body)) n T =
     declared_in (bound w (meaning.Function None [] (Some (callee.Func n)) true)) T
 noted _ n T = T
 
+-- the table after several items
 abbrev pub definitions : List Top → ℕ → Scope → Scope
 definitions [] n T = T
 definitions (t ∷ ts) n T = definitions ts (count_after t.node n) (noted t.node n T)
 
+-- the table of a unit
 abbrev pub table : List Top → Scope
 table ts = definitions ts 0 ([] ∷ [])
 
 -- ITEMS
 
+-- the first fault of a prototype
 abbrev pub prototype_fault : Option Kind → List ℕ → List Param → ℕ → FileScope → Blame
 prototype_fault given w params l U = head_fault false given w params l U.names
 
+-- the file scope after a prototype
 abbrev pub with_prototype_at : Scope → Option Kind → List ℕ → List Param → FileScope → FileScope
 with_prototype_at T given w params U =
     record U { names = with_prototype T w given (map slot_of params) U.names }
 
+-- the first fault of an item of that line
 abbrev pub node_fault : Scope → TopNode → ℕ → FileScope → Blame
 node_fault T Include l U = include_fault U.names l
 node_fault T (Global k w size init) l U = global_fault size k w init l U
 node_fault T (Func given w params None) l U = prototype_fault given w params l U
 node_fault T (Func given w params (Some body)) l U = definition_fault T given w params body l U
 
+-- the file scope after it
 abbrev pub node_after : Scope → TopNode → FileScope → FileScope
 node_after T Include U = record U { names = included U.names }
 node_after T (Global k w size init) U = with_global size k w init U
 node_after T (Func given w params None) U = with_prototype_at T given w params U
 node_after T (Func given w params (Some body)) U = with_definition T given w params body U
 
+-- the first fault of an item
 abbrev pub item_fault : Scope → Top → FileScope → Blame
 item_fault T t U = node_fault T t.node t.line U
 
+-- the file scope after an item
 abbrev pub item_after : Scope → Top → FileScope → FileScope
 item_after T t U = node_after T t.node U
 
+-- the first fault of several items
 abbrev pub items_fault : Scope → List Top → FileScope → Blame
 items_fault T [] U = None
 items_fault T (t ∷ ts) U = first (item_fault T t U) (items_fault T ts (item_after T t U))
 
+-- the file scope after them
 abbrev pub items_after : Scope → List Top → FileScope → FileScope
 items_after T [] U = U
 items_after T (t ∷ ts) U = items_after T ts (item_after T t U)
 
 -- MAIN
 
+-- the name `main`
 abbrev pub main_name : List ℕ
 main_name = 109 ∷ 97 ∷ 105 ∷ 110 ∷ []
 
+-- is the result an int?
 abbrev pub is_int : Option Kind → Bool
 is_int None = false
 is_int (Some k) = same_kind k Int
 
+-- are there no parameters?
 abbrev pub no_slots : List Slot → Bool
 no_slots [] = true
 no_slots (s ∷ ss) = false
@@ -97,13 +112,16 @@ is_main (Some (meaning.Function result params callee defined)) =
     is_int result && no_slots params && defined
 is_main _ = false
 
+-- the number of the function that is called
 abbrev pub number_in : Option Callee → ℕ
 number_in (Some (callee.Func n)) = n
 number_in _ = 0
 
+-- the file scope of no item
 abbrev pub empty_file : FileScope
 empty_file = record { names = [] ∷ []; globals = []; bytes = 0; functions = [] }
 
+-- the file scope of a unit
 abbrev pub whole : Program → FileScope
 whole p = items_after (table p.items) p.items empty_file
 

@@ -14,10 +14,12 @@ abbrev pub Moves : {A : Type 0} → Blame → A → State → State → Result A
 Moves f t wanted new (Ok u) = (f ≡ None) × (u ≡ t) × (new ≡ wanted)
 Moves f t wanted new (Err e) = Stops f e
 
+-- what the typing of a statement answers
 abbrev pub Runs : Part → Bool → State → State → Result TypedStmt TypeFault → Type 0
 Runs p b old new (Ok t) = (p.fault b old ≡ None) × (t ≡ p.tree old) × (new ≡ p.after old)
 Runs p b old new (Err e) = Stops (p.fault b old) e
 
+-- the same of the first part of a `for`
 abbrev pub Begins : Beginning → Bool → State → State → Result TypedForInit TypeFault → Type 0
 Begins p b old new (Ok t) = (p.fault b old ≡ None) × (t ≡ p.tree old) × (new ≡ p.after old)
 Begins p b old new (Err e) = Stops (p.fault b old) e
@@ -28,6 +30,7 @@ RunAll ps b old new (Ok ts) =
     (all_fault ps b old ≡ None) × (ts ≡ all_trees ps old) × (new ≡ all_after ps old)
 RunAll ps b old new (Err e) = Stops (all_fault ps b old) e
 
+-- the same of an `else` that may be left out
 abbrev pub RunElse : Option Part → Bool → State → State → Result (Option TypedStmt) TypeFault
     → Type 0
 RunElse p b old new (Ok t) =

@@ -32,26 +32,32 @@ pub record Beginning : Type 0 where
   pub fault : Bool → State → Blame
   pub tree : State → TypedForInit
 
+-- the state after several statements
 abbrev pub all_after : List Part → State → State
 all_after [] v = v
 all_after (p ∷ ps) v = all_after ps (p.after v)
 
+-- the first fault of several
 abbrev pub all_fault : List Part → Bool → State → Blame
 all_fault [] b v = None
 all_fault (p ∷ ps) b v = first (p.fault b v) (all_fault ps b (p.after v))
 
+-- the typed trees of several
 abbrev pub all_trees : List Part → State → List TypedStmt
 all_trees [] v = []
 all_trees (p ∷ ps) v = p.tree v ∷ all_trees ps (p.after v)
 
+-- the state after an `else` that may be left out
 abbrev pub else_after : Option Part → State → State
 else_after None v = v
 else_after (Some p) v = p.after v
 
+-- its first fault
 abbrev pub else_fault : Option Part → Bool → State → Blame
 else_fault None b v = None
 else_fault (Some p) b v = p.fault b v
 
+-- its typed tree
 abbrev pub else_tree : Option Part → State → Option TypedStmt
 else_tree None v = None
 else_tree (Some p) v = Some (p.tree v)
@@ -63,10 +69,12 @@ return_fault None (Some e) l = Some (Mismatch l)
 return_fault (Some k) None l = Some (Mismatch l)
 return_fault (Some k) (Some e) l = None
 
+-- the typed return: its value converts to the result
 abbrev pub return_tree : Option Kind → Option Expr → Scope → Option TypedExpr
 return_tree None e G = tree_if e G
 return_tree (Some k) e G = value_of e k G
 
+-- a `do`: its body comes before its test
 abbrev pub do_part : Part → Expr → Part
 do_part body test = record {
   after = body.after;
@@ -78,18 +86,22 @@ do_part body test = record {
 abbrev pub tail_fault : Option Expr → Part → State → Blame
 tail_fault post body v = first (full_if post Free v.names) (body.fault true v)
 
+-- the first fault behind the first part
 abbrev pub rest_fault : Option Expr → Option Expr → Part → State → Blame
 rest_fault test post body v = first (full_if test Value v.names) (tail_fault post body v)
 
+-- the first fault of a `for`
 abbrev pub for_fault : Beginning → Option Expr → Option Expr → Part → Bool → State → Blame
 for_fault init test post body b v =
     first (init.fault b v) (rest_fault test post body (init.after v))
 
+-- the typed `for`
 abbrev pub for_tree : Beginning → Option Expr → Option Expr → Part → State → TypedStmt
 for_tree init test post body v =
     typed.For (init.tree v) (tree_if test (init.after v).names) (tree_if post (init.after v).names)
     (body.tree (init.after v))
 
+-- a `for`
 abbrev pub for_part : Beginning → Option Expr → Option Expr → Part → Part
 for_part init test post body = record {
   after = λ v. left (body.after (init.after (entered v)));
@@ -97,6 +109,7 @@ for_part init test post body = record {
   tree = λ v. for_tree init test post body (entered v);
 }
 
+-- what a node of that line does
 abbrev pub node_part : StmtNode-F Beginning (ℕ → Part) Part → ℕ → Part
 node_part (Declare k w size init) l = record {
   after = declared size k w;
@@ -142,6 +155,7 @@ node_part (Return e) l = record {
   tree = λ v. typed.Return (return_tree v.result e v.names);
 }
 
+-- what the first part of a `for` does
 abbrev pub init_part : ForInit-F Beginning (ℕ → Part) Part → Beginning
 init_part Nothing = record { after = λ v. v; fault = λ b v. None; tree = λ v. typed_init.Nothing }
 init_part (First e) = record {
@@ -155,11 +169,14 @@ init_part (Locals ps) = record {
   tree = λ v. typed_init.Locals (all_trees ps v);
 }
 
+-- a statement, whose node has its line
 abbrev pub at_line : Stmt-F Beginning (ℕ → Part) Part → Part
 at_line s = s.node s.line
 
+-- what a statement does, by recursion on it
 unfoldable pub part : Stmt → Part
 part s = fold-Stmt Beginning (ℕ → Part) Part init_part node_part at_line s
 
+-- what the first part of a `for` does, by recursion on it
 unfoldable pub beginning_of : ForInit → Beginning
 beginning_of i = fold-ForInit Beginning (ℕ → Part) Part init_part node_part at_line i

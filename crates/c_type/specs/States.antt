@@ -15,10 +15,12 @@ use Rattle.c_type_expr.specs.Trees.{tree, converted}
 use Rattle.c_type_expr.specs.Constants.{full}
 use Rattle.c_type.specs.declared.state.State.{State}
 
+-- the first fault of a full expression that may be left out
 abbrev pub full_if : Option Expr → Role → Scope → Blame
 full_if None r G = None
 full_if (Some e) r G = full e r G
 
+-- its typed tree
 abbrev pub tree_if : Option Expr → Scope → Option TypedExpr
 tree_if None G = None
 tree_if (Some e) G = Some (tree e G)
@@ -28,9 +30,11 @@ abbrev pub value_of : Option Expr → Kind → Scope → Option TypedExpr
 value_of None k G = None
 value_of (Some e) k G = Some (converted k (tree e G))
 
+-- the state with one block more
 abbrev pub entered : State → State
 entered v = record v { names = opened v.names }
 
+-- the state without the innermost block
 abbrev pub left : State → State
 left v = record v { names = closed v.names }
 
@@ -58,5 +62,6 @@ with_array k w n v =
       arrays = v.arrays ++ (record { kind = k; length = n }) ∷ [];
     }
 
+-- the statement of a line and a node
 abbrev pub at : ℕ → StmtNode → Stmt
 at l n = record { line = l; node = n }

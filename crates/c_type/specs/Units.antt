@@ -26,24 +26,29 @@ use Rattle.c_type.specs.Declarations.{is_end, twice_fault}
 abbrev pub eof_name : List ℕ
 eof_name = 69 ∷ 79 ∷ 70 ∷ []
 
+-- the name `getchar`
 abbrev pub getchar_name : List ℕ
 getchar_name = 103 ∷ 101 ∷ 116 ∷ 99 ∷ 104 ∷ 97 ∷ 114 ∷ []
 
+-- the name `putchar`
 abbrev pub putchar_name : List ℕ
 putchar_name = 112 ∷ 117 ∷ 116 ∷ 99 ∷ 104 ∷ 97 ∷ 114 ∷ []
 
 -- FUNCTIONS
 
+-- are the parameters of one type?
 abbrev pub same_slot : Slot → Slot → Bool
 same_slot (slot.Scalar j) (slot.Scalar k) = same_kind j k
 same_slot (slot.Address j) (slot.Address k) = same_kind j k
 same_slot _ _ = false
 
+-- are they, one by one?
 abbrev pub same_slots : List Slot → List Slot → Bool
 same_slots [] [] = true
 same_slots (s ∷ ss) (t ∷ ts) = same_slot s t && same_slots ss ts
 same_slots _ _ = false
 
+-- are the results of one type?
 abbrev pub same_result : Option Kind → Option Kind → Bool
 same_result None None = true
 same_result (Some j) (Some k) = same_kind j k
@@ -62,12 +67,14 @@ type_fault given slots (Some (meaning.Function result params callee defined)) l 
     unless (same_result result given && same_slots params slots) (Mismatch l)
 type_fault given slots _ l = None
 
+-- what of a function fails itself: Twice before Mismatch
 abbrev pub function_fault : Bool → Option Kind → List Slot → Option Meaning → ℕ → Blame
 function_fault is_def given slots m l =
     first (defined_fault is_def m l) (type_fault given slots m l)
 
 -- INCLUDE
 
+-- one int as a parameter
 abbrev pub int_slots : List Slot
 int_slots = slot.Scalar Int ∷ []
 
@@ -84,17 +91,21 @@ include_clash G l =
 abbrev pub include_fault : Scope → ℕ → Blame
 include_fault G l = cond (is_end (look_up G eof_name)) None (include_clash G l)
 
+-- the function `getchar`
 abbrev pub get_char : Meaning
 get_char = meaning.Function (Some Int) [] (Some callee.GetChar) true
 
+-- the function `putchar`
 abbrev pub put_char : Meaning
 put_char = meaning.Function (Some Int) int_slots (Some callee.PutChar) true
 
+-- the names after the first include
 abbrev pub with_include : Scope → Scope
 with_include G =
     declared_in (bound eof_name meaning.EndOfFile)
     (declared_in (bound putchar_name put_char) (declared_in (bound getchar_name get_char) G))
 
+-- the names after an include
 abbrev pub included : Scope → Scope
 included G = cond (is_end (look_up G eof_name)) G (with_include G)
 
@@ -105,10 +116,12 @@ abbrev pub place_fault : ℕ → Kind → List ℕ → ℕ → FileScope → Bla
 place_fault n k w l U =
     first (twice_fault U.names w l) (unless (nat_le (n * bytes k + U.bytes) MOST_OBJECT_BYTES) (TooLarge l))
 
+-- the first fault of a global's values
 abbrev pub values_fault : List Expr → Scope → Blame
 values_fault [] G = None
 values_fault (e ∷ es) G = first (full_constant e G) (values_fault es G)
 
+-- what the name of a global means
 abbrev pub global_meaning : ArraySize → Kind → ℕ → Meaning
 global_meaning size.Scalar k n = meaning.Scalar k (place.Global n)
 global_meaning _ k n = meaning.Array k (place.Global n)
@@ -119,13 +132,16 @@ count_of size.Scalar init = 1
 count_of size.Open init = length init
 count_of (size.Sized e) init = word_in (length_of e)
 
+-- an array has a length
 abbrev pub length_in : ArraySize → ℕ → Option ℕ
 length_in size.Scalar n = None
 length_in _ n = Some n
 
+-- the names after a global
 abbrev pub global_names : ArraySize → Kind → List ℕ → FileScope → Scope
 global_names size k w U = declared_in (bound w (global_meaning size k (length U.globals))) U.names
 
+-- the typed global
 abbrev pub typed_global : ArraySize → Kind → List Expr → TypedGlobal
 typed_global size k init = record {
   kind = k;
@@ -133,6 +149,7 @@ typed_global size k init = record {
   init = map (constant_at k) init;
 }
 
+-- the file scope after a global
 abbrev pub with_global : ArraySize → Kind → List ℕ → List Expr → FileScope → FileScope
 with_global size k w init U =
     record U {
@@ -152,6 +169,7 @@ abbrev pub admitted_fault : ArraySize → Kind → List ℕ → List Expr → �
 admitted_fault size k w init l U =
     first (count_fault size init l U.names) (place_fault (count_of size init) k w l U)
 
+-- a global's first fault: the size, the declarator, the values, then their count
 abbrev pub global_fault : ArraySize → Kind → List ℕ → List Expr → ℕ → FileScope → Blame
 global_fault size k w init l U =
     first (admitted_fault size k w init l U)

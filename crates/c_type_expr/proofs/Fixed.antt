@@ -13,7 +13,7 @@ use Rattle.c_tree.specs.declared.tree.ExprNode.TheOpen.{ExprNode-F}
 use Rattle.c_scope.specs.Scope.{Scope, look_up}
 use Rattle.c_type_expr.specs.declared.fault.TypeFault.TheVariants.{Unknown, Mismatch}
 use Rattle.c_type_expr.specs.Roles.{Blame, first}
-use Rattle.c_type_expr.specs.Constants.{no_constant, all_fixed, node_fixed, fixed_line, not_fixed}
+use Rattle.c_type_expr.specs.Constants.{no_constant, calls_known, all_fixed, node_fixed, fixed_line, not_fixed}
 use Rattle.c_type_expr.specs.Says.{at}
 
 abbrev A : Type 0
@@ -42,12 +42,12 @@ module _ (f : Expr) (G : Scope) where
       ∙ ap (λ (b : B). b G) (fixed_by f.line _ (ExprNode-F.Name w) (node.rolls-Name w))
 
   pub fixed-Element : (w : List ℕ) (i : Expr) → f.node ≡ node.Element w i
-      → not_fixed f G ≡ first (not_fixed i G) (Some (Mismatch f.line))
+      → not_fixed f G ≡ first (not_fixed i G) (no_constant (is_some (look_up G w)) f.line)
   fixed-Element w i h = ap (λ n. not_fixed (at f.line n) G) h
       ∙ ap (λ (b : B). b G) (fixed_by f.line _ (ExprNode-F.Element w i) (node.rolls-Element w i))
 
   pub fixed-Call : (w : List ℕ) (es : List Expr) → f.node ≡ node.Call w es
-      → not_fixed f G ≡ first (all_fixed (map not_fixed es) G) (Some (Mismatch f.line))
+      → not_fixed f G ≡ first (all_fixed (map not_fixed es) G) (no_constant (calls_known (look_up G w)) f.line)
   fixed-Call w es h = ap (λ n. not_fixed (at f.line n) G) h
       ∙ ap (λ (b : B). b G) (fixed_by f.line _ (ExprNode-F.Call w es) (node.rolls-Call w es))
 

@@ -40,6 +40,7 @@ use Rattle.c_type_expr.proofs.Nodes.{fault-Group, tree-Group, fault-Unary, tree-
 use Rattle.c_type_expr.proofs.Nodes.{tree-Cast, fault-Bump, tree-Bump, fault-Binary, tree-Binary}
 use Rattle.c_type_expr.proofs.Nodes.{fault-Choice, tree-Choice, fault-Assign, tree-Assign}
 use Rattle.c_type_expr.proofs.Nodes.{fault-Comma, tree-Comma}
+use Rattle.c_type_expr.proofs.PlaceTests.{place_passes, passes_place}
 
 abbrev Sound : Scope → Role → Expr → TypedExpr → Type 0
 Sound G r e t = (fault e G r ≡ None) × (t ≡ tree e G)
@@ -115,8 +116,8 @@ mutual
             ∙ sym (tree-Cast G l to e),
       )
   sound G _ _ _ (step {r = r} {l = l} {op = op} {e = e} {t = t} p d h) =
-      let s = sound G Written e t d in (
-        fault-Bump G r l op e ∙ both _ _ (written e G p s.0) (both _ _ (fine _ _ p) (fine _ _ h)),
+      let s = sound G Written e t d in let q = place_passes e p in (
+        fault-Bump G r l op e ∙ both _ _ (written e G q s.0) (both _ _ (fine _ _ q) (fine _ _ h)),
         ap (λ (t : TypedExpr). bump op t) s.1 ∙ sym (tree-Bump G l op e),
       )
   sound G _ _ _ (operation {r = r} {l = l} {op = op} {x = x} {y = y} {s = s} {t = t} d d' h) =
@@ -134,9 +135,9 @@ mutual
             ∙ sym (tree-Choice G l c x y),
       )
   sound G _ _ _ (assignment {r = r} {l = l} {op = op} {x = x} {y = y} {s = s} {t = t} w d d' h) =
-      let p = sound G Written x s d in let q = sound G Value y t d' in (
-        fault-Assign G r l op x y ∙ both _ _ (written x G w p.0)
-            (both _ _ q.0 (both _ _ (fine _ _ w) (fine _ _ h))),
+      let p = sound G Written x s d in let q = sound G Value y t d' in let u = place_passes x w in (
+        fault-Assign G r l op x y ∙ both _ _ (written x G u p.0)
+            (both _ _ q.0 (both _ _ (fine _ _ u) (fine _ _ h))),
         ap (λ (s : TypedExpr). assign op s t) p.1
             ∙ ap (λ (t : TypedExpr). assign op (tree x G) t) q.1 ∙ sym (tree-Assign G l op x y),
       )
@@ -271,7 +272,7 @@ module _ (N E : Type 0) (node_of : N → ExprNode) (of : E → Expr) (whole : (e
       subst (Is l r) (sym (node.rolls-Bump op (of e)))
       (λ h. let s = split _ _ (sym (fault-Bump G r l op (of e)) ∙ h) in let u = split _ _ s.1 in let p = held _ _ u.0 in
       subst (Typed G r _) (sym (tree-Bump G l op (of e)))
-      (step p (place_typed G (of e) (whole e) p s.0) (held _ _ u.1)))
+      (step (passes_place (of e) p) (place_typed G (of e) (whole e) p s.0) (held _ _ u.1)))
   at_node l r (ExprNode-F.Binary op x y) =
       subst (Is l r) (sym (node.rolls-Binary op (of x) (of y)))
       (λ h. let s = split _ _ (sym (fault-Binary G r l op (of x) (of y)) ∙ h) in let u = split _ _ s.1 in
@@ -286,7 +287,7 @@ module _ (N E : Type 0) (node_of : N → ExprNode) (of : E → Expr) (whole : (e
       subst (Is l r) (sym (node.rolls-Assign op (of x) (of y)))
       (λ h. let s = split _ _ (sym (fault-Assign G r l op (of x) (of y)) ∙ h) in let u = split _ _ s.1 in let v = split _ _ u.1 in let p = held _ _ v.0 in
       subst (Typed G r _) (sym (tree-Assign G l op (of x) (of y)))
-      (assignment p (place_typed G (of x) (whole x) p s.0) (whole y G Value u.0) (held _ _ v.1)))
+      (assignment (passes_place (of x) p) (place_typed G (of x) (whole x) p s.0) (whole y G Value u.0) (held _ _ v.1)))
   at_node l r (ExprNode-F.Comma x y) =
       subst (Is l r) (sym (node.rolls-Comma (of x) (of y)))
       (λ h. let s = split _ _ (sym (fault-Comma G r l (of x) (of y)) ∙ h) in let u = split _ _ s.1 in

@@ -5,6 +5,8 @@ use Rattle.c_tree.specs.declared.tree.Expr.{Expr, Expr-F, fold-Expr}
 use Rattle.c_tree.specs.declared.tree.ExprNode.TheOpen.{ExprNode-F, Number, Name, Element, Call}
 use Rattle.c_tree.specs.declared.tree.ExprNode.TheOpen.{Group, Unary, Cast, Bump, Binary, Choice}
 use Rattle.c_tree.specs.declared.tree.ExprNode.TheOpen.{Assign, Comma}
+use Rattle.c_scope.specs.declared.meaning.Meaning.{Meaning}
+use Rattle.c_scope.specs.declared.meaning.Meaning.TheVariants as meaning
 use Rattle.c_scope.specs.Scope.{Scope, look_up}
 use Rattle.c_constant.specs.Kinds.{number, converted}
 use Rattle.c_constant.specs.Constant.{constant}
@@ -15,20 +17,30 @@ use Rattle.c_type_expr.specs.declared.role.Role.{Role}
 use Rattle.c_type_expr.specs.Roles.{Blame, first, unless}
 use Rattle.c_type_expr.specs.Faults.{fault}
 
+-- what is no constant: a known name, or an unknown one
 abbrev pub no_constant : Bool → ℕ → Blame
 no_constant true l = Some (Mismatch l)
 no_constant false l = Some (Unknown l)
 
+-- may a call of it be more than a call of a function that is not in scope or that the unit does not
+-- define?
+abbrev pub calls_known : Option Meaning → Bool
+calls_known None = false
+calls_known (Some (meaning.Function result params callee defined)) = is_some callee
+calls_known (Some _) = true
+
+-- the first of several expressions that is no constant
 abbrev pub all_fixed : List (Scope → Blame) → Scope → Blame
 all_fixed [] G = None
 all_fixed (e ∷ es) G = first (e G) (all_fixed es G)
 
--- numbers, groups, casts and operators are constants; a name is none, known or not
+-- numbers, groups, casts and operators are constants; a name is none, known or not, an element is
+-- judged as its array's name, and a call as the function's
 abbrev pub node_fixed : ExprNode-F (ℕ → Scope → Blame) (Scope → Blame) → ℕ → Scope → Blame
 node_fixed (Number v k) l G = None
 node_fixed (Name w) l G = no_constant (is_some (look_up G w)) l
-node_fixed (Element w i) l G = first (i G) (Some (Mismatch l))
-node_fixed (Call w es) l G = first (all_fixed es G) (Some (Mismatch l))
+node_fixed (Element w i) l G = first (i G) (no_constant (is_some (look_up G w)) l)
+node_fixed (Call w es) l G = first (all_fixed es G) (no_constant (calls_known (look_up G w)) l)
 node_fixed (Group e) l G = e G
 node_fixed (Unary op e) l G = e G
 node_fixed (Cast to e) l G = e G
@@ -38,6 +50,7 @@ node_fixed (Choice t x y) l G = first (t G) (first (x G) (y G))
 node_fixed (Assign op x y) l G = first (x G) (first (y G) (Some (Mismatch l)))
 node_fixed (Comma x y) l G = first (x G) (first (y G) (Some (Mismatch l)))
 
+-- the same of an expression, whose node has its line
 abbrev pub fixed_line : Expr-F (ℕ → Scope → Blame) (Scope → Blame) → Scope → Blame
 fixed_line e = e.node e.line
 
@@ -45,9 +58,11 @@ fixed_line e = e.node e.line
 unfoldable pub not_fixed : Expr → Scope → Blame
 not_fixed e = fold-Expr (ℕ → Scope → Blame) (Scope → Blame) node_fixed fixed_line e
 
+-- a value that is wanted and is none
 abbrev pub value_fault : Option ℕ → ℕ → Blame
 value_fault v l = unless (is_some v) (Mismatch l)
 
+-- more temporaries than a full expression may need
 abbrev pub need_fault : Expr → Blame
 need_fault e = unless (need_fits e) (Need e.line)
 
@@ -60,6 +75,7 @@ abbrev pub full_constant : Expr → Scope → Blame
 full_constant e G =
     first (not_fixed e G) (first (value_fault (constant [] e).value e.line) (need_fault e))
 
+-- the word of a value, 0 where there is none
 abbrev pub word_in : Option ℕ → ℕ
 word_in None = 0
 word_in (Some w) = w
@@ -73,6 +89,7 @@ abbrev pub length_from : ℤ → Option ℕ
 length_from (pos n) = cond (nat_lt 0 n) (Some n) None
 length_from (negsuc n) = None
 
+-- the length that a word of a type gives
 abbrev pub length_in : Kind → Option ℕ → Option ℕ
 length_in k None = None
 length_in k (Some w) = length_from (number k w)

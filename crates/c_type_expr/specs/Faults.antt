@@ -19,24 +19,29 @@ use Rattle.c_type_expr.specs.declared.role.Role.TheVariants.{Value, Free, Array,
 use Rattle.c_type_expr.specs.Roles.{Blame, first, unless, takes_value, takes_element, takes_void}
 use Rattle.c_type_expr.specs.Roles.{takes_array, left_role}
 
+-- a value where none that is no scalar, element or array may stand
 abbrev pub value_fault : Role → ℕ → Blame
 value_fault r l = unless (takes_value r) (Mismatch l)
 
+-- may a name of this meaning stand there?
 abbrev pub takes_name : Meaning → Role → Bool
 takes_name (meaning.Scalar k p) r = takes_element r
 takes_name (meaning.Array k p) r = takes_array k r
 takes_name (meaning.Function result params callee defined) r = false
 takes_name meaning.EndOfFile r = takes_value r
 
+-- a name that is not in scope, or not what stands there
 abbrev pub name_fault : Option Meaning → Role → ℕ → Blame
 name_fault None r l = Some (Unknown l)
 name_fault (Some m) r l = unless (takes_name m r) (Mismatch l)
 
+-- an element of something that is not in scope, or no array, or not what stands there
 abbrev pub element_fault : Option Meaning → Role → ℕ → Blame
 element_fault None r l = Some (Unknown l)
 element_fault (Some (meaning.Array k p)) r l = unless (takes_element r) (Mismatch l)
 element_fault (Some _) r l = Some (Mismatch l)
 
+-- may a call of a function of this result stand there?
 abbrev pub takes_result : Option Kind → Role → Bool
 takes_result None r = takes_void r
 takes_result (Some k) r = takes_value r
@@ -48,6 +53,7 @@ callee_fault (Some c) result params args r l =
     first (unless (takes_result result r) (Mismatch l))
     (unless (nat_eq args (length params)) (Arity l))
 
+-- a call of something that is not in scope, or no function, or that fails as a call
 abbrev pub call_fault : Option Meaning → ℕ → Role → ℕ → Blame
 call_fault None args r l = Some (Unknown l)
 call_fault (Some (meaning.Function result params callee defined)) args r l =
@@ -59,14 +65,17 @@ abbrev pub slots_of : Option Meaning → List Slot
 slots_of (Some (meaning.Function result params callee defined)) = params
 slots_of _ = []
 
+-- what the argument of a parameter is wanted for
 abbrev pub role_of : Slot → Role
 role_of (slot.Scalar k) = Value
 role_of (slot.Address k) = Array k
 
+-- what the first argument is wanted for
 abbrev pub role_at : List Slot → Role
 role_at [] = Surplus
 role_at (s ∷ slots) = role_of s
 
+-- the parameters behind the first one
 abbrev pub rest_of : List Slot → List Slot
 rest_of [] = []
 rest_of (s ∷ slots) = slots
@@ -76,16 +85,19 @@ pub record Judged : Type 0 where
   pub place : Bool
   pub blame : Scope → Role → Blame
 
+-- the first of the arguments that fails
 abbrev pub args_blame : List Slot → List Judged → Scope → Blame
 args_blame slots [] G = None
 args_blame slots (e ∷ es) G = first (e.blame G (role_at slots)) (args_blame (rest_of slots) es G)
 
+-- is the node a name or an element, in any groups?
 abbrev pub node_place : ExprNode-F (ℕ → Judged) Judged → Bool
 node_place (Name w) = true
 node_place (Element w i) = true
 node_place (Group e) = e.place
 node_place _ = false
 
+-- what of a node fails first in a role: its operands before itself
 abbrev pub node_blame : ExprNode-F (ℕ → Judged) Judged → ℕ → Scope → Role → Blame
 node_blame (Number v k) l G r = value_fault r l
 node_blame (Name w) l G r = name_fault (look_up G w) r l
@@ -106,15 +118,19 @@ node_blame (Assign op x y) l G r =
     (first (y.blame G Value) (first (unless x.place (Mismatch l)) (value_fault r l)))
 node_blame (Comma x y) l G r = first (x.blame G Free) (first (y.blame G Value) (value_fault r l))
 
+-- both of a node
 abbrev pub node_judged : ExprNode-F (ℕ → Judged) Judged → ℕ → Judged
 node_judged n l = record { place = node_place n; blame = node_blame n l }
 
+-- both of an expression, whose node has its line
 abbrev pub at_line : Expr-F (ℕ → Judged) Judged → Judged
 at_line e = e.node e.line
 
+-- both of an expression, by recursion on it
 unfoldable pub judged : Expr → Judged
 judged e = fold-Expr (ℕ → Judged) Judged node_judged at_line e
 
+-- is the expression a name or an element, in any groups?
 unfoldable pub is_place : Expr → Bool
 is_place e = (judged e).place
 

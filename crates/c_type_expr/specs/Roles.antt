@@ -6,6 +6,7 @@ use Rattle.c_type_expr.specs.declared.fault.TypeFault.{TypeFault}
 use Rattle.c_type_expr.specs.declared.role.Role.{Role}
 use Rattle.c_type_expr.specs.declared.role.Role.TheVariants.{Value, Free, Written, Array, Surplus}
 
+-- a fault, or none
 abbrev pub Blame : Type 0
 Blame = Option TypeFault
 
@@ -14,6 +15,7 @@ abbrev pub first : Blame → Blame → Blame
 first None g = g
 first (Some f) g = Some f
 
+-- this fault, unless the test holds
 abbrev pub unless : Bool → TypeFault → Blame
 unless true f = None
 unless false f = Some f
@@ -24,14 +26,17 @@ takes_value Written = false
 takes_value (Array k) = false
 takes_value _ = true
 
+-- may a scalar or an element stand there?
 abbrev pub takes_element : Role → Bool
 takes_element (Array k) = false
 takes_element _ = true
 
+-- may a call without a value stand there?
 abbrev pub takes_void : Role → Bool
 takes_void Free = true
 takes_void _ = false
 
+-- may the name of an array of this type stand there?
 abbrev pub takes_array : Kind → Role → Bool
 takes_array j (Array k) = same_kind j k
 takes_array j Surplus = true

@@ -21,6 +21,7 @@ abbrev pub Says : {A : Type 0} → Blame → A → Result A TypeFault → Type 0
 Says f t (Ok u) = (f ≡ None) × (u ≡ t)
 Says f t (Err e) = Stops f e
 
+-- the expression of a line and a node
 abbrev pub at : ℕ → ExprNode → Expr
 at l n = record { line = l; node = n }
 

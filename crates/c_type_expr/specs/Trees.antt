@@ -25,6 +25,7 @@ use Rattle.c_constant.specs.Kinds.{same_kind, common}
 use Rattle.c_constant.specs.Operation.{left_at, right_at, result_of, unary_at, unary_result}
 use Rattle.c_type_expr.specs.Faults.{slots_of, rest_of}
 
+-- the typed expression of a type and a node
 abbrev pub a : Option Kind → TypedNode → TypedExpr
 a k n = record { kind = k; node = n }
 
@@ -33,6 +34,7 @@ abbrev pub kind_in : Option Kind → Kind
 kind_in None = Int
 kind_in (Some k) = k
 
+-- the type of a typed expression
 abbrev pub kind_of : TypedExpr → Kind
 kind_of e = kind_in e.kind
 
@@ -44,27 +46,33 @@ converted k e = cond (same_kind (kind_of e) k) e (a (Some k) (typed.Convert k e)
 abbrev pub end_of_file : TypedExpr
 end_of_file = a (Some Int) (typed.Number 18446744073709551615)
 
+-- a name as a typed expression
 abbrev pub name_tree : Option Meaning → TypedExpr
 name_tree (Some (meaning.Scalar k p)) = a (Some k) (typed.Name p)
 name_tree (Some (meaning.Array k p)) = a (Some k) (typed.Name p)
 name_tree _ = end_of_file
 
+-- the type of an array's elements
 abbrev pub array_kind : Option Meaning → Kind
 array_kind (Some (meaning.Array k p)) = k
 array_kind _ = Int
 
+-- where an array is
 abbrev pub array_place : Option Meaning → Place
 array_place (Some (meaning.Array k p)) = p
 array_place _ = place.Global 0
 
+-- the type of a call, if it has a value
 abbrev pub result_kind : Option Meaning → Option Kind
 result_kind (Some (meaning.Function result params callee defined)) = result
 result_kind _ = None
 
+-- the callee, where there is one
 abbrev pub callee_or : Option Callee → Callee
 callee_or (Some c) = c
 callee_or None = callee.GetChar
 
+-- what a call of the name calls
 abbrev pub callee_of : Option Meaning → Callee
 callee_of (Some (meaning.Function result params callee defined)) = callee_or callee
 callee_of _ = callee.GetChar
@@ -74,26 +82,32 @@ abbrev pub argument : List Slot → TypedExpr → TypedExpr
 argument (slot.Scalar k ∷ slots) e = converted k e
 argument _ e = e
 
+-- the arguments, each as its parameter takes it
 abbrev pub arguments : List Slot → List (Scope → TypedExpr) → Scope → List TypedExpr
 arguments slots [] G = []
 arguments slots (e ∷ es) G = argument slots (e G) ∷ arguments (rest_of slots) es G
 
+-- a unary operation: its operand converts to the type in which it is done
 abbrev pub unary : UnaryOp → TypedExpr → TypedExpr
 unary op e =
     let k = unary_at op (kind_of e) in a (Some (unary_result op k)) (typed.Unary op (converted k e))
 
+-- a cast, whose operand does not convert by itself
 abbrev pub cast : Kind → TypedExpr → TypedExpr
 cast to e = a (Some to) (typed.Cast to e)
 
+-- `++` and `--`, of the type of what is written to
 abbrev pub bump : BumpOp → TypedExpr → TypedExpr
 bump op e = a (Some (kind_of e)) (typed.Bump op e)
 
+-- a binary operation: each operand converts to the type that the operation wants of it
 abbrev pub binary : BinaryOp → TypedExpr → TypedExpr → TypedExpr
 binary op x y =
     let k = left_at op (kind_of x) (kind_of y) in
     a (Some (result_of op k))
     (typed.Binary op (converted k x) (converted (right_at op (kind_of x) (kind_of y)) y))
 
+-- a choice: both legs convert to their common type
 abbrev pub choice : TypedExpr → TypedExpr → TypedExpr → TypedExpr
 choice t x y =
     let k = common (kind_of x) (kind_of y) in
@@ -105,19 +119,23 @@ abbrev pub assigned_at : Option BinaryOp → Kind → Kind → Kind
 assigned_at None j k = j
 assigned_at (Some op) j k = left_at op j k
 
+-- the type to which the right side of an assignment converts
 abbrev pub assigned_from : Option BinaryOp → Kind → Kind → Kind
 assigned_from None j k = j
 assigned_from (Some op) j k = right_at op j k
 
+-- an assignment, of the type of its left side
 abbrev pub assign : Option BinaryOp → TypedExpr → TypedExpr → TypedExpr
 assign op x y =
     a (Some (kind_of x))
     (typed.Assign op (assigned_at op (kind_of x) (kind_of y)) x
     (converted (assigned_from op (kind_of x) (kind_of y)) y))
 
+-- a comma, of the type of its right side
 abbrev pub comma : TypedExpr → TypedExpr → TypedExpr
 comma x y = a y.kind (typed.Comma x y)
 
+-- the typed expression of a node
 abbrev pub node_tree : ExprNode-F (Scope → TypedExpr) (Scope → TypedExpr) → Scope → TypedExpr
 node_tree (Number v k) G = a (Some k) (typed.Number v)
 node_tree (Name w) G = name_tree (look_up G w)
@@ -135,12 +153,15 @@ node_tree (Choice t x y) G = choice (t G) (x G) (y G)
 node_tree (Assign op x y) G = assign op (x G) (y G)
 node_tree (Comma x y) G = comma (x G) (y G)
 
+-- that of an expression is that of its node
 abbrev pub of_node : Expr-F (Scope → TypedExpr) (Scope → TypedExpr) → Scope → TypedExpr
 of_node e = e.node
 
+-- the typed expression of an expression, by recursion on it
 unfoldable pub tree : Expr → Scope → TypedExpr
 tree e = fold-Expr (Scope → TypedExpr) (Scope → TypedExpr) node_tree of_node e
 
+-- those of arguments, each as its parameter takes it
 abbrev pub args_tree : List Slot → List Expr → Scope → List TypedExpr
 args_tree slots [] G = []
 args_tree slots (e ∷ es) G = argument slots (tree e G) ∷ args_tree (rest_of slots) es G

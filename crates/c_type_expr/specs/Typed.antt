@@ -17,7 +17,8 @@ use Rattle.c_scope.specs.Scope.{Scope, look_up}
 use Rattle.c_type_expr.specs.declared.role.Role.{Role}
 use Rattle.c_type_expr.specs.declared.role.Role.TheVariants.{Value, Free, Written, Array}
 use Rattle.c_type_expr.specs.Roles.{takes_value, takes_element, takes_array}
-use Rattle.c_type_expr.specs.Faults.{takes_result, is_place}
+use Rattle.c_type_expr.specs.Faults.{takes_result}
+use Rattle.c_type_expr.specs.Places.{IsPlace}
 use Rattle.c_type_expr.specs.Trees.{a, converted, end_of_file, unary, cast, bump, binary, choice}
 use Rattle.c_type_expr.specs.Trees.{assign, comma}
 use Rattle.c_type_expr.specs.Says.{at}
@@ -52,7 +53,7 @@ mutual
     conversion : {r : Role} {l : ℕ} {to : Kind} {e : Expr} {t : TypedExpr} → Typed G Value e t
         → takes_value r ≡ true
         → Typed G r (at l (node.Cast to e)) (cast to t)
-    step : {r : Role} {l : ℕ} {op : BumpOp} {e : Expr} {t : TypedExpr} → is_place e ≡ true
+    step : {r : Role} {l : ℕ} {op : BumpOp} {e : Expr} {t : TypedExpr} → IsPlace e
         → Typed G Written e t → takes_value r ≡ true
         → Typed G r (at l (node.Bump op e)) (bump op t)
     operation : {r : Role} {l : ℕ} {op : BinaryOp} {x y : Expr} {s t : TypedExpr}
@@ -62,7 +63,7 @@ mutual
         → Typed G Value x s → Typed G Value y t → takes_value r ≡ true
         → Typed G r (at l (node.Choice c x y)) (choice d s t)
     assignment : {r : Role} {l : ℕ} {op : Option BinaryOp} {x y : Expr} {s t : TypedExpr}
-        → is_place x ≡ true → Typed G Written x s → Typed G Value y t → takes_value r ≡ true
+        → IsPlace x → Typed G Written x s → Typed G Value y t → takes_value r ≡ true
         → Typed G r (at l (node.Assign op x y)) (assign op s t)
     sequence : {r : Role} {l : ℕ} {x y : Expr} {s t : TypedExpr} → Typed G Free x s
         → Typed G Value y t → takes_value r ≡ true

@@ -1,6 +1,8 @@
 //! Constant expressions and full expressions.
 
 ghost use Rattle.std.specs.Prelude.{◌≡◌, map, Option};
+ghost use Rattle.std.specs.Option.{option_copied};
+ghost use Rattle.c_scope.specs.Scope.{look_up};
 ghost use Rattle.c_type_expr.specs.Constants as constants;
 ghost use Rattle.c_type_expr.specs.Roles as roles;
 ghost use Rattle.c_type_expr.specs.Trees.{tree};
@@ -11,8 +13,8 @@ use crate::fault::TypeFault;
 use crate::role::Role;
 use base::Items;
 use c_constant::{constant_of, convert, need_fits};
-use c_scope::Scopes;
-use c_tree::{Expr, ExprNode, Kind, TypedExpr};
+use c_scope::{Meaning, Scopes};
+use c_tree::{Expr, ExprNode, Kind, TypedExpr, Word};
 use std::alloc::Global;
 
 fn first(a: Option<TypeFault>, b: Option<TypeFault>) -> Option<TypeFault>
@@ -51,15 +53,32 @@ fn none_fixed(scope: &Scopes, args: &[Expr]) -> Option<TypeFault>
     found
 }
 
-#[cycle(fixed)]
-fn call_fixed(scope: &Scopes, args: &Items<Expr>, line: u32) -> Option<TypeFault>
-    ensures { result ≡ roles.first (constants.all_fixed (map constants.not_fixed args.now)
-        scope.now) (Some (TypeFault.Mismatch line)) }
+// Whether a call of what was found is no call of an unknown function.
+fn calls_known(found: Option<&Meaning>) -> bool
+    ensures { result ≡ constants.calls_known (option_copied found.entry) }
 {
-    first(none_fixed(scope, args.as_slice()), mismatch(line))
+    match found {
+        None => false,
+        Some(Meaning::Function { callee, .. }) => callee.is_some(),
+        Some(_) => true,
+    }
 }
 
-/// The first part of an expression that is no constant.
+// The first part of a call that is no constant, or the call itself.
+#[cycle(fixed)]
+fn call_fixed(scope: &Scopes, function: &Word, args: &Items<Expr>, line: u32) -> Option<TypeFault>
+    ensures { result ≡ roles.first (constants.all_fixed (map constants.not_fixed args.now)
+        scope.now)
+        (constants.no_constant (constants.calls_known (look_up scope.now function.now)) line) }
+{
+    let found = none_fixed(scope, args.as_slice());
+    first(
+        found,
+        no_constant(calls_known(scope.look_up(function)), line),
+    )
+}
+
+// The first part of an expression that is no constant.
 #[cycle(fixed)]
 fn not_fixed(scope: &Scopes, e: &Expr) -> Option<TypeFault>
     ensures { result ≡ constants.not_fixed e.now scope.now }
@@ -67,8 +86,11 @@ fn not_fixed(scope: &Scopes, e: &Expr) -> Option<TypeFault>
     match &e.node {
         ExprNode::Number { .. } => None,
         ExprNode::Name(word) => no_constant(scope.look_up(word).is_some(), e.line),
-        ExprNode::Element { index, .. } => first(not_fixed(scope, index.get()), mismatch(e.line)),
-        ExprNode::Call { args, .. } => call_fixed(scope, args, e.line),
+        ExprNode::Element { array, index } => first(
+            not_fixed(scope, index.get()),
+            no_constant(scope.look_up(array).is_some(), e.line),
+        ),
+        ExprNode::Call { function, args } => call_fixed(scope, function, args, e.line),
         ExprNode::Group(e) => not_fixed(scope, e.get()),
         ExprNode::Unary { e, .. } => not_fixed(scope, e.get()),
         ExprNode::Cast { e, .. } => not_fixed(scope, e.get()),
@@ -93,7 +115,7 @@ fn not_fixed(scope: &Scopes, e: &Expr) -> Option<TypeFault>
     }
 }
 
-/// Nothing where nothing fails.
+// Nothing where nothing fails.
 fn refuse(fault: Option<TypeFault>) -> Result<(), TypeFault>
     ensures { Says fault tt result }
 {

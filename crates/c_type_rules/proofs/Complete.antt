@@ -6,7 +6,7 @@ use Rattle.c_tree.specs.declared.token.Kind.{Kind}
 use Rattle.c_tree.specs.declared.tree.ArraySize.{ArraySize}
 use Rattle.c_tree.specs.declared.tree.ArraySize.TheVariants as size
 use Rattle.c_tree.specs.declared.tree.Expr.{Expr}
-use Rattle.c_tree.specs.declared.tree.ForInit.{ForInit, roll-ForInit, map-ForInit}
+use Rattle.c_tree.specs.declared.tree.ForInit.{ForInit, out-ForInit, roll-ForInit, roll-out-ForInit, map-ForInit}
 use Rattle.c_tree.specs.declared.tree.ForInit.TheOpen.{StmtNode-F, ForInit-F}
 use Rattle.c_tree.specs.declared.tree.ForInit.TheVariants as first_part
 use Rattle.c_tree.specs.declared.tree.Stmt.{Stmt, Stmt-F, roll-Stmt, ind-Stmt}
@@ -116,7 +116,7 @@ Whole s = (b : Bool) (v : State) → (part s).fault b v ≡ None → Types b v s
 abbrev WholeNode : StmtNode → Type 0
 WholeNode n = (l : ℕ) → Whole (at l n)
 
-abbrev WholeFirst : ForInit → Type 0
+abbrev pub WholeFirst : ForInit → Type 0
 WholeFirst i =
     (b : Bool) (v : State) → (beginning_of i).fault b v ≡ None
     → Begins b v i ((beginning_of i).tree v) ((beginning_of i).after v)
@@ -213,3 +213,24 @@ pub whole_all : (b : Bool) (v : State) (ss : List Stmt) → all_fault (map part 
 whole_all b v [] h = no_more
 whole_all b v (s ∷ ss) h =
     let q = split _ _ h in one_more (whole_stmt s b v q.0) (whole_all b ((part s).after v) ss q.1)
+
+-- a `for`'s beginning is what its open form rolls up to
+beginning_is : (i : ForInit) (x : ForInit-F ForInit StmtNode Stmt) → out-ForInit i ≡ x → roll-ForInit x ≡ i
+beginning_is i x e = sym (ap roll-ForInit e) ∙ roll-out-ForInit i
+
+beginning_whole : (i : ForInit) (x : ForInit-F ForInit StmtNode Stmt) → out-ForInit i ≡ x → WholeFirst i
+beginning_whole i ForInit-F.Nothing e =
+    subst WholeFirst (sym first_part.rolls-Nothing ∙ beginning_is i _ e)
+    (λ b v h. begun _ _ _ _ _ _ _ (tree-Nothing v) (after-Nothing v) no_first)
+beginning_whole i (ForInit-F.First x) e =
+    subst WholeFirst (sym (first_part.rolls-First x) ∙ beginning_is i _ e)
+    (λ b v h. begun _ _ _ _ _ _ _ (tree-First x v) (after-First x v)
+    (first_value (full_typed v.names Free x (sym (fault-First x b v) ∙ h))))
+beginning_whole i (ForInit-F.Locals ss) e =
+    subst WholeFirst (sym (first_part.rolls-Locals ss) ∙ beginning_is i _ e)
+    (λ b v h. begun _ _ _ _ _ _ _ (tree-Locals ss v) (after-Locals ss v)
+    (first_locals (whole_all b v ss (sym (fault-Locals ss b v) ∙ h))))
+
+-- what begins a `for` without a fault has its tree by the rules
+pub whole_beginning : (i : ForInit) → WholeFirst i
+whole_beginning i = beginning_whole i (out-ForInit i) refl

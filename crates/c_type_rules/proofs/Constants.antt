@@ -9,7 +9,7 @@ use Rattle.c_tree.specs.declared.tree.ExprNode.TheVariants as node
 use Rattle.c_scope.specs.Scope.{Scope, look_up}
 use Rattle.c_type_expr.specs.declared.fault.TypeFault.TheVariants.{Mismatch}
 use Rattle.c_type_expr.specs.Roles.{Blame, first, unless}
-use Rattle.c_type_expr.specs.Constants.{not_fixed, no_constant}
+use Rattle.c_type_expr.specs.Constants.{not_fixed, no_constant, calls_known}
 use Rattle.c_type_expr.specs.Says.{at}
 use Rattle.c_type_expr.proofs.Fixed.{fixed-Number, fixed-Name, fixed-Element, fixed-Call, fixed-Group, fixed-Unary, fixed-Cast, fixed-Bump, fixed-Binary, fixed-Choice, fixed-Assign, fixed-Comma}
 use Rattle.c_type_rules.specs.Constants.{IsConstant, number, group, operator, conversion, operation, choice}
@@ -60,11 +60,11 @@ module _ (N E : Type 0) (node_of : N → ExprNode) (of : E → Expr) (whole : (e
       (sym (fixed-Name (at l (node.Name w)) G w refl) ∙ h))))
   at_node (ExprNode-F.Element w i) l =
       subst (λ n. Whole (at l n)) (sym (node.rolls-Element w (of i)))
-      (λ G h. absurd (false≢true (held false l
+      (λ G h. absurd (false≢true (no_name (is_some (look_up G w)) l
       (split _ _ (sym (fixed-Element (at l (node.Element w (of i))) G w (of i) refl) ∙ h)).1)))
   at_node (ExprNode-F.Call w es) l =
       subst (λ n. Whole (at l n)) (sym (node.rolls-Call w (map of es)))
-      (λ G h. absurd (false≢true (held false l
+      (λ G h. absurd (false≢true (no_name (calls_known (look_up G w)) l
       (split _ _ (sym (fixed-Call (at l (node.Call w (map of es))) G w (map of es) refl) ∙ h)).1)))
   at_node (ExprNode-F.Group e) l =
       subst (λ n. Whole (at l n)) (sym (node.rolls-Group (of e)))

@@ -1,6 +1,14 @@
 pub mod Tests
+pub mod Definitions
 pub mod Constants
 pub mod Sound
 pub mod Complete
 pub mod UnitsSound
 pub mod UnitsComplete
+pub mod Follows
+pub mod Passing
+pub mod FirstFaults
+pub mod SaneTests
+pub mod GoodExpressions
+pub mod GoodUnits
+pub mod Decided

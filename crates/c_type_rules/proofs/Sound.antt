@@ -198,14 +198,14 @@ mutual
       )
 
   -- the same of a leg that may be left out
-  if_fine : (b : Bool) (v : State) (o : Option Stmt) (u : Option TypedStmt) (w : State) → TypesIf b v o u w
+  pub if_fine : (b : Bool) (v : State) (o : Option Stmt) (u : Option TypedStmt) (w : State) → TypesIf b v o u w
       → IfFine b v o u w
   if_fine _ _ _ _ _ without_else = (refl, refl, refl)
   if_fine _ _ _ _ _ (with_else {b = b} {v = v} {w = w} {s = s} {t = t} p) =
       let x = types_fine b v s t w p in (x.0, ap Some x.1, x.2)
 
   -- the same of the first part of a `for`
-  begin_fine : (b : Bool) (v : State) (i : ForInit) (j : TypedForInit) (w : State) → Begins b v i j w
+  pub begin_fine : (b : Bool) (v : State) (i : ForInit) (j : TypedForInit) (w : State) → Begins b v i j w
       → BeginFine b v i j w
   begin_fine _ _ _ _ _ (no_first {b = b} {v = v}) = (fault-Nothing b v, sym (tree-Nothing v), sym (after-Nothing v))
   begin_fine _ _ _ _ _ (first_value {b = b} {v = v} {e = e} {t = t} d) =

@@ -44,6 +44,7 @@ use Rattle.c_type_rules.proofs.Constants.{constant_typed}
 use Rattle.c_type_rules.proofs.Sound.{both}
 use Rattle.c_type_rules.proofs.Complete.{split, held, not_held, less, at_most, sized_typed, whole_stmt, whole_all}
 use Rattle.c_type_rules.proofs.UnitsSound.{block_body, plain_body}
+use Rattle.c_type_rules.proofs.Definitions.{called}
 use Rattle.c_type_rules.proofs.Tests.{both_hold, neither_holds, kinds, params_are, results_are}
 
 -- a value without a fault has its word by the rules, before others
@@ -56,7 +57,7 @@ value_typed G k e es (Some w) v f h n d =
     (one_value (constant_typed e G f) v n d)
 
 -- values without a fault have their words by the rules
-values_typed : (G : Scope) (k : Kind) (es : List Expr) → values_fault es G ≡ None
+pub values_typed : (G : Scope) (k : Kind) (es : List Expr) → values_fault es G ≡ None
     → Values k es (map (constant_at k) es)
 values_typed G k [] h = no_value
 values_typed G k (e ∷ es) h =
@@ -73,14 +74,14 @@ count_typed G init size.Open l h = counted (less _ _ (held _ _ h))
 count_typed G init (size.Sized e) l h = sized (sized_typed G e (length_of e) refl h)
 
 -- a parameter's name without a fault is one by the rules
-named_typed : (d : Bool) (G : Scope) (seen : List Param) (o : Option (List ℕ)) (l : ℕ)
+pub named_typed : (d : Bool) (G : Scope) (seen : List Param) (o : Option (List ℕ)) (l : ℕ)
     → name_fault d G seen o l ≡ None → Named d G seen o
 named_typed d G seen None l h = unnamed (not_held _ _ h)
 named_typed d G seen (Some w) l h =
     let q = neither_holds (named_among seen w) (is_end (look_up G w)) (not_held _ _ h) in named q.0 q.1
 
 -- parameters without a fault are some by the rules
-params_typed : (d : Bool) (G : Scope) (seen ps : List Param) → params_fault d G seen ps ≡ None → Params d G seen ps
+pub params_typed : (d : Bool) (G : Scope) (seen ps : List Param) → params_fault d G seen ps ≡ None → Params d G seen ps
 params_typed d G seen [] h = no_param
 params_typed d G seen (p ∷ ps) h =
     let q = split _ _ h in
@@ -132,15 +133,15 @@ whole_in s (StmtNode-F.Compound ss) e =
 whole_in s _ e = other_whole s (ap is_block e)
 
 -- a body without a fault has its tree by the rules
-body_typed : (s : Stmt) → WholeBody s
+pub body_typed : (s : Stmt) → WholeBody s
 body_typed s = whole_in s (out-StmtNode s.node) refl
 
 -- an include without a fault is one by the rules
-include_typed : (T : Scope) (l : ℕ) (U : FileScope) (b : Bool) → is_end (look_up U.names eof_name) ≡ b
+include_typed : (unit : List Top) (l : ℕ) (U : FileScope) (b : Bool) → is_end (look_up U.names eof_name) ≡ b
     → cond b None (include_clash U.names l) ≡ None
-    → Item T U Include (record U { names = cond b U.names (with_include U.names) })
-include_typed T l U true e h = include_again e
-include_typed T l U false e h =
+    → Item unit U Include (record U { names = cond b U.names (with_include U.names) })
+include_typed unit l U true e h = include_again e
+include_typed unit l U false e h =
     let a = split _ _ h in
     let b = split _ _ a.1 in
     let c = split _ _ b.1 in
@@ -150,27 +151,30 @@ include_typed T l U false e h =
     (agrees_typed true (Some Int) int_slots (look_up U.names putchar_name) l (both _ _ b.0 d.1))
 
 -- an item without a fault leads by the rules to the file scope after it
-item_typed : (T : Scope) (l : ℕ) (U : FileScope) (n : TopNode) → node_fault T n l U ≡ None
-    → Item T U n (node_after T n U)
-item_typed T l U Include h = include_typed T l U (is_end (look_up U.names eof_name)) refl h
-item_typed T l U (Global k w s init) h =
+pub item_typed : (unit : List Top) (l : ℕ) (U : FileScope) (n : TopNode) → node_fault (table unit) n l U ≡ None
+    → Item unit U n (node_after (table unit) n U)
+item_typed unit l U Include h = include_typed unit l U (is_end (look_up U.names eof_name)) refl h
+item_typed unit l U (Global k w s init) h =
     let q = split _ _ h in
     let r = split _ _ q.0 in
     let u = split _ _ r.1 in
     let y = split _ _ q.1 in
     global (count_typed U.names init s l r.0) (not_held _ _ u.0) (at_most _ _ (held _ _ u.1))
     (values_typed (global_names s k w U) k init y.0) (at_most _ _ (held _ _ y.1))
-item_typed T l U (Func given w params None) h = prototype (heads_typed false given w params l U.names h)
-item_typed T l U (Func given w params (Some s)) h =
+item_typed unit l U (Func given w params None) h =
+    prototype (called unit w) (heads_typed false given w params l U.names h)
+item_typed unit l U (Func given w params (Some s)) h =
     let q = split _ _ h in
-    definition (heads_typed true given w params l U.names q.0) (body_typed s (entry T w given params U.names) q.1)
+    definition (called unit w) (heads_typed true given w params l U.names q.0)
+    (body_typed s (entry (table unit) w given params U.names) q.1)
 
 -- items without a fault lead by the rules to the file scope after them
-items_typed : (T : Scope) (U : FileScope) (ts : List Top) → items_fault T ts U ≡ None
-    → Items T U ts (items_after T ts U)
-items_typed T U [] h = no_item
-items_typed T U (t ∷ ts) h =
-    let q = split _ _ h in one_item (item_typed T t.line U t.node q.0) (items_typed T (item_after T t U) ts q.1)
+pub items_typed : (unit : List Top) (U : FileScope) (ts : List Top) → items_fault (table unit) ts U ≡ None
+    → Items unit U ts (items_after (table unit) ts U)
+items_typed unit U [] h = no_item
+items_typed unit U (t ∷ ts) h =
+    let q = split _ _ h in
+    one_item (item_typed unit t.line U t.node q.0) (items_typed unit (item_after (table unit) t U) ts q.1)
 
 main_parts : (a b c : Bool) → a && b && c ≡ true → (a ≡ true) × (b ≡ true) × (c ≡ true)
 main_parts true true true h = (refl, refl, refl)
@@ -199,7 +203,7 @@ main_is (Some (meaning.Function r ps c d)) h =
 -- a unit without a fault is accepted by the rules with its typed program
 pub accepts_typed : (p : Program) → program_fault p ≡ None → Accepts p (program_tree p)
 accepts_typed p h =
-    let q = split _ _ h in accepts (items_typed (table p.items) empty_file p.items q.0) (main_is _ (held _ _ q.1))
+    let q = split _ _ h in accepts (items_typed p.items empty_file p.items q.0) (main_is _ (held _ _ q.1))
 
 no_stop : (e : TypeFault) → None ≡ Some e → false ≡ true
 no_stop e h = ap is_some h

@@ -32,17 +32,19 @@ use Rattle.c_type.specs.States.{at}
 use Rattle.c_constant.specs.Kinds.{bytes}
 use Rattle.c_type.specs.Declarations.{is_end, is_taken}
 use Rattle.c_type.specs.Units.{eof_name, getchar_name, putchar_name, int_slots, with_include, include_clash, global_names, length_in, count_of, count_fault, values_fault, function_fault, same_slots}
-use Rattle.c_type.specs.Functions.{slot_of, params_fault, name_fault, head_fault, entry, body_in, body_part, callee_in}
+use Rattle.c_type.specs.Functions.{slot_of, params_fault, name_fault, head_fault, body_entry, entry, body_in, body_part, callee_in}
+use Rattle.c_type.specs.Signatures.{prototype_names}
 use Rattle.c_type.specs.Statements.{Part, part}
 use Rattle.c_type.specs.Programs.{table, empty_file, main_name, number_in, is_main, node_fault, node_after, items_fault, items_after, whole, program_fault, program_tree}
 use Rattle.c_type_rules.specs.Units.{Values, Count, Named, Params, Agrees, Heads, is_block, Body, Item, Items, Accepts, typed_function, no_value, one_value, single, counted, sized, unnamed, named, no_param, one_param, fresh, again, outermost, other, include, include_again, global, prototype, definition, no_item, one_item, accepts}
 use Rattle.c_type_rules.proofs.Constants.{constant_fine}
 use Rattle.c_type_rules.proofs.Sound.{both, fine, free, size_fine, less, at_most, types_fine, all_fine}
 use Rattle.c_type_rules.proofs.Complete.{split}
+use Rattle.c_type_rules.proofs.Definitions.{calls_is}
 use Rattle.c_type_rules.proofs.Tests.{neither_holds, result_itself, params_themselves}
 
 -- the values of a global have no fault, and their words
-values_fine : (G : Scope) (k : Kind) (es : List Expr) (ns : List ℕ) → Values k es ns
+pub values_fine : (G : Scope) (k : Kind) (es : List Expr) (ns : List ℕ) → Values k es ns
     → (values_fault es G ≡ None) × (ns ≡ map (constant_at k) es)
 values_fine G k _ _ no_value = (refl, refl)
 values_fine G k _ _ (one_value {e = e} {n = n} {es = es} {ns = ns} f v n' d) =
@@ -60,14 +62,14 @@ count_fine G init _ _ l (counted h) = (fine _ (Mismatch l) (less _ _ h), refl)
 count_fine G init _ _ l (sized {e = e} {n = n} s) = (size_fine G e n s, ap word_in (sym s.1))
 
 -- a parameter's name has no fault
-named_fine : (d : Bool) (G : Scope) (seen : List Param) (o : Option (List ℕ)) (l : ℕ) → Named d G seen o
+pub named_fine : (d : Bool) (G : Scope) (seen : List Param) (o : Option (List ℕ)) (l : ℕ) → Named d G seen o
     → name_fault d G seen o l ≡ None
 named_fine d G seen _ l (unnamed h) = fine _ (Mismatch l) (ap not h)
 named_fine d G seen _ l (named {w = w} h h') =
     fine _ (Twice l) (ap (λ b. not (b || is_end (look_up G w))) h ∙ ap not h')
 
 -- parameters have no fault
-params_fine : (d : Bool) (G : Scope) (seen ps : List Param) → Params d G seen ps → params_fault d G seen ps ≡ None
+pub params_fine : (d : Bool) (G : Scope) (seen ps : List Param) → Params d G seen ps → params_fault d G seen ps ≡ None
 params_fine d G _ _ no_param = refl
 params_fine d G _ _ (one_param {seen = seen} {ps = ps} {p = p} n h r) =
     both _ _ (both _ _ (named_fine d G seen p.name p.line n) (fine _ (TooManyParams p.line) (less _ _ h)))
@@ -109,7 +111,7 @@ unfolding body_part
 plain_body s h = plain_in (out-StmtNode s.node) s h
 
 -- a body has no fault, and its tree
-body_fine : (v : State) (s : Stmt) (t : TypedStmt) (w : State) → Body v s t w → BodyFine v s t w
+pub body_fine : (v : State) (s : Stmt) (t : TypedStmt) (w : State) → Body v s t w → BodyFine v s t w
 body_fine _ _ _ _ (outermost {v = v} {w = w} {l = l} {ss = ss} {ts = ts} d) =
     let s = all_fine false v ss ts w d in
     let e = block_body l ss in (
@@ -138,17 +140,18 @@ clash_fine G l h a b =
     both _ _ p.0 (both _ _ q.0 (both _ _ (free G eof_name l h) (both _ _ p.1 q.1)))
 
 -- an item has no fault, and leads to the file scope after it
-item_fine : (T : Scope) (l : ℕ) (U : FileScope) (n : TopNode) (V : FileScope) → Item T U n V → ItemFine T U n V l
-item_fine T l _ _ _ (include {U = U} h a b) =
+pub item_fine : (unit : List Top) (l : ℕ) (U : FileScope) (n : TopNode) (V : FileScope) → Item unit U n V
+    → ItemFine (table unit) U n V l
+item_fine unit l _ _ _ (include {U = U} h a b) =
     let e = (neither_holds (is_here U.names eof_name) (is_end (look_up U.names eof_name)) h).1 in (
       ap (λ b. cond b None (include_clash U.names l)) e ∙ clash_fine U.names l h a b,
       ap (λ b. record U { names = cond b U.names (with_include U.names) }) (sym e),
     )
-item_fine T l _ _ _ (include_again {U = U} e) = (
+item_fine unit l _ _ _ (include_again {U = U} e) = (
   ap (λ b. cond b None (include_clash U.names l)) e,
   ap (λ b. record U { names = cond b U.names (with_include U.names) }) (sym e),
 )
-item_fine T l _ _ _ (global {U = U} {k = k} {w = w} {s = s} {init = init} {n = n} {ns = ns} c h m d f) =
+item_fine unit l _ _ _ (global {U = U} {k = k} {w = w} {s = s} {init = init} {n = n} {ns = ns} c h m d f) =
     let p = count_fine U.names init s n l c in
     let q = values_fine (global_names s k w U) k init ns d in (
       both _ _
@@ -166,11 +169,15 @@ item_fine T l _ _ _ (global {U = U} {k = k} {w = w} {s = s} {init = init} {n = n
             bytes = count_of s init * bytes k + U.bytes;
           }) q.1,
     )
-item_fine T l _ _ _ (prototype {U = U} {given = given} {w = w} {params = params} h) =
-    (heads_fine false given w params l U.names h, refl)
-item_fine T l _ _ _ (definition {U = U} {given = given} {w = w} {params = params} {s = s} {t = t} {v = v} h d) =
-    let E = entry T w given params U.names in
-    let q = body_fine E s t v d in (
+item_fine unit l _ _ _ (prototype {U = U} {given = given} {w = w} {params = params} {c = c} k h) = (
+  heads_fine false given w params l U.names h,
+  ap (λ c. record U { names = prototype_names c w given (map slot_of params) U.names }) (calls_is unit w c k),
+)
+item_fine unit l _ _ _ (definition {U = U} {given = given} {w = w} {params = params} {c = c} {s = s} {t = t}
+    {v = v} k h d) =
+    let E = entry (table unit) w given params U.names in
+    let q = body_fine E s t v (subst (λ c. Body (body_entry c w given params U.names) s t v) (calls_is unit w c k) d)
+    in (
       both _ _ (heads_fine true given w params l U.names h) q.0,
       ap (λ t. record U {
         names = closed v.names;
@@ -183,12 +190,13 @@ item_fine T l _ _ _ (definition {U = U} {given = given} {w = w} {params = params
     )
 
 -- items have no fault, and lead to the file scope after them
-items_fine : (T : Scope) (U : FileScope) (ts : List Top) (V : FileScope) → Items T U ts V
-    → (items_fault T ts U ≡ None) × (V ≡ items_after T ts U)
-items_fine T _ _ _ no_item = (refl, refl)
-items_fine T _ _ _ (one_item {U = U} {V = V} {W = W} {t = t} {ts = ts} d ds) =
-    let p = item_fine T t.line U t.node V d in
-    let q = items_fine T V ts W ds in (
+pub items_fine : (unit : List Top) (U : FileScope) (ts : List Top) (V : FileScope) → Items unit U ts V
+    → (items_fault (table unit) ts U ≡ None) × (V ≡ items_after (table unit) ts U)
+items_fine unit _ _ _ no_item = (refl, refl)
+items_fine unit _ _ _ (one_item {U = U} {V = V} {W = W} {t = t} {ts = ts} d ds) =
+    let T = table unit in
+    let p = item_fine unit t.line U t.node V d in
+    let q = items_fine unit V ts W ds in (
       both _ _ p.0 (ap (λ V. items_fault T ts V) (sym p.1) ∙ q.0),
       q.1 ∙ ap (λ V. items_after T ts V) p.1,
     )
@@ -196,7 +204,7 @@ items_fine T _ _ _ (one_item {U = U} {V = V} {W = W} {t = t} {ts = ts} d ds) =
 -- a unit that the rules accept has no fault, and its typed program
 pub accepts_fine : (p : Program) (t : TypedProgram) → Accepts p t → (program_fault p ≡ None) × (t ≡ program_tree p)
 accepts_fine _ _ (accepts {p = p} {U = U} {c = c} d h) =
-    let q = items_fine (table p.items) empty_file p.items U d in
+    let q = items_fine p.items empty_file p.items U d in
     let e = ap (λ (U : FileScope). look_up U.names main_name) (sym q.1) ∙ h in (
       both _ _ q.0 (ap (λ m. unless (is_main m) NoMain) e),
       ap (λ (U : FileScope). record { globals = U.globals; functions = U.functions; main = number_in c }) q.1

@@ -34,9 +34,11 @@ use Rattle.c_type.specs.States.{at}
 use Rattle.c_constant.specs.Kinds.{bytes}
 use Rattle.c_type.specs.Declarations.{is_end, is_taken}
 use Rattle.c_type.specs.Units.{eof_name, getchar_name, putchar_name, int_slots, with_include, global_names, length_in}
-use Rattle.c_type.specs.Functions.{slot_of, named_among, with_prototype, entry}
-use Rattle.c_type.specs.Programs.{table, empty_file, main_name, number_in}
+use Rattle.c_type.specs.Signatures.{prototype_names}
+use Rattle.c_type.specs.Functions.{slot_of, named_among, body_entry}
+use Rattle.c_type.specs.Programs.{empty_file, main_name, number_in}
 use Rattle.c_type_rules.specs.Constants.{IsConstant, Size}
+use Rattle.c_type_rules.specs.Definitions.{CallsIn}
 use Rattle.c_type_rules.specs.Statements.{Types, TypesAll}
 
 -- CONSTANTS
@@ -76,10 +78,12 @@ pub data Agrees (is_def : Bool) (given : Option Kind) (slots : List Slot) : Opti
     again : {c : Option Callee} {d : Bool} → is_def && d ≡ false
         → Agrees is_def given slots (Some (meaning.Function given slots c d))
 
+-- what stands before the body of a function: its parameters, and that it agrees with what the name means
 abbrev pub Heads : Bool → Option Kind → List ℕ → List Param → Scope → Type 0
 Heads is_def given w params G =
     Params is_def G [] params × Agrees is_def given (map slot_of params) (look_up G w)
 
+-- is the node a block?
 abbrev pub is_block : StmtNode-F ForInit StmtNode Stmt → Bool
 is_block (Compound ss) = true
 is_block _ = false
@@ -103,43 +107,45 @@ typed_function count t v = record {
   body = t;
 }
 
--- in a unit that defines these functions, the item leads from one file scope to the other
-pub data Item (T : Scope) : FileScope → TopNode → FileScope → Type 0 where
+-- in a unit of these items, the item leads from one file scope to the other
+pub data Item (unit : List Top) : FileScope → TopNode → FileScope → Type 0 where
   include : {U : FileScope} → is_taken U.names eof_name ≡ false
       → Agrees true (Some Int) [] (look_up U.names getchar_name)
       → Agrees true (Some Int) int_slots (look_up U.names putchar_name)
-      → Item T U Include (record U { names = with_include U.names })
-  include_again : {U : FileScope} → is_end (look_up U.names eof_name) ≡ true → Item T U Include U
+      → Item unit U Include (record U { names = with_include U.names })
+  include_again : {U : FileScope} → is_end (look_up U.names eof_name) ≡ true → Item unit U Include U
   global : {U : FileScope} {k : Kind} {w : List ℕ} {s : ArraySize} {init : List Expr} {n : ℕ}
       {ns : List ℕ}
       → Count init s n → is_taken U.names w ≡ false → n * bytes k + U.bytes ≤ MOST_OBJECT_BYTES
       → Values k init ns → length init ≤ n
-      → Item T U (Global k w s init) (record U {
+      → Item unit U (Global k w s init) (record U {
         names = global_names s k w U;
         globals = U.globals ++ (record { kind = k; length = length_in s n; init = ns }) ∷ [];
         bytes = n * bytes k + U.bytes;
       })
   prototype : {U : FileScope} {given : Option Kind} {w : List ℕ} {params : List Param}
-      → Heads false given w params U.names
-      → Item T U (Func given w params None)
-      (record U { names = with_prototype T w given (map slot_of params) U.names })
-  definition : {U : FileScope} {given : Option Kind} {w : List ℕ} {params : List Param} {s : Stmt}
-      {t : TypedStmt} {v : State}
-      → Heads true given w params U.names → Body (entry T w given params U.names) s t v
-      → Item T U (Func given w params (Some s)) (record U {
+      {c : Option Callee}
+      → CallsIn unit w c → Heads false given w params U.names
+      → Item unit U (Func given w params None)
+      (record U { names = prototype_names c w given (map slot_of params) U.names })
+  definition : {U : FileScope} {given : Option Kind} {w : List ℕ} {params : List Param}
+      {c : Option Callee} {s : Stmt} {t : TypedStmt} {v : State}
+      → CallsIn unit w c → Heads true given w params U.names
+      → Body (body_entry c w given params U.names) s t v
+      → Item unit U (Func given w params (Some s)) (record U {
         names = closed v.names;
         functions = U.functions ++ typed_function (length params) t v ∷ [];
       })
 
 -- items, one after another
-pub data Items (T : Scope) : FileScope → List Top → FileScope → Type 0 where
-  no_item : {U : FileScope} → Items T U [] U
+pub data Items (unit : List Top) : FileScope → List Top → FileScope → Type 0 where
+  no_item : {U : FileScope} → Items unit U [] U
   one_item : {U V W : FileScope} {t : Top} {ts : List Top}
-      → Item T U t.node V → Items T V ts W → Items T U (t ∷ ts) W
+      → Item unit U t.node V → Items unit V ts W → Items unit U (t ∷ ts) W
 
 -- the unit is accepted with the typed program: it defines `int main(void)`
 pub data Accepts : Program → TypedProgram → Type 0 where
   accepts : {p : Program} {U : FileScope} {c : Option Callee}
-      → Items (table p.items) empty_file p.items U
+      → Items p.items empty_file p.items U
       → look_up U.names main_name ≡ Some (meaning.Function (Some Int) [] c true)
       → Accepts p (record { globals = U.globals; functions = U.functions; main = number_in c })

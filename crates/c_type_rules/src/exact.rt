@@ -1,6 +1,6 @@
 //! The typing relation and the definitions that the code answers by.
 
-ghost use Rattle.std.specs.Prelude.{◌≡◌, ◌↔◌, Bool, None, Ok, Err};
+ghost use Rattle.std.specs.Prelude.{◌≡◌, ◌↔◌, ◌⊎◌, Bool, Some, None, Ok, Err};
 ghost use Rattle.c_tree.specs.declared.tree.Stmt.{Stmt};
 ghost use Rattle.c_tree.specs.declared.tree.Program.{Program};
 ghost use Rattle.c_tree.specs.declared.typed.TypedStmt.{TypedStmt};
@@ -13,6 +13,7 @@ ghost use Rattle.c_type.specs.Statements.{part};
 ghost use Rattle.c_type.specs.Programs.{program_fault, program_tree};
 ghost use Rattle.c_type_rules.specs.Statements.{Types};
 ghost use Rattle.c_type_rules.specs.Units.{Accepts};
+ghost use Rattle.c_type_rules.specs.FirstFaults.{UnitFails};
 
 /// The rules give a statement a typed tree and a state after it exactly where nothing in it fails,
 /// and then these alone.
@@ -36,4 +37,15 @@ pub fn answers_are_exact()
         → Says (program_fault p) (program_tree p) (Ok t) → Accepts p t }
     ensures err { (p : Program) (t : TypedProgram) (e : TypeFault) → Accepts p t
         → Says (program_fault p) (program_tree p) (Err e) → e ≡ Memory }
+{}
+
+/// A unit that the rules do not accept has one fault: that of the first node in the order of the text
+/// that has no types where all before it have, operands before their node and a `main` that is missing
+/// last. It is the fault that the typing answers.
+pub fn faults_are_exact()
+    ensures exact { (p : Program) (f : TypeFault) → UnitFails p f ↔ (program_fault p ≡ Some f) }
+    ensures apart { (p : Program) (t : TypedProgram) (f : TypeFault) → Accepts p t → UnitFails p f
+        → ⊥ }
+    ensures some { (p : Program)
+        → ((t : TypedProgram) × Accepts p t) ⊎ ((f : TypeFault) × UnitFails p f) }
 {}

@@ -4,4 +4,4 @@
 
 mod exact;
 
-pub use exact::{answers_are_exact, statements_are_exact, units_are_exact};
+pub use exact::{answers_are_exact, faults_are_exact, statements_are_exact, units_are_exact};

@@ -6,9 +6,8 @@ use Rattle.c_tree.specs.declared.tree.Top.{Top}
 use Rattle.c_tree.specs.declared.tree.TopNode.{TopNode}
 use Rattle.c_tree.specs.declared.typed.TypedGlobal.{TypedGlobal}
 use Rattle.c_tree.specs.declared.typed.TypedProgram.{TypedProgram}
-use Rattle.c_scope.specs.Scope.{Scope}
 use Rattle.c_type.specs.declared.file_scope.FileScope.{FileScope}
-use Rattle.c_type.specs.Programs.{empty_file, table}
+use Rattle.c_type.specs.Programs.{empty_file}
 use Rattle.c_grammar.specs.Tokens.{Tokens, May, within}
 use Rattle.c_grammar.specs.Answers.{IsUnit, limit}
 use Rattle.c_grammar.specs.Units.{Phrase, globals, func, item, unit, Units}
@@ -74,15 +73,15 @@ items_few ts xs h = let i = counted (within limit) (unit xs) ts [] h in omega ar
 added : (gs : List TypedGlobal) (g : TypedGlobal) → length (gs ++ g ∷ []) ≤ 1 + length gs
 added gs g = let h = length-append gs (g ∷ []) in omega (arith, h)
 
-item_adds : (T : Scope) (U : FileScope) (n : TopNode) (V : FileScope) → Item T U n V
+item_adds : (T : List Top) (U : FileScope) (n : TopNode) (V : FileScope) → Item T U n V
     → length V.globals ≤ 1 + length U.globals
 item_adds T U _ _ (typing.include e g p) = omega arith
 item_adds T U _ _ (typing.include_again e) = omega arith
 item_adds T U _ _ (typing.global c e b v l) = added U.globals _
-item_adds T U _ _ (typing.prototype h) = omega arith
-item_adds T U _ _ (typing.definition h b) = omega arith
+item_adds T U _ _ (typing.prototype k h) = omega arith
+item_adds T U _ _ (typing.definition k h b) = omega arith
 
-items_add : (T : Scope) (U : FileScope) (ts : List Top) (W : FileScope) → Items T U ts W
+items_add : (T : List Top) (U : FileScope) (ts : List Top) (W : FileScope) → Items T U ts W
     → length W.globals ≤ length ts + length U.globals
 items_add T U _ _ typing.no_item = omega arith
 items_add T U _ W (typing.one_item {V = V} {t = t} {ts = ts} x y) =
@@ -91,4 +90,4 @@ items_add T U _ W (typing.one_item {V = V} {t = t} {ts = ts} x y) =
 pub globals_few : (p : Program) (t : TypedProgram) → Accepts p t
     → length t.globals ≤ length p.items
 globals_few p _ (typing.accepts {U = U} h m) =
-    let i = items_add (table p.items) empty_file p.items U h in omega arith
+    let i = items_add p.items empty_file p.items U h in omega arith

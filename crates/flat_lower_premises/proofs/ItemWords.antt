@@ -14,11 +14,10 @@ use Rattle.c_tree.specs.declared.typed.TypedProgram.{TypedProgram}
 use Rattle.c_tree.specs.declared.typed.TypedStmt.{TypedStmt}
 use Rattle.c_tree.specs.declared.typed.TypedStmt.TheVariants as typed
 use Rattle.c_constant.proofs.Conversions.{converted_word}
-use Rattle.c_scope.specs.Scope.{Scope}
 use Rattle.c_type.specs.declared.file_scope.FileScope.{FileScope}
 use Rattle.c_type.specs.declared.state.State.{State}
-use Rattle.c_type.specs.Functions.{entry}
-use Rattle.c_type.specs.Programs.{table, empty_file}
+use Rattle.c_type.specs.Functions.{body_entry}
+use Rattle.c_type.specs.Programs.{empty_file}
 use Rattle.c_type_rules.specs.Units.{Values, Body, Item, Items, Accepts}
 use Rattle.c_type_rules.specs.Units as typing
 use Rattle.flat_lower_premises.specs.Words.{AreWordsOf}
@@ -57,7 +56,7 @@ record FileHasWords (U : FileScope) : Type 0 where
   globals : GlobalsHaveWords U.globals
   functions : FunctionsHaveWords U.functions
 
-module _ (T : Scope) where
+module _ (T : List Top) where
   -- an item keeps this
   item_has : (U : FileScope) (n : TopNode) (V : FileScope) → Item T U n V → TopHasWords n
       → FileHasWords U → FileHasWords V
@@ -69,13 +68,13 @@ module _ (T : Scope) where
         globals = globals_last U.globals _ i.globals (values_have k init ns v);
         functions = i.functions;
       }
-  item_has _ _ _ (typing.prototype a) w i = record { globals = i.globals; functions = i.functions }
-  item_has _ _ _ (typing.definition {U = U} {given = given} {w = name} {params = params} {s = s}
-      {t = t} {v = v} a b) w i =
+  item_has _ _ _ (typing.prototype k a) w i = record { globals = i.globals; functions = i.functions }
+  item_has _ _ _ (typing.definition {U = U} {given = given} {w = name} {params = params}
+      {c = c} {s = s} {t = t} {v = v} k a b) w i =
       record {
         globals = i.globals;
         functions = functions_last U.functions _ i.functions
-            (body_has (entry T name given params U.names) s t v b w);
+            (body_has (body_entry c name given params U.names) s t v b w);
       }
 
   -- so do several
@@ -93,5 +92,5 @@ start = record { globals = tt; functions = tt }
 pub program_has : (p : Program) (t : TypedProgram) → UnitHasWords p.items → Accepts p t
     → ProgramHasWords t
 program_has _ _ w (typing.accepts {p = p} {U = U} is m) =
-    let i = items_have (table p.items) empty_file p.items U is w start in
+    let i = items_have p.items empty_file p.items U is w start in
     record { globals = i.globals; functions = i.functions }

@@ -6,7 +6,6 @@ use Rattle.c_tree.specs.declared.tree.TopNode.{TopNode}
 use Rattle.c_tree.specs.declared.typed.TypedStmt.{TypedStmt}
 use Rattle.c_tree.specs.declared.typed.TypedStmt.TheVariants as typed
 use Rattle.c_tree.specs.declared.typed.TypedForInit.TheOpen as level
-use Rattle.c_scope.specs.Scope.{Scope}
 use Rattle.c_type.specs.declared.file_scope.FileScope.{FileScope}
 use Rattle.c_type.specs.declared.state.State.{State}
 use Rattle.c_type_rules.specs.Units.{Body, outermost, other, typed_function, Item, include}
@@ -26,17 +25,17 @@ body_few (outermost {l = l} {ss = ss} {ts = ts} x) =
     let m = by_stmt _ (level.Compound ts) (typed.rolls-Compound ts) in omega arith
 body_few (other i x) = types_few x
 
-item_few : {T : Scope} {U V : FileScope} {n : TopNode} → Item T U n V
+item_few : {T : List Top} {U V : FileScope} {n : TopNode} → Item T U n V
     → funcs_nodes V.functions ≤ funcs_nodes U.functions + 2 * top_nodes n
 item_few (include i j k) = omega arith
 item_few (include_again i) = omega arith
 item_few (global i j k x y) = omega arith
-item_few (prototype x) = omega arith
-item_few (definition {U = U} {params = params} {t = t} {v = v} h x) =
+item_few (prototype k x) = omega arith
+item_few (definition {U = U} {params = params} {t = t} {v = v} k h x) =
     let c = body_few x in
     let m = funcs_append U.functions (typed_function (length params) t v ∷ []) in omega arith
 
-items_few : {T : Scope} {U V : FileScope} {ts : List Top} → Items T U ts V
+items_few : {T : List Top} {U V : FileScope} {ts : List Top} → Items T U ts V
     → funcs_nodes V.functions ≤ funcs_nodes U.functions + 2 * unit_nodes ts
 items_few no_item = omega arith
 items_few (one_item x y) = let h = item_few x in let i = items_few y in omega arith

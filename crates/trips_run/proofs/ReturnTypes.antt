@@ -34,6 +34,7 @@ use Rattle.c_type.specs.Statements.{part}
 use Rattle.c_type.specs.Functions as functions
 use Rattle.c_type.specs.Programs.{program_fault, program_tree, table, main_name}
 use Rattle.c_type.proofs.Nodes.{fault-Return, after-Return}
+use Rattle.c_type_rules.proofs.UnitsComplete.{accepts_typed}
 use Rattle.c_front.specs.Fronts.{HasTypes}
 use Rattle.trips_run.specs.Source.{small_int, number_in, number_of, return_in, return_of}
 use Rattle.trips_run.specs.Source.{body_in, body_of, main_in, only_main, returned}
@@ -142,4 +143,4 @@ items_fit (item ∷ more ∷ items) n h = absurd (cc)
 -- the tree has types
 pub return_types : (tree : Program) (n : ℕ) → returned tree ≡ Some n
     → (program : TypedProgram) × HasTypes tree program
-return_types tree n h = (program_tree tree, (items_fit tree.items n h, refl))
+return_types tree n h = (program_tree tree, accepts_typed tree (items_fit tree.items n h))

@@ -167,6 +167,79 @@ const TYPING: &[(&str, &str)] = &[
         "int main(void) {\n char a[1048577]; return 7; }",
         "refused type 9 TooLarge line 2\n",
     ),
+    // A constant expression has no call and no element; one of an unknown name is Unknown.
+    (
+        "int a[\nf(1)];\nint main(void) { return 7; }",
+        "refused type 1 Unknown line 2\n",
+    ),
+    (
+        "int f(int x);\nint a[\nf(1)];\nint main(void) { return 7; }",
+        "refused type 1 Unknown line 3\n",
+    ),
+    (
+        "int a =\nf(1);\nint main(void) { return 7; }",
+        "refused type 1 Unknown line 2\n",
+    ),
+    (
+        "int f(int x);\nint a =\nf(1);\nint main(void) { return 7; }",
+        "refused type 1 Unknown line 3\n",
+    ),
+    (
+        "int a[] = {1,\nf(1),};\nint main(void) { return 7; }",
+        "refused type 1 Unknown line 2\n",
+    ),
+    (
+        "int f(int x);\nint a[] = {1,\nf(1),};\nint main(void) { return 7; }",
+        "refused type 1 Unknown line 3\n",
+    ),
+    (
+        "int f(int x) { return x; }\nint a[\nf(1)];\nint main(void) { return 7; }",
+        "refused type 3 Mismatch line 3\n",
+    ),
+    (
+        "int f(int x);\nint a =\nf(1);\nint f(int x) { return x; }\nint main(void) { return 7; }",
+        "refused type 3 Mismatch line 3\n",
+    ),
+    (
+        "int x;\nint a =\nx(1);\nint main(void) { return 7; }",
+        "refused type 3 Mismatch line 3\n",
+    ),
+    (
+        "int f(int x);\nint a =\nf(\ny);\nint main(void) { return 7; }",
+        "refused type 1 Unknown line 4\n",
+    ),
+    (
+        "int a[\nb[0]];\nint main(void) { return 7; }",
+        "refused type 1 Unknown line 2\n",
+    ),
+    (
+        "int b[1];\nint a[\nb[0]];\nint main(void) { return 7; }",
+        "refused type 3 Mismatch line 3\n",
+    ),
+    (
+        "int a =\nb[\nc];\nint main(void) { return 7; }",
+        "refused type 1 Unknown line 3\n",
+    ),
+    (
+        "char a[1048576];\nlong b[] = {\nx };\nint main(void) { return 7; }",
+        "refused type 9 TooLarge line 2\n",
+    ),
+    (
+        "char a[1048568];\nlong b[] = { 1,\nx };\nint main(void) { return 7; }",
+        "refused type 9 TooLarge line 2\n",
+    ),
+    (
+        "char a[1048568];\nlong b[] = {\nx };\nint main(void) { return 7; }",
+        "refused type 1 Unknown line 3\n",
+    ),
+    (
+        "int main(void) {\nint a[\nf(1)]; return 7; }",
+        "refused type 1 Unknown line 3\n",
+    ),
+    (
+        "int f(int x);\nint main(void) {\nint a[\nf(1)]; return 7; }",
+        "refused type 1 Unknown line 4\n",
+    ),
 ];
 
 // Each text under this command is answered by its report, with this status.

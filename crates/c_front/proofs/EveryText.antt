@@ -1,0 +1,70 @@
+-- Every text is accepted or refused.
+use Rattle.std.proofs.Common.{◌≡◌, ◌⊎◌, inl, inr, ℕ, List, Some, None, subst, sym}
+use Rattle.c_tree.specs.declared.tree.Program.{Program}
+use Rattle.c_tree.specs.declared.tree.Top.{Top}
+use Rattle.c_tree.specs.declared.typed.TypedProgram.{TypedProgram}
+use Rattle.c_lex.specs.declared.fault.LexFault.{LexFault}
+use Rattle.c_lex.specs.declared.fault.LexFault.TheVariants as lex
+use Rattle.c_lex.specs.Lexes.{Tokens, Fault, FaultAt}
+use Rattle.c_lex.specs.Lexes as lexical
+use Rattle.c_lex.specs.Answers.{Lexed, Answered}
+use Rattle.c_lex.proofs.Answered.{answered}
+use Rattle.c_grammar.specs.Answers.{Answer, tree, syntax, too_deep, Answers}
+use Rattle.c_grammar.proofs.OneAnswer.{one_answer}
+use Rattle.c_parse.specs.declared.unit.ParseFault.TheVariants as parse
+use Rattle.c_type_expr.specs.declared.fault.TypeFault.{TypeFault}
+use Rattle.c_type_expr.specs.declared.fault.TypeFault.TheVariants.{Memory}
+use Rattle.c_type_expr.specs.Says.{Stops}
+use Rattle.c_type.specs.Programs.{program_fault, program_tree}
+use Rattle.c_type_rules.proofs.Decided.{decided}
+use Rattle.c_type_rules.proofs.GoodUnits.{unit_good}
+use Rattle.c_type_rules.proofs.UnitsComplete.{accepts_typed}
+use Rattle.c_front.specs.declared.refusal.Refusal.{Refusal}
+use Rattle.c_front.specs.declared.refusal.Refusal.TheVariants.{Lex, Parse, Typing}
+use Rattle.c_front.specs.Fronts.{most_tokens, HasTree, HasTypes, HasNoTypes, IsAccepted, IsRefused}
+use Rattle.c_front.specs.Laws.{EveryTextAnswers}
+
+-- accepted or refused
+abbrev Answering : List ℕ → Type 0
+Answering text = ((p : TypedProgram) × IsAccepted text p) ⊎ ((r : Refusal) × IsRefused text r)
+
+-- a text with a tree is accepted, or refused by its typing
+by_typing : (text : List ℕ) (p : Program) → HasTree text p → Answering text
+by_typing text p h = elim (decided p) [
+  | inl t ↦ inl (t.0, (p, h, t.1))
+  | inr f ↦ inr (Typing f.0, (p, h, f.1))
+]
+
+-- a text with tokens goes on to the grammar
+by_grammar : (text : List ℕ) (tokens : Tokens) → Lexed most_tokens text tokens → (a : Answer)
+    → Answers tokens a → Answering text
+by_grammar text tokens l (tree xs) h = by_typing text (record { items = xs }) (tokens, l, h)
+by_grammar text tokens l (syntax n) h = inr (Parse (parse.Syntax n), (tokens, l, h))
+by_grammar text tokens l (too_deep n) h = inr (Parse (parse.TooDeep n), (tokens, l, h))
+
+-- a text without tokens is refused by the lexer
+by_lexer : (text : List ℕ) (f : Fault) (n : ℕ) → FaultAt most_tokens text f n → Answering text
+by_lexer text lexical.BadByte n h = inr (Lex (lex.BadByte n), h)
+by_lexer text lexical.BadLiteral n h = inr (Lex (lex.BadLiteral n), h)
+by_lexer text lexical.Unclosed n h = inr (Lex (lex.Unclosed n), h)
+by_lexer text lexical.TooManyTokens n h = inr (Lex (lex.TooManyTokens n), h)
+by_lexer text lexical.Directive n h = inr (Lex (lex.Directive n), h)
+
+by_tokens : (text : List ℕ) → Answered most_tokens text → Answering text
+by_tokens text (inl x) = let a = one_answer x.0 in by_grammar text x.0 x.1 a.0 a.1
+by_tokens text (inr x) = by_lexer text x.0 x.1 x.2
+
+-- every text is accepted or refused
+pub every_text : EveryTextAnswers
+every_text text = by_tokens text (answered text)
+
+-- ---- what the typing answers
+
+-- a typed program that is given is that of the rules
+pub has_types : (p : Program) (t : TypedProgram) → program_fault p ≡ None → t ≡ program_tree p
+    → HasTypes p t
+has_types p t n e = subst (λ (t : TypedProgram). HasTypes p t) (sym e) (accepts_typed p n)
+
+-- an error that is given is the tree's fault
+pub has_no_types : (p : Program) (e : TypeFault) → program_fault p ≡ Some e → HasNoTypes p e
+has_no_types p e h = unit_good p e h

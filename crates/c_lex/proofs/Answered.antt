@@ -1,0 +1,238 @@
+-- Every text has tokens or a fault.
+use Rattle.std.proofs.Common.{◌≡◌, ◌≤◌, ◌<◌, ℕ, zero, suc, ◌+◌, Bool, true, false, ◌&&◌, ◌||◌, ◌⊎◌, inl, inr, [], ◌∷◌}
+use Rattle.std.proofs.Common.{◌++◌, length, take, drop, Option, Some, None, refl, sym, ap, ◌∙◌, subst, arith, nat_eq, nat_lt}
+use Rattle.std.proofs.Common.{length-append}
+use Rattle.std.proofs.lemmas.Bool.Decides.{nat_tests}
+use Rattle.c_tree.specs.declared.Form.{Form}
+use Rattle.c_tree.specs.declared.Form.TheVariants as form
+use Rattle.c_tree.specs.declared.Kind.{Kind}
+use Rattle.c_tree.specs.declared.Mark.{Mark}
+use Rattle.c_lex.specs.declared.piece.Found.{Found}
+use Rattle.c_lex.specs.declared.piece.Reading.{Reading}
+use Rattle.c_lex.specs.declared.piece.Reading.TheVariants as reads
+use Rattle.c_lex.specs.Bytes.{Bytes, by_class, is_space, is_letter, is_word, is_digit, in_number, not_feed}
+use Rattle.c_lex.specs.Bytes.{at_line_start, line_after}
+use Rattle.c_lex.specs.Runs.{run_len}
+use Rattle.c_lex.specs.Tables.{lookup, keywords}
+use Rattle.c_lex.specs.Constants.{signed_char}
+use Rattle.c_lex.specs.Scans.{constant_of, character_of, close_from, mark_of, is_include}
+use Rattle.c_lex.specs.Pieces.{Longest, word_form, begins_with}
+use Rattle.c_lex.specs.Finds.{IsFront, Finds, Marks, begins_comment}
+use Rattle.c_lex.specs.Lexes.{Tokens, lexeme, Cut, here, Fault, BadByte, TooManyTokens, fault_of}
+use Rattle.c_lex.specs.Lexes.{no_piece, is_broken, one_more, FaultAt}
+use Rattle.c_lex.specs.Turns.{Grows}
+use Rattle.c_lex.specs.Answers.{Lexed, Answered}
+use Rattle.c_lex.proofs.Basics.{eq_is}
+use Rattle.c_lex.proofs.Found.{found, space_found, word_found, number_found, bad_number_found, character_found}
+use Rattle.c_lex.proofs.Found.{quote_found, comment_found, opening_found, line_found, include_found}
+use Rattle.c_lex.proofs.Found.{directive_found, marks_find, nothing, hash_nothing}
+use Rattle.c_lex.proofs.Whole.{grown, whole, bytes_nil, piece_some}
+
+-- ---- the piece at a place
+
+-- a piece at the front of the text, or none
+abbrev Finding : Bool → Bytes → Type 0
+Finding starts text = (r : Option Found) × Finds starts text r
+
+module _ (starts : Bool) (b : ℕ) (bs : Bytes) where
+  abbrev Text : Bytes
+  Text = b ∷ bs
+
+  some : (n : ℕ) (q : Reading) → IsFront starts Text (found n q) → Finding starts Text
+  some n q x = (Some (found n q), x)
+
+  number_at : (o : Option (ℕ × Kind)) → is_digit b ≡ true
+      → constant_of (take (run_len in_number b bs + 1) Text) ≡ o → Finding starts Text
+  number_at None d e = some _ _ (bad_number_found starts Text b bs _ refl d refl e)
+  number_at (Some p) d e = some _ _ (number_found starts Text b bs _ p.0 p.1 refl d refl e)
+
+  quoted_at : (o : Option (ℕ × ℕ)) → nat_eq b 39 ≡ true → character_of bs ≡ o → Finding starts Text
+  quoted_at None q e = some _ _ (quote_found starts Text bs (ap (λ x. x ∷ bs) (eq_is b 39 q)) e)
+  quoted_at (Some p) q e =
+      some _ _ (character_found starts Text bs p.0 p.1 _ (ap (λ x. x ∷ bs) (eq_is b 39 q)) e refl)
+
+  mark_at : (o : Option (ℕ × Mark)) → mark_of Text ≡ o → (r : Option Found) × Marks Text r
+  mark_at None e = (None, e)
+  mark_at (Some p) e = (Some (found p.0 (reads.Token (form.Mark p.1))), (p.1, refl, e))
+
+  module _ (s : is_space b ≡ false) (l : is_letter b ≡ false) (d : is_digit b ≡ false) (q : nat_eq b 39 ≡ false) (h : nat_eq b 35 ≡ false) where
+    -- no comment begins here
+    unmarked : begins_comment Text ≡ false → Finding starts Text
+    unmarked c =
+        let m = mark_at (mark_of Text) refl in (m.0, marks_find starts Text b bs m.0 refl s l d q h c m.1)
+
+    no_slash : nat_eq b 47 ≡ false → Finding starts Text
+    no_slash e =
+        unmarked (ap (λ (v : Bool). (v && begins_with 47 bs) || (v && begins_with 42 bs)) e)
+
+-- a comment or a mark that begins with `/`
+module _ (starts : Bool) where
+  block_at : (cs : Bytes) (o : Option ℕ) → close_from 0 cs ≡ o → Finding starts (47 ∷ 42 ∷ cs)
+  block_at cs None e = (Some _, opening_found starts (47 ∷ 42 ∷ cs) cs refl e)
+  block_at cs (Some n) e = (Some _, comment_found starts (47 ∷ 42 ∷ cs) cs n refl e)
+
+  second_at : (c : ℕ) (cs : Bytes) (v w : Bool) → nat_eq c 47 ≡ v → nat_eq c 42 ≡ w
+      → Finding starts (47 ∷ c ∷ cs)
+  second_at c cs true w e f =
+      (Some _, line_found starts (47 ∷ c ∷ cs) cs _ (ap (λ (x : ℕ). 47 ∷ x ∷ cs) (eq_is c 47 e)) refl)
+  second_at c cs false true e f =
+      subst (λ (x : ℕ). Finding starts (47 ∷ x ∷ cs)) (sym (eq_is c 42 f)) (block_at cs (close_from 0 cs) refl)
+  second_at c cs false false e f =
+      unmarked starts 47 (c ∷ cs) refl refl refl refl refl
+      (ap (λ (v : Bool). v || nat_eq c 42) e ∙ f)
+
+  slash_at : (bs : Bytes) → Finding starts (47 ∷ bs)
+  slash_at [] = unmarked starts 47 [] refl refl refl refl refl refl
+  slash_at (c ∷ cs) = second_at c cs (nat_eq c 47) (nat_eq c 42) refl refl
+
+-- a line that begins with `#`
+line_at : (bs : Bytes) (t : Bool) → is_include (take (run_len (by_class not_feed) 0 bs) bs) ≡ t
+    → Finding true (35 ∷ bs)
+line_at bs true e = (Some _, include_found (35 ∷ bs) bs _ refl refl e)
+line_at bs false e = (Some _, directive_found (35 ∷ bs) bs _ refl refl e)
+
+hash_at : (starts : Bool) (bs : Bytes) → Finding starts (35 ∷ bs)
+hash_at true bs = line_at bs (is_include (take (run_len (by_class not_feed) 0 bs) bs)) refl
+hash_at false bs = (None, hash_nothing false (35 ∷ bs) bs refl refl)
+
+module _ (starts : Bool) (b : ℕ) (bs : Bytes) where
+  by_slash : (t : Bool) → nat_eq b 47 ≡ t → is_space b ≡ false → is_letter b ≡ false → is_digit b ≡ false
+      → nat_eq b 39 ≡ false → nat_eq b 35 ≡ false → Finding starts (b ∷ bs)
+  by_slash true e s l d q h = subst (λ (x : ℕ). Finding starts (x ∷ bs)) (sym (eq_is b 47 e)) (slash_at starts bs)
+  by_slash false e s l d q h = no_slash starts b bs s l d q h e
+
+  by_hash : (t : Bool) → nat_eq b 35 ≡ t → is_space b ≡ false → is_letter b ≡ false → is_digit b ≡ false
+      → nat_eq b 39 ≡ false → Finding starts (b ∷ bs)
+  by_hash true e s l d q = subst (λ (x : ℕ). Finding starts (x ∷ bs)) (sym (eq_is b 35 e)) (hash_at starts bs)
+  by_hash false e s l d q = by_slash (nat_eq b 47) refl s l d q e
+
+  by_quote : (t : Bool) → nat_eq b 39 ≡ t → is_space b ≡ false → is_letter b ≡ false → is_digit b ≡ false
+      → Finding starts (b ∷ bs)
+  by_quote true e s l d = quoted_at starts b bs (character_of bs) e refl
+  by_quote false e s l d = by_hash (nat_eq b 35) refl s l d e
+
+  by_digit : (t : Bool) → is_digit b ≡ t → is_space b ≡ false → is_letter b ≡ false → Finding starts (b ∷ bs)
+  by_digit true e s l = number_at starts b bs (constant_of (take (run_len in_number b bs + 1) (b ∷ bs))) e refl
+  by_digit false e s l = by_quote (nat_eq b 39) refl s l e
+
+  by_letter : (t : Bool) → is_letter b ≡ t → is_space b ≡ false → Finding starts (b ∷ bs)
+  by_letter true e s = (
+    Some _,
+    word_found starts (b ∷ bs) b bs (run_len (by_class is_word) b bs + 1)
+        (word_form (take (run_len (by_class is_word) b bs + 1) (b ∷ bs))
+        (lookup (take (run_len (by_class is_word) b bs + 1) (b ∷ bs)) keywords)) refl e refl refl,
+  )
+  by_letter false e s = by_digit (is_digit b) refl s e
+
+  by_space : (t : Bool) → is_space b ≡ t → Finding starts (b ∷ bs)
+  by_space true e = (Some _, space_found starts (b ∷ bs) b bs (run_len (by_class is_space) b bs + 1) refl e refl)
+  by_space false e = by_letter (is_letter b) refl e
+
+-- a piece stands at the front of a text that has a byte, or none does
+find_piece : (starts : Bool) (b : ℕ) (bs : Bytes) → Finding starts (b ∷ bs)
+find_piece starts b bs = by_space starts b bs (is_space b) refl
+
+-- ---- from piece to piece
+
+below : (n m : ℕ) → nat_lt n m ≡ true → n < m
+below n m e = grind (arith, nat_tests)
+
+-- a count that is not below the most, and no more, is the most
+not_below : (n m : ℕ) → nat_lt n m ≡ false → m ≤ n
+not_below n m e = grind (arith, nat_tests)
+
+full : (n m : ℕ) → nat_lt n m ≡ false → n ≤ m → n ≡ m
+full n m e h = let k : m ≤ n = not_below n m e in omega arith
+
+-- the text is cut so far, in which there are so many tokens
+record So (text before : Bytes) (ts : Tokens) (rest : Bytes) : Type 0 where
+  cut : Cut [] text ts before rest
+  few : length ts ≤ 8192
+
+-- a cut to the end is the whole
+at_end : (text before : Bytes) (ts : Tokens) → So text before ts [] → Lexed 8192 text ts
+at_end text before ts s =
+    let w : text ≡ before = whole [] text before [] ts s.cut ∙ bytes_nil before in
+    (subst (λ (x : Bytes). Cut [] text ts x []) (sym w) s.cut, s.few)
+
+-- the rest of the way, from a shorter rest on
+abbrev Onward : ℕ → Bytes → Type 0
+Onward n text =
+    (before rest : Bytes) (ts : Tokens) → length rest ≤ n → So text before ts rest → Answered 8192 text
+
+-- a piece leaves a shorter rest
+left_over : (starts : Bool) (old p r : Bytes) (q : Reading) (n : ℕ) → Longest starts old p r q
+    → length old ≤ suc n → length r ≤ n
+left_over starts old p r q n l h =
+    let some : 0 < length p = piece_some starts p q l.is in
+    let total : length old ≡ length p + length r = ap length l.split ∙ length-append p r in
+    omega arith
+
+module _ (n : ℕ) (text before rest : Bytes) (ts : Tokens) (short : length rest ≤ suc n) (so : So text before ts rest) (onward : Onward n text) where
+  -- on behind a piece that adds these tokens
+  passed : (p r : Bytes) (q : Reading) (us : Tokens) → Longest (at_line_start before) rest p r q
+      → Grows 8192 (line_after before) q ts us → Answered 8192 text
+  passed p r q us l g =
+      let c = grown text before p r rest (line_after before) q ts us so.cut refl l g so.few in
+      onward (before ++ p) r us (left_over (at_line_start before) rest p r q n l short)
+      (record { cut = c.0; few = c.1 })
+
+  stopped : (f : Fault) → FaultAt 8192 text f (line_after before) → Answered 8192 text
+  stopped f x = inr (f, line_after before, x)
+
+  token_at : (p r : Bytes) (f : Form) (t : Bool) → nat_lt (length ts) 8192 ≡ t
+      → Longest (at_line_start before) rest p r (reads.Token f) → Answered 8192 text
+  token_at p r f true e l =
+      passed p r (reads.Token f) (ts ++ lexeme before f ∷ []) l (refl, (let h : length ts < 8192 = room in h))
+    where
+      room : length ts < 8192
+      room = below (length ts) 8192 e
+  token_at p r f false e l =
+      stopped TooManyTokens (record {
+        tokens = ts;
+        before = before;
+        after = rest;
+        cut = so.cut;
+        few = so.few;
+        stands = one_more (full (length ts) 8192 e so.few) l;
+        line_is = refl;
+      })
+
+  reading_at : (p r : Bytes) (q : Reading) → Longest (at_line_start before) rest p r q → Answered 8192 text
+  reading_at p r reads.Gap l = passed p r reads.Gap ts l refl
+  reading_at p r (reads.Token f) l = token_at p r f (nat_lt (length ts) 8192) refl l
+  reading_at p r (reads.Broken b) l =
+      stopped (fault_of b) (record {
+        tokens = ts;
+        before = before;
+        after = rest;
+        cut = so.cut;
+        few = so.few;
+        stands = is_broken l;
+        line_is = refl;
+      })
+
+  piece_at : (rest ≡ [] → ⊥) → Finding (at_line_start before) rest → Answered 8192 text
+  piece_at ne (None, x) =
+      stopped BadByte (record {
+        tokens = ts;
+        before = before;
+        after = rest;
+        cut = so.cut;
+        few = so.few;
+        stands = no_piece ne x;
+        line_is = refl;
+      })
+  piece_at ne (Some f, x) = reading_at (take f.length rest) (drop f.length rest) f.reading x.front
+
+-- each place leads on
+walk : (n : ℕ) (text : Bytes) → Onward n text
+walk n text before [] ts h so = inl (ts, at_end text before ts so)
+walk zero text before (b ∷ bs) ts h so = absurd
+    (let l : length (b ∷ bs) ≡ suc (length bs) = refl in omega arith)
+walk (suc n) text before (b ∷ bs) ts h so =
+    piece_at n text before (b ∷ bs) ts h so (walk n text) (λ e. cc) (find_piece (at_line_start before) b bs)
+
+-- every text has tokens, few enough, or a fault
+pub answered : (text : Bytes) → Answered 8192 text
+answered text = walk (length text) text [] text [] (omega arith) (record { cut = here; few = omega arith })

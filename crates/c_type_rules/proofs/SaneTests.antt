@@ -1,0 +1,144 @@
+-- No test of a node fails for want of memory.
+use Rattle.std.proofs.Common.{◌≡◌, ℕ, Bool, true, false, List, [], ◌∷◌, length, Option, Some, None, nat_eq}
+use Rattle.std.specs.Prelude.{not, is_some, nat_le, nat_lt, ◌||◌, ◌&&◌}
+use Rattle.c_tree.specs.declared.token.Kind.{Kind}
+use Rattle.c_tree.specs.declared.tree.ArraySize.{ArraySize}
+use Rattle.c_tree.specs.declared.tree.ArraySize.TheVariants as size
+use Rattle.c_tree.specs.declared.tree.Expr.{Expr}
+use Rattle.c_tree.specs.declared.tree.Param.{Param}
+use Rattle.c_tree.specs.declared.typed.Callee.{Callee}
+use Rattle.c_tree.specs.declared.typed.Slot.{Slot}
+use Rattle.c_constant.specs.Need.{need_fits}
+use Rattle.c_scope.specs.declared.meaning.Meaning.{Meaning}
+use Rattle.c_scope.specs.declared.meaning.Meaning.TheVariants as meaning
+use Rattle.c_scope.specs.Scope.{Scope, look_up}
+use Rattle.c_type_expr.specs.declared.fault.TypeFault.{TypeFault}
+use Rattle.c_type_expr.specs.declared.fault.TypeFault.TheVariants.{Unknown, Twice, Mismatch, Arity, TooManyScalars, Need, TooLarge}
+use Rattle.c_type_expr.specs.declared.role.Role.{Role}
+use Rattle.c_type_expr.specs.Roles.{Blame, first, unless, takes_value, takes_element}
+use Rattle.c_type_expr.specs.Faults.{value_fault, takes_name, takes_result, name_fault, element_fault, callee_fault, call_fault}
+use Rattle.c_type_expr.specs.Constants as constants
+use Rattle.c_type.specs.declared.file_scope.FileScope.{FileScope}
+use Rattle.c_type.specs.declared.state.State.{State}
+use Rattle.c_type.specs.Declarations.{bytes, is_taken, is_end, twice_fault, scalar_fault, array_fault, no_init}
+use Rattle.c_type.specs.Statements.{return_fault}
+use Rattle.c_type.specs.Units.{defined_fault, type_fault, function_fault, same_result, same_slots, include_clash, include_fault, place_fault, int_slots, eof_name, getchar_name, putchar_name}
+use Rattle.c_type.specs.Functions as functions
+use Rattle.c_type.specs.Functions.{named_among}
+use Rattle.c_type_rules.proofs.FirstFaults.{Sane}
+use Rattle.std.specs.Prelude.{cond}
+use Rattle.c_tree.specs.declared.token.Kind.TheVariants.{Int}
+
+pub sane_first : (a b : Blame) → Sane a → Sane b → Sane (first a b)
+sane_first None b s t = t
+sane_first (Some f) b s t = s
+
+pub sane_unless : (b : Bool) (f : TypeFault) → Sane (Some f) → Sane (unless b f)
+sane_unless true f s = tt
+sane_unless false f s = s
+
+-- EXPRESSIONS
+
+pub sane_value : (r : Role) (l : ℕ) → Sane (value_fault r l)
+sane_value r l = sane_unless (takes_value r) (Mismatch l) tt
+
+pub sane_name : (m : Option Meaning) (r : Role) (l : ℕ) → Sane (name_fault m r l)
+sane_name None r l = tt
+sane_name (Some m) r l = sane_unless (takes_name m r) (Mismatch l) tt
+
+pub sane_element : (m : Option Meaning) (r : Role) (l : ℕ) → Sane (element_fault m r l)
+sane_element None r l = tt
+sane_element (Some (meaning.Array k p)) r l = sane_unless (takes_element r) (Mismatch l) tt
+sane_element (Some (meaning.Scalar k p)) r l = tt
+sane_element (Some (meaning.Function g ps c d)) r l = tt
+sane_element (Some meaning.EndOfFile) r l = tt
+
+sane_callee : (c : Option Callee) (g : Option Kind) (ps : List Slot) (n : ℕ) (r : Role) (l : ℕ)
+    → Sane (callee_fault c g ps n r l)
+sane_callee None g ps n r l = tt
+sane_callee (Some c) g ps n r l =
+    sane_first _ _ (sane_unless (takes_result g r) (Mismatch l) tt) (sane_unless (nat_eq n (length ps)) (Arity l) tt)
+
+pub sane_call : (m : Option Meaning) (n : ℕ) (r : Role) (l : ℕ) → Sane (call_fault m n r l)
+sane_call None n r l = tt
+sane_call (Some (meaning.Function g ps c d)) n r l = sane_callee c g ps n r l
+sane_call (Some (meaning.Scalar k p)) n r l = tt
+sane_call (Some (meaning.Array k p)) n r l = tt
+sane_call (Some meaning.EndOfFile) n r l = tt
+
+pub sane_constant : (b : Bool) (l : ℕ) → Sane (constants.no_constant b l)
+sane_constant true l = tt
+sane_constant false l = tt
+
+pub sane_word : (o : Option ℕ) (l : ℕ) → Sane (constants.value_fault o l)
+sane_word o l = sane_unless (is_some o) (Mismatch l) tt
+
+pub sane_need : (e : Expr) → Sane (constants.need_fault e)
+sane_need e = sane_unless (need_fits e) (Need e.line) tt
+
+-- STATEMENTS
+
+sane_twice : (G : Scope) (w : List ℕ) (l : ℕ) → Sane (twice_fault G w l)
+sane_twice G w l = sane_unless (not (is_taken G w)) (Twice l) tt
+
+pub sane_scalar : (w : List ℕ) (l : ℕ) (v : State) → Sane (scalar_fault w l v)
+sane_scalar w l v =
+    sane_first _ _ (sane_twice v.names w l) (sane_unless _ (TooManyScalars l) tt)
+
+pub sane_array : (n : ℕ) (k : Kind) (w : List ℕ) (l : ℕ) (G : Scope) → Sane (array_fault n k w l G)
+sane_array n k w l G = sane_first _ _ (sane_twice G w l) (sane_unless _ (TooLarge l) tt)
+
+pub sane_init : (init : Option Expr) (l : ℕ) → Sane (no_init init l)
+sane_init None l = tt
+sane_init (Some e) l = tt
+
+pub sane_return : (r : Option Kind) (e : Option Expr) (l : ℕ) → Sane (return_fault r e l)
+sane_return None None l = tt
+sane_return None (Some e) l = tt
+sane_return (Some k) None l = tt
+sane_return (Some k) (Some e) l = tt
+
+-- UNITS
+
+pub sane_param : (d : Bool) (G : Scope) (seen : List Param) (o : Option (List ℕ)) (l : ℕ)
+    → Sane (functions.name_fault d G seen o l)
+sane_param d G seen None l = sane_unless (not d) (Mismatch l) tt
+sane_param d G seen (Some w) l =
+    sane_unless (not (named_among seen w || is_end (look_up G w))) (Twice l) tt
+
+sane_defined : (d : Bool) (m : Option Meaning) (l : ℕ) → Sane (defined_fault d m l)
+sane_defined d None l = tt
+sane_defined d (Some (meaning.Function g ps c s)) l = sane_unless (not (d && s)) (Twice l) tt
+sane_defined d (Some (meaning.Scalar k p)) l = tt
+sane_defined d (Some (meaning.Array k p)) l = tt
+sane_defined d (Some meaning.EndOfFile) l = tt
+
+sane_type : (g : Option Kind) (ps : List Slot) (m : Option Meaning) (l : ℕ) → Sane (type_fault g ps m l)
+sane_type g ps None l = tt
+sane_type g ps (Some (meaning.Function h qs c s)) l =
+    sane_unless (same_result h g && same_slots qs ps) (Mismatch l) tt
+sane_type g ps (Some (meaning.Scalar k p)) l = tt
+sane_type g ps (Some (meaning.Array k p)) l = tt
+sane_type g ps (Some meaning.EndOfFile) l = tt
+
+pub sane_function : (d : Bool) (g : Option Kind) (ps : List Slot) (m : Option Meaning) (l : ℕ)
+    → Sane (function_fault d g ps m l)
+sane_function d g ps m l = sane_first _ _ (sane_defined d m l) (sane_type g ps m l)
+
+sane_clash : (G : Scope) (l : ℕ) → Sane (include_clash G l)
+sane_clash G l =
+    sane_first _ _ (sane_defined true (look_up G getchar_name) l)
+    (sane_first _ _ (sane_defined true (look_up G putchar_name) l)
+    (sane_first _ _ (sane_twice G eof_name l)
+    (sane_first _ _ (sane_type (Some Int) [] (look_up G getchar_name) l)
+    (sane_type (Some Int) int_slots (look_up G putchar_name) l))))
+
+sane_by : (b : Bool) (f : Blame) → Sane f → Sane (cond b None f)
+sane_by true f s = tt
+sane_by false f s = s
+
+pub sane_include : (G : Scope) (l : ℕ) → Sane (include_fault G l)
+sane_include G l = sane_by (is_end (look_up G eof_name)) _ (sane_clash G l)
+
+pub sane_place : (n : ℕ) (k : Kind) (w : List ℕ) (l : ℕ) (U : FileScope) → Sane (place_fault n k w l U)
+sane_place n k w l U = sane_first _ _ (sane_twice U.names w l) (sane_unless _ (TooLarge l) tt)
