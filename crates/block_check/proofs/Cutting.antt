@@ -193,12 +193,12 @@ full_case : (ns : List Node) (u : ℕ) (c : List Bool) → Spare ns u → u ≤ 
     IsCase (take u ns) c → IsCase ns (c ++ zeros (length ns - u))
 full_case ns u c s le k = record {
   size = (
-    let a = length-append c (zeros (length ns - u)) in
-    let z = zeros_size (length ns - u) in
-    let t = length-take-le u ns le in
-    let e : length c ≡ length (take u ns) = k.size in
-    omega (arith, a, z, t, e)
-  );
+      let a = length-append c (zeros (length ns - u)) in
+      let z = zeros_size (length ns - u) in
+      let t = length-take-le u ns le in
+      let e : length c ≡ length (take u ns) = k.size in
+      omega (arith, a, z, t, e)
+      );
   bits = case_same ns c (c ++ zeros (length ns - u)) (λ x. sym (bits_longer c (length ns - u) x))
       (sym (case_cut ns u s c) ∙ k.bits);
 }

@@ -20,3 +20,4 @@ pub mod OneGood
 pub mod Cutting
 pub mod CutFaults
 pub mod UsedSlots
+pub mod Seeing

@@ -149,11 +149,11 @@ cut_at : (b : Block) (used : ℕ) → FitsBlock b → used ≤ 128 → IsEmptyFr
 cut_at b used f w h = record {
   spare = reads_spare b.reads.items b.insts.items used h;
   within = (
-    let a = nodes_count b.reads.items (inst_nodes 0 b.insts.items) in
-    let s = insts_count 0 b.insts.items in
-    let all : length b.insts.items ≡ 128 = f.insts in
-    omega (arith, a, s, all)
-  );
+      let a = nodes_count b.reads.items (inst_nodes 0 b.insts.items) in
+      let s = insts_count 0 b.insts.items in
+      let all : length b.insts.items ≡ 128 = f.insts in
+      omega (arith, a, s, all)
+      );
   hears = nodes_hear b.reads.items (inst_nodes 0 b.insts.items) (insts_hear 0 b.insts.items (let all
       : length b.insts.items ≡ 128 = f.insts in omega arith) f.each_inst);
 }

@@ -9,7 +9,7 @@ ghost use Rattle.block_check.specs.inside.Found.{Choosing};
 ghost use Rattle.block_check.specs.inside.Leads.{at_slot, leads_on, leads_at, FalseFrom};
 ghost use Rattle.block_check.specs.inside.Leads.{NoneNamesPredicate};
 
-use trips_isa::{Node, Role};
+use trips_isa::{FIRST_WRITE, Node, Role};
 
 fn is_copy(role: Role) -> bool
     ensures { result ≡ is_copy role }
@@ -56,9 +56,9 @@ fn left_at(left: &[bool], place: u16) -> bool
 }
 
 fn is_predicate(place: u16) -> bool
-    ensures { result ≡ (nat_le 256 place && nat_lt place 384) }
+    ensures { result ≡ (nat_le 256 place && nat_lt place FIRST_WRITE) }
 {
-    256 <= place && place < 384
+    256 <= place && place < FIRST_WRITE
 }
 
 fn names_predicate(node: Node) -> bool

@@ -13,7 +13,7 @@ ghost use Rattle.block_check.specs.inside.Judged.{IsFault, FalseBelow};
 use crate::fault::NodeFault;
 use crate::order::sort;
 use crate::search::explore;
-use trips_isa::{Node, Role};
+use trips_isa::{EXIT, FIRST_WRITE, NO_PLACE, Node, PLACES, Role};
 
 fn is_empty(role: Role) -> bool
     ensures { result ≡ true → role ≡ Role.Empty }
@@ -27,40 +27,40 @@ fn is_empty(role: Role) -> bool
 fn is_spare(node: Node) -> bool
     ensures { result ≡ true → IsSpare node }
 {
-    is_empty(node.role) && node.first == 700 && node.second == 700
+    is_empty(node.role) && node.first == NO_PLACE && node.second == NO_PLACE
 }
 
-/// The least place below 448 that is marked, or 448.
+/// The least place below the exit that is marked, or the exit.
 fn first_mark(marks: &[bool]) -> u16
-    requires { length marks.now ≡ 449 }
-    ensures within { result ≤ 448 }
+    requires { length marks.now ≡ PLACES }
+    ensures within { result ≤ EXIT }
     ensures before { (p : ℕ) → p < result → bit marks.now p ≡ false }
-    ensures found { result < 448 → bit marks.now result ≡ true }
+    ensures found { result < EXIT → bit marks.now result ≡ true }
 {
-    for q in 0..448u16 {
+    for q in 0..EXIT {
         if marks[q as usize] {
             return q;
         }
     }
-    448
+    EXIT
 }
 
-/// The least place below 448 that is marked and wanted, or 448.
+/// The least place below the exit that is marked and wanted, or the exit.
 fn first_wanted(marks: &[bool], wanted: &[bool]) -> u16
-    requires marks { length marks.now ≡ 449 }
-    requires wanted { length wanted.now ≡ 449 }
-    requires low { FalseBelow 384 wanted.now }
-    ensures within { result ≤ 448 }
+    requires marks { length marks.now ≡ PLACES }
+    requires wanted { length wanted.now ≡ PLACES }
+    requires low { FalseBelow FIRST_WRITE wanted.now }
+    ensures within { result ≤ EXIT }
     ensures before { (p : ℕ) → p < result → bit wanted.now p ≡ true → bit marks.now p ≡ false }
-    ensures found { result < 448 → bit marks.now result ≡ true }
-    ensures is_wanted { result < 448 → bit wanted.now result ≡ true }
+    ensures found { result < EXIT → bit marks.now result ≡ true }
+    ensures is_wanted { result < EXIT → bit wanted.now result ≡ true }
 {
-    for q in 384..448u16 {
+    for q in FIRST_WRITE..EXIT {
         if wanted[q as usize] && marks[q as usize] {
             return q;
         }
     }
-    448
+    EXIT
 }
 
 fn judge_marks(
@@ -71,10 +71,10 @@ fn judge_marks(
     none: &[bool],
 ) -> Result<(), NodeFault>
     requires ranked { IsRanked nodes.now }
-    requires wanted { length wanted.now ≡ 449 }
-    requires low { FalseBelow 384 wanted.now }
-    requires two { length two.now ≡ 449 }
-    requires none { length none.now ≡ 449 }
+    requires wanted { length wanted.now ≡ PLACES }
+    requires low { FalseBelow FIRST_WRITE wanted.now }
+    requires two { length two.now ≡ PLACES }
+    requires none { length none.now ≡ PLACES }
     requires explored { Explored nodes.now count two.now none.now }
     ensures { MatchResult result
         (λ u. Good nodes.now (bit wanted.now)) (IsFault nodes.now (bit wanted.now)) }
@@ -83,17 +83,17 @@ fn judge_marks(
         return Err(NodeFault::TooManyCases);
     }
     let first = first_mark(two);
-    if first < 448 {
+    if first < EXIT {
         return Err(NodeFault::TwoTokens(first));
     }
     let gap = first_wanted(none, wanted);
-    if gap < 448 {
+    if gap < EXIT {
         return Err(NodeFault::NoToken(gap));
     }
-    if none[448] {
+    if none[EXIT as usize] {
         return Err(NodeFault::NoExit);
     }
-    if two[448] {
+    if two[EXIT as usize] {
         return Err(NodeFault::TwoExits);
     }
     Ok(())
@@ -115,13 +115,13 @@ fn judge_ordered(nodes: &[Node], order: &[usize], wanted: &[bool]) -> Result<(),
     requires size { length nodes.now ≤ 160 }
     requires in_place { AllInPlace nodes.now }
     requires ordered { IsOrdered nodes.now order.now }
-    requires wanted { length wanted.now ≡ 449 }
-    requires low { FalseBelow 384 wanted.now }
+    requires wanted { length wanted.now ≡ PLACES }
+    requires low { FalseBelow FIRST_WRITE wanted.now }
     ensures { MatchResult result
         (λ u. Good nodes.now (bit wanted.now)) (IsFault nodes.now (bit wanted.now)) }
 {
-    let mut two_table = [false; 449];
-    let mut none_table = [false; 449];
+    let mut two_table = [false; PLACES as usize];
+    let mut none_table = [false; PLACES as usize];
     let two = two_table.as_mut_slice();
     let none = none_table.as_mut_slice();
     let used = count_used(nodes);
@@ -133,8 +133,8 @@ fn judge_ordered(nodes: &[Node], order: &[usize], wanted: &[bool]) -> Result<(),
 pub(crate) fn judge(nodes: &[Node], wanted: &[bool]) -> Result<(), NodeFault>
     requires size { length nodes.now ≤ 160 }
     requires in_place { AllInPlace nodes.now }
-    requires wanted { length wanted.now ≡ 449 }
-    requires low { FalseBelow 384 wanted.now }
+    requires wanted { length wanted.now ≡ PLACES }
+    requires low { FalseBelow FIRST_WRITE wanted.now }
     ensures good { IfOk result (λ u. Good nodes.now (bit wanted.now)) }
     ensures fault { IfErr result (IsFault nodes.now (bit wanted.now)) }
 {

@@ -8,16 +8,10 @@ ghost use Rattle.block_check.specs.inside.Used.{nodes_below};
 
 use crate::targets::slot_of;
 use arrayvec::ArrayVec;
-use trips_isa::{Block, Form, Inst, Node, ReadSlot, Role, Sense, Spot, form_of, role_of};
-
-/// No place.
-const NOWHERE: u16 = 700;
-
-/// The place of the exit.
-const EXIT: u16 = 448;
-
-/// The slot of a read's node, whose operands and predicate are no places.
-const NO_SLOT: u16 = 449;
+use trips_isa::{
+    Block, EXIT, FIRST_STORE, FIRST_WRITE, Form, Inst, NO_PLACE, Node, PLACES, ReadSlot, Role,
+    Sense, Spot, form_of, role_of,
+};
 
 fn place_of(spot: Spot) -> u16
     ensures value { result ≡ place_of spot }
@@ -27,9 +21,9 @@ fn place_of(spot: Spot) -> u16
         Spot::Left(s) => s as u16,
         Spot::Right(s) => 128 + s as u16,
         Spot::Pred(s) => 256 + s as u16,
-        Spot::Write(w) => 384 + w as u16,
-        Spot::Store(n) => 416 + n as u16,
-        _ => NOWHERE,
+        Spot::Write(w) => FIRST_WRITE + w as u16,
+        Spot::Store(n) => FIRST_STORE + n as u16,
+        _ => NO_PLACE,
     }
 }
 
@@ -38,7 +32,7 @@ fn place_at(spot: Option<Spot>) -> u16
     ensures bound { result < 768 }
 {
     match spot {
-        None => NOWHERE,
+        None => NO_PLACE,
         Some(s) => place_of(s),
     }
 }
@@ -47,7 +41,7 @@ fn read_node(read: ReadSlot) -> Node
     ensures { result ≡ read_node read }
 {
     Node {
-        slot: NO_SLOT,
+        slot: PLACES,
         role: Role::Reading,
         sense: Sense::Always,
         first: place_of(read.first),
@@ -60,7 +54,7 @@ fn first_place(form: Form, number: u8, spot: Option<Spot>) -> u16
     ensures { result ≡ first_place form number spot }
 {
     match form {
-        Form::Store => 416 + number as u16,
+        Form::Store => FIRST_STORE + number as u16,
         Form::Branch => EXIT,
         _ => place_at(spot),
     }
@@ -70,7 +64,7 @@ fn load_bound(form: Form, number: u8) -> u16
     ensures { result ≡ load_bound form number }
 {
     match form {
-        Form::Load => 416 + number as u16,
+        Form::Load => FIRST_STORE + number as u16,
         _ => 0,
     }
 }
@@ -83,8 +77,8 @@ fn inst_node(slot: u16, inst: Option<Inst>) -> Node
             slot,
             role: Role::Empty,
             sense: Sense::Always,
-            first: NOWHERE,
-            second: NOWHERE,
+            first: NO_PLACE,
+            second: NO_PLACE,
             below: 0,
         },
         Some(i) => {
@@ -128,16 +122,16 @@ pub(crate) fn in_mask(mask: u32, number: u8) -> bool
 /// Marks the places of the declared writes and of the numbers of the mask.
 pub(crate) fn mark_wanted(block: &Block, wanted: &mut [bool])
     requires fits { FitsBlock block.now }
-    requires wanted { length wanted.old ≡ 449 }
-    ensures { (q : ℕ) → q < 449 → bit wanted.new q ≡ wanted_of block.now q }
+    requires wanted { length wanted.old ≡ PLACES }
+    ensures { (q : ℕ) → q < PLACES → bit wanted.new q ≡ wanted_of block.now q }
 {
     for mark in wanted.iter_mut() {
         *mark = false;
     }
     for w in 0..block.writes.len() {
-        wanted[384 + w] = true;
+        wanted[FIRST_WRITE as usize + w] = true;
     }
     for n in 0..32 {
-        wanted[416 + n] = in_mask(block.mask, n as u8);
+        wanted[FIRST_STORE as usize + n] = in_mask(block.mask, n as u8);
     }
 }

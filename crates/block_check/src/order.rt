@@ -11,17 +11,17 @@ ghost use Rattle.trips_isa.specs.declared.node.Node.{Node};
 
 use crate::search::count_tokens;
 use block_cases::CaseToken;
-use trips_isa::Node;
+use trips_isa::{FIRST_STORE, FIRST_WRITE, Node};
 
 /// Whether a count from `from` on and below `end` is not 0.
 fn any_waits(counts: &[u16], end: u16) -> bool
     requires counts { length counts.now ≡ 768 }
     requires end { end < 768 }
-    ensures free { result ≡ false → (q : ℕ) → 416 ≤ q → q < end → slice_index counts.now q ≡ 0 }
-    ensures stuck { result ≡ true → (q : ℕ) × (416 ≤ q) × (q < end)
+    ensures free { result ≡ false → (q : ℕ) → FIRST_STORE ≤ q → q < end → slice_index counts.now q ≡ 0 }
+    ensures stuck { result ≡ true → (q : ℕ) × (FIRST_STORE ≤ q) × (q < end)
         × (0 < slice_index counts.now q) }
 {
-    for q in 416..end {
+    for q in FIRST_STORE..end {
         if counts[q as usize] > 0 {
             return true;
         }
@@ -146,7 +146,7 @@ fn pass(
 /// none has.
 fn consumer(nodes: usize, place: u16) -> usize {
     let slot = place as usize % 128;
-    if place < 384 && 128 <= nodes {
+    if place < FIRST_WRITE && 128 <= nodes {
         nodes - 128 + slot
     } else {
         nodes

@@ -13,8 +13,8 @@ use crate::fault::{CheckFault, NodeFault};
 use crate::judge::judge;
 use crate::nodes::{make_nodes, mark_wanted};
 use crate::numbers::{find_bad_number, find_bad_write};
-use crate::targets::{used_slots, find_bad_inst, find_bad_read};
-use trips_isa::{Block, Spot};
+use crate::targets::{find_bad_inst, find_bad_read, used_slots};
+use trips_isa::{Block, EXIT, FIRST_STORE, FIRST_WRITE, PLACES, Spot};
 
 /// The first fault of a target or of a number, if there is one.
 fn find_order_fault(block: &Block, used: u8) -> Option<CheckFault>
@@ -39,19 +39,19 @@ fn find_order_fault(block: &Block, used: u8) -> Option<CheckFault>
 }
 
 fn spot_of(place: u16) -> Spot
-    requires { place < 448 }
+    requires { place < EXIT }
     ensures { result ≡ spot_of place }
 {
     if place < 128 {
         Spot::Left(place as u8)
     } else if place < 256 {
         Spot::Right((place - 128) as u8)
-    } else if place < 384 {
+    } else if place < FIRST_WRITE {
         Spot::Pred((place - 256) as u8)
-    } else if place < 416 {
-        Spot::Write((place - 384) as u8)
+    } else if place < FIRST_STORE {
+        Spot::Write((place - FIRST_WRITE) as u8)
     } else {
-        Spot::Store((place - 416) as u8)
+        Spot::Store((place - FIRST_STORE) as u8)
     }
 }
 
@@ -79,7 +79,7 @@ fn judge_cases(block: &Block, used: u8) -> Result<(), NodeFault>
     ensures fault { IfErr result (IsFault (nodes_of block.now) (wanted_of block.now)) }
 {
     let nodes = make_nodes(block, used);
-    let mut table = [false; 449];
+    let mut table = [false; PLACES as usize];
     let wanted = table.as_mut_slice();
     mark_wanted(block, wanted);
     judge(nodes.as_slice(), wanted)

@@ -2,6 +2,7 @@
 use Rattle.std.specs.Prelude.{◌≡◌, ℕ, ◌+◌, ◌<◌, ◌≤◌, Bool, true, false, ◌||◌, ◌==◌, nat_lt, List}
 use Rattle.std.specs.Prelude.{[], ◌∷◌, ◌++◌, length, slice_get, slice_set}
 use Rattle.trips_isa.specs.declared.node.Node.{Node}
+use Rattle.trips_isa.specs.declared.places.TheConstants.{PLACES}
 use Rattle.block_cases.specs.Cases.{bit, token, tokens, is_chooser, has_bit, cases, GetsTwo}
 use Rattle.block_cases.specs.Cases.{GetsNone}
 use Rattle.block_check.specs.inside.Walk.{tally}
@@ -39,16 +40,16 @@ pub record Added (ns : List Node) (cs : List (List Bool)) (count count' : ℕ) (
   pub more : count ≤ count'
   pub many : 256 < count' → 256 < count + tally any cs
   pub few : count' ≤ 256 → count' ≡ count + tally any cs
-  pub twos : count' ≤ 256 → (q : ℕ) → q < 449 → bit two' q ≡ (bit two q
+  pub twos : count' ≤ 256 → (q : ℕ) → q < PLACES → bit two' q ≡ (bit two q
       || nat_lt 0 (tally (gets_two ns q) cs))
-  pub nones : count' ≤ 256 → (q : ℕ) → q < 449 → bit none' q ≡ (bit none q
+  pub nones : count' ≤ 256 → (q : ℕ) → q < PLACES → bit none' q ≡ (bit none q
       || nat_lt 0 (tally (gets_none ns q) cs))
 
 -- what is known of all cases
 pub record Explored (ns : List Node) (count : ℕ) (two none : List Bool) : Type 0 where
   pub many : 256 < count → 256 < cases ns
   pub few : count ≤ 256 → cases ns ≡ count
-  pub twos : count ≤ 256 → (q : ℕ) → q < 449 → bit two q ≡ true → GetsTwo ns q
-  pub no_twos : count ≤ 256 → (q : ℕ) → q < 449 → bit two q ≡ false → GetsTwo ns q → ⊥
-  pub nones : count ≤ 256 → (q : ℕ) → q < 449 → bit none q ≡ true → GetsNone ns q
-  pub no_nones : count ≤ 256 → (q : ℕ) → q < 449 → bit none q ≡ false → GetsNone ns q → ⊥
+  pub twos : count ≤ 256 → (q : ℕ) → q < PLACES → bit two q ≡ true → GetsTwo ns q
+  pub no_twos : count ≤ 256 → (q : ℕ) → q < PLACES → bit two q ≡ false → GetsTwo ns q → ⊥
+  pub nones : count ≤ 256 → (q : ℕ) → q < PLACES → bit none q ≡ true → GetsNone ns q
+  pub no_nones : count ≤ 256 → (q : ℕ) → q < PLACES → bit none q ≡ false → GetsNone ns q → ⊥

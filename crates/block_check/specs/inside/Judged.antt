@@ -1,6 +1,7 @@
 -- The fault of the third to the eighth kind that is answered.
 use Rattle.std.specs.Prelude.{◌≡◌, ℕ, ◌<◌, ◌≤◌, Bool, true, false, List}
 use Rattle.trips_isa.specs.declared.node.Node.{Node}
+use Rattle.trips_isa.specs.declared.places.TheConstants.{EXIT}
 use Rattle.block_cases.specs.Nodes.{HasCycle}
 use Rattle.block_cases.specs.Cases.{bit, cases, GetsTwo, GetsNone}
 use Rattle.block_cases.specs.Good.{IsAcyclic, NoTwo, NoGap}
@@ -16,7 +17,7 @@ FalseBelow end l = (q : ℕ) → q < end → bit l q ≡ false
 pub record FirstTwo (ns : List Node) (q : ℕ) : Type 0 where
   pub acyclic : IsAcyclic ns
   pub few : cases ns ≤ 256
-  pub below : q < 448
+  pub below : q < EXIT
   pub two : GetsTwo ns q
   pub least : (p : ℕ) → p < q → GetsTwo ns p → ⊥
 
@@ -25,7 +26,7 @@ pub record FirstGap (ns : List Node) (wanted : ℕ → Bool) (q : ℕ) : Type 0 
   pub acyclic : IsAcyclic ns
   pub few : cases ns ≤ 256
   pub no_two : NoTwo ns
-  pub below : q < 448
+  pub below : q < EXIT
   pub is_wanted : wanted q ≡ true
   pub none : GetsNone ns q
   pub least : (p : ℕ) → p < q → wanted p ≡ true → GetsNone ns p → ⊥
@@ -36,7 +37,7 @@ pub record LacksExit (ns : List Node) (wanted : ℕ → Bool) : Type 0 where
   pub few : cases ns ≤ 256
   pub no_two : NoTwo ns
   pub no_gap : NoGap ns wanted
-  pub none : GetsNone ns 448
+  pub none : GetsNone ns EXIT
 
 -- two branches fire in some case, where nothing else is at fault
 pub record HasTwoExits (ns : List Node) (wanted : ℕ → Bool) : Type 0 where
@@ -44,8 +45,8 @@ pub record HasTwoExits (ns : List Node) (wanted : ℕ → Bool) : Type 0 where
   pub few : cases ns ≤ 256
   pub no_two : NoTwo ns
   pub no_gap : NoGap ns wanted
-  pub exit : GetsNone ns 448 → ⊥
-  pub two : GetsTwo ns 448
+  pub exit : GetsNone ns EXIT → ⊥
+  pub two : GetsTwo ns EXIT
 
 -- the fault with the lowest number, at its least place
 abbrev pub IsFault : List Node → (ℕ → Bool) → NodeFault → Type 0

@@ -5,6 +5,7 @@ use Rattle.block_cases.specs.declared.token.CaseToken.{CaseToken}
 use Rattle.block_cases.specs.declared.token.CaseToken.TheVariants.{Absent}
 use Rattle.trips_isa.specs.declared.form.Role.TheVariants.{Empty}
 use Rattle.trips_isa.specs.declared.node.Node.{Node}
+use Rattle.trips_isa.specs.declared.places.TheConstants.{NO_PLACE}
 use Rattle.block_cases.specs.Cases.{pulled, first}
 
 -- the places of a node lie within the tables
@@ -21,8 +22,8 @@ AllInPlace ns = All InPlace ns
 -- an empty slot: it names no place
 pub record IsSpare (n : Node) : Type 0 where
   pub role : n.role ≡ Empty
-  pub first : n.first ≡ 700
-  pub second : n.second ≡ 700
+  pub first : n.first ≡ NO_PLACE
+  pub second : n.second ≡ NO_PLACE
 
 -- the nodes from `used` on are empty slots
 abbrev pub Spare : List Node → ℕ → Type 0

@@ -11,31 +11,31 @@ returns-then-count-gt256 c = (
   c.requires.explored.many c.if-count-gt256.true,
 )
 
-pub returns-then-first-lt448 : goal.returns-then-first-lt448
-returns-then-first-lt448 c =
+pub returns-then-first-lt-EXIT : goal.returns-then-first-lt-EXIT
+returns-then-first-lt-EXIT c =
     let few = c.if-count-gt256.false in
     record {
       acyclic = ranked_acyclic c.args.nodes.now c.requires.ranked;
       few = few_of _ _ few (c.requires.explored.few few);
-      below = c.if-first-lt448.true;
+      below = c.if-first-lt-EXIT.true;
       two = c.requires.explored.twos few _ (omega arith) (c.first_mark-first.ensures.found
-          c.if-first-lt448.true);
+          c.if-first-lt-EXIT.true);
       least = λ p lt. c.requires.explored.no_twos few p (omega arith)
           (c.first_mark-first.ensures.before p lt);
     }
 
-pub returns-then-gap-lt448 : goal.returns-then-gap-lt448
-returns-then-gap-lt448 c =
+pub returns-then-gap-lt-EXIT : goal.returns-then-gap-lt-EXIT
+returns-then-gap-lt-EXIT c =
     let few = c.if-count-gt256.false in
     record {
       acyclic = ranked_acyclic c.args.nodes.now c.requires.ranked;
       few = few_of _ _ few (c.requires.explored.few few);
       no_two = λ p lt. c.requires.explored.no_twos few p (omega arith)
           (c.first_mark-first.ensures.before p (omega arith));
-      below = c.if-gap-lt448.true;
-      is_wanted = c.first_wanted-gap.ensures.is_wanted c.if-gap-lt448.true;
+      below = c.if-gap-lt-EXIT.true;
+      is_wanted = c.first_wanted-gap.ensures.is_wanted c.if-gap-lt-EXIT.true;
       none = c.requires.explored.nones few _ (omega arith) (c.first_wanted-gap.ensures.found
-          c.if-gap-lt448.true);
+          c.if-gap-lt-EXIT.true);
       least = λ p lt w. c.requires.explored.no_nones few p (omega arith)
           (c.first_wanted-gap.ensures.before p lt w);
     }
