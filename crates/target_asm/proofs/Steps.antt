@@ -55,7 +55,6 @@ only i (Ok v) h = sym (ok_is i v h)
 only i (Err e) h = no_fails e i h
 
 pub read_only : (text : List ℕ) (r : Result Image AsmFault) → ReturnsOrMemory (λ v. v) r (image_in text)
-    → (i : Image) → TargetText i text → All (λ b. b < 256) i.bytes
-    → MatchResult r (λ v. v ≡ i) IsMemory
-read_only text r h i t w =
-    only i r (subst (λ (x : Result Image AsmFault). ReturnsOrMemory (λ v. v) r x) (read_again i text t w) h)
+    → (i : Image) → TargetText i text → MatchResult r (λ v. v ≡ i) IsMemory
+read_only text r h i t =
+    only i r (subst (λ (x : Result Image AsmFault). ReturnsOrMemory (λ v. v) r x) (read_again i text t) h)

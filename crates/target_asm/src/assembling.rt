@@ -16,7 +16,7 @@ use trips_isa::Image;
 #[tactic(auto, using(target_asm_laws::proofs::Images::exact))]
 pub fn assemble(alloc: Global, text: &[u8]) -> Result<Image, AsmFault>
     ensures ok { IfOk result (λ image. TargetText image text.now) }
-    ensures only_ok { (image : Image) → TargetText image text.now → All (λ b. b < 256) image.bytes
+    ensures only_ok { (image : Image) → TargetText image text.now
         → MatchResult result (λ v. v ≡ image) IsMemory }
     ensures err { IfErr result (λ fault. Fails fault (image_in text.now)) }
 {

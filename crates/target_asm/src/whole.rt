@@ -229,7 +229,7 @@ fn steps(alloc: Global, text: &[u8]) -> Result<Image, AsmFault>
 /// of an image is read.
 pub fn read_image(alloc: Global, text: &[u8]) -> Result<Image, AsmFault>
     ensures value { ReturnsOrMemory (λ v. v) result (image_in text.now) }
-    ensures only_ok { (image : Image) → TargetText image text.now → All (λ b. b < 256) image.bytes
+    ensures only_ok { (image : Image) → TargetText image text.now
         → MatchResult result (λ v. v ≡ image) IsMemory }
     ensures short { IfOk result (λ v. All (λ b. length b.insts.items ≤ 128) v.blocks) }
     ensures few { IfOk result (λ v. length v.blocks ≤ 262145) }

@@ -93,9 +93,9 @@ feed_by false text = refl
 feed_is : (count at : ℕ) (text : List ℕ) → If (IsFeed count at text) (feed_in count at text)
 feed_is count at text = feed_by (((at + 1) % 32 == 0) || (at + 1 == count)) text
 
-record IsDataByte (count at : ℕ) (text : List ℕ) (r : ℕ × List ℕ) : Type 0 where
-  below : r.0 < 256
-  is : text ≡ byte_text count at r.0 ++ r.1
+pub record IsDataByte (count at : ℕ) (text : List ℕ) (r : ℕ × List ℕ) : Type 0 where
+  pub below : r.0 < 256
+  pub is : text ≡ byte_text count at r.0 ++ r.1
 
 data_byte_by : (count at byte : ℕ) (text t rest : List ℕ) → IsByte text (byte, t)
     → IsFeed count at t rest → IsDataByte count at text (byte, rest)
@@ -107,7 +107,7 @@ data_byte_by count at byte text t rest b f = record {
       ∙ sym (append_assoc (hex_byte byte) (data_end count at) rest);
 }
 
-data_byte_is : (count at : ℕ) (text : List ℕ)
+pub data_byte_is : (count at : ℕ) (text : List ℕ)
     → If (IsDataByte count at text) (data_byte_in count at text)
 unfolding data_byte_in
 data_byte_is count at text =
@@ -137,7 +137,7 @@ bytes_more count n at b text t bs rest p q =
           rest);
     }
 
-bytes_are : (count n at : ℕ) (text : List ℕ)
+pub bytes_are : (count n at : ℕ) (text : List ℕ)
     → Holds (AreBytes count n at text) (bytes_in count n at text)
 unfolding bytes_in
 bytes_are count zero at text = record { size = refl; each = tt; is = refl }
@@ -154,7 +154,7 @@ pub record IsData (count : ℕ) (text : List ℕ) (r : List ℕ × List ℕ) : T
   pub bytes : AreBytes count count 0 text r
   pub last : last_byte r.0 ≡ 0 → ⊥
 
-above : (n : ℕ) → nat_lt 0 n ≡ true → n ≡ 0 → ⊥
+pub above : (n : ℕ) → nat_lt 0 n ≡ true → n ≡ 0 → ⊥
 above n e z = let l : 0 < n = ltb-true 0 n e in omega (arith, l, z)
 
 pub data_is : (count : ℕ) (text : List ℕ) → Holds (IsData count text) (data_in count text)

@@ -125,7 +125,7 @@ digits_are d (e ∷ ds) a z l =
     by (inl h) w some is = omega (arith, h, w)
     by (inr h) w some is = absurd (some (omega (arith, h, is.low)))
 
-length-front : (text : List ℕ) → length (take (digits_in text) text) ≡ digits_in text
+pub length-front : (text : List ℕ) → length (take (digits_in text) text) ≡ digits_in text
 unfolding digits_in
 length-front [] = refl
 length-front (c ∷ cs) = by (is_digit c) (length-front cs)

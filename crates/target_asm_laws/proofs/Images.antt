@@ -87,14 +87,14 @@ block_texts text first bs s =
     ∙ texts_are bs 0 0 [] bs refl refl refl
 
 abbrev pub IsText : List ℕ → Image → Type 0
-IsText text i = TargetText i text × All Byte i.bytes
+IsText text i = TargetText i text
 
 whole_by : (text t u : List ℕ) (count : ℕ) (bytes : List ℕ) (first bs : List Block)
     → IsFront text (count, t) → IsData count t (bytes, u) → not (is_empty u) ≡ true
     → IsSecond u first bs → IsText text (record { blocks = bs; bytes = bytes })
 whole_by text t u count bytes first bs f d e s =
     let size : length bytes ≡ count = d.bytes.size in
-    let total : 0 + sum_by chunks bs ≤ 524288 = s.read.total in (
+    let total : 0 + sum_by chunks bs ≤ 524288 = s.read.total in
       record {
         fits = record {
           some = some_block (goals (begins_of first)) u bs e s.read.is;
@@ -110,9 +110,7 @@ whole_by text t u count bytes first bs f d e s =
             (block_texts u first bs s))
             ∙ ap (λ (n : ℕ). head_lines n ++ (numbered (byte_text n) 0 bytes
             ++ numbered (block_in bs) 0 bs)) (sym size);
-      },
-      all_of Byte bytes d.bytes.each,
-    )
+      }
 
 pub image_is : (text : List ℕ) → Holds (IsText text) (image_in text)
 unfolding image_in
@@ -133,9 +131,8 @@ pub read_is : (text : List ℕ) (i : Image) → image_in text ≡ Ok i → IsTex
 read_is text i e = subst (Holds (IsText text)) e (image_is text)
 
 pub exact : (text : List ℕ) (i : Image) → image_in text ≡ Ok i → TargetText i text
-exact text i e = (read_is text i e).0
+exact text i e = read_is text i e
 
--- and the text of an image of bytes is read as that image
-pub both_ways : (text : List ℕ) (i : Image)
-    → (image_in text ≡ Ok i) ↔ (TargetText i text × All Byte i.bytes)
-both_ways text i = (read_is text i, λ h. read_again i text h.0 h.1)
+-- and the text of an image is read as that image
+pub both_ways : (text : List ℕ) (i : Image) → (image_in text ≡ Ok i) ↔ TargetText i text
+both_ways text i = (read_is text i, read_again i text)

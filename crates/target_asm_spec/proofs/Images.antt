@@ -59,7 +59,7 @@ limit_again : (n : ℕ) → n ≤ 4194304 → bytes_limit (pos n) ≡ Some n
 unfolding bytes_limit
 limit_again n l = rw (le-leb n 4194304 l) refl
 
-front_again : (n : ℕ) (rest : List ℕ) → n ≤ 4194304 → front_in (head_lines n ++ rest) ≡ Ok (n, rest)
+pub front_again : (n : ℕ) (rest : List ℕ) → n ≤ 4194304 → front_in (head_lines n ++ rest) ≡ Ok (n, rest)
 unfolding front_in
 front_again n rest l =
     let t : List ℕ = codes "data " ++ (decimal n ++ 10 ∷ rest) in
@@ -74,7 +74,7 @@ feed_by : (c : Bool) (t : List ℕ) → (if c then after_in (codes "\n") ((if c 
 feed_by true t = after_front (codes "\n") t
 feed_by false t = refl
 
-data_byte_again : (count at b : ℕ) (t : List ℕ) → b < 256
+pub data_byte_again : (count at b : ℕ) (t : List ℕ) → b < 256
     → data_byte_in count at (byte_text count at b ++ t)
     ≡ Some (b, t)
 unfolding data_byte_in byte_text
@@ -86,7 +86,7 @@ data_byte_again count at b t l =
     let end : feed_in count at rest ≡ Some t = feed_by (((at + 1) % 32 == 0) || (at + 1 == count)) t in
     rw (e, one, end) refl
 
-bytes_again : (count at : ℕ) (bs rest : List ℕ) → Each (λ b. b < 256) bs
+pub bytes_again : (count at : ℕ) (bs rest : List ℕ) → Each (λ b. b < 256) bs
     → bytes_in count (length bs) at (numbered (byte_text count) at bs ++ rest) ≡ Ok (bs, rest)
 unfolding bytes_in
 bytes_again count at [] rest f = refl
@@ -99,11 +99,11 @@ bytes_again count at (b ∷ bs) rest f =
     let more : bytes_in count (length bs) (suc at) t ≡ Ok (bs, rest) = bytes_again count (suc at) bs rest f.1 in
     rw (e, one, n, more) refl
 
-above_zero : (n : ℕ) → (n ≡ 0 → ⊥) → nat_lt 0 n ≡ true
+pub above_zero : (n : ℕ) → (n ≡ 0 → ⊥) → nat_lt 0 n ≡ true
 above_zero zero h = absurd (h refl)
 above_zero (suc n) h = lt-ltb 0 (suc n) (omega arith)
 
-data_again : (bs rest : List ℕ) → Each (λ b. b < 256) bs → (last_byte bs ≡ 0 → ⊥)
+pub data_again : (bs rest : List ℕ) → Each (λ b. b < 256) bs → (last_byte bs ≡ 0 → ⊥)
     → data_in (length bs) (numbered (byte_text (length bs)) 0 bs ++ rest) ≡ Ok (bs, rest)
 unfolding data_in
 data_again bs rest f h =
@@ -198,10 +198,9 @@ unfolding block_text block_line
 some_text all [] k l = absurd (omega (arith, l))
 some_text all (b ∷ bs) k l = refl
 
-pub image_again : (i : Image) → FitsImage i → All (λ b. b < 256) i.bytes
-    → image_in (image_text i) ≡ Ok i
+pub image_again : (i : Image) → FitsImage i → image_in (image_text i) ≡ Ok i
 unfolding image_in
-image_again i f w =
+image_again i f =
     let blocks : List ℕ = numbered (block_in i.blocks) 0 i.blocks in
     let n : ℕ = length i.bytes in
     let few : length i.blocks ≤ 524288 = omega (arith, two_chunks i.blocks, f.total) in
@@ -209,7 +208,7 @@ image_again i f w =
     ≡ Ok (n, numbered (byte_text n) 0 i.bytes ++ blocks) =
     front_again n (numbered (byte_text n) 0 i.bytes ++ blocks) f.few in
     let second : data_in n (numbered (byte_text n) 0 i.bytes ++ blocks) ≡ Ok (i.bytes, blocks) =
-    data_again i.bytes blocks (each_of (λ b. b < 256) i.bytes w) f.last in
+    data_again i.bytes blocks (each_of (λ b. b < 256) i.bytes f.bytes) f.last in
     let some : is_empty blocks ≡ false = some_text i.blocks i.blocks 0 f.some in
     let line : ℕ = 3 + data_lines n in
     let before : body_in unknown line blocks ≡ Ok (blocks_with (raw_at i.blocks) 0 i.blocks) =
@@ -227,14 +226,11 @@ ok_is : (x y : Image) → ◌≡◌ {A = Result Image AsmFault} (Ok x) (Ok y) �
 ok_is x y e = cc
 
 -- a text is read as its image
-pub read_again : (i : Image) (text : List ℕ) → TargetText i text → All (λ b. b < 256) i.bytes
-    → image_in text ≡ Ok i
-read_again i text t w = ap image_in t.spelled ∙ image_again i t.fits w
+pub read_again : (i : Image) (text : List ℕ) → TargetText i text → image_in text ≡ Ok i
+read_again i text t = ap image_in t.spelled ∙ image_again i t.fits
 
-pub one_image : (i j : Image) (text : List ℕ) → All (λ b. b < 256) i.bytes
-    → All (λ b. b < 256) j.bytes
-    → TargetText i text → TargetText j text → i ≡ j
-one_image i j text v w a b = ok_is i j (sym (read_again i text a v) ∙ read_again j text b w)
+pub one_image : (i j : Image) (text : List ℕ) → TargetText i text → TargetText j text → i ≡ j
+one_image i j text a b = ok_is i j (sym (read_again i text a) ∙ read_again j text b)
 
 pub one_text : (i : Image) (text other : List ℕ) → TargetText i text → TargetText i other
     → text ≡ other

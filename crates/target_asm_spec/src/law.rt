@@ -1,5 +1,5 @@
 //! Laws of target text, over its definitions alone; each function's clauses are the laws.
-ghost use Rattle.std.specs.Prelude.{◌≡◌, ◌<◌, ℕ, ℤ, List, All, Ok};
+ghost use Rattle.std.specs.Prelude.{◌≡◌, ℕ, ℤ, List, Ok};
 ghost use Rattle.trips_isa.specs.declared.block.Block.{Block};
 ghost use Rattle.trips_isa.specs.declared.block.Image.{Image};
 ghost use Rattle.target_asm_spec.specs.Chunks.{goal_of, goal_in, start_rows};
@@ -12,12 +12,11 @@ pub fn starts_are_told()
         ≡ goal_of blocks z }
 {}
 
-/// An image has at most one text, and a text at most one image of bytes.
+/// An image has at most one text, and a text at most one image.
 pub fn texts_are_unique()
     ensures one_text { (i : Image) (text other : List ℕ) → TargetText i text
         → TargetText i other → text ≡ other }
-    ensures one_image { (i j : Image) (text : List ℕ) → All (λ b. b < 256) i.bytes
-        → All (λ b. b < 256) j.bytes → TargetText i text → TargetText j text → i ≡ j }
-    ensures again { (i : Image) (text : List ℕ) → TargetText i text
-        → All (λ b. b < 256) i.bytes → image_in text ≡ Ok i }
+    ensures one_image { (i j : Image) (text : List ℕ) → TargetText i text
+        → TargetText j text → i ≡ j }
+    ensures again { (i : Image) (text : List ℕ) → TargetText i text → image_in text ≡ Ok i }
 {}

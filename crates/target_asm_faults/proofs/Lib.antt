@@ -1,0 +1,13 @@
+pub mod Numerals
+pub mod Targets
+pub mod Rows
+pub mod Insts
+pub mod Capped
+pub mod OneLine
+pub mod Meeting
+pub mod Leads
+pub mod Registers
+pub mod SlotLines
+pub mod BlockLines
+pub mod Aiming
+pub mod Judged

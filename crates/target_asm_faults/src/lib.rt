@@ -1,0 +1,6 @@
+//! That a text is an image's or has a first fault, one and not both, and that reading it finds it.
+#![tactic(auto)]
+
+mod law;
+
+pub use law::texts_are_judged;
