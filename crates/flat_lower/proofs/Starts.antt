@@ -82,7 +82,7 @@ rest_fits g gs h k d lt = h (suc k) d (omega arith)
 first_fits : (g : TypedGlobal) (gs : List TypedGlobal) → All FitsGlobal (g ∷ gs) → FitsGlobal g
 first_fits g gs h = h 0 g (omega arith)
 
-images_length : (gs : List TypedGlobal) → All FitsGlobal gs → length (globals_image gs) ≡ room_of gs
+pub images_length : (gs : List TypedGlobal) → All FitsGlobal gs → length (globals_image gs) ≡ room_of gs
 images_length [] h = refl
 images_length (g ∷ gs) h = both_length (global_image g) (globals_image gs)
     ∙ ap₂ (λ a b. a + b) (global_length g (first_fits g gs h)) (images_length gs (rest_fits g gs h))

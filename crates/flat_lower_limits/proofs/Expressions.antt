@@ -1,6 +1,6 @@
 -- The code of an expression fits.
 use Rattle.std.proofs.Common.{◌≡◌, ℕ, suc, ◌<◌, Bool, List, []}
-use Rattle.std.proofs.Common.{◌∷◌, length, take, Option, Some, None, refl, sym, ap, ◌∙◌, subst}
+use Rattle.std.proofs.Common.{◌∷◌, length, take, Option, Some, None, refl, sym, ap, ◌∙◌, subst, arith}
 use Rattle.std.specs.Prelude.{slice_get}
 use Rattle.std.proofs.lemmas.Option.{slice_get_within}
 use Rattle.c_tree.specs.declared.Kind.{Kind}
@@ -33,7 +33,7 @@ use Rattle.flat_lower.proofs.Depths.{depth_fits}
 use Rattle.flat_lower_limits.proofs.Fitting.{Fitting, nothing_fits, single_fits, let_fits, if_fits}
 use Rattle.flat_lower_limits.proofs.Fitting.{with_kind_fits, joined, scalar_fits, temp_fits, temp_lasts}
 use Rattle.flat_lower_limits.proofs.Operations.{word_fits, converted_here_fits, binary_fits, unary_fits}
-use Rattle.flat_lower_limits.proofs.Places.{FitsPlace, FitsSide, name_fits, element_fits, bump_fits}
+use Rattle.flat_lower_limits.proofs.Places.{HasPlaces, FitsPlace, FitsSide, name_fits, element_fits, bump_fits}
 use Rattle.flat_lower_limits.proofs.Places.{before_fits, after_fits}
 
 -- PLACES
@@ -106,10 +106,10 @@ result_lasts n (Some k) d h = temp_lasts n d h
 
 -- EXPRESSIONS
 
-module _ (fs : List Function) (c : Scope) (i : Bool) (x : Context)
-    (known : Callable fs c.functions) where
+module _ (fs : List Function) (c : Scope) (bytes : ℕ) (i : Bool) (x : Context)
+    (known : Callable fs c.functions) (low : HasPlaces x bytes) where
   abbrev Fits : Code → Type 0
-  Fits code = Fitting fs (length c.scalars) i code
+  Fits code = Fitting fs (length c.scalars) bytes i code
 
   depth : (d : ℕ) → d < 16 → FitsVar (length c.scalars) (temp d)
   depth d h = temp_fits (length c.scalars) d h
@@ -117,7 +117,7 @@ module _ (fs : List Function) (c : Scope) (i : Bool) (x : Context)
   tested_fits : (d : ℕ) → d < 16 → Fits (tested d)
   tested_fits d h =
       let q = depth d h in
-      let_fits (temp d) op.Tne (Var (temp d)) (Const 0) refl q q tt
+      let_fits (temp d) op.Tne (Var (temp d)) (Const 0) refl q q (omega arith)
 
   binary_end_fits : (o : BinaryOp) (k : Option Kind) (d : ℕ) (right : Code) → d < 16
       → operand_at o d < 16 → Fits right → Fits (binary_end o k d right)
@@ -127,7 +127,7 @@ module _ (fs : List Function) (c : Scope) (i : Bool) (x : Context)
   binary_end_fits LogicalOr k d right h g p =
       let q = depth d h in
       if_fits (Var (temp d)) (set_word (temp d) 1) (Then right (tested d)) q
-      (word_fits (temp d) 1 q) (joined p (tested_fits d h))
+      (word_fits (temp d) 1 q (omega arith)) (joined p (tested_fits d h))
   binary_end_fits o k d right h g p = joined p
       (with_kind_fits k (λ k. binary_code o k (temp d) (temp (suc d)))
       (λ k. binary_fits o k (temp d) (temp (suc d)) (depth d h) (depth (suc d) g)))
@@ -153,25 +153,25 @@ module _ (fs : List Function) (c : Scope) (i : Bool) (x : Context)
   byte_out_fits k d args h =
       let q = depth d h in
       joined (single_fits (Put (Var (temp d))) q)
-      (let_fits (temp d) op.Extub (Var (temp d)) (Const 0) refl q q tt)
+      (let_fits (temp d) op.Extub (Var (temp d)) (Const 0) refl q q (omega arith))
 
   argument_fits : (d : ℕ) (s : Slot) (e : Expr) → (FitsExpr c d e → Fits (expr_code x d e))
       → FitsArg c d s (FitsExpr c d e) e → Fits (expr_code x d e)
   argument_fits d (slot.Scalar k) e f t = f t.0
   argument_fits d (slot.Address k) (Name j p) f t =
       with_kind_fits j (name_code x p (temp d))
-      (λ j. name_fits x p (temp d) j (whole_place c k p t.2) (depth d t.0))
+      (λ j. name_fits x low p (temp d) j (whole_place c k p t.2) (depth d t.0))
   argument_fits d (slot.Address k) _ f t = absurd t
 
   mutual
     pub expr_fits : (d : ℕ) (e : Expr) → FitsExpr c d e → Fits (expr_code x d e)
     expr_fits d (Number None w) t = absurd t
-    expr_fits d (Number (Some k) w) t = word_fits (temp d) w (depth d t.0)
+    expr_fits d (Number (Some k) w) t = word_fits (temp d) w (depth d t.0) t.1.below
     expr_fits d (Name None p) t = absurd t
-    expr_fits d (Name (Some k) p) t = name_fits x p (temp d) k (name_place c k p t.1) (depth d t.0)
+    expr_fits d (Name (Some k) p) t = name_fits x low p (temp d) k (name_place c k p t.1) (depth d t.0)
     expr_fits d (Element k p index) t = joined (expr_fits d index t.1)
         (with_kind_fits k (element_code x p d)
-        (λ j. element_fits x p d j (element_place c k p t.0) (depth_fits c d index t.1)))
+        (λ j. element_fits x low p d j (element_place c k p t.0) (depth_fits c d index t.1)))
     expr_fits d (Call k (callee.Func f) args) t =
         joined (args_fit d (take t.1.0.params t.1.0.scalars) args t.1.3)
         (called_fits k f d args t.1.0 t.1.1 t.1.3 t.0)
@@ -189,7 +189,7 @@ module _ (fs : List Function) (c : Scope) (i : Bool) (x : Context)
         (converted_here_fits to (temp d) (depth d (depth_fits c d e t.0)))
     expr_fits d (Bump k o e) t = joined (index_fits d k e t)
         (with_kind_fits (kind_of e) (bump_code x o d e)
-        (λ j. bump_fits x o d e j (side_place c d k e t) (left_depth c d k e t)))
+        (λ j. bump_fits x low o d e j (side_place c d k e t) (left_depth c d k e t)))
     expr_fits d (Binary k o l r) t = joined (expr_fits d l t.0)
         (binary_end_fits o (kind_of l) d (expr_code x (operand_at o d) r) (depth_fits c d l t.0)
         (depth_fits c (operand_at o d) r t.1) (expr_fits (operand_at o d) r t.1))
@@ -201,9 +201,9 @@ module _ (fs : List Function) (c : Scope) (i : Bool) (x : Context)
         let s = side_place c d k l t.0 in
         joined (index_fits d k l t.0)
         (joined (with_kind_fits (kind_of l) (before_right x o at d l)
-        (λ j. before_fits x o at d l j s h))
+        (λ j. before_fits x low o at d l j s h))
         (joined (expr_fits (right_at o d l) r t.1)
-        (with_kind_fits (kind_of l) (after_right x o at d l) (λ j. after_fits x o at d l j s h))))
+        (with_kind_fits (kind_of l) (after_right x o at d l) (λ j. after_fits x low o at d l j s h))))
     expr_fits d (Comma k l r) t = joined (expr_fits d l t.0) (expr_fits d r t.1)
 
     index_fits : (d : ℕ) (k : Option Kind) (e : Expr) → FitsLeft c d k e → Fits (index_code x d e)

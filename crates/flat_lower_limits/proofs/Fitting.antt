@@ -14,8 +14,8 @@ use Rattle.flat_lower.specs.Operations.{temp, scratch}
 use Rattle.flat_lower.specs.Expressions.{with_kind}
 
 -- code that fits, as a record, so that the code is told by the fact
-pub record Fitting (fs : List Function) (n : ℕ) (inside : Bool) (x : Code) : Type 0 where
-  pub fits : FitsCode fs n inside x
+pub record Fitting (fs : List Function) (n bytes : ℕ) (inside : Bool) (x : Code) : Type 0 where
+  pub fits : FitsCode fs n bytes inside x
 
 -- VARIABLES
 
@@ -68,46 +68,46 @@ scratch_fits n s h = or_second (is_lasting n (scratch s))
 
 -- CODE
 
-then_fits : (fs : List Function) (n : ℕ) (i : Bool) (a b : Code) → FitsCode fs n i a
-    → FitsCode fs n i b → FitsCode fs n i (Then a b)
-then_fits fs n i Nop b p q = q
-then_fits fs n i (s ▹ a) b p q = (p.0, then_fits fs n i a b p.1 q)
+then_fits : (fs : List Function) (n bytes : ℕ) (i : Bool) (a b : Code) → FitsCode fs n bytes i a
+    → FitsCode fs n bytes i b → FitsCode fs n bytes i (Then a b)
+then_fits fs n bytes i Nop b p q = q
+then_fits fs n bytes i (s ▹ a) b p q = (p.0, then_fits fs n bytes i a b p.1 q)
 
-module _ {fs : List Function} {n : ℕ} {i : Bool} where
-  pub nothing_fits : Fitting fs n i Nop
+module _ {fs : List Function} {n bytes : ℕ} {i : Bool} where
+  pub nothing_fits : Fitting fs n bytes i Nop
   nothing_fits = record { fits = tt }
 
-  pub single_fits : (s : Step) → FitsStep fs n i s → Fitting fs n i (only s)
+  pub single_fits : (s : Step) → FitsStep fs n bytes i s → Fitting fs n bytes i (only s)
   single_fits s p = record { fits = (p, tt) }
 
   pub let_fits : (to : ℕ) (o : Op) (a b : Arg) → operates o ≡ true → FitsVar n to → FitsArg n a
-      → FitsArg n b → Fitting fs n i (only (Let to o a b))
+      → FitsArg n b → Fitting fs n bytes i (only (Let to o a b))
   let_fits to o a b e p q r = record { fits = ((e, p, q, r), tt) }
 
-  pub frame_fits : (to at : ℕ) → FitsVar n to → Fitting fs n i (only (Frame to at))
-  frame_fits to at p = record { fits = (p, tt) }
+  pub frame_fits : (to at : ℕ) → FitsVar n to → at ≤ bytes → Fitting fs n bytes i (only (Frame to at))
+  frame_fits to at p h = record { fits = ((p, h), tt) }
 
   pub load_fits : (to : ℕ) (o : Op) (a : Arg) → loads o ≡ true → FitsVar n to → FitsArg n a
-      → Fitting fs n i (only (Load to o a))
+      → Fitting fs n bytes i (only (Load to o a))
   load_fits to o a e p q = record { fits = ((e, p, q), tt) }
 
   pub save_fits : (o : Op) (a v : Arg) → stores o ≡ true → FitsArg n a → FitsArg n v
-      → Fitting fs n i (only (Save o a v))
+      → Fitting fs n bytes i (only (Save o a v))
   save_fits o a v e p q = record { fits = ((e, p, q), tt) }
 
-  pub if_fits : (a : Arg) (one other : Code) → FitsArg n a → Fitting fs n i one
-      → Fitting fs n i other → Fitting fs n i (only (If a one other))
+  pub if_fits : (a : Arg) (one other : Code) → FitsArg n a → Fitting fs n bytes i one
+      → Fitting fs n bytes i other → Fitting fs n bytes i (only (If a one other))
   if_fits a one other p q r = record { fits = ((p, q.fits, r.fits), tt) }
 
-  pub loop_fits : (body post : Code) → Fitting fs n true body → Fitting fs n false post
-      → Fitting fs n i (only (Loop body post))
+  pub loop_fits : (body post : Code) → Fitting fs n bytes true body → Fitting fs n bytes false post
+      → Fitting fs n bytes i (only (Loop body post))
   loop_fits body post p q = record { fits = ((p.fits, q.fits), tt) }
 
-  pub with_kind_fits : (k : Option Kind) (f : Kind → Code) → ((k : Kind) → Fitting fs n i (f k))
-      → Fitting fs n i (with_kind k f)
+  pub with_kind_fits : (k : Option Kind) (f : Kind → Code) → ((k : Kind) → Fitting fs n bytes i (f k))
+      → Fitting fs n bytes i (with_kind k f)
   with_kind_fits None f h = nothing_fits
   with_kind_fits (Some k) f h = h k
 
   -- code after code fits where both do
-  pub joined : {a b : Code} → Fitting fs n i a → Fitting fs n i b → Fitting fs n i (Then a b)
-  joined {a} {b} p q = record { fits = then_fits fs n i a b p.fits q.fits }
+  pub joined : {a b : Code} → Fitting fs n bytes i a → Fitting fs n bytes i b → Fitting fs n bytes i (Then a b)
+  joined {a} {b} p q = record { fits = then_fits fs n bytes i a b p.fits q.fits }

@@ -1,6 +1,7 @@
 pub mod Fitting
 pub mod Operations
 pub mod Places
+pub mod Rooms
 pub mod Expressions
 pub mod Statements
 pub mod Programs

@@ -1,5 +1,5 @@
 -- The code of operations and conversions fits where its variables do.
-use Rattle.std.proofs.Common.{◌≡◌, ℕ, Bool, true, false, cond, List, refl, arith}
+use Rattle.std.proofs.Common.{◌≡◌, ℕ, ◌^◌, ◌<◌, Bool, true, false, cond, List, refl, arith}
 use Rattle.c_tree.specs.declared.Kind.{Kind}
 use Rattle.c_tree.specs.declared.Kind.TheVariants.{Char, UChar, Int, UInt, Long, ULong}
 use Rattle.c_tree.specs.declared.UnaryOp.{UnaryOp}
@@ -58,23 +58,23 @@ saves_fit ULong = refl
 
 -- CODE
 
-module _ {fs : List Function} {n : ℕ} {i : Bool} where
-  pub word_fits : (to w : ℕ) → FitsVar n to → Fitting fs n i (set_word to w)
-  word_fits to w p = let_fits to op.Mov (Const w) (Const 0) refl p tt tt
+module _ {fs : List Function} {n bytes : ℕ} {i : Bool} where
+  pub word_fits : (to w : ℕ) → FitsVar n to → w < 2 ^ 64 → Fitting fs n bytes i (set_word to w)
+  word_fits to w p h = let_fits to op.Mov (Const w) (Const 0) refl p h (omega arith)
 
-  pub copied_fits : (to x : ℕ) → FitsVar n to → FitsVar n x → Fitting fs n i (copied to x)
-  copied_fits to x p q = let_fits to op.Mov (Var x) (Const 0) refl p q tt
+  pub copied_fits : (to x : ℕ) → FitsVar n to → FitsVar n x → Fitting fs n bytes i (copied to x)
+  copied_fits to x p q = let_fits to op.Mov (Var x) (Const 0) refl p q (omega arith)
 
   one : (to : ℕ) (o : Op) (x : ℕ) → operates o ≡ true → FitsVar n to → FitsVar n x
-      → Fitting fs n i (one_done to o x)
-  one to o x e p q = let_fits to o (Var x) (Const 0) e p q tt
+      → Fitting fs n bytes i (one_done to o x)
+  one to o x e p q = let_fits to o (Var x) (Const 0) e p q (omega arith)
 
   two : (to : ℕ) (o : Op) (x y : ℕ) → operates o ≡ true → FitsVar n to → FitsVar n x → FitsVar n y
-      → Fitting fs n i (two_done to o x y)
+      → Fitting fs n bytes i (two_done to o x y)
   two to o x y e p q r = let_fits to o (Var x) (Var y) e p q r
 
   pub converted_to_fits : (k : Kind) (to x : ℕ) → FitsVar n to → FitsVar n x
-      → Fitting fs n i (converted_to k to x)
+      → Fitting fs n bytes i (converted_to k to x)
   converted_to_fits Char to x p q = one to op.Extsb x refl p q
   converted_to_fits UChar to x p q = one to op.Extub x refl p q
   converted_to_fits Int to x p q = one to op.Extsw x refl p q
@@ -82,7 +82,7 @@ module _ {fs : List Function} {n : ℕ} {i : Bool} where
   converted_to_fits Long to x p q = copied_fits to x p q
   converted_to_fits ULong to x p q = copied_fits to x p q
 
-  pub converted_here_fits : (k : Kind) (x : ℕ) → FitsVar n x → Fitting fs n i (converted_here k x)
+  pub converted_here_fits : (k : Kind) (x : ℕ) → FitsVar n x → Fitting fs n bytes i (converted_here k x)
   converted_here_fits Char x p = one x op.Extsb x refl p p
   converted_here_fits UChar x p = one x op.Extub x refl p p
   converted_here_fits Int x p = one x op.Extsw x refl p p
@@ -90,12 +90,12 @@ module _ {fs : List Function} {n : ℕ} {i : Bool} where
   converted_here_fits Long x p = nothing_fits
   converted_here_fits ULong x p = nothing_fits
 
-  reduced_fits : (k : Kind) (x : ℕ) → FitsVar n x → Fitting fs n i (reduced_here k x)
+  reduced_fits : (k : Kind) (x : ℕ) → FitsVar n x → Fitting fs n bytes i (reduced_here k x)
   reduced_fits UInt x p = one x op.Extuw x refl p p
   reduced_fits k x p = nothing_fits
 
   remainder_fits : (o : Op) (x y : ℕ) → operates o ≡ true → FitsVar n x → FitsVar n y
-      → Fitting fs n i (remainder_code o x y)
+      → Fitting fs n bytes i (remainder_code o x y)
   remainder_fits o x y e p q =
       let s = scratch_fits n 0 (omega arith) in
       joined (two (scratch 0) o x y e s p q)
@@ -103,7 +103,7 @@ module _ {fs : List Function} {n : ℕ} {i : Bool} where
       (two x op.Sub x (scratch 0) refl p p s))
 
   pub binary_fits : (o : BinaryOp) (k : Kind) (x y : ℕ) → FitsVar n x → FitsVar n y
-      → Fitting fs n i (binary_code o k x y)
+      → Fitting fs n bytes i (binary_code o k x y)
   binary_fits LogicalOr k x y p q = nothing_fits
   binary_fits LogicalAnd k x y p q = nothing_fits
   binary_fits BitOr k x y p q = two x op.Or x y refl p p q
@@ -131,16 +131,16 @@ module _ {fs : List Function} {n : ℕ} {i : Bool} where
       (signed k op.Divs op.Divu refl refl) p q
 
   pub unary_fits : (o : UnaryOp) (k : Kind) (x : ℕ) → FitsVar n x
-      → Fitting fs n i (unary_code o k x)
+      → Fitting fs n bytes i (unary_code o k x)
   unary_fits Plus k x p = nothing_fits
-  unary_fits Minus k x p = joined (let_fits x op.Sub (Const 0) (Var x) refl p tt p)
+  unary_fits Minus k x p = joined (let_fits x op.Sub (Const 0) (Var x) refl p (omega arith) p)
       (reduced_fits k x p)
   unary_fits Complement k x p = joined (let_fits x op.Sub (Const 18446744073709551615)
-      (Var x) refl p tt p) (reduced_fits k x p)
-  unary_fits Not k x p = let_fits x op.Teq (Var x) (Const 0) refl p p tt
+      (Var x) refl p (omega arith) p) (reduced_fits k x p)
+  unary_fits Not k x p = let_fits x op.Teq (Var x) (Const 0) refl p p (omega arith)
 
   bump_narrowed_fits : (k : Kind) (x : ℕ) → FitsVar n x
-      → Fitting fs n i (narrowed_here (bump_narrowing k) x)
+      → Fitting fs n bytes i (narrowed_here (bump_narrowing k) x)
   bump_narrowed_fits Char x p = one x op.Extsb x refl p p
   bump_narrowed_fits UChar x p = one x op.Extub x refl p p
   bump_narrowed_fits Int x p = nothing_fits
@@ -149,6 +149,6 @@ module _ {fs : List Function} {n : ℕ} {i : Bool} where
   bump_narrowed_fits ULong x p = nothing_fits
 
   pub bumped_fits : (o : BumpOp) (k : Kind) (to x : ℕ) → FitsVar n to → FitsVar n x
-      → Fitting fs n i (bumped o k to x)
-  bumped_fits o k to x p q = joined (let_fits to (bump_op o) (Var x) (Const 1) (bumps o) p q tt)
+      → Fitting fs n bytes i (bumped o k to x)
+  bumped_fits o k to x p q = joined (let_fits to (bump_op o) (Var x) (Const 1) (bumps o) p q (omega arith))
       (bump_narrowed_fits k to p)

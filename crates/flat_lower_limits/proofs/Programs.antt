@@ -16,6 +16,7 @@ use Rattle.flat_lower_limits.specs.Jumps.{JumpsInLoops}
 use Rattle.flat_lower_limits.specs.Laws.{FitsOfAnyLength}
 use Rattle.flat_lower_limits.proofs.Fitting.{joined}
 use Rattle.flat_lower_limits.proofs.Expressions.{Callable}
+use Rattle.flat_lower_limits.proofs.Rooms.{places, image_is_bytes}
 use Rattle.flat_lower_limits.proofs.Statements.{stmt_fits, end_fits}
 
 -- LOOK-UPS
@@ -107,8 +108,9 @@ module _ (P : Source) (s : FitsSource P) where
     params = fits.params;
     few = few;
     words = arrays_are_words f.arrays;
-    body = (joined (stmt_fits functions (scope_of P f) f.result
-        (context_of P.globals f) known false f.body fits.body jumps) (end_fits b)).fits;
+    body = (joined (stmt_fits functions (scope_of P f) (all_bytes f.arrays) f.result
+        (context_of P.globals f) known (places P s f) false f.body fits.body jumps)
+        (end_fits b)).fits;
   }
 
 pub fits_at_any_length : FitsOfAnyLength
@@ -127,5 +129,6 @@ fits_at_any_length P s few jumps = record {
         arity = sym s.main.params
             ∙ ap (λ h. h.params) to.lowers.is;
       };
+  bytes = image_is_bytes P.globals;
   room = s.room;
 }

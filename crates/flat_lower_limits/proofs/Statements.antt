@@ -25,22 +25,23 @@ use Rattle.flat_lower_limits.specs.Jumps.{JumpsInLoops, AllJumpsInLoops, FirstJu
 use Rattle.flat_lower_limits.proofs.Fitting.{Fitting, nothing_fits, single_fits, if_fits, loop_fits, joined}
 use Rattle.flat_lower_limits.proofs.Fitting.{scalar_fits, temp_fits}
 use Rattle.flat_lower_limits.proofs.Operations.{word_fits, copied_fits}
+use Rattle.flat_lower_limits.proofs.Places.{HasPlaces}
 use Rattle.flat_lower_limits.proofs.Expressions.{Callable, expr_fits}
 
-module _ {fs : List Function} {n : ℕ} {i : Bool} where
-  pub end_fits : (b : Bool) → Fitting fs n i (end_code b)
-  end_fits true = single_fits (flat.Return (Some (Const 0))) tt
+module _ {fs : List Function} {n bytes : ℕ} {i : Bool} where
+  pub end_fits : (b : Bool) → Fitting fs n bytes i (end_code b)
+  end_fits true = single_fits (flat.Return (Some (Const 0))) (omega arith)
   end_fits false = nothing_fits
 
-module _ (fs : List Function) (c : Scope) (k : Option Kind) (x : Context)
-    (known : Callable fs c.functions) where
+module _ (fs : List Function) (c : Scope) (bytes : ℕ) (k : Option Kind) (x : Context)
+    (known : Callable fs c.functions) (low : HasPlaces x bytes) where
   -- PARTS
 
   abbrev Fits : Bool → Code → Type 0
-  Fits inside code = Fitting fs (length c.scalars) inside code
+  Fits inside code = Fitting fs (length c.scalars) bytes inside code
 
   value : (i : Bool) (d : ℕ) (e : Expr) → FitsExpr c d e → Fits i (expr_code x d e)
-  value i d e t = expr_fits fs c i x known d e t
+  value i d e t = expr_fits fs c bytes i x known low d e t
 
   first_temp : FitsVar (length c.scalars) (temp 0)
   first_temp = temp_fits (length c.scalars) 0 (omega arith)
@@ -83,7 +84,7 @@ module _ (fs : List Function) (c : Scope) (k : Option Kind) (x : Context)
 
   do_code_fits : (i : Bool) (t : Expr) (body : Code) → FitsExpr c 0 t
       → Fits true body → Fits i (do_code x t body)
-  do_code_fits i t body h p = joined (word_fits (temp 0) 1 first_temp)
+  do_code_fits i t body h p = joined (word_fits (temp 0) 1 first_temp (omega arith))
       (loop_fits (if_so body) (expr_code x 0 t) (if_so_fits body p) (value false 0 t h))
 
   -- STATEMENTS

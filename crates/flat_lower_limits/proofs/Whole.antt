@@ -8,4 +8,10 @@ pub lowered_fits : LoweredFits
 lowered_fits P s few jumps short =
     let f = fits_at_any_length P s few jumps in
     let most = few_statements P in
-    record { each = f.each; main = f.main; few = omega (arith, most, short); room = f.room }
+    record {
+      each = f.each;
+      main = f.main;
+      few = omega (arith, most, short);
+      bytes = f.bytes;
+      room = f.room;
+    }

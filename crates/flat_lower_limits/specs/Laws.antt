@@ -1,5 +1,5 @@
 -- What the flat program of a source gives the later passes.
-use Rattle.std.specs.Prelude.{◌≡◌, ℕ, ◌+◌, ◌*◌, ◌≤◌, false, [], Some, slice_get}
+use Rattle.std.specs.Prelude.{◌≡◌, ℕ, ◌+◌, ◌*◌, ◌<◌, ◌≤◌, false, [], All, Some, slice_get}
 use Rattle.trips_isa.specs.Stores.{data_size}
 use Rattle.ir_forms.specs.FlatCode.{Function, Program}
 use Rattle.ir_forms.specs.FlatFits.{FitsFunction, FitsCall, FitsProgram, steps_of_all}
@@ -23,6 +23,7 @@ PlacedJumps P =
 pub record FitsButLength (P : Program) : Type 0 where
   pub each : (f : ℕ) (g : Function) → slice_get P.functions f ≡ Some g → FitsFunction P.functions g
   pub main : FitsCall P.functions P.main []
+  pub bytes : All (λ b. b < 256) P.bytes
   pub room : frames_at P.bytes + frame_limit ≤ data_size
 
 -- the flat program fits, but for its length

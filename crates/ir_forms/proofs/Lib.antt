@@ -3,4 +3,6 @@ pub mod Steps
 pub mod Views
 pub mod Checked
 pub mod Cleanness
+pub mod AluWords
+pub mod WordsKept
 pub mod StandardFacts

@@ -1,17 +1,17 @@
 -- A flow block that means what a hyper block means: from the same start the same registers, data
 -- memory and exit.
-use Rattle.std.specs.Prelude.{◌≡◌, ℕ, pos, List, [], ◌∷◌, length}
+use Rattle.std.specs.Prelude.{◌≡◌, ℕ, pos, List, [], ◌∷◌}
 use Rattle.trips_isa.specs.declared.op.Op.TheVariants.{Bro, Callo, Ret, Scall}
 use Rattle.trips_isa.specs.declared.block.Token.{Token}
 use Rattle.trips_isa.specs.declared.block.Token.TheVariants.{Word}
 use Rattle.trips_isa.specs.declared.block.Inst.{Inst}
 use Rattle.trips_isa.specs.Rule.{Answer}
-use Rattle.trips_isa.specs.Stores.{data_size}
 use Rattle.ir_forms.specs.declared.hyper.Exit.{Exit}
 use Rattle.ir_forms.specs.declared.hyper.Exit.TheVariants as exit
 use Rattle.ir_forms.specs.declared.flow.FlowBlock.{FlowBlock}
 use Rattle.ir_forms.specs.HyperCode.{Block}
 use Rattle.ir_forms.specs.HyperRuns.{Machine, Layout, after_items, after_block, acts, exit_of}
+use Rattle.ir_forms.specs.HyperWords.{HasWords}
 use Rattle.ir_forms.specs.FlowRuns.{AtStart, written, stored_all, exits, fired}
 
 -- a branch with its token is an exit of a machine after its items; a label stands where an offset
@@ -38,7 +38,9 @@ pub record Comes (at : Layout) (b : Block) (f : FlowBlock) (m : Machine) (h : �
     -- the same operations are done in the same order, so that what is clean stays clean
     pub acts : fired m.registers h f.nodes ≡ acts b.items m
 
+-- The flow block means the hyper block from every machine that has words. From others it need not: of
+-- an address in a register the flow block takes the low 64 bits.
 abbrev pub MeansBlock : Layout → Block → FlowBlock → Type 0
 MeansBlock at b f =
-    (m : Machine) (h : ℕ → Answer) → length m.memory ≡ data_size → AtStart m.registers m.memory h f
+    (m : Machine) (h : ℕ → Answer) → HasWords m → AtStart m.registers m.memory h f
     → Comes at b f m h

@@ -1,7 +1,8 @@
 -- Flat programs that the passes take: what each statement may name, and the counts that they prove
 -- bounds with.
-use Rattle.std.specs.Prelude.{◌≡◌, ℕ, ◌+◌, ◌%◌, ◌≤◌, Bool, true, false, cond, ◌&&◌, ◌||◌, nat_le}
-use Rattle.std.specs.Prelude.{nat_lt, List, [], ◌∷◌, Option, Some, None, slice_get, length}
+use Rattle.std.specs.Prelude.{◌≡◌, ℕ, ◌+◌, ◌%◌, ◌^◌, ◌<◌, ◌≤◌, Bool, true, false, cond, ◌&&◌, ◌||◌}
+use Rattle.std.specs.Prelude.{nat_le, nat_lt, List, [], ◌∷◌, Option, Some, None, slice_get, length}
+use Rattle.std.specs.Prelude.{All}
 use Rattle.trips_isa.specs.declared.op.Op.{Op}
 use Rattle.trips_isa.specs.declared.op.Op.TheVariants.{Null}
 use Rattle.trips_isa.specs.declared.form.Form.{Form}
@@ -44,12 +45,13 @@ is_variable scalars v = is_lasting scalars v || (nat_le 80 v && nat_lt v 88)
 abbrev pub FitsVar : ℕ → ℕ → Type 0
 FitsVar scalars v = is_variable scalars v ≡ true
 
+-- a constant is a word
 abbrev pub FitsArg : ℕ → Arg → Type 0
-FitsArg scalars (Const w) = Unit {0}
+FitsArg scalars (Const w) = w < 2 ^ 64
 FitsArg scalars (Var v) = FitsVar scalars v
 
 abbrev pub FitsLasting : ℕ → Arg → Type 0
-FitsLasting scalars (Const w) = Unit {0}
+FitsLasting scalars (Const w) = w < 2 ^ 64
 FitsLasting scalars (Var v) = is_lasting scalars v ≡ true
 
 abbrev pub FitsLastings : ℕ → List Arg → Type 0
@@ -72,28 +74,29 @@ pub record FitsCall (fs : List Function) (f : ℕ) (args : List Arg) : Type 0 wh
   pub found : slice_get fs f ≡ Some function
   pub arity : length args ≡ function.params
 
--- whether a statement stands in the body of a loop says whether it may break
+-- Statements of a function of n scalars, whose arrays have k bytes. Whether a statement stands in the
+-- body of a loop says whether it may break.
 abbrev mutual
-  pub FitsStep : List Function → ℕ → Bool → Step → Type 0
-  FitsStep fs n inside (Let to op a b) =
+  pub FitsStep : List Function → ℕ → ℕ → Bool → Step → Type 0
+  FitsStep fs n k inside (Let to op a b) =
       (operates op ≡ true) × FitsVar n to × FitsArg n a × FitsArg n b
-  FitsStep fs n inside (Frame to at) = FitsVar n to
-  FitsStep fs n inside (Load to op a) = (loads op ≡ true) × FitsVar n to × FitsArg n a
-  FitsStep fs n inside (Save op a v) = (stores op ≡ true) × FitsArg n a × FitsArg n v
-  FitsStep fs n inside (Call f args to kept) =
+  FitsStep fs n k inside (Frame to at) = FitsVar n to × (at ≤ k)
+  FitsStep fs n k inside (Load to op a) = (loads op ≡ true) × FitsVar n to × FitsArg n a
+  FitsStep fs n k inside (Save op a v) = (stores op ≡ true) × FitsArg n a × FitsArg n v
+  FitsStep fs n k inside (Call f args to kept) =
       FitsCall fs f args × FitsLastings n args × FitsResult n to
-  FitsStep fs n inside (Put a) = FitsArg n a
-  FitsStep fs n inside (Get to) = FitsVar n to
-  FitsStep fs n inside (If a one other) =
-      FitsArg n a × FitsCode fs n inside one × FitsCode fs n inside other
-  FitsStep fs n inside (Loop body post) = FitsCode fs n true body × FitsCode fs n false post
-  FitsStep fs n inside Break = inside ≡ true
-  FitsStep fs n inside Continue = inside ≡ true
-  FitsStep fs n inside (Return a) = FitsReturn n a
+  FitsStep fs n k inside (Put a) = FitsArg n a
+  FitsStep fs n k inside (Get to) = FitsVar n to
+  FitsStep fs n k inside (If a one other) =
+      FitsArg n a × FitsCode fs n k inside one × FitsCode fs n k inside other
+  FitsStep fs n k inside (Loop body post) = FitsCode fs n k true body × FitsCode fs n k false post
+  FitsStep fs n k inside Break = inside ≡ true
+  FitsStep fs n k inside Continue = inside ≡ true
+  FitsStep fs n k inside (Return a) = FitsReturn n a
 
-  pub FitsCode : List Function → ℕ → Bool → Code → Type 0
-  FitsCode fs n inside Nop = Unit {0}
-  FitsCode fs n inside (s ▹ rest) = FitsStep fs n inside s × FitsCode fs n inside rest
+  pub FitsCode : List Function → ℕ → ℕ → Bool → Code → Type 0
+  FitsCode fs n k inside Nop = Unit {0}
+  FitsCode fs n k inside (s ▹ rest) = FitsStep fs n k inside s × FitsCode fs n k inside rest
 
 -- COUNTS
 
@@ -145,11 +148,12 @@ pub record FitsFunction (fs : List Function) (f : Function) : Type 0 where
   pub few : f.params ≤ 8
   -- its frame is made of whole words
   pub words : f.arrays % 8 ≡ 0
-  pub body : FitsCode fs f.scalars false f.body
+  pub body : FitsCode fs f.scalars f.arrays false f.body
 
 pub record FitsProgram (P : Program) : Type 0 where
   pub each : (f : ℕ) (g : Function) → slice_get P.functions f ≡ Some g → FitsFunction P.functions g
   pub main : FitsCall P.functions P.main []
   pub few : steps_of_all P.functions ≤ 16777216
+  pub bytes : All (λ b. b < 256) P.bytes
   -- globals and frames lie inside data memory
   pub room : frames_at P.bytes + frame_limit ≤ data_size

@@ -10,7 +10,7 @@ use Rattle.trips_isa.specs.declared.form.Form.TheVariants.{General, Immediate, L
 use Rattle.trips_isa.specs.declared.form.Form.TheVariants.{Constant}
 use Rattle.trips_isa.specs.declared.block.Token.TheVariants.{Null}
 use Rattle.trips_isa.specs.Forms.{form_of}
-use Rattle.trips_isa.specs.Fits.{FitsSigned, FitsUnsigned, FitsConstant}
+use Rattle.trips_isa.specs.Fits.{FitsSigned, FitsConstant}
 use Rattle.trips_isa.specs.Rule.{Answer}
 use Rattle.ir_forms.specs.declared.flow.FlowSource.{FlowSource}
 use Rattle.ir_forms.specs.declared.flow.FlowSource.TheVariants.{Read, Node}
@@ -22,10 +22,10 @@ use Rattle.ir_forms.specs.FlowRuns.{Computes, OnPath, count, tokens, exits, guar
 
 -- FIELDS
 
--- a label stands where an offset will
+-- a label, or the offset that it becomes
 abbrev pub FitsLabel : Op → ℤ → Type 0
-FitsLabel Bro label = FitsUnsigned 524288 label
-FitsLabel Callo label = FitsUnsigned 524288 label
+FitsLabel Bro label = FitsSigned 524288 label
+FitsLabel Callo label = FitsSigned 524288 label
 FitsLabel op label = label ≡ pos 0
 
 abbrev pub FitsNodeForm : Form → FlowNode → Type 0

@@ -1,5 +1,6 @@
 -- Hyper blocks that the passes take: the fields that they name, and what they hold.
-use Rattle.std.specs.Prelude.{◌≡◌, ℕ, ◌+◌, ◌<◌, ◌≤◌, Bool, true, false, ◌||◌, cond}
+use Rattle.std.specs.Prelude.{◌≡◌, ℕ, suc, ◌+◌, ◌^◌, ◌<◌, ◌≤◌, Bool, true, false, ◌||◌, cond, List}
+use Rattle.std.specs.Prelude.{length, Some, slice_get}
 use Rattle.ir_forms.specs.declared.hyper.Source.{Source}
 use Rattle.ir_forms.specs.declared.hyper.Source.TheVariants.{Const, Reg}
 use Rattle.ir_forms.specs.declared.hyper.Exit.{Exit}
@@ -7,8 +8,9 @@ use Rattle.ir_forms.specs.declared.hyper.Exit.TheVariants as exit
 use Rattle.ir_forms.specs.HyperCode.{Items, Done, Set, Load, Save, If, Tail, Leave, Test, Block}
 use Rattle.ir_forms.specs.FlatFits.{operates, loads, stores}
 
+-- a constant is a word
 abbrev pub FitsSource : Source → Type 0
-FitsSource (Const w) = Unit {0}
+FitsSource (Const w) = w < 2 ^ 64
 FitsSource (Reg r) = r < 128
 
 abbrev pub FitsItems : Items → Type 0
@@ -19,10 +21,10 @@ FitsItems (Load to op a rest) = (to < 128) × (loads op ≡ true) × FitsSource 
 FitsItems (Save op a v rest) = (stores op ≡ true) × FitsSource a × FitsSource v × FitsItems rest
 FitsItems (If t one other rest) = FitsSource t × FitsItems one × FitsItems other × FitsItems rest
 
--- labels are below 524,288
+-- labels are below 524,288; a block to come back to may be named by its address, of 32 bits
 abbrev pub FitsExit : Exit → Type 0
 FitsExit (exit.Jump l) = l < 524288
-FitsExit (exit.Call l back) = (l < 524288) × (back < 524288)
+FitsExit (exit.Call l back) = (l < 524288) × (back < 2 ^ 32)
 FitsExit exit.Return = Unit {0}
 FitsExit (exit.System l) = l < 524288
 
@@ -33,6 +35,24 @@ FitsTail (Test t one other) = FitsSource t × FitsTail one × FitsTail other
 pub record FitsHyper (b : Block) : Type 0 where
   pub items : FitsItems b.items
   pub tail : FitsTail b.tail
+
+-- WHERE EXITS LEAD
+
+-- an exit of block k leads to one of n blocks, a system call to the block that follows, and a call
+-- comes back to the block that follows
+abbrev pub LeadsOn : ℕ → ℕ → Exit → Type 0
+LeadsOn k n (exit.Jump l) = l < n
+LeadsOn k n (exit.Call l back) = (l < n) × (back ≡ suc k) × (back < n)
+LeadsOn k n exit.Return = Unit {0}
+LeadsOn k n (exit.System l) = (l ≡ suc k) × (l < n)
+
+abbrev pub AllLeadOn : ℕ → ℕ → Tail → Type 0
+AllLeadOn k n (Leave e) = LeadsOn k n e
+AllLeadOn k n (Test t one other) = AllLeadOn k n one × AllLeadOn k n other
+
+-- each exit of a program leads to a block of it, and what comes back comes to the block that follows
+abbrev pub IsFollowed : List Block → Type 0
+IsFollowed P = (k : ℕ) (b : Block) → slice_get P k ≡ Some b → AllLeadOn k (length P) b.tail
 
 -- COUNTS
 

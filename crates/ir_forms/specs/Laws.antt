@@ -6,6 +6,8 @@ use Rattle.ir_forms.specs.FlatSteps.{State, Env, Res, Gone, Broke, Again, Gave, 
 use Rattle.ir_forms.specs.FlatSteps.{Wild, unfinished, then_run, exec}
 use Rattle.ir_forms.specs.FlatRuns.{calls_within, flat_run}
 use Rattle.ir_forms.specs.HyperCode.{Block}
+use Rattle.ir_forms.specs.HyperFits.{FitsHyper}
+use Rattle.ir_forms.specs.HyperWords.{HasAddresses, LeavesWords}
 use Rattle.ir_forms.specs.HyperRuns.{Layout, Standing, Running, Ended, Full, Unclean, hyper_run}
 
 -- each check of d is one of c
@@ -54,3 +56,7 @@ abbrev pub CleanChangesNothing : Type 0
 CleanChangesNothing =
     (at : Layout) (P : List Block) (bytes input : List ℕ) (n : ℕ)
     → StandsAs (hyper_run true at P bytes input n) (hyper_run false at P bytes input n)
+
+-- a block that fits leaves words where it begins with words
+abbrev pub KeepsWords : Type 0
+KeepsWords = (at : Layout) (b : Block) → HasAddresses at → FitsHyper b → LeavesWords at b

@@ -10,7 +10,9 @@ pub mod HyperCode
 pub mod HyperViews
 pub mod HyperRuns
 pub mod HyperFits
+pub mod HyperWords
 pub mod FlowRuns
 pub mod FlowFits
+pub mod FlowRegular
 pub mod Agreement
 pub mod Laws

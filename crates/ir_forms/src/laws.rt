@@ -1,5 +1,5 @@
 ghost use Rattle.ir_forms.specs.Laws.{ChecksChangeNothing, CleanChangesNothing, RunsInOrder};
-ghost use Rattle.ir_forms.specs.Laws.{StandsWithNoTurn};
+ghost use Rattle.ir_forms.specs.Laws.{KeepsWords, StandsWithNoTurn};
 
 /// A run that no check ends is the run with fewer checks: where a run is tame and clean, the run
 /// without checks is the same.
@@ -20,4 +20,10 @@ pub fn nothing_ends_without_a_turn()
 /// A clean run of a hyper program is its run without the check.
 pub fn clean_runs_are_runs()
     ensures { CleanChangesNothing }
+{}
+
+/// A block that fits leaves words where it begins with words: registers below 2^64, bytes in memory
+/// and in the input, and memory of its size.
+pub fn blocks_keep_words()
+    ensures { KeepsWords }
 {}

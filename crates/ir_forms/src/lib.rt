@@ -14,6 +14,6 @@ pub use flat::{Arg, FlatFunc, FlatProgram, FlatStmt};
 pub use flow::{FlowBlock, FlowNode, FlowSource, FlowWrite, Guard};
 pub use hyper::{Exit, HyperBlock, HyperItem, HyperProgram, Source, Tail};
 pub use laws::{
-    checks_change_nothing, clean_runs_are_runs, nothing_ends_without_a_turn,
+    blocks_keep_words, checks_change_nothing, clean_runs_are_runs, nothing_ends_without_a_turn,
     statements_run_in_order,
 };
