@@ -1,5 +1,5 @@
 -- Bytes of words, and what a load makes of them.
-use Rattle.std.proofs.Common.{◌≡◌, ℕ, ◌+◌, ◌*◌, ◌/◌, ◌%◌, ◌^◌, ◌<◌, ◌≤◌, true, List, sym, refl}
+use Rattle.std.proofs.Common.{◌≡◌, ℕ, ◌+◌, ◌*◌, ◌/◌, ◌%◌, ◌^◌, ◌<◌, ◌≤◌, true, List, slice_index, sym, refl}
 use Rattle.std.proofs.Common.{arith}
 use Rattle.std.specs.Prelude.{Option}
 use Rattle.std.proofs.Math.Nat.{div-eq_of_lt, pow-le-pow_right}
@@ -27,7 +27,7 @@ room v k h l =
 pub load_good :
     (stores : ℕ → Option Stored) (mem : List ℕ) (i : Inst) (left a size b r : ℕ)
     → a ≡ (left + word i.imm) % 2 ^ 64 → size ≡ size_of i.op →
-    true ≡ is_good_address a size → b ≡ bytes_seen stores mem i.number a size → r ≡ loaded_as i.op b
-    → r ≡ load_of i (λ address. bytes_seen stores mem i.number address (size_of i.op)) left
+    true ≡ is_good_address a size → b ≡ bytes_seen stores (slice_index mem) i.number a size → r ≡ loaded_as i.op b
+    → r ≡ load_of i (λ address. bytes_seen stores (slice_index mem) i.number address (size_of i.op)) left
 load_good stores mem i left a size b r ea es good eb er =
     rw (← ea, ← es, ← good, ← eb) er

@@ -2,7 +2,7 @@
 -- its table.
 use Rattle.std.proofs.Common.{◌≡◌, ℕ, zero, suc, ◌+◌, ◌-◌, ◌<◌, ◌≤◌, ◌⊎◌, inl, inr, Bool, true}
 use Rattle.std.proofs.Common.{false, cond, ◌&&◌, ◌==◌, nat_lt, List, [], ◌∷◌, ◌++◌, map, length}
-use Rattle.std.proofs.Common.{get_or, Option, Some, None, slice_get, refl, sym, ap, ap₂, ◌∙◌, subst}
+use Rattle.std.proofs.Common.{get_or, Option, Some, None, slice_get, slice_index, refl, sym, ap, ap₂, ◌∙◌, subst}
 use Rattle.std.proofs.Common.{arith}
 use Rattle.std.specs.Prelude.{All}
 use Rattle.std.proofs.Math.Path.{fun_ext}
@@ -116,15 +116,15 @@ slot_same at at' s s' mem j (Some i) f l r p h =
     (λ a. slot_answered s' mem (Some i) a)) at at' l r p
   where
     computed : (t : Form) → FitsForm t i → (u v : ℕ)
-        → form_computes t i (λ a. bytes_seen s mem i.number a (size_of i.op)) u v
-        ≡ form_computes t i (λ a. bytes_seen s' mem i.number a (size_of i.op)) u v
+        → form_computes t i (λ a. bytes_seen s (slice_index mem) i.number a (size_of i.op)) u v
+        ≡ form_computes t i (λ a. bytes_seen s' (slice_index mem) i.number a (size_of i.op)) u v
     computed General g u v = refl
     computed Immediate g u v = refl
     computed Store g u v = refl
     computed Branch g u v = refl
     computed Constant g u v = refl
     computed Load g u v = load_same i _ _ u
-        (λ a. bytes_seen_same s s' mem i.number a (size_of i.op)
+        (λ a. bytes_seen_same s s' (slice_index mem) i.number a (size_of i.op)
         (λ m lt. h m (let low : i.number < 32 = g.2 in omega arith)))
 
 -- and on those stores' operands

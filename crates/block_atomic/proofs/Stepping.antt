@@ -14,10 +14,10 @@ use Rattle.trips_isa.specs.Rule.{Answer}
 use Rattle.trips_isa.specs.Tables.{deepest}
 use Rattle.trips_isa.specs.Stores.{store_all, listed, listed_below}
 use Rattle.trips_isa.specs.Blocks.{at_place, store_of, Leaving, leaving_of, token_of}
-use Rattle.trips_isa.specs.Outcomes.{Outcome, or_null, writes_from, all_stores, outcome, outcome_by}
+use Rattle.trips_isa.specs.Outcomes.{or_null, writes_from, all_stores, plain}
 use Rattle.trips_isa.specs.Outcomes.{exit_of, is_system, next_of}
-use Rattle.trips_isa.specs.Machine.{State, write_all, changed, then_system, system_call, step_in}
-use Rattle.trips_isa.specs.Machine.{step_of}
+use Rattle.trips_isa.specs.Machine.{State, write_all, changed, then_system, system_call}
+use Rattle.block_cases.specs.Plain.{plain_in, plain_step}
 use Rattle.block_atomic.specs.Slots.{table_of, slots_give, placed, kept_by, left_by, IsLive, write}
 use Rattle.block_atomic.specs.Slots.{IsUsedTo}
 use Rattle.block_atomic.proofs.Bridge.{leaving_is}
@@ -129,9 +129,9 @@ pub step_is :
     (stores : List (Option Stored)) (branch : Leaving) (exit next : ℕ) (r : State × Stepped) →
     Found blocks b s used places table stores branch next → exit ≡ exit_of branch
     → Made s t b.writes.items places stores exit next → r ≡ then_system (is_system branch) t
-    → r ≡ step_of blocks s
+    → r ≡ plain_step blocks s
 step_is blocks b s t used places table stores branch exit next r f e m h =
-    h ∙ ap₂ then_system (ap is_system leaves) state ∙ sym (ap (λ o. step_in blocks o s) f.block)
+    h ∙ ap₂ then_system (ap is_system leaves) state ∙ sym (ap (λ o. plain_in blocks o s) f.block)
   where
     g : ℕ → Answer
     g = token_of b s.registers s.memory deepest
@@ -154,7 +154,7 @@ step_is blocks b s t used places table stores branch exit next r f e m h =
         (λ n l. stores_at b s.registers used table places stores f.fits f.bound f.used_to f.placed
         f.kept n l ∙ ap (λ (v : ℕ → Answer). store_of b v n) is_g)
 
-    state : t ≡ changed b.writes.items (outcome blocks s.next b s.registers s.memory) s
+    state : t ≡ changed b.writes.items (plain blocks s.next b s.registers s.memory) s
     state =
         made_is t _ _ _ _ _ _
         (m.registers ∙ ap (write_all s.registers b.writes.items) writes)

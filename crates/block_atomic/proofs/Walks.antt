@@ -67,11 +67,11 @@ pub answered :
     (at : ℕ → Answer) (stores : ℕ → Option Stored) (mem : List ℕ) (j : ℕ) (inst : Option Inst)
     (i : Inst) (r : Answer) → inst ≡ Some i → true ≡ matched i.sense (at (256 + j)) →
     r ≡ gives (role_of i.op) (form_computes (form_of i.op) i
-    (λ address. bytes_seen stores mem i.number address (size_of i.op))) (at j) (at (128 + j))
+    (λ address. bytes_seen stores (slice_index mem) i.number address (size_of i.op))) (at j) (at (128 + j))
     → r ≡ slot_gives at stores mem j inst
 answered at stores mem j inst i r e m g =
     g ∙ ap (λ b. if_matched b (gives (role_of i.op)
-    (form_computes (form_of i.op) i (λ address. bytes_seen stores mem i.number address
+    (form_computes (form_of i.op) i (λ address. bytes_seen stores (slice_index mem) i.number address
     (size_of i.op))) (at j) (at (128 + j)))) m
     ∙ ap (slot_gives at stores mem j) (sym e)
 

@@ -1,2 +1,4 @@
 pub mod Slots
+pub mod MarkSlots
 pub mod Bounds
+pub mod Applied

@@ -1,5 +1,8 @@
-ghost use Rattle.std.specs.Prelude.{◌≡◌, ◌<◌, ◌+◌, IfOk, length, slice_index};
+ghost use Rattle.std.specs.Prelude.{◌≡◌, ◌<◌, ◌+◌, All, IfOk, Some, length, slice_index};
 ghost use Rattle.trips_isa.specs.Machine.{start, step_of};
+ghost use Rattle.block_cases.specs.Plain.{IsTrap};
+ghost use Rattle.block_atomic.specs.Bounds.{StoreFits, IsWhole};
+ghost use Rattle.block_atomic.specs.Applied.{HasTokens, IsApplied};
 
 use crate::arch_state::ArchState;
 use base::Memory;
@@ -40,6 +43,7 @@ impl Arch {
     ) -> Result<Arch, Memory>
         ensures state { IfOk result (λ arch. arch.state ≡ start image.now.bytes input.items) }
         ensures budget { IfOk result (λ arch. arch.budget ≡ budget) }
+        ensures next { IfOk result (λ arch. arch.state.next < length image.now.blocks) }
     {
         let state = ArchState::make(alloc, image, input, budget)?;
         Ok(Arch {
@@ -50,37 +54,77 @@ impl Arch {
         })
     }
 
-    /// Executes the next block whole. `room` says that fewer steps were made than the budget.
+    /// Executes the next block whole. `room` says that fewer steps were made than the budget. Where the
+    /// block faults, the answer is `Trap` with the cause, and nothing changes.
     pub fn step(&mut self, image: &CheckedImage) -> Stepped
         requires next { self.old.state.next < length image.now.blocks }
         requires room { length self.old.state.trace < self.old.budget }
         ensures step { (self.new.state, result) ≡ step_of image.now.blocks self.old.state }
         ensures next { self.new.state.next < length image.now.blocks }
-        ensures trace { length self.new.state.trace ≡ length self.old.state.trace + 1 }
+        ensures trap { IsTrap result → self.new.state ≡ self.old.state }
+        ensures trace { (IsTrap result → ⊥)
+            → length self.new.state.trace ≡ length self.old.state.trace + 1 }
         ensures budget { self.new.budget ≡ self.old.budget }
     {
         self.state
             .step_with(image, &mut self.places, &mut self.stores, &mut self.table)
     }
 
+    /// Makes the change of a step from given effects of the next block, and counts as one: token i goes
+    /// to the register of its write i, a null one changing nothing; the stores that are not null go to
+    /// memory; the trace gets the block and the exit; the next block becomes `successor`; and where
+    /// `system` holds, the system call follows.
+    pub fn apply(
+        &mut self,
+        image: &CheckedImage,
+        writes: &[Token],
+        stores: &[Stored],
+        exit: u8,
+        system: bool,
+        successor: u32,
+    ) -> Stepped
+        requires next { self.old.state.next < length image.now.blocks }
+        requires room { length self.old.state.trace < self.old.budget }
+        requires writes { HasTokens image.now.blocks self.old.state.next writes.now }
+        requires stores { All (λ s. StoreFits (Some s)) stores.now }
+        requires successor { successor < length image.now.blocks }
+        ensures applied { IsApplied image.now.blocks (record {
+          writes = writes.now;
+          stores = stores.now;
+          exit = exit;
+          system = system;
+          successor = successor;
+        }) self.old.state (self.new.state, result) }
+        ensures next { self.new.state.next < length image.now.blocks }
+        ensures trap { IsTrap result → ⊥ }
+        ensures trace { length self.new.state.trace ≡ length self.old.state.trace + 1 }
+        ensures budget { self.new.budget ≡ self.old.budget }
+    {
+        self.state
+            .apply(image, writes, stores, exit, system, successor)
+    }
+
     /// A register's word.
     pub fn register(&self, r: u8) -> u64
         requires { r < 128 }
-        ensures { result ≡ slice_index self.now.state.registers r }
+        ensures value { result ≡ slice_index self.now.state.registers r }
+        ensures whole { IsWhole self.now.state }
     {
         self.state.register(r)
     }
 
     /// Data memory.
     pub fn memory(&self) -> &[u8]
-        ensures { result.now ≡ self.now.state.memory }
+        ensures value { result.now ≡ self.now.state.memory }
+        ensures whole { IsWhole self.now.state }
     {
         self.state.memory()
     }
 
     /// The number of the next block.
     pub fn next(&self) -> u32
-        ensures { result ≡ self.now.state.next }
+        ensures value { result ≡ self.now.state.next }
+        ensures whole { IsWhole self.now.state }
     {
         self.state.next()
     }

@@ -1,15 +1,18 @@
 ghost use Rattle.std.specs.Prelude.{◌≡◌, ◌<◌, ◌≤◌, ◌+◌, ℕ, All, IfOk, length, slice_get};
-ghost use Rattle.std.specs.Prelude.{slice_index, slice_index_or, vec_len, None, ◌++◌, ◌∷◌, []};
+ghost use Rattle.std.specs.Prelude.{slice_index, slice_index_or, vec_len, Some, None, ◌++◌, ◌∷◌, []};
 ghost use Rattle.trips_isa.specs.Fits.{FitsBlock};
 ghost use Rattle.trips_isa.specs.Stores.{data_size, store_all};
-ghost use Rattle.trips_isa.specs.Outcomes.{Outcome, all_stores, writes_from};
+ghost use Rattle.trips_isa.specs.Outcomes.{all_stores, writes_from};
 ghost use Rattle.trips_isa.specs.Machine.{memory_of, start, step_of, system_call, then_system};
 ghost use Rattle.trips_isa.specs.Machine.{write_all};
 ghost use Rattle.block_check.specs.IsChecked.{IsChecked};
 ghost use Rattle.block_check.specs.Images.{IsCheckedImage};
-ghost use Rattle.block_atomic.specs.Bounds.{StoreFits};
+ghost use Rattle.block_cases.specs.Plain.{IsTrap};
+ghost use Rattle.block_atomic.specs.Bounds.{StoreFits, IsWhole};
+ghost use Rattle.block_atomic.specs.Applied.{HasTokens, IsApplied};
 
-use crate::effects::{make_stores, write_registers};
+use crate::causes::cause;
+use crate::effects::{apply_stores, make_stores, write_registers, write_tokens};
 use crate::exits::{exit, is_system, leaving, successor};
 use crate::memory::data_memory;
 use crate::rounds::{clear_table, settle};
@@ -64,8 +67,8 @@ impl Model for ArchState {
 fn image_memory(alloc: Global, image: &CheckedImage) -> Result<Vec<u8>, AllocError>
     ensures items { IfOk result (λ memory. memory.items ≡ memory_of image.now.bytes) }
     ensures size { IfOk result (λ memory. vec_len memory ≡ data_size) }
+    ensures blocks { 0 < length image.now.blocks }
 {
-    let _count = image.count();
     data_memory(alloc, image.bytes())
 }
 
@@ -80,6 +83,7 @@ impl ArchState {
     ) -> Result<ArchState, Memory>
         ensures state { IfOk result (λ arch. arch.state ≡ start image.now.bytes input.items) }
         ensures budget { IfOk result (λ arch. arch.budget ≡ budget) }
+        ensures next { IfOk result (λ arch. arch.state.next < length image.now.blocks) }
     {
         let memory = image_memory(alloc, image)?;
         let output = Vec::with_capacity(alloc, budget as usize)?;
@@ -96,7 +100,8 @@ impl ArchState {
         })
     }
 
-    /// A step, with room for the tokens at the places, the stores and the table.
+    /// A step, with room for the tokens at the places, the stores and the table. Where it traps, nothing
+    /// changes.
     pub fn step_with(
         &mut self,
         image: &CheckedImage,
@@ -111,10 +116,11 @@ impl ArchState {
         requires table { length table.old ≡ 128 }
         ensures step { (self.new.state, result) ≡ step_of image.now.blocks self.old.state }
         ensures next { self.new.state.next < length image.now.blocks }
-        ensures trace { length self.new.state.trace ≡ length self.old.state.trace + 1 }
+        ensures trap { IsTrap result → self.new.state ≡ self.old.state }
+        ensures trace { (IsTrap result → ⊥)
+            → length self.new.state.trace ≡ length self.old.state.trace + 1 }
         ensures budget { self.new.budget ≡ self.old.budget }
     {
-        let _count = image.count();
         let block = image.at(self.next).block();
         let insts = block.insts.as_slice();
         let used = used_slots(insts);
@@ -128,10 +134,81 @@ impl ArchState {
             stores,
             table,
         );
-        let branch = leaving(insts, used, table);
-        let next = successor(image, self.next, branch);
-        self.change(block.writes.as_slice(), places, stores, exit(branch), next);
-        self.then_system(is_system(branch))
+        let fault = cause(block, used, table, places);
+        if fault == 0 {
+            let branch = leaving(insts, used, table);
+            let next = successor(image, self.next, branch);
+            self.change(block.writes.as_slice(), places, stores, exit(branch), next);
+            self.then_system(is_system(branch))
+        } else {
+            Stepped::Trap(fault)
+        }
+    }
+
+    /// Makes the change of a step from given effects of the next block: token i goes to the register of
+    /// its write i, the stores that are not null to memory, and the system call follows where one does.
+    pub fn apply(
+        &mut self,
+        image: &CheckedImage,
+        writes: &[Token],
+        stores: &[Stored],
+        exit: u8,
+        system: bool,
+        successor: u32,
+    ) -> Stepped
+        requires next { self.old.state.next < length image.now.blocks }
+        requires room { length self.old.state.trace < self.old.budget }
+        requires writes { HasTokens image.now.blocks self.old.state.next writes.now }
+        requires stores { All (λ s. StoreFits (Some s)) stores.now }
+        requires successor { successor < length image.now.blocks }
+        ensures applied { IsApplied image.now.blocks (record {
+          writes = writes.now;
+          stores = stores.now;
+          exit = exit;
+          system = system;
+          successor = successor;
+        }) self.old.state (self.new.state, result) }
+        ensures next { self.new.state.next < length image.now.blocks }
+        ensures trap { IsTrap result → ⊥ }
+        ensures trace { length self.new.state.trace ≡ length self.old.state.trace + 1 }
+        ensures budget { self.new.budget ≡ self.old.budget }
+    {
+        let block = image.at(self.next).block();
+        self.change_by(block.writes.as_slice(), writes, stores, exit, successor);
+        self.then_system(system)
+    }
+
+    // Makes given changes, all at once.
+    fn change_by(
+        &mut self,
+        registers: &[u8],
+        writes: &[Token],
+        stores: &[Stored],
+        exit: u8,
+        successor: u32,
+    )
+        requires registers { All (λ r. r < 128) registers.now }
+        requires count { length writes.now ≡ length registers.now }
+        requires stores { All (λ s. StoreFits (Some s)) stores.now }
+        requires room { length self.old.state.trace < self.old.budget }
+        ensures registers { self.new.state.registers
+            ≡ write_all self.old.state.registers registers.now writes.now }
+        ensures memory { self.new.state.memory ≡ store_all self.old.state.memory stores.now }
+        ensures trace { self.new.state.trace ≡ self.old.state.trace
+            ++ (record { block = self.old.state.next; exit = exit }) ∷ [] }
+        ensures next { self.new.state.next ≡ successor }
+        ensures rest { self.new.state.rest ≡ self.old.state.rest }
+        ensures output { self.new.state.output ≡ self.old.state.output }
+        ensures room { length self.new.state.output < length self.new.state.trace }
+        ensures budget { self.new.budget ≡ self.old.budget }
+    {
+        write_tokens(&mut self.registers, registers, writes);
+        apply_stores(&mut self.memory, stores);
+        self.trace.push_reserved(Traced {
+            block: self.next,
+            exit,
+        });
+        self.next = successor;
     }
 
     // Makes the block's changes, all at once.
@@ -174,6 +251,7 @@ impl ArchState {
     fn then_system(&mut self, system: bool) -> Stepped
         requires { length self.old.state.output < length self.old.state.trace }
         ensures answer { (self.new.state, result) ≡ then_system system self.old.state }
+        ensures trap { IsTrap result → ⊥ }
         ensures next { self.new.state.next ≡ self.old.state.next }
         ensures trace { self.new.state.trace ≡ self.old.state.trace }
         ensures budget { self.new.budget ≡ self.old.budget }
@@ -190,6 +268,7 @@ impl ArchState {
         requires { length self.old.state.output < length self.old.state.trace }
         ensures answer { (self.new.state, result)
             ≡ system_call (slice_index self.old.state.registers 0) self.old.state }
+        ensures trap { IsTrap result → ⊥ }
         ensures next { self.new.state.next ≡ self.old.state.next }
         ensures trace { self.new.state.trace ≡ self.old.state.trace }
         ensures budget { self.new.budget ≡ self.old.budget }
@@ -217,21 +296,24 @@ impl ArchState {
     /// A register's word.
     pub fn register(&self, r: u8) -> u64
         requires { r < 128 }
-        ensures { result ≡ slice_index self.now.state.registers r }
+        ensures value { result ≡ slice_index self.now.state.registers r }
+        ensures whole { IsWhole self.now.state }
     {
         self.registers[r as usize]
     }
 
     /// Data memory.
     pub fn memory(&self) -> &[u8]
-        ensures { result.now ≡ self.now.state.memory }
+        ensures value { result.now ≡ self.now.state.memory }
+        ensures whole { IsWhole self.now.state }
     {
         &self.memory
     }
 
     /// The number of the next block.
     pub fn next(&self) -> u32
-        ensures { result ≡ self.now.state.next }
+        ensures value { result ≡ self.now.state.next }
+        ensures whole { IsWhole self.now.state }
     {
         self.next
     }

@@ -1,11 +1,11 @@
 //! What the outcome of a block changes.
-ghost use Rattle.std.specs.Prelude.{◌≡◌, ◌<◌, ◌≤◌, ◌+◌, ℕ, All, length, slice_index_or, None};
+ghost use Rattle.std.specs.Prelude.{◌≡◌, ◌<◌, ◌≤◌, ◌+◌, ℕ, All, length, slice_index_or, Some, None};
 ghost use Rattle.trips_isa.specs.Stores.{data_size, put_bytes, store_all, listed};
 ghost use Rattle.trips_isa.specs.Outcomes.{or_null, writes_from, all_stores};
 ghost use Rattle.trips_isa.specs.Machine.{written, write_all};
 ghost use Rattle.block_atomic.specs.Bounds.{StoreFits};
 
-use trips_isa::{Stored, Token};
+use trips_isa::{FIRST_WRITE, Stored, Token};
 
 // A null token changes nothing.
 fn write_register(regs: &mut [u64], register: u8, token: Option<Token>)
@@ -14,6 +14,18 @@ fn write_register(regs: &mut [u64], register: u8, token: Option<Token>)
 {
     if let Some(Token::Word(value)) = token {
         regs[register as usize] = value;
+    }
+}
+
+/// Sends given tokens to the registers of a block's writes.
+pub fn write_tokens(regs: &mut [u64], writes: &[u8], tokens: &[Token])
+    requires registers { length regs.old ≡ 128 }
+    requires writes { All (λ r. r < 128) writes.now }
+    requires count { length tokens.now ≡ length writes.now }
+    ensures value { regs.new ≡ write_all regs.old writes.now tokens.now }
+{
+    for write in 0..writes.len() {
+        write_register(regs, writes[write], Some(tokens[write]));
     }
 }
 
@@ -27,7 +39,7 @@ pub fn write_registers(regs: &mut [u64], writes: &[u8], places: &[Option<Token>]
         (writes_from (λ q. slice_index_or places.now q None) 0 writes.now) }
 {
     for write in 0..writes.len() {
-        write_register(regs, writes[write], places[384 + write]);
+        write_register(regs, writes[write], places[FIRST_WRITE as usize + write]);
     }
 }
 
@@ -54,6 +66,17 @@ fn store(memory: &mut [u8], stored: Option<Stored>)
         && let Some(value) = stored.value
     {
         store_bytes(memory, stored.address, stored.size, value);
+    }
+}
+
+/// Makes given stores, one after another.
+pub fn apply_stores(memory: &mut [u8], stores: &[Stored])
+    requires memory { length memory.old ≡ data_size }
+    requires fits { All (λ s. StoreFits (Some s)) stores.now }
+    ensures value { memory.new ≡ store_all memory.old stores.now }
+{
+    for at in 0..stores.len() {
+        store(memory, Some(stores[at]));
     }
 }
 

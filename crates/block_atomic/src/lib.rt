@@ -7,10 +7,13 @@
 
 mod arch;
 mod arch_state;
+mod causes;
 mod effects;
 mod exits;
 mod firing;
 mod loads;
+mod mark_places;
+mod mark_rounds;
 mod memory;
 mod places;
 mod rounds;

@@ -1,4 +1,4 @@
-ghost use Rattle.std.specs.Prelude.{◌≡◌, ◌<◌, ◌≤◌, ◌+◌, ◌*◌, ◌/◌, ◌%◌, ◌^◌, length, slice_index_or};
+ghost use Rattle.std.specs.Prelude.{◌≡◌, ◌<◌, ◌≤◌, ◌+◌, ◌*◌, ◌/◌, ◌%◌, ◌^◌, length, slice_index, slice_index_or};
 ghost use Rattle.std.specs.Prelude.{None};
 ghost use Rattle.trips_isa.specs.Alu.{word};
 ghost use Rattle.trips_isa.specs.Forms.{size_of};
@@ -51,7 +51,8 @@ fn seen(stores: &[Option<Stored>], memory: &[u8], number: u8, address: u64) -> u
     requires stores { length stores.now ≡ 32 }
     requires number { number ≤ 32 }
     requires address { address < length memory.now }
-    ensures { result ≡ byte_seen (λ n. slice_index_or stores.now n None) memory.now number address }
+    ensures { result ≡ byte_seen (λ n. slice_index_or stores.now n None) (slice_index memory.now) number
+        address }
 {
     let mut byte = memory[address as usize];
     for n in 0..number {
@@ -69,7 +70,8 @@ fn seen_bytes(stores: &[Option<Stored>], memory: &[u8], number: u8, address: u64
     requires address { address + size ≤ length memory.now }
     requires size { size ≤ 8 }
     ensures { result
-        ≡ bytes_seen (λ n. slice_index_or stores.now n None) memory.now number address size }
+        ≡ bytes_seen (λ n. slice_index_or stores.now n None) (slice_index memory.now) number address
+        size }
 {
     let mut bytes: u64 = 0;
     for k in 0..size {
@@ -84,7 +86,7 @@ pub fn load(stores: &[Option<Stored>], memory: &[u8], inst: Inst, left: u64) -> 
     requires memory { length memory.now ≡ data_size }
     requires number { inst.number ≤ 32 }
     ensures value { result ≡ load_of inst (λ address.
-        bytes_seen (λ n. slice_index_or stores.now n None) memory.now inst.number address
+        bytes_seen (λ n. slice_index_or stores.now n None) (slice_index memory.now) inst.number address
         (size_of inst.op)) left }
 {
     let size = size_of(inst.op);

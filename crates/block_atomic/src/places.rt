@@ -6,19 +6,19 @@ ghost use Rattle.trips_isa.specs.Tables.{or_else};
 ghost use Rattle.trips_isa.specs.declared.block.Token.TheVariants.{Word};
 ghost use Rattle.block_atomic.specs.Slots.{is_named, is_read_to, placed, IsLive, IsUsedTo};
 
-use trips_isa::{Block, Inst, ReadSlot, Spot, Token};
+use trips_isa::{Block, FIRST_STORE, FIRST_WRITE, Inst, NO_PLACE, ReadSlot, Spot, Token};
 
-// The number of a place.
-fn place(spot: Spot) -> usize
-    ensures { result ≡ place_of spot }
+/// The number of a place.
+pub fn place(spot: Spot) -> usize
+    ensures value { result ≡ place_of spot }
 {
     match spot {
         Spot::Left(s) => s as usize,
         Spot::Right(s) => 128 + s as usize,
         Spot::Pred(s) => 256 + s as usize,
-        Spot::Write(w) => 384 + w as usize,
-        Spot::Store(n) => 416 + n as usize,
-        _ => 700,
+        Spot::Write(w) => FIRST_WRITE as usize + w as usize,
+        Spot::Store(n) => FIRST_STORE as usize + n as usize,
+        _ => NO_PLACE as usize,
     }
 }
 

@@ -7,3 +7,8 @@ pub mod Placed
 pub mod Nodes
 pub mod Unique
 pub mod Settled
+pub mod Fixed
+pub mod MarkLemmas
+pub mod CleanLemmas
+pub mod JointLemmas
+pub mod Traps

@@ -1,7 +1,7 @@
 -- In a block without a cycle one table agrees with itself in an entry state, and it is the one that
 -- is pulled.
 use Rattle.std.proofs.Common.{◌≡◌, ℕ, zero, suc, ◌+◌, ◌<◌, Bool, true, false, cond, List, [], ◌∷◌}
-use Rattle.std.proofs.Common.{Option, Some, None, slice_get, refl, sym, ap, ◌∙◌, subst, arith}
+use Rattle.std.proofs.Common.{Option, Some, None, slice_get, slice_index, refl, sym, ap, ◌∙◌, subst, arith}
 use Rattle.std.proofs.Math.Path.{fun_ext}
 use Rattle.std.proofs.lemmas.Bool.Decides.{nat_tests}
 use Rattle.trips_isa.specs.declared.node.Node.{Node}
@@ -26,7 +26,7 @@ use Rattle.block_cases.proofs.Steady.{or_right, to_left, to_right, to_predicate,
 use Rattle.block_cases.proofs.Nodes.{taken_same, slot_got}
 use Rattle.block_cases.proofs.Unique.{node_same}
 
-pub byte_seen_same : (s s' : ℕ → Option Stored) (mem : List ℕ) (n a : ℕ)
+pub byte_seen_same : (s s' : ℕ → Option Stored) (mem : ℕ → ℕ) (n a : ℕ)
     → ((k : ℕ) → k < n → s k ≡ s' k) → byte_seen s mem n a ≡ byte_seen s' mem n a
 byte_seen_same s s' mem zero a f = refl
 byte_seen_same s s' mem (suc n) a f = rw (
@@ -34,7 +34,7 @@ byte_seen_same s s' mem (suc n) a f = rw (
   byte_seen_same s s' mem n a (λ k l. f k (omega arith)),
 ) refl
 
-pub bytes_seen_same : (s s' : ℕ → Option Stored) (mem : List ℕ) (n a k : ℕ)
+pub bytes_seen_same : (s s' : ℕ → Option Stored) (mem : ℕ → ℕ) (n a k : ℕ)
     → ((m : ℕ) → m < n → s m ≡ s' m) → bytes_seen s mem n a k ≡ bytes_seen s' mem n a k
 bytes_seen_same s s' mem n a zero f = refl
 bytes_seen_same s s' mem n a (suc k) f = rw
@@ -134,16 +134,16 @@ given_below b regs mem rank o f g x h = go (slice_get (nodes_of b) x) refl
             slot (Some i) k = form (form_of i.op) (ap (λ (m : Node). m.below) k)
               where
                 form : (t : Form) → n.below ≡ load_bound t i.number
-                    → form_computes t i (λ a. bytes_seen (store_of b f) mem i.number a (size_of i.op))
+                    → form_computes t i (λ a. bytes_seen (store_of b f) (slice_index mem) i.number a (size_of i.op))
                     l r ≡ form_computes t i
-                    (λ a. bytes_seen (store_of b g) mem i.number a (size_of i.op)) l r
+                    (λ a. bytes_seen (store_of b g) (slice_index mem) i.number a (size_of i.op)) l r
                 form General u = refl
                 form Immediate u = refl
                 form Constant u = refl
                 form Store u = refl
                 form Branch u = refl
                 form Load u = load_same i _ _ l
-                    (λ a. bytes_seen_same (store_of b f) (store_of b g) mem i.number a (size_of i.op)
+                    (λ a. bytes_seen_same (store_of b f) (store_of b g) (slice_index mem) i.number a (size_of i.op)
                     (λ m lt. store n m j (λ k t. subst (λ q. stores_below (targets k) q ≡ true)
                     (sym u) (named_below (targets k) m i.number lt t))))
 

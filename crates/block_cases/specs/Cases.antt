@@ -1,4 +1,5 @@
--- The cases of a block, and what each spot gets in a case.
+-- The cases of a block, and what each spot gets in a case. Own: cases; the manual asks of a compiler
+-- what they decide of a block, one token at each spot (TRIPS Processor Reference Manual, TR-05-19).
 use Rattle.std.specs.Prelude.{◌≡◌, ℕ, zero, suc, ◌+◌, ◌<◌, Bool, true, false, ◌&&◌, ◌||◌, nat_lt}
 use Rattle.std.specs.Prelude.{nat_le, List, [], ◌∷◌, Option, Some, None, slice_get, slice_index_or}
 use Rattle.std.specs.Prelude.{length}
@@ -10,6 +11,7 @@ use Rattle.trips_isa.specs.declared.block.Sense.TheVariants.{Always, OnTrue, OnF
 use Rattle.block_cases.specs.declared.token.CaseToken.{CaseToken}
 use Rattle.block_cases.specs.declared.token.CaseToken.TheVariants.{Absent, Null, Bit}
 use Rattle.trips_isa.specs.declared.node.Node.{Node}
+use Rattle.trips_isa.specs.declared.places.TheConstants.{FIRST_WRITE}
 use Rattle.block_cases.specs.Nodes.{targets, names, hits, one_if}
 unfoldable pub use Rattle.trips_isa.specs.Tables.{deepest}
 
@@ -79,7 +81,7 @@ fires ns c (suc k) x = pulled (slice_get ns x) (c x) (λ q. first ns q (fires ns
 -- choosers: a chain of targets, through mov only, leads to a predicate
 abbrev pub names_predicate : List ℕ → Bool
 names_predicate [] = false
-names_predicate (t ∷ ts) = (nat_le 256 t && nat_lt t 384) || names_predicate ts
+names_predicate (t ∷ ts) = (nat_le 256 t && nat_lt t FIRST_WRITE) || names_predicate ts
 
 abbrev pub is_copy : Role → Bool
 is_copy Copy = true

@@ -1,8 +1,11 @@
--- Good blocks, and what a machine may rely on in them.
+-- Good blocks, and what a machine may rely on in them (docs/MACHINE.md, "Good blocks"). Source: every
+-- write, store and exit of a block comes exactly once, TRIPS Processor Reference Manual, UT Austin
+-- TR-05-19. Own: the faults, and that at most 256 cases are judged.
 use Rattle.std.specs.Prelude.{◌≡◌, ℕ, ◌<◌, ◌≤◌, ◌⊎◌, Bool, true, List, Some, slice_get}
 use Rattle.trips_isa.specs.declared.block.Sense.TheVariants.{Always}
 use Rattle.block_cases.specs.declared.token.CaseToken.{CaseToken}
 use Rattle.trips_isa.specs.declared.node.Node.{Node}
+use Rattle.trips_isa.specs.declared.places.TheConstants.{EXIT}
 use Rattle.block_cases.specs.Nodes.{targets, names, HasCycle, IsRanked}
 use Rattle.block_cases.specs.Cases.{cases, tokens, GetsTwo, GetsNone}
 use Rattle.block_cases.specs.Blocks.{nodes_of, wanted_of}
@@ -19,13 +22,13 @@ NamesPlace ns x q = (n : Node) × (slice_get ns x ≡ Some n) × (names (targets
 abbrev pub IsAcyclic : List Node → Type 0
 IsAcyclic ns = HasCycle ns → ⊥
 
--- no place below 448, the exit, gets two tokens
+-- no place below the exit gets two tokens
 abbrev pub NoTwo : List Node → Type 0
-NoTwo ns = (q : ℕ) → q < 448 → GetsTwo ns q → ⊥
+NoTwo ns = (q : ℕ) → q < EXIT → GetsTwo ns q → ⊥
 
 -- each declared write and number gets one
 abbrev pub NoGap : List Node → (ℕ → Bool) → Type 0
-NoGap ns wanted = (q : ℕ) → q < 448 → wanted q ≡ true → GetsNone ns q → ⊥
+NoGap ns wanted = (q : ℕ) → q < EXIT → wanted q ≡ true → GetsNone ns q → ⊥
 
 -- no fault of the third to the eighth kind, where `wanted` says which writes and numbers are
 -- declared
@@ -34,14 +37,14 @@ pub record Good (ns : List Node) (wanted : ℕ → Bool) : Type 0 where
   pub few : cases ns ≤ 256
   pub no_two : NoTwo ns
   pub no_gap : NoGap ns wanted
-  pub exit : GetsNone ns 448 → ⊥
-  pub one_exit : GetsTwo ns 448 → ⊥
+  pub exit : GetsNone ns EXIT → ⊥
+  pub one_exit : GetsTwo ns EXIT → ⊥
 
 -- no place gets two tokens, each write and number exactly one, and exactly one exit fires
 pub record OneToken (ns : List Node) (wanted : ℕ → Bool) (f : ℕ → CaseToken) : Type 0 where
-  pub at_most : (q : ℕ) → q < 448 → tokens ns f q ≤ 1
-  pub exactly : (q : ℕ) → q < 448 → wanted q ≡ true → tokens ns f q ≡ 1
-  pub exit : tokens ns f 448 ≡ 1
+  pub at_most : (q : ℕ) → q < EXIT → tokens ns f q ≤ 1
+  pub exactly : (q : ℕ) → q < EXIT → wanted q ≡ true → tokens ns f q ≡ 1
+  pub exit : tokens ns f EXIT ≡ 1
 
 -- a good block: no fault of any kind, and with that an order of its nodes along their edges
 pub record GoodBlock (b : Block) : Type 0 where

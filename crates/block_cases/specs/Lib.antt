@@ -4,3 +4,5 @@ pub mod Blocks
 pub mod Orders
 pub mod Good
 pub mod Shapes
+pub mod Joint
+pub mod Plain

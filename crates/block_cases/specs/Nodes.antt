@@ -1,4 +1,4 @@
--- How often places are named, and chains of edges that come back.
+-- How often places are named, and chains of edges that come back. Own.
 use Rattle.std.specs.Prelude.{ℕ, ◌+◌, Bool, true, false, ◌==◌, List, [], ◌∷◌}
 use Rattle.trips_isa.specs.declared.node.Node.{Node}
 pub use Rattle.trips_isa.specs.Places.{targets, names}

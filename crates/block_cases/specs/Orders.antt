@@ -1,9 +1,7 @@
--- The faults of a target and of a number, which hang on no case.
+-- The faults of a target and of a number, which hang on no case. Own, as are all faults of a block.
 use Rattle.std.specs.Prelude.{◌≡◌, ℕ, ◌<◌, Bool, true, false, ◌==◌, ◌&&◌, ◌||◌, nat_lt, List, []}
 use Rattle.std.specs.Prelude.{◌∷◌, take, length, Option, Some, None, slice_get, slice_index}
 use Rattle.std.specs.Prelude.{slice_index_or}
-use Rattle.trips_isa.specs.declared.block.Sense.{Sense}
-use Rattle.trips_isa.specs.declared.block.Sense.TheVariants.{Always}
 use Rattle.trips_isa.specs.declared.block.Spot.{Spot}
 use Rattle.trips_isa.specs.declared.block.Spot.TheVariants as spot
 use Rattle.trips_isa.specs.declared.block.Inst.{Inst}
@@ -12,10 +10,7 @@ use Rattle.trips_isa.specs.declared.block.Block.{Block}
 use Rattle.block_cases.specs.Cases.{no}
 use Rattle.block_cases.specs.Blocks.{form_of, role_of, takes_left, takes_right, is_store, is_load}
 use Rattle.block_cases.specs.Blocks.{in_mask}
-
-abbrev pub is_guarded : Sense → Bool
-is_guarded Always = false
-is_guarded _ = true
+pub use Rattle.trips_isa.specs.Operands.{is_guarded}
 
 abbrev pub slot_of : Block → ℕ → Option Inst
 slot_of b s = slice_index_or b.insts.items s None

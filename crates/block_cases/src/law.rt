@@ -2,6 +2,7 @@
 ghost use Rattle.std.specs.Prelude.{◌≡◌, ◌≢◌, ◌<◌, ◌≤◌, ℕ, List, Bool, true, Some, None, slice_get};
 ghost use Rattle.trips_isa.specs.declared.node.Node.{Node};
 ghost use Rattle.trips_isa.specs.declared.block.Block.{Block};
+ghost use Rattle.trips_isa.specs.declared.places.TheConstants.{PLACES};
 ghost use Rattle.trips_isa.specs.Fits.{FitsBlock};
 ghost use Rattle.trips_isa.specs.Rule.{Answer};
 ghost use Rattle.trips_isa.specs.Tables.{Computes, IsTable, pulled};
@@ -41,7 +42,7 @@ pub fn tables_agree_with_a_case()
 /// The same with a bit for every node, a chooser or not: one producer for each place.
 pub fn any_bits_agree_with_a_case()
     ensures { (ns : List Node) (wanted : ℕ → Bool) → IsRanked ns → IsPlaced ns → Good ns wanted
-        → (bits : ℕ → Bool) (q x y : ℕ) → q < 449 → NamesPlace ns x q → NamesPlace ns y q
+        → (bits : ℕ → Bool) (q x y : ℕ) → q < PLACES → NamesPlace ns x q → NamesPlace ns y q
         → fires ns bits deepest x ≢ Absent → fires ns bits deepest y ≢ Absent → x ≡ y }
 {}
 
@@ -52,9 +53,9 @@ pub fn good_blocks_keep_one_token()
         → Solves b answers g → OneToken (nodes_of b) (wanted_of b) (λ x. shape (g x)) }
     ensures producers { (b : Block) → FitsBlock b → GoodBlock b
         → (answers : Answers) (g : ℕ → Answer)
-        → Solves b answers g → (q x y : ℕ) → q < 449 → NamesPlace (nodes_of b) x q
+        → Solves b answers g → (q x y : ℕ) → q < PLACES → NamesPlace (nodes_of b) x q
         → NamesPlace (nodes_of b) y q → g x ≢ None → g y ≢ None → x ≡ y }
     ensures once { (b : Block) → FitsBlock b → GoodBlock b → (answers : Answers) (g : ℕ → Answer)
-        → Solves b answers g → (q x : ℕ) (n : Node) → q < 449 → slice_get (nodes_of b) x ≡ Some n
+        → Solves b answers g → (q x : ℕ) (n : Node) → q < PLACES → slice_get (nodes_of b) x ≡ Some n
         → g x ≢ None → hits (targets n) q ≤ 1 }
 {}

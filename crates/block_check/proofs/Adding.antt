@@ -9,8 +9,8 @@ use Rattle.trips_isa.specs.declared.form.Role.TheVariants.{Empty}
 use Rattle.trips_isa.specs.declared.block.Sense.TheVariants.{Always}
 use Rattle.block_cases.specs.Nodes.{targets, hits, one_if}
 use Rattle.block_cases.specs.Cases.{bit, tokens, present, weighed, has_bit}
-use Rattle.block_check.specs.Walk.{walk, branch, tally}
-use Rattle.block_check.specs.Found.{extra, others, gets_two, gets_none, any, Added}
+use Rattle.block_check.specs.inside.Walk.{walk, branch, tally}
+use Rattle.block_check.specs.inside.Found.{extra, others, gets_two, gets_none, any, Added}
 use Rattle.block_check.proofs.Walk.{tally_append}
 
 -- tokens ----------------------------------------------------------------------------------------

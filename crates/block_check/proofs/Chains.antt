@@ -6,8 +6,8 @@ use Rattle.trips_isa.specs.declared.node.Node.{Node}
 use Rattle.block_cases.specs.Nodes.{targets, names, Edge, Ranked, IsRanked}
 use Rattle.block_cases.specs.Cases.{bit, is_copy, names_predicate, asks, through, leads_from, leads}
 use Rattle.block_cases.specs.Cases.{deepest}
-use Rattle.block_check.specs.Pass.{AllInPlace, Spare}
-use Rattle.block_check.specs.Leads.{at_slot, leads_at, FalseFrom, led_from, NoneNamesPredicate}
+use Rattle.block_check.specs.inside.Pass.{AllInPlace, Spare}
+use Rattle.block_check.specs.inside.Leads.{at_slot, leads_at, FalseFrom, led_from, NoneNamesPredicate}
 use Rattle.block_cases.proofs.Steady.{deepest_is, to_left}
 use Rattle.block_check.proofs.Rounds.{slot_fits}
 

@@ -6,7 +6,7 @@ use Rattle.std.proofs.lemmas.Option.{get_or_from_slice_get}
 use Rattle.trips_isa.specs.declared.node.Node.{Node}
 use Rattle.block_cases.specs.Nodes.{feeds, one_if, Walk, Step, Then, HasCycle}
 use Rattle.block_cases.specs.Cases.{no}
-use Rattle.block_check.specs.Placing.{unplaced, Placing, AllStuck}
+use Rattle.block_check.specs.inside.PartOrder.{unplaced, PartOrder, AllStuck}
 use Rattle.block_cases.proofs.Alike.{both_true, and_true}
 
 pub blocked_more : (ns : List Node) (ranks : List ℕ) (n d : Node) (y : ℕ) → y < length ns →
@@ -111,7 +111,7 @@ some_node (m ∷ ms) zero h = (m, refl)
 some_node (m ∷ ms) (suc x) h = some_node ms x (omega arith)
 
 pub stuck_cycle : (ns : List Node) (ranks order : List ℕ) (placed : ℕ) →
-    Placing ns ranks order placed → AllStuck ns ranks (length ns) → placed < length ns → HasCycle ns
+    PartOrder ns ranks order placed → AllStuck ns ranks (length ns) → placed < length ns → HasCycle ns
 stuck_cycle ns ranks order placed p s lt =
     let some = some_unplaced ranks (let l : placed + unplaced ranks ≡ length ns = p.left in
     omega arith) in

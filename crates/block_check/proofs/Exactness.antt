@@ -4,9 +4,9 @@ use Rattle.std.proofs.Common.{[], ◌∷◌, length, refl, sym, ap, ap₂, ◌�
 use Rattle.trips_isa.specs.declared.node.Node.{Node}
 use Rattle.block_cases.specs.Nodes.{one_if, Walk, Step, Then, Ranked}
 use Rattle.block_cases.specs.Cases.{bit, is_case, count, cases}
-use Rattle.block_check.specs.Walk.{tally, zeros}
-use Rattle.block_check.specs.Placing.{IsOrdered}
-use Rattle.block_check.specs.Found.{others, gets_two, gets_none, any, Added, Explored}
+use Rattle.block_check.specs.inside.Walk.{tally, zeros}
+use Rattle.block_check.specs.inside.PartOrder.{IsOrdered}
+use Rattle.block_check.specs.inside.Found.{others, gets_two, gets_none, any, Added, Explored}
 use Rattle.block_cases.specs.Good.{IsAcyclic}
 use Rattle.block_cases.proofs.Alike.{and_true, both_true}
 use Rattle.block_check.proofs.Walk.{walk_exact}

@@ -11,16 +11,16 @@ use Rattle.trips_isa.specs.declared.block.Inst.{Inst}
 use Rattle.trips_isa.specs.declared.block.ReadSlot.{ReadSlot}
 use Rattle.trips_isa.specs.declared.block.Block.{Block}
 use Rattle.block_cases.specs.Cases.{bit}
-use Rattle.block_check.specs.Pass.{InPlace, AllInPlace}
+use Rattle.block_check.specs.inside.Pass.{InPlace, AllInPlace}
 use Rattle.block_cases.specs.Good.{Good}
-use Rattle.block_check.specs.Judged.{IsFault, FirstTwo}
+use Rattle.block_check.specs.inside.Judged.{IsFault, FirstTwo}
 use Rattle.trips_isa.specs.Fits.{FitsTarget, FitsOperand, FitsSecond, FitsForm, FitsSlot, FitsRead}
 use Rattle.trips_isa.specs.Fits.{FitsBlock}
 use Rattle.trips_isa.specs.declared.form.Form.{Form}
 use Rattle.trips_isa.specs.declared.form.Form.TheVariants as form
 use Rattle.block_cases.specs.Blocks.{form_of, place_of, place_at, first_place, load_bound}
 use Rattle.block_cases.specs.Blocks.{read_node, inst_node, inst_nodes, nodes_of}
-use Rattle.block_check.specs.Checked.{IsBelow}
+use Rattle.block_check.specs.inside.Checked.{IsBelow}
 
 pub good_same : (ns : List Node) (w : List Bool) (v : ℕ → Bool) → ((q : ℕ) → q < 449 →
     bit w q ≡ v q) → Good ns (bit w) → Good ns v

@@ -15,3 +15,8 @@ pub mod Owing
 pub mod Spots
 pub mod Lists
 pub mod Cycles
+pub mod Ranking
+pub mod OneGood
+pub mod Cutting
+pub mod CutFaults
+pub mod UsedSlots

@@ -8,10 +8,12 @@ use Rattle.trips_isa.specs.declared.block.Spot.TheVariants.{Store}
 use Rattle.trips_isa.specs.declared.block.Block.{Block}
 use Rattle.block_cases.specs.Nodes.{HasCycle}
 use Rattle.block_cases.specs.Cases.{cases, GetsTwo, GetsNone}
-use Rattle.trips_isa.specs.Blocks.{computes}
+use Rattle.trips_isa.specs.Blocks.{computes, answers_in, token_of}
+use Rattle.trips_isa.specs.Tables.{deepest}
+use Rattle.block_cases.proofs.Settled.{token_solves}
 use Rattle.block_cases.proofs.OneToken.{good_machine}
 use Rattle.block_cases.proofs.Placed.{nodes_placed}
-use Rattle.block_check.specs.IsChecked.{IsChecked}
+use Rattle.block_check.specs.IsChecked.{IsChecked, KeepsOneToken}
 use Rattle.trips_isa.specs.Fits.{FitsBlock}
 use Rattle.block_cases.specs.Blocks.{place_of, nodes_of, wanted_of}
 use Rattle.block_check.specs.declared.fault.CheckFault.{CheckFault}
@@ -20,12 +22,12 @@ use Rattle.block_check.specs.declared.fault.NodeFault.{NodeFault}
 use Rattle.block_check.specs.declared.fault.NodeFault.TheVariants as net
 use Rattle.block_cases.specs.Orders.{bad_read, bad_inst, bad_number, bad_write, IsLeast, NoneBelow}
 use Rattle.block_cases.specs.Orders.{IsInOrder}
-use Rattle.block_check.specs.Judged.{IsFault, FirstTwo, FirstGap, LacksExit, HasTwoExits}
+use Rattle.block_check.specs.inside.Judged.{IsFault, FirstTwo, FirstGap, LacksExit, HasTwoExits}
 use Rattle.block_check.specs.Faults.{HasBadTarget, HasBadNumber, HasFault}
 use Rattle.block_check.specs.Faults.{spot_order, fault_order, IsLowestFault, IsGood}
 use Rattle.block_cases.specs.Good.{GoodBlock}
-use Rattle.block_check.specs.Checked.{BadTargetAt, BadNumberAt, IsCheckFault, IsCaseFault, spot_of}
-use Rattle.block_check.specs.Checked.{fault_of}
+use Rattle.block_check.specs.inside.Checked.{BadTargetAt, BadNumberAt, IsCheckFault, IsCaseFault, spot_of}
+use Rattle.block_check.specs.inside.Checked.{fault_of}
 use Rattle.block_check.proofs.Spots.{not_before, spot_low, place_order, at_spot, takes_below}
 use Rattle.block_check.proofs.Spots.{true_lt, owed_wanted, owed_takes, wanted_owed}
 
@@ -51,7 +53,7 @@ no_number b o (Store s) h = h
 
 -- the answers ------------------------------------------------------------------------------------
 
-at_most : (p q : ℕ) → (p < q → ⊥) → q ≤ p
+pub at_most : (p q : ℕ) → (p < q → ⊥) → q ≤ p
 at_most p q h = go (nat_lt p q) refl
   where
     go : (v : Bool) → nat_lt p q ≡ v → q ≤ p
@@ -348,6 +350,11 @@ found_checked b fits g = record {
   fits = fits;
   good = found_good b fits g;
   cases = g;
-  one_token = λ answers t s. good_machine (nodes_of b) (wanted_of b) g.ranked (nodes_placed b fits)
-      g.good (computes b answers) t s;
+  one_token = one;
+  from_entry = λ regs mem. one (answers_in b regs mem (token_of b regs mem deepest)) (token_of b
+      regs mem deepest) (token_solves b regs mem g.ranked);
 }
+  where
+    one : KeepsOneToken b
+    one answers t s = good_machine (nodes_of b) (wanted_of b) g.ranked (nodes_placed b fits) g.good
+        (computes b answers) t s

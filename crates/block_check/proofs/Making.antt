@@ -13,8 +13,8 @@ use Rattle.trips_isa.specs.Images.{chunks, chunk_of, starting_at, FitsImage}
 use Rattle.block_check.specs.declared.refusal.ImageRefusal.{ImageRefusal}
 use Rattle.block_check.specs.declared.refusal.ImageRefusal.TheVariants as refusal
 use Rattle.block_check.specs.IsChecked.{IsChecked}
-use Rattle.block_check.specs.Images.{starts_from, IsBadBlock, IsRefusal}
-use Rattle.block_check.specs.Holds.{image_of, IsIndexed}
+use Rattle.block_check.specs.Images.{IsRefusal}
+use Rattle.block_check.specs.inside.Holds.{image_of, first_chunks, IsIndexed, IsBadBlock}
 use Rattle.block_check.proofs.Starts.{sum_push, sum_front, sum_least, starts_push, starts_length}
 use Rattle.block_check.proofs.Starts.{starts_at, starts_rise, starts_found, starts_missing}
 use Rattle.std.proofs.lemmas.List.Sorted.{searched}
@@ -80,12 +80,12 @@ turn_each done new b h k n = subst (All IsChecked) (sym n) (All-append IsChecked
     (one_is b k))
 
 pub turn_starts : (done new : List Block) (starts starts' : List ℕ) (b : Block) (next : ℕ) →
-    starts ≡ starts_from 0 done → next ≡ sum_by chunks done → new ≡ done ++ (b ∷ []) →
-    starts' ≡ starts ++ (next ∷ []) → starts' ≡ starts_from 0 new
+    starts ≡ first_chunks 0 done → next ≡ sum_by chunks done → new ≡ done ++ (b ∷ []) →
+    starts' ≡ starts ++ (next ∷ []) → starts' ≡ first_chunks 0 new
 turn_starts done new starts starts' b next s n w p =
     let zero_is : 0 + sum_by chunks done ≡ next = omega arith in
-    p ∙ ap (λ l. l ++ (next ∷ [])) s ∙ ap (λ k. starts_from 0 done ++ (k ∷ [])) (sym zero_is)
-    ∙ sym (starts_push 0 done b) ∙ ap (starts_from 0) (sym w)
+    p ∙ ap (λ l. l ++ (next ∷ [])) s ∙ ap (λ k. first_chunks 0 done ++ (k ∷ [])) (sym zero_is)
+    ∙ sym (starts_push 0 done b) ∙ ap (first_chunks 0) (sym w)
 
 pub turn_next : (done new : List Block) (b : Block) (next next' : ℕ) → next ≡ sum_by chunks done →
     new ≡ done ++ (b ∷ []) → next' ≡ next + chunks b → next' ≡ sum_by chunks new
@@ -138,7 +138,7 @@ indexed_at blocks starts bytes image k d i v lt =
     let s = starts_length 0 blocks in
     let zero_is : 0 + sum_by chunks (take k blocks) ≡ sum_by chunks (take k blocks) = omega arith in
     ap (λ l. get_or l k d) i.starts_are
-    ∙ any_default (starts_from 0 blocks) k d (omega (arith, s, n))
+    ∙ any_default (first_chunks 0 blocks) k d (omega (arith, s, n))
     ∙ starts_at 0 blocks k (omega (arith, n))
     ∙ zero_is
     ∙ ap (λ (j : Image). sum_by chunks (take k j.blocks)) v
@@ -155,25 +155,25 @@ pub indexed_search : (blocks : List Block) (starts bytes slice : List ℕ) (imag
     MatchResult r (λ k. (Some k ≡ starting_at image.blocks chunk)
     × (k < length image.blocks)) (λ k. None ≡ starting_at image.blocks chunk)
 indexed_search blocks starts bytes slice image chunk r i v s h =
-    go r (searched (starts_from 0 blocks) chunk r (subst (λ l. IsBinarySearchResult (λ y. nat_cmp y
+    go r (searched (first_chunks 0 blocks) chunk r (subst (λ l. IsBinarySearchResult (λ y. nat_cmp y
     chunk) l r) (s ∙ i.starts_are) h) (starts_rise 0 blocks))
   where
     whole : blocks ≡ image.blocks
     whole = ap (λ (k : Image). k.blocks) v
 
-    size : length (starts_from 0 blocks) ≡ length blocks
+    size : length (first_chunks 0 blocks) ≡ length blocks
     size = starts_length 0 blocks
 
-    go : (r : Result ℕ ℕ) → MatchResult r (λ k. (k < length (starts_from 0 blocks))
-        × (get_or (starts_from 0 blocks) k 0 ≡ chunk)) (λ k. (k ≤ length (starts_from 0 blocks))
-        × ((j : ℕ) → j < k → get_or (starts_from 0 blocks) j 0 < chunk) × ((j : ℕ) → k ≤ j →
-        j < length (starts_from 0 blocks) → chunk < get_or (starts_from 0 blocks) j 0)) →
+    go : (r : Result ℕ ℕ) → MatchResult r (λ k. (k < length (first_chunks 0 blocks))
+        × (get_or (first_chunks 0 blocks) k 0 ≡ chunk)) (λ k. (k ≤ length (first_chunks 0 blocks))
+        × ((j : ℕ) → j < k → get_or (first_chunks 0 blocks) j 0 < chunk) × ((j : ℕ) → k ≤ j →
+        j < length (first_chunks 0 blocks) → chunk < get_or (first_chunks 0 blocks) j 0)) →
         MatchResult r (λ k. (Some k ≡ starting_at image.blocks chunk)
         × (k < length image.blocks)) (λ k. None ≡ starting_at image.blocks chunk)
     go (Ok k) m =
         let n : length blocks ≡ length image.blocks = ap length whole in
-        let s : length (starts_from 0 blocks) ≡ length blocks = size in
-        let lt : k < length (starts_from 0 blocks) = m.0 in
+        let s : length (first_chunks 0 blocks) ≡ length blocks = size in
+        let lt : k < length (first_chunks 0 blocks) = m.0 in
         let same : 0 + k ≡ k = omega arith in (
           ap (λ j. Some j) (sym same) ∙ sym (starts_found 0 0 blocks k chunk (omega arith) m.1)
               ∙ ap (λ l. starting_at l chunk) whole,
@@ -181,14 +181,14 @@ indexed_search blocks starts bytes slice image chunk r i v s h =
         )
     go (Err k) m = sym (starts_missing 0 0 blocks chunk none) ∙ ap (λ l. starting_at l chunk) whole
       where
-        none : (j : ℕ) → j < length blocks → get_or (starts_from 0 blocks) j 0 ≡ chunk → ⊥
+        none : (j : ℕ) → j < length blocks → get_or (first_chunks 0 blocks) j 0 ≡ chunk → ⊥
         none j lt e = by (nat_lt j k) refl
           where
             by : (b : Bool) → nat_lt j k ≡ b → ⊥
-            by true b = let low : get_or (starts_from 0 blocks) j 0 < chunk = m.1 j (grind arith) in
+            by true b = let low : get_or (first_chunks 0 blocks) j 0 < chunk = m.1 j (grind arith) in
                 omega arith
             by false b =
-                let s : length (starts_from 0 blocks) ≡ length blocks = size in
+                let s : length (first_chunks 0 blocks) ≡ length blocks = size in
                 let le : k ≤ j = grind arith in
-                let up : chunk < get_or (starts_from 0 blocks) j 0 = m.2 j le (omega arith) in
+                let up : chunk < get_or (first_chunks 0 blocks) j 0 = m.2 j le (omega arith) in
                 omega arith

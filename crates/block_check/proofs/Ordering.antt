@@ -1,11 +1,11 @@
--- Placing nodes: an order at the end, or a cycle.
+-- PartOrder nodes: an order at the end, or a cycle.
 use Rattle.std.proofs.Common.{◌≡◌, ℕ, zero, suc, ◌+◌, ◌<◌, ◌≤◌, Bool, true, false, ◌⊎◌}
 use Rattle.std.proofs.Common.{inl, inr, List, [], ◌∷◌, length, get_or, Some, slice_get, slice_set}
 use Rattle.std.proofs.Common.{refl, sym, ap, ◌∙◌, subst, arith, nat_lt, ◌==◌, true≢false}
 use Rattle.trips_isa.specs.declared.node.Node.{Node}
 use Rattle.block_cases.specs.Nodes.{names, feeds, one_if, Edge}
-use Rattle.block_check.specs.Walk.{Sorted}
-use Rattle.block_check.specs.Placing.{unplaced, Placed, Placing, IsOrdered}
+use Rattle.block_check.specs.inside.Walk.{Sorted}
+use Rattle.block_check.specs.inside.PartOrder.{unplaced, Placed, PartOrder, IsOrdered}
 use Rattle.block_cases.proofs.Steady.{or_left, or_right}
 use Rattle.block_cases.proofs.Alike.{or_true}
 use Rattle.block_check.proofs.Cycles.{eq_is, eq_not, near, same}
@@ -42,7 +42,7 @@ one_fewer (a ∷ l) zero v h e lt =
 one_fewer (a ∷ l) (suc x) v h e lt = let k = one_fewer l x v (omega arith) e lt in omega (arith, k)
 
 pub some_room : (ns : List Node) (ranks order : List ℕ) (placed x : ℕ) →
-    Placing ns ranks order placed → x < length ns → get_or ranks x 0 ≡ 255 → placed < length ns
+    PartOrder ns ranks order placed → x < length ns → get_or ranks x 0 ≡ 255 → placed < length ns
 some_room ns ranks order placed x p lt e =
     let a = one_fewer ranks x 0 (let z : length ranks ≡ length ns = p.ranks_size in
     omega arith) e (omega arith) in
@@ -53,13 +53,13 @@ below_255 : (r : ℕ) → r ≤ 255 → (r ≡ 255 → ⊥) → r < 255
 below_255 r le ne = near r 255 (omega arith) ne
 
 pub placing_more : (ns : List Node) (ranks order ranks' order' : List ℕ) (placed x : ℕ) (n : Node) →
-    Placing ns ranks order placed → length ns ≤ 160 → x < length ns → slice_get ns x ≡ Some n →
+    PartOrder ns ranks order placed → length ns ≤ 160 → x < length ns → slice_get ns x ≡ Some n →
     get_or ranks x 0 ≡ 255 →
     ((y : ℕ) (m : Node) → slice_get ns y ≡ Some m → get_or ranks y 0 ≡ 255 → feeds m n ≡ false) →
     ranks' ≡ slice_set ranks x placed → order' ≡ slice_set order placed x →
-    Placing ns ranks' order' (placed + 1)
+    PartOrder ns ranks' order' (placed + 1)
 placing_more ns ranks order ranks' order' placed x n p size lt is e free a b =
-    subst (λ r. Placing ns r order' (placed + 1)) (sym a) (subst (λ o. Placing ns (slice_set ranks
+    subst (λ r. PartOrder ns r order' (placed + 1)) (sym a) (subst (λ o. PartOrder ns (slice_set ranks
     x placed) o (placed + 1)) (sym b) (record {
       ranks_size = set_length ranks x placed ∙ p.ranks_size;
       order_size = set_length order placed x ∙ p.order_size;
@@ -240,7 +240,7 @@ default_any (a ∷ l) zero d h = refl
 default_any (a ∷ l) (suc k) d h = default_any l k d (omega arith)
 
 pub all_ordered : (ns : List Node) (ranks order : List ℕ) (placed : ℕ) →
-    Placing ns ranks order placed → length ns ≤ 160 → placed ≡ length ns → IsOrdered ns order
+    PartOrder ns ranks order placed → length ns ≤ 160 → placed ≡ length ns → IsOrdered ns order
 all_ordered ns ranks order placed p size e = (
   λ x. get_or ranks x 0,
   record {
@@ -283,7 +283,7 @@ full_unplaced (r ∷ rs) (suc n) s h =
 
 pub placing_none : (ns : List Node) (ranks order : List ℕ) → length ranks ≡ length ns →
     length order ≡ length ns → ((k : ℕ) → k < length ns → get_or ranks k 0 ≡ 255) →
-    Placing ns ranks order 0
+    PartOrder ns ranks order 0
 placing_none ns ranks order a b h = record {
   ranks_size = a;
   order_size = b;

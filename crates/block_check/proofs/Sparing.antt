@@ -7,7 +7,7 @@ use Rattle.trips_isa.specs.declared.node.Node.{Node}
 use Rattle.block_cases.specs.Nodes.{targets, names, hits}
 use Rattle.block_cases.specs.Cases.{matches, gives, if_matched, taken, or_else, first, pulled}
 use Rattle.block_cases.specs.Cases.{weighed, tokens}
-use Rattle.block_check.specs.Pass.{Spare, AbsentFrom, tok_at}
+use Rattle.block_check.specs.inside.Pass.{Spare, AbsentFrom, tok_at}
 
 taken_none : (b : Bool) (f : ℕ → CaseToken) → f 0 ≡ Absent → taken b f ≡ Absent
 taken_none true f h = h

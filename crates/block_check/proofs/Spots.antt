@@ -11,7 +11,7 @@ use Rattle.block_cases.proofs.Alike.{and_true, both_true, or_true}
 use Rattle.block_cases.specs.Blocks.{place_of, in_mask, wanted_of}
 use Rattle.block_check.specs.Faults.{TakesTokens, IsOwed}
 use Rattle.block_check.specs.Faults.{spot_order}
-use Rattle.block_check.specs.Checked.{spot_of}
+use Rattle.block_check.specs.inside.Checked.{spot_of}
 
 pub not_before : (p : ℕ → Bool) (k j : ℕ) → ((i : ℕ) → i < k → p i ≡ false) → p j ≡ true → k ≤ j
 not_before p k j h e = go (nat_lt j k) refl

@@ -7,7 +7,7 @@ use Rattle.std.proofs.lemmas.List.Sums.{sum_by-cons, sum_by-append}
 use Rattle.trips_isa.specs.declared.block.Inst.{Inst}
 use Rattle.trips_isa.specs.declared.block.Block.{Block}
 use Rattle.trips_isa.specs.Images.{chunks, body_chunks, starting_from}
-use Rattle.block_check.specs.Images.{starts_from}
+use Rattle.block_check.specs.inside.Holds.{first_chunks}
 
 body_least : (j : ℕ) (is : List (Option Inst)) → 1 ≤ body_chunks j is
 body_least j [] = omega arith
@@ -16,12 +16,12 @@ body_least j (i ∷ is) = let h = body_least (suc j) is in omega (arith, h)
 pub chunks_least : (b : Block) → 2 ≤ chunks b
 chunks_least b = let h = body_least 0 b.insts.items in omega (arith, h)
 
-pub starts_length : (here : ℕ) (bs : List Block) → length (starts_from here bs) ≡ length bs
+pub starts_length : (here : ℕ) (bs : List Block) → length (first_chunks here bs) ≡ length bs
 starts_length here [] = refl
 starts_length here (b ∷ bs) = ap suc (starts_length (here + chunks b) bs)
 
 pub starts_at : (here : ℕ) (bs : List Block) (k : ℕ) → k < length bs →
-    get_or (starts_from here bs) k 0 ≡ here + sum_by chunks (take k bs)
+    get_or (first_chunks here bs) k 0 ≡ here + sum_by chunks (take k bs)
 starts_at here [] k h = absurd (omega arith)
 starts_at here (b ∷ bs) zero h = omega arith
 starts_at here (b ∷ bs) (suc k) h =
@@ -30,7 +30,7 @@ starts_at here (b ∷ bs) (suc k) h =
     r ∙ omega (arith, s)
 
 pub starts_push : (here : ℕ) (bs : List Block) (b : Block) →
-    starts_from here (bs ++ (b ∷ [])) ≡ starts_from here bs ++ ((here + sum_by chunks bs) ∷ [])
+    first_chunks here (bs ++ (b ∷ [])) ≡ first_chunks here bs ++ ((here + sum_by chunks bs) ∷ [])
 starts_push here [] b = ap (λ n. n ∷ []) (omega arith)
 starts_push here (a ∷ bs) b =
     let s = sum_by-cons chunks a bs in
@@ -39,7 +39,7 @@ starts_push here (a ∷ bs) b =
       s,
     ) in
     ap (λ l. here ∷ l) (starts_push (here + chunks a) bs b
-    ∙ ap (λ n. starts_from (here + chunks a) bs ++ (n ∷ [])) same)
+    ∙ ap (λ n. first_chunks (here + chunks a) bs ++ (n ∷ [])) same)
 
 pub sum_push : (bs : List Block) (b : Block) → sum_by chunks (bs ++ (b ∷ [])) ≡ sum_by chunks bs +
     chunks b
@@ -55,11 +55,11 @@ sum_least (b ∷ bs) = let r = sum_least bs in let c = chunks_least b in
     let s = sum_by-cons chunks b bs in omega (arith, r, c, s)
 
 above : (here : ℕ) (bs : List Block) (k : ℕ) → k < length bs →
-    here ≤ get_or (starts_from here bs) k 0
+    here ≤ get_or (first_chunks here bs) k 0
 above here bs k h = let r = starts_at here bs k h in omega (arith, r)
 
 pub starts_rise : (here : ℕ) (bs : List Block) (i j : ℕ) → i ≤ j →
-    j < length (starts_from here bs) → get_or (starts_from here bs) i 0 ≤ get_or (starts_from here
+    j < length (first_chunks here bs) → get_or (first_chunks here bs) i 0 ≤ get_or (first_chunks here
     bs) j 0
 starts_rise here [] i j le h = absurd (omega arith)
 starts_rise here (b ∷ bs) zero zero le h = omega arith
@@ -78,7 +78,7 @@ below_not : (a b : ℕ) → a < b → (a == b) ≡ false
 below_not a b h = grind arith
 
 pub starts_found : (number here : ℕ) (bs : List Block) (k chunk : ℕ) → k < length bs →
-    get_or (starts_from here bs) k 0 ≡ chunk → starting_from bs number here chunk ≡ Some (number +
+    get_or (first_chunks here bs) k 0 ≡ chunk → starting_from bs number here chunk ≡ Some (number +
     k)
 starts_found number here [] k chunk h e = absurd (omega arith)
 starts_found number here (b ∷ bs) zero chunk h e =
@@ -103,7 +103,7 @@ eq_is : (a b : ℕ) → (a == b) ≡ true → a ≡ b
 eq_is a b e = grind arith
 
 pub starts_missing : (number here : ℕ) (bs : List Block) (chunk : ℕ) → ((k : ℕ) → k < length bs →
-    get_or (starts_from here bs) k 0 ≡ chunk → ⊥) → starting_from bs number here chunk ≡ None
+    get_or (first_chunks here bs) k 0 ≡ chunk → ⊥) → starting_from bs number here chunk ≡ None
 starts_missing number here [] chunk h = refl
 starts_missing number here (b ∷ bs) chunk h = go (here == chunk) refl (starts_missing (suc number)
     (here + chunks b) bs chunk (λ k lt q. h (suc k) (omega arith) q))

@@ -6,7 +6,7 @@ use Rattle.trips_isa.specs.declared.node.Node.{Node}
 use Rattle.block_cases.specs.Nodes.{names, one_if, Ranked}
 use Rattle.block_cases.specs.Cases.{no, deepest, is_chooser, present, bit, token, has_bit}
 use Rattle.block_cases.specs.Cases.{ones_pass, is_case, IsCase, count}
-use Rattle.block_check.specs.Walk.{branch, walk, tally, Sorted, zeros, Order}
+use Rattle.block_check.specs.inside.Walk.{branch, walk, tally, Sorted, zeros, Order}
 use Rattle.block_cases.proofs.Steady.{or_left, or_right, present_below}
 use Rattle.block_cases.proofs.Alike.{both_true, and_true, get_none}
 use Rattle.block_check.proofs.Lists.{same_test, not_true, count_same, count_split, agree, agree_at}
@@ -290,12 +290,12 @@ visits ns rank o (x ∷ xs) c f t =
 
 -- the whole search --------------------------------------------------------------------------------
 
-bit_zeros : (n x : ℕ) → bit (zeros n) x ≡ false
+pub bit_zeros : (n x : ℕ) → bit (zeros n) x ≡ false
 bit_zeros zero x = refl
 bit_zeros (suc n) zero = refl
 bit_zeros (suc n) (suc x) = bit_zeros n x
 
-zeros_size : (n : ℕ) → length (zeros n) ≡ n
+pub zeros_size : (n : ℕ) → length (zeros n) ≡ n
 zeros_size zero = refl
 zeros_size (suc n) = ap suc (zeros_size n)
 

@@ -40,6 +40,7 @@ IsOwed b (Write w) = w < length b.writes.items
 IsOwed b (Store n) = in_mask b.mask n ≡ true
 IsOwed b _ = ⊥
 
+-- the faults that a block has, each at each of its spots
 abbrev pub HasFault : Block → CheckFault → Type 0
 HasFault b (BadTarget s) = HasBadTarget b s
 HasFault b (BadNumber s) = HasBadNumber b s

@@ -1,9 +1,10 @@
 -- What is known of a block that the checker took.
-use Rattle.std.specs.Prelude.{ℕ}
+use Rattle.std.specs.Prelude.{ℕ, List}
 use Rattle.trips_isa.specs.declared.block.Block.{Block}
 use Rattle.trips_isa.specs.Fits.{FitsBlock}
 use Rattle.trips_isa.specs.Rule.{Answer}
-use Rattle.trips_isa.specs.Blocks.{Answers, Solves}
+use Rattle.trips_isa.specs.Blocks.{Answers, Solves, token_of}
+use Rattle.trips_isa.specs.Tables.{deepest}
 use Rattle.block_cases.specs.Blocks.{nodes_of, wanted_of}
 use Rattle.block_cases.specs.Good.{GoodBlock, OneToken}
 use Rattle.block_cases.specs.Shapes.{shape}
@@ -16,8 +17,17 @@ KeepsOneToken b =
     (answers : Answers) (g : ℕ → Answer) → Solves b answers g →
     OneToken (nodes_of b) (wanted_of b) (λ x. shape (g x))
 
+-- law one token in every entry state: the same of the tokens that the block gives from any registers
+-- and any memory
+abbrev pub KeepsOneTokenFromEntry : Block → Type 0
+KeepsOneTokenFromEntry b =
+    (regs mem : List ℕ) → OneToken (nodes_of b) (wanted_of b)
+    (λ x. shape (token_of b regs mem deepest x))
+
+-- a checked block fits, has no fault, is good by its cases, and keeps one token
 pub record IsChecked (b : Block) : Type 0 where
   pub fits : FitsBlock b
   pub good : IsGood b
   pub cases : GoodBlock b
   pub one_token : KeepsOneToken b
+  pub from_entry : KeepsOneTokenFromEntry b

@@ -1,11 +1,4 @@
 pub mod Faults
 pub mod IsChecked
 pub mod Images
-pub mod Holds
-pub mod Walk
-pub mod Pass
-pub mod Found
-pub mod Leads
-pub mod Placing
-pub mod Judged
-pub mod Checked
+pub mod inside

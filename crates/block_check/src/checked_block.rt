@@ -1,7 +1,8 @@
 ghost use Rattle.std.specs.Prelude.{◌≡◌, ◌↔◌, IsOk, IfOk, IfErr};
 ghost use Rattle.trips_isa.specs.Fits.{FitsBlock};
+ghost use Rattle.block_cases.specs.Good.{GoodBlock};
 ghost use Rattle.block_check.specs.Faults.{IsGood, IsLowestFault};
-ghost use Rattle.block_check.specs.IsChecked.{IsChecked};
+ghost use Rattle.block_check.specs.IsChecked.{IsChecked, KeepsOneTokenFromEntry};
 
 use crate::fault::CheckFault;
 use crate::verdict::judge_block;
@@ -39,8 +40,10 @@ impl CheckedBlock {
 pub fn check(block: Block) -> Result<CheckedBlock, (Block, CheckFault)>
     requires fits { FitsBlock block }
     ensures ok { IsOk result ↔ IsGood block }
+    ensures good { IsOk result ↔ GoodBlock block }
     ensures same { IfOk result (λ c. c ≡ block) }
     ensures checked { IfOk result (λ c. IsChecked block) }
+    ensures one_token { IfOk result (λ c. KeepsOneTokenFromEntry block) }
     ensures back { IfErr result (λ e. e.0 ≡ block) }
     ensures fault { IfErr result (λ e. IsLowestFault block e.1) }
 {

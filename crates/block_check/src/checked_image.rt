@@ -5,7 +5,8 @@ ghost use Rattle.trips_isa.specs.Fits.{FitsBlock};
 ghost use Rattle.trips_isa.specs.Images.{chunks, chunk_of, starting_at, FitsImage};
 ghost use Rattle.block_check.specs.Faults.{IsLowestFault};
 ghost use Rattle.block_check.specs.IsChecked.{IsChecked};
-ghost use Rattle.block_check.specs.Images.{IsBadBlock, IsCheckedImage, IsRefusal};
+ghost use Rattle.block_check.specs.Images.{IsCheckedImage, IsRefusal};
+ghost use Rattle.block_check.specs.inside.Holds.{IsBadBlock};
 
 use crate::checked_block::{CheckedBlock, check};
 use crate::refusal::ImageRefusal;
@@ -27,7 +28,7 @@ pub struct CheckedImage {
 
 impl Model for CheckedImage {
     ghost use Rattle.trips_isa.specs.declared.block.Image.{Image};
-    ghost use Rattle.block_check.specs.Holds.{image_of, IsIndexed};
+    ghost use Rattle.block_check.specs.inside.Holds.{image_of, IsIndexed};
 
     ghost Value = { Image };
 
@@ -151,7 +152,7 @@ impl CheckedImage {
     /// How many blocks there are.
     pub fn count(&self) -> u32
         ensures value { result ≡ length self.now.blocks }
-        ensures checked { IsCheckedImage self.now }
+        ensures image { IsCheckedImage self.now }
     {
         self.blocks.len() as u32
     }
@@ -161,6 +162,7 @@ impl CheckedImage {
         requires number { number < length self.now.blocks }
         ensures value { slice_get self.now.blocks number ≡ Some result.now }
         ensures checked { IsChecked result.now }
+        ensures image { IsCheckedImage self.now }
     {
         &self.blocks[number as usize]
     }
@@ -169,6 +171,7 @@ impl CheckedImage {
     pub fn address(&self, number: u32) -> u32
         requires number { number < length self.now.blocks }
         ensures value { result ≡ chunk_of self.now.blocks number }
+        ensures image { IsCheckedImage self.now }
     {
         self.starts[number as usize]
     }
@@ -176,6 +179,7 @@ impl CheckedImage {
     /// The block whose first chunk this is; none exactly where no block starts there.
     pub fn starting_at(&self, chunk: u32) -> Option<u32>
         ensures value { result ≡ starting_at self.now.blocks chunk }
+        ensures image { IsCheckedImage self.now }
     {
         match self.starts.as_slice().binary_search(&chunk) {
             Ok(number) => Some(number as u32),
@@ -186,6 +190,7 @@ impl CheckedImage {
     /// The start of data memory.
     pub fn bytes(&self) -> &[u8]
         ensures value { result.now ≡ self.now.bytes }
+        ensures image { IsCheckedImage self.now }
     {
         self.bytes.as_slice()
     }
@@ -193,6 +198,7 @@ impl CheckedImage {
     /// A copy of the image that this was made from.
     pub fn copy_out(&self, alloc: Global) -> Result<Image, Memory>
         ensures ok { IfOk result (λ copy. copy ≡ self.now) }
+        ensures image { IsCheckedImage self.now }
     {
         let blocks = copy_blocks(alloc, &self.blocks)?;
         let bytes = Items::from_slice(alloc, self.bytes.as_slice())?;

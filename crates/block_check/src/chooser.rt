@@ -4,10 +4,10 @@ ghost use Rattle.std.specs.Prelude.{length, slice_index_or, slice_get, slice_set
 ghost use Rattle.block_cases.specs.Nodes.{IsRanked, targets};
 ghost use Rattle.block_cases.specs.Cases.{bit, leads, deepest, is_chooser, is_copy};
 ghost use Rattle.block_cases.specs.Cases.{names_predicate, leads_from};
-ghost use Rattle.block_check.specs.Pass.{InPlace, AllInPlace, Spare};
-ghost use Rattle.block_check.specs.Found.{Choosing};
-ghost use Rattle.block_check.specs.Leads.{at_slot, leads_on, leads_at, FalseFrom};
-ghost use Rattle.block_check.specs.Leads.{NoneNamesPredicate};
+ghost use Rattle.block_check.specs.inside.Pass.{InPlace, AllInPlace, Spare};
+ghost use Rattle.block_check.specs.inside.Found.{Choosing};
+ghost use Rattle.block_check.specs.inside.Leads.{at_slot, leads_on, leads_at, FalseFrom};
+ghost use Rattle.block_check.specs.inside.Leads.{NoneNamesPredicate};
 
 use trips_isa::{Node, Role};
 

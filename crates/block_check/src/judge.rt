@@ -4,11 +4,11 @@ ghost use Rattle.std.specs.Prelude.{length, slice_index_or, slice_index, slice_g
 ghost use Rattle.std.specs.Prelude.{false, true, MatchResult, IfOk, IfErr};
 ghost use Rattle.block_cases.specs.Nodes.{IsRanked, HasCycle};
 ghost use Rattle.block_cases.specs.Cases.{bit};
-ghost use Rattle.block_check.specs.Pass.{AllInPlace, IsSpare, Spare};
-ghost use Rattle.block_check.specs.Placing.{IsOrdered};
-ghost use Rattle.block_check.specs.Found.{Explored};
+ghost use Rattle.block_check.specs.inside.Pass.{AllInPlace, IsSpare, Spare};
+ghost use Rattle.block_check.specs.inside.PartOrder.{IsOrdered};
+ghost use Rattle.block_check.specs.inside.Found.{Explored};
 ghost use Rattle.block_cases.specs.Good.{Good};
-ghost use Rattle.block_check.specs.Judged.{IsFault};
+ghost use Rattle.block_check.specs.inside.Judged.{IsFault, FalseBelow};
 
 use crate::fault::NodeFault;
 use crate::order::sort;
@@ -49,12 +49,13 @@ fn first_mark(marks: &[bool]) -> u16
 fn first_wanted(marks: &[bool], wanted: &[bool]) -> u16
     requires marks { length marks.now ≡ 449 }
     requires wanted { length wanted.now ≡ 449 }
+    requires low { FalseBelow 384 wanted.now }
     ensures within { result ≤ 448 }
     ensures before { (p : ℕ) → p < result → bit wanted.now p ≡ true → bit marks.now p ≡ false }
     ensures found { result < 448 → bit marks.now result ≡ true }
     ensures is_wanted { result < 448 → bit wanted.now result ≡ true }
 {
-    for q in 0..448u16 {
+    for q in 384..448u16 {
         if wanted[q as usize] && marks[q as usize] {
             return q;
         }
@@ -71,6 +72,7 @@ fn judge_marks(
 ) -> Result<(), NodeFault>
     requires ranked { IsRanked nodes.now }
     requires wanted { length wanted.now ≡ 449 }
+    requires low { FalseBelow 384 wanted.now }
     requires two { length two.now ≡ 449 }
     requires none { length none.now ≡ 449 }
     requires explored { Explored nodes.now count two.now none.now }
@@ -114,6 +116,7 @@ fn judge_ordered(nodes: &[Node], order: &[usize], wanted: &[bool]) -> Result<(),
     requires in_place { AllInPlace nodes.now }
     requires ordered { IsOrdered nodes.now order.now }
     requires wanted { length wanted.now ≡ 449 }
+    requires low { FalseBelow 384 wanted.now }
     ensures { MatchResult result
         (λ u. Good nodes.now (bit wanted.now)) (IsFault nodes.now (bit wanted.now)) }
 {
@@ -131,8 +134,8 @@ pub(crate) fn judge(nodes: &[Node], wanted: &[bool]) -> Result<(), NodeFault>
     requires size { length nodes.now ≤ 160 }
     requires in_place { AllInPlace nodes.now }
     requires wanted { length wanted.now ≡ 449 }
+    requires low { FalseBelow 384 wanted.now }
     ensures good { IfOk result (λ u. Good nodes.now (bit wanted.now)) }
-    ensures ranked { IfOk result (λ u. IsRanked nodes.now) }
     ensures fault { IfErr result (IsFault nodes.now (bit wanted.now)) }
 {
     let mut table = [0usize; 160];

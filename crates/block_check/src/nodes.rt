@@ -1,10 +1,12 @@
 //! A block's reads and slots as nodes, and the places that it owes tokens.
-ghost use Rattle.std.specs.Prelude.{◌≡◌, ◌<◌, ◌++◌, ℕ, length, map, take};
+ghost use Rattle.std.specs.Prelude.{◌≡◌, ◌<◌, ◌≤◌, ℕ, length};
 ghost use Rattle.trips_isa.specs.Fits.{FitsBlock};
 ghost use Rattle.block_cases.specs.Blocks.{place_of, place_at, first_place, load_bound};
-ghost use Rattle.block_cases.specs.Blocks.{read_node, inst_node, nodes_of, in_mask, wanted_of};
+ghost use Rattle.block_cases.specs.Blocks.{read_node, inst_node, in_mask, wanted_of};
 ghost use Rattle.block_cases.specs.Cases.{bit};
+ghost use Rattle.block_check.specs.inside.Used.{nodes_below};
 
+use crate::targets::slot_of;
 use arrayvec::ArrayVec;
 use trips_isa::{Block, Form, Inst, Node, ReadSlot, Role, Sense, Spot, form_of, role_of};
 
@@ -99,19 +101,19 @@ fn inst_node(slot: u16, inst: Option<Inst>) -> Node
     }
 }
 
-/// The nodes of the reads and then of the slots.
-pub(crate) fn make_nodes(block: &Block) -> ArrayVec<Node, 160>
-    requires { FitsBlock block.now }
-    ensures { result.items ≡ nodes_of block.now }
+/// The nodes of the reads and then of the slots below `used`.
+pub(crate) fn make_nodes(block: &Block, used: u8) -> ArrayVec<Node, 160>
+    requires fits { FitsBlock block.now }
+    requires within { used ≤ 128 }
+    ensures { result.items ≡ nodes_below block.now used }
 {
     let reads = block.reads.as_slice();
-    let insts = block.insts.as_slice();
     let mut nodes = ArrayVec::new();
     for i in 0..reads.len() {
         nodes.push(read_node(reads[i]));
     }
-    for j in 0..insts.len() {
-        nodes.push(inst_node(j as u16, insts[j]));
+    for j in 0..used {
+        nodes.push(inst_node(j as u16, slot_of(block, j)));
     }
     nodes
 }

@@ -4,6 +4,7 @@ ghost use Rattle.trips_isa.specs.Fits.{FitsBlock};
 ghost use Rattle.block_cases.specs.Blocks.{is_load, is_store};
 ghost use Rattle.block_cases.specs.Orders.{loads, has_load, has_item};
 ghost use Rattle.block_cases.specs.Orders.{bad_number, bad_write, IsLeast, NoneBelow};
+ghost use Rattle.block_check.specs.inside.Used.{IsEmptyFrom};
 
 use crate::nodes::in_mask;
 use crate::targets::slot_of;
@@ -91,18 +92,30 @@ fn is_bad_write(block: &Block, w: usize) -> bool
     has_item(writes, w, writes[w])
 }
 
-/// The first slot with a bad number.
-pub(crate) fn find_bad_number(block: &Block) -> Option<u8>
-    requires { FitsBlock block.now }
+// The first slot below `used` with a bad number.
+fn find_number_used(block: &Block, used: u8) -> Option<u8>
+    requires fits { FitsBlock block.now }
+    requires within { used ≤ 128 }
     ensures { MatchOption result
-        (NoneBelow (bad_number block.now) 128) (IsLeast (bad_number block.now) 128) }
+        (NoneBelow (bad_number block.now) used) (IsLeast (bad_number block.now) used) }
 {
-    for j in 0..128u8 {
+    for j in 0..used {
         if is_bad_number(block, j) {
             return Some(j);
         }
     }
     None
+}
+
+/// The first slot with a bad number.
+pub(crate) fn find_bad_number(block: &Block, used: u8) -> Option<u8>
+    requires fits { FitsBlock block.now }
+    requires within { used ≤ 128 }
+    requires empty { IsEmptyFrom block.now used }
+    ensures { MatchOption result
+        (NoneBelow (bad_number block.now) 128) (IsLeast (bad_number block.now) 128) }
+{
+    find_number_used(block, used)
 }
 
 /// The first write of a register that an earlier one names.

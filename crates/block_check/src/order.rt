@@ -4,9 +4,9 @@ ghost use Rattle.std.specs.Prelude.{length, slice_index_or, slice_index, slice_g
 ghost use Rattle.std.specs.Prelude.{false, true, Some, List};
 ghost use Rattle.block_cases.specs.Nodes.{IsRanked, targets, names, hits, stores_below, feeds};
 ghost use Rattle.block_cases.specs.Nodes.{HasCycle};
-ghost use Rattle.block_check.specs.Pass.{InPlace, AllInPlace};
-ghost use Rattle.block_check.specs.Placing.{Stuck, Placing, AllStuck, IsOrdered, unplaced};
-ghost use Rattle.block_check.specs.Placing.{Counting};
+ghost use Rattle.block_check.specs.inside.Pass.{InPlace, AllInPlace};
+ghost use Rattle.block_check.specs.inside.PartOrder.{Stuck, PartOrder, AllStuck, IsOrdered, unplaced};
+ghost use Rattle.block_check.specs.inside.PartOrder.{Counting};
 ghost use Rattle.trips_isa.specs.declared.node.Node.{Node};
 
 use crate::search::count_tokens;
@@ -96,9 +96,9 @@ fn try_place(
     requires in_place { AllInPlace nodes.now }
     requires counts { length counts.old ≡ 768 }
     requires counting { Counting nodes.now ranks.old counts.old }
-    requires placing { Placing nodes.now ranks.old order.old placed }
+    requires placing { PartOrder nodes.now ranks.old order.old placed }
     requires x { x < length nodes.now }
-    ensures placing { Placing nodes.now ranks.new order.new result }
+    ensures placing { PartOrder nodes.now ranks.new order.new result }
     ensures counting { Counting nodes.now ranks.new counts.new }
     ensures more { placed ≤ result }
     ensures same { result ≡ placed → ranks.new ≡ ranks.old }
@@ -129,8 +129,8 @@ fn pass(
     requires in_place { AllInPlace nodes.now }
     requires counts { length counts.old ≡ 768 }
     requires counting { Counting nodes.now ranks.old counts.old }
-    requires placing { Placing nodes.now ranks.old order.old before }
-    ensures placing { Placing nodes.now ranks.new order.new result }
+    requires placing { PartOrder nodes.now ranks.old order.old before }
+    ensures placing { PartOrder nodes.now ranks.new order.new result }
     ensures counting { Counting nodes.now ranks.new counts.new }
     ensures more { before ≤ result }
     ensures stuck { result ≡ before → AllStuck nodes.now ranks.new (length nodes.now) }
@@ -166,8 +166,8 @@ fn try_consumer(
     requires in_place { AllInPlace nodes.now }
     requires counts { length counts.old ≡ 768 }
     requires counting { Counting nodes.now ranks.old counts.old }
-    requires placing { Placing nodes.now ranks.old order.old placed }
-    ensures placing { Placing nodes.now ranks.new order.new result }
+    requires placing { PartOrder nodes.now ranks.old order.old placed }
+    ensures placing { PartOrder nodes.now ranks.new order.new result }
     ensures counting { Counting nodes.now ranks.new counts.new }
     ensures more { placed ≤ result }
 {
@@ -191,14 +191,14 @@ fn follow(
     requires in_place { AllInPlace nodes.now }
     requires counts { length counts.old ≡ 768 }
     requires counting { Counting nodes.now ranks.old counts.old }
-    requires placing { Placing nodes.now ranks.old order.old before }
-    ensures placing { Placing nodes.now ranks.new order.new result }
+    requires placing { PartOrder nodes.now ranks.old order.old before }
+    ensures placing { PartOrder nodes.now ranks.new order.new result }
     ensures counting { Counting nodes.now ranks.new counts.new }
     ensures more { before ≤ result }
 {
     let mut placed = before;
     let mut head = 0;
-    while head < placed {
+    while head < placed && placed < nodes.len() {
         let node = nodes[order[head]];
         placed = try_consumer(nodes, ranks, order, counts, placed, node.first);
         placed = try_consumer(nodes, ranks, order, counts, placed, node.second);
@@ -213,8 +213,8 @@ fn place_all(nodes: &[Node], ranks: &mut [u8], order: &mut [usize], counts: &mut
     requires in_place { AllInPlace nodes.now }
     requires counts { length counts.old ≡ 768 }
     requires counting { Counting nodes.now ranks.old counts.old }
-    requires placing { Placing nodes.now ranks.old order.old 0 }
-    ensures placing { Placing nodes.now ranks.new order.new result }
+    requires placing { PartOrder nodes.now ranks.old order.old 0 }
+    ensures placing { PartOrder nodes.now ranks.new order.new result }
     ensures stuck { result < length nodes.now → AllStuck nodes.now ranks.new (length nodes.now) }
 {
     let first = pass(nodes, ranks, order, counts, 0);

@@ -3,9 +3,9 @@ ghost use Rattle.std.specs.Prelude.{◌≡◌, ◌<◌, ◌≤◌, ◌+◌, ◌|
 ghost use Rattle.std.specs.Prelude.{length, slice_index, slice_get, true, nat_lt, drop, All};
 ghost use Rattle.block_cases.specs.Nodes.{IsRanked, targets, hits};
 ghost use Rattle.block_cases.specs.Cases.{bit, token, tokens, is_chooser, present};
-ghost use Rattle.block_check.specs.Placing.{IsOrdered};
-ghost use Rattle.block_check.specs.Pass.{InPlace, AllInPlace, Spare, AbsentFrom, tok_at};
-ghost use Rattle.block_check.specs.Found.{Explored, Added, Choosing, others};
+ghost use Rattle.block_check.specs.inside.PartOrder.{IsOrdered};
+ghost use Rattle.block_check.specs.inside.Pass.{InPlace, AllInPlace, Spare, AbsentFrom, tok_at};
+ghost use Rattle.block_check.specs.inside.Found.{Explored, Added, Choosing, others};
 
 use crate::chooser::find_choosers;
 use crate::pass::run;

@@ -1,9 +1,10 @@
 //! Targets that a read or a slot may not name.
-ghost use Rattle.std.specs.Prelude.{◌≡◌, ◌<◌, length, MatchOption};
+ghost use Rattle.std.specs.Prelude.{◌≡◌, ◌<◌, ◌≤◌, true, None, length, MatchOption};
 ghost use Rattle.trips_isa.specs.Fits.{FitsBlock};
 ghost use Rattle.block_cases.specs.Blocks.{takes_left, takes_right};
 ghost use Rattle.block_cases.specs.Orders.{is_guarded, slot_of, target_good, targets_good};
 ghost use Rattle.block_cases.specs.Orders.{bad_read, bad_inst, IsLeast, NoneBelow};
+ghost use Rattle.block_check.specs.inside.Used.{IsEmptyFrom};
 
 use trips_isa::{Block, Inst, Role, Sense, Spot, role_of};
 
@@ -109,15 +110,47 @@ pub(crate) fn find_bad_read(block: &Block) -> Option<u8>
     None
 }
 
-/// The first slot with a bad target.
-pub(crate) fn find_bad_inst(block: &Block) -> Option<u8>
-    ensures { MatchOption result (NoneBelow (bad_inst block.now) 128)
-        (IsLeast (bad_inst block.now) 128) }
+fn is_free(block: &Block, j: u8) -> bool
+    ensures { result ≡ true → slot_of block.now j ≡ None }
 {
-    for j in 0..128u8 {
+    match slot_of(block, j) {
+        None => true,
+        Some(_) => false,
+    }
+}
+
+/// How many slots stand before the empty ones at the end.
+pub(crate) fn used_slots(block: &Block) -> u8
+    requires { FitsBlock block.now }
+    ensures within { result ≤ 128 }
+    ensures empty { IsEmptyFrom block.now result }
+{
+    let mut used: u8 = 128;
+    while used > 0 && is_free(block, used - 1) {
+        used -= 1;
+    }
+    used
+}
+
+// The first slot below `used` with a bad target.
+fn find_bad_used(block: &Block, used: u8) -> Option<u8>
+    ensures { MatchOption result (NoneBelow (bad_inst block.now) used)
+        (IsLeast (bad_inst block.now) used) }
+{
+    for j in 0..used {
         if is_bad_inst(block, j) {
             return Some(j);
         }
     }
     None
+}
+
+/// The first slot with a bad target.
+pub(crate) fn find_bad_inst(block: &Block, used: u8) -> Option<u8>
+    requires within { used ≤ 128 }
+    requires empty { IsEmptyFrom block.now used }
+    ensures { MatchOption result (NoneBelow (bad_inst block.now) 128)
+        (IsLeast (bad_inst block.now) 128) }
+{
+    find_bad_used(block, used)
 }

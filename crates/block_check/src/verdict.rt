@@ -1,32 +1,35 @@
 //! Whether a block is good; else the fault that is found first.
-ghost use Rattle.std.specs.Prelude.{◌≡◌, ◌<◌, IfOk, IfErr, MatchOption};
+ghost use Rattle.std.specs.Prelude.{◌≡◌, ◌<◌, ◌≤◌, IfOk, IfErr, MatchOption};
 ghost use Rattle.trips_isa.specs.Fits.{FitsBlock};
 ghost use Rattle.block_cases.specs.Blocks.{nodes_of, wanted_of};
 ghost use Rattle.block_cases.specs.Nodes.{IsRanked};
 ghost use Rattle.block_cases.specs.Orders.{IsInOrder};
 ghost use Rattle.block_cases.specs.Good.{Good, GoodBlock};
-ghost use Rattle.block_check.specs.Judged.{IsFault};
-ghost use Rattle.block_check.specs.Checked.{IsOrderFault, IsCheckFault, IsBelow, spot_of, fault_of};
+ghost use Rattle.block_check.specs.inside.Judged.{IsFault};
+ghost use Rattle.block_check.specs.inside.Used.{IsEmptyFrom};
+ghost use Rattle.block_check.specs.inside.Checked.{IsOrderFault, IsCheckFault, IsBelow, spot_of, fault_of};
 
 use crate::fault::{CheckFault, NodeFault};
 use crate::judge::judge;
 use crate::nodes::{make_nodes, mark_wanted};
 use crate::numbers::{find_bad_number, find_bad_write};
-use crate::targets::{find_bad_inst, find_bad_read};
+use crate::targets::{used_slots, find_bad_inst, find_bad_read};
 use trips_isa::{Block, Spot};
 
 /// The first fault of a target or of a number, if there is one.
-fn find_order_fault(block: &Block) -> Option<CheckFault>
-    requires { FitsBlock block.now }
+fn find_order_fault(block: &Block, used: u8) -> Option<CheckFault>
+    requires fits { FitsBlock block.now }
+    requires within { used ≤ 128 }
+    requires empty { IsEmptyFrom block.now used }
     ensures { MatchOption result (IsInOrder block.now) (IsOrderFault block.now) }
 {
     if let Some(i) = find_bad_read(block) {
         return Some(CheckFault::BadTarget(Spot::Read(i)));
     }
-    if let Some(j) = find_bad_inst(block) {
+    if let Some(j) = find_bad_inst(block, used) {
         return Some(CheckFault::BadTarget(Spot::Inst(j)));
     }
-    if let Some(j) = find_bad_number(block) {
+    if let Some(j) = find_bad_number(block, used) {
         return Some(CheckFault::BadNumber(Spot::Inst(j)));
     }
     if let Some(w) = find_bad_write(block) {
@@ -66,13 +69,16 @@ fn fault_of(fault: NodeFault) -> CheckFault
     }
 }
 
-fn judge_cases(block: &Block) -> Result<(), NodeFault>
-    requires { FitsBlock block.now }
+// The nodes of empty slots at the end are not made.
+fn judge_cases(block: &Block, used: u8) -> Result<(), NodeFault>
+    requires fits { FitsBlock block.now }
+    requires within { used ≤ 128 }
+    requires empty { IsEmptyFrom block.now used }
     ensures good { IfOk result (λ u. Good (nodes_of block.now) (wanted_of block.now)) }
     ensures ranked { IfOk result (λ u. IsRanked (nodes_of block.now)) }
     ensures fault { IfErr result (IsFault (nodes_of block.now) (wanted_of block.now)) }
 {
-    let nodes = make_nodes(block);
+    let nodes = make_nodes(block, used);
     let mut table = [false; 449];
     let wanted = table.as_mut_slice();
     mark_wanted(block, wanted);
@@ -85,10 +91,11 @@ pub(crate) fn judge_block(block: &Block) -> Result<(), CheckFault>
     ensures good { IfOk result (λ u. GoodBlock block.now) }
     ensures fault { IfErr result (IsCheckFault block.now) }
 {
-    if let Some(fault) = find_order_fault(block) {
+    let used = used_slots(block);
+    if let Some(fault) = find_order_fault(block, used) {
         return Err(fault);
     }
-    match judge_cases(block) {
+    match judge_cases(block, used) {
         Ok(()) => Ok(()),
         Err(fault) => Err(fault_of(fault)),
     }

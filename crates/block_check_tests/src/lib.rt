@@ -1,10 +1,11 @@
-//! Small blocks and images with the answers of the checker.
+//! Small blocks and images, as texts, with the answers of the checker and of placing.
 #![tactic(auto)]
 
 #[cfg(test)]
-mod fault_tests;
-pub mod fits;
+mod check_tests;
 #[cfg(test)]
 mod making;
 #[cfg(test)]
-mod token_tests;
+mod place_tests;
+#[cfg(test)]
+mod rows;

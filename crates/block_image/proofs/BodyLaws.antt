@@ -12,7 +12,7 @@ use Rattle.block_image.specs.declared.fault.ImageFault.{ImageFault}
 use Rattle.block_image.specs.declared.fault.ImageFault.TheVariants.{Truncated}
 use Rattle.block_image.specs.Words.{slot_word}
 use Rattle.trips_isa.specs.Fits.{FitsSlot}
-use Rattle.block_image.specs.WordReading.{slot_at}
+use Rattle.block_image.specs.WordReading.{slot_of_word}
 use Rattle.block_image.proofs.Each.{Each, AreBytes, AreWords, each_drop, each_take, each_both}
 use Rattle.block_image.specs.Spelling.{words_bytes}
 use Rattle.block_image.specs.Reading.{◌>>=◌, words, Slots, slot_or_fault, with_front, slots_at}
@@ -113,10 +113,10 @@ pub slots_takes : (at : ℕ) (ws : List ℕ) (s : Slots) → AreWords ws → slo
 slots_takes at [] s f e = subst (SlotsTaken []) (ok_is [] s e)
     (record { fits = tt; spelled = refl })
 slots_takes at (w ∷ ws) s f e =
-    let a = bind_ok (slot_or_fault at (slot_at w))
+    let a = bind_ok (slot_or_fault at (slot_of_word w))
     (λ s. with_front (s ∷ []) (slots_at (at + 4) ws)) s e in
     let b = bind_ok (slots_at (at + 4) ws) (λ t. Ok ((a.0 ∷ []) ++ t)) s a.2 in
-    let t = slot_takes w a.0 f.0 (slot_found at w (slot_at w) a.0 a.1) in
+    let t = slot_takes w a.0 f.0 (slot_found at w (slot_of_word w) a.0 a.1) in
     let r = slots_takes (at + 4) ws b.0 f.1 b.1 in
     subst (SlotsTaken (w ∷ ws)) (ok_is (a.0 ∷ b.0) s b.2)
     (record {

@@ -7,7 +7,7 @@ use Rattle.block_image.specs.declared.fault.ImageFault.{ImageFault}
 use Rattle.block_image.specs.declared.fault.ImageFault.TheVariants.{Magic, Version, Truncated}
 use Rattle.block_image.specs.declared.fault.ImageFault.TheVariants.{Trailing, BadField, Memory}
 use Rattle.block_image.specs.Spelling.{ImageBytes}
-use Rattle.block_image.specs.ImageReading.{Fails, Answers, IsMemory, IsMemoryOr, image_at}
+use Rattle.block_image.specs.ImageReading.{Fails, DecodesOrMemory, IsMemory, IsMemoryOr, image_at}
 use Rattle.block_image.specs.FirstFault.{FirstFault}
 use Rattle.block_image.proofs.Each.{AreBytes, each_of, each_byte}
 use Rattle.block_image.proofs.Lists.{ok_is}
@@ -43,7 +43,7 @@ either bytes a = by (image_at bytes) refl
 -- ---- the answers
 
 pub decoded : (bytes : List ℕ) (r : Result Image ImageFault) → ((i : ℕ) → get_or bytes i 0 < 256)
-    → Answers (λ v. v) r (image_at bytes) → IfOk r (λ v. ImageBytes v bytes)
+    → DecodesOrMemory (λ v. v) r (image_at bytes) → IfOk r (λ v. ImageBytes v bytes)
 decoded bytes (Ok v) f h = image_takes bytes v (each_byte bytes f) h
 decoded bytes (Err e) f h = tt
 
@@ -56,12 +56,12 @@ no_fails (BadField n) i h = absurd cc
 no_fails Memory i h = refl
 
 pub decoded_only : (bytes : List ℕ) (r : Result Image ImageFault)
-    → Answers (λ v. v) r (image_at bytes) → (i : Image) → ImageBytes i bytes
+    → DecodesOrMemory (λ v. v) r (image_at bytes) → (i : Image) → ImageBytes i bytes
     → MatchResult r (λ v. v ≡ i) IsMemory
 decoded_only bytes r h i s =
-    by r (subst (λ (x : Result Image ImageFault). Answers (λ v. v) r x) (read_again i bytes s) h)
+    by r (subst (λ (x : Result Image ImageFault). DecodesOrMemory (λ v. v) r x) (read_again i bytes s) h)
   where
-    by : (r : Result Image ImageFault) → Answers (λ v. v) r (Ok i)
+    by : (r : Result Image ImageFault) → DecodesOrMemory (λ v. v) r (Ok i)
         → MatchResult r (λ v. v ≡ i) IsMemory
     by (Ok v) h = sym (ok_is i v h)
     by (Err e) h = no_fails e i h
@@ -76,7 +76,7 @@ fails_first bytes (BadField n) a h = inr (image_fault bytes (BadField n) a h)
 fails_first bytes Memory a h = inl refl
 
 pub refused : (bytes : List ℕ) (r : Result Image ImageFault) → ((i : ℕ) → get_or bytes i 0 < 256)
-    → Answers (λ v. v) r (image_at bytes) → IfErr r (IsMemoryOr (FirstFault bytes))
+    → DecodesOrMemory (λ v. v) r (image_at bytes) → IfErr r (IsMemoryOr (FirstFault bytes))
 refused bytes (Ok v) f h = tt
 refused bytes (Err e) f h = fails_first bytes e (each_byte bytes f) h
 
@@ -89,13 +89,13 @@ fails_alone (BadField n) f h = inr (sym (err_is {A = Image} f (BadField n) h))
 fails_alone Memory f h = inl refl
 
 pub refused_only : (bytes : List ℕ) (r : Result Image ImageFault)
-    → Answers (λ v. v) r (image_at bytes) → (f : ImageFault) → FirstFault bytes f
+    → DecodesOrMemory (λ v. v) r (image_at bytes) → (f : ImageFault) → FirstFault bytes f
     → MatchResult r (λ v. ⊥) (IsMemoryOr (λ e. e ≡ f))
 refused_only bytes r h f s =
-    by r (subst (λ (x : Result Image ImageFault). Answers (λ v. v) r x)
+    by r (subst (λ (x : Result Image ImageFault). DecodesOrMemory (λ v. v) r x)
     (image_fault_again bytes f s) h)
   where
-    by : (r : Result Image ImageFault) → Answers (λ v. v) r (Err f)
+    by : (r : Result Image ImageFault) → DecodesOrMemory (λ v. v) r (Err f)
         → MatchResult r (λ v. ⊥) (IsMemoryOr (λ e. e ≡ f))
     by (Ok v) h = absurd (let q : ◌≡◌ {A = Result Image ImageFault} (Err f) (Ok v) = h in cc)
     by (Err e) h = fails_alone e f h

@@ -10,7 +10,7 @@ use Rattle.block_image.specs.declared.fault.ImageFault.{ImageFault}
 use Rattle.block_image.specs.declared.fault.ImageFault.TheVariants.{Truncated, BadField}
 use Rattle.block_image.specs.Words.{slot_word}
 use Rattle.trips_isa.specs.Fits.{FitsSlot}
-use Rattle.block_image.specs.WordReading.{slot_at}
+use Rattle.block_image.specs.WordReading.{slot_of_word}
 use Rattle.block_image.specs.HeaderReading.{info_from, chunks_in, is_bad, first_bad}
 use Rattle.block_image.proofs.Each.{Each, IsWord, AreBytes, AreWords, each_both, each_of, all_of}
 use Rattle.block_image.specs.Spelling.{words_bytes}
@@ -56,8 +56,8 @@ record SlotsFault (at : ℕ) (ws : List ℕ) (f : ImageFault) : Type 0 where
   pub none : SpellsNone word
   pub fault : BadField (at + 4 * length slots) ≡ f
 
-no_slot : (w : ℕ) → slot_at w ≡ None → SpellsNone w
-no_slot w e s f h = let a = slot_again s f in let b : slot_at w ≡ Some s = ap slot_at (sym h) ∙ a in
+no_slot : (w : ℕ) → slot_of_word w ≡ None → SpellsNone w
+no_slot w e s f h = let a = slot_again s f in let b : slot_of_word w ≡ Some s = ap slot_of_word (sym h) ∙ a in
     cc
 
 slot_fails : (at : ℕ) (o : Option (Option Inst)) (f : ImageFault) → slot_or_fault at o ≡ Err f
@@ -74,10 +74,10 @@ slots_fault : (at : ℕ) (ws : List ℕ) (f : ImageFault) → AreWords ws → sl
     → SlotsFault at ws f
 slots_fault at [] f a e = absurd cc
 slots_fault at (w ∷ ws) f a e =
-    elim (split (slot_or_fault at (slot_at w))
+    elim (split (slot_or_fault at (slot_of_word w))
     (λ s. with_front (s ∷ []) (slots_at (at + 4) ws)) f e) [
       | inl h ↦
-          let k = slot_fails at (slot_at w) f h in
+          let k = slot_fails at (slot_of_word w) f h in
           let z : at + 4 * 0 ≡ at = omega arith in
           record {
             slots = [];
@@ -89,7 +89,7 @@ slots_fault at (w ∷ ws) f a e =
             fault = ap (λ (x : ℕ). BadField x) z ∙ k.1;
           }
       | inr h ↦
-          let t = slot_takes w h.0 a.0 (slot_found at w (slot_at w) h.0 h.1) in
+          let t = slot_takes w h.0 a.0 (slot_found at w (slot_of_word w) h.0 h.1) in
           let r = slots_fault (at + 4) ws f a.1
           (front_fails (h.0 ∷ []) (slots_at (at + 4) ws) f h.2) in
           let n : at + 4 * suc (length r.slots) ≡ at + 4 + 4 * length r.slots = omega arith in

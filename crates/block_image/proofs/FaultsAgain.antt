@@ -12,7 +12,7 @@ use Rattle.block_image.specs.declared.fault.ImageFault.{ImageFault}
 use Rattle.block_image.specs.declared.fault.ImageFault.TheVariants.{Truncated, BadField}
 use Rattle.block_image.specs.Words.{slot_word}
 use Rattle.trips_isa.specs.Fits.{FitsSlot}
-use Rattle.block_image.specs.WordReading.{slot_at}
+use Rattle.block_image.specs.WordReading.{slot_of_word}
 use Rattle.block_image.specs.HeaderReading.{info_from, chunks_in, is_bad, first_bad}
 use Rattle.block_image.proofs.Each.{IsWord, Each, AreWords, each_take, each_drop, each_of, all_of}
 use Rattle.block_image.specs.Spelling.{words_bytes}
@@ -29,14 +29,14 @@ use Rattle.block_image.proofs.WordsTaken.{slot_takes}
 
 -- ---- the body
 
-no_slot_again : (w : ℕ) → w < 2 ^ 32 → SpellsNone w → slot_at w ≡ None
-no_slot_again w l n = by (slot_at w) refl
+no_slot_again : (w : ℕ) → w < 2 ^ 32 → SpellsNone w → slot_of_word w ≡ None
+no_slot_again w l n = by (slot_of_word w) refl
   where
-    by : (o : Option (Option Inst)) → slot_at w ≡ o → slot_at w ≡ None
+    by : (o : Option (Option Inst)) → slot_of_word w ≡ o → slot_of_word w ≡ None
     by None e = e
     by (Some s) e = absurd (let t = slot_takes w s l e in n s t.0 t.1)
 
-slots_stop : (at : ℕ) (s : Slots) (w : ℕ) (more : List ℕ) → Each FitsSlot s → slot_at w ≡ None
+slots_stop : (at : ℕ) (s : Slots) (w : ℕ) (more : List ℕ) → Each FitsSlot s → slot_of_word w ≡ None
     → slots_at at (map slot_word s ++ (w ∷ more)) ≡ Err (BadField (at + 4 * length s))
 slots_stop at [] w more f e = let z : at + 4 * 0 ≡ at = omega arith in rw (e, z) refl
 slots_stop at (x ∷ s) w more f e =

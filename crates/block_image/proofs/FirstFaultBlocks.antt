@@ -116,9 +116,10 @@ length-spelling i f =
     let blocks = length-blocks i.blocks f in
     omega (arith, length-append i.bytes (flat_map block_bytes i.blocks))
 
-blocks_first : (n d : ℕ) (bytes front : List ℕ) (f : ImageFault) → DataRead n d bytes front
+blocks_first : (n d : ℕ) (bytes front : List ℕ) (f : ImageFault) → AreBytes bytes
+    → DataRead n d bytes front
     → BlocksFault n 0 (20 + d) bytes f → FirstFault bytes f
-blocks_first n d bytes front f r g = elim g as (λ g. FirstFault bytes f) [
+blocks_first n d bytes front f a r g = elim g as (λ g. FirstFault bytes f) [
   | stopped bs rest l each m e fault ↦
       let s : 0 + chunks_in_all bs ≡ sum_by chunks bs = omega (arith, all_chunks bs) in
       let size = r.size in
@@ -147,6 +148,7 @@ blocks_first n d bytes front f r g = elim g as (λ g. FirstFault bytes f) [
         each = all_of FitsBlock bs each;
         total = omega (arith, all_chunks bs);
         few = good.few;
+        bytes = all_of (λ b. b < 256) front (r.each a);
         last = good.last;
       })
       (r.spelled ∙ ap (λ (x : List ℕ). container n front ++ x) e
@@ -192,7 +194,7 @@ image_fault bytes f a e =
                               | inl q ↦ data_fault n d bytes f s q
                               | inr q ↦
                                   let r = data_read n d bytes q.0 s q.1 in
-                                  blocks_first n d bytes q.0 f r
+                                  blocks_first n d bytes q.0 f a r
                                   (blocks_fault n 0 (20 + d) bytes f a (omega arith) r.inside
                                   (made_fails q.0 (blocks_at n 0 (20 + d) bytes) f q.2))
                             ]

@@ -21,7 +21,7 @@ use Rattle.block_image.specs.ImageReading.{size_at, data_at}
 use Rattle.block_image.specs.FirstFault.{counted, sized, GoodFront, FirstFault, no_magic, bad_magic}
 use Rattle.block_image.specs.FirstFault.{no_version, bad_version, no_count, no_block, no_size}
 use Rattle.block_image.specs.FirstFault.{large, no_bytes, zero_last}
-use Rattle.block_image.proofs.Each.{AreBytes}
+use Rattle.block_image.proofs.Each.{AreBytes, each_take, each_drop}
 use Rattle.block_image.proofs.Lists.{bind_ok, ok_is}
 use Rattle.block_image.proofs.BlockLaws.{cond_ok}
 use Rattle.block_image.proofs.FaultLaws.{split, err_is}
@@ -245,6 +245,7 @@ pub record DataRead (n d : ℕ) (bytes front : List ℕ) : Type 0 where
   pub good : GoodFront n front
   pub size : length front ≡ d
   pub inside : 20 + d ≤ length bytes
+  pub each : AreBytes bytes → AreBytes front
   pub spelled : bytes ≡ container n front ++ drop (20 + d) bytes
 
 pub data_read : (n d : ℕ) (bytes front : List ℕ) → SizeRead n d bytes → data_at d bytes ≡ Ok front
@@ -269,6 +270,7 @@ data_read n d bytes front s e =
       good = record { some = c.some; count = c.below; few = omega arith; last = λ z. omega arith };
       size = len;
       inside = long;
+      each = λ a. each_take (λ b. b < 256) d (drop 20 bytes) (each_drop (λ b. b < 256) 20 bytes a);
       spelled = s.spelled ∙ ap (λ (x : ℕ). sized n x ++ drop 20 bytes) (sym len)
           ∙ ap (λ (x : List ℕ). sized n (length (take d (drop 20 bytes))) ++ x)
           (sym (take-append-drop d (drop 20 bytes))

@@ -16,7 +16,7 @@ use Rattle.block_image.specs.declared.fault.ImageFault.TheVariants.{Trailing, Ba
 use Rattle.block_image.specs.Words.{slot_word}
 use Rattle.trips_isa.specs.declared.block.Block.{Block}
 use Rattle.trips_isa.specs.declared.block.Image.{Image}
-use Rattle.block_image.proofs.Each.{Each, AreBytes, each_drop, each_of, all_of}
+use Rattle.block_image.proofs.Each.{Each, AreBytes, each_drop, each_take, each_of, all_of}
 use Rattle.trips_isa.specs.Fits.{FitsBlock}
 use Rattle.trips_isa.specs.Images.{FitsImage, last_byte, chunks, body_chunks}
 use Rattle.block_image.specs.Spelling.{ImageBytes, block_bytes, chunks_of, magic, spelling}
@@ -261,6 +261,8 @@ image_takes bytes i f e =
         each = all_of FitsBlock bs r.each;
         total = omega (arith, all_chunks bs);
         few = omega arith;
+        bytes = all_of (λ b. b < 256) (take d (drop 20 bytes))
+            (each_take (λ b. b < 256) d (drop 20 bytes) (each_drop (λ b. b < 256) 20 bytes f));
         last = λ z. omega arith;
       };
       spelled = whole ∙ ap (λ (x : ℕ). magic ++

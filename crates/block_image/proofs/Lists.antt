@@ -12,7 +12,7 @@ use Rattle.block_image.specs.HeaderReading.{is_bad, first_bad, is_good_info, rea
 use Rattle.block_image.specs.HeaderReading.{chunks_in}
 use Rattle.byteorder.specs.Numbers.{big_from-take}
 use Rattle.block_image.specs.declared.fault.ImageFault.{ImageFault}
-use Rattle.block_image.specs.WordReading.{slot_at}
+use Rattle.block_image.specs.WordReading.{slot_of_word}
 use Rattle.std.proofs.lemmas.Bool.Decides.{nat_tests}
 
 pub words_is : (n : ℕ) (src dst : List ℕ) → length dst ≡ n → IsRead big_number 4 src dst
@@ -84,7 +84,7 @@ with_front_twice a b (Err e) = refl
 pub slots_length : (at : ℕ) (ws : List ℕ) (s : Slots) → slots_at at ws ≡ Ok s → length s ≡ length ws
 slots_length at [] s e = ap length (sym (ok_is [] s e))
 slots_length at (w ∷ ws) s e =
-    let a = bind_ok (slot_or_fault at (slot_at w))
+    let a = bind_ok (slot_or_fault at (slot_of_word w))
     (λ s. with_front (s ∷ []) (slots_at (at + 4) ws)) s e in
     let b = bind_ok (slots_at (at + 4) ws) (λ t. Ok ((a.0 ∷ []) ++ t)) s a.2 in
     let l : length b.0 ≡ length ws = slots_length (at + 4) ws b.0 b.1 in

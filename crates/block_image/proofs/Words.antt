@@ -17,7 +17,7 @@ use Rattle.block_image.specs.Words.{sense_number, target_number, signed_number, 
 use Rattle.block_image.specs.Words.{slot_word}
 use Rattle.block_image.specs.WordReading.{part, Target, pair_of, targets_at, general_at}
 use Rattle.block_image.specs.WordReading.{immediate_at, load_at, store_at, branch_at, constant_at}
-use Rattle.block_image.specs.WordReading.{form_at, op_in, inst_at, slot_at}
+use Rattle.block_image.specs.WordReading.{form_at, op_in, inst_of_word, slot_of_word}
 use Rattle.block_image.proofs.Fields.{Parts, parts, BranchParts, branch_parts, ConstantParts}
 use Rattle.block_image.proofs.Fields.{constant_parts, sense_below, sense_again, eq_no, lt_yes}
 use Rattle.block_image.proofs.Fields.{lt_no, found, target_below, target_again, signed_below}
@@ -99,8 +99,8 @@ rest_is i e f =
 general_again : (w : ℕ) (c : Code) (i : Inst) → c.opcode ≡ 1
     → op_with_numbers c.opcode c.extended ≡ Some i.op → form_of i.op ≡ General → FitsForm General i
     → Parts w c.opcode (sense_number i.sense) c.extended (target_number i.second)
-    (target_number i.first) → inst_at w ≡ Some i
-unfolding inst_at form_at general_at targets_at
+    (target_number i.first) → inst_of_word w ≡ Some i
+unfolding inst_of_word form_at general_at targets_at
 general_again w c i one e f h p =
     rw (
       small_again w i.op c e (omega arith) p.opcode p.extended,
@@ -119,8 +119,8 @@ immediate_again : (w : ℕ) (c : Code) (i : Inst) → c.opcode ≡ 2
     → op_with_numbers c.opcode c.extended ≡ Some i.op → form_of i.op ≡ Immediate
     → FitsForm Immediate i
     → Parts w c.opcode (sense_number i.sense) c.extended (signed_number 512 i.imm)
-    (target_number i.first) → inst_at w ≡ Some i
-unfolding inst_at form_at immediate_at
+    (target_number i.first) → inst_of_word w ≡ Some i
+unfolding inst_of_word form_at immediate_at
 immediate_again w c i two e f h p =
     let g : ℕ → Target → Option Inst =
     λ n t. Some (record {
@@ -146,8 +146,8 @@ immediate_again w c i two e f h p =
 load_again : (w : ℕ) (c : Code) (i : Inst) → 3 ≤ c.opcode → c.extended ≡ 0
     → op_with_numbers c.opcode c.extended ≡ Some i.op → form_of i.op ≡ Load → FitsForm Load i
     → Parts w c.opcode (sense_number i.sense) i.number (signed_number 512 i.imm)
-    (target_number i.first) → inst_at w ≡ Some i
-unfolding inst_at form_at load_at
+    (target_number i.first) → inst_of_word w ≡ Some i
+unfolding inst_of_word form_at load_at
 load_again w c i three none e f h p =
     let g : Target → Option Inst =
     λ t. Some (record {
@@ -174,8 +174,8 @@ load_again w c i three none e f h p =
 store_again : (w : ℕ) (c : Code) (i : Inst) → 3 ≤ c.opcode → c.extended ≡ 0
     → op_with_numbers c.opcode c.extended ≡ Some i.op → form_of i.op ≡ Store → FitsForm Store i
     → Parts w c.opcode (sense_number i.sense) i.number (signed_number 512 i.imm) 0
-    → inst_at w ≡ Some i
-unfolding inst_at form_at store_at
+    → inst_of_word w ≡ Some i
+unfolding inst_of_word form_at store_at
 store_again w c i three none e f h p =
     let g : Target → Target → Option Inst =
     λ s t. Some (record {
@@ -201,8 +201,8 @@ store_again w c i three none e f h p =
 branch_again : (w : ℕ) (c : Code) (i : Inst) → 3 ≤ c.opcode → c.extended ≡ 0
     → op_with_numbers c.opcode c.extended ≡ Some i.op → form_of i.op ≡ Branch → FitsForm Branch i
     → BranchParts w c.opcode (sense_number i.sense) i.number (signed_number 1048576 i.imm)
-    → inst_at w ≡ Some i
-unfolding inst_at form_at branch_at
+    → inst_of_word w ≡ Some i
+unfolding inst_of_word form_at branch_at
 branch_again w c i three none e f h p =
     let g : Target → Target → Option Inst =
     λ s t. Some (record {
@@ -228,8 +228,8 @@ constant_read : (w : ℕ) (c : Code) (i : Inst) → 3 ≤ c.opcode → c.extende
     → op_with_numbers c.opcode c.extended ≡ Some i.op → form_of i.op ≡ Constant
     → FitsForm Constant i
     → ConstantParts w c.opcode (signed_number 65536 i.imm) (target_number i.first)
-    → inst_at w ≡ Some i
-unfolding inst_at form_at constant_at
+    → inst_of_word w ≡ Some i
+unfolding inst_of_word form_at constant_at
 constant_read w c i three none e f h p =
     let g : Sense → ℕ → Target
     → Option Inst = λ s n t. Some
@@ -247,7 +247,7 @@ constant_read w c i three none e f h p =
 
 form_again : (f : Form) (c : Code) (i : Inst) → GoodCode f c
     → op_with_numbers c.opcode c.extended ≡ Some i.op → form_of i.op ≡ f → FitsForm f i
-    → inst_at (form_word f c i) ≡ Some i
+    → inst_of_word (form_word f c i) ≡ Some i
 form_again General c i g e f h =
     let o : c.opcode ≡ 1 = g.0 in
     general_again _ c i g.0 e f h
@@ -292,8 +292,8 @@ word_positive Store c i g = let o : 3 ≤ c.opcode = g.0 in eq_no _ 0 (λ z. ome
 word_positive Branch c i g = let o : 3 ≤ c.opcode = g.0 in eq_no _ 0 (λ z. omega arith)
 word_positive Constant c i g = let o : 3 ≤ c.opcode = g.0 in eq_no _ 0 (λ z. omega arith)
 
-pub slot_again : (s : Option Inst) → FitsSlot s → slot_at (slot_word s) ≡ Some s
-unfolding slot_at
+pub slot_again : (s : Option Inst) → FitsSlot s → slot_of_word (slot_word s) ≡ Some s
+unfolding slot_of_word
 slot_again None h = refl
 slot_again (Some i) h =
     let c = code_of i.op in

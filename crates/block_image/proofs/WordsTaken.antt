@@ -19,7 +19,7 @@ use Rattle.block_image.specs.Words.{inst_word, slot_word}
 use Rattle.block_image.specs.WordReading.{◌>>=◌, part, sense_in, Target, target_at, signed_at}
 use Rattle.block_image.specs.WordReading.{pair_of, targets_at, offset_at, constant_of, general_at}
 use Rattle.block_image.specs.WordReading.{immediate_at, load_at, store_at, branch_at, constant_at}
-use Rattle.block_image.specs.WordReading.{form_at, op_in, inst_at, slot_at}
+use Rattle.block_image.specs.WordReading.{form_at, op_in, inst_of_word, slot_of_word}
 use Rattle.block_image.proofs.Fields.{bind_some, whole, branch_whole, constant_whole, sense_takes}
 use Rattle.block_image.proofs.Fields.{eq_is, pick, found, nothing, Spells, target_takes}
 use Rattle.block_image.proofs.Fields.{signed_takes, offset_takes, constant_takes}
@@ -236,8 +236,8 @@ form_takes Store = store_takes
 form_takes Branch = branch_takes
 form_takes Constant = constant_form_takes
 
-inst_takes : (w : ℕ) (i : Inst) → w < 2 ^ 32 → inst_at w ≡ Some i → FitsInst i × (inst_word i ≡ w)
-unfolding inst_at
+inst_takes : (w : ℕ) (i : Inst) → w < 2 ^ 32 → inst_of_word w ≡ Some i → FitsInst i × (inst_word i ≡ w)
+unfolding inst_of_word
 inst_takes w i lt e =
     let b = bind_some (op_in w) (λ op. form_at (form_of op) op w) i e in
     let op = b.0 in
@@ -245,12 +245,12 @@ inst_takes w i lt e =
     let P : Op → Type 0 = λ o. FitsForm (form_of o) i × (form_word (form_of o) (code_of o) i ≡ w) in
     subst P (sym t.op_is) (t.fits, t.word (code_of op) (op_is w op b.1) (code_good op))
 
-pub slot_takes : (w : ℕ) (s : Option Inst) → w < 2 ^ 32 → slot_at w ≡ Some s → FitsSlot s
+pub slot_takes : (w : ℕ) (s : Option Inst) → w < 2 ^ 32 → slot_of_word w ≡ Some s → FitsSlot s
     × (slot_word s ≡ w)
-unfolding slot_at
+unfolding slot_of_word
 slot_takes w s lt =
     let P : Option Inst → Type 0 = λ s. FitsSlot s × (slot_word s ≡ w) in
     pick P (nat_eq w 0) _ _ s (λ b. found P None s (tt, sym (eq_is w 0 b))) (λ b e.
-    let i = bind_some (inst_at w) (λ i. Some (Some i)) s e in
+    let i = bind_some (inst_of_word w) (λ i. Some (Some i)) s e in
     let t : P (Some i.0) = inst_takes w i.0 lt i.1 in
     found P (Some i.0) s t i.2)

@@ -77,14 +77,14 @@ Fails (Trailing at) read = read ≡ Err (Trailing at)
 Fails (BadField at) read = read ≡ Err (BadField at)
 
 -- what a call that may want memory returned is what reading gives
-abbrev pub Answers : {X Y : Type 0} → (X → Y) → Result X ImageFault → Result Y ImageFault → Type 0
-Answers view (Ok x) read = read ≡ Ok (view x)
-Answers view (Err e) read = Fails e read
+abbrev pub DecodesOrMemory : {X Y : Type 0} → (X → Y) → Result X ImageFault → Result Y ImageFault → Type 0
+DecodesOrMemory view (Ok x) read = read ≡ Ok (view x)
+DecodesOrMemory view (Err e) read = Fails e read
 
 -- The same for a call that takes no memory.
-abbrev pub Gives : {X Y : Type 0} → (X → Y) → Result X ImageFault → Result Y ImageFault → Type 0
-Gives view (Ok x) read = read ≡ Ok (view x)
-Gives view (Err e) read = read ≡ Err e
+abbrev pub Decodes : {X Y : Type 0} → (X → Y) → Result X ImageFault → Result Y ImageFault → Type 0
+Decodes view (Ok x) read = read ≡ Ok (view x)
+Decodes view (Err e) read = read ≡ Err e
 
 -- want of memory
 abbrev pub IsMemory : ImageFault → Type 0

@@ -7,7 +7,7 @@ use Rattle.trips_isa.specs.declared.block.Inst.{Inst}
 use Rattle.trips_isa.specs.declared.block.Block.{Block}
 use Rattle.block_image.specs.declared.fault.ImageFault.{ImageFault}
 use Rattle.block_image.specs.declared.fault.ImageFault.TheVariants.{Truncated, BadField}
-use Rattle.block_image.specs.WordReading.{slot_at}
+use Rattle.block_image.specs.WordReading.{slot_of_word}
 use Rattle.block_image.specs.HeaderReading.{info_from, first_bad, read_at, write_at, reads_in}
 use Rattle.block_image.specs.HeaderReading.{writes_in, mask_in, chunks_in}
 
@@ -39,7 +39,7 @@ with_front front read = read >>= λ slots. Ok (front ++ slots)
 
 abbrev pub slots_at : ℕ → List ℕ → Result Slots ImageFault
 slots_at at [] = Ok []
-slots_at at (w ∷ ws) = slot_or_fault at (slot_at w) >>= λ s. with_front (s ∷ [])
+slots_at at (w ∷ ws) = slot_or_fault at (slot_of_word w) >>= λ s. with_front (s ∷ [])
     (slots_at (at + 4) ws)
 
 -- a chunk is taken whole

@@ -141,8 +141,8 @@ unfoldable pub op_in : ℕ → Option Op
 op_in w = op_with_numbers (part w 33554432 128)
     (if nat_lt (part w 33554432 128) 3 then part w 262144 32 else 0)
 
-unfoldable pub inst_at : ℕ → Option Inst
-inst_at w = op_in w >>= λ op. form_at (form_of op) op w
+unfoldable pub inst_of_word : ℕ → Option Inst
+inst_of_word w = op_in w >>= λ op. form_at (form_of op) op w
 
-unfoldable pub slot_at : ℕ → Option (Option Inst)
-slot_at w = if w == 0 then Some None else (inst_at w >>= λ i. Some (Some i))
+unfoldable pub slot_of_word : ℕ → Option (Option Inst)
+slot_of_word w = if w == 0 then Some None else (inst_of_word w >>= λ i. Some (Some i))

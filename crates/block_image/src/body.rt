@@ -2,11 +2,11 @@
 ghost use Rattle.std.specs.Prelude.{◌≡◌, ◌+◌, ◌-◌, ◌*◌, ◌<◌, ◌≤◌, ◌^◌, ◌++◌, length, drop};
 ghost use Rattle.std.specs.Prelude.{replicate, IfOk, OnOk, None, true, []};
 ghost use Rattle.block_image.specs.HeaderReading.{is_good_info, chunks_in};
-ghost use Rattle.block_image.specs.WordReading.{slot_at};
+ghost use Rattle.block_image.specs.WordReading.{slot_of_word};
 ghost use Rattle.block_image.specs.Spelling.{chunks_of};
 ghost use Rattle.block_image.specs.Reading.{all_empty, chunk_at, slots_at, slot_or_fault, body_at};
 ghost use Rattle.block_image.specs.Reading.{header_at, least_at, rest_at, parts_from};
-ghost use Rattle.block_image.specs.ImageReading.{Gives, Adds};
+ghost use Rattle.block_image.specs.ImageReading.{Decodes, Adds};
 
 use crate::fault::ImageFault;
 use crate::header::{add_reads, add_writes, bad_word, info, words_of};
@@ -26,7 +26,7 @@ pub(crate) fn chunk(bytes: &[u8], at: usize) -> Result<[u32; 32], ImageFault>
 }
 
 fn slot(word: u32, at: usize) -> Result<Option<Inst>, ImageFault>
-    ensures value { result ≡ slot_or_fault at (slot_at word) }
+    ensures value { result ≡ slot_or_fault at (slot_of_word word) }
 {
     match slot_of(word) {
         None => Err(ImageFault::BadField(at as u64)),
@@ -113,7 +113,7 @@ fn least(at: usize, chunks: usize, slots: &[Option<Inst>]) -> Result<(), ImageFa
     requires place { at < 2 ^ 62 }
     requires chunks { chunks ≤ 4 }
     requires all { 32 * (chunks - 1) ≤ length slots.now }
-    ensures { Gives (λ u. slots.now) result (least_at at chunks slots.now) }
+    ensures { Decodes (λ u. slots.now) result (least_at at chunks slots.now) }
 {
     if 1 < chunks && are_empty(&slots[32 * (chunks - 1)..]) {
         return Err(ImageFault::BadField((at + 64) as u64));
@@ -160,7 +160,7 @@ pub(crate) fn fill(
     requires reads { block.old.reads.items ≡ [] }
     requires writes { block.old.writes.items ≡ [] }
     requires insts { block.old.insts.items ≡ [] }
-    ensures read { Gives (λ size. block.new) result (rest_at total at bytes.now words.now) }
+    ensures read { Decodes (λ size. block.new) result (rest_at total at bytes.now words.now) }
     ensures size { IfOk result (λ size. (size ≡ 1 + chunks_of block.new.insts.items)
         × (total + size ≤ 524288)) }
 {

@@ -5,7 +5,7 @@ ghost use Rattle.trips_isa.specs.Images.{last_byte};
 ghost use Rattle.block_image.specs.declared.fault.ImageFault.{ImageFault};
 ghost use Rattle.block_image.specs.Spelling.{ImageBytes};
 ghost use Rattle.block_image.specs.FirstFault.{FirstFault};
-ghost use Rattle.block_image.specs.ImageReading.{Gives, Answers, IsMemory, IsMemoryOr, number_at};
+ghost use Rattle.block_image.specs.ImageReading.{Decodes, DecodesOrMemory, IsMemory, IsMemoryOr, number_at};
 ghost use Rattle.block_image.specs.ImageReading.{magic_at, version_at, count_at, size_at, data_at};
 ghost use Rattle.block_image.specs.ImageReading.{blocks_at, image_at};
 
@@ -29,7 +29,7 @@ fn number(bytes: &[u8], at: usize) -> Result<u32, ImageFault>
 
 #[tactic(auto, unfolding(crate::specs::ImageReading::magic_at))]
 fn has_magic(bytes: &[u8]) -> Result<(), ImageFault>
-    ensures { Gives (λ u. tt) result (magic_at bytes.now) }
+    ensures { Decodes (λ u. tt) result (magic_at bytes.now) }
 {
     if bytes.len() < 8 {
         return Err(ImageFault::Truncated(bytes.len() as u64));
@@ -43,7 +43,7 @@ fn has_magic(bytes: &[u8]) -> Result<(), ImageFault>
 
 #[tactic(auto, unfolding(crate::specs::ImageReading::version_at))]
 fn has_version(bytes: &[u8]) -> Result<(), ImageFault>
-    ensures { Gives (λ u. tt) result (version_at bytes.now) }
+    ensures { Decodes (λ u. tt) result (version_at bytes.now) }
 {
     match number(bytes, 8) {
         Err(fault) => Err(fault),
@@ -97,7 +97,7 @@ fn last(bytes: &[u8]) -> u8
 #[tactic(auto, unfolding(crate::specs::ImageReading::data_at))]
 fn data_part(bytes: &[u8], size: usize) -> Result<&[u8], ImageFault>
     requires { size ≤ 4194304 }
-    ensures { Gives (λ x. x.now) result (data_at size bytes.now) }
+    ensures { Decodes (λ x. x.now) result (data_at size bytes.now) }
 {
     if bytes.len() < 20 + size {
         return Err(ImageFault::Truncated(bytes.len() as u64));
@@ -112,7 +112,7 @@ fn data_part(bytes: &[u8], size: usize) -> Result<&[u8], ImageFault>
 
 fn blocks(alloc: Global, bytes: &[u8], count: u32, at: usize) -> Result<Vec<Block>, ImageFault>
     requires { at < 2 ^ 60 }
-    ensures { Answers (λ v. v.items) result (blocks_at count 0 at bytes.now) }
+    ensures { DecodesOrMemory (λ v. v.items) result (blocks_at count 0 at bytes.now) }
 {
     let mut blocks = Vec::new(alloc);
     let mut total = 0;
@@ -139,7 +139,7 @@ fn blocks(alloc: Global, bytes: &[u8], count: u32, at: usize) -> Result<Vec<Bloc
 
 #[tactic(auto, unfolding(crate::specs::ImageReading::image_at))]
 fn image(alloc: Global, bytes: &[u8]) -> Result<Image, ImageFault>
-    ensures { Answers (λ v. v) result (image_at bytes.now) }
+    ensures { DecodesOrMemory (λ v. v) result (image_at bytes.now) }
 {
     if let Err(fault) = has_magic(bytes) {
         return Err(fault);

@@ -5,14 +5,14 @@ ghost use Rattle.trips_isa.specs.declared.block.Image.{Image};
 ghost use Rattle.trips_isa.specs.Fits.{FitsSlot};
 ghost use Rattle.block_image.specs.declared.fault.ImageFault.{ImageFault};
 ghost use Rattle.block_image.specs.Words.{slot_word};
-ghost use Rattle.block_image.specs.WordReading.{slot_at};
+ghost use Rattle.block_image.specs.WordReading.{slot_of_word};
 ghost use Rattle.block_image.specs.Spelling.{ImageBytes};
 ghost use Rattle.block_image.specs.FirstFault.{FirstFault};
 
 /// A slot that fits is read from its word, and from no other.
 pub fn words_are_exact()
-    ensures again { (s : Option Inst) → FitsSlot s → slot_at (slot_word s) ≡ Some s }
-    ensures takes { (w : ℕ) (s : Option Inst) → w < 2 ^ 32 → slot_at w ≡ Some s
+    ensures again { (s : Option Inst) → FitsSlot s → slot_of_word (slot_word s) ≡ Some s }
+    ensures takes { (w : ℕ) (s : Option Inst) → w < 2 ^ 32 → slot_of_word w ≡ Some s
         → FitsSlot s × (slot_word s ≡ w) }
 {}
 

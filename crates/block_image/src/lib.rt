@@ -12,8 +12,6 @@ mod field;
 mod header;
 mod law;
 mod put;
-#[cfg(test)]
-mod tests;
 mod word;
 
 pub use container::decode;

@@ -3,7 +3,7 @@ ghost use Rattle.std.specs.Prelude.{◌≡◌, ℕ, ◌+◌, ◌<◌, ◌^◌};
 ghost use Rattle.block_image.specs.WordReading.{sense_at, target_at, signed_at, pair_of};
 ghost use Rattle.block_image.specs.WordReading.{targets_at, offset_at, constant_of, general_at};
 ghost use Rattle.block_image.specs.WordReading.{immediate_at, load_at, store_at, branch_at};
-ghost use Rattle.block_image.specs.WordReading.{constant_at, form_at, op_in, inst_at, slot_at};
+ghost use Rattle.block_image.specs.WordReading.{constant_at, form_at, op_in, inst_of_word, slot_of_word};
 
 use isa_table::with_numbers;
 use trips_isa::{Form, Inst, Op, Sense, Spot, form_of};
@@ -225,18 +225,18 @@ fn op_of(word: u32) -> Option<Op>
     with_numbers(opcode, extended)
 }
 
-#[tactic(auto, unfolding(crate::specs::WordReading::inst_at))]
+#[tactic(auto, unfolding(crate::specs::WordReading::inst_of_word))]
 fn inst_of(word: u32) -> Option<Inst>
-    ensures value { result ≡ inst_at word }
+    ensures value { result ≡ inst_of_word word }
 {
     let op = op_of(word)?;
     formed(form_of(op), op, word)
 }
 
 /// The slot that the word spells, if it spells one.
-#[tactic(auto, unfolding(crate::specs::WordReading::slot_at))]
+#[tactic(auto, unfolding(crate::specs::WordReading::slot_of_word))]
 pub(crate) fn slot_of(word: u32) -> Option<Option<Inst>>
-    ensures value { result ≡ slot_at word }
+    ensures value { result ≡ slot_of_word word }
 {
     if word == 0 {
         return Some(None);

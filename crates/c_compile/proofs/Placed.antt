@@ -6,7 +6,8 @@ use Rattle.c_tree.specs.declared.typed.TypedFunc.{TypedFunc}
 use Rattle.c_tree.specs.declared.typed.TypedProgram.{TypedProgram}
 use Rattle.c_tree.specs.declared.typed.TypedStmt.{TypedStmt, out-TypedStmt}
 use Rattle.c_tree.specs.declared.typed.TypedForInit.{TypedForInit, out-TypedForInit}
-use Rattle.c_type_laws.specs.Statements.{Level, Beginning, Runs, RunsAll, Begins}
+use Rattle.c_tree.specs.TypedTrees.{Level, Beginning}
+use Rattle.c_type_laws.specs.Statements.{Runs, RunsAll, Begins}
 use Rattle.c_type_laws.specs.Statements as run
 use Rattle.c_type_laws.specs.WellFormed.{WellFormed}
 use Rattle.c_type_laws.proofs.Uses.{function_at}

@@ -5,8 +5,6 @@
 
 mod law;
 mod lowering;
-#[cfg(test)]
-mod tests;
 
 pub use law::accepted_texts_keep_meaning;
 pub use lowering::lower_text;

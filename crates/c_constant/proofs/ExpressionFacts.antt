@@ -15,19 +15,19 @@ use Rattle.c_constant.proofs.Nodes.{at, value-Number, value-Binary, value-Choice
 use Rattle.c_constant.proofs.Nodes.{needs-Binary, needs-Call, needs-Assign, needs-Element}
 
 module _ (l : ℕ) where
-  number : (v : ℕ) (k : Kind) → constant (at l (node.Number v k)) ≡ given k (Some v)
-  number v k = value-Number (at l (node.Number v k)) v k refl
+  number : (v : ℕ) (k : Kind) → constant [] (at l (node.Number v k)) ≡ given k (Some v)
+  number v k = value-Number [] (at l (node.Number v k)) v k refl
 
-  binary : (o : BinaryOp) (x y : Expr) → constant (at l (node.Binary o x y))
-      ≡ given (result_of o (left_at o (constant x).kind (constant y).kind))
-      (binary_value o (constant x).kind (constant y).kind (constant x).value (constant y).value)
-  binary o x y = value-Binary (at l (node.Binary o x y)) o x y refl
+  binary : (o : BinaryOp) (x y : Expr) → constant [] (at l (node.Binary o x y))
+      ≡ given (result_of o (left_at o (constant [] x).kind (constant [] y).kind))
+      (binary_value o (constant [] x).kind (constant [] y).kind (constant [] x).value (constant [] y).value)
+  binary o x y = value-Binary [] (at l (node.Binary o x y)) o x y refl
 
-  choice : (t x y : Expr) → constant (at l (node.Choice t x y))
-      ≡ given (common (constant x).kind (constant y).kind)
-      (choice_value (common (constant x).kind (constant y).kind) (constant t).value (constant x).value
-      (constant y).value)
-  choice t x y = value-Choice (at l (node.Choice t x y)) t x y refl
+  choice : (t x y : Expr) → constant [] (at l (node.Choice t x y))
+      ≡ given (common (constant [] x).kind (constant [] y).kind)
+      (choice_value (common (constant [] x).kind (constant [] y).kind) (constant [] t).value (constant [] x).value
+      (constant [] y).value)
+  choice t x y = value-Choice [] (at l (node.Choice t x y)) t x y refl
 
   number_need : (v : ℕ) (k : Kind) → (needs (at l (node.Number v k))).need ≡ 1
   number_need v k = ap (λ (n : Needs). n.need) (needs-Number (at l (node.Number v k)) v k refl)
@@ -57,16 +57,16 @@ abbrev one_by_zero : Expr
 one_by_zero = at 1 (node.Binary op.Divide (int 1) (int 0))
 
 -- `1 / 0` has no value
-undefined : (constant one_by_zero).value ≡ None
+undefined : (constant [] one_by_zero).value ≡ None
 unfolding operate converted
 undefined = simp (number, binary) refl
 
 -- `1 || 1 / 0` has one
-settled : constant (at 1 (node.Binary op.LogicalOr (int 1) one_by_zero)) ≡ given Int (Some 1)
+settled : constant [] (at 1 (node.Binary op.LogicalOr (int 1) one_by_zero)) ≡ given Int (Some 1)
 settled = simp (number, binary) refl
 
 -- `0 ? 1 / 0 : 2` has one
-chosen : constant (at 1 (node.Choice (int 0) one_by_zero (int 2))) ≡ given Int (Some 2)
+chosen : constant [] (at 1 (node.Choice (int 0) one_by_zero (int 2))) ≡ given Int (Some 2)
 unfolding operate converted
 chosen = simp (number, binary, choice) refl
 

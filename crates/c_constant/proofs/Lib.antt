@@ -1,4 +1,6 @@
 pub mod Shifts
+pub mod Sizes
+pub mod Conversions
 pub mod StandardFacts
 pub mod Nodes
 pub mod ExpressionFacts

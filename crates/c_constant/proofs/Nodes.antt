@@ -12,25 +12,29 @@ use Rattle.c_tree.specs.declared.tree.ExprNode.{fold-ExprNode, roll-ExprNode}
 use Rattle.c_tree.specs.declared.tree.ExprNode.TheVariants as node
 use Rattle.c_tree.specs.declared.tree.ExprNode.TheOpen.{ExprNode-F}
 use Rattle.c_constant.specs.declared.constants.Constant.{Constant}
+use Rattle.c_constant.specs.declared.constants.NamedConstant.{NamedConstant}
 use Rattle.c_constant.specs.Kinds.{common}
 use Rattle.c_constant.specs.Operation.{left_at, unary_at, result_of, unary_result}
-use Rattle.c_constant.specs.Constant.{given, cast_value, one_value, binary_value, choice_value}
+use Rattle.c_constant.specs.Constant.{named, given, cast_value, one_value, binary_value, choice_value}
 use Rattle.c_constant.specs.Constant.{node_value, of_value, constant}
 use Rattle.c_constant.specs.Need.{Needs, plain, call_need, assign_need, node_needs, of_needs, needs}
 use Rattle.c_constant.specs.Need.{need}
 
+-- an expression at a line
 abbrev pub at : ℕ → ExprNode → Expr
 at l n = record { line = l; node = n }
 
-value_by : (l : ℕ) (n : ExprNode) (x : ExprNode-F ExprNode Expr) → roll-ExprNode x ≡ n
-    → constant (at l n) ≡ node_value (map-ExprNode ExprNode Expr Constant Constant
-    (fold-ExprNode Constant Constant node_value of_value) constant x)
+-- the value of a node is that of its level
+value_by : (names : List NamedConstant) (l : ℕ) (n : ExprNode) (x : ExprNode-F ExprNode Expr) → roll-ExprNode x ≡ n
+    → constant names (at l n) ≡ node_value names (map-ExprNode ExprNode Expr Constant Constant
+    (fold-ExprNode Constant Constant (node_value names) of_value) (constant names) x)
 unfolding constant
-value_by l n x e =
-    fold_out-Expr Constant Constant node_value of_value (at l n)
-    ∙ ap (λ (m : ExprNode). fold-ExprNode Constant Constant node_value of_value m) (sym e)
-    ∙ fold-roll-ExprNode Constant Constant node_value of_value x
+value_by names l n x e =
+    fold_out-Expr Constant Constant (node_value names) of_value (at l n)
+    ∙ ap (λ (m : ExprNode). fold-ExprNode Constant Constant (node_value names) of_value m) (sym e)
+    ∙ fold-roll-ExprNode Constant Constant (node_value names) of_value x
 
+-- so are its needs
 needs_by : (l : ℕ) (n : ExprNode) (x : ExprNode-F ExprNode Expr) → roll-ExprNode x ≡ n
     → needs (at l n) ≡ node_needs (map-ExprNode ExprNode Expr Needs Needs
     (fold-ExprNode Needs Needs node_needs of_needs) needs x)
@@ -40,118 +44,122 @@ needs_by l n x e =
     ∙ ap (λ (m : ExprNode). fold-ExprNode Needs Needs node_needs of_needs m) (sym e)
     ∙ fold-roll-ExprNode Needs Needs node_needs of_needs x
 
+-- the greatest size of some expressions
 abbrev pub deepest : List Expr → ℕ
 deepest [] = 0
 deepest (e ∷ es) = max (size-Expr e) (deepest es)
 
-module _ (f : Expr) where
-  pub value-Number : (v : ℕ) (k : Kind) → f.node ≡ node.Number v k → constant f ≡ given k (Some v)
-  value-Number v k h = ap (λ n. constant (at f.line n)) h
-      ∙ value_by f.line _ (ExprNode-F.Number v k) (node.rolls-Number v k)
+-- the kind and the value at each node
+module _ (names : List NamedConstant) (f : Expr) where
+  pub value-Number : (v : ℕ) (k : Kind) → f.node ≡ node.Number v k → constant names f ≡ given k (Some v)
+  value-Number v k h = ap (λ n. constant names (at f.line n)) h
+      ∙ value_by names f.line _ (ExprNode-F.Number v k) (node.rolls-Number v k)
 
+  pub value-Name : (w : List ℕ) → f.node ≡ node.Name w → constant names f ≡ named names w
+  value-Name w h = ap (λ n. constant names (at f.line n)) h
+      ∙ value_by names f.line _ (ExprNode-F.Name w) (node.rolls-Name w)
+
+  pub value-Element : (w : List ℕ) (i : Expr) → f.node ≡ node.Element w i
+      → constant names f ≡ given Int None
+  value-Element w i h = ap (λ n. constant names (at f.line n)) h
+      ∙ value_by names f.line _ (ExprNode-F.Element w i) (node.rolls-Element w i)
+
+  pub value-Call : (w : List ℕ) (es : List Expr) → f.node ≡ node.Call w es
+      → constant names f ≡ given Int None
+  value-Call w es h = ap (λ n. constant names (at f.line n)) h
+      ∙ value_by names f.line _ (ExprNode-F.Call w es) (node.rolls-Call w es)
+
+  pub value-Group : (e : Expr) → f.node ≡ node.Group e → constant names f ≡ constant names e
+  value-Group e h = ap (λ n. constant names (at f.line n)) h
+      ∙ value_by names f.line _ (ExprNode-F.Group e) (node.rolls-Group e)
+
+  pub value-Unary : (op : UnaryOp) (e : Expr) → f.node ≡ node.Unary op e
+      → constant names f ≡ given (unary_result op (unary_at op (constant names e).kind))
+      (one_value op (constant names e).kind (constant names e).value)
+  value-Unary op e h = ap (λ n. constant names (at f.line n)) h
+      ∙ value_by names f.line _ (ExprNode-F.Unary op e) (node.rolls-Unary op e)
+
+  pub value-Cast : (to : Kind) (e : Expr) → f.node ≡ node.Cast to e
+      → constant names f ≡ given to (cast_value to (constant names e).value)
+  value-Cast to e h = ap (λ n. constant names (at f.line n)) h
+      ∙ value_by names f.line _ (ExprNode-F.Cast to e) (node.rolls-Cast to e)
+
+  pub value-Bump : (op : BumpOp) (e : Expr) → f.node ≡ node.Bump op e → constant names f ≡ given Int None
+  value-Bump op e h = ap (λ n. constant names (at f.line n)) h
+      ∙ value_by names f.line _ (ExprNode-F.Bump op e) (node.rolls-Bump op e)
+
+  pub value-Binary : (op : BinaryOp) (x y : Expr) → f.node ≡ node.Binary op x y
+      → constant names f ≡ given (result_of op (left_at op (constant names x).kind (constant names y).kind))
+      (binary_value op (constant names x).kind (constant names y).kind (constant names x).value (constant names y).value)
+  value-Binary op x y h = ap (λ n. constant names (at f.line n)) h
+      ∙ value_by names f.line _ (ExprNode-F.Binary op x y) (node.rolls-Binary op x y)
+
+  pub value-Choice : (t x y : Expr) → f.node ≡ node.Choice t x y
+      → constant names f ≡ given (common (constant names x).kind (constant names y).kind)
+      (choice_value (common (constant names x).kind (constant names y).kind) (constant names t).value (constant names x).value
+      (constant names y).value)
+  value-Choice t x y h = ap (λ n. constant names (at f.line n)) h
+      ∙ value_by names f.line _ (ExprNode-F.Choice t x y) (node.rolls-Choice t x y)
+
+  pub value-Assign : (op : Option BinaryOp) (x y : Expr) → f.node ≡ node.Assign op x y
+      → constant names f ≡ given Int None
+  value-Assign op x y h = ap (λ n. constant names (at f.line n)) h
+      ∙ value_by names f.line _ (ExprNode-F.Assign op x y) (node.rolls-Assign op x y)
+
+  pub value-Comma : (x y : Expr) → f.node ≡ node.Comma x y → constant names f ≡ given Int None
+  value-Comma x y h = ap (λ n. constant names (at f.line n)) h
+      ∙ value_by names f.line _ (ExprNode-F.Comma x y) (node.rolls-Comma x y)
+
+-- the needs at each node
+module _ (f : Expr) where
   pub needs-Number : (v : ℕ) (k : Kind) → f.node ≡ node.Number v k → needs f ≡ plain 1
   needs-Number v k h = ap (λ n. needs (at f.line n)) h
       ∙ needs_by f.line _ (ExprNode-F.Number v k) (node.rolls-Number v k)
 
-  pub value-Name : (w : List ℕ) → f.node ≡ node.Name w → constant f ≡ given Int None
-  value-Name w h = ap (λ n. constant (at f.line n)) h
-      ∙ value_by f.line _ (ExprNode-F.Name w) (node.rolls-Name w)
-
   pub needs-Name : (w : List ℕ) → f.node ≡ node.Name w → needs f ≡ plain 1
   needs-Name w h = ap (λ n. needs (at f.line n)) h
       ∙ needs_by f.line _ (ExprNode-F.Name w) (node.rolls-Name w)
-
-  pub value-Element : (w : List ℕ) (i : Expr) → f.node ≡ node.Element w i
-      → constant f ≡ given Int None
-  value-Element w i h = ap (λ n. constant (at f.line n)) h
-      ∙ value_by f.line _ (ExprNode-F.Element w i) (node.rolls-Element w i)
 
   pub needs-Element : (w : List ℕ) (i : Expr) → f.node ≡ node.Element w i
       → needs f ≡ record { need = need i; index = Some (need i) }
   needs-Element w i h = ap (λ n. needs (at f.line n)) h
       ∙ needs_by f.line _ (ExprNode-F.Element w i) (node.rolls-Element w i)
 
-  pub value-Call : (w : List ℕ) (es : List Expr) → f.node ≡ node.Call w es
-      → constant f ≡ given Int None
-  value-Call w es h = ap (λ n. constant (at f.line n)) h
-      ∙ value_by f.line _ (ExprNode-F.Call w es) (node.rolls-Call w es)
-
   pub needs-Call : (w : List ℕ) (es : List Expr) → f.node ≡ node.Call w es
       → needs f ≡ plain (call_need (map needs es))
   needs-Call w es h = ap (λ n. needs (at f.line n)) h
       ∙ needs_by f.line _ (ExprNode-F.Call w es) (node.rolls-Call w es)
 
-  pub value-Group : (e : Expr) → f.node ≡ node.Group e → constant f ≡ constant e
-  value-Group e h = ap (λ n. constant (at f.line n)) h
-      ∙ value_by f.line _ (ExprNode-F.Group e) (node.rolls-Group e)
-
   pub needs-Group : (e : Expr) → f.node ≡ node.Group e → needs f ≡ needs e
   needs-Group e h = ap (λ n. needs (at f.line n)) h
       ∙ needs_by f.line _ (ExprNode-F.Group e) (node.rolls-Group e)
-
-  pub value-Unary : (op : UnaryOp) (e : Expr) → f.node ≡ node.Unary op e
-      → constant f ≡ given (unary_result op (unary_at op (constant e).kind))
-      (one_value op (constant e).kind (constant e).value)
-  value-Unary op e h = ap (λ n. constant (at f.line n)) h
-      ∙ value_by f.line _ (ExprNode-F.Unary op e) (node.rolls-Unary op e)
 
   pub needs-Unary : (op : UnaryOp) (e : Expr) → f.node ≡ node.Unary op e → needs f ≡ plain (need e)
   needs-Unary op e h = ap (λ n. needs (at f.line n)) h
       ∙ needs_by f.line _ (ExprNode-F.Unary op e) (node.rolls-Unary op e)
 
-  pub value-Cast : (to : Kind) (e : Expr) → f.node ≡ node.Cast to e
-      → constant f ≡ given to (cast_value to (constant e).value)
-  value-Cast to e h = ap (λ n. constant (at f.line n)) h
-      ∙ value_by f.line _ (ExprNode-F.Cast to e) (node.rolls-Cast to e)
-
   pub needs-Cast : (to : Kind) (e : Expr) → f.node ≡ node.Cast to e → needs f ≡ plain (need e)
   needs-Cast to e h = ap (λ n. needs (at f.line n)) h
       ∙ needs_by f.line _ (ExprNode-F.Cast to e) (node.rolls-Cast to e)
 
-  pub value-Bump : (op : BumpOp) (e : Expr) → f.node ≡ node.Bump op e → constant f ≡ given Int None
-  value-Bump op e h = ap (λ n. constant (at f.line n)) h
-      ∙ value_by f.line _ (ExprNode-F.Bump op e) (node.rolls-Bump op e)
-
   pub needs-Bump : (op : BumpOp) (e : Expr) → f.node ≡ node.Bump op e → needs f ≡ plain (need e)
   needs-Bump op e h = ap (λ n. needs (at f.line n)) h
       ∙ needs_by f.line _ (ExprNode-F.Bump op e) (node.rolls-Bump op e)
-
-  pub value-Binary : (op : BinaryOp) (x y : Expr) → f.node ≡ node.Binary op x y
-      → constant f ≡ given (result_of op (left_at op (constant x).kind (constant y).kind))
-      (binary_value op (constant x).kind (constant y).kind (constant x).value (constant y).value)
-  value-Binary op x y h = ap (λ n. constant (at f.line n)) h
-      ∙ value_by f.line _ (ExprNode-F.Binary op x y) (node.rolls-Binary op x y)
 
   pub needs-Binary : (op : BinaryOp) (x y : Expr) → f.node ≡ node.Binary op x y
       → needs f ≡ plain (max (need x) (1 + need y))
   needs-Binary op x y h = ap (λ n. needs (at f.line n)) h
       ∙ needs_by f.line _ (ExprNode-F.Binary op x y) (node.rolls-Binary op x y)
 
-  pub value-Choice : (t x y : Expr) → f.node ≡ node.Choice t x y
-      → constant f ≡ given (common (constant x).kind (constant y).kind)
-      (choice_value (common (constant x).kind (constant y).kind) (constant t).value (constant x).value
-      (constant y).value)
-  value-Choice t x y h = ap (λ n. constant (at f.line n)) h
-      ∙ value_by f.line _ (ExprNode-F.Choice t x y) (node.rolls-Choice t x y)
-
   pub needs-Choice : (t x y : Expr) → f.node ≡ node.Choice t x y
       → needs f ≡ plain (max (need t) (max (need x) (need y)))
   needs-Choice t x y h = ap (λ n. needs (at f.line n)) h
       ∙ needs_by f.line _ (ExprNode-F.Choice t x y) (node.rolls-Choice t x y)
 
-  pub value-Assign : (op : Option BinaryOp) (x y : Expr) → f.node ≡ node.Assign op x y
-      → constant f ≡ given Int None
-  value-Assign op x y h = ap (λ n. constant (at f.line n)) h
-      ∙ value_by f.line _ (ExprNode-F.Assign op x y) (node.rolls-Assign op x y)
-
   pub needs-Assign : (op : Option BinaryOp) (x y : Expr) → f.node ≡ node.Assign op x y
       → needs f ≡ plain (assign_need (needs x).index (need y))
   needs-Assign op x y h = ap (λ n. needs (at f.line n)) h
       ∙ needs_by f.line _ (ExprNode-F.Assign op x y) (node.rolls-Assign op x y)
-
-  pub value-Comma : (x y : Expr) → f.node ≡ node.Comma x y → constant f ≡ given Int None
-  value-Comma x y h = ap (λ n. constant (at f.line n)) h
-      ∙ value_by f.line _ (ExprNode-F.Comma x y) (node.rolls-Comma x y)
 
   pub needs-Comma : (x y : Expr) → f.node ≡ node.Comma x y → needs f ≡ plain (max (need x) (need y))
   needs-Comma x y h = ap (λ n. needs (at f.line n)) h

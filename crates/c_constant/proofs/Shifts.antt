@@ -17,8 +17,13 @@ beyond UInt n s h = cc
 beyond Long n s h = grind (arith, common_steps)
 beyond ULong n s h = cc
 
+-- a product is below 2^63 where its first factor is at most the quotient
 pub under : (a m : ℕ) → 0 < m → a ≤ 9223372036854775807 / m → a * m ≤ 9223372036854775807
 under a m p h = (le-div_iff_mul-le p).0 h
 
+-- and else is not
 pub over : (a m : ℕ) → 0 < m → 9223372036854775807 / m < a → 9223372036854775807 < a * m
-over a m p h = ⊎_elim (λ l. l) (λ l. let f : a ≤ 9223372036854775807 / m = (le-div_iff_mul-le p).1 l in absurd (omega arith)) (cases_lt 9223372036854775807 (a * m))
+over a m p h =
+    ⊎_elim (λ l. l)
+    (λ l. let f : a ≤ 9223372036854775807 / m = (le-div_iff_mul-le p).1 l in absurd (omega arith))
+    (cases_lt 9223372036854775807 (a * m))

@@ -3,7 +3,7 @@ use Rattle.std.proofs.Common.{◌≡◌, pos, negsuc, Some, None, refl}
 use Rattle.c_tree.specs.declared.Kind.TheVariants.{Char, UChar, Int, UInt, Long, ULong}
 use Rattle.c_tree.specs.declared.UnaryOp.TheVariants as one
 use Rattle.c_tree.specs.declared.BinaryOp.TheVariants as op
-use Rattle.c_constant.specs.Kinds.{common, converted}
+use Rattle.c_constant.specs.Kinds.{bytes, common, converted, in_kind}
 use Rattle.c_constant.specs.Operation.{c_operation, c_unary, operate, left_at, right_at, result_of}
 
 overflow : c_operation op.Add Int (pos 2147483647) (pos 1) ≡ None
@@ -89,3 +89,21 @@ not_converted = refl
 
 test_is_int : result_of op.LessEqual ULong ≡ Int
 test_is_int = refl
+
+-- the table at its ends
+byte : bytes UChar ≡ 1
+byte = refl
+
+eight_bytes : bytes ULong ≡ 8
+eight_bytes = refl
+
+least_long : in_kind Long (negsuc 9223372036854775807) ≡ Some (negsuc 9223372036854775807)
+least_long = refl
+
+beyond_long : in_kind Long (pos 9223372036854775808) ≡ None
+beyond_long = refl
+
+-- a conversion to a long keeps the low 64 bits of what is no word
+no_word : converted Long 18446744073709551621 ≡ 5
+unfolding converted
+no_word = refl

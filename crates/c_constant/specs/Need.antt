@@ -1,6 +1,7 @@
 -- How many temporaries an expression needs, if operands are computed from left to right.
 use Rattle.std.specs.Prelude.{ℕ, ◌+◌, max, min, Bool, nat_le, List, [], ◌∷◌, Option, Some, None}
 use Rattle.c_constant.specs.declared.needs.Need.{Need}
+use Rattle.c_tree.specs.declared.limits.TheConstants.{MOST_NEED}
 use Rattle.c_tree.specs.declared.tree.Expr.{Expr, Expr-F, fold-Expr}
 use Rattle.c_tree.specs.declared.tree.ExprNode.TheOpen.{ExprNode-F, Number, Name, Element, Call}
 use Rattle.c_tree.specs.declared.tree.ExprNode.TheOpen.{Group, Unary, Cast, Bump, Binary, Choice}
@@ -11,6 +12,7 @@ pub record Needs : Type 0 where
   pub need : ℕ
   pub index : Option ℕ
 
+-- the needs of what is no element
 abbrev pub plain : ℕ → Needs
 plain n = record { need = n; index = None }
 
@@ -19,6 +21,7 @@ abbrev pub args_need : ℕ → List Needs → ℕ
 args_need i [] = 0
 args_need i (e ∷ es) = max (e.need + i) (args_need (i + 1) es)
 
+-- a call without arguments needs the place of its result
 abbrev pub call_need : List Needs → ℕ
 call_need [] = 1
 call_need (e ∷ es) = args_need 0 (e ∷ es)
@@ -28,6 +31,7 @@ abbrev pub assign_need : Option ℕ → ℕ → ℕ
 assign_need None e = 1 + e
 assign_need (Some i) e = max i (2 + e)
 
+-- one level of an expression, whose parts have these needs
 abbrev pub node_needs : ExprNode-F Needs Needs → Needs
 node_needs (Number v k) = plain 1
 node_needs (Name w) = plain 1
@@ -42,12 +46,15 @@ node_needs (Choice c x y) = plain (max c.need (max x.need y.need))
 node_needs (Assign op x y) = plain (assign_need x.index y.need)
 node_needs (Comma x y) = plain (max x.need y.need)
 
+-- a node has the needs of its level
 abbrev pub of_needs : Expr-F Needs Needs → Needs
 of_needs e = e.node
 
+-- the needs of an expression
 unfoldable pub needs : Expr → Needs
 needs e = fold-Expr Needs Needs node_needs of_needs e
 
+-- the need alone
 abbrev pub need : Expr → ℕ
 need e = (needs e).need
 
@@ -55,13 +62,15 @@ need e = (needs e).need
 abbrev pub capped : ℕ → ℕ
 capped n = min n 17
 
+-- the same where there is a need
 abbrev pub capped_if : Option ℕ → Option ℕ
 capped_if None = None
 capped_if (Some n) = Some (capped n)
 
+-- needs as the code counts them
 abbrev pub counted : Needs → Need
 counted n = record { need = capped n.need; index = capped_if n.index }
 
 -- the limit on a full expression
 abbrev pub need_fits : Expr → Bool
-need_fits e = nat_le (need e) 16
+need_fits e = nat_le (need e) MOST_NEED

@@ -19,6 +19,7 @@ use Rattle.c_constant.specs.Kinds.{width, number, word, word_of, in_kind, promot
 abbrev pub answer : Bool → Option ℤ
 answer b = Some (cond b (pos 1) (pos 0))
 
+-- whether a number is zero
 abbrev pub is_zero : ℤ → Bool
 is_zero (pos n) = nat_eq n 0
 is_zero (negsuc n) = false
@@ -79,10 +80,11 @@ c_unary Minus k a = in_kind k (pos 0 -ℤ a)
 c_unary Complement k a = in_kind k (negsuc 0 -ℤ a)
 c_unary Not k a = answer (is_zero a)
 
--- both on words
+-- an operation on two words of a type
 unfoldable pub operate : BinaryOp → Kind → ℕ → ℕ → Option ℕ
 operate op k a b = word_of (c_operation op k (number k a) (number k b))
 
+-- an operation on one word of a type
 unfoldable pub operate_one : UnaryOp → Kind → ℕ → Option ℕ
 operate_one op k a = word_of (c_unary op k (number k a))
 
@@ -120,6 +122,7 @@ abbrev pub unary_at : UnaryOp → Kind → Kind
 unary_at Not k = k
 unary_at op k = promoted k
 
+-- the type of its result
 abbrev pub unary_result : UnaryOp → Kind → Kind
 unary_result Not k = Int
 unary_result op k = k

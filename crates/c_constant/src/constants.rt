@@ -7,7 +7,7 @@ ghost use Rattle.c_constant.specs.Constant as values;
 
 use crate::kinds::{common, left_at, promoted, result_of, right_at, unary_at, unary_result};
 use crate::words::{convert, operation, unary};
-use c_tree::{BinaryOp, Expr, ExprNode, Kind, UnaryOp};
+use c_tree::{BinaryOp, Expr, ExprNode, Kind, UnaryOp, Word};
 
 /// The kind of a constant expression and its value, none where it is undefined or no constant.
 #[derive(Clone, Copy, Debug, PartialEq, Eq)]
@@ -16,11 +16,20 @@ pub struct Constant {
     pub value: Option<u64>,
 }
 
+/// A name that stands for a constant.
+#[derive(Debug, Drop)]
+pub struct NamedConstant {
+    pub name: Word,
+    pub constant: Constant,
+}
+
+// What is no constant.
 const NONE: Constant = Constant {
     kind: Kind::Int,
     value: None,
 };
 
+// The value after a cast, where there is one.
 fn cast_value(kind: Kind, value: Option<u64>) -> Option<u64>
     ensures { result ≡ values.cast_value kind value }
 {
@@ -30,6 +39,7 @@ fn cast_value(kind: Kind, value: Option<u64>) -> Option<u64>
     }
 }
 
+// The value of an operation on one operand.
 fn one_value(op: UnaryOp, kind: Kind, value: Option<u64>) -> Option<u64>
     ensures { result ≡ values.one_value op kind value }
 {
@@ -42,12 +52,14 @@ fn one_value(op: UnaryOp, kind: Kind, value: Option<u64>) -> Option<u64>
     }
 }
 
+// The answer of a test of a word.
 fn tested(word: u64) -> u64
     ensures { result ≡ values.tested word }
 {
     if word == 0 { 0 } else { 1 }
 }
 
+// The answer of a test, where there is a word.
 fn tested_if(value: Option<u64>) -> Option<u64>
     ensures { result ≡ values.tested_if value }
 {
@@ -57,6 +69,7 @@ fn tested_if(value: Option<u64>) -> Option<u64>
     }
 }
 
+// The value of `&&`: the right side need have none where the left one is zero.
 fn and_value(left: Option<u64>, right: Option<u64>) -> Option<u64>
     ensures { result ≡ values.and_value left right }
 {
@@ -66,6 +79,7 @@ fn and_value(left: Option<u64>, right: Option<u64>) -> Option<u64>
     }
 }
 
+// The value of `||`: the right side need have none where the left one is not zero.
 fn or_value(left: Option<u64>, right: Option<u64>) -> Option<u64>
     ensures { result ≡ values.or_value left right }
 {
@@ -75,6 +89,7 @@ fn or_value(left: Option<u64>, right: Option<u64>) -> Option<u64>
     }
 }
 
+// The value of an operation that takes both operands.
 fn two_value(op: BinaryOp, j: Kind, k: Kind, left: Option<u64>, right: Option<u64>) -> Option<u64>
     ensures { result ≡ values.two_value op j k left right }
 {
@@ -88,6 +103,7 @@ fn two_value(op: BinaryOp, j: Kind, k: Kind, left: Option<u64>, right: Option<u6
     operation(op, at, convert(at, x), convert(right_at(op, j, k), y))
 }
 
+// The value of an operation on two operands.
 fn binary_value(
     op: BinaryOp,
     j: Kind,
@@ -104,6 +120,7 @@ fn binary_value(
     }
 }
 
+// The value of the leg that is chosen, in the common kind of both.
 fn choice_value(kind: Kind, test: Option<u64>, yes: Option<u64>, no: Option<u64>) -> Option<u64>
     ensures { result ≡ values.choice_value kind test yes no }
 {
@@ -117,6 +134,7 @@ fn choice_value(kind: Kind, test: Option<u64>, yes: Option<u64>, no: Option<u64>
     }
 }
 
+// An operation on one operand.
 fn one(op: UnaryOp, e: Constant) -> Constant
     ensures { result ≡ values.given (operations.unary_result op (operations.unary_at op e.kind))
         (values.one_value op e.kind e.value) }
@@ -127,6 +145,7 @@ fn one(op: UnaryOp, e: Constant) -> Constant
     }
 }
 
+// An operation on two operands.
 fn two(op: BinaryOp, left: Constant, right: Constant) -> Constant
     ensures { result ≡ values.given (operations.result_of op
         (operations.left_at op left.kind right.kind)) (values.binary_value op left.kind right.kind
@@ -138,6 +157,7 @@ fn two(op: BinaryOp, left: Constant, right: Constant) -> Constant
     }
 }
 
+// A choice.
 fn three(test: Constant, yes: Constant, no: Constant) -> Constant
     ensures { result ≡ values.given (kinds.common yes.kind no.kind)
         (values.choice_value (kinds.common yes.kind no.kind) test.value yes.value no.value) }
@@ -149,33 +169,46 @@ fn three(test: Constant, yes: Constant, no: Constant) -> Constant
     }
 }
 
-/// The value of a constant expression (C17 6.6), none where it is undefined or no constant.
+// What a name stands for.
+fn named(names: &[NamedConstant], word: &Word) -> Constant
+    ensures { result ≡ values.named names.now word.now }
+{
+    for n in names {
+        if n.name == *word {
+            return n.constant;
+        }
+    }
+    NONE
+}
+
+/// The value of a constant expression (C17 6.6) in which these names stand for constants, none where
+/// it is undefined or no constant.
 #[tactic(auto, using(crate::proofs::Nodes::values))]
-pub fn constant_of(e: &Expr) -> Constant
-    ensures { result ≡ values.constant e.now }
+pub fn constant_of(names: &[NamedConstant], e: &Expr) -> Constant
+    ensures { result ≡ values.constant names.now e.now }
 {
     match &e.node {
         ExprNode::Number { value, kind } => Constant {
             kind: *kind,
             value: Some(*value),
         },
-        ExprNode::Group(e) => constant_of(e.get()),
-        ExprNode::Unary { op, e } => one(*op, constant_of(e.get())),
+        ExprNode::Group(e) => constant_of(names, e.get()),
+        ExprNode::Unary { op, e } => one(*op, constant_of(names, e.get())),
         ExprNode::Cast { to, e } => Constant {
             kind: *to,
-            value: cast_value(*to, constant_of(e.get()).value),
+            value: cast_value(*to, constant_of(names, e.get()).value),
         },
         ExprNode::Binary { op, left, right } => two(
             *op,
-            constant_of(left.get()),
-            constant_of(right.get()),
+            constant_of(names, left.get()),
+            constant_of(names, right.get()),
         ),
         ExprNode::Choice { test, yes, no } => three(
-            constant_of(test.get()),
-            constant_of(yes.get()),
-            constant_of(no.get()),
+            constant_of(names, test.get()),
+            constant_of(names, yes.get()),
+            constant_of(names, no.get()),
         ),
-        ExprNode::Name(_) => NONE,
+        ExprNode::Name(word) => named(names, word),
         ExprNode::Element { .. } => NONE,
         ExprNode::Call { .. } => NONE,
         ExprNode::Bump { .. } => NONE,

@@ -1,18 +1,89 @@
 //! The types of operands and results.
 
-ghost use Rattle.std.specs.Prelude.{◌≡◌};
+ghost use Rattle.std.specs.Prelude.{◌≡◌, ◌<◌, ◌≤◌};
 ghost use Rattle.c_constant.specs.Kinds as kinds;
 ghost use Rattle.c_constant.specs.Operation as operations;
 
 use c_tree::{BinaryOp, Kind, UnaryOp};
 
+/// What an integer type is: how many bits it has, and whether it holds negative numbers.
+#[derive(Clone, Copy, Debug, PartialEq, Eq)]
+pub struct KindRow {
+    pub bits: u32,
+    pub signed: bool,
+}
+
+/// The table of the integer types (C17 6.2.5).
+pub fn row(kind: Kind) -> KindRow
+    ensures { result ≡ kinds.row kind }
+{
+    match kind {
+        Kind::Char => KindRow {
+            bits: 8,
+            signed: true,
+        },
+        Kind::UChar => KindRow {
+            bits: 8,
+            signed: false,
+        },
+        Kind::Int => KindRow {
+            bits: 32,
+            signed: true,
+        },
+        Kind::UInt => KindRow {
+            bits: 32,
+            signed: false,
+        },
+        Kind::Long => KindRow {
+            bits: 64,
+            signed: true,
+        },
+        Kind::ULong => KindRow {
+            bits: 64,
+            signed: false,
+        },
+    }
+}
+
+/// How many bits a kind has.
+pub fn width(kind: Kind) -> u64
+    ensures { result ≡ kinds.width kind }
+{
+    row(kind).bits as u64
+}
+
+/// How many bytes a value of a kind takes.
+pub fn bytes(kind: Kind) -> u32
+    ensures value { result ≡ kinds.bytes kind }
+    ensures some { 0 < result }
+    ensures few { result ≤ 8 }
+{
+    row(kind).bits / 8
+}
+
 /// The integer promotions (C17 6.3.1.1).
 pub fn promoted(kind: Kind) -> Kind
     ensures { result ≡ kinds.promoted kind }
 {
-    match kind {
-        Kind::Char | Kind::UChar => Kind::Int,
-        _ => kind,
+    if width(kind) < width(Kind::Int) {
+        Kind::Int
+    } else {
+        kind
+    }
+}
+
+/// The type of greater rank, and of two of one rank the unsigned one.
+fn larger(a: Kind, b: Kind) -> Kind
+    ensures { result ≡ kinds.larger a b }
+{
+    if width(a) < width(b) {
+        b
+    } else if width(b) < width(a) {
+        a
+    } else if row(a).signed {
+        b
+    } else {
+        a
     }
 }
 
@@ -20,12 +91,7 @@ pub fn promoted(kind: Kind) -> Kind
 pub fn common(a: Kind, b: Kind) -> Kind
     ensures { result ≡ kinds.common a b }
 {
-    match (promoted(a), promoted(b)) {
-        (Kind::ULong, _) | (_, Kind::ULong) => Kind::ULong,
-        (Kind::Long, _) | (_, Kind::Long) => Kind::Long,
-        (Kind::UInt, _) | (_, Kind::UInt) => Kind::UInt,
-        _ => Kind::Int,
-    }
+    larger(promoted(a), promoted(b))
 }
 
 /// The kind to which an operation converts its left operand, in which it is done.

@@ -10,7 +10,10 @@ mod signed;
 mod unsigned;
 mod words;
 
-pub use constants::{Constant, constant_of};
-pub use kinds::{common, left_at, promoted, result_of, right_at, unary_at, unary_result};
+pub use constants::{Constant, NamedConstant, constant_of};
+pub use kinds::{
+    KindRow, bytes, common, left_at, promoted, result_of, right_at, row, unary_at, unary_result,
+    width,
+};
 pub use needs::need_fits;
 pub use words::{convert, operation, unary};

@@ -6,7 +6,7 @@ ghost use Rattle.c_constant.specs.Need.{counted, capped, assign_need, call_need}
 ghost use Rattle.c_constant.specs.Need as needs;
 
 use base::Items;
-use c_tree::{Expr, ExprNode};
+use c_tree::{Expr, ExprNode, MOST_NEED};
 
 /// A need, and the need of the index where the expression is an element, each counted up to 17.
 #[derive(Clone, Copy, Debug, PartialEq, Eq)]
@@ -15,19 +15,21 @@ pub struct Need {
     pub index: Option<u64>,
 }
 
+// The needs of what is no element.
 fn plain(need: u64) -> Need
     ensures { result ≡ record { need = need; index = None } }
 {
     Need { need, index: None }
 }
 
+// The greater of two needs.
 fn larger(a: u64, b: u64) -> u64
     ensures { result ≡ max a b }
 {
     if a < b { b } else { a }
 }
 
-/// A need counted further.
+// A need counted further.
 fn further(need: u64, by: u64) -> u64
     requires { by ≤ 17 }
     ensures { result ≡ capped (need + by) }
@@ -35,6 +37,7 @@ fn further(need: u64, by: u64) -> u64
     if need < 17 { (need + by).min(17) } else { 17 }
 }
 
+// The need of an assignment, by that of its left side's index and of its right side.
 fn assigned(index: Option<u64>, right: u64) -> u64
     ensures { result ≡ capped (assign_need index right) }
 {
@@ -44,6 +47,7 @@ fn assigned(index: Option<u64>, right: u64) -> u64
     }
 }
 
+// The need of some arguments, each after those before it.
 #[cycle(need)]
 fn args_need(args: &[Expr]) -> u64
     ensures { result ≡ capped (needs.args_need 0 (map needs.needs args.now)) }
@@ -57,6 +61,7 @@ fn args_need(args: &[Expr]) -> u64
     most
 }
 
+// The need of a call.
 #[cycle(need)]
 fn call(args: &Items<Expr>) -> u64
     ensures { result ≡ capped (call_need (map needs.needs args.now)) }
@@ -68,6 +73,7 @@ fn call(args: &Items<Expr>) -> u64
     }
 }
 
+// The needs of an expression, each counted up to 17.
 #[cycle(need)]
 fn counted_need(e: &Expr) -> Need
     ensures { result ≡ counted (needs.needs e.now) }
@@ -106,9 +112,9 @@ fn counted_need(e: &Expr) -> Need
     }
 }
 
-/// Whether the need of a full expression is at most 16.
+/// Whether the need of a full expression is within the limit.
 pub fn need_fits(e: &Expr) -> bool
     ensures { result ≡ needs.need_fits e.now }
 {
-    counted_need(e).need <= 16
+    counted_need(e).need <= MOST_NEED
 }

@@ -2,11 +2,12 @@
 
 ghost use Rattle.std.specs.Prelude.{◌≡◌, ◌<◌, ◌+◌, ◌*◌, ◌^◌, ◌+ℤ◌, ◌-ℤ◌, ◌*ℤ◌, int_lt, int_div};
 ghost use Rattle.std.specs.Prelude.{int_rem, pos, negsuc, IsTrue};
-ghost use Rattle.c_constant.specs.Kinds.{in_kind, is_signed, word_of, width};
+ghost use Rattle.c_constant.specs.Kinds.{in_kind, is_signed, word_of};
 ghost use Rattle.c_constant.specs.Kinds as kinds;
 ghost use Rattle.c_constant.specs.Operation.{c_operation, c_unary, quotient, remainder, answer};
 ghost use Rattle.c_constant.specs.Operation.{shifted_left, shifted_right};
 
+use crate::kinds::width;
 use c_tree::{BinaryOp, Kind, UnaryOp};
 
 /// The low bits of a word, read by sign.
@@ -22,17 +23,7 @@ pub fn by_sign(half: u64, low: u64) -> u64
     }
 }
 
-/// How many bits a kind has.
-pub fn width_of(kind: Kind) -> u64
-    ensures { result ≡ width kind }
-{
-    match kind {
-        Kind::Char | Kind::UChar => 8,
-        Kind::Int | Kind::UInt => 32,
-        Kind::Long | Kind::ULong => 64,
-    }
-}
-
+// The word of a number from the least to the greatest.
 fn within(least: i64, greatest: i64, z: i64) -> Option<u64>
     ensures { result ≡ word_of (kinds.between least greatest z) }
 {
@@ -43,7 +34,7 @@ fn within(least: i64, greatest: i64, z: i64) -> Option<u64>
     }
 }
 
-/// The word of a number, where the kind holds it.
+// The word of a number, where the kind holds it.
 fn in_signed(kind: Kind, z: i64) -> Option<u64>
     requires { IsTrue (is_signed kind) }
     ensures { result ≡ word_of (in_kind kind z) }
@@ -55,12 +46,14 @@ fn in_signed(kind: Kind, z: i64) -> Option<u64>
     }
 }
 
+/// The word of a test's answer.
 pub fn truth(holds: bool) -> Option<u64>
     ensures { result ≡ word_of (answer holds) }
 {
     if holds { Some(1) } else { Some(0) }
 }
 
+// The sum, where the kind holds it.
 fn add(kind: Kind, a: i64, b: i64) -> Option<u64>
     requires { IsTrue (is_signed kind) }
     ensures { result ≡ word_of (in_kind kind (a +ℤ b)) }
@@ -71,6 +64,7 @@ fn add(kind: Kind, a: i64, b: i64) -> Option<u64>
     }
 }
 
+// The difference, where the kind holds it.
 fn sub(kind: Kind, a: i64, b: i64) -> Option<u64>
     requires { IsTrue (is_signed kind) }
     ensures { result ≡ word_of (in_kind kind (a -ℤ b)) }
@@ -81,6 +75,7 @@ fn sub(kind: Kind, a: i64, b: i64) -> Option<u64>
     }
 }
 
+// The product, where the kind holds it.
 fn mul(kind: Kind, a: i64, b: i64) -> Option<u64>
     requires { IsTrue (is_signed kind) }
     ensures { result ≡ word_of (in_kind kind (a *ℤ b)) }
@@ -91,6 +86,7 @@ fn mul(kind: Kind, a: i64, b: i64) -> Option<u64>
     }
 }
 
+// The quotient, rounded toward zero (C17 6.5.5).
 fn div(kind: Kind, a: i64, b: i64) -> Option<u64>
     requires { IsTrue (is_signed kind) }
     ensures { result ≡ word_of (quotient kind a b) }
@@ -104,6 +100,7 @@ fn div(kind: Kind, a: i64, b: i64) -> Option<u64>
     }
 }
 
+// The remainder, which is defined where the quotient is (C17 6.5.5).
 fn rem(kind: Kind, a: i64, b: i64) -> Option<u64>
     requires { IsTrue (is_signed kind) }
     ensures { result ≡ word_of (remainder kind a b) }
@@ -120,7 +117,7 @@ fn rem(kind: Kind, a: i64, b: i64) -> Option<u64>
     }
 }
 
-/// A product with 2^count, of a number that is not negative.
+// A product with 2^count, of a number that is not negative.
 fn doubled(kind: Kind, a: u64, count: u64) -> Option<u64>
     requires signed { IsTrue (is_signed kind) }
     requires count { count < 64 }
@@ -133,27 +130,30 @@ fn doubled(kind: Kind, a: u64, count: u64) -> Option<u64>
     in_signed(kind, product.cast_signed())
 }
 
+// A left shift (C17 6.5.7).
 fn shift_left(kind: Kind, a: i64, b: i64) -> Option<u64>
     requires { IsTrue (is_signed kind) }
     ensures { result ≡ word_of (shifted_left kind a b) }
 {
-    if a < 0 || b < 0 || b >= width_of(kind).cast_signed() {
+    if a < 0 || b < 0 || b >= width(kind).cast_signed() {
         None
     } else {
         doubled(kind, a.cast_unsigned(), b.cast_unsigned())
     }
 }
 
+// A right shift, rounded down (C17 6.5.7).
 fn shift_right(kind: Kind, a: i64, b: i64) -> Option<u64>
     ensures { result ≡ word_of (shifted_right kind a b) }
 {
-    if b < 0 || b >= width_of(kind).cast_signed() {
+    if b < 0 || b >= width(kind).cast_signed() {
         None
     } else {
         Some((a >> b).cast_unsigned())
     }
 }
 
+/// An operation on two numbers of a signed kind (C17 6.5).
 pub fn signed_operation(op: BinaryOp, kind: Kind, a: i64, b: i64) -> Option<u64>
     requires { IsTrue (is_signed kind) }
     ensures { result ≡ word_of (c_operation op kind a b) }
@@ -180,6 +180,7 @@ pub fn signed_operation(op: BinaryOp, kind: Kind, a: i64, b: i64) -> Option<u64>
     }
 }
 
+/// An operation on one number of a signed kind (C17 6.5.3.3).
 pub fn signed_unary(op: UnaryOp, kind: Kind, a: i64) -> Option<u64>
     requires { IsTrue (is_signed kind) }
     ensures { result ≡ word_of (c_unary op kind a) }

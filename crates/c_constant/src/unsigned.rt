@@ -1,14 +1,15 @@
 //! Operations at the unsigned kinds.
 
 ghost use Rattle.std.specs.Prelude.{◌≡◌, ◌<◌, ◌*◌, ◌^◌, ◌+ℤ◌, ◌-ℤ◌, ◌*ℤ◌, pos, IsTrue, not, ℤ};
-ghost use Rattle.c_constant.specs.Kinds.{in_kind, is_signed, word_of, width, reduced};
+ghost use Rattle.c_constant.specs.Kinds.{in_kind, is_signed, word_of, reduced};
 ghost use Rattle.c_constant.specs.Operation.{c_operation, c_unary, quotient, remainder};
 ghost use Rattle.c_constant.specs.Operation.{shifted_left, shifted_right};
 
-use crate::signed::{truth, width_of};
+use crate::kinds::width;
+use crate::signed::truth;
 use c_tree::{BinaryOp, Kind, UnaryOp};
 
-/// A number modulo 2^64, as the kind has it.
+// A number modulo 2^64, as the kind has it.
 fn in_unsigned(kind: Kind, word: u64) -> Option<u64>
     requires { IsTrue (not (is_signed kind)) }
     ensures { (z : ℤ) → word ≡ reduced 18446744073709551616 z → result ≡ word_of (in_kind kind z) }
@@ -20,24 +21,28 @@ fn in_unsigned(kind: Kind, word: u64) -> Option<u64>
     }
 }
 
+// The sum modulo 2^64.
 fn sum(a: u64, b: u64) -> u64
     ensures { result ≡ reduced 18446744073709551616 (pos a +ℤ pos b) }
 {
     a.wrapping_add(b)
 }
 
+// The difference modulo 2^64.
 fn difference(a: u64, b: u64) -> u64
     ensures { result ≡ reduced 18446744073709551616 (pos a -ℤ pos b) }
 {
     a.wrapping_sub(b)
 }
 
+// The product modulo 2^64.
 fn product(a: u64, b: u64) -> u64
     ensures { result ≡ reduced 18446744073709551616 (pos a *ℤ pos b) }
 {
     a.wrapping_mul(b)
 }
 
+// The quotient (C17 6.5.5).
 fn div(kind: Kind, a: u64, b: u64) -> Option<u64>
     requires { IsTrue (not (is_signed kind)) }
     ensures { result ≡ word_of (quotient kind (pos a) (pos b)) }
@@ -49,6 +54,7 @@ fn div(kind: Kind, a: u64, b: u64) -> Option<u64>
     }
 }
 
+// The remainder (C17 6.5.5).
 fn rem(kind: Kind, a: u64, b: u64) -> Option<u64>
     requires { IsTrue (not (is_signed kind)) }
     ensures { result ≡ word_of (remainder kind (pos a) (pos b)) }
@@ -56,26 +62,25 @@ fn rem(kind: Kind, a: u64, b: u64) -> Option<u64>
     if b == 0 { None } else { Some(a % b) }
 }
 
+// A left shift (C17 6.5.7).
 fn shift_left(kind: Kind, a: u64, b: u64) -> Option<u64>
     requires { IsTrue (not (is_signed kind)) }
     ensures { result ≡ word_of (shifted_left kind (pos a) (pos b)) }
 {
-    if b >= width_of(kind) {
+    if b >= width(kind) {
         return None;
     }
     in_unsigned(kind, a << b)
 }
 
+// A right shift (C17 6.5.7).
 fn shift_right(kind: Kind, a: u64, b: u64) -> Option<u64>
     ensures { result ≡ word_of (shifted_right kind (pos a) (pos b)) }
 {
-    if b < width_of(kind) {
-        Some(a >> b)
-    } else {
-        None
-    }
+    if b < width(kind) { Some(a >> b) } else { None }
 }
 
+/// An operation on two words of an unsigned kind (C17 6.5).
 pub fn unsigned_operation(op: BinaryOp, kind: Kind, a: u64, b: u64) -> Option<u64>
     requires { IsTrue (not (is_signed kind)) }
     ensures { result ≡ word_of (c_operation op kind (pos a) (pos b)) }
@@ -102,6 +107,7 @@ pub fn unsigned_operation(op: BinaryOp, kind: Kind, a: u64, b: u64) -> Option<u6
     }
 }
 
+/// An operation on one word of an unsigned kind (C17 6.5.3.3).
 pub fn unsigned_unary(op: UnaryOp, kind: Kind, a: u64) -> Option<u64>
     requires { IsTrue (not (is_signed kind)) }
     ensures { result ≡ word_of (c_unary op kind (pos a)) }

@@ -1,5 +1,6 @@
 -- Which texts of C are accepted, with which typed program, and which stage refuses the others.
 use Rattle.std.specs.Prelude.{◌≡◌, ℕ, List, Some, None}
+use Rattle.c_tree.specs.declared.limits.TheConstants.{MOST_TOKENS}
 use Rattle.c_tree.specs.declared.tree.Program.{Program}
 use Rattle.c_tree.specs.declared.typed.TypedProgram.{TypedProgram}
 use Rattle.c_lex.specs.declared.fault.LexFault.{LexFault}
@@ -17,7 +18,7 @@ use Rattle.c_front.specs.declared.refusal.Refusal.TheVariants.{Lex, Parse, Typin
 
 -- how many tokens a text may have
 abbrev pub most_tokens : ℕ
-most_tokens = 8192
+most_tokens = MOST_TOKENS
 
 -- the text's tokens spell this unit, and no construct of it is too deep
 abbrev pub HasTree : List ℕ → Program → Type 0

@@ -76,7 +76,8 @@ follow (frame.Choice one other) = FChoice one.now other.now
 follow (frame.Assigned x) = FAssigned x
 follow (frame.Compounded op to at x old) = FCompounded op to at x old
 follow (frame.BumpElement op k p) = FBumpElement op k p
-follow (frame.Caller scalars count base room) = FCaller scalars.items count base room
+follow (frame.Caller is_main scalars count base room) =
+    FCaller is_main scalars.items count base room
 follow frame.Dropped = FDropped
 follow (frame.Initialised i) = FInitialised i
 follow (frame.Sequence rest) = FSequence rest.now

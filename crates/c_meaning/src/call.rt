@@ -9,12 +9,10 @@ use crate::arrays::Arrays;
 use crate::fetch::Fetch;
 use crate::frame::{Frame, Move, Task};
 use crate::machine::Machine;
+use c_constant::bytes;
 use c_meaning_spec::{Ending, Signal};
-use c_tree::{Callee, Kind, TypedArray, TypedExpr, TypedFunc, TypedProgram};
+use c_tree::{Callee, MOST_FRAME_BYTES, TypedArray, TypedExpr, TypedFunc, TypedProgram};
 use std::alloc::{AllocError, Global};
-
-/// The bytes that the frames of the active functions may have.
-const ROOM: u64 = 1_048_576;
 
 /// An empty list, which may have been used before.
 pub fn spare<T: Drop>(alloc: Global, pool: &mut Vec<Vec<T>>) -> Vec<T>
@@ -29,32 +27,29 @@ pub fn spare<T: Drop>(alloc: Global, pool: &mut Vec<Vec<T>>) -> Vec<T>
     }
 }
 
+// The bytes of an array, rounded up to 8.
 fn bytes_of(a: &TypedArray) -> u64
     ensures value { result ≡ array_bytes a.now }
     ensures bound { result < 2 ^ 36 }
 {
-    match a.kind {
-        Kind::Char | Kind::UChar => (a.length as u64 * 1 + 7) / 8 * 8,
-        Kind::Int | Kind::UInt => (a.length as u64 * 4 + 7) / 8 * 8,
-        Kind::Long | Kind::ULong => (a.length as u64 * 8 + 7) / 8 * 8,
-    }
+    (a.length as u64 * bytes(a.kind) as u64 + 7) / 8 * 8
 }
 
 /// The bytes of the active frames with that of f, if so many are allowed.
 fn room_with(room: u32, f: &TypedFunc) -> Option<u32>
-    ensures { SomeIff result (room + frame_of f.now ≤ 1048576) (room + frame_of f.now) }
+    ensures { SomeIff result (room + frame_of f.now ≤ MOST_FRAME_BYTES) (room + frame_of f.now) }
 {
     let scalars = f.scalars.len() as u64;
-    if scalars > ROOM {
+    if scalars > MOST_FRAME_BYTES {
         return None;
     }
     let mut total = room as u64 + 8 * (18 + scalars);
-    if total > ROOM {
+    if total > MOST_FRAME_BYTES {
         return None;
     }
     for a in f.arrays.as_slice() {
         total += bytes_of(a);
-        if total > ROOM {
+        if total > MOST_FRAME_BYTES {
             return None;
         }
     }
@@ -160,7 +155,10 @@ impl<'a> Machine<'a> {
         }
         self.store.stock -= 1;
         match callee {
-            Callee::Func(f) => self.enter(program.functions.as_slice().get(f as usize), done),
+            Callee::Func(f) => {
+                let is_main = f == program.main;
+                self.enter(is_main, program.functions.as_slice().get(f as usize), done)
+            }
             Callee::GetChar => Ok(self.get_char(done)),
             Callee::PutChar => self.put_char(done),
         }
@@ -199,8 +197,15 @@ impl<'a> Machine<'a> {
         }
     }
 
-    fn enter(&mut self, f: Option<&'a TypedFunc>, done: &[u64]) -> Result<Move<'a>, AllocError>
-        ensures { IfOk result (Makes (enter_step (behind f.entry) done.now) self.old self.new) }
+    // A call of a function, which may be main.
+    fn enter(
+        &mut self,
+        is_main: bool,
+        f: Option<&'a TypedFunc>,
+        done: &[u64],
+    ) -> Result<Move<'a>, AllocError>
+        ensures { IfOk result
+            (Makes (enter_step is_main (behind f.entry) done.now) self.old self.new) }
     {
         match f {
             None => Ok(Move::End(Ending::Undefined)),
@@ -211,7 +216,7 @@ impl<'a> Machine<'a> {
                 match room_with(self.store.room, f) {
                     None => Ok(Move::End(Ending::Deep)),
                     Some(room) => {
-                        let moved = self.enter_with(f, done, room)?;
+                        let moved = self.enter_with(is_main, f, done, room)?;
                         Ok(moved)
                     }
                 }
@@ -219,15 +224,17 @@ impl<'a> Machine<'a> {
         }
     }
 
+    // A call whose frame has room.
     fn enter_with(
         &mut self,
+        is_main: bool,
         f: &'a TypedFunc,
         done: &[u64],
         room: u32,
     ) -> Result<Move<'a>, AllocError>
         requires room { room ≡ self.old.store.room + frame_of f.now }
-        requires small { room ≤ 1048576 }
-        ensures { IfOk result (Makes (entered_step true f.now done.now) self.old self.new) }
+        requires small { room ≤ MOST_FRAME_BYTES }
+        ensures { IfOk result (Makes (entered_step is_main true f.now done.now) self.old self.new) }
     {
         let count = self.store.arrays.len();
         if count > 0xffff_ffff {
@@ -238,6 +245,7 @@ impl<'a> Machine<'a> {
         add_arrays(&mut self.store.arrays, f)?;
         let scalars = std::mem::replace(&mut self.store.scalars, scalars);
         let frame = Frame::Caller {
+            is_main,
             scalars,
             count,
             base: self.store.base,

@@ -2,7 +2,9 @@ ghost use Rattle.std.specs.Prelude.{◌≡◌, ◌+◌, ◌<◌, [], map, length
 ghost use Rattle.c_meaning_spec.specs.State.{Result as Reached};
 ghost use Rattle.c_meaning_spec.specs.Call.{called as called_by};
 ghost use Rattle.c_meaning_spec.specs.Eval.{first_cells, length_of as length_in, start, outcome};
-ghost use Rattle.c_meaning_spec.specs.Eval.{main_result as result_of_main, eval, meaning};
+ghost use Rattle.c_meaning_spec.specs.Eval.{eval, meaning};
+ghost use Rattle.c_tree.specs.declared.Kind.TheVariants.{Int};
+ghost use Rattle.c_constant.specs.Kinds.{number, converted};
 ghost use Rattle.c_meaning_steps.specs.Ahead.{ahead_next, rank, is_over as is_over_of, IsReached};
 ghost use Rattle.c_meaning.specs.View.{next, view, frames};
 ghost use Rattle.c_meaning.specs.Answer.{answer};
@@ -58,14 +60,11 @@ fn first_store<'a>(
     })
 }
 
-/// What main returns, as an int: the low 32 bits by sign.
-fn main_result(signal: Signal) -> i32
-    ensures { result ≡ result_of_main signal }
+/// A word as an int: its low 32 bits by sign.
+fn int_of(w: u64) -> i32
+    ensures { result ≡ number Int (converted Int w) }
 {
-    match signal {
-        Signal::Value(w) => ((w % 0x1_0000_0000) as u32).cast_signed(),
-        _ => 0,
-    }
+    ((w % 0x1_0000_0000) as u32).cast_signed()
 }
 
 impl<'a> Machine<'a> {
@@ -139,14 +138,15 @@ fn ended(now: Move, store: Store, n: u64) -> Result<Outcome, AllocError>
         → o ≡ answer (outcome n r)) }
 {
     match now {
-        Move::Give(signal) => {
+        Move::Give(Signal::Value(w)) => {
             let steps = n.saturating_sub(store.stock);
             Ok(Outcome::Done {
                 output: Items::from_vec(store.output),
-                result: main_result(signal),
+                result: int_of(w),
                 steps,
             })
         }
+        Move::Give(_) => Ok(Outcome::Undefined),
         Move::End(Ending::More) => Ok(Outcome::More),
         Move::End(Ending::Undefined) => Ok(Outcome::Undefined),
         Move::End(Ending::Deep) => Ok(Outcome::Deep),

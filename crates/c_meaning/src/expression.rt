@@ -1,5 +1,5 @@
 ghost use Rattle.std.specs.Prelude.{◌≡◌, IfOk, slice_get};
-ghost use Rattle.c_meaning_spec.specs.Expression.{node_of};
+ghost use Rattle.c_tree.specs.TypedTrees.{node_of};
 ghost use Rattle.c_meaning_spec.specs.Task.{is_array as is_array_in, has_length};
 ghost use Rattle.c_meaning_steps.specs.Follow.{FElement, FLeft, FAssignElement, FAssigned, FCompounded};
 ghost use Rattle.c_meaning_steps.specs.Follow.{some_step, store_step};

@@ -1,5 +1,5 @@
 ghost use Rattle.std.specs.Prelude.{◌≡◌, Some};
-ghost use Rattle.c_meaning_spec.specs.Expression.{node_of};
+ghost use Rattle.c_tree.specs.TypedTrees.{node_of};
 ghost use Rattle.c_meaning_steps.specs.Operands.{given_fetch, leaf_fetch, operated_fetch, operation_fetch};
 ghost use Rattle.c_meaning_steps.specs.Operands.{binary_fetch, indexed_fetch, element_fetch};
 ghost use Rattle.c_meaning_steps.specs.Operands.{fetch as fetch_of, leaf_of as leaf_of_node};

@@ -87,6 +87,7 @@ pub enum Frame<'a> {
         place: Place,
     },
     Caller {
+        is_main: bool,
         scalars: Vec<Option<u64>>,
         count: usize,
         base: u32,

@@ -1,5 +1,5 @@
 ghost use Rattle.std.specs.Prelude.{◌≡◌, IfOk};
-ghost use Rattle.c_meaning_spec.specs.Expression.{node_of};
+ghost use Rattle.c_tree.specs.TypedTrees.{node_of};
 ghost use Rattle.c_meaning_steps.specs.Follow.{Pushes, given_step, store_step};
 ghost use Rattle.c_meaning.specs.View.{view, task_of, follow, Makes};
 

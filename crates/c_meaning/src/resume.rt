@@ -142,11 +142,12 @@ impl<'a> Machine<'a> {
                 right,
             } => { self.push(Task::Of(right), Frame::Valued) }
             Frame::Caller {
+                is_main,
                 scalars,
                 count,
                 base,
                 room,
-            } => { self.leave(scalars, count, base, room, signal) }
+            } => { self.leave(is_main, scalars, count, base, room, signal) }
             Frame::Dropped => Ok(Move::Give(Signal::Nothing)),
             Frame::Sequence(rest) => self.after_statement(rest, signal),
             Frame::Turning {
@@ -171,8 +172,10 @@ impl<'a> Machine<'a> {
         }
     }
 
+    // The caller goes on, with what a call, of main or of another function, gives.
     fn leave(
         &mut self,
+        is_main: bool,
         scalars: Vec<Option<u64>>,
         count: usize,
         base: u32,
@@ -180,7 +183,7 @@ impl<'a> Machine<'a> {
         signal: Signal,
     ) -> Result<Move<'a>, AllocError>
         ensures { IfOk result (Makes
-            (λ s. returned_step signal (record s {
+            (λ s. returned_step is_main signal (record s {
               scalars = scalars.items;
               arrays = take count s.arrays;
               base = base;
@@ -193,16 +196,21 @@ impl<'a> Machine<'a> {
         self.store.base = base;
         self.store.room = room;
         self.spare_scalars.push(used)?;
-        Ok(self.returned(signal))
+        Ok(self.returned(is_main, signal))
     }
 
-    fn returned(&self, signal: Signal) -> Move<'a>
-        ensures { Makes (returned_step signal) self.now self.now result }
+    // What a call gives: the end of main returns 0.
+    fn returned(&self, is_main: bool, signal: Signal) -> Move<'a>
+        ensures { Makes (returned_step is_main signal) self.now self.now result }
     {
         match signal {
             Signal::Returns(Some(w)) => Move::Give(Signal::Value(w)),
             Signal::Returns(None) => Move::Give(Signal::Nothing),
-            Signal::Nothing => Move::Give(Signal::Nothing),
+            Signal::Nothing => if is_main {
+                Move::Give(Signal::Value(0))
+            } else {
+                Move::Give(Signal::Nothing)
+            },
             _ => Move::End(Ending::Undefined),
         }
     }

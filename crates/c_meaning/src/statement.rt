@@ -5,7 +5,7 @@ ghost use Rattle.c_meaning_steps.specs.Follow.{under};
 ghost use Rattle.c_meaning_steps.specs.Operands.{operand_step};
 ghost use Rattle.c_meaning_steps.specs.ExpressionSteps.{of_step};
 ghost use Rattle.c_meaning_steps.specs.StatementSteps.{plain_step};
-ghost use Rattle.c_meaning_spec.specs.Expression.{node_of};
+ghost use Rattle.c_tree.specs.TypedTrees.{node_of};
 ghost use Rattle.c_meaning.specs.View.{follow, step_of};
 ghost use Rattle.c_tree.specs.declared.TypedStmt.{out-TypedStmt};
 ghost use Rattle.c_tree.specs.declared.TypedForInit.{out-TypedForInit};

@@ -1,10 +1,10 @@
 ghost use Rattle.std.specs.Prelude.{◌≡◌};
-ghost use Rattle.c_constant.specs.Kinds as kinds;
 ghost use Rattle.c_meaning_spec.specs.Word as words;
 
-use c_constant::{convert, operation, unary};
+use c_constant::{convert, operation, promoted, unary};
 use c_tree::{BinaryOp, BumpOp, Kind, UnaryOp};
 
+/// An operation on two words of a type.
 pub fn binary_of(op: BinaryOp, kind: Option<Kind>, a: u64, b: u64) -> Option<u64>
     ensures { result ≡ words.binary_of op kind a b }
 {
@@ -14,6 +14,7 @@ pub fn binary_of(op: BinaryOp, kind: Option<Kind>, a: u64, b: u64) -> Option<u64
     }
 }
 
+/// An operation on one word of a type.
 pub fn unary_of(op: UnaryOp, kind: Option<Kind>, a: u64) -> Option<u64>
     ensures { result ≡ words.unary_of op kind a }
 {
@@ -23,6 +24,7 @@ pub fn unary_of(op: UnaryOp, kind: Option<Kind>, a: u64) -> Option<u64>
     }
 }
 
+// A word converted, if there is one.
 fn converted_if(kind: Kind, word: Option<u64>) -> Option<u64>
     ensures { result ≡ words.converted_if kind word }
 {
@@ -42,17 +44,7 @@ pub fn compound_of(op: BinaryOp, to: Option<Kind>, at: Kind, old: u64, b: u64) -
     }
 }
 
-fn promoted(kind: Kind) -> Kind
-    ensures { result ≡ kinds.promoted kind }
-{
-    match kind {
-        Kind::Char | Kind::UChar | Kind::Int => Kind::Int,
-        Kind::UInt => Kind::UInt,
-        Kind::Long => Kind::Long,
-        Kind::ULong => Kind::ULong,
-    }
-}
-
+// The operation of `++` and `--`.
 fn bump_operation(op: BumpOp) -> BinaryOp
     ensures { result ≡ words.bump_operation op }
 {

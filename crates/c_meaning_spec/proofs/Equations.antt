@@ -7,7 +7,7 @@ use Rattle.c_tree.specs.declared.TypedProgram.{TypedProgram}
 use Rattle.c_meaning_spec.specs.declared.signal.Ending.TheVariants.{More, Undefined, Deep}
 use Rattle.c_meaning_spec.specs.State.{State, Result, Go, Over}
 use Rattle.c_meaning_spec.specs.Task.{Task, Of, Run, Turn, Parts}
-use Rattle.c_meaning_spec.specs.Expression.{node_of}
+use Rattle.c_tree.specs.TypedTrees.{node_of}
 use Rattle.c_meaning_spec.specs.Eval.{perform, evaluated, enough, meaning}
 use Rattle.c_meaning_spec.proofs.Puts.{Puts, p-evaluated, p-meaning}
 use Rattle.c_meaning_spec.proofs.Grows.{more, Grew, g-expression, g-statement, g-turn}

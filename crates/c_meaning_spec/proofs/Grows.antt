@@ -36,11 +36,14 @@ use Rattle.c_meaning_spec.specs.Task.{Task, Of, Run, Turn, Parts, element_in, el
 use Rattle.c_meaning_spec.specs.Task.{is_array, name, element}
 use Rattle.c_meaning_spec.specs.Call.{frame, entered, returned, entered_if, enter, read_from, get_char}
 use Rattle.c_meaning_spec.specs.Call.{put_char, called, arguments}
-use Rattle.c_meaning_spec.specs.Expression.{Node, node_of, converting, unary, operated, after_left, truth}
+use Rattle.c_tree.specs.declared.limits.TheConstants.{MOST_FRAME_BYTES}
+use Rattle.c_tree.specs.TypedTrees.{Node, node_of}
+use Rattle.c_meaning_spec.specs.Expression.{converting, unary, operated, after_left, truth}
 use Rattle.c_meaning_spec.specs.Expression.{after_and, after_or, binary, valued, after_choice, after_comma}
 use Rattle.c_meaning_spec.specs.Expression.{assigned, compounded, assign_to, assign_element, assign}
 use Rattle.c_meaning_spec.specs.Expression.{bump_object, bump_element, bump, opened, node, expression}
-use Rattle.c_meaning_spec.specs.Statement.{Level, First, going_on, sequence, dropped, initialised, unset}
+use Rattle.c_tree.specs.TypedTrees.{Level, Beginning}
+use Rattle.c_meaning_spec.specs.Statement.{going_on, sequence, dropped, initialised, unset}
 use Rattle.c_meaning_spec.specs.Statement.{unset_row, declare, run_if, after_if, then_turn, locals, begin}
 use Rattle.c_meaning_spec.specs.Statement.{after_body, after_test, turn, returning, begun, statement}
 use Rattle.c_meaning_spec.proofs.Puts.{Puts, stock_of, same-prefix, prefix-prefix, p-go, p-then, p-element}
@@ -207,12 +210,12 @@ module _ (d n : ℕ) where
 
   -- WHAT NO PART IS IN
 
-  g-returned : (v : Signal) (s : State) → s.stock < n
-      → Grew d n (returned v s) (returned v (more d s))
-  g-returned (Returns (Some w)) s h = g-go _ s h
-  g-returned (Returns None) s h = g-go _ s h
-  g-returned Nothing s h = g-go _ s h
-  g-returned _ s h = g-undefined s
+  g-returned : (is_main : Bool) (v : Signal) (s : State) → s.stock < n
+      → Grew d n (returned is_main v s) (returned is_main v (more d s))
+  g-returned is_main (Returns (Some w)) s h = g-go _ s h
+  g-returned is_main (Returns None) s h = g-go _ s h
+  g-returned is_main Nothing s h = g-go _ s h
+  g-returned is_main _ s h = g-undefined s
 
   g-read : (input : List ℕ) (s : State) → s.stock < n
       → Grew d n (read_from input s) (read_from input (more d s))
@@ -302,26 +305,28 @@ module _ (d n : ℕ) (rec rec' : Parts) (below : (t : Task) (s : State) → s.st
 
   -- CALLS
 
-  g-entered_if : (fits : Bool) (f : TypedFunc) (done : List ℕ) (s : State) → s.stock < n
-      → Grew d n (entered_if rec fits f done s) (entered_if rec' fits f done (more d s))
-  g-entered_if fits f done s h =
+  g-entered_if : (is_main fits : Bool) (f : TypedFunc) (done : List ℕ) (s : State) → s.stock < n
+      → Grew d n (entered_if rec is_main fits f done s)
+      (entered_if rec' is_main fits f done (more d s))
+  g-entered_if is_main fits f done s h =
       g-cond d n fits _ _ _ _
-      (g-run f.body (entered f done s) _ _ h (λ v u k. g-returned d n v _ k)
-      (p-left s.scalars (length s.arrays) s.base s.room))
+      (g-run f.body (entered f done s) _ _ h (λ v u k. g-returned d n is_main v _ k)
+      (p-left is_main s.scalars (length s.arrays) s.base s.room))
       (record { grows = refl })
 
-  g-enter : (f : Option TypedFunc) (done : List ℕ) (s : State) → s.stock < n
-      → Grew d n (enter rec f done s) (enter rec' f done (more d s))
-  g-enter None done s h = g-undefined d n s
-  g-enter (Some f) done s h =
+  g-enter : (is_main : Bool) (f : Option TypedFunc) (done : List ℕ) (s : State) → s.stock < n
+      → Grew d n (enter rec is_main f done s) (enter rec' is_main f done (more d s))
+  g-enter is_main None done s h = g-undefined d n s
+  g-enter is_main (Some f) done s h =
       g-cond d n (nat_eq (length done) f.params) _ _ _ _
-      (g-entered_if (nat_le (s.room + frame f) 1048576) f done s h) (g-undefined d n s)
+      (g-entered_if is_main (nat_le (s.room + frame f) MOST_FRAME_BYTES) f done s h)
+      (g-undefined d n s)
 
   pub g-called : (P : TypedProgram) (f : Callee) (done : List ℕ) (s : State) → s.stock ≤ n
       → Grew d n (called rec P f done s) (called rec' P f done (more d s))
   g-called P (Func f) done s h =
-      g-spend d n s _ _ h (λ s h. g-enter (slice_get P.functions f) done s h)
-      (p-enter rec' puts (slice_get P.functions f) done)
+      g-spend d n s _ _ h (λ s h. g-enter (nat_eq f P.main) (slice_get P.functions f) done s h)
+      (p-enter rec' puts (nat_eq f P.main) (slice_get P.functions f) done)
   g-called P GetChar done s h = g-spend d n s _ _ h (λ s h. g-get_char d n done s h)
       (p-get_char done)
   g-called P PutChar done s h = g-spend d n s _ _ h (λ s h. g-put_char d n done s h)
@@ -486,7 +491,7 @@ module _ (d n : ℕ) (rec rec' : Parts) (below : (t : Task) (s : State) → s.st
       g-run st s _ _ h (λ v s h. g-going_on v s _ _ h (g-locals rest test post body s h))
       (λ v u. p-going_on rec' puts v u _ (p-locals rec' puts rest test post body))
 
-  g-begin : (f : First) (test post : Option TypedExpr) (body : TypedStmt) (s : State) → s.stock < n
+  g-begin : (f : Beginning) (test post : Option TypedExpr) (body : TypedStmt) (s : State) → s.stock < n
       → Grew d n (begin rec f test post body s) (begin rec' f test post body (more d s))
   g-begin init.Nothing test post body s h = below (Turn test post body) s h
   g-begin (init.First e) test post body s h = g-then_turn (Some e) test post body s h

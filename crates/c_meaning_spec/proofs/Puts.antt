@@ -36,11 +36,13 @@ use Rattle.c_meaning_spec.specs.Task.{Task, Of, Run, Turn, Parts, element_of, sc
 use Rattle.c_meaning_spec.specs.Task.{element}
 use Rattle.c_meaning_spec.specs.Call.{entered, returned, left, entered_if, enter, read_from, get_char}
 use Rattle.c_meaning_spec.specs.Call.{put_char, called, arguments}
-use Rattle.c_meaning_spec.specs.Expression.{Node, node_of, converting, unary, operated, after_left, truth}
+use Rattle.c_tree.specs.TypedTrees.{Node, node_of}
+use Rattle.c_meaning_spec.specs.Expression.{converting, unary, operated, after_left, truth}
 use Rattle.c_meaning_spec.specs.Expression.{after_and, after_or, binary, valued, after_choice, after_comma}
 use Rattle.c_meaning_spec.specs.Expression.{assigned, compounded, assign_to, assign_element, assign, giving}
 use Rattle.c_meaning_spec.specs.Expression.{bump_object, bump_element, bump, opened, node, expression}
-use Rattle.c_meaning_spec.specs.Statement.{Level, First, going_on, sequence, dropped, initialised, unset}
+use Rattle.c_tree.specs.TypedTrees.{Level, Beginning}
+use Rattle.c_meaning_spec.specs.Statement.{going_on, sequence, dropped, initialised, unset}
 use Rattle.c_meaning_spec.specs.Statement.{unset_row, declare, run_if, after_if, then_turn, locals, begin}
 use Rattle.c_meaning_spec.specs.Statement.{after_body, after_test, turn, returning, begun}
 use Rattle.c_meaning_spec.specs.Eval.{perform, evaluated, enough, meaning}
@@ -136,15 +138,16 @@ p-element p v s = p-want v s _ (λ w. p-some (element_of p w s) s _ (λ x. p-loa
 
 -- CALLS
 
-p-returned : (v : Signal) (s : State) → Puts s.output s.stock (returned v s)
-p-returned (Returns (Some w)) s = p-go _ s
-p-returned (Returns None) s = p-go _ s
-p-returned Nothing s = p-go _ s
-p-returned _ s = p-over Undefined s
+p-returned : (is_main : Bool) (v : Signal) (s : State)
+    → Puts s.output s.stock (returned is_main v s)
+p-returned is_main (Returns (Some w)) s = p-go _ s
+p-returned is_main (Returns None) s = p-go _ s
+p-returned is_main Nothing s = p-go _ s
+p-returned is_main _ s = p-over Undefined s
 
-pub p-left : (scalars : List (Option ℕ)) (count base room : ℕ) (v : Signal) (s : State)
-    → Puts s.output s.stock (left scalars count base room v s)
-p-left scalars count base room v s = p-returned v _
+pub p-left : (is_main : Bool) (scalars : List (Option ℕ)) (count base room : ℕ) (v : Signal)
+    (s : State) → Puts s.output s.stock (left is_main scalars count base room v s)
+p-left is_main scalars count base room v s = p-returned is_main v _
 
 p-read : (input : List ℕ) (s : State) → Puts s.output s.stock (read_from input s)
 p-read [] s = p-go _ s
@@ -176,21 +179,22 @@ module _ (rec : Parts) (below : (t : Task) (s : State) → Puts s.output s.stock
       → Puts s.output s.stock (then (rec (Run st) s) f)
   p-run st s f h = p-then s.output s.stock (rec (Run st) s) f (below (Run st) s) h
 
-  p-entered_if : (fits : Bool) (f : TypedFunc) (done : List ℕ) (s : State)
-      → Puts s.output s.stock (entered_if rec fits f done s)
-  p-entered_if fits f done s =
+  p-entered_if : (is_main fits : Bool) (f : TypedFunc) (done : List ℕ) (s : State)
+      → Puts s.output s.stock (entered_if rec is_main fits f done s)
+  p-entered_if is_main fits f done s =
       p-cond fits s.output s.stock _ _ (p-run f.body (entered f done s) _
-      (p-left s.scalars (length s.arrays) s.base s.room)) (p-over Deep s)
+      (p-left is_main s.scalars (length s.arrays) s.base s.room)) (p-over Deep s)
 
-  pub p-enter : (f : Option TypedFunc) (done : List ℕ) (s : State)
-      → Puts s.output s.stock (enter rec f done s)
-  p-enter None done s = p-over Undefined s
-  p-enter (Some f) done s = p-cond (nat_eq (length done) f.params) s.output s.stock _ _
-      (p-entered_if _ f done s) (p-over Undefined s)
+  pub p-enter : (is_main : Bool) (f : Option TypedFunc) (done : List ℕ) (s : State)
+      → Puts s.output s.stock (enter rec is_main f done s)
+  p-enter is_main None done s = p-over Undefined s
+  p-enter is_main (Some f) done s = p-cond (nat_eq (length done) f.params) s.output s.stock _ _
+      (p-entered_if is_main _ f done s) (p-over Undefined s)
 
   pub p-called : (P : TypedProgram) (f : Callee) (done : List ℕ) (s : State)
       → Puts s.output s.stock (called rec P f done s)
-  p-called P (Func f) done s = p-spend s _ (λ u. p-enter (slice_get P.functions f) done u)
+  p-called P (Func f) done s =
+      p-spend s _ (λ u. p-enter (nat_eq f P.main) (slice_get P.functions f) done u)
   p-called P GetChar done s = p-spend s _ (λ u. p-get_char done u)
   p-called P PutChar done s = p-spend s _ (λ u. p-put_char done u)
 
@@ -384,7 +388,7 @@ module _ (rec : Parts) (below : (t : Task) (s : State) → Puts s.output s.stock
   p-locals (st ∷ rest) test post body s =
       p-run st s _ (λ v u. p-going_on v u _ (p-locals rest test post body))
 
-  p-begin : (f : First) (test post : Option TypedExpr) (body : TypedStmt) (s : State)
+  p-begin : (f : Beginning) (test post : Option TypedExpr) (body : TypedStmt) (s : State)
       → Puts s.output s.stock (begin rec f test post body s)
   p-begin init.Nothing test post body s = below (Turn test post body) s
   p-begin (init.First e) test post body s = p-then_turn (Some e) test post body s

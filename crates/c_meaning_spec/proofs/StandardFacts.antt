@@ -1,7 +1,7 @@
 -- The definitions at worked programs: what each gives, puts out and costs.
 use Rattle.std.proofs.Common.{◌≡◌, ℕ, pos, negsuc, Some, None, List, [], ◌∷◌, refl}
 use Rattle.c_tree.specs.declared.Kind.TheVariants.{Char, Int}
-use Rattle.c_tree.specs.declared.BinaryOp.TheVariants.{LogicalAnd, ShiftLeft, Add, Divide}
+use Rattle.c_tree.specs.declared.BinaryOp.TheVariants.{LogicalAnd, Equal, ShiftLeft, Add, Divide}
 use Rattle.c_tree.specs.declared.UnaryOp.TheVariants.{Minus}
 use Rattle.c_tree.specs.declared.BumpOp.TheVariants.{PostDec}
 use Rattle.c_tree.specs.declared.Callee.TheVariants.{Func, GetChar, PutChar}
@@ -13,7 +13,7 @@ use Rattle.c_tree.specs.declared.TypedNode.TheOpen.{Number, Name, Element, Call,
 use Rattle.c_tree.specs.declared.TypedNode.TheOpen.{Bump, Binary, Assign}
 use Rattle.c_tree.specs.declared.TypedStmt.{TypedStmt, roll-TypedStmt, out-roll-TypedStmt}
 use Rattle.c_tree.specs.declared.TypedForInit.{roll-TypedForInit, out-roll-TypedForInit}
-use Rattle.c_tree.specs.declared.TypedForInit.TheOpen.{Declare, Plain, Compound, For, Return}
+use Rattle.c_tree.specs.declared.TypedForInit.TheOpen.{Declare, Plain, Compound, If, For, Return}
 use Rattle.c_tree.specs.declared.TypedForInit.TheOpen.{Nothing}
 use Rattle.c_tree.specs.declared.TypedFunc.{TypedFunc}
 use Rattle.c_tree.specs.declared.TypedGlobal.{TypedGlobal}
@@ -25,8 +25,8 @@ use Rattle.c_meaning_spec.specs.State.{State, Go, Over}
 use Rattle.c_meaning_spec.specs.declared.signal.Signal.TheVariants as signal
 use Rattle.c_meaning_spec.specs.Task.{Run}
 use Rattle.c_meaning_spec.specs.Call.{frame, called}
-use Rattle.c_meaning_spec.specs.Expression.{Node}
-use Rattle.c_meaning_spec.specs.Statement.{Level}
+use Rattle.c_tree.specs.TypedTrees.{Node}
+use Rattle.c_tree.specs.TypedTrees.{Level}
 use Rattle.c_meaning_spec.specs.Eval.{evaluated, meaning, eval, Stopped, Done}
 
 ruleset trees = (out-roll-TypedNode, out-roll-TypedStmt, out-roll-TypedForInit)
@@ -87,6 +87,22 @@ three_are_too_few = simp trees refl
 falls_off : eval (program [] []) [] 2 ≡ Done [] (pos 0) 2
 unfolding eval meaning evaluated converted
 falls_off = simp trees refl
+
+-- so does that of a main that main calls: int n; int main(void) { if (n == 0) { n = 1; return main()
+-- + 5; } }
+abbrev n : TypedExpr
+n = int (Name (place.Global 0))
+
+abbrev calls_itself : TypedProgram
+calls_itself = program (record { kind = Int; length = None; init = [] } ∷ [])
+    (statement (If (int (Binary Equal n (number 0)))
+    (statement (Compound
+    (statement (Plain (Some (int (Assign None Int n (number 1)))))
+    ∷ return_of (int (Binary Add (int (Call (Func 0) [])) (number 5))) ∷ []))) None) ∷ [])
+
+called_main_falls_off : eval calls_itself [] 30 ≡ Done [] (pos 5) 20
+unfolding eval meaning evaluated converted operate
+called_main_falls_off = simp trees refl
 
 -- int x; return x;
 unset_local : eval (program [] (declared ∷ return_of x ∷ [])) [] 9 ≡ Stopped Undefined []

@@ -4,11 +4,13 @@ use Rattle.std.proofs.Common.{Option, refl, sym, ap, subst, ◌∙◌, arith}
 use Rattle.c_tree.specs.declared.Callee.TheVariants.{Func}
 use Rattle.c_tree.specs.declared.TypedProgram.{TypedProgram}
 use Rattle.c_meaning_spec.specs.declared.signal.Signal.{Signal}
+use Rattle.c_meaning_spec.specs.declared.signal.Signal.TheVariants.{Nothing, Value, Breaks}
+use Rattle.c_meaning_spec.specs.declared.signal.Signal.TheVariants.{Continues, Returns}
 use Rattle.c_meaning_spec.specs.declared.signal.Ending.TheVariants.{More, Undefined, Deep}
 use Rattle.c_meaning_spec.specs.State.{State, Result, Go, Over}
 use Rattle.c_meaning_spec.specs.Output.{IsPrefix, output_of}
 use Rattle.c_meaning_spec.specs.Call.{called}
-use Rattle.c_meaning_spec.specs.Eval.{Outcome, Stopped, Done, meaning, main_result, start, outcome, eval}
+use Rattle.c_meaning_spec.specs.Eval.{Outcome, Stopped, Done, meaning, ended, start, outcome, eval}
 use Rattle.c_meaning_spec.specs.Laws.{IsMore, output_in, StaysWithMoreSteps, StepsAreLeast, OutputGoesOn}
 use Rattle.c_meaning_spec.specs.Laws.{MeansByParts}
 use Rattle.c_meaning_spec.proofs.Puts.{Puts, stock_of, same-prefix, p-meaning, p-called}
@@ -43,7 +45,7 @@ steps_same n d m = omega arith
 stays : (n d : ℕ) (r r' : Result) → Grew d n r r' → ¬ IsMore (outcome n r)
     → outcome (n + d) r' ≡ outcome n r
 stays n d (Go v s) r' g h = ap (outcome (n + d)) g.grows.0
-    ∙ ap (λ (k : ℕ). Done s.output (main_result v) k) (steps_same n d s.stock)
+    ∙ ap (λ (k : ℕ). ended v s.output k) (steps_same n d s.stock)
 stays n d (Over More s) r' g h = absurd (h tt)
 stays n d (Over Undefined s) r' g h = ap (outcome (n + d)) g.grows
 stays n d (Over Deep s) r' g h = ap (outcome (n + d)) g.grows
@@ -55,9 +57,34 @@ stays-with-more-steps P input n d h = stays n d (run P input n) (run P input (n 
 
 -- OUTPUT
 
+-- the output stays, whatever main gives
+output-ended : (v : Signal) (out : List ℕ) (steps : ℕ) → output_in (ended v out steps) ≡ out
+output-ended (Value w) out steps = refl
+output-ended Nothing out steps = refl
+output-ended Breaks out steps = refl
+output-ended Continues out steps = refl
+output-ended (Returns w) out steps = refl
+
 output-outcome : (n : ℕ) (r : Result) → output_in (outcome n r) ≡ output_of r
-output-outcome n (Go v s) = refl
+output-outcome n (Go v s) = output-ended v s.output (n - s.stock)
 output-outcome n (Over why s) = refl
+
+-- the end of main is no want of steps
+no-more-ended : (v : Signal) (out : List ℕ) (steps : ℕ) → ¬ IsMore (ended v out steps)
+no-more-ended (Value w) out steps h = h
+no-more-ended Nothing out steps h = h
+no-more-ended Breaks out steps h = h
+no-more-ended Continues out steps h = h
+no-more-ended (Returns w) out steps h = h
+
+-- the steps of a program that is done
+ended-steps : (v : Signal) (out o : List ℕ) (steps k : ℕ) (result : ℤ)
+    → ended v out steps ≡ Done o result k → steps ≡ k
+ended-steps (Value w) out o steps k result e = cc
+ended-steps Nothing out o steps k result e = absurd (cc)
+ended-steps Breaks out o steps k result e = absurd (cc)
+ended-steps Continues out o steps k result e = absurd (cc)
+ended-steps (Returns w) out o steps k result e = absurd (cc)
 
 goes_on : (n d : ℕ) (r r' : Result) → Grew d n r r' → IsPrefix (output_of r) (output_of r')
 goes_on n d (Go v s) r' g = subst (λ (r : Result). IsPrefix s.output (output_of r)) (sym g.grows.0)
@@ -70,10 +97,9 @@ goes_on n d (Over Deep s) r' g = subst (λ (r : Result). IsPrefix s.output (outp
 
 prefix-outcome : (n m : ℕ) (r r' : Result) → IsPrefix (output_of r) (output_of r')
     → IsPrefix (output_in (outcome n r)) (output_in (outcome m r'))
-prefix-outcome n m (Go v s) (Go v' s') h = h
-prefix-outcome n m (Go v s) (Over why' s') h = h
-prefix-outcome n m (Over why s) (Go v' s') h = h
-prefix-outcome n m (Over why s) (Over why' s') h = h
+prefix-outcome n m r r' h =
+    subst (λ (o : List ℕ). IsPrefix o (output_in (outcome m r'))) (sym (output-outcome n r))
+    (subst (λ (o : List ℕ). IsPrefix (output_of r) o) (sym (output-outcome m r')) h)
 
 pub output-goes-on : OutputGoesOn
 unfolding eval
@@ -86,7 +112,7 @@ output-goes-on P input n d =
 -- a run with m steps is not short of steps, where with d more it leaves d
 enough : (m d : ℕ) (r r' : Result) (v : Signal) (s : State) → Grew d m r r' → r' ≡ Go v s
     → s.stock ≡ d → ¬ IsMore (outcome m r)
-enough m d (Go v1 s1) r' v s g e k h = h
+enough m d (Go v1 s1) r' v s g e k h = no-more-ended v1 s1.output (m - s1.stock) h
 enough m d (Over More s1) r' v s g e k h =
     let w : s.stock < d = subst (λ (r : Result). Within d r) e g.grows.2 in absurd (omega arith)
 enough m d (Over Undefined s1) r' v s g e k h = h
@@ -95,7 +121,8 @@ enough m d (Over Deep s1) r' v s g e k h = h
 steps-most : (n : ℕ) (r : Result) (out : List ℕ) (result : ℤ) (steps : ℕ)
     → outcome n r ≡ Done out result steps → steps ≤ n
 steps-most n (Go v s) out result steps e =
-    let k : n - s.stock ≡ steps = cc in omega arith
+    let k : n - s.stock ≡ steps = ended-steps v s.output out (n - s.stock) steps result e in
+    omega arith
 steps-most n (Over why s) out result steps e = absurd (cc)
 
 abbrev Least : TypedProgram → List ℕ → ℕ → List ℕ → ℤ → ℕ → Type 0
@@ -125,7 +152,7 @@ exact : (P : TypedProgram) (input : List ℕ) (n : ℕ) (out : List ℕ) (result
 unfolding eval
 exact P input n out result steps (Over why s) is e l whole = absurd (cc)
 exact P input n out result steps (Go v s) is e l whole =
-    let m : n - s.stock ≡ steps = cc in
+    let m : n - s.stock ≡ steps = ended-steps v s.output out (n - s.stock) steps result e in
     let split : steps + s.stock ≡ n = omega arith in
     let there : run P input (steps + s.stock) ≡ Go v s = ap (run P input) split ∙ is in
     let not : ¬ IsMore (eval P input steps) =

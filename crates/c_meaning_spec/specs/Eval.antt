@@ -3,18 +3,19 @@ use Rattle.std.specs.Prelude.{ℕ, zero, suc, ℤ, ◌+◌, ◌-◌, ◌*◌, Li
 use Rattle.std.specs.Prelude.{None, length, replicate}
 use Rattle.c_tree.specs.declared.Kind.TheVariants.{Int}
 use Rattle.c_tree.specs.declared.Callee.TheVariants.{Func}
+use Rattle.c_tree.specs.TypedTrees.{node_of}
 use Rattle.c_tree.specs.declared.TypedGlobal.{TypedGlobal}
 use Rattle.c_tree.specs.declared.TypedProgram.{TypedProgram}
 use Rattle.c_tree.specs.declared.TypedStmt.{out-TypedStmt}
 use Rattle.c_meaning_spec.specs.declared.signal.Signal.{Signal}
 use Rattle.c_meaning_spec.specs.declared.signal.Signal.TheVariants.{Value}
 use Rattle.c_meaning_spec.specs.declared.signal.Ending.{Ending}
-use Rattle.c_meaning_spec.specs.declared.signal.Ending.TheVariants.{More}
+use Rattle.c_meaning_spec.specs.declared.signal.Ending.TheVariants.{More, Undefined}
 use Rattle.c_meaning_spec.specs.State.{State, Result, Go, Over}
 use Rattle.c_constant.specs.Kinds.{number, converted}
 use Rattle.c_meaning_spec.specs.Task.{Task, Of, Run, Turn, Parts}
 use Rattle.c_meaning_spec.specs.Call.{called}
-use Rattle.c_meaning_spec.specs.Expression.{node_of, expression}
+use Rattle.c_meaning_spec.specs.Expression.{expression}
 use Rattle.c_meaning_spec.specs.Statement.{statement, turn}
 
 -- what a task does, where rec evaluates its parts
@@ -30,6 +31,7 @@ unfoldable pub evaluated : ℕ → TypedProgram → Task → State → Result
 evaluated zero P t s = Over More s
 evaluated (suc k) P t s = perform (evaluated k P) P t s
 
+-- the depth that is enough for n steps
 abbrev pub enough : ℕ → ℕ
 enough n = 2 * n + 2
 
@@ -39,6 +41,7 @@ meaning P t s = evaluated (enough s.stock) P t s
 
 -- THE PROGRAM
 
+-- how many cells a global has
 abbrev pub length_of : Option ℕ → ℕ
 length_of None = 1
 length_of (Some n) = n
@@ -47,6 +50,7 @@ length_of (Some n) = n
 abbrev pub first_cells : TypedGlobal → List (Option ℕ)
 first_cells g = map Some g.init ++ replicate (length_of g.length - length g.init) (Some 0)
 
+-- the state before the call of main
 abbrev pub start : TypedProgram → List ℕ → ℕ → State
 start P input n = record {
   stock = n;
@@ -63,14 +67,16 @@ pub data Outcome : Type 0 where
   Stopped : (why : Ending) (output : List ℕ) → Outcome
   Done : (output : List ℕ) (result : ℤ) (steps : ℕ) → Outcome
 
--- what main returns, as an int; its end returns 0
-abbrev pub main_result : Signal → ℤ
-main_result (Value w) = number Int (converted Int w)
-main_result _ = number Int 0
+-- the end of the call of main: the value that it gives, as an int; another function that stands for
+-- main may give none
+abbrev pub ended : Signal → List ℕ → ℕ → Outcome
+ended (Value w) output steps = Done output (number Int (converted Int w)) steps
+ended _ output steps = Stopped Undefined output
 
+-- what the call of main comes to, of a stock of n
 abbrev pub outcome : ℕ → Result → Outcome
 outcome n (Over why s) = Stopped why s.output
-outcome n (Go v s) = Done s.output (main_result v) (n - s.stock)
+outcome n (Go v s) = ended v s.output (n - s.stock)
 
 -- the call of main
 unfoldable pub eval : TypedProgram → List ℕ → ℕ → Outcome

@@ -7,8 +7,8 @@ use Rattle.c_tree.specs.declared.UnaryOp.{UnaryOp}
 use Rattle.c_tree.specs.declared.BumpOp.{BumpOp}
 use Rattle.c_tree.specs.declared.Place.{Place}
 use Rattle.c_tree.specs.declared.TypedExpr.{TypedExpr}
-use Rattle.c_tree.specs.declared.TypedNode.{TypedNode, out-TypedNode}
-use Rattle.c_tree.specs.declared.TypedNode.TheOpen.{TypedNode-F, Number, Name, Element, Call, Unary}
+use Rattle.c_tree.specs.TypedTrees.{Node, node_of}
+use Rattle.c_tree.specs.declared.TypedNode.TheOpen.{Number, Name, Element, Call, Unary}
 use Rattle.c_tree.specs.declared.TypedNode.TheOpen.{Cast, Convert, Bump, Binary, Choice, Assign}
 use Rattle.c_tree.specs.declared.TypedNode.TheOpen.{Comma}
 use Rattle.c_tree.specs.declared.TypedProgram.{TypedProgram}
@@ -24,27 +24,25 @@ use Rattle.c_meaning_spec.specs.Word.{bump_value}
 use Rattle.c_meaning_spec.specs.Task.{Parts, Of, element_of, scalar_of, name, element}
 use Rattle.c_meaning_spec.specs.Call.{arguments}
 
--- one level of an expression
-abbrev pub Node : Type 0
-Node = TypedNode-F TypedNode TypedExpr
-
-abbrev pub node_of : TypedExpr → Node
-node_of e = out-TypedNode e.node
-
 -- OPERATIONS
 
+-- the value of an expression, converted to a type
 abbrev pub converting : Kind → Signal → State → Result
 converting to v s = want v s (λ w. Go (Value (converted to w)) s)
 
+-- an operation on the value of an operand
 abbrev pub unary : UnaryOp → Option Kind → Signal → State → Result
 unary op k v s = want v s (λ a. given (unary_of op k a) s)
 
+-- an operation on the value of the left operand and that of the right one
 abbrev pub operated : BinaryOp → Option Kind → ℕ → Signal → State → Result
 operated op k a v s = want v s (λ b. given (binary_of op k a b) s)
 
+-- the right operand after the left one
 abbrev pub after_left : Parts → BinaryOp → Option Kind → TypedExpr → Signal → State → Result
 after_left rec op k right v s = want v s (λ a. then (rec (Of right) s) (operated op k a))
 
+-- 1 where the value is not 0, and else 0
 abbrev pub truth : Signal → State → Result
 truth v s = want v s (λ w. Go (Value (truth_of w)) s)
 
@@ -53,10 +51,12 @@ abbrev pub after_and : Parts → TypedExpr → Signal → State → Result
 after_and rec right v s = want v s (λ w. cond (is_false w) (Go (Value 0) s)
     (then (rec (Of right) s) truth))
 
+-- the same of `||`
 abbrev pub after_or : Parts → TypedExpr → Signal → State → Result
 after_or rec right v s = want v s (λ w. cond (is_false w) (then (rec (Of right) s) truth)
     (Go (Value 1) s))
 
+-- an operation on two operands
 abbrev pub binary : Parts → BinaryOp → TypedExpr → TypedExpr → State → Result
 binary rec LogicalAnd left right s = then (rec (Of left) s) (after_and rec right)
 binary rec LogicalOr left right s = then (rec (Of left) s) (after_or rec right)
@@ -66,19 +66,23 @@ binary rec op left right s = then (rec (Of left) s) (after_left rec op left.kind
 abbrev pub valued : Signal → State → Result
 valued v s = want v s (λ w. Go (Value w) s)
 
+-- the leg that the test chooses
 abbrev pub after_choice : Parts → TypedExpr → TypedExpr → Signal → State → Result
 after_choice rec one other v s =
     want v s (λ w. cond (is_false w) (then (rec (Of other) s) valued)
     (then (rec (Of one) s) valued))
 
+-- the right side of a comma after the left one
 abbrev pub after_comma : Parts → TypedExpr → Signal → State → Result
 after_comma rec right v s = then (rec (Of right) s) valued
 
 -- ASSIGNMENT
 
+-- the value of the right side is stored
 abbrev pub assigned : Object → Signal → State → Result
 assigned x v s = want v s (λ w. store s x w)
 
+-- the result of the operation on the old value and that of the right side is stored
 abbrev pub compounded : BinaryOp → Option Kind → Kind → Object → ℕ → Signal → State → Result
 compounded op to at x old v s = want v s (λ b. with_some (compound_of op to at old b) s
     (λ w. store s x w))
@@ -90,6 +94,7 @@ assign_to rec None to at right s x = then (rec (Of right) s) (assigned x)
 assign_to rec (Some op) to at right s x =
     with_some (held (cell s x)) s (λ old. then (rec (Of right) s) (compounded op to at x old))
 
+-- an assignment to the element of the array that p names, by the value of its index
 abbrev pub assign_element : Parts → Option BinaryOp → Option Kind → Kind → Place → TypedExpr
     → Signal → State → Result
 assign_element rec op to at p right v s =
@@ -102,17 +107,21 @@ assign rec op to at (Element p index) right s =
     then (rec (Of index) s) (assign_element rec op to at p right)
 assign rec op to at _ right s = Over Undefined s
 
+-- after a store: the value that the whole gives
 abbrev pub giving : ℕ → Signal → State → Result
 giving w v s = Go (Value w) s
 
+-- ++ and -- on an object
 abbrev pub bump_object : BumpOp → Option Kind → State → Object → Result
 bump_object op k s x =
     with_some (held (cell s x)) s (λ old.
     with_some (bump_of op k old) s (λ new. then (store s x new) (giving (bump_value op old new))))
 
+-- ++ and -- on an element, by the value of its index
 abbrev pub bump_element : BumpOp → Option Kind → Place → Signal → State → Result
 bump_element op k p v s = want v s (λ w. with_some (element_of p w s) s (bump_object op k s))
 
+-- of the operand only an index is evaluated
 abbrev pub bump : Parts → BumpOp → Option Kind → Node → State → Result
 bump rec op k (Name p) s = with_some (scalar_of p) s (bump_object op k s)
 bump rec op k (Element p index) s = then (rec (Of index) s) (bump_element op k p)

@@ -14,6 +14,7 @@ IsMore (Stopped Undefined out) = ⊥
 IsMore (Stopped Deep out) = ⊥
 IsMore (Done out result steps) = ⊥
 
+-- what was put out before an evaluation ended
 abbrev pub output_in : Outcome → List ℕ
 output_in (Stopped why out) = out
 output_in (Done out result steps) = out

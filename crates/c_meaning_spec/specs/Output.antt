@@ -2,6 +2,7 @@
 use Rattle.std.specs.Prelude.{◌≡◌, ℕ, List, ◌++◌}
 use Rattle.c_meaning_spec.specs.State.{Result, Go, Over}
 
+-- what was put out before a result
 abbrev pub output_of : Result → List ℕ
 output_of (Go v s) = s.output
 output_of (Over why s) = s.output

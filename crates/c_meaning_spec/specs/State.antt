@@ -40,6 +40,7 @@ abbrev pub spend_of : ℕ → State → (State → Result) → Result
 spend_of zero s next = Over More s
 spend_of (suc n) s next = next (record s { stock = n })
 
+-- a step of the stock
 abbrev pub spend : State → (State → Result) → Result
 spend s next = spend_of s.stock s next
 
@@ -53,11 +54,13 @@ abbrev pub with_some : {A : Type 0} → Option A → State → (A → Result) �
 with_some None s next = Over Undefined s
 with_some (Some x) s next = next x
 
+-- a value, if there is one; otherwise it is undefined
 abbrev pub given : Option ℕ → State → Result
 given c s = with_some c s (λ w. Go (Value w) s)
 
 -- OBJECTS
 
+-- a cell of an array
 abbrev pub cell_in : Option (List (Option ℕ)) → ℕ → Option (Option ℕ)
 cell_in None i = None
 cell_in (Some row) i = slice_get row i
@@ -72,23 +75,29 @@ abbrev pub held : Option (Option ℕ) → Option ℕ
 held None = None
 held (Some c) = c
 
+-- the cells of an array, if it is there
 abbrev pub row_in : Option (List (Option ℕ)) → List (Option ℕ)
 row_in None = []
 row_in (Some row) = row
 
+-- the arrays with one element set
 abbrev pub element_set : List (List (Option ℕ)) → ℕ → ℕ → Option ℕ → List (List (Option ℕ))
 element_set rows a i c = slice_set rows a (slice_set (row_in (slice_get rows a)) i c)
 
+-- a state in which an object holds something else
 abbrev pub written : State → Object → Option ℕ → State
 written s (InScalar i) c = record s { scalars = slice_set s.scalars i c }
 written s (InArray a i) c = record s { arrays = element_set s.arrays a i c }
 
+-- the value that an object holds
 abbrev pub load : Object → State → Result
 load x s = given (held (cell s x)) s
 
+-- a word into an object, if it is there; the whole gives the word
 abbrev pub store_in : Option (Option ℕ) → State → Object → ℕ → Result
 store_in None s x w = Over Undefined s
 store_in (Some c) s x w = Go (Value w) (written s x (Some w))
 
+-- a word into an object
 abbrev pub store : State → Object → ℕ → Result
 store s x w = store_in (cell s x) s x w

@@ -3,12 +3,12 @@ use Rattle.std.specs.Prelude.{ℕ, ◌+◌, cond, List, [], ◌∷◌, Option, S
 use Rattle.std.specs.Prelude.{length, replicate}
 use Rattle.c_tree.specs.declared.Place.{Place}
 use Rattle.c_tree.specs.declared.Place.TheVariants.{Scalar, Array}
+use Rattle.c_tree.specs.TypedTrees.{Level, Beginning}
 use Rattle.c_tree.specs.declared.TypedExpr.{TypedExpr}
 use Rattle.c_tree.specs.declared.TypedStmt.{TypedStmt}
-use Rattle.c_tree.specs.declared.TypedForInit.{TypedForInit, out-TypedForInit}
-use Rattle.c_tree.specs.declared.TypedForInit.TheOpen.{TypedStmt-F, Declare, Plain, Compound, If}
+use Rattle.c_tree.specs.declared.TypedForInit.{out-TypedForInit}
+use Rattle.c_tree.specs.declared.TypedForInit.TheOpen.{Declare, Plain, Compound, If}
 use Rattle.c_tree.specs.declared.TypedForInit.TheOpen.{While, Do, For, Break, Continue, Return}
-use Rattle.c_tree.specs.declared.TypedForInit.TheOpen.{TypedForInit-F}
 use Rattle.c_tree.specs.declared.TypedForInit.TheOpen as init
 use Rattle.c_meaning_spec.specs.declared.signal.Signal.{Signal}
 use Rattle.c_meaning_spec.specs.declared.signal.Signal.TheVariants.{Nothing, Breaks, Continues, Returns}
@@ -18,18 +18,12 @@ use Rattle.c_meaning_spec.specs.State.{State, Result, Go, Over, then, spend, wan
 use Rattle.c_meaning_spec.specs.Word.{is_false}
 use Rattle.c_meaning_spec.specs.Task.{Parts, Of, Run, Turn}
 
--- one level of a statement, and of the first part of a for
-abbrev pub Level : Type 0
-Level = TypedStmt-F TypedForInit TypedStmt
-
-abbrev pub First : Type 0
-First = TypedForInit-F TypedForInit TypedStmt
-
 -- what follows where the statement before gave nothing
 abbrev pub going_on : Signal → State → (State → Result) → Result
 going_on Nothing s next = next s
 going_on v s next = Go v s
 
+-- statements one after another
 abbrev pub sequence : Parts → List TypedStmt → State → Result
 sequence rec [] s = Go Nothing s
 sequence rec (st ∷ rest) s = then (rec (Run st) s) (λ v s. going_on v s (sequence rec rest))
@@ -40,14 +34,17 @@ dropped v s = Go Nothing s
 
 -- DECLARATIONS
 
+-- a local's initialiser is stored
 abbrev pub initialised : ℕ → Signal → State → Result
 initialised i v s = want v s (λ w. then (store s (InScalar i) w) dropped)
 
+-- the declaration of a scalar: unset, and then initialised
 abbrev pub unset : Parts → ℕ → Option TypedExpr → Option (Option ℕ) → State → Result
 unset rec i e None s = Over Undefined s
 unset rec i None (Some c) s = Go Nothing (written s (InScalar i) None)
 unset rec i (Some e) (Some c) s = then (rec (Of e) (written s (InScalar i) None)) (initialised i)
 
+-- the declaration of an array: its elements are unset
 abbrev pub unset_row : ℕ → Option (List (Option ℕ)) → State → Result
 unset_row a None s = Over Undefined s
 unset_row a (Some row) s = Go Nothing (record s {
@@ -63,10 +60,12 @@ declare rec _ e s = Over Undefined s
 
 -- CHOICES AND LOOPS
 
+-- a statement, if there is one
 abbrev pub run_if : Parts → Option TypedStmt → State → Result
 run_if rec None s = Go Nothing s
 run_if rec (Some st) s = rec (Run st) s
 
+-- the branch that the test chooses
 abbrev pub after_if : Parts → TypedStmt → Option TypedStmt → Signal → State → Result
 after_if rec one other v s = want v s (λ w. cond (is_false w) (run_if rec other s)
     (rec (Run one) s))
@@ -84,11 +83,13 @@ locals rec [] test post body s = rec (Turn test post body) s
 locals rec (st ∷ rest) test post body s =
     then (rec (Run st) s) (λ v s. going_on v s (locals rec rest test post body))
 
-abbrev pub begin : Parts → First → Option TypedExpr → Option TypedExpr → TypedStmt → State → Result
+-- the first part of a for, and then its first turn
+abbrev pub begin : Parts → Beginning → Option TypedExpr → Option TypedExpr → TypedStmt → State → Result
 begin rec init.Nothing test post body s = rec (Turn test post body) s
 begin rec (init.First e) test post body s = then_turn rec (Some e) test post body s
 begin rec (init.Locals all) test post body s = locals rec all test post body s
 
+-- what follows the body of a loop: the next turn, the end of the loop, or that of the function
 abbrev pub after_body : Parts → Option TypedExpr → Option TypedExpr → TypedStmt → Signal → State
     → Result
 after_body rec test post body Nothing s = then_turn rec post test post body s
@@ -96,6 +97,7 @@ after_body rec test post body Continues s = then_turn rec post test post body s
 after_body rec test post body Breaks s = Go Nothing s
 after_body rec test post body v s = Go v s
 
+-- the body where the test holds
 abbrev pub after_test : Parts → Option TypedExpr → Option TypedExpr → TypedStmt → Signal → State
     → Result
 after_test rec test post body v s =
@@ -109,6 +111,7 @@ turn rec (Some t) post body s = then (rec (Of t) s) (after_test rec (Some t) pos
 
 -- STATEMENTS
 
+-- a return of the value of an expression
 abbrev pub returning : Signal → State → Result
 returning v s = want v s (λ w. Go (Returns (Some w)) s)
 
@@ -127,5 +130,6 @@ begun rec Continue s = Go Continues s
 begun rec (Return None) s = Go (Returns None) s
 begun rec (Return (Some e)) s = then (rec (Of e) s) returning
 
+-- each statement spends its step before its parts
 abbrev pub statement : Parts → Level → State → Result
 statement rec st s = spend s (begun rec st)

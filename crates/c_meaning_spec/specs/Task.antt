@@ -28,6 +28,7 @@ array_of (Global g) s = Some g
 array_of (Scalar i) s = held (cell s (InScalar i))
 array_of (Array a) s = Some (s.base + a)
 
+-- an element of an array, if there is one
 abbrev pub element_in : Option ℕ → ℕ → Option Object
 element_in None w = None
 element_in (Some a) w = Some (InArray a w)
@@ -43,10 +44,12 @@ scalar_of (Global g) = Some (InArray g 0)
 scalar_of (Scalar i) = Some (InScalar i)
 scalar_of (Array a) = None
 
+-- whether a global has a length
 abbrev pub has_length : Option ℕ → Bool
 has_length None = false
 has_length (Some n) = true
 
+-- whether a global is an array
 abbrev pub is_array : Option TypedGlobal → Bool
 is_array None = false
 is_array (Some g) = has_length g.length
@@ -58,5 +61,6 @@ name P (Global g) s = cond (is_array (slice_get P.globals g)) (Go (Value g) s)
 name P (Scalar i) s = load (InScalar i) s
 name P (Array a) s = Go (Value (s.base + a)) s
 
+-- the value of an element, by the value of its index
 abbrev pub element : Place → Signal → State → Result
 element p v s = want v s (λ w. with_some (element_of p w s) s (λ x. load x s))

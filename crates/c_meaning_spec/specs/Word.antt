@@ -13,6 +13,7 @@ use Rattle.c_constant.specs.Operation.{operate, operate_one}
 abbrev pub is_false : ℕ → Bool
 is_false w = nat_eq w 0
 
+-- whether a word is not 0, as an int
 abbrev pub truth_of : ℕ → ℕ
 truth_of w = cond (is_false w) 0 1
 
@@ -23,10 +24,12 @@ abbrev pub binary_of : BinaryOp → Option Kind → ℕ → ℕ → Option ℕ
 binary_of op None a b = None
 binary_of op (Some k) a b = operate op k a b
 
+-- the same of an operation on one word
 abbrev pub unary_of : UnaryOp → Option Kind → ℕ → Option ℕ
 unary_of op None a = None
 unary_of op (Some k) a = operate_one op k a
 
+-- a word converted, if there is one
 abbrev pub converted_if : Kind → Option ℕ → Option ℕ
 converted_if k None = None
 converted_if k (Some w) = Some (converted k w)
@@ -36,6 +39,7 @@ abbrev pub compound_of : BinaryOp → Option Kind → Kind → ℕ → ℕ → O
 compound_of op None at old b = None
 compound_of op (Some k) at old b = converted_if k (operate op at (converted at old) b)
 
+-- the operation of ++ and --
 abbrev pub bump_operation : BumpOp → BinaryOp
 bump_operation PreInc = Add
 bump_operation PreDec = Subtract

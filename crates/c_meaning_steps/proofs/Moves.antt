@@ -30,12 +30,15 @@ use Rattle.c_meaning_spec.specs.State.{given, cell, held, store_in}
 use Rattle.c_meaning_spec.specs.Word.{is_false, compound_of, bump_of, bump_value}
 use Rattle.c_meaning_spec.specs.Task.{Task, Of, Run, Turn, Parts, element_of, scalar_of, is_array, name}
 use Rattle.c_meaning_spec.specs.Task.{element}
+use Rattle.c_tree.specs.declared.limits.TheConstants.{MOST_FRAME_BYTES}
 use Rattle.c_meaning_spec.specs.Call.{frame, returned, entered_if, enter, read_from, get_char, put_char}
 use Rattle.c_meaning_spec.specs.Call.{called, arguments}
-use Rattle.c_meaning_spec.specs.Expression.{Node, node_of, converting, binary, assign_to, assign, giving}
+use Rattle.c_tree.specs.TypedTrees.{Node, node_of}
+use Rattle.c_meaning_spec.specs.Expression.{converting, binary, assign_to, assign, giving}
 use Rattle.c_meaning_spec.specs.Expression.{bump_object, bump, opened, node, expression, compounded}
 use Rattle.c_meaning_spec.specs.Expression.{assign_element, after_left}
-use Rattle.c_meaning_spec.specs.Statement.{Level, First, going_on, sequence, dropped, unset, unset_row}
+use Rattle.c_tree.specs.TypedTrees.{Level, Beginning}
+use Rattle.c_meaning_spec.specs.Statement.{going_on, sequence, dropped, unset, unset_row}
 use Rattle.c_meaning_spec.specs.Statement.{declare, run_if, then_turn, locals, begin, after_body, turn}
 use Rattle.c_meaning_spec.specs.Statement.{begun, statement, initialised, after_test, after_if}
 use Rattle.c_meaning_spec.specs.Eval.{meaning}
@@ -180,15 +183,15 @@ module _ (P : TypedProgram) where
   s-bump op k (Element p index) s = refl
   s-bump op k _ s = refl
 
-  s-entered : (fits : Bool) (f : TypedFunc) (done : List ℕ) (s : State)
-      → settle (entered_step fits f done s) ≡ entered_if means fits f done s
-  s-entered fits f done s = s-cond fits _ _ _ _ refl refl
+  s-entered : (is_main fits : Bool) (f : TypedFunc) (done : List ℕ) (s : State)
+      → settle (entered_step is_main fits f done s) ≡ entered_if means is_main fits f done s
+  s-entered is_main fits f done s = s-cond fits _ _ _ _ refl refl
 
-  s-enter : (f : Option TypedFunc) (done : List ℕ) (s : State)
-      → settle (enter_step f done s) ≡ enter means f done s
-  s-enter None done s = refl
-  s-enter (Some f) done s = s-cond (nat_eq (length done) f.params) _ _ _ _
-      (s-entered (nat_le (s.room + frame f) 1048576) f done s) refl
+  s-enter : (is_main : Bool) (f : Option TypedFunc) (done : List ℕ) (s : State)
+      → settle (enter_step is_main f done s) ≡ enter means is_main f done s
+  s-enter is_main None done s = refl
+  s-enter is_main (Some f) done s = s-cond (nat_eq (length done) f.params) _ _ _ _
+      (s-entered is_main (nat_le (s.room + frame f) MOST_FRAME_BYTES) f done s) refl
 
   s-read : (input : List ℕ) (s : State) → settle (read_step input s) ≡ read_from input s
   s-read [] s = refl
@@ -205,7 +208,8 @@ module _ (P : TypedProgram) where
 
   pub s-called : (f : Callee) (done : List ℕ) (s : State)
       → settle (called_step P f done s) ≡ called means P f done s
-  s-called (Func f) done s = s-spend s _ _ (λ s. s-enter (slice_get P.functions f) done s)
+  s-called (Func f) done s =
+      s-spend s _ _ (λ s. s-enter (nat_eq f P.main) (slice_get P.functions f) done s)
   s-called GetChar done s = s-spend s _ _ (λ s. s-get done s)
   s-called PutChar done s = s-spend s _ _ (λ s. s-put done s)
 
@@ -335,7 +339,7 @@ module _ (P : TypedProgram) where
   s-locals [] test post body s = refl
   s-locals (st ∷ rest) test post body s = refl
 
-  s-begin : (f : First) (test post : Option TypedExpr) (body : TypedStmt) (s : State)
+  s-begin : (f : Beginning) (test post : Option TypedExpr) (body : TypedStmt) (s : State)
       → settle (begin_step P f test post body s) ≡ begin means f test post body s
   s-begin init.Nothing test post body s = refl
   s-begin (init.First e) test post body s = s-then_turn (Some e) test post body s
@@ -378,11 +382,12 @@ module _ (P : TypedProgram) where
 
   -- WHAT FOLLOWS
 
-  s-returned : (v : Signal) (s : State) → settle (returned_step v s) ≡ returned v s
-  s-returned (Returns (Some w)) s = refl
-  s-returned (Returns None) s = refl
-  s-returned Nothing s = refl
-  s-returned _ s = refl
+  s-returned : (is_main : Bool) (v : Signal) (s : State)
+      → settle (returned_step is_main v s) ≡ returned is_main v s
+  s-returned is_main (Returns (Some w)) s = refl
+  s-returned is_main (Returns None) s = refl
+  s-returned is_main Nothing s = refl
+  s-returned is_main _ s = refl
 
   s-going_on : (v : Signal) (s : State) (f : Step) (g : State → Result) → settle f ≡ g s
       → settle (going_on_step v s f) ≡ going_on v s g
@@ -416,7 +421,7 @@ module _ (P : TypedProgram) where
       s-want v s _ _ (λ w. s-compounded op to at x old w s)
   s-resume (FBumpElement op k p) v s =
       s-want v s _ _ (λ w. s-some (element_of p w s) s _ _ (λ x. s-bump_object op k s x))
-  s-resume (FCaller scalars count base room) v s = s-returned v _
+  s-resume (FCaller is_main scalars count base room) v s = s-returned is_main v _
   s-resume FDropped v s = refl
   s-resume (FInitialised i) v s = s-want v s _ _ (λ w. s-initialised i w s)
   s-resume (FSequence rest) v s = s-going_on v s _ _ (s-sequence rest s)

@@ -16,7 +16,8 @@ use Rattle.c_meaning_spec.specs.State.{State, Result, Go, Over, then, spend, spe
 use Rattle.c_meaning_spec.specs.State.{cell, held, load}
 use Rattle.c_meaning_spec.specs.Word.{binary_of}
 use Rattle.c_meaning_spec.specs.Task.{Of, Parts, element_of, element}
-use Rattle.c_meaning_spec.specs.Expression.{Node, node_of, node, expression, binary, operated, after_left}
+use Rattle.c_tree.specs.TypedTrees.{Node, node_of}
+use Rattle.c_meaning_spec.specs.Expression.{node, expression, binary, operated, after_left}
 use Rattle.c_meaning_spec.specs.Eval.{meaning}
 use Rattle.c_meaning_spec.proofs.Equations.{meaning-is}
 use Rattle.c_meaning_steps.specs.declared.leaf.Leaf.{Leaf}

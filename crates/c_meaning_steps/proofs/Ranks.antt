@@ -29,9 +29,10 @@ use Rattle.c_meaning_spec.specs.declared.Object.TheVariants.{InScalar, InArray}
 use Rattle.c_meaning_spec.specs.State.{State, cell, held, written}
 use Rattle.c_meaning_spec.specs.Word.{is_false, compound_of, bump_of, bump_value, binary_of}
 use Rattle.c_meaning_spec.specs.Task.{Task, Of, Run, Turn, element_of, scalar_of, is_array}
+use Rattle.c_tree.specs.declared.limits.TheConstants.{MOST_FRAME_BYTES}
 use Rattle.c_meaning_spec.specs.Call.{frame, entered}
-use Rattle.c_meaning_spec.specs.Expression.{Node, node_of}
-use Rattle.c_meaning_spec.specs.Statement.{Level, First}
+use Rattle.c_tree.specs.TypedTrees.{Node, node_of}
+use Rattle.c_tree.specs.TypedTrees.{Level, Beginning}
 use Rattle.c_meaning_steps.specs.Operands.{Fetch, Fetched, Failed, Deferred, fetch, after_fetch}
 use Rattle.c_meaning_steps.specs.Operands.{operand_step}
 use Rattle.c_meaning_steps.proofs.Stocks.{Leaves, l-fetch}
@@ -195,16 +196,17 @@ r-bump op k (Name p) s = r-some (scalar_of p) s _ (λ x. r-bump_object op k s x)
 r-bump op k (Element p index) s = r-of index FDropped s
 r-bump op k _ s = r-ends Undefined s
 
-r-entered : (fits : Bool) (f : TypedFunc) (done : List ℕ) (s : State)
-    → Light s.stock (entered_step fits f done s)
-r-entered fits f done s = r-cond fits s.stock _ _ (r-run f.body FDropped (entered f done s))
-    (r-ends Deep s)
+r-entered : (is_main fits : Bool) (f : TypedFunc) (done : List ℕ) (s : State)
+    → Light s.stock (entered_step is_main fits f done s)
+r-entered is_main fits f done s =
+    r-cond fits s.stock _ _ (r-run f.body FDropped (entered f done s)) (r-ends Deep s)
 
-r-enter : (f : Option TypedFunc) (done : List ℕ) (s : State) → Light s.stock (enter_step f done s)
-r-enter None done s = r-ends Undefined s
-r-enter (Some f) done s =
+r-enter : (is_main : Bool) (f : Option TypedFunc) (done : List ℕ) (s : State)
+    → Light s.stock (enter_step is_main f done s)
+r-enter is_main None done s = r-ends Undefined s
+r-enter is_main (Some f) done s =
     r-cond (nat_eq (length done) f.params) s.stock _ _
-    (r-entered (nat_le (s.room + frame f) 1048576) f done s) (r-ends Undefined s)
+    (r-entered is_main (nat_le (s.room + frame f) MOST_FRAME_BYTES) f done s) (r-ends Undefined s)
 
 r-read : (input : List ℕ) (s : State) → Light s.stock (read_step input s)
 r-read [] s = r-gives Nothing s
@@ -221,7 +223,8 @@ r-put (w ∷ x ∷ rest) s = r-ends Undefined s
 
 pub r-called : (P : TypedProgram) (f : Callee) (done : List ℕ) (s : State)
     → cost (called_step P f done s) ≤ 8 * s.stock
-r-called P (Func f) done s = r-spend s _ (λ s. r-enter (slice_get P.functions f) done s)
+r-called P (Func f) done s =
+    r-spend s _ (λ s. r-enter (nat_eq f P.main) (slice_get P.functions f) done s)
 r-called P GetChar done s = r-spend s _ (λ s. r-get done s)
 r-called P PutChar done s = r-spend s _ (λ s. r-put done s)
 
@@ -332,7 +335,7 @@ r-locals : (all : List TypedStmt) (test post : Option TypedExpr) (body : TypedSt
 r-locals [] test post body s = r-turn test post body s
 r-locals (st ∷ rest) test post body s = r-run st FDropped s
 
-r-begin : (P : TypedProgram) (f : First) (test post : Option TypedExpr) (body : TypedStmt)
+r-begin : (P : TypedProgram) (f : Beginning) (test post : Option TypedExpr) (body : TypedStmt)
     (s : State)
     → Light s.stock (begin_step P f test post body s)
 r-begin P init.Nothing test post body s = r-turn test post body s
@@ -395,11 +398,12 @@ r-value P (FTest test post body) w s = r-after_test test post body w s
 r-value P FReturning w s = r-gives Nothing s
 r-value P _ w s = r-ends Undefined s
 
-r-returned : (v : Signal) (s : State) → Light s.stock (returned_step v s)
-r-returned (Returns (Some w)) s = r-gives Nothing s
-r-returned (Returns None) s = r-gives Nothing s
-r-returned Nothing s = r-gives Nothing s
-r-returned _ s = r-ends Undefined s
+r-returned : (is_main : Bool) (v : Signal) (s : State)
+    → Light s.stock (returned_step is_main v s)
+r-returned is_main (Returns (Some w)) s = r-gives Nothing s
+r-returned is_main (Returns None) s = r-gives Nothing s
+r-returned is_main Nothing s = r-gives Nothing s
+r-returned is_main _ s = r-ends Undefined s
 
 r-going_on : (v : Signal) (s : State) (f : Step) → Light s.stock f
     → Light s.stock (going_on_step v s f)
@@ -417,8 +421,8 @@ r-body P test post body _ s = r-gives Nothing s
 r-resume : (P : TypedProgram) (f : Follow) (v : Signal) (s : State)
     → Light s.stock (resume_step P f v s)
 r-resume P (FComma right) v s = r-of right FDropped s
-r-resume P (FCaller scalars count base room) v s =
-    r-returned v (record s {
+r-resume P (FCaller is_main scalars count base room) v s =
+    r-returned is_main v (record s {
       scalars = scalars;
       arrays = take count s.arrays;
       base = base;

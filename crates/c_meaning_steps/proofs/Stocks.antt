@@ -10,7 +10,7 @@ use Rattle.c_meaning_spec.specs.declared.Object.{Object}
 use Rattle.c_meaning_spec.specs.State.{State, cell, held}
 use Rattle.c_meaning_spec.specs.Word.{binary_of}
 use Rattle.c_meaning_spec.specs.Task.{element_of}
-use Rattle.c_meaning_spec.specs.Expression.{Node, node_of}
+use Rattle.c_tree.specs.TypedTrees.{Node, node_of}
 use Rattle.c_meaning_steps.specs.declared.leaf.Leaf.{Leaf}
 use Rattle.c_meaning_steps.specs.declared.leaf.Leaf.TheVariants.{Constant, Local}
 use Rattle.c_meaning_steps.specs.Operands.{leaf_of, leaf_word, Fetch, Fetched, Failed, Deferred}

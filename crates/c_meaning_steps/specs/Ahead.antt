@@ -7,7 +7,8 @@ use Rattle.c_meaning_spec.specs.declared.Ending.{Ending}
 use Rattle.c_meaning_spec.specs.State.{State, Result, Go, Over, then, want}
 use Rattle.c_meaning_spec.specs.Task.{Task, Of, Run, Turn, element}
 use Rattle.c_meaning_spec.specs.Call.{left, arguments}
-use Rattle.c_meaning_spec.specs.Expression.{Node, node_of, converting, unary, operated, after_left, truth}
+use Rattle.c_tree.specs.TypedTrees.{Node, node_of}
+use Rattle.c_meaning_spec.specs.Expression.{converting, unary, operated, after_left, truth}
 use Rattle.c_meaning_spec.specs.Expression.{after_and, after_or, valued, after_choice, after_comma}
 use Rattle.c_meaning_spec.specs.Expression.{assigned, compounded, assign_element, bump_element}
 use Rattle.c_meaning_spec.specs.Statement.{going_on, sequence, dropped, initialised, after_if, locals}
@@ -44,7 +45,8 @@ back_of P (FAssignElement op to at p right) v s = assign_element (meaning P) op 
 back_of P (FAssigned x) v s = assigned x v s
 back_of P (FCompounded op to at x old) v s = compounded op to at x old v s
 back_of P (FBumpElement op k p) v s = bump_element op k p v s
-back_of P (FCaller scalars count base room) v s = left scalars count base room v s
+back_of P (FCaller is_main scalars count base room) v s =
+    left is_main scalars count base room v s
 back_of P FDropped v s = dropped v s
 back_of P (FInitialised i) v s = initialised i v s
 back_of P (FSequence rest) v s = going_on v s (sequence (meaning P) rest)
@@ -68,6 +70,7 @@ settle_of P (Gives v s) = Go v s
 settle_of P (Ends why s) = Over why s
 settle_of P (Behind f step) = then (settle_of P step) (back_of P f)
 
+-- what a move means before a list of frames
 abbrev pub ahead_of : TypedProgram → Step → List Follow → Result
 ahead_of P (Pushes t f s) fs = then (meaning P t s) (unwind_of P (f ∷ fs))
 ahead_of P (Does t s) fs = then (meaning P t s) (unwind_of P fs)
@@ -81,6 +84,7 @@ ahead_next P (ToDo t) fs s = then (meaning P t s) (unwind_of P fs)
 ahead_next P (Given v) fs s = unwind_of P fs v s
 ahead_next P (Ended why) fs s = Over why s
 
+-- whether a node is a conversion
 abbrev pub is_conversion : Node → Bool
 is_conversion (Convert to e) = true
 is_conversion _ = false
@@ -91,14 +95,17 @@ task_rank (Of e) = cond (is_conversion (node_of e)) 3 1
 task_rank (Run st) = 1
 task_rank (Turn test post body) = 5
 
+-- how much is to be done next
 abbrev pub next_rank : Next → ℕ
 next_rank (ToDo t) = task_rank t
 next_rank (Given v) = 6
 next_rank (Ended why) = 0
 
+-- how much is still to be done, with the steps of the stock and the frames
 abbrev pub rank : Next → ℕ → ℕ → ℕ
 rank n stock count = 8 * stock + (count + next_rank n)
 
+-- whether a list has nothing
 abbrev pub is_empty : {A : Type 0} → List A → Bool
 is_empty [] = true
 is_empty (x ∷ xs) = false

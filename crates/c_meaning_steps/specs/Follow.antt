@@ -1,5 +1,5 @@
 -- A machine that evaluates one part after another: what follows a part is a list of frames.
-use Rattle.std.specs.Prelude.{ℕ, zero, suc, List, Option, Some, None}
+use Rattle.std.specs.Prelude.{ℕ, zero, suc, Bool, List, Option, Some, None}
 use Rattle.c_tree.specs.declared.Kind.{Kind}
 use Rattle.c_tree.specs.declared.BinaryOp.{BinaryOp}
 use Rattle.c_tree.specs.declared.UnaryOp.{UnaryOp}
@@ -35,7 +35,7 @@ pub data Follow : Type 0 where
   FAssigned : (x : Object) → Follow
   FCompounded : (op : BinaryOp) (to : Option Kind) (at : Kind) (x : Object) (old : ℕ) → Follow
   FBumpElement : (op : BumpOp) (k : Option Kind) (p : Place) → Follow
-  FCaller : (scalars : List (Option ℕ)) (count base room : ℕ) → Follow
+  FCaller : (is_main : Bool) (scalars : List (Option ℕ)) (count base room : ℕ) → Follow
   FDropped : Follow
   FInitialised : (i : ℕ) → Follow
   FSequence : (rest : List TypedStmt) → Follow
@@ -55,10 +55,12 @@ pub data Step : Type 0 where
   Ends : (why : Ending) (s : State) → Step
   Behind : (f : Follow) (step : Step) → Step
 
+-- a step, if one is left
 abbrev pub spend_step_of : ℕ → State → (State → Step) → Step
 spend_step_of zero s next = Ends More s
 spend_step_of (suc n) s next = next (record s { stock = n })
 
+-- a step of the stock
 abbrev pub spend_step : State → (State → Step) → Step
 spend_step s next = spend_step_of s.stock s next
 
@@ -67,18 +69,22 @@ abbrev pub under : Follow → (Signal → State → Step) → Step → Step
 under f next (Gives v s) = next v s
 under f next step = Behind f step
 
+-- with the value that a part gave
 abbrev pub want_step : Signal → State → (ℕ → Step) → Step
 want_step (Value w) s next = next w
 want_step _ s next = Ends Undefined s
 
+-- with what is there
 abbrev pub some_step : {A : Type 0} → Option A → State → (A → Step) → Step
 some_step None s next = Ends Undefined s
 some_step (Some w) s next = next w
 
+-- a value, if there is one
 abbrev pub given_step : Option ℕ → State → Step
 given_step None s = Ends Undefined s
 given_step (Some w) s = Gives (Value w) s
 
+-- the value that an object holds
 abbrev pub load_step : Object → State → Step
 load_step x s = given_step (held (cell s x)) s
 
@@ -87,5 +93,6 @@ abbrev pub store_step_in : Option (Option ℕ) → State → Object → ℕ → 
 store_step_in None s x w v = Ends Undefined s
 store_step_in (Some c) s x w v = Gives v (written s x (Some w))
 
+-- a word into an object, and then a signal
 abbrev pub store_step : State → Object → ℕ → Signal → Step
 store_step s x w v = store_step_in (cell s x) s x w v

@@ -1,5 +1,5 @@
 -- The moves of what follows a part.
-use Rattle.std.specs.Prelude.{ℕ, cond, [], ◌∷◌, ◌++◌, Option, Some, None, take}
+use Rattle.std.specs.Prelude.{ℕ, Bool, cond, [], ◌∷◌, ◌++◌, Option, Some, None, take}
 use Rattle.c_tree.specs.declared.TypedExpr.{TypedExpr}
 use Rattle.c_tree.specs.declared.TypedStmt.{TypedStmt}
 use Rattle.c_tree.specs.declared.TypedProgram.{TypedProgram}
@@ -10,6 +10,7 @@ use Rattle.c_constant.specs.Kinds.{converted}
 use Rattle.c_meaning_spec.specs.State.{State}
 use Rattle.c_meaning_spec.specs.Word.{is_false, truth_of, unary_of}
 use Rattle.c_meaning_spec.specs.Task.{Of, Turn, element_of}
+use Rattle.c_meaning_spec.specs.Call.{end_of}
 use Rattle.c_meaning_steps.specs.Follow.{Follow, FConverting, FUnary, FElement, FArgument, FLeft, FRight}
 use Rattle.c_meaning_steps.specs.Follow.{FAnd, FOr, FTruth, FValued, FChoice, FComma, FAssignElement}
 use Rattle.c_meaning_steps.specs.Follow.{FAssigned, FCompounded, FBumpElement, FCaller, FDropped}
@@ -47,16 +48,19 @@ value_step P (FTest test post body) w s = after_test_step test post body w s
 value_step P FReturning w s = returning_step w s
 value_step P _ w s = Ends Undefined s
 
-abbrev pub returned_step : Signal → State → Step
-returned_step (Returns (Some w)) s = Gives (Value w) s
-returned_step (Returns None) s = Gives Nothing s
-returned_step Nothing s = Gives Nothing s
-returned_step _ s = Ends Undefined s
+-- what a call gives: the end of main returns 0
+abbrev pub returned_step : Bool → Signal → State → Step
+returned_step is_main (Returns (Some w)) s = Gives (Value w) s
+returned_step is_main (Returns None) s = Gives Nothing s
+returned_step is_main Nothing s = Gives (end_of is_main) s
+returned_step is_main _ s = Ends Undefined s
 
+-- what follows a statement that gave nothing
 abbrev pub going_on_step : Signal → State → Step → Step
 going_on_step Nothing s next = next
 going_on_step v s next = Gives v s
 
+-- what follows the body of a loop
 abbrev pub body_step : TypedProgram → Option TypedExpr → Option TypedExpr → TypedStmt → Signal
     → State → Step
 body_step P test post body Nothing s = then_turn_step P post test post body s
@@ -64,10 +68,11 @@ body_step P test post body Continues s = then_turn_step P post test post body s
 body_step P test post body Breaks s = Gives Nothing s
 body_step P test post body v s = Gives v s
 
+-- what a frame makes of what a part gave
 abbrev pub resume_step : TypedProgram → Follow → Signal → State → Step
 resume_step P (FComma right) v s = Pushes (Of right) FValued s
-resume_step P (FCaller scalars count base room) v s =
-    returned_step v (record s {
+resume_step P (FCaller is_main scalars count base room) v s =
+    returned_step is_main v (record s {
       scalars = scalars;
       arrays = take count s.arrays;
       base = base;

@@ -17,32 +17,37 @@ use Rattle.c_meaning_spec.specs.declared.Object.TheVariants.{InScalar}
 use Rattle.c_meaning_spec.specs.State.{State, cell, written}
 use Rattle.c_meaning_spec.specs.Word.{is_false}
 use Rattle.c_meaning_spec.specs.Task.{Task, Of, Run, Turn}
-use Rattle.c_meaning_spec.specs.Expression.{node_of}
-use Rattle.c_meaning_spec.specs.Statement.{Level, First}
+use Rattle.c_tree.specs.TypedTrees.{node_of}
+use Rattle.c_tree.specs.TypedTrees.{Level, Beginning}
 use Rattle.c_meaning_steps.specs.Follow.{FDropped, FInitialised, FSequence, FIf, FThenTurn, FLocals, FTest}
 use Rattle.c_meaning_steps.specs.Follow.{FBody, FReturning, Step, Pushes, Does, Gives, Ends, spend_step}
 use Rattle.c_meaning_steps.specs.Follow.{store_step, under}
 use Rattle.c_meaning_steps.specs.Operands.{operand_step}
 use Rattle.c_meaning_steps.specs.ExpressionSteps.{of_step}
 
+-- statements one after another
 abbrev pub sequence_step : List TypedStmt → State → Step
 sequence_step [] s = Gives Nothing s
 sequence_step (st ∷ rest) s = Pushes (Run st) (FSequence rest) s
 
+-- a local's initialiser is stored
 abbrev pub initialised_step : ℕ → ℕ → State → Step
 initialised_step i w s = store_step s (InScalar i) w Nothing
 
+-- the declaration of a scalar
 abbrev pub unset_step : ℕ → Option TypedExpr → Option (Option ℕ) → State → Step
 unset_step i e None s = Ends Undefined s
 unset_step i None (Some c) s = Gives Nothing (written s (InScalar i) None)
 unset_step i (Some e) (Some c) s =
     operand_step e (FInitialised i) (written s (InScalar i) None) (initialised_step i)
 
+-- the declaration of an array
 abbrev pub unset_row_step : ℕ → Option (List (Option ℕ)) → State → Step
 unset_row_step a None s = Ends Undefined s
 unset_row_step a (Some row) s = Gives Nothing
     (record s { arrays = slice_set s.arrays a (replicate (length row) None) })
 
+-- a local is unset, and then initialised
 abbrev pub declare_step : Place → Option TypedExpr → State → Step
 declare_step (place.Scalar i) e s = unset_step i e (cell s (InScalar i)) s
 declare_step (place.Array a) None s = unset_row_step (s.base + a)
@@ -53,48 +58,59 @@ declare_step _ e s = Ends Undefined s
 abbrev pub dropped_step : Signal → State → Step
 dropped_step v s = Gives Nothing s
 
+-- an expression statement
 abbrev pub plain_step : TypedProgram → TypedExpr → State → Step
 plain_step P e s = under FDropped dropped_step (of_step P (node_of e) s)
 
+-- the next turn of a loop, whatever was given
 abbrev pub turned_step : Option TypedExpr → Option TypedExpr → TypedStmt → Signal → State → Step
 turned_step test post body v s = Does (Turn test post body) s
 
+-- an expression, if there is one, and then a turn
 abbrev pub then_turn_step : TypedProgram → Option TypedExpr → Option TypedExpr → Option TypedExpr
     → TypedStmt → State → Step
 then_turn_step P None test post body s = Does (Turn test post body) s
 then_turn_step P (Some e) test post body s =
     under (FThenTurn test post body) (turned_step test post body) (of_step P (node_of e) s)
 
+-- the declarations of a for, and then its first turn
 abbrev pub locals_step : List TypedStmt → Option TypedExpr → Option TypedExpr → TypedStmt → State
     → Step
 locals_step [] test post body s = Does (Turn test post body) s
 locals_step (st ∷ rest) test post body s = Pushes (Run st) (FLocals rest test post body) s
 
-abbrev pub begin_step : TypedProgram → First → Option TypedExpr → Option TypedExpr → TypedStmt
+-- the first part of a for
+abbrev pub begin_step : TypedProgram → Beginning → Option TypedExpr → Option TypedExpr → TypedStmt
     → State → Step
 begin_step P init.Nothing test post body s = Does (Turn test post body) s
 begin_step P (init.First e) test post body s = then_turn_step P (Some e) test post body s
 begin_step P (init.Locals all) test post body s = locals_step all test post body s
 
+-- the body where the test holds
 abbrev pub after_test_step : Option TypedExpr → Option TypedExpr → TypedStmt → ℕ → State → Step
 after_test_step test post body w s =
     cond (is_false w) (Gives Nothing s) (Pushes (Run body) (FBody test post body) s)
 
+-- a turn of a loop
 abbrev pub turn_step : Option TypedExpr → Option TypedExpr → TypedStmt → State → Step
 turn_step None post body s = Pushes (Run body) (FBody None post body) s
 turn_step (Some t) post body s =
     operand_step t (FTest (Some t) post body) s (after_test_step (Some t) post body)
 
+-- a statement, if there is one
 abbrev pub if_step : Option TypedStmt → State → Step
 if_step None s = Gives Nothing s
 if_step (Some st) s = Does (Run st) s
 
+-- the branch that the test chooses
 abbrev pub after_if_step : TypedStmt → Option TypedStmt → ℕ → State → Step
 after_if_step one other w s = cond (is_false w) (if_step other s) (Does (Run one) s)
 
+-- a return of a value
 abbrev pub returning_step : ℕ → State → Step
 returning_step w s = Gives (Returns (Some w)) s
 
+-- a statement after its step
 abbrev pub begun_step : TypedProgram → Level → State → Step
 begun_step P (Declare p e) s = declare_step p e s
 begun_step P (Plain None) s = Gives Nothing s
@@ -109,9 +125,11 @@ begun_step P Continue s = Gives Continues s
 begun_step P (Return None) s = Gives (Returns None) s
 begun_step P (Return (Some e)) s = operand_step e FReturning s returning_step
 
+-- a statement spends its step first
 abbrev pub statement_step : TypedProgram → Level → State → Step
 statement_step P st s = spend_step s (begun_step P st)
 
+-- the move of a task
 abbrev pub act_step : TypedProgram → Task → State → Step
 act_step P (Of e) s = of_step P (node_of e) s
 act_step P (Run st) s = statement_step P (out-TypedStmt st) s

@@ -1,5 +1,5 @@
 ghost use Rattle.std.specs.Prelude.{◌≡◌};
-ghost use Rattle.c_meaning_spec.specs.Expression.{node_of};
+ghost use Rattle.c_tree.specs.TypedTrees.{node_of};
 ghost use Rattle.c_meaning_steps.specs.Operands.{leaf_in, leaf_of as leaf_of_node};
 
 use c_tree::{Place, TypedExpr, TypedNode};

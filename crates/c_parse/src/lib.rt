@@ -3,8 +3,6 @@
 #![tactic(auto)]
 
 mod build;
-#[cfg(test)]
-mod depth_tests;
 mod expression;
 mod fault;
 mod function;
@@ -15,8 +13,6 @@ mod make;
 mod parser;
 mod primary;
 mod statement;
-#[cfg(test)]
-mod tests;
 mod types;
 mod unit;
 

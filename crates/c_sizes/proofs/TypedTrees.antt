@@ -15,8 +15,8 @@ use Rattle.c_tree.specs.declared.typed.TypedForInit.{out-TypedForInit, out-roll-
 use Rattle.c_tree.specs.declared.typed.TypedFunc.{TypedFunc}
 use Rattle.c_constant.specs.Kinds.{same_kind}
 use Rattle.c_type_expr.specs.Trees.{a, kind_of, converted}
-use Rattle.c_meaning_spec.specs.Expression.{Node}
-use Rattle.c_meaning_spec.specs.Statement as eval
+use Rattle.c_tree.specs.TypedTrees.{Node}
+use Rattle.c_tree.specs.TypedTrees as level
 use Rattle.flat_lower.specs.TreeViews.{expr_of, expr_if, exprs_of, stmt_of, stmts_of, func_of}
 use Rattle.flat_lower.proofs.TreeFacts.{plain_node, expr_is, first_of, plain_stmt, plain_first}
 use Rattle.flat_lower.proofs.TreeFacts.{stmt_is, first_is}
@@ -60,13 +60,13 @@ first_nodes i = plain.first_nodes (first_of i)
 abbrev pub bodies_nodes : List TypedStmt → ℕ
 bodies_nodes ts = plain.stmts_nodes (stmts_of (map stmt_of ts))
 
-pub by_stmt : (s : TypedStmt) (x : eval.Level) → roll-TypedStmt x ≡ s
+pub by_stmt : (s : TypedStmt) (x : level.Level) → roll-TypedStmt x ≡ s
     → body_nodes s ≡ plain.stmt_nodes (plain_stmt x)
 by_stmt s x e =
     ap plain.stmt_nodes (stmt_is s
     ∙ ap plain_stmt (ap out-TypedStmt (sym e) ∙ out-roll-TypedStmt x))
 
-pub by_first : (i : TypedForInit) (x : eval.First) → roll-TypedForInit x ≡ i
+pub by_first : (i : TypedForInit) (x : level.Beginning) → roll-TypedForInit x ≡ i
     → first_nodes i ≡ plain.first_nodes (plain_first x)
 by_first i x e =
     ap plain.first_nodes (first_is i

@@ -1,5 +1,6 @@
 -- How large a unit and its typed program may be, by the tokens of the text.
 use Rattle.std.specs.Prelude.{◌*◌, ◌≤◌, List, length}
+use Rattle.c_tree.specs.declared.limits.TheConstants.{MOST_TOKENS}
 use Rattle.c_tree.specs.declared.token.Lexeme.{Lexeme}
 use Rattle.c_tree.specs.declared.tree.Program.{Program}
 use Rattle.c_tree.specs.declared.tree.Top.{Top}
@@ -22,9 +23,8 @@ ProgramsAreSmall =
     (p : Program) (t : TypedProgram) → Accepts p t
     → source_size (source_of t) ≤ 2 * unit_nodes p.items
 
--- so that of a text of at most 8,192 tokens, as many as the lexer gives, is not too long to be
--- lowered
+-- so that of a text of no more tokens than the lexer gives is not too long to be lowered
 abbrev pub ProgramsHaveRoom : Type 0
 ProgramsHaveRoom =
-    (ts : List Lexeme) (p : Program) (t : TypedProgram) → IsUnit ts p.items → length ts ≤ 8192
+    (ts : List Lexeme) (p : Program) (t : TypedProgram) → IsUnit ts p.items → length ts ≤ MOST_TOKENS
     → Accepts p t → 4 * source_size (source_of t) ≤ 16777216

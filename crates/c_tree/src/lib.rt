@@ -4,11 +4,15 @@
 //! what it holds. Lines are counted from 1. A negative value in a `u64` stands modulo 2^64.
 #![tactic(auto)]
 
+mod limits;
 mod token;
 mod tree;
 mod typed;
 mod word;
 
+pub use limits::{
+    MOST_FRAME_BYTES, MOST_NEED, MOST_OBJECT_BYTES, MOST_SCALARS, MOST_SOURCE_BYTES, MOST_TOKENS,
+};
 pub use token::{Form, Key, Kind, Lexeme, Mark};
 pub use tree::{
     ArraySize, BinaryOp, BumpOp, Expr, ExprNode, ForInit, Param, Program, Stmt, StmtNode, Top,

@@ -12,7 +12,7 @@ use Rattle.c_tree.specs.declared.typed.Slot.TheVariants as slot
 use Rattle.c_scope.specs.declared.meaning.Meaning.TheVariants as meaning
 use Rattle.c_scope.specs.Scope.{look_up}
 use Rattle.c_type_expr.specs.declared.fault.TypeFault.TheVariants.{NoMain, Twice, Mismatch, TooManyParams}
-use Rattle.c_type.specs.Declarations.{bytes}
+use Rattle.c_constant.specs.Kinds.{bytes}
 use Rattle.c_type.specs.Units.{eof_name, getchar_name, putchar_name, same_slots, included}
 use Rattle.c_type.specs.Programs.{main_name, program_fault, table}
 

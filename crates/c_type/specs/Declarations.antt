@@ -1,13 +1,14 @@
 -- Local declarations (C17 6.7): the first fault, the typed tree, and the state after them.
 use Rattle.std.specs.Prelude.{ℕ, ◌*◌, Bool, true, false, not, ◌||◌, nat_le, nat_lt, length, List, Option, Some, None}
 use Rattle.c_tree.specs.declared.token.Kind.{Kind}
-use Rattle.c_tree.specs.declared.token.Kind.TheVariants.{Char, UChar, Int, UInt, Long, ULong}
+use Rattle.c_tree.specs.declared.limits.TheConstants.{MOST_SCALARS, MOST_OBJECT_BYTES}
 use Rattle.c_tree.specs.declared.tree.ArraySize.{ArraySize}
 use Rattle.c_tree.specs.declared.tree.ArraySize.TheVariants as size
 use Rattle.c_tree.specs.declared.tree.Expr.{Expr}
 use Rattle.c_tree.specs.declared.typed.Place.TheVariants as place
 use Rattle.c_tree.specs.declared.typed.TypedStmt.{TypedStmt}
 use Rattle.c_tree.specs.declared.typed.TypedStmt.TheVariants as typed
+use Rattle.c_constant.specs.Kinds.{bytes}
 use Rattle.c_scope.specs.declared.meaning.Meaning.{Meaning}
 use Rattle.c_scope.specs.declared.meaning.Meaning.TheVariants as meaning
 use Rattle.c_scope.specs.Scope.{Scope, look_up, is_here}
@@ -18,14 +19,7 @@ use Rattle.c_type_expr.specs.Constants.{size_fault, length_of, word_in}
 use Rattle.c_type.specs.declared.state.State.{State}
 use Rattle.c_type.specs.States.{full_if, value_of, with_scalar, with_array}
 
-abbrev pub bytes : Kind → ℕ
-bytes Char = 1
-bytes UChar = 1
-bytes Int = 4
-bytes UInt = 4
-bytes Long = 8
-bytes ULong = 8
-
+-- whether a name stands for `EOF`
 abbrev pub is_end : Option Meaning → Bool
 is_end (Some meaning.EndOfFile) = true
 is_end _ = false
@@ -40,12 +34,12 @@ twice_fault G w l = unless (not (is_taken G w)) (Twice l)
 -- a function has at most 64 scalars, its parameters among them
 abbrev pub scalar_fault : List ℕ → ℕ → State → Blame
 scalar_fault w l v =
-    first (twice_fault v.names w l) (unless (nat_lt (length v.scalars) 64) (TooManyScalars l))
+    first (twice_fault v.names w l) (unless (nat_lt (length v.scalars) MOST_SCALARS) (TooManyScalars l))
 
 -- an array has at most 1,048,576 bytes
 abbrev pub array_fault : ℕ → Kind → List ℕ → ℕ → Scope → Blame
 array_fault n k w l G =
-    first (twice_fault G w l) (unless (nat_le (n * bytes k) 1048576) (TooLarge l))
+    first (twice_fault G w l) (unless (nat_le (n * bytes k) MOST_OBJECT_BYTES) (TooLarge l))
 
 -- a local array has no initialiser
 abbrev pub no_init : Option Expr → ℕ → Blame

@@ -1,5 +1,6 @@
 -- File scope (C17 6.7, 6.9): the include, globals and the signatures of functions.
 use Rattle.std.specs.Prelude.{ℕ, ◌+◌, ◌*◌, Bool, true, false, cond, not, ◌&&◌, nat_le, nat_lt, length, List, [], ◌∷◌, ◌++◌, map, Option, Some, None}
+use Rattle.c_tree.specs.declared.limits.TheConstants.{MOST_OBJECT_BYTES}
 use Rattle.c_tree.specs.declared.token.Kind.{Kind}
 use Rattle.c_tree.specs.declared.token.Kind.TheVariants.{Int}
 use Rattle.c_tree.specs.declared.tree.ArraySize.{ArraySize}
@@ -18,7 +19,8 @@ use Rattle.c_type_expr.specs.declared.fault.TypeFault.TheVariants.{Twice, Mismat
 use Rattle.c_type_expr.specs.Roles.{Blame, first, unless}
 use Rattle.c_type_expr.specs.Constants.{size_fault, length_of, word_in, full_constant, constant_at}
 use Rattle.c_type.specs.declared.file_scope.FileScope.{FileScope}
-use Rattle.c_type.specs.Declarations.{bytes, is_end, twice_fault}
+use Rattle.c_constant.specs.Kinds.{bytes}
+use Rattle.c_type.specs.Declarations.{is_end, twice_fault}
 
 -- the names `EOF`, `getchar` and `putchar`
 abbrev pub eof_name : List ℕ
@@ -101,7 +103,7 @@ included G = cond (is_end (look_up G eof_name)) G (with_include G)
 -- the globals have at most 1,048,576 bytes, an array no more
 abbrev pub place_fault : ℕ → Kind → List ℕ → ℕ → FileScope → Blame
 place_fault n k w l U =
-    first (twice_fault U.names w l) (unless (nat_le (n * bytes k + U.bytes) 1048576) (TooLarge l))
+    first (twice_fault U.names w l) (unless (nat_le (n * bytes k + U.bytes) MOST_OBJECT_BYTES) (TooLarge l))
 
 abbrev pub values_fault : List Expr → Scope → Blame
 values_fault [] G = None

@@ -13,22 +13,13 @@ ghost use Rattle.c_type.specs.Runs.{Runs, Moves, Adds};
 
 use crate::parts::value_to;
 use crate::state::State;
+use c_constant::bytes;
 use c_scope::{Meaning, Scopes};
-use c_tree::{ArraySize, Expr, Kind, Place, Slot, TypedArray, TypedStmt, Word};
+use c_tree::{
+    ArraySize, Expr, Kind, MOST_OBJECT_BYTES, MOST_SCALARS, Place, Slot, TypedArray, TypedStmt, Word,
+};
 use c_type_expr::{TypeFault, size_length};
 use std::alloc::Global;
-
-/// How many bytes a value of a kind takes.
-pub fn bytes(kind: Kind) -> u64
-    ensures value { result ≡ declarations.bytes kind }
-    ensures some { 0 < result }
-{
-    match kind {
-        Kind::Char | Kind::UChar => 1,
-        Kind::Int | Kind::UInt => 4,
-        Kind::Long | Kind::ULong => 8,
-    }
-}
 
 pub fn is_end(found: Option<&Meaning>) -> bool
     ensures { result ≡ declarations.is_end (option_copied found.entry) }
@@ -71,7 +62,7 @@ fn array_length(
 {
     let length = size_length(names, size)?;
     twice(names, name, line)?;
-    if length > 1_048_576 / bytes(kind) {
+    if length > MOST_OBJECT_BYTES / bytes(kind) as u64 {
         return Err(TypeFault::TooLarge(line));
     }
     Ok(length as u32)
@@ -84,7 +75,7 @@ fn scalar_place(state: &State, name: &Word, line: u32) -> Result<u32, TypeFault>
 {
     twice(&state.names, name, line)?;
     let place = state.scalars.len();
-    if place < 64 {
+    if (place as u64) < MOST_SCALARS {
         Ok(place as u32)
     } else {
         Err(TypeFault::TooManyScalars(line))

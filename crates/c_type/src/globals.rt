@@ -4,22 +4,23 @@ ghost use Rattle.std.specs.Prelude.{◌≡◌, ◌+◌, ◌*◌, ◌≤◌, nat_
 ghost use Rattle.c_type_expr.specs.Roles.{first, unless};
 ghost use Rattle.c_type_expr.specs.Says.{Says};
 ghost use Rattle.c_type_expr.specs.Constants as constants;
-ghost use Rattle.c_type.specs.Declarations as declarations;
+ghost use Rattle.c_constant.specs.Kinds as kinds;
 ghost use Rattle.c_type.specs.Units as units;
 
-use crate::declarations::{bytes, twice};
+use crate::declarations::twice;
 use crate::file_scope::FileScope;
 use base::Items;
+use c_constant::bytes;
 use c_scope::{Meaning, Scopes};
-use c_tree::{ArraySize, Expr, Kind, Place, TypedGlobal, Word};
+use c_tree::{ArraySize, Expr, Kind, MOST_OBJECT_BYTES, Place, TypedGlobal, Word};
 use c_type_expr::{TypeFault, full_constant, size_length};
 use std::alloc::Global;
 
 /// Whether the globals have room for `count` more of a kind.
 fn has_room(count: u64, kind: Kind, taken: u64) -> bool
-    ensures { result ≡ nat_le (count * declarations.bytes kind + taken) 1048576 }
+    ensures { result ≡ nat_le (count * kinds.bytes kind + taken) MOST_OBJECT_BYTES }
 {
-    taken <= 1_048_576 && count <= (1_048_576 - taken) / bytes(kind)
+    taken <= MOST_OBJECT_BYTES && count <= (MOST_OBJECT_BYTES - taken) / bytes(kind) as u64
 }
 
 fn place_at(
@@ -88,7 +89,7 @@ fn meaning_of(size: &ArraySize, kind: Kind, number: u32) -> Meaning
 }
 
 fn length_in(size: &ArraySize, count: u64) -> Option<u32>
-    requires { count ≤ 1048576 }
+    requires { count ≤ MOST_OBJECT_BYTES }
     ensures { result ≡ units.length_in size.now count }
 {
     match size {
@@ -128,7 +129,7 @@ fn admitted(
 ) -> Result<(u64, u32), TypeFault>
     ensures value { Says (units.admitted_fault size.now kind name.now init.now line file.now)
         (units.count_of size.now init.now, length file.now.globals) result }
-    ensures few { IfOk result (λ r. r.0 * declarations.bytes kind + file.now.bytes ≤ 1048576) }
+    ensures few { IfOk result (λ r. r.0 * kinds.bytes kind + file.now.bytes ≤ MOST_OBJECT_BYTES) }
 {
     let count = count_in(&file.names, size, init, line)?;
     place_at(file, count, kind, name, line)?;
@@ -172,7 +173,7 @@ pub fn global(
     file.names
         .declare(alloc, name, meaning_of(size, kind, number))?;
     let init = given(alloc, &file.names, line, kind, count, init)?;
-    file.bytes += count * bytes(kind);
+    file.bytes += count * bytes(kind) as u64;
     file.globals.push(TypedGlobal {
         kind,
         length: length_in(size, count),

@@ -8,13 +8,9 @@ mod globals;
 mod includes;
 mod parts;
 mod program;
-#[cfg(test)]
-mod rows;
 mod signatures;
 mod state;
 mod statements;
-#[cfg(test)]
-mod tests;
 
 pub use c_type_expr::TypeFault;
 pub use program::type_program;

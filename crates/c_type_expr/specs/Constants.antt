@@ -58,7 +58,7 @@ full e r G = first (fault e G r) (need_fault e)
 -- a full expression that is a constant: its parts, its value, its need
 abbrev pub full_constant : Expr → Scope → Blame
 full_constant e G =
-    first (not_fixed e G) (first (value_fault (constant e).value e.line) (need_fault e))
+    first (not_fixed e G) (first (value_fault (constant [] e).value e.line) (need_fault e))
 
 abbrev pub word_in : Option ℕ → ℕ
 word_in None = 0
@@ -66,7 +66,7 @@ word_in (Some w) = w
 
 -- the word of a constant's value at a type
 abbrev pub constant_at : Kind → Expr → ℕ
-constant_at k e = converted k (word_in (constant e).value)
+constant_at k e = converted k (word_in (constant [] e).value)
 
 -- the length that a number gives: none below 1
 abbrev pub length_from : ℤ → Option ℕ
@@ -79,7 +79,7 @@ length_in k (Some w) = length_from (number k w)
 
 -- the length that a size stands for
 abbrev pub length_of : Expr → Option ℕ
-length_of e = length_in (constant e).kind (constant e).value
+length_of e = length_in (constant [] e).kind (constant [] e).value
 
 -- a size: a constant of at least 1
 abbrev pub size_fault : Expr → Scope → Blame

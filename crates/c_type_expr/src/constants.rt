@@ -142,7 +142,7 @@ pub fn full_constant(scope: &Scopes, kind: Kind, e: &Expr) -> Result<u64, TypeFa
         result }
 {
     refuse(not_fixed(scope, e))?;
-    let word = value_in(constant_of(e).value, e.line)?;
+    let word = value_in(constant_of(&[], e).value, e.line)?;
     need_of(e)?;
     Ok(convert(kind, word))
 }
@@ -172,6 +172,6 @@ pub fn size_length(scope: &Scopes, e: &Expr) -> Result<u64, TypeFault>
         (constants.word_in (constants.length_of e.now)) result }
 {
     refuse(not_fixed(scope, e))?;
-    let found = constant_of(e);
+    let found = constant_of(&[], e);
     value_in(length_in(found.kind, found.value), e.line)
 }

@@ -10,11 +10,14 @@ use Rattle.c_tree.specs.declared.typed.TypedFunc.{TypedFunc}
 use Rattle.c_tree.specs.declared.typed.TypedGlobal.{TypedGlobal}
 use Rattle.c_scope.specs.Scope.{Scope, Frame, bound}
 use Rattle.c_type_expr.specs.Constants.{constant_at}
-use Rattle.c_type.specs.Declarations.{bytes, is_end}
+use Rattle.c_constant.proofs.Conversions.{converted_word}
+use Rattle.c_constant.specs.Kinds.{bytes}
+use Rattle.c_type.specs.Declarations.{is_end}
 use Rattle.c_type.specs.Units.{global_meaning, count_of}
 use Rattle.c_type.specs.Units.{length_in, typed_global, with_global, count_fault, global_fault}
 use Rattle.c_type_laws.specs.Objects as object
-use Rattle.c_type_laws.specs.WellFormed.{Each, IsWord, GlobalFits, FunctionFits, global_bytes, all_bytes}
+use Rattle.c_constant.specs.Kinds.{IsWord}
+use Rattle.c_type_laws.specs.WellFormed.{Each, GlobalFits, FunctionFits, global_bytes, all_bytes}
 use Rattle.c_type_laws.specs.WellFormed as fits
 use Rattle.c_type_laws.proofs.Moves.{split, held}
 use Rattle.c_type_laws.proofs.Parts.{each_last, size_some}
@@ -44,7 +47,7 @@ some_values (size.Sized e) init l G h = size_some e G h
 -- its values are of its type
 words_in : (k : Kind) (init : List Expr) → Each (IsWord k) (map (constant_at k) init)
 words_in k [] = tt
-words_in k (e ∷ init) = (record { of = _; is = refl }, words_in k init)
+words_in k (e ∷ init) = (converted_word k _, words_in k init)
 
 -- as many as are given
 as_many : (k : Kind) (init : List Expr) → length (map (constant_at k) init) ≡ length init

@@ -32,13 +32,15 @@ use Rattle.c_type_expr.specs.Constants.{word_in}
 use Rattle.c_type_expr.proofs.Theorem.{complete}
 use Rattle.c_type.specs.declared.state.State.{State}
 use Rattle.c_type.specs.States.{full_if, tree_if, value_of, with_scalar, with_array}
-use Rattle.c_type.specs.Declarations.{bytes, scalar_init_fault, sized_fault, declare_tree}
+use Rattle.c_constant.specs.Kinds.{bytes}
+use Rattle.c_type.specs.Declarations.{scalar_init_fault, sized_fault, declare_tree}
 use Rattle.c_type.specs.Statements.{Part, Beginning, node_part, init_part, all_after, all_fault, all_trees, else_after}
 use Rattle.c_type.specs.Statements.{else_fault, else_tree, return_fault, return_tree}
 use Rattle.c_tree.specs.declared.tree.ForInit.TheOpen.{StmtNode-F, ForInit-F}
 use Rattle.c_type_laws.specs.Objects.{slot_scalar, local_array}
 use Rattle.c_type_laws.specs.Needs.{FitsNeed, typed_needs}
-use Rattle.c_type_laws.specs.Statements.{Level, IsValue, IsTest, IsEffect, IsValueIf, IsTestIf, IsEffectIf, IsReturn}
+use Rattle.c_tree.specs.TypedTrees as level
+use Rattle.c_type_laws.specs.Statements.{IsValue, IsTest, IsEffect, IsValueIf, IsTestIf, IsEffectIf, IsReturn}
 use Rattle.c_type_laws.specs.Statements.{Runs, RunsAll, RunsElse, Begins}
 use Rattle.c_type_laws.specs.Statements as rule
 use Rattle.c_type_laws.specs.WellFormed.{Each, ArrayFits}
@@ -48,7 +50,7 @@ use Rattle.c_type_laws.proofs.Moves.{split, held, Known, knows, Fine, Within, Ah
 use Rattle.c_type_laws.proofs.Moves.{scoped, then}
 
 -- a statement that is built is open again
-opened : (s : TypedStmt) (x : Level) → roll-TypedStmt x ≡ s → out-TypedStmt s ≡ x
+opened : (s : TypedStmt) (x : level.Level) → roll-TypedStmt x ≡ s → out-TypedStmt s ≡ x
 opened s x e = ap out-TypedStmt (sym e) ∙ out-roll-TypedStmt x
 
 -- LISTS
@@ -81,7 +83,7 @@ in_some k (Some w) l e = from_some (number k w) l e
 
 -- a size without a fault is at least 1
 pub size_some : (e : Expr) (G : Scope) → size_fault e G ≡ None → 1 ≤ word_in (length_of e)
-size_some e G h = in_some (constant e).kind (constant e).value e.line (split _ _ h).1
+size_some e G h = in_some (constant [] e).kind (constant [] e).value e.line (split _ _ h).1
 
 -- a declaration changes the innermost block alone
 pub outer_in : (b : Binding) (N : Scope) (F F' : Frame) (G : Scope) → N ≡ F ∷ F' ∷ G → (new : Frame)
@@ -172,11 +174,11 @@ module _ (P : TypedProgram) (f : TypedFunc) where
   SoundElse p = Moves P f (RunsElse P f) (else_after p) (else_fault p) (else_tree p)
 
   -- a node that is well formed makes a statement that is
-  pub run : (b : Bool) (s : TypedStmt) (x : Level) → roll-TypedStmt x ≡ s → Runs P f b x → Run b s
+  pub run : (b : Bool) (s : TypedStmt) (x : level.Level) → roll-TypedStmt x ≡ s → Runs P f b x → Run b s
   run b s x e r = subst (Runs P f b) (sym (opened s x e)) r
 
   -- the same of the first part of a `for`
-  begin : (b : Bool) (s : TypedForInit) (x : rule.Beginning) → roll-TypedForInit x ≡ s → Begins P f b x → Begin b s
+  begin : (b : Bool) (s : TypedForInit) (x : level.Beginning) → roll-TypedForInit x ≡ s → Begins P f b x → Begin b s
   begin b s x e r = subst (Begins P f b) (sym (ap out-TypedForInit (sym e) ∙ out-roll-TypedForInit x)) r
 
   -- a node of a statement, at a line

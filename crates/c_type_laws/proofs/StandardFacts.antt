@@ -21,10 +21,12 @@ use Rattle.c_constant.specs.Kinds.{common, same_kind}
 use Rattle.c_constant.specs.Need.{Needs}
 use Rattle.std.specs.Prelude.{option_map, slice_get}
 use Rattle.c_type_laws.specs.Objects.{slot_scalar, of_function}
-use Rattle.c_type_laws.specs.Expressions.{Node, node_of, Gives, Has, IsObject, Passes}
+use Rattle.c_tree.specs.TypedTrees.{Node, node_of}
+use Rattle.c_type_laws.specs.Expressions.{Gives, Has, IsObject, Passes}
 use Rattle.c_type_laws.specs.Expressions as rule
 use Rattle.c_type_laws.specs.Needs.{FitsNeed}
-use Rattle.c_type_laws.specs.Statements.{Level, IsTest, Runs, RunsAll}
+use Rattle.c_tree.specs.TypedTrees.{Level}
+use Rattle.c_type_laws.specs.Statements.{IsTest, Runs, RunsAll}
 use Rattle.c_type_laws.specs.Statements as run
 use Rattle.c_type_laws.specs.WellFormed.{GlobalFits, FunctionFits, WellFormed}
 use Rattle.c_type_laws.proofs.Moves.{some_is}

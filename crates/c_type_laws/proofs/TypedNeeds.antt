@@ -18,7 +18,7 @@ use Rattle.c_type_expr.specs.declared.role.Role.{Role}
 use Rattle.c_type_expr.specs.Trees.{a, kind_of, converted, assigned_from}
 use Rattle.c_type_expr.specs.Typed.{Typed, Passed, number, scalar, array, ending, element, call, group, operator}
 use Rattle.c_type_expr.specs.Typed.{conversion, step, operation, either, assignment, sequence, none, value, address}
-use Rattle.c_type_laws.specs.Expressions.{Node}
+use Rattle.c_tree.specs.TypedTrees.{Node}
 use Rattle.c_type_laws.specs.Needs.{node_needs, of_needs, typed_needs}
 
 -- the need of a typed expression, by its node

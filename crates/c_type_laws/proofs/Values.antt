@@ -25,7 +25,8 @@ use Rattle.c_type_expr.specs.Trees.{a, kind_of, kind_in, converted, comma}
 use Rattle.c_type_expr.specs.Typed.{Typed, Passed}
 use Rattle.c_type_expr.specs.Typed as typing
 use Rattle.c_type_laws.specs.Objects.{scalar_at, array_at, signature, signature_of}
-use Rattle.c_type_laws.specs.Expressions.{Node, node_of, Gives, Has, IsObject, Passes, itself, named, indexed}
+use Rattle.c_tree.specs.TypedTrees.{Node, node_of}
+use Rattle.c_type_laws.specs.Expressions.{Gives, Has, IsObject, Passes, itself, named, indexed}
 use Rattle.c_type_laws.specs.Expressions as rule
 use Rattle.c_type_laws.proofs.Conversions.{same, commons, unary_settled, settled}
 

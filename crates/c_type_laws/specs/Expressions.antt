@@ -1,6 +1,7 @@
 -- Typed expressions that are well formed (C17 6.5): each node's operands are of the types that the
 -- node wants, with no conversion left to be made. A rule for each node.
 use Rattle.std.specs.Prelude.{◌≡◌, ℕ, false, List, [], ◌∷◌, Option, Some, None}
+use Rattle.c_tree.specs.TypedTrees.{Node, node_of}
 use Rattle.c_tree.specs.declared.token.Kind.{Kind}
 use Rattle.c_tree.specs.declared.tree.UnaryOp.{UnaryOp}
 use Rattle.c_tree.specs.declared.tree.BumpOp.{BumpOp}
@@ -19,13 +20,6 @@ use Rattle.c_tree.specs.declared.typed.TypedProgram.{TypedProgram}
 use Rattle.c_constant.specs.Kinds.{same_kind, common}
 use Rattle.c_constant.specs.Operation.{left_at, right_at, result_of, unary_at, unary_result}
 use Rattle.c_type_laws.specs.Objects.{scalar_at, array_at, signature, signature_of}
-
--- one level of an expression
-abbrev pub Node : Type 0
-Node = TypedNode-F TypedNode TypedExpr
-
-abbrev pub node_of : TypedExpr → Node
-node_of e = out-TypedNode e.node
 
 mutual
   -- the node gives a value of the type; of none, it gives no value

@@ -1,5 +1,6 @@
 -- Typed statements that are well formed (C17 6.8). A rule for each production.
 use Rattle.std.specs.Prelude.{◌≡◌, ℕ, ◌≤◌, Bool, true, List, [], ◌∷◌, Option, Some, None, slice_get}
+use Rattle.c_tree.specs.TypedTrees.{Level, Beginning}
 use Rattle.c_tree.specs.declared.token.Kind.{Kind}
 use Rattle.c_tree.specs.declared.typed.Place.TheVariants as place
 use Rattle.c_tree.specs.declared.typed.Slot.TheVariants as slot
@@ -13,15 +14,9 @@ use Rattle.c_tree.specs.declared.typed.TypedForInit.TheOpen.{TypedStmt-F, TypedF
 use Rattle.c_tree.specs.declared.typed.TypedForInit.TheOpen.{Plain, Compound, If, While, Do, For}
 use Rattle.c_tree.specs.declared.typed.TypedForInit.TheOpen.{Break, Continue, Return, Nothing}
 use Rattle.c_tree.specs.declared.typed.TypedForInit.TheOpen.{First, Locals}
-use Rattle.c_type_laws.specs.Expressions.{Gives, Has, node_of}
+use Rattle.c_tree.specs.TypedTrees.{node_of}
+use Rattle.c_type_laws.specs.Expressions.{Gives, Has}
 use Rattle.c_type_laws.specs.Needs.{FitsNeed}
-
--- one level of a statement, and of the first part of a `for`
-abbrev pub Level : Type 0
-Level = TypedStmt-F TypedForInit TypedStmt
-
-abbrev pub Beginning : Type 0
-Beginning = TypedForInit-F TypedForInit TypedStmt
 
 -- a full expression whose value, of the type, is taken
 abbrev pub IsValue : TypedProgram → TypedFunc → Kind → TypedExpr → Type 0

@@ -1,7 +1,7 @@
 -- A typed program that is well formed: what evaluation and translation may rely on.
 use Rattle.std.specs.Prelude.{◌≡◌, ℕ, ◌+◌, ◌*◌, ◌≤◌, false, List, [], ◌∷◌, Option, Some, None}
 use Rattle.std.specs.Prelude.{length, drop, slice_get}
-use Rattle.c_tree.specs.declared.token.Kind.{Kind}
+use Rattle.c_tree.specs.declared.limits.TheConstants.{MOST_OBJECT_BYTES, MOST_SCALARS}
 use Rattle.c_tree.specs.declared.token.Kind.TheVariants.{Int}
 use Rattle.c_tree.specs.declared.typed.Slot.{Slot}
 use Rattle.c_tree.specs.declared.typed.Slot.TheVariants as slot
@@ -10,8 +10,7 @@ use Rattle.c_tree.specs.declared.typed.TypedFunc.{TypedFunc}
 use Rattle.c_tree.specs.declared.typed.TypedGlobal.{TypedGlobal}
 use Rattle.c_tree.specs.declared.typed.TypedProgram.{TypedProgram}
 use Rattle.c_tree.specs.declared.typed.TypedStmt.{out-TypedStmt}
-use Rattle.c_constant.specs.Kinds.{converted}
-use Rattle.c_type.specs.Declarations.{bytes}
+use Rattle.c_constant.specs.Kinds.{bytes, IsWord}
 use Rattle.c_type_laws.specs.Statements.{Runs}
 
 -- the condition holds of each of the list
@@ -33,11 +32,6 @@ abbrev pub all_bytes : List TypedGlobal → ℕ
 all_bytes [] = 0
 all_bytes (g ∷ gs) = global_bytes g + all_bytes gs
 
--- the word stands for a value of the type
-pub record IsWord (k : Kind) (w : ℕ) : Type 0 where
-  pub of : ℕ
-  pub is : w ≡ converted k of
-
 -- an array has an element; a global holds no fewer values than it is given, each of its type
 pub record GlobalFits (g : TypedGlobal) : Type 0 where
   pub some : 1 ≤ count_of g.length
@@ -46,10 +40,10 @@ pub record GlobalFits (g : TypedGlobal) : Type 0 where
 
 -- FUNCTIONS
 
--- a local array has an element, and at most 1,048,576 bytes
+-- a local array has an element, and no more bytes than an array may have
 pub record ArrayFits (a : TypedArray) : Type 0 where
   pub some : 1 ≤ a.length
-  pub bytes : a.length * bytes a.kind ≤ 1048576
+  pub bytes : a.length * bytes a.kind ≤ MOST_OBJECT_BYTES
 
 -- the slot holds a value, and does not stand for an array
 abbrev pub IsScalar : Slot → Type 0
@@ -60,8 +54,8 @@ pub record FunctionFits (P : TypedProgram) (f : TypedFunc) : Type 0 where
   -- at most 8 parameters, each of which has a slot
   pub params : f.params ≤ 8
   pub slots : f.params ≤ length f.scalars
-  -- at most 64 slots, of which those after the parameters hold values
-  pub scalars : length f.scalars ≤ 64
+  -- no more slots than a function may have scalars, of which those after the parameters hold values
+  pub scalars : length f.scalars ≤ MOST_SCALARS
   pub locals : Each IsScalar (drop f.params f.scalars)
   pub arrays : Each ArrayFits f.arrays
   -- the body is well formed, and in no loop
@@ -78,7 +72,7 @@ pub record IsMain (P : TypedProgram) : Type 0 where
 
 pub record WellFormed (P : TypedProgram) : Type 0 where
   pub globals : Each GlobalFits P.globals
-  -- the globals have at most 1,048,576 bytes
-  pub bytes : all_bytes P.globals ≤ 1048576
+  -- the globals have no more bytes than they may have
+  pub bytes : all_bytes P.globals ≤ MOST_OBJECT_BYTES
   pub functions : Each (FunctionFits P) P.functions
   pub main : IsMain P

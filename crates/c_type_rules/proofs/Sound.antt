@@ -23,7 +23,8 @@ use Rattle.c_type_expr.specs.Constants.{full, word_in, value_fault, size_fault}
 use Rattle.c_type_expr.proofs.Theorem.{sound}
 use Rattle.c_type.specs.declared.state.State.{State}
 use Rattle.c_type.specs.States.{full_if, tree_if, value_of, entered, left, with_scalar, with_array}
-use Rattle.c_type.specs.Declarations.{bytes, is_taken, twice_fault, array_fault, sized_fault}
+use Rattle.c_constant.specs.Kinds.{bytes}
+use Rattle.c_type.specs.Declarations.{is_taken, twice_fault, array_fault, sized_fault}
 use Rattle.c_type.specs.Statements.{part, beginning_of, all_after, all_fault, all_trees, else_after, else_fault, else_tree, rest_fault, return_fault, return_tree}
 use Rattle.c_type.proofs.Nodes.{fault-Declare, tree-Declare, after-Declare, fault-Plain, tree-Plain, after-Plain, fault-Compound, tree-Compound, after-Compound, fault-If, tree-If, after-If, fault-While, tree-While, after-While, fault-Do, tree-Do, after-Do, fault-For, tree-For, after-For, fault-Break, tree-Break, after-Break, fault-Continue, tree-Continue, after-Continue, fault-Return, tree-Return, after-Return, fault-Nothing, tree-Nothing, after-Nothing, fault-First, tree-First, after-First, fault-Locals, tree-Locals, after-Locals}
 use Rattle.c_type_rules.specs.Constants.{Size}

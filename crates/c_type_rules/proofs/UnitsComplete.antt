@@ -47,7 +47,7 @@ use Rattle.c_type_rules.proofs.UnitsSound.{block_body, plain_body}
 use Rattle.c_type_rules.proofs.Tests.{both_hold, neither_holds, kinds, params_are, results_are}
 
 -- a value without a fault has its word by the rules, before others
-value_typed : (G : Scope) (k : Kind) (e : Expr) (es : List Expr) (o : Option ℕ) → (constant e).value ≡ o
+value_typed : (G : Scope) (k : Kind) (e : Expr) (es : List Expr) (o : Option ℕ) → (constant [] e).value ≡ o
     → not_fixed e G ≡ None → is_some o ≡ true → need_fits e ≡ true → Values k es (map (constant_at k) es)
     → Values k (e ∷ es) (map (constant_at k) (e ∷ es))
 value_typed G k e es None v f h n d = absurd (false≢true h)
@@ -63,7 +63,7 @@ values_typed G k (e ∷ es) h =
     let q = split _ _ h in
     let r = split _ _ q.0 in
     let u = split _ _ r.1 in
-    value_typed G k e es (constant e).value refl r.0 (held _ _ u.0) (held _ _ u.1) (values_typed G k es q.1)
+    value_typed G k e es (constant [] e).value refl r.0 (held _ _ u.0) (held _ _ u.1) (values_typed G k es q.1)
 
 -- what a global holds has its count by the rules
 count_typed : (G : Scope) (init : List Expr) (s : ArraySize) (l : ℕ) → count_fault s init l G ≡ None

@@ -29,7 +29,8 @@ use Rattle.c_type_expr.specs.Constants.{word_in, value_fault, constant_at}
 use Rattle.c_type.specs.declared.file_scope.FileScope.{FileScope}
 use Rattle.c_type.specs.declared.state.State.{State}
 use Rattle.c_type.specs.States.{at}
-use Rattle.c_type.specs.Declarations.{bytes, is_end, is_taken}
+use Rattle.c_constant.specs.Kinds.{bytes}
+use Rattle.c_type.specs.Declarations.{is_end, is_taken}
 use Rattle.c_type.specs.Units.{eof_name, getchar_name, putchar_name, int_slots, with_include, include_clash, global_names, length_in, count_of, count_fault, values_fault, function_fault, same_slots}
 use Rattle.c_type.specs.Functions.{slot_of, params_fault, name_fault, head_fault, entry, body_in, body_part, callee_in}
 use Rattle.c_type.specs.Statements.{Part, part}

@@ -1,5 +1,6 @@
 -- Which typed trees a statement has, and the state after it, by one rule for each kind (C17 6.8).
 use Rattle.std.specs.Prelude.{◌≡◌, ℕ, ◌*◌, ◌≤◌, ◌<◌, Bool, true, false, length, List, [], ◌∷◌, Option, Some, None}
+use Rattle.c_tree.specs.declared.limits.TheConstants.{MOST_OBJECT_BYTES, MOST_SCALARS}
 use Rattle.c_tree.specs.declared.token.Kind.{Kind}
 use Rattle.c_tree.specs.declared.tree.ArraySize.TheVariants as size
 use Rattle.c_tree.specs.declared.tree.Expr.{Expr}
@@ -21,7 +22,8 @@ use Rattle.c_type_expr.specs.Trees.{converted}
 use Rattle.c_type_expr.specs.Typed.{Typed}
 use Rattle.c_type.specs.declared.state.State.{State}
 use Rattle.c_type.specs.States.{at, entered, left, with_scalar, with_array}
-use Rattle.c_type.specs.Declarations.{bytes, is_taken}
+use Rattle.c_constant.specs.Kinds.{bytes}
+use Rattle.c_type.specs.Declarations.{is_taken}
 use Rattle.c_type_rules.specs.Constants.{Size}
 
 -- a full expression, whose need is at most the limit
@@ -44,12 +46,12 @@ mutual
   pub data Types : Bool → State → Stmt → TypedStmt → State → Type 0 where
     scalar_declared : {b : Bool} {v : State} {l : ℕ} {k : Kind} {w : List ℕ} {init : Option Expr}
         {t : Option TypedExpr}
-        → is_taken v.names w ≡ false → length v.scalars < 64
+        → is_taken v.names w ≡ false → length v.scalars < MOST_SCALARS
         → Initialises (with_scalar k w v).names k init t
         → Types b v (at l (node.Declare k w size.Scalar init))
         (typed.Declare (place.Scalar (length v.scalars)) t) (with_scalar k w v)
     array_declared : {b : Bool} {v : State} {l n : ℕ} {k : Kind} {w : List ℕ} {e : Expr}
-        → Size e n → is_taken v.names w ≡ false → n * bytes k ≤ 1048576
+        → Size e n → is_taken v.names w ≡ false → n * bytes k ≤ MOST_OBJECT_BYTES
         → Types b v (at l (node.Declare k w (size.Sized e) None))
         (typed.Declare (place.Array (length v.arrays)) None) (with_array k w n v)
     expression : {b : Bool} {v : State} {l : ℕ} {e : Option Expr} {t : Option TypedExpr}

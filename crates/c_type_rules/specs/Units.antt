@@ -1,5 +1,6 @@
 -- Which typed programs a translation unit has, by one rule for each kind of item (C17 6.7, 6.9).
 use Rattle.std.specs.Prelude.{◌≡◌, ℕ, ◌+◌, ◌*◌, ◌≤◌, ◌<◌, Bool, true, false, ◌&&◌, length, List, [], ◌∷◌, ◌++◌, map, Option, Some, None}
+use Rattle.c_tree.specs.declared.limits.TheConstants.{MOST_OBJECT_BYTES}
 use Rattle.c_tree.specs.declared.token.Kind.{Kind}
 use Rattle.c_tree.specs.declared.token.Kind.TheVariants.{Int}
 use Rattle.c_tree.specs.declared.tree.ArraySize.{ArraySize}
@@ -30,7 +31,8 @@ use Rattle.c_scope.specs.Scope.{Scope, look_up, closed}
 use Rattle.c_type.specs.declared.file_scope.FileScope.{FileScope}
 use Rattle.c_type.specs.declared.state.State.{State}
 use Rattle.c_type.specs.States.{at}
-use Rattle.c_type.specs.Declarations.{bytes, is_end, is_taken}
+use Rattle.c_constant.specs.Kinds.{bytes}
+use Rattle.c_type.specs.Declarations.{is_end, is_taken}
 use Rattle.c_type.specs.Units.{eof_name, getchar_name, putchar_name, int_slots, with_include, global_names, length_in}
 use Rattle.c_type.specs.Functions.{slot_of, named_among, with_prototype, entry}
 use Rattle.c_type.specs.Programs.{table, empty_file, main_name, number_in}
@@ -43,7 +45,7 @@ use Rattle.c_type_rules.specs.Statements.{Types, TypesAll}
 pub data Values (k : Kind) : List Expr → List ℕ → Type 0 where
   no_value : Values k [] []
   one_value : {e : Expr} {n : ℕ} {es : List Expr} {ns : List ℕ}
-      → IsConstant e → (constant e).value ≡ Some n → need_fits e ≡ true
+      → IsConstant e → (constant [] e).value ≡ Some n → need_fits e ≡ true
       → Values k es ns → Values k (e ∷ es) (converted k n ∷ ns)
 
 -- how many values a global holds
@@ -110,7 +112,7 @@ pub data Item (T : Scope) : FileScope → TopNode → FileScope → Type 0 where
   include_again : {U : FileScope} → is_end (look_up U.names eof_name) ≡ true → Item T U Include U
   global : {U : FileScope} {k : Kind} {w : List ℕ} {s : ArraySize} {init : List Expr} {n : ℕ}
       {ns : List ℕ}
-      → Count init s n → is_taken U.names w ≡ false → n * bytes k + U.bytes ≤ 1048576
+      → Count init s n → is_taken U.names w ≡ false → n * bytes k + U.bytes ≤ MOST_OBJECT_BYTES
       → Values k init ns → length init ≤ n
       → Item T U (Global k w s init) (record U {
         names = global_names s k w U;

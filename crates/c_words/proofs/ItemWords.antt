@@ -1,6 +1,6 @@
 -- Where each number of a translation unit is a word of its type, so is each number of its typed
 -- program, and each value that a global is given.
-use Rattle.std.proofs.Common.{ℕ, false, List, [], ◌∷◌, ◌++◌, refl, subst}
+use Rattle.std.proofs.Common.{ℕ, false, List, [], ◌∷◌, ◌++◌}
 use Rattle.c_tree.specs.declared.token.Kind.{Kind}
 use Rattle.c_tree.specs.declared.tree.Expr.{Expr}
 use Rattle.c_tree.specs.declared.tree.Program.{Program}
@@ -13,6 +13,7 @@ use Rattle.c_tree.specs.declared.typed.TypedGlobal.{TypedGlobal}
 use Rattle.c_tree.specs.declared.typed.TypedProgram.{TypedProgram}
 use Rattle.c_tree.specs.declared.typed.TypedStmt.{TypedStmt}
 use Rattle.c_tree.specs.declared.typed.TypedStmt.TheVariants as typed
+use Rattle.c_constant.proofs.Conversions.{converted_word}
 use Rattle.c_scope.specs.Scope.{Scope}
 use Rattle.c_type.specs.declared.file_scope.FileScope.{FileScope}
 use Rattle.c_type.specs.declared.state.State.{State}
@@ -21,21 +22,16 @@ use Rattle.c_type.specs.Programs.{table, empty_file}
 use Rattle.c_type_rules.specs.Units.{Values, Body, Item, Items, Accepts}
 use Rattle.c_type_rules.specs.Units as typing
 use Rattle.c_words.specs.Words.{AreWordsOf}
-use Rattle.c_words.specs.Trees.{ExprsHaveWords, one_expr, StmtHasWords, TopHasWords, UnitHasWords}
+use Rattle.c_words.specs.Trees.{StmtHasWords, TopHasWords, UnitHasWords}
 use Rattle.c_words.specs.TypedTrees.{GlobalsHaveWords, FunctionsHaveWords, ProgramHasWords}
 use Rattle.c_words.specs.TypedTrees as words
-use Rattle.c_words.proofs.ConstantWords.{Below, constant_below}
 use Rattle.c_words.proofs.StatementWords.{opened, made, in_compound, types_have, all_have}
 
--- the values of a global
-values_have : (k : Kind) (es : List Expr) (ns : List ℕ) → Values k es ns → ExprsHaveWords es
-    → AreWordsOf k ns
-values_have k _ _ typing.no_value w = tt
-values_have k _ _ (typing.one_value {e = e} {n = n} {es = es} {ns = ns} c v f vs)
-    (one_expr h hs) = (
-      record { of = n; below = subst Below v (constant_below e c h); is = refl },
-      values_have k es ns vs hs,
-    )
+-- the values of a global, each of which is a conversion
+values_have : (k : Kind) (es : List Expr) (ns : List ℕ) → Values k es ns → AreWordsOf k ns
+values_have k _ _ typing.no_value = tt
+values_have k _ _ (typing.one_value {n = n} {es = es} {ns = ns} c v f vs) =
+    (converted_word k n, values_have k es ns vs)
 
 -- a body
 body_has : (v : State) (s : Stmt) (t : TypedStmt) (u : State) → Body v s t u → StmtHasWords s
@@ -70,7 +66,7 @@ module _ (T : Scope) where
   item_has _ _ _ (typing.include_again a) w i = i
   item_has _ _ _ (typing.global {U = U} {k = k} {init = init} {ns = ns} c a m v l) w i =
       record {
-        globals = globals_last U.globals _ i.globals (values_have k init ns v w.1);
+        globals = globals_last U.globals _ i.globals (values_have k init ns v);
         functions = i.functions;
       }
   item_has _ _ _ (typing.prototype a) w i = record { globals = i.globals; functions = i.functions }

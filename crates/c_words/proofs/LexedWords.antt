@@ -6,7 +6,6 @@ use Rattle.std.proofs.lemmas.Bool.Decides.{nat_tests}
 use Rattle.c_tree.specs.declared.Kind.{Kind}
 use Rattle.c_tree.specs.declared.Kind.TheVariants.{Char, UChar, Int, UInt, Long, ULong}
 use Rattle.c_tree.specs.declared.Key.{Key}
-use Rattle.c_constant.specs.Kinds.{converted, by_sign}
 use Rattle.c_lex.specs.declared.piece.Reading.{Reading}
 use Rattle.c_lex.specs.declared.piece.Reading.TheVariants as reads
 use Rattle.c_lex.specs.Ascii as ascii
@@ -19,40 +18,21 @@ use Rattle.c_lex.specs.Pieces as piece
 use Rattle.c_lex.specs.Lexes.{Tokens, Cut}
 use Rattle.c_lex.specs.Lexes as cut
 use Rattle.c_lex.specs.Answers.{Lexed}
-use Rattle.c_words.specs.Words.{IsWordOf, FormHasWord, TokensHaveWords}
+use Rattle.c_constant.specs.Kinds.{IsWord}
+use Rattle.c_words.specs.Words.{FormHasWord, TokensHaveWords}
 
 -- CONSTANTS
 
-low_is : (half low : ℕ) → low < half → by_sign half low ≡ low
-low_is half low h =
-    let e : nat_lt low half ≡ true = grind (arith, nat_tests) in
-    ap (λ b. cond b low (low + (18446744073709551616 - (half + half)))) e
+-- a number below the limit of a type is a word of it
+holds : (k : Kind) (v : ℕ) → v < limit k → IsWord k v
+holds Char v h = record { below = omega arith; narrow = omega arith }
+holds UChar v h = record { below = omega arith; narrow = omega arith }
+holds Int v h = record { below = omega arith; narrow = omega arith }
+holds UInt v h = record { below = omega arith; narrow = omega arith }
+holds Long v h = record { below = omega arith; narrow = omega arith }
+holds ULong v h = record { below = omega arith; narrow = omega arith }
 
-high_is : (half low : ℕ) → half ≤ low
-    → by_sign half low ≡ low + (18446744073709551616 - (half + half))
-high_is half low h =
-    let e : nat_lt low half ≡ false = grind (arith, nat_tests) in
-    ap (λ b. cond b low (low + (18446744073709551616 - (half + half)))) e
-
--- what a type holds, and its conversion leaves
-holds : (k : Kind) (v : ℕ) → v < limit k → IsWordOf k v
-unfolding converted
-holds Char v h = record {
-  of = v;
-  below = omega arith;
-  is = (let e : v % 256 ≡ v = omega arith in sym (ap (by_sign 128) e ∙ low_is 128 v (omega arith)));
-}
-holds UChar v h = record { of = v; below = omega arith; is = omega arith }
-holds Int v h = record {
-  of = v;
-  below = omega arith;
-  is = (let e : v % 4294967296 ≡ v = omega arith in
-      sym (ap (by_sign 2147483648) e ∙ low_is 2147483648 v (omega arith)));
-}
-holds UInt v h = record { of = v; below = omega arith; is = omega arith }
-holds Long v h = record { of = v; below = omega arith; is = refl }
-holds ULong v h = record { of = v; below = h; is = refl }
-
+-- a test of numbers that holds
 below : (v n : ℕ) → nat_lt v n ≡ true → v < n
 below v n e = grind (arith, nat_tests)
 
@@ -71,21 +51,14 @@ first_holds v (j ∷ js) k h =
 -- CHARACTERS
 
 -- a byte's value as that of a signed char is a word of an int
-signed_is : (v : ℕ) → v ≤ 255 → IsWordOf Int (signed_char v)
-unfolding converted
+signed_is : (v : ℕ) → v ≤ 255 → IsWord Int (signed_char v)
 signed_is v h = by (nat_lt v 128) refl
   where
-    by : (b : Bool) → nat_lt v 128 ≡ b → IsWordOf Int (cond b v (2 ^ 64 - 256 + v))
-    by true e = holds Int v (let l : v < 128 = grind (arith, nat_tests) in omega arith)
-    by false e =
-        let l : 128 ≤ v = grind (arith, nat_tests) in
-        let low : (2 ^ 64 - 256 + v) % 4294967296 ≡ 4294967040 + v = omega arith in
-        record {
-          of = 2 ^ 64 - 256 + v;
-          below = omega arith;
-          is = sym (ap (by_sign 2147483648) low ∙ high_is 2147483648 (4294967040 + v) (omega arith)
-              ∙ omega arith);
-        }
+    by : (b : Bool) → nat_lt v 128 ≡ b → IsWord Int (cond b v (2 ^ 64 - 256 + v))
+    by true e = let l : v < 128 = grind (arith, nat_tests) in
+        record { below = omega arith; narrow = omega arith }
+    by false e = let l : 128 ≤ v = grind (arith, nat_tests) in
+        record { below = omega arith; narrow = omega arith }
 
 plain_low : (b : ℕ) → is_plain b ≡ true → b ≤ 255
 plain_low b h = by (within ascii.space ascii.tilde b) refl h

@@ -4,6 +4,5 @@ pub mod Spelled
 pub mod Written
 pub mod Units
 pub mod TypedWords
-pub mod ConstantWords
 pub mod StatementWords
 pub mod ItemWords

@@ -16,7 +16,8 @@ use Rattle.c_grammar.specs.Expressions.{Phrase, Spells}
 use Rattle.c_grammar.specs.Expressions as e
 use Rattle.c_words.specs.Words.{TokensHaveWords}
 use Rattle.c_words.specs.Assigners.{IsAssigner}
-use Rattle.c_words.specs.Trees.{Node, NodeHasWords, ExprHasWords, ExprsHaveWords}
+use Rattle.c_tree.specs.Trees.{Node}
+use Rattle.c_words.specs.Trees.{NodeHasWords, ExprHasWords, ExprsHaveWords}
 use Rattle.c_words.specs.Trees as has
 
 -- each number of the phrase is a word of its type

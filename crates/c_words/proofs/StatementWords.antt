@@ -1,6 +1,8 @@
 -- Where each number of a statement is a word of its type, so is each number of its typed tree.
 use Rattle.std.proofs.Common.{◌≡◌, ℕ, Bool, true, List, ◌∷◌, Option, Some, None, sym, ap, ◌∙◌}
 use Rattle.std.proofs.Common.{subst}
+use Rattle.c_tree.specs.Trees as untyped
+use Rattle.c_tree.specs.TypedTrees as level
 use Rattle.c_tree.specs.declared.token.Kind.{Kind}
 use Rattle.c_tree.specs.declared.tree.ArraySize.{ArraySize}
 use Rattle.c_tree.specs.declared.tree.Expr.{Expr}
@@ -48,14 +50,14 @@ initialises_has G k _ _ (typing.with_value {e = e} {t = t} d) w =
 -- NODES OF A STATEMENT
 
 -- a node that is built is open again
-pub opened : (n : StmtNode) (x : plain.Level) → roll-StmtNode x ≡ n
+pub opened : (n : StmtNode) (x : untyped.Level) → roll-StmtNode x ≡ n
     → plain.LevelHasWords (out-StmtNode n) → plain.LevelHasWords x
 opened n x e h = subst plain.LevelHasWords (ap out-StmtNode (sym e) ∙ out-roll-StmtNode x) h
 
 -- the same of the first part of a `for`
-first_opened : (n : ForInit) (x : plain.Beginning) → roll-ForInit x ≡ n
-    → plain.BeginningHasWords (out-ForInit n) → plain.BeginningHasWords x
-first_opened n x e h = subst plain.BeginningHasWords (ap out-ForInit (sym e) ∙ out-roll-ForInit x) h
+first_opened : (n : ForInit) (x : untyped.Beginning) → roll-ForInit x ≡ n
+    → untyped.BeginningHasWords (out-ForInit n) → untyped.BeginningHasWords x
+first_opened n x e h = subst untyped.BeginningHasWords (ap out-ForInit (sym e) ∙ out-roll-ForInit x) h
 
 -- what has words has parts that have words
 in_declare : {k : Kind} {w : List ℕ} {a : ArraySize} {init : Option Expr}
@@ -88,7 +90,7 @@ in_do (plain.do_loop h h') = (h, h')
 
 -- the parts of a `for`
 record OfFor (i : ForInit) (c p : Option Expr) (s : Stmt) : Type 0 where
-  beginning : plain.BeginningHasWords (out-ForInit i)
+  beginning : untyped.BeginningHasWords (out-ForInit i)
   test : plain.ExprIfHasWords c
   progress : plain.ExprIfHasWords p
   body : plain.StmtHasWords s
@@ -103,10 +105,10 @@ in_return (plain.returns h) = h
 in_else : {s : Stmt} → plain.ElseHasWords (Some s) → plain.StmtHasWords s
 in_else (plain.with_else h) = h
 
-in_first : {e : Expr} → plain.BeginningHasWords (First e) → plain.ExprHasWords e
+in_first : {e : Expr} → untyped.BeginningHasWords (First e) → plain.ExprHasWords e
 in_first (plain.first h) = h
 
-in_locals : {ss : List Stmt} → plain.BeginningHasWords (Locals ss) → plain.StmtsHaveWords ss
+in_locals : {ss : List Stmt} → untyped.BeginningHasWords (Locals ss) → plain.StmtsHaveWords ss
 in_locals (plain.locals h) = h
 
 first_stmt : {s : Stmt} {ss : List Stmt} → plain.StmtsHaveWords (s ∷ ss) → plain.StmtHasWords s
@@ -118,14 +120,14 @@ rest_stmts (plain.one_stmt h hs) = hs
 -- NODES OF A TYPED STATEMENT
 
 -- a typed node has words where its open node has
-pub made : (n : TypedStmt) (x : words.Level) → roll-TypedStmt x ≡ n → words.LevelHasWords x
+pub made : (n : TypedStmt) (x : level.Level) → roll-TypedStmt x ≡ n → words.LevelHasWords x
     → words.StmtHasWords n
 made n x e h = subst words.LevelHasWords (sym (out-roll-TypedStmt x) ∙ ap out-TypedStmt e) h
 
 -- the same of the first part of a `for`
-first_made : (n : TypedForInit) (x : words.Beginning) → roll-TypedForInit x ≡ n
-    → words.BeginningHasWords x → words.BeginningHasWords (out-TypedForInit n)
-first_made n x e h = subst words.BeginningHasWords
+first_made : (n : TypedForInit) (x : level.Beginning) → roll-TypedForInit x ≡ n
+    → typed.BeginningHasWords x → typed.BeginningHasWords (out-TypedForInit n)
+first_made n x e h = subst typed.BeginningHasWords
     (sym (out-roll-TypedForInit x) ∙ ap out-TypedForInit e) h
 
 -- STATEMENTS
@@ -192,7 +194,7 @@ mutual
 
   -- the same of the first part of a `for`
   begin_has : (b : Bool) (v : State) (i : ForInit) (j : TypedForInit) (w : State) → Begins b v i j w
-      → plain.BeginningHasWords (out-ForInit i) → words.BeginningHasWords (out-TypedForInit j)
+      → untyped.BeginningHasWords (out-ForInit i) → typed.BeginningHasWords (out-TypedForInit j)
   begin_has _ _ _ _ _ typing.no_first x = first_made _ _ typed_init.rolls-Nothing words.nothing
   begin_has _ _ _ _ _ (typing.first_value {v = v} {e = e} {t = t} d) x =
       first_made _ _ (typed_init.rolls-First t)

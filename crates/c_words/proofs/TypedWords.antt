@@ -1,6 +1,8 @@
 -- Where each number of an expression is a word of its type, so is each number of its typed tree.
 use Rattle.std.proofs.Common.{◌≡◌, ℕ, Bool, true, false, cond, List, ◌∷◌, Option, Some, refl, sym}
 use Rattle.std.proofs.Common.{ap, ◌∙◌, subst, arith}
+use Rattle.c_tree.specs.Trees as untyped
+use Rattle.c_tree.specs.TypedTrees as level
 use Rattle.c_tree.specs.declared.token.Kind.{Kind}
 use Rattle.c_tree.specs.declared.token.Kind.TheVariants.{Int}
 use Rattle.c_tree.specs.declared.tree.UnaryOp.{UnaryOp}
@@ -19,7 +21,6 @@ use Rattle.c_tree.specs.declared.typed.TypedNode.{out-roll-TypedNode}
 use Rattle.c_tree.specs.declared.typed.TypedNode.TheVariants as typed
 use Rattle.c_scope.specs.Scope.{Scope}
 use Rattle.c_constant.specs.Kinds.{same_kind, common}
-use Rattle.c_constant.specs.Kinds as kinds
 use Rattle.c_constant.specs.Operation.{left_at, right_at, unary_at}
 use Rattle.c_type_expr.specs.declared.role.Role.{Role}
 use Rattle.c_type_expr.specs.declared.role.Role.TheVariants.{Value, Free, Written, Array}
@@ -27,7 +28,7 @@ use Rattle.c_type_expr.specs.Trees.{a, kind_of, converted, end_of_file, unary, b
 use Rattle.c_type_expr.specs.Trees.{assign, assigned_at, assigned_from}
 use Rattle.c_type_expr.specs.Typed.{Typed, Passed}
 use Rattle.c_type_expr.specs.Typed as typing
-use Rattle.c_words.specs.Words.{IsWordOf}
+use Rattle.c_constant.specs.Kinds.{IsWord}
 use Rattle.c_words.specs.Assigners.{IsAssigner}
 use Rattle.c_words.specs.Trees as plain
 use Rattle.c_words.specs.TypedTrees as words
@@ -35,12 +36,12 @@ use Rattle.c_words.specs.TypedTrees as words
 -- NODES OF AN EXPRESSION
 
 -- a node that is built is open again
-pub opened : (n : ExprNode) (x : plain.Node) → roll-ExprNode x ≡ n
+pub opened : (n : ExprNode) (x : untyped.Node) → roll-ExprNode x ≡ n
     → plain.NodeHasWords (out-ExprNode n) → plain.NodeHasWords x
 opened n x e h = subst plain.NodeHasWords (ap out-ExprNode (sym e) ∙ out-roll-ExprNode x) h
 
 -- what has words has parts that have words
-pub word_of_number : {v : ℕ} {k : Kind} → plain.NodeHasWords (Number v k) → IsWordOf k v
+pub word_of_number : {v : ℕ} {k : Kind} → plain.NodeHasWords (Number v k) → IsWord k v
 word_of_number (plain.number h) = h
 
 in_element : {w : List ℕ} {i : Expr} → plain.NodeHasWords (Element w i) → plain.ExprHasWords i
@@ -96,7 +97,7 @@ rest_exprs (plain.one_expr h hs) = hs
 -- NODES OF A TYPED TREE
 
 -- a typed node has words where its open node has
-pub made : (r : Option Kind) (n : TypedNode) (x : words.Node) → roll-TypedNode x ≡ n
+pub made : (r : Option Kind) (n : TypedNode) (x : level.Node) → roll-TypedNode x ≡ n
     → words.NodeHasWords r x → words.NodeHasWords r (out-TypedNode n)
 made r n x e h = subst (words.NodeHasWords r) (sym (out-roll-TypedNode x) ∙ ap out-TypedNode e) h
 
@@ -110,9 +111,8 @@ converted_has k t h = by (same_kind (kind_of t) k)
     by false = made _ _ _ (typed.rolls-Convert k t) (words.conversion h)
 
 -- the word of -1
-end_of_file_is : IsWordOf Int 18446744073709551615
-unfolding kinds.converted
-end_of_file_is = record { of = 18446744073709551615; below = omega arith; is = refl }
+end_of_file_is : IsWord Int 18446744073709551615
+end_of_file_is = record { below = omega arith; narrow = omega arith }
 
 -- the tree of `EOF`
 end_of_file_has : words.ExprHasWords end_of_file

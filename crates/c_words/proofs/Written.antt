@@ -12,7 +12,8 @@ use Rattle.c_grammar.specs.Tokens.{Tokens, May}
 use Rattle.c_grammar.specs.Statements.{Phrase, for_init, Writes}
 use Rattle.c_grammar.specs.Statements as s
 use Rattle.c_words.specs.Words.{TokensHaveWords}
-use Rattle.c_words.specs.Trees.{ExprHasWords, ExprIfHasWords, SizeHasWords, Level, Beginning}
+use Rattle.c_tree.specs.Trees.{Level, Beginning}
+use Rattle.c_words.specs.Trees.{ExprHasWords, ExprIfHasWords, SizeHasWords}
 use Rattle.c_words.specs.Trees.{LevelHasWords, StmtHasWords, StmtsHaveWords, BeginningHasWords}
 use Rattle.c_words.specs.Trees as has
 use Rattle.c_words.proofs.Spelled.{named_type, spelled}

@@ -1,6 +1,7 @@
 -- Trees each of whose numbers is a word of its type, and each of whose assignments has an operator
 -- that C gives one. A rule for each node.
 use Rattle.std.specs.Prelude.{ℕ, List, [], ◌∷◌, Option, Some, None}
+use Rattle.c_tree.specs.Trees.{Node, node_of, Level, level_of, Beginning}
 use Rattle.c_tree.specs.declared.token.Kind.{Kind}
 use Rattle.c_tree.specs.declared.tree.UnaryOp.{UnaryOp}
 use Rattle.c_tree.specs.declared.tree.BumpOp.{BumpOp}
@@ -21,21 +22,14 @@ use Rattle.c_tree.specs.declared.tree.ForInit.TheOpen.{Continue, Return, Nothing
 use Rattle.c_tree.specs.declared.tree.Top.{Top}
 use Rattle.c_tree.specs.declared.tree.TopNode.{TopNode}
 use Rattle.c_tree.specs.declared.tree.TopNode.TheVariants as top
-use Rattle.c_words.specs.Words.{IsWordOf}
+use Rattle.c_constant.specs.Kinds.{IsWord}
 use Rattle.c_words.specs.Assigners.{IsAssigner}
 
 -- EXPRESSIONS
 
--- one level of an expression
-abbrev pub Node : Type 0
-Node = ExprNode-F ExprNode Expr
-
-abbrev pub node_of : Expr → Node
-node_of e = out-ExprNode e.node
-
 mutual
   pub data NodeHasWords : Node → Type 0 where
-    number : {v : ℕ} {k : Kind} → IsWordOf k v → NodeHasWords (Number v k)
+    number : {v : ℕ} {k : Kind} → IsWord k v → NodeHasWords (Number v k)
     name : {w : List ℕ} → NodeHasWords (Name w)
     element : {w : List ℕ} {i : Expr}
         → NodeHasWords (node_of i) → NodeHasWords (Element w i)
@@ -72,16 +66,6 @@ SizeHasWords (size.Sized e) = ExprHasWords e
 SizeHasWords _ = Unit {0}
 
 -- STATEMENTS
-
--- one level of a statement, and of the first part of a `for`
-abbrev pub Level : Type 0
-Level = StmtNode-F ForInit StmtNode Stmt
-
-abbrev pub level_of : Stmt → Level
-level_of s = out-StmtNode s.node
-
-abbrev pub Beginning : Type 0
-Beginning = ForInit-F ForInit StmtNode Stmt
 
 mutual
   pub data LevelHasWords : Level → Type 0 where

@@ -1,6 +1,7 @@
 -- Typed trees each of whose numbers is a word of its type, and each of whose assignments has an
 -- operator that C gives one. A rule for each node.
 use Rattle.std.specs.Prelude.{ℕ, List, [], ◌∷◌, Option, Some, None}
+use Rattle.c_tree.specs.TypedTrees.{Node, node_of, Level, Beginning}
 use Rattle.c_tree.specs.declared.token.Kind.{Kind}
 use Rattle.c_tree.specs.declared.tree.UnaryOp.{UnaryOp}
 use Rattle.c_tree.specs.declared.tree.BumpOp.{BumpOp}
@@ -21,22 +22,16 @@ use Rattle.c_tree.specs.declared.typed.TypedForInit.TheOpen.{First, Locals}
 use Rattle.c_tree.specs.declared.typed.TypedGlobal.{TypedGlobal}
 use Rattle.c_tree.specs.declared.typed.TypedFunc.{TypedFunc}
 use Rattle.c_tree.specs.declared.typed.TypedProgram.{TypedProgram}
-use Rattle.c_words.specs.Words.{IsWordOf, AreWordsOf}
+use Rattle.c_constant.specs.Kinds.{IsWord}
+use Rattle.c_words.specs.Words.{AreWordsOf}
 use Rattle.c_words.specs.Assigners.{IsAssigner}
 
 -- EXPRESSIONS
 
--- one level of an expression
-abbrev pub Node : Type 0
-Node = TypedNode-F TypedNode TypedExpr
-
-abbrev pub node_of : TypedExpr → Node
-node_of e = out-TypedNode e.node
-
 mutual
   -- the node, of this type, has only words of their types; a number has a type
   pub data NodeHasWords : Option Kind → Node → Type 0 where
-    number : {k : Kind} {w : ℕ} → IsWordOf k w → NodeHasWords (Some k) (Number w)
+    number : {k : Kind} {w : ℕ} → IsWord k w → NodeHasWords (Some k) (Number w)
     name : {r : Option Kind} {p : Place} → NodeHasWords r (Name p)
     element : {r : Option Kind} {p : Place} {i : TypedExpr}
         → NodeHasWords i.kind (node_of i) → NodeHasWords r (Element p i)
@@ -76,13 +71,6 @@ ExprIfHasWords None = Unit {0}
 ExprIfHasWords (Some e) = ExprHasWords e
 
 -- STATEMENTS
-
--- one level of a statement, and of the first part of a `for`
-abbrev pub Level : Type 0
-Level = TypedStmt-F TypedForInit TypedStmt
-
-abbrev pub Beginning : Type 0
-Beginning = TypedForInit-F TypedForInit TypedStmt
 
 mutual
   pub data LevelHasWords : Level → Type 0 where

@@ -4,24 +4,19 @@ use Rattle.c_tree.specs.declared.token.Kind.{Kind}
 use Rattle.c_tree.specs.declared.token.Form.{Form}
 use Rattle.c_tree.specs.declared.token.Form.TheVariants as form
 use Rattle.c_tree.specs.declared.token.Lexeme.{Lexeme}
-use Rattle.c_constant.specs.Kinds.{converted}
-
--- the word of a value of the type: what a word of 64 bits is converted to
-pub record IsWordOf (k : Kind) (w : ℕ) : Type 0 where
-  pub of : ℕ
-  pub below : of < 2 ^ 64
-  pub is : w ≡ converted k of
+use Rattle.c_constant.specs.Kinds.{IsWord}
 
 -- each of the words is one of the type
 abbrev pub AreWordsOf : Kind → List ℕ → Type 0
 AreWordsOf k [] = Unit {0}
-AreWordsOf k (w ∷ ws) = IsWordOf k w × AreWordsOf k ws
+AreWordsOf k (w ∷ ws) = IsWord k w × AreWordsOf k ws
 
 -- a constant's value is a word of its type
 abbrev pub FormHasWord : Form → Type 0
-FormHasWord (form.Number v k) = IsWordOf k v
+FormHasWord (form.Number v k) = IsWord k v
 FormHasWord _ = Unit {0}
 
+-- so is each of a text's tokens
 abbrev pub TokensHaveWords : List Lexeme → Type 0
 TokensHaveWords [] = Unit {0}
 TokensHaveWords (t ∷ ts) = FormHasWord t.form × TokensHaveWords ts

@@ -20,7 +20,8 @@ use Rattle.c_meaning_spec.specs.State.{Result, Go, Over, then, spend, want, cell
 use Rattle.c_meaning_spec.specs.State as eval
 use Rattle.c_meaning_spec.specs.Task.{Of, array_of, name, is_array}
 use Rattle.c_meaning_spec.specs.Call.{called, arguments}
-use Rattle.c_meaning_spec.specs.Expression.{Node, node_of, opened, expression}
+use Rattle.c_tree.specs.TypedTrees.{Node, node_of}
+use Rattle.c_meaning_spec.specs.Expression.{opened, expression}
 use Rattle.c_meaning_spec.specs.Eval.{meaning}
 use Rattle.c_meaning_spec.proofs.Equations.{meaning-is}
 use Rattle.c_meaning_spec.proofs.Induction.{meaning-falls}
@@ -31,7 +32,7 @@ use Rattle.ir_forms.specs.FlatRuns.{checked}
 use Rattle.ir_forms.proofs.Steps.{then_then}
 use Rattle.flat_lower.specs.Tree as tree
 use Rattle.flat_lower.specs.TreeViews.{expr_of, exprs_of}
-use Rattle.flat_lower.specs.Kinds.{IsWord}
+use Rattle.c_constant.specs.Kinds.{IsWord}
 use Rattle.flat_lower.specs.Operations.{temp, copied}
 use Rattle.flat_lower.specs.Objects.{Context, whole_code}
 use Rattle.flat_lower.specs.Expressions.{global_code, name_code, expr_code, args_code, temps}

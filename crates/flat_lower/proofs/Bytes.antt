@@ -7,7 +7,7 @@ use Rattle.std.proofs.lemmas.Bool.Decides.{nat_tests}
 use Rattle.c_tree.specs.declared.Kind.{Kind}
 use Rattle.c_tree.specs.declared.Kind.TheVariants.{Char, UChar, Int, UInt, Long, ULong}
 use Rattle.c_constant.specs.Kinds.{converted}
-use Rattle.c_meaning_spec.specs.Call.{size_of}
+use Rattle.c_constant.specs.Kinds.{bytes}
 use Rattle.trips_isa.specs.declared.op.Op.{Op}
 use Rattle.trips_isa.specs.Alu.{loaded_as}
 use Rattle.trips_isa.specs.Forms as isa
@@ -16,9 +16,9 @@ use Rattle.ir_forms.specs.Cells.{Mark, Closed, Open, Held, Cell, Memory, number_
 use Rattle.ir_forms.specs.Cells.{number_put, is_held, is_open, all_held, all_open, marked, provided}
 use Rattle.ir_forms.specs.Cells.{load, save}
 use Rattle.ir_forms.specs.FlatRuns.{checked}
-use Rattle.flat_lower.specs.Kinds.{IsWord}
+use Rattle.c_constant.specs.Kinds.{IsWord}
 use Rattle.flat_lower.specs.Operations.{load_op, save_op}
-use Rattle.flat_lower.proofs.Words.{converted_is}
+use Rattle.c_constant.proofs.Conversions.{converted_is}
 
 -- BYTES THAT ARE THE SAME
 
@@ -45,7 +45,7 @@ open_same m n a (suc k) h = ap₂ (λ x c. x && is_open c.mark) (open_same m n a
     (h k (omega arith))
 
 -- a load sees only its own bytes
-pub load_same : (k : Kind) (m n : Memory) (a : ℕ) → SameOn m n a (size_of k)
+pub load_same : (k : Kind) (m n : Memory) (a : ℕ) → SameOn m n a (bytes k)
     → load checked (load_op k) m a ≡ load checked (load_op k) n a
 unfolding load
 load_same k m n a h = go k h
@@ -57,7 +57,7 @@ load_same k m n a h = go k h
     by_size o s h = ap₂ (λ b x. cond (is_good_address a s) (provided true b (loaded_as o x)) None)
         (held_same m n a s h) (number_same m n a s h)
 
-    go : (k : Kind) → SameOn m n a (size_of k)
+    go : (k : Kind) → SameOn m n a (bytes k)
         → load checked (load_op k) m a ≡ load checked (load_op k) n a
     go Char h = by_size (load_op Char) 1 h
     go UChar h = by_size (load_op UChar) 1 h
@@ -146,9 +146,9 @@ put_open k m a v b n h = each_open (number_put m a k v) b n
     (λ i lt. cell_open k m a v (b + i) (open_each m b n h i lt))
 
 -- a word of a type, saved
-pub save_is : (k : Kind) (m : Memory) (a v : ℕ) → is_good_address a (size_of k) ≡ true
-    → all_open m a (size_of k) ≡ true → save checked (save_op k) m a v
-    ≡ Some (number_put m a (size_of k) v)
+pub save_is : (k : Kind) (m : Memory) (a v : ℕ) → is_good_address a (bytes k) ≡ true
+    → all_open m a (bytes k) ≡ true → save checked (save_op k) m a v
+    ≡ Some (number_put m a (bytes k) v)
 unfolding save
 save_is k m a v g h = go k g h
   where
@@ -157,8 +157,8 @@ save_is k m a v g h = go k g h
         ≡ Some (number_put m a s v)
     by_size s g h = ap₂ (λ x y. cond x (provided true y (number_put m a s v)) None) g h
 
-    go : (k : Kind) → is_good_address a (size_of k) ≡ true → all_open m a (size_of k) ≡ true
-        → save checked (save_op k) m a v ≡ Some (number_put m a (size_of k) v)
+    go : (k : Kind) → is_good_address a (bytes k) ≡ true → all_open m a (bytes k) ≡ true
+        → save checked (save_op k) m a v ≡ Some (number_put m a (bytes k) v)
     go Char g h = by_size 1 g h
     go UChar g h = by_size 1 g h
     go Int g h = by_size 4 g h
@@ -184,7 +184,7 @@ again_int : (v : ℕ) → converted Int (v % 4294967296) ≡ converted Int v
 unfolding converted
 again_int v = let e : v % 4294967296 % 4294967296 ≡ v % 4294967296 = omega arith in ap (λ x. cond (nat_lt x 2147483648) x (x + (18446744073709551616 - (2147483648 + 2147483648)))) e
 
-loaded_again : (k : Kind) (v : ℕ) → IsWord k v → loaded_as (load_op k) (low_bytes (size_of k) v) ≡ v
+loaded_again : (k : Kind) (v : ℕ) → IsWord k v → loaded_as (load_op k) (low_bytes (bytes k) v) ≡ v
 unfolding converted
 loaded_again Char v f = ap (loaded_as (load_op Char)) (low_one v) ∙ again_char v
     ∙ converted_is Char v f
@@ -196,8 +196,8 @@ loaded_again Long v f = low_eight v f.below
 loaded_again ULong v f = low_eight v f.below
 
 -- a load after a save of the same element
-pub load_saved : (k : Kind) (m : Memory) (a v : ℕ) → is_good_address a (size_of k) ≡ true
-    → IsWord k v → load checked (load_op k) (number_put m a (size_of k) v) a ≡ Some v
+pub load_saved : (k : Kind) (m : Memory) (a v : ℕ) → is_good_address a (bytes k) ≡ true
+    → IsWord k v → load checked (load_op k) (number_put m a (bytes k) v) a ≡ Some v
 unfolding load
 load_saved k m a v g f = go k g ∙ ap Some (loaded_again k v f)
   where
@@ -209,9 +209,9 @@ load_saved k m a v g f = go k g ∙ ap Some (loaded_again k v f)
         None) g (put_held s m a v)
         ∙ ap (λ n. Some (loaded_as o n)) (put_number s m a v)
 
-    go : (k : Kind) → is_good_address a (size_of k) ≡ true
-        → load checked (load_op k) (number_put m a (size_of k) v) a
-        ≡ Some (loaded_as (load_op k) (low_bytes (size_of k) v))
+    go : (k : Kind) → is_good_address a (bytes k) ≡ true
+        → load checked (load_op k) (number_put m a (bytes k) v) a
+        ≡ Some (loaded_as (load_op k) (low_bytes (bytes k) v))
     go Char g = by_size (load_op Char) 1 g
     go UChar g = by_size (load_op UChar) 1 g
     go Int g = by_size (load_op Int) 4 g
@@ -220,7 +220,7 @@ load_saved k m a v g f = go k g ∙ ap Some (loaded_again k v f)
     go ULong g = by_size (load_op ULong) 8 g
 
 -- a load of other bytes
-pub load_apart : (k : Kind) (m : Memory) (a s v b : ℕ) → ((b + size_of k ≤ a) ⊎ (a + s ≤ b))
+pub load_apart : (k : Kind) (m : Memory) (a s v b : ℕ) → ((b + bytes k ≤ a) ⊎ (a + s ≤ b))
     → load checked (load_op k) (number_put m a s v) b ≡ load checked (load_op k) m b
 load_apart k m a s v b (inl h) = load_same k (number_put m a s v) m b
     (λ i lt. put_there s m a v (b + i) (inl (omega arith)))
@@ -267,7 +267,7 @@ marked_open m at size c b n (inr h) o = open_same (marked m at size c) m b n
     (λ i lt. marked_out m at size c (b + i) (inr (omega arith))) ∙ o
 
 pub load_marked : (k : Kind) (m : Memory) (at size : ℕ) (c : Mark) (b : ℕ)
-    → ((b + size_of k ≤ at) ⊎ (at + size ≤ b))
+    → ((b + bytes k ≤ at) ⊎ (at + size ≤ b))
     → load checked (load_op k) (marked m at size c) b ≡ load checked (load_op k) m b
 load_marked k m at size c b (inl h) = load_same k (marked m at size c) m b
     (λ i lt. marked_out m at size c (b + i) (inl (omega arith)))

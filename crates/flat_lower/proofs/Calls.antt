@@ -42,7 +42,7 @@ use Rattle.ir_forms.proofs.Steps.{call_leads, get_leads, put_leads, then_moves, 
 use Rattle.flat_lower.specs.Tree.{Func}
 use Rattle.flat_lower.specs.Tree as tree
 use Rattle.flat_lower.specs.TreeViews.{func_of, expr_of, exprs_of, stmt_of, source_of}
-use Rattle.flat_lower.specs.Kinds.{IsWord}
+use Rattle.c_constant.specs.Kinds.{IsWord}
 use Rattle.flat_lower.specs.Operations.{temp}
 use Rattle.flat_lower.specs.Expressions.{temps, result_var, call_code, args_code, expr_code}
 use Rattle.flat_lower.specs.Fits.{FitsArgs, FitsCall, FitsExpr, FitsOne, FitsFunc, FitsSource}
@@ -103,6 +103,16 @@ byte_fits w h = record { below = omega arith; narrow = omega arith }
 module _ (P : TypedProgram) (most : ℕ) (sound : FitsSource (source_of P)) (large : IsMost (source_of P) most) (S : Scene) (y : IsScene P S) where
   -- FUNCTIONS
 
+  -- main is of type int
+  main_is_int : (j : ℕ) (f : TypedFunc) → slice_get P.functions j ≡ Some f → nat_eq j P.main ≡ true
+      → f.result ≡ Some Int
+  main_is_int j f found e =
+      let main = sound.main in
+      let same : j ≡ P.main = same_count j P.main e in
+      let at : slice_get (map func_of P.functions) P.main ≡ Some (func_of f) = subst (λ n. slice_get (map func_of P.functions) n ≡ Some (func_of f)) same (func_at P.functions j f found) in
+      let is : main.main ≡ func_of f = cc (sym main.found ∙ at) in
+      sym (ap (λ (g : Func). g.result) is) ∙ main.result
+
   -- the arguments are there, and a step is spent: the frame has room or it has not
   entering : (j : ℕ) (f : TypedFunc) (found : slice_get P.functions j ≡ Some f) (xs : List Arg)
       (ws vs : List ℕ) (d top low : ℕ) (k : Option Kind) (s : eval.State) (f0 g : State) → d < 16
@@ -112,7 +122,7 @@ module _ (P : TypedProgram) (most : ℕ) (sound : FitsSource (source_of P)) (lar
       → low ≤ s.stock + most * g.rounds
       → (b : Bool) → nat_le (s.room + frame f) 1048576 ≡ b
       → FollowsHere P most S y d k f0 (only (flat.Call j xs (result_var k d) stays)) g top low
-      (entered_if (meaning P) b f ws s)
+      (entered_if (meaning P) (nat_eq j P.main) b f ws s)
   entering j f found xs ws vs d top low k s f0 g ld h ek are reads ke count hu hl false e =
       let F = lowered_of P most f (nat_eq j P.main) in
       let same : s.room + frame f ≡ S.env.used + frame_of F = ap₂ (λ a b. a + b) ke.rel.room (frame_is P f F (lowered_is P most f (nat_eq j P.main))) in
@@ -139,7 +149,7 @@ module _ (P : TypedProgram) (most : ℕ) (sound : FitsSource (source_of P)) (lar
       let all = sound.room in
       let scene = called_is P S y f F is few (omega arith) in
       let first = begins P S y f F is ws vs s (counted g) (omega arith) are (recounted S s g ke.rel) in
-      comes_back P most S y j f found vs g xs reads d ld k ek f0 room s top low
+      comes_back P most S y j f found vs g xs reads d ld k ek f0 room (main_is_int j f found) s top low
       (meaning P (Run f.body) (entered f ws s)) ke.rel ke (omega arith)
       (h (called_scene P S f F) scene (top - 11) low _ fits.body (omega arith) first (omega arith)
       (omega (arith, mul-suc most g.rounds)))
@@ -156,9 +166,9 @@ module _ (P : TypedProgram) (most : ℕ) (sound : FitsSource (source_of P)) (lar
   calling j f found xs ws vs d top low bound k s f0 g ld h lt ek are reads ke hu hl =
       let a = only (flat.Call j xs (result_var k d) stays) in
       spending P most S y (Valued S d k f0) a s g top low
-      (enter (meaning P) (slice_get P.functions j) ws) ke.rel (omega arith) (λ n e rn.
+      (enter (meaning P) (nat_eq j P.main) (slice_get P.functions j) ws) ke.rel (omega arith) (λ n e rn.
       let s0 = record s { stock = n } in
-      subst (λ o. FollowsHere P most S y d k f0 a g top low (enter (meaning P) o ws s0)) (sym found)
+      subst (λ o. FollowsHere P most S y d k f0 a g top low (enter (meaning P) (nat_eq j P.main) o ws s0)) (sym found)
       (go n s0 (h f.body (entered f ws s0) (omega arith)) (record { rel = rn; kept = ke.kept })
       (omega arith) (omega arith) (nat_eq (length ws) f.params) refl))
     where
@@ -166,7 +176,8 @@ module _ (P : TypedProgram) (most : ℕ) (sound : FitsSource (source_of P)) (lar
           → KeptIs S d f0 s0 g → 8 * s0.stock + 12 ≤ top → low ≤ s0.stock + most * g.rounds
           → (b : Bool) → nat_eq (length ws) f.params ≡ b
           → FollowsHere P most S y d k f0 (only (flat.Call j xs (result_var k d) stays)) g top low
-          (cond b (entered_if (meaning P) (nat_le (s0.room + frame f) 1048576) f ws s0)
+          (cond b (entered_if (meaning P) (nat_eq j P.main) (nat_le (s0.room + frame f) 1048576) f ws
+          s0)
           (Over Undefined s0))
       go n s0 hr k0 hu0 hl0 false e = tt
       go n s0 hr k0 hu0 hl0 true e =

@@ -5,6 +5,7 @@ use Rattle.std.proofs.Common.{Option, Some, None, refl, sym, ap, ap₂, ◌∙�
 use Rattle.std.specs.Prelude.{slice_get, nat_eq, nat_lt}
 use Rattle.std.proofs.lemmas.Bool.Decides.{nat_tests}
 use Rattle.c_tree.specs.declared.Kind.{Kind}
+use Rattle.c_tree.specs.declared.Kind.TheVariants.{Int}
 use Rattle.c_tree.specs.declared.Slot.{Slot}
 use Rattle.c_tree.specs.declared.TypedStmt.{TypedStmt}
 use Rattle.c_tree.specs.declared.TypedGlobal.{TypedGlobal}
@@ -37,7 +38,7 @@ use Rattle.ir_forms.proofs.Steps.{code_run, call_run, call_leads, call_stops, fi
 use Rattle.ir_forms.proofs.Steps.{first_stops, both_lead, nop_leads, return_leads}
 use Rattle.flat_lower.specs.Tree.{Func}
 use Rattle.flat_lower.specs.TreeViews.{func_of, stmt_of}
-use Rattle.flat_lower.specs.Kinds.{IsWord}
+use Rattle.c_constant.specs.Kinds.{IsWord}
 use Rattle.flat_lower.specs.Operations.{temp}
 use Rattle.flat_lower.specs.Expressions.{result_var}
 use Rattle.flat_lower.specs.Statements.{end_code, stmt_code, lowered_func, lowered_from}
@@ -55,6 +56,10 @@ use Rattle.flat_lower.proofs.Entered.{own_objects, called_scene, LoweredIs}
 use Rattle.flat_lower.proofs.Returns.{Ended, ReturnIs, FollowsRun, function_at, lowered_of}
 use Rattle.flat_lower.proofs.Returns.{lowered_is, body_run, this_call, call_dives, closed_leads}
 use Rattle.flat_lower.proofs.Returns.{closed_stops, after, resumed, returns}
+
+-- 0 is a word of an int
+pub zero_fits : IsWord Int 0
+zero_fits = record { below = omega arith; narrow = omega arith }
 
 module _ (P : TypedProgram) (most : ℕ) (S : Scene) (y : IsScene P S) (j : ℕ) (f : TypedFunc) (found : slice_get P.functions j ≡ Some f) (vs : List ℕ) (g : State) where
   abbrev F : Function
@@ -96,50 +101,47 @@ module _ (P : TypedProgram) (most : ℕ) (S : Scene) (y : IsScene P S) (j : ℕ)
     after_settled h zero = refl
     after_settled h (suc n) = refl
 
-    -- a body that falls off its end; main's returns 0
-    pub record FallsOff (h : State) (t : ℕ) : Type 0 where
+    -- a body that falls off its end, and what that gives
+    pub record FallsOff (h : State) (t : ℕ) (value : Option ℕ) : Type 0 where
       pub u : ℕ
       pub few : u ≤ t + 1
-      pub value : Option ℕ
       pub leads : Leads (run P most S y C g) (10 + u)
           (settle (after P most S y j f found vs g h (result_var k d) value))
 
-    falls_off : (h : State) (t : ℕ) → Leads
-        (body_run P most S.env.used j f found vs (counted g) B) t (settle h) → FallsOff h t
-    falls_off h t l = go (nat_eq j P.main) refl
-      where
-        env : Env
-        env = env_of (base P most) F S.env.used
+    -- the code of the function is that of its body and of its end
+    with_end : (b : Bool) → nat_eq j P.main ≡ b → (u : ℕ) (r : ℕ → Res)
+        → Leads (body_run P most S.env.used j f found vs (counted g) (Then B (end_code b))) u r
+        → Leads (body_run P most S.env.used j f found vs (counted g) F.body) u r
+    with_end b e u r x = subst (λ b. Leads
+        (body_run P most S.env.used j f found vs (counted g) (Then B (end_code b))) u r) (sym e) x
 
-        with_end : (b : Bool) → nat_eq j P.main ≡ b → (u : ℕ) (r : ℕ → Res)
-            → Leads (body_run P most S.env.used j f found vs (counted g) (Then B (end_code b))) u r
-            → Leads (body_run P most S.env.used j f found vs (counted g) F.body) u r
-        with_end b e u r x = subst (λ b. Leads
-            (body_run P most S.env.used j f found vs (counted g) (Then B (end_code b))) u r) (sym e) x
+    -- another function's gives nothing
+    falls_off : (h : State) (t : ℕ) → nat_eq j P.main ≡ false → Leads
+        (body_run P most S.env.used j f found vs (counted g) B) t (settle h) → FallsOff h t None
+    falls_off h t e l =
+        let x = both_lead checked (functions P most) (base P most) (env_of (base P most) F S.env.used) B Nop (begun (base P most) F vs S.env.used (counted g)) h t 0 (settle h) l (nop_leads checked (functions P most) (base P most) (env_of (base P most) F S.env.used) h) in
+        record {
+          u = t + 0;
+          few = omega arith;
+          leads = goes (t + 0) (settle (closed at F.arrays h)) h None
+              (closed_leads P most S.env.used j f found vs (counted g) room (t + 0) (settle h)
+              (settle (closed at F.arrays h)) (closing_settled h)
+              (with_end false e (t + 0) (settle h) x)) (after_settled h);
+        }
 
-        go : (b : Bool) → nat_eq j P.main ≡ b → FallsOff h t
-        go false e =
-            let x = both_lead checked (functions P most) (base P most) (env_of (base P most) F S.env.used) B Nop (begun (base P most) F vs S.env.used (counted g)) h t 0 (settle h) l (nop_leads checked (functions P most) (base P most) (env_of (base P most) F S.env.used) h) in
-            record {
-              u = t + 0;
-              few = omega arith;
-              value = None;
-              leads = goes (t + 0) (settle (closed at F.arrays h)) h None
-                  (closed_leads P most S.env.used j f found vs (counted g) room (t + 0) (settle h)
-                  (settle (closed at F.arrays h)) (closing_settled h)
-                  (with_end false e (t + 0) (settle h) x)) (after_settled h);
-            }
-        go true e =
-            let x = both_lead checked (functions P most) (base P most) (env_of (base P most) F S.env.used) B (only (flat.Return (Some (Const 0)))) (begun (base P most) F vs S.env.used (counted g)) h t 1 (Gave (Some 0) h) l (return_leads checked (functions P most) (base P most) (env_of (base P most) F S.env.used) (Const 0) h 0 refl) in
-            record {
-              u = t + 1;
-              few = omega arith;
-              value = Some 0;
-              leads = goes (t + 1) (Gave (Some 0) (closed at F.arrays h)) h (Some 0)
-                  (closed_leads P most S.env.used j f found vs (counted g) room (t + 1)
-                  (Gave (Some 0) h) (Gave (Some 0) (closed at F.arrays h)) (λ n. refl)
-                  (with_end true e (t + 1) (Gave (Some 0) h) x)) (λ n. refl);
-            }
+    -- main's returns 0
+    main_falls_off : (h : State) (t : ℕ) → nat_eq j P.main ≡ true → Leads
+        (body_run P most S.env.used j f found vs (counted g) B) t (settle h) → FallsOff h t (Some 0)
+    main_falls_off h t e l =
+        let x = both_lead checked (functions P most) (base P most) (env_of (base P most) F S.env.used) B (only (flat.Return (Some (Const 0)))) (begun (base P most) F vs S.env.used (counted g)) h t 1 (Gave (Some 0) h) l (return_leads checked (functions P most) (base P most) (env_of (base P most) F S.env.used) (Const 0) h 0 refl) in
+        record {
+          u = t + 1;
+          few = omega arith;
+          leads = goes (t + 1) (Gave (Some 0) (closed at F.arrays h)) h (Some 0)
+              (closed_leads P most S.env.used j f found vs (counted g) room (t + 1)
+              (Gave (Some 0) h) (Gave (Some 0) (closed at F.arrays h)) (λ n. refl)
+              (with_end true e (t + 1) (Gave (Some 0) h) x)) (λ n. refl);
+        }
 
     gives : (h : State) (t : ℕ) (w : Option ℕ)
         → Leads (body_run P most S.env.used j f found vs (counted g) B) t (Gave w h)
@@ -158,27 +160,58 @@ module _ (P : TypedProgram) (most : ℕ) (S : Scene) (y : IsScene P S) (j : ℕ)
         go None h = absurd (cc h)
         go (Some q) h = cc h
 
-    -- whatever the body came to
-    pub comes_back : (s : eval.State) (top low : ℕ) (r : Result) → Related S s g → KeptIs S d f0 s g
+    -- the variable that takes the result has it
+    result_is : (h : State) (w : ℕ) (kind : Kind) → k ≡ Some kind
+        → (after P most S y j f found vs g h (result_var k d) (Some w)).vars (temp d) ≡ Some w
+    result_is h w kind kinds =
+        ap (λ k. (after P most S y j f found vs g h (result_var k d) (Some w)).vars (temp d)) kinds
+        ∙ put_at (λ v. cond (stays v) (g.vars v) None) (temp d) (Some w)
+
+    -- whatever the body came to; main is of type int
+    pub comes_back : (nat_eq j P.main ≡ true → f.result ≡ Some Int) → (s : eval.State)
+        (top low : ℕ) (r : Result) → Related S s g → KeptIs S d f0 s g
         → 11 ≤ top → Follows most (Ended (called_scene P S f F))
         (body_run P most S.env.used j f found vs (counted g) B) (top - 11) low r
         → Follows most (Valued S d k f0) (run P most S y C g) top low
-        (then r (left s.scalars (length s.arrays) s.base s.room))
-    comes_back s top low (Go Nothing s2) rel ke lt h =
-        let x = falls_off h.to h.t h.leads in
-        let b = returns P most S y j f found vs g s s2 h.to d (result_var k d) x.value to_is ld rel h.holds in
-        record {
-          t = 10 + x.u;
-          to = after P most S y j f found vs g h.to (result_var k d) x.value;
-          upper = omega (arith, x.few, h.upper);
-          lower = h.lower;
-          holds = record { rel = b.rel; kept = λ i l. b.kept i l ∙ ke.kept i l };
-          leads = x.leads;
-        }
-    comes_back s top low (Go (Value w) s2) rel ke lt h = absurd h.holds
-    comes_back s top low (Go Breaks s2) rel ke lt h = tt
-    comes_back s top low (Go Continues s2) rel ke lt h = tt
-    comes_back s top low (Go (Returns None) s2) rel ke lt h =
+        (then r (left (nat_eq j P.main) s.scalars (length s.arrays) s.base s.room))
+    comes_back int s top low (Go Nothing s2) rel ke lt h = go (nat_eq j P.main) refl
+      where
+        go : (b : Bool) → nat_eq j P.main ≡ b
+            → Follows most (Valued S d k f0) (run P most S y C g) top low
+            (then (Go Nothing s2) (left b s.scalars (length s.arrays) s.base s.room))
+        go false e =
+            let x = falls_off h.to h.t e h.leads in
+            let b = returns P most S y j f found vs g s s2 h.to d (result_var k d) None to_is ld rel h.holds in
+            record {
+              t = 10 + x.u;
+              to = after P most S y j f found vs g h.to (result_var k d) None;
+              upper = omega (arith, x.few, h.upper);
+              lower = h.lower;
+              holds = record { rel = b.rel; kept = λ i l. b.kept i l ∙ ke.kept i l };
+              leads = x.leads;
+            }
+        go true e =
+            let x = main_falls_off h.to h.t e h.leads in
+            let b = returns P most S y j f found vs g s s2 h.to d (result_var k d) (Some 0) to_is ld rel h.holds in
+            let kinds : k ≡ Some Int = ek ∙ int e in
+            record {
+              t = 10 + x.u;
+              to = after P most S y j f found vs g h.to (result_var k d) (Some 0);
+              upper = omega (arith, x.few, h.upper);
+              lower = h.lower;
+              holds = record {
+                keeps = record { rel = b.rel; kept = λ i l. b.kept i l ∙ ke.kept i l };
+                kind = Int;
+                is_kind = kinds;
+                fits = zero_fits;
+                is = result_is h.to 0 Int kinds;
+              };
+              leads = x.leads;
+            }
+    comes_back int s top low (Go (Value w) s2) rel ke lt h = absurd h.holds
+    comes_back int s top low (Go Breaks s2) rel ke lt h = tt
+    comes_back int s top low (Go Continues s2) rel ke lt h = tt
+    comes_back int s top low (Go (Returns None) s2) rel ke lt h =
         let b = returns P most S y j f found vs g s s2 h.to d (result_var k d) None to_is ld rel h.holds.0 in
         record {
           t = 10 + h.t;
@@ -188,11 +221,12 @@ module _ (P : TypedProgram) (most : ℕ) (S : Scene) (y : IsScene P S) (j : ℕ)
           holds = record { rel = b.rel; kept = λ i l. b.kept i l ∙ ke.kept i l };
           leads = gives h.to h.t None h.leads;
         }
-    comes_back s top low (Go (Returns (Some w)) s2) rel ke lt h = go f.result refl h.holds.1
+    comes_back int s top low (Go (Returns (Some w)) s2) rel ke lt h = go f.result refl h.holds.1
       where
         go : (q : Option Kind) → f.result ≡ q → ReturnIs q (Some w)
             → Follows most (Valued S d k f0) (run P most S y C g) top low
-            (then (Go (Returns (Some w)) s2) (left s.scalars (length s.arrays) s.base s.room))
+            (then (Go (Returns (Some w)) s2)
+            (left (nat_eq j P.main) s.scalars (length s.arrays) s.base s.room))
         go None e x = absurd x
         go (Some kind) e x =
             let b = returns P most S y j f found vs g s s2 h.to d (result_var k d) (Some w) to_is ld rel h.holds.0 in
@@ -207,12 +241,11 @@ module _ (P : TypedProgram) (most : ℕ) (S : Scene) (y : IsScene P S) (j : ℕ)
                 kind = kind;
                 is_kind = kinds;
                 fits = x;
-                is = ap (λ k. (after P most S y j f found vs g h.to (result_var k d) (Some w)).vars
-                    (temp d)) kinds ∙ put_at (λ v. cond (stays v) (g.vars v) None) (temp d) (Some w);
+                is = result_is h.to w kind kinds;
               };
               leads = gives h.to h.t (Some w) h.leads;
             }
-    comes_back s top low (Over More s2) rel ke lt h = record {
+    comes_back int s top low (Over More s2) rel ke lt h = record {
       t = 10 + h.t;
       r = h.r;
       upper = omega (arith, h.upper);
@@ -224,8 +257,8 @@ module _ (P : TypedProgram) (most : ℕ) (S : Scene) (y : IsScene P S) (j : ℕ)
           (env_of (base P most) F S.env.used) B (end_code (nat_eq j P.main))
           (begun (base P most) F vs S.env.used (counted g)) h.t s2.output h.r h.stops));
     }
-    comes_back s top low (Over Undefined s2) rel ke lt h = tt
-    comes_back s top low (Over Deep s2) rel ke lt h = record {
+    comes_back int s top low (Over Undefined s2) rel ke lt h = tt
+    comes_back int s top low (Over Deep s2) rel ke lt h = record {
       t = 10 + h.t;
       upper = omega (arith, h.upper);
       leads = call_leads checked (functions P most) (base P most) S.env j xs

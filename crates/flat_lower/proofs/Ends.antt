@@ -30,7 +30,7 @@ use Rattle.ir_forms.proofs.Steps.{then_nop, nop_leads, break_leads, continue_lea
 use Rattle.ir_forms.proofs.Steps.{return_none_leads}
 use Rattle.flat_lower.specs.Tree as tree
 use Rattle.flat_lower.specs.TreeViews.{expr_of, expr_if}
-use Rattle.flat_lower.specs.Kinds.{IsWord}
+use Rattle.c_constant.specs.Kinds.{IsWord}
 use Rattle.flat_lower.specs.Operations.{temp, copied}
 use Rattle.flat_lower.specs.Statements.{expr_if_code, declare_code, return_code}
 use Rattle.flat_lower.specs.Fits.{Scope, FitsExpr, FitsExprIf, FitsDeclare, FitsReturn}

@@ -13,7 +13,8 @@ use Rattle.c_tree.specs.declared.TypedGlobal.{TypedGlobal}
 use Rattle.c_tree.specs.declared.TypedFunc.{TypedFunc}
 use Rattle.c_tree.specs.declared.TypedProgram.{TypedProgram}
 use Rattle.c_meaning_spec.specs.State as eval
-use Rattle.c_meaning_spec.specs.Call.{size_of, array_bytes, all_bytes, frame, unset_array, scalars_of}
+use Rattle.c_constant.specs.Kinds.{bytes}
+use Rattle.c_meaning_spec.specs.Call.{array_bytes, all_bytes, frame, unset_array, scalars_of}
 use Rattle.c_meaning_spec.specs.Call.{entered}
 use Rattle.trips_isa.specs.Stores.{data_size}
 use Rattle.ir_forms.specs.FlatCode.{Function}
@@ -22,7 +23,7 @@ use Rattle.ir_forms.specs.Cells.{Memory, Open, marked, all_open}
 use Rattle.ir_forms.specs.FlatSteps.{State, Env, counted}
 use Rattle.ir_forms.specs.FlatRuns.{argument, begun, env_of}
 use Rattle.flat_lower.specs.TreeViews.{func_of}
-use Rattle.flat_lower.specs.Kinds.{IsWord}
+use Rattle.c_constant.specs.Kinds.{IsWord}
 use Rattle.flat_lower.specs.Objects.{bytes_before, array_at}
 use Rattle.flat_lower.specs.Statements.{lowered_func, globals_image}
 use Rattle.flat_lower.proofs.Bytes.{opened, marked_out}
@@ -61,9 +62,9 @@ abbrev pub own_objects : ℕ → List TypedArray → List Object
 own_objects at [] = []
 own_objects at (a ∷ rest) = object at a.kind a.length ∷ own_objects (at + array_bytes a) rest
 
-array_room : (a : TypedArray) → size_of a.kind * a.length ≤ array_bytes a
-array_room a = go (a.length * size_of a.kind) (size_of a.kind * a.length)
-    (turned (size_of a.kind) a.length)
+array_room : (a : TypedArray) → bytes a.kind * a.length ≤ array_bytes a
+array_room a = go (a.length * bytes a.kind) (bytes a.kind * a.length)
+    (turned (bytes a.kind) a.length)
   where
     turned : (s n : ℕ) → s * n ≡ n * s
     turned s n = omega arith
@@ -72,7 +73,7 @@ array_room a = go (a.length * size_of a.kind) (size_of a.kind * a.length)
     go x z e = omega arith
 
 bytes_whole : (a : TypedArray) → array_bytes a % 8 ≡ 0
-bytes_whole a = go (a.length * size_of a.kind)
+bytes_whole a = go (a.length * bytes a.kind)
   where
     go : (x : ℕ) → ((x + 7) / 8 * 8) % 8 ≡ 0
     go x = omega arith
@@ -91,7 +92,7 @@ own_laid at (a ∷ rest) h =
     let l : Laid (at + array_bytes a) (at + (array_bytes a + all_bytes rest)) (own_objects (at + array_bytes a) rest) = subst (λ hi. Laid (at + array_bytes a) hi (own_objects (at + array_bytes a) rest)) e (own_laid (at + array_bytes a) rest (omega arith)) in (
       omega arith,
       h,
-      laid_lower (at + array_bytes a) (at + size_of a.kind * a.length)
+      laid_lower (at + array_bytes a) (at + bytes a.kind * a.length)
           (at + (array_bytes a + all_bytes rest)) (own_objects (at + array_bytes a) rest)
           (omega arith) l,
     )
@@ -112,9 +113,9 @@ own_at at (b ∷ rest) (suc n) a h =
 
 -- unset arrays whose bytes open
 open_element : (m : Memory) (lo size at i : ℕ) (k : Kind) (n : ℕ) → lo ≤ at
-    → at + size_of k * n ≤ lo + size → i < n
-    → all_open (marked m lo size Open) (at + size_of k * i) (size_of k) ≡ true
-open_element m lo size at i k n h t lt = let e = element_in k at n i lt in opened m lo size (at + size_of k * i) (size_of k) (omega arith) (omega arith)
+    → at + bytes k * n ≤ lo + size → i < n
+    → all_open (marked m lo size Open) (at + bytes k * i) (bytes k) ≡ true
+open_element m lo size at i k n h t lt = let e = element_in k at n i lt in opened m lo size (at + bytes k * i) (bytes k) (omega arith) (omega arith)
 
 pub own_stored : (m : Memory) (lo size at : ℕ) (arrays : List TypedArray) → lo ≤ at
     → at + all_bytes arrays ≤ lo + size → AllStored (own_objects at arrays) (map unset_array arrays)

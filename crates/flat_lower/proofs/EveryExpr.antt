@@ -20,7 +20,8 @@ use Rattle.c_meaning_spec.specs.State.{Result, Go, Over, then, spend_of, spend, 
 use Rattle.c_meaning_spec.specs.State as eval
 use Rattle.c_meaning_spec.specs.Task.{Of}
 use Rattle.c_meaning_spec.specs.Expression as level
-use Rattle.c_meaning_spec.specs.Expression.{Node, node_of, opened, expression, converting}
+use Rattle.c_tree.specs.TypedTrees.{Node, node_of}
+use Rattle.c_meaning_spec.specs.Expression.{opened, expression, converting}
 use Rattle.c_meaning_spec.specs.Eval.{meaning}
 use Rattle.c_meaning_spec.proofs.Equations.{meaning-is}
 use Rattle.ir_forms.specs.FlatSteps.{State}

@@ -15,7 +15,8 @@ use Rattle.c_meaning_spec.specs.State as eval
 use Rattle.c_meaning_spec.specs.Word.{is_false}
 use Rattle.c_meaning_spec.specs.Task.{Task, Of, Turn}
 use Rattle.c_meaning_spec.specs.Task as task
-use Rattle.c_meaning_spec.specs.Statement.{Level, First, going_on, sequence, run_if, after_if, after_body}
+use Rattle.c_tree.specs.TypedTrees.{Level, Beginning}
+use Rattle.c_meaning_spec.specs.Statement.{going_on, sequence, run_if, after_if, after_body}
 use Rattle.c_meaning_spec.specs.Statement.{locals, begin, begun, statement}
 use Rattle.c_meaning_spec.specs.Eval.{meaning}
 use Rattle.c_meaning_spec.proofs.Equations.{weight, meaning-is}
@@ -173,7 +174,7 @@ module _ (P : TypedProgram) (most : ℕ) where
         (λ s1 g t1 rel us ds. locals_follow n h rest test post body s1 g (top - t1) low
         (omega arith) t.1 (omega arith) tt0 tp tb zl rel (omega arith) (omega arith)))
 
-    for_starts : (n : ℕ) → Below n → (x : First) (test post : Option TypedExpr) (body : TypedStmt)
+    for_starts : (n : ℕ) → Below n → (x : Beginning) (test post : Option TypedExpr) (body : TypedStmt)
         (s : eval.State) (f : State) (top low : ℕ) → s.stock ≤ n
         → FitsFirst (scope P S) S.func.result (plain_first x) → size_of_first (plain_first x) ≤ most
         → FitsExprIf (scope P S) (expr_if test) → FitsExprIf (scope P S) (expr_if post)

@@ -10,14 +10,14 @@ use native.Mathlib.Nat.{div-div-eq-div-mul, zero-div, pow-zero}
 use Rattle.c_tree.specs.declared.Kind.{Kind}
 use Rattle.c_tree.specs.declared.Kind.TheVariants.{Char, UChar, Int, UInt, Long, ULong}
 use Rattle.c_tree.specs.declared.TypedGlobal.{TypedGlobal}
-use Rattle.c_meaning_spec.specs.Call.{size_of}
+use Rattle.c_constant.specs.Kinds.{bytes}
 use Rattle.c_meaning_spec.specs.Eval.{length_of, first_cells}
 use Rattle.trips_isa.specs.Stores.{data_size, is_good_address}
 use Rattle.ir_forms.specs.Frames.{frames_at, frame_limit, rounded}
 use Rattle.ir_forms.specs.Cells.{Memory, Mark, Held, Closed, Cell, load, number_put, byte_put}
 use Rattle.ir_forms.specs.Cells.{is_open, all_open}
 use Rattle.ir_forms.specs.FlatRuns.{checked, first_mark, first_memory}
-use Rattle.flat_lower.specs.Kinds.{IsWord}
+use Rattle.c_constant.specs.Kinds.{IsWord}
 use Rattle.flat_lower.specs.Operations.{load_op}
 use Rattle.flat_lower.specs.Objects.{global_bytes, bytes_before, global_at}
 use Rattle.flat_lower.specs.Statements.{word_bytes, init_bytes, global_image, globals_image}
@@ -117,12 +117,12 @@ zero_byte : (n j : ℕ) → j < n → get_or (word_bytes n 0) j 0 ≡ 0
 zero_byte n j lt = word_byte n 0 j lt ∙ ap (λ x. x % 256) (zero-div (256 ^ (n - 1 - j)))
 
 -- a word whose bytes are there is loaded
-word_loaded : (k : Kind) (m : Memory) (a w : ℕ) → is_good_address a (size_of k) ≡ true → IsWord k w
-    → ImageAt m a (word_bytes (size_of k) w) → load checked (load_op k) m a ≡ Some w
+word_loaded : (k : Kind) (m : Memory) (a w : ℕ) → is_good_address a (bytes k) ≡ true → IsWord k w
+    → ImageAt m a (word_bytes (bytes k) w) → load checked (load_op k) m a ≡ Some w
 word_loaded k m a w good fits h =
-    load_same k m (number_put m a (size_of k) w) a
-    (λ i lt. h i (omega (arith, word_length (size_of k) w))
-    ∙ ap may_load (word_byte (size_of k) w i lt) ∙ sym (put_byte (size_of k) m a w i lt))
+    load_same k m (number_put m a (bytes k) w) a
+    (λ i lt. h i (omega (arith, word_length (bytes k) w))
+    ∙ ap may_load (word_byte (bytes k) w i lt) ∙ sym (put_byte (bytes k) m a w i lt))
     ∙ load_saved k m a w good fits
 
 -- THE VALUES OF A GLOBAL
@@ -132,8 +132,8 @@ zero_fits Char = record { below = omega arith; narrow = omega arith }
 zero_fits UChar = record { below = omega arith; narrow = omega arith }
 zero_fits Int = record { below = omega arith; narrow = omega arith }
 zero_fits UInt = record { below = omega arith; narrow = omega arith }
-zero_fits Long = record { below = omega arith; narrow = tt }
-zero_fits ULong = record { below = omega arith; narrow = tt }
+zero_fits Long = record { below = omega arith; narrow = omega arith }
+zero_fits ULong = record { below = omega arith; narrow = omega arith }
 
 pub record Has (k : Kind) (m : Memory) (a w : ℕ) : Type 0 where
   pub fits : IsWord k w
@@ -145,56 +145,56 @@ zero_at (suc z) zero w e = (omega arith, cc e)
 zero_at (suc z) (suc i) w e = let x = zero_at z i w e in let lt = x.0 in (omega arith, x.1)
 
 cells_image : (k : Kind) (m : Memory) (lo : ℕ) (ws : List ℕ) (r z i w : ℕ)
-    → ImageAt m lo (init_bytes (size_of k) ws ++ replicate r 0)
+    → ImageAt m lo (init_bytes (bytes k) ws ++ replicate r 0)
     → ((j v : ℕ) → slice_get ws j ≡ Some v → IsWord k v)
-    → is_good_address (lo + size_of k * i) (size_of k) ≡ true → size_of k * z ≤ r
+    → is_good_address (lo + bytes k * i) (bytes k) ≡ true → bytes k * z ≤ r
     → slice_get (map Some ws ++ replicate z (Some 0)) i ≡ Some (Some w)
-    → Has k m (lo + size_of k * i) w
+    → Has k m (lo + bytes k * i) w
 cells_image k m lo [] r z i w h each good room e =
     let x = zero_at z i w e in
     let lt = x.0 in
     let within = element_in k 0 z i lt in
     record {
       fits = subst (IsWord k) (sym x.1) (zero_fits k);
-      loaded = word_loaded k m (lo + size_of k * i) 0 good (zero_fits k) (λ b bt.
-          let few : b < size_of k = omega (arith, word_length (size_of k) 0) in
-          let at : lo + size_of k * i + b ≡ lo + (size_of k * i + b) = omega arith in
-          ap m at ∙ h (size_of k * i + b) (omega (arith, replicate_length {A = ℕ} r 0))
-          ∙ ap may_load (zero_in r (size_of k * i + b) ∙ sym (zero_byte (size_of k) b few)))
+      loaded = word_loaded k m (lo + bytes k * i) 0 good (zero_fits k) (λ b bt.
+          let few : b < bytes k = omega (arith, word_length (bytes k) 0) in
+          let at : lo + bytes k * i + b ≡ lo + (bytes k * i + b) = omega arith in
+          ap m at ∙ h (bytes k * i + b) (omega (arith, replicate_length {A = ℕ} r 0))
+          ∙ ap may_load (zero_in r (bytes k * i + b) ∙ sym (zero_byte (bytes k) b few)))
           ∙ ap Some (sym x.1);
     }
 cells_image k m lo (v ∷ ws) r z zero w h each good room e =
     let same : v ≡ w = cc e in
-    let rest = init_bytes (size_of k) ws ++ replicate r 0 in
-    let at : lo ≡ lo + size_of k * 0 = omega arith in
-    let first : ImageAt m lo (word_bytes (size_of k) v) = image_first m lo (word_bytes (size_of k) v) rest (subst (ImageAt m lo) (append_assoc (word_bytes (size_of k) v) (init_bytes (size_of k) ws) (replicate r 0)) h) in
-    subst (λ w. Has k m (lo + size_of k * 0) w) same (record {
+    let rest = init_bytes (bytes k) ws ++ replicate r 0 in
+    let at : lo ≡ lo + bytes k * 0 = omega arith in
+    let first : ImageAt m lo (word_bytes (bytes k) v) = image_first m lo (word_bytes (bytes k) v) rest (subst (ImageAt m lo) (append_assoc (word_bytes (bytes k) v) (init_bytes (bytes k) ws) (replicate r 0)) h) in
+    subst (λ w. Has k m (lo + bytes k * 0) w) same (record {
       fits = each 0 v refl;
-      loaded = word_loaded k m (lo + size_of k * 0) v good (each 0 v refl)
-          (subst (λ a. ImageAt m a (word_bytes (size_of k) v)) at first);
+      loaded = word_loaded k m (lo + bytes k * 0) v good (each 0 v refl)
+          (subst (λ a. ImageAt m a (word_bytes (bytes k) v)) at first);
     })
 cells_image k m lo (v ∷ ws) r z (suc i) w h each good room e =
-    let rest = init_bytes (size_of k) ws ++ replicate r 0 in
-    let at : lo + size_of k + size_of k * i ≡ lo + size_of k * suc i = omega (arith, mul-suc (size_of k) i) in
-    let next : ImageAt m (lo + size_of k) rest = image_rest m lo (size_of k) (word_bytes (size_of k) v) rest (word_length (size_of k) v) (subst (ImageAt m lo) (append_assoc (word_bytes (size_of k) v) (init_bytes (size_of k) ws) (replicate r 0)) h) in
-    subst (λ a. Has k m a w) at (cells_image k m (lo + size_of k) ws r z i w next
-    (λ j u q. each (suc j) u q) (subst (λ a. is_good_address a (size_of k) ≡ true) (sym at) good)
+    let rest = init_bytes (bytes k) ws ++ replicate r 0 in
+    let at : lo + bytes k + bytes k * i ≡ lo + bytes k * suc i = omega (arith, mul-suc (bytes k) i) in
+    let next : ImageAt m (lo + bytes k) rest = image_rest m lo (bytes k) (word_bytes (bytes k) v) rest (word_length (bytes k) v) (subst (ImageAt m lo) (append_assoc (word_bytes (bytes k) v) (init_bytes (bytes k) ws) (replicate r 0)) h) in
+    subst (λ a. Has k m a w) at (cells_image k m (lo + bytes k) ws r z i w next
+    (λ j u q. each (suc j) u q) (subst (λ a. is_good_address a (bytes k) ≡ true) (sym at) good)
     room e)
 
 -- ONE GLOBAL
 
-init_length : (k : Kind) (ws : List ℕ) → length (init_bytes (size_of k) ws) ≡ size_of k * length ws
+init_length : (k : Kind) (ws : List ℕ) → length (init_bytes (bytes k) ws) ≡ bytes k * length ws
 init_length k [] = omega arith
-init_length k (w ∷ ws) = both_length (word_bytes (size_of k) w) (init_bytes (size_of k) ws)
-    ∙ ap₂ (λ a b. a + b) (word_length (size_of k) w) (init_length k ws)
-    ∙ omega (arith, mul-suc (size_of k) (length ws))
+init_length k (w ∷ ws) = both_length (word_bytes (bytes k) w) (init_bytes (bytes k) ws)
+    ∙ ap₂ (λ a b. a + b) (word_length (bytes k) w) (init_length k ws)
+    ∙ omega (arith, mul-suc (bytes k) (length ws))
 
-fewer_bytes : (k : Kind) (n l : ℕ) → n ≤ l → size_of k * n ≤ size_of k * l
-fewer_bytes k n l le = by_size (λ s. s * n ≤ s * l) (size_of k) (size_is k) (omega arith)
+fewer_bytes : (k : Kind) (n l : ℕ) → n ≤ l → bytes k * n ≤ bytes k * l
+fewer_bytes k n l le = by_size (λ s. s * n ≤ s * l) (bytes k) (size_is k) (omega arith)
     (omega arith) (omega arith)
 
-all_bytes : (k : Kind) (n : ℕ) → n * size_of k ≡ size_of k * n
-all_bytes k n = mul_comm n (size_of k)
+all_bytes : (k : Kind) (n : ℕ) → n * bytes k ≡ bytes k * n
+all_bytes k n = mul_comm n (bytes k)
 
 room_enough : (n : ℕ) → n ≤ rounded n
 room_enough n = omega arith
@@ -202,17 +202,17 @@ room_enough n = omega arith
 rounded_whole : (n : ℕ) → rounded n % 8 ≡ 0
 rounded_whole n = omega arith
 
-pub global_room : (g : TypedGlobal) → size_of g.kind * length_of g.length ≤ global_bytes g
-global_room g = let e = all_bytes g.kind (length_of g.length) in let x = room_enough (length_of g.length * size_of g.kind) in omega arith
+pub global_room : (g : TypedGlobal) → bytes g.kind * length_of g.length ≤ global_bytes g
+global_room g = let e = all_bytes g.kind (length_of g.length) in let x = room_enough (length_of g.length * bytes g.kind) in omega arith
 
 pub global_length : (g : TypedGlobal) → FitsGlobal g → length (global_image g) ≡ global_bytes g
 global_length g t =
     let fits = fewer_bytes g.kind (length g.init) (length_of g.length) t.few in
     let x = global_room g in
     let e = all_bytes g.kind (length g.init) in
-    let l = both_length (init_bytes (size_of g.kind) g.init) (replicate (global_bytes g - length g.init * size_of g.kind) 0) in
+    let l = both_length (init_bytes (bytes g.kind) g.init) (replicate (global_bytes g - length g.init * bytes g.kind) 0) in
     let a = init_length g.kind g.init in
-    let b = replicate_length {A = ℕ} (global_bytes g - length g.init * size_of g.kind) 0 in
+    let b = replicate_length {A = ℕ} (global_bytes g - length g.init * bytes g.kind) 0 in
     omega arith
 
 all_words : (P : ℕ → Type 0) (ws : List ℕ) → All P ws → (j v : ℕ) → slice_get ws j ≡ Some v → P v
@@ -236,19 +236,19 @@ global_stored m lo g t h whole room =
       holds = λ i w q.
           let lt = inside i w q in
           let last = element_in k lo L i lt in
-          let v = cells_image k m lo g.init (global_bytes g - length g.init * size_of k) (L - length g.init) i w h (all_words (IsWord k) g.init t.words) (good_element k lo i whole (omega arith)) (left_room k (length g.init) L (global_bytes g) t.few x) q in
+          let v = cells_image k m lo g.init (global_bytes g - length g.init * bytes k) (L - length g.init) i w h (all_words (IsWord k) g.init t.words) (good_element k lo i whole (omega arith)) (left_room k (length g.init) L (global_bytes g) t.few x) q in
           record { fits = v.fits; loaded = v.loaded };
       opens = λ i lt.
           let last = element_in k 0 L i lt in
-          each_open m (lo + size_of k * i) (size_of k) (λ b bt.
-          let at : lo + size_of k * i + b ≡ lo + (size_of k * i + b) = omega arith in
+          each_open m (lo + bytes k * i) (bytes k) (λ b bt.
+          let at : lo + bytes k * i + b ≡ lo + (bytes k * i + b) = omega arith in
           ap (λ c. is_open c.mark) (ap m at
-          ∙ h (size_of k * i + b) (omega (arith, global_length g t))));
+          ∙ h (bytes k * i + b) (omega (arith, global_length g t))));
     }
   where
-    left_room : (k : Kind) (n l room : ℕ) → n ≤ l → size_of k * l ≤ room
-        → size_of k * (l - n) ≤ room - n * size_of k
-    left_room k n l room le h = by_size (λ s. s * l ≤ room → s * (l - n) ≤ room - n * s) (size_of k)
+    left_room : (k : Kind) (n l room : ℕ) → n ≤ l → bytes k * l ≤ room
+        → bytes k * (l - n) ≤ room - n * bytes k
+    left_room k n l room le h = by_size (λ s. s * l ≤ room → s * (l - n) ≤ room - n * s) (bytes k)
         (size_is k) (λ h. omega arith) (λ h. omega arith) (λ h. omega arith) h
 
     inside : (i w : ℕ) → slice_get (first_cells g) i ≡ Some (Some w) → i < length_of g.length

@@ -7,12 +7,12 @@ use Rattle.std.specs.Prelude.{◌&&◌, nat_eq, nat_lt, nat_le, slice_get, slice
 use Rattle.std.proofs.lemmas.Bool.Decides.{nat_tests}
 use Rattle.c_tree.specs.declared.Kind.{Kind}
 use Rattle.c_tree.specs.declared.Kind.TheVariants.{Char, UChar, Int, UInt, Long, ULong}
-use Rattle.c_meaning_spec.specs.Call.{size_of}
+use Rattle.c_constant.specs.Kinds.{bytes}
 use Rattle.trips_isa.specs.Stores.{is_good_address, data_size}
 use Rattle.ir_forms.specs.Cells.{Mark, Closed, Open, Held, Cell, Memory, number_put, all_open}
 use Rattle.ir_forms.specs.Cells.{marked, load}
 use Rattle.ir_forms.specs.FlatRuns.{checked}
-use Rattle.flat_lower.specs.Kinds.{IsWord}
+use Rattle.c_constant.specs.Kinds.{IsWord}
 use Rattle.flat_lower.specs.Operations.{load_op, save_op}
 use Rattle.flat_lower.proofs.Bytes.{SameOn, load_same, put_there, put_open, load_saved, load_apart}
 use Rattle.flat_lower.proofs.Bytes.{marked_out, opened, open_same}
@@ -24,10 +24,10 @@ pub record Object : Type 0 where
   pub length : ℕ
 
 abbrev pub element_at : Object → ℕ → ℕ
-element_at o i = o.at + size_of o.kind * i
+element_at o i = o.at + bytes o.kind * i
 
 abbrev pub end_of : Object → ℕ
-end_of o = o.at + size_of o.kind * o.length
+end_of o = o.at + bytes o.kind * o.length
 
 -- objects from lo to hi, one behind the other, each at a whole word
 abbrev pub Laid : ℕ → ℕ → List Object → Type 0
@@ -75,7 +75,7 @@ laid_at lo hi (p ∷ os) (suc k) o h e =
 abbrev pub SizeIs : ℕ → Type 0
 SizeIs s = (s ≡ 1) ⊎ ((s ≡ 4) ⊎ (s ≡ 8))
 
-pub size_is : (k : Kind) → SizeIs (size_of k)
+pub size_is : (k : Kind) → SizeIs (bytes k)
 size_is Char = inl refl
 size_is UChar = inl refl
 size_is Int = inr (inl refl)
@@ -91,18 +91,18 @@ by_size P s (inr (inr e)) a b c = subst P (sym e) c
 
 -- an element lies inside its object
 pub element_in : (k : Kind) (at n i : ℕ) → i < n
-    → at + size_of k * i + size_of k ≤ at + size_of k * n
-element_in k at n i lt = by_size (λ s. at + s * i + s ≤ at + s * n) (size_of k) (size_is k)
+    → at + bytes k * i + bytes k ≤ at + bytes k * n
+element_in k at n i lt = by_size (λ s. at + s * i + s ≤ at + s * n) (bytes k) (size_is k)
     (omega arith) (omega arith) (omega arith)
 
 -- and apart from the others
 pub elements_apart : (k : Kind) (at i j : ℕ) → i ≢ j
-    → (at + size_of k * i + size_of k ≤ at + size_of k * j) ⊎
-    (at + size_of k * j + size_of k ≤ at + size_of k * i)
+    → (at + bytes k * i + bytes k ≤ at + bytes k * j) ⊎
+    (at + bytes k * j + bytes k ≤ at + bytes k * i)
 elements_apart k at i j h = go (nat_lt i j) refl
   where
-    go : (t : Bool) → nat_lt i j ≡ t → (at + size_of k * i + size_of k ≤ at + size_of k * j) ⊎
-        (at + size_of k * j + size_of k ≤ at + size_of k * i)
+    go : (t : Bool) → nat_lt i j ≡ t → (at + bytes k * i + bytes k ≤ at + bytes k * j) ⊎
+        (at + bytes k * j + bytes k ≤ at + bytes k * i)
     go true e = let lt : i < j = grind (arith, nat_tests) in inl (element_in k at j i lt)
     go false e = let le : j ≤ i = grind (arith, nat_tests) in let lt : j < i = omega arith in inr (element_in k at i j lt)
 
@@ -113,12 +113,12 @@ good_tests a s p e h =
     let z : nat_le (a + s) data_size ≡ true = grind (arith, nat_tests) in
     ap₂ (λ u v. u && (nat_eq (a % s) 0 && v)) x z ∙ ap (λ u. u && true) y
 
-pub good_element : (k : Kind) (at i : ℕ) → at % 8 ≡ 0 → at + size_of k * i + size_of k ≤ data_size
-    → is_good_address (at + size_of k * i) (size_of k) ≡ true
+pub good_element : (k : Kind) (at i : ℕ) → at % 8 ≡ 0 → at + bytes k * i + bytes k ≤ data_size
+    → is_good_address (at + bytes k * i) (bytes k) ≡ true
 good_element k at i e h =
-    good_tests (at + size_of k * i) (size_of k)
-    (by_size (λ s. 0 < s) (size_of k) (size_is k) (omega arith) (omega arith) (omega arith))
-    (by_size (λ s. (at + s * i) % s ≡ 0) (size_of k) (size_is k) (omega arith) (omega arith)
+    good_tests (at + bytes k * i) (bytes k)
+    (by_size (λ s. 0 < s) (bytes k) (size_is k) (omega arith) (omega arith) (omega arith))
+    (by_size (λ s. (at + s * i) % s ≡ 0) (bytes k) (size_is k) (omega arith) (omega arith)
     (omega arith))
     h
 
@@ -133,7 +133,7 @@ pub record Holds (o : Object) (m : Memory) (i w : ℕ) : Type 0 where
 pub record Stored (o : Object) (row : List (Option ℕ)) (m : Memory) : Type 0 where
   pub long : length row ≡ o.length
   pub holds : (i w : ℕ) → slice_get row i ≡ Some (Some w) → Holds o m i w
-  pub opens : (i : ℕ) → i < o.length → all_open m (element_at o i) (size_of o.kind) ≡ true
+  pub opens : (i : ℕ) → i < o.length → all_open m (element_at o i) (bytes o.kind) ≡ true
 
 abbrev pub AllStored : List Object → List (List (Option ℕ)) → Memory → Type 0
 AllStored [] [] m = Unit {0}
@@ -160,10 +160,10 @@ stored_same o row m n h s = record {
         loaded = load_same o.kind n m (element_at o i) (same i lt)
             ∙ v.loaded;
       };
-  opens = λ i lt. open_same n m (element_at o i) (size_of o.kind) (same i lt) ∙ s.opens i lt;
+  opens = λ i lt. open_same n m (element_at o i) (bytes o.kind) (same i lt) ∙ s.opens i lt;
 }
   where
-    same : (i : ℕ) → i < o.length → SameOn n m (element_at o i) (size_of o.kind)
+    same : (i : ℕ) → i < o.length → SameOn n m (element_at o i) (bytes o.kind)
     same i lt j jt = let k = element_in o.kind o.at o.length i lt in h (element_at o i + j) (omega arith) (omega arith)
 
 pub all_same : (lo hi : ℕ) (os : List Object) (rows : List (List (Option ℕ))) (m n : Memory)
@@ -234,7 +234,7 @@ set_length (x ∷ row) zero b = refl
 set_length (x ∷ row) (suc i) b = ap suc (set_length row i b)
 
 abbrev pub put_element : Object → Memory → ℕ → ℕ → Memory
-put_element o m i v = number_put m (element_at o i) (size_of o.kind) v
+put_element o m i v = number_put m (element_at o i) (bytes o.kind) v
 
 -- the object that is saved to
 pub stored_put : (o : Object) (row : List (Option ℕ)) (m : Memory) (i v : ℕ) (c : Option ℕ)
@@ -243,14 +243,14 @@ pub stored_put : (o : Object) (row : List (Option ℕ)) (m : Memory) (i v : ℕ)
 stored_put o row m i v c e al le f s = record {
   long = set_length row i (Some v) ∙ s.long;
   holds = λ j w h. go j w h (nat_eq j i) refl;
-  opens = λ j lt. put_open (size_of o.kind) m (element_at o i) v (element_at o j) (size_of o.kind)
+  opens = λ j lt. put_open (bytes o.kind) m (element_at o i) v (element_at o j) (bytes o.kind)
       (s.opens j lt);
 }
   where
     inside : i < o.length
     inside = omega (arith, within_row row i c e, s.long)
 
-    good : is_good_address (element_at o i) (size_of o.kind) ≡ true
+    good : is_good_address (element_at o i) (bytes o.kind) ≡ true
     good = good_element o.kind o.at i al (omega (arith, element_in o.kind o.at o.length i inside))
 
     go : (j w : ℕ) → slice_get (slice_set row i (Some v)) j ≡ Some (Some w) → (t : Bool)
@@ -267,7 +267,7 @@ stored_put o row m i v c e al le f s = record {
         let a = s.holds j w (sym (set_there row i j (Some v) other) ∙ h) in
         record {
           fits = a.fits;
-          loaded = load_apart o.kind m (element_at o i) (size_of o.kind) v
+          loaded = load_apart o.kind m (element_at o i) (bytes o.kind) v
               (element_at o j) (elements_apart o.kind o.at j i other) ∙ a.loaded;
         }
 
@@ -291,12 +291,12 @@ all_put lo hi (p ∷ os) (r ∷ rs) m zero i v o row c l le e f g w s =
       subst (λ p. Stored p (slice_set row i (Some v)) (put_element o m i v)) (sym x)
           (stored_put o row m i v c g al (omega arith) w so),
       all_same (end_of p) hi os rs m (put_element o m i v) l.2
-          (λ b lt h. put_there (size_of o.kind) m (element_at o i) v b (inr (omega arith))) s.1,
+          (λ b lt h. put_there (bytes o.kind) m (element_at o i) v b (inr (omega arith))) s.1,
     )
 all_put lo hi (p ∷ os) (r ∷ rs) m (suc k) i v o row c l le e f g w s =
     let st = laid_at (end_of p) hi os k o l.2 e in
     let above = st.above in (
       stored_same p r m (put_element o m i v)
-          (λ b lt h. put_there (size_of o.kind) m (element_at o i) v b (inl (omega arith))) s.0,
+          (λ b lt h. put_there (bytes o.kind) m (element_at o i) v b (inl (omega arith))) s.0,
       all_put (end_of p) hi os rs m k i v o row c l.2 le e f g w s.1,
     )

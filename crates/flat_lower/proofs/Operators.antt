@@ -23,10 +23,11 @@ use Rattle.c_constant.specs.Operation.{answer, is_zero, quotient, remainder, pro
 use Rattle.c_constant.specs.Operation.{shifted_right, on_bits, operate, operate_one}
 use Rattle.trips_isa.specs.Alu.{test}
 use Rattle.trips_isa.specs.Alu as alu
-use Rattle.flat_lower.specs.Kinds.{IsNarrow, IsWord, IsArithmetic}
-use Rattle.flat_lower.proofs.Words.{word_signed, word_number, add_word, sub_word, mul_word}
+use Rattle.c_constant.specs.Kinds.{IsWord}
+use Rattle.flat_lower.specs.Kinds.{IsArithmetic}
+use Rattle.c_constant.proofs.Conversions.{word_signed, word_number, order}
+use Rattle.flat_lower.proofs.Words.{add_word, sub_word, mul_word}
 use Rattle.flat_lower.proofs.Words.{word_of_is, Lies, between_is, fits_int, fits_long, narrow_int}
-use Rattle.flat_lower.proofs.Words.{order}
 
 -- an unsigned int is reduced
 abbrev pub reduced_word : Kind → ℕ → ℕ
@@ -58,10 +59,10 @@ module _ (a b w : ℕ) (p : a < 2 ^ 64) (q : b < 2 ^ 64) where
       let x = word_of_is _ w h in
       let l = between_is _ _ _ _ x.1 in
       let e : (a + b) % 2 ^ 64 ≡ w = add_word a b p q (fits_long _ _ l) ∙ ap word l.is ∙ x.2 in
-      record { is = e; fits = record { below = omega arith; narrow = tt } }
+      record { is = e; fits = record { below = omega arith; narrow = omega arith } }
   add_gives ULong t h =
       let e : (a + b) % 18446744073709551616 ≡ w = cc in
-      record { is = e; fits = record { below = omega arith; narrow = tt } }
+      record { is = e; fits = record { below = omega arith; narrow = omega arith } }
 
   less : (m : ℕ) → reduced m (pos a -ℤ pos b)
       ≡ cond (nat_lt a b) ((m - 1) - (b - a - 1) % m) ((a - b) % m)
@@ -107,11 +108,11 @@ module _ (a b w : ℕ) (p : a < 2 ^ 64) (q : b < 2 ^ 64) where
       let x = word_of_is _ w h in
       let l = between_is _ _ _ _ x.1 in
       let e : (a + (2 ^ 64 - b)) % 2 ^ 64 ≡ w = sub_word a b p q (fits_long _ _ l) ∙ ap word l.is ∙ x.2 in
-      record { is = e; fits = record { below = omega arith; narrow = tt } }
+      record { is = e; fits = record { below = omega arith; narrow = omega arith } }
   sub_gives ULong t h =
       let e : reduced 18446744073709551616 (pos a -ℤ pos b) ≡ w = cc in
       let f = less_ulong in
-      record { is = sym f ∙ e; fits = record { below = omega arith; narrow = tt } }
+      record { is = sym f ∙ e; fits = record { below = omega arith; narrow = omega arith } }
 
   pub mul_gives : (k : Kind) → IsArithmetic k → operate Multiply k a b ≡ Some w
       → Gives k (reduced_word k ((a * b) % 2 ^ 64)) w
@@ -130,10 +131,10 @@ module _ (a b w : ℕ) (p : a < 2 ^ 64) (q : b < 2 ^ 64) where
       let x = word_of_is _ w h in
       let l = between_is _ _ _ _ x.1 in
       let e : (a * b) % 2 ^ 64 ≡ w = mul_word a b p q (fits_long _ _ l) ∙ ap word l.is ∙ x.2 in
-      record { is = e; fits = record { below = omega arith; narrow = tt } }
+      record { is = e; fits = record { below = omega arith; narrow = omega arith } }
   mul_gives ULong t h =
       let e : (a * b) % 18446744073709551616 ≡ w = cc in
-      record { is = e; fits = record { below = omega arith; narrow = tt } }
+      record { is = e; fits = record { below = omega arith; narrow = omega arith } }
 
 -- TESTS
 
@@ -248,8 +249,8 @@ same_some x y h = cc h
 -- the word of a number of a long's range is one of a long
 pub long_word : (z r : ℤ) → Lies (negsuc 9223372036854775807) (pos 9223372036854775807) z r
     → IsWord Long (word z)
-long_word (pos n) r l = let a = l.above in let b = l.below in let h : n < 9223372036854775808 = omega (arith, ints) in record { below = omega arith; narrow = tt }
-long_word (negsuc n) r l = record { below = omega arith; narrow = tt }
+long_word (pos n) r l = let a = l.above in let b = l.below in let h : n < 9223372036854775808 = omega (arith, ints) in record { below = omega arith; narrow = omega arith }
+long_word (negsuc n) r l = record { below = omega arith; narrow = omega arith }
 
 -- a quotient that is there is in its type, and its divisor is not 0
 pub record Divided (k : Kind) (x y z : ℤ) : Type 0 where
@@ -364,7 +365,7 @@ module _ (a b w : ℕ) where
         some = z;
         gives = record {
           is = unsigned_quotient z ∙ omega arith;
-          fits = record { below = omega arith; narrow = tt };
+          fits = record { below = omega arith; narrow = omega arith };
         };
       }
 
@@ -523,7 +524,7 @@ module _ (a b w : ℕ) where
         some = z;
         gives = record {
           is = e;
-          fits = record { below = omega arith; narrow = tt };
+          fits = record { below = omega arith; narrow = omega arith };
         };
       }
   remainder_gives ULong t f g h =
@@ -538,6 +539,6 @@ module _ (a b w : ℕ) where
         some = z;
         gives = record {
           is = unsigned_remainder f.below z ∙ e;
-          fits = record { below = omega arith; narrow = tt };
+          fits = record { below = omega arith; narrow = omega arith };
         };
       }

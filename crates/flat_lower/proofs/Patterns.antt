@@ -20,9 +20,11 @@ use Rattle.c_constant.specs.Operation.{answer, is_zero, shifted_left, shifted_ri
 use Rattle.c_constant.specs.Operation.{operate, operate_one}
 use Rattle.trips_isa.specs.Alu.{test}
 use Rattle.trips_isa.specs.Alu as alu
-use Rattle.flat_lower.specs.Kinds.{IsNarrow, IsWord, IsArithmetic}
-use Rattle.flat_lower.proofs.Words.{word_signed, word_number, sub_word, word_of_is, Lies}
-use Rattle.flat_lower.proofs.Words.{between_is, fits_int, fits_long, narrow_int, order}
+use Rattle.c_constant.specs.Kinds.{IsWord}
+use Rattle.flat_lower.specs.Kinds.{IsArithmetic}
+use Rattle.c_constant.proofs.Conversions.{word_signed, word_number, order}
+use Rattle.flat_lower.proofs.Words.{sub_word, word_of_is, Lies}
+use Rattle.flat_lower.proofs.Words.{between_is, fits_int, fits_long, narrow_int}
 use Rattle.flat_lower.proofs.Operators.{reduced_word, Gives, answered, long_word, int_near}
 use Rattle.flat_lower.proofs.Operators.{less_uint, less_ulong}
 
@@ -85,8 +87,8 @@ module _ (f : ℕ → ℕ → ℕ)
     below = below 64 a b x.below y.below;
     narrow = below 32 a b x.narrow y.narrow;
   }
-  closes Long t a b x y = record { below = below 64 a b x.below y.below; narrow = tt }
-  closes ULong t a b x y = record { below = below 64 a b x.below y.below; narrow = tt }
+  closes Long t a b x y = record { below = below 64 a b x.below y.below; narrow = omega arith }
+  closes ULong t a b x y = record { below = below 64 a b x.below y.below; narrow = omega arith }
 
   bits_give : (k : Kind) → IsArithmetic k → (a b w : ℕ) → IsWord k a → IsWord k b
       → word_of (on_bits f k (number k a) (number k b)) ≡ Some w → Gives k (f a b) w
@@ -180,7 +182,7 @@ module _ (a b w : ℕ) (p : a < 2 ^ 64) (q : b < 2 ^ 64) where
       let r : (a * 2 ^ b) % 18446744073709551616 ≡ w = ap word (same_some _ _ s.1) ∙ v.2 in
       record {
         is = ap (λ c. (a * 2 ^ c) % 2 ^ 64) c ∙ r;
-        fits = record { below = omega arith; narrow = tt };
+        fits = record { below = omega arith; narrow = omega arith };
       }
 
 -- a number of an int's range, by its magnitude
@@ -268,14 +270,14 @@ module _ (a b w : ℕ) (q : b < 2 ^ 64) where
         is = e;
         fits = record {
           below = subst (λ v. v < 2 ^ 64) e (shifted_long a (b % 64));
-          narrow = tt;
+          narrow = omega arith;
         };
       }
   right_gives ULong t f h =
       let e = natural_shift a b w q ULong 64 (omega arith) refl h in
       let lt = f.below in
       let le = div-le_self a (2 ^ (b % 64)) in
-      record { is = e; fits = record { below = omega arith; narrow = tt } }
+      record { is = e; fits = record { below = omega arith; narrow = omega arith } }
 
 -- ONE NUMBER
 
@@ -299,11 +301,11 @@ module _ (a w : ℕ) where
       let x = word_of_is _ w h in
       let l = between_is _ _ _ _ x.1 in
       let e : (0 + (2 ^ 64 - a)) % 2 ^ 64 ≡ w = sub_word 0 a (omega arith) f.below (fits_long _ _ l) ∙ ap word l.is ∙ x.2 in
-      record { is = e; fits = record { below = omega arith; narrow = tt } }
+      record { is = e; fits = record { below = omega arith; narrow = omega arith } }
   minus_gives ULong t f h =
       let e : reduced 18446744073709551616 (pos 0 -ℤ pos a) ≡ w = cc in
       let g = less_ulong 0 a w (omega arith) f.below in
-      record { is = sym g ∙ e; fits = record { below = omega arith; narrow = tt } }
+      record { is = sym g ∙ e; fits = record { below = omega arith; narrow = omega arith } }
 
   -- all bits of a number turned
   turned : negsuc 0 -ℤ pos a ≡ negsuc a
@@ -329,12 +331,12 @@ module _ (a w : ℕ) where
       let x = word_of_is _ w h in
       let l = between_is _ _ _ _ x.1 in
       let e : (18446744073709551615 + (2 ^ 64 - a)) % 2 ^ 64 ≡ w = sub_word 18446744073709551615 a (omega arith) f.below (fits_long _ _ l) ∙ ap word l.is ∙ x.2 in
-      record { is = e; fits = record { below = omega arith; narrow = tt } }
+      record { is = e; fits = record { below = omega arith; narrow = omega arith } }
   complement_gives ULong t f h =
       let lt = f.below in
       let z : word_of (in_kind ULong (negsuc a)) ≡ Some w = ap (λ z. word_of (in_kind ULong z)) (sym turned) ∙ h in
       let e : (18446744073709551616 - 1) - a % 18446744073709551616 ≡ w = cc in
-      record { is = omega arith; fits = record { below = omega arith; narrow = tt } }
+      record { is = omega arith; fits = record { below = omega arith; narrow = omega arith } }
 
   pub not_gives : a < 2 ^ 64 → (k : Kind) → operate_one Not k a ≡ Some w
       → Gives Int (test (nat_eq a 0)) w

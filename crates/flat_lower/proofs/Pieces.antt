@@ -13,7 +13,7 @@ use Rattle.c_meaning_spec.specs.declared.signal.Object.TheVariants.{InScalar, In
 use Rattle.c_meaning_spec.specs.State.{cell, held}
 use Rattle.c_meaning_spec.specs.State as eval
 use Rattle.c_meaning_spec.specs.Task.{array_of}
-use Rattle.c_meaning_spec.specs.Call.{size_of}
+use Rattle.c_constant.specs.Kinds.{bytes}
 use Rattle.c_meaning_spec.specs.Eval.{length_of}
 use Rattle.trips_isa.specs.declared.op.Op.{Op}
 use Rattle.trips_isa.specs.declared.op.Op.TheVariants as op
@@ -25,7 +25,7 @@ use Rattle.ir_forms.specs.Cells.{Memory, apply, load}
 use Rattle.ir_forms.specs.FlatSteps.{State, Env, settle, read, with_var}
 use Rattle.ir_forms.specs.FlatRuns.{checked}
 use Rattle.ir_forms.proofs.Steps.{frame_leads, load_leads}
-use Rattle.flat_lower.specs.Kinds.{IsWord}
+use Rattle.c_constant.specs.Kinds.{IsWord}
 use Rattle.flat_lower.specs.Operations.{temp, scratch, load_op, shift_of}
 use Rattle.flat_lower.specs.Objects.{Context, global_at, array_at, based, address_by, address_code}
 use Rattle.flat_lower.specs.Objects.{whole_code}
@@ -155,8 +155,8 @@ module _ (P : TypedProgram) (fs : List Function) (base : ℕ) where
   addressed k w at = (scaled (shift_of k) w + at) % 2 ^ 64
 
   -- of an element inside data memory it is where the element lies
-  pub addressed_is : (k : Kind) (w at : ℕ) → at + size_of k * w < 2 ^ 64
-      → addressed k w at ≡ at + size_of k * w
+  pub addressed_is : (k : Kind) (w at : ℕ) → at + bytes k * w < 2 ^ 64
+      → addressed k w at ≡ at + bytes k * w
   addressed_is Char w at h = omega arith
   addressed_is UChar w at h = omega arith
   addressed_is Int w at h = omega arith
@@ -215,8 +215,8 @@ module _ (P : TypedProgram) (fs : List Function) (base : ℕ) where
       let last = element_in o.it.kind o.it.at o.it.length w lt in
       let below = st.below in
       let room = y.room in
-      let e : size_of o.it.kind ≡ size_of k = ap size_of o.kind in
-      let fits : o.it.at + size_of o.it.kind * w < 2 ^ 64 = small (o.it.at + size_of o.it.kind * w) (omega arith) in
+      let e : bytes o.it.kind ≡ bytes k = ap bytes o.kind in
+      let fits : o.it.at + bytes o.it.kind * w < 2 ^ 64 = small (o.it.at + bytes o.it.kind * w) (omega arith) in
       addressed_is k w o.it.at (subst (λ z. o.it.at + z * w < 2 ^ 64) e fits)
       ∙ ap (λ z. o.it.at + z * w) (sym e)
     where

@@ -21,7 +21,7 @@ use Rattle.c_meaning_spec.specs.declared.signal.Object.TheVariants.{InScalar, In
 use Rattle.c_meaning_spec.specs.State.{cell, cell_in, held, row_in, element_set, written}
 use Rattle.c_meaning_spec.specs.State as eval
 use Rattle.c_meaning_spec.specs.Task.{array_of}
-use Rattle.c_meaning_spec.specs.Call.{size_of}
+use Rattle.c_constant.specs.Kinds.{bytes}
 use Rattle.c_meaning_spec.specs.Eval.{length_of}
 use Rattle.trips_isa.specs.declared.op.Op.TheVariants as op
 use Rattle.trips_isa.specs.Stores.{data_size, is_good_address}
@@ -35,7 +35,7 @@ use Rattle.ir_forms.specs.FlatRuns.{checked}
 use Rattle.ir_forms.proofs.Leads.{Leads}
 use Rattle.ir_forms.proofs.Steps.{code_run, frame_leads}
 use Rattle.flat_lower.specs.TreeViews.{func_of, source_of}
-use Rattle.flat_lower.specs.Kinds.{IsWord}
+use Rattle.c_constant.specs.Kinds.{IsWord}
 use Rattle.flat_lower.specs.Operations.{temp, scratch, load_op, save_op, shift_of}
 use Rattle.flat_lower.specs.Objects.{Context, global_at, array_at, based, address_by, address_code}
 use Rattle.flat_lower.specs.Statements.{context_of, globals_image}

@@ -37,7 +37,7 @@ use Rattle.ir_forms.proofs.Steps.{at_zero, code_run, call_run, call_leads, call_
 use Rattle.ir_forms.proofs.Steps.{first_stops, both_lead, nop_leads, return_leads}
 use Rattle.flat_lower.specs.Tree.{Func}
 use Rattle.flat_lower.specs.TreeViews.{func_of, stmt_of}
-use Rattle.flat_lower.specs.Kinds.{IsWord}
+use Rattle.c_constant.specs.Kinds.{IsWord}
 use Rattle.flat_lower.specs.Operations.{temp}
 use Rattle.flat_lower.specs.Expressions.{result_var}
 use Rattle.flat_lower.specs.Statements.{end_code, stmt_code, lowered_func, lowered_from}

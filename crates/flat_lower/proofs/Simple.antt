@@ -42,7 +42,8 @@ use Rattle.ir_forms.proofs.Steps.{if_one, if_other}
 use Rattle.flat_lower.specs.Tree.{kind_of}
 use Rattle.flat_lower.specs.Tree as tree
 use Rattle.flat_lower.specs.TreeViews.{expr_of}
-use Rattle.flat_lower.specs.Kinds.{IsWord, IsArithmetic}
+use Rattle.c_constant.specs.Kinds.{IsWord}
+use Rattle.flat_lower.specs.Kinds.{IsArithmetic}
 use Rattle.flat_lower.specs.Operations.{temp, scratch, set_word, copied, converted_here}
 use Rattle.flat_lower.specs.Operations.{binary_code, unary_code, load_op}
 use Rattle.flat_lower.specs.Objects.{Context, global_at, address_code}
@@ -51,7 +52,7 @@ use Rattle.flat_lower.specs.Expressions.{binary_end, operand_at, expr_code}
 use Rattle.flat_lower.specs.Fits.{GlobalIs, FitsName, FitsWhole, IsOperand, FitsRight, FitsStrict}
 use Rattle.flat_lower.specs.Fits.{FitsBinary, FitsUnary, FitsExpr, FitsKind}
 use Rattle.flat_lower.specs.Sizes.{nodes}
-use Rattle.flat_lower.proofs.Words.{converted_is}
+use Rattle.c_constant.proofs.Conversions.{converted_is}
 use Rattle.flat_lower.proofs.Straight.{Puts, puts_none, puts_let, puts_both, puts_as, puts_within}
 use Rattle.flat_lower.proofs.Straight.{var_read, IsRight, IsStrict, Works, binary_works}
 use Rattle.flat_lower.proofs.Straight.{unary_works, here_works}

@@ -8,7 +8,7 @@ use Rattle.c_tree.specs.declared.TypedGlobal.{TypedGlobal}
 use Rattle.c_tree.specs.declared.TypedFunc.{TypedFunc}
 use Rattle.c_tree.specs.declared.TypedProgram.{TypedProgram}
 use Rattle.c_meaning_spec.specs.State as eval
-use Rattle.c_meaning_spec.specs.Call.{size_of}
+use Rattle.c_constant.specs.Kinds.{bytes}
 use Rattle.c_meaning_spec.specs.Eval.{length_of, first_cells}
 use Rattle.c_meaning_spec.specs.Eval as evaluation
 use Rattle.trips_isa.specs.Stores.{data_size}
@@ -38,7 +38,7 @@ room_of [] = 0
 room_of (g ∷ gs) = global_bytes g + room_of gs
 
 global_whole : (g : TypedGlobal) → global_bytes g % 8 ≡ 0
-global_whole g = go (length_of g.length * size_of g.kind)
+global_whole g = go (length_of g.length * bytes g.kind)
   where
     go : (n : ℕ) → rounded n % 8 ≡ 0
     go n = omega arith
@@ -57,7 +57,7 @@ objects_laid lo (g ∷ gs) h =
     let rest : Laid (lo + global_bytes g) (lo + (global_bytes g + room_of gs)) (objects_from (lo + global_bytes g) gs) = subst (λ hi. Laid (lo + global_bytes g) hi (objects_from (lo + global_bytes g) gs)) e (objects_laid (lo + global_bytes g) gs (omega arith)) in (
       omega arith,
       h,
-      laid_lower (lo + global_bytes g) (lo + size_of g.kind * length_of g.length)
+      laid_lower (lo + global_bytes g) (lo + bytes g.kind * length_of g.length)
           (lo + (global_bytes g + room_of gs)) (objects_from (lo + global_bytes g) gs)
           (omega arith) rest,
     )

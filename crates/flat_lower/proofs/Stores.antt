@@ -13,7 +13,7 @@ use Rattle.c_meaning_spec.specs.declared.signal.Object.{Object}
 use Rattle.c_meaning_spec.specs.declared.signal.Object.TheVariants.{InScalar, InArray}
 use Rattle.c_meaning_spec.specs.State.{Result, Go, Over, then, cell, held, written, store, store_in}
 use Rattle.c_meaning_spec.specs.State as eval
-use Rattle.c_meaning_spec.specs.Call.{size_of}
+use Rattle.c_constant.specs.Kinds.{bytes}
 use Rattle.trips_isa.specs.Stores.{data_size}
 use Rattle.ir_forms.specs.declared.flat.Arg.{Arg}
 use Rattle.ir_forms.specs.declared.flat.Arg.TheVariants.{Const, Var}
@@ -23,7 +23,7 @@ use Rattle.ir_forms.specs.FlatSteps.{State, read, settle, with_var, with_memory}
 use Rattle.ir_forms.specs.FlatRuns.{checked}
 use Rattle.ir_forms.proofs.Leads.{Leads}
 use Rattle.ir_forms.proofs.Steps.{save_leads, both_lead}
-use Rattle.flat_lower.specs.Kinds.{IsWord}
+use Rattle.c_constant.specs.Kinds.{IsWord}
 use Rattle.flat_lower.specs.Operations.{temp, save_op}
 use Rattle.flat_lower.proofs.Straight.{put_at, put_other, Sets, Puts}
 use Rattle.flat_lower.proofs.Bytes.{save_is}

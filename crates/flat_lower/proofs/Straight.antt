@@ -15,7 +15,7 @@ use Rattle.c_tree.specs.declared.BinaryOp.TheVariants.{LogicalOr, LogicalAnd, Bi
 use Rattle.c_tree.specs.declared.BinaryOp.TheVariants.{Equal, NotEqual, Less, Greater, LessEqual}
 use Rattle.c_tree.specs.declared.BinaryOp.TheVariants.{GreaterEqual, ShiftLeft, ShiftRight, Add}
 use Rattle.c_tree.specs.declared.BinaryOp.TheVariants.{Subtract, Multiply, Divide, Remainder}
-use Rattle.c_constant.specs.Kinds.{is_signed, promoted, converted}
+use Rattle.c_constant.specs.Kinds.{width, is_signed, promoted, converted}
 use Rattle.c_constant.specs.Operation.{operate, operate_one, result_of, unary_result}
 use Rattle.c_meaning_spec.specs.Word.{converted_if, bump_operation, bump_of}
 use Rattle.trips_isa.specs.declared.op.Op.{Op}
@@ -29,12 +29,14 @@ use Rattle.ir_forms.specs.FlatSteps.{State, Env, Res, settle, read, var_put, wit
 use Rattle.ir_forms.specs.FlatRuns.{checked}
 use Rattle.ir_forms.proofs.Leads.{Leads}
 use Rattle.ir_forms.proofs.Steps.{code_run, nop_leads, let_leads, both_lead}
-use Rattle.flat_lower.specs.Kinds.{IsNarrow, IsWord, IsArithmetic}
+use Rattle.c_constant.specs.Kinds.{IsWord}
+use Rattle.flat_lower.specs.Kinds.{IsArithmetic}
 use Rattle.flat_lower.specs.Operations.{temp, scratch, set_word, copied, one_done, two_done}
 use Rattle.flat_lower.specs.Operations.{narrowing, narrowed_by, converted_to, narrowed_here}
 use Rattle.flat_lower.specs.Operations.{converted_here, reduced_here, by_sign, remainder_code}
 use Rattle.flat_lower.specs.Operations.{binary_code, unary_code, bump_op, bump_narrowing, bumped}
-use Rattle.flat_lower.proofs.Words.{converted_is, converted_word}
+use Rattle.c_constant.proofs.Conversions.{converted_is, converted_word, converted_long}
+use Rattle.c_constant.proofs.Conversions.{converted_ulong}
 use Rattle.flat_lower.proofs.Operators.{reduced_word, Gives, add_gives, sub_gives, mul_gives}
 use Rattle.flat_lower.proofs.Operators.{equal_gives, not_equal_gives, compared, less_gives}
 use Rattle.flat_lower.proofs.Operators.{greater_gives, less_equal_gives, greater_equal_gives}
@@ -481,28 +483,30 @@ module _ (fs : List Function) (base : ℕ) (e : Env) where
   pub here_works : (k : Kind) (f : State) (x a : ℕ) → f.vars x ≡ Some a → a < 2 ^ 64
       → Works (converted_here k x) f 1 x 80 (converted k a) k
   unfolding converted apply
-  here_works k f x a hx p = record { puts = here k; fits = converted_word k a p }
+  here_works k f x a hx p = record { puts = here k; fits = converted_word k a }
     where
       here : (k : Kind) → Puts (converted_here k x) f 1 x 80 (converted k a)
       here Char = one_puts op.Extsb f 1 x x 80 a (omega arith) hx refl
       here UChar = one_puts op.Extub f 1 x x 80 a (omega arith) hx refl
       here Int = one_puts op.Extsw f 1 x x 80 a (omega arith) hx refl
       here UInt = one_puts op.Extuw f 1 x x 80 a (omega arith) hx refl
-      here Long = puts_none f 1 x 80 a hx
-      here ULong = puts_none f 1 x 80 a hx
+      here Long = puts_none f 1 x 80 (converted Long a) (hx ∙ ap Some (sym (converted_long a p)))
+      here ULong = puts_none f 1 x 80 (converted ULong a) (hx ∙ ap Some (sym (converted_ulong a p)))
 
   pub to_works : (k : Kind) (f : State) (to x a : ℕ) → f.vars x ≡ Some a → a < 2 ^ 64
       → Works (converted_to k to x) f 1 to 80 (converted k a) k
   unfolding converted apply
-  to_works k f to x a hx p = record { puts = there k; fits = converted_word k a p }
+  to_works k f to x a hx p = record { puts = there k; fits = converted_word k a }
     where
       there : (k : Kind) → Puts (converted_to k to x) f 1 to 80 (converted k a)
       there Char = one_puts op.Extsb f 1 to x 80 a (omega arith) hx refl
       there UChar = one_puts op.Extub f 1 to x 80 a (omega arith) hx refl
       there Int = one_puts op.Extsw f 1 to x 80 a (omega arith) hx refl
       there UInt = one_puts op.Extuw f 1 to x 80 a (omega arith) hx refl
-      there Long = one_puts op.Mov f 1 to x 80 a (omega arith) hx refl
-      there ULong = one_puts op.Mov f 1 to x 80 a (omega arith) hx refl
+      there Long = puts_as (converted_to Long to x) f 1 to 80 a (converted Long a)
+          (sym (converted_long a p)) (one_puts op.Mov f 1 to x 80 a (omega arith) hx refl)
+      there ULong = puts_as (converted_to ULong to x) f 1 to 80 a (converted ULong a)
+          (sym (converted_ulong a p)) (one_puts op.Mov f 1 to x 80 a (omega arith) hx refl)
 
   -- BUMPS
 
@@ -541,15 +545,15 @@ module _ (fs : List Function) (base : ℕ) (e : Env) where
   bump_first o f spare to x old hx = puts_let (bump_op o) (Var x) (Const 1) f 1 to spare old 1
       (alu_of (bump_op o) old 1) (omega arith) (var_read f x old hx) refl (bump_applies o old)
 
-  narrowed_puts : (k : Kind) (f : State) (spare x v : ℕ) → f.vars x ≡ Some v
-      → Puts (narrowed_here (narrowing k) x) f 1 x spare (converted k v)
+  narrowed_puts : (k : Kind) (f : State) (spare x v : ℕ) → nat_lt (width k) 64 ≡ true
+      → f.vars x ≡ Some v → Puts (narrowed_here (narrowing k) x) f 1 x spare (converted k v)
   unfolding converted apply
-  narrowed_puts Char f spare x v hx = one_puts op.Extsb f 1 x x spare v (omega arith) hx refl
-  narrowed_puts UChar f spare x v hx = one_puts op.Extub f 1 x x spare v (omega arith) hx refl
-  narrowed_puts Int f spare x v hx = one_puts op.Extsw f 1 x x spare v (omega arith) hx refl
-  narrowed_puts UInt f spare x v hx = one_puts op.Extuw f 1 x x spare v (omega arith) hx refl
-  narrowed_puts Long f spare x v hx = puts_none f 1 x spare v hx
-  narrowed_puts ULong f spare x v hx = puts_none f 1 x spare v hx
+  narrowed_puts Char f spare x v n hx = one_puts op.Extsb f 1 x x spare v (omega arith) hx refl
+  narrowed_puts UChar f spare x v n hx = one_puts op.Extub f 1 x x spare v (omega arith) hx refl
+  narrowed_puts Int f spare x v n hx = one_puts op.Extsw f 1 x x spare v (omega arith) hx refl
+  narrowed_puts UInt f spare x v n hx = one_puts op.Extuw f 1 x x spare v (omega arith) hx refl
+  narrowed_puts Long f spare x v n hx = absurd (cc n)
+  narrowed_puts ULong f spare x v n hx = absurd (cc n)
 
   -- an unsigned int is narrowed from the sum as from what was reduced
   uint_twice : (v : ℕ) → converted UInt v ≡ converted UInt (v % 2 ^ 32)
@@ -562,11 +566,11 @@ module _ (fs : List Function) (base : ℕ) (e : Env) where
   bump_end o Char f spare to v old w hx e p b =
       let g = bump_gives o Int old b.middle p tt b.done in
       puts_as (narrowed_here (narrowing Char) to) f 1 to spare (converted Char v) w
-      (ap (converted Char) (e ∙ g.is) ∙ b.is) (narrowed_puts Char f spare to v hx)
+      (ap (converted Char) (e ∙ g.is) ∙ b.is) (narrowed_puts Char f spare to v refl hx)
   bump_end o UChar f spare to v old w hx e p b =
       let g = bump_gives o Int old b.middle p tt b.done in
       puts_as (narrowed_here (narrowing UChar) to) f 1 to spare (converted UChar v) w
-      (ap (converted UChar) (e ∙ g.is) ∙ b.is) (narrowed_puts UChar f spare to v hx)
+      (ap (converted UChar) (e ∙ g.is) ∙ b.is) (narrowed_puts UChar f spare to v refl hx)
   bump_end o Int f spare to v old w hx e p b =
       let g = bump_gives o Int old b.middle p tt b.done in
       puts_none f 1 to spare w (hx ∙ ap Some
@@ -575,7 +579,7 @@ module _ (fs : List Function) (base : ℕ) (e : Env) where
       let g = bump_gives o UInt old b.middle p tt b.done in
       puts_as (narrowed_here (narrowing UInt) to) f 1 to spare (converted UInt v) w
       (uint_twice v ∙ ap (λ v. converted UInt (v % 2 ^ 32)) e ∙ ap (converted UInt) g.is ∙ b.is)
-      (narrowed_puts UInt f spare to v hx)
+      (narrowed_puts UInt f spare to v refl hx)
   bump_end o Long f spare to v old w hx e p b =
       let g = bump_gives o Long old b.middle p tt b.done in
       puts_none f 1 to spare w (hx ∙ ap Some
@@ -586,12 +590,12 @@ module _ (fs : List Function) (base : ℕ) (e : Env) where
       (e ∙ g.is ∙ sym (converted_is ULong b.middle g.fits) ∙ b.is))
 
   bump_fits : (o : BumpOp) (k : Kind) (old w : ℕ) → old < 2 ^ 64 → Bumped o k old w → IsWord k w
-  bump_fits o Char old w p b = let g = bump_gives o Int old b.middle p tt b.done in subst (IsWord Char) b.is (converted_word Char b.middle g.fits.below)
-  bump_fits o UChar old w p b = let g = bump_gives o Int old b.middle p tt b.done in subst (IsWord UChar) b.is (converted_word UChar b.middle g.fits.below)
-  bump_fits o Int old w p b = let g = bump_gives o Int old b.middle p tt b.done in subst (IsWord Int) b.is (converted_word Int b.middle g.fits.below)
-  bump_fits o UInt old w p b = let g = bump_gives o UInt old b.middle p tt b.done in subst (IsWord UInt) b.is (converted_word UInt b.middle g.fits.below)
-  bump_fits o Long old w p b = let g = bump_gives o Long old b.middle p tt b.done in subst (IsWord Long) b.is (converted_word Long b.middle g.fits.below)
-  bump_fits o ULong old w p b = let g = bump_gives o ULong old b.middle p tt b.done in subst (IsWord ULong) b.is (converted_word ULong b.middle g.fits.below)
+  bump_fits o Char old w p b = let g = bump_gives o Int old b.middle p tt b.done in subst (IsWord Char) b.is (converted_word Char b.middle)
+  bump_fits o UChar old w p b = let g = bump_gives o Int old b.middle p tt b.done in subst (IsWord UChar) b.is (converted_word UChar b.middle)
+  bump_fits o Int old w p b = let g = bump_gives o Int old b.middle p tt b.done in subst (IsWord Int) b.is (converted_word Int b.middle)
+  bump_fits o UInt old w p b = let g = bump_gives o UInt old b.middle p tt b.done in subst (IsWord UInt) b.is (converted_word UInt b.middle)
+  bump_fits o Long old w p b = let g = bump_gives o Long old b.middle p tt b.done in subst (IsWord Long) b.is (converted_word Long b.middle)
+  bump_fits o ULong old w p b = let g = bump_gives o ULong old b.middle p tt b.done in subst (IsWord ULong) b.is (converted_word ULong b.middle)
 
   -- one more or one less of x, in another variable or its own, in at most two turns
   pub bump_works : (o : BumpOp) (k : Kind) (f : State) (spare to x old w : ℕ) → f.vars x ≡ Some old

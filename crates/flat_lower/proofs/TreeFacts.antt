@@ -12,8 +12,8 @@ use Rattle.c_tree.specs.declared.TypedStmt.{fold_out-TypedStmt}
 use Rattle.c_tree.specs.declared.TypedForInit.{TypedForInit, out-TypedForInit, map-TypedForInit}
 use Rattle.c_tree.specs.declared.TypedForInit.{fold-TypedForInit, fold_out-TypedForInit}
 use Rattle.c_tree.specs.declared.TypedForInit.TheOpen as stmt
-use Rattle.c_meaning_spec.specs.Expression.{Node, node_of}
-use Rattle.c_meaning_spec.specs.Statement as eval
+use Rattle.c_tree.specs.TypedTrees.{Node, node_of}
+use Rattle.c_tree.specs.TypedTrees as level
 use Rattle.flat_lower.specs.Tree.{Expr, Number, Name, Element, Call, Unary, Cast, Convert, Bump}
 use Rattle.flat_lower.specs.Tree.{Binary, Choice, Assign, Comma, Exprs, NoExprs, WithExpr, Stmt}
 use Rattle.flat_lower.specs.Tree.{Declare, Plain, Compound, If, While, Do, For, Break, Continue}
@@ -83,7 +83,7 @@ unfoldable pub first_of : TypedForInit → First
 first_of i = fold-TypedForInit First Stmt first_by stmt_by i
 
 -- one level of a statement, and of the first part of a for
-abbrev pub plain_stmt : eval.Level → Stmt
+abbrev pub plain_stmt : level.Level → Stmt
 plain_stmt (stmt.Declare p init) = Declare p (expr_if init)
 plain_stmt (stmt.Plain e) = Plain (expr_if e)
 plain_stmt (stmt.Compound all) = Compound (stmts_of (map stmt_of all))
@@ -98,12 +98,12 @@ plain_stmt stmt.Break = Break
 plain_stmt stmt.Continue = Continue
 plain_stmt (stmt.Return e) = Return (expr_if e)
 
-abbrev pub plain_first : eval.First → First
+abbrev pub plain_first : level.Beginning → First
 plain_first stmt.Nothing = Nothing
 plain_first (stmt.First e) = FirstOf (expr_of e)
 plain_first (stmt.Locals all) = Locals (stmts_of (map stmt_of all))
 
-stmt_levels : (x : eval.Level) → stmt_by (map-TypedStmt TypedForInit TypedStmt First Stmt first_of
+stmt_levels : (x : level.Level) → stmt_by (map-TypedStmt TypedForInit TypedStmt First Stmt first_of
     stmt_of x) ≡ plain_stmt x
 stmt_levels (stmt.Declare p init) = refl
 stmt_levels (stmt.Plain e) = refl
@@ -122,7 +122,7 @@ pub stmt_is : (s : TypedStmt) → stmt_of s ≡ plain_stmt (out-TypedStmt s)
 unfolding stmt_of first_of
 stmt_is s = fold_out-TypedStmt First Stmt first_by stmt_by s ∙ stmt_levels (out-TypedStmt s)
 
-first_levels : (x : eval.First) → first_by
+first_levels : (x : level.Beginning) → first_by
     (map-TypedForInit TypedForInit TypedStmt First Stmt first_of stmt_of x) ≡ plain_first x
 first_levels stmt.Nothing = refl
 first_levels (stmt.First e) = refl

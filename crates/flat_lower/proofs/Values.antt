@@ -22,7 +22,7 @@ use Rattle.ir_forms.proofs.Leads.{Run}
 use Rattle.ir_forms.proofs.Steps.{code_waits}
 use Rattle.flat_lower.specs.Tree.{Expr}
 use Rattle.flat_lower.specs.TreeViews.{func_of, expr_of}
-use Rattle.flat_lower.specs.Kinds.{IsWord}
+use Rattle.c_constant.specs.Kinds.{IsWord}
 use Rattle.flat_lower.specs.Operations.{temp}
 use Rattle.flat_lower.specs.Expressions.{expr_code}
 use Rattle.flat_lower.specs.Statements.{lowered_from}

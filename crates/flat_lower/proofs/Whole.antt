@@ -20,7 +20,7 @@ use Rattle.c_meaning_spec.specs.State.{Result, Go, Over, then}
 use Rattle.c_meaning_spec.specs.State as eval
 use Rattle.c_meaning_spec.specs.Task as task
 use Rattle.c_meaning_spec.specs.Call.{frame, entered, entered_if, enter, left, called}
-use Rattle.c_meaning_spec.specs.Eval.{meaning, outcome, main_result}
+use Rattle.c_meaning_spec.specs.Eval.{meaning, outcome}
 use Rattle.c_meaning_spec.specs.Eval as evaluation
 use Rattle.ir_forms.specs.declared.flat.Arg.TheVariants.{Const}
 use Rattle.ir_forms.specs.FlatCode.{Code, Then, only, Function, Program}
@@ -32,12 +32,12 @@ use Rattle.ir_forms.proofs.Leads.{Run, Leads, Stops, waits_stop}
 use Rattle.ir_forms.proofs.Steps.{first_leads, first_stops, both_lead, return_leads}
 use Rattle.flat_lower.specs.Tree.{Func}
 use Rattle.flat_lower.specs.TreeViews.{func_of, stmt_of, source_of}
-use Rattle.flat_lower.specs.Kinds.{IsWord}
+use Rattle.c_constant.specs.Kinds.{IsWord}
 use Rattle.flat_lower.specs.Statements.{end_code, stmt_code, lowered, lowered_program}
 use Rattle.flat_lower.specs.Fits.{FitsFunc, FitsSource}
 use Rattle.flat_lower.specs.Sizes.{size_of, IsMost}
 use Rattle.flat_lower.specs.Keeps.{Finishes, Overflows, Runs, Keeps, IsInput, Means, KeepsMeaning}
-use Rattle.flat_lower.proofs.Words.{converted_is}
+use Rattle.c_constant.proofs.Conversions.{converted_is}
 use Rattle.flat_lower.proofs.Follows.{Goes, Dives, Halts, Follows}
 use Rattle.flat_lower.proofs.Related.{Scene, IsScene, context, Related}
 use Rattle.flat_lower.proofs.Values.{functions, base}
@@ -45,6 +45,7 @@ use Rattle.flat_lower.proofs.Entered.{ArgsAre, called_scene, called_is, begins, 
 use Rattle.flat_lower.proofs.Returns.{ReturnIs, Ended, lowered_of, lowered_is, body_run, this_call}
 use Rattle.flat_lower.proofs.Returns.{call_dives, call_waits, closed_leads, closed_stops}
 use Rattle.flat_lower.proofs.Calls.{typed_at, func_at, within, beyond, under, limit}
+use Rattle.flat_lower.proofs.Comes.{zero_fits}
 use Rattle.flat_lower.proofs.EveryStmt.{runs_follow}
 use Rattle.flat_lower.proofs.Starts.{first_scene, first_is, first_state, first_related}
 
@@ -71,7 +72,7 @@ pub record Halted (most n : ℕ) (run : Run) (out : List ℕ) : Type 0 where
   pub stops : Stops run t out r
 
 abbrev Ends : ℕ → ℕ → Run → Result → Type 0
-Ends most n run (Go Nothing s) = Gives most n run 0 s
+Ends most n run (Go Nothing s) = Unit {0}
 Ends most n run (Go (Value w) s) = Gives most n run w s
 Ends most n run (Go Breaks s) = ⊥
 Ends most n run (Go Continues s) = ⊥
@@ -82,9 +83,6 @@ Ends most n run (Over Deep s) = Dived n run s.output
 
 more_rounds : (most r : ℕ) → most * (r + 1) ≡ most + most * r
 more_rounds most r = let e : r + 1 ≡ suc r = omega arith in ap (λ n. most * n) e ∙ mul-suc most r ∙ omega arith
-
-zero_fits : IsWord Int 0
-zero_fits = record { below = omega arith; narrow = omega arith }
 
 module _ (P : TypedProgram) (most : ℕ) (sound : FitsSource (source_of P)) (large : IsMost (source_of P) most) (input : List ℕ) (bytes : IsInput input) (f : TypedFunc) (found : slice_get P.functions P.main ≡ Some f) (result : f.result ≡ Some Int) (params : f.params ≡ 0) where
   abbrev S0 : Scene
@@ -133,7 +131,7 @@ module _ (P : TypedProgram) (most : ℕ) (sound : FitsSource (source_of P)) (lar
 
     comes_out : (r : Result) → Follows most (Ended S1) (inner B) (8 * n + 4) low r
         → Ends most (suc n) main_run (then r
-        (left [] (length (evaluation.start P input n).arrays) 0 0))
+        (left true [] (length (evaluation.start P input n).arrays) 0 0))
     comes_out (Go Nothing s) h =
         let end = both_lead checked (functions P most) (base P most) env B (only (flat.Return (Some (Const 0)))) first h.to h.t 1 (Gave (Some 0) h.to) h.leads (return_leads checked (functions P most) (base P most) env (Const 0) h.to 0 refl) in
         let whole : Leads (inner F.body) (h.t + 1) (Gave (Some 0) h.to) = subst (λ b. Leads (inner (Then B (end_code b))) (h.t + 1) (Gave (Some 0) h.to)) (sym is_main) end in
@@ -192,7 +190,7 @@ module _ (P : TypedProgram) (most : ℕ) (sound : FitsSource (source_of P)) (lar
 
   -- main's frame has room or it has not
   main_enters : (n : ℕ) (b : Bool) → nat_le (0 + frame f) 1048576 ≡ b
-      → Ends most (suc n) main_run (entered_if (meaning P) b f [] (evaluation.start P input n))
+      → Ends most (suc n) main_run (entered_if (meaning P) true b f [] (evaluation.start P input n))
   main_enters n false e =
       let same : 0 + frame f ≡ 0 + frame_of F = ap (λ n. 0 + n) (frame_is P f F (lowered_is P most f (nat_eq P.main P.main))) in
       let full : nat_lt frame_limit (0 + frame_of F) ≡ true = subst (λ m. nat_lt m (0 + frame_of F) ≡ true) (sym limit) (beyond (0 + frame_of F) 1048576 (subst (λ x. nat_le x 1048576 ≡ false) same e)) in
@@ -229,12 +227,14 @@ module _ (P : TypedProgram) (most : ℕ) (sound : FitsSource (source_of P)) (lar
     stops = waits_stop main_run [] 0 (call_waits P most 0 P.main f found [] g0);
   }
   main_ends (suc n) =
-      subst (λ o. Ends most (suc n) main_run (enter (meaning P) o [] (evaluation.start P input n)))
-      (sym found)
+      subst (λ b. Ends most (suc n) main_run
+      (enter (meaning P) b (slice_get P.functions P.main) [] (evaluation.start P input n))) (sym is_main)
+      (subst (λ o. Ends most (suc n) main_run
+      (enter (meaning P) true o [] (evaluation.start P input n))) (sym found)
       (subst (λ p. Ends most (suc n) main_run
-      (cond (nat_eq 0 p) (entered_if (meaning P) (nat_le (0 + frame f) 1048576) f []
+      (cond (nat_eq 0 p) (entered_if (meaning P) true (nat_le (0 + frame f) 1048576) f []
       (evaluation.start P input n)) (Over Undefined (evaluation.start P input n)))) (sym params)
-      (main_enters n (nat_le (0 + frame f) 1048576) refl))
+      (main_enters n (nat_le (0 + frame f) 1048576) refl)))
 
   -- A RUN BY ITS TURNS
 
@@ -250,17 +250,7 @@ module _ (P : TypedProgram) (most : ℕ) (sound : FitsSource (source_of P)) (lar
       (omega arith)
 
   keeps : (n : ℕ) (r : Result) → Ends most n main_run r → Keeps most by_turns n (outcome n r)
-  keeps n (Go Nothing s) h = record {
-    turns = h.t;
-    word = 0;
-    to = h.to;
-    few = omega (arith, h.upper);
-    many = omega (arith, h.lower);
-    fits = h.fits;
-    is = refl;
-    output = h.output;
-    ends = turns_lead h.t (Gave (Some 0) h.to) h.leads;
-  }
+  keeps n (Go Nothing s) h = tt
   keeps n (Go (Value w) s) h = record {
     turns = h.t;
     word = w;

@@ -1,6 +1,7 @@
 -- Typed programs that are lowered: what typing gives of each node, and temporaries that suffice.
 use Rattle.std.specs.Prelude.{◌≡◌, ℕ, suc, ◌+◌, ◌<◌, ◌≤◌, true, false, List, [], ◌∷◌, length, take}
 use Rattle.std.specs.Prelude.{All, Option, Some, None, slice_get}
+use Rattle.c_tree.specs.declared.limits.TheConstants.{MOST_SCALARS}
 use Rattle.c_tree.specs.declared.Kind.{Kind}
 use Rattle.c_tree.specs.declared.Kind.TheVariants.{Int}
 use Rattle.c_tree.specs.declared.UnaryOp.{UnaryOp}
@@ -24,7 +25,8 @@ use Rattle.flat_lower.specs.Tree.{Binary, Choice, Assign, Comma, Exprs, NoExprs,
 use Rattle.flat_lower.specs.Tree.{Declare, Plain, Compound, If, While, Do, For, Break, Continue}
 use Rattle.flat_lower.specs.Tree.{Return, Stmts, NoStmts, WithStmt, First, Nothing, FirstOf, Locals}
 use Rattle.flat_lower.specs.Tree.{Func, Source, kind_of}
-use Rattle.flat_lower.specs.Kinds.{IsWord, IsArithmetic}
+use Rattle.c_constant.specs.Kinds.{IsWord}
+use Rattle.flat_lower.specs.Kinds.{IsArithmetic}
 use Rattle.flat_lower.specs.Expressions.{operand_at, right_at}
 use Rattle.flat_lower.specs.Statements.{globals_image}
 
@@ -218,7 +220,7 @@ scope_of P f = record {
 }
 
 pub record FitsFunc (P : Source) (f : Func) : Type 0 where
-  pub scalars : length f.scalars ≤ 64
+  pub scalars : length f.scalars ≤ MOST_SCALARS
   pub params : f.params ≤ length f.scalars
   pub body : FitsStmt (scope_of P f) f.result f.body
 

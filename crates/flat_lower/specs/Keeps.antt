@@ -9,7 +9,7 @@ use Rattle.ir_forms.specs.FlatSteps.{State, Res, Gave, TooDeep, Unfinished}
 use Rattle.ir_forms.specs.FlatCode.{Program}
 use Rattle.ir_forms.specs.FlatRuns.{checked, flat_run}
 use Rattle.flat_lower.specs.TreeViews.{source_of}
-use Rattle.flat_lower.specs.Kinds.{IsWord}
+use Rattle.c_constant.specs.Kinds.{IsWord}
 use Rattle.flat_lower.specs.Statements.{lowered_program}
 use Rattle.flat_lower.specs.Fits.{FitsSource}
 use Rattle.flat_lower.specs.Sizes.{IsMost}

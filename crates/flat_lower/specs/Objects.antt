@@ -7,7 +7,8 @@ use Rattle.c_tree.specs.declared.Place.TheVariants.{Global, Scalar, Array}
 use Rattle.c_tree.specs.declared.TypedArray.{TypedArray}
 use Rattle.c_tree.specs.declared.TypedGlobal.{TypedGlobal}
 use Rattle.c_meaning_spec.specs.Task.{is_array}
-use Rattle.c_meaning_spec.specs.Call.{size_of, array_bytes}
+use Rattle.c_constant.specs.Kinds.{bytes}
+use Rattle.c_meaning_spec.specs.Call.{array_bytes}
 use Rattle.c_meaning_spec.specs.Eval.{length_of}
 use Rattle.trips_isa.specs.declared.op.Op.TheVariants as op
 use Rattle.ir_forms.specs.declared.flat.Arg.{Arg}
@@ -23,7 +24,7 @@ pub record Context : Type 0 where
 
 -- a global takes whole words, a scalar too
 abbrev pub global_bytes : TypedGlobal → ℕ
-global_bytes g = rounded (length_of g.length * size_of g.kind)
+global_bytes g = rounded (length_of g.length * bytes g.kind)
 
 -- the bytes of the first of some objects
 abbrev pub bytes_before : List ℕ → ℕ → ℕ

@@ -6,7 +6,8 @@ use Rattle.c_tree.specs.declared.Place.{Place}
 use Rattle.c_tree.specs.declared.Place.TheVariants.{Global, Scalar, Array}
 use Rattle.c_tree.specs.declared.TypedGlobal.{TypedGlobal}
 use Rattle.c_tree.specs.declared.TypedProgram.{TypedProgram}
-use Rattle.c_meaning_spec.specs.Call.{size_of, all_bytes}
+use Rattle.c_constant.specs.Kinds.{bytes}
+use Rattle.c_meaning_spec.specs.Call.{all_bytes}
 use Rattle.c_meaning_spec.specs.Eval.{length_of}
 use Rattle.ir_forms.specs.declared.flat.Arg.TheVariants.{Const, Var}
 use Rattle.ir_forms.specs.FlatCode.{Code, Nop, Then, only, Loop, Function, Program}
@@ -111,8 +112,8 @@ init_bytes size (w ∷ ws) = word_bytes size w ++ init_bytes size ws
 -- the values given, and then zeros up to whole words
 abbrev pub global_image : TypedGlobal → List ℕ
 global_image g =
-    init_bytes (size_of g.kind) g.init ++ replicate
-    (global_bytes g - length g.init * size_of g.kind) 0
+    init_bytes (bytes g.kind) g.init ++ replicate
+    (global_bytes g - length g.init * bytes g.kind) 0
 
 abbrev pub globals_image : List TypedGlobal → List ℕ
 globals_image [] = []

@@ -10,10 +10,10 @@ ghost use Rattle.flat_lower.specs.Statements.{stmt_code, end_code, lowered_func,
 ghost use Rattle.flat_lower.specs.Emitted.{Adds, starts_from};
 
 use crate::emit::put_return;
-use crate::globals::size_of;
 use crate::places::Places;
 use crate::statements::put_stmt;
 use base::{Items, Memory};
+use c_constant::bytes;
 use c_tree::{TypedArray, TypedFunc, TypedGlobal, TypedStmt};
 use ir_forms::{Arg, FlatFunc, FlatStmt};
 use std::alloc::Global;
@@ -22,8 +22,8 @@ use std::alloc::Global;
 fn array_bytes(array: &TypedArray) -> u64
     ensures { result ≡ call.array_bytes array.now }
 {
-    let bytes = array.length as u64 * size_of(array.kind) as u64;
-    (bytes + 7) / 8 * 8
+    let filled = array.length as u64 * bytes(array.kind) as u64;
+    (filled + 7) / 8 * 8
 }
 
 fn further(at: u32, by: u64) -> Result<u32, Memory>

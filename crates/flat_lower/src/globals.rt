@@ -2,31 +2,17 @@
 
 ghost use Rattle.std.specs.Prelude.{◌≡◌, ◌+◌, ◌*◌, ◌/◌, ◌%◌, ◌^◌, ◌<◌, ◌≤◌, ◌++◌, map, replicate};
 ghost use Rattle.std.specs.Prelude.{OnOk, IfOk};
-ghost use Rattle.c_meaning_spec.specs.Call as call;
 ghost use Rattle.c_meaning_spec.specs.Eval as eval;
 ghost use Rattle.flat_lower.specs.Objects as objects;
 ghost use Rattle.flat_lower.specs.Statements.{word_bytes, init_bytes, global_image, globals_image};
 ghost use Rattle.flat_lower.specs.Emitted.{starts_from};
 
 use base::{Items, Memory};
-use c_tree::{Kind, TypedGlobal};
+use c_constant::bytes;
+use c_tree::TypedGlobal;
 use std::alloc::Global;
 
-/// The bytes of a value.
-pub fn size_of(kind: Kind) -> u32
-    ensures value { result ≡ call.size_of kind }
-    ensures most { result ≤ 8 }
-{
-    match kind {
-        Kind::Char => 1,
-        Kind::UChar => 1,
-        Kind::Int => 4,
-        Kind::UInt => 4,
-        Kind::Long => 8,
-        Kind::ULong => 8,
-    }
-}
-
+// How many values a global holds.
 fn length_of(length: Option<u32>) -> u32
     ensures { result ≡ eval.length_of length }
 {
@@ -40,8 +26,8 @@ fn length_of(length: Option<u32>) -> u32
 fn global_bytes(global: &TypedGlobal) -> u64
     ensures { result ≡ objects.global_bytes global.now }
 {
-    let bytes = length_of(global.length) as u64 * size_of(global.kind) as u64;
-    (bytes + 7) / 8 * 8
+    let filled = length_of(global.length) as u64 * bytes(global.kind) as u64;
+    (filled + 7) / 8 * 8
 }
 
 fn further(at: u64, by: u64) -> Result<u64, Memory>
@@ -125,7 +111,7 @@ fn given(count: usize, size: u32) -> Result<u64, Memory>
 fn put_global(bytes: &mut Items<u8>, global: &TypedGlobal) -> Result<(), Memory>
     ensures { OnOk result (bytes.new ≡ bytes.old ++ global_image global.now) }
 {
-    let size = size_of(global.kind);
+    let size = bytes(global.kind);
     let given = given(global.init.len(), size)?;
     put_init(bytes, size, global.init.as_slice())?;
     put_zeros(bytes, global_bytes(global).saturating_sub(given))?;

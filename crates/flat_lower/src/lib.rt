@@ -21,7 +21,5 @@ mod results;
 mod side;
 mod sides;
 mod statements;
-#[cfg(test)]
-mod tests;
 
 pub use lowering::lower;

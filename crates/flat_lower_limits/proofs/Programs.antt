@@ -6,7 +6,8 @@ use Rattle.std.specs.Prelude.{slice_get, nat_eq}
 use Rattle.std.proofs.lemmas.List.{length-take-le}
 use Rattle.c_tree.specs.declared.TypedArray.{TypedArray}
 use Rattle.c_tree.specs.declared.TypedGlobal.{TypedGlobal}
-use Rattle.c_meaning_spec.specs.Call.{size_of, all_bytes}
+use Rattle.c_constant.specs.Kinds.{bytes}
+use Rattle.c_meaning_spec.specs.Call.{all_bytes}
 use Rattle.ir_forms.specs.FlatCode.{Function}
 use Rattle.ir_forms.specs.FlatFits.{FitsFunction}
 use Rattle.flat_lower.specs.Tree.{Func, Source}
@@ -79,7 +80,7 @@ words x r h = omega arith
 
 arrays_are_words : (all : List TypedArray) → all_bytes all % 8 ≡ 0
 arrays_are_words [] = refl
-arrays_are_words (a ∷ rest) = words ((a.length * size_of a.kind + 7) / 8) (all_bytes rest)
+arrays_are_words (a ∷ rest) = words ((a.length * bytes a.kind + 7) / 8) (all_bytes rest)
     (arrays_are_words rest)
 
 -- PROGRAMS

@@ -4,15 +4,21 @@
 #[cfg(test)]
 mod acting;
 #[cfg(test)]
+mod assign_tests;
+#[cfg(test)]
 mod both;
 #[cfg(test)]
 mod breach_tests;
+#[cfg(test)]
+mod compile_tests;
 #[cfg(test)]
 mod expression_texts;
 #[cfg(test)]
 mod kind_texts;
 #[cfg(test)]
 mod limit_tests;
+#[cfg(test)]
+mod lower_tests;
 #[cfg(test)]
 mod machine;
 #[cfg(test)]

@@ -24,6 +24,13 @@ const STATEMENTS: &[Row] = &[
         result: 0,
     },
     Row {
+        name: "end of a called main",
+        text: texts::END_OF_A_CALLED_MAIN,
+        input: b"",
+        output: b"",
+        result: 5,
+    },
+    Row {
         name: "divisions",
         text: texts::DIVISIONS,
         input: b"",

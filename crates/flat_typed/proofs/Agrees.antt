@@ -11,18 +11,13 @@ use Rattle.c_tree.specs.declared.BinaryOp.TheVariants.{GreaterEqual, ShiftLeft, 
 use Rattle.c_tree.specs.declared.BinaryOp.TheVariants.{Subtract, Multiply, Divide, Remainder}
 use Rattle.c_constant.specs.Kinds.{promoted, larger, common}
 use Rattle.c_constant.specs.Operation.{left_at, right_at, result_of, unary_at, unary_result}
-use Rattle.c_words.specs.Words.{IsWordOf}
 use Rattle.c_words.specs.Assigners.{IsAssigner}
-use Rattle.flat_lower.specs.Kinds.{IsWord, IsArithmetic}
+use Rattle.flat_lower.specs.Kinds.{IsArithmetic}
 use Rattle.flat_lower.specs.Fits.{FitsBinary, FitsUnary, FitsCompound}
-use Rattle.flat_lower.proofs.Words.{converted_word}
-
--- the word of a value is a word as the lowering takes it
-pub word_is : (k : Kind) (w : ℕ) → IsWordOf k w → IsWord k w
-word_is k w h = subst (IsWord k) (sym h.is) (converted_word k h.of h.below)
 
 -- TYPES OF OPERATIONS
 
+-- a promoted type
 promoted_works : (k : Kind) → IsArithmetic (promoted k)
 promoted_works Char = tt
 promoted_works UChar = tt
@@ -31,10 +26,16 @@ promoted_works UInt = tt
 promoted_works Long = tt
 promoted_works ULong = tt
 
+-- the larger of two
 larger_works : (j k : Kind) → IsArithmetic j → IsArithmetic k → IsArithmetic (larger j k)
 larger_works Char k a b = absurd a
 larger_works UChar k a b = absurd a
-larger_works Int k a b = b
+larger_works Int Char a b = absurd b
+larger_works Int UChar a b = absurd b
+larger_works Int Int a b = tt
+larger_works Int UInt a b = tt
+larger_works Int Long a b = tt
+larger_works Int ULong a b = tt
 larger_works UInt Char a b = absurd b
 larger_works UInt UChar a b = absurd b
 larger_works UInt Int a b = tt
@@ -47,7 +48,12 @@ larger_works Long Int a b = tt
 larger_works Long UInt a b = tt
 larger_works Long Long a b = tt
 larger_works Long ULong a b = tt
-larger_works ULong k a b = tt
+larger_works ULong Char a b = absurd b
+larger_works ULong UChar a b = absurd b
+larger_works ULong Int a b = tt
+larger_works ULong UInt a b = tt
+larger_works ULong Long a b = tt
+larger_works ULong ULong a b = tt
 
 -- operations are done in the types that the usual conversions give
 common_works : (j k : Kind) → IsArithmetic (common j k)

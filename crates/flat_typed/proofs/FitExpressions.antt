@@ -15,7 +15,8 @@ use Rattle.c_tree.specs.declared.TypedFunc.{TypedFunc}
 use Rattle.c_tree.specs.declared.TypedProgram.{TypedProgram}
 use Rattle.c_constant.specs.Need.{Needs, args_need, call_need, assign_need}
 use Rattle.c_type_laws.specs.Objects.{Signature, signature, signature_of}
-use Rattle.c_type_laws.specs.Expressions.{Node, node_of, Gives, Has, IsObject, Passes}
+use Rattle.c_tree.specs.TypedTrees.{Node, node_of}
+use Rattle.c_type_laws.specs.Expressions.{Gives, Has, IsObject, Passes}
 use Rattle.c_type_laws.specs.Expressions as rule
 use Rattle.c_type_laws.specs.Needs.{typed_needs}
 use Rattle.c_type_laws.proofs.Moves.{some_is}
@@ -33,7 +34,7 @@ use Rattle.flat_lower.proofs.Calls.{func_at}
 use Rattle.flat_typed.proofs.NodeNeeds.{need, level_needs, needs_is, binary_left, binary_right}
 use Rattle.flat_typed.proofs.NodeNeeds.{choice_test, choice_one, choice_other, comma_left}
 use Rattle.flat_typed.proofs.NodeNeeds.{comma_right, Room, assign_room, arg_room, args_room}
-use Rattle.flat_typed.proofs.Agrees.{word_is, unary_agrees, binary_agrees, compound_agrees}
+use Rattle.flat_typed.proofs.Agrees.{unary_agrees, binary_agrees, compound_agrees}
 use Rattle.flat_typed.proofs.Named.{scope, scalar_fits, array_fits, found_by}
 
 -- AN EXPRESSION BY ITS NODE
@@ -181,7 +182,7 @@ module _ (P : TypedProgram) (f : TypedFunc) where
     -- a node fits, where the temporaries from d on suffice
     fits : (k : Option Kind) (x : Node) (d : ℕ) → Gives P f k x → NodeHasWords k x
         → d + (level_needs x).need ≤ 16 → FitsExpr c d (plain_node x k)
-    fits _ _ d (rule.number {k = k} {w = w}) (word.number h) l = (omega (arith, l), word_is k w h)
+    fits _ _ d (rule.number {k = k} {w = w}) (word.number h) l = (omega (arith, l), h)
     fits _ _ d (rule.scalar {k = k} {p = p} s) w l = (omega (arith, l), scalar_fits P f k p s)
     fits _ _ d (rule.element {k = k} {j = j} {p = p} {i = i} s v) (word.element w) l =
         (array_fits P f k p s, (has j i d v w l).fits)

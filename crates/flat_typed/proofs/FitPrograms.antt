@@ -1,14 +1,12 @@
 -- Well formed programs are as the lowering takes them, and keep their meaning.
 use Rattle.std.proofs.Common.{◌≡◌, ℕ, zero, suc, ◌+◌, ◌*◌, ◌≤◌, false, List, [], ◌∷◌}
-use Rattle.std.proofs.Common.{length, All, Option, Some, None, refl, sym, ap₂, subst, arith}
+use Rattle.std.proofs.Common.{length, All, Option, Some, None, refl, sym, ap, subst, arith}
 use Rattle.std.specs.Prelude.{slice_get}
 use Rattle.c_tree.specs.declared.Kind.{Kind}
-use Rattle.c_tree.specs.declared.Kind.TheVariants.{Char, UChar, Int, UInt, Long, ULong}
 use Rattle.c_tree.specs.declared.TypedFunc.{TypedFunc}
 use Rattle.c_tree.specs.declared.TypedGlobal.{TypedGlobal}
 use Rattle.c_tree.specs.declared.TypedProgram.{TypedProgram}
-use Rattle.c_type.specs.Declarations.{bytes}
-use Rattle.c_meaning_spec.specs.Call.{size_of}
+use Rattle.c_constant.specs.Kinds.{bytes}
 use Rattle.c_meaning_spec.specs.Eval.{length_of, eval}
 use Rattle.c_type_laws.specs.WellFormed.{Each, count_of, all_bytes, GlobalFits, FunctionFits}
 use Rattle.c_type_laws.specs.WellFormed.{WellFormed}
@@ -22,7 +20,7 @@ use Rattle.ir_forms.specs.Frames.{rounded, frames_at, frame_limit}
 use Rattle.ir_forms.specs.FlatRuns.{checked, flat_run}
 use Rattle.flat_lower.specs.Tree.{Func, Source}
 use Rattle.flat_lower.specs.TreeViews.{func_of, source_of}
-use Rattle.flat_lower.specs.Kinds.{IsWord}
+use Rattle.c_constant.specs.Kinds.{IsWord}
 use Rattle.flat_lower.specs.Objects.{global_bytes}
 use Rattle.flat_lower.specs.Statements.{global_image, globals_image, lowered_program}
 use Rattle.flat_lower.specs.Fits.{FitsFunc, FitsGlobal, FitsMain, FitsSource}
@@ -34,27 +32,18 @@ use Rattle.flat_lower.proofs.Calls.{limit, typed_at, func_at}
 use Rattle.flat_lower.proofs.Whole.{keeps_meaning}
 use Rattle.flat_typed.specs.Limits.{HasFewGlobals}
 use Rattle.flat_typed.specs.Most.{largest, most_of}
-use Rattle.flat_typed.proofs.Agrees.{word_is}
 use Rattle.flat_typed.proofs.FitStatements.{stmt_fits}
 
 -- GLOBALS
 
 words_fit : (k : Kind) (ws : List ℕ) → AreWordsOf k ws → All (IsWord k) ws
 words_fit k [] h i d l = absurd (omega (arith, l))
-words_fit k (w ∷ ws) h zero d l = word_is k w h.0
+words_fit k (w ∷ ws) h zero d l = h.0
 words_fit k (w ∷ ws) h (suc i) d l = words_fit k ws h.1 i d (omega (arith, l))
 
 same_count : (l : Option ℕ) → length_of l ≡ count_of l
 same_count None = refl
 same_count (Some n) = refl
-
-same_size : (k : Kind) → size_of k ≡ bytes k
-same_size Char = refl
-same_size UChar = refl
-same_size Int = refl
-same_size UInt = refl
-same_size Long = refl
-same_size ULong = refl
 
 global_fits : (g : TypedGlobal) → GlobalFits g → AreWordsOf g.kind g.init → FitsGlobal g
 global_fits g h w =
@@ -71,8 +60,8 @@ globals_fit (g ∷ gs) h w (suc i) d l = globals_fit gs h.1 w.1 i d (omega (arit
 rounded_near : (n : ℕ) → rounded n ≤ n + 7
 rounded_near n = omega arith
 
-same_bytes : (g : TypedGlobal) → length_of g.length * size_of g.kind ≡ typed.global_bytes g
-same_bytes g = ap₂ (λ a b. a * b) (same_count g.length) (same_size g.kind)
+same_bytes : (g : TypedGlobal) → length_of g.length * bytes g.kind ≡ typed.global_bytes g
+same_bytes g = ap (λ n. n * bytes g.kind) (same_count g.length)
 
 bytes_near : (g : TypedGlobal) → global_bytes g ≤ typed.global_bytes g + 7
 bytes_near g =

@@ -10,7 +10,8 @@ use Rattle.c_tree.specs.declared.TypedFunc.{TypedFunc}
 use Rattle.c_tree.specs.declared.TypedProgram.{TypedProgram}
 use Rattle.c_tree.specs.declared.TypedStmt.{TypedStmt, out-TypedStmt}
 use Rattle.c_tree.specs.declared.TypedForInit.{TypedForInit, out-TypedForInit}
-use Rattle.c_type_laws.specs.Statements.{Level, Beginning, IsValue, IsTest, IsEffect, IsValueIf}
+use Rattle.c_tree.specs.TypedTrees.{Level, Beginning}
+use Rattle.c_type_laws.specs.Statements.{IsValue, IsTest, IsEffect, IsValueIf}
 use Rattle.c_type_laws.specs.Statements.{IsTestIf, IsEffectIf, IsReturn, Runs, RunsAll, Begins}
 use Rattle.c_type_laws.specs.Statements as rule
 use Rattle.c_words.specs.TypedTrees.{ExprHasWords, ExprIfHasWords, LevelHasWords, StmtsHaveWords}

@@ -14,15 +14,17 @@ use Rattle.c_tree.specs.declared.typed.TypedStmt.{out-roll-TypedStmt}
 use Rattle.c_tree.specs.declared.typed.TypedForInit.TheOpen as stmt
 use Rattle.c_constant.specs.Need.{Needs}
 use Rattle.c_constant.specs.Kinds.{converted}
-use Rattle.c_type_laws.specs.Expressions.{node_of, Gives, Has}
+use Rattle.c_tree.specs.TypedTrees.{node_of}
+use Rattle.c_type_laws.specs.Expressions.{Gives, Has}
 use Rattle.c_type_laws.specs.Expressions as rule
 use Rattle.c_type_laws.specs.Needs.{FitsNeed}
-use Rattle.c_type_laws.specs.Statements.{Level, Runs}
+use Rattle.c_tree.specs.TypedTrees.{Level}
+use Rattle.c_type_laws.specs.Statements.{Runs}
 use Rattle.c_type_laws.specs.Statements as run
 use Rattle.c_type_laws.specs.WellFormed.{WellFormed}
 use Rattle.c_words.specs.TypedTrees.{NodeHasWords, LevelHasWords, ProgramHasWords}
 use Rattle.c_words.specs.TypedTrees as word
-use Rattle.c_words.specs.Words.{IsWordOf}
+use Rattle.c_constant.specs.Kinds.{IsWord}
 use Rattle.flat_lower.specs.Tree as tree
 use Rattle.flat_lower.specs.Tree.{Source}
 use Rattle.flat_lower.specs.TreeViews.{source_of}
@@ -72,13 +74,11 @@ number_need =
     let one = ap level_needs (out-roll-TypedNode (node.Number 7)) in
     subst (λ (n : Needs). n.need ≤ 16) (sym (needs_is number ∙ one)) (omega arith)
 
-seven_of : IsWordOf Int 7
-unfolding converted
-seven_of = record { of = 7; below = omega arith; is = refl }
+seven_of : IsWord Int 7
+seven_of = record { below = omega arith; narrow = omega arith }
 
-one_of : IsWordOf Char 1
-unfolding converted
-one_of = record { of = 1; below = omega arith; is = refl }
+one_of : IsWord Char 1
+one_of = record { below = omega arith; narrow = omega arith }
 
 seven_is : WellFormed seven
 seven_is = record {
@@ -86,7 +86,7 @@ seven_is = record {
     record {
       some = omega arith;
       holds = omega arith;
-      words = (record { of = one_of.of; is = one_of.is }, tt);
+      words = (one_of, tt);
     },
     tt,
   );

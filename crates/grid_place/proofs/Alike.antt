@@ -18,7 +18,7 @@ use Rattle.trips_isa.specs.Stores.{listed, listed_below}
 use Rattle.trips_isa.specs.Blocks.{is_read, inst_at, at_place, store_of, Leaving, leaves_with}
 use Rattle.trips_isa.specs.Blocks.{leaves_if_read, leaving_of, answers_in, given, token_of, Solves}
 use Rattle.trips_isa.specs.Outcomes.{next_of, is_system, exit_of, next_by, or_null, writes_from}
-use Rattle.trips_isa.specs.Outcomes.{all_stores, Outcome, outcome_by, outcome}
+use Rattle.trips_isa.specs.Outcomes.{all_stores, Effects, plain_by, plain}
 use Rattle.block_cases.specs.Good.{GoodBlock}
 use Rattle.block_cases.proofs.Settled.{token_settled, token_solves, only_table}
 use Rattle.grid_place.specs.Moves.{Permutes, IsMoved, renamed_inst}
@@ -96,7 +96,7 @@ writes_same at at' w [] l h = refl
 writes_same at at' w (r ∷ rs) l h = ap₂ (λ t ts. or_null t ∷ ts) (h w (omega arith))
     (writes_same at at' (suc w) rs (omega arith) h)
 
-abbrev made : List Token → List Stored → ℕ → Bool → ℕ → Outcome
+abbrev made : List Token → List Stored → ℕ → Bool → ℕ → Effects
 made w s e y n = record { writes = w; stores = s; exit = e; system = y; successor = n }
 
 made_same : (w w' : List Token) (s s' : List Stored) (e e' : ℕ) (y y' : Bool) (n n' : ℕ) → w ≡ w'
@@ -121,10 +121,10 @@ module _ (p q : ℕ → ℕ) (b c : Block) (fits : FitsBlock b) (good : GoodBloc
     abbrev moved : ℕ → Answer
     moved y = tokens (node_goes q c y)
 
-    same : (x : ℕ) → moved (node_goes p b x) ≡ tokens x
+    pub same : (x : ℕ) → moved (node_goes p b x) ≡ tokens x
     same x = ap tokens (stand.returns x)
 
-    solves : Solves b (answers_in b regs mem tokens) tokens
+    pub solves : Solves b (answers_in b regs mem tokens) tokens
     solves = token_solves b regs mem good.ranked
 
     settled : (y : ℕ) → moved y ≡ given c regs mem moved y
@@ -134,7 +134,7 @@ module _ (p q : ℕ → ℕ) (b c : Block) (fits : FitsBlock b) (good : GoodBloc
         regs mem (node_goes q c y))
         ∙ ap (given c regs mem moved) (stand.returned y)
 
-    moved_tokens : moved ≡ token_of c regs mem deepest
+    pub moved_tokens : moved ≡ token_of c regs mem deepest
     moved_tokens = fun_ext (only_table c regs mem moved_ranked moved settled)
 
     abbrev leaves : Block → (ℕ → Answer) → ℕ → Leaving
@@ -172,9 +172,9 @@ module _ (p q : ℕ → ℕ) (b c : Block) (fits : FitsBlock b) (good : GoodBloc
         solves same (384 + j) (omega arith)
         ∙ ap (at_place c moved) (place_stays p (384 + j) (omega arith)))
 
-    moved_outcome : (blocks : List Block) (k : ℕ) → outcome_by blocks k c moved
-        ≡ outcome_by blocks k b tokens
-    moved_outcome blocks k = made_same _ _ _ _ _ _ _ _ _ _
+    moved_plain : (blocks : List Block) (k : ℕ) → plain_by blocks k c moved
+        ≡ plain_by blocks k b tokens
+    moved_plain blocks k = made_same _ _ _ _ _ _ _ _ _ _
         (ap (writes_from (at_place c moved) 0) w.writes
         ∙ writes_same (at_place c moved) (at_place b tokens) 0 b.writes.items
         (let few : length b.writes.items ≤ 32 = fits.writes in omega arith) written)
@@ -185,6 +185,6 @@ module _ (p q : ℕ → ℕ) (b c : Block) (fits : FitsBlock b) (good : GoodBloc
         (ap is_system leaving_alike ∙ system_same p (leaving_of b tokens))
         (ap (next_of blocks k) leaving_alike ∙ next_same p blocks k (leaving_of b tokens))
 
-    pub same_outcome : (blocks : List Block) (k : ℕ) → outcome blocks k c regs mem
-        ≡ outcome blocks k b regs mem
-    same_outcome blocks k = sym (ap (outcome_by blocks k c) moved_tokens) ∙ moved_outcome blocks k
+    pub same_plain : (blocks : List Block) (k : ℕ) → plain blocks k c regs mem
+        ≡ plain blocks k b regs mem
+    same_plain blocks k = sym (ap (plain_by blocks k c) moved_tokens) ∙ moved_plain blocks k

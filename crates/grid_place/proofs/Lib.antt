@@ -4,6 +4,7 @@ pub mod Standing
 pub mod Outcome
 pub mod Edges
 pub mod Alike
+pub mod StillClean
 pub mod Totals
 pub mod ListFacts
 pub mod Choosing

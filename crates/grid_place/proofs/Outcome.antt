@@ -1,6 +1,6 @@
 -- A moved block comes to what the block comes to.
 use Rattle.std.proofs.Common.{◌≡◌, ◌≢◌, ℕ, ◌+◌, ◌<◌, ◌≤◌, Bool, true, false, List}
-use Rattle.std.proofs.Common.{Option, Some, None, slice_get, length, refl, sym, ap, ap₂, subst}
+use Rattle.std.proofs.Common.{Option, Some, None, slice_get, slice_index, length, refl, sym, ap, ap₂, subst}
 use Rattle.std.proofs.Common.{◌∙◌, arith, nat_lt, ltb-true, ltb-false}
 use Rattle.std.specs.Prelude.{option_map}
 use Rattle.std.proofs.Math.Path.{fun_ext}
@@ -227,8 +227,8 @@ module _ (p q : ℕ → ℕ) (b c : Block) (fits : FitsBlock b) (good : GoodBloc
   -- what each node gives
   module _ (regs mem : List ℕ) where
     loaded : (i : Inst) (l r : ℕ) (t : Form) → FitsForm t i
-        → form_computes t i (λ a. bytes_seen (store_of c g) mem i.number a (size_of i.op)) l r
-        ≡ form_computes t i (λ a. bytes_seen (store_of b f) mem i.number a (size_of i.op)) l r
+        → form_computes t i (λ a. bytes_seen (store_of c g) (slice_index mem) i.number a (size_of i.op)) l r
+        ≡ form_computes t i (λ a. bytes_seen (store_of b f) (slice_index mem) i.number a (size_of i.op)) l r
     loaded i l r General h = refl
     loaded i l r Immediate h = refl
     loaded i l r Constant h = refl
@@ -236,7 +236,7 @@ module _ (p q : ℕ → ℕ) (b c : Block) (fits : FitsBlock b) (good : GoodBloc
     loaded i l r Branch h = refl
     loaded i l r Load h =
         let few : i.number < 32 = h.2 in
-        load_same i _ _ l (λ a. bytes_seen_same (store_of c g) (store_of b f) mem i.number a
+        load_same i _ _ l (λ a. bytes_seen_same (store_of c g) (store_of b f) (slice_index mem) i.number a
         (size_of i.op) (λ k lt. sym (store_alike k (omega arith))))
 
     slot_alike : (o : Option Inst) → FitsSlot o → (l r : ℕ)

@@ -6,8 +6,9 @@ mod placed;
 mod rename;
 mod shuffle;
 mod slots;
-#[cfg(test)]
-mod tests;
 
-pub use law::{moved_blocks_mean_the_same, moved_blocks_stay_good, seeds_give_permutations};
+pub use law::{
+    moved_blocks_mean_the_same, moved_blocks_stay_clean, moved_blocks_stay_good,
+    seeds_give_permutations,
+};
 pub use placed::{Placing, place};

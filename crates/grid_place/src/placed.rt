@@ -2,7 +2,10 @@
 ghost use Rattle.std.specs.Prelude.{◌≡◌, List, ℕ, IfOk};
 ghost use Rattle.trips_isa.specs.declared.block.Block.{Block};
 ghost use Rattle.trips_isa.specs.Fits.{FitsBlock};
-ghost use Rattle.trips_isa.specs.Outcomes.{outcome};
+ghost use Rattle.trips_isa.specs.Tables.{deepest};
+ghost use Rattle.trips_isa.specs.Blocks.{token_of};
+ghost use Rattle.trips_isa.specs.Acts.{IsClean};
+ghost use Rattle.trips_isa.specs.Outcomes.{plain};
 ghost use Rattle.block_cases.specs.Good.{GoodBlock};
 ghost use Rattle.grid_place.specs.Moves.{IsPermutation, IsMoved, goes};
 ghost use Rattle.grid_place.specs.Seeded.{list_of};
@@ -48,7 +51,10 @@ pub fn place(_alloc: Global, block: &Block, placing: Placing) -> Result<Block, M
     ensures moved { IfOk result (λ c. IsMoved (goes (list_of placing)) block.now c) }
     ensures permutes { IsPermutation (list_of placing) }
     ensures meaning { IfOk result (λ c. GoodBlock block.now → (blocks : List Block) (k : ℕ)
-        (regs mem : List ℕ) → outcome blocks k c regs mem ≡ outcome blocks k block.now regs mem) }
+        (regs mem : List ℕ) → plain blocks k c regs mem ≡ plain blocks k block.now regs mem) }
+    ensures clean { IfOk result (λ c. GoodBlock block.now → (regs mem : List ℕ)
+        → IsClean block.now (token_of block.now regs mem deepest)
+        → IsClean c (token_of c regs mem deepest)) }
     ensures fits { IfOk result FitsBlock }
     ensures good { IfOk result (λ c. GoodBlock block.now → GoodBlock c) }
 {

@@ -8,7 +8,7 @@ use Rattle.trips_isa.specs.Forms.{size_of}
 use Rattle.trips_isa.specs.Stores.{is_good_address}
 use Rattle.ir_forms.specs.declared.flat.Arg.{Arg}
 use Rattle.ir_forms.specs.declared.flat.Arg.TheVariants.{Const, Var}
-use Rattle.ir_forms.specs.Faults.{is_bad_divisor}
+use Rattle.trips_isa.specs.Faults.{is_bad_divisor}
 use Rattle.ir_forms.specs.FlatCode.{Step, Let, Frame, Load, Save, Call, Put, Get, If, Loop, Break}
 use Rattle.ir_forms.specs.FlatCode.{Continue, Return, Code, Nop, ◌▹◌, Function}
 use Rattle.ir_forms.specs.Frames.{frames_at, frame_limit, frame_of, arrays_at}

@@ -2,7 +2,7 @@
 use Rattle.std.proofs.Common.{ℕ, zero, suc, ◌%◌, Bool, true, false, cond, List, [], ◌∷◌, ◌++◌, refl}
 use Rattle.std.specs.Prelude.{not, nat_eq}
 use Rattle.ir_forms.specs.declared.hyper.Exit.{Exit}
-use Rattle.ir_forms.specs.Faults.{is_clean}
+use Rattle.trips_isa.specs.Acts.{is_clean}
 use Rattle.ir_forms.specs.HyperCode.{Block}
 use Rattle.ir_forms.specs.HyperRuns.{Machine, Layout, Standing, Running, Ended, Full, Unclean}
 use Rattle.ir_forms.specs.HyperRuns.{after_items, acts, exit_of, leaving, next_label, is_system}

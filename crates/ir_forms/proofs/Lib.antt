@@ -3,6 +3,5 @@ pub mod Steps
 pub mod Views
 pub mod Checked
 pub mod Cleanness
-pub mod AluWords
 pub mod WordsKept
 pub mod StandardFacts

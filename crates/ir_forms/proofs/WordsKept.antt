@@ -5,10 +5,9 @@ use Rattle.std.specs.Prelude.{nat_eq, slice_index, slice_set}
 use Rattle.std.proofs.Math.Nat.{mod-lt}
 use Rattle.std.proofs.lemmas.List.Elements.{All-cons}
 use Rattle.trips_isa.specs.declared.op.Op.{Op}
-use Rattle.trips_isa.specs.declared.op.Op.TheVariants.{Lb, Lbs, Lh, Lhs, Lw, Lws, Ld, Sb, Sh, Sw, Sd}
 use Rattle.trips_isa.specs.Alu.{loaded_as}
 use Rattle.trips_isa.specs.Forms.{size_of}
-use Rattle.trips_isa.specs.Stores.{is_good_address, bytes_seen, put_bytes, data_size}
+use Rattle.trips_isa.specs.Stores.{is_good_address, put_bytes, data_size}
 use Rattle.ir_forms.specs.declared.hyper.Source.{Source}
 use Rattle.ir_forms.specs.declared.hyper.Source.TheVariants.{Const, Reg}
 use Rattle.ir_forms.specs.declared.hyper.Exit.{Exit}
@@ -19,7 +18,7 @@ use Rattle.ir_forms.specs.HyperRuns.{Machine, Layout, with_register, with_memory
 use Rattle.ir_forms.specs.HyperRuns.{loaded, saved, pick, after_items, exit_of, leaving}
 use Rattle.ir_forms.specs.HyperWords.{AreBytes, HasWords, HasAddresses}
 use Rattle.ir_forms.specs.Laws.{KeepsWords}
-use Rattle.ir_forms.proofs.AluWords.{alu_low, extended_low}
+use Rattle.trips_isa.proofs.WordLemmas.{alu_fits, loaded_fits, seen_is_word}
 
 -- BYTES
 
@@ -28,34 +27,11 @@ index_low [] i a = omega arith
 index_low (b ∷ mem) zero a = a 0 0 (omega arith)
 index_low (b ∷ mem) (suc i) a = index_low mem i (λ j d l. a (suc j) d (omega arith))
 
--- numbers of k bytes are below this
-top : ℕ → ℕ
-top zero = 1
-top (suc k) = top k * 256
-
-seen_low : (mem : List ℕ) (a k : ℕ) → AreBytes mem → bytes_seen (λ n. None) mem 0 a k < top k
-unfolding top
-seen_low mem a zero bytes = omega arith
-seen_low mem a (suc k) bytes =
-    let h = seen_low mem a k bytes in
-    let b = index_low mem (a + k) bytes in
-    omega (arith, h, b)
-
 loaded_low : (op : Op) (mem : List ℕ) (a : ℕ) → AreBytes mem
     → loaded_as op (number_in mem a (size_of op)) < 2 ^ 64
-unfolding top
-loaded_low Lbs mem a bytes = extended_low 8 256 128 (number_in mem a 1) (omega arith) (omega arith)
-loaded_low Lhs mem a bytes = extended_low 16 65536 32768 (number_in mem a 2) (omega arith) (omega arith)
-loaded_low Lws mem a bytes = extended_low 32 4294967296 2147483648 (number_in mem a 4) (omega arith) (omega arith)
-loaded_low Lb mem a bytes = let s : number_in mem a 1 < 256 = seen_low mem a 1 bytes in omega (arith, s)
-loaded_low Lh mem a bytes = let s : number_in mem a 2 < 65536 = seen_low mem a 2 bytes in omega (arith, s)
-loaded_low Lw mem a bytes = let s : number_in mem a 4 < 4294967296 = seen_low mem a 4 bytes in omega (arith, s)
-loaded_low Ld mem a bytes = seen_low mem a 8 bytes
-loaded_low Sb mem a bytes = let s : number_in mem a 1 < 256 = seen_low mem a 1 bytes in omega (arith, s)
-loaded_low Sh mem a bytes = let s : number_in mem a 2 < 65536 = seen_low mem a 2 bytes in omega (arith, s)
-loaded_low Sw mem a bytes = let s : number_in mem a 4 < 4294967296 = seen_low mem a 4 bytes in omega (arith, s)
-loaded_low Sd mem a bytes = seen_low mem a 8 bytes
-loaded_low _ mem a bytes = omega arith
+loaded_low op mem a bytes =
+    loaded_fits op (number_in mem a (size_of op))
+    (seen_is_word (λ n. None) (slice_index mem) 0 a op (λ i. index_low mem i bytes))
 
 set_bytes : (mem : List ℕ) (i v : ℕ) → AreBytes mem → v < 256 → AreBytes (slice_set mem i v)
 set_bytes [] i v a l = a
@@ -122,7 +98,7 @@ items_words : (is : Items) (m : Machine) → FitsItems is → HasWords m → Has
 items_words Done m c words = words
 items_words (Set to op a b rest) m c words =
     items_words rest _ c.4 (words_put m to _ words
-    (alu_low op _ _ (value_low m.registers a words.registers c.2)
+    (alu_fits op _ _ (value_low m.registers a words.registers c.2)
     (value_low m.registers b words.registers c.3)))
 items_words (Load to op a rest) m c words =
     items_words rest _ c.3 (words_put m to _ words (load_low op m.memory _ words.memory))

@@ -5,7 +5,7 @@ use Rattle.trips_isa.specs.declared.op.Op.{Op}
 use Rattle.trips_isa.specs.Alu.{alu_of, loaded_as}
 use Rattle.trips_isa.specs.Forms.{size_of}
 use Rattle.trips_isa.specs.Stores.{is_good_address}
-use Rattle.ir_forms.specs.Faults.{is_bad_divisor}
+use Rattle.trips_isa.specs.Faults.{is_bad_divisor}
 
 -- closed: in the part that frames may take, and in no array of an active call; open: in such an
 -- array, and not saved since its call began; held: it may be loaded

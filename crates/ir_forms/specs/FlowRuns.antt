@@ -1,7 +1,7 @@
 -- What flow blocks do: each node pulls from the sources that it names, by the rule of a block's
 -- instructions.
 use Rattle.std.specs.Prelude.{◌≡◌, ℕ, suc, ◌+◌, Bool, cond, nat_eq, List, [], ◌∷◌, ◌++◌, Option}
-use Rattle.std.specs.Prelude.{Some, None}
+use Rattle.std.specs.Prelude.{Some, None, slice_index}
 use Rattle.trips_isa.specs.declared.form.Form.{Form}
 use Rattle.trips_isa.specs.declared.form.Form.TheVariants.{Load, Store, Branch}
 use Rattle.trips_isa.specs.declared.block.Token.{Token}
@@ -21,7 +21,8 @@ use Rattle.ir_forms.specs.declared.flow.Guard.{Guard}
 use Rattle.ir_forms.specs.declared.flow.FlowNode.{FlowNode}
 use Rattle.ir_forms.specs.declared.flow.FlowWrite.{FlowWrite}
 use Rattle.ir_forms.specs.declared.flow.FlowBlock.{FlowBlock}
-use Rattle.ir_forms.specs.Faults.{Act, Divided, Accessed, divides}
+use Rattle.trips_isa.specs.Faults.{divides}
+use Rattle.trips_isa.specs.Acts.{Act, Divided, Accessed}
 
 -- TOKENS
 
@@ -94,7 +95,7 @@ stores regs h (n ∷ rest) k = or_else (stored_in (form_of n.op) regs h n k) (st
 -- from memory
 abbrev pub meant : (ℕ → Option Stored) → List ℕ → Computes
 meant st mem j n =
-    form_computes (form_of n.op) (inst_of n) (λ a. bytes_seen st mem n.number a (size_of n.op))
+    form_computes (form_of n.op) (inst_of n) (λ a. bytes_seen st (slice_index mem) n.number a (size_of n.op))
 
 -- PATHS AND STARTS
 

@@ -1,6 +1,6 @@
 -- What hyper programs do: one block at a time, each whole.
 use Rattle.std.specs.Prelude.{ℕ, zero, suc, ◌-◌, ◌%◌, ◌^◌, Bool, true, false, cond, not, ◌&&◌}
-use Rattle.std.specs.Prelude.{nat_eq, List, [], ◌∷◌, ◌++◌, Option, Some, None, slice_get}
+use Rattle.std.specs.Prelude.{nat_eq, List, [], ◌∷◌, ◌++◌, Option, Some, None, slice_get, slice_index}
 use Rattle.trips_isa.specs.declared.op.Op.{Op}
 use Rattle.trips_isa.specs.Alu.{alu_of, loaded_as}
 use Rattle.trips_isa.specs.Forms.{size_of}
@@ -10,7 +10,7 @@ use Rattle.ir_forms.specs.declared.hyper.Source.{Source}
 use Rattle.ir_forms.specs.declared.hyper.Source.TheVariants.{Const, Reg}
 use Rattle.ir_forms.specs.declared.hyper.Exit.{Exit}
 use Rattle.ir_forms.specs.declared.hyper.Exit.TheVariants as exit
-use Rattle.ir_forms.specs.Faults.{Act, Accessed, divisions, is_clean}
+use Rattle.trips_isa.specs.Acts.{Act, Accessed, divisions, is_clean}
 use Rattle.ir_forms.specs.HyperCode.{Items, Done, Set, Load, Save, If, Tail, Leave, Test, Block}
 
 pub record Machine : Type 0 where
@@ -38,7 +38,7 @@ value_of regs (Reg r) = regs r
 
 -- the number of the first k bytes from an address on, the most significant first
 abbrev pub number_in : List ℕ → ℕ → ℕ → ℕ
-number_in mem a k = bytes_seen (λ n. None) mem 0 a k
+number_in mem a k = bytes_seen (λ n. None) (slice_index mem) 0 a k
 
 -- what a load gives; at a bad address 0
 abbrev pub loaded : Op → List ℕ → ℕ → ℕ

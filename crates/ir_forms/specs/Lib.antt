@@ -1,4 +1,3 @@
-pub mod Faults
 pub mod FlatCode
 pub mod FlatViews
 pub mod Frames

@@ -8,8 +8,6 @@ mod assigning;
 mod grouping;
 mod reading;
 mod sets;
-#[cfg(test)]
-mod tests;
 mod walking;
 
 pub use assigning::{Assigned, assign};

@@ -1,2 +1,9 @@
 pub mod Numbered
 pub mod Blocks
+pub mod Turns
+pub mod Filling
+pub mod Several
+pub mod Beginnings
+pub mod Steps
+pub mod Data
+pub mod Ends

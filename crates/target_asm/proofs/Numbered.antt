@@ -2,7 +2,7 @@
 use Rattle.std.proofs.Common.{◌≡◌, ℕ, suc, ◌+◌, ◌<◌, List, [], ◌∷◌, ◌++◌, length, take, get_or}
 use Rattle.std.proofs.Common.{refl, sym, ap, ◌∙◌, arith, append_assoc}
 use Rattle.std.proofs.lemmas.List.{append-nil, take_more, length-take-le}
-use Rattle.target_text.specs.Numbers.{numbered}
+use Rattle.target_asm_spec.specs.Numbers.{numbered}
 
 -- one item more, at the end
 pub numbered_end : {A : Type 0} (f : ℕ → A → List ℕ) (j : ℕ) (xs : List A) (y : A)

@@ -1,13 +1,13 @@
 //! The fields of a line, written.
 ghost use Rattle.std.specs.Prelude.{◌≡◌, ◌<◌, ◌++◌, ◌∷◌, [], OnOk};
 ghost use Rattle.std.specs.Fmt.{decimal, signed_decimal};
-ghost use Rattle.target_text.specs.Numbers.{hex_digit, hex_byte, hex_word};
-ghost use Rattle.text_pieces.specs.Spots.{spot_text};
-ghost use Rattle.target_text.specs.Fields.{target_text, sense_text};
-ghost use Rattle.target_text.specs.Fields.{goal_text, branch_text, numbers_text};
+ghost use Rattle.target_asm_spec.specs.Numbers.{hex_digit, hex_byte, hex_word};
+ghost use Rattle.isa_table.specs.Spots.{spot_text};
+ghost use Rattle.target_asm_spec.specs.Fields.{target_text, sense_text};
+ghost use Rattle.target_asm_spec.specs.Fields.{goal_text, branch_text, numbers_text};
 
 use std::alloc::AllocError;
-use text_pieces::{put_number, put_signed, put_spot};
+use isa_table::{put_number, put_signed, put_spot};
 use trips_isa::{Form, Inst, Op, Sense, Spot};
 
 fn digit(d: u8) -> u8
@@ -26,7 +26,7 @@ pub fn put_byte(out: &mut Vec<u8>, byte: u8) -> Result<(), AllocError>
 }
 
 /// Writes a word as eight hexadecimal digits.
-#[tactic(auto, unfolding(target_text::specs::Numbers::hex_word))]
+#[tactic(auto, unfolding(target_asm_spec::specs::Numbers::hex_word))]
 pub fn put_word(out: &mut Vec<u8>, word: u32) -> Result<(), AllocError>
     ensures ok { OnOk result (out.new.items ≡ out.old.items ++ hex_word word) }
 {
@@ -51,7 +51,7 @@ pub fn put_target(out: &mut Vec<u8>, target: Option<Spot>) -> Result<(), AllocEr
 }
 
 /// Writes how a mnemonic ends under a predicate.
-#[tactic(auto, unfolding(target_text::specs::Fields::sense_text))]
+#[tactic(auto, unfolding(target_asm_spec::specs::Fields::sense_text))]
 pub fn put_sense(out: &mut Vec<u8>, sense: Sense) -> Result<(), AllocError>
     ensures ok { OnOk result (out.new.items ≡ out.old.items ++ sense_text sense) }
 {

@@ -3,13 +3,16 @@
 #![tactic(auto)]
 
 mod assembling;
-mod chunks;
+mod block;
+mod body;
+mod branches;
 mod fields;
 mod printing;
+mod rows;
+mod slots;
+mod tables;
+mod whole;
 
 pub use assembling::assemble;
 pub use printing::print;
-pub use target_read::AsmFault;
-
-#[cfg(test)]
-mod tests;
+pub use target_asm_spec::AsmFault;

@@ -5,21 +5,20 @@ ghost use Rattle.std.specs.List.{sum_by};
 ghost use Rattle.isa_table.specs.Mnemonics.{mnemonic_of};
 ghost use Rattle.trips_isa.specs.Fits.{FitsBlock};
 ghost use Rattle.trips_isa.specs.Images.{FitsImage, chunks, chunk_of};
-ghost use Rattle.target_text.specs.Numbers.{numbered};
-ghost use Rattle.target_text.specs.Chunks.{goal_of, goal_in, starts_from};
-ghost use Rattle.target_text.specs.Text.{TargetText, image_text, head_lines, byte_text, block_text};
-ghost use Rattle.target_text.specs.Text.{block_line, read_line, write_line, inst_line, op_text};
-ghost use Rattle.target_text.specs.Text.{targets_text, slot_text, block_in};
+ghost use Rattle.target_asm_spec.specs.Numbers.{numbered};
+ghost use Rattle.target_asm_spec.specs.Chunks.{goal_of, goal_in, start_rows};
+ghost use Rattle.target_asm_spec.specs.Text.{TargetText, image_text, head_lines, byte_text, block_text};
+ghost use Rattle.target_asm_spec.specs.Text.{block_line, read_line, write_line, inst_line, op_text};
+ghost use Rattle.target_asm_spec.specs.Text.{targets_text, slot_text, block_in};
 
-use crate::chunks::{goal, starts};
 use crate::fields::{put_byte, put_numbers, put_sense, put_target, put_word};
+use crate::tables::{goal, starts};
 use base::Memory;
-use isa_table::mnemonic_of;
+use isa_table::{mnemonic_of, put_indexed, put_number};
 use std::alloc::{AllocError, Global};
-use text_pieces::{put_indexed, put_number};
 use trips_isa::{Block, Image, Inst, ReadSlot, chunks, form_of};
 
-#[tactic(auto, unfolding(target_text::specs::Text::read_line))]
+#[tactic(auto, unfolding(target_asm_spec::specs::Text::read_line))]
 fn put_read(out: &mut Vec<u8>, i: u64, read: ReadSlot) -> Result<(), AllocError>
     ensures ok { OnOk result (out.new.items ≡ out.old.items ++ read_line i read) }
 {
@@ -32,7 +31,7 @@ fn put_read(out: &mut Vec<u8>, i: u64, read: ReadSlot) -> Result<(), AllocError>
     Ok(())
 }
 
-#[tactic(auto, unfolding(target_text::specs::Text::write_line))]
+#[tactic(auto, unfolding(target_asm_spec::specs::Text::write_line))]
 fn put_write(out: &mut Vec<u8>, i: u64, register: u8) -> Result<(), AllocError>
     ensures ok { OnOk result (out.new.items ≡ out.old.items ++ write_line i register) }
 {
@@ -43,7 +42,7 @@ fn put_write(out: &mut Vec<u8>, i: u64, register: u8) -> Result<(), AllocError>
     Ok(())
 }
 
-#[tactic(auto, unfolding(target_text::specs::Text::op_text))]
+#[tactic(auto, unfolding(target_asm_spec::specs::Text::op_text))]
 fn put_op(out: &mut Vec<u8>, inst: Inst, goal: Option<u32>) -> Result<(), AllocError>
     ensures ok { OnOk result (out.new.items ≡ out.old.items ++ op_text inst goal) }
 {
@@ -53,7 +52,7 @@ fn put_op(out: &mut Vec<u8>, inst: Inst, goal: Option<u32>) -> Result<(), AllocE
     Ok(())
 }
 
-#[tactic(auto, unfolding(target_text::specs::Text::targets_text))]
+#[tactic(auto, unfolding(target_asm_spec::specs::Text::targets_text))]
 fn put_targets(out: &mut Vec<u8>, inst: Inst) -> Result<(), AllocError>
     ensures ok { OnOk result (out.new.items ≡ out.old.items ++ targets_text inst) }
 {
@@ -63,7 +62,7 @@ fn put_targets(out: &mut Vec<u8>, inst: Inst) -> Result<(), AllocError>
     Ok(())
 }
 
-#[tactic(auto, unfolding(target_text::specs::Text::inst_line))]
+#[tactic(auto, unfolding(target_asm_spec::specs::Text::inst_line))]
 fn put_inst(out: &mut Vec<u8>, slot: u64, inst: Inst, goal: Option<u32>) -> Result<(), AllocError>
     ensures ok { OnOk result (out.new.items ≡ out.old.items ++ inst_line slot inst goal) }
 {
@@ -92,7 +91,7 @@ fn put_writes(out: &mut Vec<u8>, writes: &[u8]) -> Result<(), AllocError>
     Ok(())
 }
 
-#[tactic(auto, unfolding(target_text::specs::Text::block_line))]
+#[tactic(auto, unfolding(target_asm_spec::specs::Text::block_line))]
 fn put_block_line(out: &mut Vec<u8>, k: u64, mask: u32) -> Result<(), AllocError>
     ensures ok { OnOk result (out.new.items ≡ out.old.items ++ block_line k mask) }
 {
@@ -104,7 +103,7 @@ fn put_block_line(out: &mut Vec<u8>, k: u64, mask: u32) -> Result<(), AllocError
     Ok(())
 }
 
-#[tactic(auto, unfolding(target_text::specs::Text::head_lines))]
+#[tactic(auto, unfolding(target_asm_spec::specs::Text::head_lines))]
 fn put_head(out: &mut Vec<u8>, count: u64) -> Result<(), AllocError>
     ensures ok { OnOk result (out.new.items ≡ out.old.items ++ head_lines count) }
 {
@@ -114,7 +113,7 @@ fn put_head(out: &mut Vec<u8>, count: u64) -> Result<(), AllocError>
     Ok(())
 }
 
-#[tactic(auto, unfolding(target_text::specs::Text::byte_text))]
+#[tactic(auto, unfolding(target_asm_spec::specs::Text::byte_text))]
 fn put_data_byte(out: &mut Vec<u8>, count: usize, at: usize, byte: u8) -> Result<(), AllocError>
     requires { at < count }
     ensures ok { OnOk result (out.new.items ≡ out.old.items ++ byte_text count at byte) }
@@ -169,7 +168,7 @@ fn put_slots(
 }
 
 /// Writes a block that begins at the chunk `here`.
-#[tactic(auto, unfolding(target_text::specs::Text::block_text))]
+#[tactic(auto, unfolding(target_asm_spec::specs::Text::block_text))]
 fn put_block(
     out: &mut Vec<u8>,
     starts: &[u32],

@@ -1,2 +1,6 @@
 pub mod StandardFacts
+pub mod MarkFacts
 pub mod Sizes
+pub mod WordLemmas
+pub mod OperandFacts
+pub mod ProducerLemmas

@@ -19,6 +19,7 @@ use Rattle.trips_isa.specs.Tables.{deepest}
 use Rattle.trips_isa.specs.Places.{producers}
 use Rattle.trips_isa.specs.Stores.{byte_seen}
 use Rattle.trips_isa.specs.Blocks.{given}
+use Rattle.trips_isa.specs.Marks.{mask_places, mark_given}
 use Rattle.trips_isa.specs.Outcomes.{all_stores}
 use Rattle.trips_isa.specs.Machine.{State, runs, step_of}
 
@@ -113,19 +114,19 @@ small = record {
 }
 
 pub went : (step_of image small).1 ≡ Went
-unfolding deepest given all_stores
+unfolding deepest given all_stores mask_places mark_given
 went = refl
 
 pub stored : (step_of image small).0.memory ≡ 0 ∷ 0 ∷ 0 ∷ 0 ∷ 0 ∷ 0 ∷ 0 ∷ 171 ∷ replicate 8 0
-unfolding deepest given all_stores
+unfolding deepest given all_stores mask_places mark_given
 stored = refl
 
 pub ended : (runs image small 2).1 ≡ Ended
-unfolding deepest given all_stores runs
+unfolding deepest given all_stores mask_places mark_given runs
 ended = refl
 
 pub loaded : slice_index (runs image small 2).0.registers 3 ≡ 171
-unfolding deepest given all_stores runs
+unfolding deepest given all_stores mask_places mark_given runs
 loaded = refl
 
 pub divide_is_asked : producers storing (Left 4) ≡ InstSpot 2 ∷ []
@@ -146,8 +147,8 @@ abbrev three_stores : ℕ → Option Stored
 three_stores n = get_or (Some (put 0 0 4 (Some 16909060)) ∷ Some (put 1 2 1 (Some 170)) ∷ Some
     (put 2 0 1 None) ∷ []) n None
 
-abbrev nines : List ℕ
-nines = replicate 8 9
+abbrev nines : ℕ → ℕ
+nines a = 9
 
 pub from_the_lower_store : byte_seen three_stores nines 3 1 ≡ 2
 from_the_lower_store = refl

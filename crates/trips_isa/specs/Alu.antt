@@ -1,5 +1,6 @@
 -- What an operation gives on words, over whole numbers modulo 2^64; docs/MACHINE.md, "Operations",
--- is its table.
+-- is its table. Source: TRIPS Processor Reference Manual, UT Austin TR-05-19. Own: which of its
+-- operations there are, and that a division by zero gives 0.
 use Rattle.std.specs.Prelude.{ℕ, ℤ, ◌+◌, ◌-◌, ◌*◌, ◌/◌, ◌%◌, ◌^◌, Bool, true, false, nat_lt, nat_le}
 use Rattle.std.specs.Prelude.{nat_eq, cond, bit_and, bit_or, bit_xor, int_lt, int_le, int_div}
 use Rattle.std.specs.Int.{w64, cast_signed, cast_unsigned, int_shr}

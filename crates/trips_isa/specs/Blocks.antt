@@ -1,19 +1,23 @@
--- The tables of a block: whatever its reads and loads are answered, and in an entry state.
+-- The tables of a block: whatever its reads and loads are answered, and in an entry state. Own: the
+-- definition by pulling, over the rule of firing (specs/Rule).
 use Rattle.std.specs.Prelude.{ℕ, zero, suc, ◌+◌, ◌-◌, Bool, true, false, nat_lt, List, length}
-use Rattle.std.specs.Prelude.{Option, Some, None, slice_get, slice_index, slice_index_or}
+use Rattle.std.specs.Prelude.{[], ◌∷◌, Option, Some, None, slice_get, slice_index, slice_index_or}
 use Rattle.trips_isa.specs.declared.form.Form.{Form}
 use Rattle.trips_isa.specs.declared.form.Form.TheVariants.{General, Immediate, Load, Store, Branch}
 use Rattle.trips_isa.specs.declared.form.Form.TheVariants.{Constant}
 use Rattle.trips_isa.specs.declared.block.Token.{Token}
+use Rattle.trips_isa.specs.declared.block.Spot.{Spot}
+use Rattle.trips_isa.specs.declared.block.Spot.TheVariants as spot
 use Rattle.trips_isa.specs.declared.block.Inst.{Inst}
 use Rattle.trips_isa.specs.declared.block.ReadSlot.{ReadSlot}
 use Rattle.trips_isa.specs.declared.block.Stored.{Stored}
 use Rattle.trips_isa.specs.declared.block.Block.{Block}
+use Rattle.trips_isa.specs.declared.places.TheConstants.{FIRST_STORE, EXIT}
 use Rattle.trips_isa.specs.Alu.{alu_of, word}
 use Rattle.trips_isa.specs.Forms.{form_of, size_of}
 use Rattle.trips_isa.specs.Rule.{Answer}
 use Rattle.trips_isa.specs.Places.{nodes_of}
-use Rattle.trips_isa.specs.Tables.{Computes, IsTable, first, node_gives}
+use Rattle.trips_isa.specs.Tables.{Computes, IsTable, or_else, first, node_gives}
 use Rattle.trips_isa.specs.Stores.{stored_of, load_of, bytes_seen}
 
 -- what each node is answered at each address: a read its register's word at address 0, a load the
@@ -59,6 +63,17 @@ Solves b answers g = IsTable (nodes_of b) (computes b answers) g
 abbrev pub at_place : Block → (ℕ → Answer) → ℕ → Answer
 at_place b g q = first (nodes_of b) q g
 
+-- what a read or a slot gives, of a spot that names it, where f says what each node gives
+abbrev pub given_by : {A : Type 0} → Block → (ℕ → Option A) → Spot → Option A
+given_by b f (spot.Read r) = f r
+given_by b f (spot.Inst s) = f (length b.reads.items + s)
+given_by b f _ = None
+
+-- the first thing that some spots give
+abbrev pub first_given : {A : Type 0} → (Spot → Option A) → List Spot → Option A
+first_given h [] = None
+first_given h (s ∷ ss) = or_else (h s) (first_given h ss)
+
 -- stores and exits, taken at their places like tokens ----------------------------------------
 
 abbrev pub stored_in : Block → (ℕ → Answer) → ℕ → Option Inst → Answer → Option Stored
@@ -76,7 +91,7 @@ stored_by b g x = stored_if_read (is_read b x) b g x
 
 -- the store of number n
 abbrev pub store_of : Block → (ℕ → Answer) → ℕ → Option Stored
-store_of b g n = first (nodes_of b) (416 + n) (stored_by b g)
+store_of b g n = first (nodes_of b) (FIRST_STORE + n) (stored_by b g)
 
 abbrev pub Leaving : Type 0
 Leaving = Option (Inst × Token)
@@ -92,7 +107,7 @@ leaves_if_read false b g x = leaves_with (inst_at b x) (g x)
 
 -- the branch that fires, with its token
 abbrev pub leaving_of : Block → (ℕ → Answer) → Leaving
-leaving_of b g = first (nodes_of b) 448 (λ x. leaves_if_read (is_read b x) b g x)
+leaving_of b g = first (nodes_of b) EXIT (λ x. leaves_if_read (is_read b x) b g x)
 
 -- an entry state -------------------------------------------------------------------------------
 
@@ -102,7 +117,8 @@ read_word regs (Some r) = slice_index regs r.register
 
 abbrev pub slot_answered : (ℕ → Option Stored) → List ℕ → Option Inst → ℕ → ℕ
 slot_answered stores mem None address = 0
-slot_answered stores mem (Some i) address = bytes_seen stores mem i.number address (size_of i.op)
+slot_answered stores mem (Some i) address =
+    bytes_seen stores (slice_index mem) i.number address (size_of i.op)
 
 abbrev pub answered_if_read : Bool → Block → List ℕ → List ℕ → (ℕ → Answer) → ℕ → ℕ → ℕ
 answered_if_read true b regs mem g x address = read_word regs (slice_get b.reads.items x)

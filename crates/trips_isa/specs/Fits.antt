@@ -1,5 +1,6 @@
 -- Blocks and images whose fields lie in their fields: the width of each, and none that a form does
--- not have.
+-- not have. Source: a block of 128 instructions, 32 reads, 32 writes and 32 numbers of loads and
+-- stores, TRIPS Processor Reference Manual, UT Austin TR-05-19. Own: the width of each field.
 use Rattle.std.specs.Prelude.{◌≡◌, ℕ, ◌^◌, ◌<◌, ◌≤◌, ℤ, pos, negsuc, Option, Some, None, All}
 use Rattle.std.specs.Prelude.{length}
 use Rattle.trips_isa.specs.declared.op.Op.{Op}

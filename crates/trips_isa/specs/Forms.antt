@@ -1,4 +1,5 @@
--- The form of each operation's word, and how the operation takes its operands.
+-- The form of each operation's word, and how the operation takes its operands. Source: the formats G,
+-- I, L, S, B and C of the TRIPS Processor Reference Manual, UT Austin TR-05-19. Own: the roles.
 use Rattle.std.specs.Prelude.{ℕ, Bool, true, false}
 use Rattle.trips_isa.specs.declared.op.Op.{Op}
 use Rattle.trips_isa.specs.declared.op.Op.TheVariants.{Extsb, Extsh, Extsw, Extub, Extuh, Extuw}

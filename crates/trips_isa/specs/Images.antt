@@ -1,5 +1,7 @@
--- Where the blocks of an image begin, and the images whose parts lie in their fields.
-use Rattle.std.specs.Prelude.{◌≡◌, ℕ, suc, ◌+◌, ◌/◌, ◌≤◌, ◌==◌, cond, max, List, [], ◌∷◌, take}
+-- Where the blocks of an image begin, and the images whose parts lie in their fields. Source: a header
+-- and one to four body chunks of 128 bytes, TRIPS Processor Reference Manual, UT Austin TR-05-19. Own:
+-- the image.
+use Rattle.std.specs.Prelude.{◌≡◌, ℕ, suc, ◌+◌, ◌/◌, ◌<◌, ◌≤◌, ◌==◌, cond, max, List, [], ◌∷◌, take}
 use Rattle.std.specs.Prelude.{Option, Some, None, All, length, unwrap_or}
 use Rattle.std.specs.List.{sum_by}
 use Rattle.trips_isa.specs.declared.block.Inst.{Inst}
@@ -53,4 +55,5 @@ pub record FitsImage (i : Image) : Type 0 where
   pub each : All FitsBlock i.blocks
   pub total : sum_by chunks i.blocks ≤ 524288
   pub few : length i.bytes ≤ 4194304
+  pub bytes : All (λ b. b < 256) i.bytes
   pub last : last_byte i.bytes ≡ 0 → ⊥

@@ -3,9 +3,14 @@ pub mod Forms
 pub mod Fits
 pub mod Images
 pub mod Rule
+pub mod Operands
 pub mod Places
 pub mod Tables
 pub mod Stores
+pub mod Fired
 pub mod Blocks
+pub mod Faults
+pub mod Acts
+pub mod Marks
 pub mod Outcomes
 pub mod Machine

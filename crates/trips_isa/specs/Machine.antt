@@ -1,5 +1,6 @@
--- The sequential machine: a block's outcome is applied all at once, and then the system call
--- follows.
+-- The sequential machine: a block's effects are applied all at once, and then the system call
+-- follows; a block that faults changes nothing. Source: blocks are atomic, Burger et al., IEEE Computer,
+-- July 2004; TRIPS Processor Reference Manual, UT Austin TR-05-19. Own: the system calls and the trace.
 use Rattle.std.specs.Prelude.{ℕ, zero, suc, ◌-◌, ◌%◌, ◌^◌, Bool, ◌==◌, cond, List, [], ◌∷◌, ◌++◌}
 use Rattle.std.specs.Prelude.{Option, Some, None, slice_get, slice_index, slice_set, length}
 use Rattle.std.specs.Prelude.{replicate}
@@ -8,9 +9,9 @@ use Rattle.trips_isa.specs.declared.block.Token.TheVariants.{Null, Word}
 use Rattle.trips_isa.specs.declared.block.Block.{Block}
 use Rattle.trips_isa.specs.declared.run.Traced.{Traced}
 use Rattle.trips_isa.specs.declared.run.Stepped.{Stepped}
-use Rattle.trips_isa.specs.declared.run.Stepped.TheVariants.{Went, Ended, StackFull}
+use Rattle.trips_isa.specs.declared.run.Stepped.TheVariants.{Went, Ended, StackFull, Trap}
 use Rattle.trips_isa.specs.Stores.{data_size, store_all}
-use Rattle.trips_isa.specs.Outcomes.{Outcome, outcome}
+use Rattle.trips_isa.specs.Outcomes.{Effects, Outcome, Comes, Faults, outcome}
 
 pub record State : Type 0 where
   pub registers : List ℕ
@@ -20,7 +21,7 @@ pub record State : Type 0 where
   pub output : List ℕ
   pub trace : List Traced
 
--- applying an outcome ---------------------------------------------------------------------------
+-- applying effects ---------------------------------------------------------------------------
 
 -- a null write changes nothing
 abbrev pub written : List ℕ → ℕ → Token → List ℕ
@@ -33,8 +34,8 @@ write_all regs [] tokens = regs
 write_all regs (r ∷ rs) [] = regs
 write_all regs (r ∷ rs) (t ∷ tokens) = write_all (written regs r t) rs tokens
 
--- the change of an outcome, where `writes` are the registers of the block's writes
-abbrev pub changed : List ℕ → Outcome → State → State
+-- the change of effects, where `writes` are the registers of the block's writes
+abbrev pub changed : List ℕ → Effects → State → State
 changed writes o s = record {
   registers = write_all s.registers writes o.writes;
   memory = store_all s.memory o.stores;
@@ -63,14 +64,21 @@ system_call call s =
 abbrev pub then_system : Bool → State → State × Stepped
 then_system system s = cond system (system_call (slice_index s.registers 0) s) (s, Went)
 
-abbrev pub apply : List ℕ → Outcome → State → State × Stepped
+-- effects are applied all at once, then the system call follows
+abbrev pub apply : List ℕ → Effects → State → State × Stepped
 apply writes o s = then_system o.system (changed writes o s)
 
 -- steps -------------------------------------------------------------------------------------------
 
+-- a fault changes nothing and adds nothing to the trace
+abbrev pub come_to : List ℕ → Outcome → State → State × Stepped
+come_to writes (Comes effects) s = apply writes effects s
+come_to writes (Faults c) s = (s, Trap c)
+
 abbrev pub step_in : List Block → Option Block → State → State × Stepped
 step_in blocks None s = (s, Went)
-step_in blocks (Some b) s = apply b.writes.items (outcome blocks s.next b s.registers s.memory) s
+step_in blocks (Some b) s =
+    come_to b.writes.items (outcome blocks s.next b s.registers s.memory) s
 
 -- one step: the next block, whole
 abbrev pub step_of : List Block → State → State × Stepped
@@ -91,12 +99,12 @@ start bytes input = record {
   trace = [];
 }
 
+-- after any answer but Went the run stays as it is
 abbrev pub goes_on : List Block → State → Stepped → State × Stepped
 goes_on blocks s Went = step_of blocks s
-goes_on blocks s Ended = (s, Ended)
-goes_on blocks s StackFull = (s, StackFull)
+goes_on blocks s answer = (s, answer)
 
--- the state after n steps, or after the step that ended the run if that was earlier
+-- the state after n steps, or after the step that ended the run or trapped if that was earlier
 unfoldable pub runs : List Block → State → ℕ → State × Stepped
 runs blocks s zero = (s, Went)
 runs blocks s (suc n) = let before = runs blocks s n in goes_on blocks before.0 before.1

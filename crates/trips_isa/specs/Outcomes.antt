@@ -1,5 +1,7 @@
--- What a block comes to in an entry state: its writes, its stores, its exit and the next block.
-use Rattle.std.specs.Prelude.{ℕ, suc, ◌+◌, ◌/◌, ◌%◌, ◌^◌, Bool, true, false, ◌==◌, nat_lt, cond}
+-- What a block comes to in an entry state: its writes, its stores, its exit and the next block, or
+-- the cause of a fault. Source: the outputs of a block, Burger et al., IEEE Computer, July 2004. Own:
+-- that block 0 is next where no block begins.
+use Rattle.std.specs.Prelude.{ℕ, zero, suc, ◌+◌, ◌/◌, ◌%◌, ◌^◌, Bool, true, false, ◌==◌, nat_lt, cond}
 use Rattle.std.specs.Prelude.{List, [], ◌∷◌, Option, Some, None, length}
 use Rattle.trips_isa.specs.declared.op.Op.{Op}
 use Rattle.trips_isa.specs.declared.op.Op.TheVariants.{Bro, Callo, Br, Ret, Scall}
@@ -8,10 +10,12 @@ use Rattle.trips_isa.specs.declared.block.Token.TheVariants.{Null, Word}
 use Rattle.trips_isa.specs.declared.block.Inst.{Inst}
 use Rattle.trips_isa.specs.declared.block.Stored.{Stored}
 use Rattle.trips_isa.specs.declared.block.Block.{Block}
+use Rattle.trips_isa.specs.declared.places.TheConstants.{FIRST_WRITE}
 use Rattle.trips_isa.specs.Alu.{word}
 use Rattle.trips_isa.specs.Images.{chunk_of, block_at}
 use Rattle.trips_isa.specs.Rule.{Answer}
 use Rattle.trips_isa.specs.Tables.{deepest}
+use Rattle.trips_isa.specs.Marks.{cause}
 use Rattle.trips_isa.specs.Stores.{listed_below}
 use Rattle.trips_isa.specs.Blocks.{at_place, store_of, Leaving, leaving_of, token_of}
 
@@ -57,7 +61,7 @@ exit_of (Some p) = (p.0).number
 
 -- the token of each write, the stores in order of number, the exit, whether a system call follows,
 -- and the next block
-pub record Outcome : Type 0 where
+pub record Effects : Type 0 where
   pub writes : List Token
   pub stores : List Stored
   pub exit : ℕ
@@ -71,15 +75,15 @@ or_null (Some t) = t
 -- the tokens of the writes from write w on
 abbrev pub writes_from : (ℕ → Answer) → ℕ → List ℕ → List Token
 writes_from at w [] = []
-writes_from at w (r ∷ rs) = or_null (at (384 + w)) ∷ writes_from at (suc w) rs
+writes_from at w (r ∷ rs) = or_null (at (FIRST_WRITE + w)) ∷ writes_from at (suc w) rs
 
 -- all 32 numbers; not an `abbrev`, since a numeral unrolls the recursion in each goal
 unfoldable pub all_stores : (ℕ → Option Stored) → List Stored
 all_stores stores = listed_below stores 32
 
--- what a table of tokens comes to in block k
-abbrev pub outcome_by : List Block → ℕ → Block → (ℕ → Answer) → Outcome
-outcome_by blocks k b g = record {
+-- what a table of tokens comes to in block k, whatever its marks
+abbrev pub plain_by : List Block → ℕ → Block → (ℕ → Answer) → Effects
+plain_by blocks k b g = record {
   writes = writes_from (at_place b g) 0 b.writes.items;
   stores = all_stores (store_of b g);
   exit = exit_of (leaving_of b g);
@@ -87,5 +91,21 @@ outcome_by blocks k b g = record {
   successor = next_of blocks k (leaving_of b g);
 }
 
+-- what block k comes to in an entry state, whatever its marks
+abbrev pub plain : List Block → ℕ → Block → List ℕ → List ℕ → Effects
+plain blocks k b regs mem = plain_by blocks k b (token_of b regs mem deepest)
+
+-- a block comes to its effects, or it faults with a cause: 1, 2 or 3
+pub data Outcome : Type 0 where
+  Comes : (effects : Effects) → Outcome
+  Faults : (cause : ℕ) → Outcome
+
+-- cause 0 is none
+abbrev pub unless : ℕ → Effects → Outcome
+unless zero effects = Comes effects
+unless (suc c) effects = Faults (suc c)
+
+-- the outcome of block k: without a cause it is the plain one, which no mark changes
 abbrev pub outcome : List Block → ℕ → Block → List ℕ → List ℕ → Outcome
-outcome blocks k b regs mem = outcome_by blocks k b (token_of b regs mem deepest)
+outcome blocks k b regs mem = unless (cause b (token_of b regs mem deepest))
+    (plain blocks k b regs mem)

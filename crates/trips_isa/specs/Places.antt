@@ -1,6 +1,8 @@
--- Places of a block as numbers, and its reads and slots as nodes that name places.
-use Rattle.std.specs.Prelude.{ℕ, suc, ◌+◌, Bool, true, false, ◌==◌, ◌||◌, List, [], ◌∷◌, ◌++◌, map}
-use Rattle.std.specs.Prelude.{Option, Some, None}
+-- Places of a block as numbers, and its reads and slots as nodes that name places (docs/MACHINE.md,
+-- "Places"). Source: instructions name their consumers, Burger et al., IEEE Computer, July 2004. Own:
+-- the numbers, and that stores and branches name places like others.
+use Rattle.std.specs.Prelude.{ℕ, suc, ◌+◌, ◌/◌, ◌%◌, ◌^◌, Bool, true, false, ◌==◌, ◌&&◌, ◌||◌, nat_lt}
+use Rattle.std.specs.Prelude.{List, [], ◌∷◌, ◌++◌, map, Option, Some, None}
 use Rattle.trips_isa.specs.declared.block.Spot.{Spot}
 use Rattle.trips_isa.specs.declared.block.Spot.TheVariants as spot
 use Rattle.trips_isa.specs.declared.block.Sense.TheVariants.{Always}
@@ -11,37 +13,40 @@ use Rattle.trips_isa.specs.declared.form.Form.{Form}
 use Rattle.trips_isa.specs.declared.form.Form.TheVariants.{Load, Store, Branch}
 use Rattle.trips_isa.specs.declared.form.Role.TheVariants.{Empty, Reading}
 use Rattle.trips_isa.specs.declared.node.Node.{Node}
+use Rattle.trips_isa.specs.declared.places.TheConstants.{FIRST_WRITE, FIRST_STORE, EXIT, PLACES}
+use Rattle.trips_isa.specs.declared.places.TheConstants.{NO_PLACE}
 use Rattle.trips_isa.specs.Forms.{form_of, role_of}
 
--- s is the left operand of slot s, 128 + s the right one, 256 + s the predicate, 384 + w the write
--- w, 416 + n the store number n, 448 the exit. They stand in the order of spots. 700 is no place.
+-- s is the left operand of slot s, 128 + s the right one, 256 + s the predicate, then come the
+-- writes, the store numbers and the exit, in the order of spots. A read and a slot themselves are no
+-- place.
 abbrev pub place_of : Spot → ℕ
 place_of (spot.Left s) = s
 place_of (spot.Right s) = 128 + s
 place_of (spot.Pred s) = 256 + s
-place_of (spot.Write w) = 384 + w
-place_of (spot.Store n) = 416 + n
-place_of _ = 700
+place_of (spot.Write w) = FIRST_WRITE + w
+place_of (spot.Store n) = FIRST_STORE + n
+place_of _ = NO_PLACE
 
 abbrev pub place_at : Option Spot → ℕ
-place_at None = 700
+place_at None = NO_PLACE
 place_at (Some s) = place_of s
 
 -- a store names its number and a branch the exit
 abbrev pub first_place : Form → ℕ → Option Spot → ℕ
-first_place Store n s = 416 + n
-first_place Branch n s = 448
+first_place Store n s = FIRST_STORE + n
+first_place Branch n s = EXIT
 first_place _ n s = place_at s
 
 -- a load sees the stores of lower numbers
 abbrev pub load_bound : Form → ℕ → ℕ
-load_bound Load n = 416 + n
+load_bound Load n = FIRST_STORE + n
 load_bound _ n = 0
 
 -- a read has no slot: none of its operands or its predicate is a place
 abbrev pub read_node : ReadSlot → Node
 read_node r = record {
-  slot = 449;
+  slot = PLACES;
   role = Reading;
   sense = Always;
   first = place_of r.first;
@@ -54,8 +59,8 @@ inst_node j None = record {
   slot = j;
   role = Empty;
   sense = Always;
-  first = 700;
-  second = 700;
+  first = NO_PLACE;
+  second = NO_PLACE;
   below = 0;
 }
 inst_node j (Some i) = record {
@@ -75,6 +80,11 @@ inst_nodes j (i ∷ is) = inst_node j i ∷ inst_nodes (suc j) is
 abbrev pub nodes_of : Block → List Node
 nodes_of b = map read_node b.reads.items ++ inst_nodes 0 b.insts.items
 
+-- whether a mask has a store number
+abbrev pub in_mask : ℕ → ℕ → Bool
+in_mask mask n = nat_lt n 32 && ((mask / 2 ^ n) % 2 == 1)
+
+-- the places that a node names
 abbrev pub targets : Node → List ℕ
 targets n = n.first ∷ n.second ∷ []
 
@@ -97,6 +107,18 @@ slots_naming j [] q = []
 slots_naming j (i ∷ is) q = if_named (names (targets (inst_node j i)) q) (spot.Inst j)
     (slots_naming (suc j) is q)
 
+-- every spot but a read and a slot themselves is a place
+abbrev pub IsPlace : Spot → Type 0
+IsPlace (spot.Read r) = ⊥
+IsPlace (spot.Inst s) = ⊥
+IsPlace s = Unit {0}
+
+-- what names a place
+abbrev pub naming : Block → ℕ → List Spot
+naming b q = reads_naming 0 b.reads.items q ++ slots_naming 0 b.insts.items q
+
+-- the producers of a spot; a read and a slot themselves are named by nothing
 abbrev pub producers : Block → Spot → List Spot
-producers b s = reads_naming 0 b.reads.items (place_of s) ++ slots_naming 0 b.insts.items
-    (place_of s)
+producers b (spot.Read r) = []
+producers b (spot.Inst s) = []
+producers b s = naming b (place_of s)

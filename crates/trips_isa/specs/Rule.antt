@@ -1,5 +1,7 @@
 -- The one rule of firing: what a read or an instruction gives of the tokens at its operands and its
--- predicate.
+-- predicate. Source: Burger et al., "Scaling to the End of Silicon with EDGE Architectures", IEEE
+-- Computer, July 2004; TRIPS Processor Reference Manual, UT Austin TR-05-19. Own: that a null predicate
+-- matches neither sense.
 use Rattle.std.specs.Prelude.{ℕ, ◌%◌, Bool, true, false, not, ◌==◌, Option, Some, None}
 use Rattle.trips_isa.specs.declared.block.Token.{Token}
 use Rattle.trips_isa.specs.declared.block.Token.TheVariants.{Null, Word}

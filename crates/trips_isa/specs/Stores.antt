@@ -1,4 +1,6 @@
--- Stores of a block by number, and the bytes that a load sees through them.
+-- Stores of a block by number, and the bytes that a load sees through them. Source: the numbers of
+-- loads and stores, and their order, TRIPS Processor Reference Manual, UT Austin TR-05-19. Own: the size
+-- of data memory, and what is done at a bad address.
 use Rattle.std.specs.Prelude.{ℕ, zero, suc, ◌+◌, ◌-◌, ◌*◌, ◌/◌, ◌%◌, ◌^◌, Bool, ◌==◌, ◌&&◌, nat_lt}
 use Rattle.std.specs.Prelude.{nat_le, cond, List, [], ◌∷◌, ◌++◌, Option, Some, None, slice_index}
 use Rattle.std.specs.Prelude.{slice_set}
@@ -58,23 +60,27 @@ or_byte (Some b) c = b
 or_byte None c = c
 
 -- the byte that a load of number n sees: the store's of the greatest lower number that has one,
--- else the memory's
-abbrev pub byte_seen : (ℕ → Option Stored) → List ℕ → ℕ → ℕ → ℕ
-byte_seen stores mem zero address = slice_index mem address
+-- else the memory's, where `mem` says the byte at each address
+abbrev pub byte_seen : (ℕ → Option Stored) → (ℕ → ℕ) → ℕ → ℕ → ℕ
+byte_seen stores mem zero address = mem address
 byte_seen stores mem (suc n) address = or_byte (byte_of (stores n) address)
     (byte_seen stores mem n address)
 
 -- the number of the first k bytes from an address on, the most significant first
-abbrev pub bytes_seen : (ℕ → Option Stored) → List ℕ → ℕ → ℕ → ℕ → ℕ
+abbrev pub bytes_seen : (ℕ → Option Stored) → (ℕ → ℕ) → ℕ → ℕ → ℕ → ℕ
 bytes_seen stores mem n address zero = 0
 bytes_seen stores mem n address (suc k) =
     bytes_seen stores mem n address k * 256 + byte_seen stores mem n (address + k)
 
--- what a load gives of its operand, where `answer` says which number the bytes at each address
--- make; at a bad address it gives 0
+-- what a load gives at an address, where `answer` says which number the bytes at each address make;
+-- at a bad address it gives 0
+abbrev pub loaded_at : Inst → (ℕ → ℕ) → ℕ → ℕ
+loaded_at i answer address = cond (is_good_address address (size_of i.op))
+    (loaded_as i.op (answer address)) 0
+
+-- what a load gives of its operand
 abbrev pub load_of : Inst → (ℕ → ℕ) → ℕ → ℕ
-load_of i answer left = cond (is_good_address (address_of i left) (size_of i.op))
-    (loaded_as i.op (answer (address_of i left))) 0
+load_of i answer left = loaded_at i answer (address_of i left)
 
 -- memory -----------------------------------------------------------------------------------
 

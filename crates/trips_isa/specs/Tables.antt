@@ -1,7 +1,9 @@
--- Tables of tokens: one for each node, by the rule, from the tokens that its producers give.
+-- Tables of tokens: one for each node, by the rule, from the tokens that its producers give. Own: the
+-- machine pushes tokens to consumers; here a node pulls from its producers.
 use Rattle.std.specs.Prelude.{◌≡◌, ℕ, zero, suc, ◌+◌, ◌<◌, Bool, true, false, ◌&&◌, ◌||◌, nat_le}
 use Rattle.std.specs.Prelude.{nat_lt, List, [], ◌∷◌, Option, Some, None, slice_get}
 use Rattle.trips_isa.specs.declared.node.Node.{Node}
+use Rattle.trips_isa.specs.declared.places.TheConstants.{FIRST_STORE}
 use Rattle.trips_isa.specs.Rule.{Answer, rule}
 use Rattle.trips_isa.specs.Places.{targets, names}
 
@@ -47,7 +49,7 @@ deepest = 160
 -- edges: from a producer to a consumer, and from a store to each load of a higher number
 abbrev pub stores_below : List ℕ → ℕ → Bool
 stores_below [] m = false
-stores_below (t ∷ ts) m = (nat_le 416 t && nat_lt t m) || stores_below ts m
+stores_below (t ∷ ts) m = (nat_le FIRST_STORE t && nat_lt t m) || stores_below ts m
 
 abbrev pub feeds : Node → Node → Bool
 feeds m n = names (targets m) n.slot || (names (targets m) (128 + n.slot) ||

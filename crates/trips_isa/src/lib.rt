@@ -5,18 +5,26 @@
 
 mod arithmetic;
 mod block;
+mod faults;
+mod fired;
 mod form;
+mod law;
 mod node;
 mod op;
+mod operands;
+mod places;
 mod run;
 mod size;
-#[cfg(test)]
-mod tests;
 
 pub use arithmetic::{alu, loaded};
 pub use block::{Block, Image, Inst, ReadSlot, Sense, Spot, Stored, Token};
+pub use faults::{fault, fault_at, own_fault};
+pub use fired::Fired;
 pub use form::{Form, Role, form_of, role_of, size_of};
+pub use law::{first_producers_give, operands_say_the_rule, words_give_words};
 pub use node::Node;
 pub use op::Op;
+pub use operands::{Operands, is_guarded, least, mark_by, only_if, operands_of};
+pub use places::{EXIT, FIRST_STORE, FIRST_WRITE, NO_PLACE, PLACES};
 pub use run::{Counts, Ending, Stepped, Traced};
 pub use size::chunks;

@@ -5,18 +5,21 @@ pub struct Traced {
     pub exit: u8,
 }
 
-/// What one step of the machine came to: it went on, it made system call 3, or system call 4.
+/// What one step of the machine came to: it went on, it made system call 3, or system call 4, or its
+/// block faulted with a cause: 1 is a division by zero, 2 a misaligned address, 3 an address outside
+/// data memory.
 #[derive(Clone, Copy, Debug, PartialEq, Eq)]
 pub enum Stepped {
     Went,
     Ended,
     StackFull,
+    Trap(u8),
 }
 
 /// How a run ends.
 ///
 /// `Ended` is system call 3, `StackFull` system call 4, and `Budget` a run that made neither in its
-/// budget of blocks. `Trap` names a faulting block and its cause; nothing answers it yet.
+/// budget of blocks. `Trap` names a faulting block and its cause.
 #[derive(Clone, Copy, Debug, PartialEq, Eq)]
 pub enum Ending {
     Ended,

@@ -16,6 +16,3 @@ pub use memory_sinks::{HonestSink, MemSink};
 pub use system::{OsFiles, OutSink};
 pub use traits::{Failed, Files, Sink};
 pub use transfer::{LoadFault, WriteFault, load, write_all};
-
-#[cfg(test)]
-mod tests;

@@ -1,22 +1,32 @@
 -- The causes of the answers, from the table.
-use Rattle.std.proofs.Common.{◌≡◌, ◌≢◌, ℕ, List, [], ◌∷◌, Option, None, Some, ◌⊎◌, inl, inr, refl}
-use Rattle.std.proofs.Common.{ap, sym, subst, true, false}
+use Rattle.std.proofs.Common.{◌≡◌, ◌≢◌, ℕ, ◌<◌, List, [], ◌∷◌, Option, None, Some, ◌⊎◌, inl, inr}
+use Rattle.std.proofs.Common.{All, refl, ap, sym, subst, true, false}
 use Rattle.trips_outside.specs.Outside.{Appended}
+use Rattle.trips_isa.specs.declared.block.Image.{Image}
+use Rattle.trips_isa.specs.Machine.{runs, start}
+use Rattle.c_tree.specs.declared.typed.TypedProgram.{TypedProgram}
+use Rattle.c_front.specs.Fronts.{IsAccepted}
+use Rattle.block_image.specs.Spelling.{ImageBytes}
+use Rattle.block_check.specs.Faults.{IsGood}
+use Rattle.trips_run.specs.declared.command_line.Work.{Work}
+use Rattle.trips_run.specs.declared.command_line.Work.TheVariants.{Run, Evaluate}
+use Rattle.trips_run.specs.declared.command_line.FileForm.{FileForm}
+use Rattle.trips_run.specs.declared.command_line.FileForm.TheVariants as form
 use Rattle.trips_run.specs.declared.status.Status.{Status}
 use Rattle.trips_run.specs.declared.status.Status.TheVariants as status
-use Rattle.trips_run.specs.Request.{Request, Run, Eval}
-use Rattle.c_tree.specs.declared.typed.TypedProgram.{TypedProgram}
+use Rattle.trips_run.specs.Request.{Request}
 use Rattle.trips_run.specs.Source.{IsReturn}
-use Rattle.trips_run.specs.Answer.{IsAnswer}
-use Rattle.trips_run.specs.Refused.{MayBeRefused, IsRefused}
-use Rattle.trips_run.specs.Report.{eval_report}
-use Rattle.trips_run.specs.Answer.{eval_status, outcome_of}
-use Rattle.trips_run.specs.Table.{IsAnswered, IsCutOff, IsOneOf, return_report}
-use Rattle.trips_run.specs.Table.{AsksFor, EvalEnds}
+use Rattle.trips_run.specs.Report.{ending_of, run_report, eval_report}
+use Rattle.trips_run.specs.Refusal.{too_large_text}
+use Rattle.trips_run.specs.Refused.{IsRefusedAs, MayBeRefused, IsRefused}
+use Rattle.trips_run.specs.Answer.{status_of, eval_status, outcome_of, IsAnswer}
+use Rattle.trips_run.specs.Table.{IsAnswered, IsCutOff, IsOneOf, return_report, Asks}
+use Rattle.trips_run.specs.Table.{HasLargeFile, HasLargeInput, EndsAs, EvalEnds}
 use Rattle.trips_run.proofs.Rows.{kind, usage_row, read_fault_row, refused_row, no_row}
 use Rattle.trips_run.proofs.Rows.{usage_comes_row}
 use Rattle.trips_run.proofs.Rows.{refused_comes_row, is_told}
-use Rattle.trips_run.proofs.Headlines.{headline_row, evaluation_row}
+use Rattle.trips_run.proofs.Exact.{complete, large_file, large_input, refused_exact, eval_exact}
+use Rattle.trips_run.proofs.Exact.{image_exact, return_exact}
 use Rattle.trips_run.proofs.Ends.{ends_row, undefined_row}
 
 module _ (held : List ℕ → Option (List ℕ)) (rose : Type 0) (old new : Option (List ℕ))
@@ -105,31 +115,75 @@ module _ (held : List ℕ → Option (List ℕ)) (rose : Type 0) (old new : Opti
         [ inl r ↦ inl r | inr f ↦ inr (inl f) ]
   ]
 
-  pub headline : (s : Status) → IsAnswered q held rose old new cut s → (file text : List ℕ) (n : ℕ)
-      → q ≡ Some (Run file)
-      → held file ≡ Some text → IsReturn text n → (rose → ⊥) → (cut → ⊥) → s ≢ status.Memory
-      → (s ≡ status.Ended) × Appended old new (return_report n)
+  -- the whole report was written, where no write failed and memory was not refused
+  whole_of : (s : Status) → IsAnswered q held rose old new cut s → (cut → ⊥) → s ≢ status.Memory
+      → (report : List ℕ) × IsAnswer q held rose s report × Appended old new report
   unfolding IsWhole
-  headline s a file text n e h is r c m = elim (split s a) [
+  whole_of s a c m = elim (split s a) [
     | inl none ↦ absurd (m none)
     | inr (inl w) ↦ absurd (c w.1)
-    | inr (inr row) ↦
-        let told = headline_row q held rose s row.0 file text n row.1 e h is r
-        in (told.0, subst (Appended old new) told.1 row.2)
+    | inr (inr row) ↦ row
   ]
 
-  pub evaluation : (s : Status) → IsAnswered q held rose old new cut s → (program : TypedProgram)
-      (bytes : List ℕ) (steps : ℕ) → AsksFor q held program bytes steps → (rose → ⊥)
-      → (cut → ⊥) → s ≢ status.Memory → (s ≡ eval_status (outcome_of program bytes steps))
-      × Appended old new (eval_report (outcome_of program bytes steps))
-  unfolding IsWhole
-  evaluation s a program bytes steps asks r c m = elim (split s a) [
-    | inl none ↦ absurd (m none)
-    | inr (inl w) ↦ absurd (c w.1)
-    | inr (inr row) ↦
-        let told = evaluation_row q held rose s row.0 bytes program steps row.1 asks r
-        in (told.0, subst (Appended old new) told.1 row.2)
-  ]
+  pub headline : (s : Status) → IsAnswered q held rose old new cut s
+      → ((x : Request) → q ≡ Some x → 0 < x.most) → (most n : ℕ) (text input : List ℕ)
+      → Asks q held Run form.Source most text input → IsReturn text n → (rose → ⊥) → (cut → ⊥)
+      → s ≢ status.Memory → (s ≡ status.Ended) × Appended old new (return_report n)
+  headline s a goes most n text input asks is r c m =
+      let row = whole_of s a c m in
+      let done = complete q held rose s row.0 row.1 r Run form.Source most text input asks in
+      let some = subst (λ (k : ℕ). 0 < k) asks.is_most (goes asks.q asks.asked) in
+      let told = return_exact most text input s row.0 n done is some in
+      (told.0, subst (Appended old new) told.1 row.2)
+
+  pub evaluation : (s : Status) → IsAnswered q held rose old new cut s → (how : FileForm)
+      (steps : ℕ) (text input : List ℕ) (program : TypedProgram)
+      → Asks q held Evaluate how steps text input → IsAccepted text program → (rose → ⊥)
+      → (cut → ⊥) → s ≢ status.Memory → (s ≡ eval_status (outcome_of program input steps))
+      × Appended old new (eval_report (outcome_of program input steps))
+  evaluation s a how steps text input program asks is r c m =
+      let row = whole_of s a c m in
+      let done = complete q held rose s row.0 row.1 r Evaluate how steps text input asks in
+      let told = eval_exact how steps text input s row.0 program done is in
+      (told.0, subst (Appended old new) told.1 row.2)
+
+  pub image_run : (s : Status) → IsAnswered q held rose old new cut s → (blocks : ℕ)
+      (bytes input : List ℕ) (image : Image) → Asks q held Run form.Image blocks bytes input
+      → ImageBytes image bytes → All IsGood image.blocks → (rose → ⊥) → (cut → ⊥)
+      → s ≢ status.Memory → let run = runs image.blocks (start image.bytes input) blocks in
+      (s ≡ status_of (ending_of run.1 run.0.next))
+      × Appended old new (run_report (ending_of run.1 run.0.next) run.0)
+  image_run s a blocks bytes input image asks spelled good r c m =
+      let row = whole_of s a c m in
+      let done = complete q held rose s row.0 row.1 r Run form.Image blocks bytes input asks in
+      let told = image_exact blocks bytes input s row.0 image done spelled good in
+      (told.0, subst (Appended old new) told.1 row.2)
+
+  pub refusal : (s : Status) → IsAnswered q held rose old new cut s → (work : Work)
+      (how : FileForm) (most : ℕ) (bytes input report : List ℕ)
+      → Asks q held work how most bytes input → IsRefusedAs work how bytes report → (rose → ⊥)
+      → (cut → ⊥) → s ≢ status.Memory → (s ≡ status.Refused) × Appended old new report
+  refusal s a work how most bytes input report asks bad r c m =
+      let row = whole_of s a c m in
+      let done = complete q held rose s row.0 row.1 r work how most bytes input asks in
+      let told = refused_exact work how most bytes input s row.0 report done bad in
+      (told.0, subst (Appended old new) told.1 row.2)
+
+  pub too_large_file : (s : Status) → IsAnswered q held rose old new cut s → (x : Request)
+      → q ≡ Some x → HasLargeFile x held → (rose → ⊥) → (cut → ⊥) → s ≢ status.Memory
+      → (s ≡ status.Refused) × Appended old new too_large_text
+  too_large_file s a x e large r c m =
+      let row = whole_of s a c m in
+      let told = large_file q held rose s row.0 row.1 r x e large in
+      (told.0, subst (Appended old new) told.1 row.2)
+
+  pub too_large_input : (s : Status) → IsAnswered q held rose old new cut s → (x : Request)
+      → q ≡ Some x → HasLargeInput x held → (rose → ⊥) → (cut → ⊥) → s ≢ status.Memory
+      → (s ≡ status.Refused) × Appended old new too_large_text
+  too_large_input s a x e large r c m =
+      let row = whole_of s a c m in
+      let told = large_input q held rose s row.0 row.1 r x e large in
+      (told.0, subst (Appended old new) told.1 row.2)
 
   pub undefined_only : (s : Status) → IsAnswered q held rose old new cut s → s ≡ status.Undefined
       → EvalEnds q held s
@@ -137,16 +191,6 @@ module _ (held : List ℕ → Option (List ℕ)) (rose : Type 0) (old new : Opti
       let row = subst (IsAnswered q held rose old new cut) e a in
       subst (EvalEnds q held) (sym e)
       (undefined_row q held rose status.Undefined row.0 row.1 refl)
-
-  one_told : (s : Status)
-      → IsOneOf s (status.Ended ∷ status.Budget ∷ status.StackFull ∷ status.Undefined ∷ [])
-      → is_told s ≡ true
-  unfolding is_told
-  one_told s (inl e) = ap is_told e
-  one_told s (inr (inl e)) = ap is_told e
-  one_told s (inr (inr (inl e))) = ap is_told e
-  one_told s (inr (inr (inr (inl e)))) = ap is_told e
-  one_told s (inr (inr (inr (inr none)))) = absurd none
 
   not_memory : (s : Status) → is_told s ≡ true → s ≡ status.Memory → ⊥
   unfolding is_told
@@ -156,14 +200,44 @@ module _ (held : List ℕ → Option (List ℕ)) (rose : Type 0) (old new : Opti
   unfolding is_told
   not_cut s t e = let none : is_told s ≡ false = ap is_told e in absurd (cc)
 
-  pub eval_ends : (s : Status) → IsAnswered q held rose old new cut s → (file : List ℕ)
-      (input : Option (List ℕ)) (steps : ℕ) → q ≡ Some (Eval file input steps)
-      → IsOneOf s (status.Ended ∷ status.Budget ∷ status.StackFull ∷ status.Undefined ∷ [])
-      → EvalEnds q held s
+  -- work whose end is told
+  ends : (s : Status) → IsAnswered q held rose old new cut s → (x : Request) → q ≡ Some x
+      → is_told s ≡ true → EndsAs held x s
   unfolding IsWhole
-  eval_ends s a file input steps e one = elim (split s a) [
-    | inl none ↦ absurd (not_memory s (one_told s one) none)
-    | inr (inl w) ↦ absurd (not_cut s (one_told s one) w.0)
-    | inr (inr row) ↦
-        ends_row q held rose s row.0 file input steps row.1 e (one_told s one)
+  ends s a x e told = elim (split s a) [
+    | inl none ↦ absurd (not_memory s told none)
+    | inr (inl w) ↦ absurd (not_cut s told w.0)
+    | inr (inr row) ↦ ends_row q held rose s row.0 x row.1 e told
   ]
+
+  eval_told : (s : Status)
+      → IsOneOf s (status.Ended ∷ status.Budget ∷ status.StackFull ∷ status.Undefined ∷ [])
+      → is_told s ≡ true
+  unfolding is_told
+  eval_told s (inl e) = ap is_told e
+  eval_told s (inr (inl e)) = ap is_told e
+  eval_told s (inr (inr (inl e))) = ap is_told e
+  eval_told s (inr (inr (inr (inl e)))) = ap is_told e
+  eval_told s (inr (inr (inr (inr none)))) = absurd none
+
+  pub eval_ends : (s : Status) → IsAnswered q held rose old new cut s → (x : Request)
+      → q ≡ Some x → x.work ≡ Evaluate
+      → IsOneOf s (status.Ended ∷ status.Budget ∷ status.StackFull ∷ status.Undefined ∷ [])
+      → EndsAs held x s
+  eval_ends s a x e w one = ends s a x e (eval_told s one)
+
+  run_told : (s : Status)
+      → IsOneOf s (status.Ended ∷ status.Budget ∷ status.StackFull ∷ status.Trap ∷ [])
+      → is_told s ≡ true
+  unfolding is_told
+  run_told s (inl e) = ap is_told e
+  run_told s (inr (inl e)) = ap is_told e
+  run_told s (inr (inr (inl e))) = ap is_told e
+  run_told s (inr (inr (inr (inl e)))) = ap is_told e
+  run_told s (inr (inr (inr (inr none)))) = absurd none
+
+  pub run_ends : (s : Status) → IsAnswered q held rose old new cut s → (x : Request)
+      → q ≡ Some x → x.work ≡ Run
+      → IsOneOf s (status.Ended ∷ status.Budget ∷ status.StackFull ∷ status.Trap ∷ [])
+      → EndsAs held x s
+  run_ends s a x e w one = ends s a x e (run_told s one)

@@ -1,43 +1,31 @@
 -- What the row of a request says of each answer.
 use Rattle.std.proofs.Common.{◌≡◌, ℕ, ◌<◌, ◌≤◌, Bool, true, false, List, [], ◌∷◌, Option, None}
 use Rattle.std.proofs.Common.{Some}
-use Rattle.std.proofs.Common.{IfSome, IsSomeAnd, length, All, ◌⊎◌, inl, inr, refl, sym}
+use Rattle.std.proofs.Common.{IfSome, IsSomeAnd, length, ◌⊎◌, inl, inr, refl, sym}
 use Rattle.std.proofs.Common.{◌∙◌, ap, subst, arith}
-use Rattle.std.proofs.Common.{get_or}
-use Rattle.std.proofs.lemmas.Option.{slice_get_within, get_or_from_slice_get}
 use Rattle.trips_outside.specs.Outside.{Holds}
 use Rattle.trips_isa.specs.declared.block.Block.{Block}
-use Rattle.trips_isa.specs.declared.block.Image.{Image}
 use Rattle.trips_isa.specs.declared.run.Ending.{Ending}
 use Rattle.trips_isa.specs.declared.run.Ending.TheVariants as ending
 use Rattle.trips_isa.specs.Machine.{runs, start}
-use Rattle.c_tree.specs.declared.tree.Program.{Program}
-use Rattle.c_type.specs.Programs.{program_fault}
-use Rattle.c_front.specs.Fronts.{HasTree}
-use Rattle.c_front.proofs.Once.{tree_once, not_refused}
 use Rattle.c_meaning.specs.declared.outcome.Outcome.{Outcome}
 use Rattle.c_meaning.specs.declared.outcome.Outcome.TheVariants as outcome
-use Rattle.block_image.specs.Spelling.{ImageBytes}
-use Rattle.block_image.proofs.Decoded as decoded
-use Rattle.block_image.proofs.Prefix.{one_image}
-use Rattle.block_check.specs.declared.fault.CheckFault.{CheckFault}
-use Rattle.block_check.specs.Faults.{IsGood}
-use Rattle.block_check.specs.Images.{IsFirstBad}
+use Rattle.trips_run.specs.declared.command_line.Work.{Work}
+use Rattle.trips_run.specs.declared.command_line.Work.TheVariants.{Run, Evaluate}
+use Rattle.trips_run.specs.declared.command_line.FileForm.{FileForm}
+use Rattle.trips_run.specs.declared.command_line.FileForm.TheVariants as form
+use Rattle.trips_run.specs.declared.loading.Loaded.{Loaded}
+use Rattle.trips_run.specs.declared.loading.Loaded.TheVariants.{Fault, TooLarge, Bytes}
 use Rattle.trips_run.specs.declared.status.Status.{Status}
 use Rattle.trips_run.specs.declared.status.Status.TheVariants as status
-use Rattle.trips_run.specs.declared.reading.Reading.{Reading}
-use Rattle.trips_run.specs.declared.reading.Reading.TheVariants.{Fault, TooLarge, Bytes}
-use Rattle.trips_run.specs.Request.{Request, Run, RunImage, Eval}
-use Rattle.trips_run.specs.Read.{IsRead, IsInputRead}
-use Rattle.trips_run.specs.Read.{most_source_bytes, most_input_bytes, most_image_bytes}
-use Rattle.trips_run.specs.Source.{returned, return_block}
+use Rattle.trips_run.specs.Request.{Request}
+use Rattle.trips_run.specs.Read.{IsRead, IsInputRead, limit_of, most_input_bytes}
 use Rattle.trips_run.specs.Report.{ending_of}
-use Rattle.trips_run.specs.Answer.{block_budget, status_of, IsRunBy, AfterReading, IsRunOfForm}
-use Rattle.trips_run.specs.Answer.{IsRunOfText, eval_status, outcome_of}
-use Rattle.trips_run.specs.Answer.{IsEvaluationOfText, IsEvalAnswer, IsRunOfImage, IsRunOfBytes}
-use Rattle.trips_run.specs.Answer.{IsAnswer}
-use Rattle.trips_run.specs.Refused.{IsBadSource, IsNoSource, IsBadImage, IsLarge}
-use Rattle.trips_run.specs.Refused.{MayBeRefused, IsRefused}
+use Rattle.trips_run.specs.Source.{return_block}
+use Rattle.trips_run.specs.Answer.{status_of, IsRunBy, eval_status, outcome_of, IsWorked, IsDone}
+use Rattle.trips_run.specs.Answer.{AfterReading, IsAnswerBehind, IsAnswer}
+use Rattle.trips_run.specs.Refused.{IsBad, MayBeLarge, IsLarge, MayBeRefused, IsRefused}
+use Rattle.trips_run.proofs.Exact.{not_worked}
 
 -- the statuses that tell how a run or an evaluation ended
 unfoldable pub is_told : Status → Bool
@@ -55,12 +43,30 @@ tells ending.StackFull = refl
 tells ending.Budget = refl
 tells (ending.Trap block cause) = refl
 
-run_tells : (blocks : List Block) (bytes : List ℕ) (s : Status) (report : List ℕ)
-    → IsRunBy blocks bytes [] block_budget s report → is_told s ≡ true
-run_tells blocks bytes s report run =
-    ap is_told run.0 ∙ tells (ending_of (runs blocks (start bytes []) block_budget).1)
+run_tells : (blocks : List Block) (bytes input : List ℕ) (budget : ℕ) (s : Status)
+    (report : List ℕ) → IsRunBy blocks bytes input budget s report → is_told s ≡ true
+run_tells blocks bytes input budget s report run =
+    ap is_told run.0 ∙ tells (ending_of (runs blocks (start bytes input) budget).1
+    (runs blocks (start bytes input) budget).0.next)
 
--- The kinds of an answer: usage, a fault of reading, a refusal, and the end of a run.
+eval_tells : (o : Outcome) → is_told (eval_status o) ≡ true
+unfolding is_told
+eval_tells outcome.More = refl
+eval_tells outcome.Undefined = refl
+eval_tells outcome.Deep = refl
+eval_tells (outcome.Done output result steps) = refl
+
+-- work that is done tells how it ended
+work_tells : (work : Work) (how : FileForm) (most : ℕ) (bytes input : List ℕ) (s : Status)
+    (report : List ℕ) → IsWorked work how most bytes input s report → is_told s ≡ true
+work_tells Evaluate how most bytes input s report run =
+    ap is_told run.2.0 ∙ eval_tells (outcome_of run.0 input most)
+work_tells Run form.Source most bytes input s report run =
+    run_tells (return_block run.0 ∷ []) [] input most s report run.2
+work_tells Run form.Image most bytes input s report run =
+    run_tells run.0.blocks run.0.bytes input most s report run.3
+
+-- The kinds of an answer: usage, a fault of reading, a refusal, and the end of the work.
 pub data Kind (q : Option Request) (held : List ℕ
     → Option (List ℕ)) (rose : Type 0) (s : Status) : Type 0 where
   usage : s ≡ status.Usage → q ≡ None → Kind q held rose s
@@ -68,7 +74,7 @@ pub data Kind (q : Option Request) (held : List ℕ
   refused : s ≡ status.Refused → MayBeRefused q held → Kind q held rose s
   ran : is_told s ≡ true → (IsRefused q held → ⊥) → Kind q held rose s
 
--- texts ---------------------------------------------------------------------------------------
+-- files -----------------------------------------------------------------------------------------
 
 -- what is said of the bytes that were read is said of those that are told
 of_told : (P : List ℕ → Type 0) (told : Option (List ℕ)) (bytes : List ℕ) → Holds told bytes
@@ -89,59 +95,17 @@ if_large : (P : List ℕ → Type 0) (limit : ℕ) (told : Option (List ℕ))
 if_large P limit None large h = tt
 if_large P limit (Some bytes) large h = large bytes h
 
--- a text whose tree has types is not bad
-not_bad_source : (text : List ℕ) (tree : Program) → length text ≤ most_source_bytes
-    → HasTree text tree → program_fault tree ≡ None → IsBadSource text → ⊥
-not_bad_source text tree few has types (inl large) = absurd (omega arith)
-not_bad_source text tree few has types (inr bad) =
-    not_refused text tree bad.0 has types bad.1
+-- the same of an input
+input_fault : (input : Option (List ℕ)) (held : List ℕ → Option (List ℕ)) (rose : Type 0)
+    → IsInputRead input held rose Fault → rose
+input_fault None held rose h = absurd (cc)
+input_fault (Some name) held rose h = h
 
--- and where it returns a number it is built
-not_no_source : (text : List ℕ) (tree : Program) (n : ℕ) → length text ≤ most_source_bytes
-    → HasTree text tree → program_fault tree ≡ None → returned tree ≡ Some n
-    → IsNoSource text → ⊥
-not_no_source text tree n few has types is (inl bad) =
-    not_bad_source text tree few has types bad
-not_no_source text tree n few has types is (inr out) =
-    let same : out.tree ≡ tree = tree_once text out.tree tree out.has_tree has in
-    let none : None ≡ Some n = sym out.returns ∙ ap returned same ∙ is in
-    absurd (cc)
+input_too_large : (input : Option (List ℕ)) (held : List ℕ → Option (List ℕ)) (rose : Type 0)
+    → IsInputRead input held rose TooLarge → MayBeLarge input held
+input_too_large None held rose h = absurd (cc)
+input_too_large (Some name) held rose h = h
 
-form_kind : (file : List ℕ) (held : List ℕ → Option (List ℕ)) (rose : Type 0) (text : List ℕ)
-    (tree : Program) (s : Status) (report : List ℕ) (form : Option ℕ) → Holds (held file) text
-    → length text ≤ most_source_bytes → HasTree text tree → program_fault tree ≡ None
-    → returned tree ≡ form → IsRunOfForm form s report → Kind (Some (Run file)) held rose s
-form_kind file held rose text tree s report None h few has types is a =
-    refused a.0 (of_told IsNoSource (held file) text h
-    (inr (record { tree = tree; has_tree = has; has_types = types; returns = is })))
-form_kind file held rose text tree s report (Some n) h few has types is a =
-    ran (run_tells (return_block n ∷ []) [] s report a)
-    (λ bad. not_no_source text tree n few has types is (of_read IsNoSource (held file) text h bad))
-
-text_kind : (file : List ℕ) (held : List ℕ
-    → Option (List ℕ)) (rose : Type 0) (reading : Reading) (s : Status) (report : List ℕ)
-    → IsRead (held file) rose most_source_bytes reading
-    → AfterReading reading (λ text. IsRunOfText text s report) s report
-    → Kind (Some (Run file)) held rose s
-text_kind file held rose Fault s report h a = unread a.0 h
-text_kind file held rose TooLarge s report h a =
-    refused a.0 (if_large IsNoSource most_source_bytes (held file) (λ bytes lt. inl (inl lt)) h)
-text_kind file held rose (Bytes text) s report h (inl out) =
-    refused out.2.0 (of_told IsNoSource (held file) text h.0 (inl (inr (out.0, out.1))))
-text_kind file held rose (Bytes text) s report h (inr run) =
-    form_kind file held rose text run.0 s report (returned run.0) h.0 h.1 run.1.0 run.1.1 refl
-    run.1.2
-
--- evaluations ---------------------------------------------------------------------------------
-
-eval_tells : (o : Outcome) → is_told (eval_status o) ≡ true
-unfolding is_told
-eval_tells outcome.More = refl
-eval_tells outcome.Undefined = refl
-eval_tells outcome.Deep = refl
-eval_tells (outcome.Done output result steps) = refl
-
--- an input that was read is not too large
 not_large_input : (input : Option (List ℕ)) (held : List ℕ → Option (List ℕ)) (rose : Type 0)
     (bytes : List ℕ) → IsInputRead input held rose (Bytes bytes) → IsLarge input held → ⊥
 not_large_input None held rose bytes h large = large
@@ -149,104 +113,55 @@ not_large_input (Some name) held rose bytes h large =
     let lt = of_read (λ (bs : List ℕ). most_input_bytes < length bs) (held name) bytes h.0 large in
     absurd (omega (arith, h.1, lt))
 
-evaluation_kind : (file : List ℕ) (input : Option (List ℕ)) (steps : ℕ)
-    (held : List ℕ → Option (List ℕ)) (rose : Type 0) (text bytes : List ℕ) (s : Status)
-    (report : List ℕ) → Holds (held file) text → length text ≤ most_source_bytes
-    → IsInputRead input held rose (Bytes bytes) → IsEvaluationOfText steps text bytes s report
-    → Kind (Some (Eval file input steps)) held rose s
-evaluation_kind file input steps held rose text bytes s report h few i (inl out) =
-    refused out.2.0 (inl (of_told IsBadSource (held file) text h (inr (out.0, out.1))))
-evaluation_kind file input steps held rose text bytes s report h few i (inr run) =
-    ran (ap is_told run.2.0 ∙ eval_tells (outcome_of run.0 bytes steps)) not_bad_request
-  where
-    not_bad_request : IsRefused (Some (Eval file input steps)) held → ⊥
-    not_bad_request (inl bad) =
-        not_bad_source text run.1.0 few run.1.1 run.1.2.0
-        (of_read IsBadSource (held file) text h bad)
-    not_bad_request (inr large) = not_large_input input held rose bytes i large
+-- answers ---------------------------------------------------------------------------------------
 
-input_kind : (file : List ℕ) (input : Option (List ℕ)) (steps : ℕ)
-    (held : List ℕ → Option (List ℕ)) (rose : Type 0) (text : List ℕ) (reading : Reading)
-    (s : Status) (report : List ℕ) → Holds (held file) text → length text ≤ most_source_bytes
-    → IsInputRead input held rose reading
-    → AfterReading reading (λ bytes. IsEvaluationOfText steps text bytes s report) s report
-    → Kind (Some (Eval file input steps)) held rose s
-input_kind file None steps held rose text Fault s report h few i a = absurd (cc)
-input_kind file (Some name) steps held rose text Fault s report h few i a = unread a.0 i
-input_kind file None steps held rose text TooLarge s report h few i a = absurd (cc)
-input_kind file (Some name) steps held rose text TooLarge s report h few i a =
-    refused a.0 (inr i)
-input_kind file input steps held rose text (Bytes bytes) s report h few i a =
-    evaluation_kind file input steps held rose text bytes s report h few i a
+module _ (q : Request) (held : List ℕ → Option (List ℕ)) (rose : Type 0) (s : Status)
+    (report : List ℕ) where
+  -- bytes that were worked with are not bad
+  not_bad : (bytes input : List ℕ) → length bytes ≤ limit_of q.form
+      → IsWorked q.work q.form q.most bytes input s report → IsBad q bytes → ⊥
+  not_bad bytes input few run (inl large) = absurd (omega (arith, few, large))
+  not_bad bytes input few run (inr bad) =
+      not_worked q.work q.form q.most bytes input s report bad.0 bad.1 run
 
-eval_kind : (file : List ℕ) (input : Option (List ℕ)) (steps : ℕ)
-    (held : List ℕ → Option (List ℕ)) (rose : Type 0) (reading : Reading) (s : Status)
-    (report : List ℕ) → IsRead (held file) rose most_source_bytes reading
-    → AfterReading reading (λ text. IsEvalAnswer input steps held rose text s report) s report
-    → Kind (Some (Eval file input steps)) held rose s
-eval_kind file input steps held rose Fault s report h a = unread a.0 h
-eval_kind file input steps held rose TooLarge s report h a =
-    refused a.0
-    (inl (if_large IsBadSource most_source_bytes (held file) (λ bytes lt. inl lt) h))
-eval_kind file input steps held rose (Bytes text) s report h a =
-    input_kind file input steps held rose text a.0 s report h.0 h.1 a.1 a.2
+  done_kind : (bytes input : List ℕ) → Holds (held q.file) bytes
+      → length bytes ≤ limit_of q.form → (IsLarge q.input held → ⊥)
+      → IsDone q.work q.form q.most bytes input s report → Kind (Some q) held rose s
+  done_kind bytes input h few small (inl out) =
+      refused out.2.0 (inl (of_told (IsBad q) (held q.file) bytes h (inr (out.0, out.1))))
+  done_kind bytes input h few small (inr run) =
+      ran (work_tells q.work q.form q.most bytes input s report run) not_refused
+    where
+      not_refused : IsRefused (Some q) held → ⊥
+      not_refused (inl bad) =
+          not_bad bytes input few run (of_read (IsBad q) (held q.file) bytes h bad)
+      not_refused (inr large) = small large
 
--- images --------------------------------------------------------------------------------------
+  input_kind : (bytes : List ℕ) (loaded : Loaded) → Holds (held q.file) bytes
+      → length bytes ≤ limit_of q.form → IsInputRead q.input held rose loaded
+      → AfterReading loaded (λ input. IsDone q.work q.form q.most bytes input s report) s report
+      → Kind (Some q) held rose s
+  input_kind bytes Fault h few i a = unread a.0 (input_fault q.input held rose i)
+  input_kind bytes TooLarge h few i a =
+      refused a.0 (inr (input_too_large q.input held rose i))
+  input_kind bytes (Bytes input) h few i a =
+      done_kind bytes input h few (not_large_input q.input held rose input i) a
 
-good_is_not_bad : (image : Image) (number : ℕ) (fault : CheckFault) → All IsGood image.blocks
-    → IsFirstBad image number fault → ⊥
-good_is_not_bad image number fault good bad =
-    let within : number < length image.blocks = slice_get_within image.blocks number bad.block
-    bad.is_block in
-    let is : get_or image.blocks number bad.block ≡ bad.block =
-    get_or_from_slice_get image.blocks number bad.block bad.block bad.is_block in
-    subst IsGood is (good number bad.block within) fault bad.has.holds
-
-not_bad : (bytes : List ℕ) (image : Image) → length bytes ≤ most_image_bytes
-    → ImageBytes image bytes
-    → All IsGood image.blocks → IsBadImage bytes → ⊥
-not_bad bytes image le spelled good (inl large) = absurd (omega arith)
-not_bad bytes image le spelled good (inr (inl fault)) = decoded.not_both image bytes fault.0 spelled fault.1
-not_bad bytes image le spelled good (inr (inr bad)) =
-    let same : bad.0 ≡ image = one_image bad.0 image bytes bad.1 spelled in
-    good_is_not_bad image bad.2.0 bad.2.1 good
-    (subst (λ i. IsFirstBad i bad.2.0 bad.2.1) same bad.2.2)
-
-image_run_kind : (file : List ℕ) (held : List ℕ
-    → Option (List ℕ)) (rose : Type 0) (bytes : List ℕ) (image : Image) (s : Status)
-    (report : List ℕ)
-    → Holds (held file) bytes → length bytes ≤ most_image_bytes → ImageBytes image bytes
-    → IsRunOfImage image s report
-    → Kind (Some (RunImage file)) held rose s
-image_run_kind file held rose bytes image s report h le spelled (inl run) =
-    ran (run_tells image.blocks image.bytes s report run.1)
-    (λ bad. not_bad bytes image le spelled run.0 (of_read IsBadImage (held file) bytes h bad))
-image_run_kind file held rose bytes image s report h le spelled (inr bad) =
-    refused bad.3.0 (of_told IsBadImage (held file) bytes h
-    (inr (inr (image, spelled, (bad.0, bad.1, bad.2)))))
-
-image_kind : (file : List ℕ) (held : List ℕ
-    → Option (List ℕ)) (rose : Type 0) (reading : Reading) (s : Status) (report : List ℕ)
-    → IsRead (held file) rose most_image_bytes reading
-    → AfterReading reading (λ bytes. IsRunOfBytes bytes s report) s report
-    → Kind (Some (RunImage file)) held rose s
-image_kind file held rose Fault s report h a = unread a.0 h
-image_kind file held rose TooLarge s report h a =
-    refused a.0 (if_large IsBadImage most_image_bytes (held file) (λ bytes lt. inl lt) h)
-image_kind file held rose (Bytes bytes) s report h (inl found) =
-    image_run_kind file held rose bytes found.0 s report h.0 h.1 found.1 found.2
-image_kind file held rose (Bytes bytes) s report h (inr fault) =
-    refused fault.2.0 (of_told IsBadImage (held file) bytes h.0 (inr (inl (fault.0, fault.1))))
+  asked_kind : (loaded : Loaded) → IsRead (held q.file) rose (limit_of q.form) loaded
+      → AfterReading loaded (λ bytes. IsAnswerBehind q held rose bytes s report) s report
+      → Kind (Some q) held rose s
+  asked_kind Fault h a = unread a.0 h
+  asked_kind TooLarge h a =
+      refused a.0
+      (inl (if_large (IsBad q) (limit_of q.form) (held q.file) (λ bytes lt. inl lt) h))
+  asked_kind (Bytes bytes) h a = input_kind bytes a.0 h.0 h.1 a.1 a.2
 
 -- every answer is of one of the kinds
 pub kind : (q : Option Request) (held : List ℕ
     → Option (List ℕ)) (rose : Type 0) (s : Status) (report : List ℕ)
     → IsAnswer q held rose s report → Kind q held rose s
 kind None held rose s report a = usage a.0 refl
-kind (Some (Run file)) held rose s report a = text_kind file held rose a.0 s report a.1 a.2
-kind (Some (RunImage file)) held rose s report a = image_kind file held rose a.0 s report a.1 a.2
-kind (Some (Eval file input steps)) held rose s report a =
-    eval_kind file input steps held rose a.0 s report a.1 a.2
+kind (Some q) held rose s report a = asked_kind q held rose s report a.0 a.1 a.2
 
 -- the causes ----------------------------------------------------------------------------------
 

@@ -5,6 +5,7 @@ pub mod Report
 pub mod Refusal
 pub mod Answer
 pub mod Trees
+pub mod Checked
 pub mod Refused
 pub mod Table
 pub mod Number

@@ -1,8 +1,11 @@
 -- What reading a file comes to.
 use Rattle.std.specs.Prelude.{◌≡◌, ℕ, ◌<◌, ◌≤◌, List, [], Option, None, Some, IfSome, length}
 use Rattle.trips_outside.specs.Outside.{Holds}
-use Rattle.trips_run.specs.declared.reading.Reading.{Reading}
-use Rattle.trips_run.specs.declared.reading.Reading.TheVariants.{Fault, TooLarge, Bytes}
+use Rattle.trips_run.specs.declared.command_line.FileForm.{FileForm}
+use Rattle.trips_run.specs.declared.command_line.FileForm.TheVariants.{Source, Image}
+use Rattle.trips_run.specs.declared.loading.Loaded.{Loaded}
+use Rattle.trips_run.specs.declared.loading.Loaded.TheVariants.{Fault, TooLarge, Bytes}
+use Rattle.trips_run.specs.Request.{Request}
 
 -- how many bytes a file of C may have
 unfoldable pub most_source_bytes : ℕ
@@ -16,18 +19,29 @@ most_input_bytes = 1048576
 unfoldable pub most_image_bytes : ℕ
 most_image_bytes = 71303188
 
+-- how many bytes a file may have, by what it is read as
+abbrev pub limit_of : FileForm → ℕ
+limit_of Source = most_source_bytes
+limit_of Image = most_image_bytes
+
 -- A fault comes only where the count of the files' faults rose. The bytes are those that are told,
 -- if they are told, and within the limit.
-abbrev pub IsRead : Option (List ℕ) → Type 0 → ℕ → Reading → Type 0
+abbrev pub IsRead : Option (List ℕ) → Type 0 → ℕ → Loaded → Type 0
 IsRead held rose limit Fault = rose
 IsRead held rose limit TooLarge = IfSome held (λ bytes. limit < length bytes)
 IsRead held rose limit (Bytes bytes) = Holds held bytes × (length bytes ≤ limit)
 
 -- the same of the input's file; where none is named the input is empty
 abbrev pub IsInputRead :
-    Option (List ℕ) → (List ℕ → Option (List ℕ)) → Type 0 → Reading → Type 0
-IsInputRead None held rose reading = reading ≡ Bytes []
-IsInputRead (Some name) held rose reading = IsRead (held name) rose most_input_bytes reading
+    Option (List ℕ) → (List ℕ → Option (List ℕ)) → Type 0 → Loaded → Type 0
+IsInputRead None held rose loaded = loaded ≡ Bytes []
+IsInputRead (Some name) held rose loaded = IsRead (held name) rose most_input_bytes loaded
+
+-- what was loaded is within the limit
+abbrev pub IsWithin : ℕ → Loaded → Type 0
+IsWithin limit Fault = Unit {0}
+IsWithin limit TooLarge = Unit {0}
+IsWithin limit (Bytes bytes) = length bytes ≤ limit
 
 -- the input is told, and is this
 abbrev pub IsInput : Option (List ℕ) → (List ℕ → Option (List ℕ)) → List ℕ → Type 0
@@ -39,8 +53,10 @@ abbrev pub HoldsInput : Option (List ℕ) → (List ℕ → Option (List ℕ)) �
 HoldsInput None held bytes = bytes ≡ []
 HoldsInput (Some name) held bytes = Holds (held name) bytes
 
--- what was read is within the limit
-abbrev pub IsWithin : ℕ → Reading → Type 0
-IsWithin limit Fault = Unit {0}
-IsWithin limit TooLarge = Unit {0}
-IsWithin limit (Bytes bytes) = length bytes ≤ limit
+-- The request's file and its input are told, and within their limits: these are their bytes.
+pub record IsTold (q : Request) (held : List ℕ → Option (List ℕ)) (bytes input : List ℕ)
+    : Type 0 where
+  pub told : held q.file ≡ Some bytes
+  pub few : length bytes ≤ limit_of q.form
+  pub told_input : IsInput q.input held input
+  pub few_input : length input ≤ most_input_bytes

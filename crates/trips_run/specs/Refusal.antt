@@ -1,6 +1,6 @@
 -- The texts of refusals.
 use Rattle.std.specs.Prelude.{ℕ, List, [], ◌++◌, codes, decimal}
-use Rattle.text_pieces.specs.Spots.{spot_text}
+use Rattle.isa_table.specs.Spots.{spot_text}
 use Rattle.c_lex.specs.declared.fault.LexFault.{LexFault}
 use Rattle.c_lex.specs.declared.fault.LexFault.TheVariants as lexical
 use Rattle.c_parse.specs.declared.unit.ParseFault.{ParseFault}

@@ -1,5 +1,6 @@
--- Which requests are refused, as far as what they read is told: a row for each command.
-use Rattle.std.specs.Prelude.{ℕ, ◌<◌, List, Option, None, Some, IfSome, IsSomeAnd, length, ◌⊎◌}
+-- Which requests are refused, and with which reports.
+use Rattle.std.specs.Prelude.{◌≡◌, ℕ, ◌<◌, List, Option, None, Some, IfSome, IsSomeAnd, length}
+use Rattle.std.specs.Prelude.{◌⊎◌}
 use Rattle.trips_isa.specs.declared.block.Image.{Image}
 use Rattle.c_front.specs.declared.refusal.Refusal.{Refusal}
 use Rattle.c_front.specs.Fronts as fronts
@@ -8,25 +9,47 @@ use Rattle.block_image.specs.Spelling.{ImageBytes}
 use Rattle.block_image.specs.FirstFault.{FirstFault}
 use Rattle.block_check.specs.declared.fault.CheckFault.{CheckFault}
 use Rattle.block_check.specs.Images.{IsFirstBad}
-use Rattle.trips_run.specs.Request.{Request, Run, RunImage, Eval}
-use Rattle.trips_run.specs.Read.{most_source_bytes, most_input_bytes, most_image_bytes}
+use Rattle.trips_run.specs.declared.command_line.Work.{Work}
+use Rattle.trips_run.specs.declared.command_line.Work.TheVariants.{Run, Evaluate}
+use Rattle.trips_run.specs.declared.command_line.FileForm.{FileForm}
+use Rattle.trips_run.specs.declared.command_line.FileForm.TheVariants as form
+use Rattle.trips_run.specs.Request.{Request}
+use Rattle.trips_run.specs.Read.{most_input_bytes, limit_of}
 use Rattle.trips_run.specs.Source.{IsNotBuilt}
+use Rattle.trips_run.specs.Refusal.{form_text, front_refusal, image_refusal, check_refusal}
 
--- too many bytes, or a text that a stage refuses
-abbrev pub IsBadSource : List ℕ → Type 0
-IsBadSource text =
-    (most_source_bytes < length text) ⊎ ((r : Refusal) × fronts.IsRefused text r)
+-- a stage of the front end refuses the text, and this is its report
+abbrev pub IsRefusedByFront : List ℕ → List ℕ → Type 0
+IsRefusedByFront text report =
+    (r : Refusal) × fronts.IsRefused text r × (report ≡ front_refusal r)
 
--- the same, or a program that is not built
-abbrev pub IsNoSource : List ℕ → Type 0
-IsNoSource text = IsBadSource text ⊎ IsNotBuilt text
+-- the text is of a program that is not built
+abbrev pub IsRefusedByForm : List ℕ → List ℕ → Type 0
+IsRefusedByForm text report = IsNotBuilt text × (report ≡ form_text)
 
--- too many bytes, bytes that are no image, or an image with a block that is not good
-abbrev pub IsBadImage : List ℕ → Type 0
-IsBadImage bytes = (most_image_bytes < length bytes)
-    ⊎ (((fault : ImageFault) × FirstFault bytes fault)
-    ⊎ ((image : Image) × ImageBytes image bytes
-    × ((number : ℕ) × (fault : CheckFault) × IsFirstBad image number fault)))
+-- the bytes are no image, and go wrong first where the report says
+abbrev pub IsNoImage : List ℕ → List ℕ → Type 0
+IsNoImage bytes report =
+    (fault : ImageFault) × FirstFault bytes fault × (report ≡ image_refusal fault)
+
+-- the bytes are an image, and the report names its first block that is not good
+abbrev pub IsBadImage : List ℕ → List ℕ → Type 0
+IsBadImage bytes report = (image : Image) × (number : ℕ) × (fault : CheckFault)
+    × ImageBytes image bytes × IsFirstBad image number fault
+    × (report ≡ check_refusal number fault)
+
+-- The bytes of a file are refused by what is done with it, with this report: a row for each command
+-- and each form of its file.
+abbrev pub IsRefusedAs : Work → FileForm → List ℕ → List ℕ → Type 0
+IsRefusedAs Evaluate how text report = IsRefusedByFront text report
+IsRefusedAs Run form.Source text report =
+    IsRefusedByFront text report ⊎ IsRefusedByForm text report
+IsRefusedAs Run form.Image bytes report = IsNoImage bytes report ⊎ IsBadImage bytes report
+
+-- the file has too many bytes, or they are refused
+abbrev pub IsBad : Request → List ℕ → Type 0
+IsBad q bytes = (limit_of q.form < length bytes)
+    ⊎ ((report : List ℕ) × IsRefusedAs q.work q.form bytes report)
 
 -- an input that is named has too many bytes, as far as it is told
 abbrev pub MayBeLarge : Option (List ℕ) → (List ℕ → Option (List ℕ)) → Type 0
@@ -41,15 +64,9 @@ IsLarge (Some name) held = IsSomeAnd (held name) (λ bytes. most_input_bytes < l
 -- the request is refused only where this holds
 abbrev pub MayBeRefused : Option Request → (List ℕ → Option (List ℕ)) → Type 0
 MayBeRefused None held = ⊥
-MayBeRefused (Some (Run file)) held = IfSome (held file) IsNoSource
-MayBeRefused (Some (RunImage file)) held = IfSome (held file) IsBadImage
-MayBeRefused (Some (Eval file input steps)) held =
-    IfSome (held file) IsBadSource ⊎ MayBeLarge input held
+MayBeRefused (Some q) held = IfSome (held q.file) (IsBad q) ⊎ MayBeLarge q.input held
 
 -- and it is refused where this holds
 abbrev pub IsRefused : Option Request → (List ℕ → Option (List ℕ)) → Type 0
 IsRefused None held = ⊥
-IsRefused (Some (Run file)) held = IsSomeAnd (held file) IsNoSource
-IsRefused (Some (RunImage file)) held = IsSomeAnd (held file) IsBadImage
-IsRefused (Some (Eval file input steps)) held =
-    IsSomeAnd (held file) IsBadSource ⊎ IsLarge input held
+IsRefused (Some q) held = IsSomeAnd (held q.file) (IsBad q) ⊎ IsLarge q.input held

@@ -10,11 +10,13 @@ use Rattle.trips_isa.specs.declared.run.Stepped.{Stepped}
 use Rattle.trips_isa.specs.declared.run.Stepped.TheVariants as stepped
 use Rattle.trips_isa.specs.Machine.{State}
 
--- how a run ended, of which so many steps were made as the budget has
-abbrev pub ending_of : Stepped → Ending
-ending_of stepped.Went = ending.Budget
-ending_of stepped.Ended = ending.Ended
-ending_of stepped.StackFull = ending.StackFull
+-- how a run ended, of which so many steps were made as the budget has, or fewer: a trap leaves the
+-- block that faults as the next one
+abbrev pub ending_of : Stepped → ℕ → Ending
+ending_of stepped.Went next = ending.Budget
+ending_of stepped.Ended next = ending.Ended
+ending_of stepped.StackFull next = ending.StackFull
+ending_of (stepped.Trap cause) next = ending.Trap next cause
 
 -- a word as a signed number in decimal digits
 abbrev pub signed : ℕ → List ℕ

@@ -4,41 +4,65 @@ use Rattle.std.specs.Prelude.{None, Some, option_map, option_copied}
 use Rattle.std.specs.Prelude.{codes, nat_eq, bytes_eq, string_bytes}
 use Rattle.std.specs.List.{starts_with, ends_with}
 use Rattle.trips_run.specs.Options.{Options, options_of}
-use Rattle.trips_run.specs.declared.words.Asked.{Asked}
-use Rattle.trips_run.specs.declared.words.Asked.TheVariants as code
+use Rattle.trips_run.specs.declared.command_line.Asked.{Asked}
+use Rattle.trips_run.specs.declared.command_line.Work.{Work}
+use Rattle.trips_run.specs.declared.command_line.Work.TheVariants.{Run, Evaluate}
+use Rattle.trips_run.specs.declared.command_line.FileForm.{FileForm}
+use Rattle.trips_run.specs.declared.command_line.FileForm.TheVariants.{Source, Image}
 
--- A request, with the name of its file. An evaluation has the name of its input, if it has one, and
--- how many steps it may take.
-pub data Request : Type 0 where
-  Run : List ℕ → Request
-  RunImage : List ℕ → Request
-  Eval : (file : List ℕ) (input : Option (List ℕ)) (steps : ℕ) → Request
+-- A request of any command that runs: what is done, with which file, read as what, with the input
+-- of which name, if it has one, and how many blocks or steps it may take.
+pub record Request : Type 0 where
+  pub work : Work
+  pub file : List ℕ
+  pub form : FileForm
+  pub input : Option (List ℕ)
+  pub most : ℕ
 
 -- A dash begins an option, and target text is not read yet.
 abbrev pub is_no_file : List ℕ → Bool
 is_no_file word = starts_with nat_eq word (codes "-") || ends_with nat_eq word (codes ".tasl")
 
--- `run FILE`: an image where the name ends so, else C
-abbrev pub run_of : List ℕ → Option Request
-run_of file =
-    if is_no_file file then None
-    else if ends_with nat_eq file (codes ".img") then Some (RunImage file) else Some (Run file)
+-- what `run` reads a file as: an image where its name ends so, else C
+abbrev pub form_of : List ℕ → FileForm
+form_of file = if ends_with nat_eq file (codes ".img") then Image else Source
 
--- `run FILE`, and nothing else
+-- how many blocks or steps are taken where none are asked for
+abbrev pub most_of : Option ℕ → ℕ
+most_of None = 1000000
+most_of (Some count) = count
+
+-- the run of a file, and the evaluation of one
+abbrev pub run_of : List ℕ → Options → Request
+run_of file options = record {
+  work = Run;
+  file = file;
+  form = form_of file;
+  input = options.input;
+  most = most_of options.count;
+}
+
+abbrev pub evaluation_of : List ℕ → Options → Request
+evaluation_of file options = record {
+  work = Evaluate;
+  file = file;
+  form = Source;
+  input = options.input;
+  most = most_of options.count;
+}
+
+-- `run FILE`, and options
 abbrev pub run_with : List ℕ → List (List ℕ) → Option Request
-run_with file [] = run_of file
-run_with file words = None
-
--- how many steps are taken where none are asked for
-abbrev pub steps_of : Option ℕ → ℕ
-steps_of None = 1000000
-steps_of (Some steps) = steps
+run_with file words =
+    if is_no_file file then None
+    else option_map (λ (options : Options). run_of file options)
+    (options_of (codes "--blocks") words)
 
 -- `eval FILE`, and options
 abbrev pub eval_with : List ℕ → List (List ℕ) → Option Request
 eval_with file words =
     if starts_with nat_eq file (codes "-") then None
-    else option_map (λ (options : Options). Eval file options.input (steps_of options.count))
+    else option_map (λ (options : Options). evaluation_of file options)
     (options_of (codes "--steps") words)
 
 -- a command, its file and what follows
@@ -57,6 +81,10 @@ request_of words = asked (map (λ word. string_bytes word) words)
 
 -- a request of the code
 abbrev pub request_seen : Asked → Request
-request_seen (code.Run file) = Run file.now
-request_seen (code.RunImage file) = RunImage file.now
-request_seen (code.Eval file input steps) = Eval file.now (option_copied input) steps
+request_seen request = record {
+  work = request.work;
+  file = request.file.now;
+  form = request.form;
+  input = option_copied request.input;
+  most = request.most;
+}

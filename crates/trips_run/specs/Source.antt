@@ -1,5 +1,5 @@
 -- The programs that `run` builds today, by their trees, and their blocks.
-use Rattle.std.specs.Prelude.{◌≡◌, ℕ, ◌≤◌, nat_lt, pos, if◌then◌else◌, List, [], ◌∷◌, length}
+use Rattle.std.specs.Prelude.{◌≡◌, ℕ, nat_lt, pos, if◌then◌else◌, List, [], ◌∷◌}
 use Rattle.std.specs.Prelude.{Option, None, Some, codes, bytes_eq, replicate}
 use Rattle.c_tree.specs.declared.token.Kind.{Kind}
 use Rattle.c_tree.specs.declared.token.Kind.TheVariants.{Int}
@@ -14,14 +14,13 @@ use Rattle.c_tree.specs.declared.tree.Program.{Program}
 use Rattle.c_tree.specs.declared.tree.Top.{Top}
 use Rattle.c_tree.specs.declared.tree.TopNode.{TopNode}
 use Rattle.c_tree.specs.declared.tree.TopNode.TheVariants.{Func}
-use Rattle.c_type.specs.Programs.{program_fault}
-use Rattle.c_front.specs.Fronts.{HasTree}
+use Rattle.c_tree.specs.declared.typed.TypedProgram.{TypedProgram}
+use Rattle.c_front.specs.Fronts.{HasTree, HasTypes}
 use Rattle.trips_isa.specs.declared.block.Block.{Block}
 use Rattle.trips_isa.specs.declared.block.Inst.{Inst}
 use Rattle.trips_isa.specs.declared.block.Sense.TheVariants.{Always}
 use Rattle.trips_isa.specs.declared.block.Spot.TheVariants.{Write}
 use Rattle.trips_isa.specs.declared.op.Op.TheVariants.{Genu, Scall}
-use Rattle.trips_run.specs.Read.{most_source_bytes}
 
 -- The number that a tree returns: none where the tree is not one function `main` of type int(void)
 -- whose body is one `return` of one number of type int, below 2^16, in no group.
@@ -68,19 +67,18 @@ only_main items = None
 abbrev pub returned : Program → Option ℕ
 returned tree = only_main tree.items
 
--- The text is of a program that returns n: it is within the limit, and its tree has types.
+-- the text is of a program that returns n
 pub record IsReturn (text : List ℕ) (n : ℕ) : Type 0 where
-  pub few : length text ≤ most_source_bytes
   pub tree : Program
   pub has_tree : HasTree text tree
-  pub has_types : program_fault tree ≡ None
   pub returns : returned tree ≡ Some n
 
--- the text is of a program that is not built
+-- the text is of a program that is accepted, and not built
 pub record IsNotBuilt (text : List ℕ) : Type 0 where
   pub tree : Program
+  pub program : TypedProgram
   pub has_tree : HasTree text tree
-  pub has_types : program_fault tree ≡ None
+  pub has_types : HasTypes tree program
   pub returns : returned tree ≡ None
 
 -- a constant for a write

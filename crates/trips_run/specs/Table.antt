@@ -1,14 +1,16 @@
 -- What a call of the program answered and wrote, status by status.
-use Rattle.std.specs.Prelude.{◌≡◌, ℕ, ◌≤◌, List, [], ◌∷◌, ◌++◌, length, Option, Some, codes}
-use Rattle.std.specs.Prelude.{decimal, ◌⊎◌}
-use Rattle.c_tree.specs.declared.typed.TypedProgram.{TypedProgram}
-use Rattle.c_front.specs.Fronts.{IsAccepted}
+use Rattle.std.specs.Prelude.{◌≡◌, ℕ, ◌<◌, ◌≤◌, List, [], ◌∷◌, ◌++◌, length, Option, Some, codes}
+use Rattle.std.specs.Prelude.{decimal, IsSomeAnd, ◌⊎◌}
 use Rattle.trips_outside.specs.Outside.{Appended, AppendedPart, Holds}
-use Rattle.trips_run.specs.Request.{Request, Eval}
-use Rattle.trips_run.specs.Read.{IsInput, HoldsInput, most_source_bytes, most_input_bytes}
-use Rattle.trips_run.specs.Answer.{IsAnswer, eval_status, outcome_of}
+use Rattle.trips_run.specs.declared.command_line.Work.{Work}
+use Rattle.trips_run.specs.declared.command_line.Work.TheVariants.{Evaluate}
+use Rattle.trips_run.specs.declared.command_line.FileForm.{FileForm}
 use Rattle.trips_run.specs.declared.status.Status.{Status}
 use Rattle.trips_run.specs.declared.status.Status.TheVariants as status
+use Rattle.trips_run.specs.Request.{Request}
+use Rattle.trips_run.specs.Read.{HoldsInput, IsTold, limit_of}
+use Rattle.trips_run.specs.Refused.{IsLarge}
+use Rattle.trips_run.specs.Answer.{IsWorked, IsAnswer}
 
 -- Some answer that holds was cut off: the first part of its report was written.
 abbrev pub IsCutOff : Option Request → (List ℕ → Option (List ℕ)) → Type 0
@@ -35,33 +37,40 @@ abbrev pub IsOneOf : Status → List Status → Type 0
 IsOneOf s [] = ⊥
 IsOneOf s (one ∷ others) = (s ≡ one) ⊎ IsOneOf s others
 
--- The request asks for so many steps of a program on an input: the text is accepted as this
--- program, and it and the input are told and within their limits.
-pub record AsksFor (request : Option Request) (held : List ℕ → Option (List ℕ))
-    (program : TypedProgram) (bytes : List ℕ) (steps : ℕ) : Type 0 where
-  pub file : List ℕ
-  pub input : Option (List ℕ)
-  pub asked : request ≡ Some (Eval file input steps)
-  pub text : List ℕ
-  pub told : held file ≡ Some text
-  pub few : length text ≤ most_source_bytes
-  pub accepted : IsAccepted text program
-  pub told_input : IsInput input held bytes
-  pub few_bytes : length bytes ≤ most_input_bytes
+-- The request asks for this work on a file that is read so, within so many blocks or steps: the
+-- file and the input are told, are these, and are within their limits.
+pub record Asks (request : Option Request) (held : List ℕ → Option (List ℕ)) (work : Work)
+    (how : FileForm) (most : ℕ) (bytes input : List ℕ) : Type 0 where
+  pub q : Request
+  pub asked : request ≡ Some q
+  pub is_work : q.work ≡ work
+  pub is_form : q.form ≡ how
+  pub is_most : q.most ≡ most
+  pub told : IsTold q held bytes input
 
--- An evaluation ended with this status: the text and the input are those that the names hold, as
--- far as they are told, the text is accepted, and the status is that of the definition's outcome.
-pub record EndsAs (held : List ℕ → Option (List ℕ)) (file : List ℕ) (input : Option (List ℕ))
-    (steps : ℕ) (s : Status) : Type 0 where
-  pub text : List ℕ
+-- the request's file is told, and is longer than its limit
+abbrev pub HasLargeFile : Request → (List ℕ → Option (List ℕ)) → Type 0
+HasLargeFile q held = IsSomeAnd (held q.file) (λ bytes. limit_of q.form < length bytes)
+
+-- the file is told and within its limit, and the input is told and longer than its own
+abbrev pub HasLargeInput : Request → (List ℕ → Option (List ℕ)) → Type 0
+HasLargeInput q held = IsSomeAnd (held q.file) (λ bytes. length bytes ≤ limit_of q.form)
+    × IsLarge q.input held
+
+-- A request's work ended with this status: the file and the input are those that the names hold, as
+-- far as they are told, and the status and some report are those of the work with them.
+pub record EndsAs (held : List ℕ → Option (List ℕ)) (q : Request) (s : Status) : Type 0 where
   pub bytes : List ℕ
-  pub program : TypedProgram
-  pub holds : Holds (held file) text
-  pub holds_input : HoldsInput input held bytes
-  pub accepted : IsAccepted text program
-  pub is : s ≡ eval_status (outcome_of program bytes steps)
+  pub input : List ℕ
+  pub report : List ℕ
+  pub holds : Holds (held q.file) bytes
+  pub holds_input : HoldsInput q.input held input
+  pub worked : IsWorked q.work q.form q.most bytes input s report
 
 -- the request is an evaluation that ended so
-abbrev pub EvalEnds : Option Request → (List ℕ → Option (List ℕ)) → Status → Type 0
-EvalEnds (Some (Eval file input steps)) held s = EndsAs held file input steps s
-EvalEnds request held s = ⊥
+pub record EvalEnds (request : Option Request) (held : List ℕ → Option (List ℕ)) (s : Status)
+    : Type 0 where
+  pub q : Request
+  pub asked : request ≡ Some q
+  pub is_work : q.work ≡ Evaluate
+  pub ends : EndsAs held q s

@@ -1,48 +1,52 @@
+//! `run` on the bytes of an image.
+
 ghost use Rattle.std.specs.Prelude.{◌≡◌, IfOk};
 ghost use Rattle.trips_isa.specs.Images.{FitsImage};
-ghost use Rattle.trips_run.specs.Answer.{IsRunOfImage, IsRunOfBytes, AfterReading};
+ghost use Rattle.trips_run.specs.declared.command_line.Work.TheVariants.{Run};
+ghost use Rattle.trips_run.specs.declared.command_line.FileForm.TheVariants as form;
+ghost use Rattle.trips_run.specs.Answer.{IsDone};
+ghost use Rattle.trips_run.specs.Checked.{IsRunOfChecked};
 
-use crate::answer::{Answer, refused, too_large, unread};
-use crate::reading::Reading;
+use crate::answer::{Answer, refused};
 use crate::refusals::{check_text, image_text};
 use crate::running::run_image;
+use base::Items;
 use block_check::{CheckedImage, ImageRefusal};
 use block_image::{ImageFault, decode};
 use std::alloc::{AllocError, Global};
 use trips_isa::Image;
 
 // Runs the image where its blocks are good.
-fn checked_answer(alloc: Global, image: Image) -> Result<Answer, AllocError>
+fn checked_answer(
+    alloc: Global,
+    image: Image,
+    input: Items<u8>,
+    blocks: u32,
+) -> Result<Answer, AllocError>
     requires { FitsImage image }
-    ensures { IfOk result (λ answer. IsRunOfImage image answer.status answer.report.items) }
+    ensures { IfOk result (λ answer.
+        IsRunOfChecked image blocks input answer.status answer.report.items) }
 {
     match CheckedImage::make(alloc, image) {
-        Ok(checked) => run_image(alloc, &checked),
+        Ok(checked) => run_image(alloc, &checked, input, blocks),
         Err(ImageRefusal::Bad(number, fault)) => Ok(refused(check_text(alloc, number, fault)?)),
         Err(ImageRefusal::Memory) => Err(AllocError),
     }
 }
 
-// What `run` answers for the bytes of a file.
-fn bytes_answer(alloc: Global, bytes: &[u8]) -> Result<Answer, AllocError>
-    ensures { IfOk result (λ answer. IsRunOfBytes bytes.now answer.status answer.report.items) }
+/// What `run` answers for the bytes of an image's file and an input.
+pub fn bytes_answer(
+    alloc: Global,
+    bytes: &[u8],
+    input: Items<u8>,
+    blocks: u32,
+) -> Result<Answer, AllocError>
+    ensures { IfOk result (λ answer. IsDone Run form.Image blocks bytes.now input answer.status
+        answer.report.items) }
 {
     match decode(alloc, bytes) {
-        Ok(image) => checked_answer(alloc, image),
+        Ok(image) => checked_answer(alloc, image, input, blocks),
         Err(ImageFault::Memory) => Err(AllocError),
         Err(fault) => Ok(refused(image_text(alloc, fault)?)),
-    }
-}
-
-/// What `run` answers for what reading an image's file came to.
-pub fn image_answer(alloc: Global, reading: &Reading) -> Result<Answer, AllocError>
-    ensures { IfOk result (λ answer. AfterReading reading.now
-        (λ bytes. IsRunOfBytes bytes answer.status answer.report.items)
-        answer.status answer.report.items) }
-{
-    match reading {
-        Reading::Fault => unread(alloc),
-        Reading::TooLarge => too_large(alloc),
-        Reading::Bytes(bytes) => bytes_answer(alloc, bytes.as_slice()),
     }
 }

@@ -6,13 +6,14 @@
 #![tactic(auto)]
 
 mod answer;
-mod answers;
+mod asked_answer;
+mod command_line;
 mod eval_answer;
 mod image;
 mod image_answer;
+mod loading;
 mod number;
 mod options;
-mod reading;
 mod refusals;
 mod report;
 mod running;
@@ -20,22 +21,6 @@ mod source;
 mod status;
 mod text_answer;
 mod top;
-mod words;
 
 pub use status::Status;
 pub use top::trips_run;
-
-#[cfg(test)]
-mod eval_tests;
-#[cfg(test)]
-mod front_tests;
-#[cfg(test)]
-mod harness;
-#[cfg(test)]
-mod image_tests;
-#[cfg(test)]
-mod option_tests;
-#[cfg(test)]
-mod tests;
-#[cfg(test)]
-mod token_tests;

@@ -1,5 +1,5 @@
 ghost use Rattle.std.specs.Prelude.{◌≡◌, ◌≢◌, ◌++◌, OnOk, IfOk, codes, decimal};
-ghost use Rattle.text_pieces.specs.Spots.{spot_text};
+ghost use Rattle.isa_table.specs.Spots.{spot_text};
 ghost use Rattle.trips_run.specs.Refusal.{at_line, lex_refusal, parse_refusal, type_refusal};
 ghost use Rattle.trips_run.specs.Refusal.{image_refusal, fault_text, check_refusal};
 
@@ -9,7 +9,7 @@ use c_lex::LexFault;
 use c_parse::ParseFault;
 use c_type::TypeFault;
 use std::alloc::{AllocError, Global};
-use text_pieces::{put_number, put_spot};
+use isa_table::{put_number, put_spot};
 use trips_isa::Spot;
 
 // A fault's name and its line.

@@ -1,18 +1,18 @@
-ghost use Rattle.std.specs.Prelude.{◌≡◌, ◌<◌, ◌≤◌, ◌+◌, [], length, IfOk};
+//! The run of a checked image.
+
+ghost use Rattle.std.specs.Prelude.{◌≡◌, ◌<◌, ◌≤◌, ◌+◌, length, IfOk};
 ghost use Rattle.trips_isa.specs.Machine.{runs};
 ghost use Rattle.trips_run.specs.Report.{ending_of};
-ghost use Rattle.trips_run.specs.Answer.{block_budget, status_of, IsRunBy};
+ghost use Rattle.trips_run.specs.Answer.{status_of, IsRunBy};
 
 use crate::answer::Answer;
 use crate::report::run_text;
 use crate::status::Status;
+use base::Items;
 use block_atomic::Arch;
 use block_check::CheckedImage;
 use std::alloc::{AllocError, Global};
 use trips_isa::{Ending, Stepped};
-
-/// How many blocks a run may take.
-const BLOCK_BUDGET: u32 = 1_000_000;
 
 // The status that tells an ending.
 fn status_for(ending: Ending) -> Status
@@ -31,28 +31,41 @@ fn run_blocks(arch: &mut Arch, image: &CheckedImage, budget: u32) -> Ending
     requires next { arch.old.state.next < length image.now.blocks }
     requires room { length arch.old.state.trace + budget ≤ arch.old.budget }
     ensures state { arch.new.state ≡ (runs image.now.blocks arch.old.state budget).0 }
-    ensures ending { result ≡ ending_of (runs image.now.blocks arch.old.state budget).1 }
+    ensures ending { result ≡ ending_of (runs image.now.blocks arch.old.state budget).1
+        (runs image.now.blocks arch.old.state budget).0.next }
 {
     for turn in 0..budget {
         match arch.step(image) {
             Stepped::Went => {}
             Stepped::Ended => return Ending::Ended,
             Stepped::StackFull => return Ending::StackFull,
+            Stepped::Trap(cause) => {
+                return Ending::Trap {
+                    block: arch.next(),
+                    cause,
+                };
+            }
         }
     }
     Ending::Budget
 }
 
-/// Runs an image without input, and tells how its run ended. Want of memory is the only error.
-pub fn run_image(alloc: Global, image: &CheckedImage) -> Result<Answer, AllocError>
+/// Runs an image on an input, for so many blocks, and tells how its run ended. Want of memory is the
+/// only error.
+pub fn run_image(
+    alloc: Global,
+    image: &CheckedImage,
+    input: Items<u8>,
+    blocks: u32,
+) -> Result<Answer, AllocError>
     requires { 0 < length image.now.blocks }
-    ensures { IfOk result (λ answer. IsRunBy image.now.blocks image.now.bytes [] block_budget
+    ensures { IfOk result (λ answer. IsRunBy image.now.blocks image.now.bytes input blocks
         answer.status answer.report.items) }
 {
-    let Ok(mut arch) = Arch::make(alloc, image, Vec::new(alloc), BLOCK_BUDGET) else {
+    let Ok(mut arch) = Arch::make(alloc, image, input.into_vec(), blocks) else {
         return Err(AllocError);
     };
-    let ending = run_blocks(&mut arch, image, BLOCK_BUDGET);
+    let ending = run_blocks(&mut arch, image, blocks);
     let report = run_text(alloc, ending, &arch)?;
     Ok(Answer {
         status: status_for(ending),

@@ -1,4 +1,4 @@
-/// How the program ended, by its exit status. `Trap` is answered by nothing yet.
+/// How the program ended, by its exit status.
 #[derive(Clone, Copy, Debug, PartialEq, Eq)]
 pub enum Status {
     Ended = 0,

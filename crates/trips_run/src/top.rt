@@ -1,15 +1,25 @@
-ghost use Rattle.std.specs.Prelude.{◌≡◌, ◌≢◌, ◌≤◌, ◌∷◌, [], List, ℕ, Option, None, Some};
+ghost use Rattle.std.specs.Prelude.{◌≡◌, ◌≢◌, ◌≤◌, ◌∷◌, [], All, List, ℕ, None, Some};
+ghost use Rattle.trips_isa.specs.declared.block.Image.{Image};
+ghost use Rattle.trips_isa.specs.Machine.{runs, start};
 ghost use Rattle.c_tree.specs.declared.typed.TypedProgram.{TypedProgram};
+ghost use Rattle.c_front.specs.Fronts.{IsAccepted};
+ghost use Rattle.block_image.specs.Spelling.{ImageBytes};
+ghost use Rattle.block_check.specs.Faults.{IsGood};
 ghost use Rattle.trips_outside.specs.Outside.{Rose, Appended};
-ghost use Rattle.trips_run.specs.Request.{Run, Eval, request_of};
+ghost use Rattle.trips_run.specs.declared.command_line.Work.{Work};
+ghost use Rattle.trips_run.specs.declared.command_line.Work.TheVariants.{Run, Evaluate};
+ghost use Rattle.trips_run.specs.declared.command_line.FileForm.{FileForm};
+ghost use Rattle.trips_run.specs.declared.command_line.FileForm.TheVariants as form;
+ghost use Rattle.trips_run.specs.Request.{Request, request_of};
 ghost use Rattle.trips_run.specs.Source.{IsReturn};
-ghost use Rattle.trips_run.specs.Refused.{MayBeRefused, IsRefused};
-ghost use Rattle.trips_run.specs.Answer.{eval_status, outcome_of};
-ghost use Rattle.trips_run.specs.Report.{eval_report};
-ghost use Rattle.trips_run.specs.Table.{IsAnswered, IsCutOff, IsOneOf, return_report};
-ghost use Rattle.trips_run.specs.Table.{AsksFor, EvalEnds};
+ghost use Rattle.trips_run.specs.Refusal.{too_large_text};
+ghost use Rattle.trips_run.specs.Refused.{IsRefusedAs, MayBeRefused, IsRefused};
+ghost use Rattle.trips_run.specs.Answer.{status_of, eval_status, outcome_of};
+ghost use Rattle.trips_run.specs.Report.{ending_of, run_report, eval_report};
+ghost use Rattle.trips_run.specs.Table.{IsAnswered, IsCutOff, IsOneOf, return_report, Asks};
+ghost use Rattle.trips_run.specs.Table.{HasLargeFile, HasLargeInput, EndsAs, EvalEnds};
 
-use crate::answers::answer_for;
+use crate::asked_answer::answer_for;
 use crate::status::Status;
 use std::alloc::Global;
 use trips_outside::{Files, Sink, write_all};
@@ -22,25 +32,59 @@ pub fn trips_run<F: Files, K: Sink>(
     files: &mut F,
     sink: &mut K,
 ) -> Status
-    // An accepted program's number is reported, where the file is told, neither the files nor the
-    // sink failed in this call, and memory was not refused.
-    ensures headline { (file text : List ℕ) (n : ℕ)
-        → request_of words.now ≡ Some (Run file)
-        → F.held files.old file ≡ Some text → IsReturn text n
+    // The number is reported that a program returns, where the file and the input are told and
+    // within their limits, neither the files nor the sink failed in this call, and memory was not
+    // refused.
+    ensures headline { (most n : ℕ) (text input : List ℕ)
+        → Asks (request_of words.now) (F.held files.old) Run form.Source most text input
+        → IsReturn text n
         → ¬ Rose (F.faults files.old) (F.faults files.new)
         → ¬ Rose (K.faults sink.old) (K.faults sink.new) → result ≢ Status.Memory
         → (result ≡ Status.Ended)
         × Appended (K.written sink.old) (K.written sink.new) (return_report n) }
 
-    // An accepted program's evaluation is reported, where it and its input are told and within
-    // their limits, and nothing failed.
-    ensures evaluation { (program : TypedProgram) (bytes : List ℕ) (steps : ℕ)
-        → AsksFor (request_of words.now) (F.held files.old) program bytes steps
+    // Under the same premises: the run of an image of good blocks is reported, as `runs` has it.
+    ensures image_run { (blocks : ℕ) (bytes input : List ℕ) (image : Image)
+        → Asks (request_of words.now) (F.held files.old) Run form.Image blocks bytes input
+        → ImageBytes image bytes → All IsGood image.blocks
         → ¬ Rose (F.faults files.old) (F.faults files.new)
         → ¬ Rose (K.faults sink.old) (K.faults sink.new) → result ≢ Status.Memory
-        → (result ≡ eval_status (outcome_of program bytes steps))
+        → let run = runs image.blocks (start image.bytes input) blocks in
+        (result ≡ status_of (ending_of run.1 run.0.next))
         × Appended (K.written sink.old) (K.written sink.new)
-        (eval_report (outcome_of program bytes steps)) }
+        (run_report (ending_of run.1 run.0.next) run.0) }
+
+    // An accepted program's evaluation is reported.
+    ensures evaluation { (how : FileForm) (steps : ℕ) (text input : List ℕ)
+        (program : TypedProgram)
+        → Asks (request_of words.now) (F.held files.old) Evaluate how steps text input
+        → IsAccepted text program
+        → ¬ Rose (F.faults files.old) (F.faults files.new)
+        → ¬ Rose (K.faults sink.old) (K.faults sink.new) → result ≢ Status.Memory
+        → (result ≡ eval_status (outcome_of program input steps))
+        × Appended (K.written sink.old) (K.written sink.new)
+        (eval_report (outcome_of program input steps)) }
+
+    // A refusal's report is appended, and no other: the stage, its number, the name and the place.
+    ensures refusal { (work : Work) (how : FileForm) (most : ℕ) (bytes input report : List ℕ)
+        → Asks (request_of words.now) (F.held files.old) work how most bytes input
+        → IsRefusedAs work how bytes report
+        → ¬ Rose (F.faults files.old) (F.faults files.new)
+        → ¬ Rose (K.faults sink.old) (K.faults sink.new) → result ≢ Status.Memory
+        → (result ≡ Status.Refused)
+        × Appended (K.written sink.old) (K.written sink.new) report }
+    ensures large_file { (q : Request) → request_of words.now ≡ Some q
+        → HasLargeFile q (F.held files.old)
+        → ¬ Rose (F.faults files.old) (F.faults files.new)
+        → ¬ Rose (K.faults sink.old) (K.faults sink.new) → result ≢ Status.Memory
+        → (result ≡ Status.Refused)
+        × Appended (K.written sink.old) (K.written sink.new) too_large_text }
+    ensures large_input { (q : Request) → request_of words.now ≡ Some q
+        → HasLargeInput q (F.held files.old)
+        → ¬ Rose (F.faults files.old) (F.faults files.new)
+        → ¬ Rose (K.faults sink.old) (K.faults sink.new) → result ≢ Status.Memory
+        → (result ≡ Status.Refused)
+        × Appended (K.written sink.old) (K.written sink.new) too_large_text }
 
     // The table: whatever comes, it is the row of the request, of what was read and of the writing.
     ensures answered { IsAnswered (request_of words.now) (F.held files.old)
@@ -59,10 +103,12 @@ pub fn trips_run<F: Files, K: Sink>(
         ∷ Status.Memory ∷ Status.WriteFault ∷ []) }
     ensures undefined_only { result ≡ Status.Undefined
         → EvalEnds (request_of words.now) (F.held files.old) result }
-    ensures eval_ends { (file : List ℕ) (input : Option (List ℕ)) (steps : ℕ)
-        → request_of words.now ≡ Some (Eval file input steps)
+    ensures eval_ends { (q : Request) → request_of words.now ≡ Some q → q.work ≡ Evaluate
         → IsOneOf result (Status.Ended ∷ Status.Budget ∷ Status.StackFull ∷ Status.Undefined ∷ [])
-        → EvalEnds (request_of words.now) (F.held files.old) result }
+        → EndsAs (F.held files.old) q result }
+    ensures run_ends { (q : Request) → request_of words.now ≡ Some q → q.work ≡ Run
+        → IsOneOf result (Status.Ended ∷ Status.Budget ∷ Status.StackFull ∷ Status.Trap ∷ [])
+        → EndsAs (F.held files.old) q result }
     ensures write_fault { result ≡ Status.WriteFault
         → Rose (K.faults sink.old) (K.faults sink.new) }
     ensures cut_off { result ≡ Status.WriteFault

@@ -22,6 +22,20 @@ returns-in-Err-clause-ok c = (
       c.in-Err.ensures.fault).holds),
 )
 
+pub returns-in-Ok-clause-good : goal.returns-in-Ok-clause-good
+returns-in-Ok-clause-good c = (λ _. c.in-Ok.ensures.good, λ _. refl)
+
+pub returns-in-Ok-clause-one_token : goal.returns-in-Ok-clause-one_token
+returns-in-Ok-clause-one_token c = (found_checked c.args.block c.requires.fits
+    c.in-Ok.ensures.good).from_entry
+
+pub returns-in-Err-clause-good : goal.returns-in-Err-clause-good
+returns-in-Err-clause-good c = (
+  λ e. absurd (true≢false (sym e)),
+  λ g. absurd (found_good c.args.block c.requires.fits g c.in-Err.fault (found_lowest c.args.block
+      c.requires.fits c.in-Err.fault c.in-Err.ensures.fault).holds),
+)
+
 pub returns-in-Err-clause-fault : goal.returns-in-Err-clause-fault
 returns-in-Err-clause-fault c = found_lowest c.args.block c.requires.fits c.in-Err.fault
     c.in-Err.ensures.fault

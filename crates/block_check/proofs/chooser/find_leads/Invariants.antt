@@ -1,6 +1,6 @@
 use Rattle.std.proofs.Common.{◌≡◌, ◌≤◌, ◌-◌, ℕ, slice_get, false}
 use Rattle.block_cases.specs.Cases.{bit, leads_from}
-use Rattle.block_check.specs.Leads.{FalseFrom, led_from}
+use Rattle.block_check.specs.inside.Leads.{FalseFrom, led_from}
 use Rattle.block_check.proofs.chooser.find_leads.Given as goal
 
 abbrev pub invariant-loop-changed : goal.invariant-loop-changed

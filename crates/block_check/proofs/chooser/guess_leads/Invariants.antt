@@ -1,5 +1,5 @@
 use Rattle.std.proofs.Common.{◌≤◌, length}
-use Rattle.block_check.specs.Leads.{FalseFrom}
+use Rattle.block_check.specs.inside.Leads.{FalseFrom}
 use Rattle.block_check.proofs.chooser.guess_leads.Given as goal
 
 abbrev pub invariant-loop-k : goal.invariant-loop-k

@@ -1,6 +1,6 @@
 use Rattle.std.proofs.Common.{◌≡◌, ◌<◌, ℕ, slice_get, false}
 use Rattle.block_cases.specs.Cases.{bit}
-use Rattle.block_check.specs.Leads.{leads_at, FalseFrom}
+use Rattle.block_check.specs.inside.Leads.{leads_at, FalseFrom}
 use Rattle.block_check.proofs.chooser.lead_on.Given as goal
 
 abbrev pub invariant-loop-x : goal.invariant-loop-x

@@ -2,7 +2,7 @@ use Rattle.std.proofs.Common.{◌≡◌, get_or, take, arith, ap, ◌∙◌}
 use Rattle.std.proofs.lemmas.Option.{slice_get-get_or}
 use Rattle.block_cases.specs.Cases.{bit}
 use Rattle.block_check.proofs.Adding.{blank}
-use Rattle.block_check.specs.Leads.{at_slot}
+use Rattle.block_check.specs.inside.Leads.{at_slot}
 use Rattle.block_check.proofs.Chains.{mark_more, slot_spare}
 use Rattle.block_check.proofs.chooser.mark_copies.Goals as goal
 

@@ -1,6 +1,6 @@
 use Rattle.std.proofs.Common.{◌≡◌, ◌<◌, ℕ, take, false}
 use Rattle.block_cases.specs.Cases.{bit}
-use Rattle.block_check.specs.Leads.{at_slot}
+use Rattle.block_check.specs.inside.Leads.{at_slot}
 use Rattle.block_check.proofs.chooser.mark_copies.Given as goal
 
 abbrev pub invariant-loop-mark : goal.invariant-loop-mark

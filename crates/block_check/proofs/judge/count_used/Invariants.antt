@@ -1,5 +1,5 @@
 use Rattle.std.proofs.Common.{◌≤◌, length}
-use Rattle.block_check.specs.Pass.{Spare}
+use Rattle.block_check.specs.inside.Pass.{Spare}
 use Rattle.block_check.proofs.judge.count_used.Given as goal
 
 abbrev pub invariant-loop-used : goal.invariant-loop-used

@@ -12,6 +12,6 @@ invariant-loop-i l = record {
 abbrev pub invariant-loop-j : goal.invariant-loop-j
 invariant-loop-j l = record {
   items : l.nodes.items ≡ map read_node l.block.reads.items ++
-      inst_nodes 0 (take l.j l.insts);
+      inst_nodes 0 (take l.j l.block.insts.items);
   size : length l.nodes.items ≡ length l.block.reads.items + l.j;
 }

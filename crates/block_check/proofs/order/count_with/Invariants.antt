@@ -1,6 +1,6 @@
 use Rattle.std.proofs.Common.{◌≡◌, ◌<◌, ℕ}
 use Rattle.block_cases.specs.declared.token.CaseToken.TheVariants.{Null}
-use Rattle.block_check.specs.Pass.{tok_at}
+use Rattle.block_check.specs.inside.Pass.{tok_at}
 use Rattle.block_check.proofs.order.count_with.Given as goal
 
 abbrev pub invariant-loop-tok : goal.invariant-loop-tok

@@ -1,5 +1,5 @@
 use Rattle.std.proofs.Common.{◌≡◌, ◌<◌, ◌≤◌, ◌+◌, ℕ, length, arith, true, false, leb}
-use Rattle.block_check.specs.Placing.{unplaced}
+use Rattle.block_check.specs.inside.PartOrder.{unplaced}
 use Rattle.block_check.proofs.Ordering.{placing_none, all_ordered}
 use Rattle.block_check.proofs.Cycles.{stuck_cycle}
 use Rattle.block_check.proofs.order.sort_by.Goals as goal

@@ -1,6 +1,6 @@
 use Rattle.std.proofs.Common.{◌≡◌, ◌<◌, ℕ}
 use Rattle.block_cases.specs.declared.token.CaseToken.TheVariants.{Absent}
-use Rattle.block_check.specs.Pass.{tok_at, AbsentFrom}
+use Rattle.block_check.specs.inside.Pass.{tok_at, AbsentFrom}
 use Rattle.block_check.proofs.pass.guess.Given as goal
 
 abbrev pub invariant-loop-token : goal.invariant-loop-token

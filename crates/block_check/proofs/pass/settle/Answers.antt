@@ -1,6 +1,6 @@
 use Rattle.std.proofs.Common.{◌∙◌, arith, sym, inl, inr, add-one}
 use Rattle.block_cases.specs.Cases.{bit}
-use Rattle.block_check.specs.Pass.{tok_at, once}
+use Rattle.block_check.specs.inside.Pass.{tok_at, once}
 use Rattle.block_check.proofs.Rounds.{settled_from}
 use Rattle.block_check.proofs.pass.settle.Goals as goal
 

@@ -1,6 +1,6 @@
 use Rattle.std.proofs.Common.{◌≡◌, ◌≤◌, ◌-◌, ℕ, false}
 use Rattle.block_cases.specs.Cases.{bit}
-use Rattle.block_check.specs.Pass.{tok_at, AbsentFrom, once, rounds_from}
+use Rattle.block_check.specs.inside.Pass.{tok_at, AbsentFrom, once, rounds_from}
 use Rattle.block_check.proofs.pass.settle.Given as goal
 
 abbrev pub invariant-loop-changed : goal.invariant-loop-changed

@@ -1,6 +1,6 @@
 use Rattle.std.proofs.Common.{◌≡◌, ◌<◌, ◌-◌, suc, length, arith, refl, sym, ◌∙◌}
 use Rattle.std.proofs.lemmas.Option.{slice_get-get_or}
-use Rattle.block_check.specs.Pass.{tok_at}
+use Rattle.block_check.specs.inside.Pass.{tok_at}
 use Rattle.block_check.proofs.Rounds.{spread_more}
 use Rattle.block_check.proofs.Sparing.{spread_none}
 use Rattle.block_check.proofs.pass.spread.Goals as goal

@@ -2,7 +2,7 @@ use Rattle.std.proofs.Common.{◌≡◌, ◌<◌, ◌≤◌, slice_get, arith, a
 use Rattle.std.proofs.Common.{nat_lt, refl}
 use Rattle.block_cases.specs.Cases.{pulled, bit}
 use Rattle.std.proofs.lemmas.Option.{slice_get-get_or}
-use Rattle.block_check.specs.Pass.{tok_at}
+use Rattle.block_check.specs.inside.Pass.{tok_at}
 use Rattle.block_check.proofs.Sparing.{pulled_spare}
 use Rattle.block_check.proofs.Rounds.{set_more, set_other, set_away, pulled_here}
 use Rattle.block_check.proofs.pass.sweep.Goals as goal

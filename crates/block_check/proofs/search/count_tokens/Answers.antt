@@ -1,7 +1,7 @@
 use Rattle.std.proofs.Common.{◌≡◌, ◌≤◌, ◌+◌, ◌*◌, ℕ, get_or, take, arith, ap, sym, ◌∙◌, subst, List}
 use Rattle.std.proofs.lemmas.Option.{slice_get-get_or}
 use Rattle.block_cases.specs.Cases.{tokens}
-use Rattle.block_check.specs.Pass.{tok_at}
+use Rattle.block_check.specs.inside.Pass.{tok_at}
 use Rattle.block_check.proofs.Adding.{count_more, count_same, room_more, blank}
 use Rattle.block_check.proofs.Sparing.{tokens_spare}
 use Rattle.block_check.proofs.search.count_tokens.Goals as goal

@@ -1,6 +1,6 @@
 use Rattle.std.proofs.Common.{◌≡◌, ◌<◌, ◌≤◌, ◌*◌, ℕ, take, get_or}
 use Rattle.block_cases.specs.Cases.{tokens}
-use Rattle.block_check.specs.Pass.{tok_at}
+use Rattle.block_check.specs.inside.Pass.{tok_at}
 use Rattle.block_check.proofs.search.count_tokens.Given as goal
 
 abbrev pub invariant-loop-count : goal.invariant-loop-count

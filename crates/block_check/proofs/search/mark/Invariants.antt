@@ -1,6 +1,6 @@
 use Rattle.std.proofs.Common.{◌≡◌, ◌<◌, ◌≤◌, ◌||◌, ◌==◌, ℕ, nat_lt}
 use Rattle.block_cases.specs.Cases.{tokens, bit}
-use Rattle.block_check.specs.Pass.{tok_at}
+use Rattle.block_check.specs.inside.Pass.{tok_at}
 use Rattle.block_check.proofs.search.mark.Given as goal
 
 abbrev pub invariant-loop-q : goal.invariant-loop-q

@@ -1,5 +1,5 @@
 use Rattle.std.proofs.Common.{◌≡◌, ◌≤◌, ◌-◌, List, Bool, drop, length}
-use Rattle.block_check.specs.Found.{others}
+use Rattle.block_check.specs.inside.Found.{others}
 use Rattle.block_check.proofs.search.next_chooser.Given as goal
 
 abbrev pub invariant-loop-at : goal.invariant-loop-at

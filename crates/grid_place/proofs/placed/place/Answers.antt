@@ -1,6 +1,7 @@
 use Rattle.std.proofs.Common.{sym, ◌∙◌, subst}
 use Rattle.grid_place.specs.Moves.{IsPermutation, goes}
-use Rattle.grid_place.proofs.Alike.{same_outcome}
+use Rattle.grid_place.proofs.Alike.{same_plain}
+use Rattle.grid_place.proofs.StillClean.{still_clean}
 use Rattle.grid_place.proofs.StillFits.{still_fits}
 use Rattle.grid_place.proofs.StillInOrder.{still_good}
 use Rattle.grid_place.proofs.Shuffles.{in_place_permutes, seeded_permutes, placing_permutes}
@@ -26,8 +27,19 @@ returns-clause-meaning c =
       | in-Seeded w ↦
           subst IsPermutation (sym (w.to-is ∙ w.seeded.ensures.value)) (seeded_permutes _)
     ] in
-    λ good blocks k regs mem. same_outcome (goes c.match-placing.to) h.back c.args.block.now
+    λ good blocks k regs mem. same_plain (goes c.match-placing.to) h.back c.args.block.now
     c.moved.result c.requires good h.permutes c.moved.ensures.moved regs mem blocks k
+
+pub returns-clause-clean : goal.returns-clause-clean
+returns-clause-clean c =
+    let h : IsPermutation c.match-placing.to = elim c.match-placing.branch [
+      | in-Greedy w ↦
+          subst IsPermutation (sym (w.to-is ∙ w.in_place.ensures.value)) in_place_permutes
+      | in-Seeded w ↦
+          subst IsPermutation (sym (w.to-is ∙ w.seeded.ensures.value)) (seeded_permutes _)
+    ] in
+    λ good regs mem. still_clean (goes c.match-placing.to) h.back c.args.block.now
+    c.moved.result c.requires good h.permutes c.moved.ensures.moved regs mem
 
 pub returns-clause-fits : goal.returns-clause-fits
 returns-clause-fits c =

@@ -1,5 +1,5 @@
 use Rattle.std.proofs.Common.{arith, ap, ◌∙◌, ◌++◌}
-use Rattle.target_text.specs.Text.{head_lines}
+use Rattle.target_asm_spec.specs.Text.{head_lines}
 use Rattle.target_asm.proofs.Blocks.{few_blocks, printed_by}
 use Rattle.target_asm.proofs.printing.print.Goals as goal
 

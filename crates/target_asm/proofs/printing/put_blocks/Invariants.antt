@@ -1,8 +1,8 @@
 use Rattle.std.proofs.Common.{◌≡◌, ◌++◌, take}
 use Rattle.trips_isa.specs.Images.{chunk_of}
-use Rattle.target_text.specs.Numbers.{numbered}
-use Rattle.target_text.specs.Chunks.{goal_in}
-use Rattle.target_text.specs.Text.{block_text}
+use Rattle.target_asm_spec.specs.Numbers.{numbered}
+use Rattle.target_asm_spec.specs.Chunks.{goal_in}
+use Rattle.target_asm_spec.specs.Text.{block_text}
 use Rattle.target_asm.proofs.printing.put_blocks.Given as goal
 
 -- where the next block begins, and the blocks so far are written

@@ -1,6 +1,6 @@
 use Rattle.std.proofs.Common.{◌≡◌, ◌++◌, take}
-use Rattle.target_text.specs.Numbers.{numbered}
-use Rattle.target_text.specs.Text.{byte_text}
+use Rattle.target_asm_spec.specs.Numbers.{numbered}
+use Rattle.target_asm_spec.specs.Text.{byte_text}
 use Rattle.target_asm.proofs.printing.put_data.Given as goal
 
 -- the bytes so far are written

@@ -1,4 +1,4 @@
-use Rattle.target_text.specs.Text.{read_line}
+use Rattle.target_asm_spec.specs.Text.{read_line}
 use Rattle.target_asm.proofs.Numbered.{numbered_step}
 use Rattle.target_asm.proofs.printing.put_reads.Goals as goal
 

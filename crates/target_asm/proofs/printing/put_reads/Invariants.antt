@@ -1,6 +1,6 @@
 use Rattle.std.proofs.Common.{◌≡◌, ◌++◌, take}
-use Rattle.target_text.specs.Numbers.{numbered}
-use Rattle.target_text.specs.Text.{read_line}
+use Rattle.target_asm_spec.specs.Numbers.{numbered}
+use Rattle.target_asm_spec.specs.Text.{read_line}
 use Rattle.target_asm.proofs.printing.put_reads.Given as goal
 
 -- the lines of those so far are written

@@ -1,5 +1,5 @@
-use Rattle.target_text.specs.Chunks.{goal_in}
-use Rattle.target_text.specs.Text.{slot_text}
+use Rattle.target_asm_spec.specs.Chunks.{goal_in}
+use Rattle.target_asm_spec.specs.Text.{slot_text}
 use Rattle.target_asm.proofs.Numbered.{numbered_step}
 use Rattle.target_asm.proofs.printing.put_slots.Goals as goal
 

@@ -1,7 +1,7 @@
 use Rattle.std.proofs.Common.{◌≡◌, ◌++◌, take}
-use Rattle.target_text.specs.Numbers.{numbered}
-use Rattle.target_text.specs.Chunks.{goal_in}
-use Rattle.target_text.specs.Text.{slot_text}
+use Rattle.target_asm_spec.specs.Numbers.{numbered}
+use Rattle.target_asm_spec.specs.Chunks.{goal_in}
+use Rattle.target_asm_spec.specs.Text.{slot_text}
 use Rattle.target_asm.proofs.printing.put_slots.Given as goal
 
 -- the lines of the slots so far are written

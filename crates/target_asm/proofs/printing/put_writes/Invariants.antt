@@ -1,6 +1,6 @@
 use Rattle.std.proofs.Common.{◌≡◌, ◌++◌, take}
-use Rattle.target_text.specs.Numbers.{numbered}
-use Rattle.target_text.specs.Text.{write_line}
+use Rattle.target_asm_spec.specs.Numbers.{numbered}
+use Rattle.target_asm_spec.specs.Text.{write_line}
 use Rattle.target_asm.proofs.printing.put_writes.Given as goal
 
 -- the lines of those so far are written

@@ -1,9 +1,10 @@
 use Rattle.std.proofs.Common.{◌∙◌, refl, sym, ap, arith}
 use Rattle.trips_isa.specs.declared.run.Stepped.{Stepped}
-use Rattle.trips_isa.specs.declared.run.Stepped.TheVariants.{Ended, StackFull}
+use Rattle.trips_isa.specs.declared.run.Stepped.TheVariants.{Went, Ended, StackFull, Trap}
 use Rattle.trips_isa.specs.Machine.{State}
+use Rattle.trips_isa.specs.declared.run.Ending.TheVariants as ending
 use Rattle.trips_run.specs.Report.{ending_of}
-use Rattle.trips_run.proofs.Runs.{none_yet, goes, stopped}
+use Rattle.trips_run.proofs.BlockRuns.{none_yet, goes, stopped, goes_by}
 use Rattle.trips_run.proofs.running.run_blocks.Goals as goal
 
 pub loop-turn-init : goal.loop-turn-init
@@ -22,7 +23,7 @@ returns-in-Ended-clause-state c =
 
 pub returns-in-Ended-clause-ending : goal.returns-in-Ended-clause-ending
 returns-in-Ended-clause-ending c =
-    sym (ap (λ (r : State × Stepped). ending_of r.1)
+    sym (ap (λ (r : State × Stepped). ending_of r.1 r.0.next)
     (stopped _ _ _ _ Ended _ _ c.loop-turn-test.true tt c.loop-turn.invariant.so_far
     c.in-Ended.ensures.step))
 
@@ -34,14 +35,27 @@ returns-in-StackFull-clause-state c =
 
 pub returns-in-StackFull-clause-ending : goal.returns-in-StackFull-clause-ending
 returns-in-StackFull-clause-ending c =
-    sym (ap (λ (r : State × Stepped). ending_of r.1)
+    sym (ap (λ (r : State × Stepped). ending_of r.1 r.0.next)
     (stopped _ _ _ _ StackFull _ _ c.loop-turn-test.true tt c.loop-turn.invariant.so_far
     c.in-StackFull.ensures.step))
+
+pub returns-in-Trap-clause-state : goal.returns-in-Trap-clause-state
+returns-in-Trap-clause-state c =
+    sym (ap (λ (r : State × Stepped). r.0)
+    (stopped _ _ _ _ (Trap _) _ _ c.loop-turn-test.true tt c.loop-turn.invariant.so_far
+    c.in-Trap.ensures.step))
+
+pub returns-in-Trap-clause-ending : goal.returns-in-Trap-clause-ending
+returns-in-Trap-clause-ending c =
+    ap (λ n. ending.Trap n _) c.in-Trap.next.ensures.value
+    ∙ sym (ap (λ (r : State × Stepped). ending_of r.1 r.0.next)
+    (stopped _ _ _ _ (Trap _) _ _ c.loop-turn-test.true tt c.loop-turn.invariant.so_far
+    c.in-Trap.ensures.step))
 
 pub loop-turn-preserved : goal.loop-turn-preserved
 loop-turn-preserved c = record {
   so_far = goes _ _ _ _ _ _ c.loop-turn.invariant.so_far c.in-Went.ensures.step;
   next = c.step.ensures.next;
-  trace = omega (arith, c.step.ensures.trace, c.loop-turn.invariant.trace);
+  trace = omega (arith, c.step.ensures.trace (goes_by c.in-Went.is), c.loop-turn.invariant.trace);
   room = c.step.ensures.budget ∙ c.loop-turn.invariant.room;
 }

@@ -16,5 +16,5 @@ unreachable-requires c =
 
 pub returns-in-Ok : goal.returns-in-Ok
 returns-in-Ok c =
-    number_told c.args.word c.in-Ok.checked c.in_ok-image.image _ c.in-Ok.ensures.same
+    number_told c.args.word c.args.blocks c.args.input c.in-Ok.checked c.in_ok-image.image _ c.in-Ok.ensures.same
     c.in_ok-image.ensures.blocks c.in_ok-image.ensures.bytes c.run_image.ensures

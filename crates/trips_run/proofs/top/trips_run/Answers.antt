@@ -1,3 +1,4 @@
+use Rattle.trips_run.proofs.Requests.{request_goes}
 use Rattle.trips_run.proofs.Causes as causes
 use Rattle.trips_run.proofs.top.trips_run.Goals as goal
 
@@ -9,6 +10,7 @@ returns-in-Ok-write_all-clause-answered g c =
 pub returns-in-Ok-write_all-clause-headline : goal.returns-in-Ok-write_all-clause-headline
 returns-in-Ok-write_all-clause-headline g c =
     causes.headline _ _ _ _ _ _ _ (returns-in-Ok-write_all-clause-answered g c)
+    (request_goes c.args.words.now)
 
 pub returns-in-Ok-write_all-clause-evaluation : goal.returns-in-Ok-write_all-clause-evaluation
 returns-in-Ok-write_all-clause-evaluation g c =
@@ -45,3 +47,23 @@ returns-in-Ok-write_all-clause-undefined_only g c =
 pub returns-in-Ok-write_all-clause-eval_ends : goal.returns-in-Ok-write_all-clause-eval_ends
 returns-in-Ok-write_all-clause-eval_ends g c =
     causes.eval_ends _ _ _ _ _ _ _ (returns-in-Ok-write_all-clause-answered g c)
+
+pub returns-in-Ok-write_all-clause-run_ends : goal.returns-in-Ok-write_all-clause-run_ends
+returns-in-Ok-write_all-clause-run_ends g c =
+    causes.run_ends _ _ _ _ _ _ _ (returns-in-Ok-write_all-clause-answered g c)
+
+pub returns-in-Ok-write_all-clause-image_run : goal.returns-in-Ok-write_all-clause-image_run
+returns-in-Ok-write_all-clause-image_run g c =
+    causes.image_run _ _ _ _ _ _ _ (returns-in-Ok-write_all-clause-answered g c)
+
+pub returns-in-Ok-write_all-clause-refusal : goal.returns-in-Ok-write_all-clause-refusal
+returns-in-Ok-write_all-clause-refusal g c =
+    causes.refusal _ _ _ _ _ _ _ (returns-in-Ok-write_all-clause-answered g c)
+
+pub returns-in-Ok-write_all-clause-large_file : goal.returns-in-Ok-write_all-clause-large_file
+returns-in-Ok-write_all-clause-large_file g c =
+    causes.too_large_file _ _ _ _ _ _ _ (returns-in-Ok-write_all-clause-answered g c)
+
+pub returns-in-Ok-write_all-clause-large_input : goal.returns-in-Ok-write_all-clause-large_input
+returns-in-Ok-write_all-clause-large_input g c =
+    causes.too_large_input _ _ _ _ _ _ _ (returns-in-Ok-write_all-clause-answered g c)

@@ -11,6 +11,8 @@ use Rattle.trips_isa.specs.Stores.{store_all}
 use Rattle.trips_isa.specs.Blocks.{token_of}
 use Rattle.trips_isa.specs.Outcomes.{all_stores, writes_from}
 use Rattle.trips_isa.specs.Machine.{Machine, State, step_of, then_system, write_all}
+use Rattle.trips_isa.specs.declared.run.Stepped.{Stepped}
+use Rattle.block_atomic.proofs.Telling.{cause_is, step_goes, step_traps}
 use Rattle.block_atomic.specs.Bounds.{StoreFits}
 use Rattle.block_atomic.specs.Slots.{slots_give, left_by, IsUsedTo}
 use Rattle.block_atomic.proofs.Storing.{stores_fit}
@@ -23,9 +25,23 @@ change-requires-clause-fits c n h =
     (stores_fit (λ q. get_or c.settle.new.places q None) n
     (λ j. get_or c.settle.new.table j None) 0 c.block-block.result.now.insts.items)
 
-pub returns-clause-step : goal.returns-clause-step
-returns-clause-step c =
-    step_is c.args.image.now.blocks c.block-block.result.now inside c.change.new.self.state
+pub returns-then-fault-eq0-clause-step : goal.returns-then-fault-eq0-clause-step
+returns-then-fault-eq0-clause-step c =
+    step_goes c.args.image.now.blocks inside c.then_system.new.self.state c.then_system.result
+    c.cause-fault.result
+    (cause_is c.args.image.now.blocks c.block-block.result.now inside c.used_slots-used.result
+    c.settle.new.table c.settle.new.places c.cause-fault.result
+    (c.at.ensures.value ∙ ap (λ (b : Block). Some b) (sym c.block-block.ensures.value))
+    (subst FitsBlock (sym c.block-block.ensures.value) c.block-block.ensures.checked.fits)
+    c.used_slots-used.ensures.bound
+    (subst (λ (is : List (Option Inst)). IsUsedTo is c.used_slots-used.result)
+    c.as_slice-insts.ensures.value c.used_slots-used.ensures.used)
+    (λ x. c.settle.ensures.answers x
+    ∙ ap (λ (mem : List ℕ). token_of c.block-block.result.now c.self.inside.registers mem
+    deepest x) c.deref.ensures.value)
+    c.settle.ensures.placed c.cause-fault.ensures.value)
+    c.if-fault-eq0.true
+    (step_is c.args.image.now.blocks c.block-block.result.now inside c.change.new.self.state
     c.used_slots-used.result c.settle.new.places c.settle.new.table c.settle.new.stores
     c.leaving-branch.result c.exit.result c.successor-next.result
     (c.then_system.new.self.state, c.then_system.result)
@@ -65,7 +81,34 @@ returns-clause-step c =
       output = c.change.ensures.output ∙ ap (λ (m : Machine). m.state.output) (sym c.self.view_is);
     })
     (c.then_system.ensures.answer ∙ ap (λ v. then_system v c.change.new.self.state)
-    c.is_system.ensures.value)
+    c.is_system.ensures.value))
+    ∙ ap (λ (m : Machine). step_of c.args.image.now.blocks m.state) c.self.view_is
+  where
+    inside : State
+    inside = record {
+      registers = c.self.inside.registers;
+      memory = c.self.inside.memory.items;
+      next = c.self.inside.next;
+      rest = drop c.self.inside.taken c.self.inside.input.items;
+      output = c.self.inside.output.items;
+      trace = c.self.inside.trace.items;
+    }
+
+pub returns-else-fault-eq0-clause-step : goal.returns-else-fault-eq0-clause-step
+returns-else-fault-eq0-clause-step c =
+    step_traps c.args.image.now.blocks inside c.args.self.now.state c.cause-fault.result
+    (cause_is c.args.image.now.blocks c.block-block.result.now inside c.used_slots-used.result
+    c.settle.new.table c.settle.new.places c.cause-fault.result
+    (c.at.ensures.value ∙ ap (λ (b : Block). Some b) (sym c.block-block.ensures.value))
+    (subst FitsBlock (sym c.block-block.ensures.value) c.block-block.ensures.checked.fits)
+    c.used_slots-used.ensures.bound
+    (subst (λ (is : List (Option Inst)). IsUsedTo is c.used_slots-used.result)
+    c.as_slice-insts.ensures.value c.used_slots-used.ensures.used)
+    (λ x. c.settle.ensures.answers x
+    ∙ ap (λ (mem : List ℕ). token_of c.block-block.result.now c.self.inside.registers mem
+    deepest x) c.deref.ensures.value)
+    c.settle.ensures.placed c.cause-fault.ensures.value)
+    c.if-fault-eq0.false (ap (λ (m : Machine). m.state) (sym c.self.view_is))
     ∙ ap (λ (m : Machine). step_of c.args.image.now.blocks m.state) c.self.view_is
   where
     inside : State

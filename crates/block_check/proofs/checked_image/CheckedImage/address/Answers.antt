@@ -9,9 +9,7 @@ index-requires c =
     let whole = c.self.inside.starts.ok in
     omega (arith, size, whole.0)
 
-pub returns : goal.returns
-returns c = record {
-  value = c.index.ensures ∙ indexed_at c.self.inside.blocks.items c.self.inside.starts.items
-      c.self.inside.bytes c.args.self.now c.args.number _ c.self.invariant c.self.view_is
-      c.requires.number;
-}
+pub returns-clause-value : goal.returns-clause-value
+returns-clause-value c = c.index.ensures ∙ indexed_at c.self.inside.blocks.items
+    c.self.inside.starts.items c.self.inside.bytes c.args.self.now c.args.number _ c.self.invariant
+    c.self.view_is c.requires.number

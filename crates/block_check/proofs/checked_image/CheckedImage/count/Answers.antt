@@ -1,5 +1,5 @@
 use Rattle.std.proofs.Common.{arith}
-use Rattle.block_check.specs.Holds.{image_of}
+use Rattle.block_check.specs.inside.Holds.{image_of}
 use Rattle.block_check.proofs.Making.{small_count}
 use Rattle.block_check.proofs.checked_image.CheckedImage.count.Goals as goal
 

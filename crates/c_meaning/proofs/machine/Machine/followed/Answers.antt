@@ -1,5 +1,5 @@
 use Rattle.std.proofs.Common.{◌≡◌, ap, subst, length, arith}
-use Rattle.c_meaning_spec.specs.Expression.{node_of}
+use Rattle.c_tree.specs.TypedTrees.{node_of}
 use Rattle.c_meaning_steps.specs.Ahead.{IsStep}
 use Rattle.c_meaning_steps.specs.ExpressionSteps.{of_step}
 use Rattle.c_meaning.specs.View.{follow, frames, next, view, step_of}

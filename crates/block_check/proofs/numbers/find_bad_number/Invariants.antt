@@ -1,5 +1,0 @@
-use Rattle.block_cases.specs.Orders.{NoneBelow, bad_number}
-use Rattle.block_check.proofs.numbers.find_bad_number.Given as goal
-
-abbrev pub invariant-loop-j : goal.invariant-loop-j
-invariant-loop-j l = NoneBelow (bad_number l.block) l.j

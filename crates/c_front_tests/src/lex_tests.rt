@@ -1,0 +1,262 @@
+//! Texts with the tokens or the fault that C17 and docs/LANGUAGE.md give them.
+
+use c_lex::{LexFault, MOST_TOKENS, lex};
+use c_tree::{Form, Key, Kind, Lexeme, Mark};
+use std::alloc::Global;
+use std::process::Abort;
+use std::test::Fail;
+
+/// What a token has to be.
+#[derive(Clone, Copy, Debug)]
+enum Want {
+    Include,
+    Key(Key),
+    Name(&'static [u8]),
+    Number(u64, Kind),
+    Mark(Mark),
+}
+
+type Row = (&'static [u8], Result<&'static [(u32, Want)], LexFault>);
+
+const ROWS: [Row; 82] = [
+    (b"", Ok(&[])),
+    (b" \t\n\x0B\x0C\r", Ok(&[])),
+    (
+        b"int main(void)\n{ return 0; }\n",
+        Ok(&[
+            (1, Want::Key(Key::Int)),
+            (1, Want::Name(b"main")),
+            (1, Want::Mark(Mark::LeftParen)),
+            (1, Want::Key(Key::Void)),
+            (1, Want::Mark(Mark::RightParen)),
+            (2, Want::Mark(Mark::LeftBrace)),
+            (2, Want::Key(Key::Return)),
+            (2, Want::Number(0, Kind::Int)),
+            (2, Want::Mark(Mark::Semicolon)),
+            (2, Want::Mark(Mark::RightBrace)),
+        ]),
+    ),
+    // The longest piece at each place (C17 6.4).
+    (
+        b"a+++b",
+        Ok(&[
+            (1, Want::Name(b"a")),
+            (1, Want::Mark(Mark::PlusPlus)),
+            (1, Want::Mark(Mark::Plus)),
+            (1, Want::Name(b"b")),
+        ]),
+    ),
+    (b"<<=", Ok(&[(1, Want::Mark(Mark::ShiftLeftAssign))])),
+    (b">>=", Ok(&[(1, Want::Mark(Mark::ShiftRightAssign))])),
+    (
+        b"<=-",
+        Ok(&[
+            (1, Want::Mark(Mark::LessEqual)),
+            (1, Want::Mark(Mark::Minus)),
+        ]),
+    ),
+    (
+        b"whiled _Bool",
+        Ok(&[(1, Want::Name(b"whiled")), (1, Want::Key(Key::Bool))]),
+    ),
+    (b"_x9", Ok(&[(1, Want::Name(b"_x9"))])),
+    // A comment is a space, and its line feeds count.
+    (
+        b"a/*\n*/b",
+        Ok(&[(1, Want::Name(b"a")), (2, Want::Name(b"b"))]),
+    ),
+    (b"/**/x", Ok(&[(1, Want::Name(b"x"))])),
+    (b"/***/x", Ok(&[(1, Want::Name(b"x"))])),
+    (b"// \xFF\0 /*\nx", Ok(&[(2, Want::Name(b"x"))])),
+    (b"/* // */x", Ok(&[(1, Want::Name(b"x"))])),
+    (b"/", Ok(&[(1, Want::Mark(Mark::Slash))])),
+    (b"//", Ok(&[])),
+    (b"/*\n", Err(LexFault::Unclosed(1))),
+    (b"\n\n /*", Err(LexFault::Unclosed(3))),
+    (b"/*/", Err(LexFault::Unclosed(1))),
+    (b"/* *", Err(LexFault::Unclosed(1))),
+    // Integer constants (C17 6.4.4.1).
+    (
+        b"2147483647",
+        Ok(&[(1, Want::Number(2147483647, Kind::Int))]),
+    ),
+    (
+        b"2147483648",
+        Ok(&[(1, Want::Number(2147483648, Kind::Long))]),
+    ),
+    (
+        b"0x7fffffff",
+        Ok(&[(1, Want::Number(2147483647, Kind::Int))]),
+    ),
+    (
+        b"0x80000000",
+        Ok(&[(1, Want::Number(2147483648, Kind::UInt))]),
+    ),
+    (
+        b"0XFFFFFFFF",
+        Ok(&[(1, Want::Number(4294967295, Kind::UInt))]),
+    ),
+    (
+        b"0x100000000",
+        Ok(&[(1, Want::Number(4294967296, Kind::Long))]),
+    ),
+    (b"017", Ok(&[(1, Want::Number(15, Kind::Int))])),
+    (
+        b"037777777777",
+        Ok(&[(1, Want::Number(4294967295, Kind::UInt))]),
+    ),
+    (b"0u", Ok(&[(1, Want::Number(0, Kind::UInt))])),
+    (b"1L", Ok(&[(1, Want::Number(1, Kind::Long))])),
+    (b"1Ul", Ok(&[(1, Want::Number(1, Kind::ULong))])),
+    (b"1lU", Ok(&[(1, Want::Number(1, Kind::ULong))])),
+    (
+        b"4294967296u",
+        Ok(&[(1, Want::Number(4294967296, Kind::ULong))]),
+    ),
+    (
+        b"9223372036854775807",
+        Ok(&[(1, Want::Number(9223372036854775807, Kind::Long))]),
+    ),
+    (
+        b"0x8000000000000000",
+        Ok(&[(1, Want::Number(9223372036854775808, Kind::ULong))]),
+    ),
+    (
+        b"18446744073709551615u",
+        Ok(&[(1, Want::Number(18446744073709551615, Kind::ULong))]),
+    ),
+    (b"9223372036854775808", Err(LexFault::BadLiteral(1))),
+    (b"18446744073709551616", Err(LexFault::BadLiteral(1))),
+    (b"18446744073709551616u", Err(LexFault::BadLiteral(1))),
+    (
+        b"0xE +1",
+        Ok(&[
+            (1, Want::Number(14, Kind::Int)),
+            (1, Want::Mark(Mark::Plus)),
+            (1, Want::Number(1, Kind::Int)),
+        ]),
+    ),
+    (b"\n0xE+1", Err(LexFault::BadLiteral(2))),
+    (b"0b1", Err(LexFault::BadLiteral(1))),
+    (b"08", Err(LexFault::BadLiteral(1))),
+    (b"09", Err(LexFault::BadLiteral(1))),
+    (b"1.0", Err(LexFault::BadLiteral(1))),
+    (b"1e+5", Err(LexFault::BadLiteral(1))),
+    (b"0x", Err(LexFault::BadLiteral(1))),
+    (b"1uu", Err(LexFault::BadLiteral(1))),
+    (b"1ll", Err(LexFault::BadLiteral(1))),
+    // Character constants (C17 6.4.4.4).
+    (b"'a'", Ok(&[(1, Want::Number(97, Kind::Int))])),
+    (b"'\\n'", Ok(&[(1, Want::Number(10, Kind::Int))])),
+    (b"'\\''", Ok(&[(1, Want::Number(39, Kind::Int))])),
+    (b"'\"'", Ok(&[(1, Want::Number(34, Kind::Int))])),
+    (b"'\\0'", Ok(&[(1, Want::Number(0, Kind::Int))])),
+    (
+        b"'\\377'",
+        Ok(&[(1, Want::Number(18446744073709551615, Kind::Int))]),
+    ),
+    (b"'\\x0000041'", Ok(&[(1, Want::Number(65, Kind::Int))])),
+    (b"'\\400'", Err(LexFault::BadLiteral(1))),
+    (b"'\\x100'", Err(LexFault::BadLiteral(1))),
+    (b"'\\x'", Err(LexFault::BadLiteral(1))),
+    (b"'\\q'", Err(LexFault::BadLiteral(1))),
+    (b"''", Err(LexFault::BadLiteral(1))),
+    (b"'ab'", Err(LexFault::BadLiteral(1))),
+    (b"'a", Err(LexFault::BadLiteral(1))),
+    (b"\n'\n'", Err(LexFault::BadLiteral(2))),
+    // Lines that begin with `#`.
+    (b"#include <stdio.h>", Ok(&[(1, Want::Include)])),
+    (
+        b"\n \t# \tinclude\t <stdio.h> \t\nx",
+        Ok(&[(2, Want::Include), (3, Want::Name(b"x"))]),
+    ),
+    (b"#include<stdio.h>", Ok(&[(1, Want::Include)])),
+    (b"#include < stdio.h>", Err(LexFault::Directive(1))),
+    (b"#include", Err(LexFault::Directive(1))),
+    (b"#define A 1\n", Err(LexFault::Directive(1))),
+    (b"x #include <stdio.h>", Err(LexFault::BadByte(1))),
+    // Whole texts, and texts that end too early.
+    (
+        b"int main(void) { return 18446744073709551616; }",
+        Err(LexFault::BadLiteral(1)),
+    ),
+    (
+        b"int main(void) { return 0xE+1; }",
+        Err(LexFault::BadLiteral(1)),
+    ),
+    (b"/*", Err(LexFault::Unclosed(1))),
+    (b"'", Err(LexFault::BadLiteral(1))),
+    (b"x\n'\\", Err(LexFault::BadLiteral(2))),
+    (b"\n#", Err(LexFault::Directive(2))),
+    (b"/* */ #include <stdio.h>", Err(LexFault::BadByte(1))),
+    (b"#include <stdio.h>\r\n", Err(LexFault::Directive(1))),
+    // Other bytes.
+    (b"\n@", Err(LexFault::BadByte(2))),
+    (b"\0", Err(LexFault::BadByte(1))),
+    (b"x\x80", Err(LexFault::BadByte(1))),
+];
+
+fn is_wanted(form: &Form, want: Want) -> bool {
+    match (form, want) {
+        (Form::Include, Want::Include) => true,
+        (Form::Key(key), Want::Key(wanted)) => *key == wanted,
+        (Form::Name(word), Want::Name(wanted)) => word.as_slice() == wanted,
+        (Form::Number { value, kind }, Want::Number(number, wanted)) => {
+            *value == number && *kind == wanted
+        }
+        (Form::Mark(mark), Want::Mark(wanted)) => *mark == wanted,
+        _ => false,
+    }
+}
+
+fn are_wanted(tokens: &[Lexeme], wants: &[(u32, Want)]) -> bool {
+    if tokens.len() != wants.len() {
+        return false;
+    }
+    for (token, (line, want)) in tokens.iter().zip(wants) {
+        if token.line != *line || !is_wanted(&token.form, *want) {
+            return false;
+        }
+    }
+    true
+}
+
+fn is_answered(alloc: Global, text: &[u8], want: Result<&[(u32, Want)], LexFault>) -> bool {
+    if 100 < text.len() {
+        return false;
+    }
+    match (lex(alloc, text), want) {
+        (Ok(tokens), Ok(wants)) => are_wanted(&tokens, wants),
+        (Err(fault), Err(wanted)) => fault == wanted,
+        _ => false,
+    }
+}
+
+fn assert_rows(rt: &impl Abort, alloc: Global, rows: &[Row]) {
+    for (text, want) in rows {
+        assert!(rt; is_answered(alloc, text, *want), "{text:?}");
+    }
+}
+
+#[test]
+fn lexes_each_text_as_the_standard_does(rt: HostRuntime) {
+    assert_rows(&rt, rt.alloc(), &ROWS);
+}
+
+#[test]
+fn refuses_the_first_token_past_the_limit(rt: HostRuntime) -> Result<(), Fail> {
+    let mut text = vec![in rt.alloc(); b';'; MOST_TOKENS]?;
+    text.push(b'\n')?;
+    assert!(rt; lex(rt.alloc(), &text).is_ok_and(|tokens| tokens.len() == MOST_TOKENS));
+    for (next, fault) in [
+        (b';', LexFault::TooManyTokens(2)),
+        (b'@', LexFault::BadByte(2)),
+        (b'9', LexFault::TooManyTokens(2)),
+    ] {
+        text.push(next)?;
+        assert!(rt; text.len() < 10_000);
+        assert_eq!(rt; lex(rt.alloc(), &text).err(), Some(fault), "{next}");
+        text.pop();
+    }
+    Ok(())
+}

@@ -1,0 +1,13 @@
+//! The rows of the lexer, the parser and the typing, as tests.
+#![tactic(auto)]
+
+#[cfg(test)]
+mod depth_tests;
+#[cfg(test)]
+mod lex_tests;
+#[cfg(test)]
+mod parse_tests;
+#[cfg(test)]
+mod type_rows;
+#[cfg(test)]
+mod type_tests;

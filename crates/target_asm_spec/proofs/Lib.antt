@@ -1,0 +1,14 @@
+pub mod Starts
+pub mod Numbers
+pub mod Hexadecimal
+pub mod Targets
+pub mod Lines
+pub mod Words
+pub mod Operations
+pub mod Instructions
+pub mod Each
+pub mod Rows
+pub mod Slots
+pub mod Bodies
+pub mod Goals
+pub mod Images

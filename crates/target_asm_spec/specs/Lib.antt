@@ -1,0 +1,14 @@
+pub mod Numbers
+pub mod Fields
+pub mod Chunks
+pub mod Text
+pub mod Reading
+pub mod Places
+pub mod Registers
+pub mod Instructions
+pub mod Judging
+pub mod Blocks
+pub mod Lines
+pub mod LinePlaces
+pub mod FirstAsmFault
+pub mod Whole

@@ -1,0 +1,55 @@
+-- Targets, read.
+use Rattle.std.specs.Prelude.{ℕ, ℤ, List, Option, Some, None, Bool, true, false, codes}
+use Rattle.std.specs.Prelude.{if◌then◌else◌}
+use Rattle.trips_isa.specs.declared.block.Spot.{Spot}
+use Rattle.trips_isa.specs.declared.block.Spot.TheVariants as spot
+use Rattle.target_asm_spec.specs.declared.spelled.SpelledTarget.{SpelledTarget}
+use Rattle.target_asm_spec.specs.declared.spelled.SpelledTarget.TheVariants as spelled
+use Rattle.target_asm_spec.specs.Reading.{◌>>=◌, or_else, after_in, number_in, index_in, field_in}
+
+abbrev pub left_in : ℤ → List ℕ → Option (SpelledTarget × List ℕ)
+left_in n text = after_in (codes ",0]") text >>= λ rest. Some (spelled.Left n, rest)
+
+abbrev pub right_in : ℤ → List ℕ → Option (SpelledTarget × List ℕ)
+right_in n text = after_in (codes ",1]") text >>= λ rest. Some (spelled.Right n, rest)
+
+abbrev pub pred_in : ℤ → List ℕ → Option (SpelledTarget × List ℕ)
+pred_in n text = after_in (codes ",p]") text >>= λ rest. Some (spelled.Pred n, rest)
+
+-- the place of a slot, after its number
+unfoldable pub place_in : ℤ → List ℕ → Option (SpelledTarget × List ℕ)
+place_in n text = or_else (left_in n text) (or_else (right_in n text) (pred_in n text))
+
+-- a place of a slot, after its `N[`
+unfoldable pub slot_in : List ℕ → Option (SpelledTarget × List ℕ)
+slot_in text = number_in text >>= λ n. place_in n.0 n.1
+
+unfoldable pub write_in : List ℕ → Option (SpelledTarget × List ℕ)
+write_in text = index_in (codes "W[") text >>= λ n. Some (spelled.Write n.0, n.1)
+
+abbrev pub target_by : Option (List ℕ) → List ℕ → Option (SpelledTarget × List ℕ)
+target_by (Some rest) text = slot_in rest
+target_by None text = write_in text
+
+-- a target: `W[3]`, `N[5,p]`, `N[5,0]` or `N[5,1]`
+unfoldable pub target_in : List ℕ → Option (SpelledTarget × List ℕ)
+target_in text = target_by (after_in (codes "N[") text) text
+
+-- a target after a space, if there is one
+abbrev pub next_by : Option (List ℕ) → List ℕ → Option (Option SpelledTarget × List ℕ)
+next_by None text = Some (None, text)
+next_by (Some rest) text = target_in rest >>= λ t. Some (Some t.0, t.1)
+
+unfoldable pub next_in : List ℕ → Option (Option SpelledTarget × List ℕ)
+next_in text = next_by (after_in (codes " ") text) text
+
+-- the target, where its number lies in its field
+unfoldable pub spot_of : SpelledTarget → Option Spot
+spot_of (spelled.Write n) = field_in n 32 >>= λ w. Some (spot.Write w)
+spot_of (spelled.Left n) = field_in n 128 >>= λ s. Some (spot.Left s)
+spot_of (spelled.Right n) = field_in n 128 >>= λ s. Some (spot.Right s)
+spot_of (spelled.Pred n) = field_in n 128 >>= λ s. Some (spot.Pred s)
+
+unfoldable pub maybe_spot : Option SpelledTarget → Option (Option Spot)
+maybe_spot None = Some None
+maybe_spot (Some t) = spot_of t >>= λ s. Some (Some s)

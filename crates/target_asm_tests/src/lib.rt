@@ -1,0 +1,11 @@
+//! Rows of the operations, of image files and of target texts, as tests.
+#![tactic(auto)]
+
+#[cfg(test)]
+mod asm_tests;
+#[cfg(test)]
+mod image_tests;
+#[cfg(test)]
+mod operation_tests;
+#[cfg(test)]
+mod table_tests;

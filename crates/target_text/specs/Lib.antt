@@ -1,4 +1,0 @@
-pub mod Numbers
-pub mod Fields
-pub mod Chunks
-pub mod Text

@@ -1,0 +1,17 @@
+//! The numbers of a block's places (docs/MACHINE.md, "Places").
+
+/// The place of write 0; write w is `FIRST_WRITE + w`.
+pub const FIRST_WRITE: u16 = 384;
+
+/// The place of store number 0; number n is `FIRST_STORE + n`.
+pub const FIRST_STORE: u16 = 416;
+
+/// The place of the exit.
+pub const EXIT: u16 = 448;
+
+/// How many places there are: the operands and predicates of 128 slots, 32 writes, 32 store numbers and
+/// the exit.
+pub const PLACES: u16 = 449;
+
+/// The number of no place, for a target that is not there.
+pub const NO_PLACE: u16 = 700;

@@ -1,0 +1,298 @@
+-- What a request gets whose file and input are told, where nothing fails.
+use Rattle.std.proofs.Common.{◌≡◌, ℕ, ◌<◌, ◌≤◌, ◌^◌, List, [], ◌∷◌, Option, None, Some, IfSome}
+use Rattle.std.proofs.Common.{IsSomeAnd, All, length, inl, inr, refl, sym, ◌∙◌, ap, subst, arith}
+use Rattle.std.proofs.Common.{get_or}
+use Rattle.std.proofs.lemmas.Option.{slice_get_within, get_or_from_slice_get}
+use Rattle.trips_outside.specs.Outside.{Holds}
+use Rattle.trips_isa.specs.declared.block.Image.{Image}
+use Rattle.trips_isa.specs.declared.run.Stepped.{Stepped}
+use Rattle.trips_isa.specs.Machine.{State}
+use Rattle.c_tree.specs.declared.tree.Program.{Program}
+use Rattle.c_tree.specs.declared.typed.TypedProgram.{TypedProgram}
+use Rattle.c_front.specs.Fronts.{IsAccepted}
+use Rattle.c_front.proofs.Once.{tree_once, not_both, accepted_once, refused_once}
+use Rattle.block_image.specs.Spelling.{ImageBytes}
+use Rattle.block_image.proofs.Decoded as decoded
+use Rattle.block_image.proofs.Prefix.{one_image}
+use Rattle.block_check.specs.declared.fault.CheckFault.{CheckFault}
+use Rattle.block_check.specs.Faults.{IsGood}
+use Rattle.block_check.specs.Images.{IsFirstBad}
+use Rattle.trips_run.specs.declared.command_line.Work.{Work}
+use Rattle.trips_run.specs.declared.command_line.Work.TheVariants.{Run, Evaluate}
+use Rattle.trips_run.specs.declared.command_line.FileForm.{FileForm}
+use Rattle.trips_run.specs.declared.command_line.FileForm.TheVariants as form
+use Rattle.trips_run.specs.declared.loading.Loaded.{Loaded}
+use Rattle.trips_run.specs.declared.loading.Loaded.TheVariants.{Fault, TooLarge, Bytes}
+use Rattle.trips_run.specs.declared.status.Status.{Status}
+use Rattle.trips_run.specs.declared.status.Status.TheVariants as status
+use Rattle.trips_run.specs.Request.{Request}
+use Rattle.trips_run.specs.Read.{IsRead, IsInputRead, IsInput, limit_of, most_input_bytes}
+use Rattle.trips_run.specs.Source.{IsReturn, IsNotBuilt, returned, return_block}
+use Rattle.trips_run.specs.Report.{ending_of, run_report}
+use Rattle.trips_run.specs.Refusal.{front_refusal, image_refusal, check_refusal, too_large_text}
+use Rattle.trips_run.specs.Refused.{IsRefusedByFront, IsRefusedByForm, IsNoImage, IsBadImage}
+use Rattle.trips_run.specs.Refused.{IsRefusedAs, IsLarge}
+use Rattle.trips_run.specs.Answer.{status_of, IsFixed, IsRunBy, IsEvaluation, IsWorked, IsDone}
+use Rattle.trips_run.specs.Answer.{AfterReading, IsAnswerBehind, IsAnswer}
+use Rattle.trips_run.specs.Table.{return_report, Asks, HasLargeFile, HasLargeInput}
+use Rattle.trips_run.proofs.Return.{return_runs, return_reports}
+use Rattle.trips_run.proofs.Forms.{returned_small}
+use Rattle.trips_run.proofs.ReturnTypes.{return_types}
+use Rattle.trips_run.proofs.OneFault.{first_bad_once}
+
+-- texts -----------------------------------------------------------------------------------------
+
+-- the text of a program that returns a number is accepted
+return_accepted : (text : List ℕ) (n : ℕ) → IsReturn text n
+    → (program : TypedProgram) × IsAccepted text program
+return_accepted text n is =
+    let typed = return_types is.tree n is.returns in
+    (typed.0, (is.tree, is.has_tree, typed.1))
+
+-- no stage of the front end refuses it
+return_not_refused : (text out : List ℕ) (n : ℕ) → IsReturn text n → IsRefusedByFront text out → ⊥
+return_not_refused text out n is bad =
+    let ok = return_accepted text n is in not_both text ok.0 bad.0 ok.1 bad.1
+
+-- it is built
+return_built : (text : List ℕ) (n : ℕ) → IsReturn text n → IsNotBuilt text → ⊥
+return_built text n is bad =
+    let same : bad.tree ≡ is.tree = tree_once text bad.tree is.tree bad.has_tree is.has_tree in
+    let none : None ≡ Some n = sym bad.returns ∙ ap returned same ∙ is.returns in
+    absurd (cc)
+
+-- and it returns one number
+return_once : (text : List ℕ) (m n : ℕ) → IsReturn text m → IsReturn text n → m ≡ n
+return_once text m n a b =
+    let same : a.tree ≡ b.tree = tree_once text a.tree b.tree a.has_tree b.has_tree in
+    let one : Some m ≡ Some n = sym a.returns ∙ ap returned same ∙ b.returns in
+    cc
+
+-- images ----------------------------------------------------------------------------------------
+
+good_is_not_bad : (image : Image) (number : ℕ) (fault : CheckFault) → All IsGood image.blocks
+    → IsFirstBad image number fault → ⊥
+good_is_not_bad image number fault good bad =
+    let within : number < length image.blocks = slice_get_within image.blocks number bad.block
+    bad.is_block in
+    let is : get_or image.blocks number bad.block ≡ bad.block =
+    get_or_from_slice_get image.blocks number bad.block bad.block bad.is_block in
+    subst IsGood is (good number bad.block within) fault bad.has.holds
+
+image_not_refused : (bytes out : List ℕ) (image : Image) → ImageBytes image bytes
+    → All IsGood image.blocks → IsRefusedAs Run form.Image bytes out → ⊥
+image_not_refused bytes out image spelled good (inl bad) =
+    decoded.not_both image bytes bad.0 spelled bad.1
+image_not_refused bytes out image spelled good (inr bad) =
+    let same : bad.0 ≡ image = one_image bad.0 image bytes bad.3 spelled in
+    good_is_not_bad image bad.1 bad.2 good
+    (subst (λ (i : Image). IsFirstBad i bad.1 bad.2) same bad.4)
+
+-- the work --------------------------------------------------------------------------------------
+
+-- bytes that are refused are not worked with
+pub not_worked : (work : Work) (how : FileForm) (most : ℕ) (bytes input : List ℕ) (s : Status)
+    (report out : List ℕ) → IsRefusedAs work how bytes out
+    → IsWorked work how most bytes input s report → ⊥
+not_worked Evaluate how most bytes input s report out bad run =
+    not_both bytes run.0 bad.0 run.1 bad.1
+not_worked Run form.Source most bytes input s report out (inl bad) run =
+    return_not_refused bytes out run.0 run.1 bad
+not_worked Run form.Source most bytes input s report out (inr bad) run =
+    return_built bytes run.0 run.1 bad.0
+not_worked Run form.Image most bytes input s report out bad run =
+    image_not_refused bytes out run.0 run.1 run.2 bad
+
+front_once : (text a b : List ℕ) → IsRefusedByFront text a → IsRefusedByFront text b → a ≡ b
+front_once text a b x y =
+    x.2 ∙ ap front_refusal (refused_once text x.0 y.0 x.1 y.1) ∙ sym y.2
+
+form_or_front : (text : List ℕ) (a b : List ℕ) → IsRefusedByFront text a
+    → IsRefusedByForm text b → ⊥
+form_or_front text a b x y =
+    not_both text y.0.program x.0 (y.0.tree, y.0.has_tree, y.0.has_types) x.1
+
+bad_once : (bytes a b : List ℕ) → IsBadImage bytes a → IsBadImage bytes b → a ≡ b
+bad_once bytes a b x y =
+    let same : y.0 ≡ x.0 = one_image y.0 x.0 bytes y.3 x.3 in
+    let again = subst (λ (i : Image). IsFirstBad i y.1 y.2) same y.4 in
+    let one = first_bad_once x.0 x.1 y.1 x.2 y.2 x.3.fits x.4 again in
+    x.5 ∙ ap (λ (n : ℕ). check_refusal n x.2) one.0 ∙ ap (check_refusal y.1) one.1 ∙ sym y.5
+
+-- bytes are refused with one report
+pub refusal_once : (work : Work) (how : FileForm) (bytes a b : List ℕ)
+    → IsRefusedAs work how bytes a → IsRefusedAs work how bytes b → a ≡ b
+refusal_once Evaluate how bytes a b x y = front_once bytes a b x y
+refusal_once Run form.Source bytes a b (inl x) (inl y) = front_once bytes a b x y
+refusal_once Run form.Source bytes a b (inl x) (inr y) = absurd (form_or_front bytes a b x y)
+refusal_once Run form.Source bytes a b (inr x) (inl y) = absurd (form_or_front bytes b a y x)
+refusal_once Run form.Source bytes a b (inr x) (inr y) = x.1 ∙ sym y.1
+refusal_once Run form.Image bytes a b (inl x) (inl y) =
+    x.2 ∙ ap image_refusal (decoded.one_fault bytes x.0 y.0 x.1 y.1) ∙ sym y.2
+refusal_once Run form.Image bytes a b (inl x) (inr y) =
+    absurd (decoded.not_both y.0 bytes x.0 y.3 x.1)
+refusal_once Run form.Image bytes a b (inr x) (inl y) =
+    absurd (decoded.not_both x.0 bytes y.0 x.3 y.1)
+refusal_once Run form.Image bytes a b (inr x) (inr y) = bad_once bytes a b x y
+
+-- what is done with bytes that are refused
+pub refused_exact : (work : Work) (how : FileForm) (most : ℕ) (bytes input : List ℕ) (s : Status)
+    (report out : List ℕ) → IsDone work how most bytes input s report
+    → IsRefusedAs work how bytes out → (s ≡ status.Refused) × (report ≡ out)
+refused_exact work how most bytes input s report out (inl x) bad =
+    (x.2.0, x.2.1 ∙ refusal_once work how bytes x.0 out x.1 bad)
+refused_exact work how most bytes input s report out (inr run) bad =
+    absurd (not_worked work how most bytes input s report out bad run)
+
+-- with an accepted text under `eval`
+pub eval_exact : (how : FileForm) (steps : ℕ) (text input : List ℕ) (s : Status)
+    (report : List ℕ) (program : TypedProgram) → IsDone Evaluate how steps text input s report
+    → IsAccepted text program → IsEvaluation program input steps s report
+eval_exact how steps text input s report program (inl x) is =
+    absurd (not_both text program x.1.0 is x.1.1)
+eval_exact how steps text input s report program (inr run) is =
+    subst (λ (p : TypedProgram). IsEvaluation p input steps s report)
+    (accepted_once text run.0 program run.1 is) run.2
+
+-- with an image of good blocks under `run`
+pub image_exact : (most : ℕ) (bytes input : List ℕ) (s : Status) (report : List ℕ)
+    (image : Image) → IsDone Run form.Image most bytes input s report → ImageBytes image bytes
+    → All IsGood image.blocks → IsRunBy image.blocks image.bytes input most s report
+image_exact most bytes input s report image (inl x) spelled good =
+    absurd (image_not_refused bytes x.0 image spelled good x.1)
+image_exact most bytes input s report image (inr run) spelled good =
+    subst (λ (i : Image). IsRunBy i.blocks i.bytes input most s report)
+    (one_image run.0 image bytes run.1 spelled) run.3
+
+-- the run of the program that returns n
+ran_as : (n most : ℕ) (input : List ℕ) (s : Status) (report : List ℕ) → n < 2 ^ 16 → 0 < most
+    → IsRunBy (return_block n ∷ []) [] input most s report
+    → (s ≡ status.Ended) × (report ≡ return_report n)
+ran_as n most input s report low some run =
+    let e = return_runs n input most some in (
+      run.0 ∙ ap (λ (r : State × Stepped). status_of (ending_of r.1 r.0.next)) e,
+      run.1 ∙ ap (λ (r : State × Stepped). run_report (ending_of r.1 r.0.next) r.0) e
+          ∙ return_reports input n low,
+    )
+
+-- with the text of a program that returns n under `run`
+pub return_exact : (most : ℕ) (text input : List ℕ) (s : Status) (report : List ℕ) (n : ℕ)
+    → IsDone Run form.Source most text input s report → IsReturn text n → 0 < most
+    → (s ≡ status.Ended) × (report ≡ return_report n)
+return_exact most text input s report n (inl x) is some =
+    absurd (refused x.1)
+  where
+    refused : IsRefusedAs Run form.Source text x.0 → ⊥
+    refused (inl bad) = return_not_refused text x.0 n is bad
+    refused (inr bad) = return_built text n is bad.0
+return_exact most text input s report n (inr run) is some =
+    let same : run.0 ≡ n = return_once text run.0 n run.1 is in
+    ran_as n most input s report (returned_small is.tree n is.returns) some
+    (subst (λ (m : ℕ). IsRunBy (return_block m ∷ []) [] input most s report) same run.2)
+
+-- reading ---------------------------------------------------------------------------------------
+
+-- bytes that were read are those that are told
+told_text : (told : Option (List ℕ)) (text read : List ℕ) → told ≡ Some text → Holds told read
+    → read ≡ text
+told_text None text read e h = absurd (cc)
+told_text (Some bytes) text read e h = let same : bytes ≡ text = cc in h ∙ same
+
+-- bytes within the limit are not told to be too many
+told_few : (told : Option (List ℕ)) (text : List ℕ) (limit : ℕ) → told ≡ Some text
+    → length text ≤ limit → IfSome told (λ bytes. limit < length bytes) → ⊥
+told_few None text limit e few large = absurd (cc)
+told_few (Some bytes) text limit e few large =
+    let same : text ≡ bytes = cc in
+    let m : length text ≡ length bytes = ap length same in absurd (omega (arith, large, m))
+
+-- a file that is told is read, where nothing fails
+file_read : (told : Option (List ℕ)) (rose : Type 0) (limit : ℕ) (loaded : Loaded)
+    (bytes : List ℕ) → IsRead told rose limit loaded → told ≡ Some bytes → length bytes ≤ limit
+    → (rose → ⊥) → loaded ≡ Bytes bytes
+file_read told rose limit Fault bytes h t few r = absurd (r h)
+file_read told rose limit TooLarge bytes h t few r = absurd (told_few told bytes limit t few h)
+file_read told rose limit (Bytes read) bytes h t few r =
+    ap (λ (x : List ℕ). Bytes x) (told_text told bytes read t h.0)
+
+-- and so is an input
+input_read : (input : Option (List ℕ)) (held : List ℕ → Option (List ℕ)) (rose : Type 0)
+    (loaded : Loaded) (bytes : List ℕ) → IsInputRead input held rose loaded
+    → IsInput input held bytes → length bytes ≤ most_input_bytes → (rose → ⊥)
+    → loaded ≡ Bytes bytes
+input_read None held rose loaded bytes h i few r = h ∙ ap (λ (x : List ℕ). Bytes x) (sym i)
+input_read (Some name) held rose loaded bytes h i few r =
+    file_read (held name) rose most_input_bytes loaded bytes h i few r
+
+-- a file that is told to be too large is not read
+file_large : (told : Option (List ℕ)) (rose : Type 0) (limit : ℕ) (loaded : Loaded)
+    → IsRead told rose limit loaded → IsSomeAnd told (λ bytes. limit < length bytes)
+    → (rose → ⊥) → loaded ≡ TooLarge
+file_large told rose limit Fault h large r = absurd (r h)
+file_large told rose limit TooLarge h large r = refl
+file_large None rose limit (Bytes read) h large r = absurd large
+file_large (Some bytes) rose limit (Bytes read) h large r =
+    let m : length read ≡ length bytes = ap length h.0 in
+    absurd (omega (arith, large, m, h.1))
+
+input_large : (input : Option (List ℕ)) (held : List ℕ → Option (List ℕ)) (rose : Type 0)
+    (loaded : Loaded) → IsInputRead input held rose loaded → IsLarge input held → (rose → ⊥)
+    → loaded ≡ TooLarge
+input_large None held rose loaded h large r = absurd large
+input_large (Some name) held rose loaded h large r =
+    file_large (held name) rose most_input_bytes loaded h large r
+
+-- answers ---------------------------------------------------------------------------------------
+
+module _ (request : Option Request) (held : List ℕ → Option (List ℕ)) (rose : Type 0)
+    (s : Status) (report : List ℕ) (a : IsAnswer request held rose s report) (r : rose → ⊥) where
+  -- the row of the request
+  row_of : (q : Request) → request ≡ Some q → IsAnswer (Some q) held rose s report
+  row_of q e = subst (λ (x : Option Request). IsAnswer x held rose s report) e a
+
+  -- the rest of the row behind a file that was read
+  behind : (q : Request) (bytes : List ℕ) → request ≡ Some q → held q.file ≡ Some bytes
+      → length bytes ≤ limit_of q.form → IsAnswerBehind q held rose bytes s report
+  behind q bytes e t few =
+      let row = row_of q e in
+      let is = file_read (held q.file) rose (limit_of q.form) row.0 bytes row.1 t few r in
+      subst (λ (x : Loaded). AfterReading x (λ bs. IsAnswerBehind q held rose bs s report) s report)
+      is row.2
+
+  -- what is done where the file and the input are told
+  pub complete : (work : Work) (how : FileForm) (most : ℕ) (bytes input : List ℕ)
+      → Asks request held work how most bytes input → IsDone work how most bytes input s report
+  complete work how most bytes input asks =
+      let rest = behind asks.q bytes asks.asked asks.told.told asks.told.few in
+      let is = input_read asks.q.input held rose rest.0 input rest.1 asks.told.told_input
+      asks.told.few_input r in
+      let done = subst (λ (x : Loaded). AfterReading x
+      (λ i. IsDone asks.q.work asks.q.form asks.q.most bytes i s report) s report) is rest.2 in
+      subst (λ (m : ℕ). IsDone work how m bytes input s report) asks.is_most
+      (subst (λ (f : FileForm). IsDone work f asks.q.most bytes input s report) asks.is_form
+      (subst (λ (w : Work). IsDone w asks.q.form asks.q.most bytes input s report) asks.is_work
+      done))
+
+  -- a file that is too large
+  pub large_file : (q : Request) → request ≡ Some q → HasLargeFile q held
+      → IsFixed status.Refused too_large_text s report
+  large_file q e large =
+      let row = row_of q e in
+      let is = file_large (held q.file) rose (limit_of q.form) row.0 row.1 large r in
+      subst (λ (x : Loaded). AfterReading x (λ bs. IsAnswerBehind q held rose bs s report) s report)
+      is row.2
+
+  -- an input that is too large
+  pub large_input : (q : Request) → request ≡ Some q → HasLargeInput q held
+      → IsFixed status.Refused too_large_text s report
+  large_input q e large =
+      let text = some_of (held q.file) (λ bytes. length bytes ≤ limit_of q.form) large.0 in
+      let rest = behind q text.0 e text.1 text.2 in
+      let is = input_large q.input held rose rest.0 rest.1 large.1 r in
+      subst (λ (x : Loaded). AfterReading x
+      (λ i. IsDone q.work q.form q.most text.0 i s report) s report) is rest.2
+    where
+      some_of : (told : Option (List ℕ)) (P : List ℕ → Type 0) → IsSomeAnd told P
+          → (bytes : List ℕ) × (told ≡ Some bytes) × P bytes
+      some_of None P h = absurd h
+      some_of (Some bytes) P h = (bytes, refl, h)

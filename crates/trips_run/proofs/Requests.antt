@@ -1,0 +1,153 @@
+-- A request goes on for at least one block or step.
+use Rattle.std.proofs.Common.{◌≡◌, ℕ, ◌<◌, ◌≤◌, Bool, true, false, cond, ◌&&◌, nat_le, List, [], ◌∷◌}
+use Rattle.std.proofs.Common.{Option, None, Some, is_some, ap, sym, subst, refl, ◌∙◌, arith}
+use Rattle.std.specs.Prelude.{option_map, option_and_then, codes, map, String, string_bytes}
+use Rattle.std.specs.Prelude.{nat_eq, bytes_eq}
+use Rattle.std.specs.List.{starts_with}
+use Rattle.std.proofs.lemmas.Bool.Decides.{nat_tests}
+use Rattle.trips_run.specs.Number.{is_number, value_from, number_to}
+use Rattle.trips_run.specs.Options.{Options, no_options, is_option, with_input, with_count}
+use Rattle.trips_run.specs.Options.{with_option, options_of, most_count}
+use Rattle.trips_run.specs.Request.{Request, is_no_file, most_of, run_of, evaluation_of}
+use Rattle.trips_run.specs.Request.{run_with, eval_with, commanded, asked, request_of}
+
+-- a number that an option may have
+IsCount : Option ℕ → Type 0
+IsCount None = Unit {0}
+IsCount (Some n) = 0 < n
+
+-- what options are made says a count that is one
+AreCounted : Option Options → Type 0
+AreCounted None = Unit {0}
+AreCounted (Some options) = 0 < most_of options.count
+
+number_counts : (most : ℕ) (word : List ℕ) (n : ℕ) → number_to most word ≡ Some n → 0 < n
+number_counts most word n e = go (is_number word) (nat_le 1 v) (nat_le v most) refl e
+  where
+    v : ℕ
+    v = value_from 0 word
+    go : (x y z : Bool) → nat_le 1 v ≡ y → cond (x && (y && z)) (Some v) None ≡ Some n → 0 < n
+    go true true true is e = let same : v ≡ n = cc in grind (arith, nat_tests)
+    go true true false is e = absurd (cc)
+    go true false z is e = absurd (cc)
+    go false y z is e = absurd (cc)
+
+count_made : (options : Options) (o : Option ℕ) → ((n : ℕ) → o ≡ Some n → 0 < n)
+    → AreCounted (option_map (λ n. record options { count = Some n }) o)
+unfolding AreCounted
+count_made options None some = tt
+count_made options (Some n) some = some n refl
+
+with_count_counts : (options : Options) (value : List ℕ) → AreCounted (with_count options value)
+with_count_counts options value = go (is_some options.count)
+  where
+    go : (b : Bool) → AreCounted (cond b None
+        (option_map (λ n. record options { count = Some n }) (number_to most_count value)))
+    unfolding AreCounted
+    go true = tt
+    go false = count_made options (number_to most_count value)
+        (λ n e. number_counts most_count value n e)
+
+with_input_counts : (options : Options) (value : List ℕ) → 0 < most_of options.count
+    → AreCounted (with_input options value)
+with_input_counts options value some = go (is_some options.input)
+  where
+    go : (b : Bool) → AreCounted (cond b None (Some (record options { input = Some value })))
+    unfolding AreCounted
+    go true = tt
+    go false = some
+
+option_counts : (name : List ℕ) (options : Options) (option value : List ℕ)
+    → 0 < most_of options.count → AreCounted (with_option name options option value)
+option_counts name options option value some =
+    go (is_option value) (bytes_eq option (codes "--input")) (bytes_eq option name)
+  where
+    go : (x y z : Bool) → AreCounted (cond x None (cond y (with_input options value)
+        (cond z (with_count options value) None)))
+    unfolding AreCounted
+    go true y z = tt
+    go false true z = with_input_counts options value some
+    go false false true = with_count_counts options value
+    go false false false = tt
+
+two_count : (name : List ℕ) (first : Option Options) (b y : List ℕ) → AreCounted first
+    → AreCounted (option_and_then (λ options. with_option name options b y) first)
+unfolding AreCounted
+two_count name None b y some = tt
+two_count name (Some options) b y some = option_counts name options b y some
+
+none_counts : 0 < most_of no_options.count
+none_counts = omega arith
+
+options_count : (name : List ℕ) (words : List (List ℕ)) → AreCounted (options_of name words)
+unfolding AreCounted
+options_count name [] = none_counts
+options_count name (a ∷ []) = tt
+options_count name (a ∷ x ∷ []) = option_counts name no_options a x none_counts
+options_count name (a ∷ x ∷ b ∷ []) = tt
+options_count name (a ∷ x ∷ b ∷ y ∷ []) =
+    two_count name (with_option name no_options a x) b y
+    (option_counts name no_options a x none_counts)
+options_count name (a ∷ x ∷ b ∷ y ∷ c ∷ more) = tt
+
+-- a request that is made goes on for one block or step at least
+GoesOn : Option Request → Type 0
+GoesOn None = Unit {0}
+GoesOn (Some q) = 0 < q.most
+
+run_made : (file : List ℕ) (o : Option Options) → AreCounted o
+    → GoesOn (option_map (λ (options : Options). run_of file options) o)
+unfolding AreCounted GoesOn
+run_made file None some = tt
+run_made file (Some options) some = some
+
+eval_made : (file : List ℕ) (o : Option Options) → AreCounted o
+    → GoesOn (option_map (λ (options : Options). evaluation_of file options) o)
+unfolding AreCounted GoesOn
+eval_made file None some = tt
+eval_made file (Some options) some = some
+
+run_goes : (file : List ℕ) (words : List (List ℕ)) → GoesOn (run_with file words)
+run_goes file words = go (is_no_file file)
+  where
+    go : (b : Bool) → GoesOn (cond b None (option_map (λ (options : Options). run_of file options)
+        (options_of (codes "--blocks") words)))
+    unfolding GoesOn
+    go true = tt
+    go false = run_made file (options_of (codes "--blocks") words)
+        (options_count (codes "--blocks") words)
+
+eval_goes : (file : List ℕ) (words : List (List ℕ)) → GoesOn (eval_with file words)
+eval_goes file words = go (starts_with nat_eq file (codes "-"))
+  where
+    go : (b : Bool) → GoesOn (cond b None
+        (option_map (λ (options : Options). evaluation_of file options)
+        (options_of (codes "--steps") words)))
+    unfolding GoesOn
+    go true = tt
+    go false = eval_made file (options_of (codes "--steps") words)
+        (options_count (codes "--steps") words)
+
+command_goes : (command file : List ℕ) (words : List (List ℕ))
+    → GoesOn (commanded command file words)
+command_goes command file words =
+    go (bytes_eq command (codes "run")) (bytes_eq command (codes "eval"))
+  where
+    go : (x y : Bool) → GoesOn (cond x (run_with file words)
+        (cond y (eval_with file words) None))
+    unfolding GoesOn
+    go true y = run_goes file words
+    go false true = eval_goes file words
+    go false false = tt
+
+asked_goes : (words : List (List ℕ)) → GoesOn (asked words)
+unfolding GoesOn
+asked_goes [] = tt
+asked_goes (command ∷ []) = tt
+asked_goes (command ∷ file ∷ words) = command_goes command file words
+
+-- the request of any words goes on for one block or step at least
+pub request_goes : {A : Type 0} (words : List (String A)) (q : Request)
+    → request_of words ≡ Some q → 0 < q.most
+unfolding GoesOn
+request_goes words q e = subst GoesOn e (asked_goes (map (λ word. string_bytes word) words))

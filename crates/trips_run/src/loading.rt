@@ -1,0 +1,59 @@
+//! Files that are read whole.
+
+ghost use Rattle.std.specs.Prelude.{◌≡◌, ◌≤◌, option_copied, IfOk};
+ghost use Rattle.trips_outside.specs.Outside.{Rose};
+ghost use Rattle.trips_run.specs.Read.{IsRead, IsInputRead, IsWithin};
+
+use base::Items;
+use std::alloc::{AllocError, Global};
+use trips_outside::{Files, LoadFault, load};
+
+/// How many bytes an input may have.
+const MOST_INPUT_BYTES: u64 = 1_048_576;
+
+/// What reading a file came to.
+#[derive(Drop)]
+pub enum Loaded {
+    Fault,
+    TooLarge,
+    Bytes(Items<u8>),
+}
+
+/// Reads a file of at most `limit` bytes. Want of memory is the only error.
+pub fn read<F: Files>(
+    alloc: Global,
+    files: &mut F,
+    name: &str,
+    limit: u64,
+) -> Result<Loaded, AllocError>
+    ensures ok { IfOk result (IsRead (F.held files.old name.now)
+        (Rose (F.faults files.old) (F.faults files.new)) limit) }
+    ensures within { IfOk result (IsWithin limit) }
+    ensures kept { F.held files.new ≡ F.held files.old }
+    ensures later { F.faults files.old ≤ F.faults files.new }
+{
+    match load(alloc, files, name, limit) {
+        Ok(bytes) => Ok(Loaded::Bytes(Items::from_vec(bytes))),
+        Err(LoadFault::Fault) => Ok(Loaded::Fault),
+        Err(LoadFault::TooLarge) => Ok(Loaded::TooLarge),
+        Err(LoadFault::Memory) => Err(AllocError),
+    }
+}
+
+/// Reads the input, which is empty where no file is named. Want of memory is the only error.
+#[tactic(auto, unfolding(crate::specs::Read::most_input_bytes))]
+pub fn read_input<F: Files>(
+    alloc: Global,
+    files: &mut F,
+    name: Option<&str>,
+) -> Result<Loaded, AllocError>
+    ensures ok { IfOk result (IsInputRead (option_copied name.entry) (F.held files.old)
+        (Rose (F.faults files.old) (F.faults files.new))) }
+    ensures kept { F.held files.new ≡ F.held files.old }
+    ensures later { F.faults files.old ≤ F.faults files.new }
+{
+    match name {
+        None => Ok(Loaded::Bytes(Items::new(alloc))),
+        Some(name) => read(alloc, files, name, MOST_INPUT_BYTES),
+    }
+}

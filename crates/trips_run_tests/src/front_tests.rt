@@ -1,0 +1,298 @@
+//! `run` on texts of C: what is built, and what each stage refuses.
+use crate::harness::answer_of;
+use std::alloc::{AllocError, Global};
+use std::process::Abort;
+use std::test::Fail;
+use trips_run::Status;
+
+const BUILT: &[(&str, &str)] = &[
+    ("int main(void) { return 7; }", "output 0\n\nresult 7\n"),
+    ("int main() { return 7; }", "output 0\n\nresult 7\n"),
+    ("int main(void){return 7;}\n\n", "output 0\n\nresult 7\n"),
+    (
+        "/* seven */ signed int\nmain ( ) // none\n{ return 07 ; }",
+        "output 0\n\nresult 7\n",
+    ),
+    (
+        "int main(void) { return 0xfFfF; }",
+        "output 0\n\nresult 65535\n",
+    ),
+    ("int main(void) { return 'a'; }", "output 0\n\nresult 97\n"),
+];
+
+const NOT_BUILT: &[(&str, &str)] = &[
+    (
+        "int main(void) { return 65536; }",
+        "refused form 1 FormNotBuilt\n",
+    ),
+    (
+        "int main(void) { return 7u; }",
+        "refused form 1 FormNotBuilt\n",
+    ),
+    (
+        "int main(void) { return 7L; }",
+        "refused form 1 FormNotBuilt\n",
+    ),
+    (
+        "int main(void) { return +7; }",
+        "refused form 1 FormNotBuilt\n",
+    ),
+    (
+        "int main(void) { return -7; }",
+        "refused form 1 FormNotBuilt\n",
+    ),
+    (
+        "int main(void) { return '\\377'; }",
+        "refused form 1 FormNotBuilt\n",
+    ),
+    (
+        "int main(void) { return (7); }",
+        "refused form 1 FormNotBuilt\n",
+    ),
+    (
+        "int main(void) { return (int) 7; }",
+        "refused form 1 FormNotBuilt\n",
+    ),
+    (
+        "int main(void) { return 3 + 4; }",
+        "refused form 1 FormNotBuilt\n",
+    ),
+    (
+        "int main(void) { ; return 7; }",
+        "refused form 1 FormNotBuilt\n",
+    ),
+    (
+        "int main(void) { return 7; ; }",
+        "refused form 1 FormNotBuilt\n",
+    ),
+    (
+        "int main(void) { { return 7; } }",
+        "refused form 1 FormNotBuilt\n",
+    ),
+    ("int main(void) { }", "refused form 1 FormNotBuilt\n"),
+    (
+        "int x; int main(void) { return 7; }",
+        "refused form 1 FormNotBuilt\n",
+    ),
+    (
+        "int main(void); int main(void) { return 7; }",
+        "refused form 1 FormNotBuilt\n",
+    ),
+    (
+        "#include <stdio.h>\nint main(void) { return 7; }",
+        "refused form 1 FormNotBuilt\n",
+    ),
+];
+
+const LEXER: &[(&str, &str)] = &[
+    ("@", "refused lex 1 BadByte line 1\n"),
+    (
+        "int main(void) {\n return 18446744073709551616; }",
+        "refused lex 2 BadLiteral line 2\n",
+    ),
+    (
+        "int main(void) { return 0xE+1; }",
+        "refused lex 2 BadLiteral line 1\n",
+    ),
+    ("/*", "refused lex 3 Unclosed line 1\n"),
+    ("#define A 1\n", "refused lex 5 Directive line 1\n"),
+    (
+        "int main(void) { return }\n@",
+        "refused lex 1 BadByte line 2\n",
+    ),
+];
+
+const GRAMMAR: &[(&str, &str)] = &[
+    ("", "refused parse 1 Syntax line 1\n"),
+    ("\n\n", "refused parse 1 Syntax line 1\n"),
+    (
+        "int main(void) { return 1 }",
+        "refused parse 1 Syntax line 1\n",
+    ),
+    (
+        "int main(void)\n{ return 1;\n",
+        "refused parse 1 Syntax line 2\n",
+    ),
+    (
+        "int main(void)\n{ return y; }\n}",
+        "refused parse 1 Syntax line 3\n",
+    ),
+    (
+        "int main(void) { else return 7; }",
+        "refused parse 1 Syntax line 1\n",
+    ),
+    (
+        "int main(void) { return 7; } static",
+        "refused parse 1 Syntax line 1\n",
+    ),
+];
+
+const TYPING: &[(&str, &str)] = &[
+    (
+        "int main(void) { return y; }",
+        "refused type 1 Unknown line 1\n",
+    ),
+    (
+        "int main(void) { return\n f(); }",
+        "refused type 1 Unknown line 2\n",
+    ),
+    (
+        "int x;\nint x;\nint main(void) { return 7; }",
+        "refused type 2 Twice line 2\n",
+    ),
+    (
+        "int main(void) { return; }",
+        "refused type 3 Mismatch line 1\n",
+    ),
+    (
+        "int main(void) {\n 1 = 2; return 7; }",
+        "refused type 3 Mismatch line 2\n",
+    ),
+    (
+        "int main(void) {\n break; return 7; }",
+        "refused type 3 Mismatch line 2\n",
+    ),
+    (
+        "int f(int a) { return a; }\nint main(void) { return f(); }",
+        "refused type 4 Arity line 2\n",
+    ),
+    ("int x;", "refused type 5 NoMain\n"),
+    ("long main(void) { return 7; }", "refused type 5 NoMain\n"),
+    (
+        "int f(int a, int b, int c, int d, int e, int g, int h, int i,\n int j);\n\
+         int main(void) { return 7; }",
+        "refused type 7 TooManyParams line 2\n",
+    ),
+    (
+        "int main(void) {\n char a[1048577]; return 7; }",
+        "refused type 9 TooLarge line 2\n",
+    ),
+];
+
+// Each text under this command is answered by its report, with this status.
+fn assert_rows(
+    rt: &impl Abort,
+    alloc: Global,
+    command: &str,
+    status: Status,
+    rows: &[(&str, &str)],
+) -> Result<(), AllocError> {
+    for (text, report) in rows {
+        let (answered, written) = answer_of(alloc, &[command, "a.c"], &[("a.c", text.as_bytes())])?;
+        assert_eq!(rt; answered, status, "{command} {text}");
+        assert_eq!(rt; written.as_slice(), report.as_bytes(), "{command} {text}");
+    }
+    Ok(())
+}
+
+#[test]
+fn builds_each_spelling_of_a_returned_number(rt: HostRuntime) -> Result<(), Fail> {
+    assert_rows(&rt, rt.alloc(), "run", Status::Ended, BUILT)?;
+    Ok(())
+}
+
+#[test]
+fn builds_no_other_program(rt: HostRuntime) -> Result<(), Fail> {
+    assert_rows(&rt, rt.alloc(), "run", Status::Refused, NOT_BUILT)?;
+    Ok(())
+}
+
+#[test]
+fn refuses_by_the_first_stage(rt: HostRuntime) -> Result<(), Fail> {
+    let alloc = rt.alloc();
+    for command in ["run", "eval"] {
+        assert_rows(&rt, alloc, command, Status::Refused, LEXER)?;
+        assert_rows(&rt, alloc, command, Status::Refused, GRAMMAR)?;
+        assert_rows(&rt, alloc, command, Status::Refused, TYPING)?;
+    }
+    Ok(())
+}
+
+// The body of `main` is at depth 1, its statement at 2, and each parenthesis one deeper.
+#[test]
+fn nests_to_a_depth_of_64(rt: HostRuntime) -> Result<(), Fail> {
+    let alloc = rt.alloc();
+    let rows = [
+        (62usize, "refused form 1 FormNotBuilt\n"),
+        (63, "refused parse 2 TooDeep line 1\n"),
+    ];
+    for (count, report) in rows {
+        let mut text = String::from_str(alloc, "int main(void) { return ")?;
+        for _i in 0..count {
+            text.push_str("(")?;
+        }
+        text.push_str("1")?;
+        for _i in 0..count {
+            text.push_str(")")?;
+        }
+        text.push_str("; }")?;
+        assert_rows(
+            &rt,
+            alloc,
+            "run",
+            Status::Refused,
+            &[(text.as_str(), report)],
+        )?;
+    }
+    Ok(())
+}
+
+// The 65th scalar stands on line 3.
+#[test]
+fn takes_64_scalars(rt: HostRuntime) -> Result<(), Fail> {
+    let alloc = rt.alloc();
+    let rows = [
+        ("", "refused form 1 FormNotBuilt\n"),
+        ("int y;", "refused type 6 TooManyScalars line 3\n"),
+    ];
+    for (more, report) in rows {
+        let mut text = String::from_str(alloc, "int main(void) {\n")?;
+        for i in 0..64u32 {
+            text.push_str("int x")?;
+            text.push_str(i.to_string(alloc)?.as_str())?;
+            text.push_str("; ")?;
+        }
+        text.push_str("\n")?;
+        text.push_str(more)?;
+        text.push_str(" return 0; }")?;
+        assert_rows(
+            &rt,
+            alloc,
+            "run",
+            Status::Refused,
+            &[(text.as_str(), report)],
+        )?;
+    }
+    Ok(())
+}
+
+// Seven arguments wait while the eighth, a sum nested to the right, is evaluated.
+#[test]
+fn takes_a_need_of_16(rt: HostRuntime) -> Result<(), Fail> {
+    let alloc = rt.alloc();
+    let rows = [
+        (8usize, "refused form 1 FormNotBuilt\n"),
+        (9, "refused type 8 Need line 1\n"),
+    ];
+    for (count, report) in rows {
+        let mut text = String::from_str(alloc, "int f(int a, int b, int c, int d, int e, ")?;
+        text.push_str("int g, int h, int i) { return i; } int main(void) { ")?;
+        text.push_str("return f(1, 1, 1, 1, 1, 1, 1, ")?;
+        for _i in 0..count {
+            text.push_str("1 + (")?;
+        }
+        text.push_str("1")?;
+        for _i in 0..count {
+            text.push_str(")")?;
+        }
+        text.push_str("); }")?;
+        assert_rows(
+            &rt,
+            alloc,
+            "run",
+            Status::Refused,
+            &[(text.as_str(), report)],
+        )?;
+    }
+    Ok(())
+}

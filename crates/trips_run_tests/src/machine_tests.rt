@@ -1,0 +1,105 @@
+//! `run` on images by their target texts: an input, and a number of blocks.
+use crate::harness::answer_of;
+use block_image::encode;
+use std::alloc::Global;
+use std::process::Abort;
+use std::test::Fail;
+use target_asm::assemble;
+use trips_run::Status;
+
+/// Lines of the blocks, words after the file's name, an input, and the status with the report.
+type Row = (
+    &'static str,
+    &'static [&'static str],
+    &'static [u8],
+    Status,
+    &'static str,
+);
+
+// A block that goes to itself.
+const FOREVER: &str = "N[0] bro 0 @0\n";
+
+// System call 2 of each block gives a byte of the input in register 3, and the last block ends with it.
+const SECOND_BYTE: &str = "W[0] write G[0]
+N[0] genu 2 W[0]
+N[1] scall 0
+block 1 mask 00000000
+W[0] write G[0]
+N[0] genu 2 W[0]
+N[1] scall 0
+block 2 mask 00000000
+W[0] write G[0]
+N[0] genu 3 W[0]
+N[1] scall 0
+";
+
+const ROWS: &[Row] = &[
+    (
+        FOREVER,
+        &["--blocks", "100"],
+        b"",
+        Status::Budget,
+        "output 0\n\nbudget 100\n",
+    ),
+    (
+        FOREVER,
+        &["--blocks", "1"],
+        b"",
+        Status::Budget,
+        "output 0\n\nbudget 1\n",
+    ),
+    (
+        SECOND_BYTE,
+        &["--input", "t", "--blocks", "3"],
+        b"a\xff",
+        Status::Ended,
+        "output 0\n\nresult 255\n",
+    ),
+    (
+        SECOND_BYTE,
+        &["--blocks", "3", "--input", "t"],
+        b"a",
+        Status::Ended,
+        "output 0\n\nresult -1\n",
+    ),
+    (
+        SECOND_BYTE,
+        &["--input", "t", "--blocks", "2"],
+        b"ab",
+        Status::Budget,
+        "output 0\n\nbudget 2\n",
+    ),
+    (
+        SECOND_BYTE,
+        &[],
+        b"ab",
+        Status::Ended,
+        "output 0\n\nresult -1\n",
+    ),
+];
+
+/// The bytes of the image whose first block has these lines.
+fn image_of(alloc: Global, lines: &str) -> Result<Vec<u8>, Fail> {
+    let text = format!(in alloc; "trips 1\ndata 0\nblock 0 mask 00000000\n{lines}")?;
+    let image = assemble(alloc, text.as_bytes())?;
+    Ok(encode(alloc, &image)?)
+}
+
+fn assert_rows(rt: &impl Abort, alloc: Global, rows: &[Row]) -> Result<(), Fail> {
+    for (lines, others, input, status, report) in rows {
+        let bytes = image_of(alloc, *lines)?;
+        let mut words = Vec::new(alloc);
+        words.push("run")?;
+        words.push("b.img")?;
+        words.extend_from_slice(others)?;
+        let (answered, written) = answer_of(alloc, &words, &[("b.img", &bytes), ("t", *input)])?;
+        assert_eq!(rt; answered, *status, "{lines}");
+        assert_eq!(rt; written.as_slice(), report.as_bytes(), "{lines}");
+    }
+    Ok(())
+}
+
+#[test]
+fn runs_on_an_input_for_a_number_of_blocks(rt: HostRuntime) -> Result<(), Fail> {
+    assert_rows(&rt, rt.alloc(), ROWS)
+}
