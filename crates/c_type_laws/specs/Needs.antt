@@ -21,6 +21,7 @@ node_needs (Choice t x y) = plain (max t.need (max x.need y.need))
 node_needs (Assign op at x y) = plain (assign_need x.index y.need)
 node_needs (Comma x y) = plain (max x.need y.need)
 
+-- a node has the needs of its level
 abbrev pub of_needs : TypedExpr-F Needs Needs → Needs
 of_needs e = e.node
 

@@ -20,26 +20,32 @@ abbrev pub scalar_kind : Kind → Option ℕ → Option Kind
 scalar_kind k None = Some k
 scalar_kind k (Some n) = None
 
+-- the type of a global's elements, where it is an array
 abbrev pub element_kind : Kind → Option ℕ → Option Kind
 element_kind k None = None
 element_kind k (Some n) = Some k
 
+-- the type of a global that is a scalar
 abbrev pub global_scalar : Option TypedGlobal → Option Kind
 global_scalar None = None
 global_scalar (Some g) = scalar_kind g.kind g.length
 
+-- the type of the elements of a global that is an array
 abbrev pub global_array : Option TypedGlobal → Option Kind
 global_array None = None
 global_array (Some g) = element_kind g.kind g.length
 
+-- the type of a slot that holds a value
 abbrev pub slot_scalar : Option Slot → Option Kind
 slot_scalar (Some (slot.Scalar k)) = Some k
 slot_scalar _ = None
 
+-- the type of the elements of the array that a slot stands for
 abbrev pub slot_array : Option Slot → Option Kind
 slot_array (Some (slot.Address k)) = Some k
 slot_array _ = None
 
+-- the type of the elements of a local array
 abbrev pub local_array : Option TypedArray → Option Kind
 local_array None = None
 local_array (Some a) = Some a.kind
@@ -64,9 +70,11 @@ pub record Signature : Type 0 where
   pub result : Option Kind
   pub params : List Slot
 
+-- a result and parameters
 abbrev pub signature : Option Kind → List Slot → Signature
 signature result params = record { result = result; params = params }
 
+-- the signature of a function
 abbrev pub of_function : TypedFunc → Signature
 of_function f = signature f.result (take f.params f.scalars)
 

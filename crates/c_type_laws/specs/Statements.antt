@@ -36,10 +36,12 @@ abbrev pub IsValueIf : TypedProgram → TypedFunc → Kind → Option TypedExpr 
 IsValueIf P f k None = Unit {0}
 IsValueIf P f k (Some e) = IsValue P f k e
 
+-- a test, if there is one
 abbrev pub IsTestIf : TypedProgram → TypedFunc → Option TypedExpr → Type 0
 IsTestIf P f None = Unit {0}
 IsTestIf P f (Some e) = IsTest P f e
 
+-- an expression without its value, if there is one
 abbrev pub IsEffectIf : TypedProgram → TypedFunc → Option TypedExpr → Type 0
 IsEffectIf P f None = Unit {0}
 IsEffectIf P f (Some e) = IsEffect P f e

@@ -25,9 +25,11 @@ abbrev pub count_of : Option ℕ → ℕ
 count_of None = 1
 count_of (Some n) = n
 
+-- the bytes of a global
 abbrev pub global_bytes : TypedGlobal → ℕ
 global_bytes g = count_of g.length * bytes g.kind
 
+-- those of several
 abbrev pub all_bytes : List TypedGlobal → ℕ
 all_bytes [] = 0
 all_bytes (g ∷ gs) = global_bytes g + all_bytes gs
@@ -50,6 +52,7 @@ abbrev pub IsScalar : Slot → Type 0
 IsScalar (slot.Scalar k) = Unit {0}
 IsScalar (slot.Address k) = ⊥
 
+-- a function that is well formed
 pub record FunctionFits (P : TypedProgram) (f : TypedFunc) : Type 0 where
   -- at most 8 parameters, each of which has a slot
   pub params : f.params ≤ 8
@@ -70,6 +73,7 @@ pub record IsMain (P : TypedProgram) : Type 0 where
   pub result : function.result ≡ Some Int
   pub params : function.params ≡ 0
 
+-- a program that is well formed
 pub record WellFormed (P : TypedProgram) : Type 0 where
   pub globals : Each GlobalFits P.globals
   -- the globals have no more bytes than they may have

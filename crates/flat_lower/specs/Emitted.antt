@@ -21,6 +21,7 @@ pub record Adds (old new : List FlatStmt) (x : Code) : Type 0 where
 abbrev pub args_of : List TypedExpr → Exprs
 args_of args = exprs_of (map expr_of args)
 
+-- the statements of a compound
 abbrev pub block_of : List TypedStmt → Stmts
 block_of all = stmts_of (map stmt_of all)
 

@@ -32,6 +32,7 @@ with_kind (Some k) f = f k
 
 -- NAMES
 
+-- the value of a global: an array's is its address
 abbrev pub global_code : Context → Bool → ℕ → ℕ → Kind → Code
 global_code c true g to k = whole_code c (Global g) to
 global_code c false g to k = only (Load to (load_op k) (Const (global_at c.globals g)))
@@ -63,11 +64,13 @@ bump_memory o false at d k =
     Then (only (Load (temp d) (load_op k) at))
     (Then (bumped o k (scratch 1) (temp d)) (only (Save (save_op k) at (Var (scratch 1)))))
 
+-- ++ and -- on a name
 abbrev pub bump_name : Context → BumpOp → Place → ℕ → Kind → Code
 bump_name c o (Global g) d k = bump_memory o (is_before o) (Const (global_at c.globals g)) d k
 bump_name c o (Scalar i) d k = bump_scalar o (is_before o) i d k
 bump_name c o (Array a) d k = Nop
 
+-- ++ and -- on an element, whose address is in a temporary
 abbrev pub bump_element : Context → BumpOp → Place → ℕ → Kind → Code
 bump_element c o p d k =
     Then (address_code c p k (scratch 0) (temp d))
@@ -145,6 +148,7 @@ abbrev pub temps : ℕ → Exprs → List Arg
 temps d NoExprs = []
 temps d (WithExpr e rest) = Var (temp d) ∷ temps (suc d) rest
 
+-- the variable that takes the result of a call, if it has one
 abbrev pub result_var : Option Kind → ℕ → Option ℕ
 result_var None d = None
 result_var (Some k) d = Some (temp d)

@@ -46,11 +46,13 @@ pub record GlobalIs (c : Scope) (g : ℕ) (k : Kind) (length : Option ℕ) : Typ
   pub kind : global.kind ≡ k
   pub long : global.length ≡ length
 
+-- the function has a local array of this number and type
 pub record ArrayIs (c : Scope) (a : ℕ) (k : Kind) : Type 0 where
   pub array : TypedArray
   pub found : slice_get c.arrays a ≡ Some array
   pub kind : array.kind ≡ k
 
+-- a name stands for an object of the type
 abbrev pub FitsName : Scope → Kind → Place → Type 0
 FitsName c k (Global g) = GlobalIs c g k None
 FitsName c k (Scalar i) = slice_get c.scalars i ≡ Some (slot.Scalar k)
@@ -64,6 +66,7 @@ FitsWhole c k (Array a) = ArrayIs c a k
 
 -- EXPRESSIONS
 
+-- a type in which an operator with one operand is done
 abbrev pub IsOperand : UnaryOp → Kind → Type 0
 IsOperand Not k = Unit {0}
 IsOperand o k = IsArithmetic k
@@ -78,12 +81,14 @@ FitsRight o k j = j ≡ Some k
 abbrev pub FitsStrict : BinaryOp → Kind → Option Kind → Kind → Type 0
 FitsStrict o j r k = IsArithmetic j × FitsRight o j r × (k ≡ result_of o j)
 
+-- the types of two operands and of the result
 abbrev pub FitsBinary : BinaryOp → Option Kind → Option Kind → Kind → Type 0
 FitsBinary LogicalOr l r k = k ≡ Int
 FitsBinary LogicalAnd l r k = k ≡ Int
 FitsBinary o None r k = ⊥
 FitsBinary o (Some j) r k = FitsStrict o j r k
 
+-- the type of one operand and of the result
 abbrev pub FitsUnary : UnaryOp → Option Kind → Kind → Type 0
 FitsUnary o None k = ⊥
 FitsUnary o (Some j) k = IsOperand o j × (k ≡ unary_result o j)
@@ -95,18 +100,22 @@ FitsCompound (Some LogicalOr) at k r = ⊥
 FitsCompound (Some LogicalAnd) at k r = ⊥
 FitsCompound (Some o) at k r = FitsStrict o at r at
 
+-- there is a type, and it is as wanted
 abbrev pub FitsKind : Option Kind → (Kind → Type 0) → Type 0
 FitsKind None f = ⊥
 FitsKind (Some k) f = f k
 
+-- a number is a word of its type
 abbrev pub FitsNumber : ℕ → Option Kind → ℕ → Type 0
 FitsNumber d None w = ⊥
 FitsNumber d (Some k) w = (d < 16) × IsWord k w
 
+-- a name whose value is taken
 abbrev pub FitsNamed : Scope → ℕ → Option Kind → Place → Type 0
 FitsNamed c d None p = ⊥
 FitsNamed c d (Some k) p = (d < 16) × FitsName c k p
 
+-- an element whose value is taken
 abbrev pub FitsElement : Scope → Option Kind → Place → Type 0
 FitsElement c None p = ⊥
 FitsElement c (Some k) p = FitsWhole c k p
@@ -169,10 +178,12 @@ abbrev mutual
 
 -- STATEMENTS
 
+-- an expression, if there is one
 abbrev pub FitsExprIf : Scope → Option Expr → Type 0
 FitsExprIf c None = Unit {0}
 FitsExprIf c (Some e) = FitsExpr c 0 e
 
+-- a declaration of a scalar or of an array
 abbrev pub FitsDeclare : Scope → Place → Option Expr → Type 0
 FitsDeclare c (Scalar i) (Some e) =
     (k : Kind) × (slice_get c.scalars i ≡ Some (slot.Scalar k)) × FitsExpr c 0 e
@@ -211,6 +222,7 @@ abbrev mutual
 
 -- PROGRAMS
 
+-- what the names in a function stand for
 abbrev pub scope_of : Source → Func → Scope
 scope_of P f = record {
   globals = P.globals;
@@ -219,6 +231,7 @@ scope_of P f = record {
   arrays = f.arrays;
 }
 
+-- a function that may be lowered
 pub record FitsFunc (P : Source) (f : Func) : Type 0 where
   pub scalars : length f.scalars ≤ MOST_SCALARS
   pub params : f.params ≤ length f.scalars
@@ -236,6 +249,7 @@ pub record FitsMain (P : Source) : Type 0 where
   pub result : main.result ≡ Some Int
   pub params : main.params ≡ 0
 
+-- a program that may be lowered
 pub record FitsSource (P : Source) : Type 0 where
   pub each : (n : ℕ) (f : Func) → slice_get P.functions n ≡ Some f → FitsFunc P f
   pub globals : All FitsGlobal P.globals

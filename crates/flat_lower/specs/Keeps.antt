@@ -50,6 +50,7 @@ Keeps most run n (Stopped Undefined out) = Unit {0}
 Keeps most run n (Stopped Deep out) = Overflows run n out
 Keeps most run n (Done out result steps) = Finishes run most steps out result
 
+-- an input is a list of bytes
 abbrev pub IsInput : List ℕ → Type 0
 IsInput input = (i b : ℕ) → slice_get input i ≡ Some b → b < 256
 

@@ -19,6 +19,7 @@ use Rattle.ir_forms.specs.FlatCode.{Code, Nop, Then, only, Let}
 
 -- VARIABLES
 
+-- the variable of a temporary
 abbrev pub temp : ℕ → ℕ
 temp d = 64 + d
 
@@ -26,15 +27,19 @@ temp d = 64 + d
 abbrev pub scratch : ℕ → ℕ
 scratch s = 80 + s
 
+-- a variable becomes a word
 abbrev pub set_word : ℕ → ℕ → Code
 set_word to w = only (Let to op.Mov (Const w) (Const 0))
 
+-- a variable becomes another
 abbrev pub copied : ℕ → ℕ → Code
 copied to x = only (Let to op.Mov (Var x) (Const 0))
 
+-- an operation on one variable
 abbrev pub one_done : ℕ → Op → ℕ → Code
 one_done to o x = only (Let to o (Var x) (Const 0))
 
+-- an operation on two variables
 abbrev pub two_done : ℕ → Op → ℕ → ℕ → Code
 two_done to o x y = only (Let to o (Var x) (Var y))
 
@@ -49,6 +54,7 @@ narrowing UInt = Some op.Extuw
 narrowing Long = None
 narrowing ULong = None
 
+-- a word narrowed into another variable
 abbrev pub narrowed_by : Option Op → ℕ → ℕ → Code
 narrowed_by None to x = copied to x
 narrowed_by (Some o) to x = one_done to o x
@@ -57,6 +63,7 @@ narrowed_by (Some o) to x = one_done to o x
 abbrev pub converted_to : Kind → ℕ → ℕ → Code
 converted_to k to x = narrowed_by (narrowing k) to x
 
+-- a word narrowed where it stands
 abbrev pub narrowed_here : Option Op → ℕ → Code
 narrowed_here None x = Nop
 narrowed_here (Some o) x = one_done x o x
@@ -73,9 +80,11 @@ reduced_here k x = Nop
 
 -- OPERATIONS
 
+-- the operation of a signed type, or of an unsigned one
 abbrev pub by_sign : Kind → Op → Op → Op
 by_sign k signed unsigned = cond (is_signed k) signed unsigned
 
+-- the remainder by way of the quotient
 abbrev pub remainder_code : Op → ℕ → ℕ → Code
 remainder_code o x y =
     Then (two_done (scratch 0) o x y)
@@ -112,6 +121,7 @@ unary_code Not k x = only (Let x op.Teq (Var x) (Const 0))
 
 -- BUMPS
 
+-- one more, or one less
 abbrev pub bump_op : BumpOp → Op
 bump_op PreInc = op.Add
 bump_op PreDec = op.Sub
@@ -137,6 +147,7 @@ is_before PostDec = false
 
 -- MEMORY
 
+-- the load of a type
 abbrev pub load_op : Kind → Op
 load_op Char = op.Lbs
 load_op UChar = op.Lb
@@ -145,6 +156,7 @@ load_op UInt = op.Lw
 load_op Long = op.Ld
 load_op ULong = op.Ld
 
+-- the save of a type
 abbrev pub save_op : Kind → Op
 save_op Char = op.Sb
 save_op UChar = op.Sb

@@ -31,6 +31,7 @@ abbrev mutual
   all_nodes NoExprs = 0
   all_nodes (WithExpr e rest) = nodes e + all_nodes rest
 
+-- the nodes of an expression, if there is one
 abbrev pub nodes_if : Option Expr → ℕ
 nodes_if None = 0
 nodes_if (Some e) = nodes e

@@ -22,6 +22,7 @@ use Rattle.flat_lower.specs.Expressions.{expr_code}
 
 -- STATEMENTS
 
+-- the code of an expression, if there is one
 abbrev pub expr_if_code : Context → Option Expr → Code
 expr_if_code c None = Nop
 expr_if_code c (Some e) = expr_code c 0 e
@@ -31,6 +32,7 @@ abbrev pub declare_code : Context → Place → Option Expr → Code
 declare_code c (Scalar i) (Some e) = Then (expr_code c 0 e) (copied i (temp 0))
 declare_code c p e = Nop
 
+-- a return, with or without a value
 abbrev pub return_code : Context → Option Expr → Code
 return_code c None = only (flat.Return None)
 return_code c (Some e) = Then (expr_code c 0 e) (only (flat.Return (Some (Var (temp 0)))))
@@ -44,6 +46,7 @@ abbrev pub turn_code : Context → Option Expr → Code → Code
 turn_code c None body = body
 turn_code c (Some t) body = Then (expr_code c 0 t) (if_so body)
 
+-- a loop whose test comes first
 abbrev pub loop_code : Context → Option Expr → Option Expr → Code → Code
 loop_code c test post body = only (Loop (turn_code c test body) (expr_if_code c post))
 
@@ -81,9 +84,11 @@ abbrev mutual
 abbrev pub end_code : Bool → Code
 end_code is_main = cond is_main (only (flat.Return (Some (Const 0)))) Nop
 
+-- what the code of a function knows of objects
 abbrev pub context_of : List TypedGlobal → Func → Context
 context_of globals f = record { globals = globals; arrays = f.arrays }
 
+-- the flat form of a function, which may be main
 abbrev pub lowered_func : List TypedGlobal → Bool → Func → Function
 lowered_func globals is_main f = record {
   params = f.params;
@@ -105,6 +110,7 @@ abbrev pub word_bytes : ℕ → ℕ → List ℕ
 word_bytes zero w = []
 word_bytes (suc n) w = (w / 256 ^ n) % 256 ∷ word_bytes n w
 
+-- the bytes of the values given
 abbrev pub init_bytes : ℕ → List ℕ → List ℕ
 init_bytes size [] = []
 init_bytes size (w ∷ ws) = word_bytes size w ++ init_bytes size ws
@@ -115,12 +121,14 @@ global_image g =
     init_bytes (bytes g.kind) g.init ++ replicate
     (global_bytes g - length g.init * bytes g.kind) 0
 
+-- the images of all globals
 abbrev pub globals_image : List TypedGlobal → List ℕ
 globals_image [] = []
 globals_image (g ∷ gs) = global_image g ++ globals_image gs
 
 -- PROGRAMS
 
+-- the flat form of a program
 unfoldable pub lowered : Source → Program
 lowered P = record {
   functions = lowered_from P.globals P.main 0 P.functions;

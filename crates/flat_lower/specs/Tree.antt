@@ -55,6 +55,7 @@ mutual
     FirstOf : (e : Expr) → First
     Locals : (all : Stmts) → First
 
+-- a function as plain data
 pub record Func : Type 0 where
   pub result : Option Kind
   pub params : ℕ
@@ -62,11 +63,13 @@ pub record Func : Type 0 where
   pub arrays : List TypedArray
   pub body : Stmt
 
+-- a program as plain data
 pub record Source : Type 0 where
   pub globals : List TypedGlobal
   pub functions : List Func
   pub main : ℕ
 
+-- the type of the value that an expression gives
 abbrev pub kind_of : Expr → Option Kind
 kind_of (Number k w) = k
 kind_of (Name k p) = k

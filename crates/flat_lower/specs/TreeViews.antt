@@ -15,6 +15,7 @@ use Rattle.flat_lower.specs.Tree.{Declare, Plain, Compound, If, While, Do, For, 
 use Rattle.flat_lower.specs.Tree.{Return, Stmts, NoStmts, WithStmt, First, Nothing, FirstOf, Locals}
 use Rattle.flat_lower.specs.Tree.{Func, Source}
 
+-- arguments as plain data
 abbrev pub exprs_of : List Expr → Exprs
 exprs_of [] = NoExprs
 exprs_of (e ∷ es) = WithExpr e (exprs_of es)
@@ -38,20 +39,25 @@ node_by (node.Choice t one other) k = Choice k t one other
 node_by (node.Assign op at l r) k = Assign k op at l r
 node_by (node.Comma l r) k = Comma k l r
 
+-- an expression from its node
 abbrev pub expr_by : TypedExpr-F Kindless Expr → Expr
 expr_by e = e.node e.kind
 
+-- an expression as plain data
 unfoldable pub expr_of : TypedExpr → Expr
 expr_of e = fold-TypedExpr Kindless Expr node_by expr_by e
 
+-- the same where there is one
 abbrev pub expr_if : Option TypedExpr → Option Expr
 expr_if None = None
 expr_if (Some e) = Some (expr_of e)
 
+-- statements as plain data
 abbrev pub stmts_of : List Stmt → Stmts
 stmts_of [] = NoStmts
 stmts_of (s ∷ rest) = WithStmt s (stmts_of rest)
 
+-- an else as plain data
 abbrev pub stmts_if : Option Stmt → Stmts
 stmts_if None = NoStmts
 stmts_if (Some s) = WithStmt s NoStmts
@@ -69,14 +75,17 @@ stmt_by stmt.Break = Break
 stmt_by stmt.Continue = Continue
 stmt_by (stmt.Return e) = Return (expr_if e)
 
+-- the first part of a for from its open form
 abbrev pub first_by : TypedForInit-F First Stmt → First
 first_by stmt.Nothing = Nothing
 first_by (stmt.First e) = FirstOf (expr_of e)
 first_by (stmt.Locals all) = Locals (stmts_of all)
 
+-- a statement as plain data
 unfoldable pub stmt_of : TypedStmt → Stmt
 stmt_of s = fold-TypedStmt First Stmt first_by stmt_by s
 
+-- a function as plain data
 abbrev pub func_of : TypedFunc → Func
 func_of f = record {
   result = f.result;
@@ -86,5 +95,6 @@ func_of f = record {
   body = stmt_of f.body;
 }
 
+-- a program as plain data
 abbrev pub source_of : TypedProgram → Source
 source_of p = record { globals = p.globals; functions = map func_of p.functions; main = p.main }

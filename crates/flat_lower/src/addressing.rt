@@ -13,6 +13,7 @@ use c_tree::{Kind, Place};
 use ir_forms::{Arg, FlatStmt};
 use trips_isa::Op;
 
+// The address of an element of a global, by the word of its index in a temporary.
 fn put_based_global(
     code: &mut Items<FlatStmt>,
     places: &Places,
@@ -26,6 +27,7 @@ fn put_based_global(
     put_let(code, to, Op::Add, Arg::Var(x), Arg::Const(at))
 }
 
+// The address of an element of the array that a parameter stands for.
 fn put_based_scalar(
     code: &mut Items<FlatStmt>,
     places: &Places,
@@ -39,6 +41,7 @@ fn put_based_scalar(
     put_let(code, to, Op::Add, Arg::Var(x), Arg::Var(base))
 }
 
+// The address of an element of a local array.
 fn put_based_array(
     code: &mut Items<FlatStmt>,
     places: &Places,
@@ -70,6 +73,7 @@ fn put_based(
     }
 }
 
+// An index times the size of an element.
 fn put_shifted(
     code: &mut Items<FlatStmt>,
     places: &Places,

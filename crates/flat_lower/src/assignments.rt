@@ -41,6 +41,7 @@ fn put_to_name(
     }
 }
 
+// The old value of a global.
 fn put_old_global(
     code: &mut Items<FlatStmt>,
     places: &Places,
@@ -91,6 +92,7 @@ fn put_compound(
     Ok(())
 }
 
+// The old value of an element, by its address.
 fn put_old_element(
     code: &mut Items<FlatStmt>,
     places: &Places,
@@ -108,6 +110,7 @@ fn put_old_element(
     Ok(())
 }
 
+// A value into an element, by its address.
 fn put_to_element(code: &mut Items<FlatStmt>, d: u8, kind: Kind) -> Result<(), Memory>
     ensures { OnOk result (Adds code.old code.new (assign_element d kind)) }
 {
@@ -117,6 +120,7 @@ fn put_to_element(code: &mut Items<FlatStmt>, d: u8, kind: Kind) -> Result<(), M
     Ok(())
 }
 
+// The result of an operation into a name.
 fn put_compound_to_name(
     code: &mut Items<FlatStmt>,
     places: &Places,
@@ -135,6 +139,7 @@ fn put_compound_to_name(
     Ok(())
 }
 
+// The result of an operation into an element.
 fn put_compound_to_element(
     code: &mut Items<FlatStmt>,
     places: &Places,
@@ -153,6 +158,7 @@ fn put_compound_to_element(
     Ok(())
 }
 
+// What comes before the right side of an assignment.
 #[tactic(auto, using(crate::proofs::Emits::nothing))]
 fn put_before_at(
     code: &mut Items<FlatStmt>,
@@ -218,6 +224,7 @@ pub fn right_at(op: Option<BinaryOp>, d: u8, side: Side) -> Result<u8, Memory>
     }
 }
 
+// What comes after the right side of an assignment.
 #[tactic(auto, using(crate::proofs::Emits::nothing))]
 fn put_after_at(
     code: &mut Items<FlatStmt>,

@@ -15,6 +15,7 @@ use base::{Items, Memory};
 use c_tree::{BumpOp, Kind, Place};
 use ir_forms::{Arg, FlatStmt};
 
+// `++` and `--` before a scalar.
 fn put_scalar_before(
     code: &mut Items<FlatStmt>,
     op: BumpOp,
@@ -29,6 +30,7 @@ fn put_scalar_before(
     Ok(())
 }
 
+// `++` and `--` after a scalar.
 fn put_scalar_after(
     code: &mut Items<FlatStmt>,
     op: BumpOp,
@@ -43,6 +45,7 @@ fn put_scalar_after(
     Ok(())
 }
 
+// `++` and `--` before an object in memory.
 fn put_memory_before(
     code: &mut Items<FlatStmt>,
     op: BumpOp,
@@ -58,6 +61,7 @@ fn put_memory_before(
     Ok(())
 }
 
+// `++` and `--` after an object in memory.
 fn put_memory_after(
     code: &mut Items<FlatStmt>,
     op: BumpOp,
@@ -73,6 +77,7 @@ fn put_memory_after(
     Ok(())
 }
 
+// `++` and `--` on an object in memory, by its address.
 fn put_in_memory(
     code: &mut Items<FlatStmt>,
     op: BumpOp,
@@ -90,6 +95,7 @@ fn put_in_memory(
     }
 }
 
+// `++` and `--` on a scalar.
 fn put_in_scalar(
     code: &mut Items<FlatStmt>,
     op: BumpOp,
@@ -108,6 +114,7 @@ fn put_in_scalar(
     }
 }
 
+// `++` and `--` on a name.
 #[tactic(auto, using(crate::proofs::Emits::nothing))]
 fn put_at_name(
     code: &mut Items<FlatStmt>,
@@ -135,6 +142,7 @@ fn put_at_name(
     }
 }
 
+// `++` and `--` on an element.
 fn put_at_element(
     code: &mut Items<FlatStmt>,
     places: &Places,
@@ -150,6 +158,7 @@ fn put_at_element(
     Ok(())
 }
 
+// `++` and `--`.
 #[tactic(auto, using(crate::proofs::Emits::nothing))]
 fn put_at(
     code: &mut Items<FlatStmt>,

@@ -12,6 +12,7 @@ use c_tree::{Callee, Kind};
 use ir_forms::{Arg, FlatStmt};
 use trips_isa::Op;
 
+// The variable that takes the result of a call, if it has one.
 fn result_var(kind: Option<Kind>, d: u8) -> Option<u16>
     ensures { result ≡ expressions.result_var kind d }
 {
@@ -21,6 +22,7 @@ fn result_var(kind: Option<Kind>, d: u8) -> Option<u16>
     }
 }
 
+// A call of `putchar`.
 fn put_putchar(
     code: &mut Items<FlatStmt>,
     kind: Option<Kind>,

@@ -43,6 +43,7 @@ pub fn scalar(i: u32) -> Result<u16, Memory>
     }
 }
 
+// One statement more.
 #[tactic(auto, using(crate::proofs::Emits::pushed))]
 fn put(code: &mut Items<FlatStmt>, stmt: FlatStmt) -> Result<(), Memory>
     ensures { OnOk result (Adds code.old code.new (only (step_of stmt))) }
@@ -51,6 +52,7 @@ fn put(code: &mut Items<FlatStmt>, stmt: FlatStmt) -> Result<(), Memory>
     Ok(())
 }
 
+/// An operation into a variable.
 #[tactic(auto, using(crate::proofs::Emits::steps))]
 pub fn put_let(code: &mut Items<FlatStmt>, to: u16, op: Op, a: Arg, b: Arg) -> Result<(), Memory>
     ensures { OnOk result (Adds code.old code.new (only (flat.Let to op a b))) }
@@ -58,6 +60,7 @@ pub fn put_let(code: &mut Items<FlatStmt>, to: u16, op: Op, a: Arg, b: Arg) -> R
     put(code, FlatStmt::Let { to, op, a, b })
 }
 
+/// The address of an array of the frame.
 #[tactic(auto, using(crate::proofs::Emits::steps))]
 pub fn put_frame(code: &mut Items<FlatStmt>, to: u16, at: u32) -> Result<(), Memory>
     ensures { OnOk result (Adds code.old code.new (only (flat.Frame to at))) }
@@ -65,6 +68,7 @@ pub fn put_frame(code: &mut Items<FlatStmt>, to: u16, at: u32) -> Result<(), Mem
     put(code, FlatStmt::Frame { to, at })
 }
 
+/// A load into a variable.
 #[tactic(auto, using(crate::proofs::Emits::steps))]
 pub fn put_load(code: &mut Items<FlatStmt>, to: u16, op: Op, address: Arg) -> Result<(), Memory>
     ensures { OnOk result (Adds code.old code.new (only (flat.Load to op address))) }
@@ -72,6 +76,7 @@ pub fn put_load(code: &mut Items<FlatStmt>, to: u16, op: Op, address: Arg) -> Re
     put(code, FlatStmt::Load { to, op, address })
 }
 
+/// A save of a value.
 #[tactic(auto, using(crate::proofs::Emits::steps))]
 pub fn put_save(code: &mut Items<FlatStmt>, op: Op, address: Arg, value: Arg) -> Result<(), Memory>
     ensures { OnOk result (Adds code.old code.new (only (flat.Save op address value))) }
@@ -79,6 +84,7 @@ pub fn put_save(code: &mut Items<FlatStmt>, op: Op, address: Arg, value: Arg) ->
     put(code, FlatStmt::Save { op, address, value })
 }
 
+/// A call of a function.
 #[tactic(auto, using(crate::proofs::Emits::steps))]
 pub fn put_call(
     code: &mut Items<FlatStmt>,
@@ -91,6 +97,7 @@ pub fn put_call(
     put(code, FlatStmt::Call { function, args, to })
 }
 
+/// A byte of output.
 #[tactic(auto, using(crate::proofs::Emits::steps))]
 pub fn put_out(code: &mut Items<FlatStmt>, value: Arg) -> Result<(), Memory>
     ensures { OnOk result (Adds code.old code.new (only (flat.Put value))) }
@@ -98,6 +105,7 @@ pub fn put_out(code: &mut Items<FlatStmt>, value: Arg) -> Result<(), Memory>
     put(code, FlatStmt::Put(value))
 }
 
+/// A byte of input into a variable.
 #[tactic(auto, using(crate::proofs::Emits::steps))]
 pub fn put_get(code: &mut Items<FlatStmt>, to: u16) -> Result<(), Memory>
     ensures { OnOk result (Adds code.old code.new (only (flat.Get to))) }
@@ -105,6 +113,7 @@ pub fn put_get(code: &mut Items<FlatStmt>, to: u16) -> Result<(), Memory>
     put(code, FlatStmt::Get { to })
 }
 
+/// A choice between two codes.
 #[tactic(auto, using(crate::proofs::Emits::steps))]
 pub fn put_if(
     code: &mut Items<FlatStmt>,
@@ -118,6 +127,7 @@ pub fn put_if(
     put(code, FlatStmt::If { test, yes, no })
 }
 
+/// A loop.
 #[tactic(auto, using(crate::proofs::Emits::steps))]
 pub fn put_loop(
     code: &mut Items<FlatStmt>,
@@ -130,6 +140,7 @@ pub fn put_loop(
     put(code, FlatStmt::Loop { body, post })
 }
 
+/// The end of a loop.
 #[tactic(auto, using(crate::proofs::Emits::steps))]
 pub fn put_break(code: &mut Items<FlatStmt>) -> Result<(), Memory>
     ensures { OnOk result (Adds code.old code.new (only flat.Break)) }
@@ -137,6 +148,7 @@ pub fn put_break(code: &mut Items<FlatStmt>) -> Result<(), Memory>
     put(code, FlatStmt::Break)
 }
 
+/// The next turn of a loop.
 #[tactic(auto, using(crate::proofs::Emits::steps))]
 pub fn put_continue(code: &mut Items<FlatStmt>) -> Result<(), Memory>
     ensures { OnOk result (Adds code.old code.new (only flat.Continue)) }
@@ -144,6 +156,7 @@ pub fn put_continue(code: &mut Items<FlatStmt>) -> Result<(), Memory>
     put(code, FlatStmt::Continue)
 }
 
+/// A return, with or without a value.
 #[tactic(auto, using(crate::proofs::Emits::steps))]
 pub fn put_return(code: &mut Items<FlatStmt>, value: Option<Arg>) -> Result<(), Memory>
     ensures { OnOk result (Adds code.old code.new (only (flat.Return value))) }

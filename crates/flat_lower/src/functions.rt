@@ -26,6 +26,7 @@ fn array_bytes(array: &TypedArray) -> u64
     (filled + 7) / 8 * 8
 }
 
+// A place some bytes further.
 fn further(at: u32, by: u64) -> Result<u32, Memory>
     ensures { IfOk result (λ n. n ≡ at + by) }
 {
@@ -72,6 +73,7 @@ fn put_end(code: &mut Items<FlatStmt>, is_main: bool) -> Result<(), Memory>
     }
 }
 
+// The body of a function and its end; that of main returns 0.
 fn body_of(
     alloc: Global,
     places: &Places,
@@ -87,18 +89,21 @@ fn body_of(
     Ok(code)
 }
 
+// How many parameters, as the flat form holds it.
 fn params_of(n: u32) -> Result<u8, Memory>
     ensures { IfOk result (λ m. m ≡ n) }
 {
     if n <= 255 { Ok(n as u8) } else { Err(Memory) }
 }
 
+// How many scalars, as the flat form holds it.
 fn scalars_of(n: usize) -> Result<u8, Memory>
     ensures { IfOk result (λ m. m ≡ n) }
 {
     if n <= 255 { Ok(n as u8) } else { Err(Memory) }
 }
 
+// The flat form of a function, which may be main.
 fn lower_func(
     alloc: Global,
     globals: &[TypedGlobal],

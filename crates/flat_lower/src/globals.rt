@@ -30,6 +30,7 @@ fn global_bytes(global: &TypedGlobal) -> u64
     (filled + 7) / 8 * 8
 }
 
+// An address some bytes further.
 fn further(at: u64, by: u64) -> Result<u64, Memory>
     ensures { IfOk result (λ n. n ≡ at + by) }
 {
@@ -76,6 +77,7 @@ fn put_word(bytes: &mut Items<u8>, size: u32, w: u64) -> Result<(), Memory>
     }
 }
 
+// The bytes of the values given.
 fn put_init(bytes: &mut Items<u8>, size: u32, init: &[u64]) -> Result<(), Memory>
     requires { size ≤ 8 }
     ensures { OnOk result (bytes.new ≡ bytes.old ++ init_bytes size init.now) }
@@ -86,6 +88,7 @@ fn put_init(bytes: &mut Items<u8>, size: u32, init: &[u64]) -> Result<(), Memory
     Ok(())
 }
 
+// Some bytes of zero.
 fn put_zeros(bytes: &mut Items<u8>, count: u64) -> Result<(), Memory>
     ensures { OnOk result (bytes.new ≡ bytes.old ++ replicate count 0) }
 {

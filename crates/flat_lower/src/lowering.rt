@@ -10,6 +10,7 @@ use c_tree::TypedProgram;
 use ir_forms::FlatProgram;
 use std::alloc::Global;
 
+// The flat form of a program.
 fn flat_of(alloc: Global, program: &TypedProgram) -> Result<FlatProgram, Memory>
     ensures ok { IfOk result (λ flat. program_of flat ≡ lowered_program program.now) }
 {

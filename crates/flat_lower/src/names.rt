@@ -14,6 +14,7 @@ use base::{Items, Memory};
 use c_tree::{Kind, Place};
 use ir_forms::{Arg, FlatStmt};
 
+// The value of a global.
 fn put_global_value(
     code: &mut Items<FlatStmt>,
     places: &Places,
@@ -27,6 +28,7 @@ fn put_global_value(
     put_load(code, to, load_op(kind), Arg::Const(at))
 }
 
+// The value of a global, or its address where it is an array.
 fn put_global(
     code: &mut Items<FlatStmt>,
     places: &Places,
@@ -43,6 +45,7 @@ fn put_global(
     }
 }
 
+// The value of a scalar.
 fn put_scalar(
     code: &mut Items<FlatStmt>,
     places: &Places,
@@ -56,6 +59,7 @@ fn put_scalar(
     put_copy(code, to, x)
 }
 
+// The value of a name.
 fn put_name_of(
     code: &mut Items<FlatStmt>,
     places: &Places,
@@ -90,6 +94,7 @@ pub fn put_name(
     }
 }
 
+// The value of an element, by its index in a temporary.
 fn put_element_of(
     code: &mut Items<FlatStmt>,
     places: &Places,

@@ -16,30 +16,35 @@ use c_tree::{BinaryOp, BumpOp, Kind, UnaryOp};
 use ir_forms::{Arg, FlatStmt};
 use trips_isa::Op;
 
+/// A variable becomes a word.
 pub fn put_word(code: &mut Items<FlatStmt>, to: u16, w: u64) -> Result<(), Memory>
     ensures { OnOk result (Adds code.old code.new (set_word to w)) }
 {
     put_let(code, to, Op::Mov, Arg::Const(w), Arg::Const(0))
 }
 
+/// A variable becomes another.
 pub fn put_copy(code: &mut Items<FlatStmt>, to: u16, x: u16) -> Result<(), Memory>
     ensures { OnOk result (Adds code.old code.new (copied to x)) }
 {
     put_let(code, to, Op::Mov, Arg::Var(x), Arg::Const(0))
 }
 
+// An operation on one variable.
 fn put_one(code: &mut Items<FlatStmt>, to: u16, op: Op, x: u16) -> Result<(), Memory>
     ensures { OnOk result (Adds code.old code.new (one_done to op x)) }
 {
     put_let(code, to, op, Arg::Var(x), Arg::Const(0))
 }
 
+// An operation on two variables.
 fn put_two(code: &mut Items<FlatStmt>, to: u16, op: Op, x: u16, y: u16) -> Result<(), Memory>
     ensures { OnOk result (Adds code.old code.new (two_done to op x y)) }
 {
     put_let(code, to, op, Arg::Var(x), Arg::Var(y))
 }
 
+// What makes a word of a type of any word; none where each word is one.
 fn narrowing(kind: Kind) -> Option<Op>
     ensures { result ≡ operations.narrowing kind }
 {
@@ -53,6 +58,7 @@ fn narrowing(kind: Kind) -> Option<Op>
     }
 }
 
+// A word narrowed into another variable.
 fn put_narrowed_by(
     code: &mut Items<FlatStmt>,
     op: Option<Op>,
@@ -79,6 +85,7 @@ pub fn put_converted_to(
     put_narrowed_by(code, narrowing(kind), to, x)
 }
 
+// A word narrowed where it stands.
 #[tactic(auto, using(crate::proofs::Emits::nothing))]
 fn put_narrowed_here(code: &mut Items<FlatStmt>, op: Option<Op>, x: u16) -> Result<(), Memory>
     ensures { OnOk result (Adds code.old code.new (narrowed_here op x)) }
@@ -96,6 +103,7 @@ pub fn put_converted_here(code: &mut Items<FlatStmt>, kind: Kind, x: u16) -> Res
     put_narrowed_here(code, narrowing(kind), x)
 }
 
+// An unsigned int that overflows 32 bits is narrowed.
 #[tactic(auto, using(crate::proofs::Emits::nothing))]
 fn put_reduced(code: &mut Items<FlatStmt>, kind: Kind, x: u16) -> Result<(), Memory>
     ensures { OnOk result (Adds code.old code.new (reduced_here kind x)) }
@@ -110,6 +118,7 @@ fn put_reduced(code: &mut Items<FlatStmt>, kind: Kind, x: u16) -> Result<(), Mem
     }
 }
 
+// The operation of a signed type, or of an unsigned one.
 fn by_sign(kind: Kind, signed: Op, unsigned: Op) -> Op
     ensures { result ≡ operations.by_sign kind signed unsigned }
 {
@@ -123,6 +132,7 @@ fn by_sign(kind: Kind, signed: Op, unsigned: Op) -> Op
     }
 }
 
+// The remainder by way of the quotient.
 fn put_remainder(code: &mut Items<FlatStmt>, op: Op, x: u16, y: u16) -> Result<(), Memory>
     ensures { OnOk result (Adds code.old code.new (remainder_code op x y)) }
 {
@@ -181,6 +191,7 @@ pub fn put_binary(
     }
 }
 
+// The negative of a value.
 fn put_minus(code: &mut Items<FlatStmt>, kind: Kind, x: u16) -> Result<(), Memory>
     ensures { OnOk result (Adds code.old code.new (unary_code Minus kind x)) }
 {
@@ -189,6 +200,7 @@ fn put_minus(code: &mut Items<FlatStmt>, kind: Kind, x: u16) -> Result<(), Memor
     Ok(())
 }
 
+// The complement of a value.
 fn put_complement(code: &mut Items<FlatStmt>, kind: Kind, x: u16) -> Result<(), Memory>
     ensures { OnOk result (Adds code.old code.new (unary_code Complement kind x)) }
 {
@@ -210,6 +222,7 @@ pub fn put_unary(code: &mut Items<FlatStmt>, op: UnaryOp, kind: Kind, x: u16) ->
     }
 }
 
+// One more, or one less.
 fn bump_op(op: BumpOp) -> Op
     ensures { result ≡ operations.bump_op op }
 {
@@ -221,6 +234,7 @@ fn bump_op(op: BumpOp) -> Op
     }
 }
 
+// The narrowing after one more or one less.
 fn bump_narrowing(kind: Kind) -> Option<Op>
     ensures { result ≡ operations.bump_narrowing kind }
 {
@@ -261,6 +275,7 @@ pub fn is_before(op: BumpOp) -> bool
     }
 }
 
+/// The load of a type.
 pub fn load_op(kind: Kind) -> Op
     ensures { result ≡ operations.load_op kind }
 {
@@ -274,6 +289,7 @@ pub fn load_op(kind: Kind) -> Op
     }
 }
 
+/// The save of a type.
 pub fn save_op(kind: Kind) -> Op
     ensures { result ≡ operations.save_op kind }
 {

@@ -36,6 +36,7 @@ impl<'a> Model for Places<'a> {
 }
 
 impl<'a> Places<'a> {
+    /// What the code of a function knows of objects.
     pub fn new(
         globals: &'a [TypedGlobal],
         addresses: &'a [u64],

@@ -16,6 +16,7 @@ use ir_forms::{Arg, FlatStmt};
 use std::alloc::Global;
 use trips_isa::Op;
 
+/// An operation on one operand, in the type of that operand.
 #[tactic(auto, using(crate::proofs::Emits::nothing))]
 pub fn put_unary_at(
     code: &mut Items<FlatStmt>,

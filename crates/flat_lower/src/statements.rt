@@ -40,6 +40,7 @@ pub fn put_value_if(
     }
 }
 
+// A scalar's initialiser.
 fn put_initialised(
     code: &mut Items<FlatStmt>,
     alloc: Global,
@@ -55,6 +56,7 @@ fn put_initialised(
     Ok(())
 }
 
+// The declaration of a scalar.
 #[tactic(auto, using(crate::proofs::Emits::nothing))]
 fn put_scalar_declared(
     code: &mut Items<FlatStmt>,
@@ -91,6 +93,7 @@ fn put_declared(
     }
 }
 
+// A return of a value.
 fn put_value_returned(
     code: &mut Items<FlatStmt>,
     alloc: Global,
@@ -105,6 +108,7 @@ fn put_value_returned(
     Ok(())
 }
 
+// A return, with or without a value.
 fn put_returned(
     code: &mut Items<FlatStmt>,
     alloc: Global,
@@ -119,6 +123,7 @@ fn put_returned(
     }
 }
 
+// Statements one after another.
 #[cycle(stmt)]
 fn put_stmts(
     code: &mut Items<FlatStmt>,
@@ -160,6 +165,7 @@ fn stmt_if(
     }
 }
 
+// An `if`.
 #[cycle(stmt)]
 fn put_choice(
     code: &mut Items<FlatStmt>,
@@ -179,6 +185,7 @@ fn put_choice(
     Ok(())
 }
 
+// A `while`.
 #[cycle(stmt)]
 fn put_while_loop(
     code: &mut Items<FlatStmt>,
@@ -195,6 +202,7 @@ fn put_while_loop(
     Ok(())
 }
 
+// A `do`.
 #[cycle(stmt)]
 fn put_do_loop(
     code: &mut Items<FlatStmt>,
@@ -211,6 +219,7 @@ fn put_do_loop(
     Ok(())
 }
 
+// The first part of a `for`.
 #[cycle(stmt)]
 #[tactic(auto, using(crate::proofs::Emits::nothing))]
 fn put_first(
@@ -228,6 +237,7 @@ fn put_first(
     }
 }
 
+// A `for`.
 #[cycle(stmt)]
 fn put_for_loop(
     code: &mut Items<FlatStmt>,

@@ -26,6 +26,7 @@ abbrev mutual
   exprs_nodes NoExprs = 0
   exprs_nodes (WithExpr e rest) = expr_nodes e + exprs_nodes rest
 
+-- the nodes of an expression, if there is one
 abbrev pub expr_if_nodes : Option Expr → ℕ
 expr_if_nodes None = 0
 expr_if_nodes (Some e) = expr_nodes e
@@ -53,9 +54,11 @@ abbrev mutual
   first_nodes (FirstOf e) = expr_nodes e
   first_nodes (Locals all) = stmts_nodes all
 
+-- the nodes of several functions
 abbrev pub funcs_size : List Func → ℕ
 funcs_size [] = 0
 funcs_size (f ∷ fs) = 1 + stmt_nodes f.body + funcs_size fs
 
+-- the nodes of a program
 abbrev pub source_size : Source → ℕ
 source_size P = funcs_size P.functions

@@ -20,6 +20,7 @@ abbrev pub total : List ℕ → ℕ
 total [] = 0
 total (n ∷ ns) = n + total ns
 
+-- a count that may be left out
 abbrev pub total_if : Option ℕ → ℕ
 total_if None = 0
 total_if (Some n) = n
@@ -39,15 +40,19 @@ level_nodes (Choice c x y) = 1 + (c + (x + y))
 level_nodes (Assign op x y) = 1 + (x + y)
 level_nodes (Comma x y) = 1 + (x + y)
 
+-- an expression has the nodes of its level
 abbrev pub of_level : Expr-F ℕ ℕ → ℕ
 of_level e = e.node
 
+-- the nodes of an expression
 unfoldable pub expr_nodes : Expr → ℕ
 expr_nodes e = fold-Expr ℕ ℕ level_nodes of_level e
 
+-- those of several
 abbrev pub exprs_nodes : List Expr → ℕ
 exprs_nodes es = total (map expr_nodes es)
 
+-- those of one that may be left out
 abbrev pub expr_if_nodes : Option Expr → ℕ
 expr_if_nodes None = 0
 expr_if_nodes (Some e) = expr_nodes e
@@ -65,23 +70,29 @@ stmt_level_nodes Break = 1
 stmt_level_nodes Continue = 1
 stmt_level_nodes (Return e) = 1 + expr_if_nodes e
 
+-- one level of the first part of a `for`
 abbrev pub first_level_nodes : ForInit-F ℕ ℕ ℕ → ℕ
 first_level_nodes Nothing = 0
 first_level_nodes (First e) = expr_nodes e
 first_level_nodes (Locals ss) = total ss
 
+-- a statement has the nodes of its level
 abbrev pub of_stmt_level : Stmt-F ℕ ℕ ℕ → ℕ
 of_stmt_level s = s.node
 
+-- the nodes of a statement
 unfoldable pub stmt_nodes : Stmt → ℕ
 stmt_nodes s = fold-Stmt ℕ ℕ ℕ first_level_nodes stmt_level_nodes of_stmt_level s
 
+-- those of the first part of a `for`
 unfoldable pub first_nodes : ForInit → ℕ
 first_nodes i = fold-ForInit ℕ ℕ ℕ first_level_nodes stmt_level_nodes of_stmt_level i
 
+-- those of several statements
 abbrev pub stmts_nodes : List Stmt → ℕ
 stmts_nodes ss = total (map stmt_nodes ss)
 
+-- those of one that may be left out
 abbrev pub stmt_if_nodes : Option Stmt → ℕ
 stmt_if_nodes None = 0
 stmt_if_nodes (Some s) = stmt_nodes s
@@ -91,6 +102,7 @@ abbrev pub top_nodes : TopNode → ℕ
 top_nodes (top.Func r w ps (Some s)) = 1 + stmt_nodes s
 top_nodes _ = 0
 
+-- the nodes of a unit's functions
 abbrev pub unit_nodes : List Top → ℕ
 unit_nodes [] = 0
 unit_nodes (t ∷ ts) = top_nodes t.node + unit_nodes ts

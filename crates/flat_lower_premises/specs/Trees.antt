@@ -54,13 +54,16 @@ mutual
     one_expr : {e : Expr} {es : List Expr}
         → NodeHasWords (node_of e) → ExprsHaveWords es → ExprsHaveWords (e ∷ es)
 
+-- each number in the expression is a word of its type
 abbrev pub ExprHasWords : Expr → Type 0
 ExprHasWords e = NodeHasWords (node_of e)
 
+-- the same where there is an expression
 abbrev pub ExprIfHasWords : Option Expr → Type 0
 ExprIfHasWords None = Unit {0}
 ExprIfHasWords (Some e) = ExprHasWords e
 
+-- the same of an array's size
 abbrev pub SizeHasWords : ArraySize → Type 0
 SizeHasWords (size.Sized e) = ExprHasWords e
 SizeHasWords _ = Unit {0}
@@ -101,9 +104,11 @@ mutual
     first : {e : Expr} → ExprHasWords e → BeginningHasWords (First e)
     locals : {ss : List Stmt} → StmtsHaveWords ss → BeginningHasWords (Locals ss)
 
+-- the same of a statement
 abbrev pub StmtHasWords : Stmt → Type 0
 StmtHasWords s = LevelHasWords (level_of s)
 
+-- the same where there is a statement
 abbrev pub StmtIfHasWords : Option Stmt → Type 0
 StmtIfHasWords None = Unit {0}
 StmtIfHasWords (Some s) = StmtHasWords s
@@ -116,6 +121,7 @@ TopHasWords top.Include = Unit {0}
 TopHasWords (top.Global k w a init) = SizeHasWords a × ExprsHaveWords init
 TopHasWords (top.Func r w ps body) = StmtIfHasWords body
 
+-- the same of all items
 abbrev pub UnitHasWords : List Top → Type 0
 UnitHasWords [] = Unit {0}
 UnitHasWords (t ∷ ts) = TopHasWords t.node × UnitHasWords ts

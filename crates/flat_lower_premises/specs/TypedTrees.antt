@@ -63,9 +63,11 @@ mutual
     one_expr : {e : TypedExpr} {es : List TypedExpr}
         → NodeHasWords e.kind (node_of e) → ExprsHaveWords es → ExprsHaveWords (e ∷ es)
 
+-- each number in the expression is a word of its type
 abbrev pub ExprHasWords : TypedExpr → Type 0
 ExprHasWords e = NodeHasWords e.kind (node_of e)
 
+-- the same where there is an expression
 abbrev pub ExprIfHasWords : Option TypedExpr → Type 0
 ExprIfHasWords None = Unit {0}
 ExprIfHasWords (Some e) = ExprHasWords e
@@ -106,15 +108,18 @@ mutual
     first : {e : TypedExpr} → ExprHasWords e → BeginningHasWords (First e)
     locals : {ss : List TypedStmt} → StmtsHaveWords ss → BeginningHasWords (Locals ss)
 
+-- the same of a statement
 abbrev pub StmtHasWords : TypedStmt → Type 0
 StmtHasWords s = LevelHasWords (out-TypedStmt s)
 
 -- PROGRAMS
 
+-- each value that a global is given is a word of its type
 abbrev pub GlobalsHaveWords : List TypedGlobal → Type 0
 GlobalsHaveWords [] = Unit {0}
 GlobalsHaveWords (g ∷ gs) = AreWordsOf g.kind g.init × GlobalsHaveWords gs
 
+-- each number in a body is a word of its type
 abbrev pub FunctionsHaveWords : List TypedFunc → Type 0
 FunctionsHaveWords [] = Unit {0}
 FunctionsHaveWords (f ∷ fs) = StmtHasWords f.body × FunctionsHaveWords fs
