@@ -7,7 +7,8 @@ use Rattle.std.proofs.Math.Nat.{mod-lt}
 use Rattle.std.proofs.lemmas.List.Elements.{All-nil, All-cons, All-append, All-replicate}
 use Rattle.c_tree.specs.declared.TypedArray.{TypedArray}
 use Rattle.c_tree.specs.declared.TypedGlobal.{TypedGlobal}
-use Rattle.c_meaning_spec.specs.Call.{size_of, array_bytes, all_bytes}
+use Rattle.c_constant.specs.Kinds.{bytes}
+use Rattle.c_meaning_spec.specs.Call.{array_bytes, all_bytes}
 use Rattle.trips_isa.specs.Stores.{data_size}
 use Rattle.ir_forms.specs.Frames.{frames_at, frame_limit}
 use Rattle.flat_lower.specs.Objects.{global_bytes, bytes_before, global_at, array_at}
@@ -47,7 +48,7 @@ places P s f = record {
 -- BYTES
 
 abbrev Bytes : List ℕ → Type 0
-Bytes bytes = All (λ b. b < 256) bytes
+Bytes bs = All (λ b. b < 256) bs
 
 word_is_bytes : (n w : ℕ) → Bytes (word_bytes n w)
 word_is_bytes zero w = All-nil (λ b. b < 256)
@@ -63,9 +64,9 @@ init_is_bytes size (w ∷ ws) =
 
 global_is_bytes : (g : TypedGlobal) → Bytes (global_image g)
 global_is_bytes g =
-    let rest = global_bytes g - length g.init * size_of g.kind in
-    All-append (λ b. b < 256) (init_bytes (size_of g.kind) g.init) (replicate rest 0)
-    (init_is_bytes (size_of g.kind) g.init)
+    let rest = global_bytes g - length g.init * bytes g.kind in
+    All-append (λ b. b < 256) (init_bytes (bytes g.kind) g.init) (replicate rest 0)
+    (init_is_bytes (bytes g.kind) g.init)
     (All-replicate (λ b. b < 256) rest 0 (omega arith))
 
 pub image_is_bytes : (gs : List TypedGlobal) → Bytes (globals_image gs)
