@@ -11,7 +11,7 @@ use Rattle.trips_isa.specs.declared.block.Block.{Block}
 use Rattle.trips_isa.specs.declared.block.Stored.{Stored}
 use Rattle.trips_isa.specs.declared.form.Form.{Form}
 use Rattle.trips_isa.specs.declared.form.Form.TheVariants.{Store, Branch}
-use Rattle.trips_isa.specs.Forms.{form_of, is_store}
+use Rattle.trips_isa.specs.Forms.{form_of, is_load, is_store}
 use Rattle.trips_isa.specs.Rule.{Answer}
 use Rattle.trips_isa.specs.Places.{place_of, place_at, inst_node}
 use Rattle.trips_isa.specs.Tables.{or_else, node_gives}
@@ -98,6 +98,11 @@ slot_gives at stores mem j i = node_gives (Some (inst_node j i))
 -- no slot from number `used` on holds an instruction
 abbrev pub IsUsedTo : List (Option Inst) → ℕ → Type 0
 IsUsedTo insts used = (j : ℕ) → used ≤ j → slice_index_or insts j None ≡ None
+
+-- a load has at most this number
+abbrev pub LoadsTo : ℕ → Option Inst → Type 0
+LoadsTo reach None = Unit {0}
+LoadsTo reach (Some i) = is_load (form_of i.op) ≡ true → i.number ≤ reach
 
 abbrev pub NumberFits : Option Inst → Type 0
 NumberFits None = Unit {0}

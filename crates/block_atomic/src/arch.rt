@@ -1,7 +1,8 @@
 ghost use Rattle.std.specs.Prelude.{◌≡◌, ◌<◌, ◌+◌, All, IfOk, Some, length, slice_index};
+ghost use Rattle.trips_isa.specs.Stores.{data_size};
 ghost use Rattle.trips_isa.specs.Machine.{start, step_of};
 ghost use Rattle.block_cases.specs.Plain.{IsTrap};
-ghost use Rattle.block_atomic.specs.Bounds.{StoreFits, IsWhole};
+ghost use Rattle.block_atomic.specs.Bounds.{StoreFits};
 ghost use Rattle.block_atomic.specs.Applied.{HasTokens, IsApplied};
 
 use crate::arch_state::ArchState;
@@ -108,7 +109,7 @@ impl Arch {
     pub fn register(&self, r: u8) -> u64
         requires { r < 128 }
         ensures value { result ≡ slice_index self.now.state.registers r }
-        ensures whole { IsWhole self.now.state }
+        ensures count { length self.now.state.registers ≡ 128 }
     {
         self.state.register(r)
     }
@@ -116,7 +117,7 @@ impl Arch {
     /// Data memory.
     pub fn memory(&self) -> &[u8]
         ensures value { result.now ≡ self.now.state.memory }
-        ensures whole { IsWhole self.now.state }
+        ensures size { length result.now ≡ data_size }
     {
         self.state.memory()
     }
@@ -124,7 +125,6 @@ impl Arch {
     /// The number of the next block.
     pub fn next(&self) -> u32
         ensures value { result ≡ self.now.state.next }
-        ensures whole { IsWhole self.now.state }
     {
         self.state.next()
     }

@@ -8,7 +8,7 @@ ghost use Rattle.trips_isa.specs.Machine.{write_all};
 ghost use Rattle.block_check.specs.IsChecked.{IsChecked};
 ghost use Rattle.block_check.specs.Images.{IsCheckedImage};
 ghost use Rattle.block_cases.specs.Plain.{IsTrap};
-ghost use Rattle.block_atomic.specs.Bounds.{StoreFits, IsWhole};
+ghost use Rattle.block_atomic.specs.Bounds.{StoreFits};
 ghost use Rattle.block_atomic.specs.Applied.{HasTokens, IsApplied};
 
 use crate::causes::cause;
@@ -297,15 +297,16 @@ impl ArchState {
     pub fn register(&self, r: u8) -> u64
         requires { r < 128 }
         ensures value { result ≡ slice_index self.now.state.registers r }
-        ensures whole { IsWhole self.now.state }
+        ensures count { length self.now.state.registers ≡ 128 }
     {
-        self.registers[r as usize]
+        let registers: &[u64] = &self.registers;
+        registers[r as usize]
     }
 
     /// Data memory.
     pub fn memory(&self) -> &[u8]
         ensures value { result.now ≡ self.now.state.memory }
-        ensures whole { IsWhole self.now.state }
+        ensures size { length result.now ≡ data_size }
     {
         &self.memory
     }
@@ -313,7 +314,6 @@ impl ArchState {
     /// The number of the next block.
     pub fn next(&self) -> u32
         ensures value { result ≡ self.now.state.next }
-        ensures whole { IsWhole self.now.state }
     {
         self.next
     }

@@ -9,10 +9,10 @@ ghost use Rattle.trips_isa.specs.Faults.{own_fault};
 ghost use Rattle.trips_isa.specs.Marks.{fired_mark, least_at, writes_to, mask_places, owed, cause};
 ghost use Rattle.block_atomic.specs.MarkSlots.{IsTold, slot_marked};
 
-
 use crate::mark_rounds::settle;
 use trips_isa::{
-    Block, EXIT, FIRST_STORE, FIRST_WRITE, Inst, PLACES, Token, least, mark_by, operands_of, role_of,
+    Block, EXIT, FIRST_STORE, FIRST_WRITE, Inst, PLACES, Token, least, mark_by, operands_of,
+    role_of,
 };
 
 // Whether the mask has this store number.

@@ -11,6 +11,7 @@ mod causes;
 mod effects;
 mod exits;
 mod firing;
+mod handing;
 mod loads;
 mod mark_places;
 mod mark_rounds;

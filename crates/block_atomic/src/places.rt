@@ -22,6 +22,16 @@ pub fn place(spot: Spot) -> usize
     }
 }
 
+/// The place of a target.
+pub fn place_or_none(spot: Option<Spot>) -> usize
+    ensures value { result ≡ place_at spot }
+{
+    match spot {
+        Some(spot) => place(spot),
+        None => NO_PLACE as usize,
+    }
+}
+
 // Puts a token in the place that a target names, if it names one of these.
 fn offer(places: &mut [Option<Token>], spot: Option<Spot>, token: Token)
     requires { length places.old ≡ 416 }

@@ -1,6 +1,7 @@
-//! The table of a block's tokens: a guess, mended by rounds until it agrees with itself.
+//! The table of a block's tokens: one pass in the order of slots, and where a token came too late,
+//! rounds until the table agrees with itself.
 ghost use Rattle.std.specs.Prelude.{◌≡◌, ◌<◌, ◌≤◌, ℕ, All, length, slice_index_or, slice_set};
-ghost use Rattle.std.specs.Prelude.{false, None};
+ghost use Rattle.std.specs.Prelude.{false, true, None};
 ghost use Rattle.trips_isa.specs.Fits.{FitsBlock};
 ghost use Rattle.trips_isa.specs.Places.{nodes_of};
 ghost use Rattle.trips_isa.specs.Tables.{IsRanked, deepest};
@@ -10,8 +11,9 @@ ghost use Rattle.block_atomic.specs.Slots.{table_of, slots_give, placed, kept_by
 ghost use Rattle.block_atomic.specs.Slots.{IsLive, IsUsedTo, NumberFits};
 
 use crate::firing::answer;
-use crate::places::{fill, offer_from};
-use crate::stores::{gather, keep};
+use crate::handing::{hand_from, keep_from, reached};
+use crate::places::fill;
+use crate::stores::gather;
 use trips_isa::{Block, Inst, Stored, Token};
 
 /// Empties a table.
@@ -101,8 +103,10 @@ fn round(
     sweep(block.insts.as_slice(), used, memory, places, stores, table)
 }
 
-// A guess at the table: each slot is asked once, in order, and its token put in its places at once.
-fn guess(
+// One pass: each slot is asked once, in order, and its token put in its places at once. It says
+// whether each came neither too late nor to a place that was taken; then the table agrees with itself,
+// and else it is a guess.
+fn pass(
     block: &Block,
     used: usize,
     regs: &[u64],
@@ -110,7 +114,7 @@ fn guess(
     places: &mut [Option<Token>],
     stores: &mut [Option<Stored>],
     table: &mut [Option<Token>],
-)
+) -> bool
     requires fits { FitsBlock block.now }
     requires used { IsUsedTo block.now.insts.items used }
     requires bound { used ≤ 128 }
@@ -119,18 +123,30 @@ fn guess(
     requires places { length places.old ≡ 416 }
     requires stores { length stores.old ≡ 32 }
     requires table { length table.old ≡ 128 }
-    requires rest { (j : ℕ) → used ≤ j → slice_index_or table.old j None ≡ None }
+    requires rest { (j : ℕ) → slice_index_or table.old j None ≡ None }
+    ensures answers { result ≡ true → (x : ℕ) → table_of block.now regs.now table.new x
+        ≡ given block.now regs.now memory.now (table_of block.now regs.now table.new) x }
+    ensures placed { result ≡ true → (q : ℕ) → IsLive used q
+        → slice_index_or places.new q None ≡ placed block.now regs.now table.new q }
+    ensures kept { result ≡ true → (n : ℕ) → n < 32 → slice_index_or stores.new n None
+        ≡ slots_give (kept_by (λ q. slice_index_or places.new q None) n
+        (λ j. slice_index_or table.new j None)) 0 block.now.insts.items }
     ensures rest { (j : ℕ) → used ≤ j → slice_index_or table.new j None ≡ None }
 {
     let insts = block.insts.as_slice();
     place_again(block, used, regs, places, stores, table);
+    let mut in_time = true;
+    let mut reach = 0;
     for slot in 0..used {
         let inst = insts[slot];
         let token = answer(places, stores, memory, slot, inst);
         table[slot] = token;
-        offer_from(places, inst, token);
-        keep(stores, places, slot, inst, token);
+        reach = reached(inst, reach);
+        let handed = hand_from(places, slot, inst, token);
+        let stored = keep_from(stores, places, slot, inst, token, reach);
+        in_time = in_time & handed & stored;
     }
+    in_time
 }
 
 /// The token of each slot of a block, the tokens at its places and its stores by number, where its
@@ -154,7 +170,7 @@ pub fn settle(
     requires places { length places.old ≡ 416 }
     requires stores { length stores.old ≡ 32 }
     requires table { length table.old ≡ 128 }
-    requires rest { (j : ℕ) → used ≤ j → slice_index_or table.old j None ≡ None }
+    requires rest { (j : ℕ) → slice_index_or table.old j None ≡ None }
     ensures answers { (x : ℕ) → table_of block.now regs.now table.new x
         ≡ token_of block.now regs.now memory.now deepest x }
     ensures placed { (q : ℕ) → IsLive used q → slice_index_or places.new q None
@@ -163,9 +179,9 @@ pub fn settle(
         ≡ slots_give (kept_by (λ q. slice_index_or places.new q None) n
         (λ j. slice_index_or table.new j None)) 0 block.now.insts.items }
 {
-    guess(block, used, regs, memory, places, stores, table);
+    let in_time = pass(block, used, regs, memory, places, stores, table);
     let mut rounds: u8 = 0;
-    let mut changed = true;
+    let mut changed = !in_time;
     while changed && rounds < 160 {
         changed = round(block, used, regs, memory, places, stores, table);
         rounds += 1;
