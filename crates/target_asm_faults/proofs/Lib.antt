@@ -11,3 +11,4 @@ pub mod SlotLines
 pub mod BlockLines
 pub mod Aiming
 pub mod Judged
+pub mod Fronts

@@ -1,7 +1,14 @@
 //! Laws of target text, over its definitions alone; each function's clauses are the laws.
-ghost use Rattle.std.specs.Prelude.{◌≡◌, ℕ, ℤ, List};
+ghost use Rattle.std.specs.Prelude.{◌≡◌, ◌⊎◌, ℕ, List, Err};
+ghost use Rattle.trips_isa.specs.declared.block.Image.{Image};
+ghost use Rattle.target_asm_spec.specs.declared.fault.AsmFault.{AsmFault};
+ghost use Rattle.target_asm_spec.specs.Text.{TargetText};
+ghost use Rattle.target_asm_spec.specs.FirstAsmFault.{FirstAsmFault};
+ghost use Rattle.target_asm_spec.specs.Whole.{image_in};
 
-/// A text is an image's or has a first fault.
+/// A text is an image's or has a first fault; and where it is not read, reading meets that fault.
 pub fn texts_are_judged()
-    ensures one { (x : ℕ) → x ≡ x }
+    ensures some { (text : List ℕ) → ((i : Image) × TargetText i text)
+        ⊎ ((f : AsmFault) × FirstAsmFault text f) }
+    ensures met { (text : List ℕ) (f : AsmFault) → image_in text ≡ Err f → FirstAsmFault text f }
 {}
