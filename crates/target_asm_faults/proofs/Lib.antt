@@ -12,3 +12,6 @@ pub mod BlockLines
 pub mod Aiming
 pub mod Judged
 pub mod Fronts
+pub mod Meets
+pub mod BadGoals
+pub mod Exact
