@@ -1,5 +1,5 @@
 -- What the calls that read lines return, by what reading gives.
-use Rattle.std.specs.Prelude.{◌≡◌, ℕ, ◌+◌, List, [], ◌∷◌, ◌++◌, Bool, true, not, Result, Ok, Err}
+use Rattle.std.specs.Prelude.{◌≡◌, ◌⊎◌, ℕ, ◌+◌, List, [], ◌∷◌, ◌++◌, Bool, true, not, Result, Ok, Err}
 use Rattle.trips_isa.specs.declared.block.Image.{Image}
 use Rattle.trips_isa.specs.declared.block.Block.{Block}
 use Rattle.trips_isa.specs.Images.{chunks}
@@ -61,6 +61,10 @@ steps_in text = front_in text >>> after_front
 -- want of memory
 abbrev pub IsMemory : AsmFault → Type 0
 IsMemory e = e ≡ Memory
+
+-- want of memory, or one of these faults
+abbrev pub IsMemoryOr : (AsmFault → Type 0) → AsmFault → Type 0
+IsMemoryOr P e = (e ≡ Memory) ⊎ P e
 
 -- the tables that a call made
 abbrev pub place_table : Places → Begins

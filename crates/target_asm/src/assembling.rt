@@ -1,9 +1,10 @@
 //! Text as an image.
-ghost use Rattle.std.specs.Prelude.{◌≡◌, ◌<◌, All, IfOk, IfErr, MatchResult};
+ghost use Rattle.std.specs.Prelude.{◌≡◌, IfOk, IfErr, MatchResult};
 ghost use Rattle.trips_isa.specs.declared.block.Image.{Image};
+ghost use Rattle.target_asm_spec.specs.declared.fault.AsmFault.{AsmFault};
+ghost use Rattle.target_asm_spec.specs.FirstAsmFault.{FirstAsmFault};
 ghost use Rattle.target_asm_spec.specs.Text.{TargetText};
-ghost use Rattle.target_asm_spec.specs.Whole.{image_in};
-ghost use Rattle.target_asm.specs.Taking.{Fails, IsMemory};
+ghost use Rattle.target_asm.specs.Taking.{IsMemory, IsMemoryOr};
 
 use crate::whole::read_image;
 use std::alloc::Global;
@@ -18,7 +19,9 @@ pub fn assemble(alloc: Global, text: &[u8]) -> Result<Image, AsmFault>
     ensures ok { IfOk result (λ image. TargetText image text.now) }
     ensures only_ok { (image : Image) → TargetText image text.now
         → MatchResult result (λ v. v ≡ image) IsMemory }
-    ensures err { IfErr result (λ fault. Fails fault (image_in text.now)) }
+    ensures err { IfErr result (IsMemoryOr (FirstAsmFault text.now)) }
+    ensures only_err { (fault : AsmFault) → FirstAsmFault text.now fault
+        → MatchResult result (λ v. ⊥) (IsMemoryOr (λ e. e ≡ fault)) }
 {
     read_image(alloc, text)
 }

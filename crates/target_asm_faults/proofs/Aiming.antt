@@ -92,7 +92,7 @@ label_aim cs here at k near few room = by (nat_lt (capped k) (length cs)) refl
     by false e = no_block (pos k) refl (λ z. clash (nat_lt k (length cs)) (lt-ltb k (length cs) z)
         (sym same ∙ e))
 
-signed_kept : (z : ℤ) → FitsSigned 524288 z → capped_z z ≡ z
+pub signed_kept : (z : ℤ) → FitsSigned 524288 z → capped_z z ≡ z
 signed_kept (pos n) f = ap pos (capped_small n (omega (arith, f)))
 signed_kept (negsuc n) f =
     let c = capped_small (suc n) (omega (arith, f)) in
@@ -142,7 +142,7 @@ goal_aim first here at (Some (Label (negsuc k))) imm near few room small =
 goal_aim first here at (Some (Offset n)) imm near few room small =
     offset_aim first here at n imm few (small n refl)
 
-offset_fits : (op : Op) (g : Option Goal) (n z : ℤ) → MayHaveGoal op g → g ≡ Some (Offset n)
+pub offset_fits : (op : Op) (g : Option Goal) (n z : ℤ) → MayHaveGoal op g → g ≡ Some (Offset n)
     → (s : SpelledInst) → s.numbers.goal ≡ g → ImmIs (form_of op) s z → FitsSigned 524288 n
 offset_fits Bro g n z h e s w i = (subst (λ (x : Option Goal). OffsetIs x z) (w ∙ e) i).1
 offset_fits Callo g n z h e s w i = (subst (λ (x : Option Goal). OffsetIs x z) (w ∙ e) i).1

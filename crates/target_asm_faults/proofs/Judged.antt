@@ -1,7 +1,7 @@
 -- A text that is not read as an image has a first fault.
 use Rattle.std.proofs.Common.{◌≡◌, ℕ, zero, suc, ◌+◌, ◌-◌, ◌/◌, ◌*◌, ◌<◌, ◌≤◌, List, [], ◌∷◌, ◌++◌, length}
 use Rattle.std.proofs.Common.{get_or, refl, sym, ap, subst, ◌∙◌, arith, append_assoc, Option, Some, None}
-use Rattle.std.proofs.Common.{Bool, true, false}
+use Rattle.std.proofs.Common.{Bool, true, false, ◌⊎◌, inl, inr}
 use Rattle.std.specs.Prelude.{ℤ, pos, negsuc, All, not, nat_lt, nat_le, codes, Result, Ok, Err}
 use Rattle.std.proofs.lemmas.Bool.{le-leb, lt-ltb}
 use Rattle.std.proofs.lemmas.List.{append-nil, length-append}
@@ -10,7 +10,7 @@ use Rattle.trips_isa.specs.declared.block.Block.{Block}
 use Rattle.trips_isa.specs.declared.block.Image.{Image}
 use Rattle.trips_isa.specs.Images.{last_byte}
 use Rattle.target_asm_spec.specs.Numbers.{numbered}
-use Rattle.target_asm_spec.specs.Text.{head_lines, byte_text}
+use Rattle.target_asm_spec.specs.Text.{head_lines, byte_text, TargetText}
 use Rattle.target_asm_spec.specs.declared.fault.AsmFault.{AsmFault}
 use Rattle.target_asm_spec.specs.declared.fault.AsmFault.TheVariants as fault
 use Rattle.target_asm_spec.specs.declared.spelled.Goal.{Goal}
@@ -35,6 +35,7 @@ use Rattle.target_asm_laws.proofs.Bodies.{all_of}
 use Rattle.target_asm_laws.proofs.Data.{IsFront, front_is, Byte, IsDataByte, data_byte_is, AreBytes}
 use Rattle.target_asm_laws.proofs.Data.{bytes_are, IsData, data_is}
 use Rattle.target_asm_laws.proofs.Digits.{IsAfter, after_is}
+use Rattle.target_asm_laws.proofs.Images.{exact}
 use Rattle.target_asm_laws.proofs.Tables.{few_are}
 use Rattle.target_asm_faults.proofs.Numerals.{capped, capped_small, capped_z, number_read, IsNumberOf}
 use Rattle.target_asm_faults.proofs.Numerals.{number_of_text}
@@ -84,12 +85,12 @@ count_read z rest =
     let c : after_in (codes "\n") (10 ∷ rest) ≡ Some rest = after_front (codes "\n") rest in
     rw (a, b, c) refl
 
-record IsCountOf (text : List ℕ) (r : ℤ × List ℕ) : Type 0 where
-  z : ℤ
-  same : capped_z z ≡ r.0
-  is : text ≡ count_words z r.1
+pub record IsCountOf (text : List ℕ) (r : ℤ × List ℕ) : Type 0 where
+  pub z : ℤ
+  pub same : capped_z z ≡ r.0
+  pub is : text ≡ count_words z r.1
 
-count_of : (text : List ℕ) → If (IsCountOf text) (count_in text)
+pub count_of : (text : List ℕ) → If (IsCountOf text) (count_in text)
 unfolding count_in count_words
 count_of text =
     let Q = IsCountOf text in
@@ -426,3 +427,13 @@ image_tells text =
 -- a text that is not read has a first fault
 pub fault_of : (text : List ℕ) (e : AsmFault) → image_in text ≡ Err e → FirstAsmFault text e
 fault_of text e h = subst (Tells text Any) h (image_tells text)
+
+-- a text is an image's or has a first fault
+pub some_of : (text : List ℕ) → ((i : Image) × TargetText i text)
+    ⊎ ((f : AsmFault) × FirstAsmFault text f)
+some_of text = by (image_in text) refl
+  where
+    by : (r : Result Image AsmFault) → image_in text ≡ r
+        → ((i : Image) × TargetText i text) ⊎ ((f : AsmFault) × FirstAsmFault text f)
+    by (Ok i) e = inl (i, exact text i e)
+    by (Err f) e = inr (f, fault_of text f e)

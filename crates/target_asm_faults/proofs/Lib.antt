@@ -11,3 +11,7 @@ pub mod SlotLines
 pub mod BlockLines
 pub mod Aiming
 pub mod Judged
+pub mod Fronts
+pub mod Meets
+pub mod BadGoals
+pub mod Exact

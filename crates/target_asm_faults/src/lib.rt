@@ -3,4 +3,4 @@
 
 mod law;
 
-pub use law::texts_are_judged;
+pub use law::{first_faults_are_met, first_faults_are_unique};
