@@ -76,3 +76,12 @@ pub placed : (G : Scope) (whole f e : Expr) (op : BumpOp) (l : ℕ)
 placed G whole f e op l result w n p h t = subst (λ (b : Blame). Says b t result)
     (ap (λ (b : Blame). first b (Some (Mismatch l))) (sym (of_place G f e op n p)
     ∙ ap (λ (x : Expr). fault x G Value) w)) (h t)
+
+-- what the bump of another expression answers
+pub remade : (G : Scope) (whole f : Expr) (n : ExprNode) (l : ℕ)
+    (result : Result TypedExpr TypeFault) → n ≡ f.node → f ≡ whole
+    → ((t : TypedExpr) → Says (first (fault (at f.line n) G Value) (Some (Mismatch l))) t result)
+    → (t : TypedExpr) → Says (first (fault whole G Value) (Some (Mismatch l))) t result
+remade G whole f n l result p w h t = subst (λ (b : Blame). Says b t result)
+    (ap (λ (m : ExprNode). first (fault (at f.line m) G Value) (Some (Mismatch l))) p
+    ∙ ap (λ (x : Expr). first (fault x G Value) (Some (Mismatch l))) w) (h t)

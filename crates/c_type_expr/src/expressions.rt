@@ -206,6 +206,18 @@ fn no_node(
     Err(TypeFault::Mismatch(line))
 }
 
+// The same of an operand that does not stand on the heap and is wanted for its value.
+#[cycle(expr)]
+#[inline(never)]
+fn no_leaf(alloc: Global, scope: &Scopes, line: u32, e: Expr) -> Result<Boxed<TypedExpr>, TypeFault>
+    ensures { (t : TypedExpr) → Says (first (fault e scope.now Role.Value)
+        (Some (TypeFault.Mismatch line))) t result }
+{
+    let e = Boxed::new(alloc, e)?;
+    operand(alloc, scope, Role::Value, e)?;
+    Err(TypeFault::Mismatch(line))
+}
+
 // The fault of a bump of what is no place. Bumps around another such bump change nothing: they are passed over.
 #[cycle(expr)]
 #[inline(never)]
@@ -226,17 +238,15 @@ fn no_bump(
             }
             no_bump(alloc, scope, at, inner)
         }
-        other => {
-            let e = Boxed::new(
-                alloc,
-                Expr {
-                    line: at,
-                    node: other,
-                },
-            )?;
-            operand(alloc, scope, Role::Value, e)?;
-            Err(TypeFault::Mismatch(line))
-        }
+        other => no_leaf(
+            alloc,
+            scope,
+            line,
+            Expr {
+                line: at,
+                node: other,
+            },
+        ),
     }
 }
 

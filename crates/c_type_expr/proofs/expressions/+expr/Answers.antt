@@ -1,5 +1,5 @@
-use Rattle.std.proofs.Common.{arith}
-use Rattle.c_type_expr.proofs.Bumps.{untyped, placed, carried}
+use Rattle.std.proofs.Common.{arith, refl}
+use Rattle.c_type_expr.proofs.Bumps.{untyped, placed, carried, remade}
 use Rattle.c_type_expr.proofs.expressions.+expr.Goals as goal
 
 pub bump-returns-then-not-is_place : goal.bump-returns-then-not-is_place
@@ -18,3 +18,8 @@ no_bump-returns-else-is_place t c =
     carried c.args.scope.now c.args.e c.into_inner-at.result c.in-Bump.inner c.in-Bump.op c.args.line
     c.no_bump.result c.into_inner-at.ensures.value c.in-Bump.is
     (grind (arith, c.is_place.ensures, c.if-is_place.false)) c.no_bump.ensures
+
+pub no_bump-returns-in_default : goal.no_bump-returns-in_default
+no_bump-returns-in_default t c =
+    remade c.args.scope.now c.args.e c.into_inner-at.result c.into_inner-at.result.node c.args.line
+    c.no_leaf.result refl c.into_inner-at.ensures.value c.no_leaf.ensures

@@ -29,6 +29,9 @@ decreases-cast l = 5 * size-Expr l.e + 2
 abbrev pub decreases-no_node : goal.decreases-no_node
 decreases-no_node l = 5 * size-Expr l.e + 1
 
+abbrev pub decreases-no_leaf : goal.decreases-no_leaf
+decreases-no_leaf l = 5 * size-Expr l.e + 1
+
 abbrev pub decreases-no_bump : goal.decreases-no_bump
 decreases-no_bump l = 5 * size-Expr l.e + 2
 
