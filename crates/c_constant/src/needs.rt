@@ -73,6 +73,15 @@ fn call(args: &Items<Expr>) -> u64
     }
 }
 
+// The need of an operand, in a frame of its own, so that the node above holds one number of it.
+#[cycle(need)]
+#[inline(never)]
+fn operand(e: &Expr) -> u64
+    ensures { result ≡ capped (needs.needs e.now).need }
+{
+    counted_need(e).need
+}
+
 // The needs of an expression, each counted up to 17.
 #[cycle(need)]
 fn counted_need(e: &Expr) -> Need
@@ -82,7 +91,7 @@ fn counted_need(e: &Expr) -> Need
         ExprNode::Number { .. } => plain(1),
         ExprNode::Name(_) => plain(1),
         ExprNode::Element { index, .. } => {
-            let need = counted_need(index.get()).need;
+            let need = operand(index.get());
             Need {
                 need,
                 index: Some(need),
@@ -90,24 +99,24 @@ fn counted_need(e: &Expr) -> Need
         }
         ExprNode::Call { args, .. } => plain(call(args)),
         ExprNode::Group(e) => counted_need(e.get()),
-        ExprNode::Unary { e, .. } => plain(counted_need(e.get()).need),
-        ExprNode::Cast { e, .. } => plain(counted_need(e.get()).need),
-        ExprNode::Bump { e, .. } => plain(counted_need(e.get()).need),
+        ExprNode::Unary { e, .. } => plain(operand(e.get())),
+        ExprNode::Cast { e, .. } => plain(operand(e.get())),
+        ExprNode::Bump { e, .. } => plain(operand(e.get())),
         ExprNode::Binary { left, right, .. } => plain(larger(
-            counted_need(left.get()).need,
-            further(counted_need(right.get()).need, 1),
+            operand(left.get()),
+            further(operand(right.get()), 1),
         )),
         ExprNode::Choice { test, yes, no } => plain(larger(
-            counted_need(test.get()).need,
-            larger(counted_need(yes.get()).need, counted_need(no.get()).need),
+            operand(test.get()),
+            larger(operand(yes.get()), operand(no.get())),
         )),
         ExprNode::Assign { left, right, .. } => plain(assigned(
             counted_need(left.get()).index,
-            counted_need(right.get()).need,
+            operand(right.get()),
         )),
         ExprNode::Comma { left, right } => plain(larger(
-            counted_need(left.get()).need,
-            counted_need(right.get()).need,
+            operand(left.get()),
+            operand(right.get()),
         )),
     }
 }

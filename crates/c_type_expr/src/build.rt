@@ -1,4 +1,5 @@
-//! Typed nodes over typed operands.
+//! Typed nodes over typed operands, on the heap. No function here is put in line: what they hold on the way would
+//! stand in the frames of the recursion that calls them.
 
 ghost use Rattle.std.specs.Prelude.{◌≡◌, IfOk, None, Some};
 ghost use Rattle.c_type_expr.specs.Trees as trees;
@@ -17,7 +18,20 @@ pub fn kind_of(e: &TypedExpr) -> Kind
     }
 }
 
+// A node of a kind, on the heap.
+#[inline(never)]
+pub fn boxed(
+    alloc: Global,
+    kind: Option<Kind>,
+    node: TypedNode,
+) -> Result<Boxed<TypedExpr>, AllocError>
+    ensures { IfOk result (λ t. t ≡ trees.a kind node) }
+{
+    Boxed::new(alloc, TypedExpr { kind, node })
+}
+
 /// An expression converted to a kind, by a node where its kind is another. Want of memory is the only error.
+#[inline(never)]
 pub fn converted(
     alloc: Global,
     to: Kind,
@@ -28,77 +42,70 @@ pub fn converted(
     if kind_of(e.get()) == to {
         return Ok(e);
     }
-    Boxed::new(
-        alloc,
-        TypedExpr {
-            kind: Some(to),
-            node: TypedNode::Convert { to, e },
-        },
-    )
+    boxed(alloc, Some(to), TypedNode::Convert { to, e })
 }
 
-pub fn unary(alloc: Global, op: UnaryOp, e: Boxed<TypedExpr>) -> Result<TypedExpr, AllocError>
+#[inline(never)]
+pub fn unary(
+    alloc: Global,
+    op: UnaryOp,
+    e: Boxed<TypedExpr>,
+) -> Result<Boxed<TypedExpr>, AllocError>
     ensures { IfOk result (λ t. t ≡ trees.unary op e) }
 {
     let at = unary_at(op, kind_of(e.get()));
     let e = converted(alloc, at, e)?;
-    Ok(TypedExpr {
-        kind: Some(unary_result(op, at)),
-        node: TypedNode::Unary { op, e },
-    })
+    let kind = Some(unary_result(op, at));
+    boxed(alloc, kind, TypedNode::Unary { op, e })
 }
 
-pub fn cast(to: Kind, e: Boxed<TypedExpr>) -> TypedExpr
-    ensures { result ≡ trees.cast to e }
+#[inline(never)]
+pub fn cast(alloc: Global, to: Kind, e: Boxed<TypedExpr>) -> Result<Boxed<TypedExpr>, AllocError>
+    ensures { IfOk result (λ t. t ≡ trees.cast to e) }
 {
-    TypedExpr {
-        kind: Some(to),
-        node: TypedNode::Cast { to, e },
-    }
+    let kind = Some(to);
+    boxed(alloc, kind, TypedNode::Cast { to, e })
 }
 
-pub fn bump(op: BumpOp, e: Boxed<TypedExpr>) -> TypedExpr
-    ensures { result ≡ trees.bump op e }
+#[inline(never)]
+pub fn bump(alloc: Global, op: BumpOp, e: Boxed<TypedExpr>) -> Result<Boxed<TypedExpr>, AllocError>
+    ensures { IfOk result (λ t. t ≡ trees.bump op e) }
 {
-    TypedExpr {
-        kind: Some(kind_of(e.get())),
-        node: TypedNode::Bump { op, e },
-    }
+    let kind = Some(kind_of(e.get()));
+    boxed(alloc, kind, TypedNode::Bump { op, e })
 }
 
+#[inline(never)]
 pub fn binary(
     alloc: Global,
     op: BinaryOp,
     left: Boxed<TypedExpr>,
     right: Boxed<TypedExpr>,
-) -> Result<TypedExpr, AllocError>
+) -> Result<Boxed<TypedExpr>, AllocError>
     ensures { IfOk result (λ t. t ≡ trees.binary op left right) }
 {
     let (j, k) = (kind_of(left.get()), kind_of(right.get()));
     let at = left_at(op, j, k);
     let left = converted(alloc, at, left)?;
     let right = converted(alloc, right_at(op, j, k), right)?;
-    Ok(TypedExpr {
-        kind: Some(result_of(op, at)),
-        node: TypedNode::Binary { op, left, right },
-    })
+    let kind = Some(result_of(op, at));
+    boxed(alloc, kind, TypedNode::Binary { op, left, right })
 }
 
+#[inline(never)]
 pub fn choice(
     alloc: Global,
     test: Boxed<TypedExpr>,
     yes: Boxed<TypedExpr>,
     no: Boxed<TypedExpr>,
-) -> Result<TypedExpr, AllocError>
+) -> Result<Boxed<TypedExpr>, AllocError>
     ensures { IfOk result (λ t. t ≡ trees.choice test yes no) }
 {
     let at = common(kind_of(yes.get()), kind_of(no.get()));
     let yes = converted(alloc, at, yes)?;
     let no = converted(alloc, at, no)?;
-    Ok(TypedExpr {
-        kind: Some(at),
-        node: TypedNode::Choice { test, yes, no },
-    })
+    let kind = Some(at);
+    boxed(alloc, kind, TypedNode::Choice { test, yes, no })
 }
 
 fn assigned_at(op: Option<BinaryOp>, left: Kind, right: Kind) -> Kind
@@ -119,41 +126,51 @@ fn assigned_from(op: Option<BinaryOp>, left: Kind, right: Kind) -> Kind
     }
 }
 
+#[inline(never)]
 pub fn assign(
     alloc: Global,
     op: Option<BinaryOp>,
     left: Boxed<TypedExpr>,
     right: Boxed<TypedExpr>,
-) -> Result<TypedExpr, AllocError>
+) -> Result<Boxed<TypedExpr>, AllocError>
     ensures { IfOk result (λ t. t ≡ trees.assign op left right) }
 {
     let (j, k) = (kind_of(left.get()), kind_of(right.get()));
     let right = converted(alloc, assigned_from(op, j, k), right)?;
-    Ok(TypedExpr {
-        kind: Some(j),
-        node: TypedNode::Assign {
+    let kind = Some(j);
+    boxed(
+        alloc,
+        kind,
+        TypedNode::Assign {
             op,
             at: assigned_at(op, j, k),
             left,
             right,
         },
-    })
+    )
 }
 
-pub fn comma(left: Boxed<TypedExpr>, right: Boxed<TypedExpr>) -> TypedExpr
-    ensures { result ≡ trees.comma left right }
+#[inline(never)]
+pub fn comma(
+    alloc: Global,
+    left: Boxed<TypedExpr>,
+    right: Boxed<TypedExpr>,
+) -> Result<Boxed<TypedExpr>, AllocError>
+    ensures { IfOk result (λ t. t ≡ trees.comma left right) }
 {
-    TypedExpr {
-        kind: right.get().kind,
-        node: TypedNode::Comma { left, right },
-    }
+    let kind = right.get().kind;
+    boxed(alloc, kind, TypedNode::Comma { left, right })
 }
 
-pub fn element(kind: Kind, array: Place, index: Boxed<TypedExpr>) -> TypedExpr
-    ensures { result ≡ trees.a (Some kind) (TypedNode.Element array index) }
+#[inline(never)]
+pub fn element(
+    alloc: Global,
+    kind: Kind,
+    array: Place,
+    index: Boxed<TypedExpr>,
+) -> Result<Boxed<TypedExpr>, AllocError>
+    ensures { IfOk result (λ t. t ≡ trees.a (Some kind) (TypedNode.Element array index)) }
 {
-    TypedExpr {
-        kind: Some(kind),
-        node: TypedNode::Element { array, index },
-    }
+    let kind = Some(kind);
+    boxed(alloc, kind, TypedNode::Element { array, index })
 }

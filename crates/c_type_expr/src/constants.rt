@@ -26,6 +26,7 @@ fn first(a: Option<TypeFault>, b: Option<TypeFault>) -> Option<TypeFault>
     }
 }
 
+#[inline(never)]
 fn no_constant(is_known: bool, line: u32) -> Option<TypeFault>
     ensures { result ≡ constants.no_constant is_known line }
 {
@@ -66,6 +67,7 @@ fn calls_known(found: Option<&Meaning>) -> bool
 
 // The first part of a call that is no constant, or the call itself.
 #[cycle(fixed)]
+#[inline(never)]
 fn call_fixed(scope: &Scopes, function: &Word, args: &Items<Expr>, line: u32) -> Option<TypeFault>
     ensures { result ≡ roles.first (constants.all_fixed (map constants.not_fixed args.now)
         scope.now)
@@ -78,6 +80,25 @@ fn call_fixed(scope: &Scopes, function: &Word, args: &Items<Expr>, line: u32) ->
     )
 }
 
+// The fault of an operand, or else one that comes after it. This and the next stand in frames of their own.
+#[cycle(fixed)]
+#[inline(never)]
+fn before(scope: &Scopes, e: &Expr, then: Option<TypeFault>) -> Option<TypeFault>
+    ensures { result ≡ roles.first (constants.not_fixed e.now scope.now) then }
+{
+    first(not_fixed(scope, e), then)
+}
+
+// The fault of an operand, or else that of the node at this line.
+#[cycle(fixed)]
+#[inline(never)]
+fn or_mismatch(scope: &Scopes, e: &Expr, line: u32) -> Option<TypeFault>
+    ensures { result ≡ roles.first (constants.not_fixed e.now scope.now)
+        (Some (TypeFault.Mismatch line)) }
+{
+    first(not_fixed(scope, e), mismatch(line))
+}
+
 // The first part of an expression that is no constant.
 #[cycle(fixed)]
 fn not_fixed(scope: &Scopes, e: &Expr) -> Option<TypeFault>
@@ -86,31 +107,33 @@ fn not_fixed(scope: &Scopes, e: &Expr) -> Option<TypeFault>
     match &e.node {
         ExprNode::Number { .. } => None,
         ExprNode::Name(word) => no_constant(scope.look_up(word).is_some(), e.line),
-        ExprNode::Element { array, index } => first(
-            not_fixed(scope, index.get()),
+        ExprNode::Element { array, index } => before(
+            scope,
+            index.get(),
             no_constant(scope.look_up(array).is_some(), e.line),
         ),
         ExprNode::Call { function, args } => call_fixed(scope, function, args, e.line),
         ExprNode::Group(e) => not_fixed(scope, e.get()),
         ExprNode::Unary { e, .. } => not_fixed(scope, e.get()),
         ExprNode::Cast { e, .. } => not_fixed(scope, e.get()),
-        ExprNode::Bump { e: operand, .. } => {
-            first(not_fixed(scope, operand.get()), mismatch(e.line))
-        }
+        ExprNode::Bump { e: operand, .. } => or_mismatch(scope, operand.get(), e.line),
         ExprNode::Binary { left, right, .. } => {
-            first(not_fixed(scope, left.get()), not_fixed(scope, right.get()))
+            before(scope, left.get(), not_fixed(scope, right.get()))
         }
-        ExprNode::Choice { test, yes, no } => first(
-            not_fixed(scope, test.get()),
-            first(not_fixed(scope, yes.get()), not_fixed(scope, no.get())),
+        ExprNode::Choice { test, yes, no } => before(
+            scope,
+            test.get(),
+            before(scope, yes.get(), not_fixed(scope, no.get())),
         ),
-        ExprNode::Assign { left, right, .. } => first(
-            not_fixed(scope, left.get()),
-            first(not_fixed(scope, right.get()), mismatch(e.line)),
+        ExprNode::Assign { left, right, .. } => before(
+            scope,
+            left.get(),
+            or_mismatch(scope, right.get(), e.line),
         ),
-        ExprNode::Comma { left, right } => first(
-            not_fixed(scope, left.get()),
-            first(not_fixed(scope, right.get()), mismatch(e.line)),
+        ExprNode::Comma { left, right } => before(
+            scope,
+            left.get(),
+            or_mismatch(scope, right.get(), e.line),
         ),
     }
 }

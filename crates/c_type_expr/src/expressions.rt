@@ -1,6 +1,8 @@
 //! The typing of expressions, node by node.
 
-ghost use Rattle.std.specs.Prelude.{◌≡◌};
+ghost use Rattle.std.specs.Prelude.{◌≡◌, Some};
+ghost use Rattle.c_tree.specs.declared.typed.TypedExpr.{TypedExpr};
+ghost use Rattle.c_type_expr.specs.Roles.{first};
 ghost use Rattle.c_tree.specs.declared.tree.ExprNode.TheVariants as node;
 ghost use Rattle.c_type_expr.specs.Roles as roles;
 ghost use Rattle.c_type_expr.specs.Faults as faults;
@@ -46,44 +48,39 @@ fn left_role(is_place: bool) -> Role
 }
 
 #[tactic(auto, using(crate::proofs::Nodes::on_name))]
-fn name(scope: &Scopes, role: Role, line: u32, word: Word) -> Result<TypedExpr, TypeFault>
+#[inline(never)]
+fn name(
+    alloc: Global,
+    scope: &Scopes,
+    role: Role,
+    line: u32,
+    word: Word,
+) -> Result<Boxed<TypedExpr>, TypeFault>
     ensures { Types (at line (node.Name word)) role scope.now result }
 {
-    name_at(scope.look_up(&word), role, line)
+    let e = name_at(scope.look_up(&word), role, line)?;
+    Ok(Boxed::new(alloc, e)?)
 }
 
 #[tactic(auto, using(crate::proofs::Nodes::on_number))]
+#[inline(never)]
 fn number(
+    alloc: Global,
     scope: &Scopes,
     role: Role,
     line: u32,
     value: u64,
     kind: Kind,
-) -> Result<TypedExpr, TypeFault>
+) -> Result<Boxed<TypedExpr>, TypeFault>
     ensures { Types (at line (node.Number value kind)) role scope.now result }
 {
     value_at(role, line)?;
-    Ok(TypedExpr {
-        kind: Some(kind),
-        node: TypedNode::Number(value),
-    })
-}
-
-#[cycle(expr)]
-fn operand(
-    alloc: Global,
-    scope: &Scopes,
-    role: Role,
-    e: Boxed<Expr>,
-) -> Result<Boxed<TypedExpr>, TypeFault>
-    ensures { Says (fault e scope.now role) (tree e scope.now) result }
-{
-    let e = type_expr(alloc, scope, role, e.into_inner())?;
-    Ok(Boxed::new(alloc, e)?)
+    Ok(build::boxed(alloc, Some(kind), TypedNode::Number(value))?)
 }
 
 #[cycle(expr)]
 #[tactic(auto, using(crate::proofs::Nodes::on_element))]
+#[inline(never)]
 fn element(
     alloc: Global,
     scope: &Scopes,
@@ -91,16 +88,17 @@ fn element(
     line: u32,
     array: Word,
     index: Boxed<Expr>,
-) -> Result<TypedExpr, TypeFault>
+) -> Result<Boxed<TypedExpr>, TypeFault>
     ensures { Types (at line (node.Element array index)) role scope.now result }
 {
     let index = operand(alloc, scope, Role::Value, index)?;
     let (kind, place) = element_at(scope.look_up(&array), role, line)?;
-    Ok(build::element(kind, place, index))
+    Ok(build::element(alloc, kind, place, index)?)
 }
 
 #[cycle(expr)]
 #[tactic(auto, using(crate::proofs::Nodes::on_call))]
+#[inline(never)]
 fn call(
     alloc: Global,
     scope: &Scopes,
@@ -108,20 +106,18 @@ fn call(
     line: u32,
     function: Word,
     args: Items<Expr>,
-) -> Result<TypedExpr, TypeFault>
+) -> Result<Boxed<TypedExpr>, TypeFault>
     ensures { Types (at line (node.Call function args)) role scope.now result }
 {
     let found = scope.look_up(&function);
     let count = args.len();
     let args = arguments(alloc, scope, slots_in(found), args)?;
     let (kind, function) = call_at(found, count, role, line)?;
-    Ok(TypedExpr {
-        kind,
-        node: TypedNode::Call { function, args },
-    })
+    Ok(build::boxed(alloc, kind, TypedNode::Call { function, args })?)
 }
 
 #[cycle(expr)]
+#[inline(never)]
 fn argument(
     alloc: Global,
     scope: &Scopes,
@@ -131,8 +127,8 @@ fn argument(
     ensures { Says (fault arg scope.now (role_at slots.now))
         (trees.argument slots.now (tree arg scope.now)) result }
 {
-    let arg = type_expr(alloc, scope, role_for(slots), arg)?;
     let arg = Boxed::new(alloc, arg)?;
+    let arg = operand(alloc, scope, role_for(slots), arg)?;
     converted_for(alloc, slots, arg)
 }
 
@@ -159,6 +155,7 @@ fn arguments(
 
 #[cycle(expr)]
 #[tactic(auto, using(crate::proofs::Nodes::on_unary))]
+#[inline(never)]
 fn unary(
     alloc: Global,
     scope: &Scopes,
@@ -166,7 +163,7 @@ fn unary(
     line: u32,
     op: UnaryOp,
     e: Boxed<Expr>,
-) -> Result<TypedExpr, TypeFault>
+) -> Result<Boxed<TypedExpr>, TypeFault>
     ensures { Types (at line (node.Unary op e)) role scope.now result }
 {
     let e = operand(alloc, scope, Role::Value, e)?;
@@ -176,6 +173,7 @@ fn unary(
 
 #[cycle(expr)]
 #[tactic(auto, using(crate::proofs::Nodes::on_cast))]
+#[inline(never)]
 fn cast(
     alloc: Global,
     scope: &Scopes,
@@ -183,16 +181,78 @@ fn cast(
     line: u32,
     to: Kind,
     e: Boxed<Expr>,
-) -> Result<TypedExpr, TypeFault>
+) -> Result<Boxed<TypedExpr>, TypeFault>
     ensures { Types (at line (node.Cast to e)) role scope.now result }
 {
     let e = operand(alloc, scope, Role::Value, e)?;
     value_at(role, line)?;
-    Ok(build::cast(to, e))
+    Ok(build::cast(alloc, to, e)?)
+}
+
+// The fault of an operand, or else that of the node at this line, which is none that may stand around it.
+#[cycle(expr)]
+#[inline(never)]
+fn no_node(
+    alloc: Global,
+    scope: &Scopes,
+    role: Role,
+    line: u32,
+    e: Boxed<Expr>,
+) -> Result<Boxed<TypedExpr>, TypeFault>
+    ensures { (t : TypedExpr) → Says (first (fault e scope.now role)
+        (Some (TypeFault.Mismatch line))) t result }
+{
+    operand(alloc, scope, role, e)?;
+    Err(TypeFault::Mismatch(line))
+}
+
+// The same of an operand that does not stand on the heap and is wanted for its value.
+#[cycle(expr)]
+#[inline(never)]
+fn no_leaf(alloc: Global, scope: &Scopes, line: u32, e: Expr) -> Result<Boxed<TypedExpr>, TypeFault>
+    ensures { (t : TypedExpr) → Says (first (fault e scope.now Role.Value)
+        (Some (TypeFault.Mismatch line))) t result }
+{
+    let e = Boxed::new(alloc, e)?;
+    operand(alloc, scope, Role::Value, e)?;
+    Err(TypeFault::Mismatch(line))
+}
+
+// The fault of a bump of what is no place. Bumps around another such bump change nothing: they are passed over.
+#[cycle(expr)]
+#[inline(never)]
+fn no_bump(
+    alloc: Global,
+    scope: &Scopes,
+    line: u32,
+    e: Boxed<Expr>,
+) -> Result<Boxed<TypedExpr>, TypeFault>
+    ensures { (t : TypedExpr) → Says (first (fault e scope.now Role.Value)
+        (Some (TypeFault.Mismatch line))) t result }
+{
+    let Expr { line: at, node } = e.into_inner();
+    match node {
+        ExprNode::Bump { op: _, e: inner } => {
+            if is_place(inner.get()) {
+                return no_node(alloc, scope, Role::Written, line, inner);
+            }
+            no_bump(alloc, scope, at, inner)
+        }
+        other => no_leaf(
+            alloc,
+            scope,
+            line,
+            Expr {
+                line: at,
+                node: other,
+            },
+        ),
+    }
 }
 
 #[cycle(expr)]
 #[tactic(auto, using(crate::proofs::Nodes::on_bump))]
+#[inline(never)]
 fn bump(
     alloc: Global,
     scope: &Scopes,
@@ -200,18 +260,20 @@ fn bump(
     line: u32,
     op: BumpOp,
     e: Boxed<Expr>,
-) -> Result<TypedExpr, TypeFault>
+) -> Result<Boxed<TypedExpr>, TypeFault>
     ensures { Types (at line (node.Bump op e)) role scope.now result }
 {
-    let is_place = is_place(e.get());
-    let e = operand(alloc, scope, left_role(is_place), e)?;
-    place_at(is_place, line)?;
+    if !is_place(e.get()) {
+        return no_bump(alloc, scope, line, e);
+    }
+    let e = operand(alloc, scope, Role::Written, e)?;
     value_at(role, line)?;
-    Ok(build::bump(op, e))
+    Ok(build::bump(alloc, op, e)?)
 }
 
 #[cycle(expr)]
 #[tactic(auto, using(crate::proofs::Nodes::on_binary))]
+#[inline(never)]
 fn binary(
     alloc: Global,
     scope: &Scopes,
@@ -220,7 +282,7 @@ fn binary(
     op: BinaryOp,
     left: Boxed<Expr>,
     right: Boxed<Expr>,
-) -> Result<TypedExpr, TypeFault>
+) -> Result<Boxed<TypedExpr>, TypeFault>
     ensures { Types (at line (node.Binary op left right)) role scope.now result }
 {
     let left = operand(alloc, scope, Role::Value, left)?;
@@ -231,6 +293,7 @@ fn binary(
 
 #[cycle(expr)]
 #[tactic(auto, using(crate::proofs::Nodes::on_choice))]
+#[inline(never)]
 fn choice(
     alloc: Global,
     scope: &Scopes,
@@ -239,7 +302,7 @@ fn choice(
     test: Boxed<Expr>,
     yes: Boxed<Expr>,
     no: Boxed<Expr>,
-) -> Result<TypedExpr, TypeFault>
+) -> Result<Boxed<TypedExpr>, TypeFault>
     ensures { Types (at line (node.Choice test yes no)) role scope.now result }
 {
     let test = operand(alloc, scope, Role::Value, test)?;
@@ -251,6 +314,7 @@ fn choice(
 
 #[cycle(expr)]
 #[tactic(auto, using(crate::proofs::Nodes::on_assign))]
+#[inline(never)]
 fn assign(
     alloc: Global,
     scope: &Scopes,
@@ -259,7 +323,7 @@ fn assign(
     op: Option<BinaryOp>,
     left: Boxed<Expr>,
     right: Boxed<Expr>,
-) -> Result<TypedExpr, TypeFault>
+) -> Result<Boxed<TypedExpr>, TypeFault>
     ensures { Types (at line (node.Assign op left right)) role scope.now result }
 {
     let is_place = is_place(left.get());
@@ -272,6 +336,7 @@ fn assign(
 
 #[cycle(expr)]
 #[tactic(auto, using(crate::proofs::Nodes::on_comma))]
+#[inline(never)]
 fn comma(
     alloc: Global,
     scope: &Scopes,
@@ -279,28 +344,35 @@ fn comma(
     line: u32,
     left: Boxed<Expr>,
     right: Boxed<Expr>,
-) -> Result<TypedExpr, TypeFault>
+) -> Result<Boxed<TypedExpr>, TypeFault>
     ensures { Types (at line (node.Comma left right)) role scope.now result }
 {
     let left = operand(alloc, scope, Role::Free, left)?;
     let right = operand(alloc, scope, Role::Value, right)?;
     value_at(role, line)?;
-    Ok(build::comma(left, right))
+    Ok(build::comma(alloc, left, right)?)
 }
 
-/// The typed tree of an expression, or its first fault.
+// The typed tree of an operand, or its first fault. Operands and what is made of them stand on the heap, and each node
+// in a frame of its own, so that a level of the tree takes two small frames.
 #[cycle(expr)]
 #[tactic(auto, using(crate::proofs::Nodes::on_group))]
-pub fn type_expr(alloc: Global, scope: &Scopes, role: Role, e: Expr) -> Result<TypedExpr, TypeFault>
+#[inline(never)]
+fn operand(
+    alloc: Global,
+    scope: &Scopes,
+    role: Role,
+    e: Boxed<Expr>,
+) -> Result<Boxed<TypedExpr>, TypeFault>
     ensures { Types e role scope.now result }
 {
-    let Expr { line, node } = e;
+    let Expr { line, node } = e.into_inner();
     match node {
-        ExprNode::Number { value, kind } => number(scope, role, line, value, kind),
-        ExprNode::Name(word) => name(scope, role, line, word),
+        ExprNode::Number { value, kind } => number(alloc, scope, role, line, value, kind),
+        ExprNode::Name(word) => name(alloc, scope, role, line, word),
         ExprNode::Element { array, index } => element(alloc, scope, role, line, array, index),
         ExprNode::Call { function, args } => call(alloc, scope, role, line, function, args),
-        ExprNode::Group(e) => type_expr(alloc, scope, role, e.into_inner()),
+        ExprNode::Group(e) => operand(alloc, scope, role, e),
         ExprNode::Unary { op, e } => unary(alloc, scope, role, line, op, e),
         ExprNode::Cast { to, e } => cast(alloc, scope, role, line, to, e),
         ExprNode::Bump { op, e } => bump(alloc, scope, role, line, op, e),
@@ -309,4 +381,12 @@ pub fn type_expr(alloc: Global, scope: &Scopes, role: Role, e: Expr) -> Result<T
         ExprNode::Assign { op, left, right } => assign(alloc, scope, role, line, op, left, right),
         ExprNode::Comma { left, right } => comma(alloc, scope, role, line, left, right),
     }
+}
+
+/// The typed tree of an expression, or its first fault.
+pub fn type_expr(alloc: Global, scope: &Scopes, role: Role, e: Expr) -> Result<TypedExpr, TypeFault>
+    ensures { Types e role scope.now result }
+{
+    let e = Boxed::new(alloc, e)?;
+    Ok(operand(alloc, scope, role, e)?.into_inner())
 }

@@ -1,4 +1,5 @@
-//! The flat code of expressions.
+//! The flat code of expressions. What emits a node stands in a frame of its own, so that a level of the tree takes two
+//! small frames.
 
 ghost use Rattle.std.specs.Prelude.{◌≡◌, suc, None, OnOk, IfOk};
 ghost use Rattle.c_tree.specs.declared.BinaryOp.TheVariants.{LogicalAnd, LogicalOr};
@@ -28,6 +29,7 @@ use ir_forms::{Arg, FlatStmt};
 use std::alloc::Global;
 
 #[cycle(value)]
+#[inline(never)]
 fn put_operand(
     code: &mut Items<FlatStmt>,
     alloc: Global,
@@ -45,6 +47,7 @@ fn put_operand(
 }
 
 #[cycle(value)]
+#[inline(never)]
 fn put_conversion(
     code: &mut Items<FlatStmt>,
     alloc: Global,
@@ -62,6 +65,7 @@ fn put_conversion(
 }
 
 #[cycle(value)]
+#[inline(never)]
 fn put_element_value(
     code: &mut Items<FlatStmt>,
     alloc: Global,
@@ -103,6 +107,7 @@ fn put_args(
 }
 
 #[cycle(value)]
+#[inline(never)]
 fn put_called(
     code: &mut Items<FlatStmt>,
     alloc: Global,
@@ -139,6 +144,7 @@ fn put_index(
 }
 
 #[cycle(value)]
+#[inline(never)]
 fn put_bumping(
     code: &mut Items<FlatStmt>,
     alloc: Global,
@@ -235,6 +241,7 @@ fn put_operation(
 
 /// What follows the left operand.
 #[cycle(value)]
+#[inline(never)]
 fn put_right(
     code: &mut Items<FlatStmt>,
     alloc: Global,
@@ -255,6 +262,7 @@ fn put_right(
 }
 
 #[cycle(value)]
+#[inline(never)]
 fn put_both(
     code: &mut Items<FlatStmt>,
     alloc: Global,
@@ -273,6 +281,7 @@ fn put_both(
 }
 
 #[cycle(value)]
+#[inline(never)]
 fn put_choice(
     code: &mut Items<FlatStmt>,
     alloc: Global,
@@ -293,6 +302,7 @@ fn put_choice(
 }
 
 #[cycle(value)]
+#[inline(never)]
 fn put_assignment(
     code: &mut Items<FlatStmt>,
     alloc: Global,
@@ -315,6 +325,7 @@ fn put_assignment(
 }
 
 #[cycle(value)]
+#[inline(never)]
 fn put_comma(
     code: &mut Items<FlatStmt>,
     alloc: Global,

@@ -5,11 +5,8 @@ use Rattle.c_type_expr.specs.Trees.{args_tree}
 use Rattle.c_type_expr.proofs.Nodes.{deepest}
 use Rattle.c_type_expr.proofs.expressions.+expr.Given as goal
 
-abbrev pub decreases-type_expr : goal.decreases-type_expr
-decreases-type_expr l = 5 * size-Expr l.e
-
 abbrev pub decreases-operand : goal.decreases-operand
-decreases-operand l = 5 * size-Expr l.e + 1
+decreases-operand l = 5 * size-Expr l.e
 
 abbrev pub decreases-argument : goal.decreases-argument
 decreases-argument l = 5 * size-Expr l.arg + 1
@@ -29,8 +26,17 @@ decreases-unary l = 5 * size-Expr l.e + 2
 abbrev pub decreases-cast : goal.decreases-cast
 decreases-cast l = 5 * size-Expr l.e + 2
 
+abbrev pub decreases-no_node : goal.decreases-no_node
+decreases-no_node l = 5 * size-Expr l.e + 1
+
+abbrev pub decreases-no_leaf : goal.decreases-no_leaf
+decreases-no_leaf l = 5 * size-Expr l.e + 1
+
+abbrev pub decreases-no_bump : goal.decreases-no_bump
+decreases-no_bump l = 5 * size-Expr l.e + 2
+
 abbrev pub decreases-bump : goal.decreases-bump
-decreases-bump l = 5 * size-Expr l.e + 2
+decreases-bump l = 5 * size-Expr l.e + 3
 
 abbrev pub decreases-binary : goal.decreases-binary
 decreases-binary l = 5 * max (size-Expr l.left) (size-Expr l.right) + 2

@@ -1,0 +1,87 @@
+-- Bumps of what is no place.
+use Rattle.std.proofs.Common.{◌≡◌, ℕ, Bool, true, false, Some, None, Result, refl, sym, ap, ◌∙◌, subst}
+use Rattle.c_tree.specs.declared.tree.BumpOp.{BumpOp}
+use Rattle.c_tree.specs.declared.tree.Expr.{Expr}
+use Rattle.c_tree.specs.declared.tree.ExprNode.{ExprNode}
+use Rattle.c_tree.specs.declared.tree.ExprNode.TheVariants as node
+use Rattle.c_tree.specs.declared.typed.TypedExpr.{TypedExpr}
+use Rattle.c_scope.specs.Scope.{Scope}
+use Rattle.c_type_expr.specs.declared.fault.TypeFault.{TypeFault}
+use Rattle.c_type_expr.specs.declared.fault.TypeFault.TheVariants.{Mismatch}
+use Rattle.c_type_expr.specs.declared.role.Role.{Role}
+use Rattle.c_type_expr.specs.declared.role.Role.TheVariants.{Value, Written}
+use Rattle.c_type_expr.specs.Roles.{Blame, first, unless, left_role}
+use Rattle.c_type_expr.specs.Faults.{is_place, fault, value_fault}
+use Rattle.c_type_expr.specs.Trees.{tree}
+use Rattle.c_type_expr.specs.Says.{Says, Types, at}
+use Rattle.c_type_expr.proofs.Nodes.{fault-Bump}
+
+-- a bump of no place fails, at the latest at its own line
+pub no_place : (G : Scope) (r : Role) (l : ℕ) (op : BumpOp) (e : Expr) → is_place e ≡ false
+    → fault (at l (node.Bump op e)) G r ≡ first (fault e G Value) (Some (Mismatch l))
+no_place G r l op e p = fault-Bump G r l op e
+    ∙ ap (λ (b : Bool). first (fault e G (left_role b))
+    (first (unless b (Mismatch l)) (value_fault r l))) p
+
+-- so it has no typed tree, and any will do
+pub untyped : (G : Scope) (r : Role) (l : ℕ) (op : BumpOp) (e : Expr)
+    (result : Result TypedExpr TypeFault) → is_place e ≡ false
+    → ((t : TypedExpr) → Says (first (fault e G Value) (Some (Mismatch l))) t result)
+    → Types (at l (node.Bump op e)) r G result
+untyped G r l op e result p h =
+    subst (λ (f : Blame). Says f (tree (at l (node.Bump op e)) G) result)
+    (sym (no_place G r l op e p)) (h (tree (at l (node.Bump op e)) G))
+
+absorbed : (f : Blame) (a b : TypeFault) → first (first f (Some a)) (Some b) ≡ first f (Some a)
+absorbed None a b = refl
+absorbed (Some x) a b = refl
+
+-- a bump around it changes nothing
+pub around : (G : Scope) (l m : ℕ) (op : BumpOp) (e : Expr) → is_place e ≡ false
+    → first (fault (at m (node.Bump op e)) G Value) (Some (Mismatch l))
+    ≡ first (fault e G Value) (Some (Mismatch m))
+around G l m op e p = ap (λ (f : Blame). first f (Some (Mismatch l))) (no_place G Value m op e p)
+    ∙ absorbed (fault e G Value) (Mismatch m) (Mismatch l)
+
+-- what a bump of no place answers, from what the bump inside it answers
+pub carried : (G : Scope) (whole f e : Expr) (op : BumpOp) (l : ℕ)
+    (result : Result TypedExpr TypeFault) → f ≡ whole → f.node ≡ node.Bump op e
+    → is_place e ≡ false
+    → ((t : TypedExpr) → Says (first (fault e G Value) (Some (Mismatch f.line))) t result)
+    → (t : TypedExpr) → Says (first (fault whole G Value) (Some (Mismatch l))) t result
+carried G whole f e op l result w n p h t = subst (λ (b : Blame). Says b t result)
+    (sym (around G l f.line op e p)
+    ∙ ap (λ (m : ExprNode). first (fault (at f.line m) G Value) (Some (Mismatch l))) (sym n)
+    ∙ ap (λ (x : Expr). first (fault x G Value) (Some (Mismatch l))) w) (h t)
+
+ends : (f : Blame) → first f None ≡ f
+ends None = refl
+ends (Some x) = refl
+
+-- a bump of a place is judged as the place
+of_place : (G : Scope) (f e : Expr) (op : BumpOp) → f.node ≡ node.Bump op e
+    → is_place e ≡ true → fault f G Value ≡ fault e G Written
+of_place G f e op n p = ap (λ (m : ExprNode). fault (at f.line m) G Value) n
+    ∙ fault-Bump G Value f.line op e
+    ∙ ap (λ (b : Bool). first (fault e G (left_role b))
+    (first (unless b (Mismatch f.line)) (value_fault Value f.line))) p
+    ∙ ends (fault e G Written)
+
+-- what a bump around it answers
+pub placed : (G : Scope) (whole f e : Expr) (op : BumpOp) (l : ℕ)
+    (result : Result TypedExpr TypeFault) → f ≡ whole → f.node ≡ node.Bump op e
+    → is_place e ≡ true
+    → ((t : TypedExpr) → Says (first (fault e G Written) (Some (Mismatch l))) t result)
+    → (t : TypedExpr) → Says (first (fault whole G Value) (Some (Mismatch l))) t result
+placed G whole f e op l result w n p h t = subst (λ (b : Blame). Says b t result)
+    (ap (λ (b : Blame). first b (Some (Mismatch l))) (sym (of_place G f e op n p)
+    ∙ ap (λ (x : Expr). fault x G Value) w)) (h t)
+
+-- what the bump of another expression answers
+pub remade : (G : Scope) (whole f : Expr) (n : ExprNode) (l : ℕ)
+    (result : Result TypedExpr TypeFault) → n ≡ f.node → f ≡ whole
+    → ((t : TypedExpr) → Says (first (fault (at f.line n) G Value) (Some (Mismatch l))) t result)
+    → (t : TypedExpr) → Says (first (fault whole G Value) (Some (Mismatch l))) t result
+remade G whole f n l result p w h t = subst (λ (b : Blame). Says b t result)
+    (ap (λ (m : ExprNode). first (fault (at f.line m) G Value) (Some (Mismatch l))) p
+    ∙ ap (λ (x : Expr). first (fault x G Value) (Some (Mismatch l))) w) (h t)
