@@ -20,7 +20,7 @@ use Rattle.c_type_expr.specs.Faults.{value_fault, takes_name, takes_result, name
 use Rattle.c_type_expr.specs.Constants as constants
 use Rattle.c_type.specs.declared.file_scope.FileScope.{FileScope}
 use Rattle.c_type.specs.declared.state.State.{State}
-use Rattle.c_type.specs.Declarations.{bytes, is_taken, is_end, twice_fault, scalar_fault, array_fault, no_init}
+use Rattle.c_type.specs.Declarations.{is_taken, is_end, twice_fault, scalar_fault, array_fault, no_init}
 use Rattle.c_type.specs.Statements.{return_fault}
 use Rattle.c_type.specs.Units.{defined_fault, type_fault, function_fault, same_result, same_slots, include_clash, include_fault, place_fault, int_slots, eof_name, getchar_name, putchar_name}
 use Rattle.c_type.specs.Functions as functions
