@@ -1,9 +1,7 @@
 -- Every text is accepted or refused.
 use Rattle.std.proofs.Common.{◌≡◌, ◌⊎◌, inl, inr, ℕ, List, Some, None, subst, sym}
 use Rattle.c_tree.specs.declared.tree.Program.{Program}
-use Rattle.c_tree.specs.declared.tree.Top.{Top}
 use Rattle.c_tree.specs.declared.typed.TypedProgram.{TypedProgram}
-use Rattle.c_lex.specs.declared.fault.LexFault.{LexFault}
 use Rattle.c_lex.specs.declared.fault.LexFault.TheVariants as lex
 use Rattle.c_lex.specs.Lexes.{Tokens, Fault, FaultAt}
 use Rattle.c_lex.specs.Lexes as lexical
@@ -13,8 +11,6 @@ use Rattle.c_grammar.specs.Answers.{Answer, tree, syntax, too_deep, Answers}
 use Rattle.c_grammar.proofs.OneAnswer.{one_answer}
 use Rattle.c_parse.specs.declared.unit.ParseFault.TheVariants as parse
 use Rattle.c_type_expr.specs.declared.fault.TypeFault.{TypeFault}
-use Rattle.c_type_expr.specs.declared.fault.TypeFault.TheVariants.{Memory}
-use Rattle.c_type_expr.specs.Says.{Stops}
 use Rattle.c_type.specs.Programs.{program_fault, program_tree}
 use Rattle.c_type_rules.proofs.Decided.{decided}
 use Rattle.c_type_rules.proofs.GoodUnits.{unit_good}

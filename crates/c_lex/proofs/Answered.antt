@@ -1,5 +1,5 @@
 -- Every text has tokens or a fault.
-use Rattle.std.proofs.Common.{◌≡◌, ◌≤◌, ◌<◌, ℕ, zero, suc, ◌+◌, Bool, true, false, ◌&&◌, ◌||◌, ◌⊎◌, inl, inr, [], ◌∷◌}
+use Rattle.std.proofs.Common.{◌≡◌, ◌≤◌, ◌<◌, ℕ, zero, suc, ◌+◌, Bool, true, false, ◌&&◌, ◌||◌, inl, inr, [], ◌∷◌}
 use Rattle.std.proofs.Common.{◌++◌, length, take, drop, Option, Some, None, refl, sym, ap, ◌∙◌, subst, arith, nat_eq, nat_lt}
 use Rattle.std.proofs.Common.{length-append}
 use Rattle.std.proofs.lemmas.Bool.Decides.{nat_tests}
@@ -14,7 +14,6 @@ use Rattle.c_lex.specs.Bytes.{Bytes, by_class, is_space, is_letter, is_word, is_
 use Rattle.c_lex.specs.Bytes.{at_line_start, line_after}
 use Rattle.c_lex.specs.Runs.{run_len}
 use Rattle.c_lex.specs.Tables.{lookup, keywords}
-use Rattle.c_lex.specs.Constants.{signed_char}
 use Rattle.c_lex.specs.Scans.{constant_of, character_of, close_from, mark_of, is_include}
 use Rattle.c_lex.specs.Pieces.{Longest, word_form, begins_with}
 use Rattle.c_lex.specs.Finds.{IsFront, Finds, Marks, begins_comment}
@@ -25,7 +24,7 @@ use Rattle.c_lex.specs.Answers.{Lexed, Answered}
 use Rattle.c_lex.proofs.Basics.{eq_is}
 use Rattle.c_lex.proofs.Found.{found, space_found, word_found, number_found, bad_number_found, character_found}
 use Rattle.c_lex.proofs.Found.{quote_found, comment_found, opening_found, line_found, include_found}
-use Rattle.c_lex.proofs.Found.{directive_found, marks_find, nothing, hash_nothing}
+use Rattle.c_lex.proofs.Found.{directive_found, marks_find, hash_nothing}
 use Rattle.c_lex.proofs.Whole.{grown, whole, bytes_nil, piece_some}
 
 -- ---- the piece at a place

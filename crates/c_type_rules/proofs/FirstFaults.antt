@@ -1,12 +1,12 @@
 -- The fault that the folds find stands at the first judgement in the order of the text that has no types.
-use Rattle.std.proofs.Common.{◌≡◌, ℕ, Bool, true, false, List, [], ◌∷◌, ◌++◌, map, Option, Some, None, refl, sym, ap, ◌∙◌, subst}
+use Rattle.std.proofs.Common.{◌≡◌, List, [], ◌∷◌, ◌++◌, Some, None, refl, sym, ap, ◌∙◌, subst}
 use Rattle.c_type_expr.specs.declared.fault.TypeFault.{TypeFault}
 use Rattle.c_type_expr.specs.declared.fault.TypeFault.TheVariants.{Memory}
 use Rattle.c_type_expr.specs.Roles.{Blame, first}
 use Rattle.c_type_rules.specs.Judgements.{Judgement, a_test}
 use Rattle.c_type_rules.specs.Order.{parts}
 use Rattle.c_type_rules.specs.FirstFaults.{Passes, AllPass, FirstFault, fails, inside}
-use Rattle.c_type_rules.proofs.Follows.{fault_of, firsts, first_of, Follows, follows}
+use Rattle.c_type_rules.proofs.Follows.{fault_of, first_of, Follows, follows}
 use Rattle.c_type_rules.proofs.Passing.{passes_none, none_passes}
 
 -- ---- from the relation to the folds

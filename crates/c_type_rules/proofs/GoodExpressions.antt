@@ -1,5 +1,5 @@
 -- A fault that the folds find in an expression is its first one in the order of the text.
-use Rattle.std.proofs.Common.{◌≡◌, ℕ, Bool, List, [], ◌∷◌, ◌++◌, map, Option, Some, None, refl, sym, ◌∙◌, subst, length}
+use Rattle.std.proofs.Common.{ℕ, List, [], ◌∷◌, map, Option, Some, None, refl, sym, subst, length}
 use Rattle.std.specs.Prelude.{is_some}
 use Rattle.c_tree.specs.declared.tree.Expr.{Expr, Expr-F, ind-Expr, roll-Expr}
 use Rattle.c_tree.specs.declared.tree.ExprNode.{ExprNode, roll-ExprNode, out-roll-ExprNode, map-ExprNode}
@@ -11,7 +11,7 @@ use Rattle.c_type_expr.specs.declared.fault.TypeFault.TheVariants.{Mismatch}
 use Rattle.c_type_expr.specs.declared.role.Role.{Role}
 use Rattle.c_type_expr.specs.declared.role.Role.TheVariants.{Value, Free}
 use Rattle.c_type_expr.specs.Roles.{Blame, unless, left_role}
-use Rattle.c_type_expr.specs.Faults.{value_fault, is_place, slots_of, role_at, rest_of, call_fault}
+use Rattle.c_type_expr.specs.Faults.{value_fault, is_place, slots_of, role_at, rest_of}
 use Rattle.c_type_expr.specs.Constants.{calls_known, length_of}
 use Rattle.c_type_expr.specs.Says.{at}
 use Rattle.c_type_rules.specs.Judgements.{Judgement, a_test, an_expression, a_full, an_optional, a_constant, a_full_constant, a_size, argument_parts, expression_parts, constant_parts}

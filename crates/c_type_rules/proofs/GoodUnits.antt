@@ -1,6 +1,6 @@
 -- A fault that the folds find in a statement or a unit is its first one in the order of the text.
-use Rattle.std.proofs.Common.{◌≡◌, ℕ, Bool, true, false, List, [], ◌∷◌, ◌++◌, map, Option, Some, None, refl, sym, ap, ◌∙◌, subst, length}
-use Rattle.std.specs.Prelude.{nat_lt, option_map}
+use Rattle.std.proofs.Common.{ℕ, Bool, true, false, List, [], ◌∷◌, ◌++◌, map, Option, Some, None, refl, sym, subst, length}
+use Rattle.std.specs.Prelude.{nat_lt}
 use Rattle.c_tree.specs.declared.token.Kind.{Kind}
 use Rattle.c_tree.specs.declared.tree.ArraySize.{ArraySize}
 use Rattle.c_tree.specs.declared.tree.ArraySize.TheVariants as size
@@ -25,8 +25,8 @@ use Rattle.c_type.specs.Statements.{part, beginning_of}
 use Rattle.c_type.specs.Units.{global_names, count_of}
 use Rattle.c_type.specs.Functions.{slot_of, entry}
 use Rattle.c_type.specs.Programs.{table, item_after, empty_file}
-use Rattle.c_type_rules.specs.Judgements.{Judgement, a_test, a_statement, some_statements, an_else, a_beginning, a_body, a_param, some_params, some_values, an_item, some_items, a_unit}
-use Rattle.c_type_rules.specs.Order.{parts, declare_parts, statement_parts, beginning_parts, body_parts, value_parts, global_parts, item_parts}
+use Rattle.c_type_rules.specs.Judgements.{a_statement, some_statements, an_else, a_beginning, a_body, a_param, some_params, some_values, an_item, some_items, a_unit}
+use Rattle.c_type_rules.specs.Order.{declare_parts, statement_parts, beginning_parts, body_parts, value_parts, global_parts, item_parts}
 use Rattle.c_type_rules.proofs.Follows.{follows}
 use Rattle.c_type_rules.proofs.FirstFaults.{Good, AllGood, good_by, test_good}
 use Rattle.c_type_rules.proofs.SaneTests.{sane_unless, sane_scalar, sane_array, sane_init, sane_return, sane_param, sane_function, sane_include, sane_place}

@@ -1,23 +1,18 @@
 -- What is judged has types exactly where the folds find no fault in it.
-use Rattle.std.proofs.Common.{◌≡◌, ℕ, Bool, false, List, [], ◌∷◌, ◌++◌, Option, Some, None, refl, sym, ap, ◌∙◌}
-use Rattle.std.specs.Prelude.{is_some, option_map}
+use Rattle.std.proofs.Common.{◌≡◌, ℕ, Bool, false, [], Option, Some, None, refl, ap}
+use Rattle.std.specs.Prelude.{option_map}
 use Rattle.std.proofs.lemmas.Bool.{false≢true}
-use Rattle.c_tree.specs.declared.tree.Expr.{Expr}
-use Rattle.c_tree.specs.declared.tree.ExprNode.{ExprNode}
-use Rattle.c_tree.specs.declared.tree.ForInit.{ForInit, out-ForInit}
 use Rattle.c_tree.specs.declared.tree.Stmt.{Stmt}
 use Rattle.c_constant.specs.Constant.{constant}
 use Rattle.c_constant.specs.Need.{need_fits}
-use Rattle.c_scope.specs.Scope.{Scope}
 use Rattle.c_type_expr.specs.declared.fault.TypeFault.TheVariants.{Mismatch, Need, TooManyParams}
 use Rattle.c_type_expr.specs.Trees.{tree}
-use Rattle.c_type_expr.specs.Constants.{not_fixed, value_fault, length_of, full_constant}
+use Rattle.c_type_expr.specs.Constants.{value_fault, length_of}
 use Rattle.c_type_expr.proofs.Theorem.{sound, complete}
 use Rattle.c_type.specs.declared.state.State.{State}
 use Rattle.c_type.specs.Statements.{part, else_fault}
 use Rattle.c_type.specs.Programs.{program_tree}
-use Rattle.c_type_rules.specs.Constants.{IsConstant}
-use Rattle.c_type_rules.specs.Statements.{TypesIf, without_else, with_else}
+use Rattle.c_type_rules.specs.Statements.{without_else, with_else}
 use Rattle.c_type_rules.specs.Judgements.{Judgement, a_test, an_expression, a_full, an_optional, a_constant, a_full_constant, a_size, a_statement, some_statements, an_else, a_beginning, a_body, a_param, some_params, some_values, an_item, some_items, a_unit}
 use Rattle.c_type_rules.specs.FirstFaults.{Passes}
 use Rattle.c_type_rules.proofs.Constants.{constant_fine, constant_typed}

@@ -1,8 +1,7 @@
 -- No test of a node fails for want of memory.
-use Rattle.std.proofs.Common.{◌≡◌, ℕ, Bool, true, false, List, [], ◌∷◌, length, Option, Some, None, nat_eq}
-use Rattle.std.specs.Prelude.{not, is_some, nat_le, nat_lt, ◌||◌, ◌&&◌}
+use Rattle.std.proofs.Common.{ℕ, Bool, true, false, List, [], length, Option, Some, None, nat_eq}
+use Rattle.std.specs.Prelude.{not, is_some, ◌||◌, ◌&&◌}
 use Rattle.c_tree.specs.declared.token.Kind.{Kind}
-use Rattle.c_tree.specs.declared.tree.ArraySize.{ArraySize}
 use Rattle.c_tree.specs.declared.tree.ArraySize.TheVariants as size
 use Rattle.c_tree.specs.declared.tree.Expr.{Expr}
 use Rattle.c_tree.specs.declared.tree.Param.{Param}
@@ -13,14 +12,13 @@ use Rattle.c_scope.specs.declared.meaning.Meaning.{Meaning}
 use Rattle.c_scope.specs.declared.meaning.Meaning.TheVariants as meaning
 use Rattle.c_scope.specs.Scope.{Scope, look_up}
 use Rattle.c_type_expr.specs.declared.fault.TypeFault.{TypeFault}
-use Rattle.c_type_expr.specs.declared.fault.TypeFault.TheVariants.{Unknown, Twice, Mismatch, Arity, TooManyScalars, Need, TooLarge}
+use Rattle.c_type_expr.specs.declared.fault.TypeFault.TheVariants.{Twice, Mismatch, Arity, TooManyScalars, Need, TooLarge}
 use Rattle.c_type_expr.specs.declared.role.Role.{Role}
 use Rattle.c_type_expr.specs.Roles.{Blame, first, unless, takes_value, takes_element}
 use Rattle.c_type_expr.specs.Faults.{value_fault, takes_name, takes_result, name_fault, element_fault, callee_fault, call_fault}
 use Rattle.c_type_expr.specs.Constants as constants
 use Rattle.c_type.specs.declared.file_scope.FileScope.{FileScope}
 use Rattle.c_type.specs.declared.state.State.{State}
-use Rattle.c_constant.specs.Kinds.{bytes}
 use Rattle.c_type.specs.Declarations.{is_taken, is_end, twice_fault, scalar_fault, array_fault, no_init}
 use Rattle.c_type.specs.Statements.{return_fault}
 use Rattle.c_type.specs.Units.{defined_fault, type_fault, function_fault, same_result, same_slots, include_clash, include_fault, place_fault, int_slots, eof_name, getchar_name, putchar_name}
