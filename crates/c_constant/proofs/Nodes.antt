@@ -25,7 +25,8 @@ abbrev pub at : ℕ → ExprNode → Expr
 at l n = record { line = l; node = n }
 
 -- the value of a node is that of its level
-value_by : (names : List NamedConstant) (l : ℕ) (n : ExprNode) (x : ExprNode-F ExprNode Expr) → roll-ExprNode x ≡ n
+value_by : (names : List NamedConstant) (l : ℕ) (n : ExprNode) (x : ExprNode-F ExprNode Expr)
+    → roll-ExprNode x ≡ n
     → constant names (at l n) ≡ node_value names (map-ExprNode ExprNode Expr Constant Constant
     (fold-ExprNode Constant Constant (node_value names) of_value) (constant names) x)
 unfolding constant
@@ -90,14 +91,15 @@ module _ (names : List NamedConstant) (f : Expr) where
 
   pub value-Binary : (op : BinaryOp) (x y : Expr) → f.node ≡ node.Binary op x y
       → constant names f ≡ given (result_of op (left_at op (constant names x).kind (constant names y).kind))
-      (binary_value op (constant names x).kind (constant names y).kind (constant names x).value (constant names y).value)
+      (binary_value op (constant names x).kind (constant names y).kind
+      (constant names x).value (constant names y).value)
   value-Binary op x y h = ap (λ n. constant names (at f.line n)) h
       ∙ value_by names f.line _ (ExprNode-F.Binary op x y) (node.rolls-Binary op x y)
 
   pub value-Choice : (t x y : Expr) → f.node ≡ node.Choice t x y
       → constant names f ≡ given (common (constant names x).kind (constant names y).kind)
-      (choice_value (common (constant names x).kind (constant names y).kind) (constant names t).value (constant names x).value
-      (constant names y).value)
+      (choice_value (common (constant names x).kind (constant names y).kind)
+      (constant names t).value (constant names x).value (constant names y).value)
   value-Choice t x y h = ap (λ n. constant names (at f.line n)) h
       ∙ value_by names f.line _ (ExprNode-F.Choice t x y) (node.rolls-Choice t x y)
 

@@ -16,7 +16,8 @@ use crate::state::State;
 use c_constant::bytes;
 use c_scope::{Meaning, Scopes};
 use c_tree::{
-    ArraySize, Expr, Kind, MOST_OBJECT_BYTES, MOST_SCALARS, Place, Slot, TypedArray, TypedStmt, Word,
+    ArraySize, Expr, Kind, MOST_OBJECT_BYTES, MOST_SCALARS, Place, Slot, TypedArray, TypedStmt,
+    Word,
 };
 use c_type_expr::{TypeFault, size_length};
 use std::alloc::Global;

@@ -37,7 +37,10 @@ pub enum Cut {
 
 impl Both {
     pub fn of_text(rt: &impl Abort, alloc: Global, name: &str, text: &[u8]) -> Both {
-        assert!(rt; text.len() as u64 <= MOST_SOURCE_BYTES, "{name}: the text is short");
+        assert!(rt;
+            text.len() as u64 <= MOST_SOURCE_BYTES,
+            "{name}: the text is short"
+        );
         let typed = front(alloc, text).expect(rt, name);
         let flat = lower(alloc, &typed).expect(rt, name);
         Both { typed, flat }
