@@ -2,7 +2,7 @@
 use Rattle.std.proofs.Common.{◌≡◌, ℕ, zero, suc, ◌+◌, ◌*◌, ◌<◌, ◌≤◌, max, List, [], ◌∷◌, ◌++◌, length}
 use Rattle.std.proofs.Common.{refl, sym, ap, subst, ◌∙◌, arith, append_assoc, Option, Some, None}
 use Rattle.std.proofs.Common.{true}
-use Rattle.std.specs.Prelude.{ℤ, pos, nat_le, get_or, is_some, codes, Result, Ok, Err}
+use Rattle.std.specs.Prelude.{ℤ, pos, nat_le, get_or, codes, Result, Ok, Err}
 use Rattle.std.proofs.lemmas.Bool.{leb-true, le-leb}
 use Rattle.std.proofs.lemmas.List.{append-nil, length-append}
 use Rattle.trips_isa.specs.declared.block.ReadSlot.{ReadSlot}
@@ -24,8 +24,8 @@ use Rattle.target_asm_spec.specs.LinePlaces.{Line, line_words, Place, after, IsN
 use Rattle.target_asm_spec.specs.LinePlaces as line
 use Rattle.target_asm_spec.specs.FirstAsmFault.{NoLine}
 use Rattle.target_asm_spec.proofs.Bodies.{some_body}
-use Rattle.target_asm_spec.proofs.Numbers.{after_front}
 use Rattle.target_asm_laws.proofs.Rows.{place_is}
+use Rattle.target_asm_faults.proofs.SlotLines.{begun}
 use Rattle.target_asm_faults.proofs.Numerals.{capped_z}
 use Rattle.target_asm_faults.proofs.Rows.{block_read, IsBlockOf, block_of_text}
 use Rattle.target_asm_faults.proofs.Operands.{same_item}
@@ -148,9 +148,6 @@ record WritesAt (bs : List ℕ) (here : ℕ) (p : Place) (j : ℕ) (text : List 
   write : p.next_write ≡ Some j
   slot : p.next_slot ≡ Some 0
   no_read : NoRead p text
-
-begun : (front t : List ℕ) → begins front (front ++ t) ≡ true
-begun front t = ap is_some (after_front front t)
 
 read_begins : (s : SpelledRead) (more text : List ℕ) → text ≡ line_words (line.read s) more
     → begins (codes "R[") text ≡ true

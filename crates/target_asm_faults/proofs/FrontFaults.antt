@@ -4,7 +4,7 @@ use Rattle.std.proofs.Common.{refl, sym, ap, subst, ◌∙◌, arith, append_ass
 use Rattle.std.proofs.Common.{Bool, true, false}
 use Rattle.std.specs.Prelude.{ℤ, pos, negsuc, All, nat_lt, nat_le, codes, Result, Ok, Err}
 use Rattle.std.proofs.lemmas.Bool.{le-leb, lt-ltb}
-use Rattle.std.proofs.lemmas.List.{append-nil, length-append}
+use Rattle.std.proofs.lemmas.List.{length-append}
 use Rattle.std.proofs.lemmas.List.Elements.{All-nil, All-push}
 use Rattle.trips_isa.specs.Images.{last_byte}
 use Rattle.target_asm_spec.specs.Numbers.{numbered}
@@ -23,6 +23,7 @@ use Rattle.target_asm_spec.specs.FirstAsmFault.{first_line, GoodFront, FirstAsmF
 use Rattle.target_asm_spec.specs.FirstAsmFault as rule
 use Rattle.target_asm_spec.proofs.Numbers.{after_front, no_digit}
 use Rattle.target_asm_spec.proofs.Images.{data_byte_again}
+use Rattle.target_asm_spec.proofs.Numbered.{numbered_end}
 use Rattle.target_asm_laws.proofs.Binds.{If, bind, Holds}
 use Rattle.target_asm_laws.proofs.Bodies.{all_of}
 use Rattle.target_asm_laws.proofs.Data.{IsFront, Byte, IsDataByte, data_byte_is, AreBytes}
@@ -117,14 +118,6 @@ front_tells text =
     (ap bytes_limit (sym c.same) ∙ limit_read c.z b))) (λ count l. tt)))
 
 -- ---- the data bytes
-
-numbered_end : (f : ℕ → ℕ → List ℕ) (j : ℕ) (xs : List ℕ) (y : ℕ)
-    → numbered f j (xs ++ y ∷ []) ≡ numbered f j xs ++ f (j + length xs) y
-numbered_end f j [] y = append-nil (f j y) ∙ ap (λ n. f n y) (omega arith)
-numbered_end f j (x ∷ xs) y =
-    let e : suc j + length xs ≡ j + length (x ∷ xs) = omega arith in
-    ap (λ t. f j x ++ t) (numbered_end f (suc j) xs y ∙ ap (λ n. numbered f (suc j) xs ++ f n y) e)
-    ∙ sym (append_assoc (f j x) (numbered f (suc j) xs) (f (j + length (x ∷ xs)) y))
 
 byte_more : (count b : ℕ) (done t rest text : List ℕ) → text ≡ data_words count done t
     → t ≡ byte_text count (length done) b ++ rest → text ≡ data_words count (done ++ b ∷ []) rest

@@ -15,6 +15,7 @@ use Rattle.target_asm_spec.specs.Lines.{IsOperand, AreOperands}
 use Rattle.target_asm_spec.proofs.Numbers.{after_front}
 use Rattle.target_asm_laws.proofs.Binds.{If}
 use Rattle.target_asm_laws.proofs.Digits.{IsAfter, after_is}
+use Rattle.target_asm_laws.proofs.Registers.{alike_is}
 use Rattle.target_asm_faults.proofs.Numerals.{capped_z}
 use Rattle.target_asm_faults.proofs.Targets.{capped_target, capped_maybe, target_read}
 
@@ -27,18 +28,6 @@ apart (spelled.Write n) rest = simp append_assoc refl
 apart (spelled.Left n) rest = simp append_assoc refl
 apart (spelled.Right n) rest = simp append_assoc refl
 apart (spelled.Pred n) rest = simp append_assoc refl
-
--- a text before a space and itself is spelled as what follows
-alike_is : (w rest : List ℕ) → same_text (w ++ 32 ∷ (w ++ rest)) (32 ∷ (w ++ rest)) ≡ true
-unfolding same_text
-alike_is w rest =
-    let t : List ℕ = 32 ∷ (w ++ rest) in
-    let n : length w ≡ length (w ++ t) - length t = omega (arith, length-append w t) in
-    let front : take (length (w ++ t) - length t) (w ++ t) ≡ w =
-    take_at w t (length (w ++ t) - length t) n in
-    let space : after_in (codes " ") t ≡ Some (w ++ rest) = after_front (codes " ") (w ++ rest) in
-    let again : after_in w (w ++ rest) ≡ Some rest = after_front w rest in
-    rw (space, front, again) refl
 
 abbrev left_of : {A : Type 0} → Option (A × List ℕ) → List ℕ
 left_of None = []

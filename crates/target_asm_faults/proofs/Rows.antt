@@ -1,7 +1,7 @@
 -- The lines of reads, writes and blocks are read from their texts, and what is read as such a line
 -- is the text of one.
 use Rattle.std.proofs.Common.{◌≡◌, ℕ, ◌<◌, ◌^◌, List, ◌∷◌, ◌++◌, refl, sym}
-use Rattle.std.proofs.Common.{ap, ◌∙◌, arith, Option, Some, Bool, true, false}
+use Rattle.std.proofs.Common.{ap, ◌∙◌, arith, Option, Some}
 use Rattle.std.specs.Prelude.{ℤ, codes}
 use Rattle.target_asm_spec.specs.Numbers.{hex_word}
 use Rattle.target_asm_spec.specs.declared.spelled.SpelledTarget.{SpelledTarget}
@@ -11,7 +11,7 @@ use Rattle.target_asm_spec.specs.declared.spelled.SpelledBlock.{SpelledBlock}
 use Rattle.target_asm_spec.specs.Reading.{after_in, number_in, index_in, word_in}
 use Rattle.target_asm_spec.specs.Places.{target_in, next_in}
 use Rattle.target_asm_spec.specs.Registers.{same_text}
-use Rattle.target_asm_spec.specs.Registers.{operands_fit, only_if, operands_in}
+use Rattle.target_asm_spec.specs.Registers.{operands_fit, operands_in}
 use Rattle.target_asm_spec.specs.Registers.{read_in, write_line_in, block_line_in}
 use Rattle.target_asm_spec.specs.Lines.{number_text, target_words, maybe_words, read_words}
 use Rattle.target_asm_spec.specs.Lines.{write_words, block_words, AreOperands}
@@ -21,6 +21,7 @@ use Rattle.target_asm_spec.proofs.Targets.{feed_ends}
 use Rattle.target_asm_laws.proofs.Binds.{If, bind, gives}
 use Rattle.target_asm_laws.proofs.Digits.{IsAfter, after_is}
 use Rattle.target_asm_laws.proofs.HexDigits.{IsWord, word_is}
+use Rattle.target_asm_laws.proofs.Registers.{only}
 use Rattle.target_asm_faults.proofs.Numerals.{capped_z, number_read, index_read, IsNumberOf}
 use Rattle.target_asm_faults.proofs.Numerals.{number_of_text, IsIndexOf, index_of}
 use Rattle.target_asm_faults.proofs.Targets.{capped_target, capped_maybe, target_read, next_read}
@@ -79,10 +80,6 @@ record ArePartsOf (n g : ℤ) (text : List ℕ) (r : SpelledRead × List ℕ) : 
   }
   is : text ≡ 32 ∷ target_words first (maybe_words second (10 ∷ r.1))
   fits : AreOperands first second
-
-pub only : {A : Type 0} (P : A → Type 0) (b : Bool) (x : A) → (b ≡ true → P x) → If P (only_if b x)
-only P true x p = p refl
-only P false x p = tt
 
 parts_of : (n g : ℤ) (text : List ℕ) → If (ArePartsOf n g text) (operands_in n g text)
 unfolding operands_in

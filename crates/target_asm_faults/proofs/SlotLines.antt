@@ -262,7 +262,7 @@ pub record SlotsEnd (bs : List ℕ) (here next c : ℕ) (x : List (Option Inst) 
   pub no_write : NoWrite q rest
   pub no_inst : NoInst q rest
 
-begun : (front t : List ℕ) → begins front (front ++ t) ≡ true
+pub begun : (front t : List ℕ) → begins front (front ++ t) ≡ true
 begun front t = ap is_some (after_front front t)
 
 inst_begins : (s : SpelledInst) (more text : List ℕ) → text ≡ line_words (line.inst s) more
