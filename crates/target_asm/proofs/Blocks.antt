@@ -13,7 +13,7 @@ use Rattle.target_asm_spec.specs.Numbers.{numbered}
 use Rattle.target_asm_spec.specs.Chunks.{goal_in, goal_of, start_rows}
 use Rattle.target_asm_spec.specs.Text.{TargetText, block_text, block_in, head_lines, byte_text}
 use Rattle.target_asm_spec.specs.Text.{slot_text, block_line, read_line, write_line, inst_line}
-use Rattle.target_asm.proofs.Numbered.{numbered_same}
+use Rattle.target_asm_spec.proofs.Numbered.{numbered_same}
 use Rattle.target_asm_spec.proofs.Starts.{goals_agree}
 
 -- the next block begins where the last one ends

@@ -1,4 +1,3 @@
-pub mod Numbered
 pub mod Blocks
 pub mod Turns
 pub mod Filling

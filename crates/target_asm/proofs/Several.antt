@@ -1,7 +1,7 @@
 -- One block after the other, as a loop reads them.
-use Rattle.std.proofs.Common.{◌≡◌, ℕ, zero, suc, ◌+◌, ◌-◌, ◌<◌, ◌≤◌, List, [], ◌∷◌, ◌++◌, length}
+use Rattle.std.proofs.Common.{◌≡◌, ℕ, suc, ◌+◌, ◌-◌, ◌<◌, ◌≤◌, List, [], ◌∷◌, ◌++◌, length}
 use Rattle.std.proofs.Common.{append_assoc}
-use Rattle.std.proofs.Common.{refl, sym, ap, ◌∙◌, arith, Bool, true, false, Result, Ok, Err}
+use Rattle.std.proofs.Common.{refl, sym, ap, ◌∙◌, arith, true, false, Result, Ok, Err}
 use Rattle.std.proofs.Common.{true-eqb}
 use Rattle.std.specs.Prelude.{◌==◌}
 use Rattle.trips_isa.specs.declared.block.Block.{Block}

@@ -1,13 +1,11 @@
 -- What the calls that read lines return, by what reading gives.
-use Rattle.std.specs.Prelude.{◌≡◌, ◌⊎◌, ℕ, ◌+◌, List, [], ◌∷◌, ◌++◌, Bool, true, not, Result, Ok, Err}
+use Rattle.std.specs.Prelude.{◌≡◌, ◌⊎◌, ℕ, ◌+◌, List, ◌++◌, true, not, Result, Ok, Err}
 use Rattle.trips_isa.specs.declared.block.Image.{Image}
 use Rattle.trips_isa.specs.declared.block.Block.{Block}
-use Rattle.trips_isa.specs.Images.{chunks}
-use Rattle.target_asm_spec.specs.Chunks.{start_rows}
 use Rattle.target_asm_spec.specs.declared.fault.AsmFault.{AsmFault}
 use Rattle.target_asm_spec.specs.declared.fault.AsmFault.TheVariants.{Syntax, Range, Label, Memory}
 use Rattle.target_asm_spec.specs.Blocks.{◌>>>◌, wants, Taken, Begins}
-use Rattle.target_asm_spec.specs.Whole.{chunks_from, begins_of, unknown, body_in, front_in, data_in}
+use Rattle.target_asm_spec.specs.Whole.{begins_of, unknown, body_in, front_in, data_in}
 use Rattle.target_asm_spec.specs.Whole.{data_lines, is_empty}
 use Rattle.target_asm.specs.declared.branches.Known.{Known}
 use Rattle.target_asm.specs.declared.whole.Places.{Places}

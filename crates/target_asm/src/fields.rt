@@ -6,8 +6,8 @@ ghost use Rattle.isa_table.specs.Spots.{spot_text};
 ghost use Rattle.target_asm_spec.specs.Fields.{target_text, sense_text};
 ghost use Rattle.target_asm_spec.specs.Fields.{goal_text, branch_text, numbers_text};
 
-use std::alloc::AllocError;
 use isa_table::{put_number, put_signed, put_spot};
+use std::alloc::AllocError;
 use trips_isa::{Form, Inst, Op, Sense, Spot};
 
 fn digit(d: u8) -> u8

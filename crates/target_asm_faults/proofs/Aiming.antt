@@ -1,18 +1,16 @@
 -- Where branches go, as both readings tell it.
 use Rattle.std.proofs.Common.{◌≡◌, ℕ, suc, ◌+◌, ◌-◌, ◌<◌, ◌≤◌, List, length, get_or, refl, sym, ap, subst}
 use Rattle.std.proofs.Common.{◌∙◌, arith, Option, Some, None, Bool, true, false, ◌⊎◌, inl, inr}
-use Rattle.std.specs.Prelude.{ℤ, pos, negsuc, ◌+ℤ◌, ◌-ℤ◌, nat_lt, is_some, Result, Ok, Err}
+use Rattle.std.specs.Prelude.{ℤ, pos, negsuc, ◌+ℤ◌, ◌-ℤ◌, nat_lt, is_some, Ok, Err}
 use Rattle.std.specs.Prelude.{if◌then◌else◌}
 use Rattle.std.proofs.lemmas.Bool.{cases_lt, lt-ltb, ltb-true}
 use Rattle.std.proofs.lemmas.Int.{ints}
 use Rattle.trips_isa.specs.declared.op.Op.{Op}
 use Rattle.trips_isa.specs.declared.op.Op.TheVariants.{Bro, Callo}
-use Rattle.trips_isa.specs.declared.block.Inst.{Inst}
 use Rattle.trips_isa.specs.declared.block.Block.{Block}
 use Rattle.trips_isa.specs.Forms.{form_of}
 use Rattle.trips_isa.specs.Fits.{FitsSigned}
 use Rattle.target_asm_spec.specs.Chunks.{goal_in, start_rows}
-use Rattle.target_asm_spec.specs.declared.fault.AsmFault.{AsmFault}
 use Rattle.target_asm_spec.specs.declared.fault.AsmFault.TheVariants as fault
 use Rattle.target_asm_spec.specs.declared.spelled.Goal.{Goal}
 use Rattle.target_asm_spec.specs.declared.spelled.Goal.TheVariants.{Label, Offset}
@@ -20,21 +18,20 @@ use Rattle.target_asm_spec.specs.declared.spelled.SpelledInst.{SpelledInst}
 use Rattle.target_asm_spec.specs.Judging.{signed_in, inst_of}
 use Rattle.target_asm_spec.specs.Blocks.{or_fault, to_block, aimed_at, aimed}
 use Rattle.target_asm_spec.specs.Whole.{chunks_from, begins_of, unknown}
-use Rattle.target_asm_spec.specs.Lines.{MayHaveGoal, IsInstruction}
-use Rattle.target_asm_spec.specs.LinePlaces.{Below, GoodGoal}
+use Rattle.target_asm_spec.specs.Lines.{MayHaveGoal}
+use Rattle.target_asm_spec.specs.LinePlaces.{GoodGoal}
 use Rattle.target_asm_spec.proofs.Goals.{found_goal, length-chunks_from}
 use Rattle.target_asm_spec.proofs.Instructions.{signed_judged}
 use Rattle.target_asm_spec.proofs.Starts.{goals_agree}
-use Rattle.target_asm_laws.proofs.Aims.{Told}
 use Rattle.target_asm_laws.proofs.Judging.{IsJudged, judged_is, ImmIs, OffsetIs}
 use Rattle.target_asm_laws.proofs.Tables.{told}
 use Rattle.target_asm_faults.proofs.Numerals.{capped, capped_small, capped_z}
-use Rattle.target_asm_faults.proofs.Insts.{capped_goal, capped_inst}
+use Rattle.target_asm_faults.proofs.Insts.{capped_goal}
 use Rattle.target_asm_faults.proofs.Capped.{below_capped}
 use Rattle.target_asm_faults.proofs.OneLine.{has_goal, goal_kept}
 use Rattle.target_asm_faults.proofs.Leads.{Aim}
 use Rattle.target_asm_faults.proofs.Registers.{none_some, clash, found}
-use Rattle.target_asm_faults.proofs.SlotLines.{AimCause, no_block, hits, AimResult, Aims}
+use Rattle.target_asm_faults.proofs.SlotLines.{no_block, hits, AimResult, Aims}
 
 -- ---- the first reading does not look
 
@@ -77,8 +74,10 @@ label_aim cs here at k near few room = by (nat_lt (capped k) (length cs)) refl
   where
     d : ℤ
     d = pos (get_or cs (capped k) 0) -ℤ pos here
+
     same : nat_lt (capped k) (length cs) ≡ nat_lt k (length cs)
     same = below_capped k (length cs) (omega (arith, few))
+
     by : (b : Bool) → nat_lt (capped k) (length cs) ≡ b
         → AimResult (GoodGoal cs) (BadAim cs) here at (Some (Label (pos k)))
         (if b then or_fault (fault.Label at) (signed_in 524288 d) else Err (fault.Label at))
@@ -110,12 +109,16 @@ offset_aim first here at n imm few f =
   where
     cs : List ℕ
     cs = chunks_from 0 first
+
     G : Aim
     G = GoodGoal (chunks_from 0 first)
+
     Bad : ℕ → Goal → Type 0
     Bad = BadAim (chunks_from 0 first)
+
     starts : List ℕ
     starts = start_rows 0 first
+
     by : (o : Option ℕ) → goal_in (start_rows 0 first) (pos here +ℤ n) ≡ o
         → AimResult (GoodGoal (chunks_from 0 first)) (BadAim (chunks_from 0 first)) here at
         (Some (Offset n)) (if is_some o then Err (fault.Range at) else Ok imm)

@@ -1,17 +1,14 @@
 -- The first bad goal of a text's lines is the one that reading meets.
-use Rattle.std.proofs.Common.{◌≡◌, ℕ, suc, ◌+◌, ◌<◌, ◌≤◌, List, [], ◌∷◌, ◌++◌, length, get_or, refl, sym}
-use Rattle.std.proofs.Common.{ap, subst, ◌∙◌, arith, Option, Some, None, Bool, true}
-use Rattle.std.specs.Prelude.{ℤ, pos, negsuc, ◌+ℤ◌, not, Result, Ok, Err}
-use Rattle.trips_isa.specs.declared.block.Inst.{Inst}
+use Rattle.std.proofs.Common.{◌≡◌, ℕ, suc, ◌+◌, ◌≤◌, List, [], ◌∷◌, ◌++◌, length, refl, sym}
+use Rattle.std.proofs.Common.{ap, subst, ◌∙◌, arith, Option, Some, None, true}
+use Rattle.std.specs.Prelude.{ℤ, pos, not, Result, Ok, Err}
 use Rattle.trips_isa.specs.declared.block.Block.{Block}
-use Rattle.trips_isa.specs.declared.block.Image.{Image}
 use Rattle.trips_isa.specs.Fits.{FitsSigned}
 use Rattle.target_asm_spec.specs.declared.fault.AsmFault.{AsmFault}
 use Rattle.target_asm_spec.specs.declared.fault.AsmFault.TheVariants as fault
 use Rattle.target_asm_spec.specs.declared.spelled.Goal.{Goal}
 use Rattle.target_asm_spec.specs.declared.spelled.Goal.TheVariants.{Label, Offset}
 use Rattle.target_asm_spec.specs.Judging.{inst_of}
-use Rattle.target_asm_spec.specs.Blocks.{◌>>>◌, wants}
 use Rattle.target_asm_spec.specs.Whole.{is_empty, data_lines, chunks_from, begins_of, unknown, body_in}
 use Rattle.target_asm_spec.specs.Whole.{image_in}
 use Rattle.target_asm_spec.specs.LinePlaces.{Line, line_words, Place, start, after, MayStand, Below}
@@ -22,9 +19,8 @@ use Rattle.target_asm_spec.specs.FirstAsmFault.{BadGoal, first_line, GoodFront}
 use Rattle.target_asm_spec.proofs.Goals.{length-chunks_from}
 use Rattle.target_asm_laws.proofs.Binds.{Holds}
 use Rattle.target_asm_laws.proofs.Judging.{IsJudged, judged_is}
-use Rattle.target_asm_faults.proofs.Numerals.{capped_z}
 use Rattle.target_asm_faults.proofs.Insts.{capped_goal}
-use Rattle.target_asm_faults.proofs.OneLine.{small_same, SameLine, one_line}
+use Rattle.target_asm_faults.proofs.OneLine.{small_same, one_line}
 use Rattle.target_asm_faults.proofs.Meeting.{Meets, together, first, second, meet, syntax, range}
 use Rattle.target_asm_faults.proofs.Leads.{Aim, AllAim, Failed, Came, Goes, Cause, words_append}
 use Rattle.target_asm_faults.proofs.Leads as lead
@@ -236,8 +232,10 @@ second_meets at rest cs x ls g some c few same b =
   where
     bad : Bad rest (chunks_from 0 x) ls g
     bad = subst (λ (y : List ℕ). Bad rest y ls g) (sym same) b
+
     short : length (chunks_from 0 x) ≤ 262145
     short = subst (λ (n : ℕ). n ≤ 262145) (sym (length-chunks_from 0 x)) few
+
     cause : (f : List Line) (u : List ℕ) → AreGood start f → AllAim (GoodGoal (chunks_from 0 x)) start f
         → rest ≡ lines_words f u → (e : AsmFault)
         → Cause (BadAim (chunks_from 0 x)) (place_after start f) (at + length f) u e
@@ -274,13 +272,15 @@ second_meets at rest cs x ls g some c few same b =
           goal = ge;
           bad = bd;
         }) bad
+
     by : (r : Result (List Block) AsmFault)
         → Goes (GoodGoal (chunks_from 0 x)) (BadAim (chunks_from 0 x)) start at rest (BlocksEnd [] 0) r
         → r ≡ Err (goal_fault g (at + length ls))
     by (Err e) f = ap (λ (y : AsmFault). Err y)
         (cause f.lines f.rest f.good f.aims f.is e f.cause)
     by (Ok y) d = absurd (no_bad rest (chunks_from 0 x) ls d.led.lines g short bad d.led.good
-        (goals_of (chunks_from 0 x) start d.led.lines d.led.aims) (d.led.is ∙ ap (lines_words d.led.lines) d.holds.left))
+        (goals_of (chunks_from 0 x) start d.led.lines d.led.aims)
+        (d.led.is ∙ ap (lines_words d.led.lines) d.holds.left))
 
 -- and the first reading leads to it
 part_meets : (bytes : List ℕ) (c : ℕ) (cs : List ℕ) (ls : List Line) (g : Goal) (b : BadGoal (c ∷ cs) ls g)
@@ -297,6 +297,7 @@ part_meets bytes c cs ls g b =
         (whole (c ∷ cs) ls g b) (is_some_text c cs) f u fg fi (range n)
     cause f u fg fi e (lead.label l tail n sl fl is ge bd) = bd
     cause f u fg fi e (lead.offset l tail n sl fl is ge bd) = bd
+
     by : (r : Result (List Block) AsmFault) → body_in unknown (first_line bytes) (c ∷ cs) ≡ r
         → Goes Anywhere Nowhere start (first_line bytes) (c ∷ cs) (BlocksEnd [] 0) r
         → Holds (λ bs. length bs ≤ 262145) r

@@ -1,11 +1,10 @@
 -- What the reading of the lines of blocks leads to.
-use Rattle.std.proofs.Common.{◌≡◌, ℕ, zero, suc, ◌+◌, ◌*◌, ◌^◌, ◌<◌, ◌≤◌, max, List, [], ◌∷◌, ◌++◌, length}
-use Rattle.std.proofs.Common.{refl, sym, ap, subst, ◌∙◌, arith, append_assoc, Option, Some, None, Bool}
-use Rattle.std.proofs.Common.{true, false}
-use Rattle.std.specs.Prelude.{ℤ, pos, negsuc, nat_le, get_or, is_some, codes, Result, Ok, Err}
+use Rattle.std.proofs.Common.{◌≡◌, ℕ, zero, suc, ◌+◌, ◌*◌, ◌<◌, ◌≤◌, max, List, [], ◌∷◌, ◌++◌, length}
+use Rattle.std.proofs.Common.{refl, sym, ap, subst, ◌∙◌, arith, append_assoc, Option, Some, None}
+use Rattle.std.proofs.Common.{true}
+use Rattle.std.specs.Prelude.{ℤ, pos, nat_le, get_or, codes, Result, Ok, Err}
 use Rattle.std.proofs.lemmas.Bool.{leb-true, le-leb}
 use Rattle.std.proofs.lemmas.List.{append-nil, length-append}
-use Rattle.trips_isa.specs.declared.block.Inst.{Inst}
 use Rattle.trips_isa.specs.declared.block.ReadSlot.{ReadSlot}
 use Rattle.trips_isa.specs.declared.block.Block.{Block}
 use Rattle.trips_isa.specs.Images.{chunks, body_chunks}
@@ -16,20 +15,20 @@ use Rattle.target_asm_spec.specs.declared.spelled.SpelledBlock.{SpelledBlock}
 use Rattle.target_asm_spec.specs.declared.spelled.SpelledRead.{SpelledRead}
 use Rattle.target_asm_spec.specs.declared.spelled.SpelledWrite.{SpelledWrite}
 use Rattle.target_asm_spec.specs.Registers.{block_line_in}
-use Rattle.target_asm_spec.specs.Blocks.{◌>>>◌, or_fault, wants, begins, is_place, Begins, one_read}
+use Rattle.target_asm_spec.specs.Blocks.{begins, is_place, Begins, one_read}
 use Rattle.target_asm_spec.specs.Blocks.{reads_in, one_write, writes_in, slots_in, head_in, block_of}
 use Rattle.target_asm_spec.specs.Blocks.{one_block, blocks_in}
 use Rattle.target_asm_spec.specs.Whole.{chunks_from}
 use Rattle.target_asm_spec.specs.Lines.{read_words, write_words, block_words}
 use Rattle.target_asm_spec.specs.LinePlaces.{Line, line_words, Place, after, IsNext, MayStand, InFields}
 use Rattle.target_asm_spec.specs.LinePlaces as line
-use Rattle.target_asm_spec.specs.FirstAsmFault.{NoLine, BadNumber}
+use Rattle.target_asm_spec.specs.FirstAsmFault.{NoLine}
 use Rattle.target_asm_spec.proofs.Bodies.{some_body}
-use Rattle.target_asm_spec.proofs.Numbers.{after_front}
-use Rattle.target_asm_laws.proofs.Binds.{If}
 use Rattle.target_asm_laws.proofs.Rows.{place_is}
+use Rattle.target_asm_faults.proofs.SlotLines.{begun}
 use Rattle.target_asm_faults.proofs.Numerals.{capped_z}
-use Rattle.target_asm_faults.proofs.Rows.{same_item, block_read, IsBlockOf, block_of_text}
+use Rattle.target_asm_faults.proofs.Rows.{block_read, IsBlockOf, block_of_text}
+use Rattle.target_asm_faults.proofs.Operands.{same_item}
 use Rattle.target_asm_faults.proofs.Leads.{Aim, syntax, range, Goes, goes, step_some, step_wants}
 use Rattle.target_asm_faults.proofs.Leads.{moved, at_once, by_line, fails}
 use Rattle.target_asm_faults.proofs.Registers.{none_some, clash, found, exactly, at_place, AfterRead}
@@ -149,9 +148,6 @@ record WritesAt (bs : List ℕ) (here : ℕ) (p : Place) (j : ℕ) (text : List 
   write : p.next_write ≡ Some j
   slot : p.next_slot ≡ Some 0
   no_read : NoRead p text
-
-begun : (front t : List ℕ) → begins front (front ++ t) ≡ true
-begun front t = ap is_some (after_front front t)
 
 read_begins : (s : SpelledRead) (more text : List ℕ) → text ≡ line_words (line.read s) more
     → begins (codes "R[") text ≡ true

@@ -1,8 +1,8 @@
 -- Whether a number lies in its field is seen of the number as it is read.
-use Rattle.std.proofs.Common.{◌≡◌, ℕ, suc, ◌+◌, ◌-◌, ◌<◌, ◌≤◌, List, refl, sym, ap, subst, ◌∙◌, arith}
+use Rattle.std.proofs.Common.{◌≡◌, ℕ, suc, ◌-◌, ◌<◌, ◌≤◌, refl, sym, ap, ◌∙◌, arith}
 use Rattle.std.proofs.Common.{Option, Some, None, Bool, true, false, ◌⊎◌, inl, inr}
-use Rattle.std.specs.Prelude.{ℤ, pos, negsuc, nat_lt, nat_le, ◌==◌, if◌then◌else◌}
-use Rattle.std.proofs.lemmas.Bool.{cases_lt, lt-ltb, le-ltb, ltb-true}
+use Rattle.std.specs.Prelude.{ℤ, pos, negsuc, nat_lt, if◌then◌else◌}
+use Rattle.std.proofs.lemmas.Bool.{cases_lt, le-ltb, ltb-true}
 use Rattle.trips_isa.specs.declared.op.Op.{Op}
 use Rattle.trips_isa.specs.declared.op.Op.TheVariants.{Gens}
 use Rattle.trips_isa.specs.declared.form.Form.{Form}
@@ -16,7 +16,7 @@ use Rattle.target_asm_spec.specs.declared.spelled.SpelledTarget.{SpelledTarget}
 use Rattle.target_asm_spec.specs.declared.spelled.SpelledTarget.TheVariants as spelled
 use Rattle.target_asm_spec.specs.declared.spelled.SpelledInst.{SpelledInst}
 use Rattle.target_asm_spec.specs.declared.spelled.SpelledRead.{SpelledRead}
-use Rattle.target_asm_spec.specs.Reading.{◌>>=◌, field_in}
+use Rattle.target_asm_spec.specs.Reading.{field_in}
 use Rattle.target_asm_spec.specs.Places.{spot_of, maybe_spot}
 use Rattle.target_asm_spec.specs.Registers.{read_of}
 use Rattle.target_asm_spec.specs.Judging.{signed_in, unsigned_in, number_of, constant_of, offset_of}

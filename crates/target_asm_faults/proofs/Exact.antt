@@ -1,5 +1,5 @@
 -- The first fault of a text, both ways, and the laws.
-use Rattle.std.proofs.Common.{◌≡◌, ℕ, List, refl, sym, ◌∙◌}
+use Rattle.std.proofs.Common.{◌≡◌, ℕ, List, sym, ◌∙◌}
 use Rattle.std.specs.Prelude.{◌↔◌, Result, Ok, Err}
 use Rattle.trips_isa.specs.declared.block.Image.{Image}
 use Rattle.target_asm_spec.specs.Text.{TargetText}

@@ -1,17 +1,17 @@
 -- The first fault of a text's first lines and data bytes is met by reading.
-use Rattle.std.proofs.Common.{◌≡◌, ℕ, zero, suc, ◌+◌, ◌-◌, ◌/◌, ◌<◌, ◌≤◌, List, [], ◌∷◌, ◌++◌, length, refl, sym}
-use Rattle.std.proofs.Common.{ap, subst, ◌∙◌, arith, append_assoc, Option, Some, None, Bool, true, false}
+use Rattle.std.proofs.Common.{◌≡◌, ℕ, suc, ◌+◌, ◌-◌, ◌/◌, ◌<◌, ◌≤◌, List, [], ◌∷◌, ◌++◌, length, refl, sym}
+use Rattle.std.proofs.Common.{ap, ◌∙◌, arith, append_assoc, Option, Some, None, Bool, true, false}
 use Rattle.std.proofs.Common.{◌⊎◌, inl, inr}
 use Rattle.std.specs.Prelude.{ℤ, pos, negsuc, not, nat_lt, nat_le, codes, Result, Ok, Err, if◌then◌else◌}
 use Rattle.std.proofs.lemmas.Bool.{cases_lt, leb-true}
 use Rattle.trips_isa.specs.declared.block.Image.{Image}
 use Rattle.trips_isa.specs.Images.{last_byte}
 use Rattle.target_asm_spec.specs.Numbers.{numbered}
-use Rattle.target_asm_spec.specs.Text.{head_lines, byte_text}
+use Rattle.target_asm_spec.specs.Text.{byte_text}
 use Rattle.target_asm_spec.specs.declared.fault.AsmFault.{AsmFault}
 use Rattle.target_asm_spec.specs.declared.fault.AsmFault.TheVariants as fault
 use Rattle.target_asm_spec.specs.Reading.{after_in}
-use Rattle.target_asm_spec.specs.Blocks.{◌>>>◌, or_fault, wants}
+use Rattle.target_asm_spec.specs.Blocks.{◌>>>◌, wants}
 use Rattle.target_asm_spec.specs.Whole.{is_empty, count_in, bytes_limit, front_in, byte_fault}
 use Rattle.target_asm_spec.specs.Whole.{data_byte_in, bytes_in, data_lines, data_in, begins_of, unknown}
 use Rattle.target_asm_spec.specs.Whole.{body_in, image_in}
@@ -25,7 +25,7 @@ use Rattle.target_asm_laws.proofs.Digits.{IsAfter, after_is}
 use Rattle.target_asm_laws.proofs.Data.{IsDataByte, data_byte_is}
 use Rattle.target_asm_faults.proofs.Numerals.{capped, capped_small, capped_large, capped_z}
 use Rattle.target_asm_faults.proofs.Registers.{found}
-use Rattle.target_asm_faults.proofs.Judged.{count_read, IsCountOf, count_of}
+use Rattle.target_asm_faults.proofs.FrontFaults.{count_read, IsCountOf, count_of}
 
 is_none : {A : Type 0} (o : Option A) → ((x : A) → o ≡ Some x → ⊥) → o ≡ None
 is_none None h = refl

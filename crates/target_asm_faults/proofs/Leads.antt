@@ -1,5 +1,5 @@
 -- What a reading leads to: good lines to another place, or to a fault.
-use Rattle.std.proofs.Common.{◌≡◌, ℕ, suc, ◌+◌, List, [], ◌∷◌, ◌++◌, length, refl, sym, ap, subst, ◌∙◌}
+use Rattle.std.proofs.Common.{◌≡◌, ℕ, ◌+◌, List, [], ◌∷◌, ◌++◌, length, refl, sym, ap, subst, ◌∙◌}
 use Rattle.std.proofs.Common.{arith, Option, Some, None, Bool, true, false}
 use Rattle.std.specs.Prelude.{ℤ, Result, Ok, Err, if◌then◌else◌}
 use Rattle.std.proofs.lemmas.List.{length-append}
@@ -11,7 +11,6 @@ use Rattle.target_asm_spec.specs.Blocks.{◌>>>◌, or_fault, wants}
 use Rattle.target_asm_spec.specs.LinePlaces.{Line, line_words, Place, after, MayStand, InFields}
 use Rattle.target_asm_spec.specs.LinePlaces.{AreGood, place_after, lines_words, goal_of_line}
 use Rattle.target_asm_spec.specs.FirstAsmFault.{NoLine, BadNumber}
-use Rattle.target_asm_laws.proofs.Binds.{If}
 
 -- what is asked of where the lines of a text go
 abbrev pub Aim : Type 1

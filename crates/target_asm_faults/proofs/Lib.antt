@@ -1,7 +1,9 @@
 pub mod Numerals
 pub mod Targets
+pub mod Operands
 pub mod Rows
 pub mod Insts
+pub mod InstTexts
 pub mod Capped
 pub mod OneLine
 pub mod Meeting
@@ -10,6 +12,7 @@ pub mod Registers
 pub mod SlotLines
 pub mod BlockLines
 pub mod Aiming
+pub mod FrontFaults
 pub mod Judged
 pub mod Fronts
 pub mod Meets

@@ -1,10 +1,9 @@
 -- Good lines of one text, from one place, are the same as far as both go.
 use Rattle.std.proofs.Common.{◌≡◌, ℕ, suc, List, [], ◌∷◌, length, refl, sym, ap, subst, ◌∙◌}
-use Rattle.target_asm_spec.specs.declared.fault.AsmFault.{AsmFault}
 use Rattle.target_asm_spec.specs.LinePlaces.{Line, line_words, Place, after, MayStand, InFields}
 use Rattle.target_asm_spec.specs.LinePlaces.{AreGood, place_after, lines_words}
 use Rattle.target_asm_spec.specs.FirstAsmFault.{NoLine, BadNumber}
-use Rattle.target_asm_faults.proofs.OneLine.{SameLine, one_line}
+use Rattle.target_asm_faults.proofs.OneLine.{one_line}
 
 -- where two lists of lines of one text end
 pub data Meets (p q : Place) (ls ms : List Line) (t u : List ℕ) : Type 0 where

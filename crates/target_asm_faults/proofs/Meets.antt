@@ -1,44 +1,26 @@
 -- The first fault of a text's lines is the one that reading meets.
-use Rattle.std.proofs.Common.{◌≡◌, ℕ, zero, suc, ◌+◌, ◌/◌, ◌<◌, ◌≤◌, List, [], ◌∷◌, ◌++◌, length, get_or}
-use Rattle.std.proofs.Common.{refl, sym, ap, subst, ◌∙◌, arith, Option, Some, None, Bool, true, false}
-use Rattle.std.specs.Prelude.{ℤ, pos, negsuc, not, Result, Ok, Err}
+use Rattle.std.proofs.Common.{◌≡◌, ℕ, ◌+◌, List, [], ◌∷◌, ◌++◌, length}
+use Rattle.std.proofs.Common.{refl, sym, ap, subst, ◌∙◌, arith, true}
+use Rattle.std.specs.Prelude.{not, Result, Ok, Err}
 use Rattle.std.proofs.lemmas.List.{length-append}
-use Rattle.trips_isa.specs.declared.block.Inst.{Inst}
 use Rattle.trips_isa.specs.declared.block.Block.{Block}
-use Rattle.trips_isa.specs.declared.block.Image.{Image}
-use Rattle.trips_isa.specs.Fits.{FitsSigned}
 use Rattle.target_asm_spec.specs.declared.fault.AsmFault.{AsmFault}
 use Rattle.target_asm_spec.specs.declared.fault.AsmFault.TheVariants as fault
-use Rattle.target_asm_spec.specs.declared.spelled.Goal.{Goal}
-use Rattle.target_asm_spec.specs.declared.spelled.Goal.TheVariants.{Label, Offset}
-use Rattle.target_asm_spec.specs.Judging.{inst_of}
-use Rattle.target_asm_spec.specs.Blocks.{◌>>>◌, wants}
-use Rattle.target_asm_spec.specs.Whole.{is_empty, data_lines, chunks_from, begins_of, unknown, body_in}
+use Rattle.target_asm_spec.specs.Whole.{is_empty, data_lines, chunks_from, unknown, body_in}
 use Rattle.target_asm_spec.specs.Whole.{image_in}
 use Rattle.target_asm_spec.specs.LinePlaces.{Line, line_words, Place, start, after, size_of, MayStand}
 use Rattle.target_asm_spec.specs.LinePlaces.{Below, InFields, AreGood, place_after, lines_words, GoodGoal}
 use Rattle.target_asm_spec.specs.LinePlaces.{goal_of_line, GoodGoals}
 use Rattle.target_asm_spec.specs.LinePlaces as line
-use Rattle.target_asm_spec.specs.FirstAsmFault.{NoLine, BadNumber, BadGoal, first_line, GoodFront}
-use Rattle.target_asm_spec.specs.FirstAsmFault.{FirstAsmFault}
-use Rattle.target_asm_spec.specs.FirstAsmFault as rule
-use Rattle.target_asm_spec.proofs.Goals.{length-chunks_from}
-use Rattle.target_asm_laws.proofs.Binds.{Holds}
-use Rattle.target_asm_laws.proofs.Judging.{IsJudged, judged_is}
-use Rattle.target_asm_faults.proofs.Numerals.{capped_z}
-use Rattle.target_asm_faults.proofs.Insts.{capped_goal}
-use Rattle.target_asm_faults.proofs.OneLine.{small_same, SameLine, one_line}
+use Rattle.target_asm_spec.specs.FirstAsmFault.{NoLine, BadNumber, first_line, GoodFront}
 use Rattle.target_asm_faults.proofs.Meeting.{Meets, together, first, second, meet, Broken, syntax, range}
 use Rattle.target_asm_faults.proofs.Meeting.{no_good, one_end, one_break}
 use Rattle.target_asm_faults.proofs.Leads.{Aim, AllAim, Failed, Came, Goes, Cause, place_append}
 use Rattle.target_asm_faults.proofs.Leads.{words_append}
 use Rattle.target_asm_faults.proofs.Leads as lead
-use Rattle.target_asm_faults.proofs.Registers.{found}
 use Rattle.target_asm_faults.proofs.BlockLines.{BlocksEnd}
-use Rattle.target_asm_faults.proofs.Aiming.{Anywhere, Nowhere, BadAim, signed_kept, offset_fits}
-use Rattle.target_asm_faults.proofs.Judged.{no_empty, WholeLines, first_goes, second_goes, whole_of}
-use Rattle.target_asm_faults.proofs.Judged.{few_body}
-use Rattle.target_asm_faults.proofs.Fronts.{head_found, count_found, limit_found, byte_found, last_found}
+use Rattle.target_asm_faults.proofs.Aiming.{Anywhere, Nowhere}
+use Rattle.target_asm_faults.proofs.Judged.{no_empty, WholeLines, first_goes, whole_of}
 use Rattle.target_asm_faults.proofs.Fronts.{blocks_part, after_data}
 
 -- ---- lines to the end of a text have no fault
@@ -118,6 +100,7 @@ body_broken at rest some ls t good is b = by (body_in unknown at rest) (first_go
         let m = one_end start start f ls u t (meet start start f ls u t refl fg good (sym fi ∙ is)) c b in
         same_fault (place_after start f) (place_after start ls) u t c b (at + length f) (at + length ls)
         m.2 m.1 (ap (λ (n : ℕ). at + n) m.0)
+
     cause : (f : List Line) (u : List ℕ) → AreGood start f → rest ≡ lines_words f u → (e : AsmFault)
         → Cause Nowhere (place_after start f) (at + length f) u e
         → ◌≡◌ {A = Result (List Block) AsmFault} (Err e)
@@ -126,6 +109,7 @@ body_broken at rest some ls t good is b = by (body_in unknown at rest) (first_go
     cause f u fg fi e (lead.range n) = ap (λ (x : AsmFault). Err x) (here f u fg fi (range n))
     cause f u fg fi e (lead.label l more k st il ii g z) = absurd z
     cause f u fg fi e (lead.offset l more k st il ii g z) = absurd z
+
     by : (r : Result (List Block) AsmFault)
         → Goes Anywhere Nowhere start at rest (BlocksEnd [] 0) r
         → r ≡ Err (broken_fault (place_after start ls) t b (at + length ls))

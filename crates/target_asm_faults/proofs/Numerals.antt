@@ -3,7 +3,7 @@ use Rattle.std.proofs.Common.{◌≡◌, ℕ, zero, suc, ◌+◌, ◌-◌, ◌*�
 use Rattle.std.proofs.Common.{◌∷◌, ◌++◌, length, take, drop, get_or, map, refl, sym, ap, subst, ◌∙◌}
 use Rattle.std.proofs.Common.{arith, append_assoc, Option, Some, None, Bool, true, false, ◌⊎◌}
 use Rattle.std.proofs.Common.{inl, inr}
-use Rattle.std.specs.Prelude.{ℤ, pos, negsuc, ◌==◌, ◌&&◌, nat_lt, nat_le, codes}
+use Rattle.std.specs.Prelude.{ℤ, pos, negsuc, ◌==◌, ◌&&◌, nat_lt, codes}
 use Rattle.std.specs.Prelude.{if◌then◌else◌}
 use Rattle.std.specs.Int.Digits.{digits_of}
 use Rattle.std.proofs.lemmas.Bool.{eqb-false, lt-ltb, le-ltb, cases_lt, or_parts}
@@ -12,12 +12,12 @@ use Rattle.std.proofs.lemmas.List.{append-nil, map-append, take_at, drop_at}
 use Rattle.std.proofs.Math.ListN.{get_or-append, length-append}
 use Rattle.target_asm_spec.specs.Reading.{◌>>=◌, after_in, is_digit, digits_in, with_digit, value_from}
 use Rattle.target_asm_spec.specs.Reading.{is_no_number, natural_in, below_zero, number_by, number_in}
-use Rattle.target_asm_spec.specs.Reading.{spaced_in, index_in, field_in}
+use Rattle.target_asm_spec.specs.Reading.{spaced_in, index_in}
 use Rattle.target_asm_spec.specs.Lines.{natural_text, number_text}
 use Rattle.target_asm_spec.proofs.Numbers.{and_left, and_right, and_both, all_digits, after_front}
 use Rattle.target_asm_spec.proofs.Numbers.{is_in, digits_all, all_append, value_append, no_sign}
 use Rattle.target_asm_spec.proofs.Numbers.{is_number, no_digit}
-use Rattle.target_asm_laws.proofs.Binds.{If, bind, gives, unless, when}
+use Rattle.target_asm_laws.proofs.Binds.{If, bind, gives, unless}
 use Rattle.target_asm_laws.proofs.Digits.{IsAfter, after_is, front_digits, parts, IsDigit, digit_is}
 use Rattle.target_asm_laws.proofs.Digits.{length-front}
 

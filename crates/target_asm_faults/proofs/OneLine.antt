@@ -1,22 +1,18 @@
 -- A text begins with one line at most, as far as its fields go.
-use Rattle.std.proofs.Common.{◌≡◌, ℕ, suc, ◌+◌, ◌/◌, ◌^◌, ◌<◌, ◌≤◌, List, [], ◌∷◌, ◌++◌, length, refl, sym}
-use Rattle.std.proofs.Common.{ap, subst, ◌∙◌, arith, Option, Some, None, true}
-use Rattle.std.specs.Prelude.{ℤ, pos, negsuc, get_or, codes}
+use Rattle.std.proofs.Common.{◌≡◌, ℕ, suc, ◌+◌, ◌/◌, ◌^◌, ◌<◌, ◌≤◌, List, refl, sym}
+use Rattle.std.proofs.Common.{ap, subst, ◌∙◌, arith, Option, Some, None}
+use Rattle.std.specs.Prelude.{ℤ, pos, negsuc, get_or}
 use Rattle.trips_isa.specs.declared.op.Op.{Op}
 use Rattle.trips_isa.specs.declared.op.Op.TheVariants.{Bro, Callo}
 use Rattle.trips_isa.specs.declared.form.Form.{Form}
 use Rattle.trips_isa.specs.declared.form.Form.TheVariants.{General, Immediate, Load, Store, Branch}
 use Rattle.trips_isa.specs.declared.form.Form.TheVariants.{Constant}
-use Rattle.trips_isa.specs.declared.block.Inst.{Inst}
-use Rattle.trips_isa.specs.declared.block.ReadSlot.{ReadSlot}
 use Rattle.trips_isa.specs.Forms.{form_of}
 use Rattle.target_asm_spec.specs.declared.spelled.Goal.{Goal}
-use Rattle.target_asm_spec.specs.declared.spelled.Goal.TheVariants.{Label, Offset}
 use Rattle.target_asm_spec.specs.declared.spelled.Numbers.{Numbers}
 use Rattle.target_asm_spec.specs.declared.spelled.SpelledInst.{SpelledInst}
 use Rattle.target_asm_spec.specs.declared.spelled.SpelledRead.{SpelledRead}
 use Rattle.target_asm_spec.specs.declared.spelled.SpelledWrite.{SpelledWrite}
-use Rattle.target_asm_spec.specs.declared.spelled.SpelledBlock.{SpelledBlock}
 use Rattle.target_asm_spec.specs.Registers.{read_in, write_line_in, block_line_in, read_of}
 use Rattle.target_asm_spec.specs.Instructions.{inst_in}
 use Rattle.target_asm_spec.specs.Judging.{inst_of}
@@ -25,7 +21,8 @@ use Rattle.target_asm_spec.specs.LinePlaces.{Line, line_words, Place, after, siz
 use Rattle.target_asm_spec.specs.LinePlaces.{Below, InFields, goal_of_line}
 use Rattle.target_asm_spec.specs.LinePlaces as line
 use Rattle.target_asm_faults.proofs.Numerals.{capped, capped_small, capped_z}
-use Rattle.target_asm_faults.proofs.Rows.{same_rest, same_item, capped_read, read_read, capped_write}
+use Rattle.target_asm_faults.proofs.Rows.{capped_read, read_read, capped_write}
+use Rattle.target_asm_faults.proofs.Operands.{same_rest, same_item}
 use Rattle.target_asm_faults.proofs.Rows.{write_line_read, block_read}
 use Rattle.target_asm_faults.proofs.Insts.{capped_goal, capped_numbers, capped_inst, inst_read}
 use Rattle.target_asm_faults.proofs.Capped.{same_capped, inst_capped, read_capped}

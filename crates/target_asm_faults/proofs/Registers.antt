@@ -1,7 +1,7 @@
 -- What the reading of the lines of reads and writes leads to.
-use Rattle.std.proofs.Common.{◌≡◌, ℕ, zero, suc, ◌+◌, ◌<◌, ◌≤◌, List, [], ◌∷◌, length, refl, sym, ap}
+use Rattle.std.proofs.Common.{◌≡◌, ℕ, zero, suc, ◌+◌, ◌<◌, ◌≤◌, List, [], ◌∷◌, refl, sym, ap}
 use Rattle.std.proofs.Common.{subst, ◌∙◌, arith, Option, Some, None, Bool, true, false, eq-eqb}
-use Rattle.std.specs.Prelude.{ℤ, pos, negsuc, ◌==◌, nat_lt, get_or, is_some, codes, Result, Ok, Err}
+use Rattle.std.specs.Prelude.{ℤ, pos, negsuc, ◌==◌, nat_lt, get_or, is_some, codes, Result, Ok}
 use Rattle.std.specs.Prelude.{if◌then◌else◌}
 use Rattle.std.proofs.lemmas.Bool.{eqb-true, lt-ltb, ltb-true}
 use Rattle.trips_isa.specs.declared.block.ReadSlot.{ReadSlot}
@@ -12,7 +12,7 @@ use Rattle.target_asm_spec.specs.declared.spelled.SpelledRead.{SpelledRead}
 use Rattle.target_asm_spec.specs.declared.spelled.SpelledWrite.{SpelledWrite}
 use Rattle.target_asm_spec.specs.Reading.{after_in, field_in}
 use Rattle.target_asm_spec.specs.Registers.{read_in, write_line_in, read_of}
-use Rattle.target_asm_spec.specs.Blocks.{◌>>>◌, or_fault, wants, begins, is_place, lines_in, one_read}
+use Rattle.target_asm_spec.specs.Blocks.{◌>>>◌, begins, is_place, lines_in, one_read}
 use Rattle.target_asm_spec.specs.Blocks.{one_write}
 use Rattle.target_asm_spec.specs.Lines.{read_words, write_words}
 use Rattle.target_asm_spec.specs.LinePlaces.{Line, line_words, Place, after, size_of, IsNext, MayStand}
@@ -23,11 +23,12 @@ use Rattle.target_asm_laws.proofs.Binds.{If}
 use Rattle.target_asm_laws.proofs.Digits.{InField, field_is}
 use Rattle.target_asm_laws.proofs.Rows.{place_is}
 use Rattle.target_asm_faults.proofs.Numerals.{capped, capped_small, capped_z}
-use Rattle.target_asm_faults.proofs.Rows.{same_item, capped_read, read_read, IsReadOf, read_of_text}
+use Rattle.target_asm_faults.proofs.Rows.{capped_read, read_read, IsReadOf, read_of_text}
+use Rattle.target_asm_faults.proofs.Operands.{same_item}
 use Rattle.target_asm_faults.proofs.Rows.{capped_write, write_line_read, IsWriteOf, write_of_text}
 use Rattle.target_asm_faults.proofs.Capped.{same_capped, field_capped, read_capped}
 use Rattle.target_asm_faults.proofs.OneLine.{letter, letter_is}
-use Rattle.target_asm_faults.proofs.Leads.{Aim, Cause, syntax, range, Goes, goes, step_some, step_wants}
+use Rattle.target_asm_faults.proofs.Leads.{Aim, syntax, range, Goes, goes, step_some, step_wants}
 use Rattle.target_asm_faults.proofs.Leads.{step_if, moved, at_once, by_line, fails}
 
 -- ---- what cannot be
@@ -250,9 +251,12 @@ write_goes G B p i at text g e l b =
     let below : i < 32 = ltb-true i 32 k in
     by_line G B p at text S (j, s.1) (line.write r.s) s.1
     (subst (λ (o : Option ℕ). IsNext o r.s.number) (sym e) n)
-    (subst (Below 32) (sym n) below, field_below r.s.register j (sym reg ∙ d)) g r.is
-    (ap (λ (z : ℤ). record p { next_read = None; next_write = Some (suc (size_of z)) }) n, refl,
-    refl, below)))))
+    (subst (Below 32) (sym n) below, field_below r.s.register j (sym reg ∙ d)) g r.is (
+      ap (λ (z : ℤ). record p { next_read = None; next_write = Some (suc (size_of z)) }) n,
+      refl,
+      refl,
+      below,
+    )))))
 
 -- ---- one line after the other
 

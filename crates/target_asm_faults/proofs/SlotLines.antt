@@ -1,9 +1,8 @@
 -- What the reading of the lines of instructions leads to.
-use Rattle.std.proofs.Common.{◌≡◌, ℕ, zero, suc, ◌+◌, ◌-◌, ◌/◌, ◌<◌, ◌≤◌, max, List, [], ◌∷◌, ◌++◌, length}
-use Rattle.std.proofs.Common.{replicate, refl, sym, ap, subst, ◌∙◌, arith, Option, Some, None, Bool, true}
+use Rattle.std.proofs.Common.{◌≡◌, ℕ, zero, suc, ◌+◌, ◌-◌, ◌/◌, ◌<◌, ◌≤◌, max, List, [], ◌∷◌, ◌++◌}
+use Rattle.std.proofs.Common.{replicate, refl, sym, ap, subst, ◌∙◌, arith, Option, Some, None, true}
 use Rattle.std.proofs.Common.{false, ◌⊎◌, inl, inr, eq-eqb}
-use Rattle.std.specs.Prelude.{ℤ, pos, negsuc, ◌==◌, nat_lt, nat_le, get_or, is_some, codes, Result, Ok, Err}
-use Rattle.std.specs.Prelude.{if◌then◌else◌}
+use Rattle.std.specs.Prelude.{ℤ, pos, negsuc, nat_le, get_or, is_some, codes, Result, Ok, Err}
 use Rattle.std.proofs.lemmas.Bool.{cases_lt, eqb-true, leb-true, le-leb}
 use Rattle.std.proofs.lemmas.List.{append-nil}
 use Rattle.trips_isa.specs.declared.block.Inst.{Inst}
@@ -15,10 +14,10 @@ use Rattle.target_asm_spec.specs.declared.spelled.Goal.TheVariants.{Label, Offse
 use Rattle.target_asm_spec.specs.declared.spelled.SpelledInst.{SpelledInst}
 use Rattle.target_asm_spec.specs.declared.spelled.SpelledRead.{SpelledRead}
 use Rattle.target_asm_spec.specs.declared.spelled.SpelledWrite.{SpelledWrite}
-use Rattle.target_asm_spec.specs.Reading.{after_in, field_in}
+use Rattle.target_asm_spec.specs.Reading.{field_in}
 use Rattle.target_asm_spec.specs.Instructions.{inst_in}
 use Rattle.target_asm_spec.specs.Judging.{inst_of}
-use Rattle.target_asm_spec.specs.Blocks.{◌>>>◌, or_fault, wants, begins, in_turn, Begins, aimed, one_inst}
+use Rattle.target_asm_spec.specs.Blocks.{◌>>>◌, begins, in_turn, Begins, aimed, one_inst}
 use Rattle.target_asm_spec.specs.Blocks.{gap, slots_in}
 use Rattle.target_asm_spec.specs.Lines.{inst_words, IsInstruction}
 use Rattle.target_asm_spec.specs.LinePlaces.{Line, line_words, Place, after, size_of, IsLeft, MayStand}
@@ -26,15 +25,15 @@ use Rattle.target_asm_spec.specs.LinePlaces.{Below, InFields}
 use Rattle.target_asm_spec.specs.LinePlaces as line
 use Rattle.target_asm_spec.specs.FirstAsmFault.{NoLine, BadNumber}
 use Rattle.target_asm_spec.proofs.Numbers.{after_front}
-use Rattle.target_asm_laws.proofs.Binds.{If}
 use Rattle.target_asm_laws.proofs.Digits.{InField, field_is}
 use Rattle.target_asm_laws.proofs.Slots.{gap_chunks}
 use Rattle.target_asm_faults.proofs.Numerals.{capped, capped_small, capped_large, capped_z}
-use Rattle.target_asm_faults.proofs.Rows.{same_item}
-use Rattle.target_asm_faults.proofs.Insts.{capped_inst, inst_read, IsInstOf, inst_of_text}
+use Rattle.target_asm_faults.proofs.Operands.{same_item}
+use Rattle.target_asm_faults.proofs.Insts.{capped_inst, inst_read}
+use Rattle.target_asm_faults.proofs.InstTexts.{IsInstOf, inst_of_text}
 use Rattle.target_asm_faults.proofs.Capped.{field_capped, inst_capped}
-use Rattle.target_asm_faults.proofs.OneLine.{letter, letter_is}
-use Rattle.target_asm_faults.proofs.Leads.{Aim, Cause, syntax, range, label, offset, Failed, Goes, goes}
+use Rattle.target_asm_faults.proofs.OneLine.{letter}
+use Rattle.target_asm_faults.proofs.Leads.{Aim, Cause, syntax, range, label, offset, Goes, goes}
 use Rattle.target_asm_faults.proofs.Leads.{step_some, step_wants, step_if, moved, at_once, by_line}
 use Rattle.target_asm_faults.proofs.Leads.{fails}
 use Rattle.target_asm_faults.proofs.Registers.{none_some, clash, found, first_letter, only_kind}
@@ -263,7 +262,7 @@ pub record SlotsEnd (bs : List ℕ) (here next c : ℕ) (x : List (Option Inst) 
   pub no_write : NoWrite q rest
   pub no_inst : NoInst q rest
 
-begun : (front t : List ℕ) → begins front (front ++ t) ≡ true
+pub begun : (front t : List ℕ) → begins front (front ++ t) ≡ true
 begun front t = ap is_some (after_front front t)
 
 inst_begins : (s : SpelledInst) (more text : List ℕ) → text ≡ line_words (line.inst s) more

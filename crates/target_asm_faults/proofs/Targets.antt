@@ -1,16 +1,16 @@
 -- Targets are read from their texts, and what is read as a target is the text of one.
-use Rattle.std.proofs.Common.{◌≡◌, ℕ, ◌<◌, List, [], ◌∷◌, ◌++◌, refl, sym, ap, subst, ◌∙◌, arith}
+use Rattle.std.proofs.Common.{◌≡◌, ℕ, List, ◌∷◌, ◌++◌, refl, ap, ◌∙◌}
 use Rattle.std.proofs.Common.{Option, Some, None}
-use Rattle.std.specs.Prelude.{ℤ, pos, negsuc, codes}
+use Rattle.std.specs.Prelude.{ℤ, codes}
 use Rattle.target_asm_spec.specs.declared.spelled.SpelledTarget.{SpelledTarget}
 use Rattle.target_asm_spec.specs.declared.spelled.SpelledTarget.TheVariants as spelled
-use Rattle.target_asm_spec.specs.Reading.{◌>>=◌, or_else, after_in, digits_in, number_in, index_in}
+use Rattle.target_asm_spec.specs.Reading.{or_else, after_in, digits_in, number_in, index_in}
 use Rattle.target_asm_spec.specs.Places.{left_in, right_in, pred_in, place_in, slot_in, write_in}
 use Rattle.target_asm_spec.specs.Places.{target_by, target_in, next_by, next_in}
 use Rattle.target_asm_spec.specs.Lines.{number_text, target_words, maybe_words}
 use Rattle.target_asm_spec.proofs.Numbers.{after_front, no_digit}
 use Rattle.target_asm_spec.proofs.Targets.{IsEnd, none_again}
-use Rattle.target_asm_laws.proofs.Binds.{If, bind, gives, either}
+use Rattle.target_asm_laws.proofs.Binds.{If, bind, either}
 use Rattle.target_asm_laws.proofs.Digits.{IsAfter, after_is}
 use Rattle.target_asm_faults.proofs.Numerals.{capped_z, number_read, index_read, IsNumberOf}
 use Rattle.target_asm_faults.proofs.Numerals.{number_of_text, IsIndexOf, index_of}

@@ -19,7 +19,7 @@ use Rattle.target_asm_spec.specs.Instructions.{jumps}
 use Rattle.target_asm_spec.specs.Blocks.{or_fault, Begins, to_block, aimed_at, aimed}
 use Rattle.target_asm_spec.proofs.Operations.{signed_small}
 use Rattle.target_asm_laws.proofs.Binds.{Holds, gives, or_holds, fork}
-use Rattle.target_asm_laws.proofs.Operations.{goal_words, SmallAim, HasGoal}
+use Rattle.target_asm_laws.proofs.Operations.{goal_decimals, SmallAim, HasGoal}
 use Rattle.target_asm_laws.proofs.Judging.{IsSigned, signed_is, OffsetIs}
 
 -- it is known where blocks begin: the table tells each of them
@@ -115,7 +115,7 @@ offset_fits b here op goal imm z h o a = no_offset b here goal imm z h o a
 
 jump_words : (b : Begins) (here : ℕ) (goal : Option Goal) (imm z : ℤ) → HasGoal true goal
     → OffsetIs goal imm → AimIs b here goal imm z
-    → goal_words goal ≡ branch_text Bro (goal_in b.starts (pos here +ℤ z)) z
+    → goal_decimals goal ≡ branch_text Bro (goal_in b.starts (pos here +ℤ z)) z
 jump_words b here None imm z h o a = absurd h
 jump_words b here (Some (Label k)) imm z h o a =
     ap (λ (x : ℤ). 32 ∷ 64 ∷ signed_decimal x) a.is
@@ -129,10 +129,10 @@ jump_words b here (Some (Offset n)) imm z h o a =
 -- it is spelled as the block that begins there is named
 pub offset_words : (b : Begins) (here : ℕ) (op : Op) (goal : Option Goal) (imm z : ℤ)
     → HasGoal (jumps op) goal → OffsetIs goal imm → AimIs b here goal imm z
-    → goal_words goal ≡ branch_text op (goal_in b.starts (pos here +ℤ z)) z
+    → goal_decimals goal ≡ branch_text op (goal_in b.starts (pos here +ℤ z)) z
 offset_words b here Bro goal imm z h o a = jump_words b here goal imm z h o a
 offset_words b here Callo goal imm z h o a = jump_words b here goal imm z h o a
-offset_words b here op goal imm z h o a = ap goal_words h
+offset_words b here op goal imm z h o a = ap goal_decimals h
 
 pub aim_small : (b : Begins) (here : ℕ) (goal : Option Goal) (imm z : ℤ) → Told b
     → OffsetIs goal imm → AimIs b here goal imm z → SmallAim goal

@@ -27,8 +27,8 @@ use Rattle.target_asm_spec.proofs.Numbers.{IsSmall}
 use Rattle.target_asm_spec.proofs.Operations.{signed_small, constant_small}
 use Rattle.target_asm_spec.proofs.Targets.{spelled_target}
 use Rattle.target_asm_laws.proofs.Digits.{InField}
-use Rattle.target_asm_laws.proofs.Targets.{maybe_words, SmallMaybe, IsMaybe, maybe_small, maybe_text}
-use Rattle.target_asm_laws.proofs.Operations.{goal_words, number_words, SmallNumbers, GoalFits}
+use Rattle.target_asm_laws.proofs.Targets.{maybe_decimals, SmallMaybe, IsMaybe, maybe_small, maybe_text}
+use Rattle.target_asm_laws.proofs.Operations.{goal_decimals, number_words, SmallNumbers, GoalFits}
 use Rattle.target_asm_laws.proofs.Operations.{TargetsFit}
 use Rattle.target_asm_laws.proofs.Instructions.{op_words, IsInstLine}
 use Rattle.target_asm_laws.proofs.Judging.{IsSigned, NumberIs, ImmIs}
@@ -195,7 +195,7 @@ numbers_words b here Store s i z a =
     (kept b here s.numbers.goal i.imm z a.goal a.aim)
 numbers_words b here Branch s i z a =
     let g : Option ℕ = goal_at b here z in
-    ap (λ (v : ℤ). 32 ∷ (signed_decimal v ++ goal_words s.numbers.goal)) a.number.is
+    ap (λ (v : ℤ). 32 ∷ (signed_decimal v ++ goal_decimals s.numbers.goal)) a.number.is
     ∙ ap (λ (t : List ℕ). 32 ∷ (decimal i.number ++ t))
     (offset_words b here s.op s.numbers.goal i.imm z a.goal a.imm a.aim
     ∙ ap (λ (o : Op). branch_text o g z) (sym a.op))
@@ -218,15 +218,15 @@ line_is b here slot text rest s i z f l a =
     subst SmallMaybe (sym a.first.is) (maybe_small i.first a.first.fits) in
     let second : SmallMaybe s.targets.second =
     subst SmallMaybe (sym a.second.is) (maybe_small i.second a.second.fits) in
-    let ends : List ℕ = maybe_words s.targets.second ++ 10 ∷ rest in
+    let ends : List ℕ = maybe_decimals s.targets.second ++ 10 ∷ rest in
     let tail : List ℕ = target_text i.first ++ (target_text i.second ++ 10 ∷ rest) in
-    let first_words : maybe_words s.targets.first ≡ target_text i.first =
-    ap maybe_words a.first.is ∙ maybe_text i.first a.first.fits in
-    let second_words : maybe_words s.targets.second ≡ target_text i.second =
-    ap maybe_words a.second.is ∙ maybe_text i.second a.second.fits in
+    let first_words : maybe_decimals s.targets.first ≡ target_text i.first =
+    ap maybe_decimals a.first.is ∙ maybe_text i.first a.first.fits in
+    let second_words : maybe_decimals s.targets.second ≡ target_text i.second =
+    ap maybe_decimals a.second.is ∙ maybe_text i.second a.second.fits in
     l.spells small (numbers_small b here (form_of s.op) s i z a) first second
     ∙ ap (λ (t : List ℕ). op_words s.slot s.op s.sense (t
-    ++ (maybe_words s.targets.first ++ ends))) (numbers_words b here (form_of s.op) s i z a)
+    ++ (maybe_decimals s.targets.first ++ ends))) (numbers_words b here (form_of s.op) s i z a)
     ∙ ap (λ (t : List ℕ). op_words s.slot s.op s.sense (numbers_text (form_of s.op) j g
     ++ (t ++ ends))) first_words
     ∙ ap (λ (t : List ℕ). op_words s.slot s.op s.sense (numbers_text (form_of s.op) j g

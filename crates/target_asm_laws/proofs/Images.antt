@@ -95,22 +95,22 @@ whole_by : (text t u : List ℕ) (count : ℕ) (bytes : List ℕ) (first bs : Li
 whole_by text t u count bytes first bs f d e s =
     let size : length bytes ≡ count = d.bytes.size in
     let total : 0 + sum_by chunks bs ≤ 524288 = s.read.total in
-      record {
-        fits = record {
-          some = some_block (goals (begins_of first)) u bs e s.read.is;
-          each = all_of FitsBlock bs s.read.each;
-          total = omega (arith, total);
-          few = omega (arith, size, f.few);
-          bytes = all_of Byte bytes d.bytes.each;
-          last = d.last;
-        };
-        spelled =
-            f.is ∙ ap (λ (x : List ℕ). head_lines count ++ x) (d.bytes.is
-            ∙ ap (λ (x : List ℕ). numbered (byte_text count) 0 bytes ++ x)
-            (block_texts u first bs s))
-            ∙ ap (λ (n : ℕ). head_lines n ++ (numbered (byte_text n) 0 bytes
-            ++ numbered (block_in bs) 0 bs)) (sym size);
-      }
+    record {
+      fits = record {
+        some = some_block (goals (begins_of first)) u bs e s.read.is;
+        each = all_of FitsBlock bs s.read.each;
+        total = omega (arith, total);
+        few = omega (arith, size, f.few);
+        bytes = all_of Byte bytes d.bytes.each;
+        last = d.last;
+      };
+      spelled =
+          f.is ∙ ap (λ (x : List ℕ). head_lines count ++ x) (d.bytes.is
+          ∙ ap (λ (x : List ℕ). numbered (byte_text count) 0 bytes ++ x)
+          (block_texts u first bs s))
+          ∙ ap (λ (n : ℕ). head_lines n ++ (numbered (byte_text n) 0 bytes
+          ++ numbered (block_in bs) 0 bs)) (sym size);
+    }
 
 pub image_is : (text : List ℕ) → Holds (IsText text) (image_in text)
 unfolding image_in

@@ -15,7 +15,7 @@ use Rattle.target_asm_spec.specs.Instructions.{fields_in, sensed_in, operation_i
 use Rattle.target_asm_spec.proofs.Numbers.{IsSmall}
 use Rattle.target_asm_laws.proofs.Binds.{If, bind, when}
 use Rattle.target_asm_laws.proofs.Digits.{IsAfter, after_is, IsIndex, index_is, parts}
-use Rattle.target_asm_laws.proofs.Targets.{maybe_words, SmallMaybe}
+use Rattle.target_asm_laws.proofs.Targets.{maybe_decimals, SmallMaybe}
 use Rattle.target_asm_laws.proofs.Words.{IsMnemonic, mnemonic_is, sense_is}
 use Rattle.target_asm_laws.proofs.Operations.{number_words, SmallNumbers, GoalFits, AreNumbers}
 use Rattle.target_asm_laws.proofs.Operations.{numbers_is, TargetsFit, AreTargets, targets_is}
@@ -25,13 +25,13 @@ abbrev pub op_words : ℤ → Op → Sense → List ℕ → List ℕ
 op_words slot op sense rest =
     codes "N[" ++ (signed_decimal slot ++ 93 ∷ 32 ∷ (mnemonic_of op ++ (sense_text sense ++ rest)))
 
-abbrev pub inst_words : SpelledInst → List ℕ → List ℕ
-inst_words s rest = op_words s.slot s.op s.sense (number_words (form_of s.op) s.numbers
-    ++ (maybe_words s.targets.first ++ (maybe_words s.targets.second ++ 10 ∷ rest)))
+abbrev pub inst_decimals : SpelledInst → List ℕ → List ℕ
+inst_decimals s rest = op_words s.slot s.op s.sense (number_words (form_of s.op) s.numbers
+    ++ (maybe_decimals s.targets.first ++ (maybe_decimals s.targets.second ++ 10 ∷ rest)))
 
 pub record IsInstLine (text : List ℕ) (r : SpelledInst × List ℕ) : Type 0 where
   pub spells : IsSmall r.0.slot → SmallNumbers (form_of r.0.op) r.0.numbers
-      → SmallMaybe r.0.targets.first → SmallMaybe r.0.targets.second → text ≡ inst_words r.0 r.1
+      → SmallMaybe r.0.targets.first → SmallMaybe r.0.targets.second → text ≡ inst_decimals r.0 r.1
   pub sense : sense_fits (form_of r.0.op) r.0.sense ≡ true
   pub goal : GoalFits (form_of r.0.op) r.0.op r.0.numbers.goal
   pub targets : TargetsFit (form_of r.0.op) r.0.targets
@@ -50,7 +50,7 @@ fields_is text inner slot op sense s h =
     (after_is (codes "\n") t.1) (λ rest c. record {
       spells = λ k l p q. h k ∙ ap (op_words slot op sense) (a.spells l
           ∙ ap (λ (x : List ℕ). number_words f n.0 ++ x) (b.spells p q
-          ∙ ap (λ (x : List ℕ). maybe_words t.0.first ++ (maybe_words t.0.second ++ x)) c));
+          ∙ ap (λ (x : List ℕ). maybe_decimals t.0.first ++ (maybe_decimals t.0.second ++ x)) c));
       sense = s;
       goal = a.goal;
       targets = b.fit;

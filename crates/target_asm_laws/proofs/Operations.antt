@@ -20,14 +20,14 @@ use Rattle.target_asm_spec.proofs.Numbers.{IsSmall}
 use Rattle.target_asm_laws.proofs.Binds.{If, bind, gives}
 use Rattle.target_asm_laws.proofs.Digits.{Spells, IsAfter, after_is, IsNumber, number_is, spaced_words}
 use Rattle.target_asm_laws.proofs.Digits.{spaced_is}
-use Rattle.target_asm_laws.proofs.Targets.{maybe_words, SmallMaybe, IsNext, next_is}
+use Rattle.target_asm_laws.proofs.Targets.{maybe_decimals, SmallMaybe, IsNext, next_is}
 
 -- ---- where a branch goes
 
-abbrev pub goal_words : Option Goal → List ℕ
-goal_words None = []
-goal_words (Some (Label k)) = 32 ∷ 64 ∷ signed_decimal k
-goal_words (Some (Offset n)) = 32 ∷ 33 ∷ signed_decimal n
+abbrev pub goal_decimals : Option Goal → List ℕ
+goal_decimals None = []
+goal_decimals (Some (Label k)) = 32 ∷ 64 ∷ signed_decimal k
+goal_decimals (Some (Offset n)) = 32 ∷ 33 ∷ signed_decimal n
 
 abbrev pub SmallAim : Option Goal → Type 0
 SmallAim None = Unit {0}
@@ -41,7 +41,7 @@ HasGoal true (Some g) = Unit {0}
 HasGoal false goal = goal ≡ None
 
 pub record IsGoal (jump : Bool) (text : List ℕ) (r : Option Goal × List ℕ) : Type 0 where
-  pub spells : Spells goal_words SmallAim text r
+  pub spells : Spells goal_decimals SmallAim text r
   pub has : HasGoal jump r.0
 
 goal_by_is : (text : List ℕ) (o : Option (List ℕ)) → If (IsAfter (codes " @") text) o
@@ -76,7 +76,7 @@ number_words Immediate n = 32 ∷ signed_decimal n.imm
 number_words Constant n = 32 ∷ signed_decimal n.imm
 number_words Load n = 32 ∷ (signed_decimal n.number ++ 32 ∷ signed_decimal n.imm)
 number_words Store n = 32 ∷ (signed_decimal n.number ++ 32 ∷ signed_decimal n.imm)
-number_words Branch n = 32 ∷ (signed_decimal n.number ++ goal_words n.goal)
+number_words Branch n = 32 ∷ (signed_decimal n.number ++ goal_decimals n.goal)
 
 abbrev pub SmallNumbers : Form → Numbers → Type 0
 SmallNumbers General n = Unit {0}
@@ -137,7 +137,7 @@ exit_is op text =
       spells = λ l. h l.0
           ∙ ap (λ (x : List ℕ). 32 ∷ (signed_decimal n.0 ++ x)) (k.spells l.1)
           ∙ ap (λ (x : List ℕ). 32 ∷ x)
-          (sym (append_assoc (signed_decimal n.0) (goal_words g.0) g.1));
+          (sym (append_assoc (signed_decimal n.0) (goal_decimals g.0) g.1));
       goal = k.has;
     }))
 
@@ -171,7 +171,7 @@ TargetsFit Branch t = (t.first ≡ None) × (t.second ≡ None)
 
 pub record AreTargets (f : Form) (text : List ℕ) (r : Targets × List ℕ) : Type 0 where
   pub spells : SmallMaybe r.0.first → SmallMaybe r.0.second
-      → text ≡ maybe_words r.0.first ++ (maybe_words r.0.second ++ r.1)
+      → text ≡ maybe_decimals r.0.first ++ (maybe_decimals r.0.second ++ r.1)
   pub fit : TargetsFit f r.0
 
 two_targets : (text : List ℕ) → If (AreTargets General text) (two_targets_in text)
@@ -179,7 +179,7 @@ unfolding two_targets_in
 two_targets text =
     bind (IsNext text) (AreTargets General text) (next_in text) _ (next_is text) (λ a h.
     bind (IsNext a.1) (AreTargets General text) (next_in a.1) _ (next_is a.1) (λ b k. record {
-      spells = λ l m. h.spells l ∙ ap (λ (x : List ℕ). maybe_words a.0 ++ x) (k.spells m);
+      spells = λ l m. h.spells l ∙ ap (λ (x : List ℕ). maybe_decimals a.0 ++ x) (k.spells m);
       fit = λ n. k.none (h.ends n);
     }))
 

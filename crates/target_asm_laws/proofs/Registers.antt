@@ -22,14 +22,14 @@ use Rattle.target_asm_spec.proofs.Targets.{spelled_spot, spelled_target}
 use Rattle.target_asm_laws.proofs.Binds.{If, bind, gives}
 use Rattle.target_asm_laws.proofs.Digits.{IsAfter, after_is, IsNumber, number_is, IsIndex, index_is}
 use Rattle.target_asm_laws.proofs.HexDigits.{IsWord, word_is}
-use Rattle.target_asm_laws.proofs.Targets.{target_words, SmallTarget, IsTarget, target_is}
-use Rattle.target_asm_laws.proofs.Targets.{maybe_words, SmallMaybe, IsNext, next_is, spot_small}
+use Rattle.target_asm_laws.proofs.Targets.{target_decimals, SmallTarget, IsTarget, target_is}
+use Rattle.target_asm_laws.proofs.Targets.{maybe_decimals, SmallMaybe, IsNext, next_is, spot_small}
 use Rattle.target_asm_laws.proofs.Targets.{maybe_small}
 
 -- ---- two operands that are spelled alike
 
 -- a text before a space and itself is spelled as what follows
-alike_is : (w rest : List ℕ) → same_text (w ++ 32 ∷ (w ++ rest)) (32 ∷ (w ++ rest)) ≡ true
+pub alike_is : (w rest : List ℕ) → same_text (w ++ 32 ∷ (w ++ rest)) (32 ∷ (w ++ rest)) ≡ true
 unfolding same_text
 alike_is w rest =
     let t : List ℕ = 32 ∷ (w ++ rest) in
@@ -91,25 +91,25 @@ operands_are alike (spot.Store n) second f g h e = absurd f
 -- ---- the operands of a read
 
 abbrev pub operand_words : SpelledRead → List ℕ → List ℕ
-operand_words s rest = 32 ∷ (target_words s.first ++ (maybe_words s.second ++ 10 ∷ rest))
+operand_words s rest = 32 ∷ (target_decimals s.first ++ (maybe_decimals s.second ++ 10 ∷ rest))
 
 -- targets in their fields are one operand, or two different ones
-abbrev pub AreOperands : SpelledTarget → Option SpelledTarget → Type 0
-AreOperands t u = (first : Spot) (second : Option Spot) → t ≡ spelled_spot first
+abbrev pub AreReadOperands : SpelledTarget → Option SpelledTarget → Type 0
+AreReadOperands t u = (first : Spot) (second : Option Spot) → t ≡ spelled_spot first
     → u ≡ spelled_target second → FitsTarget (Some first) → FitsTarget second
     → FitsOperand first × FitsSecond first second
 
 told_apart : (a t1 u1 : List ℕ) (t : SpelledTarget) (u : Option SpelledTarget)
-    → (SmallTarget t → a ≡ target_words t ++ t1) → (SmallMaybe u → t1 ≡ maybe_words u ++ u1)
-    → operands_fit (same_text a t1) t u ≡ true → AreOperands t u
+    → (SmallTarget t → a ≡ target_decimals t ++ t1) → (SmallMaybe u → t1 ≡ maybe_decimals u ++ u1)
+    → operands_fit (same_text a t1) t u ≡ true → AreReadOperands t u
 told_apart a t1 u1 t u b c e first second p q f g =
     operands_are (same_text a t1) first second f g (λ same.
-    let w : List ℕ = target_words (spelled_spot first) in
+    let w : List ℕ = target_decimals (spelled_spot first) in
     let x : a ≡ w ++ t1 = b (subst SmallTarget (sym p) (spot_small first f))
-    ∙ ap (λ (z : SpelledTarget). target_words z ++ t1) p in
+    ∙ ap (λ (z : SpelledTarget). target_decimals z ++ t1) p in
     let y : t1 ≡ 32 ∷ (w ++ u1) = c (subst SmallMaybe (sym q) (maybe_small second g))
-    ∙ ap (λ (z : Option SpelledTarget). maybe_words z ++ u1) q
-    ∙ ap (λ (z : Option Spot). maybe_words (spelled_target z) ++ u1) same in
+    ∙ ap (λ (z : Option SpelledTarget). maybe_decimals z ++ u1) q
+    ∙ ap (λ (z : Option Spot). maybe_decimals (spelled_target z) ++ u1) same in
     ap (λ (z : List ℕ). same_text z t1) x ∙ ap (λ (z : List ℕ). same_text (w ++ z) z) y
     ∙ alike_is w u1)
     (ap (λ (z : SpelledTarget). operands_fit (same_text a t1) z (spelled_target second)) (sym p)
@@ -119,9 +119,9 @@ pub record AreRead (number register : ℤ) (text : List ℕ) (r : SpelledRead ×
   pub number_is : r.0.number ≡ number
   pub register_is : r.0.register ≡ register
   pub spells : SmallTarget r.0.first → SmallMaybe r.0.second → text ≡ operand_words r.0 r.1
-  pub fits : AreOperands r.0.first r.0.second
+  pub fits : AreReadOperands r.0.first r.0.second
 
-only : {A : Type 0} (P : A → Type 0) (b : Bool) (x : A) → (b ≡ true → P x) → If P (only_if b x)
+pub only : {A : Type 0} (P : A → Type 0) (b : Bool) (x : A) → (b ≡ true → P x) → If P (only_if b x)
 only P true x p = p refl
 only P false x p = tt
 
@@ -139,19 +139,19 @@ operands_is number register text =
       number_is = refl;
       register_is = refl;
       spells = λ l m. h ∙ ap (λ (z : List ℕ). 32 ∷ z) (b l
-          ∙ ap (λ (z : List ℕ). target_words t.0 ++ z) (c.spells m
-          ∙ ap (λ (z : List ℕ). maybe_words u.0 ++ z) d));
+          ∙ ap (λ (z : List ℕ). target_decimals t.0 ++ z) (c.spells m
+          ∙ ap (λ (z : List ℕ). maybe_decimals u.0 ++ z) d));
       fits = told_apart a t.1 u.1 t.0 u.0 b c.spells e;
     })))))
 
-abbrev pub read_words : SpelledRead → List ℕ → List ℕ
-read_words s rest = codes "R[" ++ (signed_decimal s.number ++ 93 ∷
+abbrev pub read_decimals : SpelledRead → List ℕ → List ℕ
+read_decimals s rest = codes "R[" ++ (signed_decimal s.number ++ 93 ∷
     (codes " read G[" ++ (signed_decimal s.register ++ 93 ∷ operand_words s rest)))
 
 pub record IsReadLine (text : List ℕ) (r : SpelledRead × List ℕ) : Type 0 where
   pub spells : IsSmall r.0.number → IsSmall r.0.register → SmallTarget r.0.first
-      → SmallMaybe r.0.second → text ≡ read_words r.0 r.1
-  pub fits : AreOperands r.0.first r.0.second
+      → SmallMaybe r.0.second → text ≡ read_decimals r.0 r.1
+  pub fits : AreReadOperands r.0.first r.0.second
 
 read_line_by : (text t u : List ℕ) (n g : ℤ) (s : SpelledRead) (rest : List ℕ)
     → (IsSmall n → text ≡ codes "R[" ++ (signed_decimal n ++ 93 ∷ t))

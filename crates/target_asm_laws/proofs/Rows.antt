@@ -23,7 +23,7 @@ use Rattle.target_asm_spec.proofs.Numbers.{IsSmall}
 use Rattle.target_asm_spec.proofs.Each.{Each}
 use Rattle.target_asm_laws.proofs.Binds.{If, Holds, bind, chain, or_holds, wanted, fork}
 use Rattle.target_asm_laws.proofs.Digits.{InField, field_is}
-use Rattle.target_asm_laws.proofs.Targets.{target_words, maybe_words, SmallTarget, SmallMaybe, IsSpot}
+use Rattle.target_asm_laws.proofs.Targets.{target_decimals, maybe_decimals, SmallTarget, SmallMaybe, IsSpot}
 use Rattle.target_asm_laws.proofs.Targets.{spot_is, IsMaybe, maybe_is, spot_words, spot_small}
 use Rattle.target_asm_laws.proofs.Targets.{maybe_small, maybe_text}
 use Rattle.target_asm_laws.proofs.Registers.{IsReadLine, read_line_is, IsWriteLine}
@@ -115,15 +115,15 @@ read_text i text rest s r l n a b =
     subst SmallMaybe (sym b.second.is) (maybe_small r.second b.second.fits) in
     let register : IsSmall s.register =
     subst IsSmall (sym b.register.is) (omega (arith, b.register.below)) in
-    let first_words : target_words s.first ≡ spot_text r.first =
-    ap target_words b.first.is ∙ spot_words r.first b.first.fits in
-    let second_words : maybe_words s.second ≡ target_text r.second =
-    ap maybe_words b.second.is ∙ maybe_text r.second b.second.fits in
+    let first_words : target_decimals s.first ≡ spot_text r.first =
+    ap target_decimals b.first.is ∙ spot_words r.first b.first.fits in
+    let second_words : maybe_decimals s.second ≡ target_text r.second =
+    ap maybe_decimals b.second.is ∙ maybe_text r.second b.second.fits in
     let front : ℤ → ℤ → List ℕ → List ℕ = λ x y t.
     codes "R[" ++ (signed_decimal x ++ 93 ∷ (codes " read G[" ++ (signed_decimal y ++ 93 ∷ 32 ∷ t)))
     in
     a.spells (place_small s.number i n (omega (arith, l))) register first second
-    ∙ ap (λ (t : List ℕ). front s.number s.register (t ++ (maybe_words s.second ++ 10 ∷ rest)))
+    ∙ ap (λ (t : List ℕ). front s.number s.register (t ++ (maybe_decimals s.second ++ 10 ∷ rest)))
     first_words
     ∙ ap (λ (t : List ℕ). front s.number s.register (spot_text r.first ++ (t ++ 10 ∷ rest)))
     second_words

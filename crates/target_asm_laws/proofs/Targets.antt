@@ -20,11 +20,11 @@ use Rattle.target_asm_laws.proofs.Digits.{Spells, IsAfter, after_is, IsNumber, n
 use Rattle.target_asm_laws.proofs.Digits.{index_is, InField, field_is}
 
 -- the text of a target as it is spelled
-abbrev pub target_words : SpelledTarget → List ℕ
-target_words (spelled.Write n) = 87 ∷ 91 ∷ (signed_decimal n ++ 93 ∷ [])
-target_words (spelled.Left n) = 78 ∷ 91 ∷ (signed_decimal n ++ 44 ∷ 48 ∷ 93 ∷ [])
-target_words (spelled.Right n) = 78 ∷ 91 ∷ (signed_decimal n ++ 44 ∷ 49 ∷ 93 ∷ [])
-target_words (spelled.Pred n) = 78 ∷ 91 ∷ (signed_decimal n ++ 44 ∷ 112 ∷ 93 ∷ [])
+abbrev pub target_decimals : SpelledTarget → List ℕ
+target_decimals (spelled.Write n) = 87 ∷ 91 ∷ (signed_decimal n ++ 93 ∷ [])
+target_decimals (spelled.Left n) = 78 ∷ 91 ∷ (signed_decimal n ++ 44 ∷ 48 ∷ 93 ∷ [])
+target_decimals (spelled.Right n) = 78 ∷ 91 ∷ (signed_decimal n ++ 44 ∷ 49 ∷ 93 ∷ [])
+target_decimals (spelled.Pred n) = 78 ∷ 91 ∷ (signed_decimal n ++ 44 ∷ 112 ∷ 93 ∷ [])
 
 abbrev pub SmallTarget : SpelledTarget → Type 0
 SmallTarget (spelled.Write n) = IsSmall n
@@ -33,7 +33,7 @@ SmallTarget (spelled.Right n) = IsSmall n
 SmallTarget (spelled.Pred n) = IsSmall n
 
 abbrev pub IsTarget : List ℕ → SpelledTarget × List ℕ → Type 0
-IsTarget text r = Spells target_words SmallTarget text r
+IsTarget text r = Spells target_decimals SmallTarget text r
 
 -- what follows the number of a slot
 last : (n : ℤ) (end text inner rest : List ℕ)
@@ -84,16 +84,16 @@ target_is text = target_by_is text (after_in (codes "N[") text) (after_is (codes
 
 -- ---- a target after a space, if there is one
 
-abbrev pub maybe_words : Option SpelledTarget → List ℕ
-maybe_words None = []
-maybe_words (Some t) = 32 ∷ target_words t
+abbrev pub maybe_decimals : Option SpelledTarget → List ℕ
+maybe_decimals None = []
+maybe_decimals (Some t) = 32 ∷ target_decimals t
 
 abbrev pub SmallMaybe : Option SpelledTarget → Type 0
 SmallMaybe None = Unit {0}
 SmallMaybe (Some t) = SmallTarget t
 
 pub record IsNext (text : List ℕ) (r : Option SpelledTarget × List ℕ) : Type 0 where
-  pub spells : Spells maybe_words SmallMaybe text r
+  pub spells : Spells maybe_decimals SmallMaybe text r
   pub ends : r.0 ≡ None → after_in (codes " ") r.1 ≡ None
   pub none : after_in (codes " ") text ≡ None → r.0 ≡ None
 
@@ -146,7 +146,7 @@ maybe_is (Some t) =
     (λ s p. record { is = ap (λ (x : SpelledTarget). Some x) p.is; fits = p.fits })
 
 -- a target in its field has its text, and its number is small
-pub spot_words : (s : Spot) → FitsTarget (Some s) → target_words (spelled_spot s) ≡ spot_text s
+pub spot_words : (s : Spot) → FitsTarget (Some s) → target_decimals (spelled_spot s) ≡ spot_text s
 unfolding indexed at_slot
 spot_words (spot.Write w) f = refl
 spot_words (spot.Left n) f = refl
@@ -169,6 +169,6 @@ pub maybe_small : (s : Option Spot) → FitsTarget s → SmallMaybe (spelled_tar
 maybe_small None f = tt
 maybe_small (Some s) f = spot_small s f
 
-pub maybe_text : (s : Option Spot) → FitsTarget s → maybe_words (spelled_target s) ≡ target_text s
+pub maybe_text : (s : Option Spot) → FitsTarget s → maybe_decimals (spelled_target s) ≡ target_text s
 maybe_text None f = refl
 maybe_text (Some s) f = ap (λ (x : List ℕ). 32 ∷ x) (spot_words s f)

@@ -1,31 +1,28 @@
 -- The lines of blocks are read one after the other.
 use Rattle.std.proofs.Common.{◌≡◌, ℕ, zero, suc, ◌+◌, ◌<◌, ◌≤◌, max, List, [], ◌∷◌, ◌++◌, length}
 use Rattle.std.proofs.Common.{take}
-use Rattle.std.proofs.Common.{refl, sym, ap, subst, ◌∙◌, arith, append_assoc, Bool, true, false}
+use Rattle.std.proofs.Common.{refl, sym, ap, ◌∙◌, arith, append_assoc, true, false}
 use Rattle.std.proofs.Common.{Option, Some, None}
 use Rattle.std.proofs.Common.{eq-eqb}
-use Rattle.std.specs.Prelude.{ℤ, pos, ◌==◌, nat_le, codes, Result, Ok, Err}
+use Rattle.std.specs.Prelude.{ℤ, ◌==◌, nat_le, codes, Ok}
 use Rattle.std.specs.List.{sum_by}
 use Rattle.std.proofs.lemmas.Bool.{le-leb}
-use Rattle.std.proofs.lemmas.List.{append-nil, take_at}
+use Rattle.std.proofs.lemmas.List.{take_at}
 use Rattle.std.proofs.lemmas.List.Sums.{sum_by-append, sum_by-cons}
 use Rattle.trips_isa.specs.declared.block.Inst.{Inst}
 use Rattle.trips_isa.specs.declared.block.Block.{Block}
-use Rattle.trips_isa.specs.declared.block.ReadSlot.{ReadSlot}
 use Rattle.trips_isa.specs.Fits.{FitsSlot, FitsRead, FitsBlock}
 use Rattle.trips_isa.specs.Images.{body_chunks, chunks_to, chunks, chunk_of}
 use Rattle.isa_table.specs.Spots.{indexed}
-use Rattle.target_asm_spec.specs.Numbers.{numbered, hex_word}
+use Rattle.target_asm_spec.specs.Numbers.{numbered}
 use Rattle.target_asm_spec.specs.Chunks.{goal_of}
 use Rattle.target_asm_spec.specs.Text.{block_line, read_line, write_line, inst_line, slot_text}
 use Rattle.target_asm_spec.specs.Text.{block_text, block_in}
-use Rattle.target_asm_spec.specs.declared.fault.AsmFault.{AsmFault}
 use Rattle.target_asm_spec.specs.Reading.{after_in}
-use Rattle.target_asm_spec.specs.Registers.{block_line_in}
-use Rattle.target_asm_spec.specs.Blocks.{◌>>>◌, or_fault, wants, begins, is_place, Taken, Begins}
+use Rattle.target_asm_spec.specs.Blocks.{◌>>>◌, begins, Begins}
 use Rattle.target_asm_spec.specs.Blocks.{reads_in, writes_in}
 use Rattle.target_asm_spec.specs.Blocks.{slots_in}
-use Rattle.target_asm_spec.specs.Blocks.{gap, head_in, block_of, one_block, blocks_in}
+use Rattle.target_asm_spec.specs.Blocks.{head_in, block_of, one_block, blocks_in}
 use Rattle.target_asm_spec.specs.Whole.{is_empty}
 use Rattle.target_asm_spec.proofs.Lines.{block_line_again}
 use Rattle.target_asm_spec.proofs.Rows.{reads_again, writes_again, writes_begin}

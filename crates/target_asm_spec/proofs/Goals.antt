@@ -1,9 +1,8 @@
 -- Where branches go, before it is known where blocks begin and after.
-use Rattle.std.proofs.Common.{◌≡◌, ℕ, zero, suc, ◌+◌, ◌<◌, ◌≤◌, List, [], ◌∷◌, ◌++◌, length, get_or}
-use Rattle.std.proofs.Common.{refl, sym, ap, subst, ◌∙◌, arith, Bool, true, false, cond, Option}
+use Rattle.std.proofs.Common.{◌≡◌, ℕ, suc, ◌+◌, ◌<◌, ◌≤◌, List, [], ◌∷◌, length, get_or}
+use Rattle.std.proofs.Common.{refl, ap, ◌∙◌, arith, Bool, true, false, cond, Option}
 use Rattle.std.proofs.Common.{Some, None}
-use Rattle.std.specs.Prelude.{ℤ, pos, negsuc, ◌+ℤ◌, ◌-ℤ◌, ◌==◌, nat_lt, is_some, Result, Ok, Err}
-use Rattle.std.specs.List.{sum_by}
+use Rattle.std.specs.Prelude.{ℤ, pos, negsuc, ◌+ℤ◌, ◌-ℤ◌, ◌==◌, nat_lt, Ok}
 use Rattle.std.proofs.Math.IntN.{+ℤ-neg_ℤ_cancel, +ℤ_comm}
 use Rattle.std.proofs.lemmas.Bool.{lt-ltb, eqb-true}
 use Rattle.std.proofs.lemmas.Option.{same_Some}
@@ -15,16 +14,12 @@ use Rattle.trips_isa.specs.declared.form.Form.TheVariants.{Constant}
 use Rattle.trips_isa.specs.declared.block.Inst.{Inst}
 use Rattle.trips_isa.specs.declared.block.Block.{Block}
 use Rattle.trips_isa.specs.Forms.{form_of}
-use Rattle.trips_isa.specs.Fits.{FitsInst, FitsForm, FitsOffset, FitsSigned}
-use Rattle.trips_isa.specs.Images.{chunks, starting_from, starting_at}
+use Rattle.trips_isa.specs.Fits.{FitsForm, FitsOffset, FitsSigned}
+use Rattle.trips_isa.specs.Images.{chunks, starting_from}
 use Rattle.target_asm_spec.specs.Chunks.{goal_of, goal_in, start_rows}
 use Rattle.target_asm_spec.proofs.Starts.{goals_agree}
-use Rattle.target_asm_spec.specs.declared.fault.AsmFault.{AsmFault}
-use Rattle.target_asm_spec.specs.declared.spelled.Goal.{Goal}
-use Rattle.target_asm_spec.specs.declared.spelled.Goal.TheVariants.{Label, Offset}
-use Rattle.target_asm_spec.specs.Judging.{signed_in}
 use Rattle.target_asm_spec.specs.Instructions.{jumps}
-use Rattle.target_asm_spec.specs.Blocks.{or_fault, Begins, to_block, aimed_at, aimed}
+use Rattle.target_asm_spec.specs.Blocks.{to_block, aimed_at, aimed}
 use Rattle.target_asm_spec.specs.Whole.{chunks_from, begins_of, unknown}
 use Rattle.target_asm_spec.proofs.Operations.{SmallGoal, goal_if, spelled_numbers}
 use Rattle.target_asm_spec.proofs.Instructions.{signed_judged, raw_jump, raw_imm}

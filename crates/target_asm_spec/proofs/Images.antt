@@ -1,11 +1,10 @@
 -- A whole text is read from its image; so a text has one image.
-use Rattle.std.proofs.Common.{◌≡◌, ℕ, zero, suc, ◌+◌, ◌/◌, ◌%◌, ◌<◌, ◌≤◌, List, [], ◌∷◌, ◌++◌}
+use Rattle.std.proofs.Common.{◌≡◌, ℕ, zero, suc, ◌+◌, ◌%◌, ◌<◌, ◌≤◌, List, [], ◌∷◌, ◌++◌}
 use Rattle.std.proofs.Common.{length}
-use Rattle.std.proofs.Common.{refl, sym, ap, subst, ◌∙◌, arith, append_assoc, Bool, true, false}
+use Rattle.std.proofs.Common.{refl, sym, ap, ◌∙◌, arith, append_assoc, Bool, true, false}
 use Rattle.std.proofs.Common.{Option, Some, None}
-use Rattle.std.specs.Prelude.{ℤ, pos, negsuc, ◌==◌, ◌||◌, not, nat_lt, nat_le, codes, if◌then◌else◌}
+use Rattle.std.specs.Prelude.{ℤ, pos, ◌==◌, ◌||◌, nat_lt, codes, if◌then◌else◌}
 use Rattle.std.specs.Prelude.{All, Result, Ok}
-use Rattle.std.specs.Prelude.{Err}
 use Rattle.std.specs.Fmt.{decimal}
 use Rattle.std.specs.List.{sum_by}
 use Rattle.std.proofs.lemmas.Bool.{lt-ltb, le-leb}
@@ -21,8 +20,8 @@ use Rattle.target_asm_spec.specs.Text.{data_end, byte_text, head_lines, block_in
 use Rattle.target_asm_spec.specs.Text.{block_line, image_text}
 use Rattle.target_asm_spec.specs.Text.{TargetText}
 use Rattle.target_asm_spec.specs.declared.fault.AsmFault.{AsmFault}
-use Rattle.target_asm_spec.specs.Reading.{◌>>=◌, after_in, digits_in, number_in, byte_in}
-use Rattle.target_asm_spec.specs.Blocks.{◌>>>◌, or_fault, wants, Begins, blocks_in}
+use Rattle.target_asm_spec.specs.Reading.{after_in, digits_in, number_in, byte_in}
+use Rattle.target_asm_spec.specs.Blocks.{Begins}
 use Rattle.target_asm_spec.specs.Whole.{is_empty, count_in, bytes_limit, front_in, feed_in}
 use Rattle.target_asm_spec.specs.Whole.{data_byte_in}
 use Rattle.target_asm_spec.specs.Whole.{bytes_in, data_lines, data_in, chunks_from, begins_of, unknown}

@@ -1,9 +1,8 @@
 -- The line of an instruction is read from its text, and judged.
-use Rattle.std.proofs.Common.{◌≡◌, ℕ, suc, ◌+◌, ◌<◌, ◌≤◌, List, [], ◌∷◌, ◌++◌, append_assoc, take}
-use Rattle.std.proofs.Common.{drop}
-use Rattle.std.proofs.Common.{refl, sym, ap, subst, ◌∙◌, arith, Option, Some, None, Bool, true}
+use Rattle.std.proofs.Common.{◌≡◌, ℕ, ◌<◌, List, ◌∷◌, ◌++◌, append_assoc}
+use Rattle.std.proofs.Common.{refl, sym, ap, subst, ◌∙◌, Option, Some, None, Bool, true}
 use Rattle.std.proofs.Common.{false}
-use Rattle.std.specs.Prelude.{ℤ, pos, negsuc, codes, nat_lt}
+use Rattle.std.specs.Prelude.{ℤ, pos, negsuc, codes}
 use Rattle.std.specs.Fmt.{decimal}
 use Rattle.std.proofs.lemmas.Bool.{lt-ltb}
 use Rattle.trips_isa.specs.declared.op.Op.{Op}
@@ -11,32 +10,28 @@ use Rattle.trips_isa.specs.declared.op.Op.TheVariants.{Bro, Callo, Gens}
 use Rattle.trips_isa.specs.declared.form.Form.{Form}
 use Rattle.trips_isa.specs.declared.form.Form.TheVariants.{General, Immediate, Load, Store, Branch}
 use Rattle.trips_isa.specs.declared.form.Form.TheVariants.{Constant}
-use Rattle.trips_isa.specs.declared.block.Sense.{Sense}
-use Rattle.trips_isa.specs.declared.block.Sense.TheVariants.{Always}
 use Rattle.trips_isa.specs.declared.block.Spot.{Spot}
 use Rattle.trips_isa.specs.declared.block.Inst.{Inst}
 use Rattle.trips_isa.specs.Forms.{form_of}
 use Rattle.trips_isa.specs.Fits.{FitsTarget, FitsSigned, FitsUnsigned, FitsOffset, FitsConstant}
 use Rattle.trips_isa.specs.Fits.{FitsForm, FitsInst}
-use Rattle.isa_table.specs.Mnemonics.{mnemonic_of, op_with_mnemonic}
+use Rattle.isa_table.specs.Mnemonics.{mnemonic_of}
 use Rattle.isa_table.specs.Spots.{indexed, spot_text}
 use Rattle.target_asm_spec.specs.Fields.{target_text, sense_text, numbers_text}
 use Rattle.target_asm_spec.specs.Text.{inst_line, op_text, targets_text}
-use Rattle.target_asm_spec.specs.declared.spelled.Goal.{Goal}
-use Rattle.target_asm_spec.specs.declared.spelled.Goal.TheVariants.{Label, Offset}
 use Rattle.target_asm_spec.specs.declared.spelled.Numbers.{Numbers}
 use Rattle.target_asm_spec.specs.declared.spelled.SpelledInst.{SpelledInst}
-use Rattle.target_asm_spec.specs.Reading.{◌>>=◌, after_in, index_in, field_in}
+use Rattle.target_asm_spec.specs.Reading.{after_in, index_in}
 use Rattle.target_asm_spec.specs.Places.{maybe_spot}
-use Rattle.target_asm_spec.specs.Instructions.{jumps, letters_in, sense_in, sense_fits, numbers_in}
-use Rattle.target_asm_spec.specs.Instructions.{targets_in, fields_in}
-use Rattle.target_asm_spec.specs.Instructions.{sensed_in, operation_in, inst_in}
+use Rattle.target_asm_spec.specs.Instructions.{jumps, sense_in, sense_fits}
+use Rattle.target_asm_spec.specs.Instructions.{fields_in}
+use Rattle.target_asm_spec.specs.Instructions.{operation_in, inst_in}
 use Rattle.target_asm_spec.specs.Judging.{signed_in, unsigned_in, number_of, constant_of, offset_of}
 use Rattle.target_asm_spec.specs.Judging.{immediate_of, inst_of}
 use Rattle.target_asm_spec.proofs.Numbers.{after_front, index_again, field_again}
 use Rattle.target_asm_spec.proofs.Targets.{spelled_target, maybe_again}
 use Rattle.target_asm_spec.proofs.Words.{FollowsWord, space_follows, feed_follows, sense_again}
-use Rattle.target_asm_spec.proofs.Words.{ReadsWord, word_again}
+use Rattle.target_asm_spec.proofs.Words.{word_again}
 use Rattle.target_asm_spec.proofs.Operations.{after_numbers, targets_stop, SmallGoal, goal_if}
 use Rattle.target_asm_spec.proofs.Operations.{spelled_numbers}
 use Rattle.target_asm_spec.proofs.Operations.{numbers_again, spelled_targets, targets_again}

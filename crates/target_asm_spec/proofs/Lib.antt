@@ -12,3 +12,4 @@ pub mod Slots
 pub mod Bodies
 pub mod Goals
 pub mod Images
+pub mod Numbered

@@ -1,8 +1,8 @@
 -- The lines of blocks, reads and writes are read from their texts.
-use Rattle.std.proofs.Common.{◌≡◌, ℕ, ◌+◌, ◌^◌, ◌<◌, ◌≤◌, List, [], ◌∷◌, ◌++◌, append_assoc}
-use Rattle.std.proofs.Common.{refl, sym, ap, subst, ◌∙◌, arith, Option, Some, None, Bool, true}
+use Rattle.std.proofs.Common.{◌≡◌, ℕ, ◌<◌, List, ◌∷◌, ◌++◌, append_assoc}
+use Rattle.std.proofs.Common.{refl, sym, ap, ◌∙◌, arith, Option, Some, None, Bool, true}
 use Rattle.std.proofs.Common.{false}
-use Rattle.std.specs.Prelude.{ℤ, pos, negsuc, codes, ◌==◌}
+use Rattle.std.specs.Prelude.{ℤ, pos, codes, ◌==◌}
 use Rattle.std.specs.Fmt.{decimal}
 use Rattle.std.proofs.lemmas.Bool.{ne_eqb}
 use Rattle.trips_isa.specs.declared.block.Spot.{Spot}
@@ -14,15 +14,13 @@ use Rattle.target_asm_spec.specs.Numbers.{hex_word}
 use Rattle.target_asm_spec.specs.Fields.{target_text}
 use Rattle.target_asm_spec.specs.Text.{read_line, write_line, block_line}
 use Rattle.target_asm_spec.specs.declared.spelled.SpelledRead.{SpelledRead}
-use Rattle.target_asm_spec.specs.declared.spelled.SpelledWrite.{SpelledWrite}
-use Rattle.target_asm_spec.specs.declared.spelled.SpelledBlock.{SpelledBlock}
-use Rattle.target_asm_spec.specs.Reading.{◌>>=◌, after_in, digits_in, number_in, index_in, word_in}
+use Rattle.target_asm_spec.specs.Reading.{after_in, digits_in, number_in, index_in, word_in}
 use Rattle.target_asm_spec.specs.Reading.{field_in}
 use Rattle.target_asm_spec.specs.Places.{target_in, next_in, spot_of, maybe_spot}
-use Rattle.target_asm_spec.specs.Registers.{same_text, operands_fit, second_fits, only_if, operands_in}
+use Rattle.target_asm_spec.specs.Registers.{same_text, operands_fit, second_fits, operands_in}
 use Rattle.target_asm_spec.specs.Registers.{read_in, write_line_in}
 use Rattle.target_asm_spec.specs.Registers.{block_line_in, read_of}
-use Rattle.target_asm_spec.proofs.Numbers.{after_front, number_pos, index_again, indexed_is}
+use Rattle.target_asm_spec.proofs.Numbers.{after_front, number_pos, index_again}
 use Rattle.target_asm_spec.proofs.Numbers.{field_again}
 use Rattle.target_asm_spec.proofs.Hexadecimal.{word_again}
 use Rattle.target_asm_spec.proofs.Targets.{spelled_spot, spelled_target, target_again, next_again}

@@ -1,18 +1,17 @@
 -- Numbers are read from their texts.
 use Rattle.std.proofs.Common.{◌≡◌, ℕ, zero, suc, ◌+◌, ◌-◌, ◌*◌, ◌/◌, ◌%◌, ◌^◌, ◌<◌, ◌≤◌, List, []}
 use Rattle.std.proofs.Common.{◌∷◌, ◌++◌}
-use Rattle.std.proofs.Common.{length, take, drop, get_or, refl, sym, ap, subst, ◌∙◌, arith}
+use Rattle.std.proofs.Common.{length, take, drop, get_or, refl, ap, ◌∙◌, arith}
 use Rattle.std.proofs.Common.{append_assoc}
-use Rattle.std.proofs.Common.{Option, Some, None, Bool, true, false, eq-eqb, ◌⊎◌, inl, inr}
+use Rattle.std.proofs.Common.{Some, None, Bool, true, false, eq-eqb, ◌⊎◌, inl, inr}
 use Rattle.std.specs.Prelude.{ℤ, pos, negsuc, ◌==◌, ◌&&◌, nat_lt, nat_le, codes}
 use Rattle.std.specs.Fmt.{decimal, signed_decimal}
 use Rattle.std.proofs.lemmas.Bool.{ne_eqb, lt-ltb, le-leb, leb-true}
 use Rattle.std.proofs.lemmas.List.{take_at, drop_at}
-use Rattle.std.proofs.Math.ListN.{get_or-append}
 use Rattle.std.proofs.lemmas.Fmt.{decimal_digit, decimal_by_steps, first_decimal, decimal_nonempty}
 use Rattle.isa_table.specs.Spots.{indexed}
-use Rattle.target_asm_spec.specs.Reading.{◌>>=◌, after_in, is_digit, digits_in, with_digit, value_from}
-use Rattle.target_asm_spec.specs.Reading.{is_no_number, natural_in, below_zero, number_in, spaced_in}
+use Rattle.target_asm_spec.specs.Reading.{after_in, is_digit, digits_in, with_digit, value_from}
+use Rattle.target_asm_spec.specs.Reading.{is_no_number, natural_in, number_in, spaced_in}
 use Rattle.target_asm_spec.specs.Reading.{index_in, field_in}
 
 -- after a word comes what follows it

@@ -1,10 +1,9 @@
 -- The numbers and the targets of an instruction are read from their texts.
-use Rattle.std.proofs.Common.{◌≡◌, ℕ, suc, ◌+◌, ◌<◌, ◌≤◌, List, [], ◌∷◌, ◌++◌, append_assoc}
-use Rattle.std.proofs.Common.{refl, sym, ap, subst, ◌∙◌, arith, Option, Some, None, Bool, true}
+use Rattle.std.proofs.Common.{◌≡◌, ℕ, ◌<◌, ◌≤◌, List, ◌∷◌, ◌++◌, append_assoc}
+use Rattle.std.proofs.Common.{refl, sym, subst, arith, Option, Some, None, Bool, true}
 use Rattle.std.proofs.Common.{false}
-use Rattle.std.specs.Prelude.{ℤ, pos, negsuc, codes, nat_lt}
+use Rattle.std.specs.Prelude.{ℤ, pos, negsuc, codes}
 use Rattle.std.specs.Fmt.{decimal, signed_decimal}
-use Rattle.std.proofs.lemmas.Bool.{lt-ltb}
 use Rattle.trips_isa.specs.declared.op.Op.{Op}
 use Rattle.trips_isa.specs.declared.op.Op.TheVariants.{Bro, Callo, Gens}
 use Rattle.trips_isa.specs.declared.form.Form.{Form}
@@ -20,8 +19,7 @@ use Rattle.target_asm_spec.specs.declared.spelled.Goal.{Goal}
 use Rattle.target_asm_spec.specs.declared.spelled.Goal.TheVariants.{Label, Offset}
 use Rattle.target_asm_spec.specs.declared.spelled.Numbers.{Numbers}
 use Rattle.target_asm_spec.specs.declared.spelled.Targets.{Targets}
-use Rattle.target_asm_spec.specs.Reading.{◌>>=◌, after_in, digits_in, number_in, spaced_in}
-use Rattle.target_asm_spec.specs.Places.{next_in}
+use Rattle.target_asm_spec.specs.Reading.{after_in, digits_in, spaced_in}
 use Rattle.target_asm_spec.specs.Instructions.{jumps, goal_in, jump_in, numbers_are, immediate_in}
 use Rattle.target_asm_spec.specs.Instructions.{number_and_immediate_in}
 use Rattle.target_asm_spec.specs.Instructions.{exit_in, numbers_in, two_targets_in, one_target_in}

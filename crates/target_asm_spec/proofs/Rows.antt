@@ -1,9 +1,9 @@
 -- The lines of reads and of writes are read one after the other.
 use Rattle.std.proofs.Common.{◌≡◌, ℕ, zero, suc, ◌+◌, ◌<◌, ◌≤◌, List, [], ◌∷◌, ◌++◌, length}
 use Rattle.std.proofs.Common.{append_assoc}
-use Rattle.std.proofs.Common.{refl, sym, ap, subst, ◌∙◌, arith, Bool, true, false, Option, Some}
-use Rattle.std.proofs.Common.{None, eq-eqb}
-use Rattle.std.specs.Prelude.{pos, ◌==◌, nat_lt, codes, Result, Ok, Err}
+use Rattle.std.proofs.Common.{refl, ap, arith, true, false, Some}
+use Rattle.std.proofs.Common.{eq-eqb}
+use Rattle.std.specs.Prelude.{pos, ◌==◌, nat_lt, codes, Result, Ok}
 use Rattle.std.proofs.lemmas.Bool.{lt-ltb}
 use Rattle.trips_isa.specs.declared.block.ReadSlot.{ReadSlot}
 use Rattle.trips_isa.specs.Fits.{FitsRead}
@@ -12,8 +12,8 @@ use Rattle.target_asm_spec.specs.Numbers.{numbered}
 use Rattle.target_asm_spec.specs.Text.{read_line, write_line}
 use Rattle.target_asm_spec.specs.declared.fault.AsmFault.{AsmFault}
 use Rattle.target_asm_spec.specs.Reading.{after_in, field_in}
-use Rattle.target_asm_spec.specs.Registers.{read_in, write_line_in, read_of}
-use Rattle.target_asm_spec.specs.Blocks.{◌>>>◌, or_fault, wants, begins, is_place, Taken, lines_in}
+use Rattle.target_asm_spec.specs.Registers.{read_in, read_of}
+use Rattle.target_asm_spec.specs.Blocks.{begins, Taken, lines_in}
 use Rattle.target_asm_spec.specs.Blocks.{one_read, reads_in}
 use Rattle.target_asm_spec.specs.Blocks.{one_write, writes_in}
 use Rattle.target_asm_spec.proofs.Numbers.{field_again}

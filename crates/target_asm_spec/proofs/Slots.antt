@@ -1,24 +1,23 @@
 -- The lines of a block's instructions are read one after the other.
 use Rattle.std.proofs.Common.{◌≡◌, ℕ, zero, suc, ◌+◌, ◌-◌, ◌/◌, ◌<◌, ◌≤◌, max, List, [], ◌∷◌, ◌++◌}
 use Rattle.std.proofs.Common.{length, replicate}
-use Rattle.std.proofs.Common.{refl, sym, ap, subst, ◌∙◌, arith, append_assoc, Bool, true, false}
+use Rattle.std.proofs.Common.{refl, sym, ap, ◌∙◌, arith, append_assoc, true, false}
 use Rattle.std.proofs.Common.{Option, Some, None}
-use Rattle.std.specs.Prelude.{ℤ, pos, ◌+ℤ◌, nat_le, codes, Result, Ok, Err}
+use Rattle.std.specs.Prelude.{ℤ, pos, ◌+ℤ◌, nat_le, codes, Result, Ok}
 use Rattle.std.proofs.lemmas.Bool.{le-leb}
 use Rattle.std.proofs.lemmas.List.{append-nil, replicate_more}
 use Rattle.trips_isa.specs.declared.block.Inst.{Inst}
 use Rattle.trips_isa.specs.Forms.{form_of}
 use Rattle.trips_isa.specs.Fits.{FitsInst, FitsSlot}
-use Rattle.trips_isa.specs.Images.{body_chunks, chunks_to}
+use Rattle.trips_isa.specs.Images.{body_chunks}
 use Rattle.isa_table.specs.Spots.{indexed}
 use Rattle.target_asm_spec.specs.Numbers.{numbered}
 use Rattle.target_asm_spec.specs.Text.{inst_line, slot_text}
 use Rattle.target_asm_spec.specs.declared.fault.AsmFault.{AsmFault}
-use Rattle.target_asm_spec.specs.declared.spelled.SpelledInst.{SpelledInst}
 use Rattle.target_asm_spec.specs.Reading.{after_in, field_in}
 use Rattle.target_asm_spec.specs.Instructions.{inst_in}
 use Rattle.target_asm_spec.specs.Judging.{inst_of}
-use Rattle.target_asm_spec.specs.Blocks.{◌>>>◌, or_fault, wants, begins, in_turn, Taken, Begins, aimed}
+use Rattle.target_asm_spec.specs.Blocks.{begins, in_turn, Taken, Begins, aimed}
 use Rattle.target_asm_spec.specs.Blocks.{one_inst, gap}
 use Rattle.target_asm_spec.specs.Blocks.{slots_in}
 use Rattle.target_asm_spec.proofs.Numbers.{field_again}

@@ -1,8 +1,7 @@
 -- Targets are read from their texts.
-use Rattle.std.proofs.Common.{◌≡◌, ℕ, ◌+◌, ◌^◌, ◌<◌, ◌≤◌, List, [], ◌∷◌, ◌++◌, append_assoc}
-use Rattle.std.proofs.Common.{refl, sym, ap, subst, ◌∙◌, arith, Option, Some, None, Bool, true}
-use Rattle.std.proofs.Common.{false}
-use Rattle.std.specs.Prelude.{ℤ, pos, negsuc, codes}
+use Rattle.std.proofs.Common.{◌≡◌, ℕ, ◌<◌, List, [], ◌∷◌, ◌++◌, append_assoc}
+use Rattle.std.proofs.Common.{refl, arith, Option, Some, None}
+use Rattle.std.specs.Prelude.{ℤ, pos, codes}
 use Rattle.std.specs.Fmt.{decimal}
 use Rattle.trips_isa.specs.declared.block.Spot.{Spot}
 use Rattle.trips_isa.specs.declared.block.Spot.TheVariants as spot
@@ -11,8 +10,7 @@ use Rattle.isa_table.specs.Spots.{indexed, at_slot, spot_text}
 use Rattle.target_asm_spec.specs.Fields.{target_text}
 use Rattle.target_asm_spec.specs.declared.spelled.SpelledTarget.{SpelledTarget}
 use Rattle.target_asm_spec.specs.declared.spelled.SpelledTarget.TheVariants as spelled
-use Rattle.target_asm_spec.specs.Reading.{◌>>=◌, or_else, after_in, digits_in, number_in, index_in}
-use Rattle.target_asm_spec.specs.Reading.{field_in}
+use Rattle.target_asm_spec.specs.Reading.{after_in, digits_in, number_in, index_in}
 use Rattle.target_asm_spec.specs.Places.{place_in, slot_in, write_in, target_in, next_in, spot_of}
 use Rattle.target_asm_spec.specs.Places.{maybe_spot}
 use Rattle.target_asm_spec.proofs.Numbers.{after_front, number_pos, index_again, indexed_is}

@@ -1,6 +1,6 @@
 -- Mnemonics and predicates are read from their texts.
-use Rattle.std.proofs.Common.{◌≡◌, ℕ, suc, ◌+◌, ◌<◌, List, [], ◌∷◌, ◌++◌, length, take, drop}
-use Rattle.std.proofs.Common.{refl, sym, ap, subst, ◌∙◌, Option, Some, None, Bool, true, false}
+use Rattle.std.proofs.Common.{◌≡◌, ℕ, suc, List, [], ◌∷◌, ◌++◌, length, take, drop}
+use Rattle.std.proofs.Common.{refl, ap, Some, None, Bool, true, false}
 use Rattle.std.specs.Prelude.{◌&&◌, not, codes}
 use Rattle.std.proofs.lemmas.List.{take_at, drop_at}
 use Rattle.trips_isa.specs.declared.op.Op.{Op}

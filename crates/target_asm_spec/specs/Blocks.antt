@@ -3,7 +3,7 @@ use Rattle.std.specs.Prelude.{ℕ, zero, suc, ◌+◌, ◌-◌, ◌/◌, ◌+ℤ
 use Rattle.std.specs.Prelude.{◌∷◌, ◌++◌}
 use Rattle.std.specs.Prelude.{length, get_or, replicate, is_some, Option, Some, None, Bool, true}
 use Rattle.std.specs.Prelude.{false}
-use Rattle.std.specs.Prelude.{◌≡◌, ◌==◌, nat_lt, nat_le, if◌then◌else◌, codes, Result, Ok, Err}
+use Rattle.std.specs.Prelude.{◌==◌, nat_lt, nat_le, if◌then◌else◌, codes, Result, Ok, Err}
 use Rattle.trips_isa.specs.declared.block.Inst.{Inst}
 use Rattle.trips_isa.specs.declared.block.ReadSlot.{ReadSlot}
 use Rattle.trips_isa.specs.declared.block.Block.{Block}
@@ -14,7 +14,6 @@ use Rattle.target_asm_spec.specs.declared.fault.AsmFault.TheVariants.{Syntax, Ra
 use Rattle.target_asm_spec.specs.declared.fault.AsmFault.TheVariants as fault
 use Rattle.target_asm_spec.specs.declared.spelled.Goal.{Goal}
 use Rattle.target_asm_spec.specs.declared.spelled.Goal.TheVariants.{Label, Offset}
-use Rattle.target_asm_spec.specs.declared.spelled.SpelledInst.{SpelledInst}
 use Rattle.target_asm_spec.specs.Reading.{after_in, field_in}
 use Rattle.target_asm_spec.specs.Registers.{read_in, write_line_in, block_line_in, read_of}
 use Rattle.target_asm_spec.specs.Instructions.{inst_in}

@@ -39,7 +39,7 @@ pub record BadGoal (text : List ℕ) (front : List Line) (goal : Goal) : Type 0 
 
 -- ---- the whole text
 
--- the bytes of the first lines
+-- bytes of the first lines, of so many
 pub record GoodBytes (count : ℕ) (bytes : List ℕ) : Type 0 where
   pub few : count ≤ 4194304
   pub each : All (λ b. b < 256) bytes
@@ -58,6 +58,8 @@ pub record GoodFront (text bytes rest : List ℕ) : Type 0 where
   pub last : last_byte bytes ≡ 0 → ⊥
   pub is : text ≡ data_words (length bytes) bytes rest
 
+-- A line is `Syntax` where no line that may stand there begins the rest of the text, and `Range`
+-- where one does with a number outside its field; lines are counted from 1.
 pub data FirstAsmFault (text : List ℕ) : AsmFault → Type 0 where
   -- the first two lines
   no_head : ((rest : List ℕ) → text ≡ codes "trips 1\n" ++ rest → ⊥)

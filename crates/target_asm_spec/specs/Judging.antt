@@ -1,7 +1,6 @@
 -- The instruction of a line that is spelled, where each number lies in its field.
-use Rattle.std.specs.Prelude.{ℕ, ◌<◌, ◌-◌, ◌+ℤ◌, ◌-ℤ◌, ℤ, pos, negsuc, List, Option, Some, None}
-use Rattle.std.specs.Prelude.{Bool, true, false}
-use Rattle.std.specs.Prelude.{nat_lt, if◌then◌else◌, get_or, length, is_some, Result, Ok, Err}
+use Rattle.std.specs.Prelude.{ℕ, ℤ, pos, negsuc, Option, Some, None}
+use Rattle.std.specs.Prelude.{nat_lt, if◌then◌else◌}
 use Rattle.trips_isa.specs.declared.op.Op.{Op}
 use Rattle.trips_isa.specs.declared.op.Op.TheVariants.{Gens}
 use Rattle.trips_isa.specs.declared.form.Form.{Form}

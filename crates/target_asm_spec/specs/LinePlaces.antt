@@ -1,5 +1,5 @@
 -- The lines of blocks: which may stand where, with each number in its field.
-use Rattle.std.specs.Prelude.{◌≡◌, ◌≤◌, ◌<◌, ◌+◌, ◌/◌, ◌^◌, ℕ, zero, suc, ℤ, pos, negsuc, ◌+ℤ◌}
+use Rattle.std.specs.Prelude.{◌≡◌, ◌≤◌, ◌<◌, ◌+◌, ◌/◌, ◌^◌, ℕ, suc, ℤ, pos, negsuc, ◌+ℤ◌}
 use Rattle.std.specs.Prelude.{List, [], ◌∷◌, ◌++◌, length, get_or, Option, Some, None}
 use Rattle.trips_isa.specs.declared.block.Inst.{Inst}
 use Rattle.trips_isa.specs.declared.block.ReadSlot.{ReadSlot}
@@ -39,6 +39,7 @@ pub record Place : Type 0 where
   pub next_write : Option ℕ
   pub next_slot : Option ℕ
 
+-- before the first block
 abbrev pub start : Place
 start = record {
   begins = [];
@@ -49,11 +50,12 @@ start = record {
   next_slot = None;
 }
 
+-- a number that is not below zero, as a size
 abbrev pub size_of : ℤ → ℕ
 size_of (pos n) = n
 size_of (negsuc n) = 0
 
--- A line of a block takes two chunks, and the first slots past 31, 63 and 95 one more each.
+-- What a line leads to. The line of a block takes two chunks, and the first slots past 31, 63 and 95 one more each.
 abbrev pub after : Place → Line → Place
 after p (block number mask) = record {
   begins = p.begins ++ (p.here + p.size) ∷ [];
@@ -75,6 +77,7 @@ after p (inst s) = record p {
 
 -- ---- which lines may stand at a place
 
+-- a number is the one that the place fixes
 abbrev pub IsNext : Option ℕ → ℤ → Type 0
 IsNext None z = ⊥
 IsNext (Some i) z = z ≡ pos i
@@ -85,6 +88,7 @@ IsLeft None z = ⊥
 IsLeft (Some next) (pos n) = next ≤ n
 IsLeft (Some next) (negsuc n) = next ≡ 0
 
+-- blocks, reads and writes are numbered from 0; writes come after reads, and instructions after both
 abbrev pub MayStand : Place → Line → Type 0
 MayStand p (block number mask) = (number ≡ pos (length p.begins)) × (mask < 2 ^ 32)
 MayStand p (read s) = IsNext p.next_read s.number × AreOperands s.first s.second
@@ -109,26 +113,31 @@ abbrev pub AreGood : Place → List Line → Type 0
 AreGood p [] = Unit {0}
 AreGood p (l ∷ ls) = MayStand p l × InFields p l × AreGood (after p l) ls
 
+-- where these lead
 abbrev pub place_after : Place → List Line → Place
 place_after p [] = p
 place_after p (l ∷ ls) = place_after (after p l) ls
 
+-- their text, and what comes after it
 abbrev pub lines_words : List Line → List ℕ → List ℕ
 lines_words [] rest = rest
 lines_words (l ∷ ls) rest = line_words l (lines_words ls rest)
 
 -- ---- where branches go, judged once all lines are good
 
+-- a label names a block, and an offset from the block that begins at `here` hits none
 abbrev pub GoodGoal : List ℕ → ℕ → Option Goal → Type 0
 GoodGoal begins here None = Unit {0}
 GoodGoal begins here (Some (Label k)) = Below (length begins) k
 GoodGoal begins here (Some (Offset n)) = (k : ℕ) → k < length begins
     → pos here +ℤ n ≡ pos (get_or begins k 0) → ⊥
 
+-- only an instruction goes somewhere
 abbrev pub goal_of_line : Line → Option Goal
 goal_of_line (inst s) = s.numbers.goal
 goal_of_line l = None
 
+-- the same of lines from a place on
 abbrev pub GoodGoals : List ℕ → Place → List Line → Type 0
 GoodGoals begins p [] = Unit {0}
 GoodGoals begins p (l ∷ ls) = GoodGoal begins p.here (goal_of_line l)

@@ -1,6 +1,6 @@
 -- The lines of a target text as they are spelled, whatever their numbers.
-use Rattle.std.specs.Prelude.{◌≡◌, ℕ, zero, suc, ◌+◌, ◌<◌, ◌^◌, ℤ, pos, negsuc, List, [], ◌∷◌, ◌++◌}
-use Rattle.std.specs.Prelude.{map, Option, Some, None, Bool, true, false, codes}
+use Rattle.std.specs.Prelude.{◌≡◌, ℕ, zero, suc, ◌+◌, ℤ, pos, negsuc, List, [], ◌∷◌, ◌++◌}
+use Rattle.std.specs.Prelude.{map, Option, Some, None, codes}
 use Rattle.std.specs.Int.Digits.{digits_of}
 use Rattle.trips_isa.specs.declared.op.Op.{Op}
 use Rattle.trips_isa.specs.declared.op.Op.TheVariants.{Bro, Callo}
@@ -109,6 +109,7 @@ MayHaveTargets Store t = (t.first ≡ None) × (t.second ≡ None)
 MayHaveTargets Branch t = (t.first ≡ None) × (t.second ≡ None)
 MayHaveTargets form t = t.second ≡ None
 
+-- the parts of a line are those of its operation
 pub record IsInstruction (s : SpelledInst) : Type 0 where
   pub sense : MayHaveSense (form_of s.op) s.sense
   pub goal : MayHaveGoal s.op s.numbers.goal

@@ -1,6 +1,6 @@
 -- Fields of a line, read from left to right: what a text begins with, and what comes after it.
 use Rattle.std.specs.Prelude.{◌≡◌, ℕ, zero, suc, ◌+◌, ◌-◌, ◌*◌, ℤ, pos, negsuc, List, [], ◌∷◌}
-use Rattle.std.specs.Prelude.{length, take, drop, get_or, Option, Some, None, Bool, true, false}
+use Rattle.std.specs.Prelude.{take, drop, get_or, Option, Some, None, Bool}
 use Rattle.std.specs.Prelude.{◌==◌, ◌&&◌, ◌||◌, nat_lt, nat_le, if◌then◌else◌, codes}
 
 infixl 10 ◌>>=◌

@@ -1,9 +1,8 @@
 -- A whole text, read: its head, its data bytes and its blocks.
-use Rattle.std.specs.Prelude.{ℕ, zero, suc, ◌+◌, ◌-◌, ◌*◌, ◌/◌, ◌%◌, ℤ, pos, negsuc, List, [], ◌∷◌}
-use Rattle.std.specs.Prelude.{◌++◌}
-use Rattle.std.specs.Prelude.{length, Option, Some, None, Bool, true, false, ◌≡◌, ◌==◌, ◌&&◌, ◌||◌}
+use Rattle.std.specs.Prelude.{ℕ, zero, suc, ◌+◌, ◌/◌, ◌%◌, ℤ, pos, negsuc, List, [], ◌∷◌}
+use Rattle.std.specs.Prelude.{Option, Some, None, Bool, true, false, ◌==◌, ◌||◌}
 use Rattle.std.specs.Prelude.{not, nat_lt, nat_le}
-use Rattle.std.specs.Prelude.{if◌then◌else◌, codes, Result, Ok, Err}
+use Rattle.std.specs.Prelude.{if◌then◌else◌, codes, Result, Ok}
 use Rattle.trips_isa.specs.declared.block.Block.{Block}
 use Rattle.trips_isa.specs.declared.block.Image.{Image}
 use Rattle.trips_isa.specs.Images.{chunks, last_byte}
@@ -11,7 +10,7 @@ use Rattle.target_asm_spec.specs.Chunks.{start_rows}
 use Rattle.target_asm_spec.specs.declared.fault.AsmFault.{AsmFault}
 use Rattle.target_asm_spec.specs.declared.fault.AsmFault.TheVariants.{Syntax, Range}
 use Rattle.target_asm_spec.specs.Reading.{◌>>=◌, after_in, number_in, byte_in}
-use Rattle.target_asm_spec.specs.Blocks.{◌>>>◌, or_fault, wants, Taken, Begins, blocks_in}
+use Rattle.target_asm_spec.specs.Blocks.{◌>>>◌, or_fault, wants, Begins, blocks_in}
 
 abbrev pub is_empty : List ℕ → Bool
 is_empty [] = true

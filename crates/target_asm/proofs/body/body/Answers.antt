@@ -1,4 +1,4 @@
-use Rattle.std.proofs.Common.{◌≡◌, ◌≤◌, ◌+◌, ℕ, ◌∙◌, sym, ap, arith, length, ◌∷◌, [], List}
+use Rattle.std.proofs.Common.{◌≤◌, ◌+◌, ℕ, ◌∙◌, sym, ap, arith, length, ◌∷◌, []}
 use Rattle.std.proofs.lemmas.List.{length-append}
 use Rattle.std.proofs.lemmas.List.Elements.{All-same, All-push}
 use Rattle.trips_isa.specs.declared.block.Block.{Block}

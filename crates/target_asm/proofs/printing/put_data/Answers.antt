@@ -1,6 +1,6 @@
 use Rattle.std.proofs.Common.{length}
 use Rattle.target_asm_spec.specs.Text.{byte_text}
-use Rattle.target_asm.proofs.Numbered.{numbered_step}
+use Rattle.target_asm_spec.proofs.Numbered.{numbered_step}
 use Rattle.target_asm.proofs.printing.put_data.Goals as goal
 
 pub loop-at-preserved : goal.loop-at-preserved

@@ -1,5 +1,5 @@
 use Rattle.target_asm_spec.specs.Text.{read_line}
-use Rattle.target_asm.proofs.Numbered.{numbered_step}
+use Rattle.target_asm_spec.proofs.Numbered.{numbered_step}
 use Rattle.target_asm.proofs.printing.put_reads.Goals as goal
 
 pub loop-i-preserved : goal.loop-i-preserved

@@ -1,6 +1,6 @@
 use Rattle.target_asm_spec.specs.Chunks.{goal_in}
 use Rattle.target_asm_spec.specs.Text.{slot_text}
-use Rattle.target_asm.proofs.Numbered.{numbered_step}
+use Rattle.target_asm_spec.proofs.Numbered.{numbered_step}
 use Rattle.target_asm.proofs.printing.put_slots.Goals as goal
 
 pub loop-slot-preserved : goal.loop-slot-preserved

@@ -1,4 +1,4 @@
-use Rattle.std.proofs.Common.{◌≡◌, ◌∙◌, sym, ap, arith, length, ◌∷◌, []}
+use Rattle.std.proofs.Common.{◌∙◌, sym, ap, arith, length, ◌∷◌, []}
 use Rattle.std.specs.Prelude.{codes}
 use Rattle.std.proofs.lemmas.List.{length-append}
 use Rattle.target_asm_spec.specs.Blocks.{one_write, writes_in}
