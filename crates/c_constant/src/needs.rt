@@ -114,10 +114,7 @@ fn counted_need(e: &Expr) -> Need
             counted_need(left.get()).index,
             operand(right.get()),
         )),
-        ExprNode::Comma { left, right } => plain(larger(
-            operand(left.get()),
-            operand(right.get()),
-        )),
+        ExprNode::Comma { left, right } => plain(larger(operand(left.get()), operand(right.get()))),
     }
 }
 
