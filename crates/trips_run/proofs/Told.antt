@@ -172,7 +172,13 @@ formed_told : (text input : List ℕ) (most : ℕ) (tree : Program) (program : T
     → HasTypes tree program → returned tree ≡ number → IsRunOfForm number most input s report
     → IsDone Run form.Source most text input s report
 formed_told text input most tree program None s report has types is told =
-    inl (form_text, inr (record { tree = tree; program = program; has_tree = has; has_types = types; returns = is }, refl), told)
+    let out = record {
+      tree = tree;
+      program = program;
+      has_tree = has;
+      has_types = types;
+      returns = is;
+    } in inl (form_text, inr (out, refl), told)
 formed_told text input most tree program (Some n) s report has types is told =
     inr (n, record { tree = tree; has_tree = has; returns = is }, told)
 
