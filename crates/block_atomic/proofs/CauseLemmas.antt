@@ -1,6 +1,6 @@
 -- The least mark over the places that a block owes, and blocks in which nothing faults.
-use Rattle.std.proofs.Common.{◌≡◌, ℕ, zero, suc, ◌+◌, ◌<◌, ◌≤◌, Bool, true, false, cond, nat_lt}
-use Rattle.std.proofs.Common.{List, [], ◌∷◌, ◌++◌, length, get_or, None, refl, sym, ap}
+use Rattle.std.proofs.Common.{◌≡◌, ℕ, zero, suc, ◌+◌, ◌<◌, ◌≤◌, Bool, true, false, cond, nat_lt, nat_eq, ◌&&◌}
+use Rattle.std.proofs.Common.{List, [], ◌∷◌, ◌++◌, length, get_or, Some, None, refl, sym, ap}
 use Rattle.std.proofs.Common.{ap₂, ◌∙◌, arith}
 use Rattle.std.specs.Prelude.{min}
 use Rattle.std.proofs.lemmas.Bool.Decides.{nat_tests}
@@ -11,11 +11,19 @@ use Rattle.trips_isa.specs.Tables.{deepest}
 use Rattle.trips_isa.specs.Blocks.{is_read, slot_at}
 use Rattle.trips_isa.specs.Places.{in_mask}
 use Rattle.block_cases.proofs.Steady.{deepest_is}
-use Rattle.trips_isa.specs.declared.operands.Operands.TheVariants.{Words}
+use Rattle.trips_isa.specs.declared.operands.Operands.TheVariants.{Missing, Nulls, Words}
 use Rattle.trips_isa.specs.Marks.{mark_by, least, mark_at, mark_given, mark_of, writes_to, numbers_to, owed}
 use Rattle.trips_isa.specs.Marks.{mask_places}
 use Rattle.trips_isa.specs.Marks.{least_at, cause}
-use Rattle.block_atomic.specs.MarkSlots.{IsTold, slot_marked}
+use Rattle.trips_isa.specs.declared.block.Inst.{Inst}
+use Rattle.trips_isa.specs.declared.form.Form.{Form}
+use Rattle.trips_isa.specs.declared.form.Form.TheVariants.{General, Immediate, Load, Store, Branch}
+use Rattle.trips_isa.specs.declared.form.Form.TheVariants.{Constant}
+use Rattle.trips_isa.specs.declared.operands.Operands.{Operands}
+use Rattle.trips_isa.specs.Forms.{form_of, role_of, takes_left, takes_right}
+use Rattle.trips_isa.specs.Operands.{operands, is_guarded}
+use Rattle.trips_isa.specs.Faults.{divides, own_fault, fault_in}
+use Rattle.block_atomic.specs.MarkSlots.{IsTold, slot_marked, can_fault, can_fault_in}
 use Rattle.block_cases.proofs.Fixed.{still}
 use Rattle.block_cases.proofs.MarkLemmas.{marks_pulled}
 use Rattle.block_cases.proofs.CleanLemmas.{place_unmarked, least_none}
@@ -156,3 +164,55 @@ own_last own l r ml mr mp = sym
     (least_assoc mp (least ml (least mr 0)) (own l r)
     ∙ ap (least mp) (least_assoc ml (least mr 0) (own l r)
     ∙ ap (λ z. least ml (least z (own l r))) (least_zero mr)))
+
+-- what cannot fault ----------------------------------------------------------------------------
+
+no_own : (i : Inst) (l r : ℕ) → can_fault i.op ≡ false → own_fault (Some i) l r ≡ 0
+no_own i l r e = go (form_of i.op) e
+  where
+    undivided : (v w : Bool) → v ≡ false → cond {A = ℕ} (v && w) 1 0 ≡ 0
+    undivided true w k = absurd (cc)
+    undivided false true k = refl
+    undivided false false k = refl
+
+    go : (t : Form) → can_fault_in t i.op ≡ false → fault_in t i l r ≡ 0
+    go General k = undivided (divides i.op) (nat_eq r 0) k
+    go Immediate k = refl
+    go Constant k = refl
+    go Branch k = refl
+    go Load k = absurd (cc)
+    go Store k = absurd (cc)
+
+no_mark_by : (own : ℕ → ℕ → ℕ) (o : Operands) (a b p : Bool) → ((l r : ℕ) → own l r ≡ 0)
+    → mark_by own o (cond a 0 0) (cond b 0 0) (cond p 0 0) ≡ 0
+no_mark_by own Missing a b p h = refl
+no_mark_by own (Nulls x y) a b p h = go a b p x y
+  where
+    go : (a b p x y : Bool) → least (cond p 0 0) (least (cond x (cond a 0 0) 0)
+        (cond y (cond b 0 0) 0)) ≡ 0
+    go a b p x y = ap₂ least (nought p) (ap₂ least (inner x a) (inner y b))
+      where
+        nought : (v : Bool) → cond {A = ℕ} v 0 0 ≡ 0
+        nought true = refl
+        nought false = refl
+
+        inner : (v w : Bool) → cond {A = ℕ} v (cond w 0 0) 0 ≡ 0
+        inner true true = refl
+        inner true false = refl
+        inner false w = refl
+no_mark_by own (Words l r) a b p h = go a b p
+  where
+    nought : (v : Bool) → cond {A = ℕ} v 0 0 ≡ 0
+    nought true = refl
+    nought false = refl
+
+    go : (a b p : Bool) → least (cond p 0 0) (least (cond a 0 0) (least (cond b 0 0) (own l r))) ≡ 0
+    go a b p = ap₂ least (nought p) (ap₂ least (nought a) (ap₂ least (nought b) (h l r)))
+
+-- an instruction that cannot fault has no own mark
+pub cannot_fault : (pull : ℕ → Answer) (j : ℕ) (i : Inst) (t : Answer) → can_fault i.op ≡ false
+    → slot_marked pull (λ q. 0) j (Some i) t ≡ 0
+cannot_fault pull j i None e = refl
+cannot_fault pull j i (Some t) e = no_mark_by (own_fault (Some i))
+    (operands (role_of i.op) (pull j) (pull (128 + j))) (takes_left (role_of i.op))
+    (takes_right (role_of i.op)) (is_guarded i.sense) (λ l r. no_own i l r e)

@@ -1,13 +1,17 @@
 -- A block slot by slot, for the code: what it is told of a table of tokens, and the mark at a place.
 use Rattle.std.specs.Prelude.{◌≡◌, ℕ, suc, ◌+◌, ◌<◌, Bool, true, false, cond, List, [], ◌∷◌, length}
 use Rattle.std.specs.Prelude.{Option, Some, None, slice_index_or}
+use Rattle.trips_isa.specs.declared.op.Op.{Op}
+use Rattle.trips_isa.specs.declared.form.Form.{Form}
+use Rattle.trips_isa.specs.declared.form.Form.TheVariants.{General, Load, Store}
 use Rattle.trips_isa.specs.declared.block.Inst.{Inst}
 use Rattle.trips_isa.specs.declared.block.ReadSlot.{ReadSlot}
 use Rattle.trips_isa.specs.declared.block.Block.{Block}
 use Rattle.trips_isa.specs.Rule.{Answer}
 use Rattle.trips_isa.specs.Places.{targets, names, read_node, inst_node}
 use Rattle.trips_isa.specs.Blocks.{at_place, is_read, slot_at}
-use Rattle.trips_isa.specs.Faults.{own_fault}
+use Rattle.trips_isa.specs.Forms.{form_of}
+use Rattle.trips_isa.specs.Faults.{divides, own_fault}
 use Rattle.trips_isa.specs.Marks.{node_mark}
 
 -- lists that hold the tokens of the slots, and those at the operands of each instruction, tell of a
@@ -48,6 +52,16 @@ reads_mark (r ∷ rs) q rest = cond (names (targets (read_node r)) q) 0 (reads_m
 abbrev pub mark_placed : Block → List Answer → List ℕ → ℕ → ℕ
 mark_placed b table marks q = reads_mark b.reads.items q (slots_mark
     (λ j. slice_index_or table j None) (λ j. slice_index_or marks j 0) q 0 b.insts.items)
+
+-- whether an operation can fault: a division, a load and a store can
+abbrev pub can_fault_in : Form → Op → Bool
+can_fault_in General op = divides op
+can_fault_in Load op = true
+can_fault_in Store op = true
+can_fault_in _ op = false
+
+abbrev pub can_fault : Op → Bool
+can_fault op = can_fault_in (form_of op) op
 
 -- the mark of slot j, of the tokens and the marks at its places
 abbrev pub slot_marked : (ℕ → Answer) → (ℕ → ℕ) → ℕ → Option Inst → Answer → ℕ

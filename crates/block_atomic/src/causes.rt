@@ -7,12 +7,13 @@ ghost use Rattle.trips_isa.specs.Rule.{Answer};
 ghost use Rattle.trips_isa.specs.Places.{in_mask};
 ghost use Rattle.trips_isa.specs.Faults.{own_fault};
 ghost use Rattle.trips_isa.specs.Marks.{fired_mark, least_at, writes_to, mask_places, owed, cause};
-ghost use Rattle.block_atomic.specs.MarkSlots.{IsTold, slot_marked};
+ghost use Rattle.block_atomic.specs.MarkSlots.{IsTold, slot_marked, can_fault};
+ghost use Rattle.trips_isa.specs.Faults.{divides};
 
 use crate::mark_rounds::settle;
 use trips_isa::{
-    Block, EXIT, FIRST_STORE, FIRST_WRITE, Inst, PLACES, Token, least, mark_by, operands_of,
-    role_of,
+    Block, EXIT, FIRST_STORE, FIRST_WRITE, Form, Inst, Op, PLACES, Token, form_of, least, mark_by,
+    operands_of, role_of,
 };
 
 // Whether the mask has this store number.
@@ -83,7 +84,26 @@ fn fired_fault(places: &[Option<Token>], slot: usize, inst: Inst) -> u8
     mark_by(inst, operands, 0, 0, 0)
 }
 
+// Whether an operation divides.
+fn divides(op: Op) -> bool
+    ensures { result ≡ divides op }
+{
+    matches!(op, Op::Divs | Op::Divu)
+}
+
+// Whether an operation can fault.
+fn can_fault(op: Op) -> bool
+    ensures { result ≡ can_fault op }
+{
+    match form_of(op) {
+        Form::General => divides(op),
+        Form::Load | Form::Store => true,
+        Form::Immediate | Form::Branch | Form::Constant => false,
+    }
+}
+
 // The own fault of what a slot gives.
+#[tactic(auto, using(crate::proofs::CauseLemmas::cannot_fault))]
 fn slot_fault(
     places: &[Option<Token>],
     slot: usize,
@@ -98,7 +118,11 @@ fn slot_fault(
     if let Some(inst) = inst
         && let Some(_token) = answer
     {
-        fired_fault(places, slot, inst)
+        if can_fault(inst.op) {
+            fired_fault(places, slot, inst)
+        } else {
+            0
+        }
     } else {
         0
     }

@@ -1,28 +1,28 @@
 -- The nodes before the empty slots at the end are good, or have a fault, as all nodes are or have.
-use Rattle.std.proofs.Common.{◌≡◌, ℕ, zero, suc, ◌+◌, ◌-◌, ◌<◌, ◌≤◌, Bool, true, false, ◌||◌, ◌&&◌}
-use Rattle.std.proofs.Common.{nat_lt, nat_le, ◌==◌, List, [], ◌∷◌, ◌++◌, map, length, take, get_or}
-use Rattle.std.proofs.Common.{Option, Some, None, slice_get, refl, sym, ap, ap₂, ◌∙◌, subst, arith}
+use Rattle.std.proofs.Common.{◌≡◌, ℕ, zero, suc, ◌+◌, ◌<◌, ◌≤◌, Bool, true, false, ◌||◌, ◌&&◌}
+use Rattle.std.proofs.Common.{nat_lt, nat_le, ◌==◌, List, [], ◌∷◌, length, take}
+use Rattle.std.proofs.Common.{Some, None, slice_get, refl, sym, ap, ap₂, ◌∙◌, subst, arith}
 use Rattle.std.proofs.Common.{true≢false}
-use Rattle.std.specs.Prelude.{Result, Ok, Err, IfOk, IfErr}
 use Rattle.trips_isa.specs.declared.node.Node.{Node}
-use Rattle.block_cases.specs.Nodes.{targets, names, stores_below, feeds, Edge, Walk, Step, Then}
+use Rattle.trips_isa.specs.declared.places.TheConstants.{NO_PLACE}
+use Rattle.block_cases.specs.Nodes.{names, stores_below, feeds, Edge, Walk, Step, Then}
 use Rattle.block_cases.specs.Nodes.{HasCycle}
 use Rattle.block_cases.specs.Cases.{cases, GetsTwo, GetsNone}
 use Rattle.block_cases.specs.Good.{Good}
 use Rattle.block_check.specs.declared.fault.NodeFault.{NodeFault}
 use Rattle.block_check.specs.declared.fault.NodeFault.TheVariants as net
 use Rattle.block_check.specs.inside.Judged.{IsFault}
-use Rattle.block_check.specs.inside.Pass.{InPlace, AllInPlace, IsSpare, Spare}
+use Rattle.block_check.specs.inside.Pass.{AllInPlace, IsSpare, Spare}
 use Rattle.block_check.proofs.Lists.{not_true}
 use Rattle.block_check.proofs.Cycles.{eq_is}
 use Rattle.block_check.proofs.Cutting.{get_low, get_high, some_cut, some_full, cases_cut}
 
 -- no place from which a node takes a token, or whose store it sees, is the number of no place
 pub record Hears (m : Node) : Type 0 where
-  pub left : 700 ≡ m.slot → ⊥
-  pub right : 700 ≡ 128 + m.slot → ⊥
-  pub guard : 700 ≡ 256 + m.slot → ⊥
-  pub below : m.below ≤ 700
+  pub left : NO_PLACE ≡ m.slot → ⊥
+  pub right : NO_PLACE ≡ 128 + m.slot → ⊥
+  pub guard : NO_PLACE ≡ 256 + m.slot → ⊥
+  pub below : m.below ≤ NO_PLACE
 
 -- the nodes from u on are empty slots
 pub record CutAt (ns : List Node) (u : ℕ) : Type 0 where
@@ -31,23 +31,23 @@ pub record CutAt (ns : List Node) (u : ℕ) : Type 0 where
   pub hears : (x : ℕ) (m : Node) → slice_get ns x ≡ Some m → Hears m
 
 -- an empty slot feeds nothing
-unnamed : (a b q : ℕ) → a ≡ 700 → b ≡ 700 → (700 ≡ q → ⊥) → names (a ∷ b ∷ []) q ≡ false
+unnamed : (a b q : ℕ) → a ≡ NO_PLACE → b ≡ NO_PLACE → (NO_PLACE ≡ q → ⊥) → names (a ∷ b ∷ []) q ≡ false
 unnamed a b q x y h = ap₂ (λ v w. v || (w || false)) (apart a x) (apart b y)
   where
-    apart : (t : ℕ) → t ≡ 700 → (t == q) ≡ false
+    apart : (t : ℕ) → t ≡ NO_PLACE → (t == q) ≡ false
     apart t e = not_true _ (λ i. h (sym e ∙ eq_is t q i))
 
-unseen : (a b m : ℕ) → a ≡ 700 → b ≡ 700 → m ≤ 700 → stores_below (a ∷ b ∷ []) m ≡ false
+unseen : (a b m : ℕ) → a ≡ NO_PLACE → b ≡ NO_PLACE → m ≤ NO_PLACE → stores_below (a ∷ b ∷ []) m ≡ false
 unseen a b m x y h = ap₂ (λ v w. v || (w || false)) (late a x) (late b y)
   where
-    high : (t : ℕ) → t ≡ 700 → nat_lt t m ≡ false
+    high : (t : ℕ) → t ≡ NO_PLACE → nat_lt t m ≡ false
     high t e = let le : m ≤ t = omega arith in grind arith
 
     none : (v : Bool) → (v && false) ≡ false
     none true = refl
     none false = refl
 
-    late : (t : ℕ) → t ≡ 700 → (nat_le 416 t && nat_lt t m) ≡ false
+    late : (t : ℕ) → t ≡ NO_PLACE → (nat_le 416 t && nat_lt t m) ≡ false
     late t e = ap (λ v. nat_le 416 t && v) (high t e) ∙ none (nat_le 416 t)
 
 spare_feeds : (n m : Node) → IsSpare n → Hears m → feeds n m ≡ false

@@ -1,5 +1,5 @@
 -- Every text is accepted or refused.
-use Rattle.std.proofs.Common.{◌≡◌, ◌⊎◌, inl, inr, ℕ, List, Some, None, subst, sym}
+use Rattle.std.proofs.Common.{◌≡◌, ◌⊎◌, inl, inr, ℕ, List, None, subst, sym}
 use Rattle.c_tree.specs.declared.tree.Program.{Program}
 use Rattle.c_tree.specs.declared.typed.TypedProgram.{TypedProgram}
 use Rattle.c_lex.specs.declared.fault.LexFault.TheVariants as lex
@@ -10,14 +10,15 @@ use Rattle.c_lex.proofs.Answered.{answered}
 use Rattle.c_grammar.specs.Answers.{Answer, tree, syntax, too_deep, Answers}
 use Rattle.c_grammar.proofs.OneAnswer.{one_answer}
 use Rattle.c_parse.specs.declared.unit.ParseFault.TheVariants as parse
-use Rattle.c_type_expr.specs.declared.fault.TypeFault.{TypeFault}
+use Rattle.c_type_expr.specs.declared.fault.TypeFault.TheVariants as typing
 use Rattle.c_type.specs.Programs.{program_fault, program_tree}
 use Rattle.c_type_rules.proofs.Decided.{decided}
 use Rattle.c_type_rules.proofs.GoodUnits.{unit_good}
 use Rattle.c_type_rules.proofs.UnitsComplete.{accepts_typed}
 use Rattle.c_front.specs.declared.refusal.Refusal.{Refusal}
-use Rattle.c_front.specs.declared.refusal.Refusal.TheVariants.{Lex, Parse, Typing}
-use Rattle.c_front.specs.Fronts.{most_tokens, HasTree, HasTypes, HasNoTypes, IsAccepted, IsRefused}
+use Rattle.c_front.specs.declared.refusal.Refusal.TheVariants.{Lex, Parse, Typing, Memory}
+use Rattle.c_front.specs.Fronts.{most_tokens, HasTree, HasTypes, MayHaveNoTypes, IsAccepted, IsRefused}
+use Rattle.c_front.specs.Stops.{MayStop}
 use Rattle.c_front.specs.Laws.{EveryTextAnswers}
 
 -- accepted or refused
@@ -61,6 +62,18 @@ pub has_types : (p : Program) (t : TypedProgram) → program_fault p ≡ None �
     → HasTypes p t
 has_types p t n e = subst (λ (t : TypedProgram). HasTypes p t) (sym e) (accepts_typed p n)
 
--- an error that is given is the tree's fault
-pub has_no_types : (p : Program) (e : TypeFault) → program_fault p ≡ Some e → HasNoTypes p e
-has_no_types p e h = unit_good p e h
+-- a refusal that is given says the tree's fault, unless memory runs out
+pub has_no_types : (p : Program) (r : Refusal) → MayStop p r → MayHaveNoTypes p r
+has_no_types p (Typing (typing.Unknown l)) h = unit_good p (typing.Unknown l) h
+has_no_types p (Typing (typing.Twice l)) h = unit_good p (typing.Twice l) h
+has_no_types p (Typing (typing.Mismatch l)) h = unit_good p (typing.Mismatch l) h
+has_no_types p (Typing (typing.Arity l)) h = unit_good p (typing.Arity l) h
+has_no_types p (Typing typing.NoMain) h = unit_good p typing.NoMain h
+has_no_types p (Typing (typing.TooManyScalars l)) h = unit_good p (typing.TooManyScalars l) h
+has_no_types p (Typing (typing.TooManyParams l)) h = unit_good p (typing.TooManyParams l) h
+has_no_types p (Typing (typing.Need l)) h = unit_good p (typing.Need l) h
+has_no_types p (Typing (typing.TooLarge l)) h = unit_good p (typing.TooLarge l) h
+has_no_types p (Typing typing.Memory) h = absurd h
+has_no_types p (Lex e) h = absurd h
+has_no_types p (Parse e) h = absurd h
+has_no_types p Memory h = tt

@@ -1,7 +1,9 @@
-ghost use Rattle.std.specs.Prelude.{◌≡◌, ◌<◌, length, IfOk, IfErr};
+ghost use Rattle.std.specs.Prelude.{◌≡◌, ◌<◌, length, None, IfOk, IfErr};
 ghost use Rattle.c_lex.specs.Answers.{Lexed};
 ghost use Rattle.c_front.specs.Fronts.{most_tokens, HasTree, HasTypes, IsAccepted};
 ghost use Rattle.c_front.specs.Fronts.{MayBeRefused, MayHaveNoTypes};
+ghost use Rattle.c_front.specs.Stops.{MayStop};
+ghost use Rattle.c_type.specs.Programs.{program_fault, program_tree};
 
 use crate::refusal::Refusal;
 use c_lex::{LexFault, lex};
@@ -36,15 +38,27 @@ pub fn read(alloc: Global, text: &[u8]) -> Result<Program, Refusal>
     }
 }
 
-/// The typed program of a tree, or the refusal of the typing.
-pub fn type_read(alloc: Global, tree: Program) -> Result<TypedProgram, Refusal>
-    ensures ok { IfOk result (HasTypes tree) }
-    ensures err { IfErr result (MayHaveNoTypes tree) }
+// What the typing answers, with want of memory as a refusal of its own.
+fn typed(alloc: Global, tree: Program) -> Result<TypedProgram, Refusal>
+    ensures ok { IfOk result (λ program. (program_fault tree ≡ None)
+        × (program ≡ program_tree tree)) }
+    ensures err { IfErr result (MayStop tree) }
 {
     match type_program(alloc, tree) {
         Ok(program) => Ok(program),
         Err(TypeFault::Memory) => Err(Refusal::Memory),
         Err(fault) => Err(Refusal::Typing(fault)),
+    }
+}
+
+/// The typed program of a tree, or the refusal of the typing.
+pub fn type_read(alloc: Global, tree: Program) -> Result<TypedProgram, Refusal>
+    ensures ok { IfOk result (HasTypes tree) }
+    ensures err { IfErr result (MayHaveNoTypes tree) }
+{
+    match typed(alloc, tree) {
+        Ok(program) => Ok(program),
+        Err(refusal) => Err(refusal),
     }
 }
 

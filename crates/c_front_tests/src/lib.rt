@@ -8,6 +8,8 @@ mod lex_tests;
 #[cfg(test)]
 mod parse_tests;
 #[cfg(test)]
+mod type_constant_rows;
+#[cfg(test)]
 mod type_rows;
 #[cfg(test)]
 mod type_tests;

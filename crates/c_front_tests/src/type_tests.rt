@@ -1,5 +1,6 @@
 //! The rows of units, built as trees.
 
+use crate::type_constant_rows::CONSTANTS;
 use crate::type_rows::{Body, Item, ROWS, Row, Typed, Value};
 use base::{Boxed, Items};
 use c_tree::{
@@ -174,6 +175,7 @@ fn assert_rows(rt: &impl Abort, alloc: Global, rows: &[Row]) {
 #[test]
 fn units_have_their_typing_or_their_fault(rt: HostRuntime) {
     assert_rows(&rt, rt.alloc(), &ROWS);
+    assert_rows(&rt, rt.alloc(), &CONSTANTS);
 }
 
 /// The first value of the first global.

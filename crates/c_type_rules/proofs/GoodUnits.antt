@@ -128,9 +128,10 @@ body_good v s = good_by (a_body v s) (follows (a_body v s)) (body_each v s (out-
 
 param_good : (d : Bool) (G : Scope) (seen : List Param) (p : Param) → Good (a_param d G seen p)
 param_good d G seen p =
-    good_by (a_param d G seen p) refl
-    (test_good _ (sane_param d G seen p.name p.line),
-      (test_good _ (sane_unless (nat_lt (length seen) 8) (TooManyParams p.line) tt), tt))
+    good_by (a_param d G seen p) refl (
+      test_good _ (sane_param d G seen p.name p.line),
+      (test_good _ (sane_unless (nat_lt (length seen) 8) (TooManyParams p.line) tt), tt),
+    )
 
 params_good : (d : Bool) (G : Scope) (seen ps : List Param) → Good (some_params d G seen ps)
 params_good d G seen [] = good_by (some_params d G seen []) refl tt
@@ -144,9 +145,10 @@ values_good G k (e ∷ es) =
 
 value_each : (s : ArraySize) (k : Kind) (w : List ℕ) (init : List Expr) (l : ℕ) (U : FileScope)
     → AllGood (value_parts s k w init l U)
-value_each s k w init l U =
-    (test_good _ (sane_place (count_of s init) k w l U),
-      (values_good (global_names s k w U) k init, (test_good _ (sane_unless _ (Mismatch l) tt), tt)))
+value_each s k w init l U = (
+  test_good _ (sane_place (count_of s init) k w l U),
+  (values_good (global_names s k w U) k init, (test_good _ (sane_unless _ (Mismatch l) tt), tt)),
+)
 
 global_each : (s : ArraySize) (k : Kind) (w : List ℕ) (init : List Expr) (l : ℕ) (U : FileScope)
     → AllGood (global_parts s k w init l U)
@@ -158,20 +160,25 @@ global_each (size.Sized e) k w init l U = (size_good U.names e, value_each (size
 item_each : (unit : List Top) (U : FileScope) (l : ℕ) (n : TopNode) → AllGood (item_parts unit U l n)
 item_each unit U l Include = (test_good _ (sane_include U.names l), tt)
 item_each unit U l (Global k w s init) = global_each s k w init l U
-item_each unit U l (Func given w params None) =
-    (params_good false U.names [] params,
-      (test_good _ (sane_function false given (map slot_of params) (look_up U.names w) l), tt))
-item_each unit U l (Func given w params (Some s)) =
-    (params_good true U.names [] params,
-      (test_good _ (sane_function true given (map slot_of params) (look_up U.names w) l),
-        (body_good (entry (table unit) w given params U.names) s, tt)))
+item_each unit U l (Func given w params None) = (
+  params_good false U.names [] params,
+  (test_good _ (sane_function false given (map slot_of params) (look_up U.names w) l), tt),
+)
+item_each unit U l (Func given w params (Some s)) = (
+  params_good true U.names [] params,
+  (
+    test_good _ (sane_function true given (map slot_of params) (look_up U.names w) l),
+    (body_good (entry (table unit) w given params U.names) s, tt),
+  ),
+)
 
 items_good : (unit : List Top) (U : FileScope) (ts : List Top) → Good (some_items unit U ts)
 items_good unit U [] = good_by (some_items unit U []) refl tt
 items_good unit U (t ∷ ts) =
-    good_by (some_items unit U (t ∷ ts)) refl
-    (good_by (an_item unit U t) (follows (an_item unit U t)) (item_each unit U t.line t.node),
-      (items_good unit (item_after (table unit) t U) ts, tt))
+    good_by (some_items unit U (t ∷ ts)) refl (
+      good_by (an_item unit U t) (follows (an_item unit U t)) (item_each unit U t.line t.node),
+      (items_good unit (item_after (table unit) t U) ts, tt),
+    )
 
 -- the fault that the folds find in a unit is its first one
 pub unit_good : (p : Program) → Good (a_unit p)

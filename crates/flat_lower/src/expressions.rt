@@ -28,6 +28,7 @@ use c_tree::{BinaryOp, BumpOp, Callee, Kind, Place, TypedExpr, TypedNode, UnaryO
 use ir_forms::{Arg, FlatStmt};
 use std::alloc::Global;
 
+// An operand at a depth.
 #[cycle(value)]
 #[inline(never)]
 fn put_operand(
@@ -46,6 +47,7 @@ fn put_operand(
     Ok(())
 }
 
+// A conversion after its operand.
 #[cycle(value)]
 #[inline(never)]
 fn put_conversion(
@@ -64,6 +66,7 @@ fn put_conversion(
     Ok(())
 }
 
+// The value of an element after its index.
 #[cycle(value)]
 #[inline(never)]
 fn put_element_value(
@@ -106,6 +109,7 @@ fn put_args(
     Ok(vars)
 }
 
+// A call after its arguments.
 #[cycle(value)]
 #[inline(never)]
 fn put_called(
@@ -143,6 +147,7 @@ fn put_index(
     }
 }
 
+// `++` and `--` after the index of an element.
 #[cycle(value)]
 #[inline(never)]
 fn put_bumping(
@@ -261,6 +266,7 @@ fn put_right(
     }
 }
 
+// An operation on two operands.
 #[cycle(value)]
 #[inline(never)]
 fn put_both(
@@ -280,6 +286,7 @@ fn put_both(
     Ok(())
 }
 
+// A choice between two legs.
 #[cycle(value)]
 #[inline(never)]
 fn put_choice(
@@ -301,6 +308,7 @@ fn put_choice(
     Ok(())
 }
 
+// An assignment.
 #[cycle(value)]
 #[inline(never)]
 fn put_assignment(
@@ -324,6 +332,7 @@ fn put_assignment(
     Ok(())
 }
 
+// Both sides of a comma, the left one without its value.
 #[cycle(value)]
 #[inline(never)]
 fn put_comma(

@@ -56,8 +56,8 @@ opened n x e h = subst plain.LevelHasWords (ap out-StmtNode (sym e) ∙ out-roll
 
 -- the same of the first part of a `for`
 first_opened : (n : ForInit) (x : untyped.Beginning) → roll-ForInit x ≡ n
-    → untyped.BeginningHasWords (out-ForInit n) → untyped.BeginningHasWords x
-first_opened n x e h = subst untyped.BeginningHasWords (ap out-ForInit (sym e) ∙ out-roll-ForInit x) h
+    → plain.BeginningHasWords (out-ForInit n) → plain.BeginningHasWords x
+first_opened n x e h = subst plain.BeginningHasWords (ap out-ForInit (sym e) ∙ out-roll-ForInit x) h
 
 -- what has words has parts that have words
 in_declare : {k : Kind} {w : List ℕ} {a : ArraySize} {init : Option Expr}
@@ -90,7 +90,7 @@ in_do (plain.do_loop h h') = (h, h')
 
 -- the parts of a `for`
 record OfFor (i : ForInit) (c p : Option Expr) (s : Stmt) : Type 0 where
-  beginning : untyped.BeginningHasWords (out-ForInit i)
+  beginning : plain.BeginningHasWords (out-ForInit i)
   test : plain.ExprIfHasWords c
   progress : plain.ExprIfHasWords p
   body : plain.StmtHasWords s
@@ -105,10 +105,10 @@ in_return (plain.returns h) = h
 in_else : {s : Stmt} → plain.ElseHasWords (Some s) → plain.StmtHasWords s
 in_else (plain.with_else h) = h
 
-in_first : {e : Expr} → untyped.BeginningHasWords (First e) → plain.ExprHasWords e
+in_first : {e : Expr} → plain.BeginningHasWords (First e) → plain.ExprHasWords e
 in_first (plain.first h) = h
 
-in_locals : {ss : List Stmt} → untyped.BeginningHasWords (Locals ss) → plain.StmtsHaveWords ss
+in_locals : {ss : List Stmt} → plain.BeginningHasWords (Locals ss) → plain.StmtsHaveWords ss
 in_locals (plain.locals h) = h
 
 first_stmt : {s : Stmt} {ss : List Stmt} → plain.StmtsHaveWords (s ∷ ss) → plain.StmtHasWords s
@@ -126,8 +126,8 @@ made n x e h = subst words.LevelHasWords (sym (out-roll-TypedStmt x) ∙ ap out-
 
 -- the same of the first part of a `for`
 first_made : (n : TypedForInit) (x : level.Beginning) → roll-TypedForInit x ≡ n
-    → typed.BeginningHasWords x → typed.BeginningHasWords (out-TypedForInit n)
-first_made n x e h = subst typed.BeginningHasWords
+    → words.BeginningHasWords x → words.BeginningHasWords (out-TypedForInit n)
+first_made n x e h = subst words.BeginningHasWords
     (sym (out-roll-TypedForInit x) ∙ ap out-TypedForInit e) h
 
 -- STATEMENTS
@@ -194,7 +194,7 @@ mutual
 
   -- the same of the first part of a `for`
   begin_has : (b : Bool) (v : State) (i : ForInit) (j : TypedForInit) (w : State) → Begins b v i j w
-      → untyped.BeginningHasWords (out-ForInit i) → typed.BeginningHasWords (out-TypedForInit j)
+      → plain.BeginningHasWords (out-ForInit i) → words.BeginningHasWords (out-TypedForInit j)
   begin_has _ _ _ _ _ typing.no_first x = first_made _ _ typed_init.rolls-Nothing words.nothing
   begin_has _ _ _ _ _ (typing.first_value {v = v} {e = e} {t = t} d) x =
       first_made _ _ (typed_init.rolls-First t)

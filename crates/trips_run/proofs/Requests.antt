@@ -22,15 +22,16 @@ AreCounted None = Unit {0}
 AreCounted (Some options) = 0 < most_of options.count
 
 number_counts : (most : ℕ) (word : List ℕ) (n : ℕ) → number_to most word ≡ Some n → 0 < n
-number_counts most word n e = go (is_number word) (nat_le 1 v) (nat_le v most) refl e
+number_counts most word n e =
+    go (value_from 0 word) (is_number word) (nat_le 1 (value_from 0 word))
+    (nat_le (value_from 0 word) most) refl e
   where
-    v : ℕ
-    v = value_from 0 word
-    go : (x y z : Bool) → nat_le 1 v ≡ y → cond (x && (y && z)) (Some v) None ≡ Some n → 0 < n
-    go true true true is e = let same : v ≡ n = cc in grind (arith, nat_tests)
-    go true true false is e = absurd (cc)
-    go true false z is e = absurd (cc)
-    go false y z is e = absurd (cc)
+    go : (v : ℕ) (x y z : Bool) → nat_le 1 v ≡ y → cond (x && (y && z)) (Some v) None ≡ Some n
+        → 0 < n
+    go v true true true is e = let same : v ≡ n = cc in grind (arith, nat_tests)
+    go v true true false is e = absurd (cc)
+    go v true false z is e = absurd (cc)
+    go v false y z is e = absurd (cc)
 
 count_made : (options : Options) (o : Option ℕ) → ((n : ℕ) → o ≡ Some n → 0 < n)
     → AreCounted (option_map (λ n. record options { count = Some n }) o)
@@ -39,32 +40,32 @@ count_made options None some = tt
 count_made options (Some n) some = some n refl
 
 with_count_counts : (options : Options) (value : List ℕ) → AreCounted (with_count options value)
+unfolding AreCounted
 with_count_counts options value = go (is_some options.count)
   where
     go : (b : Bool) → AreCounted (cond b None
         (option_map (λ n. record options { count = Some n }) (number_to most_count value)))
-    unfolding AreCounted
     go true = tt
     go false = count_made options (number_to most_count value)
         (λ n e. number_counts most_count value n e)
 
 with_input_counts : (options : Options) (value : List ℕ) → 0 < most_of options.count
     → AreCounted (with_input options value)
+unfolding AreCounted
 with_input_counts options value some = go (is_some options.input)
   where
     go : (b : Bool) → AreCounted (cond b None (Some (record options { input = Some value })))
-    unfolding AreCounted
     go true = tt
     go false = some
 
 option_counts : (name : List ℕ) (options : Options) (option value : List ℕ)
     → 0 < most_of options.count → AreCounted (with_option name options option value)
+unfolding AreCounted
 option_counts name options option value some =
     go (is_option value) (bytes_eq option (codes "--input")) (bytes_eq option name)
   where
     go : (x y z : Bool) → AreCounted (cond x None (cond y (with_input options value)
         (cond z (with_count options value) None)))
-    unfolding AreCounted
     go true y z = tt
     go false true z = with_input_counts options value some
     go false false true = with_count_counts options value
@@ -108,34 +109,34 @@ eval_made file None some = tt
 eval_made file (Some options) some = some
 
 run_goes : (file : List ℕ) (words : List (List ℕ)) → GoesOn (run_with file words)
+unfolding GoesOn
 run_goes file words = go (is_no_file file)
   where
     go : (b : Bool) → GoesOn (cond b None (option_map (λ (options : Options). run_of file options)
         (options_of (codes "--blocks") words)))
-    unfolding GoesOn
     go true = tt
     go false = run_made file (options_of (codes "--blocks") words)
         (options_count (codes "--blocks") words)
 
 eval_goes : (file : List ℕ) (words : List (List ℕ)) → GoesOn (eval_with file words)
+unfolding GoesOn
 eval_goes file words = go (starts_with nat_eq file (codes "-"))
   where
     go : (b : Bool) → GoesOn (cond b None
         (option_map (λ (options : Options). evaluation_of file options)
         (options_of (codes "--steps") words)))
-    unfolding GoesOn
     go true = tt
     go false = eval_made file (options_of (codes "--steps") words)
         (options_count (codes "--steps") words)
 
 command_goes : (command file : List ℕ) (words : List (List ℕ))
     → GoesOn (commanded command file words)
+unfolding GoesOn
 command_goes command file words =
     go (bytes_eq command (codes "run")) (bytes_eq command (codes "eval"))
   where
     go : (x y : Bool) → GoesOn (cond x (run_with file words)
         (cond y (eval_with file words) None))
-    unfolding GoesOn
     go true y = run_goes file words
     go false true = eval_goes file words
     go false false = tt

@@ -26,6 +26,7 @@ use Rattle.trips_outside.specs.Outside.{Rose}
 use Rattle.trips_run.specs.declared.status.Status.{Status}
 use Rattle.trips_run.specs.declared.status.Status.TheVariants as status
 use Rattle.trips_run.specs.declared.answer.Answer.{Answer}
+use Rattle.trips_run.specs.declared.command_line.Work.{Work}
 use Rattle.trips_run.specs.declared.command_line.Work.TheVariants.{Run, Evaluate}
 use Rattle.trips_run.specs.declared.command_line.FileForm.{FileForm}
 use Rattle.trips_run.specs.declared.command_line.FileForm.TheVariants as form
@@ -171,7 +172,13 @@ formed_told : (text input : List ℕ) (most : ℕ) (tree : Program) (program : T
     → HasTypes tree program → returned tree ≡ number → IsRunOfForm number most input s report
     → IsDone Run form.Source most text input s report
 formed_told text input most tree program None s report has types is told =
-    inl (form_text, inr (record { tree = tree; program = program; has_tree = has; has_types = types; returns = is }, refl), told)
+    let out = record {
+      tree = tree;
+      program = program;
+      has_tree = has;
+      has_types = types;
+      returns = is;
+    } in inl (form_text, inr (out, refl), told)
 formed_told text input most tree program (Some n) s report has types is told =
     inr (n, record { tree = tree; has_tree = has; returns = is }, told)
 
@@ -242,6 +249,30 @@ pub no_image_told : (bytes input : List ℕ) (most : ℕ) (fault : ImageFault) (
 no_image_told bytes input most fault s report first told =
     inl (image_refusal fault, inl (fault, first, refl), told)
 
+-- the work -----------------------------------------------------------------------------------
+
+-- what `eval` does, of a request that evaluates
+pub evaluate_told : {E : Type 0} (work : Work) (how : FileForm) (most : ℕ)
+    (bytes seen input : List ℕ) (r : Result Answer E) → work ≡ Evaluate → seen ≡ input
+    → IfOk r (λ a. (f : FileForm) → IsDone Evaluate f most bytes seen a.status a.report.items)
+    → IfOk r (λ a. IsDone work how most bytes input a.status a.report.items)
+evaluate_told work how most bytes seen input (Err e) is same told = tt
+evaluate_told work how most bytes seen input (Ok a) is same told =
+    subst (λ (w : Work). IsDone w how most bytes input a.status a.report.items) (sym is)
+    (subst (λ (i : List ℕ). IsDone Evaluate how most bytes i a.status a.report.items) same
+    (told how))
+
+-- what `run` does with a file of this form
+pub run_form_told : {E : Type 0} (work : Work) (how form : FileForm) (most : ℕ)
+    (bytes input : List ℕ) (r : Result Answer E) → work ≡ Run → how ≡ form
+    → IfOk r (λ a. IsDone Run form most bytes input a.status a.report.items)
+    → IfOk r (λ a. IsDone work how most bytes input a.status a.report.items)
+run_form_told work how form most bytes input (Err e) is same told = tt
+run_form_told work how form most bytes input (Ok a) is same told =
+    subst (λ (w : Work). IsDone w how most bytes input a.status a.report.items) (sym is)
+    (subst (λ (f : FileForm). IsDone Run f most bytes input a.status a.report.items) (sym same)
+    told)
+
 -- the whole answer ----------------------------------------------------------------------------
 
 -- a count that rose in a part of a time rose in the whole
@@ -269,6 +300,17 @@ input_last : (input : Option (List ℕ)) (held : List ℕ → Option (List ℕ))
 input_last None held old now new loaded le h = h
 input_last (Some name) held old now new loaded le h =
     read_last (held name) old now new most_input_bytes loaded le h
+
+-- the answer for what reading the file came to
+pub loaded_told : {E : Type 0} (q : Request) (held : List ℕ → Option (List ℕ)) (rose : Type 0)
+    (limit : ℕ) (loaded : Loaded) (r : Result Answer E) → limit ≡ limit_of q.form
+    → IsRead (held q.file) rose limit loaded
+    → IfOk r (λ a. AfterReading loaded (λ bytes. IsAnswerBehind q held rose bytes a.status
+    a.report.items) a.status a.report.items)
+    → IfOk r (λ a. IsAnswer (Some q) held rose a.status a.report.items)
+loaded_told q held rose limit loaded (Err e) is h told = tt
+loaded_told q held rose limit loaded (Ok a) is h told =
+    (loaded, subst (λ (n : ℕ). IsRead (held q.file) rose n loaded) is h, told)
 
 -- the answer behind a file that was read
 pub behind_told : {E : Type 0} (q : Request) (held kept : List ℕ → Option (List ℕ))

@@ -8,8 +8,8 @@ use block_image::ImageFault;
 use c_lex::LexFault;
 use c_parse::ParseFault;
 use c_type::TypeFault;
-use std::alloc::{AllocError, Global};
 use isa_table::{put_number, put_spot};
+use std::alloc::{AllocError, Global};
 use trips_isa::Spot;
 
 // A fault's name and its line.

@@ -1,4 +1,3 @@
-use Rattle.std.proofs.Common.{get_or}
 use Rattle.block_check.proofs.Seeing.{seen_two, seen_low}
 use Rattle.block_check.proofs.search.see_node.Goals as goal
 

@@ -1,9 +1,9 @@
-use Rattle.std.proofs.Common.{◌≡◌, ◌≤◌, ℕ, get_or, take, min, length, arith, ap, sym, ◌∙◌, List}
+use Rattle.std.proofs.Common.{◌≡◌, ◌≤◌, ℕ, get_or, take, min, arith, ap, sym, ◌∙◌, List}
 use Rattle.std.proofs.lemmas.Option.{slice_get-get_or}
 use Rattle.block_cases.specs.Cases.{tokens}
 use Rattle.block_check.specs.inside.Pass.{tok_at}
 use Rattle.block_check.proofs.Adding.{blank}
-use Rattle.block_check.proofs.Seeing.{seen_more, seen_same, seen_low, tells_two, tells_none}
+use Rattle.block_check.proofs.Seeing.{seen_more, seen_same, tells_two, tells_none}
 use Rattle.block_check.proofs.Sparing.{tokens_spare}
 use Rattle.block_check.proofs.search.see_tokens.Goals as goal
 use Rattle.block_check.proofs.search.see_tokens.Goals.{then-is_present, else-is_present}

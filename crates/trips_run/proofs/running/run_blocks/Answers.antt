@@ -47,7 +47,7 @@ returns-in-Trap-clause-state c =
 
 pub returns-in-Trap-clause-ending : goal.returns-in-Trap-clause-ending
 returns-in-Trap-clause-ending c =
-    ap (λ n. ending.Trap n _) c.next.ensures.value
+    ap (λ n. ending.Trap n c.in-Trap.cause) c.next.ensures.value
     ∙ sym (ap (λ (r : State × Stepped). ending_of r.1 r.0.next)
     (stopped _ _ _ _ (Trap _) _ _ c.loop-turn-test.true tt c.loop-turn.invariant.so_far
     c.in-Trap.ensures.step))
