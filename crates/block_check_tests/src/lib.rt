@@ -9,3 +9,5 @@ mod making;
 mod place_tests;
 #[cfg(test)]
 mod rows;
+#[cfg(test)]
+mod target_tests;
