@@ -121,7 +121,10 @@ fn put_plain_value(
 {
     match &e.node {
         TypedNode::Assign {
-            op, left, right, ..
+            op,
+            left,
+            right,
+            ..
         } => put_assigned(code, alloc, places, *op, left.get(), right.get(), e),
         _ => put_value(code, alloc, places, 0, e),
     }
