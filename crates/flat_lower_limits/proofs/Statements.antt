@@ -55,7 +55,8 @@ module _ (fs : List Function) (c : Scope) (bytes : ℕ) (k : Option Kind) (x : C
 
   named_fits : (l : Expr) (j : ℕ) → named_scalar l ≡ Some j → FitsSide (length c.scalars) l
       → FitsVar (length c.scalars) j
-  named_fits (Name k (Scalar q)) j e t = subst (FitsVar (length c.scalars)) (cc e) t
+  named_fits (Name k (Scalar q)) j e t =
+      let same : q ≡ j = cc e in subst (FitsVar (length c.scalars)) same t
   named_fits (Name k (Global g)) j e t = absurd (cc e)
   named_fits (Name k (Array a)) j e t = absurd (cc e)
   named_fits _ j e t = absurd (cc e)
@@ -63,10 +64,12 @@ module _ (fs : List Function) (c : Scope) (bytes : ℕ) (k : Option Kind) (x : C
   simple_fits : (d : ℕ) (r : Expr) (b : Arg) → simple_arg r ≡ Some b → FitsExpr c d r
       → FitsArg (length c.scalars) b
   simple_fits d (Number None w) b e t = absurd t
-  simple_fits d (Number (Some k) w) b e t = subst (FitsArg (length c.scalars)) (cc e) t.1.below
+  simple_fits d (Number (Some k) w) b e t =
+      let same : Const w ≡ b = cc e in subst (FitsArg (length c.scalars)) same t.1.below
   simple_fits d (Name None p) b e t = absurd t
   simple_fits d (Name (Some k) (Scalar q)) b e t =
-      subst (FitsArg (length c.scalars)) (cc e) (name_place c k (Scalar q) t.1)
+      let same : Var q ≡ b = cc e in
+      subst (FitsArg (length c.scalars)) same (name_place c k (Scalar q) t.1)
   simple_fits d (Name (Some k) (Global g)) b e t = absurd (cc e)
   simple_fits d (Name (Some k) (Array a)) b e t = absurd (cc e)
   simple_fits d _ b e t = absurd (cc e)

@@ -25,3 +25,4 @@ pub mod SoundWhole
 pub mod Little
 pub mod Built
 pub mod Assigned
+pub mod Emits

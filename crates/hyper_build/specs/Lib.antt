@@ -13,4 +13,5 @@ pub mod Followed
 pub mod Whole
 pub mod Annotated
 pub mod Laws
+pub mod Emitted
 pub mod Smallness

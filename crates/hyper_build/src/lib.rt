@@ -3,7 +3,9 @@
 #![tactic(auto)]
 
 mod laws;
+mod operands;
 mod plan;
+mod rest;
 
 pub use laws::{
     assigned_programs_keep_meaning, blocks_are_followed, built_programs_are_blocks,
