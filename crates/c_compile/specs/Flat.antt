@@ -1,10 +1,12 @@
 -- The flat programs of C texts.
-use Rattle.std.specs.Prelude.{◌≡◌, ℕ, List}
+use Rattle.std.specs.Prelude.{◌≡◌, ℕ, ◌*◌, ◌≤◌, List, length}
 use Rattle.c_tree.specs.declared.typed.TypedProgram.{TypedProgram}
-use Rattle.c_front.specs.Fronts.{IsAccepted}
+use Rattle.c_lex.specs.Lexes.{Tokens}
+use Rattle.c_lex.specs.Answers.{Lexed}
+use Rattle.c_front.specs.Fronts.{most_tokens, IsAccepted}
 use Rattle.c_meaning_spec.specs.Eval.{eval}
 use Rattle.ir_forms.specs.FlatCode.{Program}
-use Rattle.ir_forms.specs.FlatFits.{FitsProgram}
+use Rattle.ir_forms.specs.FlatFits.{FitsProgram, code_blocks_of_all}
 use Rattle.ir_forms.specs.FlatRuns.{checked, flat_run}
 use Rattle.flat_lower.specs.TreeViews.{source_of}
 use Rattle.flat_lower.specs.Statements.{lowered_program}
@@ -19,10 +21,15 @@ KeepsMeaning P F =
     → Keeps (most_of (source_of P)) (flat_run checked F input) n (eval P input n)
 
 -- The text is accepted, its program is lowered to this one, which does what the text's program
--- means and fits the limits of the later passes.
+-- means, fits the limits of the later passes and is small.
 pub record IsFlatOf (text : List ℕ) (F : Program) : Type 0 where
   pub program : TypedProgram
   pub accepted : IsAccepted text program
   pub is : F ≡ lowered_program program
   pub keeps : KeepsMeaning program F
   pub fits : FitsProgram F
+  -- its tokens bound what a pass through a function costs, and the blocks that are made of it
+  pub tokens : Tokens
+  pub lexed : Lexed most_tokens text tokens
+  pub most : most_of (source_of program) ≤ length tokens
+  pub blocks : code_blocks_of_all F.functions ≤ 12 * length tokens

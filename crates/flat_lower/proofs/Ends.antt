@@ -20,11 +20,12 @@ use Rattle.c_meaning_spec.specs.Task.{Of}
 use Rattle.c_meaning_spec.specs.Statement.{dropped, initialised, unset, unset_row, declare, returning}
 use Rattle.c_meaning_spec.specs.Eval.{meaning}
 use Rattle.trips_isa.specs.declared.op.Op.TheVariants as op
+use Rattle.ir_forms.specs.declared.flat.Arg.{Arg}
 use Rattle.ir_forms.specs.declared.flat.Arg.TheVariants.{Const, Var}
 use Rattle.ir_forms.specs.FlatCode.{Code, Nop, Then, only}
 use Rattle.ir_forms.specs.FlatCode as flat
 use Rattle.ir_forms.specs.Cells.{Memory, apply}
-use Rattle.ir_forms.specs.FlatSteps.{State}
+use Rattle.ir_forms.specs.FlatSteps.{State, read}
 use Rattle.ir_forms.specs.FlatRuns.{checked}
 use Rattle.ir_forms.proofs.Steps.{then_nop, nop_leads, break_leads, continue_leads, return_leads}
 use Rattle.ir_forms.proofs.Steps.{return_none_leads}
@@ -118,15 +119,17 @@ module _ (P : TypedProgram) (most : ℕ) (S : Scene) (y : IsScene P S) where
 
   -- DECLARATIONS
 
-  set_end : (i w : ℕ) (k : Kind) (top low : ℕ) (s : eval.State) (g : State)
-      → slice_get S.func.scalars i ≡ Some (slot.Scalar k) → IsWord k w → g.vars (temp 0) ≡ Some w
+  -- one statement sets a scalar to an operand's value
+  pub set_end : (i w : ℕ) (A : Arg) (k : Kind) (top low : ℕ) (s : eval.State) (g : State)
+      → slice_get S.func.scalars i ≡ Some (slot.Scalar k) → IsWord k w → read checked g A ≡ Some w
       → Related S s g → 1 + 8 * s.stock ≤ top → low ≤ s.stock + most * g.rounds
       → (c : Option (Option ℕ)) → cell s (InScalar i) ≡ c
-      → EndsHere (copied i (temp 0)) g top low (then (store_in c s (InScalar i) w) dropped)
+      → EndsHere (only (flat.Let i op.Mov A (Const 0))) g top low
+      (then (store_in c s (InScalar i) w) dropped)
   unfolding apply
-  set_end i w k top low s g e fits h r hu hl None ec = tt
-  set_end i w k top low s g e fits h r hu hl (Some c) ec =
-      let p = puts_let (functions P most) (base P most) S.env op.Mov (Var (temp 0)) (Const 0) g 1 i 80 w 0 w (omega arith) (var_read (functions P most) (base P most) S.env g (temp 0) w h) refl refl in
+  set_end i w A k top low s g e fits h r hu hl None ec = tt
+  set_end i w A k top low s g e fits h r hu hl (Some c) ec =
+      let p = puts_let (functions P most) (base P most) S.env op.Mov A (Const 0) g 1 i 80 w 0 w (omega arith) h refl refl in
       record {
         t = p.t;
         to = p.to;
@@ -184,8 +187,10 @@ module _ (P : TypedProgram) (most : ℕ) (S : Scene) (y : IsScene P S) where
           (λ w. then (store s1 (InScalar i) w) dropped) (λ w ew.
           let x = value_at S 0 e.kind f v w s1 g ew hv in
           let same : x.kind ≡ t.0 = cc (sym x.is_kind ∙ sym (kind_is e) ∙ t.3) in
-          set_end i w t.0 (top - t1) low s1 g t.1
-          (subst (λ k. IsWord k w) same x.fits) x.is x.keeps.rel (omega arith) (omega arith)
+          set_end i w (Var (temp 0)) t.0 (top - t1) low s1 g t.1
+          (subst (λ k. IsWord k w) same x.fits)
+          (var_read (functions P most) (base P most) S.env g (temp 0) w x.is) x.keeps.rel
+          (omega arith) (omega arith)
           (cell s1 (InScalar i)) refl))
 
   -- WHAT LEAVES

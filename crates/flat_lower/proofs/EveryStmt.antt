@@ -45,8 +45,9 @@ use Rattle.flat_lower.proofs.Values.{code, operand, spending}
 use Rattle.flat_lower.proofs.Legs.{is_true}
 use Rattle.flat_lower.proofs.Returns.{Ended, FollowsRun}
 use Rattle.flat_lower.proofs.EveryExpr.{expr_follows}
-use Rattle.flat_lower.proofs.Ends.{EndsHere, nothing_left, dropped_ends, declare_ends, break_ends}
+use Rattle.flat_lower.proofs.Ends.{EndsHere, nothing_left, declare_ends, break_ends}
 use Rattle.flat_lower.proofs.Ends.{continue_ends, return_ends, value_ends}
+use Rattle.flat_lower.proofs.PlainEnds.{plain_ends}
 use Rattle.flat_lower.proofs.Loops.{so_part, after, so_falls, loop_of, post_of, stmt as stmt_at}
 use Rattle.flat_lower.proofs.Loops.{FollowsTurn, FollowsDo, turn_follows, do_follows, so_loop}
 
@@ -291,7 +292,7 @@ module _ (P : TypedProgram) (most : ℕ) where
     begun_follows (stmt.Plain None) s f top low h t z r hu hl =
         nothing_left P most S y s f top low r (omega arith) (omega arith)
     begun_follows (stmt.Plain (Some e)) s f top low h t z r hu hl =
-        dropped_ends P most S y e s f top low (h.expr e s (omega arith)) t r (omega arith)
+        plain_ends P most S y e s f top low (h.expr e s (omega arith)) t r (omega arith)
         (omega arith)
     begun_follows (stmt.Compound all) s f top low h t z r hu hl =
         stmts_follow s.stock h all s f top low (omega arith) t (omega arith) r (omega arith)

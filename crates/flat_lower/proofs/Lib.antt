@@ -23,6 +23,7 @@ pub mod Arguments
 pub mod Calls
 pub mod EveryExpr
 pub mod Ends
+pub mod PlainEnds
 pub mod Loops
 pub mod EveryStmt
 pub mod Image
@@ -34,6 +35,7 @@ pub mod EmitStarts
 pub mod EmitAddresses
 pub mod EmitTrees
 pub mod EmitSides
+pub mod EmitPlain
 pub mod EmitWeights
 pub mod EmitArguments
 pub mod EmitImages

@@ -2,6 +2,7 @@
 use Rattle.std.specs.Prelude.{ℕ, ◌+◌, ◌-◌, ◌*◌, ◌/◌, ◌%◌, ◌^◌, zero, suc, List, [], ◌∷◌, ◌++◌, map}
 use Rattle.std.specs.Prelude.{replicate, length, Option, Some, None, Bool, cond, nat_eq}
 use Rattle.c_tree.specs.declared.Kind.{Kind}
+use Rattle.c_tree.specs.declared.BinaryOp.{BinaryOp}
 use Rattle.c_tree.specs.declared.Place.{Place}
 use Rattle.c_tree.specs.declared.Place.TheVariants.{Global, Scalar, Array}
 use Rattle.c_tree.specs.declared.TypedGlobal.{TypedGlobal}
@@ -9,10 +10,12 @@ use Rattle.c_tree.specs.declared.TypedProgram.{TypedProgram}
 use Rattle.c_constant.specs.Kinds.{bytes}
 use Rattle.c_meaning_spec.specs.Call.{all_bytes}
 use Rattle.c_meaning_spec.specs.Eval.{length_of}
+use Rattle.trips_isa.specs.declared.op.Op.TheVariants as op
+use Rattle.ir_forms.specs.declared.flat.Arg.{Arg}
 use Rattle.ir_forms.specs.declared.flat.Arg.TheVariants.{Const, Var}
-use Rattle.ir_forms.specs.FlatCode.{Code, Nop, Then, only, Loop, Function, Program}
+use Rattle.ir_forms.specs.FlatCode.{Code, Nop, Then, only, Let, Loop, Function, Program}
 use Rattle.ir_forms.specs.FlatCode as flat
-use Rattle.flat_lower.specs.Tree.{Expr, Stmt, Declare, Plain, Compound, If, While, Do, For, Break}
+use Rattle.flat_lower.specs.Tree.{Expr, Number, Name, Assign, Stmt, Declare, Plain, Compound, If, While, Do, For, Break}
 use Rattle.flat_lower.specs.Tree.{Continue, Return, Stmts, NoStmts, WithStmt, First, Nothing}
 use Rattle.flat_lower.specs.Tree.{FirstOf, Locals, Func, Source}
 use Rattle.flat_lower.specs.TreeViews.{source_of}
@@ -26,6 +29,38 @@ use Rattle.flat_lower.specs.Expressions.{expr_code}
 abbrev pub expr_if_code : Context → Option Expr → Code
 expr_if_code c None = Nop
 expr_if_code c (Some e) = expr_code c 0 e
+
+-- A scalar that is assigned a number or a scalar's value is set at once, by one statement.
+
+-- the scalar that an expression names
+abbrev pub named_scalar : Expr → Option ℕ
+named_scalar (Name k (Scalar i)) = Some i
+named_scalar _ = None
+
+-- the operand that a number or a scalar's name stands for
+abbrev pub simple_arg : Expr → Option Arg
+simple_arg (Number k w) = Some (Const w)
+simple_arg (Name k (Scalar i)) = Some (Var i)
+simple_arg _ = None
+
+-- one statement where both are known, else the code of the assignment
+abbrev pub set_or : Option ℕ → Option Arg → Code → Code
+set_or (Some i) (Some a) long = only (Let i op.Mov a (Const 0))
+set_or (Some i) None long = long
+set_or None a long = long
+
+abbrev pub assigned_code : Option BinaryOp → Expr → Expr → Code → Code
+assigned_code None l r long = set_or (named_scalar l) (simple_arg r) long
+assigned_code (Some o) l r long = long
+
+-- an expression without its value
+abbrev pub plain_code : Context → Expr → Code
+plain_code c (Assign k o at l r) = assigned_code o l r (expr_code c 0 (Assign k o at l r))
+plain_code c e = expr_code c 0 e
+
+abbrev pub plain_if_code : Context → Option Expr → Code
+plain_if_code c None = Nop
+plain_if_code c (Some e) = plain_code c e
 
 -- a local is set by its initialiser alone
 abbrev pub declare_code : Context → Place → Option Expr → Code
@@ -57,7 +92,7 @@ do_code c t body = Then (set_word (temp 0) 1) (only (Loop (if_so body) (expr_cod
 abbrev mutual
   pub stmt_code : Context → Stmt → Code
   stmt_code c (Declare p e) = declare_code c p e
-  stmt_code c (Plain e) = expr_if_code c e
+  stmt_code c (Plain e) = plain_if_code c e
   stmt_code c (Compound all) = stmts_code c all
   stmt_code c (If t one other) =
       Then (expr_code c 0 t) (only (flat.If (Var (temp 0)) (stmt_code c one) (stmts_code c other)))

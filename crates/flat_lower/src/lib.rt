@@ -17,6 +17,7 @@ mod lowering;
 mod names;
 mod operations;
 mod places;
+mod plain;
 mod results;
 mod side;
 mod sides;

@@ -19,6 +19,7 @@ use crate::expressions::put_value;
 use crate::looping::{put_do, put_for, put_while};
 use crate::operations::put_copy;
 use crate::places::Places;
+use crate::plain::put_plain;
 use base::{Boxed, Items, Memory};
 use c_tree::{Place, TypedExpr, TypedForInit, TypedStmt};
 use ir_forms::{Arg, FlatStmt};
@@ -269,7 +270,7 @@ pub fn put_stmt(
 {
     match s {
         TypedStmt::Declare { place, init } => put_declared(code, alloc, places, *place, init),
-        TypedStmt::Plain(e) => put_value_if(code, alloc, places, e),
+        TypedStmt::Plain(e) => put_plain(code, alloc, places, e),
         TypedStmt::Compound(all) => put_stmts(code, alloc, places, all.as_slice()),
         TypedStmt::If { test, yes, no } => put_choice(code, alloc, places, test, yes.get(), no),
         TypedStmt::While { test, body } => { put_while_loop(code, alloc, places, test, body.get()) }

@@ -60,7 +60,7 @@ module _ (c : Scope) where
   element_place None p t = absurd t
   element_place (Some k) p t = whole_place k p t
 
-  side_place : (d : ℕ) (k : Option Kind) (e : Expr) → FitsLeft c d k e
+  pub side_place : (d : ℕ) (k : Option Kind) (e : Expr) → FitsLeft c d k e
       → FitsSide (length c.scalars) e
   side_place d k (Name j p) t = named_place d k p t.1
   side_place d k (Element j p index) t = element_place k p t.1

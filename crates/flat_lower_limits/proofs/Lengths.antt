@@ -30,8 +30,9 @@ use Rattle.flat_lower.specs.Expressions.{right_at, after_right, temps, call_code
 use Rattle.flat_lower.specs.Expressions.{tested, operand_at, expr_code, index_code, args_code}
 use Rattle.flat_lower.specs.Statements.{expr_if_code, declare_code, return_code, if_so, turn_code}
 use Rattle.flat_lower.specs.Statements.{loop_code, do_code, stmt_code, stmts_code, first_code}
-use Rattle.flat_lower.specs.Statements.{end_code}
+use Rattle.flat_lower.specs.Statements.{end_code, named_scalar, simple_arg, plain_code, plain_if_code}
 use Rattle.flat_lower.specs.Statements.{context_of, lowered_from, lowered}
+use Rattle.flat_lower.proofs.PlainEnds.{either_way}
 use Rattle.flat_lower_limits.specs.Nodes.{expr_nodes, exprs_nodes, expr_if_nodes, stmt_nodes, stmts_nodes}
 use Rattle.flat_lower_limits.specs.Nodes.{first_nodes, funcs_size}
 use Rattle.flat_lower_limits.specs.Laws.{FewStatements}
@@ -141,7 +142,7 @@ module _ (c : Context) where
     expr_takes d (Element k p index) = eased 2 (4 * (1 + expr_nodes index))
         (after (expr_takes d index) (known_kind 4 k (element_code c p d)
         (λ k. element_takes c p d k))) (omega arith)
-    expr_takes d (Call k f args) = eased 2 (4 * (1 + exprs_nodes args))
+    expr_takes d (Call k f args) = eased 2 (4 * (3 + exprs_nodes args))
         (after (args_take d args) (call_takes f k d args)) (omega arith)
     expr_takes d (Unary k o e) = eased 2 (4 * (1 + expr_nodes e))
         (after (expr_takes d e) (known_kind 2 (kind_of e) (λ j. unary_code o j (temp d))
@@ -178,6 +179,19 @@ module _ (c : Context) where
   expr_if_takes : (e : Option Expr) → Takes 0 (4 * expr_if_nodes e) (expr_if_code c e)
   expr_if_takes None = none 0
   expr_if_takes (Some e) = eased 0 (4 * expr_nodes e) (expr_takes 0 e) (omega arith)
+
+  plain_takes : (e : Expr) → Takes 0 (4 * expr_nodes e) (plain_code c e)
+  plain_takes (Assign k None at l r) =
+      let long = expr_code c 0 (Assign k None at l r) in
+      let most = 4 * expr_nodes (Assign k None at l r) in
+      either_way (named_scalar l) (simple_arg r) long (λ a. Takes 0 most a)
+      (eased 0 most (expr_takes 0 (Assign k None at l r)) (omega arith))
+      (λ i b ei eb. record { few = omega arith })
+  plain_takes e = eased 0 (4 * expr_nodes e) (expr_takes 0 e) (omega arith)
+
+  plain_if_takes : (e : Option Expr) → Takes 0 (4 * expr_if_nodes e) (plain_if_code c e)
+  plain_if_takes None = none 0
+  plain_if_takes (Some e) = plain_takes e
 
   declare_takes : (p : Place) (e : Option Expr)
       → Takes 0 (4 * (1 + expr_if_nodes e)) (declare_code c p e)
@@ -218,7 +232,7 @@ module _ (c : Context) where
   mutual
     pub stmt_takes : (s : Stmt) → Takes 0 (4 * stmt_nodes s) (stmt_code c s)
     stmt_takes (Declare p e) = declare_takes p e
-    stmt_takes (Plain e) = eased 0 (4 * (1 + expr_if_nodes e)) (expr_if_takes e) (omega arith)
+    stmt_takes (Plain e) = eased 0 (4 * (1 + expr_if_nodes e)) (plain_if_takes e) (omega arith)
     stmt_takes (Compound all) = eased 0 (4 * (1 + stmts_nodes all)) (stmts_take all) (omega arith)
     stmt_takes (If t one other) = eased 0
         (4 * (1 + (expr_nodes t + (stmt_nodes one + stmts_nodes other))))

@@ -7,5 +7,7 @@ pub mod Statements
 pub mod Programs
 pub mod Counts
 pub mod Lengths
+pub mod BlockCounts
+pub mod BlockLengths
 pub mod Whole
 pub mod StandardFacts

@@ -3,6 +3,7 @@ use Rattle.std.specs.Prelude.{◌≡◌, ℕ, ◌+◌, ◌*◌, ◌<◌, ◌≤�
 use Rattle.trips_isa.specs.Stores.{data_size}
 use Rattle.ir_forms.specs.FlatCode.{Function, Program}
 use Rattle.ir_forms.specs.FlatFits.{FitsFunction, FitsCall, FitsProgram, steps_of_all}
+use Rattle.ir_forms.specs.FlatFits.{code_blocks_of_all}
 use Rattle.ir_forms.specs.Frames.{frames_at, frame_limit}
 use Rattle.flat_lower.specs.Tree.{Func, Source}
 use Rattle.flat_lower.specs.Fits.{FitsSource}
@@ -35,6 +36,10 @@ FitsOfAnyLength =
 -- takes four
 abbrev pub FewStatements : Type 0
 FewStatements = (P : Source) → steps_of_all (lowered P).functions ≤ 4 * source_size P
+
+-- at most six blocks for each function and node, where each function has six besides its body's
+abbrev pub FewBlocks : Type 0
+FewBlocks = (P : Source) → code_blocks_of_all (lowered P).functions ≤ 6 * source_size P
 
 -- the flat program of a source that is not too long fits
 abbrev pub LoweredFits : Type 0

@@ -1,5 +1,5 @@
 -- The size of a source: each function and each node of its body counts one, a conversion and the
--- name on a left side too.
+-- name on a left side too, and a call three.
 use Rattle.std.specs.Prelude.{ℕ, ◌+◌, List, [], ◌∷◌, Option, Some, None}
 use Rattle.flat_lower.specs.Tree.{Expr, Number, Name, Element, Call, Unary, Cast, Convert, Bump}
 use Rattle.flat_lower.specs.Tree.{Binary, Choice, Assign, Comma, Exprs, NoExprs, WithExpr, Stmt}
@@ -12,7 +12,7 @@ abbrev mutual
   expr_nodes (Number k w) = 1
   expr_nodes (Name k p) = 1
   expr_nodes (Element k p index) = 1 + expr_nodes index
-  expr_nodes (Call k f args) = 1 + exprs_nodes args
+  expr_nodes (Call k f args) = 3 + exprs_nodes args
   expr_nodes (Unary k o e) = 1 + expr_nodes e
   expr_nodes (Cast k to e) = 1 + expr_nodes e
   expr_nodes (Convert k to e) = 1 + expr_nodes e

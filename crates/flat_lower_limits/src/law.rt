@@ -1,6 +1,6 @@
 //! That flat programs fit.
 
-ghost use Rattle.flat_lower_limits.specs.Laws.{FitsOfAnyLength, FewStatements, LoweredFits};
+ghost use Rattle.flat_lower_limits.specs.Laws.{FewBlocks, FewStatements, FitsOfAnyLength, LoweredFits};
 
 /// The flat program of a source as typing gives it, with at most 8 parameters a function and with
 /// its jumps in loops, fits but for its length: each operation is of a fitting form, each variable
@@ -13,6 +13,12 @@ pub fn flat_programs_fit_at_any_length()
 /// The flat program of any source has at most four statements for each function and each node.
 pub fn statements_are_few()
     ensures { FewStatements }
+{}
+
+/// And at most six blocks for each of them are made of it, where each function has six besides its
+/// body's.
+pub fn blocks_are_few()
+    ensures { FewBlocks }
 {}
 
 /// So the flat program of a source with at most 4,194,304 functions and nodes fits.

@@ -4,4 +4,6 @@
 
 mod law;
 
-pub use law::{flat_programs_fit, flat_programs_fit_at_any_length, statements_are_few};
+pub use law::{
+    blocks_are_few, flat_programs_fit, flat_programs_fit_at_any_length, statements_are_few,
+};

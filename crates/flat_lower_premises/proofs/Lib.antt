@@ -1,4 +1,8 @@
 pub mod Agrees
+pub mod CostExprs
+pub mod CostStmts
+pub mod CostTrees
+pub mod CostUnits
 pub mod Counted
 pub mod ExpressionSizes
 pub mod FitExpressions

@@ -50,7 +50,7 @@ module _ (l : ℕ) where
   nodes-Element w i = by_node l _ (ExprNode-F.Element w i) (node.rolls-Element w i)
 
   pub nodes-Call : (w : List ℕ) (es : List Expr)
-      → expr_nodes (at l (node.Call w es)) ≡ 1 + exprs_nodes es
+      → expr_nodes (at l (node.Call w es)) ≡ 3 + exprs_nodes es
   nodes-Call w es = by_node l _ (ExprNode-F.Call w es) (node.rolls-Call w es)
 
   pub nodes-Group : (e : Expr) → expr_nodes (at l (node.Group e)) ≡ expr_nodes e

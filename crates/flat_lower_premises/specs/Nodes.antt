@@ -1,5 +1,5 @@
--- How many nodes a unit has: each function, each statement and each expression counts one, but a
--- pair of parentheses nothing. What typing computes once and for all, as an array's size or the
+-- How many nodes a unit has: each function, each statement and each expression counts one, a call
+-- three, as its name and its parentheses, and another pair of parentheses nothing. What typing computes once and for all, as an array's size or the
 -- values of a global, is not counted.
 use Rattle.std.specs.Prelude.{ℕ, ◌+◌, List, [], ◌∷◌, map, Option, Some, None}
 use Rattle.c_tree.specs.declared.tree.Expr.{Expr, Expr-F, fold-Expr}
@@ -30,7 +30,7 @@ abbrev pub level_nodes : ExprNode-F ℕ ℕ → ℕ
 level_nodes (Number v k) = 1
 level_nodes (Name w) = 1
 level_nodes (Element w i) = 1 + i
-level_nodes (Call w es) = 1 + total es
+level_nodes (Call w es) = 3 + total es
 level_nodes (Group e) = e
 level_nodes (Unary op e) = 1 + e
 level_nodes (Cast k e) = 1 + e

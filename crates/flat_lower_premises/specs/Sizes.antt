@@ -1,5 +1,5 @@
 -- How large a unit and its typed program may be, by the tokens of the text.
-use Rattle.std.specs.Prelude.{◌*◌, ◌≤◌, List, length}
+use Rattle.std.specs.Prelude.{◌*◌, ◌≤◌, max, List, length}
 use Rattle.c_tree.specs.declared.limits.TheConstants.{MOST_TOKENS}
 use Rattle.c_tree.specs.declared.token.Lexeme.{Lexeme}
 use Rattle.c_tree.specs.declared.tree.Program.{Program}
@@ -7,7 +7,10 @@ use Rattle.c_tree.specs.declared.tree.Top.{Top}
 use Rattle.c_tree.specs.declared.typed.TypedProgram.{TypedProgram}
 use Rattle.c_grammar.specs.Answers.{IsUnit}
 use Rattle.c_type_rules.specs.Units.{Accepts}
+use Rattle.ir_forms.specs.FlatFits.{code_blocks_of_all}
 use Rattle.flat_lower.specs.TreeViews.{source_of}
+use Rattle.flat_lower.specs.Statements.{lowered_program}
+use Rattle.flat_lower_premises.specs.Most.{most_of}
 use Rattle.flat_lower_limits.specs.Nodes.{source_size}
 use Rattle.flat_lower_premises.specs.Nodes.{unit_nodes}
 
@@ -28,3 +31,16 @@ abbrev pub ProgramsHaveRoom : Type 0
 ProgramsHaveRoom =
     (ts : List Lexeme) (p : Program) (t : TypedProgram) → IsUnit ts p.items → length ts ≤ MOST_TOKENS
     → Accepts p t → 4 * source_size (source_of t) ≤ 16777216
+
+-- a pass through a function of the typed program costs no more than the text has tokens
+abbrev pub PassesAreShort : Type 0
+PassesAreShort =
+    (ts : List Lexeme) (p : Program) (t : TypedProgram) → IsUnit ts p.items → Accepts p t
+    → most_of (source_of t) ≤ max 1 (length ts)
+
+-- and at most twelve blocks a token are made of its flat program, where each function has six
+-- besides its body's
+abbrev pub BlocksAreFew : Type 0
+BlocksAreFew =
+    (ts : List Lexeme) (p : Program) (t : TypedProgram) → IsUnit ts p.items → Accepts p t
+    → code_blocks_of_all (lowered_program t).functions ≤ 12 * length ts

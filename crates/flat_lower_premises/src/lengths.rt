@@ -1,6 +1,7 @@
 //! That programs are no larger than their texts allow.
 
-ghost use Rattle.flat_lower_premises.specs.Sizes.{ProgramsAreSmall, ProgramsHaveRoom, UnitsAreSmall};
+ghost use Rattle.flat_lower_premises.specs.Sizes.{BlocksAreFew, PassesAreShort, ProgramsAreSmall};
+ghost use Rattle.flat_lower_premises.specs.Sizes.{ProgramsHaveRoom, UnitsAreSmall};
 
 /// A translation unit has no more functions, statements and expressions together than its text has
 /// tokens (C17 6.5 to 6.9).
@@ -18,4 +19,15 @@ pub fn programs_are_small()
 /// functions, statements and expressions.
 pub fn programs_have_room()
     ensures { ProgramsHaveRoom }
+{}
+
+/// A pass through a function of an accepted unit's typed program costs no more than the text has
+/// tokens.
+pub fn passes_are_short()
+    ensures { PassesAreShort }
+{}
+
+/// At most twelve blocks a token are made of an accepted unit's flat program.
+pub fn blocks_are_few()
+    ensures { BlocksAreFew }
 {}

@@ -12,7 +12,9 @@ mod typing;
 
 pub use counts::globals_are_few;
 pub use fits::{lowered_programs_keep_meaning, most_of_is_most, typed_programs_fit};
-pub use lengths::{programs_are_small, programs_have_room, units_are_small};
+pub use lengths::{
+    blocks_are_few, passes_are_short, programs_are_small, programs_have_room, units_are_small,
+};
 pub use lexing::tokens_have_words;
 pub use parsing::units_have_words;
 pub use typing::programs_have_words;

@@ -4,6 +4,8 @@ pub mod Alive
 pub mod Groups
 pub mod ListFacts
 pub mod Listed
+pub mod Fewness
+pub mod Own
 pub mod Notes
 pub mod Seen
 pub mod Passes

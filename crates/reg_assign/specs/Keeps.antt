@@ -1,10 +1,10 @@
 -- A flat program whose calls keep certain variables, and that it does what the program does.
 use Rattle.std.specs.Prelude.{◌≡◌, ℕ, zero, suc, ◌+◌, Bool, true, false, ◌||◌, nat_eq, List, []}
-use Rattle.std.specs.Prelude.{◌∷◌}
-use Rattle.std.specs.Prelude.{length}
+use Rattle.std.specs.Prelude.{◌∷◌, length, Some, slice_get}
 use Rattle.ir_forms.specs.FlatViews.{stays}
 use Rattle.ir_forms.specs.FlatCode.{Step, Let, Frame, Load, Save, Call, Put, Get, If, Loop, Break}
 use Rattle.ir_forms.specs.FlatCode.{Continue, Return, Code, Nop, ◌▹◌, Function, Program}
+use Rattle.ir_forms.specs.FlatFits.{is_lasting, FitsProgram}
 use Rattle.ir_forms.specs.Cells.{Checks}
 use Rattle.ir_forms.specs.FlatSteps.{State, Res, Gone, Broke, Again, Gave, TooDeep, Unfinished}
 use Rattle.ir_forms.specs.FlatSteps.{Wild}
@@ -91,6 +91,25 @@ EachLasting (vs ∷ lists) = AreLasting vs × EachLasting lists
 pub record FitsLists (P : Program) (lists : List (List ℕ)) : Type 0 where
   pub each : length lists ≡ calls_of_all P.functions
   pub lasting : EachLasting lists
+
+-- each call in code of a function of n scalars keeps only these scalars, and temporaries
+abbrev mutual
+  pub KeepsOwnIn : ℕ → Step → Type 0
+  KeepsOwnIn n (Call f xs to kept) = (v : ℕ) → kept v ≡ true → is_lasting n v ≡ true
+  KeepsOwnIn n (If x a b) = KeepsOwn n a × KeepsOwn n b
+  KeepsOwnIn n (Loop a b) = KeepsOwn n a × KeepsOwn n b
+  KeepsOwnIn n _ = Unit {0}
+
+  pub KeepsOwn : ℕ → Code → Type 0
+  KeepsOwn n Nop = Unit {0}
+  KeepsOwn n (s ▹ rest) = KeepsOwnIn n s × KeepsOwn n rest
+
+-- the program whose calls keep what the lists say fits, and its calls keep variables of their own
+-- functions
+pub record FitsKept (P : Program) (lists : List (List ℕ)) : Type 0 where
+  pub fits : FitsProgram (assigned_program P lists)
+  pub own : (f : ℕ) (g : Function) → slice_get (assigned_program P lists).functions f ≡ Some g
+      → KeepsOwn g.scalars g.body
 
 -- WHAT IT DOES
 

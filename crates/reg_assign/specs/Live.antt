@@ -160,3 +160,8 @@ AreCut [] [] = Unit {0}
 AreCut (vs ∷ lists) (gs ∷ groups) = IsCut vs gs × AreCut lists groups
 AreCut [] (gs ∷ groups) = ⊥
 AreCut (vs ∷ lists) [] = ⊥
+
+-- at most five groups for a call: 80 variables by 16
+abbrev pub AreFew : List (List (List ℕ)) → Type 0
+AreFew [] = Unit {0}
+AreFew (gs ∷ groups) = (length gs ≤ 5) × AreFew groups

@@ -1,7 +1,8 @@
 ghost use Rattle.std.specs.Prelude.{◌≡◌, reverse, map, IfOk};
 ghost use Rattle.ir_forms.specs.FlatViews.{code_of, function_of, program_of};
-ghost use Rattle.reg_assign.specs.Live.{live_lists, groups_of, AreCut};
-ghost use Rattle.reg_assign.specs.Keeps.{FitsLists, KeepsMeaning};
+ghost use Rattle.ir_forms.specs.FlatFits.{FitsProgram};
+ghost use Rattle.reg_assign.specs.Live.{live_lists, groups_of, AreCut, AreFew};
+ghost use Rattle.reg_assign.specs.Keeps.{FitsKept, FitsLists, KeepsMeaning};
 ghost use Rattle.reg_assign.specs.Pass.{body_lists, lists_backward};
 
 use crate::grouping::all_groups;
@@ -85,7 +86,10 @@ pub fn assign(alloc: Global, flat: FlatProgram) -> Result<Assigned, Memory>
     ensures live { IfOk result (λ assigned. assigned.live ≡ live_lists (program_of flat)) }
     ensures groups { IfOk result (λ assigned. assigned.groups ≡ map groups_of assigned.live) }
     ensures fits { IfOk result (λ assigned. FitsLists (program_of assigned.flat) assigned.live) }
+    ensures kept { IfOk result (λ assigned. FitsProgram (program_of flat)
+        → FitsKept (program_of flat) assigned.live) }
     ensures cut { IfOk result (λ assigned. AreCut assigned.live assigned.groups) }
+    ensures few { IfOk result (λ assigned. AreFew assigned.groups) }
     ensures meaning { IfOk result (λ assigned.
         KeepsMeaning (program_of assigned.flat) assigned.live) }
 {

@@ -1,0 +1,93 @@
+-- A pass through a typed expression costs no more than the expression has nodes.
+use Rattle.std.proofs.Common.{◌≡◌, ◌+◌, ◌*◌, ◌≤◌, List, Some, arith}
+use Rattle.c_tree.specs.declared.token.Kind.TheVariants.{Int}
+use Rattle.c_tree.specs.declared.tree.Expr.{Expr}
+use Rattle.c_tree.specs.declared.typed.Slot.{Slot}
+use Rattle.c_tree.specs.declared.typed.TypedExpr.{TypedExpr}
+use Rattle.c_tree.specs.declared.typed.TypedNode.TheVariants as typed
+use Rattle.c_tree.specs.declared.typed.TypedNode.TheOpen as node
+use Rattle.c_scope.specs.Scope.{Scope}
+use Rattle.c_constant.specs.Kinds.{common}
+use Rattle.c_constant.specs.Operation.{left_at, right_at, result_of, unary_at, unary_result}
+use Rattle.c_type_expr.specs.declared.role.Role.{Role}
+use Rattle.c_type_expr.specs.Trees.{kind_of, converted, end_of_file, assigned_at}
+use Rattle.c_type_expr.specs.Trees.{assigned_from}
+use Rattle.c_type_expr.specs.Typed.{Typed, Passed, number, scalar, array, ending, element, call}
+use Rattle.c_type_expr.specs.Typed.{group, operator, conversion, step, operation, either}
+use Rattle.c_type_expr.specs.Typed.{assignment, sequence, none, value, address}
+use Rattle.flat_lower_premises.specs.Nodes.{expr_nodes, exprs_nodes}
+use Rattle.flat_lower_premises.proofs.TreeSizes.{nodes-Number, nodes-Name, nodes-Element, nodes-Call, nodes-Group}
+use Rattle.flat_lower_premises.proofs.TreeSizes.{nodes-Unary, nodes-Cast, nodes-Bump, nodes-Binary, nodes-Choice}
+use Rattle.flat_lower_premises.proofs.TreeSizes.{nodes-Assign, nodes-Comma}
+use Rattle.flat_lower.specs.TreeViews.{expr_of}
+use Rattle.flat_lower_premises.proofs.CostTrees.{cost, costs, by_node, converted_few, left_few}
+
+ending_one : cost end_of_file ≡ 1
+ending_one =
+    by_node (Some Int) _ (node.Number 18446744073709551615)
+    (typed.rolls-Number 18446744073709551615)
+
+module _ (G : Scope) where
+  mutual
+    pub cost_few : {r : Role} {e : Expr} {t : TypedExpr} → Typed G r e t
+        → cost t ≤ expr_nodes e
+    cost_few (number {l = l} {v = v} {k = k} h) =
+        let n = nodes-Number l v k in
+        let m = by_node (Some k) _ (node.Number v) (typed.rolls-Number v) in omega arith
+    cost_few (scalar {l = l} {w = w} {k = k} {p = p} i h) =
+        let n = nodes-Name l w in
+        let m = by_node (Some k) _ (node.Name p) (typed.rolls-Name p) in omega arith
+    cost_few (array {l = l} {w = w} {k = k} {p = p} i h) =
+        let n = nodes-Name l w in
+        let m = by_node (Some k) _ (node.Name p) (typed.rolls-Name p) in omega arith
+    cost_few (ending {l = l} {w = w} i h) =
+        let n = nodes-Name l w in
+        let m = ending_one in omega arith
+    cost_few (element {l = l} {w = w} {k = k} {p = p} {i = i} {j = j} x m h) =
+        let n = nodes-Element l w i in let c = cost_few x in
+        let m = by_node (Some k) _ (node.Element p j) (typed.rolls-Element p j) in omega arith
+    cost_few (call {l = l} {w = w} {result = result} {c = c} {es = es} {ts = ts} i x h) =
+        let n = nodes-Call l w es in let d = costs_few x in
+        let m = by_node result _ (node.Call c ts) (typed.rolls-Call c ts) in omega arith
+    cost_few (group {l = l} {e = e} x) =
+        let n = nodes-Group l e in let c = cost_few x in omega arith
+    cost_few (operator {l = l} {op = op} {e = e} {t = t} x h) =
+        let k = unary_at op (kind_of t) in
+        let n = nodes-Unary l op e in let c = cost_few x in let d = converted_few k t in
+        let m = by_node (Some (unary_result op k)) _ (node.Unary op (converted k t))
+        (typed.rolls-Unary op _) in omega arith
+    cost_few (conversion {l = l} {to = to} {e = e} {t = t} x h) =
+        let n = nodes-Cast l to e in let c = cost_few x in
+        let m = by_node (Some to) _ (node.Cast to t) (typed.rolls-Cast to t) in omega arith
+    cost_few (step {l = l} {op = op} {e = e} {t = t} p x h) =
+        let n = nodes-Bump l op e in let c = cost_few x in let q = left_few (expr_of t) in
+        let m = by_node (Some (kind_of t)) _ (node.Bump op t) (typed.rolls-Bump op t) in omega arith
+    cost_few (operation {l = l} {op = op} {x = x} {y = y} {s = s} {t = t} p q h) =
+        let j = left_at op (kind_of s) (kind_of t) in let k = right_at op (kind_of s) (kind_of t) in
+        let n = nodes-Binary l op x y in let c = cost_few p in let d = cost_few q in
+        let c' = converted_few j s in let d' = converted_few k t in
+        let m = by_node (Some (result_of op j)) _ (node.Binary op (converted j s) (converted k t))
+        (typed.rolls-Binary op _ _) in omega arith
+    cost_few (either {l = l} {c = u} {x = x} {y = y} {d = v} {s = s} {t = t} o p q h) =
+        let k = common (kind_of s) (kind_of t) in
+        let n = nodes-Choice l u x y in let b = cost_few o in let c = cost_few p in
+        let d = cost_few q in let c' = converted_few k s in let d' = converted_few k t in
+        let m = by_node (Some k) _ (node.Choice v (converted k s) (converted k t))
+        (typed.rolls-Choice v _ _) in omega arith
+    cost_few (assignment {l = l} {op = op} {x = x} {y = y} {s = s} {t = t} i p q h) =
+        let j = assigned_at op (kind_of s) (kind_of t) in
+        let k = assigned_from op (kind_of s) (kind_of t) in
+        let n = nodes-Assign l op x y in let c = cost_few p in let d = cost_few q in
+        let d' = converted_few k t in let u = left_few (expr_of s) in
+        let m = by_node (Some (kind_of s)) _ (node.Assign op j s (converted k t))
+        (typed.rolls-Assign op j s _) in omega arith
+    cost_few (sequence {l = l} {x = x} {y = y} {s = s} {t = t} p q h) =
+        let n = nodes-Comma l x y in let c = cost_few p in let d = cost_few q in
+        let m = by_node t.kind _ (node.Comma s t) (typed.rolls-Comma s t) in omega arith
+
+    pub costs_few : {slots : List Slot} {es : List Expr} {ts : List TypedExpr}
+        → Passed G slots es ts → costs ts ≤ exprs_nodes es
+    costs_few none = omega arith
+    costs_few (value {k = k} {t = t} x y) =
+        let c = cost_few x in let d = converted_few k t in let n = costs_few y in omega arith
+    costs_few (address x y) = let c = cost_few x in let n = costs_few y in omega arith

@@ -1,0 +1,5 @@
+use Rattle.flat_lower_premises.proofs.CostUnits.{blocks_few}
+use Rattle.flat_lower_premises.proofs.lengths.blocks_are_few.Goals as goal
+
+pub returns : goal.returns
+returns c = blocks_few

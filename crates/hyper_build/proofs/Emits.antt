@@ -1,0 +1,47 @@
+-- Items that are put before the rest of a block.
+use Rattle.std.proofs.Common.{◌≡◌, ℕ, List, [], ◌∷◌, ◌++◌, reverse, refl, sym, ap, ap₂, ◌∙◌}
+use Rattle.std.proofs.lemmas.List.{reverse-append}
+use Rattle.trips_isa.specs.declared.op.Op.{Op}
+use Rattle.ir_forms.specs.declared.hyper.Source.{Source}
+use Rattle.ir_forms.specs.declared.hyper.Exit.TheVariants as exit
+use Rattle.ir_forms.specs.declared.hyper.HyperItem.{HyperItem}
+use Rattle.ir_forms.specs.declared.hyper.HyperItem.TheVariants as item
+use Rattle.ir_forms.specs.declared.hyper.Tail as declared
+use Rattle.ir_forms.specs.declared.hyper.Tail.TheVariants as tail
+use Rattle.ir_forms.specs.HyperCode.{Items, Block}
+use Rattle.ir_forms.specs.HyperViews.{items_of, tail_of, then_items}
+use Rattle.ir_forms.specs.HyperRuns as hyper
+use Rattle.ir_forms.proofs.Views.{then_set, then_load, then_save, tail_leave}
+use Rattle.hyper_build.specs.declared.rest.Rest.{Rest}
+use Rattle.hyper_build.specs.Parts.{set_then, load_then, save_then}
+use Rattle.hyper_build.specs.Emitted.{rest_of}
+
+-- a rest, and one item before it
+abbrev with_item : Rest → HyperItem → Rest
+with_item r i = record { items = r.items ++ i ∷ []; tail = r.tail }
+
+pushed : (xs : List HyperItem) (i : HyperItem)
+    → items_of (reverse (xs ++ i ∷ [])) ≡ then_items i (items_of (reverse xs))
+pushed xs i = ap items_of (reverse-append xs (i ∷ []))
+
+before : (r : Rest) (i : HyperItem) (its : Items) → then_items i (items_of (reverse r.items)) ≡ its
+    → rest_of (with_item r i) ≡ record { items = its; tail = tail_of r.tail }
+before r i its e =
+    ap (λ (k : Items). record { items = k; tail = tail_of r.tail }) (pushed r.items i ∙ e)
+
+pub jump_is : (l : ℕ)
+    → rest_of (record { items = []; tail = tail.Leave (exit.Jump l) }) ≡ hyper.jump l
+jump_is l = ap (λ t. record { items = items_of []; tail = t }) (tail_leave (exit.Jump l))
+
+pub set_is : (r : Rest) (to : ℕ) (op : Op) (a b : Source)
+    → rest_of (with_item r (item.Set to op a b)) ≡ set_then to op a b (rest_of r)
+set_is r to op a b =
+    before r (item.Set to op a b) _ (then_set to op a b (items_of (reverse r.items)))
+
+pub load_is : (r : Rest) (to : ℕ) (op : Op) (a : Source)
+    → rest_of (with_item r (item.Load to op a)) ≡ load_then to op a (rest_of r)
+load_is r to op a = before r (item.Load to op a) _ (then_load to op a (items_of (reverse r.items)))
+
+pub save_is : (r : Rest) (op : Op) (a v : Source)
+    → rest_of (with_item r (item.Save op a v)) ≡ save_then op a v (rest_of r)
+save_is r op a v = before r (item.Save op a v) _ (then_save op a v (items_of (reverse r.items)))

@@ -1,0 +1,296 @@
+-- Where a plan cuts everywhere, each block is small or has one group.
+use Rattle.std.proofs.Common.{◌≡◌, ◌⊎◌, inl, inr, ℕ, zero, suc, ◌+◌, ◌≤◌, Bool, true, false, List, []}
+use Rattle.std.proofs.Common.{◌∷◌, ◌++◌, map, length, Option, Some, None, refl, subst, arith, slice_get}
+use Rattle.ir_forms.specs.declared.flat.Arg.{Arg}
+use Rattle.ir_forms.specs.FlatCode.{Step, Code, Nop, ◌▹◌, Let, Frame, Load, Save, Call, Put, Get, If}
+use Rattle.ir_forms.specs.FlatCode.{Loop, Break, Continue, Return}
+use Rattle.ir_forms.specs.FlatFits.{steps_in, steps_of}
+use Rattle.ir_forms.specs.Frames.{frame_limit}
+use Rattle.ir_forms.specs.HyperCode.{Block}
+use Rattle.ir_forms.specs.HyperFits.{IsSmall, items_in, ifs_in, tests_in, exits_in}
+use Rattle.ir_forms.specs.HyperRuns.{jump}
+use Rattle.reg_assign.specs.Keeps.{calls_in, calls}
+use Rattle.reg_assign.specs.Live.{AreSmall}
+use Rattle.hyper_build.specs.Tree.{Stmt, LetAt, FrameAt, LoadAt, SaveAt, CallAt, PutAt, GetAt, IfAt}
+use Rattle.hyper_build.specs.Tree.{LoopAt, BreakAt, ContinueAt, ReturnAt, Tree, End, ◌▸◌, Routine, Plan}
+use Rattle.hyper_build.specs.Tree.{annotated_in, annotated}
+use Rattle.hyper_build.specs.Parts.{cut, cut_blocks, chain, chain_blocks, moved, moved_blocks}
+use Rattle.hyper_build.specs.Passing.{saving, restoring, argument_moves, argument_cuts, result_then}
+use Rattle.hyper_build.specs.Passing.{parameter_moves, parameter_cuts}
+use Rattle.hyper_build.specs.Straight.{Place, in_loop, exit_leg, leg_blocks, leg_size, arguments_size}
+use Rattle.hyper_build.specs.Straight.{size_in, size}
+use Rattle.hyper_build.specs.Build.{call_block, give, body_end, entry_in, entry, blocks_in, blocks}
+use Rattle.hyper_build.specs.Routines.{way_out, place_of, way_in, parameters_size, body_label}
+use Rattle.hyper_build.specs.Routines.{body_entry, routine_size, routine_blocks, all_blocks, entry_from}
+use Rattle.hyper_build.specs.Routines.{built}
+use Rattle.hyper_build.specs.Smallness.{IsGroupBlock, IsLittle, CutsAll}
+
+abbrev AllLittle : List Block → Type 0
+AllLittle [] = Unit {0}
+AllLittle (b ∷ bs) = IsLittle b × AllLittle bs
+
+little_append : (xs ys : List Block) → AllLittle xs → AllLittle ys → AllLittle (xs ++ ys)
+little_append [] ys a b = b
+little_append (x ∷ xs) ys a b = (a.0, little_append xs ys a.1 b)
+
+-- at most n items, and an end of a small block
+pub record Rest (n : ℕ) (b : Block) : Type 0 where
+  pub items : items_in b.items ≤ n
+  pub tests : ifs_in b.items + tests_in b.tail ≤ 1
+  pub exits : exits_in b.tail ≤ 2
+
+little : (b : Block) → Rest 3 b → IsLittle b
+little b r = inl (record { items = r.items; tests = r.tests; exits = r.exits })
+
+jump_rest : (l : ℕ) → Rest 0 (jump l)
+jump_rest l = record { items = omega arith; tests = omega arith; exits = omega arith }
+
+little_jump : (l : ℕ) → IsLittle (jump l)
+little_jump l = inl (record { items = omega arith; tests = omega arith; exits = omega arith })
+
+-- CUT CODE
+
+abbrev mutual
+  pub IsCutStmt : Stmt → Type 0
+  IsCutStmt (LetAt c to op a b) = c ≡ true
+  IsCutStmt (FrameAt c to at) = c ≡ true
+  IsCutStmt (LoadAt c to op a) = c ≡ true
+  IsCutStmt (SaveAt c op a v) = c ≡ true
+  IsCutStmt (CallAt c small f args to groups) =
+      (c ≡ true) × (small ≡ true) × AreSmall groups × (length args ≤ 8)
+  IsCutStmt (PutAt v) = Unit {0}
+  IsCutStmt (GetAt c to) = c ≡ true
+  IsCutStmt (IfAt c joined t one other) =
+      (c ≡ true) × (joined ≡ false) × IsCutTree one × IsCutTree other
+  IsCutStmt (LoopAt c body post) = (c ≡ true) × IsCutTree body × IsCutTree post
+  IsCutStmt BreakAt = Unit {0}
+  IsCutStmt ContinueAt = Unit {0}
+  IsCutStmt (ReturnAt v) = Unit {0}
+
+  pub IsCutTree : Tree → Type 0
+  IsCutTree End = Unit {0}
+  IsCutTree (s ▸ rest) = IsCutStmt s × IsCutTree rest
+
+-- GROUPS
+
+saves_little : (frame : ℕ) (gs : List (List ℕ)) (l : ℕ) (k : Block) → AreSmall gs → IsLittle k
+    → IsLittle (chain (map (saving frame) gs) l k)
+saves_little frame [] l k a s = s
+saves_little frame (g ∷ gs) l k a s =
+    inr (record { frame = frame; variables = g; to = l; few = a.0; is = inl refl })
+
+saves_all : (frame : ℕ) (gs : List (List ℕ)) (l : ℕ) (k : Block) → AreSmall gs → IsLittle k
+    → AllLittle (chain_blocks (map (saving frame) gs) l k)
+saves_all frame [] l k a s = tt
+saves_all frame (g ∷ gs) l k a s =
+    (saves_little frame gs (l + 1) k a.1 s, saves_all frame gs (l + 1) k a.1 s)
+
+restores_little : (frame : ℕ) (gs : List (List ℕ)) (l : ℕ) (k : Block) → AreSmall gs → IsLittle k
+    → IsLittle (chain (map (restoring frame) gs) l k)
+restores_little frame [] l k a s = s
+restores_little frame (g ∷ gs) l k a s =
+    inr (record { frame = frame; variables = g; to = l; few = a.0; is = inr refl })
+
+restores_all : (frame : ℕ) (gs : List (List ℕ)) (l : ℕ) (k : Block) → AreSmall gs → IsLittle k
+    → AllLittle (chain_blocks (map (restoring frame) gs) l k)
+restores_all frame [] l k a s = tt
+restores_all frame (g ∷ gs) l k a s =
+    (restores_little frame gs (l + 1) k a.1 s, restores_all frame gs (l + 1) k a.1 s)
+
+result_little : (to : Option ℕ) (l : ℕ) → IsLittle (result_then to (jump l))
+result_little None l = little_jump l
+result_little (Some v) l = inl (record { items = omega arith; tests = omega arith; exits = omega arith })
+
+-- PASSING
+
+-- the arguments of a call, three in a block
+arguments_little : (xs : List Arg) (l f back : ℕ) → length xs ≤ 8
+    → IsLittle (moved (argument_cuts true) 0 (argument_moves 0 xs) l (call_block f back))
+    × AllLittle (moved_blocks (argument_cuts true) 0 (argument_moves 0 xs) l (call_block f back))
+arguments_little [] l f back le = (little _ (record { items = omega arith; tests = omega arith; exits = omega arith }), tt)
+arguments_little (a ∷ []) l f back le = (little _ (record { items = omega arith; tests = omega arith; exits = omega arith }), tt)
+arguments_little (a ∷ b ∷ []) l f back le = (little _ (record { items = omega arith; tests = omega arith; exits = omega arith }), tt)
+arguments_little (a ∷ b ∷ c ∷ []) l f back le = (little _ (record { items = omega arith; tests = omega arith; exits = omega arith }), (little _ (record { items = omega arith; tests = omega arith; exits = omega arith }), tt))
+arguments_little (a ∷ b ∷ c ∷ d ∷ []) l f back le = (little _ (record { items = omega arith; tests = omega arith; exits = omega arith }), (little _ (record { items = omega arith; tests = omega arith; exits = omega arith }), tt))
+arguments_little (a ∷ b ∷ c ∷ d ∷ e ∷ []) l f back le = (little _ (record { items = omega arith; tests = omega arith; exits = omega arith }), (little _ (record { items = omega arith; tests = omega arith; exits = omega arith }), tt))
+arguments_little (a ∷ b ∷ c ∷ d ∷ e ∷ g ∷ []) l f back le = (little _ (record { items = omega arith; tests = omega arith; exits = omega arith }), (little _ (record { items = omega arith; tests = omega arith; exits = omega arith }), (little _ (record { items = omega arith; tests = omega arith; exits = omega arith }), tt)))
+arguments_little (a ∷ b ∷ c ∷ d ∷ e ∷ g ∷ h ∷ []) l f back le = (little _ (record { items = omega arith; tests = omega arith; exits = omega arith }), (little _ (record { items = omega arith; tests = omega arith; exits = omega arith }), (little _ (record { items = omega arith; tests = omega arith; exits = omega arith }), tt)))
+arguments_little (a ∷ b ∷ c ∷ d ∷ e ∷ g ∷ h ∷ i ∷ []) l f back le = (little _ (record { items = omega arith; tests = omega arith; exits = omega arith }), (little _ (record { items = omega arith; tests = omega arith; exits = omega arith }), (little _ (record { items = omega arith; tests = omega arith; exits = omega arith }), tt)))
+arguments_little (a ∷ b ∷ c ∷ d ∷ e ∷ g ∷ h ∷ i ∷ j ∷ xs) l f back le = absurd (omega (arith, le))
+
+-- parameters, after two items of the way in
+parameters_little : (small : Bool) (n l x : ℕ) (body : Block) → small ≡ true → n ≤ 8
+    → Rest 1 (moved (parameter_cuts small) 0 (parameter_moves 0 n) l (cut small x body))
+    × AllLittle (moved_blocks (parameter_cuts small) 0 (parameter_moves 0 n) l (cut small x body))
+parameters_little false n l x body e le = absurd (cc e)
+parameters_little true zero l x body e le = (record { items = omega arith; tests = omega arith; exits = omega arith }, tt)
+parameters_little true (suc zero) l x body e le = (record { items = omega arith; tests = omega arith; exits = omega arith }, (little _ (record { items = omega arith; tests = omega arith; exits = omega arith }), tt))
+parameters_little true (suc (suc zero)) l x body e le = (record { items = omega arith; tests = omega arith; exits = omega arith }, (little _ (record { items = omega arith; tests = omega arith; exits = omega arith }), tt))
+parameters_little true (suc (suc (suc zero))) l x body e le = (record { items = omega arith; tests = omega arith; exits = omega arith }, (little _ (record { items = omega arith; tests = omega arith; exits = omega arith }), tt))
+parameters_little true (suc (suc (suc (suc zero)))) l x body e le = (record { items = omega arith; tests = omega arith; exits = omega arith }, (little _ (record { items = omega arith; tests = omega arith; exits = omega arith }), (little _ (record { items = omega arith; tests = omega arith; exits = omega arith }), tt)))
+parameters_little true (suc (suc (suc (suc (suc zero))))) l x body e le = (record { items = omega arith; tests = omega arith; exits = omega arith }, (little _ (record { items = omega arith; tests = omega arith; exits = omega arith }), (little _ (record { items = omega arith; tests = omega arith; exits = omega arith }), tt)))
+parameters_little true (suc (suc (suc (suc (suc (suc zero)))))) l x body e le = (record { items = omega arith; tests = omega arith; exits = omega arith }, (little _ (record { items = omega arith; tests = omega arith; exits = omega arith }), (little _ (record { items = omega arith; tests = omega arith; exits = omega arith }), tt)))
+parameters_little true (suc (suc (suc (suc (suc (suc (suc zero))))))) l x body e le = (record { items = omega arith; tests = omega arith; exits = omega arith }, (little _ (record { items = omega arith; tests = omega arith; exits = omega arith }), (little _ (record { items = omega arith; tests = omega arith; exits = omega arith }), (little _ (record { items = omega arith; tests = omega arith; exits = omega arith }), tt))))
+parameters_little true (suc (suc (suc (suc (suc (suc (suc (suc zero)))))))) l x body e le = (record { items = omega arith; tests = omega arith; exits = omega arith }, (little _ (record { items = omega arith; tests = omega arith; exits = omega arith }), (little _ (record { items = omega arith; tests = omega arith; exits = omega arith }), (little _ (record { items = omega arith; tests = omega arith; exits = omega arith }), tt))))
+parameters_little true (suc (suc (suc (suc (suc (suc (suc (suc (suc n))))))))) l x body e le = absurd (omega (arith, le))
+
+-- CODE
+
+leg_little : (o : Option ℕ) (first : Block) (others : List Block) → IsLittle first
+    → AllLittle others → AllLittle (leg_blocks o first others)
+leg_little None first others a b = (a, b)
+leg_little (Some x) first others a b = tt
+
+give_little : (v : Option Arg) (k : Block) → Rest 2 k → IsLittle (give v k)
+give_little None k r =
+    let i = r.items in little k (record { items = omega (arith, i); tests = r.tests; exits = r.exits })
+give_little (Some a) k r =
+    let i = r.items in let t = r.tests in
+    inl (record { items = omega (arith, i); tests = omega (arith, t); exits = r.exits })
+
+call_little : (p : Place) (f : ℕ) (args : List Arg) (to : Option ℕ) (groups : List (List ℕ)) (l : ℕ)
+    (k : Block) → AreSmall groups → length args ≤ 8 → IsLittle k
+    → IsLittle (entry_in p (CallAt true true f args to groups) l k)
+    × AllLittle (blocks_in p (CallAt true true f args to groups) l k)
+call_little p f args to groups l k small few s =
+    let n = length groups in
+    let back = l + n + arguments_size true args in
+    let m = arguments_little args (l + n) (p.entries f) back few in
+    let last = result_little to (back + 1 + n) in (
+      saves_little p.frame groups l _ small m.0,
+      little_append (chain_blocks (map (saving p.frame) groups) l _) _
+          (saves_all p.frame groups l _ small m.0)
+          (little_append (moved_blocks (argument_cuts true) 0 (argument_moves 0 args) (l + n) _) _ m.1 (
+            restores_little p.frame groups (back + 1) _ small last,
+            little_append (chain_blocks (map (restoring p.frame) groups) (back + 1) _) (k ∷ [])
+                (restores_all p.frame groups (back + 1) _ small last) (s, tt),
+          )),
+    )
+
+mutual
+  little_in : (p : Place) (st : Stmt) (l : ℕ) (k : Block) → IsCutStmt st → Rest 2 p.gave → IsLittle k
+      → IsLittle (entry_in p st l k) × AllLittle (blocks_in p st l k)
+  little_in p (LetAt true to op a b) l k t g s =
+      (inl (record { items = omega arith; tests = omega arith; exits = omega arith }), (s, tt))
+  little_in p (FrameAt true to at) l k t g s =
+      (inl (record { items = omega arith; tests = omega arith; exits = omega arith }), (s, tt))
+  little_in p (LoadAt true to op a) l k t g s =
+      (inl (record { items = omega arith; tests = omega arith; exits = omega arith }), (s, tt))
+  little_in p (SaveAt true op a v) l k t g s =
+      (inl (record { items = omega arith; tests = omega arith; exits = omega arith }), (s, tt))
+  little_in p (CallAt true true f args to groups) l k t g s =
+      call_little p f args to groups l k t.2 t.3 s
+  little_in p (PutAt v) l k t g s =
+      (inl (record { items = omega arith; tests = omega arith; exits = omega arith }), (s, tt))
+  little_in p (GetAt true to) l k t g s = (
+    inl (record { items = omega arith; tests = omega arith; exits = omega arith }),
+    (inl (record { items = omega arith; tests = omega arith; exits = omega arith }), (s, tt)),
+  )
+  little_in p (IfAt true false a one other) l k t g s =
+      let l1 = l + leg_size one (size one) in
+      let join = l1 + leg_size other (size other) in
+      let u = little_tree p one (l + 1) (jump join) t.2 g (little_jump join) in
+      let v = little_tree p other (l1 + 1) (jump join) t.3 g (little_jump join) in (
+        inl (record { items = omega arith; tests = omega arith; exits = omega arith }),
+        little_append (leg_blocks (exit_leg p join one) (entry p one (l + 1) (jump join))
+            (blocks p one (l + 1) (jump join))) _ (leg_little (exit_leg p join one) _ _ u.0 u.1)
+            (little_append (leg_blocks (exit_leg p join other) (entry p other (l1 + 1) (jump join))
+            (blocks p other (l1 + 1) (jump join))) (k ∷ [])
+            (leg_little (exit_leg p join other) _ _ v.0 v.1) (s, tt)),
+      )
+  little_in p (LoopAt true body post) l k t g s =
+      let next = l + 1 + size body in
+      let q = in_loop p (next + 1 + size post) next in
+      let x = little_tree q body (l + 1) (jump next) t.1 g (little_jump next) in
+      let y = little_tree q post (next + 1) (jump l) t.2 g (little_jump l) in (
+        little_jump l,
+        (
+          x.0,
+          little_append (blocks q body (l + 1) (jump next)) _ x.1
+              (y.0, little_append (blocks q post (next + 1) (jump l)) (k ∷ []) y.1 (s, tt)),
+        ),
+      )
+  little_in p BreakAt l k t g s = (little_jump p.broke, tt)
+  little_in p ContinueAt l k t g s = (little_jump p.again, tt)
+  little_in p (ReturnAt v) l k t g s = (give_little v p.gave g, tt)
+  little_in p (LetAt false to op a b) l k t g s = absurd (cc t)
+  little_in p (FrameAt false to at) l k t g s = absurd (cc t)
+  little_in p (LoadAt false to op a) l k t g s = absurd (cc t)
+  little_in p (SaveAt false op a v) l k t g s = absurd (cc t)
+  little_in p (CallAt false small f args to groups) l k t g s = let z = t.0 in absurd (cc z)
+  little_in p (CallAt true false f args to groups) l k t g s = let z = t.1 in absurd (cc z)
+  little_in p (GetAt false to) l k t g s = absurd (cc t)
+  little_in p (IfAt false joined a one other) l k t g s = let z = t.0 in absurd (cc z)
+  little_in p (IfAt true true a one other) l k t g s = let z = t.1 in absurd (cc z)
+  little_in p (LoopAt false body post) l k t g s = let z = t.0 in absurd (cc z)
+
+  pub little_tree : (p : Place) (c : Tree) (l : ℕ) (k : Block) → IsCutTree c → Rest 2 p.gave
+      → IsLittle k → IsLittle (entry p c l k) × AllLittle (blocks p c l k)
+  little_tree p End l k t g s = (s, tt)
+  little_tree p (st ▸ rest) l k t g s =
+      let y = little_tree p rest (l + size_in st) k t.1 g s in
+      let x = little_in p st l (entry p rest (l + size_in st) k) t.0 g y.0 in
+      (x.0, little_append (blocks_in p st l (entry p rest (l + size_in st) k)) _ x.1 y.1)
+
+-- FUNCTIONS
+
+out_rest : (g : Routine) → Rest 2 (way_out g)
+out_rest g = record { items = omega arith; tests = omega arith; exits = omega arith }
+
+-- a function whose code is cut, with at most eight parameters
+pub record IsCutRoutine (g : Routine) : Type 0 where
+  pub small : g.small ≡ true
+  pub few : g.params ≤ 8
+  pub body : IsCutTree g.body
+
+cuts_little : (c : Bool) (b : Block) → IsLittle b → AllLittle (cut_blocks c b)
+cuts_little true b s = (s, tt)
+cuts_little false b s = tt
+
+routine_little : (end : ℕ) (entries : ℕ → ℕ) (e : ℕ) (g : Routine) → IsCutRoutine g
+    → AllLittle (routine_blocks end entries e g)
+routine_little end entries e g t =
+    let body = body_entry g entries e in
+    let r = out_rest g in
+    let x = little_tree (place_of g entries) g.body (body_label g e) (way_out g) t.body r
+    (little (way_out g) (record { items = omega arith; tests = omega arith; exits = omega arith })) in
+    let w = parameters_little g.small g.params (e + 2) (e + 2 + parameters_size g) body t.small t.few in
+    let i = w.0.items in
+    let ts = w.0.tests in (
+      inl (record { items = omega arith; tests = omega arith; exits = omega arith }),
+      (
+        inl (record { items = omega (arith, i); tests = omega (arith, ts); exits = w.0.exits }),
+        little_append (moved_blocks (parameter_cuts g.small) 0 (parameter_moves 0 g.params) (e + 2) _) _
+            w.1 (little_append (cut_blocks g.small body) _ (cuts_little g.small body x.0) x.1),
+      ),
+    )
+
+all_little : (end : ℕ) (entries : ℕ → ℕ) (e : ℕ) (gs : List Routine)
+    → ((f : ℕ) (g : Routine) → slice_get gs f ≡ Some g → IsCutRoutine g)
+    → AllLittle (all_blocks end entries e gs)
+all_little end entries e [] t = tt
+all_little end entries e (g ∷ gs) t =
+    little_append (routine_blocks end entries e g) (all_blocks end entries (e + routine_size g) gs)
+    (routine_little end entries e g (t 0 g refl))
+    (all_little end entries (e + routine_size g) gs (λ f g q. t (suc f) g q))
+
+little_at : (bs : List Block) (k : ℕ) (b : Block) → slice_get bs k ≡ Some b → AllLittle bs
+    → IsLittle b
+little_at [] k b e s = absurd (cc e)
+little_at (x ∷ bs) zero b e s = let q : x ≡ b = cc e in subst IsLittle q s.0
+little_at (x ∷ bs) (suc k) b e s = little_at bs k b e s.1
+
+pub built_little : (base : ℕ) (gs : List Routine) (main : ℕ)
+    → ((f : ℕ) (g : Routine) → slice_get gs f ≡ Some g → IsCutRoutine g) → (k : ℕ) (b : Block)
+    → slice_get (built base gs main) k ≡ Some b → IsLittle b
+built_little base gs main t k b e =
+    little_at (built base gs main) k b e (
+      inl (record { items = omega arith; tests = omega arith; exits = omega arith }),
+      (
+        inl (record { items = omega arith; tests = omega arith; exits = omega arith }),
+        (
+          inl (record { items = omega arith; tests = omega arith; exits = omega arith }),
+          all_little (base + frame_limit) (entry_from 3 gs) 3 gs t,
+        ),
+      ),
+    )

@@ -1,0 +1,503 @@
+-- Every block of annotated code that fits has items that fit, and leads to a block of the program.
+use Rattle.std.proofs.Common.{◌≡◌, ℕ, zero, suc, ◌+◌, ◌-◌, ◌^◌, ◌<◌, ◌≤◌, Bool, true, false, cond, not}
+use Rattle.std.proofs.Common.{◌||◌, ◌&&◌, List, [], ◌∷◌, ◌++◌, map, length, Option, Some, None, refl, sym}
+use Rattle.std.proofs.Common.{subst, arith, inl, inr, min, nat_eq, slice_get, eq-eqb}
+use Rattle.std.specs.List.{concat}
+use Rattle.reg_assign.specs.Keeps.{is_among}
+use Rattle.std.proofs.lemmas.Bool.{cases_lt}
+use Rattle.trips_isa.specs.declared.op.Op.{Op}
+use Rattle.ir_forms.specs.declared.flat.Arg.{Arg}
+use Rattle.ir_forms.specs.declared.flat.Arg.TheVariants as arg
+use Rattle.ir_forms.specs.declared.hyper.Exit.{Exit}
+use Rattle.ir_forms.specs.declared.hyper.Exit.TheVariants as exit
+use Rattle.ir_forms.specs.Frames.{register_of, frame_limit, argument_register}
+use Rattle.ir_forms.specs.FlatFits.{FitsArg, FitsVar, FitsLastings, FitsResult, FitsReturn, is_lasting}
+use Rattle.ir_forms.specs.HyperCode.{Items, Done, Set, Load, Save, If, Tail, Leave, Test, Block}
+use Rattle.ir_forms.specs.HyperFits.{FitsSource, FitsItems}
+use Rattle.ir_forms.specs.HyperRuns.{jump}
+use Rattle.hyper_build.specs.Tree.{Stmt, LetAt, FrameAt, LoadAt, SaveAt, CallAt, PutAt, GetAt, IfAt}
+use Rattle.hyper_build.specs.Tree.{LoopAt, BreakAt, ContinueAt, ReturnAt, Tree, End, ◌▸◌, Routine}
+use Rattle.hyper_build.specs.Tree.{is_saved}
+use Rattle.hyper_build.specs.Parts.{source, capped, set_then, cut, cut_blocks, cut_size, chain, chain_blocks}
+use Rattle.hyper_build.specs.Parts.{Move, moved, moved_blocks, moved_size}
+use Rattle.hyper_build.specs.Passing.{below_end, saving, restoring, argument_moves, argument_cuts}
+use Rattle.hyper_build.specs.Passing.{result_then}
+use Rattle.hyper_build.specs.Straight.{Place, in_loop, straight_in, straight, items_in, items_of, is_item}
+use Rattle.hyper_build.specs.Straight.{exit_leg, label_or, leg_blocks, leg_size, arguments_size}
+use Rattle.hyper_build.specs.Straight.{size_in, size}
+use Rattle.hyper_build.specs.Build.{call_block, call_entry, back_block, give, body_end, choose, entry_in}
+use Rattle.hyper_build.specs.Build.{entry, blocks_in, blocks}
+use Rattle.hyper_build.specs.World.{World}
+use Rattle.hyper_build.specs.Fits.{FitsCallAt, FitsStmt, FitsTree}
+use Rattle.hyper_build.proofs.Registers.{lasting_below, register_lasting, register_scratch, or_left}
+use Rattle.hyper_build.proofs.Registers.{or_right, among_left, among_right}
+use Rattle.hyper_build.proofs.Simple.{variable_small}
+
+-- SOUND BLOCKS
+
+abbrev pub SoundExit : ℕ → Exit → Type 0
+SoundExit N (exit.Jump l) = l < N
+SoundExit N (exit.Call l back) = (l < N) × (back < N)
+SoundExit N exit.Return = Unit {0}
+SoundExit N (exit.System l) = l < N
+
+abbrev pub SoundTail : ℕ → Tail → Type 0
+SoundTail N (Leave e) = SoundExit N e
+SoundTail N (Test t one other) = FitsSource t × SoundTail N one × SoundTail N other
+
+-- items that fit, and exits that lead to one of N blocks
+pub record Sound (N : ℕ) (b : Block) : Type 0 where
+  pub items : FitsItems b.items
+  pub tail : SoundTail N b.tail
+
+abbrev pub AllSound : ℕ → List Block → Type 0
+AllSound N [] = Unit {0}
+AllSound N (b ∷ bs) = Sound N b × AllSound N bs
+
+pub sound_append : (N : ℕ) (xs ys : List Block) → AllSound N xs → AllSound N ys → AllSound N (xs ++ ys)
+sound_append N [] ys a b = b
+sound_append N (x ∷ xs) ys a b = (a.0, sound_append N xs ys a.1 b)
+
+pub register_small : (v : ℕ) → v < 88 → register_of v < 128
+register_small v lt = elim (cases_lt v 80) [
+  | inl a ↦ (let e = register_lasting v a in omega (arith, e))
+  | inr a ↦ (let e = register_scratch v a in omega (arith, e))
+]
+
+pub capped_word : (n : ℕ) → capped n < 2 ^ 64
+unfolding frame_limit
+capped_word n = omega arith
+
+source_fits : (n : ℕ) (a : Arg) → n ≤ 64 → FitsArg n a → FitsSource (source a)
+source_fits n (arg.Const w) le t = t
+source_fits n (arg.Var v) le t = register_small v (variable_small n v le t)
+
+jump_sound : (N l : ℕ) → l < N → Sound N (jump l)
+jump_sound N l lt = record { items = tt; tail = lt }
+
+pub cut_sound : (N : ℕ) (c : Bool) (l : ℕ) (k : Block) → l + cut_size c ≤ N → Sound N k → Sound N (cut c l k)
+cut_sound N true l k le s = jump_sound N l (omega (arith, le))
+cut_sound N false l k le s = s
+
+pub cuts_sound : (N : ℕ) (c : Bool) (k : Block) → Sound N k → AllSound N (cut_blocks c k)
+cuts_sound N true k s = (s, tt)
+cuts_sound N false k s = tt
+
+-- MOVES
+
+abbrev pub MovesFit : List Move → Type 0
+MovesFit [] = Unit {0}
+MovesFit (x ∷ xs) = (x.to < 128) × FitsSource x.from × MovesFit xs
+
+pub moved_sound : (N : ℕ) (cuts : ℕ → Bool) (i : ℕ) (xs : List Move) (l : ℕ) (k : Block) → MovesFit xs
+    → l + moved_size cuts i xs ≤ N → Sound N k → Sound N (moved cuts i xs l k)
+moved_sound N cuts i [] l k m le s = s
+moved_sound N cuts i (x ∷ xs) l k m le s =
+    let l1 = l + cut_size (cuts i) in
+    let next = moved cuts (suc i) xs l1 k in
+    let h = moved_sound N cuts (suc i) xs l1 k m.2 (omega (arith, le)) s in
+    let c = cut_sound N (cuts i) l next (omega (arith, le)) h in
+    record { items = (m.0, refl, m.1, omega arith, c.items); tail = c.tail }
+
+pub moves_sound : (N : ℕ) (cuts : ℕ → Bool) (i : ℕ) (xs : List Move) (l : ℕ) (k : Block) → MovesFit xs
+    → l + moved_size cuts i xs ≤ N → Sound N k → AllSound N (moved_blocks cuts i xs l k)
+moves_sound N cuts i [] l k m le s = tt
+moves_sound N cuts i (x ∷ xs) l k m le s =
+    let l1 = l + cut_size (cuts i) in
+    let next = moved cuts (suc i) xs l1 k in
+    let h = moved_sound N cuts (suc i) xs l1 k m.2 (omega (arith, le)) s in
+    sound_append N (cut_blocks (cuts i) next) (moved_blocks cuts (suc i) xs l1 k)
+    (cuts_sound N (cuts i) next h) (moves_sound N cuts (suc i) xs l1 k m.2 (omega (arith, le)) s)
+
+arguments_fit : (n i : ℕ) (xs : List Arg) → n ≤ 64 → i + length xs ≤ 8 → FitsLastings n xs
+    → MovesFit (argument_moves i xs)
+arguments_fit n i [] le few t = tt
+arguments_fit n i (arg.Const w ∷ xs) le few t =
+    (omega (arith, few), t.0, arguments_fit n (suc i) xs le (omega (arith, few)) t.1)
+arguments_fit n i (arg.Var v ∷ xs) le few t = (
+  omega (arith, few),
+  register_small v (let h = lasting_below n v le t.0 in omega (arith, h)),
+  arguments_fit n (suc i) xs le (omega (arith, few)) t.1,
+)
+
+-- SAVE GROUPS
+
+abbrev AllSmall : List ℕ → Type 0
+AllSmall [] = Unit {0}
+AllSmall (v ∷ vs) = (v < 80) × AllSmall vs
+
+abbrev GroupsSmall : List (List ℕ) → Type 0
+GroupsSmall [] = Unit {0}
+GroupsSmall (g ∷ gs) = AllSmall g × GroupsSmall gs
+
+saving_sound : (N frame : ℕ) (vs : List ℕ) (k : Block) → AllSmall vs → Sound N k
+    → Sound N (saving frame vs k)
+saving_sound N frame [] k a s = s
+saving_sound N frame (v ∷ vs) k a s =
+    let h = saving_sound N frame vs k a.1 s in
+    let lt = a.0 in
+    record {
+      items = (
+        omega arith,
+        refl,
+        omega arith,
+        capped_word _,
+        (refl, omega arith, register_small v (omega (arith, lt)), h.items),
+      );
+      tail = h.tail;
+    }
+
+restoring_sound : (N frame : ℕ) (vs : List ℕ) (k : Block) → AllSmall vs → Sound N k
+    → Sound N (restoring frame vs k)
+restoring_sound N frame [] k a s = s
+restoring_sound N frame (v ∷ vs) k a s =
+    let h = restoring_sound N frame vs k a.1 s in
+    let lt = a.0 in
+    record {
+      items = (
+        omega arith,
+        refl,
+        omega arith,
+        capped_word _,
+        (register_small v (omega (arith, lt)), refl, omega arith, h.items),
+      );
+      tail = h.tail;
+    }
+
+-- groups in blocks of their own
+module _ (N : ℕ) (f : List ℕ → Block → Block)
+    (one : (vs : List ℕ) (k : Block) → AllSmall vs → Sound N k → Sound N (f vs k)) where
+  chain_sound : (gs : List (List ℕ)) (l : ℕ) (k : Block) → GroupsSmall gs → l + length gs ≤ N
+      → Sound N k → Sound N (chain (map f gs) l k)
+  chain_sound [] l k a le s = s
+  chain_sound (g ∷ gs) l k a le s = one g (jump l) a.0 (jump_sound N l (omega (arith, le)))
+
+  chains_sound : (gs : List (List ℕ)) (l : ℕ) (k : Block) → GroupsSmall gs → l + length gs ≤ N
+      → Sound N k → AllSound N (chain_blocks (map f gs) l k)
+  chains_sound [] l k a le s = tt
+  chains_sound (g ∷ gs) l k a le s = (
+    chain_sound gs (l + 1) k a.1 (omega (arith, le)) s,
+    chains_sound gs (l + 1) k a.1 (omega (arith, le)) s,
+  )
+
+result_sound : (N n : ℕ) (to : Option ℕ) (k : Block) → n ≤ 64 → FitsResult n to → Sound N k
+    → Sound N (result_then to k)
+result_sound N n None k le t s = s
+result_sound N n (Some v) k le t s =
+    let h = lasting_below n v le t in
+    record {
+      items = (register_small v (omega (arith, h)), refl, omega arith, omega arith, s.items);
+      tail = s.tail;
+    }
+
+-- STRAIGHT CODE
+
+module _ (W : World) (g : Routine) (scalars : g.scalars ≤ 64) where
+  mutual
+    items_in_fit : (inside : Bool) (p : Place) (s : Stmt) (k : Items) → FitsStmt W g inside s
+        → FitsItems k → FitsItems (items_in p s k)
+    items_in_fit inside p (LetAt c to op a b) k t h = (
+      register_small to (variable_small g.scalars to scalars t.1),
+      t.0,
+      source_fits g.scalars a scalars t.2,
+      source_fits g.scalars b scalars t.3,
+      h,
+    )
+    items_in_fit inside p (FrameAt c to at) k t h = (
+      register_small to (variable_small g.scalars to scalars t.0),
+      refl,
+      omega arith,
+      capped_word _,
+      h,
+    )
+    items_in_fit inside p (LoadAt c to op a) k t h = (
+      register_small to (variable_small g.scalars to scalars t.1),
+      t.0,
+      source_fits g.scalars a scalars t.2,
+      h,
+    )
+    items_in_fit inside p (SaveAt c op a v) k t h =
+        (t.0, source_fits g.scalars a scalars t.1, source_fits g.scalars v scalars t.2, h)
+    items_in_fit inside p (IfAt c joined a one other) k t h = (
+      source_fits g.scalars a scalars t.0,
+      items_fit inside p one Done t.2 tt,
+      items_fit inside p other Done t.3 tt,
+      h,
+    )
+    items_in_fit inside p (CallAt c small f args to groups) k t h = h
+    items_in_fit inside p (PutAt v) k t h = h
+    items_in_fit inside p (GetAt c to) k t h = h
+    items_in_fit inside p (LoopAt c body post) k t h = h
+    items_in_fit inside p BreakAt k t h = h
+    items_in_fit inside p ContinueAt k t h = h
+    items_in_fit inside p (ReturnAt v) k t h = h
+
+    items_fit : (inside : Bool) (p : Place) (c : Tree) (k : Items) → FitsTree W g inside c
+        → FitsItems k → FitsItems (items_of p c k)
+    items_fit inside p End k t h = h
+    items_fit inside p (s ▸ rest) k t h =
+        items_in_fit inside p s (items_of p rest k) t.0 (items_fit inside p rest k t.1 h)
+
+-- CODE
+
+-- what code needs of where it stands
+pub record GoodPlace (N : ℕ) (inside : Bool) (p : Place) : Type 0 where
+  pub gave : Sound N p.gave
+  pub entries : (f : ℕ) → p.entries f < N
+  pub broke : inside ≡ true → p.broke < N
+  pub again : inside ≡ true → p.again < N
+
+groups_small : (gs : List (List ℕ)) → ((v : ℕ) → is_saved gs v ≡ true → v < 80) → GroupsSmall gs
+groups_small [] h = tt
+groups_small (g ∷ gs) h = (
+  each g (λ v e. h v (among_left g (concat gs) v e)),
+  groups_small gs (λ v e. h v (among_right g (concat gs) v e)),
+)
+  where
+    each : (vs : List ℕ) → ((v : ℕ) → is_among vs v ≡ true → v < 80) → AllSmall vs
+    each [] h = tt
+    each (x ∷ vs) h = (
+      h x (or_left (nat_eq x x) (is_among vs x) (eq-eqb x x refl)),
+      each vs (λ v e. h v (or_right (nat_eq v x) (is_among vs v) e)),
+    )
+
+-- where a leg leads, and where its blocks end
+pub record LegIs (N l join : ℕ) (p : Place) (c : Tree) : Type 0 where
+  pub label : label_or l (exit_leg p join c) < N
+  pub room : l + 1 + size c ≤ N
+
+own_leg : (N l join : ℕ) (p : Place) (c : Tree) → exit_leg p join c ≡ None → l + (1 + size c) ≤ join
+    → join < N → LegIs N l join p c
+own_leg N l join p c e le lt = record {
+  label = subst (λ o. label_or l o < N) (sym e) (omega (arith, le, lt));
+  room = omega (arith, le, lt);
+}
+
+module _ (W : World) (g : Routine) (scalars : g.scalars ≤ 64) (N : ℕ)
+    (known : (f : ℕ) (r : Routine) → slice_get W.routines f ≡ Some r → r.params ≤ 8) where
+  leg_is : (inside : Bool) (p : Place) (c : Tree) (l join : ℕ) → FitsTree W g inside c
+      → GoodPlace N inside p → l + leg_size c (size c) ≤ join → join < N → LegIs N l join p c
+  leg_is inside p End l join t q le lt = record { label = lt; room = omega (arith, le, lt) }
+  leg_is inside p (BreakAt ▸ End) l join t q le lt =
+      record { label = q.broke t.0; room = omega (arith, le, lt) }
+  leg_is inside p (ContinueAt ▸ End) l join t q le lt =
+      record { label = q.again t.0; room = omega (arith, le, lt) }
+  leg_is inside p (BreakAt ▸ (x ▸ rest)) l join t q le lt =
+      own_leg N l join p (BreakAt ▸ (x ▸ rest)) refl le lt
+  leg_is inside p (ContinueAt ▸ (x ▸ rest)) l join t q le lt =
+      own_leg N l join p (ContinueAt ▸ (x ▸ rest)) refl le lt
+  leg_is inside p (LetAt c to op a b ▸ rest) l join t q le lt =
+      own_leg N l join p (LetAt c to op a b ▸ rest) refl le lt
+  leg_is inside p (FrameAt c to at ▸ rest) l join t q le lt =
+      own_leg N l join p (FrameAt c to at ▸ rest) refl le lt
+  leg_is inside p (LoadAt c to op a ▸ rest) l join t q le lt =
+      own_leg N l join p (LoadAt c to op a ▸ rest) refl le lt
+  leg_is inside p (SaveAt c op a v ▸ rest) l join t q le lt =
+      own_leg N l join p (SaveAt c op a v ▸ rest) refl le lt
+  leg_is inside p (CallAt c small f args to groups ▸ rest) l join t q le lt =
+      own_leg N l join p (CallAt c small f args to groups ▸ rest) refl le lt
+  leg_is inside p (PutAt v ▸ rest) l join t q le lt =
+      own_leg N l join p (PutAt v ▸ rest) refl le lt
+  leg_is inside p (GetAt c to ▸ rest) l join t q le lt =
+      own_leg N l join p (GetAt c to ▸ rest) refl le lt
+  leg_is inside p (IfAt c joined a one other ▸ rest) l join t q le lt =
+      own_leg N l join p (IfAt c joined a one other ▸ rest) refl le lt
+  leg_is inside p (LoopAt c body post ▸ rest) l join t q le lt =
+      own_leg N l join p (LoopAt c body post ▸ rest) refl le lt
+  leg_is inside p (ReturnAt v ▸ rest) l join t q le lt =
+      own_leg N l join p (ReturnAt v ▸ rest) refl le lt
+
+  leg_sound : (o : Option ℕ) (first : Block) (others : List Block) → Sound N first
+      → AllSound N others → AllSound N (leg_blocks o first others)
+  leg_sound None first others a b = (a, b)
+  leg_sound (Some x) first others a b = tt
+
+  give_sound : (v : Option Arg) (k : Block) → FitsReturn g.scalars v → Sound N k → Sound N (give v k)
+  give_sound None k t s = s
+  give_sound (Some a) k t s = record {
+    items = (omega arith, refl, source_fits g.scalars a scalars t, omega arith, s.items);
+    tail = s.tail;
+  }
+
+  end_sound : (p : Place) (c : Bool) (post : Tree) (next head : ℕ) → FitsTree W g false post
+      → next < N → head < N → Sound N (body_end p c post next head)
+  end_sound p c post next head t a b = go (c || not (straight post))
+    where
+      go : (x : Bool) → Sound N (cond x (jump next)
+          (record { items = items_of p post Done; tail = Leave (exit.Jump head) }))
+      go true = jump_sound N next a
+      go false = record { items = items_fit W g scalars false p post Done t tt; tail = b }
+
+  choose_sound : (b : Bool) (x y : Block) → (b ≡ true → Sound N x) → (b ≡ false → Sound N y)
+      → Sound N (choose b x y)
+  choose_sound true x y f h = f refl
+  choose_sound false x y f h = h refl
+
+  choice_sound : (b : Bool) (xs ys : List Block) → (b ≡ true → AllSound N xs)
+      → (b ≡ false → AllSound N ys) → AllSound N (cond b xs ys)
+  choice_sound true xs ys f h = f refl
+  choice_sound false xs ys f h = h refl
+
+  -- a call's blocks
+  call_sound : (p : Place) (c small : Bool) (f : ℕ) (args : List Arg) (to : Option ℕ)
+      (groups : List (List ℕ)) (l : ℕ) (k : Block) (inside : Bool)
+      → FitsCallAt W g f args to groups → GoodPlace N inside p
+      → l + size_in (CallAt c small f args to groups) ≤ N → Sound N k
+      → Sound N (entry_in p (CallAt c small f args to groups) l k)
+      × AllSound N (blocks_in p (CallAt c small f args to groups) l k)
+  call_sound p c small f args to groups l k inside t q le s =
+      let n = length groups in
+      let a = arguments_size small args in
+      let back = l + n + a in
+      let rest = cut c (back + 1 + n) k in
+      let last = result_then to rest in
+      let moves = argument_moves 0 args in
+      let call = call_block (p.entries f) back in
+      let arity = t.arity in
+      let params = known f t.routine t.found in
+      let gs = groups_small groups (λ v e. lasting_below g.scalars v scalars (t.saved v e)) in
+      let ms = arguments_fit g.scalars 0 args scalars (omega (arith, arity, params)) t.lasting in
+      let calls : Sound N (call_block (p.entries f) back) = record { items = tt; tail = (q.entries f, omega (arith, le)) } in
+      let m1 = moved_sound N (argument_cuts small) 0 moves (l + n) call ms (omega (arith, le)) calls in
+      let m2 = moves_sound N (argument_cuts small) 0 moves (l + n) call ms (omega (arith, le)) calls in
+      let sv = λ (vs : List ℕ) (k : Block). saving_sound N p.frame vs k in
+      let rs = λ (vs : List ℕ) (k : Block). restoring_sound N p.frame vs k in
+      let r0 = cut_sound N c (back + 1 + n) k (omega (arith, le)) s in
+      let r1 = result_sound N g.scalars to rest scalars t.result r0 in (
+        chain_sound N (saving p.frame) sv groups l _ gs (omega (arith, le)) m1,
+        sound_append N (chain_blocks (map (saving p.frame) groups) l (moved (argument_cuts small) 0 moves (l + n) call)) _
+            (chains_sound N (saving p.frame) sv groups l _ gs (omega (arith, le)) m1)
+            (sound_append N (moved_blocks (argument_cuts small) 0 moves (l + n) call) _ m2 (
+              chain_sound N (restoring p.frame) rs groups (back + 1) last gs (omega (arith, le)) r1,
+              sound_append N (chain_blocks (map (restoring p.frame) groups) (back + 1) last) (cut_blocks c k)
+                  (chains_sound N (restoring p.frame) rs groups (back + 1) last gs (omega (arith, le)) r1)
+                  (cuts_sound N c k s),
+            )),
+      )
+
+  mutual
+    sound_in : (inside : Bool) (p : Place) (st : Stmt) (l : ℕ) (k : Block) → FitsStmt W g inside st
+        → GoodPlace N inside p → l + size_in st ≤ N → Sound N k
+        → Sound N (entry_in p st l k) × AllSound N (blocks_in p st l k)
+    sound_in inside p (LetAt c to op a b) l k t q le s =
+        let h = cut_sound N c l k le s in (
+          record { items = items_in_fit W g scalars inside p (LetAt c to op a b) _ t h.items; tail = h.tail },
+          cuts_sound N c k s,
+        )
+    sound_in inside p (FrameAt c to at) l k t q le s =
+        let h = cut_sound N c l k le s in (
+          record { items = items_in_fit W g scalars inside p (FrameAt c to at) _ t h.items; tail = h.tail },
+          cuts_sound N c k s,
+        )
+    sound_in inside p (LoadAt c to op a) l k t q le s =
+        let h = cut_sound N c l k le s in (
+          record { items = items_in_fit W g scalars inside p (LoadAt c to op a) _ t h.items; tail = h.tail },
+          cuts_sound N c k s,
+        )
+    sound_in inside p (SaveAt c op a v) l k t q le s =
+        let h = cut_sound N c l k le s in (
+          record { items = items_in_fit W g scalars inside p (SaveAt c op a v) _ t h.items; tail = h.tail },
+          cuts_sound N c k s,
+        )
+    sound_in inside p (CallAt c small f args to groups) l k t q le s =
+        call_sound p c small f args to groups l k inside t q le s
+    sound_in inside p (PutAt v) l k t q le s = (
+      record {
+        items = (
+          omega arith,
+          refl,
+          omega arith,
+          omega arith,
+          (omega arith, refl, source_fits g.scalars v scalars t.0, omega arith, tt),
+        );
+        tail = omega (arith, le);
+      },
+      (s, tt),
+    )
+    sound_in inside p (GetAt c to) l k t q le s =
+        let h = cut_sound N c (l + 1) k (omega (arith, le)) s in (
+          record { items = (omega arith, refl, omega arith, omega arith, tt); tail = omega (arith, le) },
+          (
+            record {
+              items = (
+                register_small to (variable_small g.scalars to scalars t),
+                refl,
+                omega arith,
+                omega arith,
+                h.items,
+              );
+              tail = h.tail;
+            },
+            cuts_sound N c k s,
+          ),
+        )
+    sound_in inside p (IfAt c joined a one other) l k t q le s =
+        let l1 = l + leg_size one (size one) in
+        let join = l1 + leg_size other (size other) in
+        let room = λ (b : Bool) (e : is_item joined one other ≡ b). subst (λ b. l + cond b (cut_size c)
+        (leg_size one (size one) + (leg_size other (size other) + 1)) ≤ N) e le in (
+          choose_sound (is_item joined one other) _ _
+              (λ e. let h = cut_sound N c l k (room true e) s in
+              record {
+                items = items_in_fit W g scalars inside p (IfAt c joined a one other) _ t h.items;
+                tail = h.tail;
+              })
+              (λ e. let z = room false e in
+              let x = leg_is inside p one l join t.2 q (omega arith) (omega (arith, z)) in
+              let y = leg_is inside p other l1 join t.3 q (omega arith) (omega (arith, z)) in
+              record { items = tt; tail = (source_fits g.scalars a scalars t.0, x.label, y.label) }),
+          choice_sound (is_item joined one other) (cut_blocks c k) _ (λ e. cuts_sound N c k s)
+              (λ e. let z = room false e in
+              let jn = jump_sound N join (omega (arith, z)) in
+              let x = leg_is inside p one l join t.2 q (omega arith) (omega (arith, z)) in
+              let y = leg_is inside p other l1 join t.3 q (omega arith) (omega (arith, z)) in
+              let u = sound_tree inside p one (l + 1) (jump join) t.2 q x.room jn in
+              let v = sound_tree inside p other (l1 + 1) (jump join) t.3 q y.room jn in
+              sound_append N (leg_blocks (exit_leg p join one) (entry p one (l + 1) (jump join))
+              (blocks p one (l + 1) (jump join))) _
+              (leg_sound (exit_leg p join one) _ _ u.0 u.1)
+              (sound_append N (leg_blocks (exit_leg p join other) (entry p other (l1 + 1) (jump join))
+              (blocks p other (l1 + 1) (jump join))) (k ∷ [])
+              (leg_sound (exit_leg p join other) _ _ v.0 v.1) (s, tt))),
+        )
+    sound_in inside p (LoopAt c body post) l k t q le s =
+        let next = l + 1 + size body in
+        let broke = next + 1 + size post in
+        let r = in_loop p broke next in
+        let after = body_end r c post next l in
+        let qb : GoodPlace N true (in_loop p broke next) = record {
+          gave = q.gave;
+          entries = q.entries;
+          broke = λ e. omega (arith, le);
+          again = λ e. omega (arith, le);
+        } in
+        let qp : GoodPlace N false (in_loop p broke next) = record {
+          gave = q.gave;
+          entries = q.entries;
+          broke = λ e. omega (arith, le);
+          again = λ e. omega (arith, le);
+        } in
+        let ends = end_sound r c post next l t.1 (omega (arith, le)) (omega (arith, le)) in
+        let x = sound_tree true r body (l + 1) after t.0 qb (omega (arith, le)) ends in
+        let y = sound_tree false r post (next + 1) (jump l) t.1 qp (omega (arith, le))
+        (jump_sound N l (omega (arith, le))) in (
+          jump_sound N l (omega (arith, le)),
+          (
+            x.0,
+            sound_append N (blocks r body (l + 1) after) _ x.1
+                (y.0, sound_append N (blocks r post (next + 1) (jump l)) (k ∷ []) y.1 (s, tt)),
+          ),
+        )
+    sound_in inside p BreakAt l k t q le s = (jump_sound N p.broke (q.broke t), tt)
+    sound_in inside p ContinueAt l k t q le s = (jump_sound N p.again (q.again t), tt)
+    sound_in inside p (ReturnAt v) l k t q le s = (give_sound v p.gave t.0 q.gave, tt)
+
+    pub sound_tree : (inside : Bool) (p : Place) (c : Tree) (l : ℕ) (k : Block)
+        → FitsTree W g inside c → GoodPlace N inside p → l + size c ≤ N → Sound N k
+        → Sound N (entry p c l k) × AllSound N (blocks p c l k)
+    sound_tree inside p End l k t q le s = (s, tt)
+    sound_tree inside p (st ▸ rest) l k t q le s =
+        let k1 = entry p rest (l + size_in st) k in
+        let y = sound_tree inside p rest (l + size_in st) k t.1 q (omega (arith, le)) s in
+        let x = sound_in inside p st l k1 t.0 q (omega (arith, le)) y.0 in
+        (x.0, sound_append N (blocks_in p st l k1) (blocks p rest (l + size_in st) k) x.1 y.1)

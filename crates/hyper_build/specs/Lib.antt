@@ -1,0 +1,17 @@
+pub mod Tree
+pub mod Parts
+pub mod Passing
+pub mod Straight
+pub mod Build
+pub mod Routines
+pub mod World
+pub mod Follow
+pub mod Fits
+pub mod Premises
+pub mod CallsClaim
+pub mod Followed
+pub mod Whole
+pub mod Annotated
+pub mod Laws
+pub mod Emitted
+pub mod Smallness

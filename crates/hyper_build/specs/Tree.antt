@@ -1,0 +1,120 @@
+-- Flat code with annotations: where blocks are cut, and which groups of variables a call saves.
+use Rattle.std.specs.Prelude.{ℕ, ◌+◌, Bool, List, [], ◌∷◌, Option}
+use Rattle.std.specs.List.{concat}
+use Rattle.trips_isa.specs.declared.op.Op.{Op}
+use Rattle.ir_forms.specs.declared.flat.Arg.{Arg}
+use Rattle.ir_forms.specs.FlatCode.{Step, Code, Nop, ◌▹◌, Function, Let, Frame, Load, Save, Call, Put}
+use Rattle.ir_forms.specs.FlatCode.{Get, If, Loop, Break, Continue, Return}
+use Rattle.ir_forms.specs.FlatFits.{steps_in, steps_of}
+use Rattle.reg_assign.specs.Keeps.{calls_in, calls, is_among}
+
+-- Each name is the flat statement's with `At`. `cut` says that the block ends behind the statement;
+-- of a loop, that it ends between body and post. `joined` makes an if an item of its block, `small`
+-- cuts a call's arguments behind every third.
+mutual
+  pub data Stmt : Type 0 where
+    LetAt : (cut : Bool) (to : ℕ) (op : Op) (a b : Arg) → Stmt
+    FrameAt : (cut : Bool) (to at : ℕ) → Stmt
+    LoadAt : (cut : Bool) (to : ℕ) (op : Op) (address : Arg) → Stmt
+    SaveAt : (cut : Bool) (op : Op) (address value : Arg) → Stmt
+    CallAt : (cut small : Bool) (function : ℕ) (args : List Arg) (to : Option ℕ)
+        (groups : List (List ℕ)) → Stmt
+    PutAt : (value : Arg) → Stmt
+    GetAt : (cut : Bool) (to : ℕ) → Stmt
+    IfAt : (cut joined : Bool) (test : Arg) (one other : Tree) → Stmt
+    LoopAt : (cut : Bool) (body post : Tree) → Stmt
+    BreakAt : Stmt
+    ContinueAt : Stmt
+    ReturnAt : (value : Option Arg) → Stmt
+
+  -- statements in order
+  pub data Tree : Type 0 where
+    End : Tree
+    ◌▸◌ : (s : Stmt) (rest : Tree) → Tree
+
+infixr 50 ◌▸◌
+-- THE FLAT PROGRAM BELOW
+
+-- the variables of all groups
+abbrev pub is_saved : List (List ℕ) → ℕ → Bool
+is_saved groups = is_among (concat groups)
+
+-- The flat code without cuts; a call keeps what it saves.
+abbrev mutual
+  pub plain_in : Stmt → Step
+  plain_in (LetAt c to op a b) = Let to op a b
+  plain_in (FrameAt c to at) = Frame to at
+  plain_in (LoadAt c to op a) = Load to op a
+  plain_in (SaveAt c op a v) = Save op a v
+  plain_in (CallAt c small f args to groups) = Call f args to (is_saved groups)
+  plain_in (PutAt v) = Put v
+  plain_in (GetAt c to) = Get to
+  plain_in (IfAt c joined t one other) = If t (plain one) (plain other)
+  plain_in (LoopAt c body post) = Loop (plain body) (plain post)
+  plain_in BreakAt = Break
+  plain_in ContinueAt = Continue
+  plain_in (ReturnAt v) = Return v
+
+  pub plain : Tree → Code
+  plain End = Nop
+  plain (s ▸ rest) = plain_in s ▹ plain rest
+
+-- a function with annotations; `small` cuts its way in behind every third item
+pub record Routine : Type 0 where
+  pub params : ℕ
+  pub scalars : ℕ
+  pub arrays : ℕ
+  pub small : Bool
+  pub body : Tree
+
+abbrev pub function_of : Routine → Function
+function_of g =
+    record { params = g.params; scalars = g.scalars; arrays = g.arrays; body = plain g.body }
+
+-- ANNOTATING
+
+-- Where a plan cuts, by the number of a statement in the order of the program, and what its calls
+-- save, by the number of a call.
+pub record Plan : Type 0 where
+  pub cut : ℕ → Bool
+  pub joined : ℕ → Bool
+  pub small : ℕ → Bool
+  pub groups : ℕ → List (List ℕ)
+
+-- Code with a plan's annotations, where i statements and k calls stand before it.
+abbrev mutual
+  pub annotated_in : Plan → ℕ → ℕ → Step → Stmt
+  annotated_in p i k (Let to op a b) = LetAt (p.cut i) to op a b
+  annotated_in p i k (Frame to at) = FrameAt (p.cut i) to at
+  annotated_in p i k (Load to op a) = LoadAt (p.cut i) to op a
+  annotated_in p i k (Save op a v) = SaveAt (p.cut i) op a v
+  annotated_in p i k (Call f args to kept) = CallAt (p.cut i) (p.small i) f args to (p.groups k)
+  annotated_in p i k (Put v) = PutAt v
+  annotated_in p i k (Get to) = GetAt (p.cut i) to
+  annotated_in p i k (If t one other) =
+      IfAt (p.cut i) (p.joined i) t (annotated p (i + 1) k one)
+      (annotated p (i + 1 + steps_of one) (k + calls one) other)
+  annotated_in p i k (Loop body post) =
+      LoopAt (p.cut i) (annotated p (i + 1) k body)
+      (annotated p (i + 1 + steps_of body) (k + calls body) post)
+  annotated_in p i k Break = BreakAt
+  annotated_in p i k Continue = ContinueAt
+  annotated_in p i k (Return v) = ReturnAt v
+
+  pub annotated : Plan → ℕ → ℕ → Code → Tree
+  annotated p i k Nop = End
+  annotated p i k (s ▹ rest) =
+      annotated_in p i k s ▸ annotated p (i + steps_in s) (k + calls_in s) rest
+
+-- A plan's functions, where i statements and functions and k calls stand before them.
+abbrev pub annotated_all : Plan → ℕ → ℕ → List Function → List Routine
+annotated_all p i k [] = []
+annotated_all p i k (f ∷ fs) =
+    record {
+      params = f.params;
+      scalars = f.scalars;
+      arrays = f.arrays;
+      small = p.small i;
+      body = annotated p (i + 1) k f.body;
+    }
+    ∷ annotated_all p (i + 1 + steps_of f.body) (k + calls f.body) fs

@@ -1,0 +1,47 @@
+ghost use Rattle.hyper_build.specs.CallsClaim.{CallsClaim};
+ghost use Rattle.hyper_build.specs.Followed.{FollowedClaim};
+ghost use Rattle.hyper_build.specs.Laws.{BuildGivesBlocks, BuildKeepsMeaning};
+ghost use Rattle.hyper_build.specs.Laws.{GivesAssigned, KeepsAssigned};
+ghost use Rattle.hyper_build.specs.Smallness.{AssignedAreLittle, CutBlocksAreLittle};
+ghost use Rattle.hyper_build.specs.Annotated.{PlainClaim};
+
+/// Calls of a built program do what the flat program's calls do, in all their endings.
+pub fn calls_follow()
+    ensures { CallsClaim }
+{}
+
+/// A block that makes a call or a system call is followed by the block that goes on.
+pub fn blocks_are_followed()
+    ensures { FollowedClaim }
+{}
+
+/// For every plan and every faithful layout, with or without the check of faults, a program's blocks
+/// do what the flat program does: they end as it ends, within two blocks a turn and six more, and
+/// have not ended where it has not.
+pub fn built_programs_keep_meaning()
+    ensures { BuildKeepsMeaning }
+{}
+
+/// The blocks of a program that fits fit, lead to blocks of the program, are followed, and are no more
+/// than its code says, whatever the plan.
+pub fn built_programs_are_blocks()
+    ensures { BuildGivesBlocks }
+{}
+
+/// Where a plan cuts at every place each block is small, or saves or restores one group.
+pub fn cut_blocks_are_little()
+    ensures { CutBlocksAreLittle }
+{}
+
+/// A plan changes nothing but what calls keep.
+pub fn plans_change_nothing()
+    ensures { PlainClaim }
+{}
+
+/// What `assign` gives is as `build` wants it: its blocks do what the program does whose calls keep only
+/// what must be kept.
+pub fn assigned_programs_keep_meaning()
+    ensures meaning { KeepsAssigned }
+    ensures blocks { GivesAssigned }
+    ensures little { AssignedAreLittle }
+{}

@@ -1,0 +1,14 @@
+//! From flat programs to programs of hyper blocks, for every plan: what the blocks are, and that they
+//! do what the flat program does.
+#![tactic(auto)]
+
+mod laws;
+mod operands;
+mod plan;
+mod rest;
+
+pub use laws::{
+    assigned_programs_keep_meaning, blocks_are_followed, built_programs_are_blocks,
+    built_programs_keep_meaning, calls_follow, cut_blocks_are_little, plans_change_nothing,
+};
+pub use plan::{CutPlan, cut_all, is_cut};
