@@ -74,7 +74,7 @@ by_stmt s x e =
     ap plain.size_of (stmt_is s
     ∙ ap plain_stmt (ap out-TypedStmt (sym e) ∙ out-roll-TypedStmt x))
 
-pub by_first : (i : TypedForInit) (x : level.First) → roll-TypedForInit x ≡ i
+pub by_first : (i : TypedForInit) (x : level.Beginning) → roll-TypedForInit x ≡ i
     → first_cost i ≡ plain.size_of_first (plain_first x)
 by_first i x e =
     ap plain.size_of_first (first_is i

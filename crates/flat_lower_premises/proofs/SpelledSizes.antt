@@ -31,8 +31,8 @@ use Rattle.flat_lower_premises.proofs.TreeSizes.{nodes-First, nodes-Locals, stmt
 
 abbrev phrase_nodes : e.Phrase → ℕ
 phrase_nodes (e.expr n x) = expr_nodes x
-phrase_nodes (e.args es) = exprs_nodes es
-phrase_nodes (e.arg_list es) = exprs_nodes es
+phrase_nodes (e.args es) = 1 + exprs_nodes es
+phrase_nodes (e.arg_list es) = 1 + exprs_nodes es
 
 types_few : {l : ℕ} {k : Kind} {f t : Tokens} → Types l k f t → 1 + length t ≤ length f
 types_few char = omega arith
