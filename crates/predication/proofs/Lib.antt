@@ -1,0 +1,17 @@
+pub mod Ops
+pub mod Tables
+pub mod Halves
+pub mod Operands
+pub mod Legs
+pub mod Memory
+pub mod Untaken
+pub mod WordLemmas
+pub mod Taken
+pub mod Numbers
+pub mod Tails
+pub mod Converted
+pub mod Static
+pub mod Fits
+pub mod Regular
+pub mod Addressed
+pub mod StandardFacts

@@ -1,0 +1,6 @@
+pub mod Environments
+pub mod Operands
+pub mod Ifs
+pub mod Tails
+pub mod Converted
+pub mod Laws

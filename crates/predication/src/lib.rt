@@ -1,0 +1,9 @@
+//! From hyper blocks to flow blocks: guards in place of branches.
+#![tactic(auto)]
+
+mod laws;
+
+pub use laws::{
+    converted_blocks_are_regular, converted_blocks_are_tidy, converted_blocks_fit,
+    converted_blocks_mean_the_same, fitting_blocks_are_taken,
+};
