@@ -1,0 +1,17 @@
+pub mod Faithful
+pub mod Offsets
+pub mod Runs
+pub mod Cleanness
+pub mod Steps
+pub mod Whole
+pub mod Targets
+pub mod Starts
+pub mod Regularity
+pub mod Sums
+pub mod Linked
+pub mod Both
+pub mod Orders
+pub mod Fitting
+pub mod Fields
+pub mod StandardFacts
+pub mod Turns

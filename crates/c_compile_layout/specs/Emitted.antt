@@ -1,0 +1,100 @@
+-- What the passes give before anything is laid out: machine blocks whose immediates hold labels.
+use Rattle.std.specs.Prelude.{◌≡◌, ℕ, ◌<◌, ◌≤◌, ℤ, true, false, List, All, length, slice_get, Some}
+use Rattle.trips_isa.specs.declared.block.Block.{Block}
+use Rattle.trips_isa.specs.declared.block.Image.{Image}
+use Rattle.trips_isa.specs.declared.op.Op.{Op}
+use Rattle.trips_isa.specs.declared.op.Op.TheVariants.{Bro, Callo}
+use Rattle.trips_isa.specs.Images.{FitsImage}
+use Rattle.trips_isa.specs.Machine.{start, runs}
+use Rattle.trips_isa.specs.Places.{nodes_of}
+use Rattle.trips_isa.specs.Stores.{data_size}
+use Rattle.block_cases.specs.Cases.{cases}
+use Rattle.block_cases.specs.Good.{GoodBlock}
+use Rattle.block_cases.specs.Plain.{plain_runs}
+use Rattle.ir_forms.specs.declared.flow.FlowBlock.{FlowBlock}
+use Rattle.ir_forms.specs.Agreement.{MeansBlock}
+use Rattle.ir_forms.specs.FlowFits.{IsComplete}
+use Rattle.ir_forms.specs.FlowRegular.{IsRegular}
+use Rattle.ir_forms.specs.HyperCode as hyper
+use Rattle.ir_forms.specs.HyperFits.{FitsHyper, IsFollowed}
+use Rattle.ir_forms.specs.HyperRuns.{Layout, hyper_run}
+use Rattle.ir_forms.specs.HyperWords.{AreBytes}
+use Rattle.ir_forms.specs.Laws.{StandsAs}
+use Rattle.grid_place.specs.Moves.{Permutes, IsMoved}
+use Rattle.fan_out.specs.Targeted.{HasRoom, IsTargeted}
+use Rattle.c_compile_layout.specs.Linking.{resolved, by_address, label_in}
+use Rattle.c_compile_layout.specs.Layouts.{laid_out, linked}
+use Rattle.c_compile_layout.specs.Standings.{trimmed, standing_of}
+
+-- WHAT THE PASSES GIVE
+
+-- a branch's label is one of n
+abbrev pub LabelBelow : ℕ → Op → ℤ → Type 0
+LabelBelow n Bro imm = label_in imm < n
+LabelBelow n Callo imm = label_in imm < n
+LabelBelow n op imm = Unit {0}
+
+-- u is the machine block of a hyper block b, one of n: it has the targets of a flow block with
+-- labels, and its instructions stand in other slots; the flow block is complete and means b once its
+-- constants hold the addresses
+pub record IsEmitted (at : Layout) (n : ℕ) (b : hyper.Block) (u : Block) : Type 0 where
+  pub flow : FlowBlock
+  pub means : MeansBlock at b (resolved (by_address at.address) flow)
+  pub complete : IsComplete (resolved (by_address at.address) flow)
+  pub labels : All (λ x. LabelBelow n x.op x.imm) flow.nodes
+  pub regular : IsRegular flow
+  pub room : HasRoom flow
+  -- with targets, in the slots of the flow block's nodes
+  pub target : Block
+  pub targeted : IsTargeted flow target
+  pub cases : cases (nodes_of target) ≤ 256
+  -- where each slot goes, and back
+  pub there : ℕ → ℕ
+  pub back : ℕ → ℕ
+  pub permutes : Permutes there back
+  pub placed : IsMoved there target u
+
+-- 104,857 blocks of five chunks lie in an image
+abbrev pub most_blocks : ℕ
+most_blocks = 104857
+
+-- us are the machine blocks of a hyper program, whose exits lead to its blocks
+pub record AreEmitted (B : List hyper.Block) (us : List Block) : Type 0 where
+  pub size : length us ≡ length B
+  pub some : 1 ≤ length us
+  pub few : length us ≤ most_blocks
+  pub followed : IsFollowed B
+  pub fit : (k : ℕ) (b : hyper.Block) → slice_get B k ≡ Some b → FitsHyper b
+  pub each : (k : ℕ) (b : hyper.Block) (u : Block) → slice_get B k ≡ Some b
+      → slice_get us k ≡ Some u → IsEmitted (laid_out us) (length us) b u
+
+-- THEIR IMAGE
+
+-- the image of blocks that hold labels, and of the data that a program starts from
+abbrev pub image_of : List Block → List ℕ → Image
+image_of us bytes = record {
+  blocks = linked us;
+  bytes = trimmed bytes;
+}
+
+-- an image whose parts lie in their fields, and whose blocks are all good
+pub record IsGoodImage (i : Image) : Type 0 where
+  pub fits : FitsImage i
+  pub good : All GoodBlock i.blocks
+
+-- n blocks of its image come to what n blocks of the hyper program, whose labels stand where its
+-- blocks do, come to, where none of these faults
+abbrev pub ImageMeans : List hyper.Block → List Block → Type 0
+ImageMeans B us =
+    (bytes input : List ℕ) (n : ℕ) → AreBytes bytes → AreBytes input → length bytes ≤ data_size
+    → StandsAs (hyper_run true (laid_out us) B bytes input n)
+    (standing_of (runs (image_of us bytes).blocks (start (image_of us bytes).bytes input) n))
+
+-- whatever faults, n blocks of the hyper program come to what n blocks of its image come to whose
+-- marks nothing looks at
+abbrev pub ImageMeansPlainly : List hyper.Block → List Block → Type 0
+ImageMeansPlainly B us =
+    (bytes input : List ℕ) (n : ℕ) → AreBytes bytes → AreBytes input → length bytes ≤ data_size
+    → hyper_run false (laid_out us) B bytes input n
+    ≡ standing_of (plain_runs (image_of us bytes).blocks
+    (start (image_of us bytes).bytes input) n)

@@ -1,0 +1,90 @@
+//! Laws of images, over their definitions alone; each function's clause is the law.
+ghost use Rattle.std.specs.Prelude.{◌≡◌, ℕ, ◌/◌, ◌%◌, ◌^◌, ◌<◌, ◌≤◌, true, List, length, pos};
+ghost use Rattle.trips_isa.specs.declared.op.Op.TheVariants.{App, Genu, Mov};
+ghost use Rattle.trips_isa.specs.declared.block.Block.{Block};
+ghost use Rattle.trips_isa.specs.Acts.{is_clean, IsClean};
+ghost use Rattle.trips_isa.specs.Alu.{alu_of, word};
+ghost use Rattle.trips_isa.specs.Blocks.{token_of};
+ghost use Rattle.trips_isa.specs.Places.{nodes_of};
+ghost use Rattle.trips_isa.specs.Stores.{data_size};
+ghost use Rattle.trips_isa.specs.Tables.{deepest, IsRanked};
+ghost use Rattle.ir_forms.specs.declared.flow.FlowBlock.{FlowBlock};
+ghost use Rattle.ir_forms.specs.FlowFits.{FitsFlow};
+ghost use Rattle.ir_forms.specs.HyperCode.{Block as HyperBlock};
+ghost use Rattle.ir_forms.specs.HyperWords.{AreBytes, IsFaithful};
+ghost use Rattle.grid_place.specs.Moves.{IsMoved};
+ghost use Rattle.fan_out.specs.Means.{block_acts};
+ghost use Rattle.fan_out.specs.Targeted.{IsTargeted};
+ghost use Rattle.c_compile_layout.specs.Emitted.{AreEmitted, ImageMeans, ImageMeansPlainly};
+ghost use Rattle.c_compile_layout.specs.Emitted.{IsGoodImage, image_of};
+ghost use Rattle.c_compile_layout.specs.Joint.{AreMade, DoesPlainly, DoesTheSame, HasStarts};
+ghost use Rattle.c_compile_layout.specs.Layouts.{laid_out, linked, AreFew, HasPlaces};
+ghost use Rattle.c_compile_layout.specs.Standings.{MeansPlainly, MeansTheSame};
+ghost use Rattle.c_compile_layout.specs.Linking.{Resolves, resolved, resolved_block};
+
+/// The layout of blocks leads from each label to an address and back; an address has 32 bits and is a
+/// multiple of 128.
+pub fn layouts_are_faithful()
+    ensures faithful { (ts : List Block) → AreFew ts → IsFaithful (laid_out ts) (length ts) }
+    ensures places { (ts : List Block) → AreFew ts → HasPlaces (laid_out ts) }
+{}
+
+/// An image runs as its hyper program does, block for block: where nothing of the program faults, the
+/// image does not trap; and whatever faults, so it runs where nothing looks at its marks.
+pub fn images_do_what_programs_do()
+    ensures clean { (B : List HyperBlock) (ts : List Block) → AreMade B ts → DoesTheSame B ts }
+    ensures plain { (B : List HyperBlock) (ts : List Block) → AreMade B ts → DoesPlainly B ts }
+{}
+
+/// The two come to the same, and zeros at the end of the data are not needed.
+pub fn images_mean_what_programs_mean()
+    ensures clean { (B : List HyperBlock) (ts : List Block) → AreMade B ts → MeansTheSame B ts }
+    ensures plain { (B : List HyperBlock) (ts : List Block) → AreMade B ts → MeansPlainly B ts }
+{}
+
+/// To give targets and places and then to resolve immediates is to resolve them first.
+pub fn passes_never_read_immediates()
+    ensures targets { (r : Resolves) (f : FlowBlock) (t : Block) → r Mov (pos 0) ≡ pos 0
+        → IsTargeted f t → IsTargeted (resolved r f) (resolved_block r t) }
+    ensures places { (r : Resolves) (p : ℕ → ℕ) (t u : Block) → IsMoved p t u
+        → IsMoved p (resolved_block r t) (resolved_block r u) }
+{}
+
+/// What `genu` and `app` make of the two halves of an address is the address.
+pub fn halves_make_an_address()
+    ensures { (a : ℕ) → a < 2 ^ 32 → alu_of App (alu_of Genu 0 (word (pos (a / 65536))))
+        (word (pos (a % 65536))) ≡ a }
+{}
+
+/// From each entry state a flow block that fits has a table.
+pub fn blocks_that_fit_have_starts()
+    ensures { (f : FlowBlock) → FitsFlow f → HasStarts f }
+{}
+
+/// Where nothing faults of what a block does, slot for slot, nothing that a node of it does faults.
+pub fn clean_slots_are_clean_blocks()
+    ensures { (b : Block) → IsRanked (nodes_of b) → (regs mem : List ℕ)
+        → is_clean (block_acts b regs mem) ≡ true → IsClean b (token_of b regs mem deepest) }
+{}
+
+/// To resolve the labels of blocks moves none of them, and makes an image's blocks of what the
+/// passes give.
+pub fn linked_blocks_are_an_image()
+    ensures layout { (us : List Block) → laid_out (linked us) ≡ laid_out us }
+    ensures made { (B : List HyperBlock) (us : List Block) → AreEmitted B us
+        → AreMade B (linked us) }
+    ensures good { (B : List HyperBlock) (us : List Block) (bytes : List ℕ) → AreEmitted B us
+        → AreBytes bytes → length bytes ≤ data_size → IsGoodImage (image_of us bytes) }
+{}
+
+/// The image of what the passes give for a hyper program means the program: the one theorem that
+/// the compiler cites.
+pub fn images_of_programs_mean_them()
+    ensures means { (B : List HyperBlock) (us : List Block) → AreEmitted B us → ImageMeans B us }
+    ensures plain { (B : List HyperBlock) (us : List Block) → AreEmitted B us
+        → ImageMeansPlainly B us }
+    ensures faithful { (B : List HyperBlock) (us : List Block) → AreEmitted B us
+        → IsFaithful (laid_out us) (length us) }
+    ensures places { (B : List HyperBlock) (us : List Block) → AreEmitted B us
+        → HasPlaces (laid_out us) }
+{}
