@@ -1,0 +1,9 @@
+//! Null tokens on the paths that leave a write or a store number untaken.
+#![tactic(auto)]
+
+mod laws;
+
+pub use laws::{
+    completed_blocks_are_complete, completing_keeps_meaning, completing_keeps_regular,
+    completing_keeps_tables, firm_blocks_grow_little, nodes_are_counted, sureness_is_recognised,
+};
