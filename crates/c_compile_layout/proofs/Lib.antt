@@ -7,7 +7,9 @@ pub mod Whole
 pub mod Targets
 pub mod Starts
 pub mod Regularity
+pub mod Sizes
 pub mod Sums
+pub mod Trimming
 pub mod Linked
 pub mod Both
 pub mod Orders

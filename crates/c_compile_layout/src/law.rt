@@ -1,5 +1,6 @@
 //! Laws of images, over their definitions alone; each function's clause is the law.
-ghost use Rattle.std.specs.Prelude.{◌≡◌, ℕ, ◌/◌, ◌%◌, ◌^◌, ◌<◌, ◌≤◌, true, List, length, pos};
+ghost use Rattle.std.specs.Prelude.{◌≡◌, ℕ, ◌/◌, ◌%◌, ◌^◌, ◌<◌, ◌≤◌, true, All, List, length};
+ghost use Rattle.std.specs.Prelude.{pos};
 ghost use Rattle.trips_isa.specs.declared.op.Op.TheVariants.{App, Genu, Mov};
 ghost use Rattle.trips_isa.specs.declared.block.Block.{Block};
 ghost use Rattle.trips_isa.specs.Acts.{is_clean, IsClean};
@@ -14,19 +15,27 @@ ghost use Rattle.ir_forms.specs.HyperCode.{Block as HyperBlock};
 ghost use Rattle.ir_forms.specs.HyperWords.{AreBytes, IsFaithful};
 ghost use Rattle.grid_place.specs.Moves.{IsMoved};
 ghost use Rattle.fan_out.specs.Means.{block_acts};
-ghost use Rattle.fan_out.specs.Targeted.{IsTargeted};
+ghost use Rattle.fan_out.specs.Targeted.{HasRoom, IsTargeted};
 ghost use Rattle.c_compile_layout.specs.Emitted.{AreEmitted, ImageMeans, ImageMeansPlainly};
-ghost use Rattle.c_compile_layout.specs.Emitted.{IsGoodImage, image_of};
+ghost use Rattle.c_compile_layout.specs.Emitted.{HasSizes, IsGoodImage, image_of, most_blocks};
 ghost use Rattle.c_compile_layout.specs.Joint.{AreMade, DoesPlainly, DoesTheSame, HasStarts};
 ghost use Rattle.c_compile_layout.specs.Layouts.{laid_out, linked, AreFew, HasPlaces};
 ghost use Rattle.c_compile_layout.specs.Standings.{MeansPlainly, MeansTheSame};
 ghost use Rattle.c_compile_layout.specs.Linking.{Resolves, resolved, resolved_block};
 
 /// The layout of blocks leads from each label to an address and back; an address has 32 bits and is a
-/// multiple of 128.
+/// multiple of 128. As many blocks as an image may have of whatever size have few enough chunks.
 pub fn layouts_are_faithful()
     ensures faithful { (ts : List Block) → AreFew ts → IsFaithful (laid_out ts) (length ts) }
     ensures places { (ts : List Block) → AreFew ts → HasPlaces (laid_out ts) }
+    ensures few { (ts : List Block) → length ts ≤ most_blocks
+        → All (λ b. length b.insts.items ≡ 128) ts → AreFew ts }
+{}
+
+/// The machine block of a flow block that it has room for has its parts in their sizes, whatever its
+/// immediates hold: what `place` asks for.
+pub fn targeted_blocks_have_sizes()
+    ensures { (f : FlowBlock) (t : Block) → HasRoom f → IsTargeted f t → HasSizes t }
 {}
 
 /// An image runs as its hyper program does, block for block: where nothing of the program faults, the

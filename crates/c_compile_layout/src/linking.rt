@@ -24,14 +24,14 @@ pub fn offset(here: u32, there: u32) -> i32
     }
 }
 
-/// The label that an immediate holds.
+// The label that an immediate holds.
 fn label(imm: i32) -> usize
     ensures value { result ≡ spec.label_in imm }
 {
     if imm < 0 { 0 } else { imm as usize }
 }
 
-/// The chunk where a block begins; behind the last block it is the end of all.
+// The chunk where a block begins; behind the last block it is the end of all.
 fn chunk(starts: &[u32], end: u32, label: usize) -> u32
     requires starts { All (λ c. c ≤ 524288) starts.now }
     requires end { end ≤ 524288 }
@@ -45,7 +45,7 @@ fn chunk(starts: &[u32], end: u32, label: usize) -> u32
     }
 }
 
-/// A half of a label's address, where a constant holds a label.
+// The high half of a label's address, where a constant holds a label.
 fn high(starts: &[u32], end: u32, imm: i32) -> i32
     requires starts { All (λ c. c ≤ 524288) starts.now }
     requires end { end ≤ 524288 }
@@ -58,7 +58,7 @@ fn high(starts: &[u32], end: u32, imm: i32) -> i32
     }
 }
 
-/// The other half.
+// The low half.
 fn low(starts: &[u32], end: u32, imm: i32) -> i32
     requires starts { All (λ c. c ≤ 524288) starts.now }
     requires end { end ≤ 524288 }
@@ -71,7 +71,7 @@ fn low(starts: &[u32], end: u32, imm: i32) -> i32
     }
 }
 
-/// The way from a block to a label's block.
+// The way from a block to a label's block.
 fn way(starts: &[u32], end: u32, k: usize, imm: i32) -> i32
     requires starts { All (λ c. c ≤ 524288) starts.now }
     requires end { end ≤ 524288 }
@@ -96,7 +96,7 @@ pub fn resolved_imm(starts: &[u32], end: u32, k: usize, op: Op, imm: i32) -> i32
     }
 }
 
-/// A slot with its immediate resolved.
+// A slot with its immediate resolved.
 fn slot(starts: &[u32], end: u32, k: usize, slot: Option<Inst>) -> Option<Inst>
     requires starts { All (λ c. c ≤ 524288) starts.now }
     requires end { end ≤ 524288 }
@@ -115,6 +115,7 @@ fn slot(starts: &[u32], end: u32, k: usize, slot: Option<Inst>) -> Option<Inst>
     }
 }
 
+// Puts each slot with its immediate resolved.
 fn fill(
     out: &mut ArrayVec<Option<Inst>, 128>,
     starts: &[u32],
@@ -157,7 +158,7 @@ pub fn link(starts: &[u32], end: u32, blocks: &mut [Block])
     }
 }
 
-/// The chunks where blocks begin, and the end of all.
+// The chunks where blocks begin, and the end of all.
 fn starts(out: &mut Vec<u32>, blocks: &[Block]) -> Result<u32, AllocError>
     requires empty { out.old.items ≡ [] }
     requires sizes { All (λ b. length b.insts.items ≤ 128) blocks.now }
