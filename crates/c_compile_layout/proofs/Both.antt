@@ -90,15 +90,19 @@ trims_length xs ys t =
     let e = ap length t.is in
     omega (arith, a, z, e)
 
+zeros_join : (xs ys : List ℕ) (zeros rest all : ℕ) → all ≡ zeros + rest
+    → xs ++ replicate zeros 0 ≡ ys → xs ++ replicate all 0 ≡ ys ++ replicate rest 0
+zeros_join xs ys zeros rest all e is =
+    ap (λ k. xs ++ replicate k 0) e
+    ∙ ap (λ x. xs ++ x) (sym (replicate-append-replicate zeros rest 0))
+    ∙ sym (append_assoc xs (replicate zeros 0) (replicate rest 0))
+    ∙ ap (λ x. x ++ replicate rest 0) is
+
 same_memory : (xs ys : List ℕ) → Trims xs ys → length ys ≤ data_size → memory_of xs ≡ memory_of ys
 unfolding memory_of
 same_memory xs ys t l =
     let n = trims_length xs ys t in
-    let z : data_size - length xs ≡ t.zeros + (data_size - length ys) = omega (arith, n, l) in
-    ap (λ k. xs ++ replicate k 0) z
-    ∙ ap (λ x. xs ++ x) (sym (replicate-append-replicate t.zeros (data_size - length ys) 0))
-    ∙ sym (append_assoc xs (replicate t.zeros 0) (replicate (data_size - length ys) 0))
-    ∙ ap (λ x. x ++ replicate (data_size - length ys) 0) t.is
+    zeros_join xs ys t.zeros (data_size - length ys) (data_size - length xs) (omega (arith, n, l)) t.is
 
 pub trimmed_memory : (bytes : List ℕ) → length bytes ≤ data_size
     → memory_of (trimmed bytes) ≡ memory_of bytes

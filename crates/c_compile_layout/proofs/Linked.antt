@@ -1,5 +1,6 @@
 -- Blocks whose labels are resolved are the blocks of an image.
-use Rattle.std.proofs.Common.{◌≡◌, ℕ, zero, suc, ◌+◌, ◌*◌, ◌<◌, ◌≤◌, ◌==◌, true, false, cond, List, [], ◌∷◌, map, length, take}
+use Rattle.std.proofs.Common.{◌≡◌, ℕ, zero, suc, ◌+◌, ◌*◌, ◌<◌, ◌≤◌, ◌==◌, true, false, cond}
+use Rattle.std.proofs.Common.{List, [], ◌∷◌, map, length, take}
 use Rattle.std.proofs.Common.{Option, Some, None, slice_get, refl, sym, ap, ap₂, ◌∙◌, subst, arith, max}
 use Rattle.std.specs.Prelude.{unwrap_or, option_map, slice_index_or, get_or, ◌++◌, ◌%◌, ◌/◌}
 use Rattle.std.specs.List.{sum_by}
@@ -16,7 +17,8 @@ use Rattle.ir_forms.specs.declared.flow.FlowBlock.{FlowBlock}
 use Rattle.ir_forms.specs.FlowFits.{IsComplete, HasOrder}
 use Rattle.ir_forms.specs.HyperCode as hyper
 use Rattle.ir_forms.specs.HyperFits.{AllLeadOn, FitsHyper}
-use Rattle.ir_forms.specs.HyperRuns.{hyper_run}
+use Rattle.ir_forms.specs.HyperRuns.{hyper_run, Standing, Running, Ended, Full, Unclean, IsUnclean}
+use Rattle.trips_isa.specs.declared.run.Stepped.TheVariants.{Trap}
 use Rattle.ir_forms.specs.HyperWords.{AreBytes}
 use Rattle.ir_forms.specs.Laws.{StandsAs}
 use Rattle.ir_forms.proofs.WordsKept.{keeps_words}
@@ -48,9 +50,9 @@ use Rattle.c_compile_layout.specs.Linking.{by_offset, by_address, by_both, linke
 use Rattle.c_compile_layout.specs.Layouts.{laid_out, linked, AreFew}
 use Rattle.c_compile_layout.specs.Joint.{CleanAsFlow, IsMade, AreMade}
 use Rattle.c_compile_layout.specs.Emitted.{IsEmitted, AreEmitted, IsGoodImage, image_of}
-use Rattle.c_compile_layout.specs.Emitted.{ImageMeans, ImageMeansPlainly}
-use Rattle.c_compile_layout.specs.Standings.{standing_of, trimmed}
-use Rattle.trips_isa.specs.Machine.{runs, start}
+use Rattle.c_compile_layout.specs.Emitted.{ImageMeans, ImageMeansPlainly, NeverTraps}
+use Rattle.c_compile_layout.specs.Standings.{standing_by, standing_of, trimmed}
+use Rattle.trips_isa.specs.Machine.{State, runs, start}
 use Rattle.c_compile_layout.proofs.Regularity.{regular_resolved}
 use Rattle.c_compile_layout.proofs.Fields.{forms_fit, labels_named}
 use Rattle.c_compile_layout.proofs.Fitting.{complete_resolved}
@@ -209,7 +211,8 @@ module _ (us : List Block) (k : ℕ) (b : hyper.Block) (u : Block)
   is = targeted_resolved both refl it.flow it.target it.targeted
 
   all : Given linked_flow
-  all = given linked_flow whole.fits (regular_resolved both it.flow it.regular) (room_resolved both refl it.flow it.room)
+  all = given linked_flow whole.fits (regular_resolved both it.flow it.regular)
+      (room_resolved both refl it.flow it.room)
 
   fits : FitsBlock (resolved_block both it.target)
   fits = fits_block linked_flow all (resolved_block both it.target) is
@@ -222,22 +225,26 @@ module _ (us : List Block) (k : ℕ) (b : hyper.Block) (u : Block)
   moved = moved_resolved both it.there it.target u it.placed
 
   pub fits_there : FitsBlock (resolved_block both u)
-  fits_there = still_fits it.there it.back (resolved_block both it.target) (resolved_block both u) fits it.permutes moved
+  fits_there = still_fits it.there it.back (resolved_block both it.target) (resolved_block both u)
+      fits it.permutes moved
 
   pub good_there : GoodBlock (resolved_block both u)
-  good_there = still_good it.there it.back (resolved_block both it.target) (resolved_block both u) fits good it.permutes moved
+  good_there = still_good it.there it.back (resolved_block both it.target) (resolved_block both u)
+      fits good it.permutes moved
 
   ranked : IsRanked (nodes_of (resolved_block both it.target))
   ranked = is_ranked linked_flow (resolved_block both it.target) all is
 
   means_there : MeansFlow linked_flow (resolved_block both u)
   means_there regs mem h start blocks j =
-      same_plain it.there it.back (resolved_block both it.target) (resolved_block both u) fits good it.permutes moved regs mem blocks j
+      same_plain it.there it.back (resolved_block both it.target) (resolved_block both u) fits good
+      it.permutes moved regs mem blocks j
       ∙ means linked_flow (resolved_block both it.target) all is ranked regs mem h start blocks j
 
   clean_there : CleanAsFlow linked_flow (resolved_block both u)
   clean_there regs mem h start c =
-      still_clean it.there it.back (resolved_block both it.target) (resolved_block both u) fits good it.permutes moved regs mem
+      still_clean it.there it.back (resolved_block both it.target) (resolved_block both u) fits good
+      it.permutes moved regs mem
       (slots_clean (resolved_block both it.target) ranked regs mem
       (ap is_clean (faults_same linked_flow (resolved_block both it.target) all is ranked regs mem h start) ∙ c))
 
@@ -264,7 +271,10 @@ are_few B us all =
   where
     go : (i : ℕ) (u : Block) → slice_get us i ≡ Some u → (o : Option hyper.Block) → slice_get B i ≡ o
         → length u.insts.items ≡ 128
-    go i u e None q = absurd (there B i (let s = all.size in let l = slice_get_within us i u e in omega (arith, s, l)) q)
+    go i u e None q =
+        let s = all.size in
+        let l = slice_get_within us i u e in
+        absurd (there B i (omega (arith, s, l)) q)
     go i u e (Some b) q = let it = all.each i b u q e in (it.placed).size
 
 -- the image's blocks are what the passes gave, resolved
@@ -282,7 +292,8 @@ made B us all = record {
       (subst (λ ch. IsMade (laid_out us) ch k (length (linked us)) b t) (sym (chunk_same us))
       (subst (λ n. IsMade (laid_out us) (chunk_of us) k n b t) (sym size)
       (subst (IsMade (laid_out us) (chunk_of us) k (length us) b) is
-      (made_of us k b c.block (are_few B us all) (slice_get_within us k c.block c.there) (all.each k b c.block is_b c.there)
+      (made_of us k b c.block (are_few B us all) (slice_get_within us k c.block c.there)
+      (all.each k b c.block is_b c.there)
       (subst (λ n. AllLeadOn k n b.tail) (sym all.size) (all.followed k b is_b)) (all.fit k b is_b)))));
 }
   where
@@ -301,14 +312,18 @@ each_good B us all k t is_t =
   where
     go : (o : Option hyper.Block) → slice_get B k ≡ o → (c : Came (chunk_of us) 0 us k t)
         → resolved_block (by_both (chunk_of us) k) c.block ≡ t → FitsBlock t × GoodBlock t
-    go None e c is = absurd (there B k (let s = all.size in let l = slice_get_within us k c.block c.there in omega (arith, s, l)) e)
+    go None e c is =
+        let s = all.size in
+        let l = slice_get_within us k c.block c.there in
+        absurd (there B k (omega (arith, s, l)) e)
     go (Some b) e c is =
         let low = slice_get_within us k c.block c.there in
         let it = all.each k b c.block e c.there in
         subst (λ t. FitsBlock t × GoodBlock t) is
         (fits_there us k b c.block (are_few B us all) low it, good_there us k b c.block (are_few B us all) low it)
 
-all_by_index : {A : Type 0} (P : A → Type 0) (xs : List A) → ((i : ℕ) (x : A) → slice_get xs i ≡ Some x → P x) → All P xs
+all_by_index : {A : Type 0} (P : A → Type 0) (xs : List A)
+    → ((i : ℕ) (x : A) → slice_get xs i ≡ Some x → P x) → All P xs
 all_by_index P xs f i d l = f i (get_or xs i d) (slice_get-get_or xs i d l)
 
 pub good_image : (B : List hyper.Block) (us : List Block) (bytes : List ℕ) → AreEmitted B us
@@ -330,6 +345,22 @@ image_means B us all bytes input n a b l =
     subst (λ at. StandsAs (hyper_run true at B bytes input n)
     (standing_of (runs (linked us) (start (trimmed bytes) input) n))) (layout_same us)
     (means_the_same B (linked us) (made B us all) bytes input n a b l)
+
+-- what is clean and stands so does not stand where a trap is
+no_trap : (p : Standing) (s : State) (c : ℕ) → (IsUnclean p → ⊥)
+    → StandsAs p (standing_by s (Trap c)) → ⊥
+no_trap (Running out) s c clean h = absurd (cc)
+no_trap (Ended out w) s c clean h = absurd (cc)
+no_trap (Full out) s c clean h = absurd (cc)
+no_trap Unclean s c clean h = clean tt
+
+pub never_traps : (B : List hyper.Block) (us : List Block) → AreEmitted B us → NeverTraps B us
+never_traps B us all bytes input n c a b l clean trap =
+    no_trap (hyper_run true (laid_out us) B bytes input n)
+    (runs (linked us) (start (trimmed bytes) input) n).0 c clean
+    (subst (λ r. StandsAs (hyper_run true (laid_out us) B bytes input n)
+    (standing_by (runs (linked us) (start (trimmed bytes) input) n).0 r)) trap
+    (image_means B us all bytes input n a b l))
 
 pub image_means_plainly : (B : List hyper.Block) (us : List Block) → AreEmitted B us
     → ImageMeansPlainly B us

@@ -94,7 +94,8 @@ module _ (regs : ℕ → ℕ) (rank : ℕ → ℕ) where
       head Store s = at (nat_eq n.number m) refl
         where
           at : (v : Bool) → nat_eq n.number m ≡ v
-              → cond v (stored_where (met h n.guard) regs h n) None ≡ cond v (stored_where (met g n.guard) regs g n) None
+              → cond v (stored_where (met h n.guard) regs h n) None
+              ≡ cond v (stored_where (met g n.guard) regs g n) None
           at true q =
               let z : n.number ≡ m = grind (arith, nat_tests) in
               let a = e 0 n refl s z in stored_same a.0 h g a.1 n a.2

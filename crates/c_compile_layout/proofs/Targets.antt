@@ -147,7 +147,8 @@ module _ (r : Resolves) (still : r Mov (pos 0) ≡ pos 0) where
   pub targeted_resolved : (f : FlowBlock) (t : Block) → IsTargeted f t
       → IsTargeted (resolved r f) (resolved_block r t)
   targeted_resolved f t is = record {
-    reads = is.reads ∙ sym (ap₂ (λ ws k. read_slots ws k f.reads) (wires_same f) (length-map f.nodes (resolved_node r)));
+    reads = is.reads
+        ∙ sym (ap₂ (λ ws k. read_slots ws k f.reads) (wires_same f) (length-map f.nodes (resolved_node r)));
     writes = is.writes;
     mask = is.mask;
     insts = ap (map (resolved_slot r)) is.insts ∙ sym (ap filled (slots_same f) ∙ filled_same (slots f));
@@ -155,7 +156,9 @@ module _ (r : Resolves) (still : r Mov (pos 0) ≡ pos 0) where
 
   pub room_resolved : (f : FlowBlock) → HasRoom f → HasRoom (resolved r f)
   room_resolved f room = record {
-    insts = subst (λ n. n ≤ 128) (sym (ap (λ (x : List Placed). length x) (slots_same f) ∙ length-map (slots f) of_placed)) room.insts;
+    insts = subst (λ n. n ≤ 128)
+        (sym (ap (λ (x : List Placed). length x) (slots_same f) ∙ length-map (slots f) of_placed))
+        room.insts;
     reads = room.reads;
     writes = room.writes;
   }

@@ -51,7 +51,8 @@ begin_at here (suc l) (u ∷ us) =
     let b : sum_by chunks (take (suc l) (u ∷ us)) ≡ chunks u + sum_by chunks (take l us) =
     sum_by-cons chunks u (take l us) in
     let e : here + sum_by chunks (u ∷ us) ≡ here + chunks u + sum_by chunks us = omega (arith, a) in
-    let f : here + chunks u + sum_by chunks (take l us) ≡ here + sum_by chunks (take (suc l) (u ∷ us)) = omega (arith, b) in
+    let f : here + chunks u + sum_by chunks (take l us) ≡ here + sum_by chunks (take (suc l) (u ∷ us)) =
+    omega (arith, b) in
     ap (λ n. get_or (begins (here + chunks u) us) l n) e ∙ begin_at (here + chunks u) l us ∙ f
 
 pub linked_by : (table : List ℕ) (end : ℕ) (us vs : List Block) → table ≡ begins 0 us → end ≡ sum_by chunks us

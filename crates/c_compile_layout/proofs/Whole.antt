@@ -19,7 +19,8 @@ use Rattle.ir_forms.specs.declared.hyper.Exit.{Exit}
 use Rattle.ir_forms.specs.declared.hyper.Exit.TheVariants as exit
 use Rattle.ir_forms.specs.HyperCode as hyper
 use Rattle.ir_forms.specs.HyperRuns.{Machine, Layout, after_items, after_block, acts, exit_of, leaving}
-use Rattle.ir_forms.specs.HyperRuns.{next_label, is_system, with_register, with_next, system, block_at, block_or, leave, if_clean}
+use Rattle.ir_forms.specs.HyperRuns.{next_label, is_system, with_register, with_next, system}
+use Rattle.ir_forms.specs.HyperRuns.{block_at, block_or, leave}
 use Rattle.ir_forms.specs.HyperRuns.{run, hyper_run, Standing, Running, Ended, Full, Unclean}
 use Rattle.ir_forms.specs.HyperRuns as hypers
 use Rattle.c_compile_layout.specs.Layouts.{laid_out}
@@ -41,7 +42,8 @@ there (t ∷ ts) (suc k) l e = there ts k (omega arith) e
 -- SYSTEM CALLS
 
 -- the same register 3 in both
-same_three : (s : State) (m : Machine) (k w : ℕ) → Same m k s → Same (with_register m 3 w) k (record s { registers = slice_set s.registers 3 w })
+same_three : (s : State) (m : Machine) (k w : ℕ) → Same m k s
+    → Same (with_register m 3 w) k (record s { registers = slice_set s.registers 3 w })
 same_three s m k w same = record {
   count = length-set s.registers 3 w ∙ same.count;
   registers = λ r. go r (nat_eq r 3) refl;
@@ -130,7 +132,8 @@ system_same go l n call m s next words same follows =
       output = ap₂ (λ (x : List ℕ) (y : ℕ). x ++ (y % 256) ∷ []) same.output (same.registers 3);
       next = same.next;
     })) (λ e.
-    choose (nat_eq call 2) _ _ _ _ go n (λ e. subst (λ i. StandsIn (next (with_next m m.input)) (go (with_input s i) n)) (sym same.input)
+    choose (nat_eq call 2) _ _ _ _ go n (λ e.
+    subst (λ i. StandsIn (next (with_next m m.input)) (go (with_input s i) n)) (sym same.input)
     (follows (with_next m m.input) (with_input s m.input) (words_next m m.input words.input words)
     (same_next m s l m.input refl same))) (λ e.
     choose (nat_eq call 3) _ _ _ _ go n (λ e. (refl, same.output, same.registers 3)) (λ e.
@@ -200,7 +203,8 @@ module _ (B : List hyper.Block) (ts : List Block) (made : AreMade B ts) (check :
             let same1 : Same m1 (next_label (laid_out ts) e m1) after =
             subst (λ x. Same x (next_label (laid_out ts) e m1) after) alone same in
             let words1 : HasWords m1 = subst HasWords alone words in
-            subst (λ c. StandsIn (system (m1.registers 0) m1 (run check (laid_out ts) B n (block_at B (next_label (laid_out ts) e m1))))
+            subst (λ c. StandsIn (system (m1.registers 0) m1
+            (run check (laid_out ts) B n (block_at B (next_label (laid_out ts) e m1))))
             (resumed go n (system_call c after))) (sym (same1.registers 0))
             (system_same go (next_label (laid_out ts) e m1) n (m1.registers 0) m1 after _ words1 same1
             (λ x y w z. at_label n (next_label (laid_out ts) e m1) b ih low x y w z))
@@ -210,12 +214,16 @@ module _ (B : List hyper.Block) (ts : List Block) (made : AreMade B ts) (check :
       where
         by : (o : Option Block) → slice_get ts k ≡ o
             → StandsIn (run check (laid_out ts) B (suc n) b m) (go s (suc n))
-        by None q = absurd (there ts k (let size = made.size in let low = slice_get_within B k b is in omega (arith, size, low)) q)
+        by None q =
+            let size = made.size in
+            let low = slice_get_within B k b is in
+            absurd (there ts k (omega (arith, size, low)) q)
         by (Some t) q =
             let one : Steps ts b m s = steps B ts made k b t is q m words s same in
             let it = made.each k b t is q in
             if_clean_same (check && not (is_clean (acts b.items m))) _ (go s (suc n)) (λ clean.
-            subst (λ r. StandsIn (leave (laid_out ts) B (run check (laid_out ts) B n) (exit_from b m) (after_items b.items m)) r)
+            subst (λ r. StandsIn (leave (laid_out ts) B (run check (laid_out ts) B n) (exit_from b m)
+            (after_items b.items m)) r)
             (sym (first_step go step run_by s n
             ∙ ap (resumed go n) (takes k b t m s is q words same clean ∙ one.step)))
             (left n b m ih one.after (exit_from b m) (after_items b.items m) (it.keeps m words) one.same one.within))
@@ -229,7 +237,8 @@ module _ (B : List hyper.Block) (ts : List Block) (made : AreMade B ts) (check :
 
 all_append : (a b : List ℕ) → All (λ x. x < 256) a → All (λ x. x < 256) b → All (λ x. x < 256) (a ++ b)
 all_append [] b f g = g
-all_append (x ∷ a) b f g = all_cons x (a ++ b) (f 0 x (omega arith)) (all_append a b (λ i d l. f (suc i) d (omega arith)) g)
+all_append (x ∷ a) b f g = all_cons x (a ++ b) (f 0 x (omega arith))
+    (all_append a b (λ i d l. f (suc i) d (omega arith)) g)
 
 all_zeros : (n : ℕ) → All (λ x. x < 256) (replicate n 0)
 all_zeros zero = λ i d l. absurd (omega arith)
@@ -237,7 +246,8 @@ all_zeros (suc n) = all_cons 0 (replicate n 0) (omega arith) (all_zeros n)
 
 memory_bytes : (bytes : List ℕ) → All (λ x. x < 256) bytes → All (λ x. x < 256) (memory_of bytes)
 unfolding memory_of
-memory_bytes bytes a = all_append bytes (replicate (data_size - length bytes) 0) a (all_zeros (data_size - length bytes))
+memory_bytes bytes a = all_append bytes (replicate (data_size - length bytes) 0) a
+    (all_zeros (data_size - length bytes))
 
 memory_size : (bytes : List ℕ) → length bytes ≤ data_size → length (memory_of bytes) ≡ data_size
 unfolding memory_of

@@ -4,6 +4,7 @@ use Rattle.trips_isa.specs.declared.block.Block.{Block}
 use Rattle.trips_isa.specs.declared.block.Image.{Image}
 use Rattle.trips_isa.specs.declared.op.Op.{Op}
 use Rattle.trips_isa.specs.declared.op.Op.TheVariants.{Bro, Callo}
+use Rattle.trips_isa.specs.declared.run.Stepped.TheVariants.{Trap}
 use Rattle.trips_isa.specs.Images.{FitsImage}
 use Rattle.trips_isa.specs.Machine.{start, runs}
 use Rattle.trips_isa.specs.Places.{nodes_of}
@@ -17,7 +18,7 @@ use Rattle.ir_forms.specs.FlowFits.{IsComplete}
 use Rattle.ir_forms.specs.FlowRegular.{IsRegular}
 use Rattle.ir_forms.specs.HyperCode as hyper
 use Rattle.ir_forms.specs.HyperFits.{FitsHyper, IsFollowed}
-use Rattle.ir_forms.specs.HyperRuns.{Layout, hyper_run}
+use Rattle.ir_forms.specs.HyperRuns.{Layout, hyper_run, IsUnclean}
 use Rattle.ir_forms.specs.HyperWords.{AreBytes}
 use Rattle.ir_forms.specs.Laws.{StandsAs}
 use Rattle.grid_place.specs.Moves.{Permutes, IsMoved}
@@ -95,6 +96,13 @@ ImageMeans B us =
     (bytes input : List ℕ) (n : ℕ) → AreBytes bytes → AreBytes input → length bytes ≤ data_size
     → StandsAs (hyper_run true (laid_out us) B bytes input n)
     (standing_of (runs (image_of us bytes).blocks (start (image_of us bytes).bytes input) n))
+
+-- where none of the first n blocks of the hyper program faults, none of its image traps
+abbrev pub NeverTraps : List hyper.Block → List Block → Type 0
+NeverTraps B us =
+    (bytes input : List ℕ) (n c : ℕ) → AreBytes bytes → AreBytes input → length bytes ≤ data_size
+    → (IsUnclean (hyper_run true (laid_out us) B bytes input n) → ⊥)
+    → (runs (image_of us bytes).blocks (start (image_of us bytes).bytes input) n).1 ≡ Trap c → ⊥
 
 -- whatever faults, n blocks of the hyper program come to what n blocks of its image come to whose
 -- marks nothing looks at

@@ -17,7 +17,7 @@ ghost use Rattle.grid_place.specs.Moves.{IsMoved};
 ghost use Rattle.fan_out.specs.Means.{block_acts};
 ghost use Rattle.fan_out.specs.Targeted.{HasRoom, IsTargeted};
 ghost use Rattle.c_compile_layout.specs.Emitted.{AreEmitted, ImageMeans, ImageMeansPlainly};
-ghost use Rattle.c_compile_layout.specs.Emitted.{HasSizes, IsGoodImage, image_of, most_blocks};
+ghost use Rattle.c_compile_layout.specs.Emitted.{HasSizes, IsGoodImage, NeverTraps, image_of, most_blocks};
 ghost use Rattle.c_compile_layout.specs.Joint.{AreMade, DoesPlainly, DoesTheSame, HasStarts};
 ghost use Rattle.c_compile_layout.specs.Layouts.{laid_out, linked, AreFew, HasPlaces};
 ghost use Rattle.c_compile_layout.specs.Standings.{MeansPlainly, MeansTheSame};
@@ -90,6 +90,7 @@ pub fn linked_blocks_are_an_image()
 /// the compiler cites.
 pub fn images_of_programs_mean_them()
     ensures means { (B : List HyperBlock) (us : List Block) → AreEmitted B us → ImageMeans B us }
+    ensures traps { (B : List HyperBlock) (us : List Block) → AreEmitted B us → NeverTraps B us }
     ensures plain { (B : List HyperBlock) (us : List Block) → AreEmitted B us
         → ImageMeansPlainly B us }
     ensures faithful { (B : List HyperBlock) (us : List Block) → AreEmitted B us
