@@ -14,4 +14,5 @@ pub mod Static
 pub mod Fits
 pub mod Regular
 pub mod Addressed
+pub mod Resolved
 pub mod StandardFacts

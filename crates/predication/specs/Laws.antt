@@ -1,5 +1,5 @@
 -- What `convert` gives: on every path tidy outputs, and from every start what the hyper block does.
-use Rattle.std.specs.Prelude.{ℕ, ◌^◌, ◌<◌, ◌≤◌}
+use Rattle.std.specs.Prelude.{◌≡◌, ℕ, ◌^◌, ◌<◌, ◌≤◌}
 use Rattle.trips_isa.specs.Rule.{Answer}
 use Rattle.ir_forms.specs.HyperCode.{Block}
 use Rattle.ir_forms.specs.HyperRuns.{Layout}
@@ -8,8 +8,9 @@ use Rattle.ir_forms.specs.FlowRuns.{Computes, OnPath}
 use Rattle.ir_forms.specs.FlowFits.{IsTidy, TakesAtMostOne, FitsFlow}
 use Rattle.ir_forms.specs.FlowRegular.{IsRegular}
 use Rattle.ir_forms.specs.Agreement.{MeansBlock}
-use Rattle.predication.specs.Tails.{addressed}
+use Rattle.predication.specs.Tails.{addressed, labelled}
 use Rattle.predication.specs.Converted.{begun, converted}
+use Rattle.predication.specs.Labels.{resolved}
 
 -- how many exits a block has room for
 abbrev pub exit_count : ℕ
@@ -60,3 +61,9 @@ abbrev pub TakesAddressed : Type 0
 TakesAddressed =
     (at : Layout) (b : Block) → HasShortAddresses at → FitsHyper b → HasRoom b
     → IsTaken (addressed at b)
+
+-- the block that holds its labels becomes, once these are resolved, the block with addresses
+abbrev pub ResolvesLabels : Type 0
+ResolvesLabels =
+    (at : Layout) (b : Block) → HasShortAddresses at → FitsHyper b
+    → resolved at.address (converted (labelled b)) ≡ converted (addressed at b)

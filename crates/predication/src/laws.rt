@@ -1,5 +1,5 @@
 ghost use Rattle.predication.specs.Laws.{ConvertsFitting, ConvertsMeaning, ConvertsPaths};
-ghost use Rattle.predication.specs.Laws.{ConvertsRegular, TakesAddressed};
+ghost use Rattle.predication.specs.Laws.{ConvertsRegular, ResolvesLabels, TakesAddressed};
 
 /// On every path of a converted block no null token meets a guard, each operand, write and number
 /// has at most one token, and exactly one exit is taken.
@@ -28,4 +28,10 @@ pub fn converted_blocks_are_regular()
 /// the same room.
 pub fn fitting_blocks_are_taken()
     ensures { TakesAddressed }
+{}
+
+/// A block that holds labels until the blocks are laid out becomes the block with addresses, once
+/// each label in a constant is resolved to a half of its address.
+pub fn resolved_labels_are_addresses()
+    ensures { ResolvesLabels }
 {}
