@@ -35,7 +35,7 @@ use Rattle.trips_run.specs.declared.loading.Loaded.TheVariants.{Fault, TooLarge,
 use Rattle.trips_run.specs.Request.{Request}
 use Rattle.trips_run.specs.Read.{IsRead, IsInputRead, limit_of}
 use Rattle.trips_run.specs.Read.{most_input_bytes}
-use Rattle.trips_run.specs.Source.{returned, return_block}
+use Rattle.trips_run.specs.Source.{returned, return_block, IsNotBuilt}
 use Rattle.trips_run.specs.Report.{ending_of, run_report, usage_text}
 use Rattle.trips_run.specs.Refusal.{form_text, front_refusal, image_refusal}
 use Rattle.trips_run.specs.Refused.{IsRefusedByFront, IsRefusedAs}
@@ -172,7 +172,7 @@ formed_told : (text input : List ℕ) (most : ℕ) (tree : Program) (program : T
     → HasTypes tree program → returned tree ≡ number → IsRunOfForm number most input s report
     → IsDone Run form.Source most text input s report
 formed_told text input most tree program None s report has types is told =
-    let out = record {
+    let out : IsNotBuilt text = record {
       tree = tree;
       program = program;
       has_tree = has;
