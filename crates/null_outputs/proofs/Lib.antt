@@ -16,5 +16,6 @@ pub mod Sizes
 pub mod Recognised
 pub mod Named
 pub mod Regular
+pub mod Unguarded
 pub mod Complete
 pub mod StandardFacts

@@ -19,6 +19,7 @@ use Rattle.null_outputs.specs.Covers.{guard_on}
 use Rattle.null_outputs.specs.Completed.{write_size}
 use Rattle.null_outputs.specs.Surely.{sure_by, Scope, Firm, has, scopes, sure_of}
 use Rattle.null_outputs.specs.Wants.{want_by, complete}
+use Rattle.null_outputs.specs.Straight.{IsStraight}
 use Rattle.null_outputs.specs.Sizes.{growth, AllFirm, sum_of, guards_used, numbers_size}
 
 -- of a store, that its number is in the mask
@@ -82,6 +83,10 @@ GrowsLittle = (b : FlowBlock) → AllFirm (sure_by b) b
 -- takes a token of a store or a branch
 abbrev pub KeepsRegular : Type 0
 KeepsRegular = (b : FlowBlock) → FitsFlow b → IsRegular b → IsRegular (complete b)
+
+-- where nothing is guarded, nothing is added
+abbrev pub KeepsStraight : Type 0
+KeepsStraight = (b : FlowBlock) → IsStraight b → complete b ≡ b
 
 -- A list is found sure where one of its scopes is the guard's,
 abbrev pub RecognisesScope : Type 0

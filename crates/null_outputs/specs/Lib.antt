@@ -4,4 +4,5 @@ pub mod Completed
 pub mod Surely
 pub mod Wants
 pub mod Sizes
+pub mod Straight
 pub mod Laws
