@@ -18,15 +18,14 @@ use Rattle.null_outputs.specs.Covers.{null_store_of}
 use Rattle.null_outputs.specs.Groups.{left_needed, right_needed, guard_group}
 use Rattle.null_outputs.specs.Groups.{guard_is, is_used, guard_part, guard_part_size, left_part, left_size, right_part}
 use Rattle.null_outputs.specs.Groups.{right_size, region, stores_of, number_open}
-use Rattle.null_outputs.specs.Completed.{trues, falses, lefts, rights, writes_at, cover, write_part, write_size, filled}
-use Rattle.null_outputs.specs.Completed.{filled_all, numbers_at, number_part, number_size, numbers_part, all_numbers}
-use Rattle.null_outputs.specs.Completed.{trues_region, falses_region, lefts_region, rights_region, writes_region}
-use Rattle.null_outputs.specs.Completed.{added, completed}
+use Rattle.null_outputs.specs.Completed.{writes_at, cover, write_part, write_size}
+use Rattle.null_outputs.specs.Completed.{filled_all, numbers_at, number_size, numbers_part, all_numbers}
+use Rattle.null_outputs.specs.Completed.{added}
 use Rattle.null_outputs.specs.Surely.{Firm, Scope, has, scopes, scope_at, sure_of, is_firm, firm_of, firms_from, firms}
 use Rattle.null_outputs.specs.Surely.{sure_by}
 use Rattle.null_outputs.specs.Wants.{mark_if, mark_writes, mark_node, spread, spread_at, is_open_store, open_stores}
-use Rattle.null_outputs.specs.Wants.{node_closed, each_wanted, one_closed, nodes_closed, write_closed, writes_closed}
-use Rattle.null_outputs.specs.Wants.{is_closed, or_all, wants_of, found_wants, want_by, complete}
+use Rattle.null_outputs.specs.Wants.{node_closed, each_wanted, nodes_closed, writes_closed}
+use Rattle.null_outputs.specs.Wants.{is_closed, wants_of, found_wants, want_by, complete}
 use Rattle.null_outputs.specs.Straight.{IsFed, IsStraight}
 use Rattle.null_outputs.proofs.Covers.{within}
 use Rattle.null_outputs.proofs.Recognised.{recognises_always}
