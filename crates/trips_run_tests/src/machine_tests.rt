@@ -1,7 +1,7 @@
 //! `run` on images by their target texts: an input, and a number of blocks.
 use crate::harness::answer_of;
 use block_image::encode;
-use std::alloc::Global;
+use std::alloc::{AllocError, Global};
 use std::process::Abort;
 use std::test::Fail;
 use target_asm::assemble;
@@ -85,6 +85,16 @@ fn image_of(alloc: Global, lines: &str) -> Result<Vec<u8>, Fail> {
     Ok(encode(alloc, &image)?)
 }
 
+/// What the program answers to these words, over an image and an input.
+fn answer_over<'a>(
+    alloc: Global,
+    words: &[&str],
+    image: &'a [u8],
+    input: &'a [u8],
+) -> Result<(Status, Vec<u8>), AllocError> {
+    answer_of(alloc, words, &[("b.img", image), ("t", input)])
+}
+
 fn assert_rows(rt: &impl Abort, alloc: Global, rows: &[Row]) -> Result<(), Fail> {
     for (lines, others, input, status, report) in rows {
         let bytes = image_of(alloc, *lines)?;
@@ -92,7 +102,7 @@ fn assert_rows(rt: &impl Abort, alloc: Global, rows: &[Row]) -> Result<(), Fail>
         words.push("run")?;
         words.push("b.img")?;
         words.extend_from_slice(others)?;
-        let (answered, written) = answer_of(alloc, &words, &[("b.img", &bytes), ("t", *input)])?;
+        let (answered, written) = answer_over(alloc, &words, &bytes, *input)?;
         assert_eq!(rt; answered, *status, "{lines}");
         assert_eq!(rt; written.as_slice(), report.as_bytes(), "{lines}");
     }
