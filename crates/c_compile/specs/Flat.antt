@@ -15,8 +15,8 @@ use Rattle.flat_lower_premises.specs.Most.{most_of}
 
 -- On each input the flat program does what the program means within any number of steps, by the run
 -- with all checks.
-abbrev pub KeepsMeaning : TypedProgram → Program → Type 0
-KeepsMeaning P F =
+abbrev pub KeepsTextMeaning : TypedProgram → Program → Type 0
+KeepsTextMeaning P F =
     (input : List ℕ) → IsInput input → (n : ℕ)
     → Keeps (most_of (source_of P)) (flat_run checked F input) n (eval P input n)
 
@@ -26,7 +26,7 @@ pub record IsFlatOf (text : List ℕ) (F : Program) : Type 0 where
   pub program : TypedProgram
   pub accepted : IsAccepted text program
   pub is : F ≡ lowered_program program
-  pub keeps : KeepsMeaning program F
+  pub keeps : KeepsTextMeaning program F
   pub fits : FitsProgram F
   -- its tokens bound what a pass through a function costs, and the blocks that are made of it
   pub tokens : Tokens

@@ -11,7 +11,7 @@ use Rattle.c_scope.specs.declared.meaning.Meaning.TheVariants as meaning
 use Rattle.c_scope.specs.Scope.{Scope, opened, closed, declared_in, bound}
 use Rattle.c_type_expr.specs.declared.role.Role.{Role}
 use Rattle.c_type_expr.specs.Roles.{Blame}
-use Rattle.c_type_expr.specs.Trees.{tree, converted}
+use Rattle.c_type_expr.specs.Trees.{tree, with_convert}
 use Rattle.c_type_expr.specs.Constants.{full}
 use Rattle.c_type.specs.declared.state.State.{State}
 
@@ -28,7 +28,7 @@ tree_if (Some e) G = Some (tree e G)
 -- a value converted to a type, where there is one
 abbrev pub value_of : Option Expr → Kind → Scope → Option TypedExpr
 value_of None k G = None
-value_of (Some e) k G = Some (converted k (tree e G))
+value_of (Some e) k G = Some (with_convert k (tree e G))
 
 -- the state with one block more
 abbrev pub entered : State → State

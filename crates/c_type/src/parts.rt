@@ -10,7 +10,7 @@ use crate::state::State;
 use base::Boxed;
 use c_scope::Scopes;
 use c_tree::{Expr, Kind, TypedExpr, TypedStmt};
-use c_type_expr::{Role, TypeFault, converted, full};
+use c_type_expr::{Role, TypeFault, full, with_convert};
 use std::alloc::Global;
 
 pub fn full_if(
@@ -45,7 +45,7 @@ pub fn value_to(
         Some(e) => {
             let e = full(alloc, names, Role::Value, e)?;
             let e = Boxed::new(alloc, e)?;
-            let e = converted(alloc, kind, e)?;
+            let e = with_convert(alloc, kind, e)?;
             Ok(Some(e.into_inner()))
         }
     }

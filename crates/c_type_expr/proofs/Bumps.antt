@@ -11,7 +11,7 @@ use Rattle.c_type_expr.specs.declared.fault.TypeFault.TheVariants.{Mismatch}
 use Rattle.c_type_expr.specs.declared.role.Role.{Role}
 use Rattle.c_type_expr.specs.declared.role.Role.TheVariants.{Value, Written}
 use Rattle.c_type_expr.specs.Roles.{Blame, first, unless, left_role}
-use Rattle.c_type_expr.specs.Faults.{is_place, fault, value_fault}
+use Rattle.c_type_expr.specs.Faults.{is_place, fault, unwanted_value}
 use Rattle.c_type_expr.specs.Trees.{tree}
 use Rattle.c_type_expr.specs.Says.{Says, Types, at}
 use Rattle.c_type_expr.proofs.Nodes.{fault-Bump}
@@ -21,7 +21,7 @@ pub no_place : (G : Scope) (r : Role) (l : ℕ) (op : BumpOp) (e : Expr) → is_
     → fault (at l (node.Bump op e)) G r ≡ first (fault e G Value) (Some (Mismatch l))
 no_place G r l op e p = fault-Bump G r l op e
     ∙ ap (λ (b : Bool). first (fault e G (left_role b))
-    (first (unless b (Mismatch l)) (value_fault r l))) p
+    (first (unless b (Mismatch l)) (unwanted_value r l))) p
 
 -- so it has no typed tree, and any will do
 pub untyped : (G : Scope) (r : Role) (l : ℕ) (op : BumpOp) (e : Expr)
@@ -64,7 +64,7 @@ of_place : (G : Scope) (f e : Expr) (op : BumpOp) → f.node ≡ node.Bump op e
 of_place G f e op n p = ap (λ (m : ExprNode). fault (at f.line m) G Value) n
     ∙ fault-Bump G Value f.line op e
     ∙ ap (λ (b : Bool). first (fault e G (left_role b))
-    (first (unless b (Mismatch f.line)) (value_fault Value f.line))) p
+    (first (unless b (Mismatch f.line)) (unwanted_value Value f.line))) p
     ∙ ends (fault e G Written)
 
 -- what a bump around it answers

@@ -19,7 +19,7 @@ use Rattle.c_type_expr.specs.declared.role.Role.{Role}
 use Rattle.c_type_expr.specs.declared.role.Role.TheVariants.{Value, Free, Written, Array, Surplus}
 use Rattle.c_type_expr.specs.Roles.{Blame, first, unless, takes_value, left_role}
 use Rattle.c_type_expr.specs.Faults.{Judged, node_judged, at_line, judged, is_place, fault}
-use Rattle.c_type_expr.specs.Faults.{value_fault, name_fault, element_fault, call_fault, slots_of}
+use Rattle.c_type_expr.specs.Faults.{unwanted_value, name_fault, element_fault, call_fault, slots_of}
 use Rattle.c_type_expr.specs.Faults.{role_at, rest_of, args_blame, args_fault}
 use Rattle.c_type_expr.specs.Trees.{a, name_tree, array_kind, array_place, result_kind, callee_of}
 use Rattle.c_type_expr.specs.Trees.{argument, arguments, unary, cast, bump, binary, choice, assign}
@@ -72,7 +72,7 @@ trees_same slots (e ∷ es) G = ap (λ (ts : List TypedExpr). argument slots (tr
     (trees_same (rest_of slots) es G)
 
 module _ (G : Scope) (r : Role) (l : ℕ) where
-  pub fault-Number : (v : ℕ) (k : Kind) → fault (at l (node.Number v k)) G r ≡ value_fault r l
+  pub fault-Number : (v : ℕ) (k : Kind) → fault (at l (node.Number v k)) G r ≡ unwanted_value r l
   unfolding fault is_place
   fault-Number v k = ap (λ (j : Judged). j.blame G r)
       (judged_by l _ (ExprNode-F.Number v k) (node.rolls-Number v k))
@@ -106,33 +106,33 @@ module _ (G : Scope) (r : Role) (l : ℕ) where
       (judged_by l _ (ExprNode-F.Group e) (node.rolls-Group e))
 
   pub fault-Unary : (op : UnaryOp) (e : Expr)
-      → fault (at l (node.Unary op e)) G r ≡ first (fault e G Value) (value_fault r l)
+      → fault (at l (node.Unary op e)) G r ≡ first (fault e G Value) (unwanted_value r l)
   unfolding fault is_place
   fault-Unary op e = ap (λ (j : Judged). j.blame G r)
       (judged_by l _ (ExprNode-F.Unary op e) (node.rolls-Unary op e))
 
   pub fault-Cast : (to : Kind) (e : Expr)
-      → fault (at l (node.Cast to e)) G r ≡ first (fault e G Value) (value_fault r l)
+      → fault (at l (node.Cast to e)) G r ≡ first (fault e G Value) (unwanted_value r l)
   unfolding fault is_place
   fault-Cast to e = ap (λ (j : Judged). j.blame G r)
       (judged_by l _ (ExprNode-F.Cast to e) (node.rolls-Cast to e))
 
   pub fault-Bump : (op : BumpOp) (e : Expr)
       → fault (at l (node.Bump op e)) G r ≡ first (fault e G (left_role (is_place e)))
-      (first (unless (is_place e) (Mismatch l)) (value_fault r l))
+      (first (unless (is_place e) (Mismatch l)) (unwanted_value r l))
   unfolding fault is_place
   fault-Bump op e = ap (λ (j : Judged). j.blame G r)
       (judged_by l _ (ExprNode-F.Bump op e) (node.rolls-Bump op e))
 
   pub fault-Binary : (op : BinaryOp) (x y : Expr)
       → fault (at l (node.Binary op x y)) G r
-      ≡ first (fault x G Value) (first (fault y G Value) (value_fault r l))
+      ≡ first (fault x G Value) (first (fault y G Value) (unwanted_value r l))
   unfolding fault is_place
   fault-Binary op x y = ap (λ (j : Judged). j.blame G r)
       (judged_by l _ (ExprNode-F.Binary op x y) (node.rolls-Binary op x y))
 
   pub fault-Choice : (t x y : Expr) → fault (at l (node.Choice t x y)) G r
-      ≡ first (fault t G Value) (first (fault x G Value) (first (fault y G Value) (value_fault r l)))
+      ≡ first (fault t G Value) (first (fault x G Value) (first (fault y G Value) (unwanted_value r l)))
   unfolding fault is_place
   fault-Choice t x y = ap (λ (j : Judged). j.blame G r)
       (judged_by l _ (ExprNode-F.Choice t x y) (node.rolls-Choice t x y))
@@ -140,13 +140,13 @@ module _ (G : Scope) (r : Role) (l : ℕ) where
   pub fault-Assign : (op : Option BinaryOp) (x y : Expr)
       → fault (at l (node.Assign op x y)) G r
       ≡ first (fault x G (left_role (is_place x)))
-      (first (fault y G Value) (first (unless (is_place x) (Mismatch l)) (value_fault r l)))
+      (first (fault y G Value) (first (unless (is_place x) (Mismatch l)) (unwanted_value r l)))
   unfolding fault is_place
   fault-Assign op x y = ap (λ (j : Judged). j.blame G r)
       (judged_by l _ (ExprNode-F.Assign op x y) (node.rolls-Assign op x y))
 
   pub fault-Comma : (x y : Expr) → fault (at l (node.Comma x y)) G r
-      ≡ first (fault x G Free) (first (fault y G Value) (value_fault r l))
+      ≡ first (fault x G Free) (first (fault y G Value) (unwanted_value r l))
   unfolding fault is_place
   fault-Comma x y = ap (λ (j : Judged). j.blame G r)
       (judged_by l _ (ExprNode-F.Comma x y) (node.rolls-Comma x y))

@@ -27,7 +27,7 @@ use Rattle.c_type_expr.specs.Roles.{Blame, first, unless, takes_element, takes_a
 use Rattle.c_type_expr.specs.Roles.{left_role}
 use Rattle.c_type_expr.specs.Faults.{fault, is_place, takes_result, name_fault, element_fault}
 use Rattle.c_type_expr.specs.Faults.{callee_fault, call_fault, slots_of, args_fault}
-use Rattle.c_type_expr.specs.Trees.{tree, args_tree, a, converted, end_of_file, unary, cast, bump}
+use Rattle.c_type_expr.specs.Trees.{tree, args_tree, a, with_convert, end_of_file, unary, cast, bump}
 use Rattle.c_type_expr.specs.Trees.{binary, choice, assign, comma, name_tree, array_kind}
 use Rattle.c_type_expr.specs.Trees.{array_place, result_kind, callee_of}
 use Rattle.c_type_expr.specs.Says.{at}
@@ -155,8 +155,8 @@ mutual
       let s = sound G Value e t d in let p = passed G slots es ts ds in (
         both _ _ s.0 p.0,
         ap suc p.1,
-        ap (λ (t : TypedExpr). converted k t ∷ ts) s.1
-            ∙ ap (λ (ts : List TypedExpr). converted k (tree e G) ∷ ts) p.2,
+        ap (λ (t : TypedExpr). with_convert k t ∷ ts) s.1
+            ∙ ap (λ (ts : List TypedExpr). with_convert k (tree e G) ∷ ts) p.2,
       )
   passed G _ _ _ (address {k = k} {e = e} {t = t} {slots = slots} {es = es} {ts = ts} d ds) =
       let s = sound G (Array k) e t d in let p = passed G slots es ts ds in (

@@ -20,8 +20,8 @@ use Rattle.c_type_expr.specs.Roles.{Blame, first, unless, takes_value, takes_ele
 use Rattle.c_type_expr.specs.Roles.{takes_array, left_role}
 
 -- a value where none that is no scalar, element or array may stand
-abbrev pub value_fault : Role → ℕ → Blame
-value_fault r l = unless (takes_value r) (Mismatch l)
+abbrev pub unwanted_value : Role → ℕ → Blame
+unwanted_value r l = unless (takes_value r) (Mismatch l)
 
 -- may a name of this meaning stand there?
 abbrev pub takes_name : Meaning → Role → Bool
@@ -99,24 +99,24 @@ node_place _ = false
 
 -- what of a node fails first in a role: its operands before itself
 abbrev pub node_blame : ExprNode-F (ℕ → Judged) Judged → ℕ → Scope → Role → Blame
-node_blame (Number v k) l G r = value_fault r l
+node_blame (Number v k) l G r = unwanted_value r l
 node_blame (Name w) l G r = name_fault (look_up G w) r l
 node_blame (Element w i) l G r = first (i.blame G Value) (element_fault (look_up G w) r l)
 node_blame (Call w es) l G r =
     first (args_blame (slots_of (look_up G w)) es G) (call_fault (look_up G w) (length es) r l)
 node_blame (Group e) l G r = e.blame G r
-node_blame (Unary op e) l G r = first (e.blame G Value) (value_fault r l)
-node_blame (Cast to e) l G r = first (e.blame G Value) (value_fault r l)
+node_blame (Unary op e) l G r = first (e.blame G Value) (unwanted_value r l)
+node_blame (Cast to e) l G r = first (e.blame G Value) (unwanted_value r l)
 node_blame (Bump op e) l G r =
-    first (e.blame G (left_role e.place)) (first (unless e.place (Mismatch l)) (value_fault r l))
+    first (e.blame G (left_role e.place)) (first (unless e.place (Mismatch l)) (unwanted_value r l))
 node_blame (Binary op x y) l G r = first (x.blame G Value)
-    (first (y.blame G Value) (value_fault r l))
+    (first (y.blame G Value) (unwanted_value r l))
 node_blame (Choice t x y) l G r =
-    first (t.blame G Value) (first (x.blame G Value) (first (y.blame G Value) (value_fault r l)))
+    first (t.blame G Value) (first (x.blame G Value) (first (y.blame G Value) (unwanted_value r l)))
 node_blame (Assign op x y) l G r =
     first (x.blame G (left_role x.place))
-    (first (y.blame G Value) (first (unless x.place (Mismatch l)) (value_fault r l)))
-node_blame (Comma x y) l G r = first (x.blame G Free) (first (y.blame G Value) (value_fault r l))
+    (first (y.blame G Value) (first (unless x.place (Mismatch l)) (unwanted_value r l)))
+node_blame (Comma x y) l G r = first (x.blame G Free) (first (y.blame G Value) (unwanted_value r l))
 
 -- both of a node
 abbrev pub node_judged : ExprNode-F (ℕ → Judged) Judged → ℕ → Judged

@@ -39,8 +39,8 @@ abbrev pub kind_of : TypedExpr → Kind
 kind_of e = kind_in e.kind
 
 -- a conversion to another type is a node
-abbrev pub converted : Kind → TypedExpr → TypedExpr
-converted k e = cond (same_kind (kind_of e) k) e (a (Some k) (typed.Convert k e))
+abbrev pub with_convert : Kind → TypedExpr → TypedExpr
+with_convert k e = cond (same_kind (kind_of e) k) e (a (Some k) (typed.Convert k e))
 
 -- the word of -1
 abbrev pub end_of_file : TypedExpr
@@ -79,7 +79,7 @@ callee_of _ = callee.GetChar
 
 -- an argument, as the first of these slots takes it
 abbrev pub argument : List Slot → TypedExpr → TypedExpr
-argument (slot.Scalar k ∷ slots) e = converted k e
+argument (slot.Scalar k ∷ slots) e = with_convert k e
 argument _ e = e
 
 -- the arguments, each as its parameter takes it
@@ -90,7 +90,7 @@ arguments slots (e ∷ es) G = argument slots (e G) ∷ arguments (rest_of slots
 -- a unary operation: its operand converts to the type in which it is done
 abbrev pub unary : UnaryOp → TypedExpr → TypedExpr
 unary op e =
-    let k = unary_at op (kind_of e) in a (Some (unary_result op k)) (typed.Unary op (converted k e))
+    let k = unary_at op (kind_of e) in a (Some (unary_result op k)) (typed.Unary op (with_convert k e))
 
 -- a cast, whose operand does not convert by itself
 abbrev pub cast : Kind → TypedExpr → TypedExpr
@@ -105,13 +105,13 @@ abbrev pub binary : BinaryOp → TypedExpr → TypedExpr → TypedExpr
 binary op x y =
     let k = left_at op (kind_of x) (kind_of y) in
     a (Some (result_of op k))
-    (typed.Binary op (converted k x) (converted (right_at op (kind_of x) (kind_of y)) y))
+    (typed.Binary op (with_convert k x) (with_convert (right_at op (kind_of x) (kind_of y)) y))
 
 -- a choice: both legs convert to their common type
 abbrev pub choice : TypedExpr → TypedExpr → TypedExpr → TypedExpr
 choice t x y =
     let k = common (kind_of x) (kind_of y) in
-    a (Some k) (typed.Choice t (converted k x) (converted k y))
+    a (Some k) (typed.Choice t (with_convert k x) (with_convert k y))
 
 -- the type in which the operation of an assignment is done, and that to which its right side
 -- converts
@@ -129,7 +129,7 @@ abbrev pub assign : Option BinaryOp → TypedExpr → TypedExpr → TypedExpr
 assign op x y =
     a (Some (kind_of x))
     (typed.Assign op (assigned_at op (kind_of x) (kind_of y)) x
-    (converted (assigned_from op (kind_of x) (kind_of y)) y))
+    (with_convert (assigned_from op (kind_of x) (kind_of y)) y))
 
 -- a comma, of the type of its right side
 abbrev pub comma : TypedExpr → TypedExpr → TypedExpr

@@ -19,7 +19,7 @@ use Rattle.c_type_expr.specs.declared.role.Role.TheVariants.{Value, Free, Writte
 use Rattle.c_type_expr.specs.Roles.{takes_value, takes_element, takes_array}
 use Rattle.c_type_expr.specs.Faults.{takes_result}
 use Rattle.c_type_expr.specs.Places.{IsPlace}
-use Rattle.c_type_expr.specs.Trees.{a, converted, end_of_file, unary, cast, bump, binary, choice}
+use Rattle.c_type_expr.specs.Trees.{a, with_convert, end_of_file, unary, cast, bump, binary, choice}
 use Rattle.c_type_expr.specs.Trees.{assign, comma}
 use Rattle.c_type_expr.specs.Says.{at}
 
@@ -74,7 +74,7 @@ mutual
     none : Passed G [] [] []
     value : {k : Kind} {e : Expr} {t : TypedExpr} {slots : List Slot} {es : List Expr}
         {ts : List TypedExpr} → Typed G Value e t → Passed G slots es ts
-        → Passed G (slot.Scalar k ∷ slots) (e ∷ es) (converted k t ∷ ts)
+        → Passed G (slot.Scalar k ∷ slots) (e ∷ es) (with_convert k t ∷ ts)
     address : {k : Kind} {e : Expr} {t : TypedExpr} {slots : List Slot} {es : List Expr}
         {ts : List TypedExpr} → Typed G (Array k) e t → Passed G slots es ts
         → Passed G (slot.Address k ∷ slots) (e ∷ es) (t ∷ ts)

@@ -30,7 +30,7 @@ pub fn converted_for(
     ensures { Says None (trees.argument slots.now e) result }
 {
     match slots {
-        [Slot::Scalar(kind), ..] => Ok(build::converted(alloc, *kind, e)?),
+        [Slot::Scalar(kind), ..] => Ok(build::with_convert(alloc, *kind, e)?),
         _ => Ok(e),
     }
 }

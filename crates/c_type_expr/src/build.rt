@@ -32,12 +32,12 @@ pub fn boxed(
 
 /// An expression converted to a kind, by a node where its kind is another. Want of memory is the only error.
 #[inline(never)]
-pub fn converted(
+pub fn with_convert(
     alloc: Global,
     to: Kind,
     e: Boxed<TypedExpr>,
 ) -> Result<Boxed<TypedExpr>, AllocError>
-    ensures { IfOk result (λ t. t ≡ trees.converted to e) }
+    ensures { IfOk result (λ t. t ≡ trees.with_convert to e) }
 {
     if kind_of(e.get()) == to {
         return Ok(e);
@@ -54,7 +54,7 @@ pub fn unary(
     ensures { IfOk result (λ t. t ≡ trees.unary op e) }
 {
     let at = unary_at(op, kind_of(e.get()));
-    let e = converted(alloc, at, e)?;
+    let e = with_convert(alloc, at, e)?;
     let kind = Some(unary_result(op, at));
     boxed(alloc, kind, TypedNode::Unary { op, e })
 }
@@ -86,8 +86,8 @@ pub fn binary(
 {
     let (j, k) = (kind_of(left.get()), kind_of(right.get()));
     let at = left_at(op, j, k);
-    let left = converted(alloc, at, left)?;
-    let right = converted(alloc, right_at(op, j, k), right)?;
+    let left = with_convert(alloc, at, left)?;
+    let right = with_convert(alloc, right_at(op, j, k), right)?;
     let kind = Some(result_of(op, at));
     boxed(alloc, kind, TypedNode::Binary { op, left, right })
 }
@@ -102,8 +102,8 @@ pub fn choice(
     ensures { IfOk result (λ t. t ≡ trees.choice test yes no) }
 {
     let at = common(kind_of(yes.get()), kind_of(no.get()));
-    let yes = converted(alloc, at, yes)?;
-    let no = converted(alloc, at, no)?;
+    let yes = with_convert(alloc, at, yes)?;
+    let no = with_convert(alloc, at, no)?;
     let kind = Some(at);
     boxed(alloc, kind, TypedNode::Choice { test, yes, no })
 }
@@ -136,7 +136,7 @@ pub fn assign(
     ensures { IfOk result (λ t. t ≡ trees.assign op left right) }
 {
     let (j, k) = (kind_of(left.get()), kind_of(right.get()));
-    let right = converted(alloc, assigned_from(op, j, k), right)?;
+    let right = with_convert(alloc, assigned_from(op, j, k), right)?;
     let kind = Some(j);
     boxed(
         alloc,

@@ -2,7 +2,7 @@
 
 ghost use Rattle.std.specs.Prelude.{◌≡◌};
 ghost use Rattle.std.specs.Option.{option_copied};
-ghost use Rattle.c_type_expr.specs.Faults.{value_fault, name_fault, element_fault, call_fault};
+ghost use Rattle.c_type_expr.specs.Faults.{unwanted_value, name_fault, element_fault, call_fault};
 ghost use Rattle.c_type_expr.specs.Faults.{callee_fault, slots_of, takes_result};
 ghost use Rattle.c_type_expr.specs.Roles.{unless};
 ghost use Rattle.c_type_expr.specs.Trees.{name_tree, array_kind, array_place, result_kind};
@@ -16,7 +16,7 @@ use c_tree::{Callee, Kind, Place, Slot, TypedExpr, TypedNode};
 
 /// Whether a value may stand where the role is wanted.
 pub fn value_at(role: Role, line: u32) -> Result<(), TypeFault>
-    ensures { Says (value_fault role line) tt result }
+    ensures { Says (unwanted_value role line) tt result }
 {
     if role.takes_value() {
         Ok(())

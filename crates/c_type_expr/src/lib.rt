@@ -13,7 +13,7 @@ mod fault;
 mod found;
 mod role;
 
-pub use build::converted;
+pub use build::with_convert;
 pub use constants::{full, full_constant, size_length};
 pub use exact::typing_is_exact;
 pub use expressions::type_expr;

@@ -26,7 +26,7 @@ use Rattle.c_constant.specs.Kinds.{number}
 use Rattle.c_constant.specs.Need.{Needs, need, needs}
 use Rattle.c_type_expr.specs.declared.role.Role.TheVariants.{Value, Free}
 use Rattle.c_type_expr.specs.Roles.{Blame}
-use Rattle.c_type_expr.specs.Trees.{tree, converted}
+use Rattle.c_type_expr.specs.Trees.{tree, with_convert}
 use Rattle.c_type_expr.specs.Constants.{full, need_fault, size_fault, value_fault, length_of, length_in, length_from}
 use Rattle.c_type_expr.specs.Constants.{word_in}
 use Rattle.c_type_expr.proofs.Theorem.{complete}
@@ -106,7 +106,7 @@ module _ (P : TypedProgram) (f : TypedFunc) where
 
   -- the same, converted to a type
   full_converted : (k : Kind) (e : Expr) (G : Scope) → Known P f G → full e Value G ≡ None
-      → IsValue P f k (converted k (tree e G))
+      → IsValue P f k (with_convert k (tree e G))
   full_converted k e G g h =
       let v = full_value e G g h in
       (converted_has P f k (tree e G) v.0, subst (λ n. n ≤ 16) (sym (converted_need k (tree e G))) v.1)

@@ -15,7 +15,7 @@ use Rattle.c_constant.specs.Need.{Needs, plain, args_need, call_need, assign_nee
 use Rattle.c_constant.proofs.Nodes.{needs-Number, needs-Name, needs-Element, needs-Call, needs-Group, needs-Unary}
 use Rattle.c_constant.proofs.Nodes.{needs-Cast, needs-Bump, needs-Binary, needs-Choice, needs-Assign, needs-Comma}
 use Rattle.c_type_expr.specs.declared.role.Role.{Role}
-use Rattle.c_type_expr.specs.Trees.{a, kind_of, converted, assigned_from}
+use Rattle.c_type_expr.specs.Trees.{a, kind_of, with_convert, assigned_from}
 use Rattle.c_type_expr.specs.Typed.{Typed, Passed, number, scalar, array, ending, element, call, group, operator}
 use Rattle.c_type_expr.specs.Typed.{conversion, step, operation, either, assignment, sequence, none, value, address}
 use Rattle.c_tree.specs.TypedTrees.{Node}
@@ -36,7 +36,7 @@ abbrev typed_need : TypedExpr → ℕ
 typed_need t = (typed_needs t).need
 
 -- a conversion needs what its operand needs
-pub converted_need : (k : Kind) (t : TypedExpr) → typed_need (converted k t) ≡ typed_need t
+pub converted_need : (k : Kind) (t : TypedExpr) → typed_need (with_convert k t) ≡ typed_need t
 converted_need k t = go (same_kind (kind_of t) k)
   where
     go : (b : Bool) → typed_need (cond b t (a (Some k) (typed.Convert k t))) ≡ typed_need t
@@ -77,16 +77,16 @@ module _ (G : Scope) where
         ∙ sym (needs-Bump _ op e refl)
     same_needs _ _ _ (operation {op = op} {x = x} {y = y} {s = s} {t = t} d d' h) =
         by _ _ (node.Binary op _ _) (typed.rolls-Binary op _ _)
-        ∙ ap (λ n. plain (max n (1 + typed_need (converted (right_at op (kind_of s) (kind_of t)) t))))
+        ∙ ap (λ n. plain (max n (1 + typed_need (with_convert (right_at op (kind_of s) (kind_of t)) t))))
         (converted_need _ s ∙ ap (λ (n : Needs). n.need) (same_needs _ x s d))
         ∙ ap (λ n. plain (max (need x) (1 + n))) (converted_need _ t ∙ ap (λ (n : Needs). n.need) (same_needs _ y t d'))
         ∙ sym (needs-Binary _ op x y refl)
     same_needs _ _ _ (either {c = c} {x = x} {y = y} {d = d} {s = s} {t = t} d1 d2 d3 h) =
         let k = common (kind_of s) (kind_of t) in
         by _ _ (node.Choice d _ _) (typed.rolls-Choice d _ _)
-        ∙ ap (λ (n : Needs). plain (max n.need (max (typed_need (converted k s)) (typed_need (converted k t)))))
+        ∙ ap (λ (n : Needs). plain (max n.need (max (typed_need (with_convert k s)) (typed_need (with_convert k t)))))
         (same_needs _ c d d1)
-        ∙ ap (λ n. plain (max (need c) (max n (typed_need (converted k t)))))
+        ∙ ap (λ n. plain (max (need c) (max n (typed_need (with_convert k t)))))
         (converted_need _ s ∙ ap (λ (n : Needs). n.need) (same_needs _ x s d2))
         ∙ ap (λ n. plain (max (need c) (max (need x) n)))
         (converted_need _ t ∙ ap (λ (n : Needs). n.need) (same_needs _ y t d3))
@@ -94,7 +94,7 @@ module _ (G : Scope) where
     same_needs _ _ _ (assignment {op = op} {x = x} {y = y} {s = s} {t = t} w d d' h) =
         let k = assigned_from op (kind_of s) (kind_of t) in
         by _ _ (node.Assign op _ s _) (typed.rolls-Assign op _ s _)
-        ∙ ap (λ (n : Needs). plain (assign_need n.index (typed_need (converted k t)))) (same_needs _ x s d)
+        ∙ ap (λ (n : Needs). plain (assign_need n.index (typed_need (with_convert k t)))) (same_needs _ x s d)
         ∙ ap (λ n. plain (assign_need (needs x).index n))
         (converted_need k t ∙ ap (λ (n : Needs). n.need) (same_needs _ y t d'))
         ∙ sym (needs-Assign _ op x y refl)

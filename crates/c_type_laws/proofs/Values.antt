@@ -21,7 +21,7 @@ use Rattle.c_type_expr.specs.declared.role.Role.{Role}
 use Rattle.c_type_expr.specs.declared.role.Role.TheVariants.{Value, Free, Written, Array, Surplus}
 use Rattle.c_type_expr.specs.Roles.{takes_value, takes_element, takes_array}
 use Rattle.c_type_expr.specs.Faults.{takes_result}
-use Rattle.c_type_expr.specs.Trees.{a, kind_of, kind_in, converted, comma}
+use Rattle.c_type_expr.specs.Trees.{a, kind_of, kind_in, with_convert, comma}
 use Rattle.c_type_expr.specs.Typed.{Typed, Passed}
 use Rattle.c_type_expr.specs.Typed as typing
 use Rattle.c_type_laws.specs.Objects.{scalar_at, array_at, signature, signature_of}
@@ -138,7 +138,7 @@ module _ (P : TypedProgram) (f : TypedFunc) where
   plain_has t p = itself p.is p.gives
 
   -- a converted value has the type to which it is converted
-  pub converted_has : (k : Kind) (t : TypedExpr) (p : Plain t) → Has P f k (converted k t)
+  pub converted_has : (k : Kind) (t : TypedExpr) (p : Plain t) → Has P f k (with_convert k t)
   converted_has k t p = by (same_kind (kind_of t) k) refl
     where
       is : kind_of t ≡ p.kind
@@ -179,7 +179,7 @@ module _ (P : TypedProgram) (f : TypedFunc) where
       fits _ _ _ (typing.operator {r = r} {op = op} {e = e} {t = t} d h) =
           let k = unary_at op (kind_of t) in
           value_fits r (unary_result op k) _ h
-          (closed _ _ _ (typed.rolls-Unary op (converted k t))
+          (closed _ _ _ (typed.rolls-Unary op (with_convert k t))
           (rule.unary (converted_has k t (fits Value e t d)) (unary_settled op (kind_of t)) refl))
       fits _ _ _ (typing.conversion {r = r} {to = to} {e = e} {t = t} d h) =
           value_fits r to _ h (closed _ _ _ (typed.rolls-Cast to t) (rule.cast (plain_has t (fits Value e t d))))
@@ -191,26 +191,26 @@ module _ (P : TypedProgram) (f : TypedFunc) where
           let k = right_at op (kind_of s) (kind_of t) in
           let c = settled op (kind_of s) (kind_of t) in
           value_fits r (result_of op j) _ h
-          (closed _ _ _ (typed.rolls-Binary op (converted j s) (converted k t))
+          (closed _ _ _ (typed.rolls-Binary op (with_convert j s) (with_convert k t))
           (rule.binary (converted_has j s (fits Value x s d))
           (converted_has k t (fits Value y t d')) c.left c.right refl))
       fits _ _ _ (typing.either {r = r} {c = c} {x = x} {y = y} {d = d} {s = s} {t = t} d1 d2 d3 h) =
           let k = common (kind_of s) (kind_of t) in
           value_fits r k _ h
-          (closed _ _ _ (typed.rolls-Choice d (converted k s) (converted k t))
+          (closed _ _ _ (typed.rolls-Choice d (with_convert k s) (with_convert k t))
           (rule.choice (plain_has d (fits Value c d d1)) (converted_has k s (fits Value x s d2))
           (converted_has k t (fits Value y t d3)) (commons (kind_of s) (kind_of t)).itself))
       fits _ _ _ (typing.assignment {r = r} {op = None} {x = x} {y = y} {s = s} {t = t} p d d' h) =
           let k = kind_of s in
           value_fits r k _ h
-          (closed _ _ _ (typed.rolls-Assign None k s (converted k t))
+          (closed _ _ _ (typed.rolls-Assign None k s (with_convert k t))
           (rule.assign (object s (fits Written x s d)) (converted_has k t (fits Value y t d'))))
       fits _ _ _ (typing.assignment {r = r} {op = Some op} {x = x} {y = y} {s = s} {t = t} p d d' h) =
           let j = left_at op (kind_of s) (kind_of t) in
           let k = right_at op (kind_of s) (kind_of t) in
           let c = settled op (kind_of s) (kind_of t) in
           value_fits r (kind_of s) _ h
-          (closed _ _ _ (typed.rolls-Assign (Some op) j s (converted k t))
+          (closed _ _ _ (typed.rolls-Assign (Some op) j s (with_convert k t))
           (rule.compound (object s (fits Written x s d)) (converted_has k t (fits Value y t d')) c.at c.from))
       fits _ _ _ (typing.sequence {r = r} {x = x} {y = y} {s = s} {t = t} d d' h) =
           sequence r s t h (fits Free x s d) (fits Value y t d')

@@ -11,7 +11,7 @@ use Rattle.c_type_expr.specs.declared.fault.TypeFault.TheVariants.{Mismatch}
 use Rattle.c_type_expr.specs.declared.role.Role.{Role}
 use Rattle.c_type_expr.specs.declared.role.Role.TheVariants.{Value, Free}
 use Rattle.c_type_expr.specs.Roles.{Blame, unless, left_role}
-use Rattle.c_type_expr.specs.Faults.{value_fault, is_place, slots_of, role_at, rest_of}
+use Rattle.c_type_expr.specs.Faults.{unwanted_value, is_place, slots_of, role_at, rest_of}
 use Rattle.c_type_expr.specs.Constants.{calls_known, length_of}
 use Rattle.c_type_expr.specs.Says.{at}
 use Rattle.c_type_rules.specs.Judgements.{Judgement, a_test, an_expression, a_full, an_optional, a_constant, a_full_constant, a_size, argument_parts, expression_parts, constant_parts}
@@ -34,10 +34,10 @@ last b s = (test_good b s, tt)
 
 -- whether a value may stand there, and then no more
 abbrev value_test : Role → ℕ → List Judgement
-value_test r l = a_test (value_fault r l) ∷ []
+value_test r l = a_test (unwanted_value r l) ∷ []
 
 value_last : (r : Role) (l : ℕ) → AllGood (value_test r l)
-value_last r l = last (value_fault r l) (sane_value r l)
+value_last r l = last (unwanted_value r l) (sane_value r l)
 
 -- whether a left side may be written to, and what comes behind it
 place_last : (e : Expr) (l : ℕ) (xs : List Judgement) → AllGood xs

@@ -15,7 +15,7 @@ use Rattle.c_type_expr.specs.declared.fault.TypeFault.{TypeFault}
 use Rattle.c_type_expr.specs.declared.fault.TypeFault.TheVariants.{Twice, Mismatch, Arity, TooManyScalars, Need, TooLarge}
 use Rattle.c_type_expr.specs.declared.role.Role.{Role}
 use Rattle.c_type_expr.specs.Roles.{Blame, first, unless, takes_value, takes_element}
-use Rattle.c_type_expr.specs.Faults.{value_fault, takes_name, takes_result, name_fault, element_fault, callee_fault, call_fault}
+use Rattle.c_type_expr.specs.Faults.{unwanted_value, takes_name, takes_result, name_fault, element_fault, callee_fault, call_fault}
 use Rattle.c_type_expr.specs.Constants as constants
 use Rattle.c_type.specs.declared.file_scope.FileScope.{FileScope}
 use Rattle.c_type.specs.declared.state.State.{State}
@@ -38,7 +38,7 @@ sane_unless false f s = s
 
 -- EXPRESSIONS
 
-pub sane_value : (r : Role) (l : ℕ) → Sane (value_fault r l)
+pub sane_value : (r : Role) (l : ℕ) → Sane (unwanted_value r l)
 sane_value r l = sane_unless (takes_value r) (Mismatch l) tt
 
 pub sane_name : (m : Option Meaning) (r : Role) (l : ℕ) → Sane (name_fault m r l)

@@ -18,7 +18,7 @@ use Rattle.c_type_expr.specs.declared.fault.TypeFault.TheVariants.{Twice, TooMan
 use Rattle.c_type_expr.specs.declared.role.Role.{Role}
 use Rattle.c_type_expr.specs.declared.role.Role.TheVariants.{Value, Free}
 use Rattle.c_type_expr.specs.Roles.{Blame, first, unless}
-use Rattle.c_type_expr.specs.Trees.{tree, converted}
+use Rattle.c_type_expr.specs.Trees.{tree, with_convert}
 use Rattle.c_type_expr.specs.Constants.{full, word_in, value_fault, size_fault}
 use Rattle.c_type_expr.proofs.Theorem.{sound}
 use Rattle.c_type.specs.declared.state.State.{State}
@@ -56,7 +56,7 @@ pub initialises_fine : (G : Scope) (k : Kind) (e : Option Expr) (t : Option Type
     → (full_if e Value G ≡ None) × (t ≡ value_of e k G)
 initialises_fine G k _ _ without_value = (refl, refl)
 initialises_fine G k _ _ (with_value {e = e} {t = t} d) =
-    let s = full_fine G Value e t d in (s.0, ap (λ (t : TypedExpr). Some (converted k t)) s.1)
+    let s = full_fine G Value e t d in (s.0, ap (λ (t : TypedExpr). Some (with_convert k t)) s.1)
 
 -- a name that may be declared
 pub free : (G : Scope) (w : List ℕ) (l : ℕ) → is_taken G w ≡ false → twice_fault G w l ≡ None
@@ -180,7 +180,7 @@ mutual
   types_fine _ _ _ _ _ (returns_value {b = b} {v = v} {l = l} {k = k} {e = e} {t = t} h d) =
       let s = full_fine v.names Value e t d in (
         fault-Return l (Some e) b v ∙ both _ _ s.0 (ap (λ r. return_fault r (Some e) l) h),
-        ap (λ (t : TypedExpr). typed.Return (Some (converted k t))) s.1
+        ap (λ (t : TypedExpr). typed.Return (Some (with_convert k t))) s.1
             ∙ sym (tree-Return l (Some e) v ∙ ap (λ r. typed.Return (return_tree r (Some e) v.names)) h),
         sym (after-Return l (Some e) v),
       )

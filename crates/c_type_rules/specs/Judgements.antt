@@ -16,7 +16,7 @@ use Rattle.c_type_expr.specs.declared.fault.TypeFault.TheVariants.{Mismatch}
 use Rattle.c_type_expr.specs.declared.role.Role.{Role}
 use Rattle.c_type_expr.specs.declared.role.Role.TheVariants.{Value, Free}
 use Rattle.c_type_expr.specs.Roles.{Blame, unless, left_role}
-use Rattle.c_type_expr.specs.Faults.{value_fault, name_fault, element_fault, call_fault, slots_of, role_at, rest_of, is_place}
+use Rattle.c_type_expr.specs.Faults.{unwanted_value, name_fault, element_fault, call_fault, slots_of, role_at, rest_of, is_place}
 use Rattle.c_type_expr.specs.Constants.{no_constant, calls_known}
 use Rattle.c_type.specs.declared.file_scope.FileScope.{FileScope}
 use Rattle.c_type.specs.declared.state.State.{State}
@@ -58,28 +58,28 @@ argument_parts G slots (e ∷ es) =
 
 -- the parts of an expression of that line: its operands, then the node itself
 abbrev pub expression_parts : Scope → Role → ℕ → ExprNode-F ExprNode Expr → List Judgement
-expression_parts G r l (Number v k) = a_test (value_fault r l) ∷ []
+expression_parts G r l (Number v k) = a_test (unwanted_value r l) ∷ []
 expression_parts G r l (Name w) = a_test (name_fault (look_up G w) r l) ∷ []
 expression_parts G r l (Element w i) =
     an_expression G Value i ∷ a_test (element_fault (look_up G w) r l) ∷ []
 expression_parts G r l (Call w es) =
     argument_parts G (slots_of (look_up G w)) es ++ a_test (call_fault (look_up G w) (length es) r l) ∷ []
 expression_parts G r l (Group e) = an_expression G r e ∷ []
-expression_parts G r l (Unary op e) = an_expression G Value e ∷ a_test (value_fault r l) ∷ []
-expression_parts G r l (Cast to e) = an_expression G Value e ∷ a_test (value_fault r l) ∷ []
+expression_parts G r l (Unary op e) = an_expression G Value e ∷ a_test (unwanted_value r l) ∷ []
+expression_parts G r l (Cast to e) = an_expression G Value e ∷ a_test (unwanted_value r l) ∷ []
 expression_parts G r l (Bump op e) =
     an_expression G (left_role (is_place e)) e ∷ a_test (unless (is_place e) (Mismatch l))
-    ∷ a_test (value_fault r l) ∷ []
+    ∷ a_test (unwanted_value r l) ∷ []
 expression_parts G r l (Binary op x y) =
-    an_expression G Value x ∷ an_expression G Value y ∷ a_test (value_fault r l) ∷ []
+    an_expression G Value x ∷ an_expression G Value y ∷ a_test (unwanted_value r l) ∷ []
 expression_parts G r l (Choice t x y) =
     an_expression G Value t ∷ an_expression G Value x ∷ an_expression G Value y
-    ∷ a_test (value_fault r l) ∷ []
+    ∷ a_test (unwanted_value r l) ∷ []
 expression_parts G r l (Assign op x y) =
     an_expression G (left_role (is_place x)) x ∷ an_expression G Value y
-    ∷ a_test (unless (is_place x) (Mismatch l)) ∷ a_test (value_fault r l) ∷ []
+    ∷ a_test (unless (is_place x) (Mismatch l)) ∷ a_test (unwanted_value r l) ∷ []
 expression_parts G r l (Comma x y) =
-    an_expression G Free x ∷ an_expression G Value y ∷ a_test (value_fault r l) ∷ []
+    an_expression G Free x ∷ an_expression G Value y ∷ a_test (unwanted_value r l) ∷ []
 
 -- the parts of a constant expression of that line
 abbrev pub constant_parts : Scope → ℕ → ExprNode-F ExprNode Expr → List Judgement

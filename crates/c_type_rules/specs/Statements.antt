@@ -18,7 +18,7 @@ use Rattle.c_constant.specs.Need.{need_fits}
 use Rattle.c_scope.specs.Scope.{Scope}
 use Rattle.c_type_expr.specs.declared.role.Role.{Role}
 use Rattle.c_type_expr.specs.declared.role.Role.TheVariants.{Value, Free}
-use Rattle.c_type_expr.specs.Trees.{converted}
+use Rattle.c_type_expr.specs.Trees.{with_convert}
 use Rattle.c_type_expr.specs.Typed.{Typed}
 use Rattle.c_type.specs.declared.state.State.{State}
 use Rattle.c_type.specs.States.{at, entered, left, with_scalar, with_array}
@@ -39,7 +39,7 @@ pub data FullIf (G : Scope) (r : Role) : Option Expr → Option TypedExpr → Ty
 pub data Initialises (G : Scope) (k : Kind) : Option Expr → Option TypedExpr → Type 0 where
   without_value : Initialises G k None None
   with_value : {e : Expr} {t : TypedExpr}
-      → Full G Value e t → Initialises G k (Some e) (Some (converted k t))
+      → Full G Value e t → Initialises G k (Some e) (Some (with_convert k t))
 
 mutual
   -- inside a loop or not, the statement has the typed tree; the second state is the one after it
@@ -81,7 +81,7 @@ mutual
         → v.result ≡ None → Types b v (at l (node.Return None)) (typed.Return None) v
     returns_value : {b : Bool} {v : State} {l : ℕ} {k : Kind} {e : Expr} {t : TypedExpr}
         → v.result ≡ Some k → Full v.names Value e t
-        → Types b v (at l (node.Return (Some e))) (typed.Return (Some (converted k t))) v
+        → Types b v (at l (node.Return (Some e))) (typed.Return (Some (with_convert k t))) v
 
   -- several, one after another
   pub data TypesAll : Bool → State → List Stmt → List TypedStmt → State → Type 0 where

@@ -36,7 +36,7 @@ use Rattle.c_constant.specs.Kinds.{IsWord}
 use Rattle.flat_lower.specs.Statements.{end_code, stmt_code, lowered, lowered_program}
 use Rattle.flat_lower.specs.Fits.{FitsFunc, FitsSource}
 use Rattle.flat_lower.specs.Sizes.{size_of, IsMost}
-use Rattle.flat_lower.specs.Keeps.{Finishes, Overflows, Runs, Keeps, IsInput, Means, KeepsMeaning}
+use Rattle.flat_lower.specs.Keeps.{Finishes, Overflows, GoesOn, Keeps, IsInput, Means, KeepsMeaning}
 use Rattle.c_constant.proofs.Conversions.{converted_is}
 use Rattle.flat_lower.proofs.Follows.{Goes, Dives, Halts, Follows}
 use Rattle.flat_lower.proofs.Related.{Scene, IsScene, context, Related}

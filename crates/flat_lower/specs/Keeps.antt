@@ -36,7 +36,7 @@ pub record Overflows (run : ℕ → Res) (n : ℕ) (out : List ℕ) : Type 0 whe
   pub ends : (k : ℕ) → run (turns + k) ≡ TooDeep out
 
 -- the run has come as far as the evaluation, and has not ended
-pub record Runs (run : ℕ → Res) (most n : ℕ) (out : List ℕ) : Type 0 where
+pub record GoesOn (run : ℕ → Res) (most n : ℕ) (out : List ℕ) : Type 0 where
   pub turns : ℕ
   pub rounds : ℕ
   pub few : turns ≤ 8 * n
@@ -45,7 +45,7 @@ pub record Runs (run : ℕ → Res) (most n : ℕ) (out : List ℕ) : Type 0 whe
 
 -- of an undefined evaluation nothing is said
 abbrev pub Keeps : ℕ → (ℕ → Res) → ℕ → Outcome → Type 0
-Keeps most run n (Stopped More out) = Runs run most n out
+Keeps most run n (Stopped More out) = GoesOn run most n out
 Keeps most run n (Stopped Undefined out) = Unit {0}
 Keeps most run n (Stopped Deep out) = Overflows run n out
 Keeps most run n (Done out result steps) = Finishes run most steps out result

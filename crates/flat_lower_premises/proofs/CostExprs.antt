@@ -10,7 +10,7 @@ use Rattle.c_scope.specs.Scope.{Scope}
 use Rattle.c_constant.specs.Kinds.{common}
 use Rattle.c_constant.specs.Operation.{left_at, right_at, result_of, unary_at, unary_result}
 use Rattle.c_type_expr.specs.declared.role.Role.{Role}
-use Rattle.c_type_expr.specs.Trees.{kind_of, converted, end_of_file, assigned_at}
+use Rattle.c_type_expr.specs.Trees.{kind_of, with_convert, end_of_file, assigned_at}
 use Rattle.c_type_expr.specs.Trees.{assigned_from}
 use Rattle.c_type_expr.specs.Typed.{Typed, Passed, number, scalar, array, ending, element, call}
 use Rattle.c_type_expr.specs.Typed.{group, operator, conversion, step, operation, either}
@@ -54,7 +54,7 @@ module _ (G : Scope) where
     cost_few (operator {l = l} {op = op} {e = e} {t = t} x h) =
         let k = unary_at op (kind_of t) in
         let n = nodes-Unary l op e in let c = cost_few x in let d = converted_few k t in
-        let m = by_node (Some (unary_result op k)) _ (node.Unary op (converted k t))
+        let m = by_node (Some (unary_result op k)) _ (node.Unary op (with_convert k t))
         (typed.rolls-Unary op _) in omega arith
     cost_few (conversion {l = l} {to = to} {e = e} {t = t} x h) =
         let n = nodes-Cast l to e in let c = cost_few x in
@@ -66,20 +66,20 @@ module _ (G : Scope) where
         let j = left_at op (kind_of s) (kind_of t) in let k = right_at op (kind_of s) (kind_of t) in
         let n = nodes-Binary l op x y in let c = cost_few p in let d = cost_few q in
         let c' = converted_few j s in let d' = converted_few k t in
-        let m = by_node (Some (result_of op j)) _ (node.Binary op (converted j s) (converted k t))
+        let m = by_node (Some (result_of op j)) _ (node.Binary op (with_convert j s) (with_convert k t))
         (typed.rolls-Binary op _ _) in omega arith
     cost_few (either {l = l} {c = u} {x = x} {y = y} {d = v} {s = s} {t = t} o p q h) =
         let k = common (kind_of s) (kind_of t) in
         let n = nodes-Choice l u x y in let b = cost_few o in let c = cost_few p in
         let d = cost_few q in let c' = converted_few k s in let d' = converted_few k t in
-        let m = by_node (Some k) _ (node.Choice v (converted k s) (converted k t))
+        let m = by_node (Some k) _ (node.Choice v (with_convert k s) (with_convert k t))
         (typed.rolls-Choice v _ _) in omega arith
     cost_few (assignment {l = l} {op = op} {x = x} {y = y} {s = s} {t = t} i p q h) =
         let j = assigned_at op (kind_of s) (kind_of t) in
         let k = assigned_from op (kind_of s) (kind_of t) in
         let n = nodes-Assign l op x y in let c = cost_few p in let d = cost_few q in
         let d' = converted_few k t in let u = left_few (expr_of s) in
-        let m = by_node (Some (kind_of s)) _ (node.Assign op j s (converted k t))
+        let m = by_node (Some (kind_of s)) _ (node.Assign op j s (with_convert k t))
         (typed.rolls-Assign op j s _) in omega arith
     cost_few (sequence {l = l} {x = x} {y = y} {s = s} {t = t} p q h) =
         let n = nodes-Comma l x y in let c = cost_few p in let d = cost_few q in

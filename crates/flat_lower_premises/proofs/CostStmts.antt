@@ -14,7 +14,7 @@ use Rattle.c_tree.specs.declared.typed.TypedForInit.TheVariants as begin
 use Rattle.c_tree.specs.declared.typed.TypedForInit.TheOpen as level
 use Rattle.c_scope.specs.Scope.{Scope}
 use Rattle.c_type_expr.specs.declared.role.Role.{Role}
-use Rattle.c_type_expr.specs.Trees.{converted}
+use Rattle.c_type_expr.specs.Trees.{with_convert}
 use Rattle.c_type.specs.declared.state.State.{State}
 use Rattle.c_type_rules.specs.Statements.{FullIf, absent, present, Initialises, without_value}
 use Rattle.c_type_rules.specs.Statements.{with_value, Types, scalar_declared, array_declared}
@@ -88,7 +88,7 @@ mutual
       let m = by_stmt _ (level.Return None) (typed.rolls-Return None) in omega arith
   types_few (returns_value {v = v} {l = l} {k = k} {e = e} {t = t} i x) =
       let n = nodes-Return l (Some e) in let c = cost_few v.names x.0 in
-      let d = converted_few k t in let u = Some (converted k t) in
+      let d = converted_few k t in let u = Some (with_convert k t) in
       let m = by_stmt _ (level.Return u) (typed.rolls-Return u) in omega arith
 
   pub all_few : {b : Bool} {v w : State} {ss : List Stmt} {ts : List TypedStmt}

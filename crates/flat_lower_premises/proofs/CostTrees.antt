@@ -14,7 +14,7 @@ use Rattle.c_tree.specs.declared.typed.TypedForInit.{TypedForInit, roll-TypedFor
 use Rattle.c_tree.specs.declared.typed.TypedForInit.{out-TypedForInit, out-roll-TypedForInit}
 use Rattle.c_tree.specs.declared.typed.TypedFunc.{TypedFunc}
 use Rattle.c_constant.specs.Kinds.{same_kind}
-use Rattle.c_type_expr.specs.Trees.{a, kind_of, converted}
+use Rattle.c_type_expr.specs.Trees.{a, kind_of, with_convert}
 use Rattle.c_tree.specs.TypedTrees.{Node}
 use Rattle.c_tree.specs.TypedTrees as level
 use Rattle.flat_lower.specs.TreeViews.{expr_of, expr_if, exprs_of, stmt_of, stmts_of, func_of}
@@ -44,7 +44,7 @@ by_node k n x e =
     ∙ ap (λ (y : Node). plain_node y k) (ap out-TypedNode (sym e) ∙ out-roll-TypedNode x))
 
 -- a conversion costs nothing
-pub converted_few : (k : Kind) (t : TypedExpr) → cost (converted k t) ≤ cost t
+pub converted_few : (k : Kind) (t : TypedExpr) → cost (with_convert k t) ≤ cost t
 converted_few k t = go (same_kind (kind_of t) k)
   where
     go : (b : Bool) → cost (cond b t (a (Some k) (typed.Convert k t))) ≤ cost t

@@ -14,7 +14,7 @@ use Rattle.c_tree.specs.declared.typed.TypedForInit.{TypedForInit, roll-TypedFor
 use Rattle.c_tree.specs.declared.typed.TypedForInit.{out-TypedForInit, out-roll-TypedForInit}
 use Rattle.c_tree.specs.declared.typed.TypedFunc.{TypedFunc}
 use Rattle.c_constant.specs.Kinds.{same_kind}
-use Rattle.c_type_expr.specs.Trees.{a, kind_of, converted}
+use Rattle.c_type_expr.specs.Trees.{a, kind_of, with_convert}
 use Rattle.c_tree.specs.TypedTrees.{Node}
 use Rattle.c_tree.specs.TypedTrees as level
 use Rattle.flat_lower.specs.TreeViews.{expr_of, expr_if, exprs_of, stmt_of, stmts_of, func_of}
@@ -41,7 +41,7 @@ by_node k n x e =
     ∙ ap (λ (y : Node). plain_node y k) (ap out-TypedNode (sym e) ∙ out-roll-TypedNode x))
 
 -- a conversion adds at most one
-pub converted_few : (k : Kind) (t : TypedExpr) → typed_nodes (converted k t) ≤ 1 + typed_nodes t
+pub converted_few : (k : Kind) (t : TypedExpr) → typed_nodes (with_convert k t) ≤ 1 + typed_nodes t
 converted_few k t = go (same_kind (kind_of t) k)
   where
     go : (b : Bool) → typed_nodes (cond b t (a (Some k) (typed.Convert k t))) ≤ 1 + typed_nodes t

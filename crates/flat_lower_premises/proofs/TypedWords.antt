@@ -24,7 +24,7 @@ use Rattle.c_constant.specs.Kinds.{same_kind, common}
 use Rattle.c_constant.specs.Operation.{left_at, right_at, unary_at}
 use Rattle.c_type_expr.specs.declared.role.Role.{Role}
 use Rattle.c_type_expr.specs.declared.role.Role.TheVariants.{Value, Free, Written, Array}
-use Rattle.c_type_expr.specs.Trees.{a, kind_of, converted, end_of_file, unary, binary, choice}
+use Rattle.c_type_expr.specs.Trees.{a, kind_of, with_convert, end_of_file, unary, binary, choice}
 use Rattle.c_type_expr.specs.Trees.{assign, assigned_at, assigned_from}
 use Rattle.c_type_expr.specs.Typed.{Typed, Passed}
 use Rattle.c_type_expr.specs.Typed as typing
@@ -103,7 +103,7 @@ made r n x e h = subst (words.NodeHasWords r) (sym (out-roll-TypedNode x) ∙ ap
 
 -- a conversion
 pub converted_has : (k : Kind) (t : TypedExpr) → words.ExprHasWords t
-    → words.ExprHasWords (converted k t)
+    → words.ExprHasWords (with_convert k t)
 converted_has k t h = by (same_kind (kind_of t) k)
   where
     by : (b : Bool) → words.ExprHasWords (cond b t (a (Some k) (typed.Convert k t)))

@@ -60,8 +60,8 @@ abbrev pub KeepsTables : Type 0
 KeepsTables = (b : FlowBlock) → Takes b → Keeps b (complete b)
 
 -- so it means what any hyper block means that the block meant
-abbrev pub KeepsMeaning : Type 0
-KeepsMeaning = (at : Layout) (x : Block) (b : FlowBlock) → Takes b → MeansBlock at x b
+abbrev pub KeepsBlockMeaning : Type 0
+KeepsBlockMeaning = (at : Layout) (x : Block) (b : FlowBlock) → Takes b → MeansBlock at x b
     → MeansBlock at x (complete b)
 
 -- how many nodes a completed block has

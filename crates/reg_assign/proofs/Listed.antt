@@ -21,7 +21,7 @@ use Rattle.reg_assign.specs.Live.{VarSet, empty, one, both, reads, reads_any, re
 use Rattle.reg_assign.specs.Live.{result}
 use Rattle.reg_assign.specs.Live.{uses_in, uses, head, live, kept_in, kept, kept_over}
 use Rattle.reg_assign.specs.Live.{kept_over_all, members_below, members, live_lists}
-use Rattle.reg_assign.specs.Keeps.{is_among, kept_by, KeepsMeaning}
+use Rattle.reg_assign.specs.Keeps.{is_among, kept_by, KeepsTameRuns}
 use Rattle.reg_assign.proofs.Inclusion.{Within, or_left, or_right, or_cases, both_in, minus_in}
 use Rattle.reg_assign.proofs.Inclusion.{empty_in}
 use Rattle.reg_assign.proofs.Inclusion.{live_within}
@@ -213,7 +213,7 @@ functions_good (g ∷ fs) zero f e =
 functions_good (g ∷ fs) (suc n) f e = functions_good fs n f e
 
 -- keeping what is live after each call changes nothing
-pub lists_keep_meaning : (p : FlatProgram) → KeepsMeaning (program_of p) (live_lists (program_of p))
+pub lists_keep_meaning : (p : FlatProgram) → KeepsTameRuns (program_of p) (live_lists (program_of p))
 lists_keep_meaning p =
     runs_alike (kept_by (live_lists (program_of p))) (program_of p)
     (lists_cover (kept_over_all (map function_of p.functions))

@@ -141,7 +141,7 @@ tame_and clean = record { tame = true; clean = clean }
 
 -- Wherever the program's run is tame, the run of the program whose calls keep only these variables
 -- ends as it does, with the same value, output, input, memory and rounds, and the same turns left.
-abbrev pub KeepsMeaning : Program → List (List ℕ) → Type 0
-KeepsMeaning P lists = (clean : Bool) (input : List ℕ) (m : ℕ)
+abbrev pub KeepsTameRuns : Program → List (List ℕ) → Type 0
+KeepsTameRuns P lists = (clean : Bool) (input : List ℕ) (m : ℕ)
     → EndsAs (flat_run (tame_and clean) P input m)
     (flat_run (tame_and clean) (assigned_program P lists) input m)

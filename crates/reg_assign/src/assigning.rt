@@ -2,7 +2,7 @@ ghost use Rattle.std.specs.Prelude.{◌≡◌, reverse, map, IfOk};
 ghost use Rattle.ir_forms.specs.FlatViews.{code_of, function_of, program_of};
 ghost use Rattle.ir_forms.specs.FlatFits.{FitsProgram};
 ghost use Rattle.reg_assign.specs.Live.{live_lists, groups_of, AreCut, AreFew};
-ghost use Rattle.reg_assign.specs.Keeps.{FitsKept, FitsLists, KeepsMeaning};
+ghost use Rattle.reg_assign.specs.Keeps.{FitsKept, FitsLists, KeepsTameRuns};
 ghost use Rattle.reg_assign.specs.Pass.{body_lists, lists_backward};
 
 use crate::grouping::all_groups;
@@ -91,7 +91,7 @@ pub fn assign(alloc: Global, flat: FlatProgram) -> Result<Assigned, Memory>
     ensures cut { IfOk result (λ assigned. AreCut assigned.live assigned.groups) }
     ensures few { IfOk result (λ assigned. AreFew assigned.groups) }
     ensures meaning { IfOk result (λ assigned.
-        KeepsMeaning (program_of assigned.flat) assigned.live) }
+        KeepsTameRuns (program_of assigned.flat) assigned.live) }
 {
     let live = live_of(&flat, alloc)?;
     let groups = all_groups(live.as_slice(), alloc)?;

@@ -4,7 +4,7 @@ use Rattle.reg_assign.proofs.Groups.{all_cut}
 use Rattle.reg_assign.proofs.Fewness.{live_few}
 use Rattle.ir_forms.specs.FlatFits.{FitsProgram}
 use Rattle.ir_forms.specs.FlatViews.{program_of}
-use Rattle.reg_assign.specs.Keeps.{FitsKept, FitsLists, KeepsMeaning}
+use Rattle.reg_assign.specs.Keeps.{FitsKept, FitsLists, KeepsTameRuns}
 use Rattle.reg_assign.proofs.Own.{lists_are_own}
 use Rattle.reg_assign.proofs.ListFacts.{lists_fit}
 use Rattle.reg_assign.proofs.Listed.{lists_keep_meaning}
@@ -12,7 +12,7 @@ use Rattle.reg_assign.proofs.assigning.assign.Goals as goal
 
 pub returns-clause-meaning : goal.returns-clause-meaning
 returns-clause-meaning c =
-    subst (KeepsMeaning (program_of c.args.flat)) (sym c.in_ok-live.ensures)
+    subst (KeepsTameRuns (program_of c.args.flat)) (sym c.in_ok-live.ensures)
     (lists_keep_meaning c.args.flat)
 
 pub returns-clause-cut : goal.returns-clause-cut
