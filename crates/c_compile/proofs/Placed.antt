@@ -7,7 +7,7 @@ use Rattle.c_tree.specs.declared.typed.TypedProgram.{TypedProgram}
 use Rattle.c_tree.specs.declared.typed.TypedStmt.{TypedStmt, out-TypedStmt}
 use Rattle.c_tree.specs.declared.typed.TypedForInit.{TypedForInit, out-TypedForInit}
 use Rattle.c_tree.specs.TypedTrees.{Level, Beginning}
-use Rattle.c_type_laws.specs.Statements.{Runs, RunsAll, Begins}
+use Rattle.c_type_laws.specs.Statements.{WellFormedStmt, RunsAll, Begins}
 use Rattle.c_type_laws.specs.Statements as run
 use Rattle.c_type_laws.specs.WellFormed.{WellFormed}
 use Rattle.c_type_laws.proofs.Uses.{function_at}
@@ -29,7 +29,7 @@ first_level b i h = subst (λ (x : First). FirstJumpsInLoops b x) (sym (first_is
 
 module _ (P : TypedProgram) (f : TypedFunc) where
   mutual
-    jumps : (b : Bool) (x : Level) → Runs P f b x → JumpsInLoops b (plain_stmt x)
+    jumps : (b : Bool) (x : Level) → WellFormedStmt P f b x → JumpsInLoops b (plain_stmt x)
     jumps b _ (run.scalar l s i) = tt
     jumps b _ (run.array a) = tt
     jumps b _ (run.plain e) = tt

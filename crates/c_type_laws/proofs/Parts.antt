@@ -41,7 +41,7 @@ use Rattle.c_type_laws.specs.Objects.{slot_scalar, local_array}
 use Rattle.c_type_laws.specs.Needs.{FitsNeed, typed_needs}
 use Rattle.c_tree.specs.TypedTrees as level
 use Rattle.c_type_laws.specs.Statements.{IsValue, IsTest, IsEffect, IsValueIf, IsTestIf, IsEffectIf, IsReturn}
-use Rattle.c_type_laws.specs.Statements.{Runs, RunsAll, RunsElse, Begins}
+use Rattle.c_type_laws.specs.Statements.{WellFormedStmt, RunsAll, RunsElse, Begins}
 use Rattle.c_type_laws.specs.Statements as rule
 use Rattle.c_type_laws.specs.WellFormed.{Each, ArrayFits}
 use Rattle.c_type_laws.proofs.Values.{Exists, Plain, fits, plain_has, converted_has}
@@ -151,7 +151,7 @@ module _ (P : TypedProgram) (f : TypedFunc) where
 
   -- the tree of a statement is well formed
   abbrev pub Run : Bool → TypedStmt → Type 0
-  Run b s = Runs P f b (out-TypedStmt s)
+  Run b s = WellFormedStmt P f b (out-TypedStmt s)
 
   -- the tree of the first part of a `for` is
   abbrev pub Begin : Bool → TypedForInit → Type 0
@@ -174,8 +174,8 @@ module _ (P : TypedProgram) (f : TypedFunc) where
   SoundElse p = Moves P f (RunsElse P f) (else_after p) (else_fault p) (else_tree p)
 
   -- a node that is well formed makes a statement that is
-  pub run : (b : Bool) (s : TypedStmt) (x : level.Level) → roll-TypedStmt x ≡ s → Runs P f b x → Run b s
-  run b s x e r = subst (Runs P f b) (sym (opened s x e)) r
+  pub run : (b : Bool) (s : TypedStmt) (x : level.Level) → roll-TypedStmt x ≡ s → WellFormedStmt P f b x → Run b s
+  run b s x e r = subst (WellFormedStmt P f b) (sym (opened s x e)) r
 
   -- the same of the first part of a `for`
   begin : (b : Bool) (s : TypedForInit) (x : level.Beginning) → roll-TypedForInit x ≡ s → Begins P f b x → Begin b s

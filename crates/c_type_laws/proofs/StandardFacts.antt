@@ -26,7 +26,7 @@ use Rattle.c_type_laws.specs.Expressions.{Gives, Has, IsObject, Passes}
 use Rattle.c_type_laws.specs.Expressions as rule
 use Rattle.c_type_laws.specs.Needs.{FitsNeed}
 use Rattle.c_tree.specs.TypedTrees.{Level}
-use Rattle.c_type_laws.specs.Statements.{IsTest, Runs, RunsAll}
+use Rattle.c_type_laws.specs.Statements.{IsTest, WellFormedStmt, RunsAll}
 use Rattle.c_type_laws.specs.Statements as run
 use Rattle.c_type_laws.specs.WellFormed.{GlobalFits, FunctionFits, WellFormed}
 use Rattle.c_type_laws.proofs.Moves.{some_is}
@@ -73,8 +73,8 @@ module _ (P : TypedProgram) (f : TypedFunc) where
   number k w = given k (Number w) rule.number
 
   -- a statement as it is built
-  ran : (b : Bool) (s : Level) → Runs P f b s → Runs P f b (out-TypedStmt (statement s))
-  ran b s r = subst (Runs P f b) (sym (out-roll-TypedStmt s)) r
+  ran : (b : Bool) (s : Level) → WellFormedStmt P f b s → WellFormedStmt P f b (out-TypedStmt (statement s))
+  ran b s r = subst (WellFormedStmt P f b) (sym (out-roll-TypedStmt s)) r
 
   -- a number needs one temporary
   one_need : (k : Kind) (w : ℕ) → FitsNeed (of k (Number w))
@@ -154,27 +154,27 @@ module _ (P : TypedProgram) (f : TypedFunc) where
   -- JUMPS AND RETURNS
 
   -- while (1) break;
-  loop : Runs P f false (While (of Int (Number 1)) (statement Break))
+  loop : WellFormedStmt P f false (While (of Int (Number 1)) (statement Break))
   loop = run.while_loop (record { kind = Int; value = (number Int 1, one_need Int 1) }) (ran true Break run.breaks)
 
   -- a `break` in no loop
-  lonely_break : Runs P f false Break → ⊥
+  lonely_break : WellFormedStmt P f false Break → ⊥
   lonely_break r = elim r [ ]
 
   -- a `continue` in no loop
-  lonely_continue : Runs P f false Continue → ⊥
+  lonely_continue : WellFormedStmt P f false Continue → ⊥
   lonely_continue r = elim r [ ]
 
   -- a parameter is not declared again
-  declared_parameter : (b : Bool) → f.params ≡ 1 → Runs P f b (Declare (place.Scalar 0) None) → ⊥
+  declared_parameter : (b : Bool) → f.params ≡ 1 → WellFormedStmt P f b (Declare (place.Scalar 0) None) → ⊥
   declared_parameter b e (run.scalar h s i) = absurd (omega (arith, e, h))
 
   -- a function that gives a value returns none
-  nothing_returned : (b : Bool) (k : Kind) → f.result ≡ Some k → Runs P f b (Return None) → ⊥
+  nothing_returned : (b : Bool) (k : Kind) → f.result ≡ Some k → WellFormedStmt P f b (Return None) → ⊥
   nothing_returned b k e (run.returns h) = subst (λ r. run.IsReturn P f r None) e h
 
   -- a function that is void returns a value
-  value_returned : (b : Bool) (t : TypedExpr) → f.result ≡ None → Runs P f b (Return (Some t)) → ⊥
+  value_returned : (b : Bool) (t : TypedExpr) → f.result ≡ None → WellFormedStmt P f b (Return (Some t)) → ⊥
   value_returned b t e (run.returns h) = subst (λ r. run.IsReturn P f r (Some t)) e h
 
 -- PROGRAMS

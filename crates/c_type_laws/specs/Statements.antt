@@ -55,39 +55,39 @@ IsReturn P f (Some k) (Some e) = IsValue P f k e
 
 mutual
   -- the statement is well formed, inside a loop or not
-  pub data Runs (P : TypedProgram) (f : TypedFunc) : Bool → Level → Type 0 where
+  pub data WellFormedStmt (P : TypedProgram) (f : TypedFunc) : Bool → Level → Type 0 where
     -- a local scalar, no parameter, whose initialiser is of its type
     scalar : {b : Bool} {n : ℕ} {k : Kind} {init : Option TypedExpr}
         → f.params ≤ n → slice_get f.scalars n ≡ Some (slot.Scalar k) → IsValueIf P f k init
-        → Runs P f b (Declare (place.Scalar n) init)
+        → WellFormedStmt P f b (Declare (place.Scalar n) init)
     -- a local array, which has no initialiser
     array : {b : Bool} {n : ℕ} {a : TypedArray} → slice_get f.arrays n ≡ Some a
-        → Runs P f b (Declare (place.Array n) None)
-    plain : {b : Bool} {e : Option TypedExpr} → IsEffectIf P f e → Runs P f b (Plain e)
-    compound : {b : Bool} {ss : List TypedStmt} → RunsAll P f b ss → Runs P f b (Compound ss)
+        → WellFormedStmt P f b (Declare (place.Array n) None)
+    plain : {b : Bool} {e : Option TypedExpr} → IsEffectIf P f e → WellFormedStmt P f b (Plain e)
+    compound : {b : Bool} {ss : List TypedStmt} → RunsAll P f b ss → WellFormedStmt P f b (Compound ss)
     choice : {b : Bool} {test : TypedExpr} {one : TypedStmt} {other : Option TypedStmt}
-        → IsTest P f test → Runs P f b (out-TypedStmt one) → RunsElse P f b other
-        → Runs P f b (If test one other)
+        → IsTest P f test → WellFormedStmt P f b (out-TypedStmt one) → RunsElse P f b other
+        → WellFormedStmt P f b (If test one other)
     while_loop : {b : Bool} {test : TypedExpr} {body : TypedStmt}
-        → IsTest P f test → Runs P f true (out-TypedStmt body) → Runs P f b (While test body)
+        → IsTest P f test → WellFormedStmt P f true (out-TypedStmt body) → WellFormedStmt P f b (While test body)
     do_loop : {b : Bool} {test : TypedExpr} {body : TypedStmt}
-        → Runs P f true (out-TypedStmt body) → IsTest P f test → Runs P f b (Do body test)
+        → WellFormedStmt P f true (out-TypedStmt body) → IsTest P f test → WellFormedStmt P f b (Do body test)
     for_loop : {b : Bool} {init : TypedForInit} {test post : Option TypedExpr} {body : TypedStmt}
         → Begins P f b (out-TypedForInit init) → IsTestIf P f test → IsEffectIf P f post
-        → Runs P f true (out-TypedStmt body) → Runs P f b (For init test post body)
+        → WellFormedStmt P f true (out-TypedStmt body) → WellFormedStmt P f b (For init test post body)
     -- only in a loop
-    breaks : Runs P f true Break
-    continues : Runs P f true Continue
-    returns : {b : Bool} {e : Option TypedExpr} → IsReturn P f f.result e → Runs P f b (Return e)
+    breaks : WellFormedStmt P f true Break
+    continues : WellFormedStmt P f true Continue
+    returns : {b : Bool} {e : Option TypedExpr} → IsReturn P f f.result e → WellFormedStmt P f b (Return e)
 
   pub data RunsAll (P : TypedProgram) (f : TypedFunc) : Bool → List TypedStmt → Type 0 where
     end : {b : Bool} → RunsAll P f b []
     next : {b : Bool} {s : TypedStmt} {ss : List TypedStmt}
-        → Runs P f b (out-TypedStmt s) → RunsAll P f b ss → RunsAll P f b (s ∷ ss)
+        → WellFormedStmt P f b (out-TypedStmt s) → RunsAll P f b ss → RunsAll P f b (s ∷ ss)
 
   pub data RunsElse (P : TypedProgram) (f : TypedFunc) : Bool → Option TypedStmt → Type 0 where
     without : {b : Bool} → RunsElse P f b None
-    with_else : {b : Bool} {s : TypedStmt} → Runs P f b (out-TypedStmt s) → RunsElse P f b (Some s)
+    with_else : {b : Bool} {s : TypedStmt} → WellFormedStmt P f b (out-TypedStmt s) → RunsElse P f b (Some s)
 
   -- the first part of a `for` stands outside that loop
   pub data Begins (P : TypedProgram) (f : TypedFunc) : Bool → Beginning → Type 0 where

@@ -11,7 +11,7 @@ use Rattle.c_tree.specs.declared.typed.TypedGlobal.{TypedGlobal}
 use Rattle.c_tree.specs.declared.typed.TypedProgram.{TypedProgram}
 use Rattle.c_tree.specs.declared.typed.TypedStmt.{out-TypedStmt}
 use Rattle.c_constant.specs.Kinds.{bytes, IsWord}
-use Rattle.c_type_laws.specs.Statements.{Runs}
+use Rattle.c_type_laws.specs.Statements.{WellFormedStmt}
 
 -- the condition holds of each of the list
 abbrev pub Each : {A : Type 0} → (A → Type 0) → List A → Type 0
@@ -62,7 +62,7 @@ pub record FunctionFits (P : TypedProgram) (f : TypedFunc) : Type 0 where
   pub locals : Each IsScalar (drop f.params f.scalars)
   pub arrays : Each ArrayFits f.arrays
   -- the body is well formed, and in no loop
-  pub body : Runs P f false (out-TypedStmt f.body)
+  pub body : WellFormedStmt P f false (out-TypedStmt f.body)
 
 -- MAIN
 

@@ -12,7 +12,7 @@ use Rattle.c_tree.specs.declared.TypedStmt.{TypedStmt, out-TypedStmt}
 use Rattle.c_tree.specs.declared.TypedForInit.{TypedForInit, out-TypedForInit}
 use Rattle.c_tree.specs.TypedTrees.{Level, Beginning}
 use Rattle.c_type_laws.specs.Statements.{IsValue, IsTest, IsEffect, IsValueIf}
-use Rattle.c_type_laws.specs.Statements.{IsTestIf, IsEffectIf, IsReturn, Runs, RunsAll, Begins}
+use Rattle.c_type_laws.specs.Statements.{IsTestIf, IsEffectIf, IsReturn, WellFormedStmt, RunsAll, Begins}
 use Rattle.c_type_laws.specs.Statements as rule
 use Rattle.flat_lower_premises.specs.TypedTrees.{ExprHasWords, ExprIfHasWords, LevelHasWords, StmtsHaveWords}
 use Rattle.flat_lower_premises.specs.TypedTrees.{BeginningHasWords}
@@ -73,7 +73,7 @@ module _ (P : TypedProgram) (f : TypedFunc) where
   at_first i t = subst (FitsFirst c f.result) (sym (first_is i)) t
 
   mutual
-    runs : (b : Bool) (x : Level) → Runs P f b x → LevelHasWords x
+    runs : (b : Bool) (x : Level) → WellFormedStmt P f b x → LevelHasWords x
         → FitsStmt c f.result (plain_stmt x)
     runs b _ (rule.scalar {n = n} {k = k} {init = init} l s h) (word.declared w) =
         declared n k init s h w
@@ -116,6 +116,6 @@ module _ (P : TypedProgram) (f : TypedFunc) where
     begins b _ (rule.locals {ss = ss} h) (word.locals w) = runs_all b ss h w
 
   -- a statement fits
-  pub stmt_fits : (b : Bool) (s : TypedStmt) → Runs P f b (out-TypedStmt s)
+  pub stmt_fits : (b : Bool) (s : TypedStmt) → WellFormedStmt P f b (out-TypedStmt s)
       → LevelHasWords (out-TypedStmt s) → FitsStmt c f.result (stmt_of s)
   stmt_fits b s h w = at_level s (runs b (out-TypedStmt s) h w)

@@ -19,7 +19,7 @@ use Rattle.c_type_laws.specs.Expressions.{Gives, Has}
 use Rattle.c_type_laws.specs.Expressions as rule
 use Rattle.c_type_laws.specs.Needs.{FitsNeed}
 use Rattle.c_tree.specs.TypedTrees.{Level}
-use Rattle.c_type_laws.specs.Statements.{Runs}
+use Rattle.c_type_laws.specs.Statements.{WellFormedStmt}
 use Rattle.c_type_laws.specs.Statements as run
 use Rattle.c_type_laws.specs.WellFormed.{WellFormed}
 use Rattle.flat_lower_premises.specs.TypedTrees.{NodeHasWords, LevelHasWords, ProgramHasWords}
@@ -60,9 +60,9 @@ seven = record {
   main = 0;
 }
 
-ran : (s : Level) → Runs seven main false s
-    → Runs seven main false (out-TypedStmt (roll-TypedStmt s))
-ran s r = subst (Runs seven main false) (sym (out-roll-TypedStmt s)) r
+ran : (s : Level) → WellFormedStmt seven main false s
+    → WellFormedStmt seven main false (out-TypedStmt (roll-TypedStmt s))
+ran s r = subst (WellFormedStmt seven main false) (sym (out-roll-TypedStmt s)) r
 
 number_is : Has seven main Int number
 number_is =

@@ -17,7 +17,7 @@ use Rattle.ir_forms.specs.FlowFits.{AtMostOne}
 use Rattle.predication.specs.Environments.{Scope, Entry, Env, member, no_bits, at_start}
 use Rattle.predication.specs.Ifs.{touched}
 use Rattle.predication.specs.Tails.{tail_touched, exit_touched}
-use Rattle.predication.specs.Converted.{begun, ended, all_nodes, all_touched, writes_below, converted}
+use Rattle.predication.specs.Converted.{begun, ended, all_nodes, all_touched, writes_below, predicated}
 use Rattle.ir_forms.specs.HyperCode.{Items, Done, Set, Load, Save, If, Tail, Leave, Test, Block}
 use Rattle.ir_forms.specs.HyperRuns.{Machine, with_register, with_memory, after_items, acts, pick, loaded}
 use Rattle.ir_forms.specs.HyperRuns.{saved, number_in}
@@ -233,7 +233,7 @@ abbrev pub IsPlain : Layout → Type 0
 IsPlain at = (l : ℕ) → at.address l ≡ l
 
 -- from every start with words the converted block does what the hyper block does, where addresses stand in it
-pub plain_meaning : (b : Block) → FitsHyper b → HasRoom b → (at : Layout) → IsPlain at → MeansBlock at b (converted b)
+pub plain_meaning : (b : Block) → FitsHyper b → HasRoom b → (at : Layout) → IsPlain at → MeansBlock at b (predicated b)
 plain_meaning b t room at plain m h ws o =
     let regs = m.registers in
     let mem = m.memory in

@@ -12,7 +12,7 @@ use Rattle.ir_forms.specs.declared.flow.FlowSource.{FlowSource}
 use Rattle.ir_forms.specs.declared.flow.FlowSource.TheVariants.{Read, Node}
 use Rattle.ir_forms.specs.declared.flow.FlowNode.{FlowNode}
 use Rattle.predication.specs.Environments.{Scope, Env, member, no_bits, at_start}
-use Rattle.predication.specs.Converted.{begun, ended, all_nodes, all_touched, converted, writes_below}
+use Rattle.predication.specs.Converted.{begun, ended, all_nodes, all_touched, predicated, writes_below}
 use Rattle.predication.specs.Converted.{has_store, mask_below}
 use Rattle.ir_forms.specs.HyperCode.{Block}
 use Rattle.std.proofs.Common.{◌||◌}
@@ -185,18 +185,18 @@ guard_fits b T k None l x = tt
 guard_fits b T k (Some g) l x = omega (arith, x.0, l)
 
 node_fits : (b : Block) (i : ℕ) (n : FlowNode) → slice_get (all_nodes b) i ≡ Some n → Well (Talks (all_nodes b)) i n
-    → FitsNode (converted b) n
+    → FitsNode (predicated b) n
 node_fits b i n e w =
     let ns = all_nodes b in
     let ws = writes_below (ended b).env (all_touched b) 128 in
     let l : i ≤ length ns = let q = slice_get_within ns i n e in omega (arith, q) in
     record {
       form = w.form;
-      guard = guard_fits (converted b) (Talks ns) i n.guard l w.guard;
-      left = sources_fit (converted b) (Talks ns) i n.left l w.left
+      guard = guard_fits (predicated b) (Talks ns) i n.guard l w.guard;
+      left = sources_fit (predicated b) (Talks ns) i n.left l w.left
           (λ r m x. contains_read ns ws 128 r m (or_left (nodes_read ns r) (writes_read ws r)
           (left_read ns i n r e x)));
-      right = sources_fit (converted b) (Talks ns) i n.right l w.right
+      right = sources_fit (predicated b) (Talks ns) i n.right l w.right
           (λ r m x. contains_read ns ws 128 r m (or_left (nodes_read ns r) (writes_read ws r)
           (right_read ns i n r e x)));
     }
@@ -225,8 +225,8 @@ write_is env rs (suc n) i w e = go (member n rs) i e (λ k x. write_is env rs n 
     go true (suc i) e ih = less (ih i e)
     go false i e ih = less (ih i e)
 
-write_fits : (b : Block) → Made b → (i : ℕ) (w : FlowWrite) → slice_get (converted b).writes i ≡ Some w
-    → FitsWrite (converted b) w
+write_fits : (b : Block) → Made b → (i : ℕ) (w : FlowWrite) → slice_get (predicated b).writes i ≡ Some w
+    → FitsWrite (predicated b) w
 write_fits b mk i w e =
     let ns = all_nodes b in
     let ws = writes_below (ended b).env (all_touched b) 128 in
@@ -235,7 +235,7 @@ write_fits b mk i w e =
     subst (λ (ss : List FlowSource). EachGood (Talks ns) (length ns) ss) (sym x.1) (mk.env w.register).0 in
     record {
       register = x.0;
-      sources = sources_fit (converted b) (Talks ns) (length ns) w.sources (omega arith) g
+      sources = sources_fit (predicated b) (Talks ns) (length ns) w.sources (omega arith) g
           (λ r m y. contains_read ns ws 128 r m (or_right (nodes_read ns r) (writes_read ws r)
           (write_read ws i w r e y)));
     }
@@ -345,8 +345,8 @@ converts_fitting b t room =
     λ i n e. let z : 0 + i ≡ i = omega arith in subst (λ (k : ℕ). Well (Talks ns) k n) z
     (static_at (Talks ns) ns 0 i n mk.nodes e) in
     record {
-      nodes = all_from (FitsNode (converted b)) ns (λ i n e. node_fits b i n e (at i n e));
-      writes = all_from (FitsWrite (converted b)) (converted b).writes (λ i w e. write_fits b mk i w e);
+      nodes = all_from (FitsNode (predicated b)) ns (λ i n e. node_fits b i n e (at i n e));
+      writes = all_from (FitsWrite (predicated b)) (predicated b).writes (λ i w e. write_fits b mk i w e);
       mask = mask_lt ns 32;
       order = (
         (λ j. j),

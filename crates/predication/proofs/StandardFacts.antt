@@ -9,7 +9,7 @@ use Rattle.ir_forms.specs.HyperCode.{Done, Set, Save, If, Leave, Test, Block}
 use Rattle.predication.specs.Environments.{under}
 use Rattle.predication.specs.Operands.{node_of, constant_of, mov_of, test_of}
 use Rattle.predication.specs.Tails.{branch_of, address_nodes}
-use Rattle.predication.specs.Converted.{all_nodes, converted}
+use Rattle.predication.specs.Converted.{all_nodes, predicated}
 
 -- a test's word is the guard itself, and the constant has no guard
 abbrev small : Block
@@ -23,11 +23,11 @@ pub small_nodes : all_nodes small ≡
     ∷ node_of op.Add 0 (under 0 true) (Read 3 ∷ []) (Node 1 ∷ []) ∷ branch_of op.Bro 7 0 None [] ∷ []
 small_nodes = refl
 
-pub small_writes : (converted small).writes ≡
+pub small_writes : (predicated small).writes ≡
     record { register = 6; sources = Node 2 ∷ [] } ∷ record { register = 5; sources = Node 0 ∷ [] } ∷ []
 small_writes = refl
 
-pub small_reads : (converted small).reads ≡ 4 ∷ 3 ∷ []
+pub small_reads : (predicated small).reads ≡ 4 ∷ 3 ∷ []
 small_reads = refl
 
 -- a store under a fresh test, and two exits, one of them a call
@@ -45,7 +45,7 @@ pub calling_nodes : all_nodes calling ≡
     ∷ branch_of op.Ret 0 1 (under 4 false) (Read 2 ∷ []) ∷ []
 calling_nodes = refl
 
-pub calling_mask : (converted calling).mask ≡ 1
+pub calling_mask : (predicated calling).mask ≡ 1
 calling_mask = refl
 
 -- a block to come back to that has no address yet: both halves hold its label

@@ -90,8 +90,8 @@ mask_below ns (suc k) = mask_below ns k + cond (has_store ns k) (2 ^ k) 0
 -- THE BLOCK
 
 -- the flow block of a hyper block
-abbrev pub converted : Block → FlowBlock
-converted b = record {
+abbrev pub predicated : Block → FlowBlock
+predicated b = record {
   nodes = all_nodes b;
   reads = reads_below (all_nodes b) (writes_below (ended b).env (all_touched b) register_count)
       register_count;

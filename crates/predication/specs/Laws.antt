@@ -9,7 +9,7 @@ use Rattle.ir_forms.specs.FlowFits.{IsTidy, TakesAtMostOne, FitsFlow}
 use Rattle.ir_forms.specs.FlowRegular.{IsRegular}
 use Rattle.ir_forms.specs.Agreement.{MeansBlock}
 use Rattle.predication.specs.Tails.{addressed, labelled}
-use Rattle.predication.specs.Converted.{begun, converted}
+use Rattle.predication.specs.Converted.{begun, predicated}
 use Rattle.predication.specs.Labels.{resolved}
 
 -- how many exits a block has room for
@@ -28,29 +28,29 @@ HasShortAddresses at = (l : ℕ) → at.address l < 2 ^ 32
 -- on every path: no null meets a guard, an operand has at most one token, a write and a number too,
 -- and exactly one exit is taken
 pub record Paths (b : Block) (regs : ℕ → ℕ) (h : ℕ → Answer) : Type 0 where
-  pub tidy : IsTidy regs h (converted b)
-  pub one : TakesAtMostOne regs h (converted b)
+  pub tidy : IsTidy regs h (predicated b)
+  pub one : TakesAtMostOne regs h (predicated b)
 
 -- without a bound on numbers and exits
 abbrev pub ConvertsPaths : Type 0
 ConvertsPaths =
     (b : Block) → FitsHyper b → (regs : ℕ → ℕ) (f : Computes) (h : ℕ → Answer)
-    → OnPath regs f h (converted b) → Paths b regs h
+    → OnPath regs f h (predicated b) → Paths b regs h
 
 -- from every start with words: the registers, the memory, the exit and the acts of the hyper block,
 -- for each layout, whose addresses stand in the block
 abbrev pub ConvertsMeaning : Type 0
 ConvertsMeaning =
     (at : Layout) (b : Block) → HasShortAddresses at → FitsHyper b → HasRoom b
-    → MeansBlock at b (converted (addressed at b))
+    → MeansBlock at b (predicated (addressed at b))
 
 -- the fields fit, there is an order, and paths are as above
 abbrev pub ConvertsFitting : Type 0
-ConvertsFitting = (b : Block) → FitsHyper b → HasRoom b → FitsFlow (converted b)
+ConvertsFitting = (b : Block) → FitsHyper b → HasRoom b → FitsFlow (predicated b)
 
 -- what `target` wants besides
 abbrev pub ConvertsRegular : Type 0
-ConvertsRegular = (b : Block) → FitsHyper b → HasRoom b → IsRegular (converted b)
+ConvertsRegular = (b : Block) → FitsHyper b → HasRoom b → IsRegular (predicated b)
 
 -- a block that fits, and its room, are as before where addresses stand for labels
 pub record IsTaken (b : Block) : Type 0 where
@@ -66,4 +66,4 @@ TakesAddressed =
 abbrev pub ResolvesLabels : Type 0
 ResolvesLabels =
     (at : Layout) (b : Block) → HasShortAddresses at → FitsHyper b
-    → resolved at.address (converted (labelled b)) ≡ converted (addressed at b)
+    → resolved at.address (predicated (labelled b)) ≡ predicated (addressed at b)
