@@ -33,7 +33,8 @@ use Rattle.predication_limits.specs.Prices.{price, write_price}
 use Rattle.predication_limits.specs.Costs.{items_cost, tail_cost}
 use Rattle.predication_limits.proofs.Prices.{Feeding, few_insts}
 use Rattle.predication_limits.proofs.Flat.{IsFlat, flat_at, uses_append, AreUsed, used_append, used_grow}
-use Rattle.predication_limits.proofs.Flat.{price_append, ReadOnly, read_append, read_of_all, Told, told_front, told_back}
+use Rattle.predication_limits.proofs.Flat.{price_append, ReadOnly, read_append, read_of_all, Told}
+use Rattle.predication_limits.proofs.Flat.{told_front, told_back}
 use Rattle.predication_limits.proofs.Flat.{told_from, Good, good_append}
 use Rattle.predication_limits.proofs.Pieces.{IsSet, ArePlain}
 use Rattle.predication_limits.proofs.Items.{NamesIn, IsOut, items_out}

@@ -104,7 +104,8 @@ module _ (T P : ℕ → Type 0) where
       let app = constant_of op.App (low_half w) (Node j ∷ []) in
       let mov = mov_of None (Node (suc j) ∷ []) in
       let call = branch_of op.Callo l e None [] in
-      let all : (s : FlowSource) → times s (Node j ∷ []) + times s (Node (suc j) ∷ []) ≤ uses s (genu ∷ app ∷ mov ∷ call ∷ []) =
+      let all : (s : FlowSource) → times s (Node j ∷ []) + times s (Node (suc j) ∷ []) ≤ uses s
+      (genu ∷ app ∷ mov ∷ call ∷ []) =
       λ s.
       let a : uses s (genu ∷ app ∷ mov ∷ call ∷ []) ≡ 0 + (0 + 0) + uses s (app ∷ mov ∷ call ∷ []) =
       node_uses s genu (app ∷ mov ∷ call ∷ []) in

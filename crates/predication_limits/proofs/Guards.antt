@@ -9,7 +9,8 @@ use Rattle.trips_isa.specs.declared.node.Node.{Node as NodeOf}
 use Rattle.trips_isa.specs.declared.block.Block.{Block}
 use Rattle.trips_isa.specs.Forms.{role_of}
 use Rattle.trips_isa.specs.Places.{read_node, inst_node, nodes_of, targets, names}
-use Rattle.block_cases.specs.Cases.{is_copy, no, names_predicate, through, leads_from, leads, is_chooser, cases, deepest}
+use Rattle.block_cases.specs.Cases.{is_copy, no, names_predicate, through, leads_from, leads}
+use Rattle.block_cases.specs.Cases.{is_chooser, cases, deepest}
 use Rattle.block_cases.proofs.Alike.{and_true, or_true, passes}
 use Rattle.ir_forms.specs.declared.flow.FlowSource.{FlowSource}
 use Rattle.ir_forms.specs.declared.flow.FlowSource.TheVariants.{Node}
@@ -19,7 +20,8 @@ use Rattle.ir_forms.specs.declared.flow.FlowBlock.{FlowBlock}
 use Rattle.fan_out.specs.Wires.{guard_sources}
 use Rattle.fan_out.specs.declared.wiring.Placed.{Placed}
 use Rattle.fan_out.specs.Targeted.{IsTargeted}
-use Rattle.fan_out.proofs.Totals.{Given, owners, all_movs, targeted_nodes, got_below, nodes_low, wired_guard, wired_mov, nodes_are}
+use Rattle.fan_out.proofs.Totals.{Given, owners, all_movs, targeted_nodes, got_below, nodes_low}
+use Rattle.fan_out.proofs.Totals.{wired_guard, wired_mov, nodes_are}
 use Rattle.fan_out.proofs.Standing.{Stands, a_read, a_node, a_mov, empty, nothing, stands, is_mov}
 use Rattle.fan_out.proofs.Ranks.{owner_among}
 use Rattle.fan_out.proofs.Edges.{zero_at, has_owner, nobody}
@@ -108,7 +110,8 @@ module _ (f : FlowBlock) (g : Given f) (c : ℕ)
           let w = within f.nodes (q - 256) l in
           let h = has_owner f g x q m bounded e t in
           let at : q ≡ 256 + (q - 256) = omega (arith, low) in
-          let own = owner_among (λ s. s ≡ Node c) ns (owners f) (256 + (q - 256)) x m h.owner (guard_sources (w.0).guard)
+          let own = owner_among (λ s. s ≡ Node c) ns (owners f) (256 + (q - 256)) x m h.owner (guard_sources
+          (w.0).guard)
           (wired_guard f g (q - 256) w.0 w.1) (guards_are (q - 256) w.0 w.1) e h.is
           (subst (λ (p : ℕ). names (targets m) p ≡ true) at t) in
           h.is ∙ ap (λ (s : FlowSource). Some s) own
@@ -116,7 +119,17 @@ module _ (f : FlowBlock) (g : Given f) (c : ℕ)
           let size = nodes_low f g in
           absurd (nobody f g x q m bounded
           (zero_at f g q high
-          (λ k a b. ((λ z. absurd (omega (arith, z, low, b, size))), (λ z. absurd (omega (arith, z, low, b, size))), (λ z. absurd (omega (arith, z, low, b, l)))))
+          (λ k a b. (
+            (λ z. absurd (omega (arith, z, low, b, size))),
+            (λ z. absurd (omega (
+              arith,
+              z,
+              low,
+              b,
+              size,
+            ))),
+            (λ z. absurd (omega (arith, z, low, b, l))),
+          ))
           (omega (arith, low, size))) e t)
 
   -- what names the operand of a mov passes on what the mov passes on

@@ -92,7 +92,11 @@ module _ (T P : ℕ → Type 0) where
       (λ e. e) (not_constant (form_of o) (op_form o f.1)) h.good in
       let u = length-append x.nodes (y.nodes ++ n ∷ later.nodes) in
       let v = length-append y.nodes (n ∷ later.nodes) in
-      let size : suc k + length later.nodes ≤ j + length (x.nodes ++ (y.nodes ++ n ∷ later.nodes)) = omega (arith, u, v) in
+      let size : suc k + length later.nodes ≤ j + length (x.nodes ++ (y.nodes ++ n ∷ later.nodes)) = omega (
+        arith,
+        u,
+        v,
+      ) in
       let end = j + length (x.nodes ++ (y.nodes ++ n ∷ later.nodes)) in
       record {
         good = good;

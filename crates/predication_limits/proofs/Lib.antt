@@ -6,6 +6,10 @@ pub mod Items
 pub mod Ends
 pub mod Members
 pub mod Blocks
+pub mod Cheap
+pub mod SmallBlocks
+pub mod SaveGroups
 pub mod Little
 pub mod Guards
 pub mod Machine
+pub mod Programs

@@ -19,13 +19,15 @@ use Rattle.null_outputs.specs.Wants.{complete}
 use Rattle.null_outputs.proofs.Unguarded.{stays}
 use Rattle.fan_out.specs.Targeted as fan_out
 use Rattle.fan_out.proofs.Given.{given}
+use Rattle.fan_out.proofs.Rooms.{few_nodes}
 use Rattle.c_compile_layout.specs.Linking.{resolved_block}
 use Rattle.c_compile_layout.proofs.Targets.{targeted_resolved}
 use Rattle.c_compile_layout.proofs.Linked.{nodes_same}
 use Rattle.predication_limits.specs.Limits.{LittleBlocksFit}
 use Rattle.predication_limits.proofs.Blocks.{straight, insts_few, reads_are, number_few, one_guard}
 use Rattle.predication_limits.proofs.Members.{few_writes, few_reads}
-use Rattle.predication_limits.proofs.Little.{IsCheap, little_cheap, exits_with}
+use Rattle.predication_limits.proofs.Cheap.{IsCheap, exits_with}
+use Rattle.predication_limits.proofs.Little.{little_cheap}
 use Rattle.predication_limits.proofs.Guards.{two_cases}
 
 -- a block that costs little has room in a machine block
@@ -62,10 +64,19 @@ fits_machine b fits little =
     let x = c.exits in
     let e = exits_with (λ l. address_end + l) b.tail in
     let room : predication.HasRoom b = record { numbers = omega (arith, n, i); exits = omega (arith, x, e) } in
+    let r = room_of (labelled b) c in
+    let size = few_nodes f r in
     record {
+      parts = record {
+        nodes = size;
+        reads = r.reads;
+        writes = r.writes;
+        numbers = omega (arith, n, i);
+        exits = x;
+      };
       numbers = room;
       stays = still;
-      room = subst fan_out.HasRoom (sym still) (room_of (labelled b) c);
+      room = subst fan_out.HasRoom (sym still) r;
       cases = λ t is. few t room (subst (λ (g : FlowBlock). fan_out.IsTargeted g t) still is);
     }
   where

@@ -182,8 +182,15 @@ module _ (P : ℕ → Type 0) where
       let p = price_append c.nodes (n ∷ []) in
       let cx = x.cost in
       record {
-        nodes = flat_append j c.nodes (n ∷ []) x.nodes
-            (record { guard = refl; left = λ e. x.fed refl (j + length c.nodes) (omega arith); right = λ e. absurd (cc) }, tt);
+        nodes = flat_append j c.nodes (n ∷ []) x.nodes (
+          record {
+            guard = refl;
+            left = λ e. x.fed refl (j + length c.nodes) (omega arith);
+            right = λ e. absurd
+                (cc);
+          },
+          tt,
+        );
         fed = λ t k l. omega (arith, l, size);
         used = λ l h.
             used_append l j c.nodes (n ∷ [])
@@ -224,7 +231,8 @@ module _ (P : ℕ → Type 0) where
   read_piece : (j r : ℕ) (e : Entry) → IsPlain j e → P r
       → Piece P true j (read_of j r e.given e.kept).nodes (read_of j r e.given e.kept).sources 1
   read_piece j r e (inl q) p =
-      subst (λ (y : Entry). Piece P true j (read_of j r y.given y.kept).nodes (read_of j r y.given y.kept).sources 1) (sym q)
+      subst (λ (y : Entry). Piece P true j (read_of j r y.given y.kept).nodes
+      (read_of j r y.given y.kept).sources 1) (sym q)
       (record {
         nodes = tt;
         fed = λ t k l. tt;
@@ -234,7 +242,8 @@ module _ (P : ℕ → Type 0) where
         cost = omega arith;
       })
   read_piece j r e (inr (i, m, q)) p =
-      subst (λ (y : Entry). Piece P true j (read_of j r y.given y.kept).nodes (read_of j r y.given y.kept).sources 1) (sym q)
+      subst (λ (y : Entry). Piece P true j (read_of j r y.given y.kept).nodes
+      (read_of j r y.given y.kept).sources 1) (sym q)
       (record {
         nodes = tt;
         fed = λ t k l. omega (arith, m, l);

@@ -1,19 +1,34 @@
 -- Blocks whose machine blocks are within the limits of the machine.
-use Rattle.std.specs.Prelude.{◌≡◌, ◌≤◌}
+use Rattle.std.specs.Prelude.{◌≡◌, ℕ, ◌≤◌, List, [], length, slice_get, Some}
 use Rattle.trips_isa.specs.declared.block.Block.{Block as MachineBlock}
 use Rattle.trips_isa.specs.Places.{nodes_of}
 use Rattle.block_cases.specs.Cases.{cases}
+use Rattle.ir_forms.specs.FlatCode.{Program}
+use Rattle.ir_forms.specs.FlatFits.{FitsProgram}
 use Rattle.ir_forms.specs.HyperCode.{Block}
-use Rattle.ir_forms.specs.HyperFits.{FitsHyper}
+use Rattle.ir_forms.specs.HyperFits.{FitsHyper, exits_in}
+use Rattle.hyper_build.specs.Laws.{built_program, plan_of, AreAssigned}
 use Rattle.hyper_build.specs.Smallness.{IsLittle}
 use Rattle.predication.specs.Tails.{labelled}
-use Rattle.predication.specs.Converted.{predicated}
+use Rattle.predication.specs.Converted.{begun, predicated}
 use Rattle.predication.specs.Laws as predication
 use Rattle.null_outputs.specs.Wants.{complete}
+use Rattle.fan_out.specs.declared.fault.FlowFault.{FlowFault}
+use Rattle.fan_out.specs.declared.fault.FlowFault.TheVariants.{Memory}
+use Rattle.fan_out.specs.Refusals.{IsRefusal}
 use Rattle.fan_out.specs.Targeted as fan_out
+
+-- the parts of a block's flow block, each within the machine's limit
+pub record FitsParts (b : Block) : Type 0 where
+  pub nodes : length (predicated b).nodes ≤ 128
+  pub reads : length (predicated b).reads ≤ 32
+  pub writes : length (predicated b).writes ≤ 32
+  pub numbers : (begun b).number ≤ 32
+  pub exits : exits_in b.tail ≤ 8
 
 -- no pass refuses the block, while it still holds labels, for its size, nor the checker for its cases
 pub record FitsMachine (b : Block) : Type 0 where
+  pub parts : FitsParts (labelled b)
   -- its load/store numbers and exits
   pub numbers : predication.HasRoom b
   -- no nulls have to be added
@@ -26,3 +41,16 @@ pub record FitsMachine (b : Block) : Type 0 where
 -- small blocks and those of a save group are
 abbrev pub LittleBlocksFit : Type 0
 LittleBlocksFit = (b : Block) → FitsHyper b → IsLittle b → FitsMachine b
+
+-- so is each block of an assigned program where every answer is to cut
+abbrev pub CutProgramsFit : Type 0
+CutProgramsFit =
+    (P : Program) (lists : List (List ℕ)) (groups : List (List (List ℕ))) → FitsProgram P
+    → AreAssigned P lists groups → length (built_program (plan_of [] groups) P) ≤ 524288 → (k : ℕ)
+    (b : Block) → slice_get (built_program (plan_of [] groups) P) k ≡ Some b → FitsMachine b
+
+-- such a block is refused for want of memory alone where it is given targets
+abbrev pub OnlyMemoryRefuses : Type 0
+OnlyMemoryRefuses =
+    (b : Block) → FitsMachine b → (e : FlowFault) → IsRefusal (complete (predicated (labelled b))) e
+    → e ≡ Memory

@@ -1,5 +1,5 @@
 ghost use Rattle.predication_limits.specs.Choosers.{CasesAreFew};
-ghost use Rattle.predication_limits.specs.Limits.{LittleBlocksFit};
+ghost use Rattle.predication_limits.specs.Limits.{CutProgramsFit, LittleBlocksFit, OnlyMemoryRefuses};
 
 /// A block has no more cases than there are choices of a bit for each of its choosers.
 pub fn cases_are_few()
@@ -10,4 +10,14 @@ pub fn cases_are_few()
 /// cases are few.
 pub fn little_blocks_fit()
     ensures { LittleBlocksFit }
+{}
+
+/// So is each block of an assigned program whose plan cuts everywhere.
+pub fn cut_programs_fit()
+    ensures { CutProgramsFit }
+{}
+
+/// Such a block is given targets, unless memory is wanting.
+pub fn only_memory_refuses()
+    ensures { OnlyMemoryRefuses }
 {}

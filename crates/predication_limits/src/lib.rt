@@ -4,4 +4,4 @@
 
 mod laws;
 
-pub use laws::{cases_are_few, little_blocks_fit};
+pub use laws::{cases_are_few, cut_programs_fit, little_blocks_fit, only_memory_refuses};

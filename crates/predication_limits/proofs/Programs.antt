@@ -1,0 +1,33 @@
+-- The blocks of a program whose plan cuts everywhere fit the machine, and none of them is refused.
+use Rattle.std.proofs.Common.{◌≡◌, [], refl, arith}
+use Rattle.ir_forms.specs.declared.flow.FlowBlock.{FlowBlock}
+use Rattle.hyper_build.proofs.Assigned.{gives_assigned, assigned_little}
+use Rattle.predication.specs.Tails.{labelled}
+use Rattle.predication.specs.Converted.{predicated}
+use Rattle.null_outputs.specs.Wants.{complete}
+use Rattle.fan_out.specs.declared.fault.FlowFault.{FlowFault}
+use Rattle.fan_out.specs.declared.fault.FlowFault.TheVariants.{TooBig, Memory}
+use Rattle.fan_out.specs.declared.fault.Part.TheVariants as part
+use Rattle.fan_out.specs.Refusals.{IsRefusal}
+use Rattle.fan_out.specs.Targeted.{HasRoom}
+use Rattle.predication_limits.specs.Limits.{CutProgramsFit, OnlyMemoryRefuses}
+use Rattle.predication_limits.proofs.Machine.{fits_machine}
+
+pub programs_fit : CutProgramsFit
+programs_fit P lists groups fits assigned few k b e =
+    let all = gives_assigned [] P lists groups fits assigned in
+    fits_machine b (all.fit few k b e) (assigned_little P lists groups fits assigned k b e)
+
+memory_alone : (f : FlowBlock) → HasRoom f → (e : FlowFault) → IsRefusal f e → e ≡ Memory
+memory_alone f room Memory r = refl
+memory_alone f room (TooBig part.Insts n) r =
+    let a = room.insts in let b = r.0 in let c = r.1 in absurd (omega (arith, a, b, c))
+memory_alone f room (TooBig part.Reads n) r =
+    let a = room.reads in let b = r.1 in let c = r.2 in absurd (omega (arith, a, b, c))
+memory_alone f room (TooBig part.Writes n) r =
+    let a = room.writes in let b = r.2 in let c = r.3 in absurd (omega (arith, a, b, c))
+memory_alone f room (TooBig part.Numbers n) r = absurd r
+memory_alone f room (TooBig part.Exits n) r = absurd r
+
+pub only_memory : OnlyMemoryRefuses
+only_memory b fits e r = memory_alone (complete (predicated (labelled b))) fits.room e r
