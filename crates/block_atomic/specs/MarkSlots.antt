@@ -24,6 +24,7 @@ pub record IsTold (b : Block) (table places : List Answer) (g : ℕ → Answer) 
   pub right : (j : ℕ) (i : Inst) → slice_index_or b.insts.items j None ≡ Some i
       → slice_index_or places (128 + j) None ≡ at_place b g (128 + j)
 
+-- a read has no mark, a slot that of the list
 abbrev pub mark_if_read : Bool → Block → List ℕ → ℕ → ℕ
 mark_if_read true b marks x = 0
 mark_if_read false b marks x = slice_index_or marks (slot_at b x) 0
@@ -60,6 +61,7 @@ can_fault_in Load op = true
 can_fault_in Store op = true
 can_fault_in _ op = false
 
+-- whether an operation can fault, by its form
 abbrev pub can_fault : Op → Bool
 can_fault op = can_fault_in (form_of op) op
 

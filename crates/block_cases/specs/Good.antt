@@ -16,9 +16,11 @@ use Rattle.trips_isa.specs.declared.block.Block.{Block}
 abbrev pub IsPlaced : List Node → Type 0
 IsPlaced ns = (x : ℕ) (n : Node) → slice_get ns x ≡ Some n → (n.slot < 128) ⊎ (n.sense ≡ Always)
 
+-- node x names place q
 abbrev pub NamesPlace : List Node → ℕ → ℕ → Type 0
 NamesPlace ns x q = (n : Node) × (slice_get ns x ≡ Some n) × (names (targets n) q ≡ true)
 
+-- no chain of edges comes back
 abbrev pub IsAcyclic : List Node → Type 0
 IsAcyclic ns = HasCycle ns → ⊥
 
