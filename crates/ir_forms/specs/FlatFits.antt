@@ -11,6 +11,7 @@ use Rattle.trips_isa.specs.Forms.{form_of, is_load, is_store}
 use Rattle.trips_isa.specs.Stores.{data_size}
 use Rattle.ir_forms.specs.declared.flat.Arg.{Arg}
 use Rattle.ir_forms.specs.declared.flat.Arg.TheVariants.{Const, Var}
+use Rattle.ir_forms.specs.declared.limits.TheConstants.{MOST_STATEMENTS}
 use Rattle.ir_forms.specs.FlatCode.{Step, Let, Frame, Load, Save, Call, Put, Get, If, Loop, Break}
 use Rattle.ir_forms.specs.FlatCode.{Continue, Return, Code, Nop, ◌▹◌, Function, Program}
 use Rattle.ir_forms.specs.Frames.{frames_at, frame_limit}
@@ -176,7 +177,7 @@ pub record FitsFunction (fs : List Function) (f : Function) : Type 0 where
 pub record FitsProgram (P : Program) : Type 0 where
   pub each : (f : ℕ) (g : Function) → slice_get P.functions f ≡ Some g → FitsFunction P.functions g
   pub main : FitsCall P.functions P.main []
-  pub few : steps_of_all P.functions ≤ 16777216
+  pub few : steps_of_all P.functions ≤ MOST_STATEMENTS
   pub bytes : All (λ b. b < 256) P.bytes
   -- globals and frames lie inside data memory
   pub room : frames_at P.bytes + frame_limit ≤ data_size

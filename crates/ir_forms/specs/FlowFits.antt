@@ -18,14 +18,15 @@ use Rattle.ir_forms.specs.declared.flow.Guard.{Guard}
 use Rattle.ir_forms.specs.declared.flow.FlowNode.{FlowNode}
 use Rattle.ir_forms.specs.declared.flow.FlowWrite.{FlowWrite}
 use Rattle.ir_forms.specs.declared.flow.FlowBlock.{FlowBlock}
+use Rattle.ir_forms.specs.declared.limits.TheConstants.{LABELS}
 use Rattle.ir_forms.specs.FlowRuns.{Computes, OnPath, count, tokens, exits, guard_token}
 
 -- FIELDS
 
 -- a label, or the offset that it becomes
 abbrev pub FitsLabel : Op → ℤ → Type 0
-FitsLabel Bro label = FitsSigned 524288 label
-FitsLabel Callo label = FitsSigned 524288 label
+FitsLabel Bro label = FitsSigned LABELS label
+FitsLabel Callo label = FitsSigned LABELS label
 FitsLabel op label = label ≡ pos 0
 
 abbrev pub FitsNodeForm : Form → FlowNode → Type 0

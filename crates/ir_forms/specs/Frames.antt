@@ -3,6 +3,7 @@
 -- for each scalar, and then the bytes of its arrays: its first word is the return address, 16 words
 -- are kept for the temporaries, one is free, and the scalars' words end before the arrays.
 use Rattle.std.specs.Prelude.{ℕ, ◌+◌, ◌-◌, ◌*◌, ◌/◌, nat_lt, cond, List, length}
+use Rattle.ir_forms.specs.declared.limits.TheConstants.{STACK_BYTES}
 use Rattle.ir_forms.specs.FlatCode.{Function}
 
 -- a length, rounded up to words of 8 bytes
@@ -16,7 +17,7 @@ frames_at bytes = rounded (length bytes)
 -- the bytes that all active frames may take; not an `abbrev`, since a large numeral unrolls
 -- recursions in goals
 unfoldable pub frame_limit : ℕ
-frame_limit = 1048576
+frame_limit = STACK_BYTES
 
 -- the bytes of a frame before its arrays
 abbrev pub slots_of : Function → ℕ

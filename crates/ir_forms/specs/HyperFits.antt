@@ -5,6 +5,7 @@ use Rattle.ir_forms.specs.declared.hyper.Source.{Source}
 use Rattle.ir_forms.specs.declared.hyper.Source.TheVariants.{Const, Reg}
 use Rattle.ir_forms.specs.declared.hyper.Exit.{Exit}
 use Rattle.ir_forms.specs.declared.hyper.Exit.TheVariants as exit
+use Rattle.ir_forms.specs.declared.limits.TheConstants.{LABELS}
 use Rattle.ir_forms.specs.HyperCode.{Items, Done, Set, Load, Save, If, Tail, Leave, Test, Block}
 use Rattle.ir_forms.specs.FlatFits.{operates, loads, stores}
 
@@ -21,12 +22,12 @@ FitsItems (Load to op a rest) = (to < 128) × (loads op ≡ true) × FitsSource 
 FitsItems (Save op a v rest) = (stores op ≡ true) × FitsSource a × FitsSource v × FitsItems rest
 FitsItems (If t one other rest) = FitsSource t × FitsItems one × FitsItems other × FitsItems rest
 
--- labels are below 524,288; a block to come back to may be named by its address, of 32 bits
+-- a label is one of those that there are; a block to come back to may be named by its address, of 32 bits
 abbrev pub FitsExit : Exit → Type 0
-FitsExit (exit.Jump l) = l < 524288
-FitsExit (exit.Call l back) = (l < 524288) × (back < 2 ^ 32)
+FitsExit (exit.Jump l) = l < LABELS
+FitsExit (exit.Call l back) = (l < LABELS) × (back < 2 ^ 32)
 FitsExit exit.Return = Unit {0}
-FitsExit (exit.System l) = l < 524288
+FitsExit (exit.System l) = l < LABELS
 
 abbrev pub FitsTail : Tail → Type 0
 FitsTail (Leave e) = FitsExit e

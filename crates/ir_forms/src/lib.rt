@@ -11,6 +11,7 @@ mod flat;
 mod flow;
 mod hyper;
 mod laws;
+mod limits;
 
 pub use fault::{FlowFault, Part};
 pub use flat::{Arg, FlatFunc, FlatProgram, FlatStmt};
@@ -20,3 +21,4 @@ pub use laws::{
     blocks_keep_words, checks_change_nothing, clean_runs_are_runs, nothing_ends_without_a_turn,
     statements_run_in_order,
 };
+pub use limits::{LABELS, MOST_STATEMENTS, STACK_BYTES};
