@@ -61,7 +61,9 @@ tokens (n ∷ ns) f q = weighed (f 0) (hits (targets n) q) + tokens ns (λ y. f 
 
 -- a case: a list of bits, one for each node, in which each 1 is the bit of a chooser that fires
 pub record IsCase (ns : List Node) (c : List Bool) : Type 0 where
+  -- one bit for each node
   pub size : length c ≡ length ns
+  -- a node that is no chooser, or does not fire, has the bit 0
   pub bits : is_case ns c ≡ true
 
 -- P holds in some case

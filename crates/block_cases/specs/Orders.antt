@@ -99,6 +99,7 @@ bad_write b w = has_item (take w b.writes.items) (slice_index b.writes.items w)
 pub record IsLeast (p : ℕ → Bool) (n k : ℕ) : Type 0 where
   pub below : k < n
   pub holds : p k ≡ true
+  -- no lesser number passes
   pub least : (j : ℕ) → j < k → p j ≡ false
 
 -- no number below n passes a test
@@ -107,7 +108,11 @@ NoneBelow p n = (j : ℕ) → j < n → p j ≡ false
 
 -- no fault of these kinds
 pub record IsInOrder (b : Block) : Type 0 where
+  -- no read has a bad target
   pub reads : NoneBelow (bad_read b) (length b.reads.items)
+  -- no slot has a bad target
   pub insts : NoneBelow (bad_inst b) 128
+  -- no load and no store has a bad number
   pub numbers : NoneBelow (bad_number b) 128
+  -- no register is written twice
   pub writes : NoneBelow (bad_write b) (length b.writes.items)

@@ -26,8 +26,13 @@ KeepsOneTokenFromEntry b =
 
 -- a checked block fits, has no fault, is good by its cases, and keeps one token
 pub record IsChecked (b : Block) : Type 0 where
+  -- each field is in its width
   pub fits : FitsBlock b
+  -- it has no fault
   pub good : IsGood b
+  -- it is good, by its cases
   pub cases : GoodBlock b
+  -- so it keeps one token, whatever its reads and loads are answered
   pub one_token : KeepsOneToken b
+  -- also from every entry state
   pub from_entry : KeepsOneTokenFromEntry b

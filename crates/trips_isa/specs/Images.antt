@@ -56,7 +56,10 @@ last_byte (b ∷ c ∷ bs) = last_byte (c ∷ bs)
 pub record FitsImage (i : Image) : Type 0 where
   pub some : 1 ≤ length i.blocks
   pub each : All FitsBlock i.blocks
+  -- the chunks of all blocks, each a header and a body
   pub total : sum_by chunks i.blocks ≤ 524288
+  -- the bytes that data memory begins with
   pub few : length i.bytes ≤ 4194304
   pub bytes : All (λ b. b < 256) i.bytes
+  -- no byte 0 ends them, so that each start of data memory has one image
   pub last : last_byte i.bytes ≡ 0 → ⊥

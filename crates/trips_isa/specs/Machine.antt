@@ -17,7 +17,9 @@ use Rattle.trips_isa.specs.Outcomes.{Effects, Outcome, Comes, Faults, outcome}
 pub record State : Type 0 where
   pub registers : List ℕ
   pub memory : List ℕ
+  -- the number of the next block
   pub next : ℕ
+  -- the rest of the input
   pub rest : List ℕ
   pub output : List ℕ
   pub trace : List Traced
@@ -114,4 +116,5 @@ runs blocks s (suc n) = let before = runs blocks s n in goes_on blocks before.0 
 -- a machine that may make as many steps as its budget
 pub record Machine : Type 0 where
   pub state : State
+  -- how many blocks it may run
   pub budget : ℕ

@@ -68,10 +68,15 @@ exit_of (Some p) = (p.0).number
 -- the token of each write, the stores in order of number, the exit, whether a system call follows,
 -- and the next block
 pub record Effects : Type 0 where
+  -- one for each declared write
   pub writes : List Token
+  -- those that fired, in order of number
   pub stores : List Stored
+  -- the number of the branch that fired
   pub exit : ℕ
+  -- whether a system call follows
   pub system : Bool
+  -- the number of the next block
   pub successor : ℕ
 
 -- a write that gets no token counts as null

@@ -71,6 +71,7 @@ pub record Edge (ns : List Node) (x y : ℕ) : Type 0 where
 -- an order of the nodes along the edges
 pub record Ranked (ns : List Node) (rank : ℕ → ℕ) : Type 0 where
   pub rises : (x y : ℕ) → Edge ns x y → rank x < rank y
+  -- so that no chain of edges is longer than `deepest`
   pub below : (x : ℕ) → rank x < 160
 
 -- the nodes stand in some order along the edges
