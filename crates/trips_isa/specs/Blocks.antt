@@ -1,11 +1,9 @@
--- The tables of a block: whatever its reads and loads are answered, and in an entry state. Own
--- (docs/MACHINE.md, "The step of a block"): the definition by pulling, over the rule of firing
--- (specs/Rule).
+-- The tables of a block: whatever its reads and loads are answered, and in an entry state. Own: the
+-- definition by pulling (docs/MACHINE.md, "The step of a block"), over the rule of firing (specs/Rule).
 use Rattle.std.specs.Prelude.{ℕ, zero, suc, ◌+◌, ◌-◌, Bool, true, false, nat_lt, List, length}
 use Rattle.std.specs.Prelude.{[], ◌∷◌, Option, Some, None, slice_get, slice_index, slice_index_or}
 use Rattle.trips_isa.specs.declared.form.Form.{Form}
-use Rattle.trips_isa.specs.declared.form.Form.TheVariants.{General, Immediate, Load, Store, Branch}
-use Rattle.trips_isa.specs.declared.form.Form.TheVariants.{Constant}
+use Rattle.trips_isa.specs.declared.form.Form.TheVariants.{General, Immediate, Load, Store, Branch, Constant}
 use Rattle.trips_isa.specs.declared.block.Token.{Token}
 use Rattle.trips_isa.specs.declared.block.Spot.{Spot}
 use Rattle.trips_isa.specs.declared.block.Spot.TheVariants as spot
@@ -80,9 +78,7 @@ abbrev pub first_given : {A : Type 0} → (Spot → Option A) → List Spot → 
 first_given h [] = None
 first_given h (s ∷ ss) = or_else (h s) (first_given h ss)
 
--- stores and exits, taken at their places like tokens ----------------------------------------
-
--- what the instruction in slot j stores where it gives a token
+-- what the instruction in slot j stores where it gives a token: it is taken at its number like one
 abbrev pub stored_in : Block → (ℕ → Answer) → ℕ → Option Inst → Answer → Option Stored
 stored_in b g j None t = None
 stored_in b g j (Some i) None = None
@@ -116,13 +112,11 @@ abbrev pub leaves_if_read : Bool → Block → (ℕ → Answer) → ℕ → Leav
 leaves_if_read true b g x = None
 leaves_if_read false b g x = leaves_with (inst_at b x) (g x)
 
--- the branch that fires, with its token
+-- the branch that fires, with its token: it is taken at the exit like one
 abbrev pub leaving_of : Block → (ℕ → Answer) → Leaving
 leaving_of b g = first (nodes_of b) EXIT (λ x. leaves_if_read (is_read b x) b g x)
 
--- an entry state -------------------------------------------------------------------------------
-
--- what a read is answered: the word of its register
+-- what a read is answered in an entry state: the word of its register
 abbrev pub read_word : List ℕ → Option ReadSlot → ℕ
 read_word regs None = 0
 read_word regs (Some r) = slice_index regs r.register
@@ -139,8 +133,7 @@ answered_if_read true b regs mem g x address = read_word regs (slice_get b.reads
 answered_if_read false b regs mem g x address =
     slot_answered (store_of b g) mem (inst_at b x) address
 
--- a read is answered its register's word, and a load the bytes of the block's stores of lower
--- numbers over memory
+-- what each node of a block is answered in an entry state
 abbrev pub responses_in : Block → List ℕ → List ℕ → (ℕ → Answer) → Responses
 responses_in b regs mem g x address = answered_if_read (is_read b x) b regs mem g x address
 
