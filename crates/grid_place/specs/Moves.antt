@@ -40,6 +40,7 @@ renamed p (spot.Read r) = spot.Read r
 renamed p (spot.Write w) = spot.Write w
 renamed p (spot.Store n) = spot.Store n
 
+-- a read with its targets renamed
 abbrev pub renamed_read : (ℕ → ℕ) → ReadSlot → ReadSlot
 renamed_read p r = record {
   register = r.register;
@@ -47,6 +48,7 @@ renamed_read p r = record {
   second = option_map (renamed p) r.second;
 }
 
+-- an instruction with its targets renamed
 abbrev pub renamed_inst : (ℕ → ℕ) → Inst → Inst
 renamed_inst p i = record {
   op = i.op;

@@ -13,6 +13,7 @@ use Rattle.ir_forms.specs.FlatCode.{Continue, Return, Code, Nop, ◌▹◌, Func
 abbrev pub stays : ℕ → Bool
 stays v = nat_lt v FIRST_SCRATCH
 
+-- statements in a list, as code
 abbrev pub code_of_steps : List Step → Code
 code_of_steps [] = Nop
 code_of_steps (s ∷ rest) = s ▹ code_of_steps rest
@@ -32,15 +33,19 @@ step_by stmt.Break = Break
 step_by stmt.Continue = Continue
 step_by (stmt.Return v) = Return v
 
+-- a declared statement
 unfoldable pub step_of : FlatStmt → Step
 step_of s = fold-FlatStmt Step step_by s
 
+-- declared statements, in order
 abbrev pub code_of : List FlatStmt → Code
 code_of all = code_of_steps (map step_of all)
 
+-- a declared function
 abbrev pub function_of : FlatFunc → Function
 function_of f =
     record { params = f.params; scalars = f.scalars; arrays = f.arrays; body = code_of f.body }
 
+-- a declared program
 abbrev pub program_of : FlatProgram → Program
 program_of p = record { functions = map function_of p.functions; bytes = p.bytes; main = p.main }

@@ -23,6 +23,7 @@ frame_limit = STACK_BYTES
 abbrev pub slots_of : Function → ℕ
 slots_of f = 8 * (18 + f.scalars)
 
+-- the bytes of a frame
 abbrev pub frame_of : Function → ℕ
 frame_of f = slots_of f + f.arrays
 
@@ -33,6 +34,7 @@ arrays_at base f used = base + used + slots_of f
 
 -- REGISTERS
 
+-- it says which system call is made
 abbrev pub system_register : ℕ
 system_register = 0
 
@@ -40,9 +42,11 @@ system_register = 0
 abbrev pub stack_register : ℕ
 stack_register = 1
 
+-- it has the address to come back to
 abbrev pub return_register : ℕ
 return_register = 2
 
+-- it has what a call returns, and what a system call puts out or takes in
 abbrev pub result_register : ℕ
 result_register = 3
 
