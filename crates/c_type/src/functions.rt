@@ -1,6 +1,6 @@
 //! Prototypes and definitions of functions.
 
-ghost use Rattle.std.specs.Prelude.{◌≡◌, ◌≤◌, [], map, length, None, take, ◌+◌};
+ghost use Rattle.std.specs.Prelude.{◌≡◌, ◌≤◌, [], map, None, take, ◌+◌};
 ghost use Rattle.std.specs.Option.{option_copied};
 ghost use Rattle.c_type_expr.specs.Roles.{first, unless};
 ghost use Rattle.c_type_expr.specs.Says.{Says};
@@ -9,6 +9,7 @@ ghost use Rattle.c_type.specs.Functions as functions;
 ghost use Rattle.c_type.specs.Functions.{body_part, file_with};
 ghost use Rattle.c_type.specs.Runs.{Runs, Adds};
 
+use crate::counts::counted;
 use crate::declarations::{add_address, add_scalar, is_end};
 use crate::file_scope::FileScope;
 use crate::signatures::{agrees, undefined};
@@ -185,32 +186,12 @@ pub fn prototype(
     declared(alloc, table, names, given, name, slots, false)
 }
 
-fn scalar_count(state: &State) -> Result<u32, TypeFault>
-    ensures { Says None (length state.now.scalars) result }
-{
-    let count = state.scalars.len();
-    if count > 0xffff_ffff {
-        return Err(TypeFault::Memory);
-    }
-    Ok(count as u32)
-}
-
-fn param_count(params: &[Param]) -> Result<u32, TypeFault>
-    ensures { Says None (length params.now) result }
-{
-    let count = params.len();
-    if count > 0xffff_ffff {
-        return Err(TypeFault::Memory);
-    }
-    Ok(count as u32)
-}
-
 /// Keeps a parameter.
 fn add_param(alloc: Global, state: &mut State, param: Param) -> Result<(), TypeFault>
     ensures { Adds (functions.named_param param.name param.size param.kind state.old) state.new
         result }
 {
-    let place = scalar_count(state)?;
+    let place = counted(state.scalars.len())?;
     let Param {
         kind,
         name,
@@ -357,7 +338,7 @@ pub fn definition(
         params.as_slice(),
         line,
     )?;
-    let count = param_count(params.as_slice())?;
+    let count = counted(params.len())?;
     let FileScope {
         names,
         globals,
