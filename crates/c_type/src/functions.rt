@@ -18,7 +18,8 @@ use crate::statements::{all, type_stmt};
 use base::{Items, Queue};
 use c_scope::{Meaning, Scopes};
 use c_tree::{
-    ArraySize, Callee, Kind, Param, Slot, Stmt, StmtNode, TypedFunc, TypedGlobal, TypedStmt, Word,
+    ArraySize, Callee, Kind, MOST_PARAMETERS, Param, Slot, Stmt, StmtNode, TypedFunc, TypedGlobal,
+    TypedStmt, Word,
 };
 use c_type_expr::TypeFault;
 use std::alloc::Global;
@@ -92,14 +93,14 @@ fn param_at(names: &Scopes, is_def: bool, seen: &[Param], param: &Param) -> Resu
     ensures { Says (functions.param_fault is_def names.now seen.now param.now) tt result }
 {
     name_at(names, is_def, seen, &param.name, param.line)?;
-    if seen.len() < 8 {
+    if seen.len() < MOST_PARAMETERS {
         Ok(())
     } else {
         Err(TypeFault::TooManyParams(param.line))
     }
 }
 
-/// Whether a function may have these parameters: the ninth is the last that is looked at.
+/// Whether a function may have these parameters: the first that is one too many is the last that is looked at.
 fn params_at(names: &Scopes, is_def: bool, params: &[Param]) -> Result<(), TypeFault>
     ensures { Says (functions.params_fault is_def names.now [] params.now) tt result }
 {
