@@ -154,8 +154,8 @@ module _ (P : TypedProgram) (most : ℕ) (S : Scene) (y : IsScene P S) where
       let lt = element_within S s g n i c k q ec ke.rel in
       let sv = element_saves P most S y k n i at w c s g q ec ke.rel (ea lt) in
       let m = put_element q.it g.memory i w in
-      let rs = save_reaches P most S y k A (temp d) at w g m hA
-      (var_read (functions P most) (base P most) S.env g (temp d) w is) sv in
+      let rs = save_reaches P most S y k A (temp d) at w g m hA (var_read (functions P most) (base P most) S.env g
+      (temp d) w is) sv in
       value_reached P most S y d (Some k) f0 g (with_memory g m)
       (only (Save (save_op k) A (Var (temp d)))) 1 w top low
       (written s (InArray n i) (Some w)) k refl fits rs refl
@@ -183,8 +183,8 @@ module _ (P : TypedProgram) (most : ℕ) (S : Scene) (y : IsScene P S) where
       let rh = element_saved S y s g n i w c k q ec (subst (λ k. IsWord k w) (sym q.kind) fits) ke.rel in
       let k1 : KeptIs S d f0 (written s (InArray n i) (Some w)) h = record { rel = rh; kept = ke.kept } in
       let p = puts_let (functions P most) (base P most) S.env op.Mov (Var (temp (suc d))) (Const 0) h 1
-      (temp d) 82 w 0 w (omega arith) (var_read (functions P most) (base P most) S.env h
-      (temp (suc d)) w is) refl refl in
+      (temp d) 82 w 0 w (omega arith) (var_read (functions P most) (base P most) S.env h (temp (suc d)) w is) refl
+      refl in
       let k2 = keeps_set P most S y d f0 h p.to (written s (InArray n i) (Some w)) (temp d) 82 w (omega arith)
       (omega arith) (omega arith) k1 p.sets in
       value_reached P most S y d (Some k) f0 g p.to (element_assign d k) 2 w top low
@@ -242,8 +242,8 @@ module _ (P : TypedProgram) (most : ℕ) (S : Scene) (y : IsScene P S) where
       let c = compound_is o k at old b w h in
       let st = compound_strict o at k r t in
       let x = binary_works (functions P most) (base P most) S.env o at g (temp d) (temp z)
-      (converted at old) b c.middle st.0 st.1.0 (λ e. omega arith)
-      (λ e. omega arith) hd hz fo (right_fits P most S y o at r vk b hr st.1.1 fb) c.done in
+      (converted at old) b c.middle st.0 st.1.0 (λ e. omega arith) (λ e. omega arith) hd hz fo
+      (right_fits P most S y o at r vk b hr st.1.1 fb) c.done in
       let z2 = here_works (functions P most) (base P most) S.env k x.puts.to
       (temp d) c.middle x.puts.sets.value x.fits.below in
       record {
@@ -355,10 +355,10 @@ module _ (P : TypedProgram) (most : ℕ) (S : Scene) (y : IsScene P S) where
       let sc = rl.scalars i old (slot.Scalar k) ti (held_is (cell s (InScalar i)) old eo) in
       let x = to_works (functions P most) (base P most) S.env at f (temp d) i old sc.0 sc.1.below in
       let g = x.puts.to in
-      let k1 = keeps_set P most S y d f f g s (temp d) 80 (converted at old) (omega arith) (omega arith)
-      (omega arith) (keeps_all S d s f rl) x.puts.sets in
-      let hg : low ≤ s.stock + most * g.rounds - nodes (expr_of r) =
-      subst (λ c. low ≤ s.stock + most * c - nodes (expr_of r)) (sym x.puts.sets.rounds) hl in
+      let k1 = keeps_set P most S y d f f g s (temp d) 80 (converted at old) (omega arith) (omega arith) (omega arith)
+      (keeps_all S d s f rl) x.puts.sets in
+      let hg : low ≤ s.stock + most * g.rounds - nodes (expr_of r) = subst
+      (λ c. low ≤ s.stock + most * c - nodes (expr_of r)) (sym x.puts.sets.rounds) hl in
       after_puts (Valued S d (Some k) f) (converted_to at (temp d) i) a f 1 (temp d) 80
       (converted at old) top low (then (meaning P (Of r) s)
       (compounded o (Some k) at (InScalar i) old)) x.puts (omega arith)
@@ -423,10 +423,10 @@ module _ (P : TypedProgram) (most : ℕ) (S : Scene) (y : IsScene P S) where
       let p = puts_both (functions P most) (base P most) S.env l (converted_here at (temp d)) f 1 1 (temp d) 80 old
       (converted at old) pl x.puts in
       let g = p.to in
-      let k1 = keeps_set P most S y d f f g s (temp d) 80 (converted at old) (omega arith) (omega arith)
-      (omega arith) (keeps_all S d s f rl) p.sets in
-      let hg : low ≤ s.stock + most * g.rounds - nodes (expr_of r) =
-      subst (λ c. low ≤ s.stock + most * c - nodes (expr_of r)) (sym p.sets.rounds) hl in
+      let k1 = keeps_set P most S y d f f g s (temp d) 80 (converted at old) (omega arith) (omega arith) (omega arith)
+      (keeps_all S d s f rl) p.sets in
+      let hg : low ≤ s.stock + most * g.rounds - nodes (expr_of r) = subst
+      (λ c. low ≤ s.stock + most * c - nodes (expr_of r)) (sym p.sets.rounds) hl in
       after_puts (Valued S d (Some k) f) (Then l (converted_here at (temp d))) a f 2 (temp d) 80
       (converted at old) top low (then (meaning P (Of r) s)
       (compounded o (Some k) at (InArray n 0) old)) p (omega arith)
@@ -473,8 +473,8 @@ module _ (P : TypedProgram) (most : ℕ) (S : Scene) (y : IsScene P S) where
       let g1 = pa.to in
       let k1 = keeps_set P most S y d f0 g g1 s (temp d) 81 adr (omega arith) (omega arith)
       (omega arith) v.keeps pa.sets in
-      let hg : low ≤ s.stock + most * g1.rounds - nodes (expr_of r) =
-      subst (λ c. low ≤ s.stock + most * c - nodes (expr_of r)) (sym pa.sets.rounds) hl in
+      let hg : low ≤ s.stock + most * g1.rounds - nodes (expr_of r) = subst
+      (λ c. low ≤ s.stock + most * c - nodes (expr_of r)) (sym pa.sets.rounds) hl in
       after_puts (Valued S d (Some k) f0) a b g 3 (temp d) 81 adr top low
       (then (meaning P (Of r) s) (assigned (InArray e.number i))) pa (omega arith)
       (operand P most S y (Valued S d (Some k) f0) r (suc d) c s g1 (top - pa.t) low
@@ -528,7 +528,8 @@ module _ (P : TypedProgram) (most : ℕ) (S : Scene) (y : IsScene P S) where
       (omega arith) v.keeps pa.sets in
       let z1 = element_loaded P most S y p k e.number i old adr s g g1 q eo v.keeps.rel refl pa.sets.memory in
       let pl = puts_load P (functions P most) (base P most) S.env (load_op k) (Var (temp (suc d))) g1
-      (temp d) 80 adr old (var_read (functions P most) (base P most) S.env g1 (temp (suc d)) adr pa.sets.value) z1.0 in
+      (temp d) 80 adr old (var_read (functions P most) (base P most) S.env g1 (temp (suc d)) adr pa.sets.value)
+      z1.0 in
       let xn = here_works (functions P most) (base P most) S.env at pl.to (temp d) old pl.sets.value z1.1.below in
       let pn = puts_both (functions P most) (base P most) S.env l n g1 1 1 (temp d) 80 old
       (converted at old) pl xn.puts in
@@ -538,8 +539,8 @@ module _ (P : TypedProgram) (most : ℕ) (S : Scene) (y : IsScene P S) where
       let adr2 : g2.vars (temp (suc d)) ≡ Some adr = pn.sets.others (temp (suc d)) (λ e. omega arith)
       (λ e. omega arith) ∙ pa.sets.value in
       let rounds2 : g2.rounds ≡ g.rounds = pn.sets.rounds ∙ pa.sets.rounds in
-      let hg : low ≤ s.stock + most * g2.rounds - nodes (expr_of r) =
-      subst (λ c. low ≤ s.stock + most * c - nodes (expr_of r)) (sym rounds2) hl in
+      let hg : low ≤ s.stock + most * g2.rounds - nodes (expr_of r) = subst
+      (λ c. low ≤ s.stock + most * c - nodes (expr_of r)) (sym rounds2) hl in
       let lead = both_lead checked (functions P most) (base P most) S.env a (Then l n) g g1 pa.t pn.t
       (settle g2) pa.leads pn.leads in
       moved most (Valued S d (Some k) f0) (run P most S y whole g) (run P most S y b g2)
@@ -628,7 +629,8 @@ module _ (P : TypedProgram) (most : ℕ) (S : Scene) (y : IsScene P S) where
       (omega arith)))
   assign_left (Some o) k at (node.Element p e) j r d top low s f h ld lr tl tr tc rl hu hl =
       let b = Then (old_element (context P S) p d at k)
-      (Then (code P most S y (suc (suc d)) r) (Then (compound_code o d (suc (suc d)) at k)
+      (Then (code P most S y (suc (suc d)) r)
+      (Then (compound_code o d (suc (suc d)) at k)
       (only (Save (save_op k) (Var (temp (suc d))) (Var (temp d)))))) in
       operand P most S y (Valued S d (Some k) f) e d b s f top low
       (assign_element (meaning P) (Some o) (Some k) at p r) (h e s (omega arith)) tl.2 rl

@@ -269,13 +269,12 @@ module _ (P : TypedProgram) (most : ℕ) (S : Scene) (y : IsScene P S) where
           let pb = bump_works (functions P most) (base P most) S.env o k f 82 i i old new v.0 v.1.below en in
           let h = pb.puts.to in
           let rh = scalar_sets P most S y s f h i 82 new k (Some old) t c pb.fits (omega arith) pb.puts.sets r in
-          let ke : KeptIs S d f (written s (InScalar i) (Some new)) h =
-          record { rel = rh; kept = λ j l. pb.puts.sets.others (temp j) (λ e. omega arith) (λ e. omega arith) } in
-          let pc = puts_let (functions P most) (base P most) S.env op.Mov (Var i) (Const 0) h 1
-          (temp d) 82 new 0 new (omega arith) (var_read (functions P most)
-          (base P most) S.env h i new pb.puts.sets.value) refl refl in
-          let k2 = keeps_set P most S y d f h pc.to (written s (InScalar i) (Some new)) (temp d) 82 new
-          (omega arith) (omega arith) (omega arith) ke pc.sets in
+          let ke : KeptIs S d f (written s (InScalar i) (Some new)) h = record
+          { rel = rh; kept = λ j l. pb.puts.sets.others (temp j) (λ e. omega arith) (λ e. omega arith) } in
+          let pc = puts_let (functions P most) (base P most) S.env op.Mov (Var i) (Const 0) h 1 (temp d) 82 new 0 new
+          (omega arith) (var_read (functions P most) (base P most) S.env h i new pb.puts.sets.value) refl refl in
+          let k2 = keeps_set P most S y d f h pc.to (written s (InScalar i) (Some new)) (temp d) 82 new (omega arith)
+          (omega arith) (omega arith) ke pc.sets in
           value_reached d (Some k) f f pc.to (bump_scalar o true i d k) 3 new top low
           (written s (InScalar i) (Some new)) k refl pb.fits
           (both_reach P most S y (bumped o k i i) (copied (temp d) i) f h pc.to 2 1
@@ -284,8 +283,8 @@ module _ (P : TypedProgram) (most : ℕ) (S : Scene) (y : IsScene P S) where
           (pc.sets.rounds ∙ pb.puts.sets.rounds) k2.rel k2.kept pc.sets.value hu hl
       go false old new en c v =
           let lt = few in
-          let pc = puts_let (functions P most) (base P most) S.env op.Mov (Var i) (Const 0) f 1
-          (temp d) 82 old 0 old (omega arith) (var_read (functions P most) (base P most) S.env f i old v.0) refl refl in
+          let pc = puts_let (functions P most) (base P most) S.env op.Mov (Var i) (Const 0) f 1 (temp d) 82 old 0 old
+          (omega arith) (var_read (functions P most) (base P most) S.env f i old v.0) refl refl in
           let g = pc.to in
           let k1 = keeps_set P most S y d f f g s (temp d) 82 old (omega arith) (omega arith) (omega arith)
           (keeps_all S d s f r) pc.sets in

@@ -59,8 +59,8 @@ module _ (P : TypedProgram) (most : ℕ) (sound : FitsSource (source_of P)) (lar
   Parts s = ((e : TypedExpr) (s1 : eval.State) → s1.stock < s.stock → FollowsOf P most e s1)
       × ((st : TypedStmt) (s1 : eval.State) → s1.stock < s.stock → FollowsRun P most st s1)
 
-  module _ (S : Scene) (y : IsScene P S) (s : eval.State) (h : Parts s) (j : Option Kind) (d top low : ℕ)
-      (f : State) (r : Related S s f) where
+  module _ (S : Scene) (y : IsScene P S) (s : eval.State) (h : Parts s) (j : Option Kind) (d top low : ℕ) (f : State)
+      (r : Related S s f) where
     abbrev Here : Node → Type 0
     Here x = FitsExpr (scope P S) d (plain_node x j)
         → low ≤ s.stock + most * f.rounds - nodes (plain_node x j)

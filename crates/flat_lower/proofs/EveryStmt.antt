@@ -319,8 +319,8 @@ module _ (P : TypedProgram) (most : ℕ) where
     begun_follows (stmt.For first test post body) s f top low h t z r hu hl =
         let l = loop_code (context P S) (expr_if test) (expr_if post) (stmt_at P most S y body) in
         let e = first_is first in
-        let t0 : FitsFirst (scope P S) S.func.result (plain_first (out-TypedForInit first)) =
-        subst (FitsFirst (scope P S) S.func.result) e t.0 in
+        let t0 : FitsFirst (scope P S) S.func.result (plain_first (out-TypedForInit first)) = subst
+        (FitsFirst (scope P S) S.func.result) e t.0 in
         let size : size_of_first (first_of first) ≡ size_of_first (plain_first (out-TypedForInit first)) =
         ap size_of_first e in
         subst (λ x. EndsHere P most S y (Then (first_code (context P S) x) l) f top low

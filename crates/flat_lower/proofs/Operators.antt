@@ -70,10 +70,12 @@ module _ (a b w : ℕ) (p : a < 2 ^ 64) (q : b < 2 ^ 64) where
     where
       go : (x : Bool) → nat_lt a b ≡ x → reduced m (pos a -ℤ pos b)
           ≡ cond x ((m - 1) - (b - a - 1) % m) ((a - b) % m)
-      go true e = let lt : a < b = grind (arith, nat_tests) in let z : pos a -ℤ pos b ≡ negsuc (b - a - 1) =
-          omega (arith, ints) in ap (reduced m) z
-      go false e = let le : b ≤ a = grind (arith, nat_tests) in let z : pos a -ℤ pos b ≡ pos (a - b) =
-          omega (arith, ints) in ap (reduced m) z
+      go true e =
+          let lt : a < b = grind (arith, nat_tests) in
+          let z : pos a -ℤ pos b ≡ negsuc (b - a - 1) = omega (arith, ints) in ap (reduced m) z
+      go false e =
+          let le : b ≤ a = grind (arith, nat_tests) in let z : pos a -ℤ pos b ≡ pos (a - b) = omega (arith, ints) in
+          ap (reduced m) z
 
   pub less_uint : reduced 4294967296 (pos a -ℤ pos b) ≡ ((a + (2 ^ 64 - b)) % 2 ^ 64) % 2 ^ 32
   less_uint = less 4294967296 ∙ go (nat_lt a b) refl
@@ -255,8 +257,9 @@ same_some x y h = cc h
 -- the word of a number of a long's range is one of a long
 pub long_word : (z r : ℤ) → Lies (negsuc 9223372036854775807) (pos 9223372036854775807) z r
     → IsWord Long (word z)
-long_word (pos n) r l = let a = l.above in let b = l.below in
-    let h : n < 9223372036854775808 = omega (arith, ints) in record { below = omega arith; narrow = omega arith }
+long_word (pos n) r l =
+    let a = l.above in let b = l.below in let h : n < 9223372036854775808 = omega (arith, ints) in
+    record { below = omega arith; narrow = omega arith }
 long_word (negsuc n) r l = record { below = omega arith; narrow = omega arith }
 
 -- a quotient that is there is in its type, and its divisor is not 0
@@ -286,8 +289,8 @@ not_zero k b h = go (nat_eq b 0) refl
 
     go : (x : Bool) → nat_eq b 0 ≡ x → x ≡ false
     go false e = refl
-    go true e = let z : b ≡ 0 = grind (arith, nat_tests) in
-        sym (zero_number k) ∙ ap (λ b. is_zero (number k b)) (sym z) ∙ h
+    go true e =
+        let z : b ≡ 0 = grind (arith, nat_tests) in sym (zero_number k) ∙ ap (λ b. is_zero (number k b)) (sym z) ∙ h
 
 -- what a division gives, whose divisor is not 0
 pub record Quotient (k : Kind) (b x w : ℕ) : Type 0 where
@@ -492,8 +495,8 @@ module _ (a b w : ℕ) where
   remainder_gives UChar t f g h = absurd t
   remainder_gives Int t f g h =
       let x = word_of_is _ w h in
-      let r = provided_is (quotient Int (number Int a) (number Int b))
-      (int_rem (number Int a) (number Int b)) x.0 x.1 in
+      let r = provided_is (quotient Int (number Int a) (number Int b)) (int_rem (number Int a) (number Int b)) x.0
+      x.1 in
       let d = quotient_is Int (number Int a) (number Int b) r.0 r.1 in
       let z = not_zero Int b d.some in
       let l = between_is (negsuc 2147483647) (pos 2147483647) (int_div (number Int a) (number Int b)) r.0 d.kept in
@@ -510,8 +513,8 @@ module _ (a b w : ℕ) where
       }
   remainder_gives UInt t f g h =
       let x = word_of_is _ w h in
-      let r = provided_is (quotient UInt (number UInt a) (number UInt b))
-      (int_rem (number UInt a) (number UInt b)) x.0 x.1 in
+      let r = provided_is (quotient UInt (number UInt a) (number UInt b)) (int_rem (number UInt a) (number UInt b))
+      x.0 x.1 in
       let d = quotient_is UInt (number UInt a) (number UInt b) r.0 r.1 in
       let z = not_zero UInt b d.some in
       let e : a % b ≡ w = ap word (sym (natural_rem b z) ∙ r.2) ∙ x.2 in
@@ -526,8 +529,8 @@ module _ (a b w : ℕ) where
       }
   remainder_gives Long t f g h =
       let x = word_of_is _ w h in
-      let r = provided_is (quotient Long (number Long a) (number Long b))
-      (int_rem (number Long a) (number Long b)) x.0 x.1 in
+      let r = provided_is (quotient Long (number Long a) (number Long b)) (int_rem (number Long a) (number Long b))
+      x.0 x.1 in
       let d = quotient_is Long (number Long a) (number Long b) r.0 r.1 in
       let z = not_zero Long b d.some in
       let l = between_is (negsuc 9223372036854775807) (pos 9223372036854775807)

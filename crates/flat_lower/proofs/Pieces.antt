@@ -104,8 +104,8 @@ module _ (P : TypedProgram) (fs : List Function) (base : ℕ) where
         };
         sum = λ to v w nv h.
             let p = puts_frame S.env f 81 81 off in
-            let q = puts_let fs base S.env op.Add (Var v) (Var 81) p.to 1 to 81 w at ((w + at) % 2 ^ 64)
-            (omega arith) (var_read fs base S.env p.to v w (p.sets.others v nv nv ∙ h))
+            let q = puts_let fs base S.env op.Add (Var v) (Var 81) p.to 1 to 81 w at ((w + at) % 2 ^ 64) (omega arith)
+            (var_read fs base S.env p.to v w (p.sets.others v nv nv ∙ h))
             (var_read fs base S.env p.to 81 at p.sets.value) refl in
             puts_spare fs base S.env (only (Frame 81 off))
             (only (Let to op.Add (Var v) (Var 81))) f 1 1 to 81 at ((w + at) % 2 ^ 64) p q;

@@ -295,8 +295,8 @@ module _ (P : TypedProgram) (most : ℕ) (S : Scene) (y : IsScene P S) where
       let o = (place_is P fs b S y p k i.number s g v.keeps.rel t i.array).array in
       let pa = address_puts P fs b S y p k i.number s g v.keeps.rel t i.array o (temp d) (temp d) w (omega arith)
       (λ e. omega arith) (λ e. omega arith) v.is in
-      let z = element_loaded p k i.number w u
-      (addressed P fs b k w o.it.at) s g pa.to o eu v.keeps.rel refl pa.sets.memory in
+      let z = element_loaded p k i.number w u (addressed P fs b k w o.it.at) s g pa.to o eu v.keeps.rel refl
+      pa.sets.memory in
       let pl = puts_load P fs b S.env (load_op k) (Var (temp d)) pa.to (temp d) 81 (addressed P fs b k w o.it.at) u
       (var_read fs b S.env pa.to (temp d) (addressed P fs b k w o.it.at) pa.sets.value) z.0 in
       value_end P most S y d (Some k) f0 g (Then a l) 4 81 u top low s k ld

@@ -134,8 +134,8 @@ module _ (P : TypedProgram) (sound : FitsSource (source_of P)) where
   }
 
   frames_is : frames_from P ≡ room_of P.globals
-  frames_is = let w = room_whole P.globals in ap rounded (images_length P.globals sound.globals)
-      ∙ go (room_of P.globals) w
+  frames_is =
+      let w = room_whole P.globals in ap rounded (images_length P.globals sound.globals) ∙ go (room_of P.globals) w
     where
       go : (n : ℕ) → n % 8 ≡ 0 → rounded n ≡ n
       go n h = omega arith
@@ -151,9 +151,11 @@ module _ (P : TypedProgram) (sound : FitsSource (source_of P)) where
         room = omega (arith, sound.room);
         few = omega arith;
         words = refl;
-        globals = λ g x h. let z : 0 + bytes_before (map global_bytes P.globals) g
-            ≡ bytes_before (map global_bytes P.globals) g = omega arith in
-            objects_at 0 P.globals g x h ∙ ap (λ at. Some (object at x.kind (length_of x.length))) z;
+        globals =
+            λ g x h.
+            let z : 0 + bytes_before (map global_bytes P.globals) g ≡ bytes_before (map global_bytes P.globals) g =
+            omega arith in objects_at 0 P.globals g x h
+            ∙ ap (λ at. Some (object at x.kind (length_of x.length))) z;
         arrays = λ a x h. absurd (cc h);
       }
 

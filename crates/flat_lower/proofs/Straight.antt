@@ -593,18 +593,18 @@ module _ (fs : List Function) (base : ℕ) (e : Env) where
       (e ∙ g.is ∙ sym (converted_is ULong b.middle g.fits) ∙ b.is))
 
   bump_fits : (o : BumpOp) (k : Kind) (old w : ℕ) → old < 2 ^ 64 → Bumped o k old w → IsWord k w
-  bump_fits o Char old w p b = let g = bump_gives o Int old b.middle p tt b.done in
-      subst (IsWord Char) b.is (converted_word Char b.middle)
-  bump_fits o UChar old w p b = let g = bump_gives o Int old b.middle p tt b.done in
-      subst (IsWord UChar) b.is (converted_word UChar b.middle)
-  bump_fits o Int old w p b = let g = bump_gives o Int old b.middle p tt b.done in
-      subst (IsWord Int) b.is (converted_word Int b.middle)
-  bump_fits o UInt old w p b = let g = bump_gives o UInt old b.middle p tt b.done in
-      subst (IsWord UInt) b.is (converted_word UInt b.middle)
-  bump_fits o Long old w p b = let g = bump_gives o Long old b.middle p tt b.done in
-      subst (IsWord Long) b.is (converted_word Long b.middle)
-  bump_fits o ULong old w p b = let g = bump_gives o ULong old b.middle p tt b.done in
-      subst (IsWord ULong) b.is (converted_word ULong b.middle)
+  bump_fits o Char old w p b =
+      let g = bump_gives o Int old b.middle p tt b.done in subst (IsWord Char) b.is (converted_word Char b.middle)
+  bump_fits o UChar old w p b =
+      let g = bump_gives o Int old b.middle p tt b.done in subst (IsWord UChar) b.is (converted_word UChar b.middle)
+  bump_fits o Int old w p b =
+      let g = bump_gives o Int old b.middle p tt b.done in subst (IsWord Int) b.is (converted_word Int b.middle)
+  bump_fits o UInt old w p b =
+      let g = bump_gives o UInt old b.middle p tt b.done in subst (IsWord UInt) b.is (converted_word UInt b.middle)
+  bump_fits o Long old w p b =
+      let g = bump_gives o Long old b.middle p tt b.done in subst (IsWord Long) b.is (converted_word Long b.middle)
+  bump_fits o ULong old w p b =
+      let g = bump_gives o ULong old b.middle p tt b.done in subst (IsWord ULong) b.is (converted_word ULong b.middle)
 
   -- one more or one less of x, in another variable or its own, in at most two turns
   pub bump_works : (o : BumpOp) (k : Kind) (f : State) (spare to x old w : ℕ) → f.vars x ≡ Some old

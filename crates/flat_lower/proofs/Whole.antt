@@ -135,11 +135,11 @@ module _ (P : TypedProgram) (most : ℕ) (sound : FitsSource (source_of P)) (lar
         → Ends most (suc n) main_run (then r
         (left true [] (length (evaluation.start P input n).arrays) 0 0))
     comes_out (Go Nothing s) h =
-        let end = both_lead checked (functions P most) (base P most) env B
-        (only (flat.Return (Some (Const 0)))) first h.to h.t 1 (Gave (Some 0) h.to) h.leads
-        (return_leads checked (functions P most) (base P most) env (Const 0) h.to 0 refl) in
-        let whole : Leads (inner F.body) (h.t + 1) (Gave (Some 0) h.to) =
-        subst (λ b. Leads (inner (Then B (end_code b))) (h.t + 1) (Gave (Some 0) h.to)) (sym is_main) end in
+        let end = both_lead checked (functions P most) (base P most) env B (only (flat.Return (Some (Const 0)))) first
+        h.to h.t 1 (Gave (Some 0) h.to) h.leads (return_leads checked (functions P most) (base P most) env
+        (Const 0) h.to 0 refl) in
+        let whole : Leads (inner F.body) (h.t + 1) (Gave (Some 0) h.to) = subst
+        (λ b. Leads (inner (Then B (end_code b))) (h.t + 1) (Gave (Some 0) h.to)) (sym is_main) end in
         let m = more_rounds most h.to.rounds in
         let z = size in
         record {
@@ -198,22 +198,21 @@ module _ (P : TypedProgram) (most : ℕ) (sound : FitsSource (source_of P)) (lar
   main_enters : (n : ℕ) (b : Bool) → nat_le (0 + frame f) 1048576 ≡ b
       → Ends most (suc n) main_run (entered_if (meaning P) true b f [] (evaluation.start P input n))
   main_enters n false e =
-      let same : 0 + frame f ≡ 0 + frame_of F =
-      ap (λ n. 0 + n) (frame_is P f F (lowered_is P most f (nat_eq P.main P.main))) in
-      let full : nat_lt frame_limit (0 + frame_of F) ≡ true =
-      subst (λ m. nat_lt m (0 + frame_of F) ≡ true) (sym limit)
-      (beyond (0 + frame_of F) 1048576 (subst (λ x. nat_le x 1048576 ≡ false) same e)) in
+      let same : 0 + frame f ≡ 0 + frame_of F = ap (λ n. 0 + n)
+      (frame_is P f F (lowered_is P most f (nat_eq P.main P.main))) in
+      let full : nat_lt frame_limit (0 + frame_of F) ≡ true = subst (λ m. nat_lt m (0 + frame_of F) ≡ true)
+      (sym limit) (beyond (0 + frame_of F) 1048576 (subst (λ x. nat_le x 1048576 ≡ false) same e)) in
       record { t = 1; upper = omega arith; leads = call_dives P most 0 P.main f found [] g0 full }
   main_enters n true e =
       let is = lowered_is P most f (nat_eq P.main P.main) in
-      let fits : FitsFunc (source_of P) (func_of f) =
-      sound.each P.main (func_of f) (func_at P.functions P.main f found) in
+      let fits : FitsFunc (source_of P) (func_of f) = sound.each P.main (func_of f)
+      (func_at P.functions P.main f found) in
       let few = fits.scalars in
       let z = size in
       let same : 0 + frame f ≡ 0 + frame_of F = ap (λ n. 0 + n) (frame_is P f F is) in
       let below : nat_le (0 + frame_of F) 1048576 ≡ true = subst (λ x. nat_le x 1048576 ≡ true) same e in
-      let room : nat_lt frame_limit (0 + frame_of F) ≡ false =
-      subst (λ m. nat_lt m (0 + frame_of F) ≡ false) (sym limit) (within (0 + frame_of F) 1048576 below) in
+      let room : nat_lt frame_limit (0 + frame_of F) ≡ false = subst (λ m. nat_lt m (0 + frame_of F) ≡ false)
+      (sym limit) (within (0 + frame_of F) 1048576 below) in
       let le : 0 + frame_of F ≤ frame_limit = subst (λ m. 0 + frame_of F ≤ m) (sym limit)
       (under (0 + frame_of F) 1048576 below) in
       let all = sound.room in
