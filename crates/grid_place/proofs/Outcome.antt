@@ -167,7 +167,7 @@ module _ (p q : ℕ → ℕ) (b c : Block) (fits : FitsBlock b) (good : GoodBloc
   pub token_alike : (r : ℕ) → r < 449 → at_place b f r ≡ at_place c g (place_goes p r)
   token_alike r lt = first_alike (nodes_of b) (nodes_of c) (place_goes p) (node_goes p b)
       (node_goes q c) stand f g same r
-      (one_gives b fits good answers f solves f (λ x e. e) r lt)
+      (one_gives b fits good responses f solves f (λ x e. e) r lt)
 
   left_alike : (s : ℕ) → s < 128 → at_place b f s ≡ at_place c g (p s)
   left_alike s l = token_alike s (omega arith) ∙ ap (at_place c g) (left_goes p s l)
@@ -220,7 +220,7 @@ module _ (p q : ℕ → ℕ) (b c : Block) (fits : FitsBlock b) (good : GoodBloc
   pub store_alike : (n : ℕ) → n < 33 → store_of b f n ≡ store_of c g n
   store_alike n lt = first_alike (nodes_of b) (nodes_of c) (place_goes p) (node_goes p b)
       (node_goes q c) stand (stored_by b f) (stored_by c g) stored_alike (416 + n)
-      (one_gives b fits good answers f solves (stored_by b f) (stored_silent b f) (416 + n)
+      (one_gives b fits good responses f solves (stored_by b f) (stored_silent b f) (416 + n)
       (omega arith))
       ∙ ap (λ r. first (nodes_of c) r (stored_by c g)) (place_stays p (416 + n) (omega arith))
 

@@ -14,17 +14,17 @@ use Rattle.block_cases.proofs.law.good_blocks_keep_one_token.Goals as goal
 
 law : (b : Block) → FitsBlock b → GoodBlock b → (responses : Responses) (g : ℕ → Answer)
     → Solves b responses g → OneToken (nodes_of b) (wanted_of b) (λ x. shape (g x))
-law b f good answers g t = good_machine (nodes_of b) (wanted_of b) good.ranked
+law b f good responses g t = good_machine (nodes_of b) (wanted_of b) good.ranked
     (nodes_placed b f) good.good (computes b responses) g t
 
 pub returns-clause-tokens : goal.returns-clause-tokens
 returns-clause-tokens c = law
 
 pub returns-clause-producers : goal.returns-clause-producers
-returns-clause-producers c = λ b f good answers g t q x y lt n k p r. one_producer (nodes_of b)
+returns-clause-producers c = λ b f good responses g t q x y lt n k p r. one_producer (nodes_of b)
     (λ z. shape (g z)) q (one_at_most (nodes_of b) (wanted_of b) (λ z. shape (g z))
-    (law b f good answers g t) q lt) x y n k (present_shape (g x) p) (present_shape (g y) r)
+    (law b f good responses g t) q lt) x y n k (present_shape (g x) p) (present_shape (g y) r)
 
 pub returns-clause-once : goal.returns-clause-once
-returns-clause-once c = λ b f good answers g t. fires_once (nodes_of b) (wanted_of b) g
-    (law b f good answers g t)
+returns-clause-once c = λ b f good responses g t. fires_once (nodes_of b) (wanted_of b) g
+    (law b f good responses g t)
