@@ -1,5 +1,6 @@
 ghost use Rattle.std.specs.Prelude.{◌≡◌, ◌<◌, ◌≤◌, ◌+◌, ◌^◌, [], ◌∷◌, ◌++◌, Some, All, length};
-ghost use Rattle.std.specs.Prelude.{slice_get};
+ghost use Rattle.std.specs.Prelude.{slice_get, List, sum_by};
+ghost use Rattle.trips_isa.specs.declared.block.Block.{Block};
 ghost use Rattle.std.specs.Prelude.{IfOk, IfErr, OnOk};
 ghost use Rattle.trips_isa.specs.Fits.{FitsBlock};
 ghost use Rattle.trips_isa.specs.Alu.{word};
@@ -125,6 +126,18 @@ fn copy_blocks(alloc: Global, blocks: &[CheckedBlock]) -> Result<Vec<Block>, All
     Ok(copy)
 }
 
+// The chunk, or one at which no block of an image starts where none starts at this one.
+fn capped(chunk: u64) -> u32
+    ensures { (blocks : List Block) → sum_by chunks blocks ≤ 524288
+        → block_at blocks result ≡ block_at blocks chunk }
+{
+    if chunk < 524_288 {
+        chunk as u32
+    } else {
+        524_288
+    }
+}
+
 impl CheckedImage {
     /// Checks the blocks of an image in their order.
     pub fn make(alloc: Global, image: Image) -> Result<CheckedImage, ImageRefusal>
@@ -195,11 +208,7 @@ impl CheckedImage {
         ensures within { result < length self.now.blocks }
         ensures image { IsCheckedImage self.now }
     {
-        if chunk < 524_288 {
-            self.starting_at(chunk as u32).unwrap_or(0)
-        } else {
-            0
-        }
+        self.starting_at(capped(chunk)).unwrap_or(0)
     }
 
     /// The block after this one; after the last, block 0.
