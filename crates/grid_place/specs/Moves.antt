@@ -59,6 +59,12 @@ renamed_inst p i = record {
   second = option_map (renamed p) i.second;
 }
 
+-- the parts of a block have their sizes, whatever stands in them
+pub record HasSizes (b : Block) : Type 0 where
+  pub reads : length b.reads.items ≤ 32
+  pub writes : length b.writes.items ≤ 32
+  pub insts : length b.insts.items ≡ 128
+
 -- c is b with the instruction of each slot s at p s, every target renamed with it
 pub record IsMoved (p : ℕ → ℕ) (b c : Block) : Type 0 where
   pub reads : c.reads.items ≡ map (renamed_read p) b.reads.items
