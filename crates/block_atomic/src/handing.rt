@@ -74,7 +74,7 @@ pub fn hand_from(
 
 /// Keeps what a slot that gives `answer` stores, under its number, and says whether nothing was kept
 /// there and no load of a greater number was asked before.
-#[tactic(auto, using(crate::proofs::Ordered::kept_fresh))]
+#[tactic(auto, using(crate::proofs::Ordered::idle_inst, crate::proofs::Ordered::idle_form, crate::proofs::Ordered::idle_answer, crate::proofs::Ordered::kept_fresh))]
 pub fn keep_from(
     stores: &mut [Option<Stored>],
     places: &[Option<Token>],
@@ -94,15 +94,12 @@ pub fn keep_from(
         (kept_by (λ q. slice_index_or places.now q None) n (λ j. answer) slot inst) }
 {
     let Some(store) = inst else {
-        #[tactic(auto, using(crate::proofs::Ordered::idle_inst))]
         return true;
     };
     if answer.is_none() {
-        #[tactic(auto, using(crate::proofs::Ordered::idle_answer))]
         return true;
     }
     if form_of(store.op) != Form::Store {
-        #[tactic(auto, using(crate::proofs::Ordered::idle_form))]
         return true;
     }
     let empty = stores[store.number as usize].is_none();
