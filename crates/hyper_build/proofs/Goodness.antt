@@ -17,16 +17,16 @@ use Rattle.hyper_build.specs.BackwardStatements.{chained, moving, back_out, call
 use Rattle.hyper_build.specs.BackwardCode.{exit_of, leg_out, end_of_body}
 use Rattle.hyper_build.specs.BackwardCode.{emit_in, emit}
 
-cut_good : (c : Bool) (s : Emission) → (cut_at c s).good ≡ s.good
+pub cut_good : (c : Bool) (s : Emission) → (cut_at c s).good ≡ s.good
 cut_good true s = refl
 cut_good false s = refl
 
-chained_good : (part : List ℕ → Block → Block) (gs : List (List ℕ)) (s : Emission)
+pub chained_good : (part : List ℕ → Block → Block) (gs : List (List ℕ)) (s : Emission)
     → (chained part gs s).good ≡ s.good
 chained_good part [] s = refl
 chained_good part (g ∷ gs) s = chained_good part gs s
 
-moving_good : (cuts : ℕ → Bool) (i : ℕ) (xs : List Move) (s : Emission)
+pub moving_good : (cuts : ℕ → Bool) (i : ℕ) (xs : List Move) (s : Emission)
     → (moving cuts i xs s).good ≡ s.good
 moving_good cuts i [] s = refl
 moving_good cuts i (x ∷ xs) s =
@@ -36,17 +36,17 @@ pub leg_good : (e : Option ℕ) (s : Emission) → (leg_out e s).good ≡ s.good
 leg_good None s = refl
 leg_good (Some to) s = refl
 
-before_good : (p : Plan) (s : Emission) → (before p s).good ≡ s.good
+pub before_good : (p : Plan) (s : Emission) → (before p s).good ≡ s.good
 before_good p s = cut_good (p.cut (s.place - 1)) (fall s)
 
-back_good : (p : Plan) (frame : ℕ) (to : Option ℕ) (s : Emission)
+pub back_good : (p : Plan) (frame : ℕ) (to : Option ℕ) (s : Emission)
     → (back_out p frame to s).good ≡ s.good
 back_good p frame to s =
     let t = before p (fall_call s) in
     chained_good (restoring frame) (p.groups t.calls) (with_rest (result_then to t.rest) t)
     ∙ before_good p (fall_call s)
 
-call_good : (p : Plan) (frame entry : ℕ) (args : List Arg) (t : Emission)
+pub call_good : (p : Plan) (frame entry : ℕ) (args : List Arg) (t : Emission)
     → (call_out p frame entry args t).good ≡ t.good
 call_good p frame entry args t =
     let u = with_rest (call_block entry t.label) t in

@@ -28,7 +28,7 @@ pub record HasExit (g : Ground) (b a join i k : ℕ) (c : Code) : Type 0 where
   pub empty : size (annotated (plan g) i k c) ≡ 0
   pub bare : (l : ℕ) (r : Block) → blocks (place g b a) (annotated (plan g) i k c) l r ≡ []
 
-kind : (g : Ground) (b a join i k : ℕ) (c : Code)
+pub kind : (g : Ground) (b a join i k : ℕ) (c : Code)
     → NoExit g b a join i k c ⊎ HasExit g b a join i k c
 kind g b a join i k Nop =
     inr (record { to = join; code = refl; tree = refl; sized = λ n. refl; empty = refl; bare = λ l r. refl })

@@ -93,7 +93,7 @@ pub fn argument_at(i: usize) -> Result<u8, Memory>
 }
 
 /// Whether a call that is cut small ends a block behind an argument.
-fn argument_cuts(small: bool, i: usize) -> bool
+pub fn argument_cuts(small: bool, i: usize) -> bool
     ensures { result ≡ passing.argument_cuts small i }
 {
     small && (i == 2 || i == 5)
@@ -157,8 +157,9 @@ pub fn put_back(
 {
     fall_call(emitting);
     before(emitting, alloc, site)?;
+    let groups = site.groups_of(emitting.calls);
     put_result(emitting, to)?;
-    put_restores(emitting, alloc, site.frame, site.groups_of(emitting.calls))?;
+    put_restores(emitting, alloc, site.frame, groups)?;
     put_out(emitting, alloc)
 }
 
@@ -175,8 +176,10 @@ pub fn put_call(
         (ground.entry_at site.now.entries function) args.now (emission_of emitting.old)) }
 {
     let to = site.entry(function);
+    let groups = site.groups_of(emitting.calls);
+    let small = site.cuts(emitting.place);
     let back = emitting.label;
     put_rest(emitting, leave(alloc, Exit::Call { to, back }));
-    put_arguments(emitting, alloc, site.cuts(emitting.place), args)?;
-    put_saves(emitting, alloc, site.frame, site.groups_of(emitting.calls))
+    put_arguments(emitting, alloc, small, args)?;
+    put_saves(emitting, alloc, site.frame, groups)
 }

@@ -11,9 +11,7 @@ ghost use Rattle.hyper_build.specs.Emitted.{rest_of};
 ghost use Rattle.hyper_build.specs.Ground as ground;
 
 use crate::calling::{put_back, put_call};
-use crate::emitting::{
-    Emitting, compare, fall, fallen, number_loop, put_out, put_rest, take_note,
-};
+use crate::emitting::{Emitting, compare, fall, fallen, put_out, put_rest, take_note};
 use crate::ground::Site;
 use crate::operands::source;
 use crate::rest::{Rest, jump};
@@ -46,7 +44,7 @@ fn exit_in(s: &FlatStmt, broke: u32, again: u32) -> Option<u32>
 }
 
 /// Where a leg that has no block of its own leads.
-fn exit_of(stmts: &[FlatStmt], join: u32, broke: u32, again: u32) -> Option<u32>
+pub fn exit_of(stmts: &[FlatStmt], join: u32, broke: u32, again: u32) -> Option<u32>
     ensures { result ≡ code.exit_of join broke again (code_of stmts.now) }
 {
     let (first, rest) = match stmts.split_first() {
@@ -179,7 +177,6 @@ fn put_stmt(
             put_out(emitting, alloc)?;
             let behind = emitting.label;
             let note = take_note(emitting);
-            let number = number_loop(emitting)?;
             put_rest(emitting, jump(alloc, note.head));
             put_stmts(post.as_slice(), emitting, alloc, site, behind, note.next)?;
             put_out(emitting, alloc)?;
@@ -189,7 +186,7 @@ fn put_stmt(
             put_rest(emitting, rest);
             put_stmts(body.as_slice(), emitting, alloc, site, behind, next)?;
             put_out(emitting, alloc)?;
-            compare(emitting, note, next, number);
+            compare(emitting, note, next);
             fall(emitting);
         }
         FlatStmt::Break => put_jump(emitting, alloc, broke),

@@ -105,21 +105,18 @@ fn plan(alloc: Global, answers: u32) -> Result<CutPlan, Memory> {
     Ok(CutPlan { cuts })
 }
 
-fn emitted(
-    alloc: Global,
-    stmts: &[FlatStmt],
-    plan: &CutPlan,
-    notes: Items<Note>,
-) -> Result<Emitting, Memory> {
+fn emitted(alloc: Global, plan: &CutPlan, note: Note) -> Result<Emitting, Memory> {
+    let stmts = every(alloc)?;
     let groups = two_groups(alloc)?;
     let entries = Items::from_slice(alloc, &[3])?;
+    let mut notes = Items::new(alloc);
+    notes.push(note)?;
     let mut emitting = Emitting {
         label: FIRST,
         place: STATEMENTS,
         calls: 1,
         good: true,
         notes,
-        loops: Items::new(alloc),
         out: Items::new(alloc),
         rest: jump(alloc, 0),
     };
@@ -130,34 +127,21 @@ fn emitted(
         frame: 160,
         arrays: 8,
     };
-    put_stmts(stmts, &mut emitting, alloc, &site, 0, 0)?;
+    put_stmts(stmts.as_slice(), &mut emitting, alloc, &site, 0, 0)?;
     Ok(emitting)
 }
 
-/// Emits twice: without notes, and with the notes that the first time found.
-fn twice(
-    alloc: Global,
-    stmts: &[FlatStmt],
-    plan: &CutPlan,
-) -> Result<(Emitting, Emitting), Memory> {
-    let first = emitted(alloc, stmts, plan, Items::new(alloc))?;
-    let mut notes = Items::new(alloc);
-    let mut at = first.loops.len();
-    while at > 0 {
-        at -= 1;
-        notes.push(first.loops.as_slice()[at])?;
-    }
-    let second = emitted(alloc, stmts, plan, notes)?;
-    Ok((first, second))
-}
-
-fn is_whole(alloc: Global, answers: u32, blocks: u32) -> Result<bool, Memory> {
+/// Whether so many blocks are put out and each number falls to its first, with the right note of the
+/// loop, whose body begins so many blocks, and not with a wrong one.
+fn is_whole(alloc: Global, answers: u32, blocks: u32, body: u32) -> Result<bool, Memory> {
     let plan = plan(alloc, answers)?;
-    let stmts = every(alloc)?;
-    let (wrong, right) = twice(alloc, stmts.as_slice(), &plan)?;
+    let head = FIRST - blocks;
+    let next = head + 1 + body;
+    let right = emitted(alloc, &plan, Note { head, place: 1, next })?;
+    let wrong = emitted(alloc, &plan, Note { head, place: 1, next: head })?;
     Ok(
         right.good
-            && right.label == FIRST - blocks
+            && right.label == head
             && right.place == 0
             && right.calls == 0
             && right.out.len() == blocks as usize
@@ -174,27 +158,6 @@ fn is_so(answer: Result<bool, Memory>) -> bool {
 
 #[test]
 fn every_statement_is_put_out_with_its_blocks(rt: HostRuntime) {
-    assert!(&rt; is_so(is_whole(rt.alloc(), 0, CUT_BLOCKS)), "cut everywhere");
-    assert!(&rt; is_so(is_whole(rt.alloc(), STATEMENTS, UNCUT_BLOCKS)), "cut nowhere");
-}
-
-/// A loop with a break, and a loop in its body and in its post.
-fn nested(alloc: Global) -> Result<Items<FlatStmt>, Memory> {
-    let mut body = only(alloc, FlatStmt::Break)?;
-    put_looping(&mut body, alloc)?;
-    let mut post = only(alloc, set(1))?;
-    put_looping(&mut post, alloc)?;
-    only(alloc, FlatStmt::Loop { body, post })
-}
-
-fn has_notes(alloc: Global) -> Result<bool, Memory> {
-    let plan = plan(alloc, 3)?;
-    let stmts = nested(alloc)?;
-    let (wrong, right) = twice(alloc, stmts.as_slice(), &plan)?;
-    Ok(right.good && right.loops.len() == 3 && !wrong.good)
-}
-
-#[test]
-fn loops_in_loops_have_their_notes(rt: HostRuntime) {
-    assert!(&rt; is_so(has_notes(rt.alloc())), "three loops");
+    assert!(&rt; is_so(is_whole(rt.alloc(), 0, CUT_BLOCKS, 2)), "cut everywhere");
+    assert!(&rt; is_so(is_whole(rt.alloc(), STATEMENTS, UNCUT_BLOCKS, 1)), "cut nowhere");
 }

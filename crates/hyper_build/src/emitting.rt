@@ -24,8 +24,7 @@ pub struct Note {
 /// The blocks that are put out, the last first, with the label of the first, the numbers of
 /// statements and calls before, the notes of the loops before, and the rest of the block before.
 ///
-/// `good` says that each loop behind had its note. `loops` are the notes that they should have had, in
-/// the order in which their ends were reached.
+/// `good` says that each loop behind had its note.
 #[derive(Drop)]
 pub struct Emitting {
     pub label: u32,
@@ -33,7 +32,6 @@ pub struct Emitting {
     pub calls: u32,
     pub good: bool,
     pub notes: Items<Note>,
-    pub loops: Items<Note>,
     pub out: Items<HyperBlock>,
     pub rest: Rest,
 }
@@ -97,20 +95,17 @@ pub fn put_move(emitting: &mut Emitting, to: u8, from: Source) -> Result<(), Mem
     put_set(&mut emitting.rest, to, Op::Mov, from, Source::Const(0))
 }
 
-/// The note of a loop of which nothing is known.
-const NO_NOTE: Note = Note {
-    head: 0,
-    place: 0,
-    next: 0,
-};
-
 /// Takes the last note; where there is none, zeros.
 fn take_last(notes: &mut Items<Note>) -> Note
     ensures last { result ≡ back.last_note notes.old }
     ensures front { notes.new ≡ back.front_notes notes.old }
 {
     match notes.pop() {
-        None => NO_NOTE,
+        None => Note {
+            head: 0,
+            place: 0,
+            next: 0,
+        },
         Some(note) => note,
     }
 }
@@ -123,29 +118,10 @@ pub fn take_note(emitting: &mut Emitting) -> Note
     take_last(&mut emitting.notes)
 }
 
-/// The number of a loop whose end is reached, in the order of these.
-pub fn number_loop(emitting: &mut Emitting) -> Result<usize, Memory>
-    ensures { OnOk result (emission_of emitting.new ≡ emission_of emitting.old) }
-{
-    let number = emitting.loops.len();
-    emitting.loops.push(NO_NOTE)?;
-    Ok(number)
-}
-
-/// Keeps the note that a loop should have had.
-fn keep_note(loops: &mut Items<Note>, number: usize, note: Note) {
-    if number < loops.len() {
-        loops.set(number, note);
-    }
-}
-
 /// Compares a loop with its note once its first block is put out, where its post begins at `next`.
-pub fn compare(emitting: &mut Emitting, note: Note, next: u32, number: usize)
+pub fn compare(emitting: &mut Emitting, note: Note, next: u32)
     ensures { emission_of emitting.new ≡ back.noted note next (emission_of emitting.old) }
 {
-    let head = emitting.label;
-    let place = emitting.place;
-    emitting.good =
-        emitting.good && (head == note.head && (place == note.place && next == note.next));
-    keep_note(&mut emitting.loops, number, Note { head, place, next });
+    emitting.good = emitting.good
+        && (emitting.label == note.head && (emitting.place == note.place && next == note.next));
 }
