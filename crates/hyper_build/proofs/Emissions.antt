@@ -1,7 +1,6 @@
 -- Emission puts out the blocks of annotated code.
 use Rattle.std.proofs.Common.{◌≡◌, ℕ, suc, ◌+◌, ◌-◌, Bool, true, false, ◌&&◌, ◌||◌, not, cond, List, [], ◌∷◌}
-use Rattle.std.proofs.Common.{◌++◌, length, refl, sym, ap, ap₂, ◌∙◌, subst, arith, append_assoc, nat_eq}
-use Rattle.std.proofs.lemmas.Bool.Decides.{nat_tests}
+use Rattle.std.proofs.Common.{◌++◌, length, refl, sym, ap, ap₂, ◌∙◌, subst, arith, append_assoc, append-nil}
 use Rattle.trips_isa.specs.declared.op.Op.TheVariants.{Mov, Sub}
 use Rattle.ir_forms.specs.declared.flat.Arg.{Arg}
 use Rattle.ir_forms.specs.declared.hyper.Source.TheVariants.{Const, Reg}
@@ -22,14 +21,15 @@ use Rattle.hyper_build.specs.Straight.{leg_size, size_in, size, exit_leg, label_
 use Rattle.hyper_build.specs.Build.{give, body_end, entry_in, entry, blocks_in, blocks}
 use Rattle.hyper_build.specs.Ground.{Ground, plan, place, left, entry_at}
 use Rattle.hyper_build.specs.Backward.{Emission, with_rest, put_out, fall, before, setting, last_note}
-use Rattle.hyper_build.specs.Backward.{without_note, noted}
+use Rattle.hyper_build.specs.Backward.{without_note, front_notes}
 use Rattle.hyper_build.specs.BackwardStatements.{put_byte, get_byte, leaving}
 use Rattle.hyper_build.specs.BackwardItems.{is_straight_in, is_straight, straight_items_in, straight_items}
 use Rattle.hyper_build.specs.BackwardCode.{exit_of, leg_out, test_block, end_of_body, emit_in, emit}
+use Rattle.hyper_build.specs.Notes.{note_of, notes_in, notes_of}
 use Rattle.hyper_build.specs.Reached.{Reached, IsReached}
 use Rattle.hyper_build.proofs.Reaching.{joined, mapped, one_less, before_reached, call_reached}
 use Rattle.hyper_build.proofs.ReachingLegs.{LegAt, leg_reached}
-use Rattle.hyper_build.proofs.Goodness.{good_in, good_of, both_left, both_right, leg_good}
+use Rattle.hyper_build.proofs.LastNotes.{last_behind, front_before}
 
 -- STRAIGHT CODE
 
@@ -104,20 +104,23 @@ if_by g b a x one other j u =
     (first_by g b a one other j u)
 
 if_reached : (g : Ground) (b a : ℕ) (x : Arg) (one other : Code) (c : Bool) (j l i k : ℕ)
-    (u : Emission) (top : Block) (o : List Block)
+    (N : List Note) (u : Emission) (top : Block) (o : List Block)
     → IsReached g b a one → IsReached g b a other
     → u.label ≡ j → u.place ≡ i + 1 + steps_of one + steps_of other
     → u.calls ≡ k + calls one + calls other → u.rest ≡ jump j → u.out ≡ top ∷ o
     → j ≡ l + leg_size (annotated (plan g) (i + 1) k one) (size (annotated (plan g) (i + 1) k one))
     + leg_size (annotated (plan g) (i + 1 + steps_of one) (k + calls one) other)
     (size (annotated (plan g) (i + 1 + steps_of one) (k + calls one) other))
-    → (if_by g b a x one other j u).good ≡ true
-    → Reached o (if_by g b a x one other j u) l i k
+    → u.notes ≡ (N ++ notes_of (plan g) (l + 1) (i + 1) k one)
+    ++ notes_of (plan g)
+    (l + leg_size (annotated (plan g) (i + 1) k one) (size (annotated (plan g) (i + 1) k one)) + 1)
+    (i + 1 + steps_of one) (k + calls one) other
+    → Reached o (if_by g b a x one other j u) l i k N
     (blocks_in (place g b a) (IfAt c false x (annotated (plan g) (i + 1) k one)
     (annotated (plan g) (i + 1 + steps_of one) (k + calls one) other)) l top)
     (entry_in (place g b a) (IfAt c false x (annotated (plan g) (i + 1) k one)
     (annotated (plan g) (i + 1 + steps_of one) (k + calls one) other)) l top)
-if_reached g b a x one other c j l i k u top o f1 f2 el ei ek er eo ej h =
+if_reached g b a x one other c j l i k N u top o f1 f2 el ei ek er eo ej en =
     let p = place g b a in
     let A = annotated (plan g) (i + 1) k one in
     let C = annotated (plan g) (i + 1 + steps_of one) (k + calls one) other in
@@ -129,24 +132,24 @@ if_reached g b a x one other c j l i k u top o f1 f2 el ei ek er eo ej h =
     let u2 = leg_out e2 t2 in
     let s1 = with_rest (jump j) u2 in
     let t1 = emit g b a one s1 in
-    let h1 = sym (leg_good e1 t1) ∙ h in
-    let h2 = sym (leg_good e2 t2) ∙ good_of g b a one s1 h1 in
-    let q2 = leg_reached g b a j (i + 1 + steps_of one) (k + calls one) other u l1 (el ∙ ej)
-    (λ m e. f2 u m (i + 1 + steps_of one) (k + calls one) e ei ek h2) in
+    let n1 = notes_of (plan g) (l + 1) (i + 1) k one in
+    let q2 = leg_reached g b a j (i + 1 + steps_of one) (k + calls one) other u l1 (N ++ n1) (el ∙ ej)
+    en (λ m e n. f2 u m (i + 1 + steps_of one) (k + calls one) (N ++ n1) e ei ek n) in
     let r2 = q2.reached in
-    let q1 = leg_reached g b a j (i + 1) k one s1 l r2.label
-    (λ m e. f1 s1 m (i + 1) k e r2.place r2.calls h1) in
+    let q1 = leg_reached g b a j (i + 1) k one s1 l N r2.label r2.notes
+    (λ m e n. f1 s1 m (i + 1) k N e r2.place r2.calls n) in
     let r1 = q1.reached in
     let B1 = leg_blocks (exit_leg p j A) (entry p A (l + 1) (jump j)) (blocks p A (l + 1) (jump j)) in
     let B2 = λ (y : Block). leg_blocks (exit_leg p j C) (entry p C (l1 + 1) y) (blocks p C (l1 + 1) y) in
     let out : u2.out ≡ B2 (jump j) ++ top ∷ o =
     r2.out ∙ ap (λ y. B2 y ++ u.out) er ∙ ap (λ y. B2 (jump j) ++ y) eo in
     let t = if_by g b a x one other j u in
-    let r : Reached o t l i k (B1 ++ (B2 (jump j) ++ top ∷ []))
+    let r : Reached o t l i k N (B1 ++ (B2 (jump j) ++ top ∷ []))
     (test_block x (label_or l (exit_leg p j A)) (label_or l1 (exit_leg p j C))) = record {
       label = r1.label;
       place = one_less (leg_out e1 t1).place i r1.place;
       calls = r1.calls;
+      notes = r1.notes;
       out = r1.out ∙ ap (λ y. B1 ++ y) (out ∙ sym (append_assoc (B2 (jump j)) (top ∷ []) o))
           ∙ sym (append_assoc B1 (B2 (jump j) ++ top ∷ []) o);
       rest = ap₂ (test_block x) q1.leads q2.leads;
@@ -156,34 +159,34 @@ if_reached g b a x one other c j l i k u top o f1 f2 el ei ek er eo ej h =
     ++ (leg_blocks (exit_leg p n C) (entry p C (l1 + 1) (jump n)) (blocks p C (l1 + 1) (jump n))
     ++ top ∷ []) in
     let E = λ (n : ℕ). test_block x (label_or l (exit_leg p n A)) (label_or l1 (exit_leg p n C)) in
-    subst (λ n. Reached o t l i k (B n) (E n)) ej r
+    subst (λ n. Reached o t l i k N (B n) (E n)) ej r
 
 -- LOOPS
-
-same_number : (i j : ℕ) → nat_eq i j ≡ true → i ≡ j
-same_number i j e = grind (arith, nat_tests)
 
 abbrev loop_by : Ground → Code → Code → Note → Emission → Emission
 loop_by g body post note behind =
     let next = put_out (emit g behind.label note.next post
     (with_rest (jump note.head) (without_note behind))) in
-    let after = end_of_body ((plan g).cut (note.place - 1)) g.arrays post next.label note.head in
-    fall (noted note next.label (put_out (emit g behind.label next.label body (with_rest after next))))
+    let after = end_of_body ((plan g).cut note.place) g.arrays post next.label note.head in
+    fall (put_out (emit g behind.label next.label body (with_rest after next)))
 
 loop_reached : (g : Ground) (b a : ℕ) (body post : Code) (note : Note) (l i k : ℕ)
-    (behind : Emission) (top : Block) (o : List Block)
+    (N : List Note) (behind : Emission) (top : Block) (o : List Block)
     → ((broke again : ℕ) → IsReached g broke again body)
     → ((broke again : ℕ) → IsReached g broke again post)
     → behind.label ≡ l + 1 + size (annotated (plan g) (i + 1) k body) + 1
     + size (annotated (plan g) (i + 1 + steps_of body) (k + calls body) post)
     → behind.place ≡ i + 1 + steps_of body + steps_of post
     → behind.calls ≡ k + calls body + calls post → behind.out ≡ top ∷ o
-    → (loop_by g body post note behind).good ≡ true
-    → Reached o (loop_by g body post note behind) l i k
+    → note ≡ note_of l i (l + 1 + size (annotated (plan g) (i + 1) k body))
+    → front_notes behind.notes ≡ (N ++ notes_of (plan g) (l + 1) (i + 1) k body)
+    ++ notes_of (plan g) (l + 1 + size (annotated (plan g) (i + 1) k body) + 1)
+    (i + 1 + steps_of body) (k + calls body) post
+    → Reached o (loop_by g body post note behind) l i k N
     (blocks_in (place g b a) (LoopAt ((plan g).cut i) (annotated (plan g) (i + 1) k body)
     (annotated (plan g) (i + 1 + steps_of body) (k + calls body) post)) l top)
     (jump l)
-loop_reached g b a body post note l i k behind top o f1 f2 el ei ek eo h =
+loop_reached g b a body post note l i k N behind top o f1 f2 el ei ek eo ex en =
     let C = annotated (plan g) (i + 1) k body in
     let D = annotated (plan g) (i + 1 + steps_of body) (k + calls body) post in
     let next = l + 1 + size C in
@@ -192,28 +195,22 @@ loop_reached g b a body post note l i k behind top o f1 f2 el ei ek eo h =
     let bl = behind.label in
     let t2 = emit g bl note.next post start in
     let nx = put_out t2 in
-    let cuts = (plan g).cut (note.place - 1) in
+    let cuts = (plan g).cut note.place in
     let after = end_of_body cuts g.arrays post nx.label note.head in
     let s1 = with_rest after nx in
     let nl = nx.label in
     let t1 = emit g bl nl body s1 in
     let u = put_out t1 in
-    let h1 = both_left t1.good _ h in
-    let tests = both_right t1.good _ h in
-    let others = both_right (nat_eq u.label note.head) _ tests in
-    let h2 = good_of g bl nl body s1 h1 in
-    let r2 = f2 bl note.next start (next + 1) (i + 1 + steps_of body) (k + calls body) el ei ek h2 in
+    let n1 = notes_of (plan g) (l + 1) (i + 1) k body in
+    let r2 = f2 bl note.next start (next + 1) (i + 1 + steps_of body) (k + calls body) (N ++ n1) el ei ek
+    en in
     let enl : nl ≡ next = one_less t2.label next r2.label in
-    let r1 = f1 bl nl s1 (l + 1) (i + 1) k (enl ∙ omega arith) r2.place r2.calls h1 in
+    let r1 = f1 bl nl s1 (l + 1) (i + 1) k N (enl ∙ omega arith) r2.place r2.calls r2.notes in
     let eul : u.label ≡ l = one_less t1.label l r1.label in
-    let head : note.head ≡ l =
-    sym (same_number u.label note.head (both_left (nat_eq u.label note.head) _ tests)) ∙ eul in
-    let np : note.place ≡ i + 1 =
-    sym (same_number u.place note.place (both_left (nat_eq u.place note.place) _ others))
-    ∙ r1.place in
-    let after_is : note.next ≡ next =
-    sym (same_number nl note.next (both_right (nat_eq u.place note.place) _ others)) ∙ enl in
-    let ecut : cuts ≡ (plan g).cut i = ap (plan g).cut (one_less note.place i np) in
+    let head : note.head ≡ l = ap (λ (x : Note). x.head) ex in
+    let np : note.place ≡ i = ap (λ (x : Note). x.place) ex in
+    let after_is : note.next ≡ next = ap (λ (x : Note). x.next) ex in
+    let ecut : cuts ≡ (plan g).cut i = ap (plan g).cut np in
     let Z = λ (m n q : ℕ). entry (place g m n) D (next + 1) (jump q) in
     let W = λ (m n q : ℕ). blocks (place g m n) D (next + 1) (jump q) in
     let X = λ (m n : ℕ) (y : Block). entry (place g m n) C (l + 1) y in
@@ -240,84 +237,116 @@ loop_reached g b a body post note l i k behind top o f1 f2 el ei ek eo h =
       label = eul;
       place = one_less u.place i r1.place;
       calls = r1.calls;
+      notes = r1.notes;
       out = out ∙ ap (λ y. y ++ o) (e1 ∙ e2 ∙ e3 ∙ e4 ∙ e5 ∙ e6);
       rest = ap jump eul;
     }
 
 -- ALL CODE
 
+-- nothing is put out, and a statement less stands before
+passed : (s : Emission) (l i k : ℕ) (N : List Note) (r : Block) → s.label ≡ l → s.place - 1 ≡ i
+    → s.calls ≡ k → s.notes ≡ N → Reached s.out (leaving r s) l i k N [] r
+passed s l i k N r el ei ek en =
+    record { label = el; place = ei; calls = ek; notes = en; out = refl; rest = refl }
+
 mutual
   pub step_reached : (g : Ground) (b a : ℕ) (x : Step) (s : Emission) (l i k : ℕ)
-      → s.label ≡ l + size_in (annotated_in (plan g) i k x) → s.place ≡ i + steps_in x
-      → s.calls ≡ k + calls_in x → (emit_in g b a x s).good ≡ true
-      → Reached s.out (emit_in g b a x s) l i k
+      (N : List Note) → s.label ≡ l + size_in (annotated_in (plan g) i k x) → s.place ≡ i + steps_in x
+      → s.calls ≡ k + calls_in x → s.notes ≡ N ++ notes_in (plan g) l i k x
+      → Reached s.out (emit_in g b a x s) l i k N
       (blocks_in (place g b a) (annotated_in (plan g) i k x) l s.rest)
       (entry_in (place g b a) (annotated_in (plan g) i k x) l s.rest)
-  step_reached g b a (Let to op x y) s l i k el ei ek h =
+  step_reached g b a (Let to op x y) s l i k N el ei ek en =
       mapped (set_then (register_of to) op (source x) (source y))
-      (before_reached (plan g) s l i k el ei (omega (arith, ek)))
-  step_reached g b a (Frame to at) s l i k el ei ek h =
+      (before_reached (plan g) s l i k N el ei (omega (arith, ek)) (en ∙ append-nil N))
+  step_reached g b a (Frame to at) s l i k N el ei ek en =
       mapped (set_then (register_of to) Sub (Reg 1) (Const (capped (g.arrays - at))))
-      (before_reached (plan g) s l i k el ei (omega (arith, ek)))
-  step_reached g b a (Load to op x) s l i k el ei ek h =
+      (before_reached (plan g) s l i k N el ei (omega (arith, ek)) (en ∙ append-nil N))
+  step_reached g b a (Load to op x) s l i k N el ei ek en =
       mapped (load_then (register_of to) op (source x))
-      (before_reached (plan g) s l i k el ei (omega (arith, ek)))
-  step_reached g b a (Save op x y) s l i k el ei ek h =
+      (before_reached (plan g) s l i k N el ei (omega (arith, ek)) (en ∙ append-nil N))
+  step_reached g b a (Save op x y) s l i k N el ei ek en =
       mapped (save_then op (source x) (source y))
-      (before_reached (plan g) s l i k el ei (omega (arith, ek)))
-  step_reached g b a (Call f args to kept) s l i k el ei ek h =
-      call_reached (plan g) g.frame (entry_at g.entries f) args to s l i k el ei ek
-  step_reached g b a (Put v) s l i k el ei ek h =
+      (before_reached (plan g) s l i k N el ei (omega (arith, ek)) (en ∙ append-nil N))
+  step_reached g b a (Call f args to kept) s l i k N el ei ek en =
+      call_reached (plan g) g.frame (entry_at g.entries f) args to s l i k N el ei ek
+      (en ∙ append-nil N)
+  step_reached g b a (Put v) s l i k N el ei ek en =
       let e = one_less s.label l el in
       record {
         label = e;
         place = one_less s.place i ei;
         calls = omega (arith, ek);
+        notes = en ∙ append-nil N;
         out = refl;
         rest = ap (put_byte v) e;
       }
-  step_reached g b a (Get to) s l i k el ei ek h =
-      let r = before_reached (plan g) s (l + 1) i k (omega (arith, el)) ei (omega (arith, ek)) in
+  step_reached g b a (Get to) s l i k N el ei ek en =
+      let r = before_reached (plan g) s (l + 1) i k N (omega (arith, el)) ei (omega (arith, ek))
+      (en ∙ append-nil N) in
       let t = before (plan g) s in
       let e = one_less t.label l r.label in
       record {
         label = e;
         place = r.place;
         calls = r.calls;
+        notes = r.notes;
         out = ap₂ (λ x y. set_then (register_of to) Mov (Reg 3) (Const 0) x ∷ y) r.rest r.out;
         rest = ap get_byte e;
       }
-  step_reached g b a (If x one other) s l i k el ei ek h =
+  step_reached g b a (If x one other) s l i k N el ei ek en =
       let A = annotated (plan g) (i + 1) k one in
       let C = annotated (plan g) (i + 1 + steps_of one) (k + calls one) other in
-      let j = l + leg_size A (size A) + leg_size C (size C) in
+      let l1 = l + leg_size A (size A) in
+      let j = l1 + leg_size C (size C) in
+      let n1 = notes_of (plan g) (l + 1) (i + 1) k one in
+      let n2 = notes_of (plan g) (l1 + 1) (i + 1 + steps_of one) (k + calls one) other in
       let u = put_out s in
       let e : u.label ≡ j = one_less s.label j (el ∙ omega arith) in
-      if_reached g b a x one other ((plan g).cut i) u.label l i k u s.rest s.out
-      (reached g b a one) (reached g b a other) refl (omega (arith, ei)) (omega (arith, ek)) refl refl e h
-  step_reached g b a (Loop body post) s l i k el ei ek h =
+      if_reached g b a x one other ((plan g).cut i) u.label l i k N u s.rest s.out
+      (reached g b a one) (reached g b a other) refl (omega (arith, ei)) (omega (arith, ek)) refl refl e
+      (en ∙ sym (append_assoc N n1 n2))
+  step_reached g b a (Loop body post) s l i k N el ei ek en =
       let behind = put_out s in
       let C = annotated (plan g) (i + 1) k body in
       let D = annotated (plan g) (i + 1 + steps_of body) (k + calls body) post in
       let e = one_less s.label (l + 1 + size C + 1 + size D) (el ∙ omega arith) in
-      loop_reached g b a body post (last_note behind.notes) l i k behind s.rest s.out
+      let nx = l + 1 + size C in
+      let n1 = notes_of (plan g) (l + 1) (i + 1) k body in
+      let n2 = notes_of (plan g) (nx + 1) (i + 1 + steps_of body) (k + calls body) post in
+      let x = note_of l i nx in
+      let M = (N ++ n1) ++ n2 in
+      let all : s.notes ≡ M ++ x ∷ [] =
+      en ∙ sym (append_assoc N n1 (n2 ++ x ∷ [])) ∙ sym (append_assoc (N ++ n1) n2 (x ∷ [])) in
+      loop_reached g b a body post (last_note behind.notes) l i k N behind s.rest s.out
       (λ broke again. reached g broke again body) (λ broke again. reached g broke again post) e
-      (omega (arith, ei)) (omega (arith, ek)) refl h
-  step_reached g b a Break s l i k el ei ek h =
-      record { label = omega (arith, el); place = one_less s.place i ei; calls = omega (arith, ek); out = refl; rest = refl }
-  step_reached g b a Continue s l i k el ei ek h =
-      record { label = omega (arith, el); place = one_less s.place i ei; calls = omega (arith, ek); out = refl; rest = refl }
-  step_reached g b a (Return v) s l i k el ei ek h =
-      record { label = omega (arith, el); place = one_less s.place i ei; calls = omega (arith, ek); out = refl; rest = refl }
+      (omega (arith, ei)) (omega (arith, ek)) refl (ap last_note all ∙ last_behind M x)
+      (ap front_notes all ∙ front_before M x)
+  step_reached g b a Break s l i k N el ei ek en =
+      passed s l i k N _ (omega (arith, el)) (one_less s.place i ei) (omega (arith, ek)) (en ∙ append-nil N)
+  step_reached g b a Continue s l i k N el ei ek en =
+      passed s l i k N _ (omega (arith, el)) (one_less s.place i ei) (omega (arith, ek)) (en ∙ append-nil N)
+  step_reached g b a (Return v) s l i k N el ei ek en =
+      passed s l i k N _ (omega (arith, el)) (one_less s.place i ei) (omega (arith, ek)) (en ∙ append-nil N)
 
   pub reached : (g : Ground) (b a : ℕ) (c : Code) → IsReached g b a c
-  reached g b a Nop s l i k el ei ek h =
-      record { label = omega (arith, el); place = omega (arith, ei); calls = omega (arith, ek); out = refl; rest = refl }
-  reached g b a (x ▹ c) s l i k el ei ek h =
+  reached g b a Nop s l i k N el ei ek en =
+      record {
+        label = omega (arith, el);
+        place = omega (arith, ei);
+        calls = omega (arith, ek);
+        notes = en ∙ append-nil N;
+        out = refl;
+        rest = refl;
+      }
+  reached g b a (x ▹ c) s l i k N el ei ek en =
       let m = emit g b a c s in
       let S = annotated_in (plan g) i k x in
       let l2 = l + size_in S in
-      let p = reached g b a c s l2 (i + steps_in x) (k + calls_in x) (omega (arith, el))
-      (omega (arith, ei)) (omega (arith, ek)) (good_in g b a x m h) in
-      let q = step_reached g b a x m l i k p.label p.place p.calls h in
+      let n1 = notes_in (plan g) l i k x in
+      let n2 = notes_of (plan g) l2 (i + steps_in x) (k + calls_in x) c in
+      let p = reached g b a c s l2 (i + steps_in x) (k + calls_in x) (N ++ n1) (omega (arith, el))
+      (omega (arith, ei)) (omega (arith, ek)) (en ∙ sym (append_assoc N n1 n2)) in
+      let q = step_reached g b a x m l i k N p.label p.place p.calls p.notes in
       joined (λ y. blocks_in (place g b a) S l y) (λ y. entry_in (place g b a) S l y) p q

@@ -27,7 +27,6 @@ pub mod Built
 pub mod Assigned
 pub mod Emits
 pub mod LastNotes
-pub mod Goodness
 pub mod Reaching
 pub mod ReachingLegs
 pub mod Emissions

@@ -1,6 +1,6 @@
 -- Emission as a pass over flat code, backward: its state, the steps, and the notes of loops. The labels
 -- and the numbers of statements and calls fall.
-use Rattle.std.specs.Prelude.{ℕ, ◌-◌, Bool, true, false, ◌&&◌, nat_eq, List, [], ◌∷◌}
+use Rattle.std.specs.Prelude.{ℕ, ◌-◌, Bool, true, false, List, [], ◌∷◌}
 use Rattle.trips_isa.specs.declared.op.Op.TheVariants.{Mov}
 use Rattle.ir_forms.specs.declared.hyper.Source.{Source}
 use Rattle.ir_forms.specs.declared.hyper.Source.TheVariants.{Const}
@@ -13,13 +13,11 @@ use Rattle.hyper_build.specs.Tree.{Plan}
 use Rattle.hyper_build.specs.Parts.{set_then}
 
 -- What is put out: the blocks from `label` on, with the rest of the block before them, where `place`
--- statements and `calls` calls stand before. `notes` are those of the loops before, and `good` says
--- that each loop behind had its note.
+-- statements and `calls` calls stand before. `notes` are those of the loops that end before.
 pub record Emission : Type 0 where
   pub label : ℕ
   pub place : ℕ
   pub calls : ℕ
-  pub good : Bool
   pub notes : List Note
   pub out : List Block
   pub rest : Block
@@ -30,7 +28,6 @@ emission_of e = record {
   label = e.label;
   place = e.place;
   calls = e.calls;
-  good = e.good;
   notes = e.notes;
   out = out_of e.out;
   rest = rest_of e.rest;
@@ -44,7 +41,6 @@ with_rest k s = record {
   label = s.label;
   place = s.place;
   calls = s.calls;
-  good = s.good;
   notes = s.notes;
   out = s.out;
   rest = k;
@@ -56,7 +52,6 @@ put_out s = record {
   label = s.label - 1;
   place = s.place;
   calls = s.calls;
-  good = s.good;
   notes = s.notes;
   out = s.rest ∷ s.out;
   rest = jump (s.label - 1);
@@ -73,7 +68,6 @@ fall s = record {
   label = s.label;
   place = s.place - 1;
   calls = s.calls;
-  good = s.good;
   notes = s.notes;
   out = s.out;
   rest = s.rest;
@@ -85,7 +79,6 @@ fall_call s = record {
   label = s.label;
   place = s.place;
   calls = s.calls - 1;
-  good = s.good;
   notes = s.notes;
   out = s.out;
   rest = s.rest;
@@ -119,21 +112,7 @@ without_note s = record {
   label = s.label;
   place = s.place;
   calls = s.calls;
-  good = s.good;
   notes = front_notes s.notes;
-  out = s.out;
-  rest = s.rest;
-}
-
--- A loop's head is put out, whose post begins at a label: it has its note, or nothing is good.
-abbrev pub noted : Note → ℕ → Emission → Emission
-noted note next s = record {
-  label = s.label;
-  place = s.place;
-  calls = s.calls;
-  good = s.good
-      && (nat_eq s.label note.head && (nat_eq s.place note.place && nat_eq next note.next));
-  notes = s.notes;
   out = s.out;
   rest = s.rest;
 }

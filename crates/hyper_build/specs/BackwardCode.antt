@@ -10,7 +10,7 @@ use Rattle.hyper_build.specs.Parts.{source}
 use Rattle.hyper_build.specs.Straight.{label_or}
 use Rattle.hyper_build.specs.Ground.{Ground, plan, entry_at, left}
 use Rattle.hyper_build.specs.Build.{give}
-use Rattle.hyper_build.specs.Backward.{Emission, with_rest, put_out, fall, last_note, without_note, noted}
+use Rattle.hyper_build.specs.Backward.{Emission, with_rest, put_out, fall, last_note, without_note}
 use Rattle.hyper_build.specs.BackwardStatements.{let_out, frame_out, load_out, save_out, byte_out, byte_in}
 use Rattle.hyper_build.specs.BackwardStatements.{leaving, back_out, call_out}
 use Rattle.hyper_build.specs.BackwardItems.{is_straight, straight_items}
@@ -74,8 +74,8 @@ abbrev mutual
       let note = last_note behind.notes in
       let next = put_out (emit g behind.label note.next post
       (with_rest (jump note.head) (without_note behind))) in
-      let after = end_of_body ((plan g).cut (note.place - 1)) g.arrays post next.label note.head in
-      fall (noted note next.label (put_out (emit g behind.label next.label body (with_rest after next))))
+      let after = end_of_body ((plan g).cut note.place) g.arrays post next.label note.head in
+      fall (put_out (emit g behind.label next.label body (with_rest after next)))
   emit_in g broke again Break s = leaving (jump broke) s
   emit_in g broke again Continue s = leaving (jump again) s
   emit_in g broke again (Return v) s = leaving (give v (left g.frame)) s

@@ -19,5 +19,6 @@ pub mod Backward
 pub mod BackwardStatements
 pub mod BackwardItems
 pub mod BackwardCode
+pub mod Notes
 pub mod Reached
 pub mod Smallness

@@ -11,7 +11,7 @@ ghost use Rattle.hyper_build.specs.Emitted.{rest_of};
 ghost use Rattle.hyper_build.specs.Ground as ground;
 
 use crate::calling::{put_back, put_call};
-use crate::emitting::{Emitting, compare, fall, fallen, put_out, put_rest, take_note};
+use crate::emitting::{Emitting, fall, put_out, put_rest, take_note};
 use crate::ground::Site;
 use crate::operands::source;
 use crate::rest::{Rest, jump};
@@ -181,12 +181,11 @@ fn put_stmt(
             put_stmts(post.as_slice(), emitting, alloc, site, behind, note.next)?;
             put_out(emitting, alloc)?;
             let next = emitting.label;
-            let ends = site.cuts(fallen(note.place));
+            let ends = site.cuts(note.place);
             let rest = body_end(alloc, ends, site.arrays, post.as_slice(), next, note.head)?;
             put_rest(emitting, rest);
             put_stmts(body.as_slice(), emitting, alloc, site, behind, next)?;
             put_out(emitting, alloc)?;
-            compare(emitting, note, next);
             fall(emitting);
         }
         FlatStmt::Break => put_jump(emitting, alloc, broke),

@@ -115,7 +115,6 @@ fn emitted(alloc: Global, plan: &CutPlan, note: Note) -> Result<Emitting, Memory
         label: FIRST,
         place: STATEMENTS,
         calls: 1,
-        good: true,
         notes,
         out: Items::new(alloc),
         rest: jump(alloc, 0),
@@ -131,21 +130,19 @@ fn emitted(alloc: Global, plan: &CutPlan, note: Note) -> Result<Emitting, Memory
     Ok(emitting)
 }
 
-/// Whether so many blocks are put out and each number falls to its first, with the right note of the
-/// loop, whose body begins so many blocks, and not with a wrong one.
+/// Whether so many blocks are put out and each number falls to its first, with the note of the loop,
+/// whose body begins so many blocks.
 fn is_whole(alloc: Global, answers: u32, blocks: u32, body: u32) -> Result<bool, Memory> {
     let plan = plan(alloc, answers)?;
     let head = FIRST - blocks;
     let next = head + 1 + body;
-    let right = emitted(alloc, &plan, Note { head, place: 1, next })?;
-    let wrong = emitted(alloc, &plan, Note { head, place: 1, next: head })?;
+    let all = emitted(alloc, &plan, Note { head, place: 0, next })?;
     Ok(
-        right.good
-            && right.label == head
-            && right.place == 0
-            && right.calls == 0
-            && right.out.len() == blocks as usize
-            && !wrong.good,
+        all.label == head
+            && all.place == 0
+            && all.calls == 0
+            && all.notes.is_empty()
+            && all.out.len() == blocks as usize,
     )
 }
 

@@ -12,8 +12,8 @@ use ir_forms::{HyperBlock, Source};
 use std::alloc::Global;
 use trips_isa::Op;
 
-/// What is known of a loop before it is put out: the label of its first block, the number of its
-/// body's first statement, and the label of its post.
+/// What is known of a loop before it is put out: the label of its first block, its number among the
+/// statements, and the label of its post.
 #[derive(Clone, Copy)]
 pub struct Note {
     pub head: u32,
@@ -23,14 +23,11 @@ pub struct Note {
 
 /// The blocks that are put out, the last first, with the label of the first, the numbers of
 /// statements and calls before, the notes of the loops before, and the rest of the block before.
-///
-/// `good` says that each loop behind had its note.
 #[derive(Drop)]
 pub struct Emitting {
     pub label: u32,
     pub place: u32,
     pub calls: u32,
-    pub good: bool,
     pub notes: Items<Note>,
     pub out: Items<HyperBlock>,
     pub rest: Rest,
@@ -116,12 +113,4 @@ pub fn take_note(emitting: &mut Emitting) -> Note
     ensures front { emission_of emitting.new ≡ back.without_note (emission_of emitting.old) }
 {
     take_last(&mut emitting.notes)
-}
-
-/// Compares a loop with its note once its first block is put out, where its post begins at `next`.
-pub fn compare(emitting: &mut Emitting, note: Note, next: u32)
-    ensures { emission_of emitting.new ≡ back.noted note next (emission_of emitting.old) }
-{
-    emitting.good = emitting.good
-        && (emitting.label == note.head && (emitting.place == note.place && next == note.next));
 }

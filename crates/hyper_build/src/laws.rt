@@ -48,7 +48,7 @@ pub fn assigned_programs_keep_meaning()
 {}
 
 /// Emission before code puts out the blocks of annotated code, and leaves the rest of the block before
-/// them, where labels and numbers suffice and each loop had its note.
+/// them, where labels and numbers suffice and its loops have the last notes.
 pub fn emission_puts_blocks()
     ensures { EmissionPutsBlocks }
 {}
