@@ -1,6 +1,6 @@
-use Rattle.std.proofs.Common.{ap, ◌∙◌, arith}
+use Rattle.std.proofs.Common.{◌≡◌, ap, ◌∙◌, arith, drop}
 use Rattle.ir_forms.specs.FlatCode.{Step}
-use Rattle.ir_forms.specs.FlatViews.{step_of}
+use Rattle.ir_forms.specs.FlatViews.{code_of, step_of}
 use Rattle.ir_forms.proofs.Views.{step_let, step_frame, step_load, step_save, step_call, step_put}
 use Rattle.ir_forms.proofs.Views.{step_get, step_if, step_loop, step_break, step_continue}
 use Rattle.ir_forms.proofs.Views.{step_return}
@@ -78,3 +78,8 @@ is_straight_stmt-returns-in-Return t c =
     let h = ap (λ (st : Step). code.is_straight_in st)
     (ap step_of c.in-Return.is ∙ step_return _) in
     grind (arith, h)
+
+pub is_straight-returns : goal.is_straight-returns
+is_straight-returns t c =
+    let e : c.loop-at.at ≡ 0 = omega arith in
+    c.loop-at.invariant.done ∙ ap (λ n. code.is_straight (code_of (drop n c.args.stmts.now))) e
