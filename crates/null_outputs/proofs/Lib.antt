@@ -17,5 +17,7 @@ pub mod Recognised
 pub mod Named
 pub mod Regular
 pub mod Unguarded
+pub mod Added
+pub mod Unread
 pub mod Complete
 pub mod StandardFacts

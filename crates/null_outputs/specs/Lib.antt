@@ -6,3 +6,4 @@ pub mod Wants
 pub mod Sizes
 pub mod Straight
 pub mod Laws
+pub mod Immediates

@@ -5,6 +5,6 @@ mod laws;
 
 pub use laws::{
     completed_blocks_are_complete, completing_keeps_meaning, completing_keeps_regular,
-    completing_keeps_tables, firm_blocks_grow_little, nodes_are_counted, straight_blocks_stay,
-    sureness_is_recognised,
+    completing_keeps_tables, completing_reads_no_immediate, firm_blocks_grow_little,
+    nodes_are_counted, straight_blocks_stay, sureness_is_recognised,
 };
