@@ -7,3 +7,5 @@ pub mod Sizes
 pub mod Straight
 pub mod Laws
 pub mod Immediates
+pub mod Refusals
+pub mod inside
