@@ -23,7 +23,7 @@ use Rattle.predication.proofs.Regular.{converts_regular}
 use Rattle.predication.proofs.Resolved.{resolves_labels}
 use Rattle.null_outputs.specs.Laws.{MaskedIn, EachMasked, Takes}
 use Rattle.null_outputs.specs.Wants.{complete}
-use Rattle.null_outputs.proofs.Complete.{is_complete, means_block}
+use Rattle.null_outputs.proofs.Completeness.{is_complete, means_block}
 use Rattle.null_outputs.proofs.Regular.{stays_regular}
 use Rattle.grid_place.specs.Moves.{Permutes}
 use Rattle.c_compile_layout.specs.Linking.{Resolves, resolved, by_address}

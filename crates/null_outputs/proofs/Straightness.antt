@@ -69,9 +69,11 @@ straight b e =
     let rest = both_true (all_fed (length b.nodes) b.writes) (all_numbers_fed b) nodes.1 in
     let plain = λ (y : ℕ) (n : FlowNode) (s : slice_get b.nodes y ≡ Some n). plain_at 0 b.nodes nodes.0 y y n (omega arith) s in
     record {
-      guards = λ y n s. unguarded_is n.guard (both_true _ _ (plain y n s)).0;
-      left = λ y n s t. asked_is (takes_left (role_of n.op)) y n.left (both_true _ _ (both_true _ _ (plain y n s)).1).0 t;
-      right = λ y n s t. asked_is (takes_right (role_of n.op)) y n.right (both_true _ _ (both_true _ _ (plain y n s)).1).1 t;
+      front = length b.nodes;
+      within = omega arith;
+      guards = λ y n l s. unguarded_is n.guard (both_true _ _ (plain y n s)).0;
+      left = λ y n l s t. asked_is (takes_left (role_of n.op)) y n.left (both_true _ _ (both_true _ _ (plain y n s)).1).0 t;
+      right = λ y n l s t. asked_is (takes_right (role_of n.op)) y n.right (both_true _ _ (both_true _ _ (plain y n s)).1).1 t;
       writes = λ j w s. fed_is (length b.nodes) w.sources (fed_at (length b.nodes) b.writes rest.0 j w s);
       numbers = λ k t. asked_is (in_mask b.mask k) (length b.nodes) (stores_of 0 b.nodes k) (in_all b rest.1 k (masked_low b.mask k t)) t;
     }
