@@ -1,5 +1,6 @@
 //! The cause of a block, of a table of its tokens.
-ghost use Rattle.std.specs.Prelude.{◌≡◌, ◌<◌, ◌≤◌, ◌+◌, ℕ, cond, false, length, slice_index_or, None, Some};
+ghost use Rattle.std.specs.Prelude.{◌≡◌, ◌<◌, ◌≤◌, ◌+◌, ℕ, cond, false, length};
+ghost use Rattle.std.specs.Prelude.{slice_index_or, None, Some};
 ghost use Rattle.trips_isa.specs.declared.places.TheConstants.{FIRST_STORE, PLACES};
 ghost use Rattle.trips_isa.specs.Fits.{FitsBlock};
 ghost use Rattle.trips_isa.specs.Places.{inst_node};

@@ -1,7 +1,7 @@
 //! Tokens and stores handed on in the order of the slots. Where each comes neither too late nor to a
 //! place that is taken, one pass gives a table that agrees with itself.
-ghost use Rattle.std.specs.Prelude.{◌≡◌, ◌<◌, ◌≤◌, ◌==◌, ◌%◌, ℕ, cond, length, slice_index_or, slice_set};
-ghost use Rattle.std.specs.Prelude.{Some, None, true};
+ghost use Rattle.std.specs.Prelude.{◌≡◌, ◌<◌, ◌≤◌, ◌==◌, ◌%◌, ℕ, cond, length};
+ghost use Rattle.std.specs.Prelude.{slice_index_or, slice_set, Some, None, true};
 ghost use Rattle.trips_isa.specs.Places.{place_at};
 ghost use Rattle.trips_isa.specs.Tables.{or_else};
 ghost use Rattle.block_atomic.specs.Slots.{is_named, kept_by, NumberFits, LoadsTo};

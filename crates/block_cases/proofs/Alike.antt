@@ -11,9 +11,13 @@ use Rattle.block_cases.specs.declared.token.CaseToken.{CaseToken}
 use Rattle.block_cases.specs.declared.token.CaseToken.TheVariants.{Absent, Null, Bit}
 use Rattle.trips_isa.specs.declared.node.Node.{Node}
 use Rattle.block_cases.specs.Nodes.{targets, names, Edge, Ranked}
-use Rattle.block_cases.specs.Cases.{no, matches, gives, fire, if_matched, taken, or_else, first}
-use Rattle.block_cases.specs.Cases.{pulled, fires, deepest, names_predicate, is_copy, asks, through}
-use Rattle.block_cases.specs.Cases.{leads_from, leads, is_chooser, bit, token, one_word, both_words}
+use Rattle.block_cases.specs.CaseRule.{no, matches, gives, fire, if_matched, taken, or_else, first}
+use Rattle.block_cases.specs.CaseRule.{pulled, fires}
+use Rattle.block_cases.specs.Choosers.{names_predicate, is_copy, asks, through}
+use Rattle.block_cases.specs.Cases.{deepest}
+use Rattle.block_cases.specs.CaseRule.{one_word, both_words}
+use Rattle.block_cases.specs.Choosers.{leads_from, leads, is_chooser}
+use Rattle.block_cases.specs.Cases.{bit, token}
 use Rattle.block_cases.proofs.Steady.{or_left, or_right, to_left, to_right, to_predicate, Solves}
 use Rattle.block_cases.proofs.Steady.{settled, deepest_is}
 
@@ -178,8 +182,18 @@ passes (m ∷ ms) ts f e = go (or_true _ _ e) (passes ms ts (λ y. f (suc y)))
         (through ms ts (λ y. f (suc y)) ≡ true)
         → (through ms ts (λ y. f (suc y)) ≡ true → Passes ms ts (λ y. f (suc y)))
         → Passes (m ∷ ms) ts f
-    go (inl h) r = let w = asks_true _ f h in let k = and_true _ _ w.0 in record { at = 0; node = m; is_node = refl; copies = k.0; named = k.1; leads_on = w.1 }
-    go (inr h) r = let p = r h in record { at = suc p.at; node = p.node; is_node = p.is_node; copies = p.copies; named = p.named; leads_on = p.leads_on }
+    go (inl h) r =
+        let w = asks_true _ f h in
+        let k = and_true _ _ w.0 in
+        record { at = 0; node = m; is_node = refl; copies = k.0; named = k.1; leads_on = w.1 }
+    go (inr h) r = let p = r h in record {
+      at = suc p.at;
+      node = p.node;
+      is_node = p.is_node;
+      copies = p.copies;
+      named = p.named;
+      leads_on = p.leads_on;
+    }
 
 pub pass_on : (ns : List Node) (ts : List ℕ) (f : ℕ → Bool) (y : ℕ) (m : Node)
     → slice_get ns y ≡ Some m → is_copy m.role ≡ true → names ts m.slot ≡ true → f y ≡ true
@@ -318,7 +332,9 @@ alike_at ns rank o w h s x below = subst (λ t. Alike (leads ns deepest x) t (f 
         (c x) _ _ _ _ _ _
         (λ z l. sym (bit_case ns h x ∙ ap (λ s. is_chooser ns x s && own (h x)) i ∙ chooses z l))
         (λ z l. both_true _ _ z l)
-        (first_alike _ ns n.slot h f (λ y m j e. weaken (leads ns deepest y) _ (h y) (f y) (λ b. let t = and_true _ _ b in leads_to_copy ns rank o x y m n j i e t.0 t.1) (below y (to_left ns x y m n j i e))))
+        (first_alike _ ns n.slot h f (λ y m j e. weaken (leads ns deepest y) _ (h y) (f y)
+        (λ b. let t = and_true _ _ b in leads_to_copy ns rank o x y m n j i e t.0 t.1)
+        (below y (to_left ns x y m n j i e))))
         (first_alike _ ns (128 + n.slot) h f
         (λ y m j e. weaken (leads ns deepest y) _ (h y) (f y) (λ b. absurd (cc))
         (below y (to_right ns x y m n j i e))))
@@ -344,4 +360,5 @@ pub alike : (ns : List Node) (rank : ℕ → ℕ) → Ranked ns rank → Placed 
     → Solves ns (λ x. own (h x)) h → (k x : ℕ) → rank x < k
     → Alike (leads ns deepest x) (h x) (token ns (case_of ns h) x)
 alike ns rank o w h s zero x lt = absurd (omega arith)
-alike ns rank o w h s (suc k) x lt = alike_at ns rank o w h s x (λ y e. let up : rank y < rank x = o.rises y x e in alike ns rank o w h s k y (omega arith))
+alike ns rank o w h s (suc k) x lt = alike_at ns rank o w h s x (λ y e. let up : rank y < rank x = o.rises y x e in
+    alike ns rank o w h s k y (omega arith))

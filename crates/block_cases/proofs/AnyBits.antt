@@ -9,8 +9,9 @@ use Rattle.block_cases.specs.declared.token.CaseToken.{CaseToken}
 use Rattle.block_cases.specs.declared.token.CaseToken.TheVariants.{Absent, Null, Bit}
 use Rattle.trips_isa.specs.declared.node.Node.{Node}
 use Rattle.block_cases.specs.Nodes.{targets, names, hits, one_if, IsRanked}
-use Rattle.block_cases.specs.Cases.{matches, gives, if_matched, one_word, both_words, first, pulled}
-use Rattle.block_cases.specs.Cases.{fires, deepest, weighed, tokens}
+use Rattle.block_cases.specs.CaseRule.{matches, gives, if_matched, one_word, both_words, first, pulled}
+use Rattle.block_cases.specs.CaseRule.{fires}
+use Rattle.block_cases.specs.Cases.{deepest, weighed, tokens}
 use Rattle.block_cases.specs.Good.{Good, OneToken, IsPlaced, NamesPlace}
 use Rattle.block_cases.proofs.Steady.{Solves, settled}
 use Rattle.block_cases.proofs.Alike.{own}
@@ -92,8 +93,10 @@ pub one_producer : (ns : List Node) (f : ℕ → CaseToken) (q : ℕ) → tokens
     → NamesPlace ns x q → NamesPlace ns y q → f x ≢ Absent → f y ≢ Absent → x ≡ y
 one_producer [] f q l x y n k a b = absurd (let e = n.1 in cc)
 one_producer (m ∷ ms) f q l zero zero n k a b = refl
-one_producer (m ∷ ms) f q l zero (suc y) n k a b = absurd (let s = head_token m ms f q n a in let t = one_at ms (λ z. f (suc z)) q y (k.0, k.1, k.2) b in omega (arith, s, t))
-one_producer (m ∷ ms) f q l (suc x) zero n k a b = absurd (let s = head_token m ms f q k b in let t = one_at ms (λ z. f (suc z)) q x (n.0, n.1, n.2) a in omega (arith, s, t))
+one_producer (m ∷ ms) f q l zero (suc y) n k a b = absurd (let s = head_token m ms f q n a in
+    let t = one_at ms (λ z. f (suc z)) q y (k.0, k.1, k.2) b in omega (arith, s, t))
+one_producer (m ∷ ms) f q l (suc x) zero n k a b = absurd (let s = head_token m ms f q k b in
+    let t = one_at ms (λ z. f (suc z)) q x (n.0, n.1, n.2) a in omega (arith, s, t))
 one_producer (m ∷ ms) f q l (suc x) (suc y) n k a b =
     ap suc (one_producer ms (λ z. f (suc z)) q (omega arith) x y (n.0, n.1, n.2) (k.0, k.1, k.2) a b)
 

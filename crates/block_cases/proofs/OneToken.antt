@@ -11,9 +11,11 @@ use Rattle.block_cases.specs.declared.token.CaseToken.{CaseToken}
 use Rattle.block_cases.specs.declared.token.CaseToken.TheVariants.{Absent, Null, Bit}
 use Rattle.trips_isa.specs.declared.node.Node.{Node}
 use Rattle.block_cases.specs.Nodes.{targets, names, hits, Ranked, IsRanked}
-use Rattle.block_cases.specs.Cases.{no, matches, gives, fire, if_matched, taken, or_else, first}
-use Rattle.block_cases.specs.Cases.{pulled, deepest, present, token, has_bit, ones_pass, IsCase}
-use Rattle.block_cases.specs.Cases.{weighed, tokens, one_word}
+use Rattle.block_cases.specs.CaseRule.{no, matches, gives, fire, if_matched, taken, or_else, first}
+use Rattle.block_cases.specs.CaseRule.{pulled}
+use Rattle.block_cases.specs.Cases.{deepest, present, token, has_bit, ones_pass, IsCase}
+use Rattle.block_cases.specs.CaseRule.{one_word}
+use Rattle.block_cases.specs.Cases.{weighed, tokens}
 use Rattle.block_cases.specs.Good.{Good, OneToken}
 use Rattle.trips_isa.specs.declared.block.Token.TheVariants.{Null as NullToken, Word}
 use Rattle.trips_isa.specs.Rule as rules
@@ -82,13 +84,15 @@ agrees ns rank o w h s = record {
   in_case = case_of ns h;
   is_case = record {
     size = tabulate_size (length ns) (chosen ns h);
-    bits = ones_pass_all (length ns) (chosen ns h) (has_bit ns (case_of ns h)) (λ x e. let t = and_true _ _ e in both_true _ _ t.0 (sym (there x) ∙ own_present (h x) t.1));
+    bits = ones_pass_all (length ns) (chosen ns h) (has_bit ns (case_of ns h)) (λ x e. let t = and_true _ _ e in
+        both_true _ _ t.0 (sym (there x) ∙ own_present (h x) t.1));
   };
   fire_alike = there;
 }
   where
     there : (x : ℕ) → present (h x) ≡ present (token ns (case_of ns h) x)
-    there x = alike_present _ _ _ (alike ns rank o w h s deepest x (let b : rank x < 160 = o.below x in let e : deepest ≡ 160 = deepest_is in omega arith))
+    there x = alike_present _ _ _ (alike ns rank o w h s deepest x (let b : rank x < 160 = o.below x in
+        let e : deepest ≡ 160 = deepest_is in omega arith))
 
 at_most_one : (n : ℕ) → (1 < n → ⊥) → n ≤ 1
 at_most_one zero h = omega arith

@@ -20,7 +20,7 @@ use Rattle.trips_isa.specs.Stores.{stored_of, byte_seen, bytes_seen, load_of, ad
 use Rattle.trips_isa.specs.Stores.{is_good_address}
 use Rattle.trips_isa.specs.Blocks.{form_computes, slot_computes, is_read, slot_at, inst_at}
 use Rattle.trips_isa.specs.Blocks.{computes_if_read, computes, at_place, stored_in, stored_if_read}
-use Rattle.trips_isa.specs.Blocks.{stored_by, store_of, slot_answered, answered_if_read, answers_in}
+use Rattle.trips_isa.specs.Blocks.{stored_by, store_of, slot_answered, answered_if_read, responses_in}
 use Rattle.trips_isa.specs.Blocks.{given, token_of, Solves}
 use Rattle.block_cases.proofs.Steady.{or_right, to_left, to_right, to_predicate, deepest_is}
 use Rattle.block_cases.proofs.Nodes.{taken_same, slot_got}
@@ -118,7 +118,7 @@ given_below b regs mem rank o f g x h = go (slice_get (nodes_of b) x) refl
         stored_same b f g y k i (h y up) (λ z d. let lower : rank z < rank y = o.rises z y d in h z (omega arith)))
 
     computed : (n : Node) → slice_get (nodes_of b) x ≡ Some n → (l r : ℕ)
-        → computes b (answers_in b regs mem f) x l r ≡ computes b (answers_in b regs mem g) x l r
+        → computes b (responses_in b regs mem f) x l r ≡ computes b (responses_in b regs mem g) x l r
     computed n j l r = by (is_read b x) refl
       where
         by : (v : Bool) → is_read b x ≡ v
@@ -148,13 +148,13 @@ given_below b regs mem rank o f g x h = go (slice_get (nodes_of b) x) refl
                     (sym u) (named_below (targets k) m i.number lt t))))
 
     go : (s : Option Node) → slice_get (nodes_of b) x ≡ s
-        → node_gives s (computes b (answers_in b regs mem f) x) (at_place b f)
-        ≡ node_gives s (computes b (answers_in b regs mem g) x) (at_place b g)
+        → node_gives s (computes b (responses_in b regs mem f) x) (at_place b f)
+        ≡ node_gives s (computes b (responses_in b regs mem g) x) (at_place b g)
     go None j = refl
     go (Some n) j =
         ap (λ (a : ℕ → ℕ → ℕ). node_gives (Some n) a (at_place b f))
         (fun_ext (λ l. fun_ext (λ r. computed n j l r)))
-        ∙ node_same n (computes b (answers_in b regs mem g) x) (at_place b f) (at_place b g)
+        ∙ node_same n (computes b (responses_in b regs mem g) x) (at_place b f) (at_place b g)
         (taken_same (nodes_of b) n.slot f g
         (λ y m i e. edge y (to_left (nodes_of b) x y m n i j e)))
         (taken_same (nodes_of b) (128 + n.slot) f g
@@ -173,7 +173,8 @@ only_at b regs mem rank o h s (suc k) x l =
 
 pub only_table : (b : Block) (regs mem : List ℕ) → IsRanked (nodes_of b) → (h : ℕ → Answer)
     → ((x : ℕ) → h x ≡ given b regs mem h x) → (x : ℕ) → h x ≡ token_of b regs mem deepest x
-only_table b regs mem r h s x = only_at b regs mem r.0 r.1 h s deepest x (let o : Ranked (nodes_of b) r.0 = r.1 in let low : r.0 x < 160 = o.below x in let e : deepest ≡ 160 = deepest_is in omega arith)
+only_table b regs mem r h s x = only_at b regs mem r.0 r.1 h s deepest x (let o : Ranked (nodes_of b) r.0 = r.1 in
+    let low : r.0 x < 160 = o.below x in let e : deepest ≡ 160 = deepest_is in omega arith)
 
 -- enough rounds from any table forget it
 abbrev pub rounds_from : Block → List ℕ → List ℕ → (ℕ → Answer) → ℕ → ℕ → Answer
@@ -207,15 +208,16 @@ reached b regs mem rank o (suc k) x h =
 
 pub token_settled : (b : Block) (regs mem : List ℕ) → IsRanked (nodes_of b) → (x : ℕ)
     → token_of b regs mem deepest x ≡ given b regs mem (token_of b regs mem deepest) x
-token_settled b regs mem r x = reached b regs mem r.0 r.1 deepest x (let o : Ranked (nodes_of b) r.0 = r.1 in let low : r.0 x < 160 = o.below x in let e : deepest ≡ 160 = deepest_is in omega arith)
+token_settled b regs mem r x = reached b regs mem r.0 r.1 deepest x (let o : Ranked (nodes_of b) r.0 = r.1 in
+    let low : r.0 x < 160 = o.below x in let e : deepest ≡ 160 = deepest_is in omega arith)
 
 -- the same of solutions
 pub only_solution : (b : Block) (regs mem : List ℕ) → IsRanked (nodes_of b) → (g : ℕ → Answer)
-    → Solves b (answers_in b regs mem g) g → (x : ℕ) → g x ≡ token_of b regs mem deepest x
+    → Solves b (responses_in b regs mem g) g → (x : ℕ) → g x ≡ token_of b regs mem deepest x
 unfolding given
 only_solution b regs mem r g s = only_table b regs mem r g s
 
 pub token_solves : (b : Block) (regs mem : List ℕ) → IsRanked (nodes_of b)
-    → Solves b (answers_in b regs mem (token_of b regs mem deepest)) (token_of b regs mem deepest)
+    → Solves b (responses_in b regs mem (token_of b regs mem deepest)) (token_of b regs mem deepest)
 unfolding given
 token_solves b regs mem r x = token_settled b regs mem r x

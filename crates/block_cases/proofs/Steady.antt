@@ -8,8 +8,9 @@ use Rattle.block_cases.specs.declared.token.CaseToken.{CaseToken}
 use Rattle.block_cases.specs.declared.token.CaseToken.TheVariants.{Absent, Null, Bit}
 use Rattle.trips_isa.specs.declared.node.Node.{Node}
 use Rattle.block_cases.specs.Nodes.{targets, names, Edge, Ranked}
-use Rattle.block_cases.specs.Cases.{matches, gives, fire, if_matched, taken, or_else, first, pulled}
-use Rattle.block_cases.specs.Cases.{fires, deepest, present, one_word, both_words}
+use Rattle.block_cases.specs.CaseRule.{matches, gives, fire, if_matched, taken, or_else, first, pulled}
+use Rattle.block_cases.specs.CaseRule.{fires, one_word, both_words}
+use Rattle.block_cases.specs.Cases.{deepest, present}
 
 pub or_left : (a b : Bool) → a ≡ true → (a || b) ≡ true
 or_left true b e = refl
@@ -87,7 +88,8 @@ enough : (ns : List Node) (rank : ℕ → ℕ) → Ranked ns rank → (c : ℕ �
 enough ns rank o c zero m x h i = absurd (omega arith)
 enough ns rank o c (suc k) zero x h i = absurd (omega arith)
 enough ns rank o c (suc k) (suc m) x h i =
-    pulled_same ns x (c x) (fires ns c k) (fires ns c m) (λ y e. let lt : rank y < rank x = o.rises y x e in enough ns rank o c k m y (omega arith) (omega arith))
+    pulled_same ns x (c x) (fires ns c k) (fires ns c m) (λ y e. let lt : rank y < rank x = o.rises y x e in
+    enough ns rank o c k m y (omega arith) (omega arith))
 
 abbrev pub Solves : List Node → (ℕ → Bool) → (ℕ → CaseToken) → Type 0
 Solves ns c h = (x : ℕ) → h x ≡ pulled (slice_get ns x) (c x) (λ q. first ns q h)
@@ -96,7 +98,8 @@ settled_at : (ns : List Node) (rank : ℕ → ℕ) → Ranked ns rank → (c : �
     → rank x < suc k → fires ns c (suc k) x
     ≡ pulled (slice_get ns x) (c x) (λ q. first ns q (fires ns c (suc k)))
 settled_at ns rank o c k x h =
-    pulled_same ns x (c x) (fires ns c k) (fires ns c (suc k)) (λ y e. let lt : rank y < rank x = o.rises y x e in enough ns rank o c k (suc k) y (omega arith) (omega arith))
+    pulled_same ns x (c x) (fires ns c k) (fires ns c (suc k)) (λ y e. let lt : rank y < rank x = o.rises y x e in
+    enough ns rank o c k (suc k) y (omega arith) (omega arith))
 
 pub deepest_is : deepest ≡ 160
 unfolding deepest
@@ -110,17 +113,20 @@ at_depth ns rank o c (suc k) x h = settled_at ns rank o c k x h
 -- the tokens of a case solve the block's equations, and nothing else does
 pub settled : (ns : List Node) (rank : ℕ → ℕ) → Ranked ns rank → (c : ℕ → Bool)
     → Solves ns c (fires ns c deepest)
-settled ns rank o c x = at_depth ns rank o c deepest x (let b : rank x < 160 = o.below x in let e : deepest ≡ 160 = deepest_is in omega arith)
+settled ns rank o c x = at_depth ns rank o c deepest x (let b : rank x < 160 = o.below x in
+    let e : deepest ≡ 160 = deepest_is in omega arith)
 
 only_at : (ns : List Node) (rank : ℕ → ℕ) → Ranked ns rank → (c : ℕ → Bool) (h : ℕ → CaseToken)
     → Solves ns c h → (k x : ℕ) → rank x < k → h x ≡ fires ns c k x
 only_at ns rank o c h s zero x lt = absurd (omega arith)
 only_at ns rank o c h s (suc k) x lt =
-    s x ∙ pulled_same ns x (c x) h (fires ns c k) (λ y e. let below : rank y < rank x = o.rises y x e in only_at ns rank o c h s k y (omega arith))
+    s x ∙ pulled_same ns x (c x) h (fires ns c k) (λ y e. let below : rank y < rank x = o.rises y x e in
+    only_at ns rank o c h s k y (omega arith))
 
 pub only_one : (ns : List Node) (rank : ℕ → ℕ) → Ranked ns rank → (c : ℕ → Bool) (h : ℕ → CaseToken)
     → Solves ns c h → (x : ℕ) → h x ≡ fires ns c deepest x
-only_one ns rank o c h s x = only_at ns rank o c h s deepest x (let b : rank x < 160 = o.below x in let e : deepest ≡ 160 = deepest_is in omega arith)
+only_one ns rank o c h s x = only_at ns rank o c h s deepest x (let b : rank x < 160 = o.below x in
+    let e : deepest ≡ 160 = deepest_is in omega arith)
 
 -- bits of higher rank change nothing
 pub same_below : (ns : List Node) (rank : ℕ → ℕ) → Ranked ns rank → (c d : ℕ → Bool) (r : ℕ)
@@ -128,7 +134,8 @@ pub same_below : (ns : List Node) (rank : ℕ → ℕ) → Ranked ns rank → (c
 same_below ns rank o c d r h zero x lt = refl
 same_below ns rank o c d r h (suc k) x lt =
     ap (λ v. pulled (slice_get ns x) v (λ q. first ns q (fires ns c k))) (h x lt)
-    ∙ pulled_same ns x (d x) (fires ns c k) (fires ns d k) (λ y e. let below : rank y < rank x = o.rises y x e in same_below ns rank o c d r h k y (omega arith))
+    ∙ pulled_same ns x (d x) (fires ns c k) (fires ns d k) (λ y e. let below : rank y < rank x = o.rises y x e in
+    same_below ns rank o c d r h k y (omega arith))
 
 word_present : (u v : Bool) (t : CaseToken) → present (one_word u t) ≡ present (one_word v t)
 word_present u v Absent = refl

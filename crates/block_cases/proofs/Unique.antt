@@ -43,28 +43,33 @@ only_at : (ns : List Node) (rank : ℕ → ℕ) → Ranked ns rank → (a : Comp
     → IsTable ns a g → (k x : ℕ) → rank x < k → g x ≡ pulled ns a k x
 only_at ns rank o a g t zero x l = absurd (omega arith)
 only_at ns rank o a g t (suc k) x l =
-    t x ∙ gives_below ns (a x) g (pulled ns a k) x (λ y e. let up : rank y < rank x = o.rises y x e in only_at ns rank o a g t k y (omega arith))
+    t x ∙ gives_below ns (a x) g (pulled ns a k) x (λ y e. let up : rank y < rank x = o.rises y x e in
+    only_at ns rank o a g t k y (omega arith))
 
 pub only_table : (ns : List Node) → IsRanked ns → (a : Computes) (g : ℕ → Answer) → IsTable ns a g
     → (x : ℕ) → g x ≡ pulled ns a deepest x
-only_table ns r a g t x = only_at ns r.0 r.1 a g t deepest x (let o : Ranked ns r.0 = r.1 in let low : r.0 x < 160 = o.below x in let e : deepest ≡ 160 = deepest_is in omega arith)
+only_table ns r a g t x = only_at ns r.0 r.1 a g t deepest x (let o : Ranked ns r.0 = r.1 in
+    let low : r.0 x < 160 = o.below x in let e : deepest ≡ 160 = deepest_is in omega arith)
 
 deeper_same : (ns : List Node) (rank : ℕ → ℕ) → Ranked ns rank → (a : Computes) (k m x : ℕ)
     → rank x < k → rank x < m → pulled ns a k x ≡ pulled ns a m x
 deeper_same ns rank o a zero m x h i = absurd (omega arith)
 deeper_same ns rank o a (suc k) zero x h i = absurd (omega arith)
 deeper_same ns rank o a (suc k) (suc m) x h i =
-    gives_below ns (a x) (pulled ns a k) (pulled ns a m) x (λ y e. let up : rank y < rank x = o.rises y x e in deeper_same ns rank o a k m y (omega arith) (omega arith))
+    gives_below ns (a x) (pulled ns a k) (pulled ns a m) x (λ y e. let up : rank y < rank x = o.rises y x e in
+    deeper_same ns rank o a k m y (omega arith) (omega arith))
 
 reached : (ns : List Node) (rank : ℕ → ℕ) → Ranked ns rank → (a : Computes) (d x : ℕ) → rank x < d
     → pulled ns a d x ≡ node_gives (slice_get ns x) (a x) (λ q. first ns q (pulled ns a d))
 reached ns rank o a zero x h = absurd (omega arith)
 reached ns rank o a (suc k) x h =
-    gives_below ns (a x) (pulled ns a k) (pulled ns a (suc k)) x (λ y e. let up : rank y < rank x = o.rises y x e in deeper_same ns rank o a k (suc k) y (omega arith) (omega arith))
+    gives_below ns (a x) (pulled ns a k) (pulled ns a (suc k)) x (λ y e. let up : rank y < rank x = o.rises y x e in
+    deeper_same ns rank o a k (suc k) y (omega arith) (omega arith))
 
 pub pulled_is_table : (ns : List Node) → IsRanked ns → (a : Computes)
     → IsTable ns a (pulled ns a deepest)
-pulled_is_table ns r a x = reached ns r.0 r.1 a deepest x (let o : Ranked ns r.0 = r.1 in let low : r.0 x < 160 = o.below x in let e : deepest ≡ 160 = deepest_is in omega arith)
+pulled_is_table ns r a x = reached ns r.0 r.1 a deepest x (let o : Ranked ns r.0 = r.1 in
+    let low : r.0 x < 160 = o.below x in let e : deepest ≡ 160 = deepest_is in omega arith)
 
 -- a node that fires names no place twice
 -- --------------------------------------------------------------
@@ -80,7 +85,8 @@ hits_within [] f q x n e p = absurd (cc)
 hits_within (m ∷ ms) f q zero n e p =
     let same : m ≡ n = cc in
     let here : hits (targets m) q ≡ hits (targets n) q = ap (λ (k : Node). hits (targets k) q) same in
-    let w : weighed (shape (f 0)) (hits (targets m) q) ≡ hits (targets m) q = weighed_here (f 0) (hits (targets m) q) p in
+    let w : weighed (shape (f 0)) (hits (targets m) q) ≡ hits (targets m) q =
+    weighed_here (f 0) (hits (targets m) q) p in
     omega (arith, here, w)
 hits_within (m ∷ ms) f q (suc x) n e p = let k = hits_within ms (λ y. f (suc y)) q x n e p in omega (arith, k)
 

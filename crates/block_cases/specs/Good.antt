@@ -16,9 +16,11 @@ use Rattle.trips_isa.specs.declared.block.Block.{Block}
 abbrev pub IsPlaced : List Node → Type 0
 IsPlaced ns = (x : ℕ) (n : Node) → slice_get ns x ≡ Some n → (n.slot < 128) ⊎ (n.sense ≡ Always)
 
+-- node x names place q
 abbrev pub NamesPlace : List Node → ℕ → ℕ → Type 0
 NamesPlace ns x q = (n : Node) × (slice_get ns x ≡ Some n) × (names (targets n) q ≡ true)
 
+-- no chain of edges comes back
 abbrev pub IsAcyclic : List Node → Type 0
 IsAcyclic ns = HasCycle ns → ⊥
 
@@ -33,21 +35,33 @@ NoGap ns wanted = (q : ℕ) → q < EXIT → wanted q ≡ true → GetsNone ns q
 -- no fault of the third to the eighth kind, where `wanted` says which writes and numbers are
 -- declared
 pub record Good (ns : List Node) (wanted : ℕ → Bool) : Type 0 where
+  -- the third kind, Cycle
   pub acyclic : HasCycle ns → ⊥
+  -- the fourth, TooManyCases
   pub few : cases ns ≤ 256
+  -- the fifth, TwoTokens
   pub no_two : NoTwo ns
+  -- the sixth, NoToken
   pub no_gap : NoGap ns wanted
+  -- the seventh, NoExit
   pub exit : GetsNone ns EXIT → ⊥
+  -- the eighth, TwoExits
   pub one_exit : GetsTwo ns EXIT → ⊥
 
 -- no place gets two tokens, each write and number exactly one, and exactly one exit fires
 pub record OneToken (ns : List Node) (wanted : ℕ → Bool) (f : ℕ → CaseToken) : Type 0 where
+  -- no place below the exit gets two
   pub at_most : (q : ℕ) → q < EXIT → tokens ns f q ≤ 1
+  -- each declared write and each number of the mask gets one
   pub exactly : (q : ℕ) → q < EXIT → wanted q ≡ true → tokens ns f q ≡ 1
+  -- one branch fires
   pub exit : tokens ns f EXIT ≡ 1
 
 -- a good block: no fault of any kind, and with that an order of its nodes along their edges
 pub record GoodBlock (b : Block) : Type 0 where
+  -- no fault of the first and the second kind
   pub in_order : IsInOrder b
+  -- none of the third to the eighth
   pub good : Good (nodes_of b) (wanted_of b)
+  -- an order along the edges, which a block without a cycle has
   pub ranked : IsRanked (nodes_of b)

@@ -1,4 +1,5 @@
--- Tokens and marks pulled side by side, both to the same depth.
+-- Tokens and marks pulled side by side, both to the same depth. Own (docs/MACHINE.md, "Exceptions"):
+-- marks are defined beside a table that is there; this is how a machine that has none comes to both.
 use Rattle.std.specs.Prelude.{ℕ, zero, suc, List, slice_get}
 use Rattle.trips_isa.specs.declared.block.Block.{Block}
 use Rattle.trips_isa.specs.Places.{nodes_of}

@@ -1,4 +1,6 @@
 pub mod Nodes
+pub mod CaseRule
+pub mod Choosers
 pub mod Cases
 pub mod Blocks
 pub mod Orders

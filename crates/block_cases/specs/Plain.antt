@@ -1,4 +1,5 @@
 -- The step that looks at no mark, as the compiler's passes mean it, and the cause of the next block.
+-- Own (docs/MACHINE.md, "Exceptions"): where no block has a cause it is the step of the machine.
 use Rattle.std.specs.Prelude.{◌≡◌, ℕ, zero, suc, List, Option, Some, None, slice_get}
 use Rattle.trips_isa.specs.declared.block.Block.{Block}
 use Rattle.trips_isa.specs.declared.run.Stepped.{Stepped}
@@ -14,9 +15,11 @@ abbrev pub plain_in : List Block → Option Block → State → State × Stepped
 plain_in blocks None s = (s, Went)
 plain_in blocks (Some b) s = apply b.writes.items (plain blocks s.next b s.registers s.memory) s
 
+-- one step that looks at no mark
 abbrev pub plain_step : List Block → State → State × Stepped
 plain_step blocks s = plain_in blocks (slice_get blocks s.next) s
 
+-- after any answer but Went the run stays as it is
 abbrev pub plain_on : List Block → State → Stepped → State × Stepped
 plain_on blocks s Went = plain_step blocks s
 plain_on blocks s answer = (s, answer)
@@ -32,6 +35,7 @@ abbrev pub cause_in : Option Block → State → ℕ
 cause_in None s = 0
 cause_in (Some b) s = cause b (token_of b s.registers s.memory deepest)
 
+-- the cause of the next block of a machine with these blocks
 abbrev pub next_cause : List Block → State → ℕ
 next_cause blocks s = cause_in (slice_get blocks s.next) s
 
@@ -40,6 +44,7 @@ abbrev pub faults_in : List Block → Option Block → State → ℕ → Type 0
 faults_in blocks None s c = ⊥
 faults_in blocks (Some b) s c = outcome blocks s.next b s.registers s.memory ≡ Faults c
 
+-- the next block of a machine with these blocks faults with this cause
 abbrev pub next_faults : List Block → State → ℕ → Type 0
 next_faults blocks s c = faults_in blocks (slice_get blocks s.next) s c
 

@@ -6,10 +6,11 @@ ghost use Rattle.trips_isa.specs.declared.places.TheConstants.{PLACES};
 ghost use Rattle.trips_isa.specs.Fits.{FitsBlock};
 ghost use Rattle.trips_isa.specs.Rule.{Answer};
 ghost use Rattle.trips_isa.specs.Tables.{Computes, IsTable, pulled};
-ghost use Rattle.trips_isa.specs.Blocks.{Answers, Solves, answers_in, token_of};
+ghost use Rattle.trips_isa.specs.Blocks.{Responses, Solves, responses_in, token_of};
 ghost use Rattle.block_cases.specs.declared.token.CaseToken.TheVariants.{Absent};
 ghost use Rattle.block_cases.specs.Nodes.{targets, hits, IsRanked};
-ghost use Rattle.block_cases.specs.Cases.{fires, deepest};
+ghost use Rattle.block_cases.specs.CaseRule.{fires};
+ghost use Rattle.block_cases.specs.Cases.{deepest};
 ghost use Rattle.block_cases.specs.Blocks.{nodes_of, wanted_of};
 ghost use Rattle.block_cases.specs.Good.{Good, GoodBlock, OneToken, IsPlaced, NamesPlace};
 ghost use Rattle.block_cases.specs.Shapes.{shape};
@@ -26,9 +27,9 @@ pub fn tables_are_unique()
 /// reaches it.
 pub fn entry_tables_are_unique()
     ensures only { (b : Block) → IsRanked (nodes_of b) → (regs mem : List ℕ) (g : ℕ → Answer)
-        → Solves b (answers_in b regs mem g) g → (x : ℕ) → g x ≡ token_of b regs mem deepest x }
+        → Solves b (responses_in b regs mem g) g → (x : ℕ) → g x ≡ token_of b regs mem deepest x }
     ensures some { (b : Block) → IsRanked (nodes_of b) → (regs mem : List ℕ)
-        → Solves b (answers_in b regs mem (token_of b regs mem deepest))
+        → Solves b (responses_in b regs mem (token_of b regs mem deepest))
         (token_of b regs mem deepest) }
 {}
 
@@ -49,13 +50,13 @@ pub fn any_bits_agree_with_a_case()
 /// Law one token: whatever the reads and loads of a good block are answered, no place gets two
 /// tokens, no two producers of a place fire, and what fires names no place twice.
 pub fn good_blocks_keep_one_token()
-    ensures tokens { (b : Block) → FitsBlock b → GoodBlock b → (answers : Answers) (g : ℕ → Answer)
-        → Solves b answers g → OneToken (nodes_of b) (wanted_of b) (λ x. shape (g x)) }
+    ensures tokens { (b : Block) → FitsBlock b → GoodBlock b → (responses : Responses) (g : ℕ → Answer)
+        → Solves b responses g → OneToken (nodes_of b) (wanted_of b) (λ x. shape (g x)) }
     ensures producers { (b : Block) → FitsBlock b → GoodBlock b
-        → (answers : Answers) (g : ℕ → Answer)
-        → Solves b answers g → (q x y : ℕ) → q < PLACES → NamesPlace (nodes_of b) x q
+        → (responses : Responses) (g : ℕ → Answer)
+        → Solves b responses g → (q x y : ℕ) → q < PLACES → NamesPlace (nodes_of b) x q
         → NamesPlace (nodes_of b) y q → g x ≢ None → g y ≢ None → x ≡ y }
-    ensures once { (b : Block) → FitsBlock b → GoodBlock b → (answers : Answers) (g : ℕ → Answer)
-        → Solves b answers g → (q x : ℕ) (n : Node) → q < PLACES → slice_get (nodes_of b) x ≡ Some n
+    ensures once { (b : Block) → FitsBlock b → GoodBlock b → (responses : Responses) (g : ℕ → Answer)
+        → Solves b responses g → (q x : ℕ) (n : Node) → q < PLACES → slice_get (nodes_of b) x ≡ Some n
         → g x ≢ None → hits (targets n) q ≤ 1 }
 {}

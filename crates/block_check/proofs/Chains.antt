@@ -4,7 +4,8 @@ use Rattle.std.proofs.Common.{inl, inr, List, [], ◌∷◌, length, take, Optio
 use Rattle.std.proofs.Common.{refl, sym, ap, ap₂, ◌∙◌, arith, nat_lt, ◌==◌}
 use Rattle.trips_isa.specs.declared.node.Node.{Node}
 use Rattle.block_cases.specs.Nodes.{targets, names, Edge, Ranked, IsRanked}
-use Rattle.block_cases.specs.Cases.{bit, is_copy, names_predicate, asks, through, leads_from, leads}
+use Rattle.block_cases.specs.Choosers.{is_copy, names_predicate, asks, through, leads_from, leads}
+use Rattle.block_cases.specs.Cases.{bit}
 use Rattle.block_cases.specs.Cases.{deepest}
 use Rattle.block_check.specs.inside.Pass.{AllInPlace, Spare}
 use Rattle.block_check.specs.inside.Leads.{at_slot, leads_at, FalseFrom, led_from, NoneNamesPredicate}

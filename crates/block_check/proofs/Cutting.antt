@@ -9,9 +9,13 @@ use Rattle.block_cases.specs.declared.token.CaseToken.TheVariants.{Absent}
 use Rattle.trips_isa.specs.declared.form.Role.TheVariants.{Empty}
 use Rattle.trips_isa.specs.declared.node.Node.{Node}
 use Rattle.block_cases.specs.Nodes.{targets, names, one_if}
-use Rattle.block_cases.specs.Cases.{deepest, no, is_copy, names_predicate, asks, through, leads_from}
-use Rattle.block_cases.specs.Cases.{leads, is_chooser, present, bit, token, has_bit, is_case, IsCase}
-use Rattle.block_cases.specs.Cases.{taken, or_else, first, pulled, fires, ones_pass, count, cases}
+use Rattle.block_cases.specs.CaseRule.{no}
+use Rattle.block_cases.specs.Choosers.{is_copy, names_predicate, asks, through, leads_from}
+use Rattle.block_cases.specs.Cases.{deepest}
+use Rattle.block_cases.specs.Choosers.{leads, is_chooser}
+use Rattle.block_cases.specs.Cases.{present, bit, token, has_bit, is_case, IsCase}
+use Rattle.block_cases.specs.CaseRule.{taken, or_else, first, pulled, fires}
+use Rattle.block_cases.specs.Cases.{ones_pass, count, cases}
 use Rattle.block_cases.specs.Cases.{tokens, InSomeCase}
 use Rattle.block_check.specs.inside.Walk.{zeros}
 use Rattle.block_check.specs.inside.Pass.{Spare}

@@ -5,7 +5,7 @@ use Rattle.std.proofs.Common.{refl, sym, ap, ◌∙◌, subst, arith, nat_lt, �
 use Rattle.std.proofs.lemmas.Option.{get_or_from_slice_get}
 use Rattle.trips_isa.specs.declared.node.Node.{Node}
 use Rattle.block_cases.specs.Nodes.{feeds, one_if, Walk, Step, Then, HasCycle}
-use Rattle.block_cases.specs.Cases.{no}
+use Rattle.block_cases.specs.CaseRule.{no}
 use Rattle.block_check.specs.inside.PartOrder.{unplaced, PartOrder, AllStuck}
 use Rattle.block_cases.proofs.Alike.{both_true, and_true}
 

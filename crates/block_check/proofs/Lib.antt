@@ -9,6 +9,7 @@ pub mod Fitting
 pub mod Counting
 pub mod Lowest
 pub mod Starts
+pub mod Chunks
 pub mod Making
 pub mod Sparing
 pub mod Owing

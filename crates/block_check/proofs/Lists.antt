@@ -3,7 +3,8 @@ use Rattle.std.proofs.Common.{◌≡◌, ℕ, zero, suc, ◌+◌, Bool, true, fa
 use Rattle.std.proofs.Common.{List, [], ◌∷◌, length, refl, sym}
 use Rattle.std.proofs.Common.{ap, ap₂, arith}
 use Rattle.block_cases.specs.Nodes.{one_if}
-use Rattle.block_cases.specs.Cases.{no, bit}
+use Rattle.block_cases.specs.CaseRule.{no}
+use Rattle.block_cases.specs.Cases.{bit}
 use Rattle.block_cases.specs.Cases.{count}
 use Rattle.block_cases.proofs.Alike.{both_true, and_true}
 

@@ -8,7 +8,7 @@ use Rattle.trips_isa.specs.declared.block.Spot.TheVariants.{Store}
 use Rattle.trips_isa.specs.declared.block.Block.{Block}
 use Rattle.block_cases.specs.Nodes.{HasCycle}
 use Rattle.block_cases.specs.Cases.{cases, GetsTwo, GetsNone}
-use Rattle.trips_isa.specs.Blocks.{computes, answers_in, token_of}
+use Rattle.trips_isa.specs.Blocks.{computes, responses_in, token_of}
 use Rattle.trips_isa.specs.Tables.{deepest}
 use Rattle.block_cases.proofs.Settled.{token_solves}
 use Rattle.block_cases.proofs.OneToken.{good_machine}
@@ -351,10 +351,10 @@ found_checked b fits g = record {
   good = found_good b fits g;
   cases = g;
   one_token = one;
-  from_entry = λ regs mem. one (answers_in b regs mem (token_of b regs mem deepest)) (token_of b
+  from_entry = λ regs mem. one (responses_in b regs mem (token_of b regs mem deepest)) (token_of b
       regs mem deepest) (token_solves b regs mem g.ranked);
 }
   where
     one : KeepsOneToken b
-    one answers t s = good_machine (nodes_of b) (wanted_of b) g.ranked (nodes_placed b fits) g.good
-        (computes b answers) t s
+    one responses t s = good_machine (nodes_of b) (wanted_of b) g.ranked (nodes_placed b fits) g.good
+        (computes b responses) t s

@@ -7,7 +7,8 @@ use Rattle.block_cases.specs.declared.token.CaseToken.{CaseToken}
 use Rattle.block_cases.specs.declared.token.CaseToken.TheVariants.{Absent}
 use Rattle.trips_isa.specs.declared.node.Node.{Node}
 use Rattle.block_cases.specs.Nodes.{targets, names, Ranked}
-use Rattle.block_cases.specs.Cases.{taken, or_else, first, pulled, fires, deepest}
+use Rattle.block_cases.specs.CaseRule.{taken, or_else, first, pulled, fires}
+use Rattle.block_cases.specs.Cases.{deepest}
 use Rattle.block_check.specs.inside.Pass.{AllInPlace, tok_at, once, rounds_from}
 use Rattle.block_cases.proofs.Steady.{fire_same, pulled_same, only_one, deepest_is}
 

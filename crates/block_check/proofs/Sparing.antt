@@ -5,7 +5,7 @@ use Rattle.block_cases.specs.declared.token.CaseToken.{CaseToken}
 use Rattle.block_cases.specs.declared.token.CaseToken.TheVariants.{Absent, Null, Bit}
 use Rattle.trips_isa.specs.declared.node.Node.{Node}
 use Rattle.block_cases.specs.Nodes.{targets, names, hits}
-use Rattle.block_cases.specs.Cases.{matches, gives, if_matched, taken, or_else, first, pulled}
+use Rattle.block_cases.specs.CaseRule.{matches, gives, if_matched, taken, or_else, first, pulled}
 use Rattle.block_cases.specs.Cases.{weighed, tokens}
 use Rattle.block_check.specs.inside.Pass.{Spare, AbsentFrom, tok_at}
 

@@ -4,7 +4,9 @@ use Rattle.std.proofs.Common.{nat_lt, List, [], ◌∷◌, ◌++◌, length, sli
 use Rattle.std.proofs.Common.{ap, ap₂, ◌∙◌, subst, true≢false, arith}
 use Rattle.trips_isa.specs.declared.node.Node.{Node}
 use Rattle.block_cases.specs.Nodes.{names, one_if, Ranked}
-use Rattle.block_cases.specs.Cases.{no, deepest, is_chooser, present, bit, token, has_bit}
+use Rattle.block_cases.specs.CaseRule.{no}
+use Rattle.block_cases.specs.Choosers.{is_chooser}
+use Rattle.block_cases.specs.Cases.{deepest, present, bit, token, has_bit}
 use Rattle.block_cases.specs.Cases.{ones_pass, is_case, IsCase, count}
 use Rattle.block_check.specs.inside.Walk.{branch, walk, tally, Sorted, zeros, Order}
 use Rattle.block_cases.proofs.Steady.{or_left, or_right, present_below}

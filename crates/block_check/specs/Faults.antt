@@ -75,7 +75,9 @@ fault_order TwoExits = 16384
 
 -- the fault of the lowest number, at its least spot
 pub record IsLowestFault (b : Block) (f : CheckFault) : Type 0 where
+  -- the block has it
   pub holds : HasFault b f
+  -- and none of a lower number, nor of this number at a lesser spot
   pub lowest : (g : CheckFault) → HasFault b g → fault_order f ≤ fault_order g
 
 -- no fault holds

@@ -13,7 +13,9 @@ use Rattle.block_check.specs.IsChecked.{IsChecked}
 pub record IsFirstBad (image : Image) (number : ℕ) (fault : CheckFault) : Type 0 where
   pub block : Block
   pub is_block : slice_get image.blocks number ≡ Some block
+  -- of the faults that this block has it is the lowest
   pub has : IsLowestFault block fault
+  -- the blocks before it have none
   pub before : (k : ℕ) (b : Block) → k < number → slice_get image.blocks k ≡ Some b → IsGood b
 
 -- why an image is refused: its first bad block with that block's fault, or want of memory, of which
@@ -24,5 +26,7 @@ IsRefusal image Memory = Unit {0}
 
 -- what is known of a checked image: it fits, and each of its blocks was checked
 pub record IsCheckedImage (image : Image) : Type 0 where
+  -- each field of the image is in its width
   pub fits : FitsImage image
+  -- no block has a fault
   pub each : All IsChecked image.blocks

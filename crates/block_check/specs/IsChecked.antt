@@ -3,7 +3,7 @@ use Rattle.std.specs.Prelude.{ℕ, List}
 use Rattle.trips_isa.specs.declared.block.Block.{Block}
 use Rattle.trips_isa.specs.Fits.{FitsBlock}
 use Rattle.trips_isa.specs.Rule.{Answer}
-use Rattle.trips_isa.specs.Blocks.{Answers, Solves, token_of}
+use Rattle.trips_isa.specs.Blocks.{Responses, Solves, token_of}
 use Rattle.trips_isa.specs.Tables.{deepest}
 use Rattle.block_cases.specs.Blocks.{nodes_of, wanted_of}
 use Rattle.block_cases.specs.Good.{GoodBlock, OneToken}
@@ -14,7 +14,7 @@ use Rattle.block_check.specs.Faults.{IsGood}
 -- number of the mask gets one, and one exit is taken
 abbrev pub KeepsOneToken : Block → Type 0
 KeepsOneToken b =
-    (answers : Answers) (g : ℕ → Answer) → Solves b answers g →
+    (responses : Responses) (g : ℕ → Answer) → Solves b responses g →
     OneToken (nodes_of b) (wanted_of b) (λ x. shape (g x))
 
 -- law one token in every entry state: the same of the tokens that the block gives from any registers
@@ -26,8 +26,13 @@ KeepsOneTokenFromEntry b =
 
 -- a checked block fits, has no fault, is good by its cases, and keeps one token
 pub record IsChecked (b : Block) : Type 0 where
+  -- each field is in its width
   pub fits : FitsBlock b
+  -- it has no fault
   pub good : IsGood b
+  -- it is good, by its cases
   pub cases : GoodBlock b
+  -- so it keeps one token, whatever its reads and loads are answered
   pub one_token : KeepsOneToken b
+  -- also from every entry state
   pub from_entry : KeepsOneTokenFromEntry b

@@ -1,8 +1,11 @@
 ghost use Rattle.std.specs.Prelude.{◌≡◌, ◌<◌, ◌≤◌, ◌+◌, ◌^◌, [], ◌∷◌, ◌++◌, Some, All, length};
-ghost use Rattle.std.specs.Prelude.{slice_get};
+ghost use Rattle.std.specs.Prelude.{slice_get, List, sum_by};
+ghost use Rattle.trips_isa.specs.declared.block.Block.{Block};
 ghost use Rattle.std.specs.Prelude.{IfOk, IfErr, OnOk};
 ghost use Rattle.trips_isa.specs.Fits.{FitsBlock};
-ghost use Rattle.trips_isa.specs.Images.{chunks, chunk_of, starting_at, FitsImage};
+ghost use Rattle.trips_isa.specs.Alu.{word};
+ghost use Rattle.trips_isa.specs.Images.{chunks, chunk_of, starting_at, block_at, FitsImage};
+ghost use Rattle.trips_isa.specs.Outcomes.{to_following, to_offset};
 ghost use Rattle.block_check.specs.Faults.{IsLowestFault};
 ghost use Rattle.block_check.specs.IsChecked.{IsChecked};
 ghost use Rattle.block_check.specs.Images.{IsCheckedImage, IsRefusal};
@@ -123,6 +126,18 @@ fn copy_blocks(alloc: Global, blocks: &[CheckedBlock]) -> Result<Vec<Block>, All
     Ok(copy)
 }
 
+// The chunk, or one at which no block of an image starts where none starts at this one.
+fn capped(chunk: u64) -> u32
+    ensures { (blocks : List Block) → sum_by chunks blocks ≤ 524288
+        → block_at blocks result ≡ block_at blocks chunk }
+{
+    if chunk < 524_288 {
+        chunk as u32
+    } else {
+        524_288
+    }
+}
+
 impl CheckedImage {
     /// Checks the blocks of an image in their order.
     pub fn make(alloc: Global, image: Image) -> Result<CheckedImage, ImageRefusal>
@@ -185,6 +200,38 @@ impl CheckedImage {
             Ok(number) => Some(number as u32),
             Err(_) => None,
         }
+    }
+
+    /// The block whose first chunk this is; where no block starts there, block 0.
+    pub fn block_at(&self, chunk: u64) -> u32
+        ensures value { result ≡ block_at self.now.blocks chunk }
+        ensures within { result < length self.now.blocks }
+        ensures image { IsCheckedImage self.now }
+    {
+        self.starting_at(capped(chunk)).unwrap_or(0)
+    }
+
+    /// The block after this one; after the last, block 0.
+    pub fn following(&self, number: u32) -> u32
+        requires number { number < length self.now.blocks }
+        ensures value { result ≡ to_following self.now.blocks number }
+        ensures within { result < length self.now.blocks }
+        ensures image { IsCheckedImage self.now }
+    {
+        let last = self.count() - 1;
+        if number < last { number + 1 } else { 0 }
+    }
+
+    /// The block whose first chunk lies so many chunks after that of this one; where none starts there,
+    /// block 0.
+    pub fn at_offset(&self, number: u32, offset: i32) -> u32
+        requires number { number < length self.now.blocks }
+        ensures value { result ≡ to_offset self.now.blocks number (word offset) }
+        ensures within { result < length self.now.blocks }
+        ensures image { IsCheckedImage self.now }
+    {
+        let chunk = self.address(number) as u64;
+        self.block_at(chunk.wrapping_add((offset as i64).cast_unsigned()))
     }
 
     /// The start of data memory.

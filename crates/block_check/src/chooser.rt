@@ -2,8 +2,9 @@
 ghost use Rattle.std.specs.Prelude.{nat_le, nat_lt, ◌≡◌, ◌<◌, ◌≤◌, ◌+◌, ◌||◌, ◌&&◌, ◌==◌, ℕ};
 ghost use Rattle.std.specs.Prelude.{length, slice_index_or, slice_get, slice_set, false, true};
 ghost use Rattle.block_cases.specs.Nodes.{IsRanked, targets};
-ghost use Rattle.block_cases.specs.Cases.{bit, leads, deepest, is_chooser, is_copy};
-ghost use Rattle.block_cases.specs.Cases.{names_predicate, leads_from};
+ghost use Rattle.block_cases.specs.Choosers.{leads, is_chooser, is_copy};
+ghost use Rattle.block_cases.specs.Cases.{bit, deepest};
+ghost use Rattle.block_cases.specs.Choosers.{names_predicate, leads_from};
 ghost use Rattle.block_check.specs.inside.Pass.{InPlace, AllInPlace, Spare};
 ghost use Rattle.block_check.specs.inside.Found.{Choosing};
 ghost use Rattle.block_check.specs.inside.Leads.{at_slot, leads_on, leads_at, FalseFrom};

@@ -2,8 +2,9 @@
 ghost use Rattle.std.specs.Prelude.{◌≡◌, ◌<◌, ◌≤◌, ◌+◌, ℕ, length, slice_get, false, cond};
 ghost use Rattle.std.specs.Prelude.{slice_set};
 ghost use Rattle.block_cases.specs.Nodes.{targets, names, IsRanked};
-ghost use Rattle.block_cases.specs.Cases.{matches, one_word, both_words, gives, fire};
-ghost use Rattle.block_cases.specs.Cases.{first, pulled, bit, token, or_else};
+ghost use Rattle.block_cases.specs.CaseRule.{matches, one_word, both_words, gives, fire};
+ghost use Rattle.block_cases.specs.CaseRule.{first, pulled, or_else};
+ghost use Rattle.block_cases.specs.Cases.{bit, token};
 ghost use Rattle.block_check.specs.inside.Pass.{InPlace, AllInPlace, Spare, AbsentFrom, tok_at, once};
 
 use block_cases::CaseToken;

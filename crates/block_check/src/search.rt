@@ -2,7 +2,8 @@
 ghost use Rattle.std.specs.Prelude.{◌≡◌, ◌<◌, ◌≤◌, ◌+◌, ◌||◌, ◌&&◌, ◌==◌, ℕ, List, Bool, [], ◌∷◌};
 ghost use Rattle.std.specs.Prelude.{length, slice_index, slice_get, true, nat_lt, min, drop, All};
 ghost use Rattle.block_cases.specs.Nodes.{IsRanked, targets, hits, one_if};
-ghost use Rattle.block_cases.specs.Cases.{bit, token, tokens, is_chooser, present};
+ghost use Rattle.block_cases.specs.Choosers.{is_chooser};
+ghost use Rattle.block_cases.specs.Cases.{bit, token, tokens, present};
 ghost use Rattle.block_check.specs.inside.PartOrder.{IsOrdered};
 ghost use Rattle.block_check.specs.inside.Pass.{InPlace, AllInPlace, Spare, AbsentFrom, tok_at};
 ghost use Rattle.block_check.specs.inside.Found.{Explored, Added, Choosing, others};

@@ -2,8 +2,8 @@
 //! through `mov`s.
 
 use base::Items;
-use fan_out::{FlowFault, target};
-use ir_forms::{FlowBlock, FlowNode, FlowSource, FlowWrite};
+use fan_out::target;
+use ir_forms::{FlowBlock, FlowFault, FlowNode, FlowSource, FlowWrite};
 use std::alloc::Global;
 use std::process::Abort;
 use std::test::Fail;

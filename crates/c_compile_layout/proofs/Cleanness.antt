@@ -22,12 +22,12 @@ use Rattle.trips_isa.specs.Operands.{operands}
 use Rattle.trips_isa.specs.Places.{inst_node, nodes_of}
 use Rattle.trips_isa.specs.Rule.{Answer, if_matched, matched}
 use Rattle.trips_isa.specs.Tables.{deepest, node_gives, IsRanked}
-use Rattle.trips_isa.specs.Blocks.{at_place, answers_in, computes, inst_at, is_read, slot_at, token_of}
+use Rattle.trips_isa.specs.Blocks.{at_place, responses_in, computes, inst_at, is_read, slot_at, token_of}
 use Rattle.trips_isa.specs.Acts.{Act, Divided, is_fault, is_clean, acts_by, acts_if_read, acts_in, fired_acts}
 use Rattle.trips_isa.specs.Acts.{own_acts, IsClean}
 use Rattle.block_cases.proofs.Nodes.{slot_got}
 use Rattle.block_cases.proofs.Settled.{token_solves}
-use Rattle.fan_out.specs.Means.{block_acts, inst_act_tokens, slot_acts, slots_acts}
+use Rattle.fan_out.specs.Means.{acts_by_slot, inst_act_tokens, slot_acts, slots_acts}
 
 -- PARTS OF A CLEAN LIST
 
@@ -166,7 +166,7 @@ read_clean n own at (Some t) s = nothing_done own _ s
 
 -- a block whose slots do nothing that faults is clean, in whatever order its nodes stand
 pub slots_clean : (b : Block) → IsRanked (nodes_of b) → (regs mem : List ℕ)
-    → is_clean (block_acts b regs mem) ≡ true → IsClean b (token_of b regs mem deepest)
+    → is_clean (acts_by_slot b regs mem) ≡ true → IsClean b (token_of b regs mem deepest)
 slots_clean b ranked regs mem clean x = node (slice_get (nodes_of b) x) refl
   where
     by : (n : Node) → slice_get (nodes_of b) x ≡ Some n → (v : Bool) → is_read b x ≡ v
@@ -185,17 +185,17 @@ slots_clean b ranked regs mem clean x = node (slice_get (nodes_of b) x) refl
         clean) in
         let table : token_of b regs mem deepest x
         ≡ node_gives (Some (inst_node (slot_at b x) (inst_at b x)))
-        (computes b (answers_in b regs mem (token_of b regs mem deepest)) x)
+        (computes b (responses_in b regs mem (token_of b regs mem deepest)) x)
         (at_place b (token_of b regs mem deepest)) =
         token_solves b regs mem ranked x
         ∙ ap (λ o. node_gives o
-        (computes b (answers_in b regs mem (token_of b regs mem deepest)) x)
+        (computes b (responses_in b regs mem (token_of b regs mem deepest)) x)
         (at_place b (token_of b regs mem deepest))) (e ∙ ap Some is) in
         subst (λ m. is_clean (fired_acts (Some m) (acts_if_read false (inst_at b x))
         (at_place b (token_of b regs mem deepest)) (token_of b regs mem deepest x)) ≡ true)
         (sym is)
         (slot_fires_clean (at_place b (token_of b regs mem deepest))
-        (computes b (answers_in b regs mem (token_of b regs mem deepest)) x)
+        (computes b (responses_in b regs mem (token_of b regs mem deepest)) x)
         (acts_if_read false (inst_at b x)) (slot_at b x)
         (inst_at b x) (token_of b regs mem deepest x) table (λ k l. refl) here)
 

@@ -110,7 +110,7 @@ module _ (chunk : ℕ → ℕ) where
     pub there : slice_get us i ≡ Some block
     pub is : resolved_block (by_both chunk (k + i)) block ≡ t
 
-  came : (k : ℕ) (us : List Block) (i : ℕ) (t : Block)
+  pub came : (k : ℕ) (us : List Block) (i : ℕ) (t : Block)
       → slice_get (linked_from chunk k us) i ≡ Some t → Came k us i t
   came k [] i t e = absurd (cc)
   came k (u ∷ us) zero t e =
@@ -160,7 +160,7 @@ inst_nodes_same r j (Some i ∷ is) = ap (λ x. inst_node j (Some i) ∷ x) (ins
 pub nodes_same : (r : Resolves) (t : Block) → nodes_of (resolved_block r t) ≡ nodes_of t
 nodes_same r t = ap (λ x. map read_node t.reads.items ++ x) (inst_nodes_same r 0 t.insts.items)
 
-index_map : (r : Resolves) (is : List (Option Inst)) (s : ℕ)
+pub index_map : (r : Resolves) (is : List (Option Inst)) (s : ℕ)
     → slice_index_or (map (resolved_slot r) is) s None ≡ resolved_slot r (slice_index_or is s None)
 index_map r [] s = refl
 index_map r (i ∷ is) zero = refl

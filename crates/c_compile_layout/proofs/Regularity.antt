@@ -1,4 +1,4 @@
--- A resolved flow block is regular where the block is.
+-- A resolved flow block is regular where the block is, and only there.
 use Rattle.std.proofs.Common.{◌≡◌, ℕ, ◌||◌, List, [], ◌∷◌, map, Option, Some, None, slice_get, refl}
 use Rattle.std.proofs.Common.{sym, ap, subst, ◌∙◌}
 use Rattle.std.specs.Prelude.{option_map}
@@ -73,4 +73,30 @@ regular_resolved r f g = record {
       let x = was r f.nodes j n s in
       named_same r f (Node j)
       ∙ g.silent j x.node x.there (ap (λ (z : FlowNode). is_silent (form_of z.op)) x.is ∙ e);
+}
+
+-- A NODE IN ITS PLACE
+
+stands : (r : Resolves) (ns : List FlowNode) (j : ℕ) (n : FlowNode) → slice_get ns j ≡ Some n
+    → slice_get (map (resolved_node r) ns) j ≡ Some (resolved_node r n)
+stands r ns j n s = slice_get-map (resolved_node r) ns j ∙ ap (option_map (resolved_node r)) s
+
+-- no part of it looks at an immediate
+pub regular_before : (r : Resolves) (f : FlowBlock) → IsRegular (resolved r f) → IsRegular f
+regular_before r f g = record {
+  registers = g.registers;
+  loads = λ i j m n s t a b e.
+      g.loads i j (resolved_node r m) (resolved_node r n) (stands r f.nodes i m s)
+      (stands r f.nodes j n t) a b e;
+  unmasked = λ j n s a. g.unmasked j (resolved_node r n) (stands r f.nodes j n s) a;
+  masked = λ j n s a. g.masked j (resolved_node r n) (stands r f.nodes j n s) a;
+  operands = λ j n s.
+      let t = g.operands j (resolved_node r n) (stands r f.nodes j n s) in
+      record { left = t.left; right = t.right };
+  guards = λ j n d s e. g.guards j (resolved_node r n) d (stands r f.nodes j n s) e;
+  low = g.low;
+  reads = g.reads;
+  used = λ i q s. sym (named_same r f (Read q)) ∙ g.used i q s;
+  silent = λ j n s e.
+      sym (named_same r f (Node j)) ∙ g.silent j (resolved_node r n) (stands r f.nodes j n s) e;
 }

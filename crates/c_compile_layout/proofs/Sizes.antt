@@ -11,7 +11,7 @@ use Rattle.fan_out.specs.declared.wiring.Wire.{Wire}
 use Rattle.fan_out.specs.Targeted.{fan_of_read, filled, read_slots, register_of, slot_of, slots}
 use Rattle.fan_out.specs.Targeted.{HasRoom, IsTargeted}
 use Rattle.fan_out.specs.Wires.{wires}
-use Rattle.c_compile_layout.specs.Emitted.{HasSizes}
+use Rattle.grid_place.specs.Moves.{HasSizes}
 
 filled_size : (ps : List Placed) → length ps ≤ 128 → length (filled ps) ≡ 128
 filled_size ps l =

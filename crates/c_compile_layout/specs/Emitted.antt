@@ -55,12 +55,6 @@ pub record IsEmitted (at : Layout) (n : ℕ) (b : hyper.Block) (u : Block) : Typ
   pub permutes : Permutes there back
   pub placed : IsMoved there target u
 
--- the parts of a block have their sizes
-pub record HasSizes (b : Block) : Type 0 where
-  pub reads : length b.reads.items ≤ 32
-  pub writes : length b.writes.items ≤ 32
-  pub insts : length b.insts.items ≡ 128
-
 -- 104,857 blocks of five chunks lie in an image
 abbrev pub most_blocks : ℕ
 most_blocks = 104857

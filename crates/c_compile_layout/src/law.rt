@@ -13,11 +13,11 @@ ghost use Rattle.ir_forms.specs.declared.flow.FlowBlock.{FlowBlock};
 ghost use Rattle.ir_forms.specs.FlowFits.{FitsFlow};
 ghost use Rattle.ir_forms.specs.HyperCode.{Block as HyperBlock};
 ghost use Rattle.ir_forms.specs.HyperWords.{AreBytes, IsFaithful};
-ghost use Rattle.grid_place.specs.Moves.{IsMoved};
-ghost use Rattle.fan_out.specs.Means.{block_acts};
+ghost use Rattle.grid_place.specs.Moves.{HasSizes, IsMoved};
+ghost use Rattle.fan_out.specs.Means.{acts_by_slot};
 ghost use Rattle.fan_out.specs.Targeted.{HasRoom, IsTargeted};
 ghost use Rattle.c_compile_layout.specs.Emitted.{AreEmitted, ImageMeans, ImageMeansPlainly};
-ghost use Rattle.c_compile_layout.specs.Emitted.{HasSizes, IsGoodImage, NeverTraps, image_of, most_blocks};
+ghost use Rattle.c_compile_layout.specs.Emitted.{IsGoodImage, NeverTraps, image_of, most_blocks};
 ghost use Rattle.c_compile_layout.specs.Joint.{AreMade, DoesPlainly, DoesTheSame, HasStarts};
 ghost use Rattle.c_compile_layout.specs.Layouts.{laid_out, linked, AreFew, HasPlaces};
 ghost use Rattle.c_compile_layout.specs.Standings.{MeansPlainly, MeansTheSame};
@@ -73,7 +73,7 @@ pub fn blocks_that_fit_have_starts()
 /// Where nothing faults of what a block does, slot for slot, nothing that a node of it does faults.
 pub fn clean_slots_are_clean_blocks()
     ensures { (b : Block) → IsRanked (nodes_of b) → (regs mem : List ℕ)
-        → is_clean (block_acts b regs mem) ≡ true → IsClean b (token_of b regs mem deepest) }
+        → is_clean (acts_by_slot b regs mem) ≡ true → IsClean b (token_of b regs mem deepest) }
 {}
 
 /// To resolve the labels of blocks moves none of them, and makes an image's blocks of what the

@@ -1,3 +1,4 @@
+pub mod SameKinds
 pub mod Shifts
 pub mod Sizes
 pub mod Conversions

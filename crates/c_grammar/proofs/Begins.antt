@@ -170,12 +170,15 @@ writes_shorter (compound x) = let h = writes_shorter x in omega arith
 writes_shorter empty = omega arith
 writes_shorter (plain x) = let h = spells_shorter x in omega arith
 writes_shorter (if_only c x) = let h = writes_shorter c in let i = writes_shorter x in omega arith
-writes_shorter (if_else c x y) = let h = writes_shorter c in let i = writes_shorter x in let j = writes_shorter y in omega arith
+writes_shorter (if_else c x y) =
+    let h = writes_shorter c in let i = writes_shorter x in let j = writes_shorter y in omega arith
 writes_shorter (while c x) = let h = writes_shorter c in let i = writes_shorter x in omega arith
 writes_shorter (repeat x c) = let h = writes_shorter c in let i = writes_shorter x in omega arith
 writes_shorter (init_local ok x) = writes_shorter x
 writes_shorter (init_plain x) = writes_shorter x
-writes_shorter (for x o o' y) = let h = writes_shorter x in let i = writes_shorter o in let j = writes_shorter o' in let k = writes_shorter y in omega arith
+writes_shorter (for x o o' y) =
+    let h = writes_shorter x in let i = writes_shorter o in let j = writes_shorter o' in let k = writes_shorter y in
+    omega arith
 writes_shorter break = omega arith
 writes_shorter continue = omega arith
 writes_shorter (return x) = let h = writes_shorter x in omega arith

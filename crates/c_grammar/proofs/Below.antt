@@ -142,7 +142,15 @@ nest_sound h ts (read x t a k) = read x t
       again = λ may w u. h may w x _ u (a.again may w u);
     }) k
 nest_sound {m = m} h ts (stuck s o) =
-    stuck s (record { put = o.put; way = o.way; is = o.is; more = o.more; grows = o.grows; held = o.held; completes = λ u. let c = o.completes u in (c.0, h (before m (o.more u)) (opens m (o.more u)) c.0 _ u c.1) })
+    stuck s (record {
+      put = o.put;
+      way = o.way;
+      is = o.is;
+      more = o.more;
+      grows = o.grows;
+      held = o.held;
+      completes = λ u. let c = o.completes u in (c.0, h (before m (o.more u)) (opens m (o.more u)) c.0 _ u c.1);
+    })
 
 pub below_good : (m left d : ℕ) → d + left ≡ m → Good (below_at left) m d
 unfolding below_at
@@ -169,7 +177,8 @@ below_good m zero d fits =
 below_good m (suc left) d fits =
     let fits' : suc d + left ≡ m = omega (arith, fits) in
     let ok : leb (suc d) m ≡ true = le-leb (suc d) m (omega (arith, fits)) in
-    let p = stmt_piece m (suc d) (inside left) (inside_known m left (suc d) fits') (below_at left) (below_good m left (suc d) fits') in
+    let p = stmt_piece m (suc d) (inside left) (inside_known m left (suc d) fits') (below_at left)
+    (below_good m left (suc d) fits') in
     let q = locals_piece m (suc d) (inside left) (inside_known m left (suc d) fits') in
     record {
       inner_piece = record {

@@ -466,7 +466,8 @@ module _ (m d : ℕ) (nested : Nested) (known : Deeper nested m d) where
   unary_from may _ f t (join j x y) e = let h = (below_joins j).many in absurd (omega (arith, e, h))
   unary_from may _ f t (choice x ok y z) e = absurd (omega (arith, e))
   unary_from may _ f t (assign s x ok y) e = absurd (omega (arith, e))
-  unary_from may i f t (up {n = n} x) e = let h : n ≡ 1 = omega (arith, e) in plain (subst (λ (k : ℕ). Spells may (expr k i) d f t) h x)
+  unary_from may i f t (up {n = n} x) e =
+      let h : n ≡ 1 = omega (arith, e) in plain (subst (λ (k : ℕ). Spells may (expr k i) d f t) h x)
 
   pub unary_piece : Piece same_tree (Level 2 d) any always (ends_at 2) zero_first m
       (unary_of nested)

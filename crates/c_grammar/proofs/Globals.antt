@@ -118,7 +118,9 @@ module _ (m : ℕ) (nested : Nested) (known : Deeper nested m 0) where
           → SizeIs may a f t
       to may a f t (this r) = subst (λ (f : Tokens). SizeIs may a f t) (sym r.2)
           (ends_with (λ a t. SizeIs may a (punct r.0 mark.RightBracket ∷ r.1) t) no_size r.3)
-      to may a f t (that r) = let k = r.3 in ends_with (λ a t. SizeIs may a f t) (some_size (subst (λ (u : Tokens). Spells may (expr 14 r.0) 0 f u) k.2 r.2)) k.3
+      to may a f t (that r) =
+          let k = r.3 in ends_with (λ a t. SizeIs may a f t)
+          (some_size (subst (λ (u : Tokens). Spells may (expr 14 r.0) 0 f u) k.2 r.2)) k.3
 
       from : (may : May) (a : ArraySize) (f t : Tokens) → SizeIs may a f t
           → Either NoSize SomeSize may a f t
@@ -313,7 +315,8 @@ module _ (m : ℕ) (nested : Nested) (known : Deeper nested m 0) where
           let x = r.3 in
           subst (λ (f : Tokens). ShapeIs may s f t) (sym r.2)
           (ends_with (λ s t. ShapeIs may s (punct r.0 mark.Assign ∷ r.1) t) (valued x.2) x.3)
-      to may s f t (that (this r)) = let a = r.3 in subst (λ (f : Tokens). ShapeIs may s f t) (sym r.2) (array_to may r.0 a.0 s r.1 a.1 t a.2 a.3)
+      to may s f t (that (this r)) =
+          let a = r.3 in subst (λ (f : Tokens). ShapeIs may s f t) (sym r.2) (array_to may r.0 a.0 s r.1 a.1 t a.2 a.3)
       to may s f t (that (that r)) = ends_with (λ s t. ShapeIs may s f t) bare r
 
       from : (may : May) (s : ArraySize × List Expr) (f t : Tokens) → ShapeIs may s f t
@@ -557,7 +560,8 @@ module _ (m : ℕ) (nested : Nested) (known : Deeper nested m 0) where
       (λ t. omega arith) (λ may n p u t r h. brackets_no_name may r.0 u r.1 r.2
       (subst (λ (u : Tokens). first is_name u ≡ false) (sym r.3.1) h.0)))
       (λ t. omega arith)
-      (λ may k p u t r h. let b = r.3 in label_no_type may k.0 r.0 u r.1 r.2 (brackets_no_type may b.0 r.1 b.1 b.2 (subst (λ (u : Tokens). begins_type u ≡ false) (sym b.3.1) h.2)))
+      (λ may k p u t r h. let b = r.3 in label_no_type may k.0 r.0 u r.1 r.2
+      (brackets_no_type may b.0 r.1 b.1 b.2 (subst (λ (u : Tokens). begins_type u ≡ false) (sym b.3.1) h.2)))
 
   param_piece : Piece same_tree ParamIs any always param_ends type_first m (param_of nested)
   param_piece = iff chain_piece to from

@@ -33,7 +33,12 @@ level_is zero = refl
 level_is (suc n) = let h = level_is n in omega (arith, h)
 
 level_joins : (n : ℕ) → n < 10 → Joining (binary_level n)
-level_joins n lt = let h = level_is n in record { many = omega (arith, h); not_choice = λ e. omega (arith, h, e, lt); not_assign = λ e. omega (arith, h, e, lt) }
+level_joins n lt =
+    let h = level_is n in record {
+      many = omega (arith, h);
+      not_choice = λ e. omega (arith, h, e, lt);
+      not_assign = λ e. omega (arith, h, e, lt);
+    }
 
 comma_joins : Joining 15
 comma_joins = record {
@@ -137,7 +142,8 @@ module _ (m d : ℕ) (nested : Nested) (known : Deeper nested m d) where
             (k, v, (refl, ok), (b, punct k' mark.Colon ∷ w, y, (k', w, refl, (c, t, z, (refl, refl))))),
       )
   choice_in may _ f t (assign s x ok y) q = absurd (omega (arith, q))
-  choice_in may e f t (up {n = n} x) q = let h : n ≡ 13 = omega (arith, q) in (e, t, subst (λ (k : ℕ). Spells may (expr k e) d f t) h x, that (refl, refl))
+  choice_in may e f t (up {n = n} x) q =
+      let h : n ≡ 13 = omega (arith, q) in (e, t, subst (λ (k : ℕ). Spells may (expr k e) d f t) h x, that (refl, refl))
 
   pub conditional_piece : Piece same_tree (Level 14 d) any always (ends_at 14) zero_first m
       (conditional_of nested)
@@ -189,7 +195,8 @@ module _ (m d : ℕ) (nested : Nested) (known : Deeper nested m d) where
 
   assign_meets : (may : May) (a x : Expr) (u t : Tokens) → AssignFrom a may x u t → Stops 15 t
       → Stops 14 u
-  assign_meets may a x u t (by s r) h = let b = bind_assigner s in mark_stops 14 (assigner_mark s) (omega (arith, b)) r.1.0 r.1.1 u r.1.2.0
+  assign_meets may a x u t (by s r) h =
+      let b = bind_assigner s in mark_stops 14 (assigner_mark s) (omega (arith, b)) r.1.0 r.1.1 u r.1.2.0
   assign_meets may a x u t (plain r) h = lower 14 15 u (omega arith) (subst (Stops 15) (sym r.1) h)
 
   assign_to : (may : May) (a e : Expr) (f u t : Tokens) → Spells may (expr 14 a) d f u
@@ -219,7 +226,9 @@ module _ (m d : ℕ) (nested : Nested) (known : Deeper nested m d) where
     as_conditional x,
     by s (unary_is x (omega arith), (k, v, (refl, ok), (b, t, y, (refl, refl)))),
   )
-  assign_in may e f t (up {n = n} x) q = let h : n ≡ 14 = omega (arith, q) in (e, t, subst (λ (k : ℕ). Spells may (expr k e) d f t) h x, plain (refl, refl))
+  assign_in may e f t (up {n = n} x) q =
+      let h : n ≡ 14 = omega (arith, q) in
+      (e, t, subst (λ (k : ℕ). Spells may (expr k e) d f t) h x, plain (refl, refl))
 
   pub assignment_piece : Piece same_tree (Level 15 d) any always (ends_at 15) zero_first m
       (assignment_of nested)

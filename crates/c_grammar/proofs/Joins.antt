@@ -89,7 +89,8 @@ none_left : {cut : Bool} {g g' ts ts' : Tokens} {x : Lexeme} → Tied cut g g' t
 none_left (at_cut t c) le = omega (arith, le)
 none_left (alike t x) le = omega (arith, le)
 
-module _ (m d k : ℕ) (inner : Tokens → Out Expr) (item : Piece same_tree (Level k d) any always (ends_at k) zero_first m inner) where
+module _ (m d k : ℕ) (inner : Tokens → Out Expr)
+    (item : Piece same_tree (Level k d) any always (ends_at k) zero_first m inner) where
   -- behind a joiner
   turn_sound : (n : ℕ) (a : Expr) (j : Joiner)
       → ((a : Expr) (ts : Tokens) → Sound same_tree (JoinsFrom d k a) always m ts

@@ -24,8 +24,10 @@ pub spells_far : {may may' : May} {p : e.Phrase} {d : ℕ} {f t : Tokens} → Pa
     → Spells may p d f t → Spells may' p d f t
 spells_far h e.number = e.number
 spells_far h e.name = e.name
-spells_far h (e.group ok x) = let l = spells_shorter x in e.group (h _ _ (omega arith) ok) (spells_far (later (omega arith) h) x)
-spells_far h (e.element ok x) = let l = spells_shorter x in e.element (h _ _ (omega arith) ok) (spells_far (later (omega arith) h) x)
+spells_far h (e.group ok x) =
+    let l = spells_shorter x in e.group (h _ _ (omega arith) ok) (spells_far (later (omega arith) h) x)
+spells_far h (e.element ok x) =
+    let l = spells_shorter x in e.element (h _ _ (omega arith) ok) (spells_far (later (omega arith) h) x)
 spells_far h (e.call ok x) = let l = spells_shorter x in e.call (h _ _ (omega arith) ok) (spells_far h x)
 spells_far h e.none = e.none
 spells_far h (e.some x) = e.some (spells_far h x)
@@ -33,11 +35,17 @@ spells_far h (e.last x) = e.last (spells_far (later (omega arith) h) x)
 spells_far h (e.next x y) = let l = spells_shorter y in e.next (spells_far (later (omega arith) h) x) (spells_far h y)
 spells_far h (e.suffix s x) = e.suffix s (spells_far (later (omega arith) h) x)
 spells_far h (e.prefix p ok x) = let l = spells_shorter x in e.prefix p (h _ _ (omega arith) ok) (spells_far h x)
-spells_far h (e.cast ok x y) = let l = types_shorter x in let l' = spells_shorter y in e.cast (h _ _ (omega arith) ok) x (spells_far h y)
-spells_far h (e.join j x y) = let l = spells_shorter y in e.join j (spells_far (later (omega arith) h) x) (spells_far h y)
+spells_far h (e.cast ok x y) =
+    let l = types_shorter x in let l' = spells_shorter y in e.cast (h _ _ (omega arith) ok) x (spells_far h y)
+spells_far h (e.join j x y) =
+    let l = spells_shorter y in e.join j (spells_far (later (omega arith) h) x) (spells_far h y)
 spells_far h (e.choice x ok y z) =
-    let l = spells_shorter y in let l' = spells_shorter z in e.choice (spells_far (later (omega arith) h) x) (h _ _ (omega arith) ok) (spells_far (later (omega arith) h) y) (spells_far h z)
-spells_far h (e.assign s x ok y) = let l = spells_shorter y in e.assign s (spells_far (later (omega arith) h) x) (h _ _ (omega arith) ok) (spells_far h y)
+    let l = spells_shorter y in let l' = spells_shorter z in
+    e.choice (spells_far (later (omega arith) h) x) (h _ _ (omega arith) ok) (spells_far (later (omega arith) h) y)
+    (spells_far h z)
+spells_far h (e.assign s x ok y) =
+    let l = spells_shorter y in e.assign s (spells_far (later (omega arith) h) x) (h _ _ (omega arith) ok)
+    (spells_far h y)
 spells_far h (e.up x) = e.up (spells_far h x)
 
 pub writes_far : {may may' : May} {p : s.Phrase} {d : ℕ} {f t : Tokens} → Passes may may' (length t)
@@ -49,7 +57,8 @@ writes_far h s.bare = s.bare
 writes_far h (s.value x) = s.value (spells_far h x)
 writes_far h (s.array x) = s.array (spells_far (later (omega arith) h) x)
 writes_far h (s.last_decl x) = s.last_decl (writes_far (later (omega arith) h) x)
-writes_far h (s.next_decl x y) = let l = writes_shorter y in s.next_decl (writes_far (later (omega arith) h) x) (writes_far h y)
+writes_far h (s.next_decl x y) =
+    let l = writes_shorter y in s.next_decl (writes_far (later (omega arith) h) x) (writes_far h y)
 writes_far h (s.declaration x y) = s.declaration x (writes_far h y)
 writes_far h (s.inner_is ok x) = s.inner_is (h _ _ (writes_shorter x) ok) (writes_far h x)
 writes_far h (s.entry_stmt x) = s.entry_stmt (writes_far h x)
@@ -59,11 +68,14 @@ writes_far h (s.go x y) = let l = writes_shorter y in s.go (writes_far (later (o
 writes_far h (s.compound x) = s.compound (writes_far h x)
 writes_far h s.empty = s.empty
 writes_far h (s.plain x) = s.plain (spells_far (later (omega arith) h) x)
-writes_far h (s.if_only c x) = let l = writes_shorter x in s.if_only (writes_far (later (omega arith) h) c) (writes_far h x)
+writes_far h (s.if_only c x) =
+    let l = writes_shorter x in s.if_only (writes_far (later (omega arith) h) c) (writes_far h x)
 writes_far h (s.if_else c x y) =
-    let l = writes_shorter x in let l' = writes_shorter y in s.if_else (writes_far (later (omega arith) h) c) (writes_far (later (omega arith) h) x) (writes_far h y)
+    let l = writes_shorter x in let l' = writes_shorter y in
+    s.if_else (writes_far (later (omega arith) h) c) (writes_far (later (omega arith) h) x) (writes_far h y)
 writes_far h (s.while c x) = let l = writes_shorter x in s.while (writes_far (later (omega arith) h) c) (writes_far h x)
-writes_far h (s.repeat x c) = let l = writes_shorter c in s.repeat (writes_far (later (omega arith) h) x) (writes_far (later (omega arith) h) c)
+writes_far h (s.repeat x c) =
+    let l = writes_shorter c in s.repeat (writes_far (later (omega arith) h) x) (writes_far (later (omega arith) h) c)
 writes_far h (s.init_local ok x) = s.init_local (h _ _ (writes_shorter x) ok) (writes_far h x)
 writes_far h (s.init_plain x) = s.init_plain (writes_far h x)
 writes_far h (s.for i o o' x) =
@@ -92,29 +104,37 @@ units_far h u.no_size = u.no_size
 units_far h (u.some_size x) = u.some_size (spells_far (later (omega arith) h) x)
 units_far h (u.last_value x) = u.last_value (spells_far (later (omega arith) h) x)
 units_far h (u.last_comma x) = u.last_comma (spells_far (later (omega arith) h) x)
-units_far h (u.next_value x y) = let l = units_shorter y in u.next_value (spells_far (later (omega arith) h) x) (units_far h y)
+units_far h (u.next_value x y) =
+    let l = units_shorter y in u.next_value (spells_far (later (omega arith) h) x) (units_far h y)
 units_far h u.bare = u.bare
 units_far h (u.valued x) = u.valued (spells_far h x)
 units_far h (u.sized x) = u.sized (units_far (later (omega arith) h) x)
-units_far h (u.filled x y) = let l = units_shorter y in u.filled (units_far (later (omega arith) h) x) (units_far (later (omega arith) h) y)
+units_far h (u.filled x y) =
+    let l = units_shorter y in u.filled (units_far (later (omega arith) h) x) (units_far (later (omega arith) h) y)
 units_far h (u.last_global x) = u.last_global (units_far (later (omega arith) h) x)
-units_far h (u.next_global x y) = let l = units_shorter y in u.next_global (units_far (later (omega arith) h) x) (units_far h y)
+units_far h (u.next_global x y) =
+    let l = units_shorter y in u.next_global (units_far (later (omega arith) h) x) (units_far h y)
 units_far h u.unlabelled = u.unlabelled
 units_far h u.labelled = u.labelled
 units_far h u.no_brackets = u.no_brackets
 units_far h (u.some_brackets x) = u.some_brackets (units_far h x)
-units_far h (u.param_is x y z) = let l = units_shorter z in u.param_is x (units_far (later (omega arith) h) y) (units_far h z)
+units_far h (u.param_is x y z) =
+    let l = units_shorter z in u.param_is x (units_far (later (omega arith) h) y) (units_far h z)
 units_far h u.no_params = u.no_params
 units_far h u.void_params = u.void_params
 units_far h (u.some_params x) = u.some_params (units_far h x)
 units_far h (u.last_param x) = u.last_param (units_far (later (omega arith) h) x)
-units_far h (u.next_param x y) = let l = units_shorter y in u.next_param (units_far (later (omega arith) h) x) (units_far h y)
+units_far h (u.next_param x y) =
+    let l = units_shorter y in u.next_param (units_far (later (omega arith) h) x) (units_far h y)
 units_far h u.void = u.void
 units_far h (u.typed x) = u.typed x
 units_far h (u.prototype x) = u.prototype (units_far (later (omega arith) h) x)
-units_far h (u.definition x y) = let l = writes_shorter y in u.definition (units_far (later (omega arith) h) x) (entries_far h y)
+units_far h (u.definition x y) =
+    let l = writes_shorter y in u.definition (units_far (later (omega arith) h) x) (entries_far h y)
 units_far h u.include = u.include
-units_far h (u.a_function x y) = let l = units_shorter y in u.a_function (units_far (later (omega arith) h) x) (units_far h y)
+units_far h (u.a_function x y) =
+    let l = units_shorter y in u.a_function (units_far (later (omega arith) h) x) (units_far h y)
 units_far h (u.some_globals x y) = u.some_globals x (units_far h y)
 units_far h (u.last_item x) = u.last_item (units_far h x)
-units_far h (u.next_item x y) = let l = units_shorter y in u.next_item (units_far (later (omega arith) h) x) (units_far h y)
+units_far h (u.next_item x y) =
+    let l = units_shorter y in u.next_item (units_far (later (omega arith) h) x) (units_far h y)

@@ -189,6 +189,7 @@ spells_shorter (suffix s x) = let h = spells_shorter x in omega arith
 spells_shorter (prefix p ok x) = let h = spells_shorter x in omega arith
 spells_shorter (cast ok x y) = let h = types_shorter x in let i = spells_shorter y in omega arith
 spells_shorter (join j x y) = let h = spells_shorter x in let i = spells_shorter y in omega arith
-spells_shorter (choice x ok y z) = let h = spells_shorter x in let i = spells_shorter y in let j = spells_shorter z in omega arith
+spells_shorter (choice x ok y z) =
+    let h = spells_shorter x in let i = spells_shorter y in let j = spells_shorter z in omega arith
 spells_shorter (assign s x ok y) = let h = spells_shorter x in let i = spells_shorter y in omega arith
 spells_shorter (up x) = spells_shorter x

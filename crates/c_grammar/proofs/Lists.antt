@@ -21,7 +21,8 @@ abbrev took : Tokens → Out ℕ
 took ts = Ok (line_of ts, tail ts)
 
 -- items with commas between them, up to a mark
-pub data Tail {A : Type 0} (L : Rel (List A)) (k : Mark) (trailing : Bool) (x : A) (may : May) : List A → Tokens → Tokens → Type 0 where
+pub data Tail {A : Type 0} (L : Rel (List A)) (k : Mark) (trailing : Bool) (x : A) (may : May) : List A → Tokens
+    → Tokens → Type 0 where
   ends : {l : ℕ} {t : Tokens} → Tail L k trailing x may (x ∷ []) (punct l k ∷ t) t
   trails : {l l' : ℕ} {t : Tokens} → trailing ≡ true
       → Tail L k trailing x may (x ∷ []) (punct l mark.Comma ∷ punct l' k ∷ t) t
@@ -53,7 +54,8 @@ read_shorter {m = m} h ts v _ mid (read y t a k) e =
     )
 read_shorter h ts v _ mid (stuck s o) e = absurd cc
 
-module _ {A : Type 0} (R : Rel A) (L : Rel (List A)) (Ends : A → Tokens → Type 0) (after : Tokens → Tokens) (m : ℕ) (run : Tokens → Out A) (item : Piece same_tree R any always Ends after m run) (k : Mark) (trailing : Bool)
+module _ {A : Type 0} (R : Rel A) (L : Rel (List A)) (Ends : A → Tokens → Type 0) (after : Tokens → Tokens) (m : ℕ)
+    (run : Tokens → Out A) (item : Piece same_tree R any always Ends after m run) (k : Mark) (trailing : Bool)
     (to : (may : May) (xs : List A) (f t : Tokens) → Then R (λ x. Tail L k trailing x) may xs f t → L may xs f t) where
   consed_sound : (x : A) (u : Tokens) (out : Out (List A)) → Sound same_tree L always m u out
       → Sound same_tree (consed x L) always m u (and_then out (λ xs ts. Ok (x ∷ xs, ts)))
@@ -61,7 +63,15 @@ module _ {A : Type 0} (R : Rel A) (L : Rel (List A)) (Ends : A → Tokens → Ty
       (record { put = a.put; way = a.way; is = a.is; again = λ may w v. (xs, a.again may w v, refl) })
       tt
   consed_sound x u _ (stuck s o) =
-      stuck s (record { put = o.put; way = o.way; is = o.is; more = o.more; grows = o.grows; held = o.held; completes = λ v. let c = o.completes v in (x ∷ c.0, (c.0, c.1, refl)) })
+      stuck s (record {
+        put = o.put;
+        way = o.way;
+        is = o.is;
+        more = o.more;
+        grows = o.grows;
+        held = o.held;
+        completes = λ v. let c = o.completes v in (x ∷ c.0, (c.0, c.1, refl));
+      })
 
   listed_least : Least L (λ t. after (punct 0 k ∷ t))
   listed_least may t fr fr' =
@@ -142,8 +152,11 @@ module _ {A : Type 0} (R : Rel A) (L : Rel (List A)) (Ends : A → Tokens → Ty
       (λ x may t fr fr'. (x ∷ [], ends)) (item.sound ts tt)
       (λ x u _. tail_sound x n (listed_sound n) u))
 
-  module _ (from : (may : May) (xs : List A) (f t : Tokens) → L may xs f t → Then R (λ x. Tail L k trailing x) may xs f t) (comma_not : is_mark mark.Comma (form.Mark k) ≡ false)
-      (meets : (x : A) (l : ℕ) (t : Tokens) → Ends x (punct l mark.Comma ∷ t) × Ends x (punct l k ∷ t)) (begins : (may : May) (xs : List A) (f t : Tokens) → L may xs f t → trailing ≡ true → is_next k f ≡ false) where
+  module _ (from : (may : May) (xs : List A) (f t : Tokens) → L may xs f t
+      → Then R (λ x. Tail L k trailing x) may xs f t) (comma_not : is_mark mark.Comma (form.Mark k) ≡ false)
+      (meets : (x : A) (l : ℕ) (t : Tokens) → Ends x (punct l mark.Comma ∷ t) × Ends x (punct l k ∷ t))
+      (begins : (may : May) (xs : List A) (f t : Tokens) → L may xs f t → trailing ≡ true
+      → is_next k f ≡ false) where
     behind_short : (cut : Bool) (g g' : Tokens) (n : ℕ) (x : A) (r : Tokens) → length r ≤ length g
         → Brief cut g g' (cond (closes k trailing r) (Ok (x ∷ [], tail r))
         (and_then (listed k trailing run n r) (λ xs ts. Ok (x ∷ xs, ts))))
@@ -284,7 +297,8 @@ pub data Many {A : Type 0} (R L : Rel (List A)) (k : Mark) (may : May) : List A 
   more : {x xs : List A} {f u t : Tokens} → R may x f u → L may xs u t
       → Many R L k may (x ++ xs) f t
 
-module _ {A : Type 0} (R L : Rel (List A)) (Ends : List A → Tokens → Type 0) (after : Tokens → Tokens) (m : ℕ) (run : Tokens → Out (List A)) (item : Piece same_tree R any always Ends after m run) (k : Mark)
+module _ {A : Type 0} (R L : Rel (List A)) (Ends : List A → Tokens → Type 0) (after : Tokens → Tokens) (m : ℕ)
+    (run : Tokens → Out (List A)) (item : Piece same_tree R any always Ends after m run) (k : Mark)
     (to : (may : May) (xs : List A) (f t : Tokens) → Many R L k may xs f t → L may xs f t) where
   appended_sound : (x : List A) (u : Tokens) (out : Out (List A)) → Sound same_tree L always m u out
       → Sound same_tree (appended x L) always m u (and_then out (λ xs ts. Ok (x ++ xs, ts)))
@@ -292,7 +306,15 @@ module _ {A : Type 0} (R L : Rel (List A)) (Ends : List A → Tokens → Type 0)
       (record { put = a.put; way = a.way; is = a.is; again = λ may w v. (xs, a.again may w v, refl) })
       tt
   appended_sound x u _ (stuck s o) =
-      stuck s (record { put = o.put; way = o.way; is = o.is; more = o.more; grows = o.grows; held = o.held; completes = λ v. let c = o.completes v in (x ++ c.0, (c.0, c.1, refl)) })
+      stuck s (record {
+        put = o.put;
+        way = o.way;
+        is = o.is;
+        more = o.more;
+        grows = o.grows;
+        held = o.held;
+        completes = λ v. let c = o.completes v in (x ++ c.0, (c.0, c.1, refl));
+      })
 
   many_least : Least L (λ t. punct 0 k ∷ t)
   many_least may t fr fr' = ([], to may [] _ t over)
@@ -316,15 +338,18 @@ module _ {A : Type 0} (R L : Rel (List A)) (Ends : List A → Tokens → Type 0)
         is = next_is k ts e;
         again = λ may w u. to may [] _ u over;
       }) tt)
-      (λ e. turn (λ may ys f t r. let c = r.3 in subst (λ (ys : List A). L may ys f t) (sym c.2) (to may _ f t (more r.2 c.1))) ts
+      (λ e. turn (λ may ys f t r. let c = r.3 in subst (λ (ys : List A). L may ys f t) (sym c.2)
+      (to may _ f t (more r.2 c.1))) ts
       (seq_sound same_tree same_tree R (λ x. appended x L) always always m ts (run ts)
       (λ x ts. and_then (many k run n ts) (λ xs ts. Ok (x ++ xs, ts))) (λ t. punct 0 k ∷ t)
       (λ t. omega arith)
       (λ x may t fr fr'. let l = many_least may t fr fr' in (x ++ l.0, (l.0, l.1, refl))) (item.sound ts tt)
       (λ x u _. appended_sound x u (many k run n u) (many_sound n u))))
 
-  module _ (from : (may : May) (xs : List A) (f t : Tokens) → L may xs f t → Many R L k may xs f t) (strict : (may : May) (x : List A) (f t : Tokens) → R may x f t → length t < length f)
-      (begins : (may : May) (x : List A) (f t : Tokens) → R may x f t → is_next k f ≡ false) (meets : (may : May) (x xs : List A) (u t : Tokens) → L may xs u t → Ends x u) where
+  module _ (from : (may : May) (xs : List A) (f t : Tokens) → L may xs f t → Many R L k may xs f t)
+      (strict : (may : May) (x : List A) (f t : Tokens) → R may x f t → length t < length f)
+      (begins : (may : May) (x : List A) (f t : Tokens) → R may x f t → is_next k f ≡ false)
+      (meets : (may : May) (x xs : List A) (u t : Tokens) → L may xs u t → Ends x u) where
     many_turn : (cut : Bool) (g g' : Tokens) (may : May) (n : ℕ)
         → ((xs : List A) (f' t' : Tokens) → L may xs f' t' → (f : Tokens) → length f < n
         → Tied cut g g' f f' → Lands cut g g' may m (many k run n f) (λ to. Ok (xs, to)) t')
@@ -403,7 +428,8 @@ some_left (alike t x) h = omega arith
 end_left : {cut : Bool} {g g' ts : Tokens} → Tied cut g g' ts [] → ts ≡ []
 end_left (end c) = refl
 
-module _ {A : Type 0} (R L : Rel (List A)) (after : Tokens → Tokens) (m : ℕ) (run : Tokens → Out (List A)) (one' : Piece same_tree R any always always after m run)
+module _ {A : Type 0} (R L : Rel (List A)) (after : Tokens → Tokens) (m : ℕ) (run : Tokens → Out (List A))
+    (one' : Piece same_tree R any always always after m run)
     (to : (may : May) (xs : List A) (f t : Tokens) → Then R (λ x. EndTail L x) may xs f t
     → L may xs f t) (from : (may : May) (xs : List A) (f t : Tokens) → L may xs f t
     → Then R (λ x. EndTail L x) may xs f t)
@@ -416,7 +442,15 @@ module _ {A : Type 0} (R L : Rel (List A)) (after : Tokens → Tokens) (m : ℕ)
   end_appended x u _ (read xs t a h) = read (x ++ xs) t
       (record { put = a.put; way = a.way; is = a.is; again = λ may w v. goes_on (a.again may w v) }) h
   end_appended x u _ (stuck s o) =
-      stuck s (record { put = o.put; way = o.way; is = o.is; more = o.more; grows = o.grows; held = o.held; completes = λ v. let c = o.completes v in (x ++ c.0, goes_on c.1) })
+      stuck s (record {
+        put = o.put;
+        way = o.way;
+        is = o.is;
+        more = o.more;
+        grows = o.grows;
+        held = o.held;
+        completes = λ v. let c = o.completes v in (x ++ c.0, goes_on c.1);
+      })
 
   to_end_sound : (n : ℕ) (ts : Tokens) → Sound same_tree L at_end m ts (to_end run n ts)
   to_end_sound zero ts =

@@ -38,7 +38,8 @@ starts_any u w = (
 )
 
 looser_length : (a b : ℕ) (c : Bool) → a ≤ b → (n : ℕ) → leb n a || c ≡ true → leb n b || c ≡ true
-looser_length a b c le n e = or_mono (leb n a) (leb n b) c (λ h. let h' = leb-true n a h in le-leb n b (omega (arith, h', le))) e
+looser_length a b c le n e =
+    or_mono (leb n a) (leb n b) c (λ h. let h' = leb-true n a h in le-leb n b (omega (arith, h', le))) e
 
 within_prefix : (u v : Tokens) → StartsWithin UnitIs limit (u ++ v) → StartsWithin UnitIs limit u
 within_prefix u v w = (
@@ -137,7 +138,12 @@ module _ (tokens : Tokens) where
       → EndsEarly UnitIs limit tokens → ⊥
   syntax_no_early {f = f} {b = b} {t = t} s e =
       let w = e.starts in
-      let all : Starts UnitIs tokens = (w.0, w.1, unit_far (late limit w.0) any_depth w.1 (tokens ++ w.0) (any_passes (late limit w.0) 1) w.2) in
+      let all : Starts UnitIs tokens = (
+        w.0,
+        w.1,
+        unit_far (late limit w.0) any_depth w.1 (tokens ++ w.0)
+            (any_passes (late limit w.0) 1) w.2,
+      ) in
       s.with_it (starts_prefix (f ++ t ∷ []) b
       (subst (λ (u : Tokens). Starts UnitIs u) (s.split ∙ snoc f t b) all))
 
@@ -158,7 +164,8 @@ module _ (tokens : Tokens) where
   deep_within {f = f} {t = t} u v x s e =
       let w = s.but_for_it in
       let rest = v ++ t ∷ w.0 in
-      let i : f ++ t ∷ w.0 ≡ (u ++ x ∷ []) ++ rest = ap (λ (z : Tokens). z ++ t ∷ w.0) (e ∙ snoc u x v) ∙ append_assoc (u ++ x ∷ []) v (t ∷ w.0) in (
+      let i : f ++ t ∷ w.0 ≡ (u ++ x ∷ []) ++ rest = ap (λ (z : Tokens). z ++ t ∷ w.0) (e ∙ snoc u x v)
+      ∙ append_assoc (u ++ x ∷ []) v (t ∷ w.0) in (
         rest,
         w.1,
         unit_far (late limit w.0) (before limit rest) w.1 ((u ++ x ∷ []) ++ rest)

@@ -28,7 +28,9 @@ unit_only left ts xs r = only UnitIs unit_first (suc left) (unit_of left)
 -- what is spelled within a limit is so within a looser one
 looser : (m : ℕ) (xs : List Top) (ts : Tokens) → Spelled UnitIs m xs ts
     → Spelled UnitIs (suc m) xs ts
-looser m xs ts r = unit_far (within m) (within (suc m)) xs ts (λ q d lt e. let h = leb-true d m e in le-leb d (suc m) (omega (arith, h))) r
+looser m xs ts r =
+    unit_far (within m) (within (suc m)) xs ts
+    (λ q d lt e. let h = leb-true d m e in le-leb d (suc m) (omega (arith, h))) r
 
 tree_in : Out (List Top) → List Top
 tree_in (Ok p) = p.0

@@ -113,7 +113,9 @@ module _ (m d : ℕ) (nested : Nested) (known : Deeper nested m d) where
           → Until c d may o f t
       to may o f t (this r) = subst (λ (u : Tokens). Until c d may o u t) (sym r.2)
           (ends_with (λ o t. Until c d may o (punct r.0 (closer_mark c) ∷ r.1) t) (absent c) r.3)
-      to may o f t (that r) = let k = r.3 in ends_with (λ o t. Until c d may o f t) (given c (subst (λ (u : Tokens). Spells may (expr 16 r.0) d f u) k.2 r.2)) k.3
+      to may o f t (that r) =
+          let k = r.3 in ends_with (λ o t. Until c d may o f t)
+          (given c (subst (λ (u : Tokens). Spells may (expr 16 r.0) d f u) k.2 r.2)) k.3
 
       from : (may : May) (o : Option Expr) (f t : Tokens) → Until c d may o f t
           → Either (AbsentIs c) (GivenIs c) may o f t

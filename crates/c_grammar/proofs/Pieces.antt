@@ -38,7 +38,8 @@ pub record Open {X : Type 0} (R : Rel X) (m : ℕ) (ts : Tokens) (s : Stop) : Ty
   pub held : Held s.deep s.rest more
   pub completes : (u : Tokens) → (x : X) × R (before m (more u)) x (put (more u)) u
 
-pub data Sound {X A : Type 0} (tree : X → A) (R : Rel X) (Kept : X → Tokens → Type 0) (m : ℕ) (ts : Tokens) : Out A → Type 0 where
+pub data Sound {X A : Type 0} (tree : X → A) (R : Rel X) (Kept : X → Tokens → Type 0) (m : ℕ) (ts : Tokens) : Out A
+    → Type 0 where
   read : (x : X) (t : Tokens) → Front R m x ts t → Kept x t
       → Sound tree R Kept m ts (Ok (tree x, t))
   stuck : (s : Stop) → Open R m ts s → Sound tree R Kept m ts (Err s)
@@ -68,7 +69,8 @@ abbrev pub same_tree : {X : Type 0} → X → X
 same_tree x = x
 
 -- what is wanted of a part of the parser, at once
-pub record Piece {X A : Type 0} (tree : X → A) (R : Rel X) (Given : Tokens → Type 0) (Kept Ends : X → Tokens → Type 0) (after : Tokens → Tokens) (m : ℕ) (run : Tokens → Out A) : Type 0 where
+pub record Piece {X A : Type 0} (tree : X → A) (R : Rel X) (Given : Tokens → Type 0) (Kept Ends : X → Tokens → Type 0)
+    (after : Tokens → Tokens) (m : ℕ) (run : Tokens → Out A) : Type 0 where
   pub grow : Grows after
   pub least : Least R after
   pub sound : (ts : Tokens) → Given ts → Sound tree R Kept m ts (run ts)
@@ -82,7 +84,8 @@ module _ {X A : Type 0} (tree : X → A) (R : Rel X) (Kept : X → Tokens → Ty
 
 -- ---- one part and then another
 
-module _ {X A Y B : Type 0} (tree : X → A) (tree' : Y → B) (R : Rel X) (S : X → Rel Y) (Kept : X → Tokens → Type 0) (Kept' : Y → Tokens → Type 0) (m : ℕ) where
+module _ {X A Y B : Type 0} (tree : X → A) (tree' : Y → B) (R : Rel X) (S : X → Rel Y) (Kept : X → Tokens → Type 0)
+    (Kept' : Y → Tokens → Type 0) (m : ℕ) where
   -- a stop in the second part
   open_second : (ts u : Tokens) (x : X) (s : Stop) → Front R m x ts u → Open (S x) m u s
       → Open (Then R S) m ts s
@@ -94,7 +97,11 @@ module _ {X A Y B : Type 0} (tree : X → A) (tree' : Y → B) (R : Rel X) (S : 
         more = o.more;
         grows = o.grows;
         held = o.held;
-        completes = λ v. let c = o.completes v in (c.0, (x, o.put (o.more v), a.again (before m (o.more v)) (opens m (o.more v)) _, c.1));
+        completes =
+            λ v. let c = o.completes v in (
+              c.0,
+              (x, o.put (o.more v), a.again (before m (o.more v)) (opens m (o.more v)) _, c.1),
+            );
       }
 
   -- a stop in the first part: the second one is completed by its shortest text
@@ -110,7 +117,9 @@ module _ {X A Y B : Type 0} (tree : X → A) (tree' : Y → B) (R : Rel X) (S : 
         held = held_after s.deep s.rest o.more after o.held;
         completes = λ v.
             let c = o.completes (after v) in
-            let l = least c.0 (before m (o.more (after v))) v (frees_after m (λ w. o.more (after w)) (λ w. trans_le (grow w) (o.grows (after w))) v) (frees_after m o.more o.grows (after v)) in
+            let l = least c.0 (before m (o.more (after v))) v
+            (frees_after m (λ w. o.more (after w)) (λ w. trans_le (grow w) (o.grows (after w))) v)
+            (frees_after m o.more o.grows (after v)) in
             (l.0, (c.0, after v, c.1, l.1));
       }
 
@@ -239,7 +248,16 @@ turn h ts (read x t a k) = read x t (record {
   is = a.is;
   again = λ may w u. h may x _ u (a.again may w u);
 }) k
-turn h ts (stuck s o) = stuck s (record { put = o.put; way = o.way; is = o.is; more = o.more; grows = o.grows; held = o.held; completes = λ u. let c = o.completes u in (c.0, h (_) c.0 _ u c.1) })
+turn h ts (stuck s o) =
+    stuck s (record {
+      put = o.put;
+      way = o.way;
+      is = o.is;
+      more = o.more;
+      grows = o.grows;
+      held = o.held;
+      completes = λ u. let c = o.completes u in (c.0, h (_) c.0 _ u c.1);
+    })
 
 pub iff : {X A : Type 0} {tree : X → A} {R R' : Rel X} {Given : Tokens → Type 0}
     {Kept Ends : X → Tokens → Type 0} {after : Tokens → Tokens} {m : ℕ} {run : Tokens → Out A}
@@ -269,7 +287,15 @@ prepend x ts e h (read y t a k) = read y t
       again = λ may w u. h may y _ u (a.again may w u);
     }) k
 prepend x ts e h (stuck s o) =
-    stuck s (record { put = λ u. x ∷ o.put u; way = both (one _) o.way; is = e ∙ ap (λ u. x ∷ u) o.is; more = o.more; grows = o.grows; held = o.held; completes = λ u. let c = o.completes u in (c.0, h (_) c.0 _ u c.1) })
+    stuck s (record {
+      put = λ u. x ∷ o.put u;
+      way = both (one _) o.way;
+      is = e ∙ ap (λ u. x ∷ u) o.is;
+      more = o.more;
+      grows = o.grows;
+      held = o.held;
+      completes = λ u. let c = o.completes u in (c.0, h (_) c.0 _ u c.1);
+    })
 
 -- less may be asked of what follows
 pub ends_by : {X A : Type 0} {tree : X → A} {R : Rel X} {Given : Tokens → Type 0}
@@ -503,7 +529,8 @@ open_piece k m d ok =
     at_cut : (l : ℕ) (g : Tokens) → length (place (enter_by true k (punct l k ∷ g))) ≤ length g
     at_cut l g = rw (mark_self k) (omega arith)
 
-module _ {Y B : Type 0} (tree : Y → B) (S : ℕ → Rel Y) (Kept Ends : Y → Tokens → Type 0) (after : Tokens → Tokens) (m d : ℕ) (k : Mark) (f : ℕ → Tokens → Out B)
+module _ {Y B : Type 0} (tree : Y → B) (S : ℕ → Rel Y) (Kept Ends : Y → Tokens → Type 0) (after : Tokens → Tokens)
+    (m d : ℕ) (k : Mark) (f : ℕ → Tokens → Out B)
     (grow : Grows after) (least : (l : ℕ) → Least (S l) after) where
   abbrev Whole : Rel Y
   Whole = Then (OpenIs k d) S
@@ -524,7 +551,8 @@ module _ {Y B : Type 0} (tree : Y → B) (S : ℕ → Rel Y) (Kept Ends : Y → 
           × Whole (before m (punct l k ∷ after u)) y (punct l k ∷ after u) u
       whole l u =
           let more : Tokens → Tokens = λ w. punct l k ∷ after w in
-          let a = least l (before m (more u)) u (frees_after m more (grown l) u) (frees_after m (λ w. punct l k ∷ w) (λ w. omega arith) (after u)) in
+          let a = least l (before m (more u)) u (frees_after m more (grown l) u)
+          (frees_after m (λ w. punct l k ∷ w) (λ w. omega arith) (after u)) in
           (a.0, (l, after u, (refl, frees_all m (more u) (more u) (suc d) (omega arith)), a.1))
 
       held : is_next k ts ≡ true → Sound tree Whole Kept m ts (too_deep ts)

@@ -119,7 +119,15 @@ module _ (m d : ℕ) (nested : Nested) (deeper : Deeper nested m d) (below : Bel
             again = λ may w u. (p, a.again may w u, refl);
           }) tt
       by_out _ (stuck s o) =
-          stuck s (record { put = o.put; way = o.way; is = o.is; more = o.more; grows = o.grows; held = o.held; completes = λ u. let c = o.completes u in (c.0.1 ∷ [], (c.0, c.1, refl)) })
+          stuck s (record {
+            put = o.put;
+            way = o.way;
+            is = o.is;
+            more = o.more;
+            grows = o.grows;
+            held = o.held;
+            completes = λ u. let c = o.completes u in (c.0.1 ∷ [], (c.0, c.1, refl));
+          })
 
   one_complete : Complete same_tree OneIs no_else m (one_of nested below)
   unfolding one_of
@@ -142,7 +150,8 @@ module _ (m d : ℕ) (nested : Nested) (deeper : Deeper nested m d) (below : Bel
   entry_piece =
       iff (either is_type (λ ts h e. known.locals_in.sound ts tt)
       (ends_by {Ends' = no_else} known.locals_in (λ x t e. tt)).complete (λ t. omega arith)
-      (λ may t fr fr'. let l = known.inner_piece.least may t fr fr' in (l.0.1 ∷ [], (l.0, l.1, refl))) (λ ts h e. one_sound ts) one_complete
+      (λ may t fr fr'. let l = known.inner_piece.least may t fr fr' in (l.0.1 ∷ [], (l.0, l.1, refl)))
+      (λ ts h e. one_sound ts) one_complete
       (λ may ss f t r. locals_begin r.1) (λ may ss f t r e. begins_no_type f (inner_begins r.1))) to
       from
     where
@@ -597,8 +606,11 @@ module _ (m d : ℕ) (nested : Nested) (deeper : Deeper nested m d) (below : Bel
   stmt_to : (may : May) (y : Bool × Stmt) (f t : Tokens) → StmtChain may y f t → StmtIs d may y f t
   stmt_to may y f t (this r) = from_front may y f r.1 t r.2
       (ends_with (λ y t. StmtIs d may y (punct r.0 mark.LeftBrace ∷ r.1) t) (compound r.3.2) r.3.3)
-  stmt_to may y f t (that (this r)) = let c = r.3 in let p = c.3 in from_front may y f r.1 t r.2 (no_to may r.0 c.0 p.0 y r.1 c.1 p.1 t c.2 p.2 p.3)
-  stmt_to may y f t (that (that (this r))) = let c = r.3 in let p = c.3 in from_front may y f r.1 t r.2 (ends_with (λ y t. StmtIs d may y (word r.0 key.While ∷ r.1) t) (while c.2 p.2) p.3)
+  stmt_to may y f t (that (this r)) =
+      let c = r.3 in let p = c.3 in from_front may y f r.1 t r.2 (no_to may r.0 c.0 p.0 y r.1 c.1 p.1 t c.2 p.2 p.3)
+  stmt_to may y f t (that (that (this r))) =
+      let c = r.3 in let p = c.3 in from_front may y f r.1 t r.2
+      (ends_with (λ y t. StmtIs d may y (word r.0 key.While ∷ r.1) t) (while c.2 p.2) p.3)
   stmt_to may y f t (that (that (that (this r)))) =
       let p = r.3 in let w = p.3 in let c = w.3 in let k = c.3 in
       from_front may y f r.1 t r.2
@@ -615,13 +627,19 @@ module _ (m d : ℕ) (nested : Nested) (deeper : Deeper nested m d) (below : Bel
       from_front may y f r.1 t r.2 (ends_with (λ y t. StmtIs d may y (word r.0 key.Return ∷ r.1) t)
       (return r.3.2) r.3.3)
   stmt_to may y f t (that (that (that (that (that (that (this r))))))) =
-      let k = r.3 in from_front may y f r.1 t r.2 (subst (λ (u : Tokens). StmtIs d may y (word r.0 key.Break ∷ u) t) (sym k.2) (ends_with (λ y t. StmtIs d may y (word r.0 key.Break ∷ punct k.0 mark.Semicolon ∷ k.1) t) break k.3))
+      let k = r.3 in from_front may y f r.1 t r.2 (subst (λ (u : Tokens). StmtIs d may y (word r.0 key.Break ∷ u) t)
+      (sym k.2) (ends_with (λ y t. StmtIs d may y (word r.0 key.Break ∷ punct k.0 mark.Semicolon ∷ k.1) t) break
+      k.3))
   stmt_to may y f t (that (that (that (that (that (that (that (this r)))))))) =
-      let k = r.3 in from_front may y f r.1 t r.2 (subst (λ (u : Tokens). StmtIs d may y (word r.0 key.Continue ∷ u) t) (sym k.2) (ends_with (λ y t. StmtIs d may y (word r.0 key.Continue ∷ punct k.0 mark.Semicolon ∷ k.1) t) continue k.3))
+      let k = r.3 in from_front may y f r.1 t r.2
+      (subst (λ (u : Tokens). StmtIs d may y (word r.0 key.Continue ∷ u) t) (sym k.2)
+      (ends_with (λ y t. StmtIs d may y (word r.0 key.Continue ∷ punct k.0 mark.Semicolon ∷ k.1) t) continue k.3))
   stmt_to may y f t (that (that (that (that (that (that (that (that (this r))))))))) =
       from_front may y f r.1 t r.2 (ends_with
       (λ y t. StmtIs d may y (punct r.0 mark.Semicolon ∷ r.1) t) empty r.3)
-  stmt_to may y f t (that (that (that (that (that (that (that (that (that r))))))))) = let k = r.3 in ends_with (λ y t. StmtIs d may y f t) (plain (subst (λ (u : Tokens). Spells may (expr 16 r.0) d f u) k.2 r.2)) k.3
+  stmt_to may y f t (that (that (that (that (that (that (that (that (that r))))))))) =
+      let k = r.3 in ends_with (λ y t. StmtIs d may y f t)
+      (plain (subst (λ (u : Tokens). Spells may (expr 16 r.0) d f u) k.2 r.2)) k.3
 
   is_simple : {may : May} {y : Bool × Stmt} {f t : Tokens} → SimpleIs may y f t
       → StmtChain may y f t

@@ -93,7 +93,8 @@ tied_stops n (alike t x) s = s
 pub not_next : (x : Mark) (n : ℕ) (ts : Tokens) → Stops n ts → bind (form.Mark x) ≤ n
     → is_next x ts ≡ false
 not_next x n [] s le = refl
-not_next x n (t ∷ ts) s le = is_false (is_mark x t.form) (λ e. let h = ap bind (mark_is x t.form e) in omega (arith, h, s, le))
+not_next x n (t ∷ ts) s le =
+    is_false (is_mark x t.form) (λ e. let h = ap bind (mark_is x t.form e) in omega (arith, h, s, le))
 
 pub mark_stops : (n : ℕ) (k : Mark) → n < bind (form.Mark k) → (l : ℕ) (v u : Tokens)
     → u ≡ punct l k ∷ v → Stops n u
@@ -185,7 +186,8 @@ if_below_is k (Some i) j e =
 
 pub joiner_is : (k : ℕ) (f : Form) (j : Joiner) → joiner k f ≡ Some j
     → (f ≡ form.Mark (joiner_mark j)) × (below j ≡ k)
-joiner_is k (form.Mark m) j e = let h = if_below_is k (marked_joiner m) j e in (ap (λ (m : Mark). form.Mark m) (marked_is m j h.0), h.1)
+joiner_is k (form.Mark m) j e =
+    let h = if_below_is k (marked_joiner m) j e in (ap (λ (m : Mark). form.Mark m) (marked_is m j h.0), h.1)
 joiner_is k _ j e = absurd cc
 
 pub joiner_below : (k : ℕ) (ts : Tokens) (j : Joiner) → seen (joiner k) ts ≡ Some j → below j ≡ k
@@ -194,7 +196,9 @@ joiner_below k (t ∷ ts) j e = (joiner_is k t.form j e).1
 
 pub joiner_none : (k : ℕ) (ts : Tokens) → Stops (suc k) ts → seen (joiner k) ts ≡ None
 joiner_none k [] s = refl
-joiner_none k (t ∷ ts) s = is_none (joiner k t.form) (λ j e. let h = joiner_is k t.form j e in let b = ap bind h.0 ∙ bind_joiner j in omega (arith, b, h.1, s))
+joiner_none k (t ∷ ts) s =
+    is_none (joiner k t.form)
+    (λ j e. let h = joiner_is k t.form j e in let b = ap bind h.0 ∙ bind_joiner j in omega (arith, b, h.1, s))
 
 -- the levels at which phrases are joined
 pub record Joining (k : ℕ) : Type 0 where
@@ -251,7 +255,8 @@ bind_suffix decreased = refl
 
 pub suffix_none : (ts : Tokens) → Stops 1 ts → seen suffix_of ts ≡ None
 suffix_none [] s = refl
-suffix_none (t ∷ ts) s = is_none (suffix_of t.form) (λ x e. let h = ap bind (suffix_is t.form x e) ∙ bind_suffix x in omega (arith, h, s))
+suffix_none (t ∷ ts) s =
+    is_none (suffix_of t.form) (λ x e. let h = ap bind (suffix_is t.form x e) ∙ bind_suffix x in omega (arith, h, s))
 
 pub assigner_self : (s : Assigner) → assigner_of (form.Mark (assigner_mark s)) ≡ Some s
 assigner_self simple = refl
@@ -297,4 +302,6 @@ assigner_unary a (t ∷ ts) s e = (assigner_for_is a t.form s e).1
 
 pub assigner_none : (a : Expr) (ts : Tokens) → Stops 15 ts → seen (assigner_for a) ts ≡ None
 assigner_none a [] s = refl
-assigner_none a (t ∷ ts) s = is_none (assigner_for a t.form) (λ x e. let h = ap bind (assigner_for_is a t.form x e).0 ∙ bind_assigner x in omega (arith, h, s))
+assigner_none a (t ∷ ts) s =
+    is_none (assigner_for a t.form)
+    (λ x e. let h = ap bind (assigner_for_is a t.form x e).0 ∙ bind_assigner x in omega (arith, h, s))

@@ -77,7 +77,8 @@ units_shorter unlabelled = omega arith
 units_shorter labelled = omega arith
 units_shorter no_brackets = omega arith
 units_shorter (some_brackets x) = let h = units_shorter x in omega arith
-units_shorter (param_is x y z) = let h = types_shorter x in let i = units_shorter y in let j = units_shorter z in omega arith
+units_shorter (param_is x y z) =
+    let h = types_shorter x in let i = units_shorter y in let j = units_shorter z in omega arith
 units_shorter no_params = omega arith
 units_shorter void_params = omega arith
 units_shorter (some_params x) = units_shorter x
@@ -157,7 +158,9 @@ include_piece m =
         (λ to. Ok (at l tops.Include ∷ [], to)) t') tied (λ r tr. good r tr refl)
         (λ c. past c (fine cut g g' (omega arith)))
 
-module _ (m : ℕ) (nested : Nested) (known : Deeper nested m 0) (body : Tokens → Out Stmt) (body_known : Piece same_tree (BodyIs 1) any always always (λ t. punct 0 mark.LeftBrace ∷ punct 0 mark.RightBrace ∷ t) m body) where
+module _ (m : ℕ) (nested : Nested) (known : Deeper nested m 0) (body : Tokens → Out Stmt)
+    (body_known : Piece same_tree (BodyIs 1) any always always
+    (λ t. punct 0 mark.LeftBrace ∷ punct 0 mark.RightBrace ∷ t) m body) where
   abbrev DefinedIs : Option Kind → ℕ → List ℕ → List Param → Rel Top
   DefinedIs r l w ps = Then (BodyIs 1) (λ b. Done (function l r w ps (Some b)))
 
@@ -315,7 +318,9 @@ module _ (m : ℕ) (nested : Nested) (known : Deeper nested m 0) (body : Tokens 
     where
       typed_to : (l' : ℕ) (k : Kind) (l : ℕ) (w : List ℕ) (v : Tokens)
           → Types l' k f (named l w ∷ v) → AfterName k l w may xs v t → ItemIs may xs f t
-      typed_to l' k l w v y (this q) = let x = func_to may (Some k) l w xs v t q in subst (λ (xs : List Top). ItemIs may xs f t) x.1 (a_function (typed y) x.2)
+      typed_to l' k l w v y (this q) =
+          let x = func_to may (Some k) l w xs v t q in
+          subst (λ (xs : List Top). ItemIs may xs f t) x.1 (a_function (typed y) x.2)
       typed_to l' k l w v y (that q) = some_globals y (globals_are may k l w q.0 xs v q.1 t q.2 q.3)
 
   func_from : (may : May) (r : Option Kind) (x : Top) (f t : Tokens) → Units may (func r x) f t
@@ -366,8 +371,10 @@ module _ (m : ℕ) (nested : Nested) (known : Deeper nested m 0) (body : Tokens 
 
   func_item : (may : May) (r : Option Kind) (x : Top) (f u t : Tokens) → Units may (result r) f u
       → Units may (func r x) u t → ItemChain may (x ∷ []) f t
-  func_item may _ x _ u t (void {l = l}) y = let n = func_from may None x u t y in that (this (l, u, refl, (n.0, n.1, n.2, n.3)))
-  func_item may _ x f u t (typed {l = l} {k = k} z) y = let n = func_from may (Some k) x u t y in that (that ((l, k), u, z, (n.0, n.1, n.2, this n.3)))
+  func_item may _ x _ u t (void {l = l}) y =
+      let n = func_from may None x u t y in that (this (l, u, refl, (n.0, n.1, n.2, n.3)))
+  func_item may _ x f u t (typed {l = l} {k = k} z) y =
+      let n = func_from may (Some k) x u t y in that (that ((l, k), u, z, (n.0, n.1, n.2, this n.3)))
 
   globals_item : (may : May) (l' : ℕ) (k j : Kind) (gs : List Top) (f u t : Tokens) → Types l' k f u
       → Units may (globals j gs) u t → j ≡ k → ItemChain may gs f t

@@ -60,7 +60,9 @@ or_mono false false c h e = e
 
 pub late_of : (m : ℕ) (rest q : Tokens) (d : ℕ) → before m rest q d ≡ true → late m rest q d ≡ true
 late_of m rest q d e =
-    or_mono (leb (length q) (length rest)) (leb (length q) (suc (length rest))) (leb d m) (λ h. let h' = leb-true (length q) (length rest) h in le-leb (length q) (suc (length rest)) (omega (arith, h'))) e
+    or_mono (leb (length q) (length rest)) (leb (length q) (suc (length rest))) (leb d m)
+    (λ h. let h' = leb-true (length q) (length rest) h in le-leb (length q) (suc (length rest))
+    (omega (arith, h'))) e
 
 same_length : {ts ts' : Tokens} → Tied false [] [] ts ts' → length ts ≡ length ts'
 same_length (end c) = refl
@@ -71,7 +73,8 @@ same_length (alike t x) = ap suc (same_length x)
 two : May
 two q d = leb 2 (length q)
 
-module _ {X : Type 0} (R : Rel X) (after : Tokens → Tokens) (m : ℕ) (run : Tokens → Out X) (p : Piece same_tree R any at_end at_end after m run)
+module _ {X : Type 0} (R : Rel X) (after : Tokens → Tokens) (m : ℕ) (run : Tokens → Out X)
+    (p : Piece same_tree R any at_end at_end after m run)
     (far : (may may' : May) (x : X) (f : Tokens) → Passes may may' 1 → R may x f [] → R may' x f []) where
   stops_same : (s s' : Stop) (a b : Out X) → a ≡ Err s → b ≡ Err s' → a ≡ b → s ≡ s'
   stops_same s s' a b p q r = let h : err {A = X} s ≡ err s' = sym p ∙ r ∙ q in cc
@@ -202,7 +205,12 @@ module _ {X : Type 0} (R : Rel X) (after : Tokens → Tokens) (m : ℕ) (run : T
             (p.complete false [] [] two x ts []
             (far any_depth two x ts (λ q d lt e. le-leb 2 (length q) (omega (arith, lt))) r) refl ts
             (same ts))
-            (λ q q' d u i y. let y' = leb-true 2 (length q') y in omega (arith, y', same_length u, ap (λ (s : Stop). length (s.rest)) i));
+            (λ q q' d u i y. let y' = leb-true 2 (length q') y in omega (
+              arith,
+              y',
+              same_length u,
+              ap (λ (s : Stop). length (s.rest)) i,
+            ));
       }
   fault_at ts true (t ∷ t' ∷ back') o h =
       let back = t' ∷ back' in
@@ -217,7 +225,8 @@ module _ {X : Type 0} (R : Rel X) (after : Tokens → Tokens) (m : ℕ) (run : T
           but_for_it = subst (λ (u : Lexeme). StartsBut R m a.0 u) (sym it) a.5;
           with_it = λ w.
               let r = subst (λ (u : Tokens). R (before m w.0) w.1 u []) (append_assoc a.0 (t ∷ []) w.0) w.2 in
-              let tied = subst (λ (u : Tokens). Tied true back w.0 u (a.0 ++ t ∷ w.0)) (sym split) (tie a.0 t back w.0) in
+              let tied = subst (λ (u : Tokens). Tied true back w.0 u (a.0 ++ t ∷ w.0)) (sym split)
+              (tie a.0 t back w.0) in
               refuses (before m w.0) ts back w.0 t w.1 _ h refl
               (p.complete true back w.0 (before m w.0) w.1 (a.0 ++ t ∷ w.0) [] r refl ts tied)
               (λ q q' d u i y n. both_ways (leb d m)
@@ -225,7 +234,8 @@ module _ {X : Type 0} (R : Rel X) (after : Tokens → Tokens) (m : ℕ) (run : T
           not_early = λ early.
               let w = early.starts in
               let g' = back ++ w.0 in
-              let r = subst (λ (u : Tokens). R (late m w.0) w.1 u []) (ap (λ (u : Tokens). u ++ w.0) split ∙ append_assoc a.0 (t ∷ back) w.0) w.2 in
+              let r = subst (λ (u : Tokens). R (late m w.0) w.1 u []) (ap (λ (u : Tokens). u ++ w.0) split
+              ∙ append_assoc a.0 (t ∷ back) w.0) w.2 in
               let tied = subst (λ (u : Tokens). Tied true back g' u (a.0 ++ t ∷ g')) (sym split) (tie a.0 t back g') in
               refuses (late m w.0) ts back g' t w.1 _ h refl
               (p.complete true back g' (late m w.0) w.1 (a.0 ++ t ∷ g') [] r refl ts tied)

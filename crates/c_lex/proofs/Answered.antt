@@ -1,6 +1,7 @@
 -- Every text has tokens or a fault.
 use Rattle.std.proofs.Common.{◌≡◌, ◌≤◌, ◌<◌, ℕ, zero, suc, ◌+◌, Bool, true, false, ◌&&◌, ◌||◌, inl, inr, [], ◌∷◌}
-use Rattle.std.proofs.Common.{◌++◌, length, take, drop, Option, Some, None, refl, sym, ap, ◌∙◌, subst, arith, nat_eq, nat_lt}
+use Rattle.std.proofs.Common.{◌++◌, length, take, drop, Option, Some, None, refl, sym, ap, ◌∙◌}
+use Rattle.std.proofs.Common.{subst, arith, nat_eq, nat_lt}
 use Rattle.std.proofs.Common.{length-append}
 use Rattle.std.proofs.lemmas.Bool.Decides.{nat_tests}
 use Rattle.c_tree.specs.declared.Form.{Form}
@@ -54,7 +55,8 @@ module _ (starts : Bool) (b : ℕ) (bs : Bytes) where
   mark_at None e = (None, e)
   mark_at (Some p) e = (Some (found p.0 (reads.Token (form.Mark p.1))), (p.1, refl, e))
 
-  module _ (s : is_space b ≡ false) (l : is_letter b ≡ false) (d : is_digit b ≡ false) (q : nat_eq b 39 ≡ false) (h : nat_eq b 35 ≡ false) where
+  module _ (s : is_space b ≡ false) (l : is_letter b ≡ false) (d : is_digit b ≡ false) (q : nat_eq b 39 ≡ false)
+      (h : nat_eq b 35 ≡ false) where
     -- no comment begins here
     unmarked : begins_comment Text ≡ false → Finding starts Text
     unmarked c =
@@ -167,7 +169,8 @@ left_over starts old p r q n l h =
     let total : length old ≡ length p + length r = ap length l.split ∙ length-append p r in
     omega arith
 
-module _ (n : ℕ) (text before rest : Bytes) (ts : Tokens) (short : length rest ≤ suc n) (so : So text before ts rest) (onward : Onward n text) where
+module _ (n : ℕ) (text before rest : Bytes) (ts : Tokens) (short : length rest ≤ suc n) (so : So text before ts rest)
+    (onward : Onward n text) where
   -- on behind a piece that adds these tokens
   passed : (p r : Bytes) (q : Reading) (us : Tokens) → Longest (at_line_start before) rest p r q
       → Grows 8192 (line_after before) q ts us → Answered 8192 text

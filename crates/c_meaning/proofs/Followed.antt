@@ -68,7 +68,8 @@ pub no-stack : (step : Step) (n : Next) (v : Signal) (s' : State) (f : Frame)
     (before behind now : List Frame) → n ≡ Given v → behind ≡ before ++ f ∷ [] → length now ≡ 0
     → IsStep step n s' (frames behind) (frames now) → ⊥
 no-stack step n v s' f before behind now e b l h =
-    let a : length (frames now) ≡ length (frames behind) = ap length (top step n v s' (frames behind) (frames now) e h) in
+    let a : length (frames now) ≡ length (frames behind) = ap length
+    (top step n v s' (frames behind) (frames now) e h) in
     let c : length (frames behind) ≡ suc (length (frames before)) = ap length (frames-top behind before f b) in
     let d = frames-length now in
     absurd (omega arith)

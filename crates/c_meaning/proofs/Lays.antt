@@ -242,7 +242,8 @@ pub rows-add_unset : (spans : List Span) (cells more : List Cell) (used last sta
     ≡ rows spans cells ++ replicate n None ∷ []
 rows-add_unset spans cells more used last stamp n h e k le =
     let c = h.counted in let f = h.fits in
-    let m : length (drop (total spans) (cells ++ more)) ≡ length (cells ++ more) - total spans = length-drop (total spans) (cells ++ more) in
+    let m : length (drop (total spans) (cells ++ more)) ≡ length (cells ++ more) - total spans = length-drop
+    (total spans) (cells ++ more) in
     rows-snoc spans (cells ++ more) (record { start = used; length = n; stamp = stamp })
     ∙ ap (λ (r : List (Option ℕ)). rows spans (cells ++ more) ++ r ∷ [])
     (unset-cells last stamp n (drop (total spans) (cells ++ more)) (omega arith)
@@ -309,7 +310,8 @@ rows-add_set spans cells used last stamp blanks n words h e =
     let l : length (take used cells) ≡ used = length-taken used cells f in
     let more : List Cell = filled stamp words blanks in
     let k : length more ≡ n = length-filled stamp words blanks ∙ sym e in
-    let row : row_of (record { start = used; length = n; stamp = stamp }) (drop (total spans) (take used cells ++ more)) ≡ map Some words ++ replicate blanks (Some 0) =
+    let row : row_of (record { start = used; length = n; stamp = stamp })
+    (drop (total spans) (take used cells ++ more)) ≡ map Some words ++ replicate blanks (Some 0) =
     ap (λ (cs : List Cell). map (shown stamp) (take n cs))
     (drop-seam (total spans) (take used cells) more (omega arith))
     ∙ ap (map (shown stamp)) (take-whole n more (sym k))

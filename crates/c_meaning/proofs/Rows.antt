@@ -74,7 +74,8 @@ start-least [] a at span f h = absurd (cc)
 start-least (first ∷ spans) zero at span f h =
     let e : first ≡ span = cc in
     let s : at ≡ span.start = sym f.0 ∙ ap (λ (s : Span). s.start) e in omega arith
-start-least (first ∷ spans) (suc a) at span f h = let i = start-least spans a (at + first.length) span f.1 h in omega arith
+start-least (first ∷ spans) (suc a) at span f h =
+    let i = start-least spans a (at + first.length) span f.1 h in omega arith
 
 end-most : (spans : List Span) (a at : ℕ) (span : Span) → Follows at spans
     → slice_get spans a ≡ Some span → span.start + span.length ≤ at + total spans

@@ -17,7 +17,8 @@ use Rattle.c_meaning_steps.specs.StatementSteps.{act_step}
 use Rattle.c_meaning_steps.specs.ResumeSteps.{resume_step}
 use Rattle.c_meaning_steps.specs.Ahead.{Next, ToDo, Given, Ended, ahead_next, rank, is_over, is_empty}
 use Rattle.c_meaning_steps.specs.Ahead.{unwind_of, IsReached, IsStep}
-use Rattle.c_meaning_steps.proofs.Moves.{act-keeps, resume-keeps, step-ahead, ahead-is, s-called}
+use Rattle.c_meaning_steps.proofs.ExpressionMoves.{s-called}
+use Rattle.c_meaning_steps.proofs.Moves.{act-keeps, resume-keeps, step-ahead, ahead-is}
 use Rattle.c_meaning_steps.proofs.Ranks.{act-falls, resume-falls}
 use Rattle.c_meaning.specs.View.{follow, frames}
 use Rattle.c_meaning.specs.declared.frame.Frame.{Frame}
@@ -45,7 +46,8 @@ do-less P t s s' n n0 old new e h =
     let a = act-falls P t s n s' (frames old) (frames new) h in
     let b = frames-length old in
     let c = frames-length new in
-    let d : rank n0 s.stock (length old) ≡ rank (ToDo t) s.stock (length old) = ap (λ (m : Next). rank m s.stock (length old)) e in
+    let d : rank n0 s.stock (length old) ≡ rank (ToDo t) s.stock (length old) =
+    ap (λ (m : Next). rank m s.stock (length old)) e in
     omega arith
 
 pub give-kept : (P : TypedProgram) (f : Frame) (v : Signal) (s s' : State) (n n0 : Next)
@@ -66,7 +68,8 @@ give-less P f v s s' n n0 old rest new e o h =
     let b : length (frames old) ≡ suc (length (frames rest)) = ap length (frames-top old rest f o) in
     let g = frames-length old in
     let c = frames-length new in
-    let d : rank n0 s.stock (length old) ≡ rank (Given v) s.stock (length old) = ap (λ (m : Next). rank m s.stock (length old)) e in
+    let d : rank n0 s.stock (length old) ≡ rank (Given v) s.stock (length old) =
+    ap (λ (m : Next). rank m s.stock (length old)) e in
     omega arith
 
 suc-not-zero : (n : ℕ) → false ≡ nat_eq (suc n) 0

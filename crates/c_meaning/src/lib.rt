@@ -3,6 +3,7 @@
 #![tactic(auto)]
 
 mod arrays;
+mod assignment;
 mod call;
 mod evaluation;
 mod expression;

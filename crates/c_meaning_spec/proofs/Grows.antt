@@ -289,7 +289,8 @@ module _ (d n : ℕ) where
 
 -- WHERE THE PARTS GROW BELOW N
 
-module _ (d n : ℕ) (rec rec' : Parts) (below : (t : Task) (s : State) → s.stock < n → Grew d n (rec t s) (rec' t (more d s))) (puts : (t : Task) (s : State) → Puts s.output s.stock (rec' t s)) where
+module _ (d n : ℕ) (rec rec' : Parts) (below : (t : Task) (s : State) → s.stock < n → Grew d n (rec t s)
+    (rec' t (more d s))) (puts : (t : Task) (s : State) → Puts s.output s.stock (rec' t s)) where
   -- an expression, a statement, and what follows
   g-of : (e : TypedExpr) (s : State) (f f' : Signal → State → Result) → s.stock < n
       → ((v : Signal) (s : State) → s.stock < n → Grew d n (f v s) (f' v (more d s)))

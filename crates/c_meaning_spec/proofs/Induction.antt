@@ -16,7 +16,8 @@ meaning-falls P t s v s' e =
     subst (λ (r : Result). Grew 0 s.stock r (meaning P t (more 0 s))) e (meaning-more P 0 t s) in
     h.grows.1
 
-module _ (Q : Task → State → Type 0) (parts : (t : Task) (s : State) → ((u : Task) (x : State) → weight u x.stock < weight t s.stock → Q u x) → Q t s) where
+module _ (Q : Task → State → Type 0) (parts : (t : Task) (s : State)
+    → ((u : Task) (x : State) → weight u x.stock < weight t s.stock → Q u x) → Q t s) where
   below : (k : ℕ) (t : Task) (s : State) → weight t s.stock ≤ k → Q t s
   below zero t s h = let w = weight-some t s.stock in absurd (omega arith)
   below (suc k) t s h = parts t s (λ u x lt. below k u x (omega arith))

@@ -1,6 +1,6 @@
 //! Functions and translation units (C17 6.9).
 
-ghost use Rattle.std.specs.Prelude.{◌≡◌, Some, None, [], ◌∷◌};
+ghost use Rattle.std.specs.Prelude.{◌≡◌, ◌-◌, Some, None, [], ◌∷◌};
 ghost use Rattle.c_grammar.specs.ModelExpressions.{inside};
 ghost use Rattle.c_grammar.specs.ModelStatements.{below_at, compound_of};
 ghost use Rattle.c_grammar.specs.ModelUnits as model;
@@ -11,7 +11,7 @@ use crate::build;
 use crate::fault::Stopped;
 use crate::parser::Parser;
 use base::Items;
-use c_tree::{ArraySize, Form, Key, Kind, Mark, Param, Top, TopNode, Word};
+use c_tree::{ArraySize, Form, Key, Kind, MOST_NESTING, Mark, Param, Top, TopNode, Word};
 
 impl Parser<'_> {
     /// The name of a parameter, or the line of its type where it has none.
@@ -274,12 +274,12 @@ impl Parser<'_> {
 
     /// Items up to the end, one at least.
     pub fn unit(&mut self) -> Result<Items<Top>, Stopped>
-        ensures { Reads (model.unit_of 63 self.old.rest.now) result self.new.rest.now }
+        ensures { Reads (model.unit_of (MOST_NESTING - 1) self.old.rest.now) result self.new.rest.now }
     {
         let mut found = Items::new(self.alloc);
         let turns = self.rest.len() + 1;
         for _turn in 0..turns {
-            let more = self.item(64, 63)?;
+            let more = self.item(MOST_NESTING, MOST_NESTING - 1)?;
             found.append(more)?;
             if self.is_end() {
                 return Ok(found);

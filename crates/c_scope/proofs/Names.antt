@@ -97,12 +97,14 @@ find_some (e ∷ es) q i h = by (find_some es q i) (same_name e.binding.name q) 
               ∙ ap (λ (l : List Entry). Some (get_or l i d).binding.meaning) (sym (backwards e es));
         }
 
-module _ {S : Type 0} (ss : List ℕ) (items : List Entry) (m : HashMap (List ℕ) ℕ S) (k : Kept (reverse items) m) (q : List ℕ) where
+module _ {S : Type 0} (ss : List ℕ) (items : List Entry) (m : HashMap (List ℕ) ℕ S) (k : Kept (reverse items) m)
+    (q : List ℕ) where
   pub look_none : get same_name m q ≡ None → look_up (frames ss (reverse items)) q ≡ None
   look_none h = flat ss (reverse items) q ∙ find_none (reverse items) q (sym (k.finds q) ∙ h)
 
   pub look_within : (i : ℕ) → get same_name m q ≡ Some i → i < length items
-  look_within i h = let f = find_some (reverse items) q i (sym (k.finds q) ∙ h) in omega (arith, f.within, length-reverse items)
+  look_within i h =
+      let f = find_some (reverse items) q i (sym (k.finds q) ∙ h) in omega (arith, f.within, length-reverse items)
 
   pub look_some : (i : ℕ) (d : Entry) → get same_name m q ≡ Some i
       → look_up (frames ss (reverse items)) q ≡ Some (get_or items i d).binding.meaning
@@ -208,7 +210,8 @@ next_block (s ∷ ss) es f = refl
 drop_reversed : (n : ℕ) (xs : List Entry) → n ≤ length xs
     → drop (length xs - n) (reverse xs) ≡ reverse (take n xs)
 drop_reversed n xs le =
-    let a : reverse xs ≡ reverse (drop n xs) ++ reverse (take n xs) = ap reverse (sym (take-append-drop n xs)) ∙ reverse-append (take n xs) (drop n xs) in
+    let a : reverse xs ≡ reverse (drop n xs) ++ reverse (take n xs) = ap reverse (sym (take-append-drop n xs))
+    ∙ reverse-append (take n xs) (drop n xs) in
     let l : length (reverse (drop n xs)) ≡ length xs - n = length-reverse (drop n xs) ∙ length-drop n xs in
     ap (λ (l : List Entry). drop (length xs - n) l) a
     ∙ ap (λ (m : ℕ). drop m (reverse (drop n xs) ++ reverse (take n xs))) (sym l)

@@ -11,7 +11,8 @@ mod typed;
 mod word;
 
 pub use limits::{
-    MOST_FRAME_BYTES, MOST_NEED, MOST_OBJECT_BYTES, MOST_SCALARS, MOST_SOURCE_BYTES, MOST_TOKENS,
+    MOST_FRAME_BYTES, MOST_NEED, MOST_NESTING, MOST_OBJECT_BYTES, MOST_PARAMETERS, MOST_SCALARS,
+    MOST_SOURCE_BYTES, MOST_TOKENS,
 };
 pub use token::{Form, Key, Kind, Lexeme, Mark};
 pub use tree::{

@@ -6,6 +6,12 @@ pub const MOST_SOURCE_BYTES: u64 = 262_144;
 /// How many tokens a source text may have.
 pub const MOST_TOKENS: usize = 8192;
 
+/// How deep a construct may stand.
+pub const MOST_NESTING: u8 = 64;
+
+/// How many parameters a function may have.
+pub const MOST_PARAMETERS: usize = 8;
+
 /// How many scalars a function may have, its parameters among them.
 pub const MOST_SCALARS: u64 = 64;
 

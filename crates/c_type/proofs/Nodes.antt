@@ -9,7 +9,8 @@ use Rattle.c_tree.specs.declared.tree.ForInit.{ForInit, map-ForInit, fold-roll-F
 use Rattle.c_tree.specs.declared.tree.ForInit.TheVariants as first_part
 use Rattle.c_tree.specs.declared.tree.ForInit.TheOpen.{ForInit-F, StmtNode-F}
 use Rattle.c_tree.specs.declared.tree.Stmt.{Stmt, fold_out-Stmt, size-Stmt}
-use Rattle.c_tree.specs.declared.tree.StmtNode.{StmtNode, map-StmtNode, fold-roll-StmtNode, fold-StmtNode, roll-StmtNode}
+use Rattle.c_tree.specs.declared.tree.StmtNode.{StmtNode, map-StmtNode, fold-roll-StmtNode}
+use Rattle.c_tree.specs.declared.tree.StmtNode.{fold-StmtNode, roll-StmtNode}
 use Rattle.c_tree.specs.declared.tree.StmtNode.TheVariants as node
 use Rattle.c_tree.specs.declared.typed.TypedStmt.{TypedStmt}
 use Rattle.c_tree.specs.declared.typed.TypedStmt.TheVariants as typed
@@ -24,7 +25,10 @@ use Rattle.c_type_expr.specs.Says.{Stops}
 use Rattle.c_type.specs.declared.state.State.{State}
 use Rattle.c_type.specs.States.{at, full_if, tree_if, entered, left}
 use Rattle.c_type.specs.Declarations.{declared, declare_fault, declare_tree}
-use Rattle.c_type.specs.Statements.{Part, Beginning, part, beginning_of, init_part, node_part, at_line, all_after, all_fault, all_trees, else_after, else_fault, else_tree, rest_fault, for_fault, for_tree, return_fault, return_tree}
+use Rattle.c_type.specs.Statements.{Part, Beginning, part, beginning_of, init_part, node_part}
+use Rattle.c_type.specs.Statements.{at_line, all_after, all_fault, all_trees, else_after}
+use Rattle.c_type.specs.Statements.{else_fault, else_tree, rest_fault, for_fault, for_tree}
+use Rattle.c_type.specs.Statements.{return_fault, return_tree}
 use Rattle.c_type.specs.Runs.{Runs}
 
 abbrev A : Type 0

@@ -1,5 +1,7 @@
 -- Functions (C17 6.7.6.3, 6.9.1): parameters, prototypes and definitions.
-use Rattle.std.specs.Prelude.{ℕ, Bool, true, false, not, ◌||◌, nat_lt, length, List, [], ◌∷◌, ◌++◌, map, Option, Some, None}
+use Rattle.std.specs.Prelude.{ℕ, Bool, true, false, not, ◌||◌, nat_lt, length, List, [], ◌∷◌, ◌++◌}
+use Rattle.std.specs.Prelude.{map, Option, Some, None}
+use Rattle.c_tree.specs.declared.limits.TheConstants.{MOST_PARAMETERS}
 use Rattle.c_tree.specs.declared.token.Kind.{Kind}
 use Rattle.c_tree.specs.declared.tree.ArraySize.{ArraySize}
 use Rattle.c_tree.specs.declared.tree.ArraySize.TheVariants as size
@@ -54,11 +56,11 @@ name_fault is_def G seen None l = unless (not is_def) (Mismatch l)
 name_fault is_def G seen (Some w) l =
     unless (not (named_among seen w || is_end (look_up G w))) (Twice l)
 
--- a parameter after others, of which there are at most eight
+-- a parameter after others, with which a function has no more than it may have
 abbrev pub param_fault : Bool → Scope → List Param → Param → Blame
 param_fault is_def G seen p =
     first (name_fault is_def G seen p.name p.line)
-    (unless (nat_lt (length seen) 8) (TooManyParams p.line))
+    (unless (nat_lt (length seen) MOST_PARAMETERS) (TooManyParams p.line))
 
 -- the first fault of parameters after others
 abbrev pub params_fault : Bool → Scope → List Param → List Param → Blame

@@ -1,5 +1,6 @@
 -- A translation unit (C17 6.9): the first fault of its items, and `main` last (C17 5.1.2.2.1).
-use Rattle.std.specs.Prelude.{ℕ, ◌+◌, Bool, true, false, ◌&&◌, List, [], ◌∷◌, map, Option, Some, None, Result, Ok, Err, ◌≡◌}
+use Rattle.std.specs.Prelude.{ℕ, ◌+◌, Bool, true, false, ◌&&◌, List, [], ◌∷◌, map, Option, Some}
+use Rattle.std.specs.Prelude.{None, Result, Ok, Err, ◌≡◌}
 use Rattle.c_tree.specs.declared.token.Kind.{Kind}
 use Rattle.c_tree.specs.declared.token.Kind.TheVariants.{Int}
 use Rattle.c_tree.specs.declared.tree.Param.{Param}
@@ -19,7 +20,8 @@ use Rattle.c_type_expr.specs.declared.fault.TypeFault.{TypeFault}
 use Rattle.c_type_expr.specs.declared.fault.TypeFault.TheVariants.{NoMain, Memory}
 use Rattle.c_type_expr.specs.Roles.{Blame, first, unless}
 use Rattle.c_type.specs.declared.file_scope.FileScope.{FileScope}
-use Rattle.c_type.specs.Units.{getchar_name, putchar_name, get_char, put_char, include_fault, included, global_fault, with_global}
+use Rattle.c_type.specs.Units.{getchar_name, putchar_name, get_char, put_char, include_fault}
+use Rattle.c_type.specs.Units.{included, global_fault, with_global}
 use Rattle.c_type.specs.Functions.{slot_of, head_fault, with_prototype, definition_fault, with_definition, callee_in}
 
 -- the functions that the unit defines, wherever they stand, by their numbers in the order of the

@@ -11,6 +11,7 @@ ghost use Rattle.c_type.specs.Declarations as declarations;
 ghost use Rattle.c_type.specs.Statements.{part};
 ghost use Rattle.c_type.specs.Runs.{Runs, Moves, Adds};
 
+use crate::counts::counted;
 use crate::parts::value_to;
 use crate::state::State;
 use c_constant::bytes;
@@ -81,16 +82,6 @@ fn scalar_place(state: &State, name: &Word, line: u32) -> Result<u32, TypeFault>
     } else {
         Err(TypeFault::TooManyScalars(line))
     }
-}
-
-fn array_place(state: &State) -> Result<u32, TypeFault>
-    ensures { Says None (length state.now.arrays) result }
-{
-    let count = state.arrays.len();
-    if count > 0xffff_ffff {
-        return Err(TypeFault::Memory);
-    }
-    Ok(count as u32)
 }
 
 pub fn add_scalar(
@@ -184,7 +175,7 @@ fn sized(
     ensures { Moves None (TypedStmt.Declare (Place.Array (length state.old.arrays)) None)
         (states.with_array kind name count state.old) state.new result }
 {
-    let place = array_place(state)?;
+    let place = counted(state.arrays.len())?;
     add_array(alloc, state, kind, name, place, count)?;
     Ok(TypedStmt::Declare {
         place: Place::Array(place),

@@ -1,6 +1,6 @@
 //! Prototypes and definitions of functions.
 
-ghost use Rattle.std.specs.Prelude.{◌≡◌, ◌≤◌, [], map, length, None, take, ◌+◌};
+ghost use Rattle.std.specs.Prelude.{◌≡◌, ◌≤◌, [], map, None, take, ◌+◌};
 ghost use Rattle.std.specs.Option.{option_copied};
 ghost use Rattle.c_type_expr.specs.Roles.{first, unless};
 ghost use Rattle.c_type_expr.specs.Says.{Says};
@@ -9,6 +9,7 @@ ghost use Rattle.c_type.specs.Functions as functions;
 ghost use Rattle.c_type.specs.Functions.{body_part, file_with};
 ghost use Rattle.c_type.specs.Runs.{Runs, Adds};
 
+use crate::counts::counted;
 use crate::declarations::{add_address, add_scalar, is_end};
 use crate::file_scope::FileScope;
 use crate::signatures::{agrees, undefined};
@@ -17,7 +18,8 @@ use crate::statements::{all, type_stmt};
 use base::{Items, Queue};
 use c_scope::{Meaning, Scopes};
 use c_tree::{
-    ArraySize, Callee, Kind, Param, Slot, Stmt, StmtNode, TypedFunc, TypedGlobal, TypedStmt, Word,
+    ArraySize, Callee, Kind, MOST_PARAMETERS, Param, Slot, Stmt, StmtNode, TypedFunc, TypedGlobal,
+    TypedStmt, Word,
 };
 use c_type_expr::TypeFault;
 use std::alloc::Global;
@@ -91,14 +93,14 @@ fn param_at(names: &Scopes, is_def: bool, seen: &[Param], param: &Param) -> Resu
     ensures { Says (functions.param_fault is_def names.now seen.now param.now) tt result }
 {
     name_at(names, is_def, seen, &param.name, param.line)?;
-    if seen.len() < 8 {
+    if seen.len() < MOST_PARAMETERS {
         Ok(())
     } else {
         Err(TypeFault::TooManyParams(param.line))
     }
 }
 
-/// Whether a function may have these parameters: the ninth is the last that is looked at.
+/// Whether a function may have these parameters: the first that is one too many is the last that is looked at.
 fn params_at(names: &Scopes, is_def: bool, params: &[Param]) -> Result<(), TypeFault>
     ensures { Says (functions.params_fault is_def names.now [] params.now) tt result }
 {
@@ -185,32 +187,12 @@ pub fn prototype(
     declared(alloc, table, names, given, name, slots, false)
 }
 
-fn scalar_count(state: &State) -> Result<u32, TypeFault>
-    ensures { Says None (length state.now.scalars) result }
-{
-    let count = state.scalars.len();
-    if count > 0xffff_ffff {
-        return Err(TypeFault::Memory);
-    }
-    Ok(count as u32)
-}
-
-fn param_count(params: &[Param]) -> Result<u32, TypeFault>
-    ensures { Says None (length params.now) result }
-{
-    let count = params.len();
-    if count > 0xffff_ffff {
-        return Err(TypeFault::Memory);
-    }
-    Ok(count as u32)
-}
-
 /// Keeps a parameter.
 fn add_param(alloc: Global, state: &mut State, param: Param) -> Result<(), TypeFault>
     ensures { Adds (functions.named_param param.name param.size param.kind state.old) state.new
         result }
 {
-    let place = scalar_count(state)?;
+    let place = counted(state.scalars.len())?;
     let Param {
         kind,
         name,
@@ -357,7 +339,7 @@ pub fn definition(
         params.as_slice(),
         line,
     )?;
-    let count = param_count(params.as_slice())?;
+    let count = counted(params.len())?;
     let FileScope {
         names,
         globals,

@@ -7,6 +7,7 @@ ghost use Rattle.c_type_expr.specs.Constants as constants;
 ghost use Rattle.c_constant.specs.Kinds as kinds;
 ghost use Rattle.c_type.specs.Units as units;
 
+use crate::counts::counted;
 use crate::declarations::twice;
 use crate::file_scope::FileScope;
 use base::Items;
@@ -98,16 +99,6 @@ fn length_in(size: &ArraySize, count: u64) -> Option<u32>
     }
 }
 
-fn global_number(file: &FileScope) -> Result<u32, TypeFault>
-    ensures { Says None (length file.now.globals) result }
-{
-    let count = file.globals.len();
-    if count > 0xffff_ffff {
-        return Err(TypeFault::Memory);
-    }
-    Ok(count as u32)
-}
-
 fn fits(count: u64, given: usize, line: u32) -> Result<(), TypeFault>
     ensures { Says (unless (nat_le given count) (TypeFault.Mismatch line)) tt result }
 {
@@ -133,7 +124,7 @@ fn admitted(
 {
     let count = count_in(&file.names, size, init, line)?;
     place_at(file, count, kind, name, line)?;
-    let number = global_number(file)?;
+    let number = counted(file.globals.len())?;
     Ok((count, number))
 }
 

@@ -1,6 +1,7 @@
 //! The typing of a translation unit (C17 6.5 to 6.9).
 #![tactic(auto)]
 
+mod counts;
 mod declarations;
 mod file_scope;
 mod functions;

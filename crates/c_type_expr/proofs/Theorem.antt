@@ -280,12 +280,14 @@ module _ (N E : Type 0) (node_of : N → ExprNode) (of : E → Expr) (whole : (e
       (operation (whole x G Value s.0) (whole y G Value u.0) (held _ _ u.1)))
   at_node l r (ExprNode-F.Choice c x y) =
       subst (Is l r) (sym (node.rolls-Choice (of c) (of x) (of y)))
-      (λ h. let s = split _ _ (sym (fault-Choice G r l (of c) (of x) (of y)) ∙ h) in let u = split _ _ s.1 in let v = split _ _ u.1 in
+      (λ h. let s = split _ _ (sym (fault-Choice G r l (of c) (of x) (of y)) ∙ h) in let u = split _ _ s.1 in
+      let v = split _ _ u.1 in
       subst (Typed G r _) (sym (tree-Choice G l (of c) (of x) (of y)))
       (either (whole c G Value s.0) (whole x G Value u.0) (whole y G Value v.0) (held _ _ v.1)))
   at_node l r (ExprNode-F.Assign op x y) =
       subst (Is l r) (sym (node.rolls-Assign op (of x) (of y)))
-      (λ h. let s = split _ _ (sym (fault-Assign G r l op (of x) (of y)) ∙ h) in let u = split _ _ s.1 in let v = split _ _ u.1 in let p = held _ _ v.0 in
+      (λ h. let s = split _ _ (sym (fault-Assign G r l op (of x) (of y)) ∙ h) in let u = split _ _ s.1 in
+      let v = split _ _ u.1 in let p = held _ _ v.0 in
       subst (Typed G r _) (sym (tree-Assign G l op (of x) (of y)))
       (assignment (passes_place (of x) p) (place_typed G (of x) (whole x) p s.0) (whole y G Value u.0) (held _ _ v.1)))
   at_node l r (ExprNode-F.Comma x y) =

@@ -1,53 +1,13 @@
 -- The types that operators want, once their operands are converted to them.
-use Rattle.std.proofs.Common.{◌≡◌, true, refl, sym}
-use Rattle.std.proofs.lemmas.Bool.{false≢true}
+use Rattle.std.proofs.Common.{◌≡◌, refl, sym}
 use Rattle.c_tree.specs.declared.token.Kind.{Kind}
 use Rattle.c_tree.specs.declared.token.Kind.TheVariants.{Char, UChar, Int, UInt, Long, ULong}
 use Rattle.c_tree.specs.declared.tree.UnaryOp.{UnaryOp}
 use Rattle.c_tree.specs.declared.tree.UnaryOp.TheVariants.{Not}
 use Rattle.c_tree.specs.declared.tree.BinaryOp.{BinaryOp}
 use Rattle.c_tree.specs.declared.tree.BinaryOp.TheVariants.{LogicalOr, LogicalAnd, ShiftLeft, ShiftRight}
-use Rattle.c_constant.specs.Kinds.{same_kind, promoted, common}
+use Rattle.c_constant.specs.Kinds.{promoted, common}
 use Rattle.c_constant.specs.Operation.{left_at, right_at, unary_at}
-
--- the test of two types tells whether they are one
-pub same : (j k : Kind) → same_kind j k ≡ true → j ≡ k
-same Char Char h = refl
-same Char UChar h = absurd (false≢true h)
-same Char Int h = absurd (false≢true h)
-same Char UInt h = absurd (false≢true h)
-same Char Long h = absurd (false≢true h)
-same Char ULong h = absurd (false≢true h)
-same UChar Char h = absurd (false≢true h)
-same UChar UChar h = refl
-same UChar Int h = absurd (false≢true h)
-same UChar UInt h = absurd (false≢true h)
-same UChar Long h = absurd (false≢true h)
-same UChar ULong h = absurd (false≢true h)
-same Int Char h = absurd (false≢true h)
-same Int UChar h = absurd (false≢true h)
-same Int Int h = refl
-same Int UInt h = absurd (false≢true h)
-same Int Long h = absurd (false≢true h)
-same Int ULong h = absurd (false≢true h)
-same UInt Char h = absurd (false≢true h)
-same UInt UChar h = absurd (false≢true h)
-same UInt Int h = absurd (false≢true h)
-same UInt UInt h = refl
-same UInt Long h = absurd (false≢true h)
-same UInt ULong h = absurd (false≢true h)
-same Long Char h = absurd (false≢true h)
-same Long UChar h = absurd (false≢true h)
-same Long Int h = absurd (false≢true h)
-same Long UInt h = absurd (false≢true h)
-same Long Long h = refl
-same Long ULong h = absurd (false≢true h)
-same ULong Char h = absurd (false≢true h)
-same ULong UChar h = absurd (false≢true h)
-same ULong Int h = absurd (false≢true h)
-same ULong UInt h = absurd (false≢true h)
-same ULong Long h = absurd (false≢true h)
-same ULong ULong h = refl
 
 -- a promoted type is promoted
 promoted_once : (k : Kind) → promoted (promoted k) ≡ promoted k

@@ -14,7 +14,7 @@ use Rattle.c_scope.specs.declared.meaning.Meaning.TheVariants as meaning
 use Rattle.c_scope.specs.Scope.{Scope, Frame, same_name, find, look_up, or_else, declared_in, bound}
 use Rattle.c_type.specs.Declarations.{is_end, twice_fault}
 use Rattle.c_type.specs.Units.{same_slot, same_slots, same_result, type_fault}
-use Rattle.c_type_laws.proofs.Conversions.{same}
+use Rattle.c_constant.proofs.SameKinds.{kinds_are}
 use Rattle.c_type_laws.proofs.Moves.{held, some_is}
 
 -- EQUAL SIGNATURES
@@ -26,10 +26,10 @@ both false b h = absurd (false≢true h)
 
 -- equal slots are one
 slot_is : (s t : Slot) → same_slot s t ≡ true → s ≡ t
-slot_is (slot.Scalar j) (slot.Scalar k) h = ap slot.Scalar (same j k h)
+slot_is (slot.Scalar j) (slot.Scalar k) h = ap slot.Scalar (kinds_are j k h)
 slot_is (slot.Scalar j) (slot.Address k) h = absurd (false≢true h)
 slot_is (slot.Address j) (slot.Scalar k) h = absurd (false≢true h)
-slot_is (slot.Address j) (slot.Address k) h = ap slot.Address (same j k h)
+slot_is (slot.Address j) (slot.Address k) h = ap slot.Address (kinds_are j k h)
 
 -- equal lists of slots are one
 slots_are : (ss ts : List Slot) → same_slots ss ts ≡ true → ss ≡ ts
@@ -44,7 +44,7 @@ result_is : (a b : Option Kind) → same_result a b ≡ true → a ≡ b
 result_is None None h = refl
 result_is None (Some k) h = absurd (false≢true h)
 result_is (Some j) None h = absurd (false≢true h)
-result_is (Some j) (Some k) h = ap Some (same j k h)
+result_is (Some j) (Some k) h = ap Some (kinds_are j k h)
 
 -- NAMES
 

@@ -28,7 +28,8 @@ use Rattle.c_type_laws.specs.Objects.{scalar_at, array_at, signature, signature_
 use Rattle.c_tree.specs.TypedTrees.{Node, node_of}
 use Rattle.c_type_laws.specs.Expressions.{Gives, Has, IsObject, Passes, itself, named, indexed}
 use Rattle.c_type_laws.specs.Expressions as rule
-use Rattle.c_type_laws.proofs.Conversions.{same, commons, unary_settled, settled}
+use Rattle.c_constant.proofs.SameKinds.{kinds_are}
+use Rattle.c_type_laws.proofs.Conversions.{commons, unary_settled, settled}
 
 -- what a name means is in the program
 abbrev pub Exists : TypedProgram → TypedFunc → Meaning → Type 0
@@ -103,7 +104,7 @@ module _ (P : TypedProgram) (f : TypedFunc) where
   array_fits Free k p h s = absurd (false≢true h)
   array_fits Written k p h s = absurd (false≢true h)
   array_fits (Array j) k p h s =
-      let e = same k j h in
+      let e = kinds_are k j h in
       record { place = p; is = ap Some e; node = opened _ _ (typed.rolls-Name p); array = s ∙ ap Some e }
   array_fits Surplus k p h s = tt
 
@@ -145,8 +146,8 @@ module _ (P : TypedProgram) (f : TypedFunc) where
       is = ap kind_in p.is
 
       by : (b : Bool) → same_kind (kind_of t) k ≡ b → Has P f k (cond b t (a (Some k) (typed.Convert k t)))
-      by true e = itself (p.is ∙ ap Some (sym is ∙ same _ _ e))
-          (subst (λ j. Gives P f (Some j) (node_of t)) (sym is ∙ same _ _ e) p.gives)
+      by true e = itself (p.is ∙ ap Some (sym is ∙ kinds_are _ _ e))
+          (subst (λ j. Gives P f (Some j) (node_of t)) (sym is ∙ kinds_are _ _ e) p.gives)
       by false e = rule.converted refl (opened _ _ (typed.rolls-Convert k t)) p.is
           (sym (ap (λ j. same_kind j k) is) ∙ e) p.gives
 

@@ -28,7 +28,7 @@ use Rattle.c_type.specs.Programs.{items_after, main_name, is_int, no_slots, is_m
 use Rattle.c_type.specs.Programs.{program_tree}
 use Rattle.c_type_laws.specs.Objects.{Signature, signature, of_function, signature_of}
 use Rattle.c_type_laws.specs.WellFormed.{Each, FunctionFits, IsMain, WellFormed}
-use Rattle.c_type_laws.proofs.Conversions.{same}
+use Rattle.c_constant.proofs.SameKinds.{kinds_are}
 use Rattle.c_type_laws.proofs.Moves.{split, held, some_is, KnownFrame}
 use Rattle.c_type_laws.proofs.Frames.{both, declared_look, one_block}
 use Rattle.c_type_laws.proofs.Files.{BuiltIn, reads, writes, NamedBy, Names, Bound, calls, all_known, find_bound}
@@ -175,7 +175,7 @@ module _ (T : Scope) (m : ℕ) where
   -- the result is int
   int_is : (r : Option Kind) → is_int r ≡ true → r ≡ Some Int
   int_is None h = absurd (false≢true h)
-  int_is (Some k) h = ap Some (same k Int h)
+  int_is (Some k) h = ap Some (kinds_are k Int h)
 
   -- there are no parameters
   slots_are : (s : List Slot) → no_slots s ≡ true → s ≡ []

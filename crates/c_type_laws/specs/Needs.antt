@@ -1,5 +1,6 @@
 -- How many temporaries a typed expression needs, if operands are computed from left to right.
 use Rattle.std.specs.Prelude.{◌+◌, ◌≤◌, max, Some}
+use Rattle.c_tree.specs.declared.limits.TheConstants.{MOST_NEED}
 use Rattle.c_tree.specs.declared.typed.TypedExpr.{TypedExpr, TypedExpr-F, fold-TypedExpr}
 use Rattle.c_tree.specs.declared.typed.TypedNode.TheOpen.{TypedNode-F, Number, Name, Element, Call}
 use Rattle.c_tree.specs.declared.typed.TypedNode.TheOpen.{Unary, Cast, Convert, Bump, Binary}
@@ -29,6 +30,6 @@ of_needs e = e.node
 unfoldable pub typed_needs : TypedExpr → Needs
 typed_needs e = fold-TypedExpr Needs Needs node_needs of_needs e
 
--- the temporaries are at most 16
+-- it needs no more temporaries than a full expression may need
 abbrev pub FitsNeed : TypedExpr → Type 0
-FitsNeed e = (typed_needs e).need ≤ 16
+FitsNeed e = (typed_needs e).need ≤ MOST_NEED

@@ -80,11 +80,13 @@ mutual
     continues : WellFormedStmt P f true Continue
     returns : {b : Bool} {e : Option TypedExpr} → IsReturn P f f.result e → WellFormedStmt P f b (Return e)
 
+  -- each statement of a list is well formed
   pub data RunsAll (P : TypedProgram) (f : TypedFunc) : Bool → List TypedStmt → Type 0 where
     end : {b : Bool} → RunsAll P f b []
     next : {b : Bool} {s : TypedStmt} {ss : List TypedStmt}
         → WellFormedStmt P f b (out-TypedStmt s) → RunsAll P f b ss → RunsAll P f b (s ∷ ss)
 
+  -- the statement of an `else` is well formed, if there is one
   pub data RunsElse (P : TypedProgram) (f : TypedFunc) : Bool → Option TypedStmt → Type 0 where
     without : {b : Bool} → RunsElse P f b None
     with_else : {b : Bool} {s : TypedStmt} → WellFormedStmt P f b (out-TypedStmt s) → RunsElse P f b (Some s)

@@ -1,7 +1,7 @@
 -- A typed program that is well formed: what evaluation and translation may rely on.
 use Rattle.std.specs.Prelude.{◌≡◌, ℕ, ◌+◌, ◌*◌, ◌≤◌, false, List, [], ◌∷◌, Option, Some, None}
 use Rattle.std.specs.Prelude.{length, drop, slice_get}
-use Rattle.c_tree.specs.declared.limits.TheConstants.{MOST_OBJECT_BYTES, MOST_SCALARS}
+use Rattle.c_tree.specs.declared.limits.TheConstants.{MOST_OBJECT_BYTES, MOST_PARAMETERS, MOST_SCALARS}
 use Rattle.c_tree.specs.declared.token.Kind.TheVariants.{Int}
 use Rattle.c_tree.specs.declared.typed.Slot.{Slot}
 use Rattle.c_tree.specs.declared.typed.Slot.TheVariants as slot
@@ -54,8 +54,8 @@ IsScalar (slot.Address k) = ⊥
 
 -- a function that is well formed
 pub record FunctionFits (P : TypedProgram) (f : TypedFunc) : Type 0 where
-  -- at most 8 parameters, each of which has a slot
-  pub params : f.params ≤ 8
+  -- no more parameters than a function may have, each of which has a slot
+  pub params : f.params ≤ MOST_PARAMETERS
   pub slots : f.params ≤ length f.scalars
   -- no more slots than a function may have scalars, of which those after the parameters hold values
   pub scalars : length f.scalars ≤ MOST_SCALARS

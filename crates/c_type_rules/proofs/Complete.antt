@@ -1,5 +1,6 @@
 -- A statement without a fault has what the folds give it by the rules.
-use Rattle.std.proofs.Common.{◌≡◌, ℕ, ◌<◌, ◌≤◌, Bool, true, false, not, List, [], ◌∷◌, map, Option, Some, None, refl, sym, ap, ◌∙◌, subst, arith}
+use Rattle.std.proofs.Common.{◌≡◌, ℕ, ◌<◌, ◌≤◌, Bool, true, false, not, List, [], ◌∷◌, map, Option}
+use Rattle.std.proofs.Common.{Some, None, refl, sym, ap, ◌∙◌, subst, arith}
 use Rattle.std.specs.Prelude.{nat_lt, nat_le}
 use Rattle.std.proofs.lemmas.Bool.{false≢true}
 use Rattle.c_tree.specs.declared.token.Kind.{Kind}
@@ -28,9 +29,21 @@ use Rattle.c_type.specs.declared.state.State.{State}
 use Rattle.c_type.specs.States.{at, full_if, tree_if, value_of, entered}
 use Rattle.c_type.specs.Declarations.{declare_fault, declare_tree, declared}
 use Rattle.c_type.specs.Statements.{part, beginning_of, all_after, all_fault, all_trees, return_fault, return_tree}
-use Rattle.c_type.proofs.Nodes.{fault-Declare, tree-Declare, after-Declare, fault-Plain, tree-Plain, after-Plain, fault-Compound, tree-Compound, after-Compound, fault-If, tree-If, after-If, fault-While, tree-While, after-While, fault-Do, tree-Do, after-Do, fault-For, tree-For, after-For, fault-Break, tree-Break, after-Break, fault-Continue, tree-Continue, after-Continue, fault-Return, tree-Return, after-Return, tree-Nothing, after-Nothing, fault-First, tree-First, after-First, fault-Locals, tree-Locals, after-Locals}
+use Rattle.c_type.proofs.Nodes.{fault-Declare, tree-Declare, after-Declare, fault-Plain, tree-Plain}
+use Rattle.c_type.proofs.Nodes.{after-Plain, fault-Compound, tree-Compound, after-Compound}
+use Rattle.c_type.proofs.Nodes.{fault-If, tree-If, after-If, fault-While, tree-While, after-While}
+use Rattle.c_type.proofs.Nodes.{fault-Do, tree-Do, after-Do, fault-For, tree-For, after-For}
+use Rattle.c_type.proofs.Nodes.{fault-Break, tree-Break, after-Break, fault-Continue, tree-Continue}
+use Rattle.c_type.proofs.Nodes.{after-Continue, fault-Return, tree-Return, after-Return}
+use Rattle.c_type.proofs.Nodes.{tree-Nothing, after-Nothing, fault-First, tree-First, after-First}
+use Rattle.c_type.proofs.Nodes.{fault-Locals, tree-Locals, after-Locals}
 use Rattle.c_type_rules.specs.Constants.{Size}
-use Rattle.c_type_rules.specs.Statements.{Full, FullIf, Initialises, Types, TypesAll, Begins, absent, present, without_value, with_value, scalar_declared, array_declared, expression, block, either, while_loop, do_loop, for_loop, breaks, continues, returns, returns_value, no_more, one_more, without_else, with_else, no_first, first_value, first_locals}
+use Rattle.c_type_rules.specs.Statements.{Full, FullIf, Initialises, Types, TypesAll, Begins}
+use Rattle.c_type_rules.specs.Statements.{absent, present, without_value, with_value}
+use Rattle.c_type_rules.specs.Statements.{scalar_declared, array_declared, expression, block}
+use Rattle.c_type_rules.specs.Statements.{either, while_loop, do_loop, for_loop, breaks, continues}
+use Rattle.c_type_rules.specs.Statements.{returns, returns_value, no_more, one_more, without_else}
+use Rattle.c_type_rules.specs.Statements.{with_else, no_first, first_value, first_locals}
 use Rattle.c_type_rules.proofs.Constants.{constant_typed}
 
 -- where two parts have no fault together, neither has one

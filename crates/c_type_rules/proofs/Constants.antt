@@ -11,7 +11,9 @@ use Rattle.c_type_expr.specs.declared.fault.TypeFault.TheVariants.{Mismatch}
 use Rattle.c_type_expr.specs.Roles.{Blame, first, unless}
 use Rattle.c_type_expr.specs.Constants.{not_fixed, no_constant, calls_known}
 use Rattle.c_type_expr.specs.Says.{at}
-use Rattle.c_type_expr.proofs.Fixed.{fixed-Number, fixed-Name, fixed-Element, fixed-Call, fixed-Group, fixed-Unary, fixed-Cast, fixed-Bump, fixed-Binary, fixed-Choice, fixed-Assign, fixed-Comma}
+use Rattle.c_type_expr.proofs.Fixed.{fixed-Number, fixed-Name, fixed-Element, fixed-Call}
+use Rattle.c_type_expr.proofs.Fixed.{fixed-Group, fixed-Unary, fixed-Cast, fixed-Bump, fixed-Binary}
+use Rattle.c_type_expr.proofs.Fixed.{fixed-Choice, fixed-Assign, fixed-Comma}
 use Rattle.c_type_rules.specs.Constants.{IsConstant, number, group, operator, conversion, operation, choice}
 
 -- two parts without a fault

@@ -17,7 +17,8 @@ use Rattle.c_scope.specs.Scope.{Scope, same_name, look_up, or_else, find, declar
 use Rattle.c_type.specs.Units.{getchar_name, putchar_name, get_char, put_char}
 use Rattle.c_type.specs.Functions.{callee_in}
 use Rattle.c_type.specs.Programs.{count_after, noted, definitions, table}
-use Rattle.c_type_rules.specs.Definitions.{Defines, Calls, CallsIn, function, input, output, no_item, defined, defined_later, not_defined}
+use Rattle.c_type_rules.specs.Definitions.{Defines, Calls, CallsIn, function, input, output}
+use Rattle.c_type_rules.specs.Definitions.{no_item, defined, defined_later, not_defined}
 use Rattle.c_type_rules.proofs.Tests.{both_hold}
 
 -- names that are the same by the test

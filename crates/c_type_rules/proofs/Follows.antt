@@ -1,5 +1,6 @@
 -- What the folds find first is what is found first in the order of the text.
-use Rattle.std.proofs.Common.{◌≡◌, ℕ, Bool, true, false, List, [], ◌∷◌, ◌++◌, map, length, Option, Some, None, refl, sym, ap, ◌∙◌}
+use Rattle.std.proofs.Common.{◌≡◌, ℕ, Bool, true, false, List, [], ◌∷◌, ◌++◌, map, length, Option}
+use Rattle.std.proofs.Common.{Some, None, refl, sym, ap, ◌∙◌}
 use Rattle.std.specs.Prelude.{option_map, nat_le}
 use Rattle.c_tree.specs.declared.token.Kind.{Kind}
 use Rattle.c_tree.specs.declared.tree.ArraySize.{ArraySize}
@@ -23,22 +24,35 @@ use Rattle.c_type_expr.specs.declared.role.Role.{Role}
 use Rattle.c_type_expr.specs.declared.fault.TypeFault.TheVariants.{Mismatch}
 use Rattle.c_type_expr.specs.Roles.{Blame, first, unless}
 use Rattle.c_type_expr.specs.Faults.{fault, args_fault, call_fault, slots_of, role_at, rest_of}
-use Rattle.c_type_expr.specs.Constants.{not_fixed, all_fixed, no_constant, calls_known, full, full_constant, size_fault, length_of, word_in}
+use Rattle.c_type_expr.specs.Constants.{not_fixed, all_fixed, no_constant, calls_known, full}
+use Rattle.c_type_expr.specs.Constants.{full_constant, size_fault, length_of, word_in}
 use Rattle.c_type_expr.specs.Says.{at}
-use Rattle.c_type_expr.proofs.Nodes.{fault-Number, fault-Name, fault-Element, fault-Call, fault-Group, fault-Unary, fault-Cast, fault-Bump, fault-Binary, fault-Choice, fault-Assign, fault-Comma}
-use Rattle.c_type_expr.proofs.Fixed.{fixed-Number, fixed-Name, fixed-Element, fixed-Call, fixed-Group, fixed-Unary, fixed-Cast, fixed-Bump, fixed-Binary, fixed-Choice, fixed-Assign, fixed-Comma}
+use Rattle.c_type_expr.proofs.Nodes.{fault-Number, fault-Name, fault-Element, fault-Call}
+use Rattle.c_type_expr.proofs.Nodes.{fault-Group, fault-Unary, fault-Cast, fault-Bump, fault-Binary}
+use Rattle.c_type_expr.proofs.Nodes.{fault-Choice, fault-Assign, fault-Comma}
+use Rattle.c_type_expr.proofs.Fixed.{fixed-Number, fixed-Name, fixed-Element, fixed-Call}
+use Rattle.c_type_expr.proofs.Fixed.{fixed-Group, fixed-Unary, fixed-Cast, fixed-Bump, fixed-Binary}
+use Rattle.c_type_expr.proofs.Fixed.{fixed-Choice, fixed-Assign, fixed-Comma}
 use Rattle.c_type.specs.declared.file_scope.FileScope.{FileScope}
 use Rattle.c_type.specs.declared.state.State.{State}
 use Rattle.c_type.specs.States.{full_if}
 use Rattle.c_type.specs.Declarations.{declare_fault, array_fault, no_init}
 use Rattle.c_type.specs.Statements.{Part, part, beginning_of, all_fault, else_fault}
-use Rattle.c_type.specs.Units.{values_fault, global_fault, count_fault, count_of, place_fault, global_names, function_fault}
+use Rattle.c_type.specs.Units.{values_fault, global_fault, count_fault, count_of, place_fault}
+use Rattle.c_type.specs.Units.{global_names, function_fault}
 use Rattle.c_type.specs.Functions.{param_fault, params_fault, body_part, slot_of, entry}
 use Rattle.c_type.specs.Programs.{table, node_fault, item_fault, items_fault, program_fault}
-use Rattle.c_type.proofs.Nodes.{fault-Declare, fault-Plain, fault-Compound, fault-If, fault-While, fault-Do, fault-For, fault-Break, fault-Continue, fault-Return, fault-Nothing, fault-First, fault-Locals}
+use Rattle.c_type.proofs.Nodes.{fault-Declare, fault-Plain, fault-Compound, fault-If, fault-While}
+use Rattle.c_type.proofs.Nodes.{fault-Do, fault-For, fault-Break, fault-Continue, fault-Return}
+use Rattle.c_type.proofs.Nodes.{fault-Nothing, fault-First, fault-Locals}
 use Rattle.c_type_rules.specs.Units.{is_block}
-use Rattle.c_type_rules.specs.Judgements.{Judgement, a_test, an_expression, a_full, an_optional, a_constant, a_full_constant, a_size, a_statement, some_statements, an_else, a_beginning, a_body, a_param, some_params, some_values, an_item, some_items, a_unit, argument_parts, expression_parts, constant_parts}
-use Rattle.c_type_rules.specs.Order.{parts, declare_parts, statement_parts, beginning_parts, body_parts, global_parts, item_parts}
+use Rattle.c_type_rules.specs.Judgements.{Judgement, a_test, an_expression, a_full, an_optional}
+use Rattle.c_type_rules.specs.Judgements.{a_constant, a_full_constant, a_size, a_statement}
+use Rattle.c_type_rules.specs.Judgements.{some_statements, an_else, a_beginning, a_body, a_param}
+use Rattle.c_type_rules.specs.Judgements.{some_params, some_values, an_item, some_items, a_unit}
+use Rattle.c_type_rules.specs.Judgements.{argument_parts, expression_parts, constant_parts}
+use Rattle.c_type_rules.specs.Order.{parts, declare_parts, statement_parts, beginning_parts}
+use Rattle.c_type_rules.specs.Order.{body_parts, global_parts, item_parts}
 use Rattle.c_type_rules.proofs.UnitsSound.{block_body, plain_body}
 
 -- the fault that the folds find
@@ -166,7 +180,8 @@ declare_follows (size.Sized e) k w init l v =
     assoc (size_fault e v.names) (array_fault (word_in (length_of e)) k w l v.names) (no_init init l)
 
 module _ (b : Bool) (v : State) (s : Stmt) where
-  by_statement : (n : StmtNode) → s.node ≡ n → (part s).fault b v ≡ (part (record { line = s.line; node = n })).fault b v
+  by_statement : (n : StmtNode) → s.node ≡ n
+      → (part s).fault b v ≡ (part (record { line = s.line; node = n })).fault b v
   by_statement n h = ap (λ (n : StmtNode). (part (record { line = s.line; node = n })).fault b v) h
 
   statement_follows : (x : StmtNode-F ForInit StmtNode Stmt) → out-StmtNode s.node ≡ x

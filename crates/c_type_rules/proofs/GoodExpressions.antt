@@ -14,10 +14,13 @@ use Rattle.c_type_expr.specs.Roles.{Blame, unless, left_role}
 use Rattle.c_type_expr.specs.Faults.{unwanted_value, is_place, slots_of, role_at, rest_of}
 use Rattle.c_type_expr.specs.Constants.{calls_known, length_of}
 use Rattle.c_type_expr.specs.Says.{at}
-use Rattle.c_type_rules.specs.Judgements.{Judgement, a_test, an_expression, a_full, an_optional, a_constant, a_full_constant, a_size, argument_parts, expression_parts, constant_parts}
+use Rattle.c_type_rules.specs.Judgements.{Judgement, a_test, an_expression, a_full, an_optional}
+use Rattle.c_type_rules.specs.Judgements.{a_constant, a_full_constant, a_size, argument_parts}
+use Rattle.c_type_rules.specs.Judgements.{expression_parts, constant_parts}
 use Rattle.c_type_rules.proofs.Follows.{follows}
 use Rattle.c_type_rules.proofs.FirstFaults.{Good, AllGood, Sane, good_append, good_by, test_good}
-use Rattle.c_type_rules.proofs.SaneTests.{sane_unless, sane_value, sane_name, sane_element, sane_call, sane_constant, sane_word, sane_need}
+use Rattle.c_type_rules.proofs.SaneTests.{sane_unless, sane_value, sane_name, sane_element}
+use Rattle.c_type_rules.proofs.SaneTests.{sane_call, sane_constant, sane_word, sane_need}
 
 -- good in each role, and as a constant expression
 record GoodExpr (e : Expr) : Type 0 where
@@ -72,8 +75,10 @@ module _ (N E : Type 0) (node_of : N → ExprNode) (of : E → Expr) (good : (e 
       ((good x).asked G Value, ((good y).asked G Value, value_last r l))
   each_part G r l (ExprNode-F.Choice t x y) =
       ((good t).asked G Value, ((good x).asked G Value, ((good y).asked G Value, value_last r l)))
-  each_part G r l (ExprNode-F.Assign op x y) =
-      ((good x).asked G (left_role (is_place (of x))), ((good y).asked G Value, place_last (of x) l (value_test r l) (value_last r l)))
+  each_part G r l (ExprNode-F.Assign op x y) = (
+    (good x).asked G (left_role (is_place (of x))),
+    ((good y).asked G Value, place_last (of x) l (value_test r l) (value_last r l)),
+  )
   each_part G r l (ExprNode-F.Comma x y) =
       ((good x).asked G Free, ((good y).asked G Value, value_last r l))
 

@@ -1,5 +1,6 @@
 -- A fault that the folds find in a statement or a unit is its first one in the order of the text.
-use Rattle.std.proofs.Common.{ℕ, Bool, true, false, List, [], ◌∷◌, ◌++◌, map, Option, Some, None, refl, sym, subst, length}
+use Rattle.std.proofs.Common.{ℕ, Bool, true, false, List, [], ◌∷◌, ◌++◌, map, Option, Some, None}
+use Rattle.std.proofs.Common.{refl, sym, subst, length}
 use Rattle.std.specs.Prelude.{nat_lt}
 use Rattle.c_tree.specs.declared.token.Kind.{Kind}
 use Rattle.c_tree.specs.declared.tree.ArraySize.{ArraySize}
@@ -25,11 +26,16 @@ use Rattle.c_type.specs.Statements.{part, beginning_of}
 use Rattle.c_type.specs.Units.{global_names, count_of}
 use Rattle.c_type.specs.Functions.{slot_of, entry}
 use Rattle.c_type.specs.Programs.{table, item_after, empty_file}
-use Rattle.c_type_rules.specs.Judgements.{a_statement, some_statements, an_else, a_beginning, a_body, a_param, some_params, some_values, an_item, some_items, a_unit}
-use Rattle.c_type_rules.specs.Order.{declare_parts, statement_parts, beginning_parts, body_parts, value_parts, global_parts, item_parts}
+use Rattle.c_type_rules.specs.Judgements.{a_statement, some_statements, an_else, a_beginning}
+use Rattle.c_type_rules.specs.Judgements.{a_body, a_param, some_params, some_values, an_item}
+use Rattle.c_type_rules.specs.Judgements.{some_items, a_unit}
+use Rattle.c_type_rules.specs.Order.{declare_parts, statement_parts, beginning_parts, body_parts}
+use Rattle.c_type_rules.specs.Order.{value_parts, global_parts, item_parts}
 use Rattle.c_type_rules.proofs.Follows.{follows}
 use Rattle.c_type_rules.proofs.FirstFaults.{Good, AllGood, good_by, test_good}
-use Rattle.c_type_rules.proofs.SaneTests.{sane_unless, sane_scalar, sane_array, sane_init, sane_return, sane_param, sane_function, sane_include, sane_place}
+use Rattle.c_type_rules.proofs.SaneTests.{sane_unless, sane_scalar, sane_array, sane_init}
+use Rattle.c_type_rules.proofs.SaneTests.{sane_return, sane_param, sane_function, sane_include}
+use Rattle.c_type_rules.proofs.SaneTests.{sane_place}
 use Rattle.c_type_rules.proofs.GoodExpressions.{full_good, optional_good, full_constant_good, size_good}
 
 -- STATEMENTS
@@ -39,8 +45,13 @@ declare_good : (s : ArraySize) (k : Kind) (w : List ℕ) (init : Option Expr) (l
 declare_good size.Scalar k w init l v =
     (test_good _ (sane_scalar w l v), (optional_good (with_scalar k w v).names Value init, tt))
 declare_good size.Open k w init l v = (test_good _ tt, tt)
-declare_good (size.Sized e) k w init l v =
-    (size_good v.names e, (test_good _ (sane_array (word_in (length_of e)) k w l v.names), (test_good _ (sane_init init l), tt)))
+declare_good (size.Sized e) k w init l v = (
+  size_good v.names e,
+  (
+    test_good _ (sane_array (word_in (length_of e)) k w l v.names),
+    (test_good _ (sane_init init l), tt),
+  ),
+)
 
 -- good in each state
 abbrev GoodStmt : Stmt → Type 0
@@ -74,8 +85,10 @@ module _ (I N S : Type 0) (of_i : I → ForInit) (of_n : N → StmtNode) (of_s :
   each_part b v l (StmtNode-F.Do s c) =
       (good_s s true v, (full_good ((part (of_s s)).after v).names Value c, tt))
   each_part b v l (StmtNode-F.For init c p s) =
-      let w = (beginning_of (of_i init)).after (entered v) in
-      (good_i init b (entered v), (optional_good w.names Value c, (optional_good w.names Free p, (good_s s true w, tt))))
+      let w = (beginning_of (of_i init)).after (entered v) in (
+        good_i init b (entered v),
+        (optional_good w.names Value c, (optional_good w.names Free p, (good_s s true w, tt))),
+      )
   each_part b v l StmtNode-F.Break = (test_good _ (sane_unless b (Mismatch l) tt), tt)
   each_part b v l StmtNode-F.Continue = (test_good _ (sane_unless b (Mismatch l) tt), tt)
   each_part b v l (StmtNode-F.Return e) =

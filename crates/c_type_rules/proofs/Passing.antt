@@ -13,14 +13,21 @@ use Rattle.c_type.specs.declared.state.State.{State}
 use Rattle.c_type.specs.Statements.{part, else_fault}
 use Rattle.c_type.specs.Programs.{program_tree}
 use Rattle.c_type_rules.specs.Statements.{without_else, with_else}
-use Rattle.c_type_rules.specs.Judgements.{Judgement, a_test, an_expression, a_full, an_optional, a_constant, a_full_constant, a_size, a_statement, some_statements, an_else, a_beginning, a_body, a_param, some_params, some_values, an_item, some_items, a_unit}
+use Rattle.c_type_rules.specs.Judgements.{Judgement, a_test, an_expression, a_full, an_optional}
+use Rattle.c_type_rules.specs.Judgements.{a_constant, a_full_constant, a_size, a_statement}
+use Rattle.c_type_rules.specs.Judgements.{some_statements, an_else, a_beginning, a_body, a_param}
+use Rattle.c_type_rules.specs.Judgements.{some_params, some_values, an_item, some_items, a_unit}
 use Rattle.c_type_rules.specs.FirstFaults.{Passes}
 use Rattle.c_type_rules.proofs.Constants.{constant_fine, constant_typed}
-use Rattle.c_type_rules.proofs.Sound.{both, fine, full_fine, full_if_fine, size_fine, less, types_fine, all_fine, if_fine, begin_fine}
+use Rattle.c_type_rules.proofs.Sound.{both, fine, full_fine, full_if_fine, size_fine, less}
+use Rattle.c_type_rules.proofs.Sound.{types_fine, all_fine, if_fine, begin_fine}
 use Rattle.c_type_rules.proofs.Complete as complete
-use Rattle.c_type_rules.proofs.Complete.{split, held, full_typed, full_if_typed, sized_typed, whole_stmt, whole_all, whole_beginning}
-use Rattle.c_type_rules.proofs.UnitsSound.{values_fine, named_fine, params_fine, body_fine, item_fine, items_fine, accepts_fine}
-use Rattle.c_type_rules.proofs.UnitsComplete.{values_typed, named_typed, params_typed, body_typed, item_typed, items_typed, accepts_typed}
+use Rattle.c_type_rules.proofs.Complete.{split, held, full_typed, full_if_typed, sized_typed}
+use Rattle.c_type_rules.proofs.Complete.{whole_stmt, whole_all, whole_beginning}
+use Rattle.c_type_rules.proofs.UnitsSound.{values_fine, named_fine, params_fine, body_fine}
+use Rattle.c_type_rules.proofs.UnitsSound.{item_fine, items_fine, accepts_fine}
+use Rattle.c_type_rules.proofs.UnitsComplete.{values_typed, named_typed, params_typed, body_typed}
+use Rattle.c_type_rules.proofs.UnitsComplete.{item_typed, items_typed, accepts_typed}
 use Rattle.c_type_rules.proofs.Follows.{fault_of}
 
 -- what has types has no fault

@@ -12,16 +12,20 @@ use Rattle.c_scope.specs.declared.meaning.Meaning.{Meaning}
 use Rattle.c_scope.specs.declared.meaning.Meaning.TheVariants as meaning
 use Rattle.c_scope.specs.Scope.{Scope, look_up}
 use Rattle.c_type_expr.specs.declared.fault.TypeFault.{TypeFault}
-use Rattle.c_type_expr.specs.declared.fault.TypeFault.TheVariants.{Twice, Mismatch, Arity, TooManyScalars, Need, TooLarge}
+use Rattle.c_type_expr.specs.declared.fault.TypeFault.TheVariants.{Twice, Mismatch, Arity}
+use Rattle.c_type_expr.specs.declared.fault.TypeFault.TheVariants.{TooManyScalars, Need, TooLarge}
 use Rattle.c_type_expr.specs.declared.role.Role.{Role}
 use Rattle.c_type_expr.specs.Roles.{Blame, first, unless, takes_value, takes_element}
-use Rattle.c_type_expr.specs.Faults.{unwanted_value, takes_name, takes_result, name_fault, element_fault, callee_fault, call_fault}
+use Rattle.c_type_expr.specs.Faults.{unwanted_value, takes_name, takes_result, name_fault}
+use Rattle.c_type_expr.specs.Faults.{element_fault, callee_fault, call_fault}
 use Rattle.c_type_expr.specs.Constants as constants
 use Rattle.c_type.specs.declared.file_scope.FileScope.{FileScope}
 use Rattle.c_type.specs.declared.state.State.{State}
 use Rattle.c_type.specs.Declarations.{is_taken, is_end, twice_fault, scalar_fault, array_fault, no_init}
 use Rattle.c_type.specs.Statements.{return_fault}
-use Rattle.c_type.specs.Units.{defined_fault, type_fault, function_fault, same_result, same_slots, include_clash, include_fault, place_fault, int_slots, eof_name, getchar_name, putchar_name}
+use Rattle.c_type.specs.Units.{defined_fault, type_fault, function_fault, same_result, same_slots}
+use Rattle.c_type.specs.Units.{include_clash, include_fault, place_fault, int_slots, eof_name}
+use Rattle.c_type.specs.Units.{getchar_name, putchar_name}
 use Rattle.c_type.specs.Functions as functions
 use Rattle.c_type.specs.Functions.{named_among}
 use Rattle.c_type_rules.proofs.FirstFaults.{Sane}

@@ -1,5 +1,6 @@
 -- What the rules give a statement has no fault, and is what the folds give it.
-use Rattle.std.proofs.Common.{◌≡◌, ℕ, ◌<◌, ◌≤◌, ◌*◌, Bool, true, false, not, List, ◌∷◌, map, length, Option, Some, None, refl, sym, ap, ◌∙◌, arith}
+use Rattle.std.proofs.Common.{◌≡◌, ℕ, ◌<◌, ◌≤◌, ◌*◌, Bool, true, false, not, List, ◌∷◌, map, length}
+use Rattle.std.proofs.Common.{Option, Some, None, refl, sym, ap, ◌∙◌, arith}
 use Rattle.std.specs.Prelude.{option_map, nat_lt, nat_le}
 use Rattle.c_tree.specs.declared.token.Kind.{Kind}
 use Rattle.c_tree.specs.declared.tree.Expr.{Expr}
@@ -25,10 +26,23 @@ use Rattle.c_type.specs.declared.state.State.{State}
 use Rattle.c_type.specs.States.{full_if, tree_if, value_of, entered, left, with_scalar, with_array}
 use Rattle.c_constant.specs.Kinds.{bytes}
 use Rattle.c_type.specs.Declarations.{is_taken, twice_fault, array_fault, sized_fault}
-use Rattle.c_type.specs.Statements.{part, beginning_of, all_after, all_fault, all_trees, else_after, else_fault, else_tree, rest_fault, return_fault, return_tree}
-use Rattle.c_type.proofs.Nodes.{fault-Declare, tree-Declare, after-Declare, fault-Plain, tree-Plain, after-Plain, fault-Compound, tree-Compound, after-Compound, fault-If, tree-If, after-If, fault-While, tree-While, after-While, fault-Do, tree-Do, after-Do, fault-For, tree-For, after-For, fault-Break, tree-Break, after-Break, fault-Continue, tree-Continue, after-Continue, fault-Return, tree-Return, after-Return, fault-Nothing, tree-Nothing, after-Nothing, fault-First, tree-First, after-First, fault-Locals, tree-Locals, after-Locals}
+use Rattle.c_type.specs.Statements.{part, beginning_of, all_after, all_fault, all_trees, else_after}
+use Rattle.c_type.specs.Statements.{else_fault, else_tree, rest_fault, return_fault, return_tree}
+use Rattle.c_type.proofs.Nodes.{fault-Declare, tree-Declare, after-Declare, fault-Plain, tree-Plain}
+use Rattle.c_type.proofs.Nodes.{after-Plain, fault-Compound, tree-Compound, after-Compound}
+use Rattle.c_type.proofs.Nodes.{fault-If, tree-If, after-If, fault-While, tree-While, after-While}
+use Rattle.c_type.proofs.Nodes.{fault-Do, tree-Do, after-Do, fault-For, tree-For, after-For}
+use Rattle.c_type.proofs.Nodes.{fault-Break, tree-Break, after-Break, fault-Continue, tree-Continue}
+use Rattle.c_type.proofs.Nodes.{after-Continue, fault-Return, tree-Return, after-Return}
+use Rattle.c_type.proofs.Nodes.{fault-Nothing, tree-Nothing, after-Nothing, fault-First, tree-First}
+use Rattle.c_type.proofs.Nodes.{after-First, fault-Locals, tree-Locals, after-Locals}
 use Rattle.c_type_rules.specs.Constants.{Size}
-use Rattle.c_type_rules.specs.Statements.{Full, FullIf, Initialises, Types, TypesAll, TypesIf, Begins, absent, present, without_value, with_value, scalar_declared, array_declared, expression, block, either, while_loop, do_loop, for_loop, breaks, continues, returns, returns_value, no_more, one_more, without_else, with_else, no_first, first_value, first_locals}
+use Rattle.c_type_rules.specs.Statements.{Full, FullIf, Initialises, Types, TypesAll, TypesIf}
+use Rattle.c_type_rules.specs.Statements.{Begins, absent, present, without_value, with_value}
+use Rattle.c_type_rules.specs.Statements.{scalar_declared, array_declared, expression, block}
+use Rattle.c_type_rules.specs.Statements.{either, while_loop, do_loop, for_loop, breaks, continues}
+use Rattle.c_type_rules.specs.Statements.{returns, returns_value, no_more, one_more, without_else}
+use Rattle.c_type_rules.specs.Statements.{with_else, no_first, first_value, first_locals}
 use Rattle.c_type_rules.proofs.Constants.{constant_fine}
 
 -- two parts without a fault

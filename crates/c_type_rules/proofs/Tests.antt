@@ -3,10 +3,9 @@ use Rattle.std.proofs.Common.{◌≡◌, Bool, true, false, List, [], ◌∷◌,
 use Rattle.std.specs.Prelude.{◌&&◌, ◌||◌}
 use Rattle.std.proofs.lemmas.Bool.{false≢true}
 use Rattle.c_tree.specs.declared.token.Kind.{Kind}
-use Rattle.c_tree.specs.declared.token.Kind.TheVariants.{Char, UChar, Int, UInt, Long, ULong}
 use Rattle.c_tree.specs.declared.typed.Slot.{Slot}
 use Rattle.c_tree.specs.declared.typed.Slot.TheVariants as slot
-use Rattle.c_constant.specs.Kinds.{same_kind}
+use Rattle.c_constant.proofs.SameKinds.{kinds_are, kind_itself}
 use Rattle.c_type.specs.Units.{same_slot, same_slots, same_result}
 
 -- both of two tests
@@ -19,34 +18,15 @@ pub neither_holds : (a b : Bool) → a || b ≡ false → (a ≡ false) × (b �
 neither_holds false b h = (refl, h)
 neither_holds true b h = absurd (false≢true (sym h))
 
--- types that are the same by the test
-pub kinds : (j k : Kind) → same_kind j k ≡ true → j ≡ k
-kinds Char Char h = refl
-kinds UChar UChar h = refl
-kinds Int Int h = refl
-kinds UInt UInt h = refl
-kinds Long Long h = refl
-kinds ULong ULong h = refl
-kinds _ _ h = absurd (false≢true h)
-
--- a type is the same as itself
-pub itself : (k : Kind) → same_kind k k ≡ true
-itself Char = refl
-itself UChar = refl
-itself Int = refl
-itself UInt = refl
-itself Long = refl
-itself ULong = refl
-
 slots_are : (s t : Slot) → same_slot s t ≡ true → s ≡ t
-slots_are (slot.Scalar j) (slot.Scalar k) h = ap slot.Scalar (kinds j k h)
-slots_are (slot.Address j) (slot.Address k) h = ap slot.Address (kinds j k h)
+slots_are (slot.Scalar j) (slot.Scalar k) h = ap slot.Scalar (kinds_are j k h)
+slots_are (slot.Address j) (slot.Address k) h = ap slot.Address (kinds_are j k h)
 slots_are (slot.Scalar j) (slot.Address k) h = absurd (false≢true h)
 slots_are (slot.Address j) (slot.Scalar k) h = absurd (false≢true h)
 
 slot_itself : (s : Slot) → same_slot s s ≡ true
-slot_itself (slot.Scalar k) = itself k
-slot_itself (slot.Address k) = itself k
+slot_itself (slot.Scalar k) = kind_itself k
+slot_itself (slot.Address k) = kind_itself k
 
 -- parameters that are the same by the test
 pub params_are : (ss ts : List Slot) → same_slots ss ts ≡ true → ss ≡ ts
@@ -66,8 +46,8 @@ pub results_are : (r q : Option Kind) → same_result r q ≡ true → r ≡ q
 results_are None None h = refl
 results_are None (Some k) h = absurd (false≢true h)
 results_are (Some j) None h = absurd (false≢true h)
-results_are (Some j) (Some k) h = ap Some (kinds j k h)
+results_are (Some j) (Some k) h = ap Some (kinds_are j k h)
 
 pub result_itself : (r : Option Kind) → same_result r r ≡ true
 result_itself None = refl
-result_itself (Some k) = itself k
+result_itself (Some k) = kind_itself k

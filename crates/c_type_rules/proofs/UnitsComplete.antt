@@ -1,5 +1,6 @@
 -- An item, or a unit, without a fault has by the rules what the definitions compute.
-use Rattle.std.proofs.Common.{◌≡◌, ℕ, Bool, true, false, List, [], ◌∷◌, ◌++◌, map, Option, Some, None, refl, sym, ap, ◌∙◌, subst}
+use Rattle.std.proofs.Common.{◌≡◌, ℕ, Bool, true, false, List, [], ◌∷◌, ◌++◌, map, Option, Some}
+use Rattle.std.proofs.Common.{None, refl, sym, ap, ◌∙◌, subst}
 use Rattle.std.specs.Prelude.{◌&&◌, cond, is_some}
 use Rattle.std.proofs.lemmas.Bool.{false≢true}
 use Rattle.c_tree.specs.declared.token.Kind.{Kind}
@@ -35,17 +36,27 @@ use Rattle.c_type.specs.declared.file_scope.FileScope.{FileScope}
 use Rattle.c_type.specs.declared.state.State.{State}
 use Rattle.c_type.specs.States.{at}
 use Rattle.c_type.specs.Declarations.{is_end}
-use Rattle.c_type.specs.Units.{eof_name, getchar_name, putchar_name, int_slots, with_include, include_clash, global_names, count_of, count_fault, values_fault, function_fault, same_result, same_slots}
-use Rattle.c_type.specs.Functions.{slot_of, named_among, params_fault, name_fault, head_fault, entry, body_part, callee_in}
+use Rattle.c_type.specs.Units.{eof_name, getchar_name, putchar_name, int_slots, with_include}
+use Rattle.c_type.specs.Units.{include_clash, global_names, count_of, count_fault, values_fault}
+use Rattle.c_type.specs.Units.{function_fault, same_result, same_slots}
+use Rattle.c_type.specs.Functions.{slot_of, named_among, params_fault, name_fault, head_fault}
+use Rattle.c_type.specs.Functions.{entry, body_part, callee_in}
 use Rattle.c_type.specs.Statements.{Part}
-use Rattle.c_type.specs.Programs.{table, empty_file, is_int, no_slots, is_main, node_fault, node_after, item_after, items_fault, items_after, program_fault, program_tree}
-use Rattle.c_type_rules.specs.Units.{Values, Count, Named, Params, Agrees, Heads, is_block, Body, Item, Items, Accepts, no_value, one_value, single, counted, sized, unnamed, named, no_param, one_param, fresh, again, outermost, other, include, include_again, global, prototype, definition, no_item, one_item, accepts}
+use Rattle.c_type.specs.Programs.{table, empty_file, is_int, no_slots, is_main, node_fault}
+use Rattle.c_type.specs.Programs.{node_after, item_after, items_fault, items_after, program_fault}
+use Rattle.c_type.specs.Programs.{program_tree}
+use Rattle.c_type_rules.specs.Units.{Values, Count, Named, Params, Agrees, Heads, is_block, Body}
+use Rattle.c_type_rules.specs.Units.{Item, Items, Accepts, no_value, one_value, single, counted}
+use Rattle.c_type_rules.specs.Units.{sized, unnamed, named, no_param, one_param, fresh, again}
+use Rattle.c_type_rules.specs.Units.{outermost, other, include, include_again, global, prototype}
+use Rattle.c_type_rules.specs.Units.{definition, no_item, one_item, accepts}
 use Rattle.c_type_rules.proofs.Constants.{constant_typed}
 use Rattle.c_type_rules.proofs.Sound.{both}
 use Rattle.c_type_rules.proofs.Complete.{split, held, not_held, less, at_most, sized_typed, whole_stmt, whole_all}
 use Rattle.c_type_rules.proofs.UnitsSound.{block_body, plain_body}
 use Rattle.c_type_rules.proofs.Definitions.{called}
-use Rattle.c_type_rules.proofs.Tests.{both_hold, neither_holds, kinds, params_are, results_are}
+use Rattle.c_constant.proofs.SameKinds.{kinds_are}
+use Rattle.c_type_rules.proofs.Tests.{both_hold, neither_holds, params_are, results_are}
 
 -- a value without a fault has its word by the rules, before others
 value_typed : (G : Scope) (k : Kind) (e : Expr) (es : List Expr) (o : Option ℕ) → (constant [] e).value ≡ o
@@ -188,7 +199,7 @@ function_is : (r : Option Kind) (ps : List Slot) (c : Option Callee) (d : Bool) 
 function_is None ps c d h h' e = absurd (false≢true h)
 function_is (Some k) (s ∷ ss) c d h h' e = absurd (false≢true h')
 function_is (Some k) [] c d h h' e =
-    ap (λ k. Some (meaning.Function (Some k) [] c d)) (kinds k Int h)
+    ap (λ k. Some (meaning.Function (Some k) [] c d)) (kinds_are k Int h)
     ∙ ap (λ d. Some (meaning.Function (Some Int) [] c d)) e
 
 -- what the test takes for main is a definition of type int(void)

@@ -1,5 +1,6 @@
 -- What the rules give an item, or a unit, has no fault, and is what the definitions compute.
-use Rattle.std.proofs.Common.{◌≡◌, ℕ, ◌+◌, ◌*◌, ◌≤◌, Bool, true, false, not, List, [], ◌∷◌, ◌++◌, map, length, Option, Some, None, refl, sym, ap, ◌∙◌, subst}
+use Rattle.std.proofs.Common.{◌≡◌, ℕ, ◌+◌, ◌*◌, ◌≤◌, Bool, true, false, not, List, [], ◌∷◌, ◌++◌}
+use Rattle.std.proofs.Common.{map, length, Option, Some, None, refl, sym, ap, ◌∙◌, subst}
 use Rattle.std.specs.Prelude.{◌&&◌, ◌||◌, cond}
 use Rattle.std.proofs.lemmas.Bool.{false≢true}
 use Rattle.c_tree.specs.declared.token.Kind.{Kind}
@@ -23,7 +24,8 @@ use Rattle.c_constant.specs.Kinds.{converted}
 use Rattle.c_constant.specs.Need.{need_fits}
 use Rattle.c_scope.specs.declared.meaning.Meaning.{Meaning}
 use Rattle.c_scope.specs.Scope.{Scope, look_up, is_here, closed}
-use Rattle.c_type_expr.specs.declared.fault.TypeFault.TheVariants.{Twice, Mismatch, TooManyParams, TooLarge, Need, NoMain}
+use Rattle.c_type_expr.specs.declared.fault.TypeFault.TheVariants.{Twice, Mismatch, TooManyParams}
+use Rattle.c_type_expr.specs.declared.fault.TypeFault.TheVariants.{TooLarge, Need, NoMain}
 use Rattle.c_type_expr.specs.Roles.{unless}
 use Rattle.c_type_expr.specs.Constants.{word_in, value_fault, constant_at}
 use Rattle.c_type.specs.declared.file_scope.FileScope.{FileScope}
@@ -31,12 +33,21 @@ use Rattle.c_type.specs.declared.state.State.{State}
 use Rattle.c_type.specs.States.{at}
 use Rattle.c_constant.specs.Kinds.{bytes}
 use Rattle.c_type.specs.Declarations.{is_end, is_taken}
-use Rattle.c_type.specs.Units.{eof_name, getchar_name, putchar_name, int_slots, with_include, include_clash, global_names, length_in, count_of, count_fault, values_fault, function_fault, same_slots}
-use Rattle.c_type.specs.Functions.{slot_of, params_fault, name_fault, head_fault, body_entry, entry, body_in, body_part, callee_in}
+use Rattle.c_type.specs.Units.{eof_name, getchar_name, putchar_name, int_slots, with_include}
+use Rattle.c_type.specs.Units.{include_clash, global_names, length_in, count_of, count_fault}
+use Rattle.c_type.specs.Units.{values_fault, function_fault, same_slots}
+use Rattle.c_type.specs.Functions.{slot_of, params_fault, name_fault, head_fault, body_entry, entry}
+use Rattle.c_type.specs.Functions.{body_in, body_part, callee_in}
 use Rattle.c_type.specs.Signatures.{prototype_names}
 use Rattle.c_type.specs.Statements.{Part, part}
-use Rattle.c_type.specs.Programs.{table, empty_file, main_name, number_in, is_main, node_fault, node_after, items_fault, items_after, whole, program_fault, program_tree}
-use Rattle.c_type_rules.specs.Units.{Values, Count, Named, Params, Agrees, Heads, is_block, Body, Item, Items, Accepts, typed_function, no_value, one_value, single, counted, sized, unnamed, named, no_param, one_param, fresh, again, outermost, other, include, include_again, global, prototype, definition, no_item, one_item, accepts}
+use Rattle.c_type.specs.Programs.{table, empty_file, main_name, number_in, is_main, node_fault}
+use Rattle.c_type.specs.Programs.{node_after, items_fault, items_after, whole, program_fault}
+use Rattle.c_type.specs.Programs.{program_tree}
+use Rattle.c_type_rules.specs.Units.{Values, Count, Named, Params, Agrees, Heads, is_block, Body}
+use Rattle.c_type_rules.specs.Units.{Item, Items, Accepts, typed_function, no_value, one_value}
+use Rattle.c_type_rules.specs.Units.{single, counted, sized, unnamed, named, no_param, one_param}
+use Rattle.c_type_rules.specs.Units.{fresh, again, outermost, other, include, include_again, global}
+use Rattle.c_type_rules.specs.Units.{prototype, definition, no_item, one_item, accepts}
 use Rattle.c_type_rules.proofs.Constants.{constant_fine}
 use Rattle.c_type_rules.proofs.Sound.{both, fine, free, size_fine, less, at_most, types_fine, all_fine}
 use Rattle.c_type_rules.proofs.Complete.{split}

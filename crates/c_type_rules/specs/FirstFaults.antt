@@ -1,5 +1,6 @@
 -- Where a unit's typing fault stands: at the first node in the order of the text that has no type.
 use Rattle.std.specs.Prelude.{◌≡◌, ◌<◌, ℕ, true, length, List, [], ◌∷◌, ◌++◌, Option, Some, None}
+use Rattle.c_tree.specs.declared.limits.TheConstants.{MOST_PARAMETERS}
 use Rattle.c_tree.specs.declared.tree.Program.{Program}
 use Rattle.c_tree.specs.declared.typed.TypedExpr.{TypedExpr}
 use Rattle.c_tree.specs.declared.typed.TypedForInit.{TypedForInit}
@@ -16,7 +17,10 @@ use Rattle.c_type.specs.declared.state.State.{State}
 use Rattle.c_type_rules.specs.Constants.{IsConstant, Size}
 use Rattle.c_type_rules.specs.Statements.{Full, FullIf, Types, TypesAll, TypesIf, Begins}
 use Rattle.c_type_rules.specs.Units.{Values, Named, Params, Body, Item, Items, Accepts}
-use Rattle.c_type_rules.specs.Judgements.{Judgement, a_test, an_expression, a_full, an_optional, a_constant, a_full_constant, a_size, a_statement, some_statements, an_else, a_beginning, a_body, a_param, some_params, some_values, an_item, some_items, a_unit}
+use Rattle.c_type_rules.specs.Judgements.{Judgement, a_test, an_expression, a_full, an_optional}
+use Rattle.c_type_rules.specs.Judgements.{a_constant, a_full_constant, a_size, a_statement}
+use Rattle.c_type_rules.specs.Judgements.{some_statements, an_else, a_beginning, a_body, a_param}
+use Rattle.c_type_rules.specs.Judgements.{some_params, some_values, an_item, some_items, a_unit}
 use Rattle.c_type_rules.specs.Order.{parts}
 
 -- it has types by the rules
@@ -34,7 +38,7 @@ Passes (some_statements b v ss) = (ts : List TypedStmt) × (w : State) × TypesA
 Passes (an_else b v other) = (t : Option TypedStmt) × (w : State) × TypesIf b v other t w
 Passes (a_beginning b v i) = (j : TypedForInit) × (w : State) × Begins b v i j w
 Passes (a_body v s) = (t : TypedStmt) × (w : State) × Body v s t w
-Passes (a_param d G seen p) = Named d G seen p.name × (length seen < 8)
+Passes (a_param d G seen p) = Named d G seen p.name × (length seen < MOST_PARAMETERS)
 Passes (some_params d G seen ps) = Params d G seen ps
 Passes (some_values G k es) = (ns : List ℕ) × Values k es ns
 Passes (an_item unit U t) = (V : FileScope) × Item unit U t.node V

@@ -4,7 +4,9 @@ use Rattle.std.specs.Prelude.{ℕ, Bool, is_some, length, List, [], ◌∷◌, �
 use Rattle.c_tree.specs.declared.token.Kind.{Kind}
 use Rattle.c_tree.specs.declared.tree.Expr.{Expr}
 use Rattle.c_tree.specs.declared.tree.ExprNode.{ExprNode}
-use Rattle.c_tree.specs.declared.tree.ExprNode.TheOpen.{ExprNode-F, Number, Name, Element, Call, Group, Unary, Cast, Bump, Binary, Choice, Assign, Comma}
+use Rattle.c_tree.specs.declared.tree.ExprNode.TheOpen.{ExprNode-F, Number, Name, Element, Call}
+use Rattle.c_tree.specs.declared.tree.ExprNode.TheOpen.{Group, Unary, Cast, Bump, Binary, Choice}
+use Rattle.c_tree.specs.declared.tree.ExprNode.TheOpen.{Assign, Comma}
 use Rattle.c_tree.specs.declared.tree.ForInit.{ForInit}
 use Rattle.c_tree.specs.declared.tree.Param.{Param}
 use Rattle.c_tree.specs.declared.tree.Program.{Program}
@@ -16,7 +18,8 @@ use Rattle.c_type_expr.specs.declared.fault.TypeFault.TheVariants.{Mismatch}
 use Rattle.c_type_expr.specs.declared.role.Role.{Role}
 use Rattle.c_type_expr.specs.declared.role.Role.TheVariants.{Value, Free}
 use Rattle.c_type_expr.specs.Roles.{Blame, unless, left_role}
-use Rattle.c_type_expr.specs.Faults.{unwanted_value, name_fault, element_fault, call_fault, slots_of, role_at, rest_of, is_place}
+use Rattle.c_type_expr.specs.Faults.{unwanted_value, name_fault, element_fault, call_fault}
+use Rattle.c_type_expr.specs.Faults.{slots_of, role_at, rest_of, is_place}
 use Rattle.c_type_expr.specs.Constants.{no_constant, calls_known}
 use Rattle.c_type.specs.declared.file_scope.FileScope.{FileScope}
 use Rattle.c_type.specs.declared.state.State.{State}

@@ -1,12 +1,16 @@
 -- The order of the text in which the parts of statements and units are judged (C17 6.7 to 6.9).
-use Rattle.std.specs.Prelude.{ℕ, Bool, true, false, nat_le, nat_lt, length, List, [], ◌∷◌, ◌++◌, map, Option, Some, None}
+use Rattle.std.specs.Prelude.{ℕ, Bool, true, false, nat_le, nat_lt, length, List, [], ◌∷◌, ◌++◌}
+use Rattle.std.specs.Prelude.{map, Option, Some, None}
+use Rattle.c_tree.specs.declared.limits.TheConstants.{MOST_PARAMETERS}
 use Rattle.c_tree.specs.declared.token.Kind.{Kind}
 use Rattle.c_tree.specs.declared.tree.ArraySize.{ArraySize}
 use Rattle.c_tree.specs.declared.tree.ArraySize.TheVariants as size
 use Rattle.c_tree.specs.declared.tree.Expr.{Expr}
 use Rattle.c_tree.specs.declared.tree.ExprNode.{out-ExprNode}
 use Rattle.c_tree.specs.declared.tree.ForInit.{ForInit, out-ForInit}
-use Rattle.c_tree.specs.declared.tree.ForInit.TheOpen.{ForInit-F, Nothing, First, Locals, StmtNode-F, Declare, Plain, Compound, If, While, Do, For, Break, Continue, Return}
+use Rattle.c_tree.specs.declared.tree.ForInit.TheOpen.{ForInit-F, Nothing, First, Locals}
+use Rattle.c_tree.specs.declared.tree.ForInit.TheOpen.{StmtNode-F, Declare, Plain, Compound, If}
+use Rattle.c_tree.specs.declared.tree.ForInit.TheOpen.{While, Do, For, Break, Continue, Return}
 use Rattle.c_tree.specs.declared.tree.Stmt.{Stmt}
 use Rattle.c_tree.specs.declared.tree.StmtNode.{StmtNode, out-StmtNode}
 use Rattle.c_tree.specs.declared.tree.Top.{Top}
@@ -26,7 +30,11 @@ use Rattle.c_type.specs.Statements.{part, beginning_of, return_fault}
 use Rattle.c_type.specs.Units.{include_fault, function_fault, place_fault, count_of, global_names}
 use Rattle.c_type.specs.Functions.{slot_of, name_fault, entry}
 use Rattle.c_type.specs.Programs.{table, item_after, empty_file, whole, is_main, main_name}
-use Rattle.c_type_rules.specs.Judgements.{Judgement, a_test, an_expression, a_full, an_optional, a_constant, a_full_constant, a_size, a_statement, some_statements, an_else, a_beginning, a_body, a_param, some_params, some_values, an_item, some_items, a_unit, expression_parts, constant_parts}
+use Rattle.c_type_rules.specs.Judgements.{Judgement, a_test, an_expression, a_full, an_optional}
+use Rattle.c_type_rules.specs.Judgements.{a_constant, a_full_constant, a_size, a_statement}
+use Rattle.c_type_rules.specs.Judgements.{some_statements, an_else, a_beginning, a_body, a_param}
+use Rattle.c_type_rules.specs.Judgements.{some_params, some_values, an_item, some_items, a_unit}
+use Rattle.c_type_rules.specs.Judgements.{expression_parts, constant_parts}
 
 -- a declarator is its name and its size; its own faults come before its initialiser
 abbrev pub declare_parts : ArraySize → Kind → List ℕ → Option Expr → ℕ → State → List Judgement
@@ -113,7 +121,7 @@ parts (a_beginning b v i) = beginning_parts b v (out-ForInit i)
 parts (a_body v s) = body_parts v s (out-StmtNode s.node)
 parts (a_param d G seen p) =
     a_test (name_fault d G seen p.name p.line)
-    ∷ a_test (unless (nat_lt (length seen) 8) (TooManyParams p.line)) ∷ []
+    ∷ a_test (unless (nat_lt (length seen) MOST_PARAMETERS) (TooManyParams p.line)) ∷ []
 parts (some_params d G seen []) = []
 parts (some_params d G seen (p ∷ ps)) =
     a_param d G seen p ∷ some_params d G (seen ++ p ∷ []) ps ∷ []

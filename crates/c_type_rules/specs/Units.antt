@@ -1,6 +1,7 @@
 -- Which typed programs a translation unit has, by one rule for each kind of item (C17 6.7, 6.9).
-use Rattle.std.specs.Prelude.{◌≡◌, ℕ, ◌+◌, ◌*◌, ◌≤◌, ◌<◌, Bool, true, false, ◌&&◌, length, List, [], ◌∷◌, ◌++◌, map, Option, Some, None}
-use Rattle.c_tree.specs.declared.limits.TheConstants.{MOST_OBJECT_BYTES}
+use Rattle.std.specs.Prelude.{◌≡◌, ℕ, ◌+◌, ◌*◌, ◌≤◌, ◌<◌, Bool, true, false, ◌&&◌, length, List, []}
+use Rattle.std.specs.Prelude.{◌∷◌, ◌++◌, map, Option, Some, None}
+use Rattle.c_tree.specs.declared.limits.TheConstants.{MOST_OBJECT_BYTES, MOST_PARAMETERS}
 use Rattle.c_tree.specs.declared.token.Kind.{Kind}
 use Rattle.c_tree.specs.declared.token.Kind.TheVariants.{Int}
 use Rattle.c_tree.specs.declared.tree.ArraySize.{ArraySize}
@@ -64,11 +65,11 @@ pub data Named (is_def : Bool) (G : Scope) (seen : List Param) : Option (List �
   named : {w : List ℕ} → named_among seen w ≡ false → is_end (look_up G w) ≡ false
       → Named is_def G seen (Some w)
 
--- parameters after others, at most eight in all
+-- parameters after others, in all no more than a function may have
 pub data Params (is_def : Bool) (G : Scope) : List Param → List Param → Type 0 where
   no_param : {seen : List Param} → Params is_def G seen []
   one_param : {seen ps : List Param} {p : Param}
-      → Named is_def G seen p.name → length seen < 8 → Params is_def G (seen ++ p ∷ []) ps
+      → Named is_def G seen p.name → length seen < MOST_PARAMETERS → Params is_def G (seen ++ p ∷ []) ps
       → Params is_def G seen (p ∷ ps)
 
 -- the name means nothing yet, or a function of the same type; a function has one definition

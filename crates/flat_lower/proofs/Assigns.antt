@@ -131,7 +131,8 @@ module _ (P : TypedProgram) (most : ℕ) (S : Scene) (y : IsScene P S) where
   store_scalar i k d w top low f0 g s ld t ke is fits hu hl =
       storing d (Some k) f0 g (copied i (temp d)) top low s (InScalar i) w (λ c ec.
       let few : i < 64 = omega (arith, within_row S.func.scalars i (slot.Scalar k) t, y.few) in
-      let p = puts_let (functions P most) (base P most) S.env op.Mov (Var (temp d)) (Const 0) g 1 i 82 w 0 w (omega arith) (var_read (functions P most) (base P most) S.env g (temp d) w is) refl refl in
+      let p = puts_let (functions P most) (base P most) S.env op.Mov (Var (temp d)) (Const 0) g 1 i 82 w 0 w
+      (omega arith) (var_read (functions P most) (base P most) S.env g (temp d) w is) refl refl in
       value_reached P most S y d (Some k) f0 g p.to (copied i (temp d)) 1 w top low
       (written s (InScalar i) (Some w)) k refl fits
       (put_reaches P most S y (copied i (temp d)) g 1 i 82 w p)
@@ -153,7 +154,8 @@ module _ (P : TypedProgram) (most : ℕ) (S : Scene) (y : IsScene P S) where
       let lt = element_within S s g n i c k q ec ke.rel in
       let sv = element_saves P most S y k n i at w c s g q ec ke.rel (ea lt) in
       let m = put_element q.it g.memory i w in
-      let rs = save_reaches P most S y k A (temp d) at w g m hA (var_read (functions P most) (base P most) S.env g (temp d) w is) sv in
+      let rs = save_reaches P most S y k A (temp d) at w g m hA (var_read (functions P most) (base P most) S.env g
+      (temp d) w is) sv in
       value_reached P most S y d (Some k) f0 g (with_memory g m)
       (only (Save (save_op k) A (Var (temp d)))) 1 w top low
       (written s (InArray n i) (Some w)) k refl fits rs refl
@@ -175,11 +177,16 @@ module _ (P : TypedProgram) (most : ℕ) (S : Scene) (y : IsScene P S) where
       let sv = element_saves P most S y k n i at w c s g q ec ke.rel (ea lt) in
       let m = put_element q.it g.memory i w in
       let h = with_memory g m in
-      let rs = save_reaches P most S y k (Var (temp d)) (temp (suc d)) at w g m (var_read (functions P most) (base P most) S.env g (temp d) at hat) (var_read (functions P most) (base P most) S.env g (temp (suc d)) w is) sv in
+      let rs = save_reaches P most S y k (Var (temp d)) (temp (suc d)) at w g m
+      (var_read (functions P most) (base P most) S.env g (temp d) at hat)
+      (var_read (functions P most) (base P most) S.env g (temp (suc d)) w is) sv in
       let rh = element_saved S y s g n i w c k q ec (subst (λ k. IsWord k w) (sym q.kind) fits) ke.rel in
       let k1 : KeptIs S d f0 (written s (InArray n i) (Some w)) h = record { rel = rh; kept = ke.kept } in
-      let p = puts_let (functions P most) (base P most) S.env op.Mov (Var (temp (suc d))) (Const 0) h 1 (temp d) 82 w 0 w (omega arith) (var_read (functions P most) (base P most) S.env h (temp (suc d)) w is) refl refl in
-      let k2 = keeps_set P most S y d f0 h p.to (written s (InArray n i) (Some w)) (temp d) 82 w (omega arith) (omega arith) (omega arith) k1 p.sets in
+      let p = puts_let (functions P most) (base P most) S.env op.Mov (Var (temp (suc d))) (Const 0) h 1
+      (temp d) 82 w 0 w (omega arith) (var_read (functions P most) (base P most) S.env h (temp (suc d)) w is) refl
+      refl in
+      let k2 = keeps_set P most S y d f0 h p.to (written s (InArray n i) (Some w)) (temp d) 82 w (omega arith)
+      (omega arith) (omega arith) k1 p.sets in
       value_reached P most S y d (Some k) f0 g p.to (element_assign d k) 2 w top low
       (written s (InArray n i) (Some w)) k refl fits
       (both_reach P most S y sv1 (copied (temp d) (temp (suc d))) g h p.to 1 1 rs
@@ -234,8 +241,11 @@ module _ (P : TypedProgram) (most : ℕ) (S : Scene) (y : IsScene P S) where
   compound_puts o k at r old b w d z kr g vk t hr fb ld lz fo hd hz h =
       let c = compound_is o k at old b w h in
       let st = compound_strict o at k r t in
-      let x = binary_works (functions P most) (base P most) S.env o at g (temp d) (temp z) (converted at old) b c.middle st.0 st.1.0 (λ e. omega arith) (λ e. omega arith) hd hz fo (right_fits P most S y o at r vk b hr st.1.1 fb) c.done in
-      let z2 = here_works (functions P most) (base P most) S.env k x.puts.to (temp d) c.middle x.puts.sets.value x.fits.below in
+      let x = binary_works (functions P most) (base P most) S.env o at g (temp d) (temp z)
+      (converted at old) b c.middle st.0 st.1.0 (λ e. omega arith) (λ e. omega arith) hd hz fo
+      (right_fits P most S y o at r vk b hr st.1.1 fb) c.done in
+      let z2 = here_works (functions P most) (base P most) S.env k x.puts.to
+      (temp d) c.middle x.puts.sets.value x.fits.below in
       record {
         puts = puts_as (functions P most) (base P most) S.env (compound_code o d z at k) g 4
             (temp d) 80 (converted k c.middle) w c.is
@@ -268,7 +278,8 @@ module _ (P : TypedProgram) (most : ℕ) (S : Scene) (y : IsScene P S) where
       (run P most S y (Then (compound_code o d (suc d) at k) (copied i (temp d))) g) top low
       (compound_of o (Some k) at old b) s (λ w. store s (InScalar i) w) (λ w ew.
       let x = compound_puts o k at r old b w d (suc d) 0 g vk t hr fb (omega arith) ld fo hd hz ew in
-      let k2 = keeps_set P most S y d f0 g x.puts.to s (temp d) 80 w (omega arith) (omega arith) (omega arith) ke x.puts.sets in
+      let k2 = keeps_set P most S y d f0 g x.puts.to s (temp d) 80 w (omega arith) (omega arith)
+      (omega arith) ke x.puts.sets in
       after_puts (Valued S d (Some k) f0) (compound_code o d (suc d) at k) (copied i (temp d)) g 4
       (temp d) 80 w top low (store s (InScalar i) w) x.puts (omega arith)
       (store_scalar i k d w (top - x.puts.t) low f0 x.puts.to s
@@ -293,7 +304,8 @@ module _ (P : TypedProgram) (most : ℕ) (S : Scene) (y : IsScene P S) where
       (run P most S y (Then (compound_code o d z at k) sv) g) top low
       (compound_of o (Some k) at old b) s (λ w. store s (InArray n i) w) (λ w ew.
       let x = compound_puts o k at r old b w d z 0 g vk t hr fb ld lz fo hd hz ew in
-      let k2 = keeps_set P most S y d f0 g x.puts.to s (temp d) 80 w (omega arith) (omega arith) (omega arith) ke x.puts.sets in
+      let k2 = keeps_set P most S y d f0 g x.puts.to s (temp d) 80 w (omega arith) (omega arith)
+      (omega arith) ke x.puts.sets in
       after_puts (Valued S d (Some k) f0) (compound_code o d z at k) sv g 4 (temp d) 80 w top low
       (store s (InArray n i) w) x.puts (omega arith)
       (store_element A k n i adr q d w (top - x.puts.t) low f0 x.puts.to s ea
@@ -343,8 +355,10 @@ module _ (P : TypedProgram) (most : ℕ) (S : Scene) (y : IsScene P S) where
       let sc = rl.scalars i old (slot.Scalar k) ti (held_is (cell s (InScalar i)) old eo) in
       let x = to_works (functions P most) (base P most) S.env at f (temp d) i old sc.0 sc.1.below in
       let g = x.puts.to in
-      let k1 = keeps_set P most S y d f f g s (temp d) 80 (converted at old) (omega arith) (omega arith) (omega arith) (keeps_all S d s f rl) x.puts.sets in
-      let hg : low ≤ s.stock + most * g.rounds - nodes (expr_of r) = subst (λ c. low ≤ s.stock + most * c - nodes (expr_of r)) (sym x.puts.sets.rounds) hl in
+      let k1 = keeps_set P most S y d f f g s (temp d) 80 (converted at old) (omega arith) (omega arith) (omega arith)
+      (keeps_all S d s f rl) x.puts.sets in
+      let hg : low ≤ s.stock + most * g.rounds - nodes (expr_of r) = subst
+      (λ c. low ≤ s.stock + most * c - nodes (expr_of r)) (sym x.puts.sets.rounds) hl in
       after_puts (Valued S d (Some k) f) (converted_to at (temp d) i) a f 1 (temp d) 80
       (converted at old) top low (then (meaning P (Of r) s)
       (compounded o (Some k) at (InScalar i) old)) x.puts (omega arith)
@@ -403,12 +417,16 @@ module _ (P : TypedProgram) (most : ℕ) (S : Scene) (y : IsScene P S) where
       (held (cell s (InArray n 0))) s (λ old. then (meaning P (Of r) s)
       (compounded o (Some k) at (InArray n 0) old)) (λ old eo.
       let ld1 = global_loaded P most S y n old k s f gl eo rl in
-      let pl = puts_load P (functions P most) (base P most) S.env (load_op k) (Const adr) f (temp d) 80 adr old refl ld1.0 in
+      let pl = puts_load P (functions P most) (base P most) S.env (load_op k) (Const adr) f
+      (temp d) 80 adr old refl ld1.0 in
       let x = here_works (functions P most) (base P most) S.env at pl.to (temp d) old pl.sets.value ld1.1.below in
-      let p = puts_both (functions P most) (base P most) S.env l (converted_here at (temp d)) f 1 1 (temp d) 80 old (converted at old) pl x.puts in
+      let p = puts_both (functions P most) (base P most) S.env l (converted_here at (temp d)) f 1 1 (temp d) 80 old
+      (converted at old) pl x.puts in
       let g = p.to in
-      let k1 = keeps_set P most S y d f f g s (temp d) 80 (converted at old) (omega arith) (omega arith) (omega arith) (keeps_all S d s f rl) p.sets in
-      let hg : low ≤ s.stock + most * g.rounds - nodes (expr_of r) = subst (λ c. low ≤ s.stock + most * c - nodes (expr_of r)) (sym p.sets.rounds) hl in
+      let k1 = keeps_set P most S y d f f g s (temp d) 80 (converted at old) (omega arith) (omega arith) (omega arith)
+      (keeps_all S d s f rl) p.sets in
+      let hg : low ≤ s.stock + most * g.rounds - nodes (expr_of r) = subst
+      (λ c. low ≤ s.stock + most * c - nodes (expr_of r)) (sym p.sets.rounds) hl in
       after_puts (Valued S d (Some k) f) (Then l (converted_here at (temp d))) a f 2 (temp d) 80
       (converted at old) top low (then (meaning P (Of r) s)
       (compounded o (Some k) at (InArray n 0) old)) p (omega arith)
@@ -450,10 +468,13 @@ module _ (P : TypedProgram) (most : ℕ) (S : Scene) (y : IsScene P S) where
       (let q = (place_is P (functions P most)
       (base P most) S y p k e.number s g v.keeps.rel t e.array).array in
       let adr = addressed P (functions P most) (base P most) k i q.it.at in
-      let pa = address_puts P (functions P most) (base P most) S y p k e.number s g v.keeps.rel t e.array q (temp d) (temp d) i (omega arith) (λ e. omega arith) (λ e. omega arith) v.is in
+      let pa = address_puts P (functions P most) (base P most) S y p k e.number s g v.keeps.rel t e.array q (temp d)
+      (temp d) i (omega arith) (λ e. omega arith) (λ e. omega arith) v.is in
       let g1 = pa.to in
-      let k1 = keeps_set P most S y d f0 g g1 s (temp d) 81 adr (omega arith) (omega arith) (omega arith) v.keeps pa.sets in
-      let hg : low ≤ s.stock + most * g1.rounds - nodes (expr_of r) = subst (λ c. low ≤ s.stock + most * c - nodes (expr_of r)) (sym pa.sets.rounds) hl in
+      let k1 = keeps_set P most S y d f0 g g1 s (temp d) 81 adr (omega arith) (omega arith)
+      (omega arith) v.keeps pa.sets in
+      let hg : low ≤ s.stock + most * g1.rounds - nodes (expr_of r) = subst
+      (λ c. low ≤ s.stock + most * c - nodes (expr_of r)) (sym pa.sets.rounds) hl in
       after_puts (Valued S d (Some k) f0) a b g 3 (temp d) 81 adr top low
       (then (meaning P (Of r) s) (assigned (InArray e.number i))) pa (omega arith)
       (operand P most S y (Valued S d (Some k) f0) r (suc d) c s g1 (top - pa.t) low
@@ -484,7 +505,8 @@ module _ (P : TypedProgram) (most : ℕ) (S : Scene) (y : IsScene P S) where
       let a = address_code (context P S) p k (temp (suc d)) (temp d) in
       let l = only (Load (temp d) (load_op k) (Var (temp (suc d)))) in
       let n = converted_here at (temp d) in
-      let c = Then (compound_code o d (suc (suc d)) at k) (only (Save (save_op k) (Var (temp (suc d))) (Var (temp d)))) in
+      let c = Then (compound_code o d (suc (suc d)) at k)
+      (only (Save (save_op k) (Var (temp (suc d))) (Var (temp d)))) in
       let b = Then (code P most S y (suc (suc d)) r) c in
       let whole = Then (Then a (Then l n)) b in
       needed most (Valued S d (Some k) f0) (run P most S y whole g) top low (element_of p i s) s
@@ -499,19 +521,28 @@ module _ (P : TypedProgram) (most : ℕ) (S : Scene) (y : IsScene P S) where
       (λ old eo.
       let q = (place_is P (functions P most) (base P most) S y p k e.number s g v.keeps.rel t e.array).array in
       let adr = addressed P (functions P most) (base P most) k i q.it.at in
-      let pa = address_puts P (functions P most) (base P most) S y p k e.number s g v.keeps.rel t e.array q (temp (suc d)) (temp d) i (omega arith) (λ e. omega arith) (λ e. omega arith) v.is in
+      let pa = address_puts P (functions P most) (base P most) S y p k e.number s g v.keeps.rel t e.array q
+      (temp (suc d)) (temp d) i (omega arith) (λ e. omega arith) (λ e. omega arith) v.is in
       let g1 = pa.to in
-      let k1 = keeps_set P most S y d f0 g g1 s (temp (suc d)) 81 adr (omega arith) (omega arith) (omega arith) v.keeps pa.sets in
+      let k1 = keeps_set P most S y d f0 g g1 s (temp (suc d)) 81 adr (omega arith) (omega arith)
+      (omega arith) v.keeps pa.sets in
       let z1 = element_loaded P most S y p k e.number i old adr s g g1 q eo v.keeps.rel refl pa.sets.memory in
-      let pl = puts_load P (functions P most) (base P most) S.env (load_op k) (Var (temp (suc d))) g1 (temp d) 80 adr old (var_read (functions P most) (base P most) S.env g1 (temp (suc d)) adr pa.sets.value) z1.0 in
+      let pl = puts_load P (functions P most) (base P most) S.env (load_op k) (Var (temp (suc d))) g1
+      (temp d) 80 adr old (var_read (functions P most) (base P most) S.env g1 (temp (suc d)) adr pa.sets.value)
+      z1.0 in
       let xn = here_works (functions P most) (base P most) S.env at pl.to (temp d) old pl.sets.value z1.1.below in
-      let pn = puts_both (functions P most) (base P most) S.env l n g1 1 1 (temp d) 80 old (converted at old) pl xn.puts in
+      let pn = puts_both (functions P most) (base P most) S.env l n g1 1 1 (temp d) 80 old
+      (converted at old) pl xn.puts in
       let g2 = pn.to in
-      let k2 = keeps_set P most S y d f0 g1 g2 s (temp d) 80 (converted at old) (omega arith) (omega arith) (omega arith) k1 pn.sets in
-      let adr2 : g2.vars (temp (suc d)) ≡ Some adr = pn.sets.others (temp (suc d)) (λ e. omega arith) (λ e. omega arith) ∙ pa.sets.value in
+      let k2 = keeps_set P most S y d f0 g1 g2 s (temp d) 80 (converted at old) (omega arith) (omega arith)
+      (omega arith) k1 pn.sets in
+      let adr2 : g2.vars (temp (suc d)) ≡ Some adr = pn.sets.others (temp (suc d)) (λ e. omega arith)
+      (λ e. omega arith) ∙ pa.sets.value in
       let rounds2 : g2.rounds ≡ g.rounds = pn.sets.rounds ∙ pa.sets.rounds in
-      let hg : low ≤ s.stock + most * g2.rounds - nodes (expr_of r) = subst (λ c. low ≤ s.stock + most * c - nodes (expr_of r)) (sym rounds2) hl in
-      let lead = both_lead checked (functions P most) (base P most) S.env a (Then l n) g g1 pa.t pn.t (settle g2) pa.leads pn.leads in
+      let hg : low ≤ s.stock + most * g2.rounds - nodes (expr_of r) = subst
+      (λ c. low ≤ s.stock + most * c - nodes (expr_of r)) (sym rounds2) hl in
+      let lead = both_lead checked (functions P most) (base P most) S.env a (Then l n) g g1 pa.t pn.t
+      (settle g2) pa.leads pn.leads in
       moved most (Valued S d (Some k) f0) (run P most S y whole g) (run P most S y b g2)
       (pa.t + pn.t) top low (then (meaning P (Of r) s)
       (compounded o (Some k) at (InArray e.number i) old))
@@ -584,7 +615,8 @@ module _ (P : TypedProgram) (most : ℕ) (S : Scene) (y : IsScene P S) where
   assign_left o k at (node.Name (Array a)) j r d top low s f h ld lr tl tr tc rl hu hl =
       absurd tl.1.1
   assign_left None k at (node.Element p e) j r d top low s f h ld lr tl tr tc rl hu hl =
-      let b = Then (address_code (context P S) p k (temp d) (temp d)) (Then (code P most S y (suc d) r) (element_assign d k)) in
+      let b = Then (address_code (context P S) p k (temp d) (temp d))
+      (Then (code P most S y (suc d) r) (element_assign d k)) in
       operand P most S y (Valued S d (Some k) f) e d b s f top low
       (assign_element (meaning P) None (Some k) at p r) (h e s (omega arith)) tl.2 rl
       (omega arith) (omega arith)
@@ -596,7 +628,10 @@ module _ (P : TypedProgram) (most : ℕ) (S : Scene) (y : IsScene P S) where
       (λ s2 le. h r s2 (omega arith)) tr tc (value_at S d e.kind f v w s1 g ew hv) (omega arith)
       (omega arith)))
   assign_left (Some o) k at (node.Element p e) j r d top low s f h ld lr tl tr tc rl hu hl =
-      let b = Then (old_element (context P S) p d at k) (Then (code P most S y (suc (suc d)) r) (Then (compound_code o d (suc (suc d)) at k) (only (Save (save_op k) (Var (temp (suc d))) (Var (temp d)))))) in
+      let b = Then (old_element (context P S) p d at k)
+      (Then (code P most S y (suc (suc d)) r)
+      (Then (compound_code o d (suc (suc d)) at k)
+      (only (Save (save_op k) (Var (temp (suc d))) (Var (temp d)))))) in
       operand P most S y (Valued S d (Some k) f) e d b s f top low
       (assign_element (meaning P) (Some o) (Some k) at p r) (h e s (omega arith)) tl.2 rl
       (omega arith) (omega arith)
@@ -634,7 +669,9 @@ module _ (P : TypedProgram) (most : ℕ) (S : Scene) (y : IsScene P S) where
       let same : j ≡ Some k = left_kind P most S y (Some k) x j d t.0 in
       let kinds : kind_of (plain_node x j) ≡ Some k = kind_levels x j ∙ same in
       let E = plain_node x j in
-      let shape = λ (q : Option Kind). Then (index_code (context P S) d E) (Then (with_kind q (before_right (context P S) o at d E)) (Then (code P most S y (right_at o d E) r) (with_kind q (after_right (context P S) o at d E)))) in
+      let shape = λ (q : Option Kind). Then (index_code (context P S) d E)
+      (Then (with_kind q (before_right (context P S) o at d E))
+      (Then (code P most S y (right_at o d E) r) (with_kind q (after_right (context P S) o at d E)))) in
       subst (λ q. FollowsHere P most S y d (Some k) f (shape q) f top low
       (spend s (assign (meaning P) o j at x r))) (sym kinds)
       (spending P most S y (Valued S d (Some k) f) (shape (Some k)) s f top low

@@ -218,7 +218,8 @@ module _ (P : TypedProgram) (most : ℕ) (S : Scene) (y : IsScene P S) where
       needed most (Valued S d (Some k) f0)
       (run P most S y (binary_code o j (temp d) (temp (suc d))) g) top low (operate o j a b) s
       (λ w. Go (Value w) s) (λ w ew.
-      let x = binary_works (functions P most) (base P most) S.env o j g (temp d) (temp (suc d)) a b w st t.0 (λ e. omega arith) (λ e. omega arith) ha hb fa fb ew in
+      let x = binary_works (functions P most) (base P most) S.env o j g (temp d) (temp (suc d)) a b w st t.0
+      (λ e. omega arith) (λ e. omega arith) ha hb fa fb ew in
       value_end P most S y d (Some k) f0 g
       (binary_code o j (temp d) (temp (suc d))) 3 80 w top low s k (omega arith)
       (omega arith) refl (subst (λ k. IsWord k w) (sym t.2) x.fits) ke x.puts hu hl)
@@ -257,11 +258,13 @@ module _ (P : TypedProgram) (most : ℕ) (S : Scene) (y : IsScene P S) where
       (spend s (opened (meaning P) P (node.Binary o l r)))
   strict_node k o l r d top low s f st ld h t rl hu hl =
       let c = with_kind (kind_of (expr_of l)) (λ k. binary_code o k (temp d) (temp (suc d))) in
-      let whole : expr_code (context P S) d (tree.Binary k o (expr_of l) (expr_of r)) ≡ Then (code P most S y d l) (Then (code P most S y (suc d) r) c) =
+      let whole : expr_code (context P S) d (tree.Binary k o (expr_of l) (expr_of r)) ≡ Then (code P most S y d l)
+      (Then (code P most S y (suc d) r) c) =
       ap (λ (x : Code). Then (code P most S y d l) x)
       (end_is o st (kind_of (expr_of l)) d (code P most S y (operand_at o d) r)
       ∙ ap (λ n. Then (code P most S y n r) c) (depth_is o st d)) in
-      let fits_r : FitsExpr (scope P S) (suc d) (expr_of r) = subst (λ n. FitsExpr (scope P S) n (expr_of r)) (depth_is o st d) t.1 in
+      let fits_r : FitsExpr (scope P S) (suc d) (expr_of r) = subst (λ n. FitsExpr (scope P S) n (expr_of r))
+      (depth_is o st d) t.1 in
       subst (λ a. FollowsHere P most S y d k f a f top low
       (spend s (opened (meaning P) P (node.Binary o l r)))) (sym whole)
       (spending P most S y (Valued S d k f)

@@ -162,9 +162,12 @@ module _ (P : TypedProgram) (most : ℕ) (S : Scene) (y : IsScene P S) where
           let lt = element_within S s g n w (Some old) k q c ke.rel in
           let ea = he lt in
           let v = element_holds S s g n w old k q eo ke.rel in
-          let hl1 : cells.load checked (load_op k) g.memory at ≡ Some old = ap (λ k. cells.load checked (load_op k) g.memory at) (sym q.kind) ∙ ap (cells.load checked (load_op q.it.kind) g.memory) ea ∙ v.loaded in
+          let hl1 : cells.load checked (load_op k) g.memory at ≡ Some old =
+          ap (λ k. cells.load checked (load_op k) g.memory at) (sym q.kind)
+          ∙ ap (cells.load checked (load_op q.it.kind) g.memory) ea ∙ v.loaded in
           let fo : IsWord k old = subst (λ k. IsWord k old) q.kind v.fits in
-          let pl = puts_load P (functions P most) (base P most) S.env (load_op k) A g (temp d) 82 at old (hA g refl) hl1 in
+          let pl = puts_load P (functions P most) (base P most) S.env (load_op k) A g (temp d) 82 at old
+          (hA g refl) hl1 in
           rest b old new c ea fo en pl
         where
           rest : (b : Bool) (old new : ℕ) → cell s (InArray n w) ≡ Some (Some old)
@@ -174,14 +177,19 @@ module _ (P : TypedProgram) (most : ℕ) (S : Scene) (y : IsScene P S) where
               → FollowsHere P most S y d (Some k) f0 (bump_memory o b A d k) g top low
               (Go (Value (cond b new old)) (written s (InArray n w) (Some new)))
           rest true old new c ea fo en pl =
-              let pb = bump_works (functions P most) (base P most) S.env o k pl.to 82 (temp d) (temp d) old new pl.sets.value fo.below en in
+              let pb = bump_works (functions P most) (base P most) S.env o k pl.to 82 (temp d)
+              (temp d) old new pl.sets.value fo.below en in
               let h = pb.puts.to in
-              let v80 : h.vars 80 ≡ g.vars 80 = pb.puts.sets.others 80 (λ e. omega arith) (λ e. omega arith) ∙ pl.sets.others 80 (λ e. omega arith) (λ e. omega arith) in
-              let k1 = keeps_set P most S y d f0 g pl.to s (temp d) 82 old (omega arith) (omega arith) (omega arith) ke pl.sets in
-              let k2 = keeps_set P most S y d f0 pl.to h s (temp d) 82 new (omega arith) (omega arith) (omega arith) k1 pb.puts.sets in
+              let v80 : h.vars 80 ≡ g.vars 80 = pb.puts.sets.others 80 (λ e. omega arith) (λ e. omega arith)
+              ∙ pl.sets.others 80 (λ e. omega arith) (λ e. omega arith) in
+              let k1 = keeps_set P most S y d f0 g pl.to s (temp d) 82 old (omega arith) (omega arith)
+              (omega arith) ke pl.sets in
+              let k2 = keeps_set P most S y d f0 pl.to h s (temp d) 82 new (omega arith) (omega arith)
+              (omega arith) k1 pb.puts.sets in
               let sv = element_saves P most S y k n w at new (Some old) s h q c k2.rel ea in
               let m = put_element q.it h.memory w new in
-              let rs = save_reaches P most S y k A (temp d) at new h m (hA h v80) (var_read (functions P most) (base P most) S.env h (temp d) new pb.puts.sets.value) sv in
+              let rs = save_reaches P most S y k A (temp d) at new h m (hA h v80)
+              (var_read (functions P most) (base P most) S.env h (temp d) new pb.puts.sets.value) sv in
               value_reached d (Some k) f0 g (with_memory h m)
               (bump_memory o true A d k) 4 new top low
               (written s (InArray n w) (Some new)) k refl pb.fits
@@ -198,14 +206,19 @@ module _ (P : TypedProgram) (most : ℕ) (S : Scene) (y : IsScene P S) where
               (subst (λ k. IsWord k new) (sym q.kind) pb.fits) k2.rel)
               k2.kept pb.puts.sets.value hu hl
           rest false old new c ea fo en pl =
-              let pb = bump_works (functions P most) (base P most) S.env o k pl.to 82 81 (temp d) old new pl.sets.value fo.below en in
+              let pb = bump_works (functions P most) (base P most) S.env o k pl.to 82 81
+              (temp d) old new pl.sets.value fo.below en in
               let h = pb.puts.to in
-              let v80 : h.vars 80 ≡ g.vars 80 = pb.puts.sets.others 80 (λ e. omega arith) (λ e. omega arith) ∙ pl.sets.others 80 (λ e. omega arith) (λ e. omega arith) in
-              let k1 = keeps_set P most S y d f0 g pl.to s (temp d) 82 old (omega arith) (omega arith) (omega arith) ke pl.sets in
-              let k2 = keeps_set P most S y d f0 pl.to h s 81 82 new (omega arith) (omega arith) (omega arith) k1 pb.puts.sets in
+              let v80 : h.vars 80 ≡ g.vars 80 = pb.puts.sets.others 80 (λ e. omega arith) (λ e. omega arith)
+              ∙ pl.sets.others 80 (λ e. omega arith) (λ e. omega arith) in
+              let k1 = keeps_set P most S y d f0 g pl.to s (temp d) 82 old (omega arith) (omega arith)
+              (omega arith) ke pl.sets in
+              let k2 = keeps_set P most S y d f0 pl.to h s 81 82 new (omega arith) (omega arith)
+              (omega arith) k1 pb.puts.sets in
               let sv = element_saves P most S y k n w at new (Some old) s h q c k2.rel ea in
               let m = put_element q.it h.memory w new in
-              let rs = save_reaches P most S y k A 81 at new h m (hA h v80) (var_read (functions P most) (base P most) S.env h 81 new pb.puts.sets.value) sv in
+              let rs = save_reaches P most S y k A 81 at new h m (hA h v80)
+              (var_read (functions P most) (base P most) S.env h 81 new pb.puts.sets.value) sv in
               value_reached d (Some k) f0 g (with_memory h m)
               (bump_memory o false A d k) 4 old top low
               (written s (InArray n w) (Some new)) k refl fo
@@ -256,9 +269,12 @@ module _ (P : TypedProgram) (most : ℕ) (S : Scene) (y : IsScene P S) where
           let pb = bump_works (functions P most) (base P most) S.env o k f 82 i i old new v.0 v.1.below en in
           let h = pb.puts.to in
           let rh = scalar_sets P most S y s f h i 82 new k (Some old) t c pb.fits (omega arith) pb.puts.sets r in
-          let ke : KeptIs S d f (written s (InScalar i) (Some new)) h = record { rel = rh; kept = λ j l. pb.puts.sets.others (temp j) (λ e. omega arith) (λ e. omega arith) } in
-          let pc = puts_let (functions P most) (base P most) S.env op.Mov (Var i) (Const 0) h 1 (temp d) 82 new 0 new (omega arith) (var_read (functions P most) (base P most) S.env h i new pb.puts.sets.value) refl refl in
-          let k2 = keeps_set P most S y d f h pc.to (written s (InScalar i) (Some new)) (temp d) 82 new (omega arith) (omega arith) (omega arith) ke pc.sets in
+          let ke : KeptIs S d f (written s (InScalar i) (Some new)) h = record
+          { rel = rh; kept = λ j l. pb.puts.sets.others (temp j) (λ e. omega arith) (λ e. omega arith) } in
+          let pc = puts_let (functions P most) (base P most) S.env op.Mov (Var i) (Const 0) h 1 (temp d) 82 new 0 new
+          (omega arith) (var_read (functions P most) (base P most) S.env h i new pb.puts.sets.value) refl refl in
+          let k2 = keeps_set P most S y d f h pc.to (written s (InScalar i) (Some new)) (temp d) 82 new (omega arith)
+          (omega arith) (omega arith) ke pc.sets in
           value_reached d (Some k) f f pc.to (bump_scalar o true i d k) 3 new top low
           (written s (InScalar i) (Some new)) k refl pb.fits
           (both_reach P most S y (bumped o k i i) (copied (temp d) i) f h pc.to 2 1
@@ -267,9 +283,11 @@ module _ (P : TypedProgram) (most : ℕ) (S : Scene) (y : IsScene P S) where
           (pc.sets.rounds ∙ pb.puts.sets.rounds) k2.rel k2.kept pc.sets.value hu hl
       go false old new en c v =
           let lt = few in
-          let pc = puts_let (functions P most) (base P most) S.env op.Mov (Var i) (Const 0) f 1 (temp d) 82 old 0 old (omega arith) (var_read (functions P most) (base P most) S.env f i old v.0) refl refl in
+          let pc = puts_let (functions P most) (base P most) S.env op.Mov (Var i) (Const 0) f 1 (temp d) 82 old 0 old
+          (omega arith) (var_read (functions P most) (base P most) S.env f i old v.0) refl refl in
           let g = pc.to in
-          let k1 = keeps_set P most S y d f f g s (temp d) 82 old (omega arith) (omega arith) (omega arith) (keeps_all S d s f r) pc.sets in
+          let k1 = keeps_set P most S y d f f g s (temp d) 82 old (omega arith) (omega arith) (omega arith)
+          (keeps_all S d s f r) pc.sets in
           let hi : g.vars i ≡ Some old = pc.sets.others i (λ e. omega arith) (λ e. omega arith) ∙ v.0 in
           let pb = bump_works (functions P most) (base P most) S.env o k g 82 i i old new hi v.1.below en in
           let h = pb.puts.to in
@@ -293,7 +311,12 @@ module _ (P : TypedProgram) (most : ℕ) (S : Scene) (y : IsScene P S) where
       (bump_memory o (is_before o) (Const (global_at P.globals g)) d k) f top low
       (bump_object o (Some k) s (InArray g 0))
   global_bump o k g d top low f s ld x r hu hl =
-      let q : ObjectIs S.objects g k = record { it = object (global_at P.globals g) x.global.kind (length_of x.global.length); found = y.globals g x.global x.found; kind = x.kind } in
+      let q : ObjectIs S.objects g k = record {
+        it = object (global_at P.globals g) x.global.kind
+            (length_of x.global.length);
+        found = y.globals g x.global x.found;
+        kind = x.kind;
+      } in
       memory_bump o k (Const (global_at P.globals g)) g 0 (global_at P.globals g) d top low f f s
       (is_before o) q ld (λ h e. refl) (λ lt. omega arith) (keeps_all S d s f r) hu hl
       (bumped_value o)
@@ -315,7 +338,8 @@ module _ (P : TypedProgram) (most : ℕ) (S : Scene) (y : IsScene P S) where
       (let q = (place_is P (functions P most)
       (base P most) S y p k i.number s g v.keeps.rel t i.array).array in
       let at = addressed P (functions P most) (base P most) k w q.it.at in
-      let pa = address_puts P (functions P most) (base P most) S y p k i.number s g v.keeps.rel t i.array q 80 (temp d) w (omega arith) (λ e. omega arith) (λ e. omega arith) v.is in
+      let pa = address_puts P (functions P most) (base P most) S y p k i.number s g v.keeps.rel t i.array q 80
+      (temp d) w (omega arith) (λ e. omega arith) (λ e. omega arith) v.is in
       let ke = keeps_set P most S y d f0 g pa.to s 80 81 at (omega arith) (omega arith) (omega arith) v.keeps pa.sets in
       moved most (Valued S d (Some k) f0) (run P most S y (Then a b) g)
       (run P most S y b pa.to) pa.t top low (bump_object o (Some k) s (InArray i.number w))

@@ -69,10 +69,12 @@ load_same k m n a h = go k h
 -- WHAT A SAVE DOES
 
 pub byte_here : (m : Memory) (a b : ℕ) → byte_put m a b a ≡ record { mark = Held; byte = b }
-byte_here m a b = let e : nat_eq a a ≡ true = grind (arith, nat_tests) in ap (λ t. cond t (record { mark = Held; byte = b }) (m a)) e
+byte_here m a b =
+    let e : nat_eq a a ≡ true = grind (arith, nat_tests) in ap (λ t. cond t (record { mark = Held; byte = b }) (m a)) e
 
 byte_there : (m : Memory) (a b k : ℕ) → k ≢ a → byte_put m a b k ≡ m k
-byte_there m a b k h = let e : nat_eq k a ≡ false = grind (arith, nat_tests) in ap (λ t. cond t (record { mark = Held; byte = b }) (m k)) e
+byte_there m a b k h =
+    let e : nat_eq k a ≡ false = grind (arith, nat_tests) in ap (λ t. cond t (record { mark = Held; byte = b }) (m k)) e
 
 -- bytes elsewhere stay
 pub put_there : (k : ℕ) (m : Memory) (a v b : ℕ) → ((b < a) ⊎ (a + k ≤ b))
@@ -92,14 +94,16 @@ put_number : (k : ℕ) (m : Memory) (a v : ℕ) → number_at (number_put m a k 
 put_number zero m a v = refl
 put_number (suc k) m a v =
     let n = byte_put m (a + k) (v % 256) in
-    let e : number_put n a k (v / 256) (a + k) ≡ record { mark = Held; byte = v % 256 } = put_there k n a (v / 256) (a + k) (inr (omega arith)) ∙ byte_here m (a + k) (v % 256) in
+    let e : number_put n a k (v / 256) (a + k) ≡ record { mark = Held; byte = v % 256 } = put_there k n a (v / 256)
+    (a + k) (inr (omega arith)) ∙ byte_here m (a + k) (v % 256) in
     ap₂ (λ x c. x * 256 + c.byte) (put_number k n a (v / 256)) e
 
 put_held : (k : ℕ) (m : Memory) (a v : ℕ) → all_held (number_put m a k v) a k ≡ true
 put_held zero m a v = refl
 put_held (suc k) m a v =
     let n = byte_put m (a + k) (v % 256) in
-    let e : number_put n a k (v / 256) (a + k) ≡ record { mark = Held; byte = v % 256 } = put_there k n a (v / 256) (a + k) (inr (omega arith)) ∙ byte_here m (a + k) (v % 256) in
+    let e : number_put n a k (v / 256) (a + k) ≡ record { mark = Held; byte = v % 256 } = put_there k n a (v / 256)
+    (a + k) (inr (omega arith)) ∙ byte_here m (a + k) (v % 256) in
     ap₂ (λ x c. x && is_held c.mark) (put_held k n a (v / 256)) e
 
 -- what is open stays open
@@ -178,11 +182,15 @@ low_eight v h = omega arith
 
 again_char : (v : ℕ) → converted Char (v % 256) ≡ converted Char v
 unfolding converted
-again_char v = let e : v % 256 % 256 ≡ v % 256 = omega arith in ap (λ x. cond (nat_lt x 128) x (x + (18446744073709551616 - (128 + 128)))) e
+again_char v =
+    let e : v % 256 % 256 ≡ v % 256 = omega arith in
+    ap (λ x. cond (nat_lt x 128) x (x + (18446744073709551616 - (128 + 128)))) e
 
 again_int : (v : ℕ) → converted Int (v % 4294967296) ≡ converted Int v
 unfolding converted
-again_int v = let e : v % 4294967296 % 4294967296 ≡ v % 4294967296 = omega arith in ap (λ x. cond (nat_lt x 2147483648) x (x + (18446744073709551616 - (2147483648 + 2147483648)))) e
+again_int v =
+    let e : v % 4294967296 % 4294967296 ≡ v % 4294967296 = omega arith in
+    ap (λ x. cond (nat_lt x 2147483648) x (x + (18446744073709551616 - (2147483648 + 2147483648)))) e
 
 loaded_again : (k : Kind) (v : ℕ) → IsWord k v → loaded_as (load_op k) (low_bytes (bytes k) v) ≡ v
 unfolding converted
@@ -249,7 +257,9 @@ marked_out m at size c b (inr le) =
   where
     go : (x : Bool) → cond (x && nat_lt b (at + size)) (record { mark = c; byte = (m b).byte })
         (m b) ≡ m b
-    go true = let f : nat_lt b (at + size) ≡ false = grind (arith, nat_tests) in ap (λ y. cond y (record { mark = c; byte = (m b).byte }) (m b)) f
+    go true =
+        let f : nat_lt b (at + size) ≡ false = grind (arith, nat_tests) in
+        ap (λ y. cond y (record { mark = c; byte = (m b).byte }) (m b)) f
     go false = refl
 
 -- what opens is open

@@ -100,7 +100,8 @@ limit = refl
 byte_fits : (w : ℕ) → w < 256 → IsWord Int w
 byte_fits w h = record { below = omega arith; narrow = omega arith }
 
-module _ (P : TypedProgram) (most : ℕ) (sound : FitsSource (source_of P)) (large : IsMost (source_of P) most) (S : Scene) (y : IsScene P S) where
+module _ (P : TypedProgram) (most : ℕ) (sound : FitsSource (source_of P)) (large : IsMost (source_of P) most)
+    (S : Scene) (y : IsScene P S) where
   -- FUNCTIONS
 
   -- main is of type int
@@ -109,7 +110,8 @@ module _ (P : TypedProgram) (most : ℕ) (sound : FitsSource (source_of P)) (lar
   main_is_int j f found e =
       let main = sound.main in
       let same : j ≡ P.main = same_count j P.main e in
-      let at : slice_get (map func_of P.functions) P.main ≡ Some (func_of f) = subst (λ n. slice_get (map func_of P.functions) n ≡ Some (func_of f)) same (func_at P.functions j f found) in
+      let at : slice_get (map func_of P.functions) P.main ≡ Some (func_of f) = subst
+      (λ n. slice_get (map func_of P.functions) n ≡ Some (func_of f)) same (func_at P.functions j f found) in
       let is : main.main ≡ func_of f = cc (sym main.found ∙ at) in
       sym (ap (λ (g : Func). g.result) is) ∙ main.result
 
@@ -125,8 +127,11 @@ module _ (P : TypedProgram) (most : ℕ) (sound : FitsSource (source_of P)) (lar
       (entered_if (meaning P) (nat_eq j P.main) b f ws s)
   entering j f found xs ws vs d top low k s f0 g ld h ek are reads ke count hu hl false e =
       let F = lowered_of P most f (nat_eq j P.main) in
-      let same : s.room + frame f ≡ S.env.used + frame_of F = ap₂ (λ a b. a + b) ke.rel.room (frame_is P f F (lowered_is P most f (nat_eq j P.main))) in
-      let full : nat_lt frame_limit (S.env.used + frame_of F) ≡ true = subst (λ m. nat_lt m (S.env.used + frame_of F) ≡ true) (sym limit) (beyond (S.env.used + frame_of F) 1048576 (subst (λ x. nat_le x 1048576 ≡ false) same e)) in
+      let same : s.room + frame f ≡ S.env.used + frame_of F = ap₂ (λ a b. a + b) ke.rel.room
+      (frame_is P f F (lowered_is P most f (nat_eq j P.main))) in
+      let full : nat_lt frame_limit (S.env.used + frame_of F) ≡ true = subst
+      (λ m. nat_lt m (S.env.used + frame_of F) ≡ true) (sym limit)
+      (beyond (S.env.used + frame_of F) 1048576 (subst (λ x. nat_le x 1048576 ≡ false) same e)) in
       record {
         t = 11;
         upper = omega arith;
@@ -144,8 +149,11 @@ module _ (P : TypedProgram) (most : ℕ) (sound : FitsSource (source_of P)) (lar
       let params = fits.params in
       let same : s.room + frame f ≡ S.env.used + frame_of F = ap₂ (λ a b. a + b) ke.rel.room (frame_is P f F is) in
       let below : nat_le (S.env.used + frame_of F) 1048576 ≡ true = subst (λ x. nat_le x 1048576 ≡ true) same e in
-      let room : nat_lt frame_limit (S.env.used + frame_of F) ≡ false = subst (λ m. nat_lt m (S.env.used + frame_of F) ≡ false) (sym limit) (within (S.env.used + frame_of F) 1048576 below) in
-      let le : S.env.used + frame_of F ≤ frame_limit = subst (λ m. S.env.used + frame_of F ≤ m) (sym limit) (under (S.env.used + frame_of F) 1048576 below) in
+      let room : nat_lt frame_limit (S.env.used + frame_of F) ≡ false = subst
+      (λ m. nat_lt m (S.env.used + frame_of F) ≡ false) (sym limit)
+      (within (S.env.used + frame_of F) 1048576 below) in
+      let le : S.env.used + frame_of F ≤ frame_limit = subst (λ m. S.env.used + frame_of F ≤ m) (sym limit)
+      (under (S.env.used + frame_of F) 1048576 below) in
       let all = sound.room in
       let scene = called_is P S y f F is few (omega arith) in
       let first = begins P S y f F is ws vs s (counted g) (omega arith) are (recounted S s g ke.rel) in
@@ -213,7 +221,8 @@ module _ (P : TypedProgram) (most : ℕ) (sound : FitsSource (source_of P)) (lar
   getting (b ∷ rest) d top low s f ld e r hu hl =
       let byte : b < 256 = r.bytes 0 b (ap (λ z. slice_get z 0) e) in
       let g = with_next f (temp d) (b ∷ rest) in
-      let u = unseen S y s f (with_var f (temp d) b) (λ i lt. put_other f.vars (temp d) (Some b) i (λ q. omega arith)) refl refl refl r in
+      let u = unseen S y s f (with_var f (temp d) b) (λ i lt. put_other f.vars (temp d) (Some b) i (λ q. omega arith))
+      refl refl refl r in
       record {
         t = 1;
         to = g;
@@ -296,7 +305,8 @@ module _ (P : TypedProgram) (most : ℕ) (sound : FitsSource (source_of P)) (lar
   call_node k (callee.Func j) es d top low s f he hs t r hu hl =
       let x = typed_at P.functions j t.1.0 t.1.1 in
       let tail = only (flat.Call j (temps d (exprs_of (map expr_of es))) (result_var k d) stays) in
-      let fits = subst (λ g. (k ≡ g.result) × FitsArgs (scope P S) d (take g.params g.scalars) (exprs_of (map expr_of es))) (sym x.is) (t.1.2, t.1.3) in
+      let fits = subst (λ g. (k ≡ g.result) × FitsArgs (scope P S) d (take g.params g.scalars)
+      (exprs_of (map expr_of es))) (sym x.is) (t.1.2, t.1.3) in
       spending P most S y (Valued S d k f)
       (expr_code (context P S) d (tree.Call k (callee.Func j) (exprs_of (map expr_of es)))) s f
       top low (opened (meaning P) P (node.Call (callee.Func j) es)) r (omega arith) (λ n q rn.
@@ -321,7 +331,8 @@ module _ (P : TypedProgram) (most : ℕ) (sound : FitsSource (source_of P)) (lar
   call_node k callee.PutChar (e ∷ e2 ∷ es) d top low s f he hs t r hu hl = absurd (cc t.1.1.1)
   call_node k callee.PutChar (e ∷ []) d top low s f he hs t r hu hl =
       let b = call_code callee.PutChar (Some Int) d (Var (temp d) ∷ []) in
-      let whole : Then (Then (code P most S y d e) Nop) b ≡ Then (code P most S y d e) b = ap (λ (a : Code). Then a b) (then_nop (code P most S y d e)) in
+      let whole : Then (Then (code P most S y d e) Nop) b ≡ Then (code P most S y d e) b = ap (λ (a : Code). Then a b)
+      (then_nop (code P most S y d e)) in
       subst (λ k. FollowsHere P most S y d k f (Then (Then (code P most S y d e) Nop) b) f top low
       (spend s (opened (meaning P) P (node.Call callee.PutChar (e ∷ []))))) (sym t.1.0)
       (subst (λ a. FollowsHere P most S y d (Some Int) f a f top low

@@ -61,7 +61,8 @@ use Rattle.flat_lower.proofs.Returns.{closed_stops, after, resumed, returns}
 pub zero_fits : IsWord Int 0
 zero_fits = record { below = omega arith; narrow = omega arith }
 
-module _ (P : TypedProgram) (most : ℕ) (S : Scene) (y : IsScene P S) (j : ℕ) (f : TypedFunc) (found : slice_get P.functions j ≡ Some f) (vs : List ℕ) (g : State) where
+module _ (P : TypedProgram) (most : ℕ) (S : Scene) (y : IsScene P S) (j : ℕ) (f : TypedFunc)
+    (found : slice_get P.functions j ≡ Some f) (vs : List ℕ) (g : State) where
   abbrev F : Function
   F = lowered_of P most f (nat_eq j P.main)
 
@@ -72,7 +73,8 @@ module _ (P : TypedProgram) (most : ℕ) (S : Scene) (y : IsScene P S) (j : ℕ)
   B = stmt_code (context P (called_scene P S f F)) (stmt_of f.body)
 
   -- the call of the function with these arguments
-  module _ (xs : List Arg) (are : read_all checked g xs ≡ Some vs) (d : ℕ) (ld : d < 16) (k : Option Kind) (ek : k ≡ f.result) (f0 : State) (room : nat_lt frame_limit (S.env.used + frame_of F) ≡ false) where
+  module _ (xs : List Arg) (are : read_all checked g xs ≡ Some vs) (d : ℕ) (ld : d < 16) (k : Option Kind)
+      (ek : k ≡ f.result) (f0 : State) (room : nat_lt frame_limit (S.env.used + frame_of F) ≡ false) where
     abbrev to : Option ℕ
     to = result_var k d
 
@@ -119,7 +121,9 @@ module _ (P : TypedProgram) (most : ℕ) (S : Scene) (y : IsScene P S) (j : ℕ)
     falls_off : (h : State) (t : ℕ) → nat_eq j P.main ≡ false → Leads
         (body_run P most S.env.used j f found vs (counted g) B) t (settle h) → FallsOff h t None
     falls_off h t e l =
-        let x = both_lead checked (functions P most) (base P most) (env_of (base P most) F S.env.used) B Nop (begun (base P most) F vs S.env.used (counted g)) h t 0 (settle h) l (nop_leads checked (functions P most) (base P most) (env_of (base P most) F S.env.used) h) in
+        let x = both_lead checked (functions P most) (base P most) (env_of (base P most) F S.env.used) B Nop
+        (begun (base P most) F vs S.env.used (counted g)) h t 0 (settle h) l
+        (nop_leads checked (functions P most) (base P most) (env_of (base P most) F S.env.used) h) in
         record {
           u = t + 0;
           few = omega arith;
@@ -133,7 +137,10 @@ module _ (P : TypedProgram) (most : ℕ) (S : Scene) (y : IsScene P S) (j : ℕ)
     main_falls_off : (h : State) (t : ℕ) → nat_eq j P.main ≡ true → Leads
         (body_run P most S.env.used j f found vs (counted g) B) t (settle h) → FallsOff h t (Some 0)
     main_falls_off h t e l =
-        let x = both_lead checked (functions P most) (base P most) (env_of (base P most) F S.env.used) B (only (flat.Return (Some (Const 0)))) (begun (base P most) F vs S.env.used (counted g)) h t 1 (Gave (Some 0) h) l (return_leads checked (functions P most) (base P most) (env_of (base P most) F S.env.used) (Const 0) h 0 refl) in
+        let x = both_lead checked (functions P most) (base P most) (env_of (base P most) F S.env.used) B
+        (only (flat.Return (Some (Const 0)))) (begun (base P most) F vs S.env.used (counted g)) h t 1
+        (Gave (Some 0) h) l (return_leads checked (functions P most) (base P most)
+        (env_of (base P most) F S.env.used) (Const 0) h 0 refl) in
         record {
           u = t + 1;
           few = omega arith;
@@ -148,7 +155,9 @@ module _ (P : TypedProgram) (most : ℕ) (S : Scene) (y : IsScene P S) (j : ℕ)
         → Leads (run P most S y C g) (10 + t)
         (settle (after P most S y j f found vs g h (result_var k d) w))
     gives h t w l =
-        let x = first_leads checked (functions P most) (base P most) (env_of (base P most) F S.env.used) B (end_code (nat_eq j P.main)) (begun (base P most) F vs S.env.used (counted g)) t (Gave w h) (λ n next. refl) l in
+        let x = first_leads checked (functions P most) (base P most) (env_of (base P most) F S.env.used) B
+        (end_code (nat_eq j P.main)) (begun (base P most) F vs S.env.used (counted g)) t (Gave w h)
+        (λ n next. refl) l in
         goes t (Gave w (closed at F.arrays h)) h w
         (closed_leads P most S.env.used j f found vs (counted g) room t (Gave w h)
         (Gave w (closed at F.arrays h)) (λ n. refl) x) (λ n. refl)

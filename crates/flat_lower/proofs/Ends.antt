@@ -129,7 +129,8 @@ module _ (P : TypedProgram) (most : ℕ) (S : Scene) (y : IsScene P S) where
   unfolding apply
   set_end i w A k top low s g e fits h r hu hl None ec = tt
   set_end i w A k top low s g e fits h r hu hl (Some c) ec =
-      let p = puts_let (functions P most) (base P most) S.env op.Mov A (Const 0) g 1 i 80 w 0 w (omega arith) h refl refl in
+      let p = puts_let (functions P most) (base P most) S.env op.Mov A (Const 0) g 1 i 80 w 0 w
+      (omega arith) h refl refl in
       record {
         t = p.t;
         to = p.to;

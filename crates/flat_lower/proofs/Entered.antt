@@ -44,7 +44,9 @@ get_first (x ∷ xs) ys (suc i) a h = get_first xs ys i a h
 pub get_second : {A : Type 0} (xs ys : List A) (i : ℕ)
     → slice_get (xs ++ ys) (length xs + i) ≡ slice_get ys i
 get_second [] ys i = ap (slice_get ys) (omega arith)
-get_second (x ∷ xs) ys i = let e : suc (length xs) + i ≡ suc (length xs + i) = omega arith in ap (slice_get (x ∷ (xs ++ ys))) e ∙ get_second xs ys i
+get_second (x ∷ xs) ys i =
+    let e : suc (length xs) + i ≡ suc (length xs + i) = omega arith in
+    ap (slice_get (x ∷ (xs ++ ys))) e ∙ get_second xs ys i
 
 pub none_of : {A : Type 0} (n i : ℕ) (a : A) → slice_get (replicate n None) i ≡ Some (Some a) → ⊥
 none_of zero i a h = cc h
@@ -89,7 +91,10 @@ own_laid at (a ∷ rest) h =
     let room = array_room a in
     let w = bytes_whole a in
     let e : at + array_bytes a + all_bytes rest ≡ at + (array_bytes a + all_bytes rest) = omega arith in
-    let l : Laid (at + array_bytes a) (at + (array_bytes a + all_bytes rest)) (own_objects (at + array_bytes a) rest) = subst (λ hi. Laid (at + array_bytes a) hi (own_objects (at + array_bytes a) rest)) e (own_laid (at + array_bytes a) rest (omega arith)) in (
+    let l : Laid (at + array_bytes a) (at + (array_bytes a + all_bytes rest))
+    (own_objects (at + array_bytes a) rest) =
+    subst (λ hi. Laid (at + array_bytes a) hi (own_objects (at + array_bytes a) rest)) e
+    (own_laid (at + array_bytes a) rest (omega arith)) in (
       omega arith,
       h,
       laid_lower (at + array_bytes a) (at + bytes a.kind * a.length)
@@ -108,14 +113,16 @@ own_at at (b ∷ rest) zero a h =
     ap Some (ap (λ (b : TypedArray). object at b.kind b.length) e
     ∙ ap (λ at. object at a.kind a.length) z)
 own_at at (b ∷ rest) (suc n) a h =
-    let z : at + array_bytes b + bytes_before (map array_bytes rest) n ≡ at + (array_bytes b + bytes_before (map array_bytes rest) n) = omega arith in
+    let z : at + array_bytes b + bytes_before (map array_bytes rest) n
+    ≡ at + (array_bytes b + bytes_before (map array_bytes rest) n) = omega arith in
     own_at (at + array_bytes b) rest n a h ∙ ap (λ at. Some (object at a.kind a.length)) z
 
 -- unset arrays whose bytes open
 open_element : (m : Memory) (lo size at i : ℕ) (k : Kind) (n : ℕ) → lo ≤ at
     → at + bytes k * n ≤ lo + size → i < n
     → all_open (marked m lo size Open) (at + bytes k * i) (bytes k) ≡ true
-open_element m lo size at i k n h t lt = let e = element_in k at n i lt in opened m lo size (at + bytes k * i) (bytes k) (omega arith) (omega arith)
+open_element m lo size at i k n h t lt =
+    let e = element_in k at n i lt in opened m lo size (at + bytes k * i) (bytes k) (omega arith) (omega arith)
 
 pub own_stored : (m : Memory) (lo size at : ℕ) (arrays : List TypedArray) → lo ≤ at
     → at + all_bytes arrays ≤ lo + size → AllStored (own_objects at arrays) (map unset_array arrays)
@@ -164,8 +171,10 @@ module _ (P : TypedProgram) where
       let b = frames_whole in
       let w = all_whole f.arrays in
       let at = arrays_at (frames_from P) F S.env.used in
-      let e : at + all_bytes f.arrays ≡ frames_from P + (S.env.used + frame_of F) = ap (λ n. at + n) (sym l.arrays) ∙ omega arith in
-      let own : Laid at (frames_from P + (S.env.used + frame_of F)) (own_objects at f.arrays) = subst (λ hi. Laid at hi (own_objects at f.arrays)) e (own_laid at f.arrays (omega arith)) in
+      let e : at + all_bytes f.arrays ≡ frames_from P + (S.env.used + frame_of F) = ap (λ n. at + n) (sym l.arrays)
+      ∙ omega arith in
+      let own : Laid at (frames_from P + (S.env.used + frame_of F)) (own_objects at f.arrays) = subst
+      (λ hi. Laid at hi (own_objects at f.arrays)) e (own_laid at f.arrays (omega arith)) in
       record {
         laid = laid_append 0 (frames_from P + S.env.used)
             (frames_from P + (S.env.used + frame_of F)) S.objects (own_objects at f.arrays) y.laid

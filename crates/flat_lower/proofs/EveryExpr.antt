@@ -59,7 +59,8 @@ module _ (P : TypedProgram) (most : ℕ) (sound : FitsSource (source_of P)) (lar
   Parts s = ((e : TypedExpr) (s1 : eval.State) → s1.stock < s.stock → FollowsOf P most e s1)
       × ((st : TypedStmt) (s1 : eval.State) → s1.stock < s.stock → FollowsRun P most st s1)
 
-  module _ (S : Scene) (y : IsScene P S) (s : eval.State) (h : Parts s) (j : Option Kind) (d top low : ℕ) (f : State) (r : Related S s f) where
+  module _ (S : Scene) (y : IsScene P S) (s : eval.State) (h : Parts s) (j : Option Kind) (d top low : ℕ) (f : State)
+      (r : Related S s f) where
     abbrev Here : Node → Type 0
     Here x = FitsExpr (scope P S) d (plain_node x j)
         → low ≤ s.stock + most * f.rounds - nodes (plain_node x j)
@@ -139,7 +140,8 @@ module _ (P : TypedProgram) (most : ℕ) (sound : FitsSource (source_of P)) (lar
       let X = plain_node (node_of e) e.kind in
       let down = s.stock + most * f.rounds - nodes X in
       let lower : low ≤ down = subst (λ x. low ≤ s.stock + most * f.rounds - nodes x) (expr_is e) hl in
-      let inner : FollowsHere P most S y d e.kind f (code P most S y d e) f (top - 1) down (level.node (meaning P) P (node_of e) s) =
+      let inner : FollowsHere P most S y d e.kind f (code P most S y d e) f (top - 1) down
+      (level.node (meaning P) P (node_of e) s) =
       subst (λ x. FollowsHere P most S y d e.kind f (expr_code (context P S) d x) f (top - 1) down
       (level.node (meaning P) P (node_of e) s)) (sym (expr_is e))
       (node_follows S y s h e.kind d (top - 1) down f r (node_of e) (omega arith)

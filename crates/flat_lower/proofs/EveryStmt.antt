@@ -224,7 +224,8 @@ module _ (P : TypedProgram) (most : ℕ) where
         (subst (λ q. Follows most (Ended S) (loop_of P most S y a b p.to) (top - p.t) low
         (then (cond q (Go Breaks s) (meaning P (task.Run body) s))
         (after P most (Some t) None body))) (is_true 0)
-        (so_loop P most 1 t body s (suc s.stock) (h.run body s le) (λ s1 lt. h.again t body s1 (omega arith)) (λ v s1 e. let x = so_falls P most 1 body s v s1 e in omega arith)
+        (so_loop P most 1 t body s (suc s.stock) (h.run body s le) (λ s1 lt. h.again t body s1 (omega arith))
+        (λ v s1 e. let x = so_falls P most 1 body s v s1 e in omega arith)
         S y (top - p.t) low p.to te tb z rel p.sets.value (omega (arith, p.few))
         (subst (λ r. low ≤ s.stock + most * r) (sym p.sets.rounds) hl))))
 
@@ -318,8 +319,10 @@ module _ (P : TypedProgram) (most : ℕ) where
     begun_follows (stmt.For first test post body) s f top low h t z r hu hl =
         let l = loop_code (context P S) (expr_if test) (expr_if post) (stmt_at P most S y body) in
         let e = first_is first in
-        let t0 : FitsFirst (scope P S) S.func.result (plain_first (out-TypedForInit first)) = subst (FitsFirst (scope P S) S.func.result) e t.0 in
-        let size : size_of_first (first_of first) ≡ size_of_first (plain_first (out-TypedForInit first)) = ap size_of_first e in
+        let t0 : FitsFirst (scope P S) S.func.result (plain_first (out-TypedForInit first)) = subst
+        (FitsFirst (scope P S) S.func.result) e t.0 in
+        let size : size_of_first (first_of first) ≡ size_of_first (plain_first (out-TypedForInit first)) =
+        ap size_of_first e in
         subst (λ x. EndsHere P most S y (Then (first_code (context P S) x) l) f top low
         (begin (meaning P) (out-TypedForInit first) test post body s)) (sym e)
         (for_starts s.stock h (out-TypedForInit first) test post body s f top low (omega arith) t0

@@ -199,7 +199,8 @@ module _ (fs : List Function) (base most : ℕ) (e : Env) where
       → Follows most Q (run_of (Then a b) f) top low (then r next)
   then_follows P Q a b f up down top low (Go v s) next g hu hd h =
       let k = h v s g.to g.t refl g.holds g.upper g.lower in
-      let l : Leads (run_of a f) g.t (settle g.to) = subst (λ x. Leads (run_of a f) g.t (x g.to)) (settles_is v k.0) g.leads in
+      let l : Leads (run_of a f) g.t (settle g.to) = subst (λ x. Leads (run_of a f) g.t (x g.to))
+      (settles_is v k.0) g.leads in
       moved most Q (run_of (Then a b) f) (run_of b g.to) g.t top low (next v s)
       (then_moves checked fs base e a b f g.to g.t l) (omega (arith, g.upper)) k.1
   then_follows P Q a b f up down top low (Over why s) next g hu hd h =

@@ -53,7 +53,9 @@ in_first (x ∷ xs) ys (suc b) lt = in_first xs ys b (omega arith)
 
 in_second : (xs ys : List ℕ) (b : ℕ) → get_or (xs ++ ys) (length xs + b) 0 ≡ get_or ys b 0
 in_second [] ys b = ap (λ n. get_or ys n 0) (omega arith)
-in_second (x ∷ xs) ys b = let e : suc (length xs) + b ≡ suc (length xs + b) = omega arith in ap (λ n. get_or (x ∷ (xs ++ ys)) n 0) e ∙ in_second xs ys b
+in_second (x ∷ xs) ys b =
+    let e : suc (length xs) + b ≡ suc (length xs + b) = omega arith in
+    ap (λ n. get_or (x ∷ (xs ++ ys)) n 0) e ∙ in_second xs ys b
 
 zero_in : (n b : ℕ) → get_or (replicate n zero) b zero ≡ zero
 zero_in zero b = refl
@@ -111,7 +113,9 @@ word_length (suc n) w = ap suc (word_length n w)
 word_byte : (n w j : ℕ) → j < n → get_or (word_bytes n w) j 0 ≡ (w / 256 ^ (n - 1 - j)) % 256
 word_byte zero w j lt = absurd (omega arith)
 word_byte (suc n) w zero lt = let e : n ≡ suc n - 1 - 0 = omega arith in ap (λ e. (w / 256 ^ e) % 256) e
-word_byte (suc n) w (suc j) lt = let e : n - 1 - j ≡ suc n - 1 - suc j = omega arith in word_byte n w j (omega arith) ∙ ap (λ e. (w / 256 ^ e) % 256) e
+word_byte (suc n) w (suc j) lt =
+    let e : n - 1 - j ≡ suc n - 1 - suc j = omega arith in
+    word_byte n w j (omega arith) ∙ ap (λ e. (w / 256 ^ e) % 256) e
 
 zero_byte : (n j : ℕ) → j < n → get_or (word_bytes n 0) j 0 ≡ 0
 zero_byte n j lt = word_byte n 0 j lt ∙ ap (λ x. x % 256) (zero-div (256 ^ (n - 1 - j)))
@@ -167,7 +171,8 @@ cells_image k m lo (v ∷ ws) r z zero w h each good room e =
     let same : v ≡ w = cc e in
     let rest = init_bytes (bytes k) ws ++ replicate r 0 in
     let at : lo ≡ lo + bytes k * 0 = omega arith in
-    let first : ImageAt m lo (word_bytes (bytes k) v) = image_first m lo (word_bytes (bytes k) v) rest (subst (ImageAt m lo) (append_assoc (word_bytes (bytes k) v) (init_bytes (bytes k) ws) (replicate r 0)) h) in
+    let first : ImageAt m lo (word_bytes (bytes k) v) = image_first m lo (word_bytes (bytes k) v) rest
+    (subst (ImageAt m lo) (append_assoc (word_bytes (bytes k) v) (init_bytes (bytes k) ws) (replicate r 0)) h) in
     subst (λ w. Has k m (lo + bytes k * 0) w) same (record {
       fits = each 0 v refl;
       loaded = word_loaded k m (lo + bytes k * 0) v good (each 0 v refl)
@@ -176,7 +181,9 @@ cells_image k m lo (v ∷ ws) r z zero w h each good room e =
 cells_image k m lo (v ∷ ws) r z (suc i) w h each good room e =
     let rest = init_bytes (bytes k) ws ++ replicate r 0 in
     let at : lo + bytes k + bytes k * i ≡ lo + bytes k * suc i = omega (arith, mul-suc (bytes k) i) in
-    let next : ImageAt m (lo + bytes k) rest = image_rest m lo (bytes k) (word_bytes (bytes k) v) rest (word_length (bytes k) v) (subst (ImageAt m lo) (append_assoc (word_bytes (bytes k) v) (init_bytes (bytes k) ws) (replicate r 0)) h) in
+    let next : ImageAt m (lo + bytes k) rest = image_rest m lo (bytes k) (word_bytes (bytes k) v) rest
+    (word_length (bytes k) v)
+    (subst (ImageAt m lo) (append_assoc (word_bytes (bytes k) v) (init_bytes (bytes k) ws) (replicate r 0)) h) in
     subst (λ a. Has k m a w) at (cells_image k m (lo + bytes k) ws r z i w next
     (λ j u q. each (suc j) u q) (subst (λ a. is_good_address a (bytes k) ≡ true) (sym at) good)
     room e)
@@ -203,14 +210,17 @@ rounded_whole : (n : ℕ) → rounded n % 8 ≡ 0
 rounded_whole n = omega arith
 
 pub global_room : (g : TypedGlobal) → bytes g.kind * length_of g.length ≤ global_bytes g
-global_room g = let e = all_bytes g.kind (length_of g.length) in let x = room_enough (length_of g.length * bytes g.kind) in omega arith
+global_room g =
+    let e = all_bytes g.kind (length_of g.length) in let x = room_enough (length_of g.length * bytes g.kind) in
+    omega arith
 
 pub global_length : (g : TypedGlobal) → FitsGlobal g → length (global_image g) ≡ global_bytes g
 global_length g t =
     let fits = fewer_bytes g.kind (length g.init) (length_of g.length) t.few in
     let x = global_room g in
     let e = all_bytes g.kind (length g.init) in
-    let l = both_length (init_bytes (bytes g.kind) g.init) (replicate (global_bytes g - length g.init * bytes g.kind) 0) in
+    let l = both_length (init_bytes (bytes g.kind) g.init)
+    (replicate (global_bytes g - length g.init * bytes g.kind) 0) in
     let a = init_length g.kind g.init in
     let b = replicate_length {A = ℕ} (global_bytes g - length g.init * bytes g.kind) 0 in
     omega arith
@@ -236,7 +246,9 @@ global_stored m lo g t h whole room =
       holds = λ i w q.
           let lt = inside i w q in
           let last = element_in k lo L i lt in
-          let v = cells_image k m lo g.init (global_bytes g - length g.init * bytes k) (L - length g.init) i w h (all_words (IsWord k) g.init t.words) (good_element k lo i whole (omega arith)) (left_room k (length g.init) L (global_bytes g) t.few x) q in
+          let v = cells_image k m lo g.init (global_bytes g - length g.init * bytes k) (L - length g.init) i w h
+          (all_words (IsWord k) g.init t.words) (good_element k lo i whole (omega arith))
+          (left_room k (length g.init) L (global_bytes g) t.few x) q in
           record { fits = v.fits; loaded = v.loaded };
       opens = λ i lt.
           let last = element_in k 0 L i lt in

@@ -179,7 +179,8 @@ module _ (P : TypedProgram) (most : ℕ) where
         → Follows most (Ended S) (post_of a b f) top low (then r next)
     post_follows Q a b f up down top low (Go v s1) next h hu hl go =
         let k = go v s1 h.to h.t refl h.holds h.upper h.lower in
-        let l : Leads (run P most S y b f) h.t (settle h.to) = subst (λ x. Leads (run P most S y b f) h.t (x h.to)) (settles_is (functions P most) (base P most) most S.env v k.0) h.leads in
+        let l : Leads (run P most S y b f) h.t (settle h.to) = subst (λ x. Leads (run P most S y b f) h.t (x h.to))
+        (settles_is (functions P most) (base P most) most S.env v k.0) h.leads in
         moved most (Ended S) (post_of a b f) (loop_of a b h.to) h.t top low (next v s1)
         (post_moves checked (functions P most) (base P most) S.env a b f h.to h.t l)
         (omega (arith, h.upper)) k.1
@@ -298,8 +299,10 @@ module _ (P : TypedProgram) (most : ℕ) where
           (then_turn (meaning P) p test post body s1)
       next None e s1 g t1 falls rel us ds =
           let a = turn_code (context P S) (expr_if test) (stmt S y body) in
-          let whole = ht s1 falls S y (top - suc t1) low g tt0 tp tb z rel (omega arith) (omega (arith, mul-suc most f.rounds)) in
-          let there : Follows most (Ended S) (loop_of S y a Nop g) (top - suc t1) low (meaning P (Turn test post body) s1) =
+          let whole = ht s1 falls S y (top - suc t1) low g tt0 tp tb z rel (omega arith)
+          (omega (arith, mul-suc most f.rounds)) in
+          let there : Follows most (Ended S) (loop_of S y a Nop g) (top - suc t1) low
+          (meaning P (Turn test post body) s1) =
           subst (λ p. Follows most (Ended S)
           (loop_of S y a (expr_if_code (context P S) (expr_if p)) g) (top - suc t1) low
           (meaning P (Turn test post body) s1)) e whole in
@@ -316,7 +319,8 @@ module _ (P : TypedProgram) (most : ℕ) where
           let a = turn_code (context P S) (expr_if test) (stmt S y body) in
           let b = code P most S y 0 q in
           let fits : FitsExpr (scope P S) 0 (expr_of q) = subst (λ p. FitsExprIf (scope P S) (expr_if p)) e tp in
-          let size : nodes_if (expr_if test) + (nodes (expr_of q) + size_of (stmt_of body)) ≤ most = subst (λ p. nodes_if (expr_if test) + (nodes_if (expr_if p) + size_of (stmt_of body)) ≤ most) e z in
+          let size : nodes_if (expr_if test) + (nodes (expr_of q) + size_of (stmt_of body)) ≤ most = subst
+          (λ p. nodes_if (expr_if test) + (nodes_if (expr_if p) + size_of (stmt_of body)) ≤ most) e z in
           let up2 = 8 * s1.stock - 3 in
           let down2 = s1.stock + most * g.rounds - nodes (expr_of q) in
           post_follows S y (Valued S 0 q.kind g) a b g up2 down2 (top - suc t1) low
@@ -383,7 +387,9 @@ module _ (P : TypedProgram) (most : ℕ) where
           (top - t1) low (then (want v s1 (λ w. so_part w body s1)) (after (Some t) None body))
       tested Nothing s1 g t1 falls hv hu1 hl1 = tt
       tested (Value w) s1 g t1 falls hv hu1 hl1 =
-          so_loop w t body s1 s.stock (hs s1 (omega arith)) hd (λ v s2 eq. let le = so_falls w body s1 v s2 eq in omega arith) S y (top - t1) low g te tb z hv.keeps.rel hv.is hu1 hl1
+          so_loop w t body s1 s.stock (hs s1 (omega arith)) hd
+          (λ v s2 eq. let le = so_falls w body s1 v s2 eq in omega arith) S y
+          (top - t1) low g te tb z hv.keeps.rel hv.is hu1 hl1
       tested Breaks s1 g t1 falls hv hu1 hl1 = tt
       tested Continues s1 g t1 falls hv hu1 hl1 = tt
       tested (Returns w) s1 g t1 falls hv hu1 hl1 = tt

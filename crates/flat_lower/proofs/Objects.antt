@@ -104,7 +104,8 @@ elements_apart k at i j h = go (nat_lt i j) refl
     go : (t : Bool) → nat_lt i j ≡ t → (at + bytes k * i + bytes k ≤ at + bytes k * j) ⊎
         (at + bytes k * j + bytes k ≤ at + bytes k * i)
     go true e = let lt : i < j = grind (arith, nat_tests) in inl (element_in k at j i lt)
-    go false e = let le : j ≤ i = grind (arith, nat_tests) in let lt : j < i = omega arith in inr (element_in k at i j lt)
+    go false e =
+        let le : j ≤ i = grind (arith, nat_tests) in let lt : j < i = omega arith in inr (element_in k at i j lt)
 
 good_tests : (a s : ℕ) → 0 < s → a % s ≡ 0 → a + s ≤ data_size → is_good_address a s ≡ true
 good_tests a s p e h =
@@ -257,7 +258,8 @@ stored_put o row m i v c e al le f s = record {
         → nat_eq j i ≡ t → Holds o (put_element o m i v) j w
     go j w h true g =
         let same : j ≡ i = grind (arith, nat_tests) in
-        let x : slice_get (slice_set row i (Some v)) i ≡ Some (Some w) = ap (slice_get (slice_set row i (Some v))) (sym same) ∙ h in
+        let x : slice_get (slice_set row i (Some v)) i ≡ Some (Some w) = ap (slice_get (slice_set row i (Some v)))
+        (sym same) ∙ h in
         let y : v ≡ w = cc (set_here row i c (Some v) e) in
         subst (λ j. Holds o (put_element o m i v) j w) (sym same)
         (subst (λ w. Holds o (put_element o m i v) i w) y

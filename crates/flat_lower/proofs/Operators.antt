@@ -70,8 +70,12 @@ module _ (a b w : ℕ) (p : a < 2 ^ 64) (q : b < 2 ^ 64) where
     where
       go : (x : Bool) → nat_lt a b ≡ x → reduced m (pos a -ℤ pos b)
           ≡ cond x ((m - 1) - (b - a - 1) % m) ((a - b) % m)
-      go true e = let lt : a < b = grind (arith, nat_tests) in let z : pos a -ℤ pos b ≡ negsuc (b - a - 1) = omega (arith, ints) in ap (reduced m) z
-      go false e = let le : b ≤ a = grind (arith, nat_tests) in let z : pos a -ℤ pos b ≡ pos (a - b) = omega (arith, ints) in ap (reduced m) z
+      go true e =
+          let lt : a < b = grind (arith, nat_tests) in
+          let z : pos a -ℤ pos b ≡ negsuc (b - a - 1) = omega (arith, ints) in ap (reduced m) z
+      go false e =
+          let le : b ≤ a = grind (arith, nat_tests) in let z : pos a -ℤ pos b ≡ pos (a - b) = omega (arith, ints) in
+          ap (reduced m) z
 
   pub less_uint : reduced 4294967296 (pos a -ℤ pos b) ≡ ((a + (2 ^ 64 - b)) % 2 ^ 64) % 2 ^ 32
   less_uint = less 4294967296 ∙ go (nat_lt a b) refl
@@ -149,7 +153,10 @@ answered false w h = let e : 0 ≡ w = cc in record { is = e; fits = subst (IsWo
 
 -- whether two numbers are the same is told by their words
 zero_tells : (x y : ℤ) → (x ≡ y → is_zero (x -ℤ y) ≡ true) × (is_zero (x -ℤ y) ≡ true → x ≡ y)
-zero_tells x y = (λ e. subst (λ y. is_zero (x -ℤ y) ≡ true) e (zero_is (x -ℤ x) (omega (arith, ints))), λ h. let z = is_zero_is (x -ℤ y) h in omega (arith, ints))
+zero_tells x y = (
+  λ e. subst (λ y. is_zero (x -ℤ y) ≡ true) e (zero_is (x -ℤ x) (omega (arith, ints))),
+  λ h. let z = is_zero_is (x -ℤ y) h in omega (arith, ints),
+)
   where
     zero_is : (z : ℤ) → z ≡ pos 0 → is_zero z ≡ true
     zero_is z e = ap is_zero e
@@ -169,7 +176,8 @@ module _ (a b : ℕ) (p : a < 2 ^ 64) (q : b < 2 ^ 64) where
           let same : a ≡ b = grind (arith, nat_tests) in
           sym f ∙ (zero_tells (number k a) (number k b)).0 (ap (number k) same)
       go false e true f =
-          let same : a ≡ b = sym (word_number k a p) ∙ ap word ((zero_tells (number k a) (number k b)).1 f) ∙ word_number k b q in
+          let same : a ≡ b = sym (word_number k a p) ∙ ap word ((zero_tells (number k a) (number k b)).1 f)
+          ∙ word_number k b q in
           let t : nat_eq a b ≡ true = grind (arith, nat_tests) in
           sym t ∙ e
 
@@ -249,7 +257,9 @@ same_some x y h = cc h
 -- the word of a number of a long's range is one of a long
 pub long_word : (z r : ℤ) → Lies (negsuc 9223372036854775807) (pos 9223372036854775807) z r
     → IsWord Long (word z)
-long_word (pos n) r l = let a = l.above in let b = l.below in let h : n < 9223372036854775808 = omega (arith, ints) in record { below = omega arith; narrow = omega arith }
+long_word (pos n) r l =
+    let a = l.above in let b = l.below in let h : n < 9223372036854775808 = omega (arith, ints) in
+    record { below = omega arith; narrow = omega arith }
 long_word (negsuc n) r l = record { below = omega arith; narrow = omega arith }
 
 -- a quotient that is there is in its type, and its divisor is not 0
@@ -279,7 +289,8 @@ not_zero k b h = go (nat_eq b 0) refl
 
     go : (x : Bool) → nat_eq b 0 ≡ x → x ≡ false
     go false e = refl
-    go true e = let z : b ≡ 0 = grind (arith, nat_tests) in sym (zero_number k) ∙ ap (λ b. is_zero (number k b)) (sym z) ∙ h
+    go true e =
+        let z : b ≡ 0 = grind (arith, nat_tests) in sym (zero_number k) ∙ ap (λ b. is_zero (number k b)) (sym z) ∙ h
 
 -- what a division gives, whose divisor is not 0
 pub record Quotient (k : Kind) (b x w : ℕ) : Type 0 where
@@ -345,7 +356,8 @@ module _ (a b w : ℕ) where
       let x = word_of_is _ w h in
       let d = quotient_is Long (number Long a) (number Long b) x.0 x.1 in
       let z = not_zero Long b d.some in
-      let l = between_is (negsuc 9223372036854775807) (pos 9223372036854775807) (int_div (number Long a) (number Long b)) x.0 d.kept in
+      let l = between_is (negsuc 9223372036854775807) (pos 9223372036854775807)
+      (int_div (number Long a) (number Long b)) x.0 d.kept in
       record {
         some = z;
         gives = record {
@@ -483,7 +495,8 @@ module _ (a b w : ℕ) where
   remainder_gives UChar t f g h = absurd t
   remainder_gives Int t f g h =
       let x = word_of_is _ w h in
-      let r = provided_is (quotient Int (number Int a) (number Int b)) (int_rem (number Int a) (number Int b)) x.0 x.1 in
+      let r = provided_is (quotient Int (number Int a) (number Int b)) (int_rem (number Int a) (number Int b)) x.0
+      x.1 in
       let d = quotient_is Int (number Int a) (number Int b) r.0 r.1 in
       let z = not_zero Int b d.some in
       let l = between_is (negsuc 2147483647) (pos 2147483647) (int_div (number Int a) (number Int b)) r.0 d.kept in
@@ -500,7 +513,8 @@ module _ (a b w : ℕ) where
       }
   remainder_gives UInt t f g h =
       let x = word_of_is _ w h in
-      let r = provided_is (quotient UInt (number UInt a) (number UInt b)) (int_rem (number UInt a) (number UInt b)) x.0 x.1 in
+      let r = provided_is (quotient UInt (number UInt a) (number UInt b)) (int_rem (number UInt a) (number UInt b))
+      x.0 x.1 in
       let d = quotient_is UInt (number UInt a) (number UInt b) r.0 r.1 in
       let z = not_zero UInt b d.some in
       let e : a % b ≡ w = ap word (sym (natural_rem b z) ∙ r.2) ∙ x.2 in
@@ -515,10 +529,12 @@ module _ (a b w : ℕ) where
       }
   remainder_gives Long t f g h =
       let x = word_of_is _ w h in
-      let r = provided_is (quotient Long (number Long a) (number Long b)) (int_rem (number Long a) (number Long b)) x.0 x.1 in
+      let r = provided_is (quotient Long (number Long a) (number Long b)) (int_rem (number Long a) (number Long b))
+      x.0 x.1 in
       let d = quotient_is Long (number Long a) (number Long b) r.0 r.1 in
       let z = not_zero Long b d.some in
-      let l = between_is (negsuc 9223372036854775807) (pos 9223372036854775807) (int_div (number Long a) (number Long b)) r.0 d.kept in
+      let l = between_is (negsuc 9223372036854775807) (pos 9223372036854775807)
+      (int_div (number Long a) (number Long b)) r.0 d.kept in
       let e = signed_remainder Long x.0 f.below g.below (fits_long _ _ l) d.some z r.2 x.2 in
       record {
         some = z;
@@ -529,7 +545,8 @@ module _ (a b w : ℕ) where
       }
   remainder_gives ULong t f g h =
       let x = word_of_is _ w h in
-      let r = provided_is (quotient ULong (number ULong a) (number ULong b)) (int_rem (number ULong a) (number ULong b)) x.0 x.1 in
+      let r = provided_is (quotient ULong (number ULong a) (number ULong b))
+      (int_rem (number ULong a) (number ULong b)) x.0 x.1 in
       let d = quotient_is ULong (number ULong a) (number ULong b) r.0 r.1 in
       let z = not_zero ULong b d.some in
       let e : a % b ≡ w = ap word (sym (natural_rem b z) ∙ r.2) ∙ x.2 in

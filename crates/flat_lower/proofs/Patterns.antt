@@ -45,7 +45,8 @@ module _ (f : ℕ → ℕ → ℕ)
     → f (a * 2 ^ k + r) (b * 2 ^ k + s) ≡ f a b * 2 ^ k + f r s)
     (below : (k a b : ℕ) → a < 2 ^ k → b < 2 ^ k → f a b < 2 ^ k)
     (none : f 0 0 ≡ 0) (left : (f 8589934591 0 ≡ 0) ⊎ (f 8589934591 0 ≡ 8589934591))
-    (right : (f 0 8589934591 ≡ 0) ⊎ (f 0 8589934591 ≡ 8589934591)) (both : (f 8589934591 8589934591 ≡ 0) ⊎ (f 8589934591 8589934591 ≡ 8589934591)) where
+    (right : (f 0 8589934591 ≡ 0) ⊎ (f 0 8589934591 ≡ 8589934591)) (both : (f 8589934591 8589934591 ≡ 0)
+    ⊎ (f 8589934591 8589934591 ≡ 8589934591)) where
   high : (a b : ℕ) → f a b / 2147483648 ≡ f (a / 2147483648) (b / 2147483648)
   high a b =
       let r = a % 2147483648 in
@@ -53,7 +54,8 @@ module _ (f : ℕ → ℕ → ℕ)
       let ea : a ≡ a / 2147483648 * 2 ^ 31 + r = omega arith in
       let eb : b ≡ b / 2147483648 * 2 ^ 31 + s = omega arith in
       let l = below 31 r s (omega arith) (omega arith) in
-      let e : f a b ≡ f (a / 2147483648) (b / 2147483648) * 2 ^ 31 + f r s = ap₂ f ea eb ∙ block 31 (a / 2147483648) (b / 2147483648) r s (omega arith) (omega arith) in
+      let e : f a b ≡ f (a / 2147483648) (b / 2147483648) * 2 ^ 31 + f r s = ap₂ f ea eb ∙ block 31 (a / 2147483648)
+      (b / 2147483648) r s (omega arith) (omega arith) in
       omega arith
 
   narrow_from : (r : ℕ) → r < 2 ^ 64 → ((r / 2147483648 ≡ 0) ⊎ (r / 2147483648 ≡ 8589934591))
@@ -96,7 +98,8 @@ module _ (f : ℕ → ℕ → ℕ)
   bits_give k t a b w x y h =
       let c = closes k t a b x y in
       let e : word (number k (f (word (number k a)) (word (number k b)))) ≡ w = cc in
-      let g : f a b ≡ w = sym (word_number k (f a b) c.below) ∙ ap (λ v. word (number k v)) (ap₂ f (sym (word_number k a x.below)) (sym (word_number k b y.below))) ∙ e in
+      let g : f a b ≡ w = sym (word_number k (f a b) c.below) ∙ ap (λ v. word (number k v))
+      (ap₂ f (sym (word_number k a x.below)) (sym (word_number k b y.below))) ∙ e in
       record { is = g; fits = subst (IsWord k) g c }
 
 module _ (k : Kind) (t : IsArithmetic k) (a b w : ℕ) (x : IsWord k a) (y : IsWord k b) where
@@ -292,7 +295,8 @@ module _ (a w : ℕ) where
   minus_gives Int t f h =
       let x = word_of_is _ w h in
       let l = between_is _ _ _ _ x.1 in
-      let e : (0 + (2 ^ 64 - a)) % 2 ^ 64 ≡ w = sub_word 0 a (omega arith) f.below (fits_int _ _ l) ∙ ap word l.is ∙ x.2 in
+      let e : (0 + (2 ^ 64 - a)) % 2 ^ 64 ≡ w = sub_word 0 a (omega arith) f.below (fits_int _ _ l) ∙ ap word l.is
+      ∙ x.2 in
       record { is = e; fits = subst (IsWord Int) (ap word l.is ∙ x.2) (narrow_int _ _ l) }
   minus_gives UInt t f h =
       let e : reduced 4294967296 (pos 0 -ℤ pos a) ≡ w = cc in
@@ -301,7 +305,8 @@ module _ (a w : ℕ) where
   minus_gives Long t f h =
       let x = word_of_is _ w h in
       let l = between_is _ _ _ _ x.1 in
-      let e : (0 + (2 ^ 64 - a)) % 2 ^ 64 ≡ w = sub_word 0 a (omega arith) f.below (fits_long _ _ l) ∙ ap word l.is ∙ x.2 in
+      let e : (0 + (2 ^ 64 - a)) % 2 ^ 64 ≡ w = sub_word 0 a (omega arith) f.below (fits_long _ _ l) ∙ ap word l.is
+      ∙ x.2 in
       record { is = e; fits = record { below = omega arith; narrow = omega arith } }
   minus_gives ULong t f h =
       let e : reduced 18446744073709551616 (pos 0 -ℤ pos a) ≡ w = cc in
@@ -321,7 +326,8 @@ module _ (a w : ℕ) where
   complement_gives Int t f h =
       let x = word_of_is _ w h in
       let l = between_is _ _ _ _ x.1 in
-      let e : (18446744073709551615 + (2 ^ 64 - a)) % 2 ^ 64 ≡ w = sub_word 18446744073709551615 a (omega arith) f.below (fits_int _ _ l) ∙ ap word l.is ∙ x.2 in
+      let e : (18446744073709551615 + (2 ^ 64 - a)) % 2 ^ 64 ≡ w = sub_word 18446744073709551615 a
+      (omega arith) f.below (fits_int _ _ l) ∙ ap word l.is ∙ x.2 in
       record { is = e; fits = subst (IsWord Int) (ap word l.is ∙ x.2) (narrow_int _ _ l) }
   complement_gives UInt t f h =
       let lt = f.below in
@@ -331,7 +337,8 @@ module _ (a w : ℕ) where
   complement_gives Long t f h =
       let x = word_of_is _ w h in
       let l = between_is _ _ _ _ x.1 in
-      let e : (18446744073709551615 + (2 ^ 64 - a)) % 2 ^ 64 ≡ w = sub_word 18446744073709551615 a (omega arith) f.below (fits_long _ _ l) ∙ ap word l.is ∙ x.2 in
+      let e : (18446744073709551615 + (2 ^ 64 - a)) % 2 ^ 64 ≡ w = sub_word 18446744073709551615 a
+      (omega arith) f.below (fits_long _ _ l) ∙ ap word l.is ∙ x.2 in
       record { is = e; fits = record { below = omega arith; narrow = omega arith } }
   complement_gives ULong t f h =
       let lt = f.below in
@@ -366,4 +373,6 @@ module _ (a w : ℕ) where
 
   pub plus_gives : (k : Kind) → IsWord k a → operate_one Plus k a ≡ Some w → Gives k a w
   unfolding operate_one
-  plus_gives k f h = let e : word (number k a) ≡ w = cc in record { is = sym (word_number k a f.below) ∙ e; fits = subst (IsWord k) (sym (word_number k a f.below) ∙ e) f }
+  plus_gives k f h =
+      let e : word (number k a) ≡ w = cc in
+      record { is = sym (word_number k a f.below) ∙ e; fits = subst (IsWord k) (sym (word_number k a f.below) ∙ e) f }

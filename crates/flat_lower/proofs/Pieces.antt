@@ -104,7 +104,9 @@ module _ (P : TypedProgram) (fs : List Function) (base : ℕ) where
         };
         sum = λ to v w nv h.
             let p = puts_frame S.env f 81 81 off in
-            let q = puts_let fs base S.env op.Add (Var v) (Var 81) p.to 1 to 81 w at ((w + at) % 2 ^ 64) (omega arith) (var_read fs base S.env p.to v w (p.sets.others v nv nv ∙ h)) (var_read fs base S.env p.to 81 at p.sets.value) refl in
+            let q = puts_let fs base S.env op.Add (Var v) (Var 81) p.to 1 to 81 w at ((w + at) % 2 ^ 64) (omega arith)
+            (var_read fs base S.env p.to v w (p.sets.others v nv nv ∙ h))
+            (var_read fs base S.env p.to 81 at p.sets.value) refl in
             puts_spare fs base S.env (only (Frame 81 off))
             (only (Let to op.Add (Var v) (Var 81))) f 1 1 to 81 at ((w + at) % 2 ^ 64) p q;
         whole = λ to spare. puts_frame S.env f to spare off;
@@ -191,7 +193,8 @@ module _ (P : TypedProgram) (fs : List Function) (base : ℕ) where
       (omega arith) (sum_puts S y p k n s f r t h o to x w nx e)
   address_by_puts S y p k n (suc m) s f r t h o to x w lt nt nx e =
       let v = (w * 2 ^ (suc m % 64)) % 2 ^ 64 in
-      let a = puts_let fs base S.env op.Sll (Var x) (Const (suc m)) f 1 to 81 w (suc m) v (omega arith) (var_read fs base S.env f x w e) refl refl in
+      let a = puts_let fs base S.env op.Sll (Var x) (Const (suc m)) f 1 to 81 w (suc m) v (omega arith)
+      (var_read fs base S.env f x w e) refl refl in
       let ra = sets_unseen S y s f a.to to 81 v lt (omega arith) a.sets r in
       puts_both fs base S.env (only (Let to op.Sll (Var x) (Const (suc m))))
       (based (context P S) p to to) f 1 2 to 81 v ((v + o.it.at) % 2 ^ 64) a

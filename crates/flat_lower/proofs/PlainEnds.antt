@@ -176,7 +176,10 @@ module _ (P : TypedProgram) (most : ℕ) (S : Scene) (y : IsScene P S) where
   short_ends i b at l e s f top low q nl z t r hu hl =
       let c = only (Let i op.Mov b (Const 0)) in
       let el : expr_of l ≡ tree.Name l.kind (Scalar i) = expr_is l ∙ ap (λ x. plain_node x l.kind) nl in
-      let t1 : FitsExpr (scope P S) 0 (tree.Assign q None at (tree.Name l.kind (Scalar i)) (plain_node (node_of e) e.kind)) = subst (λ x. FitsExpr (scope P S) 0 (tree.Assign q None at (tree.Name l.kind (Scalar i)) x)) (expr_is e) (subst (λ x. FitsExpr (scope P S) 0 (tree.Assign q None at x (expr_of e))) el t) in
+      let t1 : FitsExpr (scope P S) 0 (tree.Assign q None at (tree.Name l.kind (Scalar i))
+      (plain_node (node_of e) e.kind)) = subst
+      (λ x. FitsExpr (scope P S) 0 (tree.Assign q None at (tree.Name l.kind (Scalar i)) x)) (expr_is e)
+      (subst (λ x. FitsExpr (scope P S) 0 (tree.Assign q None at x (expr_of e))) el t) in
       let k = kinds q l.kind e.kind i at (node_of e) t1 in
       let one : nodes (expr_of e) ≡ 1 = ap nodes (expr_is e) ∙ simple_nodes (node_of e) b e.kind z in
       let next = λ (s : eval.State). then (meaning P (Of e) s) (assigned (InScalar i)) in

@@ -179,7 +179,8 @@ scalar_set S y s f i w k c e g fits r = record {
     go j v x ej hj true q =
         let same : j ≡ i = grind (arith, nat_tests) in
         let slots : x ≡ slot.Scalar k = cc (ap (slice_get S.func.scalars) same) in
-        let here : slice_get (slice_set s.scalars i (Some w)) i ≡ Some (Some v) = ap (slice_get (slice_set s.scalars i (Some w))) (sym same) ∙ hj in
+        let here : slice_get (slice_set s.scalars i (Some w)) i ≡ Some (Some v) =
+        ap (slice_get (slice_set s.scalars i (Some w))) (sym same) ∙ hj in
         let words : w ≡ v = cc (set_here s.scalars i c (Some w) g) in
         subst (λ x. IsScalar S.objects x v (var_put f.vars i (Some w) j)) (sym slots) (
           ap (var_put f.vars i (Some w)) same ∙ put_at f.vars i (Some w) ∙ ap Some words,
@@ -209,7 +210,8 @@ scalar_unset S s f i c g r = record {
         → IsScalar S.objects x v (f.vars j)
     go j v x ej hj true q =
         let same : j ≡ i = grind (arith, nat_tests) in
-        let here : slice_get (slice_set s.scalars i None) i ≡ Some (Some v) = ap (slice_get (slice_set s.scalars i None)) (sym same) ∙ hj in
+        let here : slice_get (slice_set s.scalars i None) i ≡ Some (Some v) =
+        ap (slice_get (slice_set s.scalars i None)) (sym same) ∙ hj in
         absurd (cc (set_here s.scalars i c None g))
     go j v x ej hj false q =
         let other : j ≢ i = grind (arith, nat_tests) in

@@ -98,7 +98,10 @@ module _ (P : TypedProgram) (most : ℕ) where
   -- a function of the program in its lowered form
   pub function_at : (j : ℕ) (f : TypedFunc) → slice_get P.functions j ≡ Some f
       → slice_get (functions P most) j ≡ Some (lowered_func P.globals (nat_eq j P.main) (func_of f))
-  function_at j f h = let z : 0 + j ≡ j = omega arith in lowered_at P.globals P.main 0 j P.functions f h ∙ ap (λ m. Some (lowered_func P.globals (nat_eq m P.main) (func_of f))) z
+  function_at j f h =
+      let z : 0 + j ≡ j = omega arith in
+      lowered_at P.globals P.main 0 j P.functions f h
+      ∙ ap (λ m. Some (lowered_func P.globals (nat_eq m P.main) (func_of f))) z
 
   abbrev pub lowered_of : TypedFunc → Bool → Function
   lowered_of f is_main = lowered_func P.globals is_main (func_of f)
@@ -177,7 +180,8 @@ module _ (P : TypedProgram) (most : ℕ) where
           ∙ ap (closing own called.arrays) (l.by d i le lt);
     }
 
-  module _ (S : Scene) (y : IsScene P S) (j : ℕ) (f : TypedFunc) (found : slice_get P.functions j ≡ Some f) (vs : List ℕ) (g : State) where
+  module _ (S : Scene) (y : IsScene P S) (j : ℕ) (f : TypedFunc) (found : slice_get P.functions j ≡ Some f)
+      (vs : List ℕ) (g : State) where
     abbrev F : Function
     F = lowered_of f (nat_eq j P.main)
 
@@ -212,7 +216,9 @@ module _ (P : TypedProgram) (most : ℕ) where
     returns s s2 h d to o ht ld r q =
         let own = own_objects at f.arrays in
         let n : length s.arrays ≡ length S.objects = all_length S.objects s.arrays g.memory r.stored in
-        let st : AllStored S.objects (take (length s.arrays) s2.arrays) h.memory = subst (λ n. AllStored S.objects (take n s2.arrays) h.memory) (sym n) (all_first S.objects own s2.arrays h.memory q.stored) in
+        let st : AllStored S.objects (take (length s.arrays) s2.arrays) h.memory = subst
+        (λ n. AllStored S.objects (take n s2.arrays) h.memory) (sym n)
+        (all_first S.objects own s2.arrays h.memory q.stored) in
         record {
           rel = record {
             scalars = λ i w x e k.

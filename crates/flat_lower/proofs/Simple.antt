@@ -104,7 +104,12 @@ module _ (P : TypedProgram) (most : ℕ) (S : Scene) (y : IsScene P S) where
       → GlobalIs (scope P S) g k None → held (cell s (InArray g 0)) ≡ Some w → Related S s f
       → (cells.load checked (load_op k) f.memory (global_at P.globals g) ≡ Some w) × IsWord k w
   global_loaded g w k s f x h r =
-      let o : ObjectIs S.objects g k = record { it = object (global_at P.globals g) x.global.kind (length_of x.global.length); found = y.globals g x.global x.found; kind = x.kind } in
+      let o : ObjectIs S.objects g k = record {
+        it = object (global_at P.globals g) x.global.kind
+            (length_of x.global.length);
+        found = y.globals g x.global x.found;
+        kind = x.kind;
+      } in
       let v = element_holds S s f g 0 w k o h r in
       let e : element_at o.it 0 ≡ global_at P.globals g = omega arith in (
         ap (λ k. cells.load checked (load_op k) f.memory (global_at P.globals g)) (sym x.kind)
@@ -205,7 +210,8 @@ module _ (P : TypedProgram) (most : ℕ) (S : Scene) (y : IsScene P S) where
           let fits : IsWord j a = subst (λ k. IsWord k a) (sym (same ∙ kinds)) v.fits in
           needed most (Valued S d (Some k) f) (run P most S y (unary_code o j (temp d)) g) up low
           (operate_one o j1 a) s1 (λ w. Go (Value w) s1) (λ w ew.
-          let x = unary_works (functions P most) (base P most) S.env o j g (temp d) a w t.0 v.is fits (ap (λ j. operate_one o j a) same ∙ ew) in
+          let x = unary_works (functions P most) (base P most) S.env o j g (temp d) a w t.0 v.is fits
+          (ap (λ j. operate_one o j a) same ∙ ew) in
           value_end P most S y d (Some k) f g (unary_code o j (temp d)) 3 80 w up low s1 k ld
           (omega arith) refl (subst (λ k. IsWord k w) (sym t.1) x.fits) v.keeps x.puts hu hl)
 
@@ -287,9 +293,12 @@ module _ (P : TypedProgram) (most : ℕ) (S : Scene) (y : IsScene P S) where
       (needed most (Valued S d (Some k) f0) (run P most S y (Then a l) g) top low
       (held (cell s (InArray i.number w))) s (λ u. Go (Value u) s) (λ u eu.
       let o = (place_is P fs b S y p k i.number s g v.keeps.rel t i.array).array in
-      let pa = address_puts P fs b S y p k i.number s g v.keeps.rel t i.array o (temp d) (temp d) w (omega arith) (λ e. omega arith) (λ e. omega arith) v.is in
-      let z = element_loaded p k i.number w u (addressed P fs b k w o.it.at) s g pa.to o eu v.keeps.rel refl pa.sets.memory in
-      let pl = puts_load P fs b S.env (load_op k) (Var (temp d)) pa.to (temp d) 81 (addressed P fs b k w o.it.at) u (var_read fs b S.env pa.to (temp d) (addressed P fs b k w o.it.at) pa.sets.value) z.0 in
+      let pa = address_puts P fs b S y p k i.number s g v.keeps.rel t i.array o (temp d) (temp d) w (omega arith)
+      (λ e. omega arith) (λ e. omega arith) v.is in
+      let z = element_loaded p k i.number w u (addressed P fs b k w o.it.at) s g pa.to o eu v.keeps.rel refl
+      pa.sets.memory in
+      let pl = puts_load P fs b S.env (load_op k) (Var (temp d)) pa.to (temp d) 81 (addressed P fs b k w o.it.at) u
+      (var_read fs b S.env pa.to (temp d) (addressed P fs b k w o.it.at) pa.sets.value) z.0 in
       value_end P most S y d (Some k) f0 g (Then a l) 4 81 u top low s k ld
       (omega arith) refl z.1 v.keeps
       (puts_both fs b S.env a l g 3 1 (temp d) 81 (addressed P fs b k w o.it.at) u pa pl) hu hl)))

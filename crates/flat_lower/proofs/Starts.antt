@@ -54,7 +54,10 @@ objects_laid lo (g ∷ gs) h =
     let x = global_room g in
     let w = global_whole g in
     let e : lo + global_bytes g + room_of gs ≡ lo + (global_bytes g + room_of gs) = omega arith in
-    let rest : Laid (lo + global_bytes g) (lo + (global_bytes g + room_of gs)) (objects_from (lo + global_bytes g) gs) = subst (λ hi. Laid (lo + global_bytes g) hi (objects_from (lo + global_bytes g) gs)) e (objects_laid (lo + global_bytes g) gs (omega arith)) in (
+    let rest : Laid (lo + global_bytes g) (lo + (global_bytes g + room_of gs))
+    (objects_from (lo + global_bytes g) gs) = subst
+    (λ hi. Laid (lo + global_bytes g) hi (objects_from (lo + global_bytes g) gs)) e
+    (objects_laid (lo + global_bytes g) gs (omega arith)) in (
       omega arith,
       h,
       laid_lower (lo + global_bytes g) (lo + bytes g.kind * length_of g.length)
@@ -72,7 +75,8 @@ objects_at lo (x ∷ gs) zero g h =
     ap Some (ap (λ (x : TypedGlobal). object lo x.kind (length_of x.length)) e
     ∙ ap (λ at. object at g.kind (length_of g.length)) z)
 objects_at lo (x ∷ gs) (suc n) g h =
-    let z : lo + global_bytes x + bytes_before (map global_bytes gs) n ≡ lo + (global_bytes x + bytes_before (map global_bytes gs) n) = omega arith in
+    let z : lo + global_bytes x + bytes_before (map global_bytes gs) n
+    ≡ lo + (global_bytes x + bytes_before (map global_bytes gs) n) = omega arith in
     objects_at (lo + global_bytes x) gs n g h
     ∙ ap (λ at. Some (object at g.kind (length_of g.length))) z
 
@@ -130,7 +134,8 @@ module _ (P : TypedProgram) (sound : FitsSource (source_of P)) where
   }
 
   frames_is : frames_from P ≡ room_of P.globals
-  frames_is = let w = room_whole P.globals in ap rounded (images_length P.globals sound.globals) ∙ go (room_of P.globals) w
+  frames_is =
+      let w = room_whole P.globals in ap rounded (images_length P.globals sound.globals) ∙ go (room_of P.globals) w
     where
       go : (n : ℕ) → n % 8 ≡ 0 → rounded n ≡ n
       go n h = omega arith
@@ -146,7 +151,11 @@ module _ (P : TypedProgram) (sound : FitsSource (source_of P)) where
         room = omega (arith, sound.room);
         few = omega arith;
         words = refl;
-        globals = λ g x h. let z : 0 + bytes_before (map global_bytes P.globals) g ≡ bytes_before (map global_bytes P.globals) g = omega arith in objects_at 0 P.globals g x h ∙ ap (λ at. Some (object at x.kind (length_of x.length))) z;
+        globals =
+            λ g x h.
+            let z : 0 + bytes_before (map global_bytes P.globals) g ≡ bytes_before (map global_bytes P.globals) g =
+            omega arith in objects_at 0 P.globals g x h
+            ∙ ap (λ at. Some (object at x.kind (length_of x.length))) z;
         arrays = λ a x h. absurd (cc h);
       }
 

@@ -354,9 +354,12 @@ module _ (fs : List Function) (base : ℕ) (e : Env) where
       let q = alu_of o a b in
       let p1 = puts_let o (Var x) (Var y) f 1 80 80 a b q (omega arith) (var_read f x a hx) (var_read f y b hy) ho in
       let y1 = p1.sets.others y ny ny ∙ hy in
-      let p2 = puts_let op.Mul (Var 80) (Var y) p1.to 1 80 80 q b ((q * b) % 2 ^ 64) (omega arith) (var_read p1.to 80 q p1.sets.value) (var_read p1.to y b y1) refl in
+      let p2 = puts_let op.Mul (Var 80) (Var y) p1.to 1 80 80 q b ((q * b) % 2 ^ 64) (omega arith)
+      (var_read p1.to 80 q p1.sets.value) (var_read p1.to y b y1) refl in
       let x2 = p2.sets.others x nx nx ∙ p1.sets.others x nx nx ∙ hx in
-      let p3 = puts_let op.Sub (Var x) (Var 80) p2.to 1 x 80 a ((q * b) % 2 ^ 64) ((a + (2 ^ 64 - (q * b) % 2 ^ 64)) % 2 ^ 64) (omega arith) (var_read p2.to x a x2) (var_read p2.to 80 ((q * b) % 2 ^ 64) p2.sets.value) refl in
+      let p3 = puts_let op.Sub (Var x) (Var 80) p2.to 1 x 80 a ((q * b) % 2 ^ 64)
+      ((a + (2 ^ 64 - (q * b) % 2 ^ 64)) % 2 ^ 64) (omega arith) (var_read p2.to x a x2)
+      (var_read p2.to 80 ((q * b) % 2 ^ 64) p2.sets.value) refl in
       puts_spare (two_done 80 o x y) (Then (two_done 80 op.Mul 80 y) (two_done x op.Sub x 80)) f 1 2
       x 80 q ((a + (2 ^ 64 - (q * b) % 2 ^ 64)) % 2 ^ 64) p1
       (puts_spare (two_done 80 op.Mul 80 y) (two_done x op.Sub x 80) p1.to 1 1 x 80
@@ -590,12 +593,18 @@ module _ (fs : List Function) (base : ℕ) (e : Env) where
       (e ∙ g.is ∙ sym (converted_is ULong b.middle g.fits) ∙ b.is))
 
   bump_fits : (o : BumpOp) (k : Kind) (old w : ℕ) → old < 2 ^ 64 → Bumped o k old w → IsWord k w
-  bump_fits o Char old w p b = let g = bump_gives o Int old b.middle p tt b.done in subst (IsWord Char) b.is (converted_word Char b.middle)
-  bump_fits o UChar old w p b = let g = bump_gives o Int old b.middle p tt b.done in subst (IsWord UChar) b.is (converted_word UChar b.middle)
-  bump_fits o Int old w p b = let g = bump_gives o Int old b.middle p tt b.done in subst (IsWord Int) b.is (converted_word Int b.middle)
-  bump_fits o UInt old w p b = let g = bump_gives o UInt old b.middle p tt b.done in subst (IsWord UInt) b.is (converted_word UInt b.middle)
-  bump_fits o Long old w p b = let g = bump_gives o Long old b.middle p tt b.done in subst (IsWord Long) b.is (converted_word Long b.middle)
-  bump_fits o ULong old w p b = let g = bump_gives o ULong old b.middle p tt b.done in subst (IsWord ULong) b.is (converted_word ULong b.middle)
+  bump_fits o Char old w p b =
+      let g = bump_gives o Int old b.middle p tt b.done in subst (IsWord Char) b.is (converted_word Char b.middle)
+  bump_fits o UChar old w p b =
+      let g = bump_gives o Int old b.middle p tt b.done in subst (IsWord UChar) b.is (converted_word UChar b.middle)
+  bump_fits o Int old w p b =
+      let g = bump_gives o Int old b.middle p tt b.done in subst (IsWord Int) b.is (converted_word Int b.middle)
+  bump_fits o UInt old w p b =
+      let g = bump_gives o UInt old b.middle p tt b.done in subst (IsWord UInt) b.is (converted_word UInt b.middle)
+  bump_fits o Long old w p b =
+      let g = bump_gives o Long old b.middle p tt b.done in subst (IsWord Long) b.is (converted_word Long b.middle)
+  bump_fits o ULong old w p b =
+      let g = bump_gives o ULong old b.middle p tt b.done in subst (IsWord ULong) b.is (converted_word ULong b.middle)
 
   -- one more or one less of x, in another variable or its own, in at most two turns
   pub bump_works : (o : BumpOp) (k : Kind) (f : State) (spare to x old w : ℕ) → f.vars x ≡ Some old

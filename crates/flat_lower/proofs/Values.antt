@@ -39,7 +39,8 @@ pub record KeptIs (S : Scene) (d : ℕ) (f0 : State) (s : eval.State) (f : State
   pub kept : (j : ℕ) → j < d → f.vars (temp j) ≡ f0.vars (temp j)
 
 -- and temporary d has a value of a kind
-pub record ValueIs (S : Scene) (d : ℕ) (k : Option Kind) (f0 : State) (w : ℕ) (s : eval.State) (f : State) : Type 0 where
+pub record ValueIs (S : Scene) (d : ℕ) (k : Option Kind) (f0 : State) (w : ℕ) (s : eval.State)
+    (f : State) : Type 0 where
   pub keeps : KeptIs S d f0 s f
   pub kind : Kind
   pub is_kind : k ≡ Some kind

@@ -84,7 +84,9 @@ Ends most n run (Over Deep s) = Dived n run s.output
 more_rounds : (most r : ℕ) → most * (r + 1) ≡ most + most * r
 more_rounds most r = let e : r + 1 ≡ suc r = omega arith in ap (λ n. most * n) e ∙ mul-suc most r ∙ omega arith
 
-module _ (P : TypedProgram) (most : ℕ) (sound : FitsSource (source_of P)) (large : IsMost (source_of P) most) (input : List ℕ) (bytes : IsInput input) (f : TypedFunc) (found : slice_get P.functions P.main ≡ Some f) (result : f.result ≡ Some Int) (params : f.params ≡ 0) where
+module _ (P : TypedProgram) (most : ℕ) (sound : FitsSource (source_of P)) (large : IsMost (source_of P) most)
+    (input : List ℕ) (bytes : IsInput input) (f : TypedFunc) (found : slice_get P.functions P.main ≡ Some f)
+    (result : f.result ≡ Some Int) (params : f.params ≡ 0) where
   abbrev S0 : Scene
   S0 = first_scene P sound f
 
@@ -133,8 +135,11 @@ module _ (P : TypedProgram) (most : ℕ) (sound : FitsSource (source_of P)) (lar
         → Ends most (suc n) main_run (then r
         (left true [] (length (evaluation.start P input n).arrays) 0 0))
     comes_out (Go Nothing s) h =
-        let end = both_lead checked (functions P most) (base P most) env B (only (flat.Return (Some (Const 0)))) first h.to h.t 1 (Gave (Some 0) h.to) h.leads (return_leads checked (functions P most) (base P most) env (Const 0) h.to 0 refl) in
-        let whole : Leads (inner F.body) (h.t + 1) (Gave (Some 0) h.to) = subst (λ b. Leads (inner (Then B (end_code b))) (h.t + 1) (Gave (Some 0) h.to)) (sym is_main) end in
+        let end = both_lead checked (functions P most) (base P most) env B (only (flat.Return (Some (Const 0)))) first
+        h.to h.t 1 (Gave (Some 0) h.to) h.leads (return_leads checked (functions P most) (base P most) env
+        (Const 0) h.to 0 refl) in
+        let whole : Leads (inner F.body) (h.t + 1) (Gave (Some 0) h.to) = subst
+        (λ b. Leads (inner (Then B (end_code b))) (h.t + 1) (Gave (Some 0) h.to)) (sym is_main) end in
         let m = more_rounds most h.to.rounds in
         let z = size in
         record {
@@ -152,7 +157,8 @@ module _ (P : TypedProgram) (most : ℕ) (sound : FitsSource (source_of P)) (lar
     comes_out (Go Continues s) h = tt
     comes_out (Go (Returns None) s) h = absurd (none_is h.holds.1)
     comes_out (Go (Returns (Some w)) s) h =
-        let end = first_leads checked (functions P most) (base P most) env B (end_code (nat_eq P.main P.main)) first h.t (Gave (Some w) h.to) (λ k next. refl) h.leads in
+        let end = first_leads checked (functions P most) (base P most) env B
+        (end_code (nat_eq P.main P.main)) first h.t (Gave (Some w) h.to) (λ k next. refl) h.leads in
         let m = more_rounds most h.to.rounds in
         let z = size in
         record {
@@ -192,23 +198,29 @@ module _ (P : TypedProgram) (most : ℕ) (sound : FitsSource (source_of P)) (lar
   main_enters : (n : ℕ) (b : Bool) → nat_le (0 + frame f) 1048576 ≡ b
       → Ends most (suc n) main_run (entered_if (meaning P) true b f [] (evaluation.start P input n))
   main_enters n false e =
-      let same : 0 + frame f ≡ 0 + frame_of F = ap (λ n. 0 + n) (frame_is P f F (lowered_is P most f (nat_eq P.main P.main))) in
-      let full : nat_lt frame_limit (0 + frame_of F) ≡ true = subst (λ m. nat_lt m (0 + frame_of F) ≡ true) (sym limit) (beyond (0 + frame_of F) 1048576 (subst (λ x. nat_le x 1048576 ≡ false) same e)) in
+      let same : 0 + frame f ≡ 0 + frame_of F = ap (λ n. 0 + n)
+      (frame_is P f F (lowered_is P most f (nat_eq P.main P.main))) in
+      let full : nat_lt frame_limit (0 + frame_of F) ≡ true = subst (λ m. nat_lt m (0 + frame_of F) ≡ true)
+      (sym limit) (beyond (0 + frame_of F) 1048576 (subst (λ x. nat_le x 1048576 ≡ false) same e)) in
       record { t = 1; upper = omega arith; leads = call_dives P most 0 P.main f found [] g0 full }
   main_enters n true e =
       let is = lowered_is P most f (nat_eq P.main P.main) in
-      let fits : FitsFunc (source_of P) (func_of f) = sound.each P.main (func_of f) (func_at P.functions P.main f found) in
+      let fits : FitsFunc (source_of P) (func_of f) = sound.each P.main (func_of f)
+      (func_at P.functions P.main f found) in
       let few = fits.scalars in
       let z = size in
       let same : 0 + frame f ≡ 0 + frame_of F = ap (λ n. 0 + n) (frame_is P f F is) in
       let below : nat_le (0 + frame_of F) 1048576 ≡ true = subst (λ x. nat_le x 1048576 ≡ true) same e in
-      let room : nat_lt frame_limit (0 + frame_of F) ≡ false = subst (λ m. nat_lt m (0 + frame_of F) ≡ false) (sym limit) (within (0 + frame_of F) 1048576 below) in
-      let le : 0 + frame_of F ≤ frame_limit = subst (λ m. 0 + frame_of F ≤ m) (sym limit) (under (0 + frame_of F) 1048576 below) in
+      let room : nat_lt frame_limit (0 + frame_of F) ≡ false = subst (λ m. nat_lt m (0 + frame_of F) ≡ false)
+      (sym limit) (within (0 + frame_of F) 1048576 below) in
+      let le : 0 + frame_of F ≤ frame_limit = subst (λ m. 0 + frame_of F ≤ m) (sym limit)
+      (under (0 + frame_of F) 1048576 below) in
       let all = sound.room in
       let s = evaluation.start P input n in
       let y0 = first_is P sound f in
       let y1 = called_is P S0 y0 f F is few (omega arith) in
-      let rel = begins P S0 y0 f F is [] [] s g0 (omega arith) (no_args f.scalars f.params params) (first_related P sound f input n bytes) in
+      let rel = begins P S0 y0 f F is [] [] s g0 (omega arith) (no_args f.scalars f.params params)
+      (first_related P sound f input n bytes) in
       comes_out room n (meaning P (task.Run f.body) (entered f [] s))
       (runs_follow P most sound large f.body (entered f [] s) S1 y1 (8 * n + 4)
       (n - size_of (stmt_of f.body)) first fits.body (omega arith) rel (omega arith)

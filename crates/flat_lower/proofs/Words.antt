@@ -76,8 +76,12 @@ fits_long z r l = let a = l.above in let b = l.below in omega (arith, ints)
 
 -- the word of a number of an int's range is one of an int
 pub narrow_int : (z r : ℤ) → Lies (negsuc 2147483647) (pos 2147483647) z r → IsWord Int (word z)
-narrow_int (pos n) r l = let a = l.above in let b = l.below in let h : n < 2147483648 = omega (arith, ints) in record { below = omega arith; narrow = omega arith }
-narrow_int (negsuc n) r l = let a = l.above in let b = l.below in let h : n < 2147483648 = omega (arith, ints) in record { below = omega (arith, ints); narrow = omega (arith, ints) }
+narrow_int (pos n) r l =
+    let a = l.above in let b = l.below in let h : n < 2147483648 = omega (arith, ints) in
+    record { below = omega arith; narrow = omega arith }
+narrow_int (negsuc n) r l =
+    let a = l.above in let b = l.below in let h : n < 2147483648 = omega (arith, ints) in
+    record { below = omega (arith, ints); narrow = omega (arith, ints) }
 
 -- CONVERSIONS
 

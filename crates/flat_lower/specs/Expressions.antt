@@ -180,6 +180,7 @@ operand_at LogicalOr d = d
 operand_at o d = suc d
 
 abbrev mutual
+  -- the code that leaves the value of an expression in temporary d
   pub expr_code : Context → ℕ → Expr → Code
   expr_code c d (Number k w) = set_word (temp d) w
   expr_code c d (Name k p) = with_kind k (name_code c p (temp d))
@@ -205,6 +206,7 @@ abbrev mutual
   index_code c d (Element k p index) = expr_code c d index
   index_code c d _ = Nop
 
+  -- the code that leaves the values of the arguments in the temporaries from d on
   pub args_code : Context → ℕ → Exprs → Code
   args_code c d NoExprs = Nop
   args_code c d (WithExpr e rest) = Then (expr_code c d e) (args_code c (suc d) rest)

@@ -19,11 +19,11 @@ use Rattle.ir_forms.specs.FlatCode.{Code, Nop, Then, only, Let}
 
 -- VARIABLES
 
--- the variable of a temporary
+-- the variable of a temporary, behind those of the scalars, of which there are at most 64
 abbrev pub temp : ℕ → ℕ
 temp d = 64 + d
 
--- a scratch variable holds only between two calls
+-- a scratch variable, behind the 16 temporaries, holds only between two calls
 abbrev pub scratch : ℕ → ℕ
 scratch s = 80 + s
 

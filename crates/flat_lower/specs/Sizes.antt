@@ -9,6 +9,7 @@ use Rattle.flat_lower.specs.Tree.{Func, Source}
 
 -- a conversion that typing adds costs nothing, and of a left side only an index counts
 abbrev mutual
+  -- what a pass through an expression costs: each node counts one, and a call one more
   pub nodes : Expr → ℕ
   nodes (Number k w) = 1
   nodes (Name k p) = 1
@@ -23,10 +24,12 @@ abbrev mutual
   nodes (Assign k o at l r) = 1 + (left_nodes l + nodes r)
   nodes (Comma k l r) = 1 + (nodes l + nodes r)
 
+  -- the nodes of the index of a left side
   pub left_nodes : Expr → ℕ
   left_nodes (Element k p index) = nodes index
   left_nodes _ = 0
 
+  -- the nodes of all arguments
   pub all_nodes : Exprs → ℕ
   all_nodes NoExprs = 0
   all_nodes (WithExpr e rest) = nodes e + all_nodes rest
@@ -37,6 +40,7 @@ nodes_if None = 0
 nodes_if (Some e) = nodes e
 
 abbrev mutual
+  -- the statements and nodes of a statement, those inside it too
   pub size_of : Stmt → ℕ
   size_of (Declare p e) = 1 + nodes_if e
   size_of (Plain e) = 1 + nodes_if e
@@ -50,10 +54,12 @@ abbrev mutual
   size_of Continue = 1
   size_of (Return e) = 1 + nodes_if e
 
+  -- the size of all statements of a list
   pub size_of_all : Stmts → ℕ
   size_of_all NoStmts = 0
   size_of_all (WithStmt s rest) = size_of s + size_of_all rest
 
+  -- the size of the first part of a `for`
   pub size_of_first : First → ℕ
   size_of_first Nothing = 0
   size_of_first (FirstOf e) = nodes e

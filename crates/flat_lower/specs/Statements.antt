@@ -49,6 +49,7 @@ set_or (Some i) (Some a) long = only (Let i op.Mov a (Const 0))
 set_or (Some i) None long = long
 set_or None a long = long
 
+-- an assignment by `=` of a simple operand to a scalar is one statement, any other the long code
 abbrev pub assigned_code : Option BinaryOp → Expr → Expr → Code → Code
 assigned_code None l r long = set_or (named_scalar l) (simple_arg r) long
 assigned_code (Some o) l r long = long
@@ -58,6 +59,7 @@ abbrev pub plain_code : Context → Expr → Code
 plain_code c (Assign k o at l r) = assigned_code o l r (expr_code c 0 (Assign k o at l r))
 plain_code c e = expr_code c 0 e
 
+-- the same of an expression that may be left out
 abbrev pub plain_if_code : Context → Option Expr → Code
 plain_if_code c None = Nop
 plain_if_code c (Some e) = plain_code c e
@@ -90,6 +92,7 @@ abbrev pub do_code : Context → Expr → Code → Code
 do_code c t body = Then (set_word (temp 0) 1) (only (Loop (if_so body) (expr_code c 0 t)))
 
 abbrev mutual
+  -- the code of a statement
   pub stmt_code : Context → Stmt → Code
   stmt_code c (Declare p e) = declare_code c p e
   stmt_code c (Plain e) = plain_if_code c e
@@ -104,10 +107,12 @@ abbrev mutual
   stmt_code c Continue = only flat.Continue
   stmt_code c (Return e) = return_code c e
 
+  -- the code of statements, one after another
   pub stmts_code : Context → Stmts → Code
   stmts_code c NoStmts = Nop
   stmts_code c (WithStmt s rest) = Then (stmt_code c s) (stmts_code c rest)
 
+  -- the code of the first part of a `for`
   pub first_code : Context → First → Code
   first_code c Nothing = Nop
   first_code c (FirstOf e) = expr_code c 0 e

@@ -45,6 +45,7 @@ mutual
     Continue : Stmt
     Return : (e : Option Expr) → Stmt
 
+  -- statements, from the first on
   pub data Stmts : Type 0 where
     NoStmts : Stmts
     WithStmt : (s : Stmt) (rest : Stmts) → Stmts

@@ -1,5 +1,6 @@
 -- What the flat program of a source gives the later passes.
 use Rattle.std.specs.Prelude.{◌≡◌, ℕ, ◌+◌, ◌*◌, ◌<◌, ◌≤◌, false, [], All, Some, slice_get}
+use Rattle.c_tree.specs.declared.limits.TheConstants.{MOST_PARAMETERS}
 use Rattle.trips_isa.specs.Stores.{data_size}
 use Rattle.ir_forms.specs.FlatCode.{Function, Program}
 use Rattle.ir_forms.specs.FlatFits.{FitsFunction, FitsCall, FitsProgram, steps_of_all}
@@ -11,9 +12,9 @@ use Rattle.flat_lower.specs.Statements.{lowered}
 use Rattle.flat_lower_limits.specs.Nodes.{source_size}
 use Rattle.flat_lower_limits.specs.Jumps.{JumpsInLoops}
 
--- each function has at most 8 parameters, as many as a call has registers for
+-- each function has no more parameters than it may have, as many as a call has registers for
 abbrev pub FewParams : Source → Type 0
-FewParams P = (n : ℕ) (f : Func) → slice_get P.functions n ≡ Some f → f.params ≤ 8
+FewParams P = (n : ℕ) (f : Func) → slice_get P.functions n ≡ Some f → f.params ≤ MOST_PARAMETERS
 
 -- each function's jumps stand in its loops
 abbrev pub PlacedJumps : Source → Type 0

@@ -8,6 +8,7 @@ use Rattle.flat_lower.specs.Tree.{Return, Stmts, NoStmts, WithStmt, First, Nothi
 use Rattle.flat_lower.specs.Tree.{Func, Source}
 
 abbrev mutual
+  -- the nodes of an expression; a call has two besides its own
   pub expr_nodes : Expr → ℕ
   expr_nodes (Number k w) = 1
   expr_nodes (Name k p) = 1
@@ -22,6 +23,7 @@ abbrev mutual
   expr_nodes (Assign k o at l r) = 1 + (expr_nodes l + expr_nodes r)
   expr_nodes (Comma k l r) = 1 + (expr_nodes l + expr_nodes r)
 
+  -- the nodes of all arguments
   pub exprs_nodes : Exprs → ℕ
   exprs_nodes NoExprs = 0
   exprs_nodes (WithExpr e rest) = expr_nodes e + exprs_nodes rest
@@ -32,6 +34,7 @@ expr_if_nodes None = 0
 expr_if_nodes (Some e) = expr_nodes e
 
 abbrev mutual
+  -- the nodes of a statement, of which each statement and expression inside is one
   pub stmt_nodes : Stmt → ℕ
   stmt_nodes (Declare p e) = 1 + expr_if_nodes e
   stmt_nodes (Plain e) = 1 + expr_if_nodes e
@@ -45,10 +48,12 @@ abbrev mutual
   stmt_nodes Continue = 1
   stmt_nodes (Return e) = 1 + expr_if_nodes e
 
+  -- the nodes of all statements of a list
   pub stmts_nodes : Stmts → ℕ
   stmts_nodes NoStmts = 0
   stmts_nodes (WithStmt s rest) = stmt_nodes s + stmts_nodes rest
 
+  -- the nodes of the first part of a `for`
   pub first_nodes : First → ℕ
   first_nodes Nothing = 0
   first_nodes (FirstOf e) = expr_nodes e

@@ -21,14 +21,14 @@ use Rattle.flat_lower_premises.proofs.TreeSizes.{nodes-Compound}
 use Rattle.flat_lower_premises.proofs.SpelledSizes.{units_small}
 use Rattle.flat_lower_premises.proofs.UnitSizes.{programs_small}
 use Rattle.flat_lower_premises.proofs.CostTrees.{body_cost, by_stmt, most, most_append}
-use Rattle.flat_lower_premises.proofs.CostStmts.{types_few, all_few}
+use Rattle.flat_lower_premises.proofs.StatementBounds.{types_few, all_few}
 
 body_few : {v w : State} {s : Stmt} {t : TypedStmt} → Body v s t w
     → body_cost t ≤ stmt_nodes s
 body_few (outermost {l = l} {ss = ss} {ts = ts} x) =
-    let n = nodes-Compound l ss in let c = all_few x in
+    let n = nodes-Compound l ss in let c = (all_few x).0 in
     let m = by_stmt _ (level.Compound ts) (typed.rolls-Compound ts) in omega arith
-body_few (other i x) = types_few x
+body_few (other i x) = (types_few x).0
 
 item_few : {T : List Top} {U V : FileScope} {n : TopNode} → Item T U n V
     → most V.functions ≤ max (most U.functions) (top_nodes n)

@@ -1,10 +1,8 @@
 pub mod Agrees
-pub mod CostExprs
-pub mod CostStmts
 pub mod CostTrees
 pub mod CostUnits
 pub mod Counted
-pub mod ExpressionSizes
+pub mod ExpressionBounds
 pub mod FitExpressions
 pub mod FitPrograms
 pub mod FitStatements
@@ -16,7 +14,7 @@ pub mod SizeFacts
 pub mod SpelledSizes
 pub mod SpelledWords
 pub mod StandardFacts
-pub mod StatementSizes
+pub mod StatementBounds
 pub mod StatementWords
 pub mod TreeSizes
 pub mod TypedTreeSizes

@@ -16,14 +16,14 @@ use Rattle.flat_lower_premises.specs.Sizes.{ProgramsAreSmall, ProgramsHaveRoom}
 use Rattle.flat_lower_premises.proofs.TreeSizes.{nodes-Compound}
 use Rattle.flat_lower_premises.proofs.SpelledSizes.{units_small}
 use Rattle.flat_lower_premises.proofs.TypedTreeSizes.{body_nodes, by_stmt, funcs_nodes, funcs_append}
-use Rattle.flat_lower_premises.proofs.StatementSizes.{types_few, all_few}
+use Rattle.flat_lower_premises.proofs.StatementBounds.{types_few, all_few}
 
 body_few : {v w : State} {s : Stmt} {t : TypedStmt} → Body v s t w
     → 1 + body_nodes t ≤ 2 * stmt_nodes s
 body_few (outermost {l = l} {ss = ss} {ts = ts} x) =
-    let n = nodes-Compound l ss in let c = all_few x in
+    let n = nodes-Compound l ss in let c = (all_few x).1 in
     let m = by_stmt _ (level.Compound ts) (typed.rolls-Compound ts) in omega arith
-body_few (other i x) = types_few x
+body_few (other i x) = (types_few x).1
 
 item_few : {T : List Top} {U V : FileScope} {n : TopNode} → Item T U n V
     → funcs_nodes V.functions ≤ funcs_nodes U.functions + 2 * top_nodes n

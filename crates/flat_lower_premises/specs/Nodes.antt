@@ -1,6 +1,6 @@
 -- How many nodes a unit has: each function, each statement and each expression counts one, a call
--- three, as its name and its parentheses, and another pair of parentheses nothing. What typing computes once and for all, as an array's size or the
--- values of a global, is not counted.
+-- three, as its name and its parentheses, and another pair of parentheses nothing. What typing
+-- computes once and for all, as an array's size or the values of a global, is not counted.
 use Rattle.std.specs.Prelude.{ℕ, ◌+◌, List, [], ◌∷◌, map, Option, Some, None}
 use Rattle.c_tree.specs.declared.tree.Expr.{Expr, Expr-F, fold-Expr}
 use Rattle.c_tree.specs.declared.tree.ExprNode.TheOpen.{ExprNode-F, Number, Name, Element, Call}

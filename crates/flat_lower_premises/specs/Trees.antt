@@ -28,6 +28,7 @@ use Rattle.flat_lower_premises.specs.Assigners.{IsAssigner}
 -- EXPRESSIONS
 
 mutual
+  -- each number in the node is a word of its type, and each assignment by an operator of C's
   pub data NodeHasWords : Node → Type 0 where
     number : {v : ℕ} {k : Kind} → IsWord k v → NodeHasWords (Number v k)
     name : {w : List ℕ} → NodeHasWords (Name w)
@@ -49,6 +50,7 @@ mutual
     sequence : {x y : Expr}
         → NodeHasWords (node_of x) → NodeHasWords (node_of y) → NodeHasWords (Comma x y)
 
+  -- the same of all arguments of a call
   pub data ExprsHaveWords : List Expr → Type 0 where
     no_expr : ExprsHaveWords []
     one_expr : {e : Expr} {es : List Expr}
@@ -71,6 +73,7 @@ SizeHasWords _ = Unit {0}
 -- STATEMENTS
 
 mutual
+  -- the same of all expressions in a statement
   pub data LevelHasWords : Level → Type 0 where
     declared : {k : Kind} {w : List ℕ} {a : ArraySize} {init : Option Expr}
         → SizeHasWords a → ExprIfHasWords init → LevelHasWords (Declare k w a init)
@@ -90,15 +93,18 @@ mutual
     continues : LevelHasWords Continue
     returns : {e : Option Expr} → ExprIfHasWords e → LevelHasWords (Return e)
 
+  -- the same of all statements of a list
   pub data StmtsHaveWords : List Stmt → Type 0 where
     no_stmt : StmtsHaveWords []
     one_stmt : {s : Stmt} {ss : List Stmt}
         → LevelHasWords (level_of s) → StmtsHaveWords ss → StmtsHaveWords (s ∷ ss)
 
+  -- the same of the statement of an `else`, if there is one
   pub data ElseHasWords : Option Stmt → Type 0 where
     without_else : ElseHasWords None
     with_else : {s : Stmt} → LevelHasWords (level_of s) → ElseHasWords (Some s)
 
+  -- the same of the first part of a `for`
   pub data BeginningHasWords : Beginning → Type 0 where
     nothing : BeginningHasWords Nothing
     first : {e : Expr} → ExprHasWords e → BeginningHasWords (First e)

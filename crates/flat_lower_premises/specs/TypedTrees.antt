@@ -58,6 +58,7 @@ mutual
         → NodeHasWords x.kind (node_of x) → NodeHasWords y.kind (node_of y)
         → NodeHasWords r (Comma x y)
 
+  -- the same of all arguments of a call
   pub data ExprsHaveWords : List TypedExpr → Type 0 where
     no_expr : ExprsHaveWords []
     one_expr : {e : TypedExpr} {es : List TypedExpr}
@@ -75,6 +76,7 @@ ExprIfHasWords (Some e) = ExprHasWords e
 -- STATEMENTS
 
 mutual
+  -- the same of all expressions in a statement
   pub data LevelHasWords : Level → Type 0 where
     declared : {p : Place} {init : Option TypedExpr}
         → ExprIfHasWords init → LevelHasWords (Declare p init)
@@ -94,15 +96,18 @@ mutual
     continues : LevelHasWords Continue
     returns : {e : Option TypedExpr} → ExprIfHasWords e → LevelHasWords (Return e)
 
+  -- the same of all statements of a list
   pub data StmtsHaveWords : List TypedStmt → Type 0 where
     no_stmt : StmtsHaveWords []
     one_stmt : {s : TypedStmt} {ss : List TypedStmt}
         → LevelHasWords (out-TypedStmt s) → StmtsHaveWords ss → StmtsHaveWords (s ∷ ss)
 
+  -- the same of the statement of an `else`, if there is one
   pub data ElseHasWords : Option TypedStmt → Type 0 where
     without_else : ElseHasWords None
     with_else : {s : TypedStmt} → LevelHasWords (out-TypedStmt s) → ElseHasWords (Some s)
 
+  -- the same of the first part of a `for`
   pub data BeginningHasWords : Beginning → Type 0 where
     nothing : BeginningHasWords Nothing
     first : {e : TypedExpr} → ExprHasWords e → BeginningHasWords (First e)

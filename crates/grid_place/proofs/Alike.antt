@@ -16,7 +16,7 @@ use Rattle.trips_isa.specs.Places.{targets, names, nodes_of}
 use Rattle.trips_isa.specs.Tables.{taken, or_else, first, deepest, IsRanked}
 use Rattle.trips_isa.specs.Stores.{listed, listed_below}
 use Rattle.trips_isa.specs.Blocks.{is_read, inst_at, at_place, store_of, Leaving, leaves_with}
-use Rattle.trips_isa.specs.Blocks.{leaves_if_read, leaving_of, answers_in, given, token_of, Solves}
+use Rattle.trips_isa.specs.Blocks.{leaves_if_read, leaving_of, responses_in, given, token_of, Solves}
 use Rattle.trips_isa.specs.Outcomes.{next_of, is_system, exit_of, next_by, or_null, writes_from}
 use Rattle.trips_isa.specs.Outcomes.{all_stores, Effects, plain_by, plain}
 use Rattle.block_cases.specs.Good.{GoodBlock}
@@ -124,13 +124,13 @@ module _ (p q : ℕ → ℕ) (b c : Block) (fits : FitsBlock b) (good : GoodBloc
     pub same : (x : ℕ) → moved (node_goes p b x) ≡ tokens x
     same x = ap tokens (stand.returns x)
 
-    pub solves : Solves b (answers_in b regs mem tokens) tokens
+    pub solves : Solves b (responses_in b regs mem tokens) tokens
     solves = token_solves b regs mem good.ranked
 
     settled : (y : ℕ) → moved y ≡ given c regs mem moved y
     settled y = token_settled b regs mem good.ranked (node_goes q c y)
         ∙ sym (given_alike p q b c fits good m w
-        (answers_in b regs mem tokens) tokens moved solves same
+        (responses_in b regs mem tokens) tokens moved solves same
         regs mem (node_goes q c y))
         ∙ ap (given c regs mem moved) (stand.returned y)
 
@@ -162,13 +162,13 @@ module _ (p q : ℕ → ℕ) (b c : Block) (fits : FitsBlock b) (good : GoodBloc
         sym (option_first (leaving_renamed p) (nodes_of b) 448 (leaves b tokens))
         ∙ first_alike (nodes_of b) (nodes_of c) (place_goes p) (node_goes p b) (node_goes q c) stand
         (λ x. option_map (leaving_renamed p) (leaves b tokens x)) (leaves c moved) leaving_at 448
-        (one_gives b fits good (answers_in b regs mem tokens) tokens solves
+        (one_gives b fits good (responses_in b regs mem tokens) tokens solves
         (λ x. option_map (leaving_renamed p) (leaves b tokens x)) silent 448 (omega arith))
         ∙ ap (λ r. first (nodes_of c) r (leaves c moved)) (place_stays p 448 (omega arith))
         )
 
     written : (j : ℕ) → j < 32 → at_place c moved (384 + j) ≡ at_place b tokens (384 + j)
-    written j l = sym (token_alike p q b c fits good m w (answers_in b regs mem tokens) tokens moved
+    written j l = sym (token_alike p q b c fits good m w (responses_in b regs mem tokens) tokens moved
         solves same (384 + j) (omega arith)
         ∙ ap (at_place c moved) (place_stays p (384 + j) (omega arith)))
 
@@ -180,7 +180,7 @@ module _ (p q : ℕ → ℕ) (b c : Block) (fits : FitsBlock b) (good : GoodBloc
         (let few : length b.writes.items ≤ 32 = fits.writes in omega arith) written)
         (stores_same (store_of c moved) (store_of b tokens)
         (λ n l. sym (store_alike p q b c fits good
-        m w (answers_in b regs mem tokens) tokens moved solves same n l)))
+        m w (responses_in b regs mem tokens) tokens moved solves same n l)))
         (ap exit_of leaving_alike ∙ exit_same p (leaving_of b tokens))
         (ap is_system leaving_alike ∙ system_same p (leaving_of b tokens))
         (ap (next_of blocks k) leaving_alike ∙ next_same p blocks k (leaving_of b tokens))

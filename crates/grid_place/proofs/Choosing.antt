@@ -15,13 +15,15 @@ use Rattle.trips_isa.specs.Tables.{taken, or_else, first, deepest, IsRanked}
 use Rattle.block_cases.specs.declared.token.CaseToken.{CaseToken}
 use Rattle.block_cases.specs.declared.token.CaseToken.TheVariants.{Absent, Null, Bit}
 use Rattle.block_cases.specs.Nodes.{hits, one_if}
-use Rattle.block_cases.specs.Cases.{taken as case_taken, or_else as case_or_else}
-use Rattle.block_cases.specs.Cases.{first as case_first}
-use Rattle.block_cases.specs.Cases.{pulled, fires, fire, if_matched, matches, gives}
-use Rattle.block_cases.specs.Cases.{is_copy, asks, through, leads_from, leads, is_chooser, present}
+use Rattle.block_cases.specs.CaseRule.{taken as case_taken, or_else as case_or_else}
+use Rattle.block_cases.specs.CaseRule.{first as case_first}
+use Rattle.block_cases.specs.CaseRule.{pulled, fires, fire, if_matched, matches, gives}
+use Rattle.block_cases.specs.Choosers.{is_copy, asks, through, leads_from, leads, is_chooser}
+use Rattle.block_cases.specs.Cases.{present}
 use Rattle.block_cases.specs.Cases.{bit}
 use Rattle.block_cases.specs.Cases.{token, has_bit, is_case, count, cases, weighed, tokens}
-use Rattle.block_cases.specs.Cases.{IsCase, GetsTwo, GetsNone, no}
+use Rattle.block_cases.specs.CaseRule.{no}
+use Rattle.block_cases.specs.Cases.{IsCase, GetsTwo, GetsNone}
 use Rattle.block_cases.specs.Good.{Good, IsPlaced}
 use Rattle.block_cases.proofs.Steady.{fire_same, settled, only_one}
 use Rattle.block_cases.proofs.AnyBits.{any_bits}

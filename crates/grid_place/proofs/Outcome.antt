@@ -23,7 +23,7 @@ use Rattle.trips_isa.specs.Blocks.{slot_computes}
 use Rattle.trips_isa.specs.Blocks.{form_computes, Solves, at_place, stored_in, stored_if_read}
 use Rattle.trips_isa.specs.Blocks.{stored_by}
 use Rattle.trips_isa.specs.Blocks.{store_of, leaves_with, leaves_if_read}
-use Rattle.trips_isa.specs.Blocks.{read_word, slot_answered, answered_if_read, answers_in, given}
+use Rattle.trips_isa.specs.Blocks.{read_word, slot_answered, answered_if_read, responses_in, given}
 use Rattle.block_cases.specs.Good.{GoodBlock, NamesPlace}
 use Rattle.block_cases.specs.Blocks.{wanted_of}
 use Rattle.block_cases.specs.Orders.{slot_of}
@@ -34,7 +34,7 @@ use Rattle.block_cases.proofs.AnyBits.{one_producer, one_at_most}
 use Rattle.block_cases.proofs.Unique.{present_shape}
 use Rattle.block_cases.proofs.Settled.{bytes_seen_same, load_same}
 use Rattle.block_cases.proofs.Nodes.{slot_got}
-use Rattle.trips_isa.specs.Blocks.{Answers}
+use Rattle.trips_isa.specs.Blocks.{Responses}
 use Rattle.grid_place.specs.Moves.{Permutes, IsMoved, renamed_read, renamed_inst}
 use Rattle.grid_place.proofs.Found.{Given, Once, taken_alike}
 use Rattle.grid_place.proofs.Renaming.{place_goes, left_goes, right_goes, place_stays}
@@ -83,8 +83,8 @@ module _ {A : Type 0} (ns ms : List Node) (place to from : ℕ → ℕ)
       (λ x v h. (to x, given_there q x v h)) (λ y v h. (from y, given_back q y v h))
 
 -- what only nodes that fire give, one node gives
-module _ (b : Block) (fits : FitsBlock b) (good : GoodBlock b) (answers : Answers) (f : ℕ → Answer)
-    (solves : Solves b answers f) where
+module _ (b : Block) (fits : FitsBlock b) (good : GoodBlock b) (responses : Responses) (f : ℕ → Answer)
+    (solves : Solves b responses f) where
   producers : (q x y : ℕ) → q < 449 → NamesPlace (nodes_of b) x q → NamesPlace (nodes_of b) y q
       → f x ≢ None → f y ≢ None → x ≡ y
   producers q x y lt n k u v = one_producer (nodes_of b) (λ z. shape (f z)) q
@@ -153,7 +153,7 @@ word_renamed p regs None = refl
 word_renamed p regs (Some r) = refl
 
 module _ (p q : ℕ → ℕ) (b c : Block) (fits : FitsBlock b) (good : GoodBlock b) (m : Permutes p q)
-    (w : IsMoved p b c) (answers : Answers) (f g : ℕ → Answer) (solves : Solves b answers f)
+    (w : IsMoved p b c) (responses : Responses) (f g : ℕ → Answer) (solves : Solves b responses f)
     (same : (x : ℕ) → g (node_goes p b x) ≡ f x) where
   stand : Standing (nodes_of b) (nodes_of c) (place_goes p) (node_goes p b) (node_goes q c)
   stand = standing p q b c fits m w
@@ -167,7 +167,7 @@ module _ (p q : ℕ → ℕ) (b c : Block) (fits : FitsBlock b) (good : GoodBloc
   pub token_alike : (r : ℕ) → r < 449 → at_place b f r ≡ at_place c g (place_goes p r)
   token_alike r lt = first_alike (nodes_of b) (nodes_of c) (place_goes p) (node_goes p b)
       (node_goes q c) stand f g same r
-      (one_gives b fits good answers f solves f (λ x e. e) r lt)
+      (one_gives b fits good responses f solves f (λ x e. e) r lt)
 
   left_alike : (s : ℕ) → s < 128 → at_place b f s ≡ at_place c g (p s)
   left_alike s l = token_alike s (omega arith) ∙ ap (at_place c g) (left_goes p s l)
@@ -220,7 +220,7 @@ module _ (p q : ℕ → ℕ) (b c : Block) (fits : FitsBlock b) (good : GoodBloc
   pub store_alike : (n : ℕ) → n < 33 → store_of b f n ≡ store_of c g n
   store_alike n lt = first_alike (nodes_of b) (nodes_of c) (place_goes p) (node_goes p b)
       (node_goes q c) stand (stored_by b f) (stored_by c g) stored_alike (416 + n)
-      (one_gives b fits good answers f solves (stored_by b f) (stored_silent b f) (416 + n)
+      (one_gives b fits good responses f solves (stored_by b f) (stored_silent b f) (416 + n)
       (omega arith))
       ∙ ap (λ r. first (nodes_of c) r (stored_by c g)) (place_stays p (416 + n) (omega arith))
 
@@ -247,8 +247,8 @@ module _ (p q : ℕ → ℕ) (b c : Block) (fits : FitsBlock b) (good : GoodBloc
     slot_alike (Some i) h l r = computed_renamed p i _ l r (form_of i.op)
         ∙ loaded i l r (form_of i.op) h
 
-    computed_alike : (x l r : ℕ) → computes c (answers_in c regs mem g) (node_goes p b x) l r
-        ≡ computes b (answers_in b regs mem f) x l r
+    computed_alike : (x l r : ℕ) → computes c (responses_in c regs mem g) (node_goes p b x) l r
+        ≡ computes b (responses_in b regs mem f) x l r
     computed_alike x l r = by (is_read c (node_goes p b x)) (is_read b x) refl (still x)
       where
         by : (u v : Bool) → is_read b x ≡ v → u ≡ v
@@ -302,13 +302,13 @@ module _ (p q : ℕ → ℕ) (b c : Block) (fits : FitsBlock b) (good : GoodBloc
         ap (λ (a : ℕ → ℕ → ℕ). node_gives (slice_get (nodes_of c) (node_goes p b x)) a
         (at_place c g))
         (fun_ext (λ l. fun_ext (λ r. computed_alike x l r)))
-        ∙ ap (λ o. node_gives o (computes b (answers_in b regs mem f) x) (at_place c g))
+        ∙ ap (λ o. node_gives o (computes b (responses_in b regs mem f) x) (at_place c g))
         (stand.stands x)
         ∙ by (slice_get (nodes_of b) x) refl
       where
         by : (o : Option Node) → slice_get (nodes_of b) x ≡ o
             → node_gives (option_map (moved_node (place_goes p)) o)
-            (computes b (answers_in b regs mem f) x) (at_place c g)
-            ≡ node_gives o (computes b (answers_in b regs mem f) x) (at_place b f)
+            (computes b (responses_in b regs mem f) x) (at_place c g)
+            ≡ node_gives o (computes b (responses_in b regs mem f) x) (at_place b f)
         by None i = refl
-        by (Some n) i = pulled_alike x n i (computes b (answers_in b regs mem f) x)
+        by (Some n) i = pulled_alike x n i (computes b (responses_in b regs mem f) x)

@@ -16,7 +16,7 @@ use Rattle.trips_isa.specs.Rule.{Answer}
 use Rattle.trips_isa.specs.Places.{read_node, nodes_of}
 use Rattle.trips_isa.specs.Tables.{deepest}
 use Rattle.trips_isa.specs.Operands.{operands}
-use Rattle.trips_isa.specs.Blocks.{is_read, slot_at, inst_at, at_place, answers_in, token_of}
+use Rattle.trips_isa.specs.Blocks.{is_read, slot_at, inst_at, at_place, responses_in, token_of}
 use Rattle.trips_isa.specs.Acts.{Act, is_clean, acts_in, own_acts, acts_if_read, acts_by, fired_acts}
 use Rattle.trips_isa.specs.Acts.{node_acts, IsClean}
 use Rattle.block_cases.specs.Good.{GoodBlock}
@@ -55,7 +55,7 @@ module _ (p q : ℕ → ℕ) (b c : Block) (fits : FitsBlock b) (good : GoodBloc
   stand = standing p q b c fits m w
 
   alike : (r : ℕ) → r < 449 → at_place b tokens r ≡ at_place c moved (place_goes p r)
-  alike = token_alike p q b c fits good m w (answers_in b regs mem tokens) tokens moved
+  alike = token_alike p q b c fits good m w (responses_in b regs mem tokens) tokens moved
       (solves p q b c fits good m w regs mem) (same p q b c fits good m w regs mem)
 
   own_alike : (x l r : ℕ)

@@ -11,7 +11,7 @@ use Rattle.trips_isa.specs.declared.block.Inst.{Inst}
 use Rattle.trips_isa.specs.declared.block.ReadSlot.{ReadSlot}
 use Rattle.trips_isa.specs.declared.block.Block.{Block}
 use Rattle.trips_isa.specs.Fits.{FitsBlock}
-use Rattle.block_cases.specs.Cases.{no}
+use Rattle.block_cases.specs.CaseRule.{no}
 use Rattle.block_cases.specs.Blocks.{form_of, is_load, is_store, in_mask}
 use Rattle.block_cases.specs.Orders.{slot_of, left_of, right_of, guard_of, target_good}
 use Rattle.block_cases.specs.Orders.{targets_good}

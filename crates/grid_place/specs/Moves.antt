@@ -40,6 +40,7 @@ renamed p (spot.Read r) = spot.Read r
 renamed p (spot.Write w) = spot.Write w
 renamed p (spot.Store n) = spot.Store n
 
+-- a read with its targets renamed
 abbrev pub renamed_read : (ℕ → ℕ) → ReadSlot → ReadSlot
 renamed_read p r = record {
   register = r.register;
@@ -47,6 +48,7 @@ renamed_read p r = record {
   second = option_map (renamed p) r.second;
 }
 
+-- an instruction with its targets renamed
 abbrev pub renamed_inst : (ℕ → ℕ) → Inst → Inst
 renamed_inst p i = record {
   op = i.op;
@@ -56,6 +58,12 @@ renamed_inst p i = record {
   first = option_map (renamed p) i.first;
   second = option_map (renamed p) i.second;
 }
+
+-- the parts of a block have their sizes, whatever stands in them
+pub record HasSizes (b : Block) : Type 0 where
+  pub reads : length b.reads.items ≤ 32
+  pub writes : length b.writes.items ≤ 32
+  pub insts : length b.insts.items ≡ 128
 
 -- c is b with the instruction of each slot s at p s, every target renamed with it
 pub record IsMoved (p : ℕ → ℕ) (b c : Block) : Type 0 where

@@ -21,6 +21,7 @@ unfoldable pub shuffled : ℕ → Lcg → List ℕ → List ℕ
 shuffled zero g p = p
 shuffled (suc i) g p = shuffled i (pcg32 g).1 (swap p (suc i) ((pcg32 g).0 % (suc i + 1)))
 
+-- the generator of a seed, of stream 3
 unfoldable pub generator : ℕ → Lcg
 generator seed = started 64 multiplier_64 seed (increment_of 64 3)
 

@@ -7,7 +7,7 @@ ghost use Rattle.trips_isa.specs.Blocks.{token_of};
 ghost use Rattle.trips_isa.specs.Acts.{IsClean};
 ghost use Rattle.trips_isa.specs.Outcomes.{plain};
 ghost use Rattle.block_cases.specs.Good.{GoodBlock};
-ghost use Rattle.grid_place.specs.Moves.{IsPermutation, IsMoved, goes};
+ghost use Rattle.grid_place.specs.Moves.{HasSizes, IsPermutation, IsMoved, goes};
 ghost use Rattle.grid_place.specs.Seeded.{list_of};
 
 use crate::{shuffle, slots};
@@ -26,7 +26,7 @@ pub enum Placing {
 }
 
 fn moved(block: &Block, to: &[u8]) -> Block
-    requires fits { FitsBlock block.now }
+    requires sizes { HasSizes block.now }
     requires permutes { IsPermutation to.now }
     ensures moved { IsMoved (goes to.now) block.now result }
 {
@@ -46,17 +46,21 @@ fn moved(block: &Block, to: &[u8]) -> Block
 }
 
 /// The block with its slots permuted, every target renamed with them. No memory is taken.
+///
+/// Nothing is asked of its fields: a block whose immediates hold labels is placed too. What is said
+/// of its meaning then holds once the immediates fit, by the laws of src/law.rt.
 pub fn place(_alloc: Global, block: &Block, placing: Placing) -> Result<Block, Memory>
-    requires { FitsBlock block.now }
+    requires { HasSizes block.now }
     ensures moved { IfOk result (λ c. IsMoved (goes (list_of placing)) block.now c) }
     ensures permutes { IsPermutation (list_of placing) }
-    ensures meaning { IfOk result (λ c. GoodBlock block.now → (blocks : List Block) (k : ℕ)
-        (regs mem : List ℕ) → plain blocks k c regs mem ≡ plain blocks k block.now regs mem) }
-    ensures clean { IfOk result (λ c. GoodBlock block.now → (regs mem : List ℕ)
-        → IsClean block.now (token_of block.now regs mem deepest)
+    ensures meaning { IfOk result (λ c. FitsBlock block.now → GoodBlock block.now
+        → (blocks : List Block) (k : ℕ) (regs mem : List ℕ)
+        → plain blocks k c regs mem ≡ plain blocks k block.now regs mem) }
+    ensures clean { IfOk result (λ c. FitsBlock block.now → GoodBlock block.now
+        → (regs mem : List ℕ) → IsClean block.now (token_of block.now regs mem deepest)
         → IsClean c (token_of c regs mem deepest)) }
-    ensures fits { IfOk result FitsBlock }
-    ensures good { IfOk result (λ c. GoodBlock block.now → GoodBlock c) }
+    ensures fits { IfOk result (λ c. FitsBlock block.now → FitsBlock c) }
+    ensures good { IfOk result (λ c. FitsBlock block.now → GoodBlock block.now → GoodBlock c) }
 {
     let mut to = [0u8; 128];
     match placing {

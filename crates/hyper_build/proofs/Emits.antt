@@ -1,20 +1,27 @@
 -- Items that are put before the rest of a block.
-use Rattle.std.proofs.Common.{◌≡◌, ℕ, List, [], ◌∷◌, ◌++◌, reverse, refl, sym, ap, ap₂, ◌∙◌}
+use Rattle.std.proofs.Common.{◌≡◌, ℕ, List, [], ◌∷◌, ◌++◌, map, reverse, refl, sym, ap, ap₂, ◌∙◌}
 use Rattle.std.proofs.lemmas.List.{reverse-append}
 use Rattle.trips_isa.specs.declared.op.Op.{Op}
+use Rattle.ir_forms.specs.declared.flat.Arg.{Arg}
 use Rattle.ir_forms.specs.declared.hyper.Source.{Source}
+use Rattle.ir_forms.specs.declared.hyper.Exit.{Exit}
 use Rattle.ir_forms.specs.declared.hyper.Exit.TheVariants as exit
 use Rattle.ir_forms.specs.declared.hyper.HyperItem.{HyperItem}
 use Rattle.ir_forms.specs.declared.hyper.HyperItem.TheVariants as item
 use Rattle.ir_forms.specs.declared.hyper.Tail as declared
 use Rattle.ir_forms.specs.declared.hyper.Tail.TheVariants as tail
 use Rattle.ir_forms.specs.HyperCode.{Items, Block}
-use Rattle.ir_forms.specs.HyperViews.{items_of, tail_of, then_items}
+use Rattle.ir_forms.specs.HyperCode as hyper_code
+use Rattle.ir_forms.specs.declared.hyper.HyperBlock.{HyperBlock}
+use Rattle.ir_forms.specs.HyperViews.{items_of, tail_of, then_items, block_of}
 use Rattle.ir_forms.specs.HyperRuns as hyper
-use Rattle.ir_forms.proofs.Views.{then_set, then_load, then_save, tail_leave}
+use Rattle.ir_forms.proofs.Views.{then_set, then_load, then_save, then_if, tail_leave, tail_test}
 use Rattle.hyper_build.specs.declared.rest.Rest.{Rest}
-use Rattle.hyper_build.specs.Parts.{set_then, load_then, save_then}
-use Rattle.hyper_build.specs.Emitted.{rest_of}
+use Rattle.hyper_build.specs.Parts.{source, set_then, load_then, save_then}
+use Rattle.hyper_build.specs.Emitted.{rest_of, out_of}
+use Rattle.hyper_build.specs.BackwardStatements.{left_by}
+use Rattle.hyper_build.specs.BackwardItems.{if_then}
+use Rattle.hyper_build.specs.BackwardCode.{test_block}
 
 -- a rest, and one item before it
 abbrev with_item : Rest → HyperItem → Rest
@@ -33,10 +40,28 @@ pub jump_is : (l : ℕ)
     → rest_of (record { items = []; tail = tail.Leave (exit.Jump l) }) ≡ hyper.jump l
 jump_is l = ap (λ t. record { items = items_of []; tail = t }) (tail_leave (exit.Jump l))
 
+pub leave_is : (e : Exit) → rest_of (record { items = []; tail = tail.Leave e }) ≡ left_by e
+leave_is e = ap (λ t. record { items = items_of []; tail = t }) (tail_leave e)
+
 pub set_is : (r : Rest) (to : ℕ) (op : Op) (a b : Source)
     → rest_of (with_item r (item.Set to op a b)) ≡ set_then to op a b (rest_of r)
 set_is r to op a b =
     before r (item.Set to op a b) _ (then_set to op a b (items_of (reverse r.items)))
+
+pub if_is : (r : Rest) (t : Source) (a b : List HyperItem)
+    → rest_of (with_item r (item.If t a b)) ≡ if_then t (items_of a) (items_of b) (rest_of r)
+if_is r t a b = before r (item.If t a b) _ (then_if t a b (items_of (reverse r.items)))
+
+pub test_is : (x : Arg) (t : Source) (one other : ℕ) → t ≡ source x
+    → rest_of (record {
+      items = [];
+      tail = tail.Test t (tail.Leave (exit.Jump one)) (tail.Leave (exit.Jump other));
+    }) ≡ test_block x one other
+test_is x t one other e =
+    ap (λ y. record { items = items_of []; tail = y })
+    (tail_test t (tail.Leave (exit.Jump one)) (tail.Leave (exit.Jump other))
+    ∙ ap₂ (hyper_code.Test t) (tail_leave (exit.Jump one)) (tail_leave (exit.Jump other))
+    ∙ ap (λ y. hyper_code.Test y (hyper_code.Leave (exit.Jump one)) (hyper_code.Leave (exit.Jump other))) e)
 
 pub load_is : (r : Rest) (to : ℕ) (op : Op) (a : Source)
     → rest_of (with_item r (item.Load to op a)) ≡ load_then to op a (rest_of r)
@@ -45,3 +70,8 @@ load_is r to op a = before r (item.Load to op a) _ (then_load to op a (items_of 
 pub save_is : (r : Rest) (op : Op) (a v : Source)
     → rest_of (with_item r (item.Save op a v)) ≡ save_then op a v (rest_of r)
 save_is r op a v = before r (item.Save op a v) _ (then_save op a v (items_of (reverse r.items)))
+
+-- one more block before the others
+pub out_pushed : (out : List HyperBlock) (b : HyperBlock) (k : Block) → block_of b ≡ k
+    → out_of (out ++ b ∷ []) ≡ k ∷ out_of out
+out_pushed out b k e = ap (map block_of) (reverse-append out (b ∷ [])) ∙ ap (λ k. k ∷ out_of out) e

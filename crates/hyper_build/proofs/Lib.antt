@@ -26,3 +26,7 @@ pub mod Little
 pub mod Built
 pub mod Assigned
 pub mod Emits
+pub mod LastNotes
+pub mod Reaching
+pub mod ReachingLegs
+pub mod Emissions

@@ -14,4 +14,11 @@ pub mod Whole
 pub mod Annotated
 pub mod Laws
 pub mod Emitted
+pub mod Ground
+pub mod Backward
+pub mod BackwardStatements
+pub mod BackwardItems
+pub mod BackwardCode
+pub mod Notes
+pub mod Reached
 pub mod Smallness

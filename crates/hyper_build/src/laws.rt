@@ -4,6 +4,7 @@ ghost use Rattle.hyper_build.specs.Laws.{BuildGivesBlocks, BuildKeepsMeaning};
 ghost use Rattle.hyper_build.specs.Laws.{GivesAssigned, KeepsAssigned};
 ghost use Rattle.hyper_build.specs.Smallness.{AssignedAreLittle, CutBlocksAreLittle};
 ghost use Rattle.hyper_build.specs.Annotated.{PlainClaim};
+ghost use Rattle.hyper_build.specs.Reached.{EmissionPutsBlocks};
 
 /// Calls of a built program do what the flat program's calls do, in all their endings.
 pub fn calls_follow()
@@ -45,4 +46,10 @@ pub fn assigned_programs_keep_meaning()
     ensures meaning { KeepsAssigned }
     ensures blocks { GivesAssigned }
     ensures little { AssignedAreLittle }
+{}
+
+/// Emission before code puts out the blocks of annotated code, and leaves the rest of the block before
+/// them, where labels and numbers suffice and its loops have the last notes.
+pub fn emission_puts_blocks()
+    ensures { EmissionPutsBlocks }
 {}

@@ -14,10 +14,12 @@ pub data Mark : Type 0 where
   Open : Mark
   Held : Mark
 
+-- a byte with its mark
 pub record Cell : Type 0 where
   pub mark : Mark
   pub byte : ℕ
 
+-- a cell at each address
 abbrev pub Memory : Type 0
 Memory = ℕ → Cell
 
@@ -50,21 +52,24 @@ abbrev pub number_put : Memory → ℕ → ℕ → ℕ → Memory
 number_put m a zero v = m
 number_put m a (suc k) v = number_put (byte_put m (a + k) (v % 256)) a k (v / 256)
 
+-- whether a byte may be loaded
 abbrev pub is_held : Mark → Bool
 is_held Closed = false
 is_held Open = false
 is_held Held = true
 
+-- whether a byte may be saved
 abbrev pub is_open : Mark → Bool
 is_open Closed = false
 is_open Open = true
 is_open Held = true
 
--- each of k bytes may be loaded, or saved
+-- whether each of k bytes from an address on may be loaded
 abbrev pub all_held : Memory → ℕ → ℕ → Bool
 all_held m a zero = true
 all_held m a (suc k) = all_held m a k && is_held (m (a + k)).mark
 
+-- whether each of k bytes from an address on may be saved
 abbrev pub all_open : Memory → ℕ → ℕ → Bool
 all_open m a zero = true
 all_open m a (suc k) = all_open m a k && is_open (m (a + k)).mark

@@ -30,9 +30,11 @@ abbrev pub Then : Code → Code → Code
 Then Nop b = b
 Then (s ▹ a) b = s ▹ Then a b
 
+-- one statement alone
 abbrev pub only : Step → Code
 only s = s ▹ Nop
 
+-- a function, its first `params` scalars its parameters
 pub record Function : Type 0 where
   pub params : ℕ
   pub scalars : ℕ
@@ -40,6 +42,7 @@ pub record Function : Type 0 where
   pub arrays : ℕ
   pub body : Code
 
+-- a program, with the number of the function main
 pub record Program : Type 0 where
   pub functions : List Function
   -- the start of data memory

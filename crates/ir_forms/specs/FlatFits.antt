@@ -11,6 +11,8 @@ use Rattle.trips_isa.specs.Forms.{form_of, is_load, is_store}
 use Rattle.trips_isa.specs.Stores.{data_size}
 use Rattle.ir_forms.specs.declared.flat.Arg.{Arg}
 use Rattle.ir_forms.specs.declared.flat.Arg.TheVariants.{Const, Var}
+use Rattle.ir_forms.specs.declared.limits.TheConstants.{FIRST_TEMPORARY, FIRST_SCRATCH, VARIABLES}
+use Rattle.ir_forms.specs.declared.limits.TheConstants.{MOST_STATEMENTS}
 use Rattle.ir_forms.specs.FlatCode.{Step, Let, Frame, Load, Save, Call, Put, Get, If, Loop, Break}
 use Rattle.ir_forms.specs.FlatCode.{Continue, Return, Code, Nop, ◌▹◌, Function, Program}
 use Rattle.ir_forms.specs.Frames.{frames_at, frame_limit}
@@ -36,11 +38,11 @@ stores op = is_store (form_of op)
 
 -- a scalar of the function or a temporary: it stays set over a call, and may be an argument
 abbrev pub is_lasting : ℕ → ℕ → Bool
-is_lasting scalars v = nat_lt v scalars || (nat_le 64 v && nat_lt v 80)
+is_lasting scalars v = nat_lt v scalars || (nat_le FIRST_TEMPORARY v && nat_lt v FIRST_SCRATCH)
 
 -- or a scratch variable
 abbrev pub is_variable : ℕ → ℕ → Bool
-is_variable scalars v = is_lasting scalars v || (nat_le 80 v && nat_lt v 88)
+is_variable scalars v = is_lasting scalars v || (nat_le FIRST_SCRATCH v && nat_lt v VARIABLES)
 
 abbrev pub FitsVar : ℕ → ℕ → Type 0
 FitsVar scalars v = is_variable scalars v ≡ true
@@ -166,7 +168,7 @@ abbrev mutual
 -- PROGRAMS
 
 pub record FitsFunction (fs : List Function) (f : Function) : Type 0 where
-  pub scalars : f.scalars ≤ 64
+  pub scalars : f.scalars ≤ FIRST_TEMPORARY
   pub params : f.params ≤ f.scalars
   pub few : f.params ≤ 8
   -- its frame is made of whole words
@@ -176,7 +178,7 @@ pub record FitsFunction (fs : List Function) (f : Function) : Type 0 where
 pub record FitsProgram (P : Program) : Type 0 where
   pub each : (f : ℕ) (g : Function) → slice_get P.functions f ≡ Some g → FitsFunction P.functions g
   pub main : FitsCall P.functions P.main []
-  pub few : steps_of_all P.functions ≤ 16777216
+  pub few : steps_of_all P.functions ≤ MOST_STATEMENTS
   pub bytes : All (λ b. b < 256) P.bytes
   -- globals and frames lie inside data memory
   pub room : frames_at P.bytes + frame_limit ≤ data_size

@@ -13,6 +13,7 @@ use Rattle.ir_forms.specs.FlatSteps.{Wild, unfinished, turn, with_memory, Calls,
 abbrev pub closed : ℕ → ℕ → State → State
 closed at size s = with_memory s (marked s.memory at size Closed)
 
+-- what a call comes to, of what its body does: its arrays close; a break outside a loop is in no program
 abbrev pub closing : ℕ → ℕ → Res → Res
 closing at size (Gone s m) = Gone (closed at size s) m
 closing at size (Broke s m) = Wild
@@ -33,6 +34,7 @@ begun base f ws used s = record s {
   memory = marked s.memory (arrays_at base f used) f.arrays Open;
 }
 
+-- where the arrays of a call lie, and the bytes of the frames up to its own
 abbrev pub env_of : ℕ → Function → ℕ → Env
 env_of base f used = record { arrays = arrays_at base f used; used = used + frame_of f }
 
@@ -65,6 +67,7 @@ first_mark base k = cond (nat_le base k && nat_lt k (base + frame_limit)) Closed
 unfoldable pub first_memory : List ℕ → Memory
 first_memory bytes k = record { mark = first_mark (frames_at bytes) k; byte = slice_index bytes k }
 
+-- the state that a run begins with: no variable is set
 abbrev pub start : Program → List ℕ → State
 start P input = record {
   vars = λ v. None;
@@ -83,9 +86,11 @@ flat_run c P input m =
 abbrev pub unchecked : Checks
 unchecked = record { tame = false; clean = false }
 
+-- what a program comes to on an input within m turns
 abbrev pub flat_meaning : Program → List ℕ → ℕ → Res
 flat_meaning = flat_run unchecked
 
+-- both checks
 abbrev pub checked : Checks
 checked = record { tame = true; clean = true }
 
@@ -99,9 +104,11 @@ IsWild (TooDeep out) = ⊥
 IsWild (Unfinished out r) = ⊥
 IsWild Wild = Unit {0}
 
+-- the check of what may be read, loaded and saved
 abbrev pub only_tame : Checks
 only_tame = record { tame = true; clean = false }
 
+-- the check of what may not fault
 abbrev pub only_clean : Checks
 only_clean = record { tame = false; clean = true }
 

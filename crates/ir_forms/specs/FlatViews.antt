@@ -5,13 +5,15 @@ use Rattle.ir_forms.specs.declared.flat.FlatStmt.TheOpen.{FlatStmt-F}
 use Rattle.ir_forms.specs.declared.flat.FlatStmt.TheOpen as stmt
 use Rattle.ir_forms.specs.declared.flat.FlatFunc.{FlatFunc}
 use Rattle.ir_forms.specs.declared.flat.FlatProgram.{FlatProgram}
+use Rattle.ir_forms.specs.declared.limits.TheConstants.{FIRST_SCRATCH}
 use Rattle.ir_forms.specs.FlatCode.{Step, Let, Frame, Load, Save, Call, Put, Get, If, Loop, Break}
 use Rattle.ir_forms.specs.FlatCode.{Continue, Return, Code, Nop, ◌▹◌, Function, Program}
 
 -- scalars and temporaries stay set over a call, scratch variables do not
 abbrev pub stays : ℕ → Bool
-stays v = nat_lt v 80
+stays v = nat_lt v FIRST_SCRATCH
 
+-- statements in a list, as code
 abbrev pub code_of_steps : List Step → Code
 code_of_steps [] = Nop
 code_of_steps (s ∷ rest) = s ▹ code_of_steps rest
@@ -31,15 +33,19 @@ step_by stmt.Break = Break
 step_by stmt.Continue = Continue
 step_by (stmt.Return v) = Return v
 
+-- a declared statement
 unfoldable pub step_of : FlatStmt → Step
 step_of s = fold-FlatStmt Step step_by s
 
+-- declared statements, in order
 abbrev pub code_of : List FlatStmt → Code
 code_of all = code_of_steps (map step_of all)
 
+-- a declared function
 abbrev pub function_of : FlatFunc → Function
 function_of f =
     record { params = f.params; scalars = f.scalars; arrays = f.arrays; body = code_of f.body }
 
+-- a declared program
 abbrev pub program_of : FlatProgram → Program
 program_of p = record { functions = map function_of p.functions; bytes = p.bytes; main = p.main }

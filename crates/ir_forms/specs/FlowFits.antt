@@ -18,16 +18,18 @@ use Rattle.ir_forms.specs.declared.flow.Guard.{Guard}
 use Rattle.ir_forms.specs.declared.flow.FlowNode.{FlowNode}
 use Rattle.ir_forms.specs.declared.flow.FlowWrite.{FlowWrite}
 use Rattle.ir_forms.specs.declared.flow.FlowBlock.{FlowBlock}
+use Rattle.ir_forms.specs.declared.limits.TheConstants.{LABELS}
 use Rattle.ir_forms.specs.FlowRuns.{Computes, OnPath, count, tokens, exits, guard_token}
 
 -- FIELDS
 
 -- a label, or the offset that it becomes
 abbrev pub FitsLabel : Op → ℤ → Type 0
-FitsLabel Bro label = FitsSigned 524288 label
-FitsLabel Callo label = FitsSigned 524288 label
+FitsLabel Bro label = FitsSigned LABELS label
+FitsLabel Callo label = FitsSigned LABELS label
 FitsLabel op label = label ≡ pos 0
 
+-- the fields of a node of a form are in their widths, and those that the form does not have are 0
 abbrev pub FitsNodeForm : Form → FlowNode → Type 0
 FitsNodeForm General n = (n.imm ≡ pos 0) × (n.number ≡ 0)
 FitsNodeForm Immediate n = FitsSigned 256 n.imm × (n.number ≡ 0)
@@ -36,20 +38,24 @@ FitsNodeForm Store n = FitsSigned 256 n.imm × (n.number < 32)
 FitsNodeForm Branch n = FitsLabel n.op n.imm × (n.number < 8)
 FitsNodeForm Constant n = FitsConstant n.op n.imm × (n.number ≡ 0) × (n.guard ≡ None)
 
+-- a source is a register that the block reads, or one of its nodes
 abbrev pub FitsFlowSource : FlowBlock → FlowSource → Type 0
 FitsFlowSource b (Read r) = (r < 128) × Contains b.reads r
 FitsFlowSource b (Node j) = j < length b.nodes
 
+-- a guard names a node of the block
 abbrev pub FitsGuard : FlowBlock → Option Guard → Type 0
 FitsGuard b None = Unit {0}
 FitsGuard b (Some g) = g.node < length b.nodes
 
+-- a node of a block fits by its form, its guard and its sources
 pub record FitsNode (b : FlowBlock) (n : FlowNode) : Type 0 where
   pub form : FitsNodeForm (form_of n.op) n
   pub guard : FitsGuard b n.guard
   pub left : All (FitsFlowSource b) n.left
   pub right : All (FitsFlowSource b) n.right
 
+-- a write of a block names a register that there is, and sources of the block
 pub record FitsWrite (b : FlowBlock) (w : FlowWrite) : Type 0 where
   pub register : w.register < 128
   pub sources : All (FitsFlowSource b) w.sources
@@ -60,14 +66,17 @@ in_mask mask k = nat_lt k 32 && nat_eq (mask / 2 ^ k % 2) 1
 
 -- ORDER
 
+-- a source that is a node has a rank below k
 abbrev pub RisesFrom : (ℕ → ℕ) → ℕ → FlowSource → Type 0
 RisesFrom rank k (Read r) = Unit {0}
 RisesFrom rank k (Node j) = rank j < k
 
+-- a guard has a rank below k
 abbrev pub RisesFromGuard : (ℕ → ℕ) → ℕ → Option Guard → Type 0
 RisesFromGuard rank k None = Unit {0}
 RisesFromGuard rank k (Some g) = rank g.node < k
 
+-- all that node n of rank k takes has a rank below k
 pub record Rises (rank : ℕ → ℕ) (k : ℕ) (n : FlowNode) : Type 0 where
   pub left : All (RisesFrom rank k) n.left
   pub right : All (RisesFrom rank k) n.right
@@ -82,6 +91,7 @@ pub record HasOrder (b : FlowBlock) (rank : ℕ → ℕ) : Type 0 where
 
 -- PATHS
 
+-- each operand of a node gets at most one token
 abbrev pub AtMostOne : (ℕ → ℕ) → (ℕ → Answer) → FlowNode → Type 0
 AtMostOne regs h n = (count regs h n.left ≤ 1) × (count regs h n.right ≤ 1)
 
@@ -103,6 +113,7 @@ pub record TakesOne (regs : ℕ → ℕ) (h : ℕ → Answer) (b : FlowBlock) : 
 
 -- THE TWO CONDITIONS
 
+-- a block that the passes take
 pub record FitsFlow (b : FlowBlock) : Type 0 where
   pub nodes : All (FitsNode b) b.nodes
   pub writes : All (FitsWrite b) b.writes
@@ -119,10 +130,12 @@ pub record IsComplete (b : FlowBlock) : Type 0 where
 
 -- COUNTS
 
+-- whether a form is that of branches
 abbrev pub is_branch : Form → Bool
 is_branch Branch = true
 is_branch _ = false
 
+-- whether there is a guard
 abbrev pub has_guard : Option Guard → Bool
 has_guard None = false
 has_guard (Some g) = true

@@ -15,6 +15,7 @@ use Rattle.ir_forms.specs.FlowFits.{in_mask}
 
 -- USES
 
+-- whether two sources are the same read or the same node
 abbrev pub same_source : FlowSource → FlowSource → Bool
 same_source (Read a) (Read b) = a == b
 same_source (Read a) (Node k) = false
@@ -26,6 +27,7 @@ abbrev pub is_among : FlowSource → List FlowSource → Bool
 is_among s [] = false
 is_among s (x ∷ rest) = same_source s x || is_among s rest
 
+-- whether a guard names the source
 abbrev pub guards_by : FlowSource → Option Guard → Bool
 guards_by s None = false
 guards_by s (Some g) = same_source s (Node g.node)
@@ -36,6 +38,7 @@ nodes_name s [] = false
 nodes_name s (n ∷ rest) =
     is_among s n.left || (is_among s n.right || (guards_by s n.guard || nodes_name s rest))
 
+-- whether one of some writes names the source
 abbrev pub writes_name : FlowSource → List FlowWrite → Bool
 writes_name s [] = false
 writes_name s (w ∷ rest) = is_among s w.sources || writes_name s rest
@@ -57,6 +60,7 @@ is_silent Store = true
 is_silent Branch = true
 is_silent _ = false
 
+-- a block whose registers, numbers and reads are told apart
 pub record IsRegular (b : FlowBlock) : Type 0 where
   -- different registers are written
   pub registers : (i j : ℕ) (v w : FlowWrite) → slice_get b.writes i ≡ Some v

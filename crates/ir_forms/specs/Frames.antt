@@ -3,6 +3,7 @@
 -- for each scalar, and then the bytes of its arrays: its first word is the return address, 16 words
 -- are kept for the temporaries, one is free, and the scalars' words end before the arrays.
 use Rattle.std.specs.Prelude.{ℕ, ◌+◌, ◌-◌, ◌*◌, ◌/◌, nat_lt, cond, List, length}
+use Rattle.ir_forms.specs.declared.limits.TheConstants.{STACK_BYTES, FIRST_TEMPORARY, FIRST_SCRATCH}
 use Rattle.ir_forms.specs.FlatCode.{Function}
 
 -- a length, rounded up to words of 8 bytes
@@ -16,12 +17,13 @@ frames_at bytes = rounded (length bytes)
 -- the bytes that all active frames may take; not an `abbrev`, since a large numeral unrolls
 -- recursions in goals
 unfoldable pub frame_limit : ℕ
-frame_limit = 1048576
+frame_limit = STACK_BYTES
 
 -- the bytes of a frame before its arrays
 abbrev pub slots_of : Function → ℕ
 slots_of f = 8 * (18 + f.scalars)
 
+-- the bytes of a frame
 abbrev pub frame_of : Function → ℕ
 frame_of f = slots_of f + f.arrays
 
@@ -32,6 +34,7 @@ arrays_at base f used = base + used + slots_of f
 
 -- REGISTERS
 
+-- it says which system call is made
 abbrev pub system_register : ℕ
 system_register = 0
 
@@ -39,9 +42,11 @@ system_register = 0
 abbrev pub stack_register : ℕ
 stack_register = 1
 
+-- it has the address to come back to
 abbrev pub return_register : ℕ
 return_register = 2
 
+-- it has what a call returns, and what a system call puts out or takes in
 abbrev pub result_register : ℕ
 result_register = 3
 
@@ -51,8 +56,8 @@ argument_register i = 4 + i
 
 -- scalars and temporaries from 12 on, scratch variables from 4 on
 abbrev pub register_of : ℕ → ℕ
-register_of v = cond (nat_lt v 80) (12 + v) (v - 76)
+register_of v = cond (nat_lt v FIRST_SCRATCH) (12 + v) (v - 76)
 
 -- the byte of a frame where a scalar or a temporary is kept over a call
 abbrev pub slot_of : ℕ → ℕ
-slot_of v = cond (nat_lt v 64) (8 * (17 + v)) (8 * (v - 63))
+slot_of v = cond (nat_lt v FIRST_TEMPORARY) (8 * (17 + v)) (8 * (v - 63))

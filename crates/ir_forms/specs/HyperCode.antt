@@ -12,6 +12,7 @@ pub data Items : Type 0 where
   Save : (op : Op) (address value : Source) (rest : Items) → Items
   If : (test : Source) (one other rest : Items) → Items
 
+-- the end of a block: a tree of tests with an exit at each leaf
 pub data Tail : Type 0 where
   Leave : (exit : Exit) → Tail
   Test : (test : Source) (one other : Tail) → Tail

@@ -5,6 +5,7 @@ use Rattle.ir_forms.specs.declared.hyper.Source.{Source}
 use Rattle.ir_forms.specs.declared.hyper.Source.TheVariants.{Const, Reg}
 use Rattle.ir_forms.specs.declared.hyper.Exit.{Exit}
 use Rattle.ir_forms.specs.declared.hyper.Exit.TheVariants as exit
+use Rattle.ir_forms.specs.declared.limits.TheConstants.{LABELS}
 use Rattle.ir_forms.specs.HyperCode.{Items, Done, Set, Load, Save, If, Tail, Leave, Test, Block}
 use Rattle.ir_forms.specs.FlatFits.{operates, loads, stores}
 
@@ -13,6 +14,7 @@ abbrev pub FitsSource : Source → Type 0
 FitsSource (Const w) = w < 2 ^ 64
 FitsSource (Reg r) = r < 128
 
+-- each item has an operation of its kind, and registers that there are
 abbrev pub FitsItems : Items → Type 0
 FitsItems Done = Unit {0}
 FitsItems (Set to op a b rest) =
@@ -21,17 +23,19 @@ FitsItems (Load to op a rest) = (to < 128) × (loads op ≡ true) × FitsSource 
 FitsItems (Save op a v rest) = (stores op ≡ true) × FitsSource a × FitsSource v × FitsItems rest
 FitsItems (If t one other rest) = FitsSource t × FitsItems one × FitsItems other × FitsItems rest
 
--- labels are below 524,288; a block to come back to may be named by its address, of 32 bits
+-- a label is below their number; a block to come back to may be named by its address, of 32 bits
 abbrev pub FitsExit : Exit → Type 0
-FitsExit (exit.Jump l) = l < 524288
-FitsExit (exit.Call l back) = (l < 524288) × (back < 2 ^ 32)
+FitsExit (exit.Jump l) = l < LABELS
+FitsExit (exit.Call l back) = (l < LABELS) × (back < 2 ^ 32)
 FitsExit exit.Return = Unit {0}
-FitsExit (exit.System l) = l < 524288
+FitsExit (exit.System l) = l < LABELS
 
+-- each exit of a tail fits, and each test
 abbrev pub FitsTail : Tail → Type 0
 FitsTail (Leave e) = FitsExit e
 FitsTail (Test t one other) = FitsSource t × FitsTail one × FitsTail other
 
+-- a block fits by its items and its tail
 pub record FitsHyper (b : Block) : Type 0 where
   pub items : FitsItems b.items
   pub tail : FitsTail b.tail
@@ -46,6 +50,7 @@ LeadsOn k n (exit.Call l back) = (l < n) × (back ≡ suc k) × (back < n)
 LeadsOn k n exit.Return = Unit {0}
 LeadsOn k n (exit.System l) = (l ≡ suc k) × (l < n)
 
+-- each exit of a tail of block k leads to one of n blocks
 abbrev pub AllLeadOn : ℕ → ℕ → Tail → Type 0
 AllLeadOn k n (Leave e) = LeadsOn k n e
 AllLeadOn k n (Test t one other) = AllLeadOn k n one × AllLeadOn k n other
@@ -64,6 +69,7 @@ items_in (Load to op a rest) = 1 + items_in rest
 items_in (Save op a v rest) = 1 + items_in rest
 items_in (If t one other rest) = items_in one + items_in other + items_in rest
 
+-- the if-items, those in legs among them
 abbrev pub ifs_in : Items → ℕ
 ifs_in Done = 0
 ifs_in (Set to op a b rest) = ifs_in rest
@@ -71,10 +77,12 @@ ifs_in (Load to op a rest) = ifs_in rest
 ifs_in (Save op a v rest) = ifs_in rest
 ifs_in (If t one other rest) = 1 + (ifs_in one + ifs_in other + ifs_in rest)
 
+-- the tests of a tail
 abbrev pub tests_in : Tail → ℕ
 tests_in (Leave e) = 0
 tests_in (Test t one other) = 1 + (tests_in one + tests_in other)
 
+-- the exits of a tail
 abbrev pub exits_in : Tail → ℕ
 exits_in (Leave e) = 1
 exits_in (Test t one other) = exits_in one + exits_in other

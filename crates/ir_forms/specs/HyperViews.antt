@@ -15,6 +15,7 @@ use Rattle.ir_forms.specs.HyperCode.{Items, Done, Set, Load, Save, If, Tail, Lea
 abbrev pub Before : Type 0
 Before = Items → Items
 
+-- items in a list, one before the other
 abbrev pub all_before : List Before → Items
 all_before [] = Done
 all_before (f ∷ fs) = f (all_before fs)
@@ -30,18 +31,23 @@ before_by (item.If t one other) rest = If t (all_before one) (all_before other) 
 unfoldable pub then_items : HyperItem → Before
 then_items i = fold-HyperItem Before before_by i
 
+-- declared items, in order
 abbrev pub items_of : List HyperItem → Items
 items_of all = all_before (map then_items all)
 
+-- one level of a tail, where its parts are seen so already
 abbrev pub tail_by : Tail-F Tail → Tail
 tail_by (tail.Leave e) = Leave e
 tail_by (tail.Test t one other) = Test t one other
 
+-- a declared tail
 unfoldable pub tail_of : declared.Tail → Tail
 tail_of t = fold-Tail Tail tail_by t
 
+-- a declared block
 abbrev pub block_of : HyperBlock → Block
 block_of b = record { items = items_of b.items; tail = tail_of b.tail }
 
+-- the blocks of a declared program
 abbrev pub blocks_of : HyperProgram → List Block
 blocks_of p = map block_of p.blocks

@@ -4,6 +4,7 @@ use Rattle.trips_isa.specs.Stores.{data_size}
 use Rattle.ir_forms.specs.HyperCode.{Block}
 use Rattle.ir_forms.specs.HyperRuns.{Machine, Layout, after_block}
 
+-- each number of a list is a byte
 abbrev pub AreBytes : List ℕ → Type 0
 AreBytes bytes = All (λ b. b < 256) bytes
 

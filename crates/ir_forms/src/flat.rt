@@ -3,8 +3,8 @@ use trips_isa::Op;
 
 /// An operand of a flat statement: a word, or a variable by its number.
 ///
-/// Variable k below 64 is scalar k of the function, 64 + t is temporary t, and 80 + s is scratch
-/// variable s.
+/// Variable k below [`FIRST_TEMPORARY`](crate::FIRST_TEMPORARY) is scalar k of the function; then come
+/// the temporaries, and from [`FIRST_SCRATCH`](crate::FIRST_SCRATCH) on the scratch variables.
 #[derive(Clone, Copy, Debug, PartialEq, Eq)]
 pub enum Arg {
     Const(u64),

@@ -6,3 +6,6 @@ pub mod Wants
 pub mod Sizes
 pub mod Straight
 pub mod Laws
+pub mod Immediates
+pub mod Refusals
+pub mod inside

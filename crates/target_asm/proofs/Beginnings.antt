@@ -34,8 +34,10 @@ pub sum_more : (blocks : List Block) (k here size : ℕ) (d : Block) → k < len
     → here ≡ sum_by chunks (take k blocks)
     → size ≡ chunks (get_or blocks k d) → here + size ≡ sum_by chunks (take (k + 1) blocks)
 sum_more blocks k here size d l h s =
-    let more : sum_by chunks (take (k + 1) blocks) ≡ sum_by chunks (take k blocks) + sum_by chunks (get_or blocks k d ∷ []) =
+    let more : sum_by chunks (take (k + 1) blocks)
+    ≡ sum_by chunks (take k blocks) + sum_by chunks (get_or blocks k d ∷ []) =
     ap (sum_by chunks) (take_more blocks k d l)
     ∙ sum_by-append chunks (take k blocks) (get_or blocks k d ∷ []) in
-    let one : sum_by chunks (get_or blocks k d ∷ []) ≡ chunks (get_or blocks k d) + 0 = sum_by-cons chunks (get_or blocks k d) [] in
+    let one : sum_by chunks (get_or blocks k d ∷ []) ≡ chunks (get_or blocks k d) + 0 =
+    sum_by-cons chunks (get_or blocks k d) [] in
     omega (arith, more, one, h, s)

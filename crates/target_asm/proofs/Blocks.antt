@@ -21,8 +21,10 @@ pub next_chunk : (blocks : List Block) (k : ℕ) (d : Block) (here size : ℕ) �
     → here ≡ chunk_of blocks k → size ≡ chunks (get_or blocks k d)
     → here + size ≡ chunk_of blocks (k + 1)
 next_chunk blocks k d here size h e s =
-    let more : chunk_of blocks (k + 1) ≡ sum_by chunks (take k blocks) + sum_by chunks (get_or blocks k d ∷ []) = ap (sum_by chunks) (take_more blocks k d h) ∙ sum_by-append chunks (take k blocks) (get_or blocks k d ∷ []) in
-    let one : sum_by chunks (get_or blocks k d ∷ []) ≡ chunks (get_or blocks k d) + 0 = sum_by-cons chunks (get_or blocks k d) [] in
+    let more : chunk_of blocks (k + 1) ≡ sum_by chunks (take k blocks) + sum_by chunks (get_or blocks k d ∷ []) =
+    ap (sum_by chunks) (take_more blocks k d h) ∙ sum_by-append chunks (take k blocks) (get_or blocks k d ∷ []) in
+    let one : sum_by chunks (get_or blocks k d ∷ []) ≡ chunks (get_or blocks k d) + 0 =
+    sum_by-cons chunks (get_or blocks k d) [] in
     omega (arith, more, one, e, s)
 
 -- each block has a chunk
@@ -57,7 +59,8 @@ pub printed : (i : Image) (starts head bytes all : List ℕ) → FitsImage i
     → all ≡ bytes ++ numbered (λ k b. block_text (goal_in starts) (chunk_of i.blocks k) k b) 0
     i.blocks → TargetText i all
 printed i starts head bytes all fits s h d a =
-    let table : numbered (λ k b. block_text (goal_in starts) (chunk_of i.blocks k) k b) 0 i.blocks ≡ numbered (block_in i.blocks) 0 i.blocks =
+    let table : numbered (λ k b. block_text (goal_in starts) (chunk_of i.blocks k) k b) 0 i.blocks
+    ≡ numbered (block_in i.blocks) 0 i.blocks =
     ap (λ t. numbered (λ k b. block_text (goal_in t) (chunk_of i.blocks k) k b) 0 i.blocks) s
     ∙ blocks_agree i.blocks in
     record {

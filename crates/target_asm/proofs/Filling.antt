@@ -65,7 +65,8 @@ fill_start b here line text out e =
 
 pub fill_next : (b : Begins) (here t line slot next : ℕ) (text rest : List ℕ)
     (out padded new : Slots) (i : Inst) (total : Taken Slots)
-    → t < 129 → next ≡ length out → begins (codes "N[") text ≡ true → one_inst b here next (line + t) text ≡ Ok (slot, i, rest)
+    → t < 129 → next ≡ length out → begins (codes "N[") text ≡ true
+    → one_inst b here next (line + t) text ≡ Ok (slot, i, rest)
     → padded ≡ out ++ gap (length out) slot → new ≡ padded ++ Some i ∷ [] → length new ≡ slot + 1
     → with_front out (slots_in b here (129 - t) (length out) (line + t) text) ≡ total
     → with_front new (slots_in b here (129 - (t + 1)) (length new) (line + (t + 1)) rest) ≡ total

@@ -57,8 +57,11 @@ starts_tell (b ∷ bs) k here (suc m) =
         (here + suc m)
     by rest (inl h) =
         let body = body_chunks 0 b.insts.items in
-        let l : m < length (replicate (1 + body - 1) 0) = rw (length-replicate {A = ℕ} (1 + body - 1) 0) (omega (arith, h)) in
-        let z : get_or (replicate (1 + body - 1) 0 ++ start_rows (suc k) bs) m 0 ≡ 0 = get_or-append (replicate (1 + body - 1) 0) (start_rows (suc k) bs) 0 m l ∙ get_or-replicate (1 + body - 1) m 0 0 (omega (arith, h)) in
+        let l : m < length (replicate (1 + body - 1) 0) =
+        rw (length-replicate {A = ℕ} (1 + body - 1) 0) (omega (arith, h)) in
+        let z : get_or (replicate (1 + body - 1) 0 ++ start_rows (suc k) bs) m 0 ≡ 0 =
+        get_or-append (replicate (1 + body - 1) 0) (start_rows (suc k) bs) 0 m l
+        ∙ get_or-replicate (1 + body - 1) m 0 0 (omega (arith, h)) in
         ap named z ∙ sym (none_before bs (suc k) (here + (1 + body)) (here + suc m)
         (omega (arith, h)))
     by rest (inr h) =

@@ -15,7 +15,8 @@ use Rattle.target_asm_spec.specs.Fields.{target_text, sense_text, numbers_text}
 use Rattle.target_asm_spec.specs.Chunks.{goal_of}
 
 unfoldable pub read_line : ℕ → ReadSlot → List ℕ
-read_line i r = indexed 82 i ++ (codes " read " ++ (indexed 71 r.register ++ (target_text (Some r.first) ++ (target_text r.second ++ 10 ∷ []))))
+read_line i r = indexed 82 i ++ (codes " read " ++ (indexed 71 r.register
+    ++ (target_text (Some r.first) ++ (target_text r.second ++ 10 ∷ []))))
 
 unfoldable pub write_line : ℕ → ℕ → List ℕ
 write_line i register = indexed 87 i ++ (codes " write " ++ (indexed 71 register ++ 10 ∷ []))

@@ -1,5 +1,6 @@
 -- What a block does that can fault: the divisions and the accesses of the instructions that fire,
--- all their operands being words. Own: a word of its laws, that a run without a fault has no mark.
+-- all their operands being words. Own (docs/MACHINE.md,
+-- "Exceptions"): a word of its laws, that a run without a fault has no mark.
 use Rattle.std.specs.Prelude.{◌≡◌, ℕ, zero, suc, ◌+◌, Bool, true, false, cond, not, ◌&&◌, nat_eq, List}
 use Rattle.std.specs.Prelude.{[], ◌∷◌, ◌++◌, length, Option, Some, None, slice_get}
 use Rattle.trips_isa.specs.declared.op.Op.{Op}

@@ -30,6 +30,7 @@ test b = cond b 1 0
 abbrev pub quotient : ℕ → ℕ → ℕ
 quotient a b = cond (nat_eq b 0) 0 (word (int_div (signed a) (signed b)))
 
+-- of unsigned numbers; by zero it is 0
 abbrev pub quotient_unsigned : ℕ → ℕ → ℕ
 quotient_unsigned a b = cond (nat_eq b 0) 0 (a / b)
 

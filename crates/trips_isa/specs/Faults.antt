@@ -1,5 +1,6 @@
 -- The causes of faults as numbers: 1 a division by zero, 2 a misaligned address, 3 an address
--- outside data memory, and 0 none. Own: the numbers, and which operations fault.
+-- outside data memory, and 0 none. Own (docs/MACHINE.md, "Exceptions"): the numbers, and which
+-- operations fault.
 use Rattle.std.specs.Prelude.{ℕ, ◌+◌, ◌%◌, Bool, true, false, cond, ◌==◌, ◌&&◌, nat_eq, nat_le}
 use Rattle.std.specs.Prelude.{Option, Some, None}
 use Rattle.trips_isa.specs.declared.op.Op.{Op}

@@ -1,5 +1,6 @@
 -- What an instruction asks for when it fires, and the token that it gives once it is answered.
--- Own: the analysis; the rule says the same at once (specs/Rule).
+-- Own (docs/MACHINE.md, "The step of a block"): the analysis; the rule says the same at once
+-- (specs/Rule).
 use Rattle.std.specs.Prelude.{ℕ, Option, Some, None}
 use Rattle.trips_isa.specs.declared.form.Form.{Form}
 use Rattle.trips_isa.specs.declared.form.Form.TheVariants.{General, Immediate, Load, Store, Branch}
@@ -43,6 +44,7 @@ of_nulls Store i l r = Stores i.number (addressed i l) (token_or_null r)
 of_nulls Branch i l r = Leaves i.number Null
 of_nulls _ i l r = Value Null
 
+-- what an instruction of a form asks for: nothing until all operands are there
 abbrev pub fired_in : Form → Operands → Inst → Answer → Answer → Option Fired
 fired_in f Missing i l r = None
 fired_in f (Nulls a b) i l r = Some (of_nulls f i l r)

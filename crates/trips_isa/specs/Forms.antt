@@ -14,6 +14,7 @@ use Rattle.trips_isa.specs.declared.form.Form.TheVariants.{Constant}
 use Rattle.trips_isa.specs.declared.form.Role.{Role}
 use Rattle.trips_isa.specs.declared.form.Role.TheVariants.{Free, Nothing, Copy, One, Both}
 
+-- the form of an operation's word
 abbrev pub form_of : Op → Form
 form_of Addi = Immediate
 form_of Subi = Immediate
@@ -55,6 +56,7 @@ form_of Gens = Constant
 form_of App = Constant
 form_of _ = General
 
+-- the role of an operation of form G: most take both operands
 abbrev pub general_role : Op → Role
 general_role Extsb = One
 general_role Extsh = One
@@ -66,15 +68,18 @@ general_role Mov = Copy
 general_role Null = Nothing
 general_role _ = Both
 
+-- the role of a branch: those that go to an address take it
 abbrev pub branch_role : Op → Role
 branch_role Br = One
 branch_role Ret = One
 branch_role _ = Free
 
+-- the role of an operation with a constant: `app` puts it behind its operand
 abbrev pub constant_role : Op → Role
 constant_role App = One
 constant_role _ = Free
 
+-- the role of an operation of a form
 abbrev pub role_in : Form → Op → Role
 role_in General op = general_role op
 role_in Immediate op = One
@@ -83,6 +88,7 @@ role_in Store op = Both
 role_in Branch op = branch_role op
 role_in Constant op = constant_role op
 
+-- how an operation takes its operands
 abbrev pub role_of : Op → Role
 role_of op = role_in (form_of op) op
 
@@ -101,21 +107,24 @@ size_of Lws = 4
 size_of Ld = 8
 size_of _ = 0
 
--- whether the left and the right operand are taken
+-- whether a role takes a left operand
 abbrev pub takes_left : Role → Bool
 takes_left Copy = true
 takes_left One = true
 takes_left Both = true
 takes_left _ = false
 
+-- whether a role takes a right operand
 abbrev pub takes_right : Role → Bool
 takes_right Both = true
 takes_right _ = false
 
+-- whether a form is that of loads
 abbrev pub is_load : Form → Bool
 is_load Load = true
 is_load _ = false
 
+-- whether a form is that of stores
 abbrev pub is_store : Form → Bool
 is_store Store = true
 is_store _ = false

@@ -11,6 +11,7 @@ use Rattle.trips_isa.specs.Fits.{FitsBlock}
 
 -- where blocks begin, in chunks of 128 bytes --------------------------------------------------
 
+-- how many body chunks slot j needs, 32 slots a chunk, and 1 where it is empty
 abbrev pub chunks_to : Option Inst → ℕ → ℕ
 chunks_to None j = 1
 chunks_to (Some i) j = j / 32 + 1
@@ -50,10 +51,15 @@ last_byte [] = 1
 last_byte (b ∷ []) = b
 last_byte (b ∷ c ∷ bs) = last_byte (c ∷ bs)
 
+-- an image has a block, at most 524,288 chunks and at most 4,194,304 bytes, and does not end in a
+-- zero byte
 pub record FitsImage (i : Image) : Type 0 where
   pub some : 1 ≤ length i.blocks
   pub each : All FitsBlock i.blocks
+  -- the chunks of all blocks, each a header and a body
   pub total : sum_by chunks i.blocks ≤ 524288
+  -- the bytes that data memory begins with
   pub few : length i.bytes ≤ 4194304
   pub bytes : All (λ b. b < 256) i.bytes
+  -- no byte 0 ends them, so that each start of data memory has one image
   pub last : last_byte i.bytes ≡ 0 → ⊥

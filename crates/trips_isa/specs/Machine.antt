@@ -13,10 +13,13 @@ use Rattle.trips_isa.specs.declared.run.Stepped.TheVariants.{Went, Ended, StackF
 use Rattle.trips_isa.specs.Stores.{data_size, store_all}
 use Rattle.trips_isa.specs.Outcomes.{Effects, Outcome, Comes, Faults, outcome}
 
+-- what the machine has between two blocks (docs/MACHINE.md, "State")
 pub record State : Type 0 where
   pub registers : List ℕ
   pub memory : List ℕ
+  -- the number of the next block
   pub next : ℕ
+  -- the rest of the input
   pub rest : List ℕ
   pub output : List ℕ
   pub trace : List Traced
@@ -75,6 +78,7 @@ abbrev pub come_to : List ℕ → Outcome → State → State × Stepped
 come_to writes (Comes effects) s = apply writes effects s
 come_to writes (Faults c) s = (s, Trap c)
 
+-- the step of the next block; where there is none nothing changes
 abbrev pub step_in : List Block → Option Block → State → State × Stepped
 step_in blocks None s = (s, Went)
 step_in blocks (Some b) s =
@@ -112,4 +116,5 @@ runs blocks s (suc n) = let before = runs blocks s n in goes_on blocks before.0 
 -- a machine that may make as many steps as its budget
 pub record Machine : Type 0 where
   pub state : State
+  -- how many blocks it may run
   pub budget : ℕ

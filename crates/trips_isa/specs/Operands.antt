@@ -1,5 +1,6 @@
 -- What the tokens at an instruction's operands are to its role: one is missing, one is null, or all
--- are words. Own: the analysis; what null does is the rule's (specs/Rule).
+-- are words. Own (docs/MACHINE.md, "The step of a block"): the analysis; what null does is the rule's
+-- (specs/Rule).
 use Rattle.std.specs.Prelude.{ℕ, Bool, true, false, Some, None}
 use Rattle.trips_isa.specs.declared.block.Token.TheVariants.{Null, Word}
 use Rattle.trips_isa.specs.declared.block.Sense.{Sense}

@@ -26,12 +26,15 @@ abbrev pub to_address : List Block → Token → ℕ
 to_address blocks Null = 0
 to_address blocks (Word a) = cond (a % 128 == 0) (block_at blocks (a / 128)) 0
 
+-- the block at an offset in chunks from the begin of block k
 abbrev pub to_offset : List Block → ℕ → ℕ → ℕ
 to_offset blocks k offset = block_at blocks ((chunk_of blocks k + offset) % 2 ^ 64)
 
+-- the block behind block k, and block 0 behind the last
 abbrev pub to_following : List Block → ℕ → ℕ
 to_following blocks k = cond (nat_lt (k + 1) (length blocks)) (k + 1) 0
 
+-- the block to which a branch of an operation leads from block k
 abbrev pub next_by : Op → List Block → ℕ → Inst → Token → ℕ
 next_by Bro blocks k i t = to_offset blocks k (word i.imm)
 next_by Callo blocks k i t = to_offset blocks k (word i.imm)
@@ -45,14 +48,17 @@ abbrev pub next_of : List Block → ℕ → Leaving → ℕ
 next_of blocks k None = 0
 next_of blocks k (Some p) = next_by (p.0).op blocks k p.0 p.1
 
+-- whether an operation is the system call
 abbrev pub is_scall : Op → Bool
 is_scall Scall = true
 is_scall _ = false
 
+-- whether a system call follows the block
 abbrev pub is_system : Leaving → Bool
 is_system None = false
 is_system (Some p) = is_scall (p.0).op
 
+-- the number of the exit that is taken, and 0 where none is
 abbrev pub exit_of : Leaving → ℕ
 exit_of None = 0
 exit_of (Some p) = (p.0).number
@@ -62,12 +68,18 @@ exit_of (Some p) = (p.0).number
 -- the token of each write, the stores in order of number, the exit, whether a system call follows,
 -- and the next block
 pub record Effects : Type 0 where
+  -- one for each declared write
   pub writes : List Token
+  -- those that fired, in order of number
   pub stores : List Stored
+  -- the number of the branch that fired
   pub exit : ℕ
+  -- whether a system call follows
   pub system : Bool
+  -- the number of the next block
   pub successor : ℕ
 
+-- a write that gets no token counts as null
 abbrev pub or_null : Answer → Token
 or_null None = Null
 or_null (Some t) = t

@@ -28,6 +28,7 @@ place_of (spot.Write w) = FIRST_WRITE + w
 place_of (spot.Store n) = FIRST_STORE + n
 place_of _ = NO_PLACE
 
+-- the place of a spot that may not be there
 abbrev pub place_at : Option Spot → ℕ
 place_at None = NO_PLACE
 place_at (Some s) = place_of s
@@ -54,6 +55,7 @@ read_node r = record {
   below = 0;
 }
 
+-- slot j as a node; an empty one names no place
 abbrev pub inst_node : ℕ → Option Inst → Node
 inst_node j None = record {
   slot = j;
@@ -72,6 +74,7 @@ inst_node j (Some i) = record {
   below = load_bound (form_of i.op) i.number;
 }
 
+-- the slots from number j on as nodes
 abbrev pub inst_nodes : ℕ → List (Option Inst) → List Node
 inst_nodes j [] = []
 inst_nodes j (i ∷ is) = inst_node j i ∷ inst_nodes (suc j) is
@@ -88,6 +91,7 @@ in_mask mask n = nat_lt n 32 && ((mask / 2 ^ n) % 2 == 1)
 abbrev pub targets : Node → List ℕ
 targets n = n.first ∷ n.second ∷ []
 
+-- whether a place is among some places
 abbrev pub names : List ℕ → ℕ → Bool
 names [] q = false
 names (t ∷ ts) q = (t == q) || names ts q
@@ -97,11 +101,13 @@ abbrev pub if_named : Bool → Spot → List Spot → List Spot
 if_named true s rest = s ∷ rest
 if_named false s rest = rest
 
+-- the reads from number i on that name place q
 abbrev pub reads_naming : ℕ → List ReadSlot → ℕ → List Spot
 reads_naming i [] q = []
 reads_naming i (r ∷ rs) q = if_named (names (targets (read_node r)) q) (spot.Read i)
     (reads_naming (suc i) rs q)
 
+-- the slots from number j on that name place q
 abbrev pub slots_naming : ℕ → List (Option Inst) → ℕ → List Spot
 slots_naming j [] q = []
 slots_naming j (i ∷ is) q = if_named (names (targets (inst_node j i)) q) (spot.Inst j)

@@ -30,15 +30,18 @@ matched OnFalse None = false
 matched OnFalse (Some Null) = false
 matched OnFalse (Some (Word w)) = not (low w)
 
+-- of one operand: null gives null, and a word what f computes of it
 abbrev pub of_one : (ℕ → ℕ) → Answer → Answer
 of_one f None = None
 of_one f (Some Null) = Some Null
 of_one f (Some (Word x)) = Some (Word (f x))
 
+-- beside a null operand the other is waited for, and null is given
 abbrev pub null_beside : Answer → Answer
 null_beside None = None
 null_beside (Some t) = Some Null
 
+-- of two operands: null where one of them is null, else what f computes of their words
 abbrev pub of_both : (ℕ → ℕ → ℕ) → Answer → Answer → Answer
 of_both f None r = None
 of_both f (Some Null) r = null_beside r
@@ -55,9 +58,11 @@ gives Copy a l r = l
 gives One a l r = of_one (λ x. a x 0) l
 gives Both a l r = of_both a l r
 
+-- a token, where the predicate matches
 abbrev pub if_matched : Bool → Answer → Answer
 if_matched true t = t
 if_matched false t = None
 
+-- what a node of a role and a sense gives of the tokens at its operands and at its predicate
 abbrev pub rule : Role → Sense → (ℕ → ℕ → ℕ) → Answer → Answer → Answer → Answer
 rule role sense a l r p = if_matched (matched sense p) (gives role a l r)

@@ -24,9 +24,11 @@ abbrev pub is_good_address : ℕ → ℕ → Bool
 is_good_address address size = nat_lt 0 size &&
     ((address % size == 0) && nat_le (address + size) data_size)
 
+-- a store that changes nothing
 abbrev pub null_store : Inst → Stored
 null_store i = record { number = i.number; address = 0; size = size_of i.op; value = None }
 
+-- the store of a value at an address; a bad address makes it null
 abbrev pub word_store : Inst → ℕ → ℕ → Stored
 word_store i address value =
     cond (is_good_address address (size_of i.op))
@@ -51,10 +53,12 @@ byte_stored s (Some v) address =
     cond (nat_le s.address address && nat_lt (address - s.address) s.size)
     (Some (v / 2 ^ (8 * (s.size - 1 - (address - s.address))) % 256)) None
 
+-- the byte at an address of a store that may not be there
 abbrev pub byte_of : Option Stored → ℕ → Option ℕ
 byte_of None address = None
 byte_of (Some s) address = byte_stored s s.value address
 
+-- a byte, or another where there is none
 abbrev pub or_byte : Option ℕ → ℕ → ℕ
 or_byte (Some b) c = b
 or_byte None c = c
@@ -90,6 +94,7 @@ put_bytes mem address zero v = mem
 put_bytes mem address (suc k) v = put_bytes (slice_set mem (address + k) (v % 256)) address k
     (v / 256)
 
+-- the memory after a store of which this is the value
 abbrev pub put_value : List ℕ → Stored → Option ℕ → List ℕ
 put_value mem s None = mem
 put_value mem s (Some v) = put_bytes mem s.address s.size v
@@ -99,6 +104,7 @@ abbrev pub store_all : List ℕ → List Stored → List ℕ
 store_all mem [] = mem
 store_all mem (s ∷ stores) = store_all (put_value mem s s.value) stores
 
+-- a store that may not be there, as a list
 abbrev pub listed : Option Stored → List Stored
 listed None = []
 listed (Some s) = s ∷ []

@@ -1,5 +1,6 @@
--- Tables of tokens: one for each node, by the rule, from the tokens that its producers give. Own: the
--- machine pushes tokens to consumers; here a node pulls from its producers.
+-- Tables of tokens: one for each node, by the rule, from the tokens that its producers give. Own
+-- (docs/MACHINE.md, "Places"): the machine pushes tokens to consumers; here a node pulls from its
+-- producers.
 use Rattle.std.specs.Prelude.{◌≡◌, ℕ, zero, suc, ◌+◌, ◌<◌, Bool, true, false, ◌&&◌, ◌||◌, nat_le}
 use Rattle.std.specs.Prelude.{nat_lt, List, [], ◌∷◌, Option, Some, None, slice_get}
 use Rattle.trips_isa.specs.declared.node.Node.{Node}
@@ -12,6 +13,7 @@ abbrev pub taken : {A : Type 0} → Bool → (ℕ → Option A) → Option A
 taken true f = f 0
 taken false f = None
 
+-- the first of two things that is there
 abbrev pub or_else : {A : Type 0} → Option A → Option A → Option A
 or_else None u = u
 or_else (Some t) u = Some t
@@ -46,15 +48,19 @@ pulled ns a (suc k) x = node_gives (slice_get ns x) (a x) (λ q. first ns q (pul
 unfoldable pub deepest : ℕ
 deepest = 160
 
--- edges: from a producer to a consumer, and from a store to each load of a higher number
+-- edges: from a producer to a consumer, and from a store to each load of a higher number -------
+
+-- whether some places have a store number below the place m
 abbrev pub stores_below : List ℕ → ℕ → Bool
 stores_below [] m = false
 stores_below (t ∷ ts) m = (nat_le FIRST_STORE t && nat_lt t m) || stores_below ts m
 
+-- whether node m feeds node n: it names an operand or the predicate of n, or is a store that n sees
 abbrev pub feeds : Node → Node → Bool
 feeds m n = names (targets m) n.slot || (names (targets m) (128 + n.slot) ||
     (names (targets m) (256 + n.slot) || stores_below (targets m) n.below))
 
+-- an edge from node x to node y: x feeds y
 pub record Edge (ns : List Node) (x y : ℕ) : Type 0 where
   pub source : Node
   pub target : Node
@@ -65,7 +71,9 @@ pub record Edge (ns : List Node) (x y : ℕ) : Type 0 where
 -- an order of the nodes along the edges
 pub record Ranked (ns : List Node) (rank : ℕ → ℕ) : Type 0 where
   pub rises : (x y : ℕ) → Edge ns x y → rank x < rank y
+  -- so that no chain of edges is longer than `deepest`
   pub below : (x : ℕ) → rank x < 160
 
+-- the nodes stand in some order along the edges
 abbrev pub IsRanked : List Node → Type 0
 IsRanked ns = (rank : ℕ → ℕ) × Ranked ns rank

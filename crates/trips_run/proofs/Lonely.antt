@@ -11,9 +11,11 @@ use Rattle.trips_isa.specs.Places.{targets, names}
 use Rattle.block_cases.specs.declared.token.CaseToken.{CaseToken}
 use Rattle.block_cases.specs.declared.token.CaseToken.TheVariants.{Absent, Bit}
 use Rattle.block_cases.specs.Nodes.{one_if, hits}
-use Rattle.block_cases.specs.Cases.{cases, count, is_case, ones_pass, has_bit, is_chooser}
-use Rattle.block_cases.specs.Cases.{is_copy, leads, leads_from, through, asks, names_predicate}
-use Rattle.block_cases.specs.Cases.{present, token, fires, first, pulled, tokens}
+use Rattle.block_cases.specs.Choosers.{is_chooser}
+use Rattle.block_cases.specs.Cases.{cases, count, is_case, ones_pass, has_bit}
+use Rattle.block_cases.specs.Choosers.{is_copy, leads, leads_from, through, asks, names_predicate}
+use Rattle.block_cases.specs.CaseRule.{fires, first, pulled}
+use Rattle.block_cases.specs.Cases.{present, token, tokens}
 
 -- a node that names no operand and no predicate, and copies nothing
 pub record IsLonely (m : Node) : Type 0 where

@@ -3,9 +3,11 @@ use Rattle.std.specs.Prelude.{ℕ, ◌+◌, ◌-◌, ◌*◌, Bool, not, ◌&&�
 use Rattle.std.specs.Prelude.{List, [], ◌∷◌, length, Option, None, Some}
 use Rattle.std.specs.List.{list_all}
 
+-- a byte from `0` to `9`
 abbrev pub is_digit : ℕ → Bool
 is_digit byte = nat_le 48 byte && nat_le byte 57
 
+-- the word has one digit at least, and nothing else
 abbrev pub is_number : List ℕ → Bool
 is_number word = not (length word == 0) && list_all is_digit word
 

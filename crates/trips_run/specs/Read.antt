@@ -2,10 +2,12 @@
 use Rattle.std.specs.Prelude.{◌≡◌, ℕ, ◌<◌, ◌≤◌, List, [], Option, None, Some, IfSome, length}
 use Rattle.c_tree.specs.declared.limits.TheConstants.{MOST_SOURCE_BYTES}
 use Rattle.trips_outside.specs.Outside.{Holds}
+use Rattle.trips_run.specs.declared.asked_answer.TheConstants.{MOST_IMAGE_BYTES}
 use Rattle.trips_run.specs.declared.command_line.FileForm.{FileForm}
 use Rattle.trips_run.specs.declared.command_line.FileForm.TheVariants.{Source, Image}
 use Rattle.trips_run.specs.declared.loading.Loaded.{Loaded}
 use Rattle.trips_run.specs.declared.loading.Loaded.TheVariants.{Fault, TooLarge, Bytes}
+use Rattle.trips_run.specs.declared.loading.TheConstants.{MOST_INPUT_BYTES}
 use Rattle.trips_run.specs.Request.{Request}
 
 -- how many bytes a file of C may have
@@ -14,11 +16,11 @@ most_source_bytes = MOST_SOURCE_BYTES
 
 -- how many bytes an input may have
 unfoldable pub most_input_bytes : ℕ
-most_input_bytes = 1048576
+most_input_bytes = MOST_INPUT_BYTES
 
 -- how many bytes an image may have
 unfoldable pub most_image_bytes : ℕ
-most_image_bytes = 71303188
+most_image_bytes = MOST_IMAGE_BYTES
 
 -- how many bytes a file may have, by what it is read as
 abbrev pub limit_of : FileForm → ℕ

@@ -53,8 +53,10 @@ eval_report outcome.Undefined = codes "undefined\n"
 eval_report outcome.Deep = codes "deep\n"
 eval_report (outcome.Done output result steps) = report_of output (done_lines result steps)
 
+-- the report on words that are no request
 unfoldable pub usage_text : List ℕ
 usage_text = codes "usage\n"
 
+-- the report on a file that cannot be read
 unfoldable pub read_fault_text : List ℕ
 read_fault_text = codes "read fault\n"

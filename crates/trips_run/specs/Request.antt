@@ -9,6 +9,7 @@ use Rattle.trips_run.specs.declared.command_line.Work.{Work}
 use Rattle.trips_run.specs.declared.command_line.Work.TheVariants.{Run, Evaluate}
 use Rattle.trips_run.specs.declared.command_line.FileForm.{FileForm}
 use Rattle.trips_run.specs.declared.command_line.FileForm.TheVariants.{Source, Image}
+use Rattle.trips_run.specs.declared.command_line.TheConstants.{DEFAULT_COUNT}
 
 -- A request of any command that runs: what is done, with which file, read as what, with the input
 -- of which name, if it has one, and how many blocks or steps it may take.
@@ -29,7 +30,7 @@ form_of file = if ends_with nat_eq file (codes ".img") then Image else Source
 
 -- how many blocks or steps are taken where none are asked for
 abbrev pub most_of : Option ℕ → ℕ
-most_of None = 1000000
+most_of None = DEFAULT_COUNT
 most_of (Some count) = count
 
 -- the run of a file, and the evaluation of one
@@ -42,6 +43,7 @@ run_of file options = record {
   most = most_of options.count;
 }
 
+-- the same of an evaluation, whose file is C whatever its name
 abbrev pub evaluation_of : List ℕ → Options → Request
 evaluation_of file options = record {
   work = Evaluate;
@@ -71,6 +73,7 @@ commanded command file words =
     if bytes_eq command (codes "run") then run_with file words
     else if bytes_eq command (codes "eval") then eval_with file words else None
 
+-- a request has a command and a file at least
 abbrev pub asked : List (List ℕ) → Option Request
 asked (command ∷ file ∷ words) = commanded command file words
 asked words = None

@@ -30,40 +30,50 @@ abbrev pub small_int : ℕ → Kind → Option ℕ
 small_int value Int = if nat_lt value 65536 then Some value else None
 small_int value kind = None
 
+-- the number of a node that is one
 abbrev pub number_in : ExprNode-F ExprNode Expr → Option ℕ
 number_in (Number value kind) = small_int value kind
 number_in node = None
 
+-- the same of an expression
 unfoldable pub number_of : Expr → Option ℕ
 number_of e = number_in (out-ExprNode e.node)
 
+-- the number that a `return` gives
 abbrev pub return_in : StmtNode-F ForInit StmtNode Stmt → Option ℕ
 return_in (Return (Some e)) = number_of e
 return_in node = None
 
+-- the same of a statement
 unfoldable pub return_of : Stmt → Option ℕ
 return_of s = return_in (out-StmtNode s.node)
 
+-- the same of the only one of statements
 abbrev pub only_return : List Stmt → Option ℕ
 only_return (s ∷ []) = return_of s
 only_return statements = None
 
+-- the same of the only statement of a block
 abbrev pub body_in : StmtNode-F ForInit StmtNode Stmt → Option ℕ
 body_in (Compound statements) = only_return statements
 body_in node = None
 
+-- the same of a statement that is such a block
 unfoldable pub body_of : Stmt → Option ℕ
 body_of s = body_in (out-StmtNode s.node)
 
+-- the number that a function `main` of type int(void) returns by such a body
 abbrev pub main_in : TopNode → Option ℕ
 main_in (Func (Some Int) name [] (Some body)) =
     if bytes_eq name (codes "main") then body_of body else None
 main_in node = None
 
+-- the same of the only one of items
 abbrev pub only_main : List Top → Option ℕ
 only_main (item ∷ []) = main_in item.node
 only_main items = None
 
+-- the same of a tree
 abbrev pub returned : Program → Option ℕ
 returned tree = only_main tree.items
 
@@ -92,6 +102,7 @@ constant n write = record {
   second = None;
 }
 
+-- the system call
 abbrev pub call : Inst
 call = record { op = Scall; sense = Always; imm = pos 0; number = 0; first = None; second = None }
 

@@ -19,7 +19,7 @@ use std::alloc::{AllocError, Global};
 use trips_outside::Files;
 
 /// How many bytes an image may have.
-const MOST_IMAGE_BYTES: u64 = 71_303_188;
+pub const MOST_IMAGE_BYTES: u64 = 71_303_188;
 
 // How many bytes a file may have, by what it is read as.
 #[tactic(auto, unfolding(crate::specs::Read::most_source_bytes, crate::specs::Read::most_image_bytes))]

@@ -34,7 +34,7 @@ pub struct Asked<'a> {
 }
 
 /// How many blocks or steps are taken where none are asked for.
-const MOST: u32 = 1_000_000;
+pub const DEFAULT_COUNT: u32 = 1_000_000;
 
 // What `run` reads a file as, by the ending of its name.
 fn form_for(file: &str) -> FileForm
@@ -61,7 +61,7 @@ fn most_asked(count: Option<u32>) -> u32
 {
     match count {
         Some(most) => most,
-        None => MOST,
+        None => DEFAULT_COUNT,
     }
 }
 

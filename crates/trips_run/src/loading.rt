@@ -9,7 +9,7 @@ use std::alloc::{AllocError, Global};
 use trips_outside::{Files, LoadFault, load};
 
 /// How many bytes an input may have.
-const MOST_INPUT_BYTES: u64 = 1_048_576;
+pub const MOST_INPUT_BYTES: u64 = 1_048_576;
 
 /// What reading a file came to.
 #[derive(Drop)]

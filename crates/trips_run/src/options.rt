@@ -6,7 +6,7 @@ ghost use Rattle.trips_run.specs.Seen.{options_seen};
 use crate::number::number;
 
 /// The most blocks or steps that may be asked for.
-const MOST_COUNT: u32 = 4_000_000;
+pub const MOST_COUNT: u32 = 4_000_000;
 
 /// What the options of a command say.
 #[derive(Clone, Copy)]

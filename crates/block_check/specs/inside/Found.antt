@@ -3,7 +3,8 @@ use Rattle.std.specs.Prelude.{◌≡◌, ℕ, ◌+◌, ◌<◌, ◌≤◌, Bool,
 use Rattle.std.specs.Prelude.{[], ◌∷◌, ◌++◌, length, slice_get, slice_set}
 use Rattle.trips_isa.specs.declared.node.Node.{Node}
 use Rattle.trips_isa.specs.declared.places.TheConstants.{PLACES}
-use Rattle.block_cases.specs.Cases.{bit, token, tokens, is_chooser, has_bit, cases, GetsTwo}
+use Rattle.block_cases.specs.Choosers.{is_chooser}
+use Rattle.block_cases.specs.Cases.{bit, token, tokens, has_bit, cases, GetsTwo}
 use Rattle.block_cases.specs.Cases.{GetsNone}
 use Rattle.block_check.specs.inside.Walk.{tally}
 

@@ -3,7 +3,8 @@ use Rattle.std.specs.Prelude.{◌≡◌, ℕ, zero, suc, ◌≤◌, Bool, false,
 use Rattle.std.specs.Prelude.{Option, Some, None, slice_get}
 use Rattle.trips_isa.specs.declared.node.Node.{Node}
 use Rattle.block_cases.specs.Nodes.{targets}
-use Rattle.block_cases.specs.Cases.{bit, is_copy, names_predicate, leads_from}
+use Rattle.block_cases.specs.Choosers.{is_copy, names_predicate, leads_from}
+use Rattle.block_cases.specs.Cases.{bit}
 
 -- whether a mov of slot s is one that f marks
 abbrev pub at_slot : List Node → ℕ → (ℕ → Bool) → Bool

@@ -6,7 +6,7 @@ use Rattle.block_cases.specs.declared.token.CaseToken.TheVariants.{Absent}
 use Rattle.trips_isa.specs.declared.form.Role.TheVariants.{Empty}
 use Rattle.trips_isa.specs.declared.node.Node.{Node}
 use Rattle.trips_isa.specs.declared.places.TheConstants.{NO_PLACE}
-use Rattle.block_cases.specs.Cases.{pulled, first}
+use Rattle.block_cases.specs.CaseRule.{pulled, first}
 
 -- the places of a node lie within the tables
 pub record InPlace (n : Node) : Type 0 where

@@ -17,7 +17,8 @@ pub loop-slot-preserved : goal.loop-slot-preserved
 loop-slot-preserved c = record {
   bound = omega arith;
   filled = λ q live.
-      let size : length c.as_slice-insts.result.now ≡ 128 = ap length c.as_slice-insts.ensures.value ∙ c.requires.slots in
+      let size : length c.as_slice-insts.result.now ≡ 128 = ap length c.as_slice-insts.ensures.value
+      ∙ c.requires.slots in
       walk_step (named_by q (λ j. get_or c.args.table.now j None)) c.as_slice-insts.result.now
       c.loop-slot.slot (get_or c.loop-slot.places q None)
       (get_or c.offer_from.new.places q None) _

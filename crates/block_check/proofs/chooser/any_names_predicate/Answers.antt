@@ -3,7 +3,7 @@ use Rattle.std.proofs.Common.{refl, sym, ap, arith}
 use Rattle.std.proofs.lemmas.Option.{get_or_from_slice_get}
 use Rattle.trips_isa.specs.declared.node.Node.{Node}
 use Rattle.block_cases.specs.Nodes.{targets}
-use Rattle.block_cases.specs.Cases.{names_predicate}
+use Rattle.block_cases.specs.Choosers.{names_predicate}
 use Rattle.block_check.proofs.Adding.{blank}
 use Rattle.block_check.proofs.Chains.{spare_names_none}
 use Rattle.block_check.proofs.chooser.any_names_predicate.Goals as goal

@@ -1,5 +1,6 @@
 use Rattle.std.proofs.Common.{◌≡◌, ◌<◌, ◌≤◌, ℕ, slice_get}
-use Rattle.block_cases.specs.Cases.{bit, leads, deepest, is_chooser}
+use Rattle.block_cases.specs.Choosers.{leads, is_chooser}
+use Rattle.block_cases.specs.Cases.{bit, deepest}
 use Rattle.block_check.proofs.chooser.find_choosers.Given as goal
 
 abbrev pub invariant-loop-x : goal.invariant-loop-x

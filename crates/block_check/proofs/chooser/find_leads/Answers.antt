@@ -1,5 +1,6 @@
 use Rattle.std.proofs.Common.{◌∙◌, slice_get, arith, inl, inr, add-one, sym}
-use Rattle.block_cases.specs.Cases.{bit, leads_from}
+use Rattle.block_cases.specs.Choosers.{leads_from}
+use Rattle.block_cases.specs.Cases.{bit}
 use Rattle.block_check.proofs.Chains.{all_led, no_leads}
 use Rattle.block_check.proofs.chooser.find_leads.Goals as goal
 

@@ -1,5 +1,6 @@
 use Rattle.std.proofs.Common.{◌≡◌, ◌≤◌, ◌-◌, ℕ, slice_get, false}
-use Rattle.block_cases.specs.Cases.{bit, leads_from}
+use Rattle.block_cases.specs.Choosers.{leads_from}
+use Rattle.block_cases.specs.Cases.{bit}
 use Rattle.block_check.specs.inside.Leads.{FalseFrom, led_from}
 use Rattle.block_check.proofs.chooser.find_leads.Given as goal
 

@@ -1,6 +1,7 @@
 use Rattle.std.proofs.Common.{◌≡◌, ◌<◌, ◌≤◌, length, arith, ap, sym, ◌∙◌, refl, nat_lt, Bool, true}
 use Rattle.std.proofs.Common.{false}
-use Rattle.block_cases.specs.Cases.{pulled, bit, first}
+use Rattle.block_cases.specs.CaseRule.{pulled, first}
+use Rattle.block_cases.specs.Cases.{bit}
 use Rattle.block_check.specs.inside.Pass.{tok_at, once}
 use Rattle.block_check.proofs.Rounds.{pulled_at, far, far_node, slot_fits}
 use Rattle.block_check.proofs.pass.round.Goals as goal

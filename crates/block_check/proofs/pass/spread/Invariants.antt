@@ -1,6 +1,6 @@
 use Rattle.std.proofs.Common.{◌≡◌, ◌<◌, ◌≤◌, ◌+◌, ℕ, length, drop}
 use Rattle.block_cases.specs.declared.token.CaseToken.TheVariants.{Absent}
-use Rattle.block_cases.specs.Cases.{first}
+use Rattle.block_cases.specs.CaseRule.{first}
 use Rattle.block_check.specs.inside.Pass.{tok_at}
 use Rattle.block_check.proofs.pass.spread.Given as goal
 

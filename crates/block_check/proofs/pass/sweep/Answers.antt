@@ -1,6 +1,7 @@
 use Rattle.std.proofs.Common.{◌≡◌, ◌<◌, ◌≤◌, slice_get, arith, ap, sym, ◌∙◌, true, false, Bool}
 use Rattle.std.proofs.Common.{nat_lt, refl}
-use Rattle.block_cases.specs.Cases.{pulled, bit}
+use Rattle.block_cases.specs.CaseRule.{pulled}
+use Rattle.block_cases.specs.Cases.{bit}
 use Rattle.std.proofs.lemmas.Option.{slice_get-get_or}
 use Rattle.block_check.specs.inside.Pass.{tok_at}
 use Rattle.block_check.proofs.Sparing.{pulled_spare}

@@ -1,5 +1,6 @@
 use Rattle.std.proofs.Common.{◌≡◌, ◌<◌, ℕ, slice_get, false}
-use Rattle.block_cases.specs.Cases.{pulled, bit}
+use Rattle.block_cases.specs.CaseRule.{pulled}
+use Rattle.block_cases.specs.Cases.{bit}
 use Rattle.block_check.specs.inside.Pass.{tok_at, AbsentFrom}
 use Rattle.block_check.proofs.pass.sweep.Given as goal
 

@@ -14,6 +14,7 @@ returns-then-a-count c =
 pub returns : goal.returns
 returns c =
     let p : 0 < 2 ^ c.args.count = search rules in
-    let u : c.args.a * 2 ^ c.args.count ≤ 9223372036854775807 = under c.args.a (2 ^ c.args.count) p c.if-a-count.false in
+    let u : c.args.a * 2 ^ c.args.count ≤ 9223372036854775807 = under c.args.a
+    (2 ^ c.args.count) p c.if-a-count.false in
     let e : to_z w64 (of_z w64 c.cast_signed.result) ≡ pos (c.args.a * 2 ^ c.args.count) = omega (arith, ints) in
     c.in_signed.ensures ∙ ap (λ z. word_of (in_kind c.args.kind z)) e

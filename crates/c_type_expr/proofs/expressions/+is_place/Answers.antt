@@ -17,10 +17,12 @@ pub returns-in-Cast : goal.returns-in-Cast
 returns-in-Cast t c = let h = place-Cast c.args.e.now c.in-Cast.to c.in-Cast.e c.in-Cast.is in cc
 
 pub returns-in-Binary : goal.returns-in-Binary
-returns-in-Binary t c = let h = place-Binary c.args.e.now c.in-Binary.op c.in-Binary.left c.in-Binary.right c.in-Binary.is in cc
+returns-in-Binary t c =
+    let h = place-Binary c.args.e.now c.in-Binary.op c.in-Binary.left c.in-Binary.right c.in-Binary.is in cc
 
 pub returns-in-Choice : goal.returns-in-Choice
-returns-in-Choice t c = let h = place-Choice c.args.e.now c.in-Choice.test c.in-Choice.yes c.in-Choice.no c.in-Choice.is in cc
+returns-in-Choice t c =
+    let h = place-Choice c.args.e.now c.in-Choice.test c.in-Choice.yes c.in-Choice.no c.in-Choice.is in cc
 
 pub returns-in-Name : goal.returns-in-Name
 returns-in-Name t c = let h = place-Name c.args.e.now c.in-Name.field-0 c.in-Name.is in cc
@@ -35,7 +37,8 @@ pub returns-in-Bump : goal.returns-in-Bump
 returns-in-Bump t c = let h = place-Bump c.args.e.now c.in-Bump.op c.in-Bump.e c.in-Bump.is in cc
 
 pub returns-in-Assign : goal.returns-in-Assign
-returns-in-Assign t c = let h = place-Assign c.args.e.now c.in-Assign.op c.in-Assign.left c.in-Assign.right c.in-Assign.is in cc
+returns-in-Assign t c =
+    let h = place-Assign c.args.e.now c.in-Assign.op c.in-Assign.left c.in-Assign.right c.in-Assign.is in cc
 
 pub returns-in-Comma : goal.returns-in-Comma
 returns-in-Comma t c = let h = place-Comma c.args.e.now c.in-Comma.left c.in-Comma.right c.in-Comma.is in cc

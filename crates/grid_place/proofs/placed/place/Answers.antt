@@ -27,8 +27,8 @@ returns-clause-meaning c =
       | in-Seeded w ↦
           subst IsPermutation (sym (w.to-is ∙ w.seeded.ensures.value)) (seeded_permutes _)
     ] in
-    λ good blocks k regs mem. same_plain (goes c.match-placing.to) h.back c.args.block.now
-    c.moved.result c.requires good h.permutes c.moved.ensures.moved regs mem blocks k
+    λ fits good blocks k regs mem. same_plain (goes c.match-placing.to) h.back c.args.block.now
+    c.moved.result fits good h.permutes c.moved.ensures.moved regs mem blocks k
 
 pub returns-clause-clean : goal.returns-clause-clean
 returns-clause-clean c =
@@ -38,8 +38,8 @@ returns-clause-clean c =
       | in-Seeded w ↦
           subst IsPermutation (sym (w.to-is ∙ w.seeded.ensures.value)) (seeded_permutes _)
     ] in
-    λ good regs mem. still_clean (goes c.match-placing.to) h.back c.args.block.now
-    c.moved.result c.requires good h.permutes c.moved.ensures.moved regs mem
+    λ fits good regs mem. still_clean (goes c.match-placing.to) h.back c.args.block.now
+    c.moved.result fits good h.permutes c.moved.ensures.moved regs mem
 
 pub returns-clause-fits : goal.returns-clause-fits
 returns-clause-fits c =
@@ -49,7 +49,7 @@ returns-clause-fits c =
       | in-Seeded w ↦
           subst IsPermutation (sym (w.to-is ∙ w.seeded.ensures.value)) (seeded_permutes _)
     ] in
-    still_fits (goes c.match-placing.to) h.back c.args.block.now c.moved.result c.requires
+    λ fits. still_fits (goes c.match-placing.to) h.back c.args.block.now c.moved.result fits
     h.permutes
     c.moved.ensures.moved
 
@@ -61,6 +61,6 @@ returns-clause-good c =
       | in-Seeded w ↦
           subst IsPermutation (sym (w.to-is ∙ w.seeded.ensures.value)) (seeded_permutes _)
     ] in
-    λ good. still_good (goes c.match-placing.to) h.back c.args.block.now c.moved.result c.requires
+    λ fits good. still_good (goes c.match-placing.to) h.back c.args.block.now c.moved.result fits
     good
     h.permutes c.moved.ensures.moved

@@ -32,5 +32,6 @@ loop-i-preserved c = (
 pub returns-clause-read : goal.returns-clause-read
 unfolding writes_in
 returns-clause-read c =
-    rows_over (codes "W[") one_write 33 c.loop-i.i c.args.line _ _ _ (omega (arith, c.loop-i-test.false)) (omega (arith, c.loop-i.auto))
+    rows_over (codes "W[") one_write 33 c.loop-i.i c.args.line _ _ _ (omega (arith, c.loop-i-test.false))
+    (omega (arith, c.loop-i.auto))
     c.loop-i.invariant.1

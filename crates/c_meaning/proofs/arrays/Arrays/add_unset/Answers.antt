@@ -38,7 +38,8 @@ pub returns : goal.returns
 returns c =
     let n : c.saturating_sub-count.result ≡ c.in_ok-used.used - length c.self.inside.cells.items = omega arith in
     let u = c.in_ok-used.ensures in
-    let le = enough-padded c.self.inside.cells.items (worded 0 0) c.saturating_sub-count.result c.in_ok-used.used c.pad.new.cells.items n c.in_ok-pad.ensures.ok in
+    let le = enough-padded c.self.inside.cells.items (worded 0 0) c.saturating_sub-count.result c.in_ok-used.used
+    c.pad.new.cells.items n c.in_ok-pad.ensures.ok in
     record {
       ok = rows-unset_added c.self.inside.spans.items c.self.inside.cells.items c.self.inside.used
           c.self.inside.last c.push.new.self.items c.pad.new.cells.items _ c.in_ok-stamp.stamp

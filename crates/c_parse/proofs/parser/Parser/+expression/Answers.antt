@@ -69,7 +69,8 @@ pub binary-loop-op-init : goal.binary-loop-op-init
 binary-loop-op-init t c =
     let k = c.args.level - 1 in (
       sym (binary_at c.args.left c.args.level k c.args.self.now.rest.now (omega arith)
-          ∙ ap (λ (o : Out Expr). and_then o (λ a ts. loop (binary_of (inside c.args.left) k) (binary_level k) (length ts) a
+          ∙ ap (λ (o : Out Expr). and_then o (λ a ts. loop (binary_of (inside c.args.left) k) (binary_level k)
+          (length ts) a
           ts)) c.in_ok-whole.ensures),
       omega arith,
       omega arith,

@@ -1,4 +1,5 @@
 use Rattle.std.proofs.Common.{◌+◌, ◌-◌, length, ap, ◌∙◌, refl, List}
+use Rattle.c_tree.specs.declared.limits.TheConstants.{MOST_NESTING}
 use Rattle.c_tree.specs.declared.tree.Top.{Top}
 use Rattle.c_grammar.specs.Parsing.{to_end}
 use Rattle.c_grammar.specs.ModelExpressions.{inside}
@@ -10,12 +11,14 @@ use Rattle.c_parse.proofs.parser.Parser.unit.Goals as goal
 
 pub loop-turn-init : goal.loop-turn-init
 loop-turn-init c =
-    ap (λ (found : List Top). behind found (to_end (item_of (inside 64) (compound_of (inside 63) (below_at 63)))
+    ap (λ (found : List Top). behind found
+    (to_end (item_of (inside MOST_NESTING) (compound_of (inside (MOST_NESTING - 1)) (below_at (MOST_NESTING - 1))))
     (length c.args.self.now.rest.now + 1 - 0) c.args.self.now.rest.now)) c.new-found.ensures.value
-    ∙ unit_init 63 (length c.args.self.now.rest.now + 1) c.args.self.now.rest.now refl
+    ∙ unit_init (MOST_NESTING - 1) (length c.args.self.now.rest.now + 1) c.args.self.now.rest.now refl
 
 pub loop-turn-preserved : goal.loop-turn-preserved
 loop-turn-preserved c =
-    end_keeps (item_of (inside 64) (compound_of (inside 63) (below_at 63))) (length c.args.self.now.rest.now + 1)
+    end_keeps (item_of (inside MOST_NESTING) (compound_of (inside (MOST_NESTING - 1)) (below_at (MOST_NESTING - 1))))
+    (length c.args.self.now.rest.now + 1)
     c.loop-turn._turn c.loop-turn.found _ c.loop-turn.self.rest.now c.item.new.self.rest.now c.in_ok-more.more _
     c.loop-turn-test.true c.loop-turn.invariant c.in_ok-more.ensures (cc) c.in_ok-append.ensures.ok

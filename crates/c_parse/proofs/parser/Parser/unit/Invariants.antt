@@ -1,4 +1,5 @@
 use Rattle.std.proofs.Common.{◌≡◌, ◌-◌}
+use Rattle.c_tree.specs.declared.limits.TheConstants.{MOST_NESTING}
 use Rattle.c_grammar.specs.Parsing.{to_end}
 use Rattle.c_grammar.specs.ModelExpressions.{inside}
 use Rattle.c_grammar.specs.ModelStatements.{compound_of, below_at}
@@ -8,5 +9,7 @@ use Rattle.c_parse.proofs.parser.Parser.unit.Given as goal
 
 abbrev pub invariant-loop-turn : goal.invariant-loop-turn
 invariant-loop-turn l =
-    behind l.found (to_end (item_of (inside 64) (compound_of (inside 63) (below_at 63))) (l.turns - l._turn)
-    l.self.rest.now) ≡ unit_of 63 l.fn.self.rest.now
+    behind l.found
+    (to_end (item_of (inside MOST_NESTING)
+    (compound_of (inside (MOST_NESTING - 1)) (below_at (MOST_NESTING - 1)))) (l.turns - l._turn)
+    l.self.rest.now) ≡ unit_of (MOST_NESTING - 1) l.fn.self.rest.now

@@ -1,0 +1,4 @@
+pub mod BranchLabels
+pub mod Resolving
+pub mod Emitted
+pub mod UsedSlots

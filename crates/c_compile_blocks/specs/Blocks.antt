@@ -1,0 +1,48 @@
+-- What the passes make of a hyper program before its labels are resolved: a machine block of each
+-- hyper block.
+use Rattle.std.specs.Prelude.{◌≡◌, ℕ, ◌≤◌, List, length, slice_get, Some}
+use Rattle.trips_isa.specs.declared.block.Block.{Block}
+use Rattle.trips_isa.specs.Places.{nodes_of}
+use Rattle.block_cases.specs.Cases.{cases}
+use Rattle.ir_forms.specs.declared.flow.FlowBlock.{FlowBlock}
+use Rattle.ir_forms.specs.HyperCode as hyper
+use Rattle.ir_forms.specs.HyperFits.{FitsHyper, IsFollowed}
+use Rattle.predication.specs.Tails.{labelled}
+use Rattle.predication.specs.Converted.{predicated}
+use Rattle.predication.specs.Laws as convert
+use Rattle.null_outputs.specs.Wants.{complete}
+use Rattle.fan_out.specs.Targeted.{HasRoom, IsTargeted}
+use Rattle.grid_place.specs.Moves.{IsMoved}
+use Rattle.c_compile_layout.specs.Emitted.{most_blocks}
+
+-- the flow block of a hyper block: guards in place of branches, and a token for each output on every
+-- path; its constants still hold labels
+abbrev pub flow_of : hyper.Block → FlowBlock
+flow_of b = complete (predicated (labelled b))
+
+-- u is the machine block that the passes make of a hyper block, where slot s goes to p s; it is
+-- within the limits
+pub record IsMachineBlock (p : ℕ → ℕ) (b : hyper.Block) (u : Block) : Type 0 where
+  -- the loads and stores, and the exits
+  pub numbers : convert.HasRoom b
+  -- the instructions, reads and writes
+  pub room : HasRoom (flow_of b)
+  -- with targets, in the slots of the flow block's nodes
+  pub target : Block
+  pub targeted : IsTargeted (flow_of b) target
+  pub cases : cases (nodes_of target) ≤ 256
+  pub placed : IsMoved p target u
+
+-- us are those of a hyper program
+pub record AreMachineBlocks (p : ℕ → ℕ) (B : List hyper.Block) (us : List Block) : Type 0 where
+  pub size : length us ≡ length B
+  pub each : (k : ℕ) (b : hyper.Block) (u : Block) → slice_get B k ≡ Some b
+      → slice_get us k ≡ Some u → IsMachineBlock p b u
+
+-- a hyper program that the passes take: its blocks fit, lead to its blocks, and are as many as an
+-- image holds of whatever size
+pub record FitsPasses (B : List hyper.Block) : Type 0 where
+  pub some : 1 ≤ length B
+  pub few : length B ≤ most_blocks
+  pub followed : IsFollowed B
+  pub fit : (k : ℕ) (b : hyper.Block) → slice_get B k ≡ Some b → FitsHyper b

@@ -1,0 +1,33 @@
+-- What the passes together give: blocks that the layout takes, in the slots that the placing says.
+use Rattle.std.specs.Prelude.{◌≡◌, ℕ, Bool, true, false, nat_lt, List, Option, Some, None, slice_get}
+use Rattle.trips_isa.specs.declared.block.Inst.{Inst}
+use Rattle.trips_isa.specs.declared.block.Block.{Block}
+use Rattle.block_cases.specs.Orders.{slot_of}
+use Rattle.ir_forms.specs.HyperCode as hyper
+use Rattle.grid_place.specs.Moves.{Permutes}
+use Rattle.c_compile_layout.specs.Layouts.{linked}
+use Rattle.c_compile_layout.specs.Emitted.{AreEmitted}
+use Rattle.c_compile_blocks.specs.Blocks.{AreMachineBlocks, FitsPasses}
+
+-- whatever permutation the blocks are placed by, the layout takes them
+abbrev pub GivesEmitted : Type 0
+GivesEmitted =
+    (p q : ℕ → ℕ) (B : List hyper.Block) (us : List Block) → Permutes p q → FitsPasses B
+    → AreMachineBlocks p B us → AreEmitted B us
+
+-- SLOTS
+
+abbrev pub is_used : Option Inst → Bool
+is_used None = false
+is_used (Some i) = true
+
+-- the used slots of a block of m instructions are p(0) to p(m - 1)
+pub record HasSlots (p : ℕ → ℕ) (t : Block) : Type 0 where
+  pub count : ℕ
+  pub used : (s : ℕ) → is_used (slot_of t (p s)) ≡ nat_lt s count
+
+-- so are those of each block of the image
+abbrev pub UsesSlots : Type 0
+UsesSlots =
+    (p : ℕ → ℕ) (B : List hyper.Block) (us : List Block) → AreMachineBlocks p B us
+    → (k : ℕ) (t : Block) → slice_get (linked us) k ≡ Some t → HasSlots p t

@@ -1,0 +1,81 @@
+//! Laws of the window, over its definitions alone; each function's clause is the law.
+ghost use Rattle.std.specs.Prelude.{◌≡◌, ◌<◌, ◌≤◌, ◌==◌, ℕ, Bool, true, false, List, ◌∷◌, length};
+ghost use Rattle.std.specs.Prelude.{Option, Some, slice_set};
+ghost use Rattle.std.specs.List.{list_any};
+ghost use Rattle.trips_isa.specs.declared.block.Block.{Block};
+ghost use Rattle.trips_isa.specs.declared.run.Stepped.TheVariants.{Went};
+ghost use Rattle.trips_isa.specs.Stores.{data_size};
+ghost use Rattle.trips_isa.specs.Machine.{apply, start};
+ghost use Rattle.commit_flush_spec.specs.Causes.{Cause, Done, NotNow};
+ghost use Rattle.commit_flush_spec.specs.Frames.{Frame, at};
+ghost use Rattle.commit_flush_spec.specs.Older.{Older};
+ghost use Rattle.commit_flush_spec.specs.Numbered.{by_age, seen_at};
+ghost use Rattle.commit_flush_spec.specs.Ends.{outputs};
+ghost use Rattle.commit_flush_spec.specs.InFlight.{Window, alone, change, in_flight, opened};
+ghost use Rattle.commit_flush_spec.specs.Window.{Event, Flush, Commit, can, done, happens, plays};
+ghost use Rattle.commit_flush_spec.specs.Invariant.{AllGood};
+ghost use Rattle.commit_flush_spec.specs.Laws.{AllFree, AreNumbers, IsBeginning, TakesSteps, WindowOk};
+
+/// Each event keeps the window's invariant, whatever the event and whether or not it is done.
+pub fn events_keep_the_invariant()
+    ensures { (blocks : List Block) (budget : ℕ) (e : Event) (w : Window) → AllGood blocks
+        → WindowOk blocks budget w → WindowOk blocks budget (happens blocks budget e w) }
+{}
+
+/// Law commits are steps: whatever events come, the committed state is the machine's after as many
+/// steps as the trace grew by.
+pub fn commits_are_steps()
+    ensures { (blocks : List Block) (budget : ℕ) (es : List Event) (w : Window) → AllGood blocks
+        → WindowOk blocks budget w → w.over ≡ Went
+        → TakesSteps blocks w.state (plays blocks budget es w) }
+{}
+
+/// Law one token: after any events no token on its way finds another one at its place.
+pub fn tokens_find_free_places()
+    ensures { (blocks : List Block) (budget : ℕ) (es : List Event) (w : Window) → AllGood blocks
+        → WindowOk blocks budget w → AllFree (plays blocks budget es w).frames }
+{}
+
+/// The window opens right: with no frame in flight, on the state that a run starts from.
+pub fn windows_open_right()
+    ensures { (blocks : List Block) (budget : ℕ) (bytes input : List ℕ) → 0 < length blocks
+        → length bytes ≤ data_size → WindowOk blocks budget (opened (start bytes input)) }
+{}
+
+/// Law events exact: what is refused leaves the window as it was, and what is not does what its row
+/// says.
+pub fn events_are_exact()
+    ensures refused { (blocks : List Block) (budget : ℕ) (e : Event) (w : Window) (c : Cause)
+        → can blocks budget e w ≡ NotNow c → happens blocks budget e w ≡ w }
+    ensures taken { (blocks : List Block) (budget : ℕ) (e : Event) (w : Window)
+        → can blocks budget e w ≡ Done → happens blocks budget e w ≡ done blocks e w }
+    ensures state { (blocks : List Block) (budget : ℕ) (e : Event) (w : Window)
+        → (e ≡ Commit → ⊥) → (happens blocks budget e w).state ≡ w.state }
+{}
+
+/// Law flush leaves nothing: the flushed frame is in flight no more, nor is any younger one.
+pub fn flush_leaves_nothing()
+    ensures { (blocks : List Block) (budget n : ℕ) (w : Window)
+        → can blocks budget (Flush n) w ≡ Done
+        → (in_flight n (happens blocks budget (Flush n) w).frames ≡ false)
+        × IsBeginning (happens blocks budget (Flush n) w).frames w.frames }
+{}
+
+/// Law commit applies outputs: a commit changes the state by the effects that the oldest frame
+/// holds, followed by the system call.
+pub fn commit_applies_outputs()
+    ensures { (blocks : List Block) (budget : ℕ) (w : Window) (f : Frame) (fs : List Frame)
+        → w.frames ≡ f ∷ fs → can blocks budget Commit w ≡ Done
+        → ((happens blocks budget Commit w).state, (happens blocks budget Commit w).over)
+        ≡ apply f.code.writes.items (outputs f) w.state }
+{}
+
+/// A change of one frame is the same where frames are kept by number, with an order of age.
+pub fn frames_may_be_kept_by_number()
+    ensures { (slots : List (Option Frame)) (order : List ℕ) → AreNumbers order
+        → length slots ≡ 8 → ((m : ℕ) (f : Frame) → at slots m ≡ Some f → f.number ≡ m)
+        → (does : Older → Frame → Frame) (o : Older) (n : ℕ) (f : Frame) → at slots n ≡ Some f
+        → list_any (λ m. m == n) order ≡ true
+        → change (alone does) o (by_age slots order) n
+        ≡ by_age (slice_set slots n (Some (does (seen_at o (by_age slots order) n) f))) order }
+{}

@@ -1,0 +1,152 @@
+-- A pass through a typed statement costs no more than the statement has nodes, and a typed
+-- statement has fewer than twice as many.
+use Rattle.std.proofs.Common.{◌≡◌, ◌+◌, ◌*◌, ◌≤◌, Bool, List, Option, Some, None, length, arith}
+use Rattle.c_tree.specs.declared.token.Kind.{Kind}
+use Rattle.c_tree.specs.declared.tree.ArraySize.TheVariants as size
+use Rattle.c_tree.specs.declared.tree.Expr.{Expr}
+use Rattle.c_tree.specs.declared.tree.Stmt.{Stmt}
+use Rattle.c_tree.specs.declared.tree.ForInit.{ForInit}
+use Rattle.c_tree.specs.declared.typed.Place.TheVariants as place
+use Rattle.c_tree.specs.declared.typed.TypedExpr.{TypedExpr}
+use Rattle.c_tree.specs.declared.typed.TypedStmt.{TypedStmt, roll-TypedStmt}
+use Rattle.c_tree.specs.declared.typed.TypedStmt.TheVariants as typed
+use Rattle.c_tree.specs.declared.typed.TypedForInit.{TypedForInit, roll-TypedForInit}
+use Rattle.c_tree.specs.declared.typed.TypedForInit.TheVariants as begin
+use Rattle.c_tree.specs.declared.typed.TypedForInit.TheOpen as level
+use Rattle.c_tree.specs.TypedTrees.{Level, Beginning}
+use Rattle.c_scope.specs.Scope.{Scope}
+use Rattle.c_type_expr.specs.declared.role.Role.{Role}
+use Rattle.c_type_expr.specs.Trees.{with_convert}
+use Rattle.c_type.specs.declared.state.State.{State}
+use Rattle.c_type_rules.specs.Statements.{FullIf, absent, present, Initialises, without_value}
+use Rattle.c_type_rules.specs.Statements.{with_value, Types, scalar_declared, array_declared}
+use Rattle.c_type_rules.specs.Statements.{expression, block, either, while_loop, do_loop}
+use Rattle.c_type_rules.specs.Statements.{for_loop, breaks, continues, returns, returns_value}
+use Rattle.c_type_rules.specs.Statements.{TypesAll, no_more, one_more, without_else}
+use Rattle.c_type_rules.specs.Statements.{with_else, Begins, no_first, first_value, first_locals}
+use Rattle.flat_lower.specs.Sizes as plain
+use Rattle.flat_lower.proofs.TreeFacts.{plain_stmt, plain_first}
+use Rattle.flat_lower_limits.specs.Nodes as limits
+use Rattle.flat_lower_premises.specs.Nodes as nodes
+use Rattle.flat_lower_premises.proofs.TreeSizes.{nodes-Declare, nodes-Plain, nodes-Compound, nodes-If, nodes-While}
+use Rattle.flat_lower_premises.proofs.TreeSizes.{nodes-Do, nodes-For, nodes-Break, nodes-Continue, nodes-Return}
+use Rattle.flat_lower_premises.proofs.TreeSizes.{nodes-Nothing, nodes-First, nodes-Locals}
+use Rattle.flat_lower_premises.proofs.CostTrees as cost_trees
+use Rattle.flat_lower_premises.proofs.CostTrees.{cost_if, body_cost, first_cost, bodies_cost}
+use Rattle.flat_lower_premises.proofs.TypedTreeSizes as sizes
+use Rattle.flat_lower_premises.proofs.TypedTreeSizes.{typed_if_nodes, body_nodes, first_nodes}
+use Rattle.flat_lower_premises.proofs.TypedTreeSizes.{bodies_nodes}
+use Rattle.flat_lower_premises.proofs.ExpressionBounds.{typed_few, converted_few}
+
+-- what a typed statement costs and how many nodes it has, by its level
+at_stmt : (s : TypedStmt) (x : Level) → roll-TypedStmt x ≡ s
+    → (body_cost s ≡ plain.size_of (plain_stmt x)) × (body_nodes s ≡ limits.stmt_nodes (plain_stmt x))
+at_stmt s x e = (cost_trees.by_stmt s x e, sizes.by_stmt s x e)
+
+-- the same of what begins a `for`
+at_first : (i : TypedForInit) (x : Beginning) → roll-TypedForInit x ≡ i
+    → (first_cost i ≡ plain.size_of_first (plain_first x))
+    × (first_nodes i ≡ limits.first_nodes (plain_first x))
+at_first i x e = (cost_trees.by_first i x e, sizes.by_first i x e)
+
+-- a full expression that may be left out
+full_few : {G : Scope} {r : Role} {e : Option Expr} {t : Option TypedExpr} → FullIf G r e t
+    → (cost_if t ≤ nodes.expr_if_nodes e) × (typed_if_nodes t ≤ 2 * nodes.expr_if_nodes e)
+full_few absent = (omega arith, omega arith)
+full_few {G = G} (present x) =
+    let c = typed_few G x.0 in (omega (arith, c.0), omega (arith, c.1))
+
+-- an initialiser that may be left out
+initial_few : {G : Scope} {k : Kind} {e : Option Expr} {t : Option TypedExpr}
+    → Initialises G k e t
+    → (cost_if t ≤ nodes.expr_if_nodes e) × (typed_if_nodes t ≤ 2 * nodes.expr_if_nodes e)
+initial_few without_value = (omega arith, omega arith)
+initial_few {G = G} {k = k} (with_value {t = t} x) =
+    let c = typed_few G x.0 in let d = converted_few k t in
+    (omega (arith, c.0, d.0), omega (arith, c.1, d.1))
+
+mutual
+  pub types_few : {b : Bool} {v w : State} {s : Stmt} {t : TypedStmt} → Types b v s t w
+      → (body_cost t ≤ nodes.stmt_nodes s) × (1 + body_nodes t ≤ 2 * nodes.stmt_nodes s)
+  types_few {v = v} (scalar_declared {l = l} {k = k} {w = w} {init = init} {t = t} i j x) =
+      let n = nodes-Declare l k w size.Scalar init in let c = initial_few x in
+      let p = place.Scalar (length v.scalars) in
+      let m = at_stmt _ (level.Declare p t) (typed.rolls-Declare p t) in
+      (omega (arith, c.0, m.0), omega (arith, c.1, m.1))
+  types_few {v = v} (array_declared {l = l} {k = k} {w = w} {e = e} x i j) =
+      let n = nodes-Declare l k w (size.Sized e) None in
+      let p = place.Array (length v.arrays) in
+      let m = at_stmt _ (level.Declare p None) (typed.rolls-Declare p None) in
+      (omega (arith, m.0), omega (arith, m.1))
+  types_few (expression {l = l} {e = e} {t = t} x) =
+      let n = nodes-Plain l e in let c = full_few x in
+      let m = at_stmt _ (level.Plain t) (typed.rolls-Plain t) in
+      (omega (arith, c.0, m.0), omega (arith, c.1, m.1))
+  types_few (block {l = l} {ss = ss} {ts = ts} x) =
+      let n = nodes-Compound l ss in let c = all_few x in
+      let m = at_stmt _ (level.Compound ts) (typed.rolls-Compound ts) in
+      (omega (arith, c.0, m.0), omega (arith, c.1, m.1))
+  types_few (either {v = v} {l = l} {c = c} {d = d} {s = s} {t = t} x y without_else) =
+      let n = nodes-If l c s None in let i = typed_few v.names x.0 in let j = types_few y in
+      let m = at_stmt _ (level.If d t None) (typed.rolls-If d t None) in
+      (omega (arith, i.0, j.0, m.0), omega (arith, i.1, j.1, m.1))
+  types_few (either {v = v} {l = l} {c = c} {d = d} {s = s} {t = t} x y
+      (with_else {s = o} {t = u} z)) =
+      let n = nodes-If l c s (Some o) in let i = typed_few v.names x.0 in let j = types_few y in
+      let k = types_few z in
+      let m = at_stmt _ (level.If d t (Some u)) (typed.rolls-If d t (Some u)) in
+      (omega (arith, i.0, j.0, k.0, m.0), omega (arith, i.1, j.1, k.1, m.1))
+  types_few (while_loop {v = v} {l = l} {c = c} {d = d} {s = s} {t = t} x y) =
+      let n = nodes-While l c s in let i = typed_few v.names x.0 in let j = types_few y in
+      let m = at_stmt _ (level.While d t) (typed.rolls-While d t) in
+      (omega (arith, i.0, j.0, m.0), omega (arith, i.1, j.1, m.1))
+  types_few (do_loop {w = w} {l = l} {c = c} {d = d} {s = s} {t = t} x y) =
+      let n = nodes-Do l s c in let i = types_few x in let j = typed_few w.names y.0 in
+      let m = at_stmt _ (level.Do t d) (typed.rolls-Do t d) in
+      (omega (arith, i.0, j.0, m.0), omega (arith, i.1, j.1, m.1))
+  types_few (for_loop {l = l} {init = init} {i = i} {c = c} {p = p} {d = d} {q = q} {s = s} {t = t}
+      x y z u) =
+      let n = nodes-For l init c p s in let e = begins_few x in let f = full_few y in
+      let g = full_few z in let h = types_few u in
+      let m = at_stmt _ (level.For i d q t) (typed.rolls-For i d q t) in
+      (omega (arith, e.0, f.0, g.0, h.0, m.0), omega (arith, e.1, f.1, g.1, h.1, m.1))
+  types_few (breaks {l = l}) =
+      let n = nodes-Break l in
+      let m = at_stmt _ level.Break typed.rolls-Break in
+      (omega (arith, m.0), omega (arith, m.1))
+  types_few (continues {l = l}) =
+      let n = nodes-Continue l in
+      let m = at_stmt _ level.Continue typed.rolls-Continue in
+      (omega (arith, m.0), omega (arith, m.1))
+  types_few (returns {l = l} i) =
+      let n = nodes-Return l None in
+      let m = at_stmt _ (level.Return None) (typed.rolls-Return None) in
+      (omega (arith, m.0), omega (arith, m.1))
+  types_few (returns_value {v = v} {l = l} {k = k} {e = e} {t = t} i x) =
+      let n = nodes-Return l (Some e) in let c = typed_few v.names x.0 in
+      let d = converted_few k t in let u = Some (with_convert k t) in
+      let m = at_stmt _ (level.Return u) (typed.rolls-Return u) in
+      (omega (arith, c.0, d.0, m.0), omega (arith, c.1, d.1, m.1))
+
+  pub all_few : {b : Bool} {v w : State} {ss : List Stmt} {ts : List TypedStmt}
+      → TypesAll b v ss ts w
+      → (bodies_cost ts ≤ nodes.stmts_nodes ss) × (bodies_nodes ts ≤ 2 * nodes.stmts_nodes ss)
+  all_few no_more = (omega arith, omega arith)
+  all_few (one_more x y) =
+      let c = types_few x in let d = all_few y in
+      (omega (arith, c.0, d.0), omega (arith, c.1, d.1))
+
+  begins_few : {b : Bool} {v w : State} {i : ForInit} {j : TypedForInit}
+      → Begins b v i j w
+      → (first_cost j ≤ nodes.first_nodes i) × (first_nodes j ≤ 2 * nodes.first_nodes i)
+  begins_few no_first =
+      let n = nodes-Nothing in let m = at_first _ level.Nothing begin.rolls-Nothing in
+      (omega (arith, m.0), omega (arith, m.1))
+  begins_few {v = v} (first_value {e = e} {t = t} x) =
+      let n = nodes-First e in let c = typed_few v.names x.0 in
+      let m = at_first _ (level.First t) (begin.rolls-First t) in
+      (omega (arith, c.0, m.0), omega (arith, c.1, m.1))
+  begins_few (first_locals {ss = ss} {ts = ts} x) =
+      let n = nodes-Locals ss in let c = all_few x in
+      let m = at_first _ (level.Locals ts) (begin.rolls-Locals ts) in
+      (omega (arith, c.0, m.0), omega (arith, c.1, m.1))

@@ -1,0 +1,352 @@
+-- Emission puts out the blocks of annotated code.
+use Rattle.std.proofs.Common.{◌≡◌, ℕ, suc, ◌+◌, ◌-◌, Bool, true, false, ◌&&◌, ◌||◌, not, cond, List, [], ◌∷◌}
+use Rattle.std.proofs.Common.{◌++◌, length, refl, sym, ap, ap₂, ◌∙◌, subst, arith, append_assoc, append-nil}
+use Rattle.trips_isa.specs.declared.op.Op.TheVariants.{Mov, Sub}
+use Rattle.ir_forms.specs.declared.flat.Arg.{Arg}
+use Rattle.ir_forms.specs.declared.hyper.Source.TheVariants.{Const, Reg}
+use Rattle.ir_forms.specs.declared.hyper.Exit.TheVariants as exit
+use Rattle.ir_forms.specs.Frames.{register_of}
+use Rattle.ir_forms.specs.FlatCode.{Step, Let, Frame, Load, Save, Call, Put, Get, If, Loop, Break, Continue}
+use Rattle.ir_forms.specs.FlatCode.{Return, Code, Nop, ◌▹◌}
+use Rattle.ir_forms.specs.FlatFits.{steps_in, steps_of}
+use Rattle.ir_forms.specs.HyperCode.{Items, Done, Leave, Block}
+use Rattle.ir_forms.specs.HyperCode as hyper
+use Rattle.ir_forms.specs.HyperRuns.{jump}
+use Rattle.reg_assign.specs.Keeps.{calls_in, calls}
+use Rattle.hyper_build.specs.declared.emitting.Note.{Note}
+use Rattle.hyper_build.specs.Tree.{annotated_in, annotated, IfAt, LoopAt}
+use Rattle.hyper_build.specs.Parts.{source, capped, set_then, load_then, save_then, cut, cut_blocks, cut_size}
+use Rattle.hyper_build.specs.Straight.{Place, straight_in, straight, items_in, items_of, leg_blocks}
+use Rattle.hyper_build.specs.Straight.{leg_size, size_in, size, exit_leg, label_or}
+use Rattle.hyper_build.specs.Build.{give, body_end, entry_in, entry, blocks_in, blocks}
+use Rattle.hyper_build.specs.Ground.{Ground, plan, place, left, entry_at}
+use Rattle.hyper_build.specs.Backward.{Emission, with_rest, put_out, fall, before, setting, last_note}
+use Rattle.hyper_build.specs.Backward.{without_note, front_notes}
+use Rattle.hyper_build.specs.BackwardStatements.{put_byte, get_byte, leaving}
+use Rattle.hyper_build.specs.BackwardItems.{is_straight_in, is_straight, straight_items_in, straight_items}
+use Rattle.hyper_build.specs.BackwardCode.{exit_of, leg_out, test_block, end_of_body, emit_in, emit}
+use Rattle.hyper_build.specs.Notes.{note_of, notes_in, notes_of}
+use Rattle.hyper_build.specs.Reached.{Reached, IsReached}
+use Rattle.hyper_build.proofs.Reaching.{joined, mapped, one_less, before_reached, call_reached}
+use Rattle.hyper_build.proofs.ReachingLegs.{LegAt, leg_reached}
+use Rattle.hyper_build.proofs.LastNotes.{last_behind, front_before}
+
+-- STRAIGHT CODE
+
+mutual
+  straight_step : (g : Ground) (i k : ℕ) (x : Step)
+      → straight_in (annotated_in (plan g) i k x) ≡ is_straight_in x
+  straight_step g i k (Let to op x y) = refl
+  straight_step g i k (Frame to at) = refl
+  straight_step g i k (Load to op x) = refl
+  straight_step g i k (Save op x y) = refl
+  straight_step g i k (Call f xs to kept) = refl
+  straight_step g i k (Put x) = refl
+  straight_step g i k (Get to) = refl
+  straight_step g i k (If x p q) = ap₂ (λ a b. a && b) (straight_code g (i + 1) k p)
+      (straight_code g (i + 1 + steps_of p) (k + calls p) q)
+  straight_step g i k (Loop p q) = refl
+  straight_step g i k Break = refl
+  straight_step g i k Continue = refl
+  straight_step g i k (Return x) = refl
+
+  straight_code : (g : Ground) (i k : ℕ) (c : Code)
+      → straight (annotated (plan g) i k c) ≡ is_straight c
+  straight_code g i k Nop = refl
+  straight_code g i k (x ▹ c) = ap₂ (λ a b. a && b) (straight_step g i k x)
+      (straight_code g (i + steps_in x) (k + calls_in x) c)
+
+mutual
+  items_step : (g : Ground) (p : Place) (i k : ℕ) (x : Step) (r : Items)
+      → items_in p (annotated_in (plan g) i k x) r ≡ straight_items_in p.arrays x r
+  items_step g p i k (Let to op x y) r = refl
+  items_step g p i k (Frame to at) r = refl
+  items_step g p i k (Load to op x) r = refl
+  items_step g p i k (Save op x y) r = refl
+  items_step g p i k (Call f xs to kept) r = refl
+  items_step g p i k (Put x) r = refl
+  items_step g p i k (Get to) r = refl
+  items_step g p i k (If x a b) r = ap₂ (λ y z. hyper.If (source x) y z r)
+      (items_code g p (i + 1) k a Done) (items_code g p (i + 1 + steps_of a) (k + calls a) b Done)
+  items_step g p i k (Loop a b) r = refl
+  items_step g p i k Break r = refl
+  items_step g p i k Continue r = refl
+  items_step g p i k (Return x) r = refl
+
+  items_code : (g : Ground) (p : Place) (i k : ℕ) (c : Code) (r : Items)
+      → items_of p (annotated (plan g) i k c) r ≡ straight_items p.arrays c r
+  items_code g p i k Nop r = refl
+  items_code g p i k (x ▹ c) r =
+      items_step g p i k x (items_of p (annotated (plan g) (i + steps_in x) (k + calls_in x) c) r)
+      ∙ ap (straight_items_in p.arrays x) (items_code g p (i + steps_in x) (k + calls_in x) c r)
+
+end_is : (g : Ground) (p : Place) (c : Bool) (i k : ℕ) (post : Code) (l head : ℕ)
+    → body_end p c (annotated (plan g) i k post) l head ≡ end_of_body c p.arrays post l head
+end_is g p c i k post l head =
+    ap₂ (λ y z. cond (c || not y) (jump l) (record { items = z; tail = Leave (exit.Jump head) }))
+    (straight_code g i k post) (items_code g p i k post Done)
+
+-- IFS
+
+-- behind an if, whose join is j
+abbrev second_by : Ground → ℕ → ℕ → Code → ℕ → Emission → Emission
+second_by g b a other j u = leg_out (exit_of j b a other) (emit g b a other u)
+
+abbrev first_by : Ground → ℕ → ℕ → Code → Code → ℕ → Emission → Emission
+first_by g b a one other j u =
+    leg_out (exit_of j b a one) (emit g b a one (with_rest (jump j) (second_by g b a other j u)))
+
+abbrev if_by : Ground → ℕ → ℕ → Arg → Code → Code → ℕ → Emission → Emission
+if_by g b a x one other j u =
+    leaving
+    (test_block x (label_or (first_by g b a one other j u).label (exit_of j b a one))
+    (label_or (second_by g b a other j u).label (exit_of j b a other)))
+    (first_by g b a one other j u)
+
+if_reached : (g : Ground) (b a : ℕ) (x : Arg) (one other : Code) (c : Bool) (j l i k : ℕ)
+    (N : List Note) (u : Emission) (top : Block) (o : List Block)
+    → IsReached g b a one → IsReached g b a other
+    → u.label ≡ j → u.place ≡ i + 1 + steps_of one + steps_of other
+    → u.calls ≡ k + calls one + calls other → u.rest ≡ jump j → u.out ≡ top ∷ o
+    → j ≡ l + leg_size (annotated (plan g) (i + 1) k one) (size (annotated (plan g) (i + 1) k one))
+    + leg_size (annotated (plan g) (i + 1 + steps_of one) (k + calls one) other)
+    (size (annotated (plan g) (i + 1 + steps_of one) (k + calls one) other))
+    → u.notes ≡ (N ++ notes_of (plan g) (l + 1) (i + 1) k one)
+    ++ notes_of (plan g)
+    (l + leg_size (annotated (plan g) (i + 1) k one) (size (annotated (plan g) (i + 1) k one)) + 1)
+    (i + 1 + steps_of one) (k + calls one) other
+    → Reached o (if_by g b a x one other j u) l i k N
+    (blocks_in (place g b a) (IfAt c false x (annotated (plan g) (i + 1) k one)
+    (annotated (plan g) (i + 1 + steps_of one) (k + calls one) other)) l top)
+    (entry_in (place g b a) (IfAt c false x (annotated (plan g) (i + 1) k one)
+    (annotated (plan g) (i + 1 + steps_of one) (k + calls one) other)) l top)
+if_reached g b a x one other c j l i k N u top o f1 f2 el ei ek er eo ej en =
+    let p = place g b a in
+    let A = annotated (plan g) (i + 1) k one in
+    let C = annotated (plan g) (i + 1 + steps_of one) (k + calls one) other in
+    let l1 = l + leg_size A (size A) in
+    let join = l1 + leg_size C (size C) in
+    let e1 = exit_of j b a one in
+    let e2 = exit_of j b a other in
+    let t2 = emit g b a other u in
+    let u2 = leg_out e2 t2 in
+    let s1 = with_rest (jump j) u2 in
+    let t1 = emit g b a one s1 in
+    let n1 = notes_of (plan g) (l + 1) (i + 1) k one in
+    let q2 = leg_reached g b a j (i + 1 + steps_of one) (k + calls one) other u l1 (N ++ n1) (el ∙ ej)
+    en (λ m e n. f2 u m (i + 1 + steps_of one) (k + calls one) (N ++ n1) e ei ek n) in
+    let r2 = q2.reached in
+    let q1 = leg_reached g b a j (i + 1) k one s1 l N r2.label r2.notes
+    (λ m e n. f1 s1 m (i + 1) k N e r2.place r2.calls n) in
+    let r1 = q1.reached in
+    let B1 = leg_blocks (exit_leg p j A) (entry p A (l + 1) (jump j)) (blocks p A (l + 1) (jump j)) in
+    let B2 = λ (y : Block). leg_blocks (exit_leg p j C) (entry p C (l1 + 1) y) (blocks p C (l1 + 1) y) in
+    let out : u2.out ≡ B2 (jump j) ++ top ∷ o =
+    r2.out ∙ ap (λ y. B2 y ++ u.out) er ∙ ap (λ y. B2 (jump j) ++ y) eo in
+    let t = if_by g b a x one other j u in
+    let r : Reached o t l i k N (B1 ++ (B2 (jump j) ++ top ∷ []))
+    (test_block x (label_or l (exit_leg p j A)) (label_or l1 (exit_leg p j C))) = record {
+      label = r1.label;
+      place = one_less (leg_out e1 t1).place i r1.place;
+      calls = r1.calls;
+      notes = r1.notes;
+      out = r1.out ∙ ap (λ y. B1 ++ y) (out ∙ sym (append_assoc (B2 (jump j)) (top ∷ []) o))
+          ∙ sym (append_assoc B1 (B2 (jump j) ++ top ∷ []) o);
+      rest = ap₂ (test_block x) q1.leads q2.leads;
+    } in
+    let B = λ (n : ℕ). leg_blocks (exit_leg p n A) (entry p A (l + 1) (jump n))
+    (blocks p A (l + 1) (jump n))
+    ++ (leg_blocks (exit_leg p n C) (entry p C (l1 + 1) (jump n)) (blocks p C (l1 + 1) (jump n))
+    ++ top ∷ []) in
+    let E = λ (n : ℕ). test_block x (label_or l (exit_leg p n A)) (label_or l1 (exit_leg p n C)) in
+    subst (λ n. Reached o t l i k N (B n) (E n)) ej r
+
+-- LOOPS
+
+abbrev loop_by : Ground → Code → Code → Note → Emission → Emission
+loop_by g body post note behind =
+    let next = put_out (emit g behind.label note.next post
+    (with_rest (jump note.head) (without_note behind))) in
+    let after = end_of_body ((plan g).cut note.place) g.arrays post next.label note.head in
+    fall (put_out (emit g behind.label next.label body (with_rest after next)))
+
+loop_reached : (g : Ground) (b a : ℕ) (body post : Code) (note : Note) (l i k : ℕ)
+    (N : List Note) (behind : Emission) (top : Block) (o : List Block)
+    → ((broke again : ℕ) → IsReached g broke again body)
+    → ((broke again : ℕ) → IsReached g broke again post)
+    → behind.label ≡ l + 1 + size (annotated (plan g) (i + 1) k body) + 1
+    + size (annotated (plan g) (i + 1 + steps_of body) (k + calls body) post)
+    → behind.place ≡ i + 1 + steps_of body + steps_of post
+    → behind.calls ≡ k + calls body + calls post → behind.out ≡ top ∷ o
+    → note ≡ note_of l i (l + 1 + size (annotated (plan g) (i + 1) k body))
+    → front_notes behind.notes ≡ (N ++ notes_of (plan g) (l + 1) (i + 1) k body)
+    ++ notes_of (plan g) (l + 1 + size (annotated (plan g) (i + 1) k body) + 1)
+    (i + 1 + steps_of body) (k + calls body) post
+    → Reached o (loop_by g body post note behind) l i k N
+    (blocks_in (place g b a) (LoopAt ((plan g).cut i) (annotated (plan g) (i + 1) k body)
+    (annotated (plan g) (i + 1 + steps_of body) (k + calls body) post)) l top)
+    (jump l)
+loop_reached g b a body post note l i k N behind top o f1 f2 el ei ek eo ex en =
+    let C = annotated (plan g) (i + 1) k body in
+    let D = annotated (plan g) (i + 1 + steps_of body) (k + calls body) post in
+    let next = l + 1 + size C in
+    let br = next + 1 + size D in
+    let start = with_rest (jump note.head) (without_note behind) in
+    let bl = behind.label in
+    let t2 = emit g bl note.next post start in
+    let nx = put_out t2 in
+    let cuts = (plan g).cut note.place in
+    let after = end_of_body cuts g.arrays post nx.label note.head in
+    let s1 = with_rest after nx in
+    let nl = nx.label in
+    let t1 = emit g bl nl body s1 in
+    let u = put_out t1 in
+    let n1 = notes_of (plan g) (l + 1) (i + 1) k body in
+    let r2 = f2 bl note.next start (next + 1) (i + 1 + steps_of body) (k + calls body) (N ++ n1) el ei ek
+    en in
+    let enl : nl ≡ next = one_less t2.label next r2.label in
+    let r1 = f1 bl nl s1 (l + 1) (i + 1) k N (enl ∙ omega arith) r2.place r2.calls r2.notes in
+    let eul : u.label ≡ l = one_less t1.label l r1.label in
+    let head : note.head ≡ l = ap (λ (x : Note). x.head) ex in
+    let np : note.place ≡ i = ap (λ (x : Note). x.place) ex in
+    let after_is : note.next ≡ next = ap (λ (x : Note). x.next) ex in
+    let ecut : cuts ≡ (plan g).cut i = ap (plan g).cut np in
+    let Z = λ (m n q : ℕ). entry (place g m n) D (next + 1) (jump q) in
+    let W = λ (m n q : ℕ). blocks (place g m n) D (next + 1) (jump q) in
+    let X = λ (m n : ℕ) (y : Block). entry (place g m n) C (l + 1) y in
+    let Y = λ (m n : ℕ) (y : Block). blocks (place g m n) C (l + 1) y in
+    let P = λ (m n q : ℕ). Z m n q ∷ (W m n q ++ top ∷ []) in
+    let B = λ (m n z q : ℕ) (y : Block). X m n y ∷ (Y m n y ++ P m z q) in
+    let behind_out : nx.out ≡ P bl note.next note.head ++ o =
+    ap₂ (λ y z. y ∷ z) r2.rest (r2.out ∙ ap (λ y. W bl note.next note.head ++ y) eo
+    ∙ sym (append_assoc (W bl note.next note.head) (top ∷ []) o)) in
+    let out : u.out ≡ B bl nl note.next note.head after ++ o =
+    ap₂ (λ y z. y ∷ z) r1.rest (r1.out ∙ ap (λ y. Y bl nl after ++ y) behind_out
+    ∙ sym (append_assoc (Y bl nl after) (P bl note.next note.head) o)) in
+    let end = λ (n q : ℕ) (y : Bool). end_of_body y g.arrays post n q in
+    let e1 = ap (λ y. B bl nl note.next note.head (end nl note.head y)) ecut in
+    let F = λ (m n z q : ℕ). B m n z q (end_of_body ((plan g).cut i) g.arrays post n q) in
+    let e2 = ap (λ m. F m nl note.next note.head) el in
+    let e3 = ap (λ n. F br n note.next note.head) enl in
+    let e4 = ap (λ z. F br next z note.head) after_is in
+    let e5 = ap (λ q. F br next next q) head in
+    let e6 = ap (λ y. B br next next l y)
+    (sym (end_is g (place g br next) ((plan g).cut i) (i + 1 + steps_of body) (k + calls body)
+    post next l)) in
+    record {
+      label = eul;
+      place = one_less u.place i r1.place;
+      calls = r1.calls;
+      notes = r1.notes;
+      out = out ∙ ap (λ y. y ++ o) (e1 ∙ e2 ∙ e3 ∙ e4 ∙ e5 ∙ e6);
+      rest = ap jump eul;
+    }
+
+-- ALL CODE
+
+-- nothing is put out, and a statement less stands before
+passed : (s : Emission) (l i k : ℕ) (N : List Note) (r : Block) → s.label ≡ l → s.place - 1 ≡ i
+    → s.calls ≡ k → s.notes ≡ N → Reached s.out (leaving r s) l i k N [] r
+passed s l i k N r el ei ek en =
+    record { label = el; place = ei; calls = ek; notes = en; out = refl; rest = refl }
+
+mutual
+  pub step_reached : (g : Ground) (b a : ℕ) (x : Step) (s : Emission) (l i k : ℕ)
+      (N : List Note) → s.label ≡ l + size_in (annotated_in (plan g) i k x) → s.place ≡ i + steps_in x
+      → s.calls ≡ k + calls_in x → s.notes ≡ N ++ notes_in (plan g) l i k x
+      → Reached s.out (emit_in g b a x s) l i k N
+      (blocks_in (place g b a) (annotated_in (plan g) i k x) l s.rest)
+      (entry_in (place g b a) (annotated_in (plan g) i k x) l s.rest)
+  step_reached g b a (Let to op x y) s l i k N el ei ek en =
+      mapped (set_then (register_of to) op (source x) (source y))
+      (before_reached (plan g) s l i k N el ei (omega (arith, ek)) (en ∙ append-nil N))
+  step_reached g b a (Frame to at) s l i k N el ei ek en =
+      mapped (set_then (register_of to) Sub (Reg 1) (Const (capped (g.arrays - at))))
+      (before_reached (plan g) s l i k N el ei (omega (arith, ek)) (en ∙ append-nil N))
+  step_reached g b a (Load to op x) s l i k N el ei ek en =
+      mapped (load_then (register_of to) op (source x))
+      (before_reached (plan g) s l i k N el ei (omega (arith, ek)) (en ∙ append-nil N))
+  step_reached g b a (Save op x y) s l i k N el ei ek en =
+      mapped (save_then op (source x) (source y))
+      (before_reached (plan g) s l i k N el ei (omega (arith, ek)) (en ∙ append-nil N))
+  step_reached g b a (Call f args to kept) s l i k N el ei ek en =
+      call_reached (plan g) g.frame (entry_at g.entries f) args to s l i k N el ei ek
+      (en ∙ append-nil N)
+  step_reached g b a (Put v) s l i k N el ei ek en =
+      let e = one_less s.label l el in
+      record {
+        label = e;
+        place = one_less s.place i ei;
+        calls = omega (arith, ek);
+        notes = en ∙ append-nil N;
+        out = refl;
+        rest = ap (put_byte v) e;
+      }
+  step_reached g b a (Get to) s l i k N el ei ek en =
+      let r = before_reached (plan g) s (l + 1) i k N (omega (arith, el)) ei (omega (arith, ek))
+      (en ∙ append-nil N) in
+      let t = before (plan g) s in
+      let e = one_less t.label l r.label in
+      record {
+        label = e;
+        place = r.place;
+        calls = r.calls;
+        notes = r.notes;
+        out = ap₂ (λ x y. set_then (register_of to) Mov (Reg 3) (Const 0) x ∷ y) r.rest r.out;
+        rest = ap get_byte e;
+      }
+  step_reached g b a (If x one other) s l i k N el ei ek en =
+      let A = annotated (plan g) (i + 1) k one in
+      let C = annotated (plan g) (i + 1 + steps_of one) (k + calls one) other in
+      let l1 = l + leg_size A (size A) in
+      let j = l1 + leg_size C (size C) in
+      let n1 = notes_of (plan g) (l + 1) (i + 1) k one in
+      let n2 = notes_of (plan g) (l1 + 1) (i + 1 + steps_of one) (k + calls one) other in
+      let u = put_out s in
+      let e : u.label ≡ j = one_less s.label j (el ∙ omega arith) in
+      if_reached g b a x one other ((plan g).cut i) u.label l i k N u s.rest s.out
+      (reached g b a one) (reached g b a other) refl (omega (arith, ei)) (omega (arith, ek)) refl refl e
+      (en ∙ sym (append_assoc N n1 n2))
+  step_reached g b a (Loop body post) s l i k N el ei ek en =
+      let behind = put_out s in
+      let C = annotated (plan g) (i + 1) k body in
+      let D = annotated (plan g) (i + 1 + steps_of body) (k + calls body) post in
+      let e = one_less s.label (l + 1 + size C + 1 + size D) (el ∙ omega arith) in
+      let nx = l + 1 + size C in
+      let n1 = notes_of (plan g) (l + 1) (i + 1) k body in
+      let n2 = notes_of (plan g) (nx + 1) (i + 1 + steps_of body) (k + calls body) post in
+      let x = note_of l i nx in
+      let M = (N ++ n1) ++ n2 in
+      let all : s.notes ≡ M ++ x ∷ [] =
+      en ∙ sym (append_assoc N n1 (n2 ++ x ∷ [])) ∙ sym (append_assoc (N ++ n1) n2 (x ∷ [])) in
+      loop_reached g b a body post (last_note behind.notes) l i k N behind s.rest s.out
+      (λ broke again. reached g broke again body) (λ broke again. reached g broke again post) e
+      (omega (arith, ei)) (omega (arith, ek)) refl (ap last_note all ∙ last_behind M x)
+      (ap front_notes all ∙ front_before M x)
+  step_reached g b a Break s l i k N el ei ek en =
+      passed s l i k N _ (omega (arith, el)) (one_less s.place i ei) (omega (arith, ek)) (en ∙ append-nil N)
+  step_reached g b a Continue s l i k N el ei ek en =
+      passed s l i k N _ (omega (arith, el)) (one_less s.place i ei) (omega (arith, ek)) (en ∙ append-nil N)
+  step_reached g b a (Return v) s l i k N el ei ek en =
+      passed s l i k N _ (omega (arith, el)) (one_less s.place i ei) (omega (arith, ek)) (en ∙ append-nil N)
+
+  pub reached : (g : Ground) (b a : ℕ) (c : Code) → IsReached g b a c
+  reached g b a Nop s l i k N el ei ek en =
+      record {
+        label = omega (arith, el);
+        place = omega (arith, ei);
+        calls = omega (arith, ek);
+        notes = en ∙ append-nil N;
+        out = refl;
+        rest = refl;
+      }
+  reached g b a (x ▹ c) s l i k N el ei ek en =
+      let m = emit g b a c s in
+      let S = annotated_in (plan g) i k x in
+      let l2 = l + size_in S in
+      let n1 = notes_in (plan g) l i k x in
+      let n2 = notes_of (plan g) l2 (i + steps_in x) (k + calls_in x) c in
+      let p = reached g b a c s l2 (i + steps_in x) (k + calls_in x) (N ++ n1) (omega (arith, el))
+      (omega (arith, ei)) (omega (arith, ek)) (en ∙ sym (append_assoc N n1 n2)) in
+      let q = step_reached g b a x m l i k N p.label p.place p.calls p.notes in
+      joined (λ y. blocks_in (place g b a) S l y) (λ y. entry_in (place g b a) S l y) p q

@@ -1,0 +1,15 @@
+use Rattle.std.proofs.Common.{◌≡◌, ◌≤◌, length, drop}
+use Rattle.ir_forms.specs.FlatViews.{code_of}
+use Rattle.hyper_build.specs.Backward.{emission_of}
+use Rattle.hyper_build.specs.BackwardCode as code
+use Rattle.hyper_build.proofs.code.+emit.Given as goal
+
+abbrev pub invariant-put_stmts-loop-at : goal.invariant-put_stmts-loop-at
+invariant-put_stmts-loop-at l = record {
+  within : l.at ≤ length l.stmts;
+  done : emission_of l.emitting
+      ≡ code.emit l.site l.broke l.again (code_of (drop l.at l.stmts)) (emission_of l.fn.emitting);
+}
+
+abbrev pub decreases-put_stmts-loop-at : goal.decreases-put_stmts-loop-at
+decreases-put_stmts-loop-at l = l.at

@@ -1,0 +1,85 @@
+-- What emission does before ifs, loops, and all code.
+use Rattle.std.specs.Prelude.{ℕ, ◌-◌, Bool, cond, ◌||◌, not, Option, Some, None}
+use Rattle.ir_forms.specs.declared.flat.Arg.{Arg}
+use Rattle.ir_forms.specs.declared.hyper.Exit.TheVariants as exit
+use Rattle.ir_forms.specs.FlatCode.{Step, Let, Frame, Load, Save, Call, Put, Get, If, Loop, Break, Continue}
+use Rattle.ir_forms.specs.FlatCode.{Return, Code, Nop, ◌▹◌}
+use Rattle.ir_forms.specs.HyperCode.{Done, Leave, Test, Block}
+use Rattle.ir_forms.specs.HyperRuns.{jump}
+use Rattle.hyper_build.specs.Parts.{source}
+use Rattle.hyper_build.specs.Straight.{label_or}
+use Rattle.hyper_build.specs.Ground.{Ground, plan, entry_at, left}
+use Rattle.hyper_build.specs.Build.{give}
+use Rattle.hyper_build.specs.Backward.{Emission, with_rest, put_out, fall, last_note, without_note}
+use Rattle.hyper_build.specs.BackwardStatements.{let_out, frame_out, load_out, save_out, byte_out, byte_in}
+use Rattle.hyper_build.specs.BackwardStatements.{leaving, back_out, call_out}
+use Rattle.hyper_build.specs.BackwardItems.{is_straight, straight_items}
+
+-- IFS
+
+-- where a break or a continue alone leads
+abbrev pub exit_in : ℕ → ℕ → Step → Option ℕ
+exit_in broke again Break = Some broke
+exit_in broke again Continue = Some again
+exit_in broke again _ = None
+
+-- where a leg that has no block of its own leads
+abbrev pub exit_of : ℕ → ℕ → ℕ → Code → Option ℕ
+exit_of join broke again Nop = Some join
+exit_of join broke again (s ▹ Nop) = exit_in broke again s
+exit_of join broke again (s ▹ t ▹ more) = None
+
+-- a leg that has blocks begins with one
+abbrev pub leg_out : Option ℕ → Emission → Emission
+leg_out None s = put_out s
+leg_out (Some to) s = s
+
+-- a test that leads to one label or to the other
+abbrev pub test_block : Arg → ℕ → ℕ → Block
+test_block x one other = record {
+  items = Done;
+  tail = Test (source x) (Leave (exit.Jump one)) (Leave (exit.Jump other));
+}
+
+-- LOOPS
+
+-- what the body goes on with
+abbrev pub end_of_body : Bool → ℕ → Code → ℕ → ℕ → Block
+end_of_body c arrays post l head =
+    cond (c || not (is_straight post)) (jump l)
+    (record { items = straight_items arrays post Done; tail = Leave (exit.Jump head) })
+
+-- ALL STATEMENTS
+
+-- Before a statement, or before code, where a break and a continue lead to labels.
+abbrev mutual
+  pub emit_in : Ground → ℕ → ℕ → Step → Emission → Emission
+  emit_in g broke again (Let to op a b) s = let_out (plan g) to op a b s
+  emit_in g broke again (Frame to at) s = frame_out (plan g) g.arrays to at s
+  emit_in g broke again (Load to op a) s = load_out (plan g) to op a s
+  emit_in g broke again (Save op a v) s = save_out (plan g) op a v s
+  emit_in g broke again (Call f args to kept) s =
+      call_out (plan g) g.frame (entry_at g.entries f) args (back_out (plan g) g.frame to s)
+  emit_in g broke again (Put v) s = byte_out v s
+  emit_in g broke again (Get to) s = byte_in (plan g) to s
+  emit_in g broke again (If x one other) s =
+      let join = (put_out s).label in
+      let e2 = exit_of join broke again other in
+      let e1 = exit_of join broke again one in
+      let second = leg_out e2 (emit g broke again other (put_out s)) in
+      let first = leg_out e1 (emit g broke again one (with_rest (jump join) second)) in
+      leaving (test_block x (label_or first.label e1) (label_or second.label e2)) first
+  emit_in g broke again (Loop body post) s =
+      let behind = put_out s in
+      let note = last_note behind.notes in
+      let next = put_out (emit g behind.label note.next post
+      (with_rest (jump note.head) (without_note behind))) in
+      let after = end_of_body ((plan g).cut note.place) g.arrays post next.label note.head in
+      fall (put_out (emit g behind.label next.label body (with_rest after next)))
+  emit_in g broke again Break s = leaving (jump broke) s
+  emit_in g broke again Continue s = leaving (jump again) s
+  emit_in g broke again (Return v) s = leaving (give v (left g.frame)) s
+
+  pub emit : Ground → ℕ → ℕ → Code → Emission → Emission
+  emit g broke again Nop s = s
+  emit g broke again (s ▹ rest) x = emit_in g broke again s (emit g broke again rest x)

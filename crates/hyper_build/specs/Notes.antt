@@ -1,0 +1,31 @@
+-- The notes of the loops of code, in the order in which the loops end.
+use Rattle.std.specs.Prelude.{ℕ, ◌+◌, List, [], ◌∷◌, ◌++◌}
+use Rattle.ir_forms.specs.FlatCode.{Step, If, Loop, Code, Nop, ◌▹◌}
+use Rattle.ir_forms.specs.FlatFits.{steps_in, steps_of}
+use Rattle.reg_assign.specs.Keeps.{calls_in, calls}
+use Rattle.hyper_build.specs.declared.emitting.Note.{Note}
+use Rattle.hyper_build.specs.Tree.{Plan, annotated_in, annotated}
+use Rattle.hyper_build.specs.Straight.{leg_size, size_in, size}
+
+abbrev pub note_of : ℕ → ℕ → ℕ → Note
+note_of head place next = record { head = head; place = place; next = next }
+
+-- Of code whose blocks stand from label l on, where i statements and k calls stand before it.
+abbrev mutual
+  pub notes_in : Plan → ℕ → ℕ → ℕ → Step → List Note
+  notes_in p l i k (If x one other) =
+      let A = annotated p (i + 1) k one in
+      notes_of p (l + 1) (i + 1) k one
+      ++ notes_of p (l + leg_size A (size A) + 1) (i + 1 + steps_of one) (k + calls one) other
+  notes_in p l i k (Loop body post) =
+      let next = l + 1 + size (annotated p (i + 1) k body) in
+      notes_of p (l + 1) (i + 1) k body
+      ++ (notes_of p (next + 1) (i + 1 + steps_of body) (k + calls body) post
+      ++ note_of l i next ∷ [])
+  notes_in p l i k _ = []
+
+  pub notes_of : Plan → ℕ → ℕ → ℕ → Code → List Note
+  notes_of p l i k Nop = []
+  notes_of p l i k (x ▹ c) =
+      notes_in p l i k x
+      ++ notes_of p (l + size_in (annotated_in p i k x)) (i + steps_in x) (k + calls_in x) c

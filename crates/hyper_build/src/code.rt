@@ -1,0 +1,217 @@
+//! All statements before what is put out.
+
+ghost use Rattle.std.specs.Prelude.{◌≡◌, OnOk, IfOk};
+ghost use Rattle.ir_forms.specs.FlatViews.{code_of, step_of};
+ghost use Rattle.hyper_build.specs.Straight.{label_or};
+ghost use Rattle.hyper_build.specs.Backward as back;
+ghost use Rattle.hyper_build.specs.BackwardCode as code;
+ghost use Rattle.hyper_build.specs.Backward.{emission_of};
+ghost use Rattle.hyper_build.specs.BackwardStatements.{leaving};
+ghost use Rattle.hyper_build.specs.Emitted.{rest_of};
+ghost use Rattle.hyper_build.specs.Ground as ground;
+
+use crate::calling::{put_back, put_call};
+use crate::emitting::{Emitting, fall, put_out, put_rest, take_note};
+use crate::ground::Site;
+use crate::operands::source;
+use crate::rest::{Rest, jump};
+use crate::singles::{
+    put_byte, put_frame, put_get, put_jump, put_let, put_loading, put_return, put_storing,
+};
+use crate::straight::{is_straight, put_items};
+use base::{Boxed, Items, Memory};
+use ir_forms::{Arg, Exit, FlatStmt, Tail};
+use std::alloc::Global;
+
+/// Where a break or a continue alone leads.
+fn exit_in(s: &FlatStmt, broke: u32, again: u32) -> Option<u32>
+    ensures { result ≡ code.exit_in broke again (step_of s.now) }
+{
+    match s {
+        FlatStmt::Let { .. } => None,
+        FlatStmt::Frame { .. } => None,
+        FlatStmt::Load { .. } => None,
+        FlatStmt::Save { .. } => None,
+        FlatStmt::Call { .. } => None,
+        FlatStmt::Put(_) => None,
+        FlatStmt::Get { .. } => None,
+        FlatStmt::If { .. } => None,
+        FlatStmt::Loop { .. } => None,
+        FlatStmt::Break => Some(broke),
+        FlatStmt::Continue => Some(again),
+        FlatStmt::Return(_) => None,
+    }
+}
+
+/// Where a leg that has no block of its own leads.
+pub fn exit_of(stmts: &[FlatStmt], join: u32, broke: u32, again: u32) -> Option<u32>
+    ensures { result ≡ code.exit_of join broke again (code_of stmts.now) }
+{
+    let (first, rest) = match stmts.split_first() {
+        None => return Some(join),
+        Some(parts) => parts,
+    };
+    if rest.is_empty() {
+        exit_in(first, broke, again)
+    } else {
+        None
+    }
+}
+
+/// A leg that has blocks begins with one.
+fn put_leg(emitting: &mut Emitting, alloc: Global, exit: Option<u32>) -> Result<(), Memory>
+    ensures { OnOk result (emission_of emitting.new
+        ≡ code.leg_out exit (emission_of emitting.old)) }
+{
+    match exit {
+        None => put_out(emitting, alloc),
+        Some(_) => Ok(()),
+    }
+}
+
+/// A leg's label, or where it leads at once.
+fn label_of(label: u32, exit: Option<u32>) -> u32
+    ensures { result ≡ label_or label exit }
+{
+    match exit {
+        None => label,
+        Some(exit) => exit,
+    }
+}
+
+/// A test alone.
+#[tactic(auto, using(crate::proofs::Emits::test_is))]
+fn test(alloc: Global, arg: Arg, one: u32, other: u32) -> Result<Rest, Memory>
+    ensures { IfOk result (λ rest. rest_of rest ≡ code.test_block arg one other) }
+{
+    let test = source(arg)?;
+    let yes = Boxed::new(alloc, Tail::Leave(Exit::Jump(one)))?;
+    let no = Boxed::new(alloc, Tail::Leave(Exit::Jump(other)))?;
+    Ok(Rest {
+        items: Items::new(alloc),
+        tail: Tail::Test { test, yes, no },
+    })
+}
+
+/// A test, behind which nothing is reached.
+fn put_test(
+    emitting: &mut Emitting,
+    alloc: Global,
+    arg: Arg,
+    one: u32,
+    other: u32,
+) -> Result<(), Memory>
+    ensures { OnOk result (emission_of emitting.new
+        ≡ leaving (code.test_block arg one other) (emission_of emitting.old)) }
+{
+    let rest = test(alloc, arg, one, other)?;
+    fall(emitting);
+    put_rest(emitting, rest);
+    Ok(())
+}
+
+/// What a loop's body goes on with.
+fn body_end(
+    alloc: Global,
+    ends: bool,
+    arrays: u64,
+    post: &[FlatStmt],
+    next: u32,
+    head: u32,
+) -> Result<Rest, Memory>
+    ensures { IfOk result (λ rest. rest_of rest
+        ≡ code.end_of_body ends arrays (code_of post.now) next head) }
+{
+    if ends || !is_straight(post) {
+        Ok(jump(alloc, next))
+    } else {
+        let mut rest = jump(alloc, head);
+        put_items(post, &mut rest, alloc, arrays)?;
+        Ok(rest)
+    }
+}
+
+/// A statement before what is put out.
+#[cycle(emit)]
+fn put_stmt(
+    s: &FlatStmt,
+    emitting: &mut Emitting,
+    alloc: Global,
+    site: &Site,
+    broke: u32,
+    again: u32,
+) -> Result<(), Memory>
+    ensures { OnOk result (emission_of emitting.new
+        ≡ code.emit_in site.now broke again (step_of s.now) (emission_of emitting.old)) }
+{
+    match s {
+        FlatStmt::Let { to, op, a, b } => put_let(emitting, alloc, site, *to, *op, *a, *b)?,
+        FlatStmt::Frame { to, at } => put_frame(emitting, alloc, site, *to, *at)?,
+        FlatStmt::Load { to, op, address } => {
+            put_loading(emitting, alloc, site, *to, *op, *address)?
+        }
+        FlatStmt::Save { op, address, value } => {
+            put_storing(emitting, alloc, site, *op, *address, *value)?
+        }
+        FlatStmt::Call { function, args, to } => {
+            put_back(emitting, alloc, site, *to)?;
+            put_call(emitting, alloc, site, *function, args.as_slice())?;
+        }
+        FlatStmt::Put(value) => put_byte(emitting, alloc, *value)?,
+        FlatStmt::Get { to } => put_get(emitting, alloc, site, *to)?,
+        FlatStmt::If { test, yes, no } => {
+            put_out(emitting, alloc)?;
+            let join = emitting.label;
+            put_stmts(no.as_slice(), emitting, alloc, site, broke, again)?;
+            let exit = exit_of(no.as_slice(), join, broke, again);
+            put_leg(emitting, alloc, exit)?;
+            let other = label_of(emitting.label, exit);
+            put_rest(emitting, jump(alloc, join));
+            put_stmts(yes.as_slice(), emitting, alloc, site, broke, again)?;
+            let exit = exit_of(yes.as_slice(), join, broke, again);
+            put_leg(emitting, alloc, exit)?;
+            let one = label_of(emitting.label, exit);
+            put_test(emitting, alloc, *test, one, other)?;
+        }
+        FlatStmt::Loop { body, post } => {
+            put_out(emitting, alloc)?;
+            let behind = emitting.label;
+            let note = take_note(emitting);
+            put_rest(emitting, jump(alloc, note.head));
+            put_stmts(post.as_slice(), emitting, alloc, site, behind, note.next)?;
+            put_out(emitting, alloc)?;
+            let next = emitting.label;
+            let ends = site.cuts(note.place);
+            let rest = body_end(alloc, ends, site.arrays, post.as_slice(), next, note.head)?;
+            put_rest(emitting, rest);
+            put_stmts(body.as_slice(), emitting, alloc, site, behind, next)?;
+            put_out(emitting, alloc)?;
+            fall(emitting);
+        }
+        FlatStmt::Break => put_jump(emitting, alloc, broke),
+        FlatStmt::Continue => put_jump(emitting, alloc, again),
+        FlatStmt::Return(value) => put_return(emitting, alloc, site, *value)?,
+    }
+    Ok(())
+}
+
+/// Statements before what is put out, where a break and a continue lead to labels.
+#[cycle(emit)]
+pub fn put_stmts(
+    stmts: &[FlatStmt],
+    emitting: &mut Emitting,
+    alloc: Global,
+    site: &Site,
+    broke: u32,
+    again: u32,
+) -> Result<(), Memory>
+    ensures { OnOk result (emission_of emitting.new
+        ≡ code.emit site.now broke again (code_of stmts.now) (emission_of emitting.old)) }
+{
+    let mut at = stmts.len();
+    while at > 0 {
+        at -= 1;
+        put_stmt(&stmts[at], emitting, alloc, site, broke, again)?;
+    }
+    Ok(())
+}

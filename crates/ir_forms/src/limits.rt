@@ -1,0 +1,21 @@
+//! The limits of the forms and the numbers of variables, each in one place.
+
+/// How many bytes the frames of all active calls may take (docs/LANGUAGE.md: above them a run is Deep).
+pub const STACK_BYTES: u64 = 1_048_576;
+
+/// How many labels there are: a label is below this, as is the number of chunks that an offset goes on
+/// (docs/MACHINE.md, "The image").
+pub const LABELS: u32 = 524_288;
+
+/// How many statements a flat program may have, each function counting one.
+pub const MOST_STATEMENTS: u32 = 16_777_216;
+
+/// The number of temporary 0 of a flat function; temporary t is `FIRST_TEMPORARY + t`. Scalars are
+/// below it.
+pub const FIRST_TEMPORARY: u16 = 64;
+
+/// The number of scratch variable 0; scratch variable s is `FIRST_SCRATCH + s`.
+pub const FIRST_SCRATCH: u16 = 80;
+
+/// How many variables there are: 64 scalars, 16 temporaries and 8 scratch variables.
+pub const VARIABLES: u16 = 88;
