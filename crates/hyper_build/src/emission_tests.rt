@@ -12,14 +12,10 @@ use std::alloc::Global;
 use std::process::Abort;
 use trips_isa::Op;
 
-const FIRST: u32 = 100;
+/// The label behind the last block.
+const BEHIND: u32 = 100;
 
 const STATEMENTS: u32 = 16;
-
-/// The blocks of the function under each plan.
-const CUT_BLOCKS: u32 = 24;
-
-const UNCUT_BLOCKS: u32 = 14;
 
 fn set(to: u16) -> FlatStmt {
     FlatStmt::Let {
@@ -112,7 +108,7 @@ fn emitted(alloc: Global, plan: &CutPlan, note: Note) -> Result<Emitting, Memory
     let mut notes = Items::new(alloc);
     notes.push(note)?;
     let mut emitting = Emitting {
-        label: FIRST,
+        label: BEHIND,
         place: STATEMENTS,
         calls: 1,
         notes,
@@ -130,19 +126,16 @@ fn emitted(alloc: Global, plan: &CutPlan, note: Note) -> Result<Emitting, Memory
     Ok(emitting)
 }
 
-/// Whether so many blocks are put out and each number falls to its first, with the note of the loop,
-/// whose body begins so many blocks.
-fn is_whole(alloc: Global, answers: u32, blocks: u32, body: u32) -> Result<bool, Memory> {
+/// Whether so many blocks are put out and each number falls to its first, with the note of the loop.
+fn is_whole(alloc: Global, answers: u32, note: Note, blocks: usize) -> Result<bool, Memory> {
     let plan = plan(alloc, answers)?;
-    let head = FIRST - blocks;
-    let next = head + 1 + body;
-    let all = emitted(alloc, &plan, Note { head, place: 0, next })?;
+    let all = emitted(alloc, &plan, note)?;
     Ok(
-        all.label == head
+        all.label == note.head
             && all.place == 0
             && all.calls == 0
             && all.notes.is_empty()
-            && all.out.len() == blocks as usize,
+            && all.out.len() == blocks,
     )
 }
 
@@ -153,8 +146,24 @@ fn is_so(answer: Result<bool, Memory>) -> bool {
     }
 }
 
+/// The loop's first block is the first of all; its body begins two blocks where all is cut, else one.
+const CUT: Note = Note {
+    head: 76,
+    place: 0,
+    next: 79,
+};
+
+const UNCUT: Note = Note {
+    head: 86,
+    place: 0,
+    next: 88,
+};
+
 #[test]
 fn every_statement_is_put_out_with_its_blocks(rt: HostRuntime) {
-    assert!(&rt; is_so(is_whole(rt.alloc(), 0, CUT_BLOCKS, 2)), "cut everywhere");
-    assert!(&rt; is_so(is_whole(rt.alloc(), STATEMENTS, UNCUT_BLOCKS, 1)), "cut nowhere");
+    assert!(&rt; is_so(is_whole(rt.alloc(), 0, CUT, 24)), "cut everywhere");
+    assert!(&rt;
+        is_so(is_whole(rt.alloc(), STATEMENTS, UNCUT, 14)),
+        "cut nowhere"
+    );
 }
