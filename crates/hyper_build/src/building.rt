@@ -9,6 +9,7 @@ ghost use Rattle.hyper_build.specs.Routines as routines;
 ghost use Rattle.hyper_build.specs.BackwardProgram as program;
 ghost use Rattle.hyper_build.specs.Laws.{plan_of, built_program};
 
+use crate::counting::plus;
 use crate::emitting::Emitting;
 use crate::functions::put_functions;
 use crate::ground::Site;
@@ -16,7 +17,6 @@ use crate::numbering::{Numbering, number_functions};
 use crate::plan::CutPlan;
 use crate::rest::{closed, jump, put_set};
 use crate::singles::leave;
-use crate::counting::plus;
 use base::{Items, Memory};
 use ir_forms::{Exit, FlatProgram, HyperBlock, HyperProgram, Source};
 use reg_assign::Assigned;
@@ -90,12 +90,7 @@ fn push_block(out: &mut Items<HyperBlock>, block: HyperBlock) -> Result<(), Memo
 }
 
 /// The first three blocks, before those that are put out.
-fn put_first(
-    out: &mut Items<HyperBlock>,
-    alloc: Global,
-    base: u64,
-    main: u32,
-) -> Result<(), Memory>
+fn put_first(out: &mut Items<HyperBlock>, alloc: Global, base: u64, main: u32) -> Result<(), Memory>
     ensures { OnOk result (out_of out.new ≡ program.first_blocks base main (out_of out.old)) }
 {
     push_block(out, system_block(alloc, 4, FULL)?)?;

@@ -8,9 +8,9 @@ ghost use Rattle.hyper_build.specs.Ground as ground;
 ghost use Rattle.hyper_build.specs.Forward as forward;
 
 use crate::code::exit_of;
+use crate::counting::{arguments_size, cut_size, narrow, parameters_size, plus};
 use crate::emitting::Note;
 use crate::ground::Site;
-use crate::counting::{arguments_size, cut_size, narrow, parameters_size, plus};
 use base::{Items, Memory};
 use ir_forms::{Arg, FlatFunc, FlatStmt};
 use std::alloc::Global;
