@@ -30,3 +30,6 @@ pub mod LastNotes
 pub mod Reaching
 pub mod ReachingLegs
 pub mod Emissions
+pub mod ArgumentSizes
+pub mod NumbersForward
+pub mod FunctionsOut

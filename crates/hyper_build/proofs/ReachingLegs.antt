@@ -34,7 +34,15 @@ pub record HasExit (g : Ground) (b a join i k : ℕ) (c : Code) : Type 0 where
 pub kind : (g : Ground) (b a join i k : ℕ) (c : Code)
     → NoExit g b a join i k c ⊎ HasExit g b a join i k c
 kind g b a join i k Nop =
-    inr (record { to = join; code = refl; tree = refl; sized = λ n. refl; empty = refl; bare = λ l r. refl; silent = λ l. refl })
+    inr (record {
+      to = join;
+      code = refl;
+      tree = refl;
+      sized = λ n. refl;
+      empty = refl;
+      bare = λ l r. refl;
+      silent = λ l. refl;
+    })
 kind g b a join i k (Let to op x y ▹ Nop) =
     inl (record { code = refl; tree = refl; sized = λ n. refl })
 kind g b a join i k (Frame to at ▹ Nop) =
@@ -54,9 +62,25 @@ kind g b a join i k (If x p q ▹ Nop) =
 kind g b a join i k (Loop p q ▹ Nop) =
     inl (record { code = refl; tree = refl; sized = λ n. refl })
 kind g b a join i k (Break ▹ Nop) =
-    inr (record { to = b; code = refl; tree = refl; sized = λ n. refl; empty = refl; bare = λ l r. refl; silent = λ l. refl })
+    inr (record {
+      to = b;
+      code = refl;
+      tree = refl;
+      sized = λ n. refl;
+      empty = refl;
+      bare = λ l r. refl;
+      silent = λ l. refl;
+    })
 kind g b a join i k (Continue ▹ Nop) =
-    inr (record { to = a; code = refl; tree = refl; sized = λ n. refl; empty = refl; bare = λ l r. refl; silent = λ l. refl })
+    inr (record {
+      to = a;
+      code = refl;
+      tree = refl;
+      sized = λ n. refl;
+      empty = refl;
+      bare = λ l r. refl;
+      silent = λ l. refl;
+    })
 kind g b a join i k (Return x ▹ Nop) =
     inl (record { code = refl; tree = refl; sized = λ n. refl })
 kind g b a join i k (Let to op x y ▹ s ▹ more) =

@@ -21,4 +21,6 @@ pub mod BackwardItems
 pub mod BackwardCode
 pub mod Notes
 pub mod Reached
+pub mod Forward
+pub mod BackwardProgram
 pub mod Smallness

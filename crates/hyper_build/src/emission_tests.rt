@@ -63,7 +63,7 @@ fn put_single(all: &mut Items<FlatStmt>) -> Result<(), Memory> {
     Ok(())
 }
 
-fn every(alloc: Global) -> Result<Items<FlatStmt>, Memory> {
+pub fn every(alloc: Global) -> Result<Items<FlatStmt>, Memory> {
     let mut all = Items::new(alloc);
     put_looping(&mut all, alloc)?;
     put_single(&mut all)?;
@@ -84,7 +84,7 @@ fn every(alloc: Global) -> Result<Items<FlatStmt>, Memory> {
 }
 
 /// The groups of the one call.
-fn two_groups(alloc: Global) -> Result<Items<Items<Items<u16>>>, Memory> {
+pub fn two_groups(alloc: Global) -> Result<Items<Items<Items<u16>>>, Memory> {
     let mut groups = Items::new(alloc);
     groups.push(Items::from_slice(alloc, &[0])?)?;
     groups.push(Items::from_slice(alloc, &[1])?)?;
@@ -93,7 +93,7 @@ fn two_groups(alloc: Global) -> Result<Items<Items<Items<u16>>>, Memory> {
     Ok(all)
 }
 
-fn plan(alloc: Global, answers: u32) -> Result<CutPlan, Memory> {
+pub fn plan(alloc: Global, answers: u32) -> Result<CutPlan, Memory> {
     let mut cuts = Items::new(alloc);
     for _i in 0..answers {
         cuts.push(false)?;

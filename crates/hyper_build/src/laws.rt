@@ -5,6 +5,7 @@ ghost use Rattle.hyper_build.specs.Laws.{GivesAssigned, KeepsAssigned};
 ghost use Rattle.hyper_build.specs.Smallness.{AssignedAreLittle, CutBlocksAreLittle};
 ghost use Rattle.hyper_build.specs.Annotated.{PlainClaim};
 ghost use Rattle.hyper_build.specs.Reached.{EmissionPutsBlocks};
+ghost use Rattle.hyper_build.specs.BackwardProgram.{EmissionBuilds};
 
 /// Calls of a built program do what the flat program's calls do, in all their endings.
 pub fn calls_follow()
@@ -52,4 +53,10 @@ pub fn assigned_programs_keep_meaning()
 /// them, where labels and numbers suffice and its loops have the last notes.
 pub fn emission_puts_blocks()
     ensures { EmissionPutsBlocks }
+{}
+
+/// The blocks that emission puts out of a program, by numbers that are found forward, are those of the
+/// definition, for every list of answers, all groups and every program.
+pub fn emission_builds_programs()
+    ensures { EmissionBuilds }
 {}

@@ -2,22 +2,29 @@
 //! do what the flat program does.
 #![tactic(auto)]
 
+#[cfg(test)]
+mod build_tests;
+mod building;
 mod calling;
 mod code;
+mod counting;
 #[cfg(test)]
 mod emission_tests;
 mod emitting;
+mod functions;
 mod ground;
 mod laws;
+mod numbering;
 mod operands;
 mod plan;
 mod rest;
 mod singles;
 mod straight;
 
+pub use building::build;
 pub use laws::{
     assigned_programs_keep_meaning, blocks_are_followed, built_programs_are_blocks,
-    built_programs_keep_meaning, calls_follow, cut_blocks_are_little, emission_puts_blocks,
-    plans_change_nothing,
+    built_programs_keep_meaning, calls_follow, cut_blocks_are_little, emission_builds_programs,
+    emission_puts_blocks, plans_change_nothing,
 };
 pub use plan::{CutPlan, cut_all, is_cut};

@@ -1,0 +1,207 @@
+-- Numbers forward are what annotated code says: labels by its size, and a note for each loop.
+use Rattle.std.proofs.Common.{◌≡◌, ◌⊎◌, inl, inr, ℕ, zero, suc, ◌+◌, Bool, List, [], ◌∷◌, ◌++◌, Option}
+use Rattle.std.proofs.Common.{refl, sym, ap, ap₂, ◌∙◌, subst, arith, append_assoc, append-nil}
+use Rattle.ir_forms.specs.FlatCode.{Step, Let, Frame, Load, Save, Call, Put, Get, If, Loop, Break, Continue}
+use Rattle.ir_forms.specs.FlatCode.{Return, Code, Nop, ◌▹◌, Function}
+use Rattle.ir_forms.specs.FlatFits.{steps_in, steps_of, steps_of_all}
+use Rattle.reg_assign.specs.Keeps.{calls_in, calls, calls_of_all}
+use Rattle.hyper_build.specs.declared.emitting.Note.{Note}
+use Rattle.hyper_build.specs.declared.numbering.Numbering.{Numbering}
+use Rattle.hyper_build.specs.Tree.{Plan, annotated_in, annotated, Routine, annotated_all}
+use Rattle.hyper_build.specs.Straight.{leg_size, size_in, size}
+use Rattle.hyper_build.specs.Routines.{body_label, routine_size, entry_from}
+use Rattle.hyper_build.specs.Ground.{Ground, plan, entry_at}
+use Rattle.hyper_build.specs.Forward.{with_blocks, with_statement, with_note, led_by, led, number_in, number, way_in_size}
+use Rattle.hyper_build.specs.Forward.{number_function, number_all, entries_from, numbers_start}
+use Rattle.hyper_build.specs.Notes.{note_of, notes_in, notes_of}
+use Rattle.hyper_build.proofs.ReachingLegs.{NoExit, HasExit, kind}
+
+-- NUMBERS
+
+abbrev numbers_at : ℕ → ℕ → ℕ → List Note → Numbering
+numbers_at l i k N = record { label = l; place = i; calls = k; notes = N }
+
+same : {l m i j k n : ℕ} {M N : List Note} → l ≡ m → i ≡ j → k ≡ n → M ≡ N
+    → numbers_at l i k M ≡ numbers_at m j n N
+same {l = l} {m = m} {i = i} {j = j} {k = k} {n = n} {M = M} el ei ek en =
+    ap (λ x. numbers_at x i k M) el ∙ ap (λ x. numbers_at m x k M) ei
+    ∙ ap (λ x. numbers_at m j x M) ek ∙ ap (numbers_at m j n) en
+
+abbrev IsNumbered : Ground → ℕ → ℕ → ℕ → Code → Type 0
+IsNumbered g l i k c = (N : List Note) → number (plan g) c (numbers_at l i k N)
+    ≡ numbers_at (l + size (annotated (plan g) i k c)) (i + steps_of c) (k + calls c)
+    (N ++ notes_of (plan g) l i k c)
+
+abbrev IsLegNumbered : Ground → ℕ → ℕ → ℕ → Code → Type 0
+IsLegNumbered g l i k c = (N : List Note) → number (plan g) c (led c (numbers_at l i k N))
+    ≡ numbers_at (l + leg_size (annotated (plan g) i k c) (size (annotated (plan g) i k c)))
+    (i + steps_of c) (k + calls c) (N ++ notes_of (plan g) (l + 1) i k c)
+
+led_numbers : (g : Ground) (l i k : ℕ) (c : Code)
+    → NoExit g 0 0 0 i k c ⊎ HasExit g 0 0 0 i k c → ((m : ℕ) → IsNumbered g m i k c)
+    → IsLegNumbered g l i k c
+led_numbers g l i k c (inl n) f N =
+    let tree = annotated (plan g) i k c in
+    let h = n.sized (size tree) in
+    ap (λ e. number (plan g) c (led_by e (numbers_at l i k N))) n.code
+    ∙ f (l + 1) N
+    ∙ same (omega (arith, h)) refl refl refl
+led_numbers g l i k c (inr n) f N =
+    let tree = annotated (plan g) i k c in
+    let h = n.sized (size tree) in
+    let z = n.empty in
+    ap (λ e. number (plan g) c (led_by e (numbers_at l i k N))) n.code
+    ∙ f l N
+    ∙ same (omega (arith, h, z)) refl refl
+    (ap (λ y. N ++ y) (n.silent l ∙ sym (n.silent (l + 1))))
+
+leg_numbers : (g : Ground) (l i k : ℕ) (c : Code) → ((m : ℕ) → IsNumbered g m i k c)
+    → IsLegNumbered g l i k c
+leg_numbers g l i k c f = led_numbers g l i k c (kind g 0 0 0 i k c) f
+
+-- where code has no notes of its own
+bare : {l m i j k n : ℕ} (N : List Note) → l ≡ m → i ≡ j → k ≡ n
+    → numbers_at l i k N ≡ numbers_at m j n (N ++ [])
+bare N el ei ek = same el ei ek (sym (append-nil N))
+
+if_numbers : (g : Ground) (l i k : ℕ) (one other : Code) (N : List Note)
+    → ((m : ℕ) → IsNumbered g m (i + 1) k one)
+    → ((m : ℕ) → IsNumbered g m (i + 1 + steps_of one) (k + calls one) other)
+    → let A = annotated (plan g) (i + 1) k one in
+    let C = annotated (plan g) (i + 1 + steps_of one) (k + calls one) other in
+    with_blocks 1 (number (plan g) other (led other (number (plan g) one (led one (numbers_at l (i + 1) k N)))))
+    ≡ numbers_at (l + (leg_size A (size A) + (leg_size C (size C) + 1)))
+    (i + (1 + (steps_of one + steps_of other))) (k + (calls one + calls other))
+    (N ++ (notes_of (plan g) (l + 1) (i + 1) k one
+    ++ notes_of (plan g) (l + leg_size A (size A) + 1) (i + 1 + steps_of one) (k + calls one) other))
+if_numbers g l i k one other N f1 f2 =
+    let A = annotated (plan g) (i + 1) k one in
+    let C = annotated (plan g) (i + 1 + steps_of one) (k + calls one) other in
+    let l1 = l + leg_size A (size A) in
+    let n1 = notes_of (plan g) (l + 1) (i + 1) k one in
+    let n2 = notes_of (plan g) (l1 + 1) (i + 1 + steps_of one) (k + calls one) other in
+    let e1 = leg_numbers g l (i + 1) k one f1 N in
+    let e2 = leg_numbers g l1 (i + 1 + steps_of one) (k + calls one) other f2 (N ++ n1) in
+    ap (λ s. with_blocks 1 (number (plan g) other (led other s))) e1
+    ∙ ap (with_blocks 1) e2
+    ∙ same (omega arith) (omega arith) (omega arith) (append_assoc N n1 n2)
+
+loop_numbers : (g : Ground) (l i k : ℕ) (body post : Code) (N : List Note)
+    → IsNumbered g (l + 1) (i + 1) k body
+    → IsNumbered g (l + 1 + size (annotated (plan g) (i + 1) k body) + 1) (i + 1 + steps_of body)
+    (k + calls body) post
+    → number_in (plan g) (Loop body post) (numbers_at l i k N)
+    ≡ numbers_at (l + (1 + (size (annotated (plan g) (i + 1) k body)
+    + (1 + (size (annotated (plan g) (i + 1 + steps_of body) (k + calls body) post) + 1)))))
+    (i + (1 + (steps_of body + steps_of post))) (k + (calls body + calls post))
+    (N ++ notes_in (plan g) l i k (Loop body post))
+loop_numbers g l i k body post N f1 f2 =
+    let C = annotated (plan g) (i + 1) k body in
+    let D = annotated (plan g) (i + 1 + steps_of body) (k + calls body) post in
+    let next = l + 1 + size C in
+    let n1 = notes_of (plan g) (l + 1) (i + 1) k body in
+    let n2 = notes_of (plan g) (next + 1) (i + 1 + steps_of body) (k + calls body) post in
+    let x = note_of l i next in
+    let e1 = f1 N in
+    let e2 = f2 (N ++ n1) in
+    ap (λ (s : Numbering). with_note (note_of l i s.label)
+    (with_blocks 1 (number (plan g) post (with_blocks 1 s)))) e1
+    ∙ ap (λ s. with_note x (with_blocks 1 s)) e2
+    ∙ same (omega arith) (omega arith) (omega arith)
+    (append_assoc (N ++ n1) n2 (x ∷ []) ∙ append_assoc N n1 (n2 ++ x ∷ []))
+
+mutual
+  pub step_numbers : (g : Ground) (l i k : ℕ) (x : Step) (N : List Note)
+      → number_in (plan g) x (numbers_at l i k N)
+      ≡ numbers_at (l + size_in (annotated_in (plan g) i k x)) (i + steps_in x) (k + calls_in x)
+      (N ++ notes_in (plan g) l i k x)
+  step_numbers g l i k (Let to op x y) N = bare N refl refl (omega arith)
+  step_numbers g l i k (Frame to at) N = bare N refl refl (omega arith)
+  step_numbers g l i k (Load to op x) N = bare N refl refl (omega arith)
+  step_numbers g l i k (Save op x y) N = bare N refl refl (omega arith)
+  step_numbers g l i k (Call f xs to kept) N = bare N refl refl refl
+  step_numbers g l i k (Put x) N = bare N refl refl (omega arith)
+  step_numbers g l i k (Get to) N = bare N refl refl (omega arith)
+  step_numbers g l i k (If x one other) N = if_numbers g l i k one other N
+      (λ m. numbers g m (i + 1) k one)
+      (λ m. numbers g m (i + 1 + steps_of one) (k + calls one) other)
+  step_numbers g l i k (Loop body post) N = loop_numbers g l i k body post N
+      (numbers g (l + 1) (i + 1) k body)
+      (numbers g (l + 1 + size (annotated (plan g) (i + 1) k body) + 1) (i + 1 + steps_of body)
+      (k + calls body) post)
+  step_numbers g l i k Break N = bare N (omega arith) refl (omega arith)
+  step_numbers g l i k Continue N = bare N (omega arith) refl (omega arith)
+  step_numbers g l i k (Return x) N = bare N (omega arith) refl (omega arith)
+
+  pub numbers : (g : Ground) (l i k : ℕ) (c : Code) → IsNumbered g l i k c
+  numbers g l i k Nop N = bare N (omega arith) (omega arith) (omega arith)
+  numbers g l i k (x ▹ c) N =
+      let l1 = l + size_in (annotated_in (plan g) i k x) in
+      let i1 = i + steps_in x in
+      let k1 = k + calls_in x in
+      ap (number (plan g) c) (step_numbers g l i k x N)
+      ∙ numbers g l1 i1 k1 c (N ++ notes_in (plan g) l i k x)
+      ∙ same (omega arith) (omega arith) (omega arith)
+      (append_assoc N (notes_in (plan g) l i k x) (notes_of (plan g) l1 i1 k1 c))
+
+-- FUNCTIONS
+
+-- a function with the plan's annotations
+abbrev pub routine_at : Plan → ℕ → ℕ → Function → Routine
+routine_at p i k f = record {
+  params = f.params;
+  scalars = f.scalars;
+  arrays = f.arrays;
+  small = p.small i;
+  body = annotated p (i + 1) k f.body;
+}
+
+abbrev pub function_notes : Plan → ℕ → ℕ → ℕ → Function → List Note
+function_notes p l i k f = notes_of p (body_label (routine_at p i k f) l) (i + 1) k f.body
+
+abbrev pub all_notes : Plan → ℕ → ℕ → ℕ → List Function → List Note
+all_notes p l i k [] = []
+all_notes p l i k (f ∷ fs) =
+    function_notes p l i k f
+    ++ all_notes p (l + routine_size (routine_at p i k f)) (i + 1 + steps_of f.body)
+    (k + calls f.body) fs
+
+abbrev pub sizes_of : List Routine → ℕ
+sizes_of [] = 0
+sizes_of (r ∷ rs) = routine_size r + sizes_of rs
+
+function_numbers : (g : Ground) (l i k : ℕ) (f : Function) (N : List Note)
+    → number_function (plan g) f (numbers_at l i k N)
+    ≡ numbers_at (l + routine_size (routine_at (plan g) i k f)) (i + 1 + steps_of f.body) (k + calls f.body)
+    (N ++ function_notes (plan g) l i k f)
+function_numbers g l i k f N =
+    let r = routine_at (plan g) i k f in
+    let l1 = body_label r l in
+    let e : l + way_in_size r.small f.params ≡ l1 = omega arith in
+    ap (λ m. number (plan g) f.body (numbers_at m (i + 1) k N)) e
+    ∙ numbers g l1 (i + 1) k f.body N
+    ∙ same (omega arith) refl refl refl
+
+pub all_numbers : (g : Ground) (l i k : ℕ) (fs : List Function) (N : List Note)
+    → number_all (plan g) fs (numbers_at l i k N)
+    ≡ numbers_at (l + sizes_of (annotated_all (plan g) i k fs)) (i + steps_of_all fs)
+    (k + calls_of_all fs) (N ++ all_notes (plan g) l i k fs)
+all_numbers g l i k [] N = bare N (omega arith) (omega arith) (omega arith)
+all_numbers g l i k (f ∷ fs) N =
+    let l1 = l + routine_size (routine_at (plan g) i k f) in
+    let i1 = i + 1 + steps_of f.body in
+    let k1 = k + calls f.body in
+    ap (number_all (plan g) fs) (function_numbers g l i k f N)
+    ∙ all_numbers g l1 i1 k1 fs (N ++ function_notes (plan g) l i k f)
+    ∙ same (omega arith) (omega arith) (omega arith)
+    (append_assoc N (function_notes (plan g) l i k f) (all_notes (plan g) l1 i1 k1 fs))
+
+pub entries_are : (g : Ground) (l i k : ℕ) (fs : List Function) (N : List Note) (n : ℕ)
+    → entry_at (entries_from (plan g) fs (numbers_at l i k N)) n
+    ≡ entry_from l (annotated_all (plan g) i k fs) n
+entries_are g l i k [] N n = refl
+entries_are g l i k (f ∷ fs) N zero = refl
+entries_are g l i k (f ∷ fs) N (suc n) =
+    ap (λ s. entry_at (entries_from (plan g) fs s) n) (function_numbers g l i k f N)
+    ∙ entries_are g (l + routine_size (routine_at (plan g) i k f)) (i + 1 + steps_of f.body)
+    (k + calls f.body) fs (N ++ function_notes (plan g) l i k f) n

@@ -1,0 +1,107 @@
+-- Numbers as a pass over flat code, forward: how many blocks, statements and calls stand before, and
+-- the notes of the loops that were passed, in the order in which they end.
+use Rattle.std.specs.Prelude.{ℕ, ◌+◌, Bool, List, [], ◌∷◌, ◌++◌, length, Option, Some, None}
+use Rattle.ir_forms.specs.declared.flat.Arg.{Arg}
+use Rattle.ir_forms.specs.FlatCode.{Step, Let, Frame, Load, Save, Call, Put, Get, If, Loop, Break, Continue}
+use Rattle.ir_forms.specs.FlatCode.{Return, Code, Nop, ◌▹◌, Function}
+use Rattle.hyper_build.specs.declared.emitting.Note.{Note}
+use Rattle.hyper_build.specs.declared.numbering.Numbering.{Numbering}
+use Rattle.hyper_build.specs.Tree.{Plan}
+use Rattle.hyper_build.specs.Parts.{cut_size, moved_size}
+use Rattle.hyper_build.specs.Passing.{parameter_moves, parameter_cuts}
+use Rattle.hyper_build.specs.Straight.{arguments_size}
+use Rattle.hyper_build.specs.BackwardCode.{exit_of}
+
+-- STEPS
+
+-- so many blocks more stand before
+abbrev pub with_blocks : ℕ → Numbering → Numbering
+with_blocks n s =
+    record { label = s.label + n; place = s.place; calls = s.calls; notes = s.notes }
+
+-- a statement more
+abbrev pub with_statement : Numbering → Numbering
+with_statement s =
+    record { label = s.label; place = s.place + 1; calls = s.calls; notes = s.notes }
+
+-- a call more
+abbrev pub with_call : Numbering → Numbering
+with_call s =
+    record { label = s.label; place = s.place; calls = s.calls + 1; notes = s.notes }
+
+-- a loop ends
+abbrev pub with_note : Note → Numbering → Numbering
+with_note note s = record {
+  label = s.label;
+  place = s.place;
+  calls = s.calls;
+  notes = s.notes ++ note ∷ [];
+}
+
+-- behind a statement that begins a block only where the plan cuts
+abbrev pub single : Plan → Numbering → Numbering
+single p s = with_statement (with_blocks (cut_size (p.cut s.place)) s)
+
+-- the blocks that a call begins, by its numbers
+abbrev pub call_size : Plan → ℕ → ℕ → List Arg → ℕ
+call_size p i k args =
+    length (p.groups k)
+    + (arguments_size (p.small i) args + (1 + (length (p.groups k) + cut_size (p.cut i))))
+
+-- a leg that has blocks begins with one
+abbrev pub led_by : Option ℕ → Numbering → Numbering
+led_by None s = with_blocks 1 s
+led_by (Some to) s = s
+
+abbrev pub led : Code → Numbering → Numbering
+led c s = led_by (exit_of 0 0 0 c) s
+
+-- CODE
+
+abbrev mutual
+  pub number_in : Plan → Step → Numbering → Numbering
+  number_in p (Let to op a b) s = single p s
+  number_in p (Frame to at) s = single p s
+  number_in p (Load to op a) s = single p s
+  number_in p (Save op a v) s = single p s
+  number_in p (Call f args to kept) s =
+      with_call (with_statement (with_blocks (call_size p s.place s.calls args) s))
+  number_in p (Put v) s = with_statement (with_blocks 1 s)
+  number_in p (Get to) s = with_statement (with_blocks (1 + cut_size (p.cut s.place)) s)
+  number_in p (If x one other) s =
+      with_blocks 1 (number p other (led other (number p one (led one (with_statement s)))))
+  number_in p (Loop body post) s =
+      let next = number p body (with_statement (with_blocks 1 s)) in
+      let end = with_blocks 1 (number p post (with_blocks 1 next)) in
+      with_note (record { head = s.label; next = next.label; place = s.place }) end
+  number_in p Break s = with_statement s
+  number_in p Continue s = with_statement s
+  number_in p (Return v) s = with_statement s
+
+  pub number : Plan → Code → Numbering → Numbering
+  number p Nop s = s
+  number p (x ▹ rest) s = number p rest (number_in p x s)
+
+-- FUNCTIONS
+
+-- the blocks of a function before its body
+abbrev pub way_in_size : Bool → ℕ → ℕ
+way_in_size small params =
+    2 + moved_size (parameter_cuts small) 0 (parameter_moves 0 params) + cut_size small
+
+abbrev pub number_function : Plan → Function → Numbering → Numbering
+number_function p f s =
+    number p f.body (with_statement (with_blocks (way_in_size (p.small s.place) f.params) s))
+
+abbrev pub number_all : Plan → List Function → Numbering → Numbering
+number_all p [] s = s
+number_all p (f ∷ fs) s = number_all p fs (number_function p f s)
+
+-- the label of each function
+abbrev pub entries_from : Plan → List Function → Numbering → List ℕ
+entries_from p [] s = []
+entries_from p (f ∷ fs) s = s.label ∷ entries_from p fs (number_function p f s)
+
+-- before the first function: three blocks stand
+abbrev pub numbers_start : Numbering
+numbers_start = record { label = 3; place = 0; calls = 0; notes = [] }
