@@ -15,4 +15,13 @@ pub mod Fits
 pub mod Regular
 pub mod Addressed
 pub mod Resolved
+pub mod NameLemmas
+pub mod AddLemmas
+pub mod JoinLemmas
+pub mod EndLemmas
+pub mod LegLemmas
+pub mod LowLemmas
+pub mod ExitLemmas
+pub mod MadeLemmas
+pub mod OutputLemmas
 pub mod StandardFacts

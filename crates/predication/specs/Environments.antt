@@ -7,6 +7,9 @@ use Rattle.trips_isa.specs.declared.block.Sense.TheVariants.{OnTrue, OnFalse}
 use Rattle.ir_forms.specs.declared.flow.FlowSource.{FlowSource}
 use Rattle.ir_forms.specs.declared.flow.FlowSource.TheVariants.{Node}
 use Rattle.ir_forms.specs.declared.flow.Guard.{Guard}
+-- Where the word of a register comes from: exactly one of the sources that are given is there, or one
+-- of the scopes is met under which the register is kept, as the block found it.
+pub use Rattle.predication.specs.declared.work.Entry.{Entry}
 
 -- SCOPES
 
@@ -24,12 +27,6 @@ abbrev pub under : ℕ → Bool → Scope
 under j s = Some (record { node = j; sense = sense_on s })
 
 -- ENVIRONMENTS
-
--- Where the word of a register comes from: exactly one of the sources that are given is there, or one
--- of the scopes is met under which the register is kept, as the block found it.
-pub record Entry : Type 0 where
-  pub given : List FlowSource
-  pub kept : List Scope
 
 -- the entry of each register
 abbrev pub Env : Type 0

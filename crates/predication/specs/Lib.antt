@@ -1,3 +1,4 @@
+pub mod inside
 pub mod Environments
 pub mod Operands
 pub mod Ifs
@@ -5,3 +6,4 @@ pub mod Tails
 pub mod Converted
 pub mod Labels
 pub mod Laws
+pub mod Outcomes

@@ -1,0 +1,71 @@
+-- The parts of a flow block, from its nodes and from what registers are named at its end.
+use Rattle.std.specs.Prelude.{◌≡◌, ℕ, Bool, true, false, ◌||◌, cond, List, [], ◌∷◌, length, map}
+use Rattle.ir_forms.specs.declared.flow.FlowSource.{FlowSource}
+use Rattle.ir_forms.specs.declared.flow.FlowSource.TheVariants.{Read, Node}
+use Rattle.ir_forms.specs.declared.flow.FlowNode.{FlowNode}
+use Rattle.ir_forms.specs.declared.flow.FlowWrite.{FlowWrite}
+use Rattle.ir_forms.specs.declared.flow.FlowBlock.{FlowBlock}
+use Rattle.ir_forms.specs.HyperCode.{Block}
+use Rattle.ir_forms.specs.HyperFits.{exits_in}
+use Rattle.predication.specs.declared.work.Emitted.{Emitted}
+use Rattle.predication.specs.Environments.{Env, member}
+use Rattle.predication.specs.Converted.{register_count, number_count, begun, ended, all_nodes, all_touched}
+use Rattle.predication.specs.Converted.{writes_below, nodes_read, writes_read, reads_below, mask_below}
+use Rattle.predication.specs.Outcomes.{Counts}
+use Rattle.predication.specs.inside.Emits.{low, env_of}
+
+-- ONE REGISTER
+
+-- the write of one register, where it is set
+abbrev pub write_of : Env → List ℕ → ℕ → List FlowWrite
+write_of env rs r = cond (member r rs) (record { register = r; sources = (env r).given } ∷ []) []
+
+-- one register, where some source reads it
+abbrev pub read_of : List FlowNode → List FlowWrite → ℕ → List ℕ
+read_of ns ws r = cond (nodes_read ns r || writes_read ws r) (r ∷ []) []
+
+-- ALL OF THEM
+
+unfoldable pub writes_of : Env → List ℕ → List FlowWrite
+writes_of env rs = writes_below env rs register_count
+
+unfoldable pub reads_of : List FlowNode → List FlowWrite → List ℕ
+reads_of ns ws = reads_below ns ws register_count
+
+unfoldable pub mask_of : List FlowNode → ℕ
+mask_of ns = mask_below ns number_count
+
+-- the flow block of nodes, of the entries at their end, and of the registers that are set
+abbrev pub flow_of : List FlowNode → Env → List ℕ → FlowBlock
+flow_of ns env rs = record {
+  nodes = ns;
+  reads = reads_of ns (writes_of env rs);
+  writes = writes_of env rs;
+  mask = mask_of ns;
+}
+
+-- COUNTS
+
+abbrev pub counts_by : FlowBlock → ℕ → ℕ → Counts
+counts_by f numbers exits = record {
+  insts = length f.nodes;
+  reads = length f.reads;
+  writes = length f.writes;
+  numbers = numbers;
+  exits = exits;
+}
+
+-- the flow block of all that is emitted, and its counts
+abbrev pub flow_in : Emitted → FlowBlock
+flow_in e = flow_of e.nodes (env_of e.names.entries) e.names.sets
+
+abbrev pub counts_in : Emitted → Counts
+counts_in e = counts_by (flow_in e) e.numbers e.exits
+
+-- all of a block is emitted
+pub record IsEmitted (b : Block) (e : Emitted) : Type 0 where
+  pub nodes : e.nodes ≡ map low (all_nodes b)
+  pub env : env_of e.names.entries ≡ (ended b).env
+  pub sets : e.names.sets ≡ all_touched b
+  pub numbers : e.numbers ≡ (begun b).number
+  pub exits : e.exits ≡ exits_in b.tail
