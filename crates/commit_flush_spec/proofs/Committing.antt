@@ -1,9 +1,11 @@
 -- A sealed oldest frame has the effects of the machine's step, and the younger frames go on from it.
-use Rattle.std.proofs.Common.{◌≡◌, ◌≢◌, ℕ, zero, suc, ◌+◌, ◌*◌, ◌<◌, ◌≤◌, Bool, true, false, not, ◌&&◌, ◌||◌}
+use Rattle.std.proofs.Common.{cond, nat_lt, ◌≡◌, ◌≢◌, ℕ, zero, suc, ◌+◌, ◌-◌, ◌*◌, ◌<◌, ◌≤◌, Bool, true}
+use Rattle.std.proofs.Common.{false, not, ◌&&◌, ◌||◌}
 use Rattle.std.proofs.Common.{◌==◌, List, [], ◌∷◌, ◌++◌, Option, Some, None, slice_get, slice_index, get_or}
 use Rattle.std.proofs.Common.{length, refl, sym, ap, ap₂, ◌∙◌, subst, arith}
 use Rattle.std.specs.Prelude.{is_some}
 use Rattle.std.proofs.Math.Path.{fun_ext}
+use Rattle.std.proofs.lemmas.Bool.Decides.{nat_tests}
 use Rattle.trips_isa.specs.declared.block.Inst.{Inst}
 use Rattle.trips_isa.specs.declared.block.ReadSlot.{ReadSlot}
 use Rattle.trips_isa.specs.declared.block.Stored.{Stored}
@@ -27,13 +29,21 @@ use Rattle.commit_flush_spec.specs.Frames.{Frame, Exit, at, numbers}
 use Rattle.commit_flush_spec.specs.Older.{through, after, committed, follows, successor_of, makes_call}
 use Rattle.commit_flush_spec.specs.Older.{any_call, is_serial}
 use Rattle.commit_flush_spec.specs.Dataflow.{read_seen}
-use Rattle.block_cases.specs.Plain.{plain_in, plain_step}
+use Rattle.trips_isa.specs.Outcomes.{unless}
+use Rattle.trips_isa.specs.Machine.{come_to, step_in, step_of}
+use Rattle.trips_isa.specs.Marks.{mark_at, mark_of, owed, cause}
+use Rattle.trips_isa.specs.Places.{nodes_of}
+use Rattle.block_cases.proofs.MarkLemmas.{pulled_is_marking}
+use Rattle.commit_flush_spec.specs.Marks.{mark_on, mark_held}
+use Rattle.commit_flush_spec.specs.Ends.{cause_held}
+use Rattle.commit_flush_spec.specs.Invariant.{MarksAgree}
+use Rattle.commit_flush_spec.proofs.Owed.{least_same, owed_each}
 use Rattle.commit_flush_spec.specs.Ends.{exit_by, all_below, write_came, store_came, effects_with, outputs}
 use Rattle.commit_flush_spec.specs.Invariant.{Below, Holds, FrameOk, FramesOk, IsRunnable, AllGood}
 use Rattle.commit_flush_spec.specs.Laws.{IsWhole}
 use Rattle.commit_flush_spec.proofs.Lists.{below_is}
 use Rattle.commit_flush_spec.proofs.Look.{or_false, LookLe, OlderLe, words, through_changed}
-use Rattle.commit_flush_spec.proofs.Frames.{or_zero, seen, seen_if_read, slot_seen, own, own_solves}
+use Rattle.commit_flush_spec.proofs.Frames.{seen_agrees, or_zero, seen, seen_if_read, slot_seen, own, own_solves}
 use Rattle.commit_flush_spec.proofs.Frames.{own_holds, frames_more}
 use Rattle.commit_flush_spec.proofs.Bytes.{FitsStored, stores_leave}
 use Rattle.commit_flush_spec.proofs.Stored.{number_small, unmasked, store_fits, first_holds}
@@ -185,10 +195,51 @@ module _ (blocks : List Block) (good : AllGood blocks) (s : State) (f : Frame) (
       same_stores
       ∙ ap (plain_by blocks f.block b) atomic
 
-  pub commits : s.next ≡ f.block → apply b.writes.items (outputs f) s ≡ plain_step blocks s
+  -- its marks are those of the machine
+  m : ℕ → ℕ
+  m = mark_of b g deepest
+
+  agree : MarksAgree f g m
+  unfolding g m
+  agree = ok.marks (seen (committed s) f) (own (committed s) f) (own_solves blocks good (committed s) f ok)
+      (seen_agrees (committed s) f) (mark_of b (own (committed s) f) deepest)
+      (pulled_is_marking b (runnable).good.ranked (own (committed s) f))
+
+  write_held : (w : ℕ) → w < length b.writes.items → mark_held f.marks (384 + w) ≡ mark_at (nodes_of b) g m (384 + w)
+  write_held w l =
+      let few : length b.writes.items ≤ 32 = (runnable).fits.writes in
+      let low : nat_lt (384 + w) 416 ≡ true = grind (arith, nat_tests, l) in
+      ap (λ c. cond c (mark_on f.marks.spots (384 + w))
+      (cond (nat_lt (384 + w) 448) (mark_on f.marks.stores (384 + w - 416)) f.marks.exit)) low
+      ∙ (agree).spots (384 + w) (some_there _ (all_at (write_came f) (length b.writes.items) w (came).0 l))
+
+  store_held : (n : ℕ) → n < 32 → in_mask b.mask n ≡ true
+      → mark_held f.marks (416 + n) ≡ mark_at (nodes_of b) g m (416 + n)
+  store_held n l e =
+      let high : nat_lt (416 + n) 416 ≡ false = grind (arith, nat_tests) in
+      let low : nat_lt (416 + n) 448 ≡ true = grind (arith, nat_tests, l) in
+      let back : 416 + n - 416 ≡ n = omega arith in
+      let here : is_some (at f.stores n) ≡ true = sym (ap (λ c. not c || is_some (at f.stores n)) e)
+      ∙ all_at (store_came f) numbers n (came_rest).0 (let z = numbers_are in omega (arith, z, l)) in
+      ap (λ c. cond c (mark_on f.marks.spots (416 + n))
+      (cond (nat_lt (416 + n) 448) (mark_on f.marks.stores (416 + n - 416)) f.marks.exit)) high
+      ∙ ap (λ c. cond c (mark_on f.marks.stores (416 + n - 416)) f.marks.exit) low
+      ∙ ap (mark_on f.marks.stores) back ∙ (agree).stores n (some_there _ here)
+
+  exit_held : mark_held f.marks 448 ≡ mark_at (nodes_of b) g m 448
+  exit_held = (agree).exit (some_there _ (came_rest).1)
+
+  pub same_cause : cause_held f ≡ cause b (token_of b s.registers s.memory deepest)
+  unfolding m
+  same_cause = least_same (mark_held f.marks) (mark_at (nodes_of b) g m) (owed b)
+      (owed_each (λ q. mark_held f.marks q ≡ mark_at (nodes_of b) g m q) b write_held store_held exit_held)
+      ∙ ap (cause b) atomic
+
+  pub commits : s.next ≡ f.block → come_to b.writes.items (unless (cause_held f) (outputs f)) s ≡ step_of blocks s
   commits e =
-      ap (λ o. apply b.writes.items o s) (same_effects ∙ ap (λ k. plain blocks k b s.registers s.memory) (sym e))
-      ∙ ap (λ c. plain_in blocks c s) (sym (ap (slice_get blocks) e ∙ ok.code))
+      ap₂ (λ c o. come_to b.writes.items (unless c o) s) same_cause
+      (same_effects ∙ ap (λ k. plain blocks k b s.registers s.memory) (sym e))
+      ∙ ap (λ c. step_in blocks c s) (sym (ap (slice_get blocks) e ∙ ok.code))
 
   -- without a system call in the block none follows
   any_at : (is : List (Option Inst)) (k : ℕ) (i : Inst) → get_or is k None ≡ Some i → any_call is ≡ false

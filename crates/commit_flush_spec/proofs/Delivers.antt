@@ -1,5 +1,5 @@
 -- Deliver leaves a frame right.
-use Rattle.std.proofs.Common.{◌≡◌, ◌≢◌, ℕ, ◌%◌, ◌<◌, Bool, true, false, cond, not, ◌||◌, ◌==◌, inl, inr, List}
+use Rattle.std.proofs.Common.{length, ◌≡◌, ◌≢◌, ℕ, ◌%◌, ◌<◌, Bool, true, false, cond, not, ◌||◌, ◌==◌, inl, inr, List}
 use Rattle.std.proofs.Common.{Option, Some, None, slice_get, set, refl, sym, ap, ◌∙◌, subst, true≢false}
 use Rattle.std.proofs.Common.{arith}
 use Rattle.std.specs.Prelude.{is_none}
@@ -13,12 +13,18 @@ use Rattle.trips_isa.specs.Places.{nodes_of, targets, names}
 use Rattle.trips_isa.specs.Blocks.{Responses, Solves, at_place, computes}
 use Rattle.trips_isa.specs.Tables.{node_gives}
 use Rattle.block_cases.specs.Good.{NamesPlace}
-use Rattle.commit_flush_spec.specs.Frames.{Frame, at, slot_node, source, target, named_at, is_target, token_with}
+use Rattle.commit_flush_spec.specs.Frames.{Frame, at, slot_node, source, target, named_at, is_target}
+use Rattle.commit_flush_spec.specs.Sending.{token_with}
 use Rattle.commit_flush_spec.specs.Older.{Older}
 use Rattle.commit_flush_spec.specs.Causes.{NoToken, Done}
 use Rattle.commit_flush_spec.specs.Dataflow.{can_deliver, deliver, delivered}
 use Rattle.commit_flush_spec.specs.Invariant.{Below, Agrees, Holds, FrameOk, AllGood}
-use Rattle.commit_flush_spec.proofs.Lists.{below_is, set_under, set_over, written_or, none_at, still_none}
+use Rattle.trips_isa.specs.Marks.{mark_at, IsMarking}
+use Rattle.commit_flush_spec.specs.Marks.{mark_on, mark_delivered}
+use Rattle.commit_flush_spec.specs.Invariant.{MarksAgree}
+use Rattle.commit_flush_spec.proofs.Marking.{mark_here, mark_other, mark_placed}
+use Rattle.commit_flush_spec.proofs.Lists.{equal_or, other_at, below_is, set_under, set_over, written_or}
+use Rattle.commit_flush_spec.proofs.Lists.{none_at, still_none}
 use Rattle.commit_flush_spec.proofs.Look.{through_more}
 use Rattle.commit_flush_spec.proofs.Tokens.{node_below, placed_is}
 use Rattle.commit_flush_spec.proofs.Frames.{Goes, not_now, own, seen, seen_agrees, own_solves, own_holds}
@@ -81,7 +87,45 @@ module _ (blocks : List Block) (good : AllGood blocks) (o : Older) (f : Frame) (
   grown = set_over f.spots q (Some t) came
 
   abbrev D : Frame
-  D = record f { places = set f.places p None; spots = set f.spots q (Some t) }
+  D = record f {
+    places = set f.places p None;
+    spots = set f.spots q (Some t);
+    marks = mark_delivered p q f.marks;
+  }
+
+  -- the mark goes along
+  marks : (a : Responses) (g : ℕ → Answer) → Solves f.code a g → Agrees o f a → (m : ℕ → ℕ)
+      → IsMarking f.code g m → MarksAgree D g m
+  marks a g sol ag m mk = record {
+    spots = λ r h. elim (equal_or r q) [
+      | inl z ↦ ap (mark_on (mark_delivered p q f.marks).spots) z
+          ∙ mark_here f.marks.spots q (mark_on f.marks.places p) inside ∙ k.places p present
+          ∙ sym (mark_placed f.code (good f.block f.code ok.code) a g sol m q (source f.code p) small
+          (named f.code p goes) gives)
+          ∙ sym (ap (mark_at (nodes_of f.code) g m) z)
+      | inr n ↦ mark_other f.marks.spots q r (mark_on f.marks.places p) n
+          ∙ k.spots r (λ z. h (other_at f.spots q r (Some t) n ∙ z))
+    ];
+    places = λ r h. elim (written_or f.places p r None h) [ inl z ↦ absurd (z.1 refl) | inr z ↦ k.places r z ];
+    stores = k.stores;
+    exit = k.exit;
+  }
+    where
+      k : MarksAgree f g m
+      k = ok.marks a g sol ag m mk
+
+      e : at f.places p ≡ g (source f.code p)
+      e = below_is _ _ ((ok.holds a g sol ag).places p) present
+
+      gives : g (source f.code p) ≢ None
+      gives z = present (e ∙ z)
+
+      small : q < 449
+      small = grind (arith, nat_tests, goes)
+
+      inside : q < length f.marks.spots
+      inside = let s : length f.marks.spots ≡ 416 = ok.sized.spot_marks in
+          let l : q < 416 = grind (arith, nat_tests, goes) in omega (arith, l)
 
   pub delivered_ok : Goes blocks o f (delivered p (Some t) f)
   delivered_ok = record {
@@ -95,6 +139,9 @@ module _ (blocks : List Block) (good : AllGood blocks) (o : Older) (f : Frame) (
         requests = ok.sized.requests;
         loads = ok.sized.loads;
         stores = ok.sized.stores;
+        spot_marks = length-set f.marks.spots q (mark_on f.marks.places p) ∙ ok.sized.spot_marks;
+        place_marks = ok.sized.place_marks;
+        store_marks = ok.sized.store_marks;
       };
       reads = λ r e. let k = ok.reads r e in record {
         slot = k.slot;
@@ -133,6 +180,7 @@ module _ (blocks : List Block) (good : AllGood blocks) (o : Older) (f : Frame) (
             exit = k.exit;
             fired = k.fired;
           };
+      marks = λ a g sol ag m mk. marks a g sol (record { reads = ag.reads; loads = ag.loads }) m mk;
       once = record {
         spots = λ r h. elim (written_or f.spots q r (Some t) h) [
           | inl z ↦ (p, sym z.0, ok.once.places p present, none_at f.places p)

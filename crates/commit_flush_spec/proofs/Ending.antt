@@ -11,7 +11,8 @@ use Rattle.trips_isa.specs.Blocks.{Responses, Solves, at_place, is_read, inst_at
 use Rattle.trips_isa.specs.Blocks.{leaves_if_read, leaving_of, store_of}
 use Rattle.block_cases.specs.Orders.{slot_of}
 use Rattle.block_cases.specs.Good.{NamesPlace}
-use Rattle.commit_flush_spec.specs.Frames.{Frame, Bytes, Exit, unset, slot_node, source, fresh, token_with}
+use Rattle.commit_flush_spec.specs.Frames.{Frame, Bytes, Exit, unset, slot_node, source, fresh}
+use Rattle.commit_flush_spec.specs.Sending.{token_with}
 use Rattle.commit_flush_spec.specs.Older.{Older, after, after_all, follows, successor_of}
 use Rattle.commit_flush_spec.specs.Causes.{NoFrame, NoExit, Missing, Done}
 use Rattle.commit_flush_spec.specs.Ends.{can_exit, exit_by, branch_of, kept, with_exit, exit, complete, can_seal, seal}
@@ -24,6 +25,11 @@ use Rattle.commit_flush_spec.proofs.Frames.{Goes, not_now, frames_more}
 use Rattle.commit_flush_spec.proofs.Loads.{not_false}
 use Rattle.commit_flush_spec.proofs.Flow.{some_of}
 use Rattle.commit_flush_spec.proofs.Delivers.{or_here}
+use Rattle.trips_isa.specs.Marks.{IsMarking}
+use Rattle.commit_flush_spec.specs.Sending.{mark_with}
+use Rattle.commit_flush_spec.specs.Ends.{branch_mark}
+use Rattle.commit_flush_spec.specs.Invariant.{MarksAgree}
+use Rattle.commit_flush_spec.proofs.Marking.{zeros_size, marked, mark_placed}
 
 -- exits ------------------------------------------------------------------------------------------
 
@@ -52,6 +58,7 @@ kept_ok blocks o n (g ∷ gs) ok = go (follows n g.block) refl
         asked = ok.2.asked;
         leaving = ok.2.leaving;
         holds = λ a g s ag. ok.2.holds a g s (record { reads = ag.reads; loads = ag.loads });
+        marks = λ a g s ag. ok.2.marks a g s (record { reads = ag.reads; loads = ag.loads });
         once = ok.2.once;
         whole = ok.2.whole;
       },
@@ -122,7 +129,25 @@ module _ (blocks : List Block) (good : AllGood blocks) (o : Older) (f : Frame) (
   abbrev E : Option Exit
   E = exit_by blocks f.block (branch_of f (Some s))
 
-  now : FrameOk blocks o (with_exit E f)
+  -- the mark of the exit is the table's
+  marks : (a : Responses) (g : ℕ → Answer) → Solves f.code a g → Agrees o f a → (m : ℕ → ℕ)
+      → IsMarking f.code g m → MarksAgree (with_exit E (mark_with f x) f) g m
+  marks a g sol ag m mk = record {
+    spots = k.spots;
+    places = k.places;
+    stores = k.stores;
+    exit = λ e. marked f x a g sol h.spots m mk k.spots (left).ready
+        ∙ sym (mark_placed f.code (good f.block f.code ok.code) a g sol m 448 x (omega arith) names_exit
+        (h.fired s (left).fired));
+  }
+    where
+      k : MarksAgree f g m
+      k = ok.marks a g sol ag m mk
+
+      h : Holds blocks f g
+      h = ok.holds a g sol ag
+
+  now : FrameOk blocks o (with_exit E (mark_with f x) f)
   now = record {
     code = ok.code;
     sized = record {
@@ -134,6 +159,9 @@ module _ (blocks : List Block) (good : AllGood blocks) (o : Older) (f : Frame) (
       requests = ok.sized.requests;
       loads = ok.sized.loads;
       stores = ok.sized.stores;
+      spot_marks = ok.sized.spot_marks;
+      place_marks = ok.sized.place_marks;
+      store_marks = ok.sized.store_marks;
     };
     reads = λ r e. let k = ok.reads r e in record {
       slot = k.slot;
@@ -165,12 +193,13 @@ module _ (blocks : List Block) (good : AllGood blocks) (o : Older) (f : Frame) (
               is_below _ _ (ap (exit_by blocks f.block) (exits a g sol was));
           fired = k.fired;
         };
+    marks = λ a g sol ag m mk. marks a g sol (record { reads = ag.reads; loads = ag.loads }) m mk;
     once = record { spots = ok.once.spots; places = ok.once.places };
     whole = λ e. absurd (true≢false (sym e ∙ runs));
   }
 
   pub exited_ok : (fs : List Frame) → FramesOk blocks o (f ∷ fs)
-      → FramesOk blocks o (with_exit E f ∷ kept (successor_of E) fs)
+      → FramesOk blocks o (with_exit E (mark_with f x) f ∷ kept (successor_of E) fs)
   exited_ok fs all = (all.0, all.1, now, kept_ok blocks (after f o) (successor_of E) fs all.3)
 
 pub exit_ok : (blocks : List Block) → AllGood blocks → (o : Older) (f : Frame) (fs : List Frame)
@@ -179,7 +208,7 @@ exit_ok blocks good o f fs c ok =
     let a = not_now f.sealed NoFrame _ c in
     let b = not_now (is_none f.leaving) NoExit _ a.1 in
     let s = some_of f.leaving b.0 in
-    subst (λ y. FramesOk blocks o (with_exit (exit_by blocks f.block (branch_of f y)) f ∷ kept
+    subst (λ y. FramesOk blocks o (with_exit (exit_by blocks f.block (branch_of f y)) (branch_mark f y) f ∷ kept
     (successor_of (exit_by blocks f.block (branch_of f y))) fs)) (sym s.1)
     (exited_ok blocks good o f ok.2 a.0 s.0 s.1 fs ok)
 
@@ -201,6 +230,9 @@ seal_ok blocks o f c ok =
           requests = emptied_size f.requests ∙ ok.sized.requests;
           loads = ok.sized.loads;
           stores = ok.sized.stores;
+          spot_marks = ok.sized.spot_marks;
+          place_marks = ok.sized.place_marks;
+          store_marks = ok.sized.store_marks;
         };
         reads = λ r e. let k = ok.reads r e in record {
           slot = k.slot;
@@ -224,6 +256,15 @@ seal_ok blocks o f c ok =
                   k.stores;
               exit = k.exit;
               fired = k.fired;
+            };
+        marks = λ a g sol ag m mk.
+            let was : Agrees o f a = record { reads = ag.reads; loads = ag.loads } in
+            let k : MarksAgree f g m = ok.marks a g sol was m mk in
+            record {
+              spots = k.spots;
+              places = λ p h. absurd (h (emptied_at f.places p));
+              stores = k.stores;
+              exit = k.exit;
             };
         once = record {
           spots = λ q h. let c = ok.once.spots q h in (c.0, c.1, c.2, emptied_at f.places c.0);
@@ -252,6 +293,9 @@ fresh_ok blocks o n k b e = record {
     requests = blank_size _ 32;
     loads = blank_size _ 32;
     stores = blank_size _ 32;
+    spot_marks = zeros_size 416;
+    place_marks = zeros_size 320;
+    store_marks = zeros_size 32;
   };
   reads = λ r h. absurd (none_set 32 r h);
   sizes = λ s ad z i j l h. absurd (let bad : None ≡ Some (Bytes ad z) = sym (blank_at 32 i.number) ∙ h in cc);
@@ -264,6 +308,12 @@ fresh_ok blocks o n k b e = record {
     stores = λ m. subst (λ t. Below t (store_of b g m)) (sym (blank_at 32 m)) tt;
     exit = tt;
     fired = λ s h. absurd (none_set 128 s h);
+  };
+  marks = λ a g sol ag m mk. record {
+    spots = λ q h. absurd (h (blank_at 416 q));
+    places = λ p h. absurd (h (blank_at 320 p));
+    stores = λ j h. absurd (h (blank_at 32 j));
+    exit = λ h. absurd (h refl);
   };
   once = record { spots = λ q h. absurd (h (blank_at 416 q)); places = λ p h. absurd (h (blank_at 320 p)) };
   whole = λ h. absurd (cc);

@@ -1,15 +1,18 @@
 -- What an event leaves: nothing changes where it is refused, and a flush leaves a beginning of the frames.
-use Rattle.std.proofs.Common.{◌≡◌, ℕ, ◌+◌, ◌-◌, ◌<◌, ◌≤◌, Bool, true, false, cond, ◌||◌, ◌==◌, List, [], ◌∷◌}
+use Rattle.std.proofs.Common.{◌≡◌, ℕ, suc, ◌+◌, ◌-◌, ◌<◌, ◌≤◌, Bool, true, false, cond, ◌||◌, ◌==◌, List, [], ◌∷◌}
 use Rattle.std.proofs.Common.{replicate, Option, Some, None, slice_get, length, refl, sym, ap, ◌∙◌, subst}
 use Rattle.std.proofs.Common.{arith}
 use Rattle.std.proofs.lemmas.List.{length-append, length-replicate}
 use Rattle.trips_isa.specs.declared.block.Block.{Block}
 use Rattle.trips_isa.specs.Stores.{data_size}
-use Rattle.trips_isa.specs.Machine.{apply, memory_of, start}
+use Rattle.trips_isa.specs.Machine.{come_to, memory_of, start}
+use Rattle.trips_isa.specs.declared.run.Stepped.TheVariants.{Trap}
+use Rattle.trips_isa.specs.Outcomes.{Outcome, Comes, Faults, unless}
 use Rattle.commit_flush_spec.specs.Frames.{Frame}
 use Rattle.commit_flush_spec.specs.Older.{Older, after, committed}
 use Rattle.commit_flush_spec.specs.Causes.{Cause, Happened, Done, NotNow}
-use Rattle.commit_flush_spec.specs.Ends.{outputs}
+use Rattle.commit_flush_spec.specs.Ends.{outputs, cause_held}
+use Rattle.commit_flush_spec.specs.InFlight.{commit_to}
 use Rattle.commit_flush_spec.specs.Window.{Window, Event, on_frame, change, flush, in_flight, lowest_empty}
 use Rattle.commit_flush_spec.specs.Window.{fetched, commit, can, can_now, done, if_done, happens, opened}
 use Rattle.commit_flush_spec.specs.Window as event
@@ -58,9 +61,23 @@ flush_leaves blocks budget n w h =
 pub commit_applies : (blocks : List Block) (budget : ℕ) (w : Window) (f : Frame) (fs : List Frame)
     → w.frames ≡ f ∷ fs → can blocks budget event.Commit w ≡ Done
     → ((happens blocks budget event.Commit w).state, (happens blocks budget event.Commit w).over)
-    ≡ apply f.code.writes.items (outputs f) w.state
+    ≡ come_to f.code.writes.items (unless (cause_held f) (outputs f)) w.state
 commit_applies blocks budget w f fs e h =
     ap (λ (x : Window). (x.state, x.over)) (taken blocks budget event.Commit w h ∙ ap (λ l. commit l w) e)
+    ∙ by (unless (cause_held f) (outputs f))
+  where
+    by : (o : Outcome) → ((commit_to o f fs w).state, (commit_to o f fs w).over)
+        ≡ come_to f.code.writes.items o w.state
+    by (Comes x) = refl
+    by (Faults c) = refl
+
+-- a commit that traps flushes all frames
+pub commit_traps : (blocks : List Block) (budget c : ℕ) (w : Window) (f : Frame) (fs : List Frame)
+    → w.frames ≡ f ∷ fs → can blocks budget event.Commit w ≡ Done → cause_held f ≡ suc c
+    → happens blocks budget event.Commit w ≡ record w { over = Trap (suc c); frames = [] }
+commit_traps blocks budget c w f fs e h z =
+    taken blocks budget event.Commit w h ∙ ap (λ l. commit l w) e
+    ∙ ap (λ k. commit_to (unless k (outputs f)) f fs w) z
 
 -- another event leaves the state
 pub state_stays : (blocks : List Block) (budget : ℕ) (e : Event) (w : Window) → (e ≡ event.Commit → ⊥)

@@ -13,7 +13,8 @@ use Rattle.trips_isa.specs.Forms.{form_of, is_load}
 use Rattle.trips_isa.specs.Rule.{Answer}
 use Rattle.trips_isa.specs.Blocks.{Responses, Solves, at_place}
 use Rattle.block_cases.specs.Orders.{slot_of}
-use Rattle.commit_flush_spec.specs.Frames.{Frame, at, slot_node, send, token_with}
+use Rattle.commit_flush_spec.specs.Frames.{Frame, at, slot_node}
+use Rattle.commit_flush_spec.specs.Sending.{send, token_with}
 use Rattle.commit_flush_spec.specs.Older.{Older}
 use Rattle.commit_flush_spec.specs.Causes.{NoFrame, NoRead, NotYet, NoInst, NotReady, Done}
 use Rattle.commit_flush_spec.specs.Dataflow.{can_read, read, read_seen, read_answered, can_fire, fire}
@@ -22,7 +23,7 @@ use Rattle.commit_flush_spec.specs.Invariant.{Below, Agrees, Asked, Leaves, Know
 use Rattle.commit_flush_spec.specs.Invariant.{slot_sent, inst_sent}
 use Rattle.commit_flush_spec.proofs.Lists.{flag_keeps, flag_or, flag_here, given_or, none_or}
 use Rattle.commit_flush_spec.proofs.Look.{or_false}
-use Rattle.commit_flush_spec.proofs.Tokens.{read_is, inst_in, read_below, fired_below, there}
+use Rattle.commit_flush_spec.proofs.Tokens.{token_there, read_is, inst_in, read_below, fired_below, there}
 use Rattle.commit_flush_spec.proofs.Frames.{Goes, not_now}
 use Rattle.commit_flush_spec.proofs.Sends.{Sends, sends, moved, slot_source, read_source, slot_sends, read_sends}
 
@@ -126,6 +127,7 @@ read_ok blocks good r o f c ok =
       there = λ a g s ag. (ok.holds a g s (agrees a ag)).fired;
       gives = λ a g s ag. read_below f r word.0 slot.0 a g s (ok.holds a g s (agrees a ag)).spots slot.1
           (ag.reads r word.0 slot.0 (flag_here f.reads r size) slot.1 known);
+      ready = λ z. token_there f r word.0 0 z;
       from = λ z. read_source f.code r;
       before = λ z. ((read_sends f r).0 ∙ open'.1, (read_sends f r).1 ∙ open'.1);
       now = λ z. ((read_sends N r).0 ∙ flag_here f.reads r size, (read_sends N r).1 ∙ flag_here f.reads r size);
@@ -220,6 +222,7 @@ module _ (blocks : List Block) (good : AllGood blocks) (o : Older) (f : Frame) (
       | inr z ↦ (ok.holds a g sol (agrees a ag)).fired k z
     ];
     gives = λ a g sol ag. gives a g sol (agrees a ag);
+    ready = λ z. ready;
     from = λ z. slot_source f.code s small;
     before = λ z. ((slot_sends f s small).0 ∙ unsent, (slot_sends f s small).1 ∙ unsent);
     now = λ z. ((slot_sends N s small).0 ∙ sent_now (plain z), (slot_sends N s small).1 ∙ sent_now (plain z));

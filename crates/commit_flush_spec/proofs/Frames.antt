@@ -47,6 +47,7 @@ frame_more blocks o p f h k = record {
   asked = k.asked;
   leaving = k.leaving;
   holds = λ a g s ag. k.holds a g s (agrees_more o p f a h ag);
+  marks = λ a g s ag. k.marks a g s (agrees_more o p f a h ag);
   once = k.once;
   whole = k.whole;
 }
@@ -86,6 +87,7 @@ frame_but blocks touched o p f h z k = record {
   asked = k.asked;
   leaving = k.leaving;
   holds = λ a g s ag. k.holds a g s (agrees_but blocks touched o p f a h z k ag);
+  marks = λ a g s ag. k.marks a g s (agrees_but blocks touched o p f a h z k ag);
   once = k.once;
   whole = k.whole;
 }

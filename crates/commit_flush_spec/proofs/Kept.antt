@@ -19,7 +19,7 @@ use Rattle.trips_isa.specs.Tables.{node_gives}
 use Rattle.trips_isa.specs.Blocks.{computes}
 use Rattle.block_cases.specs.Orders.{slot_of}
 use Rattle.commit_flush_spec.specs.Frames.{Frame, Taken, at, slot_node, source, target, named_at, is_target}
-use Rattle.commit_flush_spec.specs.Frames.{send, token_with}
+use Rattle.commit_flush_spec.specs.Sending.{send, token_with}
 use Rattle.commit_flush_spec.specs.Older.{Older}
 use Rattle.commit_flush_spec.specs.Causes.{NoFrame, NoRead, NotYet, NoInst, NotReady, Done}
 use Rattle.commit_flush_spec.specs.Dataflow.{can_read, read, read_seen, read_answered, can_fire, fire}

@@ -16,7 +16,8 @@ use Rattle.trips_isa.specs.Stores.{stored_of}
 use Rattle.trips_isa.specs.Blocks.{leaves_with}
 use Rattle.block_cases.specs.Orders.{slot_of}
 use Rattle.commit_flush_spec.specs.Frames.{Frame, Taken, at, unset, numbers, slot_node, target, is_target}
-use Rattle.commit_flush_spec.specs.Frames.{token_with, fresh}
+use Rattle.commit_flush_spec.specs.Frames.{fresh}
+use Rattle.commit_flush_spec.specs.Sending.{token_with}
 use Rattle.commit_flush_spec.specs.Older.{Older, after, follows, successor_of, passes, nearest, violated, cut}
 use Rattle.commit_flush_spec.specs.Causes.{Cause, NoFrame, NoToken, NoRequest, NoExit, Happened, Done, NotNow}
 use Rattle.commit_flush_spec.specs.Dataflow.{can_deliver, deliver, delivered}
@@ -27,7 +28,9 @@ use Rattle.commit_flush_spec.specs.Window.{on_frame, change, alone}
 use Rattle.commit_flush_spec.specs.Invariant.{FrameOk, FramesOk, IsRunnable, AllGood, Asked, Leaves, has_sent}
 use Rattle.commit_flush_spec.specs.Invariant.{slot_sent, inst_sent}
 use Rattle.commit_flush_spec.specs.Laws.{NoneLost, AllKept}
-use Rattle.commit_flush_spec.proofs.Lists.{other_at, set_here, unset_at}
+use Rattle.commit_flush_spec.specs.Sending.{mark_with}
+use Rattle.commit_flush_spec.specs.Ends.{branch_mark}
+use Rattle.commit_flush_spec.proofs.Lists.{equal_or, other_at, set_here, unset_at}
 use Rattle.commit_flush_spec.proofs.Tokens.{inst_in, token_there}
 use Rattle.commit_flush_spec.proofs.Frames.{not_now}
 use Rattle.commit_flush_spec.proofs.Sends.{moved, slot_source}
@@ -37,13 +40,6 @@ use Rattle.commit_flush_spec.proofs.Storing.{store_there}
 use Rattle.commit_flush_spec.proofs.Committing.{both_true}
 use Rattle.commit_flush_spec.proofs.Lost.{put_there}
 use Rattle.commit_flush_spec.proofs.Kept.{sends_kept, half_places}
-
-equal_or : (a b : ℕ) → (a ≡ b) ⊎ (a ≢ b)
-equal_or a b = go (a == b) refl
-  where
-    go : (c : Bool) → (a == b) ≡ c → (a ≡ b) ⊎ (a ≢ b)
-    go true e = inl (grind (arith, nat_tests))
-    go false e = inr (λ z. let bad : (a == b) ≡ true = grind (arith, nat_tests, z) in true≢false (sym bad ∙ e))
 
 not_both : (t : Form) → is_load t ≡ true → is_store t ≡ true → ⊥
 not_both General e k = absurd (cc)
@@ -212,7 +208,7 @@ rest_kept known (f ∷ fs) h = go (follows known f.block)
 
 stored_kept : (blocks : List Block) (o : Older) (f : Frame) → FrameOk blocks o f → NoneLost f → (n s : ℕ) (i : Inst)
     → at f.requests n ≡ Some s → slot_of f.code s ≡ Some i → is_store (form_of i.op) ≡ true
-    → NoneLost (with_store n (stored_of i (at f.spots s) (at f.spots (128 + s))) f)
+    → NoneLost (with_store n (stored_of i (at f.spots s) (at f.spots (128 + s))) (mark_with f (slot_node f.code s)) f)
 stored_kept blocks o f ok lost n s i asks is isstore = record {
   tokens = lost.tokens;
   loads = λ t j e k h. elim (lost.loads t j e k h) [
@@ -249,9 +245,10 @@ store_kept blocks n o f fs c ok all =
     let b = not_now (not (is_request is_store (request f n))) NoRequest _ a.1 in
     let q : Stands is_store f n = stands is_store f n b.0 in
     subst (λ y. AllKept (store_resolved n f fs y)) (sym q.is_request)
-    (go (with_store n (stored_of q.inst (at f.spots q.slot) (at f.spots (128 + q.slot))) f)
-    (violated (nearest (at (with_store n (stored_of q.inst (at f.spots q.slot) (at f.spots (128 + q.slot)))
-    f).stores) n) f.loads)
+    (go (with_store n (stored_of q.inst (at f.spots q.slot) (at f.spots (128 + q.slot)))
+    (mark_with f (slot_node f.code q.slot)) f)
+    (violated (nearest (at (set f.stores n (stored_of q.inst (at f.spots q.slot) (at f.spots (128 + q.slot))))) n)
+    f.loads)
     (stored_kept blocks o f ok.2 (all.0 a.0) n q.slot q.inst q.asks q.is_inst q.is_kind))
   where
     go : (W : Frame) (b : Bool) → NoneLost W → AllKept (cond b [] (W ∷ cut (nearest (at W.stores) n numbers) fs))
@@ -261,7 +258,8 @@ store_kept blocks n o f fs c ok all =
 -- exits ------------------------------------------------------------------------------------------
 
 left_kept : (blocks : List Block) (o : Older) (f : Frame) → FrameOk blocks o f → NoneLost f → (s : ℕ)
-    → f.leaving ≡ Some s → NoneLost (with_exit (exit_by blocks f.block (branch_of f (Some s))) f)
+    → f.leaving ≡ Some s
+    → NoneLost (with_exit (exit_by blocks f.block (branch_of f (Some s))) (branch_mark f (Some s)) f)
 left_kept blocks o f ok lost s leaves = record {
   tokens = lost.tokens;
   loads = lost.loads;
@@ -285,7 +283,7 @@ exit_kept blocks o f fs c ok all =
     let a = not_now f.sealed NoFrame _ c in
     let b = not_now (is_none f.leaving) NoExit _ a.1 in
     let s = some_of f.leaving b.0 in
-    subst (λ y. AllKept (with_exit (exit_by blocks f.block (branch_of f y)) f ∷ kept
+    subst (λ y. AllKept (with_exit (exit_by blocks f.block (branch_of f y)) (branch_mark f y) f ∷ kept
     (successor_of (exit_by blocks f.block (branch_of f y))) fs)) (sym s.1)
     (λ z. left_kept blocks o f ok.2 (all.0 a.0) s.0 s.1, rest_kept _ fs all.1)
 

@@ -1,8 +1,18 @@
 -- What stands in a list of options or flags after one write.
 use Rattle.std.proofs.Common.{◌≡◌, ◌≢◌, ℕ, zero, suc, ◌<◌, Bool, true, false, ◌⊎◌, inl, inr, List, [], ◌∷◌}
 use Rattle.std.proofs.Common.{Option, Some, None, set, get_or, length, refl, sym, ap, subst, arith}
+use Rattle.std.proofs.Common.{◌==◌, ◌∙◌, true≢false}
+use Rattle.std.proofs.lemmas.Bool.Decides.{nat_tests}
 use Rattle.commit_flush_spec.specs.Frames.{at, blank, unset, emptied}
 use Rattle.commit_flush_spec.specs.Invariant.{Below}
+
+-- two numbers are the same or not
+pub equal_or : (a b : ℕ) → (a ≡ b) ⊎ (a ≢ b)
+equal_or a b = go (a == b) refl
+  where
+    go : (c : Bool) → (a == b) ≡ c → (a ≡ b) ⊎ (a ≢ b)
+    go true e = inl (grind (arith, nat_tests))
+    go false e = inr (λ z. let bad : (a == b) ≡ true = grind (arith, nat_tests, z) in true≢false (sym bad ∙ e))
 
 module _ {A : Type 0} where
   pub below_refl : (t : Option A) → Below t t
@@ -136,3 +146,9 @@ pub unset_size : (n : ℕ) → length (unset n) ≡ n
 unfolding unset
 unset_size zero = refl
 unset_size (suc n) = ap suc (unset_size n)
+
+-- what stands in a list stands below its length
+pub there_below : {A : Type 0} (xs : List (Option A)) (k : ℕ) → at xs k ≢ None → k < length xs
+there_below [] k n = absurd (n refl)
+there_below (x ∷ xs) zero n = omega arith
+there_below (x ∷ xs) (suc k) n = let l = there_below xs k n in omega (arith, l)

@@ -17,7 +17,8 @@ use Rattle.trips_isa.specs.Stores.{address_of, is_good_address}
 use Rattle.trips_isa.specs.Blocks.{Responses, Solves, at_place, computes}
 use Rattle.trips_isa.specs.Places.{in_mask}
 use Rattle.block_cases.specs.Orders.{slot_of, loads, has_load, bad_number, bad_slot_number, IsInOrder}
-use Rattle.commit_flush_spec.specs.Frames.{Frame, Taken, NoBytes, Bytes, at, slot_node, token_with}
+use Rattle.commit_flush_spec.specs.Frames.{Frame, Taken, NoBytes, Bytes, at, slot_node}
+use Rattle.commit_flush_spec.specs.Sending.{token_with}
 use Rattle.trips_isa.specs.Stores.{bytes_seen}
 use Rattle.commit_flush_spec.specs.Older.{Older}
 use Rattle.commit_flush_spec.specs.Causes.{NoFrame, NoRequest, Done}
@@ -27,7 +28,7 @@ use Rattle.commit_flush_spec.specs.Invariant.{Below, Agrees, Holds, Asked, Frame
 use Rattle.commit_flush_spec.specs.Invariant.{slot_sent, inst_sent}
 use Rattle.commit_flush_spec.proofs.Lists.{below_is, given_or, written_or, none_or, other_at, none_at, set_here}
 use Rattle.commit_flush_spec.proofs.Look.{or_false}
-use Rattle.commit_flush_spec.proofs.Tokens.{inst_in, slot_got, load_below, load_one}
+use Rattle.commit_flush_spec.proofs.Tokens.{token_there, inst_in, slot_got, load_below, load_one}
 use Rattle.commit_flush_spec.proofs.Frames.{Goes, not_now}
 use Rattle.commit_flush_spec.proofs.Sends.{Sends, sends, moved, slot_source, slot_sends}
 
@@ -260,6 +261,7 @@ module _ (blocks : List Block) (good : AllGood blocks) (o : Older) (f : Frame) (
     agrees = agrees;
     there = λ a g sol ag. (ok.holds a g sol (agrees a ag)).fired;
     gives = gives_below;
+    ready = λ z. token_there f (slot_node f.code s) w 0 z;
     from = λ z. slot_source f.code s small;
     before = λ z. ((slot_sends f s small).0 ∙ unsent, (slot_sends f s small).1 ∙ unsent);
     now = λ z. ((slot_sends N s small).0 ∙ sent_now, (slot_sends N s small).1 ∙ sent_now);

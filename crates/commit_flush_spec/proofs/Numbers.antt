@@ -12,7 +12,8 @@ use Rattle.trips_isa.specs.Forms.{form_of}
 use Rattle.trips_isa.specs.Rule.{Answer}
 use Rattle.trips_isa.specs.Stores.{stored_of}
 use Rattle.block_cases.specs.Orders.{slot_of}
-use Rattle.commit_flush_spec.specs.Frames.{Frame, at, numbers, send, token_with, fresh}
+use Rattle.commit_flush_spec.specs.Frames.{Frame, at, numbers, slot_node, fresh}
+use Rattle.commit_flush_spec.specs.Sending.{send, token_with, mark_with}
 use Rattle.commit_flush_spec.specs.Older.{Older, after, follows, successor_of, passes, nearest, violated, cut}
 use Rattle.commit_flush_spec.specs.Dataflow.{read, read_seen, read_answered, fire, fire_form, fire_inst}
 use Rattle.commit_flush_spec.specs.Dataflow.{deliver, delivered}
@@ -128,9 +129,9 @@ store_numbers n o f fs = go (request f n)
 
     go : (q : Option (ℕ × Inst)) → Begins (nums (store_resolved n f fs q)) (nums (f ∷ fs))
     go None = ([], no_more (nums (f ∷ fs)))
-    go (Some q) = check (with_store n (stored_of q.1 (at f.spots q.0) (at f.spots (128 + q.0))) f) refl
-        (violated (nearest (at (with_store n (stored_of q.1 (at f.spots q.0) (at f.spots (128 + q.0))) f).stores) n)
-        f.loads)
+    go (Some q) = check (with_store n (stored_of q.1 (at f.spots q.0) (at f.spots (128 + q.0)))
+        (mark_with f (slot_node f.code q.0)) f) refl
+        (violated (nearest (at (set f.stores n (stored_of q.1 (at f.spots q.0) (at f.spots (128 + q.0))))) n) f.loads)
 
 pub exit_numbers : (blocks : List Block) (o : Older) (f : Frame) (fs : List Frame)
     → Begins (nums (exit blocks o f fs)) (nums (f ∷ fs))

@@ -1,6 +1,6 @@
 -- A node that sends its token leaves its frame right.
 use Rattle.std.proofs.Common.{◌≡◌, ◌≢◌, ℕ, suc, ◌+◌, ◌-◌, ◌*◌, ◌/◌, ◌<◌, Bool, true, false, cond, not, nat_lt}
-use Rattle.std.proofs.Common.{◌&&◌, ◌||◌, ◌⊎◌, inl, inr, List, Option, Some, None, slice_get, get_or, length}
+use Rattle.std.proofs.Common.{◌&&◌, ◌||◌, ◌⊎◌, inl, inr, List, Option, Some, None, slice_get, get_or, set, length}
 use Rattle.std.proofs.Common.{refl, sym, ap, ap₂, ◌∙◌, subst, true≢false, arith}
 use Rattle.std.specs.Prelude.{is_some}
 use Rattle.std.proofs.lemmas.Bool.Decides.{nat_tests}
@@ -14,11 +14,16 @@ use Rattle.trips_isa.specs.Rule.{Answer}
 use Rattle.trips_isa.specs.Places.{nodes_of}
 use Rattle.trips_isa.specs.Blocks.{Responses, Solves}
 use Rattle.block_cases.specs.Orders.{slot_of}
-use Rattle.commit_flush_spec.specs.Frames.{Frame, Taken, Bytes, at, slot_node, source, is_target, put_if, sent, send}
+use Rattle.commit_flush_spec.specs.Frames.{Frame, Taken, Bytes, at, slot_node, source, is_target}
+use Rattle.commit_flush_spec.specs.Sending.{put_if, sent, send}
 use Rattle.commit_flush_spec.specs.Older.{Older, after}
 use Rattle.commit_flush_spec.specs.Invariant.{Below, Agrees, Holds, Asked, Leaves, Known, FrameOk, has_sent}
 use Rattle.commit_flush_spec.specs.Invariant.{slot_sent, inst_sent}
-use Rattle.commit_flush_spec.proofs.Lists.{set_under, other_at, written_or}
+use Rattle.commit_flush_spec.specs.Marks.{Marks, mark_on, mark_sent}
+use Rattle.commit_flush_spec.specs.Sending.{token_with, mark_with}
+use Rattle.commit_flush_spec.specs.Invariant.{MarksAgree}
+use Rattle.commit_flush_spec.proofs.Marking.{mark_here, mark_other, marked}
+use Rattle.commit_flush_spec.proofs.Lists.{equal_or, there_below, set_under, other_at, written_or}
 use Rattle.commit_flush_spec.proofs.Look.{older_refl}
 use Rattle.commit_flush_spec.proofs.Frames.{Goes}
 
@@ -126,6 +131,7 @@ pub record Sends (blocks : List Block) (o : Older) (f : Frame) (F R : List Bool)
   pub there : (a : Responses) (g : ℕ → Answer) → Solves f.code a g → Agrees o (moved f F R Q V L) a → (s : ℕ)
       → get_or F s false ≡ true → g (slot_node f.code s) ≢ None
   pub gives : (a : Responses) (g : ℕ → Answer) → Solves f.code a g → Agrees o (moved f F R Q V L) a → Below T (g x)
+  pub ready : T ≢ None → token_with f x 0 ≢ None
   pub from : T ≢ None → (source f.code p ≡ x) × (source f.code (suc p) ≡ x)
   pub before : T ≢ None → (has_sent f p ≡ false) × (has_sent f (suc p) ≡ false)
   pub now : T ≢ None → (has_sent (moved f F R Q V L) p ≡ true) × (has_sent (moved f F R Q V L) (suc p) ≡ true)
@@ -135,14 +141,28 @@ module _ (blocks : List Block) (o : Older) (f : Frame) (F R : List Bool) (Q : Li
   abbrev N : Frame
   N = moved f F R Q V L
 
-  -- with the places that it has then
+  -- the places with a token that x sends, and their marks
+  abbrev sent_places : Token → List Answer
+  sent_places t = sent (slice_get (nodes_of f.code) x) f.places p t
+
+  abbrev C : List ℕ
+  C = (mark_sent p (mark_with f x) f.marks).places
+
+  -- what marks must be known then
+  abbrev SizedMarks : Marks → Type 0
+  SizedMarks K = (length K.spots ≡ 416) × (length K.places ≡ 320) × (length K.stores ≡ 32)
+
+  -- with the places and the marks that it has then
   sends_with : (T : Answer) → Sends blocks o f F R Q V L x p T → (P : List Answer) → length P ≡ 320
+      → (K : Marks) → SizedMarks K
+      → ((g : ℕ → Answer) (m : ℕ → ℕ) → MarksAgree f g m → (T ≢ None → mark_with f x ≡ m x)
+      → MarksAgree (record (moved f F R Q V L) { places = P; marks = K }) g m)
       → ((g : ℕ → Answer) → ((q : ℕ) → Below (at f.places q) (g (source f.code q))) → Below T (g x) → (q : ℕ)
       → Below (at P q) (g (source f.code q)))
       → ((q : ℕ) → at P q ≢ None → has_sent N q ≡ true)
       → ((q : ℕ) → has_sent f q ≡ true → at P q ≡ at f.places q)
-      → Goes blocks o f (record (moved f F R Q V L) { places = P })
-  sends_with T h P size under present same = record {
+      → Goes blocks o f (record (moved f F R Q V L) { places = P; marks = K })
+  sends_with T h P size K sizes agree under present same = record {
     ok = record {
       code = h.was.code;
       sized = record {
@@ -153,6 +173,9 @@ module _ (blocks : List Block) (o : Older) (f : Frame) (F R : List Bool) (Q : Li
         requests = h.requests_size;
         loads = h.loads_size;
         stores = h.was.sized.stores;
+        spot_marks = sizes.0;
+        place_marks = sizes.1;
+        store_marks = sizes.2;
       };
       reads = λ r e. let k = h.known r e in record {
         slot = k.slot;
@@ -191,6 +214,10 @@ module _ (blocks : List Block) (o : Older) (f : Frame) (F R : List Bool) (Q : Li
                 k.exit;
             fired = h.there a g s now;
           };
+      marks = λ a g s ag m mk.
+          let now : Agrees o N a = record { reads = ag.reads; loads = ag.loads } in
+          let k : MarksAgree f g m = h.was.marks a g s (h.agrees a now) m mk in
+          agree g m k (λ n. marked f x a g s (h.was.holds a g s (h.agrees a now)).spots m mk k.spots (h.ready n));
       once = record {
         spots = λ q e. let c = h.was.once.spots q e in (
           c.0,
@@ -207,10 +234,13 @@ module _ (blocks : List Block) (o : Older) (f : Frame) (F R : List Bool) (Q : Li
   }
 
   pub sends : (T : Answer) → Sends blocks o f F R Q V L x p T → Goes blocks o f (send x p T (moved f F R Q V L))
-  sends None h = sends_with None h f.places h.was.sized.places (λ g k l. k)
+  sends None h = sends_with None h f.places h.was.sized.places f.marks
+      (h.was.sized.spot_marks, h.was.sized.place_marks, h.was.sized.store_marks)
+      (λ g m k l. record { spots = k.spots; places = k.places; stores = k.stores; exit = k.exit }) (λ g k l. k)
       (λ q e. still_sent f F R Q V L h.fired h.reads h.loads q (h.was.once.places q e)) (λ q e. refl)
   sends (Some t) h = sends_with (Some t) h (sent (slice_get (nodes_of f.code) x) f.places p t)
       (sent_size (slice_get (nodes_of f.code) x) f.places p t ∙ h.was.sized.places)
+      (mark_sent p (mark_with f x) f.marks) (h.was.sized.spot_marks, marks_size, h.was.sized.store_marks) agree
       (λ g k l. sent_under (slice_get (nodes_of f.code) x) f.places p t (λ q. g (source f.code q)) k (l
       ∙ sym (ap g from.0)) (l ∙ sym (ap g from.1)))
       (λ q e. elim (sent_or (slice_get (nodes_of f.code) x) f.places p t q e) [
@@ -235,6 +265,55 @@ module _ (blocks : List Block) (o : Older) (f : Frame) (F R : List Bool) (Q : Li
 
       now : (has_sent N p ≡ true) × (has_sent N (suc p) ≡ true)
       now = h.now there'
+
+      marks_size : length C ≡ 320
+      marks_size = length-set (set f.marks.places p (mark_with f x)) (suc p) (mark_with f x)
+          ∙ length-set f.marks.places p (mark_with f x) ∙ h.was.sized.place_marks
+
+      -- the marks in the two places, and in the others
+      placed : (m : ℕ → ℕ) → mark_with f x ≡ m x
+          → ((q : ℕ) → at f.places q ≢ None → mark_on f.marks.places q ≡ m (source f.code q)) → (q : ℕ)
+          → at (sent_places t) q ≢ None → mark_on C q ≡ m (source f.code q)
+      placed m e k q n = elim (equal_or q (suc p)) [
+        | inl z ↦ ap (mark_on C) z
+            ∙ mark_here (set f.marks.places p (mark_with f x)) (suc p) (mark_with f x) (inside (suc p) z)
+            ∙ e ∙ sym (ap m (ap (source f.code) z ∙ from.1))
+        | inr y ↦ mark_other (set f.marks.places p (mark_with f x)) (suc p) q (mark_with f x) y ∙ elim (equal_or q p) [
+          | inl z ↦ ap (mark_on (set f.marks.places p (mark_with f x))) z
+              ∙ mark_here f.marks.places p (mark_with f x) (old p z) ∙ e ∙ sym (ap m (ap (source f.code) z ∙ from.0))
+          | inr w ↦ mark_other f.marks.places p q (mark_with f x) w ∙ k q (λ z. n (sent_other
+              (slice_get (nodes_of f.code) x) f.places p t q w y ∙ z))
+        ]
+      ]
+        where
+          in_places : q < 320
+          in_places =
+              let a : q < length (sent_places t) = there_below (sent_places t) q n in
+              let b : length (sent_places t) ≡ 320 = sent_size (slice_get (nodes_of f.code) x) f.places p t
+              ∙ h.was.sized.places in
+              omega arith
+
+          old : (i : ℕ) → q ≡ i → i < length f.marks.places
+          old i z = let a = in_places in let b : length f.marks.places ≡ 320 = h.was.sized.place_marks in
+              omega (arith, a, z)
+
+          inside : (i : ℕ) → q ≡ i → i < length (set f.marks.places p (mark_with f x))
+          inside i z = let a = old i z in
+              let b : length (set f.marks.places p (mark_with f x)) ≡ length f.marks.places =
+              length-set f.marks.places p (mark_with f x) in omega (arith, a)
+
+      agree : (g : ℕ → Answer) (m : ℕ → ℕ) → MarksAgree f g m → (Some t ≢ None → mark_with f x ≡ m x)
+          → MarksAgree (record (moved f F R Q V L) {
+            places = sent_places t;
+            marks =
+                mark_sent p (mark_with f x) f.marks;
+          }) g m
+      agree g m k e = record {
+        spots = k.spots;
+        places = placed m (e there') k.places;
+        stores = k.stores;
+        exit = k.exit;
+      }
 
 -- where the places of nodes are ------------------------------------------------------------------
 

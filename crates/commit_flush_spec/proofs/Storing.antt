@@ -20,13 +20,19 @@ use Rattle.trips_isa.specs.Blocks.{Responses, Solves, at_place, computes, is_rea
 use Rattle.trips_isa.specs.Blocks.{stored_in, stored_if_read, stored_by, store_of}
 use Rattle.block_cases.specs.Orders.{slot_of}
 use Rattle.block_cases.specs.Good.{NamesPlace}
-use Rattle.commit_flush_spec.specs.Frames.{Frame, Bytes, at, numbers, slot_node, token_with}
+use Rattle.commit_flush_spec.specs.Frames.{Frame, Bytes, at, numbers, slot_node}
+use Rattle.commit_flush_spec.specs.Sending.{token_with}
 use Rattle.trips_isa.specs.Stores.{byte_seen}
 use Rattle.commit_flush_spec.specs.Older.{Older, after, nearest, violated, cut}
 use Rattle.commit_flush_spec.specs.Causes.{NoFrame, NoRequest, Done}
 use Rattle.commit_flush_spec.specs.Memory.{request, is_request, can_store, with_store, checked, store, store_resolved}
 use Rattle.commit_flush_spec.specs.Invariant.{Below, Agrees, Holds, Asked, FrameOk, FramesOk, AllGood}
-use Rattle.commit_flush_spec.proofs.Lists.{below_is, is_below, set_under, set_over, given_or, other_at}
+use Rattle.trips_isa.specs.Marks.{mark_at, IsMarking}
+use Rattle.commit_flush_spec.specs.Sending.{mark_with}
+use Rattle.commit_flush_spec.specs.Marks.{mark_on, mark_stored}
+use Rattle.commit_flush_spec.specs.Invariant.{MarksAgree}
+use Rattle.commit_flush_spec.proofs.Marking.{mark_here, mark_other, marked, mark_placed}
+use Rattle.commit_flush_spec.proofs.Lists.{equal_or, below_is, is_below, set_under, set_over, given_or, other_at}
 use Rattle.commit_flush_spec.proofs.Look.{OlderBut, nearest_apart, bytes_apart, not_hit}
 use Rattle.commit_flush_spec.proofs.Tokens.{slot_got, inst_in, slot_not_read, slot_at_is, inst_at_is, placed_is}
 use Rattle.commit_flush_spec.proofs.Frames.{not_now, own, seen, seen_agrees, own_solves, own_holds, frames_cut}
@@ -97,7 +103,7 @@ module _ (blocks : List Block) (good : AllGood blocks) (o : Older) (f : Frame) (
   S = stored_of i (at f.spots s) (at f.spots (128 + s))
 
   abbrev W : Frame
-  W = with_store n S f
+  W = with_store n S (mark_with f (slot_node f.code s)) f
 
   asked_is : Asked f n s
   asked_is = ok.asked n s asks
@@ -185,6 +191,38 @@ module _ (blocks : List Block) (good : AllGood blocks) (o : Older) (f : Frame) (
         ∙ ap (λ y. Some (Bytes ad y)) same)));
   }
 
+  -- the mark of the store is the table's
+  marks : (a : Responses) (g : ℕ → Answer) → Solves f.code a g → Agrees o f a → (m : ℕ → ℕ)
+      → IsMarking f.code g m → MarksAgree W g m
+  marks a g sol ag m mk = record {
+    spots = k.spots;
+    places = k.places;
+    stores = λ j e. elim (equal_or j n) [
+      | inl z ↦ ap (mark_on (mark_stored n (mark_with f (slot_node f.code s)) f.marks).stores) z
+          ∙ mark_here f.marks.stores n (mark_with f (slot_node f.code s)) inside
+          ∙ marked f (slot_node f.code s) a g sol h.spots m mk k.spots (asked_is).ready
+          ∙ sym (mark_placed f.code (good f.block f.code ok.code) a g sol m (416 + n) (slot_node f.code s) small
+          names_it (h.fired s (asked_is).fired))
+          ∙ sym (ap (λ y. mark_at (nodes_of f.code) g m (416 + y)) z)
+      | inr y ↦ mark_other f.marks.stores n j (mark_with f (slot_node f.code s)) y
+          ∙ k.stores j (λ z. e (other_at f.stores n j S y ∙ z))
+    ];
+    exit = k.exit;
+  }
+    where
+      k : MarksAgree f g m
+      k = ok.marks a g sol ag m mk
+
+      h : Holds blocks f g
+      h = ok.holds a g sol ag
+
+      inside : n < length f.marks.stores
+      inside =
+          let l : n < length f.requests = in_range f.requests n s asks in
+          let a : length f.requests ≡ 32 = ok.sized.requests in
+          let c : length f.marks.stores ≡ 32 = ok.sized.store_marks in
+          omega (arith, l)
+
   now : violated (nearest (at (set f.stores n S)) n) f.loads ≡ false → FrameOk blocks o W
   now z = record {
     code = ok.code;
@@ -196,6 +234,9 @@ module _ (blocks : List Block) (good : AllGood blocks) (o : Older) (f : Frame) (
       requests = length-set f.requests n None ∙ ok.sized.requests;
       loads = ok.sized.loads;
       stores = length-set f.stores n S ∙ ok.sized.stores;
+      spot_marks = ok.sized.spot_marks;
+      place_marks = ok.sized.place_marks;
+      store_marks = length-set f.marks.stores n (mark_with f (slot_node f.code s)) ∙ ok.sized.store_marks;
     };
     reads = λ r e. let k = ok.reads r e in record {
       slot = k.slot;
@@ -236,6 +277,7 @@ module _ (blocks : List Block) (good : AllGood blocks) (o : Older) (f : Frame) (
           exit = k.exit;
           fired = k.fired;
         };
+    marks = λ a g sol ag m mk. marks a g sol (agrees z a ag) m mk;
     once = record { spots = ok.once.spots; places = ok.once.places };
     whole = λ e. absurd (true≢false (sym e ∙ runs));
   }

@@ -33,7 +33,8 @@ use Rattle.block_cases.proofs.OneToken.{good_machine}
 use Rattle.block_cases.proofs.AnyBits.{one_producer, one_at_most}
 use Rattle.block_cases.proofs.Unique.{present_shape, pulled_is_table}
 use Rattle.block_cases.proofs.Nodes.{past_reads}
-use Rattle.commit_flush_spec.specs.Frames.{Frame, at, slot_node, token_with}
+use Rattle.commit_flush_spec.specs.Frames.{Frame, at, slot_node}
+use Rattle.commit_flush_spec.specs.Sending.{token_with}
 use Rattle.commit_flush_spec.specs.Invariant.{Below, IsRunnable}
 use Rattle.commit_flush_spec.proofs.Lists.{below_is, is_below, below_trans, none_or}
 

@@ -1,5 +1,5 @@
 -- Each event keeps the invariant, and the committed state takes the steps of the machine.
-use Rattle.std.proofs.Common.{◌≡◌, ℕ, suc, ◌+◌, ◌/◌, ◌%◌, ◌<◌, Bool, true, false, not, nat_le, List, [], ◌∷◌}
+use Rattle.std.proofs.Common.{◌≡◌, ℕ, zero, suc, ◌+◌, ◌/◌, ◌%◌, ◌<◌, Bool, true, false, not, nat_le, List, [], ◌∷◌}
 use Rattle.std.proofs.Common.{◌++◌, Some, slice_get, length, refl, sym, ap, ◌∙◌, subst, arith}
 use Rattle.std.specs.Prelude.{is_none}
 use Rattle.std.proofs.lemmas.Bool.Decides.{nat_tests}
@@ -10,7 +10,13 @@ use Rattle.trips_isa.specs.Blocks.{leaving_of, token_of}
 use Rattle.trips_isa.specs.Tables.{deepest}
 use Rattle.trips_isa.specs.Outcomes.{Effects}
 use Rattle.trips_isa.specs.Machine.{State, apply}
-use Rattle.block_cases.specs.Plain.{plain_step, plain_on, plain_runs}
+use Rattle.trips_isa.specs.Outcomes.{Comes, Faults, unless}
+use Rattle.trips_isa.specs.Machine.{come_to, step_of, goes_on, runs}
+use Rattle.block_cases.specs.Plain.{IsTrap}
+use Rattle.block_cases.proofs.Traps.{applied_goes}
+use Rattle.commit_flush_spec.specs.Ends.{cause_held}
+use Rattle.commit_flush_spec.specs.InFlight.{commit_to}
+use Rattle.commit_flush_spec.specs.Laws.{Reached}
 use Rattle.commit_flush_spec.specs.Frames.{Frame, fresh}
 use Rattle.commit_flush_spec.specs.Older.{Older, after_all, committed, follows}
 use Rattle.commit_flush_spec.specs.Causes.{Cause}
@@ -54,8 +60,7 @@ pub record Moves (blocks : List Block) (budget : ℕ) (w v : Window) : Type 0 wh
   pub ok : WindowOk blocks budget v
   pub steps : ℕ
   pub grown : length v.state.trace ≡ length w.state.trace + steps
-  pub one : (s : State) (n : ℕ) → (w.state, w.over) ≡ plain_runs blocks s n
-      → (v.state, v.over) ≡ plain_runs blocks s (n + steps)
+  pub one : (s : State) (n : ℕ) → Reached blocks s n w.state w.over → Reached blocks s (n + steps) v.state v.over
 
 -- an event that changes frames alone
 frames_move : (blocks : List Block) (budget : ℕ) (w : Window) (fs : List Frame) (gs : List ℕ)
@@ -65,7 +70,7 @@ frames_move blocks budget w fs gs ok h k m = record {
   ok = record { frames = h; kept = k; numbers = m; whole = ok.whole; spent = ok.spent; next = ok.next };
   steps = 0;
   grown = omega arith;
-  one = λ s n e. let z : n ≡ n + 0 = omega arith in e ∙ ap (plain_runs blocks s) z;
+  one = λ s n e. let z : n ≡ n + 0 = omega arith in subst (λ k. Reached blocks s k w.state w.over) z e;
 }
 
 -- an event of the frame of a number
@@ -98,10 +103,18 @@ alone_moves blocks can does running good kept numbered =
     frame_moves blocks can (alone does) (alone_ok blocks can does good) (alone_kept blocks can does running kept)
     (alone_numbers does numbered)
 
-next_step : (blocks : List Block) (s : State) (n : ℕ) (t : State) → (t, Went) ≡ plain_runs blocks s n
-    → plain_step blocks t ≡ plain_runs blocks s (suc n)
-unfolding plain_runs
-next_step blocks s n t e = ap (λ (p : State × Stepped). plain_on blocks p.0 p.1) e
+next_step : (blocks : List Block) (s : State) (n : ℕ) (t : State) → (t, Went) ≡ runs blocks s n
+    → step_of blocks t ≡ runs blocks s (suc n)
+unfolding runs
+next_step blocks s n t e = ap (λ (p : State × Stepped). goes_on blocks p.0 p.1) e
+
+-- what is no trap is reached by its steps
+untrapped : (blocks : List Block) (s : State) (n : ℕ) (t : State) (o : Stepped) → (IsTrap o → ⊥)
+    → (t, o) ≡ runs blocks s n → Reached blocks s n t o
+untrapped blocks s n t Went h e = e
+untrapped blocks s n t Ended h e = e
+untrapped blocks s n t StackFull h e = e
+untrapped blocks s n t (Trap c) h e = absurd (h tt)
 
 commit_moves : (blocks : List Block) → AllGood blocks → (budget : ℕ) (w : Window) → w.over ≡ Went
     → can_commit budget w ≡ Done → WindowOk blocks budget w → (fs : List Frame) → w.frames ≡ fs
@@ -109,28 +122,7 @@ commit_moves : (blocks : List Block) → AllGood blocks → (budget : ℕ) (w : 
 commit_moves blocks good budget w o c ok [] e = absurd (
     let a = not_now (not (is_sealed w.frames)) Unsealed _ c in
     let bad : not (is_sealed w.frames) ≡ true = ap (λ l. not (is_sealed l)) e in cc)
-commit_moves blocks good budget w o c ok (f ∷ fs) e = record {
-  ok = record {
-    frames = go_on blocks good w.state f frames.2 sealed ok.whole fs frames.3;
-    kept = (subst AllKept e ok.kept).1;
-    numbers = (subst (λ l. AreNumbers (nums l)) e ok.numbers).2;
-    whole = apply_whole f.code.writes.items (outputs f) w.state ok.whole;
-    spent = (let t : length new.trace ≡ length w.state.trace + 1 =
-        apply_trace f.code.writes.items (outputs f) w.state in let r : length w.state.trace < budget = room in
-        omega arith);
-    next = subst (λ k. k < length blocks) (sym (apply_next f.code.writes.items (outputs f) w.state
-        ∙ ap (λ (x : Effects). x.successor) (same_effects blocks good w.state f frames.2 sealed)))
-        (next_in blocks (let l : w.state.next < length blocks = ok.next in
-        omega arith) f.block (leaving_of f.code (token_of f.code w.state.registers w.state.memory deepest)));
-  };
-  steps = 1;
-  grown = apply_trace f.code.writes.items (outputs f) w.state;
-  one = λ s n r.
-      let up : suc n ≡ n + 1 = omega arith in
-      let went : (w.state, Went) ≡ plain_runs blocks s n = sym (ap (λ x. (w.state, x)) o) ∙ r in
-      commits blocks good w.state f frames.2 sealed (follows_is _ _ frames.1) ∙ next_step blocks s n w.state went
-      ∙ ap (plain_runs blocks s) up;
-}
+commit_moves blocks good budget w o c ok (f ∷ fs) e = go (cause_held f) refl
   where
     frames : FramesOk blocks (committed w.state) (f ∷ fs)
     frames = subst (FramesOk blocks (committed w.state)) e ok.frames
@@ -149,6 +141,61 @@ commit_moves blocks good budget w o c ok (f ∷ fs) e = record {
 
     room : length w.state.trace < budget
     room = let x = facts.1 in grind (arith, nat_tests)
+
+    -- the step of the machine from here
+    stepped : (s : State) (n k : ℕ) → cause_held f ≡ k → Reached blocks s n w.state w.over
+        → come_to f.code.writes.items (unless k (outputs f)) w.state ≡ runs blocks s (suc n)
+    stepped s n k z r =
+        let went : (w.state, Went) ≡ runs blocks s n = subst (Reached blocks s n w.state) o r in
+        ap (λ x. come_to f.code.writes.items (unless x (outputs f)) w.state) (sym z)
+        ∙ commits blocks good w.state f frames.2 sealed (follows_is _ _ frames.1) ∙ next_step blocks s n w.state went
+
+    effects : cause_held f ≡ 0 → Moves blocks budget w (commit_to (Comes (outputs f)) f fs w)
+    effects z = record {
+      ok = record {
+        frames = go_on blocks good w.state f frames.2 sealed ok.whole fs frames.3;
+        kept = (subst AllKept e ok.kept).1;
+        numbers = (subst (λ l. AreNumbers (nums l)) e ok.numbers).2;
+        whole = apply_whole f.code.writes.items (outputs f) w.state ok.whole;
+        spent = (let t : length new.trace ≡ length w.state.trace + 1 =
+            apply_trace f.code.writes.items (outputs f) w.state in let r : length w.state.trace < budget = room in
+            omega arith);
+        next = subst (λ k. k < length blocks) (sym (apply_next f.code.writes.items (outputs f) w.state
+            ∙ ap (λ (x : Effects). x.successor) (same_effects blocks good w.state f frames.2 sealed)))
+            (next_in blocks (let l : w.state.next < length blocks = ok.next in
+            omega arith) f.block (leaving_of f.code (token_of f.code w.state.registers w.state.memory deepest)));
+      };
+      steps = 1;
+      grown = apply_trace f.code.writes.items (outputs f) w.state;
+      one = λ s n r.
+          let up : suc n ≡ n + 1 = omega arith in
+          untrapped blocks s (n + 1) new (apply f.code.writes.items (outputs f) w.state).1
+          (applied_goes f.code.writes.items (outputs f) w.state) (stepped s n 0 z r ∙ ap (runs blocks s) up);
+    }
+
+    fault : (k : ℕ) → cause_held f ≡ suc k → Moves blocks budget w (commit_to (Faults (suc k)) f fs w)
+    fault k z = record {
+      ok = record {
+        frames = tt;
+        kept = tt;
+        numbers = tt;
+        whole = ok.whole;
+        spent = ok.spent;
+        next = ok.next;
+      };
+      steps = 0;
+      grown = omega arith;
+      one = λ s n r.
+          let same : n ≡ n + 0 = omega arith in
+          let went : (w.state, Went) ≡ runs blocks s n = subst (Reached blocks s n w.state) o r in (
+            went ∙ ap (runs blocks s) same,
+            stepped s n (suc k) z r ∙ ap (λ x. runs blocks s (suc x)) same,
+          );
+    }
+
+    go : (k : ℕ) → cause_held f ≡ k → Moves blocks budget w (commit (f ∷ fs) w)
+    go zero z = subst (λ x. Moves blocks budget w (commit_to (unless x (outputs f)) f fs w)) (sym z) (effects z)
+    go (suc k) z = subst (λ x. Moves blocks budget w (commit_to (unless x (outputs f)) f fs w)) (sym z) (fault k z)
 
 fetch_frames : (blocks : List Block) → (k : ℕ) (budget : ℕ) (w : Window) → can_fetch blocks k w ≡ Done
     → WindowOk blocks budget w → Moves blocks budget w (fetched k (lowest_empty 8 0 w.frames) (slice_get blocks k) w)
@@ -204,7 +251,7 @@ still blocks budget w ok = record {
   steps = 0;
   grown = omega arith;
   one = λ s n e. let z : n ≡ n + 0 =
-      omega arith in e ∙ ap (plain_runs blocks s) z;
+      omega arith in subst (λ k. Reached blocks s k w.state w.over) z e;
 }
 
 went : (o : Stepped) (h : Happened) → unless_over o h ≡ Done → (o ≡ Went) × (h ≡ Done)
@@ -242,8 +289,8 @@ plays_steps blocks good budget s (e ∷ es) w ok h =
       reached = m.one s h.steps h.reached;
     })
 
-begins : (blocks : List Block) (s : State) → (s, Went) ≡ plain_runs blocks s 0
-unfolding plain_runs
+begins : (blocks : List Block) (s : State) → (s, Went) ≡ runs blocks s 0
+unfolding runs
 begins blocks s = refl
 
 pub from_here : (blocks : List Block) → AllGood blocks → (budget : ℕ) (es : List Event) (w : Window)
@@ -255,5 +302,5 @@ from_here blocks good budget es w ok o = plays_steps blocks good budget w.state 
   reached = start;
 })
   where
-    start : (w.state, w.over) ≡ plain_runs blocks w.state 0
-    start = ap (λ x. (w.state, x)) o ∙ begins blocks w.state
+    start : Reached blocks w.state 0 w.state w.over
+    start = subst (Reached blocks w.state 0 w.state) (sym o) (begins blocks w.state)

@@ -8,7 +8,9 @@ use Rattle.trips_isa.specs.declared.form.Form.TheVariants.{Load, Store, Branch}
 use Rattle.trips_isa.specs.Forms.{form_of}
 use Rattle.trips_isa.specs.Rule.{Answer}
 use Rattle.block_cases.specs.Orders.{slot_of}
-use Rattle.commit_flush_spec.specs.Frames.{Frame, at, first_read_place, slot_node, target, is_target, send, token_with}
+use Rattle.commit_flush_spec.specs.Marks.{mark_delivered}
+use Rattle.commit_flush_spec.specs.Frames.{Frame, at, first_read_place, slot_node, target, is_target}
+use Rattle.commit_flush_spec.specs.Sending.{send, token_with}
 use Rattle.commit_flush_spec.specs.Older.{Older}
 use Rattle.commit_flush_spec.specs.Causes.{NoFrame, NoRead, NotYet, NoInst, NotReady, NoToken, Happened, judged}
 
@@ -75,6 +77,7 @@ delivered p None f = f
 delivered p (Some t) f = record f {
   places = slice_set f.places p None;
   spots = slice_set f.spots (target f.code p) (Some t);
+  marks = mark_delivered p (target f.code p) f.marks;
 }
 
 -- moves the token in place p to the place of the block that it goes to

@@ -7,7 +7,10 @@ use Rattle.trips_isa.specs.Blocks.{Leaving, leaves_with}
 use Rattle.trips_isa.specs.Outcomes.{Effects, next_of, is_system, exit_of, writes_from, all_stores}
 use Rattle.trips_isa.specs.Places.{in_mask}
 use Rattle.block_cases.specs.Orders.{slot_of}
-use Rattle.commit_flush_spec.specs.Frames.{Frame, Exit, at, numbers, emptied, slot_node, token_with}
+use Rattle.trips_isa.specs.Marks.{owed, least_at}
+use Rattle.commit_flush_spec.specs.Marks.{mark_left, mark_held}
+use Rattle.commit_flush_spec.specs.Frames.{Frame, Exit, at, numbers, emptied, slot_node}
+use Rattle.commit_flush_spec.specs.Sending.{token_with, mark_with}
 use Rattle.commit_flush_spec.specs.Older.{Older, successor_of, follows}
 use Rattle.commit_flush_spec.specs.Causes.{NoFrame, NoExit, Missing, Happened, judged}
 
@@ -36,15 +39,20 @@ abbrev pub kept : Option ℕ → List Frame → List Frame
 kept known [] = []
 kept known (f ∷ fs) = cond (follows known f.block) (f ∷ fs) []
 
--- the frame with an exit, and without a branch that waits
-abbrev pub with_exit : Option Exit → Frame → Frame
-with_exit e f = record f { leaving = None; exit = e }
+-- the mark of the waiting branch
+abbrev pub branch_mark : Frame → Option ℕ → ℕ
+branch_mark f None = 0
+branch_mark f (Some s) = mark_with f (slot_node f.code s)
+
+-- the frame with an exit and its mark c, and without a branch that waits
+abbrev pub with_exit : Option Exit → ℕ → Frame → Frame
+with_exit e c f = record f { leaving = None; exit = e; marks = mark_left c f.marks }
 
 -- makes the successor known, and flushes the younger frames where they are of another block
 abbrev pub exit : List Block → Older → Frame → List Frame → List Frame
 exit blocks o f fs =
     let e : Option Exit = exit_by blocks f.block (branch_of f f.leaving) in
-    with_exit e f ∷ kept (successor_of e) fs
+    with_exit e (branch_mark f f.leaving) f ∷ kept (successor_of e) fs
 
 -- sealing --------------------------------------------------------------------------------------
 
@@ -99,3 +107,7 @@ effects_with f (Some e) = record {
 -- the effects that a sealed frame hands to its commit
 abbrev pub outputs : Frame → Effects
 outputs f = effects_with f f.exit
+
+-- the least mark of the outputs that a sealed frame holds, and 0 for none
+abbrev pub cause_held : Frame → ℕ
+cause_held f = least_at (mark_held f.marks) (owed f.code)

@@ -1,15 +1,13 @@
 -- A frame in flight as plain data: a block that the window executes before it is known to be wanted.
-use Rattle.std.specs.Prelude.{ℕ, suc, ◌+◌, ◌-◌, ◌/◌, ◌%◌, ◌==◌, Bool, true, false, cond, nat_lt, List, replicate}
-use Rattle.std.specs.Prelude.{map, length, Option, Some, None, slice_get, slice_set, slice_index_or}
-use Rattle.trips_isa.specs.declared.block.Token.{Token}
+use Rattle.std.specs.Prelude.{ℕ, ◌+◌, ◌-◌, ◌/◌, ◌%◌, ◌==◌, Bool, false, cond, nat_lt, List, replicate}
+use Rattle.std.specs.Prelude.{map, length, Option, Some, None, slice_get, slice_index_or}
 use Rattle.trips_isa.specs.declared.block.Stored.{Stored}
 use Rattle.trips_isa.specs.declared.block.Block.{Block}
 use Rattle.trips_isa.specs.declared.node.Node.{Node}
 use Rattle.trips_isa.specs.declared.places.TheConstants.{FIRST_STORE, NO_PLACE}
 use Rattle.trips_isa.specs.Rule.{Answer}
 use Rattle.trips_isa.specs.Places.{nodes_of}
-use Rattle.trips_isa.specs.Tables.{node_gives}
-use Rattle.trips_isa.specs.Blocks.{computes}
+use Rattle.commit_flush_spec.specs.Marks.{Marks, zeros}
 
 -- how many places a frame has for tokens on their way: two for each slot, then two for each read
 abbrev pub token_places : ℕ
@@ -54,6 +52,8 @@ pub record Frame : Type 0 where
   pub stores : List (Option Stored)
   -- the exit that has come
   pub exit : Option Exit
+  -- the marks beside all these tokens
+  pub marks : Marks
 
 -- what stands at a number of a list, and none past its end
 abbrev pub at : {A : Type 0} → List (Option A) → ℕ → Option A
@@ -75,6 +75,15 @@ unset n = replicate n false
 abbrev pub emptied : {A : Type 0} → List (Option A) → List (Option A)
 emptied xs = map (λ x. None) xs
 
+-- where no token has come there is no mark
+abbrev pub unmarked : Marks
+unmarked = record {
+  spots = zeros FIRST_STORE;
+  places = zeros token_places;
+  stores = zeros 32;
+  exit = 0;
+}
+
 -- a frame that has just been filled with block k of the image
 abbrev pub fresh : ℕ → ℕ → Block → Frame
 fresh n k b = record {
@@ -91,6 +100,7 @@ fresh n k b = record {
   loads = blank 32;
   stores = blank 32;
   exit = None;
+  marks = unmarked;
 }
 
 -- nodes and places -----------------------------------------------------------------------------
@@ -115,25 +125,3 @@ target b p = named_at (slice_get (nodes_of b) (source b p)) (p % 2 == 0)
 -- only an operand, a predicate or a write is delivered a token
 abbrev pub is_target : ℕ → Bool
 is_target q = nat_lt q FIRST_STORE
-
--- a token put in a place, where it is to be put there
-abbrev pub put_if : Bool → List Answer → ℕ → Token → List Answer
-put_if true places p t = slice_set places p (Some t)
-put_if false places p t = places
-
--- a node's token, put on its way to each target that the node names
-abbrev pub sent : Option Node → List Answer → ℕ → Token → List Answer
-sent None places p t = places
-sent (Some n) places p t =
-    put_if (is_target n.second) (put_if (is_target n.first) places p t) (suc p) t
-
--- the token of node x, where it gives one, on its way from place p on
-abbrev pub send : ℕ → ℕ → Answer → Frame → Frame
-send x p None f = f
-send x p (Some t) f =
-    record f { places = sent (slice_get (nodes_of f.code) x) f.places p t }
-
--- what node x gives of the tokens that have come, where w is the word that its read or load is answered
-abbrev pub token_with : Frame → ℕ → ℕ → Answer
-token_with f x w =
-    node_gives (slice_get (nodes_of f.code) x) (computes f.code (λ y a. w) x) (at f.spots)

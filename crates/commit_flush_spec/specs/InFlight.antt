@@ -4,13 +4,14 @@ use Rattle.std.specs.Prelude.{List, [], ◌∷◌, ◌++◌, length, Option, Som
 use Rattle.std.specs.Prelude.{slice_index, is_none}
 use Rattle.trips_isa.specs.declared.block.Block.{Block}
 use Rattle.trips_isa.specs.declared.run.Stepped.{Stepped}
-use Rattle.trips_isa.specs.declared.run.Stepped.TheVariants.{Went}
+use Rattle.trips_isa.specs.declared.run.Stepped.TheVariants.{Went, Trap}
+use Rattle.trips_isa.specs.Outcomes.{Outcome, Comes, Faults, unless}
 use Rattle.trips_isa.specs.Machine.{State, apply}
 use Rattle.commit_flush_spec.specs.Frames.{Frame, fresh}
 use Rattle.commit_flush_spec.specs.Older.{Older, after, after_all, committed, follows}
 use Rattle.commit_flush_spec.specs.Causes.{NoFrame, NoBlock, Worn, Serial, Wrong, Unsealed, Spent}
 use Rattle.commit_flush_spec.specs.Causes.{Happened, judged}
-use Rattle.commit_flush_spec.specs.Ends.{outputs}
+use Rattle.commit_flush_spec.specs.Ends.{outputs, cause_held}
 
 -- the committed state, whether and how the run has ended, the generation of each of the eight frames,
 -- and the frames in flight, the oldest first
@@ -95,9 +96,15 @@ abbrev pub can_commit : ℕ → Window → Happened
 can_commit budget w = judged (
     (not (is_sealed w.frames), Unsealed) ∷ (nat_le budget (length w.state.trace), Spent) ∷ [])
 
--- the oldest frame's effects are applied, and the frame is empty
+-- what the oldest frame comes to: its effects are applied, and the frame is empty; or it faults, all
+-- frames are flushed, and the run has ended
+abbrev pub commit_to : Outcome → Frame → List Frame → Window → Window
+commit_to (Comes o) f fs w =
+    let p : State × Stepped = apply f.code.writes.items o w.state in
+    record w { state = p.0; over = p.1; frames = fs }
+commit_to (Faults c) f fs w = record w { over = Trap c; frames = [] }
+
+-- the oldest frame commits: without a marked output its effects, else the least mark of its outputs
 abbrev pub commit : List Frame → Window → Window
 commit [] w = w
-commit (f ∷ fs) w =
-    let p : State × Stepped = apply f.code.writes.items (outputs f) w.state in
-    record w { state = p.0; over = p.1; frames = fs }
+commit (f ∷ fs) w = commit_to (unless (cause_held f) (outputs f)) f fs w

@@ -1,20 +1,25 @@
 -- The invariant of the frames in flight: every token is the one that the rules give, whatever the
 -- reads and loads that are still open will be answered.
-use Rattle.std.specs.Prelude.{◌≡◌, ◌≢◌, ℕ, ◌/◌, ◌-◌, Bool, true, false, cond, not, ◌&&◌, ◌||◌, nat_lt, List}
+use Rattle.std.specs.Prelude.{◌≡◌, ◌≢◌, ℕ, ◌+◌, ◌/◌, ◌-◌, Bool, true, false, cond, not, ◌&&◌, ◌||◌, nat_lt, List}
 use Rattle.std.specs.Prelude.{[], ◌∷◌, length, Option, Some, None, slice_get, slice_index_or, is_some}
 use Rattle.trips_isa.specs.declared.block.Inst.{Inst}
 use Rattle.trips_isa.specs.declared.block.ReadSlot.{ReadSlot}
 use Rattle.trips_isa.specs.declared.block.Block.{Block}
 use Rattle.trips_isa.specs.declared.form.Form.TheVariants.{Branch}
-use Rattle.trips_isa.specs.declared.places.TheConstants.{FIRST_STORE}
+use Rattle.trips_isa.specs.declared.places.TheConstants.{FIRST_STORE, EXIT}
+use Rattle.trips_isa.specs.Places.{nodes_of}
+use Rattle.trips_isa.specs.Marks.{mark_at, IsMarking}
 use Rattle.trips_isa.specs.Forms.{form_of, size_of, is_load}
 use Rattle.trips_isa.specs.Rule.{Answer}
 use Rattle.trips_isa.specs.Blocks.{Responses, Solves, at_place, store_of, leaving_of}
 use Rattle.trips_isa.specs.Fits.{FitsBlock}
 use Rattle.block_cases.specs.Good.{GoodBlock}
 use Rattle.block_cases.specs.Orders.{slot_of}
+use Rattle.commit_flush_spec.specs.Marks.{mark_on}
 use Rattle.commit_flush_spec.specs.Frames.{Frame, Bytes, at, token_places, first_read_place, slot_node}
-use Rattle.commit_flush_spec.specs.Frames.{source, target, token_with}
+use Rattle.commit_flush_spec.specs.Marks.{mark_on}
+use Rattle.commit_flush_spec.specs.Frames.{source, target}
+use Rattle.commit_flush_spec.specs.Sending.{token_with}
 use Rattle.trips_isa.specs.Stores.{bytes_seen}
 use Rattle.commit_flush_spec.specs.Older.{Older, after, follows}
 use Rattle.commit_flush_spec.specs.Ends.{exit_by, complete}
@@ -41,6 +46,14 @@ pub record Holds (blocks : List Block) (f : Frame) (g : ℕ → Answer) : Type 0
   pub stores : (n : ℕ) → Below (at f.stores n) (store_of f.code g n)
   pub exit : Below f.exit (exit_by blocks f.block (leaving_of f.code g))
   pub fired : (s : ℕ) → slice_index_or f.fired s false ≡ true → g (slot_node f.code s) ≢ None
+
+-- the invariant's part `marks`: beside what has come stands the mark that m gives
+pub record MarksAgree (f : Frame) (g : ℕ → Answer) (m : ℕ → ℕ) : Type 0 where
+  pub spots : (q : ℕ) → at f.spots q ≢ None → mark_on f.marks.spots q ≡ mark_at (nodes_of f.code) g m q
+  pub places : (p : ℕ) → at f.places p ≢ None → mark_on f.marks.places p ≡ m (source f.code p)
+  pub stores : (n : ℕ) → at f.stores n ≢ None
+      → mark_on f.marks.stores n ≡ mark_at (nodes_of f.code) g m (FIRST_STORE + n)
+  pub exit : f.exit ≢ None → f.marks.exit ≡ mark_at (nodes_of f.code) g m EXIT
 
 -- a load has sent its token once it is answered, and another instruction once it has fired
 abbrev pub inst_sent : Frame → Option Inst → Bool
@@ -98,6 +111,9 @@ pub record IsSized (f : Frame) : Type 0 where
   pub requests : length f.requests ≡ 32
   pub loads : length f.loads ≡ 32
   pub stores : length f.stores ≡ 32
+  pub spot_marks : length f.marks.spots ≡ FIRST_STORE
+  pub place_marks : length f.marks.places ≡ token_places
+  pub store_marks : length f.marks.stores ≡ 32
 
 -- one frame is right, where `o` is what it sees
 pub record FrameOk (blocks : List Block) (o : Older) (f : Frame) : Type 0 where
@@ -113,6 +129,8 @@ pub record FrameOk (blocks : List Block) (o : Older) (f : Frame) : Type 0 where
   pub leaving : (s : ℕ) → f.leaving ≡ Some s → Leaves f s
   pub holds : (answers : Responses) (g : ℕ → Answer) → Solves f.code answers g → Agrees o f answers
       → Holds blocks f g
+  pub marks : (answers : Responses) (g : ℕ → Answer) → Solves f.code answers g → Agrees o f answers
+      → (m : ℕ → ℕ) → IsMarking f.code g m → MarksAgree f g m
   pub once : Once f
   pub whole : f.sealed ≡ true → complete f ≡ true
 

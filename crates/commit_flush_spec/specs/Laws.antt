@@ -1,14 +1,15 @@
 -- The invariant of the window, and the laws of its events.
 use Rattle.std.specs.List.{list_any}
-use Rattle.std.specs.Prelude.{◌≡◌, ◌≢◌, ℕ, ◌+◌, ◌<◌, ◌≤◌, true, List, [], ◌∷◌, ◌++◌, length, Some, None, ◌⊎◌}
+use Rattle.std.specs.Prelude.{◌≡◌, ◌≢◌, ℕ, suc, ◌+◌, ◌<◌, ◌≤◌, true, List, [], ◌∷◌, ◌++◌, length, Some, None, ◌⊎◌}
 use Rattle.std.specs.Prelude.{false, slice_index_or, map, ◌==◌}
 use Rattle.trips_isa.specs.declared.block.Inst.{Inst}
 use Rattle.trips_isa.specs.declared.block.Block.{Block}
 use Rattle.trips_isa.specs.declared.form.Form.TheVariants.{Branch}
 use Rattle.trips_isa.specs.Forms.{form_of, is_load, is_store}
 use Rattle.trips_isa.specs.Stores.{data_size}
-use Rattle.trips_isa.specs.Machine.{State}
-use Rattle.block_cases.specs.Plain.{plain_runs}
+use Rattle.trips_isa.specs.declared.run.Stepped.{Stepped}
+use Rattle.trips_isa.specs.declared.run.Stepped.TheVariants.{Went, Trap}
+use Rattle.trips_isa.specs.Machine.{State, runs}
 use Rattle.commit_flush_spec.specs.Frames.{Frame, at, target, is_target}
 use Rattle.commit_flush_spec.specs.Older.{committed}
 use Rattle.commit_flush_spec.specs.Window.{Window}
@@ -52,11 +53,17 @@ pub record WindowOk (blocks : List Block) (budget : ℕ) (w : Window) : Type 0 w
   pub spent : length w.state.trace ≤ budget
   pub next : w.state.next < length blocks
 
+-- state t and the answer o are those of the machine after n steps from state s; where the next block
+-- traps, its trap has come too, and the state is as it was
+abbrev pub Reached : List Block → State → ℕ → State → Stepped → Type 0
+Reached blocks s n t (Trap c) = ((t, Went) ≡ runs blocks s n) × ((t, Trap c) ≡ runs blocks s (suc n))
+Reached blocks s n t o = (t, o) ≡ runs blocks s n
+
 -- law commits are steps: from state s the window took as many steps of the machine as its trace grew by
 pub record TakesSteps (blocks : List Block) (s : State) (w : Window) : Type 0 where
   pub steps : ℕ
   pub grown : length w.state.trace ≡ length s.trace + steps
-  pub reached : (w.state, w.over) ≡ plain_runs blocks s steps
+  pub reached : Reached blocks s steps w.state w.over
 
 -- law one token: a token on its way never finds another one at the place that it goes to
 abbrev pub IsFree : Frame → Type 0

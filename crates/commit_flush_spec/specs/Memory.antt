@@ -9,7 +9,10 @@ use Rattle.trips_isa.specs.Forms.{form_of, size_of, is_load, is_store}
 use Rattle.trips_isa.specs.Rule.{Answer}
 use Rattle.trips_isa.specs.Stores.{address_of, is_good_address, stored_of, bytes_seen}
 use Rattle.block_cases.specs.Orders.{slot_of}
-use Rattle.commit_flush_spec.specs.Frames.{Frame, Taken, NoBytes, Bytes, at, numbers, slot_node, send, token_with}
+use Rattle.commit_flush_spec.specs.Marks.{mark_stored}
+use Rattle.commit_flush_spec.specs.Sending.{mark_with}
+use Rattle.commit_flush_spec.specs.Frames.{Frame, Taken, NoBytes, Bytes, at, numbers, slot_node}
+use Rattle.commit_flush_spec.specs.Sending.{send, token_with}
 use Rattle.commit_flush_spec.specs.Older.{Older, nearest, violated, cut}
 use Rattle.commit_flush_spec.specs.Causes.{NoFrame, NoRequest, Happened, judged}
 
@@ -79,11 +82,12 @@ load n o f = load_answered n o f (request f n)
 abbrev pub can_store : ℕ → Older → Frame → Happened
 can_store n o f = can_request is_store n o f
 
--- the frame with a store of number n, which waits no more
-abbrev pub with_store : ℕ → Option Stored → Frame → Frame
-with_store n s f = record f {
+-- the frame with a store of number n and its mark c, which waits no more
+abbrev pub with_store : ℕ → Option Stored → ℕ → Frame → Frame
+with_store n s c f = record f {
   requests = slice_set f.requests n None;
   stores = slice_set f.stores n s;
+  marks = mark_stored n c f.marks;
 }
 
 -- flushes the oldest frame with a load for which store n of f is now the nearest, and all younger
@@ -95,7 +99,8 @@ checked n f fs = cond (violated (nearest (at f.stores) n) f.loads) []
 abbrev pub store_resolved : ℕ → Frame → List Frame → Option (ℕ × Inst) → List Frame
 store_resolved n f fs None = f ∷ fs
 store_resolved n f fs (Some q) =
-    checked n (with_store n (stored_of q.1 (at f.spots q.0) (at f.spots (128 + q.0))) f) fs
+    checked n (with_store n (stored_of q.1 (at f.spots q.0) (at f.spots (128 + q.0)))
+    (mark_with f (slot_node f.code q.0)) f) fs
 
 -- resolves the store that waits with number n
 abbrev pub store : ℕ → Older → Frame → List Frame → List Frame

@@ -1,5 +1,5 @@
 -- What a frame sees of the older frames and of the committed state: one fold over the older frames.
-use Rattle.std.specs.Prelude.{ℕ, zero, suc, ◌+◌, ◌*◌, ◌==◌, Bool, true, false, cond, ◌&&◌, ◌||◌, not, List}
+use Rattle.std.specs.Prelude.{ℕ, zero, suc, ◌+◌, ◌==◌, Bool, true, false, cond, ◌&&◌, ◌||◌, not, List}
 use Rattle.std.specs.Prelude.{[], ◌∷◌, Option, Some, None}
 use Rattle.std.specs.Prelude.{slice_index, is_some}
 use Rattle.trips_isa.specs.declared.block.Token.TheVariants.{Null, Word}

@@ -1,16 +1,17 @@
 //! Laws of the window, over its definitions alone; each function's clause is the law.
-ghost use Rattle.std.specs.Prelude.{◌≡◌, ◌<◌, ◌≤◌, ◌==◌, ℕ, Bool, true, false, List, ◌∷◌, length};
+ghost use Rattle.std.specs.Prelude.{◌≡◌, ◌<◌, ◌≤◌, ◌==◌, ℕ, suc, Bool, true, false, List, [], ◌∷◌, length};
 ghost use Rattle.std.specs.Prelude.{Option, Some, slice_set};
 ghost use Rattle.std.specs.List.{list_any};
 ghost use Rattle.trips_isa.specs.declared.block.Block.{Block};
-ghost use Rattle.trips_isa.specs.declared.run.Stepped.TheVariants.{Went};
+ghost use Rattle.trips_isa.specs.declared.run.Stepped.TheVariants.{Went, Trap};
 ghost use Rattle.trips_isa.specs.Stores.{data_size};
-ghost use Rattle.trips_isa.specs.Machine.{apply, start};
+ghost use Rattle.trips_isa.specs.Outcomes.{unless};
+ghost use Rattle.trips_isa.specs.Machine.{come_to, start};
 ghost use Rattle.commit_flush_spec.specs.Causes.{Cause, Done, NotNow};
 ghost use Rattle.commit_flush_spec.specs.Frames.{Frame, at};
 ghost use Rattle.commit_flush_spec.specs.Older.{Older};
 ghost use Rattle.commit_flush_spec.specs.Numbered.{by_age, seen_at};
-ghost use Rattle.commit_flush_spec.specs.Ends.{outputs};
+ghost use Rattle.commit_flush_spec.specs.Ends.{outputs, cause_held};
 ghost use Rattle.commit_flush_spec.specs.InFlight.{Window, alone, change, in_flight, opened};
 ghost use Rattle.commit_flush_spec.specs.Window.{Event, Flush, Commit, can, done, happens, plays};
 ghost use Rattle.commit_flush_spec.specs.Invariant.{AllGood};
@@ -62,12 +63,15 @@ pub fn flush_leaves_nothing()
 {}
 
 /// Law commit applies outputs: a commit changes the state by the effects that the oldest frame
-/// holds, followed by the system call.
+/// holds, followed by the system call; with a marked output it traps, and no frame is left.
 pub fn commit_applies_outputs()
-    ensures { (blocks : List Block) (budget : ℕ) (w : Window) (f : Frame) (fs : List Frame)
+    ensures applied { (blocks : List Block) (budget : ℕ) (w : Window) (f : Frame) (fs : List Frame)
         → w.frames ≡ f ∷ fs → can blocks budget Commit w ≡ Done
         → ((happens blocks budget Commit w).state, (happens blocks budget Commit w).over)
-        ≡ apply f.code.writes.items (outputs f) w.state }
+        ≡ come_to f.code.writes.items (unless (cause_held f) (outputs f)) w.state }
+    ensures trapped { (blocks : List Block) (budget c : ℕ) (w : Window) (f : Frame) (fs : List Frame)
+        → w.frames ≡ f ∷ fs → can blocks budget Commit w ≡ Done → cause_held f ≡ suc c
+        → happens blocks budget Commit w ≡ record w { over = Trap (suc c); frames = [] } }
 {}
 
 /// A change of one frame is the same where frames are kept by number, with an order of age.
