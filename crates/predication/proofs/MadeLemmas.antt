@@ -12,9 +12,9 @@ use Rattle.predication.specs.declared.work.Named.{Named}
 use Rattle.predication.specs.declared.work.Noted.{Noted}
 use Rattle.predication.specs.declared.work.Names.{Names}
 use Rattle.predication.specs.declared.work.Emitted.{Emitted}
-use Rattle.predication.specs.declared.fault.FlowFault.{FlowFault}
-use Rattle.predication.specs.declared.fault.FlowFault.TheVariants.{TooBig, Memory}
-use Rattle.predication.specs.declared.fault.Part.TheVariants.{Insts, Reads, Writes, Numbers, Exits}
+use Rattle.ir_forms.specs.declared.fault.FlowFault.{FlowFault}
+use Rattle.ir_forms.specs.declared.fault.FlowFault.TheVariants.{TooBig, Memory}
+use Rattle.ir_forms.specs.declared.fault.Part.TheVariants.{Insts, Reads, Writes, Numbers, Exits}
 use Rattle.predication.specs.Environments.{Env, Bits, no_bits, at_start}
 use Rattle.predication.specs.Ifs.{Out, items, touched}
 use Rattle.predication.specs.Tails.{Ending, tail, tail_touched}

@@ -4,10 +4,10 @@ use Rattle.ir_forms.specs.declared.hyper.Exit.{Exit}
 use Rattle.ir_forms.specs.declared.hyper.Exit.TheVariants as exit
 use Rattle.ir_forms.specs.HyperCode.{Tail, Leave, Test, Block}
 use Rattle.ir_forms.specs.HyperFits.{exits_in}
-use Rattle.predication.specs.declared.fault.Part.{Part}
-use Rattle.predication.specs.declared.fault.Part.TheVariants.{Insts, Reads, Writes, Numbers, Exits}
-use Rattle.predication.specs.declared.fault.FlowFault.{FlowFault}
-use Rattle.predication.specs.declared.fault.FlowFault.TheVariants.{TooBig, Memory}
+use Rattle.ir_forms.specs.declared.fault.Part.{Part}
+use Rattle.ir_forms.specs.declared.fault.Part.TheVariants.{Insts, Reads, Writes, Numbers, Exits}
+use Rattle.ir_forms.specs.declared.fault.FlowFault.{FlowFault}
+use Rattle.ir_forms.specs.declared.fault.FlowFault.TheVariants.{TooBig, Memory}
 use Rattle.predication.specs.Converted.{begun, all_nodes, predicated}
 
 -- LABELS

@@ -11,9 +11,8 @@ use crate::branching::items;
 use crate::ending::finish;
 use crate::outputs::flow;
 use crate::work::{Emitted, Names, Work};
-use crate::{FlowFault, Part};
 use base::{Items, Memory};
-use ir_forms::{Exit, FlowBlock, HyperBlock, Tail};
+use ir_forms::{Exit, FlowBlock, FlowFault, HyperBlock, Part, Tail};
 use std::alloc::Global;
 
 // LABELS

@@ -5,7 +5,6 @@ mod branching;
 mod conversion;
 mod emitting;
 mod ending;
-mod fault;
 mod joining;
 mod laws;
 mod naming;
@@ -15,7 +14,6 @@ mod reading;
 mod work;
 
 pub use conversion::{convert, labels_fit};
-pub use fault::{FlowFault, Part};
 pub use laws::{
     converted_blocks_are_regular, converted_blocks_are_tidy, converted_blocks_fit,
     converted_blocks_mean_the_same, fitting_blocks_are_taken, resolved_labels_are_addresses,
