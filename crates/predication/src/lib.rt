@@ -18,3 +18,4 @@ pub use laws::{
     converted_blocks_are_regular, converted_blocks_are_tidy, converted_blocks_fit,
     converted_blocks_mean_the_same, fitting_blocks_are_taken, resolved_labels_are_addresses,
 };
+pub use work::Entry;

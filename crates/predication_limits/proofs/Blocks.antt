@@ -9,7 +9,7 @@ use Rattle.std.proofs.lemmas.Bool.Decides.{nat_tests}
 use Rattle.trips_isa.specs.declared.form.Form.{Form}
 use Rattle.trips_isa.specs.declared.form.Form.TheVariants as form
 use Rattle.trips_isa.specs.Forms.{form_of, role_of}
-use Rattle.block_cases.specs.Cases.{is_copy}
+use Rattle.block_cases.specs.Choosers.{is_copy}
 use Rattle.ir_forms.specs.declared.flow.FlowSource.{FlowSource}
 use Rattle.ir_forms.specs.declared.flow.FlowSource.TheVariants.{Node}
 use Rattle.ir_forms.specs.declared.flow.Guard.{Guard}
@@ -19,7 +19,8 @@ use Rattle.ir_forms.specs.FlowFits.{in_mask}
 use Rattle.ir_forms.specs.HyperCode.{Block}
 use Rattle.ir_forms.specs.HyperFits.{FitsItems, ifs_in, items_in}
 use Rattle.hyper_build.specs.Smallness.{TestsJump}
-use Rattle.predication.specs.Environments.{Entry, Env, no_bits, at_start, member}
+use Rattle.predication.specs.declared.work.Entry.{Entry}
+use Rattle.predication.specs.Environments.{Env, no_bits, at_start, member}
 use Rattle.predication.specs.Converted.{begun, ended, all_nodes, all_touched, writes_below, reads_in, nodes_read}
 use Rattle.predication.specs.Converted.{writes_read, has_store, stores_as, mask_below, predicated}
 use Rattle.predication.proofs.Regular.{mask_says, read_once}

@@ -2,7 +2,8 @@
 use Rattle.std.proofs.Common.{◌≡◌, ℕ, zero, suc, ◌+◌, ◌*◌, ◌^◌, ◌≤◌, Bool, true, false, List}
 use Rattle.std.proofs.Common.{[], ◌∷◌, length, refl, sym, ap, ap₂, ◌∙◌, arith, slice_get}
 use Rattle.block_cases.specs.Nodes.{one_if}
-use Rattle.block_cases.specs.Cases.{is_chooser, has_bit, ones_pass, is_case, count, present, token}
+use Rattle.block_cases.specs.Choosers.{is_chooser}
+use Rattle.block_cases.specs.Cases.{has_bit, ones_pass, is_case, count, present, token}
 use Rattle.predication_limits.specs.Choosers.{passing, CasesAreFew}
 use Rattle.block_cases.proofs.Alike.{and_true, both_true}
 

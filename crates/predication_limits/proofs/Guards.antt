@@ -9,8 +9,10 @@ use Rattle.trips_isa.specs.declared.node.Node.{Node as NodeOf}
 use Rattle.trips_isa.specs.declared.block.Block.{Block}
 use Rattle.trips_isa.specs.Forms.{role_of}
 use Rattle.trips_isa.specs.Places.{read_node, inst_node, nodes_of, targets, names}
-use Rattle.block_cases.specs.Cases.{is_copy, no, names_predicate, through, leads_from, leads}
-use Rattle.block_cases.specs.Cases.{is_chooser, cases, deepest}
+use Rattle.block_cases.specs.Choosers.{is_copy, names_predicate, through, leads_from, leads}
+use Rattle.block_cases.specs.CaseRule.{no}
+use Rattle.block_cases.specs.Choosers.{is_chooser}
+use Rattle.block_cases.specs.Cases.{cases, deepest}
 use Rattle.block_cases.proofs.Alike.{and_true, or_true, passes}
 use Rattle.ir_forms.specs.declared.flow.FlowSource.{FlowSource}
 use Rattle.ir_forms.specs.declared.flow.FlowSource.TheVariants.{Node}

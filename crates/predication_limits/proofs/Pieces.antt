@@ -6,13 +6,14 @@ use Rattle.std.proofs.lemmas.Bool.Decides.{nat_tests}
 use Rattle.trips_isa.specs.declared.op.Op.{Op}
 use Rattle.trips_isa.specs.declared.op.Op.TheVariants as op
 use Rattle.trips_isa.specs.Forms.{role_of}
-use Rattle.block_cases.specs.Cases.{is_copy}
+use Rattle.block_cases.specs.Choosers.{is_copy}
 use Rattle.ir_forms.specs.declared.hyper.Source.{Source}
 use Rattle.ir_forms.specs.declared.hyper.Source.TheVariants.{Const, Reg}
 use Rattle.ir_forms.specs.declared.flow.FlowSource.{FlowSource}
 use Rattle.ir_forms.specs.declared.flow.FlowSource.TheVariants.{Read, Node}
 use Rattle.ir_forms.specs.declared.flow.FlowNode.{FlowNode}
-use Rattle.predication.specs.Environments.{Entry, Env, Bits, put, note, from_node}
+use Rattle.predication.specs.declared.work.Entry.{Entry}
+use Rattle.predication.specs.Environments.{Env, Bits, put, note, from_node}
 use Rattle.predication.specs.Converted.{reads_in}
 use Rattle.predication.specs.Operands.{Chain, Got, constant_of, longer, chain, read_of, operand, second, is_test}
 use Rattle.predication.specs.Operands.{bit_of, test_of, fresh_test, test_by, tested}

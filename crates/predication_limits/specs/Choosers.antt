@@ -2,7 +2,8 @@
 use Rattle.std.specs.Prelude.{ℕ, zero, suc, ◌+◌, ◌^◌, ◌≤◌, Bool, List, length, slice_get}
 use Rattle.trips_isa.specs.declared.node.Node.{Node}
 use Rattle.block_cases.specs.Nodes.{one_if}
-use Rattle.block_cases.specs.Cases.{is_chooser, cases}
+use Rattle.block_cases.specs.Choosers.{is_chooser}
+use Rattle.block_cases.specs.Cases.{cases}
 
 -- how many of the first n numbers pass a test
 abbrev pub passing : (ℕ → Bool) → ℕ → ℕ

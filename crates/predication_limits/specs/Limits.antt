@@ -13,9 +13,10 @@ use Rattle.predication.specs.Tails.{labelled}
 use Rattle.predication.specs.Converted.{begun, predicated}
 use Rattle.predication.specs.Laws as predication
 use Rattle.null_outputs.specs.Wants.{complete}
-use Rattle.fan_out.specs.declared.fault.FlowFault.{FlowFault}
-use Rattle.fan_out.specs.declared.fault.FlowFault.TheVariants.{Memory}
-use Rattle.fan_out.specs.Refusals.{IsRefusal}
+use Rattle.ir_forms.specs.declared.fault.FlowFault.{FlowFault}
+use Rattle.ir_forms.specs.declared.fault.FlowFault.TheVariants.{Memory}
+use Rattle.null_outputs.specs.Refusals as null_outputs
+use Rattle.fan_out.specs.Refusals as fan_out_refusals
 use Rattle.fan_out.specs.Targeted as fan_out
 
 -- the parts of a block's flow block, each within the machine's limit
@@ -49,8 +50,11 @@ CutProgramsFit =
     → AreAssigned P lists groups → length (built_program (plan_of [] groups) P) ≤ 524288 → (k : ℕ)
     (b : Block) → slice_get (built_program (plan_of [] groups) P) k ≡ Some b → FitsMachine b
 
--- such a block is refused for want of memory alone where it is given targets
+-- neither completing nor giving targets refuses the block but for want of memory
+pub record IsNeverTooBig (b : Block) : Type 0 where
+  pub completing : (e : FlowFault) → null_outputs.IsRefusal (predicated (labelled b)) e → e ≡ Memory
+  pub targeting : (e : FlowFault) → fan_out_refusals.IsRefusal (complete (predicated (labelled b))) e
+      → e ≡ Memory
+
 abbrev pub OnlyMemoryRefuses : Type 0
-OnlyMemoryRefuses =
-    (b : Block) → FitsMachine b → (e : FlowFault) → IsRefusal (complete (predicated (labelled b))) e
-    → e ≡ Memory
+OnlyMemoryRefuses = (b : Block) → FitsMachine b → IsNeverTooBig b

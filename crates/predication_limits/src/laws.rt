@@ -17,7 +17,7 @@ pub fn cut_programs_fit()
     ensures { CutProgramsFit }
 {}
 
-/// Such a block is given targets, unless memory is wanting.
+/// Such a block is completed and given targets, unless memory is wanting.
 pub fn only_memory_refuses()
     ensures { OnlyMemoryRefuses }
 {}
