@@ -157,7 +157,7 @@ inst_nodes_same r j [] = refl
 inst_nodes_same r j (None ∷ is) = ap (λ x. inst_node j None ∷ x) (inst_nodes_same r (suc j) is)
 inst_nodes_same r j (Some i ∷ is) = ap (λ x. inst_node j (Some i) ∷ x) (inst_nodes_same r (suc j) is)
 
-nodes_same : (r : Resolves) (t : Block) → nodes_of (resolved_block r t) ≡ nodes_of t
+pub nodes_same : (r : Resolves) (t : Block) → nodes_of (resolved_block r t) ≡ nodes_of t
 nodes_same r t = ap (λ x. map read_node t.reads.items ++ x) (inst_nodes_same r 0 t.insts.items)
 
 pub index_map : (r : Resolves) (is : List (Option Inst)) (s : ℕ)

@@ -23,7 +23,7 @@ use Rattle.hyper_build.specs.Build.{call_block, give, body_end, entry_in, entry,
 use Rattle.hyper_build.specs.Routines.{way_out, place_of, way_in, parameters_size, body_label}
 use Rattle.hyper_build.specs.Routines.{body_entry, routine_size, routine_blocks, all_blocks, entry_from}
 use Rattle.hyper_build.specs.Routines.{built}
-use Rattle.hyper_build.specs.Smallness.{IsGroupBlock, IsLittle, CutsAll}
+use Rattle.hyper_build.specs.Smallness.{TestsJump, IsGroupBlock, IsLittle, CutsAll}
 
 abbrev AllLittle : List Block → Type 0
 AllLittle [] = Unit {0}
@@ -38,15 +38,25 @@ pub record Rest (n : ℕ) (b : Block) : Type 0 where
   pub items : items_in b.items ≤ n
   pub tests : ifs_in b.items + tests_in b.tail ≤ 1
   pub exits : exits_in b.tail ≤ 2
+  pub plain : ifs_in b.items ≡ 0
+  pub jumps : TestsJump b.tail
 
 little : (b : Block) → Rest 3 b → IsLittle b
-little b r = inl (record { items = r.items; tests = r.tests; exits = r.exits })
+little b r = inl (record {
+  small = record { items = r.items; tests = r.tests; exits = r.exits };
+  plain = r.plain;
+  jumps = r.jumps;
+})
+
+simple : (b : Block) → items_in b.items ≤ 3 → ifs_in b.items + tests_in b.tail ≤ 1
+    → exits_in b.tail ≤ 2 → ifs_in b.items ≡ 0 → TestsJump b.tail → IsLittle b
+simple b i t e p j = little b (record { items = i; tests = t; exits = e; plain = p; jumps = j })
 
 jump_rest : (l : ℕ) → Rest 0 (jump l)
-jump_rest l = record { items = omega arith; tests = omega arith; exits = omega arith }
+jump_rest l = record { items = omega arith; tests = omega arith; exits = omega arith; plain = refl; jumps = tt }
 
 little_jump : (l : ℕ) → IsLittle (jump l)
-little_jump l = inl (record { items = omega arith; tests = omega arith; exits = omega arith })
+little_jump l = simple _ (omega arith) (omega arith) (omega arith) refl tt
 
 -- CUT CODE
 
@@ -99,7 +109,7 @@ restores_all frame (g ∷ gs) l k a s =
 
 result_little : (to : Option ℕ) (l : ℕ) → IsLittle (result_then to (jump l))
 result_little None l = little_jump l
-result_little (Some v) l = inl (record { items = omega arith; tests = omega arith; exits = omega arith })
+result_little (Some v) l = simple _ (omega arith) (omega arith) (omega arith) refl tt
 
 -- PASSING
 
@@ -107,15 +117,15 @@ result_little (Some v) l = inl (record { items = omega arith; tests = omega arit
 arguments_little : (xs : List Arg) (l f back : ℕ) → length xs ≤ 8
     → IsLittle (moved (argument_cuts true) 0 (argument_moves 0 xs) l (call_block f back))
     × AllLittle (moved_blocks (argument_cuts true) 0 (argument_moves 0 xs) l (call_block f back))
-arguments_little [] l f back le = (little _ (record { items = omega arith; tests = omega arith; exits = omega arith }), tt)
-arguments_little (a ∷ []) l f back le = (little _ (record { items = omega arith; tests = omega arith; exits = omega arith }), tt)
-arguments_little (a ∷ b ∷ []) l f back le = (little _ (record { items = omega arith; tests = omega arith; exits = omega arith }), tt)
-arguments_little (a ∷ b ∷ c ∷ []) l f back le = (little _ (record { items = omega arith; tests = omega arith; exits = omega arith }), (little _ (record { items = omega arith; tests = omega arith; exits = omega arith }), tt))
-arguments_little (a ∷ b ∷ c ∷ d ∷ []) l f back le = (little _ (record { items = omega arith; tests = omega arith; exits = omega arith }), (little _ (record { items = omega arith; tests = omega arith; exits = omega arith }), tt))
-arguments_little (a ∷ b ∷ c ∷ d ∷ e ∷ []) l f back le = (little _ (record { items = omega arith; tests = omega arith; exits = omega arith }), (little _ (record { items = omega arith; tests = omega arith; exits = omega arith }), tt))
-arguments_little (a ∷ b ∷ c ∷ d ∷ e ∷ g ∷ []) l f back le = (little _ (record { items = omega arith; tests = omega arith; exits = omega arith }), (little _ (record { items = omega arith; tests = omega arith; exits = omega arith }), (little _ (record { items = omega arith; tests = omega arith; exits = omega arith }), tt)))
-arguments_little (a ∷ b ∷ c ∷ d ∷ e ∷ g ∷ h ∷ []) l f back le = (little _ (record { items = omega arith; tests = omega arith; exits = omega arith }), (little _ (record { items = omega arith; tests = omega arith; exits = omega arith }), (little _ (record { items = omega arith; tests = omega arith; exits = omega arith }), tt)))
-arguments_little (a ∷ b ∷ c ∷ d ∷ e ∷ g ∷ h ∷ i ∷ []) l f back le = (little _ (record { items = omega arith; tests = omega arith; exits = omega arith }), (little _ (record { items = omega arith; tests = omega arith; exits = omega arith }), (little _ (record { items = omega arith; tests = omega arith; exits = omega arith }), tt)))
+arguments_little [] l f back le = (simple _ (omega arith) (omega arith) (omega arith) refl tt, tt)
+arguments_little (a ∷ []) l f back le = (simple _ (omega arith) (omega arith) (omega arith) refl tt, tt)
+arguments_little (a ∷ b ∷ []) l f back le = (simple _ (omega arith) (omega arith) (omega arith) refl tt, tt)
+arguments_little (a ∷ b ∷ c ∷ []) l f back le = (simple _ (omega arith) (omega arith) (omega arith) refl tt, (simple _ (omega arith) (omega arith) (omega arith) refl tt, tt))
+arguments_little (a ∷ b ∷ c ∷ d ∷ []) l f back le = (simple _ (omega arith) (omega arith) (omega arith) refl tt, (simple _ (omega arith) (omega arith) (omega arith) refl tt, tt))
+arguments_little (a ∷ b ∷ c ∷ d ∷ e ∷ []) l f back le = (simple _ (omega arith) (omega arith) (omega arith) refl tt, (simple _ (omega arith) (omega arith) (omega arith) refl tt, tt))
+arguments_little (a ∷ b ∷ c ∷ d ∷ e ∷ g ∷ []) l f back le = (simple _ (omega arith) (omega arith) (omega arith) refl tt, (simple _ (omega arith) (omega arith) (omega arith) refl tt, (simple _ (omega arith) (omega arith) (omega arith) refl tt, tt)))
+arguments_little (a ∷ b ∷ c ∷ d ∷ e ∷ g ∷ h ∷ []) l f back le = (simple _ (omega arith) (omega arith) (omega arith) refl tt, (simple _ (omega arith) (omega arith) (omega arith) refl tt, (simple _ (omega arith) (omega arith) (omega arith) refl tt, tt)))
+arguments_little (a ∷ b ∷ c ∷ d ∷ e ∷ g ∷ h ∷ i ∷ []) l f back le = (simple _ (omega arith) (omega arith) (omega arith) refl tt, (simple _ (omega arith) (omega arith) (omega arith) refl tt, (simple _ (omega arith) (omega arith) (omega arith) refl tt, tt)))
 arguments_little (a ∷ b ∷ c ∷ d ∷ e ∷ g ∷ h ∷ i ∷ j ∷ xs) l f back le = absurd (omega (arith, le))
 
 -- parameters, after two items of the way in
@@ -123,15 +133,15 @@ parameters_little : (small : Bool) (n l x : ℕ) (body : Block) → small ≡ tr
     → Rest 1 (moved (parameter_cuts small) 0 (parameter_moves 0 n) l (cut small x body))
     × AllLittle (moved_blocks (parameter_cuts small) 0 (parameter_moves 0 n) l (cut small x body))
 parameters_little false n l x body e le = absurd (cc e)
-parameters_little true zero l x body e le = (record { items = omega arith; tests = omega arith; exits = omega arith }, tt)
-parameters_little true (suc zero) l x body e le = (record { items = omega arith; tests = omega arith; exits = omega arith }, (little _ (record { items = omega arith; tests = omega arith; exits = omega arith }), tt))
-parameters_little true (suc (suc zero)) l x body e le = (record { items = omega arith; tests = omega arith; exits = omega arith }, (little _ (record { items = omega arith; tests = omega arith; exits = omega arith }), tt))
-parameters_little true (suc (suc (suc zero))) l x body e le = (record { items = omega arith; tests = omega arith; exits = omega arith }, (little _ (record { items = omega arith; tests = omega arith; exits = omega arith }), tt))
-parameters_little true (suc (suc (suc (suc zero)))) l x body e le = (record { items = omega arith; tests = omega arith; exits = omega arith }, (little _ (record { items = omega arith; tests = omega arith; exits = omega arith }), (little _ (record { items = omega arith; tests = omega arith; exits = omega arith }), tt)))
-parameters_little true (suc (suc (suc (suc (suc zero))))) l x body e le = (record { items = omega arith; tests = omega arith; exits = omega arith }, (little _ (record { items = omega arith; tests = omega arith; exits = omega arith }), (little _ (record { items = omega arith; tests = omega arith; exits = omega arith }), tt)))
-parameters_little true (suc (suc (suc (suc (suc (suc zero)))))) l x body e le = (record { items = omega arith; tests = omega arith; exits = omega arith }, (little _ (record { items = omega arith; tests = omega arith; exits = omega arith }), (little _ (record { items = omega arith; tests = omega arith; exits = omega arith }), tt)))
-parameters_little true (suc (suc (suc (suc (suc (suc (suc zero))))))) l x body e le = (record { items = omega arith; tests = omega arith; exits = omega arith }, (little _ (record { items = omega arith; tests = omega arith; exits = omega arith }), (little _ (record { items = omega arith; tests = omega arith; exits = omega arith }), (little _ (record { items = omega arith; tests = omega arith; exits = omega arith }), tt))))
-parameters_little true (suc (suc (suc (suc (suc (suc (suc (suc zero)))))))) l x body e le = (record { items = omega arith; tests = omega arith; exits = omega arith }, (little _ (record { items = omega arith; tests = omega arith; exits = omega arith }), (little _ (record { items = omega arith; tests = omega arith; exits = omega arith }), (little _ (record { items = omega arith; tests = omega arith; exits = omega arith }), tt))))
+parameters_little true zero l x body e le = (record { items = omega arith; tests = omega arith; exits = omega arith; plain = refl; jumps = tt }, tt)
+parameters_little true (suc zero) l x body e le = (record { items = omega arith; tests = omega arith; exits = omega arith; plain = refl; jumps = tt }, (simple _ (omega arith) (omega arith) (omega arith) refl tt, tt))
+parameters_little true (suc (suc zero)) l x body e le = (record { items = omega arith; tests = omega arith; exits = omega arith; plain = refl; jumps = tt }, (simple _ (omega arith) (omega arith) (omega arith) refl tt, tt))
+parameters_little true (suc (suc (suc zero))) l x body e le = (record { items = omega arith; tests = omega arith; exits = omega arith; plain = refl; jumps = tt }, (simple _ (omega arith) (omega arith) (omega arith) refl tt, tt))
+parameters_little true (suc (suc (suc (suc zero)))) l x body e le = (record { items = omega arith; tests = omega arith; exits = omega arith; plain = refl; jumps = tt }, (simple _ (omega arith) (omega arith) (omega arith) refl tt, (simple _ (omega arith) (omega arith) (omega arith) refl tt, tt)))
+parameters_little true (suc (suc (suc (suc (suc zero))))) l x body e le = (record { items = omega arith; tests = omega arith; exits = omega arith; plain = refl; jumps = tt }, (simple _ (omega arith) (omega arith) (omega arith) refl tt, (simple _ (omega arith) (omega arith) (omega arith) refl tt, tt)))
+parameters_little true (suc (suc (suc (suc (suc (suc zero)))))) l x body e le = (record { items = omega arith; tests = omega arith; exits = omega arith; plain = refl; jumps = tt }, (simple _ (omega arith) (omega arith) (omega arith) refl tt, (simple _ (omega arith) (omega arith) (omega arith) refl tt, tt)))
+parameters_little true (suc (suc (suc (suc (suc (suc (suc zero))))))) l x body e le = (record { items = omega arith; tests = omega arith; exits = omega arith; plain = refl; jumps = tt }, (simple _ (omega arith) (omega arith) (omega arith) refl tt, (simple _ (omega arith) (omega arith) (omega arith) refl tt, (simple _ (omega arith) (omega arith) (omega arith) refl tt, tt))))
+parameters_little true (suc (suc (suc (suc (suc (suc (suc (suc zero)))))))) l x body e le = (record { items = omega arith; tests = omega arith; exits = omega arith; plain = refl; jumps = tt }, (simple _ (omega arith) (omega arith) (omega arith) refl tt, (simple _ (omega arith) (omega arith) (omega arith) refl tt, (simple _ (omega arith) (omega arith) (omega arith) refl tt, tt))))
 parameters_little true (suc (suc (suc (suc (suc (suc (suc (suc (suc n))))))))) l x body e le = absurd (omega (arith, le))
 
 -- CODE
@@ -143,10 +153,11 @@ leg_little (Some x) first others a b = tt
 
 give_little : (v : Option Arg) (k : Block) → Rest 2 k → IsLittle (give v k)
 give_little None k r =
-    let i = r.items in little k (record { items = omega (arith, i); tests = r.tests; exits = r.exits })
+    let i = r.items in
+    little k (record { items = omega (arith, i); tests = r.tests; exits = r.exits; plain = r.plain; jumps = r.jumps })
 give_little (Some a) k r =
     let i = r.items in let t = r.tests in
-    inl (record { items = omega (arith, i); tests = omega (arith, t); exits = r.exits })
+    little _ (record { items = omega (arith, i); tests = omega (arith, t); exits = r.exits; plain = r.plain; jumps = r.jumps })
 
 call_little : (p : Place) (f : ℕ) (args : List Arg) (to : Option ℕ) (groups : List (List ℕ)) (l : ℕ)
     (k : Block) → AreSmall groups → length args ≤ 8 → IsLittle k
@@ -171,27 +182,27 @@ mutual
   little_in : (p : Place) (st : Stmt) (l : ℕ) (k : Block) → IsCutStmt st → Rest 2 p.gave → IsLittle k
       → IsLittle (entry_in p st l k) × AllLittle (blocks_in p st l k)
   little_in p (LetAt true to op a b) l k t g s =
-      (inl (record { items = omega arith; tests = omega arith; exits = omega arith }), (s, tt))
+      (simple _ (omega arith) (omega arith) (omega arith) refl tt, (s, tt))
   little_in p (FrameAt true to at) l k t g s =
-      (inl (record { items = omega arith; tests = omega arith; exits = omega arith }), (s, tt))
+      (simple _ (omega arith) (omega arith) (omega arith) refl tt, (s, tt))
   little_in p (LoadAt true to op a) l k t g s =
-      (inl (record { items = omega arith; tests = omega arith; exits = omega arith }), (s, tt))
+      (simple _ (omega arith) (omega arith) (omega arith) refl tt, (s, tt))
   little_in p (SaveAt true op a v) l k t g s =
-      (inl (record { items = omega arith; tests = omega arith; exits = omega arith }), (s, tt))
+      (simple _ (omega arith) (omega arith) (omega arith) refl tt, (s, tt))
   little_in p (CallAt true true f args to groups) l k t g s =
       call_little p f args to groups l k t.2 t.3 s
   little_in p (PutAt v) l k t g s =
-      (inl (record { items = omega arith; tests = omega arith; exits = omega arith }), (s, tt))
+      (simple _ (omega arith) (omega arith) (omega arith) refl tt, (s, tt))
   little_in p (GetAt true to) l k t g s = (
-    inl (record { items = omega arith; tests = omega arith; exits = omega arith }),
-    (inl (record { items = omega arith; tests = omega arith; exits = omega arith }), (s, tt)),
+    simple _ (omega arith) (omega arith) (omega arith) refl tt,
+    (simple _ (omega arith) (omega arith) (omega arith) refl tt, (s, tt)),
   )
   little_in p (IfAt true false a one other) l k t g s =
       let l1 = l + leg_size one (size one) in
       let join = l1 + leg_size other (size other) in
       let u = little_tree p one (l + 1) (jump join) t.2 g (little_jump join) in
       let v = little_tree p other (l1 + 1) (jump join) t.3 g (little_jump join) in (
-        inl (record { items = omega arith; tests = omega arith; exits = omega arith }),
+        simple _ (omega arith) (omega arith) (omega arith) refl (tt, tt),
         little_append (leg_blocks (exit_leg p join one) (entry p one (l + 1) (jump join))
             (blocks p one (l + 1) (jump join))) _ (leg_little (exit_leg p join one) _ _ u.0 u.1)
             (little_append (leg_blocks (exit_leg p join other) (entry p other (l1 + 1) (jump join))
@@ -235,7 +246,7 @@ mutual
 -- FUNCTIONS
 
 out_rest : (g : Routine) → Rest 2 (way_out g)
-out_rest g = record { items = omega arith; tests = omega arith; exits = omega arith }
+out_rest g = record { items = omega arith; tests = omega arith; exits = omega arith; plain = refl; jumps = tt }
 
 -- a function whose code is cut, with at most eight parameters
 pub record IsCutRoutine (g : Routine) : Type 0 where
@@ -253,13 +264,19 @@ routine_little end entries e g t =
     let body = body_entry g entries e in
     let r = out_rest g in
     let x = little_tree (place_of g entries) g.body (body_label g e) (way_out g) t.body r
-    (little (way_out g) (record { items = omega arith; tests = omega arith; exits = omega arith })) in
+    (little (way_out g) (record { items = omega arith; tests = omega arith; exits = omega arith; plain = refl; jumps = tt })) in
     let w = parameters_little g.small g.params (e + 2) (e + 2 + parameters_size g) body t.small t.few in
     let i = w.0.items in
     let ts = w.0.tests in (
-      inl (record { items = omega arith; tests = omega arith; exits = omega arith }),
+      simple _ (omega arith) (omega arith) (omega arith) refl (tt, tt),
       (
-        inl (record { items = omega (arith, i); tests = omega (arith, ts); exits = w.0.exits }),
+        little _ (record {
+          items = omega (arith, i);
+          tests = omega (arith, ts);
+          exits = w.0.exits;
+          plain = w.0.plain;
+          jumps = w.0.jumps;
+        }),
         little_append (moved_blocks (parameter_cuts g.small) 0 (parameter_moves 0 g.params) (e + 2) _) _
             w.1 (little_append (cut_blocks g.small body) _ (cuts_little g.small body x.0) x.1),
       ),
@@ -285,11 +302,11 @@ pub built_little : (base : ℕ) (gs : List Routine) (main : ℕ)
     → slice_get (built base gs main) k ≡ Some b → IsLittle b
 built_little base gs main t k b e =
     little_at (built base gs main) k b e (
-      inl (record { items = omega arith; tests = omega arith; exits = omega arith }),
+      simple _ (omega arith) (omega arith) (omega arith) refl tt,
       (
-        inl (record { items = omega arith; tests = omega arith; exits = omega arith }),
+        simple _ (omega arith) (omega arith) (omega arith) refl tt,
         (
-          inl (record { items = omega arith; tests = omega arith; exits = omega arith }),
+          simple _ (omega arith) (omega arith) (omega arith) refl tt,
           all_little (base + frame_limit) (entry_from 3 gs) 3 gs t,
         ),
       ),

@@ -1,10 +1,12 @@
--- Blocks of a plan that cuts everywhere: small ones, and those that save or restore a group.
+-- Blocks of a plan that cuts everywhere: small ones without if-items, and those that save or restore a
+-- group.
 use Rattle.std.specs.Prelude.{◌≡◌, ◌⊎◌, ℕ, ◌≤◌, true, false, List, [], length, Some}
 use Rattle.std.specs.Prelude.{slice_get}
 use Rattle.ir_forms.specs.FlatCode.{Program}
 use Rattle.ir_forms.specs.FlatFits.{FitsProgram}
-use Rattle.ir_forms.specs.HyperCode.{Block}
-use Rattle.ir_forms.specs.HyperFits.{IsSmall}
+use Rattle.ir_forms.specs.declared.hyper.Exit.TheVariants as exit
+use Rattle.ir_forms.specs.HyperCode.{Tail, Leave, Test, Block}
+use Rattle.ir_forms.specs.HyperFits.{IsSmall, ifs_in}
 use Rattle.ir_forms.specs.HyperRuns.{jump}
 use Rattle.reg_assign.specs.Live.{AreSmall}
 use Rattle.hyper_build.specs.Tree.{Plan}
@@ -19,8 +21,27 @@ pub record IsGroupBlock (b : Block) : Type 0 where
   pub few : length variables ≤ 16
   pub is : (b ≡ saving frame variables (jump to)) ⊎ (b ≡ restoring frame variables (jump to))
 
+-- an end that jumps at once
+abbrev pub IsJump : Tail → Type 0
+IsJump (Leave (exit.Jump l)) = Unit {0}
+IsJump (Leave (exit.Call l back)) = ⊥
+IsJump (Leave exit.Return) = ⊥
+IsJump (Leave (exit.System l)) = ⊥
+IsJump (Test t one other) = ⊥
+
+-- each test of an end chooses between two jumps
+abbrev pub TestsJump : Tail → Type 0
+TestsJump (Leave e) = Unit {0}
+TestsJump (Test t one other) = IsJump one × IsJump other
+
+-- a small block that has a test only at its end, between two jumps
+pub record IsSimple (b : Block) : Type 0 where
+  pub small : IsSmall b
+  pub plain : ifs_in b.items ≡ 0
+  pub jumps : TestsJump b.tail
+
 abbrev pub IsLittle : Block → Type 0
-IsLittle b = IsSmall b ⊎ IsGroupBlock b
+IsLittle b = IsSimple b ⊎ IsGroupBlock b
 
 -- a plan that cuts at every place, joins nothing, and has groups of at most 16 variables
 pub record CutsAll (p : Plan) : Type 0 where

@@ -28,7 +28,8 @@ pub fn built_programs_are_blocks()
     ensures { BuildGivesBlocks }
 {}
 
-/// Where a plan cuts at every place each block is small, or saves or restores one group.
+/// Where a plan cuts at every place each block is small, with a test only at its end between two jumps,
+/// or saves or restores one group.
 pub fn cut_blocks_are_little()
     ensures { CutBlocksAreLittle }
 {}

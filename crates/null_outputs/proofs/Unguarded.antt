@@ -1,8 +1,7 @@
--- Where nothing is guarded, all nodes are firm, no cover is wanted and nothing is added.
+-- Where outputs hang on unguarded nodes, these are firm, no cover is wanted and nothing is added.
 use Rattle.std.proofs.Common.{◌≡◌, ℕ, zero, suc, ◌+◌, ◌<◌, ◌≤◌, List, [], ◌∷◌, ◌++◌, get_or, length}
 use Rattle.std.proofs.Common.{refl, sym, ap, ap₂, subst, ◌∙◌, arith, cond, Bool, true, false, not, ◌&&◌, ◌||◌}
 use Rattle.std.specs.Prelude.{Option, Some, None, slice_get}
-use Rattle.std.proofs.lemmas.Option.{slice_get_within}
 use Rattle.trips_isa.specs.declared.form.Form.{Form}
 use Rattle.trips_isa.specs.declared.form.Form.TheVariants as form
 use Rattle.trips_isa.specs.Forms.{form_of, role_of, takes_left, takes_right}
@@ -46,12 +45,15 @@ not_open false u f = refl
 both_firm : (a c : Bool) → a ≡ false → c ≡ false → (not a && not c) ≡ true
 both_firm a c e f = rw (e, f) refl
 
--- one more that is true
-one_more : (xs : List Bool) (t : Bool) → t ≡ true → ((j : ℕ) → j < length xs → get_or xs j false ≡ true) → (j : ℕ) → j < suc (length xs) → get_or (xs ++ (t ∷ [])) j false ≡ true
-one_more [] t e all zero l = e
-one_more [] t e all (suc j) l = absurd (omega (arith, l))
-one_more (x ∷ xs) t e all zero l = all zero (omega arith)
-one_more (x ∷ xs) t e all (suc j) l = one_more xs t e (λ i li. all (suc i) (omega (arith, li))) j (omega (arith, l))
+-- one more that is true, where something holds of its place
+one_more : (P : ℕ → Type 0) (xs : List Bool) (t : Bool) → (P (length xs) → t ≡ true)
+    → ((j : ℕ) → j < length xs → P j → get_or xs j false ≡ true) → (j : ℕ) → j < suc (length xs) → P j
+    → get_or (xs ++ (t ∷ [])) j false ≡ true
+one_more P [] t e all zero l p = e p
+one_more P [] t e all (suc j) l p = absurd (omega (arith, l))
+one_more P (x ∷ xs) t e all zero l p = all zero (omega arith) p
+one_more P (x ∷ xs) t e all (suc j) l p =
+    one_more (λ (i : ℕ). P (suc i)) xs t e (λ i li. all (suc i) (omega (arith, li))) j (omega (arith, l)) p
 
 length_more : (xs : List Bool) (t : Bool) → length (xs ++ (t ∷ [])) ≡ suc (length xs)
 length_more [] t = refl
@@ -76,53 +78,58 @@ no_end (x ∷ xs) = ap (λ (l : _). x ∷ l) (no_end xs)
 
 module _ (b : FlowBlock) (st : IsStraight b) where
   -- a list that has a source is always there
-  fed_has : (firm : Firm) (y : ℕ) (ss : List FlowSource) → FirmBelow firm y → y ≤ length b.nodes → IsFed y ss → has (scopes b.nodes firm ss) None ≡ true
+  fed_has : (firm : Firm) (y : ℕ) (ss : List FlowSource) → FirmBelow firm y → y ≤ st.front → IsFed y ss → has (scopes b.nodes firm ss) None ≡ true
   fed_has firm y [] a l f = absurd f
   fed_has firm y (Read r ∷ ss) a l f = refl
   fed_has firm y (Node j ∷ ss) a l f =
-      let x = within b.nodes j (omega (arith, f, l)) in
+      let w = st.within in
+      let x = within b.nodes j (omega (arith, f, l, w)) in
       let e : scope_at (firm j) (slice_get b.nodes j) ≡ None ∷ [] =
-      ap₂ (λ (t : Bool) (o : Option FlowNode). scope_at t o) (a j f) x.1 ∙ ap (λ (g : Scope). g ∷ []) (st.guards j x.0 x.1) in
+      ap₂ (λ (t : Bool) (o : Option FlowNode). scope_at t o) (a j f) x.1 ∙ ap (λ (g : Scope). g ∷ []) (st.guards j x.0 (omega (arith, f, l)) x.1) in
       subst (λ (o : List Scope). has (o ++ scopes b.nodes firm ss) None ≡ true) (sym e) refl
 
-  fed_sure : (firm : Firm) (y : ℕ) (ss : List FlowSource) → FirmBelow firm y → y ≤ length b.nodes → IsFed y ss → sure_of b.nodes firm None ss ≡ true
+  fed_sure : (firm : Firm) (y : ℕ) (ss : List FlowSource) → FirmBelow firm y → y ≤ st.front → IsFed y ss → sure_of b.nodes firm None ss ≡ true
   fed_sure firm y ss a l f = recognises_always b.nodes firm None ss (fed_has firm y ss a l f)
 
-  left_there : (firm : Firm) (y : ℕ) (n : FlowNode) → slice_get b.nodes y ≡ Some n → FirmBelow firm y → left_open (sure_of b.nodes firm) n ≡ false
-  left_there firm y n e a =
-      let l = slice_get_within b.nodes y n e in
+  left_there : (firm : Firm) (y : ℕ) (n : FlowNode) → y < st.front → slice_get b.nodes y ≡ Some n → FirmBelow firm y → left_open (sure_of b.nodes firm) n ≡ false
+  left_there firm y n l e a =
       not_open (takes_left (role_of n.op)) (sure_of b.nodes firm n.guard n.left)
-      (λ t. ap (λ (g : Option Guard). sure_of b.nodes firm g n.left) (st.guards y n e) ∙ fed_sure firm y n.left a (omega (arith, l)) (st.left y n e t))
+      (λ t. ap (λ (g : Option Guard). sure_of b.nodes firm g n.left) (st.guards y n l e) ∙ fed_sure firm y n.left a (omega (arith, l)) (st.left y n l e t))
 
-  right_there : (firm : Firm) (y : ℕ) (n : FlowNode) → slice_get b.nodes y ≡ Some n → FirmBelow firm y → right_open (sure_of b.nodes firm) n ≡ false
-  right_there firm y n e a =
-      let l = slice_get_within b.nodes y n e in
+  right_there : (firm : Firm) (y : ℕ) (n : FlowNode) → y < st.front → slice_get b.nodes y ≡ Some n → FirmBelow firm y → right_open (sure_of b.nodes firm) n ≡ false
+  right_there firm y n l e a =
       not_open (takes_right (role_of n.op)) (sure_of b.nodes firm n.guard n.right)
-      (λ t. ap (λ (g : Option Guard). sure_of b.nodes firm g n.right) (st.guards y n e) ∙ fed_sure firm y n.right a (omega (arith, l)) (st.right y n e t))
+      (λ t. ap (λ (g : Option Guard). sure_of b.nodes firm g n.right) (st.guards y n l e) ∙ fed_sure firm y n.right a (omega (arith, l)) (st.right y n l e t))
 
-  node_firm : (firm : Firm) (y : ℕ) (n : FlowNode) → slice_get b.nodes y ≡ Some n → FirmBelow firm y → is_firm b.nodes firm n ≡ true
-  node_firm firm y n e a = both_firm (left_open (sure_of b.nodes firm) n) (right_open (sure_of b.nodes firm) n) (left_there firm y n e a) (right_there firm y n e a)
+  node_firm : (firm : Firm) (y : ℕ) (n : FlowNode) → y < st.front → slice_get b.nodes y ≡ Some n → FirmBelow firm y → is_firm b.nodes firm n ≡ true
+  node_firm firm y n l e a = both_firm (left_open (sure_of b.nodes firm) n) (right_open (sure_of b.nodes firm) n) (left_there firm y n l e a) (right_there firm y n l e a)
 
-  -- all nodes are found firm
-  all_firm : (found : List Bool) (rest : List FlowNode) (z : ℕ) → z ≡ length found + length rest → FirmBelow (firm_of found) (length found)
+  -- the first nodes are found firm
+  abbrev FirmTo : Firm → ℕ → Type 0
+  FirmTo firm k = (j : ℕ) → j < k → j < st.front → firm j ≡ true
+
+  all_firm : (found : List Bool) (rest : List FlowNode) (z : ℕ) → z ≡ length found + length rest → FirmTo (firm_of found) (length found)
       → ((i : ℕ) (n : FlowNode) (y : ℕ) → y ≡ length found + i → slice_get rest i ≡ Some n → slice_get b.nodes y ≡ Some n)
-      → FirmBelow (firm_of (firms_from b.nodes found rest)) z
+      → FirmTo (firm_of (firms_from b.nodes found rest)) z
   all_firm found [] z ez a at = λ j l. a j (omega (arith, ez, l))
   all_firm found (n ∷ rest) z ez a at =
       let t = is_firm b.nodes (firm_of found) n in
-      let e : t ≡ true = node_firm (firm_of found) (length found) n (at zero n (length found) (omega arith) refl) a in
+      let e : length found < st.front → t ≡ true =
+      λ l. node_firm (firm_of found) (length found) n l (at zero n (length found) (omega arith) refl) (λ j k. a j k (omega (arith, k, l))) in
       let m = length_more found t in
-      all_firm (found ++ (t ∷ [])) rest z (omega (arith, ez, m)) (λ j l. one_more found t e a j (omega (arith, l, m)))
+      all_firm (found ++ (t ∷ [])) rest z (omega (arith, ez, m)) (λ j l. one_more (λ (i : ℕ). i < st.front) found t e a j (omega (arith, l, m)))
       (λ i x y ey d. at (suc i) x y (omega (arith, ey, m)) d)
 
   self : {A : Type 0} (xs : List A) (i : ℕ) (x : A) (z : ℕ) → z ≡ 0 + i → slice_get xs i ≡ Some x → slice_get xs z ≡ Some x
   self xs i x z e s = let d : i ≡ z = omega (arith, e) in subst (λ (q : ℕ). slice_get xs q ≡ Some x) d s
 
-  all_found : FirmBelow (firm_of (firms b.nodes)) (length b.nodes)
-  all_found = all_firm [] b.nodes (length b.nodes) (omega arith) (λ j l. absurd (omega (arith, l))) (λ i n y e d. self b.nodes i n y e d)
+  all_found : FirmBelow (firm_of (firms b.nodes)) st.front
+  all_found j l =
+      let w = st.within in
+      all_firm [] b.nodes (length b.nodes) (omega arith) (λ i k. absurd (omega (arith, k))) (λ i n y e d. self b.nodes i n y e d) j (omega (arith, l, w)) l
 
-  list_there : (ss : List FlowSource) → IsFed (length b.nodes) ss → sure_by b None ss ≡ true
-  list_there ss f = fed_sure (firm_of (firms b.nodes)) (length b.nodes) ss all_found (omega arith) f
+  list_there : (ss : List FlowSource) → IsFed st.front ss → sure_by b None ss ≡ true
+  list_there ss f = fed_sure (firm_of (firms b.nodes)) st.front ss all_found (omega arith) f
 
   write_there : (j : ℕ) (w : FlowWrite) → slice_get b.writes j ≡ Some w → sure_by b None w.sources ≡ true
   write_there j w e = list_there w.sources (st.writes j w e)

@@ -84,7 +84,7 @@ GrowsLittle = (b : FlowBlock) → AllFirm (sure_by b) b
 abbrev pub KeepsRegular : Type 0
 KeepsRegular = (b : FlowBlock) → FitsFlow b → IsRegular b → IsRegular (complete b)
 
--- where nothing is guarded, nothing is added
+-- where the outputs hang on nodes that are not guarded, nothing is added
 abbrev pub KeepsStraight : Type 0
 KeepsStraight = (b : FlowBlock) → IsStraight b → complete b ≡ b
 

@@ -1,5 +1,5 @@
--- Blocks in which nothing is guarded and nothing can be absent.
-use Rattle.std.specs.Prelude.{◌≡◌, ℕ, ◌<◌, true, List, [], ◌∷◌, Some, None, slice_get, length}
+-- Blocks whose outputs hang on nodes that are not guarded and cannot be absent.
+use Rattle.std.specs.Prelude.{◌≡◌, ℕ, ◌<◌, ◌≤◌, true, List, [], ◌∷◌, Some, None, slice_get, length}
 use Rattle.trips_isa.specs.Forms.{role_of, takes_left, takes_right}
 use Rattle.ir_forms.specs.declared.flow.FlowSource.{FlowSource}
 use Rattle.ir_forms.specs.declared.flow.FlowSource.TheVariants.{Read, Node}
@@ -19,13 +19,16 @@ abbrev pub IsFed : ℕ → List FlowSource → Type 0
 IsFed y [] = ⊥
 IsFed y (s ∷ ss) = IsBefore y s
 
--- no node is guarded, and each operand, write and number of the mask has a source that stands before it
+-- The first nodes of the block are not guarded, each operand of theirs has a source that stands before
+-- it, and each write and number of the mask has one among them; the nodes behind may be guarded.
 pub record IsStraight (b : FlowBlock) : Type 0 where
-  pub guards : (y : ℕ) (n : FlowNode) → slice_get b.nodes y ≡ Some n → n.guard ≡ None
-  pub left : (y : ℕ) (n : FlowNode) → slice_get b.nodes y ≡ Some n
+  -- how many these are
+  pub front : ℕ
+  pub within : front ≤ length b.nodes
+  pub guards : (y : ℕ) (n : FlowNode) → y < front → slice_get b.nodes y ≡ Some n → n.guard ≡ None
+  pub left : (y : ℕ) (n : FlowNode) → y < front → slice_get b.nodes y ≡ Some n
       → takes_left (role_of n.op) ≡ true → IsFed y n.left
-  pub right : (y : ℕ) (n : FlowNode) → slice_get b.nodes y ≡ Some n
+  pub right : (y : ℕ) (n : FlowNode) → y < front → slice_get b.nodes y ≡ Some n
       → takes_right (role_of n.op) ≡ true → IsFed y n.right
-  pub writes : (j : ℕ) (w : FlowWrite) → slice_get b.writes j ≡ Some w
-      → IsFed (length b.nodes) w.sources
-  pub numbers : (k : ℕ) → in_mask b.mask k ≡ true → IsFed (length b.nodes) (stores_of 0 b.nodes k)
+  pub writes : (j : ℕ) (w : FlowWrite) → slice_get b.writes j ≡ Some w → IsFed front w.sources
+  pub numbers : (k : ℕ) → in_mask b.mask k ≡ true → IsFed front (stores_of 0 b.nodes k)

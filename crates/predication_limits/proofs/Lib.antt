@@ -1,0 +1,11 @@
+pub mod Choosing
+pub mod Prices
+pub mod Flat
+pub mod Pieces
+pub mod Items
+pub mod Ends
+pub mod Members
+pub mod Blocks
+pub mod Little
+pub mod Guards
+pub mod Machine

@@ -1,0 +1,7 @@
+//! The blocks of a plan that cuts everywhere are within the limits of the machine. Nothing of this crate
+//! runs: each function's clause is a law.
+#![tactic(auto)]
+
+mod laws;
+
+pub use laws::{cases_are_few, little_blocks_fit};
