@@ -14,7 +14,8 @@ use Rattle.ir_forms.specs.declared.flow.FlowNode.{FlowNode}
 use Rattle.ir_forms.specs.HyperCode.{Items, Done, Set, Load, Save, If, Tail, Leave, Test, Block}
 use Rattle.ir_forms.specs.FlatFits.{operates, loads, stores}
 use Rattle.ir_forms.specs.HyperFits.{FitsItems, LeadsOn, AllLeadOn, FitsHyper}
-use Rattle.predication.specs.Environments.{Scope, Entry, Env, Bits, no_bits, put, note, from_node, under}
+use Rattle.predication.specs.declared.work.Entry.{Entry}
+use Rattle.predication.specs.Environments.{Scope, Env, Bits, no_bits, put, note, from_node, under}
 use Rattle.predication.specs.Environments.{member, at_start}
 use Rattle.predication.specs.Operands.{node_of, Chain, Got, chain, longer, movs, read_of, operand, second, most_apps}
 use Rattle.predication.specs.Operands.{is_test, bit_of, fresh_test, test_by, tested}
