@@ -6,5 +6,5 @@
 mod law;
 mod lowering;
 
-pub use law::accepted_texts_keep_meaning;
+pub use law::{accepted_texts_keep_meaning, images_mean_texts};
 pub use lowering::lower_text;

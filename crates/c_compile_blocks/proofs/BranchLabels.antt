@@ -1,9 +1,9 @@
 -- The labels of the branches of a predicated block are labels of the program.
-use Rattle.std.proofs.Common.{◌≡◌, ℕ, zero, suc, ◌+◌, ◌/◌, ◌<◌, Bool, true, false, nat_lt, List, [], ◌∷◌}
-use Rattle.std.proofs.Common.{◌++◌, length, Option, Some, None, map, refl, sym, ap, subst, ◌∙◌, cond, arith}
+use Rattle.std.proofs.Common.{◌≡◌, ℕ, zero, suc, ◌+◌, ◌/◌, Bool, true, false, nat_lt, List, [], ◌∷◌}
+use Rattle.std.proofs.Common.{◌++◌, length, Option, Some, None}
 use Rattle.std.specs.Prelude.{ℤ, pos}
 use Rattle.trips_isa.specs.declared.op.Op.{Op}
-use Rattle.trips_isa.specs.declared.op.Op.TheVariants.{Bro, Callo, Genu, App}
+use Rattle.trips_isa.specs.declared.op.Op.TheVariants.{Bro, Callo}
 use Rattle.trips_isa.specs.Forms.{role_of, takes_right}
 use Rattle.ir_forms.specs.declared.hyper.Source.{Source}
 use Rattle.ir_forms.specs.declared.hyper.Source.TheVariants.{Const, Reg}
@@ -18,8 +18,8 @@ use Rattle.predication.specs.Environments.{Scope, Entry, Env, Bits, no_bits, put
 use Rattle.predication.specs.Environments.{member, at_start}
 use Rattle.predication.specs.Operands.{node_of, Chain, Got, chain, longer, movs, read_of, operand, second, most_apps}
 use Rattle.predication.specs.Operands.{is_test, bit_of, fresh_test, test_by, tested}
-use Rattle.predication.specs.Ifs.{left_of, side_of, Joined, join, Out, items, touched}
-use Rattle.predication.specs.Tails.{address_end, exit_with, tail_with, labelled, Ending, leaving, tail}
+use Rattle.predication.specs.Ifs.{left_of, side_of, join, items, touched}
+use Rattle.predication.specs.Tails.{address_end, exit_with, tail_with, labelled, leaving, tail}
 use Rattle.predication.specs.Tails.{tail_touched}
 use Rattle.predication.specs.Converted.{begun, ended, predicated}
 use Rattle.c_compile_layout.specs.Emitted.{LabelBelow}

@@ -1,5 +1,5 @@
 -- The machine blocks that the passes make are what the layout takes.
-use Rattle.std.proofs.Common.{◌≡◌, ℕ, zero, suc, ◌<◌, ◌≤◌, true, List, [], ◌∷◌, length, Option, Some, None}
+use Rattle.std.proofs.Common.{◌≡◌, ℕ, zero, suc, ◌≤◌, true, List, [], ◌∷◌, length, Some}
 use Rattle.std.proofs.Common.{slice_get, refl, sym, ap, subst, ◌∙◌, arith}
 use Rattle.std.specs.List.{All}
 use Rattle.trips_isa.specs.declared.block.Block.{Block}
@@ -28,7 +28,7 @@ use Rattle.null_outputs.proofs.Regular.{stays_regular}
 use Rattle.grid_place.specs.Moves.{Permutes}
 use Rattle.c_compile_layout.specs.Linking.{Resolves, resolved, by_address}
 use Rattle.c_compile_layout.specs.Layouts.{laid_out, AreFew}
-use Rattle.c_compile_layout.specs.Emitted.{IsEmitted, AreEmitted}
+use Rattle.c_compile_layout.specs.Emitted.{IsEmitted}
 use Rattle.c_compile_layout.proofs.Faithful.{has_places}
 use Rattle.c_compile_layout.proofs.Regularity.{regular_before}
 use Rattle.c_compile_layout.proofs.Sums.{few_chunks}

@@ -1,7 +1,7 @@
 -- The used slots of a placed block are those to which its first slots went.
 use Rattle.std.proofs.Common.{◌≡◌, ℕ, zero, suc, ◌+◌, ◌-◌, ◌<◌, ◌≤◌, Bool, true, false, nat_lt, List, [], ◌∷◌, ◌++◌}
 use Rattle.std.proofs.Common.{length, map, replicate, Option, Some, None, refl, sym, ap, subst, ◌∙◌, arith}
-use Rattle.std.specs.Prelude.{option_map, slice_get, slice_index_or}
+use Rattle.std.specs.Prelude.{option_map, slice_index_or}
 use Rattle.trips_isa.specs.declared.block.Inst.{Inst}
 use Rattle.trips_isa.specs.declared.block.Block.{Block}
 use Rattle.trips_isa.specs.Images.{chunk_of}
@@ -9,10 +9,10 @@ use Rattle.block_cases.specs.Orders as orders
 use Rattle.ir_forms.specs.HyperCode as hyper
 use Rattle.fan_out.specs.declared.wiring.Placed.{Placed}
 use Rattle.fan_out.specs.Targeted.{slot_of, slots, count_insts}
-use Rattle.grid_place.specs.Moves.{renamed_inst, IsMoved}
+use Rattle.grid_place.specs.Moves.{renamed_inst}
 use Rattle.c_compile_layout.specs.Linking.{Resolves, resolved_slot, resolved_block, by_both}
 use Rattle.c_compile_layout.proofs.Linked.{index_map, came}
-use Rattle.c_compile_blocks.specs.Blocks.{flow_of, IsMachineBlock, AreMachineBlocks}
+use Rattle.c_compile_blocks.specs.Blocks.{flow_of, IsMachineBlock}
 use Rattle.c_compile_blocks.specs.Laws.{is_used, HasSlots, UsesSlots}
 use Rattle.c_compile_blocks.proofs.Emitted.{made_from}
 

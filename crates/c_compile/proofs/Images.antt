@@ -1,0 +1,47 @@
+-- The image of a text does what the text means.
+use Rattle.std.proofs.Common.{ℕ, length, List}
+use Rattle.trips_isa.specs.declared.block.Image.{Image}
+use Rattle.c_tree.specs.declared.typed.TypedProgram.{TypedProgram}
+use Rattle.flat_lower.specs.TreeViews.{source_of}
+use Rattle.flat_lower_premises.specs.Most.{most_of}
+use Rattle.c_compile_laws.specs.Compiled.{FlatMeans}
+use Rattle.c_compile_laws.proofs.Bounds.{has_bounds}
+use Rattle.c_compile_laws.proofs.Compiled.{does_deep, does_finished, does_unfinished}
+use Rattle.c_compile_laws.proofs.Ends.{ends_as, never_ends}
+use Rattle.c_compile.specs.Flat.{IsFlatOf}
+use Rattle.c_compile.specs.Images.{IsImageOf, ImagesMeanTexts}
+
+flat_means : (text : List ℕ) (p : ℕ → ℕ) (i : Image) (o : IsImageOf text p i)
+    → FlatMeans (o.lowered).program o.flat (length (o.lowered).tokens)
+flat_means text p i o =
+    let l : IsFlatOf text o.flat = o.lowered in
+    record {
+      most = most_of (source_of l.program);
+      keeps = l.keeps;
+      fits = l.fits;
+      few = (l.lexed).1;
+      short = l.most;
+      blocks = l.blocks;
+    }
+
+pub images_mean : ImagesMeanTexts
+images_mean text p i o =
+    let l : IsFlatOf text o.flat = o.lowered in
+    let P : TypedProgram = l.program in
+    let t : ℕ = length l.tokens in
+    let m : FlatMeans P o.flat t = flat_means text p i o in
+    let finished = does_finished P o.flat t p i m o.compiled in
+    let deep = does_deep P o.flat t p i m o.compiled in
+    let unfinished = does_unfinished P o.flat t p i m o.compiled in
+    record {
+      program = P;
+      accepted = l.accepted;
+      tokens = l.tokens;
+      lexed = l.lexed;
+      finished = finished;
+      deep = deep;
+      unfinished = unfinished;
+      ends = ends_as P t i finished deep unfinished;
+      endless = never_ends P t i finished deep unfinished;
+      bounds = has_bounds P o.flat t p i m o.compiled;
+    }

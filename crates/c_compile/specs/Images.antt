@@ -1,0 +1,39 @@
+-- The images of C texts, and what they do.
+use Rattle.std.specs.Prelude.{ℕ, List, length}
+use Rattle.trips_isa.specs.declared.block.Image.{Image}
+use Rattle.c_tree.specs.declared.typed.TypedProgram.{TypedProgram}
+use Rattle.c_lex.specs.Lexes.{Tokens}
+use Rattle.c_lex.specs.Answers.{Lexed}
+use Rattle.c_front.specs.Fronts.{most_tokens, IsAccepted}
+use Rattle.ir_forms.specs.FlatCode.{Program}
+use Rattle.c_compile_laws.specs.Bounds.{HasBounds}
+use Rattle.c_compile_laws.specs.Compiled.{IsCompiled}
+use Rattle.c_compile_laws.specs.Runs.{DoesDeep, DoesFinished, DoesUnfinished, EndsAsEvaluated, NeverEnds}
+use Rattle.c_compile.specs.Flat.{IsFlatOf}
+
+-- i is made of the text's flat program, where slot s of each block goes to p s
+pub record IsImageOf (text : List ℕ) (p : ℕ → ℕ) (i : Image) : Type 0 where
+  pub flat : Program
+  pub lowered : IsFlatOf text flat
+  pub compiled : IsCompiled flat p i
+
+-- The image does what the text means: the text is accepted, and on each input the image's run ends
+-- as the evaluation does, has a full stack where that is too deep, and goes on where that goes on.
+pub record MeansText (text : List ℕ) (p : ℕ → ℕ) (i : Image) : Type 0 where
+  pub program : TypedProgram
+  pub accepted : IsAccepted text program
+  pub tokens : Tokens
+  pub lexed : Lexed most_tokens text tokens
+  pub finished : DoesFinished program i
+  pub deep : DoesDeep program i
+  pub unfinished : DoesUnfinished (length tokens) program i
+  -- how its run has ended says how the evaluation has: it traps only where that is undefined
+  pub ends : EndsAsEvaluated (length tokens) program i
+  pub endless : NeverEnds program i
+  -- it is good, and as small as the text
+  pub bounds : HasBounds (length tokens) p i
+
+-- so does each image of a text
+abbrev pub ImagesMeanTexts : Type 0
+ImagesMeanTexts =
+    (text : List ℕ) (p : ℕ → ℕ) (i : Image) → IsImageOf text p i → MeansText text p i

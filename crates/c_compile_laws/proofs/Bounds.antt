@@ -1,0 +1,28 @@
+-- The image of a program is good, and as small as the text.
+use Rattle.std.proofs.Common.{ℕ, sym, subst, arith}
+use Rattle.trips_isa.specs.declared.block.Image.{Image}
+use Rattle.trips_isa.specs.Stores.{data_size}
+use Rattle.c_tree.specs.declared.typed.TypedProgram.{TypedProgram}
+use Rattle.ir_forms.specs.FlatCode.{Program}
+use Rattle.ir_forms.specs.Frames.{frame_limit}
+use Rattle.hyper_build.specs.Laws.{built_program, plan_of}
+use Rattle.hyper_build.proofs.Assigned.{gives_assigned}
+use Rattle.c_compile_layout.proofs.Linked.{made, good_image}
+use Rattle.c_compile_blocks.proofs.UsedSlots.{uses_slots}
+use Rattle.c_compile_laws.specs.Bounds.{HasBounds}
+use Rattle.c_compile_laws.specs.Compiled.{FlatMeans, IsCompiled}
+use Rattle.c_compile_laws.proofs.Compiled.{data_fits, emitted}
+
+pub has_bounds : (P : TypedProgram) (F : Program) (t : ℕ) (p : ℕ → ℕ) (i : Image)
+    → FlatMeans P F t → IsCompiled F p i → HasBounds t p i
+has_bounds P F t p i m c =
+    let B = built_program (plan_of c.cuts c.groups) F in
+    let all = emitted P F t p i m c in
+    let n = (gives_assigned c.cuts F c.lists c.groups m.fits c.assigned).few in
+    let b = m.blocks in
+    let s = (made B c.blocks all).size in
+    subst (λ (j : Image). HasBounds t p j) (sym c.is) (record {
+      few = omega (arith, n, b, s);
+      good = good_image B c.blocks F.bytes all (m.fits).bytes (data_fits F.bytes frame_limit data_size (m.fits).room);
+      slots = uses_slots p B c.blocks c.made;
+    })

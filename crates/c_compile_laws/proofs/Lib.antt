@@ -1,0 +1,5 @@
+pub mod Standing
+pub mod Compiled
+pub mod Ends
+pub mod Bounds
+pub mod Limits

@@ -1,0 +1,22 @@
+ghost use Rattle.c_compile_laws.specs.Bounds.{HasBounds};
+ghost use Rattle.c_compile_laws.specs.Laws.{OfCompiled};
+ghost use Rattle.c_compile_laws.specs.Limits.{TakesCuts};
+ghost use Rattle.c_compile_laws.specs.Runs.{DoesDeep, DoesFinished, DoesUnfinished, EndsAsEvaluated};
+ghost use Rattle.c_compile_laws.specs.Runs.{NeverEnds};
+
+/// The image of a flat program that means a typed program does what the program means, in whatever
+/// slots its instructions stand and wherever its blocks are cut. It does nothing when it runs.
+pub fn compiled_images_mean_programs()
+    ensures finished { OfCompiled (λ P t p i. DoesFinished P i) }
+    ensures deep { OfCompiled (λ P t p i. DoesDeep P i) }
+    ensures unfinished { OfCompiled (λ P t p i. DoesUnfinished t P i) }
+    ensures ends { OfCompiled (λ P t p i. EndsAsEvaluated t P i) }
+    ensures endless { OfCompiled (λ P t p i. NeverEnds P i) }
+    ensures bounds { OfCompiled (λ P t p i. HasBounds t p i) }
+{}
+
+/// Where every place is cut, no pass refuses a block for its size, and each is good. It does nothing when
+/// it runs.
+pub fn cut_programs_are_taken()
+    ensures { TakesCuts }
+{}
