@@ -120,7 +120,7 @@ made_from (b ∷ B) (x ∷ us) (suc k) u s e =
     let f = made_from B us k u (omega (arith, s)) e in record { block = f.block; there = f.there }
 
 -- each has 128 slots
-sizes : (p : ℕ → ℕ) (B : List hyper.Block) (us : List Block) → AreMachineBlocks p B us
+pub sizes : (p : ℕ → ℕ) (B : List hyper.Block) (us : List Block) → AreMachineBlocks p B us
     → All (λ (u : Block). length u.insts.items ≡ 128) us
 sizes p B us all = all_by_index (λ (u : Block). length u.insts.items ≡ 128) us (λ k u e.
     let f = made_from B us k u all.size e in (all.each k f.block u f.there e).placed.size)

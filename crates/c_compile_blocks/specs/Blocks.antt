@@ -33,7 +33,26 @@ pub record IsMachineBlock (p : ℕ → ℕ) (b : hyper.Block) (u : Block) : Type
   pub cases : cases (nodes_of target) ≤ 256
   pub placed : IsMoved p target u
 
+-- the same, whatever the number of its cases
+pub record IsPassed (p : ℕ → ℕ) (b : hyper.Block) (u : Block) : Type 0 where
+  pub numbers : convert.HasRoom b
+  pub room : HasRoom (flow_of b)
+  pub target : Block
+  pub targeted : IsTargeted (flow_of b) target
+  pub placed : IsMoved p target u
+
+-- us are those of the first n blocks of a hyper program
+pub record AreFirstPassed (p : ℕ → ℕ) (B : List hyper.Block) (n : ℕ) (us : List Block) : Type 0
+  where
+    pub size : length us ≡ n
+    pub each : (k : ℕ) (b : hyper.Block) (u : Block) → slice_get B k ≡ Some b
+        → slice_get us k ≡ Some u → IsPassed p b u
+
 -- us are those of a hyper program
+abbrev pub ArePassed : (ℕ → ℕ) → List hyper.Block → List Block → Type 0
+ArePassed p B us = AreFirstPassed p B (length B) us
+
+-- us are the machine blocks of a hyper program
 pub record AreMachineBlocks (p : ℕ → ℕ) (B : List hyper.Block) (us : List Block) : Type 0 where
   pub size : length us ≡ length B
   pub each : (k : ℕ) (b : hyper.Block) (u : Block) → slice_get B k ≡ Some b

@@ -1,0 +1,103 @@
+-- The machine blocks of a hyper program, one after the other.
+use Rattle.std.proofs.Common.{◌≡◌, ℕ, zero, suc, ◌+◌, ◌<◌, ◌≤◌, ◌⊎◌, inl, inr, List, [], ◌∷◌, ◌++◌, map}
+use Rattle.std.proofs.Common.{length, Some, None, slice_get, refl, sym, ap, subst, ◌∙◌, arith}
+use Rattle.std.proofs.Common.{get_or, length-append}
+use Rattle.std.proofs.lemmas.Option.{slice_get-get_or}
+use Rattle.trips_isa.specs.declared.block.Block.{Block}
+use Rattle.ir_forms.specs.declared.fault.FlowFault.{FlowFault}
+use Rattle.ir_forms.specs.declared.fault.FlowFault.TheVariants.{Memory}
+use Rattle.ir_forms.specs.declared.hyper.HyperBlock.{HyperBlock}
+use Rattle.ir_forms.specs.HyperCode as hyper
+use Rattle.ir_forms.specs.HyperFits.{IsFollowed}
+use Rattle.ir_forms.specs.HyperViews.{block_of, tail_of}
+use Rattle.predication.specs.Outcomes.{NamesLabels}
+use Rattle.c_compile_blocks.specs.Blocks.{IsPassed, AreFirstPassed, ArePassed, AreMachineBlocks}
+use Rattle.c_compile_blocks.specs.Refusals.{FitMachine, HasRefused, IsRefused}
+use Rattle.c_compile_blocks.proofs.Passes.{by_first, is_machine_block, names_labels, never_refused}
+
+-- none at first
+pub none_passed : (p : ℕ → ℕ) (B : List hyper.Block) (us : List Block) → us ≡ [] → AreFirstPassed p B 0 us
+none_passed p B us e =
+    subst (AreFirstPassed p B 0) (sym e) (record { size = refl; each = λ k b u is_b is_u. absurd (cc) })
+
+-- an item of a list to whose end one was put
+pushed : {A : Type 0} (xs : List A) (x y : A) (k : ℕ) → slice_get (xs ++ (x ∷ [])) k ≡ Some y
+    → (slice_get xs k ≡ Some y) ⊎ ((k ≡ length xs) × (x ≡ y))
+pushed [] x y zero e = inr (refl, (cc))
+pushed [] x y (suc k) e = absurd (cc)
+pushed (z ∷ xs) x y zero e = inl e
+pushed (z ∷ xs) x y (suc k) e = go (pushed xs x y k e)
+  where
+    go : (slice_get xs k ≡ Some y) ⊎ ((k ≡ length xs) × (x ≡ y))
+        → (slice_get xs k ≡ Some y) ⊎ ((suc k ≡ suc (length xs)) × (x ≡ y))
+    go (inl h) = inl h
+    go (inr h) = inr (ap suc h.0, h.1)
+
+-- one more
+pub one_more : (p : ℕ → ℕ) (B : List hyper.Block) (n : ℕ) (us new : List Block) (b : hyper.Block) (u : Block)
+    → AreFirstPassed p B n us → slice_get B n ≡ Some b → IsPassed p b u → new ≡ us ++ (u ∷ [])
+    → AreFirstPassed p B (n + 1) new
+one_more p B n us new b u all is_b it e = subst (AreFirstPassed p B (n + 1)) (sym e) (record {
+  size = let l = length-append us (u ∷ []) in let s = all.size in omega (arith, l, s);
+  each = λ k c w is_c is_w. go k c w is_c (pushed us u w k is_w);
+})
+  where
+    go : (k : ℕ) (c : hyper.Block) (w : Block) → slice_get B k ≡ Some c
+        → (slice_get us k ≡ Some w) ⊎ ((k ≡ length us) × (u ≡ w)) → IsPassed p c w
+    go k c w is_c (inl h) = all.each k c w is_c h
+    go k c w is_c (inr h) =
+        let there : slice_get B n ≡ Some c = subst (λ (i : ℕ). slice_get B i ≡ Some c) (h.0 ∙ all.size) is_c in
+        let same : b ≡ c = cc in
+        subst (λ (x : hyper.Block). IsPassed p x w) same (subst (IsPassed p b) h.1 it)
+
+-- all are machine blocks, where each hyper block is within all limits
+pub are_machine_blocks : (p : ℕ → ℕ) (B : List hyper.Block) (us : List Block) → ArePassed p B us
+    → FitMachine B → AreMachineBlocks p B us
+are_machine_blocks p B us all f = record {
+  size = all.size;
+  each = λ k b u is_b is_u. is_machine_block p b u (all.each k b u is_b is_u) (f k b is_b);
+}
+
+-- and none of them is refused
+pub none_refused : (p : ℕ → ℕ) (B : List hyper.Block) (e : FlowFault) → HasRefused p B e → FitMachine B
+    → e ≡ Memory
+none_refused p B e h f = never_refused h.block e h.refused (f h.number h.block h.there)
+
+-- an item of the blocks of a program
+pub mapped : {A C : Type 0} (f : A → C) (xs : List A) (k : ℕ) (x : A) → slice_get xs k ≡ Some x
+    → slice_get (map f xs) k ≡ Some (f x)
+mapped f [] k x e = absurd (cc)
+mapped f (y ∷ xs) zero x e = let same : y ≡ x = cc in ap (λ z. Some (f z)) same
+mapped f (y ∷ xs) (suc k) x e = mapped f xs k x e
+
+pub block_there : (bs : List HyperBlock) (k : ℕ) (x : HyperBlock) → k < length bs → x ≡ get_or bs k x
+    → slice_get (map block_of bs) k ≡ Some (block_of x)
+block_there bs k x l e =
+    mapped block_of bs k x (slice_get-get_or bs k x l ∙ ap (λ (y : HyperBlock). Some y) (sym e))
+
+-- its labels are below the number of blocks of an image
+pub labels_there : (bs : List HyperBlock) (k : ℕ) (x : HyperBlock) → k < length bs → x ≡ get_or bs k x
+    → IsFollowed (map block_of bs) → length (map block_of bs) ≤ 524288 → NamesLabels (tail_of x.tail)
+labels_there bs k x l e f n =
+    names_labels k (length (map block_of bs)) (tail_of x.tail) n (f k (block_of x) (block_there bs k x l e))
+
+-- THE FIRST THAT IS REFUSED
+
+pub refused_there : (p : ℕ → ℕ) (bs : List HyperBlock) (k : ℕ) (x : HyperBlock) (us : List Block) (e : FlowFault)
+    → k < length bs → x ≡ get_or bs k x → AreFirstPassed p (map block_of bs) k us → IsRefused (block_of x) e
+    → HasRefused p (map block_of bs) e
+refused_there p bs k x us e l is all r = record {
+  number = k;
+  block = block_of x;
+  there = block_there bs k x l is;
+  refused = r;
+  before = us;
+  passed = all;
+}
+
+-- want of memory to keep a block is one of its refusals
+pub memory_there : (p : ℕ → ℕ) (bs : List HyperBlock) (k : ℕ) (x : HyperBlock) (us : List Block) (e : FlowFault)
+    → k < length bs → x ≡ get_or bs k x → AreFirstPassed p (map block_of bs) k us → e ≡ Memory
+    → HasRefused p (map block_of bs) e
+memory_there p bs k x us e l is all m =
+    refused_there p bs k x us e l is all (subst (IsRefused (block_of x)) (sym m) (by_first (block_of x) Memory tt))

@@ -1,0 +1,31 @@
+use Rattle.std.proofs.Common.{◌≡◌, List, map, subst}
+use Rattle.std.proofs.lemmas.Result.{IfOk-weaker, IfErr-weaker}
+use Rattle.trips_isa.specs.declared.block.Block.{Block}
+use Rattle.ir_forms.specs.declared.fault.FlowFault.{FlowFault}
+use Rattle.ir_forms.specs.declared.fault.FlowFault.TheVariants.{Memory}
+use Rattle.ir_forms.specs.declared.hyper.HyperBlock.{HyperBlock}
+use Rattle.ir_forms.specs.HyperViews.{block_of, blocks_of}
+use Rattle.grid_place.specs.Moves.{goes}
+use Rattle.grid_place.specs.Seeded.{list_of}
+use Rattle.c_compile_blocks.specs.Blocks.{ArePassed, AreMachineBlocks}
+use Rattle.c_compile_blocks.specs.Refusals.{FitMachine, HasRefused}
+use Rattle.c_compile_blocks.proofs.Programs.{are_machine_blocks, none_refused}
+use Rattle.c_compile_blocks.proofs.blocks.machine_blocks.Goals as goal
+
+pub returns-clause-machine : goal.returns-clause-machine
+returns-clause-machine c =
+    let p = goes (list_of c.args.placing) in
+    let B = blocks_of c.args.program.now in
+    IfOk-weaker c.all_blocks.result (λ (us : List Block). ArePassed p (map block_of c.as_slice.result.now) us)
+    (λ (us : List Block). FitMachine B → AreMachineBlocks p B us)
+    (λ us h f. are_machine_blocks p B us (subst (λ (bs : List HyperBlock). ArePassed p (map block_of bs) us)
+    c.as_slice.ensures.value h) f) c.all_blocks.ensures.ok
+
+pub returns-clause-fits : goal.returns-clause-fits
+returns-clause-fits c =
+    let p = goes (list_of c.args.placing) in
+    let B = blocks_of c.args.program.now in
+    IfErr-weaker c.all_blocks.result (λ (e : FlowFault). HasRefused p (map block_of c.as_slice.result.now) e)
+    (λ (e : FlowFault). FitMachine B → e ≡ Memory)
+    (λ e h f. none_refused p B e (subst (λ (bs : List HyperBlock). HasRefused p (map block_of bs) e)
+    c.as_slice.ensures.value h) f) c.all_blocks.ensures.err
