@@ -1,10 +1,12 @@
-//! From C texts to flat programs that do what the texts mean (docs/LANGUAGE.md).
+//! From C texts to images that do what the texts mean (docs/LANGUAGE.md).
 //!
-//! `specs/Flat.antt` says what the flat program of a text is.
+//! `specs/Flat.antt` says what the flat program of a text is, `specs/Images.antt` what its image is.
 #![tactic(auto)]
 
+mod compiling;
 mod law;
 mod lowering;
 
+pub use compiling::compile;
 pub use law::{accepted_texts_keep_meaning, images_mean_texts};
 pub use lowering::lower_text;

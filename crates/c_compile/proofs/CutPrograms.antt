@@ -1,0 +1,160 @@
+-- What the passes give of a flat program whose blocks are cut at every place.
+use Rattle.std.proofs.Common.{◌≡◌, ℕ, ◌+◌, ◌*◌, ◌≤◌, List, [], length, Some, slice_get, refl, sym, ap, subst}
+use Rattle.std.proofs.Common.{◌∙◌, arith, get_or}
+use Rattle.std.specs.List.{All}
+use Rattle.std.specs.Prelude.{Bool}
+use Rattle.std.proofs.lemmas.Option.{slice_get_within, get_or_from_slice_get}
+use Rattle.trips_isa.specs.declared.block.Block.{Block}
+use Rattle.trips_isa.specs.declared.block.Image.{Image}
+use Rattle.trips_isa.specs.Fits.{FitsBlock}
+use Rattle.trips_isa.specs.Stores.{data_size}
+use Rattle.block_cases.specs.Good.{GoodBlock}
+use Rattle.block_check.specs.declared.fault.CheckFault.{CheckFault}
+use Rattle.block_check.specs.Images.{IsFirstBad}
+use Rattle.block_check.proofs.Lowest.{found_good}
+use Rattle.ir_forms.specs.declared.fault.Part.{Part}
+use Rattle.ir_forms.specs.declared.fault.FlowFault.{FlowFault}
+use Rattle.ir_forms.specs.declared.fault.FlowFault.TheVariants.{TooBig, Memory}
+use Rattle.ir_forms.specs.declared.flat.FlatProgram.{FlatProgram}
+use Rattle.ir_forms.specs.FlatCode.{Program}
+use Rattle.ir_forms.specs.FlatFits.{FitsProgram, code_blocks_of_all}
+use Rattle.ir_forms.specs.FlatViews.{program_of}
+use Rattle.ir_forms.specs.Frames.{frames_at, frame_limit}
+use Rattle.ir_forms.specs.HyperCode as hyper
+use Rattle.ir_forms.specs.HyperFits.{IsFollowed}
+use Rattle.reg_assign.specs.Keeps.{FitsKept, KeepsTameRuns}
+use Rattle.reg_assign.specs.Live.{AreCut, AreFew}
+use Rattle.hyper_build.specs.Laws.{built_program, plan_of, AreAssigned, AreBlocksOf}
+use Rattle.hyper_build.specs.Routines.{built}
+use Rattle.hyper_build.specs.Tree.{annotated_all, Routine}
+use Rattle.hyper_build.proofs.Assigned.{gives_assigned}
+use Rattle.predication_limits.proofs.Programs.{programs_fit}
+use Rattle.grid_place.specs.Moves.{IsPermutation, goes}
+use Rattle.c_compile_layout.specs.Emitted.{image_of, most_blocks, AreEmitted, IsGoodImage}
+use Rattle.c_compile_layout.specs.Layouts as layouts
+use Rattle.c_compile_layout.proofs.Linked.{good_image}
+use Rattle.c_compile_blocks.specs.Blocks.{AreMachineBlocks, FitsPasses}
+use Rattle.c_compile_blocks.specs.Refusals.{FitMachine}
+use Rattle.c_compile_blocks.proofs.Emitted.{chunks_few, gives_emitted, sizes}
+use Rattle.c_compile_laws.specs.Compiled.{IsCompiled}
+use Rattle.c_compile.specs.Flat.{IsFlatOf}
+
+-- the text's tokens leave room for the blocks of its program
+pub few_blocks : (text : List ℕ) (F : Program) → IsFlatOf text F
+    → 3 + code_blocks_of_all F.functions ≤ most_blocks
+few_blocks text F l =
+    let b = l.blocks in
+    let f = (l.lexed).1 in
+    omega (arith, b, f)
+
+-- the data lies in data memory
+data_fits : (bytes : List ℕ) (limit size : ℕ) → frames_at bytes + limit ≤ size → length bytes ≤ size
+data_fits bytes limit size l = omega (arith, l)
+
+-- a program has three blocks besides those of its functions
+some_blocks : (base : ℕ) (fs : List Routine) (main : ℕ) → 1 ≤ length (built base fs main)
+some_blocks base fs main = omega arith
+
+module _ (F : Program) (lists : List (List ℕ)) (groups : List (List (List ℕ))) (fits : FitsProgram F)
+    (a : AreAssigned F lists groups) (few : 3 + code_blocks_of_all F.functions ≤ most_blocks) where
+  abbrev B : List hyper.Block
+  B = built_program (plan_of [] groups) F
+
+  shape : AreBlocksOf F B
+  shape = gives_assigned [] F lists groups fits a
+
+  pub passes : FitsPasses B
+  passes =
+      let n = shape.few in
+      record {
+        some = some_blocks (frames_at F.bytes) (annotated_all (plan_of [] groups) 0 0 F.functions) F.main;
+        few = omega (arith, n, few);
+        followed = shape.followed;
+        fit = shape.fit (omega (arith, n, few));
+      }
+
+  -- no block is refused for its size
+  pub fit_machine : FitMachine B
+  fit_machine =
+      let n = shape.few in programs_fit F lists groups fits a (omega (arith, n, few))
+
+  module _ (P : List hyper.Block) (is : P ≡ B) where
+    pub followed : IsFollowed P
+    followed = subst IsFollowed (sym is) passes.followed
+
+    pub low : length P ≤ 524288
+    low =
+        let n = passes.few in
+        let e : length P ≡ length B = ap (λ (bs : List hyper.Block). length bs) is in omega (arith, n, e)
+
+    -- none is refused for its size
+    pub fit : FitMachine P
+    fit = subst FitMachine (sym is) fit_machine
+
+  module _ (p : ℕ → ℕ) (us : List Block) (made : AreMachineBlocks p B us) where
+    pub few_chunks : layouts.AreFew us
+    few_chunks = chunks_few p B us passes made
+
+    pub at_most_128 : All (λ (u : Block). length u.insts.items ≤ 128) us
+    at_most_128 = λ i d l. let e = sizes p B us made i d l in omega (arith, e)
+
+  module _ (p : List ℕ) (permutation : IsPermutation p) (us : List Block) (made : AreMachineBlocks (goes p) B us) where
+    pub emitted : AreEmitted B us
+    emitted = gives_emitted (goes p) permutation.back B us permutation.permutes passes made
+
+    pub good : IsGoodImage (image_of us F.bytes)
+    good = good_image B us F.bytes emitted fits.bytes (data_fits F.bytes frame_limit data_size fits.room)
+
+    pub is_compiled : KeepsTameRuns F lists → (i : Image) → i ≡ image_of us F.bytes → IsCompiled F (goes p) i
+    is_compiled keeps i e = record {
+      lists = lists;
+      groups = groups;
+      assigned = a;
+      keeps = keeps;
+      cuts = [];
+      blocks = us;
+      back = permutation.back;
+      permutes = permutation.permutes;
+      made = made;
+      is = e;
+    }
+
+-- WHAT THE PASSES SAY
+
+-- a plan without answers cuts everywhere
+pub built_cut : (F : Program) (groups : List (List (List ℕ))) (cuts : List Bool) (P : List hyper.Block)
+    → cuts ≡ [] → P ≡ built_program (plan_of cuts groups) F → P ≡ built_program (plan_of [] groups) F
+built_cut F groups cuts P c e = e ∙ ap (λ (cs : List Bool). built_program (plan_of cs groups) F) c
+
+pub not_too_big : (e : FlowFault) (p : Part) (n : ℕ) → e ≡ TooBig p n → e ≡ Memory → ⊥
+not_too_big e p n a b = cc
+
+-- what `assign` gives
+pub are_assigned : (flat given : FlatProgram) (lists : List (List ℕ)) (groups : List (List (List ℕ)))
+    → given ≡ flat → FitsProgram (program_of flat)
+    → (FitsProgram (program_of flat) → FitsKept (program_of flat) lists) → AreCut lists groups → AreFew groups
+    → AreAssigned (program_of given) lists groups
+are_assigned flat given lists groups e fits kept cut few =
+    subst (λ (g : FlatProgram). AreAssigned (program_of g) lists groups) (sym e)
+    (record { kept = kept fits; cut = cut; few = few })
+
+pub fits_given : (flat given : FlatProgram) → given ≡ flat → FitsProgram (program_of flat)
+    → FitsProgram (program_of given)
+fits_given flat given e h = subst (λ (g : FlatProgram). FitsProgram (program_of g)) (sym e) h
+
+pub few_given : (flat given : FlatProgram) → given ≡ flat
+    → 3 + code_blocks_of_all (program_of flat).functions ≤ most_blocks
+    → 3 + code_blocks_of_all (program_of given).functions ≤ most_blocks
+few_given flat given e h =
+    subst (λ (g : FlatProgram). 3 + code_blocks_of_all (program_of g).functions ≤ most_blocks) (sym e) h
+
+-- CHECKED IMAGES
+
+all_at : {A : Type 0} (P : A → Type 0) (xs : List A) (k : ℕ) (x : A) → All P xs → slice_get xs k ≡ Some x → P x
+all_at P xs k x h e = subst P (get_or_from_slice_get xs k x x e) (h k x (slice_get_within xs k x e))
+
+-- no block of a good image is bad
+pub never_bad : (i : Image) (number : ℕ) (fault : CheckFault) → IsGoodImage i → IsFirstBad i number fault → ⊥
+never_bad i number fault g h =
+    found_good h.block (all_at FitsBlock i.blocks number h.block (g.fits).each h.is_block)
+    (all_at GoodBlock i.blocks number h.block g.good h.is_block) fault (h.has).holds
