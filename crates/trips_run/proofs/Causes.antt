@@ -1,11 +1,14 @@
 -- The causes of the answers, from the table.
-use Rattle.std.proofs.Common.{◌≡◌, ◌≢◌, ℕ, ◌<◌, List, [], ◌∷◌, Option, None, Some, ◌⊎◌, inl, inr}
+use Rattle.std.proofs.Common.{◌≡◌, ◌≢◌, ℕ, ℤ, ◌+◌, ◌*◌, ◌≤◌, List, [], ◌∷◌, Option, None, Some, ◌⊎◌, inl, inr}
 use Rattle.std.proofs.Common.{All, refl, ap, sym, subst, true, false}
 use Rattle.trips_outside.specs.Outside.{Appended}
 use Rattle.trips_isa.specs.declared.block.Image.{Image}
 use Rattle.trips_isa.specs.Machine.{runs, start}
 use Rattle.c_tree.specs.declared.typed.TypedProgram.{TypedProgram}
+use Rattle.c_meaning_spec.specs.declared.signal.Ending.TheVariants.{Deep}
+use Rattle.c_meaning_spec.specs.Eval.{Stopped, Done, eval}
 use Rattle.c_front.specs.Fronts.{IsAccepted}
+use Rattle.c_compile.specs.Images.{IsImageOf}
 use Rattle.block_image.specs.Spelling.{ImageBytes}
 use Rattle.block_check.specs.Faults.{IsGood}
 use Rattle.trips_run.specs.declared.command_line.Work.{Work}
@@ -15,18 +18,20 @@ use Rattle.trips_run.specs.declared.command_line.FileForm.TheVariants as form
 use Rattle.trips_run.specs.declared.status.Status.{Status}
 use Rattle.trips_run.specs.declared.status.Status.TheVariants as status
 use Rattle.trips_run.specs.Request.{Request}
-use Rattle.trips_run.specs.Source.{IsReturn}
 use Rattle.trips_run.specs.Report.{ending_of, run_report, eval_report}
 use Rattle.trips_run.specs.Refusal.{too_large_text}
 use Rattle.trips_run.specs.Refused.{IsRefusedAs, MayBeRefused, IsRefused}
-use Rattle.trips_run.specs.Answer.{status_of, eval_status, outcome_of, IsAnswer}
-use Rattle.trips_run.specs.Table.{IsAnswered, IsCutOff, IsOneOf, return_report, Asks}
+use Rattle.trips_run.specs.Answer.{status_of, eval_status, outcome_of, placed, IsRunOfText, IsWorked}
+use Rattle.trips_run.specs.Answer.{IsAnswer}
+use Rattle.trips_run.specs.Table.{IsAnswered, IsCutOff, IsOneOf, ended_report, full_report, Asks}
 use Rattle.trips_run.specs.Table.{HasLargeFile, HasLargeInput, EndsAs, EvalEnds}
+use Rattle.trips_run.specs.Evaluated.{RunEndsAs}
 use Rattle.trips_run.proofs.Rows.{kind, usage_row, read_fault_row, refused_row, no_row}
 use Rattle.trips_run.proofs.Rows.{usage_comes_row}
 use Rattle.trips_run.proofs.Rows.{refused_comes_row, is_told}
 use Rattle.trips_run.proofs.Exact.{complete, large_file, large_input, refused_exact, eval_exact}
-use Rattle.trips_run.proofs.Exact.{image_exact, return_exact}
+use Rattle.trips_run.proofs.Exact.{image_exact, text_exact}
+use Rattle.trips_run.proofs.Compiled.{finished_told, deep_told, run_ends_as}
 use Rattle.trips_run.proofs.Ends.{ends_row, undefined_row}
 
 module _ (held : List ℕ → Option (List ℕ)) (rose : Type 0) (old new : Option (List ℕ))
@@ -125,16 +130,50 @@ module _ (held : List ℕ → Option (List ℕ)) (rose : Type 0) (old new : Opti
     | inr (inr row) ↦ row
   ]
 
-  pub headline : (s : Status) → IsAnswered q held rose old new cut s
-      → ((x : Request) → q ≡ Some x → 0 < x.most) → (most n : ℕ) (text input : List ℕ)
-      → Asks q held Run form.Source most text input → IsReturn text n → (rose → ⊥) → (cut → ⊥)
-      → s ≢ status.Memory → (s ≡ status.Ended) × Appended old new (return_report n)
-  headline s a goes most n text input asks is r c m =
+  -- the run of an accepted text that the row of its request tells
+  text_done : (s : Status) (a : IsAnswered q held rose old new cut s) (c : cut → ⊥)
+      (m : s ≢ status.Memory) (most : ℕ) (text input : List ℕ) (program : TypedProgram)
+      → Asks q held Run form.Source most text input → IsAccepted text program → (rose → ⊥)
+      → IsRunOfText most text input s (whole_of s a c m).0
+  text_done s a c m most text input program asks is r =
       let row = whole_of s a c m in
-      let done = complete q held rose s row.0 row.1 r Run form.Source most text input asks in
-      let some = subst (λ (k : ℕ). 0 < k) asks.is_most (goes asks.q asks.asked) in
-      let told = return_exact most text input s row.0 n done is some in
+      text_exact most text input s row.0 program
+      (complete q held rose s row.0 row.1 r Run form.Source most text input asks) is
+
+  pub headline : (s : Status) → IsAnswered q held rose old new cut s → (most n : ℕ)
+      (text input output : List ℕ) (value : ℤ) (steps : ℕ) (program : TypedProgram)
+      → Asks q held Run form.Source most text input → IsAccepted text program
+      → eval program input n ≡ Done output value steps → 16 * n + 16 ≤ most → (rose → ⊥) → (cut → ⊥)
+      → s ≢ status.Memory → (s ≡ status.Ended) × Appended old new (ended_report output value)
+  headline s a most n text input output value steps program asks is done enough r c m =
+      let row = whole_of s a c m in
+      let run = text_done s a c m most text input program asks is r in
+      let told = finished_told most n text input program s row.0 run is enough output value steps done in
       (told.0, subst (Appended old new) told.1 row.2)
+
+  pub deep : (s : Status) → IsAnswered q held rose old new cut s → (most n : ℕ)
+      (text input output : List ℕ) (program : TypedProgram)
+      → Asks q held Run form.Source most text input → IsAccepted text program
+      → eval program input n ≡ Stopped Deep output → 16 * n + 16 ≤ most → (rose → ⊥) → (cut → ⊥)
+      → s ≢ status.Memory → (s ≡ status.StackFull) × Appended old new (full_report output)
+  deep s a most n text input output program asks is full enough r c m =
+      let row = whole_of s a c m in
+      let run = text_done s a c m most text input program asks is r in
+      let told = deep_told most n text input program s row.0 run is enough output full in
+      (told.0, subst (Appended old new) told.1 row.2)
+
+  pub text_run : (s : Status) → IsAnswered q held rose old new cut s → (most : ℕ)
+      (text input : List ℕ) (program : TypedProgram)
+      → Asks q held Run form.Source most text input → IsAccepted text program
+      → (rose → ⊥) → (cut → ⊥) → s ≢ status.Memory
+      → (image : Image) × IsImageOf text placed image
+      × let run = runs image.blocks (start image.bytes input) most in
+      (s ≡ status_of (ending_of run.1 run.0.next))
+      × Appended old new (run_report (ending_of run.1 run.0.next) run.0)
+  text_run s a most text input program asks is r c m =
+      let row = whole_of s a c m in
+      let run = text_done s a c m most text input program asks is r in
+      (run.0, run.1, (run.3.0, subst (Appended old new) run.3.1 row.2))
 
   pub evaluation : (s : Status) → IsAnswered q held rose old new cut s → (how : FileForm)
       (steps : ℕ) (text input : List ℕ) (program : TypedProgram)
@@ -241,3 +280,14 @@ module _ (held : List ℕ → Option (List ℕ)) (rose : Type 0) (old new : Opti
       → IsOneOf s (status.Ended ∷ status.Budget ∷ status.StackFull ∷ status.Trap ∷ [])
       → EndsAs held x s
   run_ends s a x e w one = ends s a x e (run_told s one)
+
+  -- a text's run whose end is told
+  pub text_ends : (s : Status) → IsAnswered q held rose old new cut s → (x : Request)
+      → q ≡ Some x → x.work ≡ Run → x.form ≡ form.Source
+      → IsOneOf s (status.Ended ∷ status.Budget ∷ status.StackFull ∷ status.Trap ∷ [])
+      → RunEndsAs held x s
+  text_ends s a x e w f one =
+      let e = ends s a x e (run_told s one) in
+      run_ends_as held x e.bytes e.input s e.report e.holds e.holds_input
+      (subst (λ (k : FileForm). IsWorked Run k x.most e.bytes e.input s e.report) f
+      (subst (λ (k : Work). IsWorked k x.form x.most e.bytes e.input s e.report) w e.worked))

@@ -16,7 +16,6 @@ use Rattle.trips_run.specs.declared.status.Status.{Status}
 use Rattle.trips_run.specs.declared.status.Status.TheVariants as status
 use Rattle.trips_run.specs.Request.{Request}
 use Rattle.trips_run.specs.Read.{IsRead, IsInputRead, HoldsInput, limit_of}
-use Rattle.trips_run.specs.Source.{return_block}
 use Rattle.trips_run.specs.Report.{ending_of}
 use Rattle.trips_run.specs.Answer.{status_of, IsRunBy, IsWorked, IsDone, AfterReading}
 use Rattle.trips_run.specs.Answer.{IsAnswerBehind, IsAnswer}
@@ -95,7 +94,7 @@ is_evaluation : (work : Work) (how : FileForm) (most : ℕ) (bytes input : List 
     → work ≡ Evaluate
 is_evaluation Evaluate how most bytes input s report run e = refl
 is_evaluation Run form.Source most bytes input s report run e =
-    absurd (run_is_defined (return_block run.0 ∷ []) [] input most s report run.2 e)
+    absurd (run_is_defined run.0.blocks run.0.bytes input most s report run.3 e)
 is_evaluation Run form.Image most bytes input s report run e =
     absurd (run_is_defined run.0.blocks run.0.bytes input most s report run.3 e)
 

@@ -7,10 +7,9 @@ use Rattle.trips_outside.specs.Outside.{Holds}
 use Rattle.trips_isa.specs.declared.block.Image.{Image}
 use Rattle.trips_isa.specs.declared.run.Stepped.{Stepped}
 use Rattle.trips_isa.specs.Machine.{State}
-use Rattle.c_tree.specs.declared.tree.Program.{Program}
 use Rattle.c_tree.specs.declared.typed.TypedProgram.{TypedProgram}
 use Rattle.c_front.specs.Fronts.{IsAccepted}
-use Rattle.c_front.proofs.Once.{tree_once, not_both, accepted_once, refused_once}
+use Rattle.c_front.proofs.Once.{not_both, accepted_once, refused_once}
 use Rattle.block_image.specs.Spelling.{ImageBytes}
 use Rattle.block_image.proofs.Decoded as decoded
 use Rattle.block_image.proofs.Prefix.{one_image}
@@ -27,46 +26,14 @@ use Rattle.trips_run.specs.declared.status.Status.{Status}
 use Rattle.trips_run.specs.declared.status.Status.TheVariants as status
 use Rattle.trips_run.specs.Request.{Request}
 use Rattle.trips_run.specs.Read.{IsRead, IsInputRead, IsInput, limit_of, most_input_bytes}
-use Rattle.trips_run.specs.Source.{IsReturn, IsNotBuilt, returned, return_block}
 use Rattle.trips_run.specs.Report.{ending_of, run_report}
 use Rattle.trips_run.specs.Refusal.{front_refusal, image_refusal, check_refusal, too_large_text}
-use Rattle.trips_run.specs.Refused.{IsRefusedByFront, IsRefusedByForm, IsNoImage, IsBadImage}
+use Rattle.trips_run.specs.Refused.{IsRefusedByFront, IsNoImage, IsBadImage}
 use Rattle.trips_run.specs.Refused.{IsRefusedAs, IsLarge}
-use Rattle.trips_run.specs.Answer.{status_of, IsFixed, IsRunBy, IsEvaluation, IsWorked, IsDone}
+use Rattle.trips_run.specs.Answer.{IsFixed, IsRunBy, IsEvaluation, IsRunOfText, IsWorked, IsDone}
 use Rattle.trips_run.specs.Answer.{AfterReading, IsAnswerBehind, IsAnswer}
-use Rattle.trips_run.specs.Table.{return_report, Asks, HasLargeFile, HasLargeInput}
-use Rattle.trips_run.proofs.Return.{return_runs, return_reports}
-use Rattle.trips_run.proofs.Forms.{returned_small}
-use Rattle.trips_run.proofs.ReturnTypes.{return_types}
+use Rattle.trips_run.specs.Table.{Asks, HasLargeFile, HasLargeInput}
 use Rattle.trips_run.proofs.OneFault.{first_bad_once}
-
--- texts -----------------------------------------------------------------------------------------
-
--- the text of a program that returns a number is accepted
-return_accepted : (text : List ℕ) (n : ℕ) → IsReturn text n
-    → (program : TypedProgram) × IsAccepted text program
-return_accepted text n is =
-    let typed = return_types is.tree n is.returns in
-    (typed.0, (is.tree, is.has_tree, typed.1))
-
--- no stage of the front end refuses it
-return_not_refused : (text out : List ℕ) (n : ℕ) → IsReturn text n → IsRefusedByFront text out → ⊥
-return_not_refused text out n is bad =
-    let ok = return_accepted text n is in not_both text ok.0 bad.0 ok.1 bad.1
-
--- it is built
-return_built : (text : List ℕ) (n : ℕ) → IsReturn text n → IsNotBuilt text → ⊥
-return_built text n is bad =
-    let same : bad.tree ≡ is.tree = tree_once text bad.tree is.tree bad.has_tree is.has_tree in
-    let none : None ≡ Some n = sym bad.returns ∙ ap returned same ∙ is.returns in
-    absurd (cc)
-
--- and it returns one number
-return_once : (text : List ℕ) (m n : ℕ) → IsReturn text m → IsReturn text n → m ≡ n
-return_once text m n a b =
-    let same : a.tree ≡ b.tree = tree_once text a.tree b.tree a.has_tree b.has_tree in
-    let one : Some m ≡ Some n = sym a.returns ∙ ap returned same ∙ b.returns in
-    cc
 
 -- images ----------------------------------------------------------------------------------------
 
@@ -96,21 +63,14 @@ pub not_worked : (work : Work) (how : FileForm) (most : ℕ) (bytes input : List
     → IsWorked work how most bytes input s report → ⊥
 not_worked Evaluate how most bytes input s report out bad run =
     not_both bytes run.0 bad.0 run.1 bad.1
-not_worked Run form.Source most bytes input s report out (inl bad) run =
-    return_not_refused bytes out run.0 run.1 bad
-not_worked Run form.Source most bytes input s report out (inr bad) run =
-    return_built bytes run.0 run.1 bad.0
+not_worked Run form.Source most bytes input s report out bad run =
+    not_both bytes run.1.lowered.program bad.0 run.1.lowered.accepted bad.1
 not_worked Run form.Image most bytes input s report out bad run =
     image_not_refused bytes out run.0 run.1 run.2 bad
 
 front_once : (text a b : List ℕ) → IsRefusedByFront text a → IsRefusedByFront text b → a ≡ b
 front_once text a b x y =
     x.2 ∙ ap front_refusal (refused_once text x.0 y.0 x.1 y.1) ∙ sym y.2
-
-form_or_front : (text : List ℕ) (a b : List ℕ) → IsRefusedByFront text a
-    → IsRefusedByForm text b → ⊥
-form_or_front text a b x y =
-    not_both text y.0.program x.0 (y.0.tree, y.0.has_tree, y.0.has_types) x.1
 
 bad_once : (bytes a b : List ℕ) → IsBadImage bytes a → IsBadImage bytes b → a ≡ b
 bad_once bytes a b x y =
@@ -123,10 +83,7 @@ bad_once bytes a b x y =
 pub refusal_once : (work : Work) (how : FileForm) (bytes a b : List ℕ)
     → IsRefusedAs work how bytes a → IsRefusedAs work how bytes b → a ≡ b
 refusal_once Evaluate how bytes a b x y = front_once bytes a b x y
-refusal_once Run form.Source bytes a b (inl x) (inl y) = front_once bytes a b x y
-refusal_once Run form.Source bytes a b (inl x) (inr y) = absurd (form_or_front bytes a b x y)
-refusal_once Run form.Source bytes a b (inr x) (inl y) = absurd (form_or_front bytes b a y x)
-refusal_once Run form.Source bytes a b (inr x) (inr y) = x.1 ∙ sym y.1
+refusal_once Run form.Source bytes a b x y = front_once bytes a b x y
 refusal_once Run form.Image bytes a b (inl x) (inl y) =
     x.2 ∙ ap image_refusal (decoded.one_fault bytes x.0 y.0 x.1 y.1) ∙ sym y.2
 refusal_once Run form.Image bytes a b (inl x) (inr y) =
@@ -164,31 +121,13 @@ image_exact most bytes input s report image (inr run) spelled good =
     subst (λ (i : Image). IsRunBy i.blocks i.bytes input most s report)
     (one_image run.0 image bytes run.1 spelled) run.3
 
--- the run of the program that returns n
-ran_as : (n most : ℕ) (input : List ℕ) (s : Status) (report : List ℕ) → n < 2 ^ 16 → 0 < most
-    → IsRunBy (return_block n ∷ []) [] input most s report
-    → (s ≡ status.Ended) × (report ≡ return_report n)
-ran_as n most input s report low some run =
-    let e = return_runs n input most some in (
-      run.0 ∙ ap (λ (r : State × Stepped). status_of (ending_of r.1 r.0.next)) e,
-      run.1 ∙ ap (λ (r : State × Stepped). run_report (ending_of r.1 r.0.next) r.0) e
-          ∙ return_reports input n low,
-    )
-
--- with the text of a program that returns n under `run`
-pub return_exact : (most : ℕ) (text input : List ℕ) (s : Status) (report : List ℕ) (n : ℕ)
-    → IsDone Run form.Source most text input s report → IsReturn text n → 0 < most
-    → (s ≡ status.Ended) × (report ≡ return_report n)
-return_exact most text input s report n (inl x) is some =
-    absurd (refused x.1)
-  where
-    refused : IsRefusedAs Run form.Source text x.0 → ⊥
-    refused (inl bad) = return_not_refused text x.0 n is bad
-    refused (inr bad) = return_built text n is bad.0
-return_exact most text input s report n (inr run) is some =
-    let same : run.0 ≡ n = return_once text run.0 n run.1 is in
-    ran_as n most input s report (returned_small is.tree n is.returns) some
-    (subst (λ (m : ℕ). IsRunBy (return_block m ∷ []) [] input most s report) same run.2)
+-- with an accepted text under `run`
+pub text_exact : (most : ℕ) (text input : List ℕ) (s : Status) (report : List ℕ)
+    (program : TypedProgram) → IsDone Run form.Source most text input s report
+    → IsAccepted text program → IsRunOfText most text input s report
+text_exact most text input s report program (inl x) is =
+    absurd (not_both text program x.1.0 is x.1.1)
+text_exact most text input s report program (inr run) is = run
 
 -- reading ---------------------------------------------------------------------------------------
 

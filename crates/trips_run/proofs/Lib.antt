@@ -1,14 +1,11 @@
 pub mod BlockRuns
-pub mod Return
-pub mod Lonely
-pub mod ReturnGood
-pub mod Forms
 pub mod Told
 pub mod Rows
 pub mod Ends
 pub mod Causes
 pub mod Numbers
 pub mod Requests
-pub mod ReturnTypes
 pub mod OneFault
+pub mod Results
+pub mod Compiled
 pub mod Exact

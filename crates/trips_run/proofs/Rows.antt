@@ -21,7 +21,6 @@ use Rattle.trips_run.specs.declared.status.Status.TheVariants as status
 use Rattle.trips_run.specs.Request.{Request}
 use Rattle.trips_run.specs.Read.{IsRead, IsInputRead, limit_of, most_input_bytes}
 use Rattle.trips_run.specs.Report.{ending_of}
-use Rattle.trips_run.specs.Source.{return_block}
 use Rattle.trips_run.specs.Answer.{status_of, IsRunBy, eval_status, outcome_of, IsWorked, IsDone}
 use Rattle.trips_run.specs.Answer.{AfterReading, IsAnswerBehind, IsAnswer}
 use Rattle.trips_run.specs.Refused.{IsBad, MayBeLarge, IsLarge, MayBeRefused, IsRefused}
@@ -62,7 +61,7 @@ work_tells : (work : Work) (how : FileForm) (most : ℕ) (bytes input : List ℕ
 work_tells Evaluate how most bytes input s report run =
     ap is_told run.2.0 ∙ eval_tells (outcome_of run.0 input most)
 work_tells Run form.Source most bytes input s report run =
-    run_tells (return_block run.0 ∷ []) [] input most s report run.2
+    run_tells run.0.blocks run.0.bytes input most s report run.3
 work_tells Run form.Image most bytes input s report run =
     run_tells run.0.blocks run.0.bytes input most s report run.3
 

@@ -6,8 +6,6 @@ use Rattle.trips_isa.specs.declared.block.Block.{Block}
 use Rattle.trips_isa.specs.declared.block.Image.{Image}
 use Rattle.trips_isa.specs.declared.run.Ending.{Ending}
 use Rattle.trips_isa.specs.declared.run.Stepped.{Stepped}
-use Rattle.trips_isa.specs.Fits.{FitsBlock}
-use Rattle.trips_isa.specs.Images.{FitsImage}
 use Rattle.trips_isa.specs.Machine.{State, runs, start}
 use Rattle.block_image.specs.declared.fault.ImageFault.{ImageFault}
 use Rattle.block_image.specs.declared.fault.ImageFault.TheVariants as image_fault
@@ -16,12 +14,12 @@ use Rattle.block_image.specs.FirstFault.{FirstFault}
 use Rattle.block_check.specs.declared.fault.CheckFault.{CheckFault}
 use Rattle.block_check.specs.Faults.{IsGood}
 use Rattle.block_check.specs.Images.{IsCheckedImage, IsFirstBad}
-use Rattle.c_tree.specs.declared.tree.Program.{Program}
 use Rattle.c_tree.specs.declared.typed.TypedProgram.{TypedProgram}
 use Rattle.c_front.specs.declared.refusal.Refusal.{Refusal}
 use Rattle.c_front.specs.declared.refusal.Refusal.TheVariants as stage
-use Rattle.c_front.specs.Fronts.{HasTree, HasTypes, IsAccepted, IsRefused, MayBeRefused}
-use Rattle.c_front.specs.Fronts.{MayHaveNoTypes}
+use Rattle.c_front.specs.Fronts.{IsAccepted, IsRefused, MayBeRefused}
+use Rattle.c_compile.specs.Images.{IsImageOf}
+use Rattle.flat_lower.specs.Keeps.{IsInput}
 use Rattle.trips_outside.specs.Outside.{Rose}
 use Rattle.trips_run.specs.declared.status.Status.{Status}
 use Rattle.trips_run.specs.declared.status.Status.TheVariants as status
@@ -35,44 +33,12 @@ use Rattle.trips_run.specs.declared.loading.Loaded.TheVariants.{Fault, TooLarge,
 use Rattle.trips_run.specs.Request.{Request}
 use Rattle.trips_run.specs.Read.{IsRead, IsInputRead, limit_of}
 use Rattle.trips_run.specs.Read.{most_input_bytes}
-use Rattle.trips_run.specs.Source.{returned, return_block, IsNotBuilt}
 use Rattle.trips_run.specs.Report.{ending_of, run_report, usage_text}
-use Rattle.trips_run.specs.Refusal.{form_text, front_refusal, image_refusal}
+use Rattle.trips_run.specs.Refusal.{front_refusal, image_refusal}
 use Rattle.trips_run.specs.Refused.{IsRefusedByFront, IsRefusedAs}
-use Rattle.trips_run.specs.Answer.{status_of, IsFixed, IsRunBy, IsEvaluation, IsDone}
+use Rattle.trips_run.specs.Answer.{status_of, IsFixed, IsRefusalBy, IsRunBy, IsEvaluation, IsDone, placed}
 use Rattle.trips_run.specs.Answer.{AfterReading, IsAnswerBehind, IsAnswer}
-use Rattle.trips_run.specs.Trees.{IsRunOfForm, IsRefusalBy, IsUntyped, IsAnswerOfTree}
 use Rattle.trips_run.specs.Checked.{IsRunOfChecked}
-use Rattle.trips_run.proofs.ReturnGood.{return_fits, return_good}
-
--- the image of the program that returns n fits
-pub return_image_fits : (image : Image) (n : ℕ) → n < 2 ^ 16 → image.blocks ≡ return_block n ∷ []
-    → image.bytes ≡ [] → FitsImage image
-return_image_fits image n low blocks bytes = record {
-  some = rw blocks (omega arith);
-  each = subst (All FitsBlock) (sym blocks) (one_fits (return_fits n low));
-  total = rw blocks (omega arith);
-  few = rw bytes (omega arith);
-  bytes = subst (All (λ b. b < 256)) (sym bytes) (λ k d lt. absurd (omega arith));
-  last = rw bytes (λ out. absurd (omega arith));
-}
-  where
-    one_fits : FitsBlock (return_block n) → All FitsBlock (return_block n ∷ [])
-    one_fits fits zero d lt = fits
-    one_fits fits (suc k) d lt = absurd (omega arith)
-
-first_of_one : (b block : Block) (k : ℕ) → slice_get (b ∷ []) k ≡ Some block → block ≡ b
-first_of_one b block zero is = cc
-first_of_one b block (suc k) is = absurd (cc)
-
--- and its block has no fault
-pub return_image_good : (image : Image) (n number : ℕ) (fault : CheckFault) → n < 2 ^ 16
-    → image.blocks ≡ return_block n ∷ [] → IsFirstBad image number fault → ⊥
-return_image_good image n number fault low blocks bad =
-    let there : slice_get (return_block n ∷ []) number ≡ Some bad.block =
-    ap (λ bs. slice_get bs number) (sym blocks) ∙ bad.is_block in
-    return_good bad.block n (first_of_one (return_block n) bad.block number there) low fault
-    bad.has.holds
 
 -- every block of a checked image is good
 pub checked_good : (image : Image) → IsCheckedImage image → All IsGood image.blocks
@@ -98,19 +64,6 @@ run_told blocks bytes input begin_input budget first after ending s report i f a
           (a ∙ ap (λ (r : State × Stepped). r.0) same),
     )
 
--- the run of the checked image of the program that returns n
-pub number_told : {E : Type 0} (n budget : ℕ) (input : List ℕ) (checked image : Image)
-    (r : Result Answer E)
-    → checked ≡ image → image.blocks ≡ return_block n ∷ [] → image.bytes ≡ []
-    → IfOk r (λ a. IsRunBy checked.blocks checked.bytes input budget a.status a.report.items)
-    → IfOk r (λ a. IsRunBy (return_block n ∷ []) [] input budget a.status a.report.items)
-number_told n budget input checked image (Err e) same blocks bytes run = tt
-number_told n budget input checked image (Ok a) same blocks bytes run =
-    subst (λ bs. IsRunBy (return_block n ∷ []) bs input budget a.status a.report.items) bytes
-    (subst (λ bs. IsRunBy bs image.bytes input budget a.status a.report.items) blocks
-    (subst (λ (i : Image). IsRunBy i.blocks i.bytes input budget a.status a.report.items) same
-    run))
-
 -- refusals of texts ---------------------------------------------------------------------------
 
 -- a refusal that is no want of memory is that of the text
@@ -133,7 +86,15 @@ pub run_refused_told : {E : Type 0} (text input : List ℕ) (most : ℕ) (refusa
     → IfOk r (λ a. IsDone Run form.Source most text input a.status a.report.items)
 run_refused_told text input most refusal (Err e) may told = tt
 run_refused_told text input most refusal (Ok a) may told =
-    inl (front_refusal refusal, inl (front_told text refusal may told.0), told.1)
+    inl (front_refusal refusal, front_told text refusal may told.0, told.1)
+
+-- the run of the image that is compiled from a text
+pub compiled_told : {E : Type 0} (text input : List ℕ) (most : ℕ) (image : Image)
+    (r : Result Answer E) → IsImageOf text placed image → IsInput input
+    → IfOk r (λ a. IsRunBy image.blocks image.bytes input most a.status a.report.items)
+    → IfOk r (λ a. IsDone Run form.Source most text input a.status a.report.items)
+compiled_told text input most image (Err e) is bytes told = tt
+compiled_told text input most image (Ok a) is bytes told = inr (image, is, bytes, told)
 
 -- the refusal of a text under `eval`
 pub eval_refused_told : {E : Type 0} (steps : ℕ) (text input : List ℕ) (refusal : Refusal)
@@ -151,76 +112,6 @@ pub evaluated_told : {E : Type 0} (steps : ℕ) (text input : List ℕ) (program
     → IfOk r (λ a. (how : FileForm) → IsDone Evaluate how steps text input a.status a.report.items)
 evaluated_told steps text input program (Err e) is told = tt
 evaluated_told steps text input program (Ok a) is told = λ how. inr (program, is, told)
-
--- trees ---------------------------------------------------------------------------------------
-
--- the refusal of a tree by its typing
-typing_told : (text input : List ℕ) (most : ℕ) (tree : Program) (refusal : Refusal) (s : Status)
-    (report : List ℕ) → HasTree text tree → MayHaveNoTypes tree refusal → refusal ≢ stage.Memory
-    → IsFixed status.Refused (front_refusal refusal) s report
-    → IsDone Run form.Source most text input s report
-typing_told text input most tree (stage.Lex e) s report has may some told = absurd may
-typing_told text input most tree (stage.Parse e) s report has may some told = absurd may
-typing_told text input most tree (stage.Typing e) s report has may some told =
-    inl (front_refusal (stage.Typing e), inl (stage.Typing e, (tree, has, may), refl), told)
-typing_told text input most tree stage.Memory s report has may some told =
-    absurd (some refl)
-
--- the run of a tree that has types, or its refusal by its form
-formed_told : (text input : List ℕ) (most : ℕ) (tree : Program) (program : TypedProgram)
-    (number : Option ℕ) (s : Status) (report : List ℕ) → HasTree text tree
-    → HasTypes tree program → returned tree ≡ number → IsRunOfForm number most input s report
-    → IsDone Run form.Source most text input s report
-formed_told text input most tree program None s report has types is told =
-    let out : IsNotBuilt text = record {
-      tree = tree;
-      program = program;
-      has_tree = has;
-      has_types = types;
-      returns = is;
-    } in inl (form_text, inr (out, refl), told)
-formed_told text input most tree program (Some n) s report has types is told =
-    inr (n, record { tree = tree; has_tree = has; returns = is }, told)
-
-answer_of_tree : (text input : List ℕ) (most : ℕ) (tree : Program) (s : Status) (report : List ℕ)
-    → HasTree text tree → IsAnswerOfTree tree most input s report
-    → IsDone Run form.Source most text input s report
-answer_of_tree text input most tree s report has (inl out) =
-    typing_told text input most tree out.0 s report has out.1 out.2.0 out.2.1
-answer_of_tree text input most tree s report has (inr run) =
-    formed_told text input most tree run.0 (returned tree) s report has run.1 refl run.2
-
--- the answer to the tree of a text
-pub tree_told : {E : Type 0} (text input : List ℕ) (most : ℕ) (tree : Program)
-    (r : Result Answer E) → HasTree text tree
-    → IfOk r (λ a. IsAnswerOfTree tree most input a.status a.report.items)
-    → IfOk r (λ a. IsDone Run form.Source most text input a.status a.report.items)
-tree_told text input most tree (Err e) has told = tt
-tree_told text input most tree (Ok a) has told =
-    answer_of_tree text input most tree a.status a.report.items has told
-
--- the answer to the form of a tree that has types
-pub form_told : {E : Type 0} (tree : Program) (program : TypedProgram) (number : Option ℕ)
-    (most : ℕ) (input : List ℕ) (r : Result Answer E)
-    → HasTypes tree program → number ≡ returned tree
-    → IfOk r (λ a. IsRunOfForm number most input a.status a.report.items)
-    → IfOk r (λ a. IsAnswerOfTree tree most input a.status a.report.items)
-form_told tree program number most input (Err e) types is told = tt
-form_told tree program number most input (Ok a) types is told =
-    inr (
-      program,
-      types,
-      subst (λ (o : Option ℕ). IsRunOfForm o most input a.status a.report.items)
-          is told,
-    )
-
--- the refusal of a tree
-pub untyped_told : {E : Type 0} (tree : Program) (most : ℕ) (input : List ℕ) (refusal : Refusal)
-    (r : Result Answer E) → MayHaveNoTypes tree refusal
-    → IfOk r (λ a. IsRefusalBy refusal a.status a.report.items)
-    → IfOk r (λ a. IsAnswerOfTree tree most input a.status a.report.items)
-untyped_told tree most input refusal (Err e) may told = tt
-untyped_told tree most input refusal (Ok a) may told = inl (refusal, may, told)
 
 -- images --------------------------------------------------------------------------------------
 

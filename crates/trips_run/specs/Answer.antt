@@ -1,5 +1,5 @@
 -- What is answered to a request: the status and the report.
-use Rattle.std.specs.Prelude.{◌≡◌, ℕ, List, [], ◌∷◌, Option, None, Some}
+use Rattle.std.specs.Prelude.{◌≡◌, ◌≢◌, ℕ, List, Option, None, Some}
 use Rattle.std.specs.Prelude.{◌⊎◌, All}
 use Rattle.trips_isa.specs.declared.block.Block.{Block}
 use Rattle.trips_isa.specs.declared.block.Image.{Image}
@@ -7,7 +7,14 @@ use Rattle.trips_isa.specs.declared.run.Ending.{Ending}
 use Rattle.trips_isa.specs.declared.run.Ending.TheVariants as ending
 use Rattle.trips_isa.specs.Machine.{runs, start}
 use Rattle.c_tree.specs.declared.typed.TypedProgram.{TypedProgram}
+use Rattle.c_front.specs.declared.refusal.Refusal.{Refusal}
+use Rattle.c_front.specs.declared.refusal.Refusal.TheVariants.{Memory}
 use Rattle.c_front.specs.Fronts.{IsAccepted}
+use Rattle.c_compile.specs.Images.{IsImageOf}
+use Rattle.flat_lower.specs.Keeps as bytes
+use Rattle.grid_place.specs.declared.placed.Placing.TheVariants.{Greedy}
+use Rattle.grid_place.specs.Moves.{goes}
+use Rattle.grid_place.specs.Seeded.{list_of}
 use Rattle.c_meaning_spec.specs.Eval.{eval}
 use Rattle.c_meaning.specs.declared.outcome.Outcome.{Outcome}
 use Rattle.c_meaning.specs.declared.outcome.Outcome.TheVariants as outcome
@@ -24,15 +31,18 @@ use Rattle.trips_run.specs.declared.status.Status.{Status}
 use Rattle.trips_run.specs.declared.status.Status.TheVariants as status
 use Rattle.trips_run.specs.Request.{Request}
 use Rattle.trips_run.specs.Read.{IsRead, IsInputRead, limit_of}
-use Rattle.trips_run.specs.Source.{IsReturn, return_block}
 use Rattle.trips_run.specs.Report.{ending_of, run_report, usage_text, read_fault_text}
 use Rattle.trips_run.specs.Report.{eval_report}
-use Rattle.trips_run.specs.Refusal.{form_text, too_large_text}
+use Rattle.trips_run.specs.Refusal.{front_refusal, too_large_text}
 use Rattle.trips_run.specs.Refused.{IsRefusedAs}
 
 -- this status, with this text
 abbrev pub IsFixed : Status → List ℕ → Status → List ℕ → Type 0
 IsFixed given text s report = (s ≡ given) × (report ≡ text)
+
+-- a refusal that is no want of memory, with its report
+abbrev pub IsRefusalBy : Refusal → Status → List ℕ → Type 0
+IsRefusalBy r s report = (r ≢ Memory) × IsFixed status.Refused (front_refusal r) s report
 
 -- Runs and evaluations ------------------------------------------------------------------------
 
@@ -72,10 +82,14 @@ abbrev pub IsEvaluationOf : ℕ → List ℕ → List ℕ → Status → List �
 IsEvaluationOf most text input s report = (program : TypedProgram) × IsAccepted text program
     × IsEvaluation program input most s report
 
--- the block of the number that the text's program returns is run
-abbrev pub IsRunOfReturn : ℕ → List ℕ → List ℕ → Status → List ℕ → Type 0
-IsRunOfReturn most text input s report = (n : ℕ) × IsReturn text n
-    × IsRunBy (return_block n ∷ []) [] input most s report
+-- where slot s of each block of a compiled program stands
+unfoldable pub placed : ℕ → ℕ
+placed = goes (list_of Greedy)
+
+-- the image that is compiled from the text is run, on an input of bytes
+abbrev pub IsRunOfText : ℕ → List ℕ → List ℕ → Status → List ℕ → Type 0
+IsRunOfText most text input s report = (image : Image) × IsImageOf text placed image
+    × bytes.IsInput input × IsRunBy image.blocks image.bytes input most s report
 
 -- the image is run, all of whose blocks are good
 abbrev pub IsRunOfImage : ℕ → List ℕ → List ℕ → Status → List ℕ → Type 0
@@ -86,7 +100,7 @@ IsRunOfImage most bytes input s report = (image : Image) × ImageBytes image byt
 -- row for each command and each form of its file.
 abbrev pub IsWorked : Work → FileForm → ℕ → List ℕ → List ℕ → Status → List ℕ → Type 0
 IsWorked Evaluate how most text input s report = IsEvaluationOf most text input s report
-IsWorked Run form.Source most text input s report = IsRunOfReturn most text input s report
+IsWorked Run form.Source most text input s report = IsRunOfText most text input s report
 IsWorked Run form.Image most bytes input s report = IsRunOfImage most bytes input s report
 
 -- the bytes of the file are refused with the report that says why

@@ -1,13 +1,12 @@
 pub mod Request
-pub mod Source
 pub mod Read
 pub mod Report
 pub mod Refusal
 pub mod Answer
-pub mod Trees
 pub mod Checked
 pub mod Refused
 pub mod Table
+pub mod Evaluated
 pub mod Number
 pub mod Options
 pub mod Seen

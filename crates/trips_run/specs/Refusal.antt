@@ -14,10 +14,6 @@ use Rattle.block_image.specs.declared.fault.ImageFault.TheVariants as image
 use Rattle.block_check.specs.declared.fault.CheckFault.{CheckFault}
 use Rattle.block_check.specs.declared.fault.CheckFault.TheVariants as check
 
--- of a program that is accepted, and not built yet
-unfoldable pub form_text : List ℕ
-form_text = codes "refused form 1 FormNotBuilt\n"
-
 -- of a file that is too large
 unfoldable pub too_large_text : List ℕ
 too_large_text = codes "refused file 2 TooLarge\n"

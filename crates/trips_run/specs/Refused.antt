@@ -15,17 +15,12 @@ use Rattle.trips_run.specs.declared.command_line.FileForm.{FileForm}
 use Rattle.trips_run.specs.declared.command_line.FileForm.TheVariants as form
 use Rattle.trips_run.specs.Request.{Request}
 use Rattle.trips_run.specs.Read.{most_input_bytes, limit_of}
-use Rattle.trips_run.specs.Source.{IsNotBuilt}
-use Rattle.trips_run.specs.Refusal.{form_text, front_refusal, image_refusal, check_refusal}
+use Rattle.trips_run.specs.Refusal.{front_refusal, image_refusal, check_refusal}
 
 -- a stage of the front end refuses the text, and this is its report
 abbrev pub IsRefusedByFront : List ℕ → List ℕ → Type 0
 IsRefusedByFront text report =
     (r : Refusal) × fronts.IsRefused text r × (report ≡ front_refusal r)
-
--- the text is of a program that is not built
-abbrev pub IsRefusedByForm : List ℕ → List ℕ → Type 0
-IsRefusedByForm text report = IsNotBuilt text × (report ≡ form_text)
 
 -- the bytes are no image, and go wrong first where the report says
 abbrev pub IsNoImage : List ℕ → List ℕ → Type 0
@@ -42,8 +37,7 @@ IsBadImage bytes report = (image : Image) × (number : ℕ) × (fault : CheckFau
 -- and each form of its file.
 abbrev pub IsRefusedAs : Work → FileForm → List ℕ → List ℕ → Type 0
 IsRefusedAs Evaluate how text report = IsRefusedByFront text report
-IsRefusedAs Run form.Source text report =
-    IsRefusedByFront text report ⊎ IsRefusedByForm text report
+IsRefusedAs Run form.Source text report = IsRefusedByFront text report
 IsRefusedAs Run form.Image bytes report = IsNoImage bytes report ⊎ IsBadImage bytes report
 
 -- the file has too many bytes, or they are refused

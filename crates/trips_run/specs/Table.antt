@@ -1,6 +1,7 @@
 -- What a call of the program answered and wrote, status by status.
 use Rattle.std.specs.Prelude.{◌≡◌, ℕ, ◌<◌, ◌≤◌, List, [], ◌∷◌, ◌++◌, length, Option, Some, codes}
-use Rattle.std.specs.Prelude.{decimal, IsSomeAnd, ◌⊎◌}
+use Rattle.std.specs.Prelude.{IsSomeAnd, ◌⊎◌, ℤ}
+use Rattle.std.specs.Fmt.{signed_decimal}
 use Rattle.trips_outside.specs.Outside.{Appended, AppendedPart, Holds}
 use Rattle.trips_run.specs.declared.command_line.Work.{Work}
 use Rattle.trips_run.specs.declared.command_line.Work.TheVariants.{Evaluate}
@@ -10,6 +11,7 @@ use Rattle.trips_run.specs.declared.status.Status.TheVariants as status
 use Rattle.trips_run.specs.Request.{Request}
 use Rattle.trips_run.specs.Read.{HoldsInput, IsTold, limit_of}
 use Rattle.trips_run.specs.Refused.{IsLarge}
+use Rattle.trips_run.specs.Report.{report_of}
 use Rattle.trips_run.specs.Answer.{IsWorked, IsAnswer}
 
 -- Some answer that holds was cut off: the first part of its report was written.
@@ -28,9 +30,13 @@ IsAnswered request held rose old new cut status.WriteFault =
 IsAnswered request held rose old new cut s = (report : List ℕ)
     × IsAnswer request held rose s report × Appended old new report
 
--- the report of the program that returns n
-abbrev pub return_report : ℕ → List ℕ
-return_report n = codes "output 0" ++ (10 ∷ 10 ∷ codes "result ") ++ decimal n ++ 10 ∷ []
+-- the report of a run that ended with an output and a result
+abbrev pub ended_report : List ℕ → ℤ → List ℕ
+ended_report output result = report_of output (codes "result " ++ signed_decimal result)
+
+-- the report of a run whose stack was full, with the output so far
+abbrev pub full_report : List ℕ → List ℕ
+full_report output = report_of output (codes "stack full")
 
 -- one of these statuses
 abbrev pub IsOneOf : Status → List Status → Type 0

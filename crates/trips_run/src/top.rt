@@ -1,8 +1,11 @@
-ghost use Rattle.std.specs.Prelude.{◌≡◌, ◌≢◌, ◌≤◌, ◌∷◌, [], All, List, ℕ, None, Some};
+ghost use Rattle.std.specs.Prelude.{◌≡◌, ◌≢◌, ◌≤◌, ◌+◌, ◌*◌, ◌∷◌, [], All, List, ℕ, ℤ, None, Some};
 ghost use Rattle.trips_isa.specs.declared.block.Image.{Image};
 ghost use Rattle.trips_isa.specs.Machine.{runs, start};
 ghost use Rattle.c_tree.specs.declared.typed.TypedProgram.{TypedProgram};
 ghost use Rattle.c_front.specs.Fronts.{IsAccepted};
+ghost use Rattle.c_meaning_spec.specs.declared.signal.Ending.TheVariants.{Deep};
+ghost use Rattle.c_meaning_spec.specs.Eval.{Stopped, Done, eval};
+ghost use Rattle.c_compile.specs.Images.{IsImageOf};
 ghost use Rattle.block_image.specs.Spelling.{ImageBytes};
 ghost use Rattle.block_check.specs.Faults.{IsGood};
 ghost use Rattle.trips_outside.specs.Outside.{Rose, Appended};
@@ -11,13 +14,13 @@ ghost use Rattle.trips_run.specs.declared.command_line.Work.TheVariants.{Run, Ev
 ghost use Rattle.trips_run.specs.declared.command_line.FileForm.{FileForm};
 ghost use Rattle.trips_run.specs.declared.command_line.FileForm.TheVariants as form;
 ghost use Rattle.trips_run.specs.Request.{Request, request_of};
-ghost use Rattle.trips_run.specs.Source.{IsReturn};
 ghost use Rattle.trips_run.specs.Refusal.{too_large_text};
 ghost use Rattle.trips_run.specs.Refused.{IsRefusedAs, MayBeRefused, IsRefused};
-ghost use Rattle.trips_run.specs.Answer.{status_of, eval_status, outcome_of};
+ghost use Rattle.trips_run.specs.Answer.{status_of, eval_status, outcome_of, placed};
 ghost use Rattle.trips_run.specs.Report.{ending_of, run_report, eval_report};
-ghost use Rattle.trips_run.specs.Table.{IsAnswered, IsCutOff, IsOneOf, return_report, Asks};
+ghost use Rattle.trips_run.specs.Table.{IsAnswered, IsCutOff, IsOneOf, ended_report, full_report, Asks};
 ghost use Rattle.trips_run.specs.Table.{HasLargeFile, HasLargeInput, EndsAs, EvalEnds};
+ghost use Rattle.trips_run.specs.Evaluated.{RunEndsAs};
 
 use crate::asked_answer::answer_for;
 use crate::status::Status;
@@ -32,16 +35,41 @@ pub fn trips_run<F: Files, K: Sink>(
     files: &mut F,
     sink: &mut K,
 ) -> Status
-    // The number is reported that a program returns, where the file and the input are told and
+    // Of an accepted program whose evaluation ends within n steps, exactly its output and its result are
+    // reported, where the budget is at least 16 n + 16 blocks, the file and the input are told and
     // within their limits, neither the files nor the sink failed in this call, and memory was not
     // refused.
-    ensures headline { (most n : ℕ) (text input : List ℕ)
+    ensures headline { (most n : ℕ) (text input output : List ℕ) (value : ℤ) (steps : ℕ)
+        (program : TypedProgram)
         → Asks (request_of words.now) (F.held files.old) Run form.Source most text input
-        → IsReturn text n
+        → IsAccepted text program → eval program input n ≡ Done output value steps
+        → 16 * n + 16 ≤ most
         → ¬ Rose (F.faults files.old) (F.faults files.new)
         → ¬ Rose (K.faults sink.old) (K.faults sink.new) → result ≢ Status.Memory
         → (result ≡ Status.Ended)
-        × Appended (K.written sink.old) (K.written sink.new) (return_report n) }
+        × Appended (K.written sink.old) (K.written sink.new) (ended_report output value) }
+
+    // Where its frames are too large within n steps, a full stack is reported, with the output so far.
+    ensures deep { (most n : ℕ) (text input output : List ℕ) (program : TypedProgram)
+        → Asks (request_of words.now) (F.held files.old) Run form.Source most text input
+        → IsAccepted text program → eval program input n ≡ Stopped Deep output
+        → 16 * n + 16 ≤ most
+        → ¬ Rose (F.faults files.old) (F.faults files.new)
+        → ¬ Rose (K.faults sink.old) (K.faults sink.new) → result ≢ Status.Memory
+        → (result ≡ Status.StackFull)
+        × Appended (K.written sink.old) (K.written sink.new) (full_report output) }
+
+    // Whatever its evaluation comes to, the run of an image of the text is reported.
+    ensures text_run { (most : ℕ) (text input : List ℕ) (program : TypedProgram)
+        → Asks (request_of words.now) (F.held files.old) Run form.Source most text input
+        → IsAccepted text program
+        → ¬ Rose (F.faults files.old) (F.faults files.new)
+        → ¬ Rose (K.faults sink.old) (K.faults sink.new) → result ≢ Status.Memory
+        → (image : Image) × IsImageOf text placed image
+        × let run = runs image.blocks (start image.bytes input) most in
+        (result ≡ status_of (ending_of run.1 run.0.next))
+        × Appended (K.written sink.old) (K.written sink.new)
+        (run_report (ending_of run.1 run.0.next) run.0) }
 
     // Under the same premises: the run of an image of good blocks is reported, as `runs` has it.
     ensures image_run { (blocks : ℕ) (bytes input : List ℕ) (image : Image)
@@ -109,6 +137,10 @@ pub fn trips_run<F: Files, K: Sink>(
     ensures run_ends { (q : Request) → request_of words.now ≡ Some q → q.work ≡ Run
         → IsOneOf result (Status.Ended ∷ Status.Budget ∷ Status.StackFull ∷ Status.Trap ∷ [])
         → EndsAs (F.held files.old) q result }
+    ensures text_ends { (q : Request) → request_of words.now ≡ Some q → q.work ≡ Run
+        → q.form ≡ form.Source
+        → IsOneOf result (Status.Ended ∷ Status.Budget ∷ Status.StackFull ∷ Status.Trap ∷ [])
+        → RunEndsAs (F.held files.old) q result }
     ensures write_fault { result ≡ Status.WriteFault
         → Rose (K.faults sink.old) (K.faults sink.new) }
     ensures cut_off { result ≡ Status.WriteFault

@@ -7,7 +7,7 @@ use trips_run::Status;
 
 // Texts and their reports. A statement, a declarator and a node cost a step each, and a call one
 // more; groups and conversions cost none.
-const COUNTED: &[(&str, &str)] = &[
+pub(crate) const COUNTED: &[(&str, &str)] = &[
     (
         "int main(void) { return 7; }",
         "output 0\n\nresult 7\nsteps 4\n",
@@ -103,7 +103,7 @@ const COUNTED: &[(&str, &str)] = &[
 ];
 
 // Texts with how their reports begin.
-const ENDED: &[(&str, &str)] = &[
+pub(crate) const ENDED: &[(&str, &str)] = &[
     (
         "int main(void) { return -7 / 2 * 10 + -7 % 2; }",
         "output 0\n\nresult -31\nsteps 14\n",
@@ -142,7 +142,7 @@ const ENDED: &[(&str, &str)] = &[
 ];
 
 // Expressions that are undefined, each before one just inside its range, with its value.
-const EDGES: &[(&str, &str, &str)] = &[
+pub(crate) const EDGES: &[(&str, &str, &str)] = &[
     ("2147483647 + 1", "2147483646 + 1", "2147483647"),
     ("-2147483647 - 2", "-2147483647 - 1", "-2147483648"),
     ("46341 * 46341", "46340 * 46340", "2147395600"),
@@ -165,7 +165,7 @@ const EDGES: &[(&str, &str, &str)] = &[
 ];
 
 // Texts that are undefined, each before one that is not and has result 3.
-const UNSET: &[(&str, &str)] = &[
+pub(crate) const UNSET: &[(&str, &str)] = &[
     (
         "int main(void) { int x; return x; }",
         "int main(void) { int x = 3; return x; }",
@@ -256,7 +256,7 @@ fn evaluates_as_the_standard_does(rt: HostRuntime) -> Result<(), Fail> {
 }
 
 // The text of a program that returns an expression.
-fn returning(alloc: Global, expression: &str) -> Result<String, AllocError> {
+pub(crate) fn returning(alloc: Global, expression: &str) -> Result<String, AllocError> {
     let mut text = String::from_str(alloc, "int main(void) { return ")?;
     text.push_str(expression)?;
     text.push_str("; }")?;
@@ -293,7 +293,7 @@ fn is_undefined_where_nothing_was_set(rt: HostRuntime) -> Result<(), Fail> {
     Ok(())
 }
 
-const WORDS: &str = "#include <stdio.h>
+pub(crate) const WORDS: &str = "#include <stdio.h>
 int main(void) {
   int c; int in = 0; int words = 0;
   while ((c = getchar()) != EOF) {
@@ -323,10 +323,10 @@ fn reads_its_input(rt: HostRuntime) -> Result<(), Fail> {
 }
 
 // The frames of 6,897 calls and of `main` fill a mebibyte, and eight bytes more do not fit.
-const DEEP: &str = "int f(int n) { if (n == 0) return 0; return f(n - 1) + 1; } \
+pub(crate) const DEEP: &str = "int f(int n) { if (n == 0) return 0; return f(n - 1) + 1; } \
      int main(void) { char pad[88]; return f(6896); }";
 
-const DEEPER: &str = "int f(int n) { if (n == 0) return 0; return f(n - 1) + 1; } \
+pub(crate) const DEEPER: &str = "int f(int n) { if (n == 0) return 0; return f(n - 1) + 1; } \
      int main(void) { char pad[89]; return f(6896); }";
 
 #[test]

@@ -1,11 +1,11 @@
-//! `run` on texts of C: what is built, and what each stage refuses.
+//! `run` on texts of C: small programs, and what each stage refuses.
 use crate::harness::answer_of;
 use std::alloc::{AllocError, Global};
 use std::process::Abort;
 use std::test::Fail;
 use trips_run::Status;
 
-const BUILT: &[(&str, &str)] = &[
+const SMALL: &[(&str, &str)] = &[
     ("int main(void) { return 7; }", "output 0\n\nresult 7\n"),
     ("int main() { return 7; }", "output 0\n\nresult 7\n"),
     ("int main(void){return 7;}\n\n", "output 0\n\nresult 7\n"),
@@ -18,69 +18,69 @@ const BUILT: &[(&str, &str)] = &[
         "output 0\n\nresult 65535\n",
     ),
     ("int main(void) { return 'a'; }", "output 0\n\nresult 97\n"),
-];
-
-const NOT_BUILT: &[(&str, &str)] = &[
     (
         "int main(void) { return 65536; }",
-        "refused form 1 FormNotBuilt\n",
+        "output 0\n\nresult 65536\n",
     ),
     (
         "int main(void) { return 7u; }",
-        "refused form 1 FormNotBuilt\n",
+        "output 0\n\nresult 7\n",
     ),
     (
         "int main(void) { return 7L; }",
-        "refused form 1 FormNotBuilt\n",
+        "output 0\n\nresult 7\n",
     ),
     (
         "int main(void) { return +7; }",
-        "refused form 1 FormNotBuilt\n",
+        "output 0\n\nresult 7\n",
     ),
     (
         "int main(void) { return -7; }",
-        "refused form 1 FormNotBuilt\n",
+        "output 0\n\nresult -7\n",
     ),
     (
         "int main(void) { return '\\377'; }",
-        "refused form 1 FormNotBuilt\n",
+        "output 0\n\nresult -1\n",
     ),
     (
         "int main(void) { return (7); }",
-        "refused form 1 FormNotBuilt\n",
+        "output 0\n\nresult 7\n",
     ),
     (
         "int main(void) { return (int) 7; }",
-        "refused form 1 FormNotBuilt\n",
+        "output 0\n\nresult 7\n",
     ),
     (
         "int main(void) { return 3 + 4; }",
-        "refused form 1 FormNotBuilt\n",
+        "output 0\n\nresult 7\n",
     ),
     (
         "int main(void) { ; return 7; }",
-        "refused form 1 FormNotBuilt\n",
+        "output 0\n\nresult 7\n",
     ),
     (
         "int main(void) { return 7; ; }",
-        "refused form 1 FormNotBuilt\n",
+        "output 0\n\nresult 7\n",
     ),
     (
         "int main(void) { { return 7; } }",
-        "refused form 1 FormNotBuilt\n",
+        "output 0\n\nresult 7\n",
     ),
-    ("int main(void) { }", "refused form 1 FormNotBuilt\n"),
+    (
+        "int main(void) { }",
+        "output 0\n\nresult 0\n",
+    ),
     (
         "int x; int main(void) { return 7; }",
-        "refused form 1 FormNotBuilt\n",
+        "output 0\n\nresult 7\n",
     ),
     (
         "int main(void); int main(void) { return 7; }",
-        "refused form 1 FormNotBuilt\n",
+        "output 0\n\nresult 7\n",
     ),
     (
         "#include <stdio.h>\nint main(void) { return 7; }",
-        "refused form 1 FormNotBuilt\n",
+        "output 0\n\nresult 7\n",
     ),
 ];
 
@@ -259,14 +259,8 @@ fn assert_rows(
 }
 
 #[test]
-fn builds_each_spelling_of_a_returned_number(rt: HostRuntime) -> Result<(), Fail> {
-    assert_rows(&rt, rt.alloc(), "run", Status::Ended, BUILT)?;
-    Ok(())
-}
-
-#[test]
-fn builds_no_other_program(rt: HostRuntime) -> Result<(), Fail> {
-    assert_rows(&rt, rt.alloc(), "run", Status::Refused, NOT_BUILT)?;
+fn runs_each_small_program(rt: HostRuntime) -> Result<(), Fail> {
+    assert_rows(&rt, rt.alloc(), "run", Status::Ended, SMALL)?;
     Ok(())
 }
 
@@ -286,10 +280,10 @@ fn refuses_by_the_first_stage(rt: HostRuntime) -> Result<(), Fail> {
 fn nests_to_a_depth_of_64(rt: HostRuntime) -> Result<(), Fail> {
     let alloc = rt.alloc();
     let rows = [
-        (62usize, "refused form 1 FormNotBuilt\n"),
-        (63, "refused parse 2 TooDeep line 1\n"),
+        (62usize, Status::Ended, "output 0\n\nresult 1\n"),
+        (63, Status::Refused, "refused parse 2 TooDeep line 1\n"),
     ];
-    for (count, report) in rows {
+    for (count, status, report) in rows {
         let mut text = String::from_str(alloc, "int main(void) { return ")?;
         for _i in 0..count {
             text.push_str("(")?;
@@ -303,7 +297,7 @@ fn nests_to_a_depth_of_64(rt: HostRuntime) -> Result<(), Fail> {
             &rt,
             alloc,
             "run",
-            Status::Refused,
+            status,
             &[(text.as_str(), report)],
         )?;
     }
@@ -315,10 +309,14 @@ fn nests_to_a_depth_of_64(rt: HostRuntime) -> Result<(), Fail> {
 fn takes_64_scalars(rt: HostRuntime) -> Result<(), Fail> {
     let alloc = rt.alloc();
     let rows = [
-        ("", "refused form 1 FormNotBuilt\n"),
-        ("int y;", "refused type 6 TooManyScalars line 3\n"),
+        ("", Status::Ended, "output 0\n\nresult 0\n"),
+        (
+            "int y;",
+            Status::Refused,
+            "refused type 6 TooManyScalars line 3\n",
+        ),
     ];
-    for (more, report) in rows {
+    for (more, status, report) in rows {
         let mut text = String::from_str(alloc, "int main(void) {\n")?;
         for i in 0..64u32 {
             text.push_str("int x")?;
@@ -332,7 +330,7 @@ fn takes_64_scalars(rt: HostRuntime) -> Result<(), Fail> {
             &rt,
             alloc,
             "run",
-            Status::Refused,
+            status,
             &[(text.as_str(), report)],
         )?;
     }
@@ -344,10 +342,10 @@ fn takes_64_scalars(rt: HostRuntime) -> Result<(), Fail> {
 fn takes_a_need_of_16(rt: HostRuntime) -> Result<(), Fail> {
     let alloc = rt.alloc();
     let rows = [
-        (8usize, "refused form 1 FormNotBuilt\n"),
-        (9, "refused type 8 Need line 1\n"),
+        (8usize, Status::Ended, "output 0\n\nresult 9\n"),
+        (9, Status::Refused, "refused type 8 Need line 1\n"),
     ];
-    for (count, report) in rows {
+    for (count, status, report) in rows {
         let mut text = String::from_str(alloc, "int f(int a, int b, int c, int d, int e, ")?;
         text.push_str("int g, int h, int i) { return i; } int main(void) { ")?;
         text.push_str("return f(1, 1, 1, 1, 1, 1, 1, ")?;
@@ -363,7 +361,7 @@ fn takes_a_need_of_16(rt: HostRuntime) -> Result<(), Fail> {
             &rt,
             alloc,
             "run",
-            Status::Refused,
+            status,
             &[(text.as_str(), report)],
         )?;
     }

@@ -18,6 +18,8 @@ mod outside_tests;
 #[cfg(test)]
 mod report_tests;
 #[cfg(test)]
+mod run_tests;
+#[cfg(test)]
 mod token_tests;
 #[cfg(test)]
 mod trap_tests;

@@ -9,8 +9,6 @@ const SEVEN: &str = "int main(void) { return 7; }";
 
 const SEVEN_REPORT: &str = "output 0\n\nresult 7\n";
 
-const NOT_BUILT: &str = "refused form 1 FormNotBuilt\n";
-
 fn words_of(alloc: Global, texts: &[&str]) -> Result<Vec<String>, AllocError> {
     let mut words = Vec::new(alloc);
     for text in texts {
@@ -62,8 +60,8 @@ fn reports_the_number_whatever_the_pieces(rt: HostRuntime) -> Result<(), Fail> {
         ),
         (
             "int main(void) { return 65536; }",
-            Status::Refused,
-            NOT_BUILT,
+            Status::Ended,
+            "output 0\n\nresult 65536\n",
         ),
         ("", Status::Refused, "refused parse 1 Syntax line 1\n"),
         ("@", Status::Refused, "refused lex 1 BadByte line 1\n"),

@@ -1,5 +1,11 @@
-use Rattle.trips_run.proofs.Told.{tree_told}
+use Rattle.std.proofs.Common.{arith}
+use Rattle.trips_run.proofs.Compiled.{has_blocks}
+use Rattle.trips_run.proofs.Told.{compiled_told, run_refused_told}
 use Rattle.trips_run.proofs.text_answer.text_answer.Goals as goal
 
+pub run_image-requires : goal.run_image-requires
+run_image-requires c = has_blocks c.args.text.now _ c.in-Ok.image c.in-Ok.ensures.ok
+
 pub returns-in-Ok : goal.returns-in-Ok
-returns-in-Ok c = tree_told _ _ _ c.in-Ok.tree _ c.in-Ok.ensures.ok c.tree_answer.ensures
+returns-in-Ok c = compiled_told c.args.text.now c.args.input c.args.blocks c.in-Ok.image _
+    c.in-Ok.ensures.ok _ c.run_image.ensures

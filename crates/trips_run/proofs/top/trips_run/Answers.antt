@@ -1,4 +1,3 @@
-use Rattle.trips_run.proofs.Requests.{request_goes}
 use Rattle.trips_run.proofs.Causes as causes
 use Rattle.trips_run.proofs.top.trips_run.Goals as goal
 
@@ -10,7 +9,18 @@ returns-in-Ok-write_all-clause-answered g c =
 pub returns-in-Ok-write_all-clause-headline : goal.returns-in-Ok-write_all-clause-headline
 returns-in-Ok-write_all-clause-headline g c =
     causes.headline _ _ _ _ _ _ _ (returns-in-Ok-write_all-clause-answered g c)
-    (request_goes c.args.words.now)
+
+pub returns-in-Ok-write_all-clause-deep : goal.returns-in-Ok-write_all-clause-deep
+returns-in-Ok-write_all-clause-deep g c =
+    causes.deep _ _ _ _ _ _ _ (returns-in-Ok-write_all-clause-answered g c)
+
+pub returns-in-Ok-write_all-clause-text_run : goal.returns-in-Ok-write_all-clause-text_run
+returns-in-Ok-write_all-clause-text_run g c =
+    causes.text_run _ _ _ _ _ _ _ (returns-in-Ok-write_all-clause-answered g c)
+
+pub returns-in-Ok-write_all-clause-text_ends : goal.returns-in-Ok-write_all-clause-text_ends
+returns-in-Ok-write_all-clause-text_ends g c =
+    causes.text_ends _ _ _ _ _ _ _ (returns-in-Ok-write_all-clause-answered g c)
 
 pub returns-in-Ok-write_all-clause-evaluation : goal.returns-in-Ok-write_all-clause-evaluation
 returns-in-Ok-write_all-clause-evaluation g c =

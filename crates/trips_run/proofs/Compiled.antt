@@ -1,0 +1,151 @@
+-- What the run of a compiled program is told to come to.
+use Rattle.std.proofs.Common.{◌≡◌, ℕ, ℤ, ◌+◌, ◌-◌, ◌*◌, ◌<◌, ◌≤◌, List, ◌++◌, slice_index, refl, sym, ap, ◌∙◌, subst}
+use Rattle.std.proofs.Common.{length, Option, arith}
+use Rattle.std.specs.Prelude.{codes}
+use Rattle.std.specs.Fmt.{signed_decimal}
+use Rattle.trips_outside.specs.Outside.{Holds}
+use Rattle.trips_isa.specs.declared.block.Image.{Image}
+use Rattle.trips_isa.specs.declared.run.Ending.{Ending}
+use Rattle.trips_isa.specs.declared.run.Ending.TheVariants as ending
+use Rattle.trips_isa.specs.declared.run.Stepped.{Stepped}
+use Rattle.trips_isa.specs.declared.run.Stepped.TheVariants as stepped
+use Rattle.trips_isa.specs.Machine.{State, start, runs}
+use Rattle.c_tree.specs.declared.typed.TypedProgram.{TypedProgram}
+use Rattle.c_meaning_spec.specs.declared.signal.Ending.TheVariants.{More, Undefined, Deep}
+use Rattle.c_meaning_spec.specs.Eval.{Outcome, Stopped, Done, eval}
+use Rattle.c_front.specs.Fronts.{IsAccepted}
+use Rattle.c_front.proofs.Once.{accepted_once}
+use Rattle.flat_lower.specs.Keeps.{IsInput}
+use Rattle.c_compile_laws.specs.Runs.{run_of, HasEnded, IsFull, Settles, AnswersAs}
+use Rattle.c_compile.specs.Images.{IsImageOf, MeansText}
+use Rattle.c_compile.proofs.Images.{images_mean}
+use Rattle.trips_run.specs.declared.status.Status.{Status}
+use Rattle.trips_run.specs.declared.status.Status.TheVariants as status
+use Rattle.trips_run.specs.Request.{Request}
+use Rattle.trips_run.specs.Read.{HoldsInput}
+use Rattle.trips_run.specs.Report.{ending_of, run_report, report_of}
+use Rattle.trips_run.specs.Answer.{placed, status_of, IsRunBy, IsRunOfText}
+use Rattle.trips_run.specs.Table.{ended_report, full_report}
+use Rattle.trips_run.specs.Evaluated.{SaysOf, HasNotEnded, RunEndsAs}
+use Rattle.trips_run.proofs.Results.{signed_number}
+
+-- an image of a text has a block
+pub has_blocks : (text : List ℕ) (p : ℕ → ℕ) (i : Image) → IsImageOf text p i → 0 < length i.blocks
+has_blocks text p i is = let good = (images_mean text p i is).bounds.good in omega (arith, good.fits.some)
+
+-- a run that has settled stands so at each later number of blocks
+settled : (run : ℕ → State × Stepped) (few most : ℕ) (holds : State × Stepped → Type 0)
+    → Settles run few holds → few ≤ most → holds (run most)
+settled run few most holds s le =
+    let is : s.blocks + (most - s.blocks) ≡ most = omega (arith, le, s.few) in
+    subst (λ (k : ℕ). holds (run k)) is (s.from (most - s.blocks))
+
+-- REPORTS
+
+ended : (r : State × Stepped) (output : List ℕ) (value : ℤ) (s : Status) (report : List ℕ)
+    → HasEnded output value r → s ≡ status_of (ending_of r.1 r.0.next)
+    → report ≡ run_report (ending_of r.1 r.0.next) r.0
+    → (s ≡ status.Ended) × (report ≡ ended_report output value)
+ended r output value s report h is told =
+    let e : ending_of r.1 r.0.next ≡ ending.Ended = ap (λ (a : Stepped). ending_of a r.0.next) h.answer in
+    let digits = signed_number (slice_index r.0.registers 3) h.word.below ∙ ap signed_decimal h.is in (
+      is ∙ ap status_of e,
+      told ∙ ap (λ (x : Ending). run_report x r.0) e
+          ∙ ap (λ (t : List ℕ). report_of r.0.output (codes "result " ++ t)) digits
+          ∙ ap (λ (o : List ℕ). report_of o (codes "result " ++ signed_decimal value)) h.output,
+    )
+
+full : (r : State × Stepped) (output : List ℕ) (s : Status) (report : List ℕ) → IsFull output r
+    → s ≡ status_of (ending_of r.1 r.0.next) → report ≡ run_report (ending_of r.1 r.0.next) r.0
+    → (s ≡ status.StackFull) × (report ≡ full_report output)
+full r output s report h is told =
+    let e : ending_of r.1 r.0.next ≡ ending.StackFull = ap (λ (a : Stepped). ending_of a r.0.next) h.answer in (
+      is ∙ ap status_of e,
+      told ∙ ap (λ (x : Ending). run_report x r.0) e
+          ∙ ap (λ (o : List ℕ). report_of o (codes "stack full")) h.output,
+    )
+
+module _ (most n : ℕ) (text input : List ℕ) (program : TypedProgram) (s : Status)
+    (report : List ℕ) (run : IsRunOfText most text input s report)
+    (accepted : IsAccepted text program) (enough : 16 * n + 16 ≤ most) where
+  means : MeansText text placed run.0
+  means = images_mean text placed run.0 run.1
+
+  same : means.program ≡ program
+  same = accepted_once text means.program program means.accepted accepted
+
+  -- where the evaluation is done within n steps
+  pub finished_told : (output : List ℕ) (value : ℤ) (steps : ℕ)
+      → eval program input n ≡ Done output value steps
+      → (s ≡ status.Ended) × (report ≡ ended_report output value)
+  finished_told output value steps done =
+      let did = means.finished input run.2 n output value steps
+      (ap (λ (p : TypedProgram). eval p input n) same ∙ done) in
+      ended (run_of run.0 input most) output value s report
+      (settled (run_of run.0 input) (16 * n + 6) most (HasEnded output value) did
+      (omega (arith, enough))) run.3.0 run.3.1
+
+  -- where its frames are too large within n steps
+  pub deep_told : (output : List ℕ) → eval program input n ≡ Stopped Deep output
+      → (s ≡ status.StackFull) × (report ≡ full_report output)
+  deep_told output deep =
+      let did = means.deep input run.2 n output
+      (ap (λ (p : TypedProgram). eval p input n) same ∙ deep) in
+      full (run_of run.0 input most) output s report
+      (settled (run_of run.0 input) (16 * n + 6) most (IsFull output) did (omega (arith, enough)))
+      run.3.0 run.3.1
+
+  -- where the budget was spent
+  pub spent_told : s ≡ status.Budget → HasNotEnded (eval program input n)
+  spent_told spent = go (eval program input n) refl
+    where
+      go : (o : Outcome) → eval program input n ≡ o → HasNotEnded o
+      go (Stopped More output) e = tt
+      go (Stopped Undefined output) e = tt
+      go (Stopped Deep output) e =
+          let told : status.Budget ≡ status.StackFull = sym spent ∙ (deep_told output e).0 in absurd (cc)
+      go (Done output value steps) e =
+          let told : status.Budget ≡ status.Ended = sym spent ∙ (finished_told output value steps e).0 in
+          absurd (cc)
+
+-- CAUSES
+
+says : (a : Stepped) (next : ℕ) (o : Outcome) → AnswersAs a o → SaysOf (status_of (ending_of a next)) o
+says stepped.Went next (Stopped More output) h = tt
+says stepped.Went next (Stopped Undefined output) h = tt
+says stepped.Went next (Stopped Deep output) h = tt
+says stepped.Went next (Done output value steps) h = tt
+says stepped.Ended next (Stopped More output) h = absurd h
+says stepped.Ended next (Stopped Undefined output) h = tt
+says stepped.Ended next (Stopped Deep output) h = absurd h
+says stepped.Ended next (Done output value steps) h = tt
+says stepped.StackFull next (Stopped More output) h = absurd h
+says stepped.StackFull next (Stopped Undefined output) h = tt
+says stepped.StackFull next (Stopped Deep output) h = tt
+says stepped.StackFull next (Done output value steps) h = absurd h
+says (stepped.Trap cause) next (Stopped More output) h = absurd h
+says (stepped.Trap cause) next (Stopped Undefined output) h = tt
+says (stepped.Trap cause) next (Stopped Deep output) h = absurd h
+says (stepped.Trap cause) next (Done output value steps) h = absurd h
+
+-- the end of a text's run, of names that hold the text and the input
+pub run_ends_as : (held : List ℕ → Option (List ℕ)) (q : Request) (text input : List ℕ) (s : Status)
+    (report : List ℕ) → Holds (held q.file) text → HoldsInput q.input held input
+    → IsRunOfText q.most text input s report → RunEndsAs held q s
+run_ends_as held q text input s report holds holds_input run =
+    let m : MeansText text placed run.0 = images_mean text placed run.0 run.1 in
+    let r : State × Stepped = run_of run.0 input q.most in
+    record {
+      text = text;
+      input = input;
+      holds = holds;
+      holds_input = holds_input;
+      program = m.program;
+      accepted = m.accepted;
+      tokens = m.tokens;
+      lexed = m.lexed;
+      says = λ n lt. subst (λ (x : Status). SaysOf x (eval m.program input n)) (sym run.3.0)
+          (says r.1 r.0.next (eval m.program input n) (m.ends input run.2 q.most n lt));
+      spent = λ spent n enough.
+          spent_told q.most n text input m.program s report run m.accepted enough spent;
+    }

@@ -1,0 +1,30 @@
+-- A word is written in decimal digits as the number that it stands for.
+use Rattle.std.proofs.Common.{◌≡◌, ℕ, suc, ◌-◌, ◌<◌, ◌≤◌, ◌^◌, Bool, true, false, nat_lt, ℤ, negsuc, refl, sym, ap, ◌∙◌}
+use Rattle.std.proofs.Common.{◌∷◌, arith}
+use Rattle.std.proofs.Math.Facts.{to_z-neg}
+use Rattle.std.proofs.lemmas.Bool.Decides.{nat_tests}
+use Rattle.std.proofs.lemmas.Int.{to_z_pos}
+use Rattle.std.specs.Int.{w64, cast_signed}
+use Rattle.std.specs.Fmt.{decimal, signed_decimal}
+use Rattle.trips_run.specs.Report.{signed}
+
+is_low : (w : ℕ) → nat_lt w (2 ^ 63) ≡ true → w < 2 ^ 63
+is_low w e = grind (arith, nat_tests)
+
+is_high : (w : ℕ) → nat_lt w (2 ^ 63) ≡ false → 2 ^ 63 ≤ w
+is_high w e = grind (arith, nat_tests)
+
+-- a word of the upper half stands for a negative number
+negative : (w : ℕ) → w < 2 ^ 64 → 2 ^ 63 ≤ w → cast_signed w64 w ≡ negsuc (2 ^ 64 - suc w)
+negative w below high =
+    let is : w ≡ 2 ^ 64 - suc (2 ^ 64 - suc w) = omega (arith, below) in
+    ap (cast_signed w64) is ∙ to_z-neg w64 (2 ^ 64 - suc w) (omega (arith, high))
+
+pub signed_number : (w : ℕ) → w < 2 ^ 64 → signed w ≡ signed_decimal (cast_signed w64 w)
+signed_number w below = go (nat_lt w (2 ^ 63)) refl
+  where
+    go : (v : Bool) → nat_lt w (2 ^ 63) ≡ v → signed w ≡ signed_decimal (cast_signed w64 w)
+    go true e = rw e (sym (ap signed_decimal (to_z_pos w64 w (is_low w e))))
+    go false e =
+        let size : 2 ^ 64 - w ≡ suc (2 ^ 64 - suc w) = omega (arith, below) in
+        rw e (ap (λ (k : ℕ). 45 ∷ decimal k) size ∙ sym (ap signed_decimal (negative w below (is_high w e))))
