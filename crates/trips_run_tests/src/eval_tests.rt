@@ -1,9 +1,9 @@
 //! `eval` on texts of C: outcomes, options, and inputs.
-use crate::harness::answer_of;
 use std::alloc::{AllocError, Global};
 use std::process::Abort;
 use std::test::Fail;
 use trips_run::Status;
+use trips_run_harness::answer_of;
 
 // Texts and their reports. A statement, a declarator and a node cost a step each, and a call one
 // more; groups and conversions cost none.
@@ -247,11 +247,20 @@ fn counts_each_step(rt: HostRuntime) -> Result<(), Fail> {
     Ok(())
 }
 
+fn assert_each_begins(
+    rt: &impl Abort,
+    alloc: Global,
+    rows: &[(&str, &str)],
+) -> Result<(), AllocError> {
+    for (text, report) in rows {
+        assert_begins(rt, alloc, text, b"", report)?;
+    }
+    Ok(())
+}
+
 #[test]
 fn evaluates_as_the_standard_does(rt: HostRuntime) -> Result<(), Fail> {
-    for (text, report) in ENDED {
-        assert_begins(&rt, rt.alloc(), text, b"", report)?;
-    }
+    assert_each_begins(&rt, rt.alloc(), ENDED)?;
     Ok(())
 }
 
@@ -263,33 +272,60 @@ pub(crate) fn returning(alloc: Global, expression: &str) -> Result<String, Alloc
     Ok(text)
 }
 
+// The expression is undefined.
+fn assert_undefined(rt: &impl Abort, alloc: Global, expression: &str) -> Result<(), AllocError> {
+    let text = returning(alloc, expression)?;
+    assert_reports(
+        rt,
+        alloc,
+        Status::Undefined,
+        &[(text.as_str(), "undefined\n")],
+    )
+}
+
+// The expression has a value.
+fn assert_value(
+    rt: &impl Abort,
+    alloc: Global,
+    expression: &str,
+    value: &str,
+) -> Result<(), AllocError> {
+    let text = returning(alloc, expression)?;
+    let mut report = String::from_str(alloc, "output 0\n\nresult ")?;
+    report.push_str(value)?;
+    report.push_str("\nsteps ")?;
+    assert_begins(rt, alloc, text.as_str(), b"", report.as_str())
+}
+
+fn assert_edges(
+    rt: &impl Abort,
+    alloc: Global,
+    rows: &[(&str, &str, &str)],
+) -> Result<(), AllocError> {
+    for (outside, inside, value) in rows {
+        assert_undefined(rt, alloc, outside)?;
+        assert_value(rt, alloc, inside, value)?;
+    }
+    Ok(())
+}
+
 #[test]
 fn is_undefined_just_outside_of_a_range(rt: HostRuntime) -> Result<(), Fail> {
-    let alloc = rt.alloc();
-    for (outside, inside, value) in EDGES {
-        let text = returning(alloc, outside)?;
-        assert_reports(
-            &rt,
-            alloc,
-            Status::Undefined,
-            &[(text.as_str(), "undefined\n")],
-        )?;
-        let text = returning(alloc, inside)?;
-        let mut report = String::from_str(alloc, "output 0\n\nresult ")?;
-        report.push_str(*value)?;
-        report.push_str("\nsteps ")?;
-        assert_begins(&rt, alloc, text.as_str(), b"", report.as_str())?;
+    assert_edges(&rt, rt.alloc(), EDGES)?;
+    Ok(())
+}
+
+fn assert_unset(rt: &impl Abort, alloc: Global, rows: &[(&str, &str)]) -> Result<(), AllocError> {
+    for (outside, inside) in rows {
+        assert_reports(rt, alloc, Status::Undefined, &[(*outside, "undefined\n")])?;
+        assert_begins(rt, alloc, inside, b"", "output 0\n\nresult 3\nsteps ")?;
     }
     Ok(())
 }
 
 #[test]
 fn is_undefined_where_nothing_was_set(rt: HostRuntime) -> Result<(), Fail> {
-    let alloc = rt.alloc();
-    for (outside, inside) in UNSET {
-        assert_reports(&rt, alloc, Status::Undefined, &[(*outside, "undefined\n")])?;
-        assert_begins(&rt, alloc, inside, b"", "output 0\n\nresult 3\nsteps ")?;
-    }
+    assert_unset(&rt, rt.alloc(), UNSET)?;
     Ok(())
 }
 
@@ -329,47 +365,55 @@ pub(crate) const DEEP: &str = "int f(int n) { if (n == 0) return 0; return f(n -
 pub(crate) const DEEPER: &str = "int f(int n) { if (n == 0) return 0; return f(n - 1) + 1; } \
      int main(void) { char pad[89]; return f(6896); }";
 
-#[test]
-fn stops_where_steps_or_frames_are_spent(rt: HostRuntime) -> Result<(), Fail> {
-    let alloc = rt.alloc();
-    let rows = [
-        (
-            DEEP,
-            "1000000",
-            Status::Ended,
-            "output 0\n\nresult 6896\nsteps 89662\n",
-        ),
-        (
-            DEEP,
-            "89662",
-            Status::Ended,
-            "output 0\n\nresult 6896\nsteps 89662\n",
-        ),
-        (DEEP, "89661", Status::Budget, "more\n"),
-        (DEEPER, "100000", Status::StackFull, "deep\n"),
-        (DEEPER, "4000000", Status::StackFull, "deep\n"),
-        ("int main(void) { }", "1", Status::Budget, "more\n"),
-        (
-            "int main(void) { }",
-            "002",
-            Status::Ended,
-            "output 0\n\nresult 0\nsteps 2\n",
-        ),
-        (
-            "int main(void) { while (1) ; }",
-            "4000000",
-            Status::Budget,
-            "more\n",
-        ),
-    ];
+// A text within a number of steps, with the status and the report.
+type Row = (&'static str, &'static str, Status, &'static str);
+
+const STOPPED: &[Row] = &[
+    (
+        DEEP,
+        "1000000",
+        Status::Ended,
+        "output 0\n\nresult 6896\nsteps 89662\n",
+    ),
+    (
+        DEEP,
+        "89662",
+        Status::Ended,
+        "output 0\n\nresult 6896\nsteps 89662\n",
+    ),
+    (DEEP, "89661", Status::Budget, "more\n"),
+    (DEEPER, "100000", Status::StackFull, "deep\n"),
+    (DEEPER, "4000000", Status::StackFull, "deep\n"),
+    ("int main(void) { }", "1", Status::Budget, "more\n"),
+    (
+        "int main(void) { }",
+        "002",
+        Status::Ended,
+        "output 0\n\nresult 0\nsteps 2\n",
+    ),
+    (
+        "int main(void) { while (1) ; }",
+        "4000000",
+        Status::Budget,
+        "more\n",
+    ),
+];
+
+fn assert_stopped(rt: &impl Abort, alloc: Global, rows: &[Row]) -> Result<(), AllocError> {
     for (text, steps, status, report) in rows {
         let (answered, written) = answer_of(
             alloc,
-            &["eval", "a.c", "--steps", steps],
+            &["eval", "a.c", "--steps", *steps],
             &[("a.c", text.as_bytes())],
         )?;
-        assert_eq!(rt; answered, status, "{text} {steps}");
+        assert_eq!(rt; answered, *status, "{text} {steps}");
         assert_eq!(rt; written.as_slice(), report.as_bytes(), "{text} {steps}");
     }
+    Ok(())
+}
+
+#[test]
+fn stops_where_steps_or_frames_are_spent(rt: HostRuntime) -> Result<(), Fail> {
+    assert_stopped(&rt, rt.alloc(), STOPPED)?;
     Ok(())
 }

@@ -1,10 +1,10 @@
 //! `run` on texts of C: it agrees with `eval` on output and result, and its budgets and its stack end it.
 use crate::eval_tests::{COUNTED, DEEP, DEEPER, EDGES, ENDED, UNSET, WORDS, returning};
-use crate::harness::answer_of;
 use std::alloc::{AllocError, Global};
 use std::process::Abort;
 use std::test::Fail;
 use trips_run::Status;
+use trips_run_harness::answer_of;
 
 const TYPES: &[&str] = &[
     "char",
@@ -17,8 +17,8 @@ const TYPES: &[&str] = &[
 ];
 
 const OPERATORS: &[&str] = &[
-    "+", "-", "*", "/", "%", "&", "|", "^", "<<", ">>", "<", "<=", ">", ">=", "==", "!=", "&&", "||",
-    ",",
+    "+", "-", "*", "/", "%", "&", "|", "^", "<<", ">>", "<", "<=", ">", ">=", "==", "!=", "&&",
+    "||", ",",
 ];
 
 const ASSIGNERS: &[&str] = &[
@@ -26,6 +26,8 @@ const ASSIGNERS: &[&str] = &[
 ];
 
 const PREFIXES: &[&str] = &["+", "-", "~", "!", "++", "--"];
+
+const SUFFIXES: &[&str] = &["++", "--"];
 
 // A statement of each kind, nested, with calls, arrays, and jumps out of loops.
 const STATEMENTS: &[&str] = &[
@@ -44,7 +46,12 @@ const STATEMENTS: &[&str] = &[
 ];
 
 // What `run` reports is what `eval` reports, without the line of the steps.
-fn assert_agrees(rt: &impl Abort, alloc: Global, text: &str, input: &[u8]) -> Result<(), AllocError> {
+fn assert_agrees(
+    rt: &impl Abort,
+    alloc: Global,
+    text: &str,
+    input: &[u8],
+) -> Result<(), AllocError> {
     let held = [("a.c", text.as_bytes()), ("t", input)];
     let (told, evaluated) = answer_of(alloc, &["eval", "a.c", "--input", "t"], &held)?;
     let (status, written) = answer_of(alloc, &["run", "a.c", "--input", "t"], &held)?;
@@ -55,114 +62,198 @@ fn assert_agrees(rt: &impl Abort, alloc: Global, text: &str, input: &[u8]) -> Re
     Ok(())
 }
 
-#[test]
-fn agrees_with_the_evaluation(rt: HostRuntime) -> Result<(), Fail> {
-    let alloc = rt.alloc();
-    for (text, _report) in COUNTED {
-        assert_agrees(&rt, alloc, text, b"x")?;
-    }
-    for (text, _report) in ENDED {
-        assert_agrees(&rt, alloc, text, b"")?;
-    }
-    for (_outside, inside, _value) in EDGES {
-        let text = returning(alloc, inside)?;
-        assert_agrees(&rt, alloc, text.as_str(), b"")?;
-    }
-    for (_outside, inside) in UNSET {
-        assert_agrees(&rt, alloc, inside, b"")?;
-    }
-    for text in STATEMENTS {
-        assert_agrees(&rt, alloc, text, b"")?;
-    }
-    for input in [b"a bb\nccc".as_slice(), b"".as_slice(), b"  \n\t ".as_slice()] {
-        assert_agrees(&rt, alloc, WORDS, input)?;
+// Whatever the reports are.
+fn assert_each_agrees(
+    rt: &impl Abort,
+    alloc: Global,
+    rows: &[(&str, &str)],
+    input: &[u8],
+) -> Result<(), AllocError> {
+    for (text, _report) in rows {
+        assert_agrees(rt, alloc, text, input)?;
     }
     Ok(())
 }
 
+#[test]
+fn agrees_with_the_evaluation(rt: HostRuntime) -> Result<(), Fail> {
+    assert_each_agrees(&rt, rt.alloc(), COUNTED, b"x")?;
+    assert_each_agrees(&rt, rt.alloc(), ENDED, b"")?;
+    Ok(())
+}
+
+// The texts that are defined, just beside those that are not.
+fn assert_edges_agree(
+    rt: &impl Abort,
+    alloc: Global,
+    rows: &[(&str, &str, &str)],
+) -> Result<(), AllocError> {
+    for (_outside, inside, _value) in rows {
+        let text = returning(alloc, inside)?;
+        assert_agrees(rt, alloc, text.as_str(), b"")?;
+    }
+    Ok(())
+}
+
+fn assert_set_agree(
+    rt: &impl Abort,
+    alloc: Global,
+    rows: &[(&str, &str)],
+) -> Result<(), AllocError> {
+    for (_outside, inside) in rows {
+        assert_agrees(rt, alloc, inside, b"")?;
+    }
+    Ok(())
+}
+
+#[test]
+fn agrees_at_the_edges_of_ranges(rt: HostRuntime) -> Result<(), Fail> {
+    assert_edges_agree(&rt, rt.alloc(), EDGES)?;
+    assert_set_agree(&rt, rt.alloc(), UNSET)?;
+    Ok(())
+}
+
+fn assert_texts_agree(rt: &impl Abort, alloc: Global, texts: &[&str]) -> Result<(), AllocError> {
+    for text in texts {
+        assert_agrees(rt, alloc, *text, b"")?;
+    }
+    Ok(())
+}
+
+fn assert_inputs_agree(
+    rt: &impl Abort,
+    alloc: Global,
+    text: &str,
+    inputs: &[&[u8]],
+) -> Result<(), AllocError> {
+    for input in inputs {
+        assert_agrees(rt, alloc, text, *input)?;
+    }
+    Ok(())
+}
+
+const INPUTS: &[&[u8]] = &[b"a bb\nccc", b"", b"  \n\t "];
+
+#[test]
+fn agrees_on_each_statement_and_on_inputs(rt: HostRuntime) -> Result<(), Fail> {
+    assert_texts_agree(&rt, rt.alloc(), STATEMENTS)?;
+    assert_inputs_agree(&rt, rt.alloc(), WORDS, INPUTS)?;
+    Ok(())
+}
+
 // A program of two variables of a type, and an expression of them.
-fn of_type(alloc: Global, of: &str, parts: &[&str]) -> Result<String, AllocError> {
+fn of_type(
+    alloc: Global,
+    of: &str,
+    before: &str,
+    operator: &str,
+    after: &str,
+) -> Result<String, AllocError> {
     let mut text = String::from_str(alloc, "int main(void) { ")?;
     text.push_str(of)?;
     text.push_str(" x = 103; ")?;
     text.push_str(of)?;
     text.push_str(" y = 5; long z; z = (")?;
-    for part in parts {
-        text.push_str(*part)?;
-    }
+    text.push_str(before)?;
+    text.push_str(operator)?;
+    text.push_str(after)?;
     text.push_str("); return (int) (z % 1000 + x); }")?;
     Ok(text)
 }
 
-#[test]
-fn agrees_on_each_operator_at_each_type(rt: HostRuntime) -> Result<(), Fail> {
-    let alloc = rt.alloc();
-    for of in TYPES {
-        for operator in OPERATORS {
-            let text = of_type(alloc, of, &["x ", *operator, " y"])?;
-            assert_agrees(&rt, alloc, text.as_str(), b"")?;
-        }
-        for assigner in ASSIGNERS {
-            let text = of_type(alloc, of, &["x ", *assigner, " y"])?;
-            assert_agrees(&rt, alloc, text.as_str(), b"")?;
-        }
-        for prefix in PREFIXES {
-            let text = of_type(alloc, of, &[*prefix, "x"])?;
-            assert_agrees(&rt, alloc, text.as_str(), b"")?;
-        }
-        for suffix in ["++", "--"] {
-            let text = of_type(alloc, of, &["x", suffix])?;
-            assert_agrees(&rt, alloc, text.as_str(), b"")?;
-        }
+// Each operator between these texts, of two variables of a type.
+fn assert_operators_agree(
+    rt: &impl Abort,
+    alloc: Global,
+    of: &str,
+    before: &str,
+    operators: &[&str],
+    after: &str,
+) -> Result<(), AllocError> {
+    for operator in operators {
+        let text = of_type(alloc, of, before, *operator, after)?;
+        assert_agrees(rt, alloc, text.as_str(), b"")?;
     }
     Ok(())
 }
+
+fn assert_types_agree(rt: &impl Abort, alloc: Global, types: &[&str]) -> Result<(), AllocError> {
+    for of in types {
+        assert_operators_agree(rt, alloc, *of, "x ", OPERATORS, " y")?;
+        assert_operators_agree(rt, alloc, *of, "x ", ASSIGNERS, " y")?;
+        assert_operators_agree(rt, alloc, *of, "", PREFIXES, "x")?;
+        assert_operators_agree(rt, alloc, *of, "x", SUFFIXES, "")?;
+    }
+    Ok(())
+}
+
+#[test]
+fn agrees_on_each_operator_at_each_type(rt: HostRuntime) -> Result<(), Fail> {
+    assert_types_agree(&rt, rt.alloc(), TYPES)?;
+    Ok(())
+}
+
+// A text within a number of blocks, with the status and the report.
+type Row = (&'static str, &'static str, Status, &'static str);
 
 const FOREVER: &str = "int main(void) { while (1) ; }";
 
-#[test]
-fn ends_with_its_budget_and_its_stack(rt: HostRuntime) -> Result<(), Fail> {
-    let alloc = rt.alloc();
-    let rows = [
-        (FOREVER, "100", Status::Budget, "output 0\n\nbudget 100\n"),
-        (FOREVER, "1", Status::Budget, "output 0\n\nbudget 1\n"),
-        (
-            "int main(void) { return 7; }",
-            "4000000",
-            Status::Ended,
-            "output 0\n\nresult 7\n",
-        ),
-        (DEEP, "2000000", Status::Ended, "output 0\n\nresult 6896\n"),
-        (DEEPER, "2000000", Status::StackFull, "output 0\n\nstack full\n"),
-    ];
+const BUDGETS: &[Row] = &[
+    (FOREVER, "100", Status::Budget, "output 0\n\nbudget 100\n"),
+    (FOREVER, "1", Status::Budget, "output 0\n\nbudget 1\n"),
+    (
+        "int main(void) { return 7; }",
+        "4000000",
+        Status::Ended,
+        "output 0\n\nresult 7\n",
+    ),
+    (DEEP, "2000000", Status::Ended, "output 0\n\nresult 6896\n"),
+    (
+        DEEPER,
+        "2000000",
+        Status::StackFull,
+        "output 0\n\nstack full\n",
+    ),
+    // 16 blocks a step, and 16 more
+    (
+        "int main(void) { return 7; }",
+        "80",
+        Status::Ended,
+        "output 0\n\nresult 7\n",
+    ),
+    (
+        "int main(void) { }",
+        "48",
+        Status::Ended,
+        "output 0\n\nresult 0\n",
+    ),
+    (
+        "int f(void) { return 1; } int main(void) { f(); }",
+        "144",
+        Status::Ended,
+        "output 0\n\nresult 0\n",
+    ),
+];
+
+fn assert_budgets(rt: &impl Abort, alloc: Global, rows: &[Row]) -> Result<(), AllocError> {
     for (text, blocks, status, report) in rows {
         let (answered, written) = answer_of(
             alloc,
-            &["run", "a.c", "--blocks", blocks],
+            &["run", "a.c", "--blocks", *blocks],
             &[("a.c", text.as_bytes())],
         )?;
-        assert_eq!(rt; answered, status, "{text} within {blocks}");
-        assert_eq!(rt; written.as_slice(), report.as_bytes(), "{text} within {blocks}");
+        assert_eq!(rt; answered, *status, "{text} within {blocks}");
+        assert_eq!(rt;
+            written.as_slice(),
+            report.as_bytes(),
+            "{text} within {blocks}"
+        );
     }
     Ok(())
 }
 
-// Each of these programs needs at most 16 blocks a step, and 16 more.
 #[test]
-fn needs_no_more_than_16_blocks_a_step(rt: HostRuntime) -> Result<(), Fail> {
-    let alloc = rt.alloc();
-    let rows = [
-        ("int main(void) { return 7; }", "80"),
-        ("int main(void) { }", "48"),
-        ("int f(void) { return 1; } int main(void) { f(); }", "144"),
-    ];
-    for (text, blocks) in rows {
-        let (status, _written) = answer_of(
-            alloc,
-            &["run", "a.c", "--blocks", blocks],
-            &[("a.c", text.as_bytes())],
-        )?;
-        assert_eq!(rt; status, Status::Ended, "{text} within {blocks}");
-    }
+fn ends_with_its_budget_and_its_stack(rt: HostRuntime) -> Result<(), Fail> {
+    assert_budgets(&rt, rt.alloc(), BUDGETS)?;
     Ok(())
 }

@@ -1,9 +1,9 @@
 //! Each token of two programs replaced, and what stands behind it left out.
-use crate::harness::answer_of;
 use std::alloc::{AllocError, Global};
 use std::process::Abort;
 use std::test::Fail;
 use trips_run::Status;
+use trips_run_harness::answer_of;
 
 // Two programs as their tokens, each behind a space.
 const DOUBLED: &[&str] = &[
@@ -158,20 +158,35 @@ fn refuses_a_parenthesis_or_an_else_in_place_of_any_token(rt: HostRuntime) -> Re
     Ok(())
 }
 
+// The text of the tokens before a place is refused so.
+fn assert_cut(
+    rt: &impl Abort,
+    alloc: Global,
+    tokens: &[&str],
+    end: usize,
+    report: &str,
+) -> Result<(), AllocError> {
+    let text = begin(alloc, tokens, end)?;
+    let (status, written) = answer_of(alloc, &["run", "a.c"], &[("a.c", text.as_bytes())])?;
+    assert_eq!(rt; status, Status::Refused, "{text}");
+    assert_eq!(rt; written.as_slice(), report.as_bytes(), "{text}");
+    Ok(())
+}
+
 // Behind its declaration the program of one array is a unit without `main`.
+fn assert_ends_matter(rt: &impl Abort, alloc: Global, tokens: &[&str]) -> Result<(), AllocError> {
+    for end in 0..tokens.len() {
+        if end == 6 {
+            assert_cut(rt, alloc, tokens, end, "refused type 5 NoMain\n")?;
+        } else {
+            assert_cut(rt, alloc, tokens, end, "refused parse 1 Syntax line 1\n")?;
+        }
+    }
+    Ok(())
+}
+
 #[test]
 fn refuses_a_text_that_ends_after_any_of_its_tokens(rt: HostRuntime) -> Result<(), Fail> {
-    let alloc = rt.alloc();
-    for end in 0..DOUBLED.len() {
-        let text = begin(alloc, DOUBLED, end)?;
-        let report = if end == 6 {
-            "refused type 5 NoMain\n"
-        } else {
-            "refused parse 1 Syntax line 1\n"
-        };
-        let (status, written) = answer_of(alloc, &["run", "a.c"], &[("a.c", text.as_bytes())])?;
-        assert_eq!(rt; status, Status::Refused, "{text}");
-        assert_eq!(rt; written.as_slice(), report.as_bytes(), "{text}");
-    }
+    assert_ends_matter(&rt, rt.alloc(), DOUBLED)?;
     Ok(())
 }

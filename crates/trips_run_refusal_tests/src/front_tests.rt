@@ -1,9 +1,9 @@
 //! `run` on texts of C: small programs, and what each stage refuses.
-use crate::harness::answer_of;
 use std::alloc::{AllocError, Global};
 use std::process::Abort;
 use std::test::Fail;
 use trips_run::Status;
+use trips_run_harness::answer_of;
 
 const SMALL: &[(&str, &str)] = &[
     ("int main(void) { return 7; }", "output 0\n\nresult 7\n"),
@@ -22,54 +22,24 @@ const SMALL: &[(&str, &str)] = &[
         "int main(void) { return 65536; }",
         "output 0\n\nresult 65536\n",
     ),
-    (
-        "int main(void) { return 7u; }",
-        "output 0\n\nresult 7\n",
-    ),
-    (
-        "int main(void) { return 7L; }",
-        "output 0\n\nresult 7\n",
-    ),
-    (
-        "int main(void) { return +7; }",
-        "output 0\n\nresult 7\n",
-    ),
-    (
-        "int main(void) { return -7; }",
-        "output 0\n\nresult -7\n",
-    ),
+    ("int main(void) { return 7u; }", "output 0\n\nresult 7\n"),
+    ("int main(void) { return 7L; }", "output 0\n\nresult 7\n"),
+    ("int main(void) { return +7; }", "output 0\n\nresult 7\n"),
+    ("int main(void) { return -7; }", "output 0\n\nresult -7\n"),
     (
         "int main(void) { return '\\377'; }",
         "output 0\n\nresult -1\n",
     ),
-    (
-        "int main(void) { return (7); }",
-        "output 0\n\nresult 7\n",
-    ),
+    ("int main(void) { return (7); }", "output 0\n\nresult 7\n"),
     (
         "int main(void) { return (int) 7; }",
         "output 0\n\nresult 7\n",
     ),
-    (
-        "int main(void) { return 3 + 4; }",
-        "output 0\n\nresult 7\n",
-    ),
-    (
-        "int main(void) { ; return 7; }",
-        "output 0\n\nresult 7\n",
-    ),
-    (
-        "int main(void) { return 7; ; }",
-        "output 0\n\nresult 7\n",
-    ),
-    (
-        "int main(void) { { return 7; } }",
-        "output 0\n\nresult 7\n",
-    ),
-    (
-        "int main(void) { }",
-        "output 0\n\nresult 0\n",
-    ),
+    ("int main(void) { return 3 + 4; }", "output 0\n\nresult 7\n"),
+    ("int main(void) { ; return 7; }", "output 0\n\nresult 7\n"),
+    ("int main(void) { return 7; ; }", "output 0\n\nresult 7\n"),
+    ("int main(void) { { return 7; } }", "output 0\n\nresult 7\n"),
+    ("int main(void) { }", "output 0\n\nresult 0\n"),
     (
         "int x; int main(void) { return 7; }",
         "output 0\n\nresult 7\n",
@@ -264,106 +234,144 @@ fn runs_each_small_program(rt: HostRuntime) -> Result<(), Fail> {
     Ok(())
 }
 
+fn assert_refusals(rt: &impl Abort, alloc: Global, command: &str) -> Result<(), AllocError> {
+    assert_rows(rt, alloc, command, Status::Refused, LEXER)?;
+    assert_rows(rt, alloc, command, Status::Refused, GRAMMAR)?;
+    assert_rows(rt, alloc, command, Status::Refused, TYPING)
+}
+
 #[test]
 fn refuses_by_the_first_stage(rt: HostRuntime) -> Result<(), Fail> {
-    let alloc = rt.alloc();
-    for command in ["run", "eval"] {
-        assert_rows(&rt, alloc, command, Status::Refused, LEXER)?;
-        assert_rows(&rt, alloc, command, Status::Refused, GRAMMAR)?;
-        assert_rows(&rt, alloc, command, Status::Refused, TYPING)?;
+    assert_refusals(&rt, rt.alloc(), "run")?;
+    assert_refusals(&rt, rt.alloc(), "eval")?;
+    Ok(())
+}
+
+// The text is answered so under `run`.
+fn assert_run(
+    rt: &impl Abort,
+    alloc: Global,
+    text: &str,
+    status: Status,
+    report: &str,
+) -> Result<(), AllocError> {
+    assert_rows(rt, alloc, "run", status, &[(text, report)])
+}
+
+// So many times this part.
+fn push_times(text: &mut String, part: &str, count: usize) -> Result<(), AllocError> {
+    for _i in 0..count {
+        text.push_str(part)?;
     }
     Ok(())
+}
+
+// A number in so many parentheses.
+fn nested(alloc: Global, count: usize) -> Result<String, AllocError> {
+    let mut text = String::from_str(alloc, "int main(void) { return ")?;
+    push_times(&mut text, "(", count)?;
+    text.push_str("1")?;
+    push_times(&mut text, ")", count)?;
+    text.push_str("; }")?;
+    Ok(text)
 }
 
 // The body of `main` is at depth 1, its statement at 2, and each parenthesis one deeper.
 #[test]
 fn nests_to_a_depth_of_64(rt: HostRuntime) -> Result<(), Fail> {
     let alloc = rt.alloc();
-    let rows = [
-        (62usize, Status::Ended, "output 0\n\nresult 1\n"),
-        (63, Status::Refused, "refused parse 2 TooDeep line 1\n"),
-    ];
-    for (count, status, report) in rows {
-        let mut text = String::from_str(alloc, "int main(void) { return ")?;
-        for _i in 0..count {
-            text.push_str("(")?;
-        }
-        text.push_str("1")?;
-        for _i in 0..count {
-            text.push_str(")")?;
-        }
-        text.push_str("; }")?;
-        assert_rows(
-            &rt,
-            alloc,
-            "run",
-            status,
-            &[(text.as_str(), report)],
-        )?;
+    let ended = "output 0\n\nresult 1\n";
+    assert_run(
+        &rt,
+        alloc,
+        nested(alloc, 62)?.as_str(),
+        Status::Ended,
+        ended,
+    )?;
+    let deep = "refused parse 2 TooDeep line 1\n";
+    assert_run(
+        &rt,
+        alloc,
+        nested(alloc, 63)?.as_str(),
+        Status::Refused,
+        deep,
+    )?;
+    Ok(())
+}
+
+fn push_scalars(alloc: Global, text: &mut String) -> Result<(), AllocError> {
+    for i in 0..64u32 {
+        text.push_str("int x")?;
+        text.push_str(i.to_string(alloc)?.as_str())?;
+        text.push_str("; ")?;
     }
     Ok(())
+}
+
+// A function of 64 scalars, and of more on line 3.
+fn with_scalars(alloc: Global, more: &str) -> Result<String, AllocError> {
+    let mut text = String::from_str(alloc, "int main(void) {\n")?;
+    push_scalars(alloc, &mut text)?;
+    text.push_str("\n")?;
+    text.push_str(more)?;
+    text.push_str(" return 0; }")?;
+    Ok(text)
 }
 
 // The 65th scalar stands on line 3.
 #[test]
 fn takes_64_scalars(rt: HostRuntime) -> Result<(), Fail> {
     let alloc = rt.alloc();
-    let rows = [
-        ("", Status::Ended, "output 0\n\nresult 0\n"),
-        (
-            "int y;",
-            Status::Refused,
-            "refused type 6 TooManyScalars line 3\n",
-        ),
-    ];
-    for (more, status, report) in rows {
-        let mut text = String::from_str(alloc, "int main(void) {\n")?;
-        for i in 0..64u32 {
-            text.push_str("int x")?;
-            text.push_str(i.to_string(alloc)?.as_str())?;
-            text.push_str("; ")?;
-        }
-        text.push_str("\n")?;
-        text.push_str(more)?;
-        text.push_str(" return 0; }")?;
-        assert_rows(
-            &rt,
-            alloc,
-            "run",
-            status,
-            &[(text.as_str(), report)],
-        )?;
-    }
+    let ended = "output 0\n\nresult 0\n";
+    assert_run(
+        &rt,
+        alloc,
+        with_scalars(alloc, "")?.as_str(),
+        Status::Ended,
+        ended,
+    )?;
+    let many = "refused type 6 TooManyScalars line 3\n";
+    assert_run(
+        &rt,
+        alloc,
+        with_scalars(alloc, "int y;")?.as_str(),
+        Status::Refused,
+        many,
+    )?;
     Ok(())
+}
+
+// Eight arguments, the last a sum of so many ones and one more, nested to the right.
+fn with_need(alloc: Global, count: usize) -> Result<String, AllocError> {
+    let mut text = String::from_str(alloc, "int f(int a, int b, int c, int d, int e, ")?;
+    text.push_str("int g, int h, int i) { return i; } int main(void) { ")?;
+    text.push_str("return f(1, 1, 1, 1, 1, 1, 1, ")?;
+    push_times(&mut text, "1 + (", count)?;
+    text.push_str("1")?;
+    push_times(&mut text, ")", count)?;
+    text.push_str("); }")?;
+    Ok(text)
 }
 
 // Seven arguments wait while the eighth, a sum nested to the right, is evaluated.
 #[test]
 fn takes_a_need_of_16(rt: HostRuntime) -> Result<(), Fail> {
     let alloc = rt.alloc();
-    let rows = [
-        (8usize, Status::Ended, "output 0\n\nresult 9\n"),
-        (9, Status::Refused, "refused type 8 Need line 1\n"),
-    ];
-    for (count, status, report) in rows {
-        let mut text = String::from_str(alloc, "int f(int a, int b, int c, int d, int e, ")?;
-        text.push_str("int g, int h, int i) { return i; } int main(void) { ")?;
-        text.push_str("return f(1, 1, 1, 1, 1, 1, 1, ")?;
-        for _i in 0..count {
-            text.push_str("1 + (")?;
-        }
-        text.push_str("1")?;
-        for _i in 0..count {
-            text.push_str(")")?;
-        }
-        text.push_str("); }")?;
-        assert_rows(
-            &rt,
-            alloc,
-            "run",
-            status,
-            &[(text.as_str(), report)],
-        )?;
-    }
+    let ended = "output 0\n\nresult 9\n";
+    assert_run(
+        &rt,
+        alloc,
+        with_need(alloc, 8)?.as_str(),
+        Status::Ended,
+        ended,
+    )?;
+    let need = "refused type 8 Need line 1\n";
+    assert_run(
+        &rt,
+        alloc,
+        with_need(alloc, 9)?.as_str(),
+        Status::Refused,
+        need,
+    )?;
     Ok(())
 }

@@ -1,5 +1,6 @@
 //! `run` on images. Their words were computed by hand from docs/MACHINE.md, "The image".
 use std::alloc::{AllocError, Global};
+use std::process::Abort;
 use std::test::Fail;
 use trips_outside::{HonestFiles, HonestSink};
 use trips_run::{Status, trips_run};
@@ -173,89 +174,112 @@ fn run_bytes(alloc: Global, bytes: &[u8]) -> Result<(Status, Vec<u8>), AllocErro
     Ok((status, Vec::from_slice(alloc, sink.written())?))
 }
 
-#[test]
-fn images_run_or_are_refused_at_their_block(rt: HostRuntime) -> Result<(), Fail> {
-    let alloc = rt.alloc();
-    let rows = [
-        (
-            "seven",
-            1,
-            2,
-            SEVEN,
-            Status::Ended,
-            "output 0\n\nresult 7\n",
-        ),
-        (
-            "stored",
-            2,
-            4,
-            STORED,
-            Status::Ended,
-            "output 0\n\nresult 171\n",
-        ),
-        (
-            "empty slot",
-            1,
-            2,
-            NAMES_EMPTY_SLOT,
-            Status::Refused,
-            "refused check 1 BadTarget N[0] block 0\n",
-        ),
-        (
-            "sometimes",
-            1,
-            2,
-            STORES_SOMETIMES,
-            Status::Refused,
-            "refused check 6 NoToken S[0] block 0\n",
-        ),
-        (
-            "two",
-            1,
-            2,
-            TWO_PRODUCERS,
-            Status::Refused,
-            "refused check 5 TwoTokens N[2,0] block 0\n",
-        ),
-        (
-            "nine",
-            1,
-            3,
-            NINE_CHOICES,
-            Status::Refused,
-            "refused check 4 TooManyCases block 0\n",
-        ),
-    ];
+/// A name, so many blocks and chunks, the words that are not 0, and the status with the report.
+type Row = (
+    &'static str,
+    u32,
+    usize,
+    &'static [(usize, u32)],
+    Status,
+    &'static str,
+);
+
+const ROWS: &[Row] = &[
+    (
+        "seven",
+        1,
+        2,
+        SEVEN,
+        Status::Ended,
+        "output 0\n\nresult 7\n",
+    ),
+    (
+        "stored",
+        2,
+        4,
+        STORED,
+        Status::Ended,
+        "output 0\n\nresult 171\n",
+    ),
+    (
+        "empty slot",
+        1,
+        2,
+        NAMES_EMPTY_SLOT,
+        Status::Refused,
+        "refused check 1 BadTarget N[0] block 0\n",
+    ),
+    (
+        "sometimes",
+        1,
+        2,
+        STORES_SOMETIMES,
+        Status::Refused,
+        "refused check 6 NoToken S[0] block 0\n",
+    ),
+    (
+        "two",
+        1,
+        2,
+        TWO_PRODUCERS,
+        Status::Refused,
+        "refused check 5 TwoTokens N[2,0] block 0\n",
+    ),
+    (
+        "nine",
+        1,
+        3,
+        NINE_CHOICES,
+        Status::Refused,
+        "refused check 4 TooManyCases block 0\n",
+    ),
+];
+
+fn assert_images(rt: &impl Abort, alloc: Global, rows: &[Row]) -> Result<(), AllocError> {
     for (name, blocks, chunks, words, status, report) in rows {
-        let bytes = image_of(alloc, blocks, chunks, words)?;
+        let bytes = image_of(alloc, *blocks, *chunks, *words)?;
         let (answered, written) = run_bytes(alloc, &bytes)?;
-        assert_eq!(rt; answered, status, "{name}");
+        assert_eq!(rt; answered, *status, "{name}");
         assert_eq!(rt; written.as_slice(), report.as_bytes(), "{name}");
     }
     Ok(())
 }
 
-// The image of the program that returns 7, cut to a length, with a byte changed or one added.
 #[test]
-fn broken_images_are_refused_at_their_byte(rt: HostRuntime) -> Result<(), Fail> {
-    let alloc = rt.alloc();
-    let rows: [(usize, usize, u8, &str); 6] = [
-        (0, 0, b'T', "refused image 3 Truncated at 0\n"),
-        (200, 0, b'T', "refused image 3 Truncated at 200\n"),
-        (277, 0, b'T', "refused image 4 Trailing at 276\n"),
-        (276, 0, b'X', "refused image 1 Magic\n"),
-        (276, 11, 2, "refused image 2 Version\n"),
-        (20, 15, 0, "refused image 5 BadField at 12\n"),
-    ];
+fn images_run_or_are_refused_at_their_block(rt: HostRuntime) -> Result<(), Fail> {
+    assert_images(&rt, rt.alloc(), ROWS)?;
+    Ok(())
+}
+
+/// A length, a byte at a place, and the report.
+type Broken = (usize, usize, u8, &'static str);
+
+const BROKEN: &[Broken] = &[
+    (0, 0, b'T', "refused image 3 Truncated at 0\n"),
+    (200, 0, b'T', "refused image 3 Truncated at 200\n"),
+    (277, 0, b'T', "refused image 4 Trailing at 276\n"),
+    (276, 0, b'X', "refused image 1 Magic\n"),
+    (276, 11, 2, "refused image 2 Version\n"),
+    (20, 15, 0, "refused image 5 BadField at 12\n"),
+];
+
+// The image of the program that returns 7, cut to a length, with a byte changed or one added.
+fn assert_broken(rt: &impl Abort, alloc: Global, rows: &[Broken]) -> Result<(), AllocError> {
     for (size, at, byte, report) in rows {
         let mut bytes = image_of(alloc, 1, 2, SEVEN)?;
-        bytes.resize(size, 0)?;
-        if let Some(place) = bytes.get_mut(at) {
-            *place = byte;
+        bytes.resize(*size, 0)?;
+        if let Some(place) = bytes.get_mut(*at) {
+            *place = *byte;
         }
         let (answered, written) = run_bytes(alloc, &bytes)?;
         assert_eq!(rt; answered, Status::Refused, "{report}");
         assert_eq!(rt; written.as_slice(), report.as_bytes(), "{report}");
     }
+    Ok(())
+}
+
+#[test]
+fn broken_images_are_refused_at_their_byte(rt: HostRuntime) -> Result<(), Fail> {
+    assert_broken(&rt, rt.alloc(), BROKEN)?;
     Ok(())
 }

@@ -1,11 +1,11 @@
 //! `run` on images by their target texts: an input, and a number of blocks.
-use crate::harness::answer_of;
 use block_image::encode;
 use std::alloc::{AllocError, Global};
 use std::process::Abort;
 use std::test::Fail;
 use target_asm::assemble;
 use trips_run::Status;
+use trips_run_harness::answer_of;
 
 /// Lines of the blocks, words after the file's name, an input, and the status with the report.
 type Row = (

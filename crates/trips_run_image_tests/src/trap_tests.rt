@@ -1,11 +1,11 @@
 //! `run` on images whose blocks fault, or could, by their target texts.
-use crate::harness::answer_of;
 use block_image::encode;
 use std::alloc::Global;
 use std::process::Abort;
 use std::test::Fail;
 use target_asm::assemble;
 use trips_run::Status;
+use trips_run_harness::answer_of;
 
 /// The text behind its first two lines, words after the file's name, and the status with the report.
 type Row = (&'static str, &'static [&'static str], Status, &'static str);

@@ -1,0 +1,5 @@
+//! Files and sinks in memory and real, as tests.
+#![tactic(auto)]
+
+#[cfg(test)]
+mod outside_tests;

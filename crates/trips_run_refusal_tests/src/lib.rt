@@ -1,0 +1,9 @@
+//! What the program refuses, its words, and its files and sinks, as tests.
+#![tactic(auto)]
+
+#[cfg(test)]
+mod front_tests;
+#[cfg(test)]
+mod option_tests;
+#[cfg(test)]
+mod report_tests;
