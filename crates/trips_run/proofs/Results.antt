@@ -1,6 +1,7 @@
 -- A word is written in decimal digits as the number that it stands for.
 use Rattle.std.proofs.Common.{◌≡◌, ℕ, suc, ◌-◌, ◌<◌, ◌≤◌, ◌^◌, Bool, true, false, nat_lt, ℤ, negsuc, refl, sym, ap, ◌∙◌}
 use Rattle.std.proofs.Common.{◌∷◌, arith}
+use Rattle.std.specs.Prelude.{cond}
 use Rattle.std.proofs.Math.Facts.{to_z-neg}
 use Rattle.std.proofs.lemmas.Bool.Decides.{nat_tests}
 use Rattle.std.proofs.lemmas.Int.{to_z_pos}
@@ -23,8 +24,12 @@ negative w below high =
 pub signed_number : (w : ℕ) → w < 2 ^ 64 → signed w ≡ signed_decimal (cast_signed w64 w)
 signed_number w below = go (nat_lt w (2 ^ 63)) refl
   where
+    told : (v : Bool) → nat_lt w (2 ^ 63) ≡ v → signed w ≡ cond v (decimal w) (45 ∷ decimal (2 ^ 64 - w))
+    told v e = ap (λ (b : Bool). cond b (decimal w) (45 ∷ decimal (2 ^ 64 - w))) e
+
     go : (v : Bool) → nat_lt w (2 ^ 63) ≡ v → signed w ≡ signed_decimal (cast_signed w64 w)
-    go true e = rw e (sym (ap signed_decimal (to_z_pos w64 w (is_low w e))))
+    go true e = told true e ∙ sym (ap signed_decimal (to_z_pos w64 w (is_low w e)))
     go false e =
         let size : 2 ^ 64 - w ≡ suc (2 ^ 64 - suc w) = omega (arith, below) in
-        rw e (ap (λ (k : ℕ). 45 ∷ decimal k) size ∙ sym (ap signed_decimal (negative w below (is_high w e))))
+        told false e ∙ ap (λ (k : ℕ). 45 ∷ decimal k) size
+        ∙ sym (ap signed_decimal (negative w below (is_high w e)))
