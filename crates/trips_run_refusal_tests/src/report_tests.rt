@@ -124,7 +124,9 @@ fn assert_usage(rt: &impl Abort, alloc: Global, rows: &[&[&str]]) -> Result<(), 
     for row in rows {
         let words = words_of(alloc, *row)?;
         let mut files = HonestFiles::make(Vec::new(alloc));
-        let mut sink = HonestSink::make(alloc, 100)?;
+        let Ok(mut sink) = HonestSink::make(alloc, 100) else {
+            return Err(AllocError);
+        };
         assert_eq!(rt;
             trips_run(alloc, &words, &mut files, &mut sink),
             Status::Usage
