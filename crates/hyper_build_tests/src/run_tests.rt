@@ -1,7 +1,7 @@
 //! What hyper programs put out and give under each plan, as a compiler of C has it.
 
 use crate::machine::Stop;
-use crate::running::{Cuts, assigned, built, run};
+use crate::running::{Cuts, assigned_of, built, run};
 use crate::texts;
 use reg_assign::Assigned;
 use std::alloc::Global;
@@ -81,7 +81,7 @@ fn assert_run(rt: &impl Abort, alloc: Global, row: &Row, assigned: &Assigned, cu
 
 fn assert_row(rt: &impl Abort, alloc: Global, row: &Row) {
     let name = row.name;
-    let assigned = assigned(rt, alloc, name, row.text);
+    let assigned = assigned_of(rt, alloc, name, row.text);
     let most = assert_run(rt, alloc, row, &assigned, Cuts::Everywhere);
     let some = assert_run(rt, alloc, row, &assigned, Cuts::EachThird);
     let few = assert_run(rt, alloc, row, &assigned, Cuts::Nowhere);

@@ -42,7 +42,7 @@ fn plan_of(alloc: Global, assigned: &Assigned, cuts: Cuts) -> Result<CutPlan, Me
 }
 
 /// A text's flat program, with what its calls save.
-pub fn assigned(rt: &impl Abort, alloc: Global, name: &str, text: &str) -> Assigned {
+pub fn assigned_of(rt: &impl Abort, alloc: Global, name: &str, text: &str) -> Assigned {
     let bytes = text.as_bytes();
     assert!(rt;
         bytes.len() as u64 <= MOST_SOURCE_BYTES,
