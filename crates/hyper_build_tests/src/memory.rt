@@ -40,18 +40,24 @@ impl Bytes {
         Some(loaded(op, word))
     }
 
+    fn put(&mut self, at: usize, byte: u8) {
+        if at < self.bytes.len() {
+            self.bytes[at] = byte;
+        }
+    }
+
     /// Does a store, where its address is good, and says whether it is.
     pub fn save(&mut self, op: Op, address: u64, value: u64) -> bool {
         let Some(from) = Bytes::place(op, address) else {
             return false;
         };
-        let mut at = from.saturating_add(size_of(op) as usize);
+        let size = size_of(op);
         let mut rest = value;
-        while at > from {
-            at -= 1;
-            if at < self.bytes.len() {
-                self.bytes[at] = (rest % 256) as u8;
-            }
+        for k in 0..size {
+            self.put(
+                from.saturating_add((size - 1 - k) as usize),
+                (rest % 256) as u8,
+            );
             rest /= 256;
         }
         true
