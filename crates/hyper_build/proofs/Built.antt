@@ -203,9 +203,14 @@ module _ (check : Bool) (at : Layout) (p : Plan) (P : Program) (t : FitsProgram 
       let W = world_of check at (frames_at P.bytes) (annotated_all p 0 0 P.functions) P.main in
       let r = made_of p P.functions 0 0 f g e in
       let h = t.each f r.function r.found in
-      let own = groups.own f (with_body r.function (keeping (λ k. is_saved (p.groups k)) r.number r.function.body)) r.saved in
-      let code : FitsCode P.functions g.scalars g.arrays false r.function.body = subst (λ n. FitsCode P.functions n g.arrays false r.function.body) (sym r.scalars) (subst (λ n. FitsCode P.functions r.function.scalars n false r.function.body) (sym r.arrays) h.body) in
-      let kept : KeepsOwn g.scalars (keeping (λ k. is_saved (p.groups k)) r.number r.function.body) = subst (λ n. KeepsOwn n (keeping (λ k. is_saved (p.groups k)) r.number r.function.body)) (sym r.scalars) own in
+      let own = groups.own f (with_body r.function
+      (keeping (λ k. is_saved (p.groups k)) r.number r.function.body)) r.saved in
+      let code : FitsCode P.functions g.scalars g.arrays false r.function.body =
+      subst (λ n. FitsCode P.functions n g.arrays false r.function.body) (sym r.scalars)
+      (subst (λ n. FitsCode P.functions r.function.scalars n false r.function.body) (sym r.arrays) h.body) in
+      let kept : KeepsOwn g.scalars (keeping (λ k. is_saved (p.groups k)) r.number r.function.body) =
+      subst (λ n. KeepsOwn n (keeping (λ k. is_saved (p.groups k)) r.number r.function.body))
+      (sym r.scalars) own in
       let scalars = h.scalars in
       let params = h.params in
       let few = h.few in
@@ -222,7 +227,8 @@ module _ (check : Bool) (at : Layout) (p : Plan) (P : Program) (t : FitsProgram 
             false r.function.body code kept);
       }
 
-  world_fits : words.IsFaithful at (length (built_program p P)) → FitsWorld (world_of check at (frames_at P.bytes) (annotated_all p 0 0 P.functions) P.main)
+  world_fits : words.IsFaithful at (length (built_program p P))
+      → FitsWorld (world_of check at (frames_at P.bytes) (annotated_all p 0 0 P.functions) P.main)
       P.bytes P.main
   world_fits faithful =
       let r = routine_of p P.functions 0 0 P.main t.main.function t.main.found in

@@ -120,12 +120,39 @@ arguments_little : (xs : List Arg) (l f back : ℕ) → length xs ≤ 8
 arguments_little [] l f back le = (simple _ (omega arith) (omega arith) (omega arith) refl tt, tt)
 arguments_little (a ∷ []) l f back le = (simple _ (omega arith) (omega arith) (omega arith) refl tt, tt)
 arguments_little (a ∷ b ∷ []) l f back le = (simple _ (omega arith) (omega arith) (omega arith) refl tt, tt)
-arguments_little (a ∷ b ∷ c ∷ []) l f back le = (simple _ (omega arith) (omega arith) (omega arith) refl tt, (simple _ (omega arith) (omega arith) (omega arith) refl tt, tt))
-arguments_little (a ∷ b ∷ c ∷ d ∷ []) l f back le = (simple _ (omega arith) (omega arith) (omega arith) refl tt, (simple _ (omega arith) (omega arith) (omega arith) refl tt, tt))
-arguments_little (a ∷ b ∷ c ∷ d ∷ e ∷ []) l f back le = (simple _ (omega arith) (omega arith) (omega arith) refl tt, (simple _ (omega arith) (omega arith) (omega arith) refl tt, tt))
-arguments_little (a ∷ b ∷ c ∷ d ∷ e ∷ g ∷ []) l f back le = (simple _ (omega arith) (omega arith) (omega arith) refl tt, (simple _ (omega arith) (omega arith) (omega arith) refl tt, (simple _ (omega arith) (omega arith) (omega arith) refl tt, tt)))
-arguments_little (a ∷ b ∷ c ∷ d ∷ e ∷ g ∷ h ∷ []) l f back le = (simple _ (omega arith) (omega arith) (omega arith) refl tt, (simple _ (omega arith) (omega arith) (omega arith) refl tt, (simple _ (omega arith) (omega arith) (omega arith) refl tt, tt)))
-arguments_little (a ∷ b ∷ c ∷ d ∷ e ∷ g ∷ h ∷ i ∷ []) l f back le = (simple _ (omega arith) (omega arith) (omega arith) refl tt, (simple _ (omega arith) (omega arith) (omega arith) refl tt, (simple _ (omega arith) (omega arith) (omega arith) refl tt, tt)))
+arguments_little (a ∷ b ∷ c ∷ []) l f back le = (
+  simple _ (omega arith) (omega arith) (omega arith) refl tt,
+  (simple _ (omega arith) (omega arith) (omega arith) refl tt, tt),
+)
+arguments_little (a ∷ b ∷ c ∷ d ∷ []) l f back le = (
+  simple _ (omega arith) (omega arith) (omega arith) refl tt,
+  (simple _ (omega arith) (omega arith) (omega arith) refl tt, tt),
+)
+arguments_little (a ∷ b ∷ c ∷ d ∷ e ∷ []) l f back le = (
+  simple _ (omega arith) (omega arith) (omega arith) refl tt,
+  (simple _ (omega arith) (omega arith) (omega arith) refl tt, tt),
+)
+arguments_little (a ∷ b ∷ c ∷ d ∷ e ∷ g ∷ []) l f back le = (
+  simple _ (omega arith) (omega arith) (omega arith) refl tt,
+  (
+    simple _ (omega arith) (omega arith) (omega arith) refl tt,
+    (simple _ (omega arith) (omega arith) (omega arith) refl tt, tt),
+  ),
+)
+arguments_little (a ∷ b ∷ c ∷ d ∷ e ∷ g ∷ h ∷ []) l f back le = (
+  simple _ (omega arith) (omega arith) (omega arith) refl tt,
+  (
+    simple _ (omega arith) (omega arith) (omega arith) refl tt,
+    (simple _ (omega arith) (omega arith) (omega arith) refl tt, tt),
+  ),
+)
+arguments_little (a ∷ b ∷ c ∷ d ∷ e ∷ g ∷ h ∷ i ∷ []) l f back le = (
+  simple _ (omega arith) (omega arith) (omega arith) refl tt,
+  (
+    simple _ (omega arith) (omega arith) (omega arith) refl tt,
+    (simple _ (omega arith) (omega arith) (omega arith) refl tt, tt),
+  ),
+)
 arguments_little (a ∷ b ∷ c ∷ d ∷ e ∷ g ∷ h ∷ i ∷ j ∷ xs) l f back le = absurd (omega (arith, le))
 
 -- parameters, after two items of the way in
@@ -133,16 +160,63 @@ parameters_little : (small : Bool) (n l x : ℕ) (body : Block) → small ≡ tr
     → Rest 1 (moved (parameter_cuts small) 0 (parameter_moves 0 n) l (cut small x body))
     × AllLittle (moved_blocks (parameter_cuts small) 0 (parameter_moves 0 n) l (cut small x body))
 parameters_little false n l x body e le = absurd (cc e)
-parameters_little true zero l x body e le = (record { items = omega arith; tests = omega arith; exits = omega arith; plain = refl; jumps = tt }, tt)
-parameters_little true (suc zero) l x body e le = (record { items = omega arith; tests = omega arith; exits = omega arith; plain = refl; jumps = tt }, (simple _ (omega arith) (omega arith) (omega arith) refl tt, tt))
-parameters_little true (suc (suc zero)) l x body e le = (record { items = omega arith; tests = omega arith; exits = omega arith; plain = refl; jumps = tt }, (simple _ (omega arith) (omega arith) (omega arith) refl tt, tt))
-parameters_little true (suc (suc (suc zero))) l x body e le = (record { items = omega arith; tests = omega arith; exits = omega arith; plain = refl; jumps = tt }, (simple _ (omega arith) (omega arith) (omega arith) refl tt, tt))
-parameters_little true (suc (suc (suc (suc zero)))) l x body e le = (record { items = omega arith; tests = omega arith; exits = omega arith; plain = refl; jumps = tt }, (simple _ (omega arith) (omega arith) (omega arith) refl tt, (simple _ (omega arith) (omega arith) (omega arith) refl tt, tt)))
-parameters_little true (suc (suc (suc (suc (suc zero))))) l x body e le = (record { items = omega arith; tests = omega arith; exits = omega arith; plain = refl; jumps = tt }, (simple _ (omega arith) (omega arith) (omega arith) refl tt, (simple _ (omega arith) (omega arith) (omega arith) refl tt, tt)))
-parameters_little true (suc (suc (suc (suc (suc (suc zero)))))) l x body e le = (record { items = omega arith; tests = omega arith; exits = omega arith; plain = refl; jumps = tt }, (simple _ (omega arith) (omega arith) (omega arith) refl tt, (simple _ (omega arith) (omega arith) (omega arith) refl tt, tt)))
-parameters_little true (suc (suc (suc (suc (suc (suc (suc zero))))))) l x body e le = (record { items = omega arith; tests = omega arith; exits = omega arith; plain = refl; jumps = tt }, (simple _ (omega arith) (omega arith) (omega arith) refl tt, (simple _ (omega arith) (omega arith) (omega arith) refl tt, (simple _ (omega arith) (omega arith) (omega arith) refl tt, tt))))
-parameters_little true (suc (suc (suc (suc (suc (suc (suc (suc zero)))))))) l x body e le = (record { items = omega arith; tests = omega arith; exits = omega arith; plain = refl; jumps = tt }, (simple _ (omega arith) (omega arith) (omega arith) refl tt, (simple _ (omega arith) (omega arith) (omega arith) refl tt, (simple _ (omega arith) (omega arith) (omega arith) refl tt, tt))))
-parameters_little true (suc (suc (suc (suc (suc (suc (suc (suc (suc n))))))))) l x body e le = absurd (omega (arith, le))
+parameters_little true zero l x body e le =
+    (record { items = omega arith; tests = omega arith; exits = omega arith; plain = refl; jumps = tt }, tt)
+parameters_little true (suc zero) l x body e le = (
+  record { items = omega arith; tests = omega arith; exits = omega arith; plain = refl; jumps = tt },
+  (simple _ (omega arith) (omega arith) (omega arith) refl tt, tt),
+)
+parameters_little true (suc (suc zero)) l x body e le = (
+  record { items = omega arith; tests = omega arith; exits = omega arith; plain = refl; jumps = tt },
+  (simple _ (omega arith) (omega arith) (omega arith) refl tt, tt),
+)
+parameters_little true (suc (suc (suc zero))) l x body e le = (
+  record { items = omega arith; tests = omega arith; exits = omega arith; plain = refl; jumps = tt },
+  (simple _ (omega arith) (omega arith) (omega arith) refl tt, tt),
+)
+parameters_little true (suc (suc (suc (suc zero)))) l x body e le = (
+  record { items = omega arith; tests = omega arith; exits = omega arith; plain = refl; jumps = tt },
+  (
+    simple _ (omega arith) (omega arith) (omega arith) refl tt,
+    (simple _ (omega arith) (omega arith) (omega arith) refl tt, tt),
+  ),
+)
+parameters_little true (suc (suc (suc (suc (suc zero))))) l x body e le = (
+  record { items = omega arith; tests = omega arith; exits = omega arith; plain = refl; jumps = tt },
+  (
+    simple _ (omega arith) (omega arith) (omega arith) refl tt,
+    (simple _ (omega arith) (omega arith) (omega arith) refl tt, tt),
+  ),
+)
+parameters_little true (suc (suc (suc (suc (suc (suc zero)))))) l x body e le = (
+  record { items = omega arith; tests = omega arith; exits = omega arith; plain = refl; jumps = tt },
+  (
+    simple _ (omega arith) (omega arith) (omega arith) refl tt,
+    (simple _ (omega arith) (omega arith) (omega arith) refl tt, tt),
+  ),
+)
+parameters_little true (suc (suc (suc (suc (suc (suc (suc zero))))))) l x body e le = (
+  record { items = omega arith; tests = omega arith; exits = omega arith; plain = refl; jumps = tt },
+  (
+    simple _ (omega arith) (omega arith) (omega arith) refl tt,
+    (
+      simple _ (omega arith) (omega arith) (omega arith) refl tt,
+      (simple _ (omega arith) (omega arith) (omega arith) refl tt, tt),
+    ),
+  ),
+)
+parameters_little true (suc (suc (suc (suc (suc (suc (suc (suc zero)))))))) l x body e le = (
+  record { items = omega arith; tests = omega arith; exits = omega arith; plain = refl; jumps = tt },
+  (
+    simple _ (omega arith) (omega arith) (omega arith) refl tt,
+    (
+      simple _ (omega arith) (omega arith) (omega arith) refl tt,
+      (simple _ (omega arith) (omega arith) (omega arith) refl tt, tt),
+    ),
+  ),
+)
+parameters_little true (suc (suc (suc (suc (suc (suc (suc (suc (suc n))))))))) l x body e le =
+    absurd (omega (arith, le))
 
 -- CODE
 
@@ -157,7 +231,13 @@ give_little None k r =
     little k (record { items = omega (arith, i); tests = r.tests; exits = r.exits; plain = r.plain; jumps = r.jumps })
 give_little (Some a) k r =
     let i = r.items in let t = r.tests in
-    little _ (record { items = omega (arith, i); tests = omega (arith, t); exits = r.exits; plain = r.plain; jumps = r.jumps })
+    little _ (record {
+      items = omega (arith, i);
+      tests = omega (arith, t);
+      exits = r.exits;
+      plain = r.plain;
+      jumps = r.jumps;
+    })
 
 call_little : (p : Place) (f : ℕ) (args : List Arg) (to : Option ℕ) (groups : List (List ℕ)) (l : ℕ)
     (k : Block) → AreSmall groups → length args ≤ 8 → IsLittle k
@@ -264,7 +344,13 @@ routine_little end entries e g t =
     let body = body_entry g entries e in
     let r = out_rest g in
     let x = little_tree (place_of g entries) g.body (body_label g e) (way_out g) t.body r
-    (little (way_out g) (record { items = omega arith; tests = omega arith; exits = omega arith; plain = refl; jumps = tt })) in
+    (little (way_out g) (record {
+      items = omega arith;
+      tests = omega arith;
+      exits = omega arith;
+      plain = refl;
+      jumps = tt;
+    })) in
     let w = parameters_little g.small g.params (e + 2) (e + 2 + parameters_size g) body t.small t.few in
     let i = w.0.items in
     let ts = w.0.tests in (

@@ -11,7 +11,8 @@ use Rattle.hyper_build.specs.Tree.{Plan, annotated_in, annotated, Routine, annot
 use Rattle.hyper_build.specs.Straight.{leg_size, size_in, size}
 use Rattle.hyper_build.specs.Routines.{body_label, routine_size, entry_from}
 use Rattle.hyper_build.specs.Ground.{Ground, plan, entry_at}
-use Rattle.hyper_build.specs.Forward.{with_blocks, with_statement, with_note, led_by, led, number_in, number, way_in_size}
+use Rattle.hyper_build.specs.Forward.{with_blocks, with_statement, with_note, led_by, led, number_in, number}
+use Rattle.hyper_build.specs.Forward.{way_in_size}
 use Rattle.hyper_build.specs.Forward.{number_function, number_all, entries_from, numbers_start}
 use Rattle.hyper_build.specs.Notes.{note_of, notes_in, notes_of}
 use Rattle.hyper_build.proofs.ReachingLegs.{NoExit, HasExit, kind}

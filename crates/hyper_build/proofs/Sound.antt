@@ -357,7 +357,8 @@ module _ (W : World) (g : Routine) (scalars : g.scalars ≤ 64) (N : ℕ)
       let params = known f t.routine t.found in
       let gs = groups_small groups (λ v e. lasting_below g.scalars v scalars (t.saved v e)) in
       let ms = arguments_fit g.scalars 0 args scalars (omega (arith, arity, params)) t.lasting in
-      let calls : Sound N (call_block (p.entries f) back) = record { items = tt; tail = (q.entries f, omega (arith, le)) } in
+      let calls : Sound N (call_block (p.entries f) back) =
+      record { items = tt; tail = (q.entries f, omega (arith, le)) } in
       let m1 = moved_sound N (argument_cuts small) 0 moves (l + n) call ms (omega (arith, le)) calls in
       let m2 = moves_sound N (argument_cuts small) 0 moves (l + n) call ms (omega (arith, le)) calls in
       let sv = λ (vs : List ℕ) (k : Block). saving_sound N p.frame vs k in
@@ -365,7 +366,8 @@ module _ (W : World) (g : Routine) (scalars : g.scalars ≤ 64) (N : ℕ)
       let r0 = cut_sound N c (back + 1 + n) k (omega (arith, le)) s in
       let r1 = result_sound N g.scalars to rest scalars t.result r0 in (
         chain_sound N (saving p.frame) sv groups l _ gs (omega (arith, le)) m1,
-        sound_append N (chain_blocks (map (saving p.frame) groups) l (moved (argument_cuts small) 0 moves (l + n) call)) _
+        sound_append N (chain_blocks (map (saving p.frame) groups) l
+            (moved (argument_cuts small) 0 moves (l + n) call)) _
             (chains_sound N (saving p.frame) sv groups l _ gs (omega (arith, le)) m1)
             (sound_append N (moved_blocks (argument_cuts small) 0 moves (l + n) call) _ m2 (
               chain_sound N (restoring p.frame) rs groups (back + 1) last gs (omega (arith, le)) r1,

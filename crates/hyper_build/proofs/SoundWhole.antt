@@ -127,7 +127,8 @@ built_sound W base gs main r found t known room =
     let N = length (built base gs main) in
     let n = length_built base gs main in
     let m = some_blocks gs main r found in
-    let within : (f : ℕ) → entry_from 3 gs f < length (built base gs main) = λ f. let h = entries_within 3 gs f (omega arith) in omega (arith, n, h) in
+    let within : (f : ℕ) → entry_from 3 gs f < length (built base gs main) = λ f. let h =
+    entries_within 3 gs f (omega arith) in omega (arith, n, h) in
     let low : base + frame_limit < 2 ^ 64 = omega (arith, room) in (
       record {
         items = (omega arith, refl, omega (arith, low), omega arith, tt);

@@ -161,7 +161,8 @@ passes_if W t one other m m1 v e p = record {
     clean zero p c = p.clean c Done
     clean (suc v) p c = p.clean c Done
 
-module _ (W : World) (built : IsBuilt W) (words : AluGivesWords) (call : Calls) (start : ℕ) (g : Routine) (fr : IsFrame W start g) where
+module _ (W : World) (built : IsBuilt W) (words : AluGivesWords) (call : Calls) (start : ℕ) (g : Routine)
+    (fr : IsFrame W start g) where
   -- WHAT STRAIGHT CODE DOES
 
   -- items lead to the machine that stands to the state behind the code
@@ -192,7 +193,15 @@ module _ (W : World) (built : IsBuilt W) (words : AluGivesWords) (call : Calls) 
   turn_walks its s m (suc i) go h = more i (suc i) (omega arith) (go i) (h i (omega arith))
     where
       more : (i n : ℕ) → i ≤ n → (r : Res) → Walks its s m i r → Walks its s m n r
-      more i n le (Gone s1 n1) x = record { after = x.after; passes = x.passes; rel = x.rel; kept = x.kept; fewer = omega (arith, x.fewer); output = x.output; rounds = x.rounds }
+      more i n le (Gone s1 n1) x = record {
+        after = x.after;
+        passes = x.passes;
+        rel = x.rel;
+        kept = x.kept;
+        fewer = omega (arith, x.fewer);
+        output = x.output;
+        rounds = x.rounds;
+      }
       more i n le (Unfinished out r) x = x
       more i n le Wild x = tt
       more i n le (Broke s1 n1) x = x
@@ -225,12 +234,16 @@ module _ (W : World) (built : IsBuilt W) (words : AluGivesWords) (call : Calls) 
       let h = apply_is (checks_of W) op u v w ew in
       let ou = any_operand W built words call start g fr s m rel a u fits.2 fits.4 eu in
       let ov = any_operand W built words call start g fr s m rel b v fits.3 fits.5 ev in
-      let q : alu_of op (value_of m.registers (source a)) (value_of m.registers (source b)) ≡ w = ap (λ z. alu_of op z (value_of m.registers (source b))) ou.0 ∙ ap (λ z. alu_of op u z) ov.0 ∙ sym h.0 in
-      let m1 = with_register m (register_of to) (alu_of op (value_of m.registers (source a)) (value_of m.registers (source b))) in
+      let q : alu_of op (value_of m.registers (source a)) (value_of m.registers (source b)) ≡ w =
+      ap (λ z. alu_of op z (value_of m.registers (source b))) ou.0 ∙ ap (λ z. alu_of op u z) ov.0 ∙ sym h.0 in
+      let m1 = with_register m (register_of to)
+      (alu_of op (value_of m.registers (source a)) (value_of m.registers (source b))) in
       settle_walks its s m i (with_var s to w) (record {
         after = m1;
-        passes = passes_set W (register_of to) op (source a) (source b) m (λ t. subst (λ z. is_clean (divisions op z) ≡ true) (sym ov.0) (h.1 t));
-        rel = rel_var W built words call start g fr s m to w _ (variable_small g.scalars to fr.scalars fits.1) q (subst (λ z. z < 2 ^ 64) (sym h.0) (words op u v fits.0 ou.1 ov.1)) rel;
+        passes = passes_set W (register_of to) op (source a) (source b) m
+            (λ t. subst (λ z. is_clean (divisions op z) ≡ true) (sym ov.0) (h.1 t));
+        rel = rel_var W built words call start g fr s m to w _ (variable_small g.scalars to fr.scalars fits.1) q
+            (subst (λ z. z < 2 ^ 64) (sym h.0) (words op u v fits.0 ou.1 ov.1)) rel;
         kept = kept_same (W.base + start + 8) s (with_var s to w) m m1 refl refl;
         fewer = omega arith;
         output = refl;
@@ -249,7 +262,8 @@ module _ (W : World) (built : IsBuilt W) (words : AluGivesWords) (call : Calls) 
       settle_walks its s m i (with_var s to w) (record {
         after = m1;
         passes = passes_set W (register_of to) Sub (Reg 1) (Const (capped (p.arrays - at))) m (λ t. refl);
-        rel = rel_var W built words call start g fr s m to w _ (variable_small g.scalars to fr.scalars fits.0) here (omega (arith, fr.room, built.room, fits.1)) rel;
+        rel = rel_var W built words call start g fr s m to w _
+            (variable_small g.scalars to fr.scalars fits.0) here (omega (arith, fr.room, built.room, fits.1)) rel;
         kept = kept_same (W.base + start + 8) s (with_var s to w) m m1 refl refl;
         fewer = omega arith;
         output = refl;
@@ -261,7 +275,8 @@ module _ (W : World) (built : IsBuilt W) (words : AluGivesWords) (call : Calls) 
           let ar = is.arrays in
           let le = fits.1 in
           let z : min (p.arrays - at) (frame_limit + 8) ≡ g.arrays - at = omega (arith, fr.room) in
-          let y : (m.registers 1 + (2 ^ 64 - (g.arrays - at))) % 2 ^ 64 ≡ W.base + start + slots g + at = omega (arith, rel.stack.top, fr.room, built.room) in
+          let y : (m.registers 1 + (2 ^ 64 - (g.arrays - at))) % 2 ^ 64 ≡ W.base + start + slots g + at =
+          omega (arith, rel.stack.top, fr.room, built.room) in
           ap (λ x. (m.registers 1 + (2 ^ 64 - x)) % 2 ^ 64) z ∙ y
 
   load_walks : (inside : Bool) (p : Place) (c : Bool) (to : ℕ) (op : Op) (a : Arg)
@@ -278,8 +293,10 @@ module _ (W : World) (built : IsBuilt W) (words : AluGivesWords) (call : Calls) 
       let m1 = with_register m (register_of to) (loaded op m.memory (value_of m.registers (source x))) in
       settle_walks its s m i (with_var s to w) (record {
         after = m1;
-        passes = passes_load W (register_of to) op (source x) m (λ t. subst (λ z. is_good_address z (size_of op) ≡ true) (sym o.0) (h.good t));
-        rel = rel_var W built words call start g fr s m to w _ (variable_small g.scalars to fr.scalars fits.1) (ap (loaded op m.memory) o.0 ∙ h.same) h.word rel;
+        passes = passes_load W (register_of to) op (source x) m
+            (λ t. subst (λ z. is_good_address z (size_of op) ≡ true) (sym o.0) (h.good t));
+        rel = rel_var W built words call start g fr s m to w _ (variable_small g.scalars to fr.scalars fits.1)
+            (ap (loaded op m.memory) o.0 ∙ h.same) h.word rel;
         kept = kept_same (W.base + start + 8) s (with_var s to w) m m1 refl refl;
         fewer = omega arith;
         output = refl;
@@ -300,13 +317,26 @@ module _ (W : World) (built : IsBuilt W) (words : AluGivesWords) (call : Calls) 
       let ov = any_operand W built words call start g fr s m rel y v fits.2 fits.4 ev in
       let h = save_is W.check op s.memory m.memory u v mem rel.stack.sized rel.stack.held rel.stack.bytes em in
       let m1 = machine.with_memory m (saved op m.memory u v) in
-      let same = ap (λ z. machine.with_memory m (saved op m.memory z (value_of m.registers (source y)))) ou.0 ∙ ap (λ z. machine.with_memory m (saved op m.memory u z)) ov.0 in
+      let same = ap (λ z. machine.with_memory m (saved op m.memory z (value_of m.registers (source y)))) ou.0
+      ∙ ap (λ z. machine.with_memory m (saved op m.memory u z)) ov.0 in
       settle_walks its s m i (with_memory s mem) (record {
         after = m1;
-        passes = subst (Passes W its m) same (passes_save W op (source x) (source y) m (λ t. subst (λ z. is_good_address z (size_of op) ≡ true) (sym ou.0) (h.good t)));
+        passes = subst (Passes W its m) same
+            (passes_save W op (source x) (source y) m
+            (λ t. subst (λ z. is_good_address z (size_of op) ≡ true) (sym ou.0) (h.good t)));
         rel = record {
           vars = rel.vars;
-          stack = record { top = rel.stack.top; sized = h.sized ∙ rel.stack.sized; held = h.same; bytes = h.bytes; input = rel.stack.input; read = rel.stack.read; output = rel.stack.output; above = λ a le lt. h.shut a (rel.stack.above a le lt) };
+          stack = record {
+            top = rel.stack.top;
+            sized = h.sized ∙ rel.stack.sized;
+            held = h.same;
+            bytes = h.bytes;
+            input = rel.stack.input;
+            read = rel.stack.read;
+            output = rel.stack.output;
+            above =
+                λ a le lt. h.shut a (rel.stack.above a le lt);
+          };
           slots = λ a le lt. h.shut a (rel.slots a le lt);
         };
         kept = record { shut = λ a lt q. h.shut a q; same = λ a lt q. h.alone a q };

@@ -22,7 +22,8 @@ use Rattle.hyper_build.proofs.Relates.{rel_counted, kept_same}
 use Rattle.hyper_build.proofs.Sizes.{length_blocks}
 use Rattle.hyper_build.proofs.Straights.{tree_walks, walks_follow}
 
-module _ (W : World) (built : IsBuilt W) (words : AluGivesWords) (call : Calls) (start : ℕ) (g : Routine) (fr : IsFrame W start g) where
+module _ (W : World) (built : IsBuilt W) (words : AluGivesWords) (call : Calls) (start : ℕ) (g : Routine)
+    (fr : IsFrame W start g) where
   abbrev lo : ℕ
   lo = W.base + start + 8
 
@@ -52,7 +53,10 @@ module _ (W : World) (built : IsBuilt W) (words : AluGivesWords) (call : Calls) 
           (blocks (in_loop p broke again) post (again + 1) (jump l))
       pub last : slice_get W.program broke ≡ Some k
 
-  module _ (inside : Bool) (p : Place) (c : Bool) (body post : Tree) (l broke again : ℕ) (k : Block) (lp : IsLoop p c body post l broke again k) (place : IsPlace W g p) (fits_body : FitsTree W g true body) (fits_post : FitsTree W g false post) (does_body : TreeDoes W call start g body) (does_post : TreeDoes W call start g post) where
+  module _ (inside : Bool) (p : Place) (c : Bool) (body post : Tree) (l broke again : ℕ) (k : Block)
+      (lp : IsLoop p c body post l broke again k) (place : IsPlace W g p) (fits_body : FitsTree W g true body)
+      (fits_post : FitsTree W g false post) (does_body : TreeDoes W call start g body)
+      (does_post : TreeDoes W call start g post) where
     q : Place
     q = in_loop p broke again
 

@@ -2,14 +2,10 @@
 //! do what the flat program does.
 #![tactic(auto)]
 
-#[cfg(test)]
-mod build_tests;
 mod building;
 mod calling;
 mod code;
 mod counting;
-#[cfg(test)]
-mod emission_tests;
 mod emitting;
 mod functions;
 mod ground;

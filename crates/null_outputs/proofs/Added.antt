@@ -45,11 +45,13 @@ group_added : (p : ℕ) (s : Bool) (y : ℕ) (ms : List FlowSource) → AllAdded
 group_added p s y [] = (record { op = tt; imm = refl }, tt)
 group_added p s y (m ∷ ms) = (record { op = tt; imm = refl }, (record { op = tt; imm = refl }, tt))
 
-region_added : {A : Type 0} (part : ℕ → ℕ → A → List FlowNode) (size : ℕ → A → ℕ) → ((p j : ℕ) (x : A) → AllAdded (part p j x))
+region_added : {A : Type 0} (part : ℕ → ℕ → A → List FlowNode) (size : ℕ → A → ℕ)
+    → ((p j : ℕ) (x : A) → AllAdded (part p j x))
     → (p j : ℕ) (xs : List A) → AllAdded (region part size p j xs)
 region_added part size q p j [] = tt
 region_added part size q p j (x ∷ rest) =
-    added_append (part p j x) (region part size (p + size j x) (suc j) rest) (q p j x) (region_added part size q (p + size j x) (suc j) rest)
+    added_append (part p j x) (region part size (p + size j x) (suc j) rest) (q p j x)
+    (region_added part size q (p + size j x) (suc j) rest)
 
 module _ (sure : Sure) (want : Want) (b : FlowBlock) where
   number_added : (p k : ℕ) → AllAdded (number_part sure want b p k)
@@ -60,7 +62,8 @@ module _ (sure : Sure) (want : Want) (b : FlowBlock) where
   numbers_added : (m p k : ℕ) → AllAdded (numbers_part sure want b p k m)
   numbers_added zero p k = tt
   numbers_added (suc m) p k =
-      added_append (number_part sure want b p k) _ (number_added p k) (numbers_added m (p + number_size sure want b k) (suc k))
+      added_append (number_part sure want b p k) _ (number_added p k)
+      (numbers_added m (p + number_size sure want b k) (suc k))
 
   all_numbers_added : AllAdded (all_numbers sure want b)
   unfolding all_numbers
@@ -77,41 +80,53 @@ module _ (sure : Sure) (want : Want) (b : FlowBlock) where
   all_added =
       let c = cover sure want b in
       added_append (trues_region sure want b) _
-      (region_added (guard_part want b.nodes c true) (guard_part_size want b.nodes sure true) (λ p j n. added_if (is_used want 0 b.nodes true j) _ (group_added p true j (c (Node j)))) _ 0 b.nodes)
+      (region_added (guard_part want b.nodes c true) (guard_part_size want b.nodes sure true)
+      (λ p j n. added_if (is_used want 0 b.nodes true j) _ (group_added p true j (c (Node j)))) _ 0 b.nodes)
       (added_append (falses_region sure want b) _
-      (region_added (guard_part want b.nodes c false) (guard_part_size want b.nodes sure false) (λ p j n. added_if (is_used want 0 b.nodes false j) _ (group_added p false j (c (Node j)))) _ 0 b.nodes)
+      (region_added (guard_part want b.nodes c false) (guard_part_size want b.nodes sure false)
+      (λ p j n. added_if (is_used want 0 b.nodes false j) _ (group_added p false j (c (Node j)))) _ 0 b.nodes)
       (added_append (lefts_region sure want b) _
       (region_added (left_part sure want c) (left_size sure want)
-      (λ p j n. added_if (left_needed sure want j n) _ (record { op = tt; imm = refl }, nodes_added c (suc p) n.left)) _ 0 b.nodes)
+      (λ p j n. added_if (left_needed sure want j n) _
+      (record { op = tt; imm = refl }, nodes_added c (suc p) n.left)) _ 0 b.nodes)
       (added_append (rights_region sure want b) _
       (region_added (right_part sure want c) (right_size sure want)
-      (λ p j n. added_if (right_needed sure want j n) _ (record { op = tt; imm = refl }, nodes_added c (suc p) n.right)) _ 0 b.nodes)
-      (added_append (writes_region sure want b) _ (region_added (write_part sure want b) (write_size sure want b) write_added _ 0 b.writes) all_numbers_added))))
+      (λ p j n. added_if (right_needed sure want j n) _
+      (record { op = tt; imm = refl }, nodes_added c (suc p) n.right)) _ 0 b.nodes)
+      (added_append (writes_region sure want b) _
+      (region_added (write_part sure want b) (write_size sure want b) write_added _ 0 b.writes)
+      all_numbers_added))))
 
 -- WHAT FOLLOWS
 
-both_all : (P : FlowNode → Type 0) → ((n : FlowNode) → IsAdded n → P n) → (xs ys : List FlowNode) → All P xs → AllAdded ys → All P (xs ++ ys)
+both_all : (P : FlowNode → Type 0) → ((n : FlowNode) → IsAdded n → P n) → (xs ys : List FlowNode) → All P xs
+    → AllAdded ys → All P (xs ++ ys)
 both_all P f [] [] a y = a
 both_all P f [] (n ∷ ys) a y = All-cons P n ys (f n y.0) (both_all P f [] ys (λ i d l. absurd (omega arith)) y.1)
 both_all P f (x ∷ xs) ys a y = All-cons P x (xs ++ ys) (All-head P x xs a) (both_all P f xs ys (All-tail P x xs a) y)
 
 -- a node of both lists together
-old_or_added : (xs ys : List FlowNode) → AllAdded ys → (j : ℕ) (n : FlowNode) → slice_get (xs ++ ys) j ≡ Some n → (slice_get xs j ≡ Some n) ⊎ IsAdded n
+old_or_added : (xs ys : List FlowNode) → AllAdded ys → (j : ℕ) (n : FlowNode) → slice_get (xs ++ ys) j ≡ Some n
+    → (slice_get xs j ≡ Some n) ⊎ IsAdded n
 old_or_added [] [] a j n e = absurd (cc)
 old_or_added [] (y ∷ ys) a zero n e = inr (subst IsAdded (some_is y n e) a.0)
 old_or_added [] (y ∷ ys) a (suc j) n e = later (old_or_added [] ys a.1 j n e)
   where
-    later : (slice_get {X = FlowNode} [] j ≡ Some n) ⊎ IsAdded n → (slice_get {X = FlowNode} [] (suc j) ≡ Some n) ⊎ IsAdded n
+    later : (slice_get {X = FlowNode} [] j ≡ Some n) ⊎ IsAdded n
+        → (slice_get {X = FlowNode} [] (suc j) ≡ Some n) ⊎ IsAdded n
     later (inl d) = inl (absurd (cc))
     later (inr d) = inr d
 old_or_added (x ∷ xs) ys a zero n e = inl e
 old_or_added (x ∷ xs) ys a (suc j) n e = old_or_added xs ys a j n e
 
-pub own_or_added : (b : FlowBlock) (j : ℕ) (n : FlowNode) → slice_get (complete b).nodes j ≡ Some n → (slice_get b.nodes j ≡ Some n) ⊎ IsAdded n
-own_or_added b j n e = old_or_added b.nodes (added (sure_by b) (want_by b) b) (all_added (sure_by b) (want_by b) b) j n e
+pub own_or_added : (b : FlowBlock) (j : ℕ) (n : FlowNode) → slice_get (complete b).nodes j ≡ Some n
+    → (slice_get b.nodes j ≡ Some n) ⊎ IsAdded n
+own_or_added b j n e = old_or_added b.nodes (added (sure_by b) (want_by b) b)
+    (all_added (sure_by b) (want_by b) b) j n e
 
 -- what holds of each node of a block, and of each node as they are added, holds of the completed block's
-pub adds_nodes : (P : FlowNode → Type 0) → ((n : FlowNode) → IsAdded n → P n) → (b : FlowBlock) → All P b.nodes → All P (complete b).nodes
+pub adds_nodes : (P : FlowNode → Type 0) → ((n : FlowNode) → IsAdded n → P n) → (b : FlowBlock) → All P b.nodes
+    → All P (complete b).nodes
 adds_nodes P f b a = both_all P f b.nodes (added (sure_by b) (want_by b) b) a (all_added (sure_by b) (want_by b) b)
 
 module _ (r : Immediates) (zeros : KeepsZeros r) where

@@ -1,7 +1,6 @@
 -- The lists that the code keeps lead to the completed block.
 use Rattle.std.proofs.Common.{◌≡◌, ℕ, zero, suc, ◌+◌, List, [], ◌∷◌, ◌++◌, length, get_or}
 use Rattle.std.proofs.Common.{refl, sym, ap, ap₂, subst, ◌∙◌, arith, append_assoc, length-append, Bool, true, false}
-use Rattle.std.specs.Prelude.{None, cond}
 use Rattle.std.proofs.Math.Path.{fun_ext}
 use Rattle.ir_forms.specs.declared.flow.FlowNode.{FlowNode}
 use Rattle.ir_forms.specs.declared.flow.FlowWrite.{FlowWrite}
@@ -21,7 +20,7 @@ use Rattle.null_outputs.specs.Surely.{sure_of, firm_of, firms, sure_by}
 use Rattle.null_outputs.specs.Wants.{or_all, wants_of, is_closed, want_by, complete}
 use Rattle.null_outputs.specs.inside.Listed.{start_in, places_in, sure_in_guess, want_in_guess, cover_in}
 use Rattle.null_outputs.specs.inside.Listed.{IsRegion, write_part_by, write_size_by, filled_by, all_filled_by}
-use Rattle.null_outputs.specs.inside.Listed.{number_part_by, number_size_by, numbers_by, all_numbers_by}
+use Rattle.null_outputs.specs.inside.Listed.{numbers_by, all_numbers_by}
 use Rattle.null_outputs.specs.inside.Listed.{IsGuess, AreStarts, with_added}
 use Rattle.null_outputs.proofs.Spaces.{guard_part_length, left_length, right_length, region_end}
 use Rattle.null_outputs.proofs.Outputs.{write_length}
@@ -106,7 +105,8 @@ module _ (b : FlowBlock) (g : Guess) (s : Starts) (is : AreStarts b.nodes g s) w
 
   -- WHAT IS ADDED
 
-  module _ {A : Type 0} (part : ℕ → ℕ → A → List FlowNode) (size : ℕ → A → ℕ) (fits : (p j : ℕ) (x : A) → length (part p j x) ≡ size j x) where
+  module _ {A : Type 0} (part : ℕ → ℕ → A → List FlowNode) (size : ℕ → A → ℕ)
+      (fits : (p j : ℕ) (x : A) → length (part p j x) ≡ size j x) where
     -- a region behind what was emitted, and where the next one begins
     next_region : (old new : List FlowNode) (p : ℕ) (xs : List A) → length b.nodes + length old ≡ p
         → new ≡ old ++ region part size (length b.nodes + length old) 0 xs
@@ -115,22 +115,26 @@ module _ (b : FlowBlock) (g : Guess) (s : Starts) (is : AreStarts b.nodes g s) w
         let m : new ≡ old ++ region part size p 0 xs = n ∙ ap (λ (q : ℕ). old ++ region part size q 0 xs) e in
         let f = region_end part size fits p 0 xs in
         let l = length-append old (region part size p 0 xs) in
-        let k : length new ≡ length old + length (region part size p 0 xs) = ap (λ (ns : List FlowNode). length ns) m ∙ l in
+        let k : length new ≡ length old + length (region part size p 0 xs) =
+        ap (λ (ns : List FlowNode). length ns) m ∙ l in
         (m, omega (arith, e, f, k))
 
   numbers_same : (m p k : ℕ) → numbers_by sure (cover sure want b) b p k m ≡ numbers_part sure want b p k m
   numbers_same zero p k = refl
   numbers_same (suc m) p k =
-      ap (λ (ns : List FlowNode). number_part sure want b p k ++ ns) (numbers_same m (p + number_size sure want b k) (suc k))
+      ap (λ (ns : List FlowNode). number_part sure want b p k ++ ns)
+      (numbers_same m (p + number_size sure want b k) (suc k))
 
   all_same : all_numbers_by sure (cover sure want b) b (numbers_at sure want b) ≡ all_numbers sure want b
   unfolding all_numbers_by all_numbers
   all_same = numbers_same 32 (numbers_at sure want b) 0
 
-  filled_same : (p j : ℕ) (ws : List FlowWrite) → all_filled_by sure (cover sure want b) p ws ≡ filled_all sure want b p j ws
+  filled_same : (p j : ℕ) (ws : List FlowWrite)
+      → all_filled_by sure (cover sure want b) p ws ≡ filled_all sure want b p j ws
   filled_same p j [] = refl
   filled_same p j (w ∷ ws) =
-      ap (λ (rest : List FlowWrite). filled_by sure (cover sure want b) p w ∷ rest) (filled_same (p + write_size sure want b j w) (suc j) ws)
+      ap (λ (rest : List FlowWrite). filled_by sure (cover sure want b) p w ∷ rest)
+      (filled_same (p + write_size sure want b j w) (suc j) ws)
 
   all_are_filled : (ws : List FlowWrite) → ws ≡ all_filled_by sure (cover_in b.nodes g s) s.right.end b.writes
       → ws ≡ filled_all sure want b (writes_at sure want b) 0 b.writes
@@ -138,24 +142,37 @@ module _ (b : FlowBlock) (g : Guess) (s : Starts) (is : AreStarts b.nodes g s) w
       e ∙ ap₂ (λ (c : Cover) (p : ℕ). all_filled_by sure c p b.writes) same_cover at_writes
       ∙ filled_same (writes_at sure want b) 0 b.writes
 
-  six : {X : Type 0} (a c d e f h : List X) → (((((([] ++ a) ++ c) ++ d) ++ e) ++ f) ++ h) ≡ a ++ (c ++ (d ++ (e ++ (f ++ h))))
+  six : {X : Type 0} (a c d e f h : List X)
+      → (((((([] ++ a) ++ c) ++ d) ++ e) ++ f) ++ h) ≡ a ++ (c ++ (d ++ (e ++ (f ++ h))))
   six a c d e f h = simp append_assoc
 
-  all_are_added : (zeroth one two three four five last : List FlowNode) → IsEmitted b g s b.nodes b.writes zeroth one two three four five last
+  all_are_added : (zeroth one two three four five last : List FlowNode)
+      → IsEmitted b g s b.nodes b.writes zeroth one two three four five last
       → last ≡ added sure want b
   all_are_added zeroth one two three four five last out =
       let K = cover sure want b in
-      let z : length b.nodes + length zeroth ≡ trues sure want b = let l = ap (λ (ns : List FlowNode). length ns) out.start in omega (arith, l) in
-      let a = next_region (guard_part want b.nodes K true) (guard_part_size want b.nodes sure true) (guard_part_length want b.nodes sure (places sure want b) true) zeroth one (trues sure want b) b.nodes z
-      (out.on_true ∙ ap (λ (c : Cover). zeroth ++ region (guard_part want b.nodes c true) (guard_part_size want b.nodes sure true) (length b.nodes + length zeroth) 0 b.nodes) same_cover) in
-      let c = next_region (guard_part want b.nodes K false) (guard_part_size want b.nodes sure false) (guard_part_length want b.nodes sure (places sure want b) false) one two (falses sure want b) b.nodes a.1
-      (out.on_false ∙ ap (λ (c : Cover). one ++ region (guard_part want b.nodes c false) (guard_part_size want b.nodes sure false) (length b.nodes + length one) 0 b.nodes) same_cover) in
-      let d = next_region (left_part sure want K) (left_size sure want) (left_length sure want K) two three (lefts sure want b) b.nodes c.1
-      (out.left ∙ ap (λ (c : Cover). two ++ region (left_part sure want c) (left_size sure want) (length b.nodes + length two) 0 b.nodes) same_cover) in
-      let e = next_region (right_part sure want K) (right_size sure want) (right_length sure want K) three four (rights sure want b) b.nodes d.1
-      (out.right ∙ ap (λ (c : Cover). three ++ region (right_part sure want c) (right_size sure want) (length b.nodes + length three) 0 b.nodes) same_cover) in
-      let f = next_region (write_part sure want b) (write_size sure want b) (write_length sure want b) four five (writes_at sure want b) b.writes e.1
-      (out.written ∙ ap (λ (c : Cover). four ++ region (write_part_by sure c) (write_size_by sure) (length b.nodes + length four) 0 b.writes) same_cover) in
+      let z : length b.nodes + length zeroth ≡ trues sure want b = let l =
+      ap (λ (ns : List FlowNode). length ns) out.start in omega (arith, l) in
+      let a = next_region (guard_part want b.nodes K true) (guard_part_size want b.nodes sure true)
+      (guard_part_length want b.nodes sure (places sure want b) true) zeroth one (trues sure want b) b.nodes z
+      (out.on_true ∙ ap (λ (c : Cover). zeroth ++ region (guard_part want b.nodes c true)
+      (guard_part_size want b.nodes sure true) (length b.nodes + length zeroth) 0 b.nodes) same_cover) in
+      let c = next_region (guard_part want b.nodes K false) (guard_part_size want b.nodes sure false)
+      (guard_part_length want b.nodes sure (places sure want b) false) one two (falses sure want b) b.nodes a.1
+      (out.on_false ∙ ap (λ (c : Cover). one ++ region (guard_part want b.nodes c false)
+      (guard_part_size want b.nodes sure false) (length b.nodes + length one) 0 b.nodes) same_cover) in
+      let d = next_region (left_part sure want K) (left_size sure want) (left_length sure want K) two three
+      (lefts sure want b) b.nodes c.1
+      (out.left ∙ ap (λ (c : Cover). two ++ region (left_part sure want c) (left_size sure want)
+      (length b.nodes + length two) 0 b.nodes) same_cover) in
+      let e = next_region (right_part sure want K) (right_size sure want) (right_length sure want K) three four
+      (rights sure want b) b.nodes d.1
+      (out.right ∙ ap (λ (c : Cover). three ++ region (right_part sure want c) (right_size sure want)
+      (length b.nodes + length three) 0 b.nodes) same_cover) in
+      let f = next_region (write_part sure want b) (write_size sure want b) (write_length sure want b) four five
+      (writes_at sure want b) b.writes e.1
+      (out.written ∙ ap (λ (c : Cover). four ++ region (write_part_by sure c) (write_size_by sure)
+      (length b.nodes + length four) 0 b.writes) same_cover) in
       let h : last ≡ five ++ all_numbers sure want b = out.stored
       ∙ ap₂ (λ (c : Cover) (p : ℕ). five ++ all_numbers_by sure c b p) same_cover f.1
       ∙ ap (λ (ns : List FlowNode). five ++ ns) all_same in
@@ -166,10 +183,12 @@ module _ (b : FlowBlock) (g : Guess) (s : Starts) (is : AreStarts b.nodes g s) w
       (d.0 ∙ ap (λ (ns : List FlowNode). ns ++ lefts_region sure want b)
       (c.0 ∙ ap (λ (ns : List FlowNode). ns ++ falses_region sure want b)
       (a.0 ∙ ap (λ (ns : List FlowNode). ns ++ trues_region sure want b) out.start)))))
-      ∙ six (trues_region sure want b) (falses_region sure want b) (lefts_region sure want b) (rights_region sure want b) (writes_region sure want b) (all_numbers sure want b)
+      ∙ six (trues_region sure want b) (falses_region sure want b) (lefts_region sure want b)
+      (rights_region sure want b) (writes_region sure want b) (all_numbers sure want b)
 
   -- the same from slices of the block
-  pub added_by_code : (ns : List FlowNode) (ws : List FlowWrite) (zeroth one two three four five last : List FlowNode) → ns ≡ b.nodes → ws ≡ b.writes
+  pub added_by_code : (ns : List FlowNode) (ws : List FlowWrite) (zeroth one two three four five last : List FlowNode)
+      → ns ≡ b.nodes → ws ≡ b.writes
       → IsEmitted b g s ns ws zeroth one two three four five last → last ≡ added sure want b
   added_by_code ns ws zeroth one two three four five last e f out =
       all_are_added zeroth one two three four five last
@@ -183,7 +202,8 @@ module _ (b : FlowBlock) (g : Guess) (s : Starts) (is : AreStarts b.nodes g s) w
   filled_by_code ns ws found e f out =
       all_are_filled found
       (subst (λ (w : List FlowWrite). found ≡ all_filled_by sure (cover_in b.nodes g s) s.right.end w) f
-      (subst (λ (n : List FlowNode). found ≡ all_filled_by (sure_in_guess n g) (cover_in n g s) s.right.end ws) e out))
+      (subst (λ (n : List FlowNode). found ≡ all_filled_by (sure_in_guess n g) (cover_in n g s) s.right.end ws) e
+      out))
 
 -- THE GUESS
 
@@ -200,14 +220,16 @@ module _ (b : FlowBlock) (g : Guess) (is : IsGuess b g) where
   -- the completed block, by the lists of the code
   pub is_complete : (added_nodes : List FlowNode) (ws : List FlowWrite)
       → added_nodes ≡ added (sure_in_guess b.nodes g) (want_in_guess g) b
-      → ws ≡ filled_all (sure_in_guess b.nodes g) (want_in_guess g) b (writes_at (sure_in_guess b.nodes g) (want_in_guess g) b) 0 b.writes
+      → ws ≡ filled_all (sure_in_guess b.nodes g) (want_in_guess g) b
+      (writes_at (sure_in_guess b.nodes g) (want_in_guess g) b) 0 b.writes
       → with_added b added_nodes ws ≡ complete b
   is_complete added_nodes ws e f =
       ap₂ (λ (ns : List FlowNode) (w : List FlowWrite). with_added b ns w) e f
       ∙ ap₂ (λ (S : Sure) (W : Want). completed S W b) same_sure same_want
 
 -- the completed block, by what the code makes of slices of the block
-pub whole_by_code : (b : FlowBlock) (g : Guess) (s : Starts) (ns : List FlowNode) (ws : List FlowWrite) (more : List FlowNode) (found : List FlowWrite) (whole : FlowBlock)
+pub whole_by_code : (b : FlowBlock) (g : Guess) (s : Starts) (ns : List FlowNode) (ws : List FlowWrite)
+    (more : List FlowNode) (found : List FlowWrite) (whole : FlowBlock)
     → ns ≡ b.nodes → ws ≡ b.writes → IsGuess b g → AreStarts ns g s
     → (AreStarts b.nodes g s → more ≡ added (sure_in_guess b.nodes g) (want_in_guess g) b)
     → found ≡ all_filled_by (sure_in_guess ns g) (cover_in ns g s) s.right.end ws
@@ -217,7 +239,8 @@ whole_by_code b g s ns ws more found whole e f guess at m w is =
     is ∙ is_complete b g guess more found (m starts) (filled_by_code b g s starts ns ws found e f w)
 
 -- what is guessed, by what the code makes of slices of the block
-pub guess_by_code : (b : FlowBlock) (firm found : List Bool) (closed : Bool) (ns : List FlowNode) (fs ds cs : List Bool)
+pub guess_by_code : (b : FlowBlock) (firm found : List Bool) (closed : Bool) (ns : List FlowNode)
+    (fs ds cs : List Bool)
     → ns ≡ b.nodes → fs ≡ firm → ds ≡ firm → cs ≡ found → firm ≡ firms ns
     → found ≡ wants_of (sure_of b.nodes (firm_of fs)) b
     → closed ≡ is_closed (sure_of b.nodes (firm_of ds)) (firm_of cs) b

@@ -10,7 +10,8 @@ use Rattle.trips_isa.specs.declared.form.Form.TheVariants as form
 use Rattle.trips_isa.specs.declared.form.Role.{Role}
 use Rattle.trips_isa.specs.declared.form.Role.TheVariants as role
 use Rattle.trips_isa.specs.declared.block.Token.TheVariants.{Null, Word}
-use Rattle.trips_isa.specs.Forms.{form_of, role_of, role_in, general_role, branch_role, constant_role, takes_left, takes_right}
+use Rattle.trips_isa.specs.Forms.{form_of, role_of, role_in, general_role, branch_role, constant_role}
+use Rattle.trips_isa.specs.Forms.{takes_left, takes_right}
 use Rattle.trips_isa.specs.Rule.{Answer, low, matched, of_one, of_both, null_beside, if_matched}
 use Rattle.trips_isa.specs.Rule as by_rule
 use Rattle.trips_isa.specs.Tables.{or_else}
@@ -97,7 +98,8 @@ both_there f (Some (Word a)) (Some Null) = refl
 both_there f (Some (Word a)) (Some (Word b)) = refl
 
 pub role_there : (r : Role) → Filled r → (a : ℕ → ℕ → ℕ) (x y : Answer)
-    → present (by_rule.gives r a x y) ≡ all_there (cond (takes_left r) (present x) 1) (cond (takes_right r) (present y) 1)
+    → present (by_rule.gives r a x y) ≡ all_there (cond (takes_left r) (present x) 1)
+    (cond (takes_right r) (present y) 1)
 role_there role.Empty e a x y = absurd e
 role_there role.Reading e a x y = refl
 role_there role.Free e a x y = refl
@@ -225,16 +227,19 @@ module _ (regs : ℕ → ℕ) (h : ℕ → Answer) where
 
   -- PIECES
 
-  pub null_covered : (a : ℕ → ℕ → ℕ) (g : Option Guard) (p : ℕ) → h p ≡ gives regs h a (null_under g) → Covered (bit (met h g)) (Node p ∷ [])
+  pub null_covered : (a : ℕ → ℕ → ℕ) (g : Option Guard) (p : ℕ) → h p ≡ gives regs h a (null_under g)
+      → Covered (bit (met h g)) (Node p ∷ [])
   null_covered a g p e = one_covered p _ (nothing_nulled (met h g) (h p) e)
 
-  pub copy_covered : (a : ℕ → ℕ → ℕ) (g : Option Guard) (p k : ℕ) (ms : List FlowSource) → k ≤ 1 → Covered k ms → h p ≡ gives regs h a (copy_under g ms)
+  pub copy_covered : (a : ℕ → ℕ → ℕ) (g : Option Guard) (p k : ℕ) (ms : List FlowSource) → k ≤ 1 → Covered k ms
+      → h p ≡ gives regs h a (copy_under g ms)
       → Covered (cond (met h g) k 0) (Node p ∷ [])
   copy_covered a g p k ms l c e =
       one_covered p _ (null_if (met h g) (h p) (first regs h ms) k e
       (record { there = here_count ms (omega (arith, c.number)) ∙ c.number; null = first_null ms c.null }))
 
-  pub both_covered : (a : ℕ → ℕ → ℕ) (g : Option Guard) (p k : ℕ) (l ms : List FlowSource) → k ≤ 1 → Covered k ms → h p ≡ gives regs h a (both_under g l ms)
+  pub both_covered : (a : ℕ → ℕ → ℕ) (g : Option Guard) (p k : ℕ) (l ms : List FlowSource) → k ≤ 1
+      → Covered k ms → h p ≡ gives regs h a (both_under g l ms)
       → Covered (cond (met h g) (all_there (here l) k) 0) (Node p ∷ [])
   both_covered a g p k l ms low c e =
       let n = null_both a (first regs h l) (first regs h ms) (first_null ms c.null) in
@@ -249,15 +254,18 @@ module _ (regs : ℕ → ℕ) (h : ℕ → Answer) where
   EachCovered c [] = Unit {0}
   EachCovered c (s ∷ rest) = Covered (1 - present (got regs h s)) (c s) × EachCovered c rest
 
-  pub pairs_covered : (c : Cover) (f : Computes) (p : ℕ) (s : FlowSource) (rest : List FlowSource) → EachCovered c (s ∷ rest)
+  pub pairs_covered : (c : Cover) (f : Computes) (p : ℕ) (s : FlowSource) (rest : List FlowSource)
+      → EachCovered c (s ∷ rest)
       → Obeys regs f h p (pairs c p s rest) → Covered (1 - here (s ∷ rest)) (top_of c p s rest)
   pairs_covered c f p s [] k o = as_covered _ _ (c s) (lack_one (got regs h s)) k.0
   pairs_covered c f p s (t ∷ rest) k o =
       let x = pairs_covered c f (suc p) t rest k.1 o.1 in
       let w : Covered (all_there (here (c s)) (1 - here (t ∷ rest))) (Node p ∷ []) =
-      both_covered (f p (both_under None (c s) (top_of c (suc p) t rest))) None p (1 - here (t ∷ rest)) (c s) (top_of c (suc p) t rest) (omega arith) x o.0 in
+      both_covered (f p (both_under None (c s) (top_of c (suc p) t rest))) None p (1 - here (t ∷ rest)) (c s)
+      (top_of c (suc p) t rest) (omega arith) x o.0 in
       let e : here (c s) ≡ 1 - present (got regs h s) = here_count (c s) (omega (arith, (k.0).number)) ∙ (k.0).number in
-      as_covered _ _ (Node p ∷ []) (ap (λ (i : ℕ). all_there i (1 - here (t ∷ rest))) e ∙ lack_more (got regs h s) (first regs h (t ∷ rest))) w
+      as_covered _ _ (Node p ∷ []) (ap (λ (i : ℕ). all_there i (1 - here (t ∷ rest))) e
+      ∙ lack_more (got regs h s) (first regs h (t ∷ rest))) w
 
   pub list_covered : (c : Cover) (f : Computes) (p : ℕ) (ss : List FlowSource) → EachCovered c ss
       → Obeys regs f h p (list_nodes c p ss) → Covered (1 - here ss) (list_top c p ss)
@@ -270,14 +278,17 @@ module _ (regs : ℕ → ℕ) (h : ℕ → Answer) where
       → Covered (1 - present (h y)) ms → Obeys regs f h p (guard_group p s y ms)
       → Covered (1 - bit (met h (Some (guard_on s y)))) (Node p ∷ [])
   guard_group_covered f p s y [] n c o =
-      as_covered _ _ (Node p ∷ []) (sum (other_bit (h y) s n) c.number) (null_covered (f p (null_under (Some (guard_on (not s) y)))) (Some (guard_on (not s) y)) p o.0)
+      as_covered _ _ (Node p ∷ []) (sum (other_bit (h y) s n) c.number)
+      (null_covered (f p (null_under (Some (guard_on (not s) y)))) (Some (guard_on (not s) y)) p o.0)
     where
       sum : {x z w : ℕ} → x + z ≡ w → 0 ≡ z → x ≡ w
       sum e d = omega (arith, e, d)
   guard_group_covered f p s y (m ∷ ms) n c o =
-      let z = null_covered (f (suc p) (null_under (Some (guard_on (not s) y)))) (Some (guard_on (not s) y)) (suc p) (o.1.0) in
+      let z = null_covered (f (suc p) (null_under (Some (guard_on (not s) y)))) (Some (guard_on (not s) y))
+      (suc p) (o.1.0) in
       let all = as_covered _ _ _ (other_bit (h y) s n) (append_covered _ _ (Node (suc p) ∷ []) (m ∷ ms) z c) in
-      copy_covered (f p (copy_under None (Node (suc p) ∷ m ∷ ms))) None p _ (Node (suc p) ∷ m ∷ ms) (omega arith) all o.0
+      copy_covered (f p (copy_under None (Node (suc p) ∷ m ∷ ms))) None p _ (Node (suc p) ∷ m ∷ ms)
+      (omega arith) all o.0
 
   pub guard_covered : (f : Computes) (p : ℕ) (s : Bool) (y : ℕ) (ms : List FlowSource) → (h y ≢ Some Null)
       → Covered (1 - present (h y)) ms → Obeys regs f h p (guard_group p s y ms)
@@ -287,7 +298,10 @@ module _ (regs : ℕ → ℕ) (h : ℕ → Answer) where
   -- NODES
 
   pub node_there : (a : ℕ → ℕ → ℕ) (x : ℕ) (n : FlowNode) → h x ≡ gives regs h a n
-      → present (h x) ≡ cond (met h n.guard) (all_there (cond (takes_left (role_of n.op)) (here n.left) 1) (cond (takes_right (role_of n.op)) (here n.right) 1)) 0
+      → present (h x) ≡ cond (met h n.guard)
+      (all_there (cond (takes_left (role_of n.op)) (here n.left) 1)
+      (cond (takes_right (role_of n.op)) (here n.right) 1)) 0
   node_there a x n e =
       ap present e ∙ if_there (met h n.guard) _ ∙
-      ap (λ (k : ℕ). cond (met h n.guard) k 0) (role_there (role_of n.op) (filled n.op) a (first regs h n.left) (first regs h n.right))
+      ap (λ (k : ℕ). cond (met h n.guard) k 0)
+      (role_there (role_of n.op) (filled n.op) a (first regs h n.left) (first regs h n.right))

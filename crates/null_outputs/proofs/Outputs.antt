@@ -19,7 +19,8 @@ use Rattle.ir_forms.specs.declared.flow.FlowNode.{FlowNode}
 use Rattle.ir_forms.specs.declared.flow.FlowWrite.{FlowWrite}
 use Rattle.ir_forms.specs.declared.flow.FlowBlock.{FlowBlock}
 use Rattle.trips_isa.specs.Acts.{Act}
-use Rattle.ir_forms.specs.FlowRuns.{first, Computes, Obeys, present, count, tokens, numbered, exits, leaving_in, fired, act_tokens, stores, inst_of}
+use Rattle.ir_forms.specs.FlowRuns.{first, Computes, Obeys, present, count, tokens, numbered, exits, leaving_in}
+use Rattle.ir_forms.specs.FlowRuns.{fired, act_tokens, stores, inst_of}
 use Rattle.ir_forms.specs.FlowFits.{FitsFlowSource, in_mask}
 use Rattle.null_outputs.proofs.Oracles.{EachWanted}
 use Rattle.null_outputs.specs.Completed.{cover, write_part, write_size, numbers_at, number_part}
@@ -27,9 +28,11 @@ use Rattle.null_outputs.specs.Completed.{number_size, numbers_part, all_numbers}
 use Rattle.null_outputs.specs.Covers.{Want, null_store_of, Sure, list_top, list_nodes, list_size}
 use Rattle.null_outputs.specs.Groups.{store_source, stores_of, number_open}
 use Rattle.null_outputs.specs.Laws.{MaskedIn, EachMasked}
-use Rattle.null_outputs.proofs.Heart.{all_there, IsNull, here, Covered, count-append, first_null, here_count, node_there}
+use Rattle.null_outputs.proofs.Heart.{all_there, IsNull, here, Covered, count-append, first_null, here_count}
+use Rattle.null_outputs.proofs.Heart.{node_there}
 use Rattle.null_outputs.proofs.Spaces.{nodes_length, obeys_front, obeys_back, cond_length}
-use Rattle.null_outputs.proofs.Quiet.{AllQuiet, nodes_quiet, tokens_append, exits_append, fired_append, stores_append, quiet_tokens, quiet_exits, quiet_fired, quiet_stores}
+use Rattle.null_outputs.proofs.Quiet.{AllQuiet, nodes_quiet, tokens_append, exits_append, fired_append}
+use Rattle.null_outputs.proofs.Quiet.{stores_append, quiet_tokens, quiet_exits, quiet_fired, quiet_stores}
 use Rattle.null_outputs.proofs.Hollow.{Hollow, hollow_or}
 
 -- STORES BY NUMBER
@@ -47,7 +50,8 @@ module _ (sure : Sure) (want : Want) (b : FlowBlock) where
   source_fits form.Branch n j k l = All-nil (FitsFlowSource b)
   source_fits form.Constant n j k l = All-nil (FitsFlowSource b)
 
-  pub stores_fit : (j : ℕ) (ns : List FlowNode) (k : ℕ) → j + length ns ≤ length b.nodes → All (FitsFlowSource b) (stores_of j ns k)
+  pub stores_fit : (j : ℕ) (ns : List FlowNode) (k : ℕ) → j + length ns ≤ length b.nodes
+      → All (FitsFlowSource b) (stores_of j ns k)
   stores_fit j [] k l = All-nil (FitsFlowSource b)
   stores_fit j (n ∷ ns) k l =
       All-append (FitsFlowSource b) (store_source (form_of n.op) n j k) (stores_of (suc j) ns k)
@@ -86,7 +90,8 @@ module _ (sure : Sure) (want : Want) (b : FlowBlock) where
         let y = count_stores (suc j) ns k in
         omega (arith, a, x, y)
 
-    masked_numbered : (x : Form) (n : FlowNode) (t : Answer) (k : ℕ) → MaskedIn x b n → in_mask b.mask k ≡ false → numbered x n t k ≡ 0
+    masked_numbered : (x : Form) (n : FlowNode) (t : Answer) (k : ℕ) → MaskedIn x b n → in_mask b.mask k ≡ false
+        → numbered x n t k ≡ 0
     masked_numbered form.Store n t k m e = go (nat_eq n.number k) refl
       where
         differ : (x : Bool) → x ≡ true → x ≡ false → ⊥
@@ -96,7 +101,8 @@ module _ (sure : Sure) (want : Want) (b : FlowBlock) where
         same i j e = grind (arith, nat_tests)
 
         go : (u : Bool) → nat_eq n.number k ≡ u → cond u (present t) 0 ≡ 0
-        go true eu = absurd (differ (in_mask b.mask k) (subst (λ (i : ℕ). in_mask b.mask i ≡ true) (same n.number k eu) m) e)
+        go true eu = absurd (differ (in_mask b.mask k)
+            (subst (λ (i : ℕ). in_mask b.mask i ≡ true) (same n.number k eu) m) e)
         go false eu = refl
     masked_numbered form.General n t k m e = refl
     masked_numbered form.Immediate n t k m e = refl
@@ -104,7 +110,8 @@ module _ (sure : Sure) (want : Want) (b : FlowBlock) where
     masked_numbered form.Branch n t k m e = refl
     masked_numbered form.Constant n t k m e = refl
 
-    pub masked_tokens : (j : ℕ) (ns : List FlowNode) (k : ℕ) → EachMasked b ns → in_mask b.mask k ≡ false → tokens h j ns k ≡ 0
+    pub masked_tokens : (j : ℕ) (ns : List FlowNode) (k : ℕ) → EachMasked b ns → in_mask b.mask k ≡ false
+        → tokens h j ns k ≡ 0
     masked_tokens j [] k m e = refl
     masked_tokens j (n ∷ ns) k m e =
         let x = masked_numbered (form_of n.op) n (h j) k m.0 e in
@@ -145,8 +152,10 @@ other_number i j e = grind (arith, nat_tests)
 module _ (sure : Sure) (want : Want) (b : FlowBlock) (regs : ℕ → ℕ) (h : ℕ → Answer) (f : Computes) where
   -- each list of the block's sources is covered
   abbrev pub Ready : Type 0
-  Ready = (ss : List FlowSource) → All (FitsFlowSource b) ss → (p : ℕ) (s : Bool) → (s ≡ false → EachWanted want ss) → (s ≡ true → here regs h ss ≡ 1)
-      → Obeys regs f h p (cond s [] (list_nodes (cover sure want b) p ss)) → Covered regs h (1 - here regs h ss) (cond s [] (list_top (cover sure want b) p ss))
+  Ready = (ss : List FlowSource) → All (FitsFlowSource b) ss → (p : ℕ) (s : Bool)
+      → (s ≡ false → EachWanted want ss) → (s ≡ true → here regs h ss ≡ 1)
+      → Obeys regs f h p (cond s [] (list_nodes (cover sure want b) p ss))
+      → Covered regs h (1 - here regs h ss) (cond s [] (list_top (cover sure want b) p ss))
 
   abbrev pub lack : ℕ → ℕ
   lack k = cond (number_open sure b k) (1 - here regs h (stores_of 0 b.nodes k)) 0
@@ -158,12 +167,16 @@ module _ (sure : Sure) (want : Want) (b : FlowBlock) (regs : ℕ → ℕ) (h : �
     pub acts : fired regs h ns ≡ []
     pub hollow : (q : ℕ) → Hollow (stores regs h ns q)
 
-  pub does_append : (p i : ℕ) (xs ys : List FlowNode) (x y : ℕ → ℕ) → p + length xs ≡ i → Does p xs x → Does i ys y → Does p (xs ++ ys) (λ q. x q + y q)
+  pub does_append : (p i : ℕ) (xs ys : List FlowNode) (x y : ℕ → ℕ) → p + length xs ≡ i → Does p xs x
+      → Does i ys y → Does p (xs ++ ys) (λ q. x q + y q)
   does_append p i xs ys x y e c d = record {
-    gets = λ q. let a = c.gets q in let z = d.gets q in let t = tokens_append regs h p i xs ys q e in omega (arith, a, z, t);
-    leaves = exits_append regs h p i xs ys e ∙ (ap (λ (l : List (Inst × Token)). l ++ exits h i ys) c.leaves ∙ d.leaves);
+    gets = λ q. let a = c.gets q in let z = d.gets q in let t = tokens_append regs h p i xs ys q e in
+        omega (arith, a, z, t);
+    leaves = exits_append regs h p i xs ys e
+        ∙ (ap (λ (l : List (Inst × Token)). l ++ exits h i ys) c.leaves ∙ d.leaves);
     acts = fired_append regs h xs ys ∙ (ap (λ (l : List Act). l ++ fired regs h ys) c.acts ∙ d.acts);
-    hollow = λ q. subst Hollow (sym (stores_append regs h xs ys q)) (hollow_or (stores regs h xs q) (stores regs h ys q) (c.hollow q) (d.hollow q));
+    hollow = λ q. subst Hollow (sym (stores_append regs h xs ys q))
+        (hollow_or (stores regs h xs q) (stores regs h ys q) (c.hollow q) (d.hollow q));
   }
 
   pub does_quiet : (p : ℕ) (ns : List FlowNode) → AllQuiet ns → Does p ns (λ q. 0)
@@ -183,27 +196,44 @@ module _ (sure : Sure) (want : Want) (b : FlowBlock) (regs : ℕ → ℕ) (h : �
   abbrev below : ℕ → ℕ → List FlowNode
   below p k = list_nodes (cover sure want b) (suc p) (sources k)
 
-  number_does : Ready → ((k : ℕ) → number_open sure b k ≡ true → EachWanted want (sources k)) → (p k : ℕ) → Obeys regs f h p (number_part sure want b p k) → Does p (number_part sure want b p k) (λ q. cond (nat_eq k q) (lack k) 0)
+  number_does : Ready → ((k : ℕ) → number_open sure b k ≡ true → EachWanted want (sources k)) → (p k : ℕ)
+      → Obeys regs f h p (number_part sure want b p k)
+      → Does p (number_part sure want b p k) (λ q. cond (nat_eq k q) (lack k) 0)
   number_does ready wants p k o = go (number_open sure b k) (wants k) o
     where
       none : (t : Bool) → 0 ≡ cond {A = ℕ} t 0 0
       none true = refl
       none false = refl
 
-      go : (t : Bool) → (t ≡ true → EachWanted want (sources k)) → Obeys regs f h p (cond t (null_store_of k (tops p k) ∷ (below p k)) []) → Does p (cond t (null_store_of k (tops p k) ∷ (below p k)) []) (λ q. cond (nat_eq k q) (cond t (1 - here regs h (sources k)) 0) 0)
+      go : (t : Bool) → (t ≡ true → EachWanted want (sources k))
+          → Obeys regs f h p (cond t (null_store_of k (tops p k) ∷ (below p k)) [])
+          → Does p (cond t (null_store_of k (tops p k) ∷ (below p k)) [])
+          (λ q. cond (nat_eq k q) (cond t (1 - here regs h (sources k)) 0) 0)
       go false v o = record { gets = λ q. none (nat_eq k q); leaves = refl; acts = refl; hollow = λ q. tt }
       go true v o =
-          let c : Covered regs h (1 - here regs h (sources k)) (tops p k) = ready (sources k) (stores_fit sure want b 0 b.nodes k (omega arith)) (suc p) false (λ e. v refl) (λ e. absurd (cc)) o.1 in
+          let c : Covered regs h (1 - here regs h (sources k)) (tops p k) =
+          ready (sources k) (stores_fit sure want b 0 b.nodes k (omega arith)) (suc p) false (λ e. v refl)
+          (λ e. absurd (cc)) o.1 in
           let low : 1 - here regs h (sources k) ≤ 1 = omega arith in
-          let m : here regs h (tops p k) ≡ 1 - here regs h (sources k) = here_count regs h (tops p k) (omega (arith, c.number)) ∙ c.number in
-          let t : present (h p) ≡ 1 - here regs h (sources k) = node_there regs h (f p (null_store_of k (tops p k))) p (null_store_of k (tops p k)) o.0 ∙ all_same (here regs h (tops p k)) (1 - here regs h (sources k)) m low in
+          let m : here regs h (tops p k) ≡ 1 - here regs h (sources k) =
+          here_count regs h (tops p k) (omega (arith, c.number)) ∙ c.number in
+          let t : present (h p) ≡ 1 - here regs h (sources k) =
+          node_there regs h (f p (null_store_of k (tops p k))) p (null_store_of k (tops p k)) o.0
+          ∙ all_same (here regs h (tops p k)) (1 - here regs h (sources k)) m low in
           let z = does_quiet (suc p) (below p k) (nodes_quiet (cover sure want b) (suc p) (sources k)) in
           let nul = first_null regs h (tops p k) c.null in
           record {
-            gets = λ q. let r = z.gets q in ap (λ (i : ℕ). i + tokens h (suc p) (below p k) q) (ap (λ (i : ℕ). cond (nat_eq k q) i 0) t) ∙ omega (arith, r);
-            leaves = ap (λ (l : List (Inst × Token)). l ++ exits h (suc p) (below p k)) (store_leaves (null_store_of k (tops p k)) (h p)) ∙ z.leaves;
-            acts = ap (λ (l : List Act). l ++ fired regs h (below p k)) (null_acts (null_store_of k (tops p k)) (first regs h (tops p k)) (first regs h (tops p k)) nul) ∙ z.acts;
-            hollow = λ q. hollow_or _ (stores regs h (below p k) q) (hollow_if (nat_eq k q) _ (null_hollow (inst_of (null_store_of k (tops p k))) (first regs h (tops p k)) (first regs h (tops p k)) nul)) (z.hollow q);
+            gets = λ q. let r = z.gets q in
+                ap (λ (i : ℕ). i + tokens h (suc p) (below p k) q) (ap (λ (i : ℕ). cond (nat_eq k q) i 0) t)
+                ∙ omega (arith, r);
+            leaves = ap (λ (l : List (Inst × Token)). l ++ exits h (suc p) (below p k))
+                (store_leaves (null_store_of k (tops p k)) (h p)) ∙ z.leaves;
+            acts = ap (λ (l : List Act). l ++ fired regs h (below p k))
+                (null_acts (null_store_of k (tops p k)) (first regs h (tops p k)) (first regs h (tops p k)) nul)
+                ∙ z.acts;
+            hollow = λ q. hollow_or _ (stores regs h (below p k) q)
+                (hollow_if (nat_eq k q) _ (null_hollow (inst_of (null_store_of k (tops p k)))
+                (first regs h (tops p k)) (first regs h (tops p k)) nul)) (z.hollow q);
           }
 
   -- the tokens of m numbers from k on
@@ -211,14 +241,18 @@ module _ (sure : Sure) (want : Want) (b : FlowBlock) (regs : ℕ → ℕ) (h : �
   lacks_from k zero q = 0
   lacks_from k (suc m) q = cond (nat_eq k q) (lack k) 0 + lacks_from (suc k) m q
 
-  numbers_does : Ready → ((k : ℕ) → number_open sure b k ≡ true → EachWanted want (sources k)) → (m p k : ℕ) → Obeys regs f h p (numbers_part sure want b p k m) → Does p (numbers_part sure want b p k m) (lacks_from k m)
+  numbers_does : Ready → ((k : ℕ) → number_open sure b k ≡ true → EachWanted want (sources k)) → (m p k : ℕ)
+      → Obeys regs f h p (numbers_part sure want b p k m)
+      → Does p (numbers_part sure want b p k m) (lacks_from k m)
   numbers_does ready wants zero p k o = record { gets = λ q. refl; leaves = refl; acts = refl; hollow = λ q. tt }
   numbers_does ready wants (suc m) p k o =
       let e = number_length sure want b p k in
       let i : p + length (number_part sure want b p k) ≡ p + number_size sure want b k = omega (arith, e) in
-      does_append p (p + number_size sure want b k) (number_part sure want b p k) (numbers_part sure want b (p + number_size sure want b k) (suc k) m) _ (lacks_from (suc k) m) i
+      does_append p (p + number_size sure want b k) (number_part sure want b p k)
+      (numbers_part sure want b (p + number_size sure want b k) (suc k) m) _ (lacks_from (suc k) m) i
       (number_does ready wants p k (obeys_front regs h f p (number_part sure want b p k) _ o))
-      (numbers_does ready wants m (p + number_size sure want b k) (suc k) (obeys_back regs h f p (number_part sure want b p k) _ o _ i))
+      (numbers_does ready wants m (p + number_size sure want b k) (suc k)
+      (obeys_back regs h f p (number_part sure want b p k) _ o _ i))
 
   pub lacks_out : (m k q : ℕ) → (q < k) ⊎ (k + m ≤ q) → lacks_from k m q ≡ 0
   lacks_out zero k q out = refl
@@ -243,7 +277,8 @@ module _ (sure : Sure) (want : Want) (b : FlowBlock) (regs : ℕ → ℕ) (h : �
   lacks_in zero k q l g = absurd (omega (arith, l, g))
   lacks_in (suc m) k q l g = go (nat_eq k q) refl (λ d. lacks_in m (suc k) q (omega (arith, l, d)) (omega (arith, g)))
     where
-      go : (t : Bool) → nat_eq k q ≡ t → (k ≢ q → lacks_from (suc k) m q ≡ lack q) → cond t (lack k) 0 + lacks_from (suc k) m q ≡ lack q
+      go : (t : Bool) → nat_eq k q ≡ t → (k ≢ q → lacks_from (suc k) m q ≡ lack q)
+          → cond t (lack k) 0 + lacks_from (suc k) m q ≡ lack q
       go true e rest =
           let s = same_number k q e in
           let r = lacks_out m (suc k) q (inl (omega (arith, s))) in
@@ -255,8 +290,11 @@ module _ (sure : Sure) (want : Want) (b : FlowBlock) (regs : ℕ → ℕ) (h : �
   abbrev pub all_lacks : ℕ → ℕ
   all_lacks q = lacks_from 0 32 q
 
-  pub all_numbers_do : Ready → ((k : ℕ) → number_open sure b k ≡ true → EachWanted want (sources k)) → (p : ℕ) → p ≡ numbers_at sure want b → Obeys regs f h p (all_numbers sure want b) → Does p (all_numbers sure want b) (lacks_from 0 32)
+  pub all_numbers_do : Ready → ((k : ℕ) → number_open sure b k ≡ true → EachWanted want (sources k)) → (p : ℕ)
+      → p ≡ numbers_at sure want b → Obeys regs f h p (all_numbers sure want b)
+      → Does p (all_numbers sure want b) (lacks_from 0 32)
   unfolding all_numbers
   all_numbers_do ready wants p e o =
       subst (λ (i : ℕ). Does i (numbers_part sure want b (numbers_at sure want b) 0 32) (lacks_from 0 32)) (sym e)
-      (numbers_does ready wants 32 (numbers_at sure want b) 0 (subst (λ (i : ℕ). Obeys regs f h i (numbers_part sure want b (numbers_at sure want b) 0 32)) e o))
+      (numbers_does ready wants 32 (numbers_at sure want b) 0
+      (subst (λ (i : ℕ). Obeys regs f h i (numbers_part sure want b (numbers_at sure want b) 0 32)) e o))

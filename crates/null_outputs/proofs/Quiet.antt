@@ -16,7 +16,8 @@ use Rattle.ir_forms.specs.declared.flow.FlowSource.TheVariants.{Node}
 use Rattle.ir_forms.specs.declared.flow.FlowNode.{FlowNode}
 use Rattle.trips_isa.specs.Acts.{Act}
 use Rattle.trips_isa.specs.Faults.{divides}
-use Rattle.ir_forms.specs.FlowRuns.{first, met, tokens, numbered, exits, leaving_in, fired, act_tokens, stores, stored_in}
+use Rattle.ir_forms.specs.FlowRuns.{first, met, tokens, numbered, exits, leaving_in, fired, act_tokens, stores}
+use Rattle.ir_forms.specs.FlowRuns.{stored_in}
 use Rattle.null_outputs.specs.Covers.{Want, Sure, Cover, pairs, list_nodes}
 use Rattle.null_outputs.specs.Groups.{left_needed, right_needed, guard_group, guard_part, left_part}
 use Rattle.null_outputs.specs.Groups.{right_part, region, is_used}
@@ -49,51 +50,64 @@ group_quiet : (p : ℕ) (s : Bool) (y : ℕ) (ms : List FlowSource) → AllQuiet
 group_quiet p s y [] = (record { form = refl; calm = refl }, tt)
 group_quiet p s y (m ∷ ms) = (record { form = refl; calm = refl }, (record { form = refl; calm = refl }, tt))
 
-pub guard_quiet : (want : Want) (nodes : List FlowNode) (c : Cover) (s : Bool) (p j : ℕ) (n : FlowNode) → AllQuiet (guard_part want nodes c s p j n)
+pub guard_quiet : (want : Want) (nodes : List FlowNode) (c : Cover) (s : Bool) (p j : ℕ) (n : FlowNode)
+    → AllQuiet (guard_part want nodes c s p j n)
 guard_quiet want nodes c s p j n = quiet_if (is_used want 0 nodes s j) _ [] (group_quiet p s j (c (Node j))) tt
 
-pub left_quiet : (sure : Sure) (want : Want) (c : Cover) (p j : ℕ) (n : FlowNode) → AllQuiet (left_part sure want c p j n)
-left_quiet sure want c p j n = quiet_if (left_needed sure want j n) _ [] (record { form = refl; calm = refl }, nodes_quiet c (suc p) n.left) tt
+pub left_quiet : (sure : Sure) (want : Want) (c : Cover) (p j : ℕ) (n : FlowNode)
+    → AllQuiet (left_part sure want c p j n)
+left_quiet sure want c p j n = quiet_if (left_needed sure want j n) _ []
+    (record { form = refl; calm = refl }, nodes_quiet c (suc p) n.left) tt
 
-pub right_quiet : (sure : Sure) (want : Want) (c : Cover) (p j : ℕ) (n : FlowNode) → AllQuiet (right_part sure want c p j n)
-right_quiet sure want c p j n = quiet_if (right_needed sure want j n) _ [] (record { form = refl; calm = refl }, nodes_quiet c (suc p) n.right) tt
+pub right_quiet : (sure : Sure) (want : Want) (c : Cover) (p j : ℕ) (n : FlowNode)
+    → AllQuiet (right_part sure want c p j n)
+right_quiet sure want c p j n = quiet_if (right_needed sure want j n) _ []
+    (record { form = refl; calm = refl }, nodes_quiet c (suc p) n.right) tt
 
 pub list_quiet : (c : Cover) (p : ℕ) (s : Bool) (ss : List FlowSource) → AllQuiet (cond s [] (list_nodes c p ss))
 list_quiet c p s ss = quiet_if s [] _ tt (nodes_quiet c p ss)
 
-pub region_quiet : {A : Type 0} (part : ℕ → ℕ → A → List FlowNode) (size : ℕ → A → ℕ) → ((p j : ℕ) (x : A) → AllQuiet (part p j x))
+pub region_quiet : {A : Type 0} (part : ℕ → ℕ → A → List FlowNode) (size : ℕ → A → ℕ)
+    → ((p j : ℕ) (x : A) → AllQuiet (part p j x))
     → (p j : ℕ) (xs : List A) → AllQuiet (region part size p j xs)
 region_quiet part size q p j [] = tt
-region_quiet part size q p j (x ∷ rest) = quiet_append (part p j x) _ (q p j x) (region_quiet part size q (p + size j x) (suc j) rest)
+region_quiet part size q p j (x ∷ rest) =
+    quiet_append (part p j x) _ (q p j x) (region_quiet part size q (p + size j x) (suc j) rest)
 
 module _ (regs : ℕ → ℕ) (h : ℕ → Answer) where
   -- LISTS PUT TOGETHER
 
-  pub tokens_append : (j i : ℕ) (a b : List FlowNode) (k : ℕ) → j + length a ≡ i → tokens h j (a ++ b) k ≡ tokens h j a k + tokens h i b k
-  tokens_append j i [] b k e = let e2 : j ≡ i = omega (arith, e) in subst (λ (z : ℕ). tokens h j b k ≡ 0 + tokens h z b k) e2 (omega arith)
+  pub tokens_append : (j i : ℕ) (a b : List FlowNode) (k : ℕ) → j + length a ≡ i
+      → tokens h j (a ++ b) k ≡ tokens h j a k + tokens h i b k
+  tokens_append j i [] b k e = let e2 : j ≡ i = omega (arith, e) in
+      subst (λ (z : ℕ). tokens h j b k ≡ 0 + tokens h z b k) e2 (omega arith)
   tokens_append j i (n ∷ a) b k e = let r = tokens_append (suc j) i a b k (omega (arith, e)) in omega (arith, r)
 
   append_again : {A : Type 0} (a b c : List A) → (a ++ b) ++ c ≡ a ++ (b ++ c)
   append_again [] b c = refl
   append_again (x ∷ a) b c = ap (λ (l : _). x ∷ l) (append_again a b c)
 
-  pub exits_append : (j i : ℕ) (a b : List FlowNode) → j + length a ≡ i → exits h j (a ++ b) ≡ exits h j a ++ exits h i b
+  pub exits_append : (j i : ℕ) (a b : List FlowNode) → j + length a ≡ i
+      → exits h j (a ++ b) ≡ exits h j a ++ exits h i b
   exits_append j i [] b e = let e2 : j ≡ i = omega (arith, e) in ap (λ (z : ℕ). exits h z b) e2
   exits_append j i (n ∷ a) b e =
-      ap (λ (l : List (Inst × Token)). leaving_in (form_of n.op) n (h j) ++ l) (exits_append (suc j) i a b (omega (arith, e)))
+      ap (λ (l : List (Inst × Token)). leaving_in (form_of n.op) n (h j) ++ l)
+      (exits_append (suc j) i a b (omega (arith, e)))
       ∙ sym (append_again (leaving_in (form_of n.op) n (h j)) (exits h (suc j) a) (exits h i b))
 
   pub fired_append : (a b : List FlowNode) → fired regs h (a ++ b) ≡ fired regs h a ++ fired regs h b
   fired_append [] b = refl
   fired_append (n ∷ a) b =
-      let x : List Act = cond (met h n.guard) (act_tokens (form_of n.op) n (first regs h n.left) (first regs h n.right)) [] in
+      let x : List Act = cond (met h n.guard)
+      (act_tokens (form_of n.op) n (first regs h n.left) (first regs h n.right)) [] in
       ap (λ (l : List Act). x ++ l) (fired_append a b) ∙ sym (append_again x (fired regs h a) (fired regs h b))
 
   or_again : (a b c : Option Stored) → or_else (or_else a b) c ≡ or_else a (or_else b c)
   or_again None b c = refl
   or_again (Some t) b c = refl
 
-  pub stores_append : (a b : List FlowNode) (k : ℕ) → stores regs h (a ++ b) k ≡ or_else (stores regs h a k) (stores regs h b k)
+  pub stores_append : (a b : List FlowNode) (k : ℕ)
+      → stores regs h (a ++ b) k ≡ or_else (stores regs h a k) (stores regs h b k)
   stores_append [] b k = refl
   stores_append (n ∷ a) b k =
       ap (or_else (stored_in (form_of n.op) regs h n k)) (stores_append a b k)
@@ -137,7 +151,8 @@ module _ (regs : ℕ → ℕ) (h : ℕ → Answer) where
   quiet_fired [] q = refl
   quiet_fired (n ∷ ns) q =
       let e : act_tokens (form_of n.op) n (first regs h n.left) (first regs h n.right) ≡ [] =
-      ap (λ (x : Form). act_tokens x n (first regs h n.left) (first regs h n.right)) (q.0).form ∙ general_acts n (q.0).calm (first regs h n.left) (first regs h n.right) in
+      ap (λ (x : Form). act_tokens x n (first regs h n.left) (first regs h n.right)) (q.0).form
+      ∙ general_acts n (q.0).calm (first regs h n.left) (first regs h n.right) in
       ap (λ (l : List Act). l ++ fired regs h ns) (no_act (met h n.guard) _ e) ∙ quiet_fired ns q.1
 
   pub quiet_stores : (ns : List FlowNode) → AllQuiet ns → (k : ℕ) → stores regs h ns k ≡ None

@@ -71,13 +71,16 @@ module _ (sure : Sure) (want : Want) (b : FlowBlock) (rank : ℕ → ℕ) where
   old_ranks j (n ∷ rest) = base_of j ∷ old_ranks (suc j) rest
 
   abbrev pub guard_ranks : Bool → ℕ → ℕ → FlowNode → List ℕ
-  guard_ranks s p y n = cond (is_used want 0 b.nodes s y) (group_ranks (base_of y + width) (cover sure want b (Node y))) []
+  guard_ranks s p y n = cond (is_used want 0 b.nodes s y)
+      (group_ranks (base_of y + width) (cover sure want b (Node y))) []
 
   abbrev pub left_ranks : ℕ → ℕ → FlowNode → List ℕ
-  left_ranks p y n = cond (left_needed sure want y n) ((base_of y + suc (length n.left)) ∷ list_ranks (base_of y) n.left) []
+  left_ranks p y n = cond (left_needed sure want y n)
+      ((base_of y + suc (length n.left)) ∷ list_ranks (base_of y) n.left) []
 
   abbrev pub right_ranks : ℕ → ℕ → FlowNode → List ℕ
-  right_ranks p y n = cond (right_needed sure want y n) ((base_of y + suc (length n.right)) ∷ list_ranks (base_of y) n.right) []
+  right_ranks p y n = cond (right_needed sure want y n)
+      ((base_of y + suc (length n.right)) ∷ list_ranks (base_of y) n.right) []
 
   abbrev pub top_rank : ℕ → List FlowNode → ℕ
   top_rank j [] = 0
@@ -136,16 +139,22 @@ module _ (sure : Sure) (want : Want) (b : FlowBlock) (rank : ℕ → ℕ) where
   old_length j [] = refl
   old_length j (n ∷ ns) = let e = old_length (suc j) ns in omega (arith, e)
 
-  pub guard_fits : (s : Bool) (p j : ℕ) (n : FlowNode) → length (guard_ranks s p j n) ≡ guard_part_size want b.nodes sure s j n
+  pub guard_fits : (s : Bool) (p j : ℕ) (n : FlowNode)
+      → length (guard_ranks s p j n) ≡ guard_part_size want b.nodes sure s j n
   guard_fits s p j n =
       cond_length (is_used want 0 b.nodes s j) _ _
-      (group_length (base_of j + width) (cover sure want b (Node j)) ∙ guard_same (cover_of b.nodes sure (places sure want b) (Node j)) (cover_of b.nodes sure nowhere (Node j)) (cover_length sure (places sure want b) j (slice_get b.nodes j)))
+      (group_length (base_of j + width) (cover sure want b (Node j))
+      ∙ guard_same (cover_of b.nodes sure (places sure want b) (Node j))
+      (cover_of b.nodes sure nowhere (Node j))
+      (cover_length sure (places sure want b) j (slice_get b.nodes j)))
 
   pub left_fits : (p j : ℕ) (n : FlowNode) → length (left_ranks p j n) ≡ left_size sure want j n
-  left_fits p j n = cond_length (left_needed sure want j n) _ _ (let e = list_length (base_of j) n.left in omega (arith, e))
+  left_fits p j n = cond_length (left_needed sure want j n) _ _
+      (let e = list_length (base_of j) n.left in omega (arith, e))
 
   pub right_fits : (p j : ℕ) (n : FlowNode) → length (right_ranks p j n) ≡ right_size sure want j n
-  right_fits p j n = cond_length (right_needed sure want j n) _ _ (let e = list_length (base_of j) n.right in omega (arith, e))
+  right_fits p j n = cond_length (right_needed sure want j n) _ _
+      (let e = list_length (base_of j) n.right in omega (arith, e))
 
   pub write_fits : (p j : ℕ) (w : FlowWrite) → length (write_ranks p j w) ≡ write_size sure want b j w
   write_fits p j w = go (sure None w.sources)
@@ -155,14 +164,16 @@ module _ (sure : Sure) (want : Want) (b : FlowBlock) (rank : ℕ → ℕ) where
       go false = list_length (top_rank 0 b.nodes) w.sources
 
   pub number_fits : (k : ℕ) → length (number_ranks k) ≡ number_size sure want b k
-  number_fits k = cond_length (number_open sure b k) _ _ (let e = list_length (number_base k) (stores_of 0 b.nodes k) in omega (arith, e))
+  number_fits k = cond_length (number_open sure b k) _ _
+      (let e = list_length (number_base k) (stores_of 0 b.nodes k) in omega (arith, e))
 
   pub numbers_fit : (m p k : ℕ) → length (numbers_ranks k m) ≡ length (numbers_part sure want b p k m)
   numbers_fit zero p k = refl
   numbers_fit (suc m) p k =
       let e = numbers_fit m (p + number_size sure want b k) (suc k) in
       let x = length-append (number_ranks k) (numbers_ranks (suc k) m) in
-      let y = length-append (number_part sure want b p k) (numbers_part sure want b (p + number_size sure want b k) (suc k) m) in
+      let y = length-append (number_part sure want b p k)
+      (numbers_part sure want b (p + number_size sure want b k) (suc k) m) in
       let z = number_fits k in
       let w = number_length sure want b p k in
       omega (arith, e, x, y, z, w)

@@ -42,7 +42,11 @@ module _ (mask : ℕ) where
   added_append (n ∷ a) b x y = (x.0, added_append a b x.1 y)
 
   plain : (n : FlowNode) → form_of n.op ≡ General → TakesOnly n → Added n
-  plain n e t = record { load = λ d. absurd (no_load (sym e ∙ d)); store = λ d. absurd (no_store (sym e ∙ d)); operands = t }
+  plain n e t = record {
+    load = λ d. absurd (no_load (sym e ∙ d));
+    store = λ d. absurd (no_store (sym e ∙ d));
+    operands = t;
+  }
     where
       no_load : General ≡ Load → ⊥
       no_load e = absurd (cc)
@@ -59,7 +63,10 @@ module _ (mask : ℕ) where
 
   pairs_added : (c : Cover) (p : ℕ) (s : FlowSource) (rest : List FlowSource) → AllAdded (pairs c p s rest)
   pairs_added c p s [] = tt
-  pairs_added c p s (t ∷ rest) = (plain _ refl (record { left = λ e. absurd (cc); right = λ e. absurd (cc) }), pairs_added c (suc p) t rest)
+  pairs_added c p s (t ∷ rest) = (
+    plain _ refl (record { left = λ e. absurd (cc); right = λ e. absurd (cc) }),
+    pairs_added c (suc p) t rest,
+  )
 
   nodes_added : (c : Cover) (p : ℕ) (ss : List FlowSource) → AllAdded (list_nodes c p ss)
   nodes_added c p [] = (plain _ refl (none _ refl refl), tt)
@@ -67,20 +74,27 @@ module _ (mask : ℕ) where
 
   group_added : (p : ℕ) (s : Bool) (y : ℕ) (ms : List FlowSource) → AllAdded (guard_group p s y ms)
   group_added p s y [] = (plain _ refl (none _ refl refl), tt)
-  group_added p s y (m ∷ ms) = (plain _ refl (record { left = λ e. absurd (cc); right = λ e. refl }), (plain _ refl (none _ refl refl), tt))
+  group_added p s y (m ∷ ms) = (
+    plain _ refl (record { left = λ e. absurd (cc); right = λ e. refl }),
+    (plain _ refl (none _ refl refl), tt),
+  )
 
-  region_added : {A : Type 0} (part : ℕ → ℕ → A → List FlowNode) (size : ℕ → A → ℕ) → ((p j : ℕ) (x : A) → AllAdded (part p j x))
+  region_added : {A : Type 0} (part : ℕ → ℕ → A → List FlowNode) (size : ℕ → A → ℕ)
+      → ((p j : ℕ) (x : A) → AllAdded (part p j x))
       → (p j : ℕ) (xs : List A) → AllAdded (region part size p j xs)
   region_added part size q p j [] = tt
-  region_added part size q p j (x ∷ rest) = added_append (part p j x) _ (q p j x) (region_added part size q (p + size j x) (suc j) rest)
+  region_added part size q p j (x ∷ rest) =
+      added_append (part p j x) _ (q p j x) (region_added part size q (p + size j x) (suc j) rest)
 
   -- a node of both lists together
-  old_or_added : (xs ys : List FlowNode) → AllAdded ys → (j : ℕ) (n : FlowNode) → slice_get (xs ++ ys) j ≡ Some n → (slice_get xs j ≡ Some n) ⊎ Added n
+  old_or_added : (xs ys : List FlowNode) → AllAdded ys → (j : ℕ) (n : FlowNode)
+      → slice_get (xs ++ ys) j ≡ Some n → (slice_get xs j ≡ Some n) ⊎ Added n
   old_or_added [] [] a j n e = absurd (cc)
   old_or_added [] (y ∷ ys) a zero n e = inr (subst Added (some_is y n e) a.0)
   old_or_added [] (y ∷ ys) a (suc j) n e = later (old_or_added [] ys a.1 j n e)
     where
-      later : (slice_get {X = FlowNode} [] j ≡ Some n) ⊎ Added n → (slice_get {X = FlowNode} [] (suc j) ≡ Some n) ⊎ Added n
+      later : (slice_get {X = FlowNode} [] j ≡ Some n) ⊎ Added n
+          → (slice_get {X = FlowNode} [] (suc j) ≡ Some n) ⊎ Added n
       later (inl d) = inl (absurd (cc))
       later (inr d) = inr d
   old_or_added (x ∷ xs) ys a zero n e = inl e
@@ -91,13 +105,18 @@ module _ (sure : Sure) (want : Want) (b : FlowBlock) where
   number_added p k =
       added_if b.mask (number_open sure b k) _
       (λ u. (
-        record { load = λ e. absurd (cc); store = λ e. (both_true _ _ u).0; operands = record { left = λ e. absurd (cc); right = λ e. absurd (cc) } },
+        record {
+          load = λ e. absurd (cc);
+          store = λ e. (both_true _ _ u).0;
+          operands = record { left = λ e. absurd (cc); right = λ e. absurd (cc) };
+        },
         nodes_added b.mask (cover sure want b) (suc p) (stores_of 0 b.nodes k),
       ))
 
   numbers_added : (m p k : ℕ) → AllAdded b.mask (numbers_part sure want b p k m)
   numbers_added zero p k = tt
-  numbers_added (suc m) p k = added_append b.mask (number_part sure want b p k) _ (number_added p k) (numbers_added m (p + number_size sure want b k) (suc k))
+  numbers_added (suc m) p k = added_append b.mask (number_part sure want b p k) _ (number_added p k)
+      (numbers_added m (p + number_size sure want b k) (suc k))
 
   all_numbers_added : AllAdded b.mask (all_numbers sure want b)
   unfolding all_numbers
@@ -114,19 +133,35 @@ module _ (sure : Sure) (want : Want) (b : FlowBlock) where
   all_added =
       let c = cover sure want b in
       added_append b.mask (trues_region sure want b) _
-      (region_added b.mask (guard_part want b.nodes c true) (guard_part_size want b.nodes sure true) (λ p j n. added_if b.mask (is_used want 0 b.nodes true j) _ (λ u. group_added b.mask p true j (c (Node j)))) _ 0 b.nodes)
+      (region_added b.mask (guard_part want b.nodes c true) (guard_part_size want b.nodes sure true)
+      (λ p j n. added_if b.mask (is_used want 0 b.nodes true j) _
+      (λ u. group_added b.mask p true j (c (Node j)))) _ 0 b.nodes)
       (added_append b.mask (falses_region sure want b) _
-      (region_added b.mask (guard_part want b.nodes c false) (guard_part_size want b.nodes sure false) (λ p j n. added_if b.mask (is_used want 0 b.nodes false j) _ (λ u. group_added b.mask p false j (c (Node j)))) _ 0 b.nodes)
+      (region_added b.mask (guard_part want b.nodes c false) (guard_part_size want b.nodes sure false)
+      (λ p j n. added_if b.mask (is_used want 0 b.nodes false j) _
+      (λ u. group_added b.mask p false j (c (Node j)))) _ 0 b.nodes)
       (added_append b.mask (lefts_region sure want b) _
       (region_added b.mask (left_part sure want c) (left_size sure want)
-      (λ p j n. added_if b.mask (left_needed sure want j n) _ (λ u. (plain b.mask _ refl (record { left = λ e. absurd (cc); right = λ e. refl }), nodes_added b.mask c (suc p) n.left))) _ 0 b.nodes)
+      (λ p j n. added_if b.mask (left_needed sure want j n) _
+      (λ u. (
+        plain b.mask _ refl (record { left = λ e. absurd (cc); right = λ e. refl }),
+        nodes_added b.mask c (suc p) n.left,
+      ))) _ 0 b.nodes)
       (added_append b.mask (rights_region sure want b) _
       (region_added b.mask (right_part sure want c) (right_size sure want)
-      (λ p j n. added_if b.mask (right_needed sure want j n) _ (λ u. (plain b.mask _ refl (record { left = λ e. absurd (cc); right = λ e. absurd (cc) }), nodes_added b.mask c (suc p) n.right))) _ 0 b.nodes)
-      (added_append b.mask (writes_region sure want b) _ (region_added b.mask (write_part sure want b) (write_size sure want b) write_added _ 0 b.writes) all_numbers_added))))
+      (λ p j n. added_if b.mask (right_needed sure want j n) _
+      (λ u. (
+        plain b.mask _ refl (record { left = λ e. absurd (cc); right = λ e. absurd (cc) }),
+        nodes_added b.mask c (suc p) n.right,
+      ))) _ 0 b.nodes)
+      (added_append b.mask (writes_region sure want b) _
+      (region_added b.mask (write_part sure want b) (write_size sure want b) write_added _ 0 b.writes)
+      all_numbers_added))))
 
   -- writes keep their registers
-  old_write : (p j : ℕ) (ws : List FlowWrite) (i : ℕ) (v : FlowWrite) → slice_get (filled_all sure want b p j ws) i ≡ Some v → (w : FlowWrite) × (slice_get ws i ≡ Some w) × (w.register ≡ v.register)
+  old_write : (p j : ℕ) (ws : List FlowWrite) (i : ℕ) (v : FlowWrite)
+      → slice_get (filled_all sure want b p j ws) i ≡ Some v
+      → (w : FlowWrite) × (slice_get ws i ≡ Some w) × (w.register ≡ v.register)
   old_write p j [] i v e = absurd (cc)
   old_write p j (w ∷ ws) zero v e = (w, refl, ap (λ (x : FlowWrite). x.register) (some_is _ v e))
   old_write p j (w ∷ ws) (suc i) v e = old_write (p + write_size sure want b j w) (suc j) ws i v e
@@ -154,7 +189,8 @@ module _ (sure : Sure) (want : Want) (b : FlowBlock) where
       one (inl x) f g = f x
       one (inr x) f g = g x
 
-      two : {A B C : Type 0} {m n : FlowNode} → A ⊎ Added b.mask m → B ⊎ Added b.mask n → form_of m.op ≡ Load → form_of n.op ≡ Load → (A → B → C) → C
+      two : {A B C : Type 0} {m n : FlowNode} → A ⊎ Added b.mask m → B ⊎ Added b.mask n → form_of m.op ≡ Load
+          → form_of n.op ≡ Load → (A → B → C) → C
       two (inl x) (inl y) fm fn f = f x y
       two (inr x) y fm fn f = absurd (x.load fm)
       two (inl x) (inr y) fm fn f = absurd (y.load fn)

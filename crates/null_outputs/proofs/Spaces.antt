@@ -31,11 +31,15 @@ pub cond_length : {A : Type 0} (b : Bool) (xs : List A) (k : ℕ) → length xs 
 cond_length true xs k e = e
 cond_length false xs k e = refl
 
-pub left_length : (sure : Sure) (want : Want) (c : Cover) (p j : ℕ) (n : FlowNode) → length (left_part sure want c p j n) ≡ left_size sure want j n
-left_length sure want c p j n = cond_length (left_needed sure want j n) _ _ (let e = nodes_length c (suc p) n.left in omega (arith, e))
+pub left_length : (sure : Sure) (want : Want) (c : Cover) (p j : ℕ) (n : FlowNode)
+    → length (left_part sure want c p j n) ≡ left_size sure want j n
+left_length sure want c p j n = cond_length (left_needed sure want j n) _ _
+    (let e = nodes_length c (suc p) n.left in omega (arith, e))
 
-pub right_length : (sure : Sure) (want : Want) (c : Cover) (p j : ℕ) (n : FlowNode) → length (right_part sure want c p j n) ≡ right_size sure want j n
-right_length sure want c p j n = cond_length (right_needed sure want j n) _ _ (let e = nodes_length c (suc p) n.right in omega (arith, e))
+pub right_length : (sure : Sure) (want : Want) (c : Cover) (p j : ℕ) (n : FlowNode)
+    → length (right_part sure want c p j n) ≡ right_size sure want j n
+right_length sure want c p j n = cond_length (right_needed sure want j n) _ _
+    (let e = nodes_length c (suc p) n.right in omega (arith, e))
 
 -- the size of a cover does not depend on where covers stand
 sense_length : (at : Places) (s : Sense) (x : ℕ) → length (sense_cover at s x) ≡ length (sense_cover nowhere s x)
@@ -51,7 +55,8 @@ one_length : (b : Bool) (p q : ℕ) → length (one_if b p) ≡ length (one_if b
 one_length true p q = refl
 one_length false p q = refl
 
-pub cover_length : (sure : Sure) (at : Places) (y : ℕ) (n : Option FlowNode) → length (cover_at sure at y n) ≡ length (cover_at sure nowhere y n)
+pub cover_length : (sure : Sure) (at : Places) (y : ℕ) (n : Option FlowNode)
+    → length (cover_at sure at y n) ≡ length (cover_at sure nowhere y n)
 cover_length sure at y None = refl
 cover_length sure at y (Some n) =
     let a = guard_length at n.guard in
@@ -62,7 +67,16 @@ cover_length sure at y (Some n) =
   where
     sum : (x y z u v w : List FlowSource) → length x ≡ length u → length y ≡ length v → length z ≡ length w
         → length (x ++ (y ++ z)) ≡ length (u ++ (v ++ w))
-    sum x y z u v w a b c = omega (arith, a, b, c, length-append x (y ++ z), length-append y z, length-append u (v ++ w), length-append v w)
+    sum x y z u v w a b c = omega (
+      arith,
+      a,
+      b,
+      c,
+      length-append x (y ++ z),
+      length-append y z,
+      length-append u (v ++ w),
+      length-append v w,
+    )
 
 pub guard_same : (xs ys : List FlowSource) → length xs ≡ length ys → guard_size xs ≡ guard_size ys
 guard_same [] [] e = refl
@@ -74,11 +88,14 @@ group_length : (p : ℕ) (s : Bool) (y : ℕ) (ms : List FlowSource) → length 
 group_length p s y [] = refl
 group_length p s y (m ∷ ms) = refl
 
-pub guard_part_length : (want : Want) (nodes : List FlowNode) (sure : Sure) (at : Places) (s : Bool) (p j : ℕ) (n : FlowNode)
+pub guard_part_length : (want : Want) (nodes : List FlowNode) (sure : Sure) (at : Places) (s : Bool) (p j : ℕ)
+    (n : FlowNode)
     → length (guard_part want nodes (cover_of nodes sure at) s p j n) ≡ guard_part_size want nodes sure s j n
 guard_part_length want nodes sure at s p j n =
     cond_length (is_used want 0 nodes s j) _ _
-    (group_length p s j (cover_of nodes sure at (Node j)) ∙ guard_same (cover_of nodes sure at (Node j)) (cover_of nodes sure nowhere (Node j)) (cover_length sure at j (slice_get nodes j)))
+    (group_length p s j (cover_of nodes sure at (Node j))
+    ∙ guard_same (cover_of nodes sure at (Node j)) (cover_of nodes sure nowhere (Node j))
+    (cover_length sure at j (slice_get nodes j)))
 
 -- PLACES
 
@@ -100,19 +117,23 @@ module _ (regs : ℕ → ℕ) (h : ℕ → Answer) (f : Computes) where
   obeys_front j [] b r = tt
   obeys_front j (n ∷ a) b r = (r.0, obeys_front (suc j) a b r.1)
 
-  pub obeys_back : (j : ℕ) (a b : List FlowNode) → Obeys regs f h j (a ++ b) → (k : ℕ) → j + length a ≡ k → Obeys regs f h k b
+  pub obeys_back : (j : ℕ) (a b : List FlowNode) → Obeys regs f h j (a ++ b) → (k : ℕ) → j + length a ≡ k
+      → Obeys regs f h k b
   obeys_back j [] b r k e = let e2 : j ≡ k = omega (arith, e) in subst (λ (i : ℕ). Obeys regs f h i b) e2 r
   obeys_back j (n ∷ a) b r k e = obeys_back (suc j) a b r.1 k (omega (arith, e))
 
-  pub obeys_at : (j : ℕ) (ns : List FlowNode) → Obeys regs f h j ns → (y : ℕ) (n : FlowNode) (i : ℕ) → i ≡ j + y → slice_get ns y ≡ Some n
+  pub obeys_at : (j : ℕ) (ns : List FlowNode) → Obeys regs f h j ns → (y : ℕ) (n : FlowNode) (i : ℕ) → i ≡ j + y
+      → slice_get ns y ≡ Some n
       → h i ≡ gives regs h (f i n) n
   obeys_at j [] o y n i e s = absurd (cc)
   obeys_at j (m ∷ ns) o zero n i e s =
       let e2 : i ≡ j = omega (arith, e) in
-      subst (λ (k : ℕ). h k ≡ gives regs h (f k n) n) (sym e2) (subst (λ (x : FlowNode). h j ≡ gives regs h (f j x) x) (some_is m n s) o.0)
+      subst (λ (k : ℕ). h k ≡ gives regs h (f k n) n) (sym e2)
+      (subst (λ (x : FlowNode). h j ≡ gives regs h (f j x) x) (some_is m n s) o.0)
   obeys_at j (m ∷ ns) o (suc y) n i e s = obeys_at (suc j) ns o.1 y n i (omega (arith, e)) s
 
-module _ {A : Type 0} (part : ℕ → ℕ → A → List FlowNode) (size : ℕ → A → ℕ) (fits : (p j : ℕ) (x : A) → length (part p j x) ≡ size j x) where
+module _ {A : Type 0} (part : ℕ → ℕ → A → List FlowNode) (size : ℕ → A → ℕ)
+    (fits : (p j : ℕ) (x : A) → length (part p j x) ≡ size j x) where
   pub region_end : (p j : ℕ) (xs : List A) → p + length (region part size p j xs) ≡ end_of size p j xs
   region_end p j [] = omega arith
   region_end p j (x ∷ rest) =
@@ -122,7 +143,8 @@ module _ {A : Type 0} (part : ℕ → ℕ → A → List FlowNode) (size : ℕ �
       omega (arith, a, b) ∙ e
 
   module _ (regs : ℕ → ℕ) (h : ℕ → Answer) (f : Computes) where
-    pub region_obeys : (p j : ℕ) (xs : List A) → Obeys regs f h p (region part size p j xs) → (y : ℕ) (x : A) (i : ℕ) → i ≡ j + y → slice_get xs y ≡ Some x
+    pub region_obeys : (p j : ℕ) (xs : List A) → Obeys regs f h p (region part size p j xs)
+        → (y : ℕ) (x : A) (i : ℕ) → i ≡ j + y → slice_get xs y ≡ Some x
         → Obeys regs f h (start_of size p j xs i) (part (start_of size p j xs i) i x)
     region_obeys p j [] o y x i e s = absurd (cc)
     region_obeys p j (a ∷ rest) o zero x i e s =
@@ -140,7 +162,8 @@ module _ {A : Type 0} (part : ℕ → ℕ → A → List FlowNode) (size : ℕ �
     region_obeys p j (a ∷ rest) o (suc y) x i e s =
         let t = other_eq i j (omega (arith, e)) in
         let b = fits p j a in
-        let back = obeys_back regs h f p (part p j a) (region part size (p + size j a) (suc j) rest) o (p + size j a) (omega (arith, b)) in
+        let back = obeys_back regs h f p (part p j a) (region part size (p + size j a) (suc j) rest) o
+        (p + size j a) (omega (arith, b)) in
         at_false (nat_eq i j) t p (start_of size (p + size j a) (suc j) rest i) (λ q. Obeys regs f h q (part q i x))
         (region_obeys (p + size j a) (suc j) rest back y x i (omega (arith, e)) s)
       where
@@ -148,5 +171,6 @@ module _ {A : Type 0} (part : ℕ → ℕ → A → List FlowNode) (size : ℕ �
         at_false true e p q P x = absurd (cc)
         at_false false e p q P x = x
 
-    pub region_rest : (p j : ℕ) (xs : List A) (ns : List FlowNode) → Obeys regs f h p (region part size p j xs ++ ns) → Obeys regs f h (end_of size p j xs) ns
+    pub region_rest : (p j : ℕ) (xs : List A) (ns : List FlowNode)
+        → Obeys regs f h p (region part size p j xs ++ ns) → Obeys regs f h (end_of size p j xs) ns
     region_rest p j xs ns o = obeys_back regs h f p (region part size p j xs) ns o _ (region_end p j xs)

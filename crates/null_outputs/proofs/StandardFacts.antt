@@ -31,11 +31,13 @@ block nodes writes mask = record { nodes = nodes; reads = 1 ∷ 3 ∷ []; writes
 abbrev one_leg : FlowBlock
 one_leg =
     block
-    (node op.Tnei None (Read 1 ∷ []) [] ∷ node op.Divu (under 0 OnTrue) (Read 1 ∷ []) (Read 3 ∷ []) ∷ node op.Bro None [] [] ∷ [])
+    (node op.Tnei None (Read 1 ∷ []) [] ∷ node op.Divu (under 0 OnTrue) (Read 1 ∷ [])
+    (Read 3 ∷ []) ∷ node op.Bro None [] [] ∷ [])
     (write 2 (Node 1 ∷ []) ∷ []) 0
 
 one_leg_nodes : (complete one_leg).nodes ≡
-    (node op.Tnei None (Read 1 ∷ []) [] ∷ node op.Divu (under 0 OnTrue) (Read 1 ∷ []) (Read 3 ∷ []) ∷ node op.Bro None [] [] ∷ node op.Null (under 0 OnFalse) [] [] ∷ [])
+    (node op.Tnei None (Read 1 ∷ []) [] ∷ node op.Divu (under 0 OnTrue) (Read 1 ∷ [])
+    (Read 3 ∷ []) ∷ node op.Bro None [] [] ∷ node op.Null (under 0 OnFalse) [] [] ∷ [])
 unfolding all_numbers
 one_leg_nodes = refl
 
@@ -46,8 +48,10 @@ one_leg_writes = refl
 abbrev pub two_legs : FlowBlock
 two_legs =
     block
-    (node op.Tnei None (Read 1 ∷ []) [] ∷ node op.Divu (under 0 OnTrue) (Read 1 ∷ []) (Read 3 ∷ []) ∷ node op.Mov (under 0 OnFalse) (Read 3 ∷ []) []
-    ∷ node op.Add None (Node 1 ∷ Node 2 ∷ []) (Read 1 ∷ []) ∷ node op.Bro (under 0 OnTrue) [] [] ∷ node op.Bro (under 0 OnFalse) [] [] ∷ [])
+    (node op.Tnei None (Read 1 ∷ []) [] ∷ node op.Divu (under 0 OnTrue) (Read 1 ∷ [])
+    (Read 3 ∷ []) ∷ node op.Mov (under 0 OnFalse) (Read 3 ∷ []) []
+    ∷ node op.Add None (Node 1 ∷ Node 2 ∷ []) (Read 1 ∷ []) ∷ node op.Bro (under 0 OnTrue) [] [] ∷ node op.Bro
+    (under 0 OnFalse) [] [] ∷ [])
     (write 2 (Node 1 ∷ Node 2 ∷ []) ∷ write 4 (Node 3 ∷ []) ∷ []) 0
 
 two_legs_nodes : length (complete two_legs).nodes ≡ 6
@@ -61,7 +65,8 @@ two_legs_writes = refl
 abbrev nested : FlowBlock
 nested =
     block
-    (node op.Tnei None (Read 1 ∷ []) [] ∷ node op.Tnei (under 0 OnTrue) (Read 3 ∷ []) [] ∷ node op.Addi (under 1 OnTrue) (Read 1 ∷ []) [] ∷ node op.Bro None [] [] ∷ [])
+    (node op.Tnei None (Read 1 ∷ []) [] ∷ node op.Tnei (under 0 OnTrue) (Read 3 ∷ []) [] ∷ node op.Addi
+    (under 1 OnTrue) (Read 1 ∷ []) [] ∷ node op.Bro None [] [] ∷ [])
     (write 2 (Node 2 ∷ []) ∷ []) 0
 
 nested_nodes : length (complete nested).nodes ≡ 7
@@ -75,11 +80,13 @@ nested_closed = refl
 abbrev stored : FlowBlock
 stored =
     block
-    (node op.Tnei None (Read 1 ∷ []) [] ∷ node op.Sd (under 0 OnTrue) (Read 1 ∷ []) (Read 3 ∷ []) ∷ node op.Bro None [] [] ∷ [])
+    (node op.Tnei None (Read 1 ∷ []) [] ∷ node op.Sd (under 0 OnTrue) (Read 1 ∷ [])
+    (Read 3 ∷ []) ∷ node op.Bro None [] [] ∷ [])
     [] 3
 
 stored_nodes : (complete stored).nodes ≡
-    (node op.Tnei None (Read 1 ∷ []) [] ∷ node op.Sd (under 0 OnTrue) (Read 1 ∷ []) (Read 3 ∷ []) ∷ node op.Bro None [] [] ∷ node op.Null (under 0 OnFalse) [] []
+    (node op.Tnei None (Read 1 ∷ []) [] ∷ node op.Sd (under 0 OnTrue) (Read 1 ∷ [])
+    (Read 3 ∷ []) ∷ node op.Bro None [] [] ∷ node op.Null (under 0 OnFalse) [] []
     ∷ null_store_of 0 (Node 3 ∷ []) ∷ null_store_of 1 (Node 6 ∷ []) ∷ node op.Null None [] [] ∷ [])
 unfolding all_numbers
 stored_nodes = refl

@@ -18,7 +18,8 @@ use Rattle.null_outputs.specs.Covers.{Want, null_under, guard_on, Sure, Places, 
 use Rattle.null_outputs.specs.Covers.{cover_of, Cover, top_of, list_top, pairs, list_nodes}
 use Rattle.null_outputs.specs.Groups.{left_needed, right_needed, guard_group, guard_is, is_used}
 use Rattle.null_outputs.specs.Groups.{guard_part, left_part, right_part, region}
-use Rattle.null_outputs.proofs.Heart.{Covered, as_covered, append_covered, null_covered, other_bit, EachCovered, pairs_covered, list_covered}
+use Rattle.null_outputs.proofs.Heart.{Covered, as_covered, append_covered, null_covered, other_bit, EachCovered}
+use Rattle.null_outputs.proofs.Heart.{pairs_covered, list_covered}
 use Rattle.null_outputs.proofs.Spaces.{obeys_front, obeys_back}
 use Rattle.null_outputs.proofs.Covers.{both_true, used_wants, Known, all_at, number_covered, sources_covered}
 
@@ -50,7 +51,8 @@ module _ (regs : ℕ → ℕ) (h : ℕ → Answer) where
   low : (k : ℕ) (ms : List FlowSource) → k ≤ 1 → Covered regs h k ms → count regs h ms ≤ 1
   low k ms l c = let e = c.number in omega (arith, e, l)
 
-  pairs_tidy : (c : Cover) (f : Computes) (p : ℕ) (s : FlowSource) (rest : List FlowSource) → EachCovered regs h c (s ∷ rest)
+  pairs_tidy : (c : Cover) (f : Computes) (p : ℕ) (s : FlowSource) (rest : List FlowSource)
+      → EachCovered regs h c (s ∷ rest)
       → Obeys regs f h p (pairs c p s rest) → AllTidy (pairs c p s rest)
   pairs_tidy c f p s [] k o = tt
   pairs_tidy c f p s (t ∷ rest) k o = (
@@ -62,34 +64,46 @@ module _ (regs : ℕ → ℕ) (h : ℕ → Answer) where
     pairs_tidy c f (suc p) t rest k.1 o.1,
   )
 
-  pub list_tidy : (c : Cover) (f : Computes) (p : ℕ) (ss : List FlowSource) → EachCovered regs h c ss → Obeys regs f h p (list_nodes c p ss) → AllTidy (list_nodes c p ss)
+  pub list_tidy : (c : Cover) (f : Computes) (p : ℕ) (ss : List FlowSource) → EachCovered regs h c ss
+      → Obeys regs f h p (list_nodes c p ss) → AllTidy (list_nodes c p ss)
   list_tidy c f p [] k o = (record { clear = some_differs Null; left = omega arith; right = omega arith }, tt)
   list_tidy c f p (s ∷ rest) k o = pairs_tidy c f p s rest k o
 
-  pub list_low : (c : Cover) (f : Computes) (p : ℕ) (ss : List FlowSource) → EachCovered regs h c ss → Obeys regs f h p (list_nodes c p ss) → count regs h (list_top c p ss) ≤ 1
+  pub list_low : (c : Cover) (f : Computes) (p : ℕ) (ss : List FlowSource) → EachCovered regs h c ss
+      → Obeys regs f h p (list_nodes c p ss) → count regs h (list_top c p ss) ≤ 1
   list_low c f p ss k o = low _ (list_top c p ss) (omega arith) (list_covered regs h c f p ss k o)
 
   group_tidy : (f : Computes) (p : ℕ) (s : Bool) (y : ℕ) (ms : List FlowSource) → (h y ≢ Some Null)
       → Covered regs h (1 - present (h y)) ms → Obeys regs f h p (guard_group p s y ms) → AllTidy (guard_group p s y ms)
   group_tidy f p s y [] n c o = (record { clear = n; left = omega arith; right = omega arith }, tt)
   group_tidy f p s y (m ∷ ms) n c o =
-      let z = null_covered regs h (f (suc p) (null_under (Some (guard_on (not s) y)))) (Some (guard_on (not s) y)) (suc p) (o.1.0) in
-      let all = as_covered regs h _ _ _ (other_bit (h y) s n) (append_covered regs h _ _ (Node (suc p) ∷ []) (m ∷ ms) z c) in (
-        record { clear = some_differs Null; left = low _ (Node (suc p) ∷ m ∷ ms) (omega arith) all; right = omega arith },
+      let z = null_covered regs h (f (suc p) (null_under (Some (guard_on (not s) y))))
+      (Some (guard_on (not s) y)) (suc p) (o.1.0) in
+      let all = as_covered regs h _ _ _ (other_bit (h y) s n)
+      (append_covered regs h _ _ (Node (suc p) ∷ []) (m ∷ ms) z c) in (
+        record {
+          clear = some_differs Null;
+          left = low _ (Node (suc p) ∷ m ∷ ms) (omega arith) all;
+          right = omega arith;
+        },
         (record { clear = n; left = omega arith; right = omega arith }, tt),
       )
 
   -- a guard that is used meets no null
-  used_clear : (want : Want) (j : ℕ) (ns : List FlowNode) (s : Bool) (y : ℕ) → All (λ n. guard_token h n.guard ≢ Some Null) ns → is_used want j ns s y ≡ true → h y ≢ Some Null
+  used_clear : (want : Want) (j : ℕ) (ns : List FlowNode) (s : Bool) (y : ℕ)
+      → All (λ n. guard_token h n.guard ≢ Some Null) ns → is_used want j ns s y ≡ true → h y ≢ Some Null
   used_clear want j [] s y a u = absurd (cc)
   used_clear want j (n ∷ ns) s y a u =
-      go (want j) (guard_is s y n.guard) (is_used want (suc j) ns s y) refl u (λ d. used_clear want (suc j) ns s y (All-tail (λ (m : FlowNode). guard_token h m.guard ≢ Some Null) n ns a) d)
+      go (want j) (guard_is s y n.guard) (is_used want (suc j) ns s y) refl u
+      (λ d. used_clear want (suc j) ns s y
+      (All-tail (λ (m : FlowNode). guard_token h m.guard ≢ Some Null) n ns a) d)
     where
       one : (g : Option Guard) → guard_is s y g ≡ true → guard_token h g ≢ Some Null → h y ≢ Some Null
       one None e c = absurd (cc)
       one (Some g) e c = subst (λ (i : ℕ). h i ≢ Some Null) (same_number g.node y (both_first _ _ e)) c
 
-      go : (v x z : Bool) → guard_is s y n.guard ≡ x → ((v && x) || z) ≡ true → (z ≡ true → h y ≢ Some Null) → h y ≢ Some Null
+      go : (v x z : Bool) → guard_is s y n.guard ≡ x → ((v && x) || z) ≡ true → (z ≡ true → h y ≢ Some Null)
+          → h y ≢ Some Null
       go true true z e d r = one n.guard e (All-head (λ (m : FlowNode). guard_token h m.guard ≢ Some Null) n ns a)
       go false true true e d r = r refl
       go true false true e d r = r refl
@@ -102,24 +116,30 @@ module _ (regs : ℕ → ℕ) (h : ℕ → Answer) where
   tidy_if true ns f = f refl
   tidy_if false ns f = tt
 
-module _ (regs : ℕ → ℕ) (h : ℕ → Answer) (f : Computes) (b : FlowBlock) (sure : Sure) (want : Want) (at : Places) (rank : ℕ → ℕ) (k : Known regs h f b sure want at rank) (tidy : IsTidy regs h b) where
+module _ (regs : ℕ → ℕ) (h : ℕ → Answer) (f : Computes) (b : FlowBlock) (sure : Sure) (want : Want)
+    (at : Places) (rank : ℕ → ℕ) (k : Known regs h f b sure want at rank) (tidy : IsTidy regs h b) where
   abbrev c : Cover
   c = cover_of b.nodes sure at
 
   when_true : (t : Bool) (p : ℕ) (ns : List FlowNode) → Obeys regs f h p (cond t ns []) → t ≡ true → Obeys regs f h p ns
   when_true t p ns o e = subst (λ (u : Bool). Obeys regs f h p (cond u ns [])) e o
 
-  pub guard_tidy : (s : Bool) (p y : ℕ) (n : FlowNode) → slice_get b.nodes y ≡ Some n → Obeys regs f h p (guard_part want b.nodes c s p y n) → AllTidy regs h (guard_part want b.nodes c s p y n)
+  pub guard_tidy : (s : Bool) (p y : ℕ) (n : FlowNode) → slice_get b.nodes y ≡ Some n
+      → Obeys regs f h p (guard_part want b.nodes c s p y n) → AllTidy regs h (guard_part want b.nodes c s p y n)
   guard_tidy s p y n e o =
       tidy_if regs h (is_used want 0 b.nodes s y) (guard_group p s y (c (Node y)))
-      (λ u. group_tidy regs h f p s y (c (Node y)) (used_clear regs h want 0 b.nodes s y tidy.clear u) (number_covered regs h f b sure want at rank k y n e (used_wants sure want b k.closed s y u)) (when_true (is_used want 0 b.nodes s y) p _ o u))
+      (λ u. group_tidy regs h f p s y (c (Node y)) (used_clear regs h want 0 b.nodes s y tidy.clear u)
+      (number_covered regs h f b sure want at rank k y n e (used_wants sure want b k.closed s y u))
+      (when_true (is_used want 0 b.nodes s y) p _ o u))
 
-  pub left_tidy : (p y : ℕ) (n : FlowNode) → slice_get b.nodes y ≡ Some n → Obeys regs f h p (left_part sure want c p y n) → AllTidy regs h (left_part sure want c p y n)
+  pub left_tidy : (p y : ℕ) (n : FlowNode) → slice_get b.nodes y ≡ Some n
+      → Obeys regs f h p (left_part sure want c p y n) → AllTidy regs h (left_part sure want c p y n)
   left_tidy p y n e o =
       tidy_if regs h (left_needed sure want y n) _
       (λ u.
       let v = both_true (want y) (left_open sure n) u in
-      let each = sources_covered regs h f b sure want at rank k n.left (all_at (FitsNode b) b.nodes k.fits y n e).left (k.closed.left y n e v.0 v.1) in
+      let each = sources_covered regs h f b sure want at rank k n.left
+      (all_at (FitsNode b) b.nodes k.fits y n e).left (k.closed.left y n e v.0 v.1) in
       let o2 = when_true (left_needed sure want y n) p _ o u in (
         record {
           clear = all_at (λ (m : FlowNode). guard_token h m.guard ≢ Some Null) b.nodes tidy.clear y n e;
@@ -129,12 +149,14 @@ module _ (regs : ℕ → ℕ) (h : ℕ → Answer) (f : Computes) (b : FlowBlock
         list_tidy regs h c f (suc p) n.left each o2.1,
       ))
 
-  pub right_tidy : (p y : ℕ) (n : FlowNode) → slice_get b.nodes y ≡ Some n → Obeys regs f h p (right_part sure want c p y n) → AllTidy regs h (right_part sure want c p y n)
+  pub right_tidy : (p y : ℕ) (n : FlowNode) → slice_get b.nodes y ≡ Some n
+      → Obeys regs f h p (right_part sure want c p y n) → AllTidy regs h (right_part sure want c p y n)
   right_tidy p y n e o =
       tidy_if regs h (right_needed sure want y n) _
       (λ u.
       let v = both_true (want y) (right_open sure n) u in
-      let each = sources_covered regs h f b sure want at rank k n.right (all_at (FitsNode b) b.nodes k.fits y n e).right (k.closed.right y n e v.0 v.1) in
+      let each = sources_covered regs h f b sure want at rank k n.right
+      (all_at (FitsNode b) b.nodes k.fits y n e).right (k.closed.right y n e v.0 v.1) in
       let o2 = when_true (right_needed sure want y n) p _ o u in (
         record {
           clear = all_at (λ (m : FlowNode). guard_token h m.guard ≢ Some Null) b.nodes tidy.clear y n e;
@@ -144,16 +166,24 @@ module _ (regs : ℕ → ℕ) (h : ℕ → Answer) (f : Computes) (b : FlowBlock
         list_tidy regs h c f (suc p) n.right each o2.1,
       ))
 
-  pub region_tidy : {A : Type 0} (part : ℕ → ℕ → A → List FlowNode) (size : ℕ → A → ℕ) → ((p j : ℕ) (x : A) → length (part p j x) ≡ size j x) → (all : List A)
+  pub region_tidy : {A : Type 0} (part : ℕ → ℕ → A → List FlowNode) (size : ℕ → A → ℕ)
+      → ((p j : ℕ) (x : A) → length (part p j x) ≡ size j x) → (all : List A)
       → ((p j : ℕ) (x : A) → slice_get all j ≡ Some x → Obeys regs f h p (part p j x) → AllTidy regs h (part p j x))
-      → (p j : ℕ) (xs : List A) → ((i : ℕ) (x : A) (z : ℕ) → z ≡ j + i → slice_get xs i ≡ Some x → slice_get all z ≡ Some x)
+      → (p j : ℕ) (xs : List A) → ((i : ℕ) (x : A) (z : ℕ) → z ≡ j + i → slice_get xs i ≡ Some x
+      → slice_get all z ≡ Some x)
       → Obeys regs f h p (region part size p j xs) → AllTidy regs h (region part size p j xs)
   region_tidy part size fits all q p j [] at o = tt
   region_tidy part size fits all q p j (x ∷ xs) at o =
       let e = fits p j x in
-      tidy_append regs h (part p j x) _ (q p j x (at zero x j (omega arith) refl) (obeys_front regs h f p (part p j x) _ o))
-      (region_tidy part size fits all q (p + size j x) (suc j) xs (λ i y z ez d. at (suc i) y z (omega (arith, ez)) d) (obeys_back regs h f p (part p j x) _ o _ (omega (arith, e))))
+      tidy_append regs h (part p j x) _ (q p j x (at zero x j (omega arith) refl)
+      (obeys_front regs h f p (part p j x) _ o))
+      (region_tidy part size fits all q (p + size j x) (suc j) xs
+      (λ i y z ez d. at (suc i) y z (omega (arith, ez)) d)
+      (obeys_back regs h f p (part p j x) _ o _ (omega (arith, e))))
 
-  pub output_tidy : (p : ℕ) (s : Bool) (ss : List FlowSource) → All (FitsFlowSource b) ss → (s ≡ false → EachWanted want ss) → Obeys regs f h p (cond s [] (list_nodes c p ss)) → AllTidy regs h (cond s [] (list_nodes c p ss))
+  pub output_tidy : (p : ℕ) (s : Bool) (ss : List FlowSource) → All (FitsFlowSource b) ss
+      → (s ≡ false → EachWanted want ss) → Obeys regs f h p (cond s [] (list_nodes c p ss))
+      → AllTidy regs h (cond s [] (list_nodes c p ss))
   output_tidy p true ss fit w o = tt
-  output_tidy p false ss fit w o = list_tidy regs h c f p ss (sources_covered regs h f b sure want at rank k ss fit (w refl)) o
+  output_tidy p false ss fit w o = list_tidy regs h c f p ss
+      (sources_covered regs h f b sure want at rank k ss fit (w refl)) o

@@ -52,15 +52,20 @@ module _ (r : Immediates) where
   at_scope false None = refl
   at_scope false (Some n) = refl
 
-  one_scope : (nodes : List FlowNode) (firm : Firm) (s : FlowSource) → scope_of (map new nodes) firm s ≡ scope_of nodes firm s
+  one_scope : (nodes : List FlowNode) (firm : Firm) (s : FlowSource)
+      → scope_of (map new nodes) firm s ≡ scope_of nodes firm s
   one_scope nodes firm (Read x) = refl
-  one_scope nodes firm (Node y) = ap (scope_at (firm y)) (slice_get-map new nodes y) ∙ at_scope (firm y) (slice_get nodes y)
+  one_scope nodes firm (Node y) = ap (scope_at (firm y)) (slice_get-map new nodes y)
+      ∙ at_scope (firm y) (slice_get nodes y)
 
-  all_scopes : (nodes : List FlowNode) (firm : Firm) (ss : List FlowSource) → scopes (map new nodes) firm ss ≡ scopes nodes firm ss
+  all_scopes : (nodes : List FlowNode) (firm : Firm) (ss : List FlowSource)
+      → scopes (map new nodes) firm ss ≡ scopes nodes firm ss
   all_scopes nodes firm [] = refl
-  all_scopes nodes firm (s ∷ ss) = ap₂ (λ (a b : List Scope). a ++ b) (one_scope nodes firm s) (all_scopes nodes firm ss)
+  all_scopes nodes firm (s ∷ ss) = ap₂ (λ (a b : List Scope). a ++ b) (one_scope nodes firm s)
+      (all_scopes nodes firm ss)
 
-  same_close : (firm : Firm) (j : ℕ) (ns : List FlowNode) (s : List Scope) → close firm j (map new ns) s ≡ close firm j ns s
+  same_close : (firm : Firm) (j : ℕ) (ns : List FlowNode) (s : List Scope)
+      → close firm j (map new ns) s ≡ close firm j ns s
   same_close firm j [] s = refl
   same_close firm j (n ∷ ns) s = ap (split firm j n) (same_close firm (suc j) ns s)
 
@@ -68,7 +73,8 @@ module _ (r : Immediates) where
   same_ask f None = refl
   same_ask f (Some n) = refl
 
-  same_reach : (nodes : List FlowNode) (s : List Scope) (d : ℕ) (x : Scope) → reaches (map new nodes) s d x ≡ reaches nodes s d x
+  same_reach : (nodes : List FlowNode) (s : List Scope) (d : ℕ) (x : Scope)
+      → reaches (map new nodes) s d x ≡ reaches nodes s d x
   same_reach nodes s zero x = refl
   same_reach nodes s (suc d) None = refl
   same_reach nodes s (suc d) (Some k) =
@@ -77,7 +83,8 @@ module _ (r : Immediates) where
       ∙ (same_ask (reaches (map new nodes) s d) (slice_get nodes k.node)
       ∙ ap (λ (f : Scope → Bool). ask f (slice_get nodes k.node)) (fun_ext (λ (x : Scope). same_reach nodes s d x))))
 
-  same_sure_in : (nodes : List FlowNode) (s : List Scope) (x : Scope) → sure_in (map new nodes) s x ≡ sure_in nodes s x
+  same_sure_in : (nodes : List FlowNode) (s : List Scope) (x : Scope)
+      → sure_in (map new nodes) s x ≡ sure_in nodes s x
   same_sure_in nodes s x =
       ap (λ (b : Bool). has s None || b)
       (ap (λ (d : ℕ). reaches (map new nodes) s d x) (length-map nodes new) ∙ same_reach nodes s (length nodes) x)
@@ -90,14 +97,16 @@ module _ (r : Immediates) where
       (ap (close firm 0 (map new nodes)) (all_scopes nodes firm ss) ∙ same_close firm 0 nodes (scopes nodes firm ss))
       ∙ same_sure_in nodes (close firm 0 nodes (scopes nodes firm ss)) x))
 
-  same_firm : (nodes : List FlowNode) (firm : Firm) (n : FlowNode) → is_firm (map new nodes) firm (new n) ≡ is_firm nodes firm n
+  same_firm : (nodes : List FlowNode) (firm : Firm) (n : FlowNode)
+      → is_firm (map new nodes) firm (new n) ≡ is_firm nodes firm n
   same_firm nodes firm n = ap (λ (s : Sure). not (left_open s n) && not (right_open s n)) (same_sure nodes firm)
 
   same_firms : (nodes : List FlowNode) (found : List Bool) (rest : List FlowNode)
       → firms_from (map new nodes) found (map new rest) ≡ firms_from nodes found rest
   same_firms nodes found [] = refl
   same_firms nodes found (n ∷ rest) =
-      ap (λ (t : Bool). firms_from (map new nodes) (found ++ (t ∷ [])) (map new rest)) (same_firm nodes (firm_of found) n)
+      ap (λ (t : Bool). firms_from (map new nodes) (found ++ (t ∷ [])) (map new rest))
+      (same_firm nodes (firm_of found) n)
       ∙ same_firms nodes (found ++ (is_firm nodes (firm_of found) n ∷ [])) rest
 
   same_sure_by : (b : FlowBlock) → sure_by (with_immediates r b) ≡ sure_by b
@@ -114,7 +123,8 @@ module _ (r : Immediates) where
   same_stores : (j : ℕ) (ns : List FlowNode) (k : ℕ) → stores_of j (map new ns) k ≡ stores_of j ns k
   same_stores j [] k = refl
   same_stores j (n ∷ ns) k =
-      ap₂ (λ (t : Bool) (x : List FlowSource). one_if t j ++ x) (same_store (form_of n.op) n k) (same_stores (suc j) ns k)
+      ap₂ (λ (t : Bool) (x : List FlowSource). one_if t j ++ x) (same_store (form_of n.op) n k)
+      (same_stores (suc j) ns k)
 
   module _ (sure : Sure) (b : FlowBlock) where
     abbrev newer : FlowBlock
@@ -140,11 +150,13 @@ module _ (r : Immediates) where
         ap (λ (ws : List Bool). spread sure (mark_writes sure ws b.writes) 0 (map new b.nodes)) (same_opens b.nodes)
         ∙ same_spread (mark_writes sure (open_stores sure b b.nodes) b.writes) 0 b.nodes
 
-    same_nodes : (want : Want) (j : ℕ) (ns : List FlowNode) → nodes_closed sure want newer j (map new ns) ≡ nodes_closed sure want b j ns
+    same_nodes : (want : Want) (j : ℕ) (ns : List FlowNode)
+        → nodes_closed sure want newer j (map new ns) ≡ nodes_closed sure want b j ns
     same_nodes want j [] = refl
     same_nodes want j (n ∷ ns) =
         ap₂ (λ (x y : Bool). x && y)
-        (ap (λ (t : Bool). (not (want j) || node_closed sure want n) && (not t || want j)) (same_open (form_of n.op) n))
+        (ap (λ (t : Bool). (not (want j) || node_closed sure want n) && (not t || want j))
+        (same_open (form_of n.op) n))
         (same_nodes want (suc j) ns)
 
     same_closed : (want : Want) → is_closed sure want newer ≡ is_closed sure want b
@@ -175,7 +187,8 @@ module _ (r : Immediates) where
         ap (λ (k : ℕ). end_of size (p + k) (suc j) (map new ns)) (same j n)
         ∙ same_end (p + other j n) (suc j) ns
 
-    same_region : (part by : ℕ → ℕ → FlowNode → List FlowNode) → ((p j : ℕ) (n : FlowNode) → part p j (new n) ≡ by p j n)
+    same_region : (part by : ℕ → ℕ → FlowNode → List FlowNode)
+        → ((p j : ℕ) (n : FlowNode) → part p j (new n) ≡ by p j n)
         → (p j : ℕ) (ns : List FlowNode) → region part size p j (map new ns) ≡ region by other p j ns
     same_region part by parts p j [] = refl
     same_region part by parts p j (n ∷ ns) =
@@ -189,21 +202,26 @@ module _ (r : Immediates) where
     abbrev later : FlowBlock
     later = with_immediates r b
 
-    same_used : (j : ℕ) (ns : List FlowNode) (s : Bool) (y : ℕ) → is_used want j (map new ns) s y ≡ is_used want j ns s y
+    same_used : (j : ℕ) (ns : List FlowNode) (s : Bool) (y : ℕ)
+        → is_used want j (map new ns) s y ≡ is_used want j ns s y
     same_used j [] s y = refl
     same_used j (n ∷ ns) s y = ap (λ (t : Bool). (want j && guard_is s y n.guard) || t) (same_used (suc j) ns s y)
 
-    same_at : (at : Places) (y : ℕ) (o : Option FlowNode) → cover_at sure at y (option_map new o) ≡ cover_at sure at y o
+    same_at : (at : Places) (y : ℕ) (o : Option FlowNode)
+        → cover_at sure at y (option_map new o) ≡ cover_at sure at y o
     same_at at y None = refl
     same_at at y (Some n) = refl
 
     same_source : (at : Places) (s : FlowSource) → cover_of (map new b.nodes) sure at s ≡ cover_of b.nodes sure at s
     same_source at (Read x) = refl
-    same_source at (Node y) = ap (cover_at sure at y) (slice_get-map new b.nodes y) ∙ same_at at y (slice_get b.nodes y)
+    same_source at (Node y) = ap (cover_at sure at y) (slice_get-map new b.nodes y)
+        ∙ same_at at y (slice_get b.nodes y)
 
-    same_guard : (s : Bool) (j : ℕ) (n : FlowNode) → guard_part_size want (map new b.nodes) sure s j (new n) ≡ guard_part_size want b.nodes sure s j n
+    same_guard : (s : Bool) (j : ℕ) (n : FlowNode)
+        → guard_part_size want (map new b.nodes) sure s j (new n) ≡ guard_part_size want b.nodes sure s j n
     same_guard s j n =
-        ap₂ (λ (t : Bool) (ms : List FlowSource). cond t (guard_size ms) 0) (same_used 0 b.nodes s j) (same_source nowhere (Node j))
+        ap₂ (λ (t : Bool) (ms : List FlowSource). cond t (guard_size ms) 0) (same_used 0 b.nodes s j)
+        (same_source nowhere (Node j))
 
     same_trues : trues sure want later ≡ trues sure want b
     same_trues = length-map b.nodes new
@@ -211,12 +229,14 @@ module _ (r : Immediates) where
     same_falses : falses sure want later ≡ falses sure want b
     same_falses =
         ap (λ (p : ℕ). end_of (guard_part_size want (map new b.nodes) sure true) p 0 (map new b.nodes)) same_trues
-        ∙ same_end (guard_part_size want (map new b.nodes) sure true) (guard_part_size want b.nodes sure true) (same_guard true) (trues sure want b) 0 b.nodes
+        ∙ same_end (guard_part_size want (map new b.nodes) sure true) (guard_part_size want b.nodes sure true)
+        (same_guard true) (trues sure want b) 0 b.nodes
 
     same_lefts : lefts sure want later ≡ lefts sure want b
     same_lefts =
         ap (λ (p : ℕ). end_of (guard_part_size want (map new b.nodes) sure false) p 0 (map new b.nodes)) same_falses
-        ∙ same_end (guard_part_size want (map new b.nodes) sure false) (guard_part_size want b.nodes sure false) (same_guard false) (falses sure want b) 0 b.nodes
+        ∙ same_end (guard_part_size want (map new b.nodes) sure false) (guard_part_size want b.nodes sure false)
+        (same_guard false) (falses sure want b) 0 b.nodes
 
     same_rights : rights sure want later ≡ rights sure want b
     same_rights =
@@ -232,19 +252,23 @@ module _ (r : Immediates) where
     same_numbers_at = ap (λ (p : ℕ). end_of (write_size sure want b) p 0 b.writes) same_writes_at
 
     guards_at : (t : Bool) (p q : ℕ) → p ≡ q
-        → start_of (guard_part_size want (map new b.nodes) sure t) p 0 (map new b.nodes) ≡ start_of (guard_part_size want b.nodes sure t) q 0 b.nodes
+        → start_of (guard_part_size want (map new b.nodes) sure t) p 0 (map new b.nodes)
+        ≡ start_of (guard_part_size want b.nodes sure t) q 0 b.nodes
     guards_at t p q e =
         fun_ext (λ (y : ℕ).
         ap (λ (i : ℕ). start_of (guard_part_size want (map new b.nodes) sure t) i 0 (map new b.nodes) y) e
-        ∙ same_start (guard_part_size want (map new b.nodes) sure t) (guard_part_size want b.nodes sure t) (same_guard t) q 0 b.nodes y)
+        ∙ same_start (guard_part_size want (map new b.nodes) sure t) (guard_part_size want b.nodes sure t)
+        (same_guard t) q 0 b.nodes y)
 
-    left_at : start_of (left_size sure want) (lefts sure want later) 0 (map new b.nodes) ≡ start_of (left_size sure want) (lefts sure want b) 0 b.nodes
+    left_at : start_of (left_size sure want) (lefts sure want later) 0 (map new b.nodes)
+        ≡ start_of (left_size sure want) (lefts sure want b) 0 b.nodes
     left_at =
         fun_ext (λ (y : ℕ).
         ap (λ (p : ℕ). start_of (left_size sure want) p 0 (map new b.nodes) y) same_lefts
         ∙ same_start (left_size sure want) (left_size sure want) (λ j n. refl) (lefts sure want b) 0 b.nodes y)
 
-    right_at : start_of (right_size sure want) (rights sure want later) 0 (map new b.nodes) ≡ start_of (right_size sure want) (rights sure want b) 0 b.nodes
+    right_at : start_of (right_size sure want) (rights sure want later) 0 (map new b.nodes)
+        ≡ start_of (right_size sure want) (rights sure want b) 0 b.nodes
     right_at =
         fun_ext (λ (y : ℕ).
         ap (λ (p : ℕ). start_of (right_size sure want) p 0 (map new b.nodes) y) same_rights
@@ -259,32 +283,43 @@ module _ (r : Immediates) where
 
     same_cover : cover sure want later ≡ cover sure want b
     same_cover =
-        ap (cover_of (map new b.nodes) sure) same_places ∙ fun_ext (λ (s : FlowSource). same_source (places sure want b) s)
+        ap (cover_of (map new b.nodes) sure) same_places
+        ∙ fun_ext (λ (s : FlowSource). same_source (places sure want b) s)
 
     same_guards : (s : Bool) (p q : ℕ) → p ≡ q
-        → region (guard_part want (map new b.nodes) (cover sure want later) s) (guard_part_size want (map new b.nodes) sure s) p 0 (map new b.nodes)
+        → region (guard_part want (map new b.nodes) (cover sure want later) s)
+        (guard_part_size want (map new b.nodes) sure s) p 0 (map new b.nodes)
         ≡ region (guard_part want b.nodes (cover sure want b) s) (guard_part_size want b.nodes sure s) q 0 b.nodes
     same_guards s p q e =
-        ap₂ (λ (c : Cover) (i : ℕ). region (guard_part want (map new b.nodes) c s) (guard_part_size want (map new b.nodes) sure s) i 0 (map new b.nodes)) same_cover e
-        ∙ same_region (guard_part_size want (map new b.nodes) sure s) (guard_part_size want b.nodes sure s) (same_guard s)
+        ap₂ (λ (c : Cover) (i : ℕ). region (guard_part want (map new b.nodes) c s)
+        (guard_part_size want (map new b.nodes) sure s) i 0 (map new b.nodes)) same_cover e
+        ∙ same_region (guard_part_size want (map new b.nodes) sure s) (guard_part_size want b.nodes sure s)
+        (same_guard s)
         (guard_part want (map new b.nodes) (cover sure want b) s) (guard_part want b.nodes (cover sure want b) s)
-        (λ i j n. ap (λ (t : Bool). cond t (guard_group i s j (cover sure want b (Node j))) []) (same_used 0 b.nodes s j)) q 0 b.nodes
+        (λ i j n. ap (λ (t : Bool). cond t (guard_group i s j (cover sure want b (Node j))) [])
+        (same_used 0 b.nodes s j)) q 0 b.nodes
 
     same_left : lefts_region sure want later ≡ lefts_region sure want b
     same_left =
-        ap₂ (λ (c : Cover) (i : ℕ). region (left_part sure want c) (left_size sure want) i 0 (map new b.nodes)) same_cover same_lefts
-        ∙ same_region (left_size sure want) (left_size sure want) (λ j n. refl) (left_part sure want (cover sure want b)) (left_part sure want (cover sure want b))
+        ap₂ (λ (c : Cover) (i : ℕ). region (left_part sure want c) (left_size sure want) i 0 (map new b.nodes))
+        same_cover same_lefts
+        ∙ same_region (left_size sure want) (left_size sure want) (λ j n. refl)
+        (left_part sure want (cover sure want b)) (left_part sure want (cover sure want b))
         (λ p j n. refl) (lefts sure want b) 0 b.nodes
 
     same_right : rights_region sure want later ≡ rights_region sure want b
     same_right =
-        ap₂ (λ (c : Cover) (i : ℕ). region (right_part sure want c) (right_size sure want) i 0 (map new b.nodes)) same_cover same_rights
-        ∙ same_region (right_size sure want) (right_size sure want) (λ j n. refl) (right_part sure want (cover sure want b)) (right_part sure want (cover sure want b))
+        ap₂ (λ (c : Cover) (i : ℕ). region (right_part sure want c) (right_size sure want) i 0 (map new b.nodes))
+        same_cover same_rights
+        ∙ same_region (right_size sure want) (right_size sure want) (λ j n. refl)
+        (right_part sure want (cover sure want b)) (right_part sure want (cover sure want b))
         (λ p j n. refl) (rights sure want b) 0 b.nodes
 
     same_writes : writes_region sure want later ≡ writes_region sure want b
     same_writes =
-        ap₂ (λ (c : Cover) (i : ℕ). region (λ (p j : ℕ) (w : FlowWrite). cond (sure None w.sources) [] (list_nodes c p w.sources)) (write_size sure want b) i 0 b.writes)
+        ap₂ (λ (c : Cover) (i : ℕ). region
+        (λ (p j : ℕ) (w : FlowWrite). cond (sure None w.sources) [] (list_nodes c p w.sources))
+        (write_size sure want b) i 0 b.writes)
         same_cover same_writes_at
 
     same_filled : (p j : ℕ) (ws : List FlowWrite) → filled_all sure want later p j ws ≡ filled_all sure want b p j ws
@@ -296,12 +331,14 @@ module _ (r : Immediates) where
 
     same_part : (p k : ℕ) → number_part sure want later p k ≡ number_part sure want b p k
     same_part p k =
-        ap₂ (λ (c : Cover) (ss : List FlowSource). cond (in_mask b.mask k && not (sure None ss)) (null_store_of k (list_top c (suc p) ss) ∷ list_nodes c (suc p) ss) [])
+        ap₂ (λ (c : Cover) (ss : List FlowSource). cond (in_mask b.mask k && not (sure None ss))
+        (null_store_of k (list_top c (suc p) ss) ∷ list_nodes c (suc p) ss) [])
         same_cover (same_stores 0 b.nodes k)
 
     same_number_size : (k : ℕ) → number_size sure want later k ≡ number_size sure want b k
     same_number_size k =
-        ap (λ (ss : List FlowSource). cond (in_mask b.mask k && not (sure None ss)) (suc (list_size ss)) 0) (same_stores 0 b.nodes k)
+        ap (λ (ss : List FlowSource). cond (in_mask b.mask k && not (sure None ss)) (suc (list_size ss)) 0)
+        (same_stores 0 b.nodes k)
 
     same_parts : (m p k : ℕ) → numbers_part sure want later p k m ≡ numbers_part sure want b p k m
     same_parts zero p k = refl
@@ -317,8 +354,10 @@ module _ (r : Immediates) where
 
     same_added : added sure want later ≡ added sure want b
     same_added =
-        ap₂ (λ (x y : List FlowNode). x ++ y) (same_guards true (trues sure want later) (trues sure want b) same_trues)
-        (ap₂ (λ (x y : List FlowNode). x ++ y) (same_guards false (falses sure want later) (falses sure want b) same_falses)
+        ap₂ (λ (x y : List FlowNode). x ++ y)
+        (same_guards true (trues sure want later) (trues sure want b) same_trues)
+        (ap₂ (λ (x y : List FlowNode). x ++ y)
+        (same_guards false (falses sure want later) (falses sure want b) same_falses)
         (ap₂ (λ (x y : List FlowNode). x ++ y) same_left
         (ap₂ (λ (x y : List FlowNode). x ++ y) same_right
         (ap₂ (λ (x y : List FlowNode). x ++ y) same_writes same_numbers))))
@@ -326,12 +365,15 @@ module _ (r : Immediates) where
     same_completed : KeepsZeros r → completed sure want later ≡ with_immediates r (completed sure want b)
     same_completed zeros =
         ap₂ (λ (ns : List FlowNode) (ws : List FlowWrite). record b { nodes = ns; writes = ws })
-        (ap (λ (x : List FlowNode). map new b.nodes ++ x) (same_added ∙ sym (added_stay r zeros (added sure want b) (all_added sure want b)))
+        (ap (λ (x : List FlowNode). map new b.nodes ++ x)
+        (same_added ∙ sym (added_stay r zeros (added sure want b) (all_added sure want b)))
         ∙ sym (map-append new b.nodes (added sure want b)))
-        (ap (λ (p : ℕ). filled_all sure want later p 0 b.writes) same_writes_at ∙ same_filled (writes_at sure want b) 0 b.writes)
+        (ap (λ (p : ℕ). filled_all sure want later p 0 b.writes) same_writes_at
+        ∙ same_filled (writes_at sure want b) 0 b.writes)
 
   -- new immediates before and after completing
-  pub keeps_immediates : KeepsZeros r → (b : FlowBlock) → complete (with_immediates r b) ≡ with_immediates r (complete b)
+  pub keeps_immediates : KeepsZeros r → (b : FlowBlock)
+      → complete (with_immediates r b) ≡ with_immediates r (complete b)
   keeps_immediates zeros b =
       ap₂ (λ (s : Sure) (w : Want). completed s w (with_immediates r b)) (same_sure_by b) (same_want_by b)
       ∙ same_completed (sure_by b) (want_by b) b zeros
@@ -340,6 +382,7 @@ module _ (r : Immediates) where
   one_masked Store b n m = m
   one_masked _ b n m = tt
 
-  pub each_masked : (b : FlowBlock) (ns : List FlowNode) → EachMasked b ns → EachMasked (with_immediates r b) (map new ns)
+  pub each_masked : (b : FlowBlock) (ns : List FlowNode) → EachMasked b ns
+      → EachMasked (with_immediates r b) (map new ns)
   each_masked b [] m = tt
   each_masked b (n ∷ ns) m = (one_masked (form_of n.op) b n m.0, each_masked b ns m.1)

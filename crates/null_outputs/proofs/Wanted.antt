@@ -42,7 +42,8 @@ all_wanted [] = tt
 all_wanted (Read r ∷ ss) = all_wanted ss
 all_wanted (Node j ∷ ss) = (refl, all_wanted ss)
 
-wanted_append : (want : Want) (xs ys : List FlowSource) → EachWanted want xs → EachWanted want ys → EachWanted want (xs ++ ys)
+wanted_append : (want : Want) (xs ys : List FlowSource) → EachWanted want xs → EachWanted want ys
+    → EachWanted want (xs ++ ys)
 wanted_append want [] ys x y = y
 wanted_append want (Read r ∷ xs) ys x y = wanted_append want xs ys x y
 wanted_append want (Node j ∷ xs) ys x y = (x.0, wanted_append want xs ys x.1 y)
@@ -53,11 +54,14 @@ module _ (sure : Sure) (want : Want) (b : FlowBlock) where
     node : want j ≡ true → node_closed sure want n ≡ true
     store : is_open_store sure b (form_of n.op) n ≡ true → want j ≡ true
 
-  at_node : (j : ℕ) (ns : List FlowNode) → nodes_closed sure want b j ns ≡ true → (y : ℕ) (n : FlowNode) (i : ℕ) → i ≡ j + y → slice_get ns y ≡ Some n → At i n
+  at_node : (j : ℕ) (ns : List FlowNode) → nodes_closed sure want b j ns ≡ true → (y : ℕ) (n : FlowNode) (i : ℕ)
+      → i ≡ j + y → slice_get ns y ≡ Some n → At i n
   at_node j [] t y n i e s = absurd (cc)
   at_node j (m ∷ ns) t zero n i e s =
-      let w = both_true ((not (want j) || node_closed sure want m) && (not (is_open_store sure b (form_of m.op) m) || want j)) (nodes_closed sure want b (suc j) ns) t in
-      let v = both_true (not (want j) || node_closed sure want m) (not (is_open_store sure b (form_of m.op) m) || want j) w.0 in
+      let w = both_true ((not (want j) || node_closed sure want m) &&
+      (not (is_open_store sure b (form_of m.op) m) || want j)) (nodes_closed sure want b (suc j) ns) t in
+      let v = both_true (not (want j) || node_closed sure want m)
+      (not (is_open_store sure b (form_of m.op) m) || want j) w.0 in
       let d : j ≡ i = omega (arith, e) in
       subst (λ (k : ℕ). At k n) d
       (subst (At j) (some_is m n s)
@@ -66,19 +70,23 @@ module _ (sure : Sure) (want : Want) (b : FlowBlock) where
         store = follows (is_open_store sure b (form_of m.op) m) (want j) v.1;
       }))
   at_node j (m ∷ ns) t (suc y) n i e s =
-      let w = both_true ((not (want j) || node_closed sure want m) && (not (is_open_store sure b (form_of m.op) m) || want j)) (nodes_closed sure want b (suc j) ns) t in
+      let w = both_true ((not (want j) || node_closed sure want m) &&
+      (not (is_open_store sure b (form_of m.op) m) || want j)) (nodes_closed sure want b (suc j) ns) t in
       at_node (suc j) ns w.1 y n i (omega (arith, e)) s
 
-  at_write : (ws : List FlowWrite) → writes_closed sure want ws ≡ true → (j : ℕ) (w : FlowWrite) → slice_get ws j ≡ Some w → sure None w.sources ≡ false → EachWanted want w.sources
+  at_write : (ws : List FlowWrite) → writes_closed sure want ws ≡ true → (j : ℕ) (w : FlowWrite)
+      → slice_get ws j ≡ Some w → sure None w.sources ≡ false → EachWanted want w.sources
   at_write [] t j w s f = absurd (cc)
   at_write (v ∷ ws) t zero w s f =
       let x = both_true _ _ t in
       let e : v ≡ w = some_is v w s in
       wanted_each want w.sources
-      (follows_not (sure None w.sources) (each_wanted want w.sources) (subst (λ (z : FlowWrite). (sure None z.sources || each_wanted want z.sources) ≡ true) e x.0) f)
+      (follows_not (sure None w.sources) (each_wanted want w.sources)
+      (subst (λ (z : FlowWrite). (sure None z.sources || each_wanted want z.sources) ≡ true) e x.0) f)
   at_write (v ∷ ws) t (suc j) w s f = let x = both_true _ _ t in at_write ws x.1 j w s f
 
-  source_wanted : (x : Form) (n : FlowNode) (j k : ℕ) → number_open sure b k ≡ true → (is_open_store sure b x n ≡ true → want j ≡ true) → EachWanted want (store_source x n j k)
+  source_wanted : (x : Form) (n : FlowNode) (j k : ℕ) → number_open sure b k ≡ true
+      → (is_open_store sure b x n ≡ true → want j ≡ true) → EachWanted want (store_source x n j k)
   source_wanted form.Store n j k o f = go (nat_eq n.number k) refl
     where
       go : (t : Bool) → nat_eq n.number k ≡ t → EachWanted want (cond t (Node j ∷ []) [])
@@ -90,10 +98,13 @@ module _ (sure : Sure) (want : Want) (b : FlowBlock) where
   source_wanted form.Branch n j k o f = tt
   source_wanted form.Constant n j k o f = tt
 
-  stores_wanted : (k : ℕ) → number_open sure b k ≡ true → (j : ℕ) (ns : List FlowNode) → ((y : ℕ) (n : FlowNode) (i : ℕ) → i ≡ j + y → slice_get ns y ≡ Some n → At i n) → EachWanted want (stores_of j ns k)
+  stores_wanted : (k : ℕ) → number_open sure b k ≡ true → (j : ℕ) (ns : List FlowNode)
+      → ((y : ℕ) (n : FlowNode) (i : ℕ) → i ≡ j + y → slice_get ns y ≡ Some n → At i n)
+      → EachWanted want (stores_of j ns k)
   stores_wanted k o j [] f = tt
   stores_wanted k o j (n ∷ ns) f =
-      wanted_append want (store_source (form_of n.op) n j k) (stores_of (suc j) ns k) (source_wanted (form_of n.op) n j k o (f zero n j (omega arith) refl).store)
+      wanted_append want (store_source (form_of n.op) n j k) (stores_of (suc j) ns k)
+      (source_wanted (form_of n.op) n j k o (f zero n j (omega arith) refl).store)
       (stores_wanted k o (suc j) ns (λ y m i e s. f (suc y) m i (omega (arith, e)) s))
 
   closed_by_test : is_closed sure want b ≡ true → Closed sure want b

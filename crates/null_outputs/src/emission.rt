@@ -24,8 +24,10 @@ pub fn push_guards(
     ensures { OnOk result (out.new
         ≡ out.old
         ++ groups.region
-        (groups.guard_part (listed.want_in_guess guess.now) nodes.now (listed.cover_in nodes.now guess.now starts.now) s)
-        (groups.guard_part_size (listed.want_in_guess guess.now) nodes.now (listed.sure_in_guess nodes.now guess.now) s)
+        (groups.guard_part (listed.want_in_guess guess.now) nodes.now
+        (listed.cover_in nodes.now guess.now starts.now) s)
+        (groups.guard_part_size (listed.want_in_guess guess.now) nodes.now
+        (listed.sure_in_guess nodes.now guess.now) s)
         (length nodes.now + length out.old) 0 nodes.now) }
 {
     let mut j = 0;
@@ -49,7 +51,8 @@ pub fn push_lefts(
     ensures { OnOk result (out.new
         ≡ out.old
         ++ groups.region
-        (groups.left_part (listed.sure_in_guess nodes.now guess.now) (listed.want_in_guess guess.now) (listed.cover_in nodes.now guess.now starts.now))
+        (groups.left_part (listed.sure_in_guess nodes.now guess.now) (listed.want_in_guess guess.now)
+        (listed.cover_in nodes.now guess.now starts.now))
         (groups.left_size (listed.sure_in_guess nodes.now guess.now) (listed.want_in_guess guess.now))
         (length nodes.now + length out.old) 0 nodes.now) }
 {
@@ -74,7 +77,8 @@ pub fn push_rights(
     ensures { OnOk result (out.new
         ≡ out.old
         ++ groups.region
-        (groups.right_part (listed.sure_in_guess nodes.now guess.now) (listed.want_in_guess guess.now) (listed.cover_in nodes.now guess.now starts.now))
+        (groups.right_part (listed.sure_in_guess nodes.now guess.now) (listed.want_in_guess guess.now)
+        (listed.cover_in nodes.now guess.now starts.now))
         (groups.right_size (listed.sure_in_guess nodes.now guess.now) (listed.want_in_guess guess.now))
         (length nodes.now + length out.old) 0 nodes.now) }
 {
@@ -128,7 +132,8 @@ pub fn push_writes(
     ensures { OnOk result (out.new
         ≡ out.old
         ++ groups.region
-        (listed.write_part_by (listed.sure_in_guess nodes.now guess.now) (listed.cover_in nodes.now guess.now starts.now))
+        (listed.write_part_by (listed.sure_in_guess nodes.now guess.now)
+        (listed.cover_in nodes.now guess.now starts.now))
         (listed.write_size_by (listed.sure_in_guess nodes.now guess.now))
         (length nodes.now + length out.old) 0 writes.now) }
 {

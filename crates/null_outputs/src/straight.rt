@@ -55,18 +55,18 @@ fn is_plain(y: usize, n: &FlowNode) -> bool
         && fed_if(takes_right(role_of(n.op)), y, n.right.as_slice())
 }
 
-// The same of all nodes.
-fn all_plain(nodes: &[FlowNode]) -> bool
-    ensures { result ≡ tested.all_plain 0 nodes.now }
+// How many nodes are plain before the first that is not.
+fn plain_front(nodes: &[FlowNode]) -> usize
+    ensures { result ≡ tested.plain_front 0 nodes.now }
 {
     let mut y = 0;
     for n in nodes {
         if !is_plain(y, n) {
-            return false;
+            return y;
         }
         y += 1;
     }
-    true
+    y
 }
 
 // Whether each write is fed.
@@ -81,41 +81,41 @@ fn all_fed(y: usize, writes: &[FlowWrite]) -> bool
     true
 }
 
-// Whether store number k has a store, if the mask has it.
-fn number_fed(alloc: Global, block: &FlowBlock, k: u8) -> Result<bool, Memory>
+// Whether store number k has a store before node y, if the mask has it.
+fn number_fed(alloc: Global, block: &FlowBlock, y: usize, k: u8) -> Result<bool, Memory>
     requires { length block.now.nodes < 2 ^ 32 }
-    ensures { IfOk result (λ t. t ≡ tested.number_fed block.now k) }
+    ensures { IfOk result (λ t. t ≡ tested.number_fed block.now y k) }
 {
     if !in_mask(block.mask, k) {
         return Ok(true);
     }
     let stores = stores_of(alloc, block.nodes.as_slice(), k)?;
-    Ok(is_fed(block.nodes.len(), stores.as_slice()))
+    Ok(is_fed(y, stores.as_slice()))
 }
 
 // The same of m numbers from k on.
-fn numbers_fed(alloc: Global, block: &FlowBlock, k: u8, m: u8) -> Result<bool, Memory>
+fn numbers_fed(alloc: Global, block: &FlowBlock, y: usize, k: u8, m: u8) -> Result<bool, Memory>
     requires few { length block.now.nodes < 2 ^ 32 }
     requires numbers { k + m ≤ 32 }
-    ensures { IfOk result (λ t. t ≡ tested.numbers_fed block.now k m) }
+    ensures { IfOk result (λ t. t ≡ tested.numbers_fed block.now y k m) }
 {
     if m == 0 {
         return Ok(true);
     }
-    let first = number_fed(alloc, block, k)?;
+    let first = number_fed(alloc, block, y, k)?;
     if !first {
         return Ok(false);
     }
-    let rest = numbers_fed(alloc, block, k + 1, m - 1)?;
+    let rest = numbers_fed(alloc, block, y, k + 1, m - 1)?;
     Ok(rest)
 }
 
 // The same of all numbers.
-fn all_numbers_fed(alloc: Global, block: &FlowBlock) -> Result<bool, Memory>
+fn all_numbers_fed(alloc: Global, block: &FlowBlock, y: usize) -> Result<bool, Memory>
     requires { length block.now.nodes < 2 ^ 32 }
-    ensures { IfOk result (λ t. t ≡ tested.all_numbers_fed block.now) }
+    ensures { IfOk result (λ t. t ≡ tested.all_numbers_fed block.now y) }
 {
-    numbers_fed(alloc, block, 0, 32)
+    numbers_fed(alloc, block, y, 0, 32)
 }
 
 /// Whether a block is straight.
@@ -123,11 +123,9 @@ pub fn is_straight(alloc: Global, block: &FlowBlock) -> Result<bool, Memory>
     requires { length block.now.nodes < 2 ^ 32 }
     ensures { IfOk result (λ t. t ≡ tested.is_straight block.now) }
 {
-    if !all_plain(block.nodes.as_slice()) {
+    let front = plain_front(block.nodes.as_slice());
+    if !all_fed(front, block.writes.as_slice()) {
         return Ok(false);
     }
-    if !all_fed(block.nodes.len(), block.writes.as_slice()) {
-        return Ok(false);
-    }
-    all_numbers_fed(alloc, block)
+    all_numbers_fed(alloc, block, front)
 }

@@ -1,5 +1,6 @@
 -- Exits and tails emitted are those of the definition.
-use Rattle.std.proofs.Common.{◌≡◌, ℕ, suc, ◌+◌, ◌-◌, ◌/◌, ◌%◌, ◌^◌, Bool, true, false, cond, nat_lt, List, [], ◌∷◌, ◌++◌}
+use Rattle.std.proofs.Common.{◌≡◌, ℕ, suc, ◌+◌, ◌-◌, ◌/◌, ◌%◌, ◌^◌, Bool, true, false, cond, nat_lt, List, []}
+use Rattle.std.proofs.Common.{◌∷◌, ◌++◌}
 use Rattle.std.proofs.Common.{length, refl, sym, ap, ap₂, subst, ◌∙◌, arith, map, append_assoc, append-nil, IsTrue, ◌↔◌}
 use Rattle.std.proofs.lemmas.Bool.Decides.{nat_tests}
 use Rattle.trips_isa.specs.declared.op.Op.{Op}
@@ -24,7 +25,8 @@ use Rattle.predication.specs.Environments.{Scope, Env, Bits, no_bits, under, put
 use Rattle.predication.specs.Operands.{Chain, constant_of, operand, tested, mov_of}
 use Rattle.predication.specs.Ifs.{Joined, join}
 use Rattle.predication.specs.Outcomes.{NamesLabel, NamesLabels}
-use Rattle.predication.specs.Tails.{Ending, tail_with, tail, exit_touched, tail_touched, branch_of, high_half, low_half, address_nodes}
+use Rattle.predication.specs.Tails.{Ending, tail_with, tail, exit_touched, tail_touched, branch_of, high_half}
+use Rattle.predication.specs.Tails.{low_half, address_nodes}
 use Rattle.predication.specs.inside.Emits.{Adds, low, env_of, bits_of, joined_at}
 use Rattle.predication.specs.inside.Ends.{label, exit_labelled, tail_labelled, leaving_of, ending_of, work_after}
 use Rattle.predication.specs.inside.Ends.{branched, address_of}

@@ -13,7 +13,8 @@ use Rattle.ir_forms.specs.HyperCode.{Items, Done, Set, Load, Save, If, Tail, Lea
 use Rattle.predication.specs.Environments.{Scope, Entry, Env, Bits, put, note, from_node, under, no_bits, member}
 use Rattle.predication.specs.Environments.{at_start}
 use Rattle.trips_isa.specs.declared.op.Op.TheVariants.{Ret}
-use Rattle.predication.specs.Operands.{Got, node_of, chain, longer, movs, read_of, operand, second, is_test, bit_of, fresh_test}
+use Rattle.predication.specs.Operands.{Got, node_of, chain, longer, movs, read_of, operand, second, is_test}
+use Rattle.predication.specs.Operands.{bit_of, fresh_test}
 use Rattle.predication.specs.Operands.{test_by, tested, most_apps}
 use Rattle.predication.specs.Ifs.{left_of, side_of, Joined, join, Out, items, touched}
 use Rattle.predication.specs.Tails.{Ending, branch_of, leaving, tail, tail_touched}
@@ -65,7 +66,8 @@ test_most : (k : ℕ) (g : Scope) (j : ℕ) (env : Env) (r : ℕ) (b : Option �
 test_most k g j env r None = fresh_most k g j (operand j env (Reg r)) (operand_most k j env (Reg r))
 test_most k g j env r (Some i) = tt
 
-tested_most : (k : ℕ) (g : Scope) (j : ℕ) (env : Env) (bits : Bits) (t : Source) → AtMost k (tested g j env bits t).nodes
+tested_most : (k : ℕ) (g : Scope) (j : ℕ) (env : Env) (bits : Bits) (t : Source)
+    → AtMost k (tested g j env bits t).nodes
 tested_most k g j env bits (Const w) =
     fresh_most k g j (operand j env (Const w)) (operand_most k j env (Const w))
 tested_most k g j env bits (Reg r) = test_most k g j env r (bits r)

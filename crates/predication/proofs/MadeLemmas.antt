@@ -22,7 +22,8 @@ use Rattle.predication.specs.Converted.{begun, ended, all_nodes, all_touched, pr
 use Rattle.predication.specs.Outcomes.{Counts, counts_of, HasRoomFor, IsRefusal}
 use Rattle.predication.specs.inside.Emits.{low, env_of, bits_of}
 use Rattle.predication.specs.inside.Ends.{End, out_of, ends, behind, ending_of, work_after}
-use Rattle.predication.specs.inside.Made.{writes_of, reads_of, mask_of, flow_of, flow_in, counts_by, counts_in, IsEmitted}
+use Rattle.predication.specs.inside.Made.{writes_of, reads_of, mask_of, flow_of, flow_in, counts_by, counts_in}
+use Rattle.predication.specs.inside.Made.{IsEmitted}
 use Rattle.predication.proofs.Static.{tail_number}
 use Rattle.predication.proofs.EndLemmas.{goes_on}
 use Rattle.predication.proofs.LegLemmas.{Came, Begins, leg_came}

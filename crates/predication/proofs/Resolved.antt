@@ -420,7 +420,8 @@ resolves_labels at b short fits =
     (length x.nodes) 0 0 x.env x.bits fits.tail refl refl in
     let ns : map (resolved_node at.address) (all_nodes (labelled b)) ≡ all_nodes (addressed at b) =
     map-append (resolved_node at.address) x.nodes (ended (labelled b)).nodes
-    ∙ ap₂ (λ (p q : List FlowNode). p ++ q) (kept_items at.address b.items None 0 0 at_start no_bits fits.items) z.nodes in
+    ∙ ap₂ (λ (p q : List FlowNode). p ++ q)
+    (kept_items at.address b.items None 0 0 at_start no_bits fits.items) z.nodes in
     let rs : all_touched (labelled b) ≡ all_touched (addressed at b) =
     ap (λ (l : List ℕ). touched b.items ++ l)
     (touched_same at.address short label b.tail ∙ sym (touched_same at.address short at.address b.tail)) in

@@ -264,7 +264,14 @@ module _ (T : ℕ → Type 0) where
   }
 
   genu_well : (j w : ℕ) → w < 65536 → Well j (constant_of op.Genu w [])
-  genu_well j w l = record { form = (l, refl, refl); taken_left = λ e. refl; taken_right = λ e. refl; left = tt; right = tt; guard = tt }
+  genu_well j w l = record {
+    form = (l, refl, refl);
+    taken_left = λ e. refl;
+    taken_right = λ e. refl;
+    left = tt;
+    right = tt;
+    guard = tt;
+  }
 
   app_well : (j w : ℕ) (ss : List FlowSource) → w < 65536 → EachGood j ss → Well j (constant_of op.App w ss)
   app_well j w ss l y = record {
@@ -695,11 +702,31 @@ module _ (T : ℕ → Type 0) where
   leaving_static : (x : Exit) (g : Scope) (j e : ℕ) (env : Env) → FitsExit x → GoodGuard j g → GoodEnv j env
       → Heard j (leaving g j e env x).nodes → e < 8 → Closed j (leaving g j e env x)
   leaving_static (exit.Jump l) g j e env t gg ge hd le = record {
-    nodes = (record { form = (t, le); taken_left = λ z. refl; taken_right = λ z. refl; left = tt; right = tt; guard = gg }, tt);
+    nodes = (
+      record {
+        form = (t, le);
+        taken_left = λ z. refl;
+        taken_right = λ z. refl;
+        left = tt;
+        right = tt;
+        guard = gg;
+      },
+      tt,
+    );
     env = λ k z. env_later j k env (omega (arith, z)) ge;
   }
   leaving_static (exit.System l) g j e env t gg ge hd le = record {
-    nodes = (record { form = (refl, le); taken_left = λ z. refl; taken_right = λ z. refl; left = tt; right = tt; guard = gg }, tt);
+    nodes = (
+      record {
+        form = (refl, le);
+        taken_left = λ z. refl;
+        taken_right = λ z. refl;
+        left = tt;
+        right = tt;
+        guard = gg;
+      },
+      tt,
+    );
     env = λ k z. env_later j k env (omega (arith, z)) ge;
   }
   leaving_static exit.Return g j e env t gg ge hd le =
@@ -733,7 +760,14 @@ module _ (T : ℕ → Type 0) where
       let w3 : Well i (mov_of g (Node (suc j) ∷ [])) =
       mov_well i g (Node (suc j) ∷ []) (guard_later j i g (omega arith) gg) ((omega arith, hd.1.0 refl), tt) in
       let w4 : Well (suc i) (branch_of op.Callo l e g []) =
-      record { form = (t.0, le); taken_left = λ z. refl; taken_right = λ z. refl; left = tt; right = tt; guard = guard_later j (suc i) g (omega arith) gg } in
+      record {
+        form = (t.0, le);
+        taken_left = λ z. refl;
+        taken_right = λ z. refl;
+        left = tt;
+        right = tt;
+        guard = guard_later j (suc i) g (omega arith) gg;
+      } in
       record {
         nodes = (w1, (w2, (w3, (w4, tt))));
         env = λ k z. put_good k env 2 (from_node i) (env_later j k env (omega (arith, z)) ge)

@@ -407,7 +407,10 @@ module _ (regs : ℕ → ℕ) (h : ℕ → Answer) (f : Computes) (st : ℕ → 
             met_store g (st m) _ u se ∙ save_stores (inst_of n) _ _ ga.word gb.word ga.gives gb.gives
             ∙ ap (λ (p : ℕ). Some (word_store (inst_of n) p gb.word)) ad in
             let mm2 = holds_store st mem m s.memory (inst_of n) ga.word gb.word ef mm in
-            let ws1 : Words s1 = record { registers = ws.registers; bytes = save_bytes o s.memory ga.word gb.word ws.bytes } in
+            let ws1 : Words s1 = record {
+              registers = ws.registers;
+              bytes = save_bytes o s.memory ga.word gb.word ws.bytes;
+            } in
             let z = w.means mt ws1 mm2 in
             let es : s1 ≡ with_memory s (saved o s.memory va vv) =
             ap (λ (p : ℕ). with_memory s (saved o s.memory p gb.word)) ea

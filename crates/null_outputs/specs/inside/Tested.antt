@@ -1,5 +1,5 @@
 -- The test of straight blocks, as the code makes it.
-use Rattle.std.specs.Prelude.{ℕ, zero, suc, Bool, true, false, not, ◌&&◌, ◌||◌, nat_lt, length}
+use Rattle.std.specs.Prelude.{ℕ, zero, suc, Bool, true, false, not, ◌&&◌, ◌||◌, nat_lt}
 use Rattle.std.specs.Prelude.{List, [], ◌∷◌, Option, Some, None}
 use Rattle.trips_isa.specs.Forms.{role_of, takes_left, takes_right}
 use Rattle.ir_forms.specs.declared.flow.FlowSource.{FlowSource}
@@ -36,30 +36,38 @@ is_plain y n =
     is_unguarded n.guard
     && (fed_if (takes_left (role_of n.op)) y n.left && fed_if (takes_right (role_of n.op)) y n.right)
 
--- the same of all nodes, the first of which is node y
-abbrev pub all_plain : ℕ → List FlowNode → Bool
-all_plain y [] = true
-all_plain y (n ∷ ns) = is_plain y n && all_plain (suc y) ns
+-- one more, where something is so, and else none
+abbrev pub counted : Bool → ℕ → ℕ
+counted true k = suc k
+counted false k = 0
+
+-- how many of some nodes, the first of which is node y, are plain before the first that is not
+abbrev pub plain_front : ℕ → List FlowNode → ℕ
+plain_front y [] = 0
+plain_front y (n ∷ ns) = counted (is_plain y n) (plain_front (suc y) ns)
 
 -- whether each write is fed
 abbrev pub all_fed : ℕ → List FlowWrite → Bool
 all_fed y [] = true
 all_fed y (w ∷ ws) = is_fed y w.sources && all_fed y ws
 
--- whether store number k has a store, if the mask has it
-abbrev pub number_fed : FlowBlock → ℕ → Bool
-number_fed b k = fed_if (in_mask b.mask k) (length b.nodes) (stores_of 0 b.nodes k)
+-- whether store number k has a store before node y, if the mask has it
+abbrev pub number_fed : FlowBlock → ℕ → ℕ → Bool
+number_fed b y k = fed_if (in_mask b.mask k) y (stores_of 0 b.nodes k)
 
 -- the same of m numbers from k on
-abbrev pub numbers_fed : FlowBlock → ℕ → ℕ → Bool
-numbers_fed b k zero = true
-numbers_fed b k (suc m) = number_fed b k && numbers_fed b (suc k) m
+abbrev pub numbers_fed : FlowBlock → ℕ → ℕ → ℕ → Bool
+numbers_fed b y k zero = true
+numbers_fed b y k (suc m) = number_fed b y k && numbers_fed b y (suc k) m
 
 -- the same of all numbers; not an `abbrev`, since the numeral unrolls
-unfoldable pub all_numbers_fed : FlowBlock → Bool
-all_numbers_fed b = numbers_fed b 0 32
+unfoldable pub all_numbers_fed : FlowBlock → ℕ → Bool
+all_numbers_fed b y = numbers_fed b y 0 32
 
--- whether a block is straight
+-- whether each write and number hangs on the nodes before node y
+abbrev pub hangs_on : FlowBlock → ℕ → Bool
+hangs_on b y = all_fed y b.writes && all_numbers_fed b y
+
+-- whether a block is straight; behind its front nodes may be guarded
 abbrev pub is_straight : FlowBlock → Bool
-is_straight b =
-    all_plain 0 b.nodes && (all_fed (length b.nodes) b.writes && all_numbers_fed b)
+is_straight b = hangs_on b (plain_front 0 b.nodes)

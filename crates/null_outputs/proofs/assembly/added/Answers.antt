@@ -3,7 +3,8 @@ use Rattle.null_outputs.proofs.assembly.added.Goals as goal
 
 pub returns : goal.returns
 returns c = λ is.
-    added_by_code c.args.block.now c.args.guess.now c.args.starts.now is c.as_slice-nodes.result.now c.as_slice.result.now
+    added_by_code c.args.block.now c.args.guess.now c.args.starts.now is c.as_slice-nodes.result.now
+    c.as_slice.result.now
     c.new-out.result c.push_guards.new.out c.push_guards-2.new.out c.push_lefts.new.out c.push_rights.new.out
     c.push_writes.new.out c.push_stores.new.out c.as_slice-nodes.ensures.value c.as_slice.ensures.value
     (record {

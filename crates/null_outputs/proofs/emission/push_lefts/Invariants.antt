@@ -7,10 +7,12 @@ abbrev pub invariant-loop-n : goal.invariant-loop-n
 invariant-loop-n l =
     (l.j ≡ l.n-index)
     × (l.out
-    ++ groups.region (groups.left_part (listed.sure_in_guess l.nodes l.guess) (listed.want_in_guess l.guess) (listed.cover_in l.nodes l.guess l.starts))
+    ++ groups.region (groups.left_part (listed.sure_in_guess l.nodes l.guess) (listed.want_in_guess l.guess)
+    (listed.cover_in l.nodes l.guess l.starts))
     (groups.left_size (listed.sure_in_guess l.nodes l.guess) (listed.want_in_guess l.guess))
     (length l.nodes + length l.out) l.j (drop l.n-index l.nodes)
     ≡ l.initial.out
-    ++ groups.region (groups.left_part (listed.sure_in_guess l.nodes l.guess) (listed.want_in_guess l.guess) (listed.cover_in l.nodes l.guess l.starts))
+    ++ groups.region (groups.left_part (listed.sure_in_guess l.nodes l.guess) (listed.want_in_guess l.guess)
+    (listed.cover_in l.nodes l.guess l.starts))
     (groups.left_size (listed.sure_in_guess l.nodes l.guess) (listed.want_in_guess l.guess))
     (length l.nodes + length l.initial.out) 0 l.nodes)

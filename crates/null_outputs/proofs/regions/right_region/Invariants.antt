@@ -7,7 +7,11 @@ use Rattle.null_outputs.proofs.regions.right_region.Given as goal
 abbrev pub invariant-loop-n : goal.invariant-loop-n
 invariant-loop-n l =
     (l.j ≡ l.n-index)
-    × (l.starts ++ sizes.starts (groups.right_size (listed.sure_in_guess l.nodes l.guess) (listed.want_in_guess l.guess)) l.p l.j (drop l.n-index l.nodes)
-    ≡ sizes.starts (groups.right_size (listed.sure_in_guess l.nodes l.guess) (listed.want_in_guess l.guess)) l.first 0 l.nodes)
-    × (groups.end_of (groups.right_size (listed.sure_in_guess l.nodes l.guess) (listed.want_in_guess l.guess)) l.p l.j (drop l.n-index l.nodes)
-    ≡ groups.end_of (groups.right_size (listed.sure_in_guess l.nodes l.guess) (listed.want_in_guess l.guess)) l.first 0 l.nodes)
+    × (l.starts ++ sizes.starts (groups.right_size (listed.sure_in_guess l.nodes l.guess)
+    (listed.want_in_guess l.guess)) l.p l.j (drop l.n-index l.nodes)
+    ≡ sizes.starts (groups.right_size (listed.sure_in_guess l.nodes l.guess) (listed.want_in_guess l.guess)) l.first 0
+    l.nodes)
+    × (groups.end_of (groups.right_size (listed.sure_in_guess l.nodes l.guess) (listed.want_in_guess l.guess)) l.p l.j
+    (drop l.n-index l.nodes)
+    ≡ groups.end_of (groups.right_size (listed.sure_in_guess l.nodes l.guess) (listed.want_in_guess l.guess))
+    l.first 0 l.nodes)

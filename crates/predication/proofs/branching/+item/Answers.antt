@@ -51,7 +51,8 @@ item-returns-in_ok-meet-in-If t c = λ rest.
     c.in_ok-items-in-If-2.ensures c.in_ok-meet-in-If.ensures.adds c.in_ok-meet-in-If.ensures.env
     c.in_ok-meet-in-If.ensures.bits c.in_ok-meet-in-If.ensures.sets rest
     ∙ ap (λ (x : Items). ends c.args.guard c.args.work.now c.args.names.now x)
-    (if_is c.args.item.now c.in-If.test c.in-If.yes c.in-If.no c.as_slice-in-If.result.now c.as_slice-in-If-3.result.now rest
+    (if_is c.args.item.now c.in-If.test c.in-If.yes c.in-If.no c.as_slice-in-If.result.now
+    c.as_slice-in-If-3.result.now rest
     c.in-If.is c.as_slice-in-If.ensures.value c.as_slice-in-If-3.ensures.value)
 
 pub items-loop-i-preserved : goal.items-loop-i-preserved

@@ -1,0 +1,141 @@
+//! Where the blocks of a program with every statement lead, under a plan that cuts everywhere and under
+//! one that cuts nowhere.
+
+use crate::making::{plan, program};
+use base::Memory;
+use hyper_build::build;
+use ir_forms::{Exit, HyperProgram, Tail};
+use std::alloc::Global;
+use std::process::Abort;
+
+/// A block's label, its exit, and, where it tests a word, its exit for 0.
+type Row = (usize, Exit, Option<Exit>);
+
+const CUT_EVERYWHERE: &[Row] = &[
+    (0, Exit::Call { to: 33, back: 1 }, None),
+    (1, Exit::System(2), None),
+    (2, Exit::System(3), None),
+    // the test of the stack, the parameters, the way to the body
+    (3, Exit::Jump(2), Some(Exit::Jump(4))),
+    (4, Exit::Jump(5), None),
+    (5, Exit::Jump(6), None),
+    (6, Exit::Jump(7), None),
+    (7, Exit::Jump(8), None),
+    (8, Exit::Jump(9), None),
+    // the loop: its test, its body, its post
+    (9, Exit::Jump(14), Some(Exit::Jump(10))),
+    (10, Exit::Jump(11), None),
+    (11, Exit::Jump(12), None),
+    (12, Exit::Jump(13), None),
+    (13, Exit::Jump(9), None),
+    // single statements
+    (14, Exit::Jump(15), None),
+    (15, Exit::Jump(16), None),
+    (16, Exit::Jump(17), None),
+    (17, Exit::Jump(18), None),
+    // the saves, the call, the restores, the result
+    (18, Exit::Jump(19), None),
+    (19, Exit::Jump(20), None),
+    (20, Exit::Call { to: 3, back: 21 }, None),
+    (21, Exit::Jump(22), None),
+    (22, Exit::Jump(23), None),
+    (23, Exit::Jump(24), None),
+    // a byte out, and one in
+    (24, Exit::System(25), None),
+    (25, Exit::System(26), None),
+    (26, Exit::Jump(27), None),
+    // the if, and the return
+    (27, Exit::Jump(28), Some(Exit::Jump(30))),
+    (28, Exit::Jump(29), None),
+    (29, Exit::Jump(32), None),
+    (30, Exit::Jump(31), None),
+    (31, Exit::Jump(32), None),
+    (32, Exit::Return, None),
+    // the other function
+    (33, Exit::Jump(2), Some(Exit::Jump(34))),
+    (50, Exit::Call { to: 3, back: 51 }, None),
+    (62, Exit::Return, None),
+];
+
+const CUT_NOWHERE: &[Row] = &[
+    (0, Exit::Call { to: 19, back: 1 }, None),
+    (1, Exit::System(2), None),
+    (2, Exit::System(3), None),
+    (3, Exit::Jump(2), Some(Exit::Jump(4))),
+    (4, Exit::Jump(5), None),
+    // the loop: its test, its body with its post, and its post alone
+    (5, Exit::Jump(8), Some(Exit::Jump(6))),
+    (6, Exit::Jump(5), None),
+    (7, Exit::Jump(5), None),
+    // single statements and the saves, the call, the restores
+    (8, Exit::Jump(9), None),
+    (9, Exit::Jump(10), None),
+    (10, Exit::Call { to: 3, back: 11 }, None),
+    (11, Exit::Jump(12), None),
+    (12, Exit::Jump(13), None),
+    // a byte out, and one in
+    (13, Exit::System(14), None),
+    (14, Exit::System(15), None),
+    // the if, and the return
+    (15, Exit::Jump(16), Some(Exit::Jump(17))),
+    (16, Exit::Jump(18), None),
+    (17, Exit::Jump(18), None),
+    (18, Exit::Return, None),
+    // the other function
+    (19, Exit::Jump(2), Some(Exit::Jump(20))),
+    (26, Exit::Call { to: 3, back: 27 }, None),
+    (34, Exit::Return, None),
+];
+
+/// How many statements and functions the program has.
+const PLACES: u32 = 34;
+
+fn built(alloc: Global, answers: u32) -> Result<HyperProgram, Memory> {
+    let assigned = program(alloc)?;
+    let plan = plan(alloc, answers, 0)?;
+    build(alloc, &assigned, &plan)
+}
+
+fn exit_of(tail: &Tail) -> Option<Exit> {
+    match tail {
+        Tail::Leave(exit) => Some(*exit),
+        Tail::Test { .. } => None,
+    }
+}
+
+/// A block's exit, or its two exits, that for 0 behind.
+fn exits(tail: &Tail) -> (Option<Exit>, Option<Exit>) {
+    match tail {
+        Tail::Leave(exit) => (Some(*exit), None),
+        Tail::Test { yes, no, .. } => (exit_of(yes.get()), exit_of(no.get())),
+    }
+}
+
+fn assert_exits(rt: &impl Abort, program: &HyperProgram, rows: &[Row]) {
+    for (label, exit, other) in rows {
+        match program.blocks.get(*label) {
+            None => assert!(rt; false, "block {label} is there"),
+            Some(block) => {
+                let (one, zero) = exits(&block.tail);
+                assert_eq!(rt; one, Some(*exit), "block {label}");
+                assert_eq!(rt; zero, *other, "block {label}, where the word is 0");
+            }
+        }
+    }
+}
+
+/// Under a plan with so many answers, none of which cuts, there are so many blocks, and they lead where
+/// the rows say.
+fn assert_built(rt: &impl Abort, alloc: Global, answers: u32, blocks: usize, rows: &[Row]) {
+    let program = built(alloc, answers).expect(rt, "memory");
+    assert_eq!(rt; program.blocks.len(), blocks, "{answers} answers");
+    assert_exits(rt, &program, rows);
+}
+
+/// Each function has the test of the stack, the way in, and 14 blocks of its body. Where all is cut, the
+/// parameters begin three blocks more, the way to the body one, and the body ten.
+#[test]
+fn every_statement_is_built(rt: HostRuntime) {
+    assert_built(&rt, rt.alloc(), 0, 63, CUT_EVERYWHERE);
+    assert_built(&rt, rt.alloc(), PLACES, 35, CUT_NOWHERE);
+}

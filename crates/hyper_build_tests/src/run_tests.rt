@@ -1,0 +1,104 @@
+//! What hyper programs put out and give under each plan, as a compiler of C has it.
+
+use crate::machine::Stop;
+use crate::running::{Cuts, assigned_of, built, run};
+use crate::texts;
+use reg_assign::Assigned;
+use std::alloc::Global;
+use std::process::Abort;
+
+/// A text with what it puts out for `INPUT`, and what it gives.
+#[derive(Clone, Copy)]
+struct Row {
+    name: &'static str,
+    text: &'static str,
+    output: &'static [u8],
+    stop: Stop,
+}
+
+const INPUT: &[u8] = b"Hello WORLD ~{ ok! no";
+
+const ROWS: &[Row] = &[
+    Row {
+        name: "loops with break and continue",
+        text: texts::LOOPS,
+        output: b"0007415",
+        stop: Stop::Ended(35),
+    },
+    Row {
+        name: "two groups of saved variables",
+        text: texts::SAVED,
+        output: b"",
+        stop: Stop::Ended(208),
+    },
+    Row {
+        name: "eight arguments",
+        text: texts::EIGHT,
+        output: b"",
+        stop: Stop::Ended(118),
+    },
+    Row {
+        name: "an array that is passed",
+        text: texts::BACKWARD,
+        output: b"o {~ DLROW olleH",
+        stop: Stop::Ended(16),
+    },
+    Row {
+        name: "a global array",
+        text: texts::PRIMES,
+        output: b"",
+        stop: Stop::Ended(440),
+    },
+    Row {
+        name: "recursion",
+        text: texts::CALLS,
+        output: b"y",
+        stop: Stop::Ended(144),
+    },
+    Row {
+        name: "legs",
+        text: texts::LONG_LEG,
+        output: b"ELLO..OK",
+        stop: Stop::Ended(606),
+    },
+    Row {
+        name: "a full stack",
+        text: texts::DEEP,
+        output: b"",
+        stop: Stop::Full,
+    },
+];
+
+/// What a row's program puts out and gives under a plan, and how many blocks it has.
+fn assert_run(rt: &impl Abort, alloc: Global, row: &Row, assigned: &Assigned, cuts: Cuts) -> usize {
+    let name = row.name;
+    let program = built(rt, alloc, assigned, cuts);
+    let ran = run(rt, alloc, &program, assigned.flat.bytes.as_slice(), INPUT);
+    assert_eq!(rt; ran.stop, row.stop, "{name}, {cuts:?}");
+    assert_eq!(rt; ran.output.as_slice(), row.output, "{name}, {cuts:?}");
+    program.blocks.len()
+}
+
+fn assert_row(rt: &impl Abort, alloc: Global, row: &Row) {
+    let name = row.name;
+    let assigned = assigned_of(rt, alloc, name, row.text);
+    let most = assert_run(rt, alloc, row, &assigned, Cuts::Everywhere);
+    let some = assert_run(rt, alloc, row, &assigned, Cuts::EachThird);
+    let few = assert_run(rt, alloc, row, &assigned, Cuts::Nowhere);
+    assert!(rt;
+        few < some && some < most,
+        "{name}: {few}, {some}, {most} blocks"
+    );
+}
+
+fn assert_rows(rt: &impl Abort, alloc: Global, rows: &[Row]) {
+    for row in rows {
+        assert_row(rt, alloc, row);
+    }
+}
+
+/// And a plan that cuts less has fewer blocks.
+#[test]
+fn hyper_programs_do_what_texts_mean_under_each_plan(rt: HostRuntime) {
+    assert_rows(&rt, rt.alloc(), ROWS);
+}

@@ -1,0 +1,81 @@
+//! Texts of C with every statement of the flat form.
+
+pub const LOOPS: &str = "#include <stdio.h>
+int main(void) {
+  int i; int j; int s = 0;
+  for (i = 0; i < 10; i++) {
+    if (i == 3) continue;
+    if (i == 8) break;
+    for (j = 0; j < i; j = j + 2) { s = s + j; if (s > 50) break; }
+    while (s % 7 != 0) s++;
+    putchar('0' + s % 10);
+  }
+  return s;
+}
+";
+
+pub const SAVED: &str = "int next(int n) { return n + 1; }
+int main(void) {
+  int a = 1; int b = 2; int c = 3; int d = 4; int e = 5; int f = 6; int g = 7; int h = 8; int i = 9;
+  int j = 10; int k = 11; int l = 12; int m = 13; int n = 14; int o = 15; int p = 16; int q = 17; int r = 18;
+  int s = next(a) + next(b) * 2;
+  s = s + next(next(c + d * next(e)));
+  return s + a + b + c + d + e + f + g + h + i + j + k + l + m + n + o + p + q + r;
+}
+";
+
+pub const EIGHT: &str = "int weigh(int a, int b, int c, int d, int e, int f, int g, int h) {
+  return a + 2 * b + 3 * c + 4 * d + 5 * e + 6 * f + 7 * g + 8 * h;
+}
+int four(int a, int b, int c, int d) { return weigh(a, b, c, d, d, c, b, a) - a; }
+int main(void) { return weigh(1, 2, 3, 4, 5, 6, 7, 8) - four(4, 3, 2, 1); }
+";
+
+pub const BACKWARD: &str = "#include <stdio.h>
+void show(char text[], int n) { while (n > 0) { n = n - 1; putchar(text[n]); } }
+int main(void) {
+  char text[16]; int n = 0; int c;
+  while ((c = getchar()) != EOF) { if (n == 16) break; text[n] = (char) c; n++; }
+  show(text, n);
+  return n;
+}
+";
+
+pub const PRIMES: &str = "#include <stdio.h>
+char marked[60]; long sum;
+int main(void) {
+  int i; int j;
+  for (i = 2; i < 60; i++) {
+    if (marked[i]) continue;
+    sum = sum + i;
+    for (j = i * i; j < 60; j = j + i) marked[j] = 1;
+  }
+  return (int) sum;
+}
+";
+
+pub const CALLS: &str = "#include <stdio.h>
+int odd(int n);
+int even(int n) { if (n == 0) return 1; return odd(n - 1); }
+int odd(int n) { if (n == 0) return 0; else return even(n - 1); }
+int fib(int n) { return n < 2 ? n : fib(n - 1) + fib(n - 2); }
+void nothing(void) { }
+int main(void) { nothing(); if (even(10) && !odd(4) || fib(3) == 7) putchar('y'); return fib(12); }
+";
+
+pub const LONG_LEG: &str = "#include <stdio.h>
+int main(void) {
+  int c; int up = 0; int low = 0; int other = 0;
+  while ((c = getchar()) != EOF) {
+    if (c >= 'a') { if (c <= 'z') { low++; putchar(c - 32); } else { other++; } }
+    else if (c >= 'A' && c <= 'Z') up++;
+    else { other++; if (c == '!') break; else continue; }
+    if (up > 2) { putchar('.'); up = 0; }
+  }
+  return low * 100 + up * 10 + other;
+}
+";
+
+pub const DEEP: &str = "int fall(int n) { int a[1000]; a[0] = n; return fall(n + 1) + a[0]; }
+int main(void) { return fall(0); }
+";
