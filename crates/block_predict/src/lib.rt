@@ -11,4 +11,4 @@ mod table;
 #[cfg(test)]
 mod tests;
 
-pub use predictor::Predictor;
+pub use predictor::{Predictor, entered};

@@ -40,6 +40,14 @@ fn place(number: u32, history: u16) -> usize
     ((number ^ history as u32) % 1024) as usize
 }
 
+/// The history after an exit has entered it.
+pub fn entered(history: u16, exit: u8) -> u16
+    ensures value { result ≡ spec.entered history exit }
+    ensures within { result < 1024 }
+{
+    ((8 * history as u32 + exit as u32) % 1024) as u16
+}
+
 // The newest number of the return stack.
 fn newest(stack: &HeapCircularBuffer<u32>) -> Option<u32>
     ensures value { result ≡ spec.newest stack.now.items }
@@ -121,7 +129,9 @@ impl Predictor {
     /// What `predict` would answer.
     pub fn peek(&self, image: &CheckedImage, number: u32) -> Option<u32>
         requires number { number < length image.now.blocks }
-        ensures { result ≡ spec.predicted image.now.blocks self.now number }
+        ensures value { result ≡ spec.predicted image.now.blocks self.now number }
+        ensures within { AreBlocks image.now.blocks self.now.stack
+            → IfSome result (λ n. n < length image.now.blocks) }
     {
         target(image, number, &self.stack, self.branch(image, number))
     }
@@ -153,8 +163,7 @@ impl Predictor {
         ensures keeps { AreBlocks image.now.blocks self.old.stack
             → AreBlocks image.now.blocks self.new.stack }
     {
-        let history = (8 * self.history as u32 + inst.number as u32) % 1024;
-        self.history = history as u16;
+        self.history = entered(self.history, inst.number);
         turn(&mut self.stack, image, number, inst.op);
     }
 
