@@ -1,0 +1,3 @@
+pub mod FlagFacts
+pub mod RowFacts
+pub mod NodeFacts

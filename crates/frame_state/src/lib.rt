@@ -1,0 +1,20 @@
+//! One frame in flight: what it holds, and the events that move it.
+//!
+//! A frame executes a block before it is known to be wanted (docs/WINDOW.md). [`Empty`] holds no block,
+//! [`Running`] gets its tokens, and [`Sealed`] has all its outputs; each call hands one on as the next.
+//! Contracts see a frame as what it holds beside its block, and with the block as the frame of the window's
+//! definitions.
+#![tactic(auto)]
+
+mod body;
+mod flags;
+mod marks;
+mod parts;
+mod row;
+mod rule;
+mod spots;
+mod states;
+mod target;
+
+pub use parts::{Departure, Lack, Outputs, Took};
+pub use states::{Empty, Running, Sealed};
