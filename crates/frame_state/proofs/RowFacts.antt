@@ -95,6 +95,7 @@ module _ {A : Type 0} (n : ℕ) where
 
   pub take_item : (there : List Bool) (items : List A) (q : ℕ) → length there ≡ n
       → row n (set there q false) items ≡ set (row n there items) q None
+  unfolding row
   take_item there items q lt = elim (cases_lt q n) [
     | inl h ↦ taken h
     | inr h ↦ ap (λ z. row n z items) (set_past there q false (omega arith))
@@ -102,7 +103,6 @@ module _ {A : Type 0} (n : ℕ) where
   ]
     where
       taken : q < n → row n (set there q false) items ≡ set (row n there items) q None
-      unfolding row
       taken h = set_made (row n there items) (item_at (set there q false) items) q None (length_row there items) h
           (ap (λ b. cond b (slice_get items q) None) (get_or-set_same there q false false (omega arith)))
           (λ j below ne. ap (λ b. cond b (slice_get items j) None) (get_or-set_other there q j false false ne)

@@ -9,12 +9,15 @@
 mod body;
 mod flags;
 mod marks;
+mod outcome;
 mod parts;
 mod row;
 mod rule;
+mod shape;
 mod spots;
 mod states;
 mod target;
 
+pub use body::Body;
 pub use parts::{Departure, Lack, Outputs, Took};
 pub use states::{Empty, Running, Sealed};

@@ -1,20 +1,22 @@
 //! A frame as its states: empty, running and sealed.
-ghost use Rattle.std.specs.Prelude.{◌≡◌, ◌<◌, ◌+◌, ◌*◌, ◌^◌, ◌||◌, ℕ, Some, None, length, IfOk, not};
+ghost use Rattle.std.specs.Prelude.{◌≡◌, ◌<◌, ◌+◌, ◌^◌, ◌||◌, Some, true, false, length, IfOk, IfErr, not};
 ghost use Rattle.std.specs.Prelude.{is_none, is_some, slice_get, slice_index_or};
 ghost use Rattle.trips_isa.specs.declared.block.Block.{Block};
 ghost use Rattle.trips_isa.specs.Stores.{stored_of};
 ghost use Rattle.block_cases.specs.Orders.{slot_of};
-ghost use Rattle.commit_flush_spec.specs.Frames.{at, fresh, is_target, slot_node, target, Taken};
+ghost use Rattle.commit_flush_spec.specs.Frames.{at, fresh, slot_node};
 ghost use Rattle.commit_flush_spec.specs.Sending.{mark_with, token_with};
 ghost use Rattle.commit_flush_spec.specs.Older.{Older};
 ghost use Rattle.commit_flush_spec.specs.Dataflow.{read_answered, fire, deliver};
 ghost use Rattle.commit_flush_spec.specs.Memory as memory;
-ghost use Rattle.commit_flush_spec.specs.Memory.{request, load, with_store};
-ghost use Rattle.commit_flush_spec.specs.Ends.{branch_of, branch_mark, with_exit, seal};
-ghost use Rattle.frame_state.specs.Held.{exit_of, taken_of, filled, running, sealed};
+ghost use Rattle.commit_flush_spec.specs.Memory.{request, load, taken_word, with_store};
+ghost use Rattle.commit_flush_spec.specs.Ends.{branch_of, branch_mark, with_exit, complete, seal, outputs, cause_held};
+ghost use Rattle.frame_state.specs.Held.{exit_of, filled, running, sealed};
+ghost use Rattle.frame_state.specs.Moves.{closed};
+ghost use Rattle.frame_state.specs.Effects.{effects_of};
 
 use crate::body::Body;
-use crate::parts::{Departure, Took};
+use crate::parts::{Departure, Outputs};
 use crate::target::{read_targets, slot_of, target};
 use std::alloc::{AllocError, Global};
 use std::marker::Model;
@@ -120,6 +122,132 @@ impl Running {
         self.body.deliver(place as usize, target);
     }
 
+    /// What waits with a number: its slot and its instruction.
+    pub fn request(&self, block: &Block, number: u8) -> Option<(u8, Inst)>
+        ensures value { result ≡ request (running block.now self.now) number }
+    {
+        let slot = self.body.request(number)?;
+        let inst = slot_of(block, slot as usize)?;
+        Some((slot, inst))
+    }
+
+    /// Answers the load that waits with a number, which is the instruction of this slot; `bytes` is the number
+    /// that the bytes which it sees make.
+    pub fn answer(&mut self, block: &Block, number: u8, slot: u8, inst: Inst, bytes: u64)
+        requires request { request (running block.now self.old) number ≡ Some (slot, inst) }
+        ensures value { (o : Older)
+            → bytes ≡ taken_word o (running block.now self.old) number (memory.taken_of inst (at self.old.spots slot))
+            → running block.now self.new ≡ load number o (running block.now self.old) }
+    {
+        let took = self.body.took(inst, slot);
+        self.body.answer(inst, slot, number, took, bytes);
+    }
+
+    /// Resolves the store that waits with a number, which is the instruction of this slot.
+    pub fn resolve(&mut self, block: &Block, number: u8, slot: u8, inst: Inst)
+        requires slot { slot_of block.now slot ≡ Some inst }
+        ensures value { running block.now self.new ≡ with_store number
+            (stored_of inst (at self.old.spots slot) (at self.old.spots (128 + slot)))
+            (mark_with (running block.now self.old) (slot_node block.now slot)) (running block.now self.old) }
+    {
+        self.body.resolve(inst, slot, number);
+    }
+
+    /// The branch that waits, with its token.
+    pub fn leaving(&self, block: &Block) -> Option<(Inst, Token)>
+        ensures value { result ≡ branch_of (running block.now self.now) self.now.leaving }
+    {
+        let slot = self.body.leaving()?;
+        let inst = slot_of(block, slot as usize)?;
+        let token = self.body.token_of(inst, slot, 0)?;
+        Some((inst, token))
+    }
+
+    // The mark of the branch that waits.
+    fn leaving_mark(&self, block: &Block) -> u8
+        ensures { result ≡ branch_mark (running block.now self.now) self.now.leaving }
+    {
+        match self.body.leaving() {
+            None => 0,
+            Some(slot) => match slot_of(block, slot as usize) {
+                None => 0,
+                Some(inst) => self.body.mark_of(inst, slot),
+            },
+        }
+    }
+
+    /// Makes an exit known; no branch waits any more.
+    pub fn leave(&mut self, block: &Block, exit: Option<Departure>)
+        ensures value { running block.now self.new ≡ with_exit (exit_of exit)
+            (branch_mark (running block.now self.old) self.old.leaving) (running block.now self.old) }
+    {
+        let mark = self.leaving_mark(block);
+        self.body.leave(exit, mark);
+    }
+
+    /// Whether all outputs have come.
+    pub fn is_complete(&self, block: &Block) -> bool
+        ensures value { result ≡ complete (running block.now self.now) }
+    {
+        self.body.is_complete(block.writes.len(), block.mask)
+    }
+
+    /// Seals a frame that has all its outputs, and hands back one that lacks some.
+    pub fn seal(self, block: &Block) -> Result<Sealed, Running>
+        ensures whole { IfOk result (λ f. complete (running block.now self) ≡ true) }
+        ensures sealed { IfOk result (λ f. (o : Older) → sealed block.now f ≡ seal o (running block.now self)) }
+        ensures kept { IfOk result (λ f. f ≡ closed self) }
+        ensures lacks { IfErr result (λ f. complete (running block.now self) ≡ false) }
+        ensures same { IfErr result (λ f. f ≡ self) }
+    {
+        if !self.is_complete(block) {
+            return Err(self);
+        }
+        let Running { body } = self;
+        let mut body = body;
+        body.close();
+        Ok(Sealed { body })
+    }
+
+    /// Whether a slot holds an instruction that has not fired.
+    pub fn has_inst(&self, block: &Block, slot: u8) -> bool
+        ensures value { result ≡ not (is_none (slot_of block.now slot) || slice_index_or self.now.fired slot false) }
+    {
+        slot_of(block, slot as usize).is_some() && !self.body.has_fired(slot)
+    }
+
+    /// Whether what has come lets the instruction of a slot give a token.
+    pub fn gives(&self, block: &Block, slot: u8) -> bool
+        ensures value { result ≡ is_some (token_with (running block.now self.now) (slot_node block.now slot) 0) }
+    {
+        match slot_of(block, slot as usize) {
+            None => false,
+            Some(inst) => self.body.token_of(inst, slot, 0).is_some(),
+        }
+    }
+
+    /// Whether a read is declared and not answered.
+    pub fn has_read(&self, block: &Block, read: u8) -> bool
+        ensures value { result ≡ not (is_none (slice_get block.now.reads.items read)
+            || slice_index_or self.now.reads read false) }
+    {
+        block.reads.as_slice().get(read as usize).is_some() && !self.body.is_read(read)
+    }
+
+    /// Whether a token is on its way in a place.
+    pub fn has_token(&self, place: u16) -> bool
+        ensures value { result ≡ is_some (at self.now.places place) }
+    {
+        self.body.has_token(place as usize)
+    }
+
+    /// What the frame holds.
+    pub fn held(&self) -> &Body
+        ensures { result.now ≡ self.now }
+    {
+        &self.body
+    }
+
     /// Flushes the frame.
     pub fn flush(self) -> Empty
         ensures { result ≡ self }
@@ -130,6 +258,27 @@ impl Running {
 }
 
 impl Sealed {
+    /// What the frame holds.
+    pub fn held(&self) -> &Body
+        ensures { result.now ≡ self.now }
+    {
+        &self.body
+    }
+
+    /// What the frame hands to its commit.
+    pub fn outputs(&self, block: &Block) -> Outputs
+        ensures value { effects_of result ≡ outputs (sealed block.now self.now) }
+    {
+        self.body.outputs(block.writes.len())
+    }
+
+    /// The least mark of the outputs, 0 for none.
+    pub fn cause(&self, block: &Block) -> u8
+        ensures value { result ≡ cause_held (sealed block.now self.now) }
+    {
+        self.body.cause(block.writes.len(), block.mask)
+    }
+
     /// Flushes the frame.
     pub fn flush(self) -> Empty
         ensures { result ≡ self }
