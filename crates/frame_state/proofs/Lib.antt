@@ -1,3 +1,4 @@
-pub mod FlagFacts
-pub mod RowFacts
+pub mod MarkFacts
 pub mod NodeFacts
+pub mod TargetFacts
+pub mod StandardFacts

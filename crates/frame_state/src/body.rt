@@ -18,16 +18,15 @@ ghost use Rattle.frame_state.specs.Moves.{slot_token, slot_mark, sent_to, sent_b
 ghost use Rattle.frame_state.specs.Moves.{moved, closed};
 ghost use Rattle.frame_state.specs.Effects.{effects_of, exit_or_first, effects_held};
 
-use crate::flags::Flags;
 use crate::marks::MarkRow;
 use crate::outcome::{
     least_of_numbers, least_of_writes, stores_came, stores_of, write_tokens, writes_came,
 };
 use crate::parts::{Departure, Outputs, Took};
-use crate::row::Row;
 use crate::rule::{gives, mark, stored, took};
 use crate::spots::Spots;
 use crate::target::{first_place, place_at};
+use bit_rows::{Flags, Row};
 use std::marker::Model;
 use trips_isa::{FIRST_WRITE, Form, Inst, Stored, Token, form_of, least};
 

@@ -7,17 +7,17 @@
 #![tactic(auto)]
 
 mod body;
-mod flags;
 mod marks;
 mod outcome;
 mod parts;
-mod row;
 mod rule;
 mod shape;
 mod spots;
 mod states;
 mod target;
+mod wants;
 
 pub use body::Body;
 pub use parts::{Departure, Lack, Outputs, Took};
+pub use shape::Shape;
 pub use states::{Empty, Running, Sealed};

@@ -2,7 +2,7 @@
 ghost use Rattle.std.specs.Prelude.{◌≡◌, ◌≤◌, ◌*◌, slice_index_or, slice_set};
 ghost use Rattle.commit_flush_spec.specs.Marks.{zeros};
 
-use crate::row::Row;
+use bit_rows::Row;
 use std::marker::Model;
 
 /// N marks, seen as the list of them. Only those other than 0 are kept.
@@ -13,7 +13,7 @@ pub struct MarkRow<const N: usize, const W: usize> {
 
 impl<const N: usize, const W: usize> Model for MarkRow<N, W> {
     ghost use Rattle.std.specs.Prelude.{ℕ, List};
-    ghost use Rattle.frame_state.specs.Rows.{marks_of};
+    ghost use Rattle.frame_state.specs.MarkRows.{marks_of};
 
     ghost Value = { List ℕ };
 

@@ -9,9 +9,9 @@ ghost use Rattle.commit_flush_spec.specs.Frames.{at, numbers};
 ghost use Rattle.commit_flush_spec.specs.Ends.{all_below};
 
 use crate::marks::MarkRow;
-use crate::row::Row;
 use crate::spots::Spots;
 use arrayvec::ArrayVec;
+use bit_rows::Row;
 use trips_isa::{FIRST_WRITE, Stored, Token, least};
 
 // Whether the mask has this store number.

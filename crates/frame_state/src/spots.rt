@@ -4,11 +4,10 @@ ghost use Rattle.std.specs.Prelude.{slice_index_or, slice_set};
 ghost use Rattle.trips_isa.specs.declared.block.Sense.TheVariants.{OnTrue, OnFalse};
 ghost use Rattle.trips_isa.specs.Rule.{matched};
 ghost use Rattle.commit_flush_spec.specs.Frames.{blank};
-ghost use Rattle.frame_state.specs.Rows.{has_bit};
+ghost use Rattle.bit_rows.specs.Rows.{has_bit};
 
-use crate::flags::Flags;
-use crate::row::Row;
 use crate::rule::is_matched;
+use bit_rows::{Flags, Row};
 use std::marker::Model;
 use trips_isa::{Sense, Token};
 

@@ -1,7 +1,7 @@
 //! Flags in words of 64 bits.
 ghost use Rattle.std.specs.Prelude.{◌≡◌, ◌<◌, ◌≤◌, ◌+◌, ◌*◌, ℕ, true, false, length, slice_index_or, slice_set};
 ghost use Rattle.commit_flush_spec.specs.Frames.{unset};
-ghost use Rattle.frame_state.specs.Rows.{has_bit};
+ghost use Rattle.bit_rows.specs.Rows.{has_bit};
 
 use std::marker::Model;
 
@@ -13,7 +13,7 @@ pub struct Flags<const N: usize, const W: usize> {
 
 impl<const N: usize, const W: usize> Model for Flags<N, W> {
     ghost use Rattle.std.specs.Prelude.{◌≡◌, ◌≤◌, ◌*◌, Bool, List, length};
-    ghost use Rattle.frame_state.specs.Rows.{flags};
+    ghost use Rattle.bit_rows.specs.Rows.{flags};
 
     ghost Value = { List Bool };
 

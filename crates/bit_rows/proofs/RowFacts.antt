@@ -8,11 +8,9 @@ use Rattle.std.proofs.lemmas.List.FromFn.{length-map-range_with_len, get_or-map-
 use Rattle.std.proofs.lemmas.List.{get_or-replicate, length-replicate, get_or_past, set_past}
 use Rattle.std.proofs.lemmas.Bool.{cases_eq, cases_lt}
 use Rattle.std.proofs.lemmas.Grind.{get_or-set_at}
-use Rattle.trips_isa.specs.Marks.{or_unmarked}
-use Rattle.commit_flush_spec.specs.Marks.{zeros}
 use Rattle.commit_flush_spec.specs.Frames.{blank, emptied, unset}
-use Rattle.frame_state.specs.Rows.{item_at, row, marks_of}
-use Rattle.frame_state.proofs.FlagFacts.{get_unset}
+use Rattle.bit_rows.specs.Rows.{item_at, row}
+use Rattle.bit_rows.proofs.FlagFacts.{get_unset}
 
 -- lists -----------------------------------------------------------------------------------------
 
@@ -126,9 +124,3 @@ module _ {A : Type 0} (n : ℕ) where
       all : (ys : List (Option A)) → replicate (length ys) None ≡ emptied ys
       all [] = refl
       all (y ∷ ys) = ap (λ zs. None ∷ zs) (all ys)
-
--- marks -----------------------------------------------------------------------------------------
-
-pub no_marks : (n : ℕ) → marks_of (blank n) ≡ zeros n
-unfolding blank zeros
-no_marks n = map_blank or_unmarked n None

@@ -4,7 +4,6 @@ use Rattle.std.specs.Prelude.{ℕ, ◌/◌, ◌%◌, ◌==◌, Bool, false, cond
 use Rattle.std.specs.Prelude.{get_or, slice_get, slice_index_or}
 use Rattle.std.specs.Int.{bit_at}
 use Rattle.std.specs.List.{range_with_len}
-use Rattle.trips_isa.specs.Marks.{or_unmarked}
 
 -- whether bit i of a word is 1
 abbrev pub has_bit : ℕ → ℕ → Bool
@@ -25,7 +24,3 @@ item_at there items q = cond (slice_index_or there q false) (slice_get items q) 
 -- the first n items of a row; not an `abbrev` for the same reason
 unfoldable pub row : {A : Type 0} → ℕ → List Bool → List A → List (Option A)
 row n there items = map (item_at there items) (range_with_len 0 n)
-
--- a mark is kept only where it is not 0
-abbrev pub marks_of : List (Option ℕ) → List ℕ
-marks_of xs = map or_unmarked xs

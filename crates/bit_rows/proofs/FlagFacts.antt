@@ -12,7 +12,7 @@ use Rattle.std.proofs.lemmas.List.{get_or-replicate, length-replicate, get_or_pa
 use Rattle.std.proofs.lemmas.Bool.{cases_eq, cases_lt}
 use Rattle.std.proofs.lemmas.Grind.{get_or-set_at}
 use Rattle.commit_flush_spec.specs.Frames.{unset}
-use Rattle.frame_state.specs.Rows.{has_bit, has_flag, flags}
+use Rattle.bit_rows.specs.Rows.{has_bit, has_flag, flags}
 
 pub length_flags : (n : ℕ) (ws : List ℕ) → length (flags n ws) ≡ n
 unfolding flags

@@ -2,7 +2,7 @@
 ghost use Rattle.std.specs.Prelude.{◌≡◌, ◌<◌, ◌≤◌, ◌+◌, ◌*◌, ℕ, None, Some, false, length, is_some};
 ghost use Rattle.std.specs.Prelude.{slice_index_or, slice_set};
 ghost use Rattle.commit_flush_spec.specs.Frames.{blank, emptied};
-ghost use Rattle.frame_state.specs.Rows.{has_bit};
+ghost use Rattle.bit_rows.specs.Rows.{has_bit};
 
 use crate::flags::Flags;
 use std::marker::Model;
@@ -18,7 +18,7 @@ pub struct Row<T, const N: usize, const W: usize> {
 impl<T, const N: usize, const W: usize> Model for Row<T, N, W> {
     ghost use Rattle.std.specs.Prelude.{◌≡◌, List, Option, length};
     ghost use Rattle.std.specs.Coded.{coded_list, coded_option};
-    ghost use Rattle.frame_state.specs.Rows.{row};
+    ghost use Rattle.bit_rows.specs.Rows.{row};
 
     ghost Value = { List (Option T) };
 
