@@ -6,7 +6,7 @@ ghost use Rattle.bit_rows.specs.Rows.{has_bit};
 use std::marker::Model;
 
 /// N flags in W words, seen as the list of them.
-#[derive(Debug, Drop)]
+#[derive(Drop)]
 pub struct Flags<const N: usize, const W: usize> {
     words: [u64; W],
 }

@@ -9,7 +9,7 @@ use std::marker::Model;
 
 /// N items of which each may be there or not, seen as the list of them. W words of flags say which are,
 /// so that W writes clear the row, and what an item was is not looked at once it has been taken.
-#[derive(Debug, Drop)]
+#[derive(Drop)]
 pub struct Row<T, const N: usize, const W: usize> {
     there: Flags<N, W>,
     items: [T; N],

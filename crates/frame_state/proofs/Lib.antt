@@ -1,4 +1,5 @@
 pub mod MarkFacts
 pub mod NodeFacts
 pub mod TargetFacts
+pub mod ReadyFacts
 pub mod StandardFacts

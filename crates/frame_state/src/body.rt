@@ -23,7 +23,9 @@ use crate::outcome::{
     least_of_numbers, least_of_writes, stores_came, stores_of, write_tokens, writes_came,
 };
 use crate::parts::{Departure, Outputs, Took};
+use crate::ready::{come, matching, ready, waiting};
 use crate::rule::{gives, mark, stored, took};
+use crate::shape::Shape;
 use crate::spots::Spots;
 use crate::target::{first_place, place_at};
 use bit_rows::{Flags, Row};
@@ -34,7 +36,7 @@ use trips_isa::{FIRST_WRITE, Form, Inst, Stored, Token, form_of, least};
 ///
 /// It takes 13 KB, so it stays in one place of the heap; some forty words say what is there, and those alone are
 /// cleared when the frame is filled again.
-#[derive(Debug, Drop)]
+#[derive(Drop)]
 pub struct Body {
     number: u8,
     block: u32,
@@ -502,5 +504,28 @@ impl Body {
     {
         let numbers = least(least_of_numbers(&self.store_marks, mask), self.exit_mark);
         least(least_of_writes(&self.spot_marks, writes), numbers)
+    }
+
+    ghost use Rattle.frame_state.specs.Held.{running};
+    ghost use Rattle.frame_state.specs.Shapes.{IsShape, is_ready};
+    ghost use Rattle.bit_rows.specs.Rows.{has_bit};
+
+    /// Which slots from number 64 k on are ready, as bits.
+    pub fn ready(&self, shape: &Shape, k: usize) -> u64
+        requires { k < 2 }
+        ensures value { (b : Block) → IsShape b shape.now → (s : ℕ) → s < 64
+            → has_bit result s ≡ is_ready (running b self.now) (64 * k + s) }
+    {
+        ready(
+            waiting(shape.there.word(k), self.fired.word(k)),
+            come(shape.left.word(k), self.spots.word(k)),
+            come(shape.right.word(k), self.spots.word(2 + k)),
+            matching(
+                shape.on_true.word(k),
+                shape.on_false.word(k),
+                self.spots.odd(k),
+                self.spots.even(k),
+            ),
+        )
     }
 }

@@ -10,6 +10,7 @@ mod body;
 mod marks;
 mod outcome;
 mod parts;
+mod ready;
 mod rule;
 mod shape;
 mod spots;

@@ -6,7 +6,7 @@ use bit_rows::Row;
 use std::marker::Model;
 
 /// N marks, seen as the list of them. Only those other than 0 are kept.
-#[derive(Debug, Drop)]
+#[derive(Drop)]
 pub struct MarkRow<const N: usize, const W: usize> {
     row: Row<u8, N, W>,
 }

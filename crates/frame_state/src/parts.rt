@@ -27,7 +27,7 @@ pub enum Lack {
 
 /// What a sealed frame hands to its commit: the token of each write, the stores in ascending order of
 /// number, the exit, whether a system call follows, and the next block.
-#[derive(Debug, Drop)]
+#[derive(Drop)]
 pub struct Outputs {
     pub writes: ArrayVec<Token, 32>,
     pub stores: ArrayVec<Stored, 32>,

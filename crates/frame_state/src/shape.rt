@@ -9,7 +9,7 @@ use bit_rows::Flags;
 use trips_isa::{Block, Inst, Role, Sense, role_of};
 
 /// What the slots of a block want, as flags by slot. It is made once for a block.
-#[derive(Debug, Drop)]
+#[derive(Drop)]
 pub struct Shape {
     pub(crate) there: Flags<128, 2>,
     pub(crate) left: Flags<128, 2>,

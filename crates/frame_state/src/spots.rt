@@ -13,7 +13,7 @@ use trips_isa::{Sense, Token};
 
 /// The tokens at operands, predicates and writes, by place of the block. Beside them it keeps which
 /// predicates have come, so that the ready slots are known without looking at tokens.
-#[derive(Debug, Drop)]
+#[derive(Drop)]
 pub struct Spots {
     row: Row<Token, 416, 7>,
     odd: Flags<128, 2>,

@@ -24,7 +24,7 @@ use trips_isa::{Block, Inst, Token};
 
 /// A frame that holds no block. Contracts see what it held before, of which only its number and its
 /// generation are kept.
-#[derive(Debug, Drop)]
+#[derive(Drop)]
 pub struct Empty {
     body: Box<Body>,
 }
@@ -38,7 +38,6 @@ impl Model for Empty {
 }
 
 /// A frame whose tokens come. It has to be sealed or flushed.
-#[derive(Debug)]
 pub struct Running {
     body: Box<Body>,
 }
@@ -52,7 +51,6 @@ impl Model for Running {
 }
 
 /// A frame that has all its outputs. It has to be flushed.
-#[derive(Debug)]
 pub struct Sealed {
     body: Box<Body>,
 }
