@@ -1,6 +1,6 @@
 -- What a write of a word is to the flags.
 use Rattle.std.proofs.Common.{◌≡◌, ◌≢◌, ◌<◌, ◌≤◌, ◌+◌, ◌-◌, ◌*◌, ◌/◌, ◌%◌, ◌^◌, ◌==◌, ◌&&◌, ℕ, Bool, true, false}
-use Rattle.std.proofs.Common.{List, length, get_or, set, map, replicate, refl, sym, ap, ◌∙◌, arith, inl, inr}
+use Rattle.std.proofs.Common.{List, length, get_or, set, map, nat_lt, replicate, refl, sym, ap, ◌∙◌, arith, inl, inr}
 use Rattle.std.specs.List.{range_with_len}
 use mir.Syntax.{w64}
 use Rattle.std.specs.Int.RustNames.{bit_or, bit_and}
@@ -10,9 +10,9 @@ use Rattle.std.proofs.lemmas.Nat.Bits.{shr_and_one, bit_at-zero}
 use Rattle.std.proofs.Common.{get_or-set_other, get_or-set_same, length-set}
 use Rattle.std.proofs.lemmas.List.{get_or-replicate, length-replicate, get_or_past}
 use Rattle.std.proofs.lemmas.Bool.{cases_eq, cases_lt}
+use Rattle.std.proofs.lemmas.Bool.Decides.{nat_tests}
 use Rattle.std.proofs.lemmas.Grind.{get_or-set_at}
-use Rattle.commit_flush_spec.specs.Frames.{unset}
-use Rattle.bit_rows.specs.Rows.{has_bit, has_flag, flags}
+use Rattle.bit_rows.specs.Rows.{has_bit, has_flag, flags, no_flags}
 
 pub length_flags : (n : ℕ) (ws : List ℕ) → length (flags n ws) ≡ n
 unfolding flags
@@ -76,26 +76,29 @@ take_flag n ws q h wide =
     changed n ws q _ false h wide (ap (λ z. z == 1) (bit_at_clear_same w64 (get_or ws (q / 64) 0) (q % 64) near))
     (λ j fits ne. ap (λ z. z == 1) (bit_at_clear_other w64 (get_or ws (q / 64) 0) (q % 64) near j fits ne))
 
+abbrev pub zeros_of : ℕ → List ℕ
+zeros_of m = replicate m 0
+
 -- words of zeros
-pub none_set : (n m : ℕ) → flags n (replicate m 0) ≡ unset n
-unfolding flags unset
-none_set n m = sym (fill_by_all (has_flag (replicate m 0)) (replicate n false) n false (length-replicate n false)
+pub none_set : (n m : ℕ) → flags n (zeros_of m) ≡ no_flags n
+unfolding flags no_flags
+none_set n m = sym (fill_by_all (has_flag (zeros_of m)) (replicate n false) n false (length-replicate n false)
     (λ k h. get_or-replicate n k false false h ∙ sym (ap (λ z. has_bit z (k % 64)) (zero_at (k / 64))
     ∙ ap (λ z. z == 1) (bit_at-zero (k % 64)))))
   where
-    zero_at : (i : ℕ) → get_or (replicate m 0) i 0 ≡ 0
+    zero_at : (i : ℕ) → get_or (zeros_of m) i 0 ≡ 0
     zero_at i = elim (cases_lt i m) [
       | inl h ↦ get_or-replicate m i 0 0 h
       | inr h ↦ let z : ℕ = 0 in let e : length (replicate m z) ≤ i = omega (arith, length-replicate m z) in
           get_or_past (replicate m z) i 0 e
     ]
 
-pub length_unset : (n : ℕ) → length (unset n) ≡ n
-unfolding unset
+pub length_unset : (n : ℕ) → length (no_flags n) ≡ n
+unfolding no_flags
 length_unset n = length-replicate n false
 
-pub get_unset : (n q : ℕ) → get_or (unset n) q false ≡ false
-unfolding unset
+pub get_unset : (n q : ℕ) → get_or (no_flags n) q false ≡ false
+unfolding no_flags
 get_unset n q = elim (cases_lt q n) [
   | inl h ↦ get_or-replicate n q false false h
   | inr h ↦ get_or_past (replicate n false) q false (omega (arith, length-replicate n false))
@@ -109,3 +112,9 @@ word_flag n ws k s h inside =
     let m : (64 * k + s) % 64 ≡ s = omega arith in
     ap (λ z. has_bit (get_or ws z 0) s) (sym d) ∙ ap (λ z. has_bit (get_or ws ((64 * k + s) / 64) 0) z) (sym m)
     ∙ sym (get_flags n ws (64 * k + s) inside)
+
+-- no flag past the last is set
+pub past_flag : (n : ℕ) (ws : List ℕ) (q : ℕ) → n ≤ q → nat_lt q n ≡ get_or (flags n ws) q false
+past_flag n ws q h =
+    let t : nat_lt q n ≡ false = grind (arith, nat_tests, h) in
+    t ∙ sym (get_or_past (flags n ws) q false (omega (arith, length_flags n ws)))

@@ -8,8 +8,7 @@ use Rattle.std.proofs.lemmas.List.FromFn.{length-map-range_with_len, get_or-map-
 use Rattle.std.proofs.lemmas.List.{get_or-replicate, length-replicate, get_or_past, set_past}
 use Rattle.std.proofs.lemmas.Bool.{cases_eq, cases_lt}
 use Rattle.std.proofs.lemmas.Grind.{get_or-set_at}
-use Rattle.commit_flush_spec.specs.Frames.{blank, emptied, unset}
-use Rattle.bit_rows.specs.Rows.{item_at, row}
+use Rattle.bit_rows.specs.Rows.{item_at, row, no_flags, no_items}
 use Rattle.bit_rows.proofs.FlagFacts.{get_unset}
 
 -- lists -----------------------------------------------------------------------------------------
@@ -29,10 +28,15 @@ map_blank f zero x = refl
 map_blank f (suc n) x = ap (λ zs. f x ∷ zs) (map_blank f n x)
 
 -- the item that is read, whatever stands for none
-pub item_is : {A : Type 0} → (xs : List A) (q : ℕ) (x : A) → q < length xs → x ≡ get_or xs q x → slice_get xs q ≡ Some x
-item_is [] q x h e = absurd (omega arith)
-item_is (y ∷ xs) zero x h e = ap Some (sym e)
-item_is (y ∷ xs) (suc q) x h e = item_is xs q x (omega arith) e
+pub item_is : {A : Type 0} → (xs : List A) (q : ℕ) (d : A) → q < length xs → slice_get xs q ≡ Some (get_or xs q d)
+item_is [] q d h = absurd (omega arith)
+item_is (y ∷ xs) zero d h = refl
+item_is (y ∷ xs) (suc q) d h = item_is xs q d (omega arith)
+
+pub item_some : {A : Type 0} → (xs : List A) (q : ℕ) → q < length xs → is_some (slice_get xs q) ≡ true
+item_some [] q h = absurd (omega arith)
+item_some (y ∷ xs) zero h = refl
+item_some (y ∷ xs) (suc q) h = item_some xs q (omega arith)
 
 got_same : {A : Type 0} → (xs : List A) (q : ℕ) (x : A) → q < length xs → slice_get (set xs q x) q ≡ Some x
 got_same [] q x h = absurd (omega arith)
@@ -59,15 +63,29 @@ module _ {A : Type 0} (n : ℕ) where
   get_row there items q h = get_or-map-range_with_len (item_at there items) 0 n q q None h (omega arith)
 
   -- the item of a number, where its flag is set
-  pub item_there : (there : List Bool) (items : List A) (q : ℕ) (x : A) → q < n → n ≤ length items
-      → get_or there q false ≡ true → x ≡ get_or items q x → Some x ≡ get_or (row n there items) q None
-  item_there there items q x h l t e =
-      sym (get_row there items q h ∙ ap (λ b. cond b (slice_get items q) None) t ∙ item_is items q x (omega arith) e)
+  pub item_there : (there : List Bool) (items : List A) (q : ℕ) (d : A) → q < n → length items ≡ n
+      → true ≡ get_or there q false → Some (get_or items q d) ≡ get_or (row n there items) q None
+  item_there there items q d h l t =
+      sym (get_row there items q h ∙ ap (λ b. cond b (slice_get items q) None) (sym t)
+      ∙ item_is items q d (omega arith))
 
-  pub item_gone : (there : List Bool) (items : List A) (q : ℕ) → get_or there q false ≡ false
+  -- a flag says whether the item is there
+  pub flag_some : (there : List Bool) (items : List A) (q : ℕ) → q < n → length items ≡ n
+      → get_or there q false ≡ is_some (get_or (row n there items) q None)
+  flag_some there items q h l = go (get_or there q false) ∙ sym (ap is_some (get_row there items q h))
+    where
+      go : (b : Bool) → b ≡ is_some (cond b (slice_get items q) None)
+      go true = sym (item_some items q (omega arith))
+      go false = refl
+
+  pub item_past : (there : List Bool) (items : List A) (q : ℕ) → n ≤ q
+      → None ≡ get_or (row n there items) q None
+  item_past there items q h = sym (get_or_past (row n there items) q None (omega (arith, length_row there items)))
+
+  pub item_gone : (there : List Bool) (items : List A) (q : ℕ) → false ≡ get_or there q false
       → None ≡ get_or (row n there items) q None
   item_gone there items q t = elim (cases_lt q n) [
-    | inl h ↦ sym (get_row there items q h ∙ ap (λ b. cond b (slice_get items q) None) t)
+    | inl h ↦ sym (get_row there items q h ∙ ap (λ b. cond b (slice_get items q) None) (sym t))
     | inr h ↦ sym (get_or_past (row n there items) q None (omega (arith, length_row there items)))
   ]
 
@@ -112,15 +130,15 @@ module _ {A : Type 0} (n : ℕ) where
       ap (λ z. row n z items) (set_past there q true (omega arith))
       ∙ sym (set_past (row n there items) q (Some x) (omega (arith, length_row there items)))
 
-  pub none_there : (items : List A) → row n (unset n) items ≡ blank n
-  unfolding row blank
-  none_there items = sym (fill_by_all (item_at (unset n) items) (replicate n None) n None (length-replicate n None)
+  pub none_there : (items : List A) → row n (no_flags n) items ≡ no_items n
+  unfolding row no_items
+  none_there items = sym (fill_by_all (item_at (no_flags n) items) (replicate n None) n None (length-replicate n None)
       (λ k h. get_or-replicate n k None None h ∙ sym (ap (λ b. cond b (slice_get items k) None) (get_unset n k))))
 
-  pub blank_emptied : (xs : List (Option A)) → length xs ≡ n → blank n ≡ emptied xs
-  unfolding blank
-  blank_emptied xs l = ap (λ k. replicate k None) (sym l) ∙ all xs
+  pub none_mapped : (xs : List (Option A)) → length xs ≡ n → no_items {A = A} n ≡ map (λ x. None {A = A}) xs
+  unfolding no_items
+  none_mapped xs l = ap (λ k. replicate k None) (sym l) ∙ all xs
     where
-      all : (ys : List (Option A)) → replicate (length ys) None ≡ emptied ys
+      all : (ys : List (Option A)) → replicate (length ys) (None {A = A}) ≡ map (λ x. None {A = A}) ys
       all [] = refl
       all (y ∷ ys) = ap (λ zs. None ∷ zs) (all ys)

@@ -1,7 +1,7 @@
 //! Flags in words of 64 bits.
-ghost use Rattle.std.specs.Prelude.{◌≡◌, ◌<◌, ◌≤◌, ◌+◌, ◌*◌, ℕ, true, false, length, slice_index_or, slice_set};
-ghost use Rattle.commit_flush_spec.specs.Frames.{unset};
-ghost use Rattle.bit_rows.specs.Rows.{has_bit};
+ghost use Rattle.std.specs.Prelude.{◌≡◌, ◌<◌, ◌≤◌, ◌+◌, ◌*◌, ℕ, true, false, length, replicate};
+ghost use Rattle.std.specs.Prelude.{slice_index_or, slice_set};
+ghost use Rattle.bit_rows.specs.Rows.{has_bit, no_flags};
 
 use std::marker::Model;
 
@@ -22,13 +22,20 @@ impl<const N: usize, const W: usize> Model for Flags<N, W> {
     ghost invariant = { λ f. (N ≤ 64 * W) × (length f.words ≡ W) };
 }
 
+// Words without a bit.
+fn zeros<const W: usize>() -> [u64; W]
+    ensures { result ≡ replicate W 0 }
+{
+    [0; W]
+}
+
 impl<const N: usize, const W: usize> Flags<N, W> {
     /// No flag is set. The words have room for all.
     pub fn none() -> Flags<N, W>
         requires { N ≤ 64 * W }
-        ensures { result ≡ unset N }
+        ensures { result ≡ no_flags N }
     {
-        Flags { words: [0; W] }
+        Flags { words: zeros() }
     }
 
     /// Whether a flag is set; none past the last is.
@@ -76,9 +83,9 @@ impl<const N: usize, const W: usize> Flags<N, W> {
 
     /// Clears all flags.
     pub fn clear(&mut self)
-        ensures value { self.new ≡ unset N }
+        ensures value { self.new ≡ no_flags N }
     {
-        self.words = [0; W];
+        self.words = zeros();
     }
 
     /// The flags from number 64 k on as bits.

@@ -7,6 +7,8 @@
 
 mod flags;
 mod row;
+#[cfg(test)]
+mod tests;
 
 pub use flags::Flags;
 pub use row::Row;

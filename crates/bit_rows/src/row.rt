@@ -1,8 +1,7 @@
 //! Rows of items, each of which may be there or not.
-ghost use Rattle.std.specs.Prelude.{◌≡◌, ◌<◌, ◌≤◌, ◌+◌, ◌*◌, ℕ, None, Some, false, length, is_some};
+ghost use Rattle.std.specs.Prelude.{◌≡◌, ◌<◌, ◌≤◌, ◌+◌, ◌*◌, ℕ, None, Some, false, length, map, is_some};
 ghost use Rattle.std.specs.Prelude.{slice_index_or, slice_set};
-ghost use Rattle.commit_flush_spec.specs.Frames.{blank, emptied};
-ghost use Rattle.bit_rows.specs.Rows.{has_bit};
+ghost use Rattle.bit_rows.specs.Rows.{has_bit, no_items};
 
 use crate::flags::Flags;
 use std::marker::Model;
@@ -33,7 +32,7 @@ impl<T: Copy, const N: usize, const W: usize> Row<T, N, W> {
     /// No item is there. The words have room for a flag of each.
     pub fn none(item: T) -> Row<T, N, W>
         requires { N ≤ 64 * W }
-        ensures { result ≡ blank N }
+        ensures { result ≡ no_items N }
     {
         Row {
             there: Flags::none(),
@@ -89,8 +88,8 @@ impl<T: Copy, const N: usize, const W: usize> Row<T, N, W> {
 
     /// Takes all items away.
     pub fn clear(&mut self)
-        ensures value { self.new ≡ blank N }
-        ensures same { self.new ≡ emptied self.old }
+        ensures value { self.new ≡ no_items N }
+        ensures same { self.new ≡ map (λ x. None) self.old }
     {
         self.there.clear();
     }

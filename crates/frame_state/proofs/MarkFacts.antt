@@ -2,13 +2,23 @@
 use Rattle.std.proofs.Common.{◌≡◌, ℕ, zero, suc, List, [], ◌∷◌, map, replicate, set, get_or, Option, Some, None, refl, sym, ap, ◌∙◌}
 use Rattle.trips_isa.specs.Marks.{or_unmarked}
 use Rattle.commit_flush_spec.specs.Marks.{zeros}
-use Rattle.commit_flush_spec.specs.Frames.{blank}
+use Rattle.commit_flush_spec.specs.Frames.{blank, unset}
+use Rattle.bit_rows.specs.Rows.{no_flags, no_items}
 use Rattle.bit_rows.proofs.RowFacts.{map_set, get_map, map_blank}
 use Rattle.frame_state.specs.MarkRows.{marks_of}
 use Rattle.frame_state.specs.Held.{taken_if, all_taken}
 
-pub no_marks : (n : ℕ) → marks_of (blank n) ≡ zeros n
-unfolding blank zeros
+-- the same in the words of the window's frames
+pub bare_items : {A : Type 0} → (n : ℕ) → no_items {A = A} n ≡ blank n
+unfolding no_items blank
+bare_items n = refl
+
+pub bare_flags : (n : ℕ) → no_flags n ≡ unset n
+unfolding no_flags unset
+bare_flags n = refl
+
+pub no_marks : (n : ℕ) → marks_of (no_items n) ≡ zeros n
+unfolding no_items zeros
 no_marks n = map_blank or_unmarked n None
 
 pub mark_got : (xs : List (Option ℕ)) (q : ℕ) → or_unmarked (get_or xs q None) ≡ get_or (marks_of xs) q 0
@@ -20,6 +30,6 @@ mark_set xs q c = map_set or_unmarked xs q (Some c)
 pub mark_cleared : (xs : List (Option ℕ)) (q : ℕ) → marks_of (set xs q None) ≡ set (marks_of xs) q 0
 mark_cleared xs q = map_set or_unmarked xs q None
 
-pub none_taken : (n : ℕ) → all_taken (blank n) ≡ blank n
-unfolding blank
+pub none_taken : (n : ℕ) → all_taken (no_items n) ≡ blank n
+unfolding no_items blank
 none_taken n = map_blank taken_if n None

@@ -16,6 +16,8 @@ mod shape;
 mod spots;
 mod states;
 mod target;
+#[cfg(test)]
+mod tests;
 mod wants;
 
 pub use body::Body;

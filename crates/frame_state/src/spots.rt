@@ -3,8 +3,7 @@ ghost use Rattle.std.specs.Prelude.{◌≡◌, ◌<◌, ◌+◌, ◌*◌, ℕ, S
 ghost use Rattle.std.specs.Prelude.{slice_index_or, slice_set};
 ghost use Rattle.trips_isa.specs.declared.block.Sense.TheVariants.{OnTrue, OnFalse};
 ghost use Rattle.trips_isa.specs.Rule.{matched};
-ghost use Rattle.commit_flush_spec.specs.Frames.{blank};
-ghost use Rattle.bit_rows.specs.Rows.{has_bit};
+ghost use Rattle.bit_rows.specs.Rows.{has_bit, no_items};
 
 use crate::rule::is_matched;
 use bit_rows::{Flags, Row};
@@ -46,7 +45,7 @@ fn note(odd: &mut Flags<128, 2>, even: &mut Flags<128, 2>, slot: usize, token: T
 impl Spots {
     /// No token has come.
     pub fn none() -> Spots
-        ensures { result ≡ blank 416 }
+        ensures { result ≡ no_items 416 }
     {
         Spots {
             row: Row::none(Token::Null),
@@ -76,7 +75,7 @@ impl Spots {
 
     /// Takes all tokens away.
     pub fn clear(&mut self)
-        ensures value { self.new ≡ blank 416 }
+        ensures value { self.new ≡ no_items 416 }
     {
         self.row.clear();
         self.odd.clear();

@@ -47,4 +47,47 @@ impl Reach {
             },
         }
     }
+
+    /// Whether an address is reached.
+    pub fn has(&self, address: u64) -> bool
+        ensures value { result ≡ reached self.now address }
+    {
+        let at = address.saturating_sub(self.address);
+        self.address <= address && at < self.size as u64 && at < 8 && self.open[at as usize]
+    }
+
+    // Takes the bytes of a store out.
+    fn leave_out(&mut self, stored: Option<Stored>)
+        requires { self.old.size ≤ 8 }
+        ensures reached { (a : ℕ) → reached self.new a ≡ (not (covers stored a) && reached self.old a) }
+        ensures size { self.new.size ≡ self.old.size }
+    {
+        for k in 0..self.size {
+            if stored_byte(stored, self.address + k as u64).is_some() {
+                self.open[k as usize] = false;
+            }
+        }
+    }
+
+    // Whether some bytes from an address on are reached.
+    fn has_any(&self, address: u64, size: u8) -> bool
+        ensures { result ≡ any_touched (reached self.now) address size }
+    {
+        for k in 0..size {
+            if self.has(address + k as u64) {
+                return true;
+            }
+        }
+        false
+    }
+
+    // Whether an answered load took a byte that is reached.
+    fn is_taken(&self, took: Option<Took>) -> bool
+        ensures { result ≡ took_touched (reached self.now) (taken_if took) }
+    {
+        match took {
+            Some(Took::From(address, size)) => self.has_any(address, size),
+            _ => false,
+        }
+    }
 }

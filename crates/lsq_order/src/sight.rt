@@ -1,7 +1,8 @@
 //! The bytes that a load sees.
 ghost use Rattle.std.specs.Prelude.{◌≡◌, ◌<◌, ◌≤◌, ◌+◌, ◌-◌, ◌*◌, ◌/◌, ◌%◌, ◌^◌, ℕ, Option, Some, length, slice_index};
 ghost use Rattle.trips_isa.specs.declared.block.Stored.{Stored};
-ghost use Rattle.trips_isa.specs.Stores.{byte_of, byte_seen, bytes_seen};
+ghost use Rattle.std.specs.Prelude.{slice_set, slice_index_or};
+ghost use Rattle.trips_isa.specs.Stores.{byte_of, or_byte, byte_seen, bytes_seen};
 ghost use Rattle.commit_flush_spec.specs.Frames.{at};
 
 use bit_rows::Row;
@@ -71,9 +72,20 @@ impl Sight {
         ensures size { self.new.size ≡ self.old.size }
     {
         for k in 0..self.size {
-            if let Some(byte) = stored_byte(stored, self.address + k as u64) {
-                self.bytes[k as usize] = byte;
-            }
+            self.put_over(k, stored_byte(stored, self.address + k as u64));
+        }
+    }
+
+    // Puts a byte, where there is one, over byte k.
+    fn put_over(&mut self, k: u8, byte: Option<u8>)
+        requires { k < 8 }
+        ensures bytes { self.new.bytes
+            ≡ slice_set self.old.bytes k (or_byte byte (slice_index_or self.old.bytes k 0)) }
+        ensures address { self.new.address ≡ self.old.address }
+        ensures size { self.new.size ≡ self.old.size }
+    {
+        if let Some(byte) = byte {
+            self.bytes[k as usize] = byte;
         }
     }
 

@@ -1,6 +1,6 @@
 //! The loads that wait until the older stores are resolved.
 ghost use Rattle.std.specs.Prelude.{◌≡◌, ◌+◌, ◌*◌, ◌%◌, ◌<◌, true, false, slice_index_or, slice_set};
-ghost use Rattle.commit_flush_spec.specs.Frames.{unset};
+ghost use Rattle.bit_rows.specs.Rows.{no_flags};
 
 use bit_rows::Flags;
 use std::marker::Model;
@@ -29,7 +29,7 @@ fn flag(block: u32, number: u8) -> usize
 impl Waiters {
     /// No load waits.
     pub fn make() -> Waiters
-        ensures { result ≡ unset 1024 }
+        ensures { result ≡ no_flags 1024 }
     {
         Waiters {
             flags: Flags::none(),
