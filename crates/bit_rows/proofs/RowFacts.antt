@@ -135,10 +135,10 @@ module _ {A : Type 0} (n : ℕ) where
   none_there items = sym (fill_by_all (item_at (no_flags n) items) (replicate n None) n None (length-replicate n None)
       (λ k h. get_or-replicate n k None None h ∙ sym (ap (λ b. cond b (slice_get items k) None) (get_unset n k))))
 
-  pub none_mapped : (xs : List (Option A)) → length xs ≡ n → no_items {A = A} n ≡ map (λ x. None {A = A}) xs
+  pub none_mapped : (xs : List (Option A)) → length xs ≡ n → no_items {A = A} n ≡ map {A = Option A} {B = Option A} (λ x. None) xs
   unfolding no_items
   none_mapped xs l = ap (λ k. replicate k None) (sym l) ∙ all xs
     where
-      all : (ys : List (Option A)) → replicate (length ys) (None {A = A}) ≡ map (λ x. None {A = A}) ys
+      all : (ys : List (Option A)) → replicate {A = Option A} (length ys) None ≡ map {A = Option A} {B = Option A} (λ x. None) ys
       all [] = refl
       all (y ∷ ys) = ap (λ zs. None ∷ zs) (all ys)

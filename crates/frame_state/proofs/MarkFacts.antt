@@ -6,7 +6,8 @@ use Rattle.commit_flush_spec.specs.Frames.{blank, unset}
 use Rattle.bit_rows.specs.Rows.{no_flags, no_items}
 use Rattle.bit_rows.proofs.RowFacts.{map_set, get_map, map_blank}
 use Rattle.frame_state.specs.MarkRows.{marks_of}
-use Rattle.frame_state.specs.Held.{taken_if, all_taken}
+use Rattle.frame_state.specs.Held.{taken_of, taken_if, all_taken}
+use Rattle.frame_state.specs.declared.parts.Took.{Took}
 
 -- the same in the words of the window's frames
 pub bare_items : {A : Type 0} → (n : ℕ) → no_items {A = A} n ≡ blank n
@@ -33,3 +34,10 @@ mark_cleared xs q = map_set or_unmarked xs q None
 pub none_taken : (n : ℕ) → all_taken (no_items n) ≡ blank n
 unfolding no_items blank
 none_taken n = map_blank taken_if n None
+
+pub taken_set : (xs : List (Option Took)) (q : ℕ) (t : Took)
+    → all_taken (set xs q (Some t)) ≡ set (all_taken xs) q (Some (taken_of t))
+taken_set xs q t = map_set taken_if xs q (Some t)
+
+pub taken_got : (xs : List (Option Took)) (q : ℕ) → taken_if (get_or xs q None) ≡ get_or (all_taken xs) q None
+taken_got xs q = sym (get_map taken_if xs q None)

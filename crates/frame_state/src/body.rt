@@ -19,18 +19,13 @@ ghost use Rattle.frame_state.specs.Moves.{moved, closed};
 ghost use Rattle.frame_state.specs.Effects.{effects_of, exit_or_first, effects_held};
 
 use crate::marks::MarkRow;
-use crate::outcome::{
-    least_of_numbers, least_of_writes, stores_came, stores_of, write_tokens, writes_came,
-};
-use crate::parts::{Departure, Outputs, Took};
-use crate::ready::{come, matching, ready, waiting};
-use crate::rule::{gives, mark, stored, took};
-use crate::shape::Shape;
+use crate::parts::{Departure, Took};
+use crate::rule::{gives, mark, stored};
 use crate::spots::Spots;
 use crate::target::{first_place, place_at};
 use bit_rows::{Flags, Row};
 use std::marker::Model;
-use trips_isa::{FIRST_WRITE, Form, Inst, Stored, Token, form_of, least};
+use trips_isa::{Form, Inst, Stored, Token, form_of};
 
 /// What a frame in flight holds beside its block.
 ///
@@ -38,22 +33,22 @@ use trips_isa::{FIRST_WRITE, Form, Inst, Stored, Token, form_of, least};
 /// cleared when the frame is filled again.
 #[derive(Drop)]
 pub struct Body {
-    number: u8,
-    block: u32,
-    generation: u64,
-    spots: Spots,
-    places: Row<Token, 320, 5>,
-    fired: Flags<128, 2>,
-    reads: Flags<32, 1>,
-    requests: Row<u8, 32, 1>,
-    leaving: Option<u8>,
-    loads: Row<Took, 32, 1>,
-    stores: Row<Stored, 32, 1>,
-    exit: Option<Departure>,
-    spot_marks: MarkRow<416, 7>,
-    place_marks: MarkRow<320, 5>,
-    store_marks: MarkRow<32, 1>,
-    exit_mark: u8,
+    pub(crate) number: u8,
+    pub(crate) block: u32,
+    pub(crate) generation: u64,
+    pub(crate) spots: Spots,
+    pub(crate) places: Row<Token, 320, 5>,
+    pub(crate) fired: Flags<128, 2>,
+    pub(crate) reads: Flags<32, 1>,
+    pub(crate) requests: Row<u8, 32, 1>,
+    pub(crate) leaving: Option<u8>,
+    pub(crate) loads: Row<Took, 32, 1>,
+    pub(crate) stores: Row<Stored, 32, 1>,
+    pub(crate) exit: Option<Departure>,
+    pub(crate) spot_marks: MarkRow<416, 7>,
+    pub(crate) place_marks: MarkRow<320, 5>,
+    pub(crate) store_marks: MarkRow<32, 1>,
+    pub(crate) exit_mark: u8,
 }
 
 impl Model for Body {
@@ -150,6 +145,7 @@ impl Body {
     }
 
     /// Fills the frame with a block: nothing has come.
+    #[tactic(auto, using(crate::proofs::MarkFacts::bare_items, crate::proofs::MarkFacts::bare_flags, crate::proofs::MarkFacts::none_taken))]
     pub fn fill(&mut self, block: u32)
         requires { self.old.generation + 1 < 2 ^ 64 }
         ensures { self.new ≡ filled block self.old }
@@ -187,6 +183,7 @@ impl Body {
     }
 
     /// The mark of that.
+    #[tactic(auto, using(crate::proofs::NodeFacts::marked))]
     #[inline]
     pub fn mark_of(&self, inst: Inst, slot: u8) -> u8
         ensures value { result ≡ slot_mark self.now inst slot }
@@ -299,6 +296,7 @@ impl Body {
     }
 
     // Notes what an answered load took.
+    #[tactic(auto, using(crate::proofs::MarkFacts::taken_set))]
     fn note_taken(&mut self, number: u8, took: Took)
         ensures { self.new ≡ record self.old {
           requests = slice_set self.old.requests number None;
@@ -365,167 +363,5 @@ impl Body {
         self.leaving = None;
         self.exit = exit;
         self.exit_mark = mark;
-    }
-
-    /// The slot that waits with a number.
-    pub fn request(&self, number: u8) -> Option<u8>
-        ensures value { result ≡ at self.now.requests number }
-    {
-        self.requests.get(number as usize)
-    }
-
-    /// The slot of the branch that waits.
-    pub fn leaving(&self) -> Option<u8>
-        ensures value { result ≡ self.now.leaving }
-    {
-        self.leaving
-    }
-
-    /// What a load of a slot takes.
-    pub fn took(&self, inst: Inst, slot: u8) -> Took
-        ensures value { taken_of result ≡ memory.taken_of inst (at self.now.spots slot) }
-    {
-        took(inst, self.spots.get(slot as usize))
-    }
-
-    /// Whether a slot has fired.
-    pub fn has_fired(&self, slot: u8) -> bool
-        ensures value { result ≡ slice_index_or self.now.fired slot false }
-    {
-        self.fired.has(slot as usize)
-    }
-
-    /// Whether a read is answered.
-    pub fn is_read(&self, read: u8) -> bool
-        ensures value { result ≡ slice_index_or self.now.reads read false }
-    {
-        self.reads.has(read as usize)
-    }
-
-    /// Whether a token is on its way in a place.
-    pub fn has_token(&self, p: usize) -> bool
-        ensures value { result ≡ is_some (at self.now.places p) }
-    {
-        self.places.get(p).is_some()
-    }
-
-    /// The token of a write, if it has come.
-    pub fn write(&self, write: u8) -> Option<Token>
-        ensures value { result ≡ at self.now.spots (FIRST_WRITE + write) }
-    {
-        self.spots.get(FIRST_WRITE as usize + write as usize)
-    }
-
-    /// The store of a number, if it is resolved.
-    pub fn stored(&self, number: u8) -> Option<Stored>
-        ensures value { result ≡ at self.now.stores number }
-    {
-        self.stores.get(number as usize)
-    }
-
-    /// What the load of a number took, if it is answered.
-    pub fn taken(&self, number: u8) -> Option<Took>
-        ensures value { taken_if result ≡ at self.now.loads number }
-    {
-        self.loads.get(number as usize)
-    }
-
-    /// The exit, if it has come.
-    pub fn exit(&self) -> Option<Departure>
-        ensures value { exit_of result ≡ self.now.exit }
-    {
-        self.exit
-    }
-
-    /// The number of its block in the image.
-    pub fn block(&self) -> u32
-        ensures value { result ≡ self.now.block }
-    {
-        self.block
-    }
-
-    /// Which of the eight frames it is.
-    pub fn number(&self) -> u8
-        ensures value { result ≡ self.now.number }
-    {
-        self.number
-    }
-
-    // Whether the exit has come.
-    fn has_exit(&self) -> bool
-        ensures { result ≡ is_some self.now.exit }
-    {
-        self.exit.is_some()
-    }
-
-    /// Whether the first writes, every number of a mask and the exit have come.
-    pub fn is_complete(&self, writes: usize, mask: u32) -> bool
-        ensures value { result ≡ (all_below (λ w. is_some (at self.now.spots (FIRST_WRITE + w))) writes
-            && (all_below (λ n. not (in_mask mask n) || is_some (at self.now.stores n)) numbers
-            && is_some self.now.exit)) }
-    {
-        writes_came(&self.spots, writes) && stores_came(&self.stores, mask) && self.has_exit()
-    }
-
-    // The exit, or block 0 at exit 0 where none has come.
-    fn exit_or_first(&self) -> Departure
-        ensures { exit_of (Some result) ≡ Some (exit_or_first self.now.exit) }
-    {
-        match self.exit {
-            Some(exit) => exit,
-            None => Departure {
-                exit: 0,
-                system: false,
-                successor: 0,
-            },
-        }
-    }
-
-    /// The tokens of the first writes, the stores in ascending order of number, and the exit.
-    pub fn outputs(&self, writes: usize) -> Outputs
-        requires { writes ≤ 32 }
-        ensures value { (rs : List ℕ) → length rs ≡ writes → effects_of result ≡ effects_held rs self.now }
-    {
-        let exit = self.exit_or_first();
-        Outputs {
-            writes: write_tokens(&self.spots, writes),
-            stores: stores_of(&self.stores),
-            exit: exit.exit,
-            system: exit.system,
-            successor: exit.successor,
-        }
-    }
-
-    /// The least mark of the first writes, a mask's numbers and the exit.
-    pub fn cause(&self, writes: usize, mask: u32) -> u8
-        requires { writes ≤ 32 }
-        ensures value { (b : Block) → length b.writes.items ≡ writes → b.mask ≡ mask
-            → result ≡ least_at (mark_held self.now.marks) (owed b) }
-    {
-        let numbers = least(least_of_numbers(&self.store_marks, mask), self.exit_mark);
-        least(least_of_writes(&self.spot_marks, writes), numbers)
-    }
-
-    ghost use Rattle.frame_state.specs.Held.{running};
-    ghost use Rattle.frame_state.specs.Shapes.{IsShape, is_ready};
-    ghost use Rattle.bit_rows.specs.Rows.{has_bit};
-
-    /// Which slots from number 64 k on are ready, as bits.
-    pub fn ready(&self, shape: &Shape, k: usize) -> u64
-        requires { k < 2 }
-        ensures value { (b : Block) → IsShape b shape.now → (s : ℕ) → s < 64
-            → has_bit result s ≡ is_ready (running b self.now) (64 * k + s) }
-    {
-        ready(
-            waiting(shape.there.word(k), self.fired.word(k)),
-            come(shape.left.word(k), self.spots.word(k)),
-            come(shape.right.word(k), self.spots.word(2 + k)),
-            matching(
-                shape.on_true.word(k),
-                shape.on_false.word(k),
-                self.spots.odd(k),
-                self.spots.even(k),
-            ),
-        )
     }
 }

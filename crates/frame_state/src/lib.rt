@@ -16,6 +16,7 @@ mod shape;
 mod spots;
 mod states;
 mod target;
+mod telling;
 #[cfg(test)]
 mod tests;
 mod wants;

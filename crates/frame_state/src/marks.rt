@@ -22,6 +22,7 @@ impl<const N: usize, const W: usize> Model for MarkRow<N, W> {
 
 impl<const N: usize, const W: usize> MarkRow<N, W> {
     /// All marks are 0.
+    #[tactic(auto, using(crate::proofs::MarkFacts::no_marks))]
     pub fn none() -> MarkRow<N, W>
         requires { N ≤ 64 * W }
         ensures { result ≡ zeros N }
@@ -30,6 +31,7 @@ impl<const N: usize, const W: usize> MarkRow<N, W> {
     }
 
     /// The mark of a number; past the last it is 0.
+    #[tactic(auto, using(crate::proofs::MarkFacts::mark_got))]
     #[inline]
     pub fn get(&self, q: usize) -> u8
         ensures value { result ≡ slice_index_or self.now q 0 }
@@ -41,6 +43,7 @@ impl<const N: usize, const W: usize> MarkRow<N, W> {
     }
 
     /// Sets the mark of a number, if there is one.
+    #[tactic(auto, using(crate::proofs::MarkFacts::mark_set, crate::proofs::MarkFacts::mark_cleared))]
     #[inline]
     pub fn set(&mut self, q: usize, mark: u8)
         ensures value { self.new ≡ slice_set self.old q mark }
@@ -53,6 +56,7 @@ impl<const N: usize, const W: usize> MarkRow<N, W> {
     }
 
     /// Sets all marks to 0.
+    #[tactic(auto, using(crate::proofs::MarkFacts::no_marks))]
     pub fn clear(&mut self)
         ensures value { self.new ≡ zeros N }
     {

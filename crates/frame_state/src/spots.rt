@@ -44,6 +44,7 @@ fn note(odd: &mut Flags<128, 2>, even: &mut Flags<128, 2>, slot: usize, token: T
 
 impl Spots {
     /// No token has come.
+    #[tactic(auto, using(crate::proofs::PredicateFacts::tells_none))]
     pub fn none() -> Spots
         ensures { result ≡ no_items 416 }
     {
@@ -63,6 +64,7 @@ impl Spots {
     }
 
     /// Puts a token at a place, if there is one of this number.
+    #[tactic(auto, using(crate::proofs::PredicateFacts::tells_low, crate::proofs::PredicateFacts::tells_high))]
     #[inline]
     pub fn put(&mut self, q: usize, token: Token)
         ensures value { self.new ≡ slice_set self.old q (Some token) }
@@ -74,6 +76,7 @@ impl Spots {
     }
 
     /// Takes all tokens away.
+    #[tactic(auto, using(crate::proofs::PredicateFacts::tells_none))]
     pub fn clear(&mut self)
         ensures value { self.new ≡ no_items 416 }
     {

@@ -96,6 +96,7 @@ impl Empty {
 
 impl Running {
     /// Puts the word of a declared read on its way.
+    #[tactic(auto, using(crate::proofs::NodeFacts::reads))]
     pub fn read(&mut self, block: &Block, read: u8, word: u64)
         requires declared { read < length block.now.reads.items }
         ensures value { running block.now self.new ≡ read_answered read (Some word) (running block.now self.old) }
@@ -105,6 +106,7 @@ impl Running {
     }
 
     /// Fires what a slot holds: its token goes on its way, or a load, a store or a branch waits.
+    #[tactic(auto, using(crate::proofs::NodeFacts::fires))]
     pub fn fire(&mut self, block: &Block, slot: u8)
         ensures value { (o : Older) → running block.now self.new ≡ fire slot o (running block.now self.old) }
     {
@@ -113,6 +115,7 @@ impl Running {
     }
 
     /// Moves the token in a place to the place of the block that it goes to.
+    #[tactic(auto, using(crate::proofs::NodeFacts::comes))]
     pub fn deliver(&mut self, block: &Block, place: u16)
         ensures value { (o : Older) → running block.now self.new ≡ deliver place o (running block.now self.old) }
     {

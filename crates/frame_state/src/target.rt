@@ -92,6 +92,7 @@ pub fn read_targets(block: &Block, read: usize) -> (usize, usize)
 }
 
 // The place that a node of the block names first or second.
+#[tactic(auto, using(crate::proofs::TargetFacts::read_named, crate::proofs::TargetFacts::node_named))]
 fn node_target(block: &Block, node: usize, first: bool) -> usize
     ensures { result ≡ named_at (slice_get (nodes_of block.now) node) first }
 {
@@ -102,6 +103,7 @@ fn node_target(block: &Block, node: usize, first: bool) -> usize
 }
 
 // The place that a slot of the block names first or second.
+#[tactic(auto, using(crate::proofs::TargetFacts::slot_named, crate::proofs::TargetFacts::slot_unnamed))]
 fn slot_target(block: &Block, slot: usize, first: bool) -> usize
     ensures { result ≡ named_at (slice_get (nodes_of block.now) (slot_node block.now slot)) first }
 {
@@ -112,6 +114,7 @@ fn slot_target(block: &Block, slot: usize, first: bool) -> usize
 }
 
 /// The place of the block at which a token in place p is delivered.
+#[tactic(auto, using(crate::proofs::TargetFacts::low_target, crate::proofs::TargetFacts::high_target))]
 pub fn target(block: &Block, p: usize) -> usize
     ensures value { result ≡ target block.now p }
 {
