@@ -87,6 +87,20 @@ fn spaces(alloc: Global, count: usize) -> Result<Vec<u8>, AllocError> {
     Ok(bytes)
 }
 
+// What a command answers to a text and an input.
+fn answer_over<'a>(
+    alloc: Global,
+    command: &str,
+    text: &'a [u8],
+    input: &'a [u8],
+) -> Result<(Status, Vec<u8>), AllocError> {
+    answer_of(
+        alloc,
+        &[command, "a.c", "--input", "t"],
+        &[("a.c", text), ("t", input)],
+    )
+}
+
 // What a command says of a text and an input of so many spaces.
 fn assert_read(
     rt: &impl Abort,
@@ -98,11 +112,7 @@ fn assert_read(
     report: &str,
 ) -> Result<(), AllocError> {
     let bytes = spaces(alloc, input)?;
-    let (answered, written) = answer_of(
-        alloc,
-        &[command, "a.c", "--input", "t"],
-        &[("a.c", text), ("t", bytes.as_slice())],
-    )?;
+    let (answered, written) = answer_over(alloc, command, text, bytes.as_slice())?;
     assert_eq!(rt; answered, status, "{command} {input}");
     assert_eq!(rt; written.as_slice(), report.as_bytes(), "{command} {input}");
     Ok(())

@@ -6,4 +6,6 @@ mod eval_tests;
 #[cfg(test)]
 mod run_tests;
 #[cfg(test)]
+mod tables;
+#[cfg(test)]
 mod token_tests;

@@ -1,5 +1,6 @@
 //! `run` on texts of C: it agrees with `eval` on output and result, and its budgets and its stack end it.
-use crate::eval_tests::{COUNTED, DEEP, DEEPER, EDGES, ENDED, UNSET, WORDS, returning};
+use crate::eval_tests::returning;
+use crate::tables::{COUNTED, DEEP, DEEPER, EDGES, ENDED, UNSET, WORDS};
 use std::alloc::{AllocError, Global};
 use std::process::Abort;
 use std::test::Fail;
