@@ -1,0 +1,2 @@
+pub mod MovedBack
+pub mod Passed

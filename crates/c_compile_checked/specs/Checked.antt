@@ -1,0 +1,24 @@
+-- What is known of blocks that the passes made, before and after they are checked.
+use Rattle.std.specs.Prelude.{ℕ, ◌≤◌, List, length, All}
+use Rattle.trips_isa.specs.declared.block.Block.{Block}
+use Rattle.trips_isa.specs.Images.{FitsImage}
+use Rattle.trips_isa.specs.Stores.{data_size}
+use Rattle.block_cases.specs.Good.{GoodBlock}
+use Rattle.ir_forms.specs.HyperCode as hyper
+use Rattle.ir_forms.specs.HyperWords.{AreBytes}
+use Rattle.grid_place.specs.Moves.{Permutes}
+use Rattle.c_compile_layout.specs.Emitted.{image_of}
+use Rattle.c_compile_layout.specs.Layouts.{AreFew}
+use Rattle.c_compile_blocks.specs.Blocks.{ArePassed, AreMachineBlocks, FitsPasses}
+
+-- blocks whose image can be checked, and which are machine blocks where the checker takes it
+pub record AreChecked (p : ℕ → ℕ) (B : List hyper.Block) (us : List Block) (bytes : List ℕ) : Type 0 where
+  pub sizes : All (λ b. length b.insts.items ≤ 128) us
+  pub few : AreFew us
+  pub fits : FitsImage (image_of us bytes)
+  pub machine : All GoodBlock (image_of us bytes).blocks → AreMachineBlocks p B us
+
+abbrev pub CheckedImagesAreOfMachineBlocks : Type 0
+CheckedImagesAreOfMachineBlocks =
+    (p q : ℕ → ℕ) (B : List hyper.Block) (us : List Block) (bytes : List ℕ) → Permutes p q → FitsPasses B
+    → ArePassed p B us → AreBytes bytes → length bytes ≤ data_size → AreChecked p B us bytes
