@@ -1,0 +1,6 @@
+pub mod Parts
+pub mod Events
+pub mod Counting
+pub mod Routes
+pub mod Agreeing
+pub mod StandardFacts

@@ -1,0 +1,14 @@
+pub mod Stations
+pub mod Costs
+pub mod Grid
+pub mod Acting
+pub mod Choosing
+pub mod Sending
+pub mod Ends
+pub mod Fetches
+pub mod Banks
+pub mod DataTiles
+pub mod Units
+pub mod Arrivals
+pub mod Cycles
+pub mod Laws
