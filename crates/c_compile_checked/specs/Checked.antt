@@ -13,11 +13,16 @@ use Rattle.c_compile_blocks.specs.Blocks.{ArePassed, AreMachineBlocks, FitsPasse
 
 -- blocks whose image can be checked, and which are machine blocks where the checker takes it
 pub record AreChecked (p : ℕ → ℕ) (B : List hyper.Block) (us : List Block) (bytes : List ℕ) : Type 0 where
+  -- no block has more than 128 instructions
   pub sizes : All (λ b. length b.insts.items ≤ 128) us
+  -- together they have no more chunks than an image may
   pub few : AreFew us
+  -- their image fits, so that it can be checked
   pub fits : FitsImage (image_of us bytes)
+  -- and where each of its blocks is good, they are machine blocks
   pub machine : All GoodBlock (image_of us bytes).blocks → AreMachineBlocks p B us
 
+-- so of the blocks that the passes made of a hyper program, in the slots of any permutation
 abbrev pub CheckedImagesAreOfMachineBlocks : Type 0
 CheckedImagesAreOfMachineBlocks =
     (p q : ℕ → ℕ) (B : List hyper.Block) (us : List Block) (bytes : List ℕ) → Permutes p q → FitsPasses B
