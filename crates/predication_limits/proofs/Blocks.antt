@@ -54,7 +54,7 @@ pub record IsPlainBlock (P : ℕ → Type 0) (b : Block) : Type 0 where
 abbrev pub IsNoMov : List FlowNode → ℕ → Type 0
 IsNoMov ns k = (n : FlowNode) → slice_get ns k ≡ Some n → is_copy (role_of n.op) ≡ false
 
-told_all : (ns : List FlowNode) → Told (IsNoMov ns) 0 ns
+pub told_all : (ns : List FlowNode) → Told (IsNoMov ns) 0 ns
 told_all ns = told_from (IsNoMov ns) ns 0 (λ i k n q s e m z.
     let at : i ≡ k = omega (arith, q) in
     let same : m ≡ n = one (slice_get ns k) z (ap (slice_get ns) (sym at) ∙ s) in
@@ -65,7 +65,7 @@ told_all ns = told_from (IsNoMov ns) ns 0 (λ i k n q s e m z.
 
 -- LISTS
 
-regroup : (a b c : List FlowNode) → a ++ (b ++ c) ≡ (a ++ b) ++ c
+pub regroup : (a b c : List FlowNode) → a ++ (b ++ c) ≡ (a ++ b) ++ c
 regroup [] b c = refl
 regroup (n ∷ a) b c = ap (λ (l : List FlowNode). n ∷ l) (regroup a b c)
 
@@ -77,7 +77,7 @@ behind_got (x ∷ xs) ys (suc i) l =
     let e : i - length xs ≡ suc i - suc (length xs) = omega arith in
     behind_got xs ys i (omega (arith, l)) ∙ ap (slice_get ys) e
 
-front_got : (xs ys : List FlowNode) (i : ℕ) → i < length xs → slice_get (xs ++ ys) i ≡ slice_get xs i
+pub front_got : (xs ys : List FlowNode) (i : ℕ) → i < length xs → slice_get (xs ++ ys) i ≡ slice_get xs i
 front_got [] ys i l = absurd (omega (arith, l))
 front_got (x ∷ xs) ys zero l = refl
 front_got (x ∷ xs) ys (suc i) l = front_got xs ys i (omega (arith, l))
@@ -147,11 +147,11 @@ stored_fed c k (n ∷ a) b j g e =
 
 -- WRITES
 
-abbrev EachWrite : (FlowWrite → Type 0) → List FlowWrite → Type 0
+abbrev pub EachWrite : (FlowWrite → Type 0) → List FlowWrite → Type 0
 EachWrite Q [] = Unit {0}
 EachWrite Q (w ∷ ws) = Q w × EachWrite Q ws
 
-writes_each : (Q : FlowWrite → Type 0) (env : Env) (rs : List ℕ) (n : ℕ)
+pub writes_each : (Q : FlowWrite → Type 0) (env : Env) (rs : List ℕ) (n : ℕ)
     → ((r : ℕ) → member r rs ≡ true → Q (record { register = r; sources = (env r).given }))
     → EachWrite Q (writes_below env rs n)
 writes_each Q env rs zero f = tt

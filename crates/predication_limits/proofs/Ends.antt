@@ -96,7 +96,7 @@ module _ (T P : ℕ → Type 0) where
       own_is = rw f refl
 
   -- the address to come back to, a mov of it, and the call
-  call_good : (j l e w : ℕ) → Good P j (constant_of op.Genu (high_half w) []
+  pub call_good : (j l e w : ℕ) → Good P j (constant_of op.Genu (high_half w) []
       ∷ constant_of op.App (low_half w) (Node j ∷ []) ∷ mov_of None (Node (suc j) ∷ [])
       ∷ branch_of op.Callo l e None [] ∷ []) 4
   call_good j l e w =

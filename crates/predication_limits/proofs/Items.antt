@@ -18,7 +18,7 @@ use Rattle.predication_limits.proofs.Flat.{Told, told_back, Good, nothing, no_pi
 use Rattle.predication_limits.proofs.Pieces.{IsSet, ArePlain, set_later, plains_later, put_plain, put_kept, put_here}
 use Rattle.predication_limits.proofs.Pieces.{AreBits, note_bits, bit_is, Names, operand_piece, second_piece}
 
-not_constant : (e : Form) → e ≡ form.General → e ≡ form.Constant → ⊥
+pub not_constant : (e : Form) → e ≡ form.General → e ≡ form.Constant → ⊥
 not_constant e a b = absurd (cc)
 
 load_not_constant : (e : Form) → e ≡ form.Load → e ≡ form.Constant → ⊥

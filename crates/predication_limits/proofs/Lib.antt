@@ -11,5 +11,15 @@ pub mod SmallBlocks
 pub mod SaveGroups
 pub mod Little
 pub mod Guards
+pub mod Firmness
+pub mod Supplies
+pub mod OneGuard
+pub mod ShortLegs
+pub mod LegEntries
+pub mod IfExits
+pub mod IfBlocks
+pub mod Additions
+pub mod ShortLayout
+pub mod IfBlocksFit
 pub mod Machine
 pub mod Programs

@@ -1,11 +1,10 @@
 -- Little blocks fit the machine.
-use Rattle.std.proofs.Common.{◌≡◌, ℕ, ◌+◌, ◌^◌, ◌<◌, ◌≤◌, true, refl, sym, ap, subst, arith}
+use Rattle.std.proofs.Common.{◌≡◌, ℕ, ◌+◌, ◌≤◌, true, refl, sym, ap, subst, arith}
 use Rattle.trips_isa.specs.declared.block.Block.{Block as MachineBlock}
 use Rattle.trips_isa.specs.Places.{nodes_of}
 use Rattle.block_cases.specs.Cases.{cases}
 use Rattle.ir_forms.specs.declared.flow.FlowBlock.{FlowBlock}
 use Rattle.ir_forms.specs.HyperCode.{Block}
-use Rattle.ir_forms.specs.HyperRuns.{Layout}
 use Rattle.predication.specs.Environments.{member}
 use Rattle.predication.specs.Tails.{labelled, addressed, address_end}
 use Rattle.predication.specs.Converted.{ended, all_nodes, all_touched, predicated}
@@ -23,12 +22,13 @@ use Rattle.fan_out.proofs.Rooms.{few_nodes}
 use Rattle.c_compile_layout.specs.Linking.{resolved_block}
 use Rattle.c_compile_layout.proofs.Targets.{targeted_resolved}
 use Rattle.c_compile_layout.proofs.Linked.{nodes_same}
-use Rattle.predication_limits.specs.Limits.{LittleBlocksFit}
+use Rattle.predication_limits.specs.Limits.{LittleBlocksFit, PlainBlocksStay}
 use Rattle.predication_limits.proofs.Blocks.{straight, insts_few, reads_are, number_few, one_guard}
 use Rattle.predication_limits.proofs.Members.{few_writes, few_reads}
 use Rattle.predication_limits.proofs.Cheap.{IsCheap, exits_with}
 use Rattle.predication_limits.proofs.Little.{little_cheap}
 use Rattle.predication_limits.proofs.Guards.{two_cases}
+use Rattle.predication_limits.proofs.ShortLayout.{anywhere, short}
 
 -- a block that costs little has room in a machine block
 pub room_of : (b : Block) → IsCheap b → fan_out.HasRoom (predicated b)
@@ -46,12 +46,10 @@ room_of b c =
       writes = omega (arith, w, few_written);
     }
 
--- a layout, of which only one thing matters: that addresses are short
-abbrev anywhere : Layout
-anywhere = record { address = λ l. 0; label = λ a. 0 }
-
-short : (l : ℕ) → 0 < 2 ^ 32
-short l = omega arith
+pub plain_stays : PlainBlocksStay
+plain_stays b fits plain =
+    let c = little_cheap (λ l. address_end + l) b fits.items plain in
+    stays (predicated (labelled b)) (straight (λ q. member q c.read ≡ true) (labelled b) c.plain)
 
 pub fits_machine : LittleBlocksFit
 fits_machine b fits little =
@@ -75,7 +73,6 @@ fits_machine b fits little =
         exits = x;
       };
       numbers = room;
-      stays = still;
       room = subst fan_out.HasRoom (sym still) r;
       cases = λ t is. few t room (subst (λ (g : FlowBlock). fan_out.IsTargeted g t) still is);
     }

@@ -222,7 +222,7 @@ module _ (P : ℕ → Type 0) where
   chain_piece (suc d) j w =
       longer_piece (nat_lt w 65536) j w (chain d j (w / 65536)) (apps d (w / 65536)) (chain_piece d j (w / 65536))
 
-  read_named : (r q : ℕ) → P r → reads_in (Read r ∷ []) q ≡ true → P q
+  pub read_named : (r q : ℕ) → P r → reads_in (Read r ∷ []) q ≡ true → P q
   read_named r q p e = go (nat_eq r q) refl e
     where
       go : (b : Bool) → nat_eq r q ≡ b → (b || false) ≡ true → P q
@@ -264,7 +264,7 @@ module _ (P : ℕ → Type 0) where
   operand_piece j env (Const w) g p = chain_piece 3 j w
   operand_piece j env (Reg r) g p = read_piece j r (env r) (g r) p
 
-  widened : (t : Bool) (j : ℕ) (ns : List FlowNode) (ss : List FlowSource) (c d : ℕ) → c ≤ d
+  pub widened : (t : Bool) (j : ℕ) (ns : List FlowNode) (ss : List FlowSource) (c d : ℕ) → c ≤ d
       → Piece P t j ns ss c → Piece P t j ns ss d
   widened t j ns ss c d l x = record {
     nodes = x.nodes;

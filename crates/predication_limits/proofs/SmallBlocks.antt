@@ -18,32 +18,32 @@ use Rattle.predication_limits.proofs.Ends.{NamesExit, NamesEnd}
 use Rattle.predication_limits.proofs.Members.{member_front, member_back, member_head}
 use Rattle.predication_limits.proofs.Cheap.{IsCheap, source_most, jumps_with, exits_with}
 
-abbrev registers : Source → List ℕ
+abbrev pub registers : Source → List ℕ
 registers (Const w) = []
 registers (Reg r) = r ∷ []
 
-abbrev items_registers : Items → List ℕ
+abbrev pub items_registers : Items → List ℕ
 items_registers Done = []
 items_registers (Set r op a b rest) = registers a ++ (registers b ++ items_registers rest)
 items_registers (Load r op a rest) = registers a ++ items_registers rest
 items_registers (Save op a v rest) = registers a ++ (registers v ++ items_registers rest)
 items_registers (If t one other rest) = []
 
-abbrev exit_registers : Exit → List ℕ
+abbrev pub exit_registers : Exit → List ℕ
 exit_registers (exit.Jump l) = []
 exit_registers (exit.Call l back) = []
 exit_registers exit.Return = 2 ∷ []
 exit_registers (exit.System l) = []
 
-abbrev end_registers : Tail → List ℕ
+abbrev pub end_registers : Tail → List ℕ
 end_registers (Leave e) = exit_registers e
 end_registers (Test t one other) = registers t
 
-one_register : (a : Source) → length (registers a) ≤ 1
+pub one_register : (a : Source) → length (registers a) ≤ 1
 one_register (Const w) = omega arith
 one_register (Reg r) = omega arith
 
-few_registers : (is : Items) → length (items_registers is) ≤ 2 * items_in is
+pub few_registers : (is : Items) → length (items_registers is) ≤ 2 * items_in is
 few_registers Done = omega arith
 few_registers (Set r op a b rest) =
     let x = one_register a in
@@ -66,7 +66,7 @@ few_registers (Save op a c rest) =
     omega (arith, x, y, h, u, v)
 few_registers (If t one other rest) = omega arith
 
-end_few : (t : Tail) → length (end_registers t) ≤ 1
+pub end_few : (t : Tail) → length (end_registers t) ≤ 1
 end_few (Leave (exit.Jump l)) = omega arith
 end_few (Leave (exit.Call l back)) = omega arith
 end_few (Leave exit.Return) = omega arith
@@ -74,11 +74,11 @@ end_few (Leave (exit.System l)) = omega arith
 end_few (Test t one other) = one_register t
 
 module _ (P : ℕ → Type 0) where
-  names_of : (a : Source) → ((q : ℕ) → member q (registers a) ≡ true → P q) → Names P a
+  pub names_of : (a : Source) → ((q : ℕ) → member q (registers a) ≡ true → P q) → Names P a
   names_of (Const w) f = tt
   names_of (Reg r) f = f r (member_head r [])
 
-  names_in : (is : Items) → ((q : ℕ) → member q (items_registers is) ≡ true → P q) → NamesIn P is
+  pub names_in : (is : Items) → ((q : ℕ) → member q (items_registers is) ≡ true → P q) → NamesIn P is
   names_in Done f = tt
   names_in (Set r op a b rest) f = (
     names_of a (λ q m. f q (member_front q (registers a) (registers b ++ items_registers rest) m)),
@@ -100,7 +100,7 @@ module _ (P : ℕ → Type 0) where
   )
   names_in (If t one other rest) f = tt
 
-  exit_named : (e : Exit) → ((q : ℕ) → member q (exit_registers e) ≡ true → P q) → NamesExit P e
+  pub exit_named : (e : Exit) → ((q : ℕ) → member q (exit_registers e) ≡ true → P q) → NamesExit P e
   exit_named (exit.Jump l) f = tt
   exit_named (exit.Call l back) f = tt
   exit_named exit.Return f = f 2 (member_head 2 [])

@@ -1,4 +1,5 @@
 pub mod Choosers
 pub mod Prices
 pub mod Costs
+pub mod SmallIfs
 pub mod Limits

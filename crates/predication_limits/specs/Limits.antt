@@ -1,5 +1,5 @@
 -- Blocks whose machine blocks are within the limits of the machine.
-use Rattle.std.specs.Prelude.{◌≡◌, ℕ, ◌≤◌, List, [], length, slice_get, Some}
+use Rattle.std.specs.Prelude.{◌≡◌, ◌⊎◌, ℕ, ◌≤◌, List, [], length, slice_get, Some}
 use Rattle.trips_isa.specs.declared.block.Block.{Block as MachineBlock}
 use Rattle.trips_isa.specs.Places.{nodes_of}
 use Rattle.block_cases.specs.Cases.{cases}
@@ -8,7 +8,7 @@ use Rattle.ir_forms.specs.FlatFits.{FitsProgram}
 use Rattle.ir_forms.specs.HyperCode.{Block}
 use Rattle.ir_forms.specs.HyperFits.{FitsHyper, exits_in}
 use Rattle.hyper_build.specs.Laws.{built_program, plan_of, AreAssigned}
-use Rattle.hyper_build.specs.Smallness.{IsLittle}
+use Rattle.hyper_build.specs.Smallness.{IsSimple, IsGroupBlock, IsLittle}
 use Rattle.predication.specs.Tails.{labelled}
 use Rattle.predication.specs.Converted.{begun, predicated}
 use Rattle.predication.specs.Laws as predication
@@ -18,6 +18,7 @@ use Rattle.ir_forms.specs.declared.fault.FlowFault.TheVariants.{Memory}
 use Rattle.null_outputs.specs.Refusals as null_outputs
 use Rattle.fan_out.specs.Refusals as fan_out_refusals
 use Rattle.fan_out.specs.Targeted as fan_out
+use Rattle.predication_limits.specs.SmallIfs.{HoldsSmallIf}
 
 -- the parts of a block's flow block, each within the machine's limit
 pub record FitsParts (b : Block) : Type 0 where
@@ -32,16 +33,23 @@ pub record FitsMachine (b : Block) : Type 0 where
   pub parts : FitsParts (labelled b)
   -- its load/store numbers and exits
   pub numbers : predication.HasRoom b
-  -- no nulls have to be added
-  pub stays : complete (predicated (labelled b)) ≡ predicated (labelled b)
   -- its reads, writes and instructions
   pub room : fan_out.HasRoom (complete (predicated (labelled b)))
   pub cases : (t : MachineBlock) → fan_out.IsTargeted (complete (predicated (labelled b))) t
       → cases (nodes_of t) ≤ 256
 
--- small blocks and those of a save group are
+-- small blocks without if-items and those of a save group are
 abbrev pub LittleBlocksFit : Type 0
 LittleBlocksFit = (b : Block) → FitsHyper b → IsLittle b → FitsMachine b
+
+-- to these no null has to be added
+abbrev pub PlainBlocksStay : Type 0
+PlainBlocksStay = (b : Block) → FitsHyper b → IsSimple b ⊎ IsGroupBlock b
+    → complete (predicated (labelled b)) ≡ predicated (labelled b)
+
+-- and so is a block of one small if
+abbrev pub SmallIfsFit : Type 0
+SmallIfsFit = (b : Block) → FitsHyper b → HoldsSmallIf b → FitsMachine b
 
 -- so is each block of an assigned program where every answer is to cut
 abbrev pub CutProgramsFit : Type 0

@@ -1,5 +1,6 @@
 ghost use Rattle.predication_limits.specs.Choosers.{CasesAreFew};
 ghost use Rattle.predication_limits.specs.Limits.{CutProgramsFit, LittleBlocksFit, OnlyMemoryRefuses};
+ghost use Rattle.predication_limits.specs.Limits.{PlainBlocksStay, SmallIfsFit};
 
 /// A block has no more cases than there are choices of a bit for each of its choosers.
 pub fn cases_are_few()
@@ -7,9 +8,15 @@ pub fn cases_are_few()
 {}
 
 /// A small block, and one that saves or restores a group, is within every limit of a machine block, and its
-/// cases are few.
+/// cases are few; no null has to be added to it.
 pub fn little_blocks_fit()
-    ensures { LittleBlocksFit }
+    ensures fit { LittleBlocksFit }
+    ensures stay { PlainBlocksStay }
+{}
+
+/// A block of one small if, with any exit behind it, is within every limit, too.
+pub fn small_ifs_fit()
+    ensures { SmallIfsFit }
 {}
 
 /// So is each block of an assigned program whose plan cuts everywhere.

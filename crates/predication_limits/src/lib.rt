@@ -4,4 +4,6 @@
 
 mod laws;
 
-pub use laws::{cases_are_few, cut_programs_fit, little_blocks_fit, only_memory_refuses};
+pub use laws::{
+    cases_are_few, cut_programs_fit, little_blocks_fit, only_memory_refuses, small_ifs_fit,
+};

@@ -1,0 +1,5 @@
+use Rattle.predication_limits.proofs.IfBlocksFit.{small_ifs}
+use Rattle.predication_limits.proofs.laws.small_ifs_fit.Goals as goal
+
+pub returns : goal.returns
+returns c = small_ifs
