@@ -1,0 +1,324 @@
+//! The answers of a function's statements, forward: the block that is open is cut where the next statement
+//! has no room in it.
+//!
+//! Functions that hold a second block are not put in line, so that nested statements take little of the
+//! host's stack.
+
+ghost use Rattle.std.specs.Prelude.{◌≡◌, ◌+◌, length, true, OnOk};
+ghost use Rattle.ir_forms.specs.FlatFits.{steps_in, steps_of};
+ghost use Rattle.ir_forms.specs.FlatViews.{code_of, step_of};
+ghost use Rattle.hyper_plan.specs.Answers.{only_cuts};
+
+use crate::estimate::Estimate;
+use crate::items::{
+    Frame, add_all, add_call, add_result, add_return, add_saves, add_statement, are_plain,
+};
+use base::{Items, Memory};
+use ir_forms::{Arg, FlatStmt};
+
+/// What is known of a function: the instructions that a block may have, its frame, and the groups that
+/// each call of the program saves.
+#[derive(Drop)]
+pub struct Site<'a> {
+    pub room: u8,
+    pub frame: Frame,
+    pub groups: &'a Items<Items<Items<u16>>>,
+}
+
+/// The answers so far, the last place at which the open block may end, what that block comes to, and the
+/// calls that stand before.
+#[derive(Drop)]
+pub struct Walk {
+    pub answers: Items<bool>,
+    pub last: Option<usize>,
+    pub block: Estimate,
+    pub calls: usize,
+}
+
+/// The block is cut at a place.
+#[tactic(auto, using(crate::proofs::Growing::size_set, crate::proofs::Growing::only_set))]
+fn cut_at(walk: &mut Walk, at: usize, site: &Site)
+    ensures size { length walk.new.answers ≡ length walk.old.answers }
+    ensures cuts { site.now.room ≡ 0 → only_cuts walk.old.answers ≡ true
+        → only_cuts walk.new.answers ≡ true }
+{
+    if at < walk.answers.len() {
+        walk.answers.set(at, true);
+    }
+}
+
+/// Another block begins.
+fn open(walk: &mut Walk, site: &Site)
+    ensures size { length walk.new.answers ≡ length walk.old.answers }
+    ensures cuts { site.now.room ≡ 0 → only_cuts walk.old.answers ≡ true
+        → only_cuts walk.new.answers ≡ true }
+{
+    walk.last = None;
+    walk.block = Estimate::empty();
+}
+
+/// The block is cut where it may be cut last, and another begins.
+fn cut_last(walk: &mut Walk, site: &Site)
+    ensures size { length walk.new.answers ≡ length walk.old.answers }
+    ensures cuts { site.now.room ≡ 0 → only_cuts walk.old.answers ≡ true
+        → only_cuts walk.new.answers ≡ true }
+{
+    match walk.last {
+        None => {}
+        Some(at) => cut_at(walk, at, site),
+    }
+    open(walk, site);
+}
+
+/// Whether what a block comes to is within the room.
+fn fits(block: &Estimate, site: &Site) -> bool {
+    block.fits(site.room as u32)
+}
+
+/// A statement goes into the open block, or where it has no room there into another.
+#[inline(never)]
+fn join(walk: &mut Walk, s: &FlatStmt, site: &Site)
+    ensures size { length walk.new.answers ≡ length walk.old.answers }
+    ensures cuts { site.now.room ≡ 0 → only_cuts walk.old.answers ≡ true
+        → only_cuts walk.new.answers ≡ true }
+{
+    let mut block = walk.block;
+    add_statement(&mut block, s, site.frame);
+    if !fits(&block, site) {
+        cut_last(walk, site);
+        block = Estimate::empty();
+        add_statement(&mut block, s, site.frame);
+    }
+    walk.block = block;
+}
+
+/// What ends the open block goes into it, or where it has no room there into another.
+fn close(walk: &mut Walk, block: &Estimate, site: &Site)
+    ensures size { length walk.new.answers ≡ length walk.old.answers }
+    ensures cuts { site.now.room ≡ 0 → only_cuts walk.old.answers ≡ true
+        → only_cuts walk.new.answers ≡ true }
+{
+    if !fits(block, site) {
+        cut_last(walk, site);
+    }
+    open(walk, site);
+}
+
+/// The answer of a place: the block goes on, unless there is no room at all.
+#[tactic(auto, using(crate::proofs::Growing::only_answered))]
+pub fn answer(walk: &mut Walk, site: &Site) -> Result<(), Memory>
+    ensures size { OnOk result (length walk.new.answers ≡ length walk.old.answers + 1) }
+    ensures cuts { OnOk result (site.now.room ≡ 0 → only_cuts walk.old.answers ≡ true
+        → only_cuts walk.new.answers ≡ true) }
+{
+    walk.answers.push(site.room == 0)?;
+    Ok(())
+}
+
+/// A statement behind which the block may end.
+fn single(walk: &mut Walk, s: &FlatStmt, site: &Site) -> Result<(), Memory>
+    ensures size { OnOk result (length walk.new.answers ≡ length walk.old.answers + 1) }
+    ensures cuts { OnOk result (site.now.room ≡ 0 → only_cuts walk.old.answers ≡ true
+        → only_cuts walk.new.answers ≡ true) }
+{
+    join(walk, s, site);
+    walk.last = Some(walk.answers.len());
+    answer(walk, site)
+}
+
+/// A statement with which the block ends.
+fn ending(walk: &mut Walk, s: &FlatStmt, site: &Site) -> Result<(), Memory>
+    ensures size { OnOk result (length walk.new.answers ≡ length walk.old.answers + 1) }
+    ensures cuts { OnOk result (site.now.room ≡ 0 → only_cuts walk.old.answers ≡ true
+        → only_cuts walk.new.answers ≡ true) }
+{
+    join(walk, s, site);
+    open(walk, site);
+    answer(walk, site)
+}
+
+/// What a system call took in begins a block, behind which that may end.
+fn get(walk: &mut Walk, s: &FlatStmt, to: u16, site: &Site) -> Result<(), Memory>
+    ensures size { OnOk result (length walk.new.answers ≡ length walk.old.answers + 1) }
+    ensures cuts { OnOk result (site.now.room ≡ 0 → only_cuts walk.old.answers ≡ true
+        → only_cuts walk.new.answers ≡ true) }
+{
+    let at = walk.answers.len();
+    ending(walk, s, site)?;
+    add_result(&mut walk.block, to);
+    walk.last = Some(at);
+    Ok(())
+}
+
+/// The way out behind a body that comes to its end.
+#[inline(never)]
+pub fn leave(walk: &mut Walk, site: &Site)
+    ensures size { length walk.new.answers ≡ length walk.old.answers }
+    ensures cuts { site.now.room ≡ 0 → only_cuts walk.old.answers ≡ true
+        → only_cuts walk.new.answers ≡ true }
+{
+    let mut block = walk.block;
+    add_return(&mut block, None, site.frame);
+    close(walk, &block, site);
+}
+
+// CALLS
+
+/// A call's first group of saves goes into the open block, which then ends.
+#[inline(never)]
+fn join_saves(walk: &mut Walk, group: &[u16], site: &Site)
+    ensures size { length walk.new.answers ≡ length walk.old.answers }
+    ensures cuts { site.now.room ≡ 0 → only_cuts walk.old.answers ≡ true
+        → only_cuts walk.new.answers ≡ true }
+{
+    let mut block = walk.block;
+    add_saves(&mut block, group, site.frame);
+    close(walk, &block, site);
+}
+
+/// The saves of a call, where there are any.
+fn call_saves(walk: &mut Walk, site: &Site)
+    ensures size { length walk.new.answers ≡ length walk.old.answers }
+    ensures cuts { site.now.room ≡ 0 → only_cuts walk.old.answers ≡ true
+        → only_cuts walk.new.answers ≡ true }
+{
+    let groups = match site.groups.get(walk.calls) {
+        None => return,
+        Some(groups) => groups,
+    };
+    match groups.get(0) {
+        None => {}
+        Some(group) => join_saves(walk, group.as_slice(), site),
+    }
+}
+
+/// The arguments and the call go into the open block, or another.
+#[inline(never)]
+fn join_call(walk: &mut Walk, args: &[Arg], site: &Site)
+    ensures size { length walk.new.answers ≡ length walk.old.answers }
+    ensures cuts { site.now.room ≡ 0 → only_cuts walk.old.answers ≡ true
+        → only_cuts walk.new.answers ≡ true }
+{
+    let mut block = walk.block;
+    add_call(&mut block, args);
+    close(walk, &block, site);
+}
+
+/// Whether a call's arguments have room in a block of their own.
+#[inline(never)]
+fn args_fit(args: &[Arg], site: &Site) -> bool {
+    let mut block = Estimate::empty();
+    add_call(&mut block, args);
+    fits(&block, site)
+}
+
+/// The answer of a call: it is cut, and with it its arguments, where these have no room in one block.
+fn call_answer(walk: &mut Walk, args: &[Arg], site: &Site) -> Result<(), Memory>
+    ensures size { OnOk result (length walk.new.answers ≡ length walk.old.answers + 1) }
+    ensures cuts { OnOk result (site.now.room ≡ 0 → only_cuts walk.old.answers ≡ true
+        → only_cuts walk.new.answers ≡ true) }
+{
+    let at = walk.answers.len();
+    answer(walk, site)?;
+    walk.last = Some(at);
+    if !args_fit(args, site) {
+        cut_at(walk, at, site);
+    }
+    Ok(())
+}
+
+/// A call; its result begins a block, behind which that may end.
+fn call(walk: &mut Walk, args: &[Arg], to: Option<u16>, site: &Site) -> Result<(), Memory>
+    ensures size { OnOk result (length walk.new.answers ≡ length walk.old.answers + 1) }
+    ensures cuts { OnOk result (site.now.room ≡ 0 → only_cuts walk.old.answers ≡ true
+        → only_cuts walk.new.answers ≡ true) }
+{
+    call_saves(walk, site);
+    join_call(walk, args, site);
+    walk.calls = walk.calls.saturating_add(1);
+    match to {
+        None => {}
+        Some(to) => add_result(&mut walk.block, to),
+    }
+    call_answer(walk, args, site)
+}
+
+// LOOPS
+
+/// A loop's last part goes into the block with which its body ends, or that is cut.
+#[inline(never)]
+fn join_post(walk: &mut Walk, at: usize, post: &[FlatStmt], site: &Site)
+    ensures size { length walk.new.answers ≡ length walk.old.answers }
+    ensures cuts { site.now.room ≡ 0 → only_cuts walk.old.answers ≡ true
+        → only_cuts walk.new.answers ≡ true }
+{
+    let mut block = walk.block;
+    add_all(&mut block, post, site.frame);
+    if !(are_plain(post) && fits(&block, site)) {
+        cut_at(walk, at, site);
+    }
+    open(walk, site);
+}
+
+/// A place at which a block begins, or behind which nothing is reached.
+fn head(walk: &mut Walk, site: &Site) -> Result<(), Memory>
+    ensures size { OnOk result (length walk.new.answers ≡ length walk.old.answers + 1) }
+    ensures cuts { OnOk result (site.now.room ≡ 0 → only_cuts walk.old.answers ≡ true
+        → only_cuts walk.new.answers ≡ true) }
+{
+    open(walk, site);
+    answer(walk, site)
+}
+
+// ALL STATEMENTS
+
+#[cycle(walk)]
+fn walk_stmt(s: &FlatStmt, walk: &mut Walk, site: &Site) -> Result<(), Memory>
+    ensures size { OnOk result (length walk.new.answers
+        ≡ length walk.old.answers + steps_in (step_of s.now)) }
+    ensures cuts { OnOk result (site.now.room ≡ 0 → only_cuts walk.old.answers ≡ true
+        → only_cuts walk.new.answers ≡ true) }
+{
+    match s {
+        FlatStmt::Let { .. } => single(walk, s, site)?,
+        FlatStmt::Frame { .. } => single(walk, s, site)?,
+        FlatStmt::Load { .. } => single(walk, s, site)?,
+        FlatStmt::Save { .. } => single(walk, s, site)?,
+        FlatStmt::Call { args, to, .. } => call(walk, args.as_slice(), *to, site)?,
+        FlatStmt::Put(_) => ending(walk, s, site)?,
+        FlatStmt::Get { to } => get(walk, s, *to, site)?,
+        FlatStmt::If { yes, no, .. } => {
+            ending(walk, s, site)?;
+            walk_stmts(yes.as_slice(), walk, site)?;
+            open(walk, site);
+            walk_stmts(no.as_slice(), walk, site)?;
+            open(walk, site);
+        }
+        FlatStmt::Loop { body, post } => {
+            let at = walk.answers.len();
+            head(walk, site)?;
+            walk_stmts(body.as_slice(), walk, site)?;
+            join_post(walk, at, post.as_slice(), site);
+            walk_stmts(post.as_slice(), walk, site)?;
+            open(walk, site);
+        }
+        FlatStmt::Break => head(walk, site)?,
+        FlatStmt::Continue => head(walk, site)?,
+        FlatStmt::Return(_) => ending(walk, s, site)?,
+    }
+    Ok(())
+}
+
+/// The answers of statements, behind others.
+#[cycle(walk)]
+pub fn walk_stmts(stmts: &[FlatStmt], walk: &mut Walk, site: &Site) -> Result<(), Memory>
+    ensures size { OnOk result (length walk.new.answers
+        ≡ length walk.old.answers + steps_of (code_of stmts.now)) }
+    ensures cuts { OnOk result (site.now.room ≡ 0 → only_cuts walk.old.answers ≡ true
+        → only_cuts walk.new.answers ≡ true) }
+{
+    for s in stmts {
+        walk_stmt(s, walk, site)?;
+    }
+    Ok(())
+}
