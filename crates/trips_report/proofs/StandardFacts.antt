@@ -1,0 +1,111 @@
+-- Reports, worked by hand from the README of this crate.
+use Rattle.std.proofs.Common.{◌≡◌, ◌-◌, ◌^◌, [], ◌∷◌, ◌++◌, refl, codes, true, false}
+use Rattle.std.specs.Prelude.{pos}
+use Rattle.std.specs.Fmt.{digits}
+use Rattle.hex.specs.Hex.{encode_with}
+use Rattle.isa_table.specs.Spots.{indexed, at_slot}
+use Rattle.trips_isa.specs.declared.run.Counts.{Counts}
+use Rattle.trips_isa.specs.declared.run.Ending.TheVariants as ending
+use Rattle.trips_isa.specs.declared.block.Spot.TheVariants as spot
+use Rattle.trips_isa.specs.Machine.{State}
+use Rattle.c_parse.specs.declared.unit.ParseFault.TheVariants as parse
+use Rattle.c_type_expr.specs.declared.fault.TypeFault.TheVariants as typing
+use Rattle.block_image.specs.declared.fault.ImageFault.TheVariants as image
+use Rattle.target_asm_spec.specs.declared.fault.AsmFault.TheVariants as asm
+use Rattle.block_check.specs.declared.fault.CheckFault.TheVariants as check
+use Rattle.c_meaning.specs.declared.outcome.Outcome.TheVariants as outcome
+use Rattle.trips_report.specs.declared.said.Said.TheVariants as said
+use Rattle.trips_report.specs.declared.show.Show.{Show}
+use Rattle.trips_report.specs.Lines.{word_digits, register_line, traced_line, count_line, count_lines}
+use Rattle.trips_report.specs.Lines.{with_part}
+use Rattle.trips_report.specs.Runs.{signed, run_report}
+use Rattle.trips_report.specs.Evaluations.{eval_report}
+use Rattle.trips_report.specs.Refusals.{too_large_text, refusal_report}
+
+-- four registers, of which the last has what main returned, and one committed block
+abbrev ended : State
+ended = record {
+  registers = 3 ∷ 0 ∷ 0 ∷ 7 ∷ [];
+  memory = [];
+  next = 0;
+  rest = [];
+  output = codes "hi";
+  trace = (record { block = 0; exit = 1 }) ∷ [];
+}
+
+abbrev counts : Counts
+counts = record { cycles = 40; fetched = 3; committed = 1; flushed = 2 }
+
+abbrev shown : Show
+shown = record { regs = true; trace = true; cycles = true }
+
+abbrev hidden : Show
+hidden = record { regs = false; trace = false; cycles = false }
+
+pub plain_is : run_report ending.Ended ended counts 512 hidden ≡ codes "output 2\nhi\nresult 7\n"
+unfolding digits with_part
+plain_is = refl
+
+pub whole_is : run_report ending.StackFull ended counts 512 shown
+    ≡ codes "output 2\nhi\nstack full\n"
+    ++ (codes "G[0] 0000000000000003\nG[1] 0000000000000000\n"
+    ++ (codes "G[2] 0000000000000000\nG[3] 0000000000000007\n"
+    ++ (codes "block 0 exit 1\n"
+    ++ codes "blocks 1\ncycles 40\nfetched 3\nflushed 2\ncost 512\n")))
+unfolding digits encode_with indexed word_digits register_line traced_line count_line count_lines with_part
+whole_is = refl
+
+pub budget_is : run_report ending.Budget ended counts 512 hidden ≡ codes "output 2\nhi\nbudget 1\n"
+unfolding digits with_part
+budget_is = refl
+
+pub trap_is : run_report (ending.Trap 12 2) ended counts 512 hidden
+    ≡ codes "output 2\nhi\ntrap block 12 cause 2\n"
+unfolding digits with_part
+trap_is = refl
+
+-- every digit, and the most significant one first
+pub digits_are : word_digits 81985529216486895 ≡ codes "0123456789abcdef"
+unfolding encode_with word_digits
+digits_are = refl
+
+pub negative_is : signed (2 ^ 64 - 31) ≡ codes "-31"
+unfolding digits
+negative_is = refl
+
+pub done_is : eval_report (outcome.Done [] (pos 7) 4) ≡ codes "output 0\n\nresult 7\nsteps 4\n"
+unfolding digits
+done_is = refl
+
+pub deep_is : eval_report outcome.Deep ≡ codes "deep\n"
+deep_is = refl
+
+pub empty_is : refusal_report (said.Parse (parse.Syntax 1)) ≡ codes "refused parse 1 Syntax line 1\n"
+unfolding digits
+empty_is = refl
+
+pub no_main_is : refusal_report (said.Typing typing.NoMain) ≡ codes "refused type 5 NoMain\n"
+no_main_is = refl
+
+pub cut_is : refusal_report (said.Image (image.Truncated 200))
+    ≡ codes "refused image 3 Truncated at 200\n"
+unfolding digits
+cut_is = refl
+
+pub label_is : refusal_report (said.Asm (asm.Label 4)) ≡ codes "refused asm 3 Label line 4\n"
+unfolding digits
+label_is = refl
+
+pub no_token_is : refusal_report (said.Check 0 (check.NoToken (spot.Store 0)))
+    ≡ codes "refused check 6 NoToken S[0] block 0\n"
+unfolding digits indexed
+no_token_is = refl
+
+pub two_tokens_are : refusal_report (said.Check 7 (check.TwoTokens (spot.Left 2)))
+    ≡ codes "refused check 5 TwoTokens N[2,0] block 7\n"
+unfolding digits at_slot
+two_tokens_are = refl
+
+pub large_is : refusal_report said.TooLarge ≡ codes "refused file 2 TooLarge\n"
+unfolding too_large_text
+large_is = refl

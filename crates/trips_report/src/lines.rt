@@ -1,0 +1,137 @@
+//! The lines that a run shows behind its ending.
+
+ghost use Rattle.std.specs.Prelude.{◌≡◌, ◌++◌, OnOk, length};
+ghost use Rattle.trips_report.specs.Lines.{word_digits, register_line, traced_line, count_line};
+ghost use Rattle.trips_report.specs.Lines.{register_lines, trace_lines, count_lines, with_part};
+
+use block_atomic::Arch;
+use hex::encode;
+use isa_table::{put_indexed, put_number};
+use std::alloc::{AllocError, Global};
+use trips_isa::{Counts, Traced};
+
+// Writes a word in sixteen hexadecimal digits.
+#[tactic(auto, unfolding(crate::specs::Lines::word_digits))]
+fn put_word(alloc: Global, out: &mut Vec<u8>, word: u64) -> Result<(), AllocError>
+    ensures ok { OnOk result (out.new.items ≡ out.old.items ++ word_digits word) }
+{
+    let digits = encode(alloc, word.to_be_bytes())?;
+    out.extend_from_slice(digits.as_bytes())
+}
+
+// Writes the line of a register.
+#[tactic(auto, unfolding(crate::specs::Lines::register_line))]
+fn put_register(alloc: Global, out: &mut Vec<u8>, r: u8, word: u64) -> Result<(), AllocError>
+    ensures ok { OnOk result (out.new.items ≡ out.old.items ++ register_line r word) }
+{
+    put_indexed(out, b'G', r as u64)?;
+    out.push(b' ')?;
+    put_word(alloc, out, word)?;
+    out.push(b'\n')?;
+    Ok(())
+}
+
+// Writes a line for each register.
+fn put_registers(alloc: Global, out: &mut Vec<u8>, arch: &Arch) -> Result<(), AllocError>
+    requires count { length arch.now.state.registers ≡ 128 }
+    ensures ok { OnOk result (out.new.items ≡ out.old.items
+        ++ register_lines arch.now.state.registers) }
+{
+    for r in 0..128u8 {
+        put_register(alloc, out, r, arch.register(r))?;
+    }
+    Ok(())
+}
+
+/// Writes a line for each register, where they are shown.
+#[tactic(auto, unfolding(crate::specs::Lines::with_part))]
+pub fn show_registers(
+    alloc: Global,
+    out: &mut Vec<u8>,
+    shown: bool,
+    arch: &Arch,
+) -> Result<(), AllocError>
+    requires count { length arch.now.state.registers ≡ 128 }
+    ensures ok { OnOk result (out.new.items
+        ≡ with_part shown (register_lines arch.now.state.registers) out.old.items) }
+{
+    if shown {
+        put_registers(alloc, out, arch)
+    } else {
+        Ok(())
+    }
+}
+
+// Writes the line of a committed block.
+#[tactic(auto, unfolding(crate::specs::Lines::traced_line))]
+fn put_traced(out: &mut Vec<u8>, traced: Traced) -> Result<(), AllocError>
+    ensures ok { OnOk result (out.new.items ≡ out.old.items ++ traced_line traced) }
+{
+    out.extend_from_slice(b"block ")?;
+    put_number(out, traced.block as u64)?;
+    out.extend_from_slice(b" exit ")?;
+    put_number(out, traced.exit as u64)?;
+    out.push(b'\n')?;
+    Ok(())
+}
+
+// Writes a line for each committed block.
+fn put_trace(out: &mut Vec<u8>, trace: &[Traced]) -> Result<(), AllocError>
+    ensures ok { OnOk result (out.new.items ≡ out.old.items ++ trace_lines trace.now) }
+{
+    for traced in trace {
+        put_traced(out, *traced)?;
+    }
+    Ok(())
+}
+
+/// Writes a line for each committed block, where they are shown.
+#[tactic(auto, unfolding(crate::specs::Lines::with_part))]
+pub fn show_trace(out: &mut Vec<u8>, shown: bool, trace: &[Traced]) -> Result<(), AllocError>
+    ensures ok { OnOk result (out.new.items ≡ with_part shown (trace_lines trace.now)
+        out.old.items) }
+{
+    if shown { put_trace(out, trace) } else { Ok(()) }
+}
+
+// Writes a name with a number.
+#[tactic(auto, unfolding(crate::specs::Lines::count_line))]
+fn put_count(out: &mut Vec<u8>, name: &[u8], n: u64) -> Result<(), AllocError>
+    ensures ok { OnOk result (out.new.items ≡ out.old.items ++ count_line name.now n) }
+{
+    out.extend_from_slice(name)?;
+    put_number(out, n)?;
+    out.push(b'\n')?;
+    Ok(())
+}
+
+// Writes what a run took.
+#[tactic(auto, unfolding(crate::specs::Lines::count_lines))]
+fn put_counts(out: &mut Vec<u8>, counts: Counts, cost: u64) -> Result<(), AllocError>
+    ensures ok { OnOk result (out.new.items ≡ out.old.items ++ count_lines counts cost) }
+{
+    put_count(out, b"blocks ", counts.committed)?;
+    put_count(out, b"cycles ", counts.cycles)?;
+    put_count(out, b"fetched ", counts.fetched)?;
+    put_count(out, b"flushed ", counts.flushed)?;
+    put_count(out, b"cost ", cost)?;
+    Ok(())
+}
+
+/// Writes what a run took, where it is shown.
+#[tactic(auto, unfolding(crate::specs::Lines::with_part))]
+pub fn show_counts(
+    out: &mut Vec<u8>,
+    shown: bool,
+    counts: Counts,
+    cost: u64,
+) -> Result<(), AllocError>
+    ensures ok { OnOk result (out.new.items ≡ with_part shown (count_lines counts cost)
+        out.old.items) }
+{
+    if shown {
+        put_counts(out, counts, cost)
+    } else {
+        Ok(())
+    }
+}

@@ -1,0 +1,103 @@
+//! The report of a run.
+
+ghost use Rattle.std.specs.Prelude.{◌≡◌, IfOk, length, string_bytes};
+ghost use Rattle.trips_report.specs.Runs.{signed, ending_line, output_and, plain_report, run_report};
+
+use crate::lines::{show_counts, show_registers, show_trace};
+use crate::show::Show;
+use base::Memory;
+use block_atomic::Arch;
+use std::alloc::{AllocError, Global};
+use trips_isa::{Counts, Ending};
+
+// A word as a signed number.
+fn signed_text(alloc: Global, word: u64) -> Result<String, AllocError>
+    ensures { IfOk result (λ text. string_bytes text ≡ signed word) }
+{
+    if word < 1 << 63 {
+        word.to_string(alloc)
+    } else {
+        let size = u64::MAX - word + 1;
+        format!(in alloc; "-{size}")
+    }
+}
+
+// The line of an ending, of register 3 and of how many blocks were committed.
+fn ending_text(
+    alloc: Global,
+    ending: Ending,
+    word: u64,
+    blocks: usize,
+) -> Result<String, AllocError>
+    ensures { IfOk result (λ text. string_bytes text ≡ ending_line ending word blocks) }
+{
+    match ending {
+        Ending::Ended => {
+            let number = signed_text(alloc, word)?;
+            format!(in alloc; "result {number}")
+        }
+        Ending::StackFull => String::from_str(alloc, "stack full"),
+        Ending::Budget => format!(in alloc; "budget {blocks}"),
+        Ending::Trap { block, cause } => format!(in alloc; "trap block {block} cause {cause}"),
+    }
+}
+
+/// The output's length, the output, and a line.
+pub fn output_text(alloc: Global, output: &[u8], line: &str) -> Result<Vec<u8>, AllocError>
+    ensures { IfOk result (λ report. report.items ≡ output_and output.now line.now) }
+{
+    let count = output.len();
+    let head = format!(in alloc; "output {count}\n")?;
+    let mut report = Vec::from_slice(alloc, head.as_bytes())?;
+    report.extend_from_slice(output)?;
+    report.extend_from_slice(b"\n")?;
+    report.extend_from_slice(line.as_bytes())?;
+    report.extend_from_slice(b"\n")?;
+    Ok(report)
+}
+
+// The report of a run without what may be shown besides, of a machine with its 128 registers.
+fn plain_text(alloc: Global, ending: Ending, arch: &Arch) -> Result<Vec<u8>, AllocError>
+    ensures report { IfOk result (λ report. report.items ≡ plain_report ending arch.now.state) }
+    ensures count { length arch.now.state.registers ≡ 128 }
+{
+    let line = ending_text(alloc, ending, arch.register(3), arch.trace().len())?;
+    output_text(alloc, arch.output(), line.as_str())
+}
+
+// The report of a run, and behind it what is shown.
+fn run_text(
+    alloc: Global,
+    ending: Ending,
+    arch: &Arch,
+    counts: Counts,
+    cost: u64,
+    show: Show,
+) -> Result<Vec<u8>, AllocError>
+    ensures { IfOk result (λ report.
+        report.items ≡ run_report ending arch.now.state counts cost show) }
+{
+    let mut report = plain_text(alloc, ending, arch)?;
+    show_registers(alloc, &mut report, show.regs, arch)?;
+    show_trace(&mut report, show.trace, arch.trace())?;
+    show_counts(&mut report, show.cycles, counts, cost)?;
+    Ok(report)
+}
+
+/// The report of a run: the output, how the run ended and, as far as they are shown, the registers,
+/// the committed blocks, and what the run took, `cost` cycles at most. Want of memory is the only
+/// error.
+pub fn run_report(
+    alloc: Global,
+    ending: Ending,
+    arch: &Arch,
+    counts: Counts,
+    cost: u64,
+    show: Show,
+) -> Result<Vec<u8>, Memory>
+    ensures ok { IfOk result (λ report.
+        report.items ≡ run_report ending arch.now.state counts cost show) }
+{
+    let report = run_text(alloc, ending, arch, counts, cost, show)?;
+    Ok(report)
+}

@@ -1,0 +1,5 @@
+//! Reports of runs, evaluations and refusals, as tests.
+#![tactic(auto)]
+
+#[cfg(test)]
+mod report_tests;

@@ -1,0 +1,246 @@
+//! Reports of a whole run, of an evaluation, and of a refusal of each stage.
+
+use base::Items;
+use block_atomic::Arch;
+use block_check::{CheckFault, CheckedImage};
+use block_image::{ImageFault, decode};
+use c_lex::LexFault;
+use c_meaning::Outcome;
+use c_parse::ParseFault;
+use c_type::TypeFault;
+use std::alloc::{AllocError, Global};
+use std::process::Abort;
+use std::test::Fail;
+use target_asm_spec::AsmFault;
+use trips_isa::{Counts, Ending, Spot};
+use trips_report::{Said, Show, eval_report, refusal_report, run_report};
+
+const COUNTS: Counts = Counts {
+    cycles: 40,
+    fetched: 3,
+    committed: 1,
+    flushed: 2,
+};
+
+// The words of the image of one block that returns 7 (docs/MACHINE.md, "The image"), but for those
+// that are 0.
+const SEVEN: &[(usize, u32)] = &[
+    (1, 0x00000003),
+    (21, 0x80000000),
+    (23, 0x80000000),
+    (32, 0x60000620),
+    (33, 0x60000e21),
+    (34, 0x48000000),
+];
+
+// Its bytes.
+fn seven(alloc: Global) -> Result<Vec<u8>, AllocError> {
+    let mut all = [0u32; 64];
+    for (at, word) in SEVEN {
+        if let Some(place) = all.get_mut(*at) {
+            *place = *word;
+        }
+    }
+    let mut bytes = Vec::from_slice(alloc, b"TRIPSIMG")?;
+    for number in [1u32, 1, 0] {
+        bytes.extend_from_slice(&number.to_be_bytes())?;
+    }
+    for word in &all {
+        bytes.extend_from_slice(&word.to_be_bytes())?;
+    }
+    Ok(bytes)
+}
+
+// The report of its run of one block, after an ending.
+fn report_of_seven(alloc: Global, ending: Ending, show: Show) -> Result<Vec<u8>, AllocError> {
+    let Ok(image) = decode(alloc, &seven(alloc)?) else {
+        return Err(AllocError);
+    };
+    let Ok(checked) = CheckedImage::make(alloc, image) else {
+        return Err(AllocError);
+    };
+    let Ok(mut arch) = Arch::make(alloc, &checked, Vec::new(alloc), 2) else {
+        return Err(AllocError);
+    };
+    let _ = arch.step(&checked);
+    let Ok(report) = run_report(alloc, ending, &arch, COUNTS, 1_024, show) else {
+        return Err(AllocError);
+    };
+    Ok(report)
+}
+
+/// How a run ended, what is shown, and the report.
+type Run = (Ending, Show, &'static str);
+
+const NOTHING: Show = Show {
+    regs: false,
+    trace: false,
+    cycles: false,
+};
+
+const RUNS: &[Run] = &[
+    (Ending::Ended, NOTHING, "output 0\n\nresult 7\n"),
+    (
+        Ending::Ended,
+        Show {
+            regs: false,
+            trace: true,
+            cycles: false,
+        },
+        "output 0\n\nresult 7\nblock 0 exit 0\n",
+    ),
+    (
+        Ending::StackFull,
+        Show {
+            regs: false,
+            trace: false,
+            cycles: true,
+        },
+        "output 0\n\nstack full\nblocks 1\ncycles 40\nfetched 3\nflushed 2\ncost 1024\n",
+    ),
+    (
+        Ending::Budget,
+        Show {
+            regs: false,
+            trace: true,
+            cycles: true,
+        },
+        "output 0\n\nbudget 1\nblock 0 exit 0\nblocks 1\ncycles 40\nfetched 3\nflushed 2\ncost 1024\n",
+    ),
+    (
+        Ending::Trap { block: 3, cause: 1 },
+        NOTHING,
+        "output 0\n\ntrap block 3 cause 1\n",
+    ),
+];
+
+fn assert_run(
+    rt: &impl Abort,
+    alloc: Global,
+    ending: Ending,
+    show: Show,
+    report: &str,
+) -> Result<(), AllocError> {
+    let written = report_of_seven(alloc, ending, show)?;
+    assert_eq!(rt;
+        written.as_slice(),
+        report.as_bytes(),
+        "{ending:?} {show:?}"
+    );
+    Ok(())
+}
+
+fn assert_runs(rt: &impl Abort, alloc: Global, rows: &[Run]) -> Result<(), AllocError> {
+    for (ending, show, report) in rows {
+        assert_run(rt, alloc, *ending, *show, *report)?;
+    }
+    Ok(())
+}
+
+#[test]
+fn shows_what_is_asked_for(rt: HostRuntime) -> Result<(), Fail> {
+    assert_runs(&rt, rt.alloc(), RUNS)?;
+    Ok(())
+}
+
+// The report in which registers 0 and 3 alone have a digit other than 0.
+fn with_registers(alloc: Global) -> Result<Vec<u8>, AllocError> {
+    let mut report = Vec::from_slice(alloc, b"output 0\n\nresult 7\n")?;
+    for r in 0..128u8 {
+        let word = if r == 0 {
+            3
+        } else if r == 3 {
+            7
+        } else {
+            0
+        };
+        let line = format!(in alloc; "G[{r}] 000000000000000{word}\n")?;
+        report.extend_from_slice(line.as_bytes())?;
+    }
+    report.extend_from_slice(b"block 0 exit 0\n")?;
+    Ok(report)
+}
+
+#[test]
+fn shows_each_register(rt: HostRuntime) -> Result<(), Fail> {
+    let alloc = rt.alloc();
+    let show = Show {
+        regs: true,
+        trace: true,
+        cycles: false,
+    };
+    let wanted = with_registers(alloc)?;
+    let written = report_of_seven(alloc, Ending::Ended, show)?;
+    assert_eq!(rt; written.as_slice(), wanted.as_slice(), "registers");
+    Ok(())
+}
+
+fn assert_evaluation(
+    rt: &impl Abort,
+    alloc: Global,
+    outcome: &Outcome,
+    report: &str,
+) -> Result<(), AllocError> {
+    let written = eval_report(alloc, outcome).expect(rt, "memory");
+    assert_eq!(rt; written.as_slice(), report.as_bytes(), "{report}");
+    Ok(())
+}
+
+#[test]
+fn tells_an_evaluation(rt: HostRuntime) -> Result<(), Fail> {
+    let alloc = rt.alloc();
+    assert_evaluation(&rt, alloc, &Outcome::More, "more\n")?;
+    assert_evaluation(&rt, alloc, &Outcome::Undefined, "undefined\n")?;
+    assert_evaluation(&rt, alloc, &Outcome::Deep, "deep\n")?;
+    let done = Outcome::Done {
+        output: Items::from_vec(Vec::from_slice(alloc, b"3\n")?),
+        result: -3,
+        steps: 4,
+    };
+    assert_evaluation(&rt, alloc, &done, "output 2\n3\n\nresult -3\nsteps 4\n")?;
+    Ok(())
+}
+
+fn assert_refusal(rt: &impl Abort, alloc: Global, said: Said, report: &str) {
+    let written = refusal_report(alloc, said).expect(rt, "memory");
+    assert_eq!(rt; written.as_slice(), report.as_bytes(), "{report}");
+}
+
+#[test]
+fn tells_refusals_of_texts(rt: HostRuntime) {
+    let alloc = rt.alloc();
+    let lex = Said::Lex(LexFault::Directive(1));
+    assert_refusal(&rt, alloc, lex, "refused lex 5 Directive line 1\n");
+    let parse = Said::Parse(ParseFault::TooDeep(31));
+    assert_refusal(&rt, alloc, parse, "refused parse 2 TooDeep line 31\n");
+    let typing = Said::Typing(TypeFault::NoMain);
+    assert_refusal(&rt, alloc, typing, "refused type 5 NoMain\n");
+    let need = Said::Typing(TypeFault::Need(1));
+    assert_refusal(&rt, alloc, need, "refused type 8 Need line 1\n");
+    let asm = Said::Asm(AsmFault::Label(4));
+    assert_refusal(&rt, alloc, asm, "refused asm 3 Label line 4\n");
+}
+
+#[test]
+fn tells_refusals_of_images(rt: HostRuntime) {
+    let alloc = rt.alloc();
+    assert_refusal(&rt, alloc, Said::TooLarge, "refused file 2 TooLarge\n");
+    let magic = Said::Image(ImageFault::Magic);
+    assert_refusal(&rt, alloc, magic, "refused image 1 Magic\n");
+    let trailing = Said::Image(ImageFault::Trailing(276));
+    assert_refusal(&rt, alloc, trailing, "refused image 4 Trailing at 276\n");
+    let token = Said::Check(0, CheckFault::NoToken(Spot::Store(0)));
+    assert_refusal(&rt, alloc, token, "refused check 6 NoToken S[0] block 0\n");
+    let exits = Said::Check(5, CheckFault::TwoExits);
+    assert_refusal(&rt, alloc, exits, "refused check 8 TwoExits block 5\n");
+}
+
+#[test]
+fn want_of_memory_is_no_refusal(rt: HostRuntime) {
+    let alloc = rt.alloc();
+    assert!(rt; refusal_report(alloc, Said::Lex(LexFault::Memory)).is_err());
+    assert!(rt; refusal_report(alloc, Said::Parse(ParseFault::Memory)).is_err());
+    assert!(rt; refusal_report(alloc, Said::Typing(TypeFault::Memory)).is_err());
+    assert!(rt; refusal_report(alloc, Said::Image(ImageFault::Memory)).is_err());
+    assert!(rt; refusal_report(alloc, Said::Asm(AsmFault::Memory)).is_err());
+}
