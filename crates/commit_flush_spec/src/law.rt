@@ -1,6 +1,6 @@
 //! Laws of the window, over its definitions alone; each function's clause is the law.
 ghost use Rattle.std.specs.Prelude.{◌≡◌, ◌<◌, ◌≤◌, ◌==◌, ℕ, suc, Bool, true, false, List, [], ◌∷◌, length};
-ghost use Rattle.std.specs.Prelude.{Option, Some, slice_set};
+ghost use Rattle.std.specs.Prelude.{Option, Some, slice_set, take};
 ghost use Rattle.std.specs.List.{list_any};
 ghost use Rattle.trips_isa.specs.declared.block.Block.{Block};
 ghost use Rattle.trips_isa.specs.declared.run.Stepped.TheVariants.{Went, Trap};
@@ -10,7 +10,12 @@ ghost use Rattle.trips_isa.specs.Machine.{come_to, start};
 ghost use Rattle.commit_flush_spec.specs.Causes.{Cause, Done, NotNow};
 ghost use Rattle.commit_flush_spec.specs.Frames.{Frame, at};
 ghost use Rattle.commit_flush_spec.specs.Older.{Older};
-ghost use Rattle.commit_flush_spec.specs.Numbered.{by_age, seen_at};
+ghost use Rattle.commit_flush_spec.specs.Numbered.{by_age, seen_at, AllThere};
+ghost use Rattle.commit_flush_spec.specs.Dropping.{left_by, stored_alone, store_left, exited_alone, exit_left};
+ghost use Rattle.commit_flush_spec.specs.Dropping.{unchanged, none_left};
+ghost use Rattle.commit_flush_spec.specs.Memory.{store};
+ghost use Rattle.commit_flush_spec.specs.Ends.{exit};
+ghost use Rattle.commit_flush_spec.specs.InFlight.{flush};
 ghost use Rattle.commit_flush_spec.specs.Ends.{outputs, cause_held};
 ghost use Rattle.commit_flush_spec.specs.InFlight.{Window, alone, change, in_flight, opened};
 ghost use Rattle.commit_flush_spec.specs.Window.{Event, Flush, Commit, can, done, happens, plays};
@@ -82,4 +87,17 @@ pub fn frames_may_be_kept_by_number()
         → list_any (λ m. m == n) order ≡ true
         → change (alone does) o (by_age slots order) n
         ≡ by_age (slice_set slots n (Some (does (seen_at o (by_age slots order) n) f))) order }
+{}
+
+/// A store, an exit and a flush change one frame alone, and leave the beginning of the frames by age; where frames
+/// are kept by number, that is the beginning of their order.
+pub fn flushes_cut_the_order()
+    ensures stores { (m : ℕ) (o : Older) (fs : List Frame) (n : ℕ) → change (store m) o fs n
+        ≡ take (left_by (store_left m) o fs n) (change (alone (stored_alone m)) o fs n) }
+    ensures exits { (blocks : List Block) (o : Older) (fs : List Frame) (n : ℕ) → change (exit blocks) o fs n
+        ≡ take (left_by (exit_left blocks) o fs n) (change (alone (exited_alone blocks)) o fs n) }
+    ensures flushes { (o : Older) (fs : List Frame) (n : ℕ) → change flush o fs n
+        ≡ take (left_by none_left o fs n) (change (alone unchanged) o fs n) }
+    ensures order { (slots : List (Option Frame)) (order : List ℕ) (k : ℕ) → AllThere slots order
+        → take k (by_age slots order) ≡ by_age slots (take k order) }
 {}
