@@ -1,10 +1,10 @@
 -- The committed state after some cycles, by the number of committed blocks alone.
-use Rattle.std.proofs.Common.{◌≡◌, ℕ, ◌+◌, List, length, refl, sym, ap, ◌∙◌, subst, arith}
+use Rattle.std.proofs.Common.{◌≡◌, ℕ, List, length, sym, ap, ◌∙◌, subst, arith}
 use Rattle.trips_isa.specs.declared.block.Block.{Block}
 use Rattle.trips_isa.specs.declared.run.Stepped.{Stepped}
 use Rattle.trips_isa.specs.declared.run.Stepped.TheVariants as stepped
 use Rattle.trips_isa.specs.Machine.{State, runs}
-use Rattle.commit_flush_spec.specs.Window.{Window, plays}
+use Rattle.commit_flush_spec.specs.Window.{Window}
 use Rattle.commit_flush_spec.specs.Invariant.{AllGood}
 use Rattle.commit_flush_spec.specs.Laws.{Reached, TakesSteps, WindowOk}
 use Rattle.commit_flush_spec.proofs.Whole.{from_here}

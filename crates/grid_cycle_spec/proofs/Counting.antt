@@ -1,5 +1,5 @@
 -- Fetched frames are committed, flushed, or in flight: how many frames each event leaves.
-use Rattle.std.proofs.Common.{◌≡◌, ℕ, zero, suc, ◌+◌, ◌-◌, ◌%◌, ◌/◌, ◌==◌, ◌≤◌, Bool, true, false, cond, not}
+use Rattle.std.proofs.Common.{◌≡◌, ℕ, suc, ◌+◌, ◌-◌, ◌%◌, ◌/◌, ◌==◌, ◌≤◌, Bool, true, false, cond, not}
 use Rattle.std.proofs.Common.{List, [], ◌∷◌, ◌++◌}
 use Rattle.std.proofs.Common.{length, drop, Option, Some, None, is_none, slice_get, slice_index, refl, sym, ap}
 use Rattle.std.proofs.Common.{◌∙◌, subst}

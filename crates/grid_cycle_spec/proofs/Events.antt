@@ -1,5 +1,5 @@
 -- Whatever the grid does, its window changes by events.
-use Rattle.std.proofs.Common.{◌≡◌, ℕ, List, [], ◌∷◌, ◌++◌, Option, Some, None, refl, sym, ap, ◌∙◌, subst}
+use Rattle.std.proofs.Common.{◌≡◌, ℕ, List, [], ◌∷◌, ◌++◌, Option, Some, None, refl, sym, ap, ◌∙◌}
 use Rattle.trips_isa.specs.declared.block.Block.{Block}
 use Rattle.trips_isa.specs.declared.run.Stepped.{Stepped}
 use Rattle.trips_isa.specs.declared.run.Stepped.TheVariants as stepped
@@ -8,7 +8,7 @@ use Rattle.commit_flush_spec.specs.Window.{Window, Event, happens, plays}
 use Rattle.commit_flush_spec.specs.Window as window
 use Rattle.grid_cycle_spec.specs.Laws.{ByEvents}
 use Rattle.grid_cycle_spec.specs.Grid.{Grid}
-use Rattle.grid_cycle_spec.specs.Acting.{flushed, gone, act}
+use Rattle.grid_cycle_spec.specs.Acting.{flushed, gone}
 use Rattle.grid_cycle_spec.specs.Ends.{learning, committed_as, commit_in}
 use Rattle.grid_cycle_spec.specs.Cycles.{Eager, AfterCycles}
 use Rattle.grid_cycle_spec.proofs.Parts.{Keeps, eager_keeps, cycles_keep}

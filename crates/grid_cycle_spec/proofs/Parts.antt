@@ -33,7 +33,7 @@ use Rattle.grid_cycle_spec.specs.Units.{result_enters, slot_enters, rests, resul
 use Rattle.grid_cycle_spec.specs.Units.{ready, takes, issued, issue_chosen, issues, unit_turn, works_on}
 use Rattle.grid_cycle_spec.specs.Arrivals.{asks, delivers, is_waiting, load_arrives, slot_arrives}
 use Rattle.grid_cycle_spec.specs.Arrivals.{inst_arrives, place_arrives, arrives_if, arrival, arrivals}
-use Rattle.grid_cycle_spec.specs.Cycles.{acts, counted, Moves, Follows, Eager, AfterCycles, Then}
+use Rattle.grid_cycle_spec.specs.Cycles.{acts, counted, Moves, Follows, Eager, AfterCycles}
 
 -- an event of one frame, which flushes none
 abbrev pub IsSingle : Event → Type 0

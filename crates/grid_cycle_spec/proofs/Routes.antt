@@ -1,9 +1,9 @@
 -- The ways of parcels, by a test of all pairs of nodes; costs.
-use Rattle.std.proofs.Common.{◌≡◌, ◌≢◌, ℕ, zero, suc, ◌+◌, ◌*◌, ◌/◌, ◌%◌, ◌<◌, ◌≤◌, Bool, true, false, ◌==◌}
+use Rattle.std.proofs.Common.{◌≡◌, ◌≢◌, ℕ, ◌+◌, ◌*◌, ◌/◌, ◌%◌, ◌<◌, ◌≤◌, Bool, true, false, ◌==◌}
 use Rattle.std.proofs.Common.{◌&&◌, ◌||◌, nat_le, nat_lt, List, [], ◌∷◌, ◌++◌, length, Option, Some, None, refl}
-use Rattle.std.proofs.Common.{sym, ap, ap₂, ◌∙◌, true≢false, arith}
+use Rattle.std.proofs.Common.{sym, ap₂, ◌∙◌, true≢false, arith}
 use Rattle.std.proofs.Common.{◌-◌, cond, slice_index_or}
-use Rattle.std.proofs.lemmas.Bool.{agree_below_at, leb-true, ltb-true, eqb-true, eq-eqb}
+use Rattle.std.proofs.lemmas.Bool.{agree_below_at, leb-true, ltb-true, eqb-true}
 use Rattle.trips_isa.specs.declared.op.Op.{Op}
 use Rattle.trips_isa.specs.declared.op.Op.TheVariants.{Mul, Muli, Divs, Divu}
 use Rattle.trips_isa.specs.declared.block.Inst.{Inst}
@@ -13,7 +13,7 @@ use Rattle.trips_isa.specs.declared.places.TheConstants.{FIRST_WRITE}
 use Rattle.trips_isa.specs.Fits.{FitsBlock}
 use Rattle.operand_net.specs.Tick.{next_of}
 use Rattle.grid_cycle_spec.specs.Stations.{bank_of, bank_node, data_tile_of, data_node, far, home, tile_of, tile_node}
-use Rattle.grid_cycle_spec.specs.Costs.{instructions, size, cost, cost_in, cost_of, greatest}
+use Rattle.grid_cycle_spec.specs.Costs.{instructions, cost, cost_of, greatest}
 use Rattle.grid_cycle_spec.specs.Laws.{IsNearer, TakesTime}
 
 -- a test of a pair of nodes that holds of all pairs below 25, the pair being a number below 625

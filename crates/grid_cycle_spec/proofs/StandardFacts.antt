@@ -1,14 +1,12 @@
 -- Worked rows of the definitions.
-use Rattle.std.proofs.Common.{◌≡◌, ℕ, ◌==◌, ◌||◌, true, false, [], ◌∷◌, Option, Some, None, refl}
+use Rattle.std.proofs.Common.{◌≡◌, ℕ, ◌==◌, ◌||◌, false, [], ◌∷◌, Some, refl}
 use Rattle.trips_isa.specs.declared.op.Op.TheVariants.{Add, Mul, Divs, Ld}
-use Rattle.trips_isa.specs.Machine.{State}
 use Rattle.operand_net.specs.Tick.{next_of}
-use Rattle.commit_flush_spec.specs.Frames.{Frame}
 use Rattle.grid_cycle_spec.specs.Stations.{control, bank_node, data_node, tile_node, tile_of, bank_of}
 use Rattle.grid_cycle_spec.specs.Stations.{data_tile_of, far}
 use Rattle.grid_cycle_spec.specs.Costs.{latency}
-use Rattle.grid_cycle_spec.specs.Choosing.{least, each, eldest}
-use Rattle.grid_cycle_spec.specs.Grid.{Grid, Fetching}
+use Rattle.grid_cycle_spec.specs.Choosing.{least, each}
+use Rattle.grid_cycle_spec.specs.Grid.{Grid}
 use Rattle.grid_cycle_spec.specs.Fetches.{fetches}
 use Rattle.grid_cycle_spec.specs.Units.{unit_on}
 use Rattle.grid_cycle_spec.specs.DataTiles.{bit_of}

@@ -1,12 +1,12 @@
 -- An event of the window in the grid, and what a flush takes along (docs/GRID.md, "Flushes").
-use Rattle.std.specs.Prelude.{ℕ, ◌+◌, ◌-◌, ◌==◌, Bool, true, false, cond, not, List, [], ◌∷◌, length, drop}
+use Rattle.std.specs.Prelude.{ℕ, ◌+◌, Bool, true, false, cond, List, [], ◌∷◌, length, drop}
 use Rattle.std.specs.Prelude.{Option, Some, None}
 use Rattle.trips_isa.specs.declared.block.Block.{Block}
 use Rattle.trips_isa.specs.declared.run.Counts.{Counts}
-use Rattle.block_predict.specs.Predicts.{Holding, holding}
+use Rattle.block_predict.specs.Predicts.{holding}
 use Rattle.commit_flush_spec.specs.Causes.{Happened, Done, NotNow}
 use Rattle.commit_flush_spec.specs.Frames.{Frame}
-use Rattle.commit_flush_spec.specs.Older.{Older, after_all, committed, follows}
+use Rattle.commit_flush_spec.specs.Older.{after_all, committed, follows}
 use Rattle.commit_flush_spec.specs.Window.{Window, Event, can, happens}
 use Rattle.grid_cycle_spec.specs.Grid.{Grid, Fetching, is_of, forget}
 

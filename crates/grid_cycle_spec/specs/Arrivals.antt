@@ -1,5 +1,5 @@
 -- Part (6) of a cycle, behind the tick of the mesh: what has arrived is delivered (docs/GRID.md, "A cycle").
-use Rattle.std.specs.Prelude.{ℕ, zero, suc, ◌+◌, ◌*◌, ◌/◌, ◌==◌, ◌&&◌, ◌||◌, Bool, true, false, cond, nat_lt}
+use Rattle.std.specs.Prelude.{ℕ, ◌+◌, ◌*◌, ◌/◌, ◌==◌, ◌&&◌, ◌||◌, Bool, false, cond, nat_lt}
 use Rattle.std.specs.Prelude.{List, [], ◌∷◌, Option, Some, None}
 use Rattle.trips_isa.specs.declared.block.Inst.{Inst}
 use Rattle.trips_isa.specs.declared.block.Block.{Block}
@@ -7,10 +7,10 @@ use Rattle.trips_isa.specs.declared.form.Form.{Form}
 use Rattle.trips_isa.specs.declared.form.Form.TheVariants.{Load, Store, Branch}
 use Rattle.trips_isa.specs.Forms.{form_of}
 use Rattle.block_cases.specs.Orders.{slot_of}
-use Rattle.operand_net.specs.Places.{put, come, without}
+use Rattle.operand_net.specs.Places.{come, without}
 use Rattle.operand_net.specs.declared.parcel.Parcel.{Parcel}
 use Rattle.commit_flush_spec.specs.Frames.{Frame, at, first_read_place, token_places}
-use Rattle.commit_flush_spec.specs.Window.{Window, Deliver, Exit, happens}
+use Rattle.commit_flush_spec.specs.Window.{Deliver, Exit, happens}
 use Rattle.grid_cycle_spec.specs.Grid.{Grid}
 use Rattle.grid_cycle_spec.specs.Acting.{act}
 use Rattle.grid_cycle_spec.specs.Choosing.{each, places, with_frame}

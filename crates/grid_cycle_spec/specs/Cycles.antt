@@ -1,5 +1,5 @@
 -- A cycle of the grid, and runs of cycles (docs/GRID.md, "A cycle").
-use Rattle.std.specs.Prelude.{◌≡◌, ℕ, zero, suc, ◌+◌, List, [], length, false, Option, None}
+use Rattle.std.specs.Prelude.{◌≡◌, ℕ, zero, suc, ◌+◌, List, [], length, false, None}
 use Rattle.trips_isa.specs.declared.block.Block.{Block}
 use Rattle.trips_isa.specs.declared.run.Counts.{Counts}
 use Rattle.trips_isa.specs.declared.run.Stepped.{Stepped}
@@ -7,8 +7,8 @@ use Rattle.trips_isa.specs.declared.run.Stepped.TheVariants.{Went}
 use Rattle.trips_isa.specs.Machine.{State}
 use Rattle.operand_net.specs.Places.{Places, none}
 use Rattle.operand_net.specs.Tick.{Ticked}
-use Rattle.block_predict.specs.Predicts.{Holding, holding}
-use Rattle.commit_flush_spec.specs.InFlight.{Window, opened}
+use Rattle.block_predict.specs.Predicts.{holding}
+use Rattle.commit_flush_spec.specs.InFlight.{opened}
 use Rattle.grid_cycle_spec.specs.Grid.{Grid, numbers_of}
 use Rattle.grid_cycle_spec.specs.Ends.{ends}
 use Rattle.grid_cycle_spec.specs.Fetches.{fetches}

@@ -1,5 +1,5 @@
 -- Part (2) of a cycle: a fetch ends, and the next one begins (docs/GRID.md, "Fetches").
-use Rattle.std.specs.Prelude.{ℕ, zero, suc, ◌+◌, ◌-◌, ◌*◌, ◌%◌, ◌==◌, Bool, true, false, cond, ◌&&◌, not, List}
+use Rattle.std.specs.Prelude.{ℕ, zero, suc, ◌+◌, ◌-◌, ◌==◌, Bool, true, false, cond, ◌&&◌, not, List}
 use Rattle.std.specs.Prelude.{[], ◌∷◌, Option, Some, None, is_some}
 use Rattle.trips_isa.specs.declared.block.Block.{Block}
 use Rattle.trips_isa.specs.declared.run.Counts.{Counts}
@@ -9,7 +9,7 @@ use Rattle.commit_flush_spec.specs.Older.{after_all, committed}
 use Rattle.commit_flush_spec.specs.Window.{Window, Fetch, happens, lowest_empty}
 use Rattle.grid_cycle_spec.specs.Costs.{fetch_latency}
 use Rattle.grid_cycle_spec.specs.Grid.{Grid, Fetching}
-use Rattle.grid_cycle_spec.specs.Acting.{may, known_next, settled, repaired}
+use Rattle.grid_cycle_spec.specs.Acting.{may, repaired}
 
 -- the end of a fetch -----------------------------------------------------------------------------
 

@@ -1,5 +1,5 @@
 -- The grid as plain data: a window, and what moves it (docs/GRID.md, "The grid").
-use Rattle.std.specs.Prelude.{ℕ, ◌==◌, ◌&&◌, ◌||◌, Bool, false, cond, List, [], ◌∷◌, map, Option, Some, None}
+use Rattle.std.specs.Prelude.{ℕ, ◌==◌, ◌||◌, Bool, false, cond, List, [], ◌∷◌, map, Option}
 use Rattle.trips_isa.specs.declared.run.Counts.{Counts}
 use Rattle.operand_net.specs.Places.{Places}
 use Rattle.operand_net.specs.declared.parcel.Stand.TheVariants.{Nowhere}

@@ -1,7 +1,6 @@
 -- How tokens and requests enter the mesh (docs/GRID.md, "Parcels").
-use Rattle.std.specs.Prelude.{ℕ, suc, ◌+◌, ◌*◌, ◌==◌, ◌&&◌, Bool, cond, slice_index, Option, Some, None, is_some}
-use Rattle.trips_isa.specs.declared.block.Block.{Block}
-use Rattle.operand_net.specs.Places.{Places, put, injected}
+use Rattle.std.specs.Prelude.{ℕ, suc, cond, slice_index, is_some}
+use Rattle.operand_net.specs.Places.{injected}
 use Rattle.operand_net.specs.declared.parcel.Parcel.{Parcel}
 use Rattle.commit_flush_spec.specs.Frames.{Frame, at, target}
 use Rattle.grid_cycle_spec.specs.Stations.{home}

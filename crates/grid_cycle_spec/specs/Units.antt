@@ -1,7 +1,7 @@
 -- Part (5) of a cycle: units give their results to the mesh, and issue what is ready (docs/GRID.md, "A cycle").
 -- A unit is a number for each tile, and its job a bit of a frame, so that a flush drops the frame and the unit
 -- stays busy by itself.
-use Rattle.std.specs.Prelude.{ℕ, zero, suc, ◌-◌, ◌*◌, ◌==◌, Bool, false, true, cond, ◌&&◌, ◌||◌, List, [], ◌∷◌}
+use Rattle.std.specs.Prelude.{ℕ, zero, suc, ◌*◌, ◌==◌, Bool, false, cond, ◌&&◌, ◌||◌, List}
 use Rattle.std.specs.Prelude.{Option, Some, None}
 use Rattle.trips_isa.specs.declared.block.Inst.{Inst}
 use Rattle.trips_isa.specs.declared.block.Block.{Block}
@@ -10,7 +10,7 @@ use Rattle.trips_isa.specs.declared.form.Form.TheVariants.{Load, Store, Branch}
 use Rattle.trips_isa.specs.Forms.{form_of}
 use Rattle.block_cases.specs.Orders.{slot_of}
 use Rattle.commit_flush_spec.specs.Frames.{Frame, at}
-use Rattle.commit_flush_spec.specs.Window.{Window, Fire, happens}
+use Rattle.commit_flush_spec.specs.Window.{Fire, happens}
 use Rattle.grid_cycle_spec.specs.Stations.{control, tile_node, tile_of, tiles, data_node}
 use Rattle.grid_cycle_spec.specs.Costs.{latency}
 use Rattle.grid_cycle_spec.specs.Grid.{Grid}
