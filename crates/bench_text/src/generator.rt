@@ -1,8 +1,10 @@
 ghost use Rattle.std.specs.Prelude.{◌≡◌, ◌++◌, IfOk};
 ghost use Rattle.bench_text.specs.Text.{function, functions, call, calls, bench_text};
 
-use crate::parts::{call_end_part, call_name_part, function_body_part, function_end_part};
-use crate::parts::{function_name_part, head_part, main_end_part, main_head_part};
+use crate::parts::{
+    call_end_part, call_name_part, function_body_part, function_end_part, function_name_part,
+    head_part, main_end_part, main_head_part,
+};
 use std::alloc::{AllocError, Global};
 
 // Appends function k.
