@@ -21,7 +21,7 @@ use Rattle.c_compile.specs.Images.{IsImageOf, MeansText}
 use Rattle.c_compile.proofs.Images.{images_mean}
 use Rattle.trips_run.specs.declared.status.Status.{Status}
 use Rattle.trips_run.specs.declared.status.Status.TheVariants as status
-use Rattle.trips_run.specs.Request.{Request}
+use Rattle.trips_run.specs.Request.{Request, origin_held}
 use Rattle.trips_run.specs.Read.{HoldsInput}
 use Rattle.trips_run.specs.Report.{ending_of, run_report, report_of}
 use Rattle.trips_run.specs.Answer.{placed, status_of, IsRunBy, IsRunOfText}
@@ -130,7 +130,7 @@ says (stepped.Trap cause) next (Done output value steps) h = absurd h
 
 -- the end of a text's run, of names that hold the text and the input
 pub run_ends_as : (held : List ℕ → Option (List ℕ)) (q : Request) (text input : List ℕ) (s : Status)
-    (report : List ℕ) → Holds (held q.file) text → HoldsInput q.input held input
+    (report : List ℕ) → Holds (origin_held held q.origin) text → HoldsInput q.input held input
     → IsRunOfText q.most text input s report → RunEndsAs held q s
 run_ends_as held q text input s report holds holds_input run =
     let m : MeansText text placed run.0 = images_mean text placed run.0 run.1 in

@@ -14,7 +14,7 @@ use Rattle.trips_run.specs.declared.loading.Loaded.{Loaded}
 use Rattle.trips_run.specs.declared.loading.Loaded.TheVariants.{Fault, TooLarge, Bytes}
 use Rattle.trips_run.specs.declared.status.Status.{Status}
 use Rattle.trips_run.specs.declared.status.Status.TheVariants as status
-use Rattle.trips_run.specs.Request.{Request}
+use Rattle.trips_run.specs.Request.{Request, origin_held}
 use Rattle.trips_run.specs.Read.{IsRead, IsInputRead, HoldsInput, limit_of}
 use Rattle.trips_run.specs.Report.{ending_of}
 use Rattle.trips_run.specs.Answer.{status_of, IsRunBy, IsWorked, IsDone, AfterReading}
@@ -35,7 +35,7 @@ input_held (Some name) held rose bytes h = h.0
 
 module _ (q : Request) (held : List ℕ → Option (List ℕ)) (rose : Type 0) (s : Status)
     (report : List ℕ) (told : is_told s ≡ true) where
-  done_ends : (bytes input : List ℕ) → Holds (held q.file) bytes
+  done_ends : (bytes input : List ℕ) → Holds (origin_held held q.origin) bytes
       → HoldsInput q.input held input → IsDone q.work q.form q.most bytes input s report
       → EndsAs held q s
   unfolding is_told
@@ -49,7 +49,7 @@ module _ (q : Request) (held : List ℕ → Option (List ℕ)) (rose : Type 0) (
     worked = run;
   }
 
-  input_ends : (bytes : List ℕ) (loaded : Loaded) → Holds (held q.file) bytes
+  input_ends : (bytes : List ℕ) (loaded : Loaded) → Holds (origin_held held q.origin) bytes
       → IsInputRead q.input held rose loaded
       → AfterReading loaded (λ input. IsDone q.work q.form q.most bytes input s report) s report
       → EndsAs held q s
@@ -59,7 +59,7 @@ module _ (q : Request) (held : List ℕ → Option (List ℕ)) (rose : Type 0) (
   input_ends bytes (Bytes input) h i a =
       done_ends bytes input h (input_held q.input held rose input i) a
 
-  asked_ends : (loaded : Loaded) → IsRead (held q.file) rose (limit_of q.form) loaded
+  asked_ends : (loaded : Loaded) → IsRead (origin_held held q.origin) rose (limit_of q.form) loaded
       → AfterReading loaded (λ bytes. IsAnswerBehind q held rose bytes s report) s report
       → EndsAs held q s
   unfolding is_told

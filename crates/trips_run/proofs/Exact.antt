@@ -24,7 +24,7 @@ use Rattle.trips_run.specs.declared.loading.Loaded.{Loaded}
 use Rattle.trips_run.specs.declared.loading.Loaded.TheVariants.{Fault, TooLarge, Bytes}
 use Rattle.trips_run.specs.declared.status.Status.{Status}
 use Rattle.trips_run.specs.declared.status.Status.TheVariants as status
-use Rattle.trips_run.specs.Request.{Request}
+use Rattle.trips_run.specs.Request.{Request, origin_held}
 use Rattle.trips_run.specs.Read.{IsRead, IsInputRead, IsInput, limit_of, most_input_bytes}
 use Rattle.trips_run.specs.Report.{ending_of, run_report}
 use Rattle.trips_run.specs.Refusal.{front_refusal, image_refusal, check_refusal, too_large_text}
@@ -190,11 +190,11 @@ module _ (request : Option Request) (held : List ℕ → Option (List ℕ)) (ros
   row_of q e = subst (λ (x : Option Request). IsAnswer x held rose s report) e a
 
   -- the rest of the row behind a file that was read
-  behind : (q : Request) (bytes : List ℕ) → request ≡ Some q → held q.file ≡ Some bytes
+  behind : (q : Request) (bytes : List ℕ) → request ≡ Some q → origin_held held q.origin ≡ Some bytes
       → length bytes ≤ limit_of q.form → IsAnswerBehind q held rose bytes s report
   behind q bytes e t few =
       let row = row_of q e in
-      let is = file_read (held q.file) rose (limit_of q.form) row.0 bytes row.1 t few r in
+      let is = file_read (origin_held held q.origin) rose (limit_of q.form) row.0 bytes row.1 t few r in
       subst (λ (x : Loaded). AfterReading x (λ bs. IsAnswerBehind q held rose bs s report) s report)
       is row.2
 
@@ -217,7 +217,7 @@ module _ (request : Option Request) (held : List ℕ → Option (List ℕ)) (ros
       → IsFixed status.Refused too_large_text s report
   large_file q e large =
       let row = row_of q e in
-      let is = file_large (held q.file) rose (limit_of q.form) row.0 row.1 large r in
+      let is = file_large (origin_held held q.origin) rose (limit_of q.form) row.0 row.1 large r in
       subst (λ (x : Loaded). AfterReading x (λ bs. IsAnswerBehind q held rose bs s report) s report)
       is row.2
 
@@ -225,7 +225,7 @@ module _ (request : Option Request) (held : List ℕ → Option (List ℕ)) (ros
   pub large_input : (q : Request) → request ≡ Some q → HasLargeInput q held
       → IsFixed status.Refused too_large_text s report
   large_input q e large =
-      let text = some_of (held q.file) (λ bytes. length bytes ≤ limit_of q.form) large.0 in
+      let text = some_of (origin_held held q.origin) (λ bytes. length bytes ≤ limit_of q.form) large.0 in
       let rest = behind q text.0 e text.1 text.2 in
       let is = input_large q.input held rose rest.0 rest.1 large.1 r in
       subst (λ (x : Loaded). AfterReading x

@@ -5,11 +5,13 @@ use Rattle.std.specs.Prelude.{option_map, option_and_then, codes, map, String, s
 use Rattle.std.specs.Prelude.{nat_eq, bytes_eq}
 use Rattle.std.specs.List.{starts_with}
 use Rattle.std.proofs.lemmas.Bool.Decides.{nat_tests}
+use Rattle.trips_run.specs.declared.command_line.Work.TheVariants.{Run}
+use Rattle.trips_run.specs.declared.command_line.FileForm.TheVariants.{Source}
 use Rattle.trips_run.specs.Number.{is_number, value_from, number_to}
 use Rattle.trips_run.specs.Options.{Options, no_options, is_option, with_input, with_count}
 use Rattle.trips_run.specs.Options.{with_option, options_of, most_count}
-use Rattle.trips_run.specs.Request.{Request, is_no_file, most_of, run_of, evaluation_of}
-use Rattle.trips_run.specs.Request.{run_with, eval_with, commanded, asked, request_of}
+use Rattle.trips_run.specs.Request.{Request, Bench, is_no_file, most_of, most_functions, run_of, evaluation_of}
+use Rattle.trips_run.specs.Request.{bench_of, run_with, eval_with, bench_with, commanded, asked, request_of}
 
 -- a number that an option may have
 IsCount : Option ℕ → Type 0
@@ -129,23 +131,52 @@ eval_goes file words = go (starts_with nat_eq file (codes "-"))
     go false = eval_made file (options_of (codes "--steps") words)
         (options_count (codes "--steps") words)
 
-command_goes : (command file : List ℕ) (words : List (List ℕ))
-    → GoesOn (commanded command file words)
-unfolding GoesOn
-command_goes command file words =
-    go (bytes_eq command (codes "run")) (bytes_eq command (codes "eval"))
+bench_made : (functions : ℕ) (o : Option Options) → AreCounted o
+    → GoesOn (option_and_then (λ options. bench_of functions options) o)
+unfolding AreCounted GoesOn
+bench_made functions None some = tt
+bench_made functions (Some options) some = go (is_some options.input)
   where
-    go : (x y : Bool) → GoesOn (cond x (run_with file words)
-        (cond y (eval_with file words) None))
-    go true y = run_goes file words
-    go false true = eval_goes file words
-    go false false = tt
+    go : (b : Bool) → GoesOn (cond b None (Some (record {
+      work = Run;
+      origin = Bench functions;
+      form = Source;
+      input = None;
+      most = most_of options.count;
+    })))
+    go true = tt
+    go false = some
+
+bench_goes : (number : List ℕ) (words : List (List ℕ)) → GoesOn (bench_with number words)
+unfolding GoesOn
+bench_goes number words = go (number_to most_functions number)
+  where
+    go : (o : Option ℕ) → GoesOn (option_and_then (λ functions.
+        option_and_then (λ options. bench_of functions options)
+        (options_of (codes "--blocks") words)) o)
+    go None = tt
+    go (Some functions) = bench_made functions (options_of (codes "--blocks") words)
+        (options_count (codes "--blocks") words)
+
+command_goes : (command word : List ℕ) (words : List (List ℕ))
+    → GoesOn (commanded command word words)
+unfolding GoesOn
+command_goes command word words =
+    go (bytes_eq command (codes "run")) (bytes_eq command (codes "eval"))
+    (bytes_eq command (codes "bench"))
+  where
+    go : (x y z : Bool) → GoesOn (cond x (run_with word words)
+        (cond y (eval_with word words) (cond z (bench_with word words) None)))
+    go true y z = run_goes word words
+    go false true z = eval_goes word words
+    go false false true = bench_goes word words
+    go false false false = tt
 
 asked_goes : (words : List (List ℕ)) → GoesOn (asked words)
 unfolding GoesOn
 asked_goes [] = tt
 asked_goes (command ∷ []) = tt
-asked_goes (command ∷ file ∷ words) = command_goes command file words
+asked_goes (command ∷ word ∷ words) = command_goes command word words
 
 -- the request of any words goes on for one block or step at least
 pub request_goes : {A : Type 0} (words : List (String A)) (q : Request)

@@ -18,7 +18,7 @@ use Rattle.trips_run.specs.declared.loading.Loaded.{Loaded}
 use Rattle.trips_run.specs.declared.loading.Loaded.TheVariants.{Fault, TooLarge, Bytes}
 use Rattle.trips_run.specs.declared.status.Status.{Status}
 use Rattle.trips_run.specs.declared.status.Status.TheVariants as status
-use Rattle.trips_run.specs.Request.{Request}
+use Rattle.trips_run.specs.Request.{Request, origin_held}
 use Rattle.trips_run.specs.Read.{IsRead, IsInputRead, limit_of, most_input_bytes}
 use Rattle.trips_run.specs.Report.{ending_of}
 use Rattle.trips_run.specs.Answer.{status_of, IsRunBy, eval_status, outcome_of, IsWorked, IsDone}
@@ -123,20 +123,20 @@ module _ (q : Request) (held : List ℕ → Option (List ℕ)) (rose : Type 0) (
   not_bad bytes input few run (inr bad) =
       not_worked q.work q.form q.most bytes input s report bad.0 bad.1 run
 
-  done_kind : (bytes input : List ℕ) → Holds (held q.file) bytes
+  done_kind : (bytes input : List ℕ) → Holds (origin_held held q.origin) bytes
       → length bytes ≤ limit_of q.form → (IsLarge q.input held → ⊥)
       → IsDone q.work q.form q.most bytes input s report → Kind (Some q) held rose s
   done_kind bytes input h few small (inl out) =
-      refused out.2.0 (inl (of_told (IsBad q) (held q.file) bytes h (inr (out.0, out.1))))
+      refused out.2.0 (inl (of_told (IsBad q) (origin_held held q.origin) bytes h (inr (out.0, out.1))))
   done_kind bytes input h few small (inr run) =
       ran (work_tells q.work q.form q.most bytes input s report run) not_refused
     where
       not_refused : IsRefused (Some q) held → ⊥
       not_refused (inl bad) =
-          not_bad bytes input few run (of_read (IsBad q) (held q.file) bytes h bad)
+          not_bad bytes input few run (of_read (IsBad q) (origin_held held q.origin) bytes h bad)
       not_refused (inr large) = small large
 
-  input_kind : (bytes : List ℕ) (loaded : Loaded) → Holds (held q.file) bytes
+  input_kind : (bytes : List ℕ) (loaded : Loaded) → Holds (origin_held held q.origin) bytes
       → length bytes ≤ limit_of q.form → IsInputRead q.input held rose loaded
       → AfterReading loaded (λ input. IsDone q.work q.form q.most bytes input s report) s report
       → Kind (Some q) held rose s
@@ -146,13 +146,13 @@ module _ (q : Request) (held : List ℕ → Option (List ℕ)) (rose : Type 0) (
   input_kind bytes (Bytes input) h few i a =
       done_kind bytes input h few (not_large_input q.input held rose input i) a
 
-  asked_kind : (loaded : Loaded) → IsRead (held q.file) rose (limit_of q.form) loaded
+  asked_kind : (loaded : Loaded) → IsRead (origin_held held q.origin) rose (limit_of q.form) loaded
       → AfterReading loaded (λ bytes. IsAnswerBehind q held rose bytes s report) s report
       → Kind (Some q) held rose s
   asked_kind Fault h a = unread a.0 h
   asked_kind TooLarge h a =
       refused a.0
-      (inl (if_large (IsBad q) (limit_of q.form) (held q.file) (λ bytes lt. inl lt) h))
+      (inl (if_large (IsBad q) (limit_of q.form) (origin_held held q.origin) (λ bytes lt. inl lt) h))
   asked_kind (Bytes bytes) h a = input_kind bytes a.0 h.0 h.1 a.1 a.2
 
 -- every answer is of one of the kinds

@@ -30,7 +30,7 @@ use Rattle.trips_run.specs.declared.command_line.FileForm.{FileForm}
 use Rattle.trips_run.specs.declared.command_line.FileForm.TheVariants as form
 use Rattle.trips_run.specs.declared.loading.Loaded.{Loaded}
 use Rattle.trips_run.specs.declared.loading.Loaded.TheVariants.{Fault, TooLarge, Bytes}
-use Rattle.trips_run.specs.Request.{Request}
+use Rattle.trips_run.specs.Request.{Request, origin_held}
 use Rattle.trips_run.specs.Read.{IsRead, IsInputRead, limit_of}
 use Rattle.trips_run.specs.Read.{most_input_bytes}
 use Rattle.trips_run.specs.Report.{ending_of, run_report, usage_text}
@@ -195,18 +195,18 @@ input_last (Some name) held old now new loaded le h =
 -- the answer for what reading the file came to
 pub loaded_told : {E : Type 0} (q : Request) (held : List ℕ → Option (List ℕ)) (rose : Type 0)
     (limit : ℕ) (loaded : Loaded) (r : Result Answer E) → limit ≡ limit_of q.form
-    → IsRead (held q.file) rose limit loaded
+    → IsRead (origin_held held q.origin) rose limit loaded
     → IfOk r (λ a. AfterReading loaded (λ bytes. IsAnswerBehind q held rose bytes a.status
     a.report.items) a.status a.report.items)
     → IfOk r (λ a. IsAnswer (Some q) held rose a.status a.report.items)
 loaded_told q held rose limit loaded (Err e) is h told = tt
 loaded_told q held rose limit loaded (Ok a) is h told =
-    (loaded, subst (λ (n : ℕ). IsRead (held q.file) rose n loaded) is h, told)
+    (loaded, subst (λ (n : ℕ). IsRead (origin_held held q.origin) rose n loaded) is h, told)
 
 -- the answer behind a file that was read
 pub behind_told : {E : Type 0} (q : Request) (held kept : List ℕ → Option (List ℕ))
     (old now new : ℕ) (bytes : List ℕ) (r : Result Answer E) → kept ≡ held → old ≤ now
-    → now ≤ new → IsRead (held q.file) (Rose old now) (limit_of q.form) (Bytes bytes)
+    → now ≤ new → IsRead (origin_held held q.origin) (Rose old now) (limit_of q.form) (Bytes bytes)
     → IfOk r (λ a. IsAnswerBehind q kept (Rose now new) bytes a.status a.report.items)
     → IfOk r (λ a. IsAnswer (Some q) held (Rose old new) a.status a.report.items)
 behind_told q held kept old now new bytes (Err e) same le next h told = tt
@@ -214,7 +214,7 @@ behind_told q held kept old now new bytes (Ok a) same le next h told =
     let here = subst (λ (k : List ℕ → Option (List ℕ)). IsAnswerBehind q k (Rose now new) bytes
     a.status a.report.items) same told in (
       Bytes bytes,
-      read_first (held q.file) old now new (limit_of q.form) (Bytes bytes) next h,
+      read_first (origin_held held q.origin) old now new (limit_of q.form) (Bytes bytes) next h,
       (here.0, input_last q.input held old now new here.0 le here.1, here.2),
     )
 

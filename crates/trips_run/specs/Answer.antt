@@ -29,7 +29,7 @@ use Rattle.trips_run.specs.declared.loading.Loaded.{Loaded}
 use Rattle.trips_run.specs.declared.loading.Loaded.TheVariants.{Fault, TooLarge, Bytes}
 use Rattle.trips_run.specs.declared.status.Status.{Status}
 use Rattle.trips_run.specs.declared.status.Status.TheVariants as status
-use Rattle.trips_run.specs.Request.{Request}
+use Rattle.trips_run.specs.Request.{Request, origin_held}
 use Rattle.trips_run.specs.Read.{IsRead, IsInputRead, limit_of}
 use Rattle.trips_run.specs.Report.{ending_of, run_report, usage_text, read_fault_text}
 use Rattle.trips_run.specs.Report.{eval_report}
@@ -134,5 +134,5 @@ abbrev pub IsAnswer :
     Option Request → (List ℕ → Option (List ℕ)) → Type 0 → Status → List ℕ → Type 0
 IsAnswer None held rose s report = IsFixed status.Usage usage_text s report
 IsAnswer (Some q) held rose s report =
-    (loaded : Loaded) × IsRead (held q.file) rose (limit_of q.form) loaded
+    (loaded : Loaded) × IsRead (origin_held held q.origin) rose (limit_of q.form) loaded
     × AfterReading loaded (λ bytes. IsAnswerBehind q held rose bytes s report) s report

@@ -9,7 +9,7 @@ use Rattle.c_meaning_spec.specs.declared.signal.Ending.TheVariants.{More, Undefi
 use Rattle.c_meaning_spec.specs.Eval.{Outcome, Stopped, Done, eval}
 use Rattle.trips_run.specs.declared.status.Status.{Status}
 use Rattle.trips_run.specs.declared.status.Status.TheVariants as status
-use Rattle.trips_run.specs.Request.{Request}
+use Rattle.trips_run.specs.Request.{Request, origin_held}
 use Rattle.trips_run.specs.Read.{HoldsInput}
 
 -- Each status of a run and what the evaluation then came to, where that was given as many steps as the
@@ -33,7 +33,7 @@ HasNotEnded outcome = ⊥
 pub record RunEndsAs (held : List ℕ → Option (List ℕ)) (q : Request) (s : Status) : Type 0 where
   pub text : List ℕ
   pub input : List ℕ
-  pub holds : Holds (held q.file) text
+  pub holds : Holds (origin_held held q.origin) text
   pub holds_input : HoldsInput q.input held input
   pub program : TypedProgram
   pub accepted : IsAccepted text program

@@ -8,7 +8,7 @@ use Rattle.trips_run.specs.declared.command_line.FileForm.TheVariants.{Source, I
 use Rattle.trips_run.specs.declared.loading.Loaded.{Loaded}
 use Rattle.trips_run.specs.declared.loading.Loaded.TheVariants.{Fault, TooLarge, Bytes}
 use Rattle.trips_run.specs.declared.loading.TheConstants.{MOST_INPUT_BYTES}
-use Rattle.trips_run.specs.Request.{Request}
+use Rattle.trips_run.specs.Request.{Request, origin_held}
 
 -- how many bytes a file of C may have
 unfoldable pub most_source_bytes : ℕ
@@ -59,7 +59,7 @@ HoldsInput (Some name) held bytes = Holds (held name) bytes
 -- The request's file and its input are told, and within their limits: these are their bytes.
 pub record IsTold (q : Request) (held : List ℕ → Option (List ℕ)) (bytes input : List ℕ)
     : Type 0 where
-  pub told : held q.file ≡ Some bytes
+  pub told : origin_held held q.origin ≡ Some bytes
   pub few : length bytes ≤ limit_of q.form
   pub told_input : IsInput q.input held input
   pub few_input : length input ≤ most_input_bytes

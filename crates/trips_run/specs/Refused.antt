@@ -13,7 +13,7 @@ use Rattle.trips_run.specs.declared.command_line.Work.{Work}
 use Rattle.trips_run.specs.declared.command_line.Work.TheVariants.{Run, Evaluate}
 use Rattle.trips_run.specs.declared.command_line.FileForm.{FileForm}
 use Rattle.trips_run.specs.declared.command_line.FileForm.TheVariants as form
-use Rattle.trips_run.specs.Request.{Request}
+use Rattle.trips_run.specs.Request.{Request, origin_held}
 use Rattle.trips_run.specs.Read.{most_input_bytes, limit_of}
 use Rattle.trips_run.specs.Refusal.{front_refusal, image_refusal, check_refusal}
 
@@ -58,9 +58,11 @@ IsLarge (Some name) held = IsSomeAnd (held name) (λ bytes. most_input_bytes < l
 -- the request is refused only where this holds
 abbrev pub MayBeRefused : Option Request → (List ℕ → Option (List ℕ)) → Type 0
 MayBeRefused None held = ⊥
-MayBeRefused (Some q) held = IfSome (held q.file) (IsBad q) ⊎ MayBeLarge q.input held
+MayBeRefused (Some q) held =
+    IfSome (origin_held held q.origin) (IsBad q) ⊎ MayBeLarge q.input held
 
 -- and it is refused where this holds
 abbrev pub IsRefused : Option Request → (List ℕ → Option (List ℕ)) → Type 0
 IsRefused None held = ⊥
-IsRefused (Some q) held = IsSomeAnd (held q.file) (IsBad q) ⊎ IsLarge q.input held
+IsRefused (Some q) held =
+    IsSomeAnd (origin_held held q.origin) (IsBad q) ⊎ IsLarge q.input held

@@ -8,7 +8,7 @@ use Rattle.trips_run.specs.declared.command_line.Work.TheVariants.{Evaluate}
 use Rattle.trips_run.specs.declared.command_line.FileForm.{FileForm}
 use Rattle.trips_run.specs.declared.status.Status.{Status}
 use Rattle.trips_run.specs.declared.status.Status.TheVariants as status
-use Rattle.trips_run.specs.Request.{Request}
+use Rattle.trips_run.specs.Request.{Request, origin_held}
 use Rattle.trips_run.specs.Read.{HoldsInput, IsTold, limit_of}
 use Rattle.trips_run.specs.Refused.{IsLarge}
 use Rattle.trips_run.specs.Report.{report_of}
@@ -56,11 +56,13 @@ pub record Asks (request : Option Request) (held : List ℕ → Option (List ℕ
 
 -- the request's file is told, and is longer than its limit
 abbrev pub HasLargeFile : Request → (List ℕ → Option (List ℕ)) → Type 0
-HasLargeFile q held = IsSomeAnd (held q.file) (λ bytes. limit_of q.form < length bytes)
+HasLargeFile q held =
+    IsSomeAnd (origin_held held q.origin) (λ bytes. limit_of q.form < length bytes)
 
 -- the file is told and within its limit, and the input is told and longer than its own
 abbrev pub HasLargeInput : Request → (List ℕ → Option (List ℕ)) → Type 0
-HasLargeInput q held = IsSomeAnd (held q.file) (λ bytes. length bytes ≤ limit_of q.form)
+HasLargeInput q held =
+    IsSomeAnd (origin_held held q.origin) (λ bytes. length bytes ≤ limit_of q.form)
     × IsLarge q.input held
 
 -- A request's work ended with this status: the file and the input are those that the names hold, as
@@ -69,7 +71,7 @@ pub record EndsAs (held : List ℕ → Option (List ℕ)) (q : Request) (s : Sta
   pub bytes : List ℕ
   pub input : List ℕ
   pub report : List ℕ
-  pub holds : Holds (held q.file) bytes
+  pub holds : Holds (origin_held held q.origin) bytes
   pub holds_input : HoldsInput q.input held input
   pub worked : IsWorked q.work q.form q.most bytes input s report
 

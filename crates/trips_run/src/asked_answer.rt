@@ -10,7 +10,7 @@ use crate::answer::{Answer, fixed, too_large, unread};
 use crate::command_line::{Asked, FileForm, Work, request};
 use crate::eval_answer::text_evaluated;
 use crate::image_answer::bytes_answer;
-use crate::loading::{Loaded, read, read_input};
+use crate::loading::{Loaded, read_input, read_origin};
 use crate::status::Status;
 use crate::text_answer::text_answer;
 use base::Items;
@@ -103,7 +103,7 @@ fn asked_answer<F: Files>(
     ensures kept { F.held files.new ≡ F.held files.old }
     ensures later { F.faults files.old ≤ F.faults files.new }
 {
-    match read(alloc, files, asked.file, limit_for(asked.form))? {
+    match read_origin(alloc, files, asked.origin, limit_for(asked.form))? {
         Loaded::Fault => unread(alloc),
         Loaded::TooLarge => too_large(alloc),
         Loaded::Bytes(bytes) => file_answer(alloc, files, asked, bytes.as_slice()),

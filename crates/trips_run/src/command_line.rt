@@ -2,9 +2,10 @@
 
 ghost use Rattle.std.specs.Prelude.{◌≡◌, option_map};
 ghost use Rattle.std.specs.Prelude.{map, string_bytes};
-ghost use Rattle.trips_run.specs.Request.{form_of, is_no_file, run_with, most_of, eval_with};
+ghost use Rattle.trips_run.specs.Request.{form_of, is_no_file, run_with, most_of, eval_with, bench_with};
 ghost use Rattle.trips_run.specs.Request.{commanded, request_of, request_seen};
 
+use crate::number::number;
 use crate::options::read_options;
 
 /// What is done with a file.
@@ -21,11 +22,20 @@ pub enum FileForm {
     Image,
 }
 
+/// Where the bytes stand that a request works with.
+#[derive(Clone, Copy)]
+pub enum Origin<'a> {
+    /// the file of a name
+    File(&'a str),
+    /// the text of the benchmark with so many functions
+    Bench(u32),
+}
+
 /// A request of any command that runs.
 #[derive(Clone, Copy)]
 pub struct Asked<'a> {
     pub work: Work,
-    pub file: &'a str,
+    pub origin: Origin<'a>,
     pub form: FileForm,
     /// the name of the input, if it has one
     pub input: Option<&'a str>,
@@ -35,6 +45,9 @@ pub struct Asked<'a> {
 
 /// How many blocks or steps are taken where none are asked for.
 pub const DEFAULT_COUNT: u32 = 1_000_000;
+
+/// How many functions the benchmark may have at most.
+pub const MOST_FUNCTIONS: u32 = 64;
 
 // What `run` reads a file as, by the ending of its name.
 fn form_for(file: &str) -> FileForm
@@ -76,7 +89,7 @@ fn run_command<'a>(file: &'a str, words: &'a [String]) -> Option<Asked<'a>>
     let options = read_options("--blocks", words)?;
     Some(Asked {
         work: Work::Run,
-        file,
+        origin: Origin::File(file),
         form: form_for(file),
         input: options.input,
         most: most_asked(options.count),
@@ -94,22 +107,43 @@ fn eval_command<'a>(file: &'a str, words: &'a [String]) -> Option<Asked<'a>>
     let options = read_options("--steps", words)?;
     Some(Asked {
         work: Work::Evaluate,
-        file,
+        origin: Origin::File(file),
         form: FileForm::Source,
         input: options.input,
         most: most_asked(options.count),
     })
 }
 
-// What a command asks of a file.
-fn command<'a>(name: &str, file: &'a str, words: &'a [String]) -> Option<Asked<'a>>
+// What `bench` asks.
+fn bench_command<'a>(count: &str, words: &'a [String]) -> Option<Asked<'a>>
     ensures { option_map request_seen result
-        ≡ commanded name.now file.now (map (λ word. string_bytes word) words.now) }
+        ≡ bench_with count.now (map (λ word. string_bytes word) words.now) }
+{
+    let functions = number(count.as_bytes(), MOST_FUNCTIONS)?;
+    let options = read_options("--blocks", words)?;
+    if options.input.is_some() {
+        return None;
+    }
+    Some(Asked {
+        work: Work::Run,
+        origin: Origin::Bench(functions),
+        form: FileForm::Source,
+        input: None,
+        most: most_asked(options.count),
+    })
+}
+
+// What a command asks, with the word behind it.
+fn command<'a>(name: &str, word: &'a str, words: &'a [String]) -> Option<Asked<'a>>
+    ensures { option_map request_seen result
+        ≡ commanded name.now word.now (map (λ word. string_bytes word) words.now) }
 {
     if name == "run" {
-        run_command(file, words)
+        run_command(word, words)
     } else if name == "eval" {
-        eval_command(file, words)
+        eval_command(word, words)
+    } else if name == "bench" {
+        bench_command(word, words)
     } else {
         None
     }
@@ -120,6 +154,6 @@ pub fn request(words: &[String]) -> Option<Asked<'_>>
     ensures { option_map request_seen result ≡ request_of words.now }
 {
     let (name, others) = words.split_first()?;
-    let (file, others) = others.split_first()?;
-    command(name.as_str(), file.as_str(), others)
+    let (word, others) = others.split_first()?;
+    command(name.as_str(), word.as_str(), others)
 }

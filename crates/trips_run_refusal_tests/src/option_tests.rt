@@ -29,6 +29,16 @@ const USAGES: &[&[&str]] = &[
     &["run", "a.c", "--input"],
     &["run", "a.c", "--input", "t", "--input", "t"],
     &["run", "--blocks", "1", "a.c"],
+    &["bench"],
+    &["bench", "0"],
+    &["bench", "65"],
+    &["bench", "a.c"],
+    &["bench", "-1"],
+    &["bench", "1", "2"],
+    &["bench", "1", "--steps", "1"],
+    &["bench", "1", "--blocks", "0"],
+    &["bench", "1", "--input", "t"],
+    &["bench", "--blocks", "1", "1"],
 ];
 
 // Each of these requests is answered so, and what is written begins so.

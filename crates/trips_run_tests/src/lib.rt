@@ -2,6 +2,8 @@
 #![tactic(auto)]
 
 #[cfg(test)]
+mod bench_tests;
+#[cfg(test)]
 mod eval_tests;
 #[cfg(test)]
 mod run_tests;
