@@ -18,8 +18,9 @@ use Rattle.trips_run.specs.declared.command_line.FileForm.TheVariants as form
 use Rattle.trips_run.specs.declared.status.Status.{Status}
 use Rattle.trips_run.specs.declared.status.Status.TheVariants as status
 use Rattle.trips_run.specs.Request.{Request}
-use Rattle.trips_run.specs.Report.{ending_of, run_report, eval_report}
-use Rattle.trips_run.specs.Refusal.{too_large_text}
+use Rattle.trips_report.specs.Evaluations.{eval_report}
+use Rattle.trips_report.specs.Refusals.{too_large_text}
+use Rattle.trips_run.specs.Report.{ending_of, run_report}
 use Rattle.trips_run.specs.Refused.{IsRefusedAs, MayBeRefused, IsRefused}
 use Rattle.trips_run.specs.Answer.{status_of, eval_status, outcome_of, placed, IsRunOfText, IsWorked}
 use Rattle.trips_run.specs.Answer.{IsAnswer}

@@ -23,7 +23,8 @@ use Rattle.trips_run.specs.declared.status.Status.{Status}
 use Rattle.trips_run.specs.declared.status.Status.TheVariants as status
 use Rattle.trips_run.specs.Request.{Request, origin_held}
 use Rattle.trips_run.specs.Read.{HoldsInput}
-use Rattle.trips_run.specs.Report.{ending_of, run_report, report_of}
+use Rattle.trips_report.specs.Runs.{output_and}
+use Rattle.trips_run.specs.Report.{ending_of, run_report}
 use Rattle.trips_run.specs.Answer.{placed, status_of, IsRunBy, IsRunOfText}
 use Rattle.trips_run.specs.Table.{ended_report, full_report}
 use Rattle.trips_run.specs.Evaluated.{SaysOf, HasNotEnded, RunEndsAs}
@@ -51,8 +52,8 @@ ended r output value s report h is told =
     let digits = signed_number (slice_index r.0.registers 3) h.word.below ∙ ap signed_decimal h.is in (
       is ∙ ap status_of e,
       told ∙ ap (λ (x : Ending). run_report x r.0) e
-          ∙ ap (λ (t : List ℕ). report_of r.0.output (codes "result " ++ t)) digits
-          ∙ ap (λ (o : List ℕ). report_of o (codes "result " ++ signed_decimal value)) h.output,
+          ∙ ap (λ (t : List ℕ). output_and r.0.output (codes "result " ++ t)) digits
+          ∙ ap (λ (o : List ℕ). output_and o (codes "result " ++ signed_decimal value)) h.output,
     )
 
 full : (r : State × Stepped) (output : List ℕ) (s : Status) (report : List ℕ) → IsFull output r
@@ -62,7 +63,7 @@ full r output s report h is told =
     let e : ending_of r.1 r.0.next ≡ ending.StackFull = ap (λ (a : Stepped). ending_of a r.0.next) h.answer in (
       is ∙ ap status_of e,
       told ∙ ap (λ (x : Ending). run_report x r.0) e
-          ∙ ap (λ (o : List ℕ). report_of o (codes "stack full")) h.output,
+          ∙ ap (λ (o : List ℕ). output_and o (codes "stack full")) h.output,
     )
 
 module _ (most n : ℕ) (text input : List ℕ) (program : TypedProgram) (s : Status)

@@ -27,7 +27,8 @@ use Rattle.trips_run.specs.declared.status.Status.TheVariants as status
 use Rattle.trips_run.specs.Request.{Request, origin_held}
 use Rattle.trips_run.specs.Read.{IsRead, IsInputRead, IsInput, limit_of, most_input_bytes}
 use Rattle.trips_run.specs.Report.{ending_of, run_report}
-use Rattle.trips_run.specs.Refusal.{front_refusal, image_refusal, check_refusal, too_large_text}
+use Rattle.trips_report.specs.Refusals.{image_text, check_text, too_large_text}
+use Rattle.trips_run.specs.Refusal.{front_refusal}
 use Rattle.trips_run.specs.Refused.{IsRefusedByFront, IsNoImage, IsBadImage}
 use Rattle.trips_run.specs.Refused.{IsRefusedAs, IsLarge}
 use Rattle.trips_run.specs.Answer.{IsFixed, IsRunBy, IsEvaluation, IsRunOfText, IsWorked, IsDone}
@@ -77,7 +78,7 @@ bad_once bytes a b x y =
     let same : y.0 ≡ x.0 = one_image y.0 x.0 bytes y.3 x.3 in
     let again = subst (λ (i : Image). IsFirstBad i y.1 y.2) same y.4 in
     let one = first_bad_once x.0 x.1 y.1 x.2 y.2 x.3.fits x.4 again in
-    x.5 ∙ ap (λ (n : ℕ). check_refusal n x.2) one.0 ∙ ap (check_refusal y.1) one.1 ∙ sym y.5
+    x.5 ∙ ap (λ (n : ℕ). check_text n x.2) one.0 ∙ ap (check_text y.1) one.1 ∙ sym y.5
 
 -- bytes are refused with one report
 pub refusal_once : (work : Work) (how : FileForm) (bytes a b : List ℕ)
@@ -85,7 +86,7 @@ pub refusal_once : (work : Work) (how : FileForm) (bytes a b : List ℕ)
 refusal_once Evaluate how bytes a b x y = front_once bytes a b x y
 refusal_once Run form.Source bytes a b x y = front_once bytes a b x y
 refusal_once Run form.Image bytes a b (inl x) (inl y) =
-    x.2 ∙ ap image_refusal (decoded.one_fault bytes x.0 y.0 x.1 y.1) ∙ sym y.2
+    x.2 ∙ ap image_text (decoded.one_fault bytes x.0 y.0 x.1 y.1) ∙ sym y.2
 refusal_once Run form.Image bytes a b (inl x) (inr y) =
     absurd (decoded.not_both y.0 bytes x.0 y.3 x.1)
 refusal_once Run form.Image bytes a b (inr x) (inl y) =

@@ -7,7 +7,7 @@ use Rattle.std.proofs.lemmas.Bool.Decides.{nat_tests}
 use Rattle.std.proofs.lemmas.Int.{to_z_pos}
 use Rattle.std.specs.Int.{w64, cast_signed}
 use Rattle.std.specs.Fmt.{decimal, signed_decimal}
-use Rattle.trips_run.specs.Report.{signed}
+use Rattle.trips_report.specs.Runs.{signed}
 
 is_low : (w : ℕ) → nat_lt w (2 ^ 63) ≡ true → w < 2 ^ 63
 is_low w e = grind (arith, nat_tests)

@@ -34,7 +34,8 @@ use Rattle.trips_run.specs.Request.{Request, origin_held}
 use Rattle.trips_run.specs.Read.{IsRead, IsInputRead, limit_of}
 use Rattle.trips_run.specs.Read.{most_input_bytes}
 use Rattle.trips_run.specs.Report.{ending_of, run_report, usage_text}
-use Rattle.trips_run.specs.Refusal.{front_refusal, image_refusal}
+use Rattle.trips_report.specs.Refusals.{image_text}
+use Rattle.trips_run.specs.Refusal.{front_refusal}
 use Rattle.trips_run.specs.Refused.{IsRefusedByFront, IsRefusedAs}
 use Rattle.trips_run.specs.Answer.{status_of, IsFixed, IsRefusalBy, IsRunBy, IsEvaluation, IsDone, placed}
 use Rattle.trips_run.specs.Answer.{AfterReading, IsAnswerBehind, IsAnswer}
@@ -135,10 +136,10 @@ image_told bytes input most image (Ok a) spelled told =
 -- the refusal of bytes that are no image
 pub no_image_told : (bytes input : List ℕ) (most : ℕ) (fault : ImageFault) (s : Status)
     (report : List ℕ) → FirstFault bytes fault
-    → IsFixed status.Refused (image_refusal fault) s report
+    → IsFixed status.Refused (image_text fault) s report
     → IsDone Run form.Image most bytes input s report
 no_image_told bytes input most fault s report first told =
-    inl (image_refusal fault, inl (fault, first, refl), told)
+    inl (image_text fault, inl (fault, first, refl), told)
 
 -- the work -----------------------------------------------------------------------------------
 

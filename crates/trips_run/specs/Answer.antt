@@ -32,8 +32,9 @@ use Rattle.trips_run.specs.declared.status.Status.TheVariants as status
 use Rattle.trips_run.specs.Request.{Request, origin_held}
 use Rattle.trips_run.specs.Read.{IsRead, IsInputRead, limit_of}
 use Rattle.trips_run.specs.Report.{ending_of, run_report, usage_text, read_fault_text}
-use Rattle.trips_run.specs.Report.{eval_report}
-use Rattle.trips_run.specs.Refusal.{front_refusal, too_large_text}
+use Rattle.trips_run.specs.Refusal.{front_refusal}
+use Rattle.trips_report.specs.Evaluations.{eval_report}
+use Rattle.trips_report.specs.Refusals.{too_large_text}
 use Rattle.trips_run.specs.Refused.{IsRefusedAs}
 
 -- this status, with this text

@@ -6,7 +6,7 @@ use Rattle.block_check.specs.Faults.{IsGood}
 use Rattle.block_check.specs.Images.{IsFirstBad}
 use Rattle.trips_run.specs.declared.status.Status.{Status}
 use Rattle.trips_run.specs.declared.status.Status.TheVariants as status
-use Rattle.trips_run.specs.Refusal.{check_refusal}
+use Rattle.trips_report.specs.Refusals.{check_text}
 use Rattle.trips_run.specs.Answer.{IsFixed, IsRunBy}
 
 -- the run of an image of good blocks, or the refusal of its first block that is not good
@@ -14,4 +14,4 @@ abbrev pub IsRunOfChecked : Image → ℕ → List ℕ → Status → List ℕ �
 IsRunOfChecked image most input s report =
     (All IsGood image.blocks × IsRunBy image.blocks image.bytes input most s report)
     ⊎ ((number : ℕ) × (fault : CheckFault) × IsFirstBad image number fault
-    × IsFixed status.Refused (check_refusal number fault) s report)
+    × IsFixed status.Refused (check_text number fault) s report)

@@ -15,7 +15,8 @@ use Rattle.trips_run.specs.declared.command_line.FileForm.{FileForm}
 use Rattle.trips_run.specs.declared.command_line.FileForm.TheVariants as form
 use Rattle.trips_run.specs.Request.{Request, origin_held}
 use Rattle.trips_run.specs.Read.{most_input_bytes, limit_of}
-use Rattle.trips_run.specs.Refusal.{front_refusal, image_refusal, check_refusal}
+use Rattle.trips_report.specs.Refusals.{image_text, check_text}
+use Rattle.trips_run.specs.Refusal.{front_refusal}
 
 -- a stage of the front end refuses the text, and this is its report
 abbrev pub IsRefusedByFront : List ℕ → List ℕ → Type 0
@@ -25,13 +26,13 @@ IsRefusedByFront text report =
 -- the bytes are no image, and go wrong first where the report says
 abbrev pub IsNoImage : List ℕ → List ℕ → Type 0
 IsNoImage bytes report =
-    (fault : ImageFault) × FirstFault bytes fault × (report ≡ image_refusal fault)
+    (fault : ImageFault) × FirstFault bytes fault × (report ≡ image_text fault)
 
 -- the bytes are an image, and the report names its first block that is not good
 abbrev pub IsBadImage : List ℕ → List ℕ → Type 0
 IsBadImage bytes report = (image : Image) × (number : ℕ) × (fault : CheckFault)
     × ImageBytes image bytes × IsFirstBad image number fault
-    × (report ≡ check_refusal number fault)
+    × (report ≡ check_text number fault)
 
 -- The bytes of a file are refused by what is done with it, with this report: a row for each command
 -- and each form of its file.

@@ -11,7 +11,7 @@ use Rattle.trips_run.specs.declared.status.Status.TheVariants as status
 use Rattle.trips_run.specs.Request.{Request, origin_held}
 use Rattle.trips_run.specs.Read.{HoldsInput, IsTold, limit_of}
 use Rattle.trips_run.specs.Refused.{IsLarge}
-use Rattle.trips_run.specs.Report.{report_of}
+use Rattle.trips_report.specs.Runs.{output_and}
 use Rattle.trips_run.specs.Answer.{IsWorked, IsAnswer}
 
 -- Some answer that holds was cut off: the first part of its report was written.
@@ -32,11 +32,11 @@ IsAnswered request held rose old new cut s = (report : List ℕ)
 
 -- the report of a run that ended with an output and a result
 abbrev pub ended_report : List ℕ → ℤ → List ℕ
-ended_report output result = report_of output (codes "result " ++ signed_decimal result)
+ended_report output result = output_and output (codes "result " ++ signed_decimal result)
 
 -- the report of a run whose stack was full, with the output so far
 abbrev pub full_report : List ℕ → List ℕ
-full_report output = report_of output (codes "stack full")
+full_report output = output_and output (codes "stack full")
 
 -- one of these statuses
 abbrev pub IsOneOf : Status → List Status → Type 0

@@ -1,12 +1,14 @@
 ghost use Rattle.std.specs.Prelude.{◌≡◌, ◌≢◌, IfOk};
 ghost use Rattle.trips_run.specs.Report.{read_fault_text};
-ghost use Rattle.trips_run.specs.Refusal.{too_large_text, front_refusal};
+ghost use Rattle.trips_report.specs.Refusals.{too_large_text, refusal_report};
+ghost use Rattle.trips_run.specs.Refusal.{front_refusal};
 ghost use Rattle.trips_run.specs.Answer.{IsFixed};
 
-use crate::refusals::{lex_text, parse_text, type_text};
+use crate::report::refusal_text;
 use crate::status::Status;
 use c_front::Refusal;
 use std::alloc::{AllocError, Global};
+use trips_report::Said;
 
 /// A status and the report that goes with it.
 #[derive(Drop)]
@@ -34,23 +36,23 @@ pub fn unread(alloc: Global) -> Result<Answer, AllocError>
     fixed(alloc, Status::ReadFault, b"read fault\n")
 }
 
+/// The refusal of what is said.
+pub fn refused(alloc: Global, said: Said) -> Result<Answer, AllocError>
+    ensures { IfOk result (λ answer.
+        IsFixed Status.Refused (refusal_report said) answer.status answer.report.items) }
+{
+    Ok(Answer {
+        status: Status::Refused,
+        report: refusal_text(alloc, said)?,
+    })
+}
+
 /// The answer where a file is too large.
-#[tactic(auto, unfolding(crate::specs::Refusal::too_large_text))]
 pub fn too_large(alloc: Global) -> Result<Answer, AllocError>
     ensures { IfOk result (λ answer.
         IsFixed Status.Refused too_large_text answer.status answer.report.items) }
 {
-    fixed(alloc, Status::Refused, b"refused file 2 TooLarge\n")
-}
-
-/// A refusal with this text.
-pub fn refused(report: Vec<u8>) -> Answer
-    ensures { IsFixed Status.Refused report.items result.status result.report.items }
-{
-    Answer {
-        status: Status::Refused,
-        report,
-    }
+    refused(alloc, Said::TooLarge)
 }
 
 // The text of the refusal of the first stage that refuses a text of C. Want of memory is none, and
@@ -60,9 +62,9 @@ fn front_text(alloc: Global, refusal: Refusal) -> Result<Vec<u8>, AllocError>
     ensures memory { IfOk result (λ _. refusal ≢ Refusal.Memory) }
 {
     match refusal {
-        Refusal::Lex(fault) => lex_text(alloc, fault),
-        Refusal::Parse(fault) => parse_text(alloc, fault),
-        Refusal::Typing(fault) => type_text(alloc, fault),
+        Refusal::Lex(fault) => refusal_text(alloc, Said::Lex(fault)),
+        Refusal::Parse(fault) => refusal_text(alloc, Said::Parse(fault)),
+        Refusal::Typing(fault) => refusal_text(alloc, Said::Typing(fault)),
         Refusal::Memory => Err(AllocError),
     }
 }
@@ -72,5 +74,8 @@ pub fn stage_refused(alloc: Global, refusal: Refusal) -> Result<Answer, AllocErr
     ensures { IfOk result (λ answer. (refusal ≢ Refusal.Memory)
         × IsFixed Status.Refused (front_refusal refusal) answer.status answer.report.items) }
 {
-    Ok(refused(front_text(alloc, refusal)?))
+    Ok(Answer {
+        status: Status::Refused,
+        report: front_text(alloc, refusal)?,
+    })
 }

@@ -8,13 +8,13 @@ ghost use Rattle.trips_run.specs.Answer.{IsDone};
 ghost use Rattle.trips_run.specs.Checked.{IsRunOfChecked};
 
 use crate::answer::{Answer, refused};
-use crate::refusals::{check_text, image_text};
 use crate::running::run_image;
 use base::Items;
 use block_check::{CheckedImage, ImageRefusal};
 use block_image::{ImageFault, decode};
 use std::alloc::{AllocError, Global};
 use trips_isa::Image;
+use trips_report::Said;
 
 // Runs the image where its blocks are good.
 fn checked_answer(
@@ -29,7 +29,7 @@ fn checked_answer(
 {
     match CheckedImage::make(alloc, image) {
         Ok(checked) => run_image(alloc, &checked, input, blocks),
-        Err(ImageRefusal::Bad(number, fault)) => Ok(refused(check_text(alloc, number, fault)?)),
+        Err(ImageRefusal::Bad(number, fault)) => refused(alloc, Said::Check(number, fault)),
         Err(ImageRefusal::Memory) => Err(AllocError),
     }
 }
@@ -47,6 +47,6 @@ pub fn bytes_answer(
     match decode(alloc, bytes) {
         Ok(image) => checked_answer(alloc, image, input, blocks),
         Err(ImageFault::Memory) => Err(AllocError),
-        Err(fault) => Ok(refused(image_text(alloc, fault)?)),
+        Err(fault) => refused(alloc, Said::Image(fault)),
     }
 }

@@ -13,7 +13,6 @@ mod image_answer;
 mod loading;
 mod number;
 mod options;
-mod refusals;
 mod report;
 mod running;
 mod status;

@@ -14,10 +14,11 @@ ghost use Rattle.trips_run.specs.declared.command_line.Work.TheVariants.{Run, Ev
 ghost use Rattle.trips_run.specs.declared.command_line.FileForm.{FileForm};
 ghost use Rattle.trips_run.specs.declared.command_line.FileForm.TheVariants as form;
 ghost use Rattle.trips_run.specs.Request.{Request, request_of};
-ghost use Rattle.trips_run.specs.Refusal.{too_large_text};
+ghost use Rattle.trips_report.specs.Evaluations.{eval_report};
+ghost use Rattle.trips_report.specs.Refusals.{too_large_text};
 ghost use Rattle.trips_run.specs.Refused.{IsRefusedAs, MayBeRefused, IsRefused};
 ghost use Rattle.trips_run.specs.Answer.{status_of, eval_status, outcome_of, placed};
-ghost use Rattle.trips_run.specs.Report.{ending_of, run_report, eval_report};
+ghost use Rattle.trips_run.specs.Report.{ending_of, run_report};
 ghost use Rattle.trips_run.specs.Table.{IsAnswered, IsCutOff, IsOneOf, ended_report, full_report, Asks};
 ghost use Rattle.trips_run.specs.Table.{HasLargeFile, HasLargeInput, EndsAs, EvalEnds};
 ghost use Rattle.trips_run.specs.Evaluated.{RunEndsAs};
