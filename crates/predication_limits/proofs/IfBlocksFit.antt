@@ -1,5 +1,5 @@
 -- Blocks of one small if fit the machine.
-use Rattle.std.proofs.Common.{◌≡◌, ℕ, ◌+◌, ◌*◌, ◌<◌, ◌≤◌, true, false, List, [], ◌∷◌, ◌++◌, length, refl, sym, ap}
+use Rattle.std.proofs.Common.{◌≡◌, ℕ, ◌+◌, ◌*◌, ◌≤◌, true, false, List, [], ◌∷◌, ◌++◌, length, refl, sym, ap}
 use Rattle.std.proofs.Common.{subst, ◌∙◌, arith, length-append}
 use Rattle.trips_isa.specs.declared.block.Block.{Block as MachineBlock}
 use Rattle.trips_isa.specs.Places.{nodes_of}
@@ -38,7 +38,7 @@ use Rattle.c_compile_layout.proofs.Targets.{targeted_resolved}
 use Rattle.c_compile_layout.proofs.Linked.{nodes_same}
 use Rattle.predication_limits.specs.Prices.{price}
 use Rattle.predication_limits.specs.Limits.{FitsParts, FitsMachine, SmallIfsFit}
-use Rattle.predication_limits.specs.SmallIfs.{IsShortLeg, if_block, HoldsSmallIf}
+use Rattle.predication_limits.specs.SmallIfs.{IsShortLeg, if_block}
 use Rattle.predication_limits.proofs.Pieces.{Names}
 use Rattle.predication_limits.proofs.Items.{NamesIn}
 use Rattle.predication_limits.proofs.Ends.{NamesExit}

@@ -1,29 +1,27 @@
 -- The nodes of an exit behind a small if.
 use Rattle.std.proofs.Common.{◌≡◌, ℕ, suc, ◌+◌, ◌<◌, ◌≤◌, Bool, true, false, not, ◌||◌, List, [], ◌∷◌, ◌++◌}
-use Rattle.std.proofs.Common.{length, refl, sym, ap, ap₂, subst, ◌∙◌, arith, ◌⊎◌, inl, inr}
-use Rattle.std.specs.Prelude.{Option, Some, None, slice_get}
+use Rattle.std.proofs.Common.{length, refl, sym, ap, ap₂, subst, ◌∙◌, arith, inl, inr}
+use Rattle.std.specs.Prelude.{Some, None, slice_get}
 use Rattle.trips_isa.specs.declared.op.Op.TheVariants as op
-use Rattle.ir_forms.specs.declared.hyper.Source.TheVariants.{Reg}
 use Rattle.ir_forms.specs.declared.hyper.Exit.{Exit}
 use Rattle.ir_forms.specs.declared.hyper.Exit.TheVariants as exit
 use Rattle.ir_forms.specs.declared.flow.FlowSource.{FlowSource}
 use Rattle.ir_forms.specs.declared.flow.FlowSource.TheVariants.{Read, Node}
 use Rattle.ir_forms.specs.declared.flow.FlowNode.{FlowNode}
 use Rattle.predication.specs.declared.work.Entry.{Entry}
-use Rattle.predication.specs.Environments.{Env, under, put, from_node, both}
-use Rattle.predication.specs.Operands.{constant_of, mov_of, read_of, operand}
+use Rattle.predication.specs.Environments.{Env, under, from_node, both}
+use Rattle.predication.specs.Operands.{constant_of, mov_of, read_of}
 use Rattle.predication.specs.Tails.{branch_of, exit_touched, leaving, high_half, low_half}
 use Rattle.predication.specs.Converted.{reads_in}
-use Rattle.null_outputs.specs.Covers.{guard_on}
 use Rattle.null_outputs.specs.Surely.{Scope, Firm, same_scope, has, scope_of, scopes, sure_of}
 use Rattle.null_outputs.proofs.Recognised.{recognises_both, has_scope}
-use Rattle.predication_limits.proofs.Pieces.{found, read_named}
+use Rattle.predication_limits.proofs.Pieces.{read_named}
 use Rattle.predication_limits.proofs.Ends.{NamesExit, call_good}
 use Rattle.predication_limits.proofs.Firmness.{IsThere, read_there, bare_there}
 use Rattle.predication_limits.proofs.Supplies.{AreAt}
 use Rattle.predication_limits.proofs.OneGuard.{IsGuardBy, unguarded, IsHeld, held_append, held_wider, flat_by}
 use Rattle.predication_limits.proofs.ShortLegs.{IsScant, put_scant}
-use Rattle.predication_limits.proofs.LegEntries.{kept_in, IsUnder, IsSide, IsMerged}
+use Rattle.predication_limits.proofs.LegEntries.{IsUnder, IsSide, IsMerged}
 
 -- a leg's guard is the test's node
 pub under_by : (c : ℕ) (s : Bool) → IsGuardBy c (under c s)

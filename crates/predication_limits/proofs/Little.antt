@@ -1,4 +1,4 @@
--- Small blocks and those of a save group cost little.
+-- Small blocks without if-items and those of a save group cost little.
 use Rattle.std.proofs.Common.{◌≡◌, ℕ}
 use Rattle.std.proofs.Common.{sym, subst, ◌⊎◌}
 use Rattle.std.proofs.Common.{inl, inr}
@@ -6,13 +6,14 @@ use Rattle.ir_forms.specs.HyperCode.{Block}
 use Rattle.ir_forms.specs.HyperFits.{FitsItems}
 use Rattle.ir_forms.specs.HyperRuns.{jump}
 use Rattle.hyper_build.specs.Passing.{saving, restoring}
-use Rattle.hyper_build.specs.Smallness.{IsLittle}
+use Rattle.hyper_build.specs.Smallness.{IsSimple, IsGroupBlock}
 use Rattle.predication.specs.Tails.{block_with}
 use Rattle.predication_limits.proofs.Cheap.{IsCheap}
 use Rattle.predication_limits.proofs.SmallBlocks.{simple_cheap}
 use Rattle.predication_limits.proofs.SaveGroups.{saves_cheap, restores_cheap}
 
-pub little_cheap : (f : ℕ → ℕ) (b : Block) → FitsItems b.items → IsLittle b → IsCheap (block_with f b)
+pub little_cheap : (f : ℕ → ℕ) (b : Block) → FitsItems b.items → IsSimple b ⊎ IsGroupBlock b
+    → IsCheap (block_with f b)
 little_cheap f b fits (inl s) = simple_cheap f b fits s
 little_cheap f b fits (inr g) = go g.is
   where

@@ -1,10 +1,12 @@
 -- Little blocks fit the machine.
-use Rattle.std.proofs.Common.{◌≡◌, ℕ, ◌+◌, ◌≤◌, true, refl, sym, ap, subst, arith}
+use Rattle.std.proofs.Common.{◌≡◌, ◌⊎◌, ℕ, ◌+◌, ◌≤◌, true, refl, sym, ap, subst, arith}
 use Rattle.trips_isa.specs.declared.block.Block.{Block as MachineBlock}
 use Rattle.trips_isa.specs.Places.{nodes_of}
 use Rattle.block_cases.specs.Cases.{cases}
 use Rattle.ir_forms.specs.declared.flow.FlowBlock.{FlowBlock}
 use Rattle.ir_forms.specs.HyperCode.{Block}
+use Rattle.ir_forms.specs.HyperFits.{FitsHyper}
+use Rattle.hyper_build.specs.Smallness.{IsSimple, IsGroupBlock}
 use Rattle.predication.specs.Environments.{member}
 use Rattle.predication.specs.Tails.{labelled, addressed, address_end}
 use Rattle.predication.specs.Converted.{ended, all_nodes, all_touched, predicated}
@@ -22,7 +24,7 @@ use Rattle.fan_out.proofs.Rooms.{few_nodes}
 use Rattle.c_compile_layout.specs.Linking.{resolved_block}
 use Rattle.c_compile_layout.proofs.Targets.{targeted_resolved}
 use Rattle.c_compile_layout.proofs.Linked.{nodes_same}
-use Rattle.predication_limits.specs.Limits.{LittleBlocksFit, PlainBlocksStay}
+use Rattle.predication_limits.specs.Limits.{FitsMachine, LittleBlocksFit, PlainBlocksStay}
 use Rattle.predication_limits.proofs.Blocks.{straight, insts_few, reads_are, number_few, one_guard}
 use Rattle.predication_limits.proofs.Members.{few_writes, few_reads}
 use Rattle.predication_limits.proofs.Cheap.{IsCheap, exits_with}
@@ -51,8 +53,9 @@ plain_stays b fits plain =
     let c = little_cheap (λ l. address_end + l) b fits.items plain in
     stays (predicated (labelled b)) (straight (λ q. member q c.read ≡ true) (labelled b) c.plain)
 
-pub fits_machine : LittleBlocksFit
-fits_machine b fits little =
+-- a block without if-items
+pub plain_fits : (b : Block) → FitsHyper b → IsSimple b ⊎ IsGroupBlock b → FitsMachine b
+plain_fits b fits little =
     let c = little_cheap (λ l. address_end + l) b fits.items little in
     let P : ℕ → Type 0 = λ q. member q c.read ≡ true in
     let f = predicated (labelled b) in
@@ -95,3 +98,6 @@ fits_machine b fits little =
         let two = two_cases (predicated a) g o.node o.only o.no_mov u targeted in
         let nodes = ap cases (nodes_same (by_address (λ l. 0)) t) in
         omega (arith, two, nodes)
+
+pub fits_machine : LittleBlocksFit
+fits_machine b fits little = plain_fits b fits little

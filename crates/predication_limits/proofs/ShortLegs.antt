@@ -30,7 +30,7 @@ use Rattle.predication_limits.proofs.Cheap.{source_most}
 use Rattle.predication_limits.proofs.Firmness.{IsBare}
 use Rattle.predication_limits.proofs.Supplies.{AreAt, at_front, at_back, no_supply, operand_supplied}
 use Rattle.predication_limits.proofs.Supplies.{second_supplied}
-use Rattle.predication_limits.proofs.OneGuard.{IsGuardBy, unguarded, IsHeld, held_none, held_wider, held_group}
+use Rattle.predication_limits.proofs.OneGuard.{IsGuardBy, unguarded, IsHeld, held_none, held_group}
 
 fresh_inside : (x : Got) → (fresh_test None 0 x).last < length (fresh_test None 0 x).nodes
 fresh_inside x = let e = length-append x.nodes (test_of None x.sources ∷ []) in omega (arith, e)

@@ -1,0 +1,48 @@
+-- The guarded instructions of a machine block. Those of a flow block and the filled if-items of a hyper
+-- block are counted by `guarded_nodes` and `filled_ifs` of `ir_forms`.
+use Rattle.std.specs.Prelude.{ℕ, ◌+◌, Bool, ◌&&◌, not, cond, List, [], ◌∷◌, Option, Some, None}
+use Rattle.trips_isa.specs.declared.block.Inst.{Inst}
+use Rattle.trips_isa.specs.declared.block.Block.{Block}
+use Rattle.trips_isa.specs.Forms.{form_of}
+use Rattle.trips_isa.specs.Operands.{is_guarded}
+use Rattle.ir_forms.specs.declared.flow.Guard.{Guard}
+use Rattle.ir_forms.specs.declared.flow.FlowNode.{FlowNode}
+use Rattle.ir_forms.specs.FlowRuns.{sense_of}
+use Rattle.ir_forms.specs.FlowFits.{is_branch}
+use Rattle.ir_forms.specs.HyperCode as hyper
+use Rattle.ir_forms.specs.HyperFits.{filled_ifs}
+
+-- whether there is a guard that has a sense
+abbrev pub has_sense : Option Guard → Bool
+has_sense g = is_guarded (sense_of g)
+
+-- The nodes other than branches that become guarded instructions. Where each guard has a sense, these are
+-- the guarded nodes.
+abbrev pub sensed_nodes : List FlowNode → ℕ
+sensed_nodes [] = 0
+sensed_nodes (n ∷ rest) =
+    cond (has_sense n.guard && not (is_branch (form_of n.op))) 1 0 + sensed_nodes rest
+
+-- 1 where a slot holds an instruction that has a predicate and is no branch, and else 0
+abbrev pub guarded_slot : Option Inst → ℕ
+guarded_slot None = 0
+guarded_slot (Some i) = cond (is_guarded i.sense && not (is_branch (form_of i.op))) 1 0
+
+-- those of some slots
+abbrev pub guarded_slots : List (Option Inst) → ℕ
+guarded_slots [] = 0
+guarded_slots (i ∷ rest) = guarded_slot i + guarded_slots rest
+
+-- the guarded instructions of a block other than branches
+abbrev pub guarded_insts : Block → ℕ
+guarded_insts b = guarded_slots b.insts.items
+
+-- the filled if-items of a hyper program
+abbrev pub filled_in : List hyper.Block → ℕ
+filled_in [] = 0
+filled_in (b ∷ rest) = filled_ifs b.items + filled_in rest
+
+-- the guarded instructions of its machine blocks
+abbrev pub guarded_in : List Block → ℕ
+guarded_in [] = 0
+guarded_in (t ∷ rest) = guarded_insts t + guarded_in rest
