@@ -1,0 +1,11 @@
+pub mod MarkFacts
+pub mod NodeFacts
+pub mod TargetFacts
+pub mod BitFacts
+pub mod CompleteFacts
+pub mod PredicateFacts
+pub mod ReadyFacts
+pub mod WantFacts
+pub mod OutputFacts
+pub mod LeastFacts
+pub mod StandardFacts

@@ -1,0 +1,8 @@
+use Rattle.std.proofs.Common.{ap, ◌∙◌}
+use Rattle.frame_state.specs.Held.{running}
+use Rattle.frame_state.proofs.NodeFacts.{resolves}
+use Rattle.frame_state.proofs.body.Body.resolve.Goals as goal
+
+pub returns : goal.returns
+returns c = ap (running c.args.block.now) c.note_store.ensures.value
+    ∙ resolves c.args.block.now c.args.number c.args.slot c.args.inst c.args.self.now c.requires

@@ -1,0 +1,10 @@
+use Rattle.std.proofs.Common.{ap, ◌∙◌}
+use Rattle.commit_flush_spec.specs.Dataflow.{fire}
+use Rattle.frame_state.specs.Held.{Held, running}
+use Rattle.frame_state.proofs.states.Running.fire.Goals as goal
+
+pub returns : goal.returns
+returns c = record {
+  value = λ o. c.fire.ensures o
+      ∙ ap (λ (h : Held). fire c.args.slot o (running c.args.block.now h)) (c.deref_mut.ensures.value ∙ c.self.view_is);
+}
