@@ -1,8 +1,7 @@
 //! Files that are read whole, and the text of the benchmark, which is made.
 
-ghost use Rattle.std.specs.Prelude.{◌≡◌, ◌≤◌, Some, option_copied, IfOk};
+ghost use Rattle.std.specs.Prelude.{◌≡◌, ◌≤◌, option_copied, IfOk};
 ghost use Rattle.trips_outside.specs.Outside.{Rose};
-ghost use Rattle.bench_text.specs.Text.{bench_text};
 ghost use Rattle.trips_run.specs.Request.{origin_held, origin_seen};
 ghost use Rattle.trips_run.specs.Read.{IsRead, IsInputRead, IsWithin};
 
@@ -44,19 +43,6 @@ pub fn read<F: Files>(
     }
 }
 
-// The text of the benchmark. Want of memory is the only error.
-fn generated(alloc: Global, functions: u32, limit: u64) -> Result<Loaded, AllocError>
-    ensures ok { (rose : Type 0) → IfOk result (IsRead (Some (bench_text functions)) rose limit) }
-    ensures within { IfOk result (IsWithin limit) }
-{
-    let text = bench_text(alloc, functions)?;
-    if text.len() as u64 > limit {
-        Ok(Loaded::TooLarge)
-    } else {
-        Ok(Loaded::Bytes(Items::from_vec(text)))
-    }
-}
-
 /// Reads what a request works with, which may have at most `limit` bytes. Want of memory is the only error.
 pub fn read_origin<F: Files>(
     alloc: Global,
@@ -72,7 +58,14 @@ pub fn read_origin<F: Files>(
 {
     match origin {
         Origin::File(name) => read(alloc, files, name, limit),
-        Origin::Bench(functions) => generated(alloc, functions, limit),
+        Origin::Bench(functions) => {
+            let text = bench_text(alloc, functions)?;
+            if text.len() as u64 > limit {
+                Ok(Loaded::TooLarge)
+            } else {
+                Ok(Loaded::Bytes(Items::from_vec(text)))
+            }
+        }
     }
 }
 
