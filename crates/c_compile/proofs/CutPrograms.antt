@@ -48,11 +48,11 @@ few_blocks text F l =
     omega (arith, b, f)
 
 -- the data lies in data memory
-data_fits : (bytes : List ℕ) (limit size : ℕ) → frames_at bytes + limit ≤ size → length bytes ≤ size
+pub data_fits : (bytes : List ℕ) (limit size : ℕ) → frames_at bytes + limit ≤ size → length bytes ≤ size
 data_fits bytes limit size l = omega (arith, l)
 
 -- a program has three blocks besides those of its functions
-some_blocks : (base : ℕ) (fs : List Routine) (main : ℕ) → 1 ≤ length (built base fs main)
+pub some_blocks : (base : ℕ) (fs : List Routine) (main : ℕ) → 1 ≤ length (built base fs main)
 some_blocks base fs main = omega arith
 
 module _ (F : Program) (lists : List (List ℕ)) (groups : List (List (List ℕ))) (fits : FitsProgram F)

@@ -2,3 +2,4 @@ pub mod Placed
 pub mod Accepted
 pub mod Images
 pub mod CutPrograms
+pub mod TriedPlans

@@ -3,6 +3,7 @@ ghost use Rattle.std.specs.Prelude.{◌≡◌, ◌+◌, ◌<◌, ◌≤◌, [], 
 ghost use Rattle.c_front.specs.Fronts.{MayBeRefused};
 ghost use Rattle.ir_forms.specs.FlatFits.{FitsProgram, code_blocks_of_all};
 ghost use Rattle.ir_forms.specs.FlatViews.{program_of};
+ghost use Rattle.reg_assign.specs.Keeps.{KeepsTameRuns};
 ghost use Rattle.hyper_build.specs.Laws.{built_program, plan_of, AreAssigned};
 ghost use Rattle.grid_place.specs.Moves.{goes};
 ghost use Rattle.grid_place.specs.Seeded.{list_of};
@@ -12,6 +13,7 @@ ghost use Rattle.c_compile_blocks.specs.Blocks.{AreMachineBlocks};
 ghost use Rattle.c_compile_laws.specs.Compiled.{IsCompiled};
 ghost use Rattle.c_compile.specs.Images.{IsImageOf};
 
+use crate::attempts::greedy_image;
 use crate::lower_text;
 use base::{Items, Memory};
 use block_check::{CheckedImage, ImageRefusal};
@@ -58,6 +60,39 @@ fn checked_image(alloc: Global, blocks: Items<Block>, bytes: &[u8]) -> Result<Ch
     }
 }
 
+// The image of a flat program whose blocks are cut at every place.
+fn cut_image(alloc: Global, assigned: &Assigned, placing: Placing) -> Result<CheckedImage, Memory>
+    requires fits { FitsProgram (program_of assigned.now.flat) }
+    requires assigned { AreAssigned (program_of assigned.now.flat) assigned.now.live
+        assigned.now.groups }
+    requires few { 3 + code_blocks_of_all (program_of assigned.now.flat).functions ≤ most_blocks }
+    requires keeps { KeepsTameRuns (program_of assigned.now.flat) assigned.now.live }
+    ensures { IfOk result (λ i. IsCompiled (program_of assigned.now.flat) (goes (list_of placing)) i) }
+{
+    let blocks = cut_blocks(alloc, assigned, placing)?;
+    checked_image(alloc, blocks, assigned.flat.bytes.as_slice())
+}
+
+// The image of what `assign` gives, by the first plan whose blocks are all taken. The last cuts at every
+// place, and its blocks always are.
+fn assigned_image(
+    alloc: Global,
+    assigned: &Assigned,
+    placing: Placing,
+) -> Result<CheckedImage, Memory>
+    requires fits { FitsProgram (program_of assigned.now.flat) }
+    requires assigned { AreAssigned (program_of assigned.now.flat) assigned.now.live
+        assigned.now.groups }
+    requires few { 3 + code_blocks_of_all (program_of assigned.now.flat).functions ≤ most_blocks }
+    requires keeps { KeepsTameRuns (program_of assigned.now.flat) assigned.now.live }
+    ensures { IfOk result (λ i. IsCompiled (program_of assigned.now.flat) (goes (list_of placing)) i) }
+{
+    match greedy_image(alloc, assigned, placing)? {
+        Some(image) => Ok(image),
+        None => cut_image(alloc, assigned, placing),
+    }
+}
+
 // The image of a flat program.
 fn compiled(alloc: Global, flat: FlatProgram, placing: Placing) -> Result<CheckedImage, Memory>
     requires fits { FitsProgram (program_of flat) }
@@ -65,15 +100,14 @@ fn compiled(alloc: Global, flat: FlatProgram, placing: Placing) -> Result<Checke
     ensures { IfOk result (λ i. IsCompiled (program_of flat) (goes (list_of placing)) i) }
 {
     let assigned = assign(alloc, flat)?;
-    let blocks = cut_blocks(alloc, &assigned, placing)?;
-    checked_image(alloc, blocks, assigned.flat.bytes.as_slice())
+    assigned_image(alloc, &assigned, placing)
 }
 
 /// The image of a C text, checked, or the text's first refusal.
 ///
-/// The image does what the text means (`images_mean_texts`), in whatever slots its instructions stand. A
-/// text that is accepted is refused for want of memory alone: its blocks are cut at every place, and so
-/// none is too big, and each is good.
+/// The image does what the text means (`images_mean_texts`), in whatever slots its instructions stand. Its
+/// blocks have as much in them as fits, by the first plan of some whose blocks are all taken. A text that is accepted is
+/// refused for want of memory alone: the last plan cuts at every place, so that no block is too big, and each is good.
 pub fn compile(alloc: Global, text: &[u8], placing: Placing) -> Result<CheckedImage, Refusal>
     requires short { length text.now < 4_294_967_295 }
     ensures ok { IfOk result (λ i. IsImageOf text.now (goes (list_of placing)) i) }

@@ -3,9 +3,11 @@
 //! `specs/Flat.antt` says what the flat program of a text is, `specs/Images.antt` what its image is.
 #![tactic(auto)]
 
+mod attempts;
 mod compiling;
 mod law;
 mod lowering;
+mod rooms;
 
 pub use compiling::compile;
 pub use law::{accepted_texts_keep_meaning, images_mean_texts};

@@ -1,0 +1,71 @@
+-- The image of a flat program by any plan, where no pass refuses a block of it and the checker takes each.
+use Rattle.std.proofs.Common.{◌≡◌, ℕ, ◌+◌, ◌≤◌, Bool, List, length, sym, subst, arith}
+use Rattle.std.specs.List.{All}
+use Rattle.trips_isa.specs.declared.block.Block.{Block}
+use Rattle.trips_isa.specs.declared.block.Image.{Image}
+use Rattle.trips_isa.specs.Stores.{data_size}
+use Rattle.block_cases.specs.Good.{GoodBlock}
+use Rattle.block_check.specs.Images.{IsCheckedImage}
+use Rattle.ir_forms.specs.FlatCode.{Program}
+use Rattle.ir_forms.specs.FlatFits.{FitsProgram, code_blocks_of_all}
+use Rattle.ir_forms.specs.Frames.{frames_at, frame_limit}
+use Rattle.ir_forms.specs.HyperCode as hyper
+use Rattle.ir_forms.specs.HyperFits.{IsFollowed}
+use Rattle.reg_assign.specs.Keeps.{KeepsTameRuns}
+use Rattle.hyper_build.specs.Laws.{built_program, plan_of, AreAssigned, AreBlocksOf}
+use Rattle.hyper_build.specs.Tree.{annotated_all}
+use Rattle.hyper_build.proofs.Assigned.{gives_assigned}
+use Rattle.grid_place.specs.Moves.{IsPermutation, goes}
+use Rattle.c_compile_layout.specs.Emitted.{image_of, most_blocks}
+use Rattle.c_compile_blocks.specs.Blocks.{ArePassed, AreMachineBlocks, FitsPasses}
+use Rattle.c_compile_laws.specs.Compiled.{IsCompiled}
+use Rattle.c_compile_checked.specs.Checked.{AreChecked}
+use Rattle.c_compile_checked.proofs.Passed.{are_checked}
+use Rattle.c_compile.proofs.CutPrograms.{data_fits, some_blocks}
+
+-- each block of a checked image is good
+pub all_good : (i image : Image) → i ≡ image → IsCheckedImage i → All GoodBlock image.blocks
+all_good i image e h =
+    subst (λ (x : Image). All GoodBlock x.blocks) e (λ k d l. (h.each k d l).cases)
+
+module _ (F : Program) (lists : List (List ℕ)) (groups : List (List (List ℕ))) (fits : FitsProgram F)
+    (a : AreAssigned F lists groups) (few : 3 + code_blocks_of_all F.functions ≤ most_blocks) (cuts : List Bool)
+    (P : List hyper.Block) (is : P ≡ built_program (plan_of cuts groups) F) where
+  shape : AreBlocksOf F (built_program (plan_of cuts groups) F)
+  shape = gives_assigned cuts F lists groups fits a
+
+  pub passes : FitsPasses P
+  passes =
+      let n = shape.few in
+      subst FitsPasses (sym is) (record {
+        some = some_blocks (frames_at F.bytes) (annotated_all (plan_of cuts groups) 0 0 F.functions) F.main;
+        few = omega (arith, n, few);
+        followed = shape.followed;
+        fit = shape.fit (omega (arith, n, few));
+      })
+
+  pub followed : IsFollowed P
+  followed = passes.followed
+
+  pub low : length P ≤ 524288
+  low = let n = passes.few in omega (arith, n)
+
+  module _ (p : List ℕ) (permutation : IsPermutation p) (us : List Block) (all : ArePassed (goes p) P us) where
+    pub checked : AreChecked (goes p) P us F.bytes
+    checked = are_checked (goes p) permutation.back P us F.bytes permutation.permutes passes all fits.bytes
+        (data_fits F.bytes frame_limit data_size fits.room)
+
+    pub is_compiled : KeepsTameRuns F lists → (i : Image) → i ≡ image_of us F.bytes
+        → All GoodBlock (image_of us F.bytes).blocks → IsCompiled F (goes p) i
+    is_compiled keeps i e good = record {
+      lists = lists;
+      groups = groups;
+      assigned = a;
+      keeps = keeps;
+      cuts = cuts;
+      blocks = us;
+      back = permutation.back;
+      permutes = permutation.permutes;
+      made = subst (λ (B : List hyper.Block). AreMachineBlocks (goes p) B us) is (checked.machine good);
+      is = e;
+    }
