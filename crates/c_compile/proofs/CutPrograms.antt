@@ -1,6 +1,6 @@
 -- What the passes give of a flat program whose blocks are cut at every place.
 use Rattle.std.proofs.Common.{◌≡◌, ℕ, ◌+◌, ◌*◌, ◌≤◌, List, [], length, Some, slice_get, refl, sym, ap, subst}
-use Rattle.std.proofs.Common.{◌∙◌, arith, get_or}
+use Rattle.std.proofs.Common.{ap₂, ◌∙◌, arith, get_or}
 use Rattle.std.specs.List.{All}
 use Rattle.std.specs.Prelude.{Bool}
 use Rattle.std.proofs.lemmas.Option.{slice_get_within, get_or_from_slice_get}
@@ -58,16 +58,16 @@ some_blocks base fs main = omega arith
 module _ (F : Program) (lists : List (List ℕ)) (groups : List (List (List ℕ))) (fits : FitsProgram F)
     (a : AreAssigned F lists groups) (few : 3 + code_blocks_of_all F.functions ≤ most_blocks) where
   abbrev B : List hyper.Block
-  B = built_program (plan_of [] groups) F
+  B = built_program (plan_of [] [] groups) F
 
   shape : AreBlocksOf F B
-  shape = gives_assigned [] F lists groups fits a
+  shape = gives_assigned [] [] F lists groups fits a
 
   pub passes : FitsPasses B
   passes =
       let n = shape.few in
       record {
-        some = some_blocks (frames_at F.bytes) (annotated_all (plan_of [] groups) 0 0 F.functions) F.main;
+        some = some_blocks (frames_at F.bytes) (annotated_all (plan_of [] [] groups) 0 0 F.functions) F.main;
         few = omega (arith, n, few);
         followed = shape.followed;
         fit = shape.fit (omega (arith, n, few));
@@ -112,6 +112,7 @@ module _ (F : Program) (lists : List (List ℕ)) (groups : List (List (List ℕ)
       assigned = a;
       keeps = keeps;
       cuts = [];
+      joins = [];
       blocks = us;
       back = permutation.back;
       permutes = permutation.permutes;
@@ -121,10 +122,12 @@ module _ (F : Program) (lists : List (List ℕ)) (groups : List (List (List ℕ)
 
 -- WHAT THE PASSES SAY
 
--- a plan without answers cuts everywhere
-pub built_cut : (F : Program) (groups : List (List (List ℕ))) (cuts : List Bool) (P : List hyper.Block)
-    → cuts ≡ [] → P ≡ built_program (plan_of cuts groups) F → P ≡ built_program (plan_of [] groups) F
-built_cut F groups cuts P c e = e ∙ ap (λ (cs : List Bool). built_program (plan_of cs groups) F) c
+-- a plan without answers cuts everywhere and joins nothing
+pub built_cut : (F : Program) (groups : List (List (List ℕ))) (cuts joins : List Bool) (P : List hyper.Block)
+    → cuts ≡ [] → joins ≡ [] → P ≡ built_program (plan_of cuts joins groups) F
+    → P ≡ built_program (plan_of [] [] groups) F
+built_cut F groups cuts joins P c j e =
+    e ∙ ap₂ (λ (cs js : List Bool). built_program (plan_of cs js groups) F) c j
 
 pub not_too_big : (e : FlowFault) (p : Part) (n : ℕ) → e ≡ TooBig p n → e ≡ Memory → ⊥
 not_too_big e p n a b = cc

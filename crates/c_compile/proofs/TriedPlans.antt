@@ -29,16 +29,16 @@ all_good i image e h =
     subst (λ (x : Image). All GoodBlock x.blocks) e (λ k d l. (h.each k d l).cases)
 
 module _ (F : Program) (lists : List (List ℕ)) (groups : List (List (List ℕ))) (fits : FitsProgram F)
-    (a : AreAssigned F lists groups) (few : 3 + code_blocks_of_all F.functions ≤ most_blocks) (cuts : List Bool)
-    (P : List hyper.Block) (is : P ≡ built_program (plan_of cuts groups) F) where
-  shape : AreBlocksOf F (built_program (plan_of cuts groups) F)
-  shape = gives_assigned cuts F lists groups fits a
+    (a : AreAssigned F lists groups) (few : 3 + code_blocks_of_all F.functions ≤ most_blocks) (cuts joins : List Bool)
+    (P : List hyper.Block) (is : P ≡ built_program (plan_of cuts joins groups) F) where
+  shape : AreBlocksOf F (built_program (plan_of cuts joins groups) F)
+  shape = gives_assigned cuts joins F lists groups fits a
 
   pub passes : FitsPasses P
   passes =
       let n = shape.few in
       subst FitsPasses (sym is) (record {
-        some = some_blocks (frames_at F.bytes) (annotated_all (plan_of cuts groups) 0 0 F.functions) F.main;
+        some = some_blocks (frames_at F.bytes) (annotated_all (plan_of cuts joins groups) 0 0 F.functions) F.main;
         few = omega (arith, n, few);
         followed = shape.followed;
         fit = shape.fit (omega (arith, n, few));
@@ -63,6 +63,7 @@ module _ (F : Program) (lists : List (List ℕ)) (groups : List (List (List ℕ)
       assigned = a;
       keeps = keeps;
       cuts = cuts;
+      joins = joins;
       blocks = us;
       back = permutation.back;
       permutes = permutation.permutes;

@@ -63,7 +63,7 @@ fn attempt(
     requires few { 3 + code_blocks_of_all (program_of assigned.now.flat).functions ≤ most_blocks }
     requires keeps { KeepsTameRuns (program_of assigned.now.flat) assigned.now.live }
     requires built { blocks_of program.now ≡ built_program
-        (plan_of plan.now.cuts assigned.now.groups) (program_of assigned.now.flat) }
+        (plan_of plan.now.cuts plan.now.joins assigned.now.groups) (program_of assigned.now.flat) }
     ensures { IfOk result (λ o. IfSome o (λ i.
         IsCompiled (program_of assigned.now.flat) (goes (list_of placing)) i)) }
 {

@@ -34,7 +34,7 @@ fn cut_blocks(alloc: Global, assigned: &Assigned, placing: Placing) -> Result<It
         assigned.now.groups }
     requires few { 3 + code_blocks_of_all (program_of assigned.now.flat).functions ≤ most_blocks }
     ensures { IfOk result (λ us. AreMachineBlocks (goes (list_of placing))
-        (built_program (plan_of [] assigned.now.groups) (program_of assigned.now.flat)) us) }
+        (built_program (plan_of [] [] assigned.now.groups) (program_of assigned.now.flat)) us) }
 {
     let plan = cut_all(alloc, assigned)?;
     let program = build(alloc, assigned, &plan)?;

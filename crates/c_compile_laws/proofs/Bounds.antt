@@ -16,9 +16,9 @@ use Rattle.c_compile_laws.proofs.Compiled.{data_fits, emitted}
 pub has_bounds : (P : TypedProgram) (F : Program) (t : ℕ) (p : ℕ → ℕ) (i : Image)
     → FlatMeans P F t → IsCompiled F p i → HasBounds t p i
 has_bounds P F t p i m c =
-    let B = built_program (plan_of c.cuts c.groups) F in
+    let B = built_program (plan_of c.cuts c.joins c.groups) F in
     let all = emitted P F t p i m c in
-    let n = (gives_assigned c.cuts F c.lists c.groups m.fits c.assigned).few in
+    let n = (gives_assigned c.cuts c.joins F c.lists c.groups m.fits c.assigned).few in
     let b = m.blocks in
     let s = (made B c.blocks all).size in
     subst (λ (j : Image). HasBounds t p j) (sym c.is) (record {

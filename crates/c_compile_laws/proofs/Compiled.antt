@@ -51,14 +51,14 @@ built_some base fs main = omega arith
 
 -- the passes take the blocks that are built of a flat program
 pub blocks_pass : (P : TypedProgram) (F : Program) (t : ℕ) (p : ℕ → ℕ) (i : Image) → FlatMeans P F t
-    → (c : IsCompiled F p i) → FitsPasses (built_program (plan_of c.cuts c.groups) F)
+    → (c : IsCompiled F p i) → FitsPasses (built_program (plan_of c.cuts c.joins c.groups) F)
 blocks_pass P F t p i m c =
-    let shape = gives_assigned c.cuts F c.lists c.groups m.fits c.assigned in
+    let shape = gives_assigned c.cuts c.joins F c.lists c.groups m.fits c.assigned in
     let n = shape.few in
     let b = m.blocks in
     let f = m.few in
     record {
-      some = built_some (frames_at F.bytes) (annotated_all (plan_of c.cuts c.groups) 0 0 F.functions) F.main;
+      some = built_some (frames_at F.bytes) (annotated_all (plan_of c.cuts c.joins c.groups) 0 0 F.functions) F.main;
       few = omega (arith, n, b, f);
       followed = shape.followed;
       fit = shape.fit (omega (arith, n, b, f));
@@ -67,7 +67,7 @@ blocks_pass P F t p i m c =
 module _ (P : TypedProgram) (F : Program) (t : ℕ) (p : ℕ → ℕ) (i : Image)
     (m : FlatMeans P F t) (c : IsCompiled F p i) where
   abbrev program : List hyper.Block
-  program = built_program (plan_of c.cuts c.groups) F
+  program = built_program (plan_of c.cuts c.joins c.groups) F
 
   abbrev at : Layout
   at = laid_out c.blocks
@@ -90,7 +90,7 @@ module _ (P : TypedProgram) (F : Program) (t : ℕ) (p : ℕ → ℕ) (i : Image
   blocks_end : (input : List ℕ) → IsInput input → (n : ℕ)
       → EndsSo (hyper_of input) n (assigned_of input n)
   blocks_end input h n =
-      keeps_assigned true at c.cuts F c.lists c.groups input n m.fits c.assigned found_again
+      keeps_assigned true at c.cuts c.joins F c.lists c.groups input n m.fits c.assigned found_again
       (bytes_of_input input h)
 
   image_stands : (input : List ℕ) → IsInput input → (n : ℕ)

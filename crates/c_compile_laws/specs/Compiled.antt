@@ -26,17 +26,19 @@ pub record FlatMeans (P : TypedProgram) (F : Program) (t : ℕ) : Type 0 where
   pub short : most ≤ t
   pub blocks : code_blocks_of_all F.functions ≤ 12 * t
 
--- i is the image that the passes make of F: its calls keep what must be kept, its blocks end where
--- the answers of some plan say, and slot s of each goes to p s
+-- i is the image that the passes make of F: its calls keep what must be kept, its blocks end and its
+-- ifs are joined where the answers of some plan say, and slot s of each goes to p s
 pub record IsCompiled (F : Program) (p : ℕ → ℕ) (i : Image) : Type 0 where
   -- the variables that each call keeps, and their groups
   pub lists : List (List ℕ)
   pub groups : List (List (List ℕ))
   pub assigned : AreAssigned F lists groups
   pub keeps : KeepsTameRuns F lists
+  -- where its blocks end, and which ifs are items of their block
   pub cuts : List Bool
+  pub joins : List Bool
   pub blocks : List Block
   pub back : ℕ → ℕ
   pub permutes : Permutes p back
-  pub made : AreMachineBlocks p (built_program (plan_of cuts groups) F) blocks
+  pub made : AreMachineBlocks p (built_program (plan_of cuts joins groups) F) blocks
   pub is : i ≡ image_of blocks F.bytes

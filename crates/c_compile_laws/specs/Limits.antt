@@ -21,4 +21,4 @@ abbrev pub TakesCuts : Type 0
 TakesCuts =
     (P : TypedProgram) (F : Program) (t : ℕ) (lists : List (List ℕ)) (groups : List (List (List ℕ)))
     → FlatMeans P F t → AreAssigned F lists groups → (k : ℕ) (b : hyper.Block)
-    → slice_get (built_program (plan_of [] groups) F) k ≡ Some b → TakesBlock b
+    → slice_get (built_program (plan_of [] [] groups) F) k ≡ Some b → TakesBlock b

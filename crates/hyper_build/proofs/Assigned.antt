@@ -28,10 +28,10 @@ keeps_same : (lists : List (List ℕ)) (groups : List (List (List ℕ))) → Are
     → (λ k. is_saved (groups_by groups k)) ≡ kept_by lists
 keeps_same lists groups h = fun_ext (saved_is_kept lists groups h)
 
-same_program : (cuts : List Bool) (P : Program) (lists : List (List ℕ))
+same_program : (cuts joins : List Bool) (P : Program) (lists : List (List ℕ))
     (groups : List (List (List ℕ))) → AreCut lists groups
-    → assigned_program P lists ≡ saved_program (plan_of cuts groups) P
-same_program cuts P lists groups h =
+    → assigned_program P lists ≡ saved_program (plan_of cuts joins groups) P
+same_program cuts joins P lists groups h =
     ap (λ (keep : ℕ → VarSet). record {
       functions = keeping_all keep 0 P.functions;
       bytes = P.bytes;
@@ -50,28 +50,28 @@ small_at [] (gs ∷ groups) h k = absurd h
 small_at (vs ∷ lists) (gs ∷ groups) h zero = h.0.1
 small_at (vs ∷ lists) (gs ∷ groups) h (suc k) = small_at lists groups h.1 k
 
-groups_fit : (cuts : List Bool) (P : Program) (lists : List (List ℕ))
+groups_fit : (cuts joins : List Bool) (P : Program) (lists : List (List ℕ))
     (groups : List (List (List ℕ))) → AreAssigned P lists groups
-    → FitsGroups (plan_of cuts groups) P
-groups_fit cuts P lists groups a = record {
+    → FitsGroups (plan_of cuts joins groups) P
+groups_fit cuts joins P lists groups a = record {
   own = subst (λ (F : Program). (f : ℕ) (g : Function) → slice_get F.functions f ≡ Some g
-      → KeepsOwn g.scalars g.body) (same_program cuts P lists groups a.cut) a.kept.own;
+      → KeepsOwn g.scalars g.body) (same_program cuts joins P lists groups a.cut) a.kept.own;
   few = few_at groups a.few;
 }
 
 pub keeps_assigned : KeepsAssigned
-keeps_assigned check at cuts P lists groups input n t a faithful bytes =
-    subst (λ F. EndsSo (hyper_run check at (built_program (plan_of cuts groups) P) P.bytes input) n
-    (flat_run (tame_and check) F input n)) (sym (same_program cuts P lists groups a.cut))
-    (build_keeps check at (plan_of cuts groups) P input n t (groups_fit cuts P lists groups a) faithful
+keeps_assigned check at cuts joins P lists groups input n t a faithful bytes =
+    subst (λ F. EndsSo (hyper_run check at (built_program (plan_of cuts joins groups) P) P.bytes input) n
+    (flat_run (tame_and check) F input n)) (sym (same_program cuts joins P lists groups a.cut))
+    (build_keeps check at (plan_of cuts joins groups) P input n t (groups_fit cuts joins P lists groups a) faithful
     bytes)
 
 pub gives_assigned : GivesAssigned
-gives_assigned cuts P lists groups t a =
-    build_gives (plan_of cuts groups) P t (groups_fit cuts P lists groups a)
+gives_assigned cuts joins P lists groups t a =
+    build_gives (plan_of cuts joins groups) P t (groups_fit cuts joins P lists groups a)
 
 cuts_all : (lists : List (List ℕ)) (groups : List (List (List ℕ))) → AreCut lists groups
-    → CutsAll (plan_of [] groups)
+    → CutsAll (plan_of [] [] groups)
 cuts_all lists groups h = record {
   cut = λ i. refl;
   joined = λ i. refl;
@@ -81,5 +81,5 @@ cuts_all lists groups h = record {
 
 pub assigned_little : AssignedAreLittle
 assigned_little P lists groups t a =
-    cut_blocks_little (plan_of [] groups) P t (groups_fit [] P lists groups a)
+    cut_blocks_little (plan_of [] [] groups) P t (groups_fit [] [] P lists groups a)
     (cuts_all lists groups a.cut)

@@ -1,5 +1,5 @@
 -- Emission puts out the blocks of annotated code.
-use Rattle.std.proofs.Common.{◌≡◌, ℕ, suc, ◌+◌, ◌-◌, Bool, true, false, ◌&&◌, ◌||◌, not, cond, List, [], ◌∷◌}
+use Rattle.std.proofs.Common.{◌≡◌, ℕ, suc, ◌+◌, ◌-◌, Bool, true, false, ◌||◌, not, cond, List, [], ◌∷◌}
 use Rattle.std.proofs.Common.{◌++◌, length, refl, sym, ap, ap₂, ◌∙◌, subst, arith, append_assoc, append-nil}
 use Rattle.trips_isa.specs.declared.op.Op.TheVariants.{Mov, Sub}
 use Rattle.ir_forms.specs.declared.flat.Arg.{Arg}
@@ -9,52 +9,32 @@ use Rattle.ir_forms.specs.Frames.{register_of}
 use Rattle.ir_forms.specs.FlatCode.{Step, Let, Frame, Load, Save, Call, Put, Get, If, Loop, Break, Continue}
 use Rattle.ir_forms.specs.FlatCode.{Return, Code, Nop, ◌▹◌}
 use Rattle.ir_forms.specs.FlatFits.{steps_in, steps_of}
-use Rattle.ir_forms.specs.HyperCode.{Items, Done, Leave, Block}
+use Rattle.ir_forms.specs.HyperCode.{Items, Done, Leave, Test, Block}
 use Rattle.ir_forms.specs.HyperCode as hyper
 use Rattle.ir_forms.specs.HyperRuns.{jump}
 use Rattle.reg_assign.specs.Keeps.{calls_in, calls}
 use Rattle.hyper_build.specs.declared.emitting.Note.{Note}
-use Rattle.hyper_build.specs.Tree.{annotated_in, annotated, IfAt, LoopAt}
+use Rattle.hyper_build.specs.Tree.{Tree, annotated_in, annotated, LoopAt}
 use Rattle.hyper_build.specs.Parts.{source, capped, set_then, load_then, save_then, cut, cut_blocks, cut_size}
-use Rattle.hyper_build.specs.Straight.{Place, straight_in, straight, items_in, items_of, leg_blocks}
+use Rattle.hyper_build.specs.Straight.{Place, items_in, items_of, leg_blocks}
 use Rattle.hyper_build.specs.Straight.{leg_size, size_in, size, exit_leg, label_or}
-use Rattle.hyper_build.specs.Build.{give, body_end, entry_in, entry, blocks_in, blocks}
+use Rattle.hyper_build.specs.Build.{give, body_end, choose, entry_in, entry, blocks_in, blocks}
 use Rattle.hyper_build.specs.Ground.{Ground, plan, place, left, entry_at}
-use Rattle.hyper_build.specs.Backward.{Emission, with_rest, put_out, fall, before, setting, last_note}
-use Rattle.hyper_build.specs.Backward.{without_note, front_notes}
+use Rattle.hyper_build.specs.Backward.{Emission, with_rest, put_out, fall, before, setting}
+use Rattle.hyper_build.specs.Backward.{last_note, without_note, front_notes}
 use Rattle.hyper_build.specs.BackwardStatements.{put_byte, get_byte, leaving}
-use Rattle.hyper_build.specs.BackwardItems.{is_straight_in, is_straight, straight_items_in, straight_items}
-use Rattle.hyper_build.specs.BackwardCode.{exit_of, leg_out, test_block, end_of_body, emit_in, emit}
+use Rattle.hyper_build.specs.BackwardItems.{is_if_item, items_before, if_then, straight_items_in}
+use Rattle.hyper_build.specs.BackwardItems.{straight_items}
+use Rattle.hyper_build.specs.BackwardCode.{exit_of, leg_out, test_block, items_out, end_of_body, emit_in, emit}
 use Rattle.hyper_build.specs.Notes.{note_of, notes_in, notes_of}
 use Rattle.hyper_build.specs.Reached.{Reached, IsReached}
-use Rattle.hyper_build.proofs.Reaching.{joined, mapped, one_less, before_reached, call_reached}
+use Rattle.hyper_build.proofs.ItemLegs.{straight_code, item_is, if_size, item_calls, item_notes}
+use Rattle.hyper_build.proofs.Reaching.{joined, mapped, restated, one_less, before_reached, before_by_reached}
+use Rattle.hyper_build.proofs.Reaching.{call_reached}
 use Rattle.hyper_build.proofs.ReachingLegs.{LegAt, leg_reached}
 use Rattle.hyper_build.proofs.LastNotes.{last_behind, front_before}
 
--- STRAIGHT CODE
-
-mutual
-  straight_step : (g : Ground) (i k : ℕ) (x : Step)
-      → straight_in (annotated_in (plan g) i k x) ≡ is_straight_in x
-  straight_step g i k (Let to op x y) = refl
-  straight_step g i k (Frame to at) = refl
-  straight_step g i k (Load to op x) = refl
-  straight_step g i k (Save op x y) = refl
-  straight_step g i k (Call f xs to kept) = refl
-  straight_step g i k (Put x) = refl
-  straight_step g i k (Get to) = refl
-  straight_step g i k (If x p q) = ap₂ (λ a b. a && b) (straight_code g (i + 1) k p)
-      (straight_code g (i + 1 + steps_of p) (k + calls p) q)
-  straight_step g i k (Loop p q) = refl
-  straight_step g i k Break = refl
-  straight_step g i k Continue = refl
-  straight_step g i k (Return x) = refl
-
-  straight_code : (g : Ground) (i k : ℕ) (c : Code)
-      → straight (annotated (plan g) i k c) ≡ is_straight c
-  straight_code g i k Nop = refl
-  straight_code g i k (x ▹ c) = ap₂ (λ a b. a && b) (straight_step g i k x)
-      (straight_code g (i + steps_in x) (k + calls_in x) c)
+-- ITEMS
 
 mutual
   items_step : (g : Ground) (p : Place) (i k : ℕ) (x : Step) (r : Items)
@@ -84,9 +64,28 @@ end_is : (g : Ground) (p : Place) (c : Bool) (i k : ℕ) (post : Code) (l head :
     → body_end p c (annotated (plan g) i k post) l head ≡ end_of_body c p.arrays post l head
 end_is g p c i k post l head =
     ap₂ (λ y z. cond (c || not y) (jump l) (record { items = z; tail = Leave (exit.Jump head) }))
-    (straight_code g i k post) (items_code g p i k post Done)
+    (straight_code (plan g) i k post) (items_code g p i k post Done)
 
--- IFS
+-- IFS THAT ARE TESTS
+
+-- its blocks, and the rest of the block before it
+abbrev test_blocks : Place → Tree → Tree → ℕ → Block → List Block
+test_blocks p one other l k =
+    let l1 = l + leg_size one (size one) in
+    let join = l1 + leg_size other (size other) in
+    leg_blocks (exit_leg p join one) (entry p one (l + 1) (jump join)) (blocks p one (l + 1) (jump join))
+    ++ (leg_blocks (exit_leg p join other) (entry p other (l1 + 1) (jump join))
+    (blocks p other (l1 + 1) (jump join)) ++ k ∷ [])
+
+abbrev test_rest : Place → Arg → Tree → Tree → ℕ → Block
+test_rest p x one other l =
+    let l1 = l + leg_size one (size one) in
+    let join = l1 + leg_size other (size other) in
+    record {
+      items = Done;
+      tail = Test (source x) (Leave (exit.Jump (label_or l (exit_leg p join one))))
+          (Leave (exit.Jump (label_or l1 (exit_leg p join other))));
+    }
 
 -- behind an if, whose join is j
 abbrev second_by : Ground → ℕ → ℕ → Code → ℕ → Emission → Emission
@@ -103,7 +102,7 @@ if_by g b a x one other j u =
     (label_or (second_by g b a other j u).label (exit_of j b a other)))
     (first_by g b a one other j u)
 
-if_reached : (g : Ground) (b a : ℕ) (x : Arg) (one other : Code) (c : Bool) (j l i k : ℕ)
+if_reached : (g : Ground) (b a : ℕ) (x : Arg) (one other : Code) (j l i k : ℕ)
     (N : List Note) (u : Emission) (top : Block) (o : List Block)
     → IsReached g b a one → IsReached g b a other
     → u.label ≡ j → u.place ≡ i + 1 + steps_of one + steps_of other
@@ -116,11 +115,11 @@ if_reached : (g : Ground) (b a : ℕ) (x : Arg) (one other : Code) (c : Bool) (j
     (l + leg_size (annotated (plan g) (i + 1) k one) (size (annotated (plan g) (i + 1) k one)) + 1)
     (i + 1 + steps_of one) (k + calls one) other
     → Reached o (if_by g b a x one other j u) l i k N
-    (blocks_in (place g b a) (IfAt c false x (annotated (plan g) (i + 1) k one)
-    (annotated (plan g) (i + 1 + steps_of one) (k + calls one) other)) l top)
-    (entry_in (place g b a) (IfAt c false x (annotated (plan g) (i + 1) k one)
-    (annotated (plan g) (i + 1 + steps_of one) (k + calls one) other)) l top)
-if_reached g b a x one other c j l i k N u top o f1 f2 el ei ek er eo ej en =
+    (test_blocks (place g b a) (annotated (plan g) (i + 1) k one)
+    (annotated (plan g) (i + 1 + steps_of one) (k + calls one) other) l top)
+    (test_rest (place g b a) x (annotated (plan g) (i + 1) k one)
+    (annotated (plan g) (i + 1 + steps_of one) (k + calls one) other) l)
+if_reached g b a x one other j l i k N u top o f1 f2 el ei ek er eo ej en =
     let p = place g b a in
     let A = annotated (plan g) (i + 1) k one in
     let C = annotated (plan g) (i + 1 + steps_of one) (k + calls one) other in
@@ -160,6 +159,102 @@ if_reached g b a x one other c j l i k N u top o f1 f2 el ei ek er eo ej en =
     ++ top ∷ []) in
     let E = λ (n : ℕ). test_block x (label_or l (exit_leg p n A)) (label_or l1 (exit_leg p n C)) in
     subst (λ n. Reached o t l i k N (B n) (E n)) ej r
+
+-- ALL IFS
+
+-- the blocks of an if, the rest before it, and what emission does, by whether it is an item
+abbrev if_blocks : Bool → Place → Bool → Tree → Tree → ℕ → Block → List Block
+if_blocks z p c one other l k = cond z (cut_blocks c k) (test_blocks p one other l k)
+
+abbrev item_rest : Place → Bool → Arg → Tree → Tree → ℕ → Block → Block
+item_rest p c x one other l k = if_then (source x) (items_of p one Done) (items_of p other Done) (cut c l k)
+
+abbrev if_rest : Bool → Place → Bool → Arg → Tree → Tree → ℕ → Block → Block
+if_rest z p c x one other l k = choose z (item_rest p c x one other l k) (test_rest p x one other l)
+
+abbrev if_out : Bool → Ground → ℕ → ℕ → Arg → Code → Code → Emission → Emission
+if_out z g b a x one other s =
+    cond z (items_out (plan g) g.arrays (steps_in (If x one other)) (If x one other) s)
+    (if_by g b a x one other (put_out s).label (put_out s))
+
+-- where the statement itself stands
+if_place : (i n : ℕ) (s : Emission) → s.place ≡ i + n → s.place - n ≡ i
+if_place i n s e = omega (arith, e)
+
+-- what emission does at an if that stands behind i statements
+if_emits : (g : Ground) (b a i : ℕ) (x : Arg) (one other : Code) (s : Emission) (z : Bool)
+    → s.place ≡ i + steps_in (If x one other) → is_if_item ((plan g).joined i) one other ≡ z
+    → emit_in g b a (If x one other) s ≡ if_out z g b a x one other s
+if_emits g b a i x one other s z ei e =
+    ap (λ m. if_out (is_if_item ((plan g).joined m) one other) g b a x one other s)
+    (if_place i (steps_in (If x one other)) s ei)
+    ∙ ap (λ y. if_out y g b a x one other s) e
+
+abbrev IsIfReached : Ground → ℕ → ℕ → Arg → Code → Code → Bool → Type 0
+IsIfReached g b a x one other z =
+    (s : Emission) (l i k : ℕ) (N : List Note) → is_if_item ((plan g).joined i) one other ≡ z
+    → s.label ≡ l + if_size z ((plan g).cut i) (annotated (plan g) (i + 1) k one)
+    (annotated (plan g) (i + 1 + steps_of one) (k + calls one) other)
+    → s.place ≡ i + steps_in (If x one other) → s.calls ≡ k + calls_in (If x one other)
+    → s.notes ≡ N ++ notes_in (plan g) l i k (If x one other)
+    → Reached s.out (if_out z g b a x one other s) l i k N
+    (if_blocks z (place g b a) ((plan g).cut i) (annotated (plan g) (i + 1) k one)
+    (annotated (plan g) (i + 1 + steps_of one) (k + calls one) other) l s.rest)
+    (if_rest z (place g b a) ((plan g).cut i) x (annotated (plan g) (i + 1) k one)
+    (annotated (plan g) (i + 1 + steps_of one) (k + calls one) other) l s.rest)
+
+item_reached : (g : Ground) (b a : ℕ) (x : Arg) (one other : Code) → IsIfReached g b a x one other true
+item_reached g b a x one other s l i k N e el ei ek en =
+    let p = place g b a in
+    let joined = (plan g).joined i in
+    let c = (plan g).cut i in
+    let n = steps_in (If x one other) in
+    let r = before_by_reached (plan g) n s l i k N el ei
+    (ek ∙ ap (λ m. k + m) (item_calls joined x one other e) ∙ omega arith)
+    (en ∙ ap (λ y. N ++ y) (item_notes (plan g) l i k joined x one other e) ∙ append-nil N) in
+    restated refl refl
+    (ap₂ (λ y z. if_then (source x) y z (cut c l s.rest)) (items_code g p (i + 1) k one Done)
+    (items_code g p (i + 1 + steps_of one) (k + calls one) other Done))
+    (mapped (items_before (straight_items_in g.arrays (If x one other))) r)
+
+test_reached : (g : Ground) (b a : ℕ) (x : Arg) (one other : Code) → IsReached g b a one → IsReached g b a other
+    → IsIfReached g b a x one other false
+test_reached g b a x one other f1 f2 s l i k N e el ei ek en =
+    let A = annotated (plan g) (i + 1) k one in
+    let C = annotated (plan g) (i + 1 + steps_of one) (k + calls one) other in
+    let l1 = l + leg_size A (size A) in
+    let j = l1 + leg_size C (size C) in
+    let n1 = notes_of (plan g) (l + 1) (i + 1) k one in
+    let n2 = notes_of (plan g) (l1 + 1) (i + 1 + steps_of one) (k + calls one) other in
+    let u = put_out s in
+    let ej : u.label ≡ j = one_less s.label j (el ∙ omega arith) in
+    if_reached g b a x one other u.label l i k N u s.rest s.out f1 f2 refl (omega (arith, ei))
+    (omega (arith, ek)) refl refl ej (en ∙ sym (append_assoc N n1 n2))
+
+either_reached : (g : Ground) (b a : ℕ) (x : Arg) (one other : Code) (z : Bool) → IsReached g b a one
+    → IsReached g b a other → IsIfReached g b a x one other z
+either_reached g b a x one other true f1 f2 = item_reached g b a x one other
+either_reached g b a x one other false f1 f2 = test_reached g b a x one other f1 f2
+
+all_reached : (g : Ground) (b a : ℕ) (x : Arg) (one other : Code) (s : Emission) (l i k : ℕ) (N : List Note)
+    → IsReached g b a one → IsReached g b a other
+    → s.label ≡ l + size_in (annotated_in (plan g) i k (If x one other))
+    → s.place ≡ i + steps_in (If x one other) → s.calls ≡ k + calls_in (If x one other)
+    → s.notes ≡ N ++ notes_in (plan g) l i k (If x one other)
+    → Reached s.out (emit_in g b a (If x one other) s) l i k N
+    (blocks_in (place g b a) (annotated_in (plan g) i k (If x one other)) l s.rest)
+    (entry_in (place g b a) (annotated_in (plan g) i k (If x one other)) l s.rest)
+all_reached g b a x one other s l i k N f1 f2 el ei ek en =
+    let p = place g b a in
+    let A = annotated (plan g) (i + 1) k one in
+    let C = annotated (plan g) (i + 1 + steps_of one) (k + calls one) other in
+    let c = (plan g).cut i in
+    let z = is_if_item ((plan g).joined i) one other in
+    let e = item_is (plan g) i k ((plan g).joined i) one other in
+    restated (if_emits g b a i x one other s z ei refl)
+    (ap (λ y. if_blocks y p c A C l s.rest) e) (ap (λ y. if_rest y p c x A C l s.rest) e)
+    (either_reached g b a x one other z f1 f2 s l i k N refl
+    (el ∙ ap (λ y. l + if_size y c A C) e) ei ek en)
 
 -- LOOPS
 
@@ -296,17 +391,7 @@ mutual
         rest = ap get_byte e;
       }
   step_reached g b a (If x one other) s l i k N el ei ek en =
-      let A = annotated (plan g) (i + 1) k one in
-      let C = annotated (plan g) (i + 1 + steps_of one) (k + calls one) other in
-      let l1 = l + leg_size A (size A) in
-      let j = l1 + leg_size C (size C) in
-      let n1 = notes_of (plan g) (l + 1) (i + 1) k one in
-      let n2 = notes_of (plan g) (l1 + 1) (i + 1 + steps_of one) (k + calls one) other in
-      let u = put_out s in
-      let e : u.label ≡ j = one_less s.label j (el ∙ omega arith) in
-      if_reached g b a x one other ((plan g).cut i) u.label l i k N u s.rest s.out
-      (reached g b a one) (reached g b a other) refl (omega (arith, ei)) (omega (arith, ek)) refl refl e
-      (en ∙ sym (append_assoc N n1 n2))
+      all_reached g b a x one other s l i k N (reached g b a one) (reached g b a other) el ei ek en
   step_reached g b a (Loop body post) s l i k N el ei ek en =
       let behind = put_out s in
       let C = annotated (plan g) (i + 1) k body in

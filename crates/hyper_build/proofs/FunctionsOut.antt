@@ -140,12 +140,12 @@ functions_reached end g (f ∷ fs) s e i k N el ei ek en =
 
 -- PROGRAMS
 
--- what is emitted is what is built, for every list of answers and groups, and every program
+-- what is emitted is what is built, for all lists of answers and groups, and every program
 pub emitted_is_built : EmissionBuilds
-emitted_is_built cuts groups P =
-    let p = plan_of cuts groups in
+emitted_is_built cuts joins groups P =
+    let p = plan_of cuts joins groups in
     let entries = entries_from p P.functions numbers_start in
-    let g = program_ground cuts groups entries in
+    let g = program_ground cuts joins groups entries in
     let rs = annotated_all p 0 0 P.functions in
     let base = frames_at P.bytes in
     let n = number_all p P.functions numbers_start in

@@ -17,6 +17,7 @@ pub mod WholeRuns
 pub mod Memories
 pub mod Plains
 pub mod Forks
+pub mod ItemLegs
 pub mod Straights
 pub mod Turns
 pub mod Sound
@@ -32,4 +33,5 @@ pub mod ReachingLegs
 pub mod Emissions
 pub mod ArgumentSizes
 pub mod NumbersForward
+pub mod IfPasses
 pub mod FunctionsOut

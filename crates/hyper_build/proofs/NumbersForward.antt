@@ -1,6 +1,7 @@
 -- Numbers forward are what annotated code says: labels by its size, and a note for each loop.
 use Rattle.std.proofs.Common.{◌≡◌, ◌⊎◌, inl, inr, ℕ, zero, suc, ◌+◌, Bool, List, [], ◌∷◌, ◌++◌, Option}
-use Rattle.std.proofs.Common.{refl, sym, ap, ap₂, ◌∙◌, subst, arith, append_assoc, append-nil}
+use Rattle.std.proofs.Common.{true, false, cond, refl, sym, ap, ap₂, ◌∙◌, subst, arith, append_assoc, append-nil}
+use Rattle.ir_forms.specs.declared.flat.Arg.{Arg}
 use Rattle.ir_forms.specs.FlatCode.{Step, Let, Frame, Load, Save, Call, Put, Get, If, Loop, Break, Continue}
 use Rattle.ir_forms.specs.FlatCode.{Return, Code, Nop, ◌▹◌, Function}
 use Rattle.ir_forms.specs.FlatFits.{steps_in, steps_of, steps_of_all}
@@ -11,10 +12,12 @@ use Rattle.hyper_build.specs.Tree.{Plan, annotated_in, annotated, Routine, annot
 use Rattle.hyper_build.specs.Straight.{leg_size, size_in, size}
 use Rattle.hyper_build.specs.Routines.{body_label, routine_size, entry_from}
 use Rattle.hyper_build.specs.Ground.{Ground, plan, entry_at}
-use Rattle.hyper_build.specs.Forward.{with_blocks, with_statement, with_note, led_by, led, number_in, number}
-use Rattle.hyper_build.specs.Forward.{way_in_size}
+use Rattle.hyper_build.specs.BackwardItems.{is_if_item}
+use Rattle.hyper_build.specs.Forward.{with_blocks, with_statement, with_note, number_items, led_by, led, number_in}
+use Rattle.hyper_build.specs.Forward.{number, way_in_size}
 use Rattle.hyper_build.specs.Forward.{number_function, number_all, entries_from, numbers_start}
 use Rattle.hyper_build.specs.Notes.{note_of, notes_in, notes_of}
+use Rattle.hyper_build.proofs.ItemLegs.{item_is, if_size, item_calls, item_notes}
 use Rattle.hyper_build.proofs.ReachingLegs.{NoExit, HasExit, kind}
 
 -- NUMBERS
@@ -65,7 +68,7 @@ bare : {l m i j k n : ℕ} (N : List Note) → l ≡ m → i ≡ j → k ≡ n
     → numbers_at l i k N ≡ numbers_at m j n (N ++ [])
 bare N el ei ek = same el ei ek (sym (append-nil N))
 
-if_numbers : (g : Ground) (l i k : ℕ) (one other : Code) (N : List Note)
+test_numbers : (g : Ground) (l i k : ℕ) (one other : Code) (N : List Note)
     → ((m : ℕ) → IsNumbered g m (i + 1) k one)
     → ((m : ℕ) → IsNumbered g m (i + 1 + steps_of one) (k + calls one) other)
     → let A = annotated (plan g) (i + 1) k one in
@@ -75,7 +78,7 @@ if_numbers : (g : Ground) (l i k : ℕ) (one other : Code) (N : List Note)
     (i + (1 + (steps_of one + steps_of other))) (k + (calls one + calls other))
     (N ++ (notes_of (plan g) (l + 1) (i + 1) k one
     ++ notes_of (plan g) (l + leg_size A (size A) + 1) (i + 1 + steps_of one) (k + calls one) other))
-if_numbers g l i k one other N f1 f2 =
+test_numbers g l i k one other N f1 f2 =
     let A = annotated (plan g) (i + 1) k one in
     let C = annotated (plan g) (i + 1 + steps_of one) (k + calls one) other in
     let l1 = l + leg_size A (size A) in
@@ -86,6 +89,48 @@ if_numbers g l i k one other N f1 f2 =
     ap (λ s. with_blocks 1 (number (plan g) other (led other s))) e1
     ∙ ap (with_blocks 1) e2
     ∙ same (omega arith) (omega arith) (omega arith) (append_assoc N n1 n2)
+
+-- what stands behind an if, by whether it is an item
+abbrev if_numbered : Bool → Plan → Arg → Code → Code → Numbering → Numbering
+if_numbered z p x one other s =
+    cond z (number_items p (If x one other) s)
+    (with_blocks 1 (number p other (led other (number p one (led one (with_statement s))))))
+
+abbrev IsIfNumbered : Ground → ℕ → ℕ → ℕ → Arg → Code → Code → Bool → Type 0
+IsIfNumbered g l i k x one other z =
+    is_if_item ((plan g).joined i) one other ≡ z → (N : List Note)
+    → ((m : ℕ) → IsNumbered g m (i + 1) k one)
+    → ((m : ℕ) → IsNumbered g m (i + 1 + steps_of one) (k + calls one) other)
+    → if_numbered z (plan g) x one other (numbers_at l i k N)
+    ≡ numbers_at (l + if_size z ((plan g).cut i) (annotated (plan g) (i + 1) k one)
+    (annotated (plan g) (i + 1 + steps_of one) (k + calls one) other))
+    (i + steps_in (If x one other)) (k + calls_in (If x one other))
+    (N ++ notes_in (plan g) l i k (If x one other))
+
+by_kind_numbers : (g : Ground) (l i k : ℕ) (x : Arg) (one other : Code) (z : Bool)
+    → IsIfNumbered g l i k x one other z
+by_kind_numbers g l i k x one other true e N f1 f2 =
+    let joined = (plan g).joined i in
+    let c = item_calls joined x one other e in
+    same refl refl (omega (arith, c))
+    (sym (append-nil N) ∙ ap (λ y. N ++ y) (sym (item_notes (plan g) l i k joined x one other e)))
+by_kind_numbers g l i k x one other false e N f1 f2 = test_numbers g l i k one other N f1 f2
+
+if_numbers : (g : Ground) (l i k : ℕ) (x : Arg) (one other : Code) (N : List Note)
+    → ((m : ℕ) → IsNumbered g m (i + 1) k one)
+    → ((m : ℕ) → IsNumbered g m (i + 1 + steps_of one) (k + calls one) other)
+    → number_in (plan g) (If x one other) (numbers_at l i k N)
+    ≡ numbers_at (l + size_in (annotated_in (plan g) i k (If x one other)))
+    (i + steps_in (If x one other)) (k + calls_in (If x one other))
+    (N ++ notes_in (plan g) l i k (If x one other))
+if_numbers g l i k x one other N f1 f2 =
+    let A = annotated (plan g) (i + 1) k one in
+    let C = annotated (plan g) (i + 1 + steps_of one) (k + calls one) other in
+    let c = (plan g).cut i in
+    let z = is_if_item ((plan g).joined i) one other in
+    let e = item_is (plan g) i k ((plan g).joined i) one other in
+    by_kind_numbers g l i k x one other z refl N f1 f2
+    ∙ same (ap (λ y. l + if_size y c A C) (sym e)) refl refl refl
 
 loop_numbers : (g : Ground) (l i k : ℕ) (body post : Code) (N : List Note)
     → IsNumbered g (l + 1) (i + 1) k body
@@ -123,7 +168,7 @@ mutual
   step_numbers g l i k (Call f xs to kept) N = bare N refl refl refl
   step_numbers g l i k (Put x) N = bare N refl refl (omega arith)
   step_numbers g l i k (Get to) N = bare N refl refl (omega arith)
-  step_numbers g l i k (If x one other) N = if_numbers g l i k one other N
+  step_numbers g l i k (If x one other) N = if_numbers g l i k x one other N
       (λ m. numbers g m (i + 1) k one)
       (λ m. numbers g m (i + 1 + steps_of one) (k + calls one) other)
   step_numbers g l i k (Loop body post) N = loop_numbers g l i k body post N

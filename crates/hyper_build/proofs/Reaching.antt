@@ -13,7 +13,8 @@ use Rattle.hyper_build.specs.Parts.{moved, moved_blocks, moved_size}
 use Rattle.hyper_build.specs.Passing.{saving, restoring, argument_moves, argument_cuts, result_then}
 use Rattle.hyper_build.specs.Straight.{arguments_size}
 use Rattle.hyper_build.specs.Build.{call_block}
-use Rattle.hyper_build.specs.Backward.{Emission, with_rest, put_out, cut_at, fall, fall_call, before}
+use Rattle.hyper_build.specs.Backward.{Emission, with_rest, put_out, cut_at, fall, fall_by, fall_call, before}
+use Rattle.hyper_build.specs.Backward.{before_by}
 use Rattle.hyper_build.specs.BackwardStatements.{chained, moving, back_out, call_out}
 use Rattle.hyper_build.specs.Reached.{Reached}
 
@@ -55,6 +56,18 @@ rested k1 k2 e p = record {
   rest = e;
 }
 
+-- another way to write the state, its blocks and the rest
+pub restated : {o : List Block} {t u : Emission} {l i k : ℕ} {N : List Note} {B C : List Block} {E F : Block}
+    → u ≡ t → C ≡ B → F ≡ E → Reached o t l i k N B E → Reached o u l i k N C F
+restated {o = o} et eb ee p = record {
+  label = ap (λ (x : Emission). x.label) et ∙ p.label;
+  place = ap (λ (x : Emission). x.place) et ∙ p.place;
+  calls = ap (λ (x : Emission). x.calls) et ∙ p.calls;
+  notes = ap (λ (x : Emission). x.notes) et ∙ p.notes;
+  out = ap (λ (x : Emission). x.out) et ∙ p.out ∙ ap (λ y. y ++ o) (sym eb);
+  rest = ap (λ (x : Emission). x.rest) et ∙ p.rest ∙ sym ee;
+}
+
 pub one_less : (n l : ℕ) → n ≡ l + 1 → n - 1 ≡ l
 one_less n l e = omega (arith, e)
 
@@ -84,6 +97,16 @@ before_reached p s l i k N e ei ek en =
     subst (λ j. Reached s.out (cut_at (p.cut j) (fall s)) l i k N (cut_blocks (p.cut i) s.rest)
     (cut (p.cut i) l s.rest))
     (sym h) (cut_reached (p.cut i) (fall s) l i k N e h ek en)
+
+-- before a statement that has n, itself and those in it
+pub before_by_reached : (p : Plan) (n : ℕ) (s : Emission) (l i k : ℕ) (N : List Note)
+    → s.label ≡ l + cut_size (p.cut i) → s.place ≡ i + n → s.calls ≡ k → s.notes ≡ N
+    → Reached s.out (before_by p n s) l i k N (cut_blocks (p.cut i) s.rest) (cut (p.cut i) l s.rest)
+before_by_reached p n s l i k N e ei ek en =
+    let h : s.place - n ≡ i = omega (arith, ei) in
+    subst (λ j. Reached s.out (cut_at (p.cut j) (fall_by n s)) l i k N (cut_blocks (p.cut i) s.rest)
+    (cut (p.cut i) l s.rest))
+    (sym h) (cut_reached (p.cut i) (fall_by n s) l i k N e h ek en)
 
 pub chained_reached : (part : List ℕ → Block → Block) (gs : List (List ℕ)) (s : Emission)
     (l i k : ℕ) (N : List Note) → s.label ≡ l + length gs → s.place ≡ i → s.calls ≡ k → s.notes ≡ N

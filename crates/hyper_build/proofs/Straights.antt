@@ -32,16 +32,13 @@ use Rattle.hyper_build.specs.World.{World, Has, Goes, Rel, Kept, IsFrame, frame,
 use Rattle.hyper_build.specs.Follow.{Way, Next, Came, Follows, ways_of}
 use Rattle.hyper_build.specs.Fits.{IsBuilt, FitsStmt, FitsTree, IsPlace}
 use Rattle.hyper_build.specs.Premises.{StmtDoes, TreeDoes, AluGivesWords}
+use Rattle.hyper_build.proofs.ItemLegs.{and_parts}
 use Rattle.hyper_build.proofs.Goes.{clean_append, goes_same, goes_then, goes_cut}
 use Rattle.hyper_build.proofs.Following.{kept_here, kept_then, settled, stands_here, must_follow}
 use Rattle.hyper_build.proofs.Memories.{load_is, save_is}
 use Rattle.hyper_build.proofs.Moving.{cut_most}
 use Rattle.hyper_build.proofs.Relates.{kept_same}
 use Rattle.hyper_build.proofs.Simple.{turn_follow, variable_small, apply_is, any_operand, rel_var}
-
-and_parts : (a b : Bool) → a && b ≡ true → (a ≡ true) × (b ≡ true)
-and_parts true b e = (refl, e)
-and_parts false b e = let bad : false ≡ true = e in cc
 
 -- ITEMS BEFORE OTHERS
 

@@ -73,6 +73,17 @@ fall s = record {
   rest = s.rest;
 }
 
+-- so many statements less stand before
+abbrev pub fall_by : ℕ → Emission → Emission
+fall_by n s = record {
+  label = s.label;
+  place = s.place - n;
+  calls = s.calls;
+  notes = s.notes;
+  out = s.out;
+  rest = s.rest;
+}
+
 -- a call less stands before
 abbrev pub fall_call : Emission → Emission
 fall_call s = record {
@@ -87,6 +98,10 @@ fall_call s = record {
 -- before a statement behind which a plan may cut
 abbrev pub before : Plan → Emission → Emission
 before plan s = cut_at (plan.cut (s.place - 1)) (fall s)
+
+-- before one that has so many statements, itself and those in it
+abbrev pub before_by : Plan → ℕ → Emission → Emission
+before_by plan n s = cut_at (plan.cut (s.place - n)) (fall_by n s)
 
 -- a register becomes a value before the rest
 abbrev pub setting : ℕ → Emission → Source → Emission

@@ -4,16 +4,19 @@ use Rattle.ir_forms.specs.declared.flat.Arg.{Arg}
 use Rattle.ir_forms.specs.declared.hyper.Exit.TheVariants as exit
 use Rattle.ir_forms.specs.FlatCode.{Step, Let, Frame, Load, Save, Call, Put, Get, If, Loop, Break, Continue}
 use Rattle.ir_forms.specs.FlatCode.{Return, Code, Nop, ◌▹◌}
+use Rattle.ir_forms.specs.FlatFits.{steps_in}
 use Rattle.ir_forms.specs.HyperCode.{Done, Leave, Test, Block}
 use Rattle.ir_forms.specs.HyperRuns.{jump}
+use Rattle.hyper_build.specs.Tree.{Plan}
 use Rattle.hyper_build.specs.Parts.{source}
 use Rattle.hyper_build.specs.Straight.{label_or}
 use Rattle.hyper_build.specs.Ground.{Ground, plan, entry_at, left}
 use Rattle.hyper_build.specs.Build.{give}
-use Rattle.hyper_build.specs.Backward.{Emission, with_rest, put_out, fall, last_note, without_note}
+use Rattle.hyper_build.specs.Backward.{Emission, with_rest, put_out, fall, before_by, last_note, without_note}
 use Rattle.hyper_build.specs.BackwardStatements.{let_out, frame_out, load_out, save_out, byte_out, byte_in}
 use Rattle.hyper_build.specs.BackwardStatements.{leaving, back_out, call_out}
-use Rattle.hyper_build.specs.BackwardItems.{is_straight, straight_items}
+use Rattle.hyper_build.specs.BackwardItems.{is_straight, is_if_item, items_before, straight_items_in}
+use Rattle.hyper_build.specs.BackwardItems.{straight_items}
 
 -- IFS
 
@@ -41,6 +44,11 @@ test_block x one other = record {
   tail = Test (source x) (Leave (exit.Jump one)) (Leave (exit.Jump other));
 }
 
+-- a statement that is items alone, which has so many statements, behind which the plan may cut
+abbrev pub items_out : Plan → ℕ → ℕ → Step → Emission → Emission
+items_out plan arrays n x s =
+    with_rest (items_before (straight_items_in arrays x) (before_by plan n s).rest) (before_by plan n s)
+
 -- LOOPS
 
 -- what the body goes on with
@@ -63,12 +71,15 @@ abbrev mutual
   emit_in g broke again (Put v) s = byte_out v s
   emit_in g broke again (Get to) s = byte_in (plan g) to s
   emit_in g broke again (If x one other) s =
+      let n = steps_in (If x one other) in
       let join = (put_out s).label in
       let e2 = exit_of join broke again other in
       let e1 = exit_of join broke again one in
       let second = leg_out e2 (emit g broke again other (put_out s)) in
       let first = leg_out e1 (emit g broke again one (with_rest (jump join) second)) in
-      leaving (test_block x (label_or first.label e1) (label_or second.label e2)) first
+      cond (is_if_item ((plan g).joined (s.place - n)) one other)
+      (items_out (plan g) g.arrays n (If x one other) s)
+      (leaving (test_block x (label_or first.label e1) (label_or second.label e2)) first)
   emit_in g broke again (Loop body post) s =
       let behind = put_out s in
       let note = last_note behind.notes in

@@ -23,6 +23,10 @@ abbrev mutual
   is_straight Nop = true
   is_straight (s ▹ rest) = is_straight_in s && is_straight rest
 
+-- whether an if is an item of its block, by its legs
+abbrev pub is_if_item : Bool → Code → Code → Bool
+is_if_item joined one other = joined && (is_straight one && is_straight other)
+
 -- items come before those of a rest
 abbrev pub items_before : (Items → Items) → Block → Block
 items_before f k = record { items = f k.items; tail = k.tail }

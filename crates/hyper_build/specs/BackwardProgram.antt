@@ -47,6 +47,7 @@ testing end frame way_in = record {
 abbrev pub ground_of : Ground → Function → Ground
 ground_of g f = record {
   cuts = g.cuts;
+  joins = g.joins;
   groups = g.groups;
   entries = g.entries;
   frame = frame_of f;
@@ -95,22 +96,28 @@ first_blocks base main out =
     start_block base main ∷ system_block 3 end_label ∷ system_block 4 full_label ∷ out
 
 -- what emission knows of a program
-abbrev pub program_ground : List Bool → List (List (List ℕ)) → List ℕ → Ground
-program_ground cuts groups entries =
-    record { cuts = cuts; groups = groups; entries = entries; frame = 0; arrays = 0 }
+abbrev pub program_ground : List Bool → List Bool → List (List (List ℕ)) → List ℕ → Ground
+program_ground cuts joins groups entries = record {
+  cuts = cuts;
+  joins = joins;
+  groups = groups;
+  entries = entries;
+  frame = 0;
+  arrays = 0;
+}
 
 -- the blocks of a program: numbers forward, and then emission backward
-abbrev pub emitted_program : List Bool → List (List (List ℕ)) → Program → List Block
-emitted_program cuts groups P =
-    let p = plan_of cuts groups in
+abbrev pub emitted_program : List Bool → List Bool → List (List (List ℕ)) → Program → List Block
+emitted_program cuts joins groups P =
+    let p = plan_of cuts joins groups in
     let entries = entries_from p P.functions numbers_start in
     let end = emission_end (number_all p P.functions numbers_start) in
     first_blocks (frames_at P.bytes) (entry_at entries P.main)
-    (functions_out (frames_at P.bytes + frame_limit) (program_ground cuts groups entries) P.functions
-    end).out
+    (functions_out (frames_at P.bytes + frame_limit) (program_ground cuts joins groups entries)
+    P.functions end).out
 
--- for every list of answers, all groups and every program these are the blocks of the program
+-- for all lists of answers, all groups and every program these are the blocks of the program
 abbrev pub EmissionBuilds : Type 0
 EmissionBuilds =
-    (cuts : List Bool) (groups : List (List (List ℕ))) (P : Program)
-    → emitted_program cuts groups P ≡ built_program (plan_of cuts groups) P
+    (cuts joins : List Bool) (groups : List (List (List ℕ))) (P : Program)
+    → emitted_program cuts joins groups P ≡ built_program (plan_of cuts joins groups) P

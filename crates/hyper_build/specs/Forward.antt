@@ -1,15 +1,17 @@
 -- Numbers as a pass over flat code, forward: how many blocks, statements and calls stand before, and
 -- the notes of the loops that were passed, in the order in which they end.
-use Rattle.std.specs.Prelude.{ℕ, ◌+◌, Bool, List, [], ◌∷◌, ◌++◌, length, Option, Some, None}
+use Rattle.std.specs.Prelude.{ℕ, ◌+◌, Bool, cond, List, [], ◌∷◌, ◌++◌, length, Option, Some, None}
 use Rattle.ir_forms.specs.declared.flat.Arg.{Arg}
 use Rattle.ir_forms.specs.FlatCode.{Step, Let, Frame, Load, Save, Call, Put, Get, If, Loop, Break, Continue}
 use Rattle.ir_forms.specs.FlatCode.{Return, Code, Nop, ◌▹◌, Function}
+use Rattle.ir_forms.specs.FlatFits.{steps_in}
 use Rattle.hyper_build.specs.declared.emitting.Note.{Note}
 use Rattle.hyper_build.specs.declared.numbering.Numbering.{Numbering}
 use Rattle.hyper_build.specs.Tree.{Plan}
 use Rattle.hyper_build.specs.Parts.{cut_size, moved_size}
 use Rattle.hyper_build.specs.Passing.{parameter_moves, parameter_cuts}
 use Rattle.hyper_build.specs.Straight.{arguments_size}
+use Rattle.hyper_build.specs.BackwardItems.{is_if_item}
 use Rattle.hyper_build.specs.BackwardCode.{exit_of}
 
 -- STEPS
@@ -23,6 +25,11 @@ with_blocks n s =
 abbrev pub with_statement : Numbering → Numbering
 with_statement s =
     record { label = s.label; place = s.place + 1; calls = s.calls; notes = s.notes }
+
+-- so many statements more
+abbrev pub with_statements : ℕ → Numbering → Numbering
+with_statements n s =
+    record { label = s.label; place = s.place + n; calls = s.calls; notes = s.notes }
 
 -- a call more
 abbrev pub with_call : Numbering → Numbering
@@ -41,6 +48,10 @@ with_note note s = record {
 -- behind a statement that begins a block only where the plan cuts
 abbrev pub single : Plan → Numbering → Numbering
 single p s = with_statement (with_blocks (cut_size (p.cut s.place)) s)
+
+-- behind a statement that is items alone
+abbrev pub number_items : Plan → Step → Numbering → Numbering
+number_items p x s = with_statements (steps_in x) (with_blocks (cut_size (p.cut s.place)) s)
 
 -- the blocks that a call begins, by its numbers
 abbrev pub call_size : Plan → ℕ → ℕ → List Arg → ℕ
@@ -69,7 +80,8 @@ abbrev mutual
   number_in p (Put v) s = with_statement (with_blocks 1 s)
   number_in p (Get to) s = with_statement (with_blocks (1 + cut_size (p.cut s.place)) s)
   number_in p (If x one other) s =
-      with_blocks 1 (number p other (led other (number p one (led one (with_statement s)))))
+      cond (is_if_item (p.joined s.place) one other) (number_items p (If x one other) s)
+      (with_blocks 1 (number p other (led other (number p one (led one (with_statement s))))))
   number_in p (Loop body post) s =
       let next = number p body (with_statement (with_blocks 1 s)) in
       let end = with_blocks 1 (number p post (with_blocks 1 next)) in

@@ -9,10 +9,11 @@ use Rattle.hyper_build.specs.Parts.{capped}
 use Rattle.hyper_build.specs.Straight.{Place}
 use Rattle.hyper_build.specs.Laws.{plan_of}
 
--- The answers of the plan, the groups of each call, the label of each function, and the bytes of the
--- frame and of its arrays.
+-- The answers of the plan, where blocks are cut and which ifs are joined, the groups of each call, the
+-- label of each function, and the bytes of the frame and of its arrays.
 pub record Ground : Type 0 where
   pub cuts : List Bool
+  pub joins : List Bool
   pub groups : List (List (List ℕ))
   pub entries : List ℕ
   pub frame : ℕ
@@ -25,7 +26,7 @@ entry_at (e ∷ es) zero = e
 entry_at (e ∷ es) (suc f) = entry_at es f
 
 abbrev pub plan : Ground → Plan
-plan g = plan_of g.cuts g.groups
+plan g = plan_of g.cuts g.joins g.groups
 
 -- what a return goes on with
 abbrev pub left : ℕ → Block

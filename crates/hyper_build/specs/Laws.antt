@@ -63,6 +63,12 @@ cuts_by [] i = true
 cuts_by (c ∷ cs) zero = c
 cuts_by (c ∷ cs) (suc i) = cuts_by cs i
 
+-- a list of answers; at the places that it lacks an if ends its block
+abbrev pub joins_by : List Bool → ℕ → Bool
+joins_by [] i = false
+joins_by (j ∷ js) zero = j
+joins_by (j ∷ js) (suc i) = joins_by js i
+
 -- the groups of each call; where there are none, none
 abbrev pub groups_by : List (List (List ℕ)) → ℕ → List (List ℕ)
 groups_by [] k = []
@@ -70,10 +76,10 @@ groups_by (gs ∷ more) zero = gs
 groups_by (gs ∷ more) (suc k) = groups_by more k
 
 -- a place is a statement or a function, by its number in the order of the program
-abbrev pub plan_of : List Bool → List (List (List ℕ)) → Plan
-plan_of cuts groups = record {
+abbrev pub plan_of : List Bool → List Bool → List (List (List ℕ)) → Plan
+plan_of cuts joins groups = record {
   cut = cuts_by cuts;
-  joined = λ i. false;
+  joined = joins_by joins;
   small = cuts_by cuts;
   groups = groups_by groups;
 }
@@ -86,18 +92,18 @@ pub record AreAssigned (P : Program) (lists : List (List ℕ)) (groups : List (L
     pub cut : AreCut lists groups
     pub few : AreFew groups
 
--- So of the program whose calls keep these variables, for every list of answers.
+-- So of the program whose calls keep these variables, for all lists of answers.
 abbrev pub KeepsAssigned : Type 0
 KeepsAssigned =
-    (check : Bool) (at : Layout) (cuts : List Bool) (P : Program) (lists : List (List ℕ))
+    (check : Bool) (at : Layout) (cuts joins : List Bool) (P : Program) (lists : List (List ℕ))
     (groups : List (List (List ℕ))) (input : List ℕ) (n : ℕ) → FitsProgram P
-    → AreAssigned P lists groups → IsFaithful at (length (built_program (plan_of cuts groups) P))
-    → AreBytes input
-    → EndsSo (hyper_run check at (built_program (plan_of cuts groups) P) P.bytes input) n
+    → AreAssigned P lists groups
+    → IsFaithful at (length (built_program (plan_of cuts joins groups) P)) → AreBytes input
+    → EndsSo (hyper_run check at (built_program (plan_of cuts joins groups) P) P.bytes input) n
     (flat_run (tame_and check) (assigned_program P lists) input n)
 
 abbrev pub GivesAssigned : Type 0
 GivesAssigned =
-    (cuts : List Bool) (P : Program) (lists : List (List ℕ)) (groups : List (List (List ℕ)))
+    (cuts joins : List Bool) (P : Program) (lists : List (List ℕ)) (groups : List (List (List ℕ)))
     → FitsProgram P → AreAssigned P lists groups
-    → AreBlocksOf P (built_program (plan_of cuts groups) P)
+    → AreBlocksOf P (built_program (plan_of cuts joins groups) P)

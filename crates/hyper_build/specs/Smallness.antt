@@ -55,9 +55,9 @@ CutBlocksAreLittle =
     (p : Plan) (P : Program) → FitsProgram P → FitsGroups p P → CutsAll p → (k : ℕ) (b : Block)
     → slice_get (built_program p P) k ≡ Some b → IsLittle b
 
--- so are all blocks of what `assign` gives, where every answer is to cut
+-- so are all blocks of what `assign` gives, where every answer is to cut and no if is joined
 abbrev pub AssignedAreLittle : Type 0
 AssignedAreLittle =
     (P : Program) (lists : List (List ℕ)) (groups : List (List (List ℕ))) → FitsProgram P
     → AreAssigned P lists groups → (k : ℕ) (b : Block)
-    → slice_get (built_program (plan_of [] groups) P) k ≡ Some b → IsLittle b
+    → slice_get (built_program (plan_of [] [] groups) P) k ≡ Some b → IsLittle b

@@ -155,7 +155,7 @@ fn emitted(
     groups: &Items<Items<Items<u16>>>,
 ) -> Result<Items<HyperBlock>, Memory>
     ensures { IfOk result (λ out. out_of out
-        ≡ program.emitted_program plan.now.cuts groups.now (program_of flat.now)) }
+        ≡ program.emitted_program plan.now.cuts plan.now.joins groups.now (program_of flat.now)) }
 {
     let base = frames_at(flat.bytes.as_slice())?;
     let end = frames_end(base)?;
@@ -186,12 +186,13 @@ fn emitted(
     Ok(out)
 }
 
-/// The hyper program of a flat program for a plan: at each place the block ends as the plan says, and
-/// each call saves its groups. Want of memory is the only error of a program that fits; one that names
-/// registers which there are not is refused as `Memory` too.
+/// The hyper program of a flat program for a plan: at each place the block ends as the plan says, each
+/// if that the plan joins and that may be an item is one, and each call saves its groups. Want of
+/// memory is the only error of a program that fits; one that names registers which there are not is
+/// refused as `Memory` too.
 pub fn build(alloc: Global, assigned: &Assigned, plan: &CutPlan) -> Result<HyperProgram, Memory>
     ensures blocks { IfOk result (λ program. blocks_of program
-        ≡ built_program (plan_of plan.now.cuts assigned.now.groups)
+        ≡ built_program (plan_of plan.now.cuts plan.now.joins assigned.now.groups)
         (program_of assigned.now.flat)) }
 {
     let out = emitted(&assigned.flat, alloc, plan, &assigned.groups)?;

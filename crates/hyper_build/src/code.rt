@@ -11,14 +11,16 @@ ghost use Rattle.hyper_build.specs.Emitted.{rest_of};
 ghost use Rattle.hyper_build.specs.Ground as ground;
 
 use crate::calling::{put_back, put_call};
-use crate::emitting::{Emitting, fall, put_out, put_rest, take_note};
+use crate::counting::steps_in;
+use crate::emitting::{Emitting, fall, fallen_by, put_out, put_rest, take_note};
 use crate::ground::Site;
 use crate::operands::source;
 use crate::rest::{Rest, jump};
 use crate::singles::{
-    put_byte, put_frame, put_get, put_jump, put_let, put_loading, put_return, put_storing,
+    before_by, put_byte, put_frame, put_get, put_jump, put_let, put_loading, put_return,
+    put_storing,
 };
-use crate::straight::{is_straight, put_items};
+use crate::straight::{is_if_item, is_straight, put_item, put_items};
 use base::{Boxed, Items, Memory};
 use ir_forms::{Arg, Exit, FlatStmt, Tail};
 use std::alloc::Global;
@@ -110,6 +112,22 @@ fn put_test(
     Ok(())
 }
 
+/// An if that is an item, with so many statements, itself and those in it.
+fn put_joined(
+    s: &FlatStmt,
+    emitting: &mut Emitting,
+    alloc: Global,
+    site: &Site,
+    statements: u32,
+) -> Result<(), Memory>
+    ensures { OnOk result (emission_of emitting.new
+        ≡ code.items_out (ground.plan site.now) site.now.arrays statements (step_of s.now)
+        (emission_of emitting.old)) }
+{
+    before_by(emitting, alloc, site, statements)?;
+    put_item(s, &mut emitting.rest, alloc, site.arrays)
+}
+
 /// What a loop's body goes on with.
 fn body_end(
     alloc: Global,
@@ -160,18 +178,24 @@ fn put_stmt(
         FlatStmt::Put(value) => put_byte(emitting, alloc, *value)?,
         FlatStmt::Get { to } => put_get(emitting, alloc, site, *to)?,
         FlatStmt::If { test, yes, no } => {
-            put_out(emitting, alloc)?;
-            let join = emitting.label;
-            put_stmts(no.as_slice(), emitting, alloc, site, broke, again)?;
-            let exit = exit_of(no.as_slice(), join, broke, again);
-            put_leg(emitting, alloc, exit)?;
-            let other = label_of(emitting.label, exit);
-            put_rest(emitting, jump(alloc, join));
-            put_stmts(yes.as_slice(), emitting, alloc, site, broke, again)?;
-            let exit = exit_of(yes.as_slice(), join, broke, again);
-            put_leg(emitting, alloc, exit)?;
-            let one = label_of(emitting.label, exit);
-            put_test(emitting, alloc, *test, one, other)?;
+            let statements = steps_in(s)?;
+            let place = fallen_by(emitting.place, statements);
+            if is_if_item(site.joins(place), yes.as_slice(), no.as_slice()) {
+                put_joined(s, emitting, alloc, site, statements)?;
+            } else {
+                put_out(emitting, alloc)?;
+                let join = emitting.label;
+                put_stmts(no.as_slice(), emitting, alloc, site, broke, again)?;
+                let exit = exit_of(no.as_slice(), join, broke, again);
+                put_leg(emitting, alloc, exit)?;
+                let other = label_of(emitting.label, exit);
+                put_rest(emitting, jump(alloc, join));
+                put_stmts(yes.as_slice(), emitting, alloc, site, broke, again)?;
+                let exit = exit_of(yes.as_slice(), join, broke, again);
+                put_leg(emitting, alloc, exit)?;
+                let one = label_of(emitting.label, exit);
+                put_test(emitting, alloc, *test, one, other)?;
+            }
         }
         FlatStmt::Loop { body, post } => {
             put_out(emitting, alloc)?;

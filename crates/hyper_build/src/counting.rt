@@ -1,6 +1,8 @@
-//! How many blocks cuts begin; sums that do not fit are want of memory.
+//! How many blocks cuts begin, and how many statements there are; sums that do not fit are want of memory.
 
 ghost use Rattle.std.specs.Prelude.{◌≡◌, ◌+◌, IfOk};
+ghost use Rattle.ir_forms.specs.FlatFits as flat;
+ghost use Rattle.ir_forms.specs.FlatViews.{code_of, step_of};
 ghost use Rattle.hyper_build.specs.Parts as parts;
 ghost use Rattle.hyper_build.specs.Passing as passing;
 ghost use Rattle.hyper_build.specs.Straight as straight;
@@ -8,7 +10,7 @@ ghost use Rattle.hyper_build.specs.Straight as straight;
 use crate::calling::argument_cuts;
 use crate::functions::parameter_cuts;
 use base::Memory;
-use ir_forms::Arg;
+use ir_forms::{Arg, FlatStmt};
 
 /// The sum of two numbers.
 pub fn plus(a: u32, b: u32) -> Result<u32, Memory>
@@ -18,6 +20,14 @@ pub fn plus(a: u32, b: u32) -> Result<u32, Memory>
         None => Err(Memory),
         Some(n) => Ok(n),
     }
+}
+
+/// A statement and the statements of its two parts.
+fn with_parts(one: u32, other: u32) -> Result<u32, Memory>
+    ensures { IfOk result (λ n. n ≡ 1 + (one + other)) }
+{
+    let both = plus(one, other)?;
+    plus(1, both)
 }
 
 /// A length as a number of blocks.
@@ -64,4 +74,50 @@ pub fn parameters_size(small: bool, params: u8) -> Result<u32, Memory>
         blocks = plus(cut_size(parameter_cuts(small, at as usize)), blocks)?;
     }
     Ok(blocks)
+}
+
+/// The statements of a statement, itself and those in its parts.
+#[cycle(steps)]
+pub fn steps_in(s: &FlatStmt) -> Result<u32, Memory>
+    ensures { IfOk result (λ n. n ≡ flat.steps_in (step_of s.now)) }
+{
+    match s {
+        FlatStmt::Let { .. } => Ok(1),
+        FlatStmt::Frame { .. } => Ok(1),
+        FlatStmt::Load { .. } => Ok(1),
+        FlatStmt::Save { .. } => Ok(1),
+        FlatStmt::Call { .. } => Ok(1),
+        FlatStmt::Put(_) => Ok(1),
+        FlatStmt::Get { .. } => Ok(1),
+        FlatStmt::If { yes, no, .. } => {
+            let one = steps_of(yes.as_slice())?;
+            let other = steps_of(no.as_slice())?;
+            let all = with_parts(one, other)?;
+            Ok(all)
+        }
+        FlatStmt::Loop { body, post } => {
+            let one = steps_of(body.as_slice())?;
+            let other = steps_of(post.as_slice())?;
+            let all = with_parts(one, other)?;
+            Ok(all)
+        }
+        FlatStmt::Break => Ok(1),
+        FlatStmt::Continue => Ok(1),
+        FlatStmt::Return(_) => Ok(1),
+    }
+}
+
+/// The statements of code.
+#[cycle(steps)]
+fn steps_of(stmts: &[FlatStmt]) -> Result<u32, Memory>
+    ensures { IfOk result (λ n. n ≡ flat.steps_of (code_of stmts.now)) }
+{
+    let mut steps = 0;
+    let mut at = stmts.len();
+    while at > 0 {
+        at -= 1;
+        let more = steps_in(&stmts[at])?;
+        steps = plus(more, steps)?;
+    }
+    Ok(steps)
 }

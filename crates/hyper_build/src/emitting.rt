@@ -40,6 +40,13 @@ pub fn fallen(n: u32) -> u32
     if n > 0 { n - 1 } else { 0 }
 }
 
+/// The number that lies so far before a number; where that is below 0, 0.
+pub fn fallen_by(n: u32, less: u32) -> u32
+    ensures { result ≡ n - less }
+{
+    if less < n { n - less } else { 0 }
+}
+
 /// The rest becomes a block of its own, and what stands before it a jump there.
 #[tactic(auto, using(crate::proofs::Emits::out_pushed))]
 pub fn put_out(emitting: &mut Emitting, alloc: Global) -> Result<(), Memory>
@@ -68,6 +75,13 @@ pub fn fall(emitting: &mut Emitting)
     ensures { emission_of emitting.new ≡ back.fall (emission_of emitting.old) }
 {
     emitting.place = fallen(emitting.place);
+}
+
+/// So many statements less stand before.
+pub fn fall_by(emitting: &mut Emitting, statements: u32)
+    ensures { emission_of emitting.new ≡ back.fall_by statements (emission_of emitting.old) }
+{
+    emitting.place = fallen_by(emitting.place, statements);
 }
 
 /// A call less stands before.

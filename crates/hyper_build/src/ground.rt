@@ -1,10 +1,10 @@
 //! What emission knows of a function and its program.
 
 ghost use Rattle.std.specs.Prelude.{◌≡◌, MatchOption, [], IfOk};
-ghost use Rattle.hyper_build.specs.Laws.{cuts_by, groups_by};
+ghost use Rattle.hyper_build.specs.Laws.{cuts_by, joins_by, groups_by};
 ghost use Rattle.hyper_build.specs.Ground.{entry_at};
 
-use crate::plan::{CutPlan, is_cut};
+use crate::plan::{CutPlan, is_cut, is_joined};
 use base::Items;
 use std::marker::Model;
 
@@ -26,6 +26,7 @@ impl<'a> Model for Site<'a> {
 
     ghost view = { λ s. record {
       cuts = s.plan.now.cuts;
+      joins = s.plan.now.joins;
       groups = s.groups.now;
       entries = s.entries.now;
       frame = s.frame;
@@ -39,6 +40,13 @@ impl<'a> Site<'a> {
         ensures { result ≡ cuts_by self.now.cuts place }
     {
         is_cut(self.plan, place)
+    }
+
+    /// Whether the plan joins an if at a place.
+    pub fn joins(&self, place: u32) -> bool
+        ensures { result ≡ joins_by self.now.joins place }
+    {
+        is_joined(self.plan, place)
     }
 
     /// The groups of a call; where there are none, none.

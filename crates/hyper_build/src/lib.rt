@@ -23,4 +23,4 @@ pub use laws::{
     built_programs_keep_meaning, calls_follow, cut_blocks_are_little, emission_builds_programs,
     emission_puts_blocks, plans_change_nothing,
 };
-pub use plan::{CutPlan, cut_all, is_cut};
+pub use plan::{CutPlan, cut_all, is_cut, is_joined};

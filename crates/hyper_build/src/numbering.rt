@@ -8,9 +8,10 @@ ghost use Rattle.hyper_build.specs.Ground as ground;
 ghost use Rattle.hyper_build.specs.Forward as forward;
 
 use crate::code::exit_of;
-use crate::counting::{arguments_size, cut_size, narrow, parameters_size, plus};
+use crate::counting::{arguments_size, cut_size, narrow, parameters_size, plus, steps_in};
 use crate::emitting::Note;
 use crate::ground::Site;
+use crate::straight::is_if_item;
 use base::{Items, Memory};
 use ir_forms::{Arg, FlatFunc, FlatStmt};
 use std::alloc::Global;
@@ -38,6 +39,14 @@ fn count_statement(numbering: &mut Numbering) -> Result<(), Memory>
     ensures { OnOk result (numbering.new ≡ forward.with_statement numbering.old) }
 {
     numbering.place = plus(numbering.place, 1)?;
+    Ok(())
+}
+
+/// So many statements more stand before.
+fn count_statements(numbering: &mut Numbering, statements: u32) -> Result<(), Memory>
+    ensures { OnOk result (numbering.new ≡ forward.with_statements statements numbering.old) }
+{
+    numbering.place = plus(numbering.place, statements)?;
     Ok(())
 }
 
@@ -73,6 +82,17 @@ fn number_single(numbering: &mut Numbering, site: &Site) -> Result<(), Memory>
 {
     let blocks = cut_size(site.cuts(numbering.place));
     count_behind(numbering, blocks)
+}
+
+/// Behind a statement that is items alone.
+fn number_items(numbering: &mut Numbering, site: &Site, s: &FlatStmt) -> Result<(), Memory>
+    ensures { OnOk result (numbering.new
+        ≡ forward.number_items (ground.plan site.now) (step_of s.now) numbering.old) }
+{
+    let blocks = cut_size(site.cuts(numbering.place));
+    let statements = steps_in(s)?;
+    count_blocks(numbering, blocks)?;
+    count_statements(numbering, statements)
 }
 
 /// The blocks that a call begins, by its numbers.
@@ -128,12 +148,16 @@ fn number_stmt(s: &FlatStmt, numbering: &mut Numbering, site: &Site) -> Result<(
         FlatStmt::Put(_) => count_behind(numbering, 1)?,
         FlatStmt::Get { .. } => number_get(numbering, site)?,
         FlatStmt::If { yes, no, .. } => {
-            count_statement(numbering)?;
-            count_leg(numbering, yes.as_slice())?;
-            number_stmts(yes.as_slice(), numbering, site)?;
-            count_leg(numbering, no.as_slice())?;
-            number_stmts(no.as_slice(), numbering, site)?;
-            count_blocks(numbering, 1)?;
+            if is_if_item(site.joins(numbering.place), yes.as_slice(), no.as_slice()) {
+                number_items(numbering, site, s)?;
+            } else {
+                count_statement(numbering)?;
+                count_leg(numbering, yes.as_slice())?;
+                number_stmts(yes.as_slice(), numbering, site)?;
+                count_leg(numbering, no.as_slice())?;
+                number_stmts(no.as_slice(), numbering, site)?;
+                count_blocks(numbering, 1)?;
+            }
         }
         FlatStmt::Loop { body, post } => {
             let head = numbering.label;

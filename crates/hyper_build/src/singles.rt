@@ -9,7 +9,7 @@ ghost use Rattle.hyper_build.specs.Backward.{emission_of};
 ghost use Rattle.hyper_build.specs.Emitted.{rest_of};
 ghost use Rattle.hyper_build.specs.Ground as ground;
 
-use crate::emitting::{Emitting, cut, fall, put_move, put_out, put_rest};
+use crate::emitting::{Emitting, cut, fall, fall_by, put_move, put_out, put_rest};
 use crate::ground::Site;
 use crate::operands::{capped, register_of, source};
 use crate::rest::{Rest, jump, put_load, put_save, put_set};
@@ -24,6 +24,21 @@ pub fn before(emitting: &mut Emitting, alloc: Global, site: &Site) -> Result<(),
         ≡ back.before (ground.plan site.now) (emission_of emitting.old)) }
 {
     fall(emitting);
+    let ends = site.cuts(emitting.place);
+    cut(emitting, alloc, ends)
+}
+
+/// Before a statement that has so many, itself and those in it, behind which the plan may cut.
+pub fn before_by(
+    emitting: &mut Emitting,
+    alloc: Global,
+    site: &Site,
+    statements: u32,
+) -> Result<(), Memory>
+    ensures { OnOk result (emission_of emitting.new
+        ≡ back.before_by (ground.plan site.now) statements (emission_of emitting.old)) }
+{
+    fall_by(emitting, statements);
     let ends = site.cuts(emitting.place);
     cut(emitting, alloc, ends)
 }

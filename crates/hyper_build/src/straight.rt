@@ -62,6 +62,19 @@ pub fn is_straight(stmts: &[FlatStmt]) -> bool
     all
 }
 
+/// Whether an if is an item of its block, by its legs.
+pub fn is_if_item(joined: bool, yes: &[FlatStmt], no: &[FlatStmt]) -> bool
+    ensures { result ≡ code.is_if_item joined (code_of yes.now) (code_of no.now) }
+{
+    if joined {
+        let one = is_straight(yes);
+        let other = is_straight(no);
+        both(one, other)
+    } else {
+        false
+    }
+}
+
 /// The items of a rest, the first first.
 fn items_in(rest: Rest) -> Items<HyperItem>
     ensures { items_of result ≡ (rest_of rest).items }
@@ -101,7 +114,7 @@ fn put_frame_item(rest: &mut Rest, arrays: u64, to: u16, at: u32) -> Result<(), 
 
 /// The items of a straight statement, before a rest.
 #[cycle(items)]
-fn put_item(s: &FlatStmt, rest: &mut Rest, alloc: Global, arrays: u64) -> Result<(), Memory>
+pub fn put_item(s: &FlatStmt, rest: &mut Rest, alloc: Global, arrays: u64) -> Result<(), Memory>
     ensures { OnOk result (rest_of rest.new
         ≡ code.items_before (code.straight_items_in arrays (step_of s.now)) (rest_of rest.old)) }
 {

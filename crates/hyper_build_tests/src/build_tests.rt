@@ -1,7 +1,7 @@
-//! Where the blocks of a program with every statement lead, under a plan that cuts everywhere and under
-//! one that cuts nowhere.
+//! Where the blocks of a program with every statement lead, under plans that cut everywhere and nowhere,
+//! and that join all ifs or none.
 
-use crate::making::{plan, program};
+use crate::making::{Answers, plan, program};
 use base::Memory;
 use hyper_build::build;
 use ir_forms::{Exit, HyperProgram, Tail};
@@ -87,12 +87,54 @@ const CUT_NOWHERE: &[Row] = &[
     (34, Exit::Return, None),
 ];
 
+// The if behind the byte that is taken in is an item; the one in the loop breaks, and stays a test.
+const CUT_AND_JOINED: &[Row] = &[
+    (0, Exit::Call { to: 29, back: 1 }, None),
+    (9, Exit::Jump(14), Some(Exit::Jump(10))),
+    (20, Exit::Call { to: 3, back: 21 }, None),
+    (25, Exit::System(26), None),
+    (26, Exit::Jump(27), None),
+    (27, Exit::Jump(28), None),
+    (28, Exit::Return, None),
+    // the other function
+    (29, Exit::Jump(2), Some(Exit::Jump(30))),
+    (46, Exit::Call { to: 3, back: 47 }, None),
+    (54, Exit::Return, None),
+];
+
+const JOINED: &[Row] = &[
+    (0, Exit::Call { to: 16, back: 1 }, None),
+    (5, Exit::Jump(8), Some(Exit::Jump(6))),
+    (10, Exit::Call { to: 3, back: 11 }, None),
+    (14, Exit::System(15), None),
+    (15, Exit::Return, None),
+    // the other function
+    (16, Exit::Jump(2), Some(Exit::Jump(17))),
+    (23, Exit::Call { to: 3, back: 24 }, None),
+    (28, Exit::Return, None),
+];
+
 /// How many statements and functions the program has.
 const PLACES: u32 = 34;
 
-fn built(alloc: Global, answers: u32) -> Result<HyperProgram, Memory> {
+const LACKING: Answers = Answers {
+    places: 0,
+    of_three: 0,
+};
+
+const NO: Answers = Answers {
+    places: PLACES,
+    of_three: 0,
+};
+
+const YES: Answers = Answers {
+    places: PLACES,
+    of_three: 3,
+};
+
+fn built(alloc: Global, cuts: Answers, joins: Answers) -> Result<HyperProgram, Memory> {
     let assigned = program(alloc)?;
-    let plan = plan(alloc, answers, 0)?;
+    let plan = plan(alloc, cuts, joins)?;
     build(alloc, &assigned, &plan)
 }
 
@@ -124,18 +166,28 @@ fn assert_exits(rt: &impl Abort, program: &HyperProgram, rows: &[Row]) {
     }
 }
 
-/// Under a plan with so many answers, none of which cuts, there are so many blocks, and they lead where
-/// the rows say.
-fn assert_built(rt: &impl Abort, alloc: Global, answers: u32, blocks: usize, rows: &[Row]) {
-    let program = built(alloc, answers).expect(rt, "memory");
-    assert_eq!(rt; program.blocks.len(), blocks, "{answers} answers");
+/// Under a plan there are so many blocks, and they lead where the rows say.
+fn assert_built(
+    rt: &impl Abort,
+    alloc: Global,
+    cuts: Answers,
+    joins: Answers,
+    blocks: usize,
+    rows: &[Row],
+) {
+    let program = built(alloc, cuts, joins).expect(rt, "memory");
+    assert_eq!(rt; program.blocks.len(), blocks, "of {blocks} blocks");
     assert_exits(rt, &program, rows);
 }
 
 /// Each function has the test of the stack, the way in, and 14 blocks of its body. Where all is cut, the
-/// parameters begin three blocks more, the way to the body one, and the body ten.
+/// parameters begin three blocks more, the way to the body one, and the body ten. Where its last if is
+/// joined, the body has four blocks less where all is cut, and else three.
 #[test]
 fn every_statement_is_built(rt: HostRuntime) {
-    assert_built(&rt, rt.alloc(), 0, 63, CUT_EVERYWHERE);
-    assert_built(&rt, rt.alloc(), PLACES, 35, CUT_NOWHERE);
+    let alloc = rt.alloc();
+    assert_built(&rt, alloc, LACKING, LACKING, 63, CUT_EVERYWHERE);
+    assert_built(&rt, alloc, NO, NO, 35, CUT_NOWHERE);
+    assert_built(&rt, alloc, LACKING, YES, 55, CUT_AND_JOINED);
+    assert_built(&rt, alloc, NO, YES, 29, JOINED);
 }

@@ -115,11 +115,25 @@ pub fn program(alloc: Global) -> Result<Assigned, Memory> {
     })
 }
 
-/// A plan with so many answers, so many of each three of which cut, the first first.
-pub fn plan(alloc: Global, answers: u32, of_three: u32) -> Result<CutPlan, Memory> {
-    let mut cuts = Items::new(alloc);
-    for i in 0..answers {
-        cuts.push(i % 3 < of_three)?;
+/// Answers for so many places, so many of each three of which are yes, the first first.
+#[derive(Clone, Copy)]
+pub struct Answers {
+    pub places: u32,
+    pub of_three: u32,
+}
+
+fn list(alloc: Global, answers: Answers) -> Result<Items<bool>, Memory> {
+    let mut all = Items::new(alloc);
+    for i in 0..answers.places {
+        all.push(i % 3 < answers.of_three)?;
     }
-    Ok(CutPlan { cuts })
+    Ok(all)
+}
+
+/// A plan by its answers: where blocks are cut, and which ifs are joined.
+pub fn plan(alloc: Global, cuts: Answers, joins: Answers) -> Result<CutPlan, Memory> {
+    Ok(CutPlan {
+        cuts: list(alloc, cuts)?,
+        joins: list(alloc, joins)?,
+    })
 }

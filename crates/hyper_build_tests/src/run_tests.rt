@@ -69,6 +69,47 @@ const ROWS: &[Row] = &[
     },
 ];
 
+/// Texts with one if, and how many blocks it has of its own where nothing is cut, which it has not
+/// where it is an item.
+const JOINED_ROWS: &[(Row, usize)] = &[
+    (
+        Row {
+            name: "an if with one leg",
+            text: texts::ONE_LEG,
+            output: b"",
+            stop: Stop::Ended(126),
+        },
+        2,
+    ),
+    (
+        Row {
+            name: "an if with two legs",
+            text: texts::TWO_LEGS,
+            output: b"",
+            stop: Stop::Ended(1011),
+        },
+        3,
+    ),
+    (
+        Row {
+            name: "an if in an if, with a store",
+            text: texts::NESTED,
+            output: b"",
+            stop: Stop::Ended(821),
+        },
+        5,
+    ),
+    (
+        Row {
+            name: "an if with a call is no item",
+            text: texts::CALLING_LEG,
+            output: b"",
+            stop: Stop::Ended(3),
+        },
+        0,
+    ),
+];
+
 /// What a row's program puts out and gives under a plan, and how many blocks it has.
 fn assert_run(rt: &impl Abort, alloc: Global, row: &Row, assigned: &Assigned, cuts: Cuts) -> usize {
     let name = row.name;
@@ -89,6 +130,32 @@ fn assert_row(rt: &impl Abort, alloc: Global, row: &Row) {
         few < some && some < most,
         "{name}: {few}, {some}, {most} blocks"
     );
+    let cut = assert_run(rt, alloc, row, &assigned, Cuts::EverywhereJoined);
+    let third = assert_run(rt, alloc, row, &assigned, Cuts::EachThirdJoined);
+    let joined = assert_run(rt, alloc, row, &assigned, Cuts::NowhereJoined);
+    assert!(rt;
+        joined <= few && third <= some && cut <= most,
+        "{name}: {joined}, {third}, {cut} blocks where ifs are joined"
+    );
+}
+
+fn assert_joined(rt: &impl Abort, alloc: Global, row: &Row, fewer: usize) {
+    let name = row.name;
+    let assigned = assigned_of(rt, alloc, name, row.text);
+    let apart = assert_run(rt, alloc, row, &assigned, Cuts::Nowhere);
+    let joined = assert_run(rt, alloc, row, &assigned, Cuts::NowhereJoined);
+    assert_eq!(rt;
+        apart.checked_sub(joined),
+        Some(fewer),
+        "{name}: blocks of its own"
+    );
+}
+
+fn assert_joined_rows(rt: &impl Abort, alloc: Global, rows: &[(Row, usize)]) {
+    for (row, fewer) in rows {
+        assert_row(rt, alloc, row);
+        assert_joined(rt, alloc, row, *fewer);
+    }
 }
 
 fn assert_rows(rt: &impl Abort, alloc: Global, rows: &[Row]) {
@@ -97,8 +164,13 @@ fn assert_rows(rt: &impl Abort, alloc: Global, rows: &[Row]) {
     }
 }
 
-/// And a plan that cuts less has fewer blocks.
+/// And a plan that cuts less has fewer blocks, and one that joins ifs no more.
 #[test]
 fn hyper_programs_do_what_texts_mean_under_each_plan(rt: HostRuntime) {
     assert_rows(&rt, rt.alloc(), ROWS);
+}
+
+#[test]
+fn ifs_that_are_items_have_no_blocks_of_their_own(rt: HostRuntime) {
+    assert_joined_rows(&rt, rt.alloc(), JOINED_ROWS);
 }

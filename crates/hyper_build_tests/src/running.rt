@@ -1,7 +1,7 @@
 //! Texts of C as hyper programs, and their runs.
 
 use crate::machine::{Machine, Stop, step};
-use crate::making::plan;
+use crate::making::{Answers, plan};
 use base::Memory;
 use c_front::front;
 use c_tree::MOST_SOURCE_BYTES;
@@ -18,12 +18,37 @@ const PLACES: u32 = 2_000;
 /// More blocks than any run here makes.
 const MOST_BLOCKS: u64 = 1_000_000;
 
-/// Where a plan cuts: everywhere, nowhere, or at each third place.
+/// No answers.
+const LACKING: Answers = Answers {
+    places: 0,
+    of_three: 0,
+};
+
+const NO: Answers = Answers {
+    places: PLACES,
+    of_three: 0,
+};
+
+const EACH_THIRD: Answers = Answers {
+    places: PLACES,
+    of_three: 1,
+};
+
+const YES: Answers = Answers {
+    places: PLACES,
+    of_three: 3,
+};
+
+/// Where a plan cuts: everywhere, nowhere, or at each third place. A plan that is joined makes items of
+/// all ifs that may be.
 #[derive(Clone, Copy, Debug, PartialEq, Eq)]
 pub enum Cuts {
     Everywhere,
+    EverywhereJoined,
     Nowhere,
+    NowhereJoined,
     EachThird,
+    EachThirdJoined,
 }
 
 /// A run that has stopped.
@@ -36,8 +61,11 @@ pub struct Ran {
 fn plan_of(alloc: Global, assigned: &Assigned, cuts: Cuts) -> Result<CutPlan, Memory> {
     match cuts {
         Cuts::Everywhere => cut_all(alloc, assigned),
-        Cuts::Nowhere => plan(alloc, PLACES, 0),
-        Cuts::EachThird => plan(alloc, PLACES, 1),
+        Cuts::EverywhereJoined => plan(alloc, LACKING, YES),
+        Cuts::Nowhere => plan(alloc, NO, NO),
+        Cuts::NowhereJoined => plan(alloc, NO, YES),
+        Cuts::EachThird => plan(alloc, EACH_THIRD, NO),
+        Cuts::EachThirdJoined => plan(alloc, EACH_THIRD, YES),
     }
 }
 

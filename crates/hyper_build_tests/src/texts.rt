@@ -79,3 +79,38 @@ int main(void) {
 pub const DEEP: &str = "int fall(int n) { int a[1000]; a[0] = n; return fall(n + 1) + a[0]; }
 int main(void) { return fall(0); }
 ";
+
+pub const ONE_LEG: &str = "#include <stdio.h>
+int main(void) {
+  int c; int most = 0;
+  while ((c = getchar()) != EOF) { if (c > most) most = c; }
+  return most;
+}
+";
+
+pub const TWO_LEGS: &str = "#include <stdio.h>
+int main(void) {
+  int c; int n = 0;
+  while ((c = getchar()) != EOF) { if (c < 'a') n = n + 1; else n = n + 100; }
+  return n;
+}
+";
+
+pub const NESTED: &str = "#include <stdio.h>
+int main(void) {
+  int c; int low = 0; int other = 0; char seen[128];
+  while ((c = getchar()) != EOF) {
+    if (c >= 'a') { if (c <= 'z') { low++; seen[c] = 1; } else other++; }
+  }
+  return low * 100 + other * 10 + seen['k'];
+}
+";
+
+pub const CALLING_LEG: &str = "#include <stdio.h>
+int next(int n) { return n + 1; }
+int main(void) {
+  int c; int n = 0;
+  while ((c = getchar()) != EOF) { if (c == 'o') n = next(n); }
+  return n;
+}
+";

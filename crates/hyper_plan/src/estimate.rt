@@ -12,6 +12,9 @@ const REGISTERS: usize = 128;
 /// The most reads that a block has; so many writes, and so many load/store numbers.
 const MOST_PARTS: u32 = 32;
 
+/// The most tests before a block's end, which may be one more: 256 cases have eight.
+const MOST_TESTS: u32 = 7;
+
 /// What gives a register's word in a block: an operation, the block's read, or as yet nothing.
 #[derive(Clone, Copy)]
 struct Producer {
@@ -37,6 +40,7 @@ pub struct Estimate {
     pub reads: u32,
     pub writes: u32,
     pub numbers: u32,
+    pub tests: u32,
     producers: [Producer; REGISTERS],
 }
 
@@ -93,6 +97,7 @@ impl Estimate {
             reads: 0,
             writes: 0,
             numbers: 0,
+            tests: 0,
             producers: [NOTHING; REGISTERS],
         }
     }
@@ -104,6 +109,7 @@ impl Estimate {
             && self.reads <= MOST_PARTS
             && self.writes <= MOST_PARTS
             && self.numbers <= MOST_PARTS
+            && self.tests <= MOST_TESTS
     }
 
     /// So many instructions more.
@@ -227,5 +233,26 @@ impl Estimate {
                 }
             }
         }
+    }
+
+    /// A test that guards the items of two legs. Where its word is not a bit, `tnei` gives one.
+    pub fn choose(&mut self, x: Arg) {
+        self.operand(x);
+        self.tests = self.tests.saturating_add(1);
+        match x {
+            Arg::Const(_) => self.count(1),
+            Arg::Var(v) => {
+                if !self.producers[register_of(v) % REGISTERS].bit {
+                    self.count(1);
+                }
+            }
+        }
+    }
+
+    /// The instruction that set a register last has a guard: the test is brought to it, and where it is not
+    /// taken the register has another producer, so that what names it is named twice.
+    pub fn guarded(&mut self, register: usize) {
+        self.count(2);
+        self.producers[register % REGISTERS].targets = 1;
     }
 }

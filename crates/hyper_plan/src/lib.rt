@@ -7,6 +7,7 @@
 mod estimate;
 #[cfg(test)]
 mod estimate_tests;
+mod if_items;
 mod items;
 mod plans;
 mod walk;

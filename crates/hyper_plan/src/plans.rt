@@ -21,8 +21,10 @@ fn walk_function(alloc: Global, f: &FlatFunc, calls: usize, site: &Site) -> Resu
     add_way_in(&mut block, f.params, site.frame);
     let mut walk = Walk {
         answers: Items::new(alloc),
+        joins: Items::new(alloc),
         last: Some(0),
         block,
+        in_item: false,
         calls,
     };
     answer(&mut walk, site)?;
@@ -52,6 +54,7 @@ pub fn greedy(alloc: Global, assigned: &Assigned, rooms: &[u8]) -> Result<CutPla
 {
     let functions = assigned.flat.functions.as_slice();
     let mut cuts = Items::new(alloc);
+    let mut joins = Items::new(alloc);
     let mut calls = 0;
     for f in 0..functions.len() {
         let function = &functions[f];
@@ -64,11 +67,14 @@ pub fn greedy(alloc: Global, assigned: &Assigned, rooms: &[u8]) -> Result<CutPla
         calls = walk.calls;
         let Walk {
             answers,
+            joins: joined,
             last: _,
             block: _,
+            in_item: _,
             calls: _,
         } = walk;
         cuts.append(answers)?;
+        joins.append(joined)?;
     }
-    Ok(CutPlan { cuts })
+    Ok(CutPlan { cuts, joins })
 }

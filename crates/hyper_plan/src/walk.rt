@@ -10,6 +10,7 @@ ghost use Rattle.ir_forms.specs.FlatViews.{code_of, step_of};
 ghost use Rattle.hyper_plan.specs.Answers.{only_cuts};
 
 use crate::estimate::Estimate;
+use crate::if_items::{add_item, are_items};
 use crate::items::{
     Frame, add_all, add_call, add_result, add_return, add_saves, add_statement, are_plain,
 };
@@ -25,13 +26,15 @@ pub struct Site<'a> {
     pub groups: &'a Items<Items<Items<u16>>>,
 }
 
-/// The answers so far, the last place at which the open block may end, what that block comes to, and the
-/// calls that stand before.
+/// The answers so far, to cut and to join, the last place at which the open block may end, what that block
+/// comes to, whether the statement stands in an if that is an item, and the calls that stand before.
 #[derive(Drop)]
 pub struct Walk {
     pub answers: Items<bool>,
+    pub joins: Items<bool>,
     pub last: Option<usize>,
     pub block: Estimate,
+    pub in_item: bool,
     pub calls: usize,
 }
 
@@ -47,12 +50,15 @@ fn cut_at(walk: &mut Walk, at: usize, site: &Site)
     }
 }
 
-/// Another block begins.
+/// Another block begins; in an if that is an item none does.
 fn open(walk: &mut Walk, site: &Site)
     ensures size { length walk.new.answers ≡ length walk.old.answers }
     ensures cuts { site.now.room ≡ 0 → only_cuts walk.old.answers ≡ true
         → only_cuts walk.new.answers ≡ true }
 {
+    if walk.in_item {
+        return;
+    }
     walk.last = None;
     walk.block = Estimate::empty();
 }
@@ -75,13 +81,17 @@ fn fits(block: &Estimate, site: &Site) -> bool {
     block.fits(site.room as u32)
 }
 
-/// A statement goes into the open block, or where it has no room there into another.
+/// A statement goes into the open block, or where it has no room there into another. One of an if that is an
+/// item is there already.
 #[inline(never)]
 fn join(walk: &mut Walk, s: &FlatStmt, site: &Site)
     ensures size { length walk.new.answers ≡ length walk.old.answers }
     ensures cuts { site.now.room ≡ 0 → only_cuts walk.old.answers ≡ true
         → only_cuts walk.new.answers ≡ true }
 {
+    if walk.in_item {
+        return;
+    }
     let mut block = walk.block;
     add_statement(&mut block, s, site.frame);
     if !fits(&block, site) {
@@ -112,7 +122,19 @@ pub fn answer(walk: &mut Walk, site: &Site) -> Result<(), Memory>
         → only_cuts walk.new.answers ≡ true) }
 {
     walk.answers.push(site.room == 0)?;
+    walk.joins.push(false)?;
     Ok(())
+}
+
+/// The block may end behind a place, unless that stands in an if that is an item.
+fn may_end(walk: &mut Walk, at: usize, site: &Site)
+    ensures size { length walk.new.answers ≡ length walk.old.answers }
+    ensures cuts { site.now.room ≡ 0 → only_cuts walk.old.answers ≡ true
+        → only_cuts walk.new.answers ≡ true }
+{
+    if !walk.in_item {
+        walk.last = Some(at);
+    }
 }
 
 /// A statement behind which the block may end.
@@ -122,7 +144,8 @@ fn single(walk: &mut Walk, s: &FlatStmt, site: &Site) -> Result<(), Memory>
         → only_cuts walk.new.answers ≡ true) }
 {
     join(walk, s, site);
-    walk.last = Some(walk.answers.len());
+    let at = walk.answers.len();
+    may_end(walk, at, site);
     answer(walk, site)
 }
 
@@ -270,6 +293,73 @@ fn head(walk: &mut Walk, site: &Site) -> Result<(), Memory>
     answer(walk, site)
 }
 
+// IFS
+
+/// An if goes as an item into the open block, or where it has no room there into another; it does not
+/// where it has room in neither.
+#[inline(never)]
+fn join_item(walk: &mut Walk, s: &FlatStmt, site: &Site) -> bool
+    ensures size { length walk.new.answers ≡ length walk.old.answers }
+    ensures cuts { site.now.room ≡ 0 → only_cuts walk.old.answers ≡ true
+        → only_cuts walk.new.answers ≡ true }
+{
+    let mut block = walk.block;
+    add_item(s, &mut block, site.frame);
+    if !fits(&block, site) {
+        block = Estimate::empty();
+        add_item(s, &mut block, site.frame);
+        if !fits(&block, site) {
+            return false;
+        }
+        cut_last(walk, site);
+    }
+    walk.block = block;
+    true
+}
+
+/// The statements that follow stand in an if that is an item, at a place behind which the block may end.
+fn enter_item(walk: &mut Walk, at: usize, site: &Site)
+    ensures size { length walk.new.answers ≡ length walk.old.answers }
+    ensures cuts { site.now.room ≡ 0 → only_cuts walk.old.answers ≡ true
+        → only_cuts walk.new.answers ≡ true }
+{
+    if at < walk.joins.len() {
+        walk.joins.set(at, true);
+    }
+    walk.last = Some(at);
+    walk.in_item = true;
+}
+
+/// An if before its legs, which are straight or not: whether it begins an item. Else the block ends with its test.
+fn open_if(walk: &mut Walk, s: &FlatStmt, straight: bool, site: &Site) -> Result<bool, Memory>
+    ensures size { OnOk result (length walk.new.answers ≡ length walk.old.answers + 1) }
+    ensures cuts { OnOk result (site.now.room ≡ 0 → only_cuts walk.old.answers ≡ true
+        → only_cuts walk.new.answers ≡ true) }
+{
+    let at = walk.answers.len();
+    if !walk.in_item && straight && join_item(walk, s, site) {
+        answer(walk, site)?;
+        enter_item(walk, at, site);
+        Ok(true)
+    } else {
+        ending(walk, s, site)?;
+        Ok(false)
+    }
+}
+
+/// An if behind its legs; `item` says that it began an item.
+fn close_if(walk: &mut Walk, item: bool, site: &Site)
+    ensures size { length walk.new.answers ≡ length walk.old.answers }
+    ensures cuts { site.now.room ≡ 0 → only_cuts walk.old.answers ≡ true
+        → only_cuts walk.new.answers ≡ true }
+{
+    if item {
+        walk.in_item = false;
+    } else {
+        open(walk, site);
+    }
+}
+
 // ALL STATEMENTS
 
 #[cycle(walk)]
@@ -288,11 +378,12 @@ fn walk_stmt(s: &FlatStmt, walk: &mut Walk, site: &Site) -> Result<(), Memory>
         FlatStmt::Put(_) => ending(walk, s, site)?,
         FlatStmt::Get { to } => get(walk, s, *to, site)?,
         FlatStmt::If { yes, no, .. } => {
-            ending(walk, s, site)?;
+            let straight = are_items(yes.as_slice()) && are_items(no.as_slice());
+            let item = open_if(walk, s, straight, site)?;
             walk_stmts(yes.as_slice(), walk, site)?;
             open(walk, site);
             walk_stmts(no.as_slice(), walk, site)?;
-            open(walk, site);
+            close_if(walk, item, site);
         }
         FlatStmt::Loop { body, post } => {
             let at = walk.answers.len();

@@ -17,7 +17,7 @@ use Rattle.predication_limits.proofs.Machine.{fits_machine}
 
 pub programs_fit : CutProgramsFit
 programs_fit P lists groups fits assigned few k b e =
-    let all = gives_assigned [] P lists groups fits assigned in
+    let all = gives_assigned [] [] P lists groups fits assigned in
     fits_machine b (all.fit few k b e) (assigned_little P lists groups fits assigned k b e)
 
 target_alone : (f : FlowBlock) → HasRoom f → (e : FlowFault) → fan_out_refusals.IsRefusal f e → e ≡ Memory

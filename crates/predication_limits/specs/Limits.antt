@@ -55,8 +55,8 @@ SmallIfsFit = (b : Block) → FitsHyper b → HoldsSmallIf b → FitsMachine b
 abbrev pub CutProgramsFit : Type 0
 CutProgramsFit =
     (P : Program) (lists : List (List ℕ)) (groups : List (List (List ℕ))) → FitsProgram P
-    → AreAssigned P lists groups → length (built_program (plan_of [] groups) P) ≤ 524288 → (k : ℕ)
-    (b : Block) → slice_get (built_program (plan_of [] groups) P) k ≡ Some b → FitsMachine b
+    → AreAssigned P lists groups → length (built_program (plan_of [] [] groups) P) ≤ 524288 → (k : ℕ)
+    (b : Block) → slice_get (built_program (plan_of [] [] groups) P) k ≡ Some b → FitsMachine b
 
 -- neither completing nor giving targets refuses the block but for want of memory
 pub record IsNeverTooBig (b : Block) : Type 0 where

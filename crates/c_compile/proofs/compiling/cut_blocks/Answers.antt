@@ -13,8 +13,9 @@ use Rattle.std.specs.Prelude.{List}
 pub machine_blocks-requires : goal.machine_blocks-requires
 machine_blocks-requires c =
     let F = program_of c.args.assigned.now.flat in
-    let is = built_cut F c.args.assigned.now.groups c.in_ok-plan.plan.cuts (blocks_of c.in_ok-program.program)
-    c.in_ok-plan.ensures c.in_ok-program.ensures.blocks in
+    let is = built_cut F c.args.assigned.now.groups c.in_ok-plan.plan.cuts c.in_ok-plan.plan.joins
+    (blocks_of c.in_ok-program.program) c.in_ok-plan.ensures.cuts c.in_ok-plan.ensures.joins
+    c.in_ok-program.ensures.blocks in
     record {
       followed = followed F c.args.assigned.now.live c.args.assigned.now.groups c.requires.fits c.requires.assigned
           c.requires.few (blocks_of c.in_ok-program.program) is;
@@ -25,8 +26,9 @@ machine_blocks-requires c =
 pub unreachable-requires : goal.unreachable-requires
 unreachable-requires c =
     let F = program_of c.args.assigned.now.flat in
-    let is = built_cut F c.args.assigned.now.groups c.in_ok-plan.plan.cuts (blocks_of c.in_ok-program.program)
-    c.in_ok-plan.ensures c.in_ok-program.ensures.blocks in
+    let is = built_cut F c.args.assigned.now.groups c.in_ok-plan.plan.cuts c.in_ok-plan.plan.joins
+    (blocks_of c.in_ok-program.program) c.in_ok-plan.ensures.cuts c.in_ok-plan.ensures.joins
+    c.in_ok-program.ensures.blocks in
     not_too_big c.in-Err-TooBig.field-0 _ _ c.in-Err-TooBig.field-0-is
     (c.in-Err-TooBig.ensures.fits (fit F c.args.assigned.now.live c.args.assigned.now.groups c.requires.fits
     c.requires.assigned c.requires.few (blocks_of c.in_ok-program.program) is))
@@ -34,8 +36,9 @@ unreachable-requires c =
 pub returns-in-Ok : goal.returns-in-Ok
 returns-in-Ok c =
     let F = program_of c.args.assigned.now.flat in
-    let is = built_cut F c.args.assigned.now.groups c.in_ok-plan.plan.cuts (blocks_of c.in_ok-program.program)
-    c.in_ok-plan.ensures c.in_ok-program.ensures.blocks in
+    let is = built_cut F c.args.assigned.now.groups c.in_ok-plan.plan.cuts c.in_ok-plan.plan.joins
+    (blocks_of c.in_ok-program.program) c.in_ok-plan.ensures.cuts c.in_ok-plan.ensures.joins
+    c.in_ok-program.ensures.blocks in
     subst (λ (P : List hyper.Block). AreMachineBlocks (goes (list_of c.args.placing)) P c.in-Ok.blocks) is
     (c.in-Ok.ensures.machine (fit F c.args.assigned.now.live c.args.assigned.now.groups c.requires.fits
     c.requires.assigned c.requires.few (blocks_of c.in_ok-program.program) is))

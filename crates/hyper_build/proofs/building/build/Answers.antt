@@ -6,6 +6,6 @@ use Rattle.hyper_build.proofs.building.build.Goals as goal
 pub returns : goal.returns
 returns c = record {
   blocks = c.program_of_all.ensures ∙ c.in_ok-out.ensures
-      ∙ emitted_is_built c.args.plan.now.cuts c.args.assigned.now.groups
+      ∙ emitted_is_built c.args.plan.now.cuts c.args.plan.now.joins c.args.assigned.now.groups
       (program_of c.args.assigned.now.flat);
 }

@@ -1,11 +1,14 @@
-use Rattle.std.proofs.Common.{ap, ◌∙◌, arith}
+use Rattle.std.proofs.Common.{◌≡◌, true, false, ap, ◌∙◌, arith}
 use Rattle.ir_forms.specs.FlatCode.{Step}
-use Rattle.ir_forms.specs.FlatViews.{step_of}
+use Rattle.ir_forms.specs.FlatViews.{code_of, step_of}
 use Rattle.ir_forms.proofs.Views.{step_let, step_frame, step_load, step_save, step_call, step_put}
 use Rattle.ir_forms.proofs.Views.{step_get, step_if, step_loop, step_break, step_continue}
 use Rattle.ir_forms.proofs.Views.{step_return}
 use Rattle.hyper_build.specs.Backward.{emission_of}
+use Rattle.hyper_build.specs.Laws.{joins_by}
+use Rattle.hyper_build.specs.BackwardItems.{is_if_item}
 use Rattle.hyper_build.specs.BackwardCode as code
+use Rattle.hyper_build.proofs.IfPasses.{emit_item, emit_test}
 use Rattle.hyper_build.proofs.code.+emit.Goals as goal
 
 pub put_stmt-returns-in_ok-put_let-in-Let : goal.put_stmt-returns-in_ok-put_let-in-Let
@@ -57,11 +60,22 @@ put_stmt-returns-in_ok-put_get-in-Get t c =
     (ap step_of c.in-Get.is ∙ step_get c.in-Get.to) in
     grind (arith, h)
 
+pub put_stmt-returns-in_ok-put_joined-in-If : goal.put_stmt-returns-in_ok-put_joined-in-If
+put_stmt-returns-in_ok-put_joined-in-If t c =
+    let is : is_if_item c.joins.result (code_of c.in-If.yes) (code_of c.in-If.no) ≡ true = grind arith in
+    let h = emit_item c.args.site.now c.args.broke c.args.again (step_of c.args.s.now) c.in-If.test _ _
+    (emission_of c.args.emitting.now) c.in_ok-statements-in-If.statements c.joins.result
+    (ap step_of c.in-If.is ∙ step_if c.in-If.test c.in-If.yes c.in-If.no) c.in_ok-statements-in-If.ensures
+    (c.joins.ensures ∙ ap (joins_by c.args.site.now.joins) c.fallen_by-place.ensures) is in
+    grind (arith, h)
+
 pub put_stmt-returns-in_ok-put_test-in-If : goal.put_stmt-returns-in_ok-put_test-in-If
 put_stmt-returns-in_ok-put_test-in-If t c =
-    let h = ap (λ (st : Step).
-    code.emit_in c.args.site.now c.args.broke c.args.again st (emission_of c.args.emitting.now))
-    (ap step_of c.in-If.is ∙ step_if c.in-If.test c.in-If.yes c.in-If.no) in
+    let is : is_if_item c.joins.result (code_of c.in-If.yes) (code_of c.in-If.no) ≡ false = grind arith in
+    let h = emit_test c.args.site.now c.args.broke c.args.again (step_of c.args.s.now) c.in-If.test _ _
+    (emission_of c.args.emitting.now) c.in_ok-statements-in-If.statements c.joins.result
+    (ap step_of c.in-If.is ∙ step_if c.in-If.test c.in-If.yes c.in-If.no) c.in_ok-statements-in-If.ensures
+    (c.joins.ensures ∙ ap (joins_by c.args.site.now.joins) c.fallen_by-place.ensures) is in
     grind (arith, h)
 
 pub put_stmt-returns-in_ok-put_out-in-Loop-3 : goal.put_stmt-returns-in_ok-put_out-in-Loop-3

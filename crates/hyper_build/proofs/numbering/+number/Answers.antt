@@ -1,11 +1,13 @@
-use Rattle.std.proofs.Common.{ap, ◌∙◌, arith}
+use Rattle.std.proofs.Common.{◌≡◌, true, false, ap, ◌∙◌, arith}
 use Rattle.ir_forms.specs.FlatCode.{Step}
-use Rattle.ir_forms.specs.FlatViews.{step_of}
+use Rattle.ir_forms.specs.FlatViews.{code_of, step_of}
 use Rattle.ir_forms.proofs.Views.{step_let, step_frame, step_load, step_save, step_call, step_put}
 use Rattle.ir_forms.proofs.Views.{step_get, step_if, step_loop, step_break, step_continue}
 use Rattle.ir_forms.proofs.Views.{step_return}
 use Rattle.hyper_build.specs.Ground.{plan}
+use Rattle.hyper_build.specs.BackwardItems.{is_if_item}
 use Rattle.hyper_build.specs.Forward.{number_in}
+use Rattle.hyper_build.proofs.IfPasses.{number_item, number_test}
 use Rattle.hyper_build.proofs.numbering.+number.Goals as goal
 
 pub number_stmt-returns-in_ok-number_single-in-Let : goal.number_stmt-returns-in_ok-number_single-in-Let
@@ -50,10 +52,18 @@ number_stmt-returns-in_ok-number_get-in-Get t c =
     (ap step_of c.in-Get.is ∙ step_get c.in-Get.to) in
     grind (arith, h)
 
+pub number_stmt-returns-in_ok-number_items-in-If : goal.number_stmt-returns-in_ok-number_items-in-If
+number_stmt-returns-in_ok-number_items-in-If t c =
+    let is : is_if_item c.joins.result (code_of c.in-If.yes) (code_of c.in-If.no) ≡ true = grind arith in
+    let h = number_item c.args.site.now (step_of c.args.s.now) c.in-If.test _ _ c.args.numbering.now
+    c.joins.result (ap step_of c.in-If.is ∙ step_if c.in-If.test c.in-If.yes c.in-If.no) c.joins.ensures is in
+    grind (arith, h)
+
 pub number_stmt-returns-in_ok-count_blocks-in-If : goal.number_stmt-returns-in_ok-count_blocks-in-If
 number_stmt-returns-in_ok-count_blocks-in-If t c =
-    let h = ap (λ (st : Step). number_in (plan c.args.site.now) st c.args.numbering.now)
-    (ap step_of c.in-If.is ∙ step_if c.in-If.test c.in-If.yes c.in-If.no) in
+    let is : is_if_item c.joins.result (code_of c.in-If.yes) (code_of c.in-If.no) ≡ false = grind arith in
+    let h = number_test c.args.site.now (step_of c.args.s.now) c.in-If.test _ _ c.args.numbering.now
+    c.joins.result (ap step_of c.in-If.is ∙ step_if c.in-If.test c.in-If.yes c.in-If.no) c.joins.ensures is in
     grind (arith, h)
 
 pub number_stmt-returns-in_ok-add_note-in-Loop : goal.number_stmt-returns-in_ok-add_note-in-Loop
@@ -62,19 +72,22 @@ number_stmt-returns-in_ok-add_note-in-Loop t c =
     (ap step_of c.in-Loop.is ∙ step_loop c.in-Loop.body c.in-Loop.post) in
     grind (arith, h)
 
-pub number_stmt-returns-in_ok-count_statement-in-Break : goal.number_stmt-returns-in_ok-count_statement-in-Break
+pub number_stmt-returns-in_ok-count_statement-in-Break
+    : goal.number_stmt-returns-in_ok-count_statement-in-Break
 number_stmt-returns-in_ok-count_statement-in-Break t c =
     let h = ap (λ (st : Step). number_in (plan c.args.site.now) st c.args.numbering.now)
     (ap step_of c.in-Break.is ∙ step_break) in
     grind (arith, h)
 
-pub number_stmt-returns-in_ok-count_statement-in-Continue : goal.number_stmt-returns-in_ok-count_statement-in-Continue
+pub number_stmt-returns-in_ok-count_statement-in-Continue
+    : goal.number_stmt-returns-in_ok-count_statement-in-Continue
 number_stmt-returns-in_ok-count_statement-in-Continue t c =
     let h = ap (λ (st : Step). number_in (plan c.args.site.now) st c.args.numbering.now)
     (ap step_of c.in-Continue.is ∙ step_continue) in
     grind (arith, h)
 
-pub number_stmt-returns-in_ok-count_statement-in-Return : goal.number_stmt-returns-in_ok-count_statement-in-Return
+pub number_stmt-returns-in_ok-count_statement-in-Return
+    : goal.number_stmt-returns-in_ok-count_statement-in-Return
 number_stmt-returns-in_ok-count_statement-in-Return t c =
     let h = ap (λ (st : Step). number_in (plan c.args.site.now) st c.args.numbering.now)
     (ap step_of c.in-Return.is ∙ step_return _) in
