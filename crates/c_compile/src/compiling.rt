@@ -4,8 +4,6 @@ ghost use Rattle.c_front.specs.Fronts.{MayBeRefused};
 ghost use Rattle.ir_forms.specs.FlatFits.{FitsProgram, code_blocks_of_all};
 ghost use Rattle.ir_forms.specs.FlatViews.{program_of};
 ghost use Rattle.hyper_build.specs.Laws.{built_program, plan_of, AreAssigned};
-ghost use Rattle.grid_place.specs.Moves.{goes};
-ghost use Rattle.grid_place.specs.Seeded.{list_of};
 ghost use Rattle.c_compile_layout.specs.Emitted.{image_of, most_blocks, IsGoodImage};
 ghost use Rattle.c_compile_layout.specs.Layouts.{AreFew};
 ghost use Rattle.c_compile_blocks.specs.Blocks.{AreMachineBlocks};
@@ -31,7 +29,7 @@ fn cut_blocks(alloc: Global, assigned: &Assigned, placing: Placing) -> Result<It
     requires assigned { AreAssigned (program_of assigned.now.flat) assigned.now.live
         assigned.now.groups }
     requires few { 3 + code_blocks_of_all (program_of assigned.now.flat).functions ≤ most_blocks }
-    ensures { IfOk result (λ us. AreMachineBlocks (goes (list_of placing))
+    ensures { IfOk result (λ us. AreMachineBlocks placing
         (built_program (plan_of [] assigned.now.groups) (program_of assigned.now.flat)) us) }
 {
     let plan = cut_all(alloc, assigned)?;
@@ -62,7 +60,7 @@ fn checked_image(alloc: Global, blocks: Items<Block>, bytes: &[u8]) -> Result<Ch
 fn compiled(alloc: Global, flat: FlatProgram, placing: Placing) -> Result<CheckedImage, Memory>
     requires fits { FitsProgram (program_of flat) }
     requires few { 3 + code_blocks_of_all (program_of flat).functions ≤ most_blocks }
-    ensures { IfOk result (λ i. IsCompiled (program_of flat) (goes (list_of placing)) i) }
+    ensures { IfOk result (λ i. IsCompiled (program_of flat) placing i) }
 {
     let assigned = assign(alloc, flat)?;
     let blocks = cut_blocks(alloc, &assigned, placing)?;
@@ -76,7 +74,7 @@ fn compiled(alloc: Global, flat: FlatProgram, placing: Placing) -> Result<Checke
 /// none is too big, and each is good.
 pub fn compile(alloc: Global, text: &[u8], placing: Placing) -> Result<CheckedImage, Refusal>
     requires short { length text.now < 4_294_967_295 }
-    ensures ok { IfOk result (λ i. IsImageOf text.now (goes (list_of placing)) i) }
+    ensures ok { IfOk result (λ i. IsImageOf text.now placing i) }
     ensures err { IfErr result (MayBeRefused text.now) }
 {
     let flat = lower_text(alloc, text)?;

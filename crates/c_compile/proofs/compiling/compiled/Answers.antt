@@ -3,12 +3,10 @@ use Rattle.std.proofs.lemmas.Result.{IfOk-weaker}
 use Rattle.trips_isa.specs.declared.block.Image.{Image}
 use Rattle.ir_forms.specs.declared.flat.FlatProgram.{FlatProgram}
 use Rattle.ir_forms.specs.FlatViews.{program_of}
-use Rattle.grid_place.specs.Moves.{goes}
-use Rattle.grid_place.specs.Seeded.{list_of}
-use Rattle.grid_place.proofs.Shuffles.{placing_permutes}
 use Rattle.c_compile_layout.specs.Emitted.{image_of, IsGoodImage}
 use Rattle.c_compile_laws.specs.Compiled.{IsCompiled}
-use Rattle.c_compile.proofs.CutPrograms.{are_assigned, fits_given, few_given, few_chunks, at_most_128, good, is_compiled}
+use Rattle.c_compile.proofs.CutPrograms.{are_assigned, fits_given, few_given, few_chunks, at_most_128, good}
+use Rattle.c_compile.proofs.CutPrograms.{is_compiled}
 use Rattle.c_compile.proofs.compiling.compiled.Goals as goal
 
 pub cut_blocks-requires : goal.cut_blocks-requires
@@ -31,13 +29,13 @@ checked_image-requires c =
     let a = are_assigned c.args.flat g.flat g.live g.groups e c.requires.fits c.in_ok-assigned.ensures.kept
     c.in_ok-assigned.ensures.cut c.in_ok-assigned.ensures.few in
     let few = few_given c.args.flat g.flat e c.requires.few in
-    let p = list_of c.args.placing in
+    let p = c.args.placing in
     let made = c.in_ok-blocks.ensures in
     record {
-      sizes = at_most_128 F g.live g.groups fits a few (goes p) c.in_ok-blocks.blocks made;
-      few = few_chunks F g.live g.groups fits a few (goes p) c.in_ok-blocks.blocks made;
+      sizes = at_most_128 F g.live g.groups fits a few p c.in_ok-blocks.blocks made;
+      few = few_chunks F g.live g.groups fits a few p c.in_ok-blocks.blocks made;
       good = subst (λ (bs : List ℕ). IsGoodImage (image_of c.in_ok-blocks.blocks bs)) (sym c.as_slice.ensures.value)
-          (good F g.live g.groups fits a few p (placing_permutes c.args.placing) c.in_ok-blocks.blocks made);
+          (good F g.live g.groups fits a few p c.in_ok-blocks.blocks made);
     }
 
 pub returns : goal.returns
@@ -49,11 +47,11 @@ returns c =
     let a = are_assigned c.args.flat g.flat g.live g.groups e c.requires.fits c.in_ok-assigned.ensures.kept
     c.in_ok-assigned.ensures.cut c.in_ok-assigned.ensures.few in
     let few = few_given c.args.flat g.flat e c.requires.few in
-    let p = list_of c.args.placing in
+    let p = c.args.placing in
     let us = c.in_ok-blocks.blocks in
     IfOk-weaker c.checked_image.result (λ (i : Image). i ≡ image_of us c.as_slice.result.now)
-    (λ (i : Image). IsCompiled (program_of c.args.flat) (goes p) i)
-    (λ i is. subst (λ (f : FlatProgram). IsCompiled (program_of f) (goes p) i) e
-    (is_compiled F g.live g.groups fits a few p (placing_permutes c.args.placing) us c.in_ok-blocks.ensures
+    (λ (i : Image). IsCompiled (program_of c.args.flat) p i)
+    (λ i is. subst (λ (f : FlatProgram). IsCompiled (program_of f) p i) e
+    (is_compiled F g.live g.groups fits a few p us c.in_ok-blocks.ensures
     c.in_ok-assigned.ensures.meaning i (is ∙ ap (λ (bs : List ℕ). image_of us bs) c.as_slice.ensures.value)))
     c.checked_image.ensures

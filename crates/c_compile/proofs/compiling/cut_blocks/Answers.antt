@@ -3,8 +3,6 @@ use Rattle.trips_isa.specs.declared.block.Block.{Block}
 use Rattle.ir_forms.specs.FlatViews.{program_of}
 use Rattle.ir_forms.specs.HyperViews.{blocks_of}
 use Rattle.ir_forms.specs.HyperCode as hyper
-use Rattle.grid_place.specs.Moves.{goes}
-use Rattle.grid_place.specs.Seeded.{list_of}
 use Rattle.c_compile_blocks.specs.Blocks.{AreMachineBlocks}
 use Rattle.c_compile.proofs.CutPrograms.{built_cut, followed, low, fit, not_too_big}
 use Rattle.c_compile.proofs.compiling.cut_blocks.Goals as goal
@@ -36,6 +34,6 @@ returns-in-Ok c =
     let F = program_of c.args.assigned.now.flat in
     let is = built_cut F c.args.assigned.now.groups c.in_ok-plan.plan.cuts (blocks_of c.in_ok-program.program)
     c.in_ok-plan.ensures c.in_ok-program.ensures.blocks in
-    subst (λ (P : List hyper.Block). AreMachineBlocks (goes (list_of c.args.placing)) P c.in-Ok.blocks) is
+    subst (λ (P : List hyper.Block). AreMachineBlocks c.args.placing P c.in-Ok.blocks) is
     (c.in-Ok.ensures.machine (fit F c.args.assigned.now.live c.args.assigned.now.groups c.requires.fits
     c.requires.assigned c.requires.few (blocks_of c.in_ok-program.program) is))
