@@ -29,7 +29,7 @@ use Rattle.hyper_build.specs.Routines.{built}
 use Rattle.hyper_build.specs.Tree.{annotated_all, Routine}
 use Rattle.hyper_build.proofs.Assigned.{gives_assigned}
 use Rattle.predication_limits.proofs.Programs.{programs_fit}
-use Rattle.grid_place.specs.Moves.{IsPermutation, goes}
+use Rattle.grid_place.specs.declared.placed.Placing.{Placing}
 use Rattle.c_compile_layout.specs.Emitted.{image_of, most_blocks, AreEmitted, IsGoodImage}
 use Rattle.c_compile_layout.specs.Layouts as layouts
 use Rattle.c_compile_layout.proofs.Linked.{good_image}
@@ -91,21 +91,20 @@ module _ (F : Program) (lists : List (List ℕ)) (groups : List (List (List ℕ)
     pub fit : FitMachine P
     fit = subst FitMachine (sym is) fit_machine
 
-  module _ (p : ℕ → ℕ) (us : List Block) (made : AreMachineBlocks p B us) where
+  module _ (p : Placing) (us : List Block) (made : AreMachineBlocks p B us) where
     pub few_chunks : layouts.AreFew us
     few_chunks = chunks_few p B us passes made
 
     pub at_most_128 : All (λ (u : Block). length u.insts.items ≤ 128) us
     at_most_128 = λ i d l. let e = sizes p B us made i d l in omega (arith, e)
 
-  module _ (p : List ℕ) (permutation : IsPermutation p) (us : List Block) (made : AreMachineBlocks (goes p) B us) where
     pub emitted : AreEmitted B us
-    emitted = gives_emitted (goes p) permutation.back B us permutation.permutes passes made
+    emitted = gives_emitted p B us passes made
 
     pub good : IsGoodImage (image_of us F.bytes)
     good = good_image B us F.bytes emitted fits.bytes (data_fits F.bytes frame_limit data_size fits.room)
 
-    pub is_compiled : KeepsTameRuns F lists → (i : Image) → i ≡ image_of us F.bytes → IsCompiled F (goes p) i
+    pub is_compiled : KeepsTameRuns F lists → (i : Image) → i ≡ image_of us F.bytes → IsCompiled F p i
     is_compiled keeps i e = record {
       lists = lists;
       groups = groups;
@@ -114,8 +113,6 @@ module _ (F : Program) (lists : List (List ℕ)) (groups : List (List (List ℕ)
       cuts = [];
       joins = [];
       blocks = us;
-      back = permutation.back;
-      permutes = permutation.permutes;
       made = made;
       is = e;
     }

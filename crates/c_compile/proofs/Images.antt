@@ -4,6 +4,7 @@ use Rattle.trips_isa.specs.declared.block.Image.{Image}
 use Rattle.c_tree.specs.declared.typed.TypedProgram.{TypedProgram}
 use Rattle.flat_lower.specs.TreeViews.{source_of}
 use Rattle.flat_lower_premises.specs.Most.{most_of}
+use Rattle.grid_place.specs.declared.placed.Placing.{Placing}
 use Rattle.c_compile_laws.specs.Compiled.{FlatMeans}
 use Rattle.c_compile_laws.proofs.Bounds.{has_bounds}
 use Rattle.c_compile_laws.proofs.Compiled.{does_deep, does_finished, does_unfinished}
@@ -11,7 +12,7 @@ use Rattle.c_compile_laws.proofs.Ends.{ends_as, never_ends}
 use Rattle.c_compile.specs.Flat.{IsFlatOf}
 use Rattle.c_compile.specs.Images.{IsImageOf, ImagesMeanTexts}
 
-flat_means : (text : List ℕ) (p : ℕ → ℕ) (i : Image) (o : IsImageOf text p i)
+flat_means : (text : List ℕ) (p : Placing) (i : Image) (o : IsImageOf text p i)
     → FlatMeans (o.lowered).program o.flat (length (o.lowered).tokens)
 flat_means text p i o =
     let l : IsFlatOf text o.flat = o.lowered in

@@ -15,7 +15,7 @@ use Rattle.reg_assign.specs.Keeps.{KeepsTameRuns}
 use Rattle.hyper_build.specs.Laws.{built_program, plan_of, AreAssigned, AreBlocksOf}
 use Rattle.hyper_build.specs.Tree.{annotated_all}
 use Rattle.hyper_build.proofs.Assigned.{gives_assigned}
-use Rattle.grid_place.specs.Moves.{IsPermutation, goes}
+use Rattle.grid_place.specs.declared.placed.Placing.{Placing}
 use Rattle.c_compile_layout.specs.Emitted.{image_of, most_blocks}
 use Rattle.c_compile_blocks.specs.Blocks.{ArePassed, AreMachineBlocks, FitsPasses}
 use Rattle.c_compile_laws.specs.Compiled.{IsCompiled}
@@ -50,13 +50,12 @@ module _ (F : Program) (lists : List (List ℕ)) (groups : List (List (List ℕ)
   pub low : length P ≤ 524288
   low = let n = passes.few in omega (arith, n)
 
-  module _ (p : List ℕ) (permutation : IsPermutation p) (us : List Block) (all : ArePassed (goes p) P us) where
-    pub checked : AreChecked (goes p) P us F.bytes
-    checked = are_checked (goes p) permutation.back P us F.bytes permutation.permutes passes all fits.bytes
-        (data_fits F.bytes frame_limit data_size fits.room)
+  module _ (p : Placing) (us : List Block) (all : ArePassed p P us) where
+    pub checked : AreChecked p P us F.bytes
+    checked = are_checked p P us F.bytes passes all fits.bytes (data_fits F.bytes frame_limit data_size fits.room)
 
     pub is_compiled : KeepsTameRuns F lists → (i : Image) → i ≡ image_of us F.bytes
-        → All GoodBlock (image_of us F.bytes).blocks → IsCompiled F (goes p) i
+        → All GoodBlock (image_of us F.bytes).blocks → IsCompiled F p i
     is_compiled keeps i e good = record {
       lists = lists;
       groups = groups;
@@ -65,8 +64,6 @@ module _ (F : Program) (lists : List (List ℕ)) (groups : List (List (List ℕ)
       cuts = cuts;
       joins = joins;
       blocks = us;
-      back = permutation.back;
-      permutes = permutation.permutes;
-      made = subst (λ (B : List hyper.Block). AreMachineBlocks (goes p) B us) is (checked.machine good);
+      made = subst (λ (B : List hyper.Block). AreMachineBlocks p B us) is (checked.machine good);
       is = e;
     }

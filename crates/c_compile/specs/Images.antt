@@ -6,20 +6,21 @@ use Rattle.c_lex.specs.Lexes.{Tokens}
 use Rattle.c_lex.specs.Answers.{Lexed}
 use Rattle.c_front.specs.Fronts.{most_tokens, IsAccepted}
 use Rattle.ir_forms.specs.FlatCode.{Program}
+use Rattle.grid_place.specs.declared.placed.Placing.{Placing}
 use Rattle.c_compile_laws.specs.Bounds.{HasBounds}
 use Rattle.c_compile_laws.specs.Compiled.{IsCompiled}
 use Rattle.c_compile_laws.specs.Runs.{DoesDeep, DoesFinished, DoesUnfinished, EndsAsEvaluated, NeverEnds}
 use Rattle.c_compile.specs.Flat.{IsFlatOf}
 
--- i is made of the text's flat program, where slot s of each block goes to p s
-pub record IsImageOf (text : List ℕ) (p : ℕ → ℕ) (i : Image) : Type 0 where
+-- i is made of the text's flat program, and its blocks stand in the slots that a placing says
+pub record IsImageOf (text : List ℕ) (p : Placing) (i : Image) : Type 0 where
   pub flat : Program
   pub lowered : IsFlatOf text flat
   pub compiled : IsCompiled flat p i
 
 -- The image does what the text means: the text is accepted, and on each input the image's run ends
 -- as the evaluation does, has a full stack where that is too deep, and goes on where that goes on.
-pub record MeansText (text : List ℕ) (p : ℕ → ℕ) (i : Image) : Type 0 where
+pub record MeansText (text : List ℕ) (p : Placing) (i : Image) : Type 0 where
   pub program : TypedProgram
   pub accepted : IsAccepted text program
   pub tokens : Tokens
@@ -36,4 +37,4 @@ pub record MeansText (text : List ℕ) (p : ℕ → ℕ) (i : Image) : Type 0 wh
 -- so does each image of a text
 abbrev pub ImagesMeanTexts : Type 0
 ImagesMeanTexts =
-    (text : List ℕ) (p : ℕ → ℕ) (i : Image) → IsImageOf text p i → MeansText text p i
+    (text : List ℕ) (p : Placing) (i : Image) → IsImageOf text p i → MeansText text p i

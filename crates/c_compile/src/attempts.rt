@@ -7,8 +7,6 @@ ghost use Rattle.ir_forms.specs.FlatViews.{program_of};
 ghost use Rattle.ir_forms.specs.HyperViews.{blocks_of};
 ghost use Rattle.reg_assign.specs.Keeps.{KeepsTameRuns};
 ghost use Rattle.hyper_build.specs.Laws.{built_program, plan_of, AreAssigned};
-ghost use Rattle.grid_place.specs.Moves.{goes};
-ghost use Rattle.grid_place.specs.Seeded.{list_of};
 ghost use Rattle.c_compile_layout.specs.Emitted.{image_of, most_blocks};
 ghost use Rattle.c_compile_layout.specs.Layouts.{AreFew};
 ghost use Rattle.c_compile_laws.specs.Compiled.{IsCompiled};
@@ -65,7 +63,7 @@ fn attempt(
     requires built { blocks_of program.now ≡ built_program
         (plan_of plan.now.cuts plan.now.joins assigned.now.groups) (program_of assigned.now.flat) }
     ensures { IfOk result (λ o. IfSome o (λ i.
-        IsCompiled (program_of assigned.now.flat) (goes (list_of placing)) i)) }
+        IsCompiled (program_of assigned.now.flat) placing i)) }
 {
     match machine_blocks(alloc, program, placing) {
         Ok(blocks) => image_or_none(alloc, blocks, assigned.flat.bytes.as_slice()),
@@ -87,7 +85,7 @@ fn round(
     requires few { 3 + code_blocks_of_all (program_of assigned.now.flat).functions ≤ most_blocks }
     requires keeps { KeepsTameRuns (program_of assigned.now.flat) assigned.now.live }
     ensures { IfOk result (λ o. IfSome o (λ i.
-        IsCompiled (program_of assigned.now.flat) (goes (list_of placing)) i)) }
+        IsCompiled (program_of assigned.now.flat) placing i)) }
 {
     let plan = greedy(alloc, assigned, rooms.as_slice())?;
     let program = build(alloc, assigned, &plan)?;
@@ -113,7 +111,7 @@ pub fn greedy_image(
     requires few { 3 + code_blocks_of_all (program_of assigned.now.flat).functions ≤ most_blocks }
     requires keeps { KeepsTameRuns (program_of assigned.now.flat) assigned.now.live }
     ensures { IfOk result (λ o. IfSome o (λ i.
-        IsCompiled (program_of assigned.now.flat) (goes (list_of placing)) i)) }
+        IsCompiled (program_of assigned.now.flat) placing i)) }
 {
     let mut rooms = full_rooms(alloc, assigned.flat.functions.as_slice())?;
     for _round in 0..ROUNDS {

@@ -25,7 +25,8 @@ use Rattle.null_outputs.specs.Laws.{MaskedIn, EachMasked, Takes}
 use Rattle.null_outputs.specs.Wants.{complete}
 use Rattle.null_outputs.proofs.Completeness.{is_complete, means_block}
 use Rattle.null_outputs.proofs.Regular.{stays_regular}
-use Rattle.grid_place.specs.Moves.{Permutes}
+use Rattle.grid_place.specs.declared.placed.Placing.{Placing}
+use Rattle.grid_place.specs.Moves.{goes}
 use Rattle.c_compile_layout.specs.Linking.{Resolves, resolved, by_address}
 use Rattle.c_compile_layout.specs.Layouts.{laid_out, AreFew}
 use Rattle.c_compile_layout.specs.Emitted.{IsEmitted}
@@ -57,7 +58,7 @@ each_masked b (n ∷ ns) h =
 -- A BLOCK
 
 module _ (at : Layout) (short : HasShortAddresses at) (n k : ℕ)
-    (p q : ℕ → ℕ) (permutes : Permutes p q) (b : hyper.Block) (u : Block) (m : IsMachineBlock p b u)
+    (p : Placing) (b : hyper.Block) (u : Block) (m : IsMachineBlock p b u)
     (fits : FitsHyper b) (leads : AllLeadOn k n b.tail) where
   -- with addresses in the place of labels
   abbrev after : FlowBlock
@@ -98,10 +99,10 @@ module _ (at : Layout) (short : HasShortAddresses at) (n k : ℕ)
     target = m.target;
     targeted = m.targeted;
     cases = m.cases;
-    there = p;
-    back = q;
-    permutes = permutes;
-    placed = m.placed;
+    there = goes m.placed.to;
+    back = m.placed.permutes.back;
+    permutes = m.placed.permutes.permutes;
+    placed = m.placed.moved;
   }
 
 -- ALL BLOCKS
@@ -120,13 +121,13 @@ made_from (b ∷ B) (x ∷ us) (suc k) u s e =
     let f = made_from B us k u (omega (arith, s)) e in record { block = f.block; there = f.there }
 
 -- each has 128 slots
-pub sizes : (p : ℕ → ℕ) (B : List hyper.Block) (us : List Block) → AreMachineBlocks p B us
+pub sizes : (p : Placing) (B : List hyper.Block) (us : List Block) → AreMachineBlocks p B us
     → All (λ (u : Block). length u.insts.items ≡ 128) us
 sizes p B us all = all_by_index (λ (u : Block). length u.insts.items ≡ 128) us (λ k u e.
-    let f = made_from B us k u all.size e in (all.each k f.block u f.there e).placed.size)
+    let f = made_from B us k u all.size e in (all.each k f.block u f.there e).placed.moved.size)
 
 -- so they have few chunks
-pub chunks_few : (p : ℕ → ℕ) (B : List hyper.Block) (us : List Block) → FitsPasses B
+pub chunks_few : (p : Placing) (B : List hyper.Block) (us : List Block) → FitsPasses B
     → AreMachineBlocks p B us → AreFew us
 chunks_few p B us fits all =
     let n = all.size in
@@ -134,7 +135,7 @@ chunks_few p B us fits all =
     few_chunks us (omega (arith, n, l)) (sizes p B us all)
 
 pub gives_emitted : GivesEmitted
-gives_emitted p q B us permutes fits all =
+gives_emitted p B us fits all =
     let few = chunks_few p B us fits all in
     let n = all.size in
     let s = fits.some in
@@ -147,7 +148,7 @@ gives_emitted p q B us permutes fits all =
       followed = fits.followed;
       fit = fits.fit;
       each = λ k b u is_b is_u.
-          is_emitted (laid_out us) (has_places us few).low (length us) k p q permutes b u
+          is_emitted (laid_out us) (has_places us few).low (length us) k p b u
           (all.each k b u is_b is_u) (fits.fit k b is_b)
           (subst (λ (m : ℕ). AllLeadOn k m b.tail) (sym n) (fits.followed k b is_b));
     }

@@ -21,7 +21,8 @@ use Rattle.null_outputs.specs.Refusals as complete
 use Rattle.null_outputs.specs.Wants as wants
 use Rattle.fan_out.specs.Targeted.{HasRoom, IsTargeted}
 use Rattle.fan_out.specs.Refusals as target
-use Rattle.grid_place.specs.Moves.{IsMoved}
+use Rattle.grid_place.specs.declared.placed.Placing.{Placing}
+use Rattle.grid_place.specs.Placings.{IsPlaced}
 use Rattle.predication_limits.specs.Limits.{FitsMachine}
 use Rattle.predication_limits.proofs.Cheap.{exits_with}
 use Rattle.predication_limits.proofs.Programs.{only_memory}
@@ -52,9 +53,9 @@ has_room b r =
     let x = r.exits in
     record { numbers = r.numbers; exits = omega (arith, e, x) }
 
-pub passed : (p : ℕ → ℕ) (b : hyper.Block) (f g : FlowBlock) (t u : Block)
+pub passed : (p : Placing) (b : hyper.Block) (f g : FlowBlock) (t u : Block)
     → f ≡ predicated (labelled b) → HasRoomFor (counts_of (labelled b)) → g ≡ wants.complete f
-    → HasRoom g → IsTargeted g t → IsMoved p t u → IsPassed p b u
+    → HasRoom g → IsTargeted g t → IsPlaced p t u → IsPassed p b u
 passed p b f g t u is_f room is_g has is moved =
     let e : g ≡ flow_of b = is_g ∙ ap wants.complete is_f in
     record {
@@ -66,7 +67,7 @@ passed p b f g t u is_f room is_g has is moved =
     }
 
 -- what passes is the machine block of a block within all limits
-pub is_machine_block : (p : ℕ → ℕ) (b : hyper.Block) (u : Block) → IsPassed p b u → FitsMachine b
+pub is_machine_block : (p : Placing) (b : hyper.Block) (u : Block) → IsPassed p b u → FitsMachine b
     → IsMachineBlock p b u
 is_machine_block p b u h f = record {
   numbers = h.numbers;

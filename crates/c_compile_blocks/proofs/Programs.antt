@@ -1,6 +1,6 @@
 -- The machine blocks of a hyper program, one after the other.
 use Rattle.std.proofs.Common.{◌≡◌, ℕ, zero, suc, ◌+◌, ◌<◌, ◌≤◌, ◌⊎◌, inl, inr, List, [], ◌∷◌, ◌++◌, map}
-use Rattle.std.proofs.Common.{length, Some, None, slice_get, refl, sym, ap, subst, ◌∙◌, arith}
+use Rattle.std.proofs.Common.{length, Some, slice_get, refl, sym, ap, subst, ◌∙◌, arith}
 use Rattle.std.proofs.Common.{get_or, length-append}
 use Rattle.std.proofs.lemmas.Option.{slice_get-get_or}
 use Rattle.trips_isa.specs.declared.block.Block.{Block}
@@ -11,12 +11,13 @@ use Rattle.ir_forms.specs.HyperCode as hyper
 use Rattle.ir_forms.specs.HyperFits.{IsFollowed}
 use Rattle.ir_forms.specs.HyperViews.{block_of, tail_of}
 use Rattle.predication.specs.Outcomes.{NamesLabels}
+use Rattle.grid_place.specs.declared.placed.Placing.{Placing}
 use Rattle.c_compile_blocks.specs.Blocks.{IsPassed, AreFirstPassed, ArePassed, AreMachineBlocks}
 use Rattle.c_compile_blocks.specs.Refusals.{FitMachine, HasRefused, IsRefused}
 use Rattle.c_compile_blocks.proofs.Passes.{by_first, is_machine_block, names_labels, never_refused}
 
 -- none at first
-pub none_passed : (p : ℕ → ℕ) (B : List hyper.Block) (us : List Block) → us ≡ [] → AreFirstPassed p B 0 us
+pub none_passed : (p : Placing) (B : List hyper.Block) (us : List Block) → us ≡ [] → AreFirstPassed p B 0 us
 none_passed p B us e =
     subst (AreFirstPassed p B 0) (sym e) (record { size = refl; each = λ k b u is_b is_u. absurd (cc) })
 
@@ -34,7 +35,7 @@ pushed (z ∷ xs) x y (suc k) e = go (pushed xs x y k e)
     go (inr h) = inr (ap suc h.0, h.1)
 
 -- one more
-pub one_more : (p : ℕ → ℕ) (B : List hyper.Block) (n : ℕ) (us new : List Block) (b : hyper.Block) (u : Block)
+pub one_more : (p : Placing) (B : List hyper.Block) (n : ℕ) (us new : List Block) (b : hyper.Block) (u : Block)
     → AreFirstPassed p B n us → slice_get B n ≡ Some b → IsPassed p b u → new ≡ us ++ (u ∷ [])
     → AreFirstPassed p B (n + 1) new
 one_more p B n us new b u all is_b it e = subst (AreFirstPassed p B (n + 1)) (sym e) (record {
@@ -51,7 +52,7 @@ one_more p B n us new b u all is_b it e = subst (AreFirstPassed p B (n + 1)) (sy
         subst (λ (x : hyper.Block). IsPassed p x w) same (subst (IsPassed p b) h.1 it)
 
 -- all are machine blocks, where each hyper block is within all limits
-pub are_machine_blocks : (p : ℕ → ℕ) (B : List hyper.Block) (us : List Block) → ArePassed p B us
+pub are_machine_blocks : (p : Placing) (B : List hyper.Block) (us : List Block) → ArePassed p B us
     → FitMachine B → AreMachineBlocks p B us
 are_machine_blocks p B us all f = record {
   size = all.size;
@@ -59,7 +60,7 @@ are_machine_blocks p B us all f = record {
 }
 
 -- and none of them is refused
-pub none_refused : (p : ℕ → ℕ) (B : List hyper.Block) (e : FlowFault) → HasRefused p B e → FitMachine B
+pub none_refused : (p : Placing) (B : List hyper.Block) (e : FlowFault) → HasRefused p B e → FitMachine B
     → e ≡ Memory
 none_refused p B e h f = never_refused h.block e h.refused (f h.number h.block h.there)
 
@@ -83,7 +84,7 @@ labels_there bs k x l e f n =
 
 -- THE FIRST THAT IS REFUSED
 
-pub refused_there : (p : ℕ → ℕ) (bs : List HyperBlock) (k : ℕ) (x : HyperBlock) (us : List Block) (e : FlowFault)
+pub refused_there : (p : Placing) (bs : List HyperBlock) (k : ℕ) (x : HyperBlock) (us : List Block) (e : FlowFault)
     → k < length bs → x ≡ get_or bs k x → AreFirstPassed p (map block_of bs) k us → IsRefused (block_of x) e
     → HasRefused p (map block_of bs) e
 refused_there p bs k x us e l is all r = record {
@@ -96,7 +97,7 @@ refused_there p bs k x us e l is all r = record {
 }
 
 -- want of memory to keep a block is one of its refusals
-pub memory_there : (p : ℕ → ℕ) (bs : List HyperBlock) (k : ℕ) (x : HyperBlock) (us : List Block) (e : FlowFault)
+pub memory_there : (p : Placing) (bs : List HyperBlock) (k : ℕ) (x : HyperBlock) (us : List Block) (e : FlowFault)
     → k < length bs → x ≡ get_or bs k x → AreFirstPassed p (map block_of bs) k us → e ≡ Memory
     → HasRefused p (map block_of bs) e
 memory_there p bs k x us e l is all m =

@@ -9,11 +9,12 @@ use Rattle.block_cases.specs.Orders as orders
 use Rattle.ir_forms.specs.HyperCode as hyper
 use Rattle.fan_out.specs.declared.wiring.Placed.{Placed}
 use Rattle.fan_out.specs.Targeted.{slot_of, slots, count_insts}
-use Rattle.grid_place.specs.Moves.{renamed_inst}
+use Rattle.grid_place.specs.declared.placed.Placing.{Placing}
+use Rattle.grid_place.specs.Moves.{renamed_inst, goes}
 use Rattle.c_compile_layout.specs.Linking.{Resolves, resolved_slot, resolved_block, by_both}
 use Rattle.c_compile_layout.proofs.Linked.{index_map, came}
 use Rattle.c_compile_blocks.specs.Blocks.{flow_of, IsMachineBlock}
-use Rattle.c_compile_blocks.specs.Laws.{is_used, HasSlots, UsesSlots}
+use Rattle.c_compile_blocks.specs.Laws.{is_used, HasSlots, HasPlacedSlots, UsesSlots}
 use Rattle.c_compile_blocks.proofs.Emitted.{made_from}
 
 lt_true : (a b : ℕ) → a < b → nat_lt a b ≡ true
@@ -56,22 +57,26 @@ used_resolved : (r : Resolves) (i : Option Inst) → is_used (resolved_slot r i)
 used_resolved r None = refl
 used_resolved r (Some i) = refl
 
-has_slots : (r : Resolves) (p : ℕ → ℕ) (b : hyper.Block) (u : Block) → IsMachineBlock p b u
-    → HasSlots p (resolved_block r u)
+has_slots : (r : Resolves) (p : Placing) (b : hyper.Block) (u : Block) (m : IsMachineBlock p b u)
+    → HasSlots (goes m.placed.to) (resolved_block r u)
 has_slots r p b u m = record {
   count = count_insts (flow_of b);
   used = λ s.
-      ap is_used (index_map r u.insts.items (p s))
-      ∙ (used_resolved r (orders.slot_of u (p s))
-      ∙ (ap is_used (m.placed.insts s)
-      ∙ (used_renamed p (orders.slot_of m.target s)
+      ap is_used (index_map r u.insts.items (goes m.placed.to s))
+      ∙ (used_resolved r (orders.slot_of u (goes m.placed.to s))
+      ∙ (ap is_used (m.placed.moved.insts s)
+      ∙ (used_renamed (goes m.placed.to) (orders.slot_of m.target s)
       ∙ (ap (λ (is : List (Option Inst)). is_used (slice_index_or is s None)) m.targeted.insts
       ∙ first_used (slots (flow_of b)) (128 - length (slots (flow_of b))) s))));
 }
+
+has_placed_slots : (r : Resolves) (p : Placing) (b : hyper.Block) (u : Block) → IsMachineBlock p b u
+    → HasPlacedSlots p (resolved_block r u)
+has_placed_slots r p b u m = record { to = m.placed.to; is = m.placed.is; slots = has_slots r p b u m }
 
 pub uses_slots : UsesSlots
 uses_slots p B us all k t e =
     let c = came (chunk_of us) 0 us k t e in
     let f = made_from B us k c.block all.size c.there in
-    subst (λ (t : Block). HasSlots p t) c.is
-    (has_slots (by_both (chunk_of us) (0 + k)) p f.block c.block (all.each k f.block c.block f.there c.there))
+    subst (λ (t : Block). HasPlacedSlots p t) c.is
+    (has_placed_slots (by_both (chunk_of us) (0 + k)) p f.block c.block (all.each k f.block c.block f.there c.there))

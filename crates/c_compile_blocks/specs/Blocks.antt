@@ -12,7 +12,8 @@ use Rattle.predication.specs.Converted.{predicated}
 use Rattle.predication.specs.Laws as convert
 use Rattle.null_outputs.specs.Wants.{complete}
 use Rattle.fan_out.specs.Targeted.{HasRoom, IsTargeted}
-use Rattle.grid_place.specs.Moves.{IsMoved}
+use Rattle.grid_place.specs.declared.placed.Placing.{Placing}
+use Rattle.grid_place.specs.Placings.{IsPlaced}
 use Rattle.c_compile_layout.specs.Emitted.{most_blocks}
 
 -- the flow block of a hyper block: guards in place of branches, and a token for each output on every
@@ -20,9 +21,9 @@ use Rattle.c_compile_layout.specs.Emitted.{most_blocks}
 abbrev pub flow_of : hyper.Block → FlowBlock
 flow_of b = complete (predicated (labelled b))
 
--- u is the machine block that the passes make of a hyper block, where slot s goes to p s; it is
--- within the limits
-pub record IsMachineBlock (p : ℕ → ℕ) (b : hyper.Block) (u : Block) : Type 0 where
+-- u is the machine block that the passes make of a hyper block, in the slots that a placing says; it
+-- is within the limits
+pub record IsMachineBlock (p : Placing) (b : hyper.Block) (u : Block) : Type 0 where
   -- the loads and stores, and the exits
   pub numbers : convert.HasRoom b
   -- the instructions, reads and writes
@@ -31,29 +32,29 @@ pub record IsMachineBlock (p : ℕ → ℕ) (b : hyper.Block) (u : Block) : Type
   pub target : Block
   pub targeted : IsTargeted (flow_of b) target
   pub cases : cases (nodes_of target) ≤ 256
-  pub placed : IsMoved p target u
+  pub placed : IsPlaced p target u
 
 -- the same, whatever the number of its cases
-pub record IsPassed (p : ℕ → ℕ) (b : hyper.Block) (u : Block) : Type 0 where
+pub record IsPassed (p : Placing) (b : hyper.Block) (u : Block) : Type 0 where
   pub numbers : convert.HasRoom b
   pub room : HasRoom (flow_of b)
   pub target : Block
   pub targeted : IsTargeted (flow_of b) target
-  pub placed : IsMoved p target u
+  pub placed : IsPlaced p target u
 
 -- us are those of the first n blocks of a hyper program
-pub record AreFirstPassed (p : ℕ → ℕ) (B : List hyper.Block) (n : ℕ) (us : List Block) : Type 0
+pub record AreFirstPassed (p : Placing) (B : List hyper.Block) (n : ℕ) (us : List Block) : Type 0
   where
     pub size : length us ≡ n
     pub each : (k : ℕ) (b : hyper.Block) (u : Block) → slice_get B k ≡ Some b
         → slice_get us k ≡ Some u → IsPassed p b u
 
 -- us are those of a hyper program
-abbrev pub ArePassed : (ℕ → ℕ) → List hyper.Block → List Block → Type 0
+abbrev pub ArePassed : Placing → List hyper.Block → List Block → Type 0
 ArePassed p B us = AreFirstPassed p B (length B) us
 
 -- us are the machine blocks of a hyper program
-pub record AreMachineBlocks (p : ℕ → ℕ) (B : List hyper.Block) (us : List Block) : Type 0 where
+pub record AreMachineBlocks (p : Placing) (B : List hyper.Block) (us : List Block) : Type 0 where
   pub size : length us ≡ length B
   pub each : (k : ℕ) (b : hyper.Block) (u : Block) → slice_get B k ≡ Some b
       → slice_get us k ≡ Some u → IsMachineBlock p b u

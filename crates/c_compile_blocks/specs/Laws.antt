@@ -4,16 +4,18 @@ use Rattle.trips_isa.specs.declared.block.Inst.{Inst}
 use Rattle.trips_isa.specs.declared.block.Block.{Block}
 use Rattle.block_cases.specs.Orders.{slot_of}
 use Rattle.ir_forms.specs.HyperCode as hyper
-use Rattle.grid_place.specs.Moves.{Permutes}
+use Rattle.grid_place.specs.declared.placed.Placing.{Placing}
+use Rattle.grid_place.specs.Moves.{goes}
+use Rattle.grid_place.specs.Placings.{IsPlacing}
 use Rattle.c_compile_layout.specs.Layouts.{linked}
 use Rattle.c_compile_layout.specs.Emitted.{AreEmitted}
 use Rattle.c_compile_blocks.specs.Blocks.{AreMachineBlocks, FitsPasses}
 
--- whatever permutation the blocks are placed by, the layout takes them
+-- whatever permutation each block is placed by, the layout takes them
 abbrev pub GivesEmitted : Type 0
 GivesEmitted =
-    (p q : ℕ → ℕ) (B : List hyper.Block) (us : List Block) → Permutes p q → FitsPasses B
-    → AreMachineBlocks p B us → AreEmitted B us
+    (p : Placing) (B : List hyper.Block) (us : List Block) → FitsPasses B → AreMachineBlocks p B us
+    → AreEmitted B us
 
 -- SLOTS
 
@@ -26,8 +28,14 @@ pub record HasSlots (p : ℕ → ℕ) (t : Block) : Type 0 where
   pub count : ℕ
   pub used : (s : ℕ) → is_used (slot_of t (p s)) ≡ nat_lt s count
 
+-- the used slots of a block are those to which its placing took the first: by a seed, those of the seed's shuffle
+pub record HasPlacedSlots (p : Placing) (t : Block) : Type 0 where
+  pub to : List ℕ
+  pub is : IsPlacing p to
+  pub slots : HasSlots (goes to) t
+
 -- so are those of each block of the image
 abbrev pub UsesSlots : Type 0
 UsesSlots =
-    (p : ℕ → ℕ) (B : List hyper.Block) (us : List Block) → AreMachineBlocks p B us
-    → (k : ℕ) (t : Block) → slice_get (linked us) k ≡ Some t → HasSlots p t
+    (p : Placing) (B : List hyper.Block) (us : List Block) → AreMachineBlocks p B us
+    → (k : ℕ) (t : Block) → slice_get (linked us) k ≡ Some t → HasPlacedSlots p t

@@ -1,5 +1,5 @@
 -- The first pass that refuses a hyper block, and the first hyper block that is refused.
-use Rattle.std.specs.Prelude.{◌≡◌, ◌⊎◌, ℕ, ◌<◌, List, Some, slice_get}
+use Rattle.std.specs.Prelude.{◌≡◌, ◌⊎◌, ℕ, List, Some, slice_get}
 use Rattle.trips_isa.specs.declared.block.Block.{Block}
 use Rattle.ir_forms.specs.declared.fault.FlowFault.{FlowFault}
 use Rattle.ir_forms.specs.HyperCode as hyper
@@ -11,6 +11,7 @@ use Rattle.null_outputs.specs.Refusals.{IsWithinLimits}
 use Rattle.null_outputs.specs.Refusals as complete
 use Rattle.fan_out.specs.Refusals as target
 use Rattle.predication_limits.specs.Limits.{FitsMachine}
+use Rattle.grid_place.specs.declared.placed.Placing.{Placing}
 use Rattle.c_compile_blocks.specs.Blocks.{flow_of, AreFirstPassed}
 
 -- completing refuses what predication gives
@@ -30,7 +31,7 @@ pub record IsRefused (b : hyper.Block) (e : FlowFault) : Type 0 where
   pub first : convert.IsRefusal (counts_of (labelled b)) e ⊎ IsIncomplete b e ⊎ IsUntargeted b e
 
 -- the first block of a hyper program that is refused; those before it pass
-pub record HasRefused (p : ℕ → ℕ) (B : List hyper.Block) (e : FlowFault) : Type 0 where
+pub record HasRefused (p : Placing) (B : List hyper.Block) (e : FlowFault) : Type 0 where
   pub number : ℕ
   pub block : hyper.Block
   pub there : slice_get B number ≡ Some block

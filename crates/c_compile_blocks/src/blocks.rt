@@ -4,8 +4,6 @@ ghost use Rattle.ir_forms.specs.declared.fault.FlowFault.TheVariants.{Memory};
 ghost use Rattle.ir_forms.specs.HyperFits.{IsFollowed};
 ghost use Rattle.ir_forms.specs.HyperViews.{block_of, blocks_of, tail_of};
 ghost use Rattle.predication.specs.Outcomes.{NamesLabels};
-ghost use Rattle.grid_place.specs.Moves.{goes};
-ghost use Rattle.grid_place.specs.Seeded.{list_of};
 ghost use Rattle.predication_limits.specs.Limits.{FitsMachine};
 ghost use Rattle.c_compile_blocks.specs.Blocks.{ArePassed, AreMachineBlocks, IsMachineBlock, IsPassed};
 ghost use Rattle.c_compile_blocks.specs.Refusals.{FitMachine, HasRefused, IsRefused};
@@ -31,10 +29,10 @@ pub fn machine_block(
     placing: Placing,
 ) -> Result<Block, FlowFault>
     requires labels { NamesLabels (tail_of block.now.tail) }
-    ensures ok { IfOk result (λ u. IsPassed (goes (list_of placing)) (block_of block.now) u) }
+    ensures ok { IfOk result (λ u. IsPassed placing (block_of block.now) u) }
     ensures err { IfErr result (λ e. IsRefused (block_of block.now) e) }
     ensures machine { IfOk result (λ u. FitsMachine (block_of block.now)
-        → IsMachineBlock (goes (list_of placing)) (block_of block.now) u) }
+        → IsMachineBlock placing (block_of block.now) u) }
     ensures fits { IfErr result (λ e. FitsMachine (block_of block.now) → e ≡ Memory) }
 {
     let flow = complete(alloc, convert(alloc, block)?)?;
@@ -63,9 +61,9 @@ fn all_blocks(
 ) -> Result<Items<Block>, FlowFault>
     requires followed { IsFollowed (map block_of program.now) }
     requires few { length (map block_of program.now) ≤ 524288 }
-    ensures ok { IfOk result (λ us. ArePassed (goes (list_of placing)) (map block_of program.now) us) }
+    ensures ok { IfOk result (λ us. ArePassed placing (map block_of program.now) us) }
     ensures err { IfErr result (λ e.
-        HasRefused (goes (list_of placing)) (map block_of program.now) e) }
+        HasRefused placing (map block_of program.now) e) }
 {
     let mut blocks = Items::new(alloc);
     for block in program {
@@ -82,10 +80,10 @@ pub fn machine_blocks(
 ) -> Result<Items<Block>, FlowFault>
     requires followed { IsFollowed (blocks_of program.now) }
     requires few { length (blocks_of program.now) ≤ 524288 }
-    ensures ok { IfOk result (λ us. ArePassed (goes (list_of placing)) (blocks_of program.now) us) }
-    ensures err { IfErr result (λ e. HasRefused (goes (list_of placing)) (blocks_of program.now) e) }
+    ensures ok { IfOk result (λ us. ArePassed placing (blocks_of program.now) us) }
+    ensures err { IfErr result (λ e. HasRefused placing (blocks_of program.now) e) }
     ensures machine { IfOk result (λ us. FitMachine (blocks_of program.now)
-        → AreMachineBlocks (goes (list_of placing)) (blocks_of program.now) us) }
+        → AreMachineBlocks placing (blocks_of program.now) us) }
     ensures fits { IfErr result (λ e. FitMachine (blocks_of program.now) → e ≡ Memory) }
 {
     all_blocks(alloc, program.blocks.as_slice(), placing)

@@ -1,12 +1,12 @@
 ghost use Rattle.c_compile_blocks.specs.Laws.{GivesEmitted, UsesSlots};
 
 /// The machine blocks that the passes make of a hyper program are what the layout takes, whatever
-/// permutation they are placed by: so their image means the program.
+/// permutation each is placed by: so their image means the program.
 pub fn machine_blocks_are_emitted()
     ensures { GivesEmitted }
 {}
 
-/// The used slots of a block of m instructions in the image are those to which the placing takes the
+/// The used slots of a block of m instructions in the image are those to which its placing took the
 /// first m.
 pub fn placed_blocks_use_slots()
     ensures { UsesSlots }

@@ -1,7 +1,7 @@
 -- Blocks that passed, whatever the number of their cases: their image fits, and where each of its blocks is
 -- good they are machine blocks.
-use Rattle.std.proofs.Common.{◌≡◌, ℕ, zero, suc, ◌+◌, ◌*◌, ◌<◌, ◌≤◌, true, List, [], ◌∷◌, map, length, Some, None}
-use Rattle.std.proofs.Common.{Option, slice_get, refl, sym, ap, ap₂, subst, ◌∙◌, arith, get_or}
+use Rattle.std.proofs.Common.{◌≡◌, ℕ, zero, suc, ◌+◌, ◌*◌, ◌<◌, ◌≤◌, true, List, [], ◌∷◌, map, length, Some}
+use Rattle.std.proofs.Common.{slice_get, refl, sym, ap, ap₂, subst, ◌∙◌, arith}
 use Rattle.std.specs.List.{All, sum_by}
 use Rattle.std.proofs.lemmas.List.Sums.{sum_by-cons}
 use Rattle.std.proofs.lemmas.Option.{slice_get_within, get_or_from_slice_get}
@@ -37,7 +37,8 @@ use Rattle.fan_out.specs.Targeted.{IsTargeted}
 use Rattle.fan_out.proofs.Given.{given}
 use Rattle.fan_out.proofs.Totals.{Given}
 use Rattle.fan_out.proofs.Ordering.{fits_block}
-use Rattle.grid_place.specs.Moves.{Permutes, IsMoved}
+use Rattle.grid_place.specs.declared.placed.Placing.{Placing}
+use Rattle.grid_place.specs.Moves.{Permutes, IsMoved, goes}
 use Rattle.grid_place.proofs.StillFits.{still_fits}
 use Rattle.grid_place.proofs.StillInOrder.{still_good}
 use Rattle.c_compile_layout.specs.Linking.{Resolves, resolved_node, resolved, resolved_block, by_offset, by_address}
@@ -56,7 +57,7 @@ use Rattle.c_compile_blocks.specs.Blocks.{flow_of, IsPassed, ArePassed, AreMachi
 use Rattle.c_compile_blocks.proofs.BranchLabels.{labels_below}
 use Rattle.c_compile_blocks.proofs.Emitted.{made_from}
 use Rattle.c_compile_blocks.proofs.Resolving.{resolved_same, completed_resolved, completed_below, all_by_index}
-use Rattle.c_compile_checked.specs.Checked.{AreChecked, CheckedImagesAreOfMachineBlocks}
+use Rattle.c_compile_checked.specs.Checked.{CheckedImagesAreOfMachineBlocks}
 use Rattle.c_compile_checked.proofs.MovedBack.{turned, moved_back}
 
 -- STORES
@@ -91,9 +92,19 @@ both_are chunk k f = ap (λ ns. record f { nodes = ns }) (twice chunk k f.nodes)
 
 -- A BLOCK
 
-module _ (us : List Block) (few : AreFew us) (k : ℕ) (low : k < length us) (p q : ℕ → ℕ) (permutes : Permutes p q)
-    (b : hyper.Block) (u : Block) (m : IsPassed p b u) (fits : FitsHyper b)
+module _ (us : List Block) (few : AreFew us) (k : ℕ) (low : k < length us) (pl : Placing)
+    (b : hyper.Block) (u : Block) (m : IsPassed pl b u) (fits : FitsHyper b)
     (leads : AllLeadOn k (length us) b.tail) where
+  -- where each slot goes, and back
+  abbrev p : ℕ → ℕ
+  p = goes m.placed.to
+
+  abbrev q : ℕ → ℕ
+  q = m.placed.permutes.back
+
+  permutes : Permutes p q
+  permutes = m.placed.permutes.permutes
+
   abbrev named : Resolves
   named = by_address (laid_out us).address
 
@@ -153,7 +164,7 @@ module _ (us : List Block) (few : AreFew us) (k : ℕ) (low : k < length us) (p 
   fits_target = fits_block linked_flow all (resolved_block both m.target) is
 
   moved : IsMoved p (resolved_block both m.target) (resolved_block both u)
-  moved = moved_resolved both p m.target u m.placed
+  moved = moved_resolved both p m.target u m.placed.moved
 
   pub fits_there : FitsBlock (resolved_block both u)
   fits_there = still_fits p q (resolved_block both m.target) (resolved_block both u) fits_target permutes moved
@@ -197,12 +208,12 @@ module _ (chunk : ℕ → ℕ) where
 all_at : {A : Type 0} (P : A → Type 0) (xs : List A) (k : ℕ) (x : A) → All P xs → slice_get xs k ≡ Some x → P x
 all_at P xs k x h e = subst P (get_or_from_slice_get xs k x x e) (h k x (slice_get_within xs k x e))
 
-module _ (B : List hyper.Block) (us : List Block) (p q : ℕ → ℕ) (permutes : Permutes p q) (fits : FitsPasses B)
+module _ (B : List hyper.Block) (us : List Block) (p : Placing) (fits : FitsPasses B)
     (passed : ArePassed p B us) where
   -- each has 128 slots
   pub sizes : All (λ (u : Block). length u.insts.items ≡ 128) us
   sizes = all_by_index (λ (u : Block). length u.insts.items ≡ 128) us (λ k u e.
-      let f = made_from B us k u passed.size e in (passed.each k f.block u f.there e).placed.size)
+      let f = made_from B us k u passed.size e in (passed.each k f.block u f.there e).placed.moved.size)
 
   pub at_most_128 : All (λ (u : Block). length u.insts.items ≤ 128) us
   at_most_128 = λ i d l. let e = sizes i d l in omega (arith, e)
@@ -224,7 +235,7 @@ module _ (B : List hyper.Block) (us : List Block) (p q : ℕ → ℕ) (permutes 
       ap (λ (n : ℕ). resolved_block (by_both (chunk_of us) n) c.block) (sym z) ∙ c.is in
       let f = made_from B us k c.block passed.size c.there in
       subst FitsBlock is
-      (fits_there us few k (slice_get_within us k c.block c.there) p q permutes f.block c.block
+      (fits_there us few k (slice_get_within us k c.block c.there) p f.block c.block
       (passed.each k f.block c.block f.there c.there) (fits.fit k f.block f.there) (leads k f.block f.there))
 
   -- their image fits
@@ -258,16 +269,16 @@ module _ (B : List hyper.Block) (us : List Block) (p q : ℕ → ℕ) (permutes 
           room = it.room;
           target = it.target;
           targeted = it.targeted;
-          cases = few_cases us few k (slice_get_within us k u is_u) p q permutes b u it (fits.fit k b is_b)
+          cases = few_cases us few k (slice_get_within us k u is_u) p b u it (fits.fit k b is_b)
               (leads k b is_b) g;
           placed = it.placed;
         };
   }
 
 pub are_checked : CheckedImagesAreOfMachineBlocks
-are_checked p q B us bytes permutes fits all a l = record {
-  sizes = at_most_128 B us p q permutes fits all;
-  few = few B us p q permutes fits all;
-  fits = fits_image B us p q permutes fits all bytes a l;
-  machine = are_machine_blocks B us p q permutes fits all bytes;
+are_checked p B us bytes fits all a l = record {
+  sizes = at_most_128 B us p fits all;
+  few = few B us p fits all;
+  fits = fits_image B us p fits all bytes a l;
+  machine = are_machine_blocks B us p fits all bytes;
 }

@@ -7,13 +7,14 @@ use Rattle.ir_forms.specs.FlatCode.{Program}
 use Rattle.ir_forms.specs.Frames.{frame_limit}
 use Rattle.hyper_build.specs.Laws.{built_program, plan_of}
 use Rattle.hyper_build.proofs.Assigned.{gives_assigned}
+use Rattle.grid_place.specs.declared.placed.Placing.{Placing}
 use Rattle.c_compile_layout.proofs.Linked.{made, good_image}
 use Rattle.c_compile_blocks.proofs.UsedSlots.{uses_slots}
 use Rattle.c_compile_laws.specs.Bounds.{HasBounds}
 use Rattle.c_compile_laws.specs.Compiled.{FlatMeans, IsCompiled}
 use Rattle.c_compile_laws.proofs.Compiled.{data_fits, emitted}
 
-pub has_bounds : (P : TypedProgram) (F : Program) (t : ℕ) (p : ℕ → ℕ) (i : Image)
+pub has_bounds : (P : TypedProgram) (F : Program) (t : ℕ) (p : Placing) (i : Image)
     → FlatMeans P F t → IsCompiled F p i → HasBounds t p i
 has_bounds P F t p i m c =
     let B = built_program (plan_of c.cuts c.joins c.groups) F in

@@ -25,6 +25,7 @@ use Rattle.hyper_build.specs.Tree.{annotated_all, Routine}
 use Rattle.hyper_build.specs.Whole.{EndsSo, Stops, IsUnended}
 use Rattle.hyper_build.specs.Laws.{built_program, plan_of}
 use Rattle.hyper_build.proofs.Assigned.{keeps_assigned, gives_assigned}
+use Rattle.grid_place.specs.declared.placed.Placing.{Placing}
 use Rattle.c_compile_layout.specs.Layouts.{laid_out}
 use Rattle.c_compile_layout.specs.Emitted.{AreEmitted}
 use Rattle.c_compile_layout.specs.Standings.{standing_of}
@@ -50,7 +51,7 @@ built_some : (base : ℕ) (fs : List Routine) (main : ℕ) → 1 ≤ length (bui
 built_some base fs main = omega arith
 
 -- the passes take the blocks that are built of a flat program
-pub blocks_pass : (P : TypedProgram) (F : Program) (t : ℕ) (p : ℕ → ℕ) (i : Image) → FlatMeans P F t
+pub blocks_pass : (P : TypedProgram) (F : Program) (t : ℕ) (p : Placing) (i : Image) → FlatMeans P F t
     → (c : IsCompiled F p i) → FitsPasses (built_program (plan_of c.cuts c.joins c.groups) F)
 blocks_pass P F t p i m c =
     let shape = gives_assigned c.cuts c.joins F c.lists c.groups m.fits c.assigned in
@@ -64,7 +65,7 @@ blocks_pass P F t p i m c =
       fit = shape.fit (omega (arith, n, b, f));
     }
 
-module _ (P : TypedProgram) (F : Program) (t : ℕ) (p : ℕ → ℕ) (i : Image)
+module _ (P : TypedProgram) (F : Program) (t : ℕ) (p : Placing) (i : Image)
     (m : FlatMeans P F t) (c : IsCompiled F p i) where
   abbrev program : List hyper.Block
   program = built_program (plan_of c.cuts c.joins c.groups) F
@@ -73,7 +74,7 @@ module _ (P : TypedProgram) (F : Program) (t : ℕ) (p : ℕ → ℕ) (i : Image
   at = laid_out c.blocks
 
   pub emitted : AreEmitted program c.blocks
-  emitted = gives_emitted p c.back program c.blocks c.permutes (blocks_pass P F t p i m c) c.made
+  emitted = gives_emitted p program c.blocks (blocks_pass P F t p i m c) c.made
 
   found_again : IsFaithful at (length program)
   found_again =

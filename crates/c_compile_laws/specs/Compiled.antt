@@ -11,7 +11,7 @@ use Rattle.ir_forms.specs.FlatRuns.{checked, flat_run}
 use Rattle.flat_lower.specs.Keeps.{IsInput, Keeps}
 use Rattle.reg_assign.specs.Keeps.{KeepsTameRuns}
 use Rattle.hyper_build.specs.Laws.{built_program, plan_of, AreAssigned}
-use Rattle.grid_place.specs.Moves.{Permutes}
+use Rattle.grid_place.specs.declared.placed.Placing.{Placing}
 use Rattle.c_compile_layout.specs.Emitted.{image_of}
 use Rattle.c_compile_blocks.specs.Blocks.{AreMachineBlocks}
 
@@ -27,8 +27,8 @@ pub record FlatMeans (P : TypedProgram) (F : Program) (t : ℕ) : Type 0 where
   pub blocks : code_blocks_of_all F.functions ≤ 12 * t
 
 -- i is the image that the passes make of F: its calls keep what must be kept, its blocks end and its
--- ifs are joined where the answers of some plan say, and slot s of each goes to p s
-pub record IsCompiled (F : Program) (p : ℕ → ℕ) (i : Image) : Type 0 where
+-- ifs are joined where the answers of some plan say, and each stands in the slots that a placing says
+pub record IsCompiled (F : Program) (p : Placing) (i : Image) : Type 0 where
   -- the variables that each call keeps, and their groups
   pub lists : List (List ℕ)
   pub groups : List (List (List ℕ))
@@ -38,7 +38,5 @@ pub record IsCompiled (F : Program) (p : ℕ → ℕ) (i : Image) : Type 0 where
   pub cuts : List Bool
   pub joins : List Bool
   pub blocks : List Block
-  pub back : ℕ → ℕ
-  pub permutes : Permutes p back
   pub made : AreMachineBlocks p (built_program (plan_of cuts joins groups) F) blocks
   pub is : i ≡ image_of blocks F.bytes

@@ -3,10 +3,11 @@ use Rattle.std.specs.Prelude.{ℕ}
 use Rattle.trips_isa.specs.declared.block.Image.{Image}
 use Rattle.c_tree.specs.declared.typed.TypedProgram.{TypedProgram}
 use Rattle.ir_forms.specs.FlatCode.{Program}
+use Rattle.grid_place.specs.declared.placed.Placing.{Placing}
 use Rattle.c_compile_laws.specs.Compiled.{FlatMeans, IsCompiled}
 
--- of the image i of a program P, of a text of t tokens, where slot s of each block goes to p s
-abbrev pub OfCompiled : (TypedProgram → ℕ → (ℕ → ℕ) → Image → Type 0) → Type 0
+-- of the image i of a program P, of a text of t tokens, whose blocks stand in the slots that a placing p says
+abbrev pub OfCompiled : (TypedProgram → ℕ → Placing → Image → Type 0) → Type 0
 OfCompiled Says =
-    (P : TypedProgram) (F : Program) (t : ℕ) (p : ℕ → ℕ) (i : Image) → FlatMeans P F t
+    (P : TypedProgram) (F : Program) (t : ℕ) (p : Placing) (i : Image) → FlatMeans P F t
     → IsCompiled F p i → Says P t p i

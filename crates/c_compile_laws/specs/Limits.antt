@@ -7,7 +7,8 @@ use Rattle.ir_forms.specs.HyperCode as hyper
 use Rattle.hyper_build.specs.Laws.{built_program, plan_of, AreAssigned}
 use Rattle.predication_limits.specs.Limits.{FitsMachine}
 use Rattle.fan_out.specs.Targeted.{IsTargeted}
-use Rattle.grid_place.specs.Moves.{IsMoved}
+use Rattle.grid_place.specs.declared.placed.Placing.{Placing}
+use Rattle.grid_place.specs.Placings.{IsPlaced}
 use Rattle.c_compile_blocks.specs.Blocks.{flow_of, IsMachineBlock}
 use Rattle.c_compile_laws.specs.Compiled.{FlatMeans}
 
@@ -15,7 +16,7 @@ use Rattle.c_compile_laws.specs.Compiled.{FlatMeans}
 -- whatever they make of it is its machine block.
 pub record TakesBlock (b : hyper.Block) : Type 0 where
   pub fits : FitsMachine b
-  pub is : (p : ℕ → ℕ) (t u : Block) → IsTargeted (flow_of b) t → IsMoved p t u → IsMachineBlock p b u
+  pub is : (p : Placing) (t u : Block) → IsTargeted (flow_of b) t → IsPlaced p t u → IsMachineBlock p b u
 
 abbrev pub TakesCuts : Type 0
 TakesCuts =

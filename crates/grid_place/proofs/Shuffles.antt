@@ -13,7 +13,8 @@ use Rattle.rand_pcg.specs.Pcg.{multiplier_64, pcg32}
 use Rattle.grid_place.specs.declared.placed.Placing.{Placing}
 use Rattle.grid_place.specs.declared.placed.Placing.TheVariants.{Greedy, Seeded}
 use Rattle.grid_place.specs.Moves.{KeepsSlots, IsPermutation, goes}
-use Rattle.grid_place.specs.Seeded.{counted, in_place, shuffled, generator, seeded, list_of}
+use Rattle.grid_place.specs.Placings.{IsPlacing}
+use Rattle.grid_place.specs.Seeded.{counted, in_place, shuffled, generator, seeded}
 
 same_or : (a b : ℕ) → (a ≡ b) ⊎ (a ≡ b → ⊥)
 same_or a b = by (a == b) refl
@@ -225,6 +226,7 @@ unfolding shuffled
 none_left zero g p l = refl
 none_left (suc i) g p l = absurd (omega arith)
 
-pub placing_permutes : (placing : Placing) → IsPermutation (list_of placing)
-placing_permutes Greedy = in_place_permutes
-placing_permutes (Seeded seed) = seeded_permutes seed
+-- so is each list of a placing
+pub placing_permutes : (placing : Placing) (to : List ℕ) → IsPlacing placing to → IsPermutation to
+placing_permutes Greedy to h = h
+placing_permutes (Seeded seed) to e = subst IsPermutation (sym e) (seeded_permutes seed)

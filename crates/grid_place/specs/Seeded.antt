@@ -3,8 +3,6 @@ use Rattle.std.specs.Prelude.{ℕ, zero, suc, ◌+◌, ◌%◌, List, [], ◌∷
 use Rattle.std.specs.List.{swap}
 use Rattle.rand_pcg.specs.Lcg.{Lcg, started, increment_of}
 use Rattle.rand_pcg.specs.Pcg.{multiplier_64, pcg32}
-use Rattle.grid_place.specs.declared.placed.Placing.{Placing}
-use Rattle.grid_place.specs.declared.placed.Placing.TheVariants.{Greedy, Seeded}
 
 -- n numbers from k on
 abbrev pub counted : ℕ → ℕ → List ℕ
@@ -28,8 +26,3 @@ generator seed = started 64 multiplier_64 seed (increment_of 64 3)
 -- where each slot goes by a seed
 unfoldable pub seeded : ℕ → List ℕ
 seeded seed = shuffled 127 (generator seed) in_place
-
--- where each slot goes by a placing
-abbrev pub list_of : Placing → List ℕ
-list_of Greedy = in_place
-list_of (Seeded seed) = seeded seed

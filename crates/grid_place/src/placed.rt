@@ -1,5 +1,5 @@
 //! Blocks placed on the grid.
-ghost use Rattle.std.specs.Prelude.{◌≡◌, List, ℕ, IfOk};
+ghost use Rattle.std.specs.Prelude.{◌≡◌, List, ℕ, IfOk, length};
 ghost use Rattle.trips_isa.specs.declared.block.Block.{Block};
 ghost use Rattle.trips_isa.specs.Fits.{FitsBlock};
 ghost use Rattle.trips_isa.specs.Tables.{deepest};
@@ -8,9 +8,9 @@ ghost use Rattle.trips_isa.specs.Acts.{IsClean};
 ghost use Rattle.trips_isa.specs.Outcomes.{plain};
 ghost use Rattle.block_cases.specs.Good.{GoodBlock};
 ghost use Rattle.grid_place.specs.Moves.{HasSizes, IsPermutation, IsMoved, goes};
-ghost use Rattle.grid_place.specs.Seeded.{list_of};
+ghost use Rattle.grid_place.specs.Placings.{IsPlaced, IsPlacing};
 
-use crate::{shuffle, slots};
+use crate::{placement, shuffle, slots};
 use arrayvec::ArrayVec;
 use base::Memory;
 use std::alloc::Global;
@@ -19,7 +19,7 @@ use trips_isa::Block;
 /// How the slots of a block are permuted.
 #[derive(Clone, Copy, Debug, PartialEq, Eq)]
 pub enum Placing {
-    /// Every instruction stays in its slot.
+    /// Each instruction on the tile on which it is expected to be done first.
     Greedy,
     /// By the shuffle of a seed.
     Seeded(u64),
@@ -45,14 +45,25 @@ fn moved(block: &Block, to: &[u8]) -> Block
     }
 }
 
+// Where each slot of a block goes.
+fn permute(to: &mut [u8], block: &Block, placing: Placing)
+    requires { length to.old ≡ 128 }
+    ensures placing { IsPlacing placing to.new }
+    ensures permutes { IsPermutation to.new }
+{
+    match placing {
+        Placing::Greedy => placement::greedy(to, block),
+        Placing::Seeded(seed) => shuffle::seeded(to, seed),
+    }
+}
+
 /// The block with its slots permuted, every target renamed with them. No memory is taken.
 ///
 /// Nothing is asked of its fields: a block whose immediates hold labels is placed too. What is said
 /// of its meaning then holds once the immediates fit, by the laws of src/law.rt.
 pub fn place(_alloc: Global, block: &Block, placing: Placing) -> Result<Block, Memory>
     requires { HasSizes block.now }
-    ensures moved { IfOk result (λ c. IsMoved (goes (list_of placing)) block.now c) }
-    ensures permutes { IsPermutation (list_of placing) }
+    ensures placed { IfOk result (λ c. IsPlaced placing block.now c) }
     ensures meaning { IfOk result (λ c. FitsBlock block.now → GoodBlock block.now
         → (blocks : List Block) (k : ℕ) (regs mem : List ℕ)
         → plain blocks k c regs mem ≡ plain blocks k block.now regs mem) }
@@ -63,9 +74,6 @@ pub fn place(_alloc: Global, block: &Block, placing: Placing) -> Result<Block, M
     ensures good { IfOk result (λ c. FitsBlock block.now → GoodBlock block.now → GoodBlock c) }
 {
     let mut to = [0u8; 128];
-    match placing {
-        Placing::Greedy => shuffle::in_place(&mut to),
-        Placing::Seeded(seed) => shuffle::seeded(&mut to, seed),
-    }
+    permute(&mut to, block, placing);
     Ok(moved(block, &to))
 }

@@ -22,6 +22,7 @@ use Rattle.c_compile.proofs.Images.{images_mean}
 use Rattle.trips_run.specs.declared.status.Status.{Status}
 use Rattle.trips_run.specs.declared.status.Status.TheVariants as status
 use Rattle.trips_run.specs.Request.{Request, origin_held}
+use Rattle.grid_place.specs.declared.placed.Placing.{Placing}
 use Rattle.trips_run.specs.Read.{HoldsInput}
 use Rattle.trips_report.specs.Runs.{output_and}
 use Rattle.trips_run.specs.Report.{ending_of, run_report}
@@ -31,7 +32,7 @@ use Rattle.trips_run.specs.Evaluated.{SaysOf, HasNotEnded, RunEndsAs}
 use Rattle.trips_run.proofs.Results.{signed_number}
 
 -- an image of a text has a block
-pub has_blocks : (text : List ℕ) (p : ℕ → ℕ) (i : Image) → IsImageOf text p i → 0 < length i.blocks
+pub has_blocks : (text : List ℕ) (p : Placing) (i : Image) → IsImageOf text p i → 0 < length i.blocks
 has_blocks text p i is = let good = (images_mean text p i is).bounds.good in omega (arith, good.fits.some)
 
 -- a run that has settled stands so at each later number of blocks

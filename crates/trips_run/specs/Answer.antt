@@ -12,9 +12,8 @@ use Rattle.c_front.specs.declared.refusal.Refusal.TheVariants.{Memory}
 use Rattle.c_front.specs.Fronts.{IsAccepted}
 use Rattle.c_compile.specs.Images.{IsImageOf}
 use Rattle.flat_lower.specs.Keeps as bytes
+use Rattle.grid_place.specs.declared.placed.Placing.{Placing}
 use Rattle.grid_place.specs.declared.placed.Placing.TheVariants.{Greedy}
-use Rattle.grid_place.specs.Moves.{goes}
-use Rattle.grid_place.specs.Seeded.{list_of}
 use Rattle.c_meaning_spec.specs.Eval.{eval}
 use Rattle.c_meaning.specs.declared.outcome.Outcome.{Outcome}
 use Rattle.c_meaning.specs.declared.outcome.Outcome.TheVariants as outcome
@@ -83,9 +82,9 @@ abbrev pub IsEvaluationOf : ℕ → List ℕ → List ℕ → Status → List �
 IsEvaluationOf most text input s report = (program : TypedProgram) × IsAccepted text program
     × IsEvaluation program input most s report
 
--- where slot s of each block of a compiled program stands
-unfoldable pub placed : ℕ → ℕ
-placed = goes (list_of Greedy)
+-- how the blocks of a compiled program are placed
+unfoldable pub placed : Placing
+placed = Greedy
 
 -- the image that is compiled from the text is run, on an input of bytes
 abbrev pub IsRunOfText : ℕ → List ℕ → List ℕ → Status → List ℕ → Type 0

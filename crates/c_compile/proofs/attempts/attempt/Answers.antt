@@ -7,9 +7,6 @@ use Rattle.trips_isa.specs.Images.{FitsImage}
 use Rattle.block_cases.specs.Good.{GoodBlock}
 use Rattle.ir_forms.specs.FlatViews.{program_of}
 use Rattle.ir_forms.specs.HyperViews.{blocks_of}
-use Rattle.grid_place.specs.Moves.{goes}
-use Rattle.grid_place.specs.Seeded.{list_of}
-use Rattle.grid_place.proofs.Shuffles.{placing_permutes}
 use Rattle.c_compile_layout.specs.Emitted.{image_of}
 use Rattle.c_compile_laws.specs.Compiled.{IsCompiled}
 use Rattle.c_compile.proofs.TriedPlans.{followed, low, checked, is_compiled}
@@ -30,8 +27,8 @@ image_or_none-requires c =
     let g = c.args.assigned.now in
     let us = c.in-Ok.blocks in
     let ready = checked (program_of g.flat) g.live g.groups c.requires.fits c.requires.assigned c.requires.few
-    c.args.plan.now.cuts c.args.plan.now.joins (blocks_of c.args.program.now) c.requires.built (list_of c.args.placing)
-    (placing_permutes c.args.placing) us c.in-Ok.ensures.ok in
+    c.args.plan.now.cuts c.args.plan.now.joins (blocks_of c.args.program.now) c.requires.built c.args.placing us
+    c.in-Ok.ensures.ok in
     record {
       sizes = ready.sizes;
       few = ready.few;
@@ -49,12 +46,12 @@ returns-in-Ok c =
     let now = c.as_slice.result.now in
     let e = c.as_slice.ensures.value in
     let Good : Image → Type 0 = λ i. (i ≡ image_of us now) × All GoodBlock (image_of us now).blocks in
-    let Made : Image → Type 0 = λ i. IsCompiled (program_of g.flat) (goes (list_of c.args.placing)) i in
+    let Made : Image → Type 0 = λ i. IsCompiled (program_of g.flat) c.args.placing i in
     IfOk-weaker c.image_or_none.result (λ (o : Option Image). IfSome o Good) (λ (o : Option Image). IfSome o Made)
     (λ (o : Option Image) h. some_weaker Good Made o
     (λ i h. is_compiled (program_of g.flat) g.live g.groups c.requires.fits c.requires.assigned c.requires.few
-    c.args.plan.now.cuts c.args.plan.now.joins (blocks_of c.args.program.now) c.requires.built (list_of c.args.placing)
-    (placing_permutes c.args.placing) us c.in-Ok.ensures.ok c.requires.keeps i
+    c.args.plan.now.cuts c.args.plan.now.joins (blocks_of c.args.program.now) c.requires.built c.args.placing us
+    c.in-Ok.ensures.ok c.requires.keeps i
     (h.0 ∙ ap (λ (bs : List ℕ). image_of us bs) e)
     (subst (λ (bs : List ℕ). All GoodBlock (image_of us bs).blocks) e h.1)) h)
     c.image_or_none.ensures

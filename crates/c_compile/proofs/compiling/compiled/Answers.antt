@@ -3,8 +3,6 @@ use Rattle.std.proofs.lemmas.Result.{IfOk-weaker}
 use Rattle.trips_isa.specs.declared.block.Image.{Image}
 use Rattle.ir_forms.specs.declared.flat.FlatProgram.{FlatProgram}
 use Rattle.ir_forms.specs.FlatViews.{program_of}
-use Rattle.grid_place.specs.Moves.{goes}
-use Rattle.grid_place.specs.Seeded.{list_of}
 use Rattle.c_compile_laws.specs.Compiled.{IsCompiled}
 use Rattle.c_compile.proofs.CutPrograms.{are_assigned, fits_given, few_given}
 use Rattle.c_compile.proofs.compiling.compiled.Goals as goal
@@ -24,7 +22,7 @@ assigned_image-requires c =
 pub returns : goal.returns
 returns c =
     let g = c.in_ok-assigned.assigned in
-    let p = goes (list_of c.args.placing) in
+    let p = c.args.placing in
     IfOk-weaker c.assigned_image.result (λ (i : Image). IsCompiled (program_of g.flat) p i)
     (λ (i : Image). IsCompiled (program_of c.args.flat) p i)
     (λ i h. subst (λ (f : FlatProgram). IsCompiled (program_of f) p i) c.in_ok-assigned.ensures.flat h)

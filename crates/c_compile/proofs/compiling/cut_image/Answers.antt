@@ -2,9 +2,6 @@ use Rattle.std.proofs.Common.{◌≡◌, subst, sym, ap, ◌∙◌, List, ℕ}
 use Rattle.std.proofs.lemmas.Result.{IfOk-weaker}
 use Rattle.trips_isa.specs.declared.block.Image.{Image}
 use Rattle.ir_forms.specs.FlatViews.{program_of}
-use Rattle.grid_place.specs.Moves.{goes}
-use Rattle.grid_place.specs.Seeded.{list_of}
-use Rattle.grid_place.proofs.Shuffles.{placing_permutes}
 use Rattle.c_compile_layout.specs.Emitted.{image_of, IsGoodImage}
 use Rattle.c_compile_laws.specs.Compiled.{IsCompiled}
 use Rattle.c_compile.proofs.CutPrograms.{few_chunks, at_most_128, good, is_compiled}
@@ -14,27 +11,27 @@ pub checked_image-requires : goal.checked_image-requires
 checked_image-requires c =
     let g = c.args.assigned.now in
     let F = program_of g.flat in
-    let p = list_of c.args.placing in
+    let p = c.args.placing in
     let us = c.in_ok-blocks.blocks in
     record {
-      sizes = at_most_128 F g.live g.groups c.requires.fits c.requires.assigned c.requires.few (goes p) us
+      sizes = at_most_128 F g.live g.groups c.requires.fits c.requires.assigned c.requires.few p us
           c.in_ok-blocks.ensures;
-      few = few_chunks F g.live g.groups c.requires.fits c.requires.assigned c.requires.few (goes p) us
+      few = few_chunks F g.live g.groups c.requires.fits c.requires.assigned c.requires.few p us
           c.in_ok-blocks.ensures;
       good = subst (λ (bs : List ℕ). IsGoodImage (image_of us bs)) (sym c.as_slice.ensures.value)
-          (good F g.live g.groups c.requires.fits c.requires.assigned c.requires.few p
-          (placing_permutes c.args.placing) us c.in_ok-blocks.ensures);
+          (good F g.live g.groups c.requires.fits c.requires.assigned c.requires.few p us
+          c.in_ok-blocks.ensures);
     }
 
 pub returns : goal.returns
 returns c =
     let g = c.args.assigned.now in
     let F = program_of g.flat in
-    let p = list_of c.args.placing in
+    let p = c.args.placing in
     let us = c.in_ok-blocks.blocks in
     IfOk-weaker c.checked_image.result (λ (i : Image). i ≡ image_of us c.as_slice.result.now)
-    (λ (i : Image). IsCompiled F (goes p) i)
-    (λ i is. is_compiled F g.live g.groups c.requires.fits c.requires.assigned c.requires.few p
-    (placing_permutes c.args.placing) us c.in_ok-blocks.ensures c.requires.keeps i
+    (λ (i : Image). IsCompiled F p i)
+    (λ i is. is_compiled F g.live g.groups c.requires.fits c.requires.assigned c.requires.few p us
+    c.in_ok-blocks.ensures c.requires.keeps i
     (is ∙ ap (λ (bs : List ℕ). image_of us bs) c.as_slice.ensures.value))
     c.checked_image.ensures

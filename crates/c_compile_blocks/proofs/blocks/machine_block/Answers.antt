@@ -2,8 +2,6 @@ use Rattle.std.proofs.Common.{arith}
 use Rattle.std.proofs.lemmas.Grind.{common_steps}
 use Rattle.ir_forms.specs.declared.fault.FlowFault.{FlowFault}
 use Rattle.ir_forms.specs.HyperViews.{block_of}
-use Rattle.grid_place.specs.Moves.{goes}
-use Rattle.grid_place.specs.Seeded.{list_of}
 use Rattle.c_compile_blocks.specs.Refusals.{IsRefused}
 use Rattle.c_compile_blocks.proofs.Passes.{passed, is_machine_block, by_first, by_second, by_third}
 use Rattle.c_compile_blocks.proofs.Passes.{handed_on, never_refused}
@@ -52,15 +50,15 @@ returns-in_err-target-clause-fits c =
 
 pub returns-in-Ok-clause-ok : goal.returns-in-Ok-clause-ok
 returns-in-Ok-clause-ok c =
-    passed (goes (list_of c.args.placing)) (block_of c.args.block.now) c.in_ok-convert.field-0
+    passed c.args.placing (block_of c.args.block.now) c.in_ok-convert.field-0
     c.in_ok-flow.flow c.in_ok-target.field-0 c.in-Ok.placed c.in_ok-convert.ensures.ok
     c.in_ok-convert.ensures.room c.in_ok-flow.ensures.ok.0 c.in_ok-target.ensures.ok.0
-    c.in_ok-target.ensures.ok.1 c.in-Ok.ensures.moved
+    c.in_ok-target.ensures.ok.1 c.in-Ok.ensures.placed
 
 pub returns-in-Ok-clause-machine : goal.returns-in-Ok-clause-machine
 returns-in-Ok-clause-machine c =
-    is_machine_block (goes (list_of c.args.placing)) (block_of c.args.block.now) c.in-Ok.placed
-    (passed (goes (list_of c.args.placing)) (block_of c.args.block.now) c.in_ok-convert.field-0
+    is_machine_block c.args.placing (block_of c.args.block.now) c.in-Ok.placed
+    (passed c.args.placing (block_of c.args.block.now) c.in_ok-convert.field-0
     c.in_ok-flow.flow c.in_ok-target.field-0 c.in-Ok.placed c.in_ok-convert.ensures.ok
     c.in_ok-convert.ensures.room c.in_ok-flow.ensures.ok.0 c.in_ok-target.ensures.ok.0
-    c.in_ok-target.ensures.ok.1 c.in-Ok.ensures.moved)
+    c.in_ok-target.ensures.ok.1 c.in-Ok.ensures.placed)

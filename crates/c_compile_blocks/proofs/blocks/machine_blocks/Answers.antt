@@ -5,8 +5,6 @@ use Rattle.ir_forms.specs.declared.fault.FlowFault.{FlowFault}
 use Rattle.ir_forms.specs.declared.fault.FlowFault.TheVariants.{Memory}
 use Rattle.ir_forms.specs.declared.hyper.HyperBlock.{HyperBlock}
 use Rattle.ir_forms.specs.HyperViews.{block_of, blocks_of}
-use Rattle.grid_place.specs.Moves.{goes}
-use Rattle.grid_place.specs.Seeded.{list_of}
 use Rattle.c_compile_blocks.specs.Blocks.{ArePassed, AreMachineBlocks}
 use Rattle.c_compile_blocks.specs.Refusals.{FitMachine, HasRefused}
 use Rattle.c_compile_blocks.proofs.Programs.{are_machine_blocks, none_refused}
@@ -14,7 +12,7 @@ use Rattle.c_compile_blocks.proofs.blocks.machine_blocks.Goals as goal
 
 pub returns-clause-machine : goal.returns-clause-machine
 returns-clause-machine c =
-    let p = goes (list_of c.args.placing) in
+    let p = c.args.placing in
     let B = blocks_of c.args.program.now in
     IfOk-weaker c.all_blocks.result (λ (us : List Block). ArePassed p (map block_of c.as_slice.result.now) us)
     (λ (us : List Block). FitMachine B → AreMachineBlocks p B us)
@@ -23,7 +21,7 @@ returns-clause-machine c =
 
 pub returns-clause-fits : goal.returns-clause-fits
 returns-clause-fits c =
-    let p = goes (list_of c.args.placing) in
+    let p = c.args.placing in
     let B = blocks_of c.args.program.now in
     IfErr-weaker c.all_blocks.result (λ (e : FlowFault). HasRefused p (map block_of c.as_slice.result.now) e)
     (λ (e : FlowFault). FitMachine B → e ≡ Memory)
