@@ -16,9 +16,8 @@ use Rattle.predication.specs.Ifs.{items, join, touched}
 use Rattle.predication.specs.Converted.{begun, ended, predicated}
 use Rattle.predication.proofs.Ops.{op_form}
 use Rattle.predication.proofs.Untaken.{load_form, store_form}
-use Rattle.guard_counts.specs.Counts.{has_sense, sensed_nodes}
 use Rattle.guard_counts.specs.Laws.{ConvertsGuarded}
-use Rattle.guard_counts.proofs.NodeCounts.{sensed_append, own_counts, sensed_fewer}
+use Rattle.guard_counts.proofs.NodeCounts.{has_sense, sensed_nodes, sensed_append, own_counts, sensed_fewer}
 
 -- what items give besides in a leg, where they are one
 abbrev directly : Bool → Items → ℕ

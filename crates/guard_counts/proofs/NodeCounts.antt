@@ -8,12 +8,25 @@ use Rattle.trips_isa.specs.Operands.{is_guarded}
 use Rattle.ir_forms.specs.declared.flow.Guard.{Guard}
 use Rattle.ir_forms.specs.declared.flow.FlowNode.{FlowNode}
 use Rattle.ir_forms.specs.declared.flow.FlowBlock.{FlowBlock}
+use Rattle.ir_forms.specs.FlowRuns.{sense_of}
 use Rattle.ir_forms.specs.FlowFits.{is_branch, has_guard, guarded_nodes}
 use Rattle.null_outputs.specs.Completed.{added}
 use Rattle.null_outputs.specs.Surely.{sure_by}
 use Rattle.null_outputs.specs.Wants.{want_by, complete}
-use Rattle.guard_counts.specs.Counts.{has_sense, sensed_nodes}
 use Rattle.guard_counts.specs.Laws.{CompletesGuarded}
+
+-- whether there is a guard that has a sense
+abbrev pub has_sense : Option Guard → Bool
+has_sense g = is_guarded (sense_of g)
+
+-- The nodes other than branches that become guarded instructions. Where each guard has a sense, these are
+-- the guarded nodes.
+abbrev pub sensed_nodes : List FlowNode → ℕ
+sensed_nodes [] = 0
+sensed_nodes (n ∷ rest) =
+    cond (has_sense n.guard && not (is_branch (form_of n.op))) 1 0 + sensed_nodes rest
+
+-- LISTS
 
 guarded_append : (a b : List FlowNode) → guarded_nodes (a ++ b) ≡ guarded_nodes a + guarded_nodes b
 guarded_append [] b = omega arith

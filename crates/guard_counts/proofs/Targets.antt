@@ -11,9 +11,9 @@ use Rattle.fan_out.specs.Wires.{wires}
 use Rattle.fan_out.specs.Targeted.{fan_of_node, placed_nodes, movs_of_reads, next_of_nodes, movs_of_nodes}
 use Rattle.fan_out.specs.Targeted.{slots_of_nodes, slots, slot_of, IsTargeted}
 use Rattle.c_compile_layout.specs.Linking.{Resolves, resolved_slot}
-use Rattle.guard_counts.specs.Counts.{sensed_nodes, guarded_slot, guarded_slots, guarded_insts}
+use Rattle.guard_counts.specs.Counts.{guarded_slot, guarded_slots, guarded_insts}
 use Rattle.guard_counts.specs.Laws.{TargetsGuarded, ResolvesGuarded}
-use Rattle.guard_counts.proofs.NodeCounts.{all_sensed}
+use Rattle.guard_counts.proofs.NodeCounts.{sensed_nodes, all_sensed}
 
 -- the slots of nodes hold as many guards as the nodes have senses
 nodes_same : (ws : List Wire) (next j : ℕ) (ns : List FlowNode)

@@ -1,27 +1,13 @@
 -- The guarded instructions of a machine block. Those of a flow block and the filled if-items of a hyper
 -- block are counted by `guarded_nodes` and `filled_ifs` of `ir_forms`.
-use Rattle.std.specs.Prelude.{ℕ, ◌+◌, Bool, ◌&&◌, not, cond, List, [], ◌∷◌, Option, Some, None}
+use Rattle.std.specs.Prelude.{ℕ, ◌+◌, ◌&&◌, not, cond, List, [], ◌∷◌, Option, Some, None}
 use Rattle.trips_isa.specs.declared.block.Inst.{Inst}
 use Rattle.trips_isa.specs.declared.block.Block.{Block}
 use Rattle.trips_isa.specs.Forms.{form_of}
 use Rattle.trips_isa.specs.Operands.{is_guarded}
-use Rattle.ir_forms.specs.declared.flow.Guard.{Guard}
-use Rattle.ir_forms.specs.declared.flow.FlowNode.{FlowNode}
-use Rattle.ir_forms.specs.FlowRuns.{sense_of}
 use Rattle.ir_forms.specs.FlowFits.{is_branch}
 use Rattle.ir_forms.specs.HyperCode as hyper
 use Rattle.ir_forms.specs.HyperFits.{filled_ifs}
-
--- whether there is a guard that has a sense
-abbrev pub has_sense : Option Guard → Bool
-has_sense g = is_guarded (sense_of g)
-
--- The nodes other than branches that become guarded instructions. Where each guard has a sense, these are
--- the guarded nodes.
-abbrev pub sensed_nodes : List FlowNode → ℕ
-sensed_nodes [] = 0
-sensed_nodes (n ∷ rest) =
-    cond (has_sense n.guard && not (is_branch (form_of n.op))) 1 0 + sensed_nodes rest
 
 -- 1 where a slot holds an instruction that has a predicate and is no branch, and else 0
 abbrev pub guarded_slot : Option Inst → ℕ
