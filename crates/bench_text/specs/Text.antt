@@ -12,7 +12,8 @@ function_name = codes "long f"
 
 unfoldable pub function_body : List ℕ
 function_body =
-    codes "(long x) { long i; for (i = 0; i < 16; i = i + 1) a[i] = x + i; for (i = 1; i < 16; i = i + 1) a[i] = a[i] + a[i - 1]; return a[15] + "
+    codes "(long x) { long i; for (i = 0; i < 16; i = i + 1) a[i] = x + i; "
+    ++ codes "for (i = 1; i < 16; i = i + 1) a[i] = a[i] + a[i - 1]; return a[15] + "
 
 unfoldable pub function_end : List ℕ
 function_end = codes "; }\n"

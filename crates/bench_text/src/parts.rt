@@ -25,7 +25,8 @@ pub fn function_name_part() -> &'static [u8]
 pub fn function_body_part() -> &'static [u8]
     ensures { result.now ≡ function_body }
 {
-    b"(long x) { long i; for (i = 0; i < 16; i = i + 1) a[i] = x + i; for (i = 1; i < 16; i = i + 1) a[i] = a[i] + a[i - 1]; return a[15] + "
+    b"(long x) { long i; for (i = 0; i < 16; i = i + 1) a[i] = x + i; \
+        for (i = 1; i < 16; i = i + 1) a[i] = a[i] + a[i - 1]; return a[15] + "
 }
 
 /// The end of a function's text.

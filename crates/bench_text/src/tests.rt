@@ -5,8 +5,11 @@ use std::alloc::{AllocError, Global};
 use std::process::Abort;
 use std::test::Fail;
 
-const WITH_ONE: &[u8] =
-    b"#include <stdio.h>\nlong a[16];\nlong f0(long x) { long i; for (i = 0; i < 16; i = i + 1) a[i] = x + i; for (i = 1; i < 16; i = i + 1) a[i] = a[i] + a[i - 1]; return a[15] + 0; }\nint main(void) { long x = 1;\nx = f0(x) % 1000; putchar(65 + (int) (x % 26));\nreturn (int) x; }\n";
+const WITH_ONE: &[u8] = b"#include <stdio.h>\nlong a[16];\n\
+    long f0(long x) { long i; for (i = 0; i < 16; i = i + 1) a[i] = x + i; \
+    for (i = 1; i < 16; i = i + 1) a[i] = a[i] + a[i - 1]; return a[15] + 0; }\n\
+    int main(void) { long x = 1;\nx = f0(x) % 1000; putchar(65 + (int) (x % 26));\n\
+    return (int) x; }\n";
 
 #[test]
 fn one_function_is_the_text_of_the_page(rt: HostRuntime) -> Result<(), Fail> {
