@@ -20,8 +20,6 @@ mod spots;
 mod states;
 mod target;
 mod telling;
-#[cfg(test)]
-mod tests;
 mod wants;
 
 pub use body::Body;

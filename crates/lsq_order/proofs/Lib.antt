@@ -1,1 +1,3 @@
 mod ByteFacts
+pub mod ReachFacts
+pub mod WrongFacts

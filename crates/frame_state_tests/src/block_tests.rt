@@ -1,7 +1,7 @@
 //! A frame of a small block, from its fill to its outputs.
 
-use crate::{Departure, Empty, Shape};
 use arrayvec::ArrayVec;
+use frame_state::{Departure, Empty, Shape};
 use std::process::Abort;
 use trips_isa::{Block, Inst, Op, Sense, Spot, Token};
 

@@ -1,0 +1,13 @@
+use Rattle.std.proofs.Common.{◌≡◌, ◌<◌, ◌≤◌, ℕ, false}
+use Rattle.commit_flush_spec.specs.Frames.{at}
+use Rattle.frame_state.specs.Held.{all_taken}
+use Rattle.lsq_order.specs.Reached.{reached, narrowed}
+use Rattle.lsq_order.specs.Wrong.{is_wrong}
+use Rattle.lsq_order.proofs.reach.Reach.first_wrong.Given as goal
+
+abbrev pub invariant-loop-n : goal.invariant-loop-n
+invariant-loop-n l = record {
+  reach : (a : ℕ) → reached l.self a ≡ narrowed (at l.stores) l.from l.n (reached l.initial.self) a;
+  none : (m : ℕ) → l.from ≤ m → m < l.n
+      → is_wrong (at l.stores) (all_taken l.loads) (reached l.initial.self) l.from m ≡ false;
+}
