@@ -1,0 +1,8 @@
+use Rattle.std.proofs.lemmas.Result.{IfOk-weaker}
+use Rattle.trips_tools.proofs.tools.assembled.Goals as goal
+
+pub returns-in-Ok : goal.returns-in-Ok
+returns-in-Ok c = record {
+  ok = IfOk-weaker c.encoded.result _ _ (λ made h. h c.args.text.now c.in-Ok.ensures.ok)
+      c.encoded.ensures;
+}
