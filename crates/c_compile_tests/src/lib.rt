@@ -1,0 +1,5 @@
+//! What the images of texts hold, as tests.
+#![tactic(auto)]
+
+#[cfg(test)]
+mod image_tests;
