@@ -1,0 +1,140 @@
+-- The commands that the code makes, that a parse of each is read as its words say, and the request
+-- that is made of what was found.
+use Rattle.std.proofs.Common.{◌≡◌, refl, sym, ap, ◌∙◌, ℕ, Bool, true, false, List, [], ◌∷◌, Option, None}
+use Rattle.std.proofs.Common.{Some}
+use Rattle.std.proofs.Common.{codes, map, drop, slice_get, option_map, option_and_then, option_copied}
+use Rattle.std.specs.Prelude.{String, string_bytes, unwrap_or}
+use Rattle.clap.specs.Matches.{found_of, first_value}
+use Rattle.clap.specs.declared.parser.matches.ArgMatches.{ArgMatches}
+use Rattle.clap.specs.Simple.{App, app_of, app_of_fields, on_top}
+use Rattle.clap.specs.declared.builder.command.Command.{Command as ClapCommand}
+use Rattle.clap.specs.declared.builder.command.Command.TheViews.{out-Command}
+use Rattle.trips_words.specs.declared.commands.Command.{Command}
+use Rattle.trips_words.specs.declared.commands.Command.TheVariants as command
+use Rattle.trips_words.specs.declared.commands.Asked.{Asked}
+use Rattle.trips_words.specs.Words.{Text, Named, Said, file_name, value_said}
+use Rattle.trips_words.specs.Requests.{run_options, eval_options, options_of, counted, is_on, Request}
+use Rattle.trips_words.specs.Requests.{command_named, request_with, request_of, request_by, request_seen}
+use Rattle.trips_words.specs.Requests.{asked}
+use Rattle.trips_words.specs.Read.{IsRead, is_flag, or_off, FindsSaid, Tells}
+
+pub run_read : IsRead (codes "run") run_options
+run_read = record { builds = refl; simple = refl; no_file = refl }
+
+pub eval_read : IsRead (codes "eval") eval_options
+eval_read = record { builds = refl; simple = refl; no_file = refl }
+
+pub plain_read : IsRead (codes "trips") []
+plain_read = record { builds = refl; simple = refl; no_file = refl }
+
+-- a command without its help flag
+abbrev pub helpless : App → App
+helpless a = on_top (λ s. record s { disable_help_flag = true }) a
+
+pub is_helpless : (old new : ClapCommand)
+    → out-Command new ≡ record (out-Command old) { disable_help_flag = true }
+    → app_of new ≡ helpless (app_of old)
+is_helpless old new e = ap app_of_fields e
+
+-- the commands beside `run` and `eval` have no options
+pub no_options : (k : Command) → (k ≡ command.Run → ⊥) → (k ≡ command.Evaluate → ⊥) → options_of k ≡ []
+no_options command.Run r e = absurd (r refl)
+no_options command.Evaluate r e = absurd (e refl)
+no_options command.Compile r e = refl
+no_options command.Assemble r e = refl
+no_options command.Disassemble r e = refl
+no_options command.Check r e = refl
+
+-- and their number counts steps
+pub counts_steps : (k : Command) → (k ≡ command.Run → ⊥) → codes "steps" ≡ counted k
+counts_steps command.Run r = absurd (r refl)
+counts_steps command.Evaluate r = refl
+counts_steps command.Compile r = refl
+counts_steps command.Assemble r = refl
+counts_steps command.Disassemble r = refl
+counts_steps command.Check r = refl
+
+-- requests ----------------------------------------------------------------------------------------
+
+-- neither the file nor the input nor the number is a flag
+pub no_flag_file : (k : Command) → is_flag file_name (options_of k) ≡ false
+no_flag_file command.Run = refl
+no_flag_file command.Evaluate = refl
+no_flag_file command.Compile = refl
+no_flag_file command.Assemble = refl
+no_flag_file command.Disassemble = refl
+no_flag_file command.Check = refl
+
+pub no_flag_input : (k : Command) → is_flag (codes "input") (options_of k) ≡ false
+no_flag_input command.Run = refl
+no_flag_input command.Evaluate = refl
+no_flag_input command.Compile = refl
+no_flag_input command.Assemble = refl
+no_flag_input command.Disassemble = refl
+no_flag_input command.Check = refl
+
+pub no_flag_count : (k : Command) → is_flag (counted k) (options_of k) ≡ false
+no_flag_count command.Run = refl
+no_flag_count command.Evaluate = refl
+no_flag_count command.Compile = refl
+no_flag_count command.Assemble = refl
+no_flag_count command.Disassemble = refl
+no_flag_count command.Check = refl
+
+-- what is found under the name of no flag is what is said
+pub found_said : (options : List Named) (said : Said) (m : ArgMatches) (name : Text)
+    → FindsSaid options said m → is_flag name options ≡ false
+    → first_value (found_of m) name ≡ value_said name said
+found_said options said m name f e = f name ∙ ap (λ (b : Bool). or_off b (value_said name said)) e
+
+on_is : (b : Bool) (v : Option Text) → is_on (or_off b v) ≡ is_on v
+on_is false v = refl
+on_is true None = refl
+on_is true (Some v) = refl
+
+-- and a flag is on where it is said
+pub found_on : (options : List Named) (said : Said) (m : ArgMatches) (name : Text)
+    → FindsSaid options said m → is_on (first_value (found_of m) name) ≡ is_on (value_said name said)
+found_on options said m name f = ap is_on (f name) ∙ on_is (is_flag name options) (value_said name said)
+
+-- the request of what was found, part by part
+pub same_request : (k : Command) (file file' input input' number number' : Option Text)
+    (regs regs' trace trace' : Bool) → file ≡ file' → input ≡ input' → number ≡ number'
+    → regs ≡ regs' → trace ≡ trace'
+    → request_with k file input number regs trace ≡ request_with k file' input' number' regs' trace'
+same_request k file file' input input' number number' regs regs' trace trace' a b c d e =
+    ap (λ (x : Option Text). request_with k x input number regs trace) a
+    ∙ ap (λ (x : Option Text). request_with k file' x number regs trace) b
+    ∙ ap (λ (x : Option Text). request_with k file' input' x regs trace) c
+    ∙ ap (λ (x : Bool). request_with k file' input' number' x trace) d
+    ∙ ap (λ (x : Bool). request_with k file' input' number' regs' x) e
+
+-- where something was found, words say something, and else they say nothing
+pub told_some : (k : Command) (said : Option Said) (m : ArgMatches) (r : Option Request)
+    → Tells (options_of k) said (Some m)
+    → ((s : Said) → FindsSaid (options_of k) s m → r ≡ request_of k s)
+    → r ≡ option_and_then (request_of k) said
+told_some k None m r t f = absurd t
+told_some k (Some said) m r t f = f said t
+
+pub told_none : (k : Command) (said : Option Said) → Tells (options_of k) said None
+    → None ≡ option_and_then (request_of k) said
+told_none k None t = refl
+told_none k (Some said) t = absurd t
+
+-- the first word names the command
+pub asked_first : {Z : Type 0} (words : List (String Z)) (name : Text) (word : String Z)
+    → slice_get words 0 ≡ Some word → string_bytes word ≡ name
+    → option_and_then (request_by (drop 1 (map (λ w. string_bytes w) words))) (command_named name)
+    ≡ asked (map (λ w. string_bytes w) words)
+asked_first [] name word e n = absurd (cc)
+asked_first {Z} (first ∷ words) name word e n =
+    let same : string_bytes first ≡ name =
+    ap (λ (o : Option (String Z)). string_bytes (unwrap_or o word)) e ∙ n in
+    ap (λ (t : Text). option_and_then (request_by (map (λ w. string_bytes w) words)) (command_named t))
+    (sym same)
+
+pub asked_none : {Z : Type 0} (words : List (String Z)) → slice_get words 0 ≡ None
+    → None ≡ asked (map (λ w. string_bytes w) words)
+asked_none [] e = refl
+asked_none (first ∷ words) e = absurd (cc)

@@ -1,0 +1,12 @@
+pub mod Digits
+pub mod Rules
+pub mod Rows
+pub mod Faults
+pub mod Dashes
+pub mod Settling
+pub mod Turns
+pub mod Walks
+pub mod Defaults
+pub mod Matches
+pub mod CommandLemmas
+pub mod StandardFacts

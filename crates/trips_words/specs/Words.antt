@@ -1,0 +1,110 @@
+-- What the words behind a command's name say (README.md of this crate): `--name value` or
+-- `--name=value`, `--name` alone for a flag, and one file, before or behind the options.
+use Rattle.std.specs.Prelude.{ℕ, Bool, false, ◌&&◌, ◌==◌, if◌then◌else◌, List, [], ◌∷◌, ◌++◌, codes}
+use Rattle.std.specs.Prelude.{Option, None, Some, option_map, option_and_then, find}
+use Rattle.std.specs.List.{list_any, before_first, after_first}
+use Rattle.std.specs.Str.{bytes_eq}
+
+-- a word of the command line, as its bytes
+abbrev pub Text : Type 0
+Text = List ℕ
+
+-- an option of a command, by its name without the dashes: a value belongs to it, or none does
+pub data Named : Type 0 where
+  valued : Text → Named
+  flag : Text → Named
+
+-- the name alone
+abbrev pub name_of : Named → Text
+name_of (valued name) = name
+name_of (flag name) = name
+
+-- the option of this name
+abbrev pub named : Text → List Named → Option Named
+named name options = find (λ o. bytes_eq (name_of o) name) options
+
+-- what words say, in their order, each under its name: an option with its value, a flag with
+-- `true`, and the file under `FILE`
+abbrev pub Said : Type 0
+Said = List (Text × Text)
+
+-- the name of the file
+abbrev pub file_name : Text
+file_name = codes "FILE"
+
+-- something is said under this name
+abbrev pub is_said : Text → Said → Bool
+is_said name said = list_any (λ s. bytes_eq s.0 name) said
+
+-- what is said under it
+abbrev pub value_said : Text → Said → Option Text
+value_said name said = option_map (λ s. s.1) (find (λ s. bytes_eq s.0 name) said)
+
+-- one thing more, and none under a name that was said before
+abbrev pub and_said : Text → Text → Said → Option Said
+and_said name value said = if is_said name said then None else Some (said ++ (name, value) ∷ [])
+
+-- words -------------------------------------------------------------------------------------------
+
+-- the word begins with a dash and has more than this one byte
+abbrev pub is_dashed : Text → Bool
+is_dashed (x ∷ y ∷ rest) = x == 45
+is_dashed word = false
+
+-- what follows two dashes, where something does
+abbrev pub behind_dashes : Text → Option Text
+behind_dashes (x ∷ y ∷ z ∷ rest) = if x == 45 && y == 45 then Some (z ∷ rest) else None
+behind_dashes word = None
+
+-- what stands before a first `=`, and what stands behind it if there is one
+abbrev pub name_in : Text → Text
+name_in text = before_first (λ x. x == 61) text
+
+abbrev pub value_in : Text → Option Text
+value_in text =
+    if list_any (λ x. x == 61) text then Some (after_first (λ x. x == 61) text) else None
+
+-- reading -----------------------------------------------------------------------------------------
+
+-- How the words that follow are read, from the option that waits for its value, if one does, and
+-- from what was said before.
+abbrev pub Rest : Type 0
+Rest = Option Text → Said → Option Said
+
+-- they are read where one thing more could be said
+abbrev pub goes_on : Rest → Option Said → Option Said
+goes_on rest said = option_and_then (rest None) said
+
+-- an option, with the value behind its `=`
+abbrev pub option_read : Option Named → Option Text → Said → Rest → Option Said
+option_read None value said rest = None
+option_read (Some (valued name)) (Some value) said rest = goes_on rest (and_said name value said)
+option_read (Some (valued name)) None said rest = rest (Some name) said
+option_read (Some (flag name)) (Some value) said rest = None
+option_read (Some (flag name)) None said rest = goes_on rest (and_said name (codes "true") said)
+
+-- a word, by what follows its two dashes: an option, or the file
+abbrev pub word_read : List Named → Text → Option Text → Said → Rest → Option Said
+word_read options word (Some text) said rest =
+    option_read (named (name_in text) options) (value_in text) said rest
+word_read options word None said rest =
+    if is_dashed word then None else goes_on rest (and_said file_name word said)
+
+-- words behind `--`, each of which is a file
+abbrev pub files_read : Said → List Text → Option Said
+files_read said [] = Some said
+files_read said (word ∷ words) =
+    option_and_then (λ more. files_read more words) (and_said file_name word said)
+
+-- What the words say where a command has these options, from the option that waits for its value
+-- and from what was said before; none where a word says nothing.
+abbrev pub words_read : List Named → Option Text → Said → List Text → Option Said
+words_read options None said [] = Some said
+words_read options (Some name) said [] = None
+words_read options (Some name) said (word ∷ words) =
+    if is_dashed word then None
+    else option_and_then (λ more. words_read options None more words) (and_said name word said)
+words_read options None said (word ∷ words) =
+    if bytes_eq word (codes "--") then files_read said words
+    else word_read options word (behind_dashes word) said
+    (λ waits more. words_read options waits more words)

@@ -1,0 +1,112 @@
+//! The words behind a command's name, as `clap` reads them.
+
+ghost use Rattle.std.specs.Prelude.{◌≡◌, ◌≢◌, List, [], IfOk, None, false, codes, drop, map, string_bytes};
+ghost use Rattle.clap.specs.Words.{rule_of, app_of, kind_of};
+ghost use Rattle.clap.specs.declared.error.kind.ErrorKind.TheVariants.{OutOfMemory};
+ghost use Rattle.trips_words.specs.Words.{Text, Named, words_read, valued, flag};
+ghost use Rattle.trips_words.specs.Requests.{options_of, run_options, eval_options};
+ghost use Rattle.trips_words.specs.Read.{raw_rule, raw_app, IsRead, Tells};
+
+use crate::commands::Command;
+use base::Memory;
+use clap::error::ErrorKind;
+use clap::{Arg, ArgAction, ArgMatches, Error};
+use std::alloc::{AllocError, Global};
+
+// The name under which the file stands.
+const FILE: &str = "FILE";
+
+// An option to which a value belongs.
+fn valued<'a>(alloc: Global, name: &'a str) -> Arg<'a>
+    ensures rule { rule_of result ≡ raw_rule (valued name.entry.now) }
+    ensures local { result.global ≡ false }
+{
+    Arg::new(alloc, name).long(name).action(ArgAction::Set)
+}
+
+// An option to which none belongs.
+fn flag<'a>(alloc: Global, name: &'a str) -> Arg<'a>
+    ensures rule { rule_of result ≡ raw_rule (flag name.entry.now) }
+    ensures local { result.global ≡ false }
+{
+    Arg::new(alloc, name).long(name).action(ArgAction::SetTrue)
+}
+
+// `run`, its options and its file.
+fn run_command<'a>(alloc: Global) -> Result<clap::Command<'a>, AllocError>
+    ensures { IfOk result (λ command. app_of command ≡ raw_app (codes "run") run_options) }
+{
+    clap::Command::new(alloc, "run")
+        .disable_help_flag(true)
+        .arg(valued(alloc, "input"))?
+        .arg(valued(alloc, "blocks"))?
+        .arg(flag(alloc, "regs"))?
+        .arg(flag(alloc, "trace"))?
+        .arg(Arg::new(alloc, FILE))
+}
+
+// `eval`, its options and its file.
+fn eval_command<'a>(alloc: Global) -> Result<clap::Command<'a>, AllocError>
+    ensures { IfOk result (λ command. app_of command ≡ raw_app (codes "eval") eval_options) }
+{
+    clap::Command::new(alloc, "eval")
+        .disable_help_flag(true)
+        .arg(valued(alloc, "input"))?
+        .arg(valued(alloc, "steps"))?
+        .arg(Arg::new(alloc, FILE))
+}
+
+// A command that has a file and no option.
+fn plain_command<'a>(alloc: Global) -> Result<clap::Command<'a>, AllocError>
+    ensures { IfOk result (λ command. app_of command ≡ raw_app (codes "trips") []) }
+{
+    clap::Command::new(alloc, "trips")
+        .disable_help_flag(true)
+        .arg(Arg::new(alloc, FILE))
+}
+
+// The error is a refusal of the words, and no want of memory.
+fn is_refusal(error: &Error) -> Result<(), Memory>
+    ensures { IfOk result (λ _. kind_of error.now ≢ OutOfMemory) }
+{
+    match error.kind() {
+        ErrorKind::OutOfMemory => Err(Memory),
+        _ => Ok(()),
+    }
+}
+
+// What the command's words say, where they say something.
+fn matched<'a>(
+    command: clap::Command<'a>,
+    words: &'a [String],
+) -> Result<Option<ArgMatches<'a>>, Memory>
+    ensures { (name : Text) (options : List Named) → IsRead name options
+        → app_of command.entry ≡ raw_app name options
+        → IfOk result (Tells options (words_read options None []
+        (drop 1 (map (λ word. string_bytes word) words.entry.now)))) }
+{
+    match command.try_get_matches_from(words) {
+        Ok(matches) => Ok(Some(matches)),
+        Err(error) => {
+            is_refusal(&error)?;
+            Ok(None)
+        }
+    }
+}
+
+/// What the words behind the first say to a command, where they say something. Want of memory is
+/// the only error.
+pub fn read<'a>(
+    alloc: Global,
+    command: Command,
+    words: &'a [String],
+) -> Result<Option<ArgMatches<'a>>, Memory>
+    ensures { IfOk result (Tells (options_of command) (words_read (options_of command) None []
+        (drop 1 (map (λ word. string_bytes word) words.entry.now)))) }
+{
+    match command {
+        Command::Run => matched(run_command(alloc)?, words),
+        Command::Evaluate => matched(eval_command(alloc)?, words),
+        _ => matched(plain_command(alloc)?, words),
+    }
+}
