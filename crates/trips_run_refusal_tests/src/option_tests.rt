@@ -21,14 +21,16 @@ const USAGES: &[&[&str]] = &[
     &["eval", "a.c", "--input", "--steps"],
     &["eval", "a.c", "--blocks", "1"],
     &["eval", "a.c", "b.c"],
-    &["eval", "--steps", "1", "a.c"],
+    &["eval", "--steps", "1"],
     &["run", "a.c", "--steps", "1"],
     &["run", "a.c", "--blocks"],
     &["run", "a.c", "--blocks", "0"],
     &["run", "a.c", "--blocks", "4000001"],
     &["run", "a.c", "--input"],
     &["run", "a.c", "--input", "t", "--input", "t"],
-    &["run", "--blocks", "1", "a.c"],
+    &["run", "--blocks", "1"],
+    &["run", "a.c", "--regs=yes"],
+    &["eval", "a.c", "--trace"],
 ];
 
 // Each of these requests is answered so, and what is written begins so.
@@ -64,6 +66,8 @@ fn other_options_are_usage(rt: HostRuntime) -> Result<(), Fail> {
 const ORDERS: &[&[&str]] = &[
     &["eval", "a.c", "--input", "t", "--steps", "9"],
     &["eval", "a.c", "--steps", "9", "--input", "t"],
+    &["eval", "--steps=9", "a.c", "--input=t"],
+    &["eval", "--input", "t", "--steps", "9", "--", "a.c"],
 ];
 
 const READER: &str = "#include <stdio.h>\nint main(void) { return getchar(); }";
