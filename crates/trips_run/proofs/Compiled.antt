@@ -24,8 +24,10 @@ use Rattle.trips_run.specs.declared.status.Status.TheVariants as status
 use Rattle.trips_run.specs.Request.{Request, origin_held}
 use Rattle.grid_place.specs.declared.placed.Placing.{Placing}
 use Rattle.trips_run.specs.Read.{HoldsInput}
+use Rattle.trips_report.specs.declared.show.Show.{Show}
 use Rattle.trips_report.specs.Runs.{output_and}
-use Rattle.trips_run.specs.Report.{ending_of, run_report}
+use Rattle.trips_report.proofs.Parts.{is_plain}
+use Rattle.trips_run.specs.Report.{ending_of, run_report, shown_report, no_counts, nothing_shown}
 use Rattle.trips_run.specs.Answer.{placed, status_of, IsRunBy, IsRunOfText}
 use Rattle.trips_run.specs.Table.{ended_report, full_report}
 use Rattle.trips_run.specs.Evaluated.{SaysOf, HasNotEnded, RunEndsAs}
@@ -44,31 +46,33 @@ settled run few most holds s le =
 
 -- REPORTS
 
-ended : (r : State × Stepped) (output : List ℕ) (value : ℤ) (s : Status) (report : List ℕ)
-    → HasEnded output value r → s ≡ status_of (ending_of r.1 r.0.next)
+-- where nothing more is shown, the report is the plain one
+pub plain_told : (r : State × Stepped) (show : Show) (report : List ℕ) → show ≡ nothing_shown
+    → report ≡ shown_report (ending_of r.1 r.0.next) r.0 show
     → report ≡ run_report (ending_of r.1 r.0.next) r.0
-    → (s ≡ status.Ended) × (report ≡ ended_report output value)
-ended r output value s report h is told =
+plain_told r show report none told =
+    told ∙ ap (λ (v : Show). shown_report (ending_of r.1 r.0.next) r.0 v) none
+    ∙ is_plain (ending_of r.1 r.0.next) r.0 no_counts 0
+
+ended : (r : State × Stepped) (output : List ℕ) (value : ℤ) (report : List ℕ)
+    → HasEnded output value r → report ≡ run_report (ending_of r.1 r.0.next) r.0
+    → report ≡ ended_report output value
+ended r output value report h told =
     let e : ending_of r.1 r.0.next ≡ ending.Ended = ap (λ (a : Stepped). ending_of a r.0.next) h.answer in
-    let digits = signed_number (slice_index r.0.registers 3) h.word.below ∙ ap signed_decimal h.is in (
-      is ∙ ap status_of e,
-      told ∙ ap (λ (x : Ending). run_report x r.0) e
-          ∙ ap (λ (t : List ℕ). output_and r.0.output (codes "result " ++ t)) digits
-          ∙ ap (λ (o : List ℕ). output_and o (codes "result " ++ signed_decimal value)) h.output,
-    )
+    let digits = signed_number (slice_index r.0.registers 3) h.word.below ∙ ap signed_decimal h.is in
+    told ∙ ap (λ (x : Ending). run_report x r.0) e
+    ∙ ap (λ (t : List ℕ). output_and r.0.output (codes "result " ++ t)) digits
+    ∙ ap (λ (o : List ℕ). output_and o (codes "result " ++ signed_decimal value)) h.output
 
-full : (r : State × Stepped) (output : List ℕ) (s : Status) (report : List ℕ) → IsFull output r
-    → s ≡ status_of (ending_of r.1 r.0.next) → report ≡ run_report (ending_of r.1 r.0.next) r.0
-    → (s ≡ status.StackFull) × (report ≡ full_report output)
-full r output s report h is told =
-    let e : ending_of r.1 r.0.next ≡ ending.StackFull = ap (λ (a : Stepped). ending_of a r.0.next) h.answer in (
-      is ∙ ap status_of e,
-      told ∙ ap (λ (x : Ending). run_report x r.0) e
-          ∙ ap (λ (o : List ℕ). output_and o (codes "stack full")) h.output,
-    )
+full : (r : State × Stepped) (output : List ℕ) (report : List ℕ) → IsFull output r
+    → report ≡ run_report (ending_of r.1 r.0.next) r.0 → report ≡ full_report output
+full r output report h told =
+    let e : ending_of r.1 r.0.next ≡ ending.StackFull = ap (λ (a : Stepped). ending_of a r.0.next) h.answer in
+    told ∙ ap (λ (x : Ending). run_report x r.0) e
+    ∙ ap (λ (o : List ℕ). output_and o (codes "stack full")) h.output
 
-module _ (most n : ℕ) (text input : List ℕ) (program : TypedProgram) (s : Status)
-    (report : List ℕ) (run : IsRunOfText most text input s report)
+module _ (most n : ℕ) (show : Show) (text input : List ℕ) (program : TypedProgram) (s : Status)
+    (report : List ℕ) (run : IsRunOfText most show text input s report)
     (accepted : IsAccepted text program) (enough : 16 * n + 16 ≤ most) where
   means : MeansText text placed run.0
   means = images_mean text placed run.0 run.1
@@ -77,25 +81,51 @@ module _ (most n : ℕ) (text input : List ℕ) (program : TypedProgram) (s : St
   same = accepted_once text means.program program means.accepted accepted
 
   -- where the evaluation is done within n steps
-  pub finished_told : (output : List ℕ) (value : ℤ) (steps : ℕ)
-      → eval program input n ≡ Done output value steps
-      → (s ≡ status.Ended) × (report ≡ ended_report output value)
-  finished_told output value steps done =
+  finished_run : (output : List ℕ) (value : ℤ) (steps : ℕ)
+      → eval program input n ≡ Done output value steps → HasEnded output value (run_of run.0 input most)
+  finished_run output value steps done =
       let did = means.finished input run.2 n output value steps
       (ap (λ (p : TypedProgram). eval p input n) same ∙ done) in
-      ended (run_of run.0 input most) output value s report
-      (settled (run_of run.0 input) (16 * n + 6) most (HasEnded output value) did
-      (omega (arith, enough))) run.3.0 run.3.1
+      settled (run_of run.0 input) (16 * n + 6) most (HasEnded output value) did
+      (omega (arith, enough))
+
+  finished_status : (output : List ℕ) (value : ℤ) (steps : ℕ)
+      → eval program input n ≡ Done output value steps → s ≡ status.Ended
+  finished_status output value steps done =
+      run.3.0 ∙ ap (λ (a : Stepped). status_of (ending_of a (run_of run.0 input most).0.next))
+      (finished_run output value steps done).answer
+
+  pub finished_told : (output : List ℕ) (value : ℤ) (steps : ℕ) → show ≡ nothing_shown
+      → eval program input n ≡ Done output value steps
+      → (s ≡ status.Ended) × (report ≡ ended_report output value)
+  finished_told output value steps none done = (
+    finished_status output value steps done,
+    ended (run_of run.0 input most) output value report (finished_run output value steps done)
+        (plain_told (run_of run.0 input most) show report none run.3.1),
+  )
 
   -- where its frames are too large within n steps
-  pub deep_told : (output : List ℕ) → eval program input n ≡ Stopped Deep output
-      → (s ≡ status.StackFull) × (report ≡ full_report output)
-  deep_told output deep =
+  deep_run : (output : List ℕ) → eval program input n ≡ Stopped Deep output
+      → IsFull output (run_of run.0 input most)
+  deep_run output deep =
       let did = means.deep input run.2 n output
       (ap (λ (p : TypedProgram). eval p input n) same ∙ deep) in
-      full (run_of run.0 input most) output s report
-      (settled (run_of run.0 input) (16 * n + 6) most (IsFull output) did (omega (arith, enough)))
-      run.3.0 run.3.1
+      settled (run_of run.0 input) (16 * n + 6) most (IsFull output) did (omega (arith, enough))
+
+  deep_status : (output : List ℕ) → eval program input n ≡ Stopped Deep output
+      → s ≡ status.StackFull
+  deep_status output deep =
+      run.3.0 ∙ ap (λ (a : Stepped). status_of (ending_of a (run_of run.0 input most).0.next))
+      (deep_run output deep).answer
+
+  pub deep_told : (output : List ℕ) → show ≡ nothing_shown
+      → eval program input n ≡ Stopped Deep output
+      → (s ≡ status.StackFull) × (report ≡ full_report output)
+  deep_told output none deep = (
+    deep_status output deep,
+    full (run_of run.0 input most) output report (deep_run output deep)
+        (plain_told (run_of run.0 input most) show report none run.3.1),
+  )
 
   -- where the budget was spent
   pub spent_told : s ≡ status.Budget → HasNotEnded (eval program input n)
@@ -105,9 +135,9 @@ module _ (most n : ℕ) (text input : List ℕ) (program : TypedProgram) (s : St
       go (Stopped More output) e = tt
       go (Stopped Undefined output) e = tt
       go (Stopped Deep output) e =
-          let told : status.Budget ≡ status.StackFull = sym spent ∙ (deep_told output e).0 in absurd (cc)
+          let told : status.Budget ≡ status.StackFull = sym spent ∙ deep_status output e in absurd (cc)
       go (Done output value steps) e =
-          let told : status.Budget ≡ status.Ended = sym spent ∙ (finished_told output value steps e).0 in
+          let told : status.Budget ≡ status.Ended = sym spent ∙ finished_status output value steps e in
           absurd (cc)
 
 -- CAUSES
@@ -133,7 +163,7 @@ says (stepped.Trap cause) next (Done output value steps) h = absurd h
 -- the end of a text's run, of names that hold the text and the input
 pub run_ends_as : (held : List ℕ → Option (List ℕ)) (q : Request) (text input : List ℕ) (s : Status)
     (report : List ℕ) → Holds (origin_held held q.origin) text → HoldsInput q.input held input
-    → IsRunOfText q.most text input s report → RunEndsAs held q s
+    → IsRunOfText q.most q.show text input s report → RunEndsAs held q s
 run_ends_as held q text input s report holds holds_input run =
     let m : MeansText text placed run.0 = images_mean text placed run.0 run.1 in
     let r : State × Stepped = run_of run.0 input q.most in
@@ -149,5 +179,5 @@ run_ends_as held q text input s report holds holds_input run =
       says = λ n lt. subst (λ (x : Status). SaysOf x (eval m.program input n)) (sym run.3.0)
           (says r.1 r.0.next (eval m.program input n) (m.ends input run.2 q.most n lt));
       spent = λ spent n enough.
-          spent_told q.most n text input m.program s report run m.accepted enough spent;
+          spent_told q.most n q.show text input m.program s report run m.accepted enough spent;
     }

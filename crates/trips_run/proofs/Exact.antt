@@ -1,7 +1,7 @@
 -- What a request gets whose file and input are told, where nothing fails.
 use Rattle.std.proofs.Common.{◌≡◌, ℕ, ◌<◌, ◌≤◌, ◌^◌, List, [], ◌∷◌, Option, None, Some, IfSome}
 use Rattle.std.proofs.Common.{IsSomeAnd, All, length, inl, inr, refl, sym, ◌∙◌, ap, subst, arith}
-use Rattle.std.proofs.Common.{get_or}
+use Rattle.std.proofs.Common.{get_or, ◌⊎◌}
 use Rattle.std.proofs.lemmas.Option.{slice_get_within, get_or_from_slice_get}
 use Rattle.trips_outside.specs.Outside.{Holds}
 use Rattle.trips_isa.specs.declared.block.Image.{Image}
@@ -16,8 +16,16 @@ use Rattle.block_image.proofs.Prefix.{one_image}
 use Rattle.block_check.specs.declared.fault.CheckFault.{CheckFault}
 use Rattle.block_check.specs.Faults.{IsGood}
 use Rattle.block_check.specs.Images.{IsFirstBad}
-use Rattle.trips_run.specs.declared.command_line.Work.{Work}
-use Rattle.trips_run.specs.declared.command_line.Work.TheVariants.{Run, Evaluate}
+use Rattle.trips_report.specs.declared.show.Show.{Show}
+use Rattle.trips_words.specs.declared.commands.Command.{Command as Work}
+use Rattle.trips_words.specs.declared.commands.Command.TheVariants.{Run, Evaluate, Compile}
+use Rattle.trips_words.specs.declared.commands.Command.TheVariants.{Assemble, Disassemble, Check}
+use Rattle.block_image.specs.Spelling.{spelling}
+use Rattle.target_asm_spec.specs.Text.{TargetText}
+use Rattle.target_asm_spec.specs.Text as asm
+use Rattle.trips_tools.specs.Tools.{IsOneImage, IsGoodImage, good_report}
+use Rattle.target_asm_spec.proofs.Images as texts
+use Rattle.target_asm_faults.proofs.Exact as faults
 use Rattle.trips_run.specs.declared.command_line.FileForm.{FileForm}
 use Rattle.trips_run.specs.declared.command_line.FileForm.TheVariants as form
 use Rattle.trips_run.specs.declared.loading.Loaded.{Loaded}
@@ -27,13 +35,13 @@ use Rattle.trips_run.specs.declared.status.Status.TheVariants as status
 use Rattle.trips_run.specs.Request.{Request, origin_held}
 use Rattle.trips_run.specs.Read.{IsRead, IsInputRead, IsInput, limit_of, most_input_bytes}
 use Rattle.trips_run.specs.Report.{ending_of, run_report}
-use Rattle.trips_report.specs.Refusals.{image_text, check_text, too_large_text}
+use Rattle.trips_report.specs.Refusals.{image_text, asm_text, check_text, too_large_text}
 use Rattle.trips_run.specs.Refusal.{front_refusal}
-use Rattle.trips_run.specs.Refused.{IsRefusedByFront, IsNoImage, IsBadImage}
+use Rattle.trips_run.specs.Refused.{IsRefusedByFront, IsNoImage, IsBadImage, IsNoText, IsBadText}
 use Rattle.trips_run.specs.Refused.{IsRefusedAs, IsLarge}
-use Rattle.trips_run.specs.Answer.{IsFixed, IsRunBy, IsEvaluation, IsRunOfText, IsWorked, IsDone}
+use Rattle.trips_run.specs.Answer.{IsFixed, IsRunBy, IsEvaluation, IsRunOfText, IsCompiled, IsWorked, IsDone}
 use Rattle.trips_run.specs.Answer.{AfterReading, IsAnswerBehind, IsAnswer}
-use Rattle.trips_run.specs.Table.{Asks, HasLargeFile, HasLargeInput}
+use Rattle.trips_run.specs.Table.{AsksFor, HasLargeFile, HasLargeInput}
 use Rattle.trips_run.proofs.OneFault.{first_bad_once}
 
 -- images ----------------------------------------------------------------------------------------
@@ -56,18 +64,37 @@ image_not_refused bytes out image spelled good (inr bad) =
     good_is_not_bad image bad.1 bad.2 good
     (subst (λ (i : Image). IsFirstBad i bad.1 bad.2) same bad.4)
 
+target_not_refused : (text out : List ℕ) (image : Image) → TargetText image text
+    → All IsGood image.blocks → IsRefusedAs Run form.Target text out → ⊥
+target_not_refused text out image spelled good (inl bad) =
+    faults.not_both image text bad.0 spelled bad.1
+target_not_refused text out image spelled good (inr bad) =
+    let same : bad.0 ≡ image = texts.one_image bad.0 image text bad.3 spelled in
+    good_is_not_bad image bad.1 bad.2 good
+    (subst (λ (i : Image). IsFirstBad i bad.1 bad.2) same bad.4)
+
 -- the work --------------------------------------------------------------------------------------
 
 -- bytes that are refused are not worked with
-pub not_worked : (work : Work) (how : FileForm) (most : ℕ) (bytes input : List ℕ) (s : Status)
-    (report out : List ℕ) → IsRefusedAs work how bytes out
-    → IsWorked work how most bytes input s report → ⊥
-not_worked Evaluate how most bytes input s report out bad run =
+pub not_worked : (work : Work) (how : FileForm) (most : ℕ) (show : Show) (bytes input : List ℕ)
+    (s : Status) (report out : List ℕ) → IsRefusedAs work how bytes out
+    → IsWorked work how most show bytes input s report → ⊥
+not_worked Evaluate how most show bytes input s report out bad run =
     not_both bytes run.0 bad.0 run.1 bad.1
-not_worked Run form.Source most bytes input s report out bad run =
+not_worked Run form.Source most show bytes input s report out bad run =
     not_both bytes run.1.lowered.program bad.0 run.1.lowered.accepted bad.1
-not_worked Run form.Image most bytes input s report out bad run =
+not_worked Run form.Target most show bytes input s report out bad run =
+    target_not_refused bytes out run.0 run.1 run.2 bad
+not_worked Run form.Image most show bytes input s report out bad run =
     image_not_refused bytes out run.0 run.1 run.2 bad
+not_worked Compile how most show bytes input s report out bad run =
+    not_both bytes run.1.lowered.program bad.0 run.1.lowered.accepted bad.1
+not_worked Assemble how most show bytes input s report out bad run =
+    faults.not_both run.0.0 bytes bad.0 run.0.1 bad.1
+not_worked Disassemble how most show bytes input s report out bad run =
+    decoded.not_both run.0.0 bytes bad.0 run.0.2 bad.1
+not_worked Check how most show bytes input s report out bad run =
+    image_not_refused bytes out run.0.0 run.0.1 run.0.2 bad
 
 front_once : (text a b : List ℕ) → IsRefusedByFront text a → IsRefusedByFront text b → a ≡ b
 front_once text a b x y =
@@ -80,55 +107,141 @@ bad_once bytes a b x y =
     let one = first_bad_once x.0 x.1 y.1 x.2 y.2 x.3.fits x.4 again in
     x.5 ∙ ap (λ (n : ℕ). check_text n x.2) one.0 ∙ ap (check_text y.1) one.1 ∙ sym y.5
 
+-- bytes that are no image are refused with one report, and so are those of an image
+no_image_once : (bytes a b : List ℕ) → IsNoImage bytes a → IsNoImage bytes b → a ≡ b
+no_image_once bytes a b x y =
+    x.2 ∙ ap image_text (decoded.one_fault bytes x.0 y.0 x.1 y.1) ∙ sym y.2
+
+image_once : (bytes a b : List ℕ) → IsNoImage bytes a ⊎ IsBadImage bytes a
+    → IsNoImage bytes b ⊎ IsBadImage bytes b → a ≡ b
+image_once bytes a b (inl x) (inl y) = no_image_once bytes a b x y
+image_once bytes a b (inl x) (inr y) = absurd (decoded.not_both y.0 bytes x.0 y.3 x.1)
+image_once bytes a b (inr x) (inl y) = absurd (decoded.not_both x.0 bytes y.0 x.3 y.1)
+image_once bytes a b (inr x) (inr y) = bad_once bytes a b x y
+
+-- the same of target texts
+no_text_once : (text a b : List ℕ) → IsNoText text a → IsNoText text b → a ≡ b
+no_text_once text a b x y = x.2 ∙ ap asm_text (faults.one text x.0 y.0 x.1 y.1) ∙ sym y.2
+
+bad_text_once : (text a b : List ℕ) → IsBadText text a → IsBadText text b → a ≡ b
+bad_text_once text a b x y =
+    let same : y.0 ≡ x.0 = texts.one_image y.0 x.0 text y.3 x.3 in
+    let again = subst (λ (i : Image). IsFirstBad i y.1 y.2) same y.4 in
+    let one = first_bad_once x.0 x.1 y.1 x.2 y.2 x.3.fits x.4 again in
+    x.5 ∙ ap (λ (n : ℕ). check_text n x.2) one.0 ∙ ap (check_text y.1) one.1 ∙ sym y.5
+
+target_once : (text a b : List ℕ) → IsNoText text a ⊎ IsBadText text a
+    → IsNoText text b ⊎ IsBadText text b → a ≡ b
+target_once text a b (inl x) (inl y) = no_text_once text a b x y
+target_once text a b (inl x) (inr y) = absurd (faults.not_both y.0 text x.0 y.3 x.1)
+target_once text a b (inr x) (inl y) = absurd (faults.not_both x.0 text y.0 x.3 y.1)
+target_once text a b (inr x) (inr y) = bad_text_once text a b x y
+
 -- bytes are refused with one report
 pub refusal_once : (work : Work) (how : FileForm) (bytes a b : List ℕ)
     → IsRefusedAs work how bytes a → IsRefusedAs work how bytes b → a ≡ b
 refusal_once Evaluate how bytes a b x y = front_once bytes a b x y
 refusal_once Run form.Source bytes a b x y = front_once bytes a b x y
-refusal_once Run form.Image bytes a b (inl x) (inl y) =
-    x.2 ∙ ap image_text (decoded.one_fault bytes x.0 y.0 x.1 y.1) ∙ sym y.2
-refusal_once Run form.Image bytes a b (inl x) (inr y) =
-    absurd (decoded.not_both y.0 bytes x.0 y.3 x.1)
-refusal_once Run form.Image bytes a b (inr x) (inl y) =
-    absurd (decoded.not_both x.0 bytes y.0 x.3 y.1)
-refusal_once Run form.Image bytes a b (inr x) (inr y) = bad_once bytes a b x y
+refusal_once Run form.Target bytes a b x y = target_once bytes a b x y
+refusal_once Run form.Image bytes a b x y = image_once bytes a b x y
+refusal_once Compile how bytes a b x y = front_once bytes a b x y
+refusal_once Assemble how bytes a b x y = no_text_once bytes a b x y
+refusal_once Disassemble how bytes a b x y = no_image_once bytes a b x y
+refusal_once Check how bytes a b x y = image_once bytes a b x y
 
 -- what is done with bytes that are refused
-pub refused_exact : (work : Work) (how : FileForm) (most : ℕ) (bytes input : List ℕ) (s : Status)
-    (report out : List ℕ) → IsDone work how most bytes input s report
+pub refused_exact : (work : Work) (how : FileForm) (most : ℕ) (show : Show) (bytes input : List ℕ)
+    (s : Status) (report out : List ℕ) → IsDone work how most show bytes input s report
     → IsRefusedAs work how bytes out → (s ≡ status.Refused) × (report ≡ out)
-refused_exact work how most bytes input s report out (inl x) bad =
+refused_exact work how most show bytes input s report out (inl x) bad =
     (x.2.0, x.2.1 ∙ refusal_once work how bytes x.0 out x.1 bad)
-refused_exact work how most bytes input s report out (inr run) bad =
-    absurd (not_worked work how most bytes input s report out bad run)
+refused_exact work how most show bytes input s report out (inr run) bad =
+    absurd (not_worked work how most show bytes input s report out bad run)
 
 -- with an accepted text under `eval`
-pub eval_exact : (how : FileForm) (steps : ℕ) (text input : List ℕ) (s : Status)
-    (report : List ℕ) (program : TypedProgram) → IsDone Evaluate how steps text input s report
+pub eval_exact : (how : FileForm) (steps : ℕ) (show : Show) (text input : List ℕ) (s : Status)
+    (report : List ℕ) (program : TypedProgram) → IsDone Evaluate how steps show text input s report
     → IsAccepted text program → IsEvaluation program input steps s report
-eval_exact how steps text input s report program (inl x) is =
+eval_exact how steps show text input s report program (inl x) is =
     absurd (not_both text program x.1.0 is x.1.1)
-eval_exact how steps text input s report program (inr run) is =
+eval_exact how steps show text input s report program (inr run) is =
     subst (λ (p : TypedProgram). IsEvaluation p input steps s report)
     (accepted_once text run.0 program run.1 is) run.2
 
 -- with an image of good blocks under `run`
-pub image_exact : (most : ℕ) (bytes input : List ℕ) (s : Status) (report : List ℕ)
-    (image : Image) → IsDone Run form.Image most bytes input s report → ImageBytes image bytes
-    → All IsGood image.blocks → IsRunBy image.blocks image.bytes input most s report
-image_exact most bytes input s report image (inl x) spelled good =
+pub image_exact : (most : ℕ) (show : Show) (bytes input : List ℕ) (s : Status) (report : List ℕ)
+    (image : Image) → IsDone Run form.Image most show bytes input s report → ImageBytes image bytes
+    → All IsGood image.blocks → IsRunBy image.blocks image.bytes input most show s report
+image_exact most show bytes input s report image (inl x) spelled good =
     absurd (image_not_refused bytes x.0 image spelled good x.1)
-image_exact most bytes input s report image (inr run) spelled good =
-    subst (λ (i : Image). IsRunBy i.blocks i.bytes input most s report)
+image_exact most show bytes input s report image (inr run) spelled good =
+    subst (λ (i : Image). IsRunBy i.blocks i.bytes input most show s report)
     (one_image run.0 image bytes run.1 spelled) run.3
 
 -- with an accepted text under `run`
-pub text_exact : (most : ℕ) (text input : List ℕ) (s : Status) (report : List ℕ)
-    (program : TypedProgram) → IsDone Run form.Source most text input s report
-    → IsAccepted text program → IsRunOfText most text input s report
-text_exact most text input s report program (inl x) is =
+pub text_exact : (most : ℕ) (show : Show) (text input : List ℕ) (s : Status) (report : List ℕ)
+    (program : TypedProgram) → IsDone Run form.Source most show text input s report
+    → IsAccepted text program → IsRunOfText most show text input s report
+text_exact most show text input s report program (inl x) is =
     absurd (not_both text program x.1.0 is x.1.1)
-text_exact most text input s report program (inr run) is = run
+text_exact most show text input s report program (inr run) is = run
+
+-- with the text of an image of good blocks under `run`
+pub target_exact : (most : ℕ) (show : Show) (text input : List ℕ) (s : Status) (report : List ℕ)
+    (image : Image) → IsDone Run form.Target most show text input s report → TargetText image text
+    → All IsGood image.blocks → IsRunBy image.blocks image.bytes input most show s report
+target_exact most show text input s report image (inl x) spelled good =
+    absurd (target_not_refused text x.0 image spelled good x.1)
+target_exact most show text input s report image (inr run) spelled good =
+    subst (λ (i : Image). IsRunBy i.blocks i.bytes input most show s report)
+    (texts.one_image run.0 image text run.1 spelled) run.3
+
+-- with an accepted text under `compile`
+pub compiled_exact : (how : FileForm) (most : ℕ) (show : Show) (text input : List ℕ) (s : Status)
+    (report : List ℕ) (program : TypedProgram) → IsDone Compile how most show text input s report
+    → IsAccepted text program → IsCompiled text s report
+compiled_exact how most show text input s report program (inl x) is =
+    absurd (not_both text program x.1.0 is x.1.1)
+compiled_exact how most show text input s report program (inr run) is = run
+
+-- a text is that of one spelling, and bytes are those of one text
+one_spelling : (text a b : List ℕ) → IsOneImage text a → IsOneImage text b → a ≡ b
+one_spelling text a b x y =
+    x.2.spelled ∙ ap spelling (texts.one_image x.0 y.0 text x.1 y.1) ∙ sym y.2.spelled
+
+one_text : (bytes a b : List ℕ) → IsOneImage a bytes → IsOneImage b bytes → a ≡ b
+one_text bytes a b x y =
+    x.1.spelled ∙ ap asm.image_text (one_image x.0 y.0 bytes x.2 y.2) ∙ sym y.1.spelled
+
+-- with the text of an image under `asm`
+pub assembled_exact : (how : FileForm) (most : ℕ) (show : Show) (text input : List ℕ) (s : Status)
+    (report bytes : List ℕ) → IsDone Assemble how most show text input s report
+    → IsOneImage text bytes → (s ≡ status.Ended) × (report ≡ bytes)
+assembled_exact how most show text input s report bytes (inl x) one =
+    absurd (faults.not_both one.0 text x.1.0 one.1 x.1.1)
+assembled_exact how most show text input s report bytes (inr run) one =
+    (run.1, one_spelling text report bytes run.0 one)
+
+-- with an image under `dis`
+pub disassembled_exact : (how : FileForm) (most : ℕ) (show : Show) (bytes input : List ℕ) (s : Status)
+    (report text : List ℕ) → IsDone Disassemble how most show bytes input s report
+    → IsOneImage text bytes → (s ≡ status.Ended) × (report ≡ text)
+disassembled_exact how most show bytes input s report text (inl x) one =
+    absurd (decoded.not_both one.0 bytes x.1.0 one.2 x.1.1)
+disassembled_exact how most show bytes input s report text (inr run) one =
+    (run.1, one_text bytes report text run.0 one)
+
+-- with an image of good blocks under `check`
+pub checked_exact : (how : FileForm) (most : ℕ) (show : Show) (bytes input : List ℕ) (s : Status)
+    (report good : List ℕ) → IsDone Check how most show bytes input s report
+    → IsGoodImage bytes good → (s ≡ status.Ended) × (report ≡ good)
+checked_exact how most show bytes input s report good (inl x) is =
+    absurd (image_not_refused bytes x.0 is.0 is.1 is.2 x.1)
+checked_exact how most show bytes input s report good (inr run) is = (
+  run.1,
+  run.0.3 ∙ ap (λ (i : Image). good_report (length i.blocks)) (one_image run.0.0 is.0 bytes run.0.1 is.1)
+      ∙ sym is.3,
+)
 
 -- reading ---------------------------------------------------------------------------------------
 
@@ -200,18 +313,21 @@ module _ (request : Option Request) (held : List ℕ → Option (List ℕ)) (ros
       is row.2
 
   -- what is done where the file and the input are told
-  pub complete : (work : Work) (how : FileForm) (most : ℕ) (bytes input : List ℕ)
-      → Asks request held work how most bytes input → IsDone work how most bytes input s report
-  complete work how most bytes input asks =
+  pub complete : (work : Work) (how : FileForm) (most : ℕ) (show : Show) (bytes input : List ℕ)
+      → AsksFor request held work how most show bytes input
+      → IsDone work how most show bytes input s report
+  complete work how most show bytes input asks =
       let rest = behind asks.q bytes asks.asked asks.told.told asks.told.few in
       let is = input_read asks.q.input held rose rest.0 input rest.1 asks.told.told_input
       asks.told.few_input r in
       let done = subst (λ (x : Loaded). AfterReading x
-      (λ i. IsDone asks.q.work asks.q.form asks.q.most bytes i s report) s report) is rest.2 in
-      subst (λ (m : ℕ). IsDone work how m bytes input s report) asks.is_most
-      (subst (λ (f : FileForm). IsDone work f asks.q.most bytes input s report) asks.is_form
-      (subst (λ (w : Work). IsDone w asks.q.form asks.q.most bytes input s report) asks.is_work
-      done))
+      (λ i. IsDone asks.q.work asks.q.form asks.q.most asks.q.show bytes i s report) s report) is rest.2 in
+      subst (λ (v : Show). IsDone work how most v bytes input s report) asks.is_show
+      (subst (λ (m : ℕ). IsDone work how m asks.q.show bytes input s report) asks.is_most
+      (subst (λ (f : FileForm). IsDone work f asks.q.most asks.q.show bytes input s report)
+      asks.is_form
+      (subst (λ (w : Work). IsDone w asks.q.form asks.q.most asks.q.show bytes input s report)
+      asks.is_work done)))
 
   -- a file that is too large
   pub large_file : (q : Request) → request ≡ Some q → HasLargeFile q held
@@ -230,7 +346,7 @@ module _ (request : Option Request) (held : List ℕ → Option (List ℕ)) (ros
       let rest = behind q text.0 e text.1 text.2 in
       let is = input_large q.input held rose rest.0 rest.1 large.1 r in
       subst (λ (x : Loaded). AfterReading x
-      (λ i. IsDone q.work q.form q.most text.0 i s report) s report) is rest.2
+      (λ i. IsDone q.work q.form q.most q.show text.0 i s report) s report) is rest.2
     where
       some_of : (told : Option (List ℕ)) (P : List ℕ → Type 0) → IsSomeAnd told P
           → (bytes : List ℕ) × (told ≡ Some bytes) × P bytes

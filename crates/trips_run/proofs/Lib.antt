@@ -3,8 +3,6 @@ pub mod Told
 pub mod Rows
 pub mod Ends
 pub mod Causes
-pub mod Numbers
-pub mod Requests
 pub mod OneFault
 pub mod Results
 pub mod Compiled

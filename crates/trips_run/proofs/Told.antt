@@ -1,7 +1,7 @@
 -- What the parts of an answer say together.
 use Rattle.std.proofs.Common.{◌≡◌, ◌≢◌, ℕ, zero, suc, ◌<◌, ◌≤◌, ◌^◌, List, [], ◌∷◌, Option}
 use Rattle.std.proofs.Common.{None, Some, Result, Ok, Err, IfOk, All, slice_get}
-use Rattle.std.proofs.Common.{inl, inr, refl, sym, ◌∙◌, ap, subst, arith}
+use Rattle.std.proofs.Common.{◌⊎◌, inl, inr, refl, sym, ◌∙◌, ap, subst, arith}
 use Rattle.trips_isa.specs.declared.block.Block.{Block}
 use Rattle.trips_isa.specs.declared.block.Image.{Image}
 use Rattle.trips_isa.specs.declared.run.Ending.{Ending}
@@ -24,19 +24,31 @@ use Rattle.trips_outside.specs.Outside.{Rose}
 use Rattle.trips_run.specs.declared.status.Status.{Status}
 use Rattle.trips_run.specs.declared.status.Status.TheVariants as status
 use Rattle.trips_run.specs.declared.answer.Answer.{Answer}
-use Rattle.trips_run.specs.declared.command_line.Work.{Work}
-use Rattle.trips_run.specs.declared.command_line.Work.TheVariants.{Run, Evaluate}
+use Rattle.trips_report.specs.declared.show.Show.{Show}
+use Rattle.trips_words.specs.declared.commands.Command.{Command as Work}
+use Rattle.trips_words.specs.declared.commands.Command.TheVariants.{Run, Evaluate, Compile}
+use Rattle.trips_words.specs.declared.commands.Command.TheVariants.{Assemble, Disassemble, Check}
 use Rattle.trips_run.specs.declared.command_line.FileForm.{FileForm}
 use Rattle.trips_run.specs.declared.command_line.FileForm.TheVariants as form
 use Rattle.trips_run.specs.declared.loading.Loaded.{Loaded}
 use Rattle.trips_run.specs.declared.loading.Loaded.TheVariants.{Fault, TooLarge, Bytes}
-use Rattle.trips_run.specs.Request.{Request, origin_held}
+use Rattle.std.proofs.Common.{option_map}
+use Rattle.trips_words.specs.declared.commands.Asked.{Asked}
+use Rattle.trips_words.specs.Requests as line
+use Rattle.trips_run.specs.Request.{Request, origin_held, planned, request_seen}
 use Rattle.trips_run.specs.Read.{IsRead, IsInputRead, limit_of}
-use Rattle.trips_run.specs.Read.{most_input_bytes}
-use Rattle.trips_run.specs.Report.{ending_of, run_report, usage_text}
-use Rattle.trips_report.specs.Refusals.{image_text}
+use Rattle.trips_run.specs.Read.{most_input_bytes, most_source_bytes, most_target_bytes, most_image_bytes}
+use Rattle.trips_run.specs.Report.{ending_of, shown_report}
+use Rattle.target_asm_spec.specs.Text.{TargetText}
+use Rattle.trips_report.specs.declared.said.Said.{Said}
+use Rattle.trips_report.specs.Refusals.{refusal_report}
+use Rattle.trips_tools.specs.declared.made.Made.{Made}
+use Rattle.trips_tools.specs.declared.made.Made.TheVariants as tool
+use Rattle.trips_tools.specs.Tools as tools
+use Rattle.trips_tools.specs.Tools.{IsOneImage, IsGoodImage, Makes}
+use Rattle.trips_run.specs.Made.{IsMade}
 use Rattle.trips_run.specs.Refusal.{front_refusal}
-use Rattle.trips_run.specs.Refused.{IsRefusedByFront, IsRefusedAs}
+use Rattle.trips_run.specs.Refused.{IsRefusedByFront, IsRefusedAs, IsNoImage, IsBadImage}
 use Rattle.trips_run.specs.Answer.{status_of, IsFixed, IsRefusalBy, IsRunBy, IsEvaluation, IsDone, placed}
 use Rattle.trips_run.specs.Answer.{AfterReading, IsAnswerBehind, IsAnswer}
 use Rattle.trips_run.specs.Checked.{IsRunOfChecked}
@@ -46,22 +58,22 @@ pub checked_good : (image : Image) → IsCheckedImage image → All IsGood image
 checked_good image checked = λ k d lt. (checked.each k d lt).good
 
 -- a run, its status and its report
-pub run_told : (blocks : List Block) (bytes input begin_input : List ℕ) (budget : ℕ)
+pub run_told : (blocks : List Block) (bytes input begin_input : List ℕ) (budget : ℕ) (show : Show)
     (first after : State) (ending : Ending) (s : Status) (report : List ℕ) → begin_input ≡ input
     → first ≡ start bytes begin_input → after ≡ (runs blocks first budget).0
     → ending ≡ ending_of (runs blocks first budget).1 (runs blocks first budget).0.next
-    → s ≡ status_of ending → report ≡ run_report ending after
-    → IsRunBy blocks bytes input budget s report
-run_told blocks bytes input begin_input budget first after ending s report i f a e h t =
+    → s ≡ status_of ending → report ≡ shown_report ending after show
+    → IsRunBy blocks bytes input budget show s report
+run_told blocks bytes input begin_input budget show first after ending s report i f a e h t =
     let same : runs blocks first budget ≡ runs blocks (start bytes input) budget =
     ap (λ (st : State). runs blocks st budget) (f ∙ ap (start bytes) i) in
     let ends : ending ≡ ending_of (runs blocks (start bytes input) budget).1
     (runs blocks (start bytes input) budget).0.next =
     e ∙ ap (λ (r : State × Stepped). ending_of r.1 r.0.next) same in (
       h ∙ ap status_of ends,
-      t ∙ ap (λ (x : Ending). run_report x after) ends
-          ∙ ap (run_report (ending_of (runs blocks (start bytes input) budget).1
-          (runs blocks (start bytes input) budget).0.next))
+      t ∙ ap (λ (x : Ending). shown_report x after show) ends
+          ∙ ap (λ (st : State). shown_report (ending_of (runs blocks (start bytes input) budget).1
+          (runs blocks (start bytes input) budget).0.next) st show)
           (a ∙ ap (λ (r : State × Stepped). r.0) same),
     )
 
@@ -81,89 +93,182 @@ front_told : (text : List ℕ) (refusal : Refusal) → MayBeRefused text refusal
 front_told text refusal may some = (refusal, refusal_is text refusal may some, refl)
 
 -- the refusal of a text under `run`
-pub run_refused_told : {E : Type 0} (text input : List ℕ) (most : ℕ) (refusal : Refusal)
+pub run_refused_told : {E : Type 0} (text input : List ℕ) (most : ℕ) (show : Show) (refusal : Refusal)
     (r : Result Answer E) → MayBeRefused text refusal
     → IfOk r (λ a. IsRefusalBy refusal a.status a.report.items)
-    → IfOk r (λ a. IsDone Run form.Source most text input a.status a.report.items)
-run_refused_told text input most refusal (Err e) may told = tt
-run_refused_told text input most refusal (Ok a) may told =
+    → IfOk r (λ a. IsDone Run form.Source most show text input a.status a.report.items)
+run_refused_told text input most show refusal (Err e) may told = tt
+run_refused_told text input most show refusal (Ok a) may told =
     inl (front_refusal refusal, front_told text refusal may told.0, told.1)
 
 -- the run of the image that is compiled from a text
-pub compiled_told : {E : Type 0} (text input : List ℕ) (most : ℕ) (image : Image)
+pub compiled_told : {E : Type 0} (text input : List ℕ) (most : ℕ) (show : Show) (image : Image)
     (r : Result Answer E) → IsImageOf text placed image → IsInput input
-    → IfOk r (λ a. IsRunBy image.blocks image.bytes input most a.status a.report.items)
-    → IfOk r (λ a. IsDone Run form.Source most text input a.status a.report.items)
-compiled_told text input most image (Err e) is bytes told = tt
-compiled_told text input most image (Ok a) is bytes told = inr (image, is, bytes, told)
+    → IfOk r (λ a. IsRunBy image.blocks image.bytes input most show a.status a.report.items)
+    → IfOk r (λ a. IsDone Run form.Source most show text input a.status a.report.items)
+compiled_told text input most show image (Err e) is bytes told = tt
+compiled_told text input most show image (Ok a) is bytes told = inr (image, is, bytes, told)
 
 -- the refusal of a text under `eval`
 pub eval_refused_told : {E : Type 0} (steps : ℕ) (text input : List ℕ) (refusal : Refusal)
     (r : Result Answer E) → MayBeRefused text refusal
     → IfOk r (λ a. IsRefusalBy refusal a.status a.report.items)
-    → IfOk r (λ a. (how : FileForm) → IsDone Evaluate how steps text input a.status a.report.items)
+    → IfOk r (λ a. (how : FileForm) (show : Show)
+    → IsDone Evaluate how steps show text input a.status a.report.items)
 eval_refused_told steps text input refusal (Err e) may told = tt
 eval_refused_told steps text input refusal (Ok a) may told =
-    λ how. inl (front_refusal refusal, front_told text refusal may told.0, told.1)
+    λ how show. inl (front_refusal refusal, front_told text refusal may told.0, told.1)
 
 -- the evaluation of an accepted text
 pub evaluated_told : {E : Type 0} (steps : ℕ) (text input : List ℕ) (program : TypedProgram)
     (r : Result Answer E) → IsAccepted text program
     → IfOk r (λ a. IsEvaluation program input steps a.status a.report.items)
-    → IfOk r (λ a. (how : FileForm) → IsDone Evaluate how steps text input a.status a.report.items)
+    → IfOk r (λ a. (how : FileForm) (show : Show)
+    → IsDone Evaluate how steps show text input a.status a.report.items)
 evaluated_told steps text input program (Err e) is told = tt
-evaluated_told steps text input program (Ok a) is told = λ how. inr (program, is, told)
+evaluated_told steps text input program (Ok a) is told = λ how show. inr (program, is, told)
+
+-- the refusal of a text under `compile`
+pub compile_refused_told : {E : Type 0} (text : List ℕ) (refusal : Refusal) (r : Result Answer E)
+    → MayBeRefused text refusal → IfOk r (λ a. IsRefusalBy refusal a.status a.report.items)
+    → IfOk r (λ a. (how : FileForm) (most : ℕ) (show : Show) (input : List ℕ)
+    → IsDone Compile how most show text input a.status a.report.items)
+compile_refused_told text refusal (Err e) may told = tt
+compile_refused_told text refusal (Ok a) may told =
+    λ how most show input. inl (front_refusal refusal, front_told text refusal may told.0, told.1)
+
+-- the image that is compiled from a text is written
+pub written_told : {E : Type 0} (text : List ℕ) (image : Image) (r : Result Answer E)
+    → IsImageOf text placed image
+    → IfOk r (λ a. ImageBytes image a.report.items × (a.status ≡ status.Ended))
+    → IfOk r (λ a. (how : FileForm) (most : ℕ) (show : Show) (input : List ℕ)
+    → IsDone Compile how most show text input a.status a.report.items)
+written_told text image (Err e) is told = tt
+written_told text image (Ok a) is told = λ how most show input. inr (image, is, told.0, told.1)
 
 -- images --------------------------------------------------------------------------------------
 
-checked_done : (bytes input : List ℕ) (most : ℕ) (image : Image) (s : Status) (report : List ℕ)
-    → ImageBytes image bytes → IsRunOfChecked image most input s report
-    → IsDone Run form.Image most bytes input s report
-checked_done bytes input most image s report spelled (inl run) =
+checked_done : (bytes input : List ℕ) (most : ℕ) (show : Show) (image : Image) (s : Status) (report : List ℕ)
+    → ImageBytes image bytes → IsRunOfChecked image most show input s report
+    → IsDone Run form.Image most show bytes input s report
+checked_done bytes input most show image s report spelled (inl run) =
     inr (image, spelled, run.0, run.1)
-checked_done bytes input most image s report spelled (inr bad) =
+checked_done bytes input most show image s report spelled (inr bad) =
     inl (_, inr (image, bad.0, bad.1, spelled, bad.2, refl), bad.3)
 
 -- the answer to the image that the bytes spell
-pub image_told : {E : Type 0} (bytes input : List ℕ) (most : ℕ) (image : Image)
+pub image_told : {E : Type 0} (bytes input : List ℕ) (most : ℕ) (show : Show) (image : Image)
     (r : Result Answer E) → ImageBytes image bytes
-    → IfOk r (λ a. IsRunOfChecked image most input a.status a.report.items)
-    → IfOk r (λ a. IsDone Run form.Image most bytes input a.status a.report.items)
-image_told bytes input most image (Err e) spelled told = tt
-image_told bytes input most image (Ok a) spelled told =
-    checked_done bytes input most image a.status a.report.items spelled told
+    → IfOk r (λ a. IsRunOfChecked image most show input a.status a.report.items)
+    → IfOk r (λ a. IsDone Run form.Image most show bytes input a.status a.report.items)
+image_told bytes input most show image (Err e) spelled told = tt
+image_told bytes input most show image (Ok a) spelled told =
+    checked_done bytes input most show image a.status a.report.items spelled told
 
--- the refusal of bytes that are no image
-pub no_image_told : (bytes input : List ℕ) (most : ℕ) (fault : ImageFault) (s : Status)
-    (report : List ℕ) → FirstFault bytes fault
-    → IsFixed status.Refused (image_text fault) s report
-    → IsDone Run form.Image most bytes input s report
-no_image_told bytes input most fault s report first told =
-    inl (image_text fault, inl (fault, first, refl), told)
+checked_target : (text input : List ℕ) (most : ℕ) (show : Show) (image : Image) (s : Status)
+    (report : List ℕ) → TargetText image text → IsRunOfChecked image most show input s report
+    → IsDone Run form.Target most show text input s report
+checked_target text input most show image s report spelled (inl run) =
+    inr (image, spelled, run.0, run.1)
+checked_target text input most show image s report spelled (inr bad) =
+    inl (_, inr (image, bad.0, bad.1, spelled, bad.2, refl), bad.3)
+
+-- the answer to the image of a target text
+pub target_told : {E : Type 0} (text input : List ℕ) (most : ℕ) (show : Show) (image : Image)
+    (r : Result Answer E) → TargetText image text
+    → IfOk r (λ a. IsRunOfChecked image most show input a.status a.report.items)
+    → IfOk r (λ a. IsDone Run form.Target most show text input a.status a.report.items)
+target_told text input most show image (Err e) spelled told = tt
+target_told text input most show image (Ok a) spelled told =
+    checked_target text input most show image a.status a.report.items spelled told
+
+-- what tools make ----------------------------------------------------------------------------
+
+-- the image of a target text, or its refusal
+pub assembled_told : {E : Type 0} (text : List ℕ) (made : Made) (r : Result Answer E)
+    → Makes (IsOneImage text) (tools.IsNoText text) made
+    → IfOk r (λ a. IsMade made a.status a.report.items)
+    → IfOk r (λ a. (how : FileForm) (most : ℕ) (show : Show) (input : List ℕ)
+    → IsDone Assemble how most show text input a.status a.report.items)
+assembled_told text made (Err e) h told = tt
+assembled_told text (tool.Bytes bytes) (Ok a) h told =
+    λ how most show input. inr (subst (IsOneImage text) (sym told.1) h, told.0)
+assembled_told text (tool.Refused said) (Ok a) h told =
+    λ how most show input. inl (refusal_report said, (h.0, h.1, ap refusal_report h.2), told)
+
+-- the target text of an image, or its refusal
+pub disassembled_told : {E : Type 0} (bytes : List ℕ) (made : Made) (r : Result Answer E)
+    → Makes (λ text. IsOneImage text bytes) (tools.IsNoImage bytes) made
+    → IfOk r (λ a. IsMade made a.status a.report.items)
+    → IfOk r (λ a. (how : FileForm) (most : ℕ) (show : Show) (input : List ℕ)
+    → IsDone Disassemble how most show bytes input a.status a.report.items)
+disassembled_told bytes made (Err e) h told = tt
+disassembled_told bytes (tool.Bytes text) (Ok a) h told =
+    λ how most show input.
+    inr (subst (λ (t : List ℕ). IsOneImage t bytes) (sym told.1) h, told.0)
+disassembled_told bytes (tool.Refused said) (Ok a) h told =
+    λ how most show input. inl (refusal_report said, (h.0, h.1, ap refusal_report h.2), told)
+
+-- the report on an image, or its refusal
+not_good : (bytes : List ℕ) (said : Said) → tools.IsNoImage bytes said ⊎ tools.IsBadImage bytes said
+    → IsNoImage bytes (refusal_report said) ⊎ IsBadImage bytes (refusal_report said)
+not_good bytes said (inl x) = inl (x.0, x.1, ap refusal_report x.2)
+not_good bytes said (inr x) = inr (x.0, x.1, x.2, x.3, x.4, ap refusal_report x.5)
+
+pub checked_told : {E : Type 0} (bytes : List ℕ) (made : Made) (r : Result Answer E)
+    → Makes (IsGoodImage bytes)
+    (λ said. tools.IsNoImage bytes said ⊎ tools.IsBadImage bytes said) made
+    → IfOk r (λ a. IsMade made a.status a.report.items)
+    → IfOk r (λ a. (how : FileForm) (most : ℕ) (show : Show) (input : List ℕ)
+    → IsDone Check how most show bytes input a.status a.report.items)
+checked_told bytes made (Err e) h told = tt
+checked_told bytes (tool.Bytes good) (Ok a) h told =
+    λ how most show input. inr (subst (IsGoodImage bytes) (sym told.1) h, told.0)
+checked_told bytes (tool.Refused said) (Ok a) h told =
+    λ how most show input. inl (refusal_report said, not_good bytes said h, told)
 
 -- the work -----------------------------------------------------------------------------------
 
--- what `eval` does, of a request that evaluates
-pub evaluate_told : {E : Type 0} (work : Work) (how : FileForm) (most : ℕ)
+-- any file has fewer bytes than 2^32 - 1
+pub few_bytes : (how : FileForm) → limit_of how < 4294967295
+unfolding most_source_bytes most_target_bytes most_image_bytes
+few_bytes form.Source = omega arith
+few_bytes form.Target = omega arith
+few_bytes form.Image = omega arith
+
+-- what `eval` does, whatever its file is read as
+pub evaluate_told : {E : Type 0} (work : Work) (how : FileForm) (most : ℕ) (show : Show)
     (bytes seen input : List ℕ) (r : Result Answer E) → work ≡ Evaluate → seen ≡ input
-    → IfOk r (λ a. (f : FileForm) → IsDone Evaluate f most bytes seen a.status a.report.items)
-    → IfOk r (λ a. IsDone work how most bytes input a.status a.report.items)
-evaluate_told work how most bytes seen input (Err e) is same told = tt
-evaluate_told work how most bytes seen input (Ok a) is same told =
-    subst (λ (w : Work). IsDone w how most bytes input a.status a.report.items) (sym is)
-    (subst (λ (i : List ℕ). IsDone Evaluate how most bytes i a.status a.report.items) same
-    (told how))
+    → IfOk r (λ a. (f : FileForm) (v : Show)
+    → IsDone Evaluate f most v bytes seen a.status a.report.items)
+    → IfOk r (λ a. IsDone work how most show bytes input a.status a.report.items)
+evaluate_told work how most show bytes seen input (Err e) is same told = tt
+evaluate_told work how most show bytes seen input (Ok a) is same told =
+    subst (λ (w : Work). IsDone w how most show bytes input a.status a.report.items) (sym is)
+    (subst (λ (i : List ℕ). IsDone Evaluate how most show bytes i a.status a.report.items) same
+    (told how show))
 
 -- what `run` does with a file of this form
-pub run_form_told : {E : Type 0} (work : Work) (how form : FileForm) (most : ℕ)
-    (bytes input : List ℕ) (r : Result Answer E) → work ≡ Run → how ≡ form
-    → IfOk r (λ a. IsDone Run form most bytes input a.status a.report.items)
-    → IfOk r (λ a. IsDone work how most bytes input a.status a.report.items)
-run_form_told work how form most bytes input (Err e) is same told = tt
-run_form_told work how form most bytes input (Ok a) is same told =
-    subst (λ (w : Work). IsDone w how most bytes input a.status a.report.items) (sym is)
-    (subst (λ (f : FileForm). IsDone Run f most bytes input a.status a.report.items) (sym same)
-    told)
+pub run_form_told : {E : Type 0} (work : Work) (how read : FileForm) (most : ℕ) (show seen : Show)
+    (bytes input : List ℕ) (r : Result Answer E) → work ≡ Run → read ≡ how → seen ≡ show
+    → IfOk r (λ a. IsDone Run read most seen bytes input a.status a.report.items)
+    → IfOk r (λ a. IsDone work how most show bytes input a.status a.report.items)
+run_form_told work how read most show seen bytes input (Err e) is same shows told = tt
+run_form_told work how read most show seen bytes input (Ok a) is same shows told =
+    subst (λ (w : Work). IsDone w how most show bytes input a.status a.report.items) (sym is)
+    (subst (λ (f : FileForm). IsDone Run f most show bytes input a.status a.report.items) same
+    (subst (λ (v : Show). IsDone Run read most v bytes input a.status a.report.items) shows told))
+
+-- what a tool does, whatever is asked for besides its file
+pub tool_told : {E : Type 0} (work which : Work) (how : FileForm) (most : ℕ) (show : Show)
+    (bytes input : List ℕ) (r : Result Answer E) → work ≡ which
+    → IfOk r (λ a. (f : FileForm) (m : ℕ) (v : Show) (i : List ℕ)
+    → IsDone which f m v bytes i a.status a.report.items)
+    → IfOk r (λ a. IsDone work how most show bytes input a.status a.report.items)
+tool_told work which how most show bytes input (Err e) is told = tt
+tool_told work which how most show bytes input (Ok a) is told =
+    subst (λ (w : Work). IsDone w how most show bytes input a.status a.report.items) (sym is)
+    (told how most show input)
 
 -- the whole answer ----------------------------------------------------------------------------
 
@@ -219,20 +324,17 @@ behind_told q held kept old now new bytes (Ok a) same le next h told =
       (here.0, input_last q.input held old now new here.0 le here.1, here.2),
     )
 
--- the answer for words that are no request
-pub usage_told : {E : Type 0} (request : Option Request) (held : List ℕ → Option (List ℕ))
-    (rose : Type 0) (r : Result Answer E) → None ≡ request
-    → IfOk r (λ a. IsFixed status.Usage usage_text a.status a.report.items)
-    → IfOk r (λ a. IsAnswer request held rose a.status a.report.items)
-usage_told request held rose (Err e) is f = tt
-usage_told request held rose (Ok a) is f =
-    subst (λ q. IsAnswer q held rose a.status a.report.items) is f
+-- the request of the code is that of the words
+pub seen_told : (r : Option Asked) (o : Option line.Request) → option_map line.request_seen r ≡ o
+    → option_map request_seen r ≡ option_map planned o
+seen_told None o e = ap (option_map planned) e
+seen_told (Some asked) o e = ap (option_map planned) e
 
 -- the answer to the request of the words
-pub asked_told : {E : Type 0} (request : Option Request) (q : Request)
-    (held : List ℕ → Option (List ℕ)) (rose : Type 0) (r : Result Answer E) → Some q ≡ request
-    → IfOk r (λ a. IsAnswer (Some q) held rose a.status a.report.items)
+pub asked_told : {E : Type 0} (seen request : Option Request) (held : List ℕ → Option (List ℕ))
+    (rose : Type 0) (r : Result Answer E) → seen ≡ request
+    → IfOk r (λ a. IsAnswer seen held rose a.status a.report.items)
     → IfOk r (λ a. IsAnswer request held rose a.status a.report.items)
-asked_told request q held rose (Err e) is told = tt
-asked_told request q held rose (Ok a) is told =
+asked_told seen request held rose (Err e) is told = tt
+asked_told seen request held rose (Ok a) is told =
     subst (λ q. IsAnswer q held rose a.status a.report.items) is told

@@ -20,8 +20,12 @@ use Rattle.c_meaning.specs.declared.outcome.Outcome.TheVariants as outcome
 use Rattle.c_meaning.specs.Answer.{answer}
 use Rattle.block_image.specs.Spelling.{ImageBytes}
 use Rattle.block_check.specs.Faults.{IsGood}
-use Rattle.trips_run.specs.declared.command_line.Work.{Work}
-use Rattle.trips_run.specs.declared.command_line.Work.TheVariants.{Run, Evaluate}
+use Rattle.target_asm_spec.specs.Text.{TargetText}
+use Rattle.trips_report.specs.declared.show.Show.{Show}
+use Rattle.trips_tools.specs.Tools.{IsOneImage, IsGoodImage}
+use Rattle.trips_words.specs.declared.commands.Command.{Command as Work}
+use Rattle.trips_words.specs.declared.commands.Command.TheVariants.{Run, Evaluate, Compile}
+use Rattle.trips_words.specs.declared.commands.Command.TheVariants.{Assemble, Disassemble, Check}
 use Rattle.trips_run.specs.declared.command_line.FileForm.{FileForm}
 use Rattle.trips_run.specs.declared.command_line.FileForm.TheVariants as form
 use Rattle.trips_run.specs.declared.loading.Loaded.{Loaded}
@@ -30,7 +34,7 @@ use Rattle.trips_run.specs.declared.status.Status.{Status}
 use Rattle.trips_run.specs.declared.status.Status.TheVariants as status
 use Rattle.trips_run.specs.Request.{Request, origin_held}
 use Rattle.trips_run.specs.Read.{IsRead, IsInputRead, limit_of}
-use Rattle.trips_run.specs.Report.{ending_of, run_report, usage_text, read_fault_text}
+use Rattle.trips_run.specs.Report.{ending_of, shown_report, usage_text, read_fault_text}
 use Rattle.trips_run.specs.Refusal.{front_refusal}
 use Rattle.trips_report.specs.Evaluations.{eval_report}
 use Rattle.trips_report.specs.Refusals.{too_large_text}
@@ -54,10 +58,11 @@ status_of ending.Budget = status.Budget
 status_of (ending.Trap block cause) = status.Trap
 
 -- These tell the sequential machine's run of an image on an input, within a budget of blocks.
-abbrev pub IsRunBy : List Block → List ℕ → List ℕ → ℕ → Status → List ℕ → Type 0
-IsRunBy blocks bytes input budget s report = let run = runs blocks (start bytes input) budget in
+abbrev pub IsRunBy : List Block → List ℕ → List ℕ → ℕ → Show → Status → List ℕ → Type 0
+IsRunBy blocks bytes input budget show s report =
+    let run = runs blocks (start bytes input) budget in
     let ended = ending_of run.1 run.0.next in
-    IsFixed (status_of ended) (run_report ended run.0) s report
+    IsFixed (status_of ended) (shown_report ended run.0 show) s report
 
 -- the status that tells an outcome
 abbrev pub eval_status : Outcome → Status
@@ -87,21 +92,36 @@ unfoldable pub placed : Placing
 placed = Greedy
 
 -- the image that is compiled from the text is run, on an input of bytes
-abbrev pub IsRunOfText : ℕ → List ℕ → List ℕ → Status → List ℕ → Type 0
-IsRunOfText most text input s report = (image : Image) × IsImageOf text placed image
-    × bytes.IsInput input × IsRunBy image.blocks image.bytes input most s report
+abbrev pub IsRunOfText : ℕ → Show → List ℕ → List ℕ → Status → List ℕ → Type 0
+IsRunOfText most show text input s report = (image : Image) × IsImageOf text placed image
+    × bytes.IsInput input × IsRunBy image.blocks image.bytes input most show s report
 
 -- the image is run, all of whose blocks are good
-abbrev pub IsRunOfImage : ℕ → List ℕ → List ℕ → Status → List ℕ → Type 0
-IsRunOfImage most bytes input s report = (image : Image) × ImageBytes image bytes
-    × All IsGood image.blocks × IsRunBy image.blocks image.bytes input most s report
+abbrev pub IsRunOfImage : ℕ → Show → List ℕ → List ℕ → Status → List ℕ → Type 0
+IsRunOfImage most show bytes input s report = (image : Image) × ImageBytes image bytes
+    × All IsGood image.blocks × IsRunBy image.blocks image.bytes input most show s report
+
+-- the image of the target text is run, all of whose blocks are good
+abbrev pub IsRunOfTarget : ℕ → Show → List ℕ → List ℕ → Status → List ℕ → Type 0
+IsRunOfTarget most show text input s report = (image : Image) × TargetText image text
+    × All IsGood image.blocks × IsRunBy image.blocks image.bytes input most show s report
+
+-- the image that is compiled from the text is written
+abbrev pub IsCompiled : List ℕ → Status → List ℕ → Type 0
+IsCompiled text s report = (image : Image) × IsImageOf text placed image × ImageBytes image report
+    × (s ≡ status.Ended)
 
 -- The work is done with the bytes of the file and of the input, within so many blocks or steps: a
 -- row for each command and each form of its file.
-abbrev pub IsWorked : Work → FileForm → ℕ → List ℕ → List ℕ → Status → List ℕ → Type 0
-IsWorked Evaluate how most text input s report = IsEvaluationOf most text input s report
-IsWorked Run form.Source most text input s report = IsRunOfText most text input s report
-IsWorked Run form.Image most bytes input s report = IsRunOfImage most bytes input s report
+abbrev pub IsWorked : Work → FileForm → ℕ → Show → List ℕ → List ℕ → Status → List ℕ → Type 0
+IsWorked Evaluate how most show text input s report = IsEvaluationOf most text input s report
+IsWorked Run form.Source most show text input s report = IsRunOfText most show text input s report
+IsWorked Run form.Target most show text input s report = IsRunOfTarget most show text input s report
+IsWorked Run form.Image most show bytes input s report = IsRunOfImage most show bytes input s report
+IsWorked Compile how most show text input s report = IsCompiled text s report
+IsWorked Assemble how most show text input s report = IsOneImage text report × (s ≡ status.Ended)
+IsWorked Disassemble how most show bytes input s report = IsOneImage report bytes × (s ≡ status.Ended)
+IsWorked Check how most show bytes input s report = IsGoodImage bytes report × (s ≡ status.Ended)
 
 -- the bytes of the file are refused with the report that says why
 abbrev pub IsRefusal : Work → FileForm → List ℕ → Status → List ℕ → Type 0
@@ -109,9 +129,9 @@ IsRefusal work how bytes s report =
     (text : List ℕ) × IsRefusedAs work how bytes text × IsFixed status.Refused text s report
 
 -- they are refused, or the work is done
-abbrev pub IsDone : Work → FileForm → ℕ → List ℕ → List ℕ → Status → List ℕ → Type 0
-IsDone work how most bytes input s report =
-    IsRefusal work how bytes s report ⊎ IsWorked work how most bytes input s report
+abbrev pub IsDone : Work → FileForm → ℕ → Show → List ℕ → List ℕ → Status → List ℕ → Type 0
+IsDone work how most show bytes input s report =
+    IsRefusal work how bytes s report ⊎ IsWorked work how most show bytes input s report
 
 -- The answer ----------------------------------------------------------------------------------
 
@@ -126,7 +146,7 @@ abbrev pub IsAnswerBehind : Request → (List ℕ → Option (List ℕ)) → Typ
     → List ℕ → Status → List ℕ → Type 0
 IsAnswerBehind q held rose bytes s report =
     (loaded : Loaded) × IsInputRead q.input held rose loaded
-    × AfterReading loaded (λ input. IsDone q.work q.form q.most bytes input s report) s report
+    × AfterReading loaded (λ input. IsDone q.work q.form q.most q.show bytes input s report) s report
 
 -- Of the request (none where the words make none), of what names hold, and of whether the count of
 -- the files' faults rose, this is the answer.

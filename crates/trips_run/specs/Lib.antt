@@ -4,9 +4,7 @@ pub mod Report
 pub mod Refusal
 pub mod Answer
 pub mod Checked
+pub mod Made
 pub mod Refused
 pub mod Table
 pub mod Evaluated
-pub mod Number
-pub mod Options
-pub mod Seen

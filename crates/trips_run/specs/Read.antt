@@ -2,9 +2,9 @@
 use Rattle.std.specs.Prelude.{◌≡◌, ℕ, ◌<◌, ◌≤◌, List, [], Option, None, Some, IfSome, length}
 use Rattle.c_tree.specs.declared.limits.TheConstants.{MOST_SOURCE_BYTES}
 use Rattle.trips_outside.specs.Outside.{Holds}
-use Rattle.trips_run.specs.declared.asked_answer.TheConstants.{MOST_IMAGE_BYTES}
+use Rattle.trips_run.specs.declared.asked_answer.TheConstants.{MOST_IMAGE_BYTES, MOST_TARGET_BYTES}
 use Rattle.trips_run.specs.declared.command_line.FileForm.{FileForm}
-use Rattle.trips_run.specs.declared.command_line.FileForm.TheVariants.{Source, Image}
+use Rattle.trips_run.specs.declared.command_line.FileForm.TheVariants.{Source, Target, Image}
 use Rattle.trips_run.specs.declared.loading.Loaded.{Loaded}
 use Rattle.trips_run.specs.declared.loading.Loaded.TheVariants.{Fault, TooLarge, Bytes}
 use Rattle.trips_run.specs.declared.loading.TheConstants.{MOST_INPUT_BYTES}
@@ -22,9 +22,14 @@ most_input_bytes = MOST_INPUT_BYTES
 unfoldable pub most_image_bytes : ℕ
 most_image_bytes = MOST_IMAGE_BYTES
 
+-- how many bytes a target text may have
+unfoldable pub most_target_bytes : ℕ
+most_target_bytes = MOST_TARGET_BYTES
+
 -- how many bytes a file may have, by what it is read as
 abbrev pub limit_of : FileForm → ℕ
 limit_of Source = most_source_bytes
+limit_of Target = most_target_bytes
 limit_of Image = most_image_bytes
 
 -- A fault comes only where the count of the files' faults rose. The bytes are those that are told,

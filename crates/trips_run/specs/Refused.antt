@@ -9,13 +9,17 @@ use Rattle.block_image.specs.Spelling.{ImageBytes}
 use Rattle.block_image.specs.FirstFault.{FirstFault}
 use Rattle.block_check.specs.declared.fault.CheckFault.{CheckFault}
 use Rattle.block_check.specs.Images.{IsFirstBad}
-use Rattle.trips_run.specs.declared.command_line.Work.{Work}
-use Rattle.trips_run.specs.declared.command_line.Work.TheVariants.{Run, Evaluate}
+use Rattle.target_asm_spec.specs.declared.fault.AsmFault.{AsmFault}
+use Rattle.target_asm_spec.specs.FirstAsmFault.{FirstAsmFault}
+use Rattle.target_asm_spec.specs.Text.{TargetText}
+use Rattle.trips_words.specs.declared.commands.Command.{Command as Work}
+use Rattle.trips_words.specs.declared.commands.Command.TheVariants.{Run, Evaluate, Compile}
+use Rattle.trips_words.specs.declared.commands.Command.TheVariants.{Assemble, Disassemble, Check}
 use Rattle.trips_run.specs.declared.command_line.FileForm.{FileForm}
 use Rattle.trips_run.specs.declared.command_line.FileForm.TheVariants as form
 use Rattle.trips_run.specs.Request.{Request, origin_held}
 use Rattle.trips_run.specs.Read.{most_input_bytes, limit_of}
-use Rattle.trips_report.specs.Refusals.{image_text, check_text}
+use Rattle.trips_report.specs.Refusals.{image_text, asm_text, check_text}
 use Rattle.trips_run.specs.Refusal.{front_refusal}
 
 -- a stage of the front end refuses the text, and this is its report
@@ -34,12 +38,28 @@ IsBadImage bytes report = (image : Image) × (number : ℕ) × (fault : CheckFau
     × ImageBytes image bytes × IsFirstBad image number fault
     × (report ≡ check_text number fault)
 
+-- the text is no target text, and goes wrong first where the report says
+abbrev pub IsNoText : List ℕ → List ℕ → Type 0
+IsNoText text report =
+    (fault : AsmFault) × FirstAsmFault text fault × (report ≡ asm_text fault)
+
+-- the text is that of an image, and the report names its first block that is not good
+abbrev pub IsBadText : List ℕ → List ℕ → Type 0
+IsBadText text report = (image : Image) × (number : ℕ) × (fault : CheckFault)
+    × TargetText image text × IsFirstBad image number fault
+    × (report ≡ check_text number fault)
+
 -- The bytes of a file are refused by what is done with it, with this report: a row for each command
 -- and each form of its file.
 abbrev pub IsRefusedAs : Work → FileForm → List ℕ → List ℕ → Type 0
 IsRefusedAs Evaluate how text report = IsRefusedByFront text report
 IsRefusedAs Run form.Source text report = IsRefusedByFront text report
+IsRefusedAs Run form.Target text report = IsNoText text report ⊎ IsBadText text report
 IsRefusedAs Run form.Image bytes report = IsNoImage bytes report ⊎ IsBadImage bytes report
+IsRefusedAs Compile how text report = IsRefusedByFront text report
+IsRefusedAs Assemble how text report = IsNoText text report
+IsRefusedAs Disassemble how bytes report = IsNoImage bytes report
+IsRefusedAs Check how bytes report = IsNoImage bytes report ⊎ IsBadImage bytes report
 
 -- the file has too many bytes, or they are refused
 abbrev pub IsBad : Request → List ℕ → Type 0

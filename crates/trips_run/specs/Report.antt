@@ -1,10 +1,13 @@
 -- The texts that the program writes. The reports of runs and evaluations are those of `trips_report`.
-use Rattle.std.specs.Prelude.{ℕ, List, codes}
+use Rattle.std.specs.Prelude.{ℕ, false, List, codes}
+use Rattle.trips_isa.specs.declared.run.Counts.{Counts}
 use Rattle.trips_isa.specs.declared.run.Ending.{Ending}
 use Rattle.trips_isa.specs.declared.run.Ending.TheVariants as ending
 use Rattle.trips_isa.specs.declared.run.Stepped.{Stepped}
 use Rattle.trips_isa.specs.declared.run.Stepped.TheVariants as stepped
 use Rattle.trips_isa.specs.Machine.{State}
+use Rattle.trips_report.specs.declared.show.Show.{Show}
+use Rattle.trips_report.specs.Runs as reports
 use Rattle.trips_report.specs.Runs.{plain_report}
 
 -- how a run ended, of which so many steps were made as the budget has, or fewer: a trap leaves the
@@ -15,7 +18,19 @@ ending_of stepped.Ended next = ending.Ended
 ending_of stepped.StackFull next = ending.StackFull
 ending_of (stepped.Trap cause) next = ending.Trap next cause
 
--- the report of a run, from how it ended and the state at its end: nothing more is shown
+-- the machine counts no cycles
+abbrev pub no_counts : Counts
+no_counts = record { cycles = 0; fetched = 0; committed = 0; flushed = 0 }
+
+-- the report of a run, from how it ended and the state at its end, and what is shown behind it
+abbrev pub shown_report : Ending → State → Show → List ℕ
+shown_report ending s show = reports.run_report ending s no_counts 0 show
+
+-- nothing is shown behind the ending
+abbrev pub nothing_shown : Show
+nothing_shown = record { regs = false; trace = false; cycles = false }
+
+-- the same where nothing more is shown
 abbrev pub run_report : Ending → State → List ℕ
 run_report ending s = plain_report ending s
 

@@ -3,8 +3,9 @@ use Rattle.std.specs.Prelude.{◌≡◌, ℕ, ◌<◌, ◌≤◌, List, [], ◌�
 use Rattle.std.specs.Prelude.{IsSomeAnd, ◌⊎◌, ℤ}
 use Rattle.std.specs.Fmt.{signed_decimal}
 use Rattle.trips_outside.specs.Outside.{Appended, AppendedPart, Holds}
-use Rattle.trips_run.specs.declared.command_line.Work.{Work}
-use Rattle.trips_run.specs.declared.command_line.Work.TheVariants.{Evaluate}
+use Rattle.trips_report.specs.declared.show.Show.{Show}
+use Rattle.trips_words.specs.declared.commands.Command.{Command as Work}
+use Rattle.trips_words.specs.declared.commands.Command.TheVariants.{Evaluate}
 use Rattle.trips_run.specs.declared.command_line.FileForm.{FileForm}
 use Rattle.trips_run.specs.declared.status.Status.{Status}
 use Rattle.trips_run.specs.declared.status.Status.TheVariants as status
@@ -12,6 +13,7 @@ use Rattle.trips_run.specs.Request.{Request, origin_held}
 use Rattle.trips_run.specs.Read.{HoldsInput, IsTold, limit_of}
 use Rattle.trips_run.specs.Refused.{IsLarge}
 use Rattle.trips_report.specs.Runs.{output_and}
+use Rattle.trips_run.specs.Report.{nothing_shown}
 use Rattle.trips_run.specs.Answer.{IsWorked, IsAnswer}
 
 -- Some answer that holds was cut off: the first part of its report was written.
@@ -44,15 +46,22 @@ IsOneOf s [] = ⊥
 IsOneOf s (one ∷ others) = (s ≡ one) ⊎ IsOneOf s others
 
 -- The request asks for this work on a file that is read so, within so many blocks or steps: the
--- file and the input are told, are these, and are within their limits.
-pub record Asks (request : Option Request) (held : List ℕ → Option (List ℕ)) (work : Work)
-    (how : FileForm) (most : ℕ) (bytes input : List ℕ) : Type 0 where
+-- file and the input are told, are these, and are within their limits. This is what a run shows.
+pub record AsksFor (request : Option Request) (held : List ℕ → Option (List ℕ)) (work : Work)
+    (how : FileForm) (most : ℕ) (show : Show) (bytes input : List ℕ) : Type 0 where
   pub q : Request
   pub asked : request ≡ Some q
   pub is_work : q.work ≡ work
   pub is_form : q.form ≡ how
   pub is_most : q.most ≡ most
+  pub is_show : q.show ≡ show
   pub told : IsTold q held bytes input
+
+-- the same where nothing is shown behind the ending
+abbrev pub Asks : Option Request → (List ℕ → Option (List ℕ)) → Work → FileForm → ℕ → List ℕ
+    → List ℕ → Type 0
+Asks request held work how most bytes input =
+    AsksFor request held work how most nothing_shown bytes input
 
 -- the request's file is told, and is longer than its limit
 abbrev pub HasLargeFile : Request → (List ℕ → Option (List ℕ)) → Type 0
@@ -73,7 +82,7 @@ pub record EndsAs (held : List ℕ → Option (List ℕ)) (q : Request) (s : Sta
   pub report : List ℕ
   pub holds : Holds (origin_held held q.origin) bytes
   pub holds_input : HoldsInput q.input held input
-  pub worked : IsWorked q.work q.form q.most bytes input s report
+  pub worked : IsWorked q.work q.form q.most q.show bytes input s report
 
 -- the request is an evaluation that ended so
 pub record EvalEnds (request : Option Request) (held : List ℕ → Option (List ℕ)) (s : Status)

@@ -1,55 +1,86 @@
 //! The answer to a request: its file is read first, then its input, and then the work is done.
 
-ghost use Rattle.std.specs.Prelude.{◌≡◌, ◌≤◌, length, Some, IfOk};
+ghost use Rattle.std.specs.Prelude.{◌≡◌, ◌≤◌, length, Some, IfOk, option_map};
 ghost use Rattle.trips_outside.specs.Outside.{Rose};
-ghost use Rattle.trips_run.specs.Request.{request_of, request_seen};
+ghost use Rattle.trips_run.specs.Request.{form_of, request_of, request_seen};
 ghost use Rattle.trips_run.specs.Read.{limit_of};
 ghost use Rattle.trips_run.specs.Answer.{AfterReading, IsDone, IsAnswerBehind, IsAnswer};
 
 use crate::answer::{Answer, fixed, too_large, unread};
-use crate::command_line::{Asked, FileForm, Work, request};
+use crate::command_line::{FileForm, asked_by, form_of, shown};
 use crate::eval_answer::text_evaluated;
-use crate::image_answer::bytes_answer;
+use crate::image_answer::{bytes_answer, target_answer};
 use crate::loading::{Loaded, read_input, read_origin};
 use crate::status::Status;
-use crate::text_answer::text_answer;
+use crate::text_answer::{text_answer, text_compiled};
+use crate::tool_answer::{bytes_checked, bytes_disassembled, text_assembled};
 use base::Items;
 use c_tree::MOST_SOURCE_BYTES;
 use std::alloc::{AllocError, Global};
 use trips_outside::Files;
+use trips_report::Show;
+use trips_words::{Asked, Command};
+
+/// How many bytes a target text may have.
+pub const MOST_TARGET_BYTES: u64 = 67_108_864;
 
 /// How many bytes an image may have.
 pub const MOST_IMAGE_BYTES: u64 = 71_303_188;
 
 // How many bytes a file may have, by what it is read as.
-#[tactic(auto, unfolding(crate::specs::Read::most_source_bytes, crate::specs::Read::most_image_bytes))]
+#[tactic(auto, unfolding(crate::specs::Read::most_source_bytes, crate::specs::Read::most_target_bytes, crate::specs::Read::most_image_bytes))]
 fn limit_for(form: FileForm) -> u64
     ensures { result ≡ limit_of form }
 {
     match form {
         FileForm::Source => MOST_SOURCE_BYTES,
+        FileForm::Target => MOST_TARGET_BYTES,
         FileForm::Image => MOST_IMAGE_BYTES,
     }
 }
 
+// Runs what the bytes of a file are.
+fn run_done(
+    alloc: Global,
+    form: FileForm,
+    bytes: &[u8],
+    input: Items<u8>,
+    blocks: u32,
+    show: Show,
+) -> Result<Answer, AllocError>
+    requires { length bytes.now ≤ limit_of form }
+    ensures { IfOk result (λ answer. IsDone Command.Run form blocks show bytes.now input
+        answer.status answer.report.items) }
+{
+    match form {
+        FileForm::Source => text_answer(alloc, bytes, input, blocks, show),
+        FileForm::Target => target_answer(alloc, bytes, input, blocks, show),
+        FileForm::Image => bytes_answer(alloc, bytes, input, blocks, show),
+    }
+}
+
 // Does the work with the bytes of the file and of the input.
-#[tactic(auto, unfolding(crate::specs::Read::most_source_bytes, crate::specs::Read::most_image_bytes))]
 fn done(
     alloc: Global,
     asked: Asked<'_>,
     bytes: &[u8],
     input: Items<u8>,
 ) -> Result<Answer, AllocError>
-    requires { length bytes.now ≤ limit_of asked.form }
-    ensures { IfOk result (λ answer. IsDone asked.entry.work asked.entry.form asked.entry.most
-        bytes.now input answer.status answer.report.items) }
+    requires { length bytes.now ≤ limit_of (form_of asked.command asked.file.now) }
+    ensures { IfOk result (λ answer. IsDone asked.entry.command
+        (form_of asked.entry.command asked.entry.file.now) asked.entry.most
+        (request_seen asked.entry).show bytes.now input answer.status answer.report.items) }
 {
-    match asked.work {
-        Work::Evaluate => text_evaluated(alloc, bytes, input.as_slice(), asked.most),
-        Work::Run => match asked.form {
-            FileForm::Source => text_answer(alloc, bytes, input, asked.most),
-            FileForm::Image => bytes_answer(alloc, bytes, input, asked.most),
-        },
+    match asked.command {
+        Command::Run => {
+            let form = form_of(asked.command, asked.file);
+            run_done(alloc, form, bytes, input, asked.most, shown(asked))
+        }
+        Command::Evaluate => text_evaluated(alloc, bytes, input.as_slice(), asked.most),
+        Command::Compile => text_compiled(alloc, bytes),
+        Command::Assemble => text_assembled(alloc, bytes),
+        Command::Disassemble => bytes_disassembled(alloc, bytes),
+        Command::Check => bytes_checked(alloc, bytes),
     }
 }
 
@@ -60,10 +91,11 @@ fn input_answer(
     bytes: &[u8],
     loaded: Loaded,
 ) -> Result<Answer, AllocError>
-    requires { length bytes.now ≤ limit_of asked.form }
+    requires { length bytes.now ≤ limit_of (form_of asked.command asked.file.now) }
     ensures { IfOk result (λ answer. AfterReading loaded
-        (λ input. IsDone asked.entry.work asked.entry.form asked.entry.most bytes.now input
-        answer.status answer.report.items)
+        (λ input. IsDone asked.entry.command
+        (form_of asked.entry.command asked.entry.file.now) asked.entry.most
+        (request_seen asked.entry).show bytes.now input answer.status answer.report.items)
         answer.status answer.report.items) }
 {
     match loaded {
@@ -80,7 +112,7 @@ fn file_answer<F: Files>(
     asked: Asked<'_>,
     bytes: &[u8],
 ) -> Result<Answer, AllocError>
-    requires { length bytes.now ≤ limit_of asked.form }
+    requires { length bytes.now ≤ limit_of (form_of asked.command asked.file.now) }
     ensures answer { IfOk result (λ answer. IsAnswerBehind (request_seen asked.entry)
         (F.held files.old) (Rose (F.faults files.old) (F.faults files.new)) bytes.now
         answer.status answer.report.items) }
@@ -103,15 +135,34 @@ fn asked_answer<F: Files>(
     ensures kept { F.held files.new ≡ F.held files.old }
     ensures later { F.faults files.old ≤ F.faults files.new }
 {
-    match read_origin(alloc, files, asked.origin, limit_for(asked.form))? {
+    let limit = limit_for(form_of(asked.command, asked.file));
+    match read_origin(alloc, files, asked.file, asked.functions, limit)? {
         Loaded::Fault => unread(alloc),
         Loaded::TooLarge => too_large(alloc),
         Loaded::Bytes(bytes) => file_answer(alloc, files, asked, bytes.as_slice()),
     }
 }
 
-/// What is answered to the words. Nothing is written yet.
+// What is answered to a request, or where there is none.
 #[tactic(auto, unfolding(crate::specs::Report::usage_text))]
+fn answer_to<F: Files>(
+    alloc: Global,
+    files: &mut F,
+    asked: Option<Asked<'_>>,
+) -> Result<Answer, AllocError>
+    ensures answer { IfOk result (λ answer. IsAnswer (option_map request_seen asked.entry)
+        (F.held files.old) (Rose (F.faults files.old) (F.faults files.new))
+        answer.status answer.report.items) }
+    ensures kept { F.held files.new ≡ F.held files.old }
+    ensures later { F.faults files.old ≤ F.faults files.new }
+{
+    match asked {
+        None => fixed(alloc, Status::Usage, b"usage\n"),
+        Some(asked) => asked_answer(alloc, files, asked),
+    }
+}
+
+/// What is answered to the words. Nothing is written yet.
 pub fn answer_for<F: Files>(
     alloc: Global,
     words: &[String],
@@ -122,8 +173,6 @@ pub fn answer_for<F: Files>(
     ensures kept { F.held files.new ≡ F.held files.old }
     ensures later { F.faults files.old ≤ F.faults files.new }
 {
-    match request(words) {
-        None => fixed(alloc, Status::Usage, b"usage\n"),
-        Some(asked) => asked_answer(alloc, files, asked),
-    }
+    let asked = asked_by(alloc, words)?;
+    answer_to(alloc, files, asked)
 }

@@ -1,7 +1,8 @@
 //! `eval` on a text of C.
 
 ghost use Rattle.std.specs.Prelude.{◌≡◌, ◌<◌, length, IfOk};
-ghost use Rattle.trips_run.specs.declared.command_line.Work.TheVariants.{Evaluate};
+ghost use Rattle.trips_report.specs.declared.show.Show.{Show};
+ghost use Rattle.trips_words.specs.declared.commands.Command.TheVariants.{Evaluate};
 ghost use Rattle.trips_run.specs.declared.command_line.FileForm.{FileForm};
 ghost use Rattle.trips_run.specs.Answer.{eval_status, IsEvaluation, IsDone};
 
@@ -53,7 +54,8 @@ pub fn text_evaluated(
     steps: u32,
 ) -> Result<Answer, AllocError>
     requires { length text.now < 4_294_967_295 }
-    ensures { IfOk result (λ answer. (form : FileForm) → IsDone Evaluate form steps text.now
+    ensures { IfOk result (λ answer. (form : FileForm) (show : Show)
+        → IsDone Evaluate form steps show text.now
         input.now answer.status answer.report.items) }
 {
     match front(alloc, text) {

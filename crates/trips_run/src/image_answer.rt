@@ -1,8 +1,8 @@
-//! `run` on the bytes of an image.
+//! `run` on the bytes of an image, and on a target text.
 
 ghost use Rattle.std.specs.Prelude.{◌≡◌, IfOk};
 ghost use Rattle.trips_isa.specs.Images.{FitsImage};
-ghost use Rattle.trips_run.specs.declared.command_line.Work.TheVariants.{Run};
+ghost use Rattle.trips_words.specs.declared.commands.Command.TheVariants.{Run};
 ghost use Rattle.trips_run.specs.declared.command_line.FileForm.TheVariants as form;
 ghost use Rattle.trips_run.specs.Answer.{IsDone};
 ghost use Rattle.trips_run.specs.Checked.{IsRunOfChecked};
@@ -13,8 +13,9 @@ use base::Items;
 use block_check::{CheckedImage, ImageRefusal};
 use block_image::{ImageFault, decode};
 use std::alloc::{AllocError, Global};
+use target_asm::{AsmFault, assemble};
 use trips_isa::Image;
-use trips_report::Said;
+use trips_report::{Said, Show};
 
 // Runs the image where its blocks are good.
 fn checked_answer(
@@ -22,13 +23,14 @@ fn checked_answer(
     image: Image,
     input: Items<u8>,
     blocks: u32,
+    show: Show,
 ) -> Result<Answer, AllocError>
     requires { FitsImage image }
     ensures { IfOk result (λ answer.
-        IsRunOfChecked image blocks input answer.status answer.report.items) }
+        IsRunOfChecked image blocks show input answer.status answer.report.items) }
 {
     match CheckedImage::make(alloc, image) {
-        Ok(checked) => run_image(alloc, &checked, input, blocks),
+        Ok(checked) => run_image(alloc, &checked, input, blocks, show),
         Err(ImageRefusal::Bad(number, fault)) => refused(alloc, Said::Check(number, fault)),
         Err(ImageRefusal::Memory) => Err(AllocError),
     }
@@ -40,13 +42,32 @@ pub fn bytes_answer(
     bytes: &[u8],
     input: Items<u8>,
     blocks: u32,
+    show: Show,
 ) -> Result<Answer, AllocError>
-    ensures { IfOk result (λ answer. IsDone Run form.Image blocks bytes.now input answer.status
+    ensures { IfOk result (λ answer. IsDone Run form.Image blocks show bytes.now input answer.status
         answer.report.items) }
 {
     match decode(alloc, bytes) {
-        Ok(image) => checked_answer(alloc, image, input, blocks),
+        Ok(image) => checked_answer(alloc, image, input, blocks, show),
         Err(ImageFault::Memory) => Err(AllocError),
         Err(fault) => refused(alloc, Said::Image(fault)),
+    }
+}
+
+/// What `run` answers for a target text and an input: its image runs.
+pub fn target_answer(
+    alloc: Global,
+    text: &[u8],
+    input: Items<u8>,
+    blocks: u32,
+    show: Show,
+) -> Result<Answer, AllocError>
+    ensures { IfOk result (λ answer. IsDone Run form.Target blocks show text.now input answer.status
+        answer.report.items) }
+{
+    match assemble(alloc, text) {
+        Ok(image) => checked_answer(alloc, image, input, blocks, show),
+        Err(AsmFault::Memory) => Err(AllocError),
+        Err(fault) => refused(alloc, Said::Asm(fault)),
     }
 }

@@ -11,12 +11,11 @@ mod command_line;
 mod eval_answer;
 mod image_answer;
 mod loading;
-mod number;
-mod options;
 mod report;
 mod running;
 mod status;
 mod text_answer;
+mod tool_answer;
 mod top;
 
 pub use status::Status;

@@ -2,10 +2,9 @@
 
 ghost use Rattle.std.specs.Prelude.{◌≡◌, ◌≤◌, option_copied, IfOk};
 ghost use Rattle.trips_outside.specs.Outside.{Rose};
-ghost use Rattle.trips_run.specs.Request.{origin_held, origin_seen};
+ghost use Rattle.trips_run.specs.Request.{origin_held, origin_of};
 ghost use Rattle.trips_run.specs.Read.{IsRead, IsInputRead, IsWithin};
 
-use crate::command_line::Origin;
 use base::Items;
 use bench_text::bench_text;
 use std::alloc::{AllocError, Global};
@@ -43,22 +42,24 @@ pub fn read<F: Files>(
     }
 }
 
-/// Reads what a request works with, which may have at most `limit` bytes. Want of memory is the only error.
+/// Reads what a request works with, which may have at most `limit` bytes: the file, or the text of the
+/// benchmark where a number of functions is said. Want of memory is the only error.
 pub fn read_origin<F: Files>(
     alloc: Global,
     files: &mut F,
-    origin: Origin<'_>,
+    file: &str,
+    functions: Option<u32>,
     limit: u64,
 ) -> Result<Loaded, AllocError>
-    ensures ok { IfOk result (IsRead (origin_held (F.held files.old) (origin_seen origin.entry))
+    ensures ok { IfOk result (IsRead (origin_held (F.held files.old) (origin_of file.now functions))
         (Rose (F.faults files.old) (F.faults files.new)) limit) }
     ensures within { IfOk result (IsWithin limit) }
     ensures kept { F.held files.new ≡ F.held files.old }
     ensures later { F.faults files.old ≤ F.faults files.new }
 {
-    match origin {
-        Origin::File(name) => read(alloc, files, name, limit),
-        Origin::Bench(functions) => {
+    match functions {
+        None => read(alloc, files, file, limit),
+        Some(functions) => {
             let text = bench_text(alloc, functions)?;
             if text.len() as u64 > limit {
                 Ok(Loaded::TooLarge)

@@ -3,7 +3,7 @@
 ghost use Rattle.std.specs.Prelude.{◌≡◌, IfOk};
 ghost use Rattle.trips_report.specs.Evaluations.{eval_report};
 ghost use Rattle.trips_report.specs.Refusals.{refusal_report};
-ghost use Rattle.trips_run.specs.Report.{run_report};
+ghost use Rattle.trips_run.specs.Report.{shown_report};
 
 use block_atomic::Arch;
 use c_meaning::Outcome;
@@ -11,16 +11,15 @@ use std::alloc::{AllocError, Global};
 use trips_isa::{Counts, Ending};
 use trips_report::{Said, Show};
 
-/// The report of a run, from how it ended and the machine at its end. No option shows more.
-#[tactic(auto, unfolding(trips_report::specs::Lines::with_part))]
-pub fn run_text(alloc: Global, ending: Ending, arch: &Arch) -> Result<Vec<u8>, AllocError>
-    ensures { IfOk result (λ report. report.items ≡ run_report ending arch.now.state) }
+/// The report of a run, from how it ended and the machine at its end, with what is shown behind it.
+pub fn run_text(
+    alloc: Global,
+    ending: Ending,
+    arch: &Arch,
+    show: Show,
+) -> Result<Vec<u8>, AllocError>
+    ensures { IfOk result (λ report. report.items ≡ shown_report ending arch.now.state show) }
 {
-    let show = Show {
-        regs: false,
-        trace: false,
-        cycles: false,
-    };
     let counts = Counts {
         cycles: 0,
         fetched: 0,

@@ -13,6 +13,7 @@ use block_atomic::Arch;
 use block_check::CheckedImage;
 use std::alloc::{AllocError, Global};
 use trips_isa::{Ending, Stepped};
+use trips_report::Show;
 
 // The status that tells an ending.
 fn status_for(ending: Ending) -> Status
@@ -50,23 +51,24 @@ fn run_blocks(arch: &mut Arch, image: &CheckedImage, budget: u32) -> Ending
     Ending::Budget
 }
 
-/// Runs an image on an input, for so many blocks, and tells how its run ended. Want of memory is the
+/// Runs an image on an input, for so many blocks, and tells how its run ended and what is shown. Want of memory is the
 /// only error.
 pub fn run_image(
     alloc: Global,
     image: &CheckedImage,
     input: Items<u8>,
     blocks: u32,
+    show: Show,
 ) -> Result<Answer, AllocError>
     requires { 0 < length image.now.blocks }
-    ensures { IfOk result (λ answer. IsRunBy image.now.blocks image.now.bytes input blocks
+    ensures { IfOk result (λ answer. IsRunBy image.now.blocks image.now.bytes input blocks show
         answer.status answer.report.items) }
 {
     let Ok(mut arch) = Arch::make(alloc, image, input.into_vec(), blocks) else {
         return Err(AllocError);
     };
     let ending = run_blocks(&mut arch, image, blocks);
-    let report = run_text(alloc, ending, &arch)?;
+    let report = run_text(alloc, ending, &arch, show)?;
     Ok(Answer {
         status: status_for(ending),
         report,

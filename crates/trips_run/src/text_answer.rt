@@ -1,17 +1,23 @@
-//! `run` on a text of C.
+//! `run` and `compile` on a text of C.
 
-ghost use Rattle.std.specs.Prelude.{◌≡◌, ◌<◌, length, IfOk};
-ghost use Rattle.trips_run.specs.declared.command_line.Work.TheVariants.{Run};
+ghost use Rattle.std.specs.Prelude.{◌≡◌, ◌<◌, ℕ, List, length, IfOk};
+ghost use Rattle.block_image.specs.Spelling.{ImageBytes};
+ghost use Rattle.trips_words.specs.declared.commands.Command.TheVariants.{Run, Compile};
+ghost use Rattle.trips_run.specs.declared.command_line.FileForm.{FileForm};
 ghost use Rattle.trips_run.specs.declared.command_line.FileForm.TheVariants as form;
 ghost use Rattle.flat_lower.specs.Keeps.{IsInput};
-ghost use Rattle.trips_run.specs.Answer.{IsDone, IsRunBy};
+ghost use Rattle.trips_run.specs.Answer.{IsDone};
 
 use crate::answer::{Answer, stage_refused};
 use crate::running::run_image;
-use base::Items;
+use crate::status::Status;
+use base::{Items, Memory};
+use block_check::CheckedImage;
+use block_image::encode;
 use c_compile::compile;
 use grid_place::Placing;
 use std::alloc::{AllocError, Global};
+use trips_report::Show;
 
 // Bytes are an input of a program.
 fn is_input(input: &[u8])
@@ -24,16 +30,51 @@ pub fn text_answer(
     text: &[u8],
     input: Items<u8>,
     blocks: u32,
+    show: Show,
 ) -> Result<Answer, AllocError>
     requires { length text.now < 4_294_967_295 }
-    ensures { IfOk result (λ answer. IsDone Run form.Source blocks text.now input answer.status
+    ensures { IfOk result (λ answer. IsDone Run form.Source blocks show text.now input answer.status
         answer.report.items) }
 {
     match compile(alloc, text, Placing::Greedy) {
         Ok(image) => {
             is_input(input.as_slice());
-            run_image(alloc, &image, input, blocks)
+            run_image(alloc, &image, input, blocks, show)
         }
+        Err(refusal) => stage_refused(alloc, refusal),
+    }
+}
+
+// The bytes of an image that was compiled.
+fn image_bytes(alloc: Global, image: &CheckedImage) -> Result<Vec<u8>, Memory>
+    ensures { IfOk result (λ bytes. ImageBytes image.now bytes.items) }
+{
+    let copy = image.copy_out(alloc)?;
+    encode(alloc, &copy)
+}
+
+// They are written.
+fn image_written(alloc: Global, image: &CheckedImage) -> Result<Answer, AllocError>
+    ensures { IfOk result (λ answer. ImageBytes image.now answer.report.items
+        × (answer.status ≡ Status.Ended)) }
+{
+    match image_bytes(alloc, image) {
+        Ok(report) => Ok(Answer {
+            status: Status::Ended,
+            report,
+        }),
+        Err(_) => Err(AllocError),
+    }
+}
+
+/// What `compile` answers for a text of C: the bytes of its image.
+pub fn text_compiled(alloc: Global, source: &[u8]) -> Result<Answer, AllocError>
+    requires { length source.now < 4_294_967_295 }
+    ensures { IfOk result (λ answer. (form : FileForm) (most : ℕ) (show : Show) (input : List ℕ)
+        → IsDone Compile form most show source.now input answer.status answer.report.items) }
+{
+    match compile(alloc, source, Placing::Greedy) {
+        Ok(image) => image_written(alloc, &image),
         Err(refusal) => stage_refused(alloc, refusal),
     }
 }

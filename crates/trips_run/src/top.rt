@@ -9,8 +9,12 @@ ghost use Rattle.c_compile.specs.Images.{IsImageOf};
 ghost use Rattle.block_image.specs.Spelling.{ImageBytes};
 ghost use Rattle.block_check.specs.Faults.{IsGood};
 ghost use Rattle.trips_outside.specs.Outside.{Rose, Appended};
-ghost use Rattle.trips_run.specs.declared.command_line.Work.{Work};
-ghost use Rattle.trips_run.specs.declared.command_line.Work.TheVariants.{Run, Evaluate};
+ghost use Rattle.target_asm_spec.specs.Text.{TargetText};
+ghost use Rattle.trips_report.specs.declared.show.Show.{Show};
+ghost use Rattle.trips_tools.specs.Tools.{IsOneImage, IsGoodImage};
+ghost use Rattle.trips_words.specs.declared.commands.Command.{Command as Work};
+ghost use Rattle.trips_words.specs.declared.commands.Command.TheVariants.{Run, Evaluate, Compile};
+ghost use Rattle.trips_words.specs.declared.commands.Command.TheVariants.{Assemble, Disassemble, Check};
 ghost use Rattle.trips_run.specs.declared.command_line.FileForm.{FileForm};
 ghost use Rattle.trips_run.specs.declared.command_line.FileForm.TheVariants as form;
 ghost use Rattle.trips_run.specs.Request.{Request, request_of};
@@ -18,8 +22,8 @@ ghost use Rattle.trips_report.specs.Evaluations.{eval_report};
 ghost use Rattle.trips_report.specs.Refusals.{too_large_text};
 ghost use Rattle.trips_run.specs.Refused.{IsRefusedAs, MayBeRefused, IsRefused};
 ghost use Rattle.trips_run.specs.Answer.{status_of, eval_status, outcome_of, placed};
-ghost use Rattle.trips_run.specs.Report.{ending_of, run_report};
-ghost use Rattle.trips_run.specs.Table.{IsAnswered, IsCutOff, IsOneOf, ended_report, full_report, Asks};
+ghost use Rattle.trips_run.specs.Report.{ending_of, run_report, shown_report};
+ghost use Rattle.trips_run.specs.Table.{IsAnswered, IsCutOff, IsOneOf, ended_report, full_report, Asks, AsksFor};
 ghost use Rattle.trips_run.specs.Table.{HasLargeFile, HasLargeInput, EndsAs, EvalEnds};
 ghost use Rattle.trips_run.specs.Evaluated.{RunEndsAs};
 
@@ -83,6 +87,67 @@ pub fn trips_run<F: Files, K: Sink>(
         × Appended (K.written sink.old) (K.written sink.new)
         (run_report (ending_of run.1 run.0.next) run.0) }
 
+    // The same of both, and of the run of a target text, with what is shown behind the ending.
+    ensures shown_text_run { (most : ℕ) (show : Show) (text input : List ℕ) (program : TypedProgram)
+        → AsksFor (request_of words.now) (F.held files.old) Run form.Source most show text input
+        → IsAccepted text program
+        → ¬ Rose (F.faults files.old) (F.faults files.new)
+        → ¬ Rose (K.faults sink.old) (K.faults sink.new) → result ≢ Status.Memory
+        → (image : Image) × IsImageOf text placed image
+        × let run = runs image.blocks (start image.bytes input) most in
+        (result ≡ status_of (ending_of run.1 run.0.next))
+        × Appended (K.written sink.old) (K.written sink.new)
+        (shown_report (ending_of run.1 run.0.next) run.0 show) }
+    ensures shown_image_run { (blocks : ℕ) (show : Show) (bytes input : List ℕ) (image : Image)
+        → AsksFor (request_of words.now) (F.held files.old) Run form.Image blocks show bytes input
+        → ImageBytes image bytes → All IsGood image.blocks
+        → ¬ Rose (F.faults files.old) (F.faults files.new)
+        → ¬ Rose (K.faults sink.old) (K.faults sink.new) → result ≢ Status.Memory
+        → let run = runs image.blocks (start image.bytes input) blocks in
+        (result ≡ status_of (ending_of run.1 run.0.next))
+        × Appended (K.written sink.old) (K.written sink.new)
+        (shown_report (ending_of run.1 run.0.next) run.0 show) }
+    ensures target_run { (blocks : ℕ) (show : Show) (text input : List ℕ) (image : Image)
+        → AsksFor (request_of words.now) (F.held files.old) Run form.Target blocks show text input
+        → TargetText image text → All IsGood image.blocks
+        → ¬ Rose (F.faults files.old) (F.faults files.new)
+        → ¬ Rose (K.faults sink.old) (K.faults sink.new) → result ≢ Status.Memory
+        → let run = runs image.blocks (start image.bytes input) blocks in
+        (result ≡ status_of (ending_of run.1 run.0.next))
+        × Appended (K.written sink.old) (K.written sink.new)
+        (shown_report (ending_of run.1 run.0.next) run.0 show) }
+
+    // What a tool makes of its file is written, and nothing else.
+    ensures compiled { (how : FileForm) (most : ℕ) (show : Show) (text input : List ℕ)
+        (program : TypedProgram)
+        → AsksFor (request_of words.now) (F.held files.old) Compile how most show text input
+        → IsAccepted text program
+        → ¬ Rose (F.faults files.old) (F.faults files.new)
+        → ¬ Rose (K.faults sink.old) (K.faults sink.new) → result ≢ Status.Memory
+        → (image : Image) × IsImageOf text placed image × (bytes : List ℕ) × ImageBytes image bytes
+        × (result ≡ Status.Ended) × Appended (K.written sink.old) (K.written sink.new) bytes }
+    ensures assembled { (how : FileForm) (most : ℕ) (show : Show) (text input bytes : List ℕ)
+        → AsksFor (request_of words.now) (F.held files.old) Assemble how most show text input
+        → IsOneImage text bytes
+        → ¬ Rose (F.faults files.old) (F.faults files.new)
+        → ¬ Rose (K.faults sink.old) (K.faults sink.new) → result ≢ Status.Memory
+        → (result ≡ Status.Ended)
+        × Appended (K.written sink.old) (K.written sink.new) bytes }
+    ensures disassembled { (how : FileForm) (most : ℕ) (show : Show) (bytes input text : List ℕ)
+        → AsksFor (request_of words.now) (F.held files.old) Disassemble how most show bytes input
+        → IsOneImage text bytes
+        → ¬ Rose (F.faults files.old) (F.faults files.new)
+        → ¬ Rose (K.faults sink.old) (K.faults sink.new) → result ≢ Status.Memory
+        → (result ≡ Status.Ended)
+        × Appended (K.written sink.old) (K.written sink.new) text }
+    ensures checked { (how : FileForm) (most : ℕ) (show : Show) (bytes input report : List ℕ)
+        → AsksFor (request_of words.now) (F.held files.old) Check how most show bytes input
+        → IsGoodImage bytes report
+        → ¬ Rose (F.faults files.old) (F.faults files.new)
+        → ¬ Rose (K.faults sink.old) (K.faults sink.new) → result ≢ Status.Memory
+        → (result ≡ Status.Ended)
+        × Appended (K.written sink.old) (K.written sink.new) report }
+
     // An accepted program's evaluation is reported.
     ensures evaluation { (how : FileForm) (steps : ℕ) (text input : List ℕ)
         (program : TypedProgram)
@@ -95,8 +160,9 @@ pub fn trips_run<F: Files, K: Sink>(
         (eval_report (outcome_of program input steps)) }
 
     // A refusal's report is appended, and no other: the stage, its number, the name and the place.
-    ensures refusal { (work : Work) (how : FileForm) (most : ℕ) (bytes input report : List ℕ)
-        → Asks (request_of words.now) (F.held files.old) work how most bytes input
+    ensures refusal { (work : Work) (how : FileForm) (most : ℕ) (show : Show)
+        (bytes input report : List ℕ)
+        → AsksFor (request_of words.now) (F.held files.old) work how most show bytes input
         → IsRefusedAs work how bytes report
         → ¬ Rose (F.faults files.old) (F.faults files.new)
         → ¬ Rose (K.faults sink.old) (K.faults sink.new) → result ≢ Status.Memory
@@ -137,6 +203,8 @@ pub fn trips_run<F: Files, K: Sink>(
         → EndsAs (F.held files.old) q result }
     ensures run_ends { (q : Request) → request_of words.now ≡ Some q → q.work ≡ Run
         → IsOneOf result (Status.Ended ∷ Status.Budget ∷ Status.StackFull ∷ Status.Trap ∷ [])
+        → EndsAs (F.held files.old) q result }
+    ensures made_ends { (q : Request) → request_of words.now ≡ Some q → result ≡ Status.Ended
         → EndsAs (F.held files.old) q result }
     ensures text_ends { (q : Request) → request_of words.now ≡ Some q → q.work ≡ Run
         → q.form ≡ form.Source

@@ -32,7 +32,7 @@ pub fn answer_of(
 ) -> Result<(Status, Vec<u8>), AllocError> {
     let words = words_of(alloc, texts)?;
     let mut files = MemFiles::make(files_of(alloc, held)?, 65_536, Vec::new(alloc));
-    let Ok(mut sink) = HonestSink::make(alloc, 300) else {
+    let Ok(mut sink) = HonestSink::make(alloc, 65_536) else {
         return Err(AllocError);
     };
     let status = trips_run(alloc, &words, &mut files, &mut sink);

@@ -1,9 +1,11 @@
-//! `run` on images, as tests.
+//! `run` on images and the tools, as tests.
 #![tactic(auto)]
 
 #[cfg(test)]
 mod image_tests;
 #[cfg(test)]
 mod machine_tests;
+#[cfg(test)]
+mod tool_tests;
 #[cfg(test)]
 mod trap_tests;

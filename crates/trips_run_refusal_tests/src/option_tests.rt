@@ -21,14 +21,13 @@ const USAGES: &[&[&str]] = &[
     &["eval", "a.c", "--input", "--steps"],
     &["eval", "a.c", "--blocks", "1"],
     &["eval", "a.c", "b.c"],
-    &["eval", "--steps", "1", "a.c"],
+    &["eval", "--steps", "1"],
     &["run", "a.c", "--steps", "1"],
     &["run", "a.c", "--blocks"],
     &["run", "a.c", "--blocks", "0"],
     &["run", "a.c", "--blocks", "4000001"],
     &["run", "a.c", "--input"],
     &["run", "a.c", "--input", "t", "--input", "t"],
-    &["run", "--blocks", "1", "a.c"],
     &["bench"],
     &["bench", "0"],
     &["bench", "65"],
@@ -38,7 +37,9 @@ const USAGES: &[&[&str]] = &[
     &["bench", "1", "--steps", "1"],
     &["bench", "1", "--blocks", "0"],
     &["bench", "1", "--input", "t"],
-    &["bench", "--blocks", "1", "1"],
+    &["run", "--blocks", "1"],
+    &["run", "a.c", "--regs=yes"],
+    &["eval", "a.c", "--trace"],
 ];
 
 // Each of these requests is answered so, and what is written begins so.
@@ -74,6 +75,8 @@ fn other_options_are_usage(rt: HostRuntime) -> Result<(), Fail> {
 const ORDERS: &[&[&str]] = &[
     &["eval", "a.c", "--input", "t", "--steps", "9"],
     &["eval", "a.c", "--steps", "9", "--input", "t"],
+    &["eval", "--steps=9", "a.c", "--input=t"],
+    &["eval", "--input", "t", "--steps", "9", "--", "a.c"],
 ];
 
 const READER: &str = "#include <stdio.h>\nint main(void) { return getchar(); }";

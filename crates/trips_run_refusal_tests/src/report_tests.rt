@@ -116,7 +116,9 @@ const WORDS: &[&[&str]] = &[
     &[],
     &["run"],
     &["run", "-a"],
-    &["run", "a.tasl"],
+    &["walk", "a.c"],
+    &["compile"],
+    &["asm", "a.tasl", "--blocks", "1"],
     &["run", "a.c", "b.c"],
 ];
 

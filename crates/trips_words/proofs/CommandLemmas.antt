@@ -9,17 +9,20 @@ use Rattle.clap.specs.declared.parser.matches.ArgMatches.{ArgMatches}
 use Rattle.clap.specs.Simple.{App, app_of, app_of_fields, on_top}
 use Rattle.clap.specs.declared.builder.command.Command.{Command as ClapCommand}
 use Rattle.clap.specs.declared.builder.command.Command.TheViews.{out-Command}
-use Rattle.trips_words.specs.declared.commands.Command.{Command}
-use Rattle.trips_words.specs.declared.commands.Command.TheVariants as command
+use Rattle.trips_words.specs.declared.commands.Verb.{Verb}
+use Rattle.trips_words.specs.declared.commands.Verb.TheVariants as verb
 use Rattle.trips_words.specs.declared.commands.Asked.{Asked}
 use Rattle.trips_words.specs.Words.{Text, Named, Said, file_name, value_said}
-use Rattle.trips_words.specs.Requests.{run_options, eval_options, options_of, counted, is_on, Request}
-use Rattle.trips_words.specs.Requests.{command_named, request_with, request_of, request_by, request_seen}
+use Rattle.trips_words.specs.Requests.{run_options, bench_options, eval_options, options_of, counted, is_on, Request}
+use Rattle.trips_words.specs.Requests.{verb_named, request_with, request_of, request_by, request_seen}
 use Rattle.trips_words.specs.Requests.{asked}
 use Rattle.trips_words.specs.Read.{IsRead, is_flag, or_off, FindsSaid, Tells}
 
 pub run_read : IsRead (codes "run") run_options
 run_read = record { builds = refl; simple = refl; no_file = refl }
+
+pub bench_read : IsRead (codes "bench") bench_options
+bench_read = record { builds = refl; simple = refl; no_file = refl }
 
 pub eval_read : IsRead (codes "eval") eval_options
 eval_read = record { builds = refl; simple = refl; no_file = refl }
@@ -36,50 +39,56 @@ pub is_helpless : (old new : ClapCommand)
     → app_of new ≡ helpless (app_of old)
 is_helpless old new e = ap app_of_fields e
 
--- the commands beside `run` and `eval` have no options
-pub no_options : (k : Command) → (k ≡ command.Run → ⊥) → (k ≡ command.Evaluate → ⊥) → options_of k ≡ []
-no_options command.Run r e = absurd (r refl)
-no_options command.Evaluate r e = absurd (e refl)
-no_options command.Compile r e = refl
-no_options command.Assemble r e = refl
-no_options command.Disassemble r e = refl
-no_options command.Check r e = refl
+-- the commands beside `run`, `bench` and `eval` have no options
+pub no_options : (k : Verb) → (k ≡ verb.Run → ⊥) → (k ≡ verb.Bench → ⊥) → (k ≡ verb.Evaluate → ⊥)
+    → options_of k ≡ []
+no_options verb.Run r b e = absurd (r refl)
+no_options verb.Bench r b e = absurd (b refl)
+no_options verb.Evaluate r b e = absurd (e refl)
+no_options verb.Compile r b e = refl
+no_options verb.Assemble r b e = refl
+no_options verb.Disassemble r b e = refl
+no_options verb.Check r b e = refl
 
 -- and their number counts steps
-pub counts_steps : (k : Command) → (k ≡ command.Run → ⊥) → codes "steps" ≡ counted k
-counts_steps command.Run r = absurd (r refl)
-counts_steps command.Evaluate r = refl
-counts_steps command.Compile r = refl
-counts_steps command.Assemble r = refl
-counts_steps command.Disassemble r = refl
-counts_steps command.Check r = refl
+pub counts_steps : (k : Verb) → (k ≡ verb.Run → ⊥) → (k ≡ verb.Bench → ⊥) → codes "steps" ≡ counted k
+counts_steps verb.Run r b = absurd (r refl)
+counts_steps verb.Bench r b = absurd (b refl)
+counts_steps verb.Evaluate r b = refl
+counts_steps verb.Compile r b = refl
+counts_steps verb.Assemble r b = refl
+counts_steps verb.Disassemble r b = refl
+counts_steps verb.Check r b = refl
 
 -- requests ----------------------------------------------------------------------------------------
 
 -- neither the file nor the input nor the number is a flag
-pub no_flag_file : (k : Command) → is_flag file_name (options_of k) ≡ false
-no_flag_file command.Run = refl
-no_flag_file command.Evaluate = refl
-no_flag_file command.Compile = refl
-no_flag_file command.Assemble = refl
-no_flag_file command.Disassemble = refl
-no_flag_file command.Check = refl
+pub no_flag_file : (k : Verb) → is_flag file_name (options_of k) ≡ false
+no_flag_file verb.Run = refl
+no_flag_file verb.Bench = refl
+no_flag_file verb.Evaluate = refl
+no_flag_file verb.Compile = refl
+no_flag_file verb.Assemble = refl
+no_flag_file verb.Disassemble = refl
+no_flag_file verb.Check = refl
 
-pub no_flag_input : (k : Command) → is_flag (codes "input") (options_of k) ≡ false
-no_flag_input command.Run = refl
-no_flag_input command.Evaluate = refl
-no_flag_input command.Compile = refl
-no_flag_input command.Assemble = refl
-no_flag_input command.Disassemble = refl
-no_flag_input command.Check = refl
+pub no_flag_input : (k : Verb) → is_flag (codes "input") (options_of k) ≡ false
+no_flag_input verb.Run = refl
+no_flag_input verb.Bench = refl
+no_flag_input verb.Evaluate = refl
+no_flag_input verb.Compile = refl
+no_flag_input verb.Assemble = refl
+no_flag_input verb.Disassemble = refl
+no_flag_input verb.Check = refl
 
-pub no_flag_count : (k : Command) → is_flag (counted k) (options_of k) ≡ false
-no_flag_count command.Run = refl
-no_flag_count command.Evaluate = refl
-no_flag_count command.Compile = refl
-no_flag_count command.Assemble = refl
-no_flag_count command.Disassemble = refl
-no_flag_count command.Check = refl
+pub no_flag_count : (k : Verb) → is_flag (counted k) (options_of k) ≡ false
+no_flag_count verb.Run = refl
+no_flag_count verb.Bench = refl
+no_flag_count verb.Evaluate = refl
+no_flag_count verb.Compile = refl
+no_flag_count verb.Assemble = refl
+no_flag_count verb.Disassemble = refl
+no_flag_count verb.Check = refl
 
 -- what is found under the name of no flag is what is said
 pub found_said : (options : List Named) (said : Said) (m : ArgMatches) (name : Text)
@@ -98,7 +107,7 @@ pub found_on : (options : List Named) (said : Said) (m : ArgMatches) (name : Tex
 found_on options said m name f = ap is_on (f name) ∙ on_is (is_flag name options) (value_said name said)
 
 -- the request of what was found, part by part
-pub same_request : (k : Command) (file file' input input' number number' : Option Text)
+pub same_request : (k : Verb) (file file' input input' number number' : Option Text)
     (regs regs' trace trace' : Bool) → file ≡ file' → input ≡ input' → number ≡ number'
     → regs ≡ regs' → trace ≡ trace'
     → request_with k file input number regs trace ≡ request_with k file' input' number' regs' trace'
@@ -110,14 +119,14 @@ same_request k file file' input input' number number' regs regs' trace trace' a 
     ∙ ap (λ (x : Bool). request_with k file' input' number' regs' x) e
 
 -- where something was found, words say something, and else they say nothing
-pub told_some : (k : Command) (said : Option Said) (m : ArgMatches) (r : Option Request)
+pub told_some : (k : Verb) (said : Option Said) (m : ArgMatches) (r : Option Request)
     → Tells (options_of k) said (Some m)
     → ((s : Said) → FindsSaid (options_of k) s m → r ≡ request_of k s)
     → r ≡ option_and_then (request_of k) said
 told_some k None m r t f = absurd t
 told_some k (Some said) m r t f = f said t
 
-pub told_none : (k : Command) (said : Option Said) → Tells (options_of k) said None
+pub told_none : (k : Verb) (said : Option Said) → Tells (options_of k) said None
     → None ≡ option_and_then (request_of k) said
 told_none k None t = refl
 told_none k (Some said) t = absurd t
@@ -125,13 +134,13 @@ told_none k (Some said) t = absurd t
 -- the first word names the command
 pub asked_first : {Z : Type 0} (words : List (String Z)) (name : Text) (word : String Z)
     → slice_get words 0 ≡ Some word → string_bytes word ≡ name
-    → option_and_then (request_by (drop 1 (map (λ w. string_bytes w) words))) (command_named name)
+    → option_and_then (request_by (drop 1 (map (λ w. string_bytes w) words))) (verb_named name)
     ≡ asked (map (λ w. string_bytes w) words)
 asked_first [] name word e n = absurd (cc)
 asked_first {Z} (first ∷ words) name word e n =
     let same : string_bytes first ≡ name =
     ap (λ (o : Option (String Z)). string_bytes (unwrap_or o word)) e ∙ n in
-    ap (λ (t : Text). option_and_then (request_by (map (λ w. string_bytes w) words)) (command_named t))
+    ap (λ (t : Text). option_and_then (request_by (map (λ w. string_bytes w) words)) (verb_named t))
     (sym same)
 
 pub asked_none : {Z : Type 0} (words : List (String Z)) → slice_get words 0 ≡ None

@@ -1,13 +1,14 @@
 -- Words and their requests, worked by hand from the README of this crate.
 use Rattle.std.proofs.Common.{◌≡◌, refl, [], ◌∷◌, Some, None, codes, true, false}
 use Rattle.trips_words.specs.declared.commands.Command.TheVariants as command
-use Rattle.trips_words.specs.Requests.{Request, command_named, asked}
+use Rattle.trips_words.specs.Requests.{Request, verb_named, asked}
 
 -- a run of a.c with nothing asked besides
 abbrev plain : Request
 plain = record {
   command = command.Run;
   file = codes "a.c";
+  functions = None;
   input = None;
   most = 1000000;
   regs = false;
@@ -15,31 +16,41 @@ plain = record {
 }
 
 pub run_is : asked (codes "run" ∷ codes "a.c" ∷ []) ≡ Some plain
-unfolding command_named
+unfolding verb_named
 run_is = refl
 
 -- options stand before and behind the file, in both spellings
 pub both_spellings_are : asked (codes "run" ∷ codes "--blocks=100" ∷ codes "--trace" ∷ codes "a.c"
     ∷ codes "--input" ∷ codes "-" ∷ [])
     ≡ Some (record plain { input = Some (codes "-"); most = 100; trace = true })
-unfolding command_named
+unfolding verb_named
 both_spellings_are = refl
+
+-- the benchmark's word is a number, which stands before or behind its option
+pub bench_is : asked (codes "bench" ∷ codes "--blocks" ∷ codes "9" ∷ codes "64" ∷ [])
+    ≡ Some (record plain { file = codes "64"; functions = Some 64; most = 9 })
+unfolding verb_named
+bench_is = refl
+
+pub bench_is_refused : asked (codes "bench" ∷ codes "65" ∷ []) ≡ None
+unfolding verb_named
+bench_is_refused = refl
 
 -- a value may hold a further `=`
 pub equals_is : asked (codes "eval" ∷ codes "a.c" ∷ codes "--input=b=c" ∷ [])
     ≡ Some (record plain { command = command.Evaluate; input = Some (codes "b=c") })
-unfolding command_named
+unfolding verb_named
 equals_is = refl
 
 -- behind two dashes all words are files
 pub behind_is : asked (codes "run" ∷ codes "--regs" ∷ codes "--" ∷ codes "--trace" ∷ [])
     ≡ Some (record plain { file = codes "--trace"; regs = true })
-unfolding command_named
+unfolding verb_named
 behind_is = refl
 
 pub dash_is : asked (codes "dis" ∷ codes "-" ∷ [])
     ≡ Some (record plain { command = command.Disassemble; file = codes "-" })
-unfolding command_named
+unfolding verb_named
 dash_is = refl
 
 -- no request
@@ -47,43 +58,43 @@ pub no_words : asked [] ≡ None
 no_words = refl
 
 pub no_file : asked (codes "run" ∷ codes "--regs" ∷ []) ≡ None
-unfolding command_named
+unfolding verb_named
 no_file = refl
 
 pub two_files : asked (codes "run" ∷ codes "a.c" ∷ codes "b.c" ∷ []) ≡ None
-unfolding command_named
+unfolding verb_named
 two_files = refl
 
 pub no_blocks : asked (codes "run" ∷ codes "a.c" ∷ codes "--blocks" ∷ codes "0" ∷ []) ≡ None
-unfolding command_named
+unfolding verb_named
 no_blocks = refl
 
 pub too_many_blocks : asked (codes "run" ∷ codes "a.c" ∷ codes "--blocks=4000001" ∷ []) ≡ None
-unfolding command_named
+unfolding verb_named
 too_many_blocks = refl
 
 pub twice : asked (codes "run" ∷ codes "a.c" ∷ codes "--blocks" ∷ codes "1" ∷ codes "--blocks"
     ∷ codes "2" ∷ []) ≡ None
-unfolding command_named
+unfolding verb_named
 twice = refl
 
 -- a word with a dash is no value, and no flag has one
 pub no_value : asked (codes "run" ∷ codes "a.c" ∷ codes "--input" ∷ codes "--" ∷ codes "t" ∷ []) ≡ None
-unfolding command_named
+unfolding verb_named
 no_value = refl
 
 pub flag_with_value : asked (codes "run" ∷ codes "a.c" ∷ codes "--regs=yes" ∷ []) ≡ None
-unfolding command_named
+unfolding verb_named
 flag_with_value = refl
 
 pub short : asked (codes "run" ∷ codes "a.c" ∷ codes "-h" ∷ []) ≡ None
-unfolding command_named
+unfolding verb_named
 short = refl
 
 pub other_option : asked (codes "eval" ∷ codes "a.c" ∷ codes "--blocks" ∷ codes "1" ∷ []) ≡ None
-unfolding command_named
+unfolding verb_named
 other_option = refl
 
 pub no_options : asked (codes "check" ∷ codes "a.img" ∷ codes "--regs" ∷ []) ≡ None
-unfolding command_named
+unfolding verb_named
 no_options = refl

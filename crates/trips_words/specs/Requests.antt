@@ -5,7 +5,9 @@ use Rattle.std.specs.Str.{bytes_eq}
 use Rattle.trips_words.specs.declared.commands.Command.{Command}
 use Rattle.trips_words.specs.declared.commands.Command.TheVariants as command
 use Rattle.trips_words.specs.declared.commands.Asked.{Asked}
-use Rattle.trips_words.specs.declared.commands.TheConstants.{DEFAULT_COUNT, MOST_COUNT}
+use Rattle.trips_words.specs.declared.commands.Verb.{Verb}
+use Rattle.trips_words.specs.declared.commands.Verb.TheVariants as verb
+use Rattle.trips_words.specs.declared.commands.TheConstants.{DEFAULT_COUNT, MOST_COUNT, MOST_FUNCTIONS}
 use Rattle.trips_words.specs.Numbers.{number_to}
 use Rattle.trips_words.specs.Words.{Text, Named, valued, flag, Said, file_name, value_said}
 use Rattle.trips_words.specs.Words.{words_read}
@@ -15,33 +17,51 @@ abbrev pub run_options : List Named
 run_options = valued (codes "input") ∷ valued (codes "blocks") ∷ flag (codes "regs")
     ∷ flag (codes "trace") ∷ []
 
+abbrev pub bench_options : List Named
+bench_options = valued (codes "blocks") ∷ []
+
 abbrev pub eval_options : List Named
 eval_options = valued (codes "input") ∷ valued (codes "steps") ∷ []
 
-abbrev pub options_of : Command → List Named
-options_of command.Run = run_options
-options_of command.Evaluate = eval_options
+abbrev pub options_of : Verb → List Named
+options_of verb.Run = run_options
+options_of verb.Bench = bench_options
+options_of verb.Evaluate = eval_options
 options_of other = []
 
-abbrev pub counted : Command → Text
-counted command.Run = codes "blocks"
+abbrev pub counted : Verb → Text
+counted verb.Run = codes "blocks"
+counted verb.Bench = codes "blocks"
 counted other = codes "steps"
 
--- the command of a name
-unfoldable pub command_named : Text → Option Command
-command_named name =
-    if bytes_eq name (codes "run") then Some command.Run
-    else if bytes_eq name (codes "eval") then Some command.Evaluate
-    else if bytes_eq name (codes "compile") then Some command.Compile
-    else if bytes_eq name (codes "asm") then Some command.Assemble
-    else if bytes_eq name (codes "dis") then Some command.Disassemble
-    else if bytes_eq name (codes "check") then Some command.Check else None
+-- what a name stands for
+unfoldable pub verb_named : Text → Option Verb
+verb_named name =
+    if bytes_eq name (codes "run") then Some verb.Run
+    else if bytes_eq name (codes "bench") then Some verb.Bench
+    else if bytes_eq name (codes "eval") then Some verb.Evaluate
+    else if bytes_eq name (codes "compile") then Some verb.Compile
+    else if bytes_eq name (codes "asm") then Some verb.Assemble
+    else if bytes_eq name (codes "dis") then Some verb.Disassemble
+    else if bytes_eq name (codes "check") then Some verb.Check else None
 
--- What is asked for: a command and its file, the name of the input if there is one, how many blocks
--- or steps it may take, and whether registers and committed blocks are shown.
+-- what is done: the benchmark is run
+abbrev pub command_of : Verb → Command
+command_of verb.Run = command.Run
+command_of verb.Bench = command.Run
+command_of verb.Evaluate = command.Evaluate
+command_of verb.Compile = command.Compile
+command_of verb.Assemble = command.Assemble
+command_of verb.Disassemble = command.Disassemble
+command_of verb.Check = command.Check
+
+-- What is asked for: a command and its file, or how many functions the benchmark's text has that is run
+-- in its place, the name of the input if there is one, how many blocks or steps it may take, and whether
+-- registers and committed blocks are shown.
 pub record Request : Type 0 where
   pub command : Command
   pub file : Text
+  pub functions : Option ℕ
   pub input : Option Text
   pub most : ℕ
   pub regs : Bool
@@ -57,41 +77,54 @@ abbrev pub is_on : Option Text → Bool
 is_on None = false
 is_on (Some value) = bytes_eq value (codes "true")
 
--- the request of a command, of a file, an input and a number if they are said, and of two flags: it
--- has a file, and its number is in its range
-abbrev pub request_with : Command → Option Text → Option Text → Option Text → Bool → Bool
-    → Option Request
-request_with command file input number regs trace =
-    option_and_then (λ name. option_map (λ most. record {
-      command = command;
+-- how many functions the benchmark has, by its word; none of another command
+abbrev pub functions_said : Verb → Text → Option (Option ℕ)
+functions_said verb.Bench word = option_map (λ n. Some n) (number_to MOST_FUNCTIONS word)
+functions_said other word = Some None
+
+-- the request of a command, of its file or its number of functions, of how many blocks or steps are said,
+-- an input if one is, and two flags
+abbrev pub request_of_file : Verb → Text → Option Text → Option Text → Bool → Bool → Option Request
+request_of_file k name input number regs trace =
+    option_and_then (λ functions. option_map (λ most. record {
+      command = command_of k;
       file = name;
+      functions = functions;
       input = input;
       most = most;
       regs = regs;
       trace = trace;
-    }) (most_said number)) file
+    }) (most_said number)) (functions_said k name)
+
+-- the request of a command, of a file, an input and a number if they are said, and of two flags: it
+-- has a file, and its numbers are in their ranges
+abbrev pub request_with : Verb → Option Text → Option Text → Option Text → Bool → Bool
+    → Option Request
+request_with k file input number regs trace =
+    option_and_then (λ name. request_of_file k name input number regs trace) file
 
 -- the request of a command and what its words say
-abbrev pub request_of : Command → Said → Option Request
-request_of command said = request_with command (value_said file_name said)
-    (value_said (codes "input") said) (value_said (counted command) said)
+abbrev pub request_of : Verb → Said → Option Request
+request_of k said = request_with k (value_said file_name said)
+    (value_said (codes "input") said) (value_said (counted k) said)
     (is_on (value_said (codes "regs") said)) (is_on (value_said (codes "trace") said))
 
 -- the request of a command and its words
-abbrev pub request_by : List Text → Command → Option Request
-request_by words command =
-    option_and_then (request_of command) (words_read (options_of command) None [] words)
+abbrev pub request_by : List Text → Verb → Option Request
+request_by words k =
+    option_and_then (request_of k) (words_read (options_of k) None [] words)
 
 -- the request of the words of a command line, without the program's name
 abbrev pub asked : List Text → Option Request
 asked [] = None
-asked (name ∷ words) = option_and_then (request_by words) (command_named name)
+asked (name ∷ words) = option_and_then (request_by words) (verb_named name)
 
 -- a request of the code
 abbrev pub request_seen : Asked → Request
 request_seen asked = record {
   command = asked.command;
   file = asked.file.now;
+  functions = asked.functions;
   input = option_copied asked.input;
   most = asked.most;
   regs = asked.regs;

@@ -4,45 +4,75 @@ ghost use Rattle.std.specs.Prelude.{◌≡◌, Option, IfOk, option_map, option_
 ghost use Rattle.std.specs.Prelude.{drop, map, string_bytes};
 ghost use Rattle.trips_words.specs.Words.{Said};
 ghost use Rattle.trips_words.specs.Read.{FindsSaid, Tells};
-ghost use Rattle.trips_words.specs.Requests.{options_of, counted, command_named, most_said, is_on};
-ghost use Rattle.trips_words.specs.Requests.{request_with, request_of, request_by, request_seen, asked};
+ghost use Rattle.trips_words.specs.Requests.{options_of, counted, verb_named, command_of, most_said, is_on};
+ghost use Rattle.trips_words.specs.Requests.{functions_said, request_of_file, request_with, request_of, request_by, request_seen, asked};
 
-use crate::commands::{Asked, Command, DEFAULT_COUNT, MOST_COUNT};
+use crate::commands::{Asked, Command, DEFAULT_COUNT, MOST_COUNT, MOST_FUNCTIONS, Verb};
 use crate::number::number;
 use crate::reading::read;
 use base::Memory;
 use clap::ArgMatches;
 use std::alloc::Global;
 
-// The command of a name.
-#[tactic(auto, unfolding(crate::specs::Requests::command_named))]
-fn command_named(name: &str) -> Option<Command>
-    ensures { result ≡ command_named name.now }
+// What a name stands for.
+#[tactic(auto, unfolding(crate::specs::Requests::verb_named))]
+fn verb_named(name: &str) -> Option<Verb>
+    ensures { result ≡ verb_named name.now }
 {
     if name == "run" {
-        Some(Command::Run)
+        Some(Verb::Run)
+    } else if name == "bench" {
+        Some(Verb::Bench)
     } else if name == "eval" {
-        Some(Command::Evaluate)
+        Some(Verb::Evaluate)
     } else if name == "compile" {
-        Some(Command::Compile)
+        Some(Verb::Compile)
     } else if name == "asm" {
-        Some(Command::Assemble)
+        Some(Verb::Assemble)
     } else if name == "dis" {
-        Some(Command::Disassemble)
+        Some(Verb::Disassemble)
     } else if name == "check" {
-        Some(Command::Check)
+        Some(Verb::Check)
     } else {
         None
     }
 }
 
+// What is done.
+fn command_of(verb: Verb) -> Command
+    ensures { result ≡ command_of verb }
+{
+    match verb {
+        Verb::Run => Command::Run,
+        Verb::Bench => Command::Run,
+        Verb::Evaluate => Command::Evaluate,
+        Verb::Compile => Command::Compile,
+        Verb::Assemble => Command::Assemble,
+        Verb::Disassemble => Command::Disassemble,
+        Verb::Check => Command::Check,
+    }
+}
+
 // The option of a command that takes a number.
-fn counted(command: Command) -> &'static str
+fn counted(command: Verb) -> &'static str
     ensures { result.now ≡ counted command }
 {
     match command {
-        Command::Run => "blocks",
+        Verb::Run => "blocks",
+        Verb::Bench => "blocks",
         _ => "steps",
+    }
+}
+
+// How many functions the benchmark has, by its word; none of another command.
+fn functions_said(command: Verb, word: &str) -> Option<Option<u32>>
+    ensures { result ≡ functions_said command word.now }
+{
+    if command == Verb::Bench {
+        let functions = number(word.as_bytes(), MOST_FUNCTIONS)?;
+        Some(Some(functions))
+    } else {
+        Some(None)
     }
 }
 
@@ -66,9 +96,35 @@ fn is_on(value: Option<&str>) -> bool
     }
 }
 
+// The request of a command, of its file or its number of functions, of an input and a number if they are
+// said, and of two flags.
+fn request_of_file<'a>(
+    command: Verb,
+    file: &'a str,
+    input: Option<&'a str>,
+    number: Option<&'a str>,
+    regs: bool,
+    trace: bool,
+) -> Option<Asked<'a>>
+    ensures { option_map request_seen result ≡ request_of_file command file.now
+        (option_copied input.entry) (option_copied number.entry) regs trace }
+{
+    let functions = functions_said(command, file)?;
+    let most = most_said(number)?;
+    Some(Asked {
+        command: command_of(command),
+        file,
+        functions,
+        input,
+        most,
+        regs,
+        trace,
+    })
+}
+
 // The request of a command, of its file, its input and its number if they are said, and of two flags.
 fn request_with<'a>(
-    command: Command,
+    command: Verb,
     file: Option<&'a str>,
     input: Option<&'a str>,
     number: Option<&'a str>,
@@ -78,20 +134,11 @@ fn request_with<'a>(
     ensures { option_map request_seen result ≡ request_with command (option_copied file.entry)
         (option_copied input.entry) (option_copied number.entry) regs trace }
 {
-    let file = file?;
-    let most = most_said(number)?;
-    Some(Asked {
-        command,
-        file,
-        input,
-        most,
-        regs,
-        trace,
-    })
+    request_of_file(command, file?, input, number, regs, trace)
 }
 
 // The request of a command and of what its words say.
-fn request_of<'a>(command: Command, matches: &ArgMatches<'a>) -> Option<Asked<'a>>
+fn request_of<'a>(command: Verb, matches: &ArgMatches<'a>) -> Option<Asked<'a>>
     ensures { (said : Said) → FindsSaid (options_of command) said matches.now
         → option_map request_seen result ≡ request_of command said }
 {
@@ -106,7 +153,7 @@ fn request_of<'a>(command: Command, matches: &ArgMatches<'a>) -> Option<Asked<'a
 }
 
 // The request of a command and of what was found, if its words say something.
-fn request_found<'a>(command: Command, found: Option<ArgMatches<'a>>) -> Option<Asked<'a>>
+fn request_found<'a>(command: Verb, found: Option<ArgMatches<'a>>) -> Option<Asked<'a>>
     ensures { (said : Option Said) → Tells (options_of command) said found.entry
         → option_map request_seen result ≡ option_and_then (request_of command) said }
 {
@@ -119,7 +166,7 @@ fn request_found<'a>(command: Command, found: Option<ArgMatches<'a>>) -> Option<
 // The request of a command and of all words, of which the first names it.
 fn request_by<'a>(
     alloc: Global,
-    command: Command,
+    command: Verb,
     words: &'a [String],
 ) -> Result<Option<Asked<'a>>, Memory>
     ensures { IfOk result (λ request. option_map request_seen request
@@ -137,9 +184,9 @@ fn named_request<'a>(
 ) -> Result<Option<Asked<'a>>, Memory>
     ensures { IfOk result (λ request. option_map request_seen request
         ≡ option_and_then (request_by (drop 1 (map (λ word. string_bytes word) words.entry.now)))
-        (command_named name.now)) }
+        (verb_named name.now)) }
 {
-    match command_named(name) {
+    match verb_named(name) {
         None => Ok(None),
         Some(command) => request_by(alloc, command, words),
     }

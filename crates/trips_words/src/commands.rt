@@ -9,6 +9,21 @@ pub enum Command {
     Check,
 }
 
+/// What the first word of a command line names. The benchmark is a run of a text that is made.
+#[derive(Clone, Copy, Debug, PartialEq, Eq)]
+pub enum Verb {
+    Run,
+    Bench,
+    Evaluate,
+    Compile,
+    Assemble,
+    Disassemble,
+    Check,
+}
+
+/// The most functions that the text of the benchmark may have.
+pub const MOST_FUNCTIONS: u32 = 64;
+
 /// The most blocks or steps that may be asked for.
 pub const MOST_COUNT: u32 = 4_000_000;
 
@@ -20,6 +35,8 @@ pub const DEFAULT_COUNT: u32 = 1_000_000;
 pub struct Asked<'a> {
     pub command: Command,
     pub file: &'a str,
+    /// how many functions the text of the benchmark has, where that is run in place of a file
+    pub functions: Option<u32>,
     /// the name of the input, if it has one
     pub input: Option<&'a str>,
     /// how many blocks or steps it may take

@@ -4,10 +4,10 @@ ghost use Rattle.std.specs.Prelude.{◌≡◌, ◌≢◌, List, [], IfOk, None, 
 ghost use Rattle.clap.specs.Words.{rule_of, app_of, kind_of};
 ghost use Rattle.clap.specs.declared.error.kind.ErrorKind.TheVariants.{OutOfMemory};
 ghost use Rattle.trips_words.specs.Words.{Text, Named, words_read, valued, flag};
-ghost use Rattle.trips_words.specs.Requests.{options_of, run_options, eval_options};
+ghost use Rattle.trips_words.specs.Requests.{options_of, run_options, bench_options, eval_options};
 ghost use Rattle.trips_words.specs.Read.{raw_rule, raw_app, IsRead, Tells};
 
-use crate::commands::Command;
+use crate::commands::Verb;
 use base::Memory;
 use clap::error::ErrorKind;
 use clap::{Arg, ArgAction, ArgMatches, Error};
@@ -42,6 +42,16 @@ fn run_command<'a>(alloc: Global) -> Result<clap::Command<'a>, AllocError>
         .arg(valued(alloc, "blocks"))?
         .arg(flag(alloc, "regs"))?
         .arg(flag(alloc, "trace"))?
+        .arg(Arg::new(alloc, FILE))
+}
+
+// `bench`, its option and its number.
+fn bench_command<'a>(alloc: Global) -> Result<clap::Command<'a>, AllocError>
+    ensures { IfOk result (λ command. app_of command ≡ raw_app (codes "bench") bench_options) }
+{
+    clap::Command::new(alloc, "bench")
+        .disable_help_flag(true)
+        .arg(valued(alloc, "blocks"))?
         .arg(Arg::new(alloc, FILE))
 }
 
@@ -98,15 +108,16 @@ fn matched<'a>(
 /// the only error.
 pub fn read<'a>(
     alloc: Global,
-    command: Command,
+    command: Verb,
     words: &'a [String],
 ) -> Result<Option<ArgMatches<'a>>, Memory>
     ensures { IfOk result (Tells (options_of command) (words_read (options_of command) None []
         (drop 1 (map (λ word. string_bytes word) words.entry.now)))) }
 {
     match command {
-        Command::Run => matched(run_command(alloc)?, words),
-        Command::Evaluate => matched(eval_command(alloc)?, words),
+        Verb::Run => matched(run_command(alloc)?, words),
+        Verb::Bench => matched(bench_command(alloc)?, words),
+        Verb::Evaluate => matched(eval_command(alloc)?, words),
         _ => matched(plain_command(alloc)?, words),
     }
 }

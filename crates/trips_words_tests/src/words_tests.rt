@@ -11,6 +11,7 @@ type Row = (&'static [&'static str], Asked<'static>);
 const PLAIN: Asked<'static> = Asked {
     command: Command::Run,
     file: "a.c",
+    functions: None,
     input: None,
     most: 1_000_000,
     regs: false,
@@ -20,6 +21,15 @@ const PLAIN: Asked<'static> = Asked {
 const ASKED: &[Row] = &[
     (&["run", "a.c"], PLAIN),
     (&["run", "--", "a.c"], PLAIN),
+    (
+        &["bench", "--blocks=7", "64"],
+        Asked {
+            file: "64",
+            functions: Some(64),
+            most: 7,
+            ..PLAIN
+        },
+    ),
     (&["run", "a.c", "--blocks", "7"], Asked { most: 7, ..PLAIN }),
     (&["run", "--blocks", "7", "a.c"], Asked { most: 7, ..PLAIN }),
     (&["run", "a.c", "--blocks=7"], Asked { most: 7, ..PLAIN }),

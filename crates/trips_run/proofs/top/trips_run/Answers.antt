@@ -77,3 +77,35 @@ returns-in-Ok-write_all-clause-large_file g c =
 pub returns-in-Ok-write_all-clause-large_input : goal.returns-in-Ok-write_all-clause-large_input
 returns-in-Ok-write_all-clause-large_input g c =
     causes.too_large_input _ _ _ _ _ _ _ (returns-in-Ok-write_all-clause-answered g c)
+
+pub returns-in-Ok-write_all-clause-shown_text_run : goal.returns-in-Ok-write_all-clause-shown_text_run
+returns-in-Ok-write_all-clause-shown_text_run g c =
+    causes.shown_text_run _ _ _ _ _ _ _ (returns-in-Ok-write_all-clause-answered g c)
+
+pub returns-in-Ok-write_all-clause-shown_image_run : goal.returns-in-Ok-write_all-clause-shown_image_run
+returns-in-Ok-write_all-clause-shown_image_run g c =
+    causes.shown_image_run _ _ _ _ _ _ _ (returns-in-Ok-write_all-clause-answered g c)
+
+pub returns-in-Ok-write_all-clause-target_run : goal.returns-in-Ok-write_all-clause-target_run
+returns-in-Ok-write_all-clause-target_run g c =
+    causes.target_run _ _ _ _ _ _ _ (returns-in-Ok-write_all-clause-answered g c)
+
+pub returns-in-Ok-write_all-clause-compiled : goal.returns-in-Ok-write_all-clause-compiled
+returns-in-Ok-write_all-clause-compiled g c =
+    causes.compiled _ _ _ _ _ _ _ (returns-in-Ok-write_all-clause-answered g c)
+
+pub returns-in-Ok-write_all-clause-assembled : goal.returns-in-Ok-write_all-clause-assembled
+returns-in-Ok-write_all-clause-assembled g c =
+    causes.assembled _ _ _ _ _ _ _ (returns-in-Ok-write_all-clause-answered g c)
+
+pub returns-in-Ok-write_all-clause-disassembled : goal.returns-in-Ok-write_all-clause-disassembled
+returns-in-Ok-write_all-clause-disassembled g c =
+    causes.disassembled _ _ _ _ _ _ _ (returns-in-Ok-write_all-clause-answered g c)
+
+pub returns-in-Ok-write_all-clause-checked : goal.returns-in-Ok-write_all-clause-checked
+returns-in-Ok-write_all-clause-checked g c =
+    causes.checked _ _ _ _ _ _ _ (returns-in-Ok-write_all-clause-answered g c)
+
+pub returns-in-Ok-write_all-clause-made_ends : goal.returns-in-Ok-write_all-clause-made_ends
+returns-in-Ok-write_all-clause-made_ends g c =
+    causes.made_ends _ _ _ _ _ _ _ (returns-in-Ok-write_all-clause-answered g c)
