@@ -1,14 +1,14 @@
 -- Ifs that are items of their block: flat legs say so already, and have no calls and no notes.
-use Rattle.std.proofs.Common.{◌≡◌, ℕ, ◌+◌, Bool, true, false, ◌&&◌, cond, List, [], ◌++◌, refl, ap, ap₂}
+use Rattle.std.proofs.Common.{◌≡◌, ℕ, ◌+◌, Bool, true, false, ◌&&◌, ◌||◌, not, cond, List, [], ◌++◌, refl, ap, ap₂}
 use Rattle.ir_forms.specs.declared.flat.Arg.{Arg}
 use Rattle.ir_forms.specs.FlatCode.{Step, Let, Frame, Load, Save, Call, Put, Get, If, Loop, Break, Continue}
 use Rattle.ir_forms.specs.FlatCode.{Return, Code, Nop, ◌▹◌}
-use Rattle.ir_forms.specs.FlatFits.{steps_in, steps_of}
+use Rattle.ir_forms.specs.FlatFits.{steps_in, steps_of, is_small_leg, is_empty}
 use Rattle.reg_assign.specs.Keeps.{calls_in, calls}
 use Rattle.hyper_build.specs.declared.emitting.Note.{Note}
-use Rattle.hyper_build.specs.Tree.{Tree, Plan, annotated_in, annotated}
+use Rattle.hyper_build.specs.Tree.{Tree, Plan, plain, annotated_in, annotated}
 use Rattle.hyper_build.specs.Parts.{cut_size}
-use Rattle.hyper_build.specs.Straight.{straight_in, straight, leg_size, size_in, size, is_item}
+use Rattle.hyper_build.specs.Straight.{straight_in, straight, leg_size, size_in, size, is_small_if, is_item}
 use Rattle.hyper_build.specs.BackwardItems.{is_straight_in, is_straight, is_if_item}
 use Rattle.hyper_build.specs.Notes.{notes_in, notes_of}
 
@@ -42,12 +42,43 @@ mutual
   straight_code p i k (x ▹ c) = ap₂ (λ y z. y && z) (straight_step p i k x)
       (straight_code p (i + steps_in x) (k + calls_in x) c)
 
+-- whether a leg is small or empty, no annotation says
+small_leg_is : (p : Plan) (i k : ℕ) (c : Code)
+    → is_small_leg (plain (annotated p i k c)) ≡ is_small_leg c
+small_leg_is p i k Nop = refl
+small_leg_is p i k (Let to op x y ▹ Nop) = refl
+small_leg_is p i k (Let to op x y ▹ (z ▹ c)) = refl
+small_leg_is p i k (Frame to at ▹ c) = refl
+small_leg_is p i k (Load to op x ▹ c) = refl
+small_leg_is p i k (Save op x y ▹ c) = refl
+small_leg_is p i k (Call f xs to kept ▹ c) = refl
+small_leg_is p i k (Put x ▹ c) = refl
+small_leg_is p i k (Get to ▹ c) = refl
+small_leg_is p i k (If x a b ▹ c) = refl
+small_leg_is p i k (Loop a b ▹ c) = refl
+small_leg_is p i k (Break ▹ c) = refl
+small_leg_is p i k (Continue ▹ c) = refl
+small_leg_is p i k (Return x ▹ c) = refl
+
+empty_is : (p : Plan) (i k : ℕ) (c : Code) → is_empty (plain (annotated p i k c)) ≡ is_empty c
+empty_is p i k Nop = refl
+empty_is p i k (x ▹ c) = refl
+
+small_if_is : (p : Plan) (i k j m : ℕ) (one other : Code)
+    → is_small_if (plain (annotated p i k one)) (plain (annotated p j m other)) ≡ is_small_if one other
+small_if_is p i k j m one other =
+    ap₂ (λ y z. y && not z)
+    (ap₂ (λ y z. y && z) (small_leg_is p i k one) (small_leg_is p j m other))
+    (ap₂ (λ y z. y && z) (empty_is p i k one) (empty_is p j m other))
+
 pub item_is : (p : Plan) (i k : ℕ) (joined : Bool) (one other : Code)
     → is_item joined (annotated p (i + 1) k one) (annotated p (i + 1 + steps_of one) (k + calls one) other)
     ≡ is_if_item joined one other
 item_is p i k joined one other =
-    ap₂ (λ y z. joined && (y && z)) (straight_code p (i + 1) k one)
-    (straight_code p (i + 1 + steps_of one) (k + calls one) other)
+    let j = i + 1 + steps_of one in
+    let m = k + calls one in
+    ap₂ (λ y z. (joined || y) && z) (small_if_is p (i + 1) k j m one other)
+    (ap₂ (λ y z. y && z) (straight_code p (i + 1) k one) (straight_code p j m other))
 
 -- how many blocks an if begins, by whether it is an item
 abbrev pub if_size : Bool → Bool → Tree → Tree → ℕ
@@ -59,7 +90,7 @@ pub legs_straight : (joined : Bool) (one other : Code) → is_if_item joined one
     → (is_straight one ≡ true) × (is_straight other ≡ true)
 legs_straight joined one other e =
     and_parts (is_straight one) (is_straight other)
-    (and_parts joined (is_straight one && is_straight other) e).1
+    (and_parts (joined || is_small_if one other) (is_straight one && is_straight other) e).1
 
 mutual
   no_calls_in : (x : Step) → is_straight_in x ≡ true → calls_in x ≡ 0

@@ -1,29 +1,29 @@
--- Where a plan cuts everywhere, each block is small or has one group.
-use Rattle.std.proofs.Common.{◌≡◌, ◌⊎◌, inl, inr, ℕ, zero, suc, ◌+◌, ◌≤◌, Bool, true, false, List, []}
-use Rattle.std.proofs.Common.{◌∷◌, ◌++◌, map, length, Option, Some, None, refl, subst, arith, slice_get}
+-- Where a plan cuts everywhere, each block is small, has one group, or holds one small if.
+use Rattle.std.proofs.Common.{◌≡◌, ◌⊎◌, inl, inr, ℕ, zero, suc, ◌+◌, ◌≤◌, Bool, true, false, cond, not, ◌&&◌}
+use Rattle.std.proofs.Common.{◌||◌, List, [], ◌∷◌, ◌++◌, map, length, Option, Some, None, refl, ap₂, ◌∙◌, subst}
+use Rattle.std.proofs.Common.{arith, slice_get}
 use Rattle.ir_forms.specs.declared.flat.Arg.{Arg}
-use Rattle.ir_forms.specs.FlatCode.{Step, Code, Nop, ◌▹◌, Let, Frame, Load, Save, Call, Put, Get, If}
-use Rattle.ir_forms.specs.FlatCode.{Loop, Break, Continue, Return}
-use Rattle.ir_forms.specs.FlatFits.{steps_in, steps_of}
+use Rattle.ir_forms.specs.declared.hyper.Exit.TheVariants as exit
+use Rattle.ir_forms.specs.FlatFits.{is_small_leg, is_empty}
 use Rattle.ir_forms.specs.Frames.{frame_limit}
-use Rattle.ir_forms.specs.HyperCode.{Block}
-use Rattle.ir_forms.specs.HyperFits.{IsSmall, items_in, ifs_in, tests_in, exits_in}
+use Rattle.ir_forms.specs.HyperCode.{Done, Block}
+use Rattle.ir_forms.specs.HyperFits.{IsSmall, items_in, ifs_in, tests_in, exits_in, is_filled}
 use Rattle.ir_forms.specs.HyperRuns.{jump}
-use Rattle.reg_assign.specs.Keeps.{calls_in, calls}
 use Rattle.reg_assign.specs.Live.{AreSmall}
 use Rattle.hyper_build.specs.Tree.{Stmt, LetAt, FrameAt, LoadAt, SaveAt, CallAt, PutAt, GetAt, IfAt}
-use Rattle.hyper_build.specs.Tree.{LoopAt, BreakAt, ContinueAt, ReturnAt, Tree, End, ◌▸◌, Routine, Plan}
-use Rattle.hyper_build.specs.Tree.{annotated_in, annotated}
-use Rattle.hyper_build.specs.Parts.{cut, cut_blocks, chain, chain_blocks, moved, moved_blocks}
+use Rattle.hyper_build.specs.Tree.{LoopAt, BreakAt, ContinueAt, ReturnAt, Tree, End, ◌▸◌, Routine, plain}
+use Rattle.hyper_build.specs.Parts.{source, cut, cut_blocks, chain, chain_blocks, moved, moved_blocks}
 use Rattle.hyper_build.specs.Passing.{saving, restoring, argument_moves, argument_cuts, result_then}
 use Rattle.hyper_build.specs.Passing.{parameter_moves, parameter_cuts}
-use Rattle.hyper_build.specs.Straight.{Place, in_loop, exit_leg, leg_blocks, leg_size, arguments_size}
-use Rattle.hyper_build.specs.Straight.{size_in, size}
-use Rattle.hyper_build.specs.Build.{call_block, give, body_end, entry_in, entry, blocks_in, blocks}
+use Rattle.hyper_build.specs.Straight.{Place, in_loop, straight, items_of, is_small_if, is_item, exit_leg}
+use Rattle.hyper_build.specs.Straight.{leg_blocks, leg_size, arguments_size, size_in, size}
+use Rattle.hyper_build.specs.Build.{call_block, choose, give, body_end, entry_in, entry, blocks_in, blocks}
 use Rattle.hyper_build.specs.Routines.{way_out, place_of, way_in, parameters_size, body_label}
 use Rattle.hyper_build.specs.Routines.{body_entry, routine_size, routine_blocks, all_blocks, entry_from}
 use Rattle.hyper_build.specs.Routines.{built}
+use Rattle.hyper_build.specs.SmallIfs.{IsShortLeg, if_block}
 use Rattle.hyper_build.specs.Smallness.{TestsJump, IsGroupBlock, IsLittle, CutsAll}
+use Rattle.hyper_build.proofs.ItemLegs.{and_parts}
 
 abbrev AllLittle : List Block → Type 0
 AllLittle [] = Unit {0}
@@ -87,7 +87,7 @@ saves_little : (frame : ℕ) (gs : List (List ℕ)) (l : ℕ) (k : Block) → Ar
     → IsLittle (chain (map (saving frame) gs) l k)
 saves_little frame [] l k a s = s
 saves_little frame (g ∷ gs) l k a s =
-    inr (record { frame = frame; variables = g; to = l; few = a.0; is = inl refl })
+    inr (inl (record { frame = frame; variables = g; to = l; few = a.0; is = inl refl }))
 
 saves_all : (frame : ℕ) (gs : List (List ℕ)) (l : ℕ) (k : Block) → AreSmall gs → IsLittle k
     → AllLittle (chain_blocks (map (saving frame) gs) l k)
@@ -99,7 +99,7 @@ restores_little : (frame : ℕ) (gs : List (List ℕ)) (l : ℕ) (k : Block) →
     → IsLittle (chain (map (restoring frame) gs) l k)
 restores_little frame [] l k a s = s
 restores_little frame (g ∷ gs) l k a s =
-    inr (record { frame = frame; variables = g; to = l; few = a.0; is = inr refl })
+    inr (inl (record { frame = frame; variables = g; to = l; few = a.0; is = inr refl }))
 
 restores_all : (frame : ℕ) (gs : List (List ℕ)) (l : ℕ) (k : Block) → AreSmall gs → IsLittle k
     → AllLittle (chain_blocks (map (restoring frame) gs) l k)
@@ -218,6 +218,76 @@ parameters_little true (suc (suc (suc (suc (suc (suc (suc (suc zero)))))))) l x 
 parameters_little true (suc (suc (suc (suc (suc (suc (suc (suc (suc n))))))))) l x body e le =
     absurd (omega (arith, le))
 
+-- SMALL IFS
+
+-- a leg that is empty or one operation, as items
+short_leg : (p : Place) (c : Tree) → is_small_leg (plain c) ≡ true → IsShortLeg (items_of p c Done)
+short_leg p End e = tt
+short_leg p (LetAt c to op a b ▸ End) e = tt
+short_leg p (LetAt c to op a b ▸ (s ▸ rest)) e = absurd (cc e)
+short_leg p (FrameAt c to at ▸ rest) e = absurd (cc e)
+short_leg p (LoadAt c to op a ▸ rest) e = absurd (cc e)
+short_leg p (SaveAt c op a v ▸ rest) e = absurd (cc e)
+short_leg p (CallAt c small f args to groups ▸ rest) e = absurd (cc e)
+short_leg p (PutAt v ▸ rest) e = absurd (cc e)
+short_leg p (GetAt c to ▸ rest) e = absurd (cc e)
+short_leg p (IfAt c joined t one other ▸ rest) e = absurd (cc e)
+short_leg p (LoopAt c body post ▸ rest) e = absurd (cc e)
+short_leg p (BreakAt ▸ rest) e = absurd (cc e)
+short_leg p (ContinueAt ▸ rest) e = absurd (cc e)
+short_leg p (ReturnAt v ▸ rest) e = absurd (cc e)
+
+-- it does something, or is empty
+filled_leg : (p : Place) (c : Tree) → is_small_leg (plain c) ≡ true
+    → is_filled (items_of p c Done) ≡ not (is_empty (plain c))
+filled_leg p End e = refl
+filled_leg p (LetAt c to op a b ▸ End) e = refl
+filled_leg p (LetAt c to op a b ▸ (s ▸ rest)) e = absurd (cc e)
+filled_leg p (FrameAt c to at ▸ rest) e = absurd (cc e)
+filled_leg p (LoadAt c to op a ▸ rest) e = absurd (cc e)
+filled_leg p (SaveAt c op a v ▸ rest) e = absurd (cc e)
+filled_leg p (CallAt c small f args to groups ▸ rest) e = absurd (cc e)
+filled_leg p (PutAt v ▸ rest) e = absurd (cc e)
+filled_leg p (GetAt c to ▸ rest) e = absurd (cc e)
+filled_leg p (IfAt c joined t one other ▸ rest) e = absurd (cc e)
+filled_leg p (LoopAt c body post ▸ rest) e = absurd (cc e)
+filled_leg p (BreakAt ▸ rest) e = absurd (cc e)
+filled_leg p (ContinueAt ▸ rest) e = absurd (cc e)
+filled_leg p (ReturnAt v ▸ rest) e = absurd (cc e)
+
+not_both : (x y : Bool) → not (x && y) ≡ true → (not x || not y) ≡ true
+not_both true true e = absurd (cc e)
+not_both true false e = refl
+not_both false y e = refl
+
+-- an if that is an item without a join is small, and its block holds it alone
+small_if_little : (p : Place) (a : Arg) (one other : Tree) (l : ℕ) → is_item false one other ≡ true
+    → IsLittle (if_block (source a) (items_of p one Done) (items_of p other Done) (exit.Jump l))
+small_if_little p a one other l w =
+    let small : is_small_if (plain one) (plain other) ≡ true =
+    (and_parts (is_small_if (plain one) (plain other)) (straight one && straight other) w).0 in
+    let legs = and_parts (is_small_leg (plain one) && is_small_leg (plain other))
+    (not (is_empty (plain one) && is_empty (plain other))) small in
+    let each = and_parts (is_small_leg (plain one)) (is_small_leg (plain other)) legs.0 in
+    inr (inr (record {
+      test = source a;
+      one = items_of p one Done;
+      other = items_of p other Done;
+      out = exit.Jump l;
+      is = refl;
+      first = short_leg p one each.0;
+      second = short_leg p other each.1;
+      filled = ap₂ (λ y z. y || z) (filled_leg p one each.0) (filled_leg p other each.1)
+          ∙ not_both (is_empty (plain one)) (is_empty (plain other)) legs.1;
+    }))
+
+-- an if as an item or as a test
+if_little : (z : Bool) (item test : Block) (xs ys : List Block)
+    → (z ≡ true → IsLittle item × AllLittle xs) → IsLittle test × AllLittle ys
+    → IsLittle (choose z item test) × AllLittle (cond z xs ys)
+if_little true item test xs ys f h = f refl
+if_little false item test xs ys f h = h
+
 -- CODE
 
 leg_little : (o : Option ℕ) (first : Block) (others : List Block) → IsLittle first
@@ -280,14 +350,17 @@ mutual
   little_in p (IfAt true false a one other) l k t g s =
       let l1 = l + leg_size one (size one) in
       let join = l1 + leg_size other (size other) in
+      let first = leg_blocks (exit_leg p join one) (entry p one (l + 1) (jump join))
+      (blocks p one (l + 1) (jump join)) in
+      let second = leg_blocks (exit_leg p join other) (entry p other (l1 + 1) (jump join))
+      (blocks p other (l1 + 1) (jump join)) in
       let u = little_tree p one (l + 1) (jump join) t.2 g (little_jump join) in
-      let v = little_tree p other (l1 + 1) (jump join) t.3 g (little_jump join) in (
+      let v = little_tree p other (l1 + 1) (jump join) t.3 g (little_jump join) in
+      if_little (is_item false one other) _ _ (k ∷ []) (first ++ (second ++ k ∷ []))
+      (λ e. (small_if_little p a one other l e, (s, tt))) (
         simple _ (omega arith) (omega arith) (omega arith) refl (tt, tt),
-        little_append (leg_blocks (exit_leg p join one) (entry p one (l + 1) (jump join))
-            (blocks p one (l + 1) (jump join))) _ (leg_little (exit_leg p join one) _ _ u.0 u.1)
-            (little_append (leg_blocks (exit_leg p join other) (entry p other (l1 + 1) (jump join))
-            (blocks p other (l1 + 1) (jump join))) (k ∷ [])
-            (leg_little (exit_leg p join other) _ _ v.0 v.1) (s, tt)),
+        little_append first _ (leg_little (exit_leg p join one) _ _ u.0 u.1)
+            (little_append second (k ∷ []) (leg_little (exit_leg p join other) _ _ v.0 v.1) (s, tt)),
       )
   little_in p (LoopAt true body post) l k t g s =
       let next = l + 1 + size body in

@@ -1,6 +1,6 @@
 -- Straight code as items: what it does, one item after the other, and if-items.
 use Rattle.std.proofs.Common.{◌≡◌, ℕ, zero, suc, ◌+◌, ◌-◌, ◌*◌, ◌%◌, ◌^◌, ◌<◌, ◌≤◌, Bool, true, false, cond}
-use Rattle.std.proofs.Common.{not, ◌&&◌, List, [], ◌∷◌, ◌++◌, Option, Some, None, refl, sym, ap, ◌∙◌}
+use Rattle.std.proofs.Common.{not, ◌&&◌, ◌||◌, List, [], ◌∷◌, ◌++◌, Option, Some, None, refl, sym, ap, ◌∙◌}
 use Rattle.std.proofs.Common.{subst, arith, min}
 use Rattle.trips_isa.specs.declared.op.Op.{Op}
 use Rattle.trips_isa.specs.declared.op.Op.TheVariants.{Sub}
@@ -25,7 +25,7 @@ use Rattle.hyper_build.specs.Tree.{Stmt, LetAt, FrameAt, LoadAt, SaveAt, CallAt,
 use Rattle.hyper_build.specs.Tree.{LoopAt, BreakAt, ContinueAt, ReturnAt, Tree, End, ◌▸◌, Routine}
 use Rattle.hyper_build.specs.Tree.{plain_in, plain}
 use Rattle.hyper_build.specs.Parts.{source, capped, cut, cut_blocks, cut_size}
-use Rattle.hyper_build.specs.Straight.{Place, straight_in, straight, items_in, items_of, is_item}
+use Rattle.hyper_build.specs.Straight.{Place, straight_in, straight, items_in, items_of, is_small_if, is_item}
 use Rattle.hyper_build.specs.Straight.{exit_leg, label_or, leg_blocks, leg_size, size}
 use Rattle.hyper_build.specs.Build.{choose, entry, blocks}
 use Rattle.hyper_build.specs.World.{World, Has, Goes, Rel, Kept, IsFrame, frame, slots, checks_of, env_in}
@@ -500,7 +500,8 @@ module _ (W : World) (built : IsBuilt W) (words : AluGivesWords) (call : Calls) 
   pub item_does : (c joined : Bool) (a : Arg) (one other : Tree) → is_item joined one other ≡ true
       → StmtDoes W call start g (IfAt c joined a one other)
   item_does c joined a one other e inside p fits is l k has s m n rel =
-      let q = (and_parts joined (straight one && straight other) e).1 in
+      let q = (and_parts (joined || is_small_if (plain one) (plain other))
+      (straight one && straight other) e).1 in
       let qs = and_parts (straight one) (straight other) q in
       subst (λ b. Follows W (W.base + start + 8) (Rel W start g) (choose b item test) s m n 0
       (ways_of p k) (act (checks_of W) call (env_in W start g) (plain_in (IfAt c joined a one other))

@@ -1,5 +1,5 @@
 -- Code that needs no block of its own, as items.
-use Rattle.std.specs.Prelude.{ℕ, ◌-◌, Bool, true, false, ◌&&◌}
+use Rattle.std.specs.Prelude.{ℕ, ◌-◌, Bool, true, false, ◌&&◌, ◌||◌}
 use Rattle.trips_isa.specs.declared.op.Op.TheVariants.{Sub}
 use Rattle.ir_forms.specs.declared.hyper.Source.{Source}
 use Rattle.ir_forms.specs.declared.hyper.Source.TheVariants.{Const, Reg}
@@ -8,6 +8,7 @@ use Rattle.ir_forms.specs.FlatCode.{Step, Let, Frame, Load, Save, If, Code, Nop,
 use Rattle.ir_forms.specs.HyperCode.{Items, Done, Set, Block}
 use Rattle.ir_forms.specs.HyperCode as hyper
 use Rattle.hyper_build.specs.Parts.{source, capped, set_then}
+use Rattle.hyper_build.specs.Straight.{is_small_if}
 
 -- what of code needs no block of its own
 abbrev mutual
@@ -23,9 +24,10 @@ abbrev mutual
   is_straight Nop = true
   is_straight (s ▹ rest) = is_straight_in s && is_straight rest
 
--- whether an if is an item of its block, by its legs
+-- whether an if is an item of its block, by its legs; a small one always is
 abbrev pub is_if_item : Bool → Code → Code → Bool
-is_if_item joined one other = joined && (is_straight one && is_straight other)
+is_if_item joined one other =
+    (joined || is_small_if one other) && (is_straight one && is_straight other)
 
 -- items come before those of a rest
 abbrev pub items_before : (Items → Items) → Block → Block

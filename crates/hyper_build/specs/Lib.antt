@@ -23,4 +23,5 @@ pub mod Notes
 pub mod Reached
 pub mod Forward
 pub mod BackwardProgram
+pub mod SmallIfs
 pub mod Smallness

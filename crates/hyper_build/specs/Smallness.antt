@@ -1,5 +1,5 @@
--- Blocks of a plan that cuts everywhere: small ones without if-items, and those that save or restore a
--- group.
+-- Blocks of a plan that cuts everywhere: small ones without if-items, those that save or restore a
+-- group, and those of one small if.
 use Rattle.std.specs.Prelude.{◌≡◌, ◌⊎◌, ℕ, ◌≤◌, true, false, List, [], length, Some}
 use Rattle.std.specs.Prelude.{slice_get}
 use Rattle.ir_forms.specs.FlatCode.{Program}
@@ -11,6 +11,7 @@ use Rattle.ir_forms.specs.HyperRuns.{jump}
 use Rattle.reg_assign.specs.Live.{AreSmall}
 use Rattle.hyper_build.specs.Tree.{Plan}
 use Rattle.hyper_build.specs.Passing.{saving, restoring}
+use Rattle.hyper_build.specs.SmallIfs.{HoldsSmallIf}
 use Rattle.hyper_build.specs.Laws.{built_program, FitsGroups, plan_of, AreAssigned}
 
 -- a block that saves or restores at most 16 variables, and jumps
@@ -41,7 +42,7 @@ pub record IsSimple (b : Block) : Type 0 where
   pub jumps : TestsJump b.tail
 
 abbrev pub IsLittle : Block → Type 0
-IsLittle b = IsSimple b ⊎ IsGroupBlock b
+IsLittle b = IsSimple b ⊎ (IsGroupBlock b ⊎ HoldsSmallIf b)
 
 -- a plan that cuts at every place, joins nothing, and has groups of at most 16 variables
 pub record CutsAll (p : Plan) : Type 0 where

@@ -31,7 +31,7 @@ pub fn built_programs_are_blocks()
 {}
 
 /// Where a plan cuts at every place each block is small, with a test only at its end between two jumps,
-/// or saves or restores one group.
+/// or saves or restores one group, or holds one small if alone.
 pub fn cut_blocks_are_little()
     ensures { CutBlocksAreLittle }
 {}

@@ -1,10 +1,13 @@
 //! Code that is items alone.
 
-ghost use Rattle.std.specs.Prelude.{◌≡◌, ◌&&◌, OnOk};
+ghost use Rattle.std.specs.Prelude.{◌≡◌, ◌&&◌, ◌||◌, OnOk};
+ghost use Rattle.ir_forms.specs.FlatCode.{◌▹◌, Nop};
+ghost use Rattle.ir_forms.specs.FlatFits as flat;
 ghost use Rattle.ir_forms.specs.FlatViews.{code_of, step_of};
 ghost use Rattle.ir_forms.specs.HyperViews.{items_of};
 ghost use Rattle.hyper_build.specs.Parts as parts;
 ghost use Rattle.hyper_build.specs.BackwardItems as code;
+ghost use Rattle.hyper_build.specs.Straight as annotated;
 ghost use Rattle.hyper_build.specs.Emitted.{rest_of};
 
 use crate::operands::{capped, register_of, source};
@@ -20,6 +23,13 @@ fn both(one: bool, other: bool) -> bool
     ensures { result ≡ one && other }
 {
     one && other
+}
+
+/// Whether one of both is so.
+fn either(one: bool, other: bool) -> bool
+    ensures { result ≡ one || other }
+{
+    one || other
 }
 
 /// Whether a statement is items alone.
@@ -62,11 +72,66 @@ pub fn is_straight(stmts: &[FlatStmt]) -> bool
     all
 }
 
-/// Whether an if is an item of its block, by its legs.
+/// Whether a statement alone is a leg of a small if.
+fn is_operation(s: &FlatStmt) -> bool
+    ensures { result ≡ flat.is_small_leg (step_of s.now ▹ Nop) }
+{
+    match s {
+        FlatStmt::Let { .. } => true,
+        FlatStmt::Frame { .. } => false,
+        FlatStmt::Load { .. } => false,
+        FlatStmt::Save { .. } => false,
+        FlatStmt::Call { .. } => false,
+        FlatStmt::Put(_) => false,
+        FlatStmt::Get { .. } => false,
+        FlatStmt::If { .. } => false,
+        FlatStmt::Loop { .. } => false,
+        FlatStmt::Break => false,
+        FlatStmt::Continue => false,
+        FlatStmt::Return(_) => false,
+    }
+}
+
+/// Whether a leg is empty or one operation.
+fn is_small_leg(stmts: &[FlatStmt]) -> bool
+    ensures { result ≡ flat.is_small_leg (code_of stmts.now) }
+{
+    let (first, rest) = match stmts.split_first() {
+        None => return true,
+        Some(parts) => parts,
+    };
+    if rest.is_empty() {
+        is_operation(first)
+    } else {
+        false
+    }
+}
+
+/// Whether a leg is empty.
+fn is_no_leg(stmts: &[FlatStmt]) -> bool
+    ensures { result ≡ flat.is_empty (code_of stmts.now) }
+{
+    match stmts.split_first() {
+        None => true,
+        Some(_) => false,
+    }
+}
+
+/// Whether an if is a small one: its legs are each empty or one operation, and not both empty.
+fn is_small_if(yes: &[FlatStmt], no: &[FlatStmt]) -> bool
+    ensures { result ≡ annotated.is_small_if (code_of yes.now) (code_of no.now) }
+{
+    let one = is_small_leg(yes);
+    let other = is_small_leg(no);
+    let empty = both(is_no_leg(yes), is_no_leg(no));
+    both(both(one, other), !empty)
+}
+
+/// Whether an if is an item of its block, by its legs; a small one always is.
 pub fn is_if_item(joined: bool, yes: &[FlatStmt], no: &[FlatStmt]) -> bool
     ensures { result ≡ code.is_if_item joined (code_of yes.now) (code_of no.now) }
 {
-    if joined {
+    if either(joined, is_small_if(yes, no)) {
         let one = is_straight(yes);
         let other = is_straight(no);
         both(one, other)

@@ -87,7 +87,8 @@ const CUT_NOWHERE: &[Row] = &[
     (34, Exit::Return, None),
 ];
 
-// The if behind the byte that is taken in is an item; the one in the loop breaks, and stays a test.
+// The if behind the byte that is taken in is an item; the one in the loop breaks, and stays a test. That in the
+// loop's post is small, and an item under the plans above, too.
 const CUT_AND_JOINED: &[Row] = &[
     (0, Exit::Call { to: 29, back: 1 }, None),
     (9, Exit::Jump(14), Some(Exit::Jump(10))),
@@ -115,7 +116,7 @@ const JOINED: &[Row] = &[
 ];
 
 /// How many statements and functions the program has.
-const PLACES: u32 = 34;
+const PLACES: u32 = 36;
 
 const LACKING: Answers = Answers {
     places: 0,

@@ -32,7 +32,15 @@ fn put_looping(all: &mut Items<FlatStmt>, alloc: Global) -> Result<(), Memory> {
         },
     )?;
     body.push(set(1))?;
-    let post = only(alloc, set(2))?;
+    // a small if, which is an item under every plan
+    let post = only(
+        alloc,
+        FlatStmt::If {
+            test: Arg::Var(1),
+            yes: only(alloc, set(2))?,
+            no: Items::new(alloc),
+        },
+    )?;
     all.push(FlatStmt::Loop { body, post })?;
     Ok(())
 }
@@ -53,7 +61,7 @@ fn put_single(all: &mut Items<FlatStmt>) -> Result<(), Memory> {
     Ok(())
 }
 
-/// 16 statements, with those inside of others.
+/// 17 statements, with those inside of others.
 fn every(alloc: Global) -> Result<Items<FlatStmt>, Memory> {
     let mut all = Items::new(alloc);
     put_looping(&mut all, alloc)?;
@@ -68,7 +76,7 @@ fn every(alloc: Global) -> Result<Items<FlatStmt>, Memory> {
     all.push(FlatStmt::If {
         test: Arg::Var(2),
         yes: only(alloc, set(4))?,
-        no: only(alloc, set(5))?,
+        no: only(alloc, FlatStmt::Frame { to: 5, at: 0 })?,
     })?;
     all.push(FlatStmt::Return(Some(Arg::Var(2))))?;
     Ok(all)

@@ -69,15 +69,24 @@ const ROWS: &[Row] = &[
     },
 ];
 
-/// Texts with one if, and how many blocks it has of its own where nothing is cut, which it has not
-/// where it is an item.
+/// Texts with one if, and how many blocks it has of its own where nothing is cut and no if is joined, which it
+/// has not where it is an item.
 const JOINED_ROWS: &[(Row, usize)] = &[
     (
         Row {
-            name: "an if with one leg",
+            name: "a small if, which is an item anyway",
             text: texts::ONE_LEG,
             output: b"",
             stop: Stop::Ended(126),
+        },
+        0,
+    ),
+    (
+        Row {
+            name: "an if with one leg",
+            text: texts::ONE_LONG_LEG,
+            output: b"",
+            stop: Stop::Ended(249),
         },
         2,
     ),

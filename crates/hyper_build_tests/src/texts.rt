@@ -88,6 +88,14 @@ int main(void) {
 }
 ";
 
+pub const ONE_LONG_LEG: &str = "#include <stdio.h>
+int main(void) {
+  int c; int n = 0;
+  while ((c = getchar()) != EOF) { if (c > 'z') n = n + c; }
+  return n;
+}
+";
+
 pub const TWO_LEGS: &str = "#include <stdio.h>
 int main(void) {
   int c; int n = 0;

@@ -10,7 +10,7 @@ ghost use Rattle.ir_forms.specs.FlatViews.{code_of, step_of};
 ghost use Rattle.hyper_plan.specs.Answers.{only_cuts};
 
 use crate::estimate::Estimate;
-use crate::if_items::{add_item, are_items};
+use crate::if_items::{add_item, are_items, is_small_if};
 use crate::items::{
     Frame, add_all, add_call, add_result, add_return, add_saves, add_statement, are_plain,
 };
@@ -296,9 +296,9 @@ fn head(walk: &mut Walk, site: &Site) -> Result<(), Memory>
 // IFS
 
 /// An if goes as an item into the open block, or where it has no room there into another; it does not
-/// where it has room in neither.
+/// where it has room in neither, unless it is a small one, which is an item under every plan.
 #[inline(never)]
-fn join_item(walk: &mut Walk, s: &FlatStmt, site: &Site) -> bool
+fn join_item(walk: &mut Walk, s: &FlatStmt, small: bool, site: &Site) -> bool
     ensures size { length walk.new.answers ≡ length walk.old.answers }
     ensures cuts { site.now.room ≡ 0 → only_cuts walk.old.answers ≡ true
         → only_cuts walk.new.answers ≡ true }
@@ -308,7 +308,7 @@ fn join_item(walk: &mut Walk, s: &FlatStmt, site: &Site) -> bool
     if !fits(&block, site) {
         block = Estimate::empty();
         add_item(s, &mut block, site.frame);
-        if !fits(&block, site) {
+        if !small && !fits(&block, site) {
             return false;
         }
         cut_last(walk, site);
@@ -330,14 +330,21 @@ fn enter_item(walk: &mut Walk, at: usize, site: &Site)
     walk.in_item = true;
 }
 
-/// An if before its legs, which are straight or not: whether it begins an item. Else the block ends with its test.
-fn open_if(walk: &mut Walk, s: &FlatStmt, straight: bool, site: &Site) -> Result<bool, Memory>
+/// An if before its legs, which are straight or not; a small one has straight legs. Whether it begins an item;
+/// else the block ends with its test.
+fn open_if(
+    walk: &mut Walk,
+    s: &FlatStmt,
+    straight: bool,
+    small: bool,
+    site: &Site,
+) -> Result<bool, Memory>
     ensures size { OnOk result (length walk.new.answers ≡ length walk.old.answers + 1) }
     ensures cuts { OnOk result (site.now.room ≡ 0 → only_cuts walk.old.answers ≡ true
         → only_cuts walk.new.answers ≡ true) }
 {
     let at = walk.answers.len();
-    if !walk.in_item && straight && join_item(walk, s, site) {
+    if !walk.in_item && straight && join_item(walk, s, small, site) {
         answer(walk, site)?;
         enter_item(walk, at, site);
         Ok(true)
@@ -379,7 +386,8 @@ fn walk_stmt(s: &FlatStmt, walk: &mut Walk, site: &Site) -> Result<(), Memory>
         FlatStmt::Get { to } => get(walk, s, *to, site)?,
         FlatStmt::If { yes, no, .. } => {
             let straight = are_items(yes.as_slice()) && are_items(no.as_slice());
-            let item = open_if(walk, s, straight, site)?;
+            let small = is_small_if(yes.as_slice(), no.as_slice());
+            let item = open_if(walk, s, straight, small, site)?;
             walk_stmts(yes.as_slice(), walk, site)?;
             open(walk, site);
             walk_stmts(no.as_slice(), walk, site)?;

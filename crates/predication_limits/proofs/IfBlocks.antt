@@ -18,7 +18,7 @@ use Rattle.predication.specs.Tails.{exit_touched}
 use Rattle.predication.specs.Converted.{begun, ended, all_nodes, all_touched, reads_in, nodes_read, writes_read}
 use Rattle.predication.specs.Converted.{mask_below, predicated}
 use Rattle.predication.proofs.Regular.{mask_says}
-use Rattle.predication_limits.specs.SmallIfs.{IsShortLeg, if_block}
+use Rattle.hyper_build.specs.SmallIfs.{IsShortLeg, if_block}
 use Rattle.predication_limits.proofs.Flat.{read_of_all, Told, told_front}
 use Rattle.predication_limits.proofs.Pieces.{Names, tested_is}
 use Rattle.predication_limits.proofs.Items.{NamesIn}

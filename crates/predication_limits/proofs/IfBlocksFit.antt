@@ -38,7 +38,7 @@ use Rattle.c_compile_layout.proofs.Targets.{targeted_resolved}
 use Rattle.c_compile_layout.proofs.Linked.{nodes_same}
 use Rattle.predication_limits.specs.Prices.{price}
 use Rattle.predication_limits.specs.Limits.{FitsParts, FitsMachine, SmallIfsFit}
-use Rattle.predication_limits.specs.SmallIfs.{IsShortLeg, if_block}
+use Rattle.hyper_build.specs.SmallIfs.{IsShortLeg, if_block}
 use Rattle.predication_limits.proofs.Pieces.{Names}
 use Rattle.predication_limits.proofs.Items.{NamesIn}
 use Rattle.predication_limits.proofs.Ends.{NamesExit}

@@ -10,7 +10,7 @@ use Rattle.predication.specs.declared.work.Entry.{Entry}
 use Rattle.predication.specs.Environments.{Scope, Env, no_bits, at_start, under, put, from_node, both, member}
 use Rattle.predication.specs.Operands.{node_of, operand, second}
 use Rattle.predication.specs.Ifs.{side_of, join, items, touched}
-use Rattle.predication_limits.specs.SmallIfs.{IsShortLeg}
+use Rattle.hyper_build.specs.SmallIfs.{IsShortLeg}
 use Rattle.predication_limits.proofs.Pieces.{found}
 use Rattle.predication_limits.proofs.Supplies.{AreAt, at_back}
 

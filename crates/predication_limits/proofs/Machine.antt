@@ -1,5 +1,5 @@
 -- Little blocks fit the machine.
-use Rattle.std.proofs.Common.{◌≡◌, ◌⊎◌, ℕ, ◌+◌, ◌≤◌, true, refl, sym, ap, subst, arith}
+use Rattle.std.proofs.Common.{◌≡◌, ◌⊎◌, inl, inr, ℕ, ◌+◌, ◌≤◌, true, refl, sym, ap, subst, arith}
 use Rattle.trips_isa.specs.declared.block.Block.{Block as MachineBlock}
 use Rattle.trips_isa.specs.Places.{nodes_of}
 use Rattle.block_cases.specs.Cases.{cases}
@@ -29,6 +29,7 @@ use Rattle.predication_limits.proofs.Blocks.{straight, insts_few, reads_are, num
 use Rattle.predication_limits.proofs.Members.{few_writes, few_reads}
 use Rattle.predication_limits.proofs.Cheap.{IsCheap, exits_with}
 use Rattle.predication_limits.proofs.Little.{little_cheap}
+use Rattle.predication_limits.proofs.IfBlocksFit.{small_ifs}
 use Rattle.predication_limits.proofs.Guards.{two_cases}
 use Rattle.predication_limits.proofs.ShortLayout.{anywhere, short}
 
@@ -100,4 +101,6 @@ plain_fits b fits little =
         omega (arith, two, nodes)
 
 pub fits_machine : LittleBlocksFit
-fits_machine b fits little = plain_fits b fits little
+fits_machine b fits (inl s) = plain_fits b fits (inl s)
+fits_machine b fits (inr (inl g)) = plain_fits b fits (inr g)
+fits_machine b fits (inr (inr h)) = small_ifs b fits h

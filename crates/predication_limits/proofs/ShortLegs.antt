@@ -22,7 +22,7 @@ use Rattle.predication.specs.Ifs.{side_of, join, items, touched}
 use Rattle.predication.specs.Converted.{reads_in}
 use Rattle.predication.proofs.Ops.{op_form}
 use Rattle.predication_limits.specs.Costs.{source_cost}
-use Rattle.predication_limits.specs.SmallIfs.{IsShortLeg}
+use Rattle.hyper_build.specs.SmallIfs.{IsShortLeg}
 use Rattle.predication_limits.proofs.Flat.{no_piece}
 use Rattle.predication_limits.proofs.Pieces.{ArePlain, Names, operand_piece, widened, second_piece}
 use Rattle.predication_limits.proofs.Items.{not_constant, NamesIn}

@@ -8,6 +8,7 @@ use Rattle.ir_forms.specs.FlatFits.{FitsProgram}
 use Rattle.ir_forms.specs.HyperCode.{Block}
 use Rattle.ir_forms.specs.HyperFits.{FitsHyper, exits_in}
 use Rattle.hyper_build.specs.Laws.{built_program, plan_of, AreAssigned}
+use Rattle.hyper_build.specs.SmallIfs.{HoldsSmallIf}
 use Rattle.hyper_build.specs.Smallness.{IsSimple, IsGroupBlock, IsLittle}
 use Rattle.predication.specs.Tails.{labelled}
 use Rattle.predication.specs.Converted.{begun, predicated}
@@ -18,7 +19,6 @@ use Rattle.ir_forms.specs.declared.fault.FlowFault.TheVariants.{Memory}
 use Rattle.null_outputs.specs.Refusals as null_outputs
 use Rattle.fan_out.specs.Refusals as fan_out_refusals
 use Rattle.fan_out.specs.Targeted as fan_out
-use Rattle.predication_limits.specs.SmallIfs.{HoldsSmallIf}
 
 -- the parts of a block's flow block, each within the machine's limit
 pub record FitsParts (b : Block) : Type 0 where
@@ -38,16 +38,16 @@ pub record FitsMachine (b : Block) : Type 0 where
   pub cases : (t : MachineBlock) → fan_out.IsTargeted (complete (predicated (labelled b))) t
       → cases (nodes_of t) ≤ 256
 
--- small blocks without if-items and those of a save group are
+-- small blocks without if-items, those of a save group and those of one small if are
 abbrev pub LittleBlocksFit : Type 0
 LittleBlocksFit = (b : Block) → FitsHyper b → IsLittle b → FitsMachine b
 
--- to these no null has to be added
+-- to the first two no null has to be added
 abbrev pub PlainBlocksStay : Type 0
 PlainBlocksStay = (b : Block) → FitsHyper b → IsSimple b ⊎ IsGroupBlock b
     → complete (predicated (labelled b)) ≡ predicated (labelled b)
 
--- and so is a block of one small if
+-- so is a block of one small if alone
 abbrev pub SmallIfsFit : Type 0
 SmallIfsFit = (b : Block) → FitsHyper b → HoldsSmallIf b → FitsMachine b
 

@@ -7,8 +7,8 @@ pub fn cases_are_few()
     ensures { CasesAreFew }
 {}
 
-/// A small block, and one that saves or restores a group, is within every limit of a machine block, and its
-/// cases are few; no null has to be added to it.
+/// A small block, one that saves or restores a group, and one that holds a small if alone, is within every limit of
+/// a machine block, and its cases are few; to the first two no null has to be added.
 pub fn little_blocks_fit()
     ensures fit { LittleBlocksFit }
     ensures stay { PlainBlocksStay }
