@@ -1,0 +1,6 @@
+pub mod SmallIfs
+pub mod Legs
+pub mod Statements
+pub mod Programs
+pub mod Kept
+pub mod StandardFacts

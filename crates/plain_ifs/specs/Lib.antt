@@ -1,0 +1,2 @@
+pub mod PlainIfs
+pub mod Laws
