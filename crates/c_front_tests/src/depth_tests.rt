@@ -25,7 +25,7 @@ struct Nest {
     deep: u32,
 }
 
-const NESTS: [Nest; 14] = [
+const NESTS: &[Nest] = &[
     Nest {
         before: &[RETURN],
         opener: &[OPEN],
@@ -154,20 +154,38 @@ const NESTS: [Nest; 14] = [
     },
 ];
 
+fn add_times(
+    alloc: Global,
+    list: &mut Vec<Lexeme>,
+    tokens: &[Token],
+    count: usize,
+) -> Result<(), Fail> {
+    for _ in 0..count {
+        add(alloc, list, tokens)?;
+    }
+    Ok(())
+}
+
+fn add_nest(alloc: Global, list: &mut Vec<Lexeme>, nest: &Nest, count: usize) -> Result<(), Fail> {
+    add(alloc, list, HEAD)?;
+    add(alloc, list, nest.before)?;
+    add_times(alloc, list, nest.opener, count)?;
+    add(alloc, list, nest.middle)?;
+    add_times(alloc, list, nest.closer, count)?;
+    add(alloc, list, nest.after)?;
+    add(alloc, list, &[END])
+}
+
+/// So many of the construct in one another.
 fn nested(alloc: Global, nest: &Nest, count: usize) -> Result<Vec<Lexeme>, Fail> {
     let mut list = Vec::new(alloc);
-    add(alloc, &mut list, HEAD)?;
-    add(alloc, &mut list, nest.before)?;
-    for _ in 0..count {
-        add(alloc, &mut list, nest.opener)?;
-    }
-    add(alloc, &mut list, nest.middle)?;
-    for _ in 0..count {
-        add(alloc, &mut list, nest.closer)?;
-    }
-    add(alloc, &mut list, nest.after)?;
-    add(alloc, &mut list, &[END])?;
+    add_nest(alloc, &mut list, nest, count)?;
     Ok(list)
+}
+
+/// One more than may be.
+fn nested_too_deep(alloc: Global, nest: &Nest) -> Result<Vec<Lexeme>, Fail> {
+    nested(alloc, nest, nest.most.min(99) + 1)
 }
 
 /// The line of the token that is too deep where one more stands than may.
@@ -177,29 +195,41 @@ fn deep_line(nest: &Nest) -> u32 {
     before + most + nest.deep.min(9) + 1
 }
 
+fn assert_answer(rt: &impl Abort, alloc: Global, nest: &Nest, list: &[Lexeme], want: Answer) {
+    let opener = nest.opener;
+    assert_eq!(rt; answer_to(alloc, list), want, "{opener:?}");
+}
+
+fn assert_taken(rt: &impl Abort, alloc: Global, nest: &Nest) -> Result<(), Fail> {
+    let list = nested(alloc, nest, nest.most)?;
+    assert_answer(rt, alloc, nest, &list, Answer::Items(1));
+    Ok(())
+}
+
+fn assert_too_deep(rt: &impl Abort, alloc: Global, nest: &Nest) -> Result<(), Fail> {
+    let list = nested_too_deep(alloc, nest)?;
+    assert_answer(rt, alloc, nest, &list, Answer::TooDeep(deep_line(nest)));
+    Ok(())
+}
+
+/// Where the token that is too deep is the last one, the tokens only end too early.
+fn assert_too_short(rt: &impl Abort, alloc: Global, nest: &Nest) -> Result<(), Fail> {
+    let mut list = nested_too_deep(alloc, nest)?;
+    list.truncate(deep_line(nest) as usize);
+    assert_answer(rt, alloc, nest, &list, Answer::Syntax(deep_line(nest)));
+    Ok(())
+}
+
 fn assert_nests(rt: &impl Abort, alloc: Global, nests: &[Nest]) -> Result<(), Fail> {
     for nest in nests {
-        let opener = nest.opener;
-        let list = nested(alloc, nest, nest.most)?;
-        assert_eq!(rt; answer_to(alloc, &list), Answer::Items(1), "{opener:?}");
-        let mut list = nested(alloc, nest, nest.most.min(99) + 1)?;
-        assert_eq!(rt;
-            answer_to(alloc, &list),
-            Answer::TooDeep(deep_line(nest)),
-            "{opener:?}"
-        );
-        // Where that token is the last one, the tokens only end too early.
-        list.truncate(deep_line(nest) as usize);
-        assert_eq!(rt;
-            answer_to(alloc, &list),
-            Answer::Syntax(deep_line(nest)),
-            "{opener:?}"
-        );
+        assert_taken(rt, alloc, nest)?;
+        assert_too_deep(rt, alloc, nest)?;
+        assert_too_short(rt, alloc, nest)?;
     }
     Ok(())
 }
 
 #[test]
 fn each_construct_may_stand_at_depth_64(rt: HostRuntime) -> Result<(), Fail> {
-    assert_nests(&rt, rt.alloc(), &NESTS)
+    assert_nests(&rt, rt.alloc(), NESTS)
 }

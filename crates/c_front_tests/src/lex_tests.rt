@@ -2,7 +2,7 @@
 
 use c_lex::{LexFault, MOST_TOKENS, lex};
 use c_tree::{Form, Key, Kind, Lexeme, Mark};
-use std::alloc::Global;
+use std::alloc::{AllocError, Global};
 use std::process::Abort;
 use std::test::Fail;
 
@@ -18,7 +18,7 @@ enum Want {
 
 type Row = (&'static [u8], Result<&'static [(u32, Want)], LexFault>);
 
-const ROWS: [Row; 82] = [
+const ROWS: &[Row] = &[
     (b"", Ok(&[])),
     (b" \t\n\x0B\x0C\r", Ok(&[])),
     (
@@ -257,23 +257,64 @@ fn assert_rows(rt: &impl Abort, alloc: Global, rows: &[Row]) {
 
 #[test]
 fn lexes_each_text_as_the_standard_does(rt: HostRuntime) {
-    assert_rows(&rt, rt.alloc(), &ROWS);
+    assert_rows(&rt, rt.alloc(), ROWS);
+}
+
+/// A line of so many tokens as may be.
+fn full_line(alloc: Global) -> Result<Vec<u8>, AllocError> {
+    let mut text = vec![in alloc; b';'; MOST_TOKENS]?;
+    text.push(b'\n')?;
+    Ok(text)
+}
+
+/// The full line, and one byte of a second line.
+fn line_and(alloc: Global, next: u8) -> Result<Vec<u8>, AllocError> {
+    let mut text = full_line(alloc)?;
+    text.push(next)?;
+    Ok(text)
+}
+
+/// Whether a text has so many tokens.
+fn has_tokens(alloc: Global, text: &[u8], count: usize) -> bool {
+    if 10_000 <= text.len() {
+        return false;
+    }
+    match lex(alloc, text) {
+        Ok(tokens) => tokens.len() == count,
+        Err(_) => false,
+    }
+}
+
+fn assert_full(rt: &impl Abort, alloc: Global) -> Result<(), Fail> {
+    let text = full_line(alloc)?;
+    assert!(rt; has_tokens(alloc, &text, MOST_TOKENS));
+    Ok(())
+}
+
+fn assert_past(rt: &impl Abort, alloc: Global, next: u8, fault: LexFault) -> Result<(), Fail> {
+    let text = line_and(alloc, next)?;
+    assert!(rt; text.len() < 10_000);
+    assert_eq!(rt; lex(alloc, &text).err(), Some(fault), "{next}");
+    Ok(())
+}
+
+type PastRow = (u8, LexFault);
+
+const PAST: &[PastRow] = &[
+    (b';', LexFault::TooManyTokens(2)),
+    (b'@', LexFault::BadByte(2)),
+    (b'9', LexFault::TooManyTokens(2)),
+];
+
+fn assert_each_past(rt: &impl Abort, alloc: Global, rows: &[PastRow]) -> Result<(), Fail> {
+    for (next, fault) in rows {
+        assert_past(rt, alloc, *next, *fault)?;
+    }
+    Ok(())
 }
 
 #[test]
 fn refuses_the_first_token_past_the_limit(rt: HostRuntime) -> Result<(), Fail> {
-    let mut text = vec![in rt.alloc(); b';'; MOST_TOKENS]?;
-    text.push(b'\n')?;
-    assert!(rt; lex(rt.alloc(), &text).is_ok_and(|tokens| tokens.len() == MOST_TOKENS));
-    for (next, fault) in [
-        (b';', LexFault::TooManyTokens(2)),
-        (b'@', LexFault::BadByte(2)),
-        (b'9', LexFault::TooManyTokens(2)),
-    ] {
-        text.push(next)?;
-        assert!(rt; text.len() < 10_000);
-        assert_eq!(rt; lex(rt.alloc(), &text).err(), Some(fault), "{next}");
-        text.pop();
-    }
-    Ok(())
+    assert_full(&rt, rt.alloc())?;
+    assert_each_past(&rt, rt.alloc(), PAST)
 }

@@ -103,7 +103,7 @@ pub fn add(alloc: Global, list: &mut Vec<Lexeme>, tokens: &[Token]) -> Result<()
 
 type Row = (&'static [Token], Answer);
 
-const ROWS: [Row; 26] = [
+const ROWS: &[Row] = &[
     (&[], Answer::Syntax(1)),
     (&[Include], Answer::Items(1)),
     (&[SEMICOLON], Answer::Syntax(1)),
@@ -201,18 +201,28 @@ const ROWS: [Row; 26] = [
     (&[INT, A, OPEN, CLOSE, BEGIN, END, END], Answer::Syntax(7)),
 ];
 
+fn list_of(alloc: Global, tokens: &[Token]) -> Result<Vec<Lexeme>, Fail> {
+    let mut list = Vec::new(alloc);
+    add(alloc, &mut list, tokens)?;
+    Ok(list)
+}
+
+fn assert_row(rt: &impl Abort, alloc: Global, tokens: &[Token], want: Answer) -> Result<(), Fail> {
+    let list = list_of(alloc, tokens)?;
+    assert_eq!(rt; answer_to(alloc, &list), want, "{tokens:?}");
+    Ok(())
+}
+
 fn assert_rows(rt: &impl Abort, alloc: Global, rows: &[Row]) -> Result<(), Fail> {
     for (tokens, want) in rows {
-        let mut list = Vec::new(alloc);
-        add(alloc, &mut list, tokens)?;
-        assert_eq!(rt; answer_to(alloc, &list), *want, "{tokens:?}");
+        assert_row(rt, alloc, tokens, *want)?;
     }
     Ok(())
 }
 
 #[test]
 fn answers_each_list(rt: HostRuntime) -> Result<(), Fail> {
-    assert_rows(&rt, rt.alloc(), &ROWS)
+    assert_rows(&rt, rt.alloc(), ROWS)
 }
 
 const WHOLE: &[Token] = &[
@@ -222,20 +232,24 @@ const WHOLE: &[Token] = &[
     One, CLOSE, SEMICOLON, END,
 ];
 
-#[test]
-fn ends_too_early_after_each_token(rt: HostRuntime) -> Result<(), Fail> {
-    let alloc = rt.alloc();
-    let mut list = Vec::new(alloc);
-    assert_eq!(rt; answer_to(alloc, &list), Answer::Syntax(1));
-    for (at, token) in WHOLE.iter().enumerate() {
-        add(alloc, &mut list, &[*token])?;
-        let line = at.min(9_999) as u32 + 1;
-        let want = if list.len() == WHOLE.len() {
-            Answer::Items(1)
-        } else {
-            Answer::Syntax(line)
-        };
-        assert_eq!(rt; answer_to(alloc, &list), want, "after {line} tokens");
+fn assert_begin(rt: &impl Abort, alloc: Global, begin: &[Token], want: Answer) -> Result<(), Fail> {
+    let list = list_of(alloc, begin)?;
+    let line = begin.len();
+    assert_eq!(rt; answer_to(alloc, &list), want, "after {line} tokens");
+    Ok(())
+}
+
+/// Each list that `whole` begins with and that is shorter, the empty one on line 1 too.
+fn assert_begins(rt: &impl Abort, alloc: Global, whole: &[Token]) -> Result<(), Fail> {
+    for count in 0..whole.len() {
+        let line = count.min(9_999).max(1) as u32;
+        assert_begin(rt, alloc, &whole[..count], Answer::Syntax(line))?;
     }
     Ok(())
+}
+
+#[test]
+fn ends_too_early_after_each_token(rt: HostRuntime) -> Result<(), Fail> {
+    assert_begins(&rt, rt.alloc(), WHOLE)?;
+    assert_begin(&rt, rt.alloc(), WHOLE, Answer::Items(1))
 }

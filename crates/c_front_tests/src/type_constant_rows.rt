@@ -3,7 +3,7 @@
 use crate::type_rows::{Item, Row, Value, ZERO};
 use c_type::TypeFault;
 
-pub const CONSTANTS: [Row; 8] = [
+pub const CONSTANTS: &[Row] = &[
     (
         "a constant that calls a function that is not in scope",
         &[

@@ -5,51 +5,73 @@ use crate::type_rows::{Body, Item, ROWS, Row, Typed, Value};
 use base::{Boxed, Items};
 use c_tree::{
     ArraySize, BinaryOp, Expr, ExprNode, Kind, Param, Program, Stmt, StmtNode, Top, TopNode,
-    TypedExpr, TypedFunc, TypedGlobal, TypedNode, TypedStmt, Word,
+    TypedExpr, TypedFunc, TypedGlobal, TypedNode, TypedProgram, TypedStmt, Word,
 };
 use c_type::{TypeFault, type_program};
 use std::alloc::Global;
 use std::process::Abort;
 
-fn zero(line: u32) -> Expr {
+fn number(line: u32, value: u64) -> Expr {
     let node = ExprNode::Number {
-        value: 0,
+        value,
         kind: Kind::Int,
     };
     Expr { line, node }
 }
 
-fn expression(alloc: Global, line: u32, value: Value) -> Result<Expr, TypeFault> {
-    let node = match value {
-        Value::Number(value) => ExprNode::Number {
+fn call(alloc: Global, name: &[u8]) -> Result<ExprNode, TypeFault> {
+    Ok(ExprNode::Call {
+        function: Word::from_slice(alloc, name)?,
+        args: Items::new(alloc),
+    })
+}
+
+/// The first element of an array.
+fn element(alloc: Global, line: u32, name: &[u8]) -> Result<ExprNode, TypeFault> {
+    let array = Word::from_slice(alloc, name)?;
+    let index = Boxed::new(alloc, number(line, 0))?;
+    Ok(ExprNode::Element { array, index })
+}
+
+fn expression_node(alloc: Global, line: u32, value: Value) -> Result<ExprNode, TypeFault> {
+    match value {
+        Value::Number(value) => Ok(ExprNode::Number {
             value,
             kind: Kind::Int,
-        },
-        Value::Name(name) => ExprNode::Name(Word::from_slice(alloc, name)?),
-        Value::Call(name) => ExprNode::Call {
-            function: Word::from_slice(alloc, name)?,
-            args: Items::new(alloc),
-        },
-        Value::Element(name) => ExprNode::Element {
-            array: Word::from_slice(alloc, name)?,
-            index: Boxed::new(alloc, zero(line))?,
-        },
-    };
+        }),
+        Value::Name(name) => Ok(ExprNode::Name(Word::from_slice(alloc, name)?)),
+        Value::Call(name) => call(alloc, name),
+        Value::Element(name) => element(alloc, line, name),
+    }
+}
+
+fn expression(alloc: Global, line: u32, value: Value) -> Result<Expr, TypeFault> {
+    let node = expression_node(alloc, line, value)?;
     Ok(Expr { line, node })
 }
 
+fn declaration(alloc: Global, line: u32, name: &[u8], init: Value) -> Result<StmtNode, TypeFault> {
+    let name = Word::from_slice(alloc, name)?;
+    let init = expression(alloc, line, init)?;
+    Ok(StmtNode::Declare {
+        kind: Kind::Int,
+        name,
+        size: ArraySize::Scalar,
+        init: Some(init),
+    })
+}
+
+fn statement_node(alloc: Global, line: u32, body: Body) -> Result<StmtNode, TypeFault> {
+    match body {
+        Body::Give(value) => Ok(StmtNode::Return(Some(expression(alloc, line, value)?))),
+        Body::Leave => Ok(StmtNode::Return(None)),
+        Body::Break => Ok(StmtNode::Break),
+        Body::Scalar(name, init) => declaration(alloc, line, name, init),
+    }
+}
+
 fn statement(alloc: Global, line: u32, body: Body) -> Result<Stmt, TypeFault> {
-    let node = match body {
-        Body::Give(value) => StmtNode::Return(Some(expression(alloc, line, value)?)),
-        Body::Leave => StmtNode::Return(None),
-        Body::Break => StmtNode::Break,
-        Body::Scalar(name, init) => StmtNode::Declare {
-            kind: Kind::Int,
-            name: Word::from_slice(alloc, name)?,
-            size: ArraySize::Scalar,
-            init: Some(expression(alloc, line, init)?),
-        },
-    };
+    let node = statement_node(alloc, line, body)?;
     Ok(Stmt { line, node })
 }
 
@@ -62,17 +84,53 @@ fn block(alloc: Global, line: u32, body: Body) -> Result<Stmt, TypeFault> {
     })
 }
 
+fn param(alloc: Global, line: u32, number: u8) -> Result<Param, TypeFault> {
+    let name = Word::from_slice(alloc, &[b'p'.wrapping_add(number)])?;
+    Ok(Param {
+        line,
+        kind: Kind::Int,
+        name: Some(name),
+        size: ArraySize::Scalar,
+    })
+}
+
 fn params(alloc: Global, line: u32, count: u8) -> Result<Items<Param>, TypeFault> {
     let mut all = Items::new(alloc);
     for number in 0..count {
-        all.push(Param {
-            line,
-            kind: Kind::Int,
-            name: Some(Word::from_slice(alloc, &[b'p'.wrapping_add(number)])?),
-            size: ArraySize::Scalar,
-        })?;
+        all.push(param(alloc, line, number)?)?;
     }
     Ok(all)
+}
+
+/// What a function has before its body.
+#[derive(Drop)]
+struct Signature {
+    line: u32,
+    name: Word,
+    params: Items<Param>,
+}
+
+fn head(alloc: Global, line: u32, name: &[u8], count: u8) -> Result<Signature, TypeFault> {
+    let name = Word::from_slice(alloc, name)?;
+    let params = params(alloc, line, count)?;
+    Ok(Signature { line, name, params })
+}
+
+fn function_of(head: Signature, body: Option<Stmt>) -> Top {
+    Top {
+        line: head.line,
+        node: TopNode::Func {
+            result: Some(Kind::Int),
+            name: head.name,
+            params: head.params,
+            body,
+        },
+    }
+}
+
+fn prototype(alloc: Global, line: u32, name: &[u8], count: u8) -> Result<Top, TypeFault> {
+    let head = head(alloc, line, name, count)?;
+    Ok(function_of(head, None))
 }
 
 fn function(
@@ -80,38 +138,48 @@ fn function(
     line: u32,
     name: &[u8],
     count: u8,
-    body: Option<Stmt>,
+    body: Body,
 ) -> Result<Top, TypeFault> {
-    let params = params(alloc, line, count)?;
-    let name = Word::from_slice(alloc, name)?;
-    Ok(Top {
-        line,
-        node: TopNode::Func {
-            result: Some(Kind::Int),
-            name,
-            params,
-            body,
-        },
-    })
+    let head = head(alloc, line, name, count)?;
+    let body = block(alloc, line.wrapping_add(1), body)?;
+    Ok(function_of(head, Some(body)))
 }
 
-fn global(
-    alloc: Global,
-    line: u32,
-    kind: Kind,
-    name: &[u8],
-    size: ArraySize,
-    init: Items<Expr>,
-) -> Result<Top, TypeFault> {
-    Ok(Top {
+fn global_of(line: u32, kind: Kind, name: Word, size: ArraySize, init: Items<Expr>) -> Top {
+    Top {
         line,
         node: TopNode::Global {
             kind,
-            name: Word::from_slice(alloc, name)?,
+            name,
             size,
             init,
         },
-    })
+    }
+}
+
+/// A list of one value.
+fn values(alloc: Global, line: u32, value: Value) -> Result<Items<Expr>, TypeFault> {
+    let mut all = Items::new(alloc);
+    all.push(expression(alloc, line, value)?)?;
+    Ok(all)
+}
+
+fn scalar(alloc: Global, line: u32, name: &[u8], value: Value) -> Result<Top, TypeFault> {
+    let name = Word::from_slice(alloc, name)?;
+    let init = values(alloc, line, value)?;
+    Ok(global_of(line, Kind::Char, name, ArraySize::Scalar, init))
+}
+
+fn array(alloc: Global, line: u32, name: &[u8], count: u64) -> Result<Top, TypeFault> {
+    let name = Word::from_slice(alloc, name)?;
+    let size = ArraySize::Sized(number(line, count));
+    Ok(global_of(line, Kind::Char, name, size, Items::new(alloc)))
+}
+
+fn open_array(alloc: Global, line: u32, name: &[u8], value: Value) -> Result<Top, TypeFault> {
+    let name = Word::from_slice(alloc, name)?;
+    let init = values(alloc, line.wrapping_add(1), value)?;
+    Ok(global_of(line, Kind::Long, name, ArraySize::Open, init))
 }
 
 fn item(alloc: Global, item: Item) -> Result<Top, TypeFault> {
@@ -120,32 +188,11 @@ fn item(alloc: Global, item: Item) -> Result<Top, TypeFault> {
             line,
             node: TopNode::Include,
         }),
-        Item::Global(line, name, value) => {
-            let mut init = Items::new(alloc);
-            init.push(expression(alloc, line, value)?)?;
-            global(alloc, line, Kind::Char, name, ArraySize::Scalar, init)
-        }
-        Item::Array(line, name, count) => {
-            let size = expression(alloc, line, Value::Number(count))?;
-            global(
-                alloc,
-                line,
-                Kind::Char,
-                name,
-                ArraySize::Sized(size),
-                Items::new(alloc),
-            )
-        }
-        Item::Open(line, name, value) => {
-            let mut init = Items::new(alloc);
-            init.push(expression(alloc, line.wrapping_add(1), value)?)?;
-            global(alloc, line, Kind::Long, name, ArraySize::Open, init)
-        }
-        Item::Prototype(line, name, count) => function(alloc, line, name, count, None),
-        Item::Function(line, name, count, body) => {
-            let body = block(alloc, line.wrapping_add(1), body)?;
-            function(alloc, line, name, count, Some(body))
-        }
+        Item::Global(line, name, value) => scalar(alloc, line, name, value),
+        Item::Array(line, name, count) => array(alloc, line, name, count),
+        Item::Open(line, name, value) => open_array(alloc, line, name, value),
+        Item::Prototype(line, name, count) => prototype(alloc, line, name, count),
+        Item::Function(line, name, count, body) => function(alloc, line, name, count, body),
     }
 }
 
@@ -157,8 +204,12 @@ fn unit(alloc: Global, items: &[Item]) -> Result<Program, TypeFault> {
     Ok(Program { items: all })
 }
 
+fn typed(alloc: Global, items: &[Item]) -> Result<TypedProgram, TypeFault> {
+    type_program(alloc, unit(alloc, items)?)
+}
+
 fn answer(alloc: Global, items: &[Item]) -> Result<Typed, TypeFault> {
-    let program = type_program(alloc, unit(alloc, items)?)?;
+    let program = typed(alloc, items)?;
     Ok(Typed {
         globals: program.globals.len(),
         functions: program.functions.len(),
@@ -174,8 +225,8 @@ fn assert_rows(rt: &impl Abort, alloc: Global, rows: &[Row]) {
 
 #[test]
 fn units_have_their_typing_or_their_fault(rt: HostRuntime) {
-    assert_rows(&rt, rt.alloc(), &ROWS);
-    assert_rows(&rt, rt.alloc(), &CONSTANTS);
+    assert_rows(&rt, rt.alloc(), ROWS);
+    assert_rows(&rt, rt.alloc(), CONSTANTS);
 }
 
 /// The first value of the first global.
@@ -211,47 +262,79 @@ fn has_converted(functions: &[TypedFunc]) -> bool {
     }
 }
 
+const NARROW: &[Item] = &[
+    Item::Global(1, b"x", Value::Number(511)),
+    Item::Function(2, b"main", 0, Body::Give(Value::Name(b"x"))),
+];
+
+fn assert_value(rt: &impl Abort, globals: &[TypedGlobal]) {
+    assert_eq!(rt; first_value(globals), Some(u64::MAX), "511 as a char");
+}
+
+fn assert_converted(rt: &impl Abort, functions: &[TypedFunc]) {
+    assert!(rt;
+        has_converted(functions),
+        "a char that an int function returns"
+    );
+}
+
+fn assert_values(rt: &impl Abort, alloc: Global, items: &[Item]) -> Result<(), TypeFault> {
+    let program = typed(alloc, items)?;
+    assert_value(rt, program.globals.as_slice());
+    assert_converted(rt, program.functions.as_slice());
+    Ok(())
+}
+
 #[test]
 fn values_are_converted(rt: HostRuntime) -> Result<(), TypeFault> {
-    let alloc = rt.alloc();
-    let items = [
-        Item::Global(1, b"x", Value::Number(511)),
-        Item::Function(2, b"main", 0, Body::Give(Value::Name(b"x"))),
-    ];
-    let program = type_program(alloc, unit(alloc, &items)?)?;
-    let value = first_value(program.globals.as_slice());
-    assert_eq!(rt; value, Some(u64::MAX), "511 as a char");
-    let converted = has_converted(program.functions.as_slice());
-    assert!(rt; converted, "a char that an int function returns");
-    Ok(())
+    assert_values(&rt, rt.alloc(), NARROW)
+}
+
+fn plus_zero(alloc: Global, left: Boxed<Expr>) -> Result<Boxed<Expr>, TypeFault> {
+    let node = ExprNode::Binary {
+        op: BinaryOp::Add,
+        left,
+        right: Boxed::new(alloc, number(1, 0))?,
+    };
+    Ok(Boxed::new(alloc, Expr { line: 1, node })?)
 }
 
 /// `0 + 0 + .. + 0`, grouped to the left.
 fn chain(alloc: Global, count: u32) -> Result<Boxed<Expr>, TypeFault> {
-    let mut sum = Boxed::new(alloc, expression(alloc, 1, Value::Number(0))?)?;
+    let mut sum = Boxed::new(alloc, number(1, 0))?;
     for _ in 0..count {
-        let right = Boxed::new(alloc, expression(alloc, 1, Value::Number(0))?)?;
-        let node = ExprNode::Binary {
-            op: BinaryOp::Add,
-            left: sum,
-            right,
-        };
-        sum = Boxed::new(alloc, Expr { line: 1, node })?;
+        sum = plus_zero(alloc, sum)?;
     }
     Ok(sum)
 }
 
-#[test]
-fn a_chain_of_4000_additions_is_typed(rt: HostRuntime) -> Result<(), TypeFault> {
-    let alloc = rt.alloc();
-    let sum = chain(alloc, 4_000)?;
-    let give = Stmt {
+fn give(e: Boxed<Expr>) -> Stmt {
+    Stmt {
         line: 1,
-        node: StmtNode::Return(Some(sum.into_inner())),
-    };
+        node: StmtNode::Return(Some(e.into_inner())),
+    }
+}
+
+/// A function that gives a chain.
+fn chained(alloc: Global, count: u32) -> Result<Top, TypeFault> {
+    let head = head(alloc, 1, b"main", 0)?;
+    let sum = chain(alloc, count)?;
+    Ok(function_of(head, Some(give(sum))))
+}
+
+fn chained_unit(alloc: Global, count: u32) -> Result<Program, TypeFault> {
     let mut items = Items::new(alloc);
-    items.push(function(alloc, 1, b"main", 0, Some(give))?)?;
-    let program = type_program(alloc, Program { items })?;
+    items.push(chained(alloc, count)?)?;
+    Ok(Program { items })
+}
+
+fn assert_chain(rt: &impl Abort, alloc: Global, count: u32) -> Result<(), TypeFault> {
+    let program = type_program(alloc, chained_unit(alloc, count)?)?;
     assert_eq!(rt; program.functions.len(), 1);
     Ok(())
+}
+
+#[test]
+fn a_chain_of_4000_additions_is_typed(rt: HostRuntime) -> Result<(), TypeFault> {
+    assert_chain(&rt, rt.alloc(), 4_000)
 }

@@ -4,6 +4,8 @@
 #[cfg(test)]
 mod bench_tests;
 #[cfg(test)]
+mod block_tests;
+#[cfg(test)]
 mod eval_tests;
 #[cfg(test)]
 mod run_tests;
