@@ -1,37 +1,25 @@
-//! What a block comes to as a machine block, where no test stands before its end.
+//! What a block comes to as a machine block.
 //!
 //! An operation is one instruction. Its word goes to the operations that take it and, where it is the last
 //! word of its register, to a write. An instruction names two of these, a load or a constant one, and each
-//! further one costs a `mov`.
+//! further one costs a `mov`. So much is exact where no if stands before the block's end.
+//!
+//! Of an if that is an item both legs stand in the block, and each of their instructions takes the bit of the
+//! test. Where one leg alone sets a register, the other lets its word before through a `mov`, or a null goes
+//! to its write; and so a null store stands for each store. What these cost is counted high.
 
+use crate::producers::{NOTHING, Producer, Producers, REGISTERS};
 use ir_forms::Arg;
 use trips_isa::{Form, Op, Role, form_of, role_of};
-
-const REGISTERS: usize = 128;
 
 /// The most reads that a block has; so many writes, and so many load/store numbers.
 const MOST_PARTS: u32 = 32;
 
-/// The most tests before a block's end, which may be one more: 256 cases have eight.
-const MOST_TESTS: u32 = 7;
+/// What reading a register costs more that a leg keeps: a `mov` under the leg's guard, and what brings both to it.
+pub const KEPT: u32 = 3;
 
-/// What gives a register's word in a block: an operation, the block's read, or as yet nothing.
-#[derive(Clone, Copy)]
-struct Producer {
-    set: bool,
-    /// whether its word is a bit, so that it is a test itself
-    bit: bool,
-    /// how many places it names, and 0 where nothing names the register
-    targets: u32,
-    uses: u32,
-}
-
-const NOTHING: Producer = Producer {
-    set: false,
-    bit: false,
-    targets: 0,
-    uses: 0,
-};
+/// The most ifs in a block beside a test at its end, each of which may double its cases.
+pub const MOST_IFS: u32 = 7;
 
 /// The parts of a block so far, without its exit.
 #[derive(Clone, Copy)]
@@ -40,8 +28,15 @@ pub struct Estimate {
     pub reads: u32,
     pub writes: u32,
     pub numbers: u32,
-    pub tests: u32,
-    producers: [Producer; REGISTERS],
+    pub ifs: u32,
+    /// the ifs around what comes next
+    pub depth: u8,
+    /// the places that the bit of the innermost one still names, so that guards cost nothing there
+    pub free: u8,
+    /// the stores in legs so far
+    pub stores: u32,
+    /// what gives the word of each register
+    pub producers: Producers,
 }
 
 /// The register of a variable.
@@ -82,7 +77,7 @@ fn takes_right(op: Op) -> bool {
 }
 
 /// How many places an instruction names.
-fn targets_of(op: Op) -> u32 {
+fn targets_of(op: Op) -> u8 {
     match form_of(op) {
         Form::General => 2,
         _ => 1,
@@ -97,8 +92,13 @@ impl Estimate {
             reads: 0,
             writes: 0,
             numbers: 0,
-            tests: 0,
-            producers: [NOTHING; REGISTERS],
+            ifs: 0,
+            depth: 0,
+            free: 0,
+            stores: 0,
+            producers: Producers {
+                all: [NOTHING; REGISTERS],
+            },
         }
     }
 
@@ -109,7 +109,7 @@ impl Estimate {
             && self.reads <= MOST_PARTS
             && self.writes <= MOST_PARTS
             && self.numbers <= MOST_PARTS
-            && self.tests <= MOST_TESTS
+            && self.ifs <= MOST_IFS
     }
 
     /// So many instructions more.
@@ -117,40 +117,77 @@ impl Estimate {
         self.insts = self.insts.saturating_add(insts);
     }
 
+    /// One instruction more that is no constant.
+    pub fn operation(&mut self) {
+        self.count(1);
+        if self.depth > 0 {
+            self.guard();
+        }
+    }
+
+    /// A guard takes the bit of the innermost test: beyond the places that it names by a `mov`.
+    fn guard(&mut self) {
+        if self.free > 0 {
+            self.free -= 1;
+        } else {
+            self.count(1);
+        }
+    }
+
     /// One operation more takes a register's word.
     pub fn take(&mut self, register: usize) {
-        let at = register % REGISTERS;
-        let mut producer = self.producers[at];
+        let mut producer = self.producers.get(register);
         if producer.targets == 0 {
             producer.targets = 2;
             self.reads = self.reads.saturating_add(1);
         }
         if producer.uses >= producer.targets {
-            self.count(1);
+            self.count(producer.sources as u32);
+        }
+        if producer.kept > 0 {
+            self.count(KEPT * producer.kept as u32);
         }
         producer.uses = producer.uses.saturating_add(1);
-        self.producers[at] = producer;
+        self.producers.put(register, producer);
     }
 
     /// A register becomes the word of an instruction, which names so many places. The write takes this
     /// word, and no longer the one before.
-    fn give(&mut self, register: usize, targets: u32, bit: bool) {
-        let at = register % REGISTERS;
-        let before = self.producers[at];
+    fn give(&mut self, register: usize, targets: u8, bit: bool) {
+        let before = self.producers.get(register);
+        let again = before.is_of_leg(self.depth);
         if !before.set {
-            self.writes = self.writes.saturating_add(1);
-        } else if before.uses > before.targets {
-            self.insts = self.insts.saturating_sub(1);
+            self.count_write();
+        } else if again && before.uses > before.targets {
+            self.insts = self.insts.saturating_sub(before.sources as u32);
         }
-        self.producers[at] = Producer {
+        let times = if again {
+            before.times.saturating_add(1)
+        } else {
+            1
+        };
+        let producer = Producer {
             set: true,
             bit,
             targets,
             uses: 1,
+            sources: 1,
+            kept: 0,
+            depth: self.depth,
+            times,
         };
+        self.producers.put(register, producer);
     }
 
-    fn constant(&mut self, word: u64) {
+    /// One write more; of what is set in legs it is counted behind them.
+    pub fn count_write(&mut self) {
+        if self.depth == 0 {
+            self.writes = self.writes.saturating_add(1);
+        }
+    }
+
+    /// A constant's instructions.
+    pub fn constant(&mut self, word: u64) {
         self.count(constant_size(word));
     }
 
@@ -167,7 +204,7 @@ impl Estimate {
         if takes_right(op) {
             self.operand(b);
         }
-        self.count(1);
+        self.operation();
         self.give(register, targets_of(op), is_test(op));
     }
 
@@ -179,7 +216,7 @@ impl Estimate {
     /// A register becomes another's word.
     pub fn copy(&mut self, register: usize, from: usize) {
         self.take(from);
-        self.count(1);
+        self.operation();
         self.give(register, targets_of(Op::Mov), false);
     }
 
@@ -197,7 +234,7 @@ impl Estimate {
 
     /// A register becomes what a load gives whose address is taken already.
     pub fn loaded(&mut self, register: usize) {
-        self.count(1);
+        self.operation();
         self.numbers = self.numbers.saturating_add(1);
         self.give(register, 1, false);
     }
@@ -210,8 +247,17 @@ impl Estimate {
 
     /// A store whose operands are taken already.
     pub fn saved(&mut self) {
-        self.count(1);
+        self.operation();
         self.numbers = self.numbers.saturating_add(1);
+        if self.depth > 0 {
+            self.stores = self.stores.saturating_add(1);
+        }
+    }
+
+    /// Whether a register's word is a bit that was set under the same ifs.
+    pub fn has_bit(&self, register: usize) -> bool {
+        let producer = self.producers.get(register);
+        producer.bit && producer.depth == self.depth
     }
 
     /// A test between two jumps, one of which is the block's exit. It feeds both; where its word is not a
@@ -223,9 +269,9 @@ impl Estimate {
                 self.count(3);
             }
             Arg::Var(v) => {
-                let at = register_of(v) % REGISTERS;
+                let at = register_of(v);
                 self.take(at);
-                if self.producers[at].bit {
+                if self.has_bit(at) {
                     self.take(at);
                     self.count(1);
                 } else {
@@ -233,26 +279,5 @@ impl Estimate {
                 }
             }
         }
-    }
-
-    /// A test that guards the items of two legs. Where its word is not a bit, `tnei` gives one.
-    pub fn choose(&mut self, x: Arg) {
-        self.operand(x);
-        self.tests = self.tests.saturating_add(1);
-        match x {
-            Arg::Const(_) => self.count(1),
-            Arg::Var(v) => {
-                if !self.producers[register_of(v) % REGISTERS].bit {
-                    self.count(1);
-                }
-            }
-        }
-    }
-
-    /// The instruction that set a register last has a guard: the test is brought to it, and where it is not
-    /// taken the register has another producer, so that what names it is named twice.
-    pub fn guarded(&mut self, register: usize) {
-        self.count(2);
-        self.producers[register % REGISTERS].targets = 1;
     }
 }

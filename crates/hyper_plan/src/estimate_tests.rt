@@ -45,6 +45,23 @@ fn a_bit_is_a_test_itself(rt: HostRuntime) {
     assert_eq!(rt; parts(&block), (3, 1, 0, 0), "a word");
 }
 
+#[test]
+fn legs_cost_guards_and_nulls(rt: HostRuntime) {
+    let mut block = Estimate::empty();
+    block.set(20, Op::Tlt, Arg::Var(0), Arg::Var(1));
+    let legs = block.begin_legs(Arg::Var(8));
+    // it takes the place that the bit still names
+    block.set(21, Op::Mov, Arg::Var(2), Arg::Const(0));
+    let first = block.turn_leg(&legs);
+    // each takes the bit through a mov
+    block.set(22, Op::Mov, Arg::Var(2), Arg::Const(0));
+    block.set(23, Op::Mov, Arg::Var(3), Arg::Const(0));
+    assert_eq!(rt; (parts(&block), block.ifs), ((6, 4, 1, 0), 1), "legs");
+    // one leg keeps each register, so that nulls go to three writes
+    block.end_legs(&legs, &first);
+    assert_eq!(rt; parts(&block), (11, 4, 4, 0), "nulls");
+}
+
 /// A main that sets a variable so many times.
 fn program(alloc: Global, sets: u32) -> Result<Assigned, Memory> {
     let mut body = Items::new(alloc);

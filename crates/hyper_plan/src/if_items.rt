@@ -1,35 +1,37 @@
 //! What an if comes to that is an item of its block.
-//!
-//! Each instruction of a leg has a guard, which the test's word is brought to. A register that a leg sets has
-//! its old word, or none, where the leg is not taken, and so has the number of a store: an instruction more.
 
-use crate::estimate::{Estimate, register_of};
+use crate::estimate::{Estimate, MOST_IFS};
 use crate::items::{Frame, add_statement};
 use ir_forms::FlatStmt;
 
-/// The instructions that a guarded store adds: the test brought to it, and a null for its number.
-const OF_A_STORE: u32 = 3;
-
-/// Whether statements are items alone, ifs of such among them.
-#[cycle(items)]
+/// Whether statements are items alone, with few ifs among them.
 pub fn are_items(stmts: &[FlatStmt]) -> bool {
+    ifs_left_of(stmts, MOST_IFS).is_some()
+}
+
+/// How many more ifs may come behind statements that are items alone; none where they have too many, or others
+/// are among them.
+#[cycle(items)]
+fn ifs_left_of(stmts: &[FlatStmt], left: u32) -> Option<u32> {
+    let mut left = left;
     for s in stmts {
-        if !is_item(s) {
-            return false;
-        }
+        left = ifs_left(s, left)?;
     }
-    true
+    Some(left)
 }
 
 #[cycle(items)]
-fn is_item(s: &FlatStmt) -> bool {
+fn ifs_left(s: &FlatStmt, left: u32) -> Option<u32> {
     match s {
-        FlatStmt::Let { .. } => true,
-        FlatStmt::Frame { .. } => true,
-        FlatStmt::Load { .. } => true,
-        FlatStmt::Save { .. } => true,
-        FlatStmt::If { yes, no, .. } => are_items(yes.as_slice()) && are_items(no.as_slice()),
-        _ => false,
+        FlatStmt::Let { .. } => Some(left),
+        FlatStmt::Frame { .. } => Some(left),
+        FlatStmt::Load { .. } => Some(left),
+        FlatStmt::Save { .. } => Some(left),
+        FlatStmt::If { yes, no, .. } => {
+            let rest = ifs_left_of(yes.as_slice(), left.checked_sub(1)?)?;
+            ifs_left_of(no.as_slice(), rest)
+        }
+        _ => None,
     }
 }
 
@@ -56,35 +58,24 @@ pub fn is_small_if(yes: &[FlatStmt], no: &[FlatStmt]) -> bool {
     is_small_leg(yes) && is_small_leg(no) && !(yes.is_empty() && no.is_empty())
 }
 
-/// What a guard adds to a statement of a leg.
-fn add_guard(block: &mut Estimate, s: &FlatStmt) {
-    match s {
-        FlatStmt::Let { to, .. } => block.guarded(register_of(*to)),
-        FlatStmt::Frame { to, .. } => block.guarded(register_of(*to)),
-        FlatStmt::Load { to, .. } => block.guarded(register_of(*to)),
-        FlatStmt::Save { .. } => block.count(OF_A_STORE),
-        _ => {}
-    }
-}
-
-/// An if as an item: its test, and its legs under guards.
+/// What a statement does that is items alone.
 #[cycle(item)]
 pub fn add_item(s: &FlatStmt, block: &mut Estimate, frame: Frame) {
     match s {
         FlatStmt::If { test, yes, no } => {
-            block.choose(*test);
-            add_leg(yes.as_slice(), block, frame);
-            add_leg(no.as_slice(), block, frame);
+            let legs = block.begin_legs(*test);
+            add_items(yes.as_slice(), block, frame);
+            let first = block.turn_leg(&legs);
+            add_items(no.as_slice(), block, frame);
+            block.end_legs(&legs, &first);
         }
-        _ => {
-            add_statement(block, s, frame);
-            add_guard(block, s);
-        }
+        _ => add_statement(block, s, frame),
     }
 }
 
+/// What statements do that are items alone.
 #[cycle(item)]
-fn add_leg(stmts: &[FlatStmt], block: &mut Estimate, frame: Frame) {
+pub fn add_items(stmts: &[FlatStmt], block: &mut Estimate, frame: Frame) {
     for s in stmts {
         add_item(s, block, frame);
     }

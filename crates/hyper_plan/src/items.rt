@@ -111,30 +111,3 @@ pub fn add_way_in(block: &mut Estimate, params: u8, frame: Frame) {
         block.copy(register_of(i as u16), ARGUMENTS + i as usize);
     }
 }
-
-/// Whether statements are operations, loads and stores alone.
-pub fn are_plain(stmts: &[FlatStmt]) -> bool {
-    for s in stmts {
-        if !is_plain(s) {
-            return false;
-        }
-    }
-    true
-}
-
-fn is_plain(s: &FlatStmt) -> bool {
-    match s {
-        FlatStmt::Let { .. } => true,
-        FlatStmt::Frame { .. } => true,
-        FlatStmt::Load { .. } => true,
-        FlatStmt::Save { .. } => true,
-        _ => false,
-    }
-}
-
-/// What statements do that are operations, loads and stores alone.
-pub fn add_all(block: &mut Estimate, stmts: &[FlatStmt], frame: Frame) {
-    for s in stmts {
-        add_statement(block, s, frame);
-    }
-}

@@ -9,7 +9,10 @@ mod estimate;
 mod estimate_tests;
 mod if_items;
 mod items;
+mod legs;
 mod plans;
+mod producers;
+mod statements;
 mod walk;
 
 pub use plans::greedy;

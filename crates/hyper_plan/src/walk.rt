@@ -1,21 +1,16 @@
-//! The answers of a function's statements, forward: the block that is open is cut where the next statement
-//! has no room in it.
+//! The open block of a walk over a function's statements, and the answers so far: it is cut where the next
+//! statement has no room in it.
 //!
 //! Functions that hold a second block are not put in line, so that nested statements take little of the
 //! host's stack.
 
 ghost use Rattle.std.specs.Prelude.{◌≡◌, ◌+◌, length, true, OnOk};
-ghost use Rattle.ir_forms.specs.FlatFits.{steps_in, steps_of};
-ghost use Rattle.ir_forms.specs.FlatViews.{code_of, step_of};
 ghost use Rattle.hyper_plan.specs.Answers.{only_cuts};
 
 use crate::estimate::Estimate;
-use crate::if_items::{add_item, are_items, is_small_if};
-use crate::items::{
-    Frame, add_all, add_call, add_result, add_return, add_saves, add_statement, are_plain,
-};
+use crate::items::{Frame, add_result, add_return, add_statement};
 use base::{Items, Memory};
-use ir_forms::{Arg, FlatStmt};
+use ir_forms::FlatStmt;
 
 /// What is known of a function: the instructions that a block may have, its frame, and the groups that
 /// each call of the program saves.
@@ -40,7 +35,7 @@ pub struct Walk {
 
 /// The block is cut at a place.
 #[tactic(auto, using(crate::proofs::Growing::size_set, crate::proofs::Growing::only_set))]
-fn cut_at(walk: &mut Walk, at: usize, site: &Site)
+pub fn cut_at(walk: &mut Walk, at: usize, site: &Site)
     ensures size { length walk.new.answers ≡ length walk.old.answers }
     ensures cuts { site.now.room ≡ 0 → only_cuts walk.old.answers ≡ true
         → only_cuts walk.new.answers ≡ true }
@@ -51,7 +46,7 @@ fn cut_at(walk: &mut Walk, at: usize, site: &Site)
 }
 
 /// Another block begins; in an if that is an item none does.
-fn open(walk: &mut Walk, site: &Site)
+pub fn open(walk: &mut Walk, site: &Site)
     ensures size { length walk.new.answers ≡ length walk.old.answers }
     ensures cuts { site.now.room ≡ 0 → only_cuts walk.old.answers ≡ true
         → only_cuts walk.new.answers ≡ true }
@@ -64,7 +59,7 @@ fn open(walk: &mut Walk, site: &Site)
 }
 
 /// The block is cut where it may be cut last, and another begins.
-fn cut_last(walk: &mut Walk, site: &Site)
+pub fn cut_last(walk: &mut Walk, site: &Site)
     ensures size { length walk.new.answers ≡ length walk.old.answers }
     ensures cuts { site.now.room ≡ 0 → only_cuts walk.old.answers ≡ true
         → only_cuts walk.new.answers ≡ true }
@@ -77,14 +72,14 @@ fn cut_last(walk: &mut Walk, site: &Site)
 }
 
 /// Whether what a block comes to is within the room.
-fn fits(block: &Estimate, site: &Site) -> bool {
+pub fn fits(block: &Estimate, site: &Site) -> bool {
     block.fits(site.room as u32)
 }
 
 /// A statement goes into the open block, or where it has no room there into another. One of an if that is an
 /// item is there already.
 #[inline(never)]
-fn join(walk: &mut Walk, s: &FlatStmt, site: &Site)
+pub fn join(walk: &mut Walk, s: &FlatStmt, site: &Site)
     ensures size { length walk.new.answers ≡ length walk.old.answers }
     ensures cuts { site.now.room ≡ 0 → only_cuts walk.old.answers ≡ true
         → only_cuts walk.new.answers ≡ true }
@@ -103,7 +98,7 @@ fn join(walk: &mut Walk, s: &FlatStmt, site: &Site)
 }
 
 /// What ends the open block goes into it, or where it has no room there into another.
-fn close(walk: &mut Walk, block: &Estimate, site: &Site)
+pub fn close(walk: &mut Walk, block: &Estimate, site: &Site)
     ensures size { length walk.new.answers ≡ length walk.old.answers }
     ensures cuts { site.now.room ≡ 0 → only_cuts walk.old.answers ≡ true
         → only_cuts walk.new.answers ≡ true }
@@ -127,7 +122,7 @@ pub fn answer(walk: &mut Walk, site: &Site) -> Result<(), Memory>
 }
 
 /// The block may end behind a place, unless that stands in an if that is an item.
-fn may_end(walk: &mut Walk, at: usize, site: &Site)
+pub fn may_end(walk: &mut Walk, at: usize, site: &Site)
     ensures size { length walk.new.answers ≡ length walk.old.answers }
     ensures cuts { site.now.room ≡ 0 → only_cuts walk.old.answers ≡ true
         → only_cuts walk.new.answers ≡ true }
@@ -138,7 +133,7 @@ fn may_end(walk: &mut Walk, at: usize, site: &Site)
 }
 
 /// A statement behind which the block may end.
-fn single(walk: &mut Walk, s: &FlatStmt, site: &Site) -> Result<(), Memory>
+pub fn single(walk: &mut Walk, s: &FlatStmt, site: &Site) -> Result<(), Memory>
     ensures size { OnOk result (length walk.new.answers ≡ length walk.old.answers + 1) }
     ensures cuts { OnOk result (site.now.room ≡ 0 → only_cuts walk.old.answers ≡ true
         → only_cuts walk.new.answers ≡ true) }
@@ -150,7 +145,7 @@ fn single(walk: &mut Walk, s: &FlatStmt, site: &Site) -> Result<(), Memory>
 }
 
 /// A statement with which the block ends.
-fn ending(walk: &mut Walk, s: &FlatStmt, site: &Site) -> Result<(), Memory>
+pub fn ending(walk: &mut Walk, s: &FlatStmt, site: &Site) -> Result<(), Memory>
     ensures size { OnOk result (length walk.new.answers ≡ length walk.old.answers + 1) }
     ensures cuts { OnOk result (site.now.room ≡ 0 → only_cuts walk.old.answers ≡ true
         → only_cuts walk.new.answers ≡ true) }
@@ -161,7 +156,7 @@ fn ending(walk: &mut Walk, s: &FlatStmt, site: &Site) -> Result<(), Memory>
 }
 
 /// What a system call took in begins a block, behind which that may end.
-fn get(walk: &mut Walk, s: &FlatStmt, to: u16, site: &Site) -> Result<(), Memory>
+pub fn get(walk: &mut Walk, s: &FlatStmt, to: u16, site: &Site) -> Result<(), Memory>
     ensures size { OnOk result (length walk.new.answers ≡ length walk.old.answers + 1) }
     ensures cuts { OnOk result (site.now.room ≡ 0 → only_cuts walk.old.answers ≡ true
         → only_cuts walk.new.answers ≡ true) }
@@ -183,241 +178,4 @@ pub fn leave(walk: &mut Walk, site: &Site)
     let mut block = walk.block;
     add_return(&mut block, None, site.frame);
     close(walk, &block, site);
-}
-
-// CALLS
-
-/// A call's first group of saves goes into the open block, which then ends.
-#[inline(never)]
-fn join_saves(walk: &mut Walk, group: &[u16], site: &Site)
-    ensures size { length walk.new.answers ≡ length walk.old.answers }
-    ensures cuts { site.now.room ≡ 0 → only_cuts walk.old.answers ≡ true
-        → only_cuts walk.new.answers ≡ true }
-{
-    let mut block = walk.block;
-    add_saves(&mut block, group, site.frame);
-    close(walk, &block, site);
-}
-
-/// The saves of a call, where there are any.
-fn call_saves(walk: &mut Walk, site: &Site)
-    ensures size { length walk.new.answers ≡ length walk.old.answers }
-    ensures cuts { site.now.room ≡ 0 → only_cuts walk.old.answers ≡ true
-        → only_cuts walk.new.answers ≡ true }
-{
-    let groups = match site.groups.get(walk.calls) {
-        None => return,
-        Some(groups) => groups,
-    };
-    match groups.get(0) {
-        None => {}
-        Some(group) => join_saves(walk, group.as_slice(), site),
-    }
-}
-
-/// The arguments and the call go into the open block, or another.
-#[inline(never)]
-fn join_call(walk: &mut Walk, args: &[Arg], site: &Site)
-    ensures size { length walk.new.answers ≡ length walk.old.answers }
-    ensures cuts { site.now.room ≡ 0 → only_cuts walk.old.answers ≡ true
-        → only_cuts walk.new.answers ≡ true }
-{
-    let mut block = walk.block;
-    add_call(&mut block, args);
-    close(walk, &block, site);
-}
-
-/// Whether a call's arguments have room in a block of their own.
-#[inline(never)]
-fn args_fit(args: &[Arg], site: &Site) -> bool {
-    let mut block = Estimate::empty();
-    add_call(&mut block, args);
-    fits(&block, site)
-}
-
-/// The answer of a call: it is cut, and with it its arguments, where these have no room in one block.
-fn call_answer(walk: &mut Walk, args: &[Arg], site: &Site) -> Result<(), Memory>
-    ensures size { OnOk result (length walk.new.answers ≡ length walk.old.answers + 1) }
-    ensures cuts { OnOk result (site.now.room ≡ 0 → only_cuts walk.old.answers ≡ true
-        → only_cuts walk.new.answers ≡ true) }
-{
-    let at = walk.answers.len();
-    answer(walk, site)?;
-    walk.last = Some(at);
-    if !args_fit(args, site) {
-        cut_at(walk, at, site);
-    }
-    Ok(())
-}
-
-/// A call; its result begins a block, behind which that may end.
-fn call(walk: &mut Walk, args: &[Arg], to: Option<u16>, site: &Site) -> Result<(), Memory>
-    ensures size { OnOk result (length walk.new.answers ≡ length walk.old.answers + 1) }
-    ensures cuts { OnOk result (site.now.room ≡ 0 → only_cuts walk.old.answers ≡ true
-        → only_cuts walk.new.answers ≡ true) }
-{
-    call_saves(walk, site);
-    join_call(walk, args, site);
-    walk.calls = walk.calls.saturating_add(1);
-    match to {
-        None => {}
-        Some(to) => add_result(&mut walk.block, to),
-    }
-    call_answer(walk, args, site)
-}
-
-// LOOPS
-
-/// A loop's last part goes into the block with which its body ends, or that is cut.
-#[inline(never)]
-fn join_post(walk: &mut Walk, at: usize, post: &[FlatStmt], site: &Site)
-    ensures size { length walk.new.answers ≡ length walk.old.answers }
-    ensures cuts { site.now.room ≡ 0 → only_cuts walk.old.answers ≡ true
-        → only_cuts walk.new.answers ≡ true }
-{
-    let mut block = walk.block;
-    add_all(&mut block, post, site.frame);
-    if !(are_plain(post) && fits(&block, site)) {
-        cut_at(walk, at, site);
-    }
-    open(walk, site);
-}
-
-/// A place at which a block begins, or behind which nothing is reached.
-fn head(walk: &mut Walk, site: &Site) -> Result<(), Memory>
-    ensures size { OnOk result (length walk.new.answers ≡ length walk.old.answers + 1) }
-    ensures cuts { OnOk result (site.now.room ≡ 0 → only_cuts walk.old.answers ≡ true
-        → only_cuts walk.new.answers ≡ true) }
-{
-    open(walk, site);
-    answer(walk, site)
-}
-
-// IFS
-
-/// An if goes as an item into the open block, or where it has no room there into another; it does not
-/// where it has room in neither, unless it is a small one, which is an item under every plan.
-#[inline(never)]
-fn join_item(walk: &mut Walk, s: &FlatStmt, small: bool, site: &Site) -> bool
-    ensures size { length walk.new.answers ≡ length walk.old.answers }
-    ensures cuts { site.now.room ≡ 0 → only_cuts walk.old.answers ≡ true
-        → only_cuts walk.new.answers ≡ true }
-{
-    let mut block = walk.block;
-    add_item(s, &mut block, site.frame);
-    if !fits(&block, site) {
-        block = Estimate::empty();
-        add_item(s, &mut block, site.frame);
-        if !small && !fits(&block, site) {
-            return false;
-        }
-        cut_last(walk, site);
-    }
-    walk.block = block;
-    true
-}
-
-/// The statements that follow stand in an if that is an item, at a place behind which the block may end.
-fn enter_item(walk: &mut Walk, at: usize, site: &Site)
-    ensures size { length walk.new.answers ≡ length walk.old.answers }
-    ensures cuts { site.now.room ≡ 0 → only_cuts walk.old.answers ≡ true
-        → only_cuts walk.new.answers ≡ true }
-{
-    if at < walk.joins.len() {
-        walk.joins.set(at, true);
-    }
-    walk.last = Some(at);
-    walk.in_item = true;
-}
-
-/// An if before its legs, which are straight or not; a small one has straight legs. Whether it begins an item;
-/// else the block ends with its test.
-fn open_if(
-    walk: &mut Walk,
-    s: &FlatStmt,
-    straight: bool,
-    small: bool,
-    site: &Site,
-) -> Result<bool, Memory>
-    ensures size { OnOk result (length walk.new.answers ≡ length walk.old.answers + 1) }
-    ensures cuts { OnOk result (site.now.room ≡ 0 → only_cuts walk.old.answers ≡ true
-        → only_cuts walk.new.answers ≡ true) }
-{
-    let at = walk.answers.len();
-    if !walk.in_item && straight && join_item(walk, s, small, site) {
-        answer(walk, site)?;
-        enter_item(walk, at, site);
-        Ok(true)
-    } else {
-        ending(walk, s, site)?;
-        Ok(false)
-    }
-}
-
-/// An if behind its legs; `item` says that it began an item.
-fn close_if(walk: &mut Walk, item: bool, site: &Site)
-    ensures size { length walk.new.answers ≡ length walk.old.answers }
-    ensures cuts { site.now.room ≡ 0 → only_cuts walk.old.answers ≡ true
-        → only_cuts walk.new.answers ≡ true }
-{
-    if item {
-        walk.in_item = false;
-    } else {
-        open(walk, site);
-    }
-}
-
-// ALL STATEMENTS
-
-#[cycle(walk)]
-fn walk_stmt(s: &FlatStmt, walk: &mut Walk, site: &Site) -> Result<(), Memory>
-    ensures size { OnOk result (length walk.new.answers
-        ≡ length walk.old.answers + steps_in (step_of s.now)) }
-    ensures cuts { OnOk result (site.now.room ≡ 0 → only_cuts walk.old.answers ≡ true
-        → only_cuts walk.new.answers ≡ true) }
-{
-    match s {
-        FlatStmt::Let { .. } => single(walk, s, site)?,
-        FlatStmt::Frame { .. } => single(walk, s, site)?,
-        FlatStmt::Load { .. } => single(walk, s, site)?,
-        FlatStmt::Save { .. } => single(walk, s, site)?,
-        FlatStmt::Call { args, to, .. } => call(walk, args.as_slice(), *to, site)?,
-        FlatStmt::Put(_) => ending(walk, s, site)?,
-        FlatStmt::Get { to } => get(walk, s, *to, site)?,
-        FlatStmt::If { yes, no, .. } => {
-            let straight = are_items(yes.as_slice()) && are_items(no.as_slice());
-            let small = is_small_if(yes.as_slice(), no.as_slice());
-            let item = open_if(walk, s, straight, small, site)?;
-            walk_stmts(yes.as_slice(), walk, site)?;
-            open(walk, site);
-            walk_stmts(no.as_slice(), walk, site)?;
-            close_if(walk, item, site);
-        }
-        FlatStmt::Loop { body, post } => {
-            let at = walk.answers.len();
-            head(walk, site)?;
-            walk_stmts(body.as_slice(), walk, site)?;
-            join_post(walk, at, post.as_slice(), site);
-            walk_stmts(post.as_slice(), walk, site)?;
-            open(walk, site);
-        }
-        FlatStmt::Break => head(walk, site)?,
-        FlatStmt::Continue => head(walk, site)?,
-        FlatStmt::Return(_) => ending(walk, s, site)?,
-    }
-    Ok(())
-}
-
-/// The answers of statements, behind others.
-#[cycle(walk)]
-pub fn walk_stmts(stmts: &[FlatStmt], walk: &mut Walk, site: &Site) -> Result<(), Memory>
-    ensures size { OnOk result (length walk.new.answers
-        ≡ length walk.old.answers + steps_of (code_of stmts.now)) }
-    ensures cuts { OnOk result (site.now.room ≡ 0 → only_cuts walk.old.answers ≡ true
-        → only_cuts walk.new.answers ≡ true) }
-{
-    for s in stmts {
-        walk_stmt(s, walk, site)?;
-    }
-    Ok(())
 }

@@ -1,0 +1,258 @@
+//! The answers of a function's statements, forward.
+
+ghost use Rattle.std.specs.Prelude.{◌≡◌, ◌+◌, length, true, OnOk};
+ghost use Rattle.ir_forms.specs.FlatFits.{steps_in, steps_of};
+ghost use Rattle.ir_forms.specs.FlatViews.{code_of, step_of};
+ghost use Rattle.hyper_plan.specs.Answers.{only_cuts};
+
+use crate::estimate::Estimate;
+use crate::if_items::{add_item, add_items, are_items, is_small_if};
+use crate::items::{add_call, add_result, add_saves};
+use crate::walk::{Site, Walk, answer, close, cut_at, cut_last, ending, fits, get, open, single};
+use base::Memory;
+use ir_forms::{Arg, FlatStmt};
+
+// CALLS
+
+/// A call's first group of saves goes into the open block, which then ends.
+#[inline(never)]
+fn join_saves(walk: &mut Walk, group: &[u16], site: &Site)
+    ensures size { length walk.new.answers ≡ length walk.old.answers }
+    ensures cuts { site.now.room ≡ 0 → only_cuts walk.old.answers ≡ true
+        → only_cuts walk.new.answers ≡ true }
+{
+    let mut block = walk.block;
+    add_saves(&mut block, group, site.frame);
+    close(walk, &block, site);
+}
+
+/// The saves of a call, where there are any.
+fn call_saves(walk: &mut Walk, site: &Site)
+    ensures size { length walk.new.answers ≡ length walk.old.answers }
+    ensures cuts { site.now.room ≡ 0 → only_cuts walk.old.answers ≡ true
+        → only_cuts walk.new.answers ≡ true }
+{
+    let groups = match site.groups.get(walk.calls) {
+        None => return,
+        Some(groups) => groups,
+    };
+    match groups.get(0) {
+        None => {}
+        Some(group) => join_saves(walk, group.as_slice(), site),
+    }
+}
+
+/// The arguments and the call go into the open block, or another.
+#[inline(never)]
+fn join_call(walk: &mut Walk, args: &[Arg], site: &Site)
+    ensures size { length walk.new.answers ≡ length walk.old.answers }
+    ensures cuts { site.now.room ≡ 0 → only_cuts walk.old.answers ≡ true
+        → only_cuts walk.new.answers ≡ true }
+{
+    let mut block = walk.block;
+    add_call(&mut block, args);
+    close(walk, &block, site);
+}
+
+/// Whether a call's arguments have room in a block of their own.
+#[inline(never)]
+fn args_fit(args: &[Arg], site: &Site) -> bool {
+    let mut block = Estimate::empty();
+    add_call(&mut block, args);
+    fits(&block, site)
+}
+
+/// The answer of a call: it is cut, and with it its arguments, where these have no room in one block.
+fn call_answer(walk: &mut Walk, args: &[Arg], site: &Site) -> Result<(), Memory>
+    ensures size { OnOk result (length walk.new.answers ≡ length walk.old.answers + 1) }
+    ensures cuts { OnOk result (site.now.room ≡ 0 → only_cuts walk.old.answers ≡ true
+        → only_cuts walk.new.answers ≡ true) }
+{
+    let at = walk.answers.len();
+    answer(walk, site)?;
+    walk.last = Some(at);
+    if !args_fit(args, site) {
+        cut_at(walk, at, site);
+    }
+    Ok(())
+}
+
+/// A call; its result begins a block, behind which that may end.
+fn call(walk: &mut Walk, args: &[Arg], to: Option<u16>, site: &Site) -> Result<(), Memory>
+    ensures size { OnOk result (length walk.new.answers ≡ length walk.old.answers + 1) }
+    ensures cuts { OnOk result (site.now.room ≡ 0 → only_cuts walk.old.answers ≡ true
+        → only_cuts walk.new.answers ≡ true) }
+{
+    call_saves(walk, site);
+    join_call(walk, args, site);
+    walk.calls = walk.calls.saturating_add(1);
+    match to {
+        None => {}
+        Some(to) => add_result(&mut walk.block, to),
+    }
+    call_answer(walk, args, site)
+}
+
+// LOOPS
+
+/// Whether a loop's last part has room in the block with which its body ends.
+#[inline(never)]
+fn post_fits(block: &Estimate, post: &[FlatStmt], site: &Site) -> bool {
+    if !are_items(post) {
+        return false;
+    }
+    let mut block = *block;
+    add_items(post, &mut block, site.frame);
+    fits(&block, site)
+}
+
+/// A loop's last part goes into the block with which its body ends, or that is cut.
+fn join_post(walk: &mut Walk, at: usize, post: &[FlatStmt], site: &Site)
+    ensures size { length walk.new.answers ≡ length walk.old.answers }
+    ensures cuts { site.now.room ≡ 0 → only_cuts walk.old.answers ≡ true
+        → only_cuts walk.new.answers ≡ true }
+{
+    if !post_fits(&walk.block, post, site) {
+        cut_at(walk, at, site);
+    }
+    open(walk, site);
+}
+
+/// A place at which a block begins, or behind which nothing is reached.
+fn head(walk: &mut Walk, site: &Site) -> Result<(), Memory>
+    ensures size { OnOk result (length walk.new.answers ≡ length walk.old.answers + 1) }
+    ensures cuts { OnOk result (site.now.room ≡ 0 → only_cuts walk.old.answers ≡ true
+        → only_cuts walk.new.answers ≡ true) }
+{
+    open(walk, site);
+    answer(walk, site)
+}
+
+// IFS
+
+/// An if goes as an item into the open block, or where it has no room there into another; it does not
+/// where it has room in neither, unless it is a small one, which is an item under every plan.
+#[inline(never)]
+fn join_item(walk: &mut Walk, s: &FlatStmt, small: bool, site: &Site) -> bool
+    ensures size { length walk.new.answers ≡ length walk.old.answers }
+    ensures cuts { site.now.room ≡ 0 → only_cuts walk.old.answers ≡ true
+        → only_cuts walk.new.answers ≡ true }
+{
+    let mut block = walk.block;
+    add_item(s, &mut block, site.frame);
+    if !fits(&block, site) {
+        block = Estimate::empty();
+        add_item(s, &mut block, site.frame);
+        if !small && !fits(&block, site) {
+            return false;
+        }
+        cut_last(walk, site);
+    }
+    walk.block = block;
+    true
+}
+
+/// The statements that follow stand in an if that is an item, at a place behind which the block may end.
+fn enter_item(walk: &mut Walk, at: usize, site: &Site)
+    ensures size { length walk.new.answers ≡ length walk.old.answers }
+    ensures cuts { site.now.room ≡ 0 → only_cuts walk.old.answers ≡ true
+        → only_cuts walk.new.answers ≡ true }
+{
+    if at < walk.joins.len() {
+        walk.joins.set(at, true);
+    }
+    walk.last = Some(at);
+    walk.in_item = true;
+}
+
+/// An if before its legs, which are straight or not; a small one has straight legs. Whether it begins an item;
+/// else the block ends with its test.
+fn open_if(
+    walk: &mut Walk,
+    s: &FlatStmt,
+    straight: bool,
+    small: bool,
+    site: &Site,
+) -> Result<bool, Memory>
+    ensures size { OnOk result (length walk.new.answers ≡ length walk.old.answers + 1) }
+    ensures cuts { OnOk result (site.now.room ≡ 0 → only_cuts walk.old.answers ≡ true
+        → only_cuts walk.new.answers ≡ true) }
+{
+    let at = walk.answers.len();
+    if !walk.in_item && straight && join_item(walk, s, small, site) {
+        answer(walk, site)?;
+        enter_item(walk, at, site);
+        Ok(true)
+    } else {
+        ending(walk, s, site)?;
+        Ok(false)
+    }
+}
+
+/// An if behind its legs; `item` says that it began an item.
+fn close_if(walk: &mut Walk, item: bool, site: &Site)
+    ensures size { length walk.new.answers ≡ length walk.old.answers }
+    ensures cuts { site.now.room ≡ 0 → only_cuts walk.old.answers ≡ true
+        → only_cuts walk.new.answers ≡ true }
+{
+    if item {
+        walk.in_item = false;
+    } else {
+        open(walk, site);
+    }
+}
+
+// ALL STATEMENTS
+
+#[cycle(walk)]
+fn walk_stmt(s: &FlatStmt, walk: &mut Walk, site: &Site) -> Result<(), Memory>
+    ensures size { OnOk result (length walk.new.answers
+        ≡ length walk.old.answers + steps_in (step_of s.now)) }
+    ensures cuts { OnOk result (site.now.room ≡ 0 → only_cuts walk.old.answers ≡ true
+        → only_cuts walk.new.answers ≡ true) }
+{
+    match s {
+        FlatStmt::Let { .. } => single(walk, s, site)?,
+        FlatStmt::Frame { .. } => single(walk, s, site)?,
+        FlatStmt::Load { .. } => single(walk, s, site)?,
+        FlatStmt::Save { .. } => single(walk, s, site)?,
+        FlatStmt::Call { args, to, .. } => call(walk, args.as_slice(), *to, site)?,
+        FlatStmt::Put(_) => ending(walk, s, site)?,
+        FlatStmt::Get { to } => get(walk, s, *to, site)?,
+        FlatStmt::If { yes, no, .. } => {
+            let straight = are_items(yes.as_slice()) && are_items(no.as_slice());
+            let small = is_small_if(yes.as_slice(), no.as_slice());
+            let item = open_if(walk, s, straight, small, site)?;
+            walk_stmts(yes.as_slice(), walk, site)?;
+            open(walk, site);
+            walk_stmts(no.as_slice(), walk, site)?;
+            close_if(walk, item, site);
+        }
+        FlatStmt::Loop { body, post } => {
+            let at = walk.answers.len();
+            head(walk, site)?;
+            walk_stmts(body.as_slice(), walk, site)?;
+            join_post(walk, at, post.as_slice(), site);
+            walk_stmts(post.as_slice(), walk, site)?;
+            open(walk, site);
+        }
+        FlatStmt::Break => head(walk, site)?,
+        FlatStmt::Continue => head(walk, site)?,
+        FlatStmt::Return(_) => ending(walk, s, site)?,
+    }
+    Ok(())
+}
+
+/// The answers of statements, behind others.
+#[cycle(walk)]
+pub fn walk_stmts(stmts: &[FlatStmt], walk: &mut Walk, site: &Site) -> Result<(), Memory>
+    ensures size { OnOk result (length walk.new.answers
+        ≡ length walk.old.answers + steps_of (code_of stmts.now)) }
+    ensures cuts { OnOk result (site.now.room ≡ 0 → only_cuts walk.old.answers ≡ true
+        → only_cuts walk.new.answers ≡ true) }
+{
+    for s in stmts {
+        walk_stmt(s, walk, site)?;
+    }
+    Ok(())
+}
