@@ -155,48 +155,48 @@ const SAME: Answer = Answer::Image;
 const WORD: Answer = Answer::Word;
 
 /// Bytes from a place up to another, each or one in four, and the answers where it is 0, 1, 127 and 255.
-type Row = (usize, usize, bool, [Answer; 4]);
+type Row = (usize, usize, bool, Answer, Answer, Answer, Answer);
 
 const BYTES: &[Row] = &[
-    (0, 8, true, [MAGIC, MAGIC, MAGIC, MAGIC]),
-    (8, 11, true, [SAME, VERSION, VERSION, VERSION]),
-    (11, 12, true, [VERSION, SAME, VERSION, VERSION]),
+    (0, 8, true, MAGIC, MAGIC, MAGIC, MAGIC),
+    (8, 11, true, SAME, VERSION, VERSION, VERSION),
+    (11, 12, true, VERSION, SAME, VERSION, VERSION),
     // more blocks than there are
-    (12, 15, true, [SAME, SHORT, SHORT, SHORT]),
-    (15, 16, true, [Answer::Bad(12), SAME, SHORT, SHORT]),
+    (12, 15, true, SAME, SHORT, SHORT, SHORT),
+    (15, 16, true, Answer::Bad(12), SAME, SHORT, SHORT),
     // data bytes: above the limit, more than there are, or with a last one that is 0
-    (16, 17, true, [SAME, SIZE, SIZE, SIZE]),
-    (17, 18, true, [SAME, SHORT, SIZE, SIZE]),
-    (18, 19, true, [SAME, Answer::Bad(275), SHORT, SHORT]),
-    (19, 20, true, [SAME, Answer::Bad(20), Answer::Bad(146), Answer::Bad(274)]),
+    (16, 17, true, SAME, SIZE, SIZE, SIZE),
+    (17, 18, true, SAME, SHORT, SIZE, SIZE),
+    (18, 19, true, SAME, Answer::Bad(275), SHORT, SHORT),
+    (19, 20, true, SAME, Answer::Bad(20), Answer::Bad(146), Answer::Bad(274)),
     // info bits of the store mask, and bits of reads
-    (20, 84, false, [SAME, WORD, WORD, WORD]),
+    (20, 84, false, SAME, WORD, WORD, WORD),
     // info bits of the numbers of reads, writes and body chunks, and of the zeros
-    (84, 96, false, [SAME, WORD, WORD, WORD]),
-    (96, 97, true, [SAME, WORD, WORD, INFO]),
-    (100, 101, true, [SAME, WORD, WORD, WORD]),
-    (104, 105, true, [SECOND, SECOND, SECOND, WORD]),
-    (108, 109, true, [SAME, WORD, WORD, INFO]),
-    (112, 113, true, [INFO, INFO, INFO, INFO]),
-    (116, 148, false, [SAME, WORD, INFO, INFO]),
+    (84, 96, false, SAME, WORD, WORD, WORD),
+    (96, 97, true, SAME, WORD, WORD, INFO),
+    (100, 101, true, SAME, WORD, WORD, WORD),
+    (104, 105, true, SECOND, SECOND, SECOND, WORD),
+    (108, 109, true, SAME, WORD, WORD, INFO),
+    (112, 113, true, INFO, INFO, INFO, INFO),
+    (116, 148, false, SAME, WORD, INFO, INFO),
     // bits of reads
-    (21, 148, false, [SAME, WORD, WORD, WORD]),
-    (22, 148, false, [SAME, WORD, WORD, WORD]),
+    (21, 148, false, SAME, WORD, WORD, WORD),
+    (22, 148, false, SAME, WORD, WORD, WORD),
     // registers of writes, and one bit of a read
-    (23, 28, false, [SAME, SAME, SAME, WORD]),
-    (31, 148, false, [SAME, WORD, WORD, WORD]),
+    (23, 28, false, SAME, SAME, SAME, WORD),
+    (31, 148, false, SAME, WORD, WORD, WORD),
     // `genu`: the opcode, the constant and the target
-    (148, 153, false, [WORD, WORD, WORD, WORD]),
-    (149, 154, false, [SAME, SAME, SAME, SAME]),
-    (150, 155, false, [SAME, SAME, SAME, SAME]),
-    (151, 156, false, [SAME, WORD, WORD, SAME]),
+    (148, 153, false, WORD, WORD, WORD, WORD),
+    (149, 154, false, SAME, SAME, SAME, SAME),
+    (150, 155, false, SAME, SAME, SAME, SAME),
+    (151, 156, false, SAME, WORD, WORD, SAME),
     // `scall`: the opcode, the predicate, the exit and the offset
-    (156, 157, true, [SAME, WORD, WORD, WORD]),
-    (157, 158, true, [SAME, WORD, WORD, WORD]),
-    (158, 159, true, [SAME, WORD, WORD, WORD]),
-    (159, 160, true, [SAME, WORD, WORD, WORD]),
+    (156, 157, true, SAME, WORD, WORD, WORD),
+    (157, 158, true, SAME, WORD, WORD, WORD),
+    (158, 159, true, SAME, WORD, WORD, WORD),
+    (159, 160, true, SAME, WORD, WORD, WORD),
     // empty slots
-    (160, 276, true, [SAME, WORD, WORD, WORD]),
+    (160, 276, true, SAME, WORD, WORD, WORD),
 ];
 
 /// The values of a row's answers.
@@ -227,7 +227,7 @@ fn assert_values(rt: &impl Abort, alloc: Global, at: usize, values: &[u8], answe
 
 /// Whether a row is for a byte.
 fn is_for(row: &Row, at: usize) -> bool {
-    let (first, end, is_each, _) = *row;
+    let (first, end, is_each, _, _, _, _) = *row;
     first <= at && at < end && (is_each || (at - first) % 4 == 0)
 }
 
@@ -237,7 +237,8 @@ fn assert_judged(rt: &impl Abort, alloc: Global, at: usize, rows: &[Row], values
         if is_for(row, at) {
             assert!(rt; !is_found, "one row for byte {at}");
             is_found = true;
-            assert_values(rt, alloc, at, values, &row.3);
+            let (_, _, _, none, one, half, all) = *row;
+            assert_values(rt, alloc, at, values, &[none, one, half, all]);
         }
     }
     assert!(rt; is_found, "a row for byte {at}");
