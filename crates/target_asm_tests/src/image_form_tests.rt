@@ -100,10 +100,7 @@ const WORDS: &[Row] = &[
     ),
     (0x30020000, (Op::Sb, Sense::Always, -256, 0, None, None)),
     (0x37fdfe00, (Op::Sd, Sense::OnTrue, 255, 31, None, None)),
-    (
-        0x40080000,
-        (Op::Bro, Sense::Always, -524288, 0, None, None),
-    ),
+    (0x40080000, (Op::Bro, Sense::Always, -524288, 0, None, None)),
     (
         0x4377ffff,
         (Op::Callo, Sense::OnFalse, 524287, 7, None, None),
@@ -137,10 +134,7 @@ const WORDS: &[Row] = &[
             None,
         ),
     ),
-    (
-        0x62fffe00,
-        (Op::Gens, Sense::Always, 32767, 0, None, None),
-    ),
+    (0x62fffe00, (Op::Gens, Sense::Always, 32767, 0, None, None)),
     (
         0x65ffff00,
         (Op::App, Sense::Always, 65535, 0, Some(Spot::Left(0)), None),
@@ -176,12 +170,7 @@ fn assert_form_blocks(rt: &impl Abort, blocks: &[Block], rows: &[Row]) {
     }
 }
 
-fn assert_read(
-    rt: &impl Abort,
-    alloc: Global,
-    bytes: &[u8],
-    rows: &[Row],
-) -> Result<(), Fail> {
+fn assert_read(rt: &impl Abort, alloc: Global, bytes: &[u8], rows: &[Row]) -> Result<(), Fail> {
     let image = decode(alloc, bytes)?;
     assert_form_blocks(rt, image.blocks.as_slice(), rows);
     Ok(())

@@ -168,7 +168,15 @@ const BYTES: &[Row] = &[
     (16, 17, true, SAME, SIZE, SIZE, SIZE),
     (17, 18, true, SAME, SHORT, SIZE, SIZE),
     (18, 19, true, SAME, Answer::Bad(275), SHORT, SHORT),
-    (19, 20, true, SAME, Answer::Bad(20), Answer::Bad(146), Answer::Bad(274)),
+    (
+        19,
+        20,
+        true,
+        SAME,
+        Answer::Bad(20),
+        Answer::Bad(146),
+        Answer::Bad(274),
+    ),
     // info bits of the store mask, and bits of reads
     (20, 84, false, SAME, WORD, WORD, WORD),
     // info bits of the numbers of reads, writes and body chunks, and of the zeros
