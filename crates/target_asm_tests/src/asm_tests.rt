@@ -1,12 +1,13 @@
 //! Texts with the image or the fault that docs/MACHINE.md, "Target text", gives them.
 
 use std::alloc::{AllocError, Global};
+use std::process::Abort;
 use std::test::Fail;
 use target_asm::AsmFault::{Label, Range, Syntax};
 use target_asm::{AsmFault, assemble, print};
 
 /// The divide makes the store late.
-const DIVIDE: &[u8] = b"trips 1
+pub const DIVIDE: &[u8] = b"trips 1
 data 0
 block 0 mask 00000001
 N[0] genu 7 N[2,0]
@@ -59,308 +60,232 @@ block 1 mask ffffffff
 ";
 
 /// What assembling answers, if not an image.
-fn fault(alloc: Global, text: &[u8]) -> Option<AsmFault> {
+pub fn fault(alloc: Global, text: &[u8]) -> Option<AsmFault> {
     match assemble(alloc, text) {
         Err(fault) => Some(fault),
         Ok(_) => None,
     }
 }
 
+fn printed_again(alloc: Global, text: &[u8]) -> Result<Vec<u8>, Fail> {
+    let image = assemble(alloc, text)?;
+    Ok(print(alloc, &image)?)
+}
+
+fn assert_printed(rt: &impl Abort, alloc: Global, text: &[u8]) -> Result<(), Fail> {
+    let again = printed_again(alloc, text)?;
+    assert!(rt; again.as_slice() == text, "the same text");
+    Ok(())
+}
+
 #[test]
 fn what_is_assembled_is_printed_again(rt: HostRuntime) -> Result<(), Fail> {
-    for text in [DIVIDE, ENDS] {
-        let image = assemble(rt.alloc(), text)?;
-        let again = print(rt.alloc(), &image)?;
-        assert!(rt; again.as_slice() == text, "the same text");
+    assert_printed(&rt, rt.alloc(), DIVIDE)?;
+    assert_printed(&rt, rt.alloc(), ENDS)
+}
+
+type FaultRow = (&'static [u8], AsmFault);
+
+const EARLY: &[FaultRow] = &[
+    (b"", Syntax(1)),
+    (b"trips 1", Syntax(1)),
+    (b"trips 1\n", Syntax(2)),
+    (b"trips 1\ndata 0", Syntax(2)),
+    (b"trips 1\ndata 0\n", Syntax(3)),
+    (b"trips 1\ndata 1\n", Syntax(3)),
+    (b"trips 1\ndata 1\nff", Syntax(3)),
+    (b"trips 1\ndata 0\nblock 0 mask 00000000", Syntax(3)),
+    (b"trips 2\ndata 0\n", Syntax(1)),
+    (b"trips 1 \ndata 0\n", Syntax(1)),
+    (b"trips 1\r\ndata 0\n", Syntax(1)),
+    (b"trips 1\ndata  0\n", Syntax(2)),
+    (b"trips 1\ndata\t0\n", Syntax(2)),
+    (b"trips 1\ndata 00\n", Syntax(2)),
+    (b"trips 1\ndata +1\n", Syntax(2)),
+    (b"trips 1\ndata -0\n", Syntax(2)),
+    (b"trips 1\ndata -1\n", Range(2)),
+    (b"trips 1\ndata 4194305\n", Range(2)),
+    (b"trips 1\ndata 99999999999999999999999999\n", Range(2)),
+    (b"trips 1\ndata 1\n00\n", Range(3)),
+    (b"trips 1\ndata 1\nFF\n", Syntax(3)),
+    (b"trips 1\ndata 1\nf\n", Syntax(3)),
+    (b"trips 1\ndata 1\nffff\n", Syntax(3)),
+    (b"trips 1\ndata 1\nfg\n", Syntax(3)),
+    (b"trips 1\ndata 0\nff\n", Syntax(3)),
+    (b"trips 1\ndata 2\nff\nblock 0 mask 00000000\n", Syntax(3)),
+    (b"trips 1\ndata 0\n\n", Syntax(3)),
+    (b"trips 1\ndata 0\nblock 0 mask 00000000\n\n", Syntax(4)),
+];
+
+fn assert_faults(rt: &impl Abort, alloc: Global, rows: &[FaultRow]) {
+    for (text, want) in rows {
+        assert_eq!(rt; fault(alloc, *text), Some(*want), "wanted {want:?}");
     }
-    Ok(())
 }
 
 #[test]
 fn a_text_that_ends_early_or_begins_otherwise_is_refused(rt: HostRuntime) {
-    let rows: [(&[u8], AsmFault); 28] = [
-        (b"", Syntax(1)),
-        (b"trips 1", Syntax(1)),
-        (b"trips 1\n", Syntax(2)),
-        (b"trips 1\ndata 0", Syntax(2)),
-        (b"trips 1\ndata 0\n", Syntax(3)),
-        (b"trips 1\ndata 1\n", Syntax(3)),
-        (b"trips 1\ndata 1\nff", Syntax(3)),
-        (b"trips 1\ndata 0\nblock 0 mask 00000000", Syntax(3)),
-        (b"trips 2\ndata 0\n", Syntax(1)),
-        (b"trips 1 \ndata 0\n", Syntax(1)),
-        (b"trips 1\r\ndata 0\n", Syntax(1)),
-        (b"trips 1\ndata  0\n", Syntax(2)),
-        (b"trips 1\ndata\t0\n", Syntax(2)),
-        (b"trips 1\ndata 00\n", Syntax(2)),
-        (b"trips 1\ndata +1\n", Syntax(2)),
-        (b"trips 1\ndata -0\n", Syntax(2)),
-        (b"trips 1\ndata -1\n", Range(2)),
-        (b"trips 1\ndata 4194305\n", Range(2)),
-        (b"trips 1\ndata 99999999999999999999999999\n", Range(2)),
-        (b"trips 1\ndata 1\n00\n", Range(3)),
-        (b"trips 1\ndata 1\nFF\n", Syntax(3)),
-        (b"trips 1\ndata 1\nf\n", Syntax(3)),
-        (b"trips 1\ndata 1\nffff\n", Syntax(3)),
-        (b"trips 1\ndata 1\nfg\n", Syntax(3)),
-        (b"trips 1\ndata 0\nff\n", Syntax(3)),
-        (b"trips 1\ndata 2\nff\nblock 0 mask 00000000\n", Syntax(3)),
-        (b"trips 1\ndata 0\n\n", Syntax(3)),
-        (b"trips 1\ndata 0\nblock 0 mask 00000000\n\n", Syntax(4)),
-    ];
-    for (text, want) in rows {
-        assert_eq!(rt; fault(rt.alloc(), text), Some(want), "wanted {want:?}");
-    }
+    assert_faults(&rt, rt.alloc(), EARLY);
+}
+
+/// A text whose first block has these lines, from line 4 on.
+fn with_lines(alloc: Global, lines: &[u8]) -> Result<Vec<u8>, AllocError> {
+    let mut text = Vec::from_slice(alloc, b"trips 1\ndata 0\nblock 0 mask 00000000\n")?;
+    text.extend_from_slice(lines)?;
+    Ok(text)
 }
 
 /// What assembling answers to a first block of these lines, from line 4 on, if not an image.
-fn in_block(alloc: Global, lines: &[u8]) -> Result<Option<AsmFault>, AllocError> {
-    let mut text = Vec::from_slice(alloc, b"trips 1\ndata 0\nblock 0 mask 00000000\n")?;
-    text.extend_from_slice(lines)?;
+pub fn in_block(alloc: Global, lines: &[u8]) -> Result<Option<AsmFault>, AllocError> {
+    let text = with_lines(alloc, lines)?;
     Ok(fault(alloc, text.as_slice()))
 }
 
-#[test]
-fn a_line_that_may_not_stand_there_is_syntax(rt: HostRuntime) -> Result<(), Fail> {
-    let rows: [&[u8]; 45] = [
-        b"block 2 mask 00000000\n",
-        b"block 7 mask 00000000\n",
-        b"block 01 mask 00000000\n",
-        b"block 1 mask 0000000\n",
-        b"block 1 mask 000000000\n",
-        b"block 1 mask 0000000A\n",
-        b"R[1] read G[5] N[0,0]\n",
-        b"R[0] read G[5]\n",
-        b"R[0] read G[5] W[0]\n",
-        b"R[0] read G[5] N[0,p]\n",
-        b"R[0] read G[5] N[0,2]\n",
-        b"R[0] read G[5] N[0,0] N[0,0]\n",
-        b"R[0] read G[5] N[200,0] N[200,0]\n",
-        b"R[0] read G[5] N[9999999999,1] N[9999999999,1]\n",
-        b"R[0] read G[5] N[0,0] N[0,1] N[1,0]\n",
-        b"R[0] read G[5] N[0,0] \n",
-        b"W[1] write G[0]\n",
-        b"W[0] write G[0] \n",
-        b"W[0] write  G[0]\n",
-        b"N[0] adds\n",
-        b"N[0] ADD\n",
-        b"N[0] add_x\n",
-        b"N[0] genu_t 1\n",
-        b"N[0] add N[0,0] N[0,1] N[1,0]\n",
-        b"N[0] addi 1 N[0,0] N[0,1]\n",
-        b"N[0] addi N[0,0]\n",
-        b"N[0] addi 01\n",
-        b"N[0] addi +1\n",
-        b"N[0] addi -0\n",
-        b"N[0] genu\n",
-        b"N[0] lb 0\n",
-        b"N[0] sb 0 0 N[1,0]\n",
-        b"N[0] bro 0\n",
-        b"N[0] bro @0\n",
-        b"N[0] bro 0 @00\n",
-        b"N[0] bro 0 @x\n",
-        b"N[0] bro 0 0\n",
-        b"N[0] scall 0 @0\n",
-        b"N[0] add R[0]\n",
-        b"N[00] null\n",
-        b"N[0]  null\n",
-        b"N[0] null \n",
-        b" N[0] null\n",
-        b"N[0] null\r\n",
-        b"x\n",
-    ];
+/// Each of these is answered by the same fault.
+fn assert_fault_in_block(
+    rt: &impl Abort,
+    alloc: Global,
+    rows: &[&[u8]],
+    want: AsmFault,
+    place: &str,
+) -> Result<(), Fail> {
     for lines in rows {
-        assert_eq!(rt;
-            in_block(rt.alloc(), lines)?,
-            Some(Syntax(4)),
-            "a line of its own"
-        );
-    }
-    let later: [&[u8]; 6] = [
-        b"N[5] null\nN[5] null\n",
-        b"N[5] null\nN[4] null\n",
-        b"N[0] null\nW[0] write G[0]\n",
-        b"N[0] null\nR[0] read G[5] N[0,0]\n",
-        b"W[0] write G[0]\nR[0] read G[5] N[0,0]\n",
-        b"N[0] bro 0 @9\nx\n",
-    ];
-    for lines in later {
-        assert_eq!(rt;
-            in_block(rt.alloc(), lines)?,
-            Some(Syntax(5)),
-            "after another line"
-        );
+        assert_eq!(rt; in_block(alloc, *lines)?, Some(want), "{place}");
     }
     Ok(())
 }
 
+const OF_ITS_OWN: &[&[u8]] = &[
+    b"block 2 mask 00000000\n",
+    b"block 7 mask 00000000\n",
+    b"block 01 mask 00000000\n",
+    b"block 1 mask 0000000\n",
+    b"block 1 mask 000000000\n",
+    b"block 1 mask 0000000A\n",
+    b"R[1] read G[5] N[0,0]\n",
+    b"R[0] read G[5]\n",
+    b"R[0] read G[5] W[0]\n",
+    b"R[0] read G[5] N[0,p]\n",
+    b"R[0] read G[5] N[0,2]\n",
+    b"R[0] read G[5] N[0,0] N[0,0]\n",
+    b"R[0] read G[5] N[200,0] N[200,0]\n",
+    b"R[0] read G[5] N[9999999999,1] N[9999999999,1]\n",
+    b"R[0] read G[5] N[0,0] N[0,1] N[1,0]\n",
+    b"R[0] read G[5] N[0,0] \n",
+    b"W[1] write G[0]\n",
+    b"W[0] write G[0] \n",
+    b"W[0] write  G[0]\n",
+    b"N[0] adds\n",
+    b"N[0] ADD\n",
+    b"N[0] add_x\n",
+    b"N[0] genu_t 1\n",
+    b"N[0] add N[0,0] N[0,1] N[1,0]\n",
+    b"N[0] addi 1 N[0,0] N[0,1]\n",
+    b"N[0] addi N[0,0]\n",
+    b"N[0] addi 01\n",
+    b"N[0] addi +1\n",
+    b"N[0] addi -0\n",
+    b"N[0] genu\n",
+    b"N[0] lb 0\n",
+    b"N[0] sb 0 0 N[1,0]\n",
+    b"N[0] bro 0\n",
+    b"N[0] bro @0\n",
+    b"N[0] bro 0 @00\n",
+    b"N[0] bro 0 @x\n",
+    b"N[0] bro 0 0\n",
+    b"N[0] scall 0 @0\n",
+    b"N[0] add R[0]\n",
+    b"N[00] null\n",
+    b"N[0]  null\n",
+    b"N[0] null \n",
+    b" N[0] null\n",
+    b"N[0] null\r\n",
+    b"x\n",
+];
+
+const AFTER_ANOTHER: &[&[u8]] = &[
+    b"N[5] null\nN[5] null\n",
+    b"N[5] null\nN[4] null\n",
+    b"N[0] null\nW[0] write G[0]\n",
+    b"N[0] null\nR[0] read G[5] N[0,0]\n",
+    b"W[0] write G[0]\nR[0] read G[5] N[0,0]\n",
+    b"N[0] bro 0 @9\nx\n",
+];
+
+#[test]
+fn a_line_that_may_not_stand_there_is_syntax(rt: HostRuntime) -> Result<(), Fail> {
+    let alloc = rt.alloc();
+    assert_fault_in_block(&rt, alloc, OF_ITS_OWN, Syntax(4), "a line of its own")?;
+    assert_fault_in_block(&rt, alloc, AFTER_ANOTHER, Syntax(5), "after another line")
+}
+
+const OUTSIDE: &[&[u8]] = &[
+    b"R[0] read G[128] N[0,0]\n",
+    b"R[0] read G[-1] N[0,0]\n",
+    b"R[0] read G[0] N[128,0]\n",
+    b"R[0] read G[0] N[0,0] N[128,1]\n",
+    b"R[0] read G[0] N[9999999999,0] N[9999999998,0]\n",
+    b"W[0] write G[128]\n",
+    b"W[0] write G[99999999999999999999]\n",
+    b"N[128] null\n",
+    b"N[-1] null\n",
+    b"N[0] add N[128,0]\n",
+    b"N[0] add W[32]\n",
+    b"N[0] add W[0] N[300,p]\n",
+    b"N[0] addi 256\n",
+    b"N[0] addi -257\n",
+    b"N[0] lb 32 0\n",
+    b"N[0] lb 0 256\n",
+    b"N[0] sb -1 0\n",
+    b"N[0] sb 0 -257\n",
+    b"N[0] genu -1\n",
+    b"N[0] genu 65536\n",
+    b"N[0] gens 32768\n",
+    b"N[0] gens -32769\n",
+    b"N[0] app -1\n",
+    b"N[0] app 65536\n",
+    b"N[0] scall 8\n",
+    b"N[0] bro 8 @0\n",
+    b"N[0] bro 0 !524288\n",
+    b"N[0] bro 0 !-524289\n",
+    b"N[0] bro 0 !0\n",
+    b"N[0] genu 4294967296\n",
+];
+
 #[test]
 fn a_number_outside_its_field_is_range(rt: HostRuntime) -> Result<(), Fail> {
-    let rows: [&[u8]; 30] = [
-        b"R[0] read G[128] N[0,0]\n",
-        b"R[0] read G[-1] N[0,0]\n",
-        b"R[0] read G[0] N[128,0]\n",
-        b"R[0] read G[0] N[0,0] N[128,1]\n",
-        b"R[0] read G[0] N[9999999999,0] N[9999999998,0]\n",
-        b"W[0] write G[128]\n",
-        b"W[0] write G[99999999999999999999]\n",
-        b"N[128] null\n",
-        b"N[-1] null\n",
-        b"N[0] add N[128,0]\n",
-        b"N[0] add W[32]\n",
-        b"N[0] add W[0] N[300,p]\n",
-        b"N[0] addi 256\n",
-        b"N[0] addi -257\n",
-        b"N[0] lb 32 0\n",
-        b"N[0] lb 0 256\n",
-        b"N[0] sb -1 0\n",
-        b"N[0] sb 0 -257\n",
-        b"N[0] genu -1\n",
-        b"N[0] genu 65536\n",
-        b"N[0] gens 32768\n",
-        b"N[0] gens -32769\n",
-        b"N[0] app -1\n",
-        b"N[0] app 65536\n",
-        b"N[0] scall 8\n",
-        b"N[0] bro 8 @0\n",
-        b"N[0] bro 0 !524288\n",
-        b"N[0] bro 0 !-524289\n",
-        b"N[0] bro 0 !0\n",
-        b"N[0] genu 4294967296\n",
-    ];
-    for lines in rows {
-        assert_eq!(rt;
-            in_block(rt.alloc(), lines)?,
-            Some(Range(4)),
-            "a line of its own"
-        );
+    assert_fault_in_block(&rt, rt.alloc(), OUTSIDE, Range(4), "a line of its own")
+}
+
+type GoalRow = (&'static [u8], Option<AsmFault>);
+
+const GOALS: &[GoalRow] = &[
+    (b"N[0] bro 0 @1\n", Some(Label(4))),
+    (b"N[0] bro 0 @-1\n", Some(Label(4))),
+    (b"N[0] bro 0 @4294967296\n", Some(Label(4))),
+    (b"N[0] bro 0 @99999999999999999999\n", Some(Label(4))),
+    (b"N[0] bro 0 @1\nN[1] addi 256\n", Some(Range(5))),
+    (
+        b"N[0] bro 0 !2\nblock 1 mask 00000000\nN[0] callo 0 @2\n",
+        Some(Range(4)),
+    ),
+    (
+        b"N[0] bro 0 @2\nblock 1 mask 00000000\nN[0] callo 0 !-2\n",
+        Some(Label(4)),
+    ),
+    (b"N[0] bro 0 !1\nblock 1 mask 00000000\n", None),
+    (b"N[32] bro 0 !2\nblock 1 mask 00000000\n", None),
+    (b"N[32] bro 0 !3\nblock 1 mask 00000000\n", Some(Range(4))),
+];
+
+fn assert_goals(rt: &impl Abort, alloc: Global, rows: &[GoalRow]) -> Result<(), Fail> {
+    for (lines, want) in rows {
+        assert_eq!(rt; in_block(alloc, *lines)?, *want, "wanted {want:?}");
     }
     Ok(())
 }
 
 #[test]
 fn goals_are_judged_after_all_lines(rt: HostRuntime) -> Result<(), Fail> {
-    let rows: [(&[u8], Option<AsmFault>); 10] = [
-        (b"N[0] bro 0 @1\n", Some(Label(4))),
-        (b"N[0] bro 0 @-1\n", Some(Label(4))),
-        (b"N[0] bro 0 @4294967296\n", Some(Label(4))),
-        (b"N[0] bro 0 @99999999999999999999\n", Some(Label(4))),
-        (b"N[0] bro 0 @1\nN[1] addi 256\n", Some(Range(5))),
-        (
-            b"N[0] bro 0 !2\nblock 1 mask 00000000\nN[0] callo 0 @2\n",
-            Some(Range(4)),
-        ),
-        (
-            b"N[0] bro 0 @2\nblock 1 mask 00000000\nN[0] callo 0 !-2\n",
-            Some(Label(4)),
-        ),
-        (b"N[0] bro 0 !1\nblock 1 mask 00000000\n", None),
-        (b"N[32] bro 0 !2\nblock 1 mask 00000000\n", None),
-        (b"N[32] bro 0 !3\nblock 1 mask 00000000\n", Some(Range(4))),
-    ];
-    for (lines, want) in rows {
-        assert_eq!(rt; in_block(rt.alloc(), lines)?, want, "wanted {want:?}");
-    }
-    Ok(())
-}
-
-/// What becomes of a line.
-#[derive(Clone, Copy)]
-enum Edit {
-    LeftOut,
-    Doubled,
-    Exchanged,
-}
-
-/// Adds a line, which is edited where it is the one; a line that is held comes after the next.
-fn put_line(
-    out: &mut Vec<u8>,
-    held: &mut Vec<u8>,
-    line: &[u8],
-    edit: Option<Edit>,
-) -> Result<(), AllocError> {
-    match edit {
-        Some(Edit::LeftOut) => Ok(()),
-        Some(Edit::Doubled) => {
-            out.extend_from_slice(line)?;
-            out.extend_from_slice(line)
-        }
-        Some(Edit::Exchanged) => held.extend_from_slice(line),
-        None => {
-            out.extend_from_slice(line)?;
-            out.extend_from_slice(held.as_slice())?;
-            held.clear();
-            Ok(())
-        }
-    }
-}
-
-/// The text with one line, counted from 1, edited.
-fn edited(alloc: Global, text: &[u8], at: usize, edit: Edit) -> Result<Vec<u8>, AllocError> {
-    let mut out = Vec::new(alloc);
-    let mut held = Vec::new(alloc);
-    let mut line = Vec::new(alloc);
-    let mut number: usize = 0;
-    for b in text {
-        line.push(*b)?;
-        if *b == b'\n' {
-            number = number.saturating_add(1);
-            let edit = if number == at { Some(edit) } else { None };
-            put_line(&mut out, &mut held, line.as_slice(), edit)?;
-            line.clear();
-        }
-    }
-    Ok(out)
-}
-
-#[test]
-fn each_line_left_out_doubled_and_exchanged(rt: HostRuntime) -> Result<(), Fail> {
-    let left_out = [1, 2, 3, 0, 0, 0, 0, 0, 0, 10, 11, 0, 0, 0, 0, 0];
-    let exchanged = [1, 2, 3, 5, 6, 7, 8, 9, 11, 10, 11, 13, 14, 15, 16];
-    for i in 0..16 {
-        let text = edited(rt.alloc(), DIVIDE, i + 1, Edit::LeftOut)?;
-        let want = if left_out[i] == 0 {
-            None
-        } else {
-            Some(Syntax(left_out[i]))
-        };
-        assert_eq!(rt;
-            fault(rt.alloc(), text.as_slice()),
-            want,
-            "without line {i} and 1"
-        );
-        let text = edited(rt.alloc(), DIVIDE, i + 1, Edit::Doubled)?;
-        let want = Some(Syntax(i as u32 + 2));
-        assert_eq!(rt;
-            fault(rt.alloc(), text.as_slice()),
-            want,
-            "with line {i} and 1 twice"
-        );
-    }
-    for i in 0..15 {
-        let text = edited(rt.alloc(), DIVIDE, i + 1, Edit::Exchanged)?;
-        let want = Some(Syntax(exchanged[i]));
-        assert_eq!(rt;
-            fault(rt.alloc(), text.as_slice()),
-            want,
-            "line {i} and 1 exchanged"
-        );
-    }
-    Ok(())
-}
-
-#[test]
-fn the_thirty_third_read_is_outside_its_field(rt: HostRuntime) -> Result<(), Fail> {
-    let mut lines = Vec::new(rt.alloc());
-    for i in 0..32 {
-        lines.extend_from_slice(format!(in rt.alloc(); "R[{i}] read G[1] N[0,0]\n")?.as_bytes())?;
-    }
-    assert_eq!(rt; in_block(rt.alloc(), lines.as_slice())?, None, "32 reads");
-    lines.extend_from_slice(b"R[32] read G[1] N[0,0]\n")?;
-    assert_eq!(rt;
-        in_block(rt.alloc(), lines.as_slice())?,
-        Some(Range(36)),
-        "33 reads"
-    );
-    Ok(())
+    assert_goals(&rt, rt.alloc(), GOALS)
 }

@@ -2,7 +2,11 @@
 #![tactic(auto)]
 
 #[cfg(test)]
+mod asm_line_tests;
+#[cfg(test)]
 mod asm_tests;
+#[cfg(test)]
+mod image_form_tests;
 #[cfg(test)]
 mod image_tests;
 #[cfg(test)]

@@ -1,6 +1,6 @@
 //! Each operation on words at its edges, and what loads make of the bytes that they read.
 
-use std::test::Fail;
+use std::process::Abort;
 use trips_isa::{Op, alu, loaded};
 
 const MAX: u64 = u64::MAX;
@@ -8,8 +8,10 @@ const MAX: u64 = u64::MAX;
 /// The least signed number.
 const LEAST: u64 = 0x8000_0000_0000_0000;
 
+type Row = (Op, u64, u64, u64);
+
 /// Each operation on two pairs of words at its edges; the wanted words are of whole numbers.
-const ROWS: [(Op, u64, u64, u64); 134] = [
+const ROWS: &[Row] = &[
     (Op::Add, MAX, 1, 0),
     (Op::Add, LEAST, LEAST, 0),
     (Op::Sub, 0, 1, MAX),
@@ -146,31 +148,41 @@ const ROWS: [(Op, u64, u64, u64); 134] = [
     (Op::App, MAX, 65535, MAX),
 ];
 
-#[test]
-fn operations_at_their_edges(rt: HostRuntime) -> Result<(), Fail> {
-    for (op, left, right, wanted) in ROWS {
+fn assert_rows(rt: &impl Abort, rows: &[Row]) {
+    for (op, left, right, wanted) in rows {
         assert_eq!(rt;
-            alu(op, left, right),
-            wanted,
+            alu(*op, *left, *right),
+            *wanted,
             "the operation {op:?} on {left} and {right}"
         );
     }
-    Ok(())
 }
 
 #[test]
-fn loads_extend_what_they_read(rt: HostRuntime) -> Result<(), Fail> {
-    let rows = [
-        (Op::Lb, 0x80, 0x80),
-        (Op::Lbs, 0x80, 0xffff_ffff_ffff_ff80),
-        (Op::Lh, 0x8000, 0x8000),
-        (Op::Lhs, 0x8000, 0xffff_ffff_ffff_8000),
-        (Op::Lw, 0x8000_0000, 0x8000_0000),
-        (Op::Lws, 0x8000_0000, 0xffff_ffff_8000_0000),
-        (Op::Ld, MAX, MAX),
-    ];
+fn operations_at_their_edges(rt: HostRuntime) {
+    assert_rows(&rt, ROWS);
+}
+
+type LoadRow = (Op, u64, u64);
+
+/// Each load, the bytes that it reads as a number, and the wanted word.
+const LOADS: &[LoadRow] = &[
+    (Op::Lb, 0x80, 0x80),
+    (Op::Lbs, 0x80, 0xffff_ffff_ffff_ff80),
+    (Op::Lh, 0x8000, 0x8000),
+    (Op::Lhs, 0x8000, 0xffff_ffff_ffff_8000),
+    (Op::Lw, 0x8000_0000, 0x8000_0000),
+    (Op::Lws, 0x8000_0000, 0xffff_ffff_8000_0000),
+    (Op::Ld, MAX, MAX),
+];
+
+fn assert_loads(rt: &impl Abort, rows: &[LoadRow]) {
     for (op, bytes, wanted) in rows {
-        assert_eq!(rt; loaded(op, bytes), wanted, "the load {op:?} of {bytes}");
+        assert_eq!(rt; loaded(*op, *bytes), *wanted, "the load {op:?} of {bytes}");
     }
-    Ok(())
+}
+
+#[test]
+fn loads_extend_what_they_read(rt: HostRuntime) {
+    assert_loads(&rt, LOADS);
 }
