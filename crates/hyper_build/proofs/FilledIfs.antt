@@ -322,9 +322,12 @@ mutual
       let C = annotated p j m other in
       let l1 = l + leg_size A (size A) in
       let join = l1 + leg_size C (size C) in
-      let first = leg_blocks (exit_leg P join A) (entry P A (l + 1) (jump join)) (blocks P A (l + 1) (jump join)) in
-      let second = leg_blocks (exit_leg P join C) (entry P C (l1 + 1) (jump join))
-      (blocks P C (l1 + 1) (jump join)) in
+      let e1 = entry P A (l + 1) (jump join) in
+      let e2 = entry P C (l1 + 1) (jump join) in
+      let b1 = blocks P A (l + 1) (jump join) in
+      let b2 = blocks P C (l1 + 1) (jump join) in
+      let first = leg_blocks (exit_leg P join A) e1 b1 in
+      let second = leg_blocks (exit_leg P join C) e2 b2 in
       let same = item_is p i n (p.joined i) one other in
       if_keeps (is_item (p.joined i) A C)
       (if_then (source a) (items_of P A Done) (items_of P C Done) (cut (p.cut i) l k))
@@ -340,9 +343,9 @@ mutual
       (λ z. let s = not_small (p.joined i) one other (sym same ∙ z) in
       let u = code_keeps P p (l + 1) (i + 1) n one (jump join) in
       let v = code_keeps P p (l1 + 1) j m other (jump join) in
-      let x = leg_keeps (exit_leg P join A) _ _ (small_ifs one) u.0
+      let x = leg_keeps (exit_leg P join A) e1 b1 (small_ifs one) u.0
       (λ d q. leg_none P p (i + 1) n join d one q) in
-      let y = leg_keeps (exit_leg P join C) _ _ (small_ifs other) v.0
+      let y = leg_keeps (exit_leg P join C) e2 b2 (small_ifs other) v.0
       (λ d q. leg_none P p j m join d other q) in
       let a1 = filled_append first (second ++ k ∷ []) in
       let a2 = filled_append second (k ∷ []) in
