@@ -14,9 +14,9 @@ use Rattle.c_tree.specs.declared.TypedGlobal.{TypedGlobal}
 use Rattle.trips_isa.specs.declared.op.Op.TheVariants as op
 use Rattle.ir_forms.specs.declared.flat.Arg.{Arg}
 use Rattle.ir_forms.specs.declared.flat.Arg.TheVariants.{Const, Var}
-use Rattle.ir_forms.specs.FlatCode.{Step, Code, Nop, Then, only, Let}
+use Rattle.ir_forms.specs.FlatCode.{Code, Nop, Then, only, Let}
 use Rattle.ir_forms.specs.FlatCode as flat
-use Rattle.ir_forms.specs.FlatFits.{code_blocks_in, code_blocks_of_all}
+use Rattle.ir_forms.specs.FlatFits.{code_blocks_of_all}
 use Rattle.flat_lower.specs.Tree.{Expr, Number, Name, Element, Call, Unary, Cast, Convert, Bump}
 use Rattle.flat_lower.specs.Tree.{Binary, Choice, Assign, Comma, Exprs, NoExprs, WithExpr, Stmt}
 use Rattle.flat_lower.specs.Tree.{Declare, Plain, Compound, If, While, Do, For, Break, Continue}
@@ -59,10 +59,6 @@ looped p q =
     let j = p.few in
     let k = q.few in
     record { few = omega (arith, j, k) }
-
--- a statement that makes no block
-free : (s : Step) → code_blocks_in s ≡ 0 → Makes 0 0 (only s)
-free s h = record { few = omega (arith, h) }
 
 -- LEFT SIDES
 
@@ -198,56 +194,56 @@ module _ (c : Context) where
   plain_if_makes (Some e) = plain_makes e
 
   declare_makes : (p : Place) (e : Option Expr)
-      → Makes 0 (6 * (1 + expr_if_nodes e)) (declare_code c p e)
-  declare_makes (Scalar j) (Some e) = eased 0 (6 * (1 + expr_nodes e))
+      → Makes 1 (6 * (1 + expr_if_nodes e)) (declare_code c p e)
+  declare_makes (Scalar j) (Some e) = eased 1 (6 * (1 + expr_nodes e))
       (after (expr_makes 0 e) (one_more (Let j op.Mov (Var (temp 0)) (Const 0)) refl)) (omega arith)
-  declare_makes (Scalar j) None = none 6
-  declare_makes (Global g) e = none (6 * (1 + expr_if_nodes e))
-  declare_makes (Array a) e = none (6 * (1 + expr_if_nodes e))
+  declare_makes (Scalar j) None = eased 1 6 (none 0) (omega arith)
+  declare_makes (Global g) e = eased 1 (6 * (1 + expr_if_nodes e)) (none 0) (omega arith)
+  declare_makes (Array a) e = eased 1 (6 * (1 + expr_if_nodes e)) (none 0) (omega arith)
 
-  return_makes : (e : Option Expr) → Makes 0 (6 * (1 + expr_if_nodes e)) (return_code c e)
+  return_makes : (e : Option Expr) → Makes 1 (6 * (1 + expr_if_nodes e)) (return_code c e)
   return_makes None = record { few = omega arith }
-  return_makes (Some e) = eased 0 (6 * (1 + expr_nodes e))
-      (after (expr_makes 0 e) (free (flat.Return (Some (Var (temp 0)))) refl)) (omega arith)
+  return_makes (Some e) = eased 1 (6 * (1 + expr_nodes e))
+      (after (expr_makes 0 e) (one_more (flat.Return (Some (Var (temp 0)))) refl)) (omega arith)
 
-  if_so_makes : (body : Code) (n : ℕ) → Makes 0 n body → Makes 0 (n + 3) (if_so body)
-  if_so_makes body n p = eased 0 (n + 3) (chosen (Var (temp 0)) p (free flat.Break refl))
+  if_so_makes : (body : Code) (n : ℕ) → Makes 1 n body → Makes 1 (n + 4) (if_so body)
+  if_so_makes body n p = eased 1 (n + 4) (chosen (Var (temp 0)) p (one_more flat.Break refl))
       (omega arith)
 
-  turn_makes : (test : Option Expr) (body : Code) (n : ℕ) → Makes 0 n body
-      → Makes 0 (6 * expr_if_nodes test + n + 3) (turn_code c test body)
-  turn_makes None body n p = eased 0 (0 + n + 3) p (omega arith)
-  turn_makes (Some t) body n p = eased 0 (6 * expr_nodes t + n + 3)
+  turn_makes : (test : Option Expr) (body : Code) (n : ℕ) → Makes 1 n body
+      → Makes 1 (6 * expr_if_nodes test + n + 2) (turn_code c test body)
+  turn_makes None body n p = eased 1 (0 + n + 2) p (omega arith)
+  turn_makes (Some t) body n p = eased 1 (6 * expr_nodes t + n + 2)
       (after (expr_makes 0 t) (if_so_makes body n p)) (omega arith)
 
-  loop_code_makes : (test post : Option Expr) (body : Code) (n : ℕ) → Makes 0 (6 * n) body
-      → Makes 0 (6 * (1 + (expr_if_nodes test + (expr_if_nodes post + n))))
+  loop_code_makes : (test post : Option Expr) (body : Code) (n : ℕ) → Makes 1 (6 * n) body
+      → Makes 1 (6 * (1 + (expr_if_nodes test + (expr_if_nodes post + n))))
       (loop_code c test post body)
-  loop_code_makes test post body n p = eased 0
+  loop_code_makes test post body n p = eased 1
       (6 * (1 + (expr_if_nodes test + (expr_if_nodes post + n))))
       (looped (turn_makes test body (6 * n) p) (expr_if_makes post)) (omega arith)
 
-  do_code_makes : (t : Expr) (body : Code) (n : ℕ) → Makes 0 (6 * n) body
-      → Makes 0 (6 * (1 + (n + expr_nodes t))) (do_code c t body)
-  do_code_makes t body n p = eased 0 (6 * (1 + (n + expr_nodes t)))
+  do_code_makes : (t : Expr) (body : Code) (n : ℕ) → Makes 1 (6 * n) body
+      → Makes 1 (6 * (1 + (n + expr_nodes t))) (do_code c t body)
+  do_code_makes t body n p = eased 1 (6 * (1 + (n + expr_nodes t)))
       (after (word_makes (temp 0) 1)
       (looped (if_so_makes body (6 * n) p) (expr_makes 0 t))) (omega arith)
 
   mutual
-    pub stmt_makes : (s : Stmt) → Makes 0 (6 * stmt_nodes s) (stmt_code c s)
+    pub stmt_makes : (s : Stmt) → Makes 1 (6 * stmt_nodes s) (stmt_code c s)
     stmt_makes (Declare p e) = declare_makes p e
-    stmt_makes (Plain e) = eased 0 (6 * (1 + expr_if_nodes e)) (plain_if_makes e) (omega arith)
-    stmt_makes (Compound all) = eased 0 (6 * (1 + stmts_nodes all)) (stmts_make all) (omega arith)
-    stmt_makes (If t one other) = eased 0
+    stmt_makes (Plain e) = eased 1 (6 * (1 + expr_if_nodes e)) (plain_if_makes e) (omega arith)
+    stmt_makes (Compound all) = eased 1 (6 * (1 + stmts_nodes all)) (stmts_make all) (omega arith)
+    stmt_makes (If t one other) = eased 1
         (6 * (1 + (expr_nodes t + (stmt_nodes one + stmts_nodes other))))
         (after (expr_makes 0 t) (chosen (Var (temp 0)) (stmt_makes one) (stmts_make other)))
         (omega arith)
-    stmt_makes (While t body) = eased 0 (6 * (1 + (expr_nodes t + stmt_nodes body)))
+    stmt_makes (While t body) = eased 1 (6 * (1 + (expr_nodes t + stmt_nodes body)))
         (loop_code_makes (Some t) None (stmt_code c body) (stmt_nodes body) (stmt_makes body))
         (omega arith)
     stmt_makes (Do body t) = do_code_makes t (stmt_code c body) (stmt_nodes body) (stmt_makes body)
     stmt_makes (For first test post body) =
-        eased 0 (6 * (1 + (first_nodes first +
+        eased 1 (6 * (1 + (first_nodes first +
         (expr_if_nodes test + (expr_if_nodes post + stmt_nodes body)))))
         (after (first_makes first) (loop_code_makes test post (stmt_code c body) (stmt_nodes body)
         (stmt_makes body))) (omega arith)
@@ -267,15 +263,16 @@ module _ (c : Context) where
 
 -- PROGRAMS
 
-end_makes : (b : Bool) → Makes 0 0 (end_code b)
+end_makes : (b : Bool) → Makes 0 1 (end_code b)
 end_makes true = record { few = omega arith }
-end_makes false = none 0
+end_makes false = none 1
 
 module _ (globals : List TypedGlobal) (main : ℕ) where
   body_makes : (b : Bool) (f : Func)
-      → Makes 0 (6 * stmt_nodes f.body + 0)
+      → Makes 0 (6 * stmt_nodes f.body)
       (Then (stmt_code (context_of globals f) f.body) (end_code b))
-  body_makes b f = after (stmt_makes (context_of globals f) f.body) (end_makes b)
+  body_makes b f = eased 0 (6 * stmt_nodes f.body)
+      (after (stmt_makes (context_of globals f) f.body) (end_makes b)) (omega arith)
 
   functions_make : (n : ℕ) (fs : List Func)
       → code_blocks_of_all (lowered_from globals main n fs) ≤ 6 * funcs_size fs

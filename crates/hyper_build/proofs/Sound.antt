@@ -228,9 +228,9 @@ module _ (W : World) (g : Routine) (scalars : g.scalars ≤ 64) where
     items_in_fit inside p (PutAt v) k t h = h
     items_in_fit inside p (GetAt c to) k t h = h
     items_in_fit inside p (LoopAt c body post) k t h = h
-    items_in_fit inside p BreakAt k t h = h
-    items_in_fit inside p ContinueAt k t h = h
-    items_in_fit inside p (ReturnAt v) k t h = h
+    items_in_fit inside p (BreakAt c) k t h = h
+    items_in_fit inside p (ContinueAt c) k t h = h
+    items_in_fit inside p (ReturnAt c v) k t h = h
 
     items_fit : (inside : Bool) (p : Place) (c : Tree) (k : Items) → FitsTree W g inside c
         → FitsItems k → FitsItems (items_of p c k)
@@ -261,31 +261,31 @@ groups_small (g ∷ gs) h = (
       each vs (λ v e. h v (or_right (nat_eq v x) (is_among vs v) e)),
     )
 
--- where a leg leads, and where its blocks end
+-- where a leg leads, and where its blocks end, if it has some
 pub record LegIs (N l join : ℕ) (p : Place) (c : Tree) : Type 0 where
   pub label : label_or l (exit_leg p join c) < N
-  pub room : l + 1 + size c ≤ N
+  pub room : exit_leg p join c ≡ None → l + 1 + size c ≤ N
 
 own_leg : (N l join : ℕ) (p : Place) (c : Tree) → exit_leg p join c ≡ None → l + (1 + size c) ≤ join
     → join < N → LegIs N l join p c
 own_leg N l join p c e le lt = record {
   label = subst (λ o. label_or l o < N) (sym e) (omega (arith, le, lt));
-  room = omega (arith, le, lt);
+  room = λ none. omega (arith, le, lt);
 }
 
 module _ (W : World) (g : Routine) (scalars : g.scalars ≤ 64) (N : ℕ)
     (known : (f : ℕ) (r : Routine) → slice_get W.routines f ≡ Some r → r.params ≤ 8) where
   leg_is : (inside : Bool) (p : Place) (c : Tree) (l join : ℕ) → FitsTree W g inside c
       → GoodPlace N inside p → l + leg_size c (size c) ≤ join → join < N → LegIs N l join p c
-  leg_is inside p End l join t q le lt = record { label = lt; room = omega (arith, le, lt) }
-  leg_is inside p (BreakAt ▸ End) l join t q le lt =
-      record { label = q.broke t.0; room = omega (arith, le, lt) }
-  leg_is inside p (ContinueAt ▸ End) l join t q le lt =
-      record { label = q.again t.0; room = omega (arith, le, lt) }
-  leg_is inside p (BreakAt ▸ (x ▸ rest)) l join t q le lt =
-      own_leg N l join p (BreakAt ▸ (x ▸ rest)) refl le lt
-  leg_is inside p (ContinueAt ▸ (x ▸ rest)) l join t q le lt =
-      own_leg N l join p (ContinueAt ▸ (x ▸ rest)) refl le lt
+  leg_is inside p End l join t q le lt = record { label = lt; room = λ none. absurd (cc none) }
+  leg_is inside p (BreakAt c ▸ End) l join t q le lt =
+      record { label = q.broke t.0; room = λ none. absurd (cc none) }
+  leg_is inside p (ContinueAt c ▸ End) l join t q le lt =
+      record { label = q.again t.0; room = λ none. absurd (cc none) }
+  leg_is inside p (BreakAt c ▸ (x ▸ rest)) l join t q le lt =
+      own_leg N l join p (BreakAt c ▸ (x ▸ rest)) refl le lt
+  leg_is inside p (ContinueAt c ▸ (x ▸ rest)) l join t q le lt =
+      own_leg N l join p (ContinueAt c ▸ (x ▸ rest)) refl le lt
   leg_is inside p (LetAt c to op a b ▸ rest) l join t q le lt =
       own_leg N l join p (LetAt c to op a b ▸ rest) refl le lt
   leg_is inside p (FrameAt c to at ▸ rest) l join t q le lt =
@@ -304,13 +304,13 @@ module _ (W : World) (g : Routine) (scalars : g.scalars ≤ 64) (N : ℕ)
       own_leg N l join p (IfAt c joined a one other ▸ rest) refl le lt
   leg_is inside p (LoopAt c body post ▸ rest) l join t q le lt =
       own_leg N l join p (LoopAt c body post ▸ rest) refl le lt
-  leg_is inside p (ReturnAt v ▸ rest) l join t q le lt =
-      own_leg N l join p (ReturnAt v ▸ rest) refl le lt
+  leg_is inside p (ReturnAt c v ▸ rest) l join t q le lt =
+      own_leg N l join p (ReturnAt c v ▸ rest) refl le lt
 
-  leg_sound : (o : Option ℕ) (first : Block) (others : List Block) → Sound N first
-      → AllSound N others → AllSound N (leg_blocks o first others)
-  leg_sound None first others a b = (a, b)
-  leg_sound (Some x) first others a b = tt
+  leg_sound : (o : Option ℕ) (first : Block) (others : List Block)
+      → (o ≡ None → Sound N first × AllSound N others) → AllSound N (leg_blocks o first others)
+  leg_sound None first others s = s refl
+  leg_sound (Some x) first others s = tt
 
   give_sound : (v : Option Arg) (k : Block) → FitsReturn g.scalars v → Sound N k → Sound N (give v k)
   give_sound None k t s = s
@@ -453,14 +453,14 @@ module _ (W : World) (g : Routine) (scalars : g.scalars ≤ 64) (N : ℕ)
               let jn = jump_sound N join (omega (arith, z)) in
               let x = leg_is inside p one l join t.2 q (omega arith) (omega (arith, z)) in
               let y = leg_is inside p other l1 join t.3 q (omega arith) (omega (arith, z)) in
-              let u = sound_tree inside p one (l + 1) (jump join) t.2 q x.room jn in
-              let v = sound_tree inside p other (l1 + 1) (jump join) t.3 q y.room jn in
               sound_append N (leg_blocks (exit_leg p join one) (entry p one (l + 1) (jump join))
               (blocks p one (l + 1) (jump join))) _
-              (leg_sound (exit_leg p join one) _ _ u.0 u.1)
+              (leg_sound (exit_leg p join one) _ _
+              (λ none. sound_tree inside p one (l + 1) (jump join) t.2 q (x.room none) jn))
               (sound_append N (leg_blocks (exit_leg p join other) (entry p other (l1 + 1) (jump join))
               (blocks p other (l1 + 1) (jump join))) (k ∷ [])
-              (leg_sound (exit_leg p join other) _ _ v.0 v.1) (s, tt))),
+              (leg_sound (exit_leg p join other) _ _
+              (λ none. sound_tree inside p other (l1 + 1) (jump join) t.3 q (y.room none) jn)) (s, tt))),
         )
     sound_in inside p (LoopAt c body post) l k t q le s =
         let next = l + 1 + size body in
@@ -490,9 +490,9 @@ module _ (W : World) (g : Routine) (scalars : g.scalars ≤ 64) (N : ℕ)
                 (y.0, sound_append N (blocks r post (next + 1) (jump l)) (k ∷ []) y.1 (s, tt)),
           ),
         )
-    sound_in inside p BreakAt l k t q le s = (jump_sound N p.broke (q.broke t), tt)
-    sound_in inside p ContinueAt l k t q le s = (jump_sound N p.again (q.again t), tt)
-    sound_in inside p (ReturnAt v) l k t q le s = (give_sound v p.gave t.0 q.gave, tt)
+    sound_in inside p (BreakAt c) l k t q le s = (jump_sound N p.broke (q.broke t), cuts_sound N c k s)
+    sound_in inside p (ContinueAt c) l k t q le s = (jump_sound N p.again (q.again t), cuts_sound N c k s)
+    sound_in inside p (ReturnAt c v) l k t q le s = (give_sound v p.gave t.0 q.gave, cuts_sound N c k s)
 
     pub sound_tree : (inside : Bool) (p : Place) (c : Tree) (l : ℕ) (k : Block)
         → FitsTree W g inside c → GoodPlace N inside p → l + size c ≤ N → Sound N k

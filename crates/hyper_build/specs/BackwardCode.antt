@@ -7,12 +7,12 @@ use Rattle.ir_forms.specs.FlatCode.{Return, Code, Nop, ◌▹◌}
 use Rattle.ir_forms.specs.FlatFits.{steps_in}
 use Rattle.ir_forms.specs.HyperCode.{Done, Leave, Test, Block}
 use Rattle.ir_forms.specs.HyperRuns.{jump}
-use Rattle.hyper_build.specs.Tree.{Plan}
+use Rattle.hyper_build.specs.Tree.{Plan, goes_on}
 use Rattle.hyper_build.specs.Parts.{source}
 use Rattle.hyper_build.specs.Straight.{label_or}
 use Rattle.hyper_build.specs.Ground.{Ground, plan, entry_at, left}
 use Rattle.hyper_build.specs.Build.{give}
-use Rattle.hyper_build.specs.Backward.{Emission, with_rest, put_out, fall, before_by, last_note, without_note}
+use Rattle.hyper_build.specs.Backward.{Emission, with_rest, put_out, cut_at, fall, before_by, last_note, without_note}
 use Rattle.hyper_build.specs.BackwardStatements.{let_out, frame_out, load_out, save_out, byte_out, byte_in}
 use Rattle.hyper_build.specs.BackwardStatements.{leaving, back_out, call_out}
 use Rattle.hyper_build.specs.BackwardItems.{is_straight, is_if_item, items_before, straight_items_in}
@@ -59,18 +59,19 @@ end_of_body c arrays post l head =
 
 -- ALL STATEMENTS
 
--- Before a statement, or before code, where a break and a continue lead to labels.
+-- Before a statement, or before code, where a break and a continue lead to labels. `on` says whether the
+-- code behind the statement goes on.
 abbrev mutual
-  pub emit_in : Ground → ℕ → ℕ → Step → Emission → Emission
-  emit_in g broke again (Let to op a b) s = let_out (plan g) to op a b s
-  emit_in g broke again (Frame to at) s = frame_out (plan g) g.arrays to at s
-  emit_in g broke again (Load to op a) s = load_out (plan g) to op a s
-  emit_in g broke again (Save op a v) s = save_out (plan g) op a v s
-  emit_in g broke again (Call f args to kept) s =
+  pub emit_in : Ground → ℕ → ℕ → Bool → Step → Emission → Emission
+  emit_in g broke again on (Let to op a b) s = let_out (plan g) to op a b s
+  emit_in g broke again on (Frame to at) s = frame_out (plan g) g.arrays to at s
+  emit_in g broke again on (Load to op a) s = load_out (plan g) to op a s
+  emit_in g broke again on (Save op a v) s = save_out (plan g) op a v s
+  emit_in g broke again on (Call f args to kept) s =
       call_out (plan g) g.frame (entry_at g.entries f) args (back_out (plan g) g.frame to s)
-  emit_in g broke again (Put v) s = byte_out v s
-  emit_in g broke again (Get to) s = byte_in (plan g) to s
-  emit_in g broke again (If x one other) s =
+  emit_in g broke again on (Put v) s = byte_out v s
+  emit_in g broke again on (Get to) s = byte_in (plan g) to s
+  emit_in g broke again on (If x one other) s =
       let n = steps_in (If x one other) in
       let join = (put_out s).label in
       let e2 = exit_of join broke again other in
@@ -80,17 +81,17 @@ abbrev mutual
       cond (is_if_item ((plan g).joined (s.place - n)) one other)
       (items_out (plan g) g.arrays n (If x one other) s)
       (leaving (test_block x (label_or first.label e1) (label_or second.label e2)) first)
-  emit_in g broke again (Loop body post) s =
+  emit_in g broke again on (Loop body post) s =
       let behind = put_out s in
       let note = last_note behind.notes in
       let next = put_out (emit g behind.label note.next post
       (with_rest (jump note.head) (without_note behind))) in
       let after = end_of_body ((plan g).cut note.place) g.arrays post next.label note.head in
       fall (put_out (emit g behind.label next.label body (with_rest after next)))
-  emit_in g broke again Break s = leaving (jump broke) s
-  emit_in g broke again Continue s = leaving (jump again) s
-  emit_in g broke again (Return v) s = leaving (give v (left g.frame)) s
+  emit_in g broke again on Break s = leaving (jump broke) (cut_at on s)
+  emit_in g broke again on Continue s = leaving (jump again) (cut_at on s)
+  emit_in g broke again on (Return v) s = leaving (give v (left g.frame)) (cut_at on s)
 
   pub emit : Ground → ℕ → ℕ → Code → Emission → Emission
   emit g broke again Nop s = s
-  emit g broke again (s ▹ rest) x = emit_in g broke again s (emit g broke again rest x)
+  emit g broke again (s ▹ rest) x = emit_in g broke again (goes_on rest) s (emit g broke again rest x)

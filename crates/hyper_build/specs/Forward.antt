@@ -7,7 +7,7 @@ use Rattle.ir_forms.specs.FlatCode.{Return, Code, Nop, ◌▹◌, Function}
 use Rattle.ir_forms.specs.FlatFits.{steps_in}
 use Rattle.hyper_build.specs.declared.emitting.Note.{Note}
 use Rattle.hyper_build.specs.declared.numbering.Numbering.{Numbering}
-use Rattle.hyper_build.specs.Tree.{Plan}
+use Rattle.hyper_build.specs.Tree.{Plan, goes_on}
 use Rattle.hyper_build.specs.Parts.{cut_size, moved_size}
 use Rattle.hyper_build.specs.Passing.{parameter_moves, parameter_cuts}
 use Rattle.hyper_build.specs.Straight.{arguments_size}
@@ -69,30 +69,31 @@ led c s = led_by (exit_of 0 0 0 c) s
 
 -- CODE
 
+-- Behind a statement, or behind code. `on` says whether the code behind the statement goes on.
 abbrev mutual
-  pub number_in : Plan → Step → Numbering → Numbering
-  number_in p (Let to op a b) s = single p s
-  number_in p (Frame to at) s = single p s
-  number_in p (Load to op a) s = single p s
-  number_in p (Save op a v) s = single p s
-  number_in p (Call f args to kept) s =
+  pub number_in : Plan → Bool → Step → Numbering → Numbering
+  number_in p on (Let to op a b) s = single p s
+  number_in p on (Frame to at) s = single p s
+  number_in p on (Load to op a) s = single p s
+  number_in p on (Save op a v) s = single p s
+  number_in p on (Call f args to kept) s =
       with_call (with_statement (with_blocks (call_size p s.place s.calls args) s))
-  number_in p (Put v) s = with_statement (with_blocks 1 s)
-  number_in p (Get to) s = with_statement (with_blocks (1 + cut_size (p.cut s.place)) s)
-  number_in p (If x one other) s =
+  number_in p on (Put v) s = with_statement (with_blocks 1 s)
+  number_in p on (Get to) s = with_statement (with_blocks (1 + cut_size (p.cut s.place)) s)
+  number_in p on (If x one other) s =
       cond (is_if_item (p.joined s.place) one other) (number_items p (If x one other) s)
       (with_blocks 1 (number p other (led other (number p one (led one (with_statement s))))))
-  number_in p (Loop body post) s =
+  number_in p on (Loop body post) s =
       let next = number p body (with_statement (with_blocks 1 s)) in
       let end = with_blocks 1 (number p post (with_blocks 1 next)) in
       with_note (record { head = s.label; next = next.label; place = s.place }) end
-  number_in p Break s = with_statement s
-  number_in p Continue s = with_statement s
-  number_in p (Return v) s = with_statement s
+  number_in p on Break s = with_statement (with_blocks (cut_size on) s)
+  number_in p on Continue s = with_statement (with_blocks (cut_size on) s)
+  number_in p on (Return v) s = with_statement (with_blocks (cut_size on) s)
 
   pub number : Plan → Code → Numbering → Numbering
   number p Nop s = s
-  number p (x ▹ rest) s = number p rest (number_in p x s)
+  number p (x ▹ rest) s = number p rest (number_in p (goes_on rest) x s)
 
 -- FUNCTIONS
 

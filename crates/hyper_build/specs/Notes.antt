@@ -4,7 +4,7 @@ use Rattle.ir_forms.specs.FlatCode.{Step, If, Loop, Code, Nop, ◌▹◌}
 use Rattle.ir_forms.specs.FlatFits.{steps_in, steps_of}
 use Rattle.reg_assign.specs.Keeps.{calls_in, calls}
 use Rattle.hyper_build.specs.declared.emitting.Note.{Note}
-use Rattle.hyper_build.specs.Tree.{Plan, annotated_in, annotated}
+use Rattle.hyper_build.specs.Tree.{Plan, goes_on, annotated_in, annotated}
 use Rattle.hyper_build.specs.Straight.{leg_size, size_in, size}
 
 abbrev pub note_of : ℕ → ℕ → ℕ → Note
@@ -28,4 +28,4 @@ abbrev mutual
   notes_of p l i k Nop = []
   notes_of p l i k (x ▹ c) =
       notes_in p l i k x
-      ++ notes_of p (l + size_in (annotated_in p i k x)) (i + steps_in x) (k + calls_in x) c
+      ++ notes_of p (l + size_in (annotated_in p i k (goes_on c) x)) (i + steps_in x) (k + calls_in x) c

@@ -1,5 +1,5 @@
 -- Flat code with annotations: where blocks are cut, and which groups of variables a call saves.
-use Rattle.std.specs.Prelude.{ℕ, ◌+◌, Bool, List, [], ◌∷◌, Option}
+use Rattle.std.specs.Prelude.{ℕ, ◌+◌, Bool, true, false, not, List, [], ◌∷◌, Option}
 use Rattle.std.specs.List.{concat}
 use Rattle.trips_isa.specs.declared.op.Op.{Op}
 use Rattle.ir_forms.specs.declared.flat.Arg.{Arg}
@@ -9,8 +9,9 @@ use Rattle.ir_forms.specs.FlatFits.{steps_in, steps_of}
 use Rattle.reg_assign.specs.Keeps.{calls_in, calls, is_among}
 
 -- Each name is the flat statement's with `At`. `cut` says that the block ends behind the statement;
--- of a loop, that it ends between body and post. `joined` makes an if an item of its block, `small`
--- cuts a call's arguments behind every third.
+-- of a loop, that it ends between body and post; of a break, a continue or a return, that what stands
+-- behind has a block. `joined` makes an if an item of its block, `small` cuts a call's arguments behind
+-- every third.
 mutual
   pub data Stmt : Type 0 where
     LetAt : (cut : Bool) (to : ℕ) (op : Op) (a b : Arg) → Stmt
@@ -23,9 +24,9 @@ mutual
     GetAt : (cut : Bool) (to : ℕ) → Stmt
     IfAt : (cut joined : Bool) (test : Arg) (one other : Tree) → Stmt
     LoopAt : (cut : Bool) (body post : Tree) → Stmt
-    BreakAt : Stmt
-    ContinueAt : Stmt
-    ReturnAt : (value : Option Arg) → Stmt
+    BreakAt : (cut : Bool) → Stmt
+    ContinueAt : (cut : Bool) → Stmt
+    ReturnAt : (cut : Bool) (value : Option Arg) → Stmt
 
   -- statements in order
   pub data Tree : Type 0 where
@@ -51,9 +52,9 @@ abbrev mutual
   plain_in (GetAt c to) = Get to
   plain_in (IfAt c joined t one other) = If t (plain one) (plain other)
   plain_in (LoopAt c body post) = Loop (plain body) (plain post)
-  plain_in BreakAt = Break
-  plain_in ContinueAt = Continue
-  plain_in (ReturnAt v) = Return v
+  plain_in (BreakAt c) = Break
+  plain_in (ContinueAt c) = Continue
+  plain_in (ReturnAt c v) = Return v
 
   pub plain : Tree → Code
   plain End = Nop
@@ -73,6 +74,19 @@ function_of g =
 
 -- ANNOTATING
 
+-- a statement that nothing goes on behind
+abbrev pub leaves : Step → Bool
+leaves Break = true
+leaves Continue = true
+leaves (Return v) = true
+leaves _ = false
+
+-- Whether code does anything before it leaves. Such code has a block of its own behind a statement that
+-- leaves; what leaves at once, or is empty, has none.
+abbrev pub goes_on : Code → Bool
+goes_on Nop = false
+goes_on (s ▹ rest) = not (leaves s)
+
 -- Where a plan cuts, by the number of a statement in the order of the program, and what its calls
 -- save, by the number of a call.
 pub record Plan : Type 0 where
@@ -81,30 +95,31 @@ pub record Plan : Type 0 where
   pub small : ℕ → Bool
   pub groups : ℕ → List (List ℕ)
 
--- Code with a plan's annotations, where i statements and k calls stand before it.
+-- Code with a plan's annotations, where i statements and k calls stand before it. `on` says whether the
+-- code behind a statement goes on.
 abbrev mutual
-  pub annotated_in : Plan → ℕ → ℕ → Step → Stmt
-  annotated_in p i k (Let to op a b) = LetAt (p.cut i) to op a b
-  annotated_in p i k (Frame to at) = FrameAt (p.cut i) to at
-  annotated_in p i k (Load to op a) = LoadAt (p.cut i) to op a
-  annotated_in p i k (Save op a v) = SaveAt (p.cut i) op a v
-  annotated_in p i k (Call f args to kept) = CallAt (p.cut i) (p.small i) f args to (p.groups k)
-  annotated_in p i k (Put v) = PutAt v
-  annotated_in p i k (Get to) = GetAt (p.cut i) to
-  annotated_in p i k (If t one other) =
+  pub annotated_in : Plan → ℕ → ℕ → Bool → Step → Stmt
+  annotated_in p i k on (Let to op a b) = LetAt (p.cut i) to op a b
+  annotated_in p i k on (Frame to at) = FrameAt (p.cut i) to at
+  annotated_in p i k on (Load to op a) = LoadAt (p.cut i) to op a
+  annotated_in p i k on (Save op a v) = SaveAt (p.cut i) op a v
+  annotated_in p i k on (Call f args to kept) = CallAt (p.cut i) (p.small i) f args to (p.groups k)
+  annotated_in p i k on (Put v) = PutAt v
+  annotated_in p i k on (Get to) = GetAt (p.cut i) to
+  annotated_in p i k on (If t one other) =
       IfAt (p.cut i) (p.joined i) t (annotated p (i + 1) k one)
       (annotated p (i + 1 + steps_of one) (k + calls one) other)
-  annotated_in p i k (Loop body post) =
+  annotated_in p i k on (Loop body post) =
       LoopAt (p.cut i) (annotated p (i + 1) k body)
       (annotated p (i + 1 + steps_of body) (k + calls body) post)
-  annotated_in p i k Break = BreakAt
-  annotated_in p i k Continue = ContinueAt
-  annotated_in p i k (Return v) = ReturnAt v
+  annotated_in p i k on Break = BreakAt on
+  annotated_in p i k on Continue = ContinueAt on
+  annotated_in p i k on (Return v) = ReturnAt on v
 
   pub annotated : Plan → ℕ → ℕ → Code → Tree
   annotated p i k Nop = End
   annotated p i k (s ▹ rest) =
-      annotated_in p i k s ▸ annotated p (i + steps_in s) (k + calls_in s) rest
+      annotated_in p i k (goes_on rest) s ▸ annotated p (i + steps_in s) (k + calls_in s) rest
 
 -- A plan's functions, where i statements and functions and k calls stand before them.
 abbrev pub annotated_all : Plan → ℕ → ℕ → List Function → List Routine

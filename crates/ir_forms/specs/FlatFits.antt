@@ -119,16 +119,13 @@ steps_of_all (f ∷ fs) = 1 + steps_of f.body + steps_of_all fs
 
 -- The blocks that code makes where each place ends one: at most 5 to save, 2 for arguments, one to
 -- come back to, 5 to restore, and the rest, of a call; the head, the part behind the body and what
--- follows, of a loop; both legs and what follows, of an if.
+-- follows, of a loop; both legs and what follows, of an if; what follows, of all others.
 abbrev mutual
   pub code_blocks_in : Step → ℕ
   code_blocks_in (Call f args to kept) = 14
   code_blocks_in (Get to) = 2
   code_blocks_in (If a one other) = 3 + (code_blocks one + code_blocks other)
   code_blocks_in (Loop body post) = 3 + (code_blocks body + code_blocks post)
-  code_blocks_in Break = 0
-  code_blocks_in Continue = 0
-  code_blocks_in (Return a) = 0
   code_blocks_in _ = 1
 
   pub code_blocks : Code → ℕ
@@ -164,6 +161,11 @@ abbrev mutual
   pub small_ifs : Code → ℕ
   small_ifs Nop = 0
   small_ifs (s ▹ rest) = small_ifs_in s + small_ifs rest
+
+-- the small ifs of functions
+abbrev pub small_ifs_of_all : List Function → ℕ
+small_ifs_of_all [] = 0
+small_ifs_of_all (f ∷ fs) = small_ifs f.body + small_ifs_of_all fs
 
 -- PROGRAMS
 
