@@ -1,6 +1,6 @@
 -- What a write of a word is to the flags.
-use Rattle.std.proofs.Common.{◌≡◌, ◌≢◌, ◌<◌, ◌≤◌, ◌+◌, ◌-◌, ◌*◌, ◌/◌, ◌%◌, ◌^◌, ◌==◌, ◌&&◌, ℕ, Bool, true, false}
-use Rattle.std.proofs.Common.{List, length, get_or, set, map, nat_lt, replicate, refl, sym, ap, ◌∙◌, arith, inl, inr}
+use Rattle.std.proofs.Common.{◌≡◌, ◌≢◌, ◌<◌, ◌≤◌, ◌+◌, ◌-◌, ◌*◌, ◌/◌, ◌%◌, ◌^◌, ◌==◌, ℕ, Bool, true, false}
+use Rattle.std.proofs.Common.{List, length, get_or, set, map, nat_lt, replicate, sym, ap, ◌∙◌, arith, inl, inr}
 use Rattle.std.specs.List.{range_with_len}
 use mir.Syntax.{w64}
 use Rattle.std.specs.Int.RustNames.{bit_or, bit_and}

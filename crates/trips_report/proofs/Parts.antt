@@ -1,16 +1,15 @@
--- The texts of the items of a list, one after the other, as a loop writes them; and a report of
--- which nothing more is shown.
+-- The texts of the items of a list, one after the other, as a loop writes them; and a text behind
+-- which nothing is shown.
 use Rattle.std.proofs.Common.{◌≡◌, ◌∙◌, ℕ, ◌+◌, ◌<◌, ◌≤◌, List, ◌++◌, length, take, get_or, sym, ap}
 use Rattle.std.proofs.Common.{refl, false}
 use Rattle.std.specs.List.{flat_map}
 use Rattle.std.proofs.lemmas.List.{flat_map_more, take_all, take_more}
 use Rattle.target_asm_spec.specs.Numbers.{numbered}
 use Rattle.trips_isa.specs.declared.run.Counts.{Counts}
-use Rattle.trips_isa.specs.declared.run.Ending.{Ending}
 use Rattle.trips_isa.specs.Machine.{State}
 use Rattle.trips_report.specs.declared.show.Show.{Show}
 use Rattle.trips_report.specs.Lines.{with_part}
-use Rattle.trips_report.specs.Runs.{plain_report, run_report}
+use Rattle.trips_report.specs.Runs.{with_shown}
 
 -- a loop's step: one item more
 pub item_step : {A : Type 0} (f : A → List ℕ) (i : ℕ) (xs : List A) (d : A) (start out new : List ℕ)
@@ -29,8 +28,8 @@ numbered_all f k xs start out few o = o ∙ ap (λ t. start ++ numbered f 0 t) (
 abbrev pub nothing_shown : Show
 nothing_shown = record { regs = false; trace = false; cycles = false }
 
--- a report of which nothing more is shown is the plain one
-pub is_plain : (ending : Ending) (s : State) (counts : Counts) (cost : ℕ)
-    → run_report ending s counts cost nothing_shown ≡ plain_report ending s
+-- where nothing is shown, the text stands alone
+pub shows_nothing : (text : List ℕ) (s : State) (counts : Counts) (cost : ℕ)
+    → with_shown text s counts cost nothing_shown ≡ text
 unfolding with_part
-is_plain ending s counts cost = refl
+shows_nothing text s counts cost = refl

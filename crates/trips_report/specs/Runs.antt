@@ -31,10 +31,12 @@ abbrev pub plain_report : Ending → State → List ℕ
 plain_report ending s =
     output_and s.output (ending_line ending (slice_index s.registers 3) (length s.trace))
 
--- The report of a run, and behind it the registers, the committed blocks and what the run took, as
--- far as they are shown.
-abbrev pub run_report : Ending → State → Counts → ℕ → Show → List ℕ
-run_report ending s counts cost show =
+-- A text, and behind it the registers, the committed blocks and what the run took, as far as they are shown.
+abbrev pub with_shown : List ℕ → State → Counts → ℕ → Show → List ℕ
+with_shown text s counts cost show =
     with_part show.cycles (count_lines counts cost)
-    (with_part show.trace (trace_lines s.trace)
-    (with_part show.regs (register_lines s.registers) (plain_report ending s)))
+    (with_part show.trace (trace_lines s.trace) (with_part show.regs (register_lines s.registers) text))
+
+-- the report of a run, and behind it what is shown
+abbrev pub run_report : Ending → State → Counts → ℕ → Show → List ℕ
+run_report ending s counts cost show = with_shown (plain_report ending s) s counts cost show

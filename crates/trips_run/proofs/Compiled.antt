@@ -9,13 +9,12 @@ use Rattle.trips_isa.specs.declared.run.Ending.{Ending}
 use Rattle.trips_isa.specs.declared.run.Ending.TheVariants as ending
 use Rattle.trips_isa.specs.declared.run.Stepped.{Stepped}
 use Rattle.trips_isa.specs.declared.run.Stepped.TheVariants as stepped
-use Rattle.trips_isa.specs.Machine.{State, start, runs}
+use Rattle.trips_isa.specs.Machine.{State}
 use Rattle.c_tree.specs.declared.typed.TypedProgram.{TypedProgram}
 use Rattle.c_meaning_spec.specs.declared.signal.Ending.TheVariants.{More, Undefined, Deep}
 use Rattle.c_meaning_spec.specs.Eval.{Outcome, Stopped, Done, eval}
 use Rattle.c_front.specs.Fronts.{IsAccepted}
 use Rattle.c_front.proofs.Once.{accepted_once}
-use Rattle.flat_lower.specs.Keeps.{IsInput}
 use Rattle.c_compile_laws.specs.Runs.{run_of, HasEnded, IsFull, Settles, AnswersAs}
 use Rattle.c_compile.specs.Images.{IsImageOf, MeansText}
 use Rattle.c_compile.proofs.Images.{images_mean}
@@ -26,9 +25,9 @@ use Rattle.grid_place.specs.declared.placed.Placing.{Placing}
 use Rattle.trips_run.specs.Read.{HoldsInput}
 use Rattle.trips_report.specs.declared.show.Show.{Show}
 use Rattle.trips_report.specs.Runs.{output_and}
-use Rattle.trips_report.proofs.Parts.{is_plain}
-use Rattle.trips_run.specs.Report.{ending_of, run_report, shown_report, no_counts, nothing_shown}
-use Rattle.trips_run.specs.Answer.{placed, status_of, IsRunBy, IsRunOfText}
+use Rattle.trips_report.proofs.Parts.{shows_nothing}
+use Rattle.trips_run.specs.Report.{ending_of, run_report, shown_report, shown_behind, no_counts, nothing_shown}
+use Rattle.trips_run.specs.Worked.{placed, status_of, IsRunOfText}
 use Rattle.trips_run.specs.Table.{ended_report, full_report}
 use Rattle.trips_run.specs.Evaluated.{SaysOf, HasNotEnded, RunEndsAs}
 use Rattle.trips_run.proofs.Results.{signed_number}
@@ -46,29 +45,33 @@ settled run few most holds s le =
 
 -- REPORTS
 
--- where nothing more is shown, the report is the plain one
+-- where nothing is shown, the report stands alone
+nothing_behind : (report : List ℕ) (s : State) (show : Show) → show ≡ nothing_shown
+    → shown_behind report s show ≡ report
+nothing_behind report s show none =
+    ap (λ (v : Show). shown_behind report s v) none ∙ shows_nothing report s no_counts 0
+
+-- and a run's report is the plain one
 pub plain_told : (r : State × Stepped) (show : Show) (report : List ℕ) → show ≡ nothing_shown
     → report ≡ shown_report (ending_of r.1 r.0.next) r.0 show
     → report ≡ run_report (ending_of r.1 r.0.next) r.0
 plain_told r show report none told =
-    told ∙ ap (λ (v : Show). shown_report (ending_of r.1 r.0.next) r.0 v) none
-    ∙ is_plain (ending_of r.1 r.0.next) r.0 no_counts 0
+    told ∙ nothing_behind (run_report (ending_of r.1 r.0.next) r.0) r.0 show none
 
-ended : (r : State × Stepped) (output : List ℕ) (value : ℤ) (report : List ℕ)
-    → HasEnded output value r → report ≡ run_report (ending_of r.1 r.0.next) r.0
-    → report ≡ ended_report output value
-ended r output value report h told =
+ended : (r : State × Stepped) (output : List ℕ) (value : ℤ) → HasEnded output value r
+    → run_report (ending_of r.1 r.0.next) r.0 ≡ ended_report output value
+ended r output value h =
     let e : ending_of r.1 r.0.next ≡ ending.Ended = ap (λ (a : Stepped). ending_of a r.0.next) h.answer in
     let digits = signed_number (slice_index r.0.registers 3) h.word.below ∙ ap signed_decimal h.is in
-    told ∙ ap (λ (x : Ending). run_report x r.0) e
+    ap (λ (x : Ending). run_report x r.0) e
     ∙ ap (λ (t : List ℕ). output_and r.0.output (codes "result " ++ t)) digits
     ∙ ap (λ (o : List ℕ). output_and o (codes "result " ++ signed_decimal value)) h.output
 
-full : (r : State × Stepped) (output : List ℕ) (report : List ℕ) → IsFull output r
-    → report ≡ run_report (ending_of r.1 r.0.next) r.0 → report ≡ full_report output
-full r output report h told =
+full : (r : State × Stepped) (output : List ℕ) → IsFull output r
+    → run_report (ending_of r.1 r.0.next) r.0 ≡ full_report output
+full r output h =
     let e : ending_of r.1 r.0.next ≡ ending.StackFull = ap (λ (a : Stepped). ending_of a r.0.next) h.answer in
-    told ∙ ap (λ (x : Ending). run_report x r.0) e
+    ap (λ (x : Ending). run_report x r.0) e
     ∙ ap (λ (o : List ℕ). output_and o (codes "stack full")) h.output
 
 module _ (most n : ℕ) (show : Show) (text input : List ℕ) (program : TypedProgram) (s : Status)
@@ -95,14 +98,25 @@ module _ (most n : ℕ) (show : Show) (text input : List ℕ) (program : TypedPr
       run.3.0 ∙ ap (λ (a : Stepped). status_of (ending_of a (run_of run.0 input most).0.next))
       (finished_run output value steps done).answer
 
+  pub finished_shown : (output : List ℕ) (value : ℤ) (steps : ℕ)
+      → eval program input n ≡ Done output value steps
+      → (s ≡ status.Ended) × ((run_of run.0 input most).1 ≡ stepped.Ended)
+      × (report ≡ shown_behind (ended_report output value) (run_of run.0 input most).0 show)
+  finished_shown output value steps done = (
+    finished_status output value steps done,
+    (finished_run output value steps done).answer,
+    run.3.1 ∙ ap (λ (t : List ℕ). shown_behind t (run_of run.0 input most).0 show)
+        (ended (run_of run.0 input most) output value (finished_run output value steps done)),
+  )
+
   pub finished_told : (output : List ℕ) (value : ℤ) (steps : ℕ) → show ≡ nothing_shown
       → eval program input n ≡ Done output value steps
       → (s ≡ status.Ended) × (report ≡ ended_report output value)
-  finished_told output value steps none done = (
-    finished_status output value steps done,
-    ended (run_of run.0 input most) output value report (finished_run output value steps done)
-        (plain_told (run_of run.0 input most) show report none run.3.1),
-  )
+  finished_told output value steps none done =
+      let told = finished_shown output value steps done in (
+        told.0,
+        told.2 ∙ nothing_behind (ended_report output value) (run_of run.0 input most).0 show none,
+      )
 
   -- where its frames are too large within n steps
   deep_run : (output : List ℕ) → eval program input n ≡ Stopped Deep output
@@ -118,14 +132,22 @@ module _ (most n : ℕ) (show : Show) (text input : List ℕ) (program : TypedPr
       run.3.0 ∙ ap (λ (a : Stepped). status_of (ending_of a (run_of run.0 input most).0.next))
       (deep_run output deep).answer
 
+  pub deep_shown : (output : List ℕ) → eval program input n ≡ Stopped Deep output
+      → (s ≡ status.StackFull) × ((run_of run.0 input most).1 ≡ stepped.StackFull)
+      × (report ≡ shown_behind (full_report output) (run_of run.0 input most).0 show)
+  deep_shown output deep = (
+    deep_status output deep,
+    (deep_run output deep).answer,
+    run.3.1 ∙ ap (λ (t : List ℕ). shown_behind t (run_of run.0 input most).0 show)
+        (full (run_of run.0 input most) output (deep_run output deep)),
+  )
+
   pub deep_told : (output : List ℕ) → show ≡ nothing_shown
       → eval program input n ≡ Stopped Deep output
       → (s ≡ status.StackFull) × (report ≡ full_report output)
-  deep_told output none deep = (
-    deep_status output deep,
-    full (run_of run.0 input most) output report (deep_run output deep)
-        (plain_told (run_of run.0 input most) show report none run.3.1),
-  )
+  deep_told output none deep =
+      let told = deep_shown output deep in
+      (told.0, told.2 ∙ nothing_behind (full_report output) (run_of run.0 input most).0 show none)
 
   -- where the budget was spent
   pub spent_told : s ≡ status.Budget → HasNotEnded (eval program input n)

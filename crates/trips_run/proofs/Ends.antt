@@ -1,5 +1,5 @@
 -- How work that was asked for ended, from the row of its request.
-use Rattle.std.proofs.Common.{◌≡◌, ℕ, true, false, List, [], ◌∷◌, Option, None, Some}
+use Rattle.std.proofs.Common.{◌≡◌, ℕ, true, false, List, Option, None, Some}
 use Rattle.std.proofs.Common.{inl, inr, refl, sym, ◌∙◌, ap, subst}
 use Rattle.trips_outside.specs.Outside.{Holds}
 use Rattle.trips_isa.specs.declared.block.Block.{Block}
@@ -19,7 +19,8 @@ use Rattle.trips_run.specs.declared.status.Status.TheVariants as status
 use Rattle.trips_run.specs.Request.{Request, origin_held}
 use Rattle.trips_run.specs.Read.{IsRead, IsInputRead, HoldsInput, limit_of}
 use Rattle.trips_run.specs.Report.{ending_of}
-use Rattle.trips_run.specs.Answer.{status_of, IsRunBy, IsWorked, IsDone, AfterReading}
+use Rattle.trips_run.specs.Worked.{status_of, IsRunBy, IsWorked, IsDone}
+use Rattle.trips_run.specs.Answer.{AfterReading}
 use Rattle.trips_run.specs.Answer.{IsAnswerBehind, IsAnswer}
 use Rattle.trips_run.specs.Table.{EndsAs, EvalEnds}
 use Rattle.trips_run.proofs.Rows.{is_told}

@@ -1,12 +1,10 @@
 -- What a request gets whose file and input are told, where nothing fails.
-use Rattle.std.proofs.Common.{◌≡◌, ℕ, ◌<◌, ◌≤◌, ◌^◌, List, [], ◌∷◌, Option, None, Some, IfSome}
+use Rattle.std.proofs.Common.{◌≡◌, ℕ, ◌<◌, ◌≤◌, List, Option, None, Some, IfSome}
 use Rattle.std.proofs.Common.{IsSomeAnd, All, length, inl, inr, refl, sym, ◌∙◌, ap, subst, arith}
 use Rattle.std.proofs.Common.{get_or, ◌⊎◌}
 use Rattle.std.proofs.lemmas.Option.{slice_get_within, get_or_from_slice_get}
 use Rattle.trips_outside.specs.Outside.{Holds}
 use Rattle.trips_isa.specs.declared.block.Image.{Image}
-use Rattle.trips_isa.specs.declared.run.Stepped.{Stepped}
-use Rattle.trips_isa.specs.Machine.{State}
 use Rattle.c_tree.specs.declared.typed.TypedProgram.{TypedProgram}
 use Rattle.c_front.specs.Fronts.{IsAccepted}
 use Rattle.c_front.proofs.Once.{not_both, accepted_once, refused_once}
@@ -34,12 +32,11 @@ use Rattle.trips_run.specs.declared.status.Status.{Status}
 use Rattle.trips_run.specs.declared.status.Status.TheVariants as status
 use Rattle.trips_run.specs.Request.{Request, origin_held}
 use Rattle.trips_run.specs.Read.{IsRead, IsInputRead, IsInput, limit_of, most_input_bytes}
-use Rattle.trips_run.specs.Report.{ending_of, run_report}
 use Rattle.trips_report.specs.Refusals.{image_text, asm_text, check_text, too_large_text}
 use Rattle.trips_run.specs.Refusal.{front_refusal}
 use Rattle.trips_run.specs.Refused.{IsRefusedByFront, IsNoImage, IsBadImage, IsNoText, IsBadText}
 use Rattle.trips_run.specs.Refused.{IsRefusedAs, IsLarge}
-use Rattle.trips_run.specs.Answer.{IsFixed, IsRunBy, IsEvaluation, IsRunOfText, IsCompiled, IsWorked, IsDone}
+use Rattle.trips_run.specs.Worked.{IsFixed, IsRunBy, IsEvaluation, IsRunOfText, IsCompiled, IsWorked, IsDone}
 use Rattle.trips_run.specs.Answer.{AfterReading, IsAnswerBehind, IsAnswer}
 use Rattle.trips_run.specs.Table.{AsksFor, HasLargeFile, HasLargeInput}
 use Rattle.trips_run.proofs.OneFault.{first_bad_once}

@@ -3,6 +3,7 @@ pub mod Told
 pub mod Rows
 pub mod Ends
 pub mod Causes
+pub mod Reported
 pub mod OneFault
 pub mod Results
 pub mod Compiled

@@ -1,6 +1,6 @@
 -- An image has one first bad block, with one fault.
-use Rattle.std.proofs.Common.{◌≡◌, ℕ, zero, suc, ◌+◌, ◌<◌, ◌≤◌, Bool, true, false, nat_lt, ◌&&◌}
-use Rattle.std.proofs.Common.{List, length, All, Some, slice_get, get_or, ◌⊎◌, inl, inr, refl, sym}
+use Rattle.std.proofs.Common.{◌≡◌, ℕ, ◌+◌, ◌<◌, ◌≤◌, Bool, true, false, nat_lt}
+use Rattle.std.proofs.Common.{List, length, Some, slice_get, get_or, ◌⊎◌, inl, inr, refl, sym}
 use Rattle.std.proofs.Common.{ap, subst, ◌∙◌, arith}
 use Rattle.std.proofs.lemmas.Bool.Decides.{nat_tests}
 use Rattle.std.proofs.lemmas.Option.{slice_get_within, get_or_from_slice_get}
@@ -17,7 +17,7 @@ use Rattle.block_check.specs.declared.fault.CheckFault.TheVariants.{BadTarget, B
 use Rattle.block_check.specs.declared.fault.CheckFault.TheVariants.{TooManyCases, TwoTokens}
 use Rattle.block_check.specs.declared.fault.CheckFault.TheVariants.{NoToken, NoExit, TwoExits}
 use Rattle.block_check.specs.Faults.{HasBadTarget, HasBadNumber, TakesTokens, IsOwed, HasFault}
-use Rattle.block_check.specs.Faults.{spot_order, fault_order, IsLowestFault, IsGood}
+use Rattle.block_check.specs.Faults.{spot_order, fault_order, IsLowestFault}
 use Rattle.block_check.specs.Images.{IsFirstBad}
 
 -- spots -----------------------------------------------------------------------------------------

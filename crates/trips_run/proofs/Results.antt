@@ -1,5 +1,5 @@
 -- A word is written in decimal digits as the number that it stands for.
-use Rattle.std.proofs.Common.{◌≡◌, ℕ, suc, ◌-◌, ◌<◌, ◌≤◌, ◌^◌, Bool, true, false, nat_lt, ℤ, negsuc, refl, sym, ap, ◌∙◌}
+use Rattle.std.proofs.Common.{◌≡◌, ℕ, suc, ◌-◌, ◌<◌, ◌≤◌, ◌^◌, Bool, true, false, nat_lt, negsuc, refl, sym, ap, ◌∙◌}
 use Rattle.std.proofs.Common.{◌∷◌, arith}
 use Rattle.std.specs.Prelude.{cond}
 use Rattle.std.proofs.Math.Facts.{to_z-neg}

@@ -1,5 +1,5 @@
 -- What the row of a request says of each answer.
-use Rattle.std.proofs.Common.{◌≡◌, ℕ, ◌<◌, ◌≤◌, Bool, true, false, List, [], ◌∷◌, Option, None}
+use Rattle.std.proofs.Common.{◌≡◌, ℕ, ◌<◌, ◌≤◌, Bool, true, false, List, Option, None}
 use Rattle.std.proofs.Common.{Some}
 use Rattle.std.proofs.Common.{IfSome, IsSomeAnd, length, ◌⊎◌, inl, inr, refl, sym}
 use Rattle.std.proofs.Common.{◌∙◌, ap, subst, arith}
@@ -23,7 +23,7 @@ use Rattle.trips_run.specs.declared.status.Status.TheVariants as status
 use Rattle.trips_run.specs.Request.{Request, origin_held}
 use Rattle.trips_run.specs.Read.{IsRead, IsInputRead, limit_of, most_input_bytes}
 use Rattle.trips_run.specs.Report.{ending_of}
-use Rattle.trips_run.specs.Answer.{status_of, IsRunBy, eval_status, outcome_of, IsWorked, IsDone}
+use Rattle.trips_run.specs.Worked.{status_of, IsRunBy, eval_status, outcome_of, IsWorked, IsDone}
 use Rattle.trips_run.specs.Answer.{AfterReading, IsAnswerBehind, IsAnswer}
 use Rattle.trips_run.specs.Refused.{IsBad, MayBeLarge, IsLarge, MayBeRefused, IsRefused}
 use Rattle.trips_run.proofs.Exact.{not_worked}

@@ -1,19 +1,15 @@
 -- What the parts of an answer say together.
-use Rattle.std.proofs.Common.{◌≡◌, ◌≢◌, ℕ, zero, suc, ◌<◌, ◌≤◌, ◌^◌, List, [], ◌∷◌, Option}
-use Rattle.std.proofs.Common.{None, Some, Result, Ok, Err, IfOk, All, slice_get}
+use Rattle.std.proofs.Common.{◌≡◌, ◌≢◌, ℕ, ◌<◌, ◌≤◌, List, Option}
+use Rattle.std.proofs.Common.{None, Some, Result, Ok, Err, IfOk, All}
 use Rattle.std.proofs.Common.{◌⊎◌, inl, inr, refl, sym, ◌∙◌, ap, subst, arith}
 use Rattle.trips_isa.specs.declared.block.Block.{Block}
 use Rattle.trips_isa.specs.declared.block.Image.{Image}
 use Rattle.trips_isa.specs.declared.run.Ending.{Ending}
 use Rattle.trips_isa.specs.declared.run.Stepped.{Stepped}
 use Rattle.trips_isa.specs.Machine.{State, runs, start}
-use Rattle.block_image.specs.declared.fault.ImageFault.{ImageFault}
-use Rattle.block_image.specs.declared.fault.ImageFault.TheVariants as image_fault
 use Rattle.block_image.specs.Spelling.{ImageBytes}
-use Rattle.block_image.specs.FirstFault.{FirstFault}
-use Rattle.block_check.specs.declared.fault.CheckFault.{CheckFault}
 use Rattle.block_check.specs.Faults.{IsGood}
-use Rattle.block_check.specs.Images.{IsCheckedImage, IsFirstBad}
+use Rattle.block_check.specs.Images.{IsCheckedImage}
 use Rattle.c_tree.specs.declared.typed.TypedProgram.{TypedProgram}
 use Rattle.c_front.specs.declared.refusal.Refusal.{Refusal}
 use Rattle.c_front.specs.declared.refusal.Refusal.TheVariants as stage
@@ -48,8 +44,8 @@ use Rattle.trips_tools.specs.Tools as tools
 use Rattle.trips_tools.specs.Tools.{IsOneImage, IsGoodImage, Makes}
 use Rattle.trips_run.specs.Made.{IsMade}
 use Rattle.trips_run.specs.Refusal.{front_refusal}
-use Rattle.trips_run.specs.Refused.{IsRefusedByFront, IsRefusedAs, IsNoImage, IsBadImage}
-use Rattle.trips_run.specs.Answer.{status_of, IsFixed, IsRefusalBy, IsRunBy, IsEvaluation, IsDone, placed}
+use Rattle.trips_run.specs.Refused.{IsRefusedByFront, IsNoImage, IsBadImage}
+use Rattle.trips_run.specs.Worked.{status_of, IsRefusalBy, IsRunBy, IsEvaluation, IsDone, placed}
 use Rattle.trips_run.specs.Answer.{AfterReading, IsAnswerBehind, IsAnswer}
 use Rattle.trips_run.specs.Checked.{IsRunOfChecked}
 

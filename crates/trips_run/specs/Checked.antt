@@ -8,7 +8,7 @@ use Rattle.trips_report.specs.declared.show.Show.{Show}
 use Rattle.trips_run.specs.declared.status.Status.{Status}
 use Rattle.trips_run.specs.declared.status.Status.TheVariants as status
 use Rattle.trips_report.specs.Refusals.{check_text}
-use Rattle.trips_run.specs.Answer.{IsFixed, IsRunBy}
+use Rattle.trips_run.specs.Worked.{IsFixed, IsRunBy}
 
 -- the run of an image of good blocks, or the refusal of its first block that is not good
 abbrev pub IsRunOfChecked : Image → ℕ → Show → List ℕ → Status → List ℕ → Type 0

@@ -5,7 +5,7 @@ use Rattle.trips_tools.specs.declared.made.Made.{Made}
 use Rattle.trips_tools.specs.declared.made.Made.TheVariants.{Bytes, Refused}
 use Rattle.trips_run.specs.declared.status.Status.{Status}
 use Rattle.trips_run.specs.declared.status.Status.TheVariants as status
-use Rattle.trips_run.specs.Answer.{IsFixed}
+use Rattle.trips_run.specs.Worked.{IsFixed}
 
 -- the bytes that were made are the report, or the refusal's is
 abbrev pub IsMade : Made → Status → List ℕ → Type 0

@@ -26,6 +26,10 @@ no_counts = record { cycles = 0; fetched = 0; committed = 0; flushed = 0 }
 abbrev pub shown_report : Ending → State → Show → List ℕ
 shown_report ending s show = reports.run_report ending s no_counts 0 show
 
+-- a report, and behind it what is shown of the state at the end of the run
+abbrev pub shown_behind : List ℕ → State → Show → List ℕ
+shown_behind report s show = reports.with_shown report s no_counts 0 show
+
 -- nothing is shown behind the ending
 abbrev pub nothing_shown : Show
 nothing_shown = record { regs = false; trace = false; cycles = false }

@@ -14,7 +14,8 @@ use Rattle.trips_run.specs.Read.{HoldsInput, IsTold, limit_of}
 use Rattle.trips_run.specs.Refused.{IsLarge}
 use Rattle.trips_report.specs.Runs.{output_and}
 use Rattle.trips_run.specs.Report.{nothing_shown}
-use Rattle.trips_run.specs.Answer.{IsWorked, IsAnswer}
+use Rattle.trips_run.specs.Worked.{IsWorked}
+use Rattle.trips_run.specs.Answer.{IsAnswer}
 
 -- Some answer that holds was cut off: the first part of its report was written.
 abbrev pub IsCutOff : Option Request → (List ℕ → Option (List ℕ)) → Type 0

@@ -2,7 +2,7 @@ ghost use Rattle.std.specs.Prelude.{◌≡◌, ◌≢◌, IfOk};
 ghost use Rattle.trips_run.specs.Report.{read_fault_text};
 ghost use Rattle.trips_report.specs.Refusals.{too_large_text, refusal_report};
 ghost use Rattle.trips_run.specs.Refusal.{front_refusal};
-ghost use Rattle.trips_run.specs.Answer.{IsFixed};
+ghost use Rattle.trips_run.specs.Worked.{IsFixed};
 
 use crate::report::refusal_text;
 use crate::status::Status;

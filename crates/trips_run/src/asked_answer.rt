@@ -4,7 +4,8 @@ ghost use Rattle.std.specs.Prelude.{◌≡◌, ◌≤◌, length, Some, IfOk, op
 ghost use Rattle.trips_outside.specs.Outside.{Rose};
 ghost use Rattle.trips_run.specs.Request.{form_of, request_of, request_seen};
 ghost use Rattle.trips_run.specs.Read.{limit_of};
-ghost use Rattle.trips_run.specs.Answer.{AfterReading, IsDone, IsAnswerBehind, IsAnswer};
+ghost use Rattle.trips_run.specs.Worked.{IsDone};
+ghost use Rattle.trips_run.specs.Answer.{AfterReading, IsAnswerBehind, IsAnswer};
 
 use crate::answer::{Answer, fixed, too_large, unread};
 use crate::command_line::{FileForm, asked_by, form_of, shown};

@@ -4,7 +4,7 @@ ghost use Rattle.std.specs.Prelude.{◌≡◌, ◌<◌, length, IfOk};
 ghost use Rattle.trips_report.specs.declared.show.Show.{Show};
 ghost use Rattle.trips_words.specs.declared.commands.Command.TheVariants.{Evaluate};
 ghost use Rattle.trips_run.specs.declared.command_line.FileForm.{FileForm};
-ghost use Rattle.trips_run.specs.Answer.{eval_status, IsEvaluation, IsDone};
+ghost use Rattle.trips_run.specs.Worked.{eval_status, IsEvaluation, IsDone};
 
 use crate::answer::{Answer, stage_refused};
 use crate::report::eval_text;

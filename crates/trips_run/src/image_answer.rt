@@ -4,7 +4,7 @@ ghost use Rattle.std.specs.Prelude.{◌≡◌, IfOk};
 ghost use Rattle.trips_isa.specs.Images.{FitsImage};
 ghost use Rattle.trips_words.specs.declared.commands.Command.TheVariants.{Run};
 ghost use Rattle.trips_run.specs.declared.command_line.FileForm.TheVariants as form;
-ghost use Rattle.trips_run.specs.Answer.{IsDone};
+ghost use Rattle.trips_run.specs.Worked.{IsDone};
 ghost use Rattle.trips_run.specs.Checked.{IsRunOfChecked};
 
 use crate::answer::{Answer, refused};

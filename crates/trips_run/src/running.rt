@@ -3,7 +3,7 @@
 ghost use Rattle.std.specs.Prelude.{◌≡◌, ◌<◌, ◌≤◌, ◌+◌, length, IfOk};
 ghost use Rattle.trips_isa.specs.Machine.{runs};
 ghost use Rattle.trips_run.specs.Report.{ending_of};
-ghost use Rattle.trips_run.specs.Answer.{status_of, IsRunBy};
+ghost use Rattle.trips_run.specs.Worked.{status_of, IsRunBy};
 
 use crate::answer::Answer;
 use crate::report::run_text;

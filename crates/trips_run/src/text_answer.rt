@@ -6,7 +6,7 @@ ghost use Rattle.trips_words.specs.declared.commands.Command.TheVariants.{Run, C
 ghost use Rattle.trips_run.specs.declared.command_line.FileForm.{FileForm};
 ghost use Rattle.trips_run.specs.declared.command_line.FileForm.TheVariants as form;
 ghost use Rattle.flat_lower.specs.Keeps.{IsInput};
-ghost use Rattle.trips_run.specs.Answer.{IsDone};
+ghost use Rattle.trips_run.specs.Worked.{IsDone};
 
 use crate::answer::{Answer, stage_refused};
 use crate::running::run_image;

@@ -4,7 +4,7 @@ ghost use Rattle.std.specs.Prelude.{◌≡◌, ℕ, List, IfOk};
 ghost use Rattle.trips_report.specs.declared.show.Show.{Show};
 ghost use Rattle.trips_words.specs.declared.commands.Command.TheVariants.{Assemble, Disassemble, Check};
 ghost use Rattle.trips_run.specs.declared.command_line.FileForm.{FileForm};
-ghost use Rattle.trips_run.specs.Answer.{IsDone};
+ghost use Rattle.trips_run.specs.Worked.{IsDone};
 ghost use Rattle.trips_run.specs.Made.{IsMade};
 
 use crate::answer::{Answer, refused};

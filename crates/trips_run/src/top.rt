@@ -1,5 +1,6 @@
 ghost use Rattle.std.specs.Prelude.{◌≡◌, ◌≢◌, ◌≤◌, ◌+◌, ◌*◌, ◌∷◌, [], All, List, ℕ, ℤ, None, Some};
 ghost use Rattle.trips_isa.specs.declared.block.Image.{Image};
+ghost use Rattle.trips_isa.specs.declared.run.Stepped.TheVariants as stepped;
 ghost use Rattle.trips_isa.specs.Machine.{runs, start};
 ghost use Rattle.c_tree.specs.declared.typed.TypedProgram.{TypedProgram};
 ghost use Rattle.c_front.specs.Fronts.{IsAccepted};
@@ -21,8 +22,8 @@ ghost use Rattle.trips_run.specs.Request.{Request, request_of};
 ghost use Rattle.trips_report.specs.Evaluations.{eval_report};
 ghost use Rattle.trips_report.specs.Refusals.{too_large_text};
 ghost use Rattle.trips_run.specs.Refused.{IsRefusedAs, MayBeRefused, IsRefused};
-ghost use Rattle.trips_run.specs.Answer.{status_of, eval_status, outcome_of, placed};
-ghost use Rattle.trips_run.specs.Report.{ending_of, run_report, shown_report};
+ghost use Rattle.trips_run.specs.Worked.{status_of, eval_status, outcome_of, placed};
+ghost use Rattle.trips_run.specs.Report.{ending_of, run_report, shown_report, shown_behind};
 ghost use Rattle.trips_run.specs.Table.{IsAnswered, IsCutOff, IsOneOf, ended_report, full_report, Asks, AsksFor};
 ghost use Rattle.trips_run.specs.Table.{HasLargeFile, HasLargeInput, EndsAs, EvalEnds};
 ghost use Rattle.trips_run.specs.Evaluated.{RunEndsAs};
@@ -63,6 +64,31 @@ pub fn trips_run<F: Files, K: Sink>(
         → ¬ Rose (K.faults sink.old) (K.faults sink.new) → result ≢ Status.Memory
         → (result ≡ Status.StackFull)
         × Appended (K.written sink.old) (K.written sink.new) (full_report output) }
+
+    // The same reports where registers or trace are asked for: behind them stand those of the end of the
+    // run of an image of the text.
+    ensures shown_headline { (most n : ℕ) (show : Show) (text input output : List ℕ) (value : ℤ)
+        (steps : ℕ) (program : TypedProgram)
+        → AsksFor (request_of words.now) (F.held files.old) Run form.Source most show text input
+        → IsAccepted text program → eval program input n ≡ Done output value steps
+        → 16 * n + 16 ≤ most
+        → ¬ Rose (F.faults files.old) (F.faults files.new)
+        → ¬ Rose (K.faults sink.old) (K.faults sink.new) → result ≢ Status.Memory
+        → (result ≡ Status.Ended) × (image : Image) × IsImageOf text placed image
+        × let run = runs image.blocks (start image.bytes input) most in
+        (run.1 ≡ stepped.Ended) × Appended (K.written sink.old) (K.written sink.new)
+        (shown_behind (ended_report output value) run.0 show) }
+    ensures shown_deep { (most n : ℕ) (show : Show) (text input output : List ℕ)
+        (program : TypedProgram)
+        → AsksFor (request_of words.now) (F.held files.old) Run form.Source most show text input
+        → IsAccepted text program → eval program input n ≡ Stopped Deep output
+        → 16 * n + 16 ≤ most
+        → ¬ Rose (F.faults files.old) (F.faults files.new)
+        → ¬ Rose (K.faults sink.old) (K.faults sink.new) → result ≢ Status.Memory
+        → (result ≡ Status.StackFull) × (image : Image) × IsImageOf text placed image
+        × let run = runs image.blocks (start image.bytes input) most in
+        (run.1 ≡ stepped.StackFull) × Appended (K.written sink.old) (K.written sink.new)
+        (shown_behind (full_report output) run.0 show) }
 
     // Whatever its evaluation comes to, the run of an image of the text is reported.
     ensures text_run { (most : ℕ) (text input : List ℕ) (program : TypedProgram)

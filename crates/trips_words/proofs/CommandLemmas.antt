@@ -1,8 +1,8 @@
 -- The commands that the code makes, that a parse of each is read as its words say, and the request
 -- that is made of what was found.
-use Rattle.std.proofs.Common.{◌≡◌, refl, sym, ap, ◌∙◌, ℕ, Bool, true, false, List, [], ◌∷◌, Option, None}
+use Rattle.std.proofs.Common.{◌≡◌, refl, sym, ap, ◌∙◌, Bool, true, false, List, [], ◌∷◌, Option, None}
 use Rattle.std.proofs.Common.{Some}
-use Rattle.std.proofs.Common.{codes, map, drop, slice_get, option_map, option_and_then, option_copied}
+use Rattle.std.proofs.Common.{codes, map, drop, slice_get, option_and_then}
 use Rattle.std.specs.Prelude.{String, string_bytes, unwrap_or}
 use Rattle.clap.specs.Matches.{found_of, first_value}
 use Rattle.clap.specs.declared.parser.matches.ArgMatches.{ArgMatches}
@@ -11,10 +11,9 @@ use Rattle.clap.specs.declared.builder.command.Command.{Command as ClapCommand}
 use Rattle.clap.specs.declared.builder.command.Command.TheViews.{out-Command}
 use Rattle.trips_words.specs.declared.commands.Verb.{Verb}
 use Rattle.trips_words.specs.declared.commands.Verb.TheVariants as verb
-use Rattle.trips_words.specs.declared.commands.Asked.{Asked}
 use Rattle.trips_words.specs.Words.{Text, Named, Said, file_name, value_said}
 use Rattle.trips_words.specs.Requests.{run_options, bench_options, eval_options, options_of, counted, is_on, Request}
-use Rattle.trips_words.specs.Requests.{verb_named, request_with, request_of, request_by, request_seen}
+use Rattle.trips_words.specs.Requests.{verb_named, request_with, request_of, request_by}
 use Rattle.trips_words.specs.Requests.{asked}
 use Rattle.trips_words.specs.Read.{IsRead, is_flag, or_off, FindsSaid, Tells}
 

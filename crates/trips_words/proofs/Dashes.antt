@@ -1,7 +1,7 @@
 -- Words with dashes, as the parse takes them.
-use Rattle.std.proofs.Common.{◌≡◌, ◌∙◌, ◌<◌, ◌+◌, refl, sym, ap, ap₂, Bool, cond, true, false, true≢false, ℕ}
-use Rattle.std.proofs.Common.{List, [], ◌∷◌, length, drop, Option, Some, None, codes, arith, eqb-true}
-use Rattle.std.specs.Prelude.{◌==◌, ◌&&◌, option_and_then, slice_get, encode_utf8}
+use Rattle.std.proofs.Common.{◌≡◌, ◌∙◌, refl, sym, ap, ap₂, Bool, cond, true, false, true≢false, ℕ}
+use Rattle.std.proofs.Common.{List, [], ◌∷◌, length, drop, Some, None, codes, arith, eqb-true}
+use Rattle.std.specs.Prelude.{◌==◌, ◌&&◌, option_and_then, slice_get}
 use Rattle.std.specs.Str.{all_scalars, bytes_eq, chars, encode_utf8_all, IsUtf8}
 use Rattle.std.proofs.lemmas.Slice.Eq.{bytes_eq-Decides}
 use Rattle.std.proofs.lemmas.Option.{none-some, cond_some}

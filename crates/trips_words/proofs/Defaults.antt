@@ -1,7 +1,7 @@
 -- The default values that join at the end of a parse: `false` for each flag that is not said.
 use Rattle.std.proofs.Common.{◌≡◌, ◌∙◌, refl, sym, ap, Bool, cond, true, false, true≢false, List, [], ◌∷◌}
-use Rattle.std.proofs.Common.{◌++◌, map, Option, Some, None, option_map, codes}
-use Rattle.std.specs.Prelude.{ℕ, not, ◌&&◌, ◌||◌, find, option_and_then, slice_get}
+use Rattle.std.proofs.Common.{◌++◌, Option, Some, None, codes}
+use Rattle.std.specs.Prelude.{ℕ, not, ◌&&◌, ◌||◌, find}
 use Rattle.std.specs.List.{fold, list_any}
 use Rattle.std.specs.Str.{bytes_eq}
 use Rattle.std.proofs.lemmas.Option.{none-some}
@@ -9,11 +9,11 @@ use Rattle.std.proofs.lemmas.Slice.Eq.{bytes_eq-Decides}
 use Rattle.clap.specs.Walk.{Row, has_row, more_values, with_default, with_values}
 use Rattle.clap.specs.Takes.{is_given}
 use Rattle.clap.specs.Kinds.{Kinds, check_kinds, or_else}
-use Rattle.clap.specs.Faults.{check_fault, default_fault, defaults_fault}
+use Rattle.clap.specs.Faults.{check_fault, defaults_fault}
 use Rattle.clap.specs.declared.builder.value_parser.Reading.TheVariants.{AsWritten}
 use Rattle.clap.specs.declared.parser.matches.ValueSource.TheVariants.{DefaultValue}
 use Rattle.trips_words.specs.Words.{Text, Named, valued, flag, file_name}
-use Rattle.trips_words.specs.Read.{single, rule_for, file_rule, rules_for, shape_for, is_flag}
+use Rattle.trips_words.specs.Read.{single, rule_for, rules_for, shape_for, is_flag}
 use Rattle.trips_words.proofs.Rules.{or_this}
 use Rattle.trips_words.proofs.Rows.{at_end}
 

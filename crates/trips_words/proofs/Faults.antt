@@ -1,5 +1,5 @@
 -- Faults of a parse, one after the other.
-use Rattle.std.proofs.Common.{◌≡◌, ◌∙◌, refl, sym, ap, Bool, cond, true, false, true≢false, List, [], ◌∷◌}
+use Rattle.std.proofs.Common.{◌≡◌, ◌∙◌, refl, sym, ap, Bool, cond, true, false, true≢false, [], ◌∷◌}
 use Rattle.std.specs.Prelude.{◌&&◌}
 use Rattle.clap.specs.Kinds.{Kinds, or_else}
 use Rattle.clap.specs.declared.error.kind.ErrorKind.{ErrorKind}

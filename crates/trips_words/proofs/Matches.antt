@@ -9,7 +9,7 @@ use Rattle.clap.specs.Walk.{Held, Row, first_of, idle, nothing_held, rows_after,
 use Rattle.clap.specs.Walk.{with_default}
 use Rattle.clap.specs.Simple.{App, HasMatchesOf, entered, is_simple, names_of}
 use Rattle.clap.specs.Kinds.{HasKind, Kinds}
-use Rattle.clap.specs.Faults.{built_fault, entered_fault, fault_of, is_free_app, level_fault}
+use Rattle.clap.specs.Faults.{built_fault, entered_fault, fault_of, level_fault}
 use Rattle.clap.specs.Matches.{found_of}
 use Rattle.clap.specs.Values.{kind_of}
 use Rattle.clap.specs.declared.error.Error.{Error}

@@ -1,5 +1,5 @@
 -- What a parse looks up among the arguments of a command that is built.
-use Rattle.std.proofs.Common.{◌≡◌, ◌∙◌, refl, sym, ap, Bool, cond, true, false, ℕ, List, [], ◌∷◌, ◌++◌, map}
+use Rattle.std.proofs.Common.{◌≡◌, ◌∙◌, refl, sym, ap, Bool, cond, true, false, ℕ, List, [], ◌∷◌}
 use Rattle.std.proofs.Common.{Option, Some, None, option_map}
 use Rattle.std.specs.Prelude.{◌==◌, ◌&&◌, ◌||◌, unwrap_or}
 use Rattle.std.specs.Str.{bytes_eq}

@@ -1,9 +1,8 @@
 -- What a parse holds between two words, and what was said.
-use Rattle.std.proofs.Common.{◌≡◌, ◌∙◌, refl, sym, ap, ap₂, Bool, cond, true, false, ℕ, List, [], ◌∷◌, ◌++◌}
+use Rattle.std.proofs.Common.{◌≡◌, ◌∙◌, ap, Bool, true, false, ℕ, List, [], ◌∷◌, ◌++◌}
 use Rattle.std.proofs.Common.{Option, Some, None}
 use Rattle.std.specs.Option.{option_map_or}
-use Rattle.clap.specs.Walk.{Held, Rule, Row, arg_by_id, has_row, settled, settled_rows, used, used_by_id}
-use Rattle.clap.specs.Kinds.{Kinds}
+use Rattle.clap.specs.Walk.{Held, Rule, arg_by_id, has_row, settled, settled_rows, used, used_by_id}
 use Rattle.clap.specs.Faults.{settle_fault, use_fault}
 use Rattle.trips_words.specs.Words.{Text, Named, valued, named, Said, is_said}
 use Rattle.trips_words.specs.Read.{single, rules_for}

@@ -1,22 +1,20 @@
 -- One word of a parse: what it comes to, and its fault.
-use Rattle.std.proofs.Common.{◌≡◌, ◌∙◌, refl, sym, ap, ap₂, subst, Bool, cond, true, false, ℕ, zero, suc}
-use Rattle.std.proofs.Common.{List, [], ◌∷◌, ◌++◌, length, drop, Option, Some, None, option_map, codes}
+use Rattle.std.proofs.Common.{◌≡◌, ◌∙◌, refl, ap, ap₂, subst, Bool, cond, true, false, ℕ}
+use Rattle.std.proofs.Common.{List, [], ◌∷◌, length, drop, Option, Some, None, option_map}
 use Rattle.std.specs.Prelude.{◌==◌, ◌&&◌, ◌||◌, slice_get, encode_utf8}
-use Rattle.std.specs.List.{fold}
 use Rattle.std.specs.Option.{option_map_or}
 use Rattle.std.specs.Str.{bytes_eq, chars, IsUtf8}
-use Rattle.clap.specs.Lexer.{long_of, short_of}
-use Rattle.clap.specs.Walk.{Held, Rule, Row, Step, Waiting, Walk, idle, option, positional, value, trailing}
-use Rattle.clap.specs.Walk.{next}
-use Rattle.clap.specs.Walk.{arg_by_index, arg_by_long, arg_by_short, after_flag, after_step, is_pending}
+use Rattle.clap.specs.Lexer.{long_of}
+use Rattle.clap.specs.Walk.{Held, Rule, Step, Waiting, Walk, idle, option, positional, value, trailing}
+use Rattle.clap.specs.Walk.{after_flag, after_step, is_pending}
 use Rattle.clap.specs.Walk.{long_met, long_or_other}
 use Rattle.clap.specs.Walk.{plain_word, positional_held, pushed, settled, short_or_plain, subcommand_met}
 use Rattle.clap.specs.Walk.{subcommand_or_other, to_positional, walked, word_met}
 use Rattle.clap.specs.Simple.{Shape}
 use Rattle.clap.specs.Kinds.{Kinds, or_else}
-use Rattle.clap.specs.Faults.{bundle_fault, bundle_step_fault, check_fault, defaults_fault, flag_word_fault}
+use Rattle.clap.specs.Faults.{bundle_fault, bundle_step_fault, flag_word_fault}
 use Rattle.clap.specs.Faults.{flags_fault, long_fault, other_fault, positional_fault, settle_fault}
-use Rattle.clap.specs.Faults.{short_fault, step_fault, stray_fault, turn_fault, walk_fault, word_fault}
+use Rattle.clap.specs.Faults.{short_fault, step_fault, stray_fault, turn_fault, word_fault}
 use Rattle.trips_words.specs.Words.{Text, Named, valued, flag, named, file_name, is_dashed, behind_dashes}
 use Rattle.trips_words.specs.Words.{name_in, value_in}
 use Rattle.trips_words.specs.Read.{rule_for, file_rule, rules_for, shape_for}

@@ -1,12 +1,12 @@
 -- The words of a command, read by the parse as they say.
 use Rattle.std.proofs.Common.{◌≡◌, ◌∙◌, refl, sym, ap, ap₂, Bool, cond, true, false, ℕ, List, [], ◌∷◌, ◌++◌}
-use Rattle.std.proofs.Common.{length, Option, Some, None, codes}
+use Rattle.std.proofs.Common.{Option, Some, None, codes}
 use Rattle.std.specs.Prelude.{nat_lt, option_and_then}
 use Rattle.std.specs.List.{fold}
 use Rattle.std.specs.Str.{bytes_eq, IsUtf8}
 use Rattle.std.proofs.lemmas.Slice.Eq.{bytes_eq-Decides}
-use Rattle.clap.specs.Walk.{Held, Rule, Row, Step, Waiting, Walk, idle, option, next, value}
-use Rattle.clap.specs.Walk.{after_step, finished, has_row, most_values, option_word, pending_count}
+use Rattle.clap.specs.Walk.{Held, Rule, Step, Waiting, Walk, idle, option, next, value}
+use Rattle.clap.specs.Walk.{after_step, finished, has_row, option_word, pending_count}
 use Rattle.clap.specs.Walk.{plain_word, pushed, reacted, settled, started, walked, with_values, without}
 use Rattle.clap.specs.Walk.{word_met}
 use Rattle.clap.specs.Simple.{Shape}

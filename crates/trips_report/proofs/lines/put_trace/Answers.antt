@@ -1,4 +1,3 @@
-use Rattle.trips_isa.specs.declared.run.Traced.{Traced}
 use Rattle.trips_report.specs.Lines.{traced_line}
 use Rattle.trips_report.proofs.Parts.{item_step}
 use Rattle.trips_report.proofs.lines.put_trace.Goals as goal

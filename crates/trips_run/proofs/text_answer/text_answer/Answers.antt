@@ -1,6 +1,6 @@
-use Rattle.std.proofs.Common.{arith, subst}
+use Rattle.std.proofs.Common.{subst}
 use Rattle.flat_lower.specs.Keeps.{IsInput}
-use Rattle.trips_run.specs.Answer.{placed}
+use Rattle.trips_run.specs.Worked.{placed}
 use Rattle.trips_run.proofs.Compiled.{has_blocks}
 use Rattle.trips_run.proofs.Told.{compiled_told}
 use Rattle.trips_run.proofs.text_answer.text_answer.Goals as goal

@@ -1,4 +1,4 @@
-use Rattle.trips_run.specs.Answer.{placed}
+use Rattle.trips_run.specs.Worked.{placed}
 use Rattle.trips_run.proofs.Told.{written_told, compile_refused_told}
 use Rattle.trips_run.proofs.text_answer.text_compiled.Goals as goal
 

@@ -1,4 +1,5 @@
 use Rattle.trips_run.proofs.Causes as causes
+use Rattle.trips_run.proofs.Reported as reported
 use Rattle.trips_run.proofs.top.trips_run.Goals as goal
 
 pub returns-in-Ok-write_all-clause-answered : goal.returns-in-Ok-write_all-clause-answered
@@ -8,15 +9,15 @@ returns-in-Ok-write_all-clause-answered g c =
 
 pub returns-in-Ok-write_all-clause-headline : goal.returns-in-Ok-write_all-clause-headline
 returns-in-Ok-write_all-clause-headline g c =
-    causes.headline _ _ _ _ _ _ _ (returns-in-Ok-write_all-clause-answered g c)
+    reported.headline _ _ _ _ _ _ _ (returns-in-Ok-write_all-clause-answered g c)
 
 pub returns-in-Ok-write_all-clause-deep : goal.returns-in-Ok-write_all-clause-deep
 returns-in-Ok-write_all-clause-deep g c =
-    causes.deep _ _ _ _ _ _ _ (returns-in-Ok-write_all-clause-answered g c)
+    reported.deep _ _ _ _ _ _ _ (returns-in-Ok-write_all-clause-answered g c)
 
 pub returns-in-Ok-write_all-clause-text_run : goal.returns-in-Ok-write_all-clause-text_run
 returns-in-Ok-write_all-clause-text_run g c =
-    causes.text_run _ _ _ _ _ _ _ (returns-in-Ok-write_all-clause-answered g c)
+    reported.text_run _ _ _ _ _ _ _ (returns-in-Ok-write_all-clause-answered g c)
 
 pub returns-in-Ok-write_all-clause-text_ends : goal.returns-in-Ok-write_all-clause-text_ends
 returns-in-Ok-write_all-clause-text_ends g c =
@@ -24,7 +25,7 @@ returns-in-Ok-write_all-clause-text_ends g c =
 
 pub returns-in-Ok-write_all-clause-evaluation : goal.returns-in-Ok-write_all-clause-evaluation
 returns-in-Ok-write_all-clause-evaluation g c =
-    causes.evaluation _ _ _ _ _ _ _ (returns-in-Ok-write_all-clause-answered g c)
+    reported.evaluation _ _ _ _ _ _ _ (returns-in-Ok-write_all-clause-answered g c)
 
 pub returns-in-Ok-write_all-clause-usage_only : goal.returns-in-Ok-write_all-clause-usage_only
 returns-in-Ok-write_all-clause-usage_only g c =
@@ -64,47 +65,55 @@ returns-in-Ok-write_all-clause-run_ends g c =
 
 pub returns-in-Ok-write_all-clause-image_run : goal.returns-in-Ok-write_all-clause-image_run
 returns-in-Ok-write_all-clause-image_run g c =
-    causes.image_run _ _ _ _ _ _ _ (returns-in-Ok-write_all-clause-answered g c)
+    reported.image_run _ _ _ _ _ _ _ (returns-in-Ok-write_all-clause-answered g c)
 
 pub returns-in-Ok-write_all-clause-refusal : goal.returns-in-Ok-write_all-clause-refusal
 returns-in-Ok-write_all-clause-refusal g c =
-    causes.refusal _ _ _ _ _ _ _ (returns-in-Ok-write_all-clause-answered g c)
+    reported.refusal _ _ _ _ _ _ _ (returns-in-Ok-write_all-clause-answered g c)
 
 pub returns-in-Ok-write_all-clause-large_file : goal.returns-in-Ok-write_all-clause-large_file
 returns-in-Ok-write_all-clause-large_file g c =
-    causes.too_large_file _ _ _ _ _ _ _ (returns-in-Ok-write_all-clause-answered g c)
+    reported.too_large_file _ _ _ _ _ _ _ (returns-in-Ok-write_all-clause-answered g c)
 
 pub returns-in-Ok-write_all-clause-large_input : goal.returns-in-Ok-write_all-clause-large_input
 returns-in-Ok-write_all-clause-large_input g c =
-    causes.too_large_input _ _ _ _ _ _ _ (returns-in-Ok-write_all-clause-answered g c)
+    reported.too_large_input _ _ _ _ _ _ _ (returns-in-Ok-write_all-clause-answered g c)
 
 pub returns-in-Ok-write_all-clause-shown_text_run : goal.returns-in-Ok-write_all-clause-shown_text_run
 returns-in-Ok-write_all-clause-shown_text_run g c =
-    causes.shown_text_run _ _ _ _ _ _ _ (returns-in-Ok-write_all-clause-answered g c)
+    reported.shown_text_run _ _ _ _ _ _ _ (returns-in-Ok-write_all-clause-answered g c)
+
+pub returns-in-Ok-write_all-clause-shown_headline : goal.returns-in-Ok-write_all-clause-shown_headline
+returns-in-Ok-write_all-clause-shown_headline g c =
+    reported.shown_headline _ _ _ _ _ _ _ (returns-in-Ok-write_all-clause-answered g c)
+
+pub returns-in-Ok-write_all-clause-shown_deep : goal.returns-in-Ok-write_all-clause-shown_deep
+returns-in-Ok-write_all-clause-shown_deep g c =
+    reported.shown_deep _ _ _ _ _ _ _ (returns-in-Ok-write_all-clause-answered g c)
 
 pub returns-in-Ok-write_all-clause-shown_image_run : goal.returns-in-Ok-write_all-clause-shown_image_run
 returns-in-Ok-write_all-clause-shown_image_run g c =
-    causes.shown_image_run _ _ _ _ _ _ _ (returns-in-Ok-write_all-clause-answered g c)
+    reported.shown_image_run _ _ _ _ _ _ _ (returns-in-Ok-write_all-clause-answered g c)
 
 pub returns-in-Ok-write_all-clause-target_run : goal.returns-in-Ok-write_all-clause-target_run
 returns-in-Ok-write_all-clause-target_run g c =
-    causes.target_run _ _ _ _ _ _ _ (returns-in-Ok-write_all-clause-answered g c)
+    reported.target_run _ _ _ _ _ _ _ (returns-in-Ok-write_all-clause-answered g c)
 
 pub returns-in-Ok-write_all-clause-compiled : goal.returns-in-Ok-write_all-clause-compiled
 returns-in-Ok-write_all-clause-compiled g c =
-    causes.compiled _ _ _ _ _ _ _ (returns-in-Ok-write_all-clause-answered g c)
+    reported.compiled _ _ _ _ _ _ _ (returns-in-Ok-write_all-clause-answered g c)
 
 pub returns-in-Ok-write_all-clause-assembled : goal.returns-in-Ok-write_all-clause-assembled
 returns-in-Ok-write_all-clause-assembled g c =
-    causes.assembled _ _ _ _ _ _ _ (returns-in-Ok-write_all-clause-answered g c)
+    reported.assembled _ _ _ _ _ _ _ (returns-in-Ok-write_all-clause-answered g c)
 
 pub returns-in-Ok-write_all-clause-disassembled : goal.returns-in-Ok-write_all-clause-disassembled
 returns-in-Ok-write_all-clause-disassembled g c =
-    causes.disassembled _ _ _ _ _ _ _ (returns-in-Ok-write_all-clause-answered g c)
+    reported.disassembled _ _ _ _ _ _ _ (returns-in-Ok-write_all-clause-answered g c)
 
 pub returns-in-Ok-write_all-clause-checked : goal.returns-in-Ok-write_all-clause-checked
 returns-in-Ok-write_all-clause-checked g c =
-    causes.checked _ _ _ _ _ _ _ (returns-in-Ok-write_all-clause-answered g c)
+    reported.checked _ _ _ _ _ _ _ (returns-in-Ok-write_all-clause-answered g c)
 
 pub returns-in-Ok-write_all-clause-made_ends : goal.returns-in-Ok-write_all-clause-made_ends
 returns-in-Ok-write_all-clause-made_ends g c =

@@ -1,4 +1,4 @@
-use Rattle.std.proofs.Common.{◌≡◌, ◌<◌, ◌≤◌, ◌+◌, ◌*◌, ◌/◌, ◌%◌, ℕ, true, false, length, get_or, set, ap, sym, ◌∙◌, arith}
+use Rattle.std.proofs.Common.{false, length, get_or, ap, sym, ◌∙◌, arith}
 use Rattle.bit_rows.proofs.FlagFacts.{flag_is, past_flag, length_flags}
 use Rattle.bit_rows.proofs.flags.Flags.has.Goals as goal
 

@@ -1,4 +1,4 @@
-use Rattle.std.proofs.Common.{◌≡◌, ◌<◌, ◌≤◌, ◌+◌, ◌*◌, ◌/◌, ◌%◌, ℕ, true, false, length, get_or, set, ap, sym, ◌∙◌, arith}
+use Rattle.std.proofs.Common.{◌≡◌, false, length, set, ap, sym, ◌∙◌, arith}
 use Rattle.std.proofs.lemmas.List.{set_past}
 use Rattle.bit_rows.proofs.FlagFacts.{take_flag, length_flags}
 use Rattle.bit_rows.proofs.flags.Flags.take.Goals as goal

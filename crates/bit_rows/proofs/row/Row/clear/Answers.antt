@@ -1,4 +1,4 @@
-use Rattle.std.proofs.Common.{◌≡◌, ◌<◌, ◌≤◌, ◌+◌, ◌*◌, ℕ, true, false, Some, None, length, get_or, set, ap, sym, ◌∙◌, arith}
+use Rattle.std.proofs.Common.{length, ap, sym, ◌∙◌}
 use Rattle.bit_rows.specs.Rows.{row}
 use Rattle.bit_rows.proofs.FlagFacts.{length_unset}
 use Rattle.bit_rows.proofs.RowFacts.{none_there, none_mapped, length_row}

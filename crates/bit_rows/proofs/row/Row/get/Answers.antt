@@ -1,5 +1,4 @@
-use Rattle.std.proofs.Common.{◌≡◌, ◌<◌, ◌≤◌, ◌+◌, ◌*◌, ℕ, true, false, Some, None, length, get_or, set, ap, sym, ◌∙◌, arith}
-use Rattle.bit_rows.specs.Rows.{row}
+use Rattle.std.proofs.Common.{◌+◌, None, length, get_or, ap, sym, ◌∙◌, arith}
 use Rattle.bit_rows.proofs.RowFacts.{item_there, item_gone, item_past, length_row}
 use Rattle.bit_rows.proofs.row.Row.get.Goals as goal
 use Rattle.bit_rows.proofs.row.Row.get.Goals.{else-has-via-then-has+else-q, else-has-via-else-has}

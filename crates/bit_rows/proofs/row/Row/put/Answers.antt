@@ -1,4 +1,4 @@
-use Rattle.std.proofs.Common.{◌≡◌, ◌<◌, ◌≤◌, ◌+◌, ◌*◌, ℕ, true, false, Some, None, length, get_or, set, ap, sym, ◌∙◌, arith}
+use Rattle.std.proofs.Common.{Some, length, set, ap, sym, ◌∙◌, arith}
 use Rattle.bit_rows.specs.Rows.{row}
 use Rattle.bit_rows.proofs.RowFacts.{put_item, put_past, length_row}
 use Rattle.bit_rows.proofs.row.Row.put.Goals as goal

@@ -1,4 +1,4 @@
-use Rattle.std.proofs.Common.{◌≡◌, ◌<◌, ◌≤◌, ◌+◌, ◌*◌, ℕ, true, false, Some, None, length, get_or, set, ap, sym, ◌∙◌, arith}
+use Rattle.std.proofs.Common.{None, length, set, ap, sym, ◌∙◌}
 use Rattle.bit_rows.specs.Rows.{row}
 use Rattle.bit_rows.proofs.RowFacts.{take_item, length_row}
 use Rattle.bit_rows.proofs.row.Row.take.Goals as goal

@@ -1,5 +1,4 @@
-use Rattle.std.proofs.Common.{◌≡◌, ◌<◌, ◌≤◌, ◌+◌, ◌*◌, ℕ, true, false, Some, None, length, get_or, set, ap, sym, ◌∙◌, arith}
-use Rattle.bit_rows.specs.Rows.{row}
+use Rattle.std.proofs.Common.{◌+◌, ◌*◌, None, get_or, ap, ◌∙◌}
 use Rattle.std.specs.Prelude.{is_some}
 use Rattle.bit_rows.proofs.RowFacts.{flag_some}
 use Rattle.bit_rows.proofs.row.Row.word.Goals as goal
