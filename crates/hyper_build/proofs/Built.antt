@@ -16,7 +16,7 @@ use Rattle.ir_forms.specs.HyperRuns.{Layout, labels_alone, hyper_run}
 use Rattle.ir_forms.specs.HyperWords as words
 use Rattle.reg_assign.specs.Keeps.{calls_in, calls, keeping_in, keeping, keeping_all, with_body}
 use Rattle.reg_assign.specs.Keeps.{KeepsOwnIn, KeepsOwn, tame_and}
-use Rattle.hyper_build.specs.Tree.{Plan, Routine, function_of, plain, annotated_in, annotated}
+use Rattle.hyper_build.specs.Tree.{Plan, Routine, function_of, plain, goes_on, annotated_in, annotated}
 use Rattle.hyper_build.specs.Tree.{annotated_all, is_saved}
 use Rattle.hyper_build.specs.Routines.{built}
 use Rattle.hyper_build.specs.World.{World, AreBytes, IsFaithful, checks_of}
@@ -59,16 +59,16 @@ module _ (W : World) (fs : List Function) (p : Plan) (few : (k : ℕ) → length
   keep k = is_saved (p.groups k)
 
   mutual
-    stmt_fits : (i k : ℕ) (inside : Bool) (s : Step) → FitsStep fs g.scalars g.arrays inside s
+    stmt_fits : (i k : ℕ) (inside on : Bool) (s : Step) → FitsStep fs g.scalars g.arrays inside s
         → KeepsOwnIn g.scalars (keeping_in (λ k. is_saved (p.groups k)) k s)
-        → FitsStmt W g inside (annotated_in p i k s)
-    stmt_fits i k inside (Let to op a b) t own =
+        → FitsStmt W g inside (annotated_in p i k on s)
+    stmt_fits i k inside on (Let to op a b) t own =
         (t.0, t.1, t.2, t.3, word_arg g.scalars a t.2, word_arg g.scalars b t.3)
-    stmt_fits i k inside (Frame to at) t own = t
-    stmt_fits i k inside (Load to op a) t own = (t.0, t.1, t.2, word_arg g.scalars a t.2)
-    stmt_fits i k inside (Save op a v) t own =
+    stmt_fits i k inside on (Frame to at) t own = t
+    stmt_fits i k inside on (Load to op a) t own = (t.0, t.1, t.2, word_arg g.scalars a t.2)
+    stmt_fits i k inside on (Save op a v) t own =
         (t.0, t.1, t.2, word_arg g.scalars a t.1, word_arg g.scalars v t.2)
-    stmt_fits i k inside (Call f xs to kept) t own =
+    stmt_fits i k inside on (Call f xs to kept) t own =
         let r = known f t.0.function t.0.found in
         record {
           routine = r.routine;
@@ -80,28 +80,28 @@ module _ (W : World) (fs : List Function) (p : Plan) (few : (k : ℕ) → length
           saved = own;
           few = few k;
         }
-    stmt_fits i k inside (Put a) t own = (t, word_arg g.scalars a t)
-    stmt_fits i k inside (Get to) t own = t
-    stmt_fits i k inside (If a one other) t own = (
+    stmt_fits i k inside on (Put a) t own = (t, word_arg g.scalars a t)
+    stmt_fits i k inside on (Get to) t own = t
+    stmt_fits i k inside on (If a one other) t own = (
       t.0,
       word_arg g.scalars a t.0,
       tree_fits (i + 1) k inside one t.1 own.0,
       tree_fits (i + 1 + steps_of one) (k + calls one) inside other t.2 own.1,
     )
-    stmt_fits i k inside (Loop body post) t own = (
+    stmt_fits i k inside on (Loop body post) t own = (
       tree_fits (i + 1) k true body t.0 own.0,
       tree_fits (i + 1 + steps_of body) (k + calls body) false post t.1 own.1,
     )
-    stmt_fits i k inside Break t own = t
-    stmt_fits i k inside Continue t own = t
-    stmt_fits i k inside (Return a) t own = (t, word_return g.scalars a t)
+    stmt_fits i k inside on Break t own = t
+    stmt_fits i k inside on Continue t own = t
+    stmt_fits i k inside on (Return a) t own = (t, word_return g.scalars a t)
 
     pub tree_fits : (i k : ℕ) (inside : Bool) (c : Code) → FitsCode fs g.scalars g.arrays inside c
         → KeepsOwn g.scalars (keeping (λ k. is_saved (p.groups k)) k c)
         → FitsTree W g inside (annotated p i k c)
     tree_fits i k inside Nop t own = tt
     tree_fits i k inside (s ▹ c) t own = (
-      stmt_fits i k inside s t.0 own.0,
+      stmt_fits i k inside (goes_on c) s t.0 own.0,
       tree_fits (i + steps_in s) (k + calls_in s) inside c t.1 own.1,
     )
 
@@ -260,38 +260,38 @@ module _ (fs : List Function)
     (each : (f : ℕ) (h : Function) → slice_get fs f ≡ Some h → h.params ≤ 8) (n bytes : ℕ) (p : Plan)
     (cuts : CutsAll p) where
   mutual
-    cut_stmt : (i k : ℕ) (inside : Bool) (s : Step) → FitsStep fs n bytes inside s
-        → IsCutStmt (annotated_in p i k s)
-    cut_stmt i k inside (Let to op a b) t = cuts.cut i
-    cut_stmt i k inside (Frame to at) t = cuts.cut i
-    cut_stmt i k inside (Load to op a) t = cuts.cut i
-    cut_stmt i k inside (Save op a v) t = cuts.cut i
-    cut_stmt i k inside (Call f xs to kept) t =
+    cut_stmt : (i k : ℕ) (inside on : Bool) (s : Step) → FitsStep fs n bytes inside s
+        → IsCutStmt (annotated_in p i k on s)
+    cut_stmt i k inside on (Let to op a b) t = cuts.cut i
+    cut_stmt i k inside on (Frame to at) t = cuts.cut i
+    cut_stmt i k inside on (Load to op a) t = cuts.cut i
+    cut_stmt i k inside on (Save op a v) t = cuts.cut i
+    cut_stmt i k inside on (Call f xs to kept) t =
         let arity = t.0.arity in
         let params = each f t.0.function t.0.found in
         (cuts.cut i, cuts.small i, cuts.groups k, omega (arith, arity, params))
-    cut_stmt i k inside (Put v) t = tt
-    cut_stmt i k inside (Get to) t = cuts.cut i
-    cut_stmt i k inside (If a one other) t = (
+    cut_stmt i k inside on (Put v) t = tt
+    cut_stmt i k inside on (Get to) t = cuts.cut i
+    cut_stmt i k inside on (If a one other) t = (
       cuts.cut i,
       cuts.joined i,
       cut_tree (i + 1) k inside one t.1,
       cut_tree (i + 1 + steps_of one) (k + calls one) inside other t.2,
     )
-    cut_stmt i k inside (Loop body post) t = (
+    cut_stmt i k inside on (Loop body post) t = (
       cuts.cut i,
       cut_tree (i + 1) k true body t.0,
       cut_tree (i + 1 + steps_of body) (k + calls body) false post t.1,
     )
-    cut_stmt i k inside Break t = tt
-    cut_stmt i k inside Continue t = tt
-    cut_stmt i k inside (Return v) t = tt
+    cut_stmt i k inside on Break t = tt
+    cut_stmt i k inside on Continue t = tt
+    cut_stmt i k inside on (Return v) t = tt
 
     cut_tree : (i k : ℕ) (inside : Bool) (c : Code) → FitsCode fs n bytes inside c
         → IsCutTree (annotated p i k c)
     cut_tree i k inside Nop t = tt
     cut_tree i k inside (s ▹ c) t =
-        (cut_stmt i k inside s t.0, cut_tree (i + steps_in s) (k + calls_in s) inside c t.1)
+        (cut_stmt i k inside (goes_on c) s t.0, cut_tree (i + steps_in s) (k + calls_in s) inside c t.1)
 
 cut_routines : (all : List Function)
     → ((f : ℕ) (h : Function) → slice_get all f ≡ Some h → h.params ≤ 8) → (p : Plan) → CutsAll p

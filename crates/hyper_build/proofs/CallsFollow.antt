@@ -84,9 +84,9 @@ module _ (W : World) (built : IsBuilt W) (call : Calls) (follows : CallsFollow W
     stmt_does (IfAt c joined a one other) = if_does c joined a one other (tree_does one) (tree_does other)
     stmt_does (LoopAt c body post) = loop_does W built words call start g fr c body post (tree_does body)
         (tree_does post)
-    stmt_does BreakAt = break_does W built words call start g fr
-    stmt_does ContinueAt = continue_does W built words call start g fr
-    stmt_does (ReturnAt a) = return_does W built words call start g fr a
+    stmt_does (BreakAt c) = break_does W built words call start g fr c
+    stmt_does (ContinueAt c) = continue_does W built words call start g fr c
+    stmt_does (ReturnAt c a) = return_does W built words call start g fr c a
 
     pub tree_does : (c : Tree) → TreeDoes W call start g c
     tree_does End inside p fits is l k has = end_does k p

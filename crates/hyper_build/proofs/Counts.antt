@@ -9,7 +9,7 @@ use Rattle.ir_forms.specs.FlatFits.{code_blocks_in, code_blocks, code_blocks_of_
 use Rattle.reg_assign.specs.Keeps.{calls_in, calls}
 use Rattle.hyper_build.specs.Tree.{Plan, Routine, Tree, Stmt, End, ◌▸◌, LetAt, FrameAt, LoadAt, SaveAt}
 use Rattle.hyper_build.specs.Tree.{CallAt, PutAt, GetAt, IfAt, LoopAt, BreakAt, ContinueAt, ReturnAt}
-use Rattle.hyper_build.specs.Tree.{annotated_in, annotated, annotated_all}
+use Rattle.hyper_build.specs.Tree.{goes_on, annotated_in, annotated, annotated_all}
 use Rattle.hyper_build.specs.Parts.{cut_size, moved_size}
 use Rattle.hyper_build.specs.Passing.{argument_moves, argument_cuts, parameter_moves, parameter_cuts}
 use Rattle.hyper_build.specs.Straight.{is_item, leg_size, arguments_size, size_in, size}
@@ -59,10 +59,10 @@ parameters_few true (suc (suc (suc (suc (suc (suc (suc (suc (suc n))))))))) le =
 
 leg_most : (c : Tree) (n : ℕ) → leg_size c n ≤ 1 + n
 leg_most End n = omega arith
-leg_most (BreakAt ▸ End) n = omega arith
-leg_most (ContinueAt ▸ End) n = omega arith
-leg_most (BreakAt ▸ (s ▸ rest)) n = omega arith
-leg_most (ContinueAt ▸ (s ▸ rest)) n = omega arith
+leg_most (BreakAt c ▸ End) n = omega arith
+leg_most (ContinueAt c ▸ End) n = omega arith
+leg_most (BreakAt c ▸ (s ▸ rest)) n = omega arith
+leg_most (ContinueAt c ▸ (s ▸ rest)) n = omega arith
 leg_most (LetAt c to op a b ▸ rest) n = omega arith
 leg_most (FrameAt c to at ▸ rest) n = omega arith
 leg_most (LoadAt c to op a ▸ rest) n = omega arith
@@ -72,7 +72,7 @@ leg_most (PutAt v ▸ rest) n = omega arith
 leg_most (GetAt c to ▸ rest) n = omega arith
 leg_most (IfAt c joined t one other ▸ rest) n = omega arith
 leg_most (LoopAt c body post ▸ rest) n = omega arith
-leg_most (ReturnAt v ▸ rest) n = omega arith
+leg_most (ReturnAt c v ▸ rest) n = omega arith
 
 either_most : (b : Bool) (x y z : ℕ) → x ≤ z → y ≤ z → cond b x y ≤ z
 either_most true x y z a b = a
@@ -81,22 +81,22 @@ either_most false x y z a b = b
 module _ (fs : List Function) (each : (f : ℕ) (h : Function) → slice_get fs f ≡ Some h → h.params ≤ 8)
     (p : Plan) (few : (k : ℕ) → length (p.groups k) ≤ 5) (n bytes : ℕ) where
   mutual
-    stmt_few : (i k : ℕ) (inside : Bool) (s : Step) → FitsStep fs n bytes inside s
-        → size_in (annotated_in p i k s) ≤ code_blocks_in s
-    stmt_few i k inside (Let to op a b) t = cut_most (p.cut i)
-    stmt_few i k inside (Frame to at) t = cut_most (p.cut i)
-    stmt_few i k inside (Load to op a) t = cut_most (p.cut i)
-    stmt_few i k inside (Save op a v) t = cut_most (p.cut i)
-    stmt_few i k inside (Call f xs to kept) t =
+    stmt_few : (i k : ℕ) (inside on : Bool) (s : Step) → FitsStep fs n bytes inside s
+        → size_in (annotated_in p i k on s) ≤ code_blocks_in s
+    stmt_few i k inside on (Let to op a b) t = cut_most (p.cut i)
+    stmt_few i k inside on (Frame to at) t = cut_most (p.cut i)
+    stmt_few i k inside on (Load to op a) t = cut_most (p.cut i)
+    stmt_few i k inside on (Save op a v) t = cut_most (p.cut i)
+    stmt_few i k inside on (Call f xs to kept) t =
         let c = cut_most (p.cut i) in
         let g = few k in
         let arity = t.0.arity in
         let params = each f t.0.function t.0.found in
         let a = arguments_few (p.small i) xs (omega (arith, arity, params)) in
         omega (arith, c, g, a)
-    stmt_few i k inside (Put v) t = omega arith
-    stmt_few i k inside (Get to) t = let c = cut_most (p.cut i) in omega (arith, c)
-    stmt_few i k inside (If a one other) t =
+    stmt_few i k inside on (Put v) t = omega arith
+    stmt_few i k inside on (Get to) t = let c = cut_most (p.cut i) in omega (arith, c)
+    stmt_few i k inside on (If a one other) t =
         let x = annotated p (i + 1) k one in
         let y = annotated p (i + 1 + steps_of one) (k + calls one) other in
         let hx = code_few (i + 1) k inside one t.1 in
@@ -107,19 +107,19 @@ module _ (fs : List Function) (each : (f : ℕ) (h : Function) → slice_get fs 
         either_most (is_item (p.joined i) x y) (cut_size (p.cut i))
         (leg_size x (size x) + (leg_size y (size y) + 1))
         (3 + (code_blocks one + code_blocks other)) (omega (arith, c)) (omega (arith, hx, hy, lx, ly))
-    stmt_few i k inside (Loop body post) t =
+    stmt_few i k inside on (Loop body post) t =
         let hx = code_few (i + 1) k true body t.0 in
         let hy = code_few (i + 1 + steps_of body) (k + calls body) false post t.1 in
         omega (arith, hx, hy)
-    stmt_few i k inside Break t = omega arith
-    stmt_few i k inside Continue t = omega arith
-    stmt_few i k inside (Return v) t = omega arith
+    stmt_few i k inside on Break t = cut_most on
+    stmt_few i k inside on Continue t = cut_most on
+    stmt_few i k inside on (Return v) t = cut_most on
 
     pub code_few : (i k : ℕ) (inside : Bool) (c : Code) → FitsCode fs n bytes inside c
         → size (annotated p i k c) ≤ code_blocks c
     code_few i k inside Nop t = omega arith
     code_few i k inside (s ▹ c) t =
-        let hs = stmt_few i k inside s t.0 in
+        let hs = stmt_few i k inside (goes_on c) s t.0 in
         let hc = code_few (i + steps_in s) (k + calls_in s) inside c t.1 in
         omega (arith, hs, hc)
 

@@ -14,13 +14,13 @@ use Rattle.ir_forms.specs.HyperCode as hyper
 use Rattle.ir_forms.specs.HyperRuns.{jump}
 use Rattle.reg_assign.specs.Keeps.{calls_in, calls}
 use Rattle.hyper_build.specs.declared.emitting.Note.{Note}
-use Rattle.hyper_build.specs.Tree.{Tree, annotated_in, annotated, LoopAt}
+use Rattle.hyper_build.specs.Tree.{Tree, goes_on, annotated_in, annotated, LoopAt}
 use Rattle.hyper_build.specs.Parts.{source, capped, set_then, load_then, save_then, cut, cut_blocks, cut_size}
 use Rattle.hyper_build.specs.Straight.{Place, items_in, items_of, leg_blocks}
 use Rattle.hyper_build.specs.Straight.{leg_size, size_in, size, exit_leg, label_or}
 use Rattle.hyper_build.specs.Build.{give, body_end, choose, entry_in, entry, blocks_in, blocks}
 use Rattle.hyper_build.specs.Ground.{Ground, plan, place, left, entry_at}
-use Rattle.hyper_build.specs.Backward.{Emission, with_rest, put_out, fall, before, setting}
+use Rattle.hyper_build.specs.Backward.{Emission, with_rest, put_out, cut_at, fall, before, setting}
 use Rattle.hyper_build.specs.Backward.{last_note, without_note, front_notes}
 use Rattle.hyper_build.specs.BackwardStatements.{put_byte, get_byte, leaving}
 use Rattle.hyper_build.specs.BackwardItems.{is_if_item, items_before, if_then, straight_items_in}
@@ -30,34 +30,34 @@ use Rattle.hyper_build.specs.Notes.{note_of, notes_in, notes_of}
 use Rattle.hyper_build.specs.Reached.{Reached, IsReached}
 use Rattle.hyper_build.proofs.ItemLegs.{straight_code, item_is, if_size, item_calls, item_notes}
 use Rattle.hyper_build.proofs.Reaching.{joined, mapped, restated, one_less, before_reached, before_by_reached}
-use Rattle.hyper_build.proofs.Reaching.{call_reached}
+use Rattle.hyper_build.proofs.Reaching.{cut_reached, call_reached}
 use Rattle.hyper_build.proofs.ReachingLegs.{LegAt, leg_reached}
 use Rattle.hyper_build.proofs.LastNotes.{last_behind, front_before}
 
 -- ITEMS
 
 mutual
-  items_step : (g : Ground) (p : Place) (i k : ℕ) (x : Step) (r : Items)
-      → items_in p (annotated_in (plan g) i k x) r ≡ straight_items_in p.arrays x r
-  items_step g p i k (Let to op x y) r = refl
-  items_step g p i k (Frame to at) r = refl
-  items_step g p i k (Load to op x) r = refl
-  items_step g p i k (Save op x y) r = refl
-  items_step g p i k (Call f xs to kept) r = refl
-  items_step g p i k (Put x) r = refl
-  items_step g p i k (Get to) r = refl
-  items_step g p i k (If x a b) r = ap₂ (λ y z. hyper.If (source x) y z r)
+  items_step : (g : Ground) (p : Place) (i k : ℕ) (on : Bool) (x : Step) (r : Items)
+      → items_in p (annotated_in (plan g) i k on x) r ≡ straight_items_in p.arrays x r
+  items_step g p i k on (Let to op x y) r = refl
+  items_step g p i k on (Frame to at) r = refl
+  items_step g p i k on (Load to op x) r = refl
+  items_step g p i k on (Save op x y) r = refl
+  items_step g p i k on (Call f xs to kept) r = refl
+  items_step g p i k on (Put x) r = refl
+  items_step g p i k on (Get to) r = refl
+  items_step g p i k on (If x a b) r = ap₂ (λ y z. hyper.If (source x) y z r)
       (items_code g p (i + 1) k a Done) (items_code g p (i + 1 + steps_of a) (k + calls a) b Done)
-  items_step g p i k (Loop a b) r = refl
-  items_step g p i k Break r = refl
-  items_step g p i k Continue r = refl
-  items_step g p i k (Return x) r = refl
+  items_step g p i k on (Loop a b) r = refl
+  items_step g p i k on Break r = refl
+  items_step g p i k on Continue r = refl
+  items_step g p i k on (Return x) r = refl
 
   items_code : (g : Ground) (p : Place) (i k : ℕ) (c : Code) (r : Items)
       → items_of p (annotated (plan g) i k c) r ≡ straight_items p.arrays c r
   items_code g p i k Nop r = refl
   items_code g p i k (x ▹ c) r =
-      items_step g p i k x (items_of p (annotated (plan g) (i + steps_in x) (k + calls_in x) c) r)
+      items_step g p i k (goes_on c) x (items_of p (annotated (plan g) (i + steps_in x) (k + calls_in x) c) r)
       ∙ ap (straight_items_in p.arrays x) (items_code g p (i + steps_in x) (k + calls_in x) c r)
 
 end_is : (g : Ground) (p : Place) (c : Bool) (i k : ℕ) (post : Code) (l head : ℕ)
@@ -182,10 +182,10 @@ if_place : (i n : ℕ) (s : Emission) → s.place ≡ i + n → s.place - n ≡ 
 if_place i n s e = omega (arith, e)
 
 -- what emission does at an if that stands behind i statements
-if_emits : (g : Ground) (b a i : ℕ) (x : Arg) (one other : Code) (s : Emission) (z : Bool)
+if_emits : (g : Ground) (b a i : ℕ) (on : Bool) (x : Arg) (one other : Code) (s : Emission) (z : Bool)
     → s.place ≡ i + steps_in (If x one other) → is_if_item ((plan g).joined i) one other ≡ z
-    → emit_in g b a (If x one other) s ≡ if_out z g b a x one other s
-if_emits g b a i x one other s z ei e =
+    → emit_in g b a on (If x one other) s ≡ if_out z g b a x one other s
+if_emits g b a i on x one other s z ei e =
     ap (λ m. if_out (is_if_item ((plan g).joined m) one other) g b a x one other s)
     (if_place i (steps_in (If x one other)) s ei)
     ∙ ap (λ y. if_out y g b a x one other s) e
@@ -236,22 +236,22 @@ either_reached : (g : Ground) (b a : ℕ) (x : Arg) (one other : Code) (z : Bool
 either_reached g b a x one other true f1 f2 = item_reached g b a x one other
 either_reached g b a x one other false f1 f2 = test_reached g b a x one other f1 f2
 
-all_reached : (g : Ground) (b a : ℕ) (x : Arg) (one other : Code) (s : Emission) (l i k : ℕ) (N : List Note)
+all_reached : (g : Ground) (b a : ℕ) (on : Bool) (x : Arg) (one other : Code) (s : Emission) (l i k : ℕ) (N : List Note)
     → IsReached g b a one → IsReached g b a other
-    → s.label ≡ l + size_in (annotated_in (plan g) i k (If x one other))
+    → s.label ≡ l + size_in (annotated_in (plan g) i k on (If x one other))
     → s.place ≡ i + steps_in (If x one other) → s.calls ≡ k + calls_in (If x one other)
     → s.notes ≡ N ++ notes_in (plan g) l i k (If x one other)
-    → Reached s.out (emit_in g b a (If x one other) s) l i k N
-    (blocks_in (place g b a) (annotated_in (plan g) i k (If x one other)) l s.rest)
-    (entry_in (place g b a) (annotated_in (plan g) i k (If x one other)) l s.rest)
-all_reached g b a x one other s l i k N f1 f2 el ei ek en =
+    → Reached s.out (emit_in g b a on (If x one other) s) l i k N
+    (blocks_in (place g b a) (annotated_in (plan g) i k on (If x one other)) l s.rest)
+    (entry_in (place g b a) (annotated_in (plan g) i k on (If x one other)) l s.rest)
+all_reached g b a on x one other s l i k N f1 f2 el ei ek en =
     let p = place g b a in
     let A = annotated (plan g) (i + 1) k one in
     let C = annotated (plan g) (i + 1 + steps_of one) (k + calls one) other in
     let c = (plan g).cut i in
     let z = is_if_item ((plan g).joined i) one other in
     let e = item_is (plan g) i k ((plan g).joined i) one other in
-    restated (if_emits g b a i x one other s z ei refl)
+    restated (if_emits g b a i on x one other s z ei refl)
     (ap (λ y. if_blocks y p c A C l s.rest) e) (ap (λ y. if_rest y p c x A C l s.rest) e)
     (either_reached g b a x one other z f1 f2 s l i k N refl
     (el ∙ ap (λ y. l + if_size y c A C) e) ei ek en)
@@ -339,35 +339,44 @@ loop_reached g b a body post note l i k N behind top o f1 f2 el ei ek eo ex en =
 
 -- ALL CODE
 
--- nothing is put out, and a statement less stands before
-passed : (s : Emission) (l i k : ℕ) (N : List Note) (r : Block) → s.label ≡ l → s.place - 1 ≡ i
-    → s.calls ≡ k → s.notes ≡ N → Reached s.out (leaving r s) l i k N [] r
-passed s l i k N r el ei ek en =
-    record { label = el; place = ei; calls = ek; notes = en; out = refl; rest = refl }
+-- what goes on behind is put out, and a statement less stands before
+passed : (on : Bool) (s : Emission) (l i k : ℕ) (N : List Note) (r : Block) → s.label ≡ l + cut_size on
+    → s.place ≡ i + 1 → s.calls ≡ k → s.notes ≡ N
+    → Reached s.out (leaving r (cut_at on s)) l i k N (cut_blocks on s.rest) r
+passed on s l i k N r el ei ek en =
+    let q = cut_reached on s l (i + 1) k N el ei ek en in
+    record {
+      label = q.label;
+      place = one_less (cut_at on s).place i q.place;
+      calls = q.calls;
+      notes = q.notes;
+      out = q.out;
+      rest = refl;
+    }
 
 mutual
-  pub step_reached : (g : Ground) (b a : ℕ) (x : Step) (s : Emission) (l i k : ℕ)
-      (N : List Note) → s.label ≡ l + size_in (annotated_in (plan g) i k x) → s.place ≡ i + steps_in x
+  pub step_reached : (g : Ground) (b a : ℕ) (on : Bool) (x : Step) (s : Emission) (l i k : ℕ)
+      (N : List Note) → s.label ≡ l + size_in (annotated_in (plan g) i k on x) → s.place ≡ i + steps_in x
       → s.calls ≡ k + calls_in x → s.notes ≡ N ++ notes_in (plan g) l i k x
-      → Reached s.out (emit_in g b a x s) l i k N
-      (blocks_in (place g b a) (annotated_in (plan g) i k x) l s.rest)
-      (entry_in (place g b a) (annotated_in (plan g) i k x) l s.rest)
-  step_reached g b a (Let to op x y) s l i k N el ei ek en =
+      → Reached s.out (emit_in g b a on x s) l i k N
+      (blocks_in (place g b a) (annotated_in (plan g) i k on x) l s.rest)
+      (entry_in (place g b a) (annotated_in (plan g) i k on x) l s.rest)
+  step_reached g b a on (Let to op x y) s l i k N el ei ek en =
       mapped (set_then (register_of to) op (source x) (source y))
       (before_reached (plan g) s l i k N el ei (omega (arith, ek)) (en ∙ append-nil N))
-  step_reached g b a (Frame to at) s l i k N el ei ek en =
+  step_reached g b a on (Frame to at) s l i k N el ei ek en =
       mapped (set_then (register_of to) Sub (Reg 1) (Const (capped (g.arrays - at))))
       (before_reached (plan g) s l i k N el ei (omega (arith, ek)) (en ∙ append-nil N))
-  step_reached g b a (Load to op x) s l i k N el ei ek en =
+  step_reached g b a on (Load to op x) s l i k N el ei ek en =
       mapped (load_then (register_of to) op (source x))
       (before_reached (plan g) s l i k N el ei (omega (arith, ek)) (en ∙ append-nil N))
-  step_reached g b a (Save op x y) s l i k N el ei ek en =
+  step_reached g b a on (Save op x y) s l i k N el ei ek en =
       mapped (save_then op (source x) (source y))
       (before_reached (plan g) s l i k N el ei (omega (arith, ek)) (en ∙ append-nil N))
-  step_reached g b a (Call f args to kept) s l i k N el ei ek en =
+  step_reached g b a on (Call f args to kept) s l i k N el ei ek en =
       call_reached (plan g) g.frame (entry_at g.entries f) args to s l i k N el ei ek
       (en ∙ append-nil N)
-  step_reached g b a (Put v) s l i k N el ei ek en =
+  step_reached g b a on (Put v) s l i k N el ei ek en =
       let e = one_less s.label l el in
       record {
         label = e;
@@ -377,7 +386,7 @@ mutual
         out = refl;
         rest = ap (put_byte v) e;
       }
-  step_reached g b a (Get to) s l i k N el ei ek en =
+  step_reached g b a on (Get to) s l i k N el ei ek en =
       let r = before_reached (plan g) s (l + 1) i k N (omega (arith, el)) ei (omega (arith, ek))
       (en ∙ append-nil N) in
       let t = before (plan g) s in
@@ -390,9 +399,9 @@ mutual
         out = ap₂ (λ x y. set_then (register_of to) Mov (Reg 3) (Const 0) x ∷ y) r.rest r.out;
         rest = ap get_byte e;
       }
-  step_reached g b a (If x one other) s l i k N el ei ek en =
-      all_reached g b a x one other s l i k N (reached g b a one) (reached g b a other) el ei ek en
-  step_reached g b a (Loop body post) s l i k N el ei ek en =
+  step_reached g b a on (If x one other) s l i k N el ei ek en =
+      all_reached g b a on x one other s l i k N (reached g b a one) (reached g b a other) el ei ek en
+  step_reached g b a on (Loop body post) s l i k N el ei ek en =
       let behind = put_out s in
       let C = annotated (plan g) (i + 1) k body in
       let D = annotated (plan g) (i + 1 + steps_of body) (k + calls body) post in
@@ -408,12 +417,12 @@ mutual
       (λ broke again. reached g broke again body) (λ broke again. reached g broke again post) e
       (omega (arith, ei)) (omega (arith, ek)) refl (ap last_note all ∙ last_behind M x)
       (ap front_notes all ∙ front_before M x)
-  step_reached g b a Break s l i k N el ei ek en =
-      passed s l i k N _ (omega (arith, el)) (one_less s.place i ei) (omega (arith, ek)) (en ∙ append-nil N)
-  step_reached g b a Continue s l i k N el ei ek en =
-      passed s l i k N _ (omega (arith, el)) (one_less s.place i ei) (omega (arith, ek)) (en ∙ append-nil N)
-  step_reached g b a (Return v) s l i k N el ei ek en =
-      passed s l i k N _ (omega (arith, el)) (one_less s.place i ei) (omega (arith, ek)) (en ∙ append-nil N)
+  step_reached g b a on Break s l i k N el ei ek en =
+      passed on s l i k N _ el ei (omega (arith, ek)) (en ∙ append-nil N)
+  step_reached g b a on Continue s l i k N el ei ek en =
+      passed on s l i k N _ el ei (omega (arith, ek)) (en ∙ append-nil N)
+  step_reached g b a on (Return v) s l i k N el ei ek en =
+      passed on s l i k N _ el ei (omega (arith, ek)) (en ∙ append-nil N)
 
   pub reached : (g : Ground) (b a : ℕ) (c : Code) → IsReached g b a c
   reached g b a Nop s l i k N el ei ek en =
@@ -427,11 +436,11 @@ mutual
       }
   reached g b a (x ▹ c) s l i k N el ei ek en =
       let m = emit g b a c s in
-      let S = annotated_in (plan g) i k x in
+      let S = annotated_in (plan g) i k (goes_on c) x in
       let l2 = l + size_in S in
       let n1 = notes_in (plan g) l i k x in
       let n2 = notes_of (plan g) l2 (i + steps_in x) (k + calls_in x) c in
       let p = reached g b a c s l2 (i + steps_in x) (k + calls_in x) (N ++ n1) (omega (arith, el))
       (omega (arith, ei)) (omega (arith, ek)) (en ∙ sym (append_assoc N n1 n2)) in
-      let q = step_reached g b a x m l i k N p.label p.place p.calls p.notes in
+      let q = step_reached g b a (goes_on c) x m l i k N p.label p.place p.calls p.notes in
       joined (λ y. blocks_in (place g b a) S l y) (λ y. entry_in (place g b a) S l y) p q

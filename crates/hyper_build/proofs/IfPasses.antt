@@ -20,25 +20,25 @@ test_numbers g one other s =
     with_blocks 1 (number (plan g) other (led other (number (plan g) one (led one (with_statement s)))))
 
 -- which it is decides
-number_by : (g : Ground) (st : Step) (x : Arg) (one other : Code) (s : Numbering) (joined z : Bool)
+number_by : (g : Ground) (on : Bool) (st : Step) (x : Arg) (one other : Code) (s : Numbering) (joined z : Bool)
     → st ≡ If x one other → joined ≡ (plan g).joined s.place → is_if_item joined one other ≡ z
-    → number_in (plan g) st s
+    → number_in (plan g) on st s
     ≡ cond z (number_items (plan g) (If x one other) s) (test_numbers g one other s)
-number_by g st x one other s joined z e ej ez =
-    ap (λ y. number_in (plan g) y s) e
+number_by g on st x one other s joined z e ej ez =
+    ap (λ y. number_in (plan g) on y s) e
     ∙ ap (λ y. cond y (number_items (plan g) (If x one other) s) (test_numbers g one other s))
     (ap (λ y. is_if_item y one other) (sym ej) ∙ ez)
 
-pub number_item : (g : Ground) (st : Step) (x : Arg) (one other : Code) (s : Numbering) (joined : Bool)
+pub number_item : (g : Ground) (on : Bool) (st : Step) (x : Arg) (one other : Code) (s : Numbering) (joined : Bool)
     → st ≡ If x one other → joined ≡ (plan g).joined s.place → is_if_item joined one other ≡ true
-    → number_in (plan g) st s ≡ number_items (plan g) st s
-number_item g st x one other s joined e ej ez =
-    number_by g st x one other s joined true e ej ez ∙ ap (λ y. number_items (plan g) y s) (sym e)
+    → number_in (plan g) on st s ≡ number_items (plan g) st s
+number_item g on st x one other s joined e ej ez =
+    number_by g on st x one other s joined true e ej ez ∙ ap (λ y. number_items (plan g) y s) (sym e)
 
-pub number_test : (g : Ground) (st : Step) (x : Arg) (one other : Code) (s : Numbering) (joined : Bool)
+pub number_test : (g : Ground) (on : Bool) (st : Step) (x : Arg) (one other : Code) (s : Numbering) (joined : Bool)
     → st ≡ If x one other → joined ≡ (plan g).joined s.place → is_if_item joined one other ≡ false
-    → number_in (plan g) st s ≡ test_numbers g one other s
-number_test g st x one other s joined e ej ez = number_by g st x one other s joined false e ej ez
+    → number_in (plan g) on st s ≡ test_numbers g one other s
+number_test g on st x one other s joined e ej ez = number_by g on st x one other s joined false e ej ez
 
 -- BACKWARD
 
@@ -51,30 +51,30 @@ test_out g b a x one other s =
     let first = leg_out e1 (emit g b a one (with_rest (jump join) second)) in
     leaving (test_block x (label_or first.label e1) (label_or second.label e2)) first
 
-emit_by : (g : Ground) (b a : ℕ) (st : Step) (x : Arg) (one other : Code) (s : Emission) (n : ℕ) (joined z : Bool)
+emit_by : (g : Ground) (b a : ℕ) (on : Bool) (st : Step) (x : Arg) (one other : Code) (s : Emission) (n : ℕ) (joined z : Bool)
     → st ≡ If x one other → n ≡ steps_in st → joined ≡ (plan g).joined (s.place - n)
     → is_if_item joined one other ≡ z
-    → emit_in g b a st s
+    → emit_in g b a on st s
     ≡ cond z (items_out (plan g) g.arrays (steps_in (If x one other)) (If x one other) s)
     (test_out g b a x one other s)
-emit_by g b a st x one other s n joined z e en ej ez =
-    ap (λ y. emit_in g b a y s) e
+emit_by g b a on st x one other s n joined z e en ej ez =
+    ap (λ y. emit_in g b a on y s) e
     ∙ ap (λ y. cond y (items_out (plan g) g.arrays (steps_in (If x one other)) (If x one other) s)
     (test_out g b a x one other s))
     (ap (λ m. is_if_item ((plan g).joined (s.place - m)) one other) (sym (en ∙ ap steps_in e))
     ∙ ap (λ y. is_if_item y one other) (sym ej) ∙ ez)
 
-pub emit_item : (g : Ground) (b a : ℕ) (st : Step) (x : Arg) (one other : Code) (s : Emission) (n : ℕ)
+pub emit_item : (g : Ground) (b a : ℕ) (on : Bool) (st : Step) (x : Arg) (one other : Code) (s : Emission) (n : ℕ)
     (joined : Bool) → st ≡ If x one other → n ≡ steps_in st → joined ≡ (plan g).joined (s.place - n)
     → is_if_item joined one other ≡ true
-    → emit_in g b a st s ≡ items_out (plan g) g.arrays n st s
-emit_item g b a st x one other s n joined e en ej ez =
-    emit_by g b a st x one other s n joined true e en ej ez
+    → emit_in g b a on st s ≡ items_out (plan g) g.arrays n st s
+emit_item g b a on st x one other s n joined e en ej ez =
+    emit_by g b a on st x one other s n joined true e en ej ez
     ∙ ap₂ (λ m y. items_out (plan g) g.arrays m y s) (sym (en ∙ ap steps_in e)) (sym e)
 
-pub emit_test : (g : Ground) (b a : ℕ) (st : Step) (x : Arg) (one other : Code) (s : Emission) (n : ℕ)
+pub emit_test : (g : Ground) (b a : ℕ) (on : Bool) (st : Step) (x : Arg) (one other : Code) (s : Emission) (n : ℕ)
     (joined : Bool) → st ≡ If x one other → n ≡ steps_in st → joined ≡ (plan g).joined (s.place - n)
     → is_if_item joined one other ≡ false
-    → emit_in g b a st s ≡ test_out g b a x one other s
-emit_test g b a st x one other s n joined e en ej ez =
-    emit_by g b a st x one other s n joined false e en ej ez
+    → emit_in g b a on st s ≡ test_out g b a x one other s
+emit_test g b a on st x one other s n joined e en ej ez =
+    emit_by g b a on st x one other s n joined false e en ej ez

@@ -6,7 +6,7 @@ use Rattle.ir_forms.specs.FlatCode.{Return, Code, Nop, ◌▹◌}
 use Rattle.ir_forms.specs.FlatFits.{steps_in, steps_of, is_small_leg, is_empty}
 use Rattle.reg_assign.specs.Keeps.{calls_in, calls}
 use Rattle.hyper_build.specs.declared.emitting.Note.{Note}
-use Rattle.hyper_build.specs.Tree.{Tree, Plan, plain, annotated_in, annotated}
+use Rattle.hyper_build.specs.Tree.{Tree, Plan, plain, goes_on, annotated_in, annotated}
 use Rattle.hyper_build.specs.Parts.{cut_size}
 use Rattle.hyper_build.specs.Straight.{straight_in, straight, leg_size, size_in, size, is_small_if, is_item}
 use Rattle.hyper_build.specs.BackwardItems.{is_straight_in, is_straight, is_if_item}
@@ -20,26 +20,26 @@ and_parts false b e = let bad : false ≡ true = e in cc
 -- NO PLAN IS NEEDED
 
 mutual
-  straight_step : (p : Plan) (i k : ℕ) (x : Step)
-      → straight_in (annotated_in p i k x) ≡ is_straight_in x
-  straight_step p i k (Let to op x y) = refl
-  straight_step p i k (Frame to at) = refl
-  straight_step p i k (Load to op x) = refl
-  straight_step p i k (Save op x y) = refl
-  straight_step p i k (Call f xs to kept) = refl
-  straight_step p i k (Put x) = refl
-  straight_step p i k (Get to) = refl
-  straight_step p i k (If x a b) = ap₂ (λ y z. y && z) (straight_code p (i + 1) k a)
+  straight_step : (p : Plan) (i k : ℕ) (on : Bool) (x : Step)
+      → straight_in (annotated_in p i k on x) ≡ is_straight_in x
+  straight_step p i k on (Let to op x y) = refl
+  straight_step p i k on (Frame to at) = refl
+  straight_step p i k on (Load to op x) = refl
+  straight_step p i k on (Save op x y) = refl
+  straight_step p i k on (Call f xs to kept) = refl
+  straight_step p i k on (Put x) = refl
+  straight_step p i k on (Get to) = refl
+  straight_step p i k on (If x a b) = ap₂ (λ y z. y && z) (straight_code p (i + 1) k a)
       (straight_code p (i + 1 + steps_of a) (k + calls a) b)
-  straight_step p i k (Loop a b) = refl
-  straight_step p i k Break = refl
-  straight_step p i k Continue = refl
-  straight_step p i k (Return x) = refl
+  straight_step p i k on (Loop a b) = refl
+  straight_step p i k on Break = refl
+  straight_step p i k on Continue = refl
+  straight_step p i k on (Return x) = refl
 
   pub straight_code : (p : Plan) (i k : ℕ) (c : Code)
       → straight (annotated p i k c) ≡ is_straight c
   straight_code p i k Nop = refl
-  straight_code p i k (x ▹ c) = ap₂ (λ y z. y && z) (straight_step p i k x)
+  straight_code p i k (x ▹ c) = ap₂ (λ y z. y && z) (straight_step p i k (goes_on c) x)
       (straight_code p (i + steps_in x) (k + calls_in x) c)
 
 -- whether a leg is small or empty, no annotation says
@@ -139,7 +139,7 @@ mutual
   no_notes p l i k (x ▹ c) e =
       let q = and_parts (is_straight_in x) (is_straight c) e in
       ap₂ (λ (y z : List Note). y ++ z) (no_notes_in p l i k x q.0)
-      (no_notes p (l + size_in (annotated_in p i k x)) (i + steps_in x) (k + calls_in x) c q.1)
+      (no_notes p (l + size_in (annotated_in p i k (goes_on c) x)) (i + steps_in x) (k + calls_in x) c q.1)
 
 -- the legs of an item
 pub item_calls : (joined : Bool) (x : Arg) (one other : Code) → is_if_item joined one other ≡ true

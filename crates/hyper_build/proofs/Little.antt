@@ -73,9 +73,9 @@ abbrev mutual
   IsCutStmt (IfAt c joined t one other) =
       (c ≡ true) × (joined ≡ false) × IsCutTree one × IsCutTree other
   IsCutStmt (LoopAt c body post) = (c ≡ true) × IsCutTree body × IsCutTree post
-  IsCutStmt BreakAt = Unit {0}
-  IsCutStmt ContinueAt = Unit {0}
-  IsCutStmt (ReturnAt v) = Unit {0}
+  IsCutStmt (BreakAt c) = Unit {0}
+  IsCutStmt (ContinueAt c) = Unit {0}
+  IsCutStmt (ReturnAt c v) = Unit {0}
 
   pub IsCutTree : Tree → Type 0
   IsCutTree End = Unit {0}
@@ -233,9 +233,9 @@ short_leg p (PutAt v ▸ rest) e = absurd (cc e)
 short_leg p (GetAt c to ▸ rest) e = absurd (cc e)
 short_leg p (IfAt c joined t one other ▸ rest) e = absurd (cc e)
 short_leg p (LoopAt c body post ▸ rest) e = absurd (cc e)
-short_leg p (BreakAt ▸ rest) e = absurd (cc e)
-short_leg p (ContinueAt ▸ rest) e = absurd (cc e)
-short_leg p (ReturnAt v ▸ rest) e = absurd (cc e)
+short_leg p (BreakAt c ▸ rest) e = absurd (cc e)
+short_leg p (ContinueAt c ▸ rest) e = absurd (cc e)
+short_leg p (ReturnAt c v ▸ rest) e = absurd (cc e)
 
 -- it does something, or is empty
 filled_leg : (p : Place) (c : Tree) → is_small_leg (plain c) ≡ true
@@ -251,9 +251,9 @@ filled_leg p (PutAt v ▸ rest) e = absurd (cc e)
 filled_leg p (GetAt c to ▸ rest) e = absurd (cc e)
 filled_leg p (IfAt c joined t one other ▸ rest) e = absurd (cc e)
 filled_leg p (LoopAt c body post ▸ rest) e = absurd (cc e)
-filled_leg p (BreakAt ▸ rest) e = absurd (cc e)
-filled_leg p (ContinueAt ▸ rest) e = absurd (cc e)
-filled_leg p (ReturnAt v ▸ rest) e = absurd (cc e)
+filled_leg p (BreakAt c ▸ rest) e = absurd (cc e)
+filled_leg p (ContinueAt c ▸ rest) e = absurd (cc e)
+filled_leg p (ReturnAt c v ▸ rest) e = absurd (cc e)
 
 not_both : (x y : Bool) → not (x && y) ≡ true → (not x || not y) ≡ true
 not_both true true e = absurd (cc e)
@@ -289,6 +289,10 @@ if_little true item test xs ys f h = f refl
 if_little false item test xs ys f h = h
 
 -- CODE
+
+cuts_little : (c : Bool) (b : Block) → IsLittle b → AllLittle (cut_blocks c b)
+cuts_little true b s = (s, tt)
+cuts_little false b s = tt
 
 leg_little : (o : Option ℕ) (first : Block) (others : List Block) → IsLittle first
     → AllLittle others → AllLittle (leg_blocks o first others)
@@ -374,9 +378,9 @@ mutual
               (y.0, little_append (blocks q post (next + 1) (jump l)) (k ∷ []) y.1 (s, tt)),
         ),
       )
-  little_in p BreakAt l k t g s = (little_jump p.broke, tt)
-  little_in p ContinueAt l k t g s = (little_jump p.again, tt)
-  little_in p (ReturnAt v) l k t g s = (give_little v p.gave g, tt)
+  little_in p (BreakAt c) l k t g s = (little_jump p.broke, cuts_little c k s)
+  little_in p (ContinueAt c) l k t g s = (little_jump p.again, cuts_little c k s)
+  little_in p (ReturnAt c v) l k t g s = (give_little v p.gave g, cuts_little c k s)
   little_in p (LetAt false to op a b) l k t g s = absurd (cc t)
   little_in p (FrameAt false to at) l k t g s = absurd (cc t)
   little_in p (LoadAt false to op a) l k t g s = absurd (cc t)
@@ -406,10 +410,6 @@ pub record IsCutRoutine (g : Routine) : Type 0 where
   pub small : g.small ≡ true
   pub few : g.params ≤ 8
   pub body : IsCutTree g.body
-
-cuts_little : (c : Bool) (b : Block) → IsLittle b → AllLittle (cut_blocks c b)
-cuts_little true b s = (s, tt)
-cuts_little false b s = tt
 
 routine_little : (end : ℕ) (entries : ℕ → ℕ) (e : ℕ) (g : Routine) → IsCutRoutine g
     → AllLittle (routine_blocks end entries e g)

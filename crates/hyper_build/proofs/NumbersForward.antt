@@ -8,7 +8,7 @@ use Rattle.ir_forms.specs.FlatFits.{steps_in, steps_of, steps_of_all}
 use Rattle.reg_assign.specs.Keeps.{calls_in, calls, calls_of_all}
 use Rattle.hyper_build.specs.declared.emitting.Note.{Note}
 use Rattle.hyper_build.specs.declared.numbering.Numbering.{Numbering}
-use Rattle.hyper_build.specs.Tree.{Plan, annotated_in, annotated, Routine, annotated_all}
+use Rattle.hyper_build.specs.Tree.{Plan, goes_on, annotated_in, annotated, Routine, annotated_all}
 use Rattle.hyper_build.specs.Straight.{leg_size, size_in, size}
 use Rattle.hyper_build.specs.Routines.{body_label, routine_size, entry_from}
 use Rattle.hyper_build.specs.Ground.{Ground, plan, entry_at}
@@ -116,14 +116,14 @@ by_kind_numbers g l i k x one other true e N f1 f2 =
     (sym (append-nil N) ∙ ap (λ y. N ++ y) (sym (item_notes (plan g) l i k joined x one other e)))
 by_kind_numbers g l i k x one other false e N f1 f2 = test_numbers g l i k one other N f1 f2
 
-if_numbers : (g : Ground) (l i k : ℕ) (x : Arg) (one other : Code) (N : List Note)
+if_numbers : (g : Ground) (l i k : ℕ) (on : Bool) (x : Arg) (one other : Code) (N : List Note)
     → ((m : ℕ) → IsNumbered g m (i + 1) k one)
     → ((m : ℕ) → IsNumbered g m (i + 1 + steps_of one) (k + calls one) other)
-    → number_in (plan g) (If x one other) (numbers_at l i k N)
-    ≡ numbers_at (l + size_in (annotated_in (plan g) i k (If x one other)))
+    → number_in (plan g) on (If x one other) (numbers_at l i k N)
+    ≡ numbers_at (l + size_in (annotated_in (plan g) i k on (If x one other)))
     (i + steps_in (If x one other)) (k + calls_in (If x one other))
     (N ++ notes_in (plan g) l i k (If x one other))
-if_numbers g l i k x one other N f1 f2 =
+if_numbers g l i k on x one other N f1 f2 =
     let A = annotated (plan g) (i + 1) k one in
     let C = annotated (plan g) (i + 1 + steps_of one) (k + calls one) other in
     let c = (plan g).cut i in
@@ -132,16 +132,16 @@ if_numbers g l i k x one other N f1 f2 =
     by_kind_numbers g l i k x one other z refl N f1 f2
     ∙ same (ap (λ y. l + if_size y c A C) (sym e)) refl refl refl
 
-loop_numbers : (g : Ground) (l i k : ℕ) (body post : Code) (N : List Note)
+loop_numbers : (g : Ground) (l i k : ℕ) (on : Bool) (body post : Code) (N : List Note)
     → IsNumbered g (l + 1) (i + 1) k body
     → IsNumbered g (l + 1 + size (annotated (plan g) (i + 1) k body) + 1) (i + 1 + steps_of body)
     (k + calls body) post
-    → number_in (plan g) (Loop body post) (numbers_at l i k N)
+    → number_in (plan g) on (Loop body post) (numbers_at l i k N)
     ≡ numbers_at (l + (1 + (size (annotated (plan g) (i + 1) k body)
     + (1 + (size (annotated (plan g) (i + 1 + steps_of body) (k + calls body) post) + 1)))))
     (i + (1 + (steps_of body + steps_of post))) (k + (calls body + calls post))
     (N ++ notes_in (plan g) l i k (Loop body post))
-loop_numbers g l i k body post N f1 f2 =
+loop_numbers g l i k on body post N f1 f2 =
     let C = annotated (plan g) (i + 1) k body in
     let D = annotated (plan g) (i + 1 + steps_of body) (k + calls body) post in
     let next = l + 1 + size C in
@@ -157,35 +157,35 @@ loop_numbers g l i k body post N f1 f2 =
     (append_assoc (N ++ n1) n2 (x ∷ []) ∙ append_assoc N n1 (n2 ++ x ∷ []))
 
 mutual
-  pub step_numbers : (g : Ground) (l i k : ℕ) (x : Step) (N : List Note)
-      → number_in (plan g) x (numbers_at l i k N)
-      ≡ numbers_at (l + size_in (annotated_in (plan g) i k x)) (i + steps_in x) (k + calls_in x)
+  pub step_numbers : (g : Ground) (l i k : ℕ) (on : Bool) (x : Step) (N : List Note)
+      → number_in (plan g) on x (numbers_at l i k N)
+      ≡ numbers_at (l + size_in (annotated_in (plan g) i k on x)) (i + steps_in x) (k + calls_in x)
       (N ++ notes_in (plan g) l i k x)
-  step_numbers g l i k (Let to op x y) N = bare N refl refl (omega arith)
-  step_numbers g l i k (Frame to at) N = bare N refl refl (omega arith)
-  step_numbers g l i k (Load to op x) N = bare N refl refl (omega arith)
-  step_numbers g l i k (Save op x y) N = bare N refl refl (omega arith)
-  step_numbers g l i k (Call f xs to kept) N = bare N refl refl refl
-  step_numbers g l i k (Put x) N = bare N refl refl (omega arith)
-  step_numbers g l i k (Get to) N = bare N refl refl (omega arith)
-  step_numbers g l i k (If x one other) N = if_numbers g l i k x one other N
+  step_numbers g l i k on (Let to op x y) N = bare N refl refl (omega arith)
+  step_numbers g l i k on (Frame to at) N = bare N refl refl (omega arith)
+  step_numbers g l i k on (Load to op x) N = bare N refl refl (omega arith)
+  step_numbers g l i k on (Save op x y) N = bare N refl refl (omega arith)
+  step_numbers g l i k on (Call f xs to kept) N = bare N refl refl refl
+  step_numbers g l i k on (Put x) N = bare N refl refl (omega arith)
+  step_numbers g l i k on (Get to) N = bare N refl refl (omega arith)
+  step_numbers g l i k on (If x one other) N = if_numbers g l i k on x one other N
       (λ m. numbers g m (i + 1) k one)
       (λ m. numbers g m (i + 1 + steps_of one) (k + calls one) other)
-  step_numbers g l i k (Loop body post) N = loop_numbers g l i k body post N
+  step_numbers g l i k on (Loop body post) N = loop_numbers g l i k on body post N
       (numbers g (l + 1) (i + 1) k body)
       (numbers g (l + 1 + size (annotated (plan g) (i + 1) k body) + 1) (i + 1 + steps_of body)
       (k + calls body) post)
-  step_numbers g l i k Break N = bare N (omega arith) refl (omega arith)
-  step_numbers g l i k Continue N = bare N (omega arith) refl (omega arith)
-  step_numbers g l i k (Return x) N = bare N (omega arith) refl (omega arith)
+  step_numbers g l i k on Break N = bare N refl refl (omega arith)
+  step_numbers g l i k on Continue N = bare N refl refl (omega arith)
+  step_numbers g l i k on (Return x) N = bare N refl refl (omega arith)
 
   pub numbers : (g : Ground) (l i k : ℕ) (c : Code) → IsNumbered g l i k c
   numbers g l i k Nop N = bare N (omega arith) (omega arith) (omega arith)
   numbers g l i k (x ▹ c) N =
-      let l1 = l + size_in (annotated_in (plan g) i k x) in
+      let l1 = l + size_in (annotated_in (plan g) i k (goes_on c) x) in
       let i1 = i + steps_in x in
       let k1 = k + calls_in x in
-      ap (number (plan g) c) (step_numbers g l i k x N)
+      ap (number (plan g) c) (step_numbers g l i k (goes_on c) x N)
       ∙ numbers g l1 i1 k1 c (N ++ notes_in (plan g) l i k x)
       ∙ same (omega arith) (omega arith) (omega arith)
       (append_assoc N (notes_in (plan g) l i k x) (notes_of (plan g) l1 i1 k1 c))

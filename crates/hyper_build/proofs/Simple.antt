@@ -172,22 +172,22 @@ module _ (W : World) (built : IsBuilt W) (words : AluGivesWords) (call : Calls) 
           omega (arith, rel.stack.top, fr.room, built.room) in
           ap (λ x. (m.registers 1 + (2 ^ 64 - x)) % 2 ^ 64) z ∙ y
 
-  pub break_does : StmtDoes W call start g BreakAt
-  break_does inside p fits is l k has s m n rel =
+  pub break_does : (c : Bool) → StmtDoes W call start g (BreakAt c)
+  break_does c inside p fits is l k has s m n rel =
       turn_follow W (W.base + start + 8) (Rel W start g) _ s m n (ways_of p k) _ rel.stack.output
       (λ i. came _ s m i 0 _ Breaks s m (omega arith) (goes_here W _ m) rel (kept_here _ s m) tt refl)
 
-  pub continue_does : StmtDoes W call start g ContinueAt
-  continue_does inside p fits is l k has s m n rel =
+  pub continue_does : (c : Bool) → StmtDoes W call start g (ContinueAt c)
+  continue_does c inside p fits is l k has s m n rel =
       turn_follow W (W.base + start + 8) (Rel W start g) _ s m n (ways_of p k) _ rel.stack.output
       (λ i. came _ s m i 0 _ Continues s m (omega arith) (goes_here W _ m) rel (kept_here _ s m) tt refl)
 
-  pub return_does : (a : Option Arg) → StmtDoes W call start g (ReturnAt a)
-  return_does None inside p fits is l k has s m n rel =
+  pub return_does : (c : Bool) (a : Option Arg) → StmtDoes W call start g (ReturnAt c a)
+  return_does c None inside p fits is l k has s m n rel =
       turn_follow W (W.base + start + 8) (Rel W start g) _ s m n (ways_of p k) _ rel.stack.output
       (λ i. came _ s m i 0 _ (Returns None) s m (omega arith) (goes_here W p.gave m) rel
       (kept_here _ s m) tt refl)
-  return_does (Some x) inside p fits is l k has s m n rel =
+  return_does c (Some x) inside p fits is l k has s m n rel =
       turn_follow W (W.base + start + 8) (Rel W start g) _ s m n (ways_of p k) _ rel.stack.output (λ i.
       must_follow W (W.base + start + 8) (Rel W start g) _ s m i 2 (ways_of p k) (read (checks_of W) s x) _ (λ w e.
       let m1 = with_register m 3 (value_of m.registers (source x)) in

@@ -228,9 +228,9 @@ module _ (W : World) (g : Routine) (scalars : g.scalars ≤ 64) where
     items_in_fit inside p (PutAt v) k t h = h
     items_in_fit inside p (GetAt c to) k t h = h
     items_in_fit inside p (LoopAt c body post) k t h = h
-    items_in_fit inside p BreakAt k t h = h
-    items_in_fit inside p ContinueAt k t h = h
-    items_in_fit inside p (ReturnAt v) k t h = h
+    items_in_fit inside p (BreakAt c) k t h = h
+    items_in_fit inside p (ContinueAt c) k t h = h
+    items_in_fit inside p (ReturnAt c v) k t h = h
 
     items_fit : (inside : Bool) (p : Place) (c : Tree) (k : Items) → FitsTree W g inside c
         → FitsItems k → FitsItems (items_of p c k)
@@ -278,14 +278,14 @@ module _ (W : World) (g : Routine) (scalars : g.scalars ≤ 64) (N : ℕ)
   leg_is : (inside : Bool) (p : Place) (c : Tree) (l join : ℕ) → FitsTree W g inside c
       → GoodPlace N inside p → l + leg_size c (size c) ≤ join → join < N → LegIs N l join p c
   leg_is inside p End l join t q le lt = record { label = lt; room = omega (arith, le, lt) }
-  leg_is inside p (BreakAt ▸ End) l join t q le lt =
+  leg_is inside p (BreakAt c ▸ End) l join t q le lt =
       record { label = q.broke t.0; room = omega (arith, le, lt) }
-  leg_is inside p (ContinueAt ▸ End) l join t q le lt =
+  leg_is inside p (ContinueAt c ▸ End) l join t q le lt =
       record { label = q.again t.0; room = omega (arith, le, lt) }
-  leg_is inside p (BreakAt ▸ (x ▸ rest)) l join t q le lt =
-      own_leg N l join p (BreakAt ▸ (x ▸ rest)) refl le lt
-  leg_is inside p (ContinueAt ▸ (x ▸ rest)) l join t q le lt =
-      own_leg N l join p (ContinueAt ▸ (x ▸ rest)) refl le lt
+  leg_is inside p (BreakAt c ▸ (x ▸ rest)) l join t q le lt =
+      own_leg N l join p (BreakAt c ▸ (x ▸ rest)) refl le lt
+  leg_is inside p (ContinueAt c ▸ (x ▸ rest)) l join t q le lt =
+      own_leg N l join p (ContinueAt c ▸ (x ▸ rest)) refl le lt
   leg_is inside p (LetAt c to op a b ▸ rest) l join t q le lt =
       own_leg N l join p (LetAt c to op a b ▸ rest) refl le lt
   leg_is inside p (FrameAt c to at ▸ rest) l join t q le lt =
@@ -304,8 +304,8 @@ module _ (W : World) (g : Routine) (scalars : g.scalars ≤ 64) (N : ℕ)
       own_leg N l join p (IfAt c joined a one other ▸ rest) refl le lt
   leg_is inside p (LoopAt c body post ▸ rest) l join t q le lt =
       own_leg N l join p (LoopAt c body post ▸ rest) refl le lt
-  leg_is inside p (ReturnAt v ▸ rest) l join t q le lt =
-      own_leg N l join p (ReturnAt v ▸ rest) refl le lt
+  leg_is inside p (ReturnAt c v ▸ rest) l join t q le lt =
+      own_leg N l join p (ReturnAt c v ▸ rest) refl le lt
 
   leg_sound : (o : Option ℕ) (first : Block) (others : List Block) → Sound N first
       → AllSound N others → AllSound N (leg_blocks o first others)
@@ -490,9 +490,9 @@ module _ (W : World) (g : Routine) (scalars : g.scalars ≤ 64) (N : ℕ)
                 (y.0, sound_append N (blocks r post (next + 1) (jump l)) (k ∷ []) y.1 (s, tt)),
           ),
         )
-    sound_in inside p BreakAt l k t q le s = (jump_sound N p.broke (q.broke t), tt)
-    sound_in inside p ContinueAt l k t q le s = (jump_sound N p.again (q.again t), tt)
-    sound_in inside p (ReturnAt v) l k t q le s = (give_sound v p.gave t.0 q.gave, tt)
+    sound_in inside p (BreakAt c) l k t q le s = (jump_sound N p.broke (q.broke t), cuts_sound N c k s)
+    sound_in inside p (ContinueAt c) l k t q le s = (jump_sound N p.again (q.again t), cuts_sound N c k s)
+    sound_in inside p (ReturnAt c v) l k t q le s = (give_sound v p.gave t.0 q.gave, cuts_sound N c k s)
 
     pub sound_tree : (inside : Bool) (p : Place) (c : Tree) (l : ℕ) (k : Block)
         → FitsTree W g inside c → GoodPlace N inside p → l + size c ≤ N → Sound N k

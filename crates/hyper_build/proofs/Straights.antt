@@ -443,9 +443,9 @@ module _ (W : World) (built : IsBuilt W) (words : AluGivesWords) (call : Calls) 
     stmt_walks inside p (PutAt v) e fits is s m n rel = absurd (cc e)
     stmt_walks inside p (GetAt c to) e fits is s m n rel = absurd (cc e)
     stmt_walks inside p (LoopAt c body post) e fits is s m n rel = absurd (cc e)
-    stmt_walks inside p BreakAt e fits is s m n rel = absurd (cc e)
-    stmt_walks inside p ContinueAt e fits is s m n rel = absurd (cc e)
-    stmt_walks inside p (ReturnAt v) e fits is s m n rel = absurd (cc e)
+    stmt_walks inside p (BreakAt c) e fits is s m n rel = absurd (cc e)
+    stmt_walks inside p (ContinueAt c) e fits is s m n rel = absurd (cc e)
+    stmt_walks inside p (ReturnAt c v) e fits is s m n rel = absurd (cc e)
 
     pub tree_walks : (inside : Bool) (p : Place) (c : Tree) → TreeWalks inside p c
     tree_walks inside p End e fits is s m n rel =

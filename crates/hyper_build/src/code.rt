@@ -1,7 +1,8 @@
 //! All statements before what is put out.
 
-ghost use Rattle.std.specs.Prelude.{◌≡◌, OnOk, IfOk};
+ghost use Rattle.std.specs.Prelude.{◌≡◌, OnOk, IfOk, drop};
 ghost use Rattle.ir_forms.specs.FlatViews.{code_of, step_of};
+ghost use Rattle.hyper_build.specs.Tree as tree;
 ghost use Rattle.hyper_build.specs.Straight.{label_or};
 ghost use Rattle.hyper_build.specs.Backward as back;
 ghost use Rattle.hyper_build.specs.BackwardCode as code;
@@ -57,6 +58,37 @@ pub fn exit_of(stmts: &[FlatStmt], join: u32, broke: u32, again: u32) -> Option<
         exit_in(first, broke, again)
     } else {
         None
+    }
+}
+
+/// Whether nothing goes on behind a statement.
+fn leaves(s: &FlatStmt) -> bool
+    ensures { result ≡ tree.leaves (step_of s.now) }
+{
+    match s {
+        FlatStmt::Let { .. } => false,
+        FlatStmt::Frame { .. } => false,
+        FlatStmt::Load { .. } => false,
+        FlatStmt::Save { .. } => false,
+        FlatStmt::Call { .. } => false,
+        FlatStmt::Put(_) => false,
+        FlatStmt::Get { .. } => false,
+        FlatStmt::If { .. } => false,
+        FlatStmt::Loop { .. } => false,
+        FlatStmt::Break => true,
+        FlatStmt::Continue => true,
+        FlatStmt::Return(_) => true,
+    }
+}
+
+/// Whether statements do anything, from one of them on, before they leave.
+pub fn goes_on(stmts: &[FlatStmt], at: usize) -> bool
+    ensures { result ≡ tree.goes_on (code_of (drop at stmts.now)) }
+{
+    if at < stmts.len() {
+        !leaves(&stmts[at])
+    } else {
+        false
     }
 }
 
@@ -149,7 +181,7 @@ fn body_end(
     }
 }
 
-/// A statement before what is put out.
+/// A statement before what is put out; `on` says whether that goes on.
 #[cycle(emit)]
 fn put_stmt(
     s: &FlatStmt,
@@ -158,9 +190,10 @@ fn put_stmt(
     site: &Site,
     broke: u32,
     again: u32,
+    on: bool,
 ) -> Result<(), Memory>
     ensures { OnOk result (emission_of emitting.new
-        ≡ code.emit_in site.now broke again (step_of s.now) (emission_of emitting.old)) }
+        ≡ code.emit_in site.now broke again on (step_of s.now) (emission_of emitting.old)) }
 {
     match s {
         FlatStmt::Let { to, op, a, b } => put_let(emitting, alloc, site, *to, *op, *a, *b)?,
@@ -212,9 +245,9 @@ fn put_stmt(
             put_out(emitting, alloc)?;
             fall(emitting);
         }
-        FlatStmt::Break => put_jump(emitting, alloc, broke),
-        FlatStmt::Continue => put_jump(emitting, alloc, again),
-        FlatStmt::Return(value) => put_return(emitting, alloc, site, *value)?,
+        FlatStmt::Break => put_jump(emitting, alloc, broke, on)?,
+        FlatStmt::Continue => put_jump(emitting, alloc, again, on)?,
+        FlatStmt::Return(value) => put_return(emitting, alloc, site, *value, on)?,
     }
     Ok(())
 }
@@ -234,8 +267,9 @@ pub fn put_stmts(
 {
     let mut at = stmts.len();
     while at > 0 {
+        let on = goes_on(stmts, at);
         at -= 1;
-        put_stmt(&stmts[at], emitting, alloc, site, broke, again)?;
+        put_stmt(&stmts[at], emitting, alloc, site, broke, again, on)?;
     }
     Ok(())
 }

@@ -7,7 +7,7 @@ ghost use Rattle.hyper_build.specs.Straight as straight;
 ghost use Rattle.hyper_build.specs.Ground as ground;
 ghost use Rattle.hyper_build.specs.Forward as forward;
 
-use crate::code::exit_of;
+use crate::code::{exit_of, goes_on};
 use crate::counting::{arguments_size, cut_size, narrow, parameters_size, plus, steps_in};
 use crate::emitting::Note;
 use crate::ground::Site;
@@ -134,10 +134,16 @@ fn count_leg(numbering: &mut Numbering, leg: &[FlatStmt]) -> Result<(), Memory>
     }
 }
 
+/// Numbers behind a statement; `on` says whether the code behind it goes on.
 #[cycle(number)]
-fn number_stmt(s: &FlatStmt, numbering: &mut Numbering, site: &Site) -> Result<(), Memory>
+fn number_stmt(
+    s: &FlatStmt,
+    numbering: &mut Numbering,
+    site: &Site,
+    on: bool,
+) -> Result<(), Memory>
     ensures { OnOk result (numbering.new
-        ≡ forward.number_in (ground.plan site.now) (step_of s.now) numbering.old) }
+        ≡ forward.number_in (ground.plan site.now) on (step_of s.now) numbering.old) }
 {
     match s {
         FlatStmt::Let { .. } => number_single(numbering, site)?,
@@ -170,9 +176,9 @@ fn number_stmt(s: &FlatStmt, numbering: &mut Numbering, site: &Site) -> Result<(
             count_blocks(numbering, 1)?;
             add_note(numbering, Note { head, place, next })?;
         }
-        FlatStmt::Break => count_statement(numbering)?,
-        FlatStmt::Continue => count_statement(numbering)?,
-        FlatStmt::Return(_) => count_statement(numbering)?,
+        FlatStmt::Break => count_behind(numbering, cut_size(on))?,
+        FlatStmt::Continue => count_behind(numbering, cut_size(on))?,
+        FlatStmt::Return(_) => count_behind(numbering, cut_size(on))?,
     }
     Ok(())
 }
@@ -183,8 +189,11 @@ fn number_stmts(stmts: &[FlatStmt], numbering: &mut Numbering, site: &Site) -> R
     ensures { OnOk result (numbering.new
         ≡ forward.number (ground.plan site.now) (code_of stmts.now) numbering.old) }
 {
-    for s in stmts {
-        number_stmt(s, numbering, site)?;
+    let mut at = 0;
+    while at < stmts.len() {
+        let s = &stmts[at];
+        at += 1;
+        number_stmt(s, numbering, site, goes_on(stmts, at))?;
     }
     Ok(())
 }

@@ -186,13 +186,20 @@ pub fn put_get(emitting: &mut Emitting, alloc: Global, site: &Site, to: u16) -> 
     Ok(())
 }
 
-/// A jump, behind which nothing is reached.
-pub fn put_jump(emitting: &mut Emitting, alloc: Global, label: u32)
-    ensures { emission_of emitting.new
-        ≡ code.leaving (hyper.jump label) (emission_of emitting.old) }
+/// A jump, behind which nothing is reached; what goes on there has a block of its own.
+pub fn put_jump(
+    emitting: &mut Emitting,
+    alloc: Global,
+    label: u32,
+    on: bool,
+) -> Result<(), Memory>
+    ensures { OnOk result (emission_of emitting.new
+        ≡ code.leaving (hyper.jump label) (back.cut_at on (emission_of emitting.old))) }
 {
+    cut(emitting, alloc, on)?;
     fall(emitting);
     put_rest(emitting, jump(alloc, label));
+    Ok(())
 }
 
 /// What a return goes on with.
@@ -221,16 +228,19 @@ fn put_given(rest: &mut Rest, value: Option<Arg>) -> Result<(), Memory>
     }
 }
 
-/// A return, with its value.
+/// A return, with its value; what goes on behind it has a block of its own.
 pub fn put_return(
     emitting: &mut Emitting,
     alloc: Global,
     site: &Site,
     value: Option<Arg>,
+    on: bool,
 ) -> Result<(), Memory>
     ensures { OnOk result (emission_of emitting.new
-        ≡ code.leaving (build.give value (ground.left site.now.frame)) (emission_of emitting.old)) }
+        ≡ code.leaving (build.give value (ground.left site.now.frame))
+        (back.cut_at on (emission_of emitting.old))) }
 {
+    cut(emitting, alloc, on)?;
     fall(emitting);
     let mut rest = left(alloc, site.frame)?;
     put_given(&mut rest, value)?;

@@ -14,56 +14,56 @@ use Rattle.hyper_build.proofs.code.+emit.Goals as goal
 pub put_stmt-returns-in_ok-put_let-in-Let : goal.put_stmt-returns-in_ok-put_let-in-Let
 put_stmt-returns-in_ok-put_let-in-Let t c =
     let h = ap (λ (st : Step).
-    code.emit_in c.args.site.now c.args.broke c.args.again st (emission_of c.args.emitting.now))
+    code.emit_in c.args.site.now c.args.broke c.args.again c.args.on st (emission_of c.args.emitting.now))
     (ap step_of c.in-Let.is ∙ step_let c.in-Let.to c.in-Let.op c.in-Let.a c.in-Let.b) in
     grind (arith, h)
 
 pub put_stmt-returns-in_ok-put_frame-in-Frame : goal.put_stmt-returns-in_ok-put_frame-in-Frame
 put_stmt-returns-in_ok-put_frame-in-Frame t c =
     let h = ap (λ (st : Step).
-    code.emit_in c.args.site.now c.args.broke c.args.again st (emission_of c.args.emitting.now))
+    code.emit_in c.args.site.now c.args.broke c.args.again c.args.on st (emission_of c.args.emitting.now))
     (ap step_of c.in-Frame.is ∙ step_frame c.in-Frame.to c.in-Frame.at) in
     grind (arith, h)
 
 pub put_stmt-returns-in_ok-put_loading-in-Load : goal.put_stmt-returns-in_ok-put_loading-in-Load
 put_stmt-returns-in_ok-put_loading-in-Load t c =
     let h = ap (λ (st : Step).
-    code.emit_in c.args.site.now c.args.broke c.args.again st (emission_of c.args.emitting.now))
+    code.emit_in c.args.site.now c.args.broke c.args.again c.args.on st (emission_of c.args.emitting.now))
     (ap step_of c.in-Load.is ∙ step_load c.in-Load.to c.in-Load.op c.in-Load.address) in
     grind (arith, h)
 
 pub put_stmt-returns-in_ok-put_storing-in-Save : goal.put_stmt-returns-in_ok-put_storing-in-Save
 put_stmt-returns-in_ok-put_storing-in-Save t c =
     let h = ap (λ (st : Step).
-    code.emit_in c.args.site.now c.args.broke c.args.again st (emission_of c.args.emitting.now))
+    code.emit_in c.args.site.now c.args.broke c.args.again c.args.on st (emission_of c.args.emitting.now))
     (ap step_of c.in-Save.is ∙ step_save c.in-Save.op c.in-Save.address c.in-Save.value) in
     grind (arith, h)
 
 pub put_stmt-returns-in_ok-put_call-in-Call : goal.put_stmt-returns-in_ok-put_call-in-Call
 put_stmt-returns-in_ok-put_call-in-Call t c =
     let h = ap (λ (st : Step).
-    code.emit_in c.args.site.now c.args.broke c.args.again st (emission_of c.args.emitting.now))
+    code.emit_in c.args.site.now c.args.broke c.args.again c.args.on st (emission_of c.args.emitting.now))
     (ap step_of c.in-Call.is ∙ step_call c.in-Call.function c.in-Call.args c.in-Call.to) in
     grind (arith, h)
 
 pub put_stmt-returns-in_ok-put_byte-in-Put : goal.put_stmt-returns-in_ok-put_byte-in-Put
 put_stmt-returns-in_ok-put_byte-in-Put t c =
     let h = ap (λ (st : Step).
-    code.emit_in c.args.site.now c.args.broke c.args.again st (emission_of c.args.emitting.now))
+    code.emit_in c.args.site.now c.args.broke c.args.again c.args.on st (emission_of c.args.emitting.now))
     (ap step_of c.in-Put.is ∙ step_put c.in-Put.value) in
     grind (arith, h)
 
 pub put_stmt-returns-in_ok-put_get-in-Get : goal.put_stmt-returns-in_ok-put_get-in-Get
 put_stmt-returns-in_ok-put_get-in-Get t c =
     let h = ap (λ (st : Step).
-    code.emit_in c.args.site.now c.args.broke c.args.again st (emission_of c.args.emitting.now))
+    code.emit_in c.args.site.now c.args.broke c.args.again c.args.on st (emission_of c.args.emitting.now))
     (ap step_of c.in-Get.is ∙ step_get c.in-Get.to) in
     grind (arith, h)
 
 pub put_stmt-returns-in_ok-put_joined-in-If : goal.put_stmt-returns-in_ok-put_joined-in-If
 put_stmt-returns-in_ok-put_joined-in-If t c =
     let is : is_if_item c.joins.result (code_of c.in-If.yes) (code_of c.in-If.no) ≡ true = grind arith in
-    let h = emit_item c.args.site.now c.args.broke c.args.again (step_of c.args.s.now) c.in-If.test _ _
+    let h = emit_item c.args.site.now c.args.broke c.args.again c.args.on (step_of c.args.s.now) c.in-If.test _ _
     (emission_of c.args.emitting.now) c.in_ok-statements-in-If.statements c.joins.result
     (ap step_of c.in-If.is ∙ step_if c.in-If.test c.in-If.yes c.in-If.no) c.in_ok-statements-in-If.ensures
     (c.joins.ensures ∙ ap (joins_by c.args.site.now.joins) c.fallen_by-place.ensures) is in
@@ -72,7 +72,7 @@ put_stmt-returns-in_ok-put_joined-in-If t c =
 pub put_stmt-returns-in_ok-put_test-in-If : goal.put_stmt-returns-in_ok-put_test-in-If
 put_stmt-returns-in_ok-put_test-in-If t c =
     let is : is_if_item c.joins.result (code_of c.in-If.yes) (code_of c.in-If.no) ≡ false = grind arith in
-    let h = emit_test c.args.site.now c.args.broke c.args.again (step_of c.args.s.now) c.in-If.test _ _
+    let h = emit_test c.args.site.now c.args.broke c.args.again c.args.on (step_of c.args.s.now) c.in-If.test _ _
     (emission_of c.args.emitting.now) c.in_ok-statements-in-If.statements c.joins.result
     (ap step_of c.in-If.is ∙ step_if c.in-If.test c.in-If.yes c.in-If.no) c.in_ok-statements-in-If.ensures
     (c.joins.ensures ∙ ap (joins_by c.args.site.now.joins) c.fallen_by-place.ensures) is in
@@ -81,27 +81,27 @@ put_stmt-returns-in_ok-put_test-in-If t c =
 pub put_stmt-returns-in_ok-put_out-in-Loop-3 : goal.put_stmt-returns-in_ok-put_out-in-Loop-3
 put_stmt-returns-in_ok-put_out-in-Loop-3 t c =
     let h = ap (λ (st : Step).
-    code.emit_in c.args.site.now c.args.broke c.args.again st (emission_of c.args.emitting.now))
+    code.emit_in c.args.site.now c.args.broke c.args.again c.args.on st (emission_of c.args.emitting.now))
     (ap step_of c.in-Loop.is ∙ step_loop c.in-Loop.body c.in-Loop.post) in
     grind (arith, h)
 
-pub put_stmt-returns-in-Break : goal.put_stmt-returns-in-Break
-put_stmt-returns-in-Break t c =
+pub put_stmt-returns-in_ok-put_jump-in-Break : goal.put_stmt-returns-in_ok-put_jump-in-Break
+put_stmt-returns-in_ok-put_jump-in-Break t c =
     let h = ap (λ (st : Step).
-    code.emit_in c.args.site.now c.args.broke c.args.again st (emission_of c.args.emitting.now))
+    code.emit_in c.args.site.now c.args.broke c.args.again c.args.on st (emission_of c.args.emitting.now))
     (ap step_of c.in-Break.is ∙ step_break) in
     grind (arith, h)
 
-pub put_stmt-returns-in-Continue : goal.put_stmt-returns-in-Continue
-put_stmt-returns-in-Continue t c =
+pub put_stmt-returns-in_ok-put_jump-in-Continue : goal.put_stmt-returns-in_ok-put_jump-in-Continue
+put_stmt-returns-in_ok-put_jump-in-Continue t c =
     let h = ap (λ (st : Step).
-    code.emit_in c.args.site.now c.args.broke c.args.again st (emission_of c.args.emitting.now))
+    code.emit_in c.args.site.now c.args.broke c.args.again c.args.on st (emission_of c.args.emitting.now))
     (ap step_of c.in-Continue.is ∙ step_continue) in
     grind (arith, h)
 
 pub put_stmt-returns-in_ok-put_return-in-Return : goal.put_stmt-returns-in_ok-put_return-in-Return
 put_stmt-returns-in_ok-put_return-in-Return t c =
     let h = ap (λ (st : Step).
-    code.emit_in c.args.site.now c.args.broke c.args.again st (emission_of c.args.emitting.now))
+    code.emit_in c.args.site.now c.args.broke c.args.again c.args.on st (emission_of c.args.emitting.now))
     (ap step_of c.in-Return.is ∙ step_return c.in-Return.value) in
     grind (arith, h)

@@ -1,10 +1,15 @@
-use Rattle.std.proofs.Common.{◌≡◌, drop}
+use Rattle.std.proofs.Common.{◌≡◌, ◌≤◌, ◌-◌, length, drop}
 use Rattle.ir_forms.specs.FlatViews.{code_of}
 use Rattle.hyper_build.specs.Ground.{plan}
 use Rattle.hyper_build.specs.Forward.{number}
 use Rattle.hyper_build.proofs.numbering.+number.Given as goal
 
-abbrev pub invariant-number_stmts-loop-s : goal.invariant-number_stmts-loop-s
-invariant-number_stmts-loop-s l =
-    number (plan l.site) (code_of (drop l.s-index l.stmts)) l.numbering
-    ≡ number (plan l.site) (code_of l.stmts) l.fn.numbering
+abbrev pub invariant-number_stmts-loop-at : goal.invariant-number_stmts-loop-at
+invariant-number_stmts-loop-at l = record {
+  within : l.at ≤ length l.stmts;
+  done : number (plan l.site) (code_of (drop l.at l.stmts)) l.numbering
+      ≡ number (plan l.site) (code_of l.stmts) l.fn.numbering;
+}
+
+abbrev pub decreases-number_stmts-loop-at : goal.decreases-number_stmts-loop-at
+decreases-number_stmts-loop-at l = length l.stmts - l.at
