@@ -13,8 +13,9 @@ ghost use Rattle.hyper_build.specs.Ground as ground;
 
 use crate::calling::{put_back, put_call};
 use crate::counting::steps_in;
-use crate::emitting::{Emitting, fall, fallen_by, put_out, put_rest, take_note};
+use crate::emitting::{Emitting, cut, fall, fallen_by, put_out, put_rest, take_note};
 use crate::ground::Site;
+use crate::merging::{is_last, is_loop_test, put_merged};
 use crate::operands::source;
 use crate::rest::{Rest, jump};
 use crate::singles::{
@@ -241,13 +242,97 @@ fn put_stmt(
             let ends = site.cuts(note.place);
             let rest = body_end(alloc, ends, site.arrays, post.as_slice(), next, note.head)?;
             put_rest(emitting, rest);
-            put_stmts(body.as_slice(), emitting, alloc, site, behind, next)?;
+            put_turn(body.as_slice(), emitting, alloc, site, behind, next)?;
             put_out(emitting, alloc)?;
             fall(emitting);
         }
         FlatStmt::Break => put_jump(emitting, alloc, broke, on)?,
         FlatStmt::Continue => put_jump(emitting, alloc, again, on)?,
         FlatStmt::Return(value) => put_return(emitting, alloc, site, *value, on)?,
+    }
+    Ok(())
+}
+
+/// A loop's test before what its leg goes on with.
+#[cycle(emit)]
+fn put_loop_test(
+    s: &FlatStmt,
+    emitting: &mut Emitting,
+    alloc: Global,
+    site: &Site,
+    broke: u32,
+    again: u32,
+) -> Result<(), Memory>
+    ensures { OnOk result (emission_of emitting.new
+        ≡ code.test_out site.now broke again (step_of s.now) (emission_of emitting.old)) }
+{
+    match s {
+        FlatStmt::Let { .. } => {}
+        FlatStmt::Frame { .. } => {}
+        FlatStmt::Load { .. } => {}
+        FlatStmt::Save { .. } => {}
+        FlatStmt::Call { .. } => {}
+        FlatStmt::Put(_) => {}
+        FlatStmt::Get { .. } => {}
+        FlatStmt::If { test, yes, .. } => {
+            let statements = steps_in(s)?;
+            let place = fallen_by(emitting.place, statements);
+            let ends = site.cuts(place);
+            cut(emitting, alloc, ends)?;
+            fall(emitting);
+            put_stmts(yes.as_slice(), emitting, alloc, site, broke, again)?;
+            put_merged(emitting, alloc, *test, broke)?;
+        }
+        FlatStmt::Loop { .. } => {}
+        FlatStmt::Break => {}
+        FlatStmt::Continue => {}
+        FlatStmt::Return(_) => {}
+    }
+    Ok(())
+}
+
+/// A statement of a loop's body; `last` says whether it is the last one, `on` whether the code behind it goes on.
+#[cycle(emit)]
+fn put_part(
+    s: &FlatStmt,
+    emitting: &mut Emitting,
+    alloc: Global,
+    site: &Site,
+    broke: u32,
+    again: u32,
+    last: bool,
+    on: bool,
+) -> Result<(), Memory>
+    ensures { OnOk result (emission_of emitting.new
+        ≡ code.part_out site.now broke again last on (step_of s.now) (emission_of emitting.old)) }
+{
+    let test = is_loop_test(s, emitting.place, site, last)?;
+    if test {
+        put_loop_test(s, emitting, alloc, site, broke, again)
+    } else {
+        put_stmt(s, emitting, alloc, site, broke, again, on)
+    }
+}
+
+/// A loop's body before what is put out.
+#[cycle(emit)]
+fn put_turn(
+    stmts: &[FlatStmt],
+    emitting: &mut Emitting,
+    alloc: Global,
+    site: &Site,
+    broke: u32,
+    again: u32,
+) -> Result<(), Memory>
+    ensures { OnOk result (emission_of emitting.new
+        ≡ code.emit_turn site.now broke again (code_of stmts.now) (emission_of emitting.old)) }
+{
+    let mut at = stmts.len();
+    while at > 0 {
+        let last = is_last(stmts, at);
+        let on = goes_on(stmts, at);
+        at -= 1;
+        put_part(&stmts[at], emitting, alloc, site, broke, again, last, on)?;
     }
     Ok(())
 }

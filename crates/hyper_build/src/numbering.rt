@@ -11,7 +11,8 @@ use crate::code::{exit_of, goes_on};
 use crate::counting::{arguments_size, cut_size, narrow, parameters_size, plus, steps_in};
 use crate::emitting::Note;
 use crate::ground::Site;
-use crate::straight::is_if_item;
+use crate::merging::{is_last, is_test};
+use crate::straight::{both, is_if_item};
 use base::{Items, Memory};
 use ir_forms::{Arg, FlatFunc, FlatStmt};
 use std::alloc::Global;
@@ -169,7 +170,7 @@ fn number_stmt(
             let head = numbering.label;
             let place = numbering.place;
             count_behind(numbering, 1)?;
-            number_stmts(body.as_slice(), numbering, site)?;
+            number_turn(body.as_slice(), numbering, site)?;
             let next = numbering.label;
             count_blocks(numbering, 1)?;
             number_stmts(post.as_slice(), numbering, site)?;
@@ -179,6 +180,71 @@ fn number_stmt(
         FlatStmt::Break => count_behind(numbering, cut_size(on))?,
         FlatStmt::Continue => count_behind(numbering, cut_size(on))?,
         FlatStmt::Return(_) => count_behind(numbering, cut_size(on))?,
+    }
+    Ok(())
+}
+
+/// Numbers behind a loop's test: its leg, and a break.
+#[cycle(number)]
+fn number_loop_test(s: &FlatStmt, numbering: &mut Numbering, site: &Site) -> Result<(), Memory>
+    ensures { OnOk result (numbering.new
+        ≡ forward.number_test (ground.plan site.now) (step_of s.now) numbering.old) }
+{
+    match s {
+        FlatStmt::Let { .. } => {}
+        FlatStmt::Frame { .. } => {}
+        FlatStmt::Load { .. } => {}
+        FlatStmt::Save { .. } => {}
+        FlatStmt::Call { .. } => {}
+        FlatStmt::Put(_) => {}
+        FlatStmt::Get { .. } => {}
+        FlatStmt::If { yes, .. } => {
+            let blocks = cut_size(site.cuts(numbering.place));
+            count_statement(numbering)?;
+            number_stmts(yes.as_slice(), numbering, site)?;
+            count_statement(numbering)?;
+            count_blocks(numbering, blocks)?;
+        }
+        FlatStmt::Loop { .. } => {}
+        FlatStmt::Break => {}
+        FlatStmt::Continue => {}
+        FlatStmt::Return(_) => {}
+    }
+    Ok(())
+}
+
+/// Numbers behind a statement of a loop's body; `last` says whether it is the last one, `on` whether the code
+/// behind it goes on.
+#[cycle(number)]
+fn number_part(
+    s: &FlatStmt,
+    numbering: &mut Numbering,
+    site: &Site,
+    last: bool,
+    on: bool,
+) -> Result<(), Memory>
+    ensures { OnOk result (numbering.new
+        ≡ forward.number_part (ground.plan site.now) last on (step_of s.now) numbering.old) }
+{
+    let test = both(last, is_test(s, site.joins(numbering.place)));
+    if test {
+        number_loop_test(s, numbering, site)
+    } else {
+        number_stmt(s, numbering, site, on)
+    }
+}
+
+/// Numbers behind a loop's body.
+#[cycle(number)]
+fn number_turn(stmts: &[FlatStmt], numbering: &mut Numbering, site: &Site) -> Result<(), Memory>
+    ensures { OnOk result (numbering.new
+        ≡ forward.number_turn (ground.plan site.now) (code_of stmts.now) numbering.old) }
+{
+    let mut at = 0;
+    while at < stmts.len() {
+        let s = &stmts[at];
+        at += 1;
+        number_part(s, numbering, site, is_last(stmts, at), goes_on(stmts, at))?;
     }
     Ok(())
 }
