@@ -1,14 +1,21 @@
 -- The image of a text does what the text means.
-use Rattle.std.proofs.Common.{ℕ, length, List}
+use Rattle.std.proofs.Common.{◌≡◌, ℕ, ◌≤◌, length, List, ap, arith}
 use Rattle.trips_isa.specs.declared.block.Image.{Image}
 use Rattle.c_tree.specs.declared.typed.TypedProgram.{TypedProgram}
+use Rattle.ir_forms.specs.FlatCode.{Program}
+use Rattle.ir_forms.specs.FlatFits.{small_ifs_of_all}
+use Rattle.flat_lower.specs.Statements.{lowered_program}
 use Rattle.flat_lower.specs.TreeViews.{source_of}
 use Rattle.flat_lower_premises.specs.Most.{most_of}
+use Rattle.plain_ifs.specs.PlainIfs.{plain_ifs}
+use Rattle.plain_ifs.proofs.Programs.{lowers_plain}
 use Rattle.grid_place.specs.declared.placed.Placing.{Placing}
+use Rattle.guard_counts.specs.Counts.{guarded_in}
 use Rattle.c_compile_laws.specs.Compiled.{FlatMeans}
 use Rattle.c_compile_laws.proofs.Bounds.{has_bounds}
 use Rattle.c_compile_laws.proofs.Compiled.{does_deep, does_finished, does_unfinished}
 use Rattle.c_compile_laws.proofs.Ends.{ends_as, never_ends}
+use Rattle.c_compile_laws.proofs.Guards.{guards_small_ifs}
 use Rattle.c_compile.specs.Flat.{IsFlatOf}
 use Rattle.c_compile.specs.Images.{IsImageOf, ImagesMeanTexts}
 
@@ -24,6 +31,16 @@ flat_means text p i o =
       short = l.most;
       blocks = l.blocks;
     }
+
+guards_plain : (text : List ℕ) (p : Placing) (i : Image) (o : IsImageOf text p i)
+    → plain_ifs (o.lowered).program ≤ guarded_in i.blocks
+guards_plain text p i o =
+    let l : IsFlatOf text o.flat = o.lowered in
+    let a = lowers_plain l.program in
+    let e : small_ifs_of_all (o.flat).functions ≡ small_ifs_of_all (lowered_program l.program).functions =
+    ap (λ (F : Program). small_ifs_of_all F.functions) l.is in
+    let g = guards_small_ifs l.program o.flat (length l.tokens) p i (flat_means text p i o) o.compiled in
+    omega (arith, a, e, g)
 
 pub images_mean : ImagesMeanTexts
 images_mean text p i o =
@@ -45,4 +62,5 @@ images_mean text p i o =
       ends = ends_as P t i finished deep unfinished;
       endless = never_ends P t i finished deep unfinished;
       bounds = has_bounds P o.flat t p i m o.compiled;
+      guards = guards_plain text p i o;
     }

@@ -1,12 +1,14 @@
 -- The images of C texts, and what they do.
-use Rattle.std.specs.Prelude.{ℕ, List, length}
+use Rattle.std.specs.Prelude.{ℕ, ◌≤◌, List, length}
 use Rattle.trips_isa.specs.declared.block.Image.{Image}
 use Rattle.c_tree.specs.declared.typed.TypedProgram.{TypedProgram}
 use Rattle.c_lex.specs.Lexes.{Tokens}
 use Rattle.c_lex.specs.Answers.{Lexed}
 use Rattle.c_front.specs.Fronts.{most_tokens, IsAccepted}
 use Rattle.ir_forms.specs.FlatCode.{Program}
+use Rattle.plain_ifs.specs.PlainIfs.{plain_ifs}
 use Rattle.grid_place.specs.declared.placed.Placing.{Placing}
+use Rattle.guard_counts.specs.Counts.{guarded_in}
 use Rattle.c_compile_laws.specs.Bounds.{HasBounds}
 use Rattle.c_compile_laws.specs.Compiled.{IsCompiled}
 use Rattle.c_compile_laws.specs.Runs.{DoesDeep, DoesFinished, DoesUnfinished, EndsAsEvaluated, NeverEnds}
@@ -33,6 +35,8 @@ pub record MeansText (text : List ℕ) (p : Placing) (i : Image) : Type 0 where
   pub endless : NeverEnds program i
   -- it is good, and as small as the text
   pub bounds : HasBounds (length tokens) p i
+  -- each plain if has a guarded instruction that is no branch
+  pub guards : plain_ifs program ≤ guarded_in i.blocks
 
 -- so does each image of a text
 abbrev pub ImagesMeanTexts : Type 0

@@ -1,9 +1,11 @@
 -- What is said of every image that is compiled from a flat program which means a typed program.
-use Rattle.std.specs.Prelude.{ℕ}
+use Rattle.std.specs.Prelude.{ℕ, ◌≤◌}
 use Rattle.trips_isa.specs.declared.block.Image.{Image}
 use Rattle.c_tree.specs.declared.typed.TypedProgram.{TypedProgram}
 use Rattle.ir_forms.specs.FlatCode.{Program}
+use Rattle.ir_forms.specs.FlatFits.{small_ifs_of_all}
 use Rattle.grid_place.specs.declared.placed.Placing.{Placing}
+use Rattle.guard_counts.specs.Counts.{guarded_in}
 use Rattle.c_compile_laws.specs.Compiled.{FlatMeans, IsCompiled}
 
 -- of the image i of a program P, of a text of t tokens, whose blocks stand in the slots that a placing p says
@@ -11,3 +13,9 @@ abbrev pub OfCompiled : (TypedProgram → ℕ → Placing → Image → Type 0) 
 OfCompiled Says =
     (P : TypedProgram) (F : Program) (t : ℕ) (p : Placing) (i : Image) → FlatMeans P F t
     → IsCompiled F p i → Says P t p i
+
+-- it has at least as many guarded instructions other than branches as the flat program has small ifs
+abbrev pub GuardsSmallIfs : Type 0
+GuardsSmallIfs =
+    (P : TypedProgram) (F : Program) (t : ℕ) (p : Placing) (i : Image) → FlatMeans P F t
+    → IsCompiled F p i → small_ifs_of_all F.functions ≤ guarded_in i.blocks

@@ -1,5 +1,5 @@
 ghost use Rattle.c_compile_laws.specs.Bounds.{HasBounds};
-ghost use Rattle.c_compile_laws.specs.Laws.{OfCompiled};
+ghost use Rattle.c_compile_laws.specs.Laws.{GuardsSmallIfs, OfCompiled};
 ghost use Rattle.c_compile_laws.specs.Limits.{TakesCuts};
 ghost use Rattle.c_compile_laws.specs.Runs.{DoesDeep, DoesFinished, DoesUnfinished, EndsAsEvaluated};
 ghost use Rattle.c_compile_laws.specs.Runs.{NeverEnds};
@@ -13,6 +13,12 @@ pub fn compiled_images_mean_programs()
     ensures ends { OfCompiled (λ P t p i. EndsAsEvaluated t P i) }
     ensures endless { OfCompiled (λ P t p i. NeverEnds P i) }
     ensures bounds { OfCompiled (λ P t p i. HasBounds t p i) }
+{}
+
+/// It has at least as many guarded instructions other than branches as the flat program has small ifs. It
+/// does nothing when it runs.
+pub fn compiled_images_guard_small_ifs()
+    ensures { GuardsSmallIfs }
 {}
 
 /// Where every place is cut, no pass refuses a block for its size, and each is good. It does nothing when

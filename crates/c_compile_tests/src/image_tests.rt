@@ -68,6 +68,12 @@ const ROWS: &[Row] = &[
         true,
         true,
     ),
+    // behind a return
+    (
+        "int main(void) { int x = 5; return x; if (x) x = 7; }",
+        true,
+        true,
+    ),
     ("int main(void) { return 7; }", false, false),
 ];
 

@@ -14,9 +14,9 @@ use Rattle.c_tree.specs.declared.TypedGlobal.{TypedGlobal}
 use Rattle.trips_isa.specs.declared.op.Op.TheVariants as op
 use Rattle.ir_forms.specs.declared.flat.Arg.{Arg}
 use Rattle.ir_forms.specs.declared.flat.Arg.TheVariants.{Const, Var}
-use Rattle.ir_forms.specs.FlatCode.{Step, Code, Nop, Then, only, Let}
+use Rattle.ir_forms.specs.FlatCode.{Code, Nop, Then, only, Let}
 use Rattle.ir_forms.specs.FlatCode as flat
-use Rattle.ir_forms.specs.FlatFits.{code_blocks_in, code_blocks_of_all}
+use Rattle.ir_forms.specs.FlatFits.{code_blocks_of_all}
 use Rattle.flat_lower.specs.Tree.{Expr, Number, Name, Element, Call, Unary, Cast, Convert, Bump}
 use Rattle.flat_lower.specs.Tree.{Binary, Choice, Assign, Comma, Exprs, NoExprs, WithExpr, Stmt}
 use Rattle.flat_lower.specs.Tree.{Declare, Plain, Compound, If, While, Do, For, Break, Continue}

@@ -2,9 +2,9 @@
 use Rattle.std.proofs.Common.{◌≡◌, ℕ, suc, ◌+◌, ◌≤◌, List, [], ◌∷◌, length, Some, slice_get, refl, ap₂, arith}
 use Rattle.trips_isa.specs.declared.block.Block.{Block as MachineBlock}
 use Rattle.ir_forms.specs.HyperCode.{Block}
-use Rattle.ir_forms.specs.HyperFits.{filled_ifs}
+use Rattle.ir_forms.specs.HyperFits.{filled_ifs, filled_in}
 use Rattle.c_compile_layout.specs.Linking.{by_both, linked_from}
-use Rattle.guard_counts.specs.Counts.{guarded_insts, filled_in, guarded_in}
+use Rattle.guard_counts.specs.Counts.{guarded_insts, guarded_in}
 use Rattle.guard_counts.specs.Laws.{ProgramsGuarded}
 use Rattle.guard_counts.proofs.Targets.{resolves}
 

@@ -1,13 +1,11 @@
 -- The guarded instructions of a machine block. Those of a flow block and the filled if-items of a hyper
--- block are counted by `guarded_nodes` and `filled_ifs` of `ir_forms`.
+-- block and program are counted by `guarded_nodes`, `filled_ifs` and `filled_in` of `ir_forms`.
 use Rattle.std.specs.Prelude.{ℕ, ◌+◌, ◌&&◌, not, cond, List, [], ◌∷◌, Option, Some, None}
 use Rattle.trips_isa.specs.declared.block.Inst.{Inst}
 use Rattle.trips_isa.specs.declared.block.Block.{Block}
 use Rattle.trips_isa.specs.Forms.{form_of}
 use Rattle.trips_isa.specs.Operands.{is_guarded}
 use Rattle.ir_forms.specs.FlowFits.{is_branch}
-use Rattle.ir_forms.specs.HyperCode as hyper
-use Rattle.ir_forms.specs.HyperFits.{filled_ifs}
 
 -- 1 where a slot holds an instruction that has a predicate and is no branch, and else 0
 abbrev pub guarded_slot : Option Inst → ℕ
@@ -23,12 +21,7 @@ guarded_slots (i ∷ rest) = guarded_slot i + guarded_slots rest
 abbrev pub guarded_insts : Block → ℕ
 guarded_insts b = guarded_slots b.insts.items
 
--- the filled if-items of a hyper program
-abbrev pub filled_in : List hyper.Block → ℕ
-filled_in [] = 0
-filled_in (b ∷ rest) = filled_ifs b.items + filled_in rest
-
--- the guarded instructions of its machine blocks
+-- the guarded instructions of a program's blocks
 abbrev pub guarded_in : List Block → ℕ
 guarded_in [] = 0
 guarded_in (t ∷ rest) = guarded_insts t + guarded_in rest

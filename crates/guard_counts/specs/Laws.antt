@@ -5,13 +5,13 @@ use Rattle.ir_forms.specs.declared.flow.FlowBlock.{FlowBlock}
 use Rattle.ir_forms.specs.FlowFits.{guarded_nodes}
 use Rattle.ir_forms.specs.FlowRegular.{IsRegular}
 use Rattle.ir_forms.specs.HyperCode.{Block}
-use Rattle.ir_forms.specs.HyperFits.{FitsItems, filled_ifs}
+use Rattle.ir_forms.specs.HyperFits.{FitsItems, filled_ifs, filled_in}
 use Rattle.predication.specs.Converted.{predicated}
 use Rattle.null_outputs.specs.Wants.{complete}
 use Rattle.fan_out.specs.Targeted.{HasRoom, IsTargeted}
 use Rattle.grid_place.specs.Moves.{Permutes, IsMoved}
 use Rattle.c_compile_layout.specs.Linking.{Resolves, resolved_block, linked_from}
-use Rattle.guard_counts.specs.Counts.{guarded_insts, filled_in, guarded_in}
+use Rattle.guard_counts.specs.Counts.{guarded_insts, guarded_in}
 
 -- each filled if-item gives a guarded node, also where the block still holds labels
 abbrev pub ConvertsGuarded : Type 0

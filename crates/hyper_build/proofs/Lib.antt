@@ -28,6 +28,8 @@ pub mod Sound
 pub mod Counts
 pub mod SoundWhole
 pub mod Little
+pub mod FilledIfs
+pub mod StandardFacts
 pub mod Built
 pub mod Assigned
 pub mod Emits

@@ -2,11 +2,11 @@
 use Rattle.std.specs.Prelude.{◌≡◌, ℕ, zero, suc, ◌+◌, ◌≤◌, Bool, true, false, List, [], ◌∷◌, length}
 use Rattle.std.specs.Prelude.{Some, slice_get}
 use Rattle.ir_forms.specs.FlatCode.{Function, Program}
-use Rattle.ir_forms.specs.FlatFits.{FitsProgram, code_blocks_of_all}
+use Rattle.ir_forms.specs.FlatFits.{FitsProgram, code_blocks_of_all, small_ifs_of_all}
 use Rattle.ir_forms.specs.FlatRuns.{flat_run}
 use Rattle.ir_forms.specs.Frames.{frames_at}
 use Rattle.ir_forms.specs.HyperCode.{Block}
-use Rattle.ir_forms.specs.HyperFits.{FitsHyper, IsFollowed}
+use Rattle.ir_forms.specs.HyperFits.{FitsHyper, IsFollowed, filled_in}
 use Rattle.ir_forms.specs.HyperRuns.{Layout, hyper_run}
 use Rattle.ir_forms.specs.HyperWords.{AreBytes, IsFaithful}
 use Rattle.reg_assign.specs.Live.{AreCut, AreFew}
@@ -54,6 +54,11 @@ pub record AreBlocksOf (P : Program) (B : List Block) : Type 0 where
 abbrev pub BuildGivesBlocks : Type 0
 BuildGivesBlocks =
     (p : Plan) (P : Program) → FitsProgram P → FitsGroups p P → AreBlocksOf P (built_program p P)
+
+-- Under every plan the blocks have at least as many filled if-items as the program has small ifs.
+abbrev pub KeepsSmallIfs : Type 0
+KeepsSmallIfs =
+    (p : Plan) (P : Program) → small_ifs_of_all P.functions ≤ filled_in (built_program p P)
 
 -- WHAT `assign` GIVES
 

@@ -1,6 +1,6 @@
 ghost use Rattle.hyper_build.specs.CallsClaim.{CallsClaim};
 ghost use Rattle.hyper_build.specs.Followed.{FollowedClaim};
-ghost use Rattle.hyper_build.specs.Laws.{BuildGivesBlocks, BuildKeepsMeaning};
+ghost use Rattle.hyper_build.specs.Laws.{BuildGivesBlocks, BuildKeepsMeaning, KeepsSmallIfs};
 ghost use Rattle.hyper_build.specs.Laws.{GivesAssigned, KeepsAssigned};
 ghost use Rattle.hyper_build.specs.Smallness.{AssignedAreLittle, CutBlocksAreLittle};
 ghost use Rattle.hyper_build.specs.Annotated.{PlainClaim};
@@ -34,6 +34,11 @@ pub fn built_programs_are_blocks()
 /// or saves or restores one group, or holds one small if alone.
 pub fn cut_blocks_are_little()
     ensures { CutBlocksAreLittle }
+{}
+
+/// Under every plan the blocks of a program have at least as many filled if-items as it has small ifs.
+pub fn small_ifs_are_filled()
+    ensures { KeepsSmallIfs }
 {}
 
 /// A plan changes nothing but what calls keep.

@@ -22,6 +22,6 @@ pub use building::build;
 pub use laws::{
     assigned_programs_keep_meaning, blocks_are_followed, built_programs_are_blocks,
     built_programs_keep_meaning, calls_follow, cut_blocks_are_little, emission_builds_programs,
-    emission_puts_blocks, plans_change_nothing,
+    emission_puts_blocks, plans_change_nothing, small_ifs_are_filled,
 };
 pub use plan::{CutPlan, cut_all, is_cut, is_joined};

@@ -137,12 +137,7 @@ fn count_leg(numbering: &mut Numbering, leg: &[FlatStmt]) -> Result<(), Memory>
 
 /// Numbers behind a statement; `on` says whether the code behind it goes on.
 #[cycle(number)]
-fn number_stmt(
-    s: &FlatStmt,
-    numbering: &mut Numbering,
-    site: &Site,
-    on: bool,
-) -> Result<(), Memory>
+fn number_stmt(s: &FlatStmt, numbering: &mut Numbering, site: &Site, on: bool) -> Result<(), Memory>
     ensures { OnOk result (numbering.new
         ≡ forward.number_in (ground.plan site.now) on (step_of s.now) numbering.old) }
 {

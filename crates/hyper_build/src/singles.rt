@@ -187,12 +187,7 @@ pub fn put_get(emitting: &mut Emitting, alloc: Global, site: &Site, to: u16) -> 
 }
 
 /// A jump, behind which nothing is reached; what goes on there has a block of its own.
-pub fn put_jump(
-    emitting: &mut Emitting,
-    alloc: Global,
-    label: u32,
-    on: bool,
-) -> Result<(), Memory>
+pub fn put_jump(emitting: &mut Emitting, alloc: Global, label: u32, on: bool) -> Result<(), Memory>
     ensures { OnOk result (emission_of emitting.new
         ≡ code.leaving (hyper.jump label) (back.cut_at on (emission_of emitting.old))) }
 {

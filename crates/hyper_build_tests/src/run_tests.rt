@@ -62,6 +62,12 @@ const ROWS: &[Row] = &[
         stop: Stop::Ended(606),
     },
     Row {
+        name: "code that nothing reaches",
+        text: texts::UNREACHED,
+        output: b"1",
+        stop: Stop::Ended(12),
+    },
+    Row {
         name: "a full stack",
         text: texts::DEEP,
         output: b"",

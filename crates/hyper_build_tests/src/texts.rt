@@ -80,6 +80,18 @@ pub const DEEP: &str = "int fall(int n) { int a[1000]; a[0] = n; return fall(n +
 int main(void) { return fall(0); }
 ";
 
+pub const UNREACHED: &str = "#include <stdio.h>
+int common(int a, int b) {
+  while (1) {
+    if (b == 0) return a;
+    { int r = a % b; a = b; b = r; continue; if (r) b = 1; }
+    break; if (a) a = 0;
+  }
+  return a; return b; if (b) a = b; return a;
+}
+int main(void) { int x = common(84, 36); putchar('0' + x / 10); return x; if (x) x = 2; putchar('n'); }
+";
+
 pub const ONE_LEG: &str = "#include <stdio.h>
 int main(void) {
   int c; int most = 0;

@@ -162,6 +162,11 @@ abbrev mutual
   small_ifs Nop = 0
   small_ifs (s ▹ rest) = small_ifs_in s + small_ifs rest
 
+-- the small ifs of functions
+abbrev pub small_ifs_of_all : List Function → ℕ
+small_ifs_of_all [] = 0
+small_ifs_of_all (f ∷ fs) = small_ifs f.body + small_ifs_of_all fs
+
 -- PROGRAMS
 
 pub record FitsFunction (fs : List Function) (f : Function) : Type 0 where

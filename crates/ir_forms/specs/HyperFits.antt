@@ -1,6 +1,6 @@
 -- Hyper blocks that the passes take: the fields that they name, and what they hold.
 use Rattle.std.specs.Prelude.{◌≡◌, ℕ, suc, ◌+◌, ◌^◌, ◌<◌, ◌≤◌, Bool, true, false, ◌||◌, cond, List}
-use Rattle.std.specs.Prelude.{length, Some, slice_get}
+use Rattle.std.specs.Prelude.{[], ◌∷◌, length, Some, slice_get}
 use Rattle.ir_forms.specs.declared.hyper.Source.{Source}
 use Rattle.ir_forms.specs.declared.hyper.Source.TheVariants.{Const, Reg}
 use Rattle.ir_forms.specs.declared.hyper.Exit.{Exit}
@@ -110,3 +110,8 @@ filled_ifs (Save op a v rest) = filled_ifs rest
 filled_ifs (If t one other rest) =
     cond (is_filled one || is_filled other) 1 0 +
     (filled_ifs one + filled_ifs other + filled_ifs rest)
+
+-- those of a program
+abbrev pub filled_in : List Block → ℕ
+filled_in [] = 0
+filled_in (b ∷ rest) = filled_ifs b.items + filled_in rest

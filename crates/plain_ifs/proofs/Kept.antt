@@ -3,10 +3,10 @@ use Rattle.std.proofs.Common.{◌≡◌, ℕ, ◌+◌, Bool, List, [], ◌∷◌
 use Rattle.std.specs.Prelude.{cond, ◌&&◌}
 use Rattle.ir_forms.specs.FlatCode.{Step, Let, Frame, Load, Save, Call, Put, Get, If, Loop, Break}
 use Rattle.ir_forms.specs.FlatCode.{Continue, Return, Code, Nop, ◌▹◌, Function}
-use Rattle.ir_forms.specs.FlatFits.{is_small_leg, is_empty, small_if, small_ifs_in, small_ifs}
+use Rattle.ir_forms.specs.FlatFits.{is_small_leg, is_empty, small_if, small_ifs_in, small_ifs, small_ifs_of_all}
 use Rattle.reg_assign.specs.Live.{VarSet}
 use Rattle.reg_assign.specs.Keeps.{calls, calls_in, keeping_in, keeping, keeping_all, kept_by}
-use Rattle.plain_ifs.specs.Laws.{small_ifs_of_all, AssignsSmallIfs}
+use Rattle.plain_ifs.specs.Laws.{AssignsSmallIfs}
 
 module _ (keep : ℕ → VarSet) where
   small_same : (k : ℕ) (a : Code) → is_small_leg (keeping keep k a) ≡ is_small_leg a

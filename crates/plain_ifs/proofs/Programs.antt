@@ -3,10 +3,11 @@ use Rattle.std.proofs.Common.{ℕ, suc, ◌≤◌, List, [], ◌∷◌, map, ari
 use Rattle.std.specs.Prelude.{nat_eq}
 use Rattle.c_tree.specs.declared.TypedFunc.{TypedFunc}
 use Rattle.c_tree.specs.declared.TypedGlobal.{TypedGlobal}
+use Rattle.ir_forms.specs.FlatFits.{small_ifs_of_all}
 use Rattle.flat_lower.specs.TreeViews.{stmt_of, func_of}
 use Rattle.flat_lower.specs.Statements.{stmt_code, end_code, context_of, lowered_from, lowered, lowered_program}
 use Rattle.plain_ifs.specs.PlainIfs.{ifs_of_funcs}
-use Rattle.plain_ifs.specs.Laws.{small_ifs_of_all, LowersPlainIfs, AssignsPlainIfs}
+use Rattle.plain_ifs.specs.Laws.{LowersPlainIfs, AssignsPlainIfs}
 use Rattle.plain_ifs.proofs.SmallIfs.{then_small}
 use Rattle.plain_ifs.proofs.Statements.{shows}
 use Rattle.plain_ifs.proofs.Kept.{assigns_small}

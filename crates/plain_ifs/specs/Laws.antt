@@ -1,18 +1,13 @@
 -- That lowering keeps plain ifs as small ones, and that the lists of kept variables change none.
-use Rattle.std.specs.Prelude.{◌≡◌, ℕ, ◌+◌, ◌≤◌, List, [], ◌∷◌}
+use Rattle.std.specs.Prelude.{◌≡◌, ℕ, ◌≤◌, List}
 use Rattle.c_tree.specs.declared.TypedProgram.{TypedProgram}
-use Rattle.ir_forms.specs.FlatCode.{Function, Program}
-use Rattle.ir_forms.specs.FlatFits.{small_ifs}
+use Rattle.ir_forms.specs.FlatCode.{Program}
+use Rattle.ir_forms.specs.FlatFits.{small_ifs_of_all}
 use Rattle.flat_lower.specs.Statements.{lowered_program}
 use Rattle.reg_assign.specs.Keeps.{assigned_program}
 use Rattle.plain_ifs.specs.PlainIfs.{plain_ifs}
 
--- the small ifs of functions: ifs whose legs are each empty or one operation, and not both empty
-abbrev pub small_ifs_of_all : List Function → ℕ
-small_ifs_of_all [] = 0
-small_ifs_of_all (f ∷ fs) = small_ifs f.body + small_ifs_of_all fs
-
--- each plain if becomes a small one
+-- each plain if becomes a small one: its legs are each empty or one operation, and not both empty
 abbrev pub LowersPlainIfs : Type 0
 LowersPlainIfs =
     (P : TypedProgram) → plain_ifs P ≤ small_ifs_of_all (lowered_program P).functions

@@ -1,0 +1,44 @@
+-- The image of a program has a guarded instruction for each small if.
+use Rattle.std.proofs.Common.{◌≡◌, ℕ, ◌≤◌, List, Some, slice_get, sym, subst, arith}
+use Rattle.trips_isa.specs.declared.block.Block.{Block}
+use Rattle.trips_isa.specs.declared.block.Image.{Image}
+use Rattle.trips_isa.specs.Images.{chunk_of}
+use Rattle.ir_forms.specs.FlatFits.{small_ifs_of_all}
+use Rattle.ir_forms.specs.HyperCode as hyper
+use Rattle.ir_forms.specs.HyperFits.{FitsHyper}
+use Rattle.hyper_build.specs.Laws.{built_program, plan_of}
+use Rattle.hyper_build.proofs.Assigned.{gives_assigned}
+use Rattle.hyper_build.proofs.FilledIfs.{keeps_small_ifs}
+use Rattle.predication.specs.Tails.{labelled}
+use Rattle.grid_place.specs.declared.placed.Placing.{Placing}
+use Rattle.grid_place.specs.Moves.{goes}
+use Rattle.guard_counts.specs.Counts.{guarded_in}
+use Rattle.guard_counts.specs.Laws.{AreGuarded}
+use Rattle.guard_counts.proofs.Machines.{machines}
+use Rattle.guard_counts.proofs.Programs.{programs}
+use Rattle.c_compile_blocks.specs.Blocks.{AreMachineBlocks}
+use Rattle.c_compile_laws.specs.Laws.{GuardsSmallIfs}
+
+-- each machine block has as many guarded instructions as its hyper block has filled if-items
+are_guarded : (p : Placing) (B : List hyper.Block) (us : List Block) → AreMachineBlocks p B us
+    → ((k : ℕ) (b : hyper.Block) → slice_get B k ≡ Some b → FitsHyper b) → AreGuarded B us
+are_guarded p B us all fit = record {
+  size = all.size;
+  each = λ k b u is_b is_u.
+      let m = all.each k b u is_b is_u in
+      machines (goes m.placed.to) m.placed.permutes.back (labelled b) m.target u (fit k b is_b).items m.room
+      m.targeted m.placed.permutes.permutes m.placed.moved;
+}
+
+pub guards_small_ifs : GuardsSmallIfs
+guards_small_ifs P F t p i m c =
+    let plan = plan_of c.cuts c.joins c.groups in
+    let B = built_program plan F in
+    let shape = gives_assigned c.cuts c.joins F c.lists c.groups m.fits c.assigned in
+    let n = shape.few in
+    let b = m.blocks in
+    let f = m.few in
+    let g = are_guarded p B c.blocks c.made (λ k x e. shape.fit (omega (arith, n, b, f)) k x e) in
+    let x = keeps_small_ifs plan F in
+    let y = programs (chunk_of c.blocks) 0 B c.blocks g in
+    subst (λ (j : Image). small_ifs_of_all F.functions ≤ guarded_in j.blocks) (sym c.is) (omega (arith, x, y))

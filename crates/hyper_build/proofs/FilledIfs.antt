@@ -1,0 +1,414 @@
+-- Under every plan each small if is an item with a filled leg, also behind a break, a continue or a return.
+use Rattle.std.proofs.Common.{◌≡◌, ℕ, suc, ◌+◌, ◌≤◌, Bool, true, false, cond, not, ◌&&◌, ◌||◌}
+use Rattle.std.proofs.Common.{List, [], ◌∷◌, ◌++◌, map, length, Option, Some, None, refl, sym, ap, ap₂, ◌∙◌}
+use Rattle.std.proofs.Common.{arith}
+use Rattle.ir_forms.specs.declared.flat.Arg.{Arg}
+use Rattle.ir_forms.specs.FlatCode.{Step, Let, Frame, Load, Save, Call, Put, Get, If, Loop, Break, Continue}
+use Rattle.ir_forms.specs.FlatCode.{Return, Code, Nop, ◌▹◌, Function}
+use Rattle.ir_forms.specs.FlatFits.{steps_in, steps_of, is_small_leg, is_empty, small_if, small_ifs_in, small_ifs}
+use Rattle.ir_forms.specs.FlatFits.{small_ifs_of_all}
+use Rattle.ir_forms.specs.Frames.{frames_at, frame_limit}
+use Rattle.ir_forms.specs.HyperCode.{Items, Done, Block}
+use Rattle.ir_forms.specs.HyperFits.{is_filled, filled_ifs, filled_in}
+use Rattle.ir_forms.specs.HyperRuns.{jump}
+use Rattle.reg_assign.specs.Keeps.{calls_in, calls}
+use Rattle.hyper_build.specs.Tree.{Plan, Routine, leaves, goes_on, annotated_in, annotated, annotated_all}
+use Rattle.hyper_build.specs.Parts.{source, Move, cut, cut_blocks, cut_size, chain, chain_blocks, moved}
+use Rattle.hyper_build.specs.Parts.{moved_blocks}
+use Rattle.hyper_build.specs.Passing.{saving, restoring, argument_moves, argument_cuts, result_then}
+use Rattle.hyper_build.specs.Passing.{parameter_moves, parameter_cuts}
+use Rattle.hyper_build.specs.Straight.{Place, in_loop, items_in, items_of, is_small_if, is_item, exit_leg}
+use Rattle.hyper_build.specs.Straight.{label_or, leg_blocks, leg_size, arguments_size, size_in, size}
+use Rattle.hyper_build.specs.BackwardItems.{is_straight_in, is_straight, is_if_item, if_then}
+use Rattle.hyper_build.specs.BackwardCode.{test_block}
+use Rattle.hyper_build.specs.Build.{call_block, choose, body_end, entry_in, entry, blocks_in, blocks, back_block}
+use Rattle.hyper_build.specs.Routines.{place_of, way_out, body_entry, body_label}
+use Rattle.hyper_build.specs.Routines.{parameters_size, routine_size, routine_blocks, all_blocks, entry_from}
+use Rattle.hyper_build.specs.Laws.{KeepsSmallIfs}
+use Rattle.hyper_build.proofs.ItemLegs.{and_parts, item_is, legs_straight}
+
+abbrev filled : Block → ℕ
+filled b = filled_ifs b.items
+
+filled_append : (xs ys : List Block) → filled_in (xs ++ ys) ≡ filled_in xs + filled_in ys
+filled_append [] ys = refl
+filled_append (x ∷ xs) ys = let h = filled_append xs ys in omega (arith, h)
+
+-- CUTS, CHAINS AND MOVES
+
+-- what stands behind a cut is there
+cut_keeps : (c : Bool) (l : ℕ) (k : Block) → filled k ≤ filled (cut c l k) + filled_in (cut_blocks c k)
+cut_keeps true l k = omega arith
+cut_keeps false l k = omega arith
+
+-- what stands behind the restores of a call is there, in the last of their blocks
+restores_keep : (frame : ℕ) (gs : List (List ℕ)) (l : ℕ) (k : Block)
+    → filled k ≤ filled (chain (map (restoring frame) gs) l k)
+    + filled_in (chain_blocks (map (restoring frame) gs) l k)
+restores_keep frame [] l k = omega arith
+restores_keep frame (g ∷ gs) l k = let h = restores_keep frame gs (l + 1) k in omega (arith, h)
+
+moved_keeps : (cuts : ℕ → Bool) (i : ℕ) (xs : List Move) (l : ℕ) (k : Block)
+    → filled k ≤ filled (moved cuts i xs l k) + filled_in (moved_blocks cuts i xs l k)
+moved_keeps cuts i [] l k = omega arith
+moved_keeps cuts i (x ∷ xs) l k =
+    let l1 = l + cut_size (cuts i) in
+    let rest = moved cuts (suc i) xs l1 k in
+    let c = cut_keeps (cuts i) l rest in
+    let h = moved_keeps cuts (suc i) xs l1 k in
+    let a = filled_append (cut_blocks (cuts i) rest) (moved_blocks cuts (suc i) xs l1 k) in
+    omega (arith, c, h, a)
+
+result_keeps : (to : Option ℕ) (k : Block) → filled (result_then to k) ≡ filled k
+result_keeps None k = refl
+result_keeps (Some v) k = refl
+
+-- SMALL IFS
+
+-- a leg that is empty or one operation: it does something, or is empty
+leg_filled : (P : Place) (p : Plan) (i n : ℕ) (c : Code) → is_small_leg c ≡ true
+    → is_filled (items_of P (annotated p i n c) Done) ≡ not (is_empty c)
+leg_filled P p i n Nop e = refl
+leg_filled P p i n (Let to op a b ▹ Nop) e = refl
+leg_filled P p i n (Let to op a b ▹ (x ▹ c)) e = absurd (cc e)
+leg_filled P p i n (Frame to at ▹ c) e = absurd (cc e)
+leg_filled P p i n (Load to op a ▹ c) e = absurd (cc e)
+leg_filled P p i n (Save op a v ▹ c) e = absurd (cc e)
+leg_filled P p i n (Call f args to kept ▹ c) e = absurd (cc e)
+leg_filled P p i n (Put a ▹ c) e = absurd (cc e)
+leg_filled P p i n (Get to ▹ c) e = absurd (cc e)
+leg_filled P p i n (If t one other ▹ c) e = absurd (cc e)
+leg_filled P p i n (Loop body post ▹ c) e = absurd (cc e)
+leg_filled P p i n (Break ▹ c) e = absurd (cc e)
+leg_filled P p i n (Continue ▹ c) e = absurd (cc e)
+leg_filled P p i n (Return v ▹ c) e = absurd (cc e)
+
+leg_straight : (c : Code) → is_small_leg c ≡ true → is_straight c ≡ true
+leg_straight Nop e = refl
+leg_straight (Let to op a b ▹ Nop) e = refl
+leg_straight (Let to op a b ▹ (x ▹ c)) e = absurd (cc e)
+leg_straight (Frame to at ▹ c) e = absurd (cc e)
+leg_straight (Load to op a ▹ c) e = absurd (cc e)
+leg_straight (Save op a v ▹ c) e = absurd (cc e)
+leg_straight (Call f args to kept ▹ c) e = absurd (cc e)
+leg_straight (Put a ▹ c) e = absurd (cc e)
+leg_straight (Get to ▹ c) e = absurd (cc e)
+leg_straight (If t one other ▹ c) e = absurd (cc e)
+leg_straight (Loop body post ▹ c) e = absurd (cc e)
+leg_straight (Break ▹ c) e = absurd (cc e)
+leg_straight (Continue ▹ c) e = absurd (cc e)
+leg_straight (Return v ▹ c) e = absurd (cc e)
+
+-- the count of one if, by whether it is small
+small_number : (a b : Bool) → cond a (cond b 0 1) 0 ≡ cond (a && not b) 1 0
+small_number true true = refl
+small_number true false = refl
+small_number false b = refl
+
+filled_by : (x y f h : Bool) → f ≡ not x → h ≡ not y → not (x && y) ≡ true → (f || h) ≡ true
+filled_by true true f h u v e = absurd (cc e)
+filled_by true false f h u v e = ap₂ (λ y z. y || z) u v
+filled_by false y f h u v e = ap (λ z. z || h) u
+
+-- a small if as an item has a filled leg
+small_filled : (one other : Code) (f h : Bool) → (is_small_leg one ≡ true → f ≡ not (is_empty one))
+    → (is_small_leg other ≡ true → h ≡ not (is_empty other)) → (z : Bool) → is_small_if one other ≡ z
+    → small_if one other ≤ cond (f || h) 1 0
+small_filled one other f h u v false e =
+    let n = small_number (is_small_leg one && is_small_leg other) (is_empty one && is_empty other) in
+    let q : small_if one other ≡ 0 = n ∙ ap (λ z. cond z 1 0) e in
+    omega (arith, q)
+small_filled one other f h u v true e =
+    let n = small_number (is_small_leg one && is_small_leg other) (is_empty one && is_empty other) in
+    let parts = and_parts (is_small_leg one && is_small_leg other) (not (is_empty one && is_empty other)) e in
+    let legs = and_parts (is_small_leg one) (is_small_leg other) parts.0 in
+    let full = filled_by (is_empty one) (is_empty other) f h (u legs.0) (v legs.1) parts.1 in
+    let q : small_if one other ≡ 1 = n ∙ ap (λ z. cond z 1 0) e in
+    let r : cond (f || h) 1 0 ≡ 1 = ap (λ z. cond z 1 0) full in
+    omega (arith, q, r)
+
+small_most : (P : Place) (p : Plan) (i n j m : ℕ) (one other : Code)
+    → small_if one other ≤ cond (is_filled (items_of P (annotated p i n one) Done)
+    || is_filled (items_of P (annotated p j m other) Done)) 1 0
+small_most P p i n j m one other =
+    small_filled one other _ _ (leg_filled P p i n one) (leg_filled P p j m other) (is_small_if one other) refl
+
+-- an if that is no item is not small
+no_item : (joined small : Bool) (straight : Bool) → (small ≡ true → straight ≡ true)
+    → (joined || small) && straight ≡ false → small ≡ false
+no_item joined false straight h e = refl
+no_item true true straight h e = let bad : true ≡ false = sym (h refl) ∙ e in cc
+no_item false true straight h e = let bad : true ≡ false = sym (h refl) ∙ e in cc
+
+small_straight : (one other : Code) → is_small_if one other ≡ true → is_straight one && is_straight other ≡ true
+small_straight one other q =
+    let parts = and_parts (is_small_leg one && is_small_leg other) (not (is_empty one && is_empty other)) q in
+    let each = and_parts (is_small_leg one) (is_small_leg other) parts.0 in
+    ap₂ (λ y z. y && z) (leg_straight one each.0) (leg_straight other each.1)
+
+not_small : (joined : Bool) (one other : Code) → is_if_item joined one other ≡ false → small_if one other ≡ 0
+not_small joined one other e =
+    small_number (is_small_leg one && is_small_leg other) (is_empty one && is_empty other)
+    ∙ ap (λ z. cond z 1 0) (no_item joined (is_small_if one other) (is_straight one && is_straight other)
+    (small_straight one other) e)
+
+-- STRAIGHT CODE
+
+mutual
+  items_keep : (P : Place) (p : Plan) (i n : ℕ) (on : Bool) (x : Step) (r : Items) → is_straight_in x ≡ true
+      → small_ifs_in x + filled_ifs r ≤ filled_ifs (items_in P (annotated_in p i n on x) r)
+  items_keep P p i n on (Let to op a b) r e = omega arith
+  items_keep P p i n on (Frame to at) r e = omega arith
+  items_keep P p i n on (Load to op a) r e = omega arith
+  items_keep P p i n on (Save op a v) r e = omega arith
+  items_keep P p i n on (Call f args to kept) r e = absurd (cc e)
+  items_keep P p i n on (Put a) r e = absurd (cc e)
+  items_keep P p i n on (Get to) r e = absurd (cc e)
+  items_keep P p i n on (If t one other) r e =
+      let j = i + 1 + steps_of one in
+      let m = n + calls one in
+      let q = and_parts (is_straight one) (is_straight other) e in
+      let x = all_items_keep P p (i + 1) n one Done q.0 in
+      let y = all_items_keep P p j m other Done q.1 in
+      let z = small_most P p (i + 1) n j m one other in
+      omega (arith, x, y, z)
+  items_keep P p i n on (Loop body post) r e = absurd (cc e)
+  items_keep P p i n on Break r e = absurd (cc e)
+  items_keep P p i n on Continue r e = absurd (cc e)
+  items_keep P p i n on (Return v) r e = absurd (cc e)
+
+  all_items_keep : (P : Place) (p : Plan) (i n : ℕ) (c : Code) (r : Items) → is_straight c ≡ true
+      → small_ifs c + filled_ifs r ≤ filled_ifs (items_of P (annotated p i n c) r)
+  all_items_keep P p i n Nop r e = omega arith
+  all_items_keep P p i n (x ▹ c) r e =
+      let q = and_parts (is_straight_in x) (is_straight c) e in
+      let rest = items_of P (annotated p (i + steps_in x) (n + calls_in x) c) r in
+      let u = items_keep P p i n (goes_on c) x rest q.0 in
+      let v = all_items_keep P p (i + steps_in x) (n + calls_in x) c r q.1 in
+      omega (arith, u, v)
+
+-- LEGS
+
+-- a leg without blocks has no small if
+leg_none : (P : Place) (p : Plan) (i n join e : ℕ) (c : Code) → exit_leg P join (annotated p i n c) ≡ Some e
+    → small_ifs c ≡ 0
+leg_none P p i n join e Nop h = refl
+leg_none P p i n join e (Break ▹ Nop) h = refl
+leg_none P p i n join e (Continue ▹ Nop) h = refl
+leg_none P p i n join e (Break ▹ (x ▹ c)) h = absurd (cc h)
+leg_none P p i n join e (Continue ▹ (x ▹ c)) h = absurd (cc h)
+leg_none P p i n join e (Let to op a b ▹ c) h = absurd (cc h)
+leg_none P p i n join e (Frame to at ▹ c) h = absurd (cc h)
+leg_none P p i n join e (Load to op a ▹ c) h = absurd (cc h)
+leg_none P p i n join e (Save op a v ▹ c) h = absurd (cc h)
+leg_none P p i n join e (Call f args to kept ▹ c) h = absurd (cc h)
+leg_none P p i n join e (Put a ▹ c) h = absurd (cc h)
+leg_none P p i n join e (Get to ▹ c) h = absurd (cc h)
+leg_none P p i n join e (If t one other ▹ c) h = absurd (cc h)
+leg_none P p i n join e (Loop body post ▹ c) h = absurd (cc h)
+leg_none P p i n join e (Return v ▹ c) h = absurd (cc h)
+
+leg_keeps : (o : Option ℕ) (first : Block) (others : List Block) (m : ℕ)
+    → m ≤ filled first + filled_in others → ((e : ℕ) → o ≡ Some e → m ≡ 0)
+    → m ≤ filled_in (leg_blocks o first others)
+leg_keeps None first others m h z = h
+leg_keeps (Some e) first others m h z = let q = z e refl in omega (arith, q)
+
+-- an if as an item or as a test
+if_keeps : (z : Bool) (item test : Block) (xs ys : List Block) (m : ℕ)
+    → (z ≡ true → m ≤ filled item + filled_in xs) → (z ≡ false → m ≤ filled test + filled_in ys)
+    → m ≤ filled (choose z item test) + filled_in (cond z xs ys)
+if_keeps true item test xs ys m f h = f refl
+if_keeps false item test xs ys m f h = h refl
+
+-- CODE
+
+-- a statement that leaves has no small if
+leaving_none : (x : Step) → leaves x ≡ true → small_ifs_in x ≡ 0
+leaving_none (Let to op a b) e = refl
+leaving_none (Frame to at) e = refl
+leaving_none (Load to op a) e = refl
+leaving_none (Save op a v) e = refl
+leaving_none (Call f args to kept) e = refl
+leaving_none (Put a) e = refl
+leaving_none (Get to) e = refl
+leaving_none (If t one other) e = absurd (cc e)
+leaving_none (Loop body post) e = absurd (cc e)
+leaving_none Break e = refl
+leaving_none Continue e = refl
+leaving_none (Return v) e = refl
+
+-- behind it, what goes on has a block
+leaving_cuts : (P : Place) (p : Plan) (l i n : ℕ) (on : Bool) (x : Step) (k : Block) → leaves x ≡ true
+    → blocks_in P (annotated_in p i n on x) l k ≡ cut_blocks on k
+leaving_cuts P p l i n on (Let to op a b) k e = absurd (cc e)
+leaving_cuts P p l i n on (Frame to at) k e = absurd (cc e)
+leaving_cuts P p l i n on (Load to op a) k e = absurd (cc e)
+leaving_cuts P p l i n on (Save op a v) k e = absurd (cc e)
+leaving_cuts P p l i n on (Call f args to kept) k e = absurd (cc e)
+leaving_cuts P p l i n on (Put a) k e = absurd (cc e)
+leaving_cuts P p l i n on (Get to) k e = absurd (cc e)
+leaving_cuts P p l i n on (If t one other) k e = absurd (cc e)
+leaving_cuts P p l i n on (Loop body post) k e = absurd (cc e)
+leaving_cuts P p l i n on Break k e = refl
+leaving_cuts P p l i n on Continue k e = refl
+leaving_cuts P p l i n on (Return v) k e = refl
+
+-- The small ifs of code are in the rest of a block that does it and in its blocks, and where it does not go on,
+-- in its blocks alone.
+abbrev AreKept : Code → Block → List Block → Type 0
+AreKept c first others =
+    (small_ifs c ≤ filled first + filled_in others) × (goes_on c ≡ false → small_ifs c ≤ filled_in others)
+
+-- behind a statement that leaves
+behind_keeps : (c : Code) (k : Block) (more : List Block) (on : Bool) → goes_on c ≡ on → AreKept c k more
+    → small_ifs c ≤ filled_in (cut_blocks on k ++ more)
+behind_keeps c k more true e r = let h = r.0 in omega (arith, h)
+behind_keeps c k more false e r = r.1 e
+
+-- a statement and what stands behind it
+code_by : (x : Step) (c : Code) (first : Block) (own more : List Block) (k : Block) (z : Bool) → leaves x ≡ z
+    → (leaves x ≡ false → small_ifs_in x + filled k ≤ filled first + filled_in own)
+    → (leaves x ≡ true → own ≡ cut_blocks (goes_on c) k) → AreKept c k more
+    → AreKept (x ▹ c) first (own ++ more)
+code_by x c first own more k false z s o r =
+    let h = s z in
+    let q = r.0 in
+    let a = filled_append own more in
+    (omega (arith, h, q, a), λ e. let bad : true ≡ false = sym (ap not z) ∙ e in absurd (cc bad))
+code_by x c first own more k true z s o r =
+    let n = leaving_none x z in
+    let h = behind_keeps c k more (goes_on c) refl r in
+    let a : filled_in (own ++ more) ≡ filled_in (cut_blocks (goes_on c) k ++ more) =
+    ap (λ y. filled_in (y ++ more)) (o z) in
+    (omega (arith, n, h, a), λ e. omega (arith, n, h, a))
+
+mutual
+  -- a statement that does not leave, and the rest behind it
+  step_keeps : (P : Place) (p : Plan) (l i n : ℕ) (on : Bool) (x : Step) (k : Block) → leaves x ≡ false
+      → small_ifs_in x + filled k
+      ≤ filled (entry_in P (annotated_in p i n on x) l k) + filled_in (blocks_in P (annotated_in p i n on x) l k)
+  step_keeps P p l i n on (Let to op a b) k e = let h = cut_keeps (p.cut i) l k in omega (arith, h)
+  step_keeps P p l i n on (Frame to at) k e = let h = cut_keeps (p.cut i) l k in omega (arith, h)
+  step_keeps P p l i n on (Load to op a) k e = let h = cut_keeps (p.cut i) l k in omega (arith, h)
+  step_keeps P p l i n on (Save op a v) k e = let h = cut_keeps (p.cut i) l k in omega (arith, h)
+  step_keeps P p l i n on (Call f args to kept) k e =
+      let small = p.small i in
+      let groups = p.groups n in
+      let g = length groups in
+      let back = l + g + arguments_size small args in
+      let rest = cut (p.cut i) (back + 1 + g) k in
+      let last = result_then to rest in
+      let moves = argument_moves 0 args in
+      let call = call_block (P.entries f) back in
+      let saves = chain_blocks (map (saving P.frame) groups) l
+      (moved (argument_cuts small) 0 moves (l + g) call) in
+      let passes = moved_blocks (argument_cuts small) 0 moves (l + g) call in
+      let restores = chain_blocks (map (restoring P.frame) groups) (back + 1) last in
+      let cuts = cut_blocks (p.cut i) k in
+      let h = cut_keeps (p.cut i) (back + 1 + g) k in
+      let r = result_keeps to rest in
+      let b = restores_keep P.frame groups (back + 1) last in
+      let a1 = filled_append saves (passes ++ (back_block P groups (back + 1) last ∷ (restores ++ cuts))) in
+      let a2 = filled_append passes (back_block P groups (back + 1) last ∷ (restores ++ cuts)) in
+      let a3 = filled_append restores cuts in
+      omega (arith, h, r, b, a1, a2, a3)
+  step_keeps P p l i n on (Put a) k e = omega arith
+  step_keeps P p l i n on (Get to) k e = let h = cut_keeps (p.cut i) (l + 1) k in omega (arith, h)
+  step_keeps P p l i n on (If a one other) k e =
+      let j = i + 1 + steps_of one in
+      let m = n + calls one in
+      let A = annotated p (i + 1) n one in
+      let C = annotated p j m other in
+      let l1 = l + leg_size A (size A) in
+      let join = l1 + leg_size C (size C) in
+      let e1 = entry P A (l + 1) (jump join) in
+      let e2 = entry P C (l1 + 1) (jump join) in
+      let b1 = blocks P A (l + 1) (jump join) in
+      let b2 = blocks P C (l1 + 1) (jump join) in
+      let first = leg_blocks (exit_leg P join A) e1 b1 in
+      let second = leg_blocks (exit_leg P join C) e2 b2 in
+      let same = item_is p i n (p.joined i) one other in
+      if_keeps (is_item (p.joined i) A C)
+      (if_then (source a) (items_of P A Done) (items_of P C Done) (cut (p.cut i) l k))
+      (test_block a (label_or l (exit_leg P join A)) (label_or l1 (exit_leg P join C)))
+      (cut_blocks (p.cut i) k) (first ++ (second ++ k ∷ []))
+      (small_if one other + (small_ifs one + small_ifs other) + filled k)
+      (λ z. let q = legs_straight (p.joined i) one other (sym same ∙ z) in
+      let x = all_items_keep P p (i + 1) n one Done q.0 in
+      let y = all_items_keep P p j m other Done q.1 in
+      let s = small_most P p (i + 1) n j m one other in
+      let h = cut_keeps (p.cut i) l k in
+      omega (arith, x, y, s, h))
+      (λ z. let s = not_small (p.joined i) one other (sym same ∙ z) in
+      let u = code_keeps P p (l + 1) (i + 1) n one (jump join) in
+      let v = code_keeps P p (l1 + 1) j m other (jump join) in
+      let x = leg_keeps (exit_leg P join A) e1 b1 (small_ifs one) u.0
+      (λ d q. leg_none P p (i + 1) n join d one q) in
+      let y = leg_keeps (exit_leg P join C) e2 b2 (small_ifs other) v.0
+      (λ d q. leg_none P p j m join d other q) in
+      let a1 = filled_append first (second ++ k ∷ []) in
+      let a2 = filled_append second (k ∷ []) in
+      omega (arith, s, x, y, a1, a2))
+  step_keeps P p l i n on (Loop body post) k e =
+      let A = annotated p (i + 1) n body in
+      let C = annotated p (i + 1 + steps_of body) (n + calls body) post in
+      let next = l + 1 + size A in
+      let q = in_loop P (next + 1 + size C) next in
+      let after = body_end q (p.cut i) C next l in
+      let x = (code_keeps q p (l + 1) (i + 1) n body after).0 in
+      let y = (code_keeps q p (next + 1) (i + 1 + steps_of body) (n + calls body) post (jump l)).0 in
+      let a1 = filled_append (blocks q A (l + 1) after)
+      (entry q C (next + 1) (jump l) ∷ (blocks q C (next + 1) (jump l) ++ k ∷ [])) in
+      let a2 = filled_append (blocks q C (next + 1) (jump l)) (k ∷ []) in
+      omega (arith, x, y, a1, a2)
+  step_keeps P p l i n on Break k e = absurd (cc e)
+  step_keeps P p l i n on Continue k e = absurd (cc e)
+  step_keeps P p l i n on (Return v) k e = absurd (cc e)
+
+  code_keeps : (P : Place) (p : Plan) (l i n : ℕ) (c : Code) (k : Block)
+      → AreKept c (entry P (annotated p i n c) l k) (blocks P (annotated p i n c) l k)
+  code_keeps P p l i n Nop k = (omega arith, λ e. omega arith)
+  code_keeps P p l i n (x ▹ c) k =
+      let S = annotated_in p i n (goes_on c) x in
+      let l1 = l + size_in S in
+      let R = annotated p (i + steps_in x) (n + calls_in x) c in
+      let k1 = entry P R l1 k in
+      code_by x c (entry_in P S l k1) (blocks_in P S l k1) (blocks P R l1 k) k1 (leaves x) refl
+      (λ z. step_keeps P p l i n (goes_on c) x k1 z) (λ z. leaving_cuts P p l i n (goes_on c) x k1 z)
+      (code_keeps P p l1 (i + steps_in x) (n + calls_in x) c k)
+
+-- PROGRAMS
+
+all_keep : (end : ℕ) (entries : ℕ → ℕ) (p : Plan) (e i n : ℕ) (fs : List Function)
+    → small_ifs_of_all fs ≤ filled_in (all_blocks end entries e (annotated_all p i n fs))
+all_keep end entries p e i n [] = omega arith
+all_keep end entries p e i n (f ∷ fs) =
+    let g : Routine = record {
+      params = f.params;
+      scalars = f.scalars;
+      arrays = f.arrays;
+      small = p.small i;
+      body = annotated p (i + 1) n f.body;
+    } in
+    let rest = all_blocks end entries (e + routine_size g)
+    (annotated_all p (i + 1 + steps_of f.body) (n + calls f.body) fs) in
+    let moves = parameter_moves 0 g.params in
+    let b = body_entry g entries e in
+    let to = cut g.small (e + 2 + parameters_size g) b in
+    let more = blocks (place_of g entries) g.body (body_label g e) (way_out g) in
+    let passes = moved_blocks (parameter_cuts g.small) 0 moves (e + 2) to in
+    let x = (code_keeps (place_of g entries) p (body_label g e) (i + 1) n f.body (way_out g)).0 in
+    let y = all_keep end entries p (e + routine_size g) (i + 1 + steps_of f.body) (n + calls f.body) fs in
+    let c = cut_keeps g.small (e + 2 + parameters_size g) b in
+    let m = moved_keeps (parameter_cuts g.small) 0 moves (e + 2) to in
+    let a1 = filled_append (routine_blocks end entries e g) rest in
+    let a2 = filled_append passes (cut_blocks g.small b ++ more) in
+    let a3 = filled_append (cut_blocks g.small b) more in
+    omega (arith, x, y, c, m, a1, a2, a3)
+
+pub keeps_small_ifs : KeepsSmallIfs
+keeps_small_ifs p P =
+    let fs = annotated_all p 0 0 P.functions in
+    let h = all_keep (frames_at P.bytes + frame_limit) (entry_from 3 fs) p 3 0 0 P.functions in
+    omega (arith, h)

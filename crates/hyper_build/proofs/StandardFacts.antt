@@ -1,0 +1,39 @@
+-- Worked rows of what has a block of its own behind a break, a continue or a return.
+use Rattle.std.proofs.Common.{◌≡◌, true, false, None, refl}
+use Rattle.trips_isa.specs.declared.op.Op.TheVariants.{Mov}
+use Rattle.ir_forms.specs.declared.flat.Arg.{Arg}
+use Rattle.ir_forms.specs.FlatCode.{Let, Put, If, Break, Continue, Return, Nop, ◌▹◌}
+use Rattle.hyper_build.specs.Tree.{Plan, goes_on, annotated}
+use Rattle.hyper_build.specs.Straight.{size}
+
+-- nothing stands behind the last statement of a list
+nothing : goes_on Nop ≡ false
+nothing = refl
+
+-- what leaves at once does nothing that could be reached
+a_break : goes_on (Break ▹ Nop) ≡ false
+a_break = refl
+
+a_continue : goes_on (Continue ▹ Nop) ≡ false
+a_continue = refl
+
+a_return : (x : Arg) → goes_on (Return None ▹ Let 0 Mov x x ▹ Nop) ≡ false
+a_return x = refl
+
+-- anything else goes on, also where both its legs leave
+an_operation : (x : Arg) → goes_on (Let 0 Mov x x ▹ Nop) ≡ true
+an_operation x = refl
+
+an_if : (x : Arg) → goes_on (If x (Break ▹ Nop) (Continue ▹ Nop) ▹ Nop) ≡ true
+an_if x = refl
+
+-- a break alone and the last return of a function begin no block, nor do two returns
+one_break : (p : Plan) → size (annotated p 0 0 (Break ▹ Nop)) ≡ 0
+one_break p = refl
+
+two_returns : (p : Plan) → size (annotated p 0 0 (Return None ▹ Return None ▹ Nop)) ≡ 0
+two_returns p = refl
+
+-- an output behind a return has a block, and the one that it comes back to
+an_output_behind : (p : Plan) (x : Arg) → size (annotated p 0 0 (Return None ▹ Put x ▹ Nop)) ≡ 2
+an_output_behind p x = refl
