@@ -15,6 +15,9 @@ const MOST_PARTS: u32 = 32;
 /// The most tests before a block's end, which may be one more: 256 cases have eight.
 const MOST_TESTS: u32 = 7;
 
+/// The register in which a loop's test is kept that goes on in the block of the loop's head.
+const TEST: usize = 92;
+
 /// What gives a register's word in a block: an operation, the block's read, or as yet nothing.
 #[derive(Clone, Copy)]
 struct Producer {
@@ -247,6 +250,22 @@ impl Estimate {
                 }
             }
         }
+    }
+
+    /// A loop's test, with which its leg goes on in the same block, and the exit that leaves the loop. A `mov`
+    /// keeps the word; `tnei` gives a bit for the leg, and one for the exits.
+    pub fn merge(&mut self, x: Arg) {
+        self.put(TEST, x);
+        self.take(TEST);
+        self.take(TEST);
+        self.count(4);
+        self.tests = self.tests.saturating_add(2);
+    }
+
+    /// What came behind so many instructions stands under a guard: each has the bit brought to it.
+    pub fn under_guard(&mut self, before: u32) {
+        let added = self.insts.saturating_sub(before);
+        self.count(added.saturating_add(1));
     }
 
     /// The instruction that set a register last has a guard: the test is brought to it, and where it is not

@@ -122,7 +122,8 @@ pub fn are_plain(stmts: &[FlatStmt]) -> bool {
     true
 }
 
-fn is_plain(s: &FlatStmt) -> bool {
+/// Whether a statement is an operation, a load or a store.
+pub fn is_plain(s: &FlatStmt) -> bool {
     match s {
         FlatStmt::Let { .. } => true,
         FlatStmt::Frame { .. } => true,

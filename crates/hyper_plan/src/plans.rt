@@ -24,11 +24,12 @@ fn walk_function(alloc: Global, f: &FlatFunc, calls: usize, site: &Site) -> Resu
         joins: Items::new(alloc),
         last: Some(0),
         block,
+        guarded: false,
         in_item: false,
         calls,
     };
     answer(&mut walk, site)?;
-    walk_stmts(f.body.as_slice(), &mut walk, site)?;
+    walk_stmts(f.body.as_slice(), &mut walk, site, false)?;
     leave(&mut walk, site);
     Ok(walk)
 }
@@ -70,6 +71,7 @@ pub fn greedy(alloc: Global, assigned: &Assigned, rooms: &[u8]) -> Result<CutPla
             joins: joined,
             last: _,
             block: _,
+            guarded: _,
             in_item: _,
             calls: _,
         } = walk;

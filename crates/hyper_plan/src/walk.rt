@@ -10,9 +10,9 @@ ghost use Rattle.ir_forms.specs.FlatViews.{code_of, step_of};
 ghost use Rattle.hyper_plan.specs.Answers.{only_cuts};
 
 use crate::estimate::Estimate;
-use crate::if_items::{add_item, are_items, is_small_if};
+use crate::if_items::{add_item, are_items, is_break, is_small_if};
 use crate::items::{
-    Frame, add_all, add_call, add_result, add_return, add_saves, add_statement, are_plain,
+    Frame, add_all, add_call, add_result, add_return, add_saves, add_statement, are_plain, is_plain,
 };
 use base::{Items, Memory};
 use ir_forms::{Arg, FlatStmt};
@@ -27,15 +27,33 @@ pub struct Site<'a> {
 }
 
 /// The answers so far, to cut and to join, the last place at which the open block may end, what that block
-/// comes to, whether the statement stands in an if that is an item, and the calls that stand before.
+/// comes to, whether the open block goes on under a loop's test, whether the statement stands in an if that is an
+/// item, and the calls that stand before.
 #[derive(Drop)]
 pub struct Walk {
     pub answers: Items<bool>,
     pub joins: Items<bool>,
     pub last: Option<usize>,
     pub block: Estimate,
+    pub guarded: bool,
     pub in_item: bool,
     pub calls: usize,
+}
+
+/// What an if is: an item of its block, a loop's test with which the block goes on, or the end of its block.
+#[derive(Clone, Copy)]
+enum Begun {
+    Item,
+    Test,
+    End,
+}
+
+/// What an if may be: its legs are straight, it is a small one, or it is a loop's test.
+#[derive(Clone, Copy)]
+struct Shape {
+    straight: bool,
+    small: bool,
+    ends: bool,
 }
 
 /// The block is cut at a place.
@@ -61,6 +79,7 @@ fn open(walk: &mut Walk, site: &Site)
     }
     walk.last = None;
     walk.block = Estimate::empty();
+    walk.guarded = false;
 }
 
 /// The block is cut where it may be cut last, and another begins.
@@ -81,6 +100,13 @@ fn fits(block: &Estimate, site: &Site) -> bool {
     block.fits(site.room as u32)
 }
 
+/// What was added to the open block stands under its guard, where it has one.
+fn guard(walk: &Walk, block: &mut Estimate) {
+    if walk.guarded {
+        block.under_guard(walk.block.insts);
+    }
+}
+
 /// A statement goes into the open block, or where it has no room there into another. One of an if that is an
 /// item is there already.
 #[inline(never)]
@@ -94,6 +120,7 @@ fn join(walk: &mut Walk, s: &FlatStmt, site: &Site)
     }
     let mut block = walk.block;
     add_statement(&mut block, s, site.frame);
+    guard(walk, &mut block);
     if !fits(&block, site) {
         cut_last(walk, site);
         block = Estimate::empty();
@@ -182,6 +209,7 @@ pub fn leave(walk: &mut Walk, site: &Site)
 {
     let mut block = walk.block;
     add_return(&mut block, None, site.frame);
+    guard(walk, &mut block);
     close(walk, &block, site);
 }
 
@@ -196,6 +224,7 @@ fn join_saves(walk: &mut Walk, group: &[u16], site: &Site)
 {
     let mut block = walk.block;
     add_saves(&mut block, group, site.frame);
+    guard(walk, &mut block);
     close(walk, &block, site);
 }
 
@@ -224,6 +253,7 @@ fn join_call(walk: &mut Walk, args: &[Arg], site: &Site)
 {
     let mut block = walk.block;
     add_call(&mut block, args);
+    guard(walk, &mut block);
     close(walk, &block, site);
 }
 
@@ -277,6 +307,7 @@ fn join_post(walk: &mut Walk, at: usize, post: &[FlatStmt], site: &Site)
 {
     let mut block = walk.block;
     add_all(&mut block, post, site.frame);
+    guard(walk, &mut block);
     if !(are_plain(post) && fits(&block, site)) {
         cut_at(walk, at, site);
     }
@@ -305,6 +336,7 @@ fn join_item(walk: &mut Walk, s: &FlatStmt, small: bool, site: &Site) -> bool
 {
     let mut block = walk.block;
     add_item(s, &mut block, site.frame);
+    guard(walk, &mut block);
     if !fits(&block, site) {
         block = Estimate::empty();
         add_item(s, &mut block, site.frame);
@@ -330,47 +362,121 @@ fn enter_item(walk: &mut Walk, at: usize, site: &Site)
     walk.in_item = true;
 }
 
-/// An if before its legs, which are straight or not; a small one has straight legs. Whether it begins an item;
-/// else the block ends with its test.
-fn open_if(
-    walk: &mut Walk,
-    s: &FlatStmt,
-    straight: bool,
-    small: bool,
-    site: &Site,
-) -> Result<bool, Memory>
+/// Whether a loop's test has room behind a block, with the first statement of its leg.
+fn test_fits(block: &mut Estimate, test: Arg, leg: &[FlatStmt], site: &Site) -> bool {
+    block.merge(test);
+    let mut whole = *block;
+    match leg.split_first() {
+        None => {}
+        Some((first, _)) => {
+            if !is_plain(first) {
+                return false;
+            }
+            add_statement(&mut whole, first, site.frame);
+            whole.under_guard(block.insts);
+        }
+    }
+    fits(&whole, site)
+}
+
+/// A loop's test goes with its leg into the open block, or where these have no room there into another; whether it
+/// does.
+#[inline(never)]
+fn join_test(walk: &mut Walk, test: Arg, leg: &[FlatStmt], site: &Site) -> bool
+    ensures size { length walk.new.answers ≡ length walk.old.answers }
+    ensures cuts { site.now.room ≡ 0 → only_cuts walk.old.answers ≡ true
+        → only_cuts walk.new.answers ≡ true }
+{
+    let mut block = walk.block;
+    if !test_fits(&mut block, test, leg, site) {
+        block = Estimate::empty();
+        if !test_fits(&mut block, test, leg, site) {
+            return false;
+        }
+        cut_last(walk, site);
+    }
+    walk.block = block;
+    true
+}
+
+/// Whether an if is a loop's test that goes on in the open block.
+fn is_joined_test(walk: &mut Walk, s: &FlatStmt, site: &Site) -> bool
+    ensures size { length walk.new.answers ≡ length walk.old.answers }
+    ensures cuts { site.now.room ≡ 0 → only_cuts walk.old.answers ≡ true
+        → only_cuts walk.new.answers ≡ true }
+{
+    match s {
+        FlatStmt::If { test, yes, .. } => join_test(walk, *test, yes.as_slice(), site),
+        _ => false,
+    }
+}
+
+/// The statements that follow stand under a loop's test, at a place. The block may end behind the first of them.
+fn enter_test(walk: &mut Walk, at: usize, site: &Site)
+    ensures size { length walk.new.answers ≡ length walk.old.answers }
+    ensures cuts { site.now.room ≡ 0 → only_cuts walk.old.answers ≡ true
+        → only_cuts walk.new.answers ≡ true }
+{
+    if at < walk.joins.len() {
+        walk.joins.set(at, true);
+    }
+    walk.last = None;
+    walk.guarded = true;
+}
+
+/// An if before its legs: whether it begins an item, or is a loop's test with which the block goes on; else the block
+/// ends with its test.
+fn open_if(walk: &mut Walk, s: &FlatStmt, shape: Shape, site: &Site) -> Result<Begun, Memory>
     ensures size { OnOk result (length walk.new.answers ≡ length walk.old.answers + 1) }
     ensures cuts { OnOk result (site.now.room ≡ 0 → only_cuts walk.old.answers ≡ true
         → only_cuts walk.new.answers ≡ true) }
 {
     let at = walk.answers.len();
-    if !walk.in_item && straight && join_item(walk, s, small, site) {
+    if !walk.in_item && shape.ends && is_joined_test(walk, s, site) {
+        answer(walk, site)?;
+        enter_test(walk, at, site);
+        Ok(Begun::Test)
+    } else if !walk.in_item && shape.straight && join_item(walk, s, shape.small, site) {
         answer(walk, site)?;
         enter_item(walk, at, site);
-        Ok(true)
+        Ok(Begun::Item)
     } else {
         ending(walk, s, site)?;
-        Ok(false)
+        Ok(Begun::End)
     }
 }
 
-/// An if behind its legs; `item` says that it began an item.
-fn close_if(walk: &mut Walk, item: bool, site: &Site)
+/// Between the legs of an if. The second leg of a loop's test is a break, which adds nothing to the block.
+fn between(walk: &mut Walk, begun: Begun, site: &Site)
     ensures size { length walk.new.answers ≡ length walk.old.answers }
     ensures cuts { site.now.room ≡ 0 → only_cuts walk.old.answers ≡ true
         → only_cuts walk.new.answers ≡ true }
 {
-    if item {
-        walk.in_item = false;
-    } else {
-        open(walk, site);
+    match begun {
+        Begun::Item => {}
+        Begun::Test => walk.in_item = true,
+        Begun::End => open(walk, site),
+    }
+}
+
+/// An if behind its legs.
+fn close_if(walk: &mut Walk, begun: Begun, site: &Site)
+    ensures size { length walk.new.answers ≡ length walk.old.answers }
+    ensures cuts { site.now.room ≡ 0 → only_cuts walk.old.answers ≡ true
+        → only_cuts walk.new.answers ≡ true }
+{
+    match begun {
+        Begun::Item => walk.in_item = false,
+        Begun::Test => walk.in_item = false,
+        Begun::End => open(walk, site),
     }
 }
 
 // ALL STATEMENTS
 
+/// A statement's answers; `last` says whether it is the last one of a loop's body.
 #[cycle(walk)]
-fn walk_stmt(s: &FlatStmt, walk: &mut Walk, site: &Site) -> Result<(), Memory>
+fn walk_stmt(s: &FlatStmt, walk: &mut Walk, site: &Site, last: bool) -> Result<(), Memory>
     ensures size { OnOk result (length walk.new.answers
         ≡ length walk.old.answers + steps_in (step_of s.now)) }
     ensures cuts { OnOk result (site.now.room ≡ 0 → only_cuts walk.old.answers ≡ true
@@ -387,18 +493,24 @@ fn walk_stmt(s: &FlatStmt, walk: &mut Walk, site: &Site) -> Result<(), Memory>
         FlatStmt::If { yes, no, .. } => {
             let straight = are_items(yes.as_slice()) && are_items(no.as_slice());
             let small = is_small_if(yes.as_slice(), no.as_slice());
-            let item = open_if(walk, s, straight, small, site)?;
-            walk_stmts(yes.as_slice(), walk, site)?;
-            open(walk, site);
-            walk_stmts(no.as_slice(), walk, site)?;
-            close_if(walk, item, site);
+            let ends = last && is_break(no.as_slice());
+            let shape = Shape {
+                straight,
+                small,
+                ends,
+            };
+            let begun = open_if(walk, s, shape, site)?;
+            walk_stmts(yes.as_slice(), walk, site, false)?;
+            between(walk, begun, site);
+            walk_stmts(no.as_slice(), walk, site, false)?;
+            close_if(walk, begun, site);
         }
         FlatStmt::Loop { body, post } => {
             let at = walk.answers.len();
             head(walk, site)?;
-            walk_stmts(body.as_slice(), walk, site)?;
+            walk_stmts(body.as_slice(), walk, site, true)?;
             join_post(walk, at, post.as_slice(), site);
-            walk_stmts(post.as_slice(), walk, site)?;
+            walk_stmts(post.as_slice(), walk, site, false)?;
             open(walk, site);
         }
         FlatStmt::Break => head(walk, site)?,
@@ -408,16 +520,23 @@ fn walk_stmt(s: &FlatStmt, walk: &mut Walk, site: &Site) -> Result<(), Memory>
     Ok(())
 }
 
-/// The answers of statements, behind others.
+/// The answers of statements, behind others; `turn` says whether they are a loop's body.
 #[cycle(walk)]
-pub fn walk_stmts(stmts: &[FlatStmt], walk: &mut Walk, site: &Site) -> Result<(), Memory>
+pub fn walk_stmts(
+    stmts: &[FlatStmt],
+    walk: &mut Walk,
+    site: &Site,
+    turn: bool,
+) -> Result<(), Memory>
     ensures size { OnOk result (length walk.new.answers
         ≡ length walk.old.answers + steps_of (code_of stmts.now)) }
     ensures cuts { OnOk result (site.now.room ≡ 0 → only_cuts walk.old.answers ≡ true
         → only_cuts walk.new.answers ≡ true) }
 {
+    let mut left = stmts.len();
     for s in stmts {
-        walk_stmt(s, walk, site)?;
+        left = left.saturating_sub(1);
+        walk_stmt(s, walk, site, turn && left == 0)?;
     }
     Ok(())
 }
