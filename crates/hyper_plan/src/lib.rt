@@ -9,6 +9,7 @@ mod estimate;
 mod estimate_tests;
 mod if_items;
 mod items;
+mod open_block;
 mod plans;
 mod walk;
 

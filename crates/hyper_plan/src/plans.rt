@@ -6,7 +6,8 @@ ghost use Rattle.hyper_plan.specs.Answers.{AreAnswersOf, AreAnswers};
 
 use crate::estimate::Estimate;
 use crate::items::{add_way_in, frame_of};
-use crate::walk::{Site, Walk, answer, leave, walk_stmts};
+use crate::open_block::{Site, Walk, answer, leave};
+use crate::walk::walk_stmts;
 use base::{Items, Memory};
 use hyper_build::CutPlan;
 use ir_forms::FlatFunc;
