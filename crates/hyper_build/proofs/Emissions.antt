@@ -73,16 +73,16 @@ end_is g p c i k post l head =
 -- IFS THAT ARE TESTS
 
 -- its blocks, and the rest of the block before it
-abbrev test_blocks : Place → Tree → Tree → ℕ → Block → List Block
-test_blocks p one other l k =
+abbrev branch_blocks : Place → Tree → Tree → ℕ → Block → List Block
+branch_blocks p one other l k =
     let l1 = l + leg_size one (size one) in
     let join = l1 + leg_size other (size other) in
     leg_blocks (exit_leg p join one) (entry p one (l + 1) (jump join)) (blocks p one (l + 1) (jump join))
     ++ (leg_blocks (exit_leg p join other) (entry p other (l1 + 1) (jump join))
     (blocks p other (l1 + 1) (jump join)) ++ k ∷ [])
 
-abbrev test_rest : Place → Arg → Tree → Tree → ℕ → Block
-test_rest p x one other l =
+abbrev branch_rest : Place → Arg → Tree → Tree → ℕ → Block
+branch_rest p x one other l =
     let l1 = l + leg_size one (size one) in
     let join = l1 + leg_size other (size other) in
     record {
@@ -119,9 +119,9 @@ if_reached : (g : Ground) (b a : ℕ) (x : Arg) (one other : Code) (j l i k : �
     (l + leg_size (annotated (plan g) (i + 1) k one) (size (annotated (plan g) (i + 1) k one)) + 1)
     (i + 1 + steps_of one) (k + calls one) other
     → Reached o (if_by g b a x one other j u) l i k N
-    (test_blocks (place g b a) (annotated (plan g) (i + 1) k one)
+    (branch_blocks (place g b a) (annotated (plan g) (i + 1) k one)
     (annotated (plan g) (i + 1 + steps_of one) (k + calls one) other) l top)
-    (test_rest (place g b a) x (annotated (plan g) (i + 1) k one)
+    (branch_rest (place g b a) x (annotated (plan g) (i + 1) k one)
     (annotated (plan g) (i + 1 + steps_of one) (k + calls one) other) l)
 if_reached g b a x one other j l i k N u top o f1 f2 el ei ek er eo ej en =
     let p = place g b a in
@@ -168,13 +168,13 @@ if_reached g b a x one other j l i k N u top o f1 f2 el ei ek er eo ej en =
 
 -- the blocks of an if, the rest before it, and what emission does, by whether it is an item
 abbrev if_blocks : Bool → Place → Bool → Tree → Tree → ℕ → Block → List Block
-if_blocks z p c one other l k = cond z (cut_blocks c k) (test_blocks p one other l k)
+if_blocks z p c one other l k = cond z (cut_blocks c k) (branch_blocks p one other l k)
 
 abbrev item_rest : Place → Bool → Arg → Tree → Tree → ℕ → Block → Block
 item_rest p c x one other l k = if_then (source x) (items_of p one Done) (items_of p other Done) (cut c l k)
 
 abbrev if_rest : Bool → Place → Bool → Arg → Tree → Tree → ℕ → Block → Block
-if_rest z p c x one other l k = choose z (item_rest p c x one other l k) (test_rest p x one other l)
+if_rest z p c x one other l k = choose z (item_rest p c x one other l k) (branch_rest p x one other l)
 
 abbrev if_out : Bool → Ground → ℕ → ℕ → Arg → Code → Code → Emission → Emission
 if_out z g b a x one other s =

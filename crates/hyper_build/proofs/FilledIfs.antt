@@ -34,7 +34,7 @@ abbrev filled : Block → ℕ
 filled b = filled_ifs b.items
 
 filled_append : (xs ys : List Block) → filled_in (xs ++ ys) ≡ filled_in xs + filled_in ys
-filled_append [] ys = refl
+filled_append [] ys = omega arith
 filled_append (x ∷ xs) ys = let h = filled_append xs ys in omega (arith, h)
 
 -- CUTS, CHAINS AND MOVES
@@ -103,7 +103,7 @@ leg_straight (Continue ▹ c) e = absurd (cc e)
 leg_straight (Return v ▹ c) e = absurd (cc e)
 
 -- the count of one if, by whether it is small
-small_number : (a b : Bool) → cond a (cond b 0 1) 0 ≡ cond (a && not b) 1 0
+small_number : (a b : Bool) → ◌≡◌ {A = ℕ} (cond a (cond b 0 1) 0) (cond (a && not b) 1 0)
 small_number true true = refl
 small_number true false = refl
 small_number false b = refl
@@ -289,7 +289,7 @@ code_by x c first own more k true z s o r =
 -- LOOPS' TESTS
 
 -- a test is no small if
-no_small : (a b : Bool) → cond (a && false) (cond b 0 1) 0 ≡ 0
+no_small : (a b : Bool) → ◌≡◌ {A = ℕ} (cond (a && false) (cond b 0 1) 0) 0
 no_small true b = refl
 no_small false b = refl
 

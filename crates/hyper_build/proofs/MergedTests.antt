@@ -1,5 +1,5 @@
 -- A loop's test and its leg do, as one block, what they mean.
-use Rattle.std.proofs.Common.{◌≡◌, ℕ, zero, suc, ◌+◌, ◌≤◌, Bool, true, false, ◌&&◌, arith}
+use Rattle.std.proofs.Common.{◌≡◌, ℕ, zero, suc, ◌+◌, ◌≤◌, Bool, true, false, ◌&&◌, ◌++◌, arith}
 use Rattle.ir_forms.specs.declared.flat.Arg.{Arg}
 use Rattle.ir_forms.specs.FlatSteps.{State, Res, Calls, read, exec, act}
 use Rattle.ir_forms.specs.HyperCode.{Block}

@@ -261,27 +261,27 @@ groups_small (g ∷ gs) h = (
       each vs (λ v e. h v (or_right (nat_eq v x) (is_among vs v) e)),
     )
 
--- where a leg leads, and where its blocks end
+-- where a leg leads, and where its blocks end, if it has blocks
 pub record LegIs (N l join : ℕ) (p : Place) (c : Tree) : Type 0 where
   pub label : label_or l (exit_leg p join c) < N
-  pub room : l + 1 + size c ≤ N
+  pub room : exit_leg p join c ≡ None → l + 1 + size c ≤ N
 
 own_leg : (N l join : ℕ) (p : Place) (c : Tree) → exit_leg p join c ≡ None → l + (1 + size c) ≤ join
     → join < N → LegIs N l join p c
 own_leg N l join p c e le lt = record {
   label = subst (λ o. label_or l o < N) (sym e) (omega (arith, le, lt));
-  room = omega (arith, le, lt);
+  room = λ q. omega (arith, le, lt);
 }
 
 module _ (W : World) (g : Routine) (scalars : g.scalars ≤ 64) (N : ℕ)
     (known : (f : ℕ) (r : Routine) → slice_get W.routines f ≡ Some r → r.params ≤ 8) where
   leg_is : (inside : Bool) (p : Place) (c : Tree) (l join : ℕ) → FitsTree W g inside c
       → GoodPlace N inside p → l + leg_size c (size c) ≤ join → join < N → LegIs N l join p c
-  leg_is inside p End l join t q le lt = record { label = lt; room = omega (arith, le, lt) }
+  leg_is inside p End l join t q le lt = record { label = lt; room = λ e. absurd (cc e) }
   leg_is inside p (BreakAt c ▸ End) l join t q le lt =
-      record { label = q.broke t.0; room = omega (arith, le, lt) }
+      record { label = q.broke t.0; room = λ e. absurd (cc e) }
   leg_is inside p (ContinueAt c ▸ End) l join t q le lt =
-      record { label = q.again t.0; room = omega (arith, le, lt) }
+      record { label = q.again t.0; room = λ e. absurd (cc e) }
   leg_is inside p (BreakAt c ▸ (x ▸ rest)) l join t q le lt =
       own_leg N l join p (BreakAt c ▸ (x ▸ rest)) refl le lt
   leg_is inside p (ContinueAt c ▸ (x ▸ rest)) l join t q le lt =
@@ -307,10 +307,10 @@ module _ (W : World) (g : Routine) (scalars : g.scalars ≤ 64) (N : ℕ)
   leg_is inside p (ReturnAt c v ▸ rest) l join t q le lt =
       own_leg N l join p (ReturnAt c v ▸ rest) refl le lt
 
-  leg_sound : (o : Option ℕ) (first : Block) (others : List Block) → Sound N first
-      → AllSound N others → AllSound N (leg_blocks o first others)
-  leg_sound None first others a b = (a, b)
-  leg_sound (Some x) first others a b = tt
+  leg_sound : (o : Option ℕ) (first : Block) (others : List Block)
+      → (o ≡ None → Sound N first × AllSound N others) → AllSound N (leg_blocks o first others)
+  leg_sound None first others f = f refl
+  leg_sound (Some x) first others f = tt
 
   give_sound : (v : Option Arg) (k : Block) → FitsReturn g.scalars v → Sound N k → Sound N (give v k)
   give_sound None k t s = s
@@ -458,14 +458,14 @@ module _ (W : World) (g : Routine) (scalars : g.scalars ≤ 64) (N : ℕ)
               let jn = jump_sound N join (omega (arith, z)) in
               let x = leg_is inside p one l join t.2 q (omega arith) (omega (arith, z)) in
               let y = leg_is inside p other l1 join t.3 q (omega arith) (omega (arith, z)) in
-              let u = sound_tree inside p one (l + 1) (jump join) t.2 q x.room jn in
-              let v = sound_tree inside p other (l1 + 1) (jump join) t.3 q y.room jn in
               sound_append N (leg_blocks (exit_leg p join one) (entry p one (l + 1) (jump join))
               (blocks p one (l + 1) (jump join))) _
-              (leg_sound (exit_leg p join one) _ _ u.0 u.1)
+              (leg_sound (exit_leg p join one) _ _
+              (λ n. sound_tree inside p one (l + 1) (jump join) t.2 q (x.room n) jn))
               (sound_append N (leg_blocks (exit_leg p join other) (entry p other (l1 + 1) (jump join))
               (blocks p other (l1 + 1) (jump join))) (k ∷ [])
-              (leg_sound (exit_leg p join other) _ _ v.0 v.1) (s, tt))),
+              (leg_sound (exit_leg p join other) _ _
+              (λ n. sound_tree inside p other (l1 + 1) (jump join) t.3 q (y.room n) jn)) (s, tt))),
         )
     sound_in inside p (LoopAt c body post) l k t q le s =
         let next = l + 1 + turn_size body in
