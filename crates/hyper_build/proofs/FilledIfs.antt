@@ -127,7 +127,7 @@ small_filled one other f h u v true e =
     let legs = and_parts (is_small_leg one) (is_small_leg other) parts.0 in
     let full = filled_by (is_empty one) (is_empty other) f h (u legs.0) (v legs.1) parts.1 in
     let q : small_if one other ≡ 1 = n ∙ ap (λ z. cond z 1 0) e in
-    let r : cond (f || h) 1 0 ≡ 1 = ap (λ z. cond z 1 0) full in
+    let r : ◌≡◌ {A = ℕ} (cond (f || h) 1 0) 1 = ap (λ z. cond z 1 0) full in
     omega (arith, q, r)
 
 small_most : (P : Place) (p : Plan) (i n j m : ℕ) (one other : Code)

@@ -182,7 +182,8 @@ fn body_end(
     }
 }
 
-/// A statement before what is put out; `on` says whether that goes on.
+/// A statement before what is put out; `last` says whether it is the last one of a loop's body, `on` whether
+/// what is put out goes on.
 #[cycle(emit)]
 fn put_stmt(
     s: &FlatStmt,
@@ -191,10 +192,11 @@ fn put_stmt(
     site: &Site,
     broke: u32,
     again: u32,
+    last: bool,
     on: bool,
 ) -> Result<(), Memory>
     ensures { OnOk result (emission_of emitting.new
-        ≡ code.emit_in site.now broke again on (step_of s.now) (emission_of emitting.old)) }
+        ≡ code.part_out site.now broke again last on (step_of s.now) (emission_of emitting.old)) }
 {
     match s {
         FlatStmt::Let { to, op, a, b } => put_let(emitting, alloc, site, *to, *op, *a, *b)?,
@@ -214,7 +216,14 @@ fn put_stmt(
         FlatStmt::If { test, yes, no } => {
             let statements = steps_in(s)?;
             let place = fallen_by(emitting.place, statements);
-            if is_if_item(site.joins(place), yes.as_slice(), no.as_slice()) {
+            let joined = site.joins(place);
+            if is_loop_test(last, joined, no.as_slice()) {
+                let ends = site.cuts(place);
+                cut(emitting, alloc, ends)?;
+                fall(emitting);
+                put_stmts(yes.as_slice(), emitting, alloc, site, broke, again)?;
+                put_merged(emitting, alloc, *test, broke)?;
+            } else if is_if_item(joined, yes.as_slice(), no.as_slice()) {
                 put_joined(s, emitting, alloc, site, statements)?;
             } else {
                 put_out(emitting, alloc)?;
@@ -253,67 +262,6 @@ fn put_stmt(
     Ok(())
 }
 
-/// A loop's test before what its leg goes on with.
-#[cycle(emit)]
-fn put_loop_test(
-    s: &FlatStmt,
-    emitting: &mut Emitting,
-    alloc: Global,
-    site: &Site,
-    broke: u32,
-    again: u32,
-) -> Result<(), Memory>
-    ensures { OnOk result (emission_of emitting.new
-        ≡ code.test_out site.now broke again (step_of s.now) (emission_of emitting.old)) }
-{
-    match s {
-        FlatStmt::Let { .. } => {}
-        FlatStmt::Frame { .. } => {}
-        FlatStmt::Load { .. } => {}
-        FlatStmt::Save { .. } => {}
-        FlatStmt::Call { .. } => {}
-        FlatStmt::Put(_) => {}
-        FlatStmt::Get { .. } => {}
-        FlatStmt::If { test, yes, .. } => {
-            let statements = steps_in(s)?;
-            let place = fallen_by(emitting.place, statements);
-            let ends = site.cuts(place);
-            cut(emitting, alloc, ends)?;
-            fall(emitting);
-            put_stmts(yes.as_slice(), emitting, alloc, site, broke, again)?;
-            put_merged(emitting, alloc, *test, broke)?;
-        }
-        FlatStmt::Loop { .. } => {}
-        FlatStmt::Break => {}
-        FlatStmt::Continue => {}
-        FlatStmt::Return(_) => {}
-    }
-    Ok(())
-}
-
-/// A statement of a loop's body; `last` says whether it is the last one, `on` whether the code behind it goes on.
-#[cycle(emit)]
-fn put_part(
-    s: &FlatStmt,
-    emitting: &mut Emitting,
-    alloc: Global,
-    site: &Site,
-    broke: u32,
-    again: u32,
-    last: bool,
-    on: bool,
-) -> Result<(), Memory>
-    ensures { OnOk result (emission_of emitting.new
-        ≡ code.part_out site.now broke again last on (step_of s.now) (emission_of emitting.old)) }
-{
-    let test = is_loop_test(s, emitting.place, site, last)?;
-    if test {
-        put_loop_test(s, emitting, alloc, site, broke, again)
-    } else {
-        put_stmt(s, emitting, alloc, site, broke, again, on)
-    }
-}
-
 /// A loop's body before what is put out.
 #[cycle(emit)]
 fn put_turn(
@@ -332,7 +280,9 @@ fn put_turn(
         let last = is_last(stmts, at);
         let on = goes_on(stmts, at);
         at -= 1;
-        put_part(&stmts[at], emitting, alloc, site, broke, again, last, on)?;
+        put_stmt(
+            &stmts[at], emitting, alloc, site, broke, again, last, on,
+        )?;
     }
     Ok(())
 }
@@ -354,7 +304,9 @@ pub fn put_stmts(
     while at > 0 {
         let on = goes_on(stmts, at);
         at -= 1;
-        put_stmt(&stmts[at], emitting, alloc, site, broke, again, on)?;
+        put_stmt(
+            &stmts[at], emitting, alloc, site, broke, again, false, on,
+        )?;
     }
     Ok(())
 }

@@ -1,22 +1,19 @@
 //! Loops' tests, with which the rest of the block goes on.
 
-ghost use Rattle.std.specs.Prelude.{◌≡◌, ◌-◌, ◌&&◌, OnOk, IfOk, drop};
+ghost use Rattle.std.specs.Prelude.{◌≡◌, ◌&&◌, OnOk, IfOk, drop};
 ghost use Rattle.ir_forms.specs.FlatFits as flat;
-ghost use Rattle.ir_forms.specs.FlatViews.{code_of, step_of};
+ghost use Rattle.ir_forms.specs.FlatViews.{code_of};
 ghost use Rattle.ir_forms.specs.HyperViews.{tail_of};
 ghost use Rattle.ir_forms.specs.HyperRuns as hyper;
 ghost use Rattle.hyper_build.specs.Backward.{emission_of};
 ghost use Rattle.hyper_build.specs.BackwardCode as code;
 ghost use Rattle.hyper_build.specs.BackwardStatements.{leaving};
 ghost use Rattle.hyper_build.specs.Emitted.{rest_of};
-ghost use Rattle.hyper_build.specs.Laws.{joins_by};
 ghost use Rattle.hyper_build.specs.Merging as merging;
 ghost use Rattle.hyper_build.specs.Parts as parts;
 
 use crate::code::exit_of;
-use crate::counting::steps_in;
-use crate::emitting::{Emitting, fall, fallen_by, put_rest};
-use crate::ground::Site;
+use crate::emitting::{Emitting, fall, put_rest};
 use crate::operands::source;
 use crate::rest::{Rest, closed, jump, put_set};
 use crate::straight::{both, put_if};
@@ -46,39 +43,12 @@ fn is_break(stmts: &[FlatStmt]) -> bool
     }
 }
 
-/// Whether a statement is a loop's test, where it is the last of the body.
-pub fn is_test(s: &FlatStmt, joined: bool) -> bool
-    ensures { result ≡ code.is_test_step joined (step_of s.now) }
+/// Whether an if, which the plan joins or not, is the test of a loop: it is the last statement of the loop's body, and
+/// its second leg is a break alone.
+pub fn is_loop_test(last: bool, joined: bool, no: &[FlatStmt]) -> bool
+    ensures { result ≡ last && (joined && code.is_break_code (code_of no.now)) }
 {
-    match s {
-        FlatStmt::Let { .. } => false,
-        FlatStmt::Frame { .. } => false,
-        FlatStmt::Load { .. } => false,
-        FlatStmt::Save { .. } => false,
-        FlatStmt::Call { .. } => false,
-        FlatStmt::Put(_) => false,
-        FlatStmt::Get { .. } => false,
-        FlatStmt::If { no, .. } => both(joined, is_break(no.as_slice())),
-        FlatStmt::Loop { .. } => false,
-        FlatStmt::Break => false,
-        FlatStmt::Continue => false,
-        FlatStmt::Return(_) => false,
-    }
-}
-
-/// Whether a statement of a loop's body, which is the last one or not, is its test; so many statements stand
-/// before what follows it.
-pub fn is_loop_test(s: &FlatStmt, place: u32, site: &Site, last: bool) -> Result<bool, Memory>
-    ensures { IfOk result (λ t. t ≡ last && code.is_test_step
-        (joins_by site.now.joins (place - flat.steps_in (step_of s.now))) (step_of s.now)) }
-{
-    if last {
-        let statements = steps_in(s)?;
-        let joined = site.joins(fallen_by(place, statements));
-        Ok(is_test(s, joined))
-    } else {
-        Ok(false)
-    }
+    both(last, both(joined, is_break(no)))
 }
 
 /// The end of a block that goes on as a test says: to a tail, or by a jump.

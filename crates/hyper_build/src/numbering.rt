@@ -11,8 +11,8 @@ use crate::code::{exit_of, goes_on};
 use crate::counting::{arguments_size, cut_size, narrow, parameters_size, plus, steps_in};
 use crate::emitting::Note;
 use crate::ground::Site;
-use crate::merging::{is_last, is_test};
-use crate::straight::{both, is_if_item};
+use crate::merging::{is_last, is_loop_test};
+use crate::straight::is_if_item;
 use base::{Items, Memory};
 use ir_forms::{Arg, FlatFunc, FlatStmt};
 use std::alloc::Global;
@@ -135,11 +135,18 @@ fn count_leg(numbering: &mut Numbering, leg: &[FlatStmt]) -> Result<(), Memory>
     }
 }
 
-/// Numbers behind a statement; `on` says whether the code behind it goes on.
+/// Numbers behind a statement; `last` says whether it is the last one of a loop's body, `on` whether the code
+/// behind it goes on.
 #[cycle(number)]
-fn number_stmt(s: &FlatStmt, numbering: &mut Numbering, site: &Site, on: bool) -> Result<(), Memory>
+fn number_stmt(
+    s: &FlatStmt,
+    numbering: &mut Numbering,
+    site: &Site,
+    last: bool,
+    on: bool,
+) -> Result<(), Memory>
     ensures { OnOk result (numbering.new
-        ≡ forward.number_in (ground.plan site.now) on (step_of s.now) numbering.old) }
+        ≡ forward.number_part (ground.plan site.now) last on (step_of s.now) numbering.old) }
 {
     match s {
         FlatStmt::Let { .. } => number_single(numbering, site)?,
@@ -150,7 +157,14 @@ fn number_stmt(s: &FlatStmt, numbering: &mut Numbering, site: &Site, on: bool) -
         FlatStmt::Put(_) => count_behind(numbering, 1)?,
         FlatStmt::Get { .. } => number_get(numbering, site)?,
         FlatStmt::If { yes, no, .. } => {
-            if is_if_item(site.joins(numbering.place), yes.as_slice(), no.as_slice()) {
+            let joined = site.joins(numbering.place);
+            if is_loop_test(last, joined, no.as_slice()) {
+                let blocks = cut_size(site.cuts(numbering.place));
+                count_statement(numbering)?;
+                number_stmts(yes.as_slice(), numbering, site)?;
+                count_statement(numbering)?;
+                count_blocks(numbering, blocks)?;
+            } else if is_if_item(joined, yes.as_slice(), no.as_slice()) {
                 number_items(numbering, site, s)?;
             } else {
                 count_statement(numbering)?;
@@ -179,56 +193,6 @@ fn number_stmt(s: &FlatStmt, numbering: &mut Numbering, site: &Site, on: bool) -
     Ok(())
 }
 
-/// Numbers behind a loop's test: its leg, and a break.
-#[cycle(number)]
-fn number_loop_test(s: &FlatStmt, numbering: &mut Numbering, site: &Site) -> Result<(), Memory>
-    ensures { OnOk result (numbering.new
-        ≡ forward.number_test (ground.plan site.now) (step_of s.now) numbering.old) }
-{
-    match s {
-        FlatStmt::Let { .. } => {}
-        FlatStmt::Frame { .. } => {}
-        FlatStmt::Load { .. } => {}
-        FlatStmt::Save { .. } => {}
-        FlatStmt::Call { .. } => {}
-        FlatStmt::Put(_) => {}
-        FlatStmt::Get { .. } => {}
-        FlatStmt::If { yes, .. } => {
-            let blocks = cut_size(site.cuts(numbering.place));
-            count_statement(numbering)?;
-            number_stmts(yes.as_slice(), numbering, site)?;
-            count_statement(numbering)?;
-            count_blocks(numbering, blocks)?;
-        }
-        FlatStmt::Loop { .. } => {}
-        FlatStmt::Break => {}
-        FlatStmt::Continue => {}
-        FlatStmt::Return(_) => {}
-    }
-    Ok(())
-}
-
-/// Numbers behind a statement of a loop's body; `last` says whether it is the last one, `on` whether the code
-/// behind it goes on.
-#[cycle(number)]
-fn number_part(
-    s: &FlatStmt,
-    numbering: &mut Numbering,
-    site: &Site,
-    last: bool,
-    on: bool,
-) -> Result<(), Memory>
-    ensures { OnOk result (numbering.new
-        ≡ forward.number_part (ground.plan site.now) last on (step_of s.now) numbering.old) }
-{
-    let test = both(last, is_test(s, site.joins(numbering.place)));
-    if test {
-        number_loop_test(s, numbering, site)
-    } else {
-        number_stmt(s, numbering, site, on)
-    }
-}
-
 /// Numbers behind a loop's body.
 #[cycle(number)]
 fn number_turn(stmts: &[FlatStmt], numbering: &mut Numbering, site: &Site) -> Result<(), Memory>
@@ -239,7 +203,7 @@ fn number_turn(stmts: &[FlatStmt], numbering: &mut Numbering, site: &Site) -> Re
     while at < stmts.len() {
         let s = &stmts[at];
         at += 1;
-        number_part(s, numbering, site, is_last(stmts, at), goes_on(stmts, at))?;
+        number_stmt(s, numbering, site, is_last(stmts, at), goes_on(stmts, at))?;
     }
     Ok(())
 }
@@ -254,7 +218,7 @@ fn number_stmts(stmts: &[FlatStmt], numbering: &mut Numbering, site: &Site) -> R
     while at < stmts.len() {
         let s = &stmts[at];
         at += 1;
-        number_stmt(s, numbering, site, goes_on(stmts, at))?;
+        number_stmt(s, numbering, site, false, goes_on(stmts, at))?;
     }
     Ok(())
 }

@@ -1,4 +1,4 @@
-use Rattle.std.proofs.Common.{◌≡◌, ◌+◌, ◌*◌, ◌≤◌, length, drop}
+use Rattle.std.proofs.Common.{◌≡◌, ◌≤◌, length, drop}
 use Rattle.ir_forms.specs.FlatViews.{code_of}
 use Rattle.hyper_build.specs.Backward.{emission_of}
 use Rattle.hyper_build.specs.BackwardCode as code
@@ -23,18 +23,3 @@ invariant-put_turn-loop-at l = record {
 
 abbrev pub decreases-put_turn-loop-at : goal.decreases-put_turn-loop-at
 decreases-put_turn-loop-at l = l.at
-
-abbrev pub decreases-put_stmt : goal.decreases-put_stmt
-decreases-put_stmt l = 2 * goal.size-put_stmt l
-
-abbrev pub decreases-put_loop_test : goal.decreases-put_loop_test
-decreases-put_loop_test l = 2 * goal.size-put_loop_test l
-
-abbrev pub decreases-put_part : goal.decreases-put_part
-decreases-put_part l = 2 * goal.size-put_part l + 1
-
-abbrev pub decreases-put_stmts : goal.decreases-put_stmts
-decreases-put_stmts l = 2 * goal.size-put_stmts l
-
-abbrev pub decreases-put_turn : goal.decreases-put_turn
-decreases-put_turn l = 2 * goal.size-put_turn l

@@ -1,4 +1,4 @@
-use Rattle.std.proofs.Common.{◌≡◌, ◌+◌, ◌*◌, ◌≤◌, ◌-◌, length, drop}
+use Rattle.std.proofs.Common.{◌≡◌, ◌≤◌, ◌-◌, length, drop}
 use Rattle.ir_forms.specs.FlatViews.{code_of}
 use Rattle.hyper_build.specs.Ground.{plan}
 use Rattle.hyper_build.specs.Forward.{number, number_turn}
@@ -23,18 +23,3 @@ invariant-number_turn-loop-at l = record {
 
 abbrev pub decreases-number_turn-loop-at : goal.decreases-number_turn-loop-at
 decreases-number_turn-loop-at l = length l.stmts - l.at
-
-abbrev pub decreases-number_stmt : goal.decreases-number_stmt
-decreases-number_stmt l = 2 * goal.size-number_stmt l
-
-abbrev pub decreases-number_loop_test : goal.decreases-number_loop_test
-decreases-number_loop_test l = 2 * goal.size-number_loop_test l
-
-abbrev pub decreases-number_part : goal.decreases-number_part
-decreases-number_part l = 2 * goal.size-number_part l + 1
-
-abbrev pub decreases-number_stmts : goal.decreases-number_stmts
-decreases-number_stmts l = 2 * goal.size-number_stmts l
-
-abbrev pub decreases-number_turn : goal.decreases-number_turn
-decreases-number_turn l = 2 * goal.size-number_turn l
