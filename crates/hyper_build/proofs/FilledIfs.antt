@@ -102,8 +102,15 @@ leg_straight (Break ▹ c) e = absurd (cc e)
 leg_straight (Continue ▹ c) e = absurd (cc e)
 leg_straight (Return v ▹ c) e = absurd (cc e)
 
--- the count of one if, by whether it is small
-small_number : (a b : Bool) → ◌≡◌ {A = ℕ} (cond a (cond b 0 1) 0) (cond (a && not b) 1 0)
+abbrev one_if : Bool → ℕ
+one_if z = cond z 1 0
+
+-- the count of an if by its legs: whether both are short, and whether both are empty
+abbrev number_by : Bool → Bool → ℕ
+number_by short empty = cond short (cond empty 0 1) 0
+
+-- which is whether it is small
+small_number : (a b : Bool) → number_by a b ≡ one_if (a && not b)
 small_number true true = refl
 small_number true false = refl
 small_number false b = refl
@@ -119,15 +126,15 @@ small_filled : (one other : Code) (f h : Bool) → (is_small_leg one ≡ true �
     → small_if one other ≤ cond (f || h) 1 0
 small_filled one other f h u v false e =
     let n = small_number (is_small_leg one && is_small_leg other) (is_empty one && is_empty other) in
-    let q : small_if one other ≡ 0 = n ∙ ap (λ z. cond z 1 0) e in
+    let q : small_if one other ≡ 0 = n ∙ ap one_if e in
     omega (arith, q)
 small_filled one other f h u v true e =
     let n = small_number (is_small_leg one && is_small_leg other) (is_empty one && is_empty other) in
     let parts = and_parts (is_small_leg one && is_small_leg other) (not (is_empty one && is_empty other)) e in
     let legs = and_parts (is_small_leg one) (is_small_leg other) parts.0 in
     let full = filled_by (is_empty one) (is_empty other) f h (u legs.0) (v legs.1) parts.1 in
-    let q : small_if one other ≡ 1 = n ∙ ap (λ z. cond z 1 0) e in
-    let r : ◌≡◌ {A = ℕ} (cond (f || h) 1 0) 1 = ap (λ z. cond z 1 0) full in
+    let q : small_if one other ≡ 1 = n ∙ ap one_if e in
+    let r : one_if (f || h) ≡ 1 = ap one_if full in
     omega (arith, q, r)
 
 small_most : (P : Place) (p : Plan) (i n j m : ℕ) (one other : Code)
@@ -152,7 +159,7 @@ small_straight one other q =
 not_small : (joined : Bool) (one other : Code) → is_if_item joined one other ≡ false → small_if one other ≡ 0
 not_small joined one other e =
     small_number (is_small_leg one && is_small_leg other) (is_empty one && is_empty other)
-    ∙ ap (λ z. cond z 1 0) (no_item joined (is_small_if one other) (is_straight one && is_straight other)
+    ∙ ap one_if (no_item joined (is_small_if one other) (is_straight one && is_straight other)
     (small_straight one other) e)
 
 -- STRAIGHT CODE

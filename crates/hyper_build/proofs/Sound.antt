@@ -261,7 +261,7 @@ groups_small (g ∷ gs) h = (
       each vs (λ v e. h v (or_right (nat_eq v x) (is_among vs v) e)),
     )
 
--- where a leg leads, and where its blocks end, if it has blocks
+-- where a leg leads, and where its blocks end, if it has some
 pub record LegIs (N l join : ℕ) (p : Place) (c : Tree) : Type 0 where
   pub label : label_or l (exit_leg p join c) < N
   pub room : exit_leg p join c ≡ None → l + 1 + size c ≤ N
@@ -270,18 +270,18 @@ own_leg : (N l join : ℕ) (p : Place) (c : Tree) → exit_leg p join c ≡ None
     → join < N → LegIs N l join p c
 own_leg N l join p c e le lt = record {
   label = subst (λ o. label_or l o < N) (sym e) (omega (arith, le, lt));
-  room = λ q. omega (arith, le, lt);
+  room = λ none. omega (arith, le, lt);
 }
 
 module _ (W : World) (g : Routine) (scalars : g.scalars ≤ 64) (N : ℕ)
     (known : (f : ℕ) (r : Routine) → slice_get W.routines f ≡ Some r → r.params ≤ 8) where
   leg_is : (inside : Bool) (p : Place) (c : Tree) (l join : ℕ) → FitsTree W g inside c
       → GoodPlace N inside p → l + leg_size c (size c) ≤ join → join < N → LegIs N l join p c
-  leg_is inside p End l join t q le lt = record { label = lt; room = λ e. absurd (cc e) }
+  leg_is inside p End l join t q le lt = record { label = lt; room = λ none. absurd (cc none) }
   leg_is inside p (BreakAt c ▸ End) l join t q le lt =
-      record { label = q.broke t.0; room = λ e. absurd (cc e) }
+      record { label = q.broke t.0; room = λ none. absurd (cc none) }
   leg_is inside p (ContinueAt c ▸ End) l join t q le lt =
-      record { label = q.again t.0; room = λ e. absurd (cc e) }
+      record { label = q.again t.0; room = λ none. absurd (cc none) }
   leg_is inside p (BreakAt c ▸ (x ▸ rest)) l join t q le lt =
       own_leg N l join p (BreakAt c ▸ (x ▸ rest)) refl le lt
   leg_is inside p (ContinueAt c ▸ (x ▸ rest)) l join t q le lt =
@@ -309,8 +309,8 @@ module _ (W : World) (g : Routine) (scalars : g.scalars ≤ 64) (N : ℕ)
 
   leg_sound : (o : Option ℕ) (first : Block) (others : List Block)
       → (o ≡ None → Sound N first × AllSound N others) → AllSound N (leg_blocks o first others)
-  leg_sound None first others f = f refl
-  leg_sound (Some x) first others f = tt
+  leg_sound None first others s = s refl
+  leg_sound (Some x) first others s = tt
 
   give_sound : (v : Option Arg) (k : Block) → FitsReturn g.scalars v → Sound N k → Sound N (give v k)
   give_sound None k t s = s
@@ -461,11 +461,11 @@ module _ (W : World) (g : Routine) (scalars : g.scalars ≤ 64) (N : ℕ)
               sound_append N (leg_blocks (exit_leg p join one) (entry p one (l + 1) (jump join))
               (blocks p one (l + 1) (jump join))) _
               (leg_sound (exit_leg p join one) _ _
-              (λ n. sound_tree inside p one (l + 1) (jump join) t.2 q (x.room n) jn))
+              (λ none. sound_tree inside p one (l + 1) (jump join) t.2 q (x.room none) jn))
               (sound_append N (leg_blocks (exit_leg p join other) (entry p other (l1 + 1) (jump join))
               (blocks p other (l1 + 1) (jump join))) (k ∷ [])
               (leg_sound (exit_leg p join other) _ _
-              (λ n. sound_tree inside p other (l1 + 1) (jump join) t.3 q (y.room n) jn)) (s, tt))),
+              (λ none. sound_tree inside p other (l1 + 1) (jump join) t.3 q (y.room none) jn)) (s, tt))),
         )
     sound_in inside p (LoopAt c body post) l k t q le s =
         let next = l + 1 + turn_size body in
