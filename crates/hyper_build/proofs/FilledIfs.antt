@@ -296,7 +296,7 @@ code_by x c first own more k true z s o r =
 -- LOOPS' TESTS
 
 -- a test is no small if
-no_small : (a b : Bool) → ◌≡◌ {A = ℕ} (cond (a && false) (cond b 0 1) 0) 0
+no_small : (a b : Bool) → number_by (a && false) b ≡ 0
 no_small true b = refl
 no_small false b = refl
 
