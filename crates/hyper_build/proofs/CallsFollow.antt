@@ -4,20 +4,23 @@ use Rattle.std.proofs.Common.{nat_lt, slice_get}
 use Rattle.std.proofs.lemmas.Option.{slice_get-map}
 use Rattle.ir_forms.specs.Frames.{frame_limit}
 use Rattle.ir_forms.specs.FlatSteps.{State, Res, Gone, Broke, Again, Gave, TooDeep, Unfinished, Wild, Calls}
-use Rattle.ir_forms.specs.FlatSteps.{exec, then_run}
+use Rattle.ir_forms.specs.FlatSteps.{act, exec, then_run}
 use Rattle.ir_forms.specs.FlatRuns.{calls_within, enter_if}
 use Rattle.ir_forms.specs.HyperCode.{Block}
 use Rattle.ir_forms.specs.HyperRuns.{Machine, block_at}
 use Rattle.hyper_build.specs.Tree.{Stmt, LetAt, FrameAt, LoadAt, SaveAt, CallAt, PutAt, GetAt, IfAt, LoopAt}
-use Rattle.hyper_build.specs.Tree.{BreakAt, ContinueAt, ReturnAt, Tree, End, ◌▸◌, Routine, function_of, plain}
-use Rattle.hyper_build.specs.Straight.{Place, size_in}
-use Rattle.hyper_build.specs.Build.{entry, blocks_in}
+use Rattle.hyper_build.specs.Tree.{BreakAt, ContinueAt, ReturnAt, Tree, End, ◌▸◌, Routine, function_of}
+use Rattle.hyper_build.specs.Tree.{plain_in, plain}
+use Rattle.hyper_build.specs.Straight.{Place, size_in, is_test, is_loop_test}
+use Rattle.hyper_build.specs.Merging.{SetsLow}
+use Rattle.hyper_build.specs.Build.{entry, part_entry, turn_entry, blocks_in, test_blocks}
 use Rattle.hyper_build.specs.Routines.{parameters_size, place_of, way_out, body_label}
-use Rattle.hyper_build.specs.World.{World, Stack, Rel, IsFrame, frame, checks_of, env_in}
+use Rattle.hyper_build.specs.World.{World, Has, Stack, Rel, IsFrame, frame, checks_of, env_in}
 use Rattle.hyper_build.specs.Follow.{Follows, Does, ways_of, CallsFollow}
-use Rattle.hyper_build.specs.Fits.{IsBuilt}
+use Rattle.hyper_build.specs.Fits.{IsBuilt, FitsStmt, IsPlace}
 use Rattle.trips_isa.proofs.WordLemmas.{alu_fits}
-use Rattle.hyper_build.specs.Premises.{AluGivesWords, StmtDoes, TreeDoes}
+use Rattle.hyper_build.specs.Premises.{AluGivesWords, StmtDoes, TreeDoes, TurnDoes}
+use Rattle.hyper_build.proofs.MergedTests.{LegDoes, loop_test_does}
 use Rattle.hyper_build.proofs.Straights.{item_does}
 use Rattle.hyper_build.proofs.Turns.{loop_does}
 use Rattle.hyper_build.specs.CallsClaim.{CallsClaim}
@@ -29,7 +32,7 @@ use Rattle.hyper_build.proofs.Callee.{enters}
 use Rattle.hyper_build.proofs.Forks.{fork_does}
 use Rattle.hyper_build.specs.Straight.{is_item}
 use Rattle.ir_forms.specs.declared.flat.Arg.{Arg}
-use Rattle.std.proofs.Common.{Bool, true, false}
+use Rattle.std.proofs.Common.{Bool, true, false, cond}
 use Rattle.hyper_build.proofs.Simple.{let_does, frame_does, load_does, save_does, put_does, get_does}
 use Rattle.hyper_build.proofs.Simple.{break_does, continue_does, return_does}
 
@@ -72,6 +75,17 @@ module _ (W : World) (built : IsBuilt W) (call : Calls) (follows : CallsFollow W
       cases true e = item_does W built words call start g fr c joined a one other e
       cases false e = fork_does W built words call start g fr c joined a one other e x y
 
+  -- a statement of a loop's body, by whether it is the test, where the rest of the body is empty then
+  part_does : (inside : Bool) (p : Place) (b : Bool) (s : Stmt) → (b ≡ true → is_test s ≡ true)
+      → StmtDoes W call start g s → LegDoes W built words call start g fr s → FitsStmt W g inside s
+      → IsPlace W g p → (l : ℕ) (k : Block) → (b ≡ true → SetsLow k.items)
+      → Has W.program l (cond b (test_blocks p s l k) (blocks_in p s l k))
+      → Does W start g (part_entry b p s l k) (ways_of p k)
+      (act (checks_of W) call (env_in W start g) (plain_in s))
+  part_does inside p true s test does leg fits is l k low has =
+      loop_test_does W built words call start g fr inside p s (test refl) leg fits is l k (low refl) has
+  part_does inside p false s test does leg fits is l k low has = does inside p fits is l k has
+
   mutual
     stmt_does : (s : Stmt) → StmtDoes W call start g s
     stmt_does (LetAt c to op a b) = let_does W built words call start g fr c to op a b
@@ -82,7 +96,7 @@ module _ (W : World) (built : IsBuilt W) (call : Calls) (follows : CallsFollow W
     stmt_does (PutAt a) = put_does W built words call start g fr a
     stmt_does (GetAt c to) = get_does W built words call start g fr c to
     stmt_does (IfAt c joined a one other) = if_does c joined a one other (tree_does one) (tree_does other)
-    stmt_does (LoopAt c body post) = loop_does W built words call start g fr c body post (tree_does body)
+    stmt_does (LoopAt c body post) = loop_does W built words call start g fr c body post (turn_does body)
         (tree_does post)
     stmt_does (BreakAt c) = break_does W built words call start g fr c
     stmt_does (ContinueAt c) = continue_does W built words call start g fr c
@@ -94,6 +108,25 @@ module _ (W : World) (built : IsBuilt W) (call : Calls) (follows : CallsFollow W
         let k1 = entry p rest (l + size_in s) k in
         let first = stmt_does s inside p fits.0 is l k1 (has_front W.program l _ _ has) in
         let second = tree_does rest inside p fits.1 is (l + size_in s) k
+        (has_back W.program l (l + size_in s) (blocks_in p s l k1) _ (omega (arith, length_in p s l k1)) has)
+        in
+        λ st m n rel. then_follows p _ k1 k st m n _ _ (first st m n rel) second
+
+    leg_does : (s : Stmt) → LegDoes W built words call start g fr s
+    leg_does (IfAt c joined a one other) = tree_does one
+    leg_does _ = tt
+
+    turn_does : (c : Tree) → TurnDoes W call start g c
+    turn_does End inside p fits is l k low has = end_does k p
+    turn_does (s ▸ End) inside p fits is l k low has =
+        let z = is_loop_test s End in
+        let first = part_does inside p z s (λ e. e) (stmt_does s) (leg_does s) fits.0 is l k (λ e. low)
+        (has_front W.program l _ _ has) in
+        λ st m n rel. then_follows p _ k k st m n _ _ (first st m n rel) (end_does k p)
+    turn_does (s ▸ (x ▸ rest)) inside p fits is l k low has =
+        let k1 = turn_entry p (x ▸ rest) (l + size_in s) k in
+        let first = stmt_does s inside p fits.0 is l k1 (has_front W.program l _ _ has) in
+        let second = turn_does (x ▸ rest) inside p fits.1 is (l + size_in s) k low
         (has_back W.program l (l + size_in s) (blocks_in p s l k1) _ (omega (arith, length_in p s l k1)) has)
         in
         λ st m n rel. then_follows p _ k1 k st m n _ _ (first st m n rel) second
@@ -117,5 +150,5 @@ calls_follow W built (suc d) f g found used words low ws s m n back arity passed
     (enters W built call f g found used words low s m stack ws n back arity passed label faithful
     (λ fr has. tree_does W built call (calls_follow W built d) used g fr alu_gives g.body false
     (place_of g W.entries) (built.fits f g found).body
-    (record { frame = refl; arrays = refl; entries = λ i. refl }) (body_label g (W.entries f)) (way_out g) has)
+    (record { frame = refl; arrays = refl; entries = λ i. refl; low = (omega arith, (omega arith, tt)) }) (body_label g (W.entries f)) (way_out g) has)
     (nat_lt frame_limit (used + frame g)) refl)

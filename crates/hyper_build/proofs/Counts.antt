@@ -12,7 +12,8 @@ use Rattle.hyper_build.specs.Tree.{CallAt, PutAt, GetAt, IfAt, LoopAt, BreakAt, 
 use Rattle.hyper_build.specs.Tree.{goes_on, annotated_in, annotated, annotated_all}
 use Rattle.hyper_build.specs.Parts.{cut_size, moved_size}
 use Rattle.hyper_build.specs.Passing.{argument_moves, argument_cuts, parameter_moves, parameter_cuts}
-use Rattle.hyper_build.specs.Straight.{is_item, leg_size, arguments_size, size_in, size}
+use Rattle.hyper_build.specs.Straight.{is_item, is_loop_test, leg_size, arguments_size, size_in, size}
+use Rattle.hyper_build.specs.Straight.{test_size, turn_size}
 use Rattle.hyper_build.specs.Routines.{parameters_size, routine_size, all_blocks, routine_blocks, built}
 use Rattle.hyper_build.proofs.Moving.{cut_most}
 use Rattle.hyper_build.proofs.Follows.{length_routine}
@@ -108,7 +109,7 @@ module _ (fs : List Function) (each : (f : ℕ) (h : Function) → slice_get fs 
         (leg_size x (size x) + (leg_size y (size y) + 1))
         (3 + (code_blocks one + code_blocks other)) (omega (arith, c)) (omega (arith, hx, hy, lx, ly))
     stmt_few i k inside on (Loop body post) t =
-        let hx = code_few (i + 1) k true body t.0 in
+        let hx = turn_few (i + 1) k true body t.0 in
         let hy = code_few (i + 1 + steps_of body) (k + calls body) false post t.1 in
         omega (arith, hx, hy)
     stmt_few i k inside on Break t = cut_most on
@@ -121,6 +122,35 @@ module _ (fs : List Function) (each : (f : ℕ) (h : Function) → slice_get fs 
     code_few i k inside (s ▹ c) t =
         let hs = stmt_few i k inside (goes_on c) s t.0 in
         let hc = code_few (i + steps_in s) (k + calls_in s) inside c t.1 in
+        omega (arith, hs, hc)
+
+    test_few : (i k : ℕ) (inside on : Bool) (s : Step) → FitsStep fs n bytes inside s
+        → test_size (annotated_in p i k on s) ≤ code_blocks_in s
+    test_few i k inside on (If a one other) t =
+        let hx = code_few (i + 1) k inside one t.1 in
+        let c = cut_most (p.cut i) in
+        omega (arith, hx, c)
+    test_few i k inside on (Let to op a b) t = omega arith
+    test_few i k inside on (Frame to at) t = omega arith
+    test_few i k inside on (Load to op a) t = omega arith
+    test_few i k inside on (Save op a v) t = omega arith
+    test_few i k inside on (Call f xs to kept) t = omega arith
+    test_few i k inside on (Put v) t = omega arith
+    test_few i k inside on (Get to) t = omega arith
+    test_few i k inside on (Loop body post) t = omega arith
+    test_few i k inside on Break t = omega arith
+    test_few i k inside on Continue t = omega arith
+    test_few i k inside on (Return v) t = omega arith
+
+    turn_few : (i k : ℕ) (inside : Bool) (c : Code) → FitsCode fs n bytes inside c
+        → turn_size (annotated p i k c) ≤ code_blocks c
+    turn_few i k inside Nop t = omega arith
+    turn_few i k inside (s ▹ c) t =
+        let S = annotated_in p i k (goes_on c) s in
+        let C = annotated p (i + steps_in s) (k + calls_in s) c in
+        let hs = either_most (is_loop_test S C) (test_size S) (size_in S) (code_blocks_in s)
+        (test_few i k inside (goes_on c) s t.0) (stmt_few i k inside (goes_on c) s t.0) in
+        let hc = turn_few (i + steps_in s) (k + calls_in s) inside c t.1 in
         omega (arith, hs, hc)
 
 -- FUNCTIONS

@@ -1,5 +1,5 @@
 -- Emission puts out the blocks of annotated code.
-use Rattle.std.proofs.Common.{◌≡◌, ℕ, suc, ◌+◌, ◌-◌, Bool, true, false, ◌||◌, not, cond, List, [], ◌∷◌}
+use Rattle.std.proofs.Common.{◌≡◌, ℕ, suc, ◌+◌, ◌-◌, Bool, true, false, ◌&&◌, ◌||◌, not, cond, List, [], ◌∷◌}
 use Rattle.std.proofs.Common.{◌++◌, length, refl, sym, ap, ap₂, ◌∙◌, subst, arith, append_assoc, append-nil}
 use Rattle.trips_isa.specs.declared.op.Op.TheVariants.{Mov, Sub}
 use Rattle.ir_forms.specs.declared.flat.Arg.{Arg}
@@ -8,7 +8,7 @@ use Rattle.ir_forms.specs.declared.hyper.Exit.TheVariants as exit
 use Rattle.ir_forms.specs.Frames.{register_of}
 use Rattle.ir_forms.specs.FlatCode.{Step, Let, Frame, Load, Save, Call, Put, Get, If, Loop, Break, Continue}
 use Rattle.ir_forms.specs.FlatCode.{Return, Code, Nop, ◌▹◌}
-use Rattle.ir_forms.specs.FlatFits.{steps_in, steps_of}
+use Rattle.ir_forms.specs.FlatFits.{steps_in, steps_of, is_empty}
 use Rattle.ir_forms.specs.HyperCode.{Items, Done, Leave, Test, Block}
 use Rattle.ir_forms.specs.HyperCode as hyper
 use Rattle.ir_forms.specs.HyperRuns.{jump}
@@ -17,21 +17,25 @@ use Rattle.hyper_build.specs.declared.emitting.Note.{Note}
 use Rattle.hyper_build.specs.Tree.{Tree, goes_on, annotated_in, annotated, LoopAt}
 use Rattle.hyper_build.specs.Parts.{source, capped, set_then, load_then, save_then, cut, cut_blocks, cut_size}
 use Rattle.hyper_build.specs.Straight.{Place, items_in, items_of, leg_blocks}
-use Rattle.hyper_build.specs.Straight.{leg_size, size_in, size, exit_leg, label_or}
-use Rattle.hyper_build.specs.Build.{give, body_end, choose, entry_in, entry, blocks_in, blocks}
+use Rattle.hyper_build.specs.Straight.{leg_size, size_in, size, turn_size, part_size, exit_leg, label_or}
+use Rattle.hyper_build.specs.Build.{give, body_end, choose, entry_in, entry, test_entry, part_entry, turn_entry}
+use Rattle.hyper_build.specs.Build.{blocks_in, blocks, test_blocks, turn_blocks}
 use Rattle.hyper_build.specs.Ground.{Ground, plan, place, left, entry_at}
 use Rattle.hyper_build.specs.Backward.{Emission, with_rest, put_out, cut_at, fall, before, setting}
 use Rattle.hyper_build.specs.Backward.{last_note, without_note, front_notes}
 use Rattle.hyper_build.specs.BackwardStatements.{put_byte, get_byte, leaving}
 use Rattle.hyper_build.specs.BackwardItems.{is_if_item, items_before, if_then, straight_items_in}
 use Rattle.hyper_build.specs.BackwardItems.{straight_items}
-use Rattle.hyper_build.specs.BackwardCode.{exit_of, leg_out, test_block, items_out, end_of_body, emit_in, emit}
-use Rattle.hyper_build.specs.Notes.{note_of, notes_in, notes_of}
+use Rattle.hyper_build.specs.BackwardCode.{exit_of, is_test_step, leg_out, test_block, items_out, end_of_body}
+use Rattle.hyper_build.specs.BackwardCode.{emit_in, emit, test_out, emit_turn}
+use Rattle.hyper_build.specs.Notes.{note_of, notes_in, notes_of, test_notes, turn_notes}
 use Rattle.hyper_build.specs.Reached.{Reached, IsReached}
-use Rattle.hyper_build.proofs.ItemLegs.{straight_code, item_is, if_size, item_calls, item_notes}
+use Rattle.hyper_build.proofs.ItemLegs.{and_parts, straight_code, item_is, if_size, item_calls, item_notes}
 use Rattle.hyper_build.proofs.Reaching.{joined, mapped, restated, one_less, before_reached, before_by_reached}
 use Rattle.hyper_build.proofs.Reaching.{cut_reached, call_reached}
 use Rattle.hyper_build.proofs.ReachingLegs.{LegAt, leg_reached}
+use Rattle.hyper_build.proofs.ReachingTests.{by_kind, IsTestReached, loop_test_reached}
+use Rattle.hyper_build.proofs.LoopTests.{loop_test_is}
 use Rattle.hyper_build.proofs.LastNotes.{last_behind, front_before}
 
 -- ITEMS
@@ -69,16 +73,16 @@ end_is g p c i k post l head =
 -- IFS THAT ARE TESTS
 
 -- its blocks, and the rest of the block before it
-abbrev test_blocks : Place → Tree → Tree → ℕ → Block → List Block
-test_blocks p one other l k =
+abbrev branch_blocks : Place → Tree → Tree → ℕ → Block → List Block
+branch_blocks p one other l k =
     let l1 = l + leg_size one (size one) in
     let join = l1 + leg_size other (size other) in
     leg_blocks (exit_leg p join one) (entry p one (l + 1) (jump join)) (blocks p one (l + 1) (jump join))
     ++ (leg_blocks (exit_leg p join other) (entry p other (l1 + 1) (jump join))
     (blocks p other (l1 + 1) (jump join)) ++ k ∷ [])
 
-abbrev test_rest : Place → Arg → Tree → Tree → ℕ → Block
-test_rest p x one other l =
+abbrev branch_rest : Place → Arg → Tree → Tree → ℕ → Block
+branch_rest p x one other l =
     let l1 = l + leg_size one (size one) in
     let join = l1 + leg_size other (size other) in
     record {
@@ -115,9 +119,9 @@ if_reached : (g : Ground) (b a : ℕ) (x : Arg) (one other : Code) (j l i k : �
     (l + leg_size (annotated (plan g) (i + 1) k one) (size (annotated (plan g) (i + 1) k one)) + 1)
     (i + 1 + steps_of one) (k + calls one) other
     → Reached o (if_by g b a x one other j u) l i k N
-    (test_blocks (place g b a) (annotated (plan g) (i + 1) k one)
+    (branch_blocks (place g b a) (annotated (plan g) (i + 1) k one)
     (annotated (plan g) (i + 1 + steps_of one) (k + calls one) other) l top)
-    (test_rest (place g b a) x (annotated (plan g) (i + 1) k one)
+    (branch_rest (place g b a) x (annotated (plan g) (i + 1) k one)
     (annotated (plan g) (i + 1 + steps_of one) (k + calls one) other) l)
 if_reached g b a x one other j l i k N u top o f1 f2 el ei ek er eo ej en =
     let p = place g b a in
@@ -164,13 +168,13 @@ if_reached g b a x one other j l i k N u top o f1 f2 el ei ek er eo ej en =
 
 -- the blocks of an if, the rest before it, and what emission does, by whether it is an item
 abbrev if_blocks : Bool → Place → Bool → Tree → Tree → ℕ → Block → List Block
-if_blocks z p c one other l k = cond z (cut_blocks c k) (test_blocks p one other l k)
+if_blocks z p c one other l k = cond z (cut_blocks c k) (branch_blocks p one other l k)
 
 abbrev item_rest : Place → Bool → Arg → Tree → Tree → ℕ → Block → Block
 item_rest p c x one other l k = if_then (source x) (items_of p one Done) (items_of p other Done) (cut c l k)
 
 abbrev if_rest : Bool → Place → Bool → Arg → Tree → Tree → ℕ → Block → Block
-if_rest z p c x one other l k = choose z (item_rest p c x one other l k) (test_rest p x one other l)
+if_rest z p c x one other l k = choose z (item_rest p c x one other l k) (branch_rest p x one other l)
 
 abbrev if_out : Bool → Ground → ℕ → ℕ → Arg → Code → Code → Emission → Emission
 if_out z g b a x one other s =
@@ -258,24 +262,32 @@ all_reached g b a on x one other s l i k N f1 f2 el ei ek en =
 
 -- LOOPS
 
+abbrev IsTurnReached : Ground → ℕ → ℕ → Code → Type 0
+IsTurnReached g b a c =
+    (s : Emission) (l i k : ℕ) (N : List Note) → s.label ≡ l + turn_size (annotated (plan g) i k c)
+    → s.place ≡ i + steps_of c → s.calls ≡ k + calls c → s.notes ≡ N ++ turn_notes (plan g) l i k c
+    → Reached s.out (emit_turn g b a c s) l i k N
+    (turn_blocks (place g b a) (annotated (plan g) i k c) l s.rest)
+    (turn_entry (place g b a) (annotated (plan g) i k c) l s.rest)
+
 abbrev loop_by : Ground → Code → Code → Note → Emission → Emission
 loop_by g body post note behind =
     let next = put_out (emit g behind.label note.next post
     (with_rest (jump note.head) (without_note behind))) in
     let after = end_of_body ((plan g).cut note.place) g.arrays post next.label note.head in
-    fall (put_out (emit g behind.label next.label body (with_rest after next)))
+    fall (put_out (emit_turn g behind.label next.label body (with_rest after next)))
 
 loop_reached : (g : Ground) (b a : ℕ) (body post : Code) (note : Note) (l i k : ℕ)
     (N : List Note) (behind : Emission) (top : Block) (o : List Block)
-    → ((broke again : ℕ) → IsReached g broke again body)
+    → ((broke again : ℕ) → IsTurnReached g broke again body)
     → ((broke again : ℕ) → IsReached g broke again post)
-    → behind.label ≡ l + 1 + size (annotated (plan g) (i + 1) k body) + 1
+    → behind.label ≡ l + 1 + turn_size (annotated (plan g) (i + 1) k body) + 1
     + size (annotated (plan g) (i + 1 + steps_of body) (k + calls body) post)
     → behind.place ≡ i + 1 + steps_of body + steps_of post
     → behind.calls ≡ k + calls body + calls post → behind.out ≡ top ∷ o
-    → note ≡ note_of l i (l + 1 + size (annotated (plan g) (i + 1) k body))
-    → front_notes behind.notes ≡ (N ++ notes_of (plan g) (l + 1) (i + 1) k body)
-    ++ notes_of (plan g) (l + 1 + size (annotated (plan g) (i + 1) k body) + 1)
+    → note ≡ note_of l i (l + 1 + turn_size (annotated (plan g) (i + 1) k body))
+    → front_notes behind.notes ≡ (N ++ turn_notes (plan g) (l + 1) (i + 1) k body)
+    ++ notes_of (plan g) (l + 1 + turn_size (annotated (plan g) (i + 1) k body) + 1)
     (i + 1 + steps_of body) (k + calls body) post
     → Reached o (loop_by g body post note behind) l i k N
     (blocks_in (place g b a) (LoopAt ((plan g).cut i) (annotated (plan g) (i + 1) k body)
@@ -284,7 +296,7 @@ loop_reached : (g : Ground) (b a : ℕ) (body post : Code) (note : Note) (l i k 
 loop_reached g b a body post note l i k N behind top o f1 f2 el ei ek eo ex en =
     let C = annotated (plan g) (i + 1) k body in
     let D = annotated (plan g) (i + 1 + steps_of body) (k + calls body) post in
-    let next = l + 1 + size C in
+    let next = l + 1 + turn_size C in
     let br = next + 1 + size D in
     let start = with_rest (jump note.head) (without_note behind) in
     let bl = behind.label in
@@ -294,9 +306,9 @@ loop_reached g b a body post note l i k N behind top o f1 f2 el ei ek eo ex en =
     let after = end_of_body cuts g.arrays post nx.label note.head in
     let s1 = with_rest after nx in
     let nl = nx.label in
-    let t1 = emit g bl nl body s1 in
+    let t1 = emit_turn g bl nl body s1 in
     let u = put_out t1 in
-    let n1 = notes_of (plan g) (l + 1) (i + 1) k body in
+    let n1 = turn_notes (plan g) (l + 1) (i + 1) k body in
     let r2 = f2 bl note.next start (next + 1) (i + 1 + steps_of body) (k + calls body) (N ++ n1) el ei ek
     en in
     let enl : nl ≡ next = one_less t2.label next r2.label in
@@ -308,8 +320,8 @@ loop_reached g b a body post note l i k N behind top o f1 f2 el ei ek eo ex en =
     let ecut : cuts ≡ (plan g).cut i = ap (plan g).cut np in
     let Z = λ (m n q : ℕ). entry (place g m n) D (next + 1) (jump q) in
     let W = λ (m n q : ℕ). blocks (place g m n) D (next + 1) (jump q) in
-    let X = λ (m n : ℕ) (y : Block). entry (place g m n) C (l + 1) y in
-    let Y = λ (m n : ℕ) (y : Block). blocks (place g m n) C (l + 1) y in
+    let X = λ (m n : ℕ) (y : Block). turn_entry (place g m n) C (l + 1) y in
+    let Y = λ (m n : ℕ) (y : Block). turn_blocks (place g m n) C (l + 1) y in
     let P = λ (m n q : ℕ). Z m n q ∷ (W m n q ++ top ∷ []) in
     let B = λ (m n z q : ℕ) (y : Block). X m n y ∷ (Y m n y ++ P m z q) in
     let behind_out : nx.out ≡ P bl note.next note.head ++ o =
@@ -405,16 +417,16 @@ mutual
       let behind = put_out s in
       let C = annotated (plan g) (i + 1) k body in
       let D = annotated (plan g) (i + 1 + steps_of body) (k + calls body) post in
-      let e = one_less s.label (l + 1 + size C + 1 + size D) (el ∙ omega arith) in
-      let nx = l + 1 + size C in
-      let n1 = notes_of (plan g) (l + 1) (i + 1) k body in
+      let e = one_less s.label (l + 1 + turn_size C + 1 + size D) (el ∙ omega arith) in
+      let nx = l + 1 + turn_size C in
+      let n1 = turn_notes (plan g) (l + 1) (i + 1) k body in
       let n2 = notes_of (plan g) (nx + 1) (i + 1 + steps_of body) (k + calls body) post in
       let x = note_of l i nx in
       let M = (N ++ n1) ++ n2 in
       let all : s.notes ≡ M ++ x ∷ [] =
       en ∙ sym (append_assoc N n1 (n2 ++ x ∷ [])) ∙ sym (append_assoc (N ++ n1) n2 (x ∷ [])) in
       loop_reached g b a body post (last_note behind.notes) l i k N behind s.rest s.out
-      (λ broke again. reached g broke again body) (λ broke again. reached g broke again post) e
+      (λ broke again. turn_reached g broke again body) (λ broke again. reached g broke again post) e
       (omega (arith, ei)) (omega (arith, ek)) refl (ap last_note all ∙ last_behind M x)
       (ap front_notes all ∙ front_before M x)
   step_reached g b a on Break s l i k N el ei ek en =
@@ -444,3 +456,51 @@ mutual
       (omega (arith, ei)) (omega (arith, ek)) (en ∙ sym (append_assoc N n1 n2)) in
       let q = step_reached g b a (goes_on c) x m l i k N p.label p.place p.calls p.notes in
       joined (λ y. blocks_in (place g b a) S l y) (λ y. entry_in (place g b a) S l y) p q
+
+  test_reached_in : (g : Ground) (b a : ℕ) (x : Step) → IsTestReached g b a x
+  test_reached_in g b a (If x one other) = reached g b a one
+  test_reached_in g b a _ = tt
+
+  turn_reached : (g : Ground) (b a : ℕ) (c : Code) → IsTurnReached g b a c
+  turn_reached g b a Nop s l i k N el ei ek en =
+      record {
+        label = omega (arith, el);
+        place = omega (arith, ei);
+        calls = omega (arith, ek);
+        notes = en ∙ append-nil N;
+        out = refl;
+        rest = refl;
+      }
+  turn_reached g b a (x ▹ c) s l i k N el ei ek en =
+      let p = place g b a in
+      let on = goes_on c in
+      let m = emit_turn g b a c s in
+      let S = annotated_in (plan g) i k on x in
+      let C = annotated (plan g) (i + steps_in x) (k + calls_in x) c in
+      let test = is_test_step ((plan g).joined i) x in
+      let z = is_empty c && test in
+      let l2 = l + part_size z S in
+      let n1 = cond z (test_notes (plan g) l i k x) (notes_in (plan g) l i k x) in
+      let n2 = turn_notes (plan g) l2 (i + steps_in x) (k + calls_in x) c in
+      let e = loop_test_is (plan g) i k x c in
+      let r1 = turn_reached g b a c s l2 (i + steps_in x) (k + calls_in x) (N ++ n1)
+      (el ∙ ap (λ y. l + (part_size y S + turn_size C)) e ∙ omega arith)
+      (omega (arith, ei)) (omega (arith, ek)) (en ∙ sym (append_assoc N n1 n2)) in
+      let sized = λ (y : Bool) (q : z ≡ y). r1.label ∙ ap (λ y. l + part_size y S) q in
+      let noted = λ (y : Bool) (q : z ≡ y).
+      r1.notes ∙ ap (λ y. N ++ cond y (test_notes (plan g) l i k x) (notes_in (plan g) l i k x)) q in
+      let r2 = by_kind z m.out (test_out g b a x m) (emit_in g b a on x m) l i k N (test_blocks p S l m.rest)
+      (blocks_in p S l m.rest) (test_entry p S l m.rest) (entry_in p S l m.rest)
+      (λ q. loop_test_reached g b a on ((plan g).joined i) x (and_parts (is_empty c) test q).1
+      (test_reached_in g b a x) m l i k N (sized true q) r1.place r1.calls (noted true q))
+      (λ q. step_reached g b a on x m l i k N (sized false q) r1.place r1.calls (noted false q)) in
+      let h : m.place - steps_in x ≡ i = if_place i (steps_in x) m r1.place in
+      let r3 = restated (ap (λ j. cond (is_empty c && is_test_step ((plan g).joined j) x) (test_out g b a x m)
+      (emit_in g b a on x m)) h) refl refl r2 in
+      let r4 = joined (λ y. cond z (test_blocks p S l y) (blocks_in p S l y)) (λ y. part_entry z p S l y) r1 r3 in
+      subst (λ y. Reached s.out (emit_turn g b a (x ▹ c) s) l i k N
+      (cond y (test_blocks p S l (turn_entry p C (l + part_size y S) s.rest))
+      (blocks_in p S l (turn_entry p C (l + part_size y S) s.rest))
+      ++ turn_blocks p C (l + part_size y S) s.rest)
+      (part_entry y p S l (turn_entry p C (l + part_size y S) s.rest)))
+      (sym e) r4

@@ -4,6 +4,7 @@ use Rattle.std.proofs.lemmas.List.{reverse-append}
 use Rattle.trips_isa.specs.declared.op.Op.{Op}
 use Rattle.ir_forms.specs.declared.flat.Arg.{Arg}
 use Rattle.ir_forms.specs.declared.hyper.Source.{Source}
+use Rattle.ir_forms.specs.declared.hyper.Source.TheVariants.{Reg}
 use Rattle.ir_forms.specs.declared.hyper.Exit.{Exit}
 use Rattle.ir_forms.specs.declared.hyper.Exit.TheVariants as exit
 use Rattle.ir_forms.specs.declared.hyper.HyperItem.{HyperItem}
@@ -22,6 +23,7 @@ use Rattle.hyper_build.specs.Emitted.{rest_of, out_of}
 use Rattle.hyper_build.specs.BackwardStatements.{left_by}
 use Rattle.hyper_build.specs.BackwardItems.{if_then}
 use Rattle.hyper_build.specs.BackwardCode.{test_block}
+use Rattle.hyper_build.specs.Merging.{fork}
 
 -- a rest, and one item before it
 abbrev with_item : Rest → HyperItem → Rest
@@ -62,6 +64,14 @@ test_is x t one other e =
     (tail_test t (tail.Leave (exit.Jump one)) (tail.Leave (exit.Jump other))
     ∙ ap₂ (hyper_code.Test t) (tail_leave (exit.Jump one)) (tail_leave (exit.Jump other))
     ∙ ap (λ y. hyper_code.Test y (hyper_code.Leave (exit.Jump one)) (hyper_code.Leave (exit.Jump other))) e)
+
+pub fork_is : (t : declared.Tail) (out : ℕ)
+    → rest_of (record { items = []; tail = tail.Test (Reg 92) t (tail.Leave (exit.Jump out)) })
+    ≡ fork (tail_of t) out
+fork_is t out =
+    ap (λ y. record { items = items_of []; tail = y })
+    (tail_test (Reg 92) t (tail.Leave (exit.Jump out))
+    ∙ ap (hyper_code.Test (Reg 92) (tail_of t)) (tail_leave (exit.Jump out)))
 
 pub load_is : (r : Rest) (to : ℕ) (op : Op) (a : Source)
     → rest_of (with_item r (item.Load to op a)) ≡ load_then to op a (rest_of r)

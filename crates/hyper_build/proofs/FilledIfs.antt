@@ -18,14 +18,17 @@ use Rattle.hyper_build.specs.Parts.{moved_blocks}
 use Rattle.hyper_build.specs.Passing.{saving, restoring, argument_moves, argument_cuts, result_then}
 use Rattle.hyper_build.specs.Passing.{parameter_moves, parameter_cuts}
 use Rattle.hyper_build.specs.Straight.{Place, in_loop, items_in, items_of, is_small_if, is_item, exit_leg}
-use Rattle.hyper_build.specs.Straight.{label_or, leg_blocks, leg_size, arguments_size, size_in, size}
+use Rattle.hyper_build.specs.Straight.{label_or, leg_blocks, leg_size, is_loop_test, arguments_size, size_in}
+use Rattle.hyper_build.specs.Straight.{size, turn_size, part_size}
 use Rattle.hyper_build.specs.BackwardItems.{is_straight_in, is_straight, is_if_item, if_then}
-use Rattle.hyper_build.specs.BackwardCode.{test_block}
-use Rattle.hyper_build.specs.Build.{call_block, choose, body_end, entry_in, entry, blocks_in, blocks, back_block}
+use Rattle.hyper_build.specs.BackwardCode.{is_break_code, is_test_step, test_block}
+use Rattle.hyper_build.specs.Build.{call_block, choose, body_end, entry_in, entry, test_entry, turn_entry, blocks_in}
+use Rattle.hyper_build.specs.Build.{blocks, test_blocks, turn_blocks, back_block}
 use Rattle.hyper_build.specs.Routines.{place_of, way_out, body_entry, body_label}
 use Rattle.hyper_build.specs.Routines.{parameters_size, routine_size, routine_blocks, all_blocks, entry_from}
 use Rattle.hyper_build.specs.Laws.{KeepsSmallIfs}
 use Rattle.hyper_build.proofs.ItemLegs.{and_parts, item_is, legs_straight}
+use Rattle.hyper_build.proofs.LoopTests.{break_is, loop_test_is}
 
 abbrev filled : Block → ℕ
 filled b = filled_ifs b.items
@@ -290,6 +293,72 @@ code_by x c first own more k true z s o r =
     ap (λ y. filled_in (y ++ more)) (o z) in
     (omega (arith, n, h, a), λ e. omega (arith, n, h, a))
 
+-- LOOPS' TESTS
+
+-- a test is no small if
+no_small : (a b : Bool) → number_by (a && false) b ≡ 0
+no_small true b = refl
+no_small false b = refl
+
+break_small : (one other : Code) → is_break_code other ≡ true → small_if one other ≡ 0
+break_small one other e =
+    ap (small_if one) (break_is other e) ∙ no_small (is_small_leg one) (is_empty one && is_empty (Break ▹ Nop))
+
+break_none : (other : Code) → is_break_code other ≡ true → small_ifs other ≡ 0
+break_none other e = ap small_ifs (break_is other e)
+
+-- what a loop's test asks of its leg
+abbrev LegIsKept : Place → Plan → ℕ → ℕ → Step → Type 0
+LegIsKept P p i n (If a one other) =
+    (l : ℕ) (k : Block) → AreKept one (entry P (annotated p (i + 1) n one) l k) (blocks P (annotated p (i + 1) n one) l k)
+LegIsKept P p i n _ = Unit {0}
+
+-- its leg's small ifs are in its block and in those that the leg begins, and it does not leave
+test_keeps : (P : Place) (p : Plan) (l i n : ℕ) (on joined : Bool) (x : Step) (k : Block)
+    → is_test_step joined x ≡ true → LegIsKept P p i n x
+    → (small_ifs_in x ≤ filled (test_entry P (annotated_in p i n on x) l k)
+    + filled_in (test_blocks P (annotated_in p i n on x) l k)) × (leaves x ≡ false)
+test_keeps P p l i n on joined (If a one other) k e f =
+    let A = annotated p (i + 1) n one in
+    let k1 = cut (p.cut i) (l + size A) k in
+    let b = (and_parts joined (is_break_code other) e).1 in
+    let u = (f l k1).0 in
+    let s = break_small one other b in
+    let o = break_none other b in
+    let q = filled_append (blocks P A l k1) (cut_blocks (p.cut i) k) in
+    (omega (arith, u, s, o, q), refl)
+test_keeps P p l i n on joined (Let to op x y) k e f = absurd (cc e)
+test_keeps P p l i n on joined (Frame to at) k e f = absurd (cc e)
+test_keeps P p l i n on joined (Load to op x) k e f = absurd (cc e)
+test_keeps P p l i n on joined (Save op x y) k e f = absurd (cc e)
+test_keeps P p l i n on joined (Call f_ xs to kept) k e f = absurd (cc e)
+test_keeps P p l i n on joined (Put x) k e f = absurd (cc e)
+test_keeps P p l i n on joined (Get to) k e f = absurd (cc e)
+test_keeps P p l i n on joined (Loop c d) k e f = absurd (cc e)
+test_keeps P p l i n on joined Break k e f = absurd (cc e)
+test_keeps P p l i n on joined Continue k e f = absurd (cc e)
+test_keeps P p l i n on joined (Return x) k e f = absurd (cc e)
+
+empty_none : (c : Code) → is_empty c ≡ true → small_ifs c ≡ 0
+empty_none Nop e = refl
+empty_none (x ▹ c) e = absurd (cc e)
+
+-- a loop's test, behind which nothing stands
+test_by : (x : Step) (c : Code) (first : Block) (own more : List Block) → is_empty c ≡ true
+    → (small_ifs_in x ≤ filled first + filled_in own) × (leaves x ≡ false) → AreKept (x ▹ c) first (own ++ more)
+test_by x c first own more e h =
+    let n = empty_none c e in
+    let q = h.0 in
+    let a = filled_append own more in
+    (omega (arith, n, q, a), λ z. let bad : true ≡ false = sym (ap not h.1) ∙ z in absurd (cc bad))
+
+-- a statement of a loop's body, by whether it is the test
+part_keeps : (z : Bool) (x : Step) (c : Code) (e1 e2 : Block) (b1 b2 more : List Block)
+    → (z ≡ true → AreKept (x ▹ c) e1 (b1 ++ more)) → (z ≡ false → AreKept (x ▹ c) e2 (b2 ++ more))
+    → AreKept (x ▹ c) (choose z e1 e2) (cond z b1 b2 ++ more)
+part_keeps true x c e1 e2 b1 b2 more f h = f refl
+part_keeps false x c e1 e2 b1 b2 more f h = h refl
+
 mutual
   -- a statement that does not leave, and the rest behind it
   step_keeps : (P : Place) (p : Plan) (l i n : ℕ) (on : Bool) (x : Step) (k : Block) → leaves x ≡ false
@@ -360,12 +429,12 @@ mutual
   step_keeps P p l i n on (Loop body post) k e =
       let A = annotated p (i + 1) n body in
       let C = annotated p (i + 1 + steps_of body) (n + calls body) post in
-      let next = l + 1 + size A in
+      let next = l + 1 + turn_size A in
       let q = in_loop P (next + 1 + size C) next in
       let after = body_end q (p.cut i) C next l in
-      let x = (code_keeps q p (l + 1) (i + 1) n body after).0 in
+      let x = (turn_keeps q p (l + 1) (i + 1) n body after).0 in
       let y = (code_keeps q p (next + 1) (i + 1 + steps_of body) (n + calls body) post (jump l)).0 in
-      let a1 = filled_append (blocks q A (l + 1) after)
+      let a1 = filled_append (turn_blocks q A (l + 1) after)
       (entry q C (next + 1) (jump l) ∷ (blocks q C (next + 1) (jump l) ++ k ∷ [])) in
       let a2 = filled_append (blocks q C (next + 1) (jump l)) (k ∷ []) in
       omega (arith, x, y, a1, a2)
@@ -384,6 +453,30 @@ mutual
       code_by x c (entry_in P S l k1) (blocks_in P S l k1) (blocks P R l1 k) k1 (leaves x) refl
       (λ z. step_keeps P p l i n (goes_on c) x k1 z) (λ z. leaving_cuts P p l i n (goes_on c) x k1 z)
       (code_keeps P p l1 (i + steps_in x) (n + calls_in x) c k)
+
+  legs_kept : (P : Place) (p : Plan) (i n : ℕ) (x : Step) → LegIsKept P p i n x
+  legs_kept P p i n (If a one other) = λ l k. code_keeps P p l (i + 1) n one k
+  legs_kept P p i n _ = tt
+
+  turn_keeps : (P : Place) (p : Plan) (l i n : ℕ) (c : Code) (k : Block)
+      → AreKept c (turn_entry P (annotated p i n c) l k) (turn_blocks P (annotated p i n c) l k)
+  turn_keeps P p l i n Nop k = (omega arith, λ e. omega arith)
+  turn_keeps P p l i n (x ▹ c) k =
+      let S = annotated_in p i n (goes_on c) x in
+      let R = annotated p (i + steps_in x) (n + calls_in x) c in
+      let z = is_loop_test S R in
+      let l1 = l + part_size z S in
+      let k1 = turn_entry P R l1 k in
+      let test = is_test_step (p.joined i) x in
+      let same = loop_test_is p i n x c in
+      part_keeps z x c (test_entry P S l k1) (entry_in P S l k1) (test_blocks P S l k1) (blocks_in P S l k1)
+      (turn_blocks P R l1 k)
+      (λ e. let q = and_parts (is_empty c) test (sym same ∙ e) in
+      test_by x c (test_entry P S l k1) (test_blocks P S l k1) (turn_blocks P R l1 k) q.0
+      (test_keeps P p l i n (goes_on c) (p.joined i) x k1 q.1 (legs_kept P p i n x)))
+      (λ e. code_by x c (entry_in P S l k1) (blocks_in P S l k1) (turn_blocks P R l1 k) k1 (leaves x) refl
+      (λ z. step_keeps P p l i n (goes_on c) x k1 z) (λ z. leaving_cuts P p l i n (goes_on c) x k1 z)
+      (turn_keeps P p l1 (i + steps_in x) (n + calls_in x) c k))
 
 -- PROGRAMS
 

@@ -18,6 +18,10 @@ pub mod Memories
 pub mod Plains
 pub mod Forks
 pub mod ItemLegs
+pub mod LoopTests
+pub mod LowRegisters
+pub mod Merges
+pub mod MergedTests
 pub mod Straights
 pub mod Turns
 pub mod Sound
@@ -32,8 +36,10 @@ pub mod Emits
 pub mod LastNotes
 pub mod Reaching
 pub mod ReachingLegs
+pub mod ReachingTests
 pub mod Emissions
 pub mod ArgumentSizes
 pub mod NumbersForward
 pub mod IfPasses
+pub mod TestPasses
 pub mod FunctionsOut

@@ -1,6 +1,6 @@
 -- Where a plan cuts everywhere, each block is small, has one group, or holds one small if.
 use Rattle.std.proofs.Common.{◌≡◌, ◌⊎◌, inl, inr, ℕ, zero, suc, ◌+◌, ◌≤◌, Bool, true, false, cond, not, ◌&&◌}
-use Rattle.std.proofs.Common.{◌||◌, List, [], ◌∷◌, ◌++◌, map, length, Option, Some, None, refl, ap₂, ◌∙◌, subst}
+use Rattle.std.proofs.Common.{◌||◌, List, [], ◌∷◌, ◌++◌, map, length, Option, Some, None, refl, ap, ap₂, ◌∙◌, subst}
 use Rattle.std.proofs.Common.{arith, slice_get}
 use Rattle.ir_forms.specs.declared.flat.Arg.{Arg}
 use Rattle.ir_forms.specs.declared.hyper.Exit.TheVariants as exit
@@ -16,8 +16,10 @@ use Rattle.hyper_build.specs.Parts.{source, cut, cut_blocks, chain, chain_blocks
 use Rattle.hyper_build.specs.Passing.{saving, restoring, argument_moves, argument_cuts, result_then}
 use Rattle.hyper_build.specs.Passing.{parameter_moves, parameter_cuts}
 use Rattle.hyper_build.specs.Straight.{Place, in_loop, straight, items_of, is_small_if, is_item, exit_leg}
-use Rattle.hyper_build.specs.Straight.{leg_blocks, leg_size, arguments_size, size_in, size}
-use Rattle.hyper_build.specs.Build.{call_block, choose, give, body_end, entry_in, entry, blocks_in, blocks}
+use Rattle.hyper_build.specs.Straight.{leg_blocks, leg_size, is_break, is_end, is_test, is_loop_test}
+use Rattle.hyper_build.specs.Straight.{arguments_size, size_in, size, turn_size, part_size}
+use Rattle.hyper_build.specs.Build.{call_block, choose, give, body_end, entry_in, entry, test_entry, turn_entry}
+use Rattle.hyper_build.specs.Build.{blocks_in, blocks, test_blocks, turn_blocks}
 use Rattle.hyper_build.specs.Routines.{way_out, place_of, way_in, parameters_size, body_label}
 use Rattle.hyper_build.specs.Routines.{body_entry, routine_size, routine_blocks, all_blocks, entry_from}
 use Rattle.hyper_build.specs.Routines.{built}
@@ -332,6 +334,33 @@ call_little p f args to groups l k small few s =
           )),
     )
 
+-- where the plan joins nothing, no statement is a loop's test
+no_test : (st : Stmt) → IsCutStmt st → is_test st ≡ false
+no_test (IfAt c joined a one other) t = ap (λ b. b && is_break other) t.1
+no_test (LetAt c to op a b) t = refl
+no_test (FrameAt c to at) t = refl
+no_test (LoadAt c to op a) t = refl
+no_test (SaveAt c op a v) t = refl
+no_test (CallAt c small f args to groups) t = refl
+no_test (PutAt v) t = refl
+no_test (GetAt c to) t = refl
+no_test (LoopAt c body post) t = refl
+no_test (BreakAt c) t = refl
+no_test (ContinueAt c) t = refl
+no_test (ReturnAt c v) t = refl
+
+and_none : (a b : Bool) → b ≡ false → a && b ≡ false
+and_none true b e = e
+and_none false b e = refl
+
+uncut_test : (st : Stmt) (rest : Tree) → IsCutStmt st → is_loop_test st rest ≡ false
+uncut_test st rest t = and_none (is_end rest) (is_test st) (no_test st t)
+
+part_little : (z : Bool) (x y : Block) (xs ys : List Block) → z ≡ false → IsLittle y × AllLittle ys
+    → IsLittle (choose z x y) × AllLittle (cond z xs ys)
+part_little true x y xs ys e h = absurd (cc e)
+part_little false x y xs ys e h = h
+
 mutual
   little_in : (p : Place) (st : Stmt) (l : ℕ) (k : Block) → IsCutStmt st → Rest 2 p.gave → IsLittle k
       → IsLittle (entry_in p st l k) × AllLittle (blocks_in p st l k)
@@ -367,14 +396,14 @@ mutual
             (little_append second (k ∷ []) (leg_little (exit_leg p join other) _ _ v.0 v.1) (s, tt)),
       )
   little_in p (LoopAt true body post) l k t g s =
-      let next = l + 1 + size body in
+      let next = l + 1 + turn_size body in
       let q = in_loop p (next + 1 + size post) next in
-      let x = little_tree q body (l + 1) (jump next) t.1 g (little_jump next) in
+      let x = little_turn q body (l + 1) (jump next) t.1 g (little_jump next) in
       let y = little_tree q post (next + 1) (jump l) t.2 g (little_jump l) in (
         little_jump l,
         (
           x.0,
-          little_append (blocks q body (l + 1) (jump next)) _ x.1
+          little_append (turn_blocks q body (l + 1) (jump next)) _ x.1
               (y.0, little_append (blocks q post (next + 1) (jump l)) (k ∷ []) y.1 (s, tt)),
         ),
       )
@@ -399,6 +428,19 @@ mutual
       let y = little_tree p rest (l + size_in st) k t.1 g s in
       let x = little_in p st l (entry p rest (l + size_in st) k) t.0 g y.0 in
       (x.0, little_append (blocks_in p st l (entry p rest (l + size_in st) k)) _ x.1 y.1)
+
+  -- a loop's body, in which no test goes on in its block
+  little_turn : (p : Place) (c : Tree) (l : ℕ) (k : Block) → IsCutTree c → Rest 2 p.gave
+      → IsLittle k → IsLittle (turn_entry p c l k) × AllLittle (turn_blocks p c l k)
+  little_turn p End l k t g s = (s, tt)
+  little_turn p (st ▸ rest) l k t g s =
+      let z = is_loop_test st rest in
+      let l1 = l + part_size z st in
+      let k1 = turn_entry p rest l1 k in
+      let y = little_turn p rest l1 k t.1 g s in
+      let x = part_little z (test_entry p st l k1) (entry_in p st l k1) (test_blocks p st l k1) (blocks_in p st l k1)
+      (uncut_test st rest t.0) (little_in p st l k1 t.0 g y.0) in
+      (x.0, little_append (cond z (test_blocks p st l k1) (blocks_in p st l k1)) (turn_blocks p rest l1 k) x.1 y.1)
 
 -- FUNCTIONS
 

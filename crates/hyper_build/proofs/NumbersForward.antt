@@ -1,23 +1,26 @@
 -- Numbers forward are what annotated code says: labels by its size, and a note for each loop.
 use Rattle.std.proofs.Common.{◌≡◌, ◌⊎◌, inl, inr, ℕ, zero, suc, ◌+◌, Bool, List, [], ◌∷◌, ◌++◌, Option}
-use Rattle.std.proofs.Common.{true, false, cond, refl, sym, ap, ap₂, ◌∙◌, subst, arith, append_assoc, append-nil}
+use Rattle.std.proofs.Common.{true, false, cond, ◌&&◌, refl, sym, ap, ap₂, ◌∙◌, subst, arith, append_assoc, append-nil}
 use Rattle.ir_forms.specs.declared.flat.Arg.{Arg}
 use Rattle.ir_forms.specs.FlatCode.{Step, Let, Frame, Load, Save, Call, Put, Get, If, Loop, Break, Continue}
 use Rattle.ir_forms.specs.FlatCode.{Return, Code, Nop, ◌▹◌, Function}
-use Rattle.ir_forms.specs.FlatFits.{steps_in, steps_of, steps_of_all}
+use Rattle.ir_forms.specs.FlatFits.{steps_in, steps_of, steps_of_all, is_empty}
 use Rattle.reg_assign.specs.Keeps.{calls_in, calls, calls_of_all}
 use Rattle.hyper_build.specs.declared.emitting.Note.{Note}
 use Rattle.hyper_build.specs.declared.numbering.Numbering.{Numbering}
 use Rattle.hyper_build.specs.Tree.{Plan, goes_on, annotated_in, annotated, Routine, annotated_all}
-use Rattle.hyper_build.specs.Straight.{leg_size, size_in, size}
+use Rattle.hyper_build.specs.Parts.{cut_size}
+use Rattle.hyper_build.specs.Straight.{leg_size, size_in, size, test_size, turn_size, part_size}
 use Rattle.hyper_build.specs.Routines.{body_label, routine_size, entry_from}
 use Rattle.hyper_build.specs.Ground.{Ground, plan, entry_at}
 use Rattle.hyper_build.specs.BackwardItems.{is_if_item}
 use Rattle.hyper_build.specs.Forward.{with_blocks, with_statement, with_note, number_items, led_by, led, number_in}
-use Rattle.hyper_build.specs.Forward.{number, way_in_size}
+use Rattle.hyper_build.specs.Forward.{number, number_test, number_turn, way_in_size}
 use Rattle.hyper_build.specs.Forward.{number_function, number_all, entries_from, numbers_start}
-use Rattle.hyper_build.specs.Notes.{note_of, notes_in, notes_of}
-use Rattle.hyper_build.proofs.ItemLegs.{item_is, if_size, item_calls, item_notes}
+use Rattle.hyper_build.specs.BackwardCode.{is_break_code, is_test_step}
+use Rattle.hyper_build.specs.Notes.{note_of, notes_in, notes_of, test_notes, turn_notes}
+use Rattle.hyper_build.proofs.ItemLegs.{and_parts, item_is, if_size, item_calls, item_notes}
+use Rattle.hyper_build.proofs.LoopTests.{break_steps, break_calls, loop_test_is}
 use Rattle.hyper_build.proofs.ReachingLegs.{NoExit, HasExit, kind}
 
 -- NUMBERS
@@ -132,20 +135,75 @@ if_numbers g l i k on x one other N f1 f2 =
     by_kind_numbers g l i k x one other z refl N f1 f2
     ∙ same (ap (λ y. l + if_size y c A C) (sym e)) refl refl refl
 
+-- a loop's test: its leg, and a break
+tested_numbers : (g : Ground) (l i k : ℕ) (on : Bool) (x : Arg) (one other : Code) (N : List Note)
+    → is_break_code other ≡ true → IsNumbered g l (i + 1) k one
+    → number_test (plan g) (If x one other) (numbers_at l i k N)
+    ≡ numbers_at (l + test_size (annotated_in (plan g) i k on (If x one other)))
+    (i + steps_in (If x one other)) (k + calls_in (If x one other))
+    (N ++ test_notes (plan g) l i k (If x one other))
+tested_numbers g l i k on x one other N e f =
+    let c = cut_size ((plan g).cut i) in
+    let n = break_steps other e in
+    let m = break_calls other e in
+    ap (λ s. with_blocks c (with_statement s)) (f N)
+    ∙ same (omega arith) (omega (arith, n)) (omega (arith, m)) refl
+
+-- what a loop's test asks of its leg
+abbrev IsTestNumbered : Ground → ℕ → ℕ → Step → Type 0
+IsTestNumbered g i k (If x one other) = (m : ℕ) → IsNumbered g m (i + 1) k one
+IsTestNumbered g i k _ = Unit {0}
+
+loop_test_numbers : (g : Ground) (l i k : ℕ) (on joined : Bool) (x : Step) (N : List Note)
+    → is_test_step joined x ≡ true → IsTestNumbered g i k x
+    → number_test (plan g) x (numbers_at l i k N)
+    ≡ numbers_at (l + test_size (annotated_in (plan g) i k on x)) (i + steps_in x) (k + calls_in x)
+    (N ++ test_notes (plan g) l i k x)
+loop_test_numbers g l i k on joined (If x one other) N e f =
+    tested_numbers g l i k on x one other N (and_parts joined (is_break_code other) e).1 (f l)
+loop_test_numbers g l i k on joined (Let to op x y) N e f = absurd (cc e)
+loop_test_numbers g l i k on joined (Frame to at) N e f = absurd (cc e)
+loop_test_numbers g l i k on joined (Load to op x) N e f = absurd (cc e)
+loop_test_numbers g l i k on joined (Save op x y) N e f = absurd (cc e)
+loop_test_numbers g l i k on joined (Call f_ xs to kept) N e f = absurd (cc e)
+loop_test_numbers g l i k on joined (Put x) N e f = absurd (cc e)
+loop_test_numbers g l i k on joined (Get to) N e f = absurd (cc e)
+loop_test_numbers g l i k on joined (Loop a b) N e f = absurd (cc e)
+loop_test_numbers g l i k on joined Break N e f = absurd (cc e)
+loop_test_numbers g l i k on joined Continue N e f = absurd (cc e)
+loop_test_numbers g l i k on joined (Return x) N e f = absurd (cc e)
+
+-- a statement of a loop's body, by whether it is the test
+part_numbers : (g : Ground) (l i k : ℕ) (z on : Bool) (x : Step) (N : List Note)
+    → (z ≡ true → is_test_step ((plan g).joined i) x ≡ true) → IsTestNumbered g i k x
+    → number_in (plan g) on x (numbers_at l i k N)
+    ≡ numbers_at (l + size_in (annotated_in (plan g) i k on x)) (i + steps_in x) (k + calls_in x)
+    (N ++ notes_in (plan g) l i k x)
+    → cond z (number_test (plan g) x (numbers_at l i k N)) (number_in (plan g) on x (numbers_at l i k N))
+    ≡ numbers_at (l + part_size z (annotated_in (plan g) i k on x)) (i + steps_in x) (k + calls_in x)
+    (N ++ cond z (test_notes (plan g) l i k x) (notes_in (plan g) l i k x))
+part_numbers g l i k true on x N e f h = loop_test_numbers g l i k on ((plan g).joined i) x N (e refl) f
+part_numbers g l i k false on x N e f h = h
+
+abbrev IsTurnNumbered : Ground → ℕ → ℕ → ℕ → Code → Type 0
+IsTurnNumbered g l i k c = (N : List Note) → number_turn (plan g) c (numbers_at l i k N)
+    ≡ numbers_at (l + turn_size (annotated (plan g) i k c)) (i + steps_of c) (k + calls c)
+    (N ++ turn_notes (plan g) l i k c)
+
 loop_numbers : (g : Ground) (l i k : ℕ) (on : Bool) (body post : Code) (N : List Note)
-    → IsNumbered g (l + 1) (i + 1) k body
-    → IsNumbered g (l + 1 + size (annotated (plan g) (i + 1) k body) + 1) (i + 1 + steps_of body)
+    → IsTurnNumbered g (l + 1) (i + 1) k body
+    → IsNumbered g (l + 1 + turn_size (annotated (plan g) (i + 1) k body) + 1) (i + 1 + steps_of body)
     (k + calls body) post
     → number_in (plan g) on (Loop body post) (numbers_at l i k N)
-    ≡ numbers_at (l + (1 + (size (annotated (plan g) (i + 1) k body)
+    ≡ numbers_at (l + (1 + (turn_size (annotated (plan g) (i + 1) k body)
     + (1 + (size (annotated (plan g) (i + 1 + steps_of body) (k + calls body) post) + 1)))))
     (i + (1 + (steps_of body + steps_of post))) (k + (calls body + calls post))
     (N ++ notes_in (plan g) l i k (Loop body post))
 loop_numbers g l i k on body post N f1 f2 =
     let C = annotated (plan g) (i + 1) k body in
     let D = annotated (plan g) (i + 1 + steps_of body) (k + calls body) post in
-    let next = l + 1 + size C in
-    let n1 = notes_of (plan g) (l + 1) (i + 1) k body in
+    let next = l + 1 + turn_size C in
+    let n1 = turn_notes (plan g) (l + 1) (i + 1) k body in
     let n2 = notes_of (plan g) (next + 1) (i + 1 + steps_of body) (k + calls body) post in
     let x = note_of l i next in
     let e1 = f1 N in
@@ -172,8 +230,8 @@ mutual
       (λ m. numbers g m (i + 1) k one)
       (λ m. numbers g m (i + 1 + steps_of one) (k + calls one) other)
   step_numbers g l i k on (Loop body post) N = loop_numbers g l i k on body post N
-      (numbers g (l + 1) (i + 1) k body)
-      (numbers g (l + 1 + size (annotated (plan g) (i + 1) k body) + 1) (i + 1 + steps_of body)
+      (turn_numbers g (l + 1) (i + 1) k body)
+      (numbers g (l + 1 + turn_size (annotated (plan g) (i + 1) k body) + 1) (i + 1 + steps_of body)
       (k + calls body) post)
   step_numbers g l i k on Break N = bare N refl refl (omega arith)
   step_numbers g l i k on Continue N = bare N refl refl (omega arith)
@@ -189,6 +247,29 @@ mutual
       ∙ numbers g l1 i1 k1 c (N ++ notes_in (plan g) l i k x)
       ∙ same (omega arith) (omega arith) (omega arith)
       (append_assoc N (notes_in (plan g) l i k x) (notes_of (plan g) l1 i1 k1 c))
+
+  test_numbers_in : (g : Ground) (i k : ℕ) (x : Step) → IsTestNumbered g i k x
+  test_numbers_in g i k (If x one other) = λ m. numbers g m (i + 1) k one
+  test_numbers_in g i k _ = tt
+
+  turn_numbers : (g : Ground) (l i k : ℕ) (c : Code) → IsTurnNumbered g l i k c
+  turn_numbers g l i k Nop N = bare N (omega arith) (omega arith) (omega arith)
+  turn_numbers g l i k (x ▹ c) N =
+      let test = is_test_step ((plan g).joined i) x in
+      let z = is_empty c && test in
+      let S = annotated_in (plan g) i k (goes_on c) x in
+      let C = annotated (plan g) (i + steps_in x) (k + calls_in x) c in
+      let l1 = l + part_size z S in
+      let i1 = i + steps_in x in
+      let k1 = k + calls_in x in
+      let n1 = cond z (test_notes (plan g) l i k x) (notes_in (plan g) l i k x) in
+      let e = loop_test_is (plan g) i k x c in
+      ap (number_turn (plan g) c)
+      (part_numbers g l i k z (goes_on c) x N (λ q. (and_parts (is_empty c) test q).1) (test_numbers_in g i k x)
+      (step_numbers g l i k (goes_on c) x N))
+      ∙ turn_numbers g l1 i1 k1 c (N ++ n1)
+      ∙ same (omega arith ∙ ap (λ b. l + (part_size b S + turn_size C)) (sym e)) (omega arith) (omega arith)
+      (append_assoc N n1 (turn_notes (plan g) l1 i1 k1 c))
 
 -- FUNCTIONS
 

@@ -23,10 +23,10 @@ use Rattle.hyper_build.specs.Parts.{Move, moved, moved_blocks, moved_size}
 use Rattle.hyper_build.specs.Passing.{below_end, saving, restoring, argument_moves, argument_cuts}
 use Rattle.hyper_build.specs.Passing.{result_then}
 use Rattle.hyper_build.specs.Straight.{Place, in_loop, straight_in, straight, items_in, items_of, is_item}
-use Rattle.hyper_build.specs.Straight.{exit_leg, label_or, leg_blocks, leg_size, arguments_size}
-use Rattle.hyper_build.specs.Straight.{size_in, size}
+use Rattle.hyper_build.specs.Straight.{exit_leg, label_or, leg_blocks, leg_size, is_loop_test, arguments_size}
+use Rattle.hyper_build.specs.Straight.{size_in, size, test_size, turn_size, part_size}
 use Rattle.hyper_build.specs.Build.{call_block, call_entry, back_block, give, body_end, choose, entry_in}
-use Rattle.hyper_build.specs.Build.{entry, blocks_in, blocks}
+use Rattle.hyper_build.specs.Build.{entry, test_entry, turn_entry, blocks_in, blocks, test_blocks, turn_blocks}
 use Rattle.hyper_build.specs.World.{World}
 use Rattle.hyper_build.specs.Fits.{FitsCallAt, FitsStmt, FitsTree}
 use Rattle.hyper_build.proofs.Registers.{lasting_below, register_lasting, register_scratch, or_left}
@@ -338,6 +338,11 @@ module _ (W : World) (g : Routine) (scalars : g.scalars ≤ 64) (N : ℕ)
   choice_sound true xs ys f h = f refl
   choice_sound false xs ys f h = h refl
 
+  part_sound : (b : Bool) (x y : Block) (xs ys : List Block) → (b ≡ true → Sound N x × AllSound N xs)
+      → (b ≡ false → Sound N y × AllSound N ys) → Sound N (choose b x y) × AllSound N (cond b xs ys)
+  part_sound true x y xs ys f h = f refl
+  part_sound false x y xs ys f h = h refl
+
   -- a call's blocks
   call_sound : (p : Place) (c small : Bool) (f : ℕ) (args : List Arg) (to : Option ℕ)
       (groups : List (List ℕ)) (l : ℕ) (k : Block) (inside : Bool)
@@ -463,7 +468,7 @@ module _ (W : World) (g : Routine) (scalars : g.scalars ≤ 64) (N : ℕ)
               (λ none. sound_tree inside p other (l1 + 1) (jump join) t.3 q (y.room none) jn)) (s, tt))),
         )
     sound_in inside p (LoopAt c body post) l k t q le s =
-        let next = l + 1 + size body in
+        let next = l + 1 + turn_size body in
         let broke = next + 1 + size post in
         let r = in_loop p broke next in
         let after = body_end r c post next l in
@@ -480,13 +485,13 @@ module _ (W : World) (g : Routine) (scalars : g.scalars ≤ 64) (N : ℕ)
           again = λ e. omega (arith, le);
         } in
         let ends = end_sound r c post next l t.1 (omega (arith, le)) (omega (arith, le)) in
-        let x = sound_tree true r body (l + 1) after t.0 qb (omega (arith, le)) ends in
+        let x = sound_turn r body (l + 1) after t.0 qb (omega (arith, le)) ends in
         let y = sound_tree false r post (next + 1) (jump l) t.1 qp (omega (arith, le))
         (jump_sound N l (omega (arith, le))) in (
           jump_sound N l (omega (arith, le)),
           (
             x.0,
-            sound_append N (blocks r body (l + 1) after) _ x.1
+            sound_append N (turn_blocks r body (l + 1) after) _ x.1
                 (y.0, sound_append N (blocks r post (next + 1) (jump l)) (k ∷ []) y.1 (s, tt)),
           ),
         )
@@ -503,3 +508,52 @@ module _ (W : World) (g : Routine) (scalars : g.scalars ≤ 64) (N : ℕ)
         let y = sound_tree inside p rest (l + size_in st) k t.1 q (omega (arith, le)) s in
         let x = sound_in inside p st l k1 t.0 q (omega (arith, le)) y.0 in
         (x.0, sound_append N (blocks_in p st l k1) (blocks p rest (l + size_in st) k) x.1 y.1)
+
+    -- a loop's test
+    sound_test : (p : Place) (st : Stmt) (l : ℕ) (k : Block) → FitsStmt W g true st → GoodPlace N true p
+        → l + test_size st ≤ N → Sound N k → Sound N (test_entry p st l k) × AllSound N (test_blocks p st l k)
+    sound_test p (IfAt c joined a one other) l k t q le s =
+        let k1 = cut c (l + size one) k in
+        let u = sound_tree true p one l k1 t.2 q (omega (arith, le))
+        (cut_sound N c (l + size one) k (omega (arith, le)) s) in (
+          record {
+            items = (
+              omega arith,
+              refl,
+              source_fits g.scalars a scalars t.0,
+              omega arith,
+              (omega arith, u.0.items, tt, tt),
+            );
+            tail = (omega arith, u.0.tail, q.broke refl);
+          },
+          sound_append N (blocks p one l k1) (cut_blocks c k) u.1 (cuts_sound N c k s),
+        )
+    sound_test p (LetAt c to op a b) l k t q le s = (s, tt)
+    sound_test p (FrameAt c to at) l k t q le s = (s, tt)
+    sound_test p (LoadAt c to op a) l k t q le s = (s, tt)
+    sound_test p (SaveAt c op a v) l k t q le s = (s, tt)
+    sound_test p (CallAt c small f args to groups) l k t q le s = (s, tt)
+    sound_test p (PutAt v) l k t q le s = (s, tt)
+    sound_test p (GetAt c to) l k t q le s = (s, tt)
+    sound_test p (LoopAt c body post) l k t q le s = (s, tt)
+    sound_test p (BreakAt c) l k t q le s = (s, tt)
+    sound_test p (ContinueAt c) l k t q le s = (s, tt)
+    sound_test p (ReturnAt c v) l k t q le s = (s, tt)
+
+    -- a loop's body
+    sound_turn : (p : Place) (c : Tree) (l : ℕ) (k : Block) → FitsTree W g true c → GoodPlace N true p
+        → l + turn_size c ≤ N → Sound N k → Sound N (turn_entry p c l k) × AllSound N (turn_blocks p c l k)
+    sound_turn p End l k t q le s = (s, tt)
+    sound_turn p (st ▸ rest) l k t q le s =
+        let z = is_loop_test st rest in
+        let l1 = l + part_size z st in
+        let k1 = turn_entry p rest l1 k in
+        let y = sound_turn p rest l1 k t.1 q (omega (arith, le)) s in
+        let room : l + part_size z st ≤ N = omega (arith, le) in
+        let at = λ (b : Bool) (e : z ≡ b). subst (λ b. l + part_size b st ≤ N) e room in
+        let x = part_sound z (test_entry p st l k1) (entry_in p st l k1) (test_blocks p st l k1) (blocks_in p st l k1)
+        (λ e. sound_test p st l k1 t.0 q (at true e) y.0)
+        (λ e. sound_in true p st l k1 t.0 q (at false e) y.0) in (
+          x.0,
+          sound_append N (cond z (test_blocks p st l k1) (blocks_in p st l k1)) (turn_blocks p rest l1 k) x.1 y.1,
+        )

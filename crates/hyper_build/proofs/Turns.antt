@@ -9,17 +9,19 @@ use Rattle.ir_forms.specs.FlatSteps.{loop_turns, turn, exec}
 use Rattle.ir_forms.specs.HyperCode.{Leave, Block}
 use Rattle.ir_forms.specs.HyperRuns.{Machine, jump}
 use Rattle.hyper_build.specs.Tree.{Tree, LoopAt, Routine, plain}
-use Rattle.hyper_build.specs.Straight.{Place, in_loop, straight, items_of, size}
-use Rattle.hyper_build.specs.Build.{body_end, entry, blocks}
+use Rattle.hyper_build.specs.Straight.{Place, in_loop, straight, items_of, size, turn_size}
+use Rattle.hyper_build.specs.Merging.{SetsLow}
+use Rattle.hyper_build.specs.Build.{body_end, entry, turn_entry, blocks, turn_blocks}
 use Rattle.hyper_build.specs.World.{World, Has, Rel, IsFrame, checks_of, env_in}
 use Rattle.hyper_build.specs.Follow.{Way, Next, Breaks, Continues, Returns, Follows, ways_of}
 use Rattle.hyper_build.specs.Fits.{IsBuilt, FitsTree, IsPlace}
-use Rattle.hyper_build.specs.Premises.{StmtDoes, TreeDoes, AluGivesWords}
+use Rattle.hyper_build.specs.Premises.{StmtDoes, TreeDoes, TurnDoes, AluGivesWords}
 use Rattle.hyper_build.proofs.Goes.{goes_here, goes_then, goes_jump}
 use Rattle.hyper_build.proofs.Following.{kept_here, follows_then, follows_more, settled, stands_here}
 use Rattle.hyper_build.proofs.Following.{has_front, has_back}
 use Rattle.hyper_build.proofs.Relates.{rel_counted, kept_same}
-use Rattle.hyper_build.proofs.Sizes.{length_blocks}
+use Rattle.hyper_build.proofs.Sizes.{length_blocks, length_turn}
+use Rattle.hyper_build.proofs.LowRegisters.{end_low}
 use Rattle.hyper_build.proofs.Straights.{tree_walks, walks_follow}
 
 module _ (W : World) (built : IsBuilt W) (words : AluGivesWords) (call : Calls) (start : ℕ) (g : Routine)
@@ -44,9 +46,9 @@ module _ (W : World) (built : IsBuilt W) (words : AluGivesWords) (call : Calls) 
       : Type 0
     where
       pub head : slice_get W.program l
-          ≡ Some (entry (in_loop p broke again) body (l + 1) (body_end (in_loop p broke again) c post again l))
+          ≡ Some (turn_entry (in_loop p broke again) body (l + 1) (body_end (in_loop p broke again) c post again l))
       pub inner : Has W.program (l + 1)
-          (blocks (in_loop p broke again) body (l + 1) (body_end (in_loop p broke again) c post again l))
+          (turn_blocks (in_loop p broke again) body (l + 1) (body_end (in_loop p broke again) c post again l))
       pub behind : slice_get W.program again
           ≡ Some (entry (in_loop p broke again) post (again + 1) (jump l))
       pub posts : Has W.program (again + 1)
@@ -55,13 +57,19 @@ module _ (W : World) (built : IsBuilt W) (words : AluGivesWords) (call : Calls) 
 
   module _ (inside : Bool) (p : Place) (c : Bool) (body post : Tree) (l broke again : ℕ) (k : Block)
       (lp : IsLoop p c body post l broke again k) (place : IsPlace W g p) (fits_body : FitsTree W g true body)
-      (fits_post : FitsTree W g false post) (does_body : TreeDoes W call start g body)
+      (fits_post : FitsTree W g false post) (does_body : TurnDoes W call start g body)
       (does_post : TreeDoes W call start g post) where
     q : Place
     q = in_loop p broke again
 
     q_place : IsPlace W g (in_loop p broke again)
-    q_place = record { frame = place.frame; arrays = place.arrays; entries = place.entries }
+    q_place =
+        record { frame = place.frame; arrays = place.arrays; entries = place.entries; low = place.low }
+
+    -- what follows the body leaves alone the register in which its test is kept
+    after_low : SetsLow (body_end (in_loop p broke again) c post again l).items
+    after_low = end_low W g fr.scalars (λ f r e. (built.fits f r e).few) (in_loop p broke again) c post again l
+        fits_post
 
     -- the part behind the body in a block of its own
     post_jumped : (s : State) (m : Machine) (n : ℕ) → Rel W start g s m
@@ -174,7 +182,7 @@ module _ (W : World) (built : IsBuilt W) (words : AluGivesWords) (call : Calls) 
     turns_follow zero s m n rel = stands_here W (jump l) s m n 0 rel.stack.output
     turns_follow (suc j) s m zero rel = stands_here W (jump l) s m 0 0 rel.stack.output
     turns_follow (suc j) s m (suc n) rel =
-        let b = entry (in_loop p broke again) body (l + 1) (body_end (in_loop p broke again) c post again l) in
+        let b = turn_entry (in_loop p broke again) body (l + 1) (body_end (in_loop p broke again) c post again l) in
         let r = after_body (runs body (counted s) n) (runs post) (loop_turns j (runs body) (runs post)) in
         let rel1 = rel_counted W start g s m rel in
         follows_more W (W.base + start + 8) (Rel W start g) (jump l) s m (suc n) n 2 0 (ways_of p k) r
@@ -184,36 +192,36 @@ module _ (W : World) (built : IsBuilt W) (words : AluGivesWords) (call : Calls) 
         (kept_same (W.base + start + 8) s (counted s) m m refl refl) (omega arith) (omega arith)
         (body_then b (counted s) m n (runs body (counted s) n) (loop_turns j (runs body) (runs post))
         (does_body true (in_loop p broke again) fits_body q_place (l + 1)
-        (body_end (in_loop p broke again) c post again l) lp.inner (counted s) m n rel1)
+        (body_end (in_loop p broke again) c post again l) after_low lp.inner (counted s) m n rel1)
         (λ s1 m1 n1 rel2. turns_follow j s1 m1 n1 rel2)))
 
-  pub loop_does : (c : Bool) (body post : Tree) → TreeDoes W call start g body
+  pub loop_does : (c : Bool) (body post : Tree) → TurnDoes W call start g body
       → TreeDoes W call start g post → StmtDoes W call start g (LoopAt c body post)
   loop_does c body post does_body does_post inside p fits is l k has s m n rel =
       turns_follow inside p c body post l broke next k parts is fits.0 fits.1 does_body does_post
       (suc n) s m n rel
     where
       next : ℕ
-      next = l + 1 + size body
+      next = l + 1 + turn_size body
 
       broke : ℕ
-      broke = l + 1 + size body + 1 + size post
+      broke = l + 1 + turn_size body + 1 + size post
 
       q : Place
-      q = in_loop p (l + 1 + size body + 1 + size post) (l + 1 + size body)
+      q = in_loop p (l + 1 + turn_size body + 1 + size post) (l + 1 + turn_size body)
 
       after : Block
-      after = body_end (in_loop p (l + 1 + size body + 1 + size post) (l + 1 + size body)) c post (l + 1 + size body) l
+      after = body_end (in_loop p (l + 1 + turn_size body + 1 + size post) (l + 1 + turn_size body)) c post (l + 1 + turn_size body) l
 
       first : List Block
-      first = blocks q body (l + 1) after
+      first = turn_blocks q body (l + 1) after
 
       second : List Block
       second = blocks q post (next + 1) (jump l)
 
       behind : Has W.program next (entry q post (next + 1) (jump l) ∷ (second ++ k ∷ []))
       behind = has_back W.program (l + 1) next first (entry q post (next + 1) (jump l) ∷ (second ++ k ∷ []))
-          (omega (arith, length_blocks q body (l + 1) after)) has.1
+          (omega (arith, length_turn q body (l + 1) after)) has.1
 
       last : Has W.program broke (k ∷ [])
       last = has_back W.program (next + 1) broke second (k ∷ [])

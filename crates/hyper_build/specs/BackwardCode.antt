@@ -1,16 +1,17 @@
 -- What emission does before ifs, loops, and all code.
-use Rattle.std.specs.Prelude.{ℕ, ◌-◌, Bool, cond, ◌||◌, not, Option, Some, None}
+use Rattle.std.specs.Prelude.{ℕ, ◌-◌, Bool, false, cond, ◌&&◌, ◌||◌, not, nat_eq, Option, Some, None}
 use Rattle.ir_forms.specs.declared.flat.Arg.{Arg}
 use Rattle.ir_forms.specs.declared.hyper.Exit.TheVariants as exit
 use Rattle.ir_forms.specs.FlatCode.{Step, Let, Frame, Load, Save, Call, Put, Get, If, Loop, Break, Continue}
 use Rattle.ir_forms.specs.FlatCode.{Return, Code, Nop, ◌▹◌}
-use Rattle.ir_forms.specs.FlatFits.{steps_in}
+use Rattle.ir_forms.specs.FlatFits.{steps_in, is_empty}
 use Rattle.ir_forms.specs.HyperCode.{Done, Leave, Test, Block}
 use Rattle.ir_forms.specs.HyperRuns.{jump}
 use Rattle.hyper_build.specs.Tree.{Plan, goes_on}
 use Rattle.hyper_build.specs.Parts.{source}
 use Rattle.hyper_build.specs.Straight.{label_or}
 use Rattle.hyper_build.specs.Ground.{Ground, plan, entry_at, left}
+use Rattle.hyper_build.specs.Merging.{merged, test_register}
 use Rattle.hyper_build.specs.Build.{give}
 use Rattle.hyper_build.specs.Backward.{Emission, with_rest, put_out, cut_at, fall, before_by, last_note, without_note}
 use Rattle.hyper_build.specs.BackwardStatements.{let_out, frame_out, load_out, save_out, byte_out, byte_in}
@@ -31,6 +32,20 @@ abbrev pub exit_of : ℕ → ℕ → ℕ → Code → Option ℕ
 exit_of join broke again Nop = Some join
 exit_of join broke again (s ▹ Nop) = exit_in broke again s
 exit_of join broke again (s ▹ t ▹ more) = None
+
+-- whether code leads to label 1 at once
+abbrev pub is_one : Option ℕ → Bool
+is_one None = false
+is_one (Some to) = nat_eq to 1
+
+-- a break alone: it leads to 1 where only a break does
+abbrev pub is_break_code : Code → Bool
+is_break_code c = is_one (exit_of 0 1 0 c)
+
+-- an if that is joined or not, whose second leg is a break alone
+abbrev pub is_test_step : Bool → Step → Bool
+is_test_step joined (If x one other) = joined && is_break_code other
+is_test_step joined _ = false
 
 -- a leg that has blocks begins with one
 abbrev pub leg_out : Option ℕ → Emission → Emission
@@ -87,7 +102,7 @@ abbrev mutual
       let next = put_out (emit g behind.label note.next post
       (with_rest (jump note.head) (without_note behind))) in
       let after = end_of_body ((plan g).cut note.place) g.arrays post next.label note.head in
-      fall (put_out (emit g behind.label next.label body (with_rest after next)))
+      fall (put_out (emit_turn g behind.label next.label body (with_rest after next)))
   emit_in g broke again on Break s = leaving (jump broke) (cut_at on s)
   emit_in g broke again on Continue s = leaving (jump again) (cut_at on s)
   emit_in g broke again on (Return v) s = leaving (give v (left g.frame)) (cut_at on s)
@@ -95,3 +110,25 @@ abbrev mutual
   pub emit : Ground → ℕ → ℕ → Code → Emission → Emission
   emit g broke again Nop s = s
   emit g broke again (s ▹ rest) x = emit_in g broke again (goes_on rest) s (emit g broke again rest x)
+
+  -- before a loop's test: its leg goes on in the block before, and so does the jump that leaves the loop
+  pub test_out : Ground → ℕ → ℕ → Step → Emission → Emission
+  test_out g broke again (If x one other) s =
+      let n = steps_in (If x one other) in
+      let leg = emit g broke again one (fall (cut_at ((plan g).cut (s.place - n)) s)) in
+      leaving (merged test_register (source x) leg.rest (jump broke)) leg
+  test_out g broke again _ s = s
+
+  -- Before a loop's body.
+  pub emit_turn : Ground → ℕ → ℕ → Code → Emission → Emission
+  emit_turn g broke again Nop s = s
+  emit_turn g broke again (st ▹ rest) s =
+      let e = emit_turn g broke again rest s in
+      cond (is_empty rest && is_test_step ((plan g).joined (e.place - steps_in st)) st)
+      (test_out g broke again st e) (emit_in g broke again (goes_on rest) st e)
+
+-- before a statement of a loop's body; `last` says whether it is the last one
+abbrev pub part_out : Ground → ℕ → ℕ → Bool → Bool → Step → Emission → Emission
+part_out g broke again last on st s =
+    cond (last && is_test_step ((plan g).joined (s.place - steps_in st)) st)
+    (test_out g broke again st s) (emit_in g broke again on st s)

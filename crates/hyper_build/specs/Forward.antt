@@ -1,10 +1,10 @@
 -- Numbers as a pass over flat code, forward: how many blocks, statements and calls stand before, and
 -- the notes of the loops that were passed, in the order in which they end.
-use Rattle.std.specs.Prelude.{ℕ, ◌+◌, Bool, cond, List, [], ◌∷◌, ◌++◌, length, Option, Some, None}
+use Rattle.std.specs.Prelude.{ℕ, ◌+◌, Bool, cond, ◌&&◌, List, [], ◌∷◌, ◌++◌, length, Option, Some, None}
 use Rattle.ir_forms.specs.declared.flat.Arg.{Arg}
 use Rattle.ir_forms.specs.FlatCode.{Step, Let, Frame, Load, Save, Call, Put, Get, If, Loop, Break, Continue}
 use Rattle.ir_forms.specs.FlatCode.{Return, Code, Nop, ◌▹◌, Function}
-use Rattle.ir_forms.specs.FlatFits.{steps_in}
+use Rattle.ir_forms.specs.FlatFits.{steps_in, is_empty}
 use Rattle.hyper_build.specs.declared.emitting.Note.{Note}
 use Rattle.hyper_build.specs.declared.numbering.Numbering.{Numbering}
 use Rattle.hyper_build.specs.Tree.{Plan, goes_on}
@@ -12,7 +12,7 @@ use Rattle.hyper_build.specs.Parts.{cut_size, moved_size}
 use Rattle.hyper_build.specs.Passing.{parameter_moves, parameter_cuts}
 use Rattle.hyper_build.specs.Straight.{arguments_size}
 use Rattle.hyper_build.specs.BackwardItems.{is_if_item}
-use Rattle.hyper_build.specs.BackwardCode.{exit_of}
+use Rattle.hyper_build.specs.BackwardCode.{exit_of, is_test_step}
 
 -- STEPS
 
@@ -84,7 +84,7 @@ abbrev mutual
       cond (is_if_item (p.joined s.place) one other) (number_items p (If x one other) s)
       (with_blocks 1 (number p other (led other (number p one (led one (with_statement s))))))
   number_in p on (Loop body post) s =
-      let next = number p body (with_statement (with_blocks 1 s)) in
+      let next = number_turn p body (with_statement (with_blocks 1 s)) in
       let end = with_blocks 1 (number p post (with_blocks 1 next)) in
       with_note (record { head = s.label; next = next.label; place = s.place }) end
   number_in p on Break s = with_statement (with_blocks (cut_size on) s)
@@ -94,6 +94,25 @@ abbrev mutual
   pub number : Plan → Code → Numbering → Numbering
   number p Nop s = s
   number p (x ▹ rest) s = number p rest (number_in p (goes_on rest) x s)
+
+  -- behind a loop's test, which is its leg, and a break that begins no block
+  pub number_test : Plan → Step → Numbering → Numbering
+  number_test p (If x one other) s =
+      with_blocks (cut_size (p.cut s.place)) (with_statement (number p one (with_statement s)))
+  number_test p _ s = s
+
+  -- Behind a loop's body.
+  pub number_turn : Plan → Code → Numbering → Numbering
+  number_turn p Nop s = s
+  number_turn p (x ▹ rest) s =
+      number_turn p rest
+      (cond (is_empty rest && is_test_step (p.joined s.place) x) (number_test p x s)
+      (number_in p (goes_on rest) x s))
+
+-- behind a statement of a loop's body; `last` says whether it is the last one
+abbrev pub number_part : Plan → Bool → Bool → Step → Numbering → Numbering
+number_part p last on x s =
+    cond (last && is_test_step (p.joined s.place) x) (number_test p x s) (number_in p on x s)
 
 -- FUNCTIONS
 

@@ -2,6 +2,7 @@ pub mod Tree
 pub mod Parts
 pub mod Passing
 pub mod Straight
+pub mod Merging
 pub mod Build
 pub mod Routines
 pub mod World

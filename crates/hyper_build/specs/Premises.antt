@@ -8,7 +8,8 @@ use Rattle.ir_forms.specs.FlatSteps.{Calls, act, exec}
 use Rattle.ir_forms.specs.HyperCode.{Block}
 use Rattle.hyper_build.specs.Tree.{Stmt, IfAt, LoopAt, Tree, Routine, plain_in, plain}
 use Rattle.hyper_build.specs.Straight.{Place, is_item}
-use Rattle.hyper_build.specs.Build.{entry_in, entry, blocks_in, blocks}
+use Rattle.hyper_build.specs.Merging.{SetsLow}
+use Rattle.hyper_build.specs.Build.{entry_in, entry, turn_entry, blocks_in, blocks, turn_blocks}
 use Rattle.hyper_build.specs.World.{World, Has, IsFrame, checks_of, env_in}
 use Rattle.hyper_build.specs.Follow.{Does, ways_of}
 use Rattle.hyper_build.specs.Fits.{FitsStmt, FitsTree, IsPlace}
@@ -32,4 +33,12 @@ TreeDoes W call start g c =
     (inside : Bool) (p : Place) → FitsTree W g inside c → IsPlace W g p → (l : ℕ) (k : Block)
     → Has W.program l (blocks p c l k)
     → Does W start g (entry p c l k) (ways_of p k)
+    (exec (checks_of W) call (env_in W start g) (plain c))
+
+-- and a loop's body, where what follows it leaves alone the register in which the test is kept
+abbrev pub TurnDoes : World → Calls → ℕ → Routine → Tree → Type 0
+TurnDoes W call start g c =
+    (inside : Bool) (p : Place) → FitsTree W g inside c → IsPlace W g p → (l : ℕ) (k : Block)
+    → SetsLow k.items → Has W.program l (turn_blocks p c l k)
+    → Does W start g (turn_entry p c l k) (ways_of p k)
     (exec (checks_of W) call (env_in W start g) (plain c))

@@ -13,8 +13,9 @@ ghost use Rattle.hyper_build.specs.Ground as ground;
 
 use crate::calling::{put_back, put_call};
 use crate::counting::steps_in;
-use crate::emitting::{Emitting, fall, fallen_by, put_out, put_rest, take_note};
+use crate::emitting::{Emitting, cut, fall, fallen_by, put_out, put_rest, take_note};
 use crate::ground::Site;
+use crate::merging::{is_last, is_loop_test, put_merged};
 use crate::operands::source;
 use crate::rest::{Rest, jump};
 use crate::singles::{
@@ -181,7 +182,8 @@ fn body_end(
     }
 }
 
-/// A statement before what is put out; `on` says whether that goes on.
+/// A statement before what is put out; `last` says whether it is the last one of a loop's body, `on` whether
+/// what is put out goes on.
 #[cycle(emit)]
 fn put_stmt(
     s: &FlatStmt,
@@ -190,10 +192,11 @@ fn put_stmt(
     site: &Site,
     broke: u32,
     again: u32,
+    last: bool,
     on: bool,
 ) -> Result<(), Memory>
     ensures { OnOk result (emission_of emitting.new
-        ≡ code.emit_in site.now broke again on (step_of s.now) (emission_of emitting.old)) }
+        ≡ code.part_out site.now broke again last on (step_of s.now) (emission_of emitting.old)) }
 {
     match s {
         FlatStmt::Let { to, op, a, b } => put_let(emitting, alloc, site, *to, *op, *a, *b)?,
@@ -213,7 +216,14 @@ fn put_stmt(
         FlatStmt::If { test, yes, no } => {
             let statements = steps_in(s)?;
             let place = fallen_by(emitting.place, statements);
-            if is_if_item(site.joins(place), yes.as_slice(), no.as_slice()) {
+            let joined = site.joins(place);
+            if is_loop_test(last, joined, no.as_slice()) {
+                let ends = site.cuts(place);
+                cut(emitting, alloc, ends)?;
+                fall(emitting);
+                put_stmts(yes.as_slice(), emitting, alloc, site, broke, again)?;
+                put_merged(emitting, alloc, *test, broke)?;
+            } else if is_if_item(joined, yes.as_slice(), no.as_slice()) {
                 put_joined(s, emitting, alloc, site, statements)?;
             } else {
                 put_out(emitting, alloc)?;
@@ -241,13 +251,38 @@ fn put_stmt(
             let ends = site.cuts(note.place);
             let rest = body_end(alloc, ends, site.arrays, post.as_slice(), next, note.head)?;
             put_rest(emitting, rest);
-            put_stmts(body.as_slice(), emitting, alloc, site, behind, next)?;
+            put_turn(body.as_slice(), emitting, alloc, site, behind, next)?;
             put_out(emitting, alloc)?;
             fall(emitting);
         }
         FlatStmt::Break => put_jump(emitting, alloc, broke, on)?,
         FlatStmt::Continue => put_jump(emitting, alloc, again, on)?,
         FlatStmt::Return(value) => put_return(emitting, alloc, site, *value, on)?,
+    }
+    Ok(())
+}
+
+/// A loop's body before what is put out.
+#[cycle(emit)]
+fn put_turn(
+    stmts: &[FlatStmt],
+    emitting: &mut Emitting,
+    alloc: Global,
+    site: &Site,
+    broke: u32,
+    again: u32,
+) -> Result<(), Memory>
+    ensures { OnOk result (emission_of emitting.new
+        ≡ code.emit_turn site.now broke again (code_of stmts.now) (emission_of emitting.old)) }
+{
+    let mut at = stmts.len();
+    while at > 0 {
+        let last = is_last(stmts, at);
+        let on = goes_on(stmts, at);
+        at -= 1;
+        put_stmt(
+            &stmts[at], emitting, alloc, site, broke, again, last, on,
+        )?;
     }
     Ok(())
 }
@@ -269,7 +304,9 @@ pub fn put_stmts(
     while at > 0 {
         let on = goes_on(stmts, at);
         at -= 1;
-        put_stmt(&stmts[at], emitting, alloc, site, broke, again, on)?;
+        put_stmt(
+            &stmts[at], emitting, alloc, site, broke, again, false, on,
+        )?;
     }
     Ok(())
 }

@@ -10,6 +10,7 @@ mod emitting;
 mod functions;
 mod ground;
 mod laws;
+mod merging;
 mod numbering;
 mod operands;
 mod plan;

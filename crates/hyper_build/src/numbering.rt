@@ -11,6 +11,7 @@ use crate::code::{exit_of, goes_on};
 use crate::counting::{arguments_size, cut_size, narrow, parameters_size, plus, steps_in};
 use crate::emitting::Note;
 use crate::ground::Site;
+use crate::merging::{is_last, is_loop_test};
 use crate::straight::is_if_item;
 use base::{Items, Memory};
 use ir_forms::{Arg, FlatFunc, FlatStmt};
@@ -134,11 +135,18 @@ fn count_leg(numbering: &mut Numbering, leg: &[FlatStmt]) -> Result<(), Memory>
     }
 }
 
-/// Numbers behind a statement; `on` says whether the code behind it goes on.
+/// Numbers behind a statement; `last` says whether it is the last one of a loop's body, `on` whether the code
+/// behind it goes on.
 #[cycle(number)]
-fn number_stmt(s: &FlatStmt, numbering: &mut Numbering, site: &Site, on: bool) -> Result<(), Memory>
+fn number_stmt(
+    s: &FlatStmt,
+    numbering: &mut Numbering,
+    site: &Site,
+    last: bool,
+    on: bool,
+) -> Result<(), Memory>
     ensures { OnOk result (numbering.new
-        ≡ forward.number_in (ground.plan site.now) on (step_of s.now) numbering.old) }
+        ≡ forward.number_part (ground.plan site.now) last on (step_of s.now) numbering.old) }
 {
     match s {
         FlatStmt::Let { .. } => number_single(numbering, site)?,
@@ -149,7 +157,14 @@ fn number_stmt(s: &FlatStmt, numbering: &mut Numbering, site: &Site, on: bool) -
         FlatStmt::Put(_) => count_behind(numbering, 1)?,
         FlatStmt::Get { .. } => number_get(numbering, site)?,
         FlatStmt::If { yes, no, .. } => {
-            if is_if_item(site.joins(numbering.place), yes.as_slice(), no.as_slice()) {
+            let joined = site.joins(numbering.place);
+            if is_loop_test(last, joined, no.as_slice()) {
+                let blocks = cut_size(site.cuts(numbering.place));
+                count_statement(numbering)?;
+                number_stmts(yes.as_slice(), numbering, site)?;
+                count_statement(numbering)?;
+                count_blocks(numbering, blocks)?;
+            } else if is_if_item(joined, yes.as_slice(), no.as_slice()) {
                 number_items(numbering, site, s)?;
             } else {
                 count_statement(numbering)?;
@@ -164,7 +179,7 @@ fn number_stmt(s: &FlatStmt, numbering: &mut Numbering, site: &Site, on: bool) -
             let head = numbering.label;
             let place = numbering.place;
             count_behind(numbering, 1)?;
-            number_stmts(body.as_slice(), numbering, site)?;
+            number_turn(body.as_slice(), numbering, site)?;
             let next = numbering.label;
             count_blocks(numbering, 1)?;
             number_stmts(post.as_slice(), numbering, site)?;
@@ -174,6 +189,21 @@ fn number_stmt(s: &FlatStmt, numbering: &mut Numbering, site: &Site, on: bool) -
         FlatStmt::Break => count_behind(numbering, cut_size(on))?,
         FlatStmt::Continue => count_behind(numbering, cut_size(on))?,
         FlatStmt::Return(_) => count_behind(numbering, cut_size(on))?,
+    }
+    Ok(())
+}
+
+/// Numbers behind a loop's body.
+#[cycle(number)]
+fn number_turn(stmts: &[FlatStmt], numbering: &mut Numbering, site: &Site) -> Result<(), Memory>
+    ensures { OnOk result (numbering.new
+        ≡ forward.number_turn (ground.plan site.now) (code_of stmts.now) numbering.old) }
+{
+    let mut at = 0;
+    while at < stmts.len() {
+        let s = &stmts[at];
+        at += 1;
+        number_stmt(s, numbering, site, is_last(stmts, at), goes_on(stmts, at))?;
     }
     Ok(())
 }
@@ -188,7 +218,7 @@ fn number_stmts(stmts: &[FlatStmt], numbering: &mut Numbering, site: &Site) -> R
     while at < stmts.len() {
         let s = &stmts[at];
         at += 1;
-        number_stmt(s, numbering, site, goes_on(stmts, at))?;
+        number_stmt(s, numbering, site, false, goes_on(stmts, at))?;
     }
     Ok(())
 }

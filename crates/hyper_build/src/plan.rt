@@ -7,8 +7,9 @@ use std::alloc::Global;
 
 /// Where blocks are cut, and which ifs are items of their block: answers for each function and each
 /// statement, in the order of the program. At the places that `cuts` lacks a block is cut, and an if at
-/// a place that `joins` lacks ends its block. An if whose legs hold more than single statements and such
-/// ifs ends its block whatever the answer.
+/// a place that `joins` lacks ends its block. A loop's test that is joined goes on in its block: an if that
+/// is the last statement of the loop's body, whose second leg is a break alone. Any other if whose legs hold
+/// more than single statements and such ifs ends its block whatever the answer.
 #[derive(Drop)]
 pub struct CutPlan {
     pub cuts: Items<bool>,

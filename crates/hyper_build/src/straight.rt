@@ -19,7 +19,7 @@ use std::alloc::Global;
 use trips_isa::Op;
 
 /// Whether both are so.
-fn both(one: bool, other: bool) -> bool
+pub fn both(one: bool, other: bool) -> bool
     ensures { result ≡ one && other }
 {
     one && other
@@ -150,7 +150,7 @@ fn items_in(rest: Rest) -> Items<HyperItem>
 
 /// An if as an item before a rest.
 #[tactic(auto, using(crate::proofs::Emits::if_is))]
-fn put_if(
+pub fn put_if(
     rest: &mut Rest,
     test: Source,
     yes: Items<HyperItem>,

@@ -75,8 +75,8 @@ const ROWS: &[Row] = &[
     },
 ];
 
-/// Texts with one if, and how many blocks it has of its own where nothing is cut and no if is joined, which it
-/// has not where it is an item.
+/// Texts with one if in a loop, and how many blocks it and the loop's test have of their own where nothing is cut
+/// and no if is joined, which they have not where the if is an item and the test goes on in the loop's head.
 const JOINED_ROWS: &[(Row, usize)] = &[
     (
         Row {
@@ -85,7 +85,7 @@ const JOINED_ROWS: &[(Row, usize)] = &[
             output: b"",
             stop: Stop::Ended(126),
         },
-        0,
+        2,
     ),
     (
         Row {
@@ -94,7 +94,7 @@ const JOINED_ROWS: &[(Row, usize)] = &[
             output: b"",
             stop: Stop::Ended(249),
         },
-        2,
+        4,
     ),
     (
         Row {
@@ -103,7 +103,7 @@ const JOINED_ROWS: &[(Row, usize)] = &[
             output: b"",
             stop: Stop::Ended(1011),
         },
-        3,
+        5,
     ),
     (
         Row {
@@ -112,7 +112,7 @@ const JOINED_ROWS: &[(Row, usize)] = &[
             output: b"",
             stop: Stop::Ended(821),
         },
-        5,
+        7,
     ),
     (
         Row {
@@ -121,7 +121,7 @@ const JOINED_ROWS: &[(Row, usize)] = &[
             output: b"",
             stop: Stop::Ended(3),
         },
-        0,
+        2,
     ),
 ];
 
@@ -186,6 +186,6 @@ fn hyper_programs_do_what_texts_mean_under_each_plan(rt: HostRuntime) {
 }
 
 #[test]
-fn ifs_that_are_items_have_no_blocks_of_their_own(rt: HostRuntime) {
+fn ifs_that_are_items_and_tests_that_go_on_have_no_blocks_of_their_own(rt: HostRuntime) {
     assert_joined_rows(&rt, rt.alloc(), JOINED_ROWS);
 }

@@ -21,6 +21,9 @@ pub const KEPT: u32 = 3;
 /// The most ifs in a block beside a test at its end, each of which may double its cases.
 pub const MOST_IFS: u32 = 7;
 
+/// The register in which a loop's test is kept that goes on in the block of the loop's head.
+const TEST: usize = 92;
+
 /// The parts of a block so far, without its exit.
 #[derive(Clone, Copy)]
 pub struct Estimate {
@@ -279,5 +282,21 @@ impl Estimate {
                 }
             }
         }
+    }
+
+    /// A loop's test, with which its leg goes on in the same block, and the exit that leaves the loop. A `mov`
+    /// keeps the word; `tnei` gives a bit for the leg, and one for the exits.
+    pub fn merge(&mut self, x: Arg) {
+        self.put(TEST, x);
+        self.take(TEST);
+        self.take(TEST);
+        self.count(4);
+        self.ifs = self.ifs.saturating_add(2);
+    }
+
+    /// What came behind so many instructions stands under a guard: each has the bit brought to it.
+    pub fn under_guard(&mut self, before: u32) {
+        let added = self.insts.saturating_sub(before);
+        self.count(added.saturating_add(1));
     }
 }

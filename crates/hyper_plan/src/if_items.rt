@@ -58,6 +58,18 @@ pub fn is_small_if(yes: &[FlatStmt], no: &[FlatStmt]) -> bool {
     is_small_leg(yes) && is_small_leg(no) && !(yes.is_empty() && no.is_empty())
 }
 
+/// Whether statements are a break alone.
+pub fn is_break(stmts: &[FlatStmt]) -> bool {
+    let (first, rest) = match stmts.split_first() {
+        None => return false,
+        Some(parts) => parts,
+    };
+    match first {
+        FlatStmt::Break => rest.is_empty(),
+        _ => false,
+    }
+}
+
 /// What a statement does that is items alone.
 #[cycle(item)]
 pub fn add_item(s: &FlatStmt, block: &mut Estimate, frame: Frame) {

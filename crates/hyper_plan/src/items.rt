@@ -111,3 +111,14 @@ pub fn add_way_in(block: &mut Estimate, params: u8, frame: Frame) {
         block.copy(register_of(i as u16), ARGUMENTS + i as usize);
     }
 }
+
+/// Whether a statement is an operation, a load or a store.
+pub fn is_plain(s: &FlatStmt) -> bool {
+    match s {
+        FlatStmt::Let { .. } => true,
+        FlatStmt::Frame { .. } => true,
+        FlatStmt::Load { .. } => true,
+        FlatStmt::Save { .. } => true,
+        _ => false,
+    }
+}

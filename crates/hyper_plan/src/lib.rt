@@ -10,9 +10,9 @@ mod estimate_tests;
 mod if_items;
 mod items;
 mod legs;
+mod open_block;
 mod plans;
 mod producers;
-mod statements;
 mod walk;
 
 pub use plans::greedy;

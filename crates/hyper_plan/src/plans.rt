@@ -6,8 +6,8 @@ ghost use Rattle.hyper_plan.specs.Answers.{AreAnswersOf, AreAnswers};
 
 use crate::estimate::Estimate;
 use crate::items::{add_way_in, frame_of};
-use crate::statements::walk_stmts;
-use crate::walk::{Site, Walk, answer, leave};
+use crate::open_block::{Site, Walk, answer, leave};
+use crate::walk::walk_stmts;
 use base::{Items, Memory};
 use hyper_build::CutPlan;
 use ir_forms::FlatFunc;
@@ -25,11 +25,12 @@ fn walk_function(alloc: Global, f: &FlatFunc, calls: usize, site: &Site) -> Resu
         joins: Items::new(alloc),
         last: Some(0),
         block,
+        guarded: false,
         in_item: false,
         calls,
     };
     answer(&mut walk, site)?;
-    walk_stmts(f.body.as_slice(), &mut walk, site)?;
+    walk_stmts(f.body.as_slice(), &mut walk, site, false)?;
     leave(&mut walk, site);
     Ok(walk)
 }
@@ -71,6 +72,7 @@ pub fn greedy(alloc: Global, assigned: &Assigned, rooms: &[u8]) -> Result<CutPla
             joins: joined,
             last: _,
             block: _,
+            guarded: _,
             in_item: _,
             calls: _,
         } = walk;

@@ -1,181 +1,371 @@
-//! The open block of a walk over a function's statements, and the answers so far: it is cut where the next
-//! statement has no room in it.
+//! The answers of a function's statements, forward: the block that is open is cut where the next statement
+//! has no room in it.
 //!
 //! Functions that hold a second block are not put in line, so that nested statements take little of the
 //! host's stack.
 
 ghost use Rattle.std.specs.Prelude.{◌≡◌, ◌+◌, length, true, OnOk};
+ghost use Rattle.ir_forms.specs.FlatFits.{steps_in, steps_of};
+ghost use Rattle.ir_forms.specs.FlatViews.{code_of, step_of};
 ghost use Rattle.hyper_plan.specs.Answers.{only_cuts};
 
 use crate::estimate::Estimate;
-use crate::items::{Frame, add_result, add_return, add_statement};
-use base::{Items, Memory};
-use ir_forms::FlatStmt;
+use crate::if_items::{add_item, add_items, are_items, is_break, is_small_if};
+use crate::items::{add_call, add_result, add_saves, add_statement, is_plain};
+use crate::open_block::{
+    Site, Walk, answer, close, cut_at, cut_last, ending, fits, get, guard, open, single,
+};
+use base::Memory;
+use ir_forms::{Arg, FlatStmt};
 
-/// What is known of a function: the instructions that a block may have, its frame, and the groups that
-/// each call of the program saves.
-#[derive(Drop)]
-pub struct Site<'a> {
-    pub room: u8,
-    pub frame: Frame,
-    pub groups: &'a Items<Items<Items<u16>>>,
+/// What an if is: an item of its block, a loop's test with which the block goes on, or the end of its block.
+#[derive(Clone, Copy)]
+enum Begun {
+    Item,
+    Test,
+    End,
 }
 
-/// The answers so far, to cut and to join, the last place at which the open block may end, what that block
-/// comes to, whether the statement stands in an if that is an item, and the calls that stand before.
-#[derive(Drop)]
-pub struct Walk {
-    pub answers: Items<bool>,
-    pub joins: Items<bool>,
-    pub last: Option<usize>,
-    pub block: Estimate,
-    pub in_item: bool,
-    pub calls: usize,
+/// What an if may be: its legs are straight, it is a small one, or it is a loop's test.
+#[derive(Clone, Copy)]
+struct Shape {
+    straight: bool,
+    small: bool,
+    ends: bool,
 }
 
-/// The block is cut at a place.
-#[tactic(auto, using(crate::proofs::Growing::size_set, crate::proofs::Growing::only_set))]
-pub fn cut_at(walk: &mut Walk, at: usize, site: &Site)
+// CALLS
+
+/// A call's first group of saves goes into the open block, which then ends.
+#[inline(never)]
+fn join_saves(walk: &mut Walk, group: &[u16], site: &Site)
     ensures size { length walk.new.answers ≡ length walk.old.answers }
     ensures cuts { site.now.room ≡ 0 → only_cuts walk.old.answers ≡ true
         → only_cuts walk.new.answers ≡ true }
 {
-    if at < walk.answers.len() {
-        walk.answers.set(at, true);
-    }
+    let mut block = walk.block;
+    add_saves(&mut block, group, site.frame);
+    guard(walk, &mut block);
+    close(walk, &block, site);
 }
 
-/// Another block begins; in an if that is an item none does.
-pub fn open(walk: &mut Walk, site: &Site)
+/// The saves of a call, where there are any.
+fn call_saves(walk: &mut Walk, site: &Site)
     ensures size { length walk.new.answers ≡ length walk.old.answers }
     ensures cuts { site.now.room ≡ 0 → only_cuts walk.old.answers ≡ true
         → only_cuts walk.new.answers ≡ true }
 {
-    if walk.in_item {
-        return;
-    }
-    walk.last = None;
-    walk.block = Estimate::empty();
-}
-
-/// The block is cut where it may be cut last, and another begins.
-pub fn cut_last(walk: &mut Walk, site: &Site)
-    ensures size { length walk.new.answers ≡ length walk.old.answers }
-    ensures cuts { site.now.room ≡ 0 → only_cuts walk.old.answers ≡ true
-        → only_cuts walk.new.answers ≡ true }
-{
-    match walk.last {
+    let groups = match site.groups.get(walk.calls) {
+        None => return,
+        Some(groups) => groups,
+    };
+    match groups.get(0) {
         None => {}
-        Some(at) => cut_at(walk, at, site),
+        Some(group) => join_saves(walk, group.as_slice(), site),
+    }
+}
+
+/// The arguments and the call go into the open block, or another.
+#[inline(never)]
+fn join_call(walk: &mut Walk, args: &[Arg], site: &Site)
+    ensures size { length walk.new.answers ≡ length walk.old.answers }
+    ensures cuts { site.now.room ≡ 0 → only_cuts walk.old.answers ≡ true
+        → only_cuts walk.new.answers ≡ true }
+{
+    let mut block = walk.block;
+    add_call(&mut block, args);
+    guard(walk, &mut block);
+    close(walk, &block, site);
+}
+
+/// Whether a call's arguments have room in a block of their own.
+#[inline(never)]
+fn args_fit(args: &[Arg], site: &Site) -> bool {
+    let mut block = Estimate::empty();
+    add_call(&mut block, args);
+    fits(&block, site)
+}
+
+/// The answer of a call: it is cut, and with it its arguments, where these have no room in one block.
+fn call_answer(walk: &mut Walk, args: &[Arg], site: &Site) -> Result<(), Memory>
+    ensures size { OnOk result (length walk.new.answers ≡ length walk.old.answers + 1) }
+    ensures cuts { OnOk result (site.now.room ≡ 0 → only_cuts walk.old.answers ≡ true
+        → only_cuts walk.new.answers ≡ true) }
+{
+    let at = walk.answers.len();
+    answer(walk, site)?;
+    walk.last = Some(at);
+    if !args_fit(args, site) {
+        cut_at(walk, at, site);
+    }
+    Ok(())
+}
+
+/// A call; its result begins a block, behind which that may end.
+fn call(walk: &mut Walk, args: &[Arg], to: Option<u16>, site: &Site) -> Result<(), Memory>
+    ensures size { OnOk result (length walk.new.answers ≡ length walk.old.answers + 1) }
+    ensures cuts { OnOk result (site.now.room ≡ 0 → only_cuts walk.old.answers ≡ true
+        → only_cuts walk.new.answers ≡ true) }
+{
+    call_saves(walk, site);
+    join_call(walk, args, site);
+    walk.calls = walk.calls.saturating_add(1);
+    match to {
+        None => {}
+        Some(to) => add_result(&mut walk.block, to),
+    }
+    call_answer(walk, args, site)
+}
+
+// LOOPS
+
+/// Whether a loop's last part has room in the block with which its body ends.
+#[inline(never)]
+fn post_fits(walk: &Walk, post: &[FlatStmt], site: &Site) -> bool {
+    if !are_items(post) {
+        return false;
+    }
+    let mut block = walk.block;
+    add_items(post, &mut block, site.frame);
+    guard(walk, &mut block);
+    fits(&block, site)
+}
+
+/// A loop's last part goes into the block with which its body ends, or that is cut.
+fn join_post(walk: &mut Walk, at: usize, post: &[FlatStmt], site: &Site)
+    ensures size { length walk.new.answers ≡ length walk.old.answers }
+    ensures cuts { site.now.room ≡ 0 → only_cuts walk.old.answers ≡ true
+        → only_cuts walk.new.answers ≡ true }
+{
+    if !post_fits(walk, post, site) {
+        cut_at(walk, at, site);
     }
     open(walk, site);
 }
 
-/// Whether what a block comes to is within the room.
-pub fn fits(block: &Estimate, site: &Site) -> bool {
-    block.fits(site.room as u32)
+/// A place at which a block begins, or behind which nothing is reached.
+fn head(walk: &mut Walk, site: &Site) -> Result<(), Memory>
+    ensures size { OnOk result (length walk.new.answers ≡ length walk.old.answers + 1) }
+    ensures cuts { OnOk result (site.now.room ≡ 0 → only_cuts walk.old.answers ≡ true
+        → only_cuts walk.new.answers ≡ true) }
+{
+    open(walk, site);
+    answer(walk, site)
 }
 
-/// A statement goes into the open block, or where it has no room there into another. One of an if that is an
-/// item is there already.
+// IFS
+
+/// An if goes as an item into the open block, or where it has no room there into another; it does not
+/// where it has room in neither, unless it is a small one, which is an item under every plan.
 #[inline(never)]
-pub fn join(walk: &mut Walk, s: &FlatStmt, site: &Site)
+fn join_item(walk: &mut Walk, s: &FlatStmt, small: bool, site: &Site) -> bool
     ensures size { length walk.new.answers ≡ length walk.old.answers }
     ensures cuts { site.now.room ≡ 0 → only_cuts walk.old.answers ≡ true
         → only_cuts walk.new.answers ≡ true }
 {
-    if walk.in_item {
-        return;
-    }
     let mut block = walk.block;
-    add_statement(&mut block, s, site.frame);
+    add_item(s, &mut block, site.frame);
+    guard(walk, &mut block);
     if !fits(&block, site) {
-        cut_last(walk, site);
         block = Estimate::empty();
-        add_statement(&mut block, s, site.frame);
+        add_item(s, &mut block, site.frame);
+        if !small && !fits(&block, site) {
+            return false;
+        }
+        cut_last(walk, site);
     }
     walk.block = block;
+    true
 }
 
-/// What ends the open block goes into it, or where it has no room there into another.
-pub fn close(walk: &mut Walk, block: &Estimate, site: &Site)
+/// The statements that follow stand in an if that is an item, at a place behind which the block may end.
+fn enter_item(walk: &mut Walk, at: usize, site: &Site)
     ensures size { length walk.new.answers ≡ length walk.old.answers }
     ensures cuts { site.now.room ≡ 0 → only_cuts walk.old.answers ≡ true
         → only_cuts walk.new.answers ≡ true }
 {
-    if !fits(block, site) {
-        cut_last(walk, site);
+    if at < walk.joins.len() {
+        walk.joins.set(at, true);
     }
-    open(walk, site);
-}
-
-/// The answer of a place: the block goes on, unless there is no room at all.
-#[tactic(auto, using(crate::proofs::Growing::only_answered))]
-pub fn answer(walk: &mut Walk, site: &Site) -> Result<(), Memory>
-    ensures size { OnOk result (length walk.new.answers ≡ length walk.old.answers + 1) }
-    ensures cuts { OnOk result (site.now.room ≡ 0 → only_cuts walk.old.answers ≡ true
-        → only_cuts walk.new.answers ≡ true) }
-{
-    walk.answers.push(site.room == 0)?;
-    walk.joins.push(false)?;
-    Ok(())
-}
-
-/// The block may end behind a place, unless that stands in an if that is an item.
-pub fn may_end(walk: &mut Walk, at: usize, site: &Site)
-    ensures size { length walk.new.answers ≡ length walk.old.answers }
-    ensures cuts { site.now.room ≡ 0 → only_cuts walk.old.answers ≡ true
-        → only_cuts walk.new.answers ≡ true }
-{
-    if !walk.in_item {
-        walk.last = Some(at);
-    }
-}
-
-/// A statement behind which the block may end.
-pub fn single(walk: &mut Walk, s: &FlatStmt, site: &Site) -> Result<(), Memory>
-    ensures size { OnOk result (length walk.new.answers ≡ length walk.old.answers + 1) }
-    ensures cuts { OnOk result (site.now.room ≡ 0 → only_cuts walk.old.answers ≡ true
-        → only_cuts walk.new.answers ≡ true) }
-{
-    join(walk, s, site);
-    let at = walk.answers.len();
-    may_end(walk, at, site);
-    answer(walk, site)
-}
-
-/// A statement with which the block ends.
-pub fn ending(walk: &mut Walk, s: &FlatStmt, site: &Site) -> Result<(), Memory>
-    ensures size { OnOk result (length walk.new.answers ≡ length walk.old.answers + 1) }
-    ensures cuts { OnOk result (site.now.room ≡ 0 → only_cuts walk.old.answers ≡ true
-        → only_cuts walk.new.answers ≡ true) }
-{
-    join(walk, s, site);
-    open(walk, site);
-    answer(walk, site)
-}
-
-/// What a system call took in begins a block, behind which that may end.
-pub fn get(walk: &mut Walk, s: &FlatStmt, to: u16, site: &Site) -> Result<(), Memory>
-    ensures size { OnOk result (length walk.new.answers ≡ length walk.old.answers + 1) }
-    ensures cuts { OnOk result (site.now.room ≡ 0 → only_cuts walk.old.answers ≡ true
-        → only_cuts walk.new.answers ≡ true) }
-{
-    let at = walk.answers.len();
-    ending(walk, s, site)?;
-    add_result(&mut walk.block, to);
     walk.last = Some(at);
-    Ok(())
+    walk.in_item = true;
 }
 
-/// The way out behind a body that comes to its end.
+/// Whether a loop's test has room behind a block, with the first statement of its leg.
+fn test_fits(block: &mut Estimate, test: Arg, leg: &[FlatStmt], site: &Site) -> bool {
+    block.merge(test);
+    let mut whole = *block;
+    match leg.split_first() {
+        None => {}
+        Some((first, _)) => {
+            if !is_plain(first) {
+                return false;
+            }
+            add_statement(&mut whole, first, site.frame);
+            whole.under_guard(block.insts);
+        }
+    }
+    fits(&whole, site)
+}
+
+/// A loop's test goes with its leg into the open block, or where these have no room there into another; whether it
+/// does.
 #[inline(never)]
-pub fn leave(walk: &mut Walk, site: &Site)
+fn join_test(walk: &mut Walk, test: Arg, leg: &[FlatStmt], site: &Site) -> bool
     ensures size { length walk.new.answers ≡ length walk.old.answers }
     ensures cuts { site.now.room ≡ 0 → only_cuts walk.old.answers ≡ true
         → only_cuts walk.new.answers ≡ true }
 {
     let mut block = walk.block;
-    add_return(&mut block, None, site.frame);
-    close(walk, &block, site);
+    if !test_fits(&mut block, test, leg, site) {
+        block = Estimate::empty();
+        if !test_fits(&mut block, test, leg, site) {
+            return false;
+        }
+        cut_last(walk, site);
+    }
+    walk.block = block;
+    true
+}
+
+/// Whether an if is a loop's test that goes on in the open block.
+fn is_joined_test(walk: &mut Walk, s: &FlatStmt, site: &Site) -> bool
+    ensures size { length walk.new.answers ≡ length walk.old.answers }
+    ensures cuts { site.now.room ≡ 0 → only_cuts walk.old.answers ≡ true
+        → only_cuts walk.new.answers ≡ true }
+{
+    match s {
+        FlatStmt::If { test, yes, .. } => join_test(walk, *test, yes.as_slice(), site),
+        _ => false,
+    }
+}
+
+/// The statements that follow stand under a loop's test, at a place. The block may end behind the first of them.
+fn enter_test(walk: &mut Walk, at: usize, site: &Site)
+    ensures size { length walk.new.answers ≡ length walk.old.answers }
+    ensures cuts { site.now.room ≡ 0 → only_cuts walk.old.answers ≡ true
+        → only_cuts walk.new.answers ≡ true }
+{
+    if at < walk.joins.len() {
+        walk.joins.set(at, true);
+    }
+    walk.last = None;
+    walk.guarded = true;
+}
+
+/// An if before its legs: whether it begins an item, or is a loop's test with which the block goes on; else the block
+/// ends with its test.
+fn open_if(walk: &mut Walk, s: &FlatStmt, shape: Shape, site: &Site) -> Result<Begun, Memory>
+    ensures size { OnOk result (length walk.new.answers ≡ length walk.old.answers + 1) }
+    ensures cuts { OnOk result (site.now.room ≡ 0 → only_cuts walk.old.answers ≡ true
+        → only_cuts walk.new.answers ≡ true) }
+{
+    let at = walk.answers.len();
+    if !walk.in_item && shape.ends && is_joined_test(walk, s, site) {
+        answer(walk, site)?;
+        enter_test(walk, at, site);
+        Ok(Begun::Test)
+    } else if !walk.in_item && shape.straight && join_item(walk, s, shape.small, site) {
+        answer(walk, site)?;
+        enter_item(walk, at, site);
+        Ok(Begun::Item)
+    } else {
+        ending(walk, s, site)?;
+        Ok(Begun::End)
+    }
+}
+
+/// Between the legs of an if. The second leg of a loop's test is a break, which adds nothing to the block.
+fn between(walk: &mut Walk, begun: Begun, site: &Site)
+    ensures size { length walk.new.answers ≡ length walk.old.answers }
+    ensures cuts { site.now.room ≡ 0 → only_cuts walk.old.answers ≡ true
+        → only_cuts walk.new.answers ≡ true }
+{
+    match begun {
+        Begun::Item => {}
+        Begun::Test => walk.in_item = true,
+        Begun::End => open(walk, site),
+    }
+}
+
+/// An if behind its legs.
+fn close_if(walk: &mut Walk, begun: Begun, site: &Site)
+    ensures size { length walk.new.answers ≡ length walk.old.answers }
+    ensures cuts { site.now.room ≡ 0 → only_cuts walk.old.answers ≡ true
+        → only_cuts walk.new.answers ≡ true }
+{
+    match begun {
+        Begun::Item => walk.in_item = false,
+        Begun::Test => walk.in_item = false,
+        Begun::End => open(walk, site),
+    }
+}
+
+// ALL STATEMENTS
+
+/// A statement's answers; `last` says whether it is the last one of a loop's body.
+#[cycle(walk)]
+fn walk_stmt(s: &FlatStmt, walk: &mut Walk, site: &Site, last: bool) -> Result<(), Memory>
+    ensures size { OnOk result (length walk.new.answers
+        ≡ length walk.old.answers + steps_in (step_of s.now)) }
+    ensures cuts { OnOk result (site.now.room ≡ 0 → only_cuts walk.old.answers ≡ true
+        → only_cuts walk.new.answers ≡ true) }
+{
+    match s {
+        FlatStmt::Let { .. } => single(walk, s, site)?,
+        FlatStmt::Frame { .. } => single(walk, s, site)?,
+        FlatStmt::Load { .. } => single(walk, s, site)?,
+        FlatStmt::Save { .. } => single(walk, s, site)?,
+        FlatStmt::Call { args, to, .. } => call(walk, args.as_slice(), *to, site)?,
+        FlatStmt::Put(_) => ending(walk, s, site)?,
+        FlatStmt::Get { to } => get(walk, s, *to, site)?,
+        FlatStmt::If { yes, no, .. } => {
+            let straight = are_items(yes.as_slice()) && are_items(no.as_slice());
+            let small = is_small_if(yes.as_slice(), no.as_slice());
+            let ends = last && is_break(no.as_slice());
+            let shape = Shape {
+                straight,
+                small,
+                ends,
+            };
+            let begun = open_if(walk, s, shape, site)?;
+            walk_stmts(yes.as_slice(), walk, site, false)?;
+            between(walk, begun, site);
+            walk_stmts(no.as_slice(), walk, site, false)?;
+            close_if(walk, begun, site);
+        }
+        FlatStmt::Loop { body, post } => {
+            let at = walk.answers.len();
+            head(walk, site)?;
+            walk_stmts(body.as_slice(), walk, site, true)?;
+            join_post(walk, at, post.as_slice(), site);
+            walk_stmts(post.as_slice(), walk, site, false)?;
+            open(walk, site);
+        }
+        FlatStmt::Break => head(walk, site)?,
+        FlatStmt::Continue => head(walk, site)?,
+        FlatStmt::Return(_) => ending(walk, s, site)?,
+    }
+    Ok(())
+}
+
+/// The answers of statements, behind others; `turn` says whether they are a loop's body.
+#[cycle(walk)]
+pub fn walk_stmts(
+    stmts: &[FlatStmt],
+    walk: &mut Walk,
+    site: &Site,
+    turn: bool,
+) -> Result<(), Memory>
+    ensures size { OnOk result (length walk.new.answers
+        ≡ length walk.old.answers + steps_of (code_of stmts.now)) }
+    ensures cuts { OnOk result (site.now.room ≡ 0 → only_cuts walk.old.answers ≡ true
+        → only_cuts walk.new.answers ≡ true) }
+{
+    let mut left = stmts.len();
+    for s in stmts {
+        left = left.saturating_sub(1);
+        walk_stmt(s, walk, site, turn && left == 0)?;
+    }
+    Ok(())
 }

@@ -13,3 +13,13 @@ invariant-put_stmts-loop-at l = record {
 
 abbrev pub decreases-put_stmts-loop-at : goal.decreases-put_stmts-loop-at
 decreases-put_stmts-loop-at l = l.at
+
+abbrev pub invariant-put_turn-loop-at : goal.invariant-put_turn-loop-at
+invariant-put_turn-loop-at l = record {
+  within : l.at ≤ length l.stmts;
+  done : emission_of l.emitting
+      ≡ code.emit_turn l.site l.broke l.again (code_of (drop l.at l.stmts)) (emission_of l.fn.emitting);
+}
+
+abbrev pub decreases-put_turn-loop-at : goal.decreases-put_turn-loop-at
+decreases-put_turn-loop-at l = l.at

@@ -4,7 +4,7 @@ use Rattle.ir_forms.specs.FlatViews.{step_of}
 use Rattle.ir_forms.proofs.Views.{step_let, step_frame, step_load, step_save, step_call, step_put}
 use Rattle.ir_forms.proofs.Views.{step_get, step_if, step_loop, step_break, step_continue}
 use Rattle.ir_forms.proofs.Views.{step_return}
-use Rattle.hyper_plan.proofs.statements.+walk.Goals as goal
+use Rattle.hyper_plan.proofs.walk.+walk.Goals as goal
 
 pub walk_stmt-returns-in_ok-single-in-Let-clause-size : goal.walk_stmt-returns-in_ok-single-in-Let-clause-size
 walk_stmt-returns-in_ok-single-in-Let-clause-size t c =

@@ -2,7 +2,7 @@ use Rattle.std.proofs.Common.{◌≡◌, ◌+◌, length, drop, true}
 use Rattle.ir_forms.specs.FlatFits.{steps_of}
 use Rattle.ir_forms.specs.FlatViews.{code_of}
 use Rattle.hyper_plan.specs.Answers.{only_cuts}
-use Rattle.hyper_plan.proofs.statements.+walk.Given as goal
+use Rattle.hyper_plan.proofs.walk.+walk.Given as goal
 
 abbrev pub invariant-walk_stmts-loop-s : goal.invariant-walk_stmts-loop-s
 invariant-walk_stmts-loop-s l = record {
