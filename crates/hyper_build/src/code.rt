@@ -280,9 +280,7 @@ fn put_turn(
         let last = is_last(stmts, at);
         let on = goes_on(stmts, at);
         at -= 1;
-        put_stmt(
-            &stmts[at], emitting, alloc, site, broke, again, last, on,
-        )?;
+        put_stmt(&stmts[at], emitting, alloc, site, broke, again, last, on)?;
     }
     Ok(())
 }
@@ -304,9 +302,7 @@ pub fn put_stmts(
     while at > 0 {
         let on = goes_on(stmts, at);
         at -= 1;
-        put_stmt(
-            &stmts[at], emitting, alloc, site, broke, again, false, on,
-        )?;
+        put_stmt(&stmts[at], emitting, alloc, site, broke, again, false, on)?;
     }
     Ok(())
 }

@@ -82,12 +82,7 @@ fn merged(rest: Rest, alloc: Global, arg: Arg, out: u32) -> Result<Rest, Memory>
 }
 
 /// A loop's test before its leg: what follows is done where it holds, and else the loop is left.
-pub fn put_merged(
-    emitting: &mut Emitting,
-    alloc: Global,
-    arg: Arg,
-    out: u32,
-) -> Result<(), Memory>
+pub fn put_merged(emitting: &mut Emitting, alloc: Global, arg: Arg, out: u32) -> Result<(), Memory>
     ensures { OnOk result (emission_of emitting.new
         ≡ leaving (merging.merged merging.test_register (parts.source arg)
         (emission_of emitting.old).rest (hyper.jump out)) (emission_of emitting.old)) }
