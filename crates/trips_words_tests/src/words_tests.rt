@@ -18,11 +18,123 @@ const PLAIN: Asked<'static> = Asked {
     trace: false,
 };
 
-const ASKED: &[Row] = &[
-    (&["run", "a.c"], PLAIN),
-    (&["run", "--", "a.c"], PLAIN),
+// An option with its value, in each place and spelling.
+const BLOCKS: &[&[&str]] = &[
+    &["run", "a.c", "--blocks", "7"],
+    &["run", "--blocks", "7", "a.c"],
+    &["run", "a.c", "--blocks=7"],
+    &["run", "--blocks=7", "a.c"],
+    &["run", "--blocks=7", "--", "a.c"],
+    &["run", "--blocks=0007", "a.c"],
+];
+
+const INPUT: &[&[&str]] = &[
+    &["run", "a.c", "--input", "t"],
+    &["run", "--input", "t", "a.c"],
+    &["run", "a.c", "--input=t"],
+    &["run", "--input=t", "a.c"],
+    &["run", "--input", "t", "--", "a.c"],
+];
+
+const STEPS: &[&[&str]] = &[
+    &["eval", "a.c", "--steps", "7"],
+    &["eval", "--steps", "7", "a.c"],
+    &["eval", "a.c", "--steps=7"],
+    &["eval", "--steps=7", "a.c"],
+    &["eval", "--steps", "7", "--", "a.c"],
+];
+
+const EVAL_INPUT: &[&[&str]] = &[
+    &["eval", "a.c", "--input", "t"],
+    &["eval", "--input", "t", "a.c"],
+    &["eval", "a.c", "--input=t"],
+    &["eval", "--input=t", "a.c"],
+];
+
+const BENCH_BLOCKS: &[&[&str]] = &[
+    &["bench", "64", "--blocks", "7"],
+    &["bench", "--blocks", "7", "64"],
+    &["bench", "64", "--blocks=7"],
+    &["bench", "--blocks=7", "64"],
+    &["bench", "--blocks=7", "--", "64"],
+];
+
+const REGS: &[&[&str]] = &[
+    &["run", "a.c", "--regs"],
+    &["run", "--regs", "a.c"],
+    &["run", "--regs", "--", "a.c"],
+];
+
+const TRACE: &[&[&str]] = &[
+    &["run", "a.c", "--trace"],
+    &["run", "--trace", "a.c"],
+    &["run", "--trace", "--", "a.c"],
+];
+
+// All of them, in several orders.
+const ALL: &[&[&str]] = &[
+    &[
+        "run",
+        "--trace",
+        "--blocks=9",
+        "a.c",
+        "--regs",
+        "--input",
+        "t",
+    ],
+    &[
+        "run",
+        "--input=t",
+        "--regs",
+        "--blocks",
+        "9",
+        "--trace",
+        "a.c",
+    ],
+    &[
+        "run",
+        "a.c",
+        "--regs",
+        "--trace",
+        "--input",
+        "t",
+        "--blocks=9",
+    ],
+    &[
+        "run", "--blocks", "9", "--input", "t", "--regs", "--trace", "--", "a.c",
+    ],
+];
+
+const EVALUATED: Asked<'static> = Asked {
+    command: Command::Evaluate,
+    ..PLAIN
+};
+
+const SPELLINGS: &[(&[&[&str]], Asked<'static>)] = &[
+    (BLOCKS, Asked { most: 7, ..PLAIN }),
     (
-        &["bench", "--blocks=7", "64"],
+        INPUT,
+        Asked {
+            input: Some("t"),
+            ..PLAIN
+        },
+    ),
+    (
+        STEPS,
+        Asked {
+            most: 7,
+            ..EVALUATED
+        },
+    ),
+    (
+        EVAL_INPUT,
+        Asked {
+            input: Some("t"),
+            ..EVALUATED
+        },
+    ),
+    (
+        BENCH_BLOCKS,
         Asked {
             file: "64",
             functions: Some(64),
@@ -30,10 +142,36 @@ const ASKED: &[Row] = &[
             ..PLAIN
         },
     ),
-    (&["run", "a.c", "--blocks", "7"], Asked { most: 7, ..PLAIN }),
-    (&["run", "--blocks", "7", "a.c"], Asked { most: 7, ..PLAIN }),
-    (&["run", "a.c", "--blocks=7"], Asked { most: 7, ..PLAIN }),
-    (&["run", "--blocks=0007", "a.c"], Asked { most: 7, ..PLAIN }),
+    (
+        REGS,
+        Asked {
+            regs: true,
+            ..PLAIN
+        },
+    ),
+    (
+        TRACE,
+        Asked {
+            trace: true,
+            ..PLAIN
+        },
+    ),
+    (
+        ALL,
+        Asked {
+            input: Some("t"),
+            most: 9,
+            regs: true,
+            trace: true,
+            ..PLAIN
+        },
+    ),
+];
+
+const ASKED: &[Row] = &[
+    (&["run", "a.c"], PLAIN),
+    (&["run", "--", "a.c"], PLAIN),
+    (&["run", "a.c", "--blocks", "1"], Asked { most: 1, ..PLAIN }),
     (
         &["run", "a.c", "--blocks", "4000000"],
         Asked {
@@ -42,16 +180,10 @@ const ASKED: &[Row] = &[
         },
     ),
     (
-        &["run", "--input", "t", "a.c"],
+        &["bench", "1"],
         Asked {
-            input: Some("t"),
-            ..PLAIN
-        },
-    ),
-    (
-        &["run", "--input=t", "a.c"],
-        Asked {
-            input: Some("t"),
+            file: "1",
+            functions: Some(1),
             ..PLAIN
         },
     ),
@@ -83,38 +215,6 @@ const ASKED: &[Row] = &[
             ..PLAIN
         },
     ),
-    (
-        &["run", "a.c", "--regs"],
-        Asked {
-            regs: true,
-            ..PLAIN
-        },
-    ),
-    (
-        &["run", "--trace", "a.c"],
-        Asked {
-            trace: true,
-            ..PLAIN
-        },
-    ),
-    (
-        &[
-            "run",
-            "--trace",
-            "--blocks=9",
-            "a.c",
-            "--regs",
-            "--input",
-            "t",
-        ],
-        Asked {
-            input: Some("t"),
-            most: 9,
-            regs: true,
-            trace: true,
-            ..PLAIN
-        },
-    ),
     (&["run", "-"], Asked { file: "-", ..PLAIN }),
     (&["run", ""], Asked { file: "", ..PLAIN }),
     (
@@ -129,14 +229,6 @@ const ASKED: &[Row] = &[
         Asked {
             file: "--",
             regs: true,
-            ..PLAIN
-        },
-    ),
-    (
-        &["eval", "--steps", "1", "a.c"],
-        Asked {
-            command: Command::Evaluate,
-            most: 1,
             ..PLAIN
         },
     ),
@@ -197,6 +289,8 @@ const USAGES: &[&[&str]] = &[
     &["run", "a.c", "--input", "-t"],
     &["run", "a.c", "--steps", "1"],
     &["run", "a.c", "--seed", "1"],
+    &["run", "b.img", "--place", "1"],
+    &["run", "v.tasl", "--place", "1"],
     &["run", "a.c", "--cycles"],
     &["run", "a.c", "--block", "1"],
     &["run", "a.c", "-r"],
@@ -211,6 +305,14 @@ const USAGES: &[&[&str]] = &[
     &["compile", "a.c", "--place", "1"],
     &["check", "a.c", "--trace"],
     &["dis"],
+    &["bench", "0"],
+    &["bench", "65"],
+    &["bench", "6x"],
+    &["bench", "1", "--regs"],
+    &["bench", "1", "--blocks", "2", "--blocks", "2"],
+    &["eval", "a.c", "--steps", "1", "--steps", "1"],
+    &["eval", "a.c", "--input", "t", "--input", "t"],
+    &["run", "a.c", "--trace", "--trace"],
 ];
 
 fn words_of(alloc: Global, texts: &[&str]) -> Result<Vec<String>, AllocError> {
@@ -233,6 +335,7 @@ fn assert_asked(
         .expect(rt, "a request");
     assert!(rt; asked.command == wanted.command, "{texts:?}");
     assert!(rt; asked.file == wanted.file, "{texts:?}");
+    assert!(rt; asked.functions == wanted.functions, "{texts:?}");
     assert!(rt; asked.input == wanted.input, "{texts:?}");
     assert!(rt; asked.most == wanted.most, "{texts:?}");
     assert!(rt; asked.regs == wanted.regs, "{texts:?}");
@@ -248,8 +351,38 @@ fn assert_all_asked(rt: &impl Abort, alloc: Global, rows: &[Row]) -> Result<(), 
 }
 
 #[test]
-fn each_option_in_each_place(rt: HostRuntime) -> Result<(), Fail> {
+fn words_make_requests(rt: HostRuntime) -> Result<(), Fail> {
     assert_all_asked(&rt, rt.alloc(), ASKED)?;
+    Ok(())
+}
+
+// Each of these makes the same request.
+fn assert_same(
+    rt: &impl Abort,
+    alloc: Global,
+    spellings: &[&[&str]],
+    wanted: &Asked<'_>,
+) -> Result<(), AllocError> {
+    for texts in spellings {
+        assert_asked(rt, alloc, *texts, wanted)?;
+    }
+    Ok(())
+}
+
+fn assert_spellings(
+    rt: &impl Abort,
+    alloc: Global,
+    rows: &[(&[&[&str]], Asked<'_>)],
+) -> Result<(), AllocError> {
+    for (spellings, wanted) in rows {
+        assert_same(rt, alloc, *spellings, wanted)?;
+    }
+    Ok(())
+}
+
+#[test]
+fn each_option_in_each_place(rt: HostRuntime) -> Result<(), Fail> {
+    assert_spellings(&rt, rt.alloc(), SPELLINGS)?;
     Ok(())
 }
 
