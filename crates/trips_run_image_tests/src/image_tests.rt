@@ -1,9 +1,10 @@
 //! `run` on images. Their words were computed by hand from docs/MACHINE.md, "The image".
+use crate::tool_tests::{SEVEN_TEXT, assert_answer, image_of_text};
 use std::alloc::{AllocError, Global};
 use std::process::Abort;
 use std::test::Fail;
-use trips_outside::{HonestFiles, HonestSink};
-use trips_run::{Status, trips_run};
+use trips_run::Status;
+use trips_run_harness::answer_of;
 
 // The program that returns 7, the example of docs/MACHINE.md.
 const SEVEN: &[(usize, u32)] = &[
@@ -156,24 +157,6 @@ fn image_of(
     Ok(bytes)
 }
 
-// What `run b.img` answers and writes.
-fn run_bytes(alloc: Global, bytes: &[u8]) -> Result<(Status, Vec<u8>), AllocError> {
-    let mut words = Vec::new(alloc);
-    words.push(String::from_str(alloc, "run")?)?;
-    words.push(String::from_str(alloc, "b.img")?)?;
-    let mut named = Vec::new(alloc);
-    named.push((
-        String::from_str(alloc, "b.img")?,
-        Vec::from_slice(alloc, bytes)?,
-    ))?;
-    let mut files = HonestFiles::make(named);
-    let Ok(mut sink) = HonestSink::make(alloc, 100) else {
-        return Err(AllocError);
-    };
-    let status = trips_run(alloc, &words, &mut files, &mut sink);
-    Ok((status, Vec::from_slice(alloc, sink.written())?))
-}
-
 /// A name, so many blocks and chunks, the words that are not 0, and the status with the report.
 type Row = (
     &'static str,
@@ -235,12 +218,48 @@ const ROWS: &[Row] = &[
     ),
 ];
 
+// What `check` answers to an image of so many blocks which `run` answers so.
+fn assert_checked(
+    rt: &impl Abort,
+    alloc: Global,
+    bytes: &[u8],
+    blocks: u32,
+    ran: Status,
+    report: &str,
+) -> Result<(), AllocError> {
+    if ran == Status::Refused {
+        return assert_answer(
+            rt,
+            alloc,
+            "check",
+            bytes,
+            Status::Refused,
+            report.as_bytes(),
+        );
+    }
+    let good = format!(in alloc; "good {blocks} blocks\n")?;
+    assert_answer(rt, alloc, "check", bytes, Status::Ended, good.as_bytes())
+}
+
+// The image's text, good or not, is that of this image again.
+fn assert_goes_out_and_back(
+    rt: &impl Abort,
+    alloc: Global,
+    bytes: &[u8],
+) -> Result<(), AllocError> {
+    let (status, text) = answer_of(alloc, &["dis", "b.img"], &[("b.img", bytes)])?;
+    assert_eq!(rt; status, Status::Ended, "dis");
+    let image = image_of_text(rt, alloc, &text)?;
+    assert_eq!(rt; image.as_slice(), bytes, "asm");
+    Ok(())
+}
+
 fn assert_images(rt: &impl Abort, alloc: Global, rows: &[Row]) -> Result<(), AllocError> {
-    for (name, blocks, chunks, words, status, report) in rows {
+    for (_, blocks, chunks, words, status, report) in rows {
         let bytes = image_of(alloc, *blocks, *chunks, *words)?;
-        let (answered, written) = run_bytes(alloc, &bytes)?;
-        assert_eq!(rt; answered, *status, "{name}");
-        assert_eq!(rt; written.as_slice(), report.as_bytes(), "{name}");
+        assert_answer(rt, alloc, "run", &bytes, *status, report.as_bytes())?;
+        assert_checked(rt, alloc, &bytes, *blocks, *status, *report)?;
+        assert_goes_out_and_back(rt, alloc, &bytes)?;
     }
     Ok(())
 }
@@ -248,6 +267,21 @@ fn assert_images(rt: &impl Abort, alloc: Global, rows: &[Row]) -> Result<(), All
 #[test]
 fn images_run_or_are_refused_at_their_block(rt: HostRuntime) -> Result<(), Fail> {
     assert_images(&rt, rt.alloc(), ROWS)?;
+    Ok(())
+}
+
+#[test]
+fn the_example_has_its_text(rt: HostRuntime) -> Result<(), Fail> {
+    let alloc = rt.alloc();
+    let bytes = image_of(alloc, 1, 2, SEVEN)?;
+    assert_answer(
+        &rt,
+        alloc,
+        "dis",
+        &bytes,
+        Status::Ended,
+        SEVEN_TEXT.as_bytes(),
+    )?;
     Ok(())
 }
 
@@ -263,7 +297,8 @@ const BROKEN: &[Broken] = &[
     (20, 15, 0, "refused image 5 BadField at 12\n"),
 ];
 
-// The image of the program that returns 7, cut to a length, with a byte changed or one added.
+// The image of the program that returns 7, cut to a length, with a byte changed or one added: each
+// command that reads an image refuses it.
 fn assert_broken(rt: &impl Abort, alloc: Global, rows: &[Broken]) -> Result<(), AllocError> {
     for (size, at, byte, report) in rows {
         let mut bytes = image_of(alloc, 1, 2, SEVEN)?;
@@ -271,9 +306,16 @@ fn assert_broken(rt: &impl Abort, alloc: Global, rows: &[Broken]) -> Result<(), 
         if let Some(place) = bytes.get_mut(*at) {
             *place = *byte;
         }
-        let (answered, written) = run_bytes(alloc, &bytes)?;
-        assert_eq!(rt; answered, Status::Refused, "{report}");
-        assert_eq!(rt; written.as_slice(), report.as_bytes(), "{report}");
+        for command in ["run", "check", "dis"] {
+            assert_answer(
+                rt,
+                alloc,
+                command,
+                &bytes,
+                Status::Refused,
+                report.as_bytes(),
+            )?;
+        }
     }
     Ok(())
 }

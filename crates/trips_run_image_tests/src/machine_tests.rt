@@ -1,9 +1,8 @@
 //! `run` on images by their target texts: an input, and a number of blocks.
-use block_image::encode;
+use crate::tool_tests::image_of_text;
 use std::alloc::{AllocError, Global};
 use std::process::Abort;
 use std::test::Fail;
-use target_asm::assemble;
 use trips_run::Status;
 use trips_run_harness::answer_of;
 
@@ -78,14 +77,13 @@ const ROWS: &[Row] = &[
     ),
 ];
 
-/// The bytes of the image whose first block has these lines.
-fn image_of(alloc: Global, lines: &str) -> Result<Vec<u8>, Fail> {
+// The bytes of the image whose first block has these lines.
+fn image_of(rt: &impl Abort, alloc: Global, lines: &str) -> Result<Vec<u8>, AllocError> {
     let text = format!(in alloc; "trips 1\ndata 0\nblock 0 mask 00000000\n{lines}")?;
-    let image = assemble(alloc, text.as_bytes())?;
-    Ok(encode(alloc, &image)?)
+    image_of_text(rt, alloc, text.as_bytes())
 }
 
-/// What the program answers to these words, over an image and an input.
+// What the program answers to these words, over an image and an input.
 fn answer_over<'a>(
     alloc: Global,
     words: &[&str],
@@ -97,7 +95,7 @@ fn answer_over<'a>(
 
 fn assert_rows(rt: &impl Abort, alloc: Global, rows: &[Row]) -> Result<(), Fail> {
     for (lines, others, input, status, report) in rows {
-        let bytes = image_of(alloc, *lines)?;
+        let bytes = image_of(rt, alloc, *lines)?;
         let mut words = Vec::new(alloc);
         words.push("run")?;
         words.push("b.img")?;

@@ -1,9 +1,8 @@
 //! `run` on images whose blocks fault, or could, by their target texts.
-use block_image::encode;
+use crate::tool_tests::image_of_text;
 use std::alloc::Global;
 use std::process::Abort;
 use std::test::Fail;
-use target_asm::assemble;
 use trips_run::Status;
 use trips_run_harness::answer_of;
 
@@ -355,7 +354,7 @@ const ROWS: &[Row] = &[
 fn assert_rows(rt: &impl Abort, alloc: Global, rows: &[Row]) -> Result<(), Fail> {
     for (blocks, others, status, report) in rows {
         let text = format!(in alloc; "trips 1\ndata 0\n{blocks}")?;
-        let bytes = encode(alloc, &assemble(alloc, text.as_bytes())?)?;
+        let bytes = image_of_text(rt, alloc, text.as_bytes())?;
         let mut words = Vec::new(alloc);
         words.push("run")?;
         words.push("b.img")?;

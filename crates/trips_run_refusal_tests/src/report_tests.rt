@@ -120,6 +120,10 @@ const WORDS: &[&[&str]] = &[
     &["compile"],
     &["asm", "a.tasl", "--blocks", "1"],
     &["run", "a.c", "b.c"],
+    &["run", "a.c", "--blocks", "0"],
+    &["run", "a.c", "--blocks", "1", "--blocks", "2"],
+    &["run", "b.img", "--place", "1"],
+    &["bench", "65"],
 ];
 
 fn assert_usage(rt: &impl Abort, alloc: Global, rows: &[&[&str]]) -> Result<(), AllocError> {
