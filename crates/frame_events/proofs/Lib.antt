@@ -1,0 +1,2 @@
+pub mod PhaseFacts
+pub mod NumberFacts
