@@ -1,6 +1,8 @@
 -- A frame of the eight, seen with its block: what it is answered, what happens to it, and what it tells.
 use Rattle.std.proofs.Common.{◌≡◌, ℕ, zero, suc, ◌-◌, ◌^◌, ◌<◌, ◌==◌, Bool, true, false, cond, List, [], ◌∷◌, length}
 use Rattle.std.proofs.Common.{Option, Some, None, slice_get, ap, sym, subst, ◌∙◌, refl, absurd, arith}
+use Rattle.std.proofs.lemmas.Option.{slice_get_within}
+use Rattle.trips_isa.specs.declared.block.ReadSlot.{ReadSlot}
 use Rattle.trips_isa.specs.declared.block.Block.{Block}
 use Rattle.commit_flush_spec.specs.Causes.{Happened}
 use Rattle.commit_flush_spec.specs.Frames.{Frame}
@@ -12,6 +14,7 @@ use Rattle.frame_events.specs.declared.phase.Phase.TheVariants.{Free, Going, Don
 use Rattle.frame_events.specs.Phases.{HasBlock, IsFree, Keeps, answered, changed, frame_in, generation_of, number_of}
 use Rattle.frame_events.specs.Phases.{with_block}
 use Rattle.frame_events.specs.Changes.{Declares, sealed_if}
+use Rattle.frame_events.specs.Told.{register_of, read_register}
 
 -- what is told ---------------------------------------------------------------------------------
 
@@ -77,6 +80,16 @@ having blocks h k s has = let e : k.block ≡ h.block = s.block in omega (arith,
 pub declared : (blocks : List Block) (b : Block) (r : ℕ) (h : Held) → slice_get blocks h.block ≡ Some b
     → Declares r (frame_in blocks (Going h)) → r < length b.reads.items
 declared blocks b r h is d = subst (λ z. Declares r (with_block false h z)) is d
+
+-- a read whose register is told is declared
+pub declares : (r : ℕ) (f : Option Frame) (x : ℕ) → read_register r f ≡ Some x → Declares r f
+declares r None x e = tt
+declares r (Some f) x e = go (slice_get f.code.reads.items r) refl e
+  where
+    go : (z : Option ReadSlot) → slice_get f.code.reads.items r ≡ z → register_of z ≡ Some x
+        → r < length f.code.reads.items
+    go None k w = absurd (cc)
+    go (Some q) k w = slice_get_within f.code.reads.items r q k
 
 -- seals ----------------------------------------------------------------------------------------
 

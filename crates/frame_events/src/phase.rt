@@ -1,5 +1,5 @@
 //! One of the eight frames, whatever it is doing.
-ghost use Rattle.std.specs.Prelude.{◌≡◌, ◌<◌, ◌+◌, List, Some, None, length, slice_get};
+ghost use Rattle.std.specs.Prelude.{◌≡◌, ◌↔◌, ◌<◌, ◌+◌, IsTrue, List, Some, None, length, slice_get};
 ghost use Rattle.trips_isa.specs.declared.block.Block.{Block};
 ghost use Rattle.commit_flush_spec.specs.Older.{Older};
 ghost use Rattle.commit_flush_spec.specs.Frames.{fresh};
@@ -85,6 +85,16 @@ impl Phase {
             Phase::Free(empty) => Phase::Free(empty),
             Phase::Done(sealed) => Phase::Done(sealed),
             Phase::Away => Phase::Away,
+        }
+    }
+
+    /// Whether the frame is empty and may be filled.
+    pub fn is_free(&self) -> bool
+        ensures value { IsTrue result ↔ IsFree self.now }
+    {
+        match self {
+            Phase::Free(empty) => empty.generation() != u64::MAX,
+            Phase::Going(_) | Phase::Done(_) | Phase::Away => false,
         }
     }
 

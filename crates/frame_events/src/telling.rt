@@ -29,7 +29,8 @@ fn makes_call(inst: Option<Inst>) -> bool
 fn is_serial(block: &Block) -> bool
     ensures { result ≡ is_serial block.now }
 {
-    for inst in block.insts.as_slice() {
+    let insts = block.insts.as_slice();
+    for inst in insts {
         if makes_call(*inst) {
             return true;
         }
