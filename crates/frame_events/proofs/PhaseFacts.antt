@@ -4,44 +4,45 @@ use Rattle.std.proofs.Common.{Option, Some, None, slice_get, ap, sym, subst, ◌
 use Rattle.std.proofs.lemmas.Option.{slice_get_within}
 use Rattle.trips_isa.specs.declared.block.ReadSlot.{ReadSlot}
 use Rattle.trips_isa.specs.declared.block.Block.{Block}
-use Rattle.commit_flush_spec.specs.Causes.{Happened}
+use Rattle.commit_flush_spec.specs.Causes.{Cause, Happened, NotNow, judged}
 use Rattle.commit_flush_spec.specs.Frames.{Frame}
 use Rattle.commit_flush_spec.specs.Older.{Older}
 use Rattle.commit_flush_spec.specs.Ends.{complete, seal}
-use Rattle.frame_state.specs.Held.{Held, Stays, as_frame, running, sealed}
+use Rattle.frame_state.specs.Held.{Held, Stays, running, sealed}
 use Rattle.frame_events.specs.declared.phase.Phase.{Phase}
 use Rattle.frame_events.specs.declared.phase.Phase.TheVariants.{Free, Going, Done, Away}
-use Rattle.frame_events.specs.Phases.{HasBlock, IsFree, Keeps, answered, changed, frame_in, generation_of, number_of}
-use Rattle.frame_events.specs.Phases.{with_block}
+use Rattle.frame_events.specs.Phases.{HasBlock, IsFree, IsIdle, IsOpen, Keeps, answered, changed, frame_in}
+use Rattle.frame_events.specs.Phases.{generation_of, number_of, with_block}
 use Rattle.frame_events.specs.Changes.{Declares, sealed_if}
 use Rattle.frame_events.specs.Told.{register_of, read_register}
 
--- what is told ---------------------------------------------------------------------------------
-
--- what is so of a frame in flight with its block
-pub told : {A : Type 0} (tell : Option Frame → A) (blocks : List Block) (b : Block) (s : Bool) (h : Held) (x : A)
-    → slice_get blocks h.block ≡ Some b → x ≡ tell (Some (as_frame s b h))
-    → x ≡ tell (with_block s h (slice_get blocks h.block))
-told tell blocks b s h x is e = e ∙ sym (ap (λ z. tell (with_block s h z)) is)
-
--- what is so of a frame in flight whatever its block, and of none
-pub told_of_any : {A : Type 0} (tell : Option Frame → A) (s : Bool) (h : Held) (x : A) (z : Option Block)
-    → x ≡ tell None → ((b : Block) → x ≡ tell (Some (as_frame s b h))) → x ≡ tell (with_block s h z)
-told_of_any tell s h x None none some = none
-told_of_any tell s h x (Some b) none some = some b
-
 -- answers --------------------------------------------------------------------------------------
 
--- a frame that runs is asked
-pub asked : (blocks : List Block) (b : Block) (none : Happened) (can : Older → Frame → Happened) (o : Older) (h : Held)
-    (x : Happened) → slice_get blocks h.block ≡ Some b → x ≡ can o (running b h)
-    → x ≡ answered none can o (frame_in blocks (Going h))
-asked blocks b none can o h x is e = told (answered none can o) blocks b false h x is e
+-- the first cause that holds is answered
+pub first : (b : Bool) (c : Cause) (rest : List (Bool × Cause)) → b ≡ true → NotNow c ≡ judged ((b, c) ∷ rest)
+first true c rest e = refl
+first false c rest e = absurd (cc)
 
--- a sealed frame answers as an empty one does
-pub idle : (blocks : List Block) (none : Happened) (can : Older → Frame → Happened) (o : Older) (h : Held)
-    → ((b : Block) → none ≡ can o (sealed b h)) → none ≡ answered none can o (frame_in blocks (Done h))
-idle blocks none can o h e = told_of_any (answered none can o) true h none (slice_get blocks h.block) refl e
+-- a frame that does not run answers as an empty one does, where its first cause is that it is sealed
+pub idle : (none : Happened) (can : Older → Frame → Happened) (o : Older) (z : Option Frame) → IsIdle z
+    → ((f : Frame) → f.sealed ≡ true → none ≡ can o f) → none ≡ answered none can o z
+idle none can o None i e = refl
+idle none can o (Some f) i e = e f i
+
+-- what is so of a frame that is not sealed, and of none
+pub unsealed : {A : Type 0} (tell : Option Frame → A) (x : A) (z : Option Frame) → IsOpen z → x ≡ tell None
+    → ((f : Frame) → f.sealed ≡ false → x ≡ tell (Some f)) → x ≡ tell z
+unsealed tell x None i none some = none
+unsealed tell x (Some f) i none some = some f i
+
+-- a sealed frame is not running, and a running one not sealed, whatever its block
+pub is_idle : (h : Held) (z : Option Block) → IsIdle (with_block true h z)
+is_idle h None = tt
+is_idle h (Some b) = refl
+
+pub is_open : (h : Held) (z : Option Block) → IsOpen (with_block false h z)
+is_open h None = tt
+is_open h (Some b) = refl
 
 -- changes --------------------------------------------------------------------------------------
 

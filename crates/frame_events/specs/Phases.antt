@@ -42,6 +42,16 @@ frame_in blocks (Going h) = with_block false h (slice_get blocks h.block)
 frame_in blocks (Done h) = with_block true h (slice_get blocks h.block)
 frame_in blocks Away = None
 
+-- no frame in flight runs here
+abbrev pub IsIdle : Option Frame → Type 0
+IsIdle None = Unit {0}
+IsIdle (Some f) = f.sealed ≡ true
+
+-- no frame in flight is sealed here
+abbrev pub IsOpen : Option Frame → Type 0
+IsOpen None = Unit {0}
+IsOpen (Some f) = f.sealed ≡ false
+
 -- the frames in flight by number
 abbrev pub slots_of : List Block → List Phase → List (Option Frame)
 slots_of blocks phases = map (frame_in blocks) phases

@@ -1,7 +1,6 @@
 //! What the events of one frame are answered.
-ghost use Rattle.std.specs.Prelude.{◌≡◌, ◌<◌, Some, slice_get, length};
+ghost use Rattle.std.specs.Prelude.{◌≡◌, slice_get};
 ghost use Rattle.trips_isa.specs.Forms.{is_load, is_store};
-ghost use Rattle.block_check.specs.Images.{IsCheckedImage};
 ghost use Rattle.trips_isa.specs.declared.block.Block.{Block};
 ghost use Rattle.commit_flush_spec.specs.Causes as causes;
 ghost use Rattle.commit_flush_spec.specs.Older.{Older};
@@ -15,20 +14,11 @@ ghost use Rattle.frame_events.specs.Phases.{HasBlock, answered, frame_in};
 ghost use Rattle.frame_events.specs.Changes.{IsSeen};
 
 use crate::event::{Cause, Happened};
+use crate::parts::running_in;
 use crate::phase::Phase;
 use block_check::CheckedImage;
 use frame_state::Body;
 use trips_isa::{Block, FIRST_STORE, Form, Inst, form_of};
-
-/// The block of a number.
-#[inline]
-pub fn block_at(image: &CheckedImage, number: u32) -> &Block
-    requires { number < length image.now.blocks }
-    ensures value { slice_get image.now.blocks number ≡ Some result.now }
-    ensures image { IsCheckedImage image.now }
-{
-    image.at(number).block()
-}
 
 // What Read of a read is answered at a frame that runs, where this is known of its register.
 fn read_answer(held: &Body, block: &Block, read: u8, word: Option<u64>) -> Happened
@@ -144,12 +134,9 @@ pub fn can_read(phase: &Phase, image: &CheckedImage, read: u8, word: Option<u64>
     ensures value { (o : Older) → IsSeen o read word (frame_in image.now.blocks phase.now) → as_happened result
         ≡ answered (causes.NotNow causes.NoFrame) (can_read read) o (frame_in image.now.blocks phase.now) }
 {
-    match phase {
-        Phase::Going(running) => {
-            let held = running.held();
-            read_answer(held, block_at(image, held.block()), read, word)
-        }
-        Phase::Free(_) | Phase::Done(_) | Phase::Away => Happened::NotNow(Cause::NoFrame),
+    match running_in(phase, image) {
+        None => Happened::NotNow(Cause::NoFrame),
+        Some((held, block)) => read_answer(held, block, read, word),
     }
 }
 
@@ -159,12 +146,9 @@ pub fn can_fire(phase: &Phase, image: &CheckedImage, slot: u8) -> Happened
     ensures value { (o : Older) → as_happened result
         ≡ answered (causes.NotNow causes.NoFrame) (can_fire slot) o (frame_in image.now.blocks phase.now) }
 {
-    match phase {
-        Phase::Going(running) => {
-            let held = running.held();
-            fire_answer(held, block_at(image, held.block()), slot)
-        }
-        Phase::Free(_) | Phase::Done(_) | Phase::Away => Happened::NotNow(Cause::NoFrame),
+    match running_in(phase, image) {
+        None => Happened::NotNow(Cause::NoFrame),
+        Some((held, block)) => fire_answer(held, block, slot),
     }
 }
 
@@ -174,12 +158,9 @@ pub fn can_deliver(phase: &Phase, image: &CheckedImage, place: u16) -> Happened
     ensures value { (o : Older) → as_happened result
         ≡ answered (causes.NotNow causes.NoToken) (can_deliver place) o (frame_in image.now.blocks phase.now) }
 {
-    match phase {
-        Phase::Going(running) => {
-            let held = running.held();
-            deliver_answer(held, block_at(image, held.block()), place)
-        }
-        Phase::Free(_) | Phase::Done(_) | Phase::Away => Happened::NotNow(Cause::NoToken),
+    match running_in(phase, image) {
+        None => Happened::NotNow(Cause::NoToken),
+        Some((held, block)) => deliver_answer(held, block, place),
     }
 }
 
@@ -189,12 +170,9 @@ pub fn can_load(phase: &Phase, image: &CheckedImage, number: u8) -> Happened
     ensures value { (o : Older) → as_happened result
         ≡ answered (causes.NotNow causes.NoFrame) (can_load number) o (frame_in image.now.blocks phase.now) }
 {
-    match phase {
-        Phase::Going(running) => {
-            let held = running.held();
-            load_answer(held, block_at(image, held.block()), number)
-        }
-        Phase::Free(_) | Phase::Done(_) | Phase::Away => Happened::NotNow(Cause::NoFrame),
+    match running_in(phase, image) {
+        None => Happened::NotNow(Cause::NoFrame),
+        Some((held, block)) => load_answer(held, block, number),
     }
 }
 
@@ -204,12 +182,9 @@ pub fn can_store(phase: &Phase, image: &CheckedImage, number: u8) -> Happened
     ensures value { (o : Older) → as_happened result
         ≡ answered (causes.NotNow causes.NoFrame) (can_store number) o (frame_in image.now.blocks phase.now) }
 {
-    match phase {
-        Phase::Going(running) => {
-            let held = running.held();
-            store_answer(held, block_at(image, held.block()), number)
-        }
-        Phase::Free(_) | Phase::Done(_) | Phase::Away => Happened::NotNow(Cause::NoFrame),
+    match running_in(phase, image) {
+        None => Happened::NotNow(Cause::NoFrame),
+        Some((held, block)) => store_answer(held, block, number),
     }
 }
 
@@ -219,13 +194,9 @@ pub fn can_exit(phase: &Phase, image: &CheckedImage) -> Happened
     ensures value { (o : Older) → as_happened result
         ≡ answered (causes.NotNow causes.NoFrame) can_exit o (frame_in image.now.blocks phase.now) }
 {
-    match phase {
-        Phase::Going(running) => {
-            let held = running.held();
-            let _block = block_at(image, held.block());
-            exit_answer(held)
-        }
-        Phase::Free(_) | Phase::Done(_) | Phase::Away => Happened::NotNow(Cause::NoFrame),
+    match running_in(phase, image) {
+        None => Happened::NotNow(Cause::NoFrame),
+        Some((held, _)) => exit_answer(held),
     }
 }
 
@@ -235,11 +206,8 @@ pub fn can_seal(phase: &Phase, image: &CheckedImage) -> Happened
     ensures value { (o : Older) → as_happened result
         ≡ answered (causes.NotNow causes.NoFrame) can_seal o (frame_in image.now.blocks phase.now) }
 {
-    match phase {
-        Phase::Going(running) => {
-            let held = running.held();
-            seal_answer(held, block_at(image, held.block()))
-        }
-        Phase::Free(_) | Phase::Done(_) | Phase::Away => Happened::NotNow(Cause::NoFrame),
+    match running_in(phase, image) {
+        None => Happened::NotNow(Cause::NoFrame),
+        Some((held, block)) => seal_answer(held, block),
     }
 }

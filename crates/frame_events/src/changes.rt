@@ -7,8 +7,8 @@ ghost use Rattle.commit_flush_spec.specs.Dropping.{stored_alone, exited_alone};
 ghost use Rattle.frame_events.specs.Phases.{HasBlock, Keeps, frame_in, changed};
 ghost use Rattle.frame_events.specs.Changes.{Declares, IsWord};
 
-use crate::answers::block_at;
 use crate::exits::departure;
+use crate::parts::block_at;
 use crate::phase::Phase;
 use block_check::CheckedImage;
 

@@ -10,18 +10,18 @@ mod changes;
 mod event;
 mod exits;
 mod law;
+mod parts;
 mod phase;
 mod telling;
 
-pub use answers::{
-    block_at, can_deliver, can_exit, can_fire, can_load, can_read, can_seal, can_store,
-};
+pub use answers::{can_deliver, can_exit, can_fire, can_load, can_read, can_seal, can_store};
 pub use changes::{deliver_in, exit_in, fire_in, load_in, read_in, store_in};
 pub use event::{Cause, Event, Happened};
 pub use exits::departure;
 pub use law::{answers_may_be_asked_by_number, empty_frames_may_be_filled};
+pub use parts::{block_at, flying};
 pub use phase::{Phase, empty_in, fill_in, seal_in};
 pub use telling::{
-    block_in, cause_in, exit_come, flying, is_sealed_in, is_serial_in, leads_to, outputs_in,
-    read_register, register_to, token_in, waiting_load, waiting_store,
+    block_in, cause_in, exit_come, is_sealed_in, is_serial_in, leads_to, outputs_in, read_register,
+    register_to, token_in, waiting_load, waiting_store,
 };

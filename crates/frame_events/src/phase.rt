@@ -6,7 +6,7 @@ ghost use Rattle.commit_flush_spec.specs.Frames.{fresh};
 ghost use Rattle.frame_events.specs.Phases.{HasBlock, IsFree, Keeps, changed, frame_in, generation_of, number_of};
 ghost use Rattle.frame_events.specs.Changes.{sealed_if};
 
-use crate::answers::block_at;
+use crate::parts::block_at;
 use block_check::CheckedImage;
 use frame_state::{Empty, Running, Sealed};
 use std::mem;

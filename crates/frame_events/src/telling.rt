@@ -1,15 +1,15 @@
 //! What a frame in flight tells to those who move the window.
-ghost use Rattle.std.specs.Prelude.{◌≡◌, Bool, Some, None, MatchOption, slice_get};
+ghost use Rattle.std.specs.Prelude.{◌≡◌, Bool, slice_get};
 ghost use Rattle.trips_isa.specs.declared.block.Block.{Block};
 ghost use Rattle.commit_flush_spec.specs.Older.{is_serial, makes_call, successor_of};
 ghost use Rattle.frame_state.specs.Held.{as_frame, taken_if, exit_of};
-ghost use Rattle.frame_events.specs.Phases.{HasBlock, frame_in, is_done};
+ghost use Rattle.frame_events.specs.Phases.{HasBlock, frame_in};
 ghost use Rattle.frame_events.specs.Told.{block_in, is_serial_in, register_of, read_register, token_in};
 ghost use Rattle.frame_events.specs.Told.{write_at, register_to, taken_by, waiting_load, stored_by, waiting_store};
 ghost use Rattle.frame_events.specs.Told.{exit_come, leads_to, is_sealed_in, cause_in, outputs_in};
 
-use crate::answers::block_at;
 use crate::exits::departure;
+use crate::parts::{flying, sealed_in};
 use crate::phase::Phase;
 use block_check::CheckedImage;
 use frame_state::{Body, Departure, Outputs, Took};
@@ -51,25 +51,6 @@ fn write_at(block: &Block, place: usize) -> Option<u8>
         Some(writes[write])
     } else {
         None
-    }
-}
-
-/// A frame in flight: what it holds, and its block.
-pub fn flying<'a>(phase: &'a Phase, image: &'a CheckedImage) -> Option<(&'a Body, &'a Block)>
-    requires block { HasBlock image.now.blocks phase.now }
-    ensures value { MatchOption result (frame_in image.now.blocks phase.now ≡ None)
-        (λ p. frame_in image.now.blocks phase.now ≡ Some (as_frame (is_done phase.now) p.1.now p.0.now)) }
-{
-    match phase {
-        Phase::Going(running) => {
-            let held = running.held();
-            Some((held, block_at(image, held.block())))
-        }
-        Phase::Done(sealed) => {
-            let held = sealed.held();
-            Some((held, block_at(image, held.block())))
-        }
-        Phase::Free(_) | Phase::Away => None,
     }
 }
 
@@ -222,13 +203,7 @@ pub fn is_sealed_in(phase: &Phase, image: &CheckedImage) -> bool
     requires block { HasBlock image.now.blocks phase.now }
     ensures value { result ≡ is_sealed_in (frame_in image.now.blocks phase.now) }
 {
-    match phase {
-        Phase::Done(sealed) => {
-            let _block = block_at(image, sealed.held().block());
-            true
-        }
-        Phase::Free(_) | Phase::Going(_) | Phase::Away => false,
-    }
+    sealed_in(phase, image).is_some()
 }
 
 /// The least mark of what a sealed frame hands to its commit, 0 for none.
@@ -236,9 +211,9 @@ pub fn cause_in(phase: &Phase, image: &CheckedImage) -> u8
     requires block { HasBlock image.now.blocks phase.now }
     ensures value { result ≡ cause_in (frame_in image.now.blocks phase.now) }
 {
-    match phase {
-        Phase::Done(sealed) => sealed.cause(block_at(image, sealed.held().block())),
-        Phase::Free(_) | Phase::Going(_) | Phase::Away => 0,
+    match sealed_in(phase, image) {
+        None => 0,
+        Some((sealed, block)) => sealed.cause(block),
     }
 }
 
@@ -247,8 +222,8 @@ pub fn outputs_in(phase: &Phase, image: &CheckedImage) -> Option<Outputs>
     requires block { HasBlock image.now.blocks phase.now }
     ensures value { result ≡ outputs_in (frame_in image.now.blocks phase.now) }
 {
-    match phase {
-        Phase::Done(sealed) => Some(sealed.outputs(block_at(image, sealed.held().block()))),
-        Phase::Free(_) | Phase::Going(_) | Phase::Away => None,
+    match sealed_in(phase, image) {
+        None => None,
+        Some((sealed, block)) => Some(sealed.outputs(block)),
     }
 }
