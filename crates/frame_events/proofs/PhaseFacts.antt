@@ -1,6 +1,6 @@
 -- A frame of the eight, seen with its block: what it is answered, what happens to it, and what it tells.
 use Rattle.std.proofs.Common.{◌≡◌, ℕ, zero, suc, ◌-◌, ◌^◌, ◌<◌, ◌==◌, Bool, true, false, cond, List, [], ◌∷◌, length}
-use Rattle.std.proofs.Common.{Option, Some, None, slice_get, ap, sym, subst, ◌∙◌, refl, absurd, arith}
+use Rattle.std.proofs.Common.{Option, Some, None, slice_get, ap, sym, subst, ◌∙◌, refl, arith}
 use Rattle.std.proofs.lemmas.Option.{slice_get_within}
 use Rattle.trips_isa.specs.declared.block.ReadSlot.{ReadSlot}
 use Rattle.trips_isa.specs.declared.block.Block.{Block}
@@ -23,17 +23,22 @@ pub first : (b : Bool) (c : Cause) (rest : List (Bool × Cause)) → b ≡ true 
 first true c rest e = refl
 first false c rest e = absurd (cc)
 
+-- a frame that runs is asked
+pub asked : (none : Happened) (can : Older → Frame → Happened) (o : Older) (z : Option Frame) (f : Frame) (x : Happened)
+    → z ≡ Some f → x ≡ can o f → x ≡ answered none can o z
+asked none can o z f x is e = e ∙ sym (ap (answered none can o) is)
+
 -- a frame that does not run answers as an empty one does, where its first cause is that it is sealed
 pub idle : (none : Happened) (can : Older → Frame → Happened) (o : Older) (z : Option Frame) → IsIdle z
     → ((f : Frame) → f.sealed ≡ true → none ≡ can o f) → none ≡ answered none can o z
-idle none can o None i e = refl
-idle none can o (Some f) i e = e f i
+idle x can o None i e = refl
+idle x can o (Some f) i e = e f i
 
 -- what is so of a frame that is not sealed, and of none
 pub unsealed : {A : Type 0} (tell : Option Frame → A) (x : A) (z : Option Frame) → IsOpen z → x ≡ tell None
     → ((f : Frame) → f.sealed ≡ false → x ≡ tell (Some f)) → x ≡ tell z
-unsealed tell x None i none some = none
-unsealed tell x (Some f) i none some = some f i
+unsealed tell x None i e g = e
+unsealed tell x (Some f) i e g = g f i
 
 -- a sealed frame is not running, and a running one not sealed, whatever its block
 pub is_idle : (h : Held) (z : Option Block) → IsIdle (with_block true h z)

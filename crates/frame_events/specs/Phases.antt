@@ -70,10 +70,10 @@ IsFree (Going h) = ⊥
 IsFree (Done h) = ⊥
 IsFree Away = ⊥
 
--- what an event of one frame is answered at a frame, and `none` at an empty one
+-- what an event of one frame is answered at a frame, and `idle` at an empty one
 abbrev pub answered : Happened → (Older → Frame → Happened) → Older → Option Frame → Happened
-answered none can o None = none
-answered none can o (Some f) = can o f
+answered idle can o None = idle
+answered idle can o (Some f) = can o f
 
 -- a frame that runs, changed; any other stays
 abbrev pub changed : (Frame → Frame) → Option Frame → Option Frame

@@ -1,7 +1,6 @@
 //! What a branch that fires makes known.
 ghost use Rattle.std.specs.Prelude.{◌≡◌, ◌<◌, length};
 ghost use Rattle.trips_isa.specs.Outcomes.{to_address, next_of};
-ghost use Rattle.block_check.specs.Images.{IsCheckedImage};
 ghost use Rattle.commit_flush_spec.specs.Ends.{exit_by};
 ghost use Rattle.frame_state.specs.Held.{exit_of};
 
@@ -11,9 +10,7 @@ use trips_isa::{Inst, Op, Token};
 
 // The block at an address, else block 0.
 fn addressed(image: &CheckedImage, token: Token) -> u32
-    requires checked { IsCheckedImage image.now }
-    ensures value { result ≡ to_address image.now.blocks token }
-    ensures within { result < length image.now.blocks }
+    ensures { result ≡ to_address image.now.blocks token }
 {
     match token {
         Token::Word(address) => {
@@ -29,10 +26,8 @@ fn addressed(image: &CheckedImage, token: Token) -> u32
 
 // The block that follows a block by the branch that it takes.
 fn successor(image: &CheckedImage, number: u32, leaving: Option<(Inst, Token)>) -> u32
-    requires number { number < length image.now.blocks }
-    requires checked { IsCheckedImage image.now }
-    ensures value { result ≡ next_of image.now.blocks number leaving }
-    ensures within { result < length image.now.blocks }
+    requires { number < length image.now.blocks }
+    ensures { result ≡ next_of image.now.blocks number leaving }
 {
     let Some((inst, token)) = leaving else {
         return 0;
@@ -52,7 +47,6 @@ pub fn departure(
     leaving: Option<(Inst, Token)>,
 ) -> Option<Departure>
     requires number { number < length image.now.blocks }
-    requires checked { IsCheckedImage image.now }
     ensures value { exit_of result ≡ exit_by image.now.blocks number leaving }
 {
     let successor = successor(image, number, leaving);
