@@ -35,7 +35,7 @@ module _ (slots : List (Option Frame)) (named : (m : ℕ) (f : Frame) → at slo
   past [] o e = refl
   past (m ∷ order) o e =
       let p : ((m == n) ≡ false) × (list_any (λ k. k == n) order ≡ false) =
-          neither (m == n) (list_any (λ k. k == n) order) e in
+      neither (m == n) (list_any (λ k. k == n) order) e in
       go (at slots m) refl p.0 (λ x. past order x p.1)
     where
       go : (h : Option Frame) → at slots m ≡ h → (m == n) ≡ false

@@ -12,14 +12,23 @@ use trips_isa::{Stored, Token};
 type Row = (Step, Happened);
 
 const DONE: Happened = Happened::Done;
+
 const NO_FRAME: Happened = Happened::NotNow(Cause::NoFrame);
+
 const NO_READ: Happened = Happened::NotNow(Cause::NoRead);
+
 const NOT_YET: Happened = Happened::NotNow(Cause::NotYet);
+
 const NO_INST: Happened = Happened::NotNow(Cause::NoInst);
+
 const NOT_READY: Happened = Happened::NotNow(Cause::NotReady);
+
 const NO_TOKEN: Happened = Happened::NotNow(Cause::NoToken);
+
 const NO_REQUEST: Happened = Happened::NotNow(Cause::NoRequest);
+
 const NO_EXIT: Happened = Happened::NotNow(Cause::NoExit);
+
 const MISSING: Happened = Happened::NotNow(Cause::Missing);
 
 /// To the end of the block: the load is answered before the store is resolved.
@@ -104,9 +113,12 @@ fn assert_outputs(rt: &impl Abort, phase: &Phase, image: &CheckedImage)
     };
     assert!(rt; cause_in(phase, image) == 0, "no mark");
     match outputs_in(phase, image) {
-        None => assert!(rt; false, "the frame is sealed"),
+        None => panic!(rt; "the frame is sealed"),
         Some(outputs) => {
-            assert!(rt; outputs.writes() == [Token::Word(42)].as_slice(), "the write");
+            assert!(rt;
+                outputs.writes() == [Token::Word(42)].as_slice(),
+                "the write"
+            );
             assert!(rt; outputs.stores() == [stored].as_slice(), "the store");
             assert!(rt; outputs.successor() == 0, "the next block");
         }

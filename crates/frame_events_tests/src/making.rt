@@ -53,13 +53,14 @@ pub fn filled(alloc: Global, image: &CheckedImage) -> Result<Phase, Fail>
     requires { 0 < length image.now.blocks }
     ensures { IfOk result (HasBlock image.now.blocks) }
 {
-    let empty = match Empty::make(alloc, 3) {
-        Ok(empty) => empty,
-        Err(error) => return Err(Fail::from(error)),
-    };
-    let mut phase = Phase::Free(empty);
-    fill_in(&mut phase, 0);
-    Ok(phase)
+    match Empty::make(alloc, 3) {
+        Ok(empty) => {
+            let mut phase = Phase::Free(empty);
+            fill_in(&mut phase, 0);
+            Ok(phase)
+        }
+        Err(error) => Err(Fail::from(error)),
+    }
 }
 
 /// An event of one frame, with what the frame sees: the word of a register where it is known, the number that the bytes
