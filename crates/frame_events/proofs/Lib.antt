@@ -1,2 +1,1 @@
 pub mod PhaseFacts
-pub mod NumberFacts

@@ -18,7 +18,7 @@ pub use answers::{can_deliver, can_exit, can_fire, can_load, can_read, can_seal,
 pub use changes::{deliver_in, exit_in, fire_in, load_in, read_in, store_in};
 pub use event::{Cause, Event, Happened};
 pub use exits::departure;
-pub use law::{answers_may_be_asked_by_number, empty_frames_may_be_filled};
+pub use law::empty_frames_may_be_filled;
 pub use parts::{block_at, flying};
 pub use phase::{Phase, empty_in, fill_in, seal_in};
 pub use telling::{
