@@ -1,0 +1,51 @@
+-- Tests of numbers.
+use Rattle.std.proofs.Common.{◌≡◌, ◌≢◌, ℕ, suc, ◌<◌, ◌≤◌, Bool, true, false, ◌==◌, ◌||◌, nat_lt, sym, ◌∙◌, ap, refl, arith}
+use Rattle.std.proofs.Common.{true≢false}
+use Rattle.std.proofs.lemmas.Bool.Decides.{nat_tests}
+
+pub equal_is : (a b : ℕ) → (a == b) ≡ true → a ≡ b
+equal_is a b e = grind (arith, nat_tests)
+
+pub is_equal : (a b : ℕ) → a ≡ b → (a == b) ≡ true
+is_equal a b e = grind (arith, nat_tests)
+
+pub apart : (a b : ℕ) → a ≢ b → (a == b) ≡ false
+apart a b ne = go (a == b) refl
+  where
+    go : (v : Bool) → (a == b) ≡ v → (a == b) ≡ false
+    go true e = absurd (ne (equal_is a b e))
+    go false e = e
+
+pub are_apart : (a b : ℕ) → (a == b) ≡ false → a ≢ b
+are_apart a b e same = true≢false (sym (is_equal a b same) ∙ e)
+
+pub flipped : (a b : ℕ) → (a == b) ≡ false → (b == a) ≡ false
+flipped a b e = apart b a (λ z. are_apart a b e (sym z))
+
+pub same_suc : (a b : ℕ) → (suc a == suc b) ≡ (a == b)
+same_suc a b = go (a == b) refl
+  where
+    go : (v : Bool) → (a == b) ≡ v → (suc a == suc b) ≡ v
+    go true e = is_equal (suc a) (suc b) (ap suc (equal_is a b e))
+    go false e = apart (suc a) (suc b) (λ z. let same : a ≡ b = omega arith in are_apart a b e same)
+
+pub below : (a b : ℕ) → a < b → nat_lt a b ≡ true
+below a b l = grind (arith, nat_tests)
+
+pub not_below : (a b : ℕ) → b ≤ a → nat_lt a b ≡ false
+not_below a b l = go (nat_lt a b) refl
+  where
+    go : (v : Bool) → nat_lt a b ≡ v → nat_lt a b ≡ false
+    go true e = let bad : a < b = grind (arith, nat_tests) in absurd (omega arith)
+    go false e = e
+
+pub below_is : (a b : ℕ) → nat_lt a b ≡ true → a < b
+below_is a b e = grind (arith, nat_tests)
+
+pub not_below_is : (a b : ℕ) → nat_lt a b ≡ false → b ≤ a
+not_below_is a b e = grind (arith, nat_tests)
+
+-- both parts of what does not hold do not hold
+pub neither : (a b : Bool) → (a || b) ≡ false → (a ≡ false) × (b ≡ false)
+neither true b e = absurd (cc)
+neither false b e = (refl, e)
