@@ -1,4 +1,5 @@
 pub mod Search
+pub mod Least
 pub mod Producers
 pub mod Quiet
 pub mod Stuck

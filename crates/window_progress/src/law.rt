@@ -1,10 +1,11 @@
 //! Laws of progress, over the window's definitions alone; each function's clause is the law.
-ghost use Rattle.std.specs.Prelude.{◌≡◌, ◌≢◌, ◌↔◌, ◌⊎◌, ◌<◌, ◌≤◌, ◌+◌, ◌-◌, ◌*◌, ◌||◌, ◌++◌, ℕ, false, true};
+ghost use Rattle.std.specs.Prelude.{◌≡◌, ◌≢◌, ◌↔◌, ◌⊎◌, ◌<◌, ◌≤◌, ◌+◌, ◌-◌, ◌*◌, ◌||◌, ◌++◌, ℕ, Bool, false, true};
 ghost use Rattle.std.specs.Prelude.{List, [], ◌∷◌, length, Some, None};
 ghost use Rattle.trips_isa.specs.declared.block.Block.{Block};
 ghost use Rattle.trips_isa.specs.declared.block.Token.{Token};
 ghost use Rattle.trips_isa.specs.declared.run.Stepped.TheVariants.{Went};
 ghost use Rattle.trips_isa.specs.Machine.{State, runs};
+ghost use Rattle.block_cases.specs.Orders.{IsLeast, NoneBelow};
 ghost use Rattle.commit_flush_spec.specs.Frames.{first_read_place, fresh, Frame, slot_node, token_places};
 ghost use Rattle.commit_flush_spec.specs.Sending.{send};
 ghost use Rattle.commit_flush_spec.specs.Older.{Older, after_all, committed};
@@ -16,7 +17,7 @@ ghost use Rattle.commit_flush_spec.specs.InFlight.{Window, change, in_flight, on
 ghost use Rattle.commit_flush_spec.specs.Window.{Event, can, happens, plays};
 ghost use Rattle.commit_flush_spec.specs.Invariant.{AllGood};
 ghost use Rattle.commit_flush_spec.specs.Laws.{WindowOk};
-ghost use Rattle.window_progress.specs.NextEvent.{is_done, next_event};
+ghost use Rattle.window_progress.specs.NextEvent.{is_done, lowest, next_event};
 ghost use Rattle.window_progress.specs.Observers.{is_asked, is_ready, is_unread};
 ghost use Rattle.window_progress.specs.Work.{none_guessed, price, work};
 ghost use Rattle.window_progress.specs.Driving.{driven, drives};
@@ -30,6 +31,12 @@ pub fn oldest_frames_are_never_stuck()
         → WindowOk blocks budget w → w.over ≡ Went → w.frames ≡ f ∷ fs → f.sealed ≡ false → complete f ≡ false
         → (e : Event) × (is_step_of f.number e ≡ true) × (is_guess f e ≡ false)
         × (can blocks budget e w ≡ Done) }
+{}
+
+/// The searches of the next event find the least number that passes, and none exactly where none passes.
+pub fn searches_find_the_least()
+    ensures some { (test : ℕ → Bool) (n j : ℕ) → (lowest test n 0 ≡ Some j) ↔ IsLeast test n j }
+    ensures none { (test : ℕ → Bool) (n : ℕ) → (lowest test n 0 ≡ None) ↔ NoneBelow test n }
 {}
 
 /// The next event would be done. There is none exactly where the run has ended or the budget's commits were made.
