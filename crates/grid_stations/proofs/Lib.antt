@@ -1,0 +1,4 @@
+pub mod FrameFacts
+pub mod NamedFacts
+pub mod LeastFacts
+pub mod AnswerFacts

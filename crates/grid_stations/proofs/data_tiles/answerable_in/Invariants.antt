@@ -1,0 +1,10 @@
+use Rattle.grid_cycle_spec.specs.DataTiles.{answers_request}
+use Rattle.grid_state.specs.Seen.{seen}
+use Rattle.grid_stations.specs.Asked.{frame_of, holds_of}
+use Rattle.grid_stations.proofs.LeastFacts.{NoneBelow}
+use Rattle.grid_stations.proofs.data_tiles.answerable_in.Given as goal
+
+abbrev pub invariant-loop-number : goal.invariant-loop-number
+invariant-loop-number g l = NoneBelow
+    (λ k. holds_of (λ f. answers_request (seen (g.V.Windows.held l.window) l.state) l.tile f k)
+    (frame_of l.frame (g.V.Windows.held l.window).frames)) l.number
