@@ -1,5 +1,6 @@
 pub mod MarkFacts
 pub mod NodeFacts
+pub mod StayFacts
 pub mod TargetFacts
 pub mod BitFacts
 pub mod CompleteFacts

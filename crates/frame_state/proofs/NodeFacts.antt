@@ -167,7 +167,7 @@ inst_asked d None = d
 inst_asked d (Some p) = p.1
 
 -- what waits with a number stands in its slot
-waits_in : (b : Block) (r : Option ℕ) (s : ℕ) (i : Inst) → with_inst b r ≡ Some (s, i) → slot_of b s ≡ Some i
+pub waits_in : (b : Block) (r : Option ℕ) (s : ℕ) (i : Inst) → with_inst b r ≡ Some (s, i) → slot_of b s ≡ Some i
 waits_in b None s i e = absurd (cc)
 waits_in b (Some t) s i e = go (slot_of b t) refl e
   where

@@ -1,6 +1,6 @@
 -- What a frame in flight holds beside its block, and the frame of the window's definitions that this is
 -- (docs/WINDOW.md, "A frame").
-use Rattle.std.specs.Prelude.{ℕ, ◌+◌, Bool, true, false, List, map, Option, Some, None}
+use Rattle.std.specs.Prelude.{◌≡◌, ℕ, ◌+◌, Bool, true, false, List, map, Option, Some, None}
 use Rattle.trips_isa.specs.declared.block.Stored.{Stored}
 use Rattle.trips_isa.specs.declared.block.Block.{Block}
 use Rattle.trips_isa.specs.declared.places.TheConstants.{FIRST_STORE}
@@ -101,3 +101,9 @@ as_exit d = record { exit = d.exit; system = d.system; successor = d.successor }
 abbrev pub exit_of : Option Departure → Option Exit
 exit_of None = None
 exit_of (Some d) = Some (as_exit d)
+
+-- a frame keeps its number, its block and its generation
+pub record Stays (old new : Held) : Type 0 where
+  pub number : new.number ≡ old.number
+  pub block : new.block ≡ old.block
+  pub generation : new.generation ≡ old.generation

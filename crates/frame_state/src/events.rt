@@ -3,14 +3,14 @@ ghost use Rattle.std.specs.Prelude.{◌≡◌, ◌||◌, Some, false, not, is_no
 ghost use Rattle.trips_isa.specs.Blocks.{leaves_with};
 ghost use Rattle.trips_isa.specs.Stores.{stored_of};
 ghost use Rattle.block_cases.specs.Orders.{slot_of};
-ghost use Rattle.commit_flush_spec.specs.Frames.{at, slot_node};
+ghost use Rattle.commit_flush_spec.specs.Frames.{at, slot_node, target};
 ghost use Rattle.commit_flush_spec.specs.Sending.{mark_with, token_with};
 ghost use Rattle.commit_flush_spec.specs.Older.{Older};
 ghost use Rattle.commit_flush_spec.specs.Dataflow.{read_answered, fire, deliver};
 ghost use Rattle.commit_flush_spec.specs.Memory as memory;
 ghost use Rattle.commit_flush_spec.specs.Memory.{request, load, taken_word, with_store};
 ghost use Rattle.commit_flush_spec.specs.Ends.{branch_of, branch_mark, with_exit};
-ghost use Rattle.frame_state.specs.Held.{exit_of, running};
+ghost use Rattle.frame_state.specs.Held.{Stays, exit_of, running};
 
 use crate::body::Body;
 use crate::parts::Departure;
@@ -100,10 +100,18 @@ impl Body {
         }
     }
 
+    /// The place of the block to which the token in a place goes.
+    pub fn target_of(&self, block: &Block, place: u16) -> usize
+        ensures value { result ≡ target block.now place }
+    {
+        target(block, place as usize)
+    }
+
     /// Puts the word of a declared read on its way.
     pub(crate) fn read(&mut self, block: &Block, read: u8, word: u64)
         requires { read < length block.now.reads.items }
-        ensures { running block.now self.new ≡ read_answered read (Some word) (running block.now self.old) }
+        ensures value { running block.now self.new ≡ read_answered read (Some word) (running block.now self.old) }
+        ensures stays { Stays self.old self.new }
     {
         let targets = read_targets(block, read as usize);
         self.put_read(read, targets, word);
@@ -111,7 +119,8 @@ impl Body {
 
     /// Fires what a slot holds: its token goes on its way, or a load, a store or a branch waits.
     pub(crate) fn fire(&mut self, block: &Block, slot: u8)
-        ensures { (o : Older) → running block.now self.new ≡ fire slot o (running block.now self.old) }
+        ensures value { (o : Older) → running block.now self.new ≡ fire slot o (running block.now self.old) }
+        ensures stays { Stays self.old self.new }
     {
         let inst = slot_of(block, slot as usize);
         self.fire_slot(inst, slot);
@@ -119,7 +128,8 @@ impl Body {
 
     /// Moves the token in a place to the place of the block that it goes to.
     pub(crate) fn deliver(&mut self, block: &Block, place: u16)
-        ensures { (o : Older) → running block.now self.new ≡ deliver place o (running block.now self.old) }
+        ensures value { (o : Older) → running block.now self.new ≡ deliver place o (running block.now self.old) }
+        ensures stays { Stays self.old self.new }
     {
         let to = target(block, place as usize);
         self.bring_to(place as usize, to);
@@ -129,9 +139,10 @@ impl Body {
     /// that the bytes which it sees make.
     pub(crate) fn answer(&mut self, block: &Block, number: u8, slot: u8, inst: Inst, bytes: u64)
         requires { request (running block.now self.old) number ≡ Some (slot, inst) }
-        ensures { (o : Older)
+        ensures value { (o : Older)
             → bytes ≡ taken_word o (running block.now self.old) number (memory.taken_of inst (at self.old.spots slot))
             → running block.now self.new ≡ load number o (running block.now self.old) }
+        ensures stays { Stays self.old self.new }
     {
         let took = self.took(inst, slot);
         self.note_answer(inst, slot, number, took, bytes);
@@ -140,17 +151,19 @@ impl Body {
     /// Resolves the store that waits with a number, which is the instruction of this slot.
     pub(crate) fn resolve(&mut self, block: &Block, number: u8, slot: u8, inst: Inst)
         requires { slot_of block.now slot ≡ Some inst }
-        ensures { running block.now self.new ≡ with_store number
+        ensures value { running block.now self.new ≡ with_store number
             (stored_of inst (at self.old.spots slot) (at self.old.spots (128 + slot)))
             (mark_with (running block.now self.old) (slot_node block.now slot)) (running block.now self.old) }
+        ensures stays { Stays self.old self.new }
     {
         self.note_store(inst, slot, number);
     }
 
     /// Makes an exit known; no branch waits any more.
     pub(crate) fn leave(&mut self, block: &Block, exit: Option<Departure>)
-        ensures { running block.now self.new ≡ with_exit (exit_of exit)
+        ensures value { running block.now self.new ≡ with_exit (exit_of exit)
             (branch_mark (running block.now self.old) self.old.leaving) (running block.now self.old) }
+        ensures stays { Stays self.old self.new }
     {
         let mark = self.branch_mark(block);
         self.note_exit(exit, mark);

@@ -10,7 +10,7 @@ ghost use Rattle.commit_flush_spec.specs.Dataflow.{read_answered, fire, deliver}
 ghost use Rattle.commit_flush_spec.specs.Memory as memory;
 ghost use Rattle.commit_flush_spec.specs.Memory.{request, load, taken_word, with_store};
 ghost use Rattle.commit_flush_spec.specs.Ends.{branch_mark, with_exit, complete, seal, outputs, cause_held};
-ghost use Rattle.frame_state.specs.Held.{exit_of, filled, running, sealed};
+ghost use Rattle.frame_state.specs.Held.{Stays, exit_of, filled, running, sealed};
 ghost use Rattle.frame_state.specs.Moves.{closed};
 
 use crate::body::Body;
@@ -104,6 +104,7 @@ impl Running {
     pub fn read(&mut self, block: &Block, read: u8, word: u64)
         requires declared { read < length block.now.reads.items }
         ensures value { running block.now self.new ≡ read_answered read (Some word) (running block.now self.old) }
+        ensures stays { Stays self.old self.new }
     {
         self.body.read(block, read, word);
     }
@@ -111,6 +112,7 @@ impl Running {
     /// Fires what a slot holds: its token goes on its way, or a load, a store or a branch waits.
     pub fn fire(&mut self, block: &Block, slot: u8)
         ensures value { (o : Older) → running block.now self.new ≡ fire slot o (running block.now self.old) }
+        ensures stays { Stays self.old self.new }
     {
         self.body.fire(block, slot);
     }
@@ -118,6 +120,7 @@ impl Running {
     /// Moves the token in a place to the place of the block that it goes to.
     pub fn deliver(&mut self, block: &Block, place: u16)
         ensures value { (o : Older) → running block.now self.new ≡ deliver place o (running block.now self.old) }
+        ensures stays { Stays self.old self.new }
     {
         self.body.deliver(block, place);
     }
@@ -129,6 +132,7 @@ impl Running {
         ensures value { (o : Older)
             → bytes ≡ taken_word o (running block.now self.old) number (memory.taken_of inst (at self.old.spots slot))
             → running block.now self.new ≡ load number o (running block.now self.old) }
+        ensures stays { Stays self.old self.new }
     {
         self.body.answer(block, number, slot, inst, bytes);
     }
@@ -139,6 +143,7 @@ impl Running {
         ensures value { running block.now self.new ≡ with_store number
             (stored_of inst (at self.old.spots slot) (at self.old.spots (128 + slot)))
             (mark_with (running block.now self.old) (slot_node block.now slot)) (running block.now self.old) }
+        ensures stays { Stays self.old self.new }
     {
         self.body.resolve(block, number, slot, inst);
     }
@@ -147,6 +152,7 @@ impl Running {
     pub fn leave(&mut self, block: &Block, exit: Option<Departure>)
         ensures value { running block.now self.new ≡ with_exit (exit_of exit)
             (branch_mark (running block.now self.old) self.old.leaving) (running block.now self.old) }
+        ensures stays { Stays self.old self.new }
     {
         self.body.leave(block, exit);
     }

@@ -1,18 +1,20 @@
 //! What a frame in flight tells of what it holds.
 ghost use Rattle.std.specs.Prelude.{◌≡◌, ◌<◌, ◌+◌, ◌*◌, ℕ, is_some, false, slice_index_or};
 ghost use Rattle.trips_isa.specs.declared.places.TheConstants.{FIRST_WRITE};
+ghost use Rattle.trips_isa.specs.Stores.{stored_of};
 ghost use Rattle.trips_isa.specs.declared.block.Block.{Block};
 ghost use Rattle.bit_rows.specs.Rows.{has_bit};
 ghost use Rattle.commit_flush_spec.specs.Frames.{at};
 ghost use Rattle.commit_flush_spec.specs.Memory as memory;
-ghost use Rattle.frame_state.specs.Held.{taken_of, taken_if, exit_of, running};
+ghost use Rattle.frame_state.specs.Held.{taken_of, taken_if, all_taken, exit_of, running};
 ghost use Rattle.frame_state.specs.Shapes.{IsShape, is_ready};
 
 use crate::body::Body;
 use crate::parts::{Departure, Took};
 use crate::ready::{come, matching, ready, waiting};
-use crate::rule::took;
+use crate::rule::{stored, took};
 use crate::shape::Shape;
+use bit_rows::Row;
 use trips_isa::{FIRST_WRITE, Inst, Stored, Token};
 
 impl Body {
@@ -51,6 +53,24 @@ impl Body {
         self.reads.has(read as usize)
     }
 
+    /// The token on its way in a place.
+    pub fn place(&self, p: usize) -> Option<Token>
+        ensures value { result ≡ at self.now.places p }
+    {
+        self.places.get(p)
+    }
+
+    /// The store that the store of a slot makes of what has come.
+    pub fn would_store(&self, inst: Inst, slot: u8) -> Option<Stored>
+        ensures value { result ≡ stored_of inst (at self.now.spots slot) (at self.now.spots (128 + slot)) }
+    {
+        stored(
+            inst,
+            self.spots.get(slot as usize),
+            self.spots.get(128 + slot as usize),
+        )
+    }
+
     /// Whether a token is on its way in a place.
     pub fn has_token(&self, p: usize) -> bool
         ensures value { result ≡ is_some (at self.now.places p) }
@@ -70,6 +90,20 @@ impl Body {
         ensures value { result ≡ at self.now.stores number }
     {
         self.stores.get(number as usize)
+    }
+
+    /// The resolved stores, by number.
+    pub fn stores(&self) -> &Row<Stored, 32, 1>
+        ensures value { result.now ≡ self.now.stores }
+    {
+        &self.stores
+    }
+
+    /// What the answered loads took, by number.
+    pub fn loads(&self) -> &Row<Took, 32, 1>
+        ensures value { all_taken result.now ≡ self.now.loads }
+    {
+        &self.loads
     }
 
     /// What the load of a number took, if it is answered.

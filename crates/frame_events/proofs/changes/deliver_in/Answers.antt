@@ -1,0 +1,11 @@
+use Rattle.std.proofs.Common.{ap, sym, ◌∙◌}
+use Rattle.commit_flush_spec.specs.Dataflow.{deliver}
+use Rattle.frame_events.specs.Phases.{changed, frame_in}
+use Rattle.frame_events.proofs.PhaseFacts.{going}
+use Rattle.frame_events.proofs.changes.deliver_in.Goals as goal
+
+pub returns-in-Going-clause-frame : goal.returns-in-Going-clause-frame
+returns-in-Going-clause-frame c = λ o.
+    going c.args.image.now.blocks c.block_at-block.result.now (deliver c.args.place o) c.in-Going.running c.deliver.new.self
+    (cc) c.deliver.ensures.stays (c.deliver.ensures.value o)
+    ∙ ap (λ p. changed (deliver c.args.place o) (frame_in c.args.image.now.blocks p)) (sym c.in-Going.is)

@@ -1,0 +1,4 @@
+pub mod Events
+pub mod Phases
+pub mod Changes
+pub mod Told
