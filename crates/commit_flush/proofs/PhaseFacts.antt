@@ -1,0 +1,151 @@
+-- What stands at a number or at an age of a window in code, told of the window that is seen.
+use Rattle.std.proofs.Common.{◌≡◌, ℕ, zero, suc, ◌-◌, ◌<◌, ◌≤◌, List, [], ◌∷◌, Option, Some, None, length, get_or}
+use Rattle.std.proofs.Common.{slice_get, refl, sym, ap, ◌∙◌, subst, arith}
+use Rattle.std.specs.Prelude.{MatchOption, slice_index}
+use Rattle.std.proofs.lemmas.Option.{slice_get_read}
+use Rattle.trips_isa.specs.declared.block.Image.{Image}
+use Rattle.trips_isa.specs.declared.run.Stepped.{Stepped}
+use Rattle.trips_isa.specs.Machine.{Machine}
+use Rattle.commit_flush_spec.specs.Frames.{Frame}
+use Rattle.commit_flush_spec.specs.Older.{Older, after_all, committed, successor_of}
+use Rattle.commit_flush_spec.specs.InFlight.{is_sealed}
+use Rattle.commit_flush_spec.specs.Invariant.{IsRunnable}
+use Rattle.reg_bank.specs.Ages as ages
+use Rattle.reg_bank.specs.Ages.{Ages}
+use Rattle.commit_flush_spec.specs.Numbered.{seen_at}
+use Rattle.commit_flush_order.specs.Banked.{word_read}
+use Rattle.commit_flush_order.proofs.BankFacts.{read_sees}
+use Rattle.commit_flush_order.specs.Places.{age_of, frame_of}
+use Rattle.commit_flush_order.proofs.OrderFacts.{slot_at, frame_at, number_below}
+use Rattle.commit_flush_order.proofs.FrameFacts.{runnable, youngest}
+use Rattle.frame_events.specs.declared.phase.Phase.{Phase}
+use Rattle.frame_events.specs.Phases.{HasBlock, frame_in, slots_of}
+use Rattle.frame_events.specs.Told.{exit_come, is_serial_in, is_sealed_in}
+use Rattle.commit_flush.specs.Seen.{IsSound, Seen, flying, window_of}
+use Rattle.commit_flush.specs.Youngest.{IsYoungest}
+use Rattle.commit_flush.proofs.SeenFacts.{good, eight, found, not_found, has_block, mapped_slot}
+
+module _ {image : Image} {budget : ℕ} {machine : Machine} {over : Stepped} {phases : List Phase} {order : List ℕ}
+    {registers : Ages} (s : IsSound image budget machine over phases order registers) where
+  abbrev pub seen : Seen
+  seen = record {
+    image = image;
+    budget = budget;
+    window = window_of image.blocks machine.state over phases order;
+  }
+
+  -- an item that is read
+  pub read_phase : (n : ℕ) (p : Phase) → n < 8 → p ≡ get_or phases n p → slice_get phases n ≡ Some p
+  read_phase n p l e = slice_get_read phases (length phases) n p refl (let k = eight s in omega arith) e
+
+  -- at a number of the eight
+  pub phase_found : (v : Seen) → seen ≡ v → (n : ℕ) (p : Phase) → n < 8 → p ≡ get_or phases n p
+      → frame_in v.image.blocks p ≡ frame_of n v.window.frames
+  phase_found v e n p l r =
+      subst (λ (z : Seen). frame_in z.image.blocks p ≡ frame_of n z.window.frames) e
+      (found s n p (read_phase n p l r))
+
+  pub phase_block : (v : Seen) → seen ≡ v → (n : ℕ) (p : Phase) → n < 8 → p ≡ get_or phases n p
+      → HasBlock v.image.blocks p
+  phase_block v e n p l r =
+      subst (λ (z : Seen). HasBlock z.image.blocks p) e (has_block s n p (read_phase n p l r))
+
+  -- past them
+  pub phase_past : (v : Seen) → seen ≡ v → (n : ℕ) → 8 ≤ n → frame_of n v.window.frames ≡ None
+  phase_past v e n l = subst (λ (z : Seen). frame_of n z.window.frames ≡ None) e (not_found s n l)
+
+  pub phase_runs : (v : Seen) → seen ≡ v → (n : ℕ) (f : Frame) → frame_of n v.window.frames ≡ Some f
+      → IsRunnable f.code
+  phase_runs v e n f w =
+      runnable image.blocks (good s) (flying image.blocks phases order) (committed machine.state) s.window.frames n f
+      (ap (λ (z : Seen). frame_of n z.window.frames) e ∙ w)
+
+  -- at an age
+  pub age_below : (a n : ℕ) → slice_get order a ≡ Some n → n < 8
+  age_below a n e = number_below order s.kept.once a n e
+
+  pub age_found : (v : Seen) → seen ≡ v → (a n : ℕ) (p : Phase) → slice_get order a ≡ Some n → p ≡ get_or phases n p
+      → frame_in v.image.blocks p ≡ slice_get v.window.frames a
+  age_found v e a n p o r =
+      subst (λ (z : Seen). frame_in z.image.blocks p ≡ slice_get z.window.frames a) e
+      (sym (mapped_slot image.blocks phases n p (read_phase n p (age_below a n o) r))
+      ∙ ap (slot_at (slots_of image.blocks phases)) (sym o)
+      ∙ sym (frame_at (slots_of image.blocks phases) order s.kept.there a))
+
+  pub age_block : (v : Seen) → seen ≡ v → (a n : ℕ) (p : Phase) → slice_get order a ≡ Some n → p ≡ get_or phases n p
+      → HasBlock v.image.blocks p
+  age_block v e a n p o r = phase_block v e n p (age_below a n o) r
+
+  pub age_past : (v : Seen) → seen ≡ v → (a : ℕ) → slice_get order a ≡ None → slice_get v.window.frames a ≡ None
+  age_past v e a o =
+      ap (λ (z : Seen). slice_get z.window.frames a) (sym e)
+      ∙ frame_at (slots_of image.blocks phases) order s.kept.there a
+      ∙ ap (slot_at (slots_of image.blocks phases)) o
+
+-- the youngest -----------------------------------------------------------------------------------
+
+-- as many as one more than its age
+pub is_youngest : (fs : List Frame) (n : ℕ) (z : Option Frame) → n ≡ length fs → (n ≡ 0 → ⊥) → z ≡ slice_get fs (n - 1)
+    → IsYoungest z fs
+is_youngest fs zero z e ne w = absurd (ne refl)
+is_youngest fs (suc n) z e ne w =
+    let at : z ≡ slice_get fs n = (let less : suc n - 1 ≡ n = omega arith in w ∙ ap (slice_get fs) less) in
+    subst (λ x. IsYoungest x fs) (sym at) (go fs n (sym e))
+  where
+    go : (gs : List Frame) (k : ℕ) → length gs ≡ suc k → IsYoungest (slice_get gs k) gs
+    go [] k l = absurd (omega arith)
+    go (g ∷ gs) zero l = (0, refl, l)
+    go (g ∷ gs) (suc k) l = deeper g gs (slice_get gs k) (go gs k (omega arith))
+      where
+        deeper : (h : Frame) (hs : List Frame) (x : Option Frame) → IsYoungest x hs → IsYoungest x (h ∷ hs)
+        deeper h hs None y = absurd y
+        deeper h hs (Some f) y = (suc y.0, y.1, ap suc y.2)
+
+pub none_flies : (fs : List Frame) → length fs ≡ 0 → fs ≡ []
+none_flies [] e = refl
+none_flies (f ∷ fs) e = absurd (omega arith)
+
+-- what is known behind it
+pub known_behind : (z : Option Frame) (fs : List Frame) (o : Older) → IsYoungest z fs
+    → successor_of (exit_come z) ≡ (after_all fs o).known
+known_behind None fs o y = absurd y
+known_behind (Some f) fs o y = sym (ap (λ (p : Older). p.known) (youngest fs o y.0 f y.1 y.2))
+
+pub serial_behind : (z : Option Frame) (fs : List Frame) (o : Older) → IsYoungest z fs
+    → is_serial_in z ≡ (after_all fs o).serial
+serial_behind None fs o y = absurd y
+serial_behind (Some f) fs o y = sym (ap (λ (p : Older). p.serial) (youngest fs o y.0 f y.1 y.2))
+
+-- the oldest -------------------------------------------------------------------------------------
+
+pub sealed_first : (z : Option Frame) (fs : List Frame) → z ≡ slice_get fs 0 → is_sealed_in z ≡ is_sealed fs
+sealed_first z [] e = ap is_sealed_in e
+sealed_first z (f ∷ fs) e = ap is_sealed_in e
+
+pub some_flies : (fs : List Frame) (n : ℕ) → n ≡ length fs → (n ≡ 0 → ⊥) → slice_get fs (n - 1) ≡ None → fs ≡ []
+some_flies fs zero e ne w = absurd (ne refl)
+some_flies fs (suc n) e ne w =
+    let less : suc n - 1 ≡ n = omega arith in
+    absurd (there fs n (omega arith) (ap (slice_get fs) (sym less) ∙ w))
+  where
+    there : (gs : List Frame) (k : ℕ) → k < length gs → slice_get gs k ≡ None → ⊥
+    there [] k l v = omega arith
+    there (g ∷ gs) zero l v = absurd (cc)
+    there (g ∷ gs) (suc k) l v = there gs k (omega arith) v
+
+-- what follows from what a clause says of both variants
+pub match_map : {X : Type 0} (r : Option X) {A B : Type 0} {P Q : X → Type 0} → MatchOption r A P → (A → B)
+    → ((x : X) → P x → Q x) → MatchOption r B Q
+match_map None m f g = f m
+match_map (Some x) m f g = g x m
+
+-- a read of a register through the banks is answered what the frame sees
+pub look_is : {image : Image} {budget : ℕ} {machine : Machine} {over : Stepped} {phases : List Phase} {order : List ℕ}
+    {registers : Ages} (s : IsSound image budget machine over phases order registers) (v : Seen) → seen s ≡ v
+    → (n a r word : ℕ) → age_of n v.window.frames ≡ Some a → word ≡ slice_index machine.state.registers r
+    → word_read (ages.read registers a r word)
+    ≡ (seen_at (committed v.window.state) v.window.frames n).look r
+look_is {image} {budget} {machine} {over} {phases} {order} {registers} s v w n a r word age is =
+    read_sees image.blocks (good s) (flying image.blocks phases order) (committed machine.state) s.window.frames
+    registers s.kept.banks n a r word (ap (λ (z : Seen). age_of n z.window.frames) w ∙ age) (ap Some (sym is))
+    ∙ ap (λ (z : Seen). (seen_at (committed z.window.state) z.window.frames n).look r) w

@@ -1,0 +1,5 @@
+pub mod Seen
+pub mod Emptied
+pub mod Tokens
+pub mod Left
+pub mod Youngest
