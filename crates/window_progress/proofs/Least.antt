@@ -1,6 +1,6 @@
 -- Searching finds the least number that passes a test, and none exactly where none passes.
-use Rattle.std.proofs.Common.{◌≡◌, ◌≢◌, ℕ, zero, suc, ◌+◌, ◌<◌, ◌≤◌, Bool, true, false, cond, ◌==◌, ◌⊎◌, ◌↔◌, inl, inr}
-use Rattle.std.proofs.Common.{Option, Some, None, refl, sym, ap, ◌∙◌, true≢false, arith}
+use Rattle.std.proofs.Common.{◌≡◌, ℕ, zero, suc, ◌+◌, ◌<◌, ◌≤◌, Bool, true, false, cond, ◌↔◌, inl, inr}
+use Rattle.std.proofs.Common.{Some, None, refl, sym, ap, ◌∙◌, true≢false, arith}
 use Rattle.block_cases.specs.Orders.{IsLeast, NoneBelow}
 use Rattle.commit_flush_spec.proofs.Lists.{equal_or}
 use Rattle.window_progress.specs.NextEvent.{lowest}

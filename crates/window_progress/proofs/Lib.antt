@@ -14,6 +14,7 @@ pub mod Ends
 pub mod Runs
 pub mod Unflushed
 pub mod Pace
+pub mod Lone
 pub mod Fills
 pub mod Bits
 pub mod StandardFacts

@@ -26,7 +26,7 @@ use Rattle.window_progress.proofs.Frames.{Lowers, step_lowers, seal_lowers, fres
 
 -- fetches ----------------------------------------------------------------------------------------
 
-there : (blocks : List Block) (k : ℕ) → k < length blocks → (b : Block) × (slice_get blocks k ≡ Some b)
+pub there : (blocks : List Block) (k : ℕ) → k < length blocks → (b : Block) × (slice_get blocks k ≡ Some b)
 there [] k l = absurd (omega (arith, l))
 there (b ∷ bs) zero l = (b, refl)
 there (b ∷ bs) (suc k) l = there bs k (omega (arith, l))

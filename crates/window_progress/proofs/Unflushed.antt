@@ -74,7 +74,7 @@ exit_stays blocks o f fs c sure =
     (exit_falls f (exit_by blocks f.block (branch_of f f.leaving)) (branch_mark f f.leaving)
     (λ z. true≢false (sym (ap is_none z) ∙ b.0))).stays sure
 
-step_stays : (blocks : List Block) → AllGood blocks → (w : Window) (f : Frame) (fs : List Frame)
+pub step_stays : (blocks : List Block) → AllGood blocks → (w : Window) (f : Frame) (fs : List Frame)
     → w.frames ≡ f ∷ fs → none_guessed f ≡ true → FrameOk blocks (committed w.state) f → (e : Event)
     → Stepping (committed w.state) f e → StaysOldest (done blocks e w).frames
 step_stays blocks good w f fs i sure ok e (Delivers p l z d) =

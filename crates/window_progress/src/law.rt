@@ -1,5 +1,5 @@
 //! Laws of progress, over the window's definitions alone; each function's clause is the law.
-ghost use Rattle.std.specs.Prelude.{◌≡◌, ◌≢◌, ◌↔◌, ◌⊎◌, ◌<◌, ◌≤◌, ◌+◌, ◌-◌, ◌*◌, ◌||◌, ◌++◌, ℕ, Bool, false, true};
+ghost use Rattle.std.specs.Prelude.{◌≡◌, ◌≢◌, ◌↔◌, ◌⊎◌, ◌<◌, ◌≤◌, ◌+◌, ◌-◌, ◌*◌, ◌||◌, ◌++◌, ℕ, suc, Bool, false, true};
 ghost use Rattle.std.specs.Prelude.{List, [], ◌∷◌, length, Some, None};
 ghost use Rattle.trips_isa.specs.declared.block.Block.{Block};
 ghost use Rattle.trips_isa.specs.declared.block.Token.{Token};
@@ -19,7 +19,7 @@ ghost use Rattle.commit_flush_spec.specs.Invariant.{AllGood};
 ghost use Rattle.commit_flush_spec.specs.Laws.{WindowOk};
 ghost use Rattle.window_progress.specs.NextEvent.{is_done, lowest, next_event};
 ghost use Rattle.window_progress.specs.Observers.{is_asked, is_ready, is_unread};
-ghost use Rattle.window_progress.specs.Work.{none_guessed, price, work};
+ghost use Rattle.window_progress.specs.Work.{anew, none_guessed, price, work};
 ghost use Rattle.window_progress.specs.Driving.{driven, drives};
 ghost use Rattle.window_progress.specs.Laws.{is_guess, is_step_of, IsNextIn, HasGenerations};
 ghost use Rattle.window_progress.specs.Laws.{IsFilled, MayFill, StaysOldest};
@@ -57,7 +57,7 @@ pub fn next_events_lower_the_work()
 
 /// Driving ends: after as many next events as work was left there is none any more. What it does is to play some
 /// events, and while it goes on these are at most a frame's price for each block that was committed and for the next.
-/// It may be done one event after another.
+/// Where driving began without a frame in flight a block takes fewer. It may be done one event after another.
 pub fn driving_ends()
     ensures ends { (blocks : List Block) (budget : ℕ) (w : Window) → AllGood blocks → WindowOk blocks budget w
         → HasGenerations budget w → next_event budget (driven blocks budget w) ≡ None }
@@ -72,6 +72,9 @@ pub fn driving_ends()
     ensures pace { (blocks : List Block) (budget n : ℕ) (w : Window) → AllGood blocks → WindowOk blocks budget w
         → HasGenerations budget w → next_event budget (drives blocks budget n w) ≢ None
         → n ≤ (length (drives blocks budget n w).state.trace - length w.state.trace + 1) * price }
+    ensures alone { (blocks : List Block) (budget n : ℕ) (w : Window) → AllGood blocks → WindowOk blocks budget w
+        → HasGenerations budget w → w.frames ≡ [] → next_event budget (drives blocks budget n w) ≢ None
+        → n ≤ (length (drives blocks budget n w).state.trace - length w.state.trace + 1) * suc anew }
 {}
 
 /// Driving is running: the window comes to the state and the answer of the machine's run within what is left of the

@@ -1,5 +1,6 @@
 use Rattle.window_progress.proofs.law.driving_ends.Goals as goal
 use Rattle.window_progress.proofs.Ends.{driven_ends, driven_steps, driven_rests, drives_play}
+use Rattle.window_progress.proofs.Lone.{fewer_events}
 use Rattle.window_progress.proofs.Pace.{few_events}
 
 pub returns-clause-ends : goal.returns-clause-ends
@@ -16,3 +17,6 @@ returns-clause-steps c = driven_steps
 
 pub returns-clause-rests : goal.returns-clause-rests
 returns-clause-rests c = driven_rests
+
+pub returns-clause-alone : goal.returns-clause-alone
+returns-clause-alone c = fewer_events
