@@ -1,0 +1,2 @@
+pub mod UnitFacts
+pub mod FetchFacts

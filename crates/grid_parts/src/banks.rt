@@ -1,0 +1,59 @@
+//! Part (3) of a cycle: banks answer reads.
+ghost use Rattle.std.specs.Prelude.{◌≡◌, ◌<◌, Some};
+ghost use Rattle.grid_cycle_spec.specs.Banks as spec;
+ghost use Rattle.grid_state.specs.Seen.{seen};
+
+use crate::grid::Grid;
+use grid_stations::{Windows, enter_both, readable};
+
+impl<V: Windows, W> Grid<V, W> {
+    // A bank answers a read of a frame, and its tokens enter the mesh.
+    fn answer_read(&mut self, bank: u8, frame: u8, read: u8)
+        requires bank { bank < 4 }
+        requires frame { frame < 8 }
+        requires read { read < 32 }
+        ensures change { seen (V.held self.new.window) self.new.state
+            ≡ spec.read_chosen (V.blocks self.old.window) (V.budget self.old.window) bank (Some (frame, read))
+            (seen (V.held self.old.window) self.old.state) }
+        ensures image { V.blocks self.new.window ≡ V.blocks self.old.window }
+        ensures budget { V.budget self.new.window ≡ V.budget self.old.window }
+    {
+        self.window.read(frame, read);
+        enter_both(
+            &self.window,
+            &mut self.state,
+            1 + bank,
+            frame,
+            256 + 2 * read as u16,
+        );
+    }
+
+    // A bank answers its eldest answerable read.
+    fn bank_turn(&mut self, bank: u8)
+        requires { bank < 4 }
+        ensures change { seen (V.held self.new.window) self.new.state
+            ≡ spec.bank_turn (V.blocks self.old.window) (V.budget self.old.window) bank
+            (seen (V.held self.old.window) self.old.state) }
+        ensures image { V.blocks self.new.window ≡ V.blocks self.old.window }
+        ensures budget { V.budget self.new.window ≡ V.budget self.old.window }
+    {
+        let frames = self.window.numbers();
+        match readable(&self.window, bank, frames.as_slice()) {
+            Some(chosen) => self.answer_read(bank, chosen.0, chosen.1),
+            None => {}
+        }
+    }
+
+    /// Part (3).
+    pub fn reads_answered(&mut self)
+        ensures change { seen (V.held self.new.window) self.new.state
+            ≡ spec.reads_answered (V.blocks self.old.window) (V.budget self.old.window)
+            (seen (V.held self.old.window) self.old.state) }
+        ensures image { V.blocks self.new.window ≡ V.blocks self.old.window }
+        ensures budget { V.budget self.new.window ≡ V.budget self.old.window }
+    {
+        for bank in 0..4u8 {
+            self.bank_turn(bank);
+        }
+    }
+}

@@ -1,0 +1,9 @@
+//! The grid.
+
+use grid_state::State;
+
+/// A window of frames in flight, and what moves it.
+pub struct Grid<V, W> {
+    pub window: V,
+    pub state: State<W>,
+}
