@@ -1,2 +1,4 @@
 pub mod UnitFacts
 pub mod FetchFacts
+pub mod FlushFacts
+pub mod EndFacts

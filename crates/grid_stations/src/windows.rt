@@ -177,12 +177,14 @@ pub trait Windows {
     fn can_fetch(&self, block: u32) -> bool
         ensures { result ≡ is_done (can (blocks self.now) (budget self.now) (event.Fetch block) (held self.now)) };
 
+    /// A block is fetched into the lowest empty frame, where that is done.
     fn fetch(&mut self, block: u32)
         ensures after { held self.new
             ≡ happens (blocks self.old) (budget self.old) (event.Fetch block) (held self.old) }
         ensures image { blocks self.new ≡ blocks self.old }
         ensures budget { budget self.new ≡ budget self.old };
 
+    /// A read of a frame is answered.
     fn read(&mut self, frame: u8, read: u8)
         requires { frame < 8 }
         ensures after { held self.new
@@ -190,6 +192,7 @@ pub trait Windows {
         ensures image { blocks self.new ≡ blocks self.old }
         ensures budget { budget self.new ≡ budget self.old };
 
+    /// A slot of a frame fires.
     fn fire(&mut self, frame: u8, slot: u8)
         requires frame { frame < 8 }
         requires slot { slot < 128 }
@@ -198,6 +201,7 @@ pub trait Windows {
         ensures image { blocks self.new ≡ blocks self.old }
         ensures budget { budget self.new ≡ budget self.old };
 
+    /// The token in a place of a frame is delivered.
     fn deliver(&mut self, frame: u8, place: u16)
         requires frame { frame < 8 }
         requires place { place < 320 }
@@ -206,6 +210,7 @@ pub trait Windows {
         ensures image { blocks self.new ≡ blocks self.old }
         ensures budget { budget self.new ≡ budget self.old };
 
+    /// The load that waits with a number is answered.
     fn load(&mut self, frame: u8, number: u8)
         requires frame { frame < 8 }
         requires number { number < 32 }
@@ -214,6 +219,7 @@ pub trait Windows {
         ensures image { blocks self.new ≡ blocks self.old }
         ensures budget { budget self.new ≡ budget self.old };
 
+    /// The store that waits with a number is resolved, and flushes what it makes wrong.
     fn store(&mut self, frame: u8, number: u8)
         requires frame { frame < 8 }
         requires number { number < 32 }
@@ -222,6 +228,7 @@ pub trait Windows {
         ensures image { blocks self.new ≡ blocks self.old }
         ensures budget { budget self.new ≡ budget self.old };
 
+    /// The branch that waits in a frame makes its exit known, and flushes frames of another block.
     fn exit(&mut self, frame: u8)
         requires { frame < 8 }
         ensures after { held self.new
@@ -229,6 +236,7 @@ pub trait Windows {
         ensures image { blocks self.new ≡ blocks self.old }
         ensures budget { budget self.new ≡ budget self.old };
 
+    /// A frame with all outputs is sealed.
     fn seal(&mut self, frame: u8)
         requires { frame < 8 }
         ensures after { held self.new
@@ -236,6 +244,7 @@ pub trait Windows {
         ensures image { blocks self.new ≡ blocks self.old }
         ensures budget { budget self.new ≡ budget self.old };
 
+    /// The oldest frame is committed, or traps.
     fn commit(&mut self)
         ensures after { held self.new
             ≡ happens (blocks self.old) (budget self.old) event.Commit (held self.old) }
