@@ -1,9 +1,13 @@
 -- What Commit makes of a window in code: the effects of the oldest frame are applied, or the run has ended.
 use Rattle.std.proofs.Common.{◌≡◌, ℕ, zero, suc, ◌<◌, Bool, true, false, not, nat_le, List, []}
 use Rattle.std.proofs.Common.{◌∷◌, Option, Some, None, length, map, set, take, drop, slice_get, refl, sym, ap, ap₂}
-use Rattle.std.proofs.Common.{◌∙◌, subst, arith, true≢false}
+use Rattle.std.proofs.Common.{◌∙◌, cond, subst, arith, true≢false}
 use Rattle.std.specs.Prelude.{All}
 use Rattle.std.proofs.lemmas.Bool.Decides.{nat_tests}
+use Rattle.std.proofs.Common.{get_or}
+use Rattle.std.specs.Prelude.{remove}
+use Rattle.std.proofs.lemmas.Option.{same_Some, none-some}
+use Rattle.trips_isa.specs.declared.block.Token.{Token}
 use Rattle.std.proofs.lemmas.List.{map-set}
 use Rattle.std.proofs.lemmas.List.Elements.{All-nil, All-cons, All-append, All-set}
 use Rattle.trips_isa.specs.declared.block.Stored.{Stored}
@@ -35,13 +39,17 @@ use Rattle.commit_flush_spec.proofs.Committing.{same_effects}
 use Rattle.reg_bank.specs.Ages.{Ages, drop_from, retire}
 use Rattle.commit_flush_order.specs.Places.{numbers_of, frame_of}
 use Rattle.commit_flush_order.specs.Kept.{AreKept}
+use Rattle.frame_events.specs.Told.{cause_in, outputs_in}
+use Rattle.commit_flush_order.proofs.OrderFacts.{number_below}
 use Rattle.commit_flush_order.proofs.FrameFacts.{oldest, none_oldest}
 use Rattle.commit_flush_order.proofs.KeptFacts.{drop_kept, retire_kept, oldest_left}
 use Rattle.frame_events.specs.declared.phase.Phase.{Phase}
 use Rattle.frame_events.specs.Phases.{HasBlock, Keeps, frame_in, generation_of, slots_of}
-use Rattle.commit_flush.specs.Seen.{IsSound, window_of}
+use Rattle.commit_flush.specs.Seen.{IsSound, Seen, window_of}
 use Rattle.commit_flush.specs.Emptied.{IsEmptied}
-use Rattle.commit_flush.proofs.SeenFacts.{good, numbers_seen}
+use Rattle.commit_flush.proofs.SeenFacts.{good, found, numbers_seen}
+use Rattle.commit_flush.proofs.PhaseFacts.{seen, read_phase}
+use Rattle.commit_flush.proofs.MoveFacts.{inside}
 use Rattle.commit_flush.proofs.AskFacts.{goes_on}
 use Rattle.commit_flush.proofs.EventFacts.{Becomes, becomes, made, same_generations, same_numbers}
 
@@ -227,3 +235,131 @@ never_empty blocks budget w d e =
     let none : w.frames ≡ [] = none_oldest w.frames e in
     let bad : true ≡ false = sym (ap (λ xs. not (is_sealed xs)) none) ∙ a.0 in
     true≢false bad
+
+-- what was told of the oldest frame ------------------------------------------------------------------
+
+effects_same : (o : Effects) (ws : List Token) (ss : List Stored) (x : ℕ) (y : Bool) (z : ℕ) → ws ≡ o.writes
+    → ss ≡ o.stores → x ≡ o.exit → y ≡ o.system → z ≡ o.successor
+    → (let e : Effects = record { writes = ws; stores = ss; exit = x; system = y; successor = z } in e) ≡ o
+effects_same o ws ss x y z a b c d e =
+    ap (λ (us : List Token). let r : Effects =
+    record { writes = us; stores = ss; exit = x; system = y; successor = z } in r) a
+    ∙ ap (λ (us : List Stored). let r : Effects =
+    record { writes = o.writes; stores = us; exit = x; system = y; successor = z } in r) b
+    ∙ ap (λ (u : ℕ). let r : Effects =
+    record { writes = o.writes; stores = o.stores; exit = u; system = y; successor = z } in r) c
+    ∙ ap (λ (u : Bool). let r : Effects =
+    record { writes = o.writes; stores = o.stores; exit = o.exit; system = u; successor = z } in r) d
+    ∙ ap (λ (u : ℕ). let r : Effects =
+    record { writes = o.writes; stores = o.stores; exit = o.exit; system = o.system; successor = u } in r) e
+
+module _ {image : Image} {budget : ℕ} {machine : Machine} {over : Stepped} {phases : List Phase} {order : List ℕ}
+    {registers : Ages} (s : IsSound image budget machine over phases order registers) where
+  abbrev was : Window
+  was = window_of image.blocks machine.state over phases order
+
+  -- it is one of the eight
+  pub oldest_below : (v : Seen) → seen s ≡ v → (n : ℕ) → slice_get (numbers_of v.window.frames) 0 ≡ Some n → n < 8
+  oldest_below v w n e = number_below order s.kept.once 0 n
+      (ap (λ xs. slice_get xs 0) (sym (numbers_seen s))
+      ∙ ap (λ (z : Seen). slice_get (numbers_of z.window.frames) 0) w ∙ e)
+
+  first_number : (v : Seen) → seen s ≡ v → (n : ℕ) → slice_get (numbers_of v.window.frames) 0 ≡ Some n
+      → slice_get (numbers_of was.frames) 0 ≡ Some n
+  first_number v w n e = ap (λ (z : Seen). slice_get (numbers_of z.window.frames) 0) w ∙ e
+
+  pub traps_told : (n c : ℕ) (v : Seen) → seen s ≡ v → can v.image.blocks v.budget Commit v.window ≡ Done
+      → slice_get (numbers_of v.window.frames) 0 ≡ Some n → c ≡ cause_in (frame_of n v.window.frames) → 0 < c
+      → (phases2 : List Phase) → IsEmptied (drop 0 order) phases phases2 → (order2 : List ℕ) → order2 ≡ take 0 order
+      → (registers2 : Ages) → (0 < 8 → registers2 ≡ drop_from registers 0)
+      → Becomes image budget was Commit machine (Trap c) phases2 order2 registers2
+  traps_told n c v w d e cause_is l phases2 emptied order2 cut registers2 dropped =
+      let d2 = inside s Commit v w d in
+      let t = has_oldest s d2 in
+      let f : Frame = t.0 in
+      let is : frame_of n was.frames ≡ Some f = frame_is s f t.1 t.2 n (first_number v w n e) in
+      let held : c ≡ cause_held f = cause_is
+      ∙ ap (λ (z : Seen). cause_in (frame_of n z.window.frames)) (sym w) ∙ ap cause_in is
+      ∙ ap (λ b. cond b (cause_held f) 0) t.2.sealed in
+      subst (λ x. Becomes image budget was Commit machine (Trap c) phases2 x registers2) (sym cut)
+      (traps s f t.1 t.2 d2 c l held phases2 emptied registers2 (dropped (omega arith)))
+
+  -- what it hands on is what its frame holds
+  handed : (v : Seen) → seen s ≡ v → can v.image.blocks v.budget Commit v.window ≡ Done → (n : ℕ)
+      → slice_get (numbers_of v.window.frames) 0 ≡ Some n → (p : Phase) → p ≡ get_or phases n p → (o : Effects)
+      → Some o ≡ outputs_in (frame_in image.blocks p) → (f : Frame) (fs : List Frame)
+      → IsOldest image.blocks budget was f fs → o ≡ outputs f
+  handed v w d n e p r o told f fs h =
+      let l = oldest_below v w n e in
+      let is : frame_in image.blocks p ≡ Some f = found s n p (read_phase s n p l r)
+      ∙ frame_is s f fs h n (first_number v w n e) in
+      let both : Some o ≡ Some (outputs f) = told ∙ ap outputs_in is
+      ∙ ap (λ b. cond b (Some (outputs f)) None) h.sealed in
+      same_Some o (outputs f) both
+
+  pub may_told : (v : Seen) → seen s ≡ v → can v.image.blocks v.budget Commit v.window ≡ Done → (n : ℕ)
+      → slice_get (numbers_of v.window.frames) 0 ≡ Some n → (p : Phase) → p ≡ get_or phases n p → (o : Effects)
+      → Some o ≡ outputs_in (frame_in image.blocks p) → MayApply image.blocks machine.state o
+  may_told v w d n e p r o told =
+      let t = has_oldest s (inside s Commit v w d) in
+      subst (MayApply image.blocks machine.state) (sym (handed v w d n e p r o told t.0 t.1 t.2))
+      (may_apply s t.0 t.1 t.2)
+
+  pub room_told : (v : Seen) → seen s ≡ v → can v.image.blocks v.budget Commit v.window ≡ Done
+      → length machine.state.trace < machine.budget
+  room_told v w d =
+      let t = has_oldest s (inside s Commit v w d) in
+      subst (λ b. length machine.state.trace < b) (sym s.room) t.2.room
+
+  -- a sealed frame is there
+  pub hands_on : (v : Seen) → seen s ≡ v → can v.image.blocks v.budget Commit v.window ≡ Done → (n : ℕ)
+      → slice_get (numbers_of v.window.frames) 0 ≡ Some n → (p : Phase) → p ≡ get_or phases n p
+      → None ≡ outputs_in (frame_in image.blocks p) → ⊥
+  hands_on v w d n e p r told =
+      let t = has_oldest s (inside s Commit v w d) in
+      let l = oldest_below v w n e in
+      let is : frame_in image.blocks p ≡ Some t.0 = found s n p (read_phase s n p l r)
+      ∙ frame_is s t.0 t.1 t.2 n (first_number v w n e) in
+      none-some (outputs t.0) (told ∙ ap outputs_in is ∙ ap (λ b. cond b (Some (outputs t.0)) None) t.2.sealed)
+
+  pub applies_told : (v : Seen) → seen s ≡ v → can v.image.blocks v.budget Commit v.window ≡ Done → (n : ℕ)
+      → slice_get (numbers_of v.window.frames) 0 ≡ Some n → cause_in (frame_of n v.window.frames) ≡ 0
+      → (p q : Phase) → p ≡ get_or phases n p → (o : Effects) → Some o ≡ outputs_in (frame_in image.blocks p)
+      → frame_in image.blocks q ≡ None → HasBlock image.blocks q → Keeps p q
+      → (ws : List Token) (ss : List Stored) (x : ℕ) (y : Bool) (z : ℕ) → ws ≡ o.writes → ss ≡ o.stores → x ≡ o.exit
+      → y ≡ o.system → z ≡ o.successor → (machine2 : Machine) (over2 : Stepped)
+      → IsApplied image.blocks (record { writes = ws; stores = ss; exit = x; system = y; successor = z }) machine.state
+      (machine2.state, over2) → machine2.budget ≡ machine.budget
+      → (order2 : List ℕ) → order2 ≡ remove order 0 → (registers2 : Ages) → registers2 ≡ retire registers
+      → Becomes image budget was Commit machine2 over2 (set phases n q) order2 registers2
+  applies_told v w d n e none p q r o told gone has keeps ws ss x y z ws_is ss_is x_is y_is z_is machine2 over2 applied
+      budget_is order2 cut registers2 retires =
+      let d2 = inside s Commit v w d in
+      let t = has_oldest s d2 in
+      let f : Frame = t.0 in
+      let h = t.2 in
+      let l = oldest_below v w n e in
+      let first : frame_of n was.frames ≡ Some f = frame_is s f t.1 h n (first_number v w n e) in
+      let unmarked : cause_held f ≡ 0 = sym (ap (λ (u : Seen). cause_in (frame_of n u.window.frames)) (sym w)
+      ∙ ap cause_in first ∙ ap (λ b. cond b (cause_held f) 0) h.sealed) ∙ none in
+      let begins : order ≡ f.number ∷ numbers_of t.1 = order_is s f t.1 h in
+      let numbered : f.number ≡ n = same_Some f.number n
+      (ap (λ xs. slice_get xs 0) (sym begins ∙ sym (numbers_seen s)) ∙ first_number v w n e) in
+      let order_n : order ≡ n ∷ numbers_of t.1 = begins ∙ ap (λ k. k ∷ numbers_of t.1) numbered in
+      let whole : o ≡ outputs f = handed v w d n e p r o told f t.1 h in
+      subst (λ k. Becomes image budget was Commit machine2 over2 (set phases n q) k registers2)
+      (sym (cut ∙ ap (λ xs. remove xs 0) order_n))
+      (applies s f t.1 h d2 unmarked n (numbers_of t.1) order_n p q (read_phase s n p l r) gone has keeps machine2 over2
+      (subst (λ k. IsApplied image.blocks k machine.state (machine2.state, over2))
+      (effects_same o ws ss x y z ws_is ss_is x_is y_is z_is ∙ whole) applied) budget_is registers2 retires)
+
+-- the frame that is read and the one that is changed are the same
+pub keeps_read : (p q r : Phase) (phases : List Phase) (n : ℕ) → p ≡ get_or phases n p → q ≡ get_or phases n q
+    → n < length phases → Keeps q r → Keeps p r
+keeps_read p q r phases n a b l k =
+    let same : q ≡ p = b ∙ same_default phases n q p l ∙ sym a in subst (λ x. Keeps x r) same k
+  where
+    same_default : (xs : List Phase) (j : ℕ) (d e : Phase) → j < length xs → get_or xs j d ≡ get_or xs j e
+    same_default [] j d e h = absurd (omega arith)
+    same_default (x ∷ xs) zero d e h = refl
+    same_default (x ∷ xs) (suc j) d e h = same_default xs j d e (omega arith)

@@ -16,3 +16,5 @@ pub mod PlayFacts
 pub mod MoveFacts
 pub mod CutFacts
 pub mod FetchAsked
+pub mod StoreTold
+pub mod LoadTold

@@ -6,8 +6,16 @@
 
 mod ages;
 mod asking;
+mod bytes;
+mod committing;
+mod dropping;
+mod filling;
+mod happening;
 mod looking;
+mod moving;
 mod orders;
+mod parts;
+mod storing;
 mod window;
 
 pub use window::Window;

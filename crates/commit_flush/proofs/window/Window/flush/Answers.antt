@@ -1,0 +1,33 @@
+use Rattle.std.proofs.Common.{ap, sym}
+use Rattle.commit_flush_spec.specs.Causes.{NoFrame, Done}
+use Rattle.commit_flush_spec.specs.Window.{can_now}
+use Rattle.commit_flush_spec.specs.Window as event
+use Rattle.reg_bank.specs.Ages.{at}
+use Rattle.commit_flush.proofs.SeenFacts.{orders_below}
+use Rattle.commit_flush.proofs.AskFacts.{goes_on, has_age}
+use Rattle.commit_flush.proofs.MoveFacts.{outside}
+use Rattle.commit_flush.proofs.CutFacts.{flushes_told}
+use Rattle.commit_flush.proofs.window.Window.flush.Goals as goal
+
+pub returns-in-None : goal.returns-in-None
+returns-in-None c =
+    let v = c.args.self.now in
+    absurd (has_age NoFrame (λ o f. Done) c.args.frame v.window
+    (goes_on v.window.over (can_now v.image.blocks v.budget (event.Flush c.args.frame) v.window) c.requires.done) (sym c.in-None.ensures.value))
+
+pub flush_from-requires : goal.flush_from-requires
+flush_from-requires c = orders_below c.self.invariant
+
+pub invariant_of-self : goal.invariant_of-self
+invariant_of-self c =
+    let s = c.self.invariant in
+    (flushes_told s c.args.frame c.in-Some.age _ c.self.view_is c.requires.done
+    c.in-Some.ensures.value _ c.flush_from.ensures.frames _ c.flush_from.ensures.order _ c.flush_from.ensures.dropped
+    (λ l. ap at (c.flush_from.ensures.same l))).sound
+
+pub returns-in-Some : goal.returns-in-Some
+returns-in-Some c =
+    let s = c.self.invariant in
+    outside s (event.Flush c.args.frame) _ c.self.view_is _ (flushes_told s c.args.frame c.in-Some.age _ c.self.view_is c.requires.done
+    c.in-Some.ensures.value _ c.flush_from.ensures.frames _ c.flush_from.ensures.order _ c.flush_from.ensures.dropped
+    (λ l. ap at (c.flush_from.ensures.same l))).same

@@ -1,0 +1,125 @@
+//! The bytes that a load of a frame in flight sees: of the nearest older stores, else of committed memory.
+ghost use Rattle.std.specs.Prelude.{◌≡◌, ◌<◌, ◌≤◌, ◌+◌, ◌^◌, ℕ, Some, length, slice_get, slice_index, take};
+ghost use Rattle.trips_isa.specs.Stores.{byte_seen, bytes_seen};
+ghost use Rattle.commit_flush_spec.specs.Causes as causes;
+ghost use Rattle.commit_flush_spec.specs.Frames.{Frame, at};
+ghost use Rattle.commit_flush_spec.specs.Older.{after_all, committed};
+ghost use Rattle.commit_flush_spec.specs.Numbered.{seen_at};
+ghost use Rattle.commit_flush_spec.specs.Window as window;
+ghost use Rattle.commit_flush_spec.specs.Window.{can, done};
+ghost use Rattle.frame_state.specs.Held.{taken_if};
+ghost use Rattle.frame_events.specs.Changes.{IsWord};
+ghost use Rattle.frame_events.specs.Phases.{HasBlock, frame_in};
+ghost use Rattle.frame_events.specs.Told.{waiting_load};
+ghost use Rattle.commit_flush_order.specs.Places.{frame_of};
+
+use crate::window::Window;
+use block_check::CheckedImage;
+use frame_events::{Phase, flying, load_in};
+use frame_state::Took;
+use lsq_order::seen_byte;
+
+// The byte behind the stores of a frame below a number, over the byte `under`.
+fn byte_behind(phase: &Phase, image: &CheckedImage, below: u8, address: u64, under: u8) -> u8
+    requires { HasBlock image.now.blocks phase.now }
+    ensures { (f : Frame) (mem : ℕ → ℕ) → frame_in image.now.blocks phase.now ≡ Some f → under ≡ mem address
+        → result ≡ byte_seen (at f.stores) mem below address }
+{
+    match flying(phase, image) {
+        None => under,
+        Some((held, _)) => seen_byte(held.stores(), below, address, under),
+    }
+}
+
+// The byte at an address of memory, and 0 past its end.
+fn byte_at(memory: &[u8], address: u64) -> u8
+    ensures { result ≡ slice_index memory.now address }
+{
+    if address < memory.len() as u64 {
+        memory[address as usize]
+    } else {
+        0
+    }
+}
+
+impl Window {
+    // The byte behind the stores of the frame of an age below a number, over the byte `under`.
+    fn behind(&self, age: u8, below: u8, address: u64, under: u8) -> u8
+        ensures { (f : Frame) (mem : ℕ → ℕ) → slice_get self.now.window.frames age ≡ Some f → under ≡ mem address
+            → result ≡ byte_seen (at f.stores) mem below address }
+    {
+        match self.phase_at(age) {
+            None => under,
+            Some(phase) => byte_behind(phase, self.image(), below, address, under),
+        }
+    }
+
+    // The byte at an address that the frame of an age sees of the older ones.
+    fn byte_older(&self, age: u8, address: u64) -> u8
+        requires { age ≤ length self.now.window.frames }
+        ensures { result
+            ≡ (after_all (take age self.now.window.frames) (committed self.now.window.state)).memory address }
+    {
+        let mut byte = byte_at(self.arch().memory(), address);
+        for a in 0..age {
+            byte = self.behind(a, 32, address, byte);
+        }
+        byte
+    }
+
+    // The number that the bytes make which a load of the frame of an age sees.
+    fn bytes(&self, age: u8, number: u8, address: u64, size: u8) -> u64
+        requires age { age < length self.now.window.frames }
+        requires size { size ≤ 8 }
+        requires address { address + size < 2 ^ 64 }
+        ensures { (f : Frame) → slice_get self.now.window.frames age ≡ Some f → result ≡ bytes_seen (at f.stores)
+            (after_all (take age self.now.window.frames) (committed self.now.window.state)).memory
+            number address size }
+    {
+        let mut bytes: u64 = 0;
+        for k in 0..size {
+            let at = address + k as u64;
+            let under = self.byte_older(age, at);
+            let byte = self.behind(age, number, at, under);
+            bytes = bytes * 256 + byte as u64;
+        }
+        bytes
+    }
+
+    // What the load of a frame that waits with a number takes.
+    fn takes(&self, frame: u8, number: u8) -> Option<Took>
+        ensures { taken_if result ≡ waiting_load number (frame_of frame self.now.window.frames) }
+    {
+        let phase = self.phase(frame)?;
+        frame_events::waiting_load(phase, self.image(), number)
+    }
+
+    // The number that the bytes make which the load of a frame takes that waits with a number.
+    fn loaded(&self, frame: u8, number: u8) -> u64
+        ensures { IsWord (seen_at (committed self.now.window.state) self.now.window.frames frame) number result
+            (frame_of frame self.now.window.frames) }
+    {
+        match self.age_of(frame) {
+            None => 0,
+            Some(age) => match self.takes(frame, number) {
+                None => 0,
+                Some(took) => match took {
+                    Took::Nothing => 0,
+                    Took::From(address, size) => self.bytes(age, number, address, size),
+                },
+            },
+        }
+    }
+
+    // Answers the load of a frame that waits with a number.
+    pub(crate) fn load(&mut self, frame: u8, number: u8)
+        requires done { can self.old.image.blocks self.old.budget (window.Load frame number) self.old.window
+            ≡ causes.Done }
+        ensures { self.new ≡ record self.old {
+          window = done self.old.image.blocks (window.Load frame number) self.old.window;
+        } }
+    {
+        let bytes = self.loaded(frame, number);
+        load_in(&mut self.frames[frame as usize], &self.image, number, bytes);
+    }
+}

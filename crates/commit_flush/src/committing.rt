@@ -1,0 +1,94 @@
+//! The event that changes the committed state: Commit.
+ghost use Rattle.std.specs.Prelude.{◌≡◌, ◌<◌, Some, slice_get};
+ghost use Rattle.commit_flush_spec.specs.Causes as causes;
+ghost use Rattle.commit_flush_spec.specs.Window as window;
+ghost use Rattle.commit_flush_spec.specs.Window.{can, done};
+ghost use Rattle.frame_events.specs.Told.{cause_in};
+ghost use Rattle.commit_flush_order.specs.Places.{frame_of, numbers_of};
+
+use crate::parts::flush_from;
+use crate::window::Window;
+use frame_events::{empty_in, outputs_in};
+use trips_isa::Stepped;
+
+impl Window {
+    // The least mark of what a sealed frame hands to its commit, 0 for none.
+    fn cause(&self, frame: u8) -> u8
+        ensures { result ≡ cause_in (frame_of frame self.now.window.frames) }
+    {
+        match self.phase(frame) {
+            None => 0,
+            Some(phase) => frame_events::cause_in(phase, self.image()),
+        }
+    }
+
+    // Ends the run at the oldest frame, which has a marked output, and empties all.
+    fn trap(&mut self, frame: u8, cause: u8)
+        requires done { can self.old.image.blocks self.old.budget window.Commit self.old.window ≡ causes.Done }
+        requires oldest { slice_get (numbers_of self.old.window.frames) 0 ≡ Some frame }
+        requires cause { cause ≡ cause_in (frame_of frame self.old.window.frames) }
+        requires marked { 0 < cause }
+        ensures { self.new ≡ record self.old {
+          window = done self.old.image.blocks window.Commit self.old.window;
+        } }
+    {
+        self.over = Stepped::Trap(cause);
+        flush_from(&mut self.frames, &mut self.order, &mut self.banks, 0);
+    }
+
+    // Applies the effects of the oldest frame, which has no marked output, and empties it.
+    fn apply(&mut self, frame: u8)
+        requires done { can self.old.image.blocks self.old.budget window.Commit self.old.window ≡ causes.Done }
+        requires oldest { slice_get (numbers_of self.old.window.frames) 0 ≡ Some frame }
+        requires unmarked { cause_in (frame_of frame self.old.window.frames) ≡ 0 }
+        ensures { self.new ≡ record self.old {
+          window = done self.old.image.blocks window.Commit self.old.window;
+        } }
+    {
+        match outputs_in(&self.frames[frame as usize], &self.image) {
+            None => {}
+            Some(outputs) => {
+                self.over = self.arch.apply(
+                    &self.image,
+                    outputs.writes(),
+                    outputs.stores(),
+                    outputs.exit(),
+                    outputs.system(),
+                    outputs.successor(),
+                );
+                let _ = self.order.remove(0);
+                empty_in(&mut self.frames[frame as usize]);
+                self.banks.retire();
+            }
+        }
+    }
+
+    // Commits this frame, which is the oldest.
+    fn commit_frame(&mut self, frame: u8)
+        requires done { can self.old.image.blocks self.old.budget window.Commit self.old.window ≡ causes.Done }
+        requires oldest { slice_get (numbers_of self.old.window.frames) 0 ≡ Some frame }
+        ensures { self.new ≡ record self.old {
+          window = done self.old.image.blocks window.Commit self.old.window;
+        } }
+    {
+        let cause = self.cause(frame);
+        if cause > 0 {
+            self.trap(frame, cause);
+        } else {
+            self.apply(frame);
+        }
+    }
+
+    // Commits the oldest frame.
+    pub(crate) fn commit(&mut self)
+        requires done { can self.old.image.blocks self.old.budget window.Commit self.old.window ≡ causes.Done }
+        ensures { self.new ≡ record self.old {
+          window = done self.old.image.blocks window.Commit self.old.window;
+        } }
+    {
+        match self.frame_at(0) {
+            None => {}
+            Some(frame) => self.commit_frame(frame),
+        }
+    }
+}

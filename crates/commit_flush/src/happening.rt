@@ -1,0 +1,55 @@
+//! Events, whatever they are, one by one and one after another.
+ghost use Rattle.std.specs.Prelude.{◌≡◌};
+ghost use Rattle.commit_flush_spec.specs.Causes as causes;
+ghost use Rattle.commit_flush_spec.specs.Window.{can, done, happens, plays};
+ghost use Rattle.frame_events.specs.Events.{as_event, as_events, as_happened};
+
+use crate::window::Window;
+use frame_events::{Event, Happened};
+
+impl Window {
+    // What an event does where it is done.
+    fn make_happen(&mut self, e: Event)
+        requires done { can self.old.image.blocks self.old.budget (as_event e) self.old.window ≡ causes.Done }
+        ensures { self.new ≡ record self.old { window = done self.old.image.blocks (as_event e) self.old.window } }
+    {
+        match e {
+            Event::Fetch { block } => self.fetch(block),
+            Event::Read { frame, read } => self.read(frame, read),
+            Event::Fire { frame, slot } => self.fire(frame, slot),
+            Event::Deliver { token } => self.deliver(token),
+            Event::Load { frame, number } => self.load(frame, number),
+            Event::Store { frame, number } => self.store(frame, number),
+            Event::Exit { frame } => self.exit(frame),
+            Event::Seal { frame } => self.seal(frame),
+            Event::Flush { frame } => self.flush(frame),
+            Event::Commit => self.commit(),
+        }
+    }
+
+    /// Lets an event happen, where no cause holds against it, and tells which does. Numbers may be any.
+    pub fn event(&mut self, e: Event) -> Happened
+        ensures answer { as_happened result
+            ≡ can self.old.image.blocks self.old.budget (as_event e) self.old.window }
+        ensures window { self.new ≡ record self.old {
+          window = happens self.old.image.blocks self.old.budget (as_event e) self.old.window;
+        } }
+    {
+        let happened = self.can(e);
+        if happened.is_done() {
+            self.make_happen(e);
+        }
+        happened
+    }
+
+    /// Plays events one after another.
+    pub fn play(&mut self, events: &[Event])
+        ensures window { self.new ≡ record self.old {
+          window = plays self.old.image.blocks self.old.budget (as_events events.now) self.old.window;
+        } }
+    {
+        for e in events {
+            let _ = self.event(*e);
+        }
+    }
+}
