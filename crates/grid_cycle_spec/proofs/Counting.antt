@@ -314,9 +314,9 @@ module _ {W : Type 0} (blocks : List Block) (budget : ℕ) where
     single = λ e l g h is c. quiet_adds g h
         (ap (λ (w : Window). length w.frames) is ∙ single_frames blocks budget e l g.window) c;
     flushing = act_adds;
-    filling = λ fills. fill_adds;
+    filling = λ c. fill_adds;
     committing = commit_adds;
-    counting = λ g a. a;
+    counting = λ c g a. a;
   }
 
   pub cycles_add_up : (next : W → ℕ) (follows : W → W → Type 0) (n : ℕ) (g h : Grid W) → AddsUp g

@@ -62,9 +62,9 @@ module _ {W : Type 0} (blocks : List Block) (budget : ℕ) where
     flushing = λ e l g. one_event blocks budget e g.window _
         (flushed_window (gone g.window (happens blocks budget e g.window))
         (record g { window = happens blocks budget e g.window }));
-    filling = λ fills f g may. one_event blocks budget (window.Fetch f.block) g.window _ refl;
+    filling = λ c f g may. one_event blocks budget (window.Fetch f.block) g.window _ refl;
     committing = λ g may. commit_events g.window.frames g;
-    counting = λ g. no_event blocks budget g.window g.window refl;
+    counting = λ c g. no_event blocks budget g.window g.window refl;
   }
 
   pub eager_steps : (next : W → ℕ) (follows : W → W → Type 0) (g h : Grid W) → Eager next follows blocks budget g h

@@ -50,9 +50,9 @@ IsFlushing (window.Store n m) = Unit {0}
 IsFlushing (window.Exit n) = Unit {0}
 IsFlushing e = ⊥
 
--- a relation of grids that all primitive changes keep; that a fetch ends keeps it where `Fills` holds, so that what is
--- kept by all parts but the fetches has `⊥` for it
-pub record Keeps {W : Type 0} (Fills : Type 0) (blocks : List Block) (budget : ℕ)
+-- a relation of grids that all primitive changes keep. That a frame is filled and that a cycle is counted keep it where
+-- `Counting` holds: what all other changes keep has `⊥` for it
+pub record Keeps {W : Type 0} (Counting : Type 0) (blocks : List Block) (budget : ℕ)
     (R : Grid W → Grid W → Type 0) : Type 0 where
   pub same : (g : Grid W) → R g g
   pub chain : (g m h : Grid W) → R g m → R m h → R g h
@@ -60,14 +60,14 @@ pub record Keeps {W : Type 0} (Fills : Type 0) (blocks : List Block) (budget : �
   pub single : (e : Event) → IsSingle e → (g h : Grid W) → h.window ≡ happens blocks budget e g.window
       → h.counts ≡ g.counts → R g h
   pub flushing : (e : Event) → IsFlushing e → (g : Grid W) → R g (act blocks budget e g)
-  pub filling : Fills → (f : Fetching) (g : Grid W) → may blocks budget (window.Fetch f.block) g ≡ true
+  pub filling : Counting → (f : Fetching) (g : Grid W) → may blocks budget (window.Fetch f.block) g ≡ true
       → R g (fills blocks budget f g)
   pub committing : (g : Grid W) → may blocks budget window.Commit g ≡ true
       → R g (commit_in blocks budget g.window.frames g)
-  pub counting : (g : Grid W) → R g (counted g)
+  pub counting : Counting → (g : Grid W) → R g (counted g)
 
-module _ {W Fills : Type 0} (blocks : List Block) (budget : ℕ) (R : Grid W → Grid W → Type 0)
-    (k : Keeps Fills blocks budget R) where
+module _ {W Counting : Type 0} (blocks : List Block) (budget : ℕ) (R : Grid W → Grid W → Type 0)
+    (k : Keeps Counting blocks budget R) where
   either : (g x y : Grid W) (b : Bool) → R g x → R g y → R g (cond b x y)
   either g x y true s t = s
   either g x y false s t = t
@@ -155,23 +155,23 @@ module _ {W Fills : Type 0} (blocks : List Block) (budget : ℕ) (R : Grid W →
 
   -- part (2) ---------------------------------------------------------------------------------------
 
-  fill_keeps : Fills → (b : Bool) (f : Fetching) (g : Grid W) → may blocks budget (window.Fetch f.block) g ≡ b
+  fill_keeps : Counting → (b : Bool) (f : Fetching) (g : Grid W) → may blocks budget (window.Fetch f.block) g ≡ b
       → R g (fill_where b blocks budget f g)
-  fill_keeps fills true f g e = k.filling fills f g e
-  fill_keeps fills false f g e = k.quiet g (record g { fetching = None }) refl refl
+  fill_keeps counting true f g e = k.filling counting f g e
+  fill_keeps counting false f g e = k.quiet g (record g { fetching = None }) refl refl
 
-  on_keeps : Fills → (left : ℕ) (f : Fetching) (g : Grid W) → R g (fetch_on blocks budget left f g)
-  on_keeps fills zero f g = fill_keeps fills (may blocks budget (window.Fetch f.block) g) f g refl
-  on_keeps fills (suc left) f g = k.quiet g (fetch_on blocks budget (suc left) f g) refl refl
+  on_keeps : Counting → (left : ℕ) (f : Fetching) (g : Grid W) → R g (fetch_on blocks budget left f g)
+  on_keeps counting zero f g = fill_keeps counting (may blocks budget (window.Fetch f.block) g) f g refl
+  on_keeps counting (suc left) f g = k.quiet g (fetch_on blocks budget (suc left) f g) refl refl
 
-  fetched_keeps : Fills → (o : Option Fetching) (g : Grid W) → R g (fetch_ends blocks budget o g)
-  fetched_keeps fills None g = k.same g
-  fetched_keeps fills (Some f) g = on_keeps fills f.left f g
+  fetched_keeps : Counting → (o : Option Fetching) (g : Grid W) → R g (fetch_ends blocks budget o g)
+  fetched_keeps counting None g = k.same g
+  fetched_keeps counting (Some f) g = on_keeps counting f.left f g
 
-  pub fetches_keep : Fills → (g : Grid W) → R g (fetches blocks budget g)
-  fetches_keep fills g =
+  pub fetches_keep : Counting → (g : Grid W) → R g (fetches blocks budget g)
+  fetches_keep counting g =
       let m : Grid W = fetch_ends blocks budget g.fetching g in
-      k.chain g m (begins blocks m) (fetched_keeps fills g.fetching g) (begins_keeps m.fetching m)
+      k.chain g m (begins blocks m) (fetched_keeps counting g.fetching g) (begins_keeps m.fetching m)
 
   -- part (3) ---------------------------------------------------------------------------------------
 
@@ -276,12 +276,12 @@ module _ {W Fills : Type 0} (blocks : List Block) (budget : ℕ) (R : Grid W →
   pub works_keep : (g : Grid W) → R g (works_on blocks budget g)
   works_keep g = each_keeps (unit_turn blocks budget) turn_keeps tiles g
 
-  pub acts_keep : Fills → (g : Grid W) → R g (acts blocks budget g)
-  acts_keep fills g =
+  pub acts_keep : Counting → (g : Grid W) → R g (acts blocks budget g)
+  acts_keep counting g =
       let a : Grid W = fetches blocks budget g in
       let b : Grid W = reads_answered blocks budget a in
       let c : Grid W = answers blocks budget b in
-      k.chain g a (works_on blocks budget c) (fetches_keep fills g)
+      k.chain g a (works_on blocks budget c) (fetches_keep counting g)
       (k.chain a b (works_on blocks budget c) (banks_keep a)
       (k.chain b c (works_on blocks budget c) (answers_keep b) (works_keep c)))
 
@@ -332,21 +332,21 @@ module _ {W Fills : Type 0} (blocks : List Block) (budget : ℕ) (R : Grid W →
 
   -- cycles -----------------------------------------------------------------------------------------
 
-  module _ (fills : Fills) (next : W → ℕ) (follows : W → W → Type 0) where
+  module _ (counting : Counting) (next : W → ℕ) (follows : W → W → Type 0) where
     moves_keep : (m h : Grid W) → Moves next follows blocks budget m h → R m h
     moves_keep m h moves =
         let g : Grid W = record m { parcels = moves.parcels; weather = moves.weather } in
         let a : Grid W = arrivals blocks budget (numbers_of m.window.frames) g in
         subst (λ x. R m x) (sym moves.arrived)
         (k.chain m g (counted a) (k.quiet m g refl refl)
-        (k.chain g a (counted a) (arrivals_keep (numbers_of m.window.frames) g) (k.counting a)))
+        (k.chain g a (counted a) (arrivals_keep (numbers_of m.window.frames) g) (k.counting counting a)))
 
     ended_keeps : (m h : Grid W) → h ≡ counted m → R m h
-    ended_keeps m h e = subst (λ x. R m x) (sym e) (k.counting m)
+    ended_keeps m h e = subst (λ x. R m x) (sym e) (k.counting counting m)
 
     follows_keep : (o : Stepped) (m h : Grid W) → Follows o next follows blocks budget m h → R m h
     follows_keep stepped.Went m h moves =
-        k.chain m (acts blocks budget m) h (acts_keep fills m) (moves_keep (acts blocks budget m) h moves)
+        k.chain m (acts blocks budget m) h (acts_keep counting m) (moves_keep (acts blocks budget m) h moves)
     follows_keep stepped.Ended m h e = ended_keeps m h e
     follows_keep stepped.StackFull m h e = ended_keeps m h e
     follows_keep (stepped.Trap c) m h e = ended_keeps m h e
