@@ -1,7 +1,7 @@
 -- Part (6): to take the eldest parcel that has come, again and again, is the fold over frames and places, since what
 -- is done with a parcel makes no other one come.
-use Rattle.std.proofs.Common.{◌≡◌, ◌≢◌, ℕ, zero, suc, ◌+◌, ◌*◌, ◌/◌, ◌<◌, ◌≤◌, ◌==◌, ◌&&◌, Bool, true, false, cond}
-use Rattle.std.proofs.Common.{nat_lt, ◌⊎◌, inl, inr, List, [], ◌∷◌, Option, Some, None, refl, sym, ap, ap₂, ◌∙◌, subst, arith}
+use Rattle.std.proofs.Common.{◌≡◌, ◌≢◌, ℕ, zero, suc, ◌+◌, ◌/◌, ◌<◌, ◌≤◌, ◌==◌, ◌&&◌, Bool, true, false, cond}
+use Rattle.std.proofs.Common.{nat_lt, ◌⊎◌, inl, inr, List, [], ◌∷◌, Option, Some, None, refl, sym, ap, ◌∙◌, subst, arith}
 use Rattle.std.specs.Option.{option_or}
 use Rattle.std.proofs.lemmas.Bool.{cases_eq, cases_lt, eq-eqb, and_from}
 use Rattle.trips_isa.specs.declared.block.Block.{Block}
@@ -20,8 +20,8 @@ use Rattle.commit_flush_spec.specs.Window.{Window, happens}
 use Rattle.grid_cycle_spec.specs.Grid.{Grid, is_of}
 use Rattle.grid_cycle_spec.specs.Acting.{act, flushed, gone}
 use Rattle.grid_cycle_spec.specs.Choosing.{each, places, with_frame}
-use Rattle.grid_cycle_spec.specs.Arrivals.{asks, delivers, is_waiting, load_arrives, slot_arrives, inst_arrives}
-use Rattle.grid_cycle_spec.specs.Arrivals.{place_arrives, arrives_if, arrival, arrivals}
+use Rattle.grid_cycle_spec.specs.Arrivals.{asks, delivers, is_waiting, slot_arrives, inst_arrives}
+use Rattle.grid_cycle_spec.specs.Arrivals.{place_arrives, arrives_if, arrival}
 use Rattle.grid_arrivals.specs.Quiet.{AreQuiet}
 
 places_are : places ≡ 320

@@ -41,7 +41,7 @@ module _ {W : Type 0} where
   committed_fit most made g r = let a = r.adds in let f = r.fetched in omega (arith, a, f)
 
   pub room_of : (g : Grid W) → IsCounted g → Room g.counts.cycles g.counts.cycles g
-  room_of g c = record { adds = c.adds; fetched = c.fetched; cycles = refl; }
+  room_of g c = record { adds = c.adds; fetched = c.fetched; cycles = refl }
 
   pub counted_of : (most made : ℕ) (g : Grid W) → most ≤ made → Room most made g → IsCounted g
   counted_of most made g le r = record {
@@ -67,11 +67,11 @@ module _ {W : Type 0} where
   same g = alike g g refl
 
   chained : (g m h : Grid W) → Quiet g m → Quiet m h → Quiet g h
-  chained g m h a b = record { fetched = b.fetched ∙ a.fetched; cycles = b.cycles ∙ a.cycles; }
+  chained g m h a b = record { fetched = b.fetched ∙ a.fetched; cycles = b.cycles ∙ a.cycles }
 
   flushed_quiet : (fs : List Frame) (g : Grid W) → Quiet g (flushed fs g)
   flushed_quiet [] g = same g
-  flushed_quiet (f ∷ fs) g = record { fetched = refl; cycles = refl; }
+  flushed_quiet (f ∷ fs) g = record { fetched = refl; cycles = refl }
 
   learning_quiet : (f : Frame) (o : Option Exit) (g : Grid W) → Quiet g (learning f o g)
   learning_quiet f None g = same g
@@ -82,7 +82,7 @@ module _ {W : Type 0} where
       → h.counts ≡ (learning f f.exit (record g { counts = one_committed g.counts })).counts → Quiet g h
   after_learning f g h e =
       let m : Grid W = record g { counts = one_committed g.counts } in
-      chained g m h (record { fetched = refl; cycles = refl; }) (chained m (learning f f.exit m) h
+      chained g m h (record { fetched = refl; cycles = refl }) (chained m (learning f f.exit m) h
       (learning_quiet f f.exit m) (alike (learning f f.exit m) h e))
 
   committed_quiet : (s : Stepped) (f : Frame) (fs : List Frame) (g : Grid W) → Quiet g (committed_as s f fs g)
@@ -98,7 +98,7 @@ module _ {W : Type 0} (blocks : List Block) (budget : ℕ) where
       let v : Window = happens blocks budget Commit g.window in
       let m : Grid W = record g { window = v } in
       let done : Quiet m (committed_as v.over f fs m) = committed_quiet v.over f fs m in
-      record { fetched = done.fetched; cycles = done.cycles; }
+      record { fetched = done.fetched; cycles = done.cycles }
 
   keeps : Keeps ⊥ blocks budget (λ (g h : Grid W). Quiet g h)
   keeps = record {
@@ -109,7 +109,7 @@ module _ {W : Type 0} (blocks : List Block) (budget : ℕ) where
     flushing = λ e l g.
         let v : Window = happens blocks budget e g.window in
         let q = flushed_quiet (gone g.window v) (record g { window = v }) in
-        record { fetched = q.fetched; cycles = q.cycles; };
+        record { fetched = q.fetched; cycles = q.cycles };
     filling = λ n. absurd n;
     committing = λ g may. commit_quiet g.window.frames g;
     counting = λ n. absurd n;
@@ -163,15 +163,15 @@ module _ {W : Type 0} (blocks : List Block) (budget : ℕ) where
     cycles : h.counts.cycles ≡ g.counts.cycles
 
   filled_more : (b : Bool) (f : Fetching) (g : Grid W) → OneMore g (fill_where b blocks budget f g)
-  filled_more true f g = record { fetched = omega arith; cycles = refl; }
-  filled_more false f g = record { fetched = omega arith; cycles = refl; }
+  filled_more true f g = record { fetched = omega arith; cycles = refl }
+  filled_more false f g = record { fetched = omega arith; cycles = refl }
 
   on_more : (left : ℕ) (f : Fetching) (g : Grid W) → OneMore g (fetch_on blocks budget left f g)
   on_more zero f g = filled_more (may blocks budget (Fetch f.block) g) f g
-  on_more (suc left) f g = record { fetched = omega arith; cycles = refl; }
+  on_more (suc left) f g = record { fetched = omega arith; cycles = refl }
 
   ends_more : (o : Option Fetching) (g : Grid W) → OneMore g (fetch_ends blocks budget o g)
-  ends_more None g = record { fetched = omega arith; cycles = refl; }
+  ends_more None g = record { fetched = omega arith; cycles = refl }
   ends_more (Some f) g = on_more f.left f g
 
   pub after_fetches : (most made : ℕ) (g k : Grid W) → k ≡ fetches blocks budget g → Room most made g
@@ -197,5 +197,5 @@ module _ {W : Type 0} (blocks : List Block) (budget : ℕ) where
       let m : Grid W = record g { parcels = moves.parcels; weather = moves.weather } in
       let a : Grid W = arrivals blocks budget (numbers_of g.window.frames) m in
       let there : Room most made a = after_arrivals most made m a (numbers_of g.window.frames) refl
-      (record { adds = r.adds; fetched = r.fetched; cycles = r.cycles; }) in
+      (record { adds = r.adds; fetched = r.fetched; cycles = r.cycles }) in
       after_count most made a k moves.arrived there

@@ -1,4 +1,4 @@
-use Rattle.std.proofs.Common.{◌<◌, sym, ap, ap₂, ◌∙◌, arith}
+use Rattle.std.proofs.Common.{sym, ap₂, ◌∙◌, arith}
 use Rattle.grid_cycle_spec.specs.Choosing.{each, places}
 use Rattle.grid_cycle_spec.specs.Arrivals.{arrival}
 use Rattle.grid_state.specs.Seen.{seen}

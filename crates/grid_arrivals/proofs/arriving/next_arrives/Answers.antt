@@ -1,10 +1,10 @@
-use Rattle.std.proofs.Common.{◌≡◌, ◌+◌, sym, ap, ◌∙◌, subst, arith}
+use Rattle.std.proofs.Common.{◌+◌, sym, ap, ◌∙◌, subst, arith}
 use Rattle.operand_net.specs.Places.{at}
 use Rattle.grid_cycle_spec.specs.Choosing.{each, places, with_frame}
 use Rattle.grid_cycle_spec.specs.Arrivals.{arrival, place_arrives}
 use Rattle.grid_state.specs.Seen.{seen}
 use Rattle.grid_arrivals.specs.Quiet.{AreQuiet}
-use Rattle.grid_arrivals.proofs.ArrivalFolds.{handled, next_found, next_folds, next_none, next_quiet}
+use Rattle.grid_arrivals.proofs.ArrivalFolds.{next_found, next_folds, next_none, next_quiet}
 use Rattle.grid_arrivals.proofs.arriving.next_arrives.Goals as goal
 
 pub place_arrives-requires-clause-room : goal.place_arrives-requires-clause-room

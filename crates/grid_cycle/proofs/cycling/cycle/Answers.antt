@@ -1,4 +1,4 @@
-use Rattle.std.proofs.Common.{◌≡◌, ◌+◌, sym, ap, ◌∙◌, arith}
+use Rattle.std.proofs.Common.{◌+◌, arith}
 use Rattle.trips_isa.specs.declared.run.Stepped.TheVariants as stepped
 use Rattle.grid_state.specs.Seen.{seen}
 use Rattle.grid_cycle.proofs.Eagerness.{eager_by, moves_by}

@@ -1,12 +1,11 @@
-use Rattle.std.proofs.Common.{◌≡◌, ◌+◌, sym, ap, ap₂, ◌∙◌, arith}
-use Rattle.grid_cycle_spec.specs.Fetches.{fetches}
+use Rattle.std.proofs.Common.{◌+◌, ap, ap₂, ◌∙◌, arith}
 use Rattle.grid_cycle_spec.specs.Banks.{reads_answered}
 use Rattle.grid_cycle_spec.specs.DataTiles.{answers}
 use Rattle.grid_cycle_spec.specs.Units.{works_on}
 use Rattle.grid_cycle_spec.specs.Cycles.{acts}
 use Rattle.grid_state.specs.Seen.{seen}
 use Rattle.grid_cycle.proofs.Eagerness.{moves_from}
-use Rattle.grid_cycle.proofs.Rooms.{Room, room_of, counted_of, flushed_fit}
+use Rattle.grid_cycle.proofs.Rooms.{room_of, counted_of, flushed_fit}
 use Rattle.grid_cycle.proofs.Rooms.{after_answers, after_banks, after_fetches, after_moves, after_works}
 use Rattle.grid_cycle.proofs.cycling.goes_on.Goals as goal
 

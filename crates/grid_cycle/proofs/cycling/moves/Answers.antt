@@ -1,4 +1,4 @@
-use Rattle.std.proofs.Common.{◌≡◌, length, sym, ap, ◌∙◌, arith}
+use Rattle.std.proofs.Common.{sym, ap, ◌∙◌, arith}
 use Rattle.operand_net.specs.Places.{at}
 use Rattle.grid_cycle_spec.specs.Grid.{numbers_of}
 use Rattle.grid_cycle_spec.specs.Arrivals.{arrivals}
