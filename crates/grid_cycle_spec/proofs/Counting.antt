@@ -306,7 +306,7 @@ module _ {W : Type 0} (blocks : List Block) (budget : ℕ) where
           (sym (happens_done blocks budget window.Commit g.window may ∙ ap (λ xs. commit xs g.window) e))
           (outcome_adds (unless (cause_held f) (outputs f)) f fs g e adds)
 
-  keeps : Keeps blocks budget (λ (g h : Grid W). AddsUp g → AddsUp h)
+  pub keeps : Keeps (Unit {0}) blocks budget (λ (g h : Grid W). AddsUp g → AddsUp h)
   keeps = record {
     same = λ g a. a;
     chain = λ g m h f k a. k (f a);
@@ -314,15 +314,15 @@ module _ {W : Type 0} (blocks : List Block) (budget : ℕ) where
     single = λ e l g h is c. quiet_adds g h
         (ap (λ (w : Window). length w.frames) is ∙ single_frames blocks budget e l g.window) c;
     flushing = act_adds;
-    filling = fill_adds;
+    filling = λ c. fill_adds;
     committing = commit_adds;
-    counting = λ g a. a;
+    counting = λ c g a. a;
   }
 
   pub cycles_add_up : (next : W → ℕ) (follows : W → W → Type 0) (n : ℕ) (g h : Grid W) → AddsUp g
       → AfterCycles next follows blocks budget n g h → AddsUp h
   cycles_add_up next follows n g h adds cycles =
-      cycles_keep blocks budget (λ (g h : Grid W). AddsUp g → AddsUp h) keeps next follows n g h cycles adds
+      cycles_keep blocks budget (λ (g h : Grid W). AddsUp g → AddsUp h) keeps tt next follows n g h cycles adds
 
 -- at the end of a run no frame is in flight
 pub closed_adds_up : {W : Type 0} (g : Grid W) → AddsUp g

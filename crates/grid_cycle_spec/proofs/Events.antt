@@ -53,7 +53,7 @@ module _ {W : Type 0} (blocks : List Block) (budget : ℕ) where
       (committed_window (happens blocks budget window.Commit g.window).over f fs
       (record g { window = happens blocks budget window.Commit g.window }))
 
-  keeps : Keeps blocks budget (λ (g h : Grid W). ByEvents blocks budget g.window h.window)
+  keeps : Keeps (Unit {0}) blocks budget (λ (g h : Grid W). ByEvents blocks budget g.window h.window)
   keeps = record {
     same = λ g. no_event blocks budget g.window g.window refl;
     chain = λ g m h. and_then blocks budget g.window m.window h.window;
@@ -62,18 +62,18 @@ module _ {W : Type 0} (blocks : List Block) (budget : ℕ) where
     flushing = λ e l g. one_event blocks budget e g.window _
         (flushed_window (gone g.window (happens blocks budget e g.window))
         (record g { window = happens blocks budget e g.window }));
-    filling = λ f g may. one_event blocks budget (window.Fetch f.block) g.window _ refl;
+    filling = λ c f g may. one_event blocks budget (window.Fetch f.block) g.window _ refl;
     committing = λ g may. commit_events g.window.frames g;
-    counting = λ g. no_event blocks budget g.window g.window refl;
+    counting = λ c g. no_event blocks budget g.window g.window refl;
   }
 
   pub eager_steps : (next : W → ℕ) (follows : W → W → Type 0) (g h : Grid W) → Eager next follows blocks budget g h
       → ByEvents blocks budget g.window h.window
   eager_steps next follows = eager_keeps blocks budget
-      (λ (g h : Grid W). ByEvents blocks budget g.window h.window) keeps next follows
+      (λ (g h : Grid W). ByEvents blocks budget g.window h.window) keeps tt next follows
 
   pub cycles_steps : (next : W → ℕ) (follows : W → W → Type 0) (n : ℕ) (g h : Grid W)
       → AfterCycles next follows blocks budget n g h
       → ByEvents blocks budget g.window h.window
   cycles_steps next follows = cycles_keep blocks budget
-      (λ (g h : Grid W). ByEvents blocks budget g.window h.window) keeps next follows
+      (λ (g h : Grid W). ByEvents blocks budget g.window h.window) keeps tt next follows

@@ -50,22 +50,24 @@ IsFlushing (window.Store n m) = Unit {0}
 IsFlushing (window.Exit n) = Unit {0}
 IsFlushing e = ⊥
 
--- a relation of grids that all primitive changes keep
-pub record Keeps {W : Type 0} (blocks : List Block) (budget : ℕ) (R : Grid W → Grid W → Type 0) : Type 0 where
+-- a relation of grids that all primitive changes keep. That a frame is filled and that a cycle is counted keep it where
+-- `Counting` holds: what all other changes keep has `⊥` for it
+pub record Keeps {W : Type 0} (Counting : Type 0) (blocks : List Block) (budget : ℕ)
+    (R : Grid W → Grid W → Type 0) : Type 0 where
   pub same : (g : Grid W) → R g g
   pub chain : (g m h : Grid W) → R g m → R m h → R g h
   pub quiet : (g h : Grid W) → h.window ≡ g.window → h.counts ≡ g.counts → R g h
   pub single : (e : Event) → IsSingle e → (g h : Grid W) → h.window ≡ happens blocks budget e g.window
       → h.counts ≡ g.counts → R g h
   pub flushing : (e : Event) → IsFlushing e → (g : Grid W) → R g (act blocks budget e g)
-  pub filling : (f : Fetching) (g : Grid W) → may blocks budget (window.Fetch f.block) g ≡ true
+  pub filling : Counting → (f : Fetching) (g : Grid W) → may blocks budget (window.Fetch f.block) g ≡ true
       → R g (fills blocks budget f g)
   pub committing : (g : Grid W) → may blocks budget window.Commit g ≡ true
       → R g (commit_in blocks budget g.window.frames g)
-  pub counting : (g : Grid W) → R g (counted g)
+  pub counting : Counting → (g : Grid W) → R g (counted g)
 
-module _ {W : Type 0} (blocks : List Block) (budget : ℕ) (R : Grid W → Grid W → Type 0)
-    (k : Keeps blocks budget R) where
+module _ {W Counting : Type 0} (blocks : List Block) (budget : ℕ) (R : Grid W → Grid W → Type 0)
+    (k : Keeps Counting blocks budget R) where
   either : (g x y : Grid W) (b : Bool) → R g x → R g y → R g (cond b x y)
   either g x y true s t = s
   either g x y false s t = t
@@ -110,7 +112,7 @@ module _ {W : Type 0} (blocks : List Block) (budget : ℕ) (R : Grid W → Grid 
   after_quiet (f ∷ []) g = behind_quiet f f.exit g
   after_quiet (f ∷ (h ∷ fs)) g = after_quiet (h ∷ fs) g
 
-  begins_keeps : (o : Option Fetching) (g : Grid W) → R g (fetch_begins blocks o g)
+  pub begins_keeps : (o : Option Fetching) (g : Grid W) → R g (fetch_begins blocks o g)
   begins_keeps (Some f) g = k.same g
   begins_keeps None g =
       let q : Quiet g (begun_after blocks g.window.frames g) = after_quiet g.window.frames g in
@@ -153,23 +155,23 @@ module _ {W : Type 0} (blocks : List Block) (budget : ℕ) (R : Grid W → Grid 
 
   -- part (2) ---------------------------------------------------------------------------------------
 
-  fill_keeps : (b : Bool) (f : Fetching) (g : Grid W) → may blocks budget (window.Fetch f.block) g ≡ b
+  fill_keeps : Counting → (b : Bool) (f : Fetching) (g : Grid W) → may blocks budget (window.Fetch f.block) g ≡ b
       → R g (fill_where b blocks budget f g)
-  fill_keeps true f g e = k.filling f g e
-  fill_keeps false f g e = k.quiet g (record g { fetching = None }) refl refl
+  fill_keeps counting true f g e = k.filling counting f g e
+  fill_keeps counting false f g e = k.quiet g (record g { fetching = None }) refl refl
 
-  on_keeps : (left : ℕ) (f : Fetching) (g : Grid W) → R g (fetch_on blocks budget left f g)
-  on_keeps zero f g = fill_keeps (may blocks budget (window.Fetch f.block) g) f g refl
-  on_keeps (suc left) f g = k.quiet g (fetch_on blocks budget (suc left) f g) refl refl
+  on_keeps : Counting → (left : ℕ) (f : Fetching) (g : Grid W) → R g (fetch_on blocks budget left f g)
+  on_keeps counting zero f g = fill_keeps counting (may blocks budget (window.Fetch f.block) g) f g refl
+  on_keeps counting (suc left) f g = k.quiet g (fetch_on blocks budget (suc left) f g) refl refl
 
-  fetched_keeps : (o : Option Fetching) (g : Grid W) → R g (fetch_ends blocks budget o g)
-  fetched_keeps None g = k.same g
-  fetched_keeps (Some f) g = on_keeps f.left f g
+  fetched_keeps : Counting → (o : Option Fetching) (g : Grid W) → R g (fetch_ends blocks budget o g)
+  fetched_keeps counting None g = k.same g
+  fetched_keeps counting (Some f) g = on_keeps counting f.left f g
 
-  fetches_keep : (g : Grid W) → R g (fetches blocks budget g)
-  fetches_keep g =
+  pub fetches_keep : Counting → (g : Grid W) → R g (fetches blocks budget g)
+  fetches_keep counting g =
       let m : Grid W = fetch_ends blocks budget g.fetching g in
-      k.chain g m (begins blocks m) (fetched_keeps g.fetching g) (begins_keeps m.fetching m)
+      k.chain g m (begins blocks m) (fetched_keeps counting g.fetching g) (begins_keeps m.fetching m)
 
   -- part (3) ---------------------------------------------------------------------------------------
 
@@ -182,7 +184,7 @@ module _ {W : Type 0} (blocks : List Block) (budget : ℕ) (R : Grid W → Grid 
       (frame_keeps (λ f h. enter_both (bank_node bank) f (first_read_place + 2 * q.1) h)
       (λ f h. both_keeps (bank_node bank) f (first_read_place + 2 * q.1) h) q.0 w.frames m)
 
-  banks_keep : (g : Grid W) → R g (reads_answered blocks budget g)
+  pub banks_keep : (g : Grid W) → R g (reads_answered blocks budget g)
   banks_keep g = each_keeps (bank_turn blocks budget)
       (λ bank x. read_keeps bank (eldest (answers_read blocks budget x bank) reads x.window.frames) x) banks g
 
@@ -220,7 +222,7 @@ module _ {W : Type 0} (blocks : List Block) (budget : ℕ) (R : Grid W → Grid 
       frame_keeps (λ f h. answered_by blocks budget tile c.0 c.1 (request f c.1) h)
       (λ f h. answered_keeps tile c.0 c.1 (request f c.1) h) c.0 g.window.frames g
 
-  answers_keep : (g : Grid W) → R g (answers blocks budget g)
+  pub answers_keep : (g : Grid W) → R g (answers blocks budget g)
   answers_keep g = each_keeps (data_turn blocks budget)
       (λ tile x. chosen_keeps tile (eldest (answers_request x tile) numbers x.window.frames) x) data_tiles g
 
@@ -271,15 +273,15 @@ module _ {W : Type 0} (blocks : List Block) (budget : ℕ) (R : Grid W → Grid 
       let m : Grid W = unit_on tile (g.units tile) g in
       k.chain g m (issues blocks budget tile m) (unit_keeps tile (g.units tile) g) (issues_keep tile m)
 
-  works_keep : (g : Grid W) → R g (works_on blocks budget g)
+  pub works_keep : (g : Grid W) → R g (works_on blocks budget g)
   works_keep g = each_keeps (unit_turn blocks budget) turn_keeps tiles g
 
-  pub acts_keep : (g : Grid W) → R g (acts blocks budget g)
-  acts_keep g =
+  pub acts_keep : Counting → (g : Grid W) → R g (acts blocks budget g)
+  acts_keep counting g =
       let a : Grid W = fetches blocks budget g in
       let b : Grid W = reads_answered blocks budget a in
       let c : Grid W = answers blocks budget b in
-      k.chain g a (works_on blocks budget c) (fetches_keep g)
+      k.chain g a (works_on blocks budget c) (fetches_keep counting g)
       (k.chain a b (works_on blocks budget c) (banks_keep a)
       (k.chain b c (works_on blocks budget c) (answers_keep b) (works_keep c)))
 
@@ -330,21 +332,21 @@ module _ {W : Type 0} (blocks : List Block) (budget : ℕ) (R : Grid W → Grid 
 
   -- cycles -----------------------------------------------------------------------------------------
 
-  module _ (next : W → ℕ) (follows : W → W → Type 0) where
+  module _ (counting : Counting) (next : W → ℕ) (follows : W → W → Type 0) where
     moves_keep : (m h : Grid W) → Moves next follows blocks budget m h → R m h
     moves_keep m h moves =
         let g : Grid W = record m { parcels = moves.parcels; weather = moves.weather } in
         let a : Grid W = arrivals blocks budget (numbers_of m.window.frames) g in
         subst (λ x. R m x) (sym moves.arrived)
         (k.chain m g (counted a) (k.quiet m g refl refl)
-        (k.chain g a (counted a) (arrivals_keep (numbers_of m.window.frames) g) (k.counting a)))
+        (k.chain g a (counted a) (arrivals_keep (numbers_of m.window.frames) g) (k.counting counting a)))
 
     ended_keeps : (m h : Grid W) → h ≡ counted m → R m h
-    ended_keeps m h e = subst (λ x. R m x) (sym e) (k.counting m)
+    ended_keeps m h e = subst (λ x. R m x) (sym e) (k.counting counting m)
 
     follows_keep : (o : Stepped) (m h : Grid W) → Follows o next follows blocks budget m h → R m h
     follows_keep stepped.Went m h moves =
-        k.chain m (acts blocks budget m) h (acts_keep m) (moves_keep (acts blocks budget m) h moves)
+        k.chain m (acts blocks budget m) h (acts_keep counting m) (moves_keep (acts blocks budget m) h moves)
     follows_keep stepped.Ended m h e = ended_keeps m h e
     follows_keep stepped.StackFull m h e = ended_keeps m h e
     follows_keep (stepped.Trap c) m h e = ended_keeps m h e

@@ -25,7 +25,7 @@ impl<V: Windows, W> Grid<V, W> {
 
     /// An event has happened to a window that had these frames: those that are gone have been flushed, and what is
     /// known of the next block settles what is fetched.
-    pub(crate) fn acted(&mut self, before: &[u8])
+    pub fn acted(&mut self, before: &[u8])
         requires within { All (λ n. n < 8) before.now }
         requires room { self.old.state.counts.flushed + length before.now < 2 ^ 64 }
         ensures change { (fs : List Frame) → numbers_of fs ≡ before.now

@@ -1,0 +1,2 @@
+pub mod ArrivalFolds
+pub mod PlaceFacts
