@@ -3,3 +3,4 @@ pub mod Emptied
 pub mod Tokens
 pub mod Left
 pub mod Youngest
+pub mod Telling

@@ -16,6 +16,7 @@ mod moving;
 mod orders;
 mod parts;
 mod storing;
+mod telling;
 mod window;
 
 pub use window::Window;
