@@ -1,0 +1,12 @@
+pub mod Counting
+pub mod Work
+pub mod Mesh
+pub mod Stuck
+pub mod Parts
+pub mod Units
+pub mod Kept
+pub mod Most
+pub mod Tiles
+pub mod Later
+pub mod Served
+pub mod Bounds

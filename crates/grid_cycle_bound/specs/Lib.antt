@@ -1,0 +1,5 @@
+pub mod Course
+pub mod Lane
+pub mod Serving
+pub mod Left
+pub mod Laws

@@ -1,0 +1,26 @@
+//! Laws of the lane, over its definitions alone; each function's clause is the law.
+ghost use Rattle.std.specs.Prelude.{◌≡◌, ◌<◌, ◌≤◌, ◌+◌, ℕ, suc};
+ghost use Rattle.grid_cycle_bound.specs.Course.{Course, Good};
+ghost use Rattle.grid_cycle_bound.specs.Lane.{Lane};
+ghost use Rattle.grid_cycle_bound.specs.Serving.{Served};
+ghost use Rattle.grid_cycle_bound.specs.Left.{left, price, total};
+ghost use Rattle.grid_cycle_bound.specs.Laws.{AfterServed, Falls, LaneRule};
+
+/// What is left for the block that commits next is from one cycle to its price. A cycle that serves it commits it, or
+/// keeps the rule and lowers what is left.
+pub fn served_cycles_fall()
+    ensures least { (program : ℕ → Course) (l : Lane) → 1 ≤ left program l }
+    ensures most { (program : ℕ → Course) (l : Lane) → LaneRule program l → left program l ≤ price (program l.done) }
+    ensures falls { (program : ℕ → Course) (l m : Lane) → Good (program l.done) → LaneRule program l
+        → Served program l m → Falls program l m }
+{}
+
+/// After n cycles that serve the oldest frame: with what is left they are within the price of the blocks committed
+/// since, and of the next. A cycle that commits keeps them within that of the blocks committed.
+pub fn cycles_are_bounded()
+    ensures moment { (program : ℕ → Course) (n : ℕ) (l m : Lane) → ((k : ℕ) → k ≤ m.done → Good (program k))
+        → LaneRule program l → AfterServed program n l m
+        → n + left program m + total program l.done ≤ total program m.done + price (program m.done) }
+    ensures commit { (program : ℕ → Course) (n : ℕ) (l m k : Lane) → ((i : ℕ) → i ≤ m.done → Good (program i))
+        → LaneRule program l → AfterServed program n l m → k.done ≡ suc m.done → suc n + total program l.done ≤ total program k.done }
+{}

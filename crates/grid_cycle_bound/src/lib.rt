@@ -1,0 +1,9 @@
+//! The cycle bound, as definitions and laws: what the block that commits next sees of the grid, and how many cycles
+//! it takes at most, whatever the other frames do.
+//!
+//! specs/Serving.antt has a cycle as the oldest frame sees it, specs/Left.antt what is left for it.
+#![tactic(auto)]
+
+mod law;
+
+pub use law::{cycles_are_bounded, served_cycles_fall};
