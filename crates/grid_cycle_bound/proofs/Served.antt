@@ -31,7 +31,7 @@ module _ (c : Course) (good : (x : ℕ) → GoodTask (c.task x)) (u : ℕ → �
   fetch_rule : (g : ℕ) (s : Stage) → StageRule c u s → StageRule c u (fetching g c s)
   fetch_rule g (Running f) r = r
   fetch_rule g (Fetching None s) r = omega arith
-  fetch_rule g (Fetching (Some zero) s) r = (refl, placed_fresh g c s, fine_fresh u g c s)
+  fetch_rule g (Fetching (Some zero) s) r = (refl, (placed_fresh g c s, fine_fresh u g c s))
   fetch_rule g (Fetching (Some (suc n)) s) r = let i : suc n ≤ 7 = r in omega (arith, i)
 
   fetch_falls : (g : ℕ) (o : Option ℕ) (s : Bool)
@@ -44,7 +44,7 @@ module _ (c : Course) (good : (x : ℕ) → GoodTask (c.task x)) (u : ℕ → �
 
   -- (3)
   read_rule : (s : Stage) → StageRule c u s → StageRule c u (reading s)
-  read_rule (Running f) r = (r.0, placed_read f r.1.0, fine_read u f (nodes f r.0) r.1.1)
+  read_rule (Running f) r = (r.0, (placed_read f r.1.0, fine_read u f (nodes f r.0) r.1.1))
   read_rule (Fetching o s) r = r
 
   reads_le : (s : Stage) → StageRule c u s → stage_left c u (reading s) ≤ stage_left c u s
@@ -98,7 +98,7 @@ module _ (c : Course) (good : (x : ℕ) → GoodTask (c.task x)) (u : ℕ → �
 
     turn_rule : (s : Stage) → StageRule c u s → Own s → StageRule c u2 (turning u s)
     turn_rule (Running f) r own =
-        (r.0, placed_units (less_one u) f r.1.0, fine_units u u2 f (nodes f r.0) (at_least f own) r.1.1)
+        (r.0, (placed_units (less_one u) f r.1.0, fine_units u u2 f (nodes f r.0) (at_least f own) r.1.1))
     turn_rule (Fetching o s) r own = r
 
     turns_le : (s : Stage) → StageRule c u s → Own s → stage_left c u2 (turning u s) ≤ stage_left c u s
@@ -119,7 +119,7 @@ module _ (c : Course) (good : (x : ℕ) → GoodTask (c.task x)) (u : ℕ → �
   -- (6)
   module _ (hold : ℕ → ℕ) (holds : (p : ℕ) → hold p ≤ 3) where
     move_rule : (s : Stage) → StageRule c u s → StageRule c u (moving hold s)
-    move_rule (Running f) r = (r.0, placed_move f hold r.1.0, fine_move f hold u holds r.1.1)
+    move_rule (Running f) r = (r.0, (placed_move f hold r.1.0, fine_move f hold u holds r.1.1))
     move_rule (Fetching o s) r = r
 
     moves_le : (s : Stage) → StageRule c u s → stage_left c u (moving hold s) ≤ stage_left c u s

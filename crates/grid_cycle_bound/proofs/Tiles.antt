@@ -167,8 +167,8 @@ module _ (c : Course) (good : (x : ℕ) → GoodTask (c.task x)) (u : ℕ → �
       go : (t ≡ Running (answer_one a.request f)) ⊎ ((f.careful ≡ false) × (t ≡ Fetching None true))
           → StageRule c u t × (stage_left c u t + 1 ≤ stage_left c u (Running f))
       go (inl e) = subst (λ t. StageRule c u t × (stage_left c u t + 1 ≤ stage_left c u (Running f))) (sym e)
-          ((r.0, answered_placed f a.request a.stands r.1.0,
-              answered_fine f a.request a.stands (tasks_of f r.0) u r.1.1),
+          ((r.0, (answered_placed f a.request a.stands r.1.0,
+              answered_fine f a.request a.stands (tasks_of f r.0) u r.1.1)),
            (let k : work u (answer_one a.request f) + 1 ≤ work u f =
                 answered_drop f a.request a.stands (tasks_of f r.0) u fits a.inside in omega (arith, k)))
       go (inr e) = subst (λ t. StageRule c u t × (stage_left c u t + 1 ≤ stage_left c u (Running f))) (sym e.1)
@@ -188,14 +188,14 @@ module _ (c : Course) (good : (x : ℕ) → GoodTask (c.task x)) (u : ℕ → �
   one_falls d (Running f) t r h (inr a) = (answered_one d f t r a).1
 
   -- some tiles: what stands at one of them, or still stands behind them
-  abbrev Some : ℕ → Stage → Stage → Type 0
-  Some d s t = StageRule c u t × ((stage_left c u t + 1 ≤ stage_left c u s) ⊎ ((t ≡ s) × ((k : ℕ) → k < d → Here k s → ⊥)))
+  abbrev After : ℕ → Stage → Stage → Type 0
+  After d s t = StageRule c u t × ((stage_left c u t + 1 ≤ stage_left c u s) ⊎ ((t ≡ s) × ((k : ℕ) → k < d → Here k s → ⊥)))
 
-  pub some_tiles : (d : ℕ) (s t : Stage) → StageRule c u s → TilesAnswer d s t → Some d s t
+  pub some_tiles : (d : ℕ) (s t : Stage) → StageRule c u s → TilesAnswer d s t → After d s t
   some_tiles zero s t r a = (subst (StageRule c u) (sym a) r, inr (a, λ k l. absurd (omega arith)))
   some_tiles (suc d) s t r a = go (some_tiles d s a.middle r a.before)
     where
-      go : Some d s a.middle → Some (suc d) s t
+      go : After d s a.middle → After (suc d) s t
       go (rm, inl l) = let k = one_tile d a.middle t rm a.after in (k.0, inl (lower k.1))
         where
           lower : (stage_left c u t + 1 ≤ stage_left c u a.middle) ⊎ (t ≡ a.middle) → stage_left c u t + 1 ≤ stage_left c u s

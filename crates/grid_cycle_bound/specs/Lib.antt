@@ -3,3 +3,5 @@ pub mod Lane
 pub mod Serving
 pub mod Left
 pub mod Laws
+pub mod Blocks
+pub mod Seen
