@@ -10,3 +10,5 @@ pub mod Tiles
 pub mod Later
 pub mod Served
 pub mod Bounds
+pub mod Sizes
+pub mod Tasks
