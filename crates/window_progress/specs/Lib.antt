@@ -1,0 +1,5 @@
+pub mod NextEvent
+pub mod Observers
+pub mod Work
+pub mod Driving
+pub mod Laws
