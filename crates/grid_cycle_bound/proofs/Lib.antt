@@ -12,3 +12,5 @@ pub mod Served
 pub mod Bounds
 pub mod Sizes
 pub mod Tasks
+pub mod Courses
+pub mod StandardFacts

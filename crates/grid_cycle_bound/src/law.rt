@@ -1,10 +1,17 @@
 //! Laws of the lane, over its definitions alone; each function's clause is the law.
-ghost use Rattle.std.specs.Prelude.{◌≡◌, ◌<◌, ◌≤◌, ◌+◌, ℕ, suc};
+ghost use Rattle.std.specs.Prelude.{◌≡◌, ◌≤◌, ◌+◌, ℕ, suc};
+ghost use Rattle.trips_isa.specs.declared.block.Block.{Block};
+ghost use Rattle.trips_isa.specs.Rule.{Answer};
+ghost use Rattle.trips_isa.specs.Blocks.{Responses, Solves};
+ghost use Rattle.trips_isa.specs.Fits.{FitsBlock};
+ghost use Rattle.commit_flush_spec.specs.Invariant.{IsRunnable};
+ghost use Rattle.grid_cycle_spec.specs.Costs.{cost};
 ghost use Rattle.grid_cycle_bound.specs.Course.{Course, Good};
 ghost use Rattle.grid_cycle_bound.specs.Lane.{Lane};
 ghost use Rattle.grid_cycle_bound.specs.Serving.{Served};
 ghost use Rattle.grid_cycle_bound.specs.Left.{left, price, total};
 ghost use Rattle.grid_cycle_bound.specs.Laws.{AfterServed, Falls, LaneRule};
+ghost use Rattle.grid_cycle_bound.specs.Blocks.{course_of};
 
 /// What is left for the block that commits next is from one cycle to its price. A cycle that serves it commits it, or
 /// keeps the rule and lowers what is left.
@@ -23,4 +30,11 @@ pub fn cycles_are_bounded()
         → n + left program m + total program l.done ≤ total program m.done + price (program m.done) }
     ensures commit { (program : ℕ → Course) (n : ℕ) (l m k : Lane) → ((i : ℕ) → i ≤ m.done → Good (program i))
         → LaneRule program l → AfterServed program n l m → k.done ≡ suc m.done → suc n + total program l.done ≤ total program k.done }
+{}
+
+/// The price of a block's course is the block's cost. The course of a good block is good, whatever its reads and loads
+/// are answered.
+pub fn courses_are_good()
+    ensures price { (b : Block) (g : ℕ → Answer) → FitsBlock b → price (course_of b g) ≡ cost b }
+    ensures good { (b : Block) (a : Responses) (g : ℕ → Answer) → IsRunnable b → Solves b a g → Good (course_of b g) }
 {}

@@ -6,4 +6,4 @@
 
 mod law;
 
-pub use law::{cycles_are_bounded, served_cycles_fall};
+pub use law::{courses_are_good, cycles_are_bounded, served_cycles_fall};
