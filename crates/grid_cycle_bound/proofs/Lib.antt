@@ -14,3 +14,4 @@ pub mod Sizes
 pub mod Tasks
 pub mod Courses
 pub mod StandardFacts
+pub mod Programs

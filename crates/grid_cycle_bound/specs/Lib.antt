@@ -5,3 +5,4 @@ pub mod Left
 pub mod Laws
 pub mod Blocks
 pub mod Seen
+pub mod Programs

@@ -6,4 +6,6 @@
 
 mod law;
 
-pub use law::{courses_are_good, cycles_are_bounded, served_cycles_fall};
+pub use law::{
+    courses_are_good, cycles_are_bounded, lanes_begin_right, programs_are_priced, served_cycles_fall,
+};
