@@ -1,55 +1,20 @@
--- The program of a run: its courses are good, and their prices are the cost of the trace.
+-- The prices of the blocks of a run are the cost of its trace.
 use Rattle.std.proofs.Common.{◌≡◌, ℕ, zero, suc, ◌+◌, ◌-◌, ◌*◌, ◌<◌, ◌≤◌, ◌⊎◌, inl, inr, Bool, true, false, cond, ◌==◌}
-use Rattle.std.proofs.Common.{List, [], ◌∷◌, ◌++◌, length, Option, Some, None, slice_get, refl, sym, ap, ap₂, ◌∙◌, subst}
+use Rattle.std.proofs.Common.{List, [], ◌∷◌, ◌++◌, length, Option, Some, None, slice_get, slice_index, refl, sym, ap, ap₂, ◌∙◌, subst}
 use Rattle.std.proofs.Common.{arith}
 use Rattle.std.proofs.lemmas.Bool.{cond_both}
 use Rattle.trips_isa.specs.declared.block.Block.{Block}
 use Rattle.trips_isa.specs.declared.run.Traced.{Traced}
 use Rattle.trips_isa.specs.declared.run.Stepped.{Stepped}
 use Rattle.trips_isa.specs.declared.run.Stepped.TheVariants.{Went, Ended, StackFull, Trap}
-use Rattle.trips_isa.specs.Tables.{deepest}
-use Rattle.trips_isa.specs.Blocks.{token_of}
 use Rattle.trips_isa.specs.Outcomes.{Effects, Outcome, Comes, Faults, outcome}
 use Rattle.trips_isa.specs.Machine.{State, changed, with_input, system_call, then_system, apply, come_to, step_in, step_of}
 use Rattle.trips_isa.specs.Machine.{goes_on, runs}
-use Rattle.block_cases.proofs.Settled.{token_solves}
-use Rattle.commit_flush_spec.specs.Invariant.{AllGood, IsRunnable}
 use Rattle.grid_cycle_spec.specs.Costs.{cost, cost_in, cost_of}
 use Rattle.grid_cycle_spec.proofs.Routes.{cost_more}
-use Rattle.grid_cycle_bound.specs.Course.{Course, GoodTask, GoodBy, Good, Member, Fed}
 use Rattle.grid_cycle_bound.specs.Left.{price, total}
-use Rattle.grid_cycle_bound.specs.Blocks.{vacant, course_of}
-use Rattle.grid_cycle_bound.specs.Programs.{empty_course, course_in, course_at, program_from}
+use Rattle.grid_cycle_bound.specs.Programs.{size_in, sizes_from}
 use Rattle.grid_cycle_bound.proofs.Sizes.{price_is}
-use Rattle.grid_cycle_bound.proofs.Tasks.{vacant_good}
-use Rattle.grid_cycle_bound.proofs.Courses.{course_good}
-
--- courses -----------------------------------------------------------------------------------------
-
-empty_good : Good empty_course
-empty_good = record {
-  rank = λ x. 0;
-  top = 0;
-  by = record {
-    good = λ x. vacant_good;
-    fed = λ x q l m k. absurd (omega (arith, l));
-    held = λ x q l m k. absurd (omega (arith, l));
-    ends = λ q k. absurd k;
-  };
-}
-
-pub program_good : (blocks : List Block) (s : State) (n : ℕ) → AllGood blocks → Good (program_from blocks s n)
-program_good blocks s n good = go (slice_get blocks t.next) refl
-  where
-    t : State
-    t = (runs blocks s (n - length s.trace)).0
-    go : (o : Option Block) → slice_get blocks (runs blocks s (n - length s.trace)).0.next ≡ o
-        → Good (course_in (runs blocks s (n - length s.trace)).0 o)
-    go None e = empty_good
-    go (Some b) e =
-        let r : IsRunnable b = good (runs blocks s (n - length s.trace)).0.next b e in
-        let u : State = (runs blocks s (n - length s.trace)).0 in
-        course_good b r _ (token_of b u.registers u.memory deepest) (token_solves b u.registers u.memory r.good.ranked)
 
 -- traces ------------------------------------------------------------------------------------------
 
@@ -70,7 +35,7 @@ applied_trace : (writes : List ℕ) (o : Effects) (s : State)
 applied_trace writes o s = go o.system
   where
     go : (b : Bool) → (then_system b (changed writes o s)).0.trace ≡ s.trace ++ (record { block = s.next; exit = o.exit }) ∷ []
-    go true = call_trace _ (changed writes o s)
+    go true = call_trace (slice_index (changed writes o s).registers 0) (changed writes o s)
     go false = refl
 
 -- a step leaves the trace, or adds its block to it
@@ -109,7 +74,7 @@ runs_none : (blocks : List Block) (s : State) → (runs blocks s zero).0 ≡ s
 unfolding runs
 runs_none blocks s = refl
 
-module _ (blocks : List Block) (good : AllGood blocks) (s : State) where
+module _ (blocks : List Block) (s : State) where
   abbrev after : ℕ → State
   after n = (runs blocks s n).0
 
@@ -121,49 +86,49 @@ module _ (blocks : List Block) (good : AllGood blocks) (s : State) where
   at_most : (n : ℕ) → length (after n).trace ≤ length s.trace + n
   at_most zero = let e : length (after 0).trace ≡ length s.trace = ap (λ t. length t.trace) (runs_none blocks s) in
       omega (arith, e)
-  at_most (suc n) = go (next_adds n)
+  at_most (suc n) = go (at_most n) (next_adds n)
     where
-      go : Adds blocks (after n) (after (suc n)) → length (after (suc n)).trace ≤ length s.trace + suc n
-      go (inl e) = let h = at_most n in
+      go : length (after n).trace ≤ length s.trace + n → Adds blocks (after n) (after (suc n))
+          → length (after (suc n)).trace ≤ length s.trace + suc n
+      go h (inl e) =
           let k : length (after (suc n)).trace ≡ length (after n).trace = ap length e in omega (arith, h, k)
-      go (inr (b, x, i, j, e)) = let h = at_most n in
+      go h (inr (b, x, i, j, e)) =
           let k : length (after (suc n)).trace ≡ suc (length (after n).trace) = ap length e ∙ length_more (after n).trace x in
           omega (arith, h, k)
 
   abbrev Adding : ℕ → Type 0
-  Adding n = cost_of blocks (after n).trace + total (program_from blocks s) (length s.trace)
-      ≡ total (program_from blocks s) (length s.trace + n) + cost_of blocks s.trace
+  Adding n = cost_of blocks (after n).trace + total (sizes_from blocks s) (length s.trace)
+      ≡ total (sizes_from blocks s) (length s.trace + n) + cost_of blocks s.trace
 
   price_next : (n : ℕ) (b : Block) → slice_get blocks (after n).next ≡ Some b
-      → price (program_from blocks s (length s.trace + n)) ≡ cost b
+      → price (sizes_from blocks s (length s.trace + n)) ≡ cost b
   price_next n b e =
       let k : length s.trace + n - length s.trace ≡ n = omega arith in
-      ap (λ m. price (course_at blocks (after m))) k ∙ ap (λ o. price (course_in (after n) o)) e
-      ∙ price_is b (token_of b (after n).registers (after n).memory deepest) (good (after n).next b e).fits
+      ap (λ m. price (size_in (slice_get blocks (after m).next))) k ∙ ap (λ o. price (size_in o)) e ∙ price_is b
 
   -- where each step added a block, the prices are the cost of what was added
   pub trace_costs : (n : ℕ) → length (after n).trace ≡ length s.trace + n → Adding n
   trace_costs zero l =
       let e : cost_of blocks (after 0).trace ≡ cost_of blocks s.trace = ap (λ t. cost_of blocks t.trace) (runs_none blocks s) in
       let z : length s.trace + 0 ≡ length s.trace = omega arith in
-      let t : total (program_from blocks s) (length s.trace + 0) ≡ total (program_from blocks s) (length s.trace) =
-          ap (total (program_from blocks s)) z in
+      let t : total (sizes_from blocks s) (length s.trace + 0) ≡ total (sizes_from blocks s) (length s.trace) =
+          ap (total (sizes_from blocks s)) z in
       omega (arith, e, t)
-  trace_costs (suc n) l = go (next_adds n)
+  trace_costs (suc n) l = go (trace_costs n) (next_adds n)
     where
-      go : Adds blocks (after n) (after (suc n)) → Adding (suc n)
-      go (inl e) = let h = at_most n in
+      go : (length (after n).trace ≡ length s.trace + n → Adding n) → Adds blocks (after n) (after (suc n)) → Adding (suc n)
+      go ih (inl e) = let h = at_most n in
           let k : length (after (suc n)).trace ≡ length (after n).trace = ap length e in absurd (omega (arith, h, k, l))
-      go (inr (b, x, i, j, e)) =
+      go ih (inr (b, x, i, j, e)) =
           let k : length (after (suc n)).trace ≡ suc (length (after n).trace) = ap length e ∙ length_more (after n).trace x in
-          let h : Adding n = trace_costs n (omega (arith, k, l)) in
+          let h : Adding n = ih (omega (arith, k, l)) in
           let c : cost_of blocks (after (suc n)).trace ≡ cost_of blocks (after n).trace + cost_of blocks (x ∷ []) =
               ap (cost_of blocks) e ∙ cost_more blocks (after n).trace (x ∷ []) in
           let d : cost_in (slice_get blocks x.block) ≡ cost b = ap cost_in (ap (slice_get blocks) j ∙ i) in
-          let p : price (program_from blocks s (length s.trace + n)) ≡ cost b = price_next n b i in
+          let p : price (sizes_from blocks s (length s.trace + n)) ≡ cost b = price_next n b i in
           let z : length s.trace + suc n ≡ suc (length s.trace + n) = omega arith in
-          let t : total (program_from blocks s) (length s.trace + suc n)
-              ≡ price (program_from blocks s (length s.trace + n)) + total (program_from blocks s) (length s.trace + n) =
-              ap (total (program_from blocks s)) z in
+          let t : total (sizes_from blocks s) (length s.trace + suc n)
+              ≡ price (sizes_from blocks s (length s.trace + n)) + total (sizes_from blocks s) (length s.trace + n) =
+              ap (total (sizes_from blocks s)) z in
           let w : cost_of blocks (x ∷ []) ≡ cost_in (slice_get blocks x.block) + 0 = refl in
           omega (arith, h, c, d, p, t, w)

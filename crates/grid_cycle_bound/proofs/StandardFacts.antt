@@ -49,26 +49,26 @@ two_tasks (suc k) = record {
 abbrev tiny : Course
 tiny = record { room = 2; task = two_tasks; outputs = 2 ∷ [] }
 
-abbrev program : ℕ → Course
-program n = tiny
+abbrev sizes : ℕ → ℕ
+sizes n = tasks tiny
 
 abbrev lane_at : Stage → Lane
 lane_at s = record { stage = s; units = λ t. 0; done = 0 }
 
 -- prices ------------------------------------------------------------------------------------------
 
-pub tiny_price : price tiny ≡ 1024
+pub tiny_price : price (tasks tiny) ≡ 1024
 tiny_price = refl
 
-pub three_blocks : total program 3 ≡ 3072
+pub three_blocks : total sizes 3 ≡ 3072
 three_blocks = refl
 
 -- a fetch that has not begun: ten cycles, 87 a task and 1, and as much again and more for a fetch anew
-pub left_before : left program (lane_at (Fetching None false)) ≡ 697
+pub left_before : left sizes (lane_at (Fetching None false)) ≡ 697
 left_before = refl
 
 -- nothing is kept for a careful frame
-pub left_careful : left program (lane_at (Fetching None true)) ≡ 185
+pub left_careful : left sizes (lane_at (Fetching None true)) ≡ 185
 left_careful = refl
 
 -- (2) ---------------------------------------------------------------------------------------------
@@ -86,7 +86,7 @@ pub fetch_fills : fetching 0 tiny (Fetching (Some 0) false) ≡ Running filled
 fetch_fills = refl
 
 -- the constant may be issued at once, to a unit that is free: 24 less
-pub left_filled : left program (lane_at (Running filled)) ≡ 663
+pub left_filled : left sizes (lane_at (Running filled)) ≡ 663
 left_filled = refl
 
 -- (5) ---------------------------------------------------------------------------------------------
@@ -154,7 +154,7 @@ not_yet = refl
 pub complete_then : complete (record filled { come = λ q. true }) ≡ true
 complete_then = refl
 
-pub one_cycle_left : left program (lane_at (Running (record filled { come = λ q. true }))) ≡ 1
+pub one_cycle_left : left sizes (lane_at (Running (record filled { come = λ q. true }))) ≡ 1
 one_cycle_left = refl
 
 -- what is left ------------------------------------------------------------------------------------

@@ -21,7 +21,7 @@ use Rattle.grid_cycle_spec.proofs.Routes.{bank_inside, tile_inside, home_inside,
 use Rattle.grid_cycle_bound.specs.Course.{Target, Task, OnMesh, GoodTask}
 use Rattle.grid_cycle_bound.specs.Blocks.{slot_tasks, vacant, target_at, first_of, slot_task, read_task, task_of}
 
-pub vacant_good : GoodTask vacant
+vacant_good : GoodTask vacant
 vacant_good = record {
   declared = λ e. absurd (cc);
   takes = omega arith;

@@ -2,7 +2,7 @@
 use Rattle.std.specs.Prelude.{◌≡◌, ℕ, zero, suc, ◌+◌, ◌<◌, ◌≤◌, ◌⊎◌, Bool, true, false, Option, Some, None}
 use Rattle.operand_net.specs.declared.parcel.Stand.{Stand}
 use Rattle.operand_net.specs.declared.parcel.Stand.TheVariants.{Nowhere, Away, Held}
-use Rattle.grid_cycle_bound.specs.Course.{Target, Task, Course}
+use Rattle.grid_cycle_bound.specs.Course.{Target, Task, tasks, Good}
 use Rattle.grid_cycle_bound.specs.Lane.{Phase, Absent, Idle, Working, Asking, Standing, Sent, is_there, Front, Stage}
 use Rattle.grid_cycle_bound.specs.Lane.{Running, Fetching, Lane, is_complete}
 use Rattle.grid_cycle_bound.specs.Serving.{Served}
@@ -54,31 +54,38 @@ abbrev pub AtMost : Option ℕ → ℕ → Type 0
 AtMost None m = Unit {0}
 AtMost (Some c) m = c ≤ m
 
+-- the rule of a frame of a block of n tasks
+pub record FrontRule (n : ℕ) (u : ℕ → ℕ) (f : Front) : Type 0 where
+  pub size : tasks f.course ≡ n
+  pub good : Good f.course
+  pub placed : Placed f
+  pub fine : Fine u f
+
 -- the rule of a stage that is not complete
-abbrev pub StageRule : Course → (ℕ → ℕ) → Stage → Type 0
-StageRule c u (Running f) = (f.course ≡ c) × (Placed f × Fine u f)
-StageRule c u (Fetching o s) = AtMost o 7
+abbrev pub StageRule : ℕ → (ℕ → ℕ) → Stage → Type 0
+StageRule n u (Running f) = FrontRule n u f
+StageRule n u (Fetching o s) = AtMost o 7
 
 -- the rule of a lane: units are busy for at most 24 cycles, and the stage is complete or has its rule
-pub record LaneRule (program : ℕ → Course) (l : Lane) : Type 0 where
+pub record LaneRule (sizes : ℕ → ℕ) (l : Lane) : Type 0 where
   pub units : (t : ℕ) → l.units t ≤ 24
-  pub stage : (is_complete l.stage ≡ true) ⊎ StageRule (program l.done) l.units l.stage
+  pub stage : (is_complete l.stage ≡ true) ⊎ StageRule (sizes l.done) l.units l.stage
 
 -- the laws' words -------------------------------------------------------------------------------
 
 -- a cycle commits the block, or keeps the rule and lowers what is left
-abbrev pub Falls : (ℕ → Course) → Lane → Lane → Type 0
-Falls program l m = (m.done ≡ suc l.done)
-    ⊎ ((m.done ≡ l.done) × LaneRule program m × (left program m < left program l))
+abbrev pub Falls : (ℕ → ℕ) → Lane → Lane → Type 0
+Falls sizes l m = (m.done ≡ suc l.done)
+    ⊎ ((m.done ≡ l.done) × LaneRule sizes m × (left sizes m < left sizes l))
 
 -- some cycles, then one more after which the lane has its rule
-pub record Goes (first : Lane → Type 0) (program : ℕ → Course) (m : Lane) : Type 0 where
+pub record Goes (first : Lane → Type 0) (sizes : ℕ → ℕ) (m : Lane) : Type 0 where
   pub between : Lane
   pub before : first between
-  pub served : Served program between m
-  pub rule : LaneRule program m
+  pub served : Served sizes between m
+  pub rule : LaneRule sizes m
 
 -- n cycles that serve the oldest frame, one after another
-abbrev pub AfterServed : (ℕ → Course) → ℕ → Lane → Lane → Type 0
-AfterServed program zero l m = m ≡ l
-AfterServed program (suc n) l m = Goes (AfterServed program n l) program m
+abbrev pub AfterServed : (ℕ → ℕ) → ℕ → Lane → Lane → Type 0
+AfterServed sizes zero l m = m ≡ l
+AfterServed sizes (suc n) l m = Goes (AfterServed sizes n l) sizes m

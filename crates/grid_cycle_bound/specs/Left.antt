@@ -46,34 +46,35 @@ tile_left u f t = wait_left (u t) (on_tile f (ready f) t) (count_on f (unissued 
 abbrev pub work : (ℕ → ℕ) → Front → ℕ
 work u f = 1 + sum 16 (tile_left u f)
 
--- the most that a frame has left: 87 for a task, 24 in its unit's turn and 63 for itself
-abbrev pub most : Course → ℕ
-most c = 1 + 87 * tasks c
+-- the most that a frame of so many tasks has left: 87 for a task, 24 in its unit's turn and 63 for itself
+abbrev pub most : ℕ → ℕ
+most n = 1 + 87 * n
 
 -- what is kept for a flush of the frame by a store of its own, which makes a careful frame: a fetch anew, and its work
-abbrev pub reserve : Bool → Course → ℕ
-reserve true c = 0
-reserve false c = 256 + 128 * tasks c
+abbrev pub reserve : Bool → ℕ → ℕ
+reserve true n = 0
+reserve false n = 256 + 128 * n
 
 -- of a fetch of eight cycles, and the one in which it begins
 abbrev pub fetch_left : Option ℕ → ℕ
 fetch_left None = 10
 fetch_left (Some n) = suc n
 
--- of a stage that is not complete
-abbrev pub stage_left : Course → (ℕ → ℕ) → Stage → ℕ
-stage_left c u (Running f) = work u f + reserve f.careful f.course
-stage_left c u (Fetching o s) = fetch_left o + most c + reserve s c
+-- of a stage that is not complete, the block having so many tasks
+abbrev pub stage_left : ℕ → (ℕ → ℕ) → Stage → ℕ
+stage_left n u (Running f) = work u f + reserve f.careful (tasks f.course)
+stage_left n u (Fetching o s) = fetch_left o + most n + reserve s n
 
--- of the lane: a complete frame is committed in the next cycle
-abbrev pub left : (ℕ → Course) → Lane → ℕ
-left program l = cond (is_complete l.stage) 1 (stage_left (program l.done) l.units l.stage)
+-- of the lane, where `sizes` tells how many tasks the n-th committed block has: a complete frame is committed in the
+-- next cycle
+abbrev pub left : (ℕ → ℕ) → Lane → ℕ
+left sizes l = cond (is_complete l.stage) 1 (stage_left (sizes l.done) l.units l.stage)
 
--- what a block may take
-abbrev pub price : Course → ℕ
-price c = 512 + 256 * tasks c
+-- what a block of so many tasks may take
+abbrev pub price : ℕ → ℕ
+price n = 512 + 256 * n
 
 -- what the first n blocks may take
-abbrev pub total : (ℕ → Course) → ℕ → ℕ
-total program zero = 0
-total program (suc n) = price (program n) + total program n
+abbrev pub total : (ℕ → ℕ) → ℕ → ℕ
+total sizes zero = 0
+total sizes (suc n) = price (sizes n) + total sizes n

@@ -4,7 +4,7 @@ use Rattle.std.specs.Prelude.{◌==◌, ◌&&◌, ◌||◌, not, nat_lt, Option,
 use Rattle.operand_net.specs.declared.parcel.Stand.{Stand}
 use Rattle.operand_net.specs.declared.parcel.Stand.TheVariants.{Nowhere, Away, Held}
 use Rattle.operand_net.specs.Tick.{is_free, ticked}
-use Rattle.grid_cycle_bound.specs.Course.{Kind, Reading, Plain, Serving, Target, Task, Course}
+use Rattle.grid_cycle_bound.specs.Course.{Kind, Reading, Plain, Serving, Target, Task, Course, tasks, Good}
 use Rattle.grid_cycle_bound.specs.Lane.{any, Phase, Absent, Idle, Working, Asking, Standing, Sent, first_parcel}
 use Rattle.grid_cycle_bound.specs.Lane.{second_parcel, is_standing, Front, Stage, Running, Fetching, Lane, unread, ready}
 use Rattle.grid_cycle_bound.specs.Lane.{answerable, is_complete}
@@ -113,6 +113,32 @@ at_tile d f x = answerable f x && station_of f x == d
 abbrev pub has_at : ℕ → Front → Bool
 has_at d f = any f.course.room (at_tile d f)
 
+-- the spot of a target
+abbrev pub spot_of : Option Target → Option ℕ
+spot_of None = None
+spot_of (Some t) = Some t.spot
+
+-- the same frame by another course: what an open load will be answered, and so what is done, hangs on the stores that
+-- have been resolved. What the block itself has is the same, and so is what is ready, since tokens that have come stay
+pub record Retold (f h : Front) : Type 0 where
+  pub room : h.course.room ≡ f.course.room
+  pub at : (x : ℕ) → h.at x ≡ f.at x
+  pub come : (s : ℕ) → h.come s ≡ f.come s
+  pub careful : h.careful ≡ f.careful
+  pub declared : (x : ℕ) → (h.course.task x).declared ≡ (f.course.task x).declared
+  pub kind : (x : ℕ) → (h.course.task x).kind ≡ (f.course.task x).kind
+  pub tile : (x : ℕ) → (h.course.task x).tile ≡ (f.course.task x).tile
+  pub first : (x : ℕ) → spot_of (h.course.task x).first ≡ spot_of (f.course.task x).first
+  pub second : (x : ℕ) → spot_of (h.course.task x).second ≡ spot_of (f.course.task x).second
+  pub ready : (x : ℕ) → ready h x ≡ ready f x
+  pub good : Good h.course
+
+-- a stage that a retold frame makes
+pub record RunsOn (f : Front) (t : Stage) : Type 0 where
+  pub front : Front
+  pub retold : Retold f front
+  pub is_stage : t ≡ Running front
+
 -- data tile d answers a request of the frame, be it one that need not have waited; a store may find a load wrong that
 -- went early, in no careful frame, and then the frame is flushed and its block fetched anew
 pub record Answered (d : ℕ) (f : Front) (t : Stage) : Type 0 where
@@ -120,7 +146,7 @@ pub record Answered (d : ℕ) (f : Front) (t : Stage) : Type 0 where
   pub inside : request < f.course.room
   pub stands : is_standing (f.at request) ≡ true
   pub there : station_of f request ≡ d
-  pub comes_to : (t ≡ Running (answer_one request f)) ⊎ ((f.careful ≡ false) × (t ≡ Fetching None true))
+  pub comes_to : RunsOn (answer_one request f) t ⊎ ((f.careful ≡ false) × (t ≡ Fetching None true))
 
 -- it answers none only where none of the frame waits for nothing
 abbrev pub TileAnswers : ℕ → Stage → Stage → Type 0
@@ -248,12 +274,15 @@ moving hold (Fetching o s) = Fetching o s
 
 -- the cycle -------------------------------------------------------------------------------------
 
--- the oldest frame is served in a cycle, or the fetch of the block that commits next goes on; the n-th committed block
--- is `program n`
-pub record Serves (program : ℕ → Course) (l m : Lane) : Type 0 where
+-- the oldest frame is served in a cycle, or the fetch of the block that commits next goes on, which may fill a frame of
+-- a good course; `sizes` tells how many tasks the n-th committed block has
+pub record Serves (sizes : ℕ → ℕ) (l m : Lane) : Type 0 where
   pub generation : ℕ
+  pub filled : Course
+  pub is_filled : tasks filled ≡ sizes l.done
+  pub good : Good filled
   pub answered : Stage
-  pub answers : TilesAnswer 4 (reading (fetching generation (program l.done) l.stage)) answered
+  pub answers : TilesAnswer 4 (reading (fetching generation filled l.stage)) answered
   pub hold : ℕ → ℕ
   pub holds : (p : ℕ) → hold p ≤ 3
   pub units : (t : ℕ) → m.units t ≤ 24
@@ -262,6 +291,6 @@ pub record Serves (program : ℕ → Course) (l m : Lane) : Type 0 where
   pub done : m.done ≡ l.done
 
 -- a complete frame is committed, and the lane goes on with the next block; else the oldest frame is served
-abbrev pub Served : (ℕ → Course) → Lane → Lane → Type 0
-Served program l m = ((is_complete l.stage ≡ true) × (m.done ≡ suc l.done))
-    ⊎ ((is_complete l.stage ≡ false) × Serves program l m)
+abbrev pub Served : (ℕ → ℕ) → Lane → Lane → Type 0
+Served sizes l m = ((is_complete l.stage ≡ true) × (m.done ≡ suc l.done))
+    ⊎ ((is_complete l.stage ≡ false) × Serves sizes l m)

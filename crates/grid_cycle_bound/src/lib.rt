@@ -7,5 +7,5 @@
 mod law;
 
 pub use law::{
-    courses_are_good, cycles_are_bounded, lanes_begin_right, programs_are_priced, served_cycles_fall,
+    courses_are_good, cycles_are_bounded, lanes_begin_right, served_cycles_fall, traces_are_priced,
 };
