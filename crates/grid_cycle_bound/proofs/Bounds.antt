@@ -1,7 +1,6 @@
 -- Runs of served cycles.
-use Rattle.std.proofs.Common.{◌≡◌, ℕ, zero, suc, ◌+◌, ◌*◌, ◌<◌, ◌≤◌, ◌⊎◌, inl, inr, refl, sym, ap, ◌∙◌, subst, arith}
-use Rattle.grid_cycle_bound.specs.Lane.{Lane, is_complete}
-use Rattle.grid_cycle_bound.specs.Serving.{Served}
+use Rattle.std.proofs.Common.{◌≡◌, ℕ, zero, suc, ◌+◌, ◌<◌, ◌≤◌, inl, inr, sym, ap, subst, arith}
+use Rattle.grid_cycle_bound.specs.Lane.{Lane}
 use Rattle.grid_cycle_bound.specs.Left.{left, price, total}
 use Rattle.grid_cycle_bound.specs.Laws.{LaneRule, Falls, AfterServed}
 use Rattle.grid_cycle_bound.proofs.Served.{left_some, left_most, served_falls}
@@ -20,7 +19,7 @@ module _ (sizes : ℕ → ℕ) (l : Lane) (rule : LaneRule sizes l) where
   step n k m r b (inr h) =
       let i : left sizes m < left sizes k = h.2 in
       let t : total sizes m.done + price (sizes m.done) ≡ total sizes k.done + price (sizes k.done) =
-          ap (λ d. total sizes d + price (sizes d)) h.0 in
+      ap (λ d. total sizes d + price (sizes d)) h.0 in
       omega (arith, i, b, t)
 
   -- the bound, and the rule

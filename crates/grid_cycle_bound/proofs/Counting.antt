@@ -1,6 +1,6 @@
 -- Some, the least, and sums.
-use Rattle.std.proofs.Common.{◌≡◌, ℕ, zero, suc, ◌+◌, ◌<◌, ◌≤◌, Bool, true, false, cond, ◌==◌, ◌&&◌, ◌||◌, not, nat_lt, ◌⊎◌, inl, inr, refl, sym, ap, ◌∙◌, subst, arith}
-use Rattle.std.proofs.lemmas.Bool.{and_parts, or_cases, and_from, or_left, or_right, cases_Bool, eqb-true, eq-eqb, cases_eq, or_parts, not-true}
+use Rattle.std.proofs.Common.{◌≡◌, ℕ, zero, suc, ◌+◌, ◌<◌, ◌≤◌, Bool, true, false, cond, ◌==◌, ◌&&◌, ◌||◌, not, ◌⊎◌, inl, inr, refl, sym, ap, ◌∙◌, subst, arith}
+use Rattle.std.proofs.lemmas.Bool.{and_parts, or_cases, and_from, or_left, or_right, cases_Bool, eqb-true, eq-eqb, cases_eq, not-true}
 use Rattle.grid_cycle_bound.specs.Course.{sum}
 use Rattle.grid_cycle_bound.specs.Lane.{any}
 use Rattle.grid_cycle_bound.specs.Serving.{found, pick}
@@ -43,14 +43,19 @@ chosen n may station taken x l e k = (r.0, below, same, and_from (may r.0) _ bot
   where
     q : ℕ → Bool
     q y = may y && station y == station x
+
     r : (y : ℕ) × (y < suc x) × (q y ≡ true) × (any y q ≡ false)
     r = any_least (suc x) q (any_from (suc x) q x (omega arith) (and_from (may x) _ e (eq-eqb (station x) (station x) refl)))
+
     below : r.0 < n
     below = let h : r.0 < suc x = r.1 in omega (arith, h)
+
     both : (may r.0 ≡ true) × ((station r.0 == station x) ≡ true)
     both = and_parts (may r.0) (station r.0 == station x) r.2
+
     same : station r.0 ≡ station x
     same = eqb-true (station r.0) (station x) both.1
+
     free : (b : Bool) → b ≡ false → not b ≡ true
     free true h = absurd (cc)
     free false h = refl

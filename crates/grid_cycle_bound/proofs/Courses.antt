@@ -1,11 +1,11 @@
 -- The course of a good block is good: whatever its reads and loads are answered, each spot that an instruction which
 -- gives a token takes is fed by a node that gives one, and so is each output.
-use Rattle.std.proofs.Common.{◌≡◌, ◌≢◌, ℕ, zero, suc, ◌+◌, ◌-◌, ◌*◌, ◌<◌, ◌≤◌, ◌⊎◌, inl, inr, Bool, true, false, cond}
-use Rattle.std.proofs.Common.{◌||◌, ◌&&◌, nat_lt, List, [], ◌∷◌, ◌++◌, length, Option, Some, None, is_some, slice_get}
+use Rattle.std.proofs.Common.{◌≡◌, ◌≢◌, ℕ, zero, suc, ◌+◌, ◌-◌, ◌<◌, ◌≤◌, ◌⊎◌, inl, inr, Bool, true, false, cond}
+use Rattle.std.proofs.Common.{nat_lt, List, [], ◌∷◌, ◌++◌, length, Option, Some, None, is_some, slice_get}
 use Rattle.std.proofs.Common.{refl, sym, ap, ◌∙◌, subst, arith}
 use Rattle.std.specs.Prelude.{All}
 use Rattle.std.proofs.lemmas.List.Elements.{All-head, All-tail}
-use Rattle.std.proofs.lemmas.Bool.{cond_both, cond-true, cond-false, lt-ltb, le-ltb, ltb-true, ltb-false, cases_lt}
+use Rattle.std.proofs.lemmas.Bool.{cond_both, cond-true, cond-false, lt-ltb, le-ltb, ltb-true, cases_lt}
 use Rattle.std.proofs.lemmas.Bool.Decides.{nat_tests}
 use Rattle.trips_isa.specs.declared.block.Token.TheVariants.{Null, Word}
 use Rattle.trips_isa.specs.declared.block.Inst.{Inst}
@@ -38,11 +38,11 @@ use Rattle.commit_flush_spec.specs.Invariant.{IsRunnable}
 use Rattle.commit_flush_spec.proofs.Tokens.{inst_in, one_law}
 use Rattle.commit_flush_spec.proofs.Stored.{inst_fits}
 use Rattle.window_progress.proofs.Producers.{IsNode, AtRead, AtSlot, a_node, node_of_slot, node_of_read, named_or}
-use Rattle.window_progress.proofs.Producers.{IsOutput, NamesOutput, slot_names, read_names, giver}
+use Rattle.window_progress.proofs.Producers.{NamesOutput, slot_names, read_names, giver}
 use Rattle.grid_cycle_spec.specs.Stations.{data_node, home}
 use Rattle.grid_cycle_spec.specs.DataTiles.{tile_by}
-use Rattle.grid_cycle_bound.specs.Course.{Target, Task, Course, Member, Hits, Fed, GoodBy, Good}
-use Rattle.grid_cycle_bound.specs.Blocks.{slot_tasks, room, if_so, needs_of, numbers_in, waits_of, target_at, first_of}
+use Rattle.grid_cycle_bound.specs.Course.{Task, Course, Member, Hits, Fed, Good}
+use Rattle.grid_cycle_bound.specs.Blocks.{slot_tasks, if_so, needs_of, numbers_in, waits_of, target_at, first_of}
 use Rattle.grid_cycle_bound.specs.Blocks.{slot_task, read_task, task_of, writes_of, outputs_of, course_of}
 use Rattle.grid_cycle_bound.proofs.Sizes.{slot_tasks_is, room_is, slot_is, read_is}
 use Rattle.grid_cycle_bound.proofs.Tasks.{tasks_good}
@@ -129,6 +129,7 @@ first_from (n ∷ ns) q f e = go (names (targets n) q) refl (f 0) refl (first_fr
   where
     next : GivenAt ns q (λ y. f (suc y)) → GivenAt (n ∷ ns) q f
     next (y, m, i, k, j) = (suc y, m, i, k, j)
+
     go : (b : Bool) → names (targets n) q ≡ b → (t : Answer) → f 0 ≡ t
         → (is_some (first ns q (λ y. f (suc y))) ≡ true → GivenAt ns q (λ y. f (suc y)))
         → is_some (or_else (taken b f) (first ns q (λ y. f (suc y)))) ≡ true → GivenAt (n ∷ ns) q f
@@ -237,13 +238,18 @@ module _ (b : Block) (runnable : IsRunnable b) (a : Responses) (g : ℕ → Answ
         where
           fits : FitsRead slot
           fits = each_read b.reads.items runnable.fits.each_read y slot e
+
           same : nm.0 ≡ read_node slot
           same = let k : Some nm.0 ≡ Some (read_node slot) = sym nm.1 ∙ node_of_read b y slot e in cc
+
           two : (place_of slot.first ≡ q) ⊎ (place_at slot.second ≡ q)
           two = named_or _ _ q (subst (λ (k : Node). names (targets k) q ≡ true) same nm.2)
+
           hit : (q < 416) ⊎ (416 ≤ q) → Hits (read_task b (Some slot)).first q ⊎ Hits (read_task b (Some slot)).second q
-          hit (inl l) = elim two [ inl z ↦ inl (hits_target b (place_of slot.first) q z l)
-              | inr z ↦ inr (hits_target b (place_at slot.second) q z l) ]
+          hit (inl l) = elim two [
+            | inl z ↦ inl (hits_target b (place_of slot.first) q z l)
+            | inr z ↦ inr (hits_target b (place_at slot.second) q z l)
+          ]
           hit (inr l) = absurd (read_names b y q slot fits (l, lq) e nm)
       by (AtSlot s i d e) = record {
         giver = s;
@@ -255,17 +261,22 @@ module _ (b : Block) (runnable : IsRunnable b) (a : Responses) (g : ℕ → Answ
         where
           here : task_of b g s ≡ slot_task b g s (Some i)
           here = slot_is b g s (slot_small s i e) ∙ ap (slot_task b g s) e
+
           names_it : NamesPlace (nodes_of b) (slot_node b s) q
           names_it = subst (λ z. NamesPlace (nodes_of b) z q) d nm
+
           same : names_it.0 ≡ inst_node s (Some i)
           same = let k : Some names_it.0 ≡ Some (inst_node s (Some i)) = sym names_it.1 ∙ node_of_slot b s i e in cc
+
           two : (first_place (form_of i.op) i.number i.first ≡ q) ⊎ (place_at i.second ≡ q)
           two = named_or _ _ q (subst (λ (k : Node). names (targets k) q ≡ true) same names_it.2)
+
           hit : (q < 416) ⊎ (416 ≤ q)
               → Hits (slot_task b g s (Some i)).first q ⊎ Hits (slot_task b g s (Some i)).second q
           hit (inl l) = elim two [
             | inl z ↦ inl (hits_first b (form_of i.op) i (data_node (tile_by i (at_place b g s))) q z l)
-            | inr z ↦ inr (hits_target b (place_at i.second) q z l) ]
+            | inr z ↦ inr (hits_target b (place_at i.second) q z l)
+          ]
           hit (inr l) = inl (hits_output b (form_of i.op) i (data_node (tile_by i (at_place b g s))) q
               (slot_names b s q i (inst_fits b runnable.fits s i e) (l, lq) e names_it))
 
@@ -293,11 +304,11 @@ module _ (b : Block) (runnable : IsRunnable b) (a : Responses) (g : ℕ → Answ
     -- a place with a token is fed by a node that feeds this one
     place_fed : (q : ℕ) → q < 449 → is_some (at_place b g q) ≡ true
         → ((y : ℕ) (m : Node) → slice_get (nodes_of b) y ≡ Some m → names (targets m) q ≡ true
-            → Edge (nodes_of b) y (slot_node b s)) → Fed c task_rank (rank (slot_node b s)) q
+        → Edge (nodes_of b) y (slot_node b s)) → Fed c task_rank (rank (slot_node b s)) q
     place_fed q l t edge =
         let d : GivenAt (nodes_of b) q g = first_from (nodes_of b) q g t in
         feeds_it d.0 q (rank (slot_node b s)) (d.1, d.2, d.3) (some_there (g d.0) d.4)
-            (ranked.rises d.0 (slot_node b s) (edge d.0 d.1 d.2 d.3)) l
+        (ranked.rises d.0 (slot_node b s) (edge d.0 d.1 d.2 d.3)) l
 
     small : s < 128
     small = let l = slot_small s i e in let k = slot_tasks_is in omega (arith, l, k)
@@ -310,12 +321,14 @@ module _ (b : Block) (runnable : IsRunnable b) (a : Responses) (g : ℕ → Answ
         guard (inl k) = subst (Fed c task_rank (rank (slot_node b s))) k.1 (place_fed (256 + s) (let l = small in omega (arith, l))
             (matched_some i.sense (at_place b g (256 + s)) parts.0 k.0)
             (λ y n j nm. to_predicate (nodes_of b) (slot_node b s) y n (inst_node s (Some i)) j here nm))
+
         right : ((takes_right (role_of i.op) ≡ true) × (128 + s ≡ q)) ⊎ Member q (if_so (is_guarded i.sense) (256 + s) [])
             → Fed c task_rank (rank (slot_node b s)) q
         right (inr k) = guard (member_if (is_guarded i.sense) (256 + s) q [] k)
         right (inl k) = subst (Fed c task_rank (rank (slot_node b s))) k.1 (place_fed (128 + s) (let l = small in omega (arith, l))
             (gives_right (role_of i.op) (computes b a (slot_node b s)) (at_place b g s) (at_place b g (128 + s)) parts.1 k.0)
             (λ y n j nm. to_right (nodes_of b) (slot_node b s) y n (inst_node s (Some i)) j here nm))
+
         left : ((takes_left (role_of i.op) ≡ true) × (s ≡ q))
             ⊎ Member q (if_so (takes_right (role_of i.op)) (128 + s) (if_so (is_guarded i.sense) (256 + s) []))
             → Fed c task_rank (rank (slot_node b s)) q
@@ -347,7 +360,7 @@ module _ (b : Block) (runnable : IsRunnable b) (a : Responses) (g : ℕ → Answ
             let lm : m < 32 = mask_below b.mask m w in
             subst (Fed c task_rank (rank (slot_node b s))) z
             (output_fed (416 + m) (rank (slot_node b s)) (omega (arith, lm)) (owed_wanted b (spot.Store m) w)
-                (λ y nm. ranked.rises y (slot_node b s) (store_edge m y l k nm)))
+            (λ y nm. ranked.rises y (slot_node b s) (store_edge m y l k nm)))
 
   -- tasks -------------------------------------------------------------------------------------------
 
@@ -393,6 +406,7 @@ module _ (b : Block) (runnable : IsRunnable b) (a : Responses) (g : ℕ → Answ
     where
       up : (y : ℕ) → NamesPlace (nodes_of b) y q → rank y < 160
       up y nm = ranked.below y
+
       last : Member q (numbers_in b.mask 32) ⊎ Member q (448 ∷ []) → Fed c task_rank 160 q
       last (inl k) = let d : NumberOf b.mask 32 q = a_number b.mask 32 q k in
           let l : d.0 < 32 = d.1 in
@@ -401,6 +415,7 @@ module _ (b : Block) (runnable : IsRunnable b) (a : Responses) (g : ℕ → Answ
       last (inr (inr k)) = absurd k
       last (inr (inl k)) = subst (Fed c task_rank 160) k
           (let y = giver (nodes_of b) g 448 one.exit in feeds_it y.0 448 160 y.1 y.2 (ranked.below y.0) (omega arith))
+
       by : Member q (writes_of (length b.writes.items)) ⊎ Member q (numbers_in b.mask 32 ++ 448 ∷ [])
           → Fed c task_rank 160 q
       by (inl k) = let d : (w : ℕ) × (w < length b.writes.items) × (384 + w ≡ q) = a_write (length b.writes.items) q k in

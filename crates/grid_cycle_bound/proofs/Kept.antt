@@ -1,16 +1,15 @@
 -- The rule under each part of a cycle.
-use Rattle.std.proofs.Common.{◌≡◌, ℕ, zero, suc, ◌+◌, ◌-◌, ◌*◌, ◌<◌, ◌≤◌, Bool, true, false, cond, ◌==◌, ◌&&◌, ◌||◌, not, nat_lt, ◌⊎◌, inl, inr, List, [], ◌∷◌, ◌++◌, length, Option, Some, None, refl, sym, ap, ap₂, ◌∙◌, subst, arith}
-use Rattle.std.proofs.lemmas.Bool.{and_parts, and_from, or_cases, or_left, or_right, cond_both, cond-true, cond-false, eqb-true, eq-eqb, cases_Bool, both_ways, lt-ltb, le-ltb, ltb-true, ltb-false, cases_lt}
+use Rattle.std.proofs.Common.{◌≡◌, ℕ, zero, suc, ◌*◌, ◌<◌, ◌≤◌, Bool, true, false, cond, ◌==◌, ◌&&◌, refl, sym, ◌∙◌, arith}
+use Rattle.std.proofs.lemmas.Bool.{and_parts, and_from, or_left, or_right, cond_both, cond-false, eq-eqb, ltb-false}
 use Rattle.operand_net.specs.declared.parcel.Stand.{Stand}
 use Rattle.operand_net.specs.declared.parcel.Stand.TheVariants.{Nowhere, Away, Held}
-use Rattle.grid_cycle_bound.specs.Course.{Kind, Reading, Plain, Serving, is_reading, Target, Task, Course, sum, tasks, Member, Hits, Fed, OnMesh, GoodTask, GoodBy, Good}
-use Rattle.grid_cycle_bound.specs.Lane.{any, Phase, Absent, Idle, Working, Asking, Standing, Sent, is_idle, is_standing, is_there, first_parcel, second_parcel, Front, all_come, unread, unissued, ready, answerable, complete}
-use Rattle.grid_cycle_bound.specs.Serving.{found, pick, none_busy, station_of, tile_of, parcel, launch, sent_from, result, fresh, reads_front, hits, settled, resolves, answer_one, at_tile, has_at, worked, finished, finish_front, busy, issued, issue_front, units_after, less_one, taken, goes, row, free_at, asked, moved, is_nowhere, landed, delivers, move_at, move_front}
-use Rattle.grid_cycle_bound.specs.Left.{parcel_left, task_left, wait_left, on_tile, count_on, tile_left, work, most}
-use Rattle.grid_cycle_bound.specs.Laws.{Bounded, Has, Landed, OnItsWay, FineAt, Fine, Placed}
-use Rattle.grid_cycle_bound.proofs.Counting.{any_true, any_from, any_more, any_least, chosen, pick_may, pick_free, sum_le, sum_drop, found_le, found_pos}
-use Rattle.grid_cycle_bound.proofs.Mesh.{Both, launch_landed, launch_left, moved_left, moved_drop_first, moved_drop_second, Leaves, goes_bounded, landed_kept, landed_more, landed_bounded, way_bounded, bounded_left}
-use Rattle.grid_cycle_bound.proofs.Parts.{GoodTasks, fine_both, idle_is, standing_is, here_left, there_left, all_come_more}
+use Rattle.grid_cycle_bound.specs.Course.{Kind, Reading, Plain, Serving, Task, Course, GoodTask}
+use Rattle.grid_cycle_bound.specs.Lane.{Phase, Absent, Idle, Working, Asking, Standing, Sent, is_idle, is_there, first_parcel, second_parcel, Front, unread, unissued, ready}
+use Rattle.grid_cycle_bound.specs.Serving.{found, pick, none_busy, station_of, tile_of, launch, sent_from, result, fresh, reads_front, finished, finish_front, busy, issued, issue_front, units_after, less_one, goes, free_at, asked, moved, landed, delivers, move_at, move_front}
+use Rattle.grid_cycle_bound.specs.Laws.{Bounded, Landed, FineAt, Fine, Placed}
+use Rattle.grid_cycle_bound.proofs.Counting.{any_from, pick_may, pick_free, found_pos}
+use Rattle.grid_cycle_bound.proofs.Mesh.{launch_landed, goes_bounded, landed_kept, way_bounded}
+use Rattle.grid_cycle_bound.proofs.Parts.{GoodTasks}
 
 pub sent_fine : (come : ℕ → Bool) (g p : ℕ) (n : Task) → p < 25 → GoodTask n
     → Landed come (launch g p n.first) n.first × Landed come (launch g p n.second) n.second
@@ -26,7 +25,7 @@ placed_read f placed x l = cond_both (pick (unread f) (station_of f) none_busy x
     (sent_from f.generation (f.course.task x).here (f.course.task x)) (f.at x)
     (λ w. is_there w ≡ (f.course.task x).declared)
     (λ e. sym (there (f.at x) (and_parts (is_idle (f.at x)) _ (pick_may (unread f) (station_of f) none_busy x e)).0)
-        ∙ placed x l) (λ e. placed x l)
+    ∙ placed x l) (λ e. placed x l)
   where
     there : (w : Phase) → is_idle w ≡ true → is_there w ≡ true
     there Absent h = absurd (cc)
@@ -90,9 +89,11 @@ placed_units u f placed x l = cond_both (issued u (finish_front u f) x) Working 
   where
     kept : is_there ((finish_front u f).at x) ≡ (f.course.task x).declared
     kept = finished_there f.generation (f.at x) (u (tile_of f x)) (f.course.task x) ∙ placed x l
+
     idle : issued u (finish_front u f) x ≡ true → is_idle ((finish_front u f).at x) ≡ true
     idle e = (and_parts (is_idle ((finish_front u f).at x)) _ (and_parts (unissued (finish_front u f) x) _
         (pick_may (ready (finish_front u f)) (tile_of f) (busy u) x e)).0).0
+
     there : (w : Phase) → is_idle w ≡ true → is_there w ≡ true
     there Absent h = absurd (cc)
     there Idle h = refl
@@ -105,27 +106,29 @@ placed_units u f placed x l = cond_both (issued u (finish_front u f) x) Working 
 module _ (u ud : ℕ → ℕ) (f : Front) where
   abbrev v : ℕ → ℕ
   v = less_one u
+
   abbrev f1 : Front
   f1 = finish_front (less_one u) f
+
   pub fine_units : GoodTasks f → ((t : ℕ) → units_after (less_one u) (finish_front (less_one u) f) t ≤ ud t) → Fine u f
       → Fine ud (issue_front (less_one u) (finish_front (less_one u) f))
   fine_units good kept fine x l = cond_both (issued v f1 x) Working
       (finished f.generation (f.at x) (v (tile_of f x)) (f.course.task x)) (FineAt ud f.come (f.course.task x))
       (λ e.
-          let n : busy v (tile_of f x) ≡ false = pick_free (ready f1) (tile_of f) (busy v) x e in
-          let a : 1 ≤ found f.course.room (λ y. issued v f1 y && tile_of f y == tile_of f x) (λ y. (f.course.task y).latency) =
-              found_pos f.course.room _ _ x (λ y m. (good y).takes) l
-              (and_from (issued v f1 x) _ e (eq-eqb (tile_of f x) (tile_of f x) refl)) in
-          let b : units_after v f1 (tile_of f x)
-              ≡ found f.course.room (λ y. issued v f1 y && tile_of f y == tile_of f x) (λ y. (f.course.task y).latency) =
-              cond-false (busy v (tile_of f x)) _ _ n in
-          let c : units_after v f1 (tile_of f x) ≤ ud (tile_of f x) = kept (tile_of f x) in
-          omega (arith, a, b, c))
+      let n : busy v (tile_of f x) ≡ false = pick_free (ready f1) (tile_of f) (busy v) x e in
+      let a : 1 ≤ found f.course.room (λ y. issued v f1 y && tile_of f y == tile_of f x) (λ y. (f.course.task y).latency) =
+      found_pos f.course.room _ _ x (λ y m. (good y).takes) l
+      (and_from (issued v f1 x) _ e (eq-eqb (tile_of f x) (tile_of f x) refl)) in
+      let b : units_after v f1 (tile_of f x)
+      ≡ found f.course.room (λ y. issued v f1 y && tile_of f y == tile_of f x) (λ y. (f.course.task y).latency) =
+      cond-false (busy v (tile_of f x)) _ _ n in
+      let c : units_after v f1 (tile_of f x) ≤ ud (tile_of f x) = kept (tile_of f x) in
+      omega (arith, a, b, c))
       (λ e. finished_fine u ud f.come f.generation (f.course.task x) (f.at x) (v (tile_of f x)) (good x)
-          (λ i. let b : v (tile_of f x) ≤ units_after v f1 (tile_of f x) = after_grows v f1 (tile_of f x) in
-                let c : units_after v f1 (tile_of f x) ≤ ud (tile_of f x) = kept (tile_of f x) in
-                omega (arith, i, b, c))
-          (fine x l))
+      (λ i. let b : v (tile_of f x) ≤ units_after v f1 (tile_of f x) = after_grows v f1 (tile_of f x) in
+      let c : units_after v f1 (tile_of f x) ≤ ud (tile_of f x) = kept (tile_of f x) in
+      omega (arith, i, b, c))
+      (fine x l))
 
 -- the mesh --------------------------------------------------------------------------------------
 
@@ -144,11 +147,12 @@ moved_fine u come come2 n m k h j Working a b more new f = f
 moved_fine u come come2 n m k h j (Asking p) a b more new f =
     asked_fine u come2 n (goes m h p) (goes_bounded m h p a (way_bounded p f))
 moved_fine u come come2 n m k h j Standing a b more new f = tt
-moved_fine u come come2 n m k h j (Sent p q) a b more new f =
-    (landed_kept m h come come2 p n.first a more
-         (λ s e. new s (or_left (landed p (goes m h p) n.first s) _ e)) f.0,
-     landed_kept k j come come2 q n.second b more
-         (λ s e. new s (or_right (landed p (goes m h p) n.first s) _ e)) f.1)
+moved_fine u come come2 n m k h j (Sent p q) a b more new f = (
+  landed_kept m h come come2 p n.first a more
+      (λ s e. new s (or_left (landed p (goes m h p) n.first s) _ e)) f.0,
+  landed_kept k j come come2 q n.second b more
+      (λ s e. new s (or_right (landed p (goes m h p) n.first s) _ e)) f.1,
+)
 
 moved_there : (m k : Bool) (h j : ℕ) (w : Phase) → is_there (moved m k h j w) ≡ is_there w
 moved_there m k h j Absent = refl
@@ -174,5 +178,5 @@ module _ (f : Front) (hold : ℕ → ℕ) where
       (hold (suc (2 * x))) (f.at x) (holds (2 * x)) (holds (suc (2 * x)))
       (λ s e. or_left (f.come s) _ e)
       (λ s e. or_right (f.come s) _ (any_from f.course.room
-          (λ y. delivers (f.at y) (move_at hold f y) (f.course.task y) s) x l e))
+      (λ y. delivers (f.at y) (move_at hold f y) (f.course.task y) s) x l e))
       (fine x l)

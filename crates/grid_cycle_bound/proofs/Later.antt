@@ -1,13 +1,11 @@
 -- What still acts after a part of a cycle.
-use Rattle.std.proofs.Common.{◌≡◌, ℕ, zero, suc, ◌<◌, Bool, true, false, cond, ◌==◌, ◌&&◌, not, ◌⊎◌, inl, inr}
-use Rattle.std.proofs.Common.{refl, sym, ap, ◌∙◌, subst, arith}
+use Rattle.std.proofs.Common.{◌≡◌, ℕ, ◌<◌, Bool, true, false, ◌&&◌, not, ◌⊎◌, inl, inr}
+use Rattle.std.proofs.Common.{refl, sym, ◌∙◌, subst}
 use Rattle.std.proofs.lemmas.Bool.{and_parts, cond-false, cases_Bool, both_ways, not-true}
-use Rattle.operand_net.specs.declared.parcel.Stand.{Stand}
-use Rattle.operand_net.specs.declared.parcel.Stand.TheVariants.{Nowhere, Away, Held}
 use Rattle.grid_cycle_bound.specs.Course.{is_reading, Task}
 use Rattle.grid_cycle_bound.specs.Lane.{Phase, Absent, Idle, Working, Asking, Standing, Sent, is_idle, is_standing, Front}
 use Rattle.grid_cycle_bound.specs.Lane.{first_parcel, second_parcel, all_come, unread, unissued, ready, answerable}
-use Rattle.grid_cycle_bound.specs.Serving.{pick, none_busy, station_of, tile_of, sent_from, reads_front, finished, finish_front}
+use Rattle.grid_cycle_bound.specs.Serving.{pick, none_busy, station_of, tile_of, reads_front, finished, finish_front}
 use Rattle.grid_cycle_bound.specs.Serving.{busy, issued, issue_front, is_nowhere}
 use Rattle.grid_cycle_bound.proofs.Counting.{pick_may}
 use Rattle.grid_cycle_bound.proofs.Stuck.{Active, reads, answers, fires, works, travels}
@@ -49,7 +47,7 @@ module _ (f : Front) where
   read_idle : (x : ℕ) → picked x ≡ true → (f.at x ≡ Idle) × (is_reading (f.course.task x).kind ≡ true)
   read_idle x e =
       let b : (is_idle (f.at x) ≡ true) × (is_reading (f.course.task x).kind ≡ true) =
-          and_parts (is_idle (f.at x)) _ (pick_may (unread f) (station_of f) none_busy x e) in
+      and_parts (is_idle (f.at x)) _ (pick_may (unread f) (station_of f) none_busy x e) in
       (idle_is _ b.0, b.1)
 
   -- what is not chosen stays
@@ -66,21 +64,37 @@ module _ (f : Front) where
       both_ways _ (not-true _ k) (read_idle x e).1
 
   read_later5 : Later5 f → Later5 (reads_front f)
-  read_later5 (inl (x, l, inl r)) = inl (x, l, inl (subst
-      (λ w. ((is_idle w && not (is_reading (f.course.task x).kind))
-          && ((f.course.task x).met && all_come f.come (f.course.task x).needs)) ≡ true)
-      (sym (same_at x (not_read x (and_parts (unissued f x) _ r).0))) r))
-  read_later5 (inl (x, l, inr w)) = inl (x, l, inr (same_at x (λ e.
-      let n : f.at x ≡ Idle = (read_idle x e).0 in let k : Idle ≡ Working = sym n ∙ w in cc) ∙ w))
-  read_later5 (inr (x, l, t)) = inr (x, l, subst Carries
-      (sym (same_at x (λ e. idle_bare (f.at x) (read_idle x e).0 t))) t)
+  read_later5 (inl (x, l, inl r)) = inl (
+    x,
+    l,
+    inl (subst
+        (λ w. ((is_idle w && not (is_reading (f.course.task x).kind))
+        && ((f.course.task x).met && all_come f.come (f.course.task x).needs)) ≡ true)
+        (sym (same_at x (not_read x (and_parts (unissued f x) _ r).0))) r),
+  )
+  read_later5 (inl (x, l, inr w)) = inl (
+    x,
+    l,
+    inr (same_at x (λ e.
+        let n : f.at x ≡ Idle = (read_idle x e).0 in let k : Idle ≡ Working = sym n ∙ w in cc) ∙ w),
+  )
+  read_later5 (inr (x, l, t)) = inr (
+    x,
+    l,
+    subst Carries
+        (sym (same_at x (λ e. idle_bare (f.at x) (read_idle x e).0 t))) t,
+  )
 
   pub read_later4 : Later4 f → Later4 (reads_front f)
-  read_later4 (inl (x, l, a)) = inl (x, l, subst
-      (λ w. (is_standing w && all_come f.come (f.course.task x).waits) ≡ true)
-      (sym (same_at x (λ e. let n : f.at x ≡ Idle = (read_idle x e).0 in
-          let k : f.at x ≡ Standing = standing_is _ (and_parts (is_standing (f.at x)) _ a).0 in
-          let z : Idle ≡ Standing = sym n ∙ k in cc))) a)
+  read_later4 (inl (x, l, a)) = inl (
+    x,
+    l,
+    subst
+        (λ w. (is_standing w && all_come f.come (f.course.task x).waits) ≡ true)
+        (sym (same_at x (λ e. let n : f.at x ≡ Idle = (read_idle x e).0 in
+        let k : f.at x ≡ Standing = standing_is _ (and_parts (is_standing (f.at x)) _ a).0 in
+        let z : Idle ≡ Standing = sym n ∙ k in cc))) a,
+  )
   read_later4 (inr r) = inr (read_later5 r)
 
 -- (5) -------------------------------------------------------------------------------------------
@@ -103,6 +117,7 @@ module _ (v : ℕ → ℕ) (f : Front) where
     where
       kept : f1.at x ≡ f.at x
       kept = still_parcel f.generation (f.at x) (v (tile_of f x)) (f.course.task x) t
+
       not_chosen : (issued v f1 x ≡ true) ⊎ (issued v f1 x ≡ false) → (issue_front v f1).at x ≡ f.at x
       not_chosen (inr e) = cond-false (issued v f1 x) Working (f1.at x) e ∙ kept
       not_chosen (inl e) =

@@ -1,17 +1,17 @@
 -- One parcel's tick, and what it does to a task.
-use Rattle.std.proofs.Common.{◌≡◌, ℕ, zero, suc, ◌+◌, ◌-◌, ◌<◌, ◌≤◌, Bool, true, false, cond, ◌==◌, ◌&&◌, ◌||◌, not}
-use Rattle.std.proofs.Common.{◌⊎◌, inl, inr, Option, Some, None, refl, sym, ap, ◌∙◌, subst, arith}
-use Rattle.std.proofs.lemmas.Bool.{cond_both, cond-true, cond-false, eqb-true, eqb-false, eq-eqb, cases_Bool}
+use Rattle.std.proofs.Common.{◌≡◌, ℕ, zero, suc, ◌+◌, ◌<◌, ◌≤◌, Bool, true, false, cond, ◌==◌}
+use Rattle.std.proofs.Common.{◌⊎◌, inl, inr, Option, Some, None, refl, sym, subst, arith}
+use Rattle.std.proofs.lemmas.Bool.{cond_both, eqb-false, eq-eqb}
 use Rattle.operand_net.specs.declared.parcel.Trip.{Trip}
 use Rattle.operand_net.specs.declared.parcel.Stand.{Stand}
 use Rattle.operand_net.specs.declared.parcel.Stand.TheVariants.{Nowhere, Away, Held}
-use Rattle.operand_net.specs.Tick.{next_of, ticked}
+use Rattle.operand_net.specs.Tick.{next_of}
 use Rattle.grid_cycle_spec.specs.Stations.{far}
 use Rattle.grid_cycle_spec.specs.Laws.{IsNearer}
 use Rattle.grid_cycle_spec.proofs.Routes.{far_at_most, leads_nearer}
-use Rattle.grid_cycle_bound.specs.Course.{Target, Task, OnMesh}
+use Rattle.grid_cycle_bound.specs.Course.{Target, OnMesh}
 use Rattle.grid_cycle_bound.specs.Lane.{Phase, Absent, Idle, Working, Asking, Standing, Sent}
-use Rattle.grid_cycle_bound.specs.Serving.{parcel, launch, taken, goes, asked, moved, hits, is_nowhere, landed}
+use Rattle.grid_cycle_bound.specs.Serving.{parcel, launch, taken, goes, asked, moved, is_nowhere, landed}
 use Rattle.grid_cycle_bound.specs.Left.{parcel_left, task_left}
 use Rattle.grid_cycle_bound.specs.Laws.{Bounded, Has, Landed, OnItsWay}
 
@@ -61,7 +61,7 @@ goes_left free h (Held trip (suc (suc k))) l b = omega arith
 goes_left free h (Away trip a) l b = away_both free h trip a (λ s. parcel_left s ≤ far a trip.to + 4)
     (λ e. let x : parcel_left (taken (Held trip h)) ≤ 3 = held_left trip h l in omega (arith, x))
     (λ e k. let x : parcel_left (taken (onward h trip a)) + 1 ≤ far a trip.to + 4 = onward_left h trip a l b e in
-        omega (arith, x))
+    omega (arith, x))
     (λ e k. omega arith)
 
 -- a parcel that is at its end, and one whose link is free
@@ -182,14 +182,14 @@ pub moved_drop_first : (m k : Bool) (h j c : ℕ) (w : Phase) (p : Stand) → h 
     → task_left c (moved m k h j w) + 1 ≤ task_left c w
 moved_drop_first m k h j c w p l i b (inl e) g = subst (λ w. task_left c (moved m k h j w) + 1 ≤ task_left c w) (sym e)
     (let n : Bounded p = subst Both e b in
-     let a : task_left c (asked (goes m h p)) ≤ parcel_left (goes m h p) + 25 = asked_left c (goes m h p) in
-     let d : parcel_left (goes m h p) + 1 ≤ parcel_left p = goes_drop m h p l n g in
-     omega (arith, a, d))
+    let a : task_left c (asked (goes m h p)) ≤ parcel_left (goes m h p) + 25 = asked_left c (goes m h p) in
+    let d : parcel_left (goes m h p) + 1 ≤ parcel_left p = goes_drop m h p l n g in
+    omega (arith, a, d))
 moved_drop_first m k h j c w p l i b (inr r) g = subst (λ w. task_left c (moved m k h j w) + 1 ≤ task_left c w) (sym r.1)
     (let n : Bounded p × Bounded r.0 = subst Both r.1 b in
-     let a : parcel_left (goes m h p) + 1 ≤ parcel_left p = goes_drop m h p l n.0 g in
-     let d : parcel_left (goes k j r.0) ≤ parcel_left r.0 = goes_left k j r.0 i n.1 in
-     omega (arith, a, d))
+    let a : parcel_left (goes m h p) + 1 ≤ parcel_left p = goes_drop m h p l n.0 g in
+    let d : parcel_left (goes k j r.0) ≤ parcel_left r.0 = goes_left k j r.0 i n.1 in
+    omega (arith, a, d))
 
 pub moved_drop_second : (m k : Bool) (h j c : ℕ) (p q : Stand) → h ≤ 3 → j ≤ 3 → Bounded p × Bounded q → Leaves k q
     → task_left c (moved m k h j (Sent p q)) + 1 ≤ task_left c (Sent p q)

@@ -1,16 +1,13 @@
 -- A block's work is at most its share.
-use Rattle.std.proofs.Common.{◌≡◌, ℕ, zero, suc, ◌+◌, ◌-◌, ◌*◌, ◌<◌, ◌≤◌, Bool, true, false, cond, ◌==◌, ◌&&◌, ◌||◌, not, nat_lt, ◌⊎◌, inl, inr, List, [], ◌∷◌, Option, Some, None, refl, sym, ap, ap₂, ◌∙◌, subst, arith}
-use Rattle.std.proofs.lemmas.Bool.{and_parts, cond_both, cond-true, eqb-true, eqb-false, cases_Bool, both_ways, eq-eqb}
-use Rattle.operand_net.specs.declared.parcel.Stand.{Stand}
-use Rattle.operand_net.specs.declared.parcel.Stand.TheVariants.{Nowhere, Away, Held}
-use Rattle.grid_cycle_bound.specs.Course.{Kind, Reading, Plain, Serving, is_reading, Target, Task, Course, sum, tasks, Member, Hits, Fed, OnMesh, GoodTask, GoodBy, Good}
-use Rattle.grid_cycle_bound.specs.Lane.{any, Phase, Absent, Idle, Working, Asking, Standing, Sent, is_idle, is_standing, is_there, first_parcel, second_parcel, Front, all_come, unread, unissued, ready, answerable, complete}
-use Rattle.grid_cycle_bound.specs.Serving.{found, pick, none_busy, station_of, tile_of, parcel, launch, sent_from, result, fresh, reads_front, hits, settled, resolves, answer_one, at_tile, has_at, worked, finished, finish_front, busy, issued, issue_front, units_after, less_one, taken, goes, row, free_at, asked, moved, is_nowhere, landed, delivers, move_at, move_front}
+use Rattle.std.proofs.Common.{◌≡◌, ℕ, zero, suc, ◌+◌, ◌*◌, ◌<◌, ◌≤◌, Bool, true, false, cond, ◌==◌, ◌&&◌, refl, sym, ◌∙◌, subst, arith}
+use Rattle.std.proofs.lemmas.Bool.{and_parts, eqb-true}
+use Rattle.grid_cycle_bound.specs.Course.{Task, sum, tasks}
+use Rattle.grid_cycle_bound.specs.Lane.{Phase, Absent, Idle, Working, Asking, Standing, Sent, is_idle, is_there, Front, unissued, ready}
 use Rattle.grid_cycle_bound.specs.Left.{parcel_left, task_left, wait_left, on_tile, count_on, tile_left, work, most}
-use Rattle.grid_cycle_bound.specs.Laws.{Bounded, Has, Landed, OnItsWay, FineAt, Fine, Placed}
-use Rattle.grid_cycle_bound.proofs.Counting.{any_true, any_from, any_more, any_least, chosen, pick_may, pick_free, sum_le, sum_drop, found_le, found_pos}
-use Rattle.grid_cycle_bound.proofs.Work.{wait_le, wait_cap, on, Low, on_le, on_drop, tile_more, on_tile_at, count_less, count_drop, ready_unissued, work_le, work_drop, calm, calm_drop}
-use Rattle.grid_cycle_bound.proofs.Mesh.{launch_landed, launch_left, moved_left, moved_drop_first, moved_drop_second, Leaves, goes_bounded, landed_kept, landed_more, landed_bounded, way_bounded, bounded_left}
+use Rattle.grid_cycle_bound.specs.Laws.{FineAt, Fine, Placed}
+use Rattle.grid_cycle_bound.proofs.Counting.{sum_le}
+use Rattle.grid_cycle_bound.proofs.Work.{wait_cap, on, ready_unissued}
+use Rattle.grid_cycle_bound.proofs.Mesh.{landed_bounded, way_bounded, bounded_left}
 
 -- the most that a task has left, where it is there
 fine_left : (u : ℕ → ℕ) (come : ℕ → Bool) (n : Task) (c : ℕ) (w : Phase) → c ≤ 24 → FineAt u come n w
@@ -53,13 +50,13 @@ spread : (T n c : ℕ) (tile : ℕ → ℕ) (d : ℕ → Bool)
 spread T zero c tile d = let z : sum T (λ t. 0) ≤ 0 = sum_zero T in omega (arith, z)
 spread T (suc n) c tile d =
     let a : sum T (λ t. cond (tile n == t) (cond (d n) c 0) 0 + sum n (λ x. cond (tile x == t) (cond (d x) c 0) 0))
-        ≤ sum T (λ t. cond (tile n == t) (cond (d n) c 0) 0) + sum T (λ t. sum n (λ x. cond (tile x == t) (cond (d x) c 0) 0)) =
-        sum_apart T _ _ in
+    ≤ sum T (λ t. cond (tile n == t) (cond (d n) c 0) 0) + sum T (λ t. sum n (λ x. cond (tile x == t) (cond (d x) c 0) 0)) =
+    sum_apart T _ _ in
     let b : sum T (λ t. cond (tile n == t) (cond (d n) c 0) 0) ≤ cond (d n) c 0 = (one_of T (tile n) (cond (d n) c 0)).0 in
     let e : sum T (λ t. sum n (λ x. cond (tile x == t) (cond (d x) c 0) 0)) ≤ c * sum n (λ x. cond (d x) 1 0) =
-        spread T n c tile d in
+    spread T n c tile d in
     let m : cond (d n) c 0 + c * sum n (λ x. cond (d x) 1 0) ≤ c * (cond (d n) 1 0 + sum n (λ x. cond (d x) 1 0)) =
-        one (d n) (sum n (λ x. cond (d x) 1 0)) in
+    one (d n) (sum n (λ x. cond (d x) 1 0)) in
     omega (arith, a, b, e, m)
   where
     one : (b : Bool) (k : ℕ) → cond b c 0 + c * k ≤ c * (cond b 1 0 + k)
@@ -86,9 +83,9 @@ module _ (u : ℕ → ℕ) (fits : (t : ℕ) → u t ≤ 24) (f : Front) (placed
   wait_in : (t : ℕ) → wait_left (u t) (on_tile f (ready f) t) (count_on f (unissued f) t) ≤ Each f 24 t
   wait_in t =
       let a : wait_left (u t) (on_tile f (ready f) t) (count_on f (unissued f) t) ≤ 24 * count_on f (unissued f) t =
-          wait_cap (u t) (on_tile f (ready f) t) (count_on f (unissued f) t) (fits t) (ready_unissued f t) in
+      wait_cap (u t) (on_tile f (ready f) t) (count_on f (unissued f) t) (fits t) (ready_unissued f t) in
       let b : 24 * count_on f (unissued f) t ≤ Each f 24 t = scaled f.course.room (unissued f)
-          (λ x. (f.course.task x).tile == t) (λ x. (f.course.task x).declared) unissued_there in
+      (λ x. (f.course.task x).tile == t) (λ x. (f.course.task x).declared) unissued_there in
       omega (arith, a, b)
     where
       one : (a b d : Bool) → (a ≡ true → d ≡ true) → 24 * cond (a && b) 1 0 ≤ cond b (cond d 24 0) 0
@@ -98,19 +95,20 @@ module _ (u : ℕ → ℕ) (fits : (t : ℕ) → u t ≤ 24) (f : Front) (placed
       one false true true h = omega arith
       one false true false h = omega arith
       one false false d h = omega arith
+
       scaled : (n : ℕ) (p q d : ℕ → Bool) → ((x : ℕ) → x < n → p x ≡ true → d x ≡ true)
           → 24 * sum n (λ x. cond (p x && q x) 1 0) ≤ sum n (λ x. cond (q x) (cond (d x) 24 0) 0)
       scaled zero p q d h = omega arith
       scaled (suc n) p q d h =
           let a : 24 * cond (p n && q n) 1 0 ≤ cond (q n) (cond (d n) 24 0) 0 = one (p n) (q n) (d n) (h n (omega arith)) in
           let b : 24 * sum n (λ x. cond (p x && q x) 1 0) ≤ sum n (λ x. cond (q x) (cond (d x) 24 0) 0) =
-              scaled n p q d (λ x l. h x (omega arith)) in
+          scaled n p q d (λ x l. h x (omega arith)) in
           omega (arith, a, b)
 
   tasks_in : (t : ℕ) → on f.course u f.at t ≤ Each f 63 t
   tasks_in t = sum_le f.course.room _ _ (λ x l. one ((f.course.task x).tile == t) _ _
       (subst (λ d. task_left (u t) (f.at x) ≤ cond d 63 0) (placed x l)
-          (fine_left u f.come (f.course.task x) (u t) (f.at x) (fits t) (fine x l))))
+      (fine_left u f.come (f.course.task x) (u t) (f.at x) (fits t) (fine x l))))
     where
       one : (b : Bool) (x y : ℕ) → x ≤ y → cond b x 0 ≤ cond b y 0
       one true x y h = h
@@ -120,7 +118,7 @@ module _ (u : ℕ → ℕ) (fits : (t : ℕ) → u t ≤ 24) (f : Front) (placed
   tile_in t =
       let a = wait_in t in let b = tasks_in t in
       let c : Each f 24 t + Each f 63 t ≤ Each f 87 t =
-          sum_add f.course.room _ _ _ (λ x l. both ((f.course.task x).tile == t) (f.course.task x).declared) in
+      sum_add f.course.room _ _ _ (λ x l. both ((f.course.task x).tile == t) (f.course.task x).declared) in
       omega (arith, a, b, c)
     where
       both : (b d : Bool) → cond b (cond d 24 0) 0 + cond b (cond d 63 0) 0 ≤ cond b (cond d 87 0) 0
@@ -133,5 +131,5 @@ module _ (u : ℕ → ℕ) (fits : (t : ℕ) → u t ≤ 24) (f : Front) (placed
   work_most =
       let a : sum 16 (tile_left u f) ≤ sum 16 (Each f 87) = sum_le 16 _ _ (λ t l. tile_in t) in
       let b : sum 16 (Each f 87) ≤ 87 * tasks f.course =
-          spread 16 f.course.room 87 (λ x. (f.course.task x).tile) (λ x. (f.course.task x).declared) in
+      spread 16 f.course.room 87 (λ x. (f.course.task x).tile) (λ x. (f.course.task x).declared) in
       omega (arith, a, b)

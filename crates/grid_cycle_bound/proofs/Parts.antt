@@ -1,17 +1,17 @@
 -- What each part of a cycle does to one frame's work, where no older frame comes before it.
-use Rattle.std.proofs.Common.{◌≡◌, ℕ, zero, suc, ◌+◌, ◌-◌, ◌*◌, ◌/◌, ◌%◌, ◌<◌, ◌≤◌, Bool, true, false, cond, ◌==◌, ◌&&◌, ◌||◌, not, nat_lt, ◌⊎◌, inl, inr, List, [], ◌∷◌, Option, Some, None, refl, sym, ap, ap₂, ◌∙◌, subst, arith}
-use Rattle.std.proofs.lemmas.Bool.{and_parts, and_from, or_cases, or_left, or_right, cond_both, cond-true, cond-false, eqb-true, eq-eqb, cases_Bool, both_ways, lt-ltb, ltb-true, ltb-false, le-ltb, not-false, cases_lt}
+use Rattle.std.proofs.Common.{◌≡◌, ℕ, zero, suc, ◌+◌, ◌*◌, ◌/◌, ◌%◌, ◌<◌, ◌≤◌, Bool, true, false, cond, ◌==◌, ◌&&◌, ◌||◌, not, ◌⊎◌, inl, inr, List, [], ◌∷◌, refl, sym, ap, ◌∙◌, subst, arith}
+use Rattle.std.proofs.lemmas.Bool.{and_parts, and_from, or_cases, or_left, cond_both, cond-true, eq-eqb, cases_Bool, both_ways}
 use Rattle.operand_net.specs.Tick.{link_of, wants, any_wants, is_free}
 use Rattle.operand_net.specs.declared.parcel.Stand.{Stand}
 use Rattle.operand_net.specs.declared.parcel.Stand.TheVariants.{Nowhere, Away, Held}
-use Rattle.grid_cycle_bound.specs.Course.{Kind, Reading, Plain, Serving, is_reading, Target, Task, Course, sum, tasks, Member, Hits, Fed, OnMesh, GoodTask, GoodBy, Good}
-use Rattle.grid_cycle_bound.specs.Lane.{any, Phase, Absent, Idle, Working, Asking, Standing, Sent, is_idle, is_standing, is_there, first_parcel, second_parcel, Front, all_come, unread, unissued, ready, answerable, complete}
-use Rattle.grid_cycle_bound.specs.Serving.{found, pick, none_busy, station_of, tile_of, parcel, launch, sent_from, result, fresh, reads_front, hits, settled, resolves, answer_one, at_tile, has_at, worked, finished, finish_front, busy, issued, issue_front, units_after, less_one, taken, goes, row, free_at, asked, moved, is_nowhere, landed, delivers, move_at, move_front}
-use Rattle.grid_cycle_bound.specs.Left.{parcel_left, task_left, wait_left, on_tile, count_on, tile_left, work, most}
-use Rattle.grid_cycle_bound.specs.Laws.{Bounded, Has, Landed, OnItsWay, FineAt, Fine, Placed}
-use Rattle.grid_cycle_bound.proofs.Counting.{any_true, any_from, any_more, any_least, chosen, pick_may, pick_free, sum_le, sum_drop, found_le, found_pos}
-use Rattle.grid_cycle_bound.proofs.Work.{wait_le, wait_cap, on, Low, on_le, on_drop, tile_more, on_tile_at, count_less, count_drop, ready_unissued, work_le, work_drop, calm, calm_drop}
-use Rattle.grid_cycle_bound.proofs.Mesh.{Both, launch_landed, launch_left, moved_left, moved_drop_first, moved_drop_second, Leaves, goes_bounded, landed_kept, landed_more, landed_bounded, way_bounded, bounded_left}
+use Rattle.grid_cycle_bound.specs.Course.{is_reading, Task, GoodTask}
+use Rattle.grid_cycle_bound.specs.Lane.{any, Phase, Absent, Idle, Working, Asking, Standing, Sent, is_idle, is_standing, first_parcel, second_parcel, Front, all_come, unread, unissued, ready}
+use Rattle.grid_cycle_bound.specs.Serving.{pick, none_busy, station_of, launch, sent_from, reads_front, goes, row, free_at, asked, moved, is_nowhere, delivers, move_at, move_front}
+use Rattle.grid_cycle_bound.specs.Left.{parcel_left, task_left, work}
+use Rattle.grid_cycle_bound.specs.Laws.{FineAt, Fine}
+use Rattle.grid_cycle_bound.proofs.Counting.{chosen, pick_may}
+use Rattle.grid_cycle_bound.proofs.Work.{calm, calm_drop}
+use Rattle.grid_cycle_bound.proofs.Mesh.{Both, launch_left, moved_left, moved_drop_first, moved_drop_second, Leaves, landed_bounded, way_bounded}
 
 abbrev pub GoodTasks : Front → Type 0
 GoodTasks f = (x : ℕ) → GoodTask (f.course.task x)
@@ -40,7 +40,6 @@ module _ (u : ℕ → ℕ) (fits : (t : ℕ) → u t ≤ 24) (f : Front) (picked
     (gone : (x : ℕ) → picked x ≡ true → unissued f x ≡ false)
     (taken : (x : ℕ) → picked x ≡ true → is_idle (new x) ≡ false)
     (falls : (x c : ℕ) → x < f.course.room → picked x ≡ true → task_left c (new x) + 1 ≤ task_left c (f.at x)) where
-
   abbrev at2 : ℕ → Phase
   at2 x = cond (picked x) (new x) (f.at x)
 
@@ -197,13 +196,13 @@ module _ (u : ℕ → ℕ) (fits : (t : ℕ) → u t ≤ 24) (f : Front) (good :
   move_more : (x : ℕ) → x < f.course.room → ready f x ≡ true → ready (move_front hold f) x ≡ true
   move_more x l e =
       let a : (unissued f x ≡ true) × (((f.course.task x).met && all_come f.come (f.course.task x).needs) ≡ true) =
-          and_parts (unissued f x) _ e in
+      and_parts (unissued f x) _ e in
       let b : ((f.course.task x).met ≡ true) × (all_come f.come (f.course.task x).needs ≡ true) =
-          and_parts (f.course.task x).met _ a.1 in
+      and_parts (f.course.task x).met _ a.1 in
       and_from (unissued (move_front hold f) x) _
-          (subst (λ b. (b && not (is_reading (f.course.task x).kind)) ≡ true) (sym (idle_same x)) a.0)
-          (and_from (f.course.task x).met _ b.0
-              (all_come_more f.come come2 (f.course.task x).needs come_more b.1))
+      (subst (λ b. (b && not (is_reading (f.course.task x).kind)) ≡ true) (sym (idle_same x)) a.0)
+      (and_from (f.course.task x).met _ b.0
+      (all_come_more f.come come2 (f.course.task x).needs come_more b.1))
 
   move_low : (x c : ℕ) → x < f.course.room → task_left c (move_at hold f x) ≤ task_left c (f.at x)
   move_low x c l = moved_left (one x) (two x) (hold (2 * x)) (hold (suc (2 * x))) c (f.at x) (holds (2 * x))
@@ -237,8 +236,12 @@ module _ (u : ℕ → ℕ) (fits : (t : ℕ) → u t ≤ 24) (f : Front) (good :
   first_falls x l ih e = at (goes_or (row f) (2 * x) (first_parcel (f.at x)) e)
     where
       at : Leaves (one x) (first_parcel (f.at x)) ⊎ ((k : ℕ) × (any_wants (2 * x) (row f) k ≡ true)) → SomeFalls
-      at (inl g) = (x, l, λ c. moved_drop_first (one x) (two x) (hold (2 * x)) (hold (suc (2 * x))) c (f.at x)
-          (first_parcel (f.at x)) (holds (2 * x)) (holds (suc (2 * x))) (both x l) (first_shape (f.at x) e) g)
+      at (inl g) = (
+        x,
+        l,
+        λ c. moved_drop_first (one x) (two x) (hold (2 * x)) (hold (suc (2 * x))) c (f.at x)
+            (first_parcel (f.at x)) (holds (2 * x)) (holds (suc (2 * x))) (both x l) (first_shape (f.at x) e) g,
+      )
       at (inr k) = from_wanted x k.0 l ih k.1
 
   first_place : (x : ℕ) → row f (2 * x) ≡ first_parcel (f.at x)
@@ -254,12 +257,17 @@ module _ (u : ℕ → ℕ) (fits : (t : ℕ) → u t ≤ 24) (f : Front) (good :
       either k (inl a) = first_falls x l ih (wants_present (first_parcel (f.at x)) k
           (subst (λ p. wants p k ≡ true) (first_place x) a))
       either k (inr a) = from_wanted x k l ih a
+
       at : Leaves (two x) (second_parcel (f.at x)) ⊎ ((k : ℕ) × (any_wants (suc (2 * x)) (row f) k ≡ true)) → SomeFalls
-      at (inl g) = (x, l, λ c.
-          let s : (p : Stand) × (f.at x ≡ Sent p (second_parcel (f.at x))) = second_shape (f.at x) e in
-          subst (λ w. task_left c (moved (one x) (two x) (hold (2 * x)) (hold (suc (2 * x))) w) + 1 ≤ task_left c w)
-              (sym s.1) (moved_drop_second (one x) (two x) (hold (2 * x)) (hold (suc (2 * x))) c s.0
-              (second_parcel (f.at x)) (holds (2 * x)) (holds (suc (2 * x))) (subst Both s.1 (both x l)) g))
+      at (inl g) = (
+        x,
+        l,
+        λ c.
+            let s : (p : Stand) × (f.at x ≡ Sent p (second_parcel (f.at x))) = second_shape (f.at x) e in
+            subst (λ w. task_left c (moved (one x) (two x) (hold (2 * x)) (hold (suc (2 * x))) w) + 1 ≤ task_left c w)
+            (sym s.1) (moved_drop_second (one x) (two x) (hold (2 * x)) (hold (suc (2 * x))) c s.0
+            (second_parcel (f.at x)) (holds (2 * x)) (holds (suc (2 * x))) (subst Both s.1 (both x l)) g),
+      )
       at (inr k) = either k.0 (or_cases (wants (row f (2 * x)) k.0) _ k.1)
 
   one_falls : (x : ℕ) → x < f.course.room → Before x → Travels x → SomeFalls

@@ -1,6 +1,6 @@
 -- The prices of the blocks of a run are the cost of its trace.
-use Rattle.std.proofs.Common.{◌≡◌, ℕ, zero, suc, ◌+◌, ◌-◌, ◌*◌, ◌<◌, ◌≤◌, ◌⊎◌, inl, inr, Bool, true, false, cond, ◌==◌}
-use Rattle.std.proofs.Common.{List, [], ◌∷◌, ◌++◌, length, Option, Some, None, slice_get, slice_index, refl, sym, ap, ap₂, ◌∙◌, subst}
+use Rattle.std.proofs.Common.{◌≡◌, ℕ, zero, suc, ◌+◌, ◌-◌, ◌≤◌, ◌⊎◌, inl, inr, Bool, true, false, ◌==◌}
+use Rattle.std.proofs.Common.{List, [], ◌∷◌, ◌++◌, length, Option, Some, None, slice_get, slice_index, refl, sym, ap, ◌∙◌, subst}
 use Rattle.std.proofs.Common.{arith}
 use Rattle.std.proofs.lemmas.Bool.{cond_both}
 use Rattle.trips_isa.specs.declared.block.Block.{Block}
@@ -112,7 +112,7 @@ module _ (blocks : List Block) (s : State) where
       let e : cost_of blocks (after 0).trace ≡ cost_of blocks s.trace = ap (λ t. cost_of blocks t.trace) (runs_none blocks s) in
       let z : length s.trace + 0 ≡ length s.trace = omega arith in
       let t : total (sizes_from blocks s) (length s.trace + 0) ≡ total (sizes_from blocks s) (length s.trace) =
-          ap (total (sizes_from blocks s)) z in
+      ap (total (sizes_from blocks s)) z in
       omega (arith, e, t)
   trace_costs (suc n) l = go (trace_costs n) (next_adds n)
     where
@@ -123,12 +123,12 @@ module _ (blocks : List Block) (s : State) where
           let k : length (after (suc n)).trace ≡ suc (length (after n).trace) = ap length e ∙ length_more (after n).trace x in
           let h : Adding n = ih (omega (arith, k, l)) in
           let c : cost_of blocks (after (suc n)).trace ≡ cost_of blocks (after n).trace + cost_of blocks (x ∷ []) =
-              ap (cost_of blocks) e ∙ cost_more blocks (after n).trace (x ∷ []) in
+          ap (cost_of blocks) e ∙ cost_more blocks (after n).trace (x ∷ []) in
           let d : cost_in (slice_get blocks x.block) ≡ cost b = ap cost_in (ap (slice_get blocks) j ∙ i) in
           let p : price (sizes_from blocks s (length s.trace + n)) ≡ cost b = price_next n b i in
           let z : length s.trace + suc n ≡ suc (length s.trace + n) = omega arith in
           let t : total (sizes_from blocks s) (length s.trace + suc n)
-              ≡ price (sizes_from blocks s (length s.trace + n)) + total (sizes_from blocks s) (length s.trace + n) =
-              ap (total (sizes_from blocks s)) z in
+          ≡ price (sizes_from blocks s (length s.trace + n)) + total (sizes_from blocks s) (length s.trace + n) =
+          ap (total (sizes_from blocks s)) z in
           let w : cost_of blocks (x ∷ []) ≡ cost_in (slice_get blocks x.block) + 0 = refl in
           omega (arith, h, c, d, p, t, w)

@@ -1,17 +1,17 @@
 -- A served cycle commits the block, or lowers what is left.
-use Rattle.std.proofs.Common.{◌≡◌, ℕ, zero, suc, ◌+◌, ◌-◌, ◌*◌, ◌<◌, ◌≤◌, Bool, true, false, cond, ◌==◌, ◌&&◌, ◌||◌}
-use Rattle.std.proofs.Common.{not, nat_lt, ◌⊎◌, inl, inr, Option, Some, None, refl, sym, ap, ◌∙◌, subst, arith}
-use Rattle.std.proofs.lemmas.Bool.{cond_both, cond-true, cond-false, cases_Bool, both_ways, lt-ltb}
-use Rattle.grid_cycle_bound.specs.Course.{Course, GoodTask, GoodBy, Good, tasks}
-use Rattle.grid_cycle_bound.specs.Lane.{Phase, Working, Front, Stage, Running, Fetching, Lane, unread, ready, answerable}
-use Rattle.grid_cycle_bound.specs.Lane.{complete, is_complete}
-use Rattle.grid_cycle_bound.specs.Serving.{station_of, tile_of, fresh, fetching, reads_front, reading, TilesAnswer, less_one}
-use Rattle.grid_cycle_bound.specs.Serving.{finish_front, busy, issue_front, units_after, turning, own_units, move_front, moving}
+use Rattle.std.proofs.Common.{◌≡◌, ℕ, zero, suc, ◌+◌, ◌*◌, ◌<◌, ◌≤◌, Bool, true, false}
+use Rattle.std.proofs.Common.{◌⊎◌, inl, inr, Option, Some, None, refl, sym, ap, ◌∙◌, subst, arith}
+use Rattle.std.proofs.lemmas.Bool.{cond_both, cond-true, cond-false, both_ways, lt-ltb}
+use Rattle.grid_cycle_bound.specs.Course.{Course, Good, tasks}
+use Rattle.grid_cycle_bound.specs.Lane.{Front, Stage, Running, Fetching, Lane, unread}
+use Rattle.grid_cycle_bound.specs.Lane.{is_complete}
+use Rattle.grid_cycle_bound.specs.Serving.{station_of, fresh, fetching, reads_front, reading, TilesAnswer, less_one}
+use Rattle.grid_cycle_bound.specs.Serving.{finish_front, busy, units_after, turning, own_units, move_front, moving}
 use Rattle.grid_cycle_bound.specs.Serving.{Serves, Served}
 use Rattle.grid_cycle_bound.specs.Left.{work, most, reserve, fetch_left, stage_left, left, price}
-use Rattle.grid_cycle_bound.specs.Laws.{FineAt, Fine, Placed, AtMost, FrontRule, StageRule, LaneRule, Falls}
+use Rattle.grid_cycle_bound.specs.Laws.{FineAt, AtMost, StageRule, LaneRule, Falls}
 use Rattle.grid_cycle_bound.proofs.Stuck.{Active, never_stuck}
-use Rattle.grid_cycle_bound.proofs.Parts.{GoodTasks, read_le, read_drop, move_le, move_drop}
+use Rattle.grid_cycle_bound.proofs.Parts.{read_le, read_drop, move_le, move_drop}
 use Rattle.grid_cycle_bound.proofs.Units.{turn_le, turn_drop}
 use Rattle.grid_cycle_bound.proofs.Kept.{fine_read, placed_read, fine_fresh, placed_fresh, fine_units, placed_units}
 use Rattle.grid_cycle_bound.proofs.Kept.{fine_move, placed_move}
@@ -42,7 +42,7 @@ module _ (n : ℕ) (u : ℕ → ℕ) (fits : (t : ℕ) → u t ≤ 24) where
   fetch_falls g c e None s = omega arith
   fetch_falls g c e (Some zero) s =
       let a : work u (fresh g c s) ≤ most (tasks c) =
-          work_most u fits (fresh g c s) (placed_fresh g c s) (fine_fresh u g c s) in
+      work_most u fits (fresh g c s) (placed_fresh g c s) (fine_fresh u g c s) in
       let r : reserve s (tasks c) ≡ reserve s n = ap (reserve s) e in
       omega (arith, a, r, e)
   fetch_falls g c e (Some (suc k)) s = omega arith
@@ -95,7 +95,7 @@ module _ (n : ℕ) (u : ℕ → ℕ) (fits : (t : ℕ) → u t ≤ 24) where
     stays : (f : Front) → Own (Running f) → (t : ℕ) → 1 ≤ less_one u t → u2 t ≡ less_one u t
     stays f own t l =
         let e : units_after (less_one u) (finish_front (less_one u) f) t ≡ less_one u t =
-            cond-true (busy (less_one u) t) _ _ (lt-ltb 0 (less_one u t) l) in
+        cond-true (busy (less_one u) t) _ _ (lt-ltb 0 (less_one u t) l) in
         own t (rw e l) ∙ e
 
     at_least : (f : Front) → Own (Running f) → (t : ℕ)
@@ -127,7 +127,7 @@ module _ (n : ℕ) (u : ℕ → ℕ) (fits : (t : ℕ) → u t ≤ 24) where
         inl (let a = turn_drop u u2 fits fits2 f r.good.by.good (stays f own) x l (inl e) in omega (arith, a))
     turns_st (Running f) r own (inl (x, l, inr e)) =
         inl (let a = turn_drop u u2 fits fits2 f r.good.by.good (stays f own) x l
-                 (inr (e, subst (FineAt u f.come (f.course.task x)) e (r.fine x l))) in omega (arith, a))
+        (inr (e, subst (FineAt u f.come (f.course.task x)) e (r.fine x l))) in omega (arith, a))
     turns_st (Running f) r own (inr a) = inr (turn_parcel (less_one u) f a)
 
   -- (6)
@@ -151,7 +151,7 @@ module _ (n : ℕ) (u : ℕ → ℕ) (fits : (t : ℕ) → u t ≤ 24) where
         → stage_left n u (moving hold s) + 1 ≤ stage_left n u s
     moves_st (Running f) r (x, l, t) =
         let a : work u (move_front hold f) + 1 ≤ work u f =
-            move_drop u fits f r.good.by.good r.fine hold holds x l t in
+        move_drop u fits f r.good.by.good r.fine hold holds x l t in
         omega (arith, a)
     moves_st (Fetching o s) r a = absurd a
 
@@ -201,28 +201,40 @@ module _ (sizes : ℕ → ℕ) (l m : Lane) (units : (t : ℕ) → l.units t ≤
     (r : StageRule (sizes l.done) l.units l.stage) (v : Serves sizes l m) where
   abbrev c : ℕ
   c = sizes l.done
+
   abbrev s2 : Stage
   s2 = fetching v.generation v.filled l.stage
+
   abbrev s3 : Stage
   s3 = reading s2
+
   abbrev s4 : Stage
   s4 = v.answered
+
   abbrev s5 : Stage
   s5 = turning l.units s4
+
   abbrev s6 : Stage
   s6 = moving v.hold s5
+
   r2 : StageRule c l.units s2
   r2 = fetch_rule c l.units units v.generation v.filled v.is_filled v.good l.stage r
+
   r3 : StageRule c l.units s3
   r3 = read_rule c l.units units s2 r2
+
   r4 : StageRule c l.units s4
   r4 = (some_tiles c l.units units 4 s3 s4 r3 v.answers).0
+
   r5 : StageRule c m.units s5
   r5 = turn_rule c l.units units m.units v.units s4 r4 v.own
+
   r6 : StageRule c m.units s6
   r6 = move_rule c m.units v.units v.hold v.holds s5 r5
+
   a3 : stage_left c l.units s3 ≤ stage_left c l.units s2
   a3 = reads_le c l.units units s2 r2
+
   a4 : stage_left c l.units s4 ≤ stage_left c l.units s3
   a4 = go (some_tiles c l.units units 4 s3 s4 r3 v.answers).1
     where
@@ -231,8 +243,10 @@ module _ (sizes : ℕ → ℕ) (l m : Lane) (units : (t : ℕ) → l.units t ≤
       go (inl h) = omega (arith, h)
       go (inr h) = let e : stage_left c l.units s4 ≡ stage_left c l.units s3 = ap (stage_left c l.units) h.0 in
           omega (arith, e)
+
   a5 : stage_left c m.units s5 ≤ stage_left c l.units s4
   a5 = turns_le c l.units units m.units v.units s4 r4 v.own
+
   a6 : stage_left c m.units s6 ≤ stage_left c m.units s5
   a6 = moves_le c m.units v.units v.hold v.holds s5 r5
 
@@ -244,10 +258,12 @@ module _ (sizes : ℕ → ℕ) (l m : Lane) (units : (t : ℕ) → l.units t ≤
       three (inl a) = omega (arith, a, a3, a4, a6)
       three (inr k) = let a = moves_st c m.units v.units v.hold v.holds s5 r5 k in
           omega (arith, a, a3, a4, a5)
+
       two : (stage_left c l.units s4 + 1 ≤ stage_left c l.units s3) ⊎ OnStage Later5 s4
           → stage_left c m.units s6 + 1 ≤ stage_left c l.units s2
       two (inl a) = omega (arith, a, a3, a5, a6)
       two (inr k) = three (turns_st c l.units units m.units v.units s4 r4 v.own k)
+
       one : (stage_left c l.units s3 + 1 ≤ stage_left c l.units s2) ⊎ OnStage Later4 s3
           → stage_left c m.units s6 + 1 ≤ stage_left c l.units s2
       one (inl a) = omega (arith, a, a4, a5, a6)
@@ -262,27 +278,32 @@ module _ (sizes : ℕ → ℕ) (l m : Lane) (units : (t : ℕ) → l.units t ≤
       omega (arith, a, b)
   falls_from (Fetching o b) k e i =
       let a : stage_left c l.units (fetching v.generation v.filled (Fetching o b)) + 1 ≤ stage_left c l.units (Fetching o b) =
-          fetch_falls c l.units units v.generation v.filled v.is_filled o b in
+      fetch_falls c l.units units v.generation v.filled v.is_filled o b in
       let d : stage_left c l.units (fetching v.generation v.filled (Fetching o b)) ≡ stage_left c l.units s2 =
-          ap (stage_left c l.units) i in
+      ap (stage_left c l.units) i in
       omega (arith, a, a3, a4, a5, a6, d)
 
   pub serves_falls : is_complete l.stage ≡ false → Falls sizes l m
-  serves_falls open' = inr (v.done,
-      record {
-        units = v.units;
-        stage = inr (subst (λ s. StageRule (sizes m.done) m.units s) (sym v.stage)
-            (subst (λ d. StageRule (sizes d) m.units s6) (sym v.done) r6));
-      }, lower)
+  serves_falls open' = inr (
+    v.done,
+    record {
+      units = v.units;
+      stage = inr (subst (λ s. StageRule (sizes m.done) m.units s) (sym v.stage)
+          (subst (λ d. StageRule (sizes d) m.units s6) (sym v.done) r6));
+    },
+    lower,
+  )
     where
       now : left sizes l ≡ stage_left c l.units l.stage
       now = cond-false (is_complete l.stage) _ _ open'
+
       after : left sizes m ≤ stage_left c m.units s6
       after = cond_both (is_complete m.stage) 1 (stage_left (sizes m.done) m.units m.stage)
           (λ n. n ≤ stage_left c m.units s6) (λ e. stage_some c m.units s6)
           (λ e. let b : stage_left (sizes m.done) m.units m.stage ≡ stage_left c m.units s6 =
-                    ap (λ d. stage_left (sizes d) m.units m.stage) v.done ∙ ap (stage_left c m.units) v.stage in
-                omega (arith, b))
+          ap (λ d. stage_left (sizes d) m.units m.stage) v.done ∙ ap (stage_left c m.units) v.stage in
+          omega (arith, b))
+
       lower : left sizes m < left sizes l
       lower = let a : stage_left c m.units s6 + 1 ≤ stage_left c l.units l.stage = falls_from l.stage r open' refl in
           omega (arith, a, now, after)

@@ -1,7 +1,7 @@
 -- A course has as many tasks as the block has instructions and reads, so that its price is the block's cost.
-use Rattle.std.proofs.Common.{◌≡◌, ℕ, zero, suc, ◌+◌, ◌-◌, ◌*◌, ◌<◌, ◌≤◌, Bool, true, false, cond, nat_lt, List, []}
+use Rattle.std.proofs.Common.{◌≡◌, ℕ, zero, suc, ◌+◌, ◌-◌, ◌<◌, ◌≤◌, Bool, cond, nat_lt, List, []}
 use Rattle.std.proofs.Common.{◌∷◌, length, Option, Some, None, is_some, slice_get, slice_index_or, refl, sym, ap, ap₂}
-use Rattle.std.proofs.Common.{◌∙◌, subst, arith}
+use Rattle.std.proofs.Common.{◌∙◌, arith}
 use Rattle.std.proofs.lemmas.Bool.{cond-true, cond-false, lt-ltb, le-ltb}
 use Rattle.trips_isa.specs.declared.block.Inst.{Inst}
 use Rattle.trips_isa.specs.declared.block.ReadSlot.{ReadSlot}
@@ -52,14 +52,14 @@ insts_are : (xs : List (Option Inst)) → sum (length xs) (λ s. one (is_some (s
 insts_are [] = refl
 insts_are (None ∷ xs) =
     let h : sum (suc (length xs)) (λ s. one (is_some (slice_index_or (None ∷ xs) s None)))
-        ≡ 0 + sum (length xs) (λ s. one (is_some (slice_index_or xs s None))) =
-        sum_head (length xs) (λ s. one (is_some (slice_index_or (None ∷ xs) s None))) in
+    ≡ 0 + sum (length xs) (λ s. one (is_some (slice_index_or xs s None))) =
+    sum_head (length xs) (λ s. one (is_some (slice_index_or (None ∷ xs) s None))) in
     let k : sum (length xs) (λ s. one (is_some (slice_index_or xs s None))) ≡ instructions xs = insts_are xs in
     omega (arith, h, k)
 insts_are (Some i ∷ xs) =
     let h : sum (suc (length xs)) (λ s. one (is_some (slice_index_or (Some i ∷ xs) s None)))
-        ≡ 1 + sum (length xs) (λ s. one (is_some (slice_index_or xs s None))) =
-        sum_head (length xs) (λ s. one (is_some (slice_index_or (Some i ∷ xs) s None))) in
+    ≡ 1 + sum (length xs) (λ s. one (is_some (slice_index_or xs s None))) =
+    sum_head (length xs) (λ s. one (is_some (slice_index_or (Some i ∷ xs) s None))) in
     let k : sum (length xs) (λ s. one (is_some (slice_index_or xs s None))) ≡ instructions xs = insts_are xs in
     omega (arith, h, k)
 
@@ -69,7 +69,7 @@ reads_are n [] l = sum_none n
 reads_are zero (r ∷ rs) l = absurd (omega arith)
 reads_are (suc n) (r ∷ rs) l =
     let h : sum (suc n) (λ k. one (is_some (slice_get (r ∷ rs) k))) ≡ 1 + sum n (λ k. one (is_some (slice_get rs k))) =
-        sum_head n (λ k. one (is_some (slice_get (r ∷ rs) k))) in
+    sum_head n (λ k. one (is_some (slice_get (r ∷ rs) k))) in
     let k : sum n (λ k. one (is_some (slice_get rs k))) ≡ length rs = reads_are n rs (omega arith) in
     omega (arith, h, k)
 
@@ -103,10 +103,10 @@ module _ (b : Block) (g : ℕ → Answer) where
       ap (λ k. sum k (λ x. one (task_of b g x).declared)) e
       ∙ sum_split slot_tasks n (λ x. one (task_of b g x).declared)
       ∙ ap₂ (λ i j. i + j)
-          (sum_same slot_tasks _ (λ s. one (is_some (slot_of b s))) (λ s l. ap one (slot_declared s l))
-              ∙ ap (λ k. sum k (λ s. one (is_some (slot_of b s)))) (sym insts) ∙ insts_are b.insts.items)
-          (sum_same n _ (λ k. one (is_some (slice_get b.reads.items k))) (λ k l. ap one (read_declared k))
-              ∙ reads_are n b.reads.items reads)
+      (sum_same slot_tasks _ (λ s. one (is_some (slot_of b s))) (λ s l. ap one (slot_declared s l))
+      ∙ ap (λ k. sum k (λ s. one (is_some (slot_of b s)))) (sym insts) ∙ insts_are b.insts.items)
+      (sum_same n _ (λ k. one (is_some (slice_get b.reads.items k))) (λ k l. ap one (read_declared k))
+      ∙ reads_are n b.reads.items reads)
 
   pub tasks_are : FitsBlock b → tasks (course_of b g) ≡ size b
   tasks_are fits =

@@ -1,16 +1,16 @@
 -- Worked rows of the definitions: a block of a constant, which is the address of a load that waits for nothing, and
 -- whose token is the only output.
 use Rattle.std.proofs.Common.{◌≡◌, ℕ, zero, suc, Bool, true, false, [], ◌∷◌, Some, None, refl}
-use Rattle.operand_net.specs.declared.parcel.Stand.TheVariants.{Nowhere, Away, Held}
+use Rattle.operand_net.specs.declared.parcel.Stand.TheVariants.{Nowhere, Held}
 use Rattle.trips_isa.specs.declared.form.Form.TheVariants as form
 use Rattle.grid_cycle_spec.specs.Cycles.{begun_at}
 use Rattle.grid_cycle_spec.specs.Grid.{Grid}
-use Rattle.grid_cycle_bound.specs.Course.{Kind, Plain, Serving, Task, Course, tasks}
+use Rattle.grid_cycle_bound.specs.Course.{Plain, Serving, Task, Course, tasks}
 use Rattle.grid_cycle_bound.specs.Lane.{Phase, Idle, Working, Asking, Standing, Sent, Front, Stage, Running, Fetching, Lane}
 use Rattle.grid_cycle_bound.specs.Lane.{ready, complete}
-use Rattle.grid_cycle_bound.specs.Serving.{fresh, fetching, reading, turning, own_units, moving, answer_one, parcel, goes}
-use Rattle.grid_cycle_bound.specs.Left.{parcel_left, task_left, wait_left, stage_left, left, price, total}
-use Rattle.grid_cycle_bound.specs.Blocks.{kind_of, numbers_in, writes_of, course_of}
+use Rattle.grid_cycle_bound.specs.Serving.{fresh, fetching, turning, own_units, moving, answer_one, parcel, goes}
+use Rattle.grid_cycle_bound.specs.Left.{parcel_left, task_left, wait_left, left, price, total}
+use Rattle.grid_cycle_bound.specs.Blocks.{kind_of, numbers_in, writes_of}
 use Rattle.grid_cycle_bound.specs.Seen.{lane_of}
 
 -- task 0 is at tile 0, and task 1 at tile 1, which is a link away; its data tile is at node 5

@@ -1,13 +1,12 @@
 -- Never stuck: a frame that lacks an output has a node that acts or travels.
-use Rattle.std.proofs.Common.{◌≡◌, ℕ, zero, suc, ◌+◌, ◌<◌, ◌≤◌, Bool, true, false, cond, ◌==◌, ◌&&◌, ◌||◌, not, nat_lt, ◌⊎◌, inl, inr, List, [], ◌∷◌, Option, Some, None, refl, sym, ap, ◌∙◌, subst, arith}
-use Rattle.std.proofs.lemmas.Bool.{and_parts, and_from, and_cases, cases_Bool, both_ways, not_from_false, not_from_true}
+use Rattle.std.proofs.Common.{◌≡◌, ℕ, zero, suc, ◌<◌, Bool, true, false, ◌⊎◌, inl, inr, List, [], ◌∷◌, Option, Some, None, refl, sym, ap, ◌∙◌, subst, arith}
+use Rattle.std.proofs.lemmas.Bool.{and_from, and_cases, cases_Bool, both_ways, not_from_false}
 use Rattle.operand_net.specs.declared.parcel.Stand.{Stand}
 use Rattle.operand_net.specs.declared.parcel.Stand.TheVariants.{Nowhere, Away, Held}
-use Rattle.grid_cycle_bound.specs.Course.{Kind, Reading, Plain, Serving, is_reading, Target, Task, Course, sum, tasks, Member, Hits, Fed, OnMesh, GoodTask, GoodBy, Good}
-use Rattle.grid_cycle_bound.specs.Lane.{any, Phase, Absent, Idle, Working, Asking, Standing, Sent, is_idle, is_standing, is_there, first_parcel, second_parcel, Front, all_come, unread, unissued, ready, answerable, complete}
-use Rattle.grid_cycle_bound.specs.Serving.{found, pick, none_busy, station_of, tile_of, parcel, launch, sent_from, result, fresh, reads_front, hits, settled, resolves, answer_one, at_tile, has_at, worked, finished, finish_front, busy, issued, issue_front, units_after, less_one, taken, goes, row, free_at, asked, moved, is_nowhere, landed, delivers, move_at, move_front}
-use Rattle.grid_cycle_bound.specs.Left.{parcel_left, task_left, wait_left, on_tile, count_on, tile_left, work, most}
-use Rattle.grid_cycle_bound.specs.Laws.{Bounded, Has, Landed, OnItsWay, FineAt, Fine, Placed}
+use Rattle.grid_cycle_bound.specs.Course.{is_reading, Target, Member, Hits, Fed, GoodBy}
+use Rattle.grid_cycle_bound.specs.Lane.{Phase, Absent, Idle, Working, Asking, Standing, Sent, is_idle, is_standing, is_there, first_parcel, second_parcel, Front, all_come, unread, unissued, ready, answerable, complete}
+use Rattle.grid_cycle_bound.specs.Serving.{is_nowhere}
+use Rattle.grid_cycle_bound.specs.Laws.{Has, OnItsWay, FineAt, Fine, Placed}
 
 pub data Active (f : Front) : Type 0 where
   reads : (x : ℕ) → x < f.course.room → unread f x ≡ true → Active f
@@ -48,6 +47,7 @@ module _ (u : ℕ → ℕ) (f : Front) (rank : ℕ → ℕ) (top : ℕ) (good : 
       hit : f.at d.giver ≡ Sent Nowhere Nowhere → Hits (f.course.task d.giver).first q ⊎ Hits (f.course.task d.giver).second q → f.come q ≡ true
       hit e (inl k) = has_hit f.come (f.course.task d.giver).first q (subst (FineAt u f.come (f.course.task d.giver)) e (fine d.giver d.inside)).0 k
       hit e (inr k) = has_hit f.come (f.course.task d.giver).second q (subst (FineAt u f.come (f.course.task d.giver)) e (fine d.giver d.inside)).1 k
+
       go : Settled d.giver → Active f
       go (inl a) = a
       go (inr e) = absurd (both_ways (f.come q) n (hit e d.gives))
@@ -63,6 +63,7 @@ module _ (u : ℕ → ℕ) (f : Front) (rank : ℕ → ℕ) (top : ℕ) (good : 
       split : is_reading (f.course.task x).kind ≡ false → (all_come f.come (f.course.task x).needs ≡ true) ⊎ (all_come f.come (f.course.task x).needs ≡ false) → Active f
       split j (inl c) = fires x l (and_from (unissued f x) _ (and_from (is_idle (f.at x)) _ (ap is_idle e) (not_from_false _ j)) (and_from (f.course.task x).met _ m c))
       split j (inr c) = missing_active (rank x) (f.course.task x).needs ih (λ q k. good.fed x q l m k) c
+
       kind : (is_reading (f.course.task x).kind ≡ true) ⊎ (is_reading (f.course.task x).kind ≡ false) → Active f
       kind (inl j) = reads x l (and_from (is_idle (f.at x)) _ (ap is_idle e) j)
       kind (inr j) = split j (cases_Bool (all_come f.come (f.course.task x).needs))

@@ -1,6 +1,6 @@
 -- The tasks of a block are good.
-use Rattle.std.proofs.Common.{◌≡◌, ℕ, zero, suc, ◌+◌, ◌-◌, ◌*◌, ◌/◌, ◌%◌, ◌<◌, ◌≤◌, Bool, true, false, cond, nat_lt}
-use Rattle.std.proofs.Common.{Option, Some, None, is_some, slice_get, refl, sym, ap, ◌∙◌, subst, arith}
+use Rattle.std.proofs.Common.{ℕ, ◌-◌, ◌<◌, nat_lt}
+use Rattle.std.proofs.Common.{Option, Some, None, slice_get, refl, arith}
 use Rattle.std.proofs.lemmas.Bool.{cond_both}
 use Rattle.trips_isa.specs.declared.block.Token.TheVariants.{Null, Word}
 use Rattle.trips_isa.specs.declared.block.Inst.{Inst}
@@ -18,7 +18,7 @@ use Rattle.commit_flush_spec.specs.Frames.{is_target}
 use Rattle.grid_cycle_spec.specs.Stations.{data_node, data_tile_of, home}
 use Rattle.grid_cycle_spec.specs.DataTiles.{tile_by}
 use Rattle.grid_cycle_spec.proofs.Routes.{bank_inside, tile_inside, home_inside, takes_time}
-use Rattle.grid_cycle_bound.specs.Course.{Target, Task, OnMesh, GoodTask}
+use Rattle.grid_cycle_bound.specs.Course.{OnMesh, GoodTask}
 use Rattle.grid_cycle_bound.specs.Blocks.{slot_tasks, vacant, target_at, first_of, slot_task, read_task, task_of}
 
 vacant_good : GoodTask vacant

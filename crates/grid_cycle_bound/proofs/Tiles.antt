@@ -1,21 +1,21 @@
 -- The data tiles, one after another.
-use Rattle.std.proofs.Common.{◌≡◌, ℕ, zero, suc, ◌+◌, ◌-◌, ◌*◌, ◌<◌, ◌≤◌, Bool, true, false, cond, ◌==◌, ◌&&◌, ◌||◌}
-use Rattle.std.proofs.Common.{not, ◌⊎◌, inl, inr, List, [], ◌∷◌, Option, Some, None, refl, sym, ap, ap₂, ◌∙◌, subst, arith}
+use Rattle.std.proofs.Common.{◌≡◌, ℕ, zero, suc, ◌+◌, ◌*◌, ◌<◌, ◌≤◌, Bool, true, false, cond, ◌==◌, ◌&&◌}
+use Rattle.std.proofs.Common.{not, ◌⊎◌, inl, inr, Option, Some, None, refl, sym, ap, ap₂, ◌∙◌, subst, arith}
 use Rattle.std.proofs.Math.Path.{fun_ext}
 use Rattle.std.proofs.lemmas.Bool.{and_parts, and_from, or_left, or_right, cond_both, cond-true, cond-false, eqb-true}
 use Rattle.std.proofs.lemmas.Bool.{eq-eqb, cases_Bool, both_ways, cases_eq}
 use Rattle.operand_net.specs.declared.parcel.Stand.{Stand}
 use Rattle.operand_net.specs.declared.parcel.Stand.TheVariants.{Nowhere, Away, Held}
-use Rattle.grid_cycle_bound.specs.Course.{Target, Task, Course, sum, tasks, is_reading, GoodTask, Good}
+use Rattle.grid_cycle_bound.specs.Course.{Target, Task, sum, tasks, is_reading, GoodTask}
 use Rattle.grid_cycle_bound.specs.Lane.{any, Phase, Absent, Idle, Working, Asking, Standing, Sent, is_idle, is_there}
 use Rattle.grid_cycle_bound.specs.Lane.{is_standing, Front, Stage, Running, Fetching, all_come, unissued, ready, answerable}
-use Rattle.grid_cycle_bound.specs.Serving.{station_of, launch, sent_from, hits, settled, resolves, answer_one, at_tile, has_at}
-use Rattle.grid_cycle_bound.specs.Serving.{spot_of, Retold, RunsOn, Answered, TileAnswers, Between, TilesAnswer}
+use Rattle.grid_cycle_bound.specs.Serving.{station_of, hits, settled, resolves, answer_one, at_tile, has_at}
+use Rattle.grid_cycle_bound.specs.Serving.{spot_of, Retold, RunsOn, Answered, TileAnswers, TilesAnswer}
 use Rattle.grid_cycle_bound.specs.Left.{task_left, wait_left, work, reserve, stage_left}
 use Rattle.grid_cycle_bound.specs.Laws.{Has, Landed, FineAt, Fine, Placed, FrontRule, StageRule}
 use Rattle.grid_cycle_bound.proofs.Counting.{any_from}
 use Rattle.grid_cycle_bound.proofs.Mesh.{landed_more}
-use Rattle.grid_cycle_bound.proofs.Work.{calm, calm_drop}
+use Rattle.grid_cycle_bound.proofs.Work.{calm_drop}
 use Rattle.grid_cycle_bound.proofs.Parts.{GoodTasks, standing_is, idle_is, there_left, all_come_more}
 use Rattle.grid_cycle_bound.proofs.Kept.{sent_fine}
 
@@ -48,9 +48,10 @@ fine_more u come come2 n (Sent p q) m h = (landed_more come come2 p n.first m h.
 
 settled_fine : (u : ℕ → ℕ) (come2 : ℕ → Bool) (g : ℕ) (n : Task) (b : Bool) → GoodTask n
     → ((s : ℕ) → resolves b n s ≡ true → come2 s ≡ true) → FineAt u come2 n (settled g b n)
-settled_fine u come2 g n true k h =
-    (hit_has come2 n.first (λ s e. h s (or_left (hits n.first s) _ e)),
-     hit_has come2 n.second (λ s e. h s (or_right (hits n.first s) _ e)))
+settled_fine u come2 g n true k h = (
+  hit_has come2 n.first (λ s e. h s (or_left (hits n.first s) _ e)),
+  hit_has come2 n.second (λ s e. h s (or_right (hits n.first s) _ e)),
+)
 settled_fine u come2 g n false k h = sent_fine come2 g n.served_at n k.served_at k
 
 module _ (f : Front) (x : ℕ) (stands : is_standing (f.at x) ≡ true) where
@@ -95,8 +96,8 @@ module _ (f : Front) (x : ℕ) (stands : is_standing (f.at x) ≡ true) where
         at : ((y == x) ≡ true) ⊎ ((y == x) ≡ false) → FineAt u after.come (f.course.task y) (after.at y)
         at (inl e) = subst (FineAt u after.come (f.course.task y)) (sym (new_at y e))
             (settled_fine u after.come f.generation (f.course.task y) (f.course.task y).stores (good y)
-                (λ s h. or_right (f.come s) _
-                    (subst (λ z. resolves (f.course.task z).stores (f.course.task z) s ≡ true) (eqb-true _ _ e) h)))
+            (λ s h. or_right (f.come s) _
+            (subst (λ z. resolves (f.course.task z).stores (f.course.task z) s ≡ true) (eqb-true _ _ e) h)))
         at (inr e) = subst (FineAt u after.come (f.course.task y)) (sym (cond-false (y == x) _ _ e))
             (fine_more u f.come after.come (f.course.task y) (f.at y) come_more (fine y l))
 
@@ -104,28 +105,28 @@ module _ (f : Front) (x : ℕ) (stands : is_standing (f.at x) ≡ true) where
     keeps y l = cond_both (y == x) new (f.at y)
         (λ w. (is_idle w && not (is_reading (f.course.task y).kind)) ≡ true → unissued f y ≡ true)
         (λ e h. absurd (both_ways _ (settled_idle f.generation (f.course.task x).stores (f.course.task x))
-            (and_parts (is_idle new) _ h).0)) (λ e h. h)
+        (and_parts (is_idle new) _ h).0)) (λ e h. h)
 
     more : (y : ℕ) → y < f.course.room → ready f y ≡ true → ready after y ≡ true
     more y l h =
         let a : (unissued f y ≡ true) × (((f.course.task y).met && all_come f.come (f.course.task y).needs) ≡ true) =
-            and_parts (unissued f y) _ h in
+        and_parts (unissued f y) _ h in
         let b : ((f.course.task y).met ≡ true) × (all_come f.come (f.course.task y).needs ≡ true) =
-            and_parts (f.course.task y).met _ a.1 in
+        and_parts (f.course.task y).met _ a.1 in
         let idle : f.at y ≡ Idle = idle_is _ (and_parts (is_idle (f.at y)) _ a.0).0 in
         and_from (unissued after y) _
-            (subst (λ w. (is_idle w && not (is_reading (f.course.task y).kind)) ≡ true)
-                (sym (same y (λ e. let k : f.at y ≡ Standing = was y (eq-eqb _ _ e) in
-                    let z : Idle ≡ Standing = sym idle ∙ k in cc))) a.0)
-            (and_from (f.course.task y).met _ b.0
-                (all_come_more f.come after.come (f.course.task y).needs come_more b.1))
+        (subst (λ w. (is_idle w && not (is_reading (f.course.task y).kind)) ≡ true)
+        (sym (same y (λ e. let k : f.at y ≡ Standing = was y (eq-eqb _ _ e) in
+        let z : Idle ≡ Standing = sym idle ∙ k in cc))) a.0)
+        (and_from (f.course.task y).met _ b.0
+        (all_come_more f.come after.come (f.course.task y).needs come_more b.1))
 
     falls : (c : ℕ) → task_left c (after.at x) + 1 ≤ task_left c (f.at x)
     falls c =
         let a : task_left c new ≤ 24 =
-            settled_left f.generation (f.course.task x).stores (f.course.task x) c (good x) in
+        settled_left f.generation (f.course.task x).stores (f.course.task x) c (good x) in
         subst (λ w. task_left c w + 1 ≤ task_left c (f.at x)) (sym own)
-            (subst (λ w. task_left c new + 1 ≤ task_left c w) (sym (standing_is _ stands)) (omega (arith, a)))
+        (subst (λ w. task_left c new + 1 ≤ task_left c w) (sym (standing_is _ stands)) (omega (arith, a)))
 
     low : (y c : ℕ) → y < f.course.room → task_left c (after.at y) ≤ task_left c (f.at y)
     low y c l = at (cases_eq y x)
@@ -163,7 +164,7 @@ module _ (f h : Front) (r : Retold f h) where
       ∙ ap (λ p. work_by f.course.room u (ready f) p (λ x. (h.course.task x).tile) h.at) (fun_ext same_unissued)
       ∙ ap (λ (p : ℕ → ℕ). work_by f.course.room u (ready f) (unissued f) p h.at) (fun_ext (λ x. r.tile x))
       ∙ ap (λ (p : ℕ → Phase). work_by f.course.room u (ready f) (unissued f) (λ x. (f.course.task x).tile) p)
-          (fun_ext (λ x. r.at x)) ∙ z
+      (fun_ext (λ x. r.at x)) ∙ z
 
   pub retold_tasks : tasks h.course ≡ tasks f.course
   unfolding tasks_by
@@ -201,8 +202,8 @@ module _ (f h : Front) (r : Retold f h) where
   pub retold_fine : (u : ℕ → ℕ) → Fine u f → Fine u h
   retold_fine u fine x l = subst (FineAt u h.come (h.course.task x)) (sym (r.at x))
       (fine_same u h.come (f.course.task x) (h.course.task x) (f.at x) (r.tile x) (r.first x) (r.second x)
-          (fine_more u f.come h.come (f.course.task x) (f.at x) (λ s e. r.come s ∙ e)
-              (fine x (subst (λ k. x < k) r.room l))))
+      (fine_more u f.come h.come (f.course.task x) (f.at x) (λ s e. r.come s ∙ e)
+      (fine x (subst (λ k. x < k) r.room l))))
 
 -- tiles -------------------------------------------------------------------------------------------
 
@@ -228,22 +229,23 @@ module _ (n : ℕ) (u : ℕ → ℕ) (fits : (t : ℕ) → u t ≤ 24) where
     where
       go : RunsOn (answer_one a.request f) t ⊎ ((f.careful ≡ false) × (t ≡ Fetching None true))
           → StageRule n u t × (stage_left n u t + 1 ≤ stage_left n u (Running f))
-      go (inl e) = subst (λ t. StageRule n u t × (stage_left n u t + 1 ≤ stage_left n u (Running f))) (sym e.is_stage)
-          (record {
-            size = retold_tasks (answer_one a.request f) e.front e.retold ∙ r.size;
-            good = e.retold.good;
-            placed = retold_placed (answer_one a.request f) e.front e.retold
-                (answered_placed f a.request a.stands r.placed);
-            fine = retold_fine (answer_one a.request f) e.front e.retold u
-                (answered_fine f a.request a.stands r.good.by.good u r.fine);
-          },
-           (let k : work u (answer_one a.request f) + 1 ≤ work u f =
-                answered_drop f a.request a.stands r.good.by.good u fits a.inside in
+      go (inl e) = subst (λ t. StageRule n u t × (stage_left n u t + 1 ≤ stage_left n u (Running f))) (sym e.is_stage) (
+        record {
+          size = retold_tasks (answer_one a.request f) e.front e.retold ∙ r.size;
+          good = e.retold.good;
+          placed = retold_placed (answer_one a.request f) e.front e.retold
+              (answered_placed f a.request a.stands r.placed);
+          fine = retold_fine (answer_one a.request f) e.front e.retold u
+              (answered_fine f a.request a.stands r.good.by.good u r.fine);
+        },
+        (let k : work u (answer_one a.request f) + 1 ≤ work u f =
+            answered_drop f a.request a.stands r.good.by.good u fits a.inside in
             let w : work u e.front ≡ work u (answer_one a.request f) =
-                retold_work (answer_one a.request f) e.front e.retold u in
+            retold_work (answer_one a.request f) e.front e.retold u in
             let v : reserve e.front.careful (tasks e.front.course) ≡ reserve f.careful (tasks f.course) =
-                ap₂ reserve e.retold.careful (retold_tasks (answer_one a.request f) e.front e.retold) in
-            omega (arith, k, w, v)))
+            ap₂ reserve e.retold.careful (retold_tasks (answer_one a.request f) e.front e.retold) in
+            omega (arith, k, w, v)),
+      )
       go (inr e) = subst (λ t. StageRule n u t × (stage_left n u t + 1 ≤ stage_left n u (Running f))) (sym e.1)
           (tt, flush_falls f r.size e.0)
 
@@ -279,6 +281,7 @@ module _ (n : ℕ) (u : ℕ → ℕ) (fits : (t : ℕ) → u t ≤ 24) where
           here : Here d s → stage_left n u t + 1 ≤ stage_left n u s
           here h = subst (λ z. stage_left n u t + 1 ≤ stage_left n u z) e
               (one_falls d a.middle t rm (subst (Here d) (sym e) h) a.after)
+
           two : (stage_left n u t + 1 ≤ stage_left n u a.middle) ⊎ (t ≡ a.middle)
               → (stage_left n u t + 1 ≤ stage_left n u s) ⊎ ((t ≡ s) × ((k : ℕ) → k < suc d → Here k s → ⊥))
           two (inl j) = inl (subst (λ z. stage_left n u t + 1 ≤ stage_left n u z) e j)

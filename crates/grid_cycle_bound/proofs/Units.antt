@@ -1,17 +1,14 @@
 -- (5): the units of a frame's tiles, where no older frame comes before it.
-use Rattle.std.proofs.Common.{◌≡◌, ℕ, zero, suc, ◌+◌, ◌-◌, ◌*◌, ◌<◌, ◌≤◌, Bool, true, false, cond, ◌==◌, ◌&&◌, ◌||◌, not, nat_lt, ◌⊎◌, inl, inr, List, [], ◌∷◌, Option, Some, None, refl, sym, ap, ap₂, ◌∙◌, subst, arith}
-use Rattle.std.proofs.lemmas.Bool.{and_parts, and_from, or_cases, cond_both, cond-true, cond-false, eqb-true, eq-eqb, cases_Bool, both_ways, lt-ltb, le-ltb, ltb-true, ltb-false, cases_lt}
-use Rattle.operand_net.specs.declared.parcel.Stand.{Stand}
-use Rattle.operand_net.specs.declared.parcel.Stand.TheVariants.{Nowhere, Away, Held}
-use Rattle.grid_cycle_bound.specs.Course.{Kind, Reading, Plain, Serving, is_reading, Target, Task, Course, sum, tasks, Member, Hits, Fed, OnMesh, GoodTask, GoodBy, Good}
-use Rattle.grid_cycle_bound.specs.Lane.{any, Phase, Absent, Idle, Working, Asking, Standing, Sent, is_idle, is_standing, is_there, first_parcel, second_parcel, Front, all_come, unread, unissued, ready, answerable, complete}
-use Rattle.grid_cycle_bound.specs.Serving.{found, pick, none_busy, station_of, tile_of, parcel, launch, sent_from, result, fresh, reads_front, hits, settled, resolves, answer_one, at_tile, has_at, worked, finished, finish_front, busy, issued, issue_front, units_after, less_one, taken, goes, row, free_at, asked, moved, is_nowhere, landed, delivers, move_at, move_front}
-use Rattle.grid_cycle_bound.specs.Left.{parcel_left, task_left, wait_left, on_tile, count_on, tile_left, work, most}
-use Rattle.grid_cycle_bound.specs.Laws.{Bounded, Has, Landed, OnItsWay, FineAt, Fine, Placed}
-use Rattle.grid_cycle_bound.proofs.Counting.{any_true, any_from, any_more, any_least, chosen, pick_may, pick_free, sum_le, sum_drop, found_le, found_pos}
-use Rattle.grid_cycle_bound.proofs.Work.{wait_le, wait_cap, on, Low, on_le, on_drop, tile_more, on_tile_at, count_less, count_drop, ready_unissued, work_le, work_drop, calm, calm_drop}
+use Rattle.std.proofs.Common.{◌≡◌, ℕ, zero, suc, ◌+◌, ◌*◌, ◌<◌, ◌≤◌, Bool, true, false, ◌==◌, ◌&&◌, not, ◌⊎◌, inl, inr, refl, sym, ap, ◌∙◌, subst, arith}
+use Rattle.std.proofs.lemmas.Bool.{and_parts, cond_both, cond-true, cond-false, eqb-true, cases_Bool, both_ways, lt-ltb, le-ltb, cases_lt}
+use Rattle.grid_cycle_bound.specs.Course.{Kind, Reading, Plain, Serving, is_reading, Task, GoodTask}
+use Rattle.grid_cycle_bound.specs.Lane.{Phase, Absent, Idle, Working, Asking, Standing, Sent, is_idle, Front, all_come, unissued, ready}
+use Rattle.grid_cycle_bound.specs.Serving.{tile_of, parcel, sent_from, result, finished, finish_front, busy, issued, issue_front, less_one}
+use Rattle.grid_cycle_bound.specs.Left.{parcel_left, task_left, wait_left, on_tile, count_on, tile_left, work}
+use Rattle.grid_cycle_bound.proofs.Counting.{any_true, chosen, pick_may, pick_free}
+use Rattle.grid_cycle_bound.proofs.Work.{wait_le, wait_cap, on, Low, on_le, on_drop, tile_more, on_tile_at, count_less, count_drop, ready_unissued, work_le, work_drop}
 use Rattle.grid_cycle_bound.proofs.Mesh.{bounded_left}
-use Rattle.grid_cycle_bound.proofs.Parts.{GoodTasks, idle_is, standing_is, here_left, there_left, all_come_more}
+use Rattle.grid_cycle_bound.proofs.Parts.{GoodTasks, idle_is, here_left}
 
 wait_drop : (c c2 : ℕ) (r r2 : Bool) (v v2 : ℕ) → c2 + 1 ≤ c → r ≡ true → r2 ≡ true → v2 ≤ v → wait_left c2 r2 v2 + 1 ≤ wait_left c r v
 wait_drop c c2 true true v v2 l a b k = omega arith
@@ -152,14 +149,14 @@ module _ (u u2 : ℕ → ℕ) (fits : (t : ℕ) → u t ≤ 24) (fits2 : (t : �
             let s : u2 t ≡ u1 t = stays t l in
             let here : on_tile f (ready f) t ≡ true = on_tile_at f (ready f) x t k e r in
             let a : wait_left (u2 t) (on_tile f2 (ready f2) t) (count_on f2 (unissued f2) t) + 1 ≤ wait_left (u t) (on_tile f (ready f) t) (count_on f (unissued f) t) =
-                wait_drop (u t) (u2 t) (on_tile f (ready f) t) (on_tile f2 (ready f2) t) (count_on f (unissued f) t) (count_on f2 (unissued f2) t) (omega (arith, s)) here (ready_after here) (unissued_tile t) in
+            wait_drop (u t) (u2 t) (on_tile f (ready f) t) (on_tile f2 (ready f2) t) (count_on f (unissued f) t) (count_on f2 (unissued f2) t) (omega (arith, s)) here (ready_after here) (unissued_tile t) in
             let b : on f.course u2 f2.at t ≤ on f.course u f.at t = on_le f.course u u2 f.at f2.at t busy_low in
             omega (arith, a, b)
         strict x k e (inr w) =
             let s : u2 t ≡ u1 t = stays t l in
             let a = busy_wait in
             let b : on f.course u2 f2.at t + 1 ≤ on f.course u f.at t = on_drop f.course u u2 f.at f2.at t 1 x busy_low k e
-                (subst (λ z. task_left (u2 t) z + 1 ≤ task_left (u t) (f.at x)) (sym (still x e)) (subst (λ z. task_left (u2 t) z + 1 ≤ task_left (u t) z) (sym w.0) (omega (arith, s)))) in
+            (subst (λ z. task_left (u2 t) z + 1 ≤ task_left (u t) (f.at x)) (sym (still x e)) (subst (λ z. task_left (u2 t) z + 1 ≤ task_left (u t) z) (sym w.0) (omega (arith, s)))) in
             omega (arith, a, b)
 
   -- the unit is free
@@ -173,7 +170,7 @@ module _ (u u2 : ℕ → ℕ) (fits : (t : ℕ) → u t ≤ 24) (fits2 : (t : �
         let w : f.at x ≡ Idle = idle_is _ (and_parts (is_idle (f.at x)) _ (and_parts (unissued f x) _ r).0).0 in
         let c : u2 t ≤ 24 = fits2 t in
         subst (λ z. task_left (u2 t) z + 1 ≤ task_left (u t) (f.at x)) (sym (cond-true (issued u1 f1 x) Working (f1.at x) i))
-            (subst (λ z. u2 t + 38 + 1 ≤ task_left (u t) z) (sym w) (omega (arith, c)))
+        (subst (λ z. u2 t + 38 + 1 ≤ task_left (u t) z) (sym w) (omega (arith, c)))
 
     free_low : Low f.course u u2 f.at f2.at t
     free_low x k e = at (cases_Bool (issued u1 f1 x))
@@ -194,7 +191,7 @@ module _ (u u2 : ℕ → ℕ) (fits : (t : ℕ) → u t ≤ 24) (fits2 : (t : �
         let now : unissued f2 y.0 ≡ false = simp (cond-true (issued u1 f1 y.0) Working (f1.at y.0) y.3) in
         let fewer : count_on f2 (unissued f2) t + 1 ≤ count_on f (unissued f) t = count_drop f f2 (unissued f) (unissued f2) t y.0 refl (λ x l h. keeps x h) y.1 (y.2 ∙ e) was now in
         let c : wait_left (u2 t) (on_tile f2 (ready f2) t) (count_on f2 (unissued f2) t) ≤ wait_left (u t) (on_tile f (ready f) t) (count_on f (unissued f) t) =
-            wait_gone (u t) (u2 t) (on_tile f (ready f) t) (on_tile f2 (ready f2) t) (count_on f (unissued f) t) (count_on f2 (unissued f2) t) h (fits2 t) fewer (ready_unissued f2 t) in
+        wait_gone (u t) (u2 t) (on_tile f (ready f) t) (on_tile f2 (ready f2) t) (count_on f (unissued f) t) (count_on f2 (unissued f2) t) h (fits2 t) fewer (ready_unissued f2 t) in
         omega (arith, d, c)
 
     free_outcome : Outcome t
@@ -206,16 +203,17 @@ module _ (u u2 : ℕ → ℕ) (fits : (t : ℕ) → u t ≤ 24) (fits2 : (t : �
             two : (on_tile f2 (ready f2) t ≡ true) ⊎ (on_tile f2 (ready f2) t ≡ false) → on_tile f2 (ready f2) t ≡ false
             two (inl h) = absurd (both_ways _ n (ready_tile t h))
             two (inr h) = h
+
         strict : on_tile f (ready f) t ≡ false → (x : ℕ) → x < f.course.room → tile_of f x ≡ t → Turns x → tile_left u2 f2 t + 1 ≤ tile_left u f t
         strict n x k e (inl r) = absurd (both_ways _ n (on_tile_at f (ready f) x t k e r))
         strict n x k e (inr w) =
             let a : wait_left (u2 t) (on_tile f2 (ready f2) t) (count_on f2 (unissued f2) t) ≤ wait_left (u t) (on_tile f (ready f) t) (count_on f (unissued f) t) =
-                wait_none (u t) (u2 t) (on_tile f (ready f) t) (on_tile f2 (ready f2) t) (count_on f (unissued f) t) (count_on f2 (unissued f2) t) n (none_after n) (unissued_tile t) in
+            wait_none (u t) (u2 t) (on_tile f (ready f) t) (on_tile f2 (ready f2) t) (count_on f (unissued f) t) (count_on f2 (unissued f2) t) n (none_after n) (unissued_tile t) in
             let no : issued u1 f1 x ≡ false = idle_only (cases_Bool (issued u1 f1 x)) in
             let c : task_left (u2 t) (result f.generation (f.course.task x).kind (f.course.task x)) ≤ 37 = result_left f.generation (f.course.task x).kind (f.course.task x) (u2 t) (good x) in
             let now : f2.at x ≡ finished f.generation Working 0 (f.course.task x) = cond-false (issued u1 f1 x) Working (f1.at x) no ∙ ended x e ∙ ap (λ z. finished f.generation z 0 (f.course.task x)) w.0 in
             let b : on f.course u2 f2.at t + 1 ≤ on f.course u f.at t = on_drop f.course u u2 f.at f2.at t 1 x free_low k e
-                (subst (λ z. task_left (u2 t) z + 1 ≤ task_left (u t) (f.at x)) (sym now) (subst (λ z. task_left (u2 t) (result f.generation (f.course.task x).kind (f.course.task x)) + 1 ≤ task_left (u t) z) (sym w.0) (omega (arith, c)))) in
+            (subst (λ z. task_left (u2 t) z + 1 ≤ task_left (u t) (f.at x)) (sym now) (subst (λ z. task_left (u2 t) (result f.generation (f.course.task x).kind (f.course.task x)) + 1 ≤ task_left (u t) z) (sym w.0) (omega (arith, c)))) in
             omega (arith, a, b)
           where
             idle_only : (issued u1 f1 x ≡ true) ⊎ (issued u1 f1 x ≡ false) → issued u1 f1 x ≡ false
@@ -224,13 +222,16 @@ module _ (u u2 : ℕ → ℕ) (fits : (t : ℕ) → u t ≤ 24) (fits2 : (t : �
                 let r : ready f x ≡ true = sym (ready_same x) ∙ pick_may (ready f1) (tile_of f1) (busy u1) x h in
                 let i : f.at x ≡ Idle = idle_is _ (and_parts (is_idle (f.at x)) _ (and_parts (unissued f x) _ r).0).0 in
                 absurd (let k : Idle ≡ Working = sym i ∙ w.0 in cc)
+
         at : (on_tile f (ready f) t ≡ true) ⊎ (on_tile f (ready f) t ≡ false) → Outcome t
         at (inl h) = (let a = some_issued h in omega (arith, a), λ x k e w. some_issued h)
-        at (inr n) =
-            (let a : wait_left (u2 t) (on_tile f2 (ready f2) t) (count_on f2 (unissued f2) t) ≤ wait_left (u t) (on_tile f (ready f) t) (count_on f (unissued f) t) =
-                wait_none (u t) (u2 t) (on_tile f (ready f) t) (on_tile f2 (ready f2) t) (count_on f (unissued f) t) (count_on f2 (unissued f2) t) n (none_after n) (unissued_tile t) in
-             let b : on f.course u2 f2.at t ≤ on f.course u f.at t = on_le f.course u u2 f.at f2.at t free_low in
-             omega (arith, a, b), strict n)
+        at (inr n) = (
+          let a : wait_left (u2 t) (on_tile f2 (ready f2) t) (count_on f2 (unissued f2) t) ≤ wait_left (u t) (on_tile f (ready f) t) (count_on f (unissued f) t) =
+              wait_none (u t) (u2 t) (on_tile f (ready f) t) (on_tile f2 (ready f2) t) (count_on f (unissued f) t) (count_on f2 (unissued f2) t) n (none_after n) (unissued_tile t) in
+              let b : on f.course u2 f2.at t ≤ on f.course u f.at t = on_le f.course u u2 f.at f2.at t free_low in
+              omega (arith, a, b),
+          strict n,
+        )
 
   outcome : (t : ℕ) → Outcome t
   outcome t = at (cases_lt 0 (less_one u t))

@@ -1,14 +1,10 @@
 -- A frame's work, tile by tile.
-use Rattle.std.proofs.Common.{◌≡◌, ℕ, zero, suc, ◌+◌, ◌*◌, ◌<◌, ◌≤◌, Bool, true, false, cond, ◌==◌, ◌&&◌, ◌||◌, not, nat_lt, ◌⊎◌, inl, inr, refl, sym, ap, ◌∙◌, subst, arith}
-use Rattle.std.proofs.lemmas.Bool.{and_parts, and_from, cond_both, cond-true, cond-false, eqb-true, eq-eqb, cases_Bool, both_ways}
-use Rattle.operand_net.specs.declared.parcel.Stand.{Stand}
-use Rattle.operand_net.specs.declared.parcel.Stand.TheVariants.{Nowhere, Away, Held}
-use Rattle.grid_cycle_bound.specs.Course.{Kind, Reading, Plain, Serving, is_reading, Target, Task, Course, sum, tasks, Member, Hits, Fed, OnMesh, GoodTask, GoodBy, Good}
-use Rattle.grid_cycle_bound.specs.Lane.{any, Phase, Absent, Idle, Working, Asking, Standing, Sent, is_idle, is_standing, is_there, first_parcel, second_parcel, Front, all_come, unread, unissued, ready, answerable, complete}
-use Rattle.grid_cycle_bound.specs.Serving.{found, pick, none_busy, station_of, tile_of, parcel, launch, sent_from, result, fresh, reads_front, hits, settled, resolves, answer_one, at_tile, has_at, worked, finished, finish_front, busy, issued, issue_front, units_after, less_one, taken, goes, row, free_at, asked, moved, is_nowhere, landed, delivers, move_at, move_front}
-use Rattle.grid_cycle_bound.specs.Left.{parcel_left, task_left, wait_left, on_tile, count_on, tile_left, work, most}
-use Rattle.grid_cycle_bound.specs.Laws.{Bounded, Has, Landed, OnItsWay, FineAt, Fine, Placed}
-use Rattle.grid_cycle_bound.proofs.Counting.{any_true, any_from, any_more, any_least, chosen, pick_may, pick_free, sum_le, sum_drop, found_le, found_pos}
+use Rattle.std.proofs.Common.{◌≡◌, ℕ, ◌+◌, ◌*◌, ◌<◌, ◌≤◌, Bool, true, false, cond, ◌==◌, ◌&&◌, refl, sym, subst, arith}
+use Rattle.std.proofs.lemmas.Bool.{and_parts, and_from, eqb-true, eq-eqb, both_ways}
+use Rattle.grid_cycle_bound.specs.Course.{Course, sum}
+use Rattle.grid_cycle_bound.specs.Lane.{any, Phase, Front, unissued, ready}
+use Rattle.grid_cycle_bound.specs.Left.{task_left, wait_left, on_tile, count_on, tile_left, work}
+use Rattle.grid_cycle_bound.proofs.Counting.{any_true, any_from, any_more, sum_le, sum_drop}
 
 pub wait_le : (c c2 : ℕ) (r r2 : Bool) (v v2 : ℕ) → c2 ≤ c → c2 ≤ 24 → (r ≡ true → r2 ≡ true) → v2 ≤ v → (r2 ≡ true → 1 ≤ v2) → wait_left c2 r2 v2 ≤ wait_left c r v
 wait_le c c2 true true v v2 l m a b k = omega arith
@@ -42,7 +38,7 @@ on_drop c u u2 at at2 t d x low l e h = sum_drop c.room _ _ d x (λ y m. one_le 
 pub tile_more : (f f2 : Front) (p q : ℕ → Bool) (t : ℕ) → f2.course ≡ f.course → ((x : ℕ) → x < f.course.room → (f.course.task x).tile ≡ t → p x ≡ true → q x ≡ true) → on_tile f p t ≡ true → on_tile f2 q t ≡ true
 tile_more f f2 p q t e h k = subst (λ (c : Course). any c.room (λ x. q x && (c.task x).tile == t) ≡ true) (sym e)
     (any_more f.course.room (λ x. p x && (f.course.task x).tile == t) (λ x. q x && (f.course.task x).tile == t)
-        (λ x l i. let b : (p x ≡ true) × (((f.course.task x).tile == t) ≡ true) = and_parts (p x) _ i in and_from (q x) _ (h x l (eqb-true _ _ b.1) b.0) b.1) k)
+    (λ x l i. let b : (p x ≡ true) × (((f.course.task x).tile == t) ≡ true) = and_parts (p x) _ i in and_from (q x) _ (h x l (eqb-true _ _ b.1) b.0) b.1) k)
 
 pub on_tile_at : (f : Front) (p : ℕ → Bool) (x t : ℕ) → x < f.course.room → (f.course.task x).tile ≡ t → p x ≡ true → on_tile f p t ≡ true
 on_tile_at f p x t l e h = any_from f.course.room (λ x. p x && (f.course.task x).tile == t) x l (and_from (p x) _ h (eq-eqb _ _ e))
@@ -57,13 +53,13 @@ bit_le false false h = omega arith
 pub count_less : (f f2 : Front) (p q : ℕ → Bool) (t : ℕ) → f2.course ≡ f.course → ((x : ℕ) → x < f.course.room → q x ≡ true → p x ≡ true) → count_on f2 q t ≤ count_on f p t
 count_less f f2 p q t e h = subst (λ (c : Course). sum c.room (λ x. cond (q x && (c.task x).tile == t) 1 0) ≤ count_on f p t) (sym e)
     (sum_le f.course.room _ _ (λ x l. bit_le (q x && (f.course.task x).tile == t) (p x && (f.course.task x).tile == t)
-        (λ i. let b : (q x ≡ true) × (((f.course.task x).tile == t) ≡ true) = and_parts (q x) _ i in and_from (p x) _ (h x l b.0) b.1)))
+    (λ i. let b : (q x ≡ true) × (((f.course.task x).tile == t) ≡ true) = and_parts (q x) _ i in and_from (p x) _ (h x l b.0) b.1)))
 
 pub count_drop : (f f2 : Front) (p q : ℕ → Bool) (t x : ℕ) → f2.course ≡ f.course → ((x : ℕ) → x < f.course.room → q x ≡ true → p x ≡ true) → x < f.course.room → (f.course.task x).tile ≡ t → p x ≡ true → q x ≡ false → count_on f2 q t + 1 ≤ count_on f p t
 count_drop f f2 p q t x e h l k a b = subst (λ (c : Course). sum c.room (λ x. cond (q x && (c.task x).tile == t) 1 0) + 1 ≤ count_on f p t) (sym e)
     (sum_drop f.course.room _ _ 1 x (λ x l. bit_le (q x && (f.course.task x).tile == t) (p x && (f.course.task x).tile == t)
-        (λ i. let b : (q x ≡ true) × (((f.course.task x).tile == t) ≡ true) = and_parts (q x) _ i in and_from (p x) _ (h x l b.0) b.1)) l
-        (simp (a, b, eq-eqb (f.course.task x).tile t k) (omega arith)))
+    (λ i. let b : (q x ≡ true) × (((f.course.task x).tile == t) ≡ true) = and_parts (q x) _ i in and_from (p x) _ (h x l b.0) b.1)) l
+    (simp (a, b, eq-eqb (f.course.task x).tile t k) (omega arith)))
 
 pub count_some : (f : Front) (p : ℕ → Bool) (t : ℕ) → on_tile f p t ≡ true → 1 ≤ count_on f p t
 count_some f p t e =
@@ -85,7 +81,6 @@ module _ (u : ℕ → ℕ) (fits : (t : ℕ) → u t ≤ 24) (f : Front) (at2 : 
     (keeps : (x : ℕ) → x < f.course.room → unissued (record f { at = at2; come = come2 }) x ≡ true → unissued f x ≡ true)
     (more : (x : ℕ) → x < f.course.room → ready f x ≡ true → ready (record f { at = at2; come = come2 }) x ≡ true)
     (low : (x c : ℕ) → x < f.course.room → task_left c (at2 x) ≤ task_left c (f.at x)) where
-
   abbrev f2 : Front
   f2 = record f { at = at2; come = come2 }
 
@@ -104,5 +99,5 @@ module _ (u : ℕ → ℕ) (fits : (t : ℕ) → u t ≤ 24) (f : Front) (at2 : 
   pub calm_drop : (x : ℕ) → x < f.course.room → (f.course.task x).tile < 16 → ((c : ℕ) → task_left c (at2 x) + 1 ≤ task_left c (f.at x)) → work u f2 + 1 ≤ work u f
   calm_drop x l k d = work_drop u u f f2 (f.course.task x).tile tile k
       (let a = wait (f.course.task x).tile in
-       let b : on f.course u at2 (f.course.task x).tile + 1 ≤ on f.course u f.at (f.course.task x).tile = on_drop f.course u u f.at at2 (f.course.task x).tile 1 x (λ y i e. low y (u (f.course.task x).tile) i) l refl (d (u (f.course.task x).tile)) in
-       omega (arith, a, b))
+      let b : on f.course u at2 (f.course.task x).tile + 1 ≤ on f.course u f.at (f.course.task x).tile = on_drop f.course u u f.at at2 (f.course.task x).tile 1 x (λ y i e. low y (u (f.course.task x).tile) i) l refl (d (u (f.course.task x).tile)) in
+      omega (arith, a, b))

@@ -1,7 +1,7 @@
 -- The lane: what the block that commits next sees of the grid, its frame or the fetch of it.
-use Rattle.std.specs.Prelude.{ℕ, zero, suc, Bool, true, false, ◌&&◌, ◌||◌, not, List, [], ◌∷◌, Option, Some, None}
+use Rattle.std.specs.Prelude.{ℕ, zero, suc, Bool, true, false, ◌&&◌, ◌||◌, not, List, [], ◌∷◌, Option}
 use Rattle.operand_net.specs.declared.parcel.Stand.{Stand}
-use Rattle.operand_net.specs.declared.parcel.Stand.TheVariants.{Nowhere, Away, Held}
+use Rattle.operand_net.specs.declared.parcel.Stand.TheVariants.{Nowhere}
 use Rattle.grid_cycle_bound.specs.Course.{Course, is_reading}
 
 -- whether one of the numbers below n passes

@@ -1,5 +1,5 @@
 -- The lane of a grid: how far the oldest frame is, read off the window and the grid.
-use Rattle.std.specs.Prelude.{ℕ, suc, ◌+◌, ◌-◌, ◌*◌, Bool, true, false, cond, ◌==◌, nat_lt, List, [], ◌∷◌, length}
+use Rattle.std.specs.Prelude.{ℕ, suc, ◌+◌, ◌-◌, ◌*◌, Bool, false, cond, nat_lt, List, [], ◌∷◌, length}
 use Rattle.std.specs.Prelude.{Option, Some, None, is_some, slice_get, slice_index, slice_index_or}
 use Rattle.trips_isa.specs.declared.block.Inst.{Inst}
 use Rattle.trips_isa.specs.declared.block.ReadSlot.{ReadSlot}
@@ -10,7 +10,7 @@ use Rattle.commit_flush_spec.specs.Frames.{Frame, at}
 use Rattle.grid_cycle_spec.specs.Grid.{Grid, Fetching}
 use Rattle.grid_cycle_spec.specs.Arrivals.{is_waiting}
 use Rattle.grid_cycle_spec.specs.Fetches.{stands}
-use Rattle.grid_cycle_bound.specs.Course.{Kind, Reading, Plain, Serving, Course}
+use Rattle.grid_cycle_bound.specs.Course.{Kind, Serving, Course}
 use Rattle.grid_cycle_bound.specs.Lane.{Phase, Absent, Idle, Working, Asking, Standing, Sent, Front, Stage, Running, Lane}
 use Rattle.grid_cycle_bound.specs.Lane as lane
 use Rattle.grid_cycle_bound.specs.Blocks.{kind_of, slot_tasks}
