@@ -23,7 +23,8 @@ use Rattle.trips_isa.specs.Forms.{form_of, role_of, takes_left, takes_right, is_
 use Rattle.trips_isa.specs.Operands.{is_guarded}
 use Rattle.trips_isa.specs.Fits.{FitsRead}
 use Rattle.trips_isa.specs.Rule.{Answer, matched, gives, if_matched, rule}
-use Rattle.trips_isa.specs.Places.{nodes_of, inst_node, read_node, targets, names, load_bound, in_mask, place_of, place_at}
+use Rattle.trips_isa.specs.Places.{nodes_of, inst_node, read_node, targets, names, load_bound, in_mask, place_of}
+use Rattle.trips_isa.specs.Places.{place_at}
 use Rattle.trips_isa.specs.Places.{first_place}
 use Rattle.trips_isa.specs.Tables.{node_gives, first, or_else, taken, stores_below, Edge, Ranked}
 use Rattle.trips_isa.specs.Blocks.{Responses, Solves, at_place, computes}
@@ -85,7 +86,8 @@ a_write (suc n) q (inr m) = let d : (w : ℕ) × (w < n) × (384 + w ≡ q) = a_
 -- what an instruction takes -------------------------------------------------------------------------
 
 -- what a role gives needs the operands that it takes
-gives_left : (e : Role) (c : ℕ → ℕ → ℕ) (l r : Answer) → is_some (gives e c l r) ≡ true → takes_left e ≡ true → is_some l ≡ true
+gives_left : (e : Role) (c : ℕ → ℕ → ℕ) (l r : Answer) → is_some (gives e c l r) ≡ true → takes_left e ≡ true
+    → is_some l ≡ true
 gives_left Copy c l r h t = h
 gives_left One c None r h t = absurd (cc)
 gives_left One c (Some k) r h t = refl
@@ -96,7 +98,8 @@ gives_left Reading c l r h t = absurd (cc)
 gives_left Free c l r h t = absurd (cc)
 gives_left Nothing c l r h t = absurd (cc)
 
-gives_right : (e : Role) (c : ℕ → ℕ → ℕ) (l r : Answer) → is_some (gives e c l r) ≡ true → takes_right e ≡ true → is_some r ≡ true
+gives_right : (e : Role) (c : ℕ → ℕ → ℕ) (l r : Answer) → is_some (gives e c l r) ≡ true → takes_right e ≡ true
+    → is_some r ≡ true
 gives_right Both c None r h t = absurd (cc)
 gives_right Both c (Some Null) None h t = absurd (cc)
 gives_right Both c (Some (Word x)) None h t = absurd (cc)
@@ -121,7 +124,8 @@ if_parts false t h = absurd (cc)
 
 -- what stands at a place is given by a node that names it
 abbrev GivenAt : List Node → ℕ → (ℕ → Answer) → Type 0
-GivenAt ns q f = (y : ℕ) × (m : Node) × (slice_get ns y ≡ Some m) × (names (targets m) q ≡ true) × (is_some (f y) ≡ true)
+GivenAt ns q f = (y : ℕ) × (m : Node) × (slice_get ns y ≡ Some m) × (names (targets m) q ≡ true)
+    × (is_some (f y) ≡ true)
 
 first_from : (ns : List Node) (q : ℕ) (f : ℕ → Answer) → is_some (first ns q f) ≡ true → GivenAt ns q f
 first_from [] q f e = absurd (cc)
@@ -149,7 +153,8 @@ read_below [] y slot e = absurd (cc)
 read_below (r ∷ rs) zero slot e = omega arith
 read_below (r ∷ rs) (suc y) slot e = let l = read_below rs y slot e in omega (arith, l)
 
-each_read : (rs : List ReadSlot) → All FitsRead rs → (k : ℕ) (slot : ReadSlot) → slice_get rs k ≡ Some slot → FitsRead slot
+each_read : (rs : List ReadSlot) → All FitsRead rs → (k : ℕ) (slot : ReadSlot) → slice_get rs k ≡ Some slot
+    → FitsRead slot
 each_read [] all k slot i = absurd (cc)
 each_read (x ∷ rs) all zero slot i = let same : x ≡ slot = cc in subst FitsRead same (All-head FitsRead x rs all)
 each_read (x ∷ rs) all (suc k) slot i = each_read rs (All-tail FitsRead x rs all) k slot i
@@ -170,7 +175,8 @@ bound_of_load Branch n e = absurd (cc)
 
 hits_target : (b : Block) (p q : ℕ) → p ≡ q → q < 416 → Hits (target_at b p) q
 hits_target b p q e l = subst (λ t. Hits t q)
-    (sym (cond-true (is_target p) (Some (record { spot = p; there = home b p })) None (ap is_target e ∙ lt_true q 416 l))) e
+    (sym (cond-true (is_target p) (Some (record { spot = p; there = home b p })) None
+    (ap is_target e ∙ lt_true q 416 l))) e
 
 hits_first : (b : Block) (t : Form) (i : Inst) (p q : ℕ) → first_place t i.number i.first ≡ q → q < 416
     → Hits (first_of b t i p) q
@@ -206,7 +212,8 @@ module _ (b : Block) (runnable : IsRunnable b) (a : Responses) (g : ℕ → Answ
 
   node_at_read : (r : ℕ) → node_of (slot_tasks + r) ≡ r
   unfolding node_of
-  node_at_read r = cond-false (nat_lt (slot_tasks + r) slot_tasks) _ _ (le-ltb (slot_tasks + r) slot_tasks (omega arith))
+  node_at_read r = cond-false (nat_lt (slot_tasks + r) slot_tasks) _ _
+      (le-ltb (slot_tasks + r) slot_tasks (omega arith))
       ∙ (let e : slot_tasks + r - slot_tasks ≡ r = omega arith in e)
 
   pub task_rank : ℕ → ℕ
@@ -233,7 +240,8 @@ module _ (b : Block) (runnable : IsRunnable b) (a : Responses) (g : ℕ → Answ
             let f = runnable.fits.reads in let k = slot_tasks_is in let j = room_is in omega (arith, l, f, k, j));
         met = ap (λ t. t.met) (read_is b g y ∙ ap (read_task b) e);
         below = subst (λ z. rank z < r) (sym (node_at_read y)) lr;
-        gives = subst (λ t. Hits t.first q ⊎ Hits t.second q) (sym (read_is b g y ∙ ap (read_task b) e)) (hit (cases_lt q 416));
+        gives = subst (λ t. Hits t.first q ⊎ Hits t.second q) (sym (read_is b g y ∙ ap (read_task b) e))
+            (hit (cases_lt q 416));
       }
         where
           fits : FitsRead slot
@@ -292,13 +300,15 @@ module _ (b : Block) (runnable : IsRunnable b) (a : Responses) (g : ℕ → Answ
     here : slice_get (nodes_of b) (slot_node b s) ≡ Some (inst_node s (Some i))
     here = node_of_slot b s i e
 
-    given : is_some (rule (role_of i.op) i.sense (computes b a (slot_node b s)) (at_place b g s) (at_place b g (128 + s))
+    given : is_some (rule (role_of i.op) i.sense (computes b a (slot_node b s)) (at_place b g s)
+        (at_place b g (128 + s))
         (at_place b g (256 + s))) ≡ true
     given = sym (ap is_some (solves (slot_node b s)
         ∙ ap (λ m. node_gives m (computes b a (slot_node b s)) (at_place b g)) here)) ∙ met
 
     parts : (matched i.sense (at_place b g (256 + s)) ≡ true)
-        × (is_some (gives (role_of i.op) (computes b a (slot_node b s)) (at_place b g s) (at_place b g (128 + s))) ≡ true)
+        × (is_some (gives (role_of i.op) (computes b a (slot_node b s)) (at_place b g s) (at_place b g (128 + s)))
+        ≡ true)
     parts = if_parts (matched i.sense (at_place b g (256 + s))) _ given
 
     -- a place with a token is fed by a node that feeds this one
@@ -318,23 +328,29 @@ module _ (b : Block) (runnable : IsRunnable b) (a : Responses) (g : ℕ → Answ
       where
         guard : ((is_guarded i.sense ≡ true) × (256 + s ≡ q)) ⊎ Member q [] → Fed c task_rank (rank (slot_node b s)) q
         guard (inr k) = absurd k
-        guard (inl k) = subst (Fed c task_rank (rank (slot_node b s))) k.1 (place_fed (256 + s) (let l = small in omega (arith, l))
+        guard (inl k) = subst (Fed c task_rank (rank (slot_node b s))) k.1
+            (place_fed (256 + s) (let l = small in omega (arith, l))
             (matched_some i.sense (at_place b g (256 + s)) parts.0 k.0)
             (λ y n j nm. to_predicate (nodes_of b) (slot_node b s) y n (inst_node s (Some i)) j here nm))
 
-        right : ((takes_right (role_of i.op) ≡ true) × (128 + s ≡ q)) ⊎ Member q (if_so (is_guarded i.sense) (256 + s) [])
+        right : ((takes_right (role_of i.op) ≡ true) × (128 + s ≡ q))
+            ⊎ Member q (if_so (is_guarded i.sense) (256 + s) [])
             → Fed c task_rank (rank (slot_node b s)) q
         right (inr k) = guard (member_if (is_guarded i.sense) (256 + s) q [] k)
-        right (inl k) = subst (Fed c task_rank (rank (slot_node b s))) k.1 (place_fed (128 + s) (let l = small in omega (arith, l))
-            (gives_right (role_of i.op) (computes b a (slot_node b s)) (at_place b g s) (at_place b g (128 + s)) parts.1 k.0)
+        right (inl k) = subst (Fed c task_rank (rank (slot_node b s))) k.1
+            (place_fed (128 + s) (let l = small in omega (arith, l))
+            (gives_right (role_of i.op) (computes b a (slot_node b s)) (at_place b g s)
+            (at_place b g (128 + s)) parts.1 k.0)
             (λ y n j nm. to_right (nodes_of b) (slot_node b s) y n (inst_node s (Some i)) j here nm))
 
         left : ((takes_left (role_of i.op) ≡ true) × (s ≡ q))
             ⊎ Member q (if_so (takes_right (role_of i.op)) (128 + s) (if_so (is_guarded i.sense) (256 + s) []))
             → Fed c task_rank (rank (slot_node b s)) q
         left (inr k) = right (member_if (takes_right (role_of i.op)) (128 + s) q _ k)
-        left (inl k) = subst (Fed c task_rank (rank (slot_node b s))) k.1 (place_fed s (let l = small in omega (arith, l))
-            (gives_left (role_of i.op) (computes b a (slot_node b s)) (at_place b g s) (at_place b g (128 + s)) parts.1 k.0)
+        left (inl k) = subst (Fed c task_rank (rank (slot_node b s))) k.1
+            (place_fed s (let l = small in omega (arith, l))
+            (gives_left (role_of i.op) (computes b a (slot_node b s)) (at_place b g s)
+            (at_place b g (128 + s)) parts.1 k.0)
             (λ y n j nm. to_left (nodes_of b) (slot_node b s) y n (inst_node s (Some i)) j here nm))
 
     -- a store of a lower number feeds a load
@@ -353,7 +369,8 @@ module _ (b : Block) (runnable : IsRunnable b) (a : Responses) (g : ℕ → Answ
 
     waits_fed : (q : ℕ) → Member q (waits_of b i) → Fed c task_rank (rank (slot_node b s)) q
     waits_fed q = cond_both (is_load (form_of i.op)) (numbers_in b.mask i.number) []
-        (λ qs. Member q qs → Fed c task_rank (rank (slot_node b s)) q) (λ k m. by k (a_number b.mask i.number q m)) (λ k m. absurd m)
+        (λ qs. Member q qs → Fed c task_rank (rank (slot_node b s)) q) (λ k m. by k (a_number b.mask i.number q m))
+        (λ k m. absurd m)
       where
         by : is_load (form_of i.op) ≡ true → NumberOf b.mask i.number q → Fed c task_rank (rank (slot_node b s)) q
         by k (m, l, w, z) =
@@ -371,11 +388,13 @@ module _ (b : Block) (runnable : IsRunnable b) (a : Responses) (g : ℕ → Answ
   unfolding task_rank
   rank_at_slot s l = ap rank (sym (node_at_slot s l))
 
-  slot_needs : (s : ℕ) → s < slot_tasks → (o : Option Inst) → slot_of b s ≡ o → Feeds s (λ t. t.needs) (slot_task b g s o)
+  slot_needs : (s : ℕ) → s < slot_tasks → (o : Option Inst) → slot_of b s ≡ o
+      → Feeds s (λ t. t.needs) (slot_task b g s o)
   slot_needs s l None e m q k = absurd (cc)
   slot_needs s l (Some i) e m q k = subst (λ r. Fed c task_rank r q) (rank_at_slot s l) (needs_fed s i e m q k)
 
-  slot_waits : (s : ℕ) → s < slot_tasks → (o : Option Inst) → slot_of b s ≡ o → Feeds s (λ t. t.waits) (slot_task b g s o)
+  slot_waits : (s : ℕ) → s < slot_tasks → (o : Option Inst) → slot_of b s ≡ o
+      → Feeds s (λ t. t.waits) (slot_task b g s o)
   slot_waits s l None e m q k = absurd (cc)
   slot_waits s l (Some i) e m q k = subst (λ r. Fed c task_rank r q) (rank_at_slot s l) (waits_fed s i e m q k)
 
@@ -418,7 +437,8 @@ module _ (b : Block) (runnable : IsRunnable b) (a : Responses) (g : ℕ → Answ
 
       by : Member q (writes_of (length b.writes.items)) ⊎ Member q (numbers_in b.mask 32 ++ 448 ∷ [])
           → Fed c task_rank 160 q
-      by (inl k) = let d : (w : ℕ) × (w < length b.writes.items) × (384 + w ≡ q) = a_write (length b.writes.items) q k in
+      by (inl k) = let d : (w : ℕ) × (w < length b.writes.items) × (384 + w ≡ q) =
+          a_write (length b.writes.items) q k in
           let few : length b.writes.items ≤ 32 = runnable.fits.writes in
           let l : d.0 < length b.writes.items = d.1 in
           let z : 384 + d.0 ≡ q = d.2 in

@@ -1,11 +1,16 @@
 -- The rule under each part of a cycle.
-use Rattle.std.proofs.Common.{◌≡◌, ℕ, zero, suc, ◌*◌, ◌<◌, ◌≤◌, Bool, true, false, cond, ◌==◌, ◌&&◌, refl, sym, ◌∙◌, arith}
+use Rattle.std.proofs.Common.{◌≡◌, ℕ, zero, suc, ◌*◌, ◌<◌, ◌≤◌, Bool, true, false, cond, ◌==◌, ◌&&◌, refl, sym, ◌∙◌}
+use Rattle.std.proofs.Common.{arith}
 use Rattle.std.proofs.lemmas.Bool.{and_parts, and_from, or_left, or_right, cond_both, cond-false, eq-eqb, ltb-false}
 use Rattle.operand_net.specs.declared.parcel.Stand.{Stand}
 use Rattle.operand_net.specs.declared.parcel.Stand.TheVariants.{Nowhere, Away, Held}
 use Rattle.grid_cycle_bound.specs.Course.{Kind, Reading, Plain, Serving, Task, Course, GoodTask}
-use Rattle.grid_cycle_bound.specs.Lane.{Phase, Absent, Idle, Working, Asking, Standing, Sent, is_idle, is_there, first_parcel, second_parcel, Front, unread, unissued, ready}
-use Rattle.grid_cycle_bound.specs.Serving.{found, pick, none_busy, station_of, tile_of, launch, sent_from, result, fresh, reads_front, finished, finish_front, busy, issued, issue_front, units_after, less_one, goes, free_at, asked, moved, landed, delivers, move_at, move_front}
+use Rattle.grid_cycle_bound.specs.Lane.{Phase, Absent, Idle, Working, Asking, Standing, Sent, is_idle, is_there}
+use Rattle.grid_cycle_bound.specs.Lane.{first_parcel, second_parcel, Front, unread, unissued, ready}
+use Rattle.grid_cycle_bound.specs.Sending.{found, pick, none_busy, station_of, tile_of, launch, sent_from, result}
+use Rattle.grid_cycle_bound.specs.Sending.{fresh, reads_front}
+use Rattle.grid_cycle_bound.specs.Turning.{finished, finish_front, busy, issued, issue_front, units_after, less_one}
+use Rattle.grid_cycle_bound.specs.Moving.{goes, free_at, asked, moved, landed, delivers, move_at, move_front}
 use Rattle.grid_cycle_bound.specs.Laws.{Bounded, Landed, FineAt, Fine, Placed}
 use Rattle.grid_cycle_bound.proofs.Counting.{any_from, pick_may, pick_free, found_pos}
 use Rattle.grid_cycle_bound.proofs.Mesh.{launch_landed, goes_bounded, landed_kept, way_bounded}
@@ -36,7 +41,8 @@ placed_read f placed x l = cond_both (pick (unread f) (station_of f) none_busy x
     there (Sent p q) h = refl
 
 pub fine_fresh : (u : ℕ → ℕ) (g : ℕ) (c : Course) (s : Bool) → Fine u (fresh g c s)
-fine_fresh u g c s x l = cond_both (c.task x).declared Idle Absent (FineAt u (λ q. false) (c.task x)) (λ e. tt) (λ e. tt)
+fine_fresh u g c s x l =
+    cond_both (c.task x).declared Idle Absent (FineAt u (λ q. false) (c.task x)) (λ e. tt) (λ e. tt)
 
 pub placed_fresh : (g : ℕ) (c : Course) (s : Bool) → Placed (fresh g c s)
 placed_fresh g c s x l = go (c.task x).declared
@@ -116,7 +122,8 @@ module _ (u ud : ℕ → ℕ) (f : Front) where
       (finished f.generation (f.at x) (v (tile_of f x)) (f.course.task x)) (FineAt ud f.come (f.course.task x))
       (λ e.
       let n : busy v (tile_of f x) ≡ false = pick_free (ready f1) (tile_of f) (busy v) x e in
-      let a : 1 ≤ found f.course.room (λ y. issued v f1 y && tile_of f y == tile_of f x) (λ y. (f.course.task y).latency) =
+      let a : 1 ≤ found f.course.room (λ y. issued v f1 y && tile_of f y == tile_of f x)
+      (λ y. (f.course.task y).latency) =
       found_pos f.course.room _ _ x (λ y m. (good y).takes) l
       (and_from (issued v f1 x) _ e (eq-eqb (tile_of f x) (tile_of f x) refl)) in
       let b : units_after v f1 (tile_of f x)

@@ -3,10 +3,13 @@ use Rattle.std.proofs.Common.{◌≡◌, ℕ, ◌<◌, Bool, true, false, ◌&&�
 use Rattle.std.proofs.Common.{refl, sym, ◌∙◌, subst}
 use Rattle.std.proofs.lemmas.Bool.{and_parts, cond-false, cases_Bool, both_ways, not-true}
 use Rattle.grid_cycle_bound.specs.Course.{is_reading, Task}
-use Rattle.grid_cycle_bound.specs.Lane.{Phase, Absent, Idle, Working, Asking, Standing, Sent, is_idle, is_standing, Front}
+use Rattle.grid_cycle_bound.specs.Lane.{Phase, Absent, Idle, Working, Asking, Standing, Sent, is_idle, is_standing}
+use Rattle.grid_cycle_bound.specs.Lane.{Front}
 use Rattle.grid_cycle_bound.specs.Lane.{first_parcel, second_parcel, all_come, unread, unissued, ready, answerable}
-use Rattle.grid_cycle_bound.specs.Serving.{pick, none_busy, station_of, tile_of, reads_front, finished, finish_front}
-use Rattle.grid_cycle_bound.specs.Serving.{busy, issued, issue_front, is_nowhere}
+use Rattle.grid_cycle_bound.specs.Sending.{pick, none_busy, station_of, tile_of, reads_front}
+use Rattle.grid_cycle_bound.specs.Turning.{finished, finish_front}
+use Rattle.grid_cycle_bound.specs.Turning.{busy, issued, issue_front}
+use Rattle.grid_cycle_bound.specs.Moving.{is_nowhere}
 use Rattle.grid_cycle_bound.proofs.Counting.{pick_may}
 use Rattle.grid_cycle_bound.proofs.Stuck.{Active, reads, answers, fires, works, travels}
 use Rattle.grid_cycle_bound.proofs.Parts.{idle_is, standing_is}

@@ -15,3 +15,4 @@ pub mod Tasks
 pub mod Courses
 pub mod StandardFacts
 pub mod Programs
+pub mod Seen

@@ -11,7 +11,8 @@ use Rattle.grid_cycle_spec.specs.Laws.{IsNearer}
 use Rattle.grid_cycle_spec.proofs.Routes.{far_at_most, leads_nearer}
 use Rattle.grid_cycle_bound.specs.Course.{Target, OnMesh}
 use Rattle.grid_cycle_bound.specs.Lane.{Phase, Absent, Idle, Working, Asking, Standing, Sent}
-use Rattle.grid_cycle_bound.specs.Serving.{parcel, launch, taken, goes, asked, moved, is_nowhere, landed}
+use Rattle.grid_cycle_bound.specs.Sending.{parcel, launch}
+use Rattle.grid_cycle_bound.specs.Moving.{taken, goes, asked, moved, is_nowhere, landed}
 use Rattle.grid_cycle_bound.specs.Left.{parcel_left, task_left}
 use Rattle.grid_cycle_bound.specs.Laws.{Bounded, Has, Landed, OnItsWay}
 
@@ -185,7 +186,8 @@ moved_drop_first m k h j c w p l i b (inl e) g = subst (λ w. task_left c (moved
     let a : task_left c (asked (goes m h p)) ≤ parcel_left (goes m h p) + 25 = asked_left c (goes m h p) in
     let d : parcel_left (goes m h p) + 1 ≤ parcel_left p = goes_drop m h p l n g in
     omega (arith, a, d))
-moved_drop_first m k h j c w p l i b (inr r) g = subst (λ w. task_left c (moved m k h j w) + 1 ≤ task_left c w) (sym r.1)
+moved_drop_first m k h j c w p l i b (inr r) g =
+    subst (λ w. task_left c (moved m k h j w) + 1 ≤ task_left c w) (sym r.1)
     (let n : Bounded p × Bounded r.0 = subst Both r.1 b in
     let a : parcel_left (goes m h p) + 1 ≤ parcel_left p = goes_drop m h p l n.0 g in
     let d : parcel_left (goes k j r.0) ≤ parcel_left r.0 = goes_left k j r.0 i n.1 in

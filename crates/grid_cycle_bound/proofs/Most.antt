@@ -1,8 +1,10 @@
 -- A block's work is at most its share.
-use Rattle.std.proofs.Common.{◌≡◌, ℕ, zero, suc, ◌+◌, ◌*◌, ◌<◌, ◌≤◌, Bool, true, false, cond, ◌==◌, ◌&&◌, refl, sym, ◌∙◌, subst, arith}
+use Rattle.std.proofs.Common.{◌≡◌, ℕ, zero, suc, ◌+◌, ◌*◌, ◌<◌, ◌≤◌, Bool, true, false, cond, ◌==◌, ◌&&◌, refl, sym}
+use Rattle.std.proofs.Common.{◌∙◌, subst, arith}
 use Rattle.std.proofs.lemmas.Bool.{and_parts, eqb-true}
 use Rattle.grid_cycle_bound.specs.Course.{Task, sum, tasks}
-use Rattle.grid_cycle_bound.specs.Lane.{Phase, Absent, Idle, Working, Asking, Standing, Sent, is_idle, is_there, Front, unissued, ready}
+use Rattle.grid_cycle_bound.specs.Lane.{Phase, Absent, Idle, Working, Asking, Standing, Sent, is_idle, is_there}
+use Rattle.grid_cycle_bound.specs.Lane.{Front, unissued, ready}
 use Rattle.grid_cycle_bound.specs.Left.{parcel_left, task_left, wait_left, on_tile, count_on, tile_left, work, most}
 use Rattle.grid_cycle_bound.specs.Laws.{FineAt, Fine, Placed}
 use Rattle.grid_cycle_bound.proofs.Counting.{sum_le}
@@ -25,7 +27,8 @@ fine_left u come n c (Sent p q) l f =
 
 sum_add : (n : ℕ) (f g h : ℕ → ℕ) → ((x : ℕ) → x < n → f x + g x ≤ h x) → sum n f + sum n g ≤ sum n h
 sum_add zero f g h l = omega arith
-sum_add (suc n) f g h l = let a : f n + g n ≤ h n = l n (omega arith) in let b : sum n f + sum n g ≤ sum n h = sum_add n f g h (λ x m. l x (omega arith)) in omega (arith, a, b)
+sum_add (suc n) f g h l = let a : f n + g n ≤ h n = l n (omega arith) in
+    let b : sum n f + sum n g ≤ sum n h = sum_add n f g h (λ x m. l x (omega arith)) in omega (arith, a, b)
 
 sum_apart : (n : ℕ) (f g : ℕ → ℕ) → sum n (λ x. f x + g x) ≤ sum n f + sum n g
 sum_apart zero f g = omega arith
@@ -40,19 +43,25 @@ one_of : (n k c : ℕ) → (sum n (λ t. cond (k == t) c 0) ≤ c) × (n ≤ k �
 one_of zero k c = (omega arith, λ l. omega arith)
 one_of (suc n) k c = go (one_of n k c) (k == n) refl
   where
-    go : (sum n (λ t. cond (k == t) c 0) ≤ c) × (n ≤ k → sum n (λ t. cond (k == t) c 0) ≤ 0) → (b : Bool) → (k == n) ≡ b →
-        (cond b c 0 + sum n (λ t. cond (k == t) c 0) ≤ c) × (suc n ≤ k → cond b c 0 + sum n (λ t. cond (k == t) c 0) ≤ 0)
-    go ih true e = let same : k ≡ n = eqb-true _ _ e in let z : sum n (λ t. cond (k == t) c 0) ≤ 0 = ih.1 (omega arith) in (omega (arith, z), λ l. absurd (omega arith))
-    go ih false e = let a = ih.0 in (omega (arith, a), λ l. let z : sum n (λ t. cond (k == t) c 0) ≤ 0 = ih.1 (omega arith) in omega (arith, z))
+    go : (sum n (λ t. cond (k == t) c 0) ≤ c) × (n ≤ k → sum n (λ t. cond (k == t) c 0) ≤ 0) → (b : Bool)
+        → (k == n) ≡ b →
+        (cond b c 0 + sum n (λ t. cond (k == t) c 0) ≤ c)
+        × (suc n ≤ k → cond b c 0 + sum n (λ t. cond (k == t) c 0) ≤ 0)
+    go ih true e = let same : k ≡ n = eqb-true _ _ e in
+        let z : sum n (λ t. cond (k == t) c 0) ≤ 0 = ih.1 (omega arith) in (omega (arith, z), λ l. absurd (omega arith))
+    go ih false e = let a = ih.0 in
+        (omega (arith, a), λ l. let z : sum n (λ t. cond (k == t) c 0) ≤ 0 = ih.1 (omega arith) in omega (arith, z))
 
 spread : (T n c : ℕ) (tile : ℕ → ℕ) (d : ℕ → Bool)
     → sum T (λ t. sum n (λ x. cond (tile x == t) (cond (d x) c 0) 0)) ≤ c * sum n (λ x. cond (d x) 1 0)
 spread T zero c tile d = let z : sum T (λ t. 0) ≤ 0 = sum_zero T in omega (arith, z)
 spread T (suc n) c tile d =
     let a : sum T (λ t. cond (tile n == t) (cond (d n) c 0) 0 + sum n (λ x. cond (tile x == t) (cond (d x) c 0) 0))
-    ≤ sum T (λ t. cond (tile n == t) (cond (d n) c 0) 0) + sum T (λ t. sum n (λ x. cond (tile x == t) (cond (d x) c 0) 0)) =
+    ≤ sum T (λ t. cond (tile n == t) (cond (d n) c 0) 0) + sum T
+    (λ t. sum n (λ x. cond (tile x == t) (cond (d x) c 0) 0)) =
     sum_apart T _ _ in
-    let b : sum T (λ t. cond (tile n == t) (cond (d n) c 0) 0) ≤ cond (d n) c 0 = (one_of T (tile n) (cond (d n) c 0)).0 in
+    let b : sum T (λ t. cond (tile n == t) (cond (d n) c 0) 0) ≤ cond (d n) c 0 =
+    (one_of T (tile n) (cond (d n) c 0)).0 in
     let e : sum T (λ t. sum n (λ x. cond (tile x == t) (cond (d x) c 0) 0)) ≤ c * sum n (λ x. cond (d x) 1 0) =
     spread T n c tile d in
     let m : cond (d n) c 0 + c * sum n (λ x. cond (d x) 1 0) ≤ c * (cond (d n) 1 0 + sum n (λ x. cond (d x) 1 0)) =
@@ -100,7 +109,8 @@ module _ (u : ℕ → ℕ) (fits : (t : ℕ) → u t ≤ 24) (f : Front) (placed
           → 24 * sum n (λ x. cond (p x && q x) 1 0) ≤ sum n (λ x. cond (q x) (cond (d x) 24 0) 0)
       scaled zero p q d h = omega arith
       scaled (suc n) p q d h =
-          let a : 24 * cond (p n && q n) 1 0 ≤ cond (q n) (cond (d n) 24 0) 0 = one (p n) (q n) (d n) (h n (omega arith)) in
+          let a : 24 * cond (p n && q n) 1 0 ≤ cond (q n) (cond (d n) 24 0) 0 =
+          one (p n) (q n) (d n) (h n (omega arith)) in
           let b : 24 * sum n (λ x. cond (p x && q x) 1 0) ≤ sum n (λ x. cond (q x) (cond (d x) 24 0) 0) =
           scaled n p q d (λ x l. h x (omega arith)) in
           omega (arith, a, b)

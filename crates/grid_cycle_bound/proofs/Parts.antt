@@ -1,17 +1,23 @@
 -- What each part of a cycle does to one frame's work, where no older frame comes before it.
-use Rattle.std.proofs.Common.{◌≡◌, ℕ, zero, suc, ◌+◌, ◌*◌, ◌/◌, ◌%◌, ◌<◌, ◌≤◌, Bool, true, false, cond, ◌==◌, ◌&&◌, ◌||◌, not, ◌⊎◌, inl, inr, List, [], ◌∷◌, refl, sym, ap, ◌∙◌, subst, arith}
-use Rattle.std.proofs.lemmas.Bool.{and_parts, and_from, or_cases, or_left, cond_both, cond-true, eq-eqb, cases_Bool, both_ways}
+use Rattle.std.proofs.Common.{◌≡◌, ℕ, zero, suc, ◌+◌, ◌*◌, ◌/◌, ◌%◌, ◌<◌, ◌≤◌, Bool, true, false, cond, ◌==◌, ◌&&◌}
+use Rattle.std.proofs.Common.{◌||◌, not, ◌⊎◌, inl, inr, List, [], ◌∷◌, refl, sym, ap, ◌∙◌, subst, arith}
+use Rattle.std.proofs.lemmas.Bool.{and_parts, and_from, or_cases, or_left, cond_both, cond-true, eq-eqb, cases_Bool}
+use Rattle.std.proofs.lemmas.Bool.{both_ways}
 use Rattle.operand_net.specs.Tick.{link_of, wants, any_wants, is_free}
 use Rattle.operand_net.specs.declared.parcel.Stand.{Stand}
 use Rattle.operand_net.specs.declared.parcel.Stand.TheVariants.{Nowhere, Away, Held}
 use Rattle.grid_cycle_bound.specs.Course.{is_reading, Task, GoodTask}
-use Rattle.grid_cycle_bound.specs.Lane.{any, Phase, Absent, Idle, Working, Asking, Standing, Sent, is_idle, is_standing, first_parcel, second_parcel, Front, all_come, unread, unissued, ready}
-use Rattle.grid_cycle_bound.specs.Serving.{pick, none_busy, station_of, launch, sent_from, reads_front, goes, row, free_at, asked, moved, is_nowhere, delivers, move_at, move_front}
+use Rattle.grid_cycle_bound.specs.Lane.{any, Phase, Absent, Idle, Working, Asking, Standing, Sent, is_idle}
+use Rattle.grid_cycle_bound.specs.Lane.{is_standing, first_parcel, second_parcel, Front, all_come, unread, unissued}
+use Rattle.grid_cycle_bound.specs.Lane.{ready}
+use Rattle.grid_cycle_bound.specs.Sending.{pick, none_busy, station_of, launch, sent_from, reads_front}
+use Rattle.grid_cycle_bound.specs.Moving.{goes, row, free_at, asked, moved, is_nowhere, delivers, move_at, move_front}
 use Rattle.grid_cycle_bound.specs.Left.{parcel_left, task_left, work}
 use Rattle.grid_cycle_bound.specs.Laws.{FineAt, Fine}
 use Rattle.grid_cycle_bound.proofs.Counting.{chosen, pick_may}
 use Rattle.grid_cycle_bound.proofs.Work.{calm, calm_drop}
-use Rattle.grid_cycle_bound.proofs.Mesh.{Both, launch_left, moved_left, moved_drop_first, moved_drop_second, Leaves, landed_bounded, way_bounded}
+use Rattle.grid_cycle_bound.proofs.Mesh.{Both, launch_left, moved_left, moved_drop_first, moved_drop_second, Leaves}
+use Rattle.grid_cycle_bound.proofs.Mesh.{landed_bounded, way_bounded}
 
 abbrev pub GoodTasks : Front → Type 0
 GoodTasks f = (x : ℕ) → GoodTask (f.course.task x)
@@ -44,23 +50,29 @@ module _ (u : ℕ → ℕ) (fits : (t : ℕ) → u t ≤ 24) (f : Front) (picked
   at2 x = cond (picked x) (new x) (f.at x)
 
   keeps : (x : ℕ) → x < f.course.room → unissued (record f { at = at2; come = f.come }) x ≡ true → unissued f x ≡ true
-  keeps x l = cond_both (picked x) (new x) (f.at x) (λ w. (is_idle w && not (is_reading (f.course.task x).kind)) ≡ true → unissued f x ≡ true)
+  keeps x l = cond_both (picked x) (new x) (f.at x)
+      (λ w. (is_idle w && not (is_reading (f.course.task x).kind)) ≡ true → unissued f x ≡ true)
       (λ e h. absurd (both_ways (is_idle (new x)) (taken x e) (and_parts (is_idle (new x)) _ h).0)) (λ e h. h)
 
   more : (x : ℕ) → x < f.course.room → ready f x ≡ true → ready (record f { at = at2; come = f.come }) x ≡ true
-  more x l h = cond_both (picked x) (new x) (f.at x) (λ w. ((is_idle w && not (is_reading (f.course.task x).kind)) && ((f.course.task x).met && all_come f.come (f.course.task x).needs)) ≡ true)
+  more x l h = cond_both (picked x) (new x) (f.at x)
+      (λ w. ((is_idle w && not (is_reading (f.course.task x).kind))
+      && ((f.course.task x).met && all_come f.come (f.course.task x).needs)) ≡ true)
       (λ e. absurd (both_ways (unissued f x) (gone x e) (and_parts (unissued f x) _ h).0)) (λ e. h)
 
   low : (x c : ℕ) → x < f.course.room → task_left c (at2 x) ≤ task_left c (f.at x)
   low x c l = cond_both (picked x) (new x) (f.at x) (λ w. task_left c w ≤ task_left c (f.at x))
-      (λ e. let a : task_left c (new x) + 1 ≤ task_left c (f.at x) = falls x c l e in omega (arith, a)) (λ e. omega arith)
+      (λ e. let a : task_left c (new x) + 1 ≤ task_left c (f.at x) = falls x c l e in omega (arith, a))
+      (λ e. omega arith)
 
   pub picked_le : work u (record f { at = at2 }) ≤ work u f
   picked_le = calm u fits f at2 f.come keeps more low
 
-  pub picked_drop : (x : ℕ) → x < f.course.room → (f.course.task x).tile < 16 → picked x ≡ true → work u (record f { at = at2 }) + 1 ≤ work u f
+  pub picked_drop : (x : ℕ) → x < f.course.room → (f.course.task x).tile < 16 → picked x ≡ true
+      → work u (record f { at = at2 }) + 1 ≤ work u f
   picked_drop x l k e = calm_drop u fits f at2 f.come keeps more low x l k
-      (λ c. subst (λ w. task_left c w + 1 ≤ task_left c (f.at x)) (sym (cond-true (picked x) (new x) (f.at x) e)) (falls x c l e))
+      (λ c. subst (λ w. task_left c w + 1 ≤ task_left c (f.at x)) (sym (cond-true (picked x) (new x) (f.at x) e))
+      (falls x c l e))
 
 pub sent_left : (g p : ℕ) (n : Task) (c : ℕ) → p < 25 → GoodTask n → task_left c (sent_from g p n) ≤ 24
 sent_left g p n c l k =
@@ -81,20 +93,30 @@ module _ (u : ℕ → ℕ) (fits : (t : ℕ) → u t ≤ 24) (f : Front) (good :
   reads x = pick (unread f) (station_of f) none_busy x
 
   read_gone : (x : ℕ) → pick (unread f) (station_of f) none_busy x ≡ true → unissued f x ≡ false
-  read_gone x e = let b : (is_idle (f.at x) ≡ true) × (is_reading (f.course.task x).kind ≡ true) = and_parts (is_idle (f.at x)) _ (pick_may (unread f) (station_of f) none_busy x e) in simp (b.0, b.1)
+  read_gone x e = let b : (is_idle (f.at x) ≡ true) × (is_reading (f.course.task x).kind ≡ true) =
+      and_parts (is_idle (f.at x)) _ (pick_may (unread f) (station_of f) none_busy x e) in simp (b.0, b.1)
 
-  read_falls : (x c : ℕ) → x < f.course.room → pick (unread f) (station_of f) none_busy x ≡ true → task_left c (sent_from f.generation (f.course.task x).here (f.course.task x)) + 1 ≤ task_left c (f.at x)
+  read_falls : (x c : ℕ) → x < f.course.room → pick (unread f) (station_of f) none_busy x ≡ true
+      → task_left c (sent_from f.generation (f.course.task x).here (f.course.task x)) + 1 ≤ task_left c (f.at x)
   read_falls x c l e =
-      let i : f.at x ≡ Idle = idle_is _ (and_parts (is_idle (f.at x)) _ (pick_may (unread f) (station_of f) none_busy x e)).0 in
-      let a : task_left c (sent_from f.generation (f.course.task x).here (f.course.task x)) ≤ 24 = here_left f.generation (f.course.task x) c (good x) in
-      subst (λ w. task_left c (sent_from f.generation (f.course.task x).here (f.course.task x)) + 1 ≤ task_left c w) (sym i) (omega (arith, a))
+      let i : f.at x ≡ Idle =
+      idle_is _ (and_parts (is_idle (f.at x)) _ (pick_may (unread f) (station_of f) none_busy x e)).0 in
+      let a : task_left c (sent_from f.generation (f.course.task x).here (f.course.task x)) ≤ 24 =
+      here_left f.generation (f.course.task x) c (good x) in
+      subst (λ w. task_left c (sent_from f.generation (f.course.task x).here (f.course.task x)) + 1 ≤ task_left c w)
+      (sym i) (omega (arith, a))
 
   pub read_le : work u (reads_front f) ≤ work u f
-  read_le = picked_le u fits f (λ x. pick (unread f) (station_of f) none_busy x) (λ x. sent_from f.generation (f.course.task x).here (f.course.task x)) read_gone (λ x e. refl) read_falls
+  read_le = picked_le u fits f (λ x. pick (unread f) (station_of f) none_busy x)
+      (λ x. sent_from f.generation (f.course.task x).here (f.course.task x)) read_gone (λ x e. refl) read_falls
 
   pub read_drop : (x : ℕ) → x < f.course.room → unread f x ≡ true → work u (reads_front f) + 1 ≤ work u f
-  read_drop x l e = let y : (y : ℕ) × (y < f.course.room) × (station_of f y ≡ station_of f x) × (pick (unread f) (station_of f) none_busy y ≡ true) = chosen f.course.room (unread f) (station_of f) none_busy x l e refl in
-      picked_drop u fits f (λ x. pick (unread f) (station_of f) none_busy x) (λ x. sent_from f.generation (f.course.task x).here (f.course.task x)) read_gone (λ x e. refl) read_falls y.0 y.1 (good y.0).tile y.3
+  read_drop x l e = let y : (y : ℕ) × (y < f.course.room) × (station_of f y ≡ station_of f x)
+      × (pick (unread f) (station_of f) none_busy y ≡ true) =
+      chosen f.course.room (unread f) (station_of f) none_busy x l e refl in
+      picked_drop u fits f (λ x. pick (unread f) (station_of f) none_busy x)
+      (λ x. sent_from f.generation (f.course.task x).here (f.course.task x)) read_gone
+      (λ x e. refl) read_falls y.0 y.1 (good y.0).tile y.3
 
 -- (6) -------------------------------------------------------------------------------------------
 
@@ -111,9 +133,11 @@ moved_idle m k h j (Asking p) = asked_idle (goes m h p)
 moved_idle m k h j Standing = refl
 moved_idle m k h j (Sent p q) = refl
 
-pub all_come_more : (come come2 : ℕ → Bool) (qs : List ℕ) → ((s : ℕ) → come s ≡ true → come2 s ≡ true) → all_come come qs ≡ true → all_come come2 qs ≡ true
+pub all_come_more : (come come2 : ℕ → Bool) (qs : List ℕ) → ((s : ℕ) → come s ≡ true → come2 s ≡ true)
+    → all_come come qs ≡ true → all_come come2 qs ≡ true
 all_come_more come come2 [] more e = refl
-all_come_more come come2 (q ∷ qs) more e = let b : (come q ≡ true) × (all_come come qs ≡ true) = and_parts (come q) _ e in and_from (come2 q) _ (more q b.0) (all_come_more come come2 qs more b.1)
+all_come_more come come2 (q ∷ qs) more e = let b : (come q ≡ true) × (all_come come qs ≡ true) =
+    and_parts (come q) _ e in and_from (come2 q) _ (more q b.0) (all_come_more come come2 qs more b.1)
 
 first_shape : (w : Phase) → is_nowhere (first_parcel w) ≡ false
     → (w ≡ Asking (first_parcel w)) ⊎ ((q : Stand) × (w ≡ Sent (first_parcel w) q))

@@ -1,6 +1,7 @@
 -- The prices of the blocks of a run are the cost of its trace.
 use Rattle.std.proofs.Common.{◌≡◌, ℕ, zero, suc, ◌+◌, ◌-◌, ◌≤◌, ◌⊎◌, inl, inr, Bool, true, false, ◌==◌}
-use Rattle.std.proofs.Common.{List, [], ◌∷◌, ◌++◌, length, Option, Some, None, slice_get, slice_index, refl, sym, ap, ◌∙◌, subst}
+use Rattle.std.proofs.Common.{List, [], ◌∷◌, ◌++◌, length, Option, Some, None, slice_get, slice_index, refl, sym, ap}
+use Rattle.std.proofs.Common.{◌∙◌, subst}
 use Rattle.std.proofs.Common.{arith}
 use Rattle.std.proofs.lemmas.Bool.{cond_both}
 use Rattle.trips_isa.specs.declared.block.Block.{Block}
@@ -8,7 +9,8 @@ use Rattle.trips_isa.specs.declared.run.Traced.{Traced}
 use Rattle.trips_isa.specs.declared.run.Stepped.{Stepped}
 use Rattle.trips_isa.specs.declared.run.Stepped.TheVariants.{Went, Ended, StackFull, Trap}
 use Rattle.trips_isa.specs.Outcomes.{Effects, Outcome, Comes, Faults, outcome}
-use Rattle.trips_isa.specs.Machine.{State, changed, with_input, system_call, then_system, apply, come_to, step_in, step_of}
+use Rattle.trips_isa.specs.Machine.{State, changed, with_input, system_call, then_system, apply, come_to, step_in}
+use Rattle.trips_isa.specs.Machine.{step_of}
 use Rattle.trips_isa.specs.Machine.{goes_on, runs}
 use Rattle.grid_cycle_spec.specs.Costs.{cost, cost_in, cost_of}
 use Rattle.grid_cycle_spec.proofs.Routes.{cost_more}
@@ -34,14 +36,16 @@ applied_trace : (writes : List ℕ) (o : Effects) (s : State)
     → (apply writes o s).0.trace ≡ s.trace ++ (record { block = s.next; exit = o.exit }) ∷ []
 applied_trace writes o s = go o.system
   where
-    go : (b : Bool) → (then_system b (changed writes o s)).0.trace ≡ s.trace ++ (record { block = s.next; exit = o.exit }) ∷ []
+    go : (b : Bool) → (then_system b (changed writes o s)).0.trace
+        ≡ s.trace ++ (record { block = s.next; exit = o.exit }) ∷ []
     go true = call_trace (slice_index (changed writes o s).registers 0) (changed writes o s)
     go false = refl
 
 -- a step leaves the trace, or adds its block to it
 abbrev Adds : List Block → State → State → Type 0
 Adds blocks s t = (t.trace ≡ s.trace)
-    ⊎ ((b : Block) × (x : Traced) × (slice_get blocks s.next ≡ Some b) × (x.block ≡ s.next) × (t.trace ≡ s.trace ++ x ∷ []))
+    ⊎ ((b : Block) × (x : Traced) × (slice_get blocks s.next ≡ Some b) × (x.block ≡ s.next)
+    × (t.trace ≡ s.trace ++ x ∷ []))
 
 step_adds : (blocks : List Block) (s : State) → Adds blocks s (step_of blocks s).0
 step_adds blocks s = go (slice_get blocks s.next) refl
@@ -93,7 +97,8 @@ module _ (blocks : List Block) (s : State) where
       go h (inl e) =
           let k : length (after (suc n)).trace ≡ length (after n).trace = ap length e in omega (arith, h, k)
       go h (inr (b, x, i, j, e)) =
-          let k : length (after (suc n)).trace ≡ suc (length (after n).trace) = ap length e ∙ length_more (after n).trace x in
+          let k : length (after (suc n)).trace ≡ suc (length (after n).trace) =
+          ap length e ∙ length_more (after n).trace x in
           omega (arith, h, k)
 
   abbrev Adding : ℕ → Type 0
@@ -109,18 +114,21 @@ module _ (blocks : List Block) (s : State) where
   -- where each step added a block, the prices are the cost of what was added
   pub trace_costs : (n : ℕ) → length (after n).trace ≡ length s.trace + n → Adding n
   trace_costs zero l =
-      let e : cost_of blocks (after 0).trace ≡ cost_of blocks s.trace = ap (λ t. cost_of blocks t.trace) (runs_none blocks s) in
+      let e : cost_of blocks (after 0).trace ≡ cost_of blocks s.trace =
+      ap (λ t. cost_of blocks t.trace) (runs_none blocks s) in
       let z : length s.trace + 0 ≡ length s.trace = omega arith in
       let t : total (sizes_from blocks s) (length s.trace + 0) ≡ total (sizes_from blocks s) (length s.trace) =
       ap (total (sizes_from blocks s)) z in
       omega (arith, e, t)
   trace_costs (suc n) l = go (trace_costs n) (next_adds n)
     where
-      go : (length (after n).trace ≡ length s.trace + n → Adding n) → Adds blocks (after n) (after (suc n)) → Adding (suc n)
+      go : (length (after n).trace ≡ length s.trace + n → Adding n) → Adds blocks (after n) (after (suc n))
+          → Adding (suc n)
       go ih (inl e) = let h = at_most n in
           let k : length (after (suc n)).trace ≡ length (after n).trace = ap length e in absurd (omega (arith, h, k, l))
       go ih (inr (b, x, i, j, e)) =
-          let k : length (after (suc n)).trace ≡ suc (length (after n).trace) = ap length e ∙ length_more (after n).trace x in
+          let k : length (after (suc n)).trace ≡ suc (length (after n).trace) =
+          ap length e ∙ length_more (after n).trace x in
           let h : Adding n = ih (omega (arith, k, l)) in
           let c : cost_of blocks (after (suc n)).trace ≡ cost_of blocks (after n).trace + cost_of blocks (x ∷ []) =
           ap (cost_of blocks) e ∙ cost_more blocks (after n).trace (x ∷ []) in

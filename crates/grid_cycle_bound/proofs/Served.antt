@@ -5,8 +5,11 @@ use Rattle.std.proofs.lemmas.Bool.{cond_both, cond-true, cond-false, both_ways, 
 use Rattle.grid_cycle_bound.specs.Course.{Course, Good, tasks}
 use Rattle.grid_cycle_bound.specs.Lane.{Front, Stage, Running, Fetching, Lane, unread}
 use Rattle.grid_cycle_bound.specs.Lane.{is_complete}
-use Rattle.grid_cycle_bound.specs.Serving.{station_of, fresh, fetching, reads_front, reading, TilesAnswer, less_one}
-use Rattle.grid_cycle_bound.specs.Serving.{finish_front, busy, units_after, turning, own_units, move_front, moving}
+use Rattle.grid_cycle_bound.specs.Sending.{station_of, fresh, fetching, reads_front, reading}
+use Rattle.grid_cycle_bound.specs.Answering.{TilesAnswer}
+use Rattle.grid_cycle_bound.specs.Turning.{less_one}
+use Rattle.grid_cycle_bound.specs.Turning.{finish_front, busy, units_after, turning, own_units}
+use Rattle.grid_cycle_bound.specs.Moving.{move_front, moving}
 use Rattle.grid_cycle_bound.specs.Serving.{Serves, Served}
 use Rattle.grid_cycle_bound.specs.Left.{work, most, reserve, fetch_left, stage_left, left, price}
 use Rattle.grid_cycle_bound.specs.Laws.{FineAt, AtMost, StageRule, LaneRule, Falls}
@@ -69,7 +72,8 @@ module _ (n : ℕ) (u : ℕ → ℕ) (fits : (t : ℕ) → u t ≤ 24) where
     where
       two : ((x : ℕ) × (x < f.course.room) × (unread f x ≡ true)) ⊎ Later4 f
           → (stage_left n u (reading (Running f)) + 1 ≤ stage_left n u (Running f)) ⊎ Later4 (reads_front f)
-      two (inl (x, l, e)) = inl (let b : work u (reads_front f) + 1 ≤ work u f = read_drop u fits f r.good.by.good x l e in
+      two (inl (x, l, e)) = inl
+          (let b : work u (reads_front f) + 1 ≤ work u f = read_drop u fits f r.good.by.good x l e in
           omega (arith, b))
       two (inr k) = inr (read_later4 f k)
 
@@ -277,7 +281,8 @@ module _ (sizes : ℕ → ℕ) (l m : Lane) (units : (t : ℕ) → l.units t ≤
       let b : stage_left c l.units (Running f) ≡ stage_left c l.units s2 = ap (stage_left c l.units) i in
       omega (arith, a, b)
   falls_from (Fetching o b) k e i =
-      let a : stage_left c l.units (fetching v.generation v.filled (Fetching o b)) + 1 ≤ stage_left c l.units (Fetching o b) =
+      let a : stage_left c l.units (fetching v.generation v.filled (Fetching o b)) + 1
+      ≤ stage_left c l.units (Fetching o b) =
       fetch_falls c l.units units v.generation v.filled v.is_filled o b in
       let d : stage_left c l.units (fetching v.generation v.filled (Fetching o b)) ≡ stage_left c l.units s2 =
       ap (stage_left c l.units) i in

@@ -31,11 +31,13 @@ sum_same (suc n) f g h = ap₂ (λ a b. a + b) (h n (omega arith)) (sum_same n f
 
 -- the first m numbers, and those behind them
 sum_split : (m n : ℕ) (f : ℕ → ℕ) → sum (m + n) f ≡ sum m f + sum n (λ k. f (m + k))
-sum_split m zero f = let e : m + 0 ≡ m = omega arith in ap (λ k. sum k f) e ∙ (let z : sum m f ≡ sum m f + 0 = omega arith in z)
+sum_split m zero f = let e : m + 0 ≡ m = omega arith in
+    ap (λ k. sum k f) e ∙ (let z : sum m f ≡ sum m f + 0 = omega arith in z)
 sum_split m (suc n) f =
     let e : m + suc n ≡ suc (m + n) = omega arith in
     let h : sum (m + n) f ≡ sum m f + sum n (λ k. f (m + k)) = sum_split m n f in
-    ap (λ k. sum k f) e ∙ (let z : f (m + n) + sum (m + n) f ≡ sum m f + (f (m + n) + sum n (λ k. f (m + k))) = omega (arith, h) in z)
+    ap (λ k. sum k f) e ∙
+    (let z : f (m + n) + sum (m + n) f ≡ sum m f + (f (m + n) + sum n (λ k. f (m + k))) = omega (arith, h) in z)
 
 sum_head : (n : ℕ) (f : ℕ → ℕ) → sum (suc n) f ≡ f 0 + sum n (λ k. f (suc k))
 sum_head zero f = refl
@@ -48,7 +50,8 @@ sum_none zero = refl
 sum_none (suc n) = let h : sum n (λ k. 0) ≡ 0 = sum_none n in omega (arith, h)
 
 -- the instructions of a list, by number
-insts_are : (xs : List (Option Inst)) → sum (length xs) (λ s. one (is_some (slice_index_or xs s None))) ≡ instructions xs
+insts_are : (xs : List (Option Inst))
+    → sum (length xs) (λ s. one (is_some (slice_index_or xs s None))) ≡ instructions xs
 insts_are [] = refl
 insts_are (None ∷ xs) =
     let h : sum (suc (length xs)) (λ s. one (is_some (slice_index_or (None ∷ xs) s None)))

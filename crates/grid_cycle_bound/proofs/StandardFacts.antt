@@ -6,9 +6,13 @@ use Rattle.trips_isa.specs.declared.form.Form.TheVariants as form
 use Rattle.grid_cycle_spec.specs.Cycles.{begun_at}
 use Rattle.grid_cycle_spec.specs.Grid.{Grid}
 use Rattle.grid_cycle_bound.specs.Course.{Plain, Serving, Task, Course, tasks}
-use Rattle.grid_cycle_bound.specs.Lane.{Phase, Idle, Working, Asking, Standing, Sent, Front, Stage, Running, Fetching, Lane}
+use Rattle.grid_cycle_bound.specs.Lane.{Phase, Idle, Working, Asking, Standing, Sent, Front, Stage, Running, Fetching}
+use Rattle.grid_cycle_bound.specs.Lane.{Lane}
 use Rattle.grid_cycle_bound.specs.Lane.{ready, complete}
-use Rattle.grid_cycle_bound.specs.Serving.{fresh, fetching, turning, own_units, moving, answer_one, parcel, goes}
+use Rattle.grid_cycle_bound.specs.Sending.{fresh, fetching, parcel}
+use Rattle.grid_cycle_bound.specs.Turning.{turning, own_units}
+use Rattle.grid_cycle_bound.specs.Moving.{moving, goes}
+use Rattle.grid_cycle_bound.specs.Answering.{answer_one}
 use Rattle.grid_cycle_bound.specs.Left.{parcel_left, task_left, wait_left, left, price, total}
 use Rattle.grid_cycle_bound.specs.Blocks.{kind_of, numbers_in, writes_of}
 use Rattle.grid_cycle_bound.specs.Seen.{lane_of}
@@ -162,7 +166,8 @@ one_cycle_left = refl
 pub parcels_left : parcel_left Nowhere ∷ parcel_left (parcel 0 0 24) ∷ [] ≡ 0 ∷ 12 ∷ []
 parcels_left = refl
 
-pub phases_left : task_left 3 Idle ∷ task_left 3 Working ∷ task_left 3 (Asking (parcel 0 6 5)) ∷ task_left 3 Standing ∷ []
+pub phases_left : task_left 3 Idle ∷ task_left 3 Working ∷ task_left 3
+    (Asking (parcel 0 6 5)) ∷ task_left 3 Standing ∷ []
     ≡ 63 ∷ 41 ∷ 30 ∷ 25 ∷ []
 phases_left = refl
 

@@ -8,9 +8,11 @@ use Rattle.operand_net.specs.declared.parcel.Stand.{Stand}
 use Rattle.operand_net.specs.declared.parcel.Stand.TheVariants.{Nowhere, Away, Held}
 use Rattle.grid_cycle_bound.specs.Course.{Target, Task, sum, tasks, is_reading, GoodTask}
 use Rattle.grid_cycle_bound.specs.Lane.{any, Phase, Absent, Idle, Working, Asking, Standing, Sent, is_idle, is_there}
-use Rattle.grid_cycle_bound.specs.Lane.{is_standing, Front, Stage, Running, Fetching, all_come, unissued, ready, answerable}
-use Rattle.grid_cycle_bound.specs.Serving.{station_of, hits, settled, resolves, answer_one, at_tile, has_at}
-use Rattle.grid_cycle_bound.specs.Serving.{spot_of, Retold, RunsOn, Answered, TileAnswers, TilesAnswer}
+use Rattle.grid_cycle_bound.specs.Lane.{is_standing, Front, Stage, Running, Fetching, all_come, unissued, ready}
+use Rattle.grid_cycle_bound.specs.Lane.{answerable}
+use Rattle.grid_cycle_bound.specs.Sending.{station_of}
+use Rattle.grid_cycle_bound.specs.Answering.{hits, settled, resolves, answer_one, at_tile, has_at}
+use Rattle.grid_cycle_bound.specs.Answering.{spot_of, Retold, RunsOn, Answered, TileAnswers, TilesAnswer}
 use Rattle.grid_cycle_bound.specs.Left.{task_left, wait_left, work, reserve, stage_left}
 use Rattle.grid_cycle_bound.specs.Laws.{Has, Landed, FineAt, Fine, Placed, FrontRule, StageRule}
 use Rattle.grid_cycle_bound.proofs.Counting.{any_from}
@@ -44,7 +46,8 @@ fine_more u come come2 n Idle m h = tt
 fine_more u come come2 n Working m h = h
 fine_more u come come2 n (Asking p) m h = h
 fine_more u come come2 n Standing m h = tt
-fine_more u come come2 n (Sent p q) m h = (landed_more come come2 p n.first m h.0, landed_more come come2 q n.second m h.1)
+fine_more u come come2 n (Sent p q) m h =
+    (landed_more come come2 p n.first m h.0, landed_more come come2 q n.second m h.1)
 
 settled_fine : (u : ℕ → ℕ) (come2 : ℕ → Bool) (g : ℕ) (n : Task) (b : Bool) → GoodTask n
     → ((s : ℕ) → resolves b n s ≡ true → come2 s ≡ true) → FineAt u come2 n (settled g b n)
@@ -79,7 +82,8 @@ module _ (f : Front) (x : ℕ) (stands : is_standing (f.at x) ≡ true) where
   was y e = standing_is (f.at y) (subst (λ z. is_standing (f.at z) ≡ true) (sym (eqb-true _ _ e)) stands)
 
   new_at : (y : ℕ) → (y == x) ≡ true → after.at y ≡ settled f.generation (f.course.task y).stores (f.course.task y)
-  new_at y e = cond-true (y == x) _ _ e ∙ ap (λ z. settled f.generation (f.course.task z).stores (f.course.task z)) (sym (eqb-true _ _ e))
+  new_at y e = cond-true (y == x) _ _ e
+      ∙ ap (λ z. settled f.generation (f.course.task z).stores (f.course.task z)) (sym (eqb-true _ _ e))
 
   pub answered_placed : Placed f → Placed after
   answered_placed placed y l = at (cases_Bool (y == x))
@@ -189,7 +193,8 @@ module _ (f h : Front) (r : Retold f h) where
   landed_same come (Away trip a) t v e k = k
   landed_same come (Held trip c) t v e k = k
 
-  fine_same : (u : ℕ → ℕ) (come : ℕ → Bool) (t v : Task) (w : Phase) → v.tile ≡ t.tile → spot_of v.first ≡ spot_of t.first
+  fine_same : (u : ℕ → ℕ) (come : ℕ → Bool) (t v : Task) (w : Phase) → v.tile ≡ t.tile
+      → spot_of v.first ≡ spot_of t.first
       → spot_of v.second ≡ spot_of t.second → FineAt u come t w → FineAt u come v w
   fine_same u come t v Absent e i j k = tt
   fine_same u come t v Idle e i j k = tt
@@ -264,7 +269,8 @@ module _ (n : ℕ) (u : ℕ → ℕ) (fits : (t : ℕ) → u t ≤ 24) where
 
   -- some tiles: what stands at one of them, or still stands behind them
   abbrev After : ℕ → Stage → Stage → Type 0
-  After d s t = StageRule n u t × ((stage_left n u t + 1 ≤ stage_left n u s) ⊎ ((t ≡ s) × ((k : ℕ) → k < d → Here k s → ⊥)))
+  After d s t = StageRule n u t
+      × ((stage_left n u t + 1 ≤ stage_left n u s) ⊎ ((t ≡ s) × ((k : ℕ) → k < d → Here k s → ⊥)))
 
   pub some_tiles : (d : ℕ) (s t : Stage) → StageRule n u s → TilesAnswer d s t → After d s t
   some_tiles zero s t r a = (subst (StageRule n u) (sym a) r, inr (a, λ k l. absurd (omega arith)))
@@ -273,7 +279,8 @@ module _ (n : ℕ) (u : ℕ → ℕ) (fits : (t : ℕ) → u t ≤ 24) where
       go : After d s a.middle → After (suc d) s t
       go (rm, inl l) = let k = one_tile d a.middle t rm a.after in (k.0, inl (lower k.1))
         where
-          lower : (stage_left n u t + 1 ≤ stage_left n u a.middle) ⊎ (t ≡ a.middle) → stage_left n u t + 1 ≤ stage_left n u s
+          lower : (stage_left n u t + 1 ≤ stage_left n u a.middle) ⊎ (t ≡ a.middle)
+              → stage_left n u t + 1 ≤ stage_left n u s
           lower (inl j) = omega (arith, l, j)
           lower (inr e) = subst (λ z. stage_left n u z + 1 ≤ stage_left n u s) (sym e) l
       go (rm, inr (e, old)) = let k = one_tile d a.middle t rm a.after in (k.0, two k.1)

@@ -5,7 +5,8 @@ use Rattle.operand_net.specs.declared.parcel.Stand.{Stand}
 use Rattle.operand_net.specs.declared.parcel.Stand.TheVariants.{Nowhere, Away, Held}
 use Rattle.grid_cycle_spec.specs.Stations.{far}
 use Rattle.grid_cycle_bound.specs.Course.{sum, tasks}
-use Rattle.grid_cycle_bound.specs.Lane.{any, Phase, Absent, Idle, Working, Asking, Standing, Sent, Front, Stage, Running}
+use Rattle.grid_cycle_bound.specs.Lane.{any, Phase, Absent, Idle, Working, Asking, Standing, Sent, Front, Stage}
+use Rattle.grid_cycle_bound.specs.Lane.{Running}
 use Rattle.grid_cycle_bound.specs.Lane.{Fetching, Lane, unissued, ready, is_complete}
 
 -- of a parcel: its links, its arrival, and at most three cycles in which it is held

@@ -11,7 +11,8 @@ use Rattle.grid_cycle_spec.specs.Grid.{Grid, Fetching}
 use Rattle.grid_cycle_spec.specs.Arrivals.{is_waiting}
 use Rattle.grid_cycle_spec.specs.Fetches.{stands}
 use Rattle.grid_cycle_bound.specs.Course.{Kind, Serving, Course}
-use Rattle.grid_cycle_bound.specs.Lane.{Phase, Absent, Idle, Working, Asking, Standing, Sent, Front, Stage, Running, Lane}
+use Rattle.grid_cycle_bound.specs.Lane.{Phase, Absent, Idle, Working, Asking, Standing, Sent, Front, Stage, Running}
+use Rattle.grid_cycle_bound.specs.Lane.{Lane}
 use Rattle.grid_cycle_bound.specs.Lane as lane
 use Rattle.grid_cycle_bound.specs.Blocks.{kind_of, slot_tasks}
 

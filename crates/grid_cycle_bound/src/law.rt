@@ -1,21 +1,26 @@
 //! Laws of the lane, over its definitions alone; each function's clause is the law.
-ghost use Rattle.std.specs.Prelude.{◌≡◌, ◌≤◌, ◌+◌, ℕ, suc, List, length};
+ghost use Rattle.std.specs.Prelude.{◌≡◌, ◌≤◌, ◌+◌, ℕ, suc, false, List, length};
 ghost use Rattle.trips_isa.specs.declared.block.Block.{Block};
 ghost use Rattle.trips_isa.specs.Rule.{Answer};
 ghost use Rattle.trips_isa.specs.Blocks.{Responses, Solves};
 ghost use Rattle.trips_isa.specs.Fits.{FitsBlock};
 ghost use Rattle.trips_isa.specs.Machine.{State, runs};
 ghost use Rattle.commit_flush_spec.specs.Invariant.{IsRunnable};
+ghost use Rattle.commit_flush_spec.specs.Frames.{Frame};
+ghost use Rattle.commit_flush_spec.specs.Ends.{complete};
+ghost use Rattle.window_progress.specs.Observers.{is_unread};
+ghost use Rattle.grid_cycle_spec.specs.Grid.{Grid};
 ghost use Rattle.grid_cycle_spec.specs.Costs.{cost, cost_of, size};
 ghost use Rattle.grid_cycle_spec.specs.Cycles.{begun_at};
 ghost use Rattle.grid_cycle_bound.specs.Course.{Course, Good, tasks};
-ghost use Rattle.grid_cycle_bound.specs.Lane.{Lane};
+ghost use Rattle.grid_cycle_bound.specs.Lane.{Lane, unread};
+ghost use Rattle.grid_cycle_bound.specs.Lane as lane;
 ghost use Rattle.grid_cycle_bound.specs.Serving.{Served};
 ghost use Rattle.grid_cycle_bound.specs.Left.{left, price, total};
 ghost use Rattle.grid_cycle_bound.specs.Laws.{AfterServed, Falls, LaneRule};
-ghost use Rattle.grid_cycle_bound.specs.Blocks.{course_of};
+ghost use Rattle.grid_cycle_bound.specs.Blocks.{course_of, slot_tasks};
 ghost use Rattle.grid_cycle_bound.specs.Programs.{sizes_from};
-ghost use Rattle.grid_cycle_bound.specs.Seen.{lane_of};
+ghost use Rattle.grid_cycle_bound.specs.Seen.{front_of, lane_of};
 
 use operand_net::Weather;
 
@@ -55,4 +60,13 @@ pub fn traces_are_priced()
 pub fn lanes_begin_right<W: Weather>()
     ensures { (sizes : ℕ → ℕ) (c : Course) (s : State) (entries : List ℕ) (weather : W)
         → LaneRule sizes (lane_of c (begun_at s entries weather)) }
+{}
+
+/// The lane sees what the window says of the oldest frame: all its outputs have come where the frame is complete, and a
+/// read is unread where the window has it so.
+pub fn lanes_see_the_window<W: Weather>()
+    ensures complete { (g : Grid W) (f : Frame) (t : ℕ → Answer) → length f.code.writes.items ≤ 32
+        → lane.complete (front_of (course_of f.code t) g f) ≡ complete f }
+    ensures unread { (g : Grid W) (f : Frame) (t : ℕ → Answer) (r : ℕ) → f.sealed ≡ false
+        → unread (front_of (course_of f.code t) g f) (slot_tasks + r) ≡ is_unread f r }
 {}

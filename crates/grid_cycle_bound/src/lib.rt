@@ -7,5 +7,6 @@
 mod law;
 
 pub use law::{
-    courses_are_good, cycles_are_bounded, lanes_begin_right, served_cycles_fall, traces_are_priced,
+    courses_are_good, cycles_are_bounded, lanes_begin_right, lanes_see_the_window,
+    served_cycles_fall, traces_are_priced,
 };
