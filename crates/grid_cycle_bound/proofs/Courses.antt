@@ -86,7 +86,7 @@ a_write (suc n) q (inr m) = let d : (w : ℕ) × (w < n) × (384 + w ≡ q) = a_
 -- what an instruction takes -------------------------------------------------------------------------
 
 -- what a role gives needs the operands that it takes
-gives_left : (e : Role) (c : ℕ → ℕ → ℕ) (l r : Answer) → is_some (gives e c l r) ≡ true → takes_left e ≡ true
+pub gives_left : (e : Role) (c : ℕ → ℕ → ℕ) (l r : Answer) → is_some (gives e c l r) ≡ true → takes_left e ≡ true
     → is_some l ≡ true
 gives_left Copy c l r h t = h
 gives_left One c None r h t = absurd (cc)
@@ -98,7 +98,7 @@ gives_left Reading c l r h t = absurd (cc)
 gives_left Free c l r h t = absurd (cc)
 gives_left Nothing c l r h t = absurd (cc)
 
-gives_right : (e : Role) (c : ℕ → ℕ → ℕ) (l r : Answer) → is_some (gives e c l r) ≡ true → takes_right e ≡ true
+pub gives_right : (e : Role) (c : ℕ → ℕ → ℕ) (l r : Answer) → is_some (gives e c l r) ≡ true → takes_right e ≡ true
     → is_some r ≡ true
 gives_right Both c None r h t = absurd (cc)
 gives_right Both c (Some Null) None h t = absurd (cc)
@@ -111,14 +111,14 @@ gives_right Reading c l r h t = absurd (cc)
 gives_right Free c l r h t = absurd (cc)
 gives_right Nothing c l r h t = absurd (cc)
 
-matched_some : (s : Sense) (p : Answer) → matched s p ≡ true → is_guarded s ≡ true → is_some p ≡ true
+pub matched_some : (s : Sense) (p : Answer) → matched s p ≡ true → is_guarded s ≡ true → is_some p ≡ true
 matched_some Always p h t = absurd (cc)
 matched_some OnTrue None h t = absurd (cc)
 matched_some OnTrue (Some k) h t = refl
 matched_some OnFalse None h t = absurd (cc)
 matched_some OnFalse (Some k) h t = refl
 
-if_parts : (b : Bool) (t : Answer) → is_some (if_matched b t) ≡ true → (b ≡ true) × (is_some t ≡ true)
+pub if_parts : (b : Bool) (t : Answer) → is_some (if_matched b t) ≡ true → (b ≡ true) × (is_some t ≡ true)
 if_parts true t h = (refl, h)
 if_parts false t h = absurd (cc)
 
@@ -141,7 +141,7 @@ first_from (n ∷ ns) q f e = go (names (targets n) q) refl (f 0) refl (first_fr
     go true k None j ih e = next (ih (sym (ap (λ u. is_some (or_else u (first ns q (λ y. f (suc y))))) j) ∙ e))
     go false k t j ih e = next (ih e)
 
-some_there : (t : Answer) → is_some t ≡ true → t ≢ None
+pub some_there : (t : Answer) → is_some t ≡ true → t ≢ None
 some_there t e z = let k : is_some t ≡ false = ap is_some z in cc
 
 there_some : (t : Answer) → t ≢ None → is_some t ≡ true

@@ -16,3 +16,4 @@ pub mod Courses
 pub mod StandardFacts
 pub mod Programs
 pub mod Seen
+pub mod Ready

@@ -82,7 +82,8 @@ module _ {W : Type 0} (g : Grid W) (f : Frame) (t : ℕ → Answer) where
   unread_seen open' r =
       ap₂ (λ w k. is_idle w && is_reading k) (read_phase_seen r) (ap (λ x. x.kind) (read_is f.code t r))
       ∙ go (slice_get f.code.reads.items r)
-      ∙ sym (ap (λ b. not b && (is_some (slice_get f.code.reads.items r) && not (slice_index_or f.reads r false))) open')
+      ∙ sym (ap (λ b. not b && (is_some (slice_get f.code.reads.items r) && not (slice_index_or f.reads r false)))
+      open')
     where
       by : (b : Bool) (p : Phase) → is_idle p ≡ false
           → (is_idle (cond b p Idle) && true) ≡ not b

@@ -29,7 +29,7 @@ abbrev pub Hits : Option Target → ℕ → Type 0
 Hits None q = ⊥
 Hits (Some t) q = t.spot ≡ q
 
--- a task: an instruction or a read of the block, in the run from the committed state
+-- a task: an instruction or a read of the block, where its reads and loads are answered in some way
 pub record Task : Type 0 where
   pub kind : Kind
   -- whether the block has it, and whether it is done: where its predicate, if it has one, lets it

@@ -1,19 +1,19 @@
 //! Laws of the lane, over its definitions alone; each function's clause is the law.
-ghost use Rattle.std.specs.Prelude.{◌≡◌, ◌≤◌, ◌+◌, ℕ, suc, false, List, length};
+ghost use Rattle.std.specs.Prelude.{◌≡◌, ◌<◌, ◌≤◌, ◌+◌, ℕ, suc, false, List, length};
 ghost use Rattle.trips_isa.specs.declared.block.Block.{Block};
 ghost use Rattle.trips_isa.specs.Rule.{Answer};
-ghost use Rattle.trips_isa.specs.Blocks.{Responses, Solves};
+ghost use Rattle.trips_isa.specs.Blocks.{Responses, Solves, at_place};
 ghost use Rattle.trips_isa.specs.Fits.{FitsBlock};
 ghost use Rattle.trips_isa.specs.Machine.{State, runs};
-ghost use Rattle.commit_flush_spec.specs.Invariant.{IsRunnable};
-ghost use Rattle.commit_flush_spec.specs.Frames.{Frame};
+ghost use Rattle.commit_flush_spec.specs.Invariant.{Below, IsRunnable};
+ghost use Rattle.commit_flush_spec.specs.Frames.{Frame, at};
 ghost use Rattle.commit_flush_spec.specs.Ends.{complete};
-ghost use Rattle.window_progress.specs.Observers.{is_unread};
+ghost use Rattle.window_progress.specs.Observers.{is_ready, is_unread};
 ghost use Rattle.grid_cycle_spec.specs.Grid.{Grid};
 ghost use Rattle.grid_cycle_spec.specs.Costs.{cost, cost_of, size};
 ghost use Rattle.grid_cycle_spec.specs.Cycles.{begun_at};
 ghost use Rattle.grid_cycle_bound.specs.Course.{Course, Good, tasks};
-ghost use Rattle.grid_cycle_bound.specs.Lane.{Lane, unread};
+ghost use Rattle.grid_cycle_bound.specs.Lane.{Lane, ready, unread};
 ghost use Rattle.grid_cycle_bound.specs.Lane as lane;
 ghost use Rattle.grid_cycle_bound.specs.Serving.{Served};
 ghost use Rattle.grid_cycle_bound.specs.Left.{left, price, total};
@@ -62,11 +62,15 @@ pub fn lanes_begin_right<W: Weather>()
         → LaneRule sizes (lane_of c (begun_at s entries weather)) }
 {}
 
-/// The lane sees what the window says of the oldest frame: all its outputs have come where the frame is complete, and a
-/// read is unread where the window has it so.
+/// The lane sees what the window says of the oldest frame: all its outputs have come where the frame is complete, a
+/// read is unread and an entry ready where the window has it so; of what is ready this holds by any table of what has
+/// come.
 pub fn lanes_see_the_window<W: Weather>()
     ensures complete { (g : Grid W) (f : Frame) (t : ℕ → Answer) → length f.code.writes.items ≤ 32
         → lane.complete (front_of (course_of f.code t) g f) ≡ complete f }
     ensures unread { (g : Grid W) (f : Frame) (t : ℕ → Answer) (r : ℕ) → f.sealed ≡ false
         → unread (front_of (course_of f.code t) g f) (slot_tasks + r) ≡ is_unread f r }
+    ensures ready { (g : Grid W) (f : Frame) (a : Responses) (t : ℕ → Answer) → Solves f.code a t
+        → ((q : ℕ) → Below (at f.spots q) (at_place f.code t q)) → f.sealed ≡ false → (s : ℕ) → s < 128
+        → ready (front_of (course_of f.code t) g f) s ≡ is_ready f s }
 {}
