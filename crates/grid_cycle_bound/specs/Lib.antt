@@ -1,0 +1,12 @@
+pub mod Course
+pub mod Lane
+pub mod Sending
+pub mod Answering
+pub mod Turning
+pub mod Moving
+pub mod Serving
+pub mod Left
+pub mod Laws
+pub mod Blocks
+pub mod Seen
+pub mod Programs
