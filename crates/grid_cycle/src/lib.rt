@@ -3,4 +3,4 @@
 
 mod cycling;
 
-pub use cycling::cycle;
+pub use cycling::{close, cycle};
