@@ -1,5 +1,5 @@
 -- What follows part (1) makes a cycle eager.
-use Rattle.std.proofs.Common.{◌≡◌, ℕ, List, length, refl, sym, subst}
+use Rattle.std.proofs.Common.{◌≡◌, ℕ, ◌+◌, List, length, refl, sym, subst, add-one}
 use Rattle.trips_isa.specs.declared.block.Block.{Block}
 use Rattle.trips_isa.specs.declared.run.Stepped.{Stepped}
 use Rattle.operand_net.specs.Places.{Places}
@@ -7,7 +7,7 @@ use Rattle.operand_net.specs.Tick.{Ticked}
 use Rattle.commit_flush_spec.specs.Frames.{Frame}
 use Rattle.grid_cycle_spec.specs.Grid.{Grid, numbers_of}
 use Rattle.grid_cycle_spec.specs.Ends.{ends}
-use Rattle.grid_cycle_spec.specs.Cycles.{Eager, Follows, Moves, acts}
+use Rattle.grid_cycle_spec.specs.Cycles.{AfterCycles, Eager, Follows, Moves, acts}
 use Rattle.grid_parts.proofs.FlushFacts.{as_many}
 
 module _ {W : Type 0} (next : W → ℕ) (follows : W → W → Type 0) (blocks : List Block) (budget : ℕ) where
@@ -30,6 +30,18 @@ module _ {W : Type 0} (next : W → ℕ) (follows : W → W → Type 0) (blocks 
   moves_from bs b m n h x y e moves =
       subst (λ k. Moves next follows blocks budget k h) e
       (subst (λ k. Moves next follows blocks k m h) y (subst (λ k. Moves next follows k b m h) x moves))
+
+-- one cycle more, over another image and budget that are these
+pub one_more : {W : Type 0} (next : W → ℕ) (follows : W → W → Type 0) (blocks : List Block) (budget : ℕ)
+    (bs : List Block) (b n : ℕ) (g m h : Grid W) → bs ≡ blocks → b ≡ budget
+    → AfterCycles next follows blocks budget n g m → Eager next follows bs b m h
+    → AfterCycles next follows blocks budget (n + 1) g h
+one_more next follows blocks budget bs b n g m h x y before last =
+    subst (λ k. AfterCycles next follows blocks budget k g h) (sym (add-one n)) (record {
+      between = m;
+      before = before;
+      after = subst (λ k. Eager next follows blocks k m h) y (subst (λ k. Eager next follows k b m h) x last);
+    })
 
 -- a tick of the frames in flight, by their numbers
 pub ticked_named : {W : Type 0} (next : W → ℕ) (follows : W → W → Type 0) (fs : List Frame) (order : List ℕ)

@@ -1,6 +1,6 @@
 //! A cycle: each part does all that it may.
-ghost use Rattle.std.specs.Prelude.{◌≡◌, ◌<◌, ◌+◌, ◌^◌};
-ghost use Rattle.grid_cycle_spec.specs.Cycles.{Eager, Moves, acts};
+ghost use Rattle.std.specs.Prelude.{◌≡◌, ◌<◌, ◌≤◌, ◌+◌, ◌^◌};
+ghost use Rattle.grid_cycle_spec.specs.Cycles.{Eager, Moves, acts, closed};
 ghost use Rattle.grid_state.specs.Seen.{seen};
 ghost use Rattle.grid_cycle.specs.Counted.{IsCounted};
 
@@ -63,4 +63,18 @@ pub fn cycle<V: Windows, W: Weather>(grid: &mut Grid<V, W>)
         Stepped::StackFull => grid.state.count_cycle(),
         Stepped::Trap(_) => grid.state.count_cycle(),
     }
+}
+
+/// The end of a run: the frames in flight are flushed.
+pub fn close<V: Windows, W>(grid: &mut Grid<V, W>)
+    requires counted { IsCounted (seen (V.held grid.old.window) grid.old.state) }
+    requires cycles { grid.old.state.counts.cycles ≤ 2 ^ 63 }
+    ensures change { seen (V.held grid.new.window) grid.new.state
+        ≡ closed (seen (V.held grid.old.window) grid.old.state) }
+    ensures image { V.blocks grid.new.window ≡ V.blocks grid.old.window }
+    ensures budget { V.budget grid.new.window ≡ V.budget grid.old.window }
+{
+    let frames = grid.window.numbers();
+    grid.window.empty();
+    grid.state.flush(frames.as_slice());
 }

@@ -2,5 +2,7 @@
 #![tactic(auto)]
 
 mod cycling;
+mod running;
 
-pub use cycling::cycle;
+pub use cycling::{close, cycle};
+pub use running::run;
