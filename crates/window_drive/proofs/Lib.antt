@@ -1,0 +1,3 @@
+pub mod StepFacts
+pub mod PickFacts
+pub mod DriveFacts

@@ -1,0 +1,9 @@
+use Rattle.window_progress.specs.Work.{work}
+use Rattle.window_drive.proofs.DriveFacts.{IsOn}
+use Rattle.window_drive.proofs.driving.drive.Given as goal
+
+abbrev pub invariant-loop-e : goal.invariant-loop-e
+invariant-loop-e l = IsOn l.fn.window l.window
+
+abbrev pub decreases-loop-e : goal.decreases-loop-e
+decreases-loop-e l = work l.window.budget l.window.window

@@ -1,0 +1,12 @@
+//! The window driven to its end: the next event of its oldest frame, and one after another.
+//!
+//! Which event is next is defined in crates/window_progress (docs/WINDOW.md, "Driving").
+#![tactic(auto)]
+
+mod driving;
+mod next;
+mod step;
+
+pub use driving::drive;
+pub use next::next_event;
+pub use step::Step;
