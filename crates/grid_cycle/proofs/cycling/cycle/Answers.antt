@@ -142,7 +142,8 @@ returns-in-StackFull-clause-counted g c =
     (seen (g.V.Windows.held x.window) x.state) c.ends.ensures.change (room_of start c.requires.counted) in
     let w = g.V.Windows.held x.window in
     counted_of n (n + 1) (seen w c.count_cycle-in-StackFull.new.self) (omega arith)
-    (after_count n n (seen w x.state) (seen w c.count_cycle-in-StackFull.new.self) (c.count_cycle-in-StackFull.ensures w) one)
+    (after_count n n (seen w x.state)
+    (seen w c.count_cycle-in-StackFull.new.self) (c.count_cycle-in-StackFull.ensures w) one)
 
 pub returns-in-StackFull-clause-cycles : goal.returns-in-StackFull-clause-cycles
 returns-in-StackFull-clause-cycles g c =
@@ -153,7 +154,8 @@ returns-in-StackFull-clause-cycles g c =
     let one = after_ends (g.V.Windows.blocks v) (g.V.Windows.budget v) n n start
     (seen (g.V.Windows.held x.window) x.state) c.ends.ensures.change (room_of start c.requires.counted) in
     let w = g.V.Windows.held x.window in
-    (after_count n n (seen w x.state) (seen w c.count_cycle-in-StackFull.new.self) (c.count_cycle-in-StackFull.ensures w) one).cycles
+    (after_count n n (seen w x.state)
+    (seen w c.count_cycle-in-StackFull.new.self) (c.count_cycle-in-StackFull.ensures w) one).cycles
 
 pub count_cycle-requires-in-Trap : goal.count_cycle-requires-in-Trap
 count_cycle-requires-in-Trap g c =
@@ -172,7 +174,8 @@ returns-in-Trap-clause-eager g c =
     let v = c.args.grid.now.window in
     let x = c.ends.new.self in
     let w = g.V.Windows.held x.window in
-    eager_by g.W.Weather.next g.W.Weather.follows (g.V.Windows.blocks v) (g.V.Windows.budget v) (stepped.Trap c.in-Trap.field-0)
+    eager_by g.W.Weather.next g.W.Weather.follows (g.V.Windows.blocks v) (g.V.Windows.budget v)
+    (stepped.Trap c.in-Trap.field-0)
     (seen (g.V.Windows.held v) c.args.grid.now.state) (seen w x.state) (seen w c.count_cycle-in-Trap.new.self)
     c.ends.ensures.change c.in-Trap.ensures (c.count_cycle-in-Trap.ensures w)
 
@@ -197,4 +200,5 @@ returns-in-Trap-clause-cycles g c =
     let one = after_ends (g.V.Windows.blocks v) (g.V.Windows.budget v) n n start
     (seen (g.V.Windows.held x.window) x.state) c.ends.ensures.change (room_of start c.requires.counted) in
     let w = g.V.Windows.held x.window in
-    (after_count n n (seen w x.state) (seen w c.count_cycle-in-Trap.new.self) (c.count_cycle-in-Trap.ensures w) one).cycles
+    (after_count n n (seen w x.state)
+    (seen w c.count_cycle-in-Trap.new.self) (c.count_cycle-in-Trap.ensures w) one).cycles

@@ -1,5 +1,4 @@
-use Rattle.std.proofs.Common.{◌≡◌, ◌+◌, suc, refl, sym, ap, ◌∙◌, subst, add-one, arith}
-use Rattle.grid_cycle_spec.specs.Cycles.{AfterCycles}
+use Rattle.std.proofs.Common.{◌∙◌, arith}
 use Rattle.grid_state.specs.Seen.{seen}
 use Rattle.grid_cycle.proofs.Eagerness.{one_more}
 use Rattle.grid_cycle.proofs.running.run.Goals as goal
