@@ -1,5 +1,5 @@
 -- One next event more, and none: what is seen of a window that is driven.
-use Rattle.std.proofs.Common.{◌≡◌, ◌-◌, ◌<◌, Some, None, length, refl, sym, ap, ◌∙◌, subst}
+use Rattle.std.proofs.Common.{◌≡◌, ◌-◌, ◌<◌, Some, None, length, sym, ap, ◌∙◌, subst}
 use Rattle.trips_isa.specs.declared.run.Stepped.{Stepped}
 use Rattle.trips_isa.specs.declared.run.Stepped.TheVariants.{Went}
 use Rattle.trips_isa.specs.Machine.{runs}
@@ -20,9 +20,6 @@ pub record IsOn (a v : Seen) : Type 0 where
   pub same : v ≡ record a { window = v.window }
   pub room : HasGenerations v.budget v.window
   pub goal : driven v.image.blocks v.budget v.window ≡ driven a.image.blocks a.budget a.window
-
-pub begins : (a : Seen) → HasGenerations a.budget a.window → IsOn a a
-begins a room = record { same = refl; room = room; goal = refl }
 
 -- the window after its next event
 pub turn : (a v u : Seen) (e : Event) → IsOn a v → AllGood v.image.blocks → WindowOk v.image.blocks v.budget v.window

@@ -1,3 +1,4 @@
 pub mod StepFacts
 pub mod PickFacts
 pub mod DriveFacts
+pub mod RoomFacts

@@ -1,14 +1,13 @@
 -- Which event is next of a window whose oldest frame is known, and without one.
 use Rattle.std.proofs.Common.{◌≡◌, ℕ, ◌<◌, ◌≤◌, Bool, true, false, cond, not, List, [], ◌∷◌}
-use Rattle.std.proofs.Common.{Option, Some, None, nat_le, length, slice_get, refl, sym, ap, ap₂, ◌∙◌, subst, arith, map}
+use Rattle.std.proofs.Common.{Option, Some, nat_le, length, slice_get, refl, sym, ap, ap₂, ◌∙◌, subst, arith, map}
 use Rattle.std.proofs.lemmas.Bool.Decides.{nat_tests}
 use Rattle.trips_isa.specs.declared.block.Block.{Block}
-use Rattle.trips_isa.specs.declared.run.Stepped.{Stepped}
-use Rattle.trips_isa.specs.declared.run.Stepped.TheVariants.{Went, Ended, StackFull, Trap}
+use Rattle.trips_isa.specs.declared.run.Stepped.TheVariants.{Went}
 use Rattle.commit_flush_spec.specs.Frames.{Frame}
 use Rattle.commit_flush_spec.specs.Older.{Older, committed}
 use Rattle.commit_flush_spec.specs.Causes.{NoFrame, Missing, Unsealed, Spent, Happened, NotNow, judged}
-use Rattle.commit_flush_spec.specs.Ends.{can_exit, can_seal, complete}
+use Rattle.commit_flush_spec.specs.Ends.{can_seal, complete}
 use Rattle.commit_flush_spec.specs.InFlight.{is_sealed}
 use Rattle.commit_flush_spec.specs.Window.{Window, Event, can, can_now}
 use Rattle.commit_flush_spec.specs.Window as event
@@ -16,7 +15,6 @@ use Rattle.commit_flush_spec.specs.Laws.{WindowOk, AreNumbers}
 use Rattle.commit_flush_order.specs.Places.{numbers_of}
 use Rattle.frame_events.specs.Events as told
 use Rattle.window_progress.specs.NextEvent.{is_done, next_step, next_of_frame, next_in, while_going, next_event}
-use Rattle.window_progress.specs.NextEvent.{next_exit}
 use Rattle.window_drive.proofs.StepFacts.{same_done, oldest_is, goes}
 
 le_false : (a b : ℕ) → b < a → nat_le a b ≡ false
@@ -25,13 +23,6 @@ le_false a b l = go (nat_le a b) refl
     go : (c : Bool) → nat_le a b ≡ c → c ≡ false
     go false i = refl
     go true i = absurd (let e : a ≤ b = grind (arith, nat_tests) in omega (arith, e, l))
-
-le_true : (a b : ℕ) → a ≤ b → nat_le a b ≡ true
-le_true a b l = go (nat_le a b) refl
-  where
-    go : (c : Bool) → nat_le a b ≡ c → c ≡ true
-    go true i = refl
-    go false i = absurd (let e : b < a = grind (arith, nat_tests) in omega (arith, e, l))
 
 -- Commit and Seal ---------------------------------------------------------------------------------
 
@@ -66,62 +57,18 @@ module _ (blocks : List Block) (budget : ℕ) (w : Window) (f : Frame) (fs : Lis
       ∙ ap (λ x. judged ((x, NoFrame) ∷ (not (complete f), Missing) ∷ [])) s)
       ∙ by_complete (complete f)
 
-  -- an Exit is done where its branch waits
-  pub exit_is : (n : ℕ) → n ≡ f.number
-      → cond (is_done (can blocks budget (event.Exit n) w)) (Some (event.Exit n)) None
-      ≡ next_exit (committed w.state) f
-  exit_is n m =
-      ap (λ k. cond (is_done (can blocks budget (event.Exit k) w)) (Some (event.Exit k)) None) m
-      ∙ ap (λ h. cond (is_done h) (Some (event.Exit f.number)) None)
-      (goes blocks budget (event.Exit f.number) w went ∙ oldest_is (NotNow NoFrame) can_exit w f fs it)
-
 -- the oldest frame --------------------------------------------------------------------------------
-
-pub commits : (o : Older) (f : Frame) → f.sealed ≡ true → Some event.Commit ≡ next_of_frame o f
-commits o f s = sym (ap (λ b. cond b (Some event.Commit)
-    (cond (complete f) (Some (event.Seal f.number)) (next_step o f))) s)
 
 pub steps : (o : Older) (f : Frame) → f.sealed ≡ false → complete f ≡ false → next_step o f ≡ next_of_frame o f
 steps o f s k = sym (ap₂ (λ b c. cond b (Some event.Commit)
     (cond c (Some (event.Seal f.number)) (next_step o f))) s k)
 
-pub seals : (o : Older) (f : Frame) (n : ℕ) → n ≡ f.number → f.sealed ≡ false → complete f ≡ true
-    → Some (event.Seal n) ≡ next_of_frame o f
-seals o f n m s k =
-    ap (λ z. Some (event.Seal z)) m
-    ∙ sym (ap₂ (λ b c. cond b (Some event.Commit) (cond c (Some (event.Seal f.number)) (next_step o f))) s k)
-
 -- the window --------------------------------------------------------------------------------------
-
-pub spent_none : (budget : ℕ) (w : Window) → budget ≤ length w.state.trace → w.over ≡ Went
-    → None ≡ next_event budget w
-spent_none budget w l went =
-    sym (ap₂ (λ o b. while_going o b (next_in w.frames w.state)) went (le_true budget (length w.state.trace) l))
-
-pub over_none : (budget : ℕ) (w : Window) (o : Stepped) → w.over ≡ o → (o ≡ Went → ⊥) → None ≡ next_event budget w
-over_none budget w o e ne =
-    go o ne ∙ sym (ap (λ s. while_going s (nat_le budget (length w.state.trace)) (next_in w.frames w.state)) e)
-  where
-    go : (s : Stepped) → (s ≡ Went → ⊥)
-        → None ≡ while_going s (nat_le budget (length w.state.trace)) (next_in w.frames w.state)
-    go Went n = absurd (n refl)
-    go Ended n = refl
-    go StackFull n = refl
-    go (Trap c) n = refl
 
 unspent : (budget : ℕ) (w : Window) → length w.state.trace < budget → w.over ≡ Went
     → next_in w.frames w.state ≡ next_event budget w
 unspent budget w l went =
     sym (ap₂ (λ o b. while_going o b (next_in w.frames w.state)) went (le_false budget (length w.state.trace) l))
-
-pub fetches : (budget : ℕ) (w : Window) (k : ℕ) → length w.state.trace < budget → w.over ≡ Went
-    → k ≡ w.state.next → slice_get (numbers_of w.frames) 0 ≡ None → Some (event.Fetch k) ≡ next_event budget w
-fetches budget w k l went e none = ap (λ z. Some (event.Fetch z)) e ∙ go w.frames refl none ∙ unspent budget w l went
-  where
-    go : (fs : List Frame) → w.frames ≡ fs → slice_get (numbers_of fs) 0 ≡ None
-        → Some (event.Fetch w.state.next) ≡ next_in w.frames w.state
-    go [] i n = sym (ap (λ fs. next_in fs w.state) i)
-    go (f ∷ fs) i n = absurd (cc)
 
 pub of_oldest : (budget : ℕ) (w : Window) (n : ℕ) (e : Option Event) → length w.state.trace < budget → w.over ≡ Went
     → slice_get (numbers_of w.frames) 0 ≡ Some n

@@ -1,18 +1,16 @@
 -- What the steps of the oldest frame are answered, and which of them is the first that may be taken.
-use Rattle.std.proofs.Common.{◌≡◌, ℕ, ◌+◌, ◌<◌, ◌≤◌, Bool, true, false, cond, List, ◌∷◌}
-use Rattle.std.proofs.Common.{Option, Some, None, is_none, nat_le, refl, sym, ap, ap₂, ◌∙◌, subst, ◌⊎◌, inl, inr, arith}
-use Rattle.std.proofs.lemmas.Bool.Decides.{nat_tests}
-use Rattle.trips_isa.specs.declared.block.Stored.{Stored}
+use Rattle.std.proofs.Common.{◌≡◌, ℕ, ◌<◌, Bool, true, false, cond, List, ◌∷◌}
+use Rattle.std.proofs.Common.{Some, None, refl, sym, ap, ap₂, ◌∙◌, subst, ◌⊎◌, inl, inr, arith}
 use Rattle.trips_isa.specs.declared.block.Block.{Block}
 use Rattle.trips_isa.specs.declared.run.Stepped.TheVariants.{Went}
-use Rattle.commit_flush_spec.specs.Frames.{Frame, at}
+use Rattle.commit_flush_spec.specs.Frames.{Frame}
 use Rattle.commit_flush_spec.specs.Older.{Older, committed}
 use Rattle.commit_flush_spec.specs.Causes.{NoFrame, NoToken, Happened, Done, NotNow}
 use Rattle.commit_flush_spec.specs.Dataflow.{can_read, can_fire, can_deliver}
 use Rattle.commit_flush_spec.specs.Memory.{can_load, can_store}
 use Rattle.commit_flush_spec.specs.Ends.{store_came}
 use Rattle.commit_flush_order.specs.Places.{frame_of}
-use Rattle.commit_flush.specs.Telling.{stored_in, store_came_in}
+use Rattle.commit_flush.specs.Telling.{store_came_in}
 use Rattle.frame_state.proofs.CompleteFacts.{not_all}
 use Rattle.commit_flush_spec.specs.Window.{Window, Event, on_frame, can_now, unless_over, can}
 use Rattle.block_cases.specs.Orders.{NoneBelow}
@@ -105,15 +103,6 @@ pub no_step : (t : Step) (o : Older) (f : Frame) → NoneBelow (is_next t o f) (
 no_step t o f none =
     ap (event_of (event_at t f.number)) (sym ((finds_none (is_next t o f) (count_of t)).1 none))
 
--- one number more
-pub none_more : (p : ℕ → Bool) (k m : ℕ) → m ≡ k + 1 → p k ≡ false → NoneBelow p k → NoneBelow p m
-none_more p k m e h none j l = go (nat_le k j) refl
-  where
-    go : (b : Bool) → nat_le k j ≡ b → p j ≡ false
-    go true i = let le : k ≤ j = grind (arith, nat_tests) in
-        let at' : j ≡ k = omega (arith, le, l, e) in ap p at' ∙ h
-    go false i = none j (grind (arith, nat_tests))
-
 -- stores of the oldest frame ----------------------------------------------------------------------
 
 pub first_frame : (gs : List Frame) (n : ℕ) (f : Frame) (fs : List Frame) → gs ≡ f ∷ fs → n ≡ f.number
@@ -125,10 +114,6 @@ pub store_missing : (gs : List Frame) (m n k : ℕ) → false ≡ store_came_in 
     → (f : Frame) (fs : List Frame) → gs ≡ f ∷ fs → m ≡ f.number → false ≡ stores_came f n
 store_missing gs m n k h l f fs e i =
     sym (not_all (store_came f) n k l (sym (h ∙ ap (store_came_in k) (first_frame gs m f fs e i))))
-
-pub unstored : (gs : List Frame) (m k : ℕ) (s : Option Stored) (b : Bool) → s ≡ stored_in k (frame_of m gs)
-    → b ≡ is_none s → (f : Frame) (fs : List Frame) → gs ≡ f ∷ fs → m ≡ f.number → b ≡ is_none (at f.stores k)
-unstored gs m k s b h i f fs e n = i ∙ ap is_none (h ∙ ap (stored_in k) (first_frame gs m f fs e n))
 
 -- bounds of numbers -------------------------------------------------------------------------------
 
