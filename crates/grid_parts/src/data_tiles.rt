@@ -151,7 +151,8 @@ impl<V: Windows, W> Grid<V, W> {
         ensures image { V.blocks self.new.window ≡ V.blocks self.old.window }
         ensures budget { V.budget self.new.window ≡ V.budget self.old.window }
     {
-        if any_asked(&self.state) {
+        let frames = self.window.numbers();
+        if any_asked(&self.state, frames.as_slice()) {
             self.answer_tiles();
         }
     }

@@ -4,7 +4,6 @@ use Rattle.std.proofs.Common.{◌⊎◌, inl, inr, Option, Some, None, length, g
 use Rattle.std.proofs.Common.{ap, ◌∙◌, subst, arith, bit_or, get_or-set_other}
 use Rattle.std.proofs.lemmas.Bool.{cases_lt, cases_eq, eq-eqb, ne_eqb, and_left, and_right, false≢true}
 use Rattle.std.proofs.lemmas.Grind.{get_or-set_at}
-use Rattle.std.proofs.lemmas.List.{get_or_past}
 use Rattle.std.proofs.lemmas.Nat.Bits.{bit_at-zero}
 use Rattle.trips_isa.specs.declared.block.Block.{Block}
 use Rattle.operand_net.specs.Marks.{has_bit, IsLowestBit}
@@ -36,28 +35,25 @@ not_asked g tile n k None e off = refl
 not_asked g tile n k (Some f) e off =
     and_left (g.asked f.number k) _ (ap (λ m. g.asked m k) (frame_number n g.window.frames f e) ∙ off)
 
--- flags of which none is in all of them together
-pub no_flags : (words : List ℕ) (all : ℕ) → length words ≡ 8 → all ≡ 0
-    → ((f n : ℕ) → f < 8 → has_bit all n ≡ false → frame_bit words f n ≡ false) → (f n : ℕ) → frame_bit words f n ≡ false
-no_flags words all size zero_word is f n = go (cases_lt f 8)
-  where
-    off : has_bit 0 n ≡ false
-    off = ap (λ z. z == 1) (bit_at-zero n)
+-- the flags of the first frames are in all of them together
+abbrev pub FlagsBelow : List ℕ → List ℕ → ℕ → ℕ → Type 0
+FlagsBelow words order all i = (j n : ℕ) → j < i → has_bit all n ≡ false
+    → frame_bit words (slice_index_or order j 0) n ≡ false
 
-    go : (f < 8) ⊎ (8 ≤ f) → frame_bit words f n ≡ false
-    go (inl l) = is f n l (ap (λ z. has_bit z n) zero_word ∙ off)
-    go (inr l) = ap (λ z. has_bit z n) (get_or_past words f 0 (omega (arith, size))) ∙ off
-
--- one frame's flags more
-pub flags_more : (words : List ℕ) (before word i : ℕ) → word ≡ slice_index_or words i 0
-    → ((f n : ℕ) → f < i → has_bit before n ≡ false → frame_bit words f n ≡ false)
-    → (f n : ℕ) → f < i + 1 → has_bit (bit_or before word) n ≡ false → frame_bit words f n ≡ false
-flags_more words before word i is below f n l e = go (cases_lt f i)
+pub flags_more : (words order : List ℕ) (before word i : ℕ) → word ≡ slice_index_or words (slice_index_or order i 0) 0
+    → FlagsBelow words order before i → FlagsBelow words order (bit_or before word) (i + 1)
+flags_more words order before word i is below j n l e = go (cases_lt j i)
   where
-    go : (f < i) ⊎ (i ≤ f) → frame_bit words f n ≡ false
-    go (inl a) = below f n a (or_bits before word n e).0
-    go (inr a) = let d : f ≡ i = omega arith in
-        ap (λ k. frame_bit words k n) d ∙ ap (λ z. has_bit z n) (sym is) ∙ (or_bits before word n e).1
+    go : (j < i) ⊎ (i ≤ j) → frame_bit words (slice_index_or order j 0) n ≡ false
+    go (inl a) = below j n a (or_bits before word n e).0
+    go (inr a) = let d : j ≡ i = omega arith in
+        ap (λ k. frame_bit words (slice_index_or order k 0) n) d ∙ ap (λ z. has_bit z n) (sym is)
+        ∙ (or_bits before word n e).1
+
+pub no_flags : (words order : List ℕ) (all i : ℕ) → all ≡ 0 → length order ≤ i → FlagsBelow words order all i
+    → (j n : ℕ) → j < length order → frame_bit words (slice_index_or order j 0) n ≡ false
+no_flags words order all i zero_word past below j n l = below j n (omega arith)
+    (ap (λ z. has_bit z n) zero_word ∙ ap (λ z. z == 1) (bit_at-zero n))
 
 -- none of those whose bit lacks in the frame's word
 pub unasked_within : {W : Type 0} (g : Grid W) (tile n word low : ℕ)

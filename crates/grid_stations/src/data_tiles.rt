@@ -1,5 +1,5 @@
 //! Which request a data tile answers.
-ghost use Rattle.std.specs.Prelude.{◌≡◌, ◌<◌, ℕ, false, All, IfSome};
+ghost use Rattle.std.specs.Prelude.{◌≡◌, ◌<◌, ℕ, false, All, IfSome, length, slice_index_or};
 ghost use Rattle.commit_flush_spec.specs.Frames.{numbers};
 ghost use Rattle.commit_flush_spec.specs.Laws.{AreNumbers};
 ghost use Rattle.grid_cycle_spec.specs.Choosing.{eldest};
@@ -15,14 +15,17 @@ use crate::windows::{Request, Windows};
 use grid_state::State;
 use trips_isa::{Form, form_of};
 
-/// Whether a request stands at some data tile.
-pub fn any_asked<W>(state: &State<W>) -> bool
-    ensures { result ≡ false → (f n : ℕ) → frame_bit state.now.asked.words f n ≡ false }
+/// Whether a request of one of some frames stands at its data tile.
+pub fn any_asked<W>(state: &State<W>, order: &[u8]) -> bool
+    requires { All (λ n. n < 8) order.now }
+    ensures { result ≡ false → (j n : ℕ) → j < length order.now
+        → frame_bit state.now.asked.words (slice_index_or order.now j 0) n ≡ false }
 {
     let mut all: u128 = 0;
-    for frame in 0..8u8 {
+    for i in 0..order.len() {
+        let frame = order[i];
         let word = state.asked.word(frame);
-        all = all | word;
+        all |= word;
     }
     if all == 0 { false } else { true }
 }

@@ -51,7 +51,7 @@ pub fn marked_slots<V: Windows>(window: &V, order: &[u8]) -> u128
     for i in 0..order.len() {
         let frame = order[i];
         let word = window.ready(frame);
-        marks = marks | word;
+        marks |= word;
     }
     marks
 }

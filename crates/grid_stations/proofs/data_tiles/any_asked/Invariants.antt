@@ -1,8 +1,5 @@
-use Rattle.std.proofs.Common.{◌≡◌, ℕ, ◌<◌, false}
-use Rattle.operand_net.specs.Marks.{has_bit}
-use Rattle.grid_state.specs.Bits.{frame_bit}
+use Rattle.grid_stations.proofs.MarkFacts.{FlagsBelow}
 use Rattle.grid_stations.proofs.data_tiles.any_asked.Given as goal
 
-abbrev pub invariant-loop-frame : goal.invariant-loop-frame
-invariant-loop-frame g l = (f n : ℕ) → f < l.frame → has_bit l.all n ≡ false
-    → frame_bit l.state.asked.words f n ≡ false
+abbrev pub invariant-loop-i : goal.invariant-loop-i
+invariant-loop-i g l = FlagsBelow l.state.asked.words l.order l.all l.i
