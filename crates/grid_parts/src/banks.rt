@@ -2,9 +2,10 @@
 ghost use Rattle.std.specs.Prelude.{◌≡◌, ◌<◌, Some};
 ghost use Rattle.grid_cycle_spec.specs.Banks as spec;
 ghost use Rattle.grid_state.specs.Seen.{seen};
+ghost use Rattle.grid_stations.specs.Marked.{ReadsMarked};
 
 use crate::grid::Grid;
-use grid_stations::{Windows, enter_both, readable};
+use grid_stations::{ReadMarks, Windows, enter_both, marked_reads, readable_among};
 
 impl<V: Windows, W> Grid<V, W> {
     // A bank answers a read of a frame, and its tokens enter the mesh.
@@ -28,9 +29,11 @@ impl<V: Windows, W> Grid<V, W> {
         );
     }
 
-    // A bank answers its eldest answerable read.
-    fn bank_turn(&mut self, bank: u8)
-        requires { bank < 4 }
+    // A bank answers its eldest answerable read; each answerable one is marked.
+    fn bank_turn(&mut self, bank: u8, marks: &ReadMarks)
+        requires bank { bank < 4 }
+        requires marked { ReadsMarked (V.blocks self.old.window) (V.budget self.old.window)
+            (V.held self.old.window) marks.now.words }
         ensures change { seen (V.held self.new.window) self.new.state
             ≡ spec.bank_turn (V.blocks self.old.window) (V.budget self.old.window) bank
             (seen (V.held self.old.window) self.old.state) }
@@ -38,7 +41,7 @@ impl<V: Windows, W> Grid<V, W> {
         ensures budget { V.budget self.new.window ≡ V.budget self.old.window }
     {
         let frames = self.window.numbers();
-        match readable(&self.window, bank, frames.as_slice()) {
+        match readable_among(&self.window, bank, frames.as_slice(), marks) {
             Some(chosen) => self.answer_read(bank, chosen.0, chosen.1),
             None => {}
         }
@@ -52,8 +55,9 @@ impl<V: Windows, W> Grid<V, W> {
         ensures image { V.blocks self.new.window ≡ V.blocks self.old.window }
         ensures budget { V.budget self.new.window ≡ V.budget self.old.window }
     {
+        let marks = marked_reads(&self.window);
         for bank in 0..4u8 {
-            self.bank_turn(bank);
+            self.bank_turn(bank, &marks);
         }
     }
 }

@@ -7,7 +7,7 @@ ghost use Rattle.grid_cycle_spec.specs.DataTiles as spec;
 ghost use Rattle.grid_state.specs.Seen.{seen};
 
 use crate::grid::Grid;
-use grid_stations::{Windows, answerable, enter_both};
+use grid_stations::{Windows, answerable, any_asked, enter_both};
 use trips_isa::{Form, Op, form_of};
 
 // Whether an operation is a store.
@@ -126,8 +126,8 @@ impl<V: Windows, W> Grid<V, W> {
         }
     }
 
-    /// Part (4).
-    pub fn answers(&mut self)
+    // Each data tile answers.
+    fn answer_tiles(&mut self)
         requires { self.old.state.counts.flushed + 32 < 2 ^ 64 }
         ensures change { seen (V.held self.new.window) self.new.state
             ≡ spec.answers (V.blocks self.old.window) (V.budget self.old.window)
@@ -138,6 +138,22 @@ impl<V: Windows, W> Grid<V, W> {
     {
         for tile in 0..4u8 {
             self.data_turn(tile);
+        }
+    }
+
+    /// Part (4).
+    pub fn answers(&mut self)
+        requires { self.old.state.counts.flushed + 32 < 2 ^ 64 }
+        ensures change { seen (V.held self.new.window) self.new.state
+            ≡ spec.answers (V.blocks self.old.window) (V.budget self.old.window)
+            (seen (V.held self.old.window) self.old.state) }
+        ensures few { self.new.state.counts.flushed ≤ self.old.state.counts.flushed + 32 }
+        ensures image { V.blocks self.new.window ≡ V.blocks self.old.window }
+        ensures budget { V.budget self.new.window ≡ V.budget self.old.window }
+    {
+        let frames = self.window.numbers();
+        if any_asked(&self.state, frames.as_slice()) {
+            self.answer_tiles();
         }
     }
 }

@@ -1,5 +1,5 @@
 //! Part (5) of a cycle: units give their results to the mesh, and issue what is ready.
-ghost use Rattle.std.specs.Prelude.{◌≡◌, ◌<◌, ◌*◌, Some, slice_index_or};
+ghost use Rattle.std.specs.Prelude.{◌≡◌, ◌<◌, ◌*◌, Some, is_some, slice_index_or};
 ghost use Rattle.trips_isa.specs.declared.block.Inst as instruction;
 ghost use Rattle.trips_isa.specs.declared.form.Form.TheVariants as form;
 ghost use Rattle.trips_isa.specs.Forms.{form_of};
@@ -10,11 +10,14 @@ ghost use Rattle.grid_cycle_spec.specs.Costs as costs;
 ghost use Rattle.grid_cycle_spec.specs.Sending as sending;
 ghost use Rattle.grid_cycle_spec.specs.Stations as stations;
 ghost use Rattle.grid_cycle_spec.specs.Units as spec;
+ghost use Rattle.grid_state.specs.Choices.{lowest_slot};
 ghost use Rattle.grid_state.specs.Seen.{seen};
 ghost use Rattle.grid_stations.specs.Asked.{frame_of};
+ghost use Rattle.grid_stations.specs.Marked.{SlotsMarked};
 
 use crate::grid::Grid;
-use grid_stations::{Windows, enter_both, enter_request, ready_slot};
+use grid_state::lowest_on;
+use grid_stations::{Windows, enter_both, enter_request, marked_slots, ready_slot};
 use trips_isa::{Form, Inst, Op, form_of};
 
 // The node of the tile on which a slot lies.
@@ -54,6 +57,14 @@ fn takes(inst: Option<Inst>) -> u8
         Some(inst) => latency(inst.op),
         None => 0,
     }
+}
+
+// Whether a slot of a tile is marked.
+fn is_marked(marks: u128, tile: u8) -> bool
+    requires { tile < 16 }
+    ensures { result ≡ is_some (lowest_slot marks tile) }
+{
+    lowest_on(marks, tile).is_some()
 }
 
 impl<V: Windows, W> Grid<V, W> {
@@ -214,6 +225,22 @@ impl<V: Windows, W> Grid<V, W> {
         }
     }
 
+    // The same where each slot that may fire is marked, so that a tile without a marked slot issues nothing.
+    fn issues_marked(&mut self, tile: u8, marks: u128)
+        requires tile { tile < 16 }
+        requires marked { SlotsMarked (V.blocks self.old.window) (V.budget self.old.window)
+            (V.held self.old.window) marks }
+        ensures change { seen (V.held self.new.window) self.new.state
+            ≡ spec.issues (V.blocks self.old.window) (V.budget self.old.window) tile
+            (seen (V.held self.old.window) self.old.state) }
+        ensures image { V.blocks self.new.window ≡ V.blocks self.old.window }
+        ensures budget { V.budget self.new.window ≡ V.budget self.old.window }
+    {
+        if is_marked(marks, tile) {
+            self.issues(tile);
+        }
+    }
+
     /// Part (5).
     pub fn works_on(&mut self)
         ensures change { seen (V.held self.new.window) self.new.state
@@ -222,9 +249,11 @@ impl<V: Windows, W> Grid<V, W> {
         ensures image { V.blocks self.new.window ≡ V.blocks self.old.window }
         ensures budget { V.budget self.new.window ≡ V.budget self.old.window }
     {
+        let frames = self.window.numbers();
+        let marks = marked_slots(&self.window, frames.as_slice());
         for tile in 0..16u8 {
             self.unit_on(tile);
-            self.issues(tile);
+            self.issues_marked(tile, marks);
         }
     }
 }

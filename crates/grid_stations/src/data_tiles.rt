@@ -1,17 +1,34 @@
 //! Which request a data tile answers.
-ghost use Rattle.std.specs.Prelude.{◌≡◌, ◌<◌, All, IfSome};
+ghost use Rattle.std.specs.Prelude.{◌≡◌, ◌<◌, ℕ, false, All, IfSome, length, slice_index_or};
 ghost use Rattle.commit_flush_spec.specs.Frames.{numbers};
 ghost use Rattle.commit_flush_spec.specs.Laws.{AreNumbers};
 ghost use Rattle.grid_cycle_spec.specs.Choosing.{eldest};
 ghost use Rattle.grid_cycle_spec.specs.DataTiles as spec;
 ghost use Rattle.grid_cycle_spec.specs.Grid.{numbers_of};
+ghost use Rattle.grid_state.specs.Bits.{frame_bit};
 ghost use Rattle.grid_state.specs.Seen.{seen};
 ghost use Rattle.grid_stations.specs.Asked.{frame_of, holds_of, request_of, tile_in, store_in};
 ghost use Rattle.grid_stations.specs.Choices.{load_goes, lowest_request, served};
 
+use crate::bits::{low_bits, lowest_bit};
 use crate::windows::{Request, Windows};
 use grid_state::State;
 use trips_isa::{Form, form_of};
+
+/// Whether a request of one of some frames stands at its data tile.
+pub fn any_asked<W>(state: &State<W>, order: &[u8]) -> bool
+    requires { All (λ n. n < 8) order.now }
+    ensures { result ≡ false → (j n : ℕ) → j < length order.now
+        → frame_bit state.now.asked.words (slice_index_or order.now j 0) n ≡ false }
+{
+    let mut all: u128 = 0;
+    for i in 0..order.len() {
+        let frame = order[i];
+        let word = state.asked.word(frame);
+        all |= word;
+    }
+    if all == 0 { false } else { true }
+}
 
 // The data tile of what waits; tile 0 where nothing does.
 fn tile_in(request: Option<Request>) -> u8
@@ -84,10 +101,14 @@ fn answerable_in<V: Windows, W>(window: &V, state: &State<W>, tile: u8, frame: u
     ensures value { result ≡ lowest_request (seen (V.held window.now) state.now) tile frame }
     ensures within { IfSome result (λ n. n < 32) }
 {
-    for number in 0..32u8 {
+    let word = state.asked.word(frame);
+    let asked = low_bits(word);
+    let mut number = lowest_bit(asked, 0);
+    while number < 32 {
         if answers(window, state, tile, frame, number) {
             return Some(number);
         }
+        number = lowest_bit(asked, number + 1);
     }
     None
 }

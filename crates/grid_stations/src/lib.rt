@@ -6,13 +6,14 @@
 #![tactic(auto)]
 
 mod banks;
+mod bits;
 mod data_tiles;
 mod sending;
 mod units;
 mod windows;
 
-pub use banks::readable;
-pub use data_tiles::answerable;
+pub use banks::{ReadMarks, marked_reads, readable, readable_among};
+pub use data_tiles::{answerable, any_asked};
 pub use sending::{enter_both, enter_request};
-pub use units::ready_slot;
+pub use units::{marked_slots, ready_slot};
 pub use windows::{Request, Windows};

@@ -3,6 +3,7 @@ ghost use Rattle.std.specs.Prelude.{◌≡◌, ◌<◌, All, IfSome};
 ghost use Rattle.grid_cycle_spec.specs.Choosing.{eldest, slots};
 ghost use Rattle.grid_cycle_spec.specs.Grid.{numbers_of};
 ghost use Rattle.grid_stations.specs.Choices.{fires, lowest_ready};
+ghost use Rattle.grid_stations.specs.Marked.{SlotsMarked};
 
 use crate::windows::Windows;
 use grid_state::lowest_on;
@@ -37,4 +38,20 @@ pub fn ready_slot<V: Windows>(window: &V, tile: u8, order: &[u8]) -> Option<(u8,
         }
     }
     None
+}
+
+/// Marks of slots, of which each that may fire in some frame has one. `order` names the frames in flight, the oldest
+/// first.
+pub fn marked_slots<V: Windows>(window: &V, order: &[u8]) -> u128
+    requires order { order.now ≡ numbers_of (V.held window.now).frames }
+    requires within { All (λ n. n < 8) order.now }
+    ensures { SlotsMarked (V.blocks window.now) (V.budget window.now) (V.held window.now) result }
+{
+    let mut marks: u128 = 0;
+    for i in 0..order.len() {
+        let frame = order[i];
+        let word = window.ready(frame);
+        marks |= word;
+    }
+    marks
 }

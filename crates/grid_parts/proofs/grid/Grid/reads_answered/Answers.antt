@@ -2,6 +2,7 @@ use Rattle.std.proofs.Common.{sym, ap, ap₂, ◌∙◌, add-one}
 use Rattle.grid_cycle_spec.specs.Choosing.{each}
 use Rattle.grid_cycle_spec.specs.Banks.{bank_turn}
 use Rattle.grid_state.specs.Seen.{seen}
+use Rattle.grid_parts.proofs.MarkedFacts.{reads_moved, reads_kept}
 use Rattle.grid_parts.proofs.grid.Grid.reads_answered.Goals as goal
 
 pub loop-bank-preserved : goal.loop-bank-preserved
@@ -18,4 +19,9 @@ loop-bank-preserved g c =
           (sym (add-one c.loop-bank.bank));
       image = c.bank_turn.ensures.image ∙ c.loop-bank.invariant.image;
       budget = c.bank_turn.ensures.budget ∙ c.loop-bank.invariant.budget;
+      marked = reads_moved _ _ _ _ _ _ c.marked_reads-marks.result.words c.bank_turn.ensures.image c.bank_turn.ensures.budget
+          (ap (λ x. x.window) c.bank_turn.ensures.change)
+          (reads_kept (g.V.Windows.blocks c.loop-bank.self.window) (g.V.Windows.budget c.loop-bank.self.window)
+          c.loop-bank.bank (seen (g.V.Windows.held c.loop-bank.self.window) c.loop-bank.self.state)
+          c.marked_reads-marks.result.words c.loop-bank.invariant.marked);
     }

@@ -2,6 +2,7 @@ use Rattle.std.proofs.Common.{◌≡◌}
 use Rattle.grid_cycle_spec.specs.Choosing.{each}
 use Rattle.grid_cycle_spec.specs.Units.{unit_turn}
 use Rattle.grid_state.specs.Seen.{seen}
+use Rattle.grid_stations.specs.Marked.{SlotsMarked}
 use Rattle.grid_parts.proofs.grid.Grid.works_on.Given as goal
 
 abbrev pub invariant-loop-tile : goal.invariant-loop-tile
@@ -11,4 +12,6 @@ invariant-loop-tile g l = record {
       (seen (g.V.Windows.held l.initial.self.window) l.initial.self.state);
   image : g.V.Windows.blocks l.self.window ≡ g.V.Windows.blocks l.initial.self.window;
   budget : g.V.Windows.budget l.self.window ≡ g.V.Windows.budget l.initial.self.window;
+  marked : SlotsMarked (g.V.Windows.blocks l.self.window) (g.V.Windows.budget l.self.window)
+      (g.V.Windows.held l.self.window) l.marks;
 }

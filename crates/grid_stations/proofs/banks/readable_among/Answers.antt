@@ -4,7 +4,7 @@ use Rattle.grid_state.specs.Choices.{first_found}
 use Rattle.grid_state.proofs.ChoiceFacts.{passed, found, none_left}
 use Rattle.grid_stations.specs.Choices.{lowest_read}
 use Rattle.grid_stations.proofs.AnswerFacts.{readable_is}
-use Rattle.grid_stations.proofs.banks.readable.Goals as goal
+use Rattle.grid_stations.proofs.banks.readable_among.Goals as goal
 
 pub loop-i-preserved : goal.loop-i-preserved
 loop-i-preserved g c =

@@ -2,7 +2,7 @@ use Rattle.std.proofs.Common.{◌≡◌, ◌≤◌, ◌+◌, ◌*◌}
 use Rattle.grid_cycle_spec.specs.Choosing.{each}
 use Rattle.grid_cycle_spec.specs.DataTiles.{data_turn}
 use Rattle.grid_state.specs.Seen.{seen}
-use Rattle.grid_parts.proofs.grid.Grid.answers.Given as goal
+use Rattle.grid_parts.proofs.grid.Grid.answer_tiles.Given as goal
 
 abbrev pub invariant-loop-tile : goal.invariant-loop-tile
 invariant-loop-tile g l = record {

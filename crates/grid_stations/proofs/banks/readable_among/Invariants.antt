@@ -1,7 +1,7 @@
 use Rattle.std.proofs.Common.{◌≡◌, drop}
 use Rattle.grid_state.specs.Choices.{first_found}
 use Rattle.grid_stations.specs.Choices.{lowest_read}
-use Rattle.grid_stations.proofs.banks.readable.Given as goal
+use Rattle.grid_stations.proofs.banks.readable_among.Given as goal
 
 abbrev pub invariant-loop-i : goal.invariant-loop-i
 invariant-loop-i g l =

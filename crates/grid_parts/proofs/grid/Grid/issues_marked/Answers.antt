@@ -1,0 +1,9 @@
+use Rattle.grid_state.specs.Seen.{seen}
+use Rattle.grid_parts.proofs.MarkedFacts.{not_issued}
+use Rattle.grid_parts.proofs.grid.Grid.issues_marked.Goals as goal
+
+pub returns-else-is_marked-clause-change : goal.returns-else-is_marked-clause-change
+returns-else-is_marked-clause-change g c =
+    let w = c.args.self.now.window in
+    not_issued (g.V.Windows.blocks w) (g.V.Windows.budget w) c.args.tile
+    (seen (g.V.Windows.held w) c.args.self.now.state) c.args.marks c.requires.marked c.if-is_marked.ensures
