@@ -16,7 +16,7 @@ use Rattle.ir_forms.specs.FlatFits.{operates, loads, stores}
 use Rattle.ir_forms.specs.HyperFits.{FitsItems, LeadsOn, AllLeadOn, FitsHyper}
 use Rattle.predication.specs.declared.work.Entry.{Entry}
 use Rattle.predication.specs.Environments.{Scope, Env, Bits, no_bits, put, note, from_node, under}
-use Rattle.predication.specs.Environments.{member, at_start}
+use Rattle.predication.specs.Environments.{member, at_start, distinct}
 use Rattle.predication.specs.Operands.{node_of, Chain, Got, chain, longer, movs, read_of, operand, second, most_apps}
 use Rattle.predication.specs.Operands.{is_test, bit_of, fresh_test, test_by, tested}
 use Rattle.predication.specs.Ifs.{left_of, side_of, join, items, touched}
@@ -162,7 +162,7 @@ items_below n g j m env bits (If t one other rest) f =
     let y = items (under x.last true) i m env no_bits one in
     let z = items (under x.last false) (i + length y.nodes) y.number env no_bits other in
     let c = join x.last (i + length y.nodes + length z.nodes) env y.env z.env (touched one)
-    (touched other) (touched one ++ touched other) in
+    (touched other) (distinct (touched one ++ touched other)) in
     let o = items g (i + length y.nodes + length z.nodes + length c.nodes) z.number c.env no_bits rest in
     below_append n x.nodes (y.nodes ++ (z.nodes ++ (c.nodes ++ o.nodes))) (tested_below n g j env bits t)
     (below_append n y.nodes (z.nodes ++ (c.nodes ++ o.nodes))
@@ -171,7 +171,7 @@ items_below n g j m env bits (If t one other rest) f =
     (items_below n (under x.last false) (i + length y.nodes) y.number env no_bits other f.2)
     (below_append n c.nodes o.nodes
     (join_below n x.last (i + length y.nodes + length z.nodes) env y.env z.env (touched one)
-    (touched other) (touched one ++ touched other))
+    (touched other) (distinct (touched one ++ touched other)))
     (items_below n g (i + length y.nodes + length z.nodes + length c.nodes) z.number c.env no_bits
     rest f.3))))
 
@@ -196,13 +196,14 @@ tail_below n k g j e env bits (Test t one other) f h =
     (tail_with f other) in
     let ty = tail_touched (tail_with f one) in
     let tn = tail_touched (tail_with f other) in
-    let c = join x.last (i + length y.nodes + length z.nodes) env y.env z.env ty tn (ty ++ tn) in
+    let c = join x.last (i + length y.nodes + length z.nodes) env y.env z.env ty tn (distinct (ty ++ tn)) in
     below_append n x.nodes (y.nodes ++ (z.nodes ++ c.nodes)) (tested_below n g j env bits t)
     (below_append n y.nodes (z.nodes ++ c.nodes)
     (tail_below n k (under x.last true) i e env no_bits one f h.0)
     (below_append n z.nodes c.nodes
     (tail_below n k (under x.last false) (i + length y.nodes) y.number env no_bits other f h.1)
-    (join_below n x.last (i + length y.nodes + length z.nodes) env y.env z.env ty tn (ty ++ tn))))
+    (join_below n x.last (i + length y.nodes + length z.nodes) env y.env z.env ty tn
+    (distinct (ty ++ tn)))))
 
 -- the labels of the branches of block k of n
 pub labels_below : (n k : ℕ) (b : Block) → FitsHyper b → AllLeadOn k n b.tail

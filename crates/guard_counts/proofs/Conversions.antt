@@ -11,6 +11,7 @@ use Rattle.ir_forms.specs.HyperCode.{Items, Done, Set, Load, Save, If, Block}
 use Rattle.ir_forms.specs.HyperFits.{FitsItems, is_filled, filled_ifs}
 use Rattle.ir_forms.specs.FlowFits.{is_branch}
 use Rattle.predication.specs.Environments.{Scope, Env, Bits, no_bits, under, put, note, from_node, at_start}
+use Rattle.predication.specs.Environments.{distinct}
 use Rattle.predication.specs.Operands.{node_of, operand, second, is_test, bit_of, tested}
 use Rattle.predication.specs.Ifs.{items, join, touched}
 use Rattle.predication.specs.Converted.{begun, ended, predicated}
@@ -114,7 +115,7 @@ items_guarded (If t one other rest) g j m env bits f =
     let y = items (under x.last true) i m env no_bits one in
     let n = items (under x.last false) (i + length y.nodes) y.number env no_bits other in
     let c = join x.last (i + length y.nodes + length n.nodes) env y.env n.env (touched one) (touched other)
-    (touched one ++ touched other) in
+    (distinct (touched one ++ touched other)) in
     let at = i + length y.nodes + length n.nodes + length c.nodes in
     let o = items g at n.number c.env no_bits rest in
     if_guarded x.nodes y.nodes n.nodes c.nodes o.nodes (has_sense g) t one other rest

@@ -164,11 +164,6 @@ impl Estimate {
         } else if again && before.uses > before.targets {
             self.insts = self.insts.saturating_sub(before.sources as u32);
         }
-        let times = if again {
-            before.times.saturating_add(1)
-        } else {
-            1
-        };
         let producer = Producer {
             set: true,
             bit,
@@ -177,7 +172,6 @@ impl Estimate {
             sources: 1,
             kept: 0,
             depth: self.depth,
-            times,
         };
         self.producers.put(register, producer);
     }

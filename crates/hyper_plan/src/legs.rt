@@ -120,19 +120,17 @@ impl Estimate {
         self.producers.put(register, producer);
     }
 
-    /// A register that one leg alone sets: the other lets its word before through, as often as it is set, or keeps it.
+    /// A register that one leg alone sets: the other lets its word before through, or keeps it.
     /// Gives how many registers are kept, with this one.
     fn meet_alone(&mut self, register: usize, legs: &Legs, mine: Producer, kept: u32) -> u32 {
         let old = legs.before.get(register);
         if old.set {
-            let each = 2 + old.sources as u32 + KEPT * old.kept as u32;
-            self.count(each.saturating_mul(mine.times as u32));
+            self.count(2 + old.sources as u32 + KEPT * old.kept as u32);
             let through = Producer {
                 targets: 2,
                 uses: 1,
                 sources: 1,
                 kept: 0,
-                times: 0,
                 ..old
             };
             self.meet(register, legs, mine.or(through, self.depth));
@@ -143,7 +141,6 @@ impl Estimate {
                 uses: 1,
                 sources: 0,
                 kept: 1,
-                times: 0,
                 ..old
             };
             self.meet(register, legs, mine.or(keeping, self.depth));

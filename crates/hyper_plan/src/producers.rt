@@ -20,8 +20,6 @@ pub struct Producer {
     pub kept: u8,
     /// the ifs around what set it last
     pub depth: u8,
-    /// how often it is set within these
-    pub times: u8,
 }
 
 /// What gives the word of a register that nothing in the block names as yet.
@@ -33,7 +31,6 @@ pub const NOTHING: Producer = Producer {
     sources: 1,
     kept: 0,
     depth: 0,
-    times: 0,
 };
 
 /// What gives the word of each register.
@@ -74,7 +71,6 @@ impl Producer {
             sources: self.sources.saturating_add(other.sources),
             kept: self.kept.saturating_add(other.kept),
             depth,
-            times: self.times.saturating_add(other.times),
         }
     }
 }

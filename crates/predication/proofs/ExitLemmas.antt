@@ -21,7 +21,7 @@ use Rattle.predication.specs.declared.work.Work.{Work}
 use Rattle.predication.specs.declared.work.Named.{Named}
 use Rattle.predication.specs.declared.work.Noted.{Noted}
 use Rattle.predication.specs.declared.work.Names.{Names}
-use Rattle.predication.specs.Environments.{Scope, Env, Bits, no_bits, under, put, from_node}
+use Rattle.predication.specs.Environments.{Scope, Env, Bits, no_bits, under, put, from_node, distinct}
 use Rattle.predication.specs.Operands.{Chain, constant_of, operand, tested, mov_of}
 use Rattle.predication.specs.Ifs.{Joined, join}
 use Rattle.predication.specs.Outcomes.{NamesLabel, NamesLabels}
@@ -147,8 +147,8 @@ pub test_finished : (g gy gn : Scope) (w wt wy wn w3 : Work) (n n3 fy sy fn sn :
     → Adds w wt (tested g (length w.nodes) (env_of n.entries) (bits_of n.bits) t).nodes
     → gy ≡ under at true → Begins n.entries fy → Finished gy wt wy fy sy one
     → gn ≡ under at false → Begins n.entries fn → Finished gn wy wn fn sn other
-    → Adds wn w3 (joined_at at (length wn.nodes) n.entries sy sn (sy.sets ++ sn.sets)).nodes
-    → env_of n3.entries ≡ (joined_at at (length wn.nodes) n.entries sy sn (sy.sets ++ sn.sets)).env
+    → Adds wn w3 (joined_at at (length wn.nodes) n.entries sy sn (distinct (sy.sets ++ sn.sets))).nodes
+    → env_of n3.entries ≡ (joined_at at (length wn.nodes) n.entries sy sn (distinct (sy.sets ++ sn.sets))).env
     → n3.sets ≡ n.sets ++ (sy.sets ++ sn.sets)
     → Finished g w w3 n n3 (Test t one other)
 test_finished g gy gn w wt wy wn w3 n n3 fy sy fn sn t one other at ea p ey begun hy en began hn q v s =
@@ -172,8 +172,8 @@ test_finished g gy gn w wt wy wn w3 n n3 fy sy fn sn t one other at ea p ey begu
     came_count wy wn sn o.nodes o.number o.env (tail_touched other) cn
     ∙ ap (λ (k : ℕ). k + length o.nodes) ly in
     let c : Joined = join xs.last (i + length y.nodes + length o.nodes) env y.env o.env (tail_touched one)
-    (tail_touched other) (tail_touched one ++ tail_touched other) in
-    let ec : joined_at at (length wn.nodes) n.entries sy sn (sy.sets ++ sn.sets) ≡ c =
+    (tail_touched other) (distinct (tail_touched one ++ tail_touched other)) in
+    let ec : joined_at at (length wn.nodes) n.entries sy sn (distinct (sy.sets ++ sn.sets)) ≡ c =
     same_join at xs.last (length wn.nodes) (i + length y.nodes + length o.nodes) n.entries sy sn y.env o.env
     (tail_touched one) (tail_touched other) ea ln cy.env cn.env cy.sets cn.sets in
     let q2 : Adds wn w3 c.nodes = subst (λ (d : Joined). Adds wn w3 d.nodes) ec q in

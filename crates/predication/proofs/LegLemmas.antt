@@ -12,7 +12,7 @@ use Rattle.predication.specs.declared.work.Work.{Work}
 use Rattle.predication.specs.declared.work.Named.{Named}
 use Rattle.predication.specs.declared.work.Noted.{Noted}
 use Rattle.predication.specs.declared.work.Names.{Names}
-use Rattle.predication.specs.Environments.{Scope, Env, Bits, no_bits, under}
+use Rattle.predication.specs.Environments.{Scope, Env, Bits, no_bits, under, distinct}
 use Rattle.predication.specs.Operands.{Chain, tested}
 use Rattle.predication.specs.Ifs.{Joined, Out, join, items, touched}
 use Rattle.predication.specs.inside.Emits.{Adds, low, env_of, bits_of, joined_at}
@@ -79,15 +79,17 @@ four_counted x y n c =
 -- what is joined depends on nothing else
 pub same_join : (t t2 j j2 : ℕ) (es : List Named) (f s : Names) (yea nay : Env) (ty tn : List ℕ) → t ≡ t2 → j ≡ j2
     → env_of f.entries ≡ yea → env_of s.entries ≡ nay → f.sets ≡ ty → s.sets ≡ tn
-    → joined_at t j es f s (f.sets ++ s.sets) ≡ join t2 j2 (env_of es) yea nay ty tn (ty ++ tn)
+    → joined_at t j es f s (distinct (f.sets ++ s.sets))
+    ≡ join t2 j2 (env_of es) yea nay ty tn (distinct (ty ++ tn))
 same_join t t2 j j2 es f s yea nay ty tn et ej ey en ery ern =
     let env = env_of es in
-    ap (λ (x : ℕ). joined_at x j es f s (f.sets ++ s.sets)) et
-    ∙ ap (λ (x : ℕ). joined_at t2 x es f s (f.sets ++ s.sets)) ej
-    ∙ ap (λ (x : Env). join t2 j2 env x (env_of s.entries) f.sets s.sets (f.sets ++ s.sets)) ey
-    ∙ ap (λ (x : Env). join t2 j2 env yea x f.sets s.sets (f.sets ++ s.sets)) en
-    ∙ ap (λ (x : List ℕ). join t2 j2 env yea nay x s.sets (x ++ s.sets)) ery
-    ∙ ap (λ (x : List ℕ). join t2 j2 env yea nay ty x (ty ++ x)) ern
+    ap (λ (x : ℕ). joined_at x j es f s (distinct (f.sets ++ s.sets))) et
+    ∙ ap (λ (x : ℕ). joined_at t2 x es f s (distinct (f.sets ++ s.sets))) ej
+    ∙ ap (λ (x : Env). join t2 j2 env x (env_of s.entries) f.sets s.sets
+    (distinct (f.sets ++ s.sets))) ey
+    ∙ ap (λ (x : Env). join t2 j2 env yea x f.sets s.sets (distinct (f.sets ++ s.sets))) en
+    ∙ ap (λ (x : List ℕ). join t2 j2 env yea nay x s.sets (distinct (x ++ s.sets))) ery
+    ∙ ap (λ (x : List ℕ). join t2 j2 env yea nay ty x (distinct (ty ++ x))) ern
 
 pub same_scope : (g : Scope) (k i : ℕ) → g ≡ under k true → k ≡ i → g ≡ under i true
 same_scope g k i e f = e ∙ ap (λ (x : ℕ). under x true) f
@@ -102,8 +104,8 @@ pub branch_ends : (g gy gn : Scope) (w wt wy wn w3 : Work) (n n3 fy sy fn sn : N
     → Adds w wt (tested g (length w.nodes) (env_of n.entries) (bits_of n.bits) t).nodes
     → gy ≡ under at true → Begins n.entries fy → ends gy wy sy Done ≡ ends gy wt fy one
     → gn ≡ under at false → Begins n.entries fn → ends gn wn sn Done ≡ ends gn wy fn other
-    → Adds wn w3 (joined_at at (length wn.nodes) n.entries sy sn (sy.sets ++ sn.sets)).nodes
-    → env_of n3.entries ≡ (joined_at at (length wn.nodes) n.entries sy sn (sy.sets ++ sn.sets)).env
+    → Adds wn w3 (joined_at at (length wn.nodes) n.entries sy sn (distinct (sy.sets ++ sn.sets))).nodes
+    → env_of n3.entries ≡ (joined_at at (length wn.nodes) n.entries sy sn (distinct (sy.sets ++ sn.sets))).env
     → n3.bits ≡ [] → n3.sets ≡ n.sets ++ (sy.sets ++ sn.sets)
     → (rest : Items) → ends g w3 n3 rest ≡ ends g w n (If t one other rest)
 branch_ends g gy gn w wt wy wn w3 n n3 fy sy fn sn t one other at ea p ey begun hy en began hn q v z s rest =
@@ -126,8 +128,8 @@ branch_ends g gy gn w wt wy wn w3 n n3 fy sy fn sn t one other at ea p ey begun 
     let ln : length wn.nodes ≡ i + length y.nodes + length o.nodes =
     came_count wy wn sn o.nodes o.number o.env (touched other) cn ∙ ap (λ (k : ℕ). k + length o.nodes) ly in
     let c : Joined = join xs.last (i + length y.nodes + length o.nodes) env y.env o.env (touched one) (touched other)
-    (touched one ++ touched other) in
-    let ec : joined_at at (length wn.nodes) n.entries sy sn (sy.sets ++ sn.sets) ≡ c =
+    (distinct (touched one ++ touched other)) in
+    let ec : joined_at at (length wn.nodes) n.entries sy sn (distinct (sy.sets ++ sn.sets)) ≡ c =
     same_join at xs.last (length wn.nodes) (i + length y.nodes + length o.nodes) n.entries sy sn y.env o.env
     (touched one) (touched other) ea ln cy.env cn.env cy.sets cn.sets in
     let q2 : Adds wn w3 c.nodes = subst (λ (d : Joined). Adds wn w3 d.nodes) ec q in

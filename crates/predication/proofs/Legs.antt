@@ -1,5 +1,5 @@
 -- The end of an if: each register takes its word from the leg that was taken.
-use Rattle.std.proofs.Common.{◌≡◌, ℕ, suc, ◌+◌, List, [], ◌∷◌, ◌++◌, length, refl, sym, subst, ◌∙◌, arith}
+use Rattle.std.proofs.Common.{◌≡◌, ℕ, suc, ◌+◌, List, [], ◌∷◌, ◌++◌, length, refl, sym, ap, subst, ◌∙◌, arith}
 use Rattle.std.proofs.Common.{cond, nat_eq, Bool, true, false}
 use Rattle.std.specs.Prelude.{Option, None}
 use Rattle.std.proofs.lemmas.Bool.Decides.{nat_tests}
@@ -7,7 +7,7 @@ use Rattle.trips_isa.specs.declared.block.Stored.{Stored}
 use Rattle.trips_isa.specs.Rule.{Answer, if_matched}
 use Rattle.ir_forms.specs.declared.flow.FlowSource.{FlowSource}
 use Rattle.ir_forms.specs.FlowRuns.{Computes, first, met}
-use Rattle.predication.specs.Environments.{Scope, Entry, Env, Bits, put, from_node, both, under, member}
+use Rattle.predication.specs.Environments.{Scope, Entry, Env, Bits, put, from_node, both, under, member, distinct}
 use Rattle.predication.specs.Operands.{movs, froms}
 use Rattle.predication.specs.Ifs.{Part, left_of, side_of, Joined, join, items, touched}
 use Rattle.predication.specs.Tails.{tail, tail_touched}
@@ -38,6 +38,29 @@ member_append q (r ∷ a) b = rw (member_append q a b) (go (nat_eq q r) (member 
     go true y z = refl
     go false y z = refl
 
+-- ---- registers, each once
+
+same_member : (q r : ℕ) (rs : List ℕ) → nat_eq q r ≡ true → member r rs ≡ true → member q rs ≡ true
+same_member q r rs e m =
+    let same : r ≡ q = grind (arith, nat_tests) in
+    subst (λ (i : ℕ). member i rs ≡ true) same m
+
+covered : (q r : ℕ) (rs : List ℕ) (z : Bool) → nat_eq q r ≡ z → member r rs ≡ true
+    → member q rs ≡ cond z true (member q rs)
+covered q r rs true e m = same_member q r rs e m
+covered q r rs false e m = refl
+
+taken_once : (q r : ℕ) (rs ds : List ℕ) → member q ds ≡ member q rs → (b : Bool) → member r rs ≡ b
+    → member q (cond b ds (r ∷ ds)) ≡ cond (nat_eq q r) true (member q rs)
+taken_once q r rs ds h true m = h ∙ covered q r rs (nat_eq q r) refl m
+taken_once q r rs ds h false m = ap (λ (b : Bool). cond (nat_eq q r) true b) h
+
+pub member_distinct : (q : ℕ) (rs : List ℕ) → member q (distinct rs) ≡ member q rs
+member_distinct q [] = refl
+member_distinct q (r ∷ rs) = taken_once q r rs (distinct rs) (member_distinct q rs) (member r rs) refl
+
+-- ---- what an if does not touch
+
 pub join_out :
     (rs : List ℕ) (t j : ℕ) (env yea nay : Env) (ty tn : List ℕ) (q : ℕ) → member q rs ≡ false
     → (join t j env yea nay ty tn rs).env q ≡ env q
@@ -48,6 +71,13 @@ join_out (r ∷ rs) t j env yea nay ty tn q e =
     let b : Part = side_of (member r tn) (under t false) (j + length a.nodes) r (env r) (nay r) in
     let c : Joined = join t (j + length a.nodes + length b.nodes) env yea nay ty tn rs in
     put_at c.env r (both a.entry b.entry) q m.0 ∙ join_out rs t _ env yea nay ty tn q m.1
+
+-- a register that no leg sets
+pub joins_out :
+    (t j : ℕ) (env yea nay : Env) (ty tn : List ℕ) (q : ℕ) → member q (ty ++ tn) ≡ false
+    → (join t j env yea nay ty tn (distinct (ty ++ tn))).env q ≡ env q
+joins_out t j env yea nay ty tn q e =
+    join_out (distinct (ty ++ tn)) t j env yea nay ty tn q (member_distinct q (ty ++ tn) ∙ e)
 
 pub untouched : (is : Items) (g : Scope) (j m : ℕ) (env : Env) (bits : Bits) (q : ℕ) → member q (touched is) ≡ false
     → (items g j m env bits is).env q ≡ env q
@@ -62,7 +92,7 @@ untouched (Save op a v rest) g j m env bits q e = untouched rest g _ _ env bits 
 untouched (If t yea nay rest) g j m env bits q e =
     let n = or_false (member q (touched yea ++ touched nay)) (member q (touched rest))
     (sym (member_append q (touched yea ++ touched nay) (touched rest)) ∙ e) in
-    untouched rest g _ _ _ _ q n.1 ∙ join_out (touched yea ++ touched nay) _ _ env _ _ (touched yea) (touched nay) q n.0
+    untouched rest g _ _ _ _ q n.1 ∙ joins_out _ _ env _ _ (touched yea) (touched nay) q n.0
 
 pub tail_untouched : (t : Tail) (g : Scope) (j e : ℕ) (env : Env) (bits : Bits) (q : ℕ) → member q (tail_touched t)
     ≡ false → (tail g j e env bits t).env q ≡ env q
@@ -72,7 +102,7 @@ tail_untouched (Leave (exit.Call l back)) g j e env bits q z =
 tail_untouched (Leave exit.Return) g j e env bits q z = refl
 tail_untouched (Leave (exit.System l)) g j e env bits q z = refl
 tail_untouched (Test t yea nay) g j e env bits q z =
-    join_out (tail_touched yea ++ tail_touched nay) _ _ env _ _ (tail_touched yea) (tail_touched nay) q z
+    joins_out _ _ env _ _ (tail_touched yea) (tail_touched nay) q z
 
 -- ---- quiet nodes
 
@@ -203,21 +233,22 @@ module _ (regs : ℕ → ℕ) (h : ℕ → Answer) (f : Computes) (st : ℕ → 
       → Clear regs h (under t false) → met h (under t true) ≡ true → met h (under t false) ≡ false
       → Live regs h yea vals →
       ((q : ℕ) → member q ty ≡ false → yea q ≡ env q) → ((q : ℕ) → member q tn ≡ true → Dead regs h (nay q)) →
-      Runs regs h f st j (join t j env yea nay ty tn (ty ++ tn)).nodes
-      → Live regs h (join t j env yea nay ty tn (ty ++ tn)).env vals
+      Runs regs h f st j (join t j env yea nay ty tn (distinct (ty ++ tn))).nodes
+      → Live regs h (join t j env yea nay ty tn (distinct (ty ++ tn))).env vals
   join_yea t j env yea nay ty tn vals ct cf m n l u d x q = go (member q (ty ++ tn)) refl
     where
-      go : (z : Bool) → member q (ty ++ tn) ≡ z → Sound regs h ((join t j env yea nay ty tn (ty ++ tn)).env q)
+      go : (z : Bool) → member q (ty ++ tn) ≡ z → Sound regs h ((join t j env yea nay ty tn (distinct (ty ++ tn))).env q)
           (vals q) (regs q)
       go true e =
-          join_with t j env yea nay ty tn (ty ++ tn) (λ r p. Sound regs h p (vals r) (regs r))
+          join_with t j env yea nay ty tn (distinct (ty ++ tn)) (λ r p. Sound regs h p (vals r) (regs r))
           (λ r i k xa xb. sound_dead regs h _ _ (vals r) (regs r)
           (side_sound (member r ty) (under t true) i r (env r) (yea r) (vals r) ct m (l r) (u r) xa)
-          (side_dead (member r tn) (under t false) k r (env r) (nay r) cf n (d r) xb)) x q e
+          (side_dead (member r tn) (under t false) k r (env r) (nay r) cf n (d r) xb)) x q
+          (member_distinct q (ty ++ tn) ∙ e)
       go false e =
           let both_out = or_false (member q ty) (member q tn) (sym (member_append q ty tn) ∙ e) in
           subst (λ (p : Entry). Sound regs h p (vals q) (regs q))
-          (u q both_out.0 ∙ sym (join_out (ty ++ tn) t j env yea nay ty tn q e)) (l q)
+          (u q both_out.0 ∙ sym (joins_out t j env yea nay ty tn q e)) (l q)
 
   -- the second leg was taken
   pub join_nay :
@@ -225,34 +256,36 @@ module _ (regs : ℕ → ℕ) (h : ℕ → Answer) (f : Computes) (st : ℕ → 
       → Clear regs h (under t false) → met h (under t true) ≡ false → met h (under t false) ≡ true
       → Live regs h nay vals →
       ((q : ℕ) → member q tn ≡ false → nay q ≡ env q) → ((q : ℕ) → member q ty ≡ true → Dead regs h (yea q)) →
-      Runs regs h f st j (join t j env yea nay ty tn (ty ++ tn)).nodes
-      → Live regs h (join t j env yea nay ty tn (ty ++ tn)).env vals
+      Runs regs h f st j (join t j env yea nay ty tn (distinct (ty ++ tn))).nodes
+      → Live regs h (join t j env yea nay ty tn (distinct (ty ++ tn))).env vals
   join_nay t j env yea nay ty tn vals ct cf m n l u d x q = go (member q (ty ++ tn)) refl
     where
-      go : (z : Bool) → member q (ty ++ tn) ≡ z → Sound regs h ((join t j env yea nay ty tn (ty ++ tn)).env q)
+      go : (z : Bool) → member q (ty ++ tn) ≡ z → Sound regs h ((join t j env yea nay ty tn (distinct (ty ++ tn))).env q)
           (vals q) (regs q)
       go true e =
-          join_with t j env yea nay ty tn (ty ++ tn) (λ r p. Sound regs h p (vals r) (regs r))
+          join_with t j env yea nay ty tn (distinct (ty ++ tn)) (λ r p. Sound regs h p (vals r) (regs r))
           (λ r i k xa xb. dead_sound regs h _ _ (vals r) (regs r)
           (side_dead (member r ty) (under t true) i r (env r) (yea r) ct m (d r) xa)
-          (side_sound (member r tn) (under t false) k r (env r) (nay r) (vals r) cf n (l r) (u r) xb)) x q e
+          (side_sound (member r tn) (under t false) k r (env r) (nay r) (vals r) cf n (l r) (u r) xb)) x q
+          (member_distinct q (ty ++ tn) ∙ e)
       go false e =
           let both_out = or_false (member q ty) (member q tn) (sym (member_append q ty tn) ∙ e) in
           subst (λ (p : Entry). Sound regs h p (vals q) (regs q))
-          (u q both_out.1 ∙ sym (join_out (ty ++ tn) t j env yea nay ty tn q e)) (l q)
+          (u q both_out.1 ∙ sym (joins_out t j env yea nay ty tn q e)) (l q)
 
   -- no leg was taken
   pub join_dead :
       (t j : ℕ) (env yea nay : Env) (ty tn : List ℕ) → Clear regs h (under t true) → Clear regs h (under t false)
       → met h (under t true) ≡ false → met h (under t false) ≡ false →
       ((q : ℕ) → member q ty ≡ true → Dead regs h (yea q)) → ((q : ℕ) → member q tn ≡ true → Dead regs h (nay q)) →
-      Runs regs h f st j (join t j env yea nay ty tn (ty ++ tn)).nodes → (q : ℕ) → member q (ty ++ tn) ≡ true →
-      Dead regs h ((join t j env yea nay ty tn (ty ++ tn)).env q)
+      Runs regs h f st j (join t j env yea nay ty tn (distinct (ty ++ tn))).nodes → (q : ℕ) → member q (ty ++ tn) ≡ true →
+      Dead regs h ((join t j env yea nay ty tn (distinct (ty ++ tn))).env q)
   join_dead t j env yea nay ty tn ct cf m n dy dn x q e =
-      join_with t j env yea nay ty tn (ty ++ tn) (λ r p. Dead regs h p)
+      join_with t j env yea nay ty tn (distinct (ty ++ tn)) (λ r p. Dead regs h p)
       (λ r i k xa xb. dead_dead regs h _ _
       (side_dead (member r ty) (under t true) i r (env r) (yea r) ct m (dy r) xa)
-      (side_dead (member r tn) (under t false) k r (env r) (nay r) cf n (dn r) xb)) x q e
+      (side_dead (member r tn) (under t false) k r (env r) (nay r) cf n (dn r) xb)) x q
+      (member_distinct q (ty ++ tn) ∙ e)
 
   -- the nodes at the end of an if are tidy
   left_calm : (g : Scope) (j r : ℕ) (ss : List FlowSource) (kept : List Scope) → Clear regs h g

@@ -24,4 +24,5 @@ pub mod LowLemmas
 pub mod ExitLemmas
 pub mod MadeLemmas
 pub mod OutputLemmas
+pub mod ReadLemmas
 pub mod StandardFacts

@@ -11,7 +11,7 @@ use Rattle.ir_forms.specs.declared.flow.FlowSource.{FlowSource}
 use Rattle.ir_forms.specs.declared.flow.FlowNode.{FlowNode}
 use Rattle.ir_forms.specs.HyperCode.{Items, Done, Set, Load, Save, If, Tail, Leave, Test, Block}
 use Rattle.predication.specs.Environments.{Scope, Entry, Env, Bits, put, note, from_node, under, no_bits, member}
-use Rattle.predication.specs.Environments.{at_start}
+use Rattle.predication.specs.Environments.{at_start, distinct}
 use Rattle.trips_isa.specs.declared.op.Op.TheVariants.{Ret}
 use Rattle.predication.specs.Operands.{Got, node_of, chain, longer, movs, read_of, operand, second, is_test}
 use Rattle.predication.specs.Operands.{bit_of, fresh_test}
@@ -188,7 +188,7 @@ items_most (If t yea nay rest) g j m env bits k h =
     most_append k _ _ (tested_most k g j env bits t)
     (most_append k _ _ (items_most yea _ _ m env no_bits k ly)
     (most_append k _ _ (items_most nay _ _ y.number env no_bits k ln)
-    (most_append k _ _ (join_most (touched yea ++ touched nay) k _ _ env y.env n.env (touched yea) (touched nay))
+    (most_append k _ _ (join_most (distinct (touched yea ++ touched nay)) k _ _ env y.env n.env (touched yea) (touched nay))
     (items_most rest g _ n.number c.env no_bits k h))))
 
 -- EXITS
@@ -253,7 +253,7 @@ tail_most (Test t yea nay) g j e env bits k h =
     most_append k _ _ (tested_most k g j env bits t)
     (most_append k _ _ (tail_most yea _ _ e env no_bits k ly)
     (most_append k _ _ (tail_most nay _ _ y.number env no_bits k h)
-    (join_most (tail_touched yea ++ tail_touched nay) k _ _ env y.env n.env (tail_touched yea) (tail_touched nay))))
+    (join_most (distinct (tail_touched yea ++ tail_touched nay)) k _ _ env y.env n.env (tail_touched yea) (tail_touched nay))))
 
 -- THE BLOCK
 

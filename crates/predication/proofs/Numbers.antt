@@ -11,7 +11,7 @@ use Rattle.trips_isa.specs.Rule.{Answer}
 use Rattle.trips_isa.specs.Tables.{or_else}
 use Rattle.ir_forms.specs.declared.flow.FlowNode.{FlowNode}
 use Rattle.ir_forms.specs.FlowRuns.{Computes, met, Obeys, stored_where, stored_in, stores, present, numbered, tokens}
-use Rattle.predication.specs.Environments.{Scope, Env, Bits, put, from_node, under, no_bits, note}
+use Rattle.predication.specs.Environments.{Scope, Env, Bits, put, from_node, under, no_bits, note, distinct}
 use Rattle.predication.specs.Operands.{node_of, operand, second, bit_of, is_test, tested}
 use Rattle.predication.specs.Ifs.{items, touched}
 use Rattle.ir_forms.specs.HyperCode.{Items, Done, Set, Load, Save, If}
@@ -115,7 +115,7 @@ items_rise (If t yea nay rest) g j m env bits tk =
     (rises_append y.number n.number _ n.nodes _ (items_rise nay (under k false)
     (nay_at g j m env bits t yea) y.number env no_bits tk.2)
     (rises_append n.number n.number _ c.nodes _
-    (quiet_rises n.number c.nodes (join_quiet (touched yea ++ touched nay) k
+    (quiet_rises n.number c.nodes (join_quiet (distinct (touched yea ++ touched nay)) k
     (join_at g j m env bits t yea nay) env y.env n.env (touched yea) (touched nay)))
     (items_rise rest g (rest_at g j m env bits t yea nay) n.number c.env no_bits tk.3))))
 

@@ -1,11 +1,9 @@
 -- One register more, and one number more.
-use Rattle.std.proofs.Common.{◌≡◌, ℕ, suc, ◌+◌, ◌^◌, Bool, true, false, cond, ◌||◌, List, [], ◌∷◌, ◌++◌, refl, sym, ap}
-use Rattle.std.proofs.Common.{◌∙◌, append_assoc}
-use Rattle.ir_forms.specs.declared.flow.FlowNode.{FlowNode}
+use Rattle.std.proofs.Common.{◌≡◌, ℕ, suc, ◌+◌, Bool, true, false, cond, List, [], ◌∷◌, ◌++◌, append_assoc}
 use Rattle.ir_forms.specs.declared.flow.FlowWrite.{FlowWrite}
 use Rattle.predication.specs.Environments.{Env, member}
-use Rattle.predication.specs.Converted.{writes_below, nodes_read, writes_read, reads_below}
-use Rattle.predication.specs.inside.Made.{write_of, read_of}
+use Rattle.predication.specs.Converted.{writes_below}
+use Rattle.predication.specs.inside.Made.{write_of, member_of, members_below}
 
 -- one more of a list, or none
 one_more : {A : Type 0} (c : Bool) (x : A) (a b : List A)
@@ -18,6 +16,6 @@ pub write_more : (env : Env) (rs : List ℕ) (n : ℕ) (a : List FlowWrite)
 write_more env rs n a =
     one_more (member n rs) (record { register = n; sources = (env n).given }) a (writes_below env rs n)
 
-pub read_more : (ns : List FlowNode) (ws : List FlowWrite) (n : ℕ) (a : List ℕ)
-    → (a ++ read_of ns ws n) ++ reads_below ns ws n ≡ a ++ reads_below ns ws (suc n)
-read_more ns ws n a = one_more (nodes_read ns n || writes_read ws n) n a (reads_below ns ws n)
+pub member_more : (found : List ℕ) (n : ℕ) (a : List ℕ)
+    → (a ++ member_of found n) ++ members_below found n ≡ a ++ members_below found (suc n)
+member_more found n a = one_more (member n found) n a (members_below found n)

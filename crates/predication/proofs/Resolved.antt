@@ -21,7 +21,7 @@ use Rattle.ir_forms.specs.declared.flow.FlowBlock.{FlowBlock}
 use Rattle.ir_forms.specs.HyperCode.{Items, Done, Set, Load, Save, If, Tail, Leave, Test}
 use Rattle.ir_forms.specs.HyperFits.{FitsSource, FitsItems, FitsTail}
 use Rattle.predication.specs.Environments.{Scope, Entry, Env, Bits, no_bits, under, put, note, from_node}
-use Rattle.predication.specs.Environments.{at_start, member}
+use Rattle.predication.specs.Environments.{at_start, member, distinct}
 use Rattle.predication.specs.Operands.{Got, node_of, constant_of, mov_of, longer, chain, movs, read_of}
 use Rattle.predication.specs.Operands.{operand, second, is_test, bit_of, fresh_test, test_by, tested}
 use Rattle.predication.specs.Ifs.{Part, left_of, side_of, Joined, join, items, touched}
@@ -256,12 +256,12 @@ module _ (address : ℕ → ℕ) where
       let y = items (under x.last true) i m env no_bits one in
       let n = items (under x.last false) (i + length y.nodes) y.number env no_bits other in
       let c = join x.last (i + length y.nodes + length n.nodes) env y.env n.env (touched one) (touched other)
-      (touched one ++ touched other) in
+      (distinct (touched one ++ touched other)) in
       kept_append x.nodes _ (kept_tested g j env bits t f.0)
       (kept_append y.nodes _ (kept_items one (under x.last true) i m env no_bits f.1)
       (kept_append n.nodes _ (kept_items other (under x.last false) (i + length y.nodes) y.number env no_bits f.2)
       (kept_append c.nodes _
-      (kept_join (touched one ++ touched other) x.last (i + length y.nodes + length n.nodes) env y.env n.env
+      (kept_join (distinct (touched one ++ touched other)) x.last (i + length y.nodes + length n.nodes) env y.env n.env
       (touched one) (touched other))
       (kept_items rest g (i + length y.nodes + length n.nodes + length c.nodes) n.number c.env no_bits f.3))))
 
@@ -319,7 +319,7 @@ module _ (address : ℕ → ℕ) where
 
     joins_same : (t j j2 : ℕ) (env y y2 n n2 : Env) (ty ty2 tn tn2 : List ℕ) → j ≡ j2 → y ≡ y2 → n ≡ n2
         → ty ≡ ty2 → tn ≡ tn2
-        → join t j env y n ty tn (ty ++ tn) ≡ join t j2 env y2 n2 ty2 tn2 (ty2 ++ tn2)
+        → join t j env y n ty tn (distinct (ty ++ tn)) ≡ join t j2 env y2 n2 ty2 tn2 (distinct (ty2 ++ tn2))
     joins_same t j j2 env y y2 n n2 ty ty2 tn tn2 a b c d e = rw (a, b, c, d, e) refl
 
     tail_same : (t : Tail) (g : Scope) (j j2 e e2 : ℕ) (env : Env) (bits : Bits) → FitsTail t → j ≡ j2 → e ≡ e2
@@ -352,14 +352,15 @@ module _ (address : ℕ → ℕ) where
             ap₂ (λ (p q : ℕ). p + q) ly (same_length n n2 sn) in
             let ty = tail_touched (tail_with label one) in
             let tn = tail_touched (tail_with label other) in
-            let c = join x.last (i + length y.nodes + length n.nodes) env y.env n.env ty tn (ty ++ tn) in
+            let c = join x.last (i + length y.nodes + length n.nodes) env y.env n.env ty tn
+            (distinct (ty ++ tn)) in
             let same = joins_same x.last (i + length y.nodes + length n.nodes) (i + length y2.nodes + length n2.nodes)
             env y.env y2.env n.env n2.env ty (tail_touched (tail_with address one)) tn
             (tail_touched (tail_with address other)) ln sy.env sn.env
             (touched_same label one ∙ sym (touched_same address one))
             (touched_same label other ∙ sym (touched_same address other)) in
             let kc : map res c.nodes ≡ c.nodes =
-            kept_join (ty ++ tn) x.last (i + length y.nodes + length n.nodes) env y.env n.env ty tn in
+            kept_join (distinct (ty ++ tn)) x.last (i + length y.nodes + length n.nodes) env y.env n.env ty tn in
             record {
               nodes = map-append res x.nodes (y.nodes ++ (n.nodes ++ c.nodes))
                   ∙ ap₂ (λ (p q : List FlowNode). p ++ q) (kept_tested g j env bits t f.0)

@@ -1,5 +1,5 @@
 -- Each node names earlier nodes that give tokens to others, and its fields fit.
-use Rattle.std.proofs.Common.{◌≡◌, ◌≢◌, ℕ, zero, suc, ◌+◌, ◌/◌, ◌<◌, ◌≤◌, List, [], ◌∷◌, ◌++◌, length}
+use Rattle.std.proofs.Common.{◌≡◌, ◌≢◌, ℕ, zero, suc, ◌+◌, ◌/◌, ◌<◌, ◌≤◌, List, [], ◌∷◌, ◌++◌, length, ◌∙◌}
 use Rattle.std.proofs.Common.{length-append, refl, sym, ap, subst, arith, cond, nat_eq, nat_lt, Bool, true}
 use Rattle.std.proofs.Common.{false, ◌%◌}
 use Rattle.std.specs.Prelude.{Option, Some, None, pos}
@@ -15,13 +15,14 @@ use Rattle.ir_forms.specs.declared.flow.FlowSource.{FlowSource}
 use Rattle.ir_forms.specs.declared.flow.FlowSource.TheVariants.{Read, Node}
 use Rattle.ir_forms.specs.declared.flow.FlowNode.{FlowNode}
 use Rattle.predication.specs.Environments.{Scope, Entry, Env, Bits, put, from_node, both, under, sense_on}
-use Rattle.predication.specs.Environments.{member, no_bits, note}
+use Rattle.predication.specs.Environments.{member, distinct, no_bits, note}
 use Rattle.predication.specs.Operands.{node_of, constant_of, mov_of, Chain, longer, chain, Got, movs, froms}
 use Rattle.predication.specs.Operands.{read_of, operand, second, bit_of, is_test, fresh_test, test_by, tested}
 use Rattle.predication.specs.Operands.{test_of}
 use Rattle.predication.specs.Ifs.{Part, left_of, side_of, Joined, join, Out, items, touched}
 use Rattle.predication.specs.Tails.{branch_of, Ending, leaving, tail, tail_touched, high_half, low_half}
 use Rattle.predication.proofs.Halves.{high_is, low_is}
+use Rattle.predication.proofs.Legs.{member_distinct}
 use Rattle.trips_isa.specs.Forms.{role_in}
 use Rattle.trips_isa.specs.Rule.{low}
 use Rattle.ir_forms.specs.HyperCode.{Items, Done, Set, Load, Save, If, Tail, Leave, Test}
@@ -640,8 +641,9 @@ module _ (T : ℕ → Type 0) where
       let ln = items_static nay (under k false) na y.number env no_bits tk.2 (good_under na k false kn x.talks)
       (env_later j na env (omega arith) ge) (no_bits_good na)
       (heard_front na n.nodes (c.nodes ++ o.nodes) h2) (omega (arith, ro, le)) in
-      let lj = join_static (touched yea ++ touched nay) k ja env y.env n.env (touched yea) (touched nay)
-      (λ q e. either_low q (touched yea) (touched nay) (touched_low yea q tk.1) (touched_low nay q tk.2) e) kj x.talks
+      let lj = join_static (distinct (touched yea ++ touched nay)) k ja env y.env n.env (touched yea) (touched nay)
+      (λ q e. either_low q (touched yea) (touched nay) (touched_low yea q tk.1) (touched_low nay q tk.2)
+      (sym (member_distinct q (touched yea ++ touched nay)) ∙ e)) kj x.talks
       (env_later j ja env (omega arith) ge) (ly.env ja (omega arith)) (ln.env ja (omega arith))
       (heard_front ja c.nodes o.nodes h3) in
       let lr = items_static rest g ra n.number c.env no_bits tk.3 (guard_later j ra g (omega arith) gg)
@@ -801,9 +803,10 @@ module _ (T : ℕ → Type 0) where
       let ln = tail_static nay (under k false) na y.number env no_bits tk.2 (good_under na k false kn x.talks)
       (env_later j na env (omega arith) ge) (no_bits_good na)
       (heard_front na n.nodes c.nodes h2) le in
-      let lj = join_static (tail_touched yea ++ tail_touched nay) k ja env y.env n.env (tail_touched yea)
+      let lj = join_static (distinct (tail_touched yea ++ tail_touched nay)) k ja env y.env n.env (tail_touched yea)
       (tail_touched nay)
-      (λ q z. either_low q (tail_touched yea) (tail_touched nay) (tail_low yea q) (tail_low nay q) z) kj x.talks
+      (λ q z. either_low q (tail_touched yea) (tail_touched nay) (tail_low yea q) (tail_low nay q)
+      (sym (member_distinct q (tail_touched yea ++ tail_touched nay)) ∙ z)) kj x.talks
       (env_later j ja env (omega arith) ge) (ly.env ja (omega arith)) (ln.env ja (omega arith)) h3 in
       let l1 = length-append xs (y.nodes ++ (n.nodes ++ c.nodes)) in
       let l2 = length-append y.nodes (n.nodes ++ c.nodes) in

@@ -19,7 +19,7 @@ use Rattle.ir_forms.specs.declared.flow.FlowSource.TheVariants.{Node}
 use Rattle.ir_forms.specs.declared.flow.FlowNode.{FlowNode}
 use Rattle.ir_forms.specs.HyperRuns.{register_put, value_of}
 use Rattle.ir_forms.specs.FlowRuns.{Computes, first, gives, met, exits, leaving_in}
-use Rattle.predication.specs.Environments.{Scope, Env, Bits, from_node, under, member, no_bits}
+use Rattle.predication.specs.Environments.{Scope, Env, Bits, from_node, under, member, distinct, no_bits}
 use Rattle.predication.specs.Operands.{constant_of, mov_of, operand, second, tested}
 use Rattle.predication.specs.Ifs.{Joined, join, items, touched}
 use Rattle.predication.specs.Tails.{branch_of, Ending, leaving, tail, tail_touched, address_nodes, high_half, low_half}
@@ -70,7 +70,7 @@ abbrev pub t_joined : Scope → ℕ → ℕ → Env → Bits → Source → Tail
 t_joined g j e env bits t yea nay =
     join (test_at g j env bits t) (t_join_at g j e env bits t yea nay) env (t_yea g j e env bits t yea).env
     (t_nay g j e env bits t yea nay).env (tail_touched yea) (tail_touched nay)
-    (tail_touched yea ++ tail_touched nay)
+    (distinct (tail_touched yea ++ tail_touched nay))
 
 leaving_quiet : (x : Exit) (g : Scope) (j e : ℕ) (env : Env) → Quiet (leaving g j e env x).nodes
 leaving_quiet (exit.Jump l) g j e env = ((refl, refl), tt)
@@ -88,7 +88,7 @@ tail_quiet (Test t yea nay) g j e env bits =
     quiet_append (tested g j env bits t).nodes _ (tested_quiet g j env bits t)
     (quiet_append y.nodes _ (tail_quiet yea (under k true) (legs_at g j env bits t) e env no_bits)
     (quiet_append n.nodes _ (tail_quiet nay (under k false) (t_nay_at g j e env bits t yea) y.number env no_bits)
-    (join_quiet (tail_touched yea ++ tail_touched nay) k (t_join_at g j e env bits t yea nay) env y.env n.env
+    (join_quiet (distinct (tail_touched yea ++ tail_touched nay)) k (t_join_at g j e env bits t yea nay) env y.env n.env
     (tail_touched yea) (tail_touched nay))))
 
 pub items_inner : (is : Items) (g : Scope) (j m : ℕ) (env : Env) (bits : Bits) → FitsItems is
@@ -116,7 +116,7 @@ items_inner (If t yea nay rest) g j m env bits tk =
     inner_append (tested g j env bits t).nodes _ (tested_inner g j env bits t)
     (inner_append y.nodes _ (items_inner yea (under k true) (legs_at g j env bits t) m env no_bits tk.1)
     (inner_append n.nodes _ (items_inner nay (under k false) (nay_at g j m env bits t yea) y.number env no_bits tk.2)
-    (inner_append c.nodes _ (join_inner (touched yea ++ touched nay) k
+    (inner_append c.nodes _ (join_inner (distinct (touched yea ++ touched nay)) k
     (join_at g j m env bits t yea nay) env y.env n.env (touched yea) (touched nay))
     (items_inner rest g (rest_at g j m env bits t yea nay) n.number c.env no_bits tk.3))))
 
@@ -268,11 +268,11 @@ module _ (regs : ℕ → ℕ) (h : ℕ → Answer) (f : Computes) (st : ℕ → 
         dead = join_dead regs h f st k ja env yo.env no'.env (tail_touched yea)
             (tail_touched nay) cy cn uy un a.dead b.dead p.joined_runs;
         exits = test_exits j (tested g j env bits t).nodes yo.nodes no'.nodes c.nodes (tested_inner g j env bits t)
-            (join_inner (tail_touched yea ++ tail_touched nay) k ja env yo.env no'.env (tail_touched yea)
+            (join_inner (distinct (tail_touched yea ++ tail_touched nay)) k ja env yo.env no'.env (tail_touched yea)
             (tail_touched nay)) ∙ rw (a.exits, b.exits) refl;
         calm = calm_test (tested g j env bits t).nodes yo.nodes no'.nodes c.nodes
             (tested_calm regs h f st mem g j env bits t cl sp p.test_runs) a.calm b.calm
-            (join_calm regs h f st (tail_touched yea ++ tail_touched nay) k ja env yo.env no'.env (tail_touched yea)
+            (join_calm regs h f st (distinct (tail_touched yea ++ tail_touched nay)) k ja env yo.env no'.env (tail_touched yea)
             (tail_touched nay) cy cn sp p.joined_runs);
       }
 
@@ -434,11 +434,11 @@ module _ (regs : ℕ → ℕ) (h : ℕ → Answer) (f : Computes) (st : ℕ → 
                 (tail_touched nay) a.after cy cn ms.0 ms.1 a.live
                 (tail_untouched yea (under k true) (legs_at g j env bits t) e env no_bits) b.dead p.joined_runs;
             only = test_exits j (tested g j env bits t).nodes yo.nodes no'.nodes c.nodes (tested_inner g j env bits t)
-                (join_inner (tail_touched yea ++ tail_touched nay) k ja env yo.env no'.env (tail_touched yea)
+                (join_inner (distinct (tail_touched yea ++ tail_touched nay)) k ja env yo.env no'.env (tail_touched yea)
                 (tail_touched nay)) ∙ rw (a.only, b.exits) refl;
             calm = calm_test (tested g j env bits t).nodes yo.nodes no'.nodes c.nodes
                 (tested_calm regs h f st mem g j env bits t cl sp p.test_runs) a.calm b.calm
-                (join_calm regs h f st (tail_touched yea ++ tail_touched nay) k ja env yo.env no'.env
+                (join_calm regs h f st (distinct (tail_touched yea ++ tail_touched nay)) k ja env yo.env no'.env
                 (tail_touched yea) (tail_touched nay) cy cn sp p.joined_runs);
             means = λ m.
                 let v = value_of s.registers t in
@@ -471,11 +471,11 @@ module _ (regs : ℕ → ℕ) (h : ℕ → Answer) (f : Computes) (st : ℕ → 
                 (tail_untouched nay (under k false)
                 (t_nay_at g j e env bits t yea) yo.number env no_bits) a.dead p.joined_runs;
             only = test_exits j (tested g j env bits t).nodes yo.nodes no'.nodes c.nodes (tested_inner g j env bits t)
-                (join_inner (tail_touched yea ++ tail_touched nay) k ja env yo.env no'.env (tail_touched yea)
+                (join_inner (distinct (tail_touched yea ++ tail_touched nay)) k ja env yo.env no'.env (tail_touched yea)
                 (tail_touched nay)) ∙ rw (a.exits, b.only) refl;
             calm = calm_test (tested g j env bits t).nodes yo.nodes no'.nodes c.nodes
                 (tested_calm regs h f st mem g j env bits t cl sp p.test_runs) a.calm b.calm
-                (join_calm regs h f st (tail_touched yea ++ tail_touched nay) k ja env yo.env no'.env
+                (join_calm regs h f st (distinct (tail_touched yea ++ tail_touched nay)) k ja env yo.env no'.env
                 (tail_touched yea) (tail_touched nay) cy cn sp p.joined_runs);
             means = λ m.
                 let v = value_of s.registers t in

@@ -19,7 +19,7 @@ use Rattle.ir_forms.specs.declared.flow.FlowNode.{FlowNode}
 use Rattle.trips_isa.specs.Acts.{Act}
 use Rattle.ir_forms.specs.HyperRuns.{register_put, value_of}
 use Rattle.ir_forms.specs.FlowRuns.{Computes, first, met, act_tokens, fired}
-use Rattle.predication.specs.Environments.{Scope, Env, Bits, put, from_node, under, no_bits, note}
+use Rattle.predication.specs.Environments.{Scope, Env, Bits, put, from_node, under, no_bits, note, distinct}
 use Rattle.predication.specs.Operands.{node_of, Got, operand, second, bit_of, is_test, fresh_test, test_by}
 use Rattle.predication.specs.Operands.{tested, test_of}
 use Rattle.predication.specs.Ifs.{Out, items, touched}
@@ -434,7 +434,7 @@ module _ (regs : ℕ → ℕ) (h : ℕ → Answer) (f : Computes) (st : ℕ → 
       ≡ b → fired regs h (rest_out g j m env bits t yea nay rest).nodes ≡ c
       → fired regs h (items g j m env bits (If t yea nay rest)).nodes ≡ a ++ (b ++ c)
   if_acts g j m env bits t yea nay rest a b c ea eb ec =
-      let q2 = join_quiet (touched yea ++ touched nay) (test_at g j env bits t)
+      let q2 = join_quiet (distinct (touched yea ++ touched nay)) (test_at g j env bits t)
       (join_at g j m env bits t yea nay) env (yea_out g j m env bits t yea).env
       (nay_out g j m env bits t yea nay).env (touched yea) (touched nay) in
       fired_if regs h (tested g j env bits t).nodes (yea_out g j m env bits t yea).nodes
@@ -478,7 +478,7 @@ module _ (regs : ℕ → ℕ) (h : ℕ → Answer) (f : Computes) (st : ℕ → 
         calm = calm_if regs h f st mem (tested g j env bits t).nodes yo.nodes no'.nodes
             (joined g j m env bits t yea nay).nodes (rest_out g j m env bits t yea nay rest).nodes
             (tested_calm regs h f st mem g j env bits t cl sp p.test_runs) y.calm n.calm
-            (join_calm regs h f st (touched yea ++ touched nay) k ja env yo.env no'.env (touched yea)
+            (join_calm regs h f st (distinct (touched yea ++ touched nay)) k ja env yo.env no'.env (touched yea)
             (touched nay) cy cn sp p.joined_runs) r.calm;
         bit = r.bit;
         means = λ mt ws mm.
@@ -528,7 +528,7 @@ module _ (regs : ℕ → ℕ) (h : ℕ → Answer) (f : Computes) (st : ℕ → 
         calm = calm_if regs h f st mem (tested g j env bits t).nodes yo.nodes no'.nodes
             (joined g j m env bits t yea nay).nodes (rest_out g j m env bits t yea nay rest).nodes
             (tested_calm regs h f st mem g j env bits t cl sp p.test_runs) y.calm n.calm
-            (join_calm regs h f st (touched yea ++ touched nay) k ja env yo.env no'.env (touched yea)
+            (join_calm regs h f st (distinct (touched yea ++ touched nay)) k ja env yo.env no'.env (touched yea)
             (touched nay) cy cn sp p.joined_runs) r.calm;
         bit = r.bit;
         means = λ mt ws mm.

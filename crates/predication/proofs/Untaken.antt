@@ -14,7 +14,8 @@ use Rattle.ir_forms.specs.declared.hyper.Source.TheVariants.{Const, Reg}
 use Rattle.ir_forms.specs.declared.flow.FlowNode.{FlowNode}
 use Rattle.trips_isa.specs.Acts.{Act}
 use Rattle.ir_forms.specs.FlowRuns.{Computes, first, met, stored_where, act_tokens, fired, count}
-use Rattle.predication.specs.Environments.{Scope, Entry, Env, Bits, put, from_node, under, member, no_bits, note}
+use Rattle.predication.specs.Environments.{Scope, Entry, Env, Bits, put, from_node, under, member, no_bits}
+use Rattle.predication.specs.Environments.{note, distinct}
 use Rattle.predication.specs.Operands.{node_of, Got, operand, second, bit_of, is_test, fresh_test, test_by}
 use Rattle.predication.specs.Operands.{tested, test_of}
 use Rattle.predication.specs.Ifs.{Joined, join, Out, items, touched}
@@ -27,7 +28,7 @@ use Rattle.predication.proofs.Tables.{second_quiet, fired_append, quiet_fired, C
 use Rattle.predication.proofs.Tables.{Sparse, from_dead, sparse_put, SettledIn, Calm, calm_append}
 use Rattle.predication.proofs.Tables.{operand_calm, second_calm, Runs, runs_front, runs_back, operand_few}
 use Rattle.predication.proofs.Tables.{second_few}
-use Rattle.predication.proofs.Legs.{member_append, untouched, join_out, join_quiet, join_dead, join_calm}
+use Rattle.predication.proofs.Legs.{member_append, untouched, joins_out, join_quiet, join_dead, join_calm}
 use Rattle.predication.proofs.Memory.{Holds, holds_none}
 
 -- THE PARTS OF AN IF, BY NAME
@@ -56,7 +57,7 @@ abbrev pub joined : Scope → ℕ → ℕ → Env → Bits → Source → Items 
 joined g j m env bits t yea nay =
     join (test_at g j env bits t) (join_at g j m env bits t yea nay) env (yea_out g j m env bits t yea).env
     (nay_out g j m env bits t yea nay).env (touched yea) (touched nay)
-    (touched yea ++ touched nay)
+    (distinct (touched yea ++ touched nay))
 
 abbrev pub rest_at : Scope → ℕ → ℕ → Env → Bits → Source → Items → Items → ℕ
 rest_at g j m env bits t yea nay = join_at g j m env bits t yea nay + length (joined g j m env bits t yea nay).nodes
@@ -314,7 +315,7 @@ module _ (regs : ℕ → ℕ) (h : ℕ → Answer) where
         let jd : (q : ℕ) → member q (touched yea ++ touched nay) ≡ true → Dead regs h (je q) =
         join_dead regs h f st k ja env ye ne (touched yea) (touched nay) cy cn uy un y.dead z.dead p.joined_runs in
         let js : Sparse regs h je = sparse_after env je (touched yea ++ touched nay) sp jd
-        (join_out (touched yea ++ touched nay) k ja env ye ne (touched yea) (touched nay)) in
+        (joins_out k ja env ye ne (touched yea) (touched nay)) in
         let w = fr js in
         let xs = (tested g j env bits t).nodes in
         let a = (yea_out g j m env bits t yea).nodes in
@@ -329,10 +330,10 @@ module _ (regs : ℕ → ℕ) (h : ℕ → Answer) where
               (nay_out g j m env bits t yea nay).number je no_bits q) (jd q)
               (sym (member_append q (touched yea ++ touched nay) (touched rest)) ∙ e2);
           acts = fired_if xs a b c o (tested_quiet g j env bits t)
-              (join_quiet (touched yea ++ touched nay) k ja env ye ne (touched yea) (touched nay))
+              (join_quiet (distinct (touched yea ++ touched nay)) k ja env ye ne (touched yea) (touched nay))
               ∙ rw (y.acts, z.acts, w.acts) refl;
           calm = calm_if xs a b c o (tested_calm g j env bits t cl sp p.test_runs) y.calm z.calm
-              (join_calm regs h f st (touched yea ++ touched nay) k ja env ye ne (touched yea)
+              (join_calm regs h f st (distinct (touched yea ++ touched nay)) k ja env ye ne (touched yea)
               (touched nay) cy cn sp p.joined_runs) w.calm;
           absent = w.absent;
           memory = λ bytes l. w.memory bytes (z.memory bytes (y.memory bytes l));

@@ -69,3 +69,8 @@ note bits r b q = cond (nat_eq q r) b (bits q)
 abbrev pub member : ℕ → List ℕ → Bool
 member r [] = false
 member r (q ∷ qs) = cond (nat_eq r q) true (member r qs)
+
+-- registers, each where it stands last
+abbrev pub distinct : List ℕ → List ℕ
+distinct [] = []
+distinct (r ∷ rs) = cond (member r rs) (distinct rs) (r ∷ distinct rs)

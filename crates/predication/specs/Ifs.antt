@@ -7,7 +7,7 @@ use Rattle.ir_forms.specs.declared.flow.FlowSource.{FlowSource}
 use Rattle.ir_forms.specs.declared.flow.FlowNode.{FlowNode}
 use Rattle.ir_forms.specs.HyperCode.{Items, Done, Set, Load, Save, If}
 use Rattle.predication.specs.Environments.{Scope, Entry, Env, Bits, no_bits, under, put, note, from_node}
-use Rattle.predication.specs.Environments.{both, member}
+use Rattle.predication.specs.Environments.{both, member, distinct}
 use Rattle.predication.specs.Operands.{Chain, Got, node_of, mov_of, movs, froms, operand, second, is_test}
 use Rattle.predication.specs.Operands.{bit_of, tested}
 
@@ -92,7 +92,7 @@ items g j m env bits (If t one other rest) =
     let y : Out = items (under x.last true) i m env no_bits one in
     let n : Out = items (under x.last false) (i + length y.nodes) y.number env no_bits other in
     let c : Joined = join x.last (i + length y.nodes + length n.nodes) env y.env n.env
-    (touched one) (touched other) (touched one ++ touched other) in
+    (touched one) (touched other) (distinct (touched one ++ touched other)) in
     let o : Out = items g (i + length y.nodes + length n.nodes + length c.nodes) n.number c.env
     no_bits rest in
     record o { nodes = x.nodes ++ (y.nodes ++ (n.nodes ++ (c.nodes ++ o.nodes))) }

@@ -11,7 +11,7 @@ use Rattle.ir_forms.specs.declared.flow.FlowSource.TheVariants.{Node}
 use Rattle.ir_forms.specs.declared.flow.FlowNode.{FlowNode}
 use Rattle.ir_forms.specs.HyperCode.{Tail, Leave, Test, Block}
 use Rattle.ir_forms.specs.HyperRuns.{Layout}
-use Rattle.predication.specs.Environments.{Scope, Env, Bits, no_bits, under, put, from_node}
+use Rattle.predication.specs.Environments.{Scope, Env, Bits, no_bits, under, put, from_node, distinct}
 use Rattle.predication.specs.Operands.{Chain, Got, constant_of, mov_of, operand, tested}
 use Rattle.predication.specs.Ifs.{Joined, join}
 
@@ -107,7 +107,7 @@ tail g j e env bits (Test t one other) =
     let y : Ending = tail (under x.last true) i e env no_bits one in
     let n : Ending = tail (under x.last false) (i + length y.nodes) y.number env no_bits other in
     let c : Joined = join x.last (i + length y.nodes + length n.nodes) env y.env n.env
-    (tail_touched one) (tail_touched other) (tail_touched one ++ tail_touched other) in
+    (tail_touched one) (tail_touched other) (distinct (tail_touched one ++ tail_touched other)) in
     record {
       nodes = x.nodes ++ (y.nodes ++ (n.nodes ++ c.nodes));
       env = c.env;

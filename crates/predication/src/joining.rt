@@ -1,6 +1,7 @@
 //! The end of an if: each register that a leg sets takes its word from both legs.
 ghost use Rattle.std.specs.Prelude.{◌≡◌, ◌++◌, [], Some, length, IfOk, OnOk};
 ghost use Rattle.predication.specs.Environments as names;
+ghost use Rattle.predication.specs.Environments.{distinct};
 ghost use Rattle.predication.specs.Ifs as spec;
 ghost use Rattle.predication.specs.inside.Emits.{Adds, both_entry, both_nodes, env_of, joined_at};
 ghost use Rattle.predication.specs.inside.Emits.{leg_part, puts};
@@ -181,6 +182,21 @@ fn either(alloc: Global, yes: &[u8], no: &[u8]) -> Result<Items<u8>, Memory>
     Ok(registers)
 }
 
+// Registers, each where it stands last.
+fn each_once(alloc: Global, registers: &[u8]) -> Result<Items<u8>, Memory>
+    ensures { IfOk result (λ rs. rs ≡ distinct registers.now) }
+{
+    let mut once = Items::new(alloc);
+    let mut rest = registers;
+    while let [register, behind @ ..] = rest {
+        if !is_member(*register, behind) {
+            once.push(*register)?;
+        }
+        rest = behind;
+    }
+    Ok(once)
+}
+
 /// The end of both legs of the test of a node: what they set takes its word from both, no register
 /// has a bit, and all that they set is set.
 pub fn meet(
@@ -192,14 +208,15 @@ pub fn meet(
     no: &Names,
 ) -> Result<(), Memory>
     ensures adds { OnOk result (Adds work.old work.new (joined_at test (length work.old.nodes)
-        names.old.entries yes.now no.now (yes.now.sets ++ no.now.sets)).nodes) }
+        names.old.entries yes.now no.now (distinct (yes.now.sets ++ no.now.sets))).nodes) }
     ensures env { OnOk result (env_of names.new.entries ≡ (joined_at test (length work.old.nodes)
-        names.old.entries yes.now no.now (yes.now.sets ++ no.now.sets)).env) }
+        names.old.entries yes.now no.now (distinct (yes.now.sets ++ no.now.sets))).env) }
     ensures bits { OnOk result (names.new.bits ≡ []) }
     ensures sets { OnOk result (names.new.sets
         ≡ names.old.sets ++ (yes.now.sets ++ no.now.sets)) }
 {
     let registers = either(alloc, yes.sets.as_slice(), no.sets.as_slice())?;
+    let once = each_once(alloc, registers.as_slice())?;
     let named = join(
         alloc,
         work,
@@ -207,7 +224,7 @@ pub fn meet(
         names.entries.as_slice(),
         yes,
         no,
-        registers.as_slice(),
+        once.as_slice(),
     )?;
     put_all(&mut names.entries, named)?;
     names.bits = Items::new(alloc);

@@ -1,10 +1,10 @@
 //! The writes, the reads and the mask of a flow block.
-ghost use Rattle.std.specs.Prelude.{◌≡◌, ◌++◌, ◌∷◌, ◌||◌, ℕ, List, ◌<◌, ◌≤◌, ◌+◌, ◌^◌, cond, IfOk, OnOk};
+ghost use Rattle.std.specs.Prelude.{◌≡◌, ◌++◌, ◌∷◌, ◌||◌, [], ◌<◌, ◌≤◌, ◌+◌, ◌^◌, cond, nat_eq, IfOk, OnOk};
 ghost use Rattle.trips_isa.specs.Forms as forms;
-ghost use Rattle.ir_forms.specs.declared.flow.FlowSource.{FlowSource as Sources};
 ghost use Rattle.predication.specs.Converted as spec;
 ghost use Rattle.predication.specs.inside.Emits.{env_of};
-ghost use Rattle.predication.specs.inside.Made.{flow_of, mask_of, read_of, reads_of, write_of};
+ghost use Rattle.predication.specs.inside.Made as made;
+ghost use Rattle.predication.specs.inside.Made.{Notes, flow_of, mask_of, member_of, reads_of, write_of};
 ghost use Rattle.predication.specs.inside.Made.{writes_of};
 
 use crate::joining::is_member;
@@ -60,75 +60,82 @@ fn writes(alloc: Global, names: &Names) -> Result<Items<FlowWrite>, Memory>
 
 // READS
 
-fn is_read(source: FlowSource, register: u8) -> bool
-    ensures { (rest : List Sources) → spec.reads_in (source ∷ rest) register
-        ≡ (result || spec.reads_in rest register) }
+// A register is found.
+fn note(register: u8, found: &mut Items<u8>) -> Result<(), Memory>
+    ensures { OnOk result (Notes found.old found.new (λ r. nat_eq register r)) }
+{
+    if is_member(register, found.as_slice()) {
+        return Ok(());
+    }
+    found.push(register)?;
+    Ok(())
+}
+
+fn note_source(source: FlowSource, found: &mut Items<u8>) -> Result<(), Memory>
+    ensures { OnOk result (Notes found.old found.new (λ r. spec.reads_in (source ∷ []) r)) }
 {
     match source {
-        FlowSource::Read(other) => other == register,
-        FlowSource::Node(_) => false,
+        FlowSource::Read(register) => note(register, found),
+        FlowSource::Node(_) => Ok(()),
     }
 }
 
-fn reads_in(sources: &[FlowSource], register: u8) -> bool
-    ensures { result ≡ spec.reads_in sources.now register }
+fn note_sources(sources: &[FlowSource], found: &mut Items<u8>) -> Result<(), Memory>
+    ensures { OnOk result (Notes found.old found.new (λ r. spec.reads_in sources.now r)) }
 {
     match sources {
-        [] => false,
-        [source, rest @ ..] => is_read(*source, register) || reads_in(rest, register),
+        [] => Ok(()),
+        [source, rest @ ..] => {
+            note_source(*source, found)?;
+            note_sources(rest, found)
+        }
     }
 }
 
-fn nodes_read(nodes: &[FlowNode], register: u8) -> bool
-    ensures { result ≡ spec.nodes_read nodes.now register }
+// Of at most 128 nodes.
+fn note_nodes(nodes: &[FlowNode], found: &mut Items<u8>) -> Result<(), Memory>
+    ensures { OnOk result (Notes found.old found.new (λ r. spec.nodes_read nodes.now r)) }
 {
     match nodes {
-        [] => false,
+        [] => Ok(()),
         [node, rest @ ..] => {
-            reads_in(node.left.as_slice(), register)
-                || (reads_in(node.right.as_slice(), register) || nodes_read(rest, register))
+            note_sources(node.left.as_slice(), found)?;
+            note_sources(node.right.as_slice(), found)?;
+            note_nodes(rest, found)
         }
     }
 }
 
-fn writes_read(writes: &[FlowWrite], register: u8) -> bool
-    ensures { result ≡ spec.writes_read writes.now register }
+fn note_writes(writes: &[FlowWrite], found: &mut Items<u8>) -> Result<(), Memory>
+    ensures { OnOk result (Notes found.old found.new (λ r. spec.writes_read writes.now r)) }
 {
     match writes {
-        [] => false,
+        [] => Ok(()),
         [write, rest @ ..] => {
-            reads_in(write.sources.as_slice(), register) || writes_read(rest, register)
+            note_sources(write.sources.as_slice(), found)?;
+            note_writes(rest, found)
         }
     }
 }
 
-fn push_read(
-    nodes: &[FlowNode],
-    writes: &[FlowWrite],
-    register: u8,
-    to: &mut Items<u8>,
-) -> Result<(), Memory>
-    ensures { OnOk result (to.new ≡ to.old ++ read_of nodes.now writes.now register) }
+fn push_member(found: &[u8], register: u8, to: &mut Items<u8>) -> Result<(), Memory>
+    ensures { OnOk result (to.new ≡ to.old ++ member_of found.now register) }
 {
-    if nodes_read(nodes, register) || writes_read(writes, register) {
+    if is_member(register, found) {
         to.push(register)?;
     }
     Ok(())
 }
 
-fn reads_below(
-    alloc: Global,
-    nodes: &[FlowNode],
-    writes: &[FlowWrite],
-    count: u8,
-) -> Result<Items<u8>, Memory>
-    ensures { IfOk result (λ rs. rs ≡ spec.reads_below nodes.now writes.now count) }
+// The registers below a number that are found.
+fn members_below(alloc: Global, found: &[u8], count: u8) -> Result<Items<u8>, Memory>
+    ensures { IfOk result (λ rs. rs ≡ made.members_below found.now count) }
 {
     let mut reads = Items::new(alloc);
     let mut register = count;
     while register > 0 {
         register -= 1;
-        push_read(nodes, writes, register, &mut reads)?;
+        push_member(found, register, &mut reads)?;
     }
     Ok(reads)
 }
@@ -137,26 +144,34 @@ fn reads_below(
 fn reads(alloc: Global, nodes: &[FlowNode], writes: &[FlowWrite]) -> Result<Items<u8>, Memory>
     ensures { IfOk result (λ rs. rs ≡ reads_of nodes.now writes.now) }
 {
-    reads_below(alloc, nodes, writes, 128)
+    let mut found = Items::new(alloc);
+    note_nodes(nodes, &mut found)?;
+    note_writes(writes, &mut found)?;
+    members_below(alloc, found.as_slice(), 128)
 }
 
 // THE MASK
 
-fn stores_as(node: &FlowNode, number: u8) -> bool
-    ensures { result ≡ spec.stores_as (forms.form_of node.now.op) node.now number }
+fn note_store(node: &FlowNode, found: &mut Items<u8>) -> Result<(), Memory>
+    ensures { OnOk result (Notes found.old found.new
+        (λ k. spec.stores_as (forms.form_of node.now.op) node.now k)) }
 {
     match form_of(node.op) {
-        Form::Store => node.number == number,
-        _ => false,
+        Form::Store => note(node.number, found),
+        _ => Ok(()),
     }
 }
 
-fn has_store(nodes: &[FlowNode], number: u8) -> bool
-    ensures { result ≡ spec.has_store nodes.now number }
+// The numbers of stores are found. Of at most 128 nodes.
+fn note_stores(nodes: &[FlowNode], found: &mut Items<u8>) -> Result<(), Memory>
+    ensures { OnOk result (Notes found.old found.new (λ k. spec.has_store nodes.now k)) }
 {
     match nodes {
-        [] => false,
-        [node, rest @ ..] => stores_as(node, number) || has_store(rest, number),
+        [] => Ok(()),
+        [node, rest @ ..] => {
+            note_store(node, found)?;
+            note_stores(rest, found)
+        }
     }
 }
 
@@ -173,22 +188,25 @@ fn with_bit(mask: u64, number: u8, is_stored: bool) -> u64
     }
 }
 
-fn mask_below(nodes: &[FlowNode], count: u8) -> u64
+// The bits of the numbers below one that are found.
+fn mask_below(found: &[u8], count: u8) -> u64
     requires { count ≤ 32 }
-    ensures { result ≡ spec.mask_below nodes.now count }
+    ensures { result ≡ made.mask_members found.now count }
 {
     let mut mask = 0;
     for number in 0..count {
-        mask = with_bit(mask, number, has_store(nodes, number));
+        mask = with_bit(mask, number, is_member(number, found));
     }
     mask
 }
 
 // The numbers that stores have.
-fn mask(nodes: &[FlowNode]) -> u32
-    ensures { result ≡ mask_of nodes.now }
+fn mask(alloc: Global, nodes: &[FlowNode]) -> Result<u32, Memory>
+    ensures { IfOk result (λ m. m ≡ mask_of nodes.now) }
 {
-    mask_below(nodes, 32) as u32
+    let mut found = Items::new(alloc);
+    note_stores(nodes, &mut found)?;
+    Ok(mask_below(found.as_slice(), 32) as u32)
 }
 
 // THE BLOCK
@@ -200,7 +218,7 @@ pub fn flow(alloc: Global, nodes: Items<FlowNode>, names: &Names) -> Result<Flow
 {
     let writes = writes(alloc, names)?;
     let reads = reads(alloc, nodes.as_slice(), writes.as_slice())?;
-    let mask = mask(nodes.as_slice());
+    let mask = mask(alloc, nodes.as_slice())?;
     Ok(FlowBlock {
         nodes,
         reads,

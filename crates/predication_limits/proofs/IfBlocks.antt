@@ -11,7 +11,7 @@ use Rattle.ir_forms.specs.declared.flow.FlowWrite.{FlowWrite}
 use Rattle.ir_forms.specs.FlowFits.{in_mask}
 use Rattle.ir_forms.specs.HyperCode.{Items, Block}
 use Rattle.ir_forms.specs.HyperFits.{FitsItems}
-use Rattle.predication.specs.Environments.{no_bits, at_start, under}
+use Rattle.predication.specs.Environments.{no_bits, at_start, under, distinct}
 use Rattle.predication.specs.Operands.{Chain, tested}
 use Rattle.predication.specs.Ifs.{Out, Joined, items, join, touched}
 use Rattle.predication.specs.Tails.{exit_touched}
@@ -99,7 +99,7 @@ module _ (P : ℕ → Type 0) (t : Source) (one other : Items) (out : Exit) (fir
 
   abbrev c : Joined
   c = join x.last (i + length y.nodes + length n.nodes) at_start y.env n.env (touched one) (touched other)
-      (touched one ++ touched other)
+      (distinct (touched one ++ touched other))
 
   -- the nodes of the exit
   abbrev e : List FlowNode
@@ -107,7 +107,7 @@ module _ (P : ℕ → Type 0) (t : Source) (one other : Items) (out : Exit) (fir
 
   no_join : c.nodes ≡ []
   no_join =
-      join_none x.last y.env n.env (touched one) (touched other) (touched one ++ touched other)
+      join_none x.last y.env n.env (touched one) (touched other) (distinct (touched one ++ touched other))
       (i + length y.nodes + length n.nodes)
 
   nodes_are : ns ≡ x.nodes ++ (y.nodes ++ (n.nodes ++ e))
@@ -146,7 +146,7 @@ module _ (P : ℕ → Type 0) (t : Source) (one other : Items) (out : Exit) (fir
       join_merged ns (length (begun b).nodes) x.last y.env n.env (touched one) (touched other)
       (leg_side ns (under x.last true) one i 0 first first_at (length (begun b).nodes) (omega (arith, size)))
       (leg_side ns (under x.last false) other (i + length y.nodes) y.number second second_at
-      (length (begun b).nodes) (omega (arith, size))) (touched one ++ touched other)
+      (length (begun b).nodes) (omega (arith, size))) (distinct (touched one ++ touched other))
       (i + length y.nodes + length n.nodes)
 
   before_exit : x.last < length (begun b).nodes
@@ -200,7 +200,7 @@ module _ (P : ℕ → Type 0) (t : Source) (one other : Items) (out : Exit) (fir
   scant : (q : ℕ) → IsScant 2 (c.env q)
   scant =
       join_scant x.last y.env n.env (touched one) (touched other) (leg_scant (under x.last true) one i 0 first)
-      (leg_scant (under x.last false) other (i + length y.nodes) y.number second) (touched one ++ touched other)
+      (leg_scant (under x.last false) other (i + length y.nodes) y.number second) (distinct (touched one ++ touched other))
       (i + length y.nodes + length n.nodes)
 
   pub slight : EachWrite IsSlight (predicated b).writes

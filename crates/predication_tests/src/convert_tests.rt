@@ -122,6 +122,38 @@ mask 0
     )
 }
 
+// A register that a leg sets twice is joined once.
+#[test]
+fn joins_a_register_once(rt: HostRuntime) -> Result<(), Fail> {
+    let alloc = rt.alloc();
+    let mut items = Items::new(alloc);
+    items.push(set(5, Op::Add, reg(3), reg(4)))?;
+    let mut yes = Items::new(alloc);
+    yes.push(set(5, Op::Sub, reg(5), reg(4)))?;
+    yes.push(set(5, Op::Add, reg(5), reg(3)))?;
+    items.push(HyperItem::If {
+        test: reg(1),
+        yes,
+        no: Items::new(alloc),
+    })?;
+    assert_shown(
+        &rt,
+        alloc,
+        "set twice",
+        &going_on(items),
+        "Add 0 #0 [ r3 ] [ r4 ]
+Tnei 0 #0 [ r1 ] [ ]
+Sub 0 #0 [ n0 ] [ r4 ] if n1 true
+Add 0 #0 [ n2 ] [ r3 ] if n1 true
+Mov 0 #0 [ n0 ] [ ] if n1 false
+Bro 7 #0 [ ] [ ]
+read r4 r3 r1
+write r5 [ n3 n4 ]
+mask 0
+",
+    )
+}
+
 /// A register that is a bit, an if by it, and an if inside its second leg, in whose legs a register
 /// is set and a word stored.
 fn nested(alloc: Global) -> Result<HyperBlock, Fail> {

@@ -1,75 +1,107 @@
-//! A block with too much of each part: the part, and its count.
+//! Blocks with as much of a part as a block may have, which are taken, and with one more, which are refused for that part
+//! and its count; and that of two parts that are above their limits the first is said.
 
 use crate::making::{fork, going_on, reg, save, set};
 use base::Items;
-use ir_forms::{Exit, FlowFault, HyperBlock, Part, Tail};
+use ir_forms::{Exit, FlowFault, HyperBlock, HyperItem, Part, Tail};
 use predication::{convert, labels_fit};
 use std::alloc::Global;
 use std::process::Abort;
 use std::test::Fail;
 use trips_isa::Op;
 
+// One more of a part: a register that is read or written, a store, or an instruction.
+fn item_of(part: Part, i: u8) -> HyperItem {
+    match part {
+        Part::Reads => set(100, Op::Mov, reg(i), reg(i)),
+        Part::Writes => set(i, Op::Mov, reg(3), reg(3)),
+        Part::Numbers => save(3, 4),
+        Part::Insts | Part::Exits => set(5, Op::Mov, reg(3), reg(3)),
+    }
+}
+
+fn items_of(alloc: Global, part: Part, count: u8) -> Result<Items<HyperItem>, Fail> {
+    let mut items = Items::new(alloc);
+    for i in 0..count {
+        items.push(item_of(part, i))?;
+    }
+    Ok(items)
+}
+
+// Exits one after another, each by a test but the last.
+fn exits(alloc: Global, count: u8) -> Result<HyperBlock, Fail> {
+    let mut tail = Tail::Leave(Exit::Jump(7));
+    for _i in 1..count {
+        tail = fork(alloc, reg(3), Exit::Return, tail)?;
+    }
+    Ok(HyperBlock {
+        items: Items::new(alloc),
+        tail,
+    })
+}
+
+/// A block with so much of a part. The last of its instructions is its exit.
+fn block_with(alloc: Global, part: Part, count: u8) -> Result<HyperBlock, Fail> {
+    match part {
+        Part::Exits => exits(alloc, count),
+        Part::Insts => Ok(going_on(items_of(alloc, part, count.saturating_sub(1))?)),
+        _ => Ok(going_on(items_of(alloc, part, count)?)),
+    }
+}
+
 /// That a block is refused for a part.
-fn assert_too_big(rt: &impl Abort, alloc: Global, block: &HyperBlock, part: Part, count: usize) {
+fn assert_too_big(rt: &impl Abort, alloc: Global, block: &HyperBlock, part: Part, count: u8) {
     assert!(rt; labels_fit(&block.tail), "{part:?}: labels");
     match convert(alloc, block) {
-        Ok(_) => assert!(rt; false, "{part:?}: it is taken"),
-        Err(fault) => assert_eq!(rt; fault, FlowFault::TooBig(part, count)),
+        Ok(_) => assert!(rt; false, "{part:?}: {count} are taken"),
+        Err(fault) => assert_eq!(rt; fault, FlowFault::TooBig(part, usize::from(count))),
     }
 }
 
-#[test]
-fn refuses_too_many_instructions(rt: HostRuntime) -> Result<(), Fail> {
-    let alloc = rt.alloc();
-    let mut items = Items::new(alloc);
-    for _i in 0..130 {
-        items.push(set(5, Op::Mov, reg(3), reg(3)))?;
+fn assert_taken(rt: &impl Abort, alloc: Global, block: &HyperBlock, part: Part, count: u8) {
+    assert!(rt; labels_fit(&block.tail), "{part:?}: labels");
+    assert!(rt;
+        convert(alloc, block).is_ok(),
+        "{part:?}: {count} are refused"
+    );
+}
+
+// A part, and the most that a block has of it.
+type Row = (Part, u8);
+
+const ROWS: &[Row] = &[
+    (Part::Insts, 128),
+    (Part::Reads, 32),
+    (Part::Writes, 32),
+    (Part::Numbers, 32),
+    (Part::Exits, 8),
+];
+
+fn assert_rows(rt: &impl Abort, alloc: Global, rows: &[Row]) -> Result<(), Fail> {
+    for (part, most) in rows {
+        let block = block_with(alloc, *part, *most)?;
+        assert_taken(rt, alloc, &block, *part, *most);
+        let more = most.saturating_add(1);
+        let block = block_with(alloc, *part, more)?;
+        assert_too_big(rt, alloc, &block, *part, more);
     }
-    assert_too_big(&rt, alloc, &going_on(items), Part::Insts, 131);
     Ok(())
 }
 
 #[test]
-fn refuses_too_many_reads(rt: HostRuntime) -> Result<(), Fail> {
-    let alloc = rt.alloc();
-    let mut items = Items::new(alloc);
-    for i in 0u8..17 {
-        items.push(set(100, Op::Add, reg(i), reg(i + 50)))?;
-    }
-    assert_too_big(&rt, alloc, &going_on(items), Part::Reads, 34);
-    Ok(())
+fn limits_are_exact(rt: HostRuntime) -> Result<(), Fail> {
+    assert_rows(&rt, rt.alloc(), ROWS)
 }
 
+// 33 reads and as many writes and stores: the reads are said.
 #[test]
-fn refuses_too_many_writes(rt: HostRuntime) -> Result<(), Fail> {
+fn the_first_part_is_said(rt: HostRuntime) -> Result<(), Fail> {
     let alloc = rt.alloc();
     let mut items = Items::new(alloc);
     for i in 0u8..33 {
-        items.push(set(i + 10, Op::Mov, reg(3), reg(3)))?;
+        items.push(set(i + 50, Op::Mov, reg(i), reg(i)))?;
+        items.push(save(i, i))?;
     }
-    assert_too_big(&rt, alloc, &going_on(items), Part::Writes, 33);
-    Ok(())
-}
-
-#[test]
-fn refuses_too_many_numbers(rt: HostRuntime) -> Result<(), Fail> {
-    let alloc = rt.alloc();
-    let mut items = Items::new(alloc);
-    for _i in 0..33 {
-        items.push(save(3, 4))?;
-    }
-    assert_too_big(&rt, alloc, &going_on(items), Part::Numbers, 33);
-    Ok(())
-}
-
-#[test]
-fn refuses_too_many_exits(rt: HostRuntime) -> Result<(), Fail> {
-    let alloc = rt.alloc();
-    let mut tail = Tail::Leave(Exit::Jump(7));
-    for _i in 0..8 {
-        tail = fork(alloc, reg(3), Exit::Return, tail)?;
-    }
-    let items = Items::new(alloc);
-    assert_too_big(&rt, alloc, &HyperBlock { items, tail }, Part::Exits, 9);
+    assert_too_big(&rt, alloc, &going_on(items), Part::Reads, 33);
     Ok(())
 }

@@ -1,5 +1,5 @@
 -- The parts of a flow block, from its nodes and from what registers are named at its end.
-use Rattle.std.specs.Prelude.{◌≡◌, ℕ, Bool, true, false, ◌||◌, cond, List, [], ◌∷◌, length, map}
+use Rattle.std.specs.Prelude.{◌≡◌, ℕ, zero, suc, ◌+◌, ◌^◌, Bool, true, false, ◌||◌, cond, List, [], ◌∷◌, length, map}
 use Rattle.ir_forms.specs.declared.flow.FlowSource.{FlowSource}
 use Rattle.ir_forms.specs.declared.flow.FlowSource.TheVariants.{Read, Node}
 use Rattle.ir_forms.specs.declared.flow.FlowNode.{FlowNode}
@@ -10,7 +10,7 @@ use Rattle.ir_forms.specs.HyperFits.{exits_in}
 use Rattle.predication.specs.declared.work.Emitted.{Emitted}
 use Rattle.predication.specs.Environments.{Env, member}
 use Rattle.predication.specs.Converted.{register_count, number_count, begun, ended, all_nodes, all_touched}
-use Rattle.predication.specs.Converted.{writes_below, nodes_read, writes_read, reads_below, mask_below}
+use Rattle.predication.specs.Converted.{writes_below, reads_below, mask_below}
 use Rattle.predication.specs.Outcomes.{Counts}
 use Rattle.predication.specs.inside.Emits.{low, env_of}
 
@@ -20,9 +20,26 @@ use Rattle.predication.specs.inside.Emits.{low, env_of}
 abbrev pub write_of : Env → List ℕ → ℕ → List FlowWrite
 write_of env rs r = cond (member r rs) (record { register = r; sources = (env r).given } ∷ []) []
 
--- one register, where some source reads it
-abbrev pub read_of : List FlowNode → List FlowWrite → ℕ → List ℕ
-read_of ns ws r = cond (nodes_read ns r || writes_read ws r) (r ∷ []) []
+-- REGISTERS AND NUMBERS THAT ARE FOUND
+
+-- the registers that are found afterwards are those before and those of which f is true
+abbrev pub Notes : (before after : List ℕ) → (ℕ → Bool) → Type 0
+Notes before after f = (r : ℕ) (b : Bool) → (member r after || b) ≡ (member r before || (f r || b))
+
+-- one register, where it is found
+abbrev pub member_of : List ℕ → ℕ → List ℕ
+member_of found r = cond (member r found) (r ∷ []) []
+
+-- the registers below n that are found
+abbrev pub members_below : List ℕ → ℕ → List ℕ
+members_below found zero = []
+members_below found (suc n) =
+    cond (member n found) (n ∷ members_below found n) (members_below found n)
+
+-- the bits of the numbers below n that are found
+abbrev pub mask_members : List ℕ → ℕ → ℕ
+mask_members found zero = 0
+mask_members found (suc k) = mask_members found k + cond (member k found) (2 ^ k) 0
 
 -- ALL OF THEM
 

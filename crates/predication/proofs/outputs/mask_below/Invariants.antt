@@ -1,6 +1,6 @@
 use Rattle.std.proofs.Common.{◌≡◌}
-use Rattle.predication.specs.Converted as spec
+use Rattle.predication.specs.inside.Made.{mask_members}
 use Rattle.predication.proofs.outputs.mask_below.Given as goal
 
 abbrev pub invariant-loop-number : goal.invariant-loop-number
-invariant-loop-number l = l.mask ≡ spec.mask_below l.nodes l.number
+invariant-loop-number l = l.mask ≡ mask_members l.found l.number
