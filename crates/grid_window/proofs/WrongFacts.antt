@@ -21,7 +21,8 @@ use Rattle.commit_flush.proofs.StoreFacts.{finds_same, narrowed_same}
 use Rattle.grid_cycle_spec.specs.Choosing.{least}
 use Rattle.grid_cycle_spec.specs.DataTiles.{load_in, stored_by, wrong_behind, wrong_from, wrong_load}
 use Rattle.grid_stations.proofs.LeastFacts.{NoneBelow, found_at, found_none, numbers_are}
-use Rattle.grid_window.proofs.OlderFacts.{drop_here, drop_past}
+use Rattle.commit_flush.specs.Lent.{IsLent}
+use Rattle.grid_window.proofs.OlderFacts.{drop_here, drop_past, lent_at}
 
 -- younger frames ---------------------------------------------------------------------------------
 
@@ -192,3 +193,25 @@ wrong_told h b sealed k s o fs x store found is =
     is
     ∙ ap (λ z. load_in (as_frame sealed b h) z (wrong_behind (nearest (at (set h.stores k s)) k numbers) fs)) found
     ∙ ap (λ z. wrong_from k (with_store k z 0 (as_frame sealed b h)) fs) store
+
+-- what a search says of rows that are those of a frame
+pub finds_in : (stores rows : List (Option Stored)) (loads taken : List (Option Taken)) (touched : ℕ → Bool) (from : ℕ)
+    (o : Option ℕ) → rows ≡ stores → taken ≡ loads → Finds (at rows) taken touched from o
+    → Finds (at stores) loads touched from o
+finds_in stores rows loads taken touched from o e w h =
+    subst (λ xs. Finds (at stores) xs touched from o) w (subst (λ xs. Finds (at xs) taken touched from o) e h)
+
+-- what is found in the frame of an age, by what is lent of it
+module _ (fs : List Frame) (a : ℕ) (h : Held) (b : Block) (l : IsLent h b (slice_get fs a)) (touched : ℕ → Bool)
+    (o : Option ℕ) (f : Frame) (e : slice_get fs a ≡ Some f) where
+  pub told_here : Finds (at h.stores) h.loads touched 0 o → (x : Option (ℕ × ℕ))
+      → x ≡ load_in (as_frame l.0 b h) o None
+      → x ≡ load_in f (least (is_passed (at f.stores) f.loads touched) numbers 0) None
+  told_here finds x is =
+      is ∙ ap (λ z. load_in (as_frame l.0 b h) z None) (least_passed (at h.stores) h.loads touched o finds)
+      ∙ ap (λ (g : Frame). load_in g (least (is_passed (at g.stores) g.loads touched) numbers 0) None)
+      (lent_at fs a h b l f e)
+
+  pub told_left : (z : ℕ) (left : Bool) → left ≡ passes (at h.stores) numbers touched z
+      → left ≡ passes (at f.stores) numbers touched z
+  told_left z left is = is ∙ ap (λ (g : Frame). passes (at g.stores) numbers touched z) (lent_at fs a h b l f e)

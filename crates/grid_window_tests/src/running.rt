@@ -14,12 +14,26 @@ use std::process::Abort;
 use std::test::Fail;
 use trips_isa::{Counts, Stepped};
 
-/// What a run comes to: whether and how it ended, register 3, and what was counted.
+/// What a run comes to: whether and how it has ended, register 3, and what was counted.
 #[derive(Clone, Copy, Debug, PartialEq, Eq)]
 pub struct Came {
     pub over: Stepped,
     pub result: u64,
     pub counts: Counts,
+}
+
+/// A run that has ended with a result after so many cycles, in which these frames were fetched, committed and flushed.
+pub const fn ended(result: u64, cycles: u64, fetched: u64, committed: u64, flushed: u64) -> Came {
+    Came {
+        over: Stepped::Ended,
+        result,
+        counts: Counts {
+            cycles,
+            fetched,
+            committed,
+            flushed,
+        },
+    }
 }
 
 /// A text, the seed of its predictor, and what it comes to in calm weather and in the worst.
@@ -49,21 +63,24 @@ fn driven<W: Weather>(grid: &mut Grid<GridWindow, W>, most: u32) -> Came
 fn came<W: Weather + Copy>(alloc: Global, row: &Row, weather: W) -> Result<Came, Fail> {
     let mut grid = grid(alloc, row.text, row.seed, weather, 1000)?;
     let came = driven(&mut grid, 100_000);
-    let Grid { window: _, state: _ } = grid;
+    let Grid {
+        window: _window,
+        state: _state,
+    } = grid;
     Ok(came)
 }
 
-/// A row comes to what it says.
-pub fn assert_row(rt: HostRuntime, alloc: Global, row: &Row) -> Result<(), Fail> {
+// A row comes to what it says.
+fn assert_row(rt: &impl Abort, alloc: Global, row: &Row) -> Result<(), Fail> {
     let calm = came(alloc, row, Calm)?;
-    assert!(&rt; calm == row.calm, "{}: calm {calm:?}", row.name);
+    assert!(rt; calm == row.calm, "{}: calm {calm:?}", row.name);
     let worst = came(alloc, row, Worst)?;
-    assert!(&rt; worst == row.worst, "{}: worst {worst:?}", row.name);
+    assert!(rt; worst == row.worst, "{}: worst {worst:?}", row.name);
     Ok(())
 }
 
-/// So do some rows.
-pub fn assert_rows(rt: HostRuntime, alloc: Global, rows: &[Row]) -> Result<(), Fail> {
+/// Some rows come to what they say.
+pub fn assert_rows(rt: &impl Abort, alloc: Global, rows: &[Row]) -> Result<(), Fail> {
     for row in rows {
         assert_row(rt, alloc, row)?;
     }

@@ -5,4 +5,4 @@ use Rattle.grid_window.proofs.wrong.wrong_on.Given as goal
 
 abbrev pub invariant-loop-age : goal.invariant-loop-age
 invariant-loop-age l = wrong_behind (reached l.reach) (drop l.age l.window.window.frames)
-    ≡ wrong_behind (reached l.fn.reach) (drop l.from l.window.window.frames)
+    ≡ wrong_behind (reached l.initial.reach) (drop l.from l.window.window.frames)
