@@ -53,11 +53,20 @@ fn begun<W: Copy>(
     Ok(Grid { window, state })
 }
 
-/// The grid of a text at its start, with the predictor of a seed.
+// A predictor whose entries all name this exit.
+fn predictor(alloc: Global, exit: u8) -> Result<Predictor, Fail> {
+    let entries = vec![in alloc; exit; 1024]?;
+    match Predictor::wrong(alloc, entries) {
+        Ok(predictor) => Ok(predictor),
+        Err(memory) => Err(Fail::from(memory)),
+    }
+}
+
+/// The grid of a text at its start, whose predictor names this exit for every block.
 pub fn grid<W: Copy>(
     alloc: Global,
     text: &str,
-    seed: u64,
+    exit: u8,
     weather: W,
     budget: u32,
 ) -> Result<Grid<GridWindow, W>, Fail>
@@ -65,12 +74,9 @@ pub fn grid<W: Copy>(
     ensures cycles { IfOk result (λ g. g.state.counts.cycles ≡ 0) }
 {
     let image = checked(alloc, text)?;
-    let predictor = match Predictor::make(alloc, seed) {
-        Ok(predictor) => predictor,
-        Err(_) => return Err(Fail::from(AllocError)),
-    };
+    let predictor = predictor(alloc, exit)?;
     match begun(alloc, image, predictor, weather, budget) {
         Ok(grid) => Ok(grid),
-        Err(_) => Err(Fail::from(AllocError)),
+        Err(memory) => Err(Fail::from(memory)),
     }
 }

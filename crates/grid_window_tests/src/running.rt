@@ -36,12 +36,12 @@ pub const fn ended(result: u64, cycles: u64, fetched: u64, committed: u64, flush
     }
 }
 
-/// A text, the seed of its predictor, and what it comes to in calm weather and in the worst.
+/// A text, the exit that its predictor names for every block, and what it comes to in calm weather and in the worst.
 #[derive(Clone, Copy)]
 pub struct Row {
     pub name: &'static str,
     pub text: &'static str,
-    pub seed: u64,
+    pub exit: u8,
     pub calm: Came,
     pub worst: Came,
 }
@@ -61,7 +61,7 @@ fn driven<W: Weather>(grid: &mut Grid<GridWindow, W>, most: u32) -> Came
 
 // What a text comes to in some weather.
 fn came<W: Weather + Copy>(alloc: Global, row: &Row, weather: W) -> Result<Came, Fail> {
-    let mut grid = grid(alloc, row.text, row.seed, weather, 1000)?;
+    let mut grid = grid(alloc, row.text, row.exit, weather, 1000)?;
     let came = driven(&mut grid, 100_000);
     let Grid {
         window: _window,
