@@ -12,7 +12,7 @@ ghost use Rattle.lsq_order.specs.Reached.{reached};
 use commit_flush::Window;
 use frame_state::Body;
 use lsq_order::Reach;
-use trips_isa::{Block, Inst, Stored};
+use trips_isa::{Inst, Stored};
 
 // A load of a block.
 fn load_of(held: &Body, load: Option<u8>) -> Option<(u32, u8)>
