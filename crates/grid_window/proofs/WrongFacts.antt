@@ -14,7 +14,8 @@ use Rattle.commit_flush_spec.proofs.Lists.{other_at, set_here}
 use Rattle.frame_state.specs.Held.{Held, as_frame, running}
 use Rattle.lsq_order.specs.Reached.{FitsReach, narrowed}
 use Rattle.lsq_order.specs.Wrong.{Finds, is_wrong}
-use Rattle.lsq_order.proofs.WrongFacts.{near_low, numbers_are, own_at, own_left, passes_is, took_none}
+use Rattle.lsq_order.proofs.WrongFacts.{numbers_are, own_left}
+use Rattle.grid_window.proofs.NearFacts.{near_low, own_at, passes_is, took_none}
 use Rattle.commit_flush_order.specs.Places.{age_of, later}
 use Rattle.commit_flush.proofs.LoadFacts.{fits_reach}
 use Rattle.commit_flush.proofs.StoreFacts.{finds_same, narrowed_same}

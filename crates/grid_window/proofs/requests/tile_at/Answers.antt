@@ -16,4 +16,4 @@ pub returns-in-Some-in-Some-clause-value : goal.returns-in-Some-in-Some-clause-v
 returns-in-Some-in-Some-clause-value c = λ f i e w.
     tile_told c.args.frame c.args.window.now.window.frames c.in-Some.held.now c.in-Some.block.now
     c.in-Some.ensures.value f e c.args.slot _ c.in-Some-in-Some.inst i (sym c.in-Some-in-Some.ensures)
-    (c.tile_by.ensures.value ∙ ap (tile_by c.in-Some-in-Some.inst) c.spot.ensures.value) w
+    (c.tile_by.ensures.value ∙ ap (tile_by c.in-Some-in-Some.inst) c.left_of.ensures) w
