@@ -80,7 +80,7 @@ N[1] addi 2 W[1]
 N[2] scall 0
 ";
 
-const ROWS: [Row; 4] = [
+const ROWS: [Row; 5] = [
     Row {
         name: "a store that an answered load of a younger frame should have seen",
         text: LATE_STORE,
@@ -136,6 +136,25 @@ const ROWS: [Row; 4] = [
             fetched: 3,
             committed: 2,
             flushed: 1,
+        },
+    },
+    Row {
+        name: "a fetch that was predicted right",
+        text: GIVEN_UP,
+        exit: 1,
+        calm: Came {
+            answer: 2,
+            cycles: 22,
+            fetched: 2,
+            committed: 2,
+            flushed: 0,
+        },
+        worst: Came {
+            answer: 2,
+            cycles: 26,
+            fetched: 2,
+            committed: 2,
+            flushed: 0,
         },
     },
     Row {
