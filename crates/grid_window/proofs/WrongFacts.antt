@@ -224,3 +224,8 @@ module _ (fs : List Frame) (a : ℕ) (h : Held) (b : Block) (l : IsLent h b (sli
   pub told_left : (z : ℕ) (left : Bool) → left ≡ passes (at h.stores) numbers touched z
       → left ≡ passes (at f.stores) numbers touched z
   told_left z left is = is ∙ ap (λ (g : Frame). passes (at g.stores) numbers touched z) (lent_at fs a h b l f e)
+
+-- what a search leaves, of rows that are those of a frame
+pub narrowed_in : (stores rows : List (Option Stored)) (from : ℕ) (touched : ℕ → Bool) (a : ℕ) → rows ≡ stores
+    → narrowed (at rows) from numbers touched a ≡ narrowed (at stores) from numbers touched a
+narrowed_in stores rows from touched a e = ap (λ xs. narrowed (at xs) from numbers touched a) e
