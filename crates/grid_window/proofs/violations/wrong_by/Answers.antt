@@ -8,7 +8,7 @@ use Rattle.grid_cycle_spec.specs.DataTiles.{stored_by}
 use Rattle.grid_window.proofs.BlockFacts.{sized_at}
 use Rattle.grid_window.proofs.OlderFacts.{lent_at}
 use Rattle.grid_window.proofs.WrongFacts.{behind_own, finds_in, fits_stored, narrowed_in, own_behind, own_least, wrong_of, wrong_told}
-use Rattle.grid_window.proofs.wrong.wrong_by.Goals as goal
+use Rattle.grid_window.proofs.violations.wrong_by.Goals as goal
 
 pub of-reach-requires : goal.of-reach-requires
 of-reach-requires c = record {
