@@ -8,7 +8,7 @@ use Rattle.trips_run.specs.declared.command_line.FileForm.{FileForm}
 use Rattle.trips_run.specs.declared.command_line.FileForm.TheVariants as form
 use Rattle.trips_run.specs.declared.status.Status.{Status}
 use Rattle.trips_run.specs.declared.status.Status.TheVariants as status
-use Rattle.trips_run.specs.Request.{Request}
+use Rattle.trips_run.specs.Request.{Request, settings_of}
 use Rattle.trips_run.specs.Refused.{MayBeRefused, IsRefused}
 use Rattle.trips_run.specs.Worked.{IsWorked}
 use Rattle.trips_run.specs.Answer.{IsAnswer}
@@ -188,5 +188,5 @@ module _ (held : List ℕ → Option (List ℕ)) (rose : Type 0) (old new : Opti
   text_ends s a x e w f one =
       let e = ends s a x e (run_told s one) in
       run_ends_as held x e.bytes e.input s e.report e.holds e.holds_input
-      (subst (λ (k : FileForm). IsWorked Run k x.most x.show e.bytes e.input s e.report) f
-      (subst (λ (k : Work). IsWorked k x.form x.most x.show e.bytes e.input s e.report) w e.worked))
+      (subst (λ (k : FileForm). IsWorked Run k (settings_of x) e.bytes e.input s e.report) f
+      (subst (λ (k : Work). IsWorked k x.form (settings_of x) e.bytes e.input s e.report) w e.worked))

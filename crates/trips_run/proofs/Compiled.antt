@@ -18,16 +18,17 @@ use Rattle.c_front.proofs.Once.{accepted_once}
 use Rattle.c_compile_laws.specs.Runs.{run_of, HasEnded, IsFull, Settles, AnswersAs}
 use Rattle.c_compile.specs.Images.{IsImageOf, MeansText}
 use Rattle.c_compile.proofs.Images.{images_mean}
+use Rattle.trips_run.specs.declared.command_line.Settings.{Settings}
 use Rattle.trips_run.specs.declared.status.Status.{Status}
 use Rattle.trips_run.specs.declared.status.Status.TheVariants as status
-use Rattle.trips_run.specs.Request.{Request, origin_held}
+use Rattle.trips_run.specs.Request.{Request, origin_held, settings_of}
 use Rattle.grid_place.specs.declared.placed.Placing.{Placing}
 use Rattle.trips_run.specs.Read.{HoldsInput}
 use Rattle.trips_report.specs.declared.show.Show.{Show}
 use Rattle.trips_report.specs.Runs.{output_and}
 use Rattle.trips_report.proofs.Parts.{shows_nothing}
 use Rattle.trips_run.specs.Report.{ending_of, run_report, shown_report, shown_behind, no_counts, nothing_shown}
-use Rattle.trips_run.specs.Worked.{placed, status_of, IsRunOfText}
+use Rattle.trips_run.specs.Worked.{status_of, IsRunOfText}
 use Rattle.trips_run.specs.Table.{ended_report, full_report}
 use Rattle.trips_run.specs.Evaluated.{SaysOf, HasNotEnded, RunEndsAs}
 use Rattle.trips_run.proofs.Results.{signed_number}
@@ -74,80 +75,80 @@ full r output h =
     ap (λ (x : Ending). run_report x r.0) e
     ∙ ap (λ (o : List ℕ). output_and o (codes "stack full")) h.output
 
-module _ (most n : ℕ) (show : Show) (text input : List ℕ) (program : TypedProgram) (s : Status)
-    (report : List ℕ) (run : IsRunOfText most show text input s report)
-    (accepted : IsAccepted text program) (enough : 16 * n + 16 ≤ most) where
-  means : MeansText text placed run.0
-  means = images_mean text placed run.0 run.1
+module _ (settings : Settings) (n : ℕ) (text input : List ℕ) (program : TypedProgram) (s : Status)
+    (report : List ℕ) (run : IsRunOfText settings text input s report)
+    (accepted : IsAccepted text program) (enough : 16 * n + 16 ≤ settings.most) where
+  means : MeansText text settings.placing run.0
+  means = images_mean text settings.placing run.0 run.1
 
   same : means.program ≡ program
   same = accepted_once text means.program program means.accepted accepted
 
   -- where the evaluation is done within n steps
   finished_run : (output : List ℕ) (value : ℤ) (steps : ℕ)
-      → eval program input n ≡ Done output value steps → HasEnded output value (run_of run.0 input most)
+      → eval program input n ≡ Done output value steps → HasEnded output value (run_of run.0 input settings.most)
   finished_run output value steps done =
       let did = means.finished input run.2 n output value steps
       (ap (λ (p : TypedProgram). eval p input n) same ∙ done) in
-      settled (run_of run.0 input) (16 * n + 6) most (HasEnded output value) did
+      settled (run_of run.0 input) (16 * n + 6) settings.most (HasEnded output value) did
       (omega (arith, enough))
 
   finished_status : (output : List ℕ) (value : ℤ) (steps : ℕ)
       → eval program input n ≡ Done output value steps → s ≡ status.Ended
   finished_status output value steps done =
-      run.3.0 ∙ ap (λ (a : Stepped). status_of (ending_of a (run_of run.0 input most).0.next))
+      run.3.0 ∙ ap (λ (a : Stepped). status_of (ending_of a (run_of run.0 input settings.most).0.next))
       (finished_run output value steps done).answer
 
   pub finished_shown : (output : List ℕ) (value : ℤ) (steps : ℕ)
       → eval program input n ≡ Done output value steps
-      → (s ≡ status.Ended) × ((run_of run.0 input most).1 ≡ stepped.Ended)
-      × (report ≡ shown_behind (ended_report output value) (run_of run.0 input most).0 show)
+      → (s ≡ status.Ended) × ((run_of run.0 input settings.most).1 ≡ stepped.Ended)
+      × (report ≡ shown_behind (ended_report output value) (run_of run.0 input settings.most).0 settings.show)
   finished_shown output value steps done = (
     finished_status output value steps done,
     (finished_run output value steps done).answer,
-    run.3.1 ∙ ap (λ (t : List ℕ). shown_behind t (run_of run.0 input most).0 show)
-        (ended (run_of run.0 input most) output value (finished_run output value steps done)),
+    run.3.1 ∙ ap (λ (t : List ℕ). shown_behind t (run_of run.0 input settings.most).0 settings.show)
+        (ended (run_of run.0 input settings.most) output value (finished_run output value steps done)),
   )
 
-  pub finished_told : (output : List ℕ) (value : ℤ) (steps : ℕ) → show ≡ nothing_shown
+  pub finished_told : (output : List ℕ) (value : ℤ) (steps : ℕ) → settings.show ≡ nothing_shown
       → eval program input n ≡ Done output value steps
       → (s ≡ status.Ended) × (report ≡ ended_report output value)
   finished_told output value steps none done =
       let told = finished_shown output value steps done in (
         told.0,
-        told.2 ∙ nothing_behind (ended_report output value) (run_of run.0 input most).0 show none,
+        told.2 ∙ nothing_behind (ended_report output value) (run_of run.0 input settings.most).0 settings.show none,
       )
 
   -- where its frames are too large within n steps
   deep_run : (output : List ℕ) → eval program input n ≡ Stopped Deep output
-      → IsFull output (run_of run.0 input most)
+      → IsFull output (run_of run.0 input settings.most)
   deep_run output deep =
       let did = means.deep input run.2 n output
       (ap (λ (p : TypedProgram). eval p input n) same ∙ deep) in
-      settled (run_of run.0 input) (16 * n + 6) most (IsFull output) did (omega (arith, enough))
+      settled (run_of run.0 input) (16 * n + 6) settings.most (IsFull output) did (omega (arith, enough))
 
   deep_status : (output : List ℕ) → eval program input n ≡ Stopped Deep output
       → s ≡ status.StackFull
   deep_status output deep =
-      run.3.0 ∙ ap (λ (a : Stepped). status_of (ending_of a (run_of run.0 input most).0.next))
+      run.3.0 ∙ ap (λ (a : Stepped). status_of (ending_of a (run_of run.0 input settings.most).0.next))
       (deep_run output deep).answer
 
   pub deep_shown : (output : List ℕ) → eval program input n ≡ Stopped Deep output
-      → (s ≡ status.StackFull) × ((run_of run.0 input most).1 ≡ stepped.StackFull)
-      × (report ≡ shown_behind (full_report output) (run_of run.0 input most).0 show)
+      → (s ≡ status.StackFull) × ((run_of run.0 input settings.most).1 ≡ stepped.StackFull)
+      × (report ≡ shown_behind (full_report output) (run_of run.0 input settings.most).0 settings.show)
   deep_shown output deep = (
     deep_status output deep,
     (deep_run output deep).answer,
-    run.3.1 ∙ ap (λ (t : List ℕ). shown_behind t (run_of run.0 input most).0 show)
-        (full (run_of run.0 input most) output (deep_run output deep)),
+    run.3.1 ∙ ap (λ (t : List ℕ). shown_behind t (run_of run.0 input settings.most).0 settings.show)
+        (full (run_of run.0 input settings.most) output (deep_run output deep)),
   )
 
-  pub deep_told : (output : List ℕ) → show ≡ nothing_shown
+  pub deep_told : (output : List ℕ) → settings.show ≡ nothing_shown
       → eval program input n ≡ Stopped Deep output
       → (s ≡ status.StackFull) × (report ≡ full_report output)
   deep_told output none deep =
       let told = deep_shown output deep in
-      (told.0, told.2 ∙ nothing_behind (full_report output) (run_of run.0 input most).0 show none)
+      (told.0, told.2 ∙ nothing_behind (full_report output) (run_of run.0 input settings.most).0 settings.show none)
 
   -- where the budget was spent
   pub spent_told : s ≡ status.Budget → HasNotEnded (eval program input n)
@@ -185,9 +186,9 @@ says (stepped.Trap cause) next (Done output value steps) h = absurd h
 -- the end of a text's run, of names that hold the text and the input
 pub run_ends_as : (held : List ℕ → Option (List ℕ)) (q : Request) (text input : List ℕ) (s : Status)
     (report : List ℕ) → Holds (origin_held held q.origin) text → HoldsInput q.input held input
-    → IsRunOfText q.most q.show text input s report → RunEndsAs held q s
+    → IsRunOfText (settings_of q) text input s report → RunEndsAs held q s
 run_ends_as held q text input s report holds holds_input run =
-    let m : MeansText text placed run.0 = images_mean text placed run.0 run.1 in
+    let m : MeansText text q.placing run.0 = images_mean text q.placing run.0 run.1 in
     let r : State × Stepped = run_of run.0 input q.most in
     record {
       text = text;
@@ -201,5 +202,5 @@ run_ends_as held q text input s report holds holds_input run =
       says = λ n lt. subst (λ (x : Status). SaysOf x (eval m.program input n)) (sym run.3.0)
           (says r.1 r.0.next (eval m.program input n) (m.ends input run.2 q.most n lt));
       spent = λ spent n enough.
-          spent_told q.most n q.show text input m.program s report run m.accepted enough spent;
+          spent_told (settings_of q) n text input m.program s report run m.accepted enough spent;
     }

@@ -6,17 +6,17 @@ use Rattle.trips_isa.specs.declared.block.Block.{Block}
 use Rattle.trips_isa.specs.declared.run.Ending.{Ending}
 use Rattle.trips_isa.specs.declared.run.Ending.TheVariants as ending
 use Rattle.trips_isa.specs.Machine.{runs, start}
-use Rattle.trips_report.specs.declared.show.Show.{Show}
 use Rattle.trips_words.specs.declared.commands.Command.{Command as Work}
 use Rattle.trips_words.specs.declared.commands.Command.TheVariants.{Run, Evaluate, Compile}
 use Rattle.trips_words.specs.declared.commands.Command.TheVariants.{Assemble, Disassemble, Check}
 use Rattle.trips_run.specs.declared.command_line.FileForm.{FileForm}
 use Rattle.trips_run.specs.declared.command_line.FileForm.TheVariants as form
+use Rattle.trips_run.specs.declared.command_line.Settings.{Settings}
 use Rattle.trips_run.specs.declared.loading.Loaded.{Loaded}
 use Rattle.trips_run.specs.declared.loading.Loaded.TheVariants.{Fault, TooLarge, Bytes}
 use Rattle.trips_run.specs.declared.status.Status.{Status}
 use Rattle.trips_run.specs.declared.status.Status.TheVariants as status
-use Rattle.trips_run.specs.Request.{Request, origin_held}
+use Rattle.trips_run.specs.Request.{Request, origin_held, settings_of}
 use Rattle.trips_run.specs.Read.{IsRead, IsInputRead, HoldsInput, limit_of}
 use Rattle.trips_run.specs.Report.{ending_of}
 use Rattle.trips_run.specs.Worked.{status_of, IsRunBy, IsWorked, IsDone}
@@ -39,7 +39,7 @@ input_held (Some name) held rose bytes h = h.0
 module _ (q : Request) (held : List ℕ → Option (List ℕ)) (rose : Type 0) (s : Status)
     (report : List ℕ) (told : is_told s ≡ true) where
   done_ends : (bytes input : List ℕ) → Holds (origin_held held q.origin) bytes
-      → HoldsInput q.input held input → IsDone q.work q.form q.most q.show bytes input s report
+      → HoldsInput q.input held input → IsDone q.work q.form (settings_of q) bytes input s report
       → EndsAs held q s
   unfolding is_told
   done_ends bytes input h i (inl out) = absurd (not_told s status.Refused out.2.0 refl told)
@@ -54,7 +54,7 @@ module _ (q : Request) (held : List ℕ → Option (List ℕ)) (rose : Type 0) (
 
   input_ends : (bytes : List ℕ) (loaded : Loaded) → Holds (origin_held held q.origin) bytes
       → IsInputRead q.input held rose loaded
-      → AfterReading loaded (λ input. IsDone q.work q.form q.most q.show bytes input s report) s report
+      → AfterReading loaded (λ input. IsDone q.work q.form (settings_of q) bytes input s report) s report
       → EndsAs held q s
   unfolding is_told
   input_ends bytes Fault h i a = absurd (not_told s status.ReadFault a.0 refl told)
@@ -79,11 +79,11 @@ ends_row request held rose s report q a e told =
     asked_ends q held rose s report told row.0 row.1 row.2
 
 -- no run is undefined
-run_is_defined : (blocks : List Block) (bytes input : List ℕ) (budget : ℕ) (show : Show) (s : Status)
-    (report : List ℕ) → IsRunBy blocks bytes input budget show s report → s ≡ status.Undefined → ⊥
-run_is_defined blocks bytes input budget show s report run e =
-    defined (ending_of (runs blocks (start bytes input) budget).1
-    (runs blocks (start bytes input) budget).0.next) (sym run.0 ∙ e)
+run_is_defined : (blocks : List Block) (bytes input : List ℕ) (settings : Settings) (s : Status)
+    (report : List ℕ) → IsRunBy blocks bytes input settings s report → s ≡ status.Undefined → ⊥
+run_is_defined blocks bytes input settings s report run e =
+    defined (ending_of (runs blocks (start bytes input) settings.most).1
+    (runs blocks (start bytes input) settings.most).0.next) (sym run.0 ∙ e)
   where
     defined : (x : Ending) → status_of x ≡ status.Undefined → ⊥
     defined ending.Ended e = cc
@@ -96,20 +96,20 @@ not_made : (s : Status) → s ≡ status.Ended → s ≡ status.Undefined → �
 not_made s made e = let both : status.Ended ≡ status.Undefined = sym made ∙ e in absurd (cc)
 
 -- only an evaluation is undefined
-is_evaluation : (work : Work) (how : FileForm) (most : ℕ) (show : Show) (bytes input : List ℕ)
-    (s : Status) (report : List ℕ) → IsWorked work how most show bytes input s report
+is_evaluation : (work : Work) (how : FileForm) (settings : Settings) (bytes input : List ℕ)
+    (s : Status) (report : List ℕ) → IsWorked work how settings bytes input s report
     → s ≡ status.Undefined → work ≡ Evaluate
-is_evaluation Evaluate how most show bytes input s report run e = refl
-is_evaluation Run form.Source most show bytes input s report run e =
-    absurd (run_is_defined run.0.blocks run.0.bytes input most show s report run.3 e)
-is_evaluation Run form.Target most show bytes input s report run e =
-    absurd (run_is_defined run.0.blocks run.0.bytes input most show s report run.3 e)
-is_evaluation Run form.Image most show bytes input s report run e =
-    absurd (run_is_defined run.0.blocks run.0.bytes input most show s report run.3 e)
-is_evaluation Compile how most show bytes input s report run e = absurd (not_made s run.3 e)
-is_evaluation Assemble how most show bytes input s report run e = absurd (not_made s run.1 e)
-is_evaluation Disassemble how most show bytes input s report run e = absurd (not_made s run.1 e)
-is_evaluation Check how most show bytes input s report run e = absurd (not_made s run.1 e)
+is_evaluation Evaluate how settings bytes input s report run e = refl
+is_evaluation Run form.Source settings bytes input s report run e =
+    absurd (run_is_defined run.0.blocks run.0.bytes input settings s report run.3 e)
+is_evaluation Run form.Target settings bytes input s report run e =
+    absurd (run_is_defined run.0.blocks run.0.bytes input settings s report run.3 e)
+is_evaluation Run form.Image settings bytes input s report run e =
+    absurd (run_is_defined run.0.blocks run.0.bytes input settings s report run.3 e)
+is_evaluation Compile how settings bytes input s report run e = absurd (not_made s run.3 e)
+is_evaluation Assemble how settings bytes input s report run e = absurd (not_made s run.1 e)
+is_evaluation Disassemble how settings bytes input s report run e = absurd (not_made s run.1 e)
+is_evaluation Check how settings bytes input s report run e = absurd (not_made s run.1 e)
 
 pub undefined_row : (request : Option Request) (held : List ℕ → Option (List ℕ)) (rose : Type 0)
     (s : Status) (report : List ℕ) → IsAnswer request held rose s report → s ≡ status.Undefined
@@ -121,6 +121,6 @@ undefined_row (Some q) held rose s report a e =
     let ends = ends_row (Some q) held rose s report q a refl (ap is_told e) in record {
       q = q;
       asked = refl;
-      is_work = is_evaluation q.work q.form q.most q.show ends.bytes ends.input s ends.report ends.worked e;
+      is_work = is_evaluation q.work q.form (settings_of q) ends.bytes ends.input s ends.report ends.worked e;
       ends = ends;
     }

@@ -26,11 +26,12 @@ use Rattle.target_asm_spec.proofs.Images as texts
 use Rattle.target_asm_faults.proofs.Exact as faults
 use Rattle.trips_run.specs.declared.command_line.FileForm.{FileForm}
 use Rattle.trips_run.specs.declared.command_line.FileForm.TheVariants as form
+use Rattle.trips_run.specs.declared.command_line.Settings.{Settings}
 use Rattle.trips_run.specs.declared.loading.Loaded.{Loaded}
 use Rattle.trips_run.specs.declared.loading.Loaded.TheVariants.{Fault, TooLarge, Bytes}
 use Rattle.trips_run.specs.declared.status.Status.{Status}
 use Rattle.trips_run.specs.declared.status.Status.TheVariants as status
-use Rattle.trips_run.specs.Request.{Request, origin_held}
+use Rattle.trips_run.specs.Request.{Request, origin_held, settings_with, settings_of}
 use Rattle.trips_run.specs.Read.{IsRead, IsInputRead, IsInput, limit_of, most_input_bytes}
 use Rattle.trips_report.specs.Refusals.{image_text, asm_text, check_text, too_large_text}
 use Rattle.trips_run.specs.Refusal.{front_refusal}
@@ -73,24 +74,24 @@ target_not_refused text out image spelled good (inr bad) =
 -- the work --------------------------------------------------------------------------------------
 
 -- bytes that are refused are not worked with
-pub not_worked : (work : Work) (how : FileForm) (most : ℕ) (show : Show) (bytes input : List ℕ)
+pub not_worked : (work : Work) (how : FileForm) (settings : Settings) (bytes input : List ℕ)
     (s : Status) (report out : List ℕ) → IsRefusedAs work how bytes out
-    → IsWorked work how most show bytes input s report → ⊥
-not_worked Evaluate how most show bytes input s report out bad run =
+    → IsWorked work how settings bytes input s report → ⊥
+not_worked Evaluate how settings bytes input s report out bad run =
     not_both bytes run.0 bad.0 run.1 bad.1
-not_worked Run form.Source most show bytes input s report out bad run =
+not_worked Run form.Source settings bytes input s report out bad run =
     not_both bytes run.1.lowered.program bad.0 run.1.lowered.accepted bad.1
-not_worked Run form.Target most show bytes input s report out bad run =
+not_worked Run form.Target settings bytes input s report out bad run =
     target_not_refused bytes out run.0 run.1 run.2 bad
-not_worked Run form.Image most show bytes input s report out bad run =
+not_worked Run form.Image settings bytes input s report out bad run =
     image_not_refused bytes out run.0 run.1 run.2 bad
-not_worked Compile how most show bytes input s report out bad run =
+not_worked Compile how settings bytes input s report out bad run =
     not_both bytes run.1.lowered.program bad.0 run.1.lowered.accepted bad.1
-not_worked Assemble how most show bytes input s report out bad run =
+not_worked Assemble how settings bytes input s report out bad run =
     faults.not_both run.0.0 bytes bad.0 run.0.1 bad.1
-not_worked Disassemble how most show bytes input s report out bad run =
+not_worked Disassemble how settings bytes input s report out bad run =
     decoded.not_both run.0.0 bytes bad.0 run.0.2 bad.1
-not_worked Check how most show bytes input s report out bad run =
+not_worked Check how settings bytes input s report out bad run =
     image_not_refused bytes out run.0.0 run.0.1 run.0.2 bad
 
 front_once : (text a b : List ℕ) → IsRefusedByFront text a → IsRefusedByFront text b → a ≡ b
@@ -147,59 +148,59 @@ refusal_once Disassemble how bytes a b x y = no_image_once bytes a b x y
 refusal_once Check how bytes a b x y = image_once bytes a b x y
 
 -- what is done with bytes that are refused
-pub refused_exact : (work : Work) (how : FileForm) (most : ℕ) (show : Show) (bytes input : List ℕ)
-    (s : Status) (report out : List ℕ) → IsDone work how most show bytes input s report
+pub refused_exact : (work : Work) (how : FileForm) (settings : Settings) (bytes input : List ℕ)
+    (s : Status) (report out : List ℕ) → IsDone work how settings bytes input s report
     → IsRefusedAs work how bytes out → (s ≡ status.Refused) × (report ≡ out)
-refused_exact work how most show bytes input s report out (inl x) bad =
+refused_exact work how settings bytes input s report out (inl x) bad =
     (x.2.0, x.2.1 ∙ refusal_once work how bytes x.0 out x.1 bad)
-refused_exact work how most show bytes input s report out (inr run) bad =
-    absurd (not_worked work how most show bytes input s report out bad run)
+refused_exact work how settings bytes input s report out (inr run) bad =
+    absurd (not_worked work how settings bytes input s report out bad run)
 
 -- with an accepted text under `eval`
-pub eval_exact : (how : FileForm) (steps : ℕ) (show : Show) (text input : List ℕ) (s : Status)
-    (report : List ℕ) (program : TypedProgram) → IsDone Evaluate how steps show text input s report
-    → IsAccepted text program → IsEvaluation program input steps s report
-eval_exact how steps show text input s report program (inl x) is =
+pub eval_exact : (how : FileForm) (settings : Settings) (text input : List ℕ) (s : Status)
+    (report : List ℕ) (program : TypedProgram) → IsDone Evaluate how settings text input s report
+    → IsAccepted text program → IsEvaluation program input settings.most s report
+eval_exact how settings text input s report program (inl x) is =
     absurd (not_both text program x.1.0 is x.1.1)
-eval_exact how steps show text input s report program (inr run) is =
-    subst (λ (p : TypedProgram). IsEvaluation p input steps s report)
+eval_exact how settings text input s report program (inr run) is =
+    subst (λ (p : TypedProgram). IsEvaluation p input settings.most s report)
     (accepted_once text run.0 program run.1 is) run.2
 
 -- with an image of good blocks under `run`
-pub image_exact : (most : ℕ) (show : Show) (bytes input : List ℕ) (s : Status) (report : List ℕ)
-    (image : Image) → IsDone Run form.Image most show bytes input s report → ImageBytes image bytes
-    → All IsGood image.blocks → IsRunBy image.blocks image.bytes input most show s report
-image_exact most show bytes input s report image (inl x) spelled good =
+pub image_exact : (settings : Settings) (bytes input : List ℕ) (s : Status) (report : List ℕ)
+    (image : Image) → IsDone Run form.Image settings bytes input s report → ImageBytes image bytes
+    → All IsGood image.blocks → IsRunBy image.blocks image.bytes input settings s report
+image_exact settings bytes input s report image (inl x) spelled good =
     absurd (image_not_refused bytes x.0 image spelled good x.1)
-image_exact most show bytes input s report image (inr run) spelled good =
-    subst (λ (i : Image). IsRunBy i.blocks i.bytes input most show s report)
+image_exact settings bytes input s report image (inr run) spelled good =
+    subst (λ (i : Image). IsRunBy i.blocks i.bytes input settings s report)
     (one_image run.0 image bytes run.1 spelled) run.3
 
 -- with an accepted text under `run`
-pub text_exact : (most : ℕ) (show : Show) (text input : List ℕ) (s : Status) (report : List ℕ)
-    (program : TypedProgram) → IsDone Run form.Source most show text input s report
-    → IsAccepted text program → IsRunOfText most show text input s report
-text_exact most show text input s report program (inl x) is =
+pub text_exact : (settings : Settings) (text input : List ℕ) (s : Status) (report : List ℕ)
+    (program : TypedProgram) → IsDone Run form.Source settings text input s report
+    → IsAccepted text program → IsRunOfText settings text input s report
+text_exact settings text input s report program (inl x) is =
     absurd (not_both text program x.1.0 is x.1.1)
-text_exact most show text input s report program (inr run) is = run
+text_exact settings text input s report program (inr run) is = run
 
 -- with the text of an image of good blocks under `run`
-pub target_exact : (most : ℕ) (show : Show) (text input : List ℕ) (s : Status) (report : List ℕ)
-    (image : Image) → IsDone Run form.Target most show text input s report → TargetText image text
-    → All IsGood image.blocks → IsRunBy image.blocks image.bytes input most show s report
-target_exact most show text input s report image (inl x) spelled good =
+pub target_exact : (settings : Settings) (text input : List ℕ) (s : Status) (report : List ℕ)
+    (image : Image) → IsDone Run form.Target settings text input s report → TargetText image text
+    → All IsGood image.blocks → IsRunBy image.blocks image.bytes input settings s report
+target_exact settings text input s report image (inl x) spelled good =
     absurd (target_not_refused text x.0 image spelled good x.1)
-target_exact most show text input s report image (inr run) spelled good =
-    subst (λ (i : Image). IsRunBy i.blocks i.bytes input most show s report)
+target_exact settings text input s report image (inr run) spelled good =
+    subst (λ (i : Image). IsRunBy i.blocks i.bytes input settings s report)
     (texts.one_image run.0 image text run.1 spelled) run.3
 
 -- with an accepted text under `compile`
-pub compiled_exact : (how : FileForm) (most : ℕ) (show : Show) (text input : List ℕ) (s : Status)
-    (report : List ℕ) (program : TypedProgram) → IsDone Compile how most show text input s report
-    → IsAccepted text program → IsCompiled text s report
-compiled_exact how most show text input s report program (inl x) is =
+pub compiled_exact : (how : FileForm) (settings : Settings) (text input : List ℕ) (s : Status)
+    (report : List ℕ) (program : TypedProgram) → IsDone Compile how settings text input s report
+    → IsAccepted text program → IsCompiled settings.placing text s report
+compiled_exact how settings text input s report program (inl x) is =
     absurd (not_both text program x.1.0 is x.1.1)
-compiled_exact how most show text input s report program (inr run) is = run
+compiled_exact how settings text input s report program (inr run) is = run
 
 -- a text is that of one spelling, and bytes are those of one text
 one_spelling : (text a b : List ℕ) → IsOneImage text a → IsOneImage text b → a ≡ b
@@ -211,30 +212,30 @@ one_text bytes a b x y =
     x.1.spelled ∙ ap asm.image_text (one_image x.0 y.0 bytes x.2 y.2) ∙ sym y.1.spelled
 
 -- with the text of an image under `asm`
-pub assembled_exact : (how : FileForm) (most : ℕ) (show : Show) (text input : List ℕ) (s : Status)
-    (report bytes : List ℕ) → IsDone Assemble how most show text input s report
+pub assembled_exact : (how : FileForm) (settings : Settings) (text input : List ℕ) (s : Status)
+    (report bytes : List ℕ) → IsDone Assemble how settings text input s report
     → IsOneImage text bytes → (s ≡ status.Ended) × (report ≡ bytes)
-assembled_exact how most show text input s report bytes (inl x) one =
+assembled_exact how settings text input s report bytes (inl x) one =
     absurd (faults.not_both one.0 text x.1.0 one.1 x.1.1)
-assembled_exact how most show text input s report bytes (inr run) one =
+assembled_exact how settings text input s report bytes (inr run) one =
     (run.1, one_spelling text report bytes run.0 one)
 
 -- with an image under `dis`
-pub disassembled_exact : (how : FileForm) (most : ℕ) (show : Show) (bytes input : List ℕ) (s : Status)
-    (report text : List ℕ) → IsDone Disassemble how most show bytes input s report
+pub disassembled_exact : (how : FileForm) (settings : Settings) (bytes input : List ℕ) (s : Status)
+    (report text : List ℕ) → IsDone Disassemble how settings bytes input s report
     → IsOneImage text bytes → (s ≡ status.Ended) × (report ≡ text)
-disassembled_exact how most show bytes input s report text (inl x) one =
+disassembled_exact how settings bytes input s report text (inl x) one =
     absurd (decoded.not_both one.0 bytes x.1.0 one.2 x.1.1)
-disassembled_exact how most show bytes input s report text (inr run) one =
+disassembled_exact how settings bytes input s report text (inr run) one =
     (run.1, one_text bytes report text run.0 one)
 
 -- with an image of good blocks under `check`
-pub checked_exact : (how : FileForm) (most : ℕ) (show : Show) (bytes input : List ℕ) (s : Status)
-    (report good : List ℕ) → IsDone Check how most show bytes input s report
+pub checked_exact : (how : FileForm) (settings : Settings) (bytes input : List ℕ) (s : Status)
+    (report good : List ℕ) → IsDone Check how settings bytes input s report
     → IsGoodImage bytes good → (s ≡ status.Ended) × (report ≡ good)
-checked_exact how most show bytes input s report good (inl x) is =
+checked_exact how settings bytes input s report good (inl x) is =
     absurd (image_not_refused bytes x.0 is.0 is.1 is.2 x.1)
-checked_exact how most show bytes input s report good (inr run) is = (
+checked_exact how settings bytes input s report good (inr run) is = (
   run.1,
   run.0.3 ∙ ap (λ (i : Image). good_report (length i.blocks)) (one_image run.0.0 is.0 bytes run.0.1 is.1)
       ∙ sym is.3,
@@ -311,19 +312,20 @@ module _ (request : Option Request) (held : List ℕ → Option (List ℕ)) (ros
 
   -- what is done where the file and the input are told
   pub complete : (work : Work) (how : FileForm) (most : ℕ) (show : Show) (bytes input : List ℕ)
-      → AsksFor request held work how most show bytes input
-      → IsDone work how most show bytes input s report
+      → (asks : AsksFor request held work how most show bytes input)
+      → IsDone work how (settings_with asks.q most show) bytes input s report
   complete work how most show bytes input asks =
       let rest = behind asks.q bytes asks.asked asks.told.told asks.told.few in
       let is = input_read asks.q.input held rose rest.0 input rest.1 asks.told.told_input
       asks.told.few_input r in
       let done = subst (λ (x : Loaded). AfterReading x
-      (λ i. IsDone asks.q.work asks.q.form asks.q.most asks.q.show bytes i s report) s report) is rest.2 in
-      subst (λ (v : Show). IsDone work how most v bytes input s report) asks.is_show
-      (subst (λ (m : ℕ). IsDone work how m asks.q.show bytes input s report) asks.is_most
-      (subst (λ (f : FileForm). IsDone work f asks.q.most asks.q.show bytes input s report)
-      asks.is_form
-      (subst (λ (w : Work). IsDone w asks.q.form asks.q.most asks.q.show bytes input s report)
+      (λ i. IsDone asks.q.work asks.q.form (settings_of asks.q) bytes i s report) s report) is rest.2 in
+      subst (λ (v : Show). IsDone work how (settings_with asks.q most v) bytes input s report)
+      asks.is_show
+      (subst (λ (m : ℕ). IsDone work how (settings_with asks.q m asks.q.show) bytes input s report)
+      asks.is_most
+      (subst (λ (f : FileForm). IsDone work f (settings_of asks.q) bytes input s report) asks.is_form
+      (subst (λ (w : Work). IsDone w asks.q.form (settings_of asks.q) bytes input s report)
       asks.is_work done)))
 
   -- a file that is too large
@@ -343,7 +345,7 @@ module _ (request : Option Request) (held : List ℕ → Option (List ℕ)) (ros
       let rest = behind q text.0 e text.1 text.2 in
       let is = input_large q.input held rose rest.0 rest.1 large.1 r in
       subst (λ (x : Loaded). AfterReading x
-      (λ i. IsDone q.work q.form q.most q.show text.0 i s report) s report) is rest.2
+      (λ i. IsDone q.work q.form (settings_of q) text.0 i s report) s report) is rest.2
     where
       some_of : (told : Option (List ℕ)) (P : List ℕ → Type 0) → IsSomeAnd told P
           → (bytes : List ℕ) × (told ≡ Some bytes) × P bytes

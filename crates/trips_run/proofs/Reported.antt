@@ -22,12 +22,12 @@ use Rattle.trips_run.specs.declared.command_line.FileForm.{FileForm}
 use Rattle.trips_run.specs.declared.command_line.FileForm.TheVariants as form
 use Rattle.trips_run.specs.declared.status.Status.{Status}
 use Rattle.trips_run.specs.declared.status.Status.TheVariants as status
-use Rattle.trips_run.specs.Request.{Request}
+use Rattle.trips_run.specs.Request.{Request, settings_with}
 use Rattle.trips_report.specs.Evaluations.{eval_report}
 use Rattle.trips_report.specs.Refusals.{too_large_text}
 use Rattle.trips_run.specs.Report.{ending_of, run_report, shown_report, shown_behind, nothing_shown}
 use Rattle.trips_run.specs.Refused.{IsRefusedAs}
-use Rattle.trips_run.specs.Worked.{status_of, eval_status, outcome_of, placed, IsRunOfText}
+use Rattle.trips_run.specs.Worked.{status_of, eval_status, outcome_of, IsRunOfText}
 use Rattle.trips_run.specs.Answer.{IsAnswer}
 use Rattle.trips_run.specs.Table.{IsAnswered, ended_report, full_report, Asks, AsksFor}
 use Rattle.trips_run.specs.Table.{HasLargeFile, HasLargeInput}
@@ -47,11 +47,12 @@ module _ (held : List ℕ → Option (List ℕ)) (rose : Type 0) (old new : Opti
   -- the run of an accepted text that the row of its request tells
   text_done : (s : Status) (a : IsAnswered q held rose old new cut s) (c : cut → ⊥)
       (m : s ≢ status.Memory) (most : ℕ) (show : Show) (text input : List ℕ) (program : TypedProgram)
-      → AsksFor q held Run form.Source most show text input → IsAccepted text program → (rose → ⊥)
-      → IsRunOfText most show text input s (row_of s a c m).0
+      → (asks : AsksFor q held Run form.Source most show text input) → IsAccepted text program
+      → (rose → ⊥)
+      → IsRunOfText (settings_with asks.q most show) text input s (row_of s a c m).0
   text_done s a c m most show text input program asks is r =
       let row = row_of s a c m in
-      text_exact most show text input s row.0 program
+      text_exact (settings_with asks.q most show) text input s row.0 program
       (complete q held rose s row.0 row.1 r Run form.Source most show text input asks) is
 
   pub headline : (s : Status) → IsAnswered q held rose old new cut s → (most n : ℕ)
@@ -62,8 +63,8 @@ module _ (held : List ℕ → Option (List ℕ)) (rose : Type 0) (old new : Opti
   headline s a most n text input output value steps program asks is done enough r c m =
       let row = row_of s a c m in
       let run = text_done s a c m most nothing_shown text input program asks is r in
-      let told = finished_told most n nothing_shown text input program s row.0 run is enough output
-      value steps refl done in
+      let told = finished_told (settings_with asks.q most nothing_shown) n text input program s row.0
+      run is enough output value steps refl done in
       (told.0, subst (Appended old new) told.1 row.2)
 
   pub deep : (s : Status) → IsAnswered q held rose old new cut s → (most n : ℕ)
@@ -74,15 +75,15 @@ module _ (held : List ℕ → Option (List ℕ)) (rose : Type 0) (old new : Opti
   deep s a most n text input output program asks is full enough r c m =
       let row = row_of s a c m in
       let run = text_done s a c m most nothing_shown text input program asks is r in
-      let told = deep_told most n nothing_shown text input program s row.0 run is enough output refl
-      full in
+      let told = deep_told (settings_with asks.q most nothing_shown) n text input program s row.0
+      run is enough output refl full in
       (told.0, subst (Appended old new) told.1 row.2)
 
   pub text_run : (s : Status) → IsAnswered q held rose old new cut s → (most : ℕ)
       (text input : List ℕ) (program : TypedProgram)
-      → Asks q held Run form.Source most text input → IsAccepted text program
+      → (asks : Asks q held Run form.Source most text input) → IsAccepted text program
       → (rose → ⊥) → (cut → ⊥) → s ≢ status.Memory
-      → (image : Image) × IsImageOf text placed image
+      → (image : Image) × IsImageOf text asks.q.placing image
       × let run = runs image.blocks (start image.bytes input) most in
       (s ≡ status_of (ending_of run.1 run.0.next))
       × Appended old new (run_report (ending_of run.1 run.0.next) run.0)
@@ -95,9 +96,9 @@ module _ (held : List ℕ → Option (List ℕ)) (rose : Type 0) (old new : Opti
 
   pub shown_text_run : (s : Status) → IsAnswered q held rose old new cut s → (most : ℕ) (show : Show)
       (text input : List ℕ) (program : TypedProgram)
-      → AsksFor q held Run form.Source most show text input → IsAccepted text program
+      → (asks : AsksFor q held Run form.Source most show text input) → IsAccepted text program
       → (rose → ⊥) → (cut → ⊥) → s ≢ status.Memory
-      → (image : Image) × IsImageOf text placed image
+      → (image : Image) × IsImageOf text asks.q.placing image
       × let run = runs image.blocks (start image.bytes input) most in
       (s ≡ status_of (ending_of run.1 run.0.next))
       × Appended old new (shown_report (ending_of run.1 run.0.next) run.0 show)
@@ -109,31 +110,34 @@ module _ (held : List ℕ → Option (List ℕ)) (rose : Type 0) (old new : Opti
   -- and of one whose evaluation ends, or is too deep, within n steps
   pub shown_headline : (s : Status) → IsAnswered q held rose old new cut s → (most n : ℕ)
       (show : Show) (text input output : List ℕ) (value : ℤ) (steps : ℕ) (program : TypedProgram)
-      → AsksFor q held Run form.Source most show text input → IsAccepted text program
+      → (asks : AsksFor q held Run form.Source most show text input) → IsAccepted text program
       → eval program input n ≡ Done output value steps → 16 * n + 16 ≤ most → (rose → ⊥) → (cut → ⊥)
-      → s ≢ status.Memory → (s ≡ status.Ended) × (image : Image) × IsImageOf text placed image
+      → s ≢ status.Memory → (s ≡ status.Ended) × (image : Image)
+      × IsImageOf text asks.q.placing image
       × let run = runs image.blocks (start image.bytes input) most in
       (run.1 ≡ stepped.Ended)
       × Appended old new (shown_behind (ended_report output value) run.0 show)
   shown_headline s a most n show text input output value steps program asks is done enough r c m =
       let row = row_of s a c m in
       let run = text_done s a c m most show text input program asks is r in
-      let told = finished_shown most n show text input program s row.0 run is enough output value
-      steps done in
+      let told = finished_shown (settings_with asks.q most show) n text input program s row.0
+      run is enough output value steps done in
       (told.0, run.0, run.1, (told.1, subst (Appended old new) told.2 row.2))
 
   pub shown_deep : (s : Status) → IsAnswered q held rose old new cut s → (most n : ℕ) (show : Show)
       (text input output : List ℕ) (program : TypedProgram)
-      → AsksFor q held Run form.Source most show text input → IsAccepted text program
+      → (asks : AsksFor q held Run form.Source most show text input) → IsAccepted text program
       → eval program input n ≡ Stopped Deep output → 16 * n + 16 ≤ most → (rose → ⊥) → (cut → ⊥)
-      → s ≢ status.Memory → (s ≡ status.StackFull) × (image : Image) × IsImageOf text placed image
+      → s ≢ status.Memory → (s ≡ status.StackFull) × (image : Image)
+      × IsImageOf text asks.q.placing image
       × let run = runs image.blocks (start image.bytes input) most in
       (run.1 ≡ stepped.StackFull)
       × Appended old new (shown_behind (full_report output) run.0 show)
   shown_deep s a most n show text input output program asks is deep enough r c m =
       let row = row_of s a c m in
       let run = text_done s a c m most show text input program asks is r in
-      let told = deep_shown most n show text input program s row.0 run is enough output deep in
+      let told = deep_shown (settings_with asks.q most show) n text input program s row.0
+      run is enough output deep in
       (told.0, run.0, run.1, (told.1, subst (Appended old new) told.2 row.2))
 
   pub evaluation : (s : Status) → IsAnswered q held rose old new cut s → (how : FileForm)
@@ -144,7 +148,8 @@ module _ (held : List ℕ → Option (List ℕ)) (rose : Type 0) (old new : Opti
   evaluation s a how steps text input program asks is r c m =
       let row = row_of s a c m in
       let done = complete q held rose s row.0 row.1 r Evaluate how steps nothing_shown text input asks in
-      let told = eval_exact how steps nothing_shown text input s row.0 program done is in
+      let told = eval_exact how (settings_with asks.q steps nothing_shown) text input s row.0 program
+      done is in
       (told.0, subst (Appended old new) told.1 row.2)
 
   pub image_run : (s : Status) → IsAnswered q held rose old new cut s → (blocks : ℕ)
@@ -156,7 +161,8 @@ module _ (held : List ℕ → Option (List ℕ)) (rose : Type 0) (old new : Opti
   image_run s a blocks bytes input image asks spelled good r c m =
       let row = row_of s a c m in
       let done = complete q held rose s row.0 row.1 r Run form.Image blocks nothing_shown bytes input asks in
-      let told = image_exact blocks nothing_shown bytes input s row.0 image done spelled good in
+      let told = image_exact (settings_with asks.q blocks nothing_shown) bytes input s row.0 image done
+      spelled good in
       let plain = plain_told (runs image.blocks (start image.bytes input) blocks) nothing_shown row.0 refl
       told.1 in
       (told.0, subst (Appended old new) plain row.2)
@@ -171,7 +177,8 @@ module _ (held : List ℕ → Option (List ℕ)) (rose : Type 0) (old new : Opti
   shown_image_run s a blocks show bytes input image asks spelled good r c m =
       let row = row_of s a c m in
       let done = complete q held rose s row.0 row.1 r Run form.Image blocks show bytes input asks in
-      let told = image_exact blocks show bytes input s row.0 image done spelled good in
+      let told = image_exact (settings_with asks.q blocks show) bytes input s row.0 image done
+      spelled good in
       (told.0, subst (Appended old new) told.1 row.2)
 
   pub target_run : (s : Status) → IsAnswered q held rose old new cut s → (blocks : ℕ)
@@ -184,19 +191,22 @@ module _ (held : List ℕ → Option (List ℕ)) (rose : Type 0) (old new : Opti
   target_run s a blocks show text input image asks spelled good r c m =
       let row = row_of s a c m in
       let done = complete q held rose s row.0 row.1 r Run form.Target blocks show text input asks in
-      let told = target_exact blocks show text input s row.0 image done spelled good in
+      let told = target_exact (settings_with asks.q blocks show) text input s row.0 image done
+      spelled good in
       (told.0, subst (Appended old new) told.1 row.2)
 
   pub compiled : (s : Status) → IsAnswered q held rose old new cut s → (how : FileForm) (most : ℕ)
       (show : Show) (text input : List ℕ) (program : TypedProgram)
-      → AsksFor q held Compile how most show text input → IsAccepted text program
+      → (asks : AsksFor q held Compile how most show text input) → IsAccepted text program
       → (rose → ⊥) → (cut → ⊥) → s ≢ status.Memory
-      → (image : Image) × IsImageOf text placed image × (bytes : List ℕ) × ImageBytes image bytes
+      → (image : Image) × IsImageOf text asks.q.placing image × (bytes : List ℕ)
+      × ImageBytes image bytes
       × (s ≡ status.Ended) × Appended old new bytes
   compiled s a how most show text input program asks is r c m =
       let row = row_of s a c m in
       let done = complete q held rose s row.0 row.1 r Compile how most show text input asks in
-      let run = compiled_exact how most show text input s row.0 program done is in
+      let run = compiled_exact how (settings_with asks.q most show) text input s row.0 program
+      done is in
       (run.0, run.1, row.0, run.2, run.3, row.2)
 
   pub assembled : (s : Status) → IsAnswered q held rose old new cut s → (how : FileForm) (most : ℕ)
@@ -207,7 +217,8 @@ module _ (held : List ℕ → Option (List ℕ)) (rose : Type 0) (old new : Opti
   assembled s a how most show text input bytes asks one r c m =
       let row = row_of s a c m in
       let done = complete q held rose s row.0 row.1 r Assemble how most show text input asks in
-      let told = assembled_exact how most show text input s row.0 bytes done one in
+      let told = assembled_exact how (settings_with asks.q most show) text input s row.0 bytes
+      done one in
       (told.0, subst (Appended old new) told.1 row.2)
 
   pub disassembled : (s : Status) → IsAnswered q held rose old new cut s → (how : FileForm) (most : ℕ)
@@ -218,7 +229,8 @@ module _ (held : List ℕ → Option (List ℕ)) (rose : Type 0) (old new : Opti
   disassembled s a how most show bytes input text asks one r c m =
       let row = row_of s a c m in
       let done = complete q held rose s row.0 row.1 r Disassemble how most show bytes input asks in
-      let told = disassembled_exact how most show bytes input s row.0 text done one in
+      let told = disassembled_exact how (settings_with asks.q most show) bytes input s row.0 text
+      done one in
       (told.0, subst (Appended old new) told.1 row.2)
 
   pub checked : (s : Status) → IsAnswered q held rose old new cut s → (how : FileForm) (most : ℕ)
@@ -229,7 +241,8 @@ module _ (held : List ℕ → Option (List ℕ)) (rose : Type 0) (old new : Opti
   checked s a how most show bytes input report asks good r c m =
       let row = row_of s a c m in
       let done = complete q held rose s row.0 row.1 r Check how most show bytes input asks in
-      let told = checked_exact how most show bytes input s row.0 report done good in
+      let told = checked_exact how (settings_with asks.q most show) bytes input s row.0 report
+      done good in
       (told.0, subst (Appended old new) told.1 row.2)
 
   pub refusal : (s : Status) → IsAnswered q held rose old new cut s → (work : Work)
@@ -239,7 +252,8 @@ module _ (held : List ℕ → Option (List ℕ)) (rose : Type 0) (old new : Opti
   refusal s a work how most show bytes input report asks bad r c m =
       let row = row_of s a c m in
       let done = complete q held rose s row.0 row.1 r work how most show bytes input asks in
-      let told = refused_exact work how most show bytes input s row.0 report done bad in
+      let told = refused_exact work how (settings_with asks.q most show) bytes input s row.0 report
+      done bad in
       (told.0, subst (Appended old new) told.1 row.2)
 
   pub too_large_file : (s : Status) → IsAnswered q held rose old new cut s → (x : Request)

@@ -10,17 +10,17 @@ use Rattle.trips_isa.specs.declared.run.Ending.TheVariants as ending
 use Rattle.trips_isa.specs.Machine.{runs, start}
 use Rattle.c_meaning.specs.declared.outcome.Outcome.{Outcome}
 use Rattle.c_meaning.specs.declared.outcome.Outcome.TheVariants as outcome
-use Rattle.trips_report.specs.declared.show.Show.{Show}
 use Rattle.trips_words.specs.declared.commands.Command.{Command as Work}
 use Rattle.trips_words.specs.declared.commands.Command.TheVariants.{Run, Evaluate, Compile}
 use Rattle.trips_words.specs.declared.commands.Command.TheVariants.{Assemble, Disassemble, Check}
 use Rattle.trips_run.specs.declared.command_line.FileForm.{FileForm}
 use Rattle.trips_run.specs.declared.command_line.FileForm.TheVariants as form
+use Rattle.trips_run.specs.declared.command_line.Settings.{Settings}
 use Rattle.trips_run.specs.declared.loading.Loaded.{Loaded}
 use Rattle.trips_run.specs.declared.loading.Loaded.TheVariants.{Fault, TooLarge, Bytes}
 use Rattle.trips_run.specs.declared.status.Status.{Status}
 use Rattle.trips_run.specs.declared.status.Status.TheVariants as status
-use Rattle.trips_run.specs.Request.{Request, origin_held}
+use Rattle.trips_run.specs.Request.{Request, origin_held, settings_of}
 use Rattle.trips_run.specs.Read.{IsRead, IsInputRead, limit_of, most_input_bytes}
 use Rattle.trips_run.specs.Report.{ending_of}
 use Rattle.trips_run.specs.Worked.{status_of, IsRunBy, eval_status, outcome_of, IsWorked, IsDone}
@@ -44,11 +44,11 @@ tells ending.StackFull = refl
 tells ending.Budget = refl
 tells (ending.Trap block cause) = refl
 
-run_tells : (blocks : List Block) (bytes input : List ℕ) (budget : ℕ) (show : Show) (s : Status)
-    (report : List ℕ) → IsRunBy blocks bytes input budget show s report → is_told s ≡ true
-run_tells blocks bytes input budget show s report run =
-    ap is_told run.0 ∙ tells (ending_of (runs blocks (start bytes input) budget).1
-    (runs blocks (start bytes input) budget).0.next)
+run_tells : (blocks : List Block) (bytes input : List ℕ) (settings : Settings) (s : Status)
+    (report : List ℕ) → IsRunBy blocks bytes input settings s report → is_told s ≡ true
+run_tells blocks bytes input settings s report run =
+    ap is_told run.0 ∙ tells (ending_of (runs blocks (start bytes input) settings.most).1
+    (runs blocks (start bytes input) settings.most).0.next)
 
 eval_tells : (o : Outcome) → is_told (eval_status o) ≡ true
 unfolding is_told
@@ -58,22 +58,22 @@ eval_tells outcome.Deep = refl
 eval_tells (outcome.Done output result steps) = refl
 
 -- work that is done tells how it ended
-work_tells : (work : Work) (how : FileForm) (most : ℕ) (show : Show) (bytes input : List ℕ)
-    (s : Status) (report : List ℕ) → IsWorked work how most show bytes input s report
+work_tells : (work : Work) (how : FileForm) (settings : Settings) (bytes input : List ℕ)
+    (s : Status) (report : List ℕ) → IsWorked work how settings bytes input s report
     → is_told s ≡ true
 unfolding is_told
-work_tells Evaluate how most show bytes input s report run =
-    ap is_told run.2.0 ∙ eval_tells (outcome_of run.0 input most)
-work_tells Run form.Source most show bytes input s report run =
-    run_tells run.0.blocks run.0.bytes input most show s report run.3
-work_tells Run form.Target most show bytes input s report run =
-    run_tells run.0.blocks run.0.bytes input most show s report run.3
-work_tells Run form.Image most show bytes input s report run =
-    run_tells run.0.blocks run.0.bytes input most show s report run.3
-work_tells Compile how most show bytes input s report run = ap is_told run.3
-work_tells Assemble how most show bytes input s report run = ap is_told run.1
-work_tells Disassemble how most show bytes input s report run = ap is_told run.1
-work_tells Check how most show bytes input s report run = ap is_told run.1
+work_tells Evaluate how settings bytes input s report run =
+    ap is_told run.2.0 ∙ eval_tells (outcome_of run.0 input settings.most)
+work_tells Run form.Source settings bytes input s report run =
+    run_tells run.0.blocks run.0.bytes input settings s report run.3
+work_tells Run form.Target settings bytes input s report run =
+    run_tells run.0.blocks run.0.bytes input settings s report run.3
+work_tells Run form.Image settings bytes input s report run =
+    run_tells run.0.blocks run.0.bytes input settings s report run.3
+work_tells Compile how settings bytes input s report run = ap is_told run.3
+work_tells Assemble how settings bytes input s report run = ap is_told run.1
+work_tells Disassemble how settings bytes input s report run = ap is_told run.1
+work_tells Check how settings bytes input s report run = ap is_told run.1
 
 -- The kinds of an answer: usage, a fault of reading, a refusal, and the end of the work.
 pub data Kind (q : Option Request) (held : List ℕ
@@ -128,18 +128,18 @@ module _ (q : Request) (held : List ℕ → Option (List ℕ)) (rose : Type 0) (
     (report : List ℕ) where
   -- bytes that were worked with are not bad
   not_bad : (bytes input : List ℕ) → length bytes ≤ limit_of q.form
-      → IsWorked q.work q.form q.most q.show bytes input s report → IsBad q bytes → ⊥
+      → IsWorked q.work q.form (settings_of q) bytes input s report → IsBad q bytes → ⊥
   not_bad bytes input few run (inl large) = absurd (omega (arith, few, large))
   not_bad bytes input few run (inr bad) =
-      not_worked q.work q.form q.most q.show bytes input s report bad.0 bad.1 run
+      not_worked q.work q.form (settings_of q) bytes input s report bad.0 bad.1 run
 
   done_kind : (bytes input : List ℕ) → Holds (origin_held held q.origin) bytes
       → length bytes ≤ limit_of q.form → (IsLarge q.input held → ⊥)
-      → IsDone q.work q.form q.most q.show bytes input s report → Kind (Some q) held rose s
+      → IsDone q.work q.form (settings_of q) bytes input s report → Kind (Some q) held rose s
   done_kind bytes input h few small (inl out) =
       refused out.2.0 (inl (of_told (IsBad q) (origin_held held q.origin) bytes h (inr (out.0, out.1))))
   done_kind bytes input h few small (inr run) =
-      ran (work_tells q.work q.form q.most q.show bytes input s report run) not_refused
+      ran (work_tells q.work q.form (settings_of q) bytes input s report run) not_refused
     where
       not_refused : IsRefused (Some q) held → ⊥
       not_refused (inl bad) =
@@ -148,7 +148,7 @@ module _ (q : Request) (held : List ℕ → Option (List ℕ)) (rose : Type 0) (
 
   input_kind : (bytes : List ℕ) (loaded : Loaded) → Holds (origin_held held q.origin) bytes
       → length bytes ≤ limit_of q.form → IsInputRead q.input held rose loaded
-      → AfterReading loaded (λ input. IsDone q.work q.form q.most q.show bytes input s report) s report
+      → AfterReading loaded (λ input. IsDone q.work q.form (settings_of q) bytes input s report) s report
       → Kind (Some q) held rose s
   input_kind bytes Fault h few i a = unread a.0 (input_fault q.input held rose i)
   input_kind bytes TooLarge h few i a =

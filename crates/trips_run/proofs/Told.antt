@@ -16,16 +16,17 @@ use Rattle.c_front.specs.declared.refusal.Refusal.TheVariants as stage
 use Rattle.c_front.specs.Fronts.{IsAccepted, IsRefused, MayBeRefused}
 use Rattle.c_compile.specs.Images.{IsImageOf}
 use Rattle.flat_lower.specs.Keeps.{IsInput}
+use Rattle.grid_place.specs.declared.placed.Placing.{Placing}
 use Rattle.trips_outside.specs.Outside.{Rose}
 use Rattle.trips_run.specs.declared.status.Status.{Status}
 use Rattle.trips_run.specs.declared.status.Status.TheVariants as status
 use Rattle.trips_run.specs.declared.answer.Answer.{Answer}
-use Rattle.trips_report.specs.declared.show.Show.{Show}
 use Rattle.trips_words.specs.declared.commands.Command.{Command as Work}
 use Rattle.trips_words.specs.declared.commands.Command.TheVariants.{Run, Evaluate, Compile}
 use Rattle.trips_words.specs.declared.commands.Command.TheVariants.{Assemble, Disassemble, Check}
 use Rattle.trips_run.specs.declared.command_line.FileForm.{FileForm}
 use Rattle.trips_run.specs.declared.command_line.FileForm.TheVariants as form
+use Rattle.trips_run.specs.declared.command_line.Settings.{Settings}
 use Rattle.trips_run.specs.declared.loading.Loaded.{Loaded}
 use Rattle.trips_run.specs.declared.loading.Loaded.TheVariants.{Fault, TooLarge, Bytes}
 use Rattle.std.proofs.Common.{option_map}
@@ -45,7 +46,7 @@ use Rattle.trips_tools.specs.Tools.{IsOneImage, IsGoodImage, Makes}
 use Rattle.trips_run.specs.Made.{IsMade}
 use Rattle.trips_run.specs.Refusal.{front_refusal}
 use Rattle.trips_run.specs.Refused.{IsRefusedByFront, IsNoImage, IsBadImage}
-use Rattle.trips_run.specs.Worked.{status_of, IsRefusalBy, IsRunBy, IsEvaluation, IsDone, placed}
+use Rattle.trips_run.specs.Worked.{status_of, IsRefusalBy, IsRunBy, IsEvaluation, IsDone}
 use Rattle.trips_run.specs.Answer.{AfterReading, IsAnswerBehind, IsAnswer}
 use Rattle.trips_run.specs.Checked.{IsRunOfChecked}
 
@@ -54,22 +55,22 @@ pub checked_good : (image : Image) → IsCheckedImage image → All IsGood image
 checked_good image checked = λ k d lt. (checked.each k d lt).good
 
 -- a run, its status and its report
-pub run_told : (blocks : List Block) (bytes input begin_input : List ℕ) (budget : ℕ) (show : Show)
+pub run_told : (blocks : List Block) (bytes input begin_input : List ℕ) (settings : Settings)
     (first after : State) (ending : Ending) (s : Status) (report : List ℕ) → begin_input ≡ input
-    → first ≡ start bytes begin_input → after ≡ (runs blocks first budget).0
-    → ending ≡ ending_of (runs blocks first budget).1 (runs blocks first budget).0.next
-    → s ≡ status_of ending → report ≡ shown_report ending after show
-    → IsRunBy blocks bytes input budget show s report
-run_told blocks bytes input begin_input budget show first after ending s report i f a e h t =
-    let same : runs blocks first budget ≡ runs blocks (start bytes input) budget =
-    ap (λ (st : State). runs blocks st budget) (f ∙ ap (start bytes) i) in
-    let ends : ending ≡ ending_of (runs blocks (start bytes input) budget).1
-    (runs blocks (start bytes input) budget).0.next =
+    → first ≡ start bytes begin_input → after ≡ (runs blocks first settings.most).0
+    → ending ≡ ending_of (runs blocks first settings.most).1 (runs blocks first settings.most).0.next
+    → s ≡ status_of ending → report ≡ shown_report ending after settings.show
+    → IsRunBy blocks bytes input settings s report
+run_told blocks bytes input begin_input settings first after ending s report i f a e h t =
+    let same : runs blocks first settings.most ≡ runs blocks (start bytes input) settings.most =
+    ap (λ (st : State). runs blocks st settings.most) (f ∙ ap (start bytes) i) in
+    let ends : ending ≡ ending_of (runs blocks (start bytes input) settings.most).1
+    (runs blocks (start bytes input) settings.most).0.next =
     e ∙ ap (λ (r : State × Stepped). ending_of r.1 r.0.next) same in (
       h ∙ ap status_of ends,
-      t ∙ ap (λ (x : Ending). shown_report x after show) ends
-          ∙ ap (λ (st : State). shown_report (ending_of (runs blocks (start bytes input) budget).1
-          (runs blocks (start bytes input) budget).0.next) st show)
+      t ∙ ap (λ (x : Ending). shown_report x after settings.show) ends
+          ∙ ap (λ (st : State). shown_report (ending_of (runs blocks (start bytes input) settings.most).1
+          (runs blocks (start bytes input) settings.most).0.next) st settings.show)
           (a ∙ ap (λ (r : State × Stepped). r.0) same),
     )
 
@@ -89,94 +90,100 @@ front_told : (text : List ℕ) (refusal : Refusal) → MayBeRefused text refusal
 front_told text refusal may some = (refusal, refusal_is text refusal may some, refl)
 
 -- the refusal of a text under `run`
-pub run_refused_told : {E : Type 0} (text input : List ℕ) (most : ℕ) (show : Show) (refusal : Refusal)
+pub run_refused_told : {E : Type 0} (text input : List ℕ) (settings : Settings) (refusal : Refusal)
     (r : Result Answer E) → MayBeRefused text refusal
     → IfOk r (λ a. IsRefusalBy refusal a.status a.report.items)
-    → IfOk r (λ a. IsDone Run form.Source most show text input a.status a.report.items)
-run_refused_told text input most show refusal (Err e) may told = tt
-run_refused_told text input most show refusal (Ok a) may told =
+    → IfOk r (λ a. IsDone Run form.Source settings text input a.status a.report.items)
+run_refused_told text input settings refusal (Err e) may told = tt
+run_refused_told text input settings refusal (Ok a) may told =
     inl (front_refusal refusal, front_told text refusal may told.0, told.1)
 
 -- the run of the image that is compiled from a text
-pub compiled_told : {E : Type 0} (text input : List ℕ) (most : ℕ) (show : Show) (image : Image)
-    (r : Result Answer E) → IsImageOf text placed image → IsInput input
-    → IfOk r (λ a. IsRunBy image.blocks image.bytes input most show a.status a.report.items)
-    → IfOk r (λ a. IsDone Run form.Source most show text input a.status a.report.items)
-compiled_told text input most show image (Err e) is bytes told = tt
-compiled_told text input most show image (Ok a) is bytes told = inr (image, is, bytes, told)
+pub compiled_told : {E : Type 0} (text input : List ℕ) (settings : Settings) (image : Image)
+    (r : Result Answer E) → IsImageOf text settings.placing image → IsInput input
+    → IfOk r (λ a. IsRunBy image.blocks image.bytes input settings a.status a.report.items)
+    → IfOk r (λ a. IsDone Run form.Source settings text input a.status a.report.items)
+compiled_told text input settings image (Err e) is bytes told = tt
+compiled_told text input settings image (Ok a) is bytes told = inr (image, is, bytes, told)
 
 -- the refusal of a text under `eval`
 pub eval_refused_told : {E : Type 0} (steps : ℕ) (text input : List ℕ) (refusal : Refusal)
     (r : Result Answer E) → MayBeRefused text refusal
     → IfOk r (λ a. IsRefusalBy refusal a.status a.report.items)
-    → IfOk r (λ a. (how : FileForm) (show : Show)
-    → IsDone Evaluate how steps show text input a.status a.report.items)
+    → IfOk r (λ a. (how : FileForm) (settings : Settings) → settings.most ≡ steps
+    → IsDone Evaluate how settings text input a.status a.report.items)
 eval_refused_told steps text input refusal (Err e) may told = tt
 eval_refused_told steps text input refusal (Ok a) may told =
-    λ how show. inl (front_refusal refusal, front_told text refusal may told.0, told.1)
+    λ how settings same. inl (front_refusal refusal, front_told text refusal may told.0, told.1)
 
 -- the evaluation of an accepted text
 pub evaluated_told : {E : Type 0} (steps : ℕ) (text input : List ℕ) (program : TypedProgram)
     (r : Result Answer E) → IsAccepted text program
     → IfOk r (λ a. IsEvaluation program input steps a.status a.report.items)
-    → IfOk r (λ a. (how : FileForm) (show : Show)
-    → IsDone Evaluate how steps show text input a.status a.report.items)
+    → IfOk r (λ a. (how : FileForm) (settings : Settings) → settings.most ≡ steps
+    → IsDone Evaluate how settings text input a.status a.report.items)
 evaluated_told steps text input program (Err e) is told = tt
-evaluated_told steps text input program (Ok a) is told = λ how show. inr (program, is, told)
+evaluated_told steps text input program (Ok a) is told = λ how settings same. inr (
+  program,
+  is,
+  subst (λ (m : ℕ). IsEvaluation program input m a.status a.report.items) (sym same) told,
+)
 
 -- the refusal of a text under `compile`
-pub compile_refused_told : {E : Type 0} (text : List ℕ) (refusal : Refusal) (r : Result Answer E)
+pub compile_refused_told : {E : Type 0} (text : List ℕ) (placing : Placing) (refusal : Refusal)
+    (r : Result Answer E)
     → MayBeRefused text refusal → IfOk r (λ a. IsRefusalBy refusal a.status a.report.items)
-    → IfOk r (λ a. (how : FileForm) (most : ℕ) (show : Show) (input : List ℕ)
-    → IsDone Compile how most show text input a.status a.report.items)
-compile_refused_told text refusal (Err e) may told = tt
-compile_refused_told text refusal (Ok a) may told =
-    λ how most show input. inl (front_refusal refusal, front_told text refusal may told.0, told.1)
+    → IfOk r (λ a. (how : FileForm) (settings : Settings) (input : List ℕ) → settings.placing ≡ placing
+    → IsDone Compile how settings text input a.status a.report.items)
+compile_refused_told text placing refusal (Err e) may told = tt
+compile_refused_told text placing refusal (Ok a) may told =
+    λ how settings input same. inl (front_refusal refusal, front_told text refusal may told.0, told.1)
 
 -- the image that is compiled from a text is written
-pub written_told : {E : Type 0} (text : List ℕ) (image : Image) (r : Result Answer E)
-    → IsImageOf text placed image
+pub written_told : {E : Type 0} (text : List ℕ) (placing : Placing) (image : Image)
+    (r : Result Answer E) → IsImageOf text placing image
     → IfOk r (λ a. ImageBytes image a.report.items × (a.status ≡ status.Ended))
-    → IfOk r (λ a. (how : FileForm) (most : ℕ) (show : Show) (input : List ℕ)
-    → IsDone Compile how most show text input a.status a.report.items)
-written_told text image (Err e) is told = tt
-written_told text image (Ok a) is told = λ how most show input. inr (image, is, told.0, told.1)
+    → IfOk r (λ a. (how : FileForm) (settings : Settings) (input : List ℕ) → settings.placing ≡ placing
+    → IsDone Compile how settings text input a.status a.report.items)
+written_told text placing image (Err e) is told = tt
+written_told text placing image (Ok a) is told = λ how settings input same.
+    inr (image, subst (λ (p : Placing). IsImageOf text p image) (sym same) is, told.0, told.1)
 
 -- images --------------------------------------------------------------------------------------
 
-checked_done : (bytes input : List ℕ) (most : ℕ) (show : Show) (image : Image) (s : Status) (report : List ℕ)
-    → ImageBytes image bytes → IsRunOfChecked image most show input s report
-    → IsDone Run form.Image most show bytes input s report
-checked_done bytes input most show image s report spelled (inl run) =
+checked_done : (bytes input : List ℕ) (settings : Settings) (image : Image) (s : Status) (report : List ℕ)
+    → ImageBytes image bytes → IsRunOfChecked image settings input s report
+    → IsDone Run form.Image settings bytes input s report
+checked_done bytes input settings image s report spelled (inl run) =
     inr (image, spelled, run.0, run.1)
-checked_done bytes input most show image s report spelled (inr bad) =
+checked_done bytes input settings image s report spelled (inr bad) =
     inl (_, inr (image, bad.0, bad.1, spelled, bad.2, refl), bad.3)
 
 -- the answer to the image that the bytes spell
-pub image_told : {E : Type 0} (bytes input : List ℕ) (most : ℕ) (show : Show) (image : Image)
+pub image_told : {E : Type 0} (bytes input : List ℕ) (settings : Settings) (image : Image)
     (r : Result Answer E) → ImageBytes image bytes
-    → IfOk r (λ a. IsRunOfChecked image most show input a.status a.report.items)
-    → IfOk r (λ a. IsDone Run form.Image most show bytes input a.status a.report.items)
-image_told bytes input most show image (Err e) spelled told = tt
-image_told bytes input most show image (Ok a) spelled told =
-    checked_done bytes input most show image a.status a.report.items spelled told
+    → IfOk r (λ a. IsRunOfChecked image settings input a.status a.report.items)
+    → IfOk r (λ a. IsDone Run form.Image settings bytes input a.status a.report.items)
+image_told bytes input settings image (Err e) spelled told = tt
+image_told bytes input settings image (Ok a) spelled told =
+    checked_done bytes input settings image a.status a.report.items spelled told
 
-checked_target : (text input : List ℕ) (most : ℕ) (show : Show) (image : Image) (s : Status)
-    (report : List ℕ) → TargetText image text → IsRunOfChecked image most show input s report
-    → IsDone Run form.Target most show text input s report
-checked_target text input most show image s report spelled (inl run) =
+checked_target : (text input : List ℕ) (settings : Settings) (image : Image) (s : Status)
+    (report : List ℕ) → TargetText image text → IsRunOfChecked image settings input s report
+    → IsDone Run form.Target settings text input s report
+checked_target text input settings image s report spelled (inl run) =
     inr (image, spelled, run.0, run.1)
-checked_target text input most show image s report spelled (inr bad) =
+checked_target text input settings image s report spelled (inr bad) =
     inl (_, inr (image, bad.0, bad.1, spelled, bad.2, refl), bad.3)
 
 -- the answer to the image of a target text
-pub target_told : {E : Type 0} (text input : List ℕ) (most : ℕ) (show : Show) (image : Image)
+pub target_told : {E : Type 0} (text input : List ℕ) (settings : Settings) (image : Image)
     (r : Result Answer E) → TargetText image text
-    → IfOk r (λ a. IsRunOfChecked image most show input a.status a.report.items)
-    → IfOk r (λ a. IsDone Run form.Target most show text input a.status a.report.items)
-target_told text input most show image (Err e) spelled told = tt
-target_told text input most show image (Ok a) spelled told =
-    checked_target text input most show image a.status a.report.items spelled told
+    → IfOk r (λ a. IsRunOfChecked image settings input a.status a.report.items)
+    → IfOk r (λ a. IsDone Run form.Target settings text input a.status a.report.items)
+target_told text input settings image (Err e) spelled told = tt
+target_told text input settings image (Ok a) spelled told =
+    checked_target text input settings image a.status a.report.items spelled told
 
 -- what tools make ----------------------------------------------------------------------------
 
@@ -184,26 +191,26 @@ target_told text input most show image (Ok a) spelled told =
 pub assembled_told : {E : Type 0} (text : List ℕ) (made : Made) (r : Result Answer E)
     → Makes (IsOneImage text) (tools.IsNoText text) made
     → IfOk r (λ a. IsMade made a.status a.report.items)
-    → IfOk r (λ a. (how : FileForm) (most : ℕ) (show : Show) (input : List ℕ)
-    → IsDone Assemble how most show text input a.status a.report.items)
+    → IfOk r (λ a. (how : FileForm) (settings : Settings) (input : List ℕ)
+    → IsDone Assemble how settings text input a.status a.report.items)
 assembled_told text made (Err e) h told = tt
 assembled_told text (tool.Bytes bytes) (Ok a) h told =
-    λ how most show input. inr (subst (IsOneImage text) (sym told.1) h, told.0)
+    λ how settings input. inr (subst (IsOneImage text) (sym told.1) h, told.0)
 assembled_told text (tool.Refused said) (Ok a) h told =
-    λ how most show input. inl (refusal_report said, (h.0, h.1, ap refusal_report h.2), told)
+    λ how settings input. inl (refusal_report said, (h.0, h.1, ap refusal_report h.2), told)
 
 -- the target text of an image, or its refusal
 pub disassembled_told : {E : Type 0} (bytes : List ℕ) (made : Made) (r : Result Answer E)
     → Makes (λ text. IsOneImage text bytes) (tools.IsNoImage bytes) made
     → IfOk r (λ a. IsMade made a.status a.report.items)
-    → IfOk r (λ a. (how : FileForm) (most : ℕ) (show : Show) (input : List ℕ)
-    → IsDone Disassemble how most show bytes input a.status a.report.items)
+    → IfOk r (λ a. (how : FileForm) (settings : Settings) (input : List ℕ)
+    → IsDone Disassemble how settings bytes input a.status a.report.items)
 disassembled_told bytes made (Err e) h told = tt
 disassembled_told bytes (tool.Bytes text) (Ok a) h told =
-    λ how most show input.
+    λ how settings input.
     inr (subst (λ (t : List ℕ). IsOneImage t bytes) (sym told.1) h, told.0)
 disassembled_told bytes (tool.Refused said) (Ok a) h told =
-    λ how most show input. inl (refusal_report said, (h.0, h.1, ap refusal_report h.2), told)
+    λ how settings input. inl (refusal_report said, (h.0, h.1, ap refusal_report h.2), told)
 
 -- the report on an image, or its refusal
 not_good : (bytes : List ℕ) (said : Said) → tools.IsNoImage bytes said ⊎ tools.IsBadImage bytes said
@@ -215,13 +222,13 @@ pub checked_told : {E : Type 0} (bytes : List ℕ) (made : Made) (r : Result Ans
     → Makes (IsGoodImage bytes)
     (λ said. tools.IsNoImage bytes said ⊎ tools.IsBadImage bytes said) made
     → IfOk r (λ a. IsMade made a.status a.report.items)
-    → IfOk r (λ a. (how : FileForm) (most : ℕ) (show : Show) (input : List ℕ)
-    → IsDone Check how most show bytes input a.status a.report.items)
+    → IfOk r (λ a. (how : FileForm) (settings : Settings) (input : List ℕ)
+    → IsDone Check how settings bytes input a.status a.report.items)
 checked_told bytes made (Err e) h told = tt
 checked_told bytes (tool.Bytes good) (Ok a) h told =
-    λ how most show input. inr (subst (IsGoodImage bytes) (sym told.1) h, told.0)
+    λ how settings input. inr (subst (IsGoodImage bytes) (sym told.1) h, told.0)
 checked_told bytes (tool.Refused said) (Ok a) h told =
-    λ how most show input. inl (refusal_report said, not_good bytes said h, told)
+    λ how settings input. inl (refusal_report said, not_good bytes said h, told)
 
 -- the work -----------------------------------------------------------------------------------
 
@@ -233,38 +240,51 @@ few_bytes form.Target = omega arith
 few_bytes form.Image = omega arith
 
 -- what `eval` does, whatever its file is read as
-pub evaluate_told : {E : Type 0} (work : Work) (how : FileForm) (most : ℕ) (show : Show)
-    (bytes seen input : List ℕ) (r : Result Answer E) → work ≡ Evaluate → seen ≡ input
-    → IfOk r (λ a. (f : FileForm) (v : Show)
-    → IsDone Evaluate f most v bytes seen a.status a.report.items)
-    → IfOk r (λ a. IsDone work how most show bytes input a.status a.report.items)
-evaluate_told work how most show bytes seen input (Err e) is same told = tt
-evaluate_told work how most show bytes seen input (Ok a) is same told =
-    subst (λ (w : Work). IsDone w how most show bytes input a.status a.report.items) (sym is)
-    (subst (λ (i : List ℕ). IsDone Evaluate how most show bytes i a.status a.report.items) same
-    (told how show))
+pub evaluate_told : {E : Type 0} (work : Work) (how : FileForm) (steps : ℕ) (settings : Settings)
+    (bytes seen input : List ℕ) (r : Result Answer E) → work ≡ Evaluate → settings.most ≡ steps
+    → seen ≡ input
+    → IfOk r (λ a. (f : FileForm) (t : Settings) → t.most ≡ steps
+    → IsDone Evaluate f t bytes seen a.status a.report.items)
+    → IfOk r (λ a. IsDone work how settings bytes input a.status a.report.items)
+evaluate_told work how steps settings bytes seen input (Err e) is most same told = tt
+evaluate_told work how steps settings bytes seen input (Ok a) is most same told =
+    subst (λ (w : Work). IsDone w how settings bytes input a.status a.report.items) (sym is)
+    (subst (λ (i : List ℕ). IsDone Evaluate how settings bytes i a.status a.report.items) same
+    (told how settings most))
 
 -- what `run` does with a file of this form
-pub run_form_told : {E : Type 0} (work : Work) (how read : FileForm) (most : ℕ) (show seen : Show)
-    (bytes input : List ℕ) (r : Result Answer E) → work ≡ Run → read ≡ how → seen ≡ show
-    → IfOk r (λ a. IsDone Run read most seen bytes input a.status a.report.items)
-    → IfOk r (λ a. IsDone work how most show bytes input a.status a.report.items)
-run_form_told work how read most show seen bytes input (Err e) is same shows told = tt
-run_form_told work how read most show seen bytes input (Ok a) is same shows told =
-    subst (λ (w : Work). IsDone w how most show bytes input a.status a.report.items) (sym is)
-    (subst (λ (f : FileForm). IsDone Run f most show bytes input a.status a.report.items) same
-    (subst (λ (v : Show). IsDone Run read most v bytes input a.status a.report.items) shows told))
+pub run_form_told : {E : Type 0} (work : Work) (how read : FileForm) (settings seen : Settings)
+    (bytes input : List ℕ) (r : Result Answer E) → work ≡ Run → read ≡ how → seen ≡ settings
+    → IfOk r (λ a. IsDone Run read seen bytes input a.status a.report.items)
+    → IfOk r (λ a. IsDone work how settings bytes input a.status a.report.items)
+run_form_told work how read settings seen bytes input (Err e) is same set told = tt
+run_form_told work how read settings seen bytes input (Ok a) is same set told =
+    subst (λ (w : Work). IsDone w how settings bytes input a.status a.report.items) (sym is)
+    (subst (λ (f : FileForm). IsDone Run f settings bytes input a.status a.report.items) same
+    (subst (λ (t : Settings). IsDone Run read t bytes input a.status a.report.items) set told))
+
+-- what `compile` does, whatever its file is read as
+pub compile_told : {E : Type 0} (work : Work) (how : FileForm) (placing : Placing)
+    (settings : Settings) (bytes input : List ℕ) (r : Result Answer E) → work ≡ Compile
+    → settings.placing ≡ placing
+    → IfOk r (λ a. (f : FileForm) (t : Settings) (i : List ℕ) → t.placing ≡ placing
+    → IsDone Compile f t bytes i a.status a.report.items)
+    → IfOk r (λ a. IsDone work how settings bytes input a.status a.report.items)
+compile_told work how placing settings bytes input (Err e) is same told = tt
+compile_told work how placing settings bytes input (Ok a) is same told =
+    subst (λ (w : Work). IsDone w how settings bytes input a.status a.report.items) (sym is)
+    (told how settings input same)
 
 -- what a tool does, whatever is asked for besides its file
-pub tool_told : {E : Type 0} (work which : Work) (how : FileForm) (most : ℕ) (show : Show)
+pub tool_told : {E : Type 0} (work which : Work) (how : FileForm) (settings : Settings)
     (bytes input : List ℕ) (r : Result Answer E) → work ≡ which
-    → IfOk r (λ a. (f : FileForm) (m : ℕ) (v : Show) (i : List ℕ)
-    → IsDone which f m v bytes i a.status a.report.items)
-    → IfOk r (λ a. IsDone work how most show bytes input a.status a.report.items)
-tool_told work which how most show bytes input (Err e) is told = tt
-tool_told work which how most show bytes input (Ok a) is told =
-    subst (λ (w : Work). IsDone w how most show bytes input a.status a.report.items) (sym is)
-    (told how most show input)
+    → IfOk r (λ a. (f : FileForm) (t : Settings) (i : List ℕ)
+    → IsDone which f t bytes i a.status a.report.items)
+    → IfOk r (λ a. IsDone work how settings bytes input a.status a.report.items)
+tool_told work which how settings bytes input (Err e) is told = tt
+tool_told work which how settings bytes input (Ok a) is told =
+    subst (λ (w : Work). IsDone w how settings bytes input a.status a.report.items) (sym is)
+    (told how settings input)
 
 -- the whole answer ----------------------------------------------------------------------------
 

@@ -4,7 +4,7 @@ use Rattle.trips_run.specs.declared.loading.Loaded.{Loaded}
 use Rattle.trips_run.specs.declared.loading.Loaded.TheVariants.{Fault, TooLarge, Bytes}
 use Rattle.trips_run.specs.declared.status.Status.{Status}
 use Rattle.trips_run.specs.declared.status.Status.TheVariants as status
-use Rattle.trips_run.specs.Request.{Request, origin_held}
+use Rattle.trips_run.specs.Request.{Request, origin_held, settings_of}
 use Rattle.trips_run.specs.Read.{IsRead, IsInputRead, limit_of}
 use Rattle.trips_run.specs.Report.{usage_text, read_fault_text}
 use Rattle.trips_report.specs.Refusals.{too_large_text}
@@ -21,7 +21,7 @@ abbrev pub IsAnswerBehind : Request → (List ℕ → Option (List ℕ)) → Typ
     → List ℕ → Status → List ℕ → Type 0
 IsAnswerBehind q held rose bytes s report =
     (loaded : Loaded) × IsInputRead q.input held rose loaded
-    × AfterReading loaded (λ input. IsDone q.work q.form q.most q.show bytes input s report) s report
+    × AfterReading loaded (λ input. IsDone q.work q.form (settings_of q) bytes input s report) s report
 
 -- Of the request (none where the words make none), of what names hold, and of whether the count of
 -- the files' faults rose, this is the answer.

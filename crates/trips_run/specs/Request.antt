@@ -3,6 +3,8 @@ use Rattle.std.specs.Prelude.{ℕ, false, if◌then◌else◌, List, map, String
 use Rattle.std.specs.Prelude.{codes, nat_eq, string_bytes}
 use Rattle.std.specs.List.{ends_with}
 use Rattle.bench_text.specs.Text.{bench_text}
+use Rattle.grid_place.specs.declared.placed.Placing.{Placing}
+use Rattle.grid_place.specs.declared.placed.Placing.TheVariants.{Greedy, Seeded}
 use Rattle.trips_report.specs.declared.show.Show.{Show}
 use Rattle.trips_words.specs.declared.commands.Asked.{Asked}
 use Rattle.trips_words.specs.declared.commands.Command.{Command as Work}
@@ -10,6 +12,7 @@ use Rattle.trips_words.specs.declared.commands.Command.TheVariants as command
 use Rattle.trips_words.specs.Requests as line
 use Rattle.trips_run.specs.declared.command_line.FileForm.{FileForm}
 use Rattle.trips_run.specs.declared.command_line.FileForm.TheVariants as form
+use Rattle.trips_run.specs.declared.command_line.Settings.{Settings}
 
 -- Where the bytes stand that a request works with: in the file of a name, or in the text of the benchmark
 -- with so many functions.
@@ -27,15 +30,30 @@ abbrev pub origin_of : List ℕ → Option ℕ → Origin
 origin_of file None = File file
 origin_of file (Some functions) = Bench functions
 
+-- how compiled blocks are placed, by the number that is said
+abbrev pub placing_of : Option ℕ → Placing
+placing_of None = Greedy
+placing_of (Some number) = Seeded number
+
 -- A request: what is done, with the bytes of what, read as what, with the input of which name, if it has
--- one, how many blocks or steps it may take, and what the report of a run shows behind its ending.
+-- one, how compiled blocks are placed, how many blocks or steps it may take, and what the report of a run
+-- shows behind its ending.
 pub record Request : Type 0 where
   pub work : Work
   pub origin : Origin
   pub form : FileForm
   pub input : Option (List ℕ)
+  pub placing : Placing
   pub most : ℕ
   pub show : Show
+
+-- how a request's work is done within so many blocks or steps, where this is shown
+abbrev pub settings_with : Request → ℕ → Show → Settings
+settings_with q most show = record { placing = q.placing; most = most; show = show }
+
+-- how the work of a request is done
+abbrev pub settings_of : Request → Settings
+settings_of q = settings_with q q.most q.show
 
 -- what `run` reads a file as, by the ending of its name
 abbrev pub form_named : List ℕ → FileForm
@@ -58,6 +76,7 @@ planned r = record {
   origin = origin_of r.file r.functions;
   form = form_of r.command r.file;
   input = r.input;
+  placing = placing_of r.place;
   most = r.most;
   show = record { regs = r.regs; trace = r.trace; cycles = false };
 }

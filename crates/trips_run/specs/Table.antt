@@ -9,7 +9,7 @@ use Rattle.trips_words.specs.declared.commands.Command.TheVariants.{Evaluate}
 use Rattle.trips_run.specs.declared.command_line.FileForm.{FileForm}
 use Rattle.trips_run.specs.declared.status.Status.{Status}
 use Rattle.trips_run.specs.declared.status.Status.TheVariants as status
-use Rattle.trips_run.specs.Request.{Request, origin_held}
+use Rattle.trips_run.specs.Request.{Request, origin_held, settings_of}
 use Rattle.trips_run.specs.Read.{HoldsInput, IsTold, limit_of}
 use Rattle.trips_run.specs.Refused.{IsLarge}
 use Rattle.trips_report.specs.Runs.{output_and}
@@ -83,7 +83,7 @@ pub record EndsAs (held : List ℕ → Option (List ℕ)) (q : Request) (s : Sta
   pub report : List ℕ
   pub holds : Holds (origin_held held q.origin) bytes
   pub holds_input : HoldsInput q.input held input
-  pub worked : IsWorked q.work q.form q.most q.show bytes input s report
+  pub worked : IsWorked q.work q.form (settings_of q) bytes input s report
 
 -- the request is an evaluation that ended so
 pub record EvalEnds (request : Option Request) (held : List ℕ → Option (List ℕ)) (s : Status)

@@ -13,7 +13,6 @@ use Rattle.c_front.specs.Fronts.{IsAccepted}
 use Rattle.c_compile.specs.Images.{IsImageOf}
 use Rattle.flat_lower.specs.Keeps as bytes
 use Rattle.grid_place.specs.declared.placed.Placing.{Placing}
-use Rattle.grid_place.specs.declared.placed.Placing.TheVariants.{Greedy}
 use Rattle.c_meaning_spec.specs.Eval.{eval}
 use Rattle.c_meaning.specs.declared.outcome.Outcome.{Outcome}
 use Rattle.c_meaning.specs.declared.outcome.Outcome.TheVariants as outcome
@@ -21,13 +20,13 @@ use Rattle.c_meaning.specs.Answer.{answer}
 use Rattle.block_image.specs.Spelling.{ImageBytes}
 use Rattle.block_check.specs.Faults.{IsGood}
 use Rattle.target_asm_spec.specs.Text.{TargetText}
-use Rattle.trips_report.specs.declared.show.Show.{Show}
 use Rattle.trips_tools.specs.Tools.{IsOneImage, IsGoodImage}
 use Rattle.trips_words.specs.declared.commands.Command.{Command as Work}
 use Rattle.trips_words.specs.declared.commands.Command.TheVariants.{Run, Evaluate, Compile}
 use Rattle.trips_words.specs.declared.commands.Command.TheVariants.{Assemble, Disassemble, Check}
 use Rattle.trips_run.specs.declared.command_line.FileForm.{FileForm}
 use Rattle.trips_run.specs.declared.command_line.FileForm.TheVariants as form
+use Rattle.trips_run.specs.declared.command_line.Settings.{Settings}
 use Rattle.trips_run.specs.declared.status.Status.{Status}
 use Rattle.trips_run.specs.declared.status.Status.TheVariants as status
 use Rattle.trips_run.specs.Report.{ending_of, shown_report}
@@ -53,11 +52,11 @@ status_of ending.Budget = status.Budget
 status_of (ending.Trap block cause) = status.Trap
 
 -- These tell the sequential machine's run of an image on an input, within a budget of blocks.
-abbrev pub IsRunBy : List Block → List ℕ → List ℕ → ℕ → Show → Status → List ℕ → Type 0
-IsRunBy blocks bytes input budget show s report =
-    let run = runs blocks (start bytes input) budget in
+abbrev pub IsRunBy : List Block → List ℕ → List ℕ → Settings → Status → List ℕ → Type 0
+IsRunBy blocks bytes input settings s report =
+    let run = runs blocks (start bytes input) settings.most in
     let ended = ending_of run.1 run.0.next in
-    IsFixed (status_of ended) (shown_report ended run.0 show) s report
+    IsFixed (status_of ended) (shown_report ended run.0 settings.show) s report
 
 -- the status that tells an outcome
 abbrev pub eval_status : Outcome → Status
@@ -82,41 +81,37 @@ abbrev pub IsEvaluationOf : ℕ → List ℕ → List ℕ → Status → List �
 IsEvaluationOf most text input s report = (program : TypedProgram) × IsAccepted text program
     × IsEvaluation program input most s report
 
--- how the blocks of a compiled program are placed
-unfoldable pub placed : Placing
-placed = Greedy
-
 -- the image that is compiled from the text is run, on an input of bytes
-abbrev pub IsRunOfText : ℕ → Show → List ℕ → List ℕ → Status → List ℕ → Type 0
-IsRunOfText most show text input s report = (image : Image) × IsImageOf text placed image
-    × bytes.IsInput input × IsRunBy image.blocks image.bytes input most show s report
+abbrev pub IsRunOfText : Settings → List ℕ → List ℕ → Status → List ℕ → Type 0
+IsRunOfText settings text input s report = (image : Image) × IsImageOf text settings.placing image
+    × bytes.IsInput input × IsRunBy image.blocks image.bytes input settings s report
 
 -- the image is run, all of whose blocks are good
-abbrev pub IsRunOfImage : ℕ → Show → List ℕ → List ℕ → Status → List ℕ → Type 0
-IsRunOfImage most show bytes input s report = (image : Image) × ImageBytes image bytes
-    × All IsGood image.blocks × IsRunBy image.blocks image.bytes input most show s report
+abbrev pub IsRunOfImage : Settings → List ℕ → List ℕ → Status → List ℕ → Type 0
+IsRunOfImage settings bytes input s report = (image : Image) × ImageBytes image bytes
+    × All IsGood image.blocks × IsRunBy image.blocks image.bytes input settings s report
 
 -- the image of the target text is run, all of whose blocks are good
-abbrev pub IsRunOfTarget : ℕ → Show → List ℕ → List ℕ → Status → List ℕ → Type 0
-IsRunOfTarget most show text input s report = (image : Image) × TargetText image text
-    × All IsGood image.blocks × IsRunBy image.blocks image.bytes input most show s report
+abbrev pub IsRunOfTarget : Settings → List ℕ → List ℕ → Status → List ℕ → Type 0
+IsRunOfTarget settings text input s report = (image : Image) × TargetText image text
+    × All IsGood image.blocks × IsRunBy image.blocks image.bytes input settings s report
 
 -- the image that is compiled from the text is written
-abbrev pub IsCompiled : List ℕ → Status → List ℕ → Type 0
-IsCompiled text s report = (image : Image) × IsImageOf text placed image × ImageBytes image report
-    × (s ≡ status.Ended)
+abbrev pub IsCompiled : Placing → List ℕ → Status → List ℕ → Type 0
+IsCompiled placing text s report = (image : Image) × IsImageOf text placing image
+    × ImageBytes image report × (s ≡ status.Ended)
 
--- The work is done with the bytes of the file and of the input, within so many blocks or steps: a
--- row for each command and each form of its file.
-abbrev pub IsWorked : Work → FileForm → ℕ → Show → List ℕ → List ℕ → Status → List ℕ → Type 0
-IsWorked Evaluate how most show text input s report = IsEvaluationOf most text input s report
-IsWorked Run form.Source most show text input s report = IsRunOfText most show text input s report
-IsWorked Run form.Target most show text input s report = IsRunOfTarget most show text input s report
-IsWorked Run form.Image most show bytes input s report = IsRunOfImage most show bytes input s report
-IsWorked Compile how most show text input s report = IsCompiled text s report
-IsWorked Assemble how most show text input s report = IsOneImage text report × (s ≡ status.Ended)
-IsWorked Disassemble how most show bytes input s report = IsOneImage report bytes × (s ≡ status.Ended)
-IsWorked Check how most show bytes input s report = IsGoodImage bytes report × (s ≡ status.Ended)
+-- The work is done with the bytes of the file and of the input, by these settings: a row for each
+-- command and each form of its file.
+abbrev pub IsWorked : Work → FileForm → Settings → List ℕ → List ℕ → Status → List ℕ → Type 0
+IsWorked Evaluate how settings text input s report = IsEvaluationOf settings.most text input s report
+IsWorked Run form.Source settings text input s report = IsRunOfText settings text input s report
+IsWorked Run form.Target settings text input s report = IsRunOfTarget settings text input s report
+IsWorked Run form.Image settings bytes input s report = IsRunOfImage settings bytes input s report
+IsWorked Compile how settings text input s report = IsCompiled settings.placing text s report
+IsWorked Assemble how settings text input s report = IsOneImage text report × (s ≡ status.Ended)
+IsWorked Disassemble how settings bytes input s report = IsOneImage report bytes × (s ≡ status.Ended)
+IsWorked Check how settings bytes input s report = IsGoodImage bytes report × (s ≡ status.Ended)
 
 -- the bytes of the file are refused with the report that says why
 abbrev pub IsRefusal : Work → FileForm → List ℕ → Status → List ℕ → Type 0
@@ -124,6 +119,6 @@ IsRefusal work how bytes s report =
     (text : List ℕ) × IsRefusedAs work how bytes text × IsFixed status.Refused text s report
 
 -- they are refused, or the work is done
-abbrev pub IsDone : Work → FileForm → ℕ → Show → List ℕ → List ℕ → Status → List ℕ → Type 0
-IsDone work how most show bytes input s report =
-    IsRefusal work how bytes s report ⊎ IsWorked work how most show bytes input s report
+abbrev pub IsDone : Work → FileForm → Settings → List ℕ → List ℕ → Status → List ℕ → Type 0
+IsDone work how settings bytes input s report =
+    IsRefusal work how bytes s report ⊎ IsWorked work how settings bytes input s report

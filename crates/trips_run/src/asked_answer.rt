@@ -2,13 +2,13 @@
 
 ghost use Rattle.std.specs.Prelude.{◌≡◌, ◌≤◌, length, Some, IfOk, option_map};
 ghost use Rattle.trips_outside.specs.Outside.{Rose};
-ghost use Rattle.trips_run.specs.Request.{form_of, request_of, request_seen};
+ghost use Rattle.trips_run.specs.Request.{form_of, settings_of, request_of, request_seen};
 ghost use Rattle.trips_run.specs.Read.{limit_of};
 ghost use Rattle.trips_run.specs.Worked.{IsDone};
 ghost use Rattle.trips_run.specs.Answer.{AfterReading, IsAnswerBehind, IsAnswer};
 
 use crate::answer::{Answer, fixed, too_large, unread};
-use crate::command_line::{FileForm, asked_by, form_of, shown};
+use crate::command_line::{FileForm, Settings, asked_by, form_of, settings_for};
 use crate::eval_answer::text_evaluated;
 use crate::image_answer::{bytes_answer, target_answer};
 use crate::loading::{Loaded, read_input, read_origin};
@@ -19,7 +19,6 @@ use base::Items;
 use c_tree::MOST_SOURCE_BYTES;
 use std::alloc::{AllocError, Global};
 use trips_outside::Files;
-use trips_report::Show;
 use trips_words::{Asked, Command};
 
 /// How many bytes a target text may have.
@@ -46,17 +45,16 @@ fn run_done(
     form: FileForm,
     bytes: &[u8],
     input: Items<u8>,
-    blocks: u32,
-    show: Show,
+    settings: Settings,
 ) -> Result<Answer, AllocError>
     requires { length bytes.now ≤ limit_of form }
-    ensures { IfOk result (λ answer. IsDone Command.Run form blocks show bytes.now input
+    ensures { IfOk result (λ answer. IsDone Command.Run form settings bytes.now input
         answer.status answer.report.items) }
 {
     match form {
-        FileForm::Source => text_answer(alloc, bytes, input, blocks, show),
-        FileForm::Target => target_answer(alloc, bytes, input, blocks, show),
-        FileForm::Image => bytes_answer(alloc, bytes, input, blocks, show),
+        FileForm::Source => text_answer(alloc, bytes, input, settings),
+        FileForm::Target => target_answer(alloc, bytes, input, settings),
+        FileForm::Image => bytes_answer(alloc, bytes, input, settings),
     }
 }
 
@@ -69,16 +67,17 @@ fn done(
 ) -> Result<Answer, AllocError>
     requires { length bytes.now ≤ limit_of (form_of asked.command asked.file.now) }
     ensures { IfOk result (λ answer. IsDone asked.entry.command
-        (form_of asked.entry.command asked.entry.file.now) asked.entry.most
-        (request_seen asked.entry).show bytes.now input answer.status answer.report.items) }
+        (form_of asked.entry.command asked.entry.file.now) (settings_of (request_seen asked.entry))
+        bytes.now input answer.status answer.report.items) }
 {
+    let settings = settings_for(asked);
     match asked.command {
         Command::Run => {
             let form = form_of(asked.command, asked.file);
-            run_done(alloc, form, bytes, input, asked.most, shown(asked))
+            run_done(alloc, form, bytes, input, settings)
         }
-        Command::Evaluate => text_evaluated(alloc, bytes, input.as_slice(), asked.most),
-        Command::Compile => text_compiled(alloc, bytes),
+        Command::Evaluate => text_evaluated(alloc, bytes, input.as_slice(), settings.most),
+        Command::Compile => text_compiled(alloc, bytes, settings.placing),
         Command::Assemble => text_assembled(alloc, bytes),
         Command::Disassemble => bytes_disassembled(alloc, bytes),
         Command::Check => bytes_checked(alloc, bytes),
@@ -95,8 +94,8 @@ fn input_answer(
     requires { length bytes.now ≤ limit_of (form_of asked.command asked.file.now) }
     ensures { IfOk result (λ answer. AfterReading loaded
         (λ input. IsDone asked.entry.command
-        (form_of asked.entry.command asked.entry.file.now) asked.entry.most
-        (request_seen asked.entry).show bytes.now input answer.status answer.report.items)
+        (form_of asked.entry.command asked.entry.file.now) (settings_of (request_seen asked.entry))
+        bytes.now input answer.status answer.report.items)
         answer.status answer.report.items) }
 {
     match loaded {

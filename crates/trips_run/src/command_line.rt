@@ -1,8 +1,9 @@
-//! The request of the words, what it reads its file as, and what its report shows.
+//! The request of the words, what it reads its file as, and how its work is done.
 
-ghost use Rattle.std.specs.Prelude.{◌≡◌, false, IfOk, option_map};
-ghost use Rattle.trips_run.specs.Request.{form_named, form_of, request_of, request_seen};
+ghost use Rattle.std.specs.Prelude.{◌≡◌, IfOk, option_map};
+ghost use Rattle.trips_run.specs.Request.{form_named, form_of, placing_of, settings_of, request_of, request_seen};
 
+use grid_place::Placing;
 use std::alloc::{AllocError, Global};
 use trips_report::Show;
 use trips_words::{Asked, Command, request};
@@ -13,6 +14,17 @@ pub enum FileForm {
     Source,
     Target,
     Image,
+}
+
+/// How the work of a request is done.
+#[derive(Clone, Copy, Debug)]
+pub struct Settings {
+    /// how the blocks of a compiled program are placed
+    pub placing: Placing,
+    /// how many blocks or steps it may take
+    pub most: u32,
+    /// what the report of a run shows behind its ending
+    pub show: Show,
 }
 
 // What `run` reads a file as, by the ending of its name.
@@ -43,14 +55,28 @@ pub fn form_of(command: Command, file: &str) -> FileForm
     }
 }
 
-/// What the report of a run shows behind its ending.
-pub fn shown(asked: Asked<'_>) -> Show
-    ensures { result ≡ (record { regs = asked.entry.regs; trace = asked.entry.trace; cycles = false }) }
+// How compiled blocks are placed, by the number that is said.
+fn placing_of(place: Option<u64>) -> Placing
+    ensures { result ≡ placing_of place }
 {
-    Show {
-        regs: asked.regs,
-        trace: asked.trace,
-        cycles: false,
+    match place {
+        None => Placing::Greedy,
+        Some(number) => Placing::Seeded(number),
+    }
+}
+
+/// How the work of a request is done.
+pub fn settings_for(asked: Asked<'_>) -> Settings
+    ensures { result ≡ settings_of (request_seen asked.entry) }
+{
+    Settings {
+        placing: placing_of(asked.place),
+        most: asked.most,
+        show: Show {
+            regs: asked.regs,
+            trace: asked.trace,
+            cycles: false,
+        },
     }
 }
 

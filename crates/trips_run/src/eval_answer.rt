@@ -1,9 +1,9 @@
 //! `eval` on a text of C.
 
 ghost use Rattle.std.specs.Prelude.{◌≡◌, ◌<◌, length, IfOk};
-ghost use Rattle.trips_report.specs.declared.show.Show.{Show};
 ghost use Rattle.trips_words.specs.declared.commands.Command.TheVariants.{Evaluate};
 ghost use Rattle.trips_run.specs.declared.command_line.FileForm.{FileForm};
+ghost use Rattle.trips_run.specs.declared.command_line.Settings.{Settings};
 ghost use Rattle.trips_run.specs.Worked.{eval_status, IsEvaluation, IsDone};
 
 use crate::answer::{Answer, stage_refused};
@@ -54,8 +54,8 @@ pub fn text_evaluated(
     steps: u32,
 ) -> Result<Answer, AllocError>
     requires { length text.now < 4_294_967_295 }
-    ensures { IfOk result (λ answer. (form : FileForm) (show : Show)
-        → IsDone Evaluate form steps show text.now
+    ensures { IfOk result (λ answer. (form : FileForm) (settings : Settings)
+        → settings.most ≡ steps → IsDone Evaluate form settings text.now
         input.now answer.status answer.report.items) }
 {
     match front(alloc, text) {

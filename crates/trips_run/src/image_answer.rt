@@ -8,6 +8,7 @@ ghost use Rattle.trips_run.specs.Worked.{IsDone};
 ghost use Rattle.trips_run.specs.Checked.{IsRunOfChecked};
 
 use crate::answer::{Answer, refused};
+use crate::command_line::Settings;
 use crate::running::run_image;
 use base::Items;
 use block_check::{CheckedImage, ImageRefusal};
@@ -15,22 +16,21 @@ use block_image::{ImageFault, decode};
 use std::alloc::{AllocError, Global};
 use target_asm::{AsmFault, assemble};
 use trips_isa::Image;
-use trips_report::{Said, Show};
+use trips_report::Said;
 
 // Runs the image where its blocks are good.
 fn checked_answer(
     alloc: Global,
     image: Image,
     input: Items<u8>,
-    blocks: u32,
-    show: Show,
+    settings: Settings,
 ) -> Result<Answer, AllocError>
     requires { FitsImage image }
     ensures { IfOk result (λ answer.
-        IsRunOfChecked image blocks show input answer.status answer.report.items) }
+        IsRunOfChecked image settings input answer.status answer.report.items) }
 {
     match CheckedImage::make(alloc, image) {
-        Ok(checked) => run_image(alloc, &checked, input, blocks, show),
+        Ok(checked) => run_image(alloc, &checked, input, settings),
         Err(ImageRefusal::Bad(number, fault)) => refused(alloc, Said::Check(number, fault)),
         Err(ImageRefusal::Memory) => Err(AllocError),
     }
@@ -41,14 +41,13 @@ pub fn bytes_answer(
     alloc: Global,
     bytes: &[u8],
     input: Items<u8>,
-    blocks: u32,
-    show: Show,
+    settings: Settings,
 ) -> Result<Answer, AllocError>
-    ensures { IfOk result (λ answer. IsDone Run form.Image blocks show bytes.now input answer.status
+    ensures { IfOk result (λ answer. IsDone Run form.Image settings bytes.now input answer.status
         answer.report.items) }
 {
     match decode(alloc, bytes) {
-        Ok(image) => checked_answer(alloc, image, input, blocks, show),
+        Ok(image) => checked_answer(alloc, image, input, settings),
         Err(ImageFault::Memory) => Err(AllocError),
         Err(fault) => refused(alloc, Said::Image(fault)),
     }
@@ -59,14 +58,13 @@ pub fn target_answer(
     alloc: Global,
     text: &[u8],
     input: Items<u8>,
-    blocks: u32,
-    show: Show,
+    settings: Settings,
 ) -> Result<Answer, AllocError>
-    ensures { IfOk result (λ answer. IsDone Run form.Target blocks show text.now input answer.status
+    ensures { IfOk result (λ answer. IsDone Run form.Target settings text.now input answer.status
         answer.report.items) }
 {
     match assemble(alloc, text) {
-        Ok(image) => checked_answer(alloc, image, input, blocks, show),
+        Ok(image) => checked_answer(alloc, image, input, settings),
         Err(AsmFault::Memory) => Err(AllocError),
         Err(fault) => refused(alloc, Said::Asm(fault)),
     }

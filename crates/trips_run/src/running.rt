@@ -6,6 +6,7 @@ ghost use Rattle.trips_run.specs.Report.{ending_of};
 ghost use Rattle.trips_run.specs.Worked.{status_of, IsRunBy};
 
 use crate::answer::Answer;
+use crate::command_line::Settings;
 use crate::report::run_text;
 use crate::status::Status;
 use base::Items;
@@ -13,7 +14,6 @@ use block_atomic::Arch;
 use block_check::CheckedImage;
 use std::alloc::{AllocError, Global};
 use trips_isa::{Ending, Stepped};
-use trips_report::Show;
 
 // The status that tells an ending.
 fn status_for(ending: Ending) -> Status
@@ -51,24 +51,23 @@ fn run_blocks(arch: &mut Arch, image: &CheckedImage, budget: u32) -> Ending
     Ending::Budget
 }
 
-/// Runs an image on an input, for so many blocks, and tells how its run ended and what is shown. Want of memory is the
-/// only error.
+/// Runs an image on an input, for as many blocks as the settings allow, and tells how its run ended and what is shown.
+/// Want of memory is the only error.
 pub fn run_image(
     alloc: Global,
     image: &CheckedImage,
     input: Items<u8>,
-    blocks: u32,
-    show: Show,
+    settings: Settings,
 ) -> Result<Answer, AllocError>
     requires { 0 < length image.now.blocks }
-    ensures { IfOk result (λ answer. IsRunBy image.now.blocks image.now.bytes input blocks show
+    ensures { IfOk result (λ answer. IsRunBy image.now.blocks image.now.bytes input settings
         answer.status answer.report.items) }
 {
-    let Ok(mut arch) = Arch::make(alloc, image, input.into_vec(), blocks) else {
+    let Ok(mut arch) = Arch::make(alloc, image, input.into_vec(), settings.most) else {
         return Err(AllocError);
     };
-    let ending = run_blocks(&mut arch, image, blocks);
-    let report = run_text(alloc, ending, &arch, show)?;
+    let ending = run_blocks(&mut arch, image, settings.most);
+    let report = run_text(alloc, ending, &arch, settings.show)?;
     Ok(Answer {
         status: status_for(ending),
         report,

@@ -5,10 +5,12 @@ ghost use Rattle.block_image.specs.Spelling.{ImageBytes};
 ghost use Rattle.trips_words.specs.declared.commands.Command.TheVariants.{Run, Compile};
 ghost use Rattle.trips_run.specs.declared.command_line.FileForm.{FileForm};
 ghost use Rattle.trips_run.specs.declared.command_line.FileForm.TheVariants as form;
+ghost use Rattle.trips_run.specs.declared.command_line.Settings.{Settings};
 ghost use Rattle.flat_lower.specs.Keeps.{IsInput};
 ghost use Rattle.trips_run.specs.Worked.{IsDone};
 
 use crate::answer::{Answer, stage_refused};
+use crate::command_line::Settings;
 use crate::running::run_image;
 use crate::status::Status;
 use base::{Items, Memory};
@@ -17,7 +19,6 @@ use block_image::encode;
 use c_compile::compile;
 use grid_place::Placing;
 use std::alloc::{AllocError, Global};
-use trips_report::Show;
 
 // Bytes are an input of a program.
 fn is_input(input: &[u8])
@@ -29,17 +30,16 @@ pub fn text_answer(
     alloc: Global,
     text: &[u8],
     input: Items<u8>,
-    blocks: u32,
-    show: Show,
+    settings: Settings,
 ) -> Result<Answer, AllocError>
     requires { length text.now < 4_294_967_295 }
-    ensures { IfOk result (λ answer. IsDone Run form.Source blocks show text.now input answer.status
+    ensures { IfOk result (λ answer. IsDone Run form.Source settings text.now input answer.status
         answer.report.items) }
 {
-    match compile(alloc, text, Placing::Greedy) {
+    match compile(alloc, text, settings.placing) {
         Ok(image) => {
             is_input(input.as_slice());
-            run_image(alloc, &image, input, blocks, show)
+            run_image(alloc, &image, input, settings)
         }
         Err(refusal) => stage_refused(alloc, refusal),
     }
@@ -68,12 +68,13 @@ fn image_written(alloc: Global, image: &CheckedImage) -> Result<Answer, AllocErr
 }
 
 /// What `compile` answers for a text of C: the bytes of its image.
-pub fn text_compiled(alloc: Global, source: &[u8]) -> Result<Answer, AllocError>
+pub fn text_compiled(alloc: Global, source: &[u8], placing: Placing) -> Result<Answer, AllocError>
     requires { length source.now < 4_294_967_295 }
-    ensures { IfOk result (λ answer. (form : FileForm) (most : ℕ) (show : Show) (input : List ℕ)
-        → IsDone Compile form most show source.now input answer.status answer.report.items) }
+    ensures { IfOk result (λ answer. (form : FileForm) (settings : Settings) (input : List ℕ)
+        → settings.placing ≡ placing
+        → IsDone Compile form settings source.now input answer.status answer.report.items) }
 {
-    match compile(alloc, source, Placing::Greedy) {
+    match compile(alloc, source, placing) {
         Ok(image) => image_written(alloc, &image),
         Err(refusal) => stage_refused(alloc, refusal),
     }

@@ -1,9 +1,9 @@
 //! `asm`, `dis` and `check`: what is made of the bytes of a file, and why it is refused.
 
 ghost use Rattle.std.specs.Prelude.{◌≡◌, ℕ, List, IfOk};
-ghost use Rattle.trips_report.specs.declared.show.Show.{Show};
 ghost use Rattle.trips_words.specs.declared.commands.Command.TheVariants.{Assemble, Disassemble, Check};
 ghost use Rattle.trips_run.specs.declared.command_line.FileForm.{FileForm};
+ghost use Rattle.trips_run.specs.declared.command_line.Settings.{Settings};
 ghost use Rattle.trips_run.specs.Worked.{IsDone};
 ghost use Rattle.trips_run.specs.Made.{IsMade};
 
@@ -27,8 +27,8 @@ fn made_answer(alloc: Global, made: Made) -> Result<Answer, AllocError>
 
 /// What `asm` answers for a target text: the bytes of its image.
 pub fn text_assembled(alloc: Global, text: &[u8]) -> Result<Answer, AllocError>
-    ensures { IfOk result (λ answer. (form : FileForm) (most : ℕ) (show : Show) (input : List ℕ)
-        → IsDone Assemble form most show text.now input answer.status answer.report.items) }
+    ensures { IfOk result (λ answer. (form : FileForm) (settings : Settings) (input : List ℕ)
+        → IsDone Assemble form settings text.now input answer.status answer.report.items) }
 {
     match assembled(alloc, text) {
         Ok(made) => made_answer(alloc, made),
@@ -38,8 +38,8 @@ pub fn text_assembled(alloc: Global, text: &[u8]) -> Result<Answer, AllocError>
 
 /// What `dis` answers for the bytes of an image's file: its target text.
 pub fn bytes_disassembled(alloc: Global, bytes: &[u8]) -> Result<Answer, AllocError>
-    ensures { IfOk result (λ answer. (form : FileForm) (most : ℕ) (show : Show) (input : List ℕ)
-        → IsDone Disassemble form most show bytes.now input answer.status answer.report.items) }
+    ensures { IfOk result (λ answer. (form : FileForm) (settings : Settings) (input : List ℕ)
+        → IsDone Disassemble form settings bytes.now input answer.status answer.report.items) }
 {
     match disassembled(alloc, bytes) {
         Ok(made) => made_answer(alloc, made),
@@ -49,8 +49,8 @@ pub fn bytes_disassembled(alloc: Global, bytes: &[u8]) -> Result<Answer, AllocEr
 
 /// What `check` answers for the bytes of an image's file: how many good blocks it has.
 pub fn bytes_checked(alloc: Global, bytes: &[u8]) -> Result<Answer, AllocError>
-    ensures { IfOk result (λ answer. (form : FileForm) (most : ℕ) (show : Show) (input : List ℕ)
-        → IsDone Check form most show bytes.now input answer.status answer.report.items) }
+    ensures { IfOk result (λ answer. (form : FileForm) (settings : Settings) (input : List ℕ)
+        → IsDone Check form settings bytes.now input answer.status answer.report.items) }
 {
     match checked(alloc, bytes) {
         Ok(made) => made_answer(alloc, made),

@@ -22,7 +22,7 @@ ghost use Rattle.trips_run.specs.Request.{Request, request_of};
 ghost use Rattle.trips_report.specs.Evaluations.{eval_report};
 ghost use Rattle.trips_report.specs.Refusals.{too_large_text};
 ghost use Rattle.trips_run.specs.Refused.{IsRefusedAs, MayBeRefused, IsRefused};
-ghost use Rattle.trips_run.specs.Worked.{status_of, eval_status, outcome_of, placed};
+ghost use Rattle.trips_run.specs.Worked.{status_of, eval_status, outcome_of};
 ghost use Rattle.trips_run.specs.Report.{ending_of, run_report, shown_report, shown_behind};
 ghost use Rattle.trips_run.specs.Table.{IsAnswered, IsCutOff, IsOneOf, ended_report, full_report, Asks, AsksFor};
 ghost use Rattle.trips_run.specs.Table.{HasLargeFile, HasLargeInput, EndsAs, EvalEnds};
@@ -66,37 +66,37 @@ pub fn trips_run<F: Files, K: Sink>(
         × Appended (K.written sink.old) (K.written sink.new) (full_report output) }
 
     // The same reports where registers or trace are asked for: behind them stand those of the end of the
-    // run of an image of the text.
+    // run of an image of the text, whose blocks are placed as it is asked for.
     ensures shown_headline { (most n : ℕ) (show : Show) (text input output : List ℕ) (value : ℤ)
         (steps : ℕ) (program : TypedProgram)
-        → AsksFor (request_of words.now) (F.held files.old) Run form.Source most show text input
+        → (asks : AsksFor (request_of words.now) (F.held files.old) Run form.Source most show text input)
         → IsAccepted text program → eval program input n ≡ Done output value steps
         → 16 * n + 16 ≤ most
         → ¬ Rose (F.faults files.old) (F.faults files.new)
         → ¬ Rose (K.faults sink.old) (K.faults sink.new) → result ≢ Status.Memory
-        → (result ≡ Status.Ended) × (image : Image) × IsImageOf text placed image
+        → (result ≡ Status.Ended) × (image : Image) × IsImageOf text asks.q.placing image
         × let run = runs image.blocks (start image.bytes input) most in
         (run.1 ≡ stepped.Ended) × Appended (K.written sink.old) (K.written sink.new)
         (shown_behind (ended_report output value) run.0 show) }
     ensures shown_deep { (most n : ℕ) (show : Show) (text input output : List ℕ)
         (program : TypedProgram)
-        → AsksFor (request_of words.now) (F.held files.old) Run form.Source most show text input
+        → (asks : AsksFor (request_of words.now) (F.held files.old) Run form.Source most show text input)
         → IsAccepted text program → eval program input n ≡ Stopped Deep output
         → 16 * n + 16 ≤ most
         → ¬ Rose (F.faults files.old) (F.faults files.new)
         → ¬ Rose (K.faults sink.old) (K.faults sink.new) → result ≢ Status.Memory
-        → (result ≡ Status.StackFull) × (image : Image) × IsImageOf text placed image
+        → (result ≡ Status.StackFull) × (image : Image) × IsImageOf text asks.q.placing image
         × let run = runs image.blocks (start image.bytes input) most in
         (run.1 ≡ stepped.StackFull) × Appended (K.written sink.old) (K.written sink.new)
         (shown_behind (full_report output) run.0 show) }
 
-    // Whatever its evaluation comes to, the run of an image of the text is reported.
+    // Whatever its evaluation comes to, the run of an image of the text is reported, placed as asked for.
     ensures text_run { (most : ℕ) (text input : List ℕ) (program : TypedProgram)
-        → Asks (request_of words.now) (F.held files.old) Run form.Source most text input
+        → (asks : Asks (request_of words.now) (F.held files.old) Run form.Source most text input)
         → IsAccepted text program
         → ¬ Rose (F.faults files.old) (F.faults files.new)
         → ¬ Rose (K.faults sink.old) (K.faults sink.new) → result ≢ Status.Memory
-        → (image : Image) × IsImageOf text placed image
+        → (image : Image) × IsImageOf text asks.q.placing image
         × let run = runs image.blocks (start image.bytes input) most in
         (result ≡ status_of (ending_of run.1 run.0.next))
         × Appended (K.written sink.old) (K.written sink.new)
@@ -115,11 +115,11 @@ pub fn trips_run<F: Files, K: Sink>(
 
     // The same of both, and of the run of a target text, with what is shown behind the ending.
     ensures shown_text_run { (most : ℕ) (show : Show) (text input : List ℕ) (program : TypedProgram)
-        → AsksFor (request_of words.now) (F.held files.old) Run form.Source most show text input
+        → (asks : AsksFor (request_of words.now) (F.held files.old) Run form.Source most show text input)
         → IsAccepted text program
         → ¬ Rose (F.faults files.old) (F.faults files.new)
         → ¬ Rose (K.faults sink.old) (K.faults sink.new) → result ≢ Status.Memory
-        → (image : Image) × IsImageOf text placed image
+        → (image : Image) × IsImageOf text asks.q.placing image
         × let run = runs image.blocks (start image.bytes input) most in
         (result ≡ status_of (ending_of run.1 run.0.next))
         × Appended (K.written sink.old) (K.written sink.new)
@@ -146,11 +146,11 @@ pub fn trips_run<F: Files, K: Sink>(
     // What a tool makes of its file is written, and nothing else.
     ensures compiled { (how : FileForm) (most : ℕ) (show : Show) (text input : List ℕ)
         (program : TypedProgram)
-        → AsksFor (request_of words.now) (F.held files.old) Compile how most show text input
+        → (asks : AsksFor (request_of words.now) (F.held files.old) Compile how most show text input)
         → IsAccepted text program
         → ¬ Rose (F.faults files.old) (F.faults files.new)
         → ¬ Rose (K.faults sink.old) (K.faults sink.new) → result ≢ Status.Memory
-        → (image : Image) × IsImageOf text placed image × (bytes : List ℕ) × ImageBytes image bytes
+        → (image : Image) × IsImageOf text asks.q.placing image × (bytes : List ℕ) × ImageBytes image bytes
         × (result ≡ Status.Ended) × Appended (K.written sink.old) (K.written sink.new) bytes }
     ensures assembled { (how : FileForm) (most : ℕ) (show : Show) (text input bytes : List ℕ)
         → AsksFor (request_of words.now) (F.held files.old) Assemble how most show text input

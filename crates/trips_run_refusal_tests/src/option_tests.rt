@@ -40,6 +40,14 @@ const USAGES: &[&[&str]] = &[
     &["run", "--blocks", "1"],
     &["run", "a.c", "--regs=yes"],
     &["eval", "a.c", "--trace"],
+    &["run", "b.img", "--place", "1"],
+    &["run", "v.tasl", "--place", "1"],
+    &["run", "a.c", "--place", "-1"],
+    &["run", "a.c", "--place", "18446744073709551616"],
+    &["run", "a.c", "--place", "1", "--place", "1"],
+    &["compile", "a.c", "--place"],
+    &["bench", "1", "--place", "x"],
+    &["eval", "a.c", "--place", "1"],
 ];
 
 // Each of these requests is answered so, and what is written begins so.

@@ -12,8 +12,8 @@ use Rattle.clap.specs.declared.builder.command.Command.TheViews.{out-Command}
 use Rattle.trips_words.specs.declared.commands.Verb.{Verb}
 use Rattle.trips_words.specs.declared.commands.Verb.TheVariants as verb
 use Rattle.trips_words.specs.Words.{Text, Named, Said, file_name, value_said}
-use Rattle.trips_words.specs.Requests.{run_options, bench_options, eval_options, options_of, counted, is_on, Request}
-use Rattle.trips_words.specs.Requests.{verb_named, request_with, request_of, request_by}
+use Rattle.trips_words.specs.Requests.{run_options, bench_options, eval_options, compile_options, options_of}
+use Rattle.trips_words.specs.Requests.{counted, is_on, Options, Request, verb_named, request_of, request_by}
 use Rattle.trips_words.specs.Requests.{asked}
 use Rattle.trips_words.specs.Read.{IsRead, is_flag, or_off, FindsSaid, Tells}
 
@@ -25,6 +25,9 @@ bench_read = record { builds = refl; simple = refl; no_file = refl }
 
 pub eval_read : IsRead (codes "eval") eval_options
 eval_read = record { builds = refl; simple = refl; no_file = refl }
+
+pub compile_read : IsRead (codes "compile") compile_options
+compile_read = record { builds = refl; simple = refl; no_file = refl }
 
 pub plain_read : IsRead (codes "trips") []
 plain_read = record { builds = refl; simple = refl; no_file = refl }
@@ -38,16 +41,16 @@ pub is_helpless : (old new : ClapCommand)
     → app_of new ≡ helpless (app_of old)
 is_helpless old new e = ap app_of_fields e
 
--- the commands beside `run`, `bench` and `eval` have no options
+-- the commands beside `run`, `bench`, `eval` and `compile` have no options
 pub no_options : (k : Verb) → (k ≡ verb.Run → ⊥) → (k ≡ verb.Bench → ⊥) → (k ≡ verb.Evaluate → ⊥)
-    → options_of k ≡ []
-no_options verb.Run r b e = absurd (r refl)
-no_options verb.Bench r b e = absurd (b refl)
-no_options verb.Evaluate r b e = absurd (e refl)
-no_options verb.Compile r b e = refl
-no_options verb.Assemble r b e = refl
-no_options verb.Disassemble r b e = refl
-no_options verb.Check r b e = refl
+    → (k ≡ verb.Compile → ⊥) → options_of k ≡ []
+no_options verb.Run r b e c = absurd (r refl)
+no_options verb.Bench r b e c = absurd (b refl)
+no_options verb.Evaluate r b e c = absurd (e refl)
+no_options verb.Compile r b e c = absurd (c refl)
+no_options verb.Assemble r b e c = refl
+no_options verb.Disassemble r b e c = refl
+no_options verb.Check r b e c = refl
 
 -- and their number counts steps
 pub counts_steps : (k : Verb) → (k ≡ verb.Run → ⊥) → (k ≡ verb.Bench → ⊥) → codes "steps" ≡ counted k
@@ -61,7 +64,7 @@ counts_steps verb.Check r b = refl
 
 -- requests ----------------------------------------------------------------------------------------
 
--- neither the file nor the input nor the number is a flag
+-- neither the file nor the input nor a number is a flag
 pub no_flag_file : (k : Verb) → is_flag file_name (options_of k) ≡ false
 no_flag_file verb.Run = refl
 no_flag_file verb.Bench = refl
@@ -89,6 +92,15 @@ no_flag_count verb.Assemble = refl
 no_flag_count verb.Disassemble = refl
 no_flag_count verb.Check = refl
 
+pub no_flag_place : (k : Verb) → is_flag (codes "place") (options_of k) ≡ false
+no_flag_place verb.Run = refl
+no_flag_place verb.Bench = refl
+no_flag_place verb.Evaluate = refl
+no_flag_place verb.Compile = refl
+no_flag_place verb.Assemble = refl
+no_flag_place verb.Disassemble = refl
+no_flag_place verb.Check = refl
+
 -- what is found under the name of no flag is what is said
 pub found_said : (options : List Named) (said : Said) (m : ArgMatches) (name : Text)
     → FindsSaid options said m → is_flag name options ≡ false
@@ -105,17 +117,27 @@ pub found_on : (options : List Named) (said : Said) (m : ArgMatches) (name : Tex
     → FindsSaid options said m → is_on (first_value (found_of m) name) ≡ is_on (value_said name said)
 found_on options said m name f = ap is_on (f name) ∙ on_is (is_flag name options) (value_said name said)
 
--- the request of what was found, part by part
-pub same_request : (k : Verb) (file file' input input' number number' : Option Text)
-    (regs regs' trace trace' : Bool) → file ≡ file' → input ≡ input' → number ≡ number'
+-- options by their parts
+abbrev pub options_by : Option Text → Option Text → Option Text → Bool → Bool → Options
+options_by input number place regs trace = record {
+  input = input;
+  number = number;
+  place = place;
+  regs = regs;
+  trace = trace;
+}
+
+-- options that are the same part by part
+pub same_options : (input input' number number' place place' : Option Text)
+    (regs regs' trace trace' : Bool) → input ≡ input' → number ≡ number' → place ≡ place'
     → regs ≡ regs' → trace ≡ trace'
-    → request_with k file input number regs trace ≡ request_with k file' input' number' regs' trace'
-same_request k file file' input input' number number' regs regs' trace trace' a b c d e =
-    ap (λ (x : Option Text). request_with k x input number regs trace) a
-    ∙ ap (λ (x : Option Text). request_with k file' x number regs trace) b
-    ∙ ap (λ (x : Option Text). request_with k file' input' x regs trace) c
-    ∙ ap (λ (x : Bool). request_with k file' input' number' x trace) d
-    ∙ ap (λ (x : Bool). request_with k file' input' number' regs' x) e
+    → options_by input number place regs trace ≡ options_by input' number' place' regs' trace'
+same_options input input' number number' place place' regs regs' trace trace' a b c d e =
+    ap (λ (x : Option Text). options_by x number place regs trace) a
+    ∙ ap (λ (x : Option Text). options_by input' x place regs trace) b
+    ∙ ap (λ (x : Option Text). options_by input' number' x regs trace) c
+    ∙ ap (λ (x : Bool). options_by input' number' place' x trace) d
+    ∙ ap (λ (x : Bool). options_by input' number' place' regs' x) e
 
 -- where something was found, words say something, and else they say nothing
 pub told_some : (k : Verb) (said : Option Said) (m : ArgMatches) (r : Option Request)

@@ -11,6 +11,7 @@ plain = record {
   functions = None;
   input = None;
   most = 1000000;
+  place = None;
   regs = false;
   trace = false;
 }
@@ -35,6 +36,25 @@ bench_is = refl
 pub bench_is_refused : asked (codes "bench" ∷ codes "65" ∷ []) ≡ None
 unfolding verb_named
 bench_is_refused = refl
+
+-- C is placed by a number, which may be any word of the machine, and else nothing is
+pub placed_is : asked (codes "compile" ∷ codes "a.c" ∷ codes "--place=18446744073709551615" ∷ [])
+    ≡ Some (record plain { command = command.Compile; place = Some 18446744073709551615 })
+unfolding verb_named
+placed_is = refl
+
+pub placed_by_zero : asked (codes "run" ∷ codes "--place" ∷ codes "0" ∷ codes "a.c" ∷ [])
+    ≡ Some (record plain { place = Some 0 })
+unfolding verb_named
+placed_by_zero = refl
+
+pub place_is_large : asked (codes "run" ∷ codes "a.c" ∷ codes "--place=18446744073709551616" ∷ []) ≡ None
+unfolding verb_named
+place_is_large = refl
+
+pub no_image_is_placed : asked (codes "run" ∷ codes "b.img" ∷ codes "--place" ∷ codes "1" ∷ []) ≡ None
+unfolding verb_named
+no_image_is_placed = refl
 
 -- a value may hold a further `=`
 pub equals_is : asked (codes "eval" ∷ codes "a.c" ∷ codes "--input=b=c" ∷ [])

@@ -16,6 +16,11 @@ abbrev pub value_from : ℕ → List ℕ → ℕ
 value_from value [] = value
 value_from value (digit ∷ digits) = value_from (value * 10 + (digit - 48)) digits
 
+-- the number, where it is at most the greatest
+abbrev pub number_within : ℕ → List ℕ → Option ℕ
+number_within most word =
+    if is_number word && nat_le (value_from 0 word) most then Some (value_from 0 word) else None
+
 -- the number, where it is from 1 to the greatest
 abbrev pub number_to : ℕ → List ℕ → Option ℕ
 number_to most word =

@@ -1,32 +1,39 @@
 -- Which request the words of a command line make (README.md of this crate).
-use Rattle.std.specs.Prelude.{ℕ, Bool, false, if◌then◌else◌, List, [], ◌∷◌, codes}
+use Rattle.std.specs.Prelude.{ℕ, Bool, false, not, ◌&&◌, if◌then◌else◌, nat_eq, List, [], ◌∷◌, codes}
 use Rattle.std.specs.Prelude.{Option, None, Some, option_map, option_and_then, option_copied}
+use Rattle.std.specs.List.{ends_with}
 use Rattle.std.specs.Str.{bytes_eq}
 use Rattle.trips_words.specs.declared.commands.Command.{Command}
 use Rattle.trips_words.specs.declared.commands.Command.TheVariants as command
 use Rattle.trips_words.specs.declared.commands.Asked.{Asked}
+use Rattle.trips_words.specs.declared.asking.FoundOptions.{FoundOptions}
 use Rattle.trips_words.specs.declared.commands.Verb.{Verb}
 use Rattle.trips_words.specs.declared.commands.Verb.TheVariants as verb
 use Rattle.trips_words.specs.declared.commands.TheConstants.{DEFAULT_COUNT, MOST_COUNT, MOST_FUNCTIONS}
-use Rattle.trips_words.specs.Numbers.{number_to}
+use Rattle.trips_words.specs.declared.commands.TheConstants.{MOST_SEED}
+use Rattle.trips_words.specs.Numbers.{number_to, number_within}
 use Rattle.trips_words.specs.Words.{Text, Named, valued, flag, Said, file_name, value_said}
 use Rattle.trips_words.specs.Words.{words_read}
 
--- the options of a command, and the one of them that takes a number
+-- the options of a command, and the one of them that counts blocks or steps
 abbrev pub run_options : List Named
-run_options = valued (codes "input") ∷ valued (codes "blocks") ∷ flag (codes "regs")
-    ∷ flag (codes "trace") ∷ []
+run_options = valued (codes "input") ∷ valued (codes "blocks") ∷ valued (codes "place")
+    ∷ flag (codes "regs") ∷ flag (codes "trace") ∷ []
 
 abbrev pub bench_options : List Named
-bench_options = valued (codes "blocks") ∷ []
+bench_options = valued (codes "blocks") ∷ valued (codes "place") ∷ []
 
 abbrev pub eval_options : List Named
 eval_options = valued (codes "input") ∷ valued (codes "steps") ∷ []
+
+abbrev pub compile_options : List Named
+compile_options = valued (codes "place") ∷ []
 
 abbrev pub options_of : Verb → List Named
 options_of verb.Run = run_options
 options_of verb.Bench = bench_options
 options_of verb.Evaluate = eval_options
+options_of verb.Compile = compile_options
 options_of other = []
 
 abbrev pub counted : Verb → Text
@@ -56,14 +63,23 @@ command_of verb.Disassemble = command.Disassemble
 command_of verb.Check = command.Check
 
 -- What is asked for: a command and its file, or how many functions the benchmark's text has that is run
--- in its place, the name of the input if there is one, how many blocks or steps it may take, and whether
--- registers and committed blocks are shown.
+-- in its place, the name of the input if there is one, how many blocks or steps it may take, the number by
+-- which compiled blocks are placed if one is said, and whether registers and committed blocks are shown.
 pub record Request : Type 0 where
   pub command : Command
   pub file : Text
   pub functions : Option ℕ
   pub input : Option Text
   pub most : ℕ
+  pub place : Option ℕ
+  pub regs : Bool
+  pub trace : Bool
+
+-- What is said under the names of a command's options: each value if it is said, and whether a flag is.
+pub record Options : Type 0 where
+  pub input : Option Text
+  pub number : Option Text
+  pub place : Option Text
   pub regs : Bool
   pub trace : Bool
 
@@ -71,6 +87,18 @@ pub record Request : Type 0 where
 abbrev pub most_said : Option Text → Option ℕ
 most_said None = Some DEFAULT_COUNT
 most_said (Some word) = number_to MOST_COUNT word
+
+-- the file is C, by the ending of its name
+abbrev pub is_c_name : Text → Bool
+is_c_name file =
+    not (ends_with nat_eq file (codes ".img")) && not (ends_with nat_eq file (codes ".tasl"))
+
+-- The number by which compiled blocks are placed, if one is said. It is said of C alone, and may be any word
+-- of the machine.
+abbrev pub place_said : Text → Option Text → Option (Option ℕ)
+place_said file None = Some None
+place_said file (Some word) =
+    if is_c_name file then option_map (λ n. Some n) (number_within MOST_SEED word) else None
 
 -- a flag is said, by its value
 abbrev pub is_on : Option Text → Bool
@@ -82,32 +110,44 @@ abbrev pub functions_said : Verb → Text → Option (Option ℕ)
 functions_said verb.Bench word = option_map (λ n. Some n) (number_to MOST_FUNCTIONS word)
 functions_said other word = Some None
 
--- the request of a command, of its file or its number of functions, of how many blocks or steps are said,
--- an input if one is, and two flags
-abbrev pub request_of_file : Verb → Text → Option Text → Option Text → Bool → Bool → Option Request
-request_of_file k name input number regs trace =
-    option_and_then (λ functions. option_map (λ most. record {
-      command = command_of k;
-      file = name;
-      functions = functions;
-      input = input;
-      most = most;
-      regs = regs;
-      trace = trace;
-    }) (most_said number)) (functions_said k name)
+-- the request of a command, of its file or its number of functions, of its counts and of its options
+abbrev pub request_counted : Verb → Text → Options → Option ℕ → ℕ → Option ℕ → Request
+request_counted k name options functions most place = record {
+  command = command_of k;
+  file = name;
+  functions = functions;
+  input = options.input;
+  most = most;
+  place = place;
+  regs = options.regs;
+  trace = options.trace;
+}
 
--- the request of a command, of a file, an input and a number if they are said, and of two flags: it
--- has a file, and its numbers are in their ranges
-abbrev pub request_with : Verb → Option Text → Option Text → Option Text → Bool → Bool
-    → Option Request
-request_with k file input number regs trace =
-    option_and_then (λ name. request_of_file k name input number regs trace) file
+-- the request of a command, of its file or its number of functions, and of its options: the numbers are in
+-- their ranges
+abbrev pub request_of_file : Verb → Text → Options → Option Request
+request_of_file k name options =
+    option_and_then (λ functions. option_and_then (λ most.
+    option_map (request_counted k name options functions most) (place_said name options.place))
+    (most_said options.number)) (functions_said k name)
+
+-- the request of a command, of its file, which it has, and of its options
+abbrev pub request_with : Verb → Option Text → Options → Option Request
+request_with k file options = option_and_then (λ name. request_of_file k name options) file
+
+-- what words say of a command's options
+abbrev pub options_said : Verb → Said → Options
+options_said k said = record {
+  input = value_said (codes "input") said;
+  number = value_said (counted k) said;
+  place = value_said (codes "place") said;
+  regs = is_on (value_said (codes "regs") said);
+  trace = is_on (value_said (codes "trace") said);
+}
 
 -- the request of a command and what its words say
 abbrev pub request_of : Verb → Said → Option Request
-request_of k said = request_with k (value_said file_name said)
-    (value_said (codes "input") said) (value_said (counted k) said)
-    (is_on (value_said (codes "regs") said)) (is_on (value_said (codes "trace") said))
+request_of k said = request_with k (value_said file_name said) (options_said k said)
 
 -- the request of a command and its words
 abbrev pub request_by : List Text → Verb → Option Request
@@ -127,6 +167,17 @@ request_seen asked = record {
   functions = asked.functions;
   input = option_copied asked.input;
   most = asked.most;
+  place = asked.place;
   regs = asked.regs;
   trace = asked.trace;
+}
+
+-- options of the code
+abbrev pub options_seen : FoundOptions → Options
+options_seen options = record {
+  input = option_copied options.input;
+  number = option_copied options.number;
+  place = option_copied options.place;
+  regs = options.regs;
+  trace = options.trace;
 }

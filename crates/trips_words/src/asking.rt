@@ -5,14 +5,26 @@ ghost use Rattle.std.specs.Prelude.{drop, map, string_bytes};
 ghost use Rattle.trips_words.specs.Words.{Said};
 ghost use Rattle.trips_words.specs.Read.{FindsSaid, Tells};
 ghost use Rattle.trips_words.specs.Requests.{options_of, counted, verb_named, command_of, most_said, is_on};
-ghost use Rattle.trips_words.specs.Requests.{functions_said, request_of_file, request_with, request_of, request_by, request_seen, asked};
+ghost use Rattle.trips_words.specs.Requests.{functions_said, is_c_name, place_said, options_said, options_seen};
+ghost use Rattle.trips_words.specs.Requests.{request_of_file, request_with, request_of, request_by, request_seen, asked};
 
-use crate::commands::{Asked, Command, DEFAULT_COUNT, MOST_COUNT, MOST_FUNCTIONS, Verb};
-use crate::number::number;
+use crate::commands::{Asked, Command, DEFAULT_COUNT, MOST_COUNT, MOST_FUNCTIONS, MOST_SEED, Verb};
+use crate::number::{number, number_within};
 use crate::reading::read;
 use base::Memory;
 use clap::ArgMatches;
 use std::alloc::Global;
+
+/// What was found of a command's options: each value if it is said, and whether a flag is.
+#[derive(Clone, Copy)]
+pub struct FoundOptions<'a> {
+    pub input: Option<&'a str>,
+    /// how many blocks or steps
+    pub number: Option<&'a str>,
+    pub place: Option<&'a str>,
+    pub regs: bool,
+    pub trace: bool,
+}
 
 // What a name stands for.
 #[tactic(auto, unfolding(crate::specs::Requests::verb_named))]
@@ -96,45 +108,74 @@ fn is_on(value: Option<&str>) -> bool
     }
 }
 
-// The request of a command, of its file or its number of functions, of an input and a number if they are
-// said, and of two flags.
-fn request_of_file<'a>(
-    command: Verb,
-    file: &'a str,
-    input: Option<&'a str>,
-    number: Option<&'a str>,
-    regs: bool,
-    trace: bool,
-) -> Option<Asked<'a>>
-    ensures { option_map request_seen result ≡ request_of_file command file.now
-        (option_copied input.entry) (option_copied number.entry) regs trace }
+// Whether the file is C, by the ending of its name.
+fn is_c_name(file: &str) -> bool
+    ensures { result ≡ is_c_name file.now }
+{
+    let bytes = file.as_bytes();
+    !bytes.ends_with(b".img") && !bytes.ends_with(b".tasl")
+}
+
+// The number by which compiled blocks are placed, if one is said: of C alone.
+fn place_said(file: &str, word: Option<&str>) -> Option<Option<u64>>
+    ensures { result ≡ place_said file.now (option_copied word.entry) }
+{
+    match word {
+        None => Some(None),
+        Some(word) => {
+            if !is_c_name(file) {
+                return None;
+            }
+            let place = number_within(word.as_bytes(), MOST_SEED)?;
+            Some(Some(place))
+        }
+    }
+}
+
+// The request of a command, of its file or its number of functions, and of its options.
+fn request_of_file<'a>(command: Verb, file: &'a str, options: FoundOptions<'a>) -> Option<Asked<'a>>
+    ensures { option_map request_seen result
+        ≡ request_of_file command file.now (options_seen options.entry) }
 {
     let functions = functions_said(command, file)?;
-    let most = most_said(number)?;
+    let most = most_said(options.number)?;
+    let place = place_said(file, options.place)?;
     Some(Asked {
         command: command_of(command),
         file,
         functions,
-        input,
+        input: options.input,
         most,
-        regs,
-        trace,
+        place,
+        regs: options.regs,
+        trace: options.trace,
     })
 }
 
-// The request of a command, of its file, its input and its number if they are said, and of two flags.
+// The request of a command, of its file and of its options.
 fn request_with<'a>(
     command: Verb,
     file: Option<&'a str>,
-    input: Option<&'a str>,
-    number: Option<&'a str>,
-    regs: bool,
-    trace: bool,
+    options: FoundOptions<'a>,
 ) -> Option<Asked<'a>>
-    ensures { option_map request_seen result ≡ request_with command (option_copied file.entry)
-        (option_copied input.entry) (option_copied number.entry) regs trace }
+    ensures { option_map request_seen result
+        ≡ request_with command (option_copied file.entry) (options_seen options.entry) }
 {
-    request_of_file(command, file?, input, number, regs, trace)
+    request_of_file(command, file?, options)
+}
+
+// What was found of a command's options.
+fn options_found<'a>(command: Verb, matches: &ArgMatches<'a>) -> FoundOptions<'a>
+    ensures { (said : Said) → FindsSaid (options_of command) said matches.now
+        → options_seen result ≡ options_said command said }
+{
+    FoundOptions {
+        input: matches.get_str("input"),
+        number: matches.get_str(counted(command)),
+        place: matches.get_str("place"),
+        regs: is_on(matches.get_str("regs")),
+        trace: is_on(matches.get_str("trace")),
+    }
 }
 
 // The request of a command and of what its words say.
@@ -145,10 +186,7 @@ fn request_of<'a>(command: Verb, matches: &ArgMatches<'a>) -> Option<Asked<'a>>
     request_with(
         command,
         matches.get_str("FILE"),
-        matches.get_str("input"),
-        matches.get_str(counted(command)),
-        is_on(matches.get_str("regs")),
-        is_on(matches.get_str("trace")),
+        options_found(command, matches),
     )
 }
 

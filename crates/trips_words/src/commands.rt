@@ -27,6 +27,9 @@ pub const MOST_FUNCTIONS: u32 = 64;
 /// The most blocks or steps that may be asked for.
 pub const MOST_COUNT: u32 = 4_000_000;
 
+/// The greatest number by which blocks may be placed.
+pub const MOST_SEED: u64 = 18_446_744_073_709_551_615;
+
 /// How many blocks or steps are taken where none are asked for.
 pub const DEFAULT_COUNT: u32 = 1_000_000;
 
@@ -41,6 +44,8 @@ pub struct Asked<'a> {
     pub input: Option<&'a str>,
     /// how many blocks or steps it may take
     pub most: u32,
+    /// the number by which compiled blocks are placed, if one is said
+    pub place: Option<u64>,
     /// whether the registers are shown
     pub regs: bool,
     /// whether the committed blocks are shown

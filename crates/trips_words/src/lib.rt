@@ -11,4 +11,4 @@ mod number;
 mod reading;
 
 pub use asking::request;
-pub use commands::{Asked, Command, DEFAULT_COUNT, MOST_COUNT, MOST_FUNCTIONS, Verb};
+pub use commands::{Asked, Command, DEFAULT_COUNT, MOST_COUNT, MOST_FUNCTIONS, MOST_SEED, Verb};

@@ -4,7 +4,7 @@ ghost use Rattle.std.specs.Prelude.{◌≡◌, ◌≢◌, List, [], IfOk, None, 
 ghost use Rattle.clap.specs.Words.{rule_of, app_of, kind_of};
 ghost use Rattle.clap.specs.declared.error.kind.ErrorKind.TheVariants.{OutOfMemory};
 ghost use Rattle.trips_words.specs.Words.{Text, Named, words_read, valued, flag};
-ghost use Rattle.trips_words.specs.Requests.{options_of, run_options, bench_options, eval_options};
+ghost use Rattle.trips_words.specs.Requests.{options_of, run_options, bench_options, eval_options, compile_options};
 ghost use Rattle.trips_words.specs.Read.{raw_rule, raw_app, IsRead, Tells};
 
 use crate::commands::Verb;
@@ -40,18 +40,20 @@ fn run_command<'a>(alloc: Global) -> Result<clap::Command<'a>, AllocError>
         .disable_help_flag(true)
         .arg(valued(alloc, "input"))?
         .arg(valued(alloc, "blocks"))?
+        .arg(valued(alloc, "place"))?
         .arg(flag(alloc, "regs"))?
         .arg(flag(alloc, "trace"))?
         .arg(Arg::new(alloc, FILE))
 }
 
-// `bench`, its option and its number.
+// `bench`, its options and its number.
 fn bench_command<'a>(alloc: Global) -> Result<clap::Command<'a>, AllocError>
     ensures { IfOk result (λ command. app_of command ≡ raw_app (codes "bench") bench_options) }
 {
     clap::Command::new(alloc, "bench")
         .disable_help_flag(true)
         .arg(valued(alloc, "blocks"))?
+        .arg(valued(alloc, "place"))?
         .arg(Arg::new(alloc, FILE))
 }
 
@@ -63,6 +65,16 @@ fn eval_command<'a>(alloc: Global) -> Result<clap::Command<'a>, AllocError>
         .disable_help_flag(true)
         .arg(valued(alloc, "input"))?
         .arg(valued(alloc, "steps"))?
+        .arg(Arg::new(alloc, FILE))
+}
+
+// `compile`, its option and its file.
+fn compile_command<'a>(alloc: Global) -> Result<clap::Command<'a>, AllocError>
+    ensures { IfOk result (λ command. app_of command ≡ raw_app (codes "compile") compile_options) }
+{
+    clap::Command::new(alloc, "compile")
+        .disable_help_flag(true)
+        .arg(valued(alloc, "place"))?
         .arg(Arg::new(alloc, FILE))
 }
 
@@ -118,6 +130,7 @@ pub fn read<'a>(
         Verb::Run => matched(run_command(alloc)?, words),
         Verb::Bench => matched(bench_command(alloc)?, words),
         Verb::Evaluate => matched(eval_command(alloc)?, words),
+        Verb::Compile => matched(compile_command(alloc)?, words),
         _ => matched(plain_command(alloc)?, words),
     }
 }

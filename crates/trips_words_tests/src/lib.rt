@@ -2,4 +2,10 @@
 #![tactic(auto)]
 
 #[cfg(test)]
-mod words_tests;
+mod request_tests;
+#[cfg(test)]
+mod requests;
+#[cfg(test)]
+mod spelling_tests;
+#[cfg(test)]
+mod usage_tests;

@@ -1,8 +1,9 @@
-use Rattle.std.proofs.Common.{◌≤◌, length, sym, subst, arith}
+use Rattle.std.proofs.Common.{◌≤◌, length, sym, ap, subst, arith}
 use Rattle.trips_run.specs.declared.command_line.FileForm.{FileForm}
 use Rattle.trips_run.specs.Read.{limit_of}
 use Rattle.trips_run.specs.Request.{form_of}
-use Rattle.trips_run.proofs.Told.{evaluate_told, few_bytes, run_form_told, tool_told}
+use Rattle.trips_run.specs.declared.command_line.Settings.{Settings}
+use Rattle.trips_run.proofs.Told.{evaluate_told, few_bytes, run_form_told, compile_told, tool_told}
 use Rattle.trips_run.proofs.asked_answer.done.Goals as goal
 
 pub text_evaluated-requires : goal.text_evaluated-requires
@@ -20,21 +21,24 @@ run_done-requires c =
     subst (λ (f : FileForm). length c.args.bytes.now ≤ limit_of f) (sym c.form_of-form.ensures) c.requires
 
 pub returns-in-Run : goal.returns-in-Run
-returns-in-Run c = run_form_told _ _ _ _ _ _ _ _ _ c.in-Run.is c.form_of-form.ensures c.shown.ensures
-    c.run_done.ensures
+returns-in-Run c = run_form_told _ _ _ _ _ _ _ _ c.in-Run.is c.form_of-form.ensures
+    c.settings_for-settings.ensures c.run_done.ensures
 
 pub returns-in-Evaluate : goal.returns-in-Evaluate
 returns-in-Evaluate c =
-    evaluate_told _ _ _ _ _ _ _ _ c.in-Evaluate.is c.as_slice.ensures.value c.text_evaluated.ensures
+    evaluate_told _ _ _ _ _ _ _ _ c.in-Evaluate.is
+    (sym (ap (λ (t : Settings). t.most) c.settings_for-settings.ensures)) c.as_slice.ensures.value
+    c.text_evaluated.ensures
 
 pub returns-in-Compile : goal.returns-in-Compile
-returns-in-Compile c = tool_told _ _ _ _ _ _ _ _ c.in-Compile.is c.text_compiled.ensures
+returns-in-Compile c = compile_told _ _ _ _ _ _ _ c.in-Compile.is
+    (sym (ap (λ (t : Settings). t.placing) c.settings_for-settings.ensures)) c.text_compiled.ensures
 
 pub returns-in-Assemble : goal.returns-in-Assemble
-returns-in-Assemble c = tool_told _ _ _ _ _ _ _ _ c.in-Assemble.is c.text_assembled.ensures
+returns-in-Assemble c = tool_told _ _ _ _ _ _ _ c.in-Assemble.is c.text_assembled.ensures
 
 pub returns-in-Disassemble : goal.returns-in-Disassemble
-returns-in-Disassemble c = tool_told _ _ _ _ _ _ _ _ c.in-Disassemble.is c.bytes_disassembled.ensures
+returns-in-Disassemble c = tool_told _ _ _ _ _ _ _ c.in-Disassemble.is c.bytes_disassembled.ensures
 
 pub returns-in-Check : goal.returns-in-Check
-returns-in-Check c = tool_told _ _ _ _ _ _ _ _ c.in-Check.is c.bytes_checked.ensures
+returns-in-Check c = tool_told _ _ _ _ _ _ _ c.in-Check.is c.bytes_checked.ensures

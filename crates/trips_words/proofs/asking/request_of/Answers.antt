@@ -1,20 +1,13 @@
-use Rattle.std.proofs.Common.{◌∙◌, ap, codes}
-use Rattle.clap.specs.Matches.{found_of, first_value}
+use Rattle.std.proofs.Common.{◌∙◌, ap₂}
 use Rattle.trips_words.specs.Words.{file_name}
-use Rattle.trips_words.specs.Requests.{options_of, counted, is_on}
-use Rattle.trips_words.proofs.CommandLemmas.{no_flag_file, no_flag_input, no_flag_count, found_said, found_on}
-use Rattle.trips_words.proofs.CommandLemmas.{same_request}
+use Rattle.trips_words.specs.Requests.{options_of, request_with}
+use Rattle.trips_words.proofs.CommandLemmas.{no_flag_file, found_said}
 use Rattle.trips_words.proofs.asking.request_of.Goals as goal
 
 pub returns : goal.returns
 returns c said f =
     let k = c.args.command in
     let m = c.args.matches.now in
-    let o = options_of k in
-    c.request_with.ensures ∙ same_request k _ _ _ _ _ _ _ _ _ _
-    (c.get_str.ensures ∙ found_said o said m file_name f (no_flag_file k))
-    (c.get_str-2.ensures ∙ found_said o said m (codes "input") f (no_flag_input k))
-    (c.get_str-3.ensures ∙ ap (first_value (found_of m)) c.counted.ensures
-    ∙ found_said o said m (counted k) f (no_flag_count k))
-    (c.is_on.ensures ∙ ap is_on c.get_str-4.ensures ∙ found_on o said m (codes "regs") f)
-    (c.is_on-2.ensures ∙ ap is_on c.get_str-5.ensures ∙ found_on o said m (codes "trace") f)
+    c.request_with.ensures ∙ ap₂ (request_with k)
+    (c.get_str.ensures ∙ found_said (options_of k) said m file_name f (no_flag_file k))
+    (c.options_found.ensures said f)

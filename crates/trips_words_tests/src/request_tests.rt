@@ -1,0 +1,146 @@
+//! Words, and the requests that they make.
+
+use crate::requests::{PLAIN, assert_asked};
+use std::alloc::{AllocError, Global};
+use std::process::Abort;
+use std::test::Fail;
+use trips_words::{Asked, Command};
+
+/// Words, and the request that they make.
+type Row = (&'static [&'static str], Asked<'static>);
+
+const ASKED: &[Row] = &[
+    (&["run", "a.c"], PLAIN),
+    (&["run", "--", "a.c"], PLAIN),
+    (&["run", "a.c", "--blocks", "1"], Asked { most: 1, ..PLAIN }),
+    (
+        &["run", "a.c", "--blocks", "4000000"],
+        Asked {
+            most: 4_000_000,
+            ..PLAIN
+        },
+    ),
+    (
+        &["bench", "1"],
+        Asked {
+            file: "1",
+            functions: Some(1),
+            ..PLAIN
+        },
+    ),
+    (
+        &["run", "a.c", "--input=-t"],
+        Asked {
+            input: Some("-t"),
+            ..PLAIN
+        },
+    ),
+    (
+        &["run", "a.c", "--input="],
+        Asked {
+            input: Some(""),
+            ..PLAIN
+        },
+    ),
+    (
+        &["run", "a.c", "--input", "-"],
+        Asked {
+            input: Some("-"),
+            ..PLAIN
+        },
+    ),
+    (
+        &["run", "a.c", "--input=b=c"],
+        Asked {
+            input: Some("b=c"),
+            ..PLAIN
+        },
+    ),
+    (&["run", "-"], Asked { file: "-", ..PLAIN }),
+    (&["run", ""], Asked { file: "", ..PLAIN }),
+    (
+        &["run", "--", "--regs"],
+        Asked {
+            file: "--regs",
+            ..PLAIN
+        },
+    ),
+    (
+        &["run", "--regs", "--", "--"],
+        Asked {
+            file: "--",
+            regs: true,
+            ..PLAIN
+        },
+    ),
+    (
+        &["run", "a.c", "--place", "0"],
+        Asked {
+            place: Some(0),
+            ..PLAIN
+        },
+    ),
+    (
+        &["run", "a.c", "--place", "18446744073709551615"],
+        Asked {
+            place: Some(18_446_744_073_709_551_615),
+            ..PLAIN
+        },
+    ),
+    (
+        &["run", "a.img.c", "--place", "1"],
+        Asked {
+            file: "a.img.c",
+            place: Some(1),
+            ..PLAIN
+        },
+    ),
+    (
+        &["run", "b.img"],
+        Asked {
+            file: "b.img",
+            ..PLAIN
+        },
+    ),
+    (
+        &["compile", "a.c"],
+        Asked {
+            command: Command::Compile,
+            ..PLAIN
+        },
+    ),
+    (
+        &["asm", "a.c"],
+        Asked {
+            command: Command::Assemble,
+            ..PLAIN
+        },
+    ),
+    (
+        &["dis", "--", "a.c"],
+        Asked {
+            command: Command::Disassemble,
+            ..PLAIN
+        },
+    ),
+    (
+        &["check", "a.c"],
+        Asked {
+            command: Command::Check,
+            ..PLAIN
+        },
+    ),
+];
+
+fn assert_all_asked(rt: &impl Abort, alloc: Global, rows: &[Row]) -> Result<(), AllocError> {
+    for (texts, wanted) in rows {
+        assert_asked(rt, alloc, texts, wanted)?;
+    }
+    Ok(())
+}
+
+#[test]
+fn words_make_requests(rt: HostRuntime) -> Result<(), Fail> {
+    assert_all_asked(&rt, rt.alloc(), ASKED)?;
+    Ok(())
+}

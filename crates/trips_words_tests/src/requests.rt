@@ -1,0 +1,48 @@
+//! What the tests share: words, and that they make a request.
+
+use std::alloc::{AllocError, Global};
+use std::process::Abort;
+use trips_words::{Asked, Command, request};
+
+/// A run of a.c with nothing asked besides.
+pub const PLAIN: Asked<'static> = Asked {
+    command: Command::Run,
+    file: "a.c",
+    functions: None,
+    input: None,
+    most: 1_000_000,
+    place: None,
+    regs: false,
+    trace: false,
+};
+
+/// The words of a command line.
+pub fn words_of(alloc: Global, texts: &[&str]) -> Result<Vec<String>, AllocError> {
+    let mut words = Vec::new(alloc);
+    for text in texts {
+        words.push(String::from_str(alloc, *text)?)?;
+    }
+    Ok(words)
+}
+
+/// The words make this request.
+pub fn assert_asked(
+    rt: &impl Abort,
+    alloc: Global,
+    texts: &[&str],
+    wanted: &Asked<'_>,
+) -> Result<(), AllocError> {
+    let words = words_of(alloc, texts)?;
+    let asked = request(alloc, &words)
+        .expect(rt, "memory")
+        .expect(rt, "a request");
+    assert!(rt; asked.command == wanted.command, "{texts:?}");
+    assert!(rt; asked.file == wanted.file, "{texts:?}");
+    assert!(rt; asked.functions == wanted.functions, "{texts:?}");
+    assert!(rt; asked.input == wanted.input, "{texts:?}");
+    assert!(rt; asked.most == wanted.most, "{texts:?}");
+    assert!(rt; asked.place == wanted.place, "{texts:?}");
+    assert!(rt; asked.regs == wanted.regs, "{texts:?}");
+    assert!(rt; asked.trace == wanted.trace, "{texts:?}");
+    Ok(())
+}

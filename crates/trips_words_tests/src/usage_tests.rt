@@ -1,0 +1,102 @@
+//! Words that make no request.
+
+use crate::requests::words_of;
+use std::alloc::{AllocError, Global};
+use std::process::Abort;
+use std::test::Fail;
+use trips_words::request;
+
+const USAGES: &[&[&str]] = &[
+    &[],
+    &[""],
+    &["run"],
+    &["walk", "a.c"],
+    &["--regs", "run", "a.c"],
+    &["run", "a.c", "b.c"],
+    &["run", "a.c", "--", "b.c"],
+    &["run", "--regs"],
+    &["run", "a.c", "--blocks"],
+    &["run", "a.c", "--blocks", "0"],
+    &["run", "a.c", "--blocks", "4000001"],
+    &["run", "a.c", "--blocks", "99999999999999999999"],
+    &["run", "a.c", "--blocks", "+1"],
+    &["run", "a.c", "--blocks", "-1"],
+    &["run", "a.c", "--blocks", "1e3"],
+    &["run", "a.c", "--blocks", ""],
+    &["run", "a.c", "--blocks="],
+    &["run", "a.c", "--blocks", "1", "--blocks", "2"],
+    &["run", "a.c", "--blocks=1", "--blocks", "1"],
+    &["run", "--input", "t", "a.c", "--input", "t"],
+    &["run", "a.c", "--regs", "--regs"],
+    &["run", "a.c", "--regs=yes"],
+    &["run", "a.c", "--input", "--", "t"],
+    &["run", "a.c", "--input", "-t"],
+    &["run", "a.c", "--steps", "1"],
+    &["run", "a.c", "--seed", "1"],
+    &["run", "b.img", "--place", "1"],
+    &["run", "v.tasl", "--place", "1"],
+    &["run", "a.c", "--cycles"],
+    &["run", "a.c", "--block", "1"],
+    &["run", "a.c", "-r"],
+    &["run", "a.c", "-h"],
+    &["run", "a.c", "--help"],
+    &["run", "a.c", "--version"],
+    &["run", "-a.c"],
+    &["run", "help", "a.c"],
+    &["run", "-\u{e9}"],
+    &["eval", "a.c", "--blocks", "1"],
+    &["eval", "a.c", "--regs"],
+    &["run", "a.c", "--place", "18446744073709551616"],
+    &[
+        "run",
+        "a.c",
+        "--place",
+        "99999999999999999999999999999999999999999",
+    ],
+    &["run", "a.c", "--place", "-1"],
+    &["run", "a.c", "--place", "0x1"],
+    &["run", "a.c", "--place="],
+    &["run", "a.c", "--place", "1", "--place", "1"],
+    &["bench", "1", "--place", "1", "--place=1"],
+    &["compile", "a.c", "--place", "x"],
+    &["compile", "a.c", "--place=1", "--place=1"],
+    &["compile", "b.img", "--place", "1"],
+    &["compile", "a.c", "--blocks", "1"],
+    &["compile", "a.c", "--seed", "1"],
+    &["eval", "a.c", "--place", "1"],
+    &["asm", "a.c", "--place", "1"],
+    &["dis", "a.c", "--place", "1"],
+    &["check", "a.c", "--place", "1"],
+    &["bench", "1", "--seed", "1"],
+    &["bench", "1", "--cycles"],
+    &["check", "a.c", "--trace"],
+    &["dis"],
+    &["bench", "0"],
+    &["bench", "65"],
+    &["bench", "6x"],
+    &["bench", "1", "--regs"],
+    &["bench", "1", "--blocks", "2", "--blocks", "2"],
+    &["eval", "a.c", "--steps", "1", "--steps", "1"],
+    &["eval", "a.c", "--input", "t", "--input", "t"],
+    &["run", "a.c", "--trace", "--trace"],
+];
+
+fn assert_usage(rt: &impl Abort, alloc: Global, texts: &[&str]) -> Result<(), AllocError> {
+    let words = words_of(alloc, texts)?;
+    let asked = request(alloc, &words).expect(rt, "memory");
+    assert!(rt; asked.is_none(), "{texts:?}");
+    Ok(())
+}
+
+fn assert_usages(rt: &impl Abort, alloc: Global, rows: &[&[&str]]) -> Result<(), AllocError> {
+    for texts in rows {
+        assert_usage(rt, alloc, texts)?;
+    }
+    Ok(())
+}
+
+#[test]
+fn other_words_are_no_request(rt: HostRuntime) -> Result<(), Fail> {
+    assert_usages(&rt, rt.alloc(), USAGES)?;
+    Ok(())
+}
