@@ -1,6 +1,7 @@
 -- What the calls of a run make of a grid.
 use Rattle.std.proofs.Common.{◌≡◌, ℕ, zero, suc, ◌+◌, ◌-◌, ◌≤◌, Bool, true, false, cond, List, [], length}
-use Rattle.std.proofs.Common.{Option, Some, None, unwrap_or, refl, sym, ap, ◌∙◌, subst, true≢false, add-one, arith}
+use Rattle.std.proofs.Common.{Option, Some, None, refl, sym, ap, ◌∙◌, subst, true≢false, add-one, arith}
+use Rattle.std.specs.Prelude.{unwrap_or}
 use Rattle.trips_isa.specs.declared.block.Block.{Block}
 use Rattle.trips_isa.specs.declared.run.Ending.{Ending}
 use Rattle.trips_isa.specs.Machine.{State}
@@ -133,14 +134,16 @@ module _ {W : Type 0} (next : W → ℕ) (follows : W → W → Type 0) (blocks 
   no_cycle g h off e =
       subst (λ k. GoesFor next follows blocks budget k g h) (sym (ap (λ x. cond x 1 0) off)) e
 
-  -- where a single call made none, nothing has changed
-  pub none_made : (g h : Grid W) → is_going budget g.window ≡ false
-      → GoesFor next follows blocks budget (going_cycles budget g.window) g h → h ≡ g
-  none_made g h off cycles = go (going_cycles budget g.window) (ap (λ x. cond x 1 0) off) cycles
-    where
-      go : (k : ℕ) → k ≡ 0 → GoesFor next follows blocks budget k g h → h ≡ g
-      go zero e c = c
-      go (suc k) e c = absurd (omega (arith, e))
+  -- a run that does not go on makes no cycle
+  began_going : (n : ℕ) (g h : Grid W) → GoesFor next follows blocks budget (suc n) g h
+      → is_going budget g.window ≡ true
+  began_going zero g h c = subst (λ (x : Grid W). is_going budget x.window ≡ true) (c.before).0 (c.before).1
+  began_going (suc n) g h c = began_going n g c.between (c.before).0
+
+  pub none_made : (n : ℕ) (g h : Grid W) → is_going budget g.window ≡ false
+      → GoesFor next follows blocks budget n g h → h ≡ g
+  none_made zero g h off c = c
+  none_made (suc n) g h off c = absurd (true≢false (sym (began_going n g h c) ∙ off))
 
   pub is_run : (n : ℕ) (g m h : Grid W) → GoesFor next follows blocks budget n g m → h ≡ at_end budget m
       → IsRun next follows blocks budget n g h

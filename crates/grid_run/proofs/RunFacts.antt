@@ -20,7 +20,7 @@ use Rattle.grid_cycle_spec.specs.Laws.{AddsUp, ByEvents}
 use Rattle.grid_cycle_spec.proofs.Agreeing.{takes_steps}
 use Rattle.grid_cycle_spec.proofs.Counting.{closed_adds_up, cycles_add_up}
 use Rattle.grid_cycle_spec.proofs.Events.{cycles_steps}
-use Rattle.grid_run.specs.Answered.{ComesTo}
+use Rattle.grid_run.specs.Answered.{ComesTo, HasCome}
 use Rattle.grid_run.specs.Endings.{ended, ending_of, is_going}
 use Rattle.grid_run.specs.Tallies.{CountsCommits}
 use Rattle.grid_run.specs.WholeRuns.{AreCycles, GoesFor, IsRun, at_end}
@@ -194,3 +194,19 @@ module _ {W : Type 0} (blocks : List Block) (budget : ℕ) (next : W → ℕ) (f
           subst (λ x. ComesTo blocks g.window.state (budget - length g.window.state.trace) e x) (sym same)
           (come_closed good n g r.last ok went r.cycles b e last_adds
           (sym (ap (λ (x : Grid W). ended budget x.window) same) ∙ tells))
+
+-- what is answered of a run from a grid that goes on
+pub has_come : {W : Type 0} (blocks : List Block) (budget most : ℕ) (next : W → ℕ) (follows : W → W → Type 0)
+    → AllGood blocks → (n : ℕ) (g h : Grid W) → WindowOk blocks budget g.window → g.window.over ≡ Went → AddsUp g
+    → IsRun next follows blocks budget n g h → (is_going budget h.window ≡ true → most ≤ h.counts.cycles)
+    → (answer : Option Ending) → answer ≡ ended budget h.window
+    → HasCome blocks g.window.state (budget - length g.window.state.trace) budget most answer h
+has_come blocks budget most next follows good n g h ok went adds run full (Some e) tells =
+    run_comes blocks budget next follows good n g h e ok went adds run (sym tells)
+has_come blocks budget most next follows good n g h ok went adds run full None tells =
+    let on : is_going budget h.window ≡ true = none_going (is_going budget h.window) _ (sym tells) in
+    record { goes = on; cycles = full on }
+  where
+    none_going : (b : Bool) (x : Ending) → cond b None (Some x) ≡ None → b ≡ true
+    none_going true x e = refl
+    none_going false x e = absurd (let bad : Some x ≡ None = e in cc)

@@ -157,6 +157,8 @@ pub fn run<V: Windows, W: Weather>(grid: &mut Grid<V, W>, budget: u32, most: u64
         (grid.new.state.counts.cycles - grid.old.state.counts.cycles)
         (seen (V.held grid.old.window) grid.old.state) (seen (V.held grid.new.window) grid.new.state) }
     ensures value { result ≡ ended budget (V.held grid.new.window) }
+    ensures same { is_going budget (V.held grid.old.window) ≡ false
+        → seen (V.held grid.new.window) grid.new.state ≡ seen (V.held grid.old.window) grid.old.state }
     ensures full { is_going budget (V.held grid.new.window) ≡ true → most ≤ grid.new.state.counts.cycles }
     ensures few { grid.old.state.counts.cycles ≤ most → grid.new.state.counts.cycles ≤ most }
     ensures more { grid.old.state.counts.cycles ≤ grid.new.state.counts.cycles }
