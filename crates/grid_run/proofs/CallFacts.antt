@@ -156,3 +156,10 @@ cycles_going budget w n m on e = e ∙ ap (λ x. n + cond x 1 0) (sym on)
 pub cycles_stopped : (budget : ℕ) (w : Window) (n : ℕ) → is_going budget w ≡ false
     → n ≡ n + going_cycles budget w
 cycles_stopped budget w n off = let none : n ≡ n + 0 = omega arith in none ∙ ap (λ x. n + cond x 1 0) (sym off)
+
+pub going_few : (budget : ℕ) (w : Window) → going_cycles budget w ≤ 1
+going_few budget w = go (is_going budget w)
+  where
+    go : (b : Bool) → cond b 1 0 ≤ 1
+    go true = omega arith
+    go false = omega arith

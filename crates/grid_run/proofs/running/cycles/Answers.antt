@@ -16,7 +16,7 @@ loop-made-preserved g c =
           (seen (g.V.Windows.held v) c.args.grid.now.state) (seen (g.V.Windows.held x.window) x.state)
           (seen (g.V.Windows.held y.window) y.state) c.loop-made.invariant.image
           (c.loop-made.invariant.budget ∙ c.requires.budget)
-          (sym c.is_going.ensures ∙ c.if-is_going.true) c.loop-made.invariant.change c.cycle.ensures.eager;
+          (sym c.if-is_going.ensures) c.loop-made.invariant.change c.cycle.ensures.eager;
       within = omega arith;
       counted = c.cycle.ensures.counted;
       cycles = omega (arith, more, before);
