@@ -62,7 +62,8 @@ fn unread_in(held: &Body, block: &Block) -> u32
     ensures { (r : ℕ) → r < 32 → has_bit result r
         ≡ (nat_lt r (length block.now.reads.items) && not (slice_index_or held.now.reads r false)) }
 {
-    without(low_bits(block.reads.len()), held.reads().word(0))
+    let reads = block.reads.as_slice();
+    without(low_bits(reads.len()), held.reads().word(0))
 }
 
 /// The reads of a frame that have not been answered.

@@ -48,7 +48,10 @@ impl GridWindow {
     pub fn into_window(self) -> Window
         ensures value { result ≡ self }
     {
-        let GridWindow { window, shapes: _ } = self;
+        let GridWindow {
+            window,
+            shapes: _shapes,
+        } = self;
         window
     }
 
