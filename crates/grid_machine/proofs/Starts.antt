@@ -77,30 +77,30 @@ went_of budget w e = go w.over (nat_lt (length w.state.trace) budget) e
     go (stepped.Trap c) b e = absurd (cc)
 
 module _ (blocks : List Block) (bytes input : List ℕ) (budget seed : ℕ) (answer : Option Ending) (h : Grid PcgWeather)
-    where
-  from_start : IsRun next_hold IsAfter blocks budget (h.counts.cycles - 0) (started bytes input seed) h
-      → (0 ≤ most_cycles budget → h.counts.cycles ≤ most_cycles budget)
-      → CountsCommits (started bytes input seed) h
-      → HasCome blocks (start bytes input) (budget - 0) budget (most_cycles budget) answer h
-      → IsRan blocks bytes input budget seed answer h
-  from_start run few commits comes =
-      let made : h.counts.cycles - 0 ≡ h.counts.cycles = omega arith in
-      let all : budget - 0 ≡ budget = omega arith in
-      record {
-        run = subst (λ n. IsRun next_hold IsAfter blocks budget n (started bytes input seed) h) made run;
-        few = few (omega arith);
-        committed = omega (arith, commits);
-        comes = subst (λ n. HasCome blocks (start bytes input) n budget (most_cycles budget) answer h) all comes;
-      }
+  where
+    from_start : IsRun next_hold IsAfter blocks budget (h.counts.cycles - 0) (started bytes input seed) h
+        → (0 ≤ most_cycles budget → h.counts.cycles ≤ most_cycles budget)
+        → CountsCommits (started bytes input seed) h
+        → HasCome blocks (start bytes input) (budget - 0) budget (most_cycles budget) answer h
+        → IsRan blocks bytes input budget seed answer h
+    from_start run few commits comes =
+        let made : h.counts.cycles - 0 ≡ h.counts.cycles = omega arith in
+        let all : budget - 0 ≡ budget = omega arith in
+        record {
+          run = subst (λ n. IsRun next_hold IsAfter blocks budget n (started bytes input seed) h) made run;
+          few = few (omega arith);
+          committed = omega (arith, commits);
+          comes = subst (λ n. HasCome blocks (start bytes input) n budget (most_cycles budget) answer h) all comes;
+        }
 
-  pub is_ran : (g : Grid PcgWeather) → g ≡ started bytes input seed
-      → IsRun next_hold IsAfter blocks budget (h.counts.cycles - g.counts.cycles) g h
-      → (g.counts.cycles ≤ most_cycles budget → h.counts.cycles ≤ most_cycles budget)
-      → CountsCommits g h
-      → HasCome blocks g.window.state (budget - length g.window.state.trace) budget (most_cycles budget) answer h
-      → IsRan blocks bytes input budget seed answer h
-  is_ran g e = subst (λ (x : Grid PcgWeather). IsRun next_hold IsAfter blocks budget
-      (h.counts.cycles - x.counts.cycles) x h → (x.counts.cycles ≤ most_cycles budget
-      → h.counts.cycles ≤ most_cycles budget) → CountsCommits x h → HasCome blocks x.window.state
-      (budget - length x.window.state.trace) budget (most_cycles budget) answer h
-      → IsRan blocks bytes input budget seed answer h) (sym e) (from_start)
+    pub is_ran : (g : Grid PcgWeather) → g ≡ started bytes input seed
+        → IsRun next_hold IsAfter blocks budget (h.counts.cycles - g.counts.cycles) g h
+        → (g.counts.cycles ≤ most_cycles budget → h.counts.cycles ≤ most_cycles budget)
+        → CountsCommits g h
+        → HasCome blocks g.window.state (budget - length g.window.state.trace) budget (most_cycles budget) answer h
+        → IsRan blocks bytes input budget seed answer h
+    is_ran g e = subst (λ (x : Grid PcgWeather). IsRun next_hold IsAfter blocks budget
+        (h.counts.cycles - x.counts.cycles) x h → (x.counts.cycles ≤ most_cycles budget
+        → h.counts.cycles ≤ most_cycles budget) → CountsCommits x h → HasCome blocks x.window.state
+        (budget - length x.window.state.trace) budget (most_cycles budget) answer h
+        → IsRan blocks bytes input budget seed answer h) (sym e) (from_start)

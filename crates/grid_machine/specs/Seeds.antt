@@ -11,7 +11,7 @@ use Rattle.grid_cycle_spec.specs.Cycles.{begun_at}
 use Rattle.grid_state.specs.Seen.{seen}
 use Rattle.grid_run.specs.Answered.{HasCome}
 use Rattle.grid_run.specs.WholeRuns.{IsRun, most_cycles}
-use Rattle.grid_machine.specs.declared.ran.Ran.{Ran}
+use Rattle.grid_machine.specs.declared.outcome.Ran.{Ran}
 
 -- the hold that the weather of a seed gives next, and the weather after it
 abbrev pub next_hold : PcgWeather → ℕ

@@ -2,11 +2,11 @@
 #![tactic(auto)]
 
 mod made;
-mod ran;
+mod outcome;
 mod running;
 mod seeded;
 
 pub use made::{make, make_at};
-pub use ran::Ran;
+pub use outcome::Ran;
 pub use running::{cycle, run};
 pub use seeded::run_image;

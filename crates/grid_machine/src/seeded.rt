@@ -6,7 +6,7 @@ ghost use Rattle.grid_run.specs.WholeRuns.{IsKept};
 ghost use Rattle.grid_machine.specs.Seeds.{IsRan, blocks_of, grid_of, started};
 
 use crate::made::make;
-use crate::ran::Ran;
+use crate::outcome::Ran;
 use crate::running::run;
 use base::Memory;
 use block_check::CheckedImage;

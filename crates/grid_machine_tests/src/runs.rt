@@ -42,7 +42,13 @@ fn checked(alloc: Global, text: &str) -> Result<CheckedImage, Fail> {
 }
 
 /// The run of a text on the grid of a seed.
-pub fn ran(rt: &impl Abort, alloc: Global, text: &str, seed: u64, budget: u32) -> Result<Ran, Fail> {
+pub fn ran(
+    rt: &impl Abort,
+    alloc: Global,
+    text: &str,
+    seed: u64,
+    budget: u32,
+) -> Result<Ran, Fail> {
     let image = checked(alloc, text)?;
     assert!(rt; budget > 0, "a budget");
     match run_image(alloc, image, Vec::new(alloc), seed, budget) {
@@ -60,8 +66,16 @@ fn assert_row(rt: &impl Abort, alloc: Global, row: Row, seed: u64) -> Result<(),
         "seed {seed}: {:?}",
         ran.ending
     );
-    assert_eq!(rt; ran.arch().register(3), row.result, "seed {seed}: register 3");
-    assert_eq!(rt; counts.committed, row.committed, "seed {seed}: committed blocks");
+    assert_eq!(rt;
+        ran.arch().register(3),
+        row.result,
+        "seed {seed}: register 3"
+    );
+    assert_eq!(rt;
+        counts.committed,
+        row.committed,
+        "seed {seed}: committed blocks"
+    );
     assert_eq!(rt;
         ran.arch().trace().len() as u64,
         row.committed,

@@ -1,5 +1,5 @@
 -- What the calls of a run make of a grid.
-use Rattle.std.proofs.Common.{◌≡◌, ℕ, zero, suc, ◌+◌, ◌-◌, ◌≤◌, Bool, true, false, cond, List, [], length}
+use Rattle.std.proofs.Common.{◌≡◌, ℕ, zero, suc, ◌+◌, ◌-◌, ◌≤◌, Bool, true, false, cond, List, [], ◌∷◌, length}
 use Rattle.std.proofs.Common.{Option, Some, None, refl, sym, ap, ◌∙◌, subst, true≢false, add-one, arith}
 use Rattle.std.specs.Prelude.{unwrap_or}
 use Rattle.trips_isa.specs.declared.block.Block.{Block}
@@ -24,13 +24,14 @@ next_is w o e none = ap (λ x. unwrap_or x 0) (e ∙ ap (λ fs. (after_all fs (c
 
 -- the end of a run -------------------------------------------------------------------------------
 
+-- no ending is told of a run that goes on
+pub going_ended : (budget : ℕ) (w : Window) → is_going budget w ≡ true → None ≡ ended budget w
+going_ended budget w e = sym (ap (λ b. cond b None (Some (ending_of w.over w.state.next))) e)
+
 module _ {W : Type 0} (budget : ℕ) where
   -- one that goes on
   pub going_kept : (g : Grid W) → is_going budget g.window ≡ true → IsCounted g → IsKept budget g
   going_kept g e counted = record { counted = counted; rests = λ z. absurd (true≢false (sym e ∙ z)) }
-
-  pub going_ended : (w : Window) → is_going budget w ≡ true → None ≡ ended budget w
-  going_ended w e = sym (ap (λ b. cond b None (Some (ending_of w.over w.state.next))) e)
 
   -- one that does not: the frames are flushed
   flushed_cycles : (fs : List Frame) (g : Grid W) → (flushed fs g).counts.cycles ≡ g.counts.cycles

@@ -41,7 +41,7 @@ module _ {W : Type 0} where
       let c = s.committed in
       omega (arith, l, c)
 
-  chained : (g m h : Grid W) → CountsCommits g m → CountsCommits m h → CountsCommits g h
+  pub chained : (g m h : Grid W) → CountsCommits g m → CountsCommits m h → CountsCommits g h
   chained g m h a b = omega (arith, a, b)
 
   flushed_same : (fs : List Frame) (g : Grid W) → SameCommits g (flushed fs g)

@@ -1,5 +1,5 @@
 -- What stands at the end of a run.
-use Rattle.std.proofs.Common.{◌≡◌, ℕ, zero, suc, ◌+◌, ◌-◌, ◌≤◌, Bool, true, false, cond, nat_lt, List, [], length}
+use Rattle.std.proofs.Common.{◌≡◌, ℕ, zero, suc, ◌+◌, ◌-◌, ◌≤◌, Bool, true, false, cond, nat_lt, List, [], ◌∷◌, length}
 use Rattle.std.proofs.Common.{Option, Some, None, refl, sym, ap, ◌∙◌, subst, true≢false, arith}
 use Rattle.std.proofs.lemmas.Bool.{ltb-false}
 use Rattle.trips_isa.specs.declared.block.Block.{Block}
@@ -76,7 +76,7 @@ no_ending true x e f h = absurd (let bad : None ≡ Some e = h in cc)
 no_ending false x e f h = refl
 
 -- whether a run goes on hangs on its state and on how it has ended alone
-going_by : (budget : ℕ) (v w : Window) → v.over ≡ w.over → v.state ≡ w.state → is_going budget v ≡ is_going budget w
+pub going_by : (budget : ℕ) (v w : Window) → v.over ≡ w.over → v.state ≡ w.state → is_going budget v ≡ is_going budget w
 going_by budget v w o s =
     ap (λ x. cond (goes x) (nat_lt (length v.state.trace) budget) false) o
     ∙ ap (λ (t : State). cond (goes w.over) (nat_lt (length t.trace) budget) false) s
@@ -159,10 +159,10 @@ module _ {W : Type 0} (blocks : List Block) (budget : ℕ) (next : W → ℕ) (f
         let state : (closed last).window.state ≡ last.window.state = ap (λ (v : Window). v.state) w in
         let over : (closed last).window.over ≡ last.window.over = ap (λ (v : Window). v.over) w in
         let told : ((closed last).window.state, (closed last).window.over)
-            ≡ runs blocks g.window.state (budget - length g.window.state.trace) =
-            ap (λ (v : Window). (v.state, v.over)) w ∙ (come) in
+        ≡ runs blocks g.window.state (budget - length g.window.state.trace) =
+        ap (λ (v : Window). (v.state, v.over)) w ∙ (come) in
         let off : is_going budget (closed last).window ≡ false =
-            going_by budget (closed last).window last.window over state ∙ stopped in
+        going_by budget (closed last).window last.window over state ∙ stopped in
         record {
           state = ap (λ (p : State × Stepped). p.0) told;
           over = ap (λ (p : State × Stepped). p.1) told;

@@ -135,11 +135,12 @@ fn cycles<V: Windows, W: Weather>(grid: &mut Grid<V, W>, budget: u32, most: u64)
 {
     let mut made: u64 = 0;
     while made < most {
-        if !is_going(&grid.window, budget) {
+        if is_going(&grid.window, budget) {
+            grid_cycle::cycle(grid);
+            made += 1;
+        } else {
             return made;
         }
-        grid_cycle::cycle(grid);
-        made += 1;
     }
     made
 }

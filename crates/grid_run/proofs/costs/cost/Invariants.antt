@@ -1,6 +1,6 @@
 use Rattle.std.proofs.Common.{◌≡◌, ◌≤◌, ◌+◌, ◌*◌, drop}
 use Rattle.grid_cycle_spec.specs.Costs.{cost_of}
-use Rattle.grid_run.proofs.cost.cost.Given as goal
+use Rattle.grid_run.proofs.costs.cost.Given as goal
 
 abbrev pub invariant-loop-i : goal.invariant-loop-i
 invariant-loop-i l = record {

@@ -1,15 +1,16 @@
-use Rattle.std.proofs.Common.{None, arith}
+use Rattle.std.proofs.Common.{None, get_or, refl, arith}
 use Rattle.grid_cycle_spec.specs.Costs as spec
 use Rattle.grid_run.proofs.CostFacts.{slot_more, slots_all}
-use Rattle.grid_run.proofs.cost.instructions.Goals as goal
+use Rattle.grid_run.proofs.costs.instructions.Goals as goal
 
 pub loop-i-preserved : goal.loop-i-preserved
 loop-i-preserved c =
-    let more = c.one_in.ensures.few in
+    let more = c.one_in-count.ensures.few in
     let before = c.loop-i.invariant.few in
     record {
-      sum = slot_more c.args.slots.now c.loop-i.i c.loop-i.count c.one_in.result (spec.instructions c.args.slots.now)
-          None c.index.result (omega arith) c.index.is c.one_in.ensures.value c.loop-i.invariant.sum;
+      sum = slot_more c.args.slots.now c.loop-i.i c.loop-i.count c.one_in-count.result
+          (spec.instructions c.args.slots.now) None (get_or c.args.slots.now c.loop-i.i None) c.loop-i-test.true refl
+          c.one_in-count.ensures.value c.loop-i.invariant.sum;
       few = omega (arith, more, before);
     }
 

@@ -1,6 +1,6 @@
 use Rattle.std.proofs.Common.{◌≡◌, ◌≤◌, ◌+◌, drop}
 use Rattle.grid_cycle_spec.specs.Costs.{instructions}
-use Rattle.grid_run.proofs.cost.instructions.Given as goal
+use Rattle.grid_run.proofs.costs.instructions.Given as goal
 
 abbrev pub invariant-loop-i : goal.invariant-loop-i
 invariant-loop-i l = record {
