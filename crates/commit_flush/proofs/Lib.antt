@@ -19,3 +19,4 @@ pub mod FetchAsked
 pub mod StoreTold
 pub mod LoadTold
 pub mod EmptyFacts
+pub mod LendFacts

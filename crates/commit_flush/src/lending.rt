@@ -1,13 +1,28 @@
 //! The frames in flight, lent to those who move the window.
 ghost use Rattle.std.specs.Prelude.{◌≡◌, MatchOption, None, Some, slice_get};
 ghost use Rattle.frame_state.specs.Held.{running};
-ghost use Rattle.frame_events.specs.Phases.{IsIdle};
+ghost use Rattle.frame_events.specs.Phases.{HasBlock, IsIdle, frame_in};
 ghost use Rattle.commit_flush_order.specs.Places.{frame_of, numbers_of};
 ghost use Rattle.commit_flush.specs.Lent.{IsLent};
 
 use crate::window::Window;
+use block_check::CheckedImage;
+use frame_events::{Phase, flying, is_sealed_in};
 use frame_state::Body;
 use trips_isa::Block;
+
+// What a frame that runs holds, and its block.
+fn running_in<'a>(phase: &'a Phase, image: &'a CheckedImage) -> Option<(&'a Body, &'a Block)>
+    requires { HasBlock image.now.blocks phase.now }
+    ensures { MatchOption result (IsIdle (frame_in image.now.blocks phase.now))
+        (λ p. frame_in image.now.blocks phase.now ≡ Some (running p.1.now p.0.now)) }
+{
+    if is_sealed_in(phase, image) {
+        None
+    } else {
+        flying(phase, image)
+    }
+}
 
 impl Window {
     /// The numbers of the frames in flight, the oldest first.
@@ -24,7 +39,7 @@ impl Window {
     {
         match self.phase(frame) {
             None => None,
-            Some(phase) => frame_events::flying(phase, self.image()),
+            Some(phase) => flying(phase, self.image()),
         }
     }
 
@@ -35,7 +50,7 @@ impl Window {
     {
         match self.phase(frame) {
             None => None,
-            Some(phase) => frame_events::running_in(phase, self.image()),
+            Some(phase) => running_in(phase, self.image()),
         }
     }
 
@@ -46,7 +61,7 @@ impl Window {
     {
         match self.phase_at(age) {
             None => None,
-            Some(phase) => frame_events::flying(phase, self.image()),
+            Some(phase) => flying(phase, self.image()),
         }
     }
 }

@@ -19,7 +19,7 @@ pub use changes::{deliver_in, exit_in, fire_in, load_in, read_in, store_in};
 pub use event::{Cause, Event, Happened};
 pub use exits::departure;
 pub use law::empty_frames_may_be_filled;
-pub use parts::{block_at, flying, running_in};
+pub use parts::{block_at, flying};
 pub use phase::{Phase, empty_in, fill_in, seal_in};
 pub use telling::{
     block_in, cause_in, exit_come, is_sealed_in, is_serial_in, leads_to, outputs_in, read_register,

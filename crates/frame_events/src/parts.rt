@@ -39,7 +39,7 @@ pub fn flying<'a>(phase: &'a Phase, image: &'a CheckedImage) -> Option<(&'a Body
 }
 
 /// A frame that runs: what it holds, and its block.
-pub fn running_in<'a>(
+pub(crate) fn running_in<'a>(
     phase: &'a Phase,
     image: &'a CheckedImage,
 ) -> Option<(&'a Body, &'a Block)>

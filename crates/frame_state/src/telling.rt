@@ -14,7 +14,7 @@ use crate::parts::{Departure, Took};
 use crate::ready::{come, matching, ready, waiting};
 use crate::rule::{stored, took};
 use crate::shape::Shape;
-use bit_rows::{Flags, Row};
+use bit_rows::Row;
 use trips_isa::{FIRST_WRITE, Inst, Stored, Token};
 
 impl Body {
@@ -78,13 +78,6 @@ impl Body {
         self.places.get(p).is_some()
     }
 
-    /// The token at a place of the block, if it has come.
-    pub fn spot(&self, q: usize) -> Option<Token>
-        ensures value { result ≡ at self.now.spots q }
-    {
-        self.spots.get(q)
-    }
-
     /// The token of a write, if it has come.
     pub fn write(&self, write: u8) -> Option<Token>
         ensures value { result ≡ at self.now.spots (FIRST_WRITE + write) }
@@ -97,27 +90,6 @@ impl Body {
         ensures value { result ≡ at self.now.stores number }
     {
         self.stores.get(number as usize)
-    }
-
-    /// The tokens on their way, by place.
-    pub fn places(&self) -> &Row<Token, 320, 5>
-        ensures value { result.now ≡ self.now.places }
-    {
-        &self.places
-    }
-
-    /// The reads that are answered.
-    pub fn reads(&self) -> &Flags<32, 1>
-        ensures value { result.now ≡ self.now.reads }
-    {
-        &self.reads
-    }
-
-    /// The slots that wait, by number.
-    pub fn requests(&self) -> &Row<u8, 32, 1>
-        ensures value { result.now ≡ self.now.requests }
-    {
-        &self.requests
     }
 
     /// The resolved stores, by number.

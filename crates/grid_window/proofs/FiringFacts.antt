@@ -107,27 +107,25 @@ never_done (Trap c) h e = refl
 -- reads ------------------------------------------------------------------------------------------
 
 -- a read that is not declared, or was answered, is not answered
-closed : (b : Block) (answered : Bool) (r : ℕ) → (nat_lt r (length b.reads.items) && not answered) ≡ false
+closed : (b : Block) (answered : Bool) (r : ℕ) → (r < length b.reads.items → answered ≡ true)
     → (is_none (slice_get b.reads.items r) || answered) ≡ true
 closed b answered r e = go (cases_lt r (length b.reads.items))
   where
-    second : (z : Option ReadSlot) (a : Bool) → (true && not a) ≡ false → (is_none z || a) ≡ true
-    second None true w = refl
-    second (Some q) true w = refl
-    second z false w = absurd (cc)
+    second : (x : Bool) → (x || true) ≡ true
+    second true = refl
+    second false = refl
 
     first : (a : Bool) → (true || a) ≡ true
     first true = refl
     first false = refl
 
     go : (r < length b.reads.items) ⊎ (length b.reads.items ≤ r) → (is_none (slice_get b.reads.items r) || answered) ≡ true
-    go (inl l) = second (slice_get b.reads.items r) answered (ap (λ t. t && not answered) (sym (lt-ltb r (length b.reads.items) l)) ∙ e)
+    go (inl l) = ap (λ a. is_none (slice_get b.reads.items r) || a) (e l) ∙ second (is_none (slice_get b.reads.items r))
     go (inr l) = ap (λ z. is_none z || answered) (slice_get_past b.reads.items r l) ∙ first answered
 
 -- so at the frame of a number that runs
 pub closed_read : (n r : ℕ) (fs : List Frame) (o : Older) (b : Block) (h : Held)
-    → frame_of n fs ≡ Some (running b h)
-    → (nat_lt r (length b.reads.items) && not (slice_index_or h.reads r false)) ≡ false
+    → frame_of n fs ≡ Some (running b h) → (r < length b.reads.items → slice_index_or h.reads r false ≡ true)
     → is_done (on_frame (NotNow NoFrame) (can_read r) o fs n) ≡ false
 closed_read n r fs o b h e w =
     ap is_done (one_asked (NotNow NoFrame) (can_read r) n fs o (running b h) e)

@@ -6,4 +6,5 @@ pub mod ShapeFacts
 pub mod WordFacts
 pub mod FiringFacts
 pub mod OlderFacts
+pub mod NearFacts
 pub mod WrongFacts

@@ -11,7 +11,7 @@ use Rattle.commit_flush_order.specs.Places.{numbers_of}
 use Rattle.frame_state.specs.Held.{Held, as_frame}
 use Rattle.commit_flush.specs.Lent.{IsLent}
 use Rattle.grid_cycle_spec.specs.DataTiles.{all_resolved}
-use Rattle.grid_stations.proofs.LeastFacts.{numbers_are}
+use Rattle.lsq_order.proofs.WrongFacts.{numbers_are}
 use Rattle.grid_window.specs.Named.{is_named}
 
 -- frames by age ----------------------------------------------------------------------------------

@@ -14,15 +14,24 @@ use Rattle.commit_flush_spec.proofs.Lists.{other_at, set_here}
 use Rattle.frame_state.specs.Held.{Held, as_frame, running}
 use Rattle.lsq_order.specs.Reached.{FitsReach, narrowed}
 use Rattle.lsq_order.specs.Wrong.{Finds, is_wrong}
-use Rattle.lsq_order.proofs.WrongFacts.{near_low, own_at, own_left, passes_is, took_none}
+use Rattle.lsq_order.proofs.WrongFacts.{numbers_are, own_left}
+use Rattle.grid_window.proofs.NearFacts.{near_low, own_at, passes_is, took_none}
 use Rattle.commit_flush_order.specs.Places.{age_of, later}
 use Rattle.commit_flush.proofs.LoadFacts.{fits_reach}
 use Rattle.commit_flush.proofs.StoreFacts.{finds_same, narrowed_same}
 use Rattle.grid_cycle_spec.specs.Choosing.{least}
 use Rattle.grid_cycle_spec.specs.DataTiles.{load_in, stored_by, wrong_behind, wrong_from, wrong_load}
-use Rattle.grid_stations.proofs.LeastFacts.{NoneBelow, found_at, found_none, numbers_are}
+use Rattle.grid_state.proofs.SlotFacts.{least_is, least_none}
 use Rattle.commit_flush.specs.Lent.{IsLent}
 use Rattle.grid_window.proofs.OlderFacts.{drop_here, drop_past, lent_at}
+
+-- the least number for which a test holds
+found_at : (test : ℕ → Bool) (n r : ℕ) → r < n → ((i : ℕ) → i < r → test i ≡ false) → test r ≡ true
+    → Some r ≡ least test n 0
+found_at test n r l below here = sym (least_is test n 0 r (omega arith) (omega arith) here (λ i a b. below i b))
+
+found_none : (test : ℕ → Bool) (n r : ℕ) → n ≤ r → ((i : ℕ) → i < r → test i ≡ false) → None ≡ least test n 0
+found_none test n r l below = sym (least_none test n 0 (λ i a b. below i (omega arith)))
 
 -- younger frames ---------------------------------------------------------------------------------
 
@@ -215,3 +224,8 @@ module _ (fs : List Frame) (a : ℕ) (h : Held) (b : Block) (l : IsLent h b (sli
   pub told_left : (z : ℕ) (left : Bool) → left ≡ passes (at h.stores) numbers touched z
       → left ≡ passes (at f.stores) numbers touched z
   told_left z left is = is ∙ ap (λ (g : Frame). passes (at g.stores) numbers touched z) (lent_at fs a h b l f e)
+
+-- what a search leaves, of rows that are those of a frame
+pub narrowed_in : (stores rows : List (Option Stored)) (from : ℕ) (touched : ℕ → Bool) (a : ℕ) → rows ≡ stores
+    → narrowed (at rows) from numbers touched a ≡ narrowed (at stores) from numbers touched a
+narrowed_in stores rows from touched a e = ap (λ xs. narrowed (at xs) from numbers touched a) e

@@ -1,5 +1,5 @@
 //! Words whose bits stand for slots and reads.
-ghost use Rattle.std.specs.Prelude.{◌≡◌, ◌≤◌, ◌<◌, ◌-◌, ◌^◌, ◌&&◌, ℕ, cond, nat_lt, not};
+ghost use Rattle.std.specs.Prelude.{◌≡◌, ◌≢◌, ◌<◌, ◌-◌, ℕ, cond, false, nat_lt, true};
 ghost use Rattle.operand_net.specs.Marks.{has_bit};
 
 /// Two words of 64 bits as one.
@@ -9,19 +9,11 @@ pub fn joined(low: u64, high: u64) -> u128
     high as u128 * 0x1_0000_0000_0000_0000 + low as u128
 }
 
-/// So many bits, from the lowest on.
-pub fn low_bits(count: usize) -> u64
-    requires { count ≤ 32 }
-    ensures bits { (r : ℕ) → has_bit result r ≡ nat_lt r count }
-    ensures within { result < 2 ^ 32 }
+/// A word with the bit of a number, unless it is left out.
+pub fn with_bit(word: u32, number: u8, left_out: bool) -> u32
+    requires { number < 32 }
+    ensures same { (k : ℕ) → k ≢ number → has_bit result k ≡ has_bit word k }
+    ensures here { has_bit result number ≡ false → left_out ≡ true }
 {
-    (1 << count) - 1
-}
-
-/// The bits of one word that another has not.
-pub fn without(word: u64, other: u64) -> u32
-    requires { word < 2 ^ 32 }
-    ensures { (r : ℕ) → r < 32 → has_bit result r ≡ (has_bit word r && not (has_bit other r)) }
-{
-    (word & !other) as u32
+    if left_out { word } else { word | 1 << number }
 }

@@ -1,5 +1,5 @@
 //! The slots of a frame that may fire, and the reads that have not been answered, as bits.
-ghost use Rattle.std.specs.Prelude.{◌≡◌, ◌<◌, ◌&&◌, ℕ, false, length, nat_lt, not, slice_index_or};
+ghost use Rattle.std.specs.Prelude.{◌≡◌, ◌≤◌, ◌<◌, ℕ, false, length, slice_index_or, true};
 ghost use Rattle.trips_isa.specs.Fits.{FitsBlock};
 ghost use Rattle.trips_isa.specs.declared.block.Block.{Block};
 ghost use Rattle.trips_isa.specs.declared.run.Stepped.TheVariants.{Went};
@@ -15,7 +15,7 @@ ghost use Rattle.frame_state.specs.Shapes.{IsShape, is_ready};
 ghost use Rattle.grid_cycle_spec.specs.Acting.{is_done};
 ghost use Rattle.grid_window.specs.Shaped.{AreShapes};
 
-use crate::bits::{joined, low_bits, without};
+use crate::bits::{joined, with_bit};
 use crate::shapes::Shapes;
 use commit_flush::Window;
 use frame_state::{Body, Shape};
@@ -56,14 +56,26 @@ pub fn ready(window: &Window, shapes: &Shapes, frame: u8) -> u128
     }
 }
 
-// The reads of a block that are declared and not answered.
-fn unread_in(held: &Body, block: &Block) -> u32
+// The first reads of a frame, without those that were answered.
+fn open_reads(held: &Body, count: u8) -> u32
+    requires { count ≤ 32 }
+    ensures { (r : ℕ) → r < count → has_bit result r ≡ false → slice_index_or held.now.reads r false ≡ true }
+{
+    let mut bits = 0;
+    for read in 0..count {
+        bits = with_bit(bits, read, held.is_read(read));
+    }
+    bits
+}
+
+// How many reads a block declares.
+fn declared(block: &Block) -> u8
     requires { FitsBlock block.now }
-    ensures { (r : ℕ) → r < 32 → has_bit result r
-        ≡ (nat_lt r (length block.now.reads.items) && not (slice_index_or held.now.reads r false)) }
+    ensures value { result ≡ length block.now.reads.items }
+    ensures within { result ≤ 32 }
 {
     let reads = block.reads.as_slice();
-    without(low_bits(reads.len()), held.reads().word(0))
+    reads.len() as u8
 }
 
 /// The reads of a frame that have not been answered.
@@ -74,6 +86,6 @@ pub fn unread(window: &Window, frame: u8) -> u32
     window.keeps_invariant();
     match window.running(frame) {
         None => 0,
-        Some((held, block)) => unread_in(held, block),
+        Some((held, block)) => open_reads(held, declared(block)),
     }
 }

@@ -16,7 +16,7 @@ use crate::asking::slot_of;
 use commit_flush::Window;
 use frame_state::Body;
 use grid_stations::Request;
-use trips_isa::{Inst, Token};
+use trips_isa::{Inst, Op, Sense, Token};
 
 // An immediate as a word.
 fn immediate(imm: i32) -> u64
@@ -52,6 +52,23 @@ pub fn tile_by(inst: Inst, left: Option<Token>) -> u8
     }
 }
 
+/// A move of the left operand.
+const MOVE: Inst = Inst {
+    op: Op::Mov,
+    sense: Sense::Always,
+    number: 0,
+    imm: 0,
+    first: None,
+    second: None,
+};
+
+// The token at the left operand of a slot: what a move there would give.
+fn left_of(held: &Body, slot: u8) -> Option<Token>
+    ensures { result ≡ at held.now.spots slot }
+{
+    held.token_of(MOVE, slot, 0)
+}
+
 /// The slot that waits with a number in a frame.
 pub fn waits_at(window: &Window, frame: u8, number: u8) -> Option<u8>
     ensures { result ≡ asked.waits_at frame number window.now.window.frames }
@@ -71,7 +88,7 @@ fn with_tile(held: &Body, request: Option<(u8, Inst)>) -> Option<Request>
         Some((slot, inst)) => Some(Request {
             slot,
             inst,
-            tile: tile_by(inst, held.spot(slot as usize)),
+            tile: tile_by(inst, left_of(held, slot)),
         }),
     }
 }
@@ -98,7 +115,7 @@ pub fn tile_at(window: &Window, frame: u8, slot: u8) -> u8
         None => 0,
         Some((held, block)) => match slot_of(block, slot) {
             None => 0,
-            Some(inst) => tile_by(inst, held.spot(slot as usize)),
+            Some(inst) => tile_by(inst, left_of(held, slot)),
         },
     }
 }

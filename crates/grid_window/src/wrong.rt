@@ -44,8 +44,9 @@ fn wrong_on(window: &Window, reach: &mut Reach, from: u8) -> Option<(u32, u8)>
 {
     let count = window.in_flight();
     for age in from..count {
-        if let Some(found) = wrong_at(window, age, reach) {
-            return Some(found);
+        match wrong_at(window, age, reach) {
+            Some(found) => return Some(found),
+            None => {}
         }
     }
     None

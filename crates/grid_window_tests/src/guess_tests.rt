@@ -1,6 +1,6 @@
 //! Programs whose frames are guessed: loads before older stores, and blocks before the exit that leads to them.
 
-use crate::running::{Row, assert_rows, ended};
+use crate::running::{Came, Row, assert_rows};
 use std::test::Fail;
 
 /// The divide makes the store of the first block late. The second block loads before it: the load is wrong, so its frame is
@@ -80,34 +80,101 @@ N[1] addi 2 W[1]
 N[2] scall 0
 ";
 
-const ROWS: [Row; 4] = [
+const ROWS: [Row; 5] = [
     Row {
         name: "a store that an answered load of a younger frame should have seen",
         text: LATE_STORE,
         exit: 0,
-        calm: ended(171, 61, 3, 2, 1),
-        worst: ended(171, 79, 3, 2, 1),
+        calm: Came {
+            answer: 171,
+            cycles: 61,
+            fetched: 3,
+            committed: 2,
+            flushed: 1,
+        },
+        worst: Came {
+            answer: 171,
+            cycles: 79,
+            fetched: 3,
+            committed: 2,
+            flushed: 1,
+        },
     },
     Row {
         name: "a store that an answered load of its own frame should have seen",
         text: OWN_STORE,
         exit: 0,
-        calm: ended(63, 46, 2, 1, 1),
-        worst: ended(63, 67, 2, 1, 1),
+        calm: Came {
+            answer: 63,
+            cycles: 46,
+            fetched: 2,
+            committed: 1,
+            flushed: 1,
+        },
+        worst: Came {
+            answer: 63,
+            cycles: 67,
+            fetched: 2,
+            committed: 1,
+            flushed: 1,
+        },
     },
     Row {
         name: "a fetch that is given up",
         text: GIVEN_UP,
         exit: 0,
-        calm: ended(2, 29, 2, 2, 0),
-        worst: ended(2, 41, 3, 2, 1),
+        calm: Came {
+            answer: 2,
+            cycles: 29,
+            fetched: 2,
+            committed: 2,
+            flushed: 0,
+        },
+        worst: Came {
+            answer: 2,
+            cycles: 41,
+            fetched: 3,
+            committed: 2,
+            flushed: 1,
+        },
+    },
+    Row {
+        name: "a fetch that was predicted right",
+        text: GIVEN_UP,
+        exit: 1,
+        calm: Came {
+            answer: 2,
+            cycles: 22,
+            fetched: 2,
+            committed: 2,
+            flushed: 0,
+        },
+        worst: Came {
+            answer: 2,
+            cycles: 26,
+            fetched: 2,
+            committed: 2,
+            flushed: 0,
+        },
     },
     Row {
         name: "a word that is forwarded",
         text: FORWARDED,
         exit: 0,
-        calm: ended(22, 22, 2, 2, 0),
-        worst: ended(22, 32, 2, 2, 0),
+        calm: Came {
+            answer: 22,
+            cycles: 22,
+            fetched: 2,
+            committed: 2,
+            flushed: 0,
+        },
+        worst: Came {
+            answer: 22,
+            cycles: 32,
+            fetched: 2,
+            committed: 2,
+            flushed: 0,
+        },
     },
 ];
 

@@ -12,28 +12,16 @@ use operand_net::{Calm, Weather, Worst};
 use std::alloc::Global;
 use std::process::Abort;
 use std::test::Fail;
-use trips_isa::{Counts, Stepped};
+use trips_isa::Stepped;
 
-/// What a run comes to: whether and how it has ended, register 3, and what was counted.
+/// What a run comes to that has ended: register 3, the cycles, and the frames fetched, committed and flushed.
 #[derive(Clone, Copy, Debug, PartialEq, Eq)]
 pub struct Came {
-    pub over: Stepped,
-    pub result: u64,
-    pub counts: Counts,
-}
-
-/// A run that has ended with a result after so many cycles, in which these frames were fetched, committed and flushed.
-pub const fn ended(result: u64, cycles: u64, fetched: u64, committed: u64, flushed: u64) -> Came {
-    Came {
-        over: Stepped::Ended,
-        result,
-        counts: Counts {
-            cycles,
-            fetched,
-            committed,
-            flushed,
-        },
-    }
+    pub answer: u64,
+    pub cycles: u64,
+    pub fetched: u64,
+    pub committed: u64,
+    pub flushed: u64,
 }
 
 /// A text, the exit that its predictor names for every block, and what it comes to in calm weather and in the worst.
@@ -46,23 +34,32 @@ pub struct Row {
     pub worst: Came,
 }
 
-// A run of at most so many cycles.
-fn driven<W: Weather>(grid: &mut Grid<GridWindow, W>, most: u32) -> Came
+// A run of at most so many cycles, which ends.
+fn driven<W: Weather>(rt: &impl Abort, grid: &mut Grid<GridWindow, W>, most: u32) -> Came
     requires counted { IsCounted (seen grid.old.window.window grid.old.state) }
     requires cycles { grid.old.state.counts.cycles ≡ 0 }
 {
     let _ = run(grid, most as u64);
+    assert!(rt; grid.window.window().over() == Stepped::Ended, "the run ends");
+    let counts = grid.state.counts;
     Came {
-        over: grid.window.window().over(),
-        result: grid.window.arch().register(3),
-        counts: grid.state.counts,
+        answer: grid.window.arch().register(3),
+        cycles: counts.cycles,
+        fetched: counts.fetched,
+        committed: counts.committed,
+        flushed: counts.flushed,
     }
 }
 
 // What a text comes to in some weather.
-fn came<W: Weather + Copy>(alloc: Global, row: &Row, weather: W) -> Result<Came, Fail> {
+fn outcome<W: Weather + Copy>(
+    rt: &impl Abort,
+    alloc: Global,
+    row: &Row,
+    weather: W,
+) -> Result<Came, Fail> {
     let mut grid = grid(alloc, row.text, row.exit, weather, 1000)?;
-    let came = driven(&mut grid, 100_000);
+    let came = driven(rt, &mut grid, 100_000);
     let Grid {
         window: _window,
         state: _state,
@@ -72,9 +69,9 @@ fn came<W: Weather + Copy>(alloc: Global, row: &Row, weather: W) -> Result<Came,
 
 // A row comes to what it says.
 fn assert_row(rt: &impl Abort, alloc: Global, row: &Row) -> Result<(), Fail> {
-    let calm = came(alloc, row, Calm)?;
+    let calm = outcome(rt, alloc, row, Calm)?;
     assert!(rt; calm == row.calm, "{}: calm {calm:?}", row.name);
-    let worst = came(alloc, row, Worst)?;
+    let worst = outcome(rt, alloc, row, Worst)?;
     assert!(rt; worst == row.worst, "{}: worst {worst:?}", row.name);
     Ok(())
 }

@@ -4,7 +4,7 @@
 //! enters the mesh in cycle c + n, and has come over k links in cycle c + n + k - 1, or in c + n where k is 0. The block
 //! commits in the cycle behind the last output.
 
-use crate::running::{Row, assert_rows, ended};
+use crate::running::{Came, Row, assert_rows};
 use std::test::Fail;
 
 /// The branch crosses four links: issued in 8, it has come in 12, and the block commits in 13.
@@ -73,36 +73,96 @@ const ROWS: [Row; 5] = [
         name: "a block of three instructions",
         text: ENDING,
         exit: 0,
-        calm: ended(7, 14, 1, 1, 0),
-        worst: ended(7, 17, 1, 1, 0),
+        calm: Came {
+            answer: 7,
+            cycles: 14,
+            fetched: 1,
+            committed: 1,
+            flushed: 0,
+        },
+        worst: Came {
+            answer: 7,
+            cycles: 17,
+            fetched: 1,
+            committed: 1,
+            flushed: 0,
+        },
     },
     Row {
         name: "an addition",
         text: ADDING,
         exit: 0,
-        calm: ended(13, 14, 1, 1, 0),
-        worst: ended(13, 20, 1, 1, 0),
+        calm: Came {
+            answer: 13,
+            cycles: 14,
+            fetched: 1,
+            committed: 1,
+            flushed: 0,
+        },
+        worst: Came {
+            answer: 13,
+            cycles: 20,
+            fetched: 1,
+            committed: 1,
+            flushed: 0,
+        },
     },
     Row {
         name: "a multiplication",
         text: MULTIPLYING,
         exit: 0,
-        calm: ended(42, 16, 1, 1, 0),
-        worst: ended(42, 22, 1, 1, 0),
+        calm: Came {
+            answer: 42,
+            cycles: 16,
+            fetched: 1,
+            committed: 1,
+            flushed: 0,
+        },
+        worst: Came {
+            answer: 42,
+            cycles: 22,
+            fetched: 1,
+            committed: 1,
+            flushed: 0,
+        },
     },
     Row {
         name: "a division",
         text: DIVIDING,
         exit: 0,
-        calm: ended(7, 37, 1, 1, 0),
-        worst: ended(7, 43, 1, 1, 0),
+        calm: Came {
+            answer: 7,
+            cycles: 37,
+            fetched: 1,
+            committed: 1,
+            flushed: 0,
+        },
+        worst: Came {
+            answer: 7,
+            cycles: 43,
+            fetched: 1,
+            committed: 1,
+            flushed: 0,
+        },
     },
     Row {
         name: "two parcels that want one link",
         text: SHARING,
         exit: 0,
-        calm: ended(7, 15, 1, 1, 0),
-        worst: ended(7, 21, 1, 1, 0),
+        calm: Came {
+            answer: 7,
+            cycles: 15,
+            fetched: 1,
+            committed: 1,
+            flushed: 0,
+        },
+        worst: Came {
+            answer: 7,
+            cycles: 21,
+            fetched: 1,
+            committed: 1,
+            flushed: 0,
+        },
     },
 ];
 

@@ -69,7 +69,7 @@ passes_at stores (suc n) touched a =
     narrowed_next stores 0 n (suc n) touched a (omega arith) (omega arith)
     ∙ ap (λ b. not (covers (stores n) a) && b) (passes_at stores n touched a)
 
-pub passes_is : (stores : ℕ → Option Stored) (n : ℕ) (touched : ℕ → Bool)
+passes_is : (stores : ℕ → Option Stored) (n : ℕ) (touched : ℕ → Bool)
     → narrowed stores 0 n touched ≡ passes stores n touched
 passes_is stores n touched = fun_ext (passes_at stores n touched)
 
@@ -100,13 +100,13 @@ any_none : (a n : ℕ) → any_touched (λ z. false) a n ≡ false
 any_none a zero = refl
 any_none a (suc n) = any_none a n
 
-pub took_none : (t : Option Taken) → took_touched (λ z. false) t ≡ false
+took_none : (t : Option Taken) → took_touched (λ z. false) t ≡ false
 took_none None = refl
 took_none (Some NoBytes) = refl
 took_none (Some (Bytes a n)) = any_none a n
 
 -- store m is the nearest to nothing up to its own number
-pub near_low : (stores : ℕ → Option Stored) (m n a : ℕ) → n ≤ m → nearest stores m n a ≡ false
+near_low : (stores : ℕ → Option Stored) (m n a : ℕ) → n ≤ m → nearest stores m n a ≡ false
 near_low stores m zero a l = refl
 near_low stores m (suc n) a l =
     let other : (n == m) ≡ false = grind (arith, nat_tests, l) in
@@ -132,7 +132,7 @@ near_high stores m (suc n) a l = elim (cases_eq n m) [
 ]
 
 -- whether load l of the frame of store m is wrong, at what is left of the store's bytes
-pub own_at : (stores : ℕ → Option Stored) (loads : List (Option Taken)) (touched : ℕ → Bool) (from m l : ℕ) → from ≡ m + 1
+own_at : (stores : ℕ → Option Stored) (loads : List (Option Taken)) (touched : ℕ → Bool) (from m l : ℕ) → from ≡ m + 1
     → ((a : ℕ) → touched a ≡ covers (stores m) a) → m < l
     → is_wrong stores loads touched from l ≡ took_touched (nearest stores m l) (at loads l)
 own_at stores loads touched from m l e h k =
