@@ -16,6 +16,6 @@ none_idle (Some f) e = absurd (cc)
 
 pub open_runs : (z : Option Frame) (b : Block) (h : Held) (s : Bool) → z ≡ Some (as_frame s b h)
     → false ≡ is_sealed_in z → z ≡ Some (running b h)
-open_runs z b h s e open =
-    let same : false ≡ s = open ∙ ap is_sealed_in e in
+open_runs z b h s e runs =
+    let same : false ≡ s = runs ∙ ap is_sealed_in e in
     e ∙ ap (λ t. Some (as_frame t b h)) (sym same)

@@ -40,7 +40,11 @@ fn write_register(block: &Block, write: usize) -> u8
     ensures { result ≡ slice_index_or block.now.writes.items write 0 }
 {
     let writes = block.writes.as_slice();
-    if write < writes.len() { writes[write] } else { 0 }
+    if write < writes.len() {
+        writes[write]
+    } else {
+        0
+    }
 }
 
 // The node at which a place of a block is.

@@ -40,7 +40,10 @@ fn driven<W: Weather>(rt: &impl Abort, grid: &mut Grid<GridWindow, W>, most: u32
     requires cycles { grid.old.state.counts.cycles ≡ 0 }
 {
     let _ = run(grid, most as u64);
-    assert!(rt; grid.window.window().over() == Stepped::Ended, "the run ends");
+    assert!(rt;
+        grid.window.window().over() == Stepped::Ended,
+        "the run ends"
+    );
     let counts = grid.state.counts;
     Came {
         answer: grid.window.arch().register(3),

@@ -8,5 +8,5 @@ returns-then-is_sealed_in c = sealed_idle _ (sym c.if-is_sealed_in.true ∙ c.is
 
 pub returns-else-is_sealed_in : goal.returns-else-is_sealed_in
 returns-else-is_sealed_in c =
-    match_map _ c.flying.ensures.value (λ e. none_idle _ e)
+    match_map c.flying.result c.flying.ensures.value (λ e. none_idle _ e)
     (λ p e. open_runs _ p.1.now p.0.now _ e (sym c.if-is_sealed_in.false ∙ c.is_sealed_in.ensures.value))

@@ -14,5 +14,5 @@ pub returns-in-Some : goal.returns-in-Some
 returns-in-Some c =
     let same = told_of (λ z. z) _ _ _ _ c.image.ensures.value c.in-Some.ensures.found in
     record {
-      value = match_map _ c.running_in.ensures (λ i. subst IsIdle same i) (λ p e. sym same ∙ e);
+      value = match_map c.running_in.result c.running_in.ensures (λ i. subst IsIdle same i) (λ p e. sym same ∙ e);
     }
