@@ -79,7 +79,7 @@ both_ready low high test s first second l = go (cases_lt s 64)
         ap (λ b. cond b (has_bit low s) (has_bit high (s - 64))) (lt-ltb s 64 k) ∙ first s k ∙ ap test e
     go (inr k) =
         let e : 64 * 1 + (s - 64) ≡ s = omega arith in
-        ap (λ b. cond b (has_bit low s) (has_bit high (s - 64))) (le-ltb 64 s k) ∙ second (s - 64) (omega arith)
+        ap (λ b. cond b (has_bit low s) (has_bit high (s - 64))) (le-ltb s 64 k) ∙ second (s - 64) (omega arith)
         ∙ ap test e
 
 -- the run ---------------------------------------------------------------------------------------

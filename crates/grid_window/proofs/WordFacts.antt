@@ -20,7 +20,7 @@ joined_is low high s small = go (cases_lt s 64)
     go (inl l) = ap (λ z. z == 1) (bit_at_cat_low high 64 low s l)
         ∙ ap (λ b. cond b (has_bit low s) (has_bit high (s - 64))) (sym (lt-ltb s 64 l))
     go (inr l) = ap (λ z. z == 1) (bit_at_cat_high high 64 low s small l)
-        ∙ ap (λ b. cond b (has_bit low s) (has_bit high (s - 64))) (sym (le-ltb 64 s l))
+        ∙ ap (λ b. cond b (has_bit low s) (has_bit high (s - 64))) (sym (le-ltb s 64 l))
 
 -- a word with one more bit
 pub bit_same : (n k i : ℕ) → k < 32 → i ≢ k → has_bit (bit_or n (1 * 2 ^ k % 2 ^ 32)) i ≡ has_bit n i

@@ -229,3 +229,9 @@ module _ (fs : List Frame) (a : ℕ) (h : Held) (b : Block) (l : IsLent h b (sli
 pub narrowed_in : (stores rows : List (Option Stored)) (from : ℕ) (touched : ℕ → Bool) (a : ℕ) → rows ≡ stores
     → narrowed (at rows) from numbers touched a ≡ narrowed (at stores) from numbers touched a
 narrowed_in stores rows from touched a e = ap (λ xs. narrowed (at xs) from numbers touched a) e
+
+-- what is found behind a frame, of what a search leaves
+pub behind_own : (left touched : ℕ → Bool) (fs : List Frame) (a b : ℕ) (x : Option (ℕ × ℕ))
+    → x ≡ wrong_behind left (drop a fs) → a ≡ b → left ≡ touched → x ≡ wrong_behind touched (drop b fs)
+behind_own left touched fs a b x is next same =
+    is ∙ ap (λ k. wrong_behind left (drop k fs)) next ∙ ap (λ g. wrong_behind g (drop b fs)) same

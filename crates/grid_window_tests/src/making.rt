@@ -47,8 +47,8 @@ fn begun<W: Copy>(
     ensures counted { IfOk result (λ g. IsCounted (seen g.window.window g.state)) }
     ensures cycles { IfOk result (λ g. g.state.counts.cycles ≡ 0) }
 {
-    let window = Window::make(alloc, image, Vec::new(alloc), budget)?;
-    let window = GridWindow::make(alloc, window)?;
+    let opened = Window::make(alloc, image, Vec::new(alloc), budget)?;
+    let window = GridWindow::make(alloc, opened)?;
     let state = State::make(alloc, predictor, weather)?;
     Ok(Grid { window, state })
 }

@@ -1,4 +1,4 @@
-use Rattle.std.proofs.Common.{ℕ, ◌+◌, Bool, ◌||◌, not, sym, refl, ◌∙◌, arith, ap, is_some}
+use Rattle.std.proofs.Common.{◌≡◌, ℕ, ◌+◌, Bool, ◌||◌, not, sym, refl, ◌∙◌, arith, ap, is_some}
 use Rattle.trips_isa.specs.Places.{in_mask}
 use Rattle.commit_flush_spec.specs.Ends.{all_below}
 use Rattle.commit_flush_spec.specs.Frames.{at}
@@ -18,4 +18,5 @@ loop-number-preserved c =
 pub returns : goal.returns
 returns c =
     let p : ℕ → Bool = λ n. not (in_mask c.args.mask n) || is_some (at c.args.held.now.stores n) in
-    sym (sym (ap (all_below p) (omega arith)) ∙ c.loop-number.invariant)
+    let all : c.loop-number.number ≡ c.args.below = omega arith in
+    sym (sym (ap (all_below p) all) ∙ c.loop-number.invariant)

@@ -20,11 +20,11 @@ returns-in-Some c =
     let b = c.in-Some.field-0-1.now in
     let l = c.in-Some.ensures.value in
     let touched = reached c.args.reach.now in
-    let found = finds_in h.stores _ h.loads _ touched 0 _ c.stores.ensures.value c.loads.ensures.value
+    let found = finds_in h.stores _ h.loads _ touched 0 c.first_wrong.result c.stores.ensures.value c.loads.ensures.value
     c.first_wrong.ensures.found in
     record {
       found = λ f e. told_here fs c.args.age h b l touched _ f e found _ (c.load_of.ensures b l.0);
-      left = λ f e none a. told_left fs c.args.age h b l touched _ f e a _
+      left = λ f e none a. told_left fs c.args.age h b l touched c.first_wrong.result f e a _
           (c.first_wrong.ensures.passed refl (none_found (as_frame l.0 b h) _ (sym none ∙ c.load_of.ensures b l.0)) a
           ∙ ap (λ xs. passes (at xs) numbers touched a) c.stores.ensures.value);
     }
