@@ -1,5 +1,5 @@
 -- The start of a run, and whole runs of a seed.
-use Rattle.std.proofs.Common.{◌≡◌, ℕ, ◌+◌, ◌-◌, ◌≤◌, ◌<◌, true, false, cond, nat_lt, List, [], length, Option}
+use Rattle.std.proofs.Common.{◌≡◌, ℕ, ◌+◌, ◌-◌, ◌*◌, ◌≤◌, ◌<◌, Bool, true, false, cond, nat_lt, List, [], length, Option}
 use Rattle.std.proofs.Common.{refl, sym, ap, ap₂, ◌∙◌, subst, arith}
 use Rattle.std.proofs.lemmas.Bool.{ltb-true}
 use Rattle.trips_isa.specs.declared.block.Block.{Block}
@@ -13,12 +13,17 @@ use Rattle.block_predict.specs.Predicts.{Holding, holding}
 use Rattle.block_predict.specs.Seeded as exits
 use Rattle.commit_flush_spec.specs.Window.{Window, opened}
 use Rattle.grid_cycle.specs.Going.{goes}
+use Rattle.commit_flush_spec.specs.Invariant.{AllGood}
+use Rattle.commit_flush_spec.specs.Laws.{WindowOk}
+use Rattle.grid_cycle_spec.specs.Costs.{greatest}
 use Rattle.grid_cycle_spec.specs.Grid.{Grid}
+use Rattle.grid_cycle_spec.specs.Laws.{AddsUp}
 use Rattle.grid_state.specs.Changes.{begun_with}
 use Rattle.grid_run.specs.Answered.{HasCome}
-use Rattle.grid_run.specs.Endings.{is_going}
+use Rattle.grid_run.specs.Endings.{ended, is_going}
 use Rattle.grid_run.specs.Tallies.{CountsCommits}
 use Rattle.grid_run.specs.WholeRuns.{IsKept, IsRun, most_cycles}
+use Rattle.grid_run.proofs.RunFacts.{has_come}
 use Rattle.grid_machine.specs.Seeds.{IsAfter, IsRan, next_hold, started}
 
 -- at the start the counts have room
@@ -70,7 +75,7 @@ started_cycles bytes input seed g e = ap (λ (x : Grid PcgWeather). x.counts.cyc
 pub went_of : (budget : ℕ) (w : Window) → is_going budget w ≡ true → w.over ≡ stepped.Went
 went_of budget w e = go w.over (nat_lt (length w.state.trace) budget) e
   where
-    go : (o : Stepped) (b : _) → cond (goes o) b false ≡ true → o ≡ stepped.Went
+    go : (o : Stepped) (b : Bool) → cond (goes o) b false ≡ true → o ≡ stepped.Went
     go stepped.Went b e = refl
     go stepped.Ended b e = absurd (cc)
     go stepped.StackFull b e = absurd (cc)
@@ -104,3 +109,21 @@ module _ (blocks : List Block) (bytes input : List ℕ) (budget seed : ℕ) (ans
         → h.counts.cycles ≤ most_cycles budget) → CountsCommits x h → HasCome blocks x.window.state
         (budget - length x.window.state.trace) budget (most_cycles budget) answer h
         → IsRan blocks bytes input budget seed answer h) (sym e) (from_start)
+
+-- a run, within a budget and up to a number of cycles that are those of the window
+pub run_has_come : {W : Type 0} (next : W → ℕ) (follows : W → W → Type 0) (blocks : List Block) (b budget most n : ℕ)
+    (g h : Grid W) → b ≡ budget → most ≡ most_cycles b → AllGood blocks → WindowOk blocks budget g.window
+    → is_going budget g.window ≡ true → AddsUp g → IsRun next follows blocks b n g h
+    → (is_going b h.window ≡ true → most ≤ h.counts.cycles) → (answer : Option Ending)
+    → answer ≡ ended b h.window
+    → HasCome blocks g.window.state (budget - length g.window.state.trace) budget (most_cycles budget) answer h
+run_has_come next follows blocks b budget most n g h e m good ok on adds run full answer tells =
+    has_come blocks budget (most_cycles budget) next follows good n g h ok (went_of budget g.window on) adds
+    (subst (λ x. IsRun next follows blocks x n g h) e run)
+    (λ o. subst (λ k. k ≤ h.counts.cycles) (m ∙ ap most_cycles e)
+    (full (subst (λ x. is_going x h.window ≡ true) (sym e) o)))
+    answer (tells ∙ ap (λ x. ended x h.window) e)
+
+pub most_is : (budget : ℕ) → 41472 * budget ≡ most_cycles budget
+unfolding most_cycles greatest
+most_is budget = refl

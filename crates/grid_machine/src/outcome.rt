@@ -40,6 +40,7 @@ impl Ran {
         ensures value { result ≡ cost_of (blocks_of self.now) (grid_of self.now).window.state.trace }
     {
         self.window.keeps_invariant();
+        let _ = self.window.budget();
         grid_run::cost(self.window.image(), self.window.arch().trace())
     }
 }
