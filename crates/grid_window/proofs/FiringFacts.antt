@@ -1,11 +1,10 @@
 -- Which slots of the frame of a number may fire, and which reads may be answered.
-use Rattle.std.proofs.Common.{◌≡◌, ◌≢◌, ℕ, ◌+◌, ◌-◌, ◌*◌, ◌<◌, ◌≤◌, ◌⊎◌, inl, inr, Bool, true, false, cond, not, ◌&&◌, ◌||◌}
+use Rattle.std.proofs.Common.{◌≡◌, ℕ, ◌+◌, ◌-◌, ◌*◌, ◌<◌, ◌≤◌, ◌⊎◌, inl, inr, Bool, true, false, cond, not, ◌&&◌, ◌||◌}
 use Rattle.std.proofs.Common.{nat_lt, List, [], ◌∷◌, Option, Some, None, length, slice_get, slice_index_or}
 use Rattle.std.proofs.Common.{refl, sym, ap, ◌∙◌, arith, is_some, is_none}
 use Rattle.std.proofs.lemmas.Bool.{cases_lt, lt-ltb, le-ltb}
 use Rattle.std.proofs.lemmas.Option.{slice_get_past}
 use Rattle.trips_isa.specs.declared.block.Block.{Block}
-use Rattle.trips_isa.specs.declared.block.ReadSlot.{ReadSlot}
 use Rattle.trips_isa.specs.declared.run.Stepped.{Stepped}
 use Rattle.trips_isa.specs.declared.run.Stepped.TheVariants.{Went, Ended, StackFull, Trap}
 use Rattle.trips_isa.specs.Rule.{Answer}
@@ -13,12 +12,11 @@ use Rattle.block_cases.specs.Orders.{slot_of}
 use Rattle.commit_flush_spec.specs.Causes.{Cause, Done, Happened, NoFrame, NoInst, NoRead, NotNow, NotReady, NotYet, judged}
 use Rattle.commit_flush_spec.specs.Dataflow.{can_fire, can_read, read_seen}
 use Rattle.commit_flush_spec.specs.Frames.{Frame, slot_node}
-use Rattle.commit_flush_spec.specs.InFlight.{Window, on_frame}
+use Rattle.commit_flush_spec.specs.InFlight.{on_frame}
 use Rattle.commit_flush_spec.specs.Numbered.{seen_at}
-use Rattle.commit_flush_spec.specs.Older.{Older, committed}
+use Rattle.commit_flush_spec.specs.Older.{Older}
 use Rattle.commit_flush_spec.specs.Sending.{token_with}
-use Rattle.commit_flush_spec.specs.Window.{can, unless_over}
-use Rattle.commit_flush_spec.specs.Window as event
+use Rattle.commit_flush_spec.specs.Window.{unless_over}
 use Rattle.commit_flush_order.specs.Places.{frame_of}
 use Rattle.commit_flush_order.proofs.FrameFacts.{none_asked, one_asked}
 use Rattle.frame_state.specs.Held.{Held, running}
@@ -84,20 +82,7 @@ both_ready low high test s first second l = go (cases_lt s 64)
 
 -- the run ---------------------------------------------------------------------------------------
 
--- while it goes on an event is answered by the window
-pub going : (o : Stepped) (h : Happened) → o ≡ Went → is_done (unless_over o h) ≡ is_done h
-going Went h e = refl
-going Ended h e = absurd (cc)
-going StackFull h e = absurd (cc)
-going (Trap c) h e = absurd (cc)
-
--- once it has ended nothing happens
-pub over_done : (o : Stepped) (h : Happened) → o ≢ Went → is_done (unless_over o h) ≡ false
-over_done Went h e = absurd (e refl)
-over_done Ended h e = refl
-over_done StackFull h e = refl
-over_done (Trap c) h e = refl
-
+-- what is not done while it goes on is not done at all
 pub never_done : (o : Stepped) (h : Happened) → is_done h ≡ false → is_done (unless_over o h) ≡ false
 never_done Went h e = e
 never_done Ended h e = refl

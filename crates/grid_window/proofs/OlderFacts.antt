@@ -1,6 +1,6 @@
 -- Whether the stores before a number of a frame are resolved, found by a walk from the oldest frame on.
 use Rattle.std.proofs.Common.{◌≡◌, ℕ, zero, suc, ◌+◌, ◌<◌, ◌≤◌, ◌==◌, Bool, true, false, cond, not, ◌&&◌, ◌||◌, List}
-use Rattle.std.proofs.Common.{[], ◌∷◌, Option, Some, None, length, drop, slice_get, is_some, refl, sym, ap, ap₂, ◌∙◌}
+use Rattle.std.proofs.Common.{[], ◌∷◌, Some, length, drop, slice_get, is_some, refl, sym, ap, ap₂, ◌∙◌}
 use Rattle.std.proofs.Common.{arith}
 use Rattle.std.proofs.lemmas.Option.{same_Some}
 use Rattle.trips_isa.specs.declared.block.Block.{Block}

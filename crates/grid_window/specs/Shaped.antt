@@ -1,5 +1,5 @@
 -- The shapes of the blocks of an image.
-use Rattle.std.specs.Prelude.{ℕ, List, [], ◌∷◌}
+use Rattle.std.specs.Prelude.{List, [], ◌∷◌}
 use Rattle.trips_isa.specs.declared.block.Block.{Block}
 use Rattle.frame_state.specs.declared.shape.Shape.{Shape}
 use Rattle.frame_state.specs.Shapes.{IsShape}

@@ -13,8 +13,8 @@ mod ready;
 mod requests;
 mod shapes;
 mod tokens;
+mod violations;
 mod window;
 mod windows;
-mod wrong;
 
 pub use window::GridWindow;

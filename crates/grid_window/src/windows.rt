@@ -1,7 +1,7 @@
 //! The window keeps the contracts of `Windows`.
 
 use crate::window::GridWindow;
-use crate::{asking, events, older, ready, requests, tokens, wrong};
+use crate::{asking, events, older, ready, requests, tokens, violations};
 use arrayvec::ArrayVec;
 use block_check::CheckedImage;
 use frame_events::Event;
@@ -88,7 +88,7 @@ impl Windows for GridWindow {
     }
 
     fn wrong_load(&self, frame: u8, number: u8) -> Option<(u32, u8)> {
-        wrong::wrong_load(&self.window, frame, number)
+        violations::wrong_load(&self.window, frame, number)
     }
 
     fn ready(&self, frame: u8) -> u128 {

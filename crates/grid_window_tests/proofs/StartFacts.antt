@@ -1,5 +1,5 @@
 -- A grid at its stated start has counted nothing.
-use Rattle.std.proofs.Common.{◌≡◌, ◌≤◌, sym, ap, ◌∙◌, subst, refl, arith}
+use Rattle.std.proofs.Common.{◌≡◌, sym, ap, ◌∙◌, subst, refl, arith}
 use Rattle.block_predict.specs.Predicts.{Holding}
 use Rattle.commit_flush_spec.specs.InFlight.{Window, opened}
 use Rattle.grid_cycle_spec.specs.Grid.{Grid}

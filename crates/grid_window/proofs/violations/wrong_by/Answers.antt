@@ -1,14 +1,14 @@
-use Rattle.std.proofs.Common.{◌≡◌, ◌+◌, ◌<◌, ◌≤◌, ap, sym, ◌∙◌, suc, arith, refl, drop, set, None, Some, subst}
+use Rattle.std.proofs.Common.{◌≡◌, ◌+◌, ap, sym, ◌∙◌, suc, arith, refl, drop, set, None, Some, subst}
 use Rattle.std.proofs.lemmas.Option.{none-some, slice_get_within}
 use Rattle.commit_flush_spec.specs.Frames.{Frame, at, numbers}
 use Rattle.commit_flush_spec.specs.Older.{nearest}
 use Rattle.frame_state.specs.Held.{as_frame}
 use Rattle.lsq_order.specs.Reached.{FitsReach, reached}
-use Rattle.grid_cycle_spec.specs.DataTiles.{stored_by, wrong_behind}
+use Rattle.grid_cycle_spec.specs.DataTiles.{stored_by}
 use Rattle.grid_window.proofs.BlockFacts.{sized_at}
 use Rattle.grid_window.proofs.OlderFacts.{lent_at}
 use Rattle.grid_window.proofs.WrongFacts.{behind_own, finds_in, fits_stored, narrowed_in, own_behind, own_least, wrong_of, wrong_told}
-use Rattle.grid_window.proofs.wrong.wrong_by.Goals as goal
+use Rattle.grid_window.proofs.violations.wrong_by.Goals as goal
 
 pub of-reach-requires : goal.of-reach-requires
 of-reach-requires c = record {

@@ -1,5 +1,5 @@
 use Rattle.grid_window.proofs.WrongFacts.{load_of_age, no_load}
-use Rattle.grid_window.proofs.wrong.wrong_load.Goals as goal
+use Rattle.grid_window.proofs.violations.wrong_load.Goals as goal
 
 pub returns-in-None : goal.returns-in-None
 returns-in-None c = no_load c.args.window.now.window.frames c.args.frame c.args.number c.in-None.ensures.value

@@ -5,7 +5,7 @@ use Rattle.commit_flush_spec.specs.Older.{passes}
 use Rattle.frame_state.specs.Held.{as_frame}
 use Rattle.lsq_order.specs.Reached.{reached}
 use Rattle.grid_window.proofs.WrongFacts.{finds_in, none_found, told_here, told_left}
-use Rattle.grid_window.proofs.wrong.wrong_at.Goals as goal
+use Rattle.grid_window.proofs.violations.wrong_at.Goals as goal
 
 pub returns-in-None : goal.returns-in-None
 returns-in-None c = record {

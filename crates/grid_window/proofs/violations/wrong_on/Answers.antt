@@ -2,7 +2,7 @@ use Rattle.std.proofs.Common.{refl, arith}
 use Rattle.lsq_order.specs.Reached.{reached}
 use Rattle.grid_window.proofs.OlderFacts.{frame_there}
 use Rattle.grid_window.proofs.WrongFacts.{behind_here, behind_later, behind_nowhere}
-use Rattle.grid_window.proofs.wrong.wrong_on.Goals as goal
+use Rattle.grid_window.proofs.violations.wrong_on.Goals as goal
 
 pub returns-in-Some : goal.returns-in-Some
 returns-in-Some c =
