@@ -74,8 +74,8 @@ fn assert_answer(rt: &impl Abort, window: &mut Window, event: Event, want: Happe
     }
 }
 
-// The step of the sequential machine.
-fn step(rt: &impl Abort, window: &Window, arch: &mut Arch) -> Stepped
+/// The step of the sequential machine.
+pub fn step(rt: &impl Abort, window: &Window, arch: &mut Arch) -> Stepped
     requires { arch.old.budget ≡ window.now.budget }
     ensures { arch.new.budget ≡ window.now.budget }
 {

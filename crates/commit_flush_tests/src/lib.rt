@@ -4,9 +4,15 @@
 #[cfg(test)]
 mod both;
 #[cfg(test)]
+mod drawing;
+#[cfg(test)]
+mod drawn_tests;
+#[cfg(test)]
 mod end_tests;
 #[cfg(test)]
 mod event_tests;
+#[cfg(test)]
+mod following;
 #[cfg(test)]
 mod frame_tests;
 #[cfg(test)]
