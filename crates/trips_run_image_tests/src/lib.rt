@@ -6,6 +6,8 @@ mod image_tests;
 #[cfg(test)]
 mod machine_tests;
 #[cfg(test)]
+mod placed_tests;
+#[cfg(test)]
 mod tool_tests;
 #[cfg(test)]
 mod trap_tests;
