@@ -61,7 +61,9 @@ fn text_answer<'a>(
 fn image_shown<'a>(alloc: Global, image: &'a [u8], input: &'a str) -> Result<Vec<u8>, AllocError> {
     let (_, shown) = answer_of(
         alloc,
-        &["run", "b.img", "--input", "t", "--regs", "--trace"],
+        &[
+            "run", "b.img", "--input", "t", "--regs", "--trace", "--cycles",
+        ],
         &[("b.img", image), ("t", input.as_bytes())],
     )?;
     Ok(shown)
@@ -80,7 +82,9 @@ fn assert_placed(
     assert_eq!(rt; written.as_slice(), report.as_bytes(), "{text} {place:?}");
     let (status, image) = text_answer(alloc, text, input, &["compile", "a.c"], place)?;
     assert_eq!(rt; status, Status::Ended, "{text} {place:?}");
-    let run = ["run", "a.c", "--input", "t", "--regs", "--trace"];
+    let run = [
+        "run", "a.c", "--input", "t", "--regs", "--trace", "--cycles",
+    ];
     let (_, shown) = text_answer(alloc, text, input, &run, place)?;
     let again = image_shown(alloc, &image, input)?;
     assert_eq!(rt; again.as_slice(), shown.as_slice(), "{text} {place:?}");

@@ -1,6 +1,6 @@
 //! The request of a command and of what its words say.
 
-ghost use Rattle.std.specs.Prelude.{◌≡◌, Option, IfOk, option_map, option_and_then, option_copied};
+ghost use Rattle.std.specs.Prelude.{◌≡◌, ◌<◌, Option, IfOk, IfSome, option_map, option_and_then, option_copied};
 ghost use Rattle.std.specs.Prelude.{drop, map, string_bytes};
 ghost use Rattle.trips_words.specs.Words.{Said};
 ghost use Rattle.trips_words.specs.Read.{FindsSaid, Tells};
@@ -249,10 +249,11 @@ fn named_request<'a>(
 }
 
 /// The request of the words of a command line, without the program's name, and none where they make
-/// none. Want of memory is the only error.
+/// none. A request has some blocks or steps. Want of memory is the only error.
 pub fn request(alloc: Global, words: &[String]) -> Result<Option<Asked<'_>>, Memory>
     ensures ok { IfOk result (λ request. option_map request_seen request
         ≡ asked (map (λ word. string_bytes word) words.now)) }
+    ensures some { IfOk result (λ request. IfSome request (λ asked. 0 < asked.most)) }
 {
     match words.first() {
         None => Ok(None),
