@@ -48,125 +48,124 @@ ran image input settings s report old new shown run w =
     inl (run.0, run.1 shown, run.2.0, subst (Appended old new) run.2.1 w)
 
 module _ (held : List ℕ → Option (List ℕ)) (rose : Type 0) (old new : Option (List ℕ))
-    (cut : Type 0) (q : Option Request) where
-  module _ (s : Status) (a : IsAnswered q held rose old new cut s) (most : ℕ) (show : Show)
-      (bytes input : List ℕ) where
-    pub text_run : (program : TypedProgram)
-        → (asks : AsksFor q held Run form.Source most show bytes input) → show.cycles ≡ true
-        → IsAccepted bytes program → (rose → ⊥) → (cut → ⊥) → s ≢ status.Memory
-        → (image : Image) × IsImageOf bytes asks.q.placing image
-        × let run = runs image.blocks (start image.bytes input) most in
-        IsReported image input (settings_with asks.q most show) (status_of (ending_of run.1 run.0.next))
-        (run_report (ending_of run.1 run.0.next) run.0) s old new
-    text_run program asks shown is r c m =
-        let row = whole_of held rose old new cut q s a c m in
-        go row.0 row.2 (complete q held rose s row.0 row.1 r Run form.Source most show bytes input asks)
-      where
-        go : (report : List ℕ) → Appended old new report
-            → IsTried Run form.Source (settings_with asks.q most show) bytes input s report
-            → (image : Image) × IsImageOf bytes asks.q.placing image
-            × let run = runs image.blocks (start image.bytes input) most in
-            IsReported image input (settings_with asks.q most show) (status_of (ending_of run.1 run.0.next))
-            (run_report (ending_of run.1 run.0.next) run.0) s old new
-        go report w (inl done) =
-            let run = text_exact (settings_with asks.q most show) bytes input s report program done is in
-            (run.0, run.1, ran run.0 input (settings_with asks.q most show) s report old new shown run.3 w)
-        go report w (inr up) = (
-          up.0.0,
-          up.0.1,
-          given_up up.0.0 input (settings_with asks.q most show) _ _ s report old new up.0.2 up.1 w,
-        )
+    (cut : Type 0) (q : Option Request) (s : Status) (a : IsAnswered q held rose old new cut s)
+    (most : ℕ) (show : Show) (bytes input : List ℕ) where
+  pub text_run : (program : TypedProgram)
+      → (asks : AsksFor q held Run form.Source most show bytes input) → show.cycles ≡ true
+      → IsAccepted bytes program → (rose → ⊥) → (cut → ⊥) → s ≢ status.Memory
+      → (image : Image) × IsImageOf bytes asks.q.placing image
+      × let run = runs image.blocks (start image.bytes input) most in
+      IsReported image input (settings_with asks.q most show) (status_of (ending_of run.1 run.0.next))
+      (run_report (ending_of run.1 run.0.next) run.0) s old new
+  text_run program asks shown is r c m =
+      let row = whole_of held rose old new cut q s a c m in
+      go row.0 row.2 (complete q held rose s row.0 row.1 r Run form.Source most show bytes input asks)
+    where
+      go : (report : List ℕ) → Appended old new report
+          → IsTried Run form.Source (settings_with asks.q most show) bytes input s report
+          → (image : Image) × IsImageOf bytes asks.q.placing image
+          × let run = runs image.blocks (start image.bytes input) most in
+          IsReported image input (settings_with asks.q most show) (status_of (ending_of run.1 run.0.next))
+          (run_report (ending_of run.1 run.0.next) run.0) s old new
+      go report w (inl done) =
+          let run = text_exact (settings_with asks.q most show) bytes input s report program done is in
+          (run.0, run.1, ran run.0 input (settings_with asks.q most show) s report old new shown run.3 w)
+      go report w (inr up) = (
+        up.0.0,
+        up.0.1,
+        given_up up.0.0 input (settings_with asks.q most show) _ _ s report old new up.0.2 up.1 w,
+      )
 
-    pub image_run : (image : Image)
-        → (asks : AsksFor q held Run form.Image most show bytes input) → show.cycles ≡ true
-        → ImageBytes image bytes → All IsGood image.blocks → (rose → ⊥) → (cut → ⊥) → s ≢ status.Memory
-        → let run = runs image.blocks (start image.bytes input) most in
-        IsReported image input (settings_with asks.q most show) (status_of (ending_of run.1 run.0.next))
-        (run_report (ending_of run.1 run.0.next) run.0) s old new
-    image_run image asks shown spelled good r c m =
-        let row = whole_of held rose old new cut q s a c m in
-        go row.0 row.2 (complete q held rose s row.0 row.1 r Run form.Image most show bytes input asks)
-      where
-        go : (report : List ℕ) → Appended old new report
-            → IsTried Run form.Image (settings_with asks.q most show) bytes input s report
-            → let run = runs image.blocks (start image.bytes input) most in
-            IsReported image input (settings_with asks.q most show) (status_of (ending_of run.1 run.0.next))
-            (run_report (ending_of run.1 run.0.next) run.0) s old new
-        go report w (inl done) = ran image input (settings_with asks.q most show) s report old new shown
-            (image_exact (settings_with asks.q most show) bytes input s report image done spelled good) w
-        go report w (inr up) = given_up image input (settings_with asks.q most show) _ _ s report old new
-            (image_given_up (settings_with asks.q most show) bytes input image spelled up.0) up.1 w
+  pub image_run : (image : Image)
+      → (asks : AsksFor q held Run form.Image most show bytes input) → show.cycles ≡ true
+      → ImageBytes image bytes → All IsGood image.blocks → (rose → ⊥) → (cut → ⊥) → s ≢ status.Memory
+      → let run = runs image.blocks (start image.bytes input) most in
+      IsReported image input (settings_with asks.q most show) (status_of (ending_of run.1 run.0.next))
+      (run_report (ending_of run.1 run.0.next) run.0) s old new
+  image_run image asks shown spelled good r c m =
+      let row = whole_of held rose old new cut q s a c m in
+      go row.0 row.2 (complete q held rose s row.0 row.1 r Run form.Image most show bytes input asks)
+    where
+      go : (report : List ℕ) → Appended old new report
+          → IsTried Run form.Image (settings_with asks.q most show) bytes input s report
+          → let run = runs image.blocks (start image.bytes input) most in
+          IsReported image input (settings_with asks.q most show) (status_of (ending_of run.1 run.0.next))
+          (run_report (ending_of run.1 run.0.next) run.0) s old new
+      go report w (inl done) = ran image input (settings_with asks.q most show) s report old new shown
+          (image_exact (settings_with asks.q most show) bytes input s report image done spelled good) w
+      go report w (inr up) = given_up image input (settings_with asks.q most show) _ _ s report old new
+          (image_given_up (settings_with asks.q most show) bytes input image spelled up.0) up.1 w
 
-    pub target_run : (image : Image)
-        → (asks : AsksFor q held Run form.Target most show bytes input) → show.cycles ≡ true
-        → TargetText image bytes → All IsGood image.blocks → (rose → ⊥) → (cut → ⊥) → s ≢ status.Memory
-        → let run = runs image.blocks (start image.bytes input) most in
-        IsReported image input (settings_with asks.q most show) (status_of (ending_of run.1 run.0.next))
-        (run_report (ending_of run.1 run.0.next) run.0) s old new
-    target_run image asks shown spelled good r c m =
-        let row = whole_of held rose old new cut q s a c m in
-        go row.0 row.2 (complete q held rose s row.0 row.1 r Run form.Target most show bytes input asks)
-      where
-        go : (report : List ℕ) → Appended old new report
-            → IsTried Run form.Target (settings_with asks.q most show) bytes input s report
-            → let run = runs image.blocks (start image.bytes input) most in
-            IsReported image input (settings_with asks.q most show) (status_of (ending_of run.1 run.0.next))
-            (run_report (ending_of run.1 run.0.next) run.0) s old new
-        go report w (inl done) = ran image input (settings_with asks.q most show) s report old new shown
-            (target_exact (settings_with asks.q most show) bytes input s report image done spelled good) w
-        go report w (inr up) = given_up image input (settings_with asks.q most show) _ _ s report old new
-            (target_given_up (settings_with asks.q most show) bytes input image spelled up.0) up.1 w
+  pub target_run : (image : Image)
+      → (asks : AsksFor q held Run form.Target most show bytes input) → show.cycles ≡ true
+      → TargetText image bytes → All IsGood image.blocks → (rose → ⊥) → (cut → ⊥) → s ≢ status.Memory
+      → let run = runs image.blocks (start image.bytes input) most in
+      IsReported image input (settings_with asks.q most show) (status_of (ending_of run.1 run.0.next))
+      (run_report (ending_of run.1 run.0.next) run.0) s old new
+  target_run image asks shown spelled good r c m =
+      let row = whole_of held rose old new cut q s a c m in
+      go row.0 row.2 (complete q held rose s row.0 row.1 r Run form.Target most show bytes input asks)
+    where
+      go : (report : List ℕ) → Appended old new report
+          → IsTried Run form.Target (settings_with asks.q most show) bytes input s report
+          → let run = runs image.blocks (start image.bytes input) most in
+          IsReported image input (settings_with asks.q most show) (status_of (ending_of run.1 run.0.next))
+          (run_report (ending_of run.1 run.0.next) run.0) s old new
+      go report w (inl done) = ran image input (settings_with asks.q most show) s report old new shown
+          (target_exact (settings_with asks.q most show) bytes input s report image done spelled good) w
+      go report w (inr up) = given_up image input (settings_with asks.q most show) _ _ s report old new
+          (target_given_up (settings_with asks.q most show) bytes input image spelled up.0) up.1 w
 
-    pub headline : (n : ℕ) (output : List ℕ) (value : ℤ) (steps : ℕ) (program : TypedProgram)
-        → (asks : AsksFor q held Run form.Source most show bytes input) → show.cycles ≡ true
-        → IsAccepted bytes program → eval program input n ≡ Done output value steps → 16 * n + 16 ≤ most
-        → (rose → ⊥) → (cut → ⊥) → s ≢ status.Memory
-        → (image : Image) × IsImageOf bytes asks.q.placing image
-        × IsReported image input (settings_with asks.q most show) status.Ended (ended_report output value) s old
-        new
-    headline n output value steps program asks shown is done enough r c m =
-        let row = whole_of held rose old new cut q s a c m in
-        go row.0 row.2 (complete q held rose s row.0 row.1 r Run form.Source most show bytes input asks)
-      where
-        go : (report : List ℕ) → Appended old new report
-            → IsTried Run form.Source (settings_with asks.q most show) bytes input s report
-            → (image : Image) × IsImageOf bytes asks.q.placing image
-            × IsReported image input (settings_with asks.q most show) status.Ended (ended_report output value) s
-            old new
-        go report w (inl tried) =
-            let run = text_exact (settings_with asks.q most show) bytes input s report program tried is in
-            let told = finished_counted (settings_with asks.q most show) n bytes input program s report run is
-            enough output value steps done in
-            (run.0, run.1, inl (run.3.0, run.3.1 shown, told.0, subst (Appended old new) told.2 w))
-        go report w (inr up) = (
-          up.0.0,
-          up.0.1,
-          given_up up.0.0 input (settings_with asks.q most show) _ _ s report old new up.0.2 up.1 w,
-        )
+  pub headline : (n : ℕ) (output : List ℕ) (value : ℤ) (steps : ℕ) (program : TypedProgram)
+      → (asks : AsksFor q held Run form.Source most show bytes input) → show.cycles ≡ true
+      → IsAccepted bytes program → eval program input n ≡ Done output value steps → 16 * n + 16 ≤ most
+      → (rose → ⊥) → (cut → ⊥) → s ≢ status.Memory
+      → (image : Image) × IsImageOf bytes asks.q.placing image
+      × IsReported image input (settings_with asks.q most show) status.Ended (ended_report output value) s old
+      new
+  headline n output value steps program asks shown is done enough r c m =
+      let row = whole_of held rose old new cut q s a c m in
+      go row.0 row.2 (complete q held rose s row.0 row.1 r Run form.Source most show bytes input asks)
+    where
+      go : (report : List ℕ) → Appended old new report
+          → IsTried Run form.Source (settings_with asks.q most show) bytes input s report
+          → (image : Image) × IsImageOf bytes asks.q.placing image
+          × IsReported image input (settings_with asks.q most show) status.Ended (ended_report output value) s
+          old new
+      go report w (inl tried) =
+          let run = text_exact (settings_with asks.q most show) bytes input s report program tried is in
+          let told = finished_counted (settings_with asks.q most show) n bytes input program s report run is
+          enough output value steps done in
+          (run.0, run.1, inl (run.3.0, run.3.1 shown, told.0, subst (Appended old new) told.2 w))
+      go report w (inr up) = (
+        up.0.0,
+        up.0.1,
+        given_up up.0.0 input (settings_with asks.q most show) _ _ s report old new up.0.2 up.1 w,
+      )
 
-    pub deep : (n : ℕ) (output : List ℕ) (program : TypedProgram)
-        → (asks : AsksFor q held Run form.Source most show bytes input) → show.cycles ≡ true
-        → IsAccepted bytes program → eval program input n ≡ Stopped Deep output → 16 * n + 16 ≤ most
-        → (rose → ⊥) → (cut → ⊥) → s ≢ status.Memory
-        → (image : Image) × IsImageOf bytes asks.q.placing image
-        × IsReported image input (settings_with asks.q most show) status.StackFull (full_report output) s old
-        new
-    deep n output program asks shown is full enough r c m =
-        let row = whole_of held rose old new cut q s a c m in
-        go row.0 row.2 (complete q held rose s row.0 row.1 r Run form.Source most show bytes input asks)
-      where
-        go : (report : List ℕ) → Appended old new report
-            → IsTried Run form.Source (settings_with asks.q most show) bytes input s report
-            → (image : Image) × IsImageOf bytes asks.q.placing image
-            × IsReported image input (settings_with asks.q most show) status.StackFull (full_report output) s old
-            new
-        go report w (inl tried) =
-            let run = text_exact (settings_with asks.q most show) bytes input s report program tried is in
-            let told = deep_counted (settings_with asks.q most show) n bytes input program s report run is
-            enough output full in
-            (run.0, run.1, inl (run.3.0, run.3.1 shown, told.0, subst (Appended old new) told.2 w))
-        go report w (inr up) = (
-          up.0.0,
-          up.0.1,
-          given_up up.0.0 input (settings_with asks.q most show) _ _ s report old new up.0.2 up.1 w,
-        )
+  pub deep : (n : ℕ) (output : List ℕ) (program : TypedProgram)
+      → (asks : AsksFor q held Run form.Source most show bytes input) → show.cycles ≡ true
+      → IsAccepted bytes program → eval program input n ≡ Stopped Deep output → 16 * n + 16 ≤ most
+      → (rose → ⊥) → (cut → ⊥) → s ≢ status.Memory
+      → (image : Image) × IsImageOf bytes asks.q.placing image
+      × IsReported image input (settings_with asks.q most show) status.StackFull (full_report output) s old
+      new
+  deep n output program asks shown is full enough r c m =
+      let row = whole_of held rose old new cut q s a c m in
+      go row.0 row.2 (complete q held rose s row.0 row.1 r Run form.Source most show bytes input asks)
+    where
+      go : (report : List ℕ) → Appended old new report
+          → IsTried Run form.Source (settings_with asks.q most show) bytes input s report
+          → (image : Image) × IsImageOf bytes asks.q.placing image
+          × IsReported image input (settings_with asks.q most show) status.StackFull (full_report output) s old
+          new
+      go report w (inl tried) =
+          let run = text_exact (settings_with asks.q most show) bytes input s report program tried is in
+          let told = deep_counted (settings_with asks.q most show) n bytes input program s report run is
+          enough output full in
+          (run.0, run.1, inl (run.3.0, run.3.1 shown, told.0, subst (Appended old new) told.2 w))
+      go report w (inr up) = (
+        up.0.0,
+        up.0.1,
+        given_up up.0.0 input (settings_with asks.q most show) _ _ s report old new up.0.2 up.1 w,
+      )

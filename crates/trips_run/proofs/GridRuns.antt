@@ -12,7 +12,7 @@ use Rattle.operand_net.specs.declared.weather.PcgWeather.{PcgWeather}
 use Rattle.grid_cycle_spec.specs.Costs.{cost_of}
 use Rattle.grid_cycle_spec.specs.Grid.{Grid}
 use Rattle.grid_run.specs.Answered.{ComesTo}
-use Rattle.grid_run.specs.Endings as grid
+use Rattle.grid_run.specs.Endings as endings
 use Rattle.grid_machine.specs.Seeds.{IsRan}
 use Rattle.trips_report.specs.declared.show.Show.{Show}
 use Rattle.trips_report.specs.Lines.{with_part, count_lines, trace_lines, register_lines}
@@ -25,7 +25,7 @@ use Rattle.trips_run.specs.Report.{form_text, no_counts}
 use Rattle.trips_run.specs.Worked.{status_of, IsFixed, IsRunBy, IsRunOrGivenUp}
 
 -- a run of the grid ends as one of the machine
-same_ending : (a : Stepped) (next : ℕ) → grid.ending_of a next ≡ ending_of a next
+same_ending : (a : Stepped) (next : ℕ) → endings.ending_of a next ≡ ending_of a next
 same_ending stepped.Went next = refl
 same_ending stepped.Ended next = refl
 same_ending stepped.StackFull next = refl
