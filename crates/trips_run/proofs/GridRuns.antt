@@ -128,8 +128,12 @@ pub given_up_told : {E : Type 0} (image : Image) (input : List ℕ) (settings : 
     → IfOk r (λ a. IsRunOrGivenUp image input settings a.status a.report.items)
 given_up_told image input settings answer g (Err x) is shown ran told = tt
 given_up_told image input settings answer g (Ok a) is shown ran told = inr (
-  (shown, g, subst (λ (x : Option Ending). IsRan image.blocks image.bytes input settings.most settings.seed x g) is
-      ran),
+  (
+    shown,
+    g,
+    subst (λ (x : Option Ending). IsRan image.blocks image.bytes input settings.most settings.seed x g) is
+        ran,
+  ),
   told,
 )
 

@@ -20,12 +20,7 @@ use trips_isa::Ending;
 use trips_report::Show;
 
 // The answer of a run that has ended so.
-fn ended_answer(
-    alloc: Global,
-    ran: &Ran,
-    ending: Ending,
-    show: Show,
-) -> Result<Answer, AllocError>
+fn ended_answer(alloc: Global, ran: &Ran, ending: Ending, show: Show) -> Result<Answer, AllocError>
     ensures { IfOk result (λ answer. IsFixed (status_of ending) (counted_report ending
         (grid_of ran.now).window.state (grid_of ran.now).counts
         (cost_of (blocks_of ran.now) (grid_of ran.now).window.state.trace) show)
