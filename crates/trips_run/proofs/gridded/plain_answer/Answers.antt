@@ -16,5 +16,5 @@ returns-in-Some c = ended_told _ _ _ _ _ c.in-Some.ending _ _ c.in-Some.is c.in_
 pub returns-in-None : goal.returns-in-None
 returns-in-None c = machine_answer_told _ _ _ _ _ _ _
     (ap (λ (i : Image). i.blocks) c.image.ensures.value ∙ c.in_ok-ran.ensures.image)
-    (c.in_ok-again.ensures ∙ c.as_slice.ensures.value) c.in-Ok.ensures.state c.requires.hidden
+    (c.in_ok-again.ensures.items ∙ c.as_slice.ensures.value) c.in-Ok.ensures.state c.requires.hidden
     c.machine_answer.ensures
