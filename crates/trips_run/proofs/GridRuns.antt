@@ -40,6 +40,14 @@ hides text s a b x y show hidden =
     ap (λ (v : Bool). with_part v (count_lines a x) rest) hidden
     ∙ sym (ap (λ (v : Bool). with_part v (count_lines b y) rest) hidden)
 
+-- the state at the end of the machine's run, and how that has ended
+abbrev pub state_of : List Block → List ℕ → List ℕ → Settings → State
+state_of blocks bytes input settings = (runs blocks (start bytes input) settings.most).0
+
+abbrev pub end_of : List Block → List ℕ → List ℕ → Settings → Ending
+end_of blocks bytes input settings = ending_of (runs blocks (start bytes input) settings.most).1
+    (runs blocks (start bytes input) settings.most).0.next
+
 module _ (blocks : List Block) (bytes input : List ℕ) (settings : Settings) (s : Status) (report : List ℕ) where
   -- a run of the grid that has ended, with the answer that tells it
   pub grid_told : (seen : List Block) (e : Ending) (g : Grid PcgWeather)
@@ -49,7 +57,9 @@ module _ (blocks : List Block) (bytes input : List ℕ) (settings : Settings) (s
       → IsRunBy blocks bytes input settings s report
   grid_told seen e g ran same told =
       let c : ComesTo blocks (start bytes input) settings.most e g = ran.comes in
-      let ends : e ≡ ending_of (runs blocks (start bytes input) settings.most).1 (runs blocks (start bytes input) settings.most).0.next = c.ending ∙ same_ending (runs blocks (start bytes input) settings.most).1 (runs blocks (start bytes input) settings.most).0.next in (
+      let ends : e ≡ end_of blocks bytes input settings =
+      c.ending ∙ same_ending (runs blocks (start bytes input) settings.most).1
+      (runs blocks (start bytes input) settings.most).0.next in (
         g.counts,
         λ shown. record {
           grid = g;
@@ -61,38 +71,40 @@ module _ (blocks : List Block) (bytes input : List ℕ) (settings : Settings) (s
           told.0 ∙ ap status_of ends,
           told.1 ∙ ap (λ (x : Ending). counted_report x g.window.state g.counts
               (cost_of seen g.window.state.trace) settings.show) ends
-              ∙ ap (λ (bs : List Block). counted_report (ending_of (runs blocks (start bytes input) settings.most).1 (runs blocks (start bytes input) settings.most).0.next) g.window.state g.counts
-              (cost_of bs g.window.state.trace) settings.show) same
-              ∙ ap (λ (t : State). counted_report (ending_of (runs blocks (start bytes input) settings.most).1 (runs blocks (start bytes input) settings.most).0.next) t g.counts
+              ∙ ap (λ (bs : List Block). counted_report (end_of blocks bytes input settings) g.window.state
+              g.counts (cost_of bs g.window.state.trace) settings.show) same
+              ∙ ap (λ (t : State). counted_report (end_of blocks bytes input settings) t g.counts
               (cost_of blocks t.trace) settings.show) c.state,
         ),
       )
 
   -- a run of the machine that shows no counts
   pub machine_told : settings.show.cycles ≡ false
-      → IsFixed (status_of (ending_of (runs blocks (start bytes input) settings.most).1 (runs blocks (start bytes input) settings.most).0.next))
-      (shown_report (ending_of (runs blocks (start bytes input) settings.most).1 (runs blocks (start bytes input) settings.most).0.next) (runs blocks (start bytes input) settings.most).0 settings.show) s report
+      → IsFixed (status_of (end_of blocks bytes input settings)) (shown_report
+      (end_of blocks bytes input settings) (state_of blocks bytes input settings) settings.show) s report
       → IsRunBy blocks bytes input settings s report
   machine_told hidden told = (
     no_counts,
     λ shown. absurd (true≢false (sym shown ∙ hidden)),
     (
       told.0,
-      told.1 ∙ hides (run_report (ending_of (runs blocks (start bytes input) settings.most).1
-          (runs blocks (start bytes input) settings.most).0.next) (runs blocks (start bytes input) settings.most).0) (runs blocks (start bytes input) settings.most).0 no_counts no_counts 0
-          (cost_of blocks (runs blocks (start bytes input) settings.most).0.trace) settings.show hidden,
+      told.1 ∙ hides
+          (run_report (end_of blocks bytes input settings) (state_of blocks bytes input settings))
+          (state_of blocks bytes input settings) no_counts no_counts 0
+          (cost_of blocks (state_of blocks bytes input settings).trace) settings.show hidden,
     ),
   )
 
   -- and the other way round
   pub shown_told : settings.show.cycles ≡ false → IsRunBy blocks bytes input settings s report
-      → IsFixed (status_of (ending_of (runs blocks (start bytes input) settings.most).1 (runs blocks (start bytes input) settings.most).0.next))
-      (shown_report (ending_of (runs blocks (start bytes input) settings.most).1 (runs blocks (start bytes input) settings.most).0.next) (runs blocks (start bytes input) settings.most).0 settings.show) s report
+      → IsFixed (status_of (end_of blocks bytes input settings)) (shown_report
+      (end_of blocks bytes input settings) (state_of blocks bytes input settings) settings.show) s report
   shown_told hidden told = (
     told.2.0,
-    told.2.1 ∙ hides (run_report (ending_of (runs blocks (start bytes input) settings.most).1
-        (runs blocks (start bytes input) settings.most).0.next) (runs blocks (start bytes input) settings.most).0) (runs blocks (start bytes input) settings.most).0 told.0 no_counts
-        (cost_of blocks (runs blocks (start bytes input) settings.most).0.trace) 0 settings.show hidden,
+    told.2.1 ∙ hides
+        (run_report (end_of blocks bytes input settings) (state_of blocks bytes input settings))
+        (state_of blocks bytes input settings) told.0 no_counts
+        (cost_of blocks (state_of blocks bytes input settings).trace) 0 settings.show hidden,
   )
 
 -- answers ---------------------------------------------------------------------------------------
