@@ -1,9 +1,7 @@
 -- What is written of a run whose counts are asked for.
-use Rattle.std.proofs.Common.{◌≡◌, ◌≢◌, ℕ, ℤ, ◌+◌, ◌*◌, ◌≤◌, true, List, Option, All, inl, inr, refl, sym, ◌∙◌}
-use Rattle.std.proofs.Common.{subst, ◌⊎◌}
+use Rattle.std.proofs.Common.{◌≡◌, ◌≢◌, ℕ, ℤ, ◌+◌, ◌*◌, ◌≤◌, true, List, Option, All, inl, inr, subst}
 use Rattle.trips_outside.specs.Outside.{Appended}
 use Rattle.trips_isa.specs.declared.block.Image.{Image}
-use Rattle.trips_isa.specs.declared.run.Ending.{Ending}
 use Rattle.trips_isa.specs.Machine.{runs, start}
 use Rattle.c_tree.specs.declared.typed.TypedProgram.{TypedProgram}
 use Rattle.c_meaning_spec.specs.declared.signal.Ending.TheVariants.{Deep}
@@ -20,10 +18,9 @@ use Rattle.trips_run.specs.declared.command_line.Settings.{Settings}
 use Rattle.trips_run.specs.declared.status.Status.{Status}
 use Rattle.trips_run.specs.declared.status.Status.TheVariants as status
 use Rattle.trips_run.specs.Request.{Request, settings_with}
-use Rattle.trips_run.specs.Report.{ending_of, run_report, counted_behind, form_text}
+use Rattle.trips_run.specs.Report.{ending_of, run_report, form_text}
 use Rattle.trips_run.specs.Counted.{IsGivenUp}
-use Rattle.trips_run.specs.Worked.{status_of, IsFixed, IsRunBy, IsDone, IsTried}
-use Rattle.trips_run.specs.Answer.{IsAnswer}
+use Rattle.trips_run.specs.Worked.{status_of, IsFixed, IsRunBy, IsTried}
 use Rattle.trips_run.specs.Table.{IsAnswered, IsReported, AsksFor, ended_report, full_report}
 use Rattle.trips_run.proofs.Compiled.{finished_counted, deep_counted}
 use Rattle.trips_run.proofs.Exact.{complete, image_exact, text_exact, target_exact, image_given_up, target_given_up}
