@@ -121,8 +121,8 @@ never_unfinished form.Image settings bytes input hidden up = true≢false (sym u
 pub tried_done : (work : Work) (how : FileForm) (settings : Settings) (bytes input : List ℕ) (s : Status)
     (report : List ℕ) → IsTried work how settings bytes input s report
     → (IsUnfinished work how settings bytes input → ⊥) → IsDone work how settings bytes input s report
-tried_done work how settings bytes input s report (inl done) no = done
-tried_done work how settings bytes input s report (inr up) no = absurd (no up.0)
+tried_done work how settings bytes input s report (inl done) never = done
+tried_done work how settings bytes input s report (inr up) never = absurd (never up.0)
 
 front_once : (text a b : List ℕ) → IsRefusedByFront text a → IsRefusedByFront text b → a ≡ b
 front_once text a b x y =

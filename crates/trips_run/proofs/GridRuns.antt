@@ -65,7 +65,7 @@ module _ (blocks : List Block) (bytes input : List ℕ) (settings : Settings) (s
           grid = g;
           ran = subst (λ (x : Ending). IsRan blocks bytes input settings.most settings.seed (Some x) g) ends
               ran;
-          counts = refl;
+          counted = refl;
         },
         (
           told.0 ∙ ap status_of ends,

@@ -65,10 +65,10 @@ module _ (held : List ℕ → Option (List ℕ)) (rose : Type 0) (old new : Opti
       (bytes input : List ℕ) → (asks : AsksFor q held work how most show bytes input) → (rose → ⊥)
       → (IsUnfinished work how (settings_with asks.q most show) bytes input → ⊥)
       → IsDone work how (settings_with asks.q most show) bytes input s (row_of s a c m).0
-  done_of s a c m work how most show bytes input asks r no =
+  done_of s a c m work how most show bytes input asks r never =
       let row = row_of s a c m in
       tried_done work how (settings_with asks.q most show) bytes input s row.0
-      (complete q held rose s row.0 row.1 r work how most show bytes input asks) no
+      (complete q held rose s row.0 row.1 r work how most show bytes input asks) never
 
   pub headline : (s : Status) → IsAnswered q held rose old new cut s → (most n : ℕ)
       (text input output : List ℕ) (value : ℤ) (steps : ℕ) (program : TypedProgram)

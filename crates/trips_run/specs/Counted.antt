@@ -26,7 +26,7 @@ pub record IsCountedRun (blocks : List Block) (bytes input : List ℕ) (seed bud
     (counts : Counts) : Type 0 where
   pub grid : Grid PcgWeather
   pub ran : IsRan blocks bytes input budget seed (Some ended) grid
-  pub counts : counts ≡ grid.counts
+  pub counted : counts ≡ grid.counts
 
 -- the run of an image is given up: it has made all the cycles that it may make, and goes on
 abbrev pub IsGivenUp : Image → List ℕ → Settings → Type 0

@@ -92,7 +92,10 @@ fn plain_answer(
     let ending = ran.ending;
     match ending {
         Some(ending) => ended_answer(alloc, &ran, ending, settings.show),
-        None => machine_answer(alloc, arch, ran.window.image(), settings),
+        None => {
+            let held = ran.window.image();
+            machine_answer(alloc, arch, held, settings)
+        }
     }
 }
 
