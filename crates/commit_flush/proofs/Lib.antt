@@ -18,3 +18,5 @@ pub mod CutFacts
 pub mod FetchAsked
 pub mod StoreTold
 pub mod LoadTold
+pub mod EmptyFacts
+pub mod LendFacts

@@ -20,7 +20,7 @@ use Rattle.commit_flush_order.specs.Places.{later, age_of}
 use Rattle.commit_flush_order.proofs.NumberTests.{not_below_is}
 
 -- only the stores from a number on are looked at
-narrowed_same : (p q : ℕ → Option Stored) (from n : ℕ) (touched : ℕ → Bool) (a : ℕ)
+pub narrowed_same : (p q : ℕ → Option Stored) (from n : ℕ) (touched : ℕ → Bool) (a : ℕ)
     → ((k : ℕ) → from ≤ k → p k ≡ q k) → narrowed p from n touched a ≡ narrowed q from n touched a
 narrowed_same p q from zero touched a h = refl
 narrowed_same p q from (suc n) touched a h = go (nat_lt n from) refl (narrowed_same p q from n touched a h)
@@ -31,7 +31,7 @@ narrowed_same p q from (suc n) touched a h = go (nat_lt n from) refl (narrowed_s
     go true z r = refl
     go false z r = ap₂ (λ s b. not (covers s a) && b) (h n (not_below_is n from z)) r
 
-finds_same : (p q : ℕ → Option Stored) (loads : List (Option Taken)) (touched : ℕ → Bool) (from : ℕ) (o : Option ℕ)
+pub finds_same : (p q : ℕ → Option Stored) (loads : List (Option Taken)) (touched : ℕ → Bool) (from : ℕ) (o : Option ℕ)
     → ((k : ℕ) → from ≤ k → p k ≡ q k) → Finds p loads touched from o → Finds q loads touched from o
 finds_same p q loads touched from None h f =
     λ m l k. ap (λ g. took_touched g (at loads m)) (fun_ext (λ a. sym (narrowed_same p q from m touched a h))) ∙ f m l k

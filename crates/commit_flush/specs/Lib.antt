@@ -4,3 +4,4 @@ pub mod Tokens
 pub mod Left
 pub mod Youngest
 pub mod Telling
+pub mod Lent

@@ -126,8 +126,8 @@ impl Window {
         }
     }
 
-    // Whether the youngest frame's block may make a system call.
-    pub(crate) fn is_serial(&self) -> bool
+    /// Whether the youngest frame's block may make a system call.
+    pub fn is_serial(&self) -> bool
         ensures { result
             ≡ (after_all self.now.window.frames (committed self.now.window.state)).serial }
     {

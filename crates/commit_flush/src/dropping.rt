@@ -1,5 +1,5 @@
 //! Events that flush younger frames: Flush and Exit.
-ghost use Rattle.std.specs.Prelude.{◌≡◌, ◌<◌, suc, length, slice_get};
+ghost use Rattle.std.specs.Prelude.{◌≡◌, ◌<◌, suc, [], length, slice_get};
 ghost use Rattle.commit_flush_spec.specs.Causes as causes;
 ghost use Rattle.commit_flush_spec.specs.Window as window;
 ghost use Rattle.commit_flush_spec.specs.Window.{can, done};
@@ -27,6 +27,15 @@ impl Window {
                 flush_from(&mut self.frames, &mut self.order, &mut self.banks, age);
             }
         }
+    }
+
+    /// Flushes all frames, also once the run has ended.
+    pub fn empty(&mut self)
+        ensures window { self.new ≡ record self.old {
+          window = record self.old.window { frames = [] };
+        } }
+    {
+        flush_from(&mut self.frames, &mut self.order, &mut self.banks, 0);
     }
 
     // The block that the frame of an age holds.

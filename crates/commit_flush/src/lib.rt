@@ -11,6 +11,7 @@ mod committing;
 mod dropping;
 mod filling;
 mod happening;
+mod lending;
 mod looking;
 mod moving;
 mod orders;

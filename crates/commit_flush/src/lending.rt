@@ -1,0 +1,67 @@
+//! The frames in flight, lent to those who move the window.
+ghost use Rattle.std.specs.Prelude.{◌≡◌, MatchOption, None, Some, slice_get};
+ghost use Rattle.frame_state.specs.Held.{running};
+ghost use Rattle.frame_events.specs.Phases.{HasBlock, IsIdle, frame_in};
+ghost use Rattle.commit_flush_order.specs.Places.{frame_of, numbers_of};
+ghost use Rattle.commit_flush.specs.Lent.{IsLent};
+
+use crate::window::Window;
+use block_check::CheckedImage;
+use frame_events::{Phase, flying, is_sealed_in};
+use frame_state::Body;
+use trips_isa::Block;
+
+// What a frame that runs holds, and its block.
+fn running_in<'a>(phase: &'a Phase, image: &'a CheckedImage) -> Option<(&'a Body, &'a Block)>
+    requires { HasBlock image.now.blocks phase.now }
+    ensures { MatchOption result (IsIdle (frame_in image.now.blocks phase.now))
+        (λ p. frame_in image.now.blocks phase.now ≡ Some (running p.1.now p.0.now)) }
+{
+    if is_sealed_in(phase, image) {
+        None
+    } else {
+        flying(phase, image)
+    }
+}
+
+impl Window {
+    /// The numbers of the frames in flight, the oldest first.
+    pub fn numbers(&self) -> &[u8]
+        ensures value { result.now ≡ numbers_of self.now.window.frames }
+    {
+        self.order.as_slice()
+    }
+
+    /// What the frame of a number holds, and its block, where the frame is in flight.
+    pub fn flying(&self, frame: u8) -> Option<(&Body, &Block)>
+        ensures value { MatchOption result (frame_of frame self.now.window.frames ≡ None)
+            (λ p. IsLent p.0.now p.1.now (frame_of frame self.now.window.frames)) }
+    {
+        match self.phase(frame) {
+            None => None,
+            Some(phase) => flying(phase, self.image()),
+        }
+    }
+
+    /// The same, where the frame runs.
+    pub fn running(&self, frame: u8) -> Option<(&Body, &Block)>
+        ensures value { MatchOption result (IsIdle (frame_of frame self.now.window.frames))
+            (λ p. frame_of frame self.now.window.frames ≡ Some (running p.1.now p.0.now)) }
+    {
+        match self.phase(frame) {
+            None => None,
+            Some(phase) => running_in(phase, self.image()),
+        }
+    }
+
+    /// What the frame of an age holds, the oldest having age 0, and its block.
+    pub fn flying_at(&self, age: u8) -> Option<(&Body, &Block)>
+        ensures value { MatchOption result (slice_get self.now.window.frames age ≡ None)
+            (λ p. IsLent p.0.now p.1.now (slice_get self.now.window.frames age)) }
+    {
+        match self.phase_at(age) {
+            None => None,
+            Some(phase) => flying(phase, self.image()),
+        }
+    }
+}

@@ -1,0 +1,47 @@
+-- Runs of the grid of a seed on an image (docs/GRID.md, "Runs").
+use Rattle.std.specs.Prelude.{◌≡◌, ℕ, ◌≤◌, List, length, Option}
+use Rattle.trips_isa.specs.declared.block.Block.{Block}
+use Rattle.trips_isa.specs.declared.run.Ending.{Ending}
+use Rattle.trips_isa.specs.Machine.{start}
+use Rattle.operand_net.specs.Seeded as holds
+use Rattle.operand_net.specs.declared.weather.PcgWeather.{PcgWeather}
+use Rattle.block_predict.specs.Seeded as exits
+use Rattle.grid_cycle_spec.specs.Grid.{Grid}
+use Rattle.grid_cycle_spec.specs.Cycles.{begun_at}
+use Rattle.grid_state.specs.Seen.{seen}
+use Rattle.grid_run.specs.Answered.{HasCome}
+use Rattle.grid_run.specs.WholeRuns.{IsRun, most_cycles}
+use Rattle.grid_machine.specs.declared.outcome.Ran.{Ran}
+
+-- the hold that the weather of a seed gives next, and the weather after it
+abbrev pub next_hold : PcgWeather → ℕ
+next_hold w = holds.hold_of w.generator
+
+abbrev pub IsAfter : PcgWeather → PcgWeather → Type 0
+IsAfter v w = w.generator ≡ holds.generator_after v.generator
+
+-- the stated start: no frame is in flight and nothing is under way; predictor and weather are those of the seed
+abbrev pub started : List ℕ → List ℕ → ℕ → Grid PcgWeather
+started bytes input seed =
+    begun_at (start bytes input) (exits.entries_of seed) (record { generator = holds.generator seed })
+
+-- A run of the grid of a seed on an image and an input, within a budget of blocks, that was answered an ending or none
+-- led to this grid.
+pub record IsRan (blocks : List Block) (bytes input : List ℕ) (budget seed : ℕ) (answer : Option Ending)
+    (h : Grid PcgWeather) : Type 0 where
+  -- from the stated start by as many eager cycles as are counted, each of a run that goes on, and at the end of the
+  -- run the flush of the frames in flight
+  pub run : IsRun next_hold IsAfter blocks budget h.counts.cycles (started bytes input seed) h
+  -- no more cycles than a run may make
+  pub few : h.counts.cycles ≤ most_cycles budget
+  -- each block of the trace is counted as committed
+  pub committed : h.counts.committed ≡ length h.window.state.trace
+  -- the machine's state and ending; or, without an ending, all cycles were made and the run goes on
+  pub comes : HasCome blocks (start bytes input) budget budget (most_cycles budget) answer h
+
+-- the grid that a run has come to, and the blocks of its image
+abbrev pub grid_of : Ran → Grid PcgWeather
+grid_of ran = seen ran.window.window ran.state
+
+abbrev pub blocks_of : Ran → List Block
+blocks_of ran = ran.window.image.blocks

@@ -1,0 +1,4 @@
+pub mod Endings
+pub mod WholeRuns
+pub mod Answered
+pub mod Tallies

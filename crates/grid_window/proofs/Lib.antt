@@ -1,0 +1,10 @@
+pub mod ToldFacts
+pub mod NumberFacts
+pub mod BlockFacts
+pub mod RequestFacts
+pub mod ShapeFacts
+pub mod WordFacts
+pub mod FiringFacts
+pub mod OlderFacts
+pub mod NearFacts
+pub mod WrongFacts

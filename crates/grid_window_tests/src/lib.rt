@@ -1,0 +1,11 @@
+//! Runs of the grid over the window in code, in calm weather and in the worst, with cycles that were counted by hand.
+#![tactic(auto)]
+
+#[cfg(test)]
+mod guess_tests;
+#[cfg(test)]
+mod making;
+#[cfg(test)]
+mod running;
+#[cfg(test)]
+mod time_tests;
