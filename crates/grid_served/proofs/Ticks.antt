@@ -1,0 +1,24 @@
+-- Part (6), the tick: the parcels of the oldest frame wait for no others.
+use Rattle.std.proofs.Common.{◌≡◌, ℕ, suc, ◌+◌, ◌<◌, ◌≤◌, List, ◌∷◌, length, get_or, refl, ap, ◌∙◌, arith}
+use Rattle.operand_net.specs.declared.parcel.Stand.{Stand}
+use Rattle.operand_net.specs.Places.{Places}
+use Rattle.operand_net.specs.Tick.{is_free, ticked, Ticked, RowTicked, frames_want}
+use Rattle.grid_cycle_bound.specs.Sending.{none_busy}
+
+-- where the parcels of a frame stand after a tick that no elder parcel hinders
+pub record RowMoves (before after : ℕ → Stand) : Type 0 where
+  pub hold : ℕ → ℕ
+  pub holds : (p : ℕ) → hold p ≤ 3
+  pub moves : (p : ℕ) → p < 320 → after p ≡ ticked (is_free none_busy before p (before p)) (hold p) (before p)
+
+pub oldest_ticks : {W : Type 0} (next : W → ℕ) (follows : W → W → Type 0) → ((w : W) → next w ≤ 3)
+    → (n k : ℕ) (ns : List ℕ) (before after : Places) (v w : W)
+    → Ticked next follows (n ∷ ns) before after v w (suc k) → RowMoves (before n) (after n)
+oldest_ticks next follows bound n k ns before after v w t =
+    let r : RowTicked next follows (frames_want 0 before (n ∷ ns)) (before n) (after n) (t.states 0) (t.states (0 + 1)) =
+    t.frames 0 (omega arith) in
+    record {
+      hold = λ p. next (r.states p);
+      holds = λ p. bound (r.states p);
+      moves = λ p l. (r.turns p l).stands;
+    }
