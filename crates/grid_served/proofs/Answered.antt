@@ -90,7 +90,7 @@ module _ {W : Type 0} (blocks : List Block) (good : AllGood blocks) (budget : �
   F = front_of c h e
 
   own_ok : FrameOk blocks o e
-  own_ok = oldest_ok blocks budget h.window e younger i ok
+  own_ok = oldest_ok blocks budget h.window e younger ok i
 
   abbrev test : ℕ → Bool
   test = answers_request h d e
@@ -179,7 +179,7 @@ module _ {W : Type 0} (blocks : List Block) (good : AllGood blocks) (budget : �
         → Turned o e d m (Running F)
     answered_as m X l fr n code spots r state mok as_lane =
         let xok : FrameOk blocks o X = subst (λ z. FrameOk blocks (committed z) X) state
-        (oldest_ok blocks budget m.window X l fr mok) in
+        (oldest_ok blocks budget m.window X l mok fr) in
         record {
           stage = Running (front_of (course_of X.code (told o X)) m X);
           answers = inr (record {

@@ -50,7 +50,7 @@ module _ {W : Type 0} (blocks : List Block) (good : AllGood blocks) (budget : �
   abbrev at : ℕ → Grid W
   at d = each (data_turn blocks budget) d g
 
-  onward : (d : ℕ) → Onward blocks budget g.window (at d).window
+  pub onward : (d : ℕ) → Onward blocks budget g.window (at d).window
   onward d = each_keeps blocks budget (λ (g h : Grid W). Onward blocks budget g.window h.window)
       (steady blocks budget good) (data_turn blocks budget)
       (λ tile x. chosen_keeps blocks budget (λ (g h : Grid W). Onward blocks budget g.window h.window)

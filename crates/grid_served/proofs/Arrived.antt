@@ -13,6 +13,7 @@ use Rattle.trips_isa.specs.declared.run.Stepped.TheVariants as stepped
 use Rattle.trips_isa.specs.Forms.{form_of}
 use Rattle.trips_isa.specs.Places.{place_of, place_at, first_place}
 use Rattle.trips_isa.specs.Rule.{Answer}
+use Rattle.trips_isa.specs.Blocks.{at_place}
 use Rattle.block_cases.specs.Orders.{slot_of}
 use Rattle.operand_net.specs.declared.parcel.Parcel.{Parcel}
 use Rattle.operand_net.specs.declared.parcel.Stand.{Stand}
@@ -25,6 +26,8 @@ use Rattle.commit_flush_spec.specs.Laws.{WindowOk}
 use Rattle.commit_flush_spec.proofs.Kept.{half_places}
 use Rattle.commit_flush_spec.proofs.Tokens.{inst_in}
 use Rattle.window_progress.specs.Observers.{has_number}
+use Rattle.grid_cycle_spec.specs.Stations.{data_node, home}
+use Rattle.grid_cycle_spec.specs.DataTiles.{tile_by}
 use Rattle.grid_cycle_spec.specs.Grid.{Grid}
 use Rattle.grid_cycle_spec.specs.Arrivals.{asks, delivers, is_waiting, slot_arrives, inst_arrives, place_arrives}
 use Rattle.grid_cycle_spec.specs.Arrivals.{arrives_if, arrival}
@@ -54,7 +57,8 @@ come_none n p (Held t (suc h)) e = refl
 
 -- a target at a spot
 hits_target : (b : Block) (p q : ℕ) → is_target p ≡ true → hits (target_at b p) q ≡ (p == q)
-hits_target b p q e = ap (λ z. hits (cond z (Some (record { spot = p; there = _ })) None) q) e
+hits_target b p q e =
+    ap (λ z. hits (cond z (Some (record { spot = p; there = home b p })) None) q) e
 
 -- a request has no second parcel
 no_second : (f w a : Bool) (p q : Stand) → second_parcel (slot_far Serving f w true a p q) ≡ Nowhere
@@ -131,9 +135,9 @@ module _ {W : Type 0} (blocks : List Block) (good : AllGood blocks) (budget : �
     token : (y : IsToken f k) → ((q : ℕ) → land q ≡ (target f.code k == q))
         → ((x : ℕ) (i : Inst) → slot_of f.code x ≡ Some i → is_waiting (at f.requests i.number) x ≡ true
         → 2 * x ≡ k → ⊥) → Next (delivers blocks budget e.number k M)
-    token y as none = subst (λ n. Next (delivers blocks budget n k M)) (sym a.number)
+    token y lands_at none = subst (λ n. Next (delivers blocks budget n k M)) (sym a.number)
         (goes_on _ _ (token_arrives blocks good budget t f m rule hold k small h a ok went now y
-        (λ q. as q ∙ ap (λ b. target b k == q) (sym a.code)) none))
+        (λ q. lands_at q ∙ ap (λ b. target b k == q) (sym a.code)) none))
 
     -- a slot -----------------------------------------------------------------------------------------
 
@@ -158,6 +162,9 @@ module _ {W : Type 0} (blocks : List Block) (good : AllGood blocks) (budget : �
       task_x : c.task x ≡ slot_task f.code t x (Some i)
       task_x = slot_is f.code t x in_slots ∙ ap (slot_task f.code t x) s
 
+      abbrev served : ℕ
+      served = data_node (tile_by i (at_place f.code t x))
+
       -- its parcel is that of its phase
       first_there : k ≡ 2 * x → first_parcel (far (kind_of (form_of i.op))) ≢ Nowhere
       first_there is z = row_there (cond-true (k % 2 == 0) _ _
@@ -169,6 +176,18 @@ module _ {W : Type 0} (blocks : List Block) (good : AllGood blocks) (budget : �
           (let par : k % 2 ≡ 1 = omega (arith, is) in ne_eqb (k % 2) 0 (λ z. absurd (omega (arith, par, z))))
           ∙ ap (λ y. second_parcel (F.at y)) half ∙ ap second_parcel far_is ∙ z)
 
+      sent_even : k ≡ 2 * x
+          → (is_waiting (at f.requests i.number) x ≡ true → kind_of (form_of i.op) ≡ Serving → ⊥)
+          → F.at x ≡ Sent (m.parcels f.number (2 * x)) (m.parcels f.number (suc (2 * x)))
+      sent_even is open' = far_is ∙ sent_first (kind_of (form_of i.op)) (slice_index_or f.fired x false)
+          (m.works f.number x) (is_waiting (at f.requests i.number) x) (m.asked f.number i.number)
+          (m.parcels f.number (2 * x)) (m.parcels f.number (suc (2 * x))) (first_there is) open'
+
+      sent_odd : k ≡ suc (2 * x) → F.at x ≡ Sent (m.parcels f.number (2 * x)) (m.parcels f.number (suc (2 * x)))
+      sent_odd is = far_is ∙ sent_second (kind_of (form_of i.op)) (slice_index_or f.fired x false)
+          (m.works f.number x) (is_waiting (at f.requests i.number) x) (m.asked f.number i.number)
+          (m.parcels f.number (2 * x)) (m.parcels f.number (suc (2 * x))) (second_there is)
+
       travels : Travels f (form_of i.op) i k
       travels = rule.slots k i low there (ap (slot_of f.code) half ∙ s)
 
@@ -179,10 +198,8 @@ module _ {W : Type 0} (blocks : List Block) (good : AllGood blocks) (budget : �
           → ((n : ℕ) → first_of f.code z i n ≡ target_at f.code (place_at i.first))
           → IsToken f k → ((w : is_waiting (at f.requests i.number) x ≡ true) → ⊥)
           → Next (delivers blocks budget e.number k M)
-      slot_token z kind open' place first y none = token y (λ q. as q (half_places k x half)) none_waits
+      slot_token z kind open' place first y none = token y (λ q. lands_at q (half_places k x half)) none_waits
         where
-          to = slot_targets f.code x i x_small s
-
           none_waits : (y : ℕ) (j : Inst) → slot_of f.code y ≡ Some j → is_waiting (at f.requests j.number) y ≡ true
               → 2 * y ≡ k → ⊥
           none_waits y j d w u =
@@ -191,19 +208,19 @@ module _ {W : Type 0} (blocks : List Block) (good : AllGood blocks) (budget : �
               let it : j ≡ i = cc in
               none (ap₂ (λ (i : Inst) y. is_waiting (at f.requests i.number) y) (sym it) (sym one) ∙ w)
 
-          as : (q : ℕ) → (k ≡ 2 * x) ⊎ (k ≡ suc (2 * x)) → land q ≡ (target f.code k == q)
-          as q (inl is) =
-              even_lands x is _ _ (far_is ∙ sent_first _ _ _ _ _ _ _ (first_there is) open') now q
+          lands_at : (q : ℕ) → (k ≡ 2 * x) ⊎ (k ≡ suc (2 * x)) → land q ≡ (target f.code k == q)
+          lands_at q (inl is) =
+              even_lands x is (m.parcels f.number (2 * x)) (m.parcels f.number (suc (2 * x))) (sent_even is open') now q
               ∙ ap (λ o. hits o q) (ap (λ (z : Task). z.first) task_x
-              ∙ ap (λ z. first_of f.code z i _) kind ∙ first _)
+              ∙ ap (λ z. first_of f.code z i served) kind ∙ first served)
               ∙ hits_target f.code (place_at i.first) q (sym (ap is_target goes) ∙ y.goes)
               ∙ ap (λ p. p == q) (sym goes)
             where
               goes : target f.code k ≡ place_at i.first
               goes = ap (target f.code) is ∙ (slot_targets f.code x i x_small s).0
                   ∙ ap (λ z. first_place z i.number i.first) kind ∙ place i.number
-          as q (inr is) =
-              odd_lands x is _ _ (far_is ∙ sent_second _ _ _ _ _ _ _ (second_there is)) now q
+          lands_at q (inr is) =
+              odd_lands x is (m.parcels f.number (2 * x)) (m.parcels f.number (suc (2 * x))) (sent_odd is) now q
               ∙ ap (λ o. hits o q) (ap (λ (z : Task). z.second) task_x)
               ∙ hits_target f.code (place_at i.second) q (sym (ap is_target goes) ∙ y.goes)
               ∙ ap (λ p. p == q) (sym goes)
@@ -222,7 +239,8 @@ module _ {W : Type 0} (blocks : List Block) (good : AllGood blocks) (budget : �
           by (inr is) = absurd (second_there is
               (ap₂ (λ z d. second_parcel (slot_far z (slice_index_or f.fired x false) (m.works f.number x) d
               (m.asked f.number i.number) (m.parcels f.number (2 * x)) (m.parcels f.number (suc (2 * x))))) serving w
-              ∙ no_second _ _ _ _ _))
+              ∙ no_second (slice_index_or f.fired x false) (m.works f.number x) (m.asked f.number i.number)
+              (m.parcels f.number (2 * x)) (m.parcels f.number (suc (2 * x)))))
 
       -- the exit of the slot
       slot_branch : form_of i.op ≡ form.Branch → Travels f form.Branch i k
@@ -230,9 +248,10 @@ module _ {W : Type 0} (blocks : List Block) (good : AllGood blocks) (budget : �
       slot_branch kind v =
           let is : k ≡ 2 * x = (let par = v.1 in omega (arith, par, half)) in
           goes_on _ _ (branch_arrives blocks good budget t f m rule hold k small h a ok went now x is i s kind
-          (λ q. even_lands x is _ _ (far_is ∙ sent_first _ _ _ _ _ _ _ (first_there is)
+          (λ q. even_lands x is (m.parcels f.number (2 * x)) (m.parcels f.number (suc (2 * x))) (sent_even is
           (λ w z. let bad : Plain ≡ Serving = sym (ap kind_of kind) ∙ z in cc)) now q
-          ∙ ap (λ o. hits o q) (ap (λ (z : Task). z.first) task_x ∙ ap (λ z. first_of f.code z i _) kind)))
+          ∙ ap (λ o. hits o q) (ap (λ (z : Task). z.first) task_x
+          ∙ ap (λ z. first_of f.code z i served) kind)))
 
       plain_open : (z : Form) → form_of i.op ≡ z → kind_of z ≡ Plain → is_waiting (at f.requests i.number) x ≡ true
           → kind_of (form_of i.op) ≡ Serving → ⊥
@@ -339,14 +358,14 @@ module _ {W : Type 0} (blocks : List Block) (good : AllGood blocks) (budget : �
                 → Next (delivers blocks budget e.number k M)
             flag false y = absurd (row_there (both_nowhere (inr (phase
                 ∙ ap (read_phase m f (k / 2 - slot_tasks)) z ∙ cond-false _ _ _ y))))
-            flag true y = token tok (λ q. as q (half_places k (k / 2) refl)) none_waits
+            flag true y = token tok (λ q. lands_at q (half_places k (k / 2) refl)) none_waits
               where
                 sent : F.at (k / 2) ≡ Sent (m.parcels f.number (2 * (slot_tasks + (k / 2 - slot_tasks))))
                     (m.parcels f.number (suc (2 * (slot_tasks + (k / 2 - slot_tasks)))))
                 sent = phase ∙ ap (read_phase m f (k / 2 - slot_tasks)) z ∙ cond-true _ _ _ y
 
-                as : (q : ℕ) → (k ≡ 2 * (k / 2)) ⊎ (k ≡ suc (2 * (k / 2))) → land q ≡ (target f.code k == q)
-                as q (inl is) =
+                lands_at : (q : ℕ) → (k ≡ 2 * (k / 2)) ⊎ (k ≡ suc (2 * (k / 2))) → land q ≡ (target f.code k == q)
+                lands_at q (inl is) =
                     even_lands (k / 2) is _ _ sent now q ∙ ap (λ o. hits o q) (ap (λ (z : Task). z.first) task_x)
                     ∙ hits_target f.code (place_of r.first) q (sym (ap is_target goes) ∙ tok.goes)
                     ∙ ap (λ p. p == q) (sym goes)
@@ -355,7 +374,7 @@ module _ {W : Type 0} (blocks : List Block) (good : AllGood blocks) (budget : �
                     goes = ap (target f.code) (let u = slot_tasks_is in let v = at_x in
                         let w : k ≡ 256 + 2 * (k / 2 - slot_tasks) = omega (arith, is, u, v) in w)
                         ∙ (read_targets f.code (k / 2 - slot_tasks) r z).0
-                as q (inr is) =
+                lands_at q (inr is) =
                     odd_lands (k / 2) is _ _ sent now q ∙ ap (λ o. hits o q) (ap (λ (z : Task). z.second) task_x)
                     ∙ hits_target f.code (place_at r.second) q (sym (ap is_target goes) ∙ tok.goes)
                     ∙ ap (λ p. p == q) (sym goes)

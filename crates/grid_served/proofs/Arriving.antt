@@ -73,7 +73,7 @@ land_second (Sent a b) w s q = landed b (moving.taken s) w.second q
 land_second _ w s q = false
 
 -- a slot that has sent its tokens, where its first or second place has a parcel
-sent_first : (k : Kind) (f w d a : Bool) (p q : Stand) → first_parcel (slot_far k f w d a p q) ≢ Nowhere
+pub sent_first : (k : Kind) (f w d a : Bool) (p q : Stand) → first_parcel (slot_far k f w d a p q) ≢ Nowhere
     → (d ≡ true → k ≡ Serving → ⊥) → slot_far k f w d a p q ≡ Sent p q
 sent_first k false w d a p q n h = absurd (n refl)
 sent_first k true true d a p q n h = absurd (n refl)
@@ -82,7 +82,7 @@ sent_first Plain true false d a p q n h = refl
 sent_first Serving true false true a p q n h = absurd (h refl refl)
 sent_first Serving true false false a p q n h = refl
 
-sent_second : (k : Kind) (f w d a : Bool) (p q : Stand) → second_parcel (slot_far k f w d a p q) ≢ Nowhere
+pub sent_second : (k : Kind) (f w d a : Bool) (p q : Stand) → second_parcel (slot_far k f w d a p q) ≢ Nowhere
     → slot_far k f w d a p q ≡ Sent p q
 sent_second k false w d a p q n = absurd (n refl)
 sent_second k true true d a p q n = absurd (n refl)
@@ -313,7 +313,7 @@ module _ {W : Type 0} (blocks : List Block) (good : AllGood blocks) (budget : �
       goes : is_target (target e.code k) ≡ true
       goes = ap (λ b. is_target (target b k)) a.code ∙ token.goes
 
-      here : (x : Token) × (at e.places k ≡ Some x)
+      pub here : (x : Token) × (at e.places k ≡ Some x)
       here = some (at e.places k) (λ z. token.there (sym (a.places k (omega arith)) ∙ z))
         where
           some : (o : Answer) → o ≢ None → (x : Token) × (o ≡ Some x)
@@ -352,7 +352,7 @@ module _ {W : Type 0} (blocks : List Block) (good : AllGood blocks) (budget : �
       pub token_arrives : ((q : ℕ) → lands k q ≡ (target e.code k == q))
           → ((x : ℕ) (i : Inst) → slot_of f.code x ≡ Some i → is_waiting (at f.requests i.number) x ≡ true
           → 2 * x ≡ k → ⊥) → Arrived E H
-      token_arrives as none = record {
+      token_arrives lands_at none = record {
         behind = a.younger;
         frames = ap (λ (w : Window). w.frames) after_is;
         number = refl;
@@ -370,7 +370,7 @@ module _ {W : Type 0} (blocks : List Block) (good : AllGood blocks) (budget : �
         places = λ p l. other_at e.places k p None (λ z. absurd (omega (arith, l, z)));
         leaving = λ x i s w l n z. z;
         come = λ q. spot_came e (target e.code k) here.0 E.spots goes own_ok.sized.spots refl q
-            ∙ ap (λ b. has_come e q || b) (sym (as q));
+            ∙ ap (λ b. has_come e q || b) (sym (lands_at q));
       }
 
     -- a request --------------------------------------------------------------------------------------
@@ -453,7 +453,7 @@ module _ {W : Type 0} (blocks : List Block) (good : AllGood blocks) (budget : �
     -- a branch ---------------------------------------------------------------------------------------
 
     module _ (x : ℕ) (is : k ≡ 2 * x) (i : Inst) (s : slot_of f.code x ≡ Some i) (kind : form_of i.op ≡ form.Branch)
-        (as : (q : ℕ) → lands k q ≡ (448 == q)) where
+        (lands_at : (q : ℕ) → lands k q ≡ (448 == q)) where
       leaves : e.leaving ≡ Some x
       leaves = a.leaving x i s kind (omega (arith, is)) (subst (λ k. m.parcels f.number k ≢ Nowhere) is there)
 
@@ -534,7 +534,7 @@ module _ {W : Type 0} (blocks : List Block) (good : AllGood blocks) (budget : �
         leaving = λ y j z b l n v.
             let one : Some y ≡ Some x = sym v ∙ leaves in
             let same : y ≡ x = cc in absurd (omega (arith, l, is, same));
-        come = λ q. exit_came e X.exit known q ∙ ap (λ b. has_come e q || b) (sym (as q));
+        come = λ q. exit_came e X.exit known q ∙ ap (λ b. has_come e q || b) (sym (lands_at q));
       }
         where
           none : (y : ℕ) (j : Inst) → slot_of f.code y ≡ Some j → is_waiting (at f.requests j.number) y ≡ true

@@ -15,7 +15,7 @@ use Rattle.grid_cycle_spec.specs.Grid.{Grid}
 use Rattle.grid_cycle_spec.specs.Choosing.{eldest, each, reads}
 use Rattle.grid_cycle_spec.specs.Banks.{answers_read, bank_turn, reads_answered}
 use Rattle.grid_cycle_bound.specs.Course.{Task}
-use Rattle.grid_cycle_bound.specs.Lane.{unread}
+use Rattle.grid_cycle_bound.specs.Lane.{Front, unread}
 use Rattle.grid_cycle_bound.specs.Sending.{pick, none_busy, station_of, sent_from, reads_front}
 use Rattle.grid_cycle_bound.specs.Blocks.{read_task, course_of}
 use Rattle.grid_cycle_bound.specs.Seen.{front_of}
@@ -29,6 +29,9 @@ use Rattle.grid_served.proofs.Banked.{Unread, AtBank, read_front, unread_is, ban
 module _ {W : Type 0} (blocks : List Block) (good : AllGood blocks) (budget : ℕ) (t : ℕ → Answer) (f : Frame)
     (g : Grid W) (fs : List Frame) (i : g.window.frames ≡ f ∷ fs) (ok : WindowOk blocks budget g.window)
     (went : g.window.over ≡ stepped.Went) (runs : f.sealed ≡ false) (quiet : QuietReads g f) where
+  abbrev F : Front
+  F = front_of (course_of f.code t) g f
+
   begins : AtBank blocks good budget t f g 0 g
   begins = record {
     frame = f;
@@ -39,7 +42,8 @@ module _ {W : Type 0} (blocks : List Block) (good : AllGood blocks) (budget : �
     stores = refl;
     runs = runs;
     front = sym (same_front (read_front blocks good budget t f g 0) (front_of (course_of f.code t) g f) refl refl
-        (fun_ext (λ x. cond-false _ _ _ (and_right _ _ (le-ltb _ 0 (omega arith))))) refl refl);
+        (fun_ext (λ x. cond-false _ _ _ (and_right (pick (unread F) (station_of F) none_busy x) _
+        (le-ltb (station_of F x) 0 (omega arith))))) refl refl);
     quiet = quiet;
   }
 

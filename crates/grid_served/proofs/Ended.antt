@@ -141,14 +141,18 @@ module _ {W : Type 0} (blocks : List Block) (budget : ℕ) (g : Grid W) (f : Fra
         (seals_other blocks budget f g fs (younger_apart blocks budget g.window f fs ok i) g
         (behind_at blocks budget f g fs i)))
 
+    no_commit : (m : Grid W) → Behind f g m → commit_oldest blocks budget m ≡ m
+    no_commit m b = cond-false (may blocks budget window.Commit m) _ _
+        (unsealed_first m.window.over (is_sealed m.window.frames) (nat_le budget (length m.window.state.trace))
+        (ap is_sealed b.frames ∙ unsealed))
+
+    -- frames are sealed and none is committed
+    pub ends_seal : ends blocks budget g ≡ seal_each blocks budget (numbers_of g.window.frames) g
+    ends_seal = no_commit (seal_each blocks budget (numbers_of g.window.frames) g) seals_stay
+
     -- the oldest frame is as it was
     pub ends_open : Behind f g (ends blocks budget g)
-    ends_open = go (seal_each blocks budget (numbers_of g.window.frames) g) seals_stay
-      where
-        go : (m : Grid W) → Behind f g m → Behind f g (commit_oldest blocks budget m)
-        go m b = subst (Behind f g) (sym (cond-false (may blocks budget window.Commit m) _ _
-            (unsealed_first m.window.over (is_sealed m.window.frames)
-            (nat_le budget (length m.window.state.trace)) (ap is_sealed b.frames ∙ unsealed)))) b
+    ends_open = subst (Behind f g) (sym ends_seal) seals_stay
 
   -- all outputs have come --------------------------------------------------------------------------
 
@@ -203,7 +207,9 @@ module _ {W : Type 0} (blocks : List Block) (budget : ℕ) (g : Grid W) (f : Fra
         taken blocks budget window.Commit m.window it ∙ ap (λ l. commit l m.window) b.frames in
         subst (Commits g) (sym (cond-true (may blocks budget window.Commit m) _ _ (ap is_done it)
         ∙ ap (λ l. commit_in blocks budget l m) b.frames))
-        (committed_to h g _ (unless (cause_held h) (outputs h)) b.younger m.window
+        (committed_to h g (committed_as (happens blocks budget window.Commit m.window).over h b.younger
+        (record m { window = happens blocks budget window.Commit m.window }))
+        (unless (cause_held h) (outputs h)) b.younger m.window
         (ap (λ (s : State). length s.trace) same)
         (committed_window h (happens blocks budget window.Commit m.window).over b.younger
         (record m { window = happens blocks budget window.Commit m.window }) ∙ now))

@@ -84,6 +84,25 @@ filled_is f e p q h w none = go (is_target (target f.code q)) refl (some_or (at 
 
 -- entering -----------------------------------------------------------------------------------------
 
+and_off : (a b : Bool) → b ≡ false → (a && b) ≡ false
+and_off true b e = e
+and_off false b e = refl
+
+and_on : (a b : Bool) → b ≡ true → (a && b) ≡ a
+and_on true b e = e
+and_on false b e = refl
+
+-- a token is launched to its target
+launched : (from : ℕ) (f : Frame) (n : ℕ) (b : Bool) (q : ℕ) (old : Stand) → b ≡ is_target q → old ≡ Nowhere
+    → cond b (parcel n from (home f.code q)) old ≡ launch n from (target_at f.code q)
+launched from f n b q old e z =
+    ap₂ (λ b s. cond b (parcel n from (home f.code q)) s) e z ∙ go (is_target q)
+  where
+    go : (b : Bool) → cond b (parcel n from (home f.code q)) Nowhere
+        ≡ launch n from (cond b (Some (record { spot = q; there = home f.code q })) None)
+    go true = refl
+    go false = refl
+
 module _ {W : Type 0} (from : ℕ) (f : Frame) where
   abbrev pub born : Grid W → ℕ
   born g = slice_index g.window.generations f.number
@@ -113,10 +132,6 @@ module _ {W : Type 0} (from : ℕ) (f : Frame) where
   born_same : (g : Grid W) (place : ℕ) → born (enters_if from f place g) ≡ born g
   born_same g place = ap born (one_only g (is_some (at f.places place)) place (home f.code (target f.code place)))
 
-  and_off : (a b : Bool) → b ≡ false → (a && b) ≡ false
-  and_off true b e = e
-  and_off false b e = refl
-
   -- other places keep their parcels
   pub both_other : (g : Grid W) (place q : ℕ) → q ≢ place → q ≢ suc place
       → (enter_both from f place g).parcels f.number q ≡ g.parcels f.number q
@@ -126,21 +141,6 @@ module _ {W : Type 0} (from : ℕ) (f : Frame) where
       ∙ cond-false _ _ _ (and_off _ _ (ne_eqb q (suc place) m))
       ∙ one_entered g (is_some (at f.places place)) place (home f.code (target f.code place)) q
       ∙ cond-false _ _ _ (and_off _ _ (ne_eqb q place n))
-
-  -- a token is launched to its target
-  launched : (n : ℕ) (b : Bool) (q : ℕ) (old : Stand) → b ≡ is_target q → old ≡ Nowhere
-      → cond b (parcel n from (home f.code q)) old ≡ launch n from (target_at f.code q)
-  launched n b q old e z =
-      ap₂ (λ b s. cond b (parcel n from (home f.code q)) s) e z ∙ go (is_target q)
-    where
-      go : (b : Bool) → cond b (parcel n from (home f.code q)) Nowhere
-          ≡ launch n from (cond b (Some (record { spot = q; there = home f.code q })) None)
-      go true = refl
-      go false = refl
-
-  and_on : (a b : Bool) → b ≡ true → (a && b) ≡ a
-  and_on true b e = e
-  and_on false b e = refl
 
   pub first_enters : (g : Grid W) (place : ℕ) → is_some (at f.places place) ≡ is_target (target f.code place)
       → g.parcels f.number place ≡ Nowhere
@@ -153,7 +153,7 @@ module _ {W : Type 0} (from : ℕ) (f : Frame) where
       ∙ one_entered g (is_some (at f.places place)) place (home f.code (target f.code place)) place
       ∙ ap (λ b. cond b (parcel (born g) from (home f.code (target f.code place))) (g.parcels f.number place))
       (and_on (is_some (at f.places place)) (place == place) (eq-eqb place place refl))
-      ∙ launched (born g) (is_some (at f.places place)) (target f.code place) (g.parcels f.number place) e z
+      ∙ launched from f (born g) (is_some (at f.places place)) (target f.code place) (g.parcels f.number place) e z
 
   pub second_enters : (g : Grid W) (place : ℕ)
       → is_some (at f.places (suc place)) ≡ is_target (target f.code (suc place))
@@ -169,5 +169,5 @@ module _ {W : Type 0} (from : ℕ) (f : Frame) where
       ∙ ap₂ (λ n s. cond (is_some (at f.places (suc place))) (parcel n from to) s) (born_same g place)
       (one_entered g (is_some (at f.places place)) place (home f.code (target f.code place)) (suc place)
       ∙ cond-false _ _ _ (and_off _ _ (ne_eqb (suc place) place (λ w. absurd (omega (arith, w))))))
-      ∙ launched (born g) (is_some (at f.places (suc place))) (target f.code (suc place))
+      ∙ launched from f (born g) (is_some (at f.places (suc place))) (target f.code (suc place))
       (g.parcels f.number (suc place)) e z

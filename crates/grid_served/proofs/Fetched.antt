@@ -1,5 +1,5 @@
 -- Part (2): with a frame in flight the oldest one stays as it is; without one the fetch of the next block goes on.
-use Rattle.std.proofs.Common.{◌≡◌, ◌≢◌, ℕ, zero, suc, ◌+◌, ◌-◌, ◌^◌, ◌<◌, ◌≤◌, ◌==◌, ◌&&◌, ◌||◌, Bool, true, false, cond}
+use Rattle.std.proofs.Common.{◌≡◌, ◌≢◌, ℕ, zero, suc, ◌+◌, ◌-◌, ◌^◌, ◌<◌, ◌≤◌, ◌==◌, ◌&&◌, ◌||◌, ◌⊎◌, inl, inr, Bool, true, false, cond}
 use Rattle.std.proofs.Common.{not, nat_lt, List, [], ◌∷◌, ◌++◌, length, Option, Some, None, is_none, is_some, slice_get}
 use Rattle.std.proofs.Common.{slice_index, slice_index_or, slice_set, get_or, refl, sym, ap, ap₂, ◌∙◌, subst, arith}
 use Rattle.std.proofs.Math.Path.{fun_ext}
@@ -53,6 +53,33 @@ going stepped.Ended h e = absurd (cc)
 going stepped.StackFull h e = absurd (cc)
 going (stepped.Trap c) h e = absurd (cc)
 
+module _ (blocks : List Block) (budget : ℕ) where
+  -- a fetch that is done fills an empty frame with a block of the image
+  record Filling (w : Window) (k : ℕ) : Type 0 where
+    number : ℕ
+    is_number : lowest_empty 8 0 w.frames ≡ Some number
+    code : Block
+    is_code : slice_get blocks k ≡ Some code
+    now : happens blocks budget (window.Fetch k) w ≡ record w {
+      generations = slice_set w.generations number (slice_index w.generations number + 1);
+      frames = w.frames ++ fresh number k code ∷ [];
+    }
+
+  filling : (w : Window) (k : ℕ) → can blocks budget (window.Fetch k) w ≡ Done → Filling w k
+  filling w k c =
+      let d : can_fetch blocks k w ≡ Done = going w.over (can_fetch blocks k w) c in
+      let a = not_now (is_none (lowest_empty 8 0 w.frames)) NoFrame _ d in
+      let b = not_now (is_none (slice_get blocks k)) NoBlock _ a.1 in
+      let n : (m : ℕ) × (lowest_empty 8 0 w.frames ≡ Some m) = some_of (lowest_empty 8 0 w.frames) a.0 in
+      let x : (b : Block) × (slice_get blocks k ≡ Some b) = some_of (slice_get blocks k) b.0 in
+      record {
+        number = n.0;
+        is_number = n.1;
+        code = x.0;
+        is_code = x.1;
+        now = taken blocks budget (window.Fetch k) w c ∙ ap₂ (λ o b. fetched k o b w) n.1 x.1;
+      }
+
 -- where a fetch begins -----------------------------------------------------------------------------
 
 module _ {W : Type 0} (blocks : List Block) (budget : ℕ) where
@@ -101,32 +128,6 @@ module _ {W : Type 0} (blocks : List Block) (budget : ℕ) where
 
   -- with a frame in flight -------------------------------------------------------------------------
 
-  -- a fetch that is done fills an empty frame with a block of the image
-  record Filling (w : Window) (k : ℕ) : Type 0 where
-    number : ℕ
-    is_number : lowest_empty 8 0 w.frames ≡ Some number
-    code : Block
-    is_code : slice_get blocks k ≡ Some code
-    now : happens blocks budget (window.Fetch k) w ≡ record w {
-      generations = slice_set w.generations number (slice_index w.generations number + 1);
-      frames = w.frames ++ fresh number k code ∷ [];
-    }
-
-  filling : (w : Window) (k : ℕ) → can blocks budget (window.Fetch k) w ≡ Done → Filling w k
-  filling w k c =
-      let d : can_fetch blocks k w ≡ Done = going w.over (can_fetch blocks k w) c in
-      let a = not_now (is_none (lowest_empty 8 0 w.frames)) NoFrame _ d in
-      let b = not_now (is_none (slice_get blocks k)) NoBlock _ a.1 in
-      let n : (m : ℕ) × (lowest_empty 8 0 w.frames ≡ Some m) = some_of (lowest_empty 8 0 w.frames) a.0 in
-      let x : (b : Block) × (slice_get blocks k ≡ Some b) = some_of (slice_get blocks k) b.0 in
-      record {
-        number = n.0;
-        is_number = n.1;
-        code = x.0;
-        is_code = x.1;
-        now = taken blocks budget (window.Fetch k) w c ∙ ap₂ (λ o b. fetched k o b w) n.1 x.1;
-      }
-
   module _ (g : Grid W) (f : Frame) (fs : List Frame) (i : g.window.frames ≡ f ∷ fs) where
     quiet : (x : Option Fetching) → Behind f g (record g { fetching = x })
     quiet x = record {
@@ -145,8 +146,8 @@ module _ {W : Type 0} (blocks : List Block) (budget : ℕ) where
         → Behind f g (fills blocks budget x g)
     filled_behind x e =
         let v : Window = happens blocks budget (window.Fetch x.block) g.window in
-        let q : Filling g.window x.block =
-        filling g.window x.block (done_is (can blocks budget (window.Fetch x.block) g.window) e) in
+        let q : Filling blocks budget g.window x.block =
+        filling blocks budget g.window x.block (done_is (can blocks budget (window.Fetch x.block) g.window) e) in
         let free : in_flight q.number (f ∷ fs) ≡ false =
         subst (λ l. in_flight q.number l ≡ false) i (lowest_is 8 0 g.window.frames q.number q.is_number).1 in
         let other : (f.number == q.number) ≡ false =
@@ -249,9 +250,11 @@ module _ {W : Type 0} (blocks : List Block) (budget : ℕ) (g : Grid W) (i : g.w
   abbrev c : Course
   c = course_of b t
 
-  -- what the fetch comes to, which the lane makes of the stage before
-  abbrev Comes : Grid W → Stage → Type 0
-  Comes h s = (n : ℕ) × (stage_of c h h.window.frames ≡ fetching n c s)
+  -- what the fetch comes to, which the lane makes of the stage before: no frame is in flight, or the one that was filled
+  pub record Comes (h : Grid W) (s : Stage) : Type 0 where
+    pub generation : ℕ
+    pub stage : stage_of c h h.window.frames ≡ fetching generation c s
+    pub frames : (h.window.frames ≡ []) ⊎ (h.window.frames ≡ fresh 0 g.window.state.next b ∷ [])
 
   no_frame : has_room g.window ≡ true
   no_frame = ap (λ l. is_some (lowest_empty 8 0 l) && not (after_all l (committed g.window.state)).serial) i
@@ -275,7 +278,11 @@ module _ {W : Type 0} (blocks : List Block) (budget : ℕ) (g : Grid W) (i : g.w
   B = begun g.window.state.next (stands g.standing g.window.state.next) g
 
   idle_begins : g.fetching ≡ None → Comes (begins blocks g) (fetch_of g None)
-  idle_begins e = subst (λ h. Comes h (fetch_of g None)) (sym it) (0, ap (stage_of c B) i)
+  idle_begins e = subst (λ h. Comes h (fetch_of g None)) (sym it) (record {
+    generation = 0;
+    stage = ap (stage_of c B) i;
+    frames = inl i;
+  })
     where
       it : begins blocks g ≡ B
       it = ap (λ o. fetch_begins blocks o g) e ∙ cond-true (has_room g.window) _ _ no_frame
@@ -305,9 +312,13 @@ module _ {W : Type 0} (blocks : List Block) (budget : ℕ) (g : Grid W) (i : g.w
         (lane.Fetching (Some 0) x.careful)
     fetch_fills = subst (λ m. Comes (begins blocks m) (lane.Fetching (Some 0) x.careful))
         (sym (ap (λ b. fill_where b blocks budget x g) (ap is_done (next_may x.block e))))
-        (slice_index H.window.generations 0, ap (stage_of c H) one_frame
-        ∙ ap Running (fresh_front H 0 x.block b t
-        ∙ ap (λ k. sending.fresh (slice_index H.window.generations 0) c k) careful_is))
+        (record {
+          generation = slice_index H.window.generations 0;
+          stage = ap (stage_of c H) one_frame
+              ∙ ap Running (fresh_front H 0 x.block b t
+              ∙ ap (λ k. sending.fresh (slice_index H.window.generations 0) c k) careful_is);
+          frames = inr (one_frame ∙ ap (λ k. fresh 0 k b ∷ []) e);
+        })
 
   -- the lane's fetch goes on as the grid's does
   pub fetches_come : IsDue g g.fetching → Comes (fetches blocks budget g) (fetch_of g g.fetching)
@@ -320,4 +331,8 @@ module _ {W : Type 0} (blocks : List Block) (budget : ℕ) (g : Grid W) (i : g.w
         where
           left : (n : ℕ) → Comes (begins blocks (fetch_on blocks budget n x g)) (lane.Fetching (Some n) x.careful)
           left zero = fetch_fills x d
-          left (suc n) = (0, ap (stage_of c (record g { fetching = Some (record x { left = n }) })) i)
+          left (suc n) = record {
+            generation = 0;
+            stage = ap (stage_of c (record g { fetching = Some (record x { left = n }) })) i;
+            frames = inl i;
+          }

@@ -123,7 +123,7 @@ module _ {W : Type 0} (blocks : List Block) (good : AllGood blocks) (budget : �
   F = front_of c h e
 
   own_ok : FrameOk blocks (committed h.window.state) e
-  own_ok = oldest_ok blocks budget h.window e younger i ok
+  own_ok = oldest_ok blocks budget h.window e younger ok i
 
   -- where a slot is in a unit
   module _ (m : Grid W) (s : ℕ) (works : h.works e.number s ≡ true) (window : m.window ≡ h.window)

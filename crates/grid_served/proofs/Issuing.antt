@@ -101,7 +101,7 @@ module _ {W : Type 0} (blocks : List Block) (good : AllGood blocks) (budget : �
   picked x = on_tile x && not (any x on_tile)
 
   own_ok : FrameOk blocks (committed m.window.state) e
-  own_ok = oldest_ok blocks budget m.window e younger i ok
+  own_ok = oldest_ok blocks budget m.window e younger ok i
 
   -- what is ready is a slot with an instruction
   pub record IsSlot (x : ℕ) : Type 0 where
@@ -173,7 +173,7 @@ module _ {W : Type 0} (blocks : List Block) (good : AllGood blocks) (budget : �
     pub code : frame.code ≡ e.code
     pub spots : frame.spots ≡ e.spots
     pub stores : frame.stores ≡ e.stores
-    pub runs : frame.sealed ≡ false
+    pub goes : frame.sealed ≡ false
     pub come : has_come frame ≡ has_come e
     pub generation : slice_index h.window.generations frame.number ≡ slice_index m.window.generations e.number
     pub careful : h.careful frame.number ≡ m.careful e.number
@@ -193,7 +193,7 @@ module _ {W : Type 0} (blocks : List Block) (good : AllGood blocks) (budget : �
     code = refl;
     spots = refl;
     stores = refl;
-    runs = runs;
+    goes = runs;
     come = refl;
     generation = b.generation;
     careful = b.careful;
@@ -321,7 +321,7 @@ module _ {W : Type 0} (blocks : List Block) (good : AllGood blocks) (budget : �
       code = facts.code;
       spots = facts.spots;
       stores = facts.stores;
-      runs = facts.sealed ∙ runs;
+      goes = facts.sealed ∙ runs;
       come = came_same e E facts.spots facts.stores facts.exit;
       generation = ap (λ (w : Window). slice_index w.generations E.number) after_is
           ∙ ap (λ n. slice_index m.window.generations n) facts.number;

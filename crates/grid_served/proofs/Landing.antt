@@ -7,7 +7,7 @@ use Rattle.std.proofs.lemmas.Bool.{eq-eqb, or_right}
 use Rattle.operand_net.specs.declared.parcel.Stand.{Stand}
 use Rattle.operand_net.specs.declared.parcel.Stand.TheVariants.{Nowhere, Away, Held}
 use Rattle.operand_net.specs.declared.parcel.Trip.{Trip}
-use Rattle.operand_net.specs.Tick.{next_of, ticked, any_wants, is_free, wants}
+use Rattle.operand_net.specs.Tick.{link_of, next_of, ticked, any_wants, is_free, wants}
 use Rattle.trips_isa.specs.declared.block.Token.{Token}
 use Rattle.trips_isa.specs.declared.block.Block.{Block}
 use Rattle.trips_isa.specs.Rule.{Answer}
@@ -99,7 +99,8 @@ pub free_same : (busy : ℕ → Bool) (r q : ℕ → Stand) (p : ℕ) (s : Stand
     → is_free busy r p s ≡ is_free busy q p s
 free_same busy r q p Nowhere h = refl
 free_same busy r q p (Held trip n) h = refl
-free_same busy r q p (Away trip a) h = ap (λ b. not (busy _ || b)) (any_same p r q _ h)
+free_same busy r q p (Away trip a) h =
+    ap (λ b. not (busy (link_of a trip.to) || b)) (any_same p r q (link_of a trip.to) h)
 
 -- what has come ------------------------------------------------------------------------------------
 

@@ -29,3 +29,9 @@ pub mod Arriving
 pub mod Arrived
 pub mod Moved
 pub mod UnitsKept
+pub mod Idle
+pub mod Turned
+pub mod Rest
+pub mod Together
+pub mod Bounded
+pub mod FarUnits

@@ -37,7 +37,7 @@ use Rattle.grid_cycle_spec.specs.Arrivals.{is_waiting}
 use Rattle.grid_cycle_spec.specs.Choosing.{with_frame}
 use Rattle.grid_cycle_spec.specs.Sending.{enter_both}
 use Rattle.grid_cycle_spec.specs.DataTiles.{tile_by, unasked}
-use Rattle.grid_cycle_spec.specs.DataTiles as data
+use Rattle.grid_cycle_spec.specs.DataTiles as tiles
 use Rattle.grid_cycle_bound.specs.Course.{Kind, Course, Task, Serving}
 use Rattle.grid_cycle_bound.specs.Lane.{Phase, Sent, Front}
 use Rattle.grid_cycle_bound.specs.Sending.{launch, sent_from}
@@ -97,7 +97,7 @@ module _ {W : Type 0} (blocks : List Block) (good : AllGood blocks) (budget : �
     abbrev word : ℕ
     word = taken_word o e k bytes
 
-    token : (x : Token) × (token_with e (slot_node e.code s) word ≡ Some x)
+    pub token : (x : Token) × (token_with e (slot_node e.code s) word ≡ Some x)
     token = some (token_with e (slot_node e.code s) word)
         (token_there e (slot_node e.code s) 0 word
         (asking.ask blocks good budget h e younger i ok rule k asked).ready)
@@ -240,7 +240,7 @@ module _ {W : Type 0} (blocks : List Block) (good : AllGood blocks) (budget : �
         (ap (λ (m : Grid W). slice_index m.window.generations e.number) only ∙ born_is) (fun_ext phases)
         (fun_ext come_is) (ap (λ (m : Grid W). m.careful e.number) only)
 
-    pub turn_is : data.load_answered blocks budget d e.number k s h ≡ H
+    pub turn_is : tiles.load_answered blocks budget d e.number k s h ≡ H
     turn_is = ap (λ l. with_frame e.number (λ f h. enter_both (data_node d) f (2 * s) h) l M)
         (ap (λ (w : Window). w.frames) after_is)
         ∙ cond-true (e.number == e.number) _ _ (same_number e.number)

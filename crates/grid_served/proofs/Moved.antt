@@ -45,7 +45,6 @@ use Rattle.grid_served.proofs.Walk.{each_keeps, comes_keeps}
 use Rattle.grid_served.proofs.Others.{behind_at, behind_then, arrival_other}
 use Rattle.grid_served.proofs.Ended.{oldest_ok}
 use Rattle.grid_served.proofs.Fronts.{front_behind, left_unit, slot_far, slot_phase_is, far_same, same_front, at_slot, at_read}
-use Rattle.grid_served.proofs.Ticks.{RowMoves}
 use Rattle.grid_served.proofs.Landing.{due, due_is, not_taken, ticked_there, there_is, not_there, free_same, any_pairs}
 use Rattle.grid_served.proofs.Arriving.{land_first, land_second, AtPlace, T, part, lands}
 use Rattle.grid_served.proofs.Arrived.{place_turns}
@@ -74,7 +73,7 @@ slot_moves Reading true false d a x y h j p q n = refl
 slot_moves Plain true false d a x y h j p q n = refl
 slot_moves Serving true false true true x y h j p q n = refl
 slot_moves Serving true false true false x y h j p q n =
-    request_by (ticked x h p) (moving.taken (ticked x h p)) _
+    request_by (ticked x h p) (moving.taken (ticked x h p)) Nowhere
     (there_is (ticked x h p) (ticked_there x h p ∙ not_there p (n refl))) refl
 slot_moves Serving true false false a x y h j p q n = refl
 
@@ -369,6 +368,7 @@ module _ {W : Type 0} (blocks : List Block) (good : AllGood blocks) (budget : �
 
   -- the frames move as the lane does
   pub arrivals_serve : Shows c f (arrivals blocks budget (numbers_of m.window.frames) N) (move_front hold F)
+  unfolding own_moves
   arrivals_serve =
       let apart : Apart e.number fs =
       subst (λ n. Apart n fs) (sym last.number) (younger_apart blocks budget m.window f fs ok i) in

@@ -1,5 +1,5 @@
 -- What other frames do, the oldest frame does not see.
-use Rattle.std.proofs.Common.{◌≡◌, ℕ, suc, ◌+◌, ◌*◌, ◌/◌, ◌<◌, ◌==◌, ◌&&◌, ◌||◌, Bool, true, false, cond, nat_lt}
+use Rattle.std.proofs.Common.{◌≡◌, ℕ, zero, suc, ◌+◌, ◌*◌, ◌/◌, ◌<◌, ◌==◌, ◌&&◌, ◌||◌, Bool, true, false, cond, nat_lt}
 use Rattle.std.proofs.Common.{List, [], ◌∷◌, Option, Some, None, length, drop, is_some, slice_index, refl, sym, ap, ap₂}
 use Rattle.std.proofs.Common.{◌∙◌, subst}
 use Rattle.std.proofs.lemmas.Bool.{cond_both, or_from}
@@ -44,15 +44,16 @@ none_dropped n zero fs a = none_of n fs a
 none_dropped n (suc k) [] a = refl
 none_dropped n (suc k) (f ∷ fs) a = none_dropped n k fs a.1
 
+-- the frame of a parcel
+abbrev frame_in : Option Parcel → ℕ
+frame_in None = 0
+frame_in (Some c) = c.frame
+
 -- what has come is the parcel of its frame
 come_from : (f p : ℕ) (s : Stand) (c : Parcel) → come f p s ≡ Some c → f ≡ c.frame
 come_from f p Nowhere c e = absurd (cc)
 come_from f p (Away t a) c e = absurd (cc)
 come_from f p (Held t zero) c e = ap frame_in e
-  where
-    frame_in : Option Parcel → ℕ
-    frame_in None = 0
-    frame_in (Some c) = c.frame
 come_from f p (Held t (suc h)) c e = absurd (cc)
 
 module _ {W : Type 0} (blocks : List Block) (budget : ℕ) (f : Frame) (g : Grid W) where

@@ -61,7 +61,7 @@ module _ {W : Type 0} (blocks : List Block) (good : AllGood blocks) (budget : â„
   F = front_of c h e
 
   pub own_ok : FrameOk blocks o e
-  own_ok = oldest_ok blocks budget h.window e younger i ok
+  own_ok = oldest_ok blocks budget h.window e younger ok i
 
   abbrev pub here : StandsFor h e k
   here = rule.standing k asked

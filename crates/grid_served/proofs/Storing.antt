@@ -43,7 +43,7 @@ use Rattle.grid_cycle_spec.specs.Arrivals.{is_waiting}
 use Rattle.grid_cycle_spec.specs.Choosing.{least}
 use Rattle.grid_cycle_spec.specs.DataTiles.{tile_by, unasked, stored_by, load_in, wrong_behind, wrong_from, wrong_load}
 use Rattle.grid_cycle_spec.specs.DataTiles.{waits_now}
-use Rattle.grid_cycle_spec.specs.DataTiles as data
+use Rattle.grid_cycle_spec.specs.DataTiles as tiles
 use Rattle.grid_cycle_spec.specs.Fetches.{stands}
 use Rattle.grid_cycle_bound.specs.Course.{Course, Task, Target}
 use Rattle.grid_cycle_bound.specs.Lane.{Phase, Sent, Front, Stage}
@@ -144,7 +144,7 @@ module _ {W : Type 0} (blocks : List Block) (good : AllGood blocks) (budget : â„
     base = record A { window = after }
 
     abbrev pub H : Grid W
-    H = data.store_resolved blocks budget e.number k h
+    H = tiles.store_resolved blocks budget e.number k h
 
     -- the store flushes its own frame ----------------------------------------------------------------
 
@@ -160,7 +160,7 @@ module _ {W : Type 0} (blocks : List Block) (good : AllGood blocks) (budget : â„
       pub not_careful : F.careful â‰¡ false
       not_careful = false_from_ne_true (h.careful e.number) (Î» z. both_ways wrong
           (not_violated e k (at V.stores) own_ok.sized.loads
-          (in_the_mask blocks good o e younger own_ok k s
+          (in_the_mask blocks good o e younger own_ok k s j
           (asking.here blocks good budget h e younger i ok rule k asked).waits is_slot stores unresolved)
           unresolved (rule.careful z)) bad)
 

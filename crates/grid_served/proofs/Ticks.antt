@@ -1,15 +1,8 @@
 -- Part (6), the tick: the parcels of the oldest frame wait for no others.
 use Rattle.std.proofs.Common.{◌≡◌, ℕ, suc, ◌+◌, ◌<◌, ◌≤◌, List, ◌∷◌, length, get_or, refl, ap, ◌∙◌, arith}
-use Rattle.operand_net.specs.declared.parcel.Stand.{Stand}
 use Rattle.operand_net.specs.Places.{Places}
-use Rattle.operand_net.specs.Tick.{is_free, ticked, Ticked, RowTicked, frames_want}
-use Rattle.grid_cycle_bound.specs.Sending.{none_busy}
-
--- where the parcels of a frame stand after a tick that no elder parcel hinders
-pub record RowMoves (before after : ℕ → Stand) : Type 0 where
-  pub hold : ℕ → ℕ
-  pub holds : (p : ℕ) → hold p ≤ 3
-  pub moves : (p : ℕ) → p < 320 → after p ≡ ticked (is_free none_busy before p (before p)) (hold p) (before p)
+use Rattle.operand_net.specs.Tick.{Ticked, RowTicked, frames_want}
+use Rattle.grid_served.specs.Parts.{RowMoves}
 
 pub oldest_ticks : {W : Type 0} (next : W → ℕ) (follows : W → W → Type 0) → ((w : W) → next w ≤ 3)
     → (n k : ℕ) (ns : List ℕ) (before after : Places) (v w : W)

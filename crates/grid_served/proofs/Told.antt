@@ -1,7 +1,8 @@
 -- The table of what a frame sees: the committed state and the frame's own stores answer its reads and loads. It hangs on
 -- the block and the stores alone, and where a store has come the front is retold by the table of what is seen then.
 use Rattle.std.proofs.Common.{◌≡◌, ℕ, suc, ◌+◌, ◌-◌, ◌<◌, ◌≤◌, ◌⊎◌, inl, inr, Bool, true, false, cond, not, nat_lt, List}
-use Rattle.std.proofs.Common.{Option, Some, None, slice_get, refl, sym, ap, ◌∙◌, arith, true≢false}
+use Rattle.std.proofs.Common.{Option, Some, None, slice_get, refl, sym, ap, ap₂, ◌∙◌, subst, arith, true≢false}
+use Rattle.std.proofs.Math.Path.{fun_ext}
 use Rattle.std.proofs.lemmas.Bool.{cases_lt, and_left, and_right, false_from_ne_true, and_parts, not-true}
 use Rattle.trips_isa.specs.declared.block.Inst.{Inst}
 use Rattle.trips_isa.specs.declared.block.ReadSlot.{ReadSlot}
@@ -9,17 +10,19 @@ use Rattle.trips_isa.specs.declared.block.Stored.{Stored}
 use Rattle.trips_isa.specs.declared.block.Block.{Block}
 use Rattle.trips_isa.specs.declared.form.Form.{Form}
 use Rattle.trips_isa.specs.declared.form.Form.TheVariants as form
-use Rattle.trips_isa.specs.Forms.{form_of}
+use Rattle.trips_isa.specs.Forms.{form_of, size_of}
 use Rattle.trips_isa.specs.Places.{nodes_of}
 use Rattle.trips_isa.specs.Rule.{Answer}
+use Rattle.trips_isa.specs.Stores.{bytes_seen}
 use Rattle.trips_isa.specs.Tables.{pulled, deepest}
-use Rattle.trips_isa.specs.Blocks.{Responses, Solves, at_place, computes}
+use Rattle.trips_isa.specs.Blocks.{Responses, Solves, at_place, computes, is_read, inst_at}
 use Rattle.block_cases.specs.Orders.{slot_of}
 use Rattle.block_cases.proofs.Unique.{pulled_is_table}
 use Rattle.commit_flush_spec.specs.Frames.{Frame, at}
 use Rattle.commit_flush_spec.specs.Older.{Older}
 use Rattle.commit_flush_spec.specs.Invariant.{AllGood, Below, FrameOk, Holds}
-use Rattle.commit_flush_spec.proofs.Frames.{seen, seen_agrees}
+use Rattle.commit_flush_spec.specs.Dataflow.{read_seen}
+use Rattle.commit_flush_spec.proofs.Frames.{or_zero, slot_seen, seen_if_read, seen, seen_agrees}
 use Rattle.window_progress.specs.Observers.{is_ready}
 use Rattle.grid_cycle_spec.specs.Grid.{Grid}
 use Rattle.grid_cycle_bound.specs.Course.{Course, Good, Task, Kind, is_reading}
@@ -30,16 +33,28 @@ use Rattle.grid_cycle_bound.specs.Seen.{read_phase, front_of}
 use Rattle.grid_cycle_bound.proofs.Courses.{course_good}
 use Rattle.grid_cycle_bound.proofs.Ready.{ready_seen}
 use Rattle.grid_cycle_bound.proofs.Sizes.{slot_tasks_is, read_is}
+use Rattle.grid_served.specs.Parts.{Tells}
+use Rattle.grid_served.specs.Lanes.{or_none, finds, sees_at, sees, table_in}
 use Rattle.grid_served.proofs.Fronts.{at_read}
 
 -- the table
 unfoldable pub told : Older → Frame → ℕ → Answer
 told o f = pulled (nodes_of f.code) (computes f.code (seen o f)) deepest
 
+pub table_solves : (blocks : List Block) → AllGood blocks → (o : Older) (f : Frame)
+    → slice_get blocks f.block ≡ Some f.code → Solves f.code (seen o f) (told o f)
+unfolding told
+table_solves blocks good o f code =
+    pulled_is_table (nodes_of f.code) (good f.block f.code code).good.ranked (computes f.code (seen o f))
+
+pub table_good : (blocks : List Block) → AllGood blocks → (o : Older) (f : Frame)
+    → slice_get blocks f.block ≡ Some f.code → Good (course_of f.code (told o f))
+table_good blocks good o f code =
+    course_good f.code (good f.block f.code code) (seen o f) (told o f) (table_solves blocks good o f code)
+
 module _ (blocks : List Block) (good : AllGood blocks) (o : Older) (f : Frame) (ok : FrameOk blocks o f) where
   pub told_solves : Solves f.code (seen o f) (told o f)
-  unfolding told
-  told_solves = pulled_is_table (nodes_of f.code) (good f.block f.code ok.code).good.ranked (computes f.code (seen o f))
+  told_solves = table_solves blocks good o f ok.code
 
   pub told_holds : Holds blocks f (told o f)
   told_holds = ok.holds (seen o f) (told o f) told_solves (seen_agrees o f)
@@ -47,12 +62,55 @@ module _ (blocks : List Block) (good : AllGood blocks) (o : Older) (f : Frame) (
   pub told_good : Good (course_of f.code (told o f))
   told_good = course_good f.code (good f.block f.code ok.code) (seen o f) (told o f) told_solves
 
--- the same block and stores make the same table
+-- the same block and stores are seen the same
+seen_same : (o : Older) (e f : Frame) → e.code ≡ f.code → e.stores ≡ f.stores → (x address : ℕ)
+    → seen o e x address ≡ seen o f x address
+unfolding seen
+seen_same o e f c s x address =
+    ap (λ (z : Block). seen_if_read (is_read z x) o e x address) c ∙ go (is_read f.code x)
+  where
+    slot : (i : Option Inst) → slot_seen o e i address ≡ slot_seen o f i address
+    slot None = refl
+    slot (Some i) = ap (λ (l : List (Option Stored)). bytes_seen (at l) o.memory i.number address (size_of i.op)) s
+
+    go : (b : Bool) → seen_if_read b o e x address ≡ seen_if_read b o f x address
+    go true = ap (λ (z : Block). or_zero (read_seen o (slice_get z.reads.items x))) c
+    go false = ap (λ (z : Block). slot_seen o e (inst_at z x) address) c ∙ slot (inst_at f.code x)
+
+-- and make the same table
 pub told_same : (o : Older) (e f : Frame) → e.code ≡ f.code → e.stores ≡ f.stores → told o e ≡ told o f
-unfolding told seen
+unfolding told
 told_same o e f c s =
-    ap (λ (b : Block). told o (record f { code = b; stores = e.stores })) c
-    ∙ ap (λ (l : List (Option Stored)). told o (record f { stores = l })) s
+    ap₂ (λ (b : Block) (r : Responses). pulled (nodes_of b) (computes b r) deepest) c
+    (fun_ext (λ x. fun_ext (λ y. seen_same o e f c s x y)))
+
+seen_sees : (o : Older) (f : Frame) (x address : ℕ) → seen o f x address ≡ sees o f x address
+unfolding seen
+seen_sees o f x address = go (is_read f.code x)
+  where
+    word : (q : Option ℕ) → or_zero q ≡ or_none q
+    word None = refl
+    word (Some w) = refl
+
+    slot : (i : Option Inst) → slot_seen o f i address ≡ finds o f i address
+    slot None = refl
+    slot (Some i) = refl
+
+    go : (b : Bool) → seen_if_read b o f x address ≡ sees_at b o f x address
+    go true = word (read_seen o (slice_get f.code.reads.items x))
+    go false = slot (inst_at f.code x)
+
+-- the lane's table is this one
+pub told_table : (o : Older) (f : Frame) → told o f ≡ table_in o f
+unfolding told
+told_table o f = ap (λ (r : Responses). pulled (nodes_of f.code) (computes f.code r) deepest)
+    (fun_ext (λ x. fun_ext (λ a. seen_sees o f x a)))
+
+-- it tells what the frame gives
+pub table_tells : (blocks : List Block) → AllGood blocks → (o : Older) (f : Frame)
+    → slice_get blocks f.block ≡ Some f.code → Tells o f (table_in o f)
+table_tells blocks good o f code = subst (Tells o f) (told_table o f)
+    (record { seen = seen o f; agrees = seen_agrees o f; solves = table_solves blocks good o f code })
 
 -- two tables ----------------------------------------------------------------------------------------
 

@@ -253,7 +253,7 @@ module _ {W : Type 0} (blocks : List Block) (good : AllGood blocks) (budget : �
       code = v.code ∙ s.code;
       spots = v.spots ∙ s.spots;
       stores = v.stores ∙ s.stores;
-      runs = v.runs;
+      runs = v.goes;
       front = same_front (front_of c H v.frame) (unit_front (suc k)) refl
           (v.generation ∙ u.generation ∙ ap (λ (z : Front). z.generation) s.front) (fun_ext phases)
           (v.come ∙ come_same) (v.careful ∙ u.careful ∙ ap (λ (z : Front). z.careful) s.front);

@@ -82,7 +82,7 @@ module _ {W : Type 0} (blocks : List Block) (good : AllGood blocks) (budget : �
     pub code : frame.code ≡ f.code
     pub spots : frame.spots ≡ f.spots
     pub stores : frame.stores ≡ f.stores
-    pub runs : frame.sealed ≡ false
+    pub goes : frame.sealed ≡ false
     pub front : front_of (course_of f.code t) (each (unit_turn blocks budget) 16 g) frame ≡ turned
     pub own : (n : ℕ) → n < 16 → 1 ≤ units_after (less_one g.units) (finish_front (less_one g.units) F) n
         → (each (unit_turn blocks budget) 16 g).units n
@@ -97,7 +97,7 @@ module _ {W : Type 0} (blocks : List Block) (good : AllGood blocks) (budget : �
     code = s.code;
     spots = s.spots;
     stores = s.stores;
-    runs = s.runs;
+    goes = s.runs;
     front = s.front ∙ all_tiles;
     own = s.turned;
   }

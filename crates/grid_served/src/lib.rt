@@ -6,4 +6,6 @@
 
 mod law;
 
-pub use law::{banks_serve, fetches_serve, oldest_frames_end, probe};
+pub use law::{arrivals_serve, banks_serve, cycles_stay_within, data_tiles_serve, eager_cycles_serve};
+pub use law::{far_units_stay, fetches_serve, idle_parts, oldest_frames_end, oldest_parcels_tick};
+pub use law::{tables_tell, units_serve, units_stay};

@@ -6,4 +6,4 @@ returns-clause-held W c = λ blocks budget g f fs i. fetches_behind blocks budge
 
 pub returns-clause-fetched : goal.returns-clause-fetched
 returns-clause-fetched W c = λ blocks budget g b t i ok went room e due.
-    fetches_come blocks budget g i ok went room b e t due
+    let r = fetches_come blocks budget g i ok went room b e t due in (r.generation, r.stage)
