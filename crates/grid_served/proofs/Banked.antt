@@ -266,8 +266,10 @@ module _ {W : Type 0} (blocks : List Block) (good : AllGood blocks) (budget : �
         front = front_behind c e h m b ∙ a.front
             ∙ sym (same_front (read_front (suc k)) (read_front k) refl refl
             (fun_ext (λ x. same_next x (none_picked x))) refl refl);
-        quiet = λ r l z. (ap (λ p. p (256 + 2 * r)) b.parcels ∙ (a.quiet r l z).0,
-            ap (λ p. p (suc (256 + 2 * r))) b.parcels ∙ (a.quiet r l z).1);
+        quiet = λ r l z. (
+          ap (λ p. p (256 + 2 * r)) b.parcels ∙ (a.quiet r l z).0,
+          ap (λ p. p (suc (256 + 2 * r))) b.parcels ∙ (a.quiet r l z).1,
+        );
       }
 
     -- a read of the oldest frame -------------------------------------------------------------------
@@ -480,11 +482,12 @@ module _ {W : Type 0} (blocks : List Block) (good : AllGood blocks) (budget : �
             (subst (λ j. slice_index_or (set e.reads r true) j false ≡ true) (sym i)
             (flag_here e.reads r (let z : length e.reads ≡ 32 = own_ok.sized.reads in let l = small in
             omega (arith, z, l)))) in
-            let old = a.quiet j l (sym (get_or-set_other e.reads r j true false n) ∙ z) in
-            (both_other (bank_node k) E M (256 + 2 * r) (256 + 2 * j) (λ i. n (omega (arith, i)))
-            (λ i. absurd (omega (arith, i))) ∙ old.0,
-            both_other (bank_node k) E M (256 + 2 * r) (suc (256 + 2 * j)) (λ i. absurd (omega (arith, i)))
-            (λ i. n (omega (arith, i))) ∙ old.1);
+            let old = a.quiet j l (sym (get_or-set_other e.reads r j true false n) ∙ z) in (
+              both_other (bank_node k) E M (256 + 2 * r) (256 + 2 * j) (λ i. n (omega (arith, i)))
+                  (λ i. absurd (omega (arith, i))) ∙ old.0,
+              both_other (bank_node k) E M (256 + 2 * r) (suc (256 + 2 * j)) (λ i. absurd (omega (arith, i)))
+                  (λ i. n (omega (arith, i))) ∙ old.1,
+            );
       }
 
       turn_is : read_chosen blocks budget k (Some (e.number, r)) h ≡ H

@@ -31,9 +31,12 @@ least_some test (suc n) k j e = go (test k) refl e (least_some test n (suc k) j)
         → (suc k ≤ j) × (j < suc k + n) × (test j ≡ true) × ((i : ℕ) → suc k ≤ i → i < j → test i ≡ false))
         → (k ≤ j) × (j < k + suc n) × (test j ≡ true) × ((i : ℕ) → k ≤ i → i < j → test i ≡ false)
     go true t h r =
-        let same : k ≡ j = cc in
-        (omega (arith, same), omega (arith, same), subst (λ i. test i ≡ true) same t,
-        (λ i a b. absurd (omega (arith, same, a, b))))
+        let same : k ≡ j = cc in (
+          omega (arith, same),
+          omega (arith, same),
+          subst (λ i. test i ≡ true) same t,
+          (λ i a b. absurd (omega (arith, same, a, b))),
+        )
     go false t h r =
         let p = r h in
         let a : suc k ≤ j = p.0 in

@@ -45,17 +45,19 @@ pub slot_targets : (b : Block) (s : ℕ) (i : Inst) → s < 128 → slot_of b s 
     × (target b (suc (2 * s)) ≡ place_at i.second)
 slot_targets b s i l e =
     let even : 2 * s % 2 ≡ 0 = omega arith in
-    let n = node_of_slot b s i e in
-    (first_goes b (slot_node b s) (2 * s) even (slot_source b s l) ∙ ap (λ n. named_at n true) n,
-    second_goes b (slot_node b s) (2 * s) even (slot_source b s l) ∙ ap (λ n. named_at n false) n)
+    let n = node_of_slot b s i e in (
+      first_goes b (slot_node b s) (2 * s) even (slot_source b s l) ∙ ap (λ n. named_at n true) n,
+      second_goes b (slot_node b s) (2 * s) even (slot_source b s l) ∙ ap (λ n. named_at n false) n,
+    )
 
 pub read_targets : (b : Block) (r : ℕ) (slot : ReadSlot) → slice_get b.reads.items r ≡ Some slot
     → (target b (256 + 2 * r) ≡ place_of slot.first) × (target b (suc (256 + 2 * r)) ≡ place_at slot.second)
 read_targets b r slot e =
     let even : (256 + 2 * r) % 2 ≡ 0 = omega arith in
-    let n = node_of_read b r slot e in
-    (first_goes b r (256 + 2 * r) even (read_source b r) ∙ ap (λ n. named_at n true) n,
-    second_goes b r (256 + 2 * r) even (read_source b r) ∙ ap (λ n. named_at n false) n)
+    let n = node_of_read b r slot e in (
+      first_goes b r (256 + 2 * r) even (read_source b r) ∙ ap (λ n. named_at n true) n,
+      second_goes b r (256 + 2 * r) even (read_source b r) ∙ ap (λ n. named_at n false) n,
+    )
 
 -- which places are filled --------------------------------------------------------------------------
 

@@ -353,11 +353,12 @@ module _ {W : Type 0} (blocks : List Block) (good : AllGood blocks) (budget : �
   each_other n o zero l h b = b
   each_other n o (suc k) l h b =
       let x : Grid W = each (arrival blocks budget n) k h in
-      let d : Others x = each_other n o k (omega (arith, l)) h b in
-      (arrival_other blocks budget e H n k l o x ((d.1).ok ok) d.0,
-      then_onward blocks budget m.window x.window (arrival blocks budget n k x).window d.1
-      (comes_keeps blocks budget (λ (g h : Grid W). Onward blocks budget g.window h.window)
-      (steady blocks budget good) n k (come n k (x.parcels n k)) x))
+      let d : Others x = each_other n o k (omega (arith, l)) h b in (
+        arrival_other blocks budget e H n k l o x ((d.1).ok ok) d.0,
+        then_onward blocks budget m.window x.window (arrival blocks budget n k x).window d.1
+            (comes_keeps blocks budget (λ (g h : Grid W). Onward blocks budget g.window h.window)
+            (steady blocks budget good) n k (come n k (x.parcels n k)) x),
+      )
 
   others : (gs : List Frame) → Apart e.number gs → (h : Grid W) → Others h
       → Others (arrivals blocks budget (numbers_of gs) h)
@@ -372,9 +373,11 @@ module _ {W : Type 0} (blocks : List Block) (good : AllGood blocks) (budget : �
   arrivals_serve =
       let apart : Apart e.number fs =
       subst (λ n. Apart n fs) (sym last.number) (younger_apart blocks budget m.window f fs ok i) in
-      let b = (others fs apart H (behind_at blocks budget e H last.younger last.frames,
-      subst (λ n. Onward blocks budget m.window (each (arrival blocks budget f.number) n N).window) (sym places_are)
-      (onward 320))).0 in
+      let b = (others fs apart H (
+        behind_at blocks budget e H last.younger last.frames,
+        subst (λ n. Onward blocks budget m.window (each (arrival blocks budget f.number) n N).window) (sym places_are)
+            (onward 320),
+      )).0 in
       subst (λ l. Shows c f (arrivals blocks budget (numbers_of l) N) (move_front hold F)) (sym i) (record {
         frame = e;
         younger = b.younger;

@@ -274,11 +274,11 @@ module _ {W : Type 0} (blocks : List Block) (good : AllGood blocks) (budget : �
         far m =
             let none : g.units n ≡ 0 = beyond n m in
             let free : units_after (less_one g.units) E n
-                ≡ found E.course.room (λ v. issued (less_one g.units) E v && lane_tile E v == n)
-                (λ v. (E.course.task v).latency) =
+            ≡ found E.course.room (λ v. issued (less_one g.units) E v && lane_tile E v == n)
+            (λ v. (E.course.task v).latency) =
             cond-false (busy (less_one g.units) n) _ _ (le-ltb 0 (g.units n - 1) (omega (arith, none))) in
             let some = found_some E.course.room (λ v. issued (less_one g.units) E v && lane_tile E v == n)
-                (λ v. (E.course.task v).latency) (subst (λ j. 1 ≤ j) free k) in
+            (λ v. (E.course.task v).latency) (subst (λ j. 1 ≤ j) free k) in
             let at : lane_tile E some.0 ≡ n =
             eqb-true (lane_tile E some.0) n (and_parts (issued (less_one g.units) E some.0)
             (lane_tile E some.0 == n) some.1).1 in

@@ -226,16 +226,16 @@ module _ {W : Type 0} (blocks : List Block) (good : AllGood blocks) (budget : â„
       pub stays : Behind V base H
       stays = waiting_now blocks budget V base (wrong_load e.number k h.window.frames)
           (act blocks budget (window.Store e.number k) A) (record {
-        younger = only_younger.younger;
-        frames = only_younger.frames;
-        state = only_younger.state;
-        over = only_younger.over;
-        generation = only_younger.generation;
-        parcels = only_younger.parcels;
-        asked = only_younger.asked;
-        works = only_younger.works;
-        careful = only_younger.careful;
-      })
+            younger = only_younger.younger;
+            frames = only_younger.frames;
+            state = only_younger.state;
+            over = only_younger.over;
+            generation = only_younger.generation;
+            parcels = only_younger.parcels;
+            asked = only_younger.asked;
+            works = only_younger.works;
+            careful = only_younger.careful;
+          })
 
       -- the store has come
       lost : NoneLost V

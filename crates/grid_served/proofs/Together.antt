@@ -89,7 +89,8 @@ module _ {W : Type 0} (blocks : List Block) (good : AllGood blocks) (budget : �
 module _ {W : Type 0} (blocks : List Block) (good : AllGood blocks) (budget : ℕ) (next : W → ℕ)
     (follows : W → W → Type 0) (bound : (w : W) → next w ≤ 3) (g h : Grid W) (ok : WindowOk blocks budget g.window)
     (went : g.window.over ≡ stepped.Went) (room : length g.window.state.trace < budget)
-    (rule : CycleRule blocks budget (fetches blocks budget (ends blocks budget g)))
+    (rule : (ends blocks budget g).window.over ≡ stepped.Went
+    → CycleRule blocks budget (fetches blocks budget (ends blocks budget g)))
     (beyond : (t : ℕ) → 16 ≤ t → g.units t ≡ 0) (most : (t : ℕ) → h.units t ≤ 24) (b : Block)
     (is_code : slice_get blocks g.window.state.next ≡ Some b) (sizes : ℕ → ℕ)
     (is_size : size b ≡ sizes (length g.window.state.trace))
@@ -112,6 +113,9 @@ module _ {W : Type 0} (blocks : List Block) (good : AllGood blocks) (budget : �
   module _ (on : Onward blocks budget g.window E.window) where
     went_e : E.window.over ≡ stepped.Went
     went_e = on.over ∙ went
+
+    rule_h : CycleRule blocks budget H
+    rule_h = rule went_e
 
     moves : Moves next follows blocks budget (acts blocks budget E) h
     moves = subst (λ s. Follows s next follows blocks budget E h) went_e cycle
@@ -136,7 +140,7 @@ module _ {W : Type 0} (blocks : List Block) (good : AllGood blocks) (budget : �
     beyond_h t l = ap (λ (u : ℕ → ℕ). u t) units_h ∙ beyond t l
 
     serves : (generation : ℕ) (s : Stage) → fetching generation c (stage_in g) ≡ s
-        → rest.Rest blocks good budget next follows bound H h ok_h went_h rule beyond_h moves s
+        → rest.Rest blocks good budget next follows bound H h ok_h went_h rule_h beyond_h moves s
         → Serves sizes (lane_in g) (lane_in h)
     serves generation s e r = record {
       generation = generation;
@@ -169,11 +173,16 @@ module _ {W : Type 0} (blocks : List Block) (good : AllGood blocks) (budget : �
     commits e = by (ends_complete blocks budget g f fs i ok went e room)
       where
         by : Commits g E → ((k : ℕ) × (h.window.over ≡ stepped.Trap k)) ⊎ Served sizes (lane_in g) (lane_in h)
-        by (inl z) = inl (z.0, ap (λ (q : Grid W). q.window.over)
-            (subst (λ s. Follows s next follows blocks budget E h) z.1 cycle) ∙ z.1)
-        by (inr z) = inr (inl (same_complete ∙ e,
-            ap (λ (q : State). length q.trace)
-            (state_follows blocks good budget next follows E h E.window.over cycle) ∙ z))
+        by (inl z) = inl (
+          z.0,
+          ap (λ (q : Grid W). q.window.over)
+              (subst (λ s. Follows s next follows blocks budget E h) z.1 cycle) ∙ z.1,
+        )
+        by (inr z) = inr (inl (
+          same_complete ∙ e,
+          ap (λ (q : State). length q.trace)
+              (state_follows blocks good budget next follows E h E.window.over cycle) ∙ z,
+        ))
 
     goes : complete f ≡ false → Served sizes (lane_in g) (lane_in h)
     goes e =
@@ -187,10 +196,13 @@ module _ {W : Type 0} (blocks : List Block) (good : AllGood blocks) (budget : �
         ∙ ap Running (front_behind (course_of f.code (told (committed g.window.state) f)) f E H y
         ∙ front_behind (course_of f.code (told (committed g.window.state) f)) f g E x)
         ∙ sym (stage_held g f fs i) in
-        inr (same_complete ∙ e, serves on 0 (Running (front_of (course_of f.code (told (committed H.window.state) f)) H f))
-        (ap (fetching 0 c) (sym same))
-        (rest.goes_on blocks good budget next follows bound H h (ok_h on) (went_h on) rule (beyond_h on) (moves on)
-        f y.younger y.frames (unsealed blocks budget g f fs i ok went e)))
+        inr (
+          same_complete ∙ e,
+          serves on 0 (Running (front_of (course_of f.code (told (committed H.window.state) f)) H f))
+              (ap (fetching 0 c) (sym same))
+              (rest.goes_on blocks good budget next follows bound H h (ok_h on) (went_h on) (rule_h on) (beyond_h on) (moves on)
+              f y.younger y.frames (unsealed blocks budget g f fs i ok went e)),
+        )
 
   -- none is ------------------------------------------------------------------------------------------
 
@@ -220,7 +232,7 @@ module _ {W : Type 0} (blocks : List Block) (good : AllGood blocks) (budget : �
         (ap (fetching come.generation c) (stage_empty g i) ∙ sym come.stage
         ∙ ap (λ l. stage_of c (fetches blocks budget g) l) none
         ∙ ap (λ (k : Grid W). fetch_of k k.fetching) (sym same_h))
-        (rest.waits blocks good budget next follows bound H h (ok_h idle) (went_h idle) rule (beyond_h idle) (moves idle)
+        (rest.waits blocks good budget next follows bound H h (ok_h idle) (went_h idle) (rule_h idle) (beyond_h idle) (moves idle)
         (ap (λ (k : Grid W). k.window.frames) same_h ∙ none))
     filled (inr one) = serves idle come.generation
         (Running (front_of (course_of b (told (committed H.window.state) x)) H x))
@@ -228,7 +240,7 @@ module _ {W : Type 0} (blocks : List Block) (good : AllGood blocks) (budget : �
         ∙ ap (λ l. stage_of c (fetches blocks budget g) l) one
         ∙ ap (λ (k : Grid W). Running (front_of c k x)) (sym same_h)
         ∙ ap (λ (q : State). Running (front_of (course_of b (told (committed q) x)) H x)) (sym (state_h idle)))
-        (rest.goes_on blocks good budget next follows bound H h (ok_h idle) (went_h idle) rule (beyond_h idle)
+        (rest.goes_on blocks good budget next follows bound H h (ok_h idle) (went_h idle) (rule_h idle) (beyond_h idle)
         (moves idle) x [] (ap (λ (k : Grid W). k.window.frames) same_h ∙ one) refl)
 
     waits : Served sizes (lane_in g) (lane_in h)

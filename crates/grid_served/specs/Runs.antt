@@ -19,7 +19,8 @@ pub record Stands {W : Type 0} (blocks : List Block) (budget : ℕ) (sizes : ℕ
   pub ok : WindowOk blocks budget g.window
   pub went : g.window.over ≡ Went
   pub room : length g.window.state.trace < budget
-  pub parts : CycleRule blocks budget (fetches blocks budget (ends blocks budget g))
+  pub parts : (ends blocks budget g).window.over ≡ Went
+      → CycleRule blocks budget (fetches blocks budget (ends blocks budget g))
   pub none : (t : ℕ) → 16 ≤ t → g.units t ≡ 0
   pub due : g.window.frames ≡ [] → IsDue g g.fetching × (slice_index g.window.generations 0 < 2 ^ 64 - 1)
   pub block : Block

@@ -145,7 +145,8 @@ pub fn tables_tell()
 pub fn eager_cycles_serve<W: Weather>()
     ensures { (blocks : List Block) (budget : ℕ) (g h : Grid W) (b : Block) (sizes : ℕ → ℕ) → AllGood blocks
         → WindowOk blocks budget g.window → g.window.over ≡ Went → length g.window.state.trace < budget
-        → CycleRule blocks budget (fetches blocks budget (ends blocks budget g))
+        → ((ends blocks budget g).window.over ≡ Went
+        → CycleRule blocks budget (fetches blocks budget (ends blocks budget g)))
         → ((w : W) → W.next w ≤ 3) → ((t : ℕ) → 16 ≤ t → g.units t ≡ 0) → ((t : ℕ) → h.units t ≤ 24)
         → slice_get blocks g.window.state.next ≡ Some b → size b ≡ sizes (length g.window.state.trace)
         → (g.window.frames ≡ [] → IsDue g g.fetching × (slice_index g.window.generations 0 < 2 ^ 64 - 1))

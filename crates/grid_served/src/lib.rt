@@ -6,6 +6,8 @@
 
 mod law;
 
-pub use law::{arrivals_serve, banks_serve, cycles_stay_within, data_tiles_serve, eager_cycles_serve};
-pub use law::{far_units_stay, fetches_serve, idle_parts, oldest_frames_end, oldest_parcels_tick};
-pub use law::{tables_tell, units_serve, units_stay};
+pub use law::{
+    arrivals_serve, banks_serve, cycles_stay_within, data_tiles_serve, eager_cycles_serve,
+    far_units_stay, fetches_serve, idle_parts, oldest_frames_end, oldest_parcels_tick, tables_tell,
+    units_serve, units_stay,
+};
