@@ -1,0 +1,8 @@
+//! The grid's rule, as definitions and laws: what of a frame is under way, and that every cycle keeps it so.
+//!
+//! specs/UnderWay.antt has what is under way of one frame, specs/Rule.antt the rule of a grid.
+#![tactic(auto)]
+
+mod law;
+
+pub use law::grids_begin_right;
