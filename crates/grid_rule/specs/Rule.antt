@@ -8,12 +8,13 @@ use Rattle.operand_net.specs.declared.parcel.Stand.{Stand}
 use Rattle.operand_net.specs.declared.parcel.Stand.TheVariants.{Nowhere, Away, Held}
 use Rattle.commit_flush_spec.specs.Frames.{Frame, at, target, is_target}
 use Rattle.commit_flush_spec.specs.Older.{follows}
+use Rattle.window_progress.specs.Observers.{has_number}
 use Rattle.window_progress.specs.Work.{none_guessed}
 use Rattle.grid_cycle_spec.specs.Stations.{tile_of}
 use Rattle.grid_cycle_spec.specs.Costs.{longest, fetch_latency}
 use Rattle.grid_cycle_spec.specs.Grid.{Grid, Fetching}
 use Rattle.grid_cycle_spec.specs.Acting.{known_next}
-use Rattle.grid_rule.specs.UnderWay.{Tied}
+use Rattle.grid_rule.specs.UnderWay.{Nothing, Tied}
 
 -- a condition holds of each of some frames
 abbrev pub EachFrame : (Frame → Type 0) → List Frame → Type 0
@@ -36,12 +37,18 @@ pub record StoredBy (f : Frame) (n : ℕ) : Type 0 where
   pub number : inst.number ≡ n
   pub fired : slice_index_or f.fired slot false ≡ true
 
--- a token on its way has a target, a store that has come was given by an instruction, and what waits with a number
--- is no store that has come
+-- what waits with a number is a load or a store, and no store has come for the number
+pub record Waits (f : Frame) (n s : ℕ) : Type 0 where
+  pub inst : Inst
+  pub is_inst : slot_of f.code s ≡ Some inst
+  pub kind : has_number (form_of inst.op) ≡ true
+  pub unresolved : at f.stores n ≡ None
+
+-- a token on its way has a target, a store that has come was given by an instruction, and what waits is one that may
 pub record FrameRule (f : Frame) : Type 0 where
   pub targets : (p : ℕ) → at f.places p ≢ None → is_target (target f.code p) ≡ true
   pub stored : (n : ℕ) → at f.stores n ≢ None → StoredBy f n
-  pub waits : (n : ℕ) → at f.requests n ≢ None → at f.stores n ≡ None
+  pub waits : (n s : ℕ) → at f.requests n ≡ Some s → Waits f n s
 
 -- what is under way of a frame that runs is what is to be
 abbrev pub RunsTied : {W : Type 0} → Grid W → Frame → Type 0
@@ -50,12 +57,6 @@ RunsTied g f = f.sealed ≡ false → Tied (g.parcels f.number) (g.asked f.numbe
 -- no load of a careful frame was answered before a store of the frame that it may have to see
 abbrev pub IsCareful : {W : Type 0} → Grid W → Frame → Type 0
 IsCareful g f = g.careful f.number ≡ true → none_guessed f ≡ true
-
--- nothing is under way of a number
-pub record NothingOf {W : Type 0} (g : Grid W) (n : ℕ) : Type 0 where
-  pub parcels : (p : ℕ) → g.parcels n p ≡ Nowhere
-  pub asked : (k : ℕ) → g.asked n k ≡ false
-  pub works : (s : ℕ) → g.works n s ≡ false
 
 -- stations ----------------------------------------------------------------------------------------
 
@@ -84,7 +85,7 @@ pub record RuleFrom {W : Type 0} (least : ℕ) (g : Grid W) : Type 0 where
   pub frames : EachFrame FrameRule g.window.frames
   pub tied : EachFrame (RunsTied g) g.window.frames
   pub careful : EachFrame (IsCareful g) g.window.frames
-  pub nothing : (n : ℕ) → runs_in n g.window.frames ≡ false → NothingOf g n
+  pub nothing : (n : ℕ) → runs_in n g.window.frames ≡ false → Nothing (g.parcels n) (g.asked n) (g.works n)
   pub units : UnitsRule g.units g.works
   pub mesh : (n p : ℕ) → HeldFrom least (g.parcels n p)
   pub fetch : FetchRule (known_next g.window) g.fetching

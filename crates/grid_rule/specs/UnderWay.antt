@@ -8,43 +8,51 @@ use Rattle.trips_isa.specs.declared.form.Form.TheVariants.{Load, Store, Branch}
 use Rattle.trips_isa.specs.Forms.{form_of}
 use Rattle.block_cases.specs.Orders.{slot_of}
 use Rattle.operand_net.specs.declared.parcel.Stand.{Stand}
+use Rattle.operand_net.specs.declared.parcel.Stand.TheVariants.{Nowhere}
 use Rattle.operand_net.specs.IsStands.{is_here}
 use Rattle.commit_flush_spec.specs.Frames.{Frame, at, first_read_place, target, is_target}
 use Rattle.grid_cycle_spec.specs.Arrivals.{is_waiting}
 
--- whether the request of slot s, which waits with number n, is still to come to its data tile
-abbrev pub request_travels : (ℕ → Bool) → Frame → ℕ → ℕ → Bool
-request_travels asked f n s = is_waiting (at f.requests n) s && not (asked n)
+-- parcels -----------------------------------------------------------------------------------------
 
--- whether there is a parcel in place p of an instruction that has left its unit: its request or its branch in the
--- first of its two places, or its token
-abbrev pub form_travels : (ℕ → Bool) → Frame → Form → Inst → ℕ → Bool
-form_travels asked f Load i p =
-    (p % 2 == 0 && request_travels asked f i.number (p / 2)) || is_some (at f.places p)
-form_travels asked f Store i p = p % 2 == 0 && request_travels asked f i.number (p / 2)
-form_travels asked f Branch i p = p % 2 == 0 && is_waiting f.leaving (p / 2)
-form_travels asked f _ i p = is_some (at f.places p)
+-- whether what slot s holds waits and is still to come to where it is served: the request of a load or a store to its
+-- data tile, a branch to the control tile
+abbrev pub to_come : (ℕ → Bool) → Frame → Form → Inst → ℕ → Bool
+to_come asked f Load i s = is_waiting (at f.requests i.number) s && not (asked i.number)
+to_come asked f Store i s = is_waiting (at f.requests i.number) s && not (asked i.number)
+to_come asked f Branch i s = is_waiting f.leaving s
+to_come asked f _ i s = false
+
+-- whether there is a parcel in a place of an instruction that has left its unit, the first or the second of its two
+-- places: what is to come travels in the first one, and a token in its place
+abbrev pub form_travels : Form → (first coming token : Bool) → Bool
+form_travels Load first coming token = (first && coming) || token
+form_travels Store first coming token = first && coming
+form_travels Branch first coming token = first && coming
+form_travels _ first coming token = token
 
 -- the same of what a slot holds; in the places of a result that is in a unit there is none
 abbrev pub inst_travels : (asked works : ℕ → Bool) → Frame → Option Inst → ℕ → Bool
 inst_travels asked works f None p = false
-inst_travels asked works f (Some i) p = not (works (p / 2)) && form_travels asked f (form_of i.op) i p
+inst_travels asked works f (Some i) p = not (works (p / 2)) && form_travels (form_of i.op) (p % 2 == 0)
+    (to_come asked f (form_of i.op) i (p / 2)) (is_some (at f.places p))
 
 -- whether there is a parcel in place p of a frame: that of a slot, or the token of a read
 abbrev pub travels : (asked works : ℕ → Bool) → Frame → ℕ → Bool
 travels asked works f p = cond (nat_lt p first_read_place)
     (inst_travels asked works f (slot_of f.code (p / 2)) p) (is_some (at f.places p))
 
+-- results -----------------------------------------------------------------------------------------
+
 -- a place with a target has its token
 abbrev pub IsSent : Frame → ℕ → Type 0
 IsSent f p = is_target (target f.code p) ≡ true → at f.places p ≢ None
 
--- what the result of slot s is in its unit: a request that waits and has not come to its data tile, a branch that
--- waits, or a token for each target
+-- what the result of slot s is in its unit: what waits and is to come, or a token for each target
 abbrev pub Gives : (ℕ → Bool) → Frame → Form → Inst → ℕ → Type 0
-Gives asked f Load i s = request_travels asked f i.number s ≡ true
-Gives asked f Store i s = request_travels asked f i.number s ≡ true
-Gives asked f Branch i s = is_waiting f.leaving s ≡ true
+Gives asked f Load i s = to_come asked f Load i s ≡ true
+Gives asked f Store i s = to_come asked f Store i s ≡ true
+Gives asked f Branch i s = to_come asked f Branch i s ≡ true
 Gives asked f _ i s = IsSent f (2 * s) × IsSent f (suc (2 * s))
 
 -- the same of what the slot holds
@@ -57,9 +65,17 @@ pub record InUnit (asked : ℕ → Bool) (f : Frame) (s : ℕ) : Type 0 where
   pub fired : slice_index_or f.fired s false ≡ true
   pub gives : SlotGives asked f (slot_of f.code s) s
 
+-- frames ------------------------------------------------------------------------------------------
+
 -- a running frame and what is under way of it: there is a parcel in a place exactly where one is to be, each request
 -- at a data tile is one that waits, and each result in a unit is one that is to come
 pub record Tied (parcels : ℕ → Stand) (asked works : ℕ → Bool) (f : Frame) : Type 0 where
   pub travelling : (p : ℕ) → is_here (parcels p) ≡ travels asked works f p
   pub standing : (n : ℕ) → asked n ≡ true → at f.requests n ≢ None
   pub working : (s : ℕ) → works s ≡ true → InUnit asked f s
+
+-- nothing is under way
+pub record Nothing (parcels : ℕ → Stand) (asked works : ℕ → Bool) : Type 0 where
+  pub none_travels : (p : ℕ) → parcels p ≡ Nowhere
+  pub none_stands : (n : ℕ) → asked n ≡ false
+  pub none_works : (s : ℕ) → works s ≡ false
