@@ -1,7 +1,9 @@
 -- The grid's rule: what the bound of cycles asks of the grid beside the window's invariant. Every cycle keeps it.
 use Rattle.std.specs.Prelude.{◌≡◌, ◌≢◌, ℕ, ◌<◌, ◌≤◌, ◌==◌, ◌&&◌, ◌||◌, not, Bool, true, false, List, [], ◌∷◌}
 use Rattle.std.specs.Prelude.{Option, Some, None, slice_index, slice_index_or}
+use Rattle.trips_isa.specs.declared.block.Block.{Block}
 use Rattle.trips_isa.specs.declared.block.Inst.{Inst}
+use Rattle.trips_isa.specs.declared.block.Stored.{Stored}
 use Rattle.trips_isa.specs.Forms.{form_of, is_store}
 use Rattle.block_cases.specs.Orders.{slot_of}
 use Rattle.operand_net.specs.declared.parcel.Stand.{Stand}
@@ -28,27 +30,27 @@ runs_in n (f ∷ fs) = (f.number == n && not f.sealed) || runs_in n fs
 
 -- frames ------------------------------------------------------------------------------------------
 
--- the store of a number has come from an instruction that has fired
-pub record StoredBy (f : Frame) (n : ℕ) : Type 0 where
+-- a store of a number comes from an instruction that has fired
+pub record StoredBy (b : Block) (fired : List Bool) (n : ℕ) : Type 0 where
   pub slot : ℕ
   pub inst : Inst
-  pub is_inst : slot_of f.code slot ≡ Some inst
+  pub is_inst : slot_of b slot ≡ Some inst
   pub stores : is_store (form_of inst.op) ≡ true
   pub number : inst.number ≡ n
-  pub fired : slice_index_or f.fired slot false ≡ true
+  pub has_fired : slice_index_or fired slot false ≡ true
 
--- what waits with a number is a load or a store, and no store has come for the number
-pub record Waits (f : Frame) (n s : ℕ) : Type 0 where
+-- what waits in a slot with a number is a load or a store, and no store has come for the number
+pub record Waits (b : Block) (stores : List (Option Stored)) (n s : ℕ) : Type 0 where
   pub inst : Inst
-  pub is_inst : slot_of f.code s ≡ Some inst
+  pub is_inst : slot_of b s ≡ Some inst
   pub kind : has_number (form_of inst.op) ≡ true
-  pub unresolved : at f.stores n ≡ None
+  pub unresolved : at stores n ≡ None
 
 -- a token on its way has a target, a store that has come was given by an instruction, and what waits is one that may
 pub record FrameRule (f : Frame) : Type 0 where
   pub targets : (p : ℕ) → at f.places p ≢ None → is_target (target f.code p) ≡ true
-  pub stored : (n : ℕ) → at f.stores n ≢ None → StoredBy f n
-  pub waits : (n s : ℕ) → at f.requests n ≡ Some s → Waits f n s
+  pub stored : (n : ℕ) → at f.stores n ≢ None → StoredBy f.code f.fired n
+  pub waits : (n s : ℕ) → at f.requests n ≡ Some s → Waits f.code f.stores n s
 
 -- what is under way of a frame that runs is what is to be
 abbrev pub RunsTied : {W : Type 0} → Grid W → Frame → Type 0

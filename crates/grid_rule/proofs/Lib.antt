@@ -1,0 +1,6 @@
+pub mod Each
+pub mod FrameRules
+pub mod Travels
+pub mod Entered
+pub mod Ties
+pub mod TiedFrames
