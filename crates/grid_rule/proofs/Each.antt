@@ -141,6 +141,31 @@ frame_at older f younger n e h =
       behind = ap (λ m. in_flight m younger) (sym e) ∙ k.1;
     }
 
+-- the same frame by its own number
+pub own_at : (n : ℕ) (fs : List Frame) (a : FrameAt n fs) → FrameAt a.frame.number fs
+own_at n fs a = record {
+  older = a.older;
+  frame = a.frame;
+  younger = a.younger;
+  split = a.split;
+  number = refl;
+  before = ap (λ m. in_flight m a.older) a.number ∙ a.before;
+  behind = ap (λ m. in_flight m a.younger) a.number ∙ a.behind;
+}
+
+-- another frame of that number in its place
+pub moved_at : (n : ℕ) (fs : List Frame) (a : FrameAt n fs) (f : Frame) → f.number ≡ n
+    → FrameAt n (a.older ++ f ∷ a.younger)
+moved_at n fs a f e = record {
+  older = a.older;
+  frame = f;
+  younger = a.younger;
+  split = refl;
+  number = e;
+  before = a.before;
+  behind = a.behind;
+}
+
 -- one more frame before
 more_at : (n : ℕ) (g : Frame) (fs : List Frame) → (g.number == n) ≡ false → FrameAt n fs → FrameAt n (g ∷ fs)
 more_at n g fs e a = record {

@@ -12,6 +12,7 @@ use Rattle.grid_cycle_spec.specs.Sending.{enters, enters_if, enter_both}
 use Rattle.grid_cycle_spec.proofs.Routes.{home_inside}
 use Rattle.grid_rule.specs.Rule.{HeldFrom}
 use Rattle.grid_rule.proofs.Each.{same, apart}
+use Rattle.grid_rule.proofs.Travels.{IsPlace}
 
 -- one place has another parcel -------------------------------------------------------------------
 
@@ -27,13 +28,13 @@ put_other m n p s k q (inr d) = ap (λ b. cond ((k == n) && b) s (m k q)) (apart
     none false = refl
 
 -- a condition of all parcels stays where the new one has it
-pub put_each : (H : Stand → Type 0) (m : Places) (n p : ℕ) (s : Stand) → H s → ((k q : ℕ) → H (m k q)) → (k q : ℕ)
+pub put_each : (H : Stand → Type 0) (m : Places) (n p : ℕ) (s : Stand) (k q : ℕ) → H s → H (m k q)
     → H (put m n p s k q)
-put_each H m n p s h all k q = go ((k == n) && (q == p))
+put_each H m n p s k q h was = go ((k == n) && (q == p))
   where
     go : (b : Bool) → H (cond b s (m k q))
     go true = h
-    go false = all k q
+    go false = was
 
 -- parcels enter ----------------------------------------------------------------------------------
 
@@ -47,7 +48,15 @@ pub record Entered (f : Frame) (p : ℕ) (before after : Places) : Type 0 where
   pub others : (k q : ℕ) → (k ≢ f.number) ⊎ ((q ≢ p) × (q ≢ suc p)) → after k q ≡ before k q
   pub first : is_here (after f.number p) ≡ (is_some (at f.places p) || is_here (before f.number p))
   pub second : is_here (after f.number (suc p)) ≡ (is_some (at f.places (suc p)) || is_here (before f.number (suc p)))
-  pub held : (least : ℕ) → ((k q : ℕ) → HeldFrom least (before k q)) → (k q : ℕ) → HeldFrom least (after k q)
+  pub held : (least k q : ℕ) → HeldFrom least (before k q) → HeldFrom least (after k q)
+
+-- either of them
+pub enters_at : (f : Frame) (p : ℕ) (before after : Places) → Entered f p before after → (q : ℕ) → IsPlace p q
+    → is_here (after f.number q) ≡ (is_some (at f.places q) || is_here (before f.number q))
+enters_at f p before after e q (inl z) =
+    subst (λ k. is_here (after f.number k) ≡ (is_some (at f.places k) || is_here (before f.number k))) (sym z) e.first
+enters_at f p before after e q (inr z) =
+    subst (λ k. is_here (after f.number k) ≡ (is_some (at f.places k) || is_here (before f.number k))) (sym z) e.second
 
 -- one of them
 abbrev one : Bool → Places → ℕ → ℕ → Stand → Places
@@ -63,10 +72,10 @@ one_here : (b : Bool) (m : Places) (n p : ℕ) (s : Stand) → is_here s ≡ tru
 one_here true m n p s h = ap is_here (put_here m n p s) ∙ h
 one_here false m n p s h = refl
 
-one_held : (b : Bool) (m : Places) (n p : ℕ) (s : Stand) (least : ℕ) → HeldFrom least s
-    → ((k q : ℕ) → HeldFrom least (m k q)) → (k q : ℕ) → HeldFrom least (one b m n p s k q)
-one_held true m n p s least h all = put_each (HeldFrom least) m n p s h all
-one_held false m n p s least h all = all
+one_held : (b : Bool) (m : Places) (n p : ℕ) (s : Stand) (least k q : ℕ) → HeldFrom least s
+    → HeldFrom least (m k q) → HeldFrom least (one b m n p s k q)
+one_held true m n p s least k q h was = put_each (HeldFrom least) m n p s k q h was
+one_held false m n p s least k q h was = was
 
 module _ {W : Type 0} where
   enters_one : (from n p to : ℕ) (b : Bool) (g : Grid W)
@@ -113,8 +122,8 @@ module _ {W : Type 0} where
       second = one_here (is_some (at f.places (suc p))) middle f.number (suc p) s2 refl
           ∙ ap (λ x. is_some (at f.places (suc p)) || is_here x)
           (one_other (is_some (at f.places p)) g.parcels f.number p s1 f.number (suc p) (inr (λ z. next (sym z))));
-      held = λ least all. one_held (is_some (at f.places (suc p))) middle f.number (suc p) s2 least
+      held = λ least k q was. one_held (is_some (at f.places (suc p))) middle f.number (suc p) s2 least k q
           (low, home_inside f.code (target f.code (suc p)))
-          (one_held (is_some (at f.places p)) g.parcels f.number p s1 least
-          (low, home_inside f.code (target f.code p)) all);
+          (one_held (is_some (at f.places p)) g.parcels f.number p s1 least k q
+          (low, home_inside f.code (target f.code p)) was);
     })

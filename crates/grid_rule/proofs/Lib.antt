@@ -4,3 +4,5 @@ pub mod Travels
 pub mod Entered
 pub mod Ties
 pub mod TiedFrames
+pub mod Going
+pub mod BankParts

@@ -16,13 +16,11 @@ use Rattle.commit_flush_spec.specs.Invariant.{FrameOk}
 use Rattle.commit_flush_spec.proofs.Lists.{equal_or, other_at, none_at}
 use Rattle.grid_cycle_spec.specs.Arrivals.{is_waiting}
 use Rattle.grid_rule.specs.UnderWay.{to_come, form_travels, travels, Gives, InUnit, Tied}
-use Rattle.grid_rule.proofs.Travels.{absorbs, and_none, false_of, first_travels, half_first, half_second, halves, in_unit_by}
-use Rattle.grid_rule.proofs.Travels.{is_there, none_travels, read_travels, second_travels, slot_travels, some_is}
+use Rattle.grid_rule.proofs.Travels.{absorbs, and_none, come_by, first_travels, half_first, half_second, halves, in_unit_by}
+use Rattle.grid_rule.proofs.Travels.{IsPlace, is_there, none_travels, read_travels, second_travels, slot_travels, some_is}
 use Rattle.grid_rule.proofs.Travels.{travels_by, waiting_none, waits_none, waits_other}
 
--- the two places of a slot or a read
-abbrev pub IsPlace : ℕ → ℕ → Type 0
-IsPlace p q = (q ≡ p) ⊎ (q ≡ suc p)
+-- places -----------------------------------------------------------------------------------------
 
 pub place_or : (p q : ℕ) → IsPlace p q ⊎ ((q ≢ p) × (q ≢ suc p))
 place_or p q = elim (equal_or q p) [
@@ -60,12 +58,12 @@ module _ (c c' : ℕ → Stand) (asked asked' works : ℕ → Bool) (f g : Frame
     (standing : (n : ℕ) → asked' n ≡ true → at g.requests n ≢ None) where
   pub sent_tied : Tied c asked works f → Tied c' asked' works g
   sent_tied t = record {
-    travelling = λ q. elim (place_or p q) [
+    travelling = λ q l. elim (place_or p q) [
       | inl z ↦ enters q z
           ∙ absorbs (is_some (at g.places q)) (is_here (c q)) (λ h. some_is (at g.places q) (keeps q
-              (is_there (at f.places q) (sym (was q z) ∙ sym (t.travelling q) ∙ h))))
+              (is_there (at f.places q) (sym (was q z) ∙ sym (t.travelling q l) ∙ h))))
           ∙ sym (is q z)
-      | inr n ↦ ap is_here (others q n.0 n.1) ∙ t.travelling q
+      | inr n ↦ ap is_here (others q n.0 n.1) ∙ t.travelling q l
           ∙ sym (travels_by asked works asked' works f g q code refl (λ i e. come i (q / 2) e)
               (ap is_some (same q n.0 n.1)))
     ];
@@ -136,13 +134,13 @@ module _ (c : ℕ → Stand) (asked works works' : ℕ → Bool) (f g : Frame) (
 
   pub fired_tied : Tied c asked works f → Tied c asked works' g
   fired_tied t = record {
-    travelling = λ q. elim (equal_or (q / 2) s) [
+    travelling = λ q l. elim (equal_or (q / 2) s) [
       | inl z ↦ before q (is_half s q z) ∙ sym (slot_travels asked works' g q i (low q z)
           (ap (λ b. slot_of b (q / 2)) code ∙ ap (slot_of f.code) z ∙ is)
           ∙ ap (λ b. not b && form_travels (form_of i.op) (q % 2 == 0) (to_come asked g (form_of i.op) i (q / 2))
           (is_some (at g.places q))) (ap works' z ∙ now))
       | inr n ↦ let k = not_half s q n in
-          t.travelling q ∙ sym (travels_by asked works asked works' f g q code (others (q / 2) n)
+          t.travelling q l ∙ sym (travels_by asked works asked works' f g q code (others (q / 2) n)
           (λ j e. come j (q / 2) n e) (ap is_some (same q k.0 k.1)))
     ];
     standing = standing;
@@ -165,10 +163,10 @@ module _ (c c' : ℕ → Stand) (asked works works' : ℕ → Bool) (f : Frame) 
     (is_some (at f.places (suc (2 * s))))) where
   pub result_tied : Tied c asked works f → Tied c' asked works' f
   result_tied t = record {
-    travelling = λ q. elim (equal_or (q / 2) s) [
+    travelling = λ q l. elim (equal_or (q / 2) s) [
       | inl z ↦ here q (is_half s q z)
       | inr n ↦ let k = not_half s q n in
-          ap is_here (same q k.0 k.1) ∙ t.travelling q
+          ap is_here (same q k.0 k.1) ∙ t.travelling q l
           ∙ sym (travels_by asked works asked works' f f q refl (others (q / 2) n) (λ j e. refl) refl)
     ];
     standing = t.standing;
@@ -199,9 +197,9 @@ pub record Comes (asked works : ℕ → Bool) (f : Frame) (p : ℕ) : Type 0 whe
       (is_some (at f.places p)) ≡ true
 
 module _ (c : ℕ → Stand) (asked works : ℕ → Bool) (f : Frame) (t : Tied c asked works f) (p : ℕ)
-    (here : is_here (c p) ≡ true) where
+    (inside : p < 320) (here : is_here (c p) ≡ true) where
   travelled : travels asked works f p ≡ true
-  travelled = sym (t.travelling p) ∙ here
+  travelled = sym (t.travelling p inside) ∙ here
 
   pub comes : nat_lt p 256 ≡ true → Comes asked works f p
   comes low = go (slot_of f.code (p / 2)) refl
@@ -228,9 +226,9 @@ module _ (c c' : ℕ → Stand) (asked asked' works : ℕ → Bool) (f g : Frame
     (working : (s : ℕ) → works s ≡ true → InUnit asked f s → InUnit asked' g s) where
   pub taken_tied : Tied c asked works f → Tied c' asked' works g
   taken_tied t = record {
-    travelling = λ q. elim (equal_or q p) [
+    travelling = λ q l. elim (equal_or q p) [
       | inl z ↦ ap (λ k. is_here (c' k)) z ∙ gone ∙ sym none ∙ sym (ap (travels asked' works g) z)
-      | inr n ↦ ap is_here (others q n) ∙ t.travelling q ∙ sym (same q n)
+      | inr n ↦ ap is_here (others q n) ∙ t.travelling q l ∙ sym (same q n)
     ];
     standing = standing;
     working = λ s h. working s h (t.working s h);
@@ -238,18 +236,13 @@ module _ (c c' : ℕ → Stand) (asked asked' works : ℕ → Bool) (f g : Frame
 
 -- a token is delivered: its place is empty
 module _ (c c' : ℕ → Stand) (asked works : ℕ → Bool) (f g : Frame) (p : ℕ) (t : Tied c asked works f)
-    (here : is_here (c p) ≡ true) (gone : is_here (c' p) ≡ false) (others : (q : ℕ) → q ≢ p → c' q ≡ c q)
+    (inside : p < 320) (here : is_here (c p) ≡ true) (gone : is_here (c' p) ≡ false) (others : (q : ℕ) → q ≢ p → c' q ≡ c q)
     (code : g.code ≡ f.code) (fired : g.fired ≡ f.fired) (requests : g.requests ≡ f.requests)
     (leaving : g.leaving ≡ f.leaving) (places : g.places ≡ set f.places p None)
     (only : (i : Inst) → nat_lt p 256 ≡ true → slot_of f.code (p / 2) ≡ Some i
     → form_travels (form_of i.op) (p % 2 == 0) (to_come asked f (form_of i.op) i (p / 2)) false ≡ false) where
   delivered_come : (i : Inst) (s : ℕ) (k : Form) → to_come asked g k i s ≡ to_come asked f k i s
-  delivered_come i s General = refl
-  delivered_come i s Immediate = refl
-  delivered_come i s Constant = refl
-  delivered_come i s Load = ap (λ l. is_waiting (at l i.number) s && not (asked i.number)) requests
-  delivered_come i s Store = ap (λ l. is_waiting (at l i.number) s && not (asked i.number)) requests
-  delivered_come i s Branch = ap (λ o. is_waiting o s) leaving
+  delivered_come = come_by asked f g requests leaving
 
   empty : at g.places p ≡ None
   empty = ap (λ l. at l p) places ∙ none_at f.places p
@@ -259,7 +252,7 @@ module _ (c c' : ℕ → Stand) (asked works : ℕ → Bool) (f g : Frame) (p : 
 
   no_parcel : (b : Bool) → nat_lt p 256 ≡ b → travels asked works g p ≡ false
   no_parcel true low =
-      let k = comes c asked works f t p here low in
+      let k = comes c asked works f t p inside here low in
       slot_travels asked works g p k.inst low (ap (λ b. slot_of b (p / 2)) code ∙ k.is_inst)
       ∙ ap (λ b. not b && form_travels (form_of (k.inst).op) (p % 2 == 0)
       (to_come asked g (form_of (k.inst).op) k.inst (p / 2)) (is_some (at g.places p))) k.rests
@@ -273,7 +266,7 @@ module _ (c c' : ℕ → Stand) (asked works : ℕ → Bool) (f g : Frame) (p : 
   apart_from s l w q z e =
       let half : p / 2 ≡ s = sym (ap (λ k. k / 2) e) ∙ half_is s q z in
       let low : nat_lt p 256 ≡ true = grind (arith, nat_tests) in
-      true≢false (sym w ∙ sym (ap works half) ∙ (comes c asked works f t p here low).rests)
+      true≢false (sym w ∙ sym (ap works half) ∙ (comes c asked works f t p inside here low).rests)
 
   pub delivered_tied : ((s : ℕ) → get_or f.fired s false ≡ true → s < 128) → Tied c' asked works g
   delivered_tied small = taken_tied c c' asked asked works f g p gone others (no_parcel (nat_lt p 256) refl)
@@ -295,7 +288,7 @@ second_same x y z Branch = refl
 
 -- what is to come of a slot has come to where it is served
 module _ (c c' : ℕ → Stand) (asked asked' works : ℕ → Bool) (f g : Frame) (p : ℕ) (t : Tied c asked works f)
-    (here : is_here (c p) ≡ true) (gone : is_here (c' p) ≡ false) (others : (q : ℕ) → q ≢ p → c' q ≡ c q)
+    (inside : p < 320) (here : is_here (c p) ≡ true) (gone : is_here (c' p) ≡ false) (others : (q : ℕ) → q ≢ p → c' q ≡ c q)
     (low : nat_lt p 256 ≡ true) (even : (p % 2 == 0) ≡ true) (code : g.code ≡ f.code)
     (fired : g.fired ≡ f.fired) (places : g.places ≡ f.places) (none : travels asked' works g p ≡ false)
     (come : (i : Inst) (s : ℕ) → s ≢ p / 2 → (k : Form) → to_come asked' g k i s ≡ to_come asked f k i s)
@@ -314,7 +307,7 @@ module _ (c c' : ℕ → Stand) (asked asked' works : ℕ → Bool) (f g : Frame
 
   same_half : (q : ℕ) → q ≢ p → q / 2 ≡ p / 2 → travels asked' works g q ≡ travels asked works f q
   same_half q n e =
-      let k = comes c asked works f t p here low in
+      let k = comes c asked works f t p inside here low in
       let odd : (q % 2 == 0) ≡ false = other_place q n e in
       let near : nat_lt q 256 ≡ true = grind (arith, nat_tests) in
       let is : slot_of f.code (q / 2) ≡ Some k.inst = ap (slot_of f.code) e ∙ k.is_inst in
@@ -334,7 +327,7 @@ module _ (c c' : ℕ → Stand) (asked asked' works : ℕ → Bool) (f g : Frame
         | inr d ↦ travels_by asked works asked' works f g q code refl (λ i e. come i (q / 2) d (form_of i.op)) (token_same q)
       ]) standing
       (λ s w u. in_unit_by asked asked' f g s code (λ z. ap (λ l. get_or l s false) fired ∙ z)
-      (λ i e. come i s (λ z. true≢false (sym w ∙ ap works z ∙ (comes c asked works f t p here low).rests))
+      (λ i e. come i s (λ z. true≢false (sym w ∙ ap works z ∙ (comes c asked works f t p inside here low).rests))
       (form_of i.op)) (λ q z k e. k (sym (ap (λ l. at l q) places) ∙ e)) u) t
 
 -- a request has come to its data tile: for other slots nothing changes

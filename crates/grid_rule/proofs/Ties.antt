@@ -1,5 +1,5 @@
 -- The rule of a grid's frames, one frame changed at a time, and frames forgotten.
-use Rattle.std.proofs.Common.{◌≡◌, ◌≢◌, ℕ, suc, ◌*◌, ◌/◌, ◌==◌, ◌&&◌, ◌||◌, not, Bool, true, false, cond, ◌⊎◌, inl, inr}
+use Rattle.std.proofs.Common.{◌≡◌, ◌≢◌, ℕ, suc, ◌<◌, ◌*◌, ◌/◌, ◌==◌, ◌&&◌, ◌||◌, not, Bool, true, false, cond, ◌⊎◌, inl, inr}
 use Rattle.std.proofs.Common.{List, [], ◌∷◌, ◌++◌, Option, Some, None, refl, sym, ap, ap₂, ◌∙◌, subst, true≢false}
 use Rattle.trips_isa.specs.declared.block.Inst.{Inst}
 use Rattle.trips_isa.specs.declared.form.Form.{Form}
@@ -32,7 +32,7 @@ pub record Ties (least : ℕ) (fs : List Frame) (parcels : Places) (asked works 
   pub unguessed : EachFrame (λ f. careful f.number ≡ true → none_guessed f ≡ true) fs
   pub nothing : (n : ℕ) → runs_in n fs ≡ false → Nothing (parcels n) (asked n) (works n)
   pub busy : UnitsRule units works
-  pub mesh : (n p : ℕ) → HeldFrom least (parcels n p)
+  pub mesh : (n p : ℕ) → p < 320 → HeldFrom least (parcels n p)
 
 abbrev pub TiesOf : {W : Type 0} → ℕ → Grid W → Type 0
 TiesOf least g = Ties least g.window.frames g.parcels g.asked g.works g.careful g.units
@@ -80,7 +80,7 @@ module _ (parcels parcels' : ℕ → Stand) (asked asked' works works' : ℕ →
     (a : Alike parcels parcels' asked asked' works works') where
   pub tied_alike : (f : Frame) → Tied parcels asked works f → Tied parcels' asked' works' f
   tied_alike f t = record {
-    travelling = λ p. ap is_here (a.parcels_are p) ∙ t.travelling p
+    travelling = λ p l. ap is_here (a.parcels_are p) ∙ t.travelling p l
         ∙ sym (travels_by asked works asked' works' f f p refl (a.works_are (p / 2))
         (λ i e. come_asked asked asked' f i (p / 2) (a.asked_are i.number) (form_of i.op)) refl);
     standing = λ n h. t.standing n (sym (a.asked_are n) ∙ h);
@@ -91,7 +91,7 @@ module _ (parcels parcels' : ℕ → Stand) (asked asked' works works' : ℕ →
 
   pub nothing_alike : Nothing parcels asked works → Nothing parcels' asked' works'
   nothing_alike n = record {
-    none_travels = λ p. a.parcels_are p ∙ n.none_travels p;
+    none_travels = λ p l. a.parcels_are p ∙ n.none_travels p l;
     none_stands = λ k. a.asked_are k ∙ n.none_stands k;
     none_works = λ s. a.works_are s ∙ n.none_works s;
   }
@@ -118,7 +118,7 @@ module _ (least : ℕ) (n : ℕ) (fs : List Frame) (a : FrameAt n fs) (g : Frame
   pub ties_step : Ties least fs parcels asked works careful units → g.sealed ≡ false
       → EachFrame FrameRule (a.older ++ g ∷ a.younger) → Tied (parcels' n) (asked' n) (works' n) g
       → (careful n ≡ true → none_guessed g ≡ true) → UnitsRule units' works'
-      → ((p : ℕ) → HeldFrom least (parcels' n p))
+      → ((p : ℕ) → p < 320 → HeldFrom least (parcels' n p))
       → Ties least (a.older ++ g ∷ a.younger) parcels' asked' works' careful units'
   ties_step t runs rules tied sure busy held = record {
     frames = rules;
@@ -142,17 +142,17 @@ module _ (least : ℕ) (n : ℕ) (fs : List Frame) (a : FrameAt n fs) (g : Frame
         ∙ sym (runs_one m g a.younger (λ z. d (sym z ∙ number))) ∙ parts.1) in
         nothing_alike (parcels m) (parcels' m) (asked m) (asked' m) (works m) (works' m) (others m d) (t.nothing m was);
     busy = busy;
-    mesh = λ m p. go m p (equal_or m n);
+    mesh = λ m p l. go m p l (equal_or m n);
   }
     where
-      go : (m p : ℕ) → (m ≡ n) ⊎ (m ≢ n) → HeldFrom least (parcels' m p)
-      go m p (inl e) = subst (λ k. HeldFrom least (parcels' k p)) (sym e) (held p)
-      go m p (inr d) = subst (HeldFrom least) (sym ((others m d).parcels_are p)) (t.mesh m p)
+      go : (m p : ℕ) → p < 320 → (m ≡ n) ⊎ (m ≢ n) → HeldFrom least (parcels' m p)
+      go m p l (inl e) = subst (λ k. HeldFrom least (parcels' k p)) (sym e) (held p l)
+      go m p l (inr d) = subst (HeldFrom least) (sym ((others m d).parcels_are p)) (t.mesh m p l)
 
   -- the frame is the same, and what is under way of it has changed
   pub ties_again : Ties least fs parcels asked works careful units → g ≡ a.frame → g.sealed ≡ false
       → Tied (parcels' n) (asked' n) (works' n) g → UnitsRule units' works'
-      → ((p : ℕ) → HeldFrom least (parcels' n p)) → Ties least fs parcels' asked' works' careful units'
+      → ((p : ℕ) → p < 320 → HeldFrom least (parcels' n p)) → Ties least fs parcels' asked' works' careful units'
   ties_again t e runs tied busy held =
       let back : a.older ++ g ∷ a.younger ≡ fs = ap (λ x. a.older ++ x ∷ a.younger) e ∙ sym a.split in
       let was = subst (EachFrame (λ f. careful f.number ≡ true → none_guessed f ≡ true)) (sym back) t.unguessed in
@@ -178,13 +178,14 @@ forgotten_units units works gone u = record {
         go true z = absurd (true≢false (sym z))
         go false z = z
 
-pub forgotten_held : (least : ℕ) (parcels : Places) (gone : ℕ → Bool) → ((n p : ℕ) → HeldFrom least (parcels n p))
-    → (n p : ℕ) → HeldFrom least (cond (gone n) Nowhere (parcels n p))
-forgotten_held least parcels gone h n p = go (gone n)
+pub forgotten_held : (least : ℕ) (parcels : Places) (gone : ℕ → Bool)
+    → ((n p : ℕ) → p < 320 → HeldFrom least (parcels n p))
+    → (n p : ℕ) → p < 320 → HeldFrom least (cond (gone n) Nowhere (parcels n p))
+forgotten_held least parcels gone h n p l = go (gone n)
   where
     go : (b : Bool) → HeldFrom least (cond b Nowhere (parcels n p))
     go true = tt
-    go false = h n p
+    go false = h n p l
 
 module _ (parcels : ℕ → Stand) (asked works : ℕ → Bool) where
   -- of a number that is not forgotten
@@ -199,7 +200,7 @@ module _ (parcels : ℕ → Stand) (asked works : ℕ → Bool) where
   -- of a number that is forgotten, or of which nothing was under way
   pub forgotten_nothing : (b : Bool) → (b ≡ false → Nothing parcels asked works)
       → Nothing (λ p. cond b Nowhere (parcels p)) (λ n. cond b false (asked n)) (λ s. cond b false (works s))
-  forgotten_nothing true h = record { none_travels = λ p. refl; none_stands = λ n. refl; none_works = λ s. refl }
+  forgotten_nothing true h = record { none_travels = λ p l. refl; none_stands = λ n. refl; none_works = λ s. refl }
   forgotten_nothing false h =
       let k = h refl in
       record { none_travels = k.none_travels; none_stands = k.none_stands; none_works = k.none_works }

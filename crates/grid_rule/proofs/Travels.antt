@@ -66,6 +66,10 @@ waits_none q t e = ap (λ o. is_waiting o t) e
 
 -- places -----------------------------------------------------------------------------------------
 
+-- the two places of a slot or a read
+abbrev pub IsPlace : ℕ → ℕ → Type 0
+IsPlace p q = (q ≡ p) ⊎ (q ≡ suc p)
+
 pub half_first : (s : ℕ) → 2 * s / 2 ≡ s
 half_first s = omega arith
 
@@ -134,6 +138,18 @@ module _ (asked works : ℕ → Bool) (f : Frame) where
       slot_travels (suc (2 * s)) i (second_low s l) (ap (slot_of f.code) (half_second s) ∙ is)
       ∙ ap₂ (λ k b. not (works k) && form_travels (form_of i.op) b (to_come asked f (form_of i.op) i k)
       (is_some (at f.places (suc (2 * s))))) (half_second s) (odd_second s)
+
+-- what is to come where nothing has begun or ceased to wait
+pub come_by : (asked : ℕ → Bool) (f g : Frame) → g.requests ≡ f.requests → g.leaving ≡ f.leaving → (i : Inst) (s : ℕ)
+    (t : Form) → to_come asked g t i s ≡ to_come asked f t i s
+come_by asked f g requests leaving i s General = refl
+come_by asked f g requests leaving i s Immediate = refl
+come_by asked f g requests leaving i s Constant = refl
+come_by asked f g requests leaving i s Load =
+    ap (λ l. is_waiting (at l i.number) s && not (asked i.number)) requests
+come_by asked f g requests leaving i s Store =
+    ap (λ l. is_waiting (at l i.number) s && not (asked i.number)) requests
+come_by asked f g requests leaving i s Branch = ap (λ o. is_waiting o s) leaving
 
 -- a place of which nothing changes
 pub travels_by : (asked works asked' works' : ℕ → Bool) (f g : Frame) (p : ℕ) → g.code ≡ f.code

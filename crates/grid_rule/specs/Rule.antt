@@ -8,7 +8,7 @@ use Rattle.trips_isa.specs.Forms.{form_of, is_store}
 use Rattle.block_cases.specs.Orders.{slot_of}
 use Rattle.operand_net.specs.declared.parcel.Stand.{Stand}
 use Rattle.operand_net.specs.declared.parcel.Stand.TheVariants.{Nowhere, Away, Held}
-use Rattle.commit_flush_spec.specs.Frames.{Frame, at, target, is_target}
+use Rattle.commit_flush_spec.specs.Frames.{Frame, at, token_places, target, is_target}
 use Rattle.commit_flush_spec.specs.Older.{follows}
 use Rattle.window_progress.specs.Observers.{has_number}
 use Rattle.window_progress.specs.Work.{none_guessed}
@@ -89,7 +89,7 @@ pub record RuleFrom {W : Type 0} (least : ℕ) (g : Grid W) : Type 0 where
   pub careful : EachFrame (IsCareful g) g.window.frames
   pub nothing : (n : ℕ) → runs_in n g.window.frames ≡ false → Nothing (g.parcels n) (g.asked n) (g.works n)
   pub units : UnitsRule g.units g.works
-  pub mesh : (n p : ℕ) → HeldFrom least (g.parcels n p)
+  pub mesh : (n p : ℕ) → p < token_places → HeldFrom least (g.parcels n p)
   pub fetch : FetchRule (known_next g.window) g.fetching
 
 -- the grid's rule: in parts (1) to (5) of a cycle and between cycles nothing has come and is held no longer, since it

@@ -1,6 +1,6 @@
 -- What of a frame is under way in the grid: a parcel, a request at a data tile or a result in a unit stands for each
 -- token that is in a place of the frame and for each instruction that waits, and for nothing else.
-use Rattle.std.specs.Prelude.{◌≡◌, ◌≢◌, ℕ, suc, ◌*◌, ◌/◌, ◌%◌, ◌==◌, ◌&&◌, ◌||◌, not, Bool, true, false, cond}
+use Rattle.std.specs.Prelude.{◌≡◌, ◌≢◌, ℕ, suc, ◌<◌, ◌*◌, ◌/◌, ◌%◌, ◌==◌, ◌&&◌, ◌||◌, not, Bool, true, false, cond}
 use Rattle.std.specs.Prelude.{nat_lt, Option, Some, None, is_some, slice_index_or}
 use Rattle.trips_isa.specs.declared.block.Inst.{Inst}
 use Rattle.trips_isa.specs.declared.form.Form.{Form}
@@ -10,7 +10,7 @@ use Rattle.block_cases.specs.Orders.{slot_of}
 use Rattle.operand_net.specs.declared.parcel.Stand.{Stand}
 use Rattle.operand_net.specs.declared.parcel.Stand.TheVariants.{Nowhere}
 use Rattle.operand_net.specs.IsStands.{is_here}
-use Rattle.commit_flush_spec.specs.Frames.{Frame, at, first_read_place, target, is_target}
+use Rattle.commit_flush_spec.specs.Frames.{Frame, at, first_read_place, token_places, target, is_target}
 use Rattle.grid_cycle_spec.specs.Arrivals.{is_waiting}
 
 -- parcels -----------------------------------------------------------------------------------------
@@ -70,12 +70,12 @@ pub record InUnit (asked : ℕ → Bool) (f : Frame) (s : ℕ) : Type 0 where
 -- a running frame and what is under way of it: there is a parcel in a place exactly where one is to be, each request
 -- at a data tile is one that waits, and each result in a unit is one that is to come
 pub record Tied (parcels : ℕ → Stand) (asked works : ℕ → Bool) (f : Frame) : Type 0 where
-  pub travelling : (p : ℕ) → is_here (parcels p) ≡ travels asked works f p
+  pub travelling : (p : ℕ) → p < token_places → is_here (parcels p) ≡ travels asked works f p
   pub standing : (n : ℕ) → asked n ≡ true → at f.requests n ≢ None
   pub working : (s : ℕ) → works s ≡ true → InUnit asked f s
 
 -- nothing is under way
 pub record Nothing (parcels : ℕ → Stand) (asked works : ℕ → Bool) : Type 0 where
-  pub none_travels : (p : ℕ) → parcels p ≡ Nowhere
+  pub none_travels : (p : ℕ) → p < token_places → parcels p ≡ Nowhere
   pub none_stands : (n : ℕ) → asked n ≡ false
   pub none_works : (s : ℕ) → works s ≡ false
