@@ -104,6 +104,13 @@ runs_flight n (f ∷ fs) e =
     let o = or_false (f.number == n) (in_flight n fs) e in
     ap₂ (λ a b. a || b) (and_false (f.number == n) (not f.sealed) o.0) (runs_flight n fs o.1)
 
+and_none : (a : Bool) → (a && false) ≡ false
+and_none true = refl
+and_none false = refl
+
+pub runs_one : (m : ℕ) (f : Frame) (gs : List Frame) → f.number ≢ m → runs_in m (f ∷ gs) ≡ runs_in m gs
+runs_one m f gs d = ap (λ b. (b && not f.sealed) || runs_in m gs) (apart f.number m d)
+
 -- a frame among others, which have other numbers
 pub record FrameAt (n : ℕ) (fs : List Frame) : Type 0 where
   pub older : List Frame
@@ -165,6 +172,33 @@ moved_at n fs a f e = record {
   before = a.before;
   behind = a.behind;
 }
+
+-- each of the others stays as it was
+pub each_step : (P Q : Frame → Type 0) (n : ℕ) (fs : List Frame) (a : FrameAt n fs) (g : Frame)
+    → ((f : Frame) → f.number ≢ n → P f → Q f) → Q g → EachFrame P fs → EachFrame Q (a.older ++ g ∷ a.younger)
+each_step P Q n fs a g h now e =
+    let was : EachFrame P (a.older ++ a.frame ∷ a.younger) = subst (EachFrame P) a.split e in
+    each_join Q a.older (g ∷ a.younger)
+    (each_other P Q n h a.older a.before (each_front P a.older (a.frame ∷ a.younger) was))
+    (now, each_other P Q n h a.younger a.behind (each_rest P a.older (a.frame ∷ a.younger) was).1)
+
+-- a number that another frame in its place does not have runs where it ran
+pub runs_step : (n m : ℕ) (fs : List Frame) (a : FrameAt n fs) (g : Frame) → g.number ≡ n → m ≢ n
+    → runs_in m (a.older ++ g ∷ a.younger) ≡ false → runs_in m fs ≡ false
+runs_step n m fs a g number d e =
+    let parts = or_false (runs_in m a.older) (runs_in m (g ∷ a.younger))
+    (sym (runs_join m a.older (g ∷ a.younger)) ∙ e) in
+    ap (runs_in m) a.split ∙ runs_join m a.older (a.frame ∷ a.younger)
+    ∙ ap₂ (λ x y. x || y) parts.0 (runs_one m a.frame a.younger (λ z. d (sym z ∙ a.number))
+    ∙ sym (runs_one m g a.younger (λ z. d (sym z ∙ number))) ∙ parts.1)
+
+-- a frame that is sealed does not run
+pub sealed_rests : (n : ℕ) (fs : List Frame) (a : FrameAt n fs) → a.frame.sealed ≡ true → runs_in n fs ≡ false
+sealed_rests n fs a e =
+    ap (runs_in n) a.split ∙ runs_join n a.older (a.frame ∷ a.younger)
+    ∙ ap₂ (λ x y. x || y) (runs_flight n a.older a.before)
+    (ap (λ s. ((a.frame.number == n) && not s) || runs_in n a.younger) e
+    ∙ ap₂ (λ x y. x || y) (and_none (a.frame.number == n)) (runs_flight n a.younger a.behind))
 
 -- one more frame before
 more_at : (n : ℕ) (g : Frame) (fs : List Frame) → (g.number == n) ≡ false → FrameAt n fs → FrameAt n (g ∷ fs)

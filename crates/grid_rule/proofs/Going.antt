@@ -22,7 +22,7 @@ use Rattle.grid_rule.specs.UnderWay.{Tied}
 use Rattle.grid_rule.specs.Rule.{EachFrame, FetchRule, FrameRule, HeldFrom, RuleFrom, UnitsRule}
 use Rattle.grid_rule.proofs.Each.{FrameAt, answered_at, changed_at, done_flight, each_rest, find_at}
 use Rattle.grid_rule.proofs.FrameRules.{events_rule, went}
-use Rattle.grid_rule.proofs.Ties.{Alike, Ties, TiesOf, ties_again, ties_step}
+use Rattle.grid_rule.proofs.Ties.{Alike, TiesOf, rule_of, ties_again, ties_of, ties_step}
 
 -- events -----------------------------------------------------------------------------------------
 
@@ -182,3 +182,11 @@ module _ {W : Type 0} (blocks : List Block) (good : AllGood blocks) (budget : �
         units a.number others r.ties refl runs tied busy held;
     fetch = r.fetch;
   }
+
+-- what keeps a grid going keeps its rule
+pub kept : {W : Type 0} (blocks : List Block) (budget least : ℕ) (g h : Grid W)
+    → (Going blocks budget least g → Going blocks budget least h) → WindowOk blocks budget g.window
+    → g.window.over ≡ Went → RuleFrom least g → RuleFrom least h
+kept blocks budget least g h does ok went rule =
+    let k = does (record { ok = ok; went = went; ties = ties_of least g rule; fetch = rule.fetch }) in
+    rule_of least h k.ties k.fetch

@@ -5,4 +5,7 @@ pub mod Entered
 pub mod Ties
 pub mod TiedFrames
 pub mod Going
+pub mod Begin
+pub mod EndParts
+pub mod FetchParts
 pub mod BankParts

@@ -20,8 +20,7 @@ use Rattle.grid_cycle_spec.specs.Grid.{Grid}
 use Rattle.grid_rule.specs.UnderWay.{to_come, travels, InUnit, Tied, Nothing}
 use Rattle.grid_rule.specs.Rule.{EachFrame, FrameRule, HeldFrom, RuleFrom, FetchRule, UnitsRule, runs_in}
 use Rattle.grid_cycle_spec.specs.Acting.{known_next}
-use Rattle.grid_rule.proofs.Each.{FrameAt, each_map, each_other, each_left, each_front, each_rest, each_join, same, apart}
-use Rattle.grid_rule.proofs.Each.{equal, runs_join, differ}
+use Rattle.grid_rule.proofs.Each.{FrameAt, each_left, each_rest, each_step, runs_join, runs_step, same}
 use Rattle.grid_rule.proofs.Travels.{travels_by, in_unit_by}
 
 -- the rule but for the fetch unit, by what it speaks of
@@ -98,22 +97,10 @@ module _ (parcels parcels' : ℕ → Stand) (asked asked' works works' : ℕ →
 
 -- one frame --------------------------------------------------------------------------------------
 
-runs_one : (m : ℕ) (f : Frame) (gs : List Frame) → f.number ≢ m → runs_in m (f ∷ gs) ≡ runs_in m gs
-runs_one m f gs d = ap (λ b. (b && not f.sealed) || runs_in m gs) (apart f.number m d)
-
 module _ (least : ℕ) (n : ℕ) (fs : List Frame) (a : FrameAt n fs) (g : Frame) (parcels parcels' : Places)
     (asked asked' works works' : ℕ → ℕ → Bool) (careful : ℕ → Bool) (units units' : ℕ → ℕ)
     (number : g.number ≡ n)
     (others : (m : ℕ) → m ≢ n → Alike (parcels m) (parcels' m) (asked m) (asked' m) (works m) (works' m)) where
-  -- each of the others stays as it was
-  step_each : (P Q : Frame → Type 0) → ((f : Frame) → f.number ≢ n → P f → Q f) → Q g → EachFrame P fs
-      → EachFrame Q (a.older ++ g ∷ a.younger)
-  step_each P Q h now e =
-      let was : EachFrame P (a.older ++ a.frame ∷ a.younger) = subst (EachFrame P) a.split e in
-      each_join Q a.older (g ∷ a.younger)
-      (each_other P Q n h a.older a.before (each_front P a.older (a.frame ∷ a.younger) was))
-      (now, each_other P Q n h a.younger a.behind (each_rest P a.older (a.frame ∷ a.younger) was).1)
-
   -- a running frame has changed, and what is under way of it
   pub ties_step : Ties least fs parcels asked works careful units → g.sealed ≡ false
       → EachFrame FrameRule (a.older ++ g ∷ a.younger) → Tied (parcels' n) (asked' n) (works' n) g
@@ -122,24 +109,22 @@ module _ (least : ℕ) (n : ℕ) (fs : List Frame) (a : FrameAt n fs) (g : Frame
       → Ties least (a.older ++ g ∷ a.younger) parcels' asked' works' careful units'
   ties_step t runs rules tied sure busy held = record {
     frames = rules;
-    tied = step_each
+    tied = each_step
         (λ f. f.sealed ≡ false → Tied (parcels f.number) (asked f.number) (works f.number) f)
-        (λ f. f.sealed ≡ false → Tied (parcels' f.number) (asked' f.number) (works' f.number) f)
+        (λ f. f.sealed ≡ false → Tied (parcels' f.number) (asked' f.number) (works' f.number) f) n fs a g
         (λ f d h z. tied_alike (parcels f.number) (parcels' f.number) (asked f.number) (asked' f.number)
         (works f.number) (works' f.number) (others f.number d) f (h z))
         (λ z. subst (λ m. Tied (parcels' m) (asked' m) (works' m) g) (sym number) tied) t.tied;
-    unguessed = step_each
+    unguessed = each_step
         (λ f. careful f.number ≡ true → none_guessed f ≡ true)
-        (λ f. careful f.number ≡ true → none_guessed f ≡ true)
+        (λ f. careful f.number ≡ true → none_guessed f ≡ true) n fs a g
         (λ f d h. h) (λ z. sure (sym (ap careful number) ∙ z)) t.unguessed;
     nothing = λ m e.
         let parts = or_false (runs_in m a.older) (runs_in m (g ∷ a.younger))
         (sym (runs_join m a.older (g ∷ a.younger)) ∙ e) in
         let d : m ≢ n = (λ z. true≢false (sym (ap₂ (λ x y. (x && not y) || runs_in m a.younger)
         (ap (λ k. k == m) (number ∙ sym z) ∙ same m) runs) ∙ parts.1)) in
-        let was : runs_in m fs ≡ false = ap (runs_in m) a.split ∙ runs_join m a.older (a.frame ∷ a.younger)
-        ∙ ap₂ (λ x y. x || y) parts.0 (runs_one m a.frame a.younger (λ z. d (sym z ∙ a.number))
-        ∙ sym (runs_one m g a.younger (λ z. d (sym z ∙ number))) ∙ parts.1) in
+        let was : runs_in m fs ≡ false = runs_step n m fs a g number d e in
         nothing_alike (parcels m) (parcels' m) (asked m) (asked' m) (works m) (works' m) (others m d) (t.nothing m was);
     busy = busy;
     mesh = λ m p l. go m p l (equal_or m n);
