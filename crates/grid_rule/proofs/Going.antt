@@ -18,9 +18,9 @@ use Rattle.window_progress.specs.Work.{none_guessed}
 use Rattle.grid_cycle_spec.specs.Grid.{Grid}
 use Rattle.grid_cycle_spec.specs.Acting.{is_done, known_next, may}
 use Rattle.grid_cycle_spec.specs.Choosing.{each}
-use Rattle.grid_rule.specs.UnderWay.{Tied}
+use Rattle.grid_rule.specs.UnderWay.{Nothing, Tied}
 use Rattle.grid_rule.specs.Rule.{EachFrame, FetchRule, FrameRule, HeldFrom, RuleFrom, UnitsRule}
-use Rattle.grid_rule.proofs.Each.{FrameAt, answered_at, changed_at, done_flight, each_rest, find_at}
+use Rattle.grid_rule.proofs.Each.{FrameAt, answered_at, changed_at, done_flight, each_rest, find_at, sealed_rests}
 use Rattle.grid_rule.proofs.FrameRules.{events_rule, went}
 use Rattle.grid_rule.proofs.Ties.{Alike, TiesOf, rule_of, ties_again, ties_of, ties_step}
 
@@ -110,6 +110,15 @@ module _ {W : Type 0} (blocks : List Block) (good : AllGood blocks) (budget : �
       ((each_rest (λ f. f.sealed ≡ false → Tied (g.parcels f.number) (g.asked f.number) (g.works f.number) f) a.older
       (a.frame ∷ a.younger) (subst (EachFrame (λ f. f.sealed ≡ false
       → Tied (g.parcels f.number) (g.asked f.number) (g.works f.number) f)) a.split t.tied)).0 runs)
+
+  -- a frame of which something is under way runs
+  pub awake : (least : ℕ) → TiesOf least g → (Nothing (g.parcels n) (g.asked n) (g.works n) → ⊥)
+      → a.frame.sealed ≡ false
+  awake least t some = go a.frame.sealed refl
+    where
+      go : (b : Bool) → a.frame.sealed ≡ b → a.frame.sealed ≡ false
+      go false e = e
+      go true e = absurd (some (t.nothing n (sealed_rests n g.window.frames a e)))
 
   pub frame_sure : (least : ℕ) → TiesOf least g → g.careful n ≡ true → none_guessed a.frame ≡ true
   frame_sure least t e =

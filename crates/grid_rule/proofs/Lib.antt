@@ -9,3 +9,5 @@ pub mod Begin
 pub mod EndParts
 pub mod FetchParts
 pub mod BankParts
+pub mod Flushing
+pub mod DataParts

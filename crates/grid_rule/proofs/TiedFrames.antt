@@ -106,7 +106,7 @@ module _ (asked asked' : ℕ → Bool) (f g : Frame) (n : ℕ) (requests : g.req
   ]
 
 -- a load whose request has come to its data tile is in no unit, and only a token of it travels
-module _ (asked works : ℕ → Bool) (f : Frame) (n s : ℕ) (i : Inst) (small : s < 128) (is : slot_of f.code s ≡ Some i)
+module _ (asked works : ℕ → Bool) (f : Frame) (s : ℕ) (i : Inst) (small : s < 128) (is : slot_of f.code s ≡ Some i)
     (load : form_of i.op ≡ Load) (rests : works s ≡ false) (none : to_come asked f Load i s ≡ false) where
   pub load_travels : (q : ℕ) → IsPlace (2 * s) q → travels asked works f q ≡ is_some (at f.places q)
   load_travels q (inl e) = ap (travels asked works f) e ∙ first_travels asked works f s i small is
