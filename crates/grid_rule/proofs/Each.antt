@@ -104,6 +104,14 @@ runs_flight n (f ∷ fs) e =
     let o = or_false (f.number == n) (in_flight n fs) e in
     ap₂ (λ a b. a || b) (and_false (f.number == n) (not f.sealed) o.0) (runs_flight n fs o.1)
 
+-- a frame that runs is in flight
+pub runs_are : (n : ℕ) (fs : List Frame) → runs_in n fs ≡ true → in_flight n fs ≡ true
+runs_are n fs e = go (in_flight n fs) refl
+  where
+    go : (b : Bool) → in_flight n fs ≡ b → in_flight n fs ≡ true
+    go true i = i
+    go false i = absurd (true≢false (sym e ∙ runs_flight n fs i))
+
 and_none : (a : Bool) → (a && false) ≡ false
 and_none true = refl
 and_none false = refl

@@ -11,3 +11,4 @@ pub mod FetchParts
 pub mod BankParts
 pub mod Flushing
 pub mod DataParts
+pub mod UnitParts
