@@ -1,7 +1,7 @@
 -- Part (3) of a cycle, the banks, keeps the rule.
 use Rattle.std.proofs.Common.{◌≡◌, ◌≢◌, ℕ, suc, ◌+◌, ◌*◌, ◌<◌, Bool, true, false, ◌⊎◌, inl, inr, List, ◌∷◌, ◌++◌}
 use Rattle.std.proofs.Common.{Option, Some, None, set, get_or, nat_lt, refl, sym, ap, ap₂, ◌∙◌, subst, true≢false, arith}
-use Rattle.std.proofs.lemmas.Bool.Decides.{nat_tests}
+use Rattle.std.proofs.lemmas.Bool.{le-ltb}
 use Rattle.trips_isa.specs.declared.block.Block.{Block}
 use Rattle.trips_isa.specs.Forms.{form_of}
 use Rattle.operand_net.specs.Places.{Places}
@@ -73,8 +73,8 @@ module _ {W : Type 0} (blocks : List Block) (good : AllGood blocks) (budget leas
     G = record g { window = moved_to blocks good budget g a0.frame.number a F }
 
     high : (q : ℕ) → IsPlace p q → nat_lt q 256 ≡ false
-    high q (inl e) = grind (arith, nat_tests)
-    high q (inr e) = grind (arith, nat_tests)
+    high q (inl e) = ap (λ k. nat_lt k 256) e ∙ le-ltb (256 + 2 * r) 256 (omega arith)
+    high q (inr e) = ap (λ k. nat_lt k 256) e ∙ le-ltb (suc (256 + 2 * r)) 256 (omega arith)
 
     runs : f.sealed ≡ false
     runs = (not_now f.sealed NoFrame _ asks).0

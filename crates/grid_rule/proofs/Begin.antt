@@ -6,14 +6,14 @@ use Rattle.grid_cycle_spec.specs.Cycles.{begun_at}
 use Rattle.grid_rule.specs.Rule.{GenerationsCounted, GridRule}
 
 unstarted_at : (n : ℕ) → slice_index unstarted n ≤ 0
-unstarted_at 0 = omega arith
-unstarted_at 1 = omega arith
-unstarted_at 2 = omega arith
-unstarted_at 3 = omega arith
-unstarted_at 4 = omega arith
-unstarted_at 5 = omega arith
-unstarted_at 6 = omega arith
-unstarted_at 7 = omega arith
+unstarted_at zero = omega arith
+unstarted_at (suc zero) = omega arith
+unstarted_at (suc (suc zero)) = omega arith
+unstarted_at (suc (suc (suc zero))) = omega arith
+unstarted_at (suc (suc (suc (suc zero)))) = omega arith
+unstarted_at (suc (suc (suc (suc (suc zero))))) = omega arith
+unstarted_at (suc (suc (suc (suc (suc (suc zero)))))) = omega arith
+unstarted_at (suc (suc (suc (suc (suc (suc (suc zero))))))) = omega arith
 unstarted_at (suc (suc (suc (suc (suc (suc (suc (suc n)))))))) = omega arith
 
 pub begins_right : {W : Type 0} (s : State) (entries : List ℕ) (weather : W) → GridRule (begun_at s entries weather)

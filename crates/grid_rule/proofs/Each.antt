@@ -142,7 +142,7 @@ split_at (g ∷ older) f younger h =
     let other = (or_false (f.number == g.number) (in_flight g.number younger) parts.1).0 in
     (ap₂ (λ a b. a || b) (turned f.number g.number other) r.0, r.1)
 
-pub frame_at : (older : List Frame) (f : Frame) (younger : List Frame) (n : ℕ) → f.number ≡ n
+abbrev pub frame_at : (older : List Frame) (f : Frame) (younger : List Frame) (n : ℕ) → f.number ≡ n
     → AreNumbers (nums (older ++ f ∷ younger)) → FrameAt n (older ++ f ∷ younger)
 frame_at older f younger n e h =
     let k = split_at older f younger h in
@@ -157,7 +157,7 @@ frame_at older f younger n e h =
     }
 
 -- the same frame by its own number
-pub own_at : (n : ℕ) (fs : List Frame) (a : FrameAt n fs) → FrameAt a.frame.number fs
+abbrev pub own_at : (n : ℕ) (fs : List Frame) (a : FrameAt n fs) → FrameAt a.frame.number fs
 own_at n fs a = record {
   older = a.older;
   frame = a.frame;
@@ -169,7 +169,7 @@ own_at n fs a = record {
 }
 
 -- another frame of that number in its place
-pub moved_at : (n : ℕ) (fs : List Frame) (a : FrameAt n fs) (f : Frame) → f.number ≡ n
+abbrev pub moved_at : (n : ℕ) (fs : List Frame) (a : FrameAt n fs) (f : Frame) → f.number ≡ n
     → FrameAt n (a.older ++ f ∷ a.younger)
 moved_at n fs a f e = record {
   older = a.older;
@@ -209,7 +209,7 @@ sealed_rests n fs a e =
     ∙ ap₂ (λ x y. x || y) (and_none (a.frame.number == n)) (runs_flight n a.younger a.behind))
 
 -- one more frame before
-more_at : (n : ℕ) (g : Frame) (fs : List Frame) → (g.number == n) ≡ false → FrameAt n fs → FrameAt n (g ∷ fs)
+abbrev more_at : (n : ℕ) (g : Frame) (fs : List Frame) → (g.number == n) ≡ false → FrameAt n fs → FrameAt n (g ∷ fs)
 more_at n g fs e a = record {
   older = g ∷ a.older;
   frame = a.frame;
@@ -348,12 +348,13 @@ eldest_is test n (f ∷ fs) q h e = go (least (test f) n 0) refl e (eldest_is te
 pub eldest_none : (test : Frame → ℕ → Bool) (n : ℕ) (fs : List Frame) → eldest test n fs ≡ None
     → EachFrame (λ f. (j : ℕ) → j < n → test f j ≡ false) fs
 eldest_none test n [] e = tt
-eldest_none test n (f ∷ fs) e = go (least (test f) n 0) refl e
+eldest_none test n (f ∷ fs) e = go (least (test f) n 0) refl e (eldest_none test n fs)
   where
     go : (o : Option ℕ) → least (test f) n 0 ≡ o → found_in f o (eldest test n fs) ≡ None
+        → (eldest test n fs ≡ None → EachFrame (λ f. (j : ℕ) → j < n → test f j ≡ false) fs)
         → EachFrame (λ f. (j : ℕ) → j < n → test f j ≡ false) (f ∷ fs)
-    go None i k = (
+    go None i k rest = (
       λ j l. let z : 0 + j ≡ j = omega arith in ap (test f) (sym z) ∙ least_none (test f) n 0 i j l,
-      eldest_none test n fs k,
+      rest k,
     )
-    go (Some j) i k = absurd (cc)
+    go (Some j) i k rest = absurd (cc)

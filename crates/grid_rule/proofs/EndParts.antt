@@ -161,7 +161,7 @@ module _ {W : Type 0} (blocks : List Block) (good : AllGood blocks) (budget leas
   -- a frame that commits without a trap
   committed_ruled : (v : Window) → v.frames ≡ fs → WindowOk blocks budget v → (s : Stepped) → (IsTrap s → ⊥)
       → Ruled blocks budget least (committed_as s f fs (record g { window = v }))
-  committed_ruled v e ok s no = go s no
+  committed_ruled v e ok s never = go s never
     where
       ties : Ties least v.frames (λ m p. cond (m == f.number) Nowhere (g.parcels m p))
           (λ m k. cond (m == f.number) false (g.asked m k)) (λ m s. cond (m == f.number) false (g.works m s))
@@ -184,10 +184,10 @@ module _ {W : Type 0} (blocks : List Block) (good : AllGood blocks) (budget leas
       }
 
       go : (s : Stepped) → (IsTrap s → ⊥) → Ruled blocks budget least (committed_as s f fs (record g { window = v }))
-      go stepped.Went no = learned f.exit
-      go stepped.Ended no = learned f.exit
-      go stepped.StackFull no = learned f.exit
-      go (stepped.Trap c) no = absurd (no tt)
+      go stepped.Went never = learned f.exit
+      go stepped.Ended never = learned f.exit
+      go stepped.StackFull never = learned f.exit
+      go (stepped.Trap c) never = absurd (never tt)
 
   outcome_ruled : (x : Outcome) → WindowOk blocks budget (commit_to x f fs g.window)
       → Ruled blocks budget least (committed_as (commit_to x f fs g.window).over f fs
@@ -219,7 +219,7 @@ module _ {W : Type 0} (blocks : List Block) (good : AllGood blocks) (budget leas
 
   pub ends_ruled : (g : Grid W) → Ruled blocks budget least g → Ruled blocks budget least (ends blocks budget g)
   ends_ruled g r = commit_ruled (seal_each blocks budget (numbers_of g.window.frames) g)
-      (seals_ruled (numbers_of g.window.frames) g r)
+      (seals_ruled blocks good budget least (numbers_of g.window.frames) g r)
 
   pub ends_rule : (g : Grid W) → WindowOk blocks budget g.window → RuleFrom least g
       → RuleFrom least (ends blocks budget g)

@@ -161,6 +161,9 @@ module _ {W : Type 0} (blocks : List Block) (good : AllGood blocks) (budget leas
           counts = one_fetched g.counts;
         }) window_is (ap filled k.lowest)
 
+begun_low : 7 < 8
+begun_low = omega arith
+
 module _ {W : Type 0} (blocks : List Block) (good : AllGood blocks) (budget least : ℕ) where
   -- the fetch unit alone changes, and the predictor
   refetched : (g : Grid W) → Going blocks budget least g → (o : Option Fetching) (p : Holding)
@@ -186,9 +189,6 @@ module _ {W : Type 0} (blocks : List Block) (good : AllGood blocks) (budget leas
   ended_going (Some f) g e r = on_going f.left f g refl (subst (FetchRule (known_next g.window)) e r.fetch) r
 
   -- a fetch begins ---------------------------------------------------------------------------------
-
-  begun_low : 7 < 8
-  begun_low = omega arith
 
   begun_here : (k : ℕ) (c : Bool) (g : Grid W) → follows (known_next g.window) k ≡ true → Going blocks budget least g
       → Going blocks budget least (begun k c g)

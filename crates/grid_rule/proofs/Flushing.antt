@@ -49,17 +49,17 @@ kept_rest known (f ∷ fs) = go (follows known f.block)
     go true = ([], no_more (f ∷ fs))
     go false = (f ∷ fs, refl)
 
-pub append_more : (as bs cs : List Frame) → (as ++ bs) ++ cs ≡ as ++ (bs ++ cs)
+pub append_more : (ds bs cs : List Frame) → (ds ++ bs) ++ cs ≡ ds ++ (bs ++ cs)
 append_more [] bs cs = refl
-append_more (a ∷ as) bs cs = ap (λ l. a ∷ l) (append_more as bs cs)
+append_more (a ∷ ds) bs cs = ap (λ l. a ∷ l) (append_more ds bs cs)
 
 -- numbers ----------------------------------------------------------------------------------------
 
 -- another frame of the same number
-pub nums_step : (as : List Frame) (f g : Frame) (bs : List Frame) → g.number ≡ f.number
-    → nums (as ++ g ∷ bs) ≡ nums (as ++ f ∷ bs)
+pub nums_step : (ds : List Frame) (f g : Frame) (bs : List Frame) → g.number ≡ f.number
+    → nums (ds ++ g ∷ bs) ≡ nums (ds ++ f ∷ bs)
 nums_step [] f g bs e = ap (λ n. n ∷ nums bs) e
-nums_step (a ∷ as) f g bs e = ap (λ l. a.number ∷ l) (nums_step as f g bs e)
+nums_step (a ∷ ds) f g bs e = ap (λ l. a.number ∷ l) (nums_step ds f g bs e)
 
 nums_drop : (k : ℕ) (fs : List Frame) → nums (drop k fs) ≡ drop k (nums fs)
 nums_drop zero fs = refl

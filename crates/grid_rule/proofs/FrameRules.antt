@@ -1,5 +1,5 @@
 -- Each event of the window keeps the rule of its frames.
-use Rattle.std.proofs.Common.{◌≡◌, ◌≢◌, ℕ, suc, ◌+◌, ◌*◌, ◌/◌, ◌%◌, ◌<◌, Bool, true, false, cond, not, ◌||◌, ◌⊎◌, inl}
+use Rattle.std.proofs.Common.{◌≡◌, ◌≢◌, ℕ, suc, ◌+◌, ◌*◌, ◌/◌, ◌%◌, ◌<◌, ◌≤◌, ◌==◌, Bool, true, false, cond, not, ◌||◌, ◌⊎◌, inl}
 use Rattle.std.proofs.Common.{inr, List, [], ◌∷◌, ◌++◌, Option, Some, None, slice_get, set, get_or, length, refl, sym}
 use Rattle.std.proofs.Common.{ap, ◌∙◌, subst, true≢false, arith, is_none}
 use Rattle.trips_isa.specs.declared.block.Inst.{Inst}
@@ -11,7 +11,7 @@ use Rattle.trips_isa.specs.declared.run.Stepped.{Stepped}
 use Rattle.trips_isa.specs.declared.run.Stepped.TheVariants as stepped
 use Rattle.trips_isa.specs.Forms.{form_of, is_load, is_store}
 use Rattle.trips_isa.specs.Outcomes.{Outcome, Comes, Faults, unless}
-use Rattle.trips_isa.specs.Places.{first_place}
+use Rattle.trips_isa.specs.Places.{first_place, nodes_of}
 use Rattle.trips_isa.specs.Rule.{Answer}
 use Rattle.trips_isa.specs.Stores.{stored_of}
 use Rattle.block_cases.specs.Orders.{slot_of}
@@ -76,7 +76,7 @@ sends f x p (Some t) even room from = record {
   marks = (send x p (Some t) f).marks;
   is = refl;
   keeps = λ q h. (fills f x p t even room from q).1 (inl h);
-  others = λ q n m. sent_other _ f.places p t q n m;
+  others = λ q n m. sent_other (slice_get (nodes_of f.code) x) f.places p t q n m;
   targets = λ q h. elim ((fills f x p t even room from q).0 h) [ inl z ↦ inl z | inr z ↦ inr z.1 ];
   full = λ n q w g. (fills f x p t even room from q).1 (inr (w, g));
 }
@@ -385,7 +385,7 @@ module _ (blocks : List Block) (good : AllGood blocks) (o : Older) (f : Frame) (
       ];
     }
 
-    exit_rule : (e : Option Exit) (c : ℕ) → FrameRule (with_exit e c f)
+    pub exit_rule : (e : Option Exit) (c : ℕ) → FrameRule (with_exit e c f)
     exit_rule e c = record { targets = rule.targets; stored = rule.stored; waits = rule.waits }
 
     seal_rule : FrameRule (seal o f)

@@ -11,4 +11,10 @@ pub mod FetchParts
 pub mod BankParts
 pub mod Flushing
 pub mod DataParts
+pub mod Units
+pub mod Issues
 pub mod UnitParts
+pub mod ArrivalParts
+pub mod TickParts
+pub mod CycleParts
+pub mod Generations

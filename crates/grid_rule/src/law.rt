@@ -1,5 +1,5 @@
 //! Laws of the grid's rule, over its definitions alone; each function's clause is the law.
-ghost use Rattle.std.specs.Prelude.{◌≡◌, ℕ, List};
+ghost use Rattle.std.specs.Prelude.{◌≡◌, ◌≤◌, ℕ, List};
 ghost use Rattle.trips_isa.specs.declared.block.Block.{Block};
 ghost use Rattle.trips_isa.specs.declared.run.Stepped.TheVariants.{Went};
 ghost use Rattle.trips_isa.specs.Machine.{State};
@@ -9,7 +9,9 @@ ghost use Rattle.grid_cycle_spec.specs.Grid.{Grid};
 ghost use Rattle.grid_cycle_spec.specs.Ends.{ends};
 ghost use Rattle.grid_cycle_spec.specs.Fetches.{fetches};
 ghost use Rattle.grid_cycle_spec.specs.Banks.{reads_answered};
-ghost use Rattle.grid_cycle_spec.specs.Cycles.{begun_at};
+ghost use Rattle.grid_cycle_spec.specs.DataTiles.{answers};
+ghost use Rattle.grid_cycle_spec.specs.Units.{works_on};
+ghost use Rattle.grid_cycle_spec.specs.Cycles.{AfterCycles, Eager, Moves, begun_at};
 ghost use Rattle.grid_rule.specs.Rule.{GenerationsCounted, GridRule};
 
 use operand_net::Weather;
@@ -21,20 +23,39 @@ pub fn grids_begin_right<W: Weather>()
         → GenerationsCounted (begun_at s entries weather) }
 {}
 
-/// Part (1) of a cycle keeps the rule: what is complete is sealed, and the oldest frame commits.
-pub fn ends_keep_the_rule<W: Weather>()
-    ensures { (blocks : List Block) (budget : ℕ) (g : Grid W) → AllGood blocks → WindowOk blocks budget g.window
+/// Each part of a cycle keeps the rule: (1) ends, (2) fetches, (3) the banks, (4) the data tiles, (5) the units, and
+/// (6) the mesh with what arrives, in a weather that holds nothing for more than 3 cycles.
+pub fn parts_keep_the_rule<W: Weather>()
+    ensures ends { (blocks : List Block) (budget : ℕ) (g : Grid W) → AllGood blocks → WindowOk blocks budget g.window
         → GridRule g → GridRule (ends blocks budget g) }
-{}
-
-/// Part (2) keeps the rule: a fetch ends, and the next one begins.
-pub fn fetches_keep_the_rule<W: Weather>()
-    ensures { (blocks : List Block) (budget : ℕ) (g : Grid W) → AllGood blocks → WindowOk blocks budget g.window
-        → g.window.over ≡ Went → GridRule g → GridRule (fetches blocks budget g) }
-{}
-
-/// Part (3) keeps the rule: banks answer reads.
-pub fn banks_keep_the_rule<W: Weather>()
-    ensures { (blocks : List Block) (budget : ℕ) (g : Grid W) → AllGood blocks → WindowOk blocks budget g.window
+    ensures fetches { (blocks : List Block) (budget : ℕ) (g : Grid W) → AllGood blocks
+        → WindowOk blocks budget g.window → g.window.over ≡ Went → GridRule g → GridRule (fetches blocks budget g) }
+    ensures banks { (blocks : List Block) (budget : ℕ) (g : Grid W) → AllGood blocks → WindowOk blocks budget g.window
         → g.window.over ≡ Went → GridRule g → GridRule (reads_answered blocks budget g) }
+    ensures tiles { (blocks : List Block) (budget : ℕ) (g : Grid W) → AllGood blocks → WindowOk blocks budget g.window
+        → g.window.over ≡ Went → GridRule g → GridRule (answers blocks budget g) }
+    ensures units { (blocks : List Block) (budget : ℕ) (g : Grid W) → AllGood blocks → WindowOk blocks budget g.window
+        → g.window.over ≡ Went → GridRule g → GridRule (works_on blocks budget g) }
+    ensures mesh { (blocks : List Block) (budget : ℕ) (g h : Grid W) → AllGood blocks → WindowOk blocks budget g.window
+        → g.window.over ≡ Went → ((w : W) → W.next w ≤ 3) → GridRule g → Moves W.next W.follows blocks budget g h
+        → GridRule h }
+{}
+
+/// Every eager cycle keeps the rule and the window's invariant, and so does any number of them. The only premise on
+/// the weather is that it holds nothing for more than 3 cycles.
+pub fn cycles_keep_the_rule<W: Weather>()
+    ensures one { (blocks : List Block) (budget : ℕ) (g h : Grid W) → AllGood blocks → WindowOk blocks budget g.window
+        → ((w : W) → W.next w ≤ 3) → GridRule g → Eager W.next W.follows blocks budget g h → GridRule h }
+    ensures rule { (blocks : List Block) (budget n : ℕ) (g h : Grid W) → AllGood blocks
+        → WindowOk blocks budget g.window → ((w : W) → W.next w ≤ 3) → GridRule g
+        → AfterCycles W.next W.follows blocks budget n g h → GridRule h }
+    ensures window { (blocks : List Block) (budget n : ℕ) (g h : Grid W) → AllGood blocks
+        → WindowOk blocks budget g.window → ((w : W) → W.next w ≤ 3) → GridRule g
+        → AfterCycles W.next W.follows blocks budget n g h → WindowOk blocks budget h.window }
+{}
+
+/// No frame is filled more often than cycles are made.
+pub fn cycles_count_generations<W: Weather>()
+    ensures { (blocks : List Block) (budget n : ℕ) (g h : Grid W) → GenerationsCounted g
+        → AfterCycles W.next W.follows blocks budget n g h → GenerationsCounted h }
 {}

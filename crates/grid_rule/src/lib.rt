@@ -5,4 +5,4 @@
 
 mod law;
 
-pub use law::{banks_keep_the_rule, ends_keep_the_rule, fetches_keep_the_rule, grids_begin_right};
+pub use law::{cycles_count_generations, cycles_keep_the_rule, grids_begin_right, parts_keep_the_rule};
