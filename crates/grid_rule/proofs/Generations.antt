@@ -127,6 +127,22 @@ raised (x ∷ xs) zero (suc m) = omega arith
 raised (x ∷ xs) (suc n) zero = omega arith
 raised (x ∷ xs) (suc n) (suc m) = raised xs n m
 
+-- a frame that is filled raises one generation by one
+fetched_more : (k : ℕ) (n : Option ℕ) (b : Option Block) (w : Window) (m : ℕ)
+    → slice_index (fetched k n b w).generations m ≤ slice_index w.generations m + 1
+fetched_more k None b w m = omega arith
+fetched_more k (Some n) None w m = omega arith
+fetched_more k (Some n) (Some b) w m = raised w.generations n m
+
+fill_more : (blocks : List Block) (budget k m : ℕ) (w : Window)
+    → slice_index (happens blocks budget (window.Fetch k) w).generations m ≤ slice_index w.generations m + 1
+fill_more blocks budget k m w = go (can blocks budget (window.Fetch k) w)
+  where
+    go : (h : Happened)
+        → slice_index (if_done h (done blocks (window.Fetch k) w) w).generations m ≤ slice_index w.generations m + 1
+    go Done = fetched_more k (lowest_empty 8 0 w.frames) (slice_get blocks k) w m
+    go (NotNow c) = omega arith
+
 module _ {W : Type 0} (blocks : List Block) (budget : ℕ) where
   commit_quiet : (fs : List Frame) (g : Grid W) → Quiet g (commit_in blocks budget fs g)
   commit_quiet [] g = alike g g refl refl
@@ -163,23 +179,8 @@ module _ {W : Type 0} (blocks : List Block) (budget : ℕ) where
     generations : (n : ℕ) → slice_index h.window.generations n ≤ slice_index g.window.generations n + 1
     cycles : h.counts.cycles ≡ g.counts.cycles
 
-  fetched_more : (k : ℕ) (n : Option ℕ) (b : Option Block) (w : Window) (m : ℕ)
-      → slice_index (fetched k n b w).generations m ≤ slice_index w.generations m + 1
-  fetched_more k None b w m = omega arith
-  fetched_more k (Some n) None w m = omega arith
-  fetched_more k (Some n) (Some b) w m = raised w.generations n m
-
-  fill_more : (k m : ℕ) (w : Window)
-      → slice_index (happens blocks budget (window.Fetch k) w).generations m ≤ slice_index w.generations m + 1
-  fill_more k m w = go (can blocks budget (window.Fetch k) w)
-    where
-      go : (h : Happened)
-          → slice_index (if_done h (done blocks (window.Fetch k) w) w).generations m ≤ slice_index w.generations m + 1
-      go Done = fetched_more k (lowest_empty 8 0 w.frames) (slice_get blocks k) w m
-      go (NotNow c) = omega arith
-
   filled_more : (b : Bool) (f : Fetching) (g : Grid W) → OneMore g (fill_where b blocks budget f g)
-  filled_more true f g = record { generations = λ n. fill_more f.block n g.window; cycles = refl }
+  filled_more true f g = record { generations = λ n. fill_more blocks budget f.block n g.window; cycles = refl }
   filled_more false f g = record { generations = λ n. omega arith; cycles = refl }
 
   on_more : (left : ℕ) (f : Fetching) (g : Grid W) → OneMore g (fetch_on blocks budget left f g)
