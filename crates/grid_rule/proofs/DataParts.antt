@@ -9,7 +9,9 @@ use Rattle.trips_isa.specs.declared.form.Form.{Form}
 use Rattle.trips_isa.specs.declared.form.Form.TheVariants.{General, Immediate, Load, Store, Branch, Constant}
 use Rattle.trips_isa.specs.declared.run.Stepped.TheVariants.{Went}
 use Rattle.trips_isa.specs.Forms.{form_of, is_load, is_store}
-use Rattle.trips_isa.specs.Stores.{stored_of}
+use Rattle.trips_isa.specs.declared.block.Token.TheVariants.{Null, Word}
+use Rattle.trips_isa.specs.Rule.{Answer}
+use Rattle.trips_isa.specs.Stores.{address_of, stored_of}
 use Rattle.block_cases.specs.Orders.{slot_of}
 use Rattle.operand_net.specs.Places.{Places}
 use Rattle.commit_flush_spec.specs.Frames.{Frame, Taken, at, numbers, slot_node}
@@ -33,7 +35,7 @@ use Rattle.window_progress.specs.Observers.{has_number}
 use Rattle.window_progress.specs.Work.{none_guessed}
 use Rattle.window_progress.proofs.Guesses.{load_keeps, stores_keep}
 use Rattle.window_progress.proofs.Search.{clear}
-use Rattle.grid_cycle_spec.specs.Stations.{data_node, data_tiles}
+use Rattle.grid_cycle_spec.specs.Stations.{data_node, data_tile_of, data_tiles}
 use Rattle.grid_cycle_spec.specs.Grid.{Grid}
 use Rattle.grid_cycle_spec.specs.Acting.{act}
 use Rattle.grid_cycle_spec.specs.Choosing.{eldest, each, with_frame}
@@ -41,13 +43,13 @@ use Rattle.grid_cycle_spec.specs.Sending.{enter_both}
 use Rattle.grid_cycle_spec.specs.Arrivals.{is_waiting}
 use Rattle.commit_flush_spec.specs.Window.{in_flight}
 use Rattle.commit_flush_spec.proofs.Look.{or_false}
-use Rattle.grid_cycle_spec.specs.DataTiles.{asks_store, bit_of, all_resolved, must_wait, may_answer, answers_request, unasked, load_answered}
+use Rattle.grid_cycle_spec.specs.DataTiles.{asks_store, tile_by, tile_for, bit_of, all_resolved, must_wait, may_answer, answers_request, unasked, load_answered}
 use Rattle.grid_cycle_spec.specs.DataTiles.{wrong_load, waits_now, answered_by, answer_chosen, data_turn, answers}
 use Rattle.grid_cycle_spec.specs.DataTiles as data_tiles_spec
 use Rattle.grid_rule.specs.UnderWay.{Gives, InUnit, Nothing, Tied, to_come}
 use Rattle.grid_rule.specs.Rule.{EachFrame, FrameRule, HeldFrom, UnitsRule, Waits, runs_in}
 use Rattle.grid_rule.proofs.Each.{FrameAt, Chosen, answered_at, apart, changed_at, each_front, each_join, each_rest}
-use Rattle.grid_rule.proofs.Each.{eldest_is, moved_at, own_at, same, sealed_rests, with_at}
+use Rattle.grid_rule.proofs.Each.{eldest_is, equal, moved_at, own_at, same, sealed_rests, with_at}
 use Rattle.grid_rule.proofs.FrameRules.{Loads, Sent, load_sends, loads, store_rule}
 use Rattle.grid_rule.proofs.Travels.{and_none, false_of, in_unit_by, result_of, travels_by}
 use Rattle.grid_rule.proofs.Entered.{Entered, both_enter, enters_at}
@@ -406,24 +408,44 @@ module _ {W : Type 0} (blocks : List Block) (good : AllGood blocks) (budget leas
         }) r.unresolved
       ]
 
+-- each request is of one of the four data tiles
+tile_below : (i : Inst) (x : Answer) → tile_by i x < 4
+tile_below i None = omega arith
+tile_below i (Some Null) = omega arith
+tile_below i (Some (Word v)) = below (address_of i v)
+  where
+    below : (k : ℕ) → data_tile_of k < 4
+    below k = omega arith
+
+tile_low : (f : Frame) (q : Option (ℕ × Inst)) → tile_for f q < 4
+tile_low f None = omega arith
+tile_low f (Some q) = tile_below q.1 (at f.spots q.0)
+
 module _ {W : Type 0} (blocks : List Block) (good : AllGood blocks) (budget least : ℕ) where
-  chosen_going : (tile : ℕ) → tile < 4 → (o : Option (ℕ × ℕ)) (g : Grid W) → Going blocks budget least g
+  chosen_going : (tile : ℕ) (o : Option (ℕ × ℕ)) (g : Grid W) → Going blocks budget least g
       → eldest (answers_request g tile) numbers g.window.frames ≡ o
       → Going blocks budget least (answer_chosen blocks budget tile o g)
-  chosen_going tile low None g go e = go
-  chosen_going tile low (Some q) g go e =
+  chosen_going tile None g go e = go
+  chosen_going tile (Some q) g go e =
       let k : Chosen (answers_request g tile) numbers g.window.frames q =
       eldest_is (answers_request g tile) numbers g.window.frames q go.ok.numbers e in
       let a = k.there in
       let p = both_true _ _ k.passes in
       let may : may_answer g a.frame q.1 ≡ true = (both_true _ _ p.1).1 in
+      let low : tile < 4 = subst (λ t. t < 4) (equal (tile_for a.frame (request a.frame q.1)) tile (both_true _ _ p.1).0)
+      (tile_low a.frame (request a.frame q.1)) in
       subst (Going blocks budget least)
       (sym (with_at q.0 (λ f h. answered_by blocks budget tile q.0 q.1 (request f q.1) h) g.window.frames a g))
       (subst (λ n. Going blocks budget least (answered_by blocks budget tile n q.1 (request a.frame q.1) g)) a.number
       (answered_going blocks good budget least g go tile low q.0 q.1 a p.0 may))
 
+  -- turns of data tiles keep the rule
+  pub data_turns_going : (k : ℕ) (g : Grid W) → Going blocks budget least g
+      → Going blocks budget least (each (data_turn blocks budget) k g)
+  data_turns_going k g go = each_going blocks budget least (data_turn blocks budget) k
+      (λ tile low x r. chosen_going tile (eldest (answers_request x tile) numbers x.window.frames) x r refl)
+      k (omega arith) g go
+
   -- part (4) keeps the rule
   pub answers_going : (g : Grid W) → Going blocks budget least g → Going blocks budget least (answers blocks budget g)
-  answers_going g go = each_going blocks budget least (data_turn blocks budget) 4
-      (λ tile low x r. chosen_going tile low (eldest (answers_request x tile) numbers x.window.frames) x r refl)
-      4 (omega arith) g go
+  answers_going = data_turns_going 4

@@ -53,7 +53,7 @@ here_ticked free h (Away t a) = go (a == t.to) free (next_of a t.to == t.to)
     go false true false = refl
     go false false z = refl
 
-not_here : (s : Stand) → is_here s ≡ false → s ≡ Nowhere
+pub not_here : (s : Stand) → is_here s ≡ false → s ≡ Nowhere
 not_here Nowhere e = refl
 not_here (Away t a) e = absurd (true≢false e)
 not_here (Held t h) e = absurd (true≢false e)

@@ -161,7 +161,12 @@ module _ {W : Type 0} (blocks : List Block) (good : AllGood blocks) (budget leas
       → Going blocks budget least (unit_turn blocks budget tile g)
   turn_going tile g go = issues_going tile (unit_on tile (g.units tile) g) (unit_going tile (g.units tile) g refl go)
 
+  -- turns of units keep the rule
+  pub unit_turns_going : (k : ℕ) (g : Grid W) → Going blocks budget least g
+      → Going blocks budget least (each (unit_turn blocks budget) k g)
+  unit_turns_going k g go = each_going blocks budget least (unit_turn blocks budget) k
+      (λ tile low x r. turn_going tile x r) k (omega arith) g go
+
   -- part (5) keeps the rule
   pub works_going : (g : Grid W) → Going blocks budget least g → Going blocks budget least (works_on blocks budget g)
-  works_going g go = each_going blocks budget least (unit_turn blocks budget) 16 (λ tile low x r. turn_going tile x r)
-      16 (omega arith) g go
+  works_going = unit_turns_going 16

@@ -9,8 +9,9 @@ ghost use Rattle.grid_cycle_spec.specs.Grid.{Grid};
 ghost use Rattle.grid_cycle_spec.specs.Ends.{ends};
 ghost use Rattle.grid_cycle_spec.specs.Fetches.{fetches};
 ghost use Rattle.grid_cycle_spec.specs.Banks.{reads_answered};
-ghost use Rattle.grid_cycle_spec.specs.DataTiles.{answers};
-ghost use Rattle.grid_cycle_spec.specs.Units.{works_on};
+ghost use Rattle.grid_cycle_spec.specs.Choosing.{each};
+ghost use Rattle.grid_cycle_spec.specs.DataTiles.{answers, data_turn};
+ghost use Rattle.grid_cycle_spec.specs.Units.{unit_turn, works_on};
 ghost use Rattle.grid_cycle_spec.specs.Cycles.{AfterCycles, Eager, Moves, begun_at};
 ghost use Rattle.grid_rule.specs.Rule.{GenerationsCounted, GridRule};
 
@@ -39,6 +40,14 @@ pub fn parts_keep_the_rule<W: Weather>()
     ensures mesh { (blocks : List Block) (budget : ℕ) (g h : Grid W) → AllGood blocks → WindowOk blocks budget g.window
         → g.window.over ≡ Went → ((w : W) → W.next w ≤ 3) → GridRule g → Moves W.next W.follows blocks budget g h
         → GridRule h }
+{}
+
+/// After each turn of parts (4) and (5) the rule stands too: of a data tile, and of a unit.
+pub fn turns_keep_the_rule<W: Weather>()
+    ensures tiles { (blocks : List Block) (budget k : ℕ) (g : Grid W) → AllGood blocks → WindowOk blocks budget g.window
+        → g.window.over ≡ Went → GridRule g → GridRule (each (data_turn blocks budget) k g) }
+    ensures units { (blocks : List Block) (budget k : ℕ) (g : Grid W) → AllGood blocks → WindowOk blocks budget g.window
+        → g.window.over ≡ Went → GridRule g → GridRule (each (unit_turn blocks budget) k g) }
 {}
 
 /// Every eager cycle keeps the rule and the window's invariant, and so does any number of them. The only premise on

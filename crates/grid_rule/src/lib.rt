@@ -5,4 +5,7 @@
 
 mod law;
 
-pub use law::{cycles_count_generations, cycles_keep_the_rule, grids_begin_right, parts_keep_the_rule};
+pub use law::{
+    cycles_count_generations, cycles_keep_the_rule, grids_begin_right, parts_keep_the_rule,
+    turns_keep_the_rule,
+};
