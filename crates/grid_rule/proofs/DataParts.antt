@@ -61,7 +61,7 @@ use Rattle.grid_rule.proofs.Going.{happens_is, moved, moved_to, sees, stepped}
 
 -- what waits -------------------------------------------------------------------------------------
 
-number_kind : (t : Form) → has_number t ≡ true → (is_load t ≡ true) ⊎ (is_store t ≡ true)
+pub number_kind : (t : Form) → has_number t ≡ true → (is_load t ≡ true) ⊎ (is_store t ≡ true)
 number_kind General e = absurd (true≢false (sym e))
 number_kind Immediate e = absurd (true≢false (sym e))
 number_kind Constant e = absurd (true≢false (sym e))
@@ -69,7 +69,7 @@ number_kind Branch e = absurd (true≢false (sym e))
 number_kind Load e = inl refl
 number_kind Store e = inr refl
 
-load_form : (t : Form) → is_load t ≡ true → t ≡ Load
+pub load_form : (t : Form) → is_load t ≡ true → t ≡ Load
 load_form General e = absurd (true≢false (sym e))
 load_form Immediate e = absurd (true≢false (sym e))
 load_form Constant e = absurd (true≢false (sym e))
