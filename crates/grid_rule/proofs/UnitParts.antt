@@ -1,0 +1,172 @@
+-- Part (5) of a cycle, the units, keeps the rule.
+use Rattle.std.proofs.Common.{◌≡◌, ◌≢◌, ℕ, zero, suc, ◌+◌, ◌*◌, ◌%◌, ◌<◌, ◌≤◌, ◌==◌, ◌&&◌, ◌||◌, not, Bool, true, false}
+use Rattle.std.proofs.Common.{cond, ◌⊎◌, inl, inr, List, [], ◌∷◌, ◌++◌, Option, Some, None, is_some, set, get_or, length}
+use Rattle.std.proofs.Common.{refl, sym, ap, ap₂, ◌∙◌, subst, true≢false, arith}
+use Rattle.trips_isa.specs.declared.block.Inst.{Inst}
+use Rattle.trips_isa.specs.declared.block.Block.{Block}
+use Rattle.trips_isa.specs.declared.form.Form.{Form}
+use Rattle.trips_isa.specs.declared.form.Form.TheVariants.{General, Immediate, Load, Store, Branch, Constant}
+use Rattle.trips_isa.specs.Forms.{form_of, is_load}
+use Rattle.block_cases.specs.Orders.{slot_of}
+use Rattle.operand_net.specs.declared.parcel.Stand.{Stand}
+use Rattle.operand_net.specs.Places.{Places, put}
+use Rattle.operand_net.specs.IsStands.{is_here}
+use Rattle.commit_flush_spec.specs.Frames.{Frame, at, slot_node}
+use Rattle.commit_flush_spec.specs.Sending.{send, token_with}
+use Rattle.trips_isa.specs.declared.block.Token.TheVariants.{Null, Word}
+use Rattle.trips_isa.specs.Rule.{Answer}
+use Rattle.trips_isa.specs.Stores.{address_of}
+use Rattle.commit_flush_spec.specs.Older.{Older, committed}
+use Rattle.commit_flush_spec.specs.Causes.{NoFrame, Done, NotNow}
+use Rattle.commit_flush_spec.specs.Dataflow.{can_fire, fire, fire_form, fire_inst}
+use Rattle.commit_flush_spec.specs.Window.{Window, Fire, can, can_now, happens, in_flight}
+use Rattle.commit_flush_spec.specs.Invariant.{AllGood, FrameOk}
+use Rattle.commit_flush_spec.proofs.Committing.{both_true}
+use Rattle.commit_flush_spec.proofs.Lists.{equal_or, flag_here, flag_keeps, other_at, set_here}
+use Rattle.commit_flush_spec.proofs.Stored.{number_small}
+use Rattle.window_progress.specs.Observers.{has_number}
+use Rattle.window_progress.specs.Work.{none_guessed}
+use Rattle.grid_cycle_spec.specs.Stations.{control, data_node, tile_node, tile_of, tiles}
+use Rattle.grid_cycle_spec.specs.Costs.{latency, longest}
+use Rattle.grid_cycle_spec.specs.Grid.{Grid}
+use Rattle.grid_cycle_spec.specs.Acting.{may}
+use Rattle.grid_cycle_spec.specs.Choosing.{eldest, each, slots, with_frame}
+use Rattle.grid_cycle_spec.specs.Sending.{enters, enter_both}
+use Rattle.grid_cycle_spec.specs.Arrivals.{is_waiting}
+use Rattle.grid_cycle_spec.specs.DataTiles.{tile_by}
+use Rattle.grid_cycle_spec.specs.Units.{result_enters, slot_enters, rests, result_chosen, in_unit, unit_on, ready, takes}
+use Rattle.grid_cycle_spec.specs.Units.{issued, issue_chosen, issues, unit_turn, works_on}
+use Rattle.grid_cycle_spec.proofs.Routes.{data_inside, takes_time, tile_inside}
+use Rattle.grid_rule.specs.UnderWay.{form_travels, Gives, InUnit, IsSent, Nothing, SlotGives, Tied, to_come, travels}
+use Rattle.grid_rule.specs.Rule.{EachFrame, FrameRule, HeldFrom, UnitsRule, runs_in}
+use Rattle.grid_rule.proofs.Each.{FrameAt, Chosen, answered_at, apart, differ, each_rest, eldest_is, eldest_none, equal}
+use Rattle.grid_rule.proofs.Each.{find_at, own_at, runs_are, same, with_at}
+use Rattle.grid_rule.proofs.FrameRules.{Fires, Sent, fire_sends, fires, free_exit, free_number, went}
+use Rattle.grid_rule.proofs.Travels.{IsPlace, Result, and_none, come_by, false_of, first_travels, none_is, result_of}
+use Rattle.grid_rule.proofs.Travels.{second_travels, unfired_none, waiting_none, waits_for, waits_none, waits_other, waits_same}
+use Rattle.grid_rule.proofs.Entered.{Entered, away, both_enter, enters_at, put_each, put_here, put_other}
+use Rattle.grid_rule.proofs.Ties.{Alike}
+use Rattle.grid_rule.proofs.TiedFrames.{fired_tied, result_tied}
+use Rattle.grid_rule.proofs.Going.{Going, Moved, alone_is, awake, done_is, each_going, frame_ok, frame_rule, frame_sure}
+use Rattle.grid_rule.proofs.Units.{goes_on, had_none, out_going, slots_are, units_to}
+use Rattle.grid_rule.proofs.Issues.{fire_going}
+use Rattle.grid_rule.proofs.Going.{frame_tied, moved, moved_to, sees, stayed, stepped}
+
+-- turns ------------------------------------------------------------------------------------------
+
+pub flag_below : (xs : List Bool) (s : ℕ) → get_or xs s false ≡ true → s < length xs
+flag_below [] s e = absurd (true≢false (sym e))
+flag_below (x ∷ xs) zero e = omega arith
+flag_below (x ∷ xs) (suc s) e = let l = flag_below xs s e in omega (arith, l)
+
+module _ {W : Type 0} (blocks : List Block) (good : AllGood blocks) (budget least : ℕ) where
+  -- where no result is chosen, none is in the unit
+  none_chosen : (tile : ℕ) (g : Grid W) → Going blocks budget least g
+      → eldest (in_unit g tile) slots g.window.frames ≡ None → (n s : ℕ) → g.works n s ≡ true → tile_of s ≢ tile
+  none_chosen tile g go e n s w on = go_on (runs_in n g.window.frames) refl
+    where
+      test : Frame → Type 0
+      test f = (j : ℕ) → j < slots → in_unit g tile f j ≡ false
+
+      go_on : (b : Bool) → runs_in n g.window.frames ≡ b → ⊥
+      go_on false i = true≢false (sym w ∙ (go.ties.nothing n i).none_works s)
+      go_on true i =
+          let there : in_flight n g.window.frames ≡ true = runs_are n g.window.frames i in
+          let a = find_at n g.window.frames go.ok.numbers there in
+          let runs = awake blocks good budget g n a least go.ties (λ h. true≢false (sym w ∙ h.none_works s)) in
+          let u = (frame_tied blocks good budget g n a least go.ties runs).working s w in
+          let ok = frame_ok blocks good budget g n a go.ok in
+          let all : length a.frame.fired ≡ 128 = ok.sized.fired in
+          let low = flag_below a.frame.fired s u.fired in
+          let small : s < slots = subst (λ k. s < k) (sym slots_are) (omega (arith, low, all)) in
+          let none : test a.frame = (each_rest test a.older (a.frame ∷ a.younger)
+          (subst (EachFrame test) a.split (eldest_none (in_unit g tile) slots g.window.frames e))).0 in
+          true≢false (sym (ap₂ (λ x y. x && y) (ap (λ k. g.works k s) a.number ∙ w) (ap (λ k. k == tile) on ∙ same tile))
+          ∙ none s small)
+
+  result_going : (tile : ℕ) (o : Option (ℕ × ℕ)) (g : Grid W) → Going blocks budget least g
+      → eldest (in_unit g tile) slots g.window.frames ≡ o
+      → Going blocks budget least (result_chosen o (record g { units = units_to g.units tile 0 }))
+  result_going tile None g go e = record {
+    ok = go.ok;
+    went = go.went;
+    ties = record {
+      frames = go.ties.frames;
+      tied = go.ties.tied;
+      unguessed = go.ties.unguessed;
+      nothing = go.ties.nothing;
+      busy = had_none g.units g.works tile (none_chosen tile g go e) go.ties.busy;
+      mesh = go.ties.mesh;
+    };
+    fetch = go.fetch;
+  }
+  result_going tile (Some q) g go e =
+      let k : Chosen (in_unit g tile) slots g.window.frames q =
+      eldest_is (in_unit g tile) slots g.window.frames q go.ok.numbers e in
+      let a = k.there in
+      let p = both_true _ _ k.passes in
+      let h : Grid W = record g { units = units_to g.units tile 0 } in
+      let low : q.1 < 128 = subst (λ j. q.1 < j) slots_are k.below in
+      subst (Going blocks budget least)
+      (sym (with_at q.0 (λ f x. slot_enters (slot_of f.code q.1) q.1 f (rests q.0 q.1 x)) g.window.frames a h))
+      (subst (λ n. Going blocks budget least (slot_enters (slot_of a.frame.code q.1) q.1 a.frame (rests n q.1 h)))
+      a.number (out_going blocks good budget least g go tile q.0 q.1 a p.0 (equal (tile_of q.1) tile p.1) low))
+
+  unit_going : (tile left : ℕ) (g : Grid W) → g.units tile ≡ left → Going blocks budget least g
+      → Going blocks budget least (unit_on tile left g)
+  unit_going tile zero g e go = go
+  unit_going tile (suc zero) g e go =
+      result_going tile (eldest (in_unit g tile) slots g.window.frames) g go refl
+  unit_going tile (suc (suc left)) g e go = record {
+    ok = go.ok;
+    went = go.went;
+    ties = record {
+      frames = go.ties.frames;
+      tied = go.ties.tied;
+      unguessed = go.ties.unguessed;
+      nothing = go.ties.nothing;
+      busy = goes_on g.units g.works tile left e go.ties.busy;
+      mesh = go.ties.mesh;
+    };
+    fetch = go.fetch;
+  }
+
+  issue_chosen_going : (tile : ℕ) (o : Option (ℕ × ℕ)) (g : Grid W) → Going blocks budget least g → g.units tile ≡ 0
+      → eldest (ready blocks budget g tile) slots g.window.frames ≡ o
+      → Going blocks budget least (issue_chosen blocks budget tile o g)
+  issue_chosen_going tile None g go free e = go
+  issue_chosen_going tile (Some q) g go free e =
+      let k : Chosen (ready blocks budget g tile) slots g.window.frames q =
+      eldest_is (ready blocks budget g tile) slots g.window.frames q go.ok.numbers e in
+      let a = k.there in
+      let p = both_true _ _ k.passes in
+      let d : can blocks budget (Fire a.frame.number q.1) g.window ≡ Done =
+      done_is (can blocks budget (Fire a.frame.number q.1) g.window) p.1 in
+      subst (Going blocks budget least)
+      (sym (with_at q.0 (λ f h. issued blocks budget tile q.0 q.1 (takes (slot_of f.code q.1)) h) g.window.frames a g))
+      (subst (λ n. Going blocks budget least (issued blocks budget tile n q.1 (takes (slot_of a.frame.code q.1)) g))
+      a.number (fire_going blocks good budget least g go tile free q.0 q.1 a (equal (tile_of q.1) tile p.0) d))
+
+  issues_going : (tile : ℕ) (g : Grid W) → Going blocks budget least g
+      → Going blocks budget least (issues blocks budget tile g)
+  issues_going tile g go = by (g.units tile == 0) refl
+    where
+      by : (b : Bool) → (g.units tile == 0) ≡ b → Going blocks budget least (cond b
+          (issue_chosen blocks budget tile (eldest (ready blocks budget g tile) slots g.window.frames) g) g)
+      by false e = go
+      by true e = issue_chosen_going tile (eldest (ready blocks budget g tile) slots g.window.frames) g go
+          (equal (g.units tile) 0 e) refl
+
+  turn_going : (tile : ℕ) (g : Grid W) → Going blocks budget least g
+      → Going blocks budget least (unit_turn blocks budget tile g)
+  turn_going tile g go = issues_going tile (unit_on tile (g.units tile) g) (unit_going tile (g.units tile) g refl go)
+
+  -- turns of units keep the rule
+  pub unit_turns_going : (k : ℕ) (g : Grid W) → Going blocks budget least g
+      → Going blocks budget least (each (unit_turn blocks budget) k g)
+  unit_turns_going k g go = each_going blocks budget least (unit_turn blocks budget) k
+      (λ tile low x r. turn_going tile x r) k (omega arith) g go
+
+  -- part (5) keeps the rule
+  pub works_going : (g : Grid W) → Going blocks budget least g → Going blocks budget least (works_on blocks budget g)
+  works_going = unit_turns_going 16
