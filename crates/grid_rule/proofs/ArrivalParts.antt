@@ -1,6 +1,6 @@
 -- Part (6) of a cycle, behind the tick of the mesh: what has come is delivered, and the rule is kept.
 use Rattle.std.proofs.Common.{◌≡◌, ◌≢◌, ℕ, zero, suc, ◌+◌, ◌*◌, ◌/◌, ◌%◌, ◌<◌, ◌==◌, ◌&&◌, ◌||◌, not, Bool, true, false}
-use Rattle.std.proofs.Common.{cond, nat_lt, ◌⊎◌, inl, inr, List, [], ◌∷◌, ◌++◌, Option, Some, None, is_some, is_none, set}
+use Rattle.std.proofs.Common.{cond, nat_lt, inl, inr, List, [], ◌∷◌, ◌++◌, Option, Some, None, is_some, is_none, set}
 use Rattle.std.proofs.Common.{get_or, length, refl, sym, ap, ap₂, ◌∙◌, subst, true≢false, arith}
 use Rattle.std.proofs.lemmas.Bool.Decides.{nat_tests}
 use Rattle.trips_isa.specs.declared.block.Token.{Token}
@@ -9,15 +9,14 @@ use Rattle.trips_isa.specs.declared.block.Block.{Block}
 use Rattle.trips_isa.specs.declared.form.Form.{Form}
 use Rattle.trips_isa.specs.declared.form.Form.TheVariants.{General, Immediate, Load, Store, Branch, Constant}
 use Rattle.trips_isa.specs.Forms.{form_of, is_load}
-use Rattle.trips_isa.specs.Rule.{Answer}
 use Rattle.block_cases.specs.Orders.{slot_of}
 use Rattle.operand_net.specs.declared.parcel.Parcel.{Parcel}
 use Rattle.operand_net.specs.declared.parcel.Stand.{Stand}
 use Rattle.operand_net.specs.declared.parcel.Stand.TheVariants.{Nowhere, Away, Held}
-use Rattle.operand_net.specs.Places.{Places, come, put, without}
+use Rattle.operand_net.specs.Places.{Places, come, put}
 use Rattle.operand_net.specs.IsStands.{is_here}
 use Rattle.commit_flush_spec.specs.Marks.{mark_delivered}
-use Rattle.commit_flush_spec.specs.Frames.{Frame, Exit, at, target, is_target, token_places, first_read_place}
+use Rattle.commit_flush_spec.specs.Frames.{Frame, Exit, at, target, is_target, token_places}
 use Rattle.commit_flush_spec.specs.Older.{Older, committed, successor_of}
 use Rattle.commit_flush_spec.specs.Causes.{NoFrame, NoToken, NoExit, Done, NotNow}
 use Rattle.commit_flush_spec.specs.Dataflow.{can_deliver, deliver, delivered}
@@ -29,14 +28,13 @@ use Rattle.commit_flush_spec.specs.Invariant.{AllGood, FrameOk}
 use Rattle.commit_flush_spec.proofs.Committing.{both_true}
 use Rattle.commit_flush_spec.proofs.Flow.{some_of}
 use Rattle.commit_flush_spec.proofs.Numbers.{nums}
-use Rattle.window_progress.specs.Work.{none_guessed}
 use Rattle.window_progress.proofs.Search.{clear, not_none}
 use Rattle.grid_cycle_spec.specs.Grid.{Grid}
 use Rattle.grid_cycle_spec.specs.Acting.{act}
 use Rattle.grid_cycle_spec.specs.Choosing.{each, places, with_frame}
-use Rattle.grid_cycle_spec.specs.Arrivals.{asks, delivers, is_waiting, load_arrives, slot_arrives, inst_arrives}
+use Rattle.grid_cycle_spec.specs.Arrivals.{asks, delivers, is_waiting, slot_arrives, inst_arrives}
 use Rattle.grid_cycle_spec.specs.Arrivals.{place_arrives, arrives_if, arrival, arrivals}
-use Rattle.grid_rule.specs.UnderWay.{form_travels, Tied, to_come, travels}
+use Rattle.grid_rule.specs.UnderWay.{form_travels, Tied, to_come}
 use Rattle.grid_rule.specs.Rule.{EachFrame, FrameRule, HeldFrom, runs_in}
 use Rattle.grid_rule.proofs.Each.{FrameAt, answered_at, apart, changed_at, each_front, each_join, each_rest, find_at}
 use Rattle.grid_rule.proofs.Each.{own_at, runs_are, same, with_at}
@@ -237,9 +235,10 @@ module _ {W : Type 0} (blocks : List Block) (good : AllGood blocks) (budget : �
       exit_rules : EachFrame FrameRule (a.older ++ X ∷ a.younger)
       exit_rules =
           let was : EachFrame FrameRule (a.older ++ f ∷ a.younger) = subst (EachFrame FrameRule) a.split go.ties.frames in
-          each_join FrameRule a.older (X ∷ a.younger) (each_front FrameRule a.older (f ∷ a.younger) was)
-          (exit_rule blocks good o f ok rule E (branch_mark f f.leaving),
-          (each_rest FrameRule a.older (f ∷ a.younger) was).1)
+          each_join FrameRule a.older (X ∷ a.younger) (each_front FrameRule a.older (f ∷ a.younger) was) (
+            exit_rule blocks good o f ok rule E (branch_mark f f.leaving),
+            (each_rest FrameRule a.older (f ∷ a.younger) was).1,
+          )
 
       exit_ties : Ties 0 (a.older ++ X ∷ a.younger) left g.asked g.works g.careful g.units
       exit_ties = ties_step 0 m g.window.frames a X g.parcels left g.asked g.asked g.works g.works g.careful g.units g.units

@@ -1,5 +1,5 @@
 -- Every cycle keeps the rule.
-use Rattle.std.proofs.Common.{◌≡◌, ℕ, zero, suc, ◌+◌, ◌≤◌, Bool, true, false, refl, sym, ap, ◌∙◌, subst, List}
+use Rattle.std.proofs.Common.{◌≡◌, ℕ, zero, suc, ◌≤◌, refl, sym, subst, List}
 use Rattle.trips_isa.specs.declared.block.Block.{Block}
 use Rattle.trips_isa.specs.declared.run.Stepped.{Stepped}
 use Rattle.trips_isa.specs.declared.run.Stepped.TheVariants as stepped
@@ -10,7 +10,7 @@ use Rattle.grid_cycle_spec.specs.Ends.{ends}
 use Rattle.grid_cycle_spec.specs.Fetches.{fetches}
 use Rattle.grid_cycle_spec.specs.Banks.{reads_answered}
 use Rattle.grid_cycle_spec.specs.DataTiles.{answers}
-use Rattle.grid_cycle_spec.specs.Cycles.{acts, counted, Eager, Follows, AfterCycles, Moves}
+use Rattle.grid_cycle_spec.specs.Cycles.{acts, counted, Eager, Follows, AfterCycles}
 use Rattle.grid_rule.specs.Rule.{GridRule}
 use Rattle.grid_rule.proofs.Ties.{rule_of, ties_of}
 use Rattle.grid_rule.proofs.EndParts.{Ruled, ends_ruled}

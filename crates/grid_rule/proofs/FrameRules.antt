@@ -15,9 +15,9 @@ use Rattle.trips_isa.specs.Places.{first_place, nodes_of}
 use Rattle.trips_isa.specs.Rule.{Answer}
 use Rattle.trips_isa.specs.Stores.{stored_of}
 use Rattle.block_cases.specs.Orders.{slot_of}
-use Rattle.commit_flush_spec.specs.Marks.{Marks, mark_sent}
+use Rattle.commit_flush_spec.specs.Marks.{Marks}
 use Rattle.commit_flush_spec.specs.Frames.{Frame, Taken, Exit, at, fresh, numbers, slot_node, source, target, is_target}
-use Rattle.commit_flush_spec.specs.Sending.{send, token_with, mark_with, sent}
+use Rattle.commit_flush_spec.specs.Sending.{send, token_with, mark_with}
 use Rattle.commit_flush_spec.specs.Older.{Older, after, follows, successor_of, passes, nearest, violated, cut, committed}
 use Rattle.commit_flush_spec.specs.Causes.{Cause, NoFrame, NoRead, NotYet, NoInst, NotReady, NoToken, NoRequest}
 use Rattle.commit_flush_spec.specs.Causes.{Happened, Done, NotNow}
@@ -34,14 +34,14 @@ use Rattle.commit_flush_spec.specs.Window as event
 use Rattle.commit_flush_spec.specs.Invariant.{FrameOk, FramesOk, AllGood}
 use Rattle.commit_flush_spec.specs.Laws.{WindowOk}
 use Rattle.commit_flush_spec.proofs.Lists.{equal_or, none_or, other_at, written_or, given_or, none_at, blank_at}
-use Rattle.commit_flush_spec.proofs.Lists.{emptied_at, flag_keeps, flag_here}
+use Rattle.commit_flush_spec.proofs.Lists.{emptied_at, flag_keeps}
 use Rattle.commit_flush_spec.proofs.Look.{or_false}
 use Rattle.commit_flush_spec.proofs.Tokens.{inst_in, read_is}
 use Rattle.commit_flush_spec.proofs.Frames.{not_now}
 use Rattle.commit_flush_spec.proofs.Sends.{slot_source, read_source, sent_other}
 use Rattle.commit_flush_spec.proofs.Loads.{Stands, stands, one_load}
 use Rattle.commit_flush_spec.proofs.Flow.{some_of}
-use Rattle.commit_flush_spec.proofs.Lost.{load_not_store, one_fires, sent_there}
+use Rattle.commit_flush_spec.proofs.Lost.{load_not_store, one_fires}
 use Rattle.commit_flush_spec.proofs.Storing.{store_form}
 use Rattle.commit_flush_spec.proofs.Stored.{number_small}
 use Rattle.window_progress.specs.Observers.{has_number}
@@ -184,9 +184,9 @@ module _ (blocks : List Block) (good : AllGood blocks) (o : Older) (f : Frame) (
       }
 
   pub load_sends : (n : ℕ) (k : Loads n) → Sent (record f {
-      requests = set f.requests n None;
-      loads = set f.loads n (Some k.taken);
-    }) (2 * k.waits.slot) k.token (load n o f)
+    requests = set f.requests n None;
+    loads = set f.loads n (Some k.taken);
+  }) (2 * k.waits.slot) k.token (load n o f)
   load_sends n k =
       let f2 : Frame = record f { requests = set f.requests n None; loads = set f.loads n (Some k.taken) } in
       subst (Sent f2 (2 * k.waits.slot) k.token) (sym k.is)
@@ -363,13 +363,13 @@ module _ (blocks : List Block) (good : AllGood blocks) (o : Older) (f : Frame) (
       stored = λ m h. elim (written_or f.stores n m v h) [
         | inl z ↦ let a = ok.asked n s asks in
             let it : a.inst ≡ i = (let y : Some a.inst ≡ Some i = sym a.is_inst ∙ is in cc) in record {
-          slot = s;
-          inst = i;
-          is_inst = is;
-          stores = kind;
-          number = sym (ap (λ (j : Inst). j.number) it) ∙ a.number ∙ sym z.0;
-          has_fired = a.fired;
-        }
+              slot = s;
+              inst = i;
+              is_inst = is;
+              stores = kind;
+              number = sym (ap (λ (j : Inst). j.number) it) ∙ a.number ∙ sym z.0;
+              has_fired = a.fired;
+            }
         | inr z ↦ rule.stored m z
       ];
       waits = λ m t h. elim (equal_or m n) [
@@ -498,8 +498,11 @@ done_rules blocks good budget (event.Load n m) w c ok r = alone_rules blocks (ca
 done_rules blocks good budget (event.Store n m) w c ok r = change_rules blocks (can_store m) (store m)
     (store_rules blocks good m) NoFrame (committed w.state) w.frames n c ok.frames r
 done_rules blocks good budget (event.Exit n) w c ok r = change_rules blocks can_exit (exit blocks)
-    (λ o f fs d k h. (exit_rule blocks good o f k.2 h.0 (exit_by blocks f.block (branch_of f f.leaving))
-    (branch_mark f f.leaving), kept_rules (successor_of (exit_by blocks f.block (branch_of f f.leaving))) fs h.1))
+    (λ o f fs d k h. (
+      exit_rule blocks good o f k.2 h.0 (exit_by blocks f.block (branch_of f f.leaving))
+          (branch_mark f f.leaving),
+      kept_rules (successor_of (exit_by blocks f.block (branch_of f f.leaving))) fs h.1,
+    ))
     NoFrame (committed w.state) w.frames n c ok.frames r
 done_rules blocks good budget (event.Seal n) w c ok r = alone_rules blocks can_seal seal
     (λ o f k h d. seal_rule blocks good o f k h) NoFrame (committed w.state) w.frames n c ok.frames r

@@ -1,24 +1,22 @@
 -- What is under way of a frame stays what is to be, whatever happens to the frame.
-use Rattle.std.proofs.Common.{◌≡◌, ◌≢◌, ℕ, suc, ◌+◌, ◌*◌, ◌/◌, ◌%◌, ◌<◌, ◌==◌, Bool, true, false, cond, not, ◌||◌, ◌&&◌}
-use Rattle.std.proofs.Common.{◌⊎◌, inl, inr, List, Option, Some, None, is_some, set, get_or, nat_lt, length, refl, sym}
+use Rattle.std.proofs.Common.{◌≡◌, ◌≢◌, ℕ, suc, ◌*◌, ◌/◌, ◌%◌, ◌<◌, ◌==◌, Bool, true, false, not, ◌||◌, ◌&&◌}
+use Rattle.std.proofs.Common.{◌⊎◌, inl, inr, Option, Some, None, is_some, set, get_or, nat_lt, refl, sym}
 use Rattle.std.proofs.Common.{ap, ap₂, ◌∙◌, subst, true≢false, arith}
 use Rattle.std.proofs.lemmas.Bool.Decides.{nat_tests}
 use Rattle.trips_isa.specs.declared.block.Inst.{Inst}
 use Rattle.trips_isa.specs.declared.form.Form.{Form}
 use Rattle.trips_isa.specs.declared.form.Form.TheVariants.{General, Immediate, Load, Store, Branch, Constant}
-use Rattle.trips_isa.specs.Forms.{form_of, is_load}
+use Rattle.trips_isa.specs.Forms.{form_of}
 use Rattle.block_cases.specs.Orders.{slot_of}
 use Rattle.operand_net.specs.declared.parcel.Stand.{Stand}
 use Rattle.operand_net.specs.IsStands.{is_here}
 use Rattle.commit_flush_spec.specs.Frames.{Frame, at}
-use Rattle.commit_flush_spec.specs.Older.{Older}
-use Rattle.commit_flush_spec.specs.Invariant.{FrameOk}
 use Rattle.commit_flush_spec.proofs.Lists.{equal_or, other_at, none_at}
 use Rattle.grid_cycle_spec.specs.Arrivals.{is_waiting}
-use Rattle.grid_rule.specs.UnderWay.{to_come, form_travels, travels, Gives, InUnit, Tied}
+use Rattle.grid_rule.specs.UnderWay.{to_come, form_travels, travels, InUnit, Tied}
 use Rattle.grid_rule.proofs.Travels.{absorbs, and_none, come_by, first_travels, half_first, half_second, halves, in_unit_by}
 use Rattle.grid_rule.proofs.Travels.{IsPlace, is_there, none_travels, read_travels, second_travels, slot_travels, some_is}
-use Rattle.grid_rule.proofs.Travels.{travels_by, waiting_none, waits_none, waits_other}
+use Rattle.grid_rule.proofs.Travels.{travels_by, waits_none, waits_other}
 
 -- places -----------------------------------------------------------------------------------------
 
@@ -61,11 +59,11 @@ module _ (c c' : ℕ → Stand) (asked asked' works : ℕ → Bool) (f g : Frame
     travelling = λ q l. elim (place_or p q) [
       | inl z ↦ enters q z
           ∙ absorbs (is_some (at g.places q)) (is_here (c q)) (λ h. some_is (at g.places q) (keeps q
-              (is_there (at f.places q) (sym (was q z) ∙ sym (t.travelling q l) ∙ h))))
+          (is_there (at f.places q) (sym (was q z) ∙ sym (t.travelling q l) ∙ h))))
           ∙ sym (is q z)
       | inr n ↦ ap is_here (others q n.0 n.1) ∙ t.travelling q l
           ∙ sym (travels_by asked works asked' works f g q code refl (λ i e. come i (q / 2) e)
-              (ap is_some (same q n.0 n.1)))
+          (ap is_some (same q n.0 n.1)))
     ];
     standing = standing;
     working = λ s h. in_unit_by asked asked' f g s code (fired s) (λ i e. come i s e) (λ q z k. keeps q k)
