@@ -1,5 +1,6 @@
 -- What the rule of a grid says of its oldest frame.
-use Rattle.std.proofs.Common.{◌≡◌, ◌≢◌, ℕ, suc, ◌+◌, ◌-◌, ◌*◌, ◌/◌, ◌%◌, ◌<◌, ◌≤◌, ◌==◌, ◌&&◌, ◌||◌, not, Bool, true, false}
+use Rattle.std.proofs.Common.{◌≡◌, ◌≢◌, ℕ, suc, ◌+◌, ◌-◌, ◌*◌, ◌/◌, ◌%◌, ◌<◌, ◌≤◌, ◌==◌, ◌&&◌, ◌||◌, not, Bool, true}
+use Rattle.std.proofs.Common.{false}
 use Rattle.std.proofs.Common.{cond, nat_lt, ◌⊎◌, inl, inr, List, Option, Some, None, is_some, slice_get, get_or}
 use Rattle.std.proofs.Common.{length, refl, sym, ap, ap₂, ◌∙◌, subst, true≢false, arith}
 use Rattle.std.proofs.lemmas.Bool.{lt-ltb, le-ltb}

@@ -19,7 +19,8 @@ use Rattle.grid_cycle_bound.specs.Lane as lane
 use Rattle.grid_cycle_bound.specs.Laws.{FineAt, FrontRule, LaneRule, StageRule}
 use Rattle.grid_cycle_bound.specs.Blocks.{course_of, read_task, room, slot_task, slot_tasks, task_of}
 use Rattle.grid_cycle_bound.specs.Programs.{size_in}
-use Rattle.grid_cycle_bound.specs.Seen.{fetch_of, front_of, has_come, lane_of, phase_of, read_phase, slot_phase, stage_of}
+use Rattle.grid_cycle_bound.specs.Seen.{fetch_of, front_of, has_come, lane_of, phase_of, read_phase, slot_phase}
+use Rattle.grid_cycle_bound.specs.Seen.{stage_of}
 use Rattle.grid_cycle_bound.proofs.Courses.{course_good}
 use Rattle.grid_cycle_bound.proofs.Seen.{complete_seen}
 use Rattle.grid_cycle_bound.proofs.Sizes.{room_is, slot_tasks_is, tasks_are}

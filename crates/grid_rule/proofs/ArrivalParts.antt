@@ -39,10 +39,12 @@ use Rattle.grid_rule.specs.Rule.{EachFrame, FrameRule, HeldFrom, runs_in}
 use Rattle.grid_rule.proofs.Each.{FrameAt, answered_at, apart, changed_at, each_front, each_join, each_rest, find_at}
 use Rattle.grid_rule.proofs.Each.{own_at, runs_are, same, with_at}
 use Rattle.grid_rule.proofs.FrameRules.{exit_rule}
-use Rattle.grid_rule.proofs.Travels.{IsPlace, and_none, halves, is_there, none_is, slot_travels, waiting_none, waits_for}
+use Rattle.grid_rule.proofs.Travels.{IsPlace, and_none, halves, is_there, none_is, slot_travels, waiting_none}
+use Rattle.grid_rule.proofs.Travels.{waits_for}
 use Rattle.grid_rule.proofs.Entered.{put_each, put_here, put_other}
 use Rattle.grid_rule.proofs.Ties.{Alike, Ties, ties_step}
-use Rattle.grid_rule.proofs.TiedFrames.{Comes, asks_other, asks_standing, comes, delivered_tied, exit_other, served_tied}
+use Rattle.grid_rule.proofs.TiedFrames.{Comes, asks_other, asks_standing, comes, delivered_tied, exit_other}
+use Rattle.grid_rule.proofs.TiedFrames.{served_tied}
 use Rattle.grid_rule.proofs.TiedFrames.{token_comes}
 use Rattle.grid_rule.proofs.Flushing.{act_going, append_more, kept_rest, nums_step}
 use Rattle.grid_rule.proofs.Going.{Going, Moved, alone_is, awake, can_is, each_going, frame_ok, frame_rule, frame_sure}

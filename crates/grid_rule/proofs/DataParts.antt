@@ -1,5 +1,6 @@
 -- Part (4) of a cycle, the data tiles, keeps the rule.
-use Rattle.std.proofs.Common.{◌≡◌, ◌≢◌, ℕ, ◌+◌, ◌*◌, ◌/◌, ◌<◌, ◌==◌, ◌&&◌, ◌||◌, not, Bool, true, false, cond, ◌⊎◌, inl, inr}
+use Rattle.std.proofs.Common.{◌≡◌, ◌≢◌, ℕ, ◌+◌, ◌*◌, ◌/◌, ◌<◌, ◌==◌, ◌&&◌, ◌||◌, not, Bool, true, false, cond, ◌⊎◌, inl}
+use Rattle.std.proofs.Common.{inr}
 use Rattle.std.proofs.Common.{List, [], ◌∷◌, ◌++◌, Option, Some, None, set, refl, sym, ap, ap₂, ◌∙◌}
 use Rattle.std.proofs.Common.{subst, true≢false, arith}
 use Rattle.trips_isa.specs.declared.block.Inst.{Inst}
@@ -37,7 +38,8 @@ use Rattle.grid_cycle_spec.specs.Sending.{enter_both}
 use Rattle.grid_cycle_spec.specs.Arrivals.{is_waiting}
 use Rattle.commit_flush_spec.specs.Window.{in_flight}
 use Rattle.commit_flush_spec.proofs.Look.{or_false}
-use Rattle.grid_cycle_spec.specs.DataTiles.{asks_store, tile_by, tile_for, bit_of, all_resolved, must_wait, may_answer, answers_request, unasked, load_answered}
+use Rattle.grid_cycle_spec.specs.DataTiles.{asks_store, tile_by, tile_for, bit_of, all_resolved, must_wait, may_answer}
+use Rattle.grid_cycle_spec.specs.DataTiles.{answers_request, unasked, load_answered}
 use Rattle.grid_cycle_spec.specs.DataTiles.{wrong_load, waits_now, answered_by, answer_chosen, data_turn, answers}
 use Rattle.grid_cycle_spec.specs.DataTiles as data_tiles_spec
 use Rattle.grid_rule.specs.UnderWay.{Gives, InUnit, Tied, to_come}
@@ -50,7 +52,8 @@ use Rattle.grid_rule.proofs.Entered.{Entered, both_enter, enters_at}
 use Rattle.grid_rule.proofs.Ties.{Alike, Ties, ties_step}
 use Rattle.grid_rule.proofs.TiedFrames.{answered_come, answered_standing, load_travels, sent_tied}
 use Rattle.grid_rule.proofs.Flushing.{act_going, append_more, cut_rest, nums_step}
-use Rattle.grid_rule.proofs.Going.{Going, Moved, alone_is, awake, can_is, each_going, frame_ok, frame_rule, frame_sure, frame_tied}
+use Rattle.grid_rule.proofs.Going.{Going, Moved, alone_is, awake, can_is, each_going, frame_ok, frame_rule, frame_sure}
+use Rattle.grid_rule.proofs.Going.{frame_tied}
 use Rattle.grid_rule.proofs.Going.{happens_is, moved, moved_to, sees, stepped}
 
 -- what waits -------------------------------------------------------------------------------------

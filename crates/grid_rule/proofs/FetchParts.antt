@@ -1,5 +1,6 @@
 -- Part (2) of a cycle, the fetch unit, keeps the rule.
-use Rattle.std.proofs.Common.{◌≡◌, ℕ, zero, suc, ◌+◌, ◌/◌, ◌%◌, ◌<◌, ◌==◌, ◌||◌, ◌&&◌, Bool, true, false, cond, not, nat_lt, List, []}
+use Rattle.std.proofs.Common.{◌≡◌, ℕ, zero, suc, ◌+◌, ◌/◌, ◌%◌, ◌<◌, ◌==◌, ◌||◌, ◌&&◌, Bool, true, false, cond, not}
+use Rattle.std.proofs.Common.{nat_lt, List, []}
 use Rattle.std.proofs.Common.{◌∷◌, ◌++◌, is_some}
 use Rattle.std.proofs.Common.{Option, Some, None, slice_get, slice_index, slice_set, refl, sym, ap, ap₂, ◌∙◌, subst}
 use Rattle.std.proofs.Common.{true≢false, arith, is_none}

@@ -1,5 +1,6 @@
 -- Each event of the window keeps the rule of its frames.
-use Rattle.std.proofs.Common.{◌≡◌, ◌≢◌, ℕ, suc, ◌+◌, ◌*◌, ◌/◌, ◌%◌, ◌<◌, ◌≤◌, ◌==◌, Bool, true, false, cond, not, ◌||◌, ◌⊎◌, inl}
+use Rattle.std.proofs.Common.{◌≡◌, ◌≢◌, ℕ, suc, ◌+◌, ◌*◌, ◌/◌, ◌%◌, ◌<◌, ◌≤◌, ◌==◌, Bool, true, false, cond, not, ◌||◌}
+use Rattle.std.proofs.Common.{◌⊎◌, inl}
 use Rattle.std.proofs.Common.{inr, List, [], ◌∷◌, ◌++◌, Option, Some, None, slice_get, set, get_or, length, refl, sym}
 use Rattle.std.proofs.Common.{ap, ◌∙◌, subst, true≢false, arith, is_none}
 use Rattle.trips_isa.specs.declared.block.Inst.{Inst}
@@ -18,7 +19,8 @@ use Rattle.block_cases.specs.Orders.{slot_of}
 use Rattle.commit_flush_spec.specs.Marks.{Marks}
 use Rattle.commit_flush_spec.specs.Frames.{Frame, Taken, Exit, at, fresh, numbers, slot_node, source, target, is_target}
 use Rattle.commit_flush_spec.specs.Sending.{send, token_with, mark_with}
-use Rattle.commit_flush_spec.specs.Older.{Older, after, follows, successor_of, passes, nearest, violated, cut, committed}
+use Rattle.commit_flush_spec.specs.Older.{Older, after, follows, successor_of, passes, nearest, violated, cut}
+use Rattle.commit_flush_spec.specs.Older.{committed}
 use Rattle.commit_flush_spec.specs.Causes.{Cause, NoFrame, NoRead, NotYet, NoInst, NotReady, NoToken, NoRequest}
 use Rattle.commit_flush_spec.specs.Causes.{Happened, Done, NotNow}
 use Rattle.commit_flush_spec.specs.Dataflow.{read_seen, can_read, read, read_answered, can_fire, fire, fire_form}

@@ -1,6 +1,7 @@
 -- Part (6) of a cycle: the mesh ticks, and what has come is delivered, so that nothing has come any more.
 use Rattle.std.specs.List.{list_any}
-use Rattle.std.proofs.Common.{◌≡◌, ◌≢◌, ℕ, zero, suc, ◌/◌, ◌<◌, ◌≤◌, ◌==◌, ◌&&◌, ◌||◌, Bool, true, false, cond, nat_lt, ◌⊎◌}
+use Rattle.std.proofs.Common.{◌≡◌, ◌≢◌, ℕ, zero, suc, ◌/◌, ◌<◌, ◌≤◌, ◌==◌, ◌&&◌, ◌||◌, Bool, true, false, cond, nat_lt}
+use Rattle.std.proofs.Common.{◌⊎◌}
 use Rattle.std.proofs.Common.{inl, inr, List, [], ◌∷◌, length, Option, Some, None, get_or, refl, sym, ap}
 use Rattle.std.proofs.Common.{◌∙◌, subst, true≢false, arith}
 use Rattle.trips_isa.specs.declared.block.Inst.{Inst}

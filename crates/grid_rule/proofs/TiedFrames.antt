@@ -14,8 +14,10 @@ use Rattle.commit_flush_spec.specs.Frames.{Frame, at}
 use Rattle.commit_flush_spec.proofs.Lists.{equal_or, other_at, none_at}
 use Rattle.grid_cycle_spec.specs.Arrivals.{is_waiting}
 use Rattle.grid_rule.specs.UnderWay.{to_come, form_travels, travels, InUnit, Tied}
-use Rattle.grid_rule.proofs.Travels.{absorbs, and_none, come_by, first_travels, half_first, half_second, halves, in_unit_by}
-use Rattle.grid_rule.proofs.Travels.{IsPlace, is_there, none_travels, read_travels, second_travels, slot_travels, some_is}
+use Rattle.grid_rule.proofs.Travels.{absorbs, and_none, come_by, first_travels, half_first, half_second, halves}
+use Rattle.grid_rule.proofs.Travels.{in_unit_by}
+use Rattle.grid_rule.proofs.Travels.{IsPlace, is_there, none_travels, read_travels, second_travels, slot_travels}
+use Rattle.grid_rule.proofs.Travels.{some_is}
 use Rattle.grid_rule.proofs.Travels.{travels_by, waits_none, waits_other}
 
 -- places -----------------------------------------------------------------------------------------
