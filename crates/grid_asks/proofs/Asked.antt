@@ -54,7 +54,8 @@ module _ {W : Type 0} (blocks : List Block) (good : AllGood blocks) (budget : �
   rule = (subst (EachFrame FrameRule) e go.ties.frames).0
 
   tied : Tied (h.parcels f.number) (h.asked f.number) (h.works f.number) f
-  tied = (subst (EachFrame (λ x. x.sealed ≡ false → Tied (h.parcels x.number) (h.asked x.number) (h.works x.number) x)) e
+  tied = (subst (EachFrame (λ x. x.sealed ≡ false → Tied (h.parcels x.number) (h.asked x.number)
+      (h.works x.number) x)) e
       go.ties.tied).0 runs
 
   careful : h.careful f.number ≡ true → none_guessed f ≡ true

@@ -334,10 +334,11 @@ module _ {W : Type 0} (blocks : List Block) (good : AllGood blocks) (o : Older) 
       )
       by None i true e = absurd (let k = ok.reads r e in
           let bad : None ≡ Some k.slot = sym i ∙ k.is_slot in cc)
-      by (Some slot) i false e = subst (λ b. Shown (slot_tasks + r) (cond b (sent_of g f (slot_tasks + r)) Idle)) (sym e) (
-        unread_none r (2 * (slot_tasks + r)) l (inl first_place_is) e,
-        unread_none r (suc (2 * (slot_tasks + r))) l (inr second_place_is) e,
-      )
+      by (Some slot) i false e = subst (λ b. Shown (slot_tasks + r) (cond b (sent_of g f (slot_tasks + r)) Idle))
+          (sym e) (
+            unread_none r (2 * (slot_tasks + r)) l (inl first_place_is) e,
+            unread_none r (suc (2 * (slot_tasks + r))) l (inr second_place_is) e,
+          )
       by (Some slot) i true e = subst (λ b. Shown (slot_tasks + r) (cond b (sent_of g f (slot_tasks + r)) Idle)) (sym e)
           (refl, refl)
 
