@@ -1,5 +1,5 @@
 -- What the parts of a cycle ask of the oldest frame, of a grid that has its rule.
-use Rattle.std.proofs.Common.{◌≡◌, ℕ, Bool, false, true, List, [], ◌∷◌, Option, Some, None, refl, sym, ap, ◌∙◌, subst, arith}
+use Rattle.std.proofs.Common.{◌≡◌, ℕ, false, true, List, [], ◌∷◌, Option, Some, None, sym, ap, ◌∙◌, subst, arith}
 use Rattle.std.proofs.lemmas.Bool.Decides.{nat_tests}
 use Rattle.trips_isa.specs.declared.block.Block.{Block}
 use Rattle.trips_isa.specs.declared.run.Stepped.TheVariants.{Went}
@@ -54,7 +54,8 @@ module _ {W : Type 0} (blocks : List Block) (good : AllGood blocks) (budget : �
   rule = (subst (EachFrame FrameRule) e go.ties.frames).0
 
   tied : Tied (h.parcels f.number) (h.asked f.number) (h.works f.number) f
-  tied = (subst (EachFrame (λ x. x.sealed ≡ false → Tied (h.parcels x.number) (h.asked x.number) (h.works x.number) x)) e
+  tied = (subst (EachFrame (λ x. x.sealed ≡ false → Tied (h.parcels x.number) (h.asked x.number)
+      (h.works x.number) x)) e
       go.ties.tied).0 runs
 
   careful : h.careful f.number ≡ true → none_guessed f ≡ true

@@ -1,6 +1,7 @@
 -- What the rule of a grid says of its oldest frame.
-use Rattle.std.proofs.Common.{◌≡◌, ◌≢◌, ℕ, suc, ◌+◌, ◌-◌, ◌*◌, ◌/◌, ◌%◌, ◌<◌, ◌≤◌, ◌==◌, ◌&&◌, ◌||◌, not, Bool, true, false}
-use Rattle.std.proofs.Common.{cond, nat_lt, ◌⊎◌, inl, inr, List, [], ◌∷◌, Option, Some, None, is_some, slice_get, get_or}
+use Rattle.std.proofs.Common.{◌≡◌, ◌≢◌, ℕ, suc, ◌+◌, ◌-◌, ◌*◌, ◌/◌, ◌%◌, ◌<◌, ◌≤◌, ◌==◌, ◌&&◌, ◌||◌, not, Bool, true}
+use Rattle.std.proofs.Common.{false}
+use Rattle.std.proofs.Common.{cond, nat_lt, ◌⊎◌, inl, inr, List, Option, Some, None, is_some, slice_get, get_or}
 use Rattle.std.proofs.Common.{length, refl, sym, ap, ap₂, ◌∙◌, subst, true≢false, arith}
 use Rattle.std.proofs.lemmas.Bool.{lt-ltb, le-ltb}
 use Rattle.std.proofs.lemmas.Bool.Decides.{nat_tests}
@@ -10,7 +11,6 @@ use Rattle.trips_isa.specs.declared.block.Block.{Block}
 use Rattle.trips_isa.specs.declared.form.Form.{Form}
 use Rattle.trips_isa.specs.declared.form.Form.TheVariants.{General, Immediate, Load, Store, Branch, Constant}
 use Rattle.trips_isa.specs.Forms.{form_of, is_load, is_store}
-use Rattle.trips_isa.specs.Rule.{Answer}
 use Rattle.block_cases.specs.Orders.{slot_of}
 use Rattle.operand_net.specs.declared.parcel.Stand.{Stand}
 use Rattle.operand_net.specs.declared.parcel.Stand.TheVariants.{Nowhere, Away, Held}
@@ -24,11 +24,9 @@ use Rattle.commit_flush_spec.proofs.Sends.{read_sends}
 use Rattle.commit_flush_spec.proofs.Tokens.{inst_in}
 use Rattle.window_progress.specs.Observers.{has_number}
 use Rattle.window_progress.specs.Work.{none_guessed}
-use Rattle.grid_cycle_spec.specs.Stations.{tile_of}
 use Rattle.grid_cycle_spec.specs.Grid.{Grid}
 use Rattle.grid_cycle_spec.specs.Arrivals.{is_waiting}
-use Rattle.grid_cycle_bound.specs.Course.{Kind, Reading, Plain, Serving}
-use Rattle.grid_cycle_bound.specs.Lane.{Phase, Absent, Idle, Working, Asking, Standing, Sent, first_parcel, second_parcel}
+use Rattle.grid_cycle_bound.specs.Lane.{Phase, Idle, Working, Asking, Standing, first_parcel, second_parcel}
 use Rattle.grid_cycle_bound.specs.Blocks.{kind_of, slot_tasks}
 use Rattle.grid_cycle_bound.specs.Seen.{after_unit, asking, phase_of, read_phase, sent_of, slot_phase}
 use Rattle.grid_cycle_bound.proofs.Sizes.{slot_tasks_is}
@@ -38,12 +36,11 @@ use Rattle.grid_served.specs.UnitRule.{InUnit, ResultOf, UnitRule}
 use Rattle.grid_served.specs.MoveRule.{IsToken, MoveRule, Travels}
 use Rattle.grid_rule.specs.UnderWay.{form_travels, Gives, IsSent, Tied, to_come, travels}
 use Rattle.grid_rule.specs.Rule.{FrameRule, UnitsRule, Waits}
-use Rattle.grid_rule.proofs.Each.{same}
-use Rattle.grid_rule.proofs.Travels.{IsPlace, and_none, even_first, false_of, first_travels, half_first, half_second, halves}
-use Rattle.grid_rule.proofs.Travels.{is_there, none_is, none_travels, odd_second, read_travels, result_of, second_travels}
-use Rattle.grid_rule.proofs.Travels.{first_low, second_low, sides, some_is, unfired_none, waiting_none, waits_for, waits_none}
+use Rattle.grid_rule.proofs.Travels.{IsPlace, and_none, false_of, first_travels, half_first, half_second}
+use Rattle.grid_rule.proofs.Travels.{is_there, none_is, none_travels, read_travels, result_of, second_travels}
+use Rattle.grid_rule.proofs.Travels.{first_low, second_low, sides, some_is, unfired_none, waiting_none, waits_for}
 use Rattle.grid_rule.proofs.TiedFrames.{Comes, comes, token_comes}
-use Rattle.grid_rule.proofs.DataParts.{came, load_form, no_result, number_kind}
+use Rattle.grid_rule.proofs.DataParts.{came, no_result}
 use Rattle.grid_rule.proofs.TickParts.{not_here}
 
 store_form : (t : Form) → is_store t ≡ true → t ≡ Store
@@ -337,10 +334,11 @@ module _ {W : Type 0} (blocks : List Block) (good : AllGood blocks) (o : Older) 
       )
       by None i true e = absurd (let k = ok.reads r e in
           let bad : None ≡ Some k.slot = sym i ∙ k.is_slot in cc)
-      by (Some slot) i false e = subst (λ b. Shown (slot_tasks + r) (cond b (sent_of g f (slot_tasks + r)) Idle)) (sym e) (
-        unread_none r (2 * (slot_tasks + r)) l (inl first_place_is) e,
-        unread_none r (suc (2 * (slot_tasks + r))) l (inr second_place_is) e,
-      )
+      by (Some slot) i false e = subst (λ b. Shown (slot_tasks + r) (cond b (sent_of g f (slot_tasks + r)) Idle))
+          (sym e) (
+            unread_none r (2 * (slot_tasks + r)) l (inl first_place_is) e,
+            unread_none r (suc (2 * (slot_tasks + r))) l (inr second_place_is) e,
+          )
       by (Some slot) i true e = subst (λ b. Shown (slot_tasks + r) (cond b (sent_of g f (slot_tasks + r)) Idle)) (sym e)
           (refl, refl)
 

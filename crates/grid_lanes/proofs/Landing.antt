@@ -1,7 +1,7 @@
 -- Of each task of a running frame: its unit is busy while it works, and no token that it has sent is lost.
-use Rattle.std.proofs.Common.{◌≡◌, ◌≢◌, ℕ, suc, ◌+◌, ◌-◌, ◌*◌, ◌/◌, ◌%◌, ◌<◌, ◌≤◌, ◌==◌, ◌&&◌, ◌||◌, not, Bool, true, false}
-use Rattle.std.proofs.Common.{cond, nat_lt, ◌⊎◌, inl, inr, List, Option, Some, None, is_some, slice_get, slice_index_or}
-use Rattle.std.proofs.Common.{get_or, length, refl, sym, ap, ap₂, ◌∙◌, subst, true≢false, arith}
+use Rattle.std.proofs.Common.{◌≡◌, ◌≢◌, ℕ, suc, ◌+◌, ◌-◌, ◌*◌, ◌%◌, ◌<◌, ◌==◌, ◌&&◌, ◌||◌, not, Bool, true, false}
+use Rattle.std.proofs.Common.{cond, nat_lt, inl, inr, List, Option, Some, None, is_some, slice_get}
+use Rattle.std.proofs.Common.{get_or, refl, sym, ap, ap₂, ◌∙◌, subst, true≢false, arith}
 use Rattle.std.proofs.lemmas.Bool.{lt-ltb, le-ltb}
 use Rattle.std.proofs.lemmas.Bool.Decides.{nat_tests}
 use Rattle.trips_isa.specs.declared.block.Spot.{Spot}
@@ -12,30 +12,30 @@ use Rattle.trips_isa.specs.declared.form.Form.{Form}
 use Rattle.trips_isa.specs.declared.form.Form.TheVariants.{General, Immediate, Load, Store, Branch, Constant}
 use Rattle.trips_isa.specs.Forms.{form_of, is_load, is_store}
 use Rattle.trips_isa.specs.Fits.{FitsForm}
-use Rattle.trips_isa.specs.Places.{place_of, place_at, first_place, inst_node, inst_nodes, nodes_of, read_node}
+use Rattle.trips_isa.specs.Places.{place_of, place_at, first_place, inst_node, inst_nodes, nodes_of}
 use Rattle.trips_isa.specs.Rule.{Answer}
 use Rattle.trips_isa.specs.Blocks.{at_place}
 use Rattle.block_cases.specs.Orders.{slot_of}
 use Rattle.operand_net.specs.declared.parcel.Stand.{Stand}
 use Rattle.operand_net.specs.declared.parcel.Stand.TheVariants.{Nowhere, Away, Held}
 use Rattle.operand_net.specs.IsStands.{is_here}
-use Rattle.commit_flush_spec.specs.Frames.{Frame, at, slot_node, source, target, named_at, is_target}
+use Rattle.commit_flush_spec.specs.Frames.{Frame, at, target, named_at, is_target}
 use Rattle.commit_flush_spec.specs.Older.{Older}
-use Rattle.commit_flush_spec.specs.Invariant.{FrameOk, AllGood, IsRunnable, has_sent, slot_sent, inst_sent}
+use Rattle.commit_flush_spec.specs.Invariant.{FrameOk, AllGood, has_sent, slot_sent, inst_sent}
 use Rattle.commit_flush_spec.specs.Laws.{NoneLost}
 use Rattle.commit_flush_spec.proofs.Sends.{read_sends, read_source, slot_sends, slot_source}
 use Rattle.commit_flush_spec.proofs.Stored.{inst_fits, number_small}
-use Rattle.commit_flush_spec.proofs.Tokens.{inst_in, read_got, read_is, slot_got}
-use Rattle.grid_cycle_spec.specs.Stations.{data_node, home, tile_of}
+use Rattle.commit_flush_spec.proofs.Tokens.{inst_in, read_got, slot_got}
+use Rattle.grid_cycle_spec.specs.Stations.{data_node, home}
 use Rattle.grid_cycle_spec.specs.DataTiles.{tile_by}
 use Rattle.grid_cycle_spec.specs.Grid.{Grid}
 use Rattle.grid_cycle_spec.specs.Arrivals.{is_waiting}
 use Rattle.grid_cycle_bound.specs.Course.{Kind, Reading, Plain, Serving, Target}
-use Rattle.grid_cycle_bound.specs.Lane.{Phase, Absent, Idle, Working, Asking, Standing, Sent, is_there}
+use Rattle.grid_cycle_bound.specs.Lane.{Idle, Working, Asking, Standing, is_there}
 use Rattle.grid_cycle_bound.specs.Laws.{Bounded, FineAt, Has, Landed, OnItsWay}
 use Rattle.grid_cycle_bound.specs.Blocks.{first_of, kind_of, read_task, slot_task, slot_tasks, target_at}
 use Rattle.grid_cycle_bound.specs.Seen.{after_unit, asking, has_come, read_phase, sent_of, slot_phase}
-use Rattle.grid_rule.specs.UnderWay.{form_travels, Tied, to_come, travels}
+use Rattle.grid_rule.specs.UnderWay.{form_travels, Tied, to_come}
 use Rattle.grid_rule.specs.Rule.{HeldFrom, UnitsRule}
 use Rattle.grid_rule.proofs.Each.{same}
 use Rattle.grid_rule.proofs.Travels.{even_first, first_travels, odd_second, read_travels, second_travels, some_is}
@@ -167,7 +167,8 @@ module _ {W : Type 0} (blocks : List Block) (good : AllGood blocks) (o : Older) 
         → Landed (has_come f) (g.parcels n (2 * s)) (target_at f.code (place_at i.first))
         × Landed (has_come f) (g.parcels n (suc (2 * s))) (target_at f.code (place_at i.second))
     tokens_land k e first sent one two = (
-      landed (has_come f) (g.parcels n (2 * s)) (target_at f.code (place_at i.first)) (held (2 * s) (omega (arith, small)))
+      landed (has_come f) (g.parcels n (2 * s)) (target_at f.code (place_at i.first)) (held (2 * s) (omega
+          (arith, small)))
           (λ h. token_has (2 * s) (place_at i.first) (first_target f.code s i small is ∙ first)
           ((slot_sends f s small).0 ∙ sent_is sent) (one h)),
       landed (has_come f) (g.parcels n (suc (2 * s))) (target_at f.code (place_at i.second))
@@ -220,7 +221,8 @@ module _ {W : Type 0} (blocks : List Block) (good : AllGood blocks) (o : Older) 
       request_goes k e false c h = on_its_way (g.parcels n (2 * s)) (held (2 * s) (omega (arith, small))) (h refl)
 
       load_fine : form_of i.op ≡ Load → (b : Bool) → is_waiting (at f.requests i.number) s ≡ b
-          → FineAt g.units (has_come f) (slot_task f.code table s (Some i)) (cond b (asking g f s i.number) (sent_of g f s))
+          → FineAt g.units (has_come f) (slot_task f.code table s (Some i)) (cond b (asking g f s i.number)
+          (sent_of g f s))
       load_fine e true w = request_goes Load e (g.asked n i.number) refl (λ c. first_by Load e
           ∙ ap₂ (λ x y. (true && (x && not y)) || is_some (at f.places (2 * s))) w c)
       load_fine e false w = first_lands Load e (tokens_land Load e (ap (λ x. first_place x i.number i.first) e)
@@ -229,7 +231,8 @@ module _ {W : Type 0} (blocks : List Block) (good : AllGood blocks) (o : Older) 
           (λ h. or_none _ _ (sym (first_by Load e) ∙ h)) (λ h. sym (second_by Load e) ∙ h))
 
       store_fine : form_of i.op ≡ Store → (b : Bool) → is_waiting (at f.requests i.number) s ≡ b
-          → FineAt g.units (has_come f) (slot_task f.code table s (Some i)) (cond b (asking g f s i.number) (sent_of g f s))
+          → FineAt g.units (has_come f) (slot_task f.code table s (Some i)) (cond b (asking g f s i.number)
+          (sent_of g f s))
       store_fine e true w = request_goes Store e (g.asked n i.number) refl (λ c. first_by Store e
           ∙ ap₂ (λ x y. true && (x && not y)) w c)
       store_fine e false w = first_lands Store e (output_lands (first_of f.code Store i there)

@@ -1,6 +1,6 @@
 -- The lane of a grid that has its rule has the rule of lanes.
-use Rattle.std.proofs.Common.{◌≡◌, ℕ, suc, ◌+◌, ◌-◌, ◌<◌, ◌≤◌, Bool, true, false, cond, nat_lt, ◌⊎◌, inl, inr, List, []}
-use Rattle.std.proofs.Common.{◌∷◌, length, Option, Some, None, slice_get, refl, sym, ap, ap₂, ◌∙◌, subst, true≢false, arith}
+use Rattle.std.proofs.Common.{◌≡◌, ℕ, ◌+◌, ◌-◌, ◌<◌, ◌≤◌, Bool, true, false, cond, nat_lt, ◌⊎◌, inl, inr, List, []}
+use Rattle.std.proofs.Common.{◌∷◌, length, Option, Some, None, slice_get, refl, sym, ap, ◌∙◌, subst, arith}
 use Rattle.std.proofs.lemmas.Bool.{lt-ltb, le-ltb}
 use Rattle.std.proofs.lemmas.Bool.Decides.{nat_tests}
 use Rattle.trips_isa.specs.declared.block.Block.{Block}
@@ -9,7 +9,6 @@ use Rattle.trips_isa.specs.Blocks.{Responses, Solves}
 use Rattle.block_cases.specs.Orders.{slot_of}
 use Rattle.commit_flush_spec.specs.Frames.{Frame}
 use Rattle.commit_flush_spec.specs.Older.{committed, follows}
-use Rattle.commit_flush_spec.specs.Ends.{complete}
 use Rattle.commit_flush_spec.specs.Invariant.{AllGood, FrameOk, FramesOk, IsRunnable}
 use Rattle.commit_flush_spec.specs.Laws.{AllKept, NoneLost, WindowOk}
 use Rattle.grid_cycle_spec.specs.Grid.{Grid, Fetching}
@@ -17,10 +16,11 @@ use Rattle.grid_cycle_spec.specs.Acting.{known_next}
 use Rattle.grid_cycle_bound.specs.Course.{Course}
 use Rattle.grid_cycle_bound.specs.Lane.{Lane, is_complete, is_there}
 use Rattle.grid_cycle_bound.specs.Lane as lane
-use Rattle.grid_cycle_bound.specs.Laws.{AtMost, FineAt, FrontRule, LaneRule, StageRule}
+use Rattle.grid_cycle_bound.specs.Laws.{FineAt, FrontRule, LaneRule, StageRule}
 use Rattle.grid_cycle_bound.specs.Blocks.{course_of, read_task, room, slot_task, slot_tasks, task_of}
 use Rattle.grid_cycle_bound.specs.Programs.{size_in}
-use Rattle.grid_cycle_bound.specs.Seen.{fetch_of, front_of, has_come, lane_of, phase_of, read_phase, slot_phase, stage_of}
+use Rattle.grid_cycle_bound.specs.Seen.{fetch_of, front_of, has_come, lane_of, phase_of, read_phase, slot_phase}
+use Rattle.grid_cycle_bound.specs.Seen.{stage_of}
 use Rattle.grid_cycle_bound.proofs.Courses.{course_good}
 use Rattle.grid_cycle_bound.proofs.Seen.{complete_seen}
 use Rattle.grid_cycle_bound.proofs.Sizes.{room_is, slot_tasks_is, tasks_are}

@@ -1,6 +1,6 @@
 -- Part (6) of a cycle, behind the tick of the mesh: what has come is delivered, and the rule is kept.
 use Rattle.std.proofs.Common.{◌≡◌, ◌≢◌, ℕ, zero, suc, ◌+◌, ◌*◌, ◌/◌, ◌%◌, ◌<◌, ◌==◌, ◌&&◌, ◌||◌, not, Bool, true, false}
-use Rattle.std.proofs.Common.{cond, nat_lt, ◌⊎◌, inl, inr, List, [], ◌∷◌, ◌++◌, Option, Some, None, is_some, is_none, set}
+use Rattle.std.proofs.Common.{cond, nat_lt, inl, inr, List, [], ◌∷◌, ◌++◌, Option, Some, None, is_some, is_none, set}
 use Rattle.std.proofs.Common.{get_or, length, refl, sym, ap, ap₂, ◌∙◌, subst, true≢false, arith}
 use Rattle.std.proofs.lemmas.Bool.Decides.{nat_tests}
 use Rattle.trips_isa.specs.declared.block.Token.{Token}
@@ -9,15 +9,14 @@ use Rattle.trips_isa.specs.declared.block.Block.{Block}
 use Rattle.trips_isa.specs.declared.form.Form.{Form}
 use Rattle.trips_isa.specs.declared.form.Form.TheVariants.{General, Immediate, Load, Store, Branch, Constant}
 use Rattle.trips_isa.specs.Forms.{form_of, is_load}
-use Rattle.trips_isa.specs.Rule.{Answer}
 use Rattle.block_cases.specs.Orders.{slot_of}
 use Rattle.operand_net.specs.declared.parcel.Parcel.{Parcel}
 use Rattle.operand_net.specs.declared.parcel.Stand.{Stand}
 use Rattle.operand_net.specs.declared.parcel.Stand.TheVariants.{Nowhere, Away, Held}
-use Rattle.operand_net.specs.Places.{Places, come, put, without}
+use Rattle.operand_net.specs.Places.{Places, come, put}
 use Rattle.operand_net.specs.IsStands.{is_here}
 use Rattle.commit_flush_spec.specs.Marks.{mark_delivered}
-use Rattle.commit_flush_spec.specs.Frames.{Frame, Exit, at, target, is_target, token_places, first_read_place}
+use Rattle.commit_flush_spec.specs.Frames.{Frame, Exit, at, target, is_target, token_places}
 use Rattle.commit_flush_spec.specs.Older.{Older, committed, successor_of}
 use Rattle.commit_flush_spec.specs.Causes.{NoFrame, NoToken, NoExit, Done, NotNow}
 use Rattle.commit_flush_spec.specs.Dataflow.{can_deliver, deliver, delivered}
@@ -29,22 +28,23 @@ use Rattle.commit_flush_spec.specs.Invariant.{AllGood, FrameOk}
 use Rattle.commit_flush_spec.proofs.Committing.{both_true}
 use Rattle.commit_flush_spec.proofs.Flow.{some_of}
 use Rattle.commit_flush_spec.proofs.Numbers.{nums}
-use Rattle.window_progress.specs.Work.{none_guessed}
 use Rattle.window_progress.proofs.Search.{clear, not_none}
 use Rattle.grid_cycle_spec.specs.Grid.{Grid}
 use Rattle.grid_cycle_spec.specs.Acting.{act}
 use Rattle.grid_cycle_spec.specs.Choosing.{each, places, with_frame}
-use Rattle.grid_cycle_spec.specs.Arrivals.{asks, delivers, is_waiting, load_arrives, slot_arrives, inst_arrives}
+use Rattle.grid_cycle_spec.specs.Arrivals.{asks, delivers, is_waiting, slot_arrives, inst_arrives}
 use Rattle.grid_cycle_spec.specs.Arrivals.{place_arrives, arrives_if, arrival, arrivals}
-use Rattle.grid_rule.specs.UnderWay.{form_travels, Tied, to_come, travels}
+use Rattle.grid_rule.specs.UnderWay.{form_travels, Tied, to_come}
 use Rattle.grid_rule.specs.Rule.{EachFrame, FrameRule, HeldFrom, runs_in}
 use Rattle.grid_rule.proofs.Each.{FrameAt, answered_at, apart, changed_at, each_front, each_join, each_rest, find_at}
 use Rattle.grid_rule.proofs.Each.{own_at, runs_are, same, with_at}
 use Rattle.grid_rule.proofs.FrameRules.{exit_rule}
-use Rattle.grid_rule.proofs.Travels.{IsPlace, and_none, halves, is_there, none_is, slot_travels, waiting_none, waits_for}
+use Rattle.grid_rule.proofs.Travels.{IsPlace, and_none, halves, is_there, none_is, slot_travels, waiting_none}
+use Rattle.grid_rule.proofs.Travels.{waits_for}
 use Rattle.grid_rule.proofs.Entered.{put_each, put_here, put_other}
 use Rattle.grid_rule.proofs.Ties.{Alike, Ties, ties_step}
-use Rattle.grid_rule.proofs.TiedFrames.{Comes, asks_other, asks_standing, comes, delivered_tied, exit_other, served_tied}
+use Rattle.grid_rule.proofs.TiedFrames.{Comes, asks_other, asks_standing, comes, delivered_tied, exit_other}
+use Rattle.grid_rule.proofs.TiedFrames.{served_tied}
 use Rattle.grid_rule.proofs.TiedFrames.{token_comes}
 use Rattle.grid_rule.proofs.Flushing.{act_going, append_more, kept_rest, nums_step}
 use Rattle.grid_rule.proofs.Going.{Going, Moved, alone_is, awake, can_is, each_going, frame_ok, frame_rule, frame_sure}
@@ -208,7 +208,8 @@ module _ {W : Type 0} (blocks : List Block) (good : AllGood blocks) (budget : �
             asked_are = more_frame g.asked m k.inst.number x d;
             works_are = λ s. refl;
           })
-          (served_tied (g.parcels m) (left m) (g.asked m) (asks' m) (g.works m) f f p tied inside here gone others low even
+          (served_tied (g.parcels m) (left m) (g.asked m) (asks' m)
+          (g.works m) f f p tied inside here gone others low even
           refl refl refl
           (slot_travels (asks' m) (g.works m) f p k.inst low k.is_inst
           ∙ ap (λ b. not (g.works m (p / 2)) && b) none ∙ and_none (not (g.works m (p / 2))))
@@ -218,7 +219,8 @@ module _ {W : Type 0} (blocks : List Block) (good : AllGood blocks) (budget : �
           go.ties.busy held
 
     -- a branch comes to the control tile
-    module _ (even : (p % 2 == 0) ≡ true) (leaves : f.leaving ≡ Some (p / 2)) (branch : form_of k.inst.op ≡ Branch) where
+    module _ (even : (p % 2 == 0) ≡ true) (leaves : f.leaving ≡ Some (p / 2)) (branch : form_of k.inst.op
+        ≡ Branch) where
       abbrev E : Option Exit
       E = exit_by blocks f.block (branch_of f f.leaving)
 
@@ -236,13 +238,16 @@ module _ {W : Type 0} (blocks : List Block) (good : AllGood blocks) (budget : �
 
       exit_rules : EachFrame FrameRule (a.older ++ X ∷ a.younger)
       exit_rules =
-          let was : EachFrame FrameRule (a.older ++ f ∷ a.younger) = subst (EachFrame FrameRule) a.split go.ties.frames in
-          each_join FrameRule a.older (X ∷ a.younger) (each_front FrameRule a.older (f ∷ a.younger) was)
-          (exit_rule blocks good o f ok rule E (branch_mark f f.leaving),
-          (each_rest FrameRule a.older (f ∷ a.younger) was).1)
+          let was : EachFrame FrameRule (a.older ++ f ∷ a.younger) = subst
+          (EachFrame FrameRule) a.split go.ties.frames in
+          each_join FrameRule a.older (X ∷ a.younger) (each_front FrameRule a.older (f ∷ a.younger) was) (
+            exit_rule blocks good o f ok rule E (branch_mark f f.leaving),
+            (each_rest FrameRule a.older (f ∷ a.younger) was).1,
+          )
 
       exit_ties : Ties 0 (a.older ++ X ∷ a.younger) left g.asked g.works g.careful g.units
-      exit_ties = ties_step 0 m g.window.frames a X g.parcels left g.asked g.asked g.works g.works g.careful g.units g.units
+      exit_ties = ties_step 0 m g.window.frames a X g.parcels left g.asked g.asked g.works g.works g.careful
+          g.units g.units
           refl other_frames go.ties runs exit_rules exit_tied
           (frame_sure blocks good budget g a0.frame.number a 0 go.ties) go.ties.busy held
 
@@ -277,7 +282,8 @@ module _ {W : Type 0} (blocks : List Block) (good : AllGood blocks) (budget : �
     half_small = let l : p < 256 = grind (arith, nat_tests) in omega (arith, l)
 
     load_token : form_of k.inst.op ≡ Load → at f.requests k.inst.number ≡ Some (p / 2) → is_some (at f.places p) ≡ false
-    load_token e w = none_is (at f.places p) (waiting_none blocks o f ok (p / 2) p k.inst.number k.inst half_small place_is
+    load_token e w = none_is (at f.places p) (waiting_none blocks o f ok
+        (p / 2) p k.inst.number k.inst half_small place_is
         k.is_inst (ap is_load e) w)
 
     so_far : (t : Form) → form_of k.inst.op ≡ t
@@ -297,7 +303,8 @@ module _ {W : Type 0} (blocks : List Block) (good : AllGood blocks) (budget : �
         (is_some (at f.places p))) e
         ∙ ap (λ z. form_travels t (p % 2 == 0) z (is_some (at f.places p))) c ∙ h
 
-    asked_now : (is_waiting (at f.requests k.inst.number) (p / 2) && not (asked_more g.asked m k.inst.number m k.inst.number))
+    asked_now : (is_waiting (at f.requests k.inst.number) (p / 2) && not (asked_more
+        g.asked m k.inst.number m k.inst.number))
         ≡ false
     asked_now = ap (λ b. is_waiting (at f.requests k.inst.number) (p / 2) && not b) (more_here g.asked m k.inst.number)
         ∙ and_none (is_waiting (at f.requests k.inst.number) (p / 2))

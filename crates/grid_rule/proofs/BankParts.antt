@@ -1,22 +1,21 @@
 -- Part (3) of a cycle, the banks, keeps the rule.
-use Rattle.std.proofs.Common.{◌≡◌, ◌≢◌, ℕ, suc, ◌+◌, ◌*◌, ◌<◌, Bool, true, false, ◌⊎◌, inl, inr, List, ◌∷◌, ◌++◌}
-use Rattle.std.proofs.Common.{Option, Some, None, set, get_or, nat_lt, refl, sym, ap, ap₂, ◌∙◌, subst, true≢false, arith}
+use Rattle.std.proofs.Common.{◌≡◌, ℕ, suc, ◌+◌, ◌*◌, ◌<◌, true, false, inl, inr, List, ◌∷◌, ◌++◌}
+use Rattle.std.proofs.Common.{Option, Some, None, set, nat_lt, refl, sym, ap, ◌∙◌, subst, arith}
 use Rattle.std.proofs.lemmas.Bool.{le-ltb}
 use Rattle.trips_isa.specs.declared.block.Block.{Block}
 use Rattle.trips_isa.specs.Forms.{form_of}
 use Rattle.operand_net.specs.Places.{Places}
-use Rattle.commit_flush_spec.specs.Frames.{Frame, first_read_place}
+use Rattle.commit_flush_spec.specs.Frames.{Frame}
 use Rattle.commit_flush_spec.specs.Older.{Older, committed}
 use Rattle.commit_flush_spec.specs.Causes.{NoFrame, Done, NotNow}
 use Rattle.commit_flush_spec.specs.Dataflow.{can_read, read}
-use Rattle.commit_flush_spec.specs.Window.{Window, Read, can, can_now, happens}
+use Rattle.commit_flush_spec.specs.Window.{Window, Read, can, can_now}
 use Rattle.commit_flush_spec.specs.Invariant.{AllGood, FrameOk}
 use Rattle.commit_flush_spec.proofs.Committing.{both_true}
 use Rattle.commit_flush_spec.proofs.Frames.{not_now}
-use Rattle.grid_cycle_spec.specs.Stations.{bank_node, banks}
+use Rattle.grid_cycle_spec.specs.Stations.{bank_node}
 use Rattle.grid_cycle_spec.specs.Grid.{Grid}
-use Rattle.grid_cycle_spec.specs.Acting.{may}
-use Rattle.grid_cycle_spec.specs.Choosing.{eldest, each, reads, with_frame}
+use Rattle.grid_cycle_spec.specs.Choosing.{eldest, reads, with_frame}
 use Rattle.grid_cycle_spec.specs.Sending.{enter_both}
 use Rattle.grid_cycle_spec.specs.Banks.{answers_read, read_chosen, bank_turn, reads_answered}
 use Rattle.grid_rule.proofs.Each.{FrameAt, Chosen, answered_at, eldest_is, moved_at, own_at, with_at}
@@ -25,7 +24,6 @@ use Rattle.grid_rule.proofs.FrameRules as frame_rules
 use Rattle.grid_rule.proofs.Travels.{IsPlace, come_by, read_travels}
 use Rattle.grid_rule.specs.UnderWay.{Tied}
 use Rattle.grid_rule.proofs.Entered.{Entered, both_enter, enters_at}
-use Rattle.grid_rule.proofs.Ties.{Alike}
 use Rattle.grid_rule.proofs.TiedFrames.{sent_tied}
 use Rattle.grid_rule.proofs.Going.{Going, Moved, alone_is, done_is, each_going, frame_ok, frame_sure, frame_tied, moved}
 use Rattle.grid_rule.proofs.Going.{moved_to, sees, stepped}
@@ -137,7 +135,9 @@ module _ {W : Type 0} (blocks : List Block) (good : AllGood blocks) (budget leas
       (answered blocks good budget least g go bank low q.0 q.1 a d s)
 
   -- part (3) keeps the rule
-  pub banks_going : (g : Grid W) → Going blocks budget least g → Going blocks budget least (reads_answered blocks budget g)
+  pub banks_going : (g : Grid W) → Going blocks budget least g → Going blocks budget least
+      (reads_answered blocks budget g)
   banks_going g go = each_going blocks budget least (bank_turn blocks budget) 4
-      (λ bank low x r. chosen_going bank low (eldest (answers_read blocks budget x bank) reads x.window.frames) x r refl)
+      (λ bank low x r. chosen_going bank low (eldest
+      (answers_read blocks budget x bank) reads x.window.frames) x r refl)
       4 (omega arith) g go

@@ -1,5 +1,5 @@
 -- At the stated start the grid has its rule.
-use Rattle.std.proofs.Common.{ℕ, zero, suc, ◌≤◌, List, [], ◌∷◌, slice_index, refl, sym, true≢false, arith}
+use Rattle.std.proofs.Common.{ℕ, zero, suc, ◌≤◌, List, slice_index, refl, sym, true≢false, arith}
 use Rattle.trips_isa.specs.Machine.{State}
 use Rattle.commit_flush_spec.specs.InFlight.{unstarted}
 use Rattle.grid_cycle_spec.specs.Cycles.{begun_at}

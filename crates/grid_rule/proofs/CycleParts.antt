@@ -1,5 +1,5 @@
 -- Every cycle keeps the rule.
-use Rattle.std.proofs.Common.{◌≡◌, ℕ, zero, suc, ◌+◌, ◌≤◌, Bool, true, false, refl, sym, ap, ◌∙◌, subst, List}
+use Rattle.std.proofs.Common.{◌≡◌, ℕ, zero, suc, ◌≤◌, refl, sym, subst, List}
 use Rattle.trips_isa.specs.declared.block.Block.{Block}
 use Rattle.trips_isa.specs.declared.run.Stepped.{Stepped}
 use Rattle.trips_isa.specs.declared.run.Stepped.TheVariants as stepped
@@ -10,7 +10,7 @@ use Rattle.grid_cycle_spec.specs.Ends.{ends}
 use Rattle.grid_cycle_spec.specs.Fetches.{fetches}
 use Rattle.grid_cycle_spec.specs.Banks.{reads_answered}
 use Rattle.grid_cycle_spec.specs.DataTiles.{answers}
-use Rattle.grid_cycle_spec.specs.Cycles.{acts, counted, Eager, Follows, AfterCycles, Moves}
+use Rattle.grid_cycle_spec.specs.Cycles.{acts, counted, Eager, Follows, AfterCycles}
 use Rattle.grid_rule.specs.Rule.{GridRule}
 use Rattle.grid_rule.proofs.Ties.{rule_of, ties_of}
 use Rattle.grid_rule.proofs.EndParts.{Ruled, ends_ruled}
@@ -28,7 +28,8 @@ module _ {W : Type 0} (blocks : List Block) (good : AllGood blocks) (budget : �
       let a : Grid W = fetches blocks budget g in
       let b : Grid W = reads_answered blocks budget a in
       works_going blocks good budget 1 (answers blocks budget b)
-      (answers_going blocks good budget 1 b (banks_going blocks good budget 1 a (fetches_going blocks good budget 1 g r)))
+      (answers_going blocks good budget 1 b (banks_going blocks good budget 1 a
+      (fetches_going blocks good budget 1 g r)))
 
   counted_ruled : (g h : Grid W) → h ≡ counted g → Ruled blocks budget 1 g → Ruled blocks budget 1 h
   counted_ruled g h e r = subst (Ruled blocks budget 1) (sym e) (record { ok = r.ok; ties = r.ties; fetch = r.fetch })

@@ -1,41 +1,36 @@
 -- Part (4) of a cycle, the data tiles, keeps the rule.
-use Rattle.std.proofs.Common.{◌≡◌, ◌≢◌, ℕ, suc, ◌+◌, ◌*◌, ◌/◌, ◌<◌, ◌==◌, ◌&&◌, ◌||◌, not, Bool, true, false, cond, ◌⊎◌, inl, inr}
-use Rattle.std.proofs.Common.{List, [], ◌∷◌, ◌++◌, Option, Some, None, set, get_or, length, refl, sym, ap, ap₂, ◌∙◌}
-use Rattle.std.proofs.Common.{subst, true≢false, arith, map}
+use Rattle.std.proofs.Common.{◌≡◌, ◌≢◌, ℕ, ◌+◌, ◌*◌, ◌/◌, ◌<◌, ◌==◌, ◌&&◌, ◌||◌, not, Bool, true, false, cond, ◌⊎◌, inl}
+use Rattle.std.proofs.Common.{inr}
+use Rattle.std.proofs.Common.{List, [], ◌∷◌, ◌++◌, Option, Some, None, set, refl, sym, ap, ap₂, ◌∙◌}
+use Rattle.std.proofs.Common.{subst, true≢false, arith}
 use Rattle.trips_isa.specs.declared.block.Inst.{Inst}
 use Rattle.trips_isa.specs.declared.block.Stored.{Stored}
 use Rattle.trips_isa.specs.declared.block.Block.{Block}
 use Rattle.trips_isa.specs.declared.form.Form.{Form}
 use Rattle.trips_isa.specs.declared.form.Form.TheVariants.{General, Immediate, Load, Store, Branch, Constant}
-use Rattle.trips_isa.specs.declared.run.Stepped.TheVariants.{Went}
 use Rattle.trips_isa.specs.Forms.{form_of, is_load, is_store}
 use Rattle.trips_isa.specs.declared.block.Token.TheVariants.{Null, Word}
 use Rattle.trips_isa.specs.Rule.{Answer}
 use Rattle.trips_isa.specs.Stores.{address_of, stored_of}
 use Rattle.block_cases.specs.Orders.{slot_of}
 use Rattle.operand_net.specs.Places.{Places}
-use Rattle.commit_flush_spec.specs.Frames.{Frame, Taken, at, numbers, slot_node}
+use Rattle.commit_flush_spec.specs.Frames.{Frame, at, numbers, slot_node}
 use Rattle.commit_flush_spec.specs.Sending.{mark_with}
-use Rattle.commit_flush_spec.specs.Older.{Older, after_all, committed, nearest, violated, cut}
-use Rattle.commit_flush_spec.specs.Causes.{NoFrame, NoRequest, Happened, Done, NotNow}
+use Rattle.commit_flush_spec.specs.Older.{Older, committed, nearest, violated, cut}
+use Rattle.commit_flush_spec.specs.Causes.{NoFrame, NoRequest, Done, NotNow}
 use Rattle.commit_flush_spec.specs.Ends.{all_below, store_came}
 use Rattle.commit_flush_spec.specs.Memory.{with_inst, with_slot, request, is_request, can_load, load, can_store, store}
 use Rattle.commit_flush_spec.specs.Memory.{with_store, store_resolved, checked}
 use Rattle.commit_flush_spec.specs.Memory as memory
-use Rattle.commit_flush_spec.specs.Window.{Window, Load, Store, can, can_now, happens}
-use Rattle.commit_flush_spec.specs.Window as window
+use Rattle.commit_flush_spec.specs.Window.{Window, Load, Store, can, happens}
 use Rattle.commit_flush_spec.specs.Invariant.{AllGood, FrameOk, Asked}
-use Rattle.commit_flush_spec.specs.Laws.{WindowOk}
 use Rattle.commit_flush_spec.proofs.Committing.{both_true}
 use Rattle.commit_flush_spec.proofs.Loads.{Stands}
 use Rattle.commit_flush_spec.proofs.Numbers.{nums}
-use Rattle.commit_flush_spec.proofs.Storing.{store_form}
-use Rattle.commit_flush_spec.proofs.Tokens.{inst_in}
 use Rattle.window_progress.specs.Observers.{has_number}
-use Rattle.window_progress.specs.Work.{none_guessed}
 use Rattle.window_progress.proofs.Guesses.{load_keeps, stores_keep}
 use Rattle.window_progress.proofs.Search.{clear}
-use Rattle.grid_cycle_spec.specs.Stations.{data_node, data_tile_of, data_tiles}
+use Rattle.grid_cycle_spec.specs.Stations.{data_node, data_tile_of}
 use Rattle.grid_cycle_spec.specs.Grid.{Grid}
 use Rattle.grid_cycle_spec.specs.Acting.{act}
 use Rattle.grid_cycle_spec.specs.Choosing.{eldest, each, with_frame}
@@ -43,20 +38,22 @@ use Rattle.grid_cycle_spec.specs.Sending.{enter_both}
 use Rattle.grid_cycle_spec.specs.Arrivals.{is_waiting}
 use Rattle.commit_flush_spec.specs.Window.{in_flight}
 use Rattle.commit_flush_spec.proofs.Look.{or_false}
-use Rattle.grid_cycle_spec.specs.DataTiles.{asks_store, tile_by, tile_for, bit_of, all_resolved, must_wait, may_answer, answers_request, unasked, load_answered}
+use Rattle.grid_cycle_spec.specs.DataTiles.{asks_store, tile_by, tile_for, bit_of, all_resolved, must_wait, may_answer}
+use Rattle.grid_cycle_spec.specs.DataTiles.{answers_request, unasked, load_answered}
 use Rattle.grid_cycle_spec.specs.DataTiles.{wrong_load, waits_now, answered_by, answer_chosen, data_turn, answers}
 use Rattle.grid_cycle_spec.specs.DataTiles as data_tiles_spec
-use Rattle.grid_rule.specs.UnderWay.{Gives, InUnit, Nothing, Tied, to_come}
-use Rattle.grid_rule.specs.Rule.{EachFrame, FrameRule, HeldFrom, UnitsRule, Waits, runs_in}
+use Rattle.grid_rule.specs.UnderWay.{Gives, InUnit, Tied, to_come}
+use Rattle.grid_rule.specs.Rule.{EachFrame, FrameRule, Waits}
 use Rattle.grid_rule.proofs.Each.{FrameAt, Chosen, answered_at, apart, changed_at, each_front, each_join, each_rest}
-use Rattle.grid_rule.proofs.Each.{eldest_is, equal, moved_at, own_at, same, sealed_rests, with_at}
+use Rattle.grid_rule.proofs.Each.{eldest_is, equal, moved_at, own_at, same, with_at}
 use Rattle.grid_rule.proofs.FrameRules.{Loads, Sent, load_sends, loads, store_rule}
 use Rattle.grid_rule.proofs.Travels.{and_none, false_of, in_unit_by, result_of, travels_by}
 use Rattle.grid_rule.proofs.Entered.{Entered, both_enter, enters_at}
 use Rattle.grid_rule.proofs.Ties.{Alike, Ties, ties_step}
 use Rattle.grid_rule.proofs.TiedFrames.{answered_come, answered_standing, load_travels, sent_tied}
 use Rattle.grid_rule.proofs.Flushing.{act_going, append_more, cut_rest, nums_step}
-use Rattle.grid_rule.proofs.Going.{Going, Moved, alone_is, awake, can_is, each_going, frame_ok, frame_rule, frame_sure, frame_tied}
+use Rattle.grid_rule.proofs.Going.{Going, Moved, alone_is, awake, can_is, each_going, frame_ok, frame_rule, frame_sure}
+use Rattle.grid_rule.proofs.Going.{frame_tied}
 use Rattle.grid_rule.proofs.Going.{happens_is, moved, moved_to, sees, stepped}
 
 -- what waits -------------------------------------------------------------------------------------
@@ -260,7 +257,8 @@ module _ {W : Type 0} (blocks : List Block) (good : AllGood blocks) (budget leas
         s.keeps s.others (λ q d j. e.others m q (inr (d, j)))
         (enters_at F (2 * l.waits.slot) g.parcels after e)
         (load_travels (g.asked m) (g.works m) f l.waits.slot l.waits.inst l.small l.waits.is_inst is_a_load rests none)
-        (load_travels (asks' m) (g.works m) F l.waits.slot l.waits.inst l.small l.waits.is_inst is_a_load rests none_now)
+        (load_travels (asks' m)
+        (g.works m) F l.waits.slot l.waits.inst l.small l.waits.is_inst is_a_load rests none_now)
         (answered_standing (g.asked m) (asks' m) f F k refl refl had (but_here g.asked m k) (but_number g.asked m k)
         (tied).standing) tied)
         (λ z. load_keeps f k (Some l.taken) (sure z)
@@ -319,9 +317,11 @@ module _ {W : Type 0} (blocks : List Block) (good : AllGood blocks) (budget leas
     store_rules : EachFrame FrameRule (a.older ++ S ∷ a.younger)
     store_rules =
         let was : EachFrame FrameRule (a.older ++ f ∷ a.younger) = subst (EachFrame FrameRule) a.split go.ties.frames in
-        each_join FrameRule a.older (S ∷ a.younger) (each_front FrameRule a.older (f ∷ a.younger) was)
-        (store_rule blocks good o f ok rule k q.slot q.inst v (mark_with f (slot_node f.code q.slot)) q.asks q.is_inst
-        q.is_kind, (each_rest FrameRule a.older (f ∷ a.younger) was).1)
+        each_join FrameRule a.older (S ∷ a.younger) (each_front FrameRule a.older (f ∷ a.younger) was) (
+          store_rule blocks good o f ok rule k q.slot q.inst v (mark_with f (slot_node f.code q.slot)) q.asks q.is_inst
+              q.is_kind,
+          (each_rest FrameRule a.older (f ∷ a.younger) was).1,
+        )
 
     store_ties : Ties least (a.older ++ S ∷ a.younger) g.parcels asks' g.works g.careful g.units
     store_ties = ties_step least m g.window.frames a S g.parcels g.parcels g.asked asks' g.works g.works g.careful
@@ -432,7 +432,8 @@ module _ {W : Type 0} (blocks : List Block) (good : AllGood blocks) (budget leas
       let a = k.there in
       let p = both_true _ _ k.passes in
       let may : may_answer g a.frame q.1 ≡ true = (both_true _ _ p.1).1 in
-      let low : tile < 4 = subst (λ t. t < 4) (equal (tile_for a.frame (request a.frame q.1)) tile (both_true _ _ p.1).0)
+      let low : tile < 4 = subst (λ t. t < 4) (equal (tile_for a.frame (request a.frame q.1)) tile
+      (both_true _ _ p.1).0)
       (tile_low a.frame (request a.frame q.1)) in
       subst (Going blocks budget least)
       (sym (with_at q.0 (λ f h. answered_by blocks budget tile q.0 q.1 (request f q.1) h) g.window.frames a g))

@@ -1,7 +1,8 @@
 -- Conditions on each of some frames, and the frame of a number among them.
 use Rattle.std.specs.List.{list_any}
-use Rattle.std.proofs.Common.{◌≡◌, ◌≢◌, ℕ, zero, suc, ◌+◌, ◌<◌, Bool, true, false, cond, ◌==◌, ◌||◌, ◌&&◌, not, List, []}
-use Rattle.std.proofs.Common.{◌∷◌, ◌++◌, map, Option, Some, None, refl, sym, ap, ap₂, ◌∙◌, subst, true≢false, arith}
+use Rattle.std.proofs.Common.{◌≡◌, ◌≢◌, ℕ, zero, suc, ◌+◌, ◌<◌, Bool, true, false, cond, ◌==◌, ◌||◌, ◌&&◌, not, List}
+use Rattle.std.proofs.Common.{[]}
+use Rattle.std.proofs.Common.{◌∷◌, ◌++◌, Option, Some, None, refl, sym, ap, ap₂, ◌∙◌, subst, true≢false, arith}
 use Rattle.std.proofs.lemmas.Bool.Decides.{nat_tests}
 use Rattle.commit_flush_spec.specs.Frames.{Frame}
 use Rattle.commit_flush_spec.specs.Older.{Older, after, after_all}
@@ -251,7 +252,8 @@ with_none n does (f ∷ fs) g e =
     ap (λ b. cond b (does f g) (with_frame n does fs g)) o.0 ∙ with_none n does fs g o.1
 
 -- a change of the frame
-pub changed_at : (does : Older → Frame → List Frame → List Frame) (o : Older) (n : ℕ) (fs : List Frame) (a : FrameAt n fs)
+pub changed_at : (does : Older → Frame → List Frame → List Frame) (o : Older) (n : ℕ) (fs : List Frame)
+    (a : FrameAt n fs)
     → change does o fs n ≡ a.older ++ does (after_all a.older o) a.frame a.younger
 changed_at does o n fs a =
     ap₂ (λ l m. change does o l m) a.split (sym a.number)

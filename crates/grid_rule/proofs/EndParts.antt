@@ -1,17 +1,15 @@
 -- Part (1) of a cycle, its ends, keeps the rule.
-use Rattle.std.specs.List.{list_any}
-use Rattle.std.proofs.Common.{◌≡◌, ◌≢◌, ℕ, ◌<◌, ◌==◌, ◌||◌, Bool, true, false, cond, ◌⊎◌, inl, inr, List, [], ◌∷◌, ◌++◌}
-use Rattle.std.proofs.Common.{Option, Some, None, refl, sym, ap, ap₂, ◌∙◌, subst, true≢false}
+use Rattle.std.proofs.Common.{◌≡◌, ℕ, ◌==◌, Bool, true, false, cond, List, [], ◌∷◌, ◌++◌}
+use Rattle.std.proofs.Common.{Option, Some, None, refl, sym, ap, ◌∙◌, subst, true≢false}
 use Rattle.trips_isa.specs.declared.block.Block.{Block}
 use Rattle.trips_isa.specs.declared.run.Stepped.{Stepped}
 use Rattle.trips_isa.specs.declared.run.Stepped.TheVariants as stepped
-use Rattle.trips_isa.specs.Outcomes.{Outcome, Comes, Faults, Effects, unless}
-use Rattle.trips_isa.specs.Machine.{apply}
+use Rattle.trips_isa.specs.Outcomes.{Outcome, Comes, Faults, unless}
 use Rattle.block_cases.specs.Plain.{IsTrap}
 use Rattle.block_cases.proofs.Traps.{applied_goes}
 use Rattle.operand_net.specs.declared.parcel.Stand.TheVariants.{Nowhere}
 use Rattle.commit_flush_spec.specs.Frames.{Frame, Exit}
-use Rattle.commit_flush_spec.specs.Older.{Older, after_all, committed, follows}
+use Rattle.commit_flush_spec.specs.Older.{after_all, committed, follows}
 use Rattle.commit_flush_spec.specs.Causes.{NoFrame, Done}
 use Rattle.commit_flush_spec.specs.Ends.{can_seal, seal, outputs, cause_held}
 use Rattle.commit_flush_spec.specs.InFlight.{commit_to}
@@ -19,16 +17,15 @@ use Rattle.commit_flush_spec.specs.Window.{Window, Seal, Commit, alone, can, can
 use Rattle.commit_flush_spec.specs.Invariant.{AllGood}
 use Rattle.commit_flush_spec.specs.Laws.{AreNumbers, WindowOk}
 use Rattle.commit_flush_spec.proofs.Look.{or_false}
-use Rattle.commit_flush_spec.proofs.Lists.{equal_or}
 use Rattle.commit_flush_spec.proofs.Numbers.{nums}
 use Rattle.commit_flush_spec.proofs.Whole.{happens_moves}
 use Rattle.window_progress.specs.Work.{none_guessed}
 use Rattle.grid_cycle_spec.specs.Grid.{Grid, Fetching, forget, is_of, numbers_of}
-use Rattle.grid_cycle_spec.specs.Acting.{known_next, may, settled, still, flushed}
+use Rattle.grid_cycle_spec.specs.Acting.{known_next, may, settled, still}
 use Rattle.grid_cycle_spec.specs.Ends.{seal_one, seal_each, one_committed, learning, committed_as, commit_in}
 use Rattle.grid_cycle_spec.specs.Ends.{commit_oldest, ends}
 use Rattle.grid_rule.specs.UnderWay.{Tied}
-use Rattle.grid_rule.specs.Rule.{EachFrame, FetchRule, FrameRule, RuleFrom, runs_in}
+use Rattle.grid_rule.specs.Rule.{EachFrame, FetchRule, FrameRule, RuleFrom}
 use Rattle.grid_rule.proofs.Each.{FrameAt, any_flight, apart, changed_at, differ, each_rest, each_step, of_flight}
 use Rattle.grid_rule.proofs.Each.{runs_flight, runs_one, runs_step}
 use Rattle.grid_rule.proofs.FrameRules.{events_rule, went}
@@ -114,7 +111,8 @@ module _ {W : Type 0} (blocks : List Block) (good : AllGood blocks) (budget leas
       subst (λ (w : Window). Ruled blocks budget least (forget (λ m. m == n) (record g { window = w }))) (sym is) all
 
 module _ {W : Type 0} (blocks : List Block) (good : AllGood blocks) (budget least : ℕ) where
-  seal_ruled : (n : ℕ) (g : Grid W) → Ruled blocks budget least g → Ruled blocks budget least (seal_one blocks budget n g)
+  seal_ruled : (n : ℕ) (g : Grid W) → Ruled blocks budget least g → Ruled blocks budget least
+      (seal_one blocks budget n g)
   seal_ruled n g r = go (may blocks budget (Seal n) g) refl
     where
       go : (b : Bool) → may blocks budget (Seal n) g ≡ b → Ruled blocks budget least (cond b

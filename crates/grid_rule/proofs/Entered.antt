@@ -1,8 +1,8 @@
 -- What changes on the mesh where parcels enter it or are taken from it.
-use Rattle.std.proofs.Common.{◌≡◌, ◌≢◌, ℕ, suc, ◌+◌, ◌<◌, ◌≤◌, ◌==◌, ◌&&◌, ◌||◌, Bool, true, false, cond, ◌⊎◌, inl, inr}
-use Rattle.std.proofs.Common.{Option, Some, None, is_some, slice_index, refl, sym, ap, ap₂, ◌∙◌, subst, arith, true≢false}
+use Rattle.std.proofs.Common.{◌≡◌, ◌≢◌, ℕ, suc, ◌<◌, ◌==◌, ◌&&◌, ◌||◌, Bool, true, false, cond, ◌⊎◌, inl, inr}
+use Rattle.std.proofs.Common.{is_some, slice_index, refl, sym, ap, ap₂, ◌∙◌, subst, arith}
 use Rattle.operand_net.specs.declared.parcel.Stand.{Stand}
-use Rattle.operand_net.specs.declared.parcel.Stand.TheVariants.{Nowhere, Away, Held}
+use Rattle.operand_net.specs.declared.parcel.Stand.TheVariants.{Away}
 use Rattle.operand_net.specs.Places.{Places, put}
 use Rattle.operand_net.specs.IsStands.{is_here}
 use Rattle.commit_flush_spec.specs.Frames.{Frame, at, target}
@@ -115,15 +115,19 @@ module _ {W : Type 0} where
 
     pub both_enter : (after : Places) × (enter_both from f p g ≡ record g { parcels = after })
         × Entered f p g.parcels after
-    both_enter = (last, enters_all, record {
-      others = other;
-      first = ap is_here (one_other (is_some (at f.places (suc p))) middle f.number (suc p) s2 f.number p (inr next))
-          ∙ one_here (is_some (at f.places p)) g.parcels f.number p s1 refl;
-      second = one_here (is_some (at f.places (suc p))) middle f.number (suc p) s2 refl
-          ∙ ap (λ x. is_some (at f.places (suc p)) || is_here x)
-          (one_other (is_some (at f.places p)) g.parcels f.number p s1 f.number (suc p) (inr (λ z. next (sym z))));
-      held = λ least k q was. one_held (is_some (at f.places (suc p))) middle f.number (suc p) s2 least k q
-          (low, home_inside f.code (target f.code (suc p)))
-          (one_held (is_some (at f.places p)) g.parcels f.number p s1 least k q
-          (low, home_inside f.code (target f.code p)) was);
-    })
+    both_enter = (
+      last,
+      enters_all,
+      record {
+        others = other;
+        first = ap is_here (one_other (is_some (at f.places (suc p))) middle f.number (suc p) s2 f.number p (inr next))
+            ∙ one_here (is_some (at f.places p)) g.parcels f.number p s1 refl;
+        second = one_here (is_some (at f.places (suc p))) middle f.number (suc p) s2 refl
+            ∙ ap (λ x. is_some (at f.places (suc p)) || is_here x)
+            (one_other (is_some (at f.places p)) g.parcels f.number p s1 f.number (suc p) (inr (λ z. next (sym z))));
+        held = λ least k q was. one_held (is_some (at f.places (suc p))) middle f.number (suc p) s2 least k q
+            (low, home_inside f.code (target f.code (suc p)))
+            (one_held (is_some (at f.places p)) g.parcels f.number p s1 least k q
+            (low, home_inside f.code (target f.code p)) was);
+      },
+    )

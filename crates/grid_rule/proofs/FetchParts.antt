@@ -1,5 +1,6 @@
 -- Part (2) of a cycle, the fetch unit, keeps the rule.
-use Rattle.std.proofs.Common.{◌≡◌, ◌≢◌, ℕ, zero, suc, ◌+◌, ◌/◌, ◌%◌, ◌<◌, ◌==◌, ◌||◌, ◌&&◌, Bool, true, false, cond, not, nat_lt, List, []}
+use Rattle.std.proofs.Common.{◌≡◌, ℕ, zero, suc, ◌+◌, ◌/◌, ◌%◌, ◌<◌, ◌==◌, ◌||◌, ◌&&◌, Bool, true, false, cond, not}
+use Rattle.std.proofs.Common.{nat_lt, List, []}
 use Rattle.std.proofs.Common.{◌∷◌, ◌++◌, is_some}
 use Rattle.std.proofs.Common.{Option, Some, None, slice_get, slice_index, slice_set, refl, sym, ap, ap₂, ◌∙◌, subst}
 use Rattle.std.proofs.Common.{true≢false, arith, is_none}
@@ -15,8 +16,8 @@ use Rattle.block_predict.specs.Predicts.{Holding, holding, entered, predicted, a
 use Rattle.commit_flush_spec.specs.Frames.{Frame, Exit, at, fresh}
 use Rattle.commit_flush_spec.specs.Older.{Older, after_all, committed, follows}
 use Rattle.commit_flush_spec.specs.Older as older
-use Rattle.commit_flush_spec.specs.Causes.{NoFrame, NoBlock, Worn, Serial, Wrong, Done}
-use Rattle.commit_flush_spec.specs.Window.{Window, Fetch, can, can_fetch, fetched, happens, in_flight, is_worn}
+use Rattle.commit_flush_spec.specs.Causes.{NoFrame, NoBlock, Done}
+use Rattle.commit_flush_spec.specs.Window.{Window, Fetch, can, can_fetch, fetched, happens, in_flight}
 use Rattle.commit_flush_spec.specs.Window.{lowest_empty}
 use Rattle.commit_flush_spec.specs.Invariant.{AllGood}
 use Rattle.commit_flush_spec.specs.Laws.{WindowOk}
@@ -36,10 +37,10 @@ use Rattle.grid_cycle_spec.specs.Fetches.{fetches, stands}
 use Rattle.grid_cycle_spec.specs.Arrivals.{is_waiting}
 use Rattle.grid_rule.specs.UnderWay.{form_travels, Nothing, Tied, to_come, travels}
 use Rattle.grid_rule.specs.Rule.{EachFrame, FetchRule, FrameRule, runs_in}
-use Rattle.grid_rule.proofs.Each.{apart, each_join, each_map, each_other, runs_flight, runs_join, same}
+use Rattle.grid_rule.proofs.Each.{apart, each_join, each_other, runs_flight, runs_join, same}
 use Rattle.grid_rule.proofs.FrameRules.{events_rule, went}
 use Rattle.grid_rule.proofs.Travels.{and_none, none_is, none_travels, read_travels, slot_travels}
-use Rattle.grid_rule.proofs.Ties.{Ties, TiesOf}
+use Rattle.grid_rule.proofs.Ties.{Ties}
 use Rattle.grid_rule.proofs.Going.{Going, done_is, happens_is}
 
 -- a fetch ends -----------------------------------------------------------------------------------
@@ -88,7 +89,8 @@ module _ {W : Type 0} (blocks : List Block) (good : AllGood blocks) (budget leas
 
   filled_so : Fills
   filled_so =
-      let c : can_fetch blocks f.block g.window ≡ Done = (went g.window.over (can_fetch blocks f.block g.window) done).1 in
+      let c : can_fetch blocks f.block g.window ≡ Done = (went g.window.over (can_fetch blocks f.block
+      g.window) done).1 in
       let a = not_now (is_none (lowest_empty 8 0 g.window.frames)) NoFrame _ c in
       let b = not_now (is_none (slice_get blocks f.block)) NoBlock _ a.1 in
       let n = some_of (lowest_empty 8 0 g.window.frames) a.0 in
@@ -117,9 +119,11 @@ module _ {W : Type 0} (blocks : List Block) (good : AllGood blocks) (budget leas
     ties rules = record {
       frames = rules;
       tied = each_join (λ x. x.sealed ≡ false → Tied (g.parcels x.number) (g.asked x.number) (g.works x.number) x)
-          g.window.frames (fresh k.number f.block k.code ∷ []) r.ties.tied
-          ((λ z. fresh_tied k.number f.block k.code (g.parcels k.number) (g.asked k.number) (g.works k.number)
-          (r.ties.nothing k.number (runs_flight k.number g.window.frames free))), tt);
+          g.window.frames (fresh k.number f.block k.code ∷ []) r.ties.tied (
+            (λ z. fresh_tied k.number f.block k.code (g.parcels k.number) (g.asked k.number) (g.works k.number)
+                (r.ties.nothing k.number (runs_flight k.number g.window.frames free))),
+            tt,
+          );
       unguessed = each_join (λ x. careful x.number ≡ true → none_guessed x ≡ true) g.window.frames
           (fresh k.number f.block k.code ∷ [])
           (each_other (λ x. g.careful x.number ≡ true → none_guessed x ≡ true)

@@ -1,7 +1,7 @@
 -- An event that flushes frames: the beginning of those in flight is left, and the others are forgotten.
 use Rattle.std.specs.List.{list_any}
 use Rattle.std.proofs.Common.{◌≡◌, ℕ, zero, suc, ◌==◌, ◌||◌, Bool, true, false, cond, List, [], ◌∷◌, ◌++◌, drop, length}
-use Rattle.std.proofs.Common.{Option, Some, None, refl, sym, ap, ap₂, ◌∙◌, subst}
+use Rattle.std.proofs.Common.{Option, refl, sym, ap, ap₂, ◌∙◌, subst}
 use Rattle.trips_isa.specs.declared.block.Block.{Block}
 use Rattle.trips_isa.specs.declared.run.Stepped.TheVariants.{Went}
 use Rattle.operand_net.specs.declared.parcel.Stand.TheVariants.{Nowhere}
@@ -15,11 +15,11 @@ use Rattle.commit_flush_spec.specs.Laws.{AreNumbers, WindowOk}
 use Rattle.commit_flush_spec.proofs.Look.{or_false}
 use Rattle.commit_flush_spec.proofs.Numbers.{nums}
 use Rattle.commit_flush_spec.proofs.Whole.{happens_moves}
-use Rattle.grid_cycle_spec.specs.Grid.{Grid, Fetching, is_of}
+use Rattle.grid_cycle_spec.specs.Grid.{Grid, is_of}
 use Rattle.grid_cycle_spec.specs.Acting.{act, flushed, gone, known_next, settled}
 use Rattle.grid_rule.specs.Rule.{EachFrame, FetchRule, runs_in}
 use Rattle.grid_rule.proofs.Each.{any_flight, each_front, flight_join, of_flight, runs_flight, runs_join}
-use Rattle.grid_rule.proofs.Ties.{Ties, TiesOf, ties_left}
+use Rattle.grid_rule.proofs.Ties.{Ties, ties_left}
 use Rattle.grid_rule.proofs.EndParts.{still_rule}
 use Rattle.grid_rule.proofs.Going.{Going}
 

@@ -1,5 +1,6 @@
 -- Each event of the window keeps the rule of its frames.
-use Rattle.std.proofs.Common.{◌≡◌, ◌≢◌, ℕ, suc, ◌+◌, ◌*◌, ◌/◌, ◌%◌, ◌<◌, ◌≤◌, ◌==◌, Bool, true, false, cond, not, ◌||◌, ◌⊎◌, inl}
+use Rattle.std.proofs.Common.{◌≡◌, ◌≢◌, ℕ, suc, ◌+◌, ◌*◌, ◌/◌, ◌%◌, ◌<◌, ◌≤◌, ◌==◌, Bool, true, false, cond, not, ◌||◌}
+use Rattle.std.proofs.Common.{◌⊎◌, inl}
 use Rattle.std.proofs.Common.{inr, List, [], ◌∷◌, ◌++◌, Option, Some, None, slice_get, set, get_or, length, refl, sym}
 use Rattle.std.proofs.Common.{ap, ◌∙◌, subst, true≢false, arith, is_none}
 use Rattle.trips_isa.specs.declared.block.Inst.{Inst}
@@ -15,10 +16,11 @@ use Rattle.trips_isa.specs.Places.{first_place, nodes_of}
 use Rattle.trips_isa.specs.Rule.{Answer}
 use Rattle.trips_isa.specs.Stores.{stored_of}
 use Rattle.block_cases.specs.Orders.{slot_of}
-use Rattle.commit_flush_spec.specs.Marks.{Marks, mark_sent}
+use Rattle.commit_flush_spec.specs.Marks.{Marks}
 use Rattle.commit_flush_spec.specs.Frames.{Frame, Taken, Exit, at, fresh, numbers, slot_node, source, target, is_target}
-use Rattle.commit_flush_spec.specs.Sending.{send, token_with, mark_with, sent}
-use Rattle.commit_flush_spec.specs.Older.{Older, after, follows, successor_of, passes, nearest, violated, cut, committed}
+use Rattle.commit_flush_spec.specs.Sending.{send, token_with, mark_with}
+use Rattle.commit_flush_spec.specs.Older.{Older, after, follows, successor_of, passes, nearest, violated, cut}
+use Rattle.commit_flush_spec.specs.Older.{committed}
 use Rattle.commit_flush_spec.specs.Causes.{Cause, NoFrame, NoRead, NotYet, NoInst, NotReady, NoToken, NoRequest}
 use Rattle.commit_flush_spec.specs.Causes.{Happened, Done, NotNow}
 use Rattle.commit_flush_spec.specs.Dataflow.{read_seen, can_read, read, read_answered, can_fire, fire, fire_form}
@@ -34,14 +36,14 @@ use Rattle.commit_flush_spec.specs.Window as event
 use Rattle.commit_flush_spec.specs.Invariant.{FrameOk, FramesOk, AllGood}
 use Rattle.commit_flush_spec.specs.Laws.{WindowOk}
 use Rattle.commit_flush_spec.proofs.Lists.{equal_or, none_or, other_at, written_or, given_or, none_at, blank_at}
-use Rattle.commit_flush_spec.proofs.Lists.{emptied_at, flag_keeps, flag_here}
+use Rattle.commit_flush_spec.proofs.Lists.{emptied_at, flag_keeps}
 use Rattle.commit_flush_spec.proofs.Look.{or_false}
 use Rattle.commit_flush_spec.proofs.Tokens.{inst_in, read_is}
 use Rattle.commit_flush_spec.proofs.Frames.{not_now}
 use Rattle.commit_flush_spec.proofs.Sends.{slot_source, read_source, sent_other}
 use Rattle.commit_flush_spec.proofs.Loads.{Stands, stands, one_load}
 use Rattle.commit_flush_spec.proofs.Flow.{some_of}
-use Rattle.commit_flush_spec.proofs.Lost.{load_not_store, one_fires, sent_there}
+use Rattle.commit_flush_spec.proofs.Lost.{load_not_store, one_fires}
 use Rattle.commit_flush_spec.proofs.Storing.{store_form}
 use Rattle.commit_flush_spec.proofs.Stored.{number_small}
 use Rattle.window_progress.specs.Observers.{has_number}
@@ -184,9 +186,9 @@ module _ (blocks : List Block) (good : AllGood blocks) (o : Older) (f : Frame) (
       }
 
   pub load_sends : (n : ℕ) (k : Loads n) → Sent (record f {
-      requests = set f.requests n None;
-      loads = set f.loads n (Some k.taken);
-    }) (2 * k.waits.slot) k.token (load n o f)
+    requests = set f.requests n None;
+    loads = set f.loads n (Some k.taken);
+  }) (2 * k.waits.slot) k.token (load n o f)
   load_sends n k =
       let f2 : Frame = record f { requests = set f.requests n None; loads = set f.loads n (Some k.taken) } in
       subst (Sent f2 (2 * k.waits.slot) k.token) (sym k.is)
@@ -215,7 +217,8 @@ module _ (blocks : List Block) (good : AllGood blocks) (o : Older) (f : Frame) (
       two_stores : is_store (form_of (k.inst).op) ≡ true → (t : ℕ) (j : Inst) → slot_of f.code t ≡ Some j
           → is_store (form_of j.op) ≡ true → j.number ≡ (k.inst).number → get_or f.fired t false ≡ true → ⊥
       two_stores e t j d h z g =
-          let small : (k.inst).number < 32 = number_small f.code (good f.block f.code ok.code).fits s k.inst k.is_inst in
+          let small : (k.inst).number < 32 = number_small f.code
+          (good f.block f.code ok.code).fits s k.inst k.is_inst in
           fired_not t g (one_fires blocks good o f ok (416 + (k.inst).number) (omega (arith, small)) s t k.inst j
           k.is_inst d (store_place k.inst (k.inst).number e refl) (store_place j (k.inst).number h z) k.ready g)
 
@@ -363,13 +366,13 @@ module _ (blocks : List Block) (good : AllGood blocks) (o : Older) (f : Frame) (
       stored = λ m h. elim (written_or f.stores n m v h) [
         | inl z ↦ let a = ok.asked n s asks in
             let it : a.inst ≡ i = (let y : Some a.inst ≡ Some i = sym a.is_inst ∙ is in cc) in record {
-          slot = s;
-          inst = i;
-          is_inst = is;
-          stores = kind;
-          number = sym (ap (λ (j : Inst). j.number) it) ∙ a.number ∙ sym z.0;
-          has_fired = a.fired;
-        }
+              slot = s;
+              inst = i;
+              is_inst = is;
+              stores = kind;
+              number = sym (ap (λ (j : Inst). j.number) it) ∙ a.number ∙ sym z.0;
+              has_fired = a.fired;
+            }
         | inr z ↦ rule.stored m z
       ];
       waits = λ m t h. elim (equal_or m n) [
@@ -403,7 +406,8 @@ Rules fs = EachFrame FrameRule fs
 cut_rules : (touched : ℕ → Bool) (fs : List Frame) → Rules fs → Rules (cut touched fs)
 cut_rules touched [] h = tt
 cut_rules touched (f ∷ fs) h =
-    go (violated (λ n. passes (at f.stores) n touched) f.loads) (cut_rules (passes (at f.stores) numbers touched) fs h.1)
+    go (violated (λ n. passes (at f.stores) n touched) f.loads) (cut_rules (passes
+    (at f.stores) numbers touched) fs h.1)
   where
     go : (b : Bool) → Rules (cut (passes (at f.stores) numbers touched) fs)
         → Rules (cond b [] (f ∷ cut (passes (at f.stores) numbers touched) fs))
@@ -490,7 +494,8 @@ done_rules blocks good budget (event.Read n m) w c ok r = alone_rules blocks (ca
     (λ o f k h d. read_rule blocks good o f k h m d) NoFrame (committed w.state) w.frames n c ok.frames r
 done_rules blocks good budget (event.Fire n s) w c ok r = alone_rules blocks (can_fire s) (fire s)
     (λ o f k h d. fire_rule blocks good o f k h s d) NoFrame (committed w.state) w.frames n c ok.frames r
-done_rules blocks good budget (event.Deliver t) w c ok r = alone_rules blocks (can_deliver (t % 320)) (deliver (t % 320))
+done_rules blocks good budget (event.Deliver t) w c ok r = alone_rules blocks (can_deliver (t % 320)) (deliver
+    (t % 320))
     (λ o f k h d. deliver_rule blocks good o f k h (t % 320) d) NoToken (committed w.state) w.frames (t / 320) c
     ok.frames r
 done_rules blocks good budget (event.Load n m) w c ok r = alone_rules blocks (can_load m) (load m)
@@ -498,8 +503,11 @@ done_rules blocks good budget (event.Load n m) w c ok r = alone_rules blocks (ca
 done_rules blocks good budget (event.Store n m) w c ok r = change_rules blocks (can_store m) (store m)
     (store_rules blocks good m) NoFrame (committed w.state) w.frames n c ok.frames r
 done_rules blocks good budget (event.Exit n) w c ok r = change_rules blocks can_exit (exit blocks)
-    (λ o f fs d k h. (exit_rule blocks good o f k.2 h.0 (exit_by blocks f.block (branch_of f f.leaving))
-    (branch_mark f f.leaving), kept_rules (successor_of (exit_by blocks f.block (branch_of f f.leaving))) fs h.1))
+    (λ o f fs d k h. (
+      exit_rule blocks good o f k.2 h.0 (exit_by blocks f.block (branch_of f f.leaving))
+          (branch_mark f f.leaving),
+      kept_rules (successor_of (exit_by blocks f.block (branch_of f f.leaving))) fs h.1,
+    ))
     NoFrame (committed w.state) w.frames n c ok.frames r
 done_rules blocks good budget (event.Seal n) w c ok r = alone_rules blocks can_seal seal
     (λ o f k h d. seal_rule blocks good o f k h) NoFrame (committed w.state) w.frames n c ok.frames r

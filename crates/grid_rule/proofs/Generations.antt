@@ -1,5 +1,5 @@
 -- No frame is filled more often than cycles are made: a cycle fills one frame at most.
-use Rattle.std.proofs.Common.{◌≡◌, ℕ, zero, suc, ◌+◌, ◌≤◌, ◌%◌, ◌/◌, Bool, true, false, List, [], ◌∷◌, Option, Some, None}
+use Rattle.std.proofs.Common.{◌≡◌, ℕ, zero, suc, ◌+◌, ◌≤◌, Bool, true, false, List, [], ◌∷◌, Option, Some, None}
 use Rattle.std.proofs.Common.{slice_get, slice_index, set, refl, sym, ap, ◌∙◌, subst, arith}
 use Rattle.trips_isa.specs.declared.block.Block.{Block}
 use Rattle.trips_isa.specs.declared.run.Counts.{Counts}
@@ -13,9 +13,9 @@ use Rattle.commit_flush_spec.specs.InFlight.{commit_to}
 use Rattle.commit_flush_spec.specs.Window.{Window, Event, can, done, if_done, happens, fetched, lowest_empty, commit}
 use Rattle.commit_flush_spec.specs.Window as window
 use Rattle.grid_cycle_spec.specs.Grid.{Grid, Fetching, numbers_of}
-use Rattle.grid_cycle_spec.specs.Acting.{act, flushed, gone, may}
+use Rattle.grid_cycle_spec.specs.Acting.{flushed, gone, may}
 use Rattle.grid_cycle_spec.specs.Ends.{committed_as, commit_in, ends, learning, one_committed}
-use Rattle.grid_cycle_spec.specs.Fetches.{begins, fetch_ends, fetch_on, fetches, fill_where}
+use Rattle.grid_cycle_spec.specs.Fetches.{fetch_ends, fetch_on, fetches, fill_where}
 use Rattle.grid_cycle_spec.specs.Banks.{reads_answered}
 use Rattle.grid_cycle_spec.specs.DataTiles.{answers}
 use Rattle.grid_cycle_spec.specs.Units.{works_on}

@@ -1,22 +1,20 @@
 -- A grid whose run goes on and that has its rule, and how one frame of it changes.
-use Rattle.std.proofs.Common.{◌≡◌, ◌≢◌, ℕ, zero, suc, ◌<◌, ◌%◌, ◌/◌, Bool, true, false, cond, ◌⊎◌, inl, inr, List, [], ◌∷◌}
-use Rattle.std.proofs.Common.{◌++◌, Option, Some, None, refl, sym, ap, ap₂, ◌∙◌, subst, true≢false, arith}
+use Rattle.std.proofs.Common.{◌≡◌, ◌≢◌, ℕ, zero, suc, ◌<◌, Bool, true, false, List, [], ◌∷◌}
+use Rattle.std.proofs.Common.{◌++◌, refl, sym, ap, ap₂, ◌∙◌, subst, true≢false, arith}
 use Rattle.trips_isa.specs.declared.block.Block.{Block}
-use Rattle.trips_isa.specs.declared.run.Stepped.{Stepped}
 use Rattle.trips_isa.specs.declared.run.Stepped.TheVariants.{Went}
 use Rattle.operand_net.specs.Places.{Places}
-use Rattle.commit_flush_spec.specs.Frames.{Frame, token_places}
+use Rattle.commit_flush_spec.specs.Frames.{Frame}
 use Rattle.commit_flush_spec.specs.Older.{Older, after, after_all, committed}
 use Rattle.commit_flush_spec.specs.Causes.{Cause, Happened, Done, NotNow}
 use Rattle.commit_flush_spec.specs.Window.{Window, Event, on_frame, change, alone, can_now, unless_over, can, done}
 use Rattle.commit_flush_spec.specs.Window.{if_done, happens}
 use Rattle.commit_flush_spec.specs.Invariant.{FrameOk, FramesOk, AllGood}
-use Rattle.commit_flush_spec.specs.Laws.{AllKept, AreNumbers, NoneLost, WindowOk}
-use Rattle.commit_flush_spec.proofs.Numbers.{nums}
+use Rattle.commit_flush_spec.specs.Laws.{AllKept, NoneLost, WindowOk}
 use Rattle.commit_flush_spec.proofs.Whole.{happens_moves}
 use Rattle.window_progress.specs.Work.{none_guessed}
 use Rattle.grid_cycle_spec.specs.Grid.{Grid}
-use Rattle.grid_cycle_spec.specs.Acting.{is_done, known_next, may}
+use Rattle.grid_cycle_spec.specs.Acting.{is_done, known_next}
 use Rattle.grid_cycle_spec.specs.Choosing.{each}
 use Rattle.grid_rule.specs.UnderWay.{Nothing, Tied}
 use Rattle.grid_rule.specs.Rule.{EachFrame, FetchRule, FrameRule, HeldFrom, RuleFrom, UnitsRule}

@@ -1,55 +1,43 @@
 -- A slot that a unit issues keeps the rule.
-use Rattle.std.proofs.Common.{◌≡◌, ◌≢◌, ℕ, zero, suc, ◌+◌, ◌*◌, ◌%◌, ◌<◌, ◌≤◌, ◌==◌, ◌&&◌, ◌||◌, not, Bool, true, false}
-use Rattle.std.proofs.Common.{cond, ◌⊎◌, inl, inr, List, [], ◌∷◌, ◌++◌, Option, Some, None, is_some, set, get_or, length}
-use Rattle.std.proofs.Common.{refl, sym, ap, ap₂, ◌∙◌, subst, true≢false, arith}
+use Rattle.std.proofs.Common.{◌≡◌, ◌≢◌, ℕ, suc, ◌*◌, ◌&&◌, ◌||◌, not, Bool, true, false}
+use Rattle.std.proofs.Common.{inl, inr, List, Some, None, set, get_or, length}
+use Rattle.std.proofs.Common.{refl, sym, ap, ap₂, ◌∙◌, subst, arith}
 use Rattle.trips_isa.specs.declared.block.Inst.{Inst}
 use Rattle.trips_isa.specs.declared.block.Block.{Block}
 use Rattle.trips_isa.specs.declared.form.Form.{Form}
 use Rattle.trips_isa.specs.declared.form.Form.TheVariants.{General, Immediate, Load, Store, Branch, Constant}
-use Rattle.trips_isa.specs.Forms.{form_of, is_load}
+use Rattle.trips_isa.specs.Forms.{form_of}
 use Rattle.block_cases.specs.Orders.{slot_of}
-use Rattle.operand_net.specs.declared.parcel.Stand.{Stand}
-use Rattle.operand_net.specs.Places.{Places, put}
 use Rattle.operand_net.specs.IsStands.{is_here}
 use Rattle.commit_flush_spec.specs.Frames.{Frame, at, slot_node}
 use Rattle.commit_flush_spec.specs.Sending.{send, token_with}
-use Rattle.trips_isa.specs.declared.block.Token.TheVariants.{Null, Word}
-use Rattle.trips_isa.specs.Rule.{Answer}
-use Rattle.trips_isa.specs.Stores.{address_of}
 use Rattle.commit_flush_spec.specs.Older.{Older, committed}
 use Rattle.commit_flush_spec.specs.Causes.{NoFrame, Done, NotNow}
 use Rattle.commit_flush_spec.specs.Dataflow.{can_fire, fire, fire_form, fire_inst}
-use Rattle.commit_flush_spec.specs.Window.{Window, Fire, can, can_now, happens, in_flight}
+use Rattle.commit_flush_spec.specs.Window.{Window, Fire, can, can_now}
 use Rattle.commit_flush_spec.specs.Invariant.{AllGood, FrameOk}
-use Rattle.commit_flush_spec.proofs.Committing.{both_true}
 use Rattle.commit_flush_spec.proofs.Lists.{equal_or, flag_here, flag_keeps, other_at, set_here}
 use Rattle.commit_flush_spec.proofs.Stored.{number_small}
 use Rattle.window_progress.specs.Observers.{has_number}
 use Rattle.window_progress.specs.Work.{none_guessed}
-use Rattle.grid_cycle_spec.specs.Stations.{control, data_node, tile_node, tile_of, tiles}
-use Rattle.grid_cycle_spec.specs.Costs.{latency, longest}
+use Rattle.grid_cycle_spec.specs.Stations.{tile_of}
+use Rattle.grid_cycle_spec.specs.Costs.{latency}
 use Rattle.grid_cycle_spec.specs.Grid.{Grid}
-use Rattle.grid_cycle_spec.specs.Acting.{may}
-use Rattle.grid_cycle_spec.specs.Choosing.{eldest, each, slots, with_frame}
-use Rattle.grid_cycle_spec.specs.Sending.{enters, enter_both}
 use Rattle.grid_cycle_spec.specs.Arrivals.{is_waiting}
-use Rattle.grid_cycle_spec.specs.DataTiles.{tile_by}
-use Rattle.grid_cycle_spec.specs.Units.{result_enters, slot_enters, rests, result_chosen, in_unit, unit_on, ready, takes}
-use Rattle.grid_cycle_spec.specs.Units.{issued, issue_chosen, issues, unit_turn, works_on}
-use Rattle.grid_cycle_spec.proofs.Routes.{data_inside, takes_time, tile_inside}
-use Rattle.grid_rule.specs.UnderWay.{form_travels, Gives, InUnit, IsSent, Nothing, SlotGives, Tied, to_come, travels}
-use Rattle.grid_rule.specs.Rule.{EachFrame, FrameRule, HeldFrom, UnitsRule, runs_in}
-use Rattle.grid_rule.proofs.Each.{FrameAt, Chosen, answered_at, apart, differ, each_rest, eldest_is, eldest_none, equal}
-use Rattle.grid_rule.proofs.Each.{find_at, own_at, runs_are, same, with_at}
+use Rattle.grid_cycle_spec.specs.Units.{takes}
+use Rattle.grid_cycle_spec.specs.Units.{issued}
+use Rattle.grid_cycle_spec.proofs.Routes.{takes_time}
+use Rattle.grid_rule.specs.UnderWay.{form_travels, Gives, InUnit, IsSent, SlotGives, Tied, to_come}
+use Rattle.grid_rule.specs.Rule.{FrameRule}
+use Rattle.grid_rule.proofs.Each.{FrameAt, answered_at}
+use Rattle.grid_rule.proofs.Each.{own_at, same}
 use Rattle.grid_rule.proofs.FrameRules.{Fires, Sent, fire_sends, fires, free_exit, free_number, went}
-use Rattle.grid_rule.proofs.Travels.{IsPlace, Result, and_none, come_by, false_of, first_travels, none_is, result_of}
-use Rattle.grid_rule.proofs.Travels.{second_travels, unfired_none, waiting_none, waits_for, waits_none, waits_other, waits_same}
-use Rattle.grid_rule.proofs.Entered.{Entered, away, both_enter, enters_at, put_each, put_here, put_other}
-use Rattle.grid_rule.proofs.Ties.{Alike}
-use Rattle.grid_rule.proofs.TiedFrames.{fired_tied, result_tied}
-use Rattle.grid_rule.proofs.Going.{Going, Moved, alone_is, awake, done_is, each_going, frame_ok, frame_rule, frame_sure}
+use Rattle.grid_rule.proofs.Travels.{IsPlace, and_none, come_by, false_of, first_travels, none_is}
+use Rattle.grid_rule.proofs.Travels.{second_travels, unfired_none, waits_none, waits_other}
+use Rattle.grid_rule.proofs.TiedFrames.{fired_tied}
+use Rattle.grid_rule.proofs.Going.{Going, Moved, alone_is, frame_ok, frame_rule, frame_sure}
 use Rattle.grid_rule.proofs.Units.{is_issued, more_frame, more_here, more_slot, units_to, works_more}
-use Rattle.grid_rule.proofs.Going.{frame_tied, moved, moved_to, sees, stayed, stepped}
+use Rattle.grid_rule.proofs.Going.{frame_tied, moved, moved_to, sees, stepped}
 
 -- issues -----------------------------------------------------------------------------------------
 
@@ -102,7 +90,8 @@ module _ {W : Type 0} (blocks : List Block) (good : AllGood blocks) (budget leas
     sure = frame_sure blocks good budget g a0.frame.number a least go.ties
 
     fires_now : get_or (set f.fired s true) s false ≡ true
-    fires_now = flag_here f.fired s (let l : length f.fired ≡ 128 = ok.sized.fired in let j = k.small in omega (arith, l, j))
+    fires_now = flag_here f.fired s (let l : length f.fired ≡ 128 = ok.sized.fired in let j = k.small in omega
+        (arith, l, j))
 
     nothing_comes : (t : Form) → form_of k.inst.op ≡ t → to_come (g.asked m) f t k.inst s ≡ false
     nothing_comes General e = refl
@@ -158,7 +147,8 @@ module _ {W : Type 0} (blocks : List Block) (good : AllGood blocks) (budget leas
           asked_are = λ j. refl;
           works_are = more_frame g.works m s x d;
         })
-        (fired_tied (g.parcels m) (g.asked m) (g.works m) (works' m) f F s k.inst k.small k.is_inst code fired come keeps
+        (fired_tied (g.parcels m) (g.asked m) (g.works m)
+        (works' m) f F s k.inst k.small k.is_inst code fired come keeps
         same' no_parcel (more_here g.works m s) (more_slot g.works m s) result standing tied)
         sure' (is_issued g.units g.works tile m s (latency k.inst.op) free on time.some time.most go.ties.busy)
         (go.ties.mesh m))
@@ -268,4 +258,3 @@ module _ {W : Type 0} (blocks : List Block) (good : AllGood blocks) (budget leas
 
   pub fire_going : Going blocks budget least (issued blocks budget tile m s (takes (slot_of f.code s)) g)
   fire_going = issue_going (fires blocks good o f ok s asks)
-

@@ -1,7 +1,8 @@
 -- Part (6) of a cycle: the mesh ticks, and what has come is delivered, so that nothing has come any more.
 use Rattle.std.specs.List.{list_any}
-use Rattle.std.proofs.Common.{◌≡◌, ◌≢◌, ℕ, zero, suc, ◌+◌, ◌/◌, ◌<◌, ◌≤◌, ◌==◌, ◌&&◌, ◌||◌, Bool, true, false, cond, nat_lt, ◌⊎◌}
-use Rattle.std.proofs.Common.{inl, inr, List, [], ◌∷◌, length, Option, Some, None, is_some, get_or, refl, sym, ap, ap₂}
+use Rattle.std.proofs.Common.{◌≡◌, ◌≢◌, ℕ, zero, suc, ◌/◌, ◌<◌, ◌≤◌, ◌==◌, ◌&&◌, ◌||◌, Bool, true, false, cond, nat_lt}
+use Rattle.std.proofs.Common.{◌⊎◌}
+use Rattle.std.proofs.Common.{inl, inr, List, [], ◌∷◌, length, Option, Some, None, get_or, refl, sym, ap}
 use Rattle.std.proofs.Common.{◌∙◌, subst, true≢false, arith}
 use Rattle.trips_isa.specs.declared.block.Inst.{Inst}
 use Rattle.trips_isa.specs.declared.block.Block.{Block}
@@ -10,10 +11,9 @@ use Rattle.trips_isa.specs.declared.form.Form.TheVariants.{General, Immediate, L
 use Rattle.trips_isa.specs.Forms.{form_of}
 use Rattle.block_cases.specs.Orders.{slot_of}
 use Rattle.operand_net.specs.declared.parcel.Parcel.{Parcel}
-use Rattle.operand_net.specs.declared.parcel.Trip.{Trip}
 use Rattle.operand_net.specs.declared.parcel.Stand.{Stand}
 use Rattle.operand_net.specs.declared.parcel.Stand.TheVariants.{Nowhere, Away, Held}
-use Rattle.operand_net.specs.Places.{Places, come, put, without}
+use Rattle.operand_net.specs.Places.{Places, come, put}
 use Rattle.operand_net.specs.IsStands.{is_here}
 use Rattle.operand_net.specs.Tick.{next_of, ticked, Ticked}
 use Rattle.commit_flush_spec.specs.Frames.{Frame, at}
@@ -21,20 +21,18 @@ use Rattle.commit_flush_spec.specs.Window.{Window, Event, happens}
 use Rattle.commit_flush_spec.specs.Window as window
 use Rattle.commit_flush_spec.specs.Invariant.{AllGood}
 use Rattle.commit_flush_spec.proofs.Lists.{equal_or}
-use Rattle.commit_flush_spec.proofs.Look.{or_false}
 use Rattle.commit_flush_spec.proofs.Numbers.{nums}
 use Rattle.grid_cycle_spec.specs.Grid.{Grid, is_of, numbers_of}
-use Rattle.grid_cycle_spec.specs.Acting.{act, flushed, gone, settled}
+use Rattle.grid_cycle_spec.specs.Acting.{act, flushed, gone}
 use Rattle.grid_cycle_spec.specs.Choosing.{each, places, with_frame}
-use Rattle.grid_cycle_spec.specs.Arrivals.{asks, delivers, is_waiting, load_arrives, slot_arrives, inst_arrives}
+use Rattle.grid_cycle_spec.specs.Arrivals.{asks, delivers, is_waiting, slot_arrives, inst_arrives}
 use Rattle.grid_cycle_spec.specs.Arrivals.{place_arrives, arrives_if, arrival, arrivals}
-use Rattle.grid_cycle_spec.specs.Cycles.{Moves, counted}
+use Rattle.grid_cycle_spec.specs.Cycles.{Moves}
 use Rattle.grid_cycle_spec.proofs.Routes.{leads_nearer}
 use Rattle.grid_rule.specs.UnderWay.{Nothing, Tied}
-use Rattle.grid_rule.specs.Rule.{HeldFrom, RuleFrom, runs_in}
+use Rattle.grid_rule.specs.Rule.{HeldFrom, runs_in}
 use Rattle.grid_rule.proofs.Each.{any_flight, differ, each_map, equal, runs_flight}
-use Rattle.grid_rule.proofs.Entered.{put_here, put_other}
-use Rattle.grid_rule.proofs.Ties.{rule_of}
+use Rattle.grid_rule.proofs.Entered.{put_here}
 use Rattle.grid_rule.proofs.Going.{Going}
 use Rattle.grid_rule.proofs.ArrivalParts.{arrivals_going, places_are}
 
@@ -232,7 +230,8 @@ module _ {W : Type 0} (blocks : List Block) (budget : ℕ) where
           ⊎ (put g.parcels c.frame c.place Nowhere k q ≡ Nowhere)
       taken k q = go ((k == c.frame) && (q == c.place))
         where
-          go : (b : Bool) → (cond b Nowhere (g.parcels k q) ≡ g.parcels k q) ⊎ (cond b Nowhere (g.parcels k q) ≡ Nowhere)
+          go : (b : Bool) → (cond b Nowhere (g.parcels k q) ≡ g.parcels k q) ⊎ (cond b Nowhere (g.parcels k q)
+              ≡ Nowhere)
           go true = inr refl
           go false = inl refl
 
@@ -285,7 +284,8 @@ module _ {W : Type 0} (blocks : List Block) (budget : ℕ) where
   arrivals_clear : (ns : List ℕ) (g : Grid W) → ((n q : ℕ) → q < 320 → HeldFrom 0 (g.parcels n q)) → (n p : ℕ)
       → p < 320 → list_any (λ m. m == n) ns ≡ true → HeldFrom 1 ((arrivals blocks budget ns g).parcels n p)
   arrivals_clear [] g h n p l e = absurd (true≢false (sym e))
-  arrivals_clear (k ∷ ns) g h n p l e = go (k == n) refl e (λ z. arrivals_clear ns (each (arrival blocks budget k) places g)
+  arrivals_clear (k ∷ ns) g h n p l e = go (k == n) refl e (λ z. arrivals_clear ns (each
+      (arrival blocks budget k) places g)
       (λ j q lq. fewer_held 0 g (each (arrival blocks budget k) places g) j q (each_fewer k places g) (h j q lq))
       n p l z)
     where

@@ -1,6 +1,6 @@
 -- The rule of a grid's frames, one frame changed at a time, and frames forgotten.
-use Rattle.std.proofs.Common.{◌≡◌, ◌≢◌, ℕ, suc, ◌<◌, ◌*◌, ◌/◌, ◌==◌, ◌&&◌, ◌||◌, not, Bool, true, false, cond, ◌⊎◌, inl, inr}
-use Rattle.std.proofs.Common.{List, [], ◌∷◌, ◌++◌, Option, Some, None, refl, sym, ap, ap₂, ◌∙◌, subst, true≢false}
+use Rattle.std.proofs.Common.{◌≡◌, ◌≢◌, ℕ, ◌<◌, ◌/◌, ◌==◌, ◌&&◌, ◌||◌, not, Bool, true, false, cond, ◌⊎◌, inl, inr}
+use Rattle.std.proofs.Common.{List, ◌∷◌, ◌++◌, refl, sym, ap, ap₂, ◌∙◌, subst, true≢false}
 use Rattle.trips_isa.specs.declared.block.Inst.{Inst}
 use Rattle.trips_isa.specs.declared.form.Form.{Form}
 use Rattle.trips_isa.specs.declared.form.Form.TheVariants.{General, Immediate, Load, Store, Branch, Constant}
@@ -10,14 +10,12 @@ use Rattle.operand_net.specs.declared.parcel.Stand.TheVariants.{Nowhere}
 use Rattle.operand_net.specs.Places.{Places}
 use Rattle.operand_net.specs.IsStands.{is_here}
 use Rattle.commit_flush_spec.specs.Frames.{Frame, at}
-use Rattle.commit_flush_spec.specs.Window.{in_flight}
 use Rattle.commit_flush_spec.proofs.Look.{or_false}
 use Rattle.commit_flush_spec.proofs.Lists.{equal_or}
 use Rattle.window_progress.specs.Work.{none_guessed}
 use Rattle.grid_cycle_spec.specs.Arrivals.{is_waiting}
-use Rattle.grid_cycle_spec.specs.Stations.{tile_of}
 use Rattle.grid_cycle_spec.specs.Grid.{Grid}
-use Rattle.grid_rule.specs.UnderWay.{to_come, travels, InUnit, Tied, Nothing}
+use Rattle.grid_rule.specs.UnderWay.{to_come, Tied, Nothing}
 use Rattle.grid_rule.specs.Rule.{EachFrame, FrameRule, HeldFrom, RuleFrom, FetchRule, UnitsRule, runs_in}
 use Rattle.grid_cycle_spec.specs.Acting.{known_next}
 use Rattle.grid_rule.proofs.Each.{FrameAt, each_left, each_rest, each_step, runs_join, runs_step, same}

@@ -1,5 +1,5 @@
 -- What travels in the places of a frame, and what of it a change leaves alone.
-use Rattle.std.proofs.Common.{◌≡◌, ◌≢◌, ℕ, suc, ◌+◌, ◌*◌, ◌/◌, ◌%◌, ◌<◌, ◌==◌, Bool, true, false, cond, not, ◌||◌, ◌&&◌}
+use Rattle.std.proofs.Common.{◌≡◌, ◌≢◌, ℕ, suc, ◌*◌, ◌/◌, ◌%◌, ◌<◌, ◌==◌, Bool, true, false, cond, not, ◌||◌, ◌&&◌}
 use Rattle.std.proofs.Common.{◌⊎◌, inl, inr, List, Option, Some, None, is_some, get_or, nat_lt, refl, sym, ap, ap₂, ◌∙◌}
 use Rattle.std.proofs.Common.{subst, true≢false, arith}
 use Rattle.std.proofs.lemmas.Bool.Decides.{nat_tests}
@@ -16,7 +16,7 @@ use Rattle.commit_flush_spec.proofs.Sends.{slot_sends}
 use Rattle.commit_flush_spec.proofs.Committing.{both_true}
 use Rattle.commit_flush_spec.proofs.Lists.{none_or}
 use Rattle.grid_cycle_spec.specs.Arrivals.{is_waiting}
-use Rattle.grid_rule.specs.UnderWay.{to_come, form_travels, inst_travels, travels, IsSent, Gives, SlotGives, InUnit}
+use Rattle.grid_rule.specs.UnderWay.{to_come, form_travels, inst_travels, travels, Gives, SlotGives, InUnit}
 use Rattle.grid_rule.proofs.Each.{same, equal, apart}
 
 -- flags ------------------------------------------------------------------------------------------
@@ -244,12 +244,12 @@ module _ (blocks : List Block) (o : Older) (f : Frame) (ok : FrameOk blocks o f)
   waiting_none s p n i l w is load waits = elim (none_or (at f.places p)) [
     | inl z ↦ z
     | inr z ↦ absurd (
-      let a = ok.asked n s waits in
-      let it : a.inst ≡ i = (let y : Some a.inst ≡ Some i = sym a.is_inst ∙ is in cc) in
-      let number : i.number ≡ n = sym (ap (λ (j : Inst). j.number) it) ∙ a.number in
-      let open' : at f.loads n ≡ None = a.open_load (ap (λ (j : Inst). is_load (form_of j.op)) it ∙ load) in
-      let sent' : inst_sent f (slot_of f.code s) ≡ true = (both_true _ _ (token_sent s p l w z)).1 in
-      let some : (not (is_load (form_of i.op)) || is_some (at f.loads i.number)) ≡ true =
-      sym (ap (inst_sent f) is) ∙ sent' in
-      true≢false (sym some ∙ ap₂ (λ b k. not b || is_some (at f.loads k)) load number ∙ ap is_some open'))
+        let a = ok.asked n s waits in
+        let it : a.inst ≡ i = (let y : Some a.inst ≡ Some i = sym a.is_inst ∙ is in cc) in
+        let number : i.number ≡ n = sym (ap (λ (j : Inst). j.number) it) ∙ a.number in
+        let open' : at f.loads n ≡ None = a.open_load (ap (λ (j : Inst). is_load (form_of j.op)) it ∙ load) in
+        let sent' : inst_sent f (slot_of f.code s) ≡ true = (both_true _ _ (token_sent s p l w z)).1 in
+        let some : (not (is_load (form_of i.op)) || is_some (at f.loads i.number)) ≡ true =
+        sym (ap (inst_sent f) is) ∙ sent' in
+        true≢false (sym some ∙ ap₂ (λ b k. not b || is_some (at f.loads k)) load number ∙ ap is_some open'))
   ]

@@ -1,56 +1,26 @@
 -- Part (5) of a cycle, the units, keeps the rule.
-use Rattle.std.proofs.Common.{◌≡◌, ◌≢◌, ℕ, zero, suc, ◌+◌, ◌*◌, ◌%◌, ◌<◌, ◌≤◌, ◌==◌, ◌&&◌, ◌||◌, not, Bool, true, false}
-use Rattle.std.proofs.Common.{cond, ◌⊎◌, inl, inr, List, [], ◌∷◌, ◌++◌, Option, Some, None, is_some, set, get_or, length}
+use Rattle.std.proofs.Common.{◌≡◌, ◌≢◌, ℕ, zero, suc, ◌<◌, ◌==◌, ◌&&◌, Bool, true, false}
+use Rattle.std.proofs.Common.{cond, List, [], ◌∷◌, Option, Some, None, get_or, length}
 use Rattle.std.proofs.Common.{refl, sym, ap, ap₂, ◌∙◌, subst, true≢false, arith}
-use Rattle.trips_isa.specs.declared.block.Inst.{Inst}
 use Rattle.trips_isa.specs.declared.block.Block.{Block}
-use Rattle.trips_isa.specs.declared.form.Form.{Form}
-use Rattle.trips_isa.specs.declared.form.Form.TheVariants.{General, Immediate, Load, Store, Branch, Constant}
-use Rattle.trips_isa.specs.Forms.{form_of, is_load}
 use Rattle.block_cases.specs.Orders.{slot_of}
-use Rattle.operand_net.specs.declared.parcel.Stand.{Stand}
-use Rattle.operand_net.specs.Places.{Places, put}
-use Rattle.operand_net.specs.IsStands.{is_here}
-use Rattle.commit_flush_spec.specs.Frames.{Frame, at, slot_node}
-use Rattle.commit_flush_spec.specs.Sending.{send, token_with}
-use Rattle.trips_isa.specs.declared.block.Token.TheVariants.{Null, Word}
-use Rattle.trips_isa.specs.Rule.{Answer}
-use Rattle.trips_isa.specs.Stores.{address_of}
-use Rattle.commit_flush_spec.specs.Older.{Older, committed}
-use Rattle.commit_flush_spec.specs.Causes.{NoFrame, Done, NotNow}
-use Rattle.commit_flush_spec.specs.Dataflow.{can_fire, fire, fire_form, fire_inst}
-use Rattle.commit_flush_spec.specs.Window.{Window, Fire, can, can_now, happens, in_flight}
-use Rattle.commit_flush_spec.specs.Invariant.{AllGood, FrameOk}
+use Rattle.commit_flush_spec.specs.Frames.{Frame}
+use Rattle.commit_flush_spec.specs.Causes.{Done}
+use Rattle.commit_flush_spec.specs.Window.{Fire, can, in_flight}
+use Rattle.commit_flush_spec.specs.Invariant.{AllGood}
 use Rattle.commit_flush_spec.proofs.Committing.{both_true}
-use Rattle.commit_flush_spec.proofs.Lists.{equal_or, flag_here, flag_keeps, other_at, set_here}
-use Rattle.commit_flush_spec.proofs.Stored.{number_small}
-use Rattle.window_progress.specs.Observers.{has_number}
-use Rattle.window_progress.specs.Work.{none_guessed}
-use Rattle.grid_cycle_spec.specs.Stations.{control, data_node, tile_node, tile_of, tiles}
-use Rattle.grid_cycle_spec.specs.Costs.{latency, longest}
+use Rattle.grid_cycle_spec.specs.Stations.{tile_of}
 use Rattle.grid_cycle_spec.specs.Grid.{Grid}
-use Rattle.grid_cycle_spec.specs.Acting.{may}
-use Rattle.grid_cycle_spec.specs.Choosing.{eldest, each, slots, with_frame}
-use Rattle.grid_cycle_spec.specs.Sending.{enters, enter_both}
-use Rattle.grid_cycle_spec.specs.Arrivals.{is_waiting}
-use Rattle.grid_cycle_spec.specs.DataTiles.{tile_by}
-use Rattle.grid_cycle_spec.specs.Units.{result_enters, slot_enters, rests, result_chosen, in_unit, unit_on, ready, takes}
+use Rattle.grid_cycle_spec.specs.Choosing.{eldest, each, slots}
+use Rattle.grid_cycle_spec.specs.Units.{slot_enters, rests, result_chosen, in_unit, unit_on, ready, takes}
 use Rattle.grid_cycle_spec.specs.Units.{issued, issue_chosen, issues, unit_turn, works_on}
-use Rattle.grid_cycle_spec.proofs.Routes.{data_inside, takes_time, tile_inside}
-use Rattle.grid_rule.specs.UnderWay.{form_travels, Gives, InUnit, IsSent, Nothing, SlotGives, Tied, to_come, travels}
-use Rattle.grid_rule.specs.Rule.{EachFrame, FrameRule, HeldFrom, UnitsRule, runs_in}
-use Rattle.grid_rule.proofs.Each.{FrameAt, Chosen, answered_at, apart, differ, each_rest, eldest_is, eldest_none, equal}
-use Rattle.grid_rule.proofs.Each.{find_at, own_at, runs_are, same, with_at}
-use Rattle.grid_rule.proofs.FrameRules.{Fires, Sent, fire_sends, fires, free_exit, free_number, went}
-use Rattle.grid_rule.proofs.Travels.{IsPlace, Result, and_none, come_by, false_of, first_travels, none_is, result_of}
-use Rattle.grid_rule.proofs.Travels.{second_travels, unfired_none, waiting_none, waits_for, waits_none, waits_other, waits_same}
-use Rattle.grid_rule.proofs.Entered.{Entered, away, both_enter, enters_at, put_each, put_here, put_other}
-use Rattle.grid_rule.proofs.Ties.{Alike}
-use Rattle.grid_rule.proofs.TiedFrames.{fired_tied, result_tied}
-use Rattle.grid_rule.proofs.Going.{Going, Moved, alone_is, awake, done_is, each_going, frame_ok, frame_rule, frame_sure}
+use Rattle.grid_rule.specs.Rule.{EachFrame, runs_in}
+use Rattle.grid_rule.proofs.Each.{Chosen, each_rest, eldest_is, eldest_none, equal}
+use Rattle.grid_rule.proofs.Each.{find_at, runs_are, same, with_at}
+use Rattle.grid_rule.proofs.Going.{Going, awake, done_is, each_going, frame_ok}
 use Rattle.grid_rule.proofs.Units.{goes_on, had_none, out_going, slots_are, units_to}
 use Rattle.grid_rule.proofs.Issues.{fire_going}
-use Rattle.grid_rule.proofs.Going.{frame_tied, moved, moved_to, sees, stayed, stepped}
+use Rattle.grid_rule.proofs.Going.{frame_tied}
 
 -- turns ------------------------------------------------------------------------------------------
 
@@ -81,7 +51,8 @@ module _ {W : Type 0} (blocks : List Block) (good : AllGood blocks) (budget leas
           let small : s < slots = subst (λ k. s < k) (sym slots_are) (omega (arith, low, all)) in
           let none : test a.frame = (each_rest test a.older (a.frame ∷ a.younger)
           (subst (EachFrame test) a.split (eldest_none (in_unit g tile) slots g.window.frames e))).0 in
-          true≢false (sym (ap₂ (λ x y. x && y) (ap (λ k. g.works k s) a.number ∙ w) (ap (λ k. k == tile) on ∙ same tile))
+          true≢false (sym (ap₂ (λ x y. x && y) (ap (λ k. g.works k s) a.number ∙ w) (ap (λ k. k == tile) on
+          ∙ same tile))
           ∙ none s small)
 
   result_going : (tile : ℕ) (o : Option (ℕ × ℕ)) (g : Grid W) → Going blocks budget least g

@@ -1,6 +1,6 @@
 -- What units have, and their results as they leave them.
-use Rattle.std.proofs.Common.{◌≡◌, ◌≢◌, ℕ, zero, suc, ◌+◌, ◌*◌, ◌%◌, ◌<◌, ◌≤◌, ◌==◌, ◌&&◌, ◌||◌, not, Bool, true, false}
-use Rattle.std.proofs.Common.{cond, ◌⊎◌, inl, inr, List, [], ◌∷◌, ◌++◌, Option, Some, None, is_some, set, get_or, length}
+use Rattle.std.proofs.Common.{◌≡◌, ◌≢◌, ℕ, suc, ◌*◌, ◌<◌, ◌≤◌, ◌==◌, ◌&&◌, ◌||◌, not, Bool, true, false}
+use Rattle.std.proofs.Common.{cond, ◌⊎◌, inl, inr, List, Some, None, is_some}
 use Rattle.std.proofs.Common.{refl, sym, ap, ap₂, ◌∙◌, subst, true≢false, arith}
 use Rattle.trips_isa.specs.declared.block.Inst.{Inst}
 use Rattle.trips_isa.specs.declared.block.Block.{Block}
@@ -8,47 +8,33 @@ use Rattle.trips_isa.specs.declared.form.Form.{Form}
 use Rattle.trips_isa.specs.declared.form.Form.TheVariants.{General, Immediate, Load, Store, Branch, Constant}
 use Rattle.trips_isa.specs.Forms.{form_of, is_load}
 use Rattle.block_cases.specs.Orders.{slot_of}
-use Rattle.operand_net.specs.declared.parcel.Stand.{Stand}
 use Rattle.operand_net.specs.Places.{Places, put}
 use Rattle.operand_net.specs.IsStands.{is_here}
-use Rattle.commit_flush_spec.specs.Frames.{Frame, at, slot_node}
-use Rattle.commit_flush_spec.specs.Sending.{send, token_with}
+use Rattle.commit_flush_spec.specs.Frames.{Frame, at}
 use Rattle.trips_isa.specs.declared.block.Token.TheVariants.{Null, Word}
 use Rattle.trips_isa.specs.Rule.{Answer}
 use Rattle.trips_isa.specs.Stores.{address_of}
-use Rattle.commit_flush_spec.specs.Older.{Older, committed}
-use Rattle.commit_flush_spec.specs.Causes.{NoFrame, Done, NotNow}
-use Rattle.commit_flush_spec.specs.Dataflow.{can_fire, fire, fire_form, fire_inst}
-use Rattle.commit_flush_spec.specs.Window.{Window, Fire, can, can_now, happens, in_flight}
+use Rattle.commit_flush_spec.specs.Older.{Older}
 use Rattle.commit_flush_spec.specs.Invariant.{AllGood, FrameOk}
 use Rattle.commit_flush_spec.proofs.Committing.{both_true}
-use Rattle.commit_flush_spec.proofs.Lists.{equal_or, flag_here, flag_keeps, other_at, set_here}
-use Rattle.commit_flush_spec.proofs.Stored.{number_small}
-use Rattle.window_progress.specs.Observers.{has_number}
-use Rattle.window_progress.specs.Work.{none_guessed}
-use Rattle.grid_cycle_spec.specs.Stations.{control, data_node, tile_node, tile_of, tiles}
-use Rattle.grid_cycle_spec.specs.Costs.{latency, longest}
+use Rattle.commit_flush_spec.proofs.Lists.{equal_or}
+use Rattle.grid_cycle_spec.specs.Stations.{control, data_node, tile_node, tile_of}
 use Rattle.grid_cycle_spec.specs.Grid.{Grid}
-use Rattle.grid_cycle_spec.specs.Acting.{may}
-use Rattle.grid_cycle_spec.specs.Choosing.{eldest, each, slots, with_frame}
+use Rattle.grid_cycle_spec.specs.Choosing.{slots}
 use Rattle.grid_cycle_spec.specs.Sending.{enters, enter_both}
-use Rattle.grid_cycle_spec.specs.Arrivals.{is_waiting}
 use Rattle.grid_cycle_spec.specs.DataTiles.{tile_by}
-use Rattle.grid_cycle_spec.specs.Units.{result_enters, slot_enters, rests, result_chosen, in_unit, unit_on, ready, takes}
-use Rattle.grid_cycle_spec.specs.Units.{issued, issue_chosen, issues, unit_turn, works_on}
-use Rattle.grid_cycle_spec.proofs.Routes.{data_inside, takes_time, tile_inside}
-use Rattle.grid_rule.specs.UnderWay.{form_travels, Gives, InUnit, IsSent, Nothing, SlotGives, Tied, to_come, travels}
-use Rattle.grid_rule.specs.Rule.{EachFrame, FrameRule, HeldFrom, UnitsRule, runs_in}
-use Rattle.grid_rule.proofs.Each.{FrameAt, Chosen, answered_at, apart, differ, each_rest, eldest_is, eldest_none, equal}
-use Rattle.grid_rule.proofs.Each.{find_at, own_at, runs_are, same, with_at}
-use Rattle.grid_rule.proofs.FrameRules.{Fires, Sent, fire_sends, fires, free_exit, free_number, went}
-use Rattle.grid_rule.proofs.Travels.{IsPlace, Result, and_none, come_by, false_of, first_travels, none_is, result_of}
-use Rattle.grid_rule.proofs.Travels.{second_travels, unfired_none, waiting_none, waits_for, waits_none, waits_other, waits_same}
-use Rattle.grid_rule.proofs.Entered.{Entered, away, both_enter, enters_at, put_each, put_here, put_other}
-use Rattle.grid_rule.proofs.Ties.{Alike}
-use Rattle.grid_rule.proofs.TiedFrames.{fired_tied, result_tied}
-use Rattle.grid_rule.proofs.Going.{Going, Moved, alone_is, awake, done_is, each_going, frame_ok, frame_rule, frame_sure}
-use Rattle.grid_rule.proofs.Going.{frame_tied, moved, moved_to, sees, stayed, stepped}
+use Rattle.grid_cycle_spec.specs.Units.{result_enters, slot_enters, rests}
+use Rattle.grid_cycle_spec.proofs.Routes.{data_inside, tile_inside}
+use Rattle.grid_rule.specs.UnderWay.{form_travels, Gives, Tied, to_come, travels}
+use Rattle.grid_rule.specs.Rule.{HeldFrom, UnitsRule}
+use Rattle.grid_rule.proofs.Each.{FrameAt, apart, equal}
+use Rattle.grid_rule.proofs.Each.{own_at, same}
+use Rattle.grid_rule.proofs.Travels.{IsPlace, Result, and_none, first_travels, none_is, result_of}
+use Rattle.grid_rule.proofs.Travels.{second_travels, waiting_none, waits_for}
+use Rattle.grid_rule.proofs.Entered.{away, both_enter, put_each, put_here, put_other}
+use Rattle.grid_rule.proofs.TiedFrames.{result_tied}
+use Rattle.grid_rule.proofs.Going.{Going, awake, frame_ok}
+use Rattle.grid_rule.proofs.Going.{frame_tied, sees, stayed}
 
 -- one of a frame's slots -------------------------------------------------------------------------
 
@@ -90,8 +76,11 @@ module _ (works : ℕ → ℕ → Bool) (n s : ℕ) where
       go : (b : Bool) → ((m == n) && (k == s)) ≡ b → cond b false (works m k) ≡ true
           → (works m k ≡ true) × ((m ≡ n) × (k ≡ s) → ⊥)
       go true i h = absurd (true≢false (sym h))
-      go false i h = (h, λ z. true≢false (sym (ap₂ (λ x y. x && y) (ap (λ j. j == n) z.0 ∙ same n)
-          (ap (λ j. j == s) z.1 ∙ same s)) ∙ i))
+      go false i h = (
+        h,
+        λ z. true≢false (sym (ap₂ (λ x y. x && y) (ap (λ j. j == n) z.0 ∙ same n)
+            (ap (λ j. j == s) z.1 ∙ same s)) ∙ i),
+      )
 
   -- a result is the new one or was there
   more_is : (m k : ℕ) → works_more works n s m k ≡ true → ((m ≡ n) × (k ≡ s)) ⊎ (works m k ≡ true)
@@ -124,7 +113,8 @@ slots_are = refl
 -- units ------------------------------------------------------------------------------------------
 
 -- a unit whose time goes on
-pub goes_on : (units : ℕ → ℕ) (works : ℕ → ℕ → Bool) (tile left : ℕ) → units tile ≡ suc (suc left) → UnitsRule units works
+pub goes_on : (units : ℕ → ℕ) (works : ℕ → ℕ → Bool) (tile left : ℕ) → units tile ≡ suc (suc left)
+    → UnitsRule units works
     → UnitsRule (units_to units tile (suc left)) works
 goes_on units works tile left e u = record {
   most = to_most units tile (suc left) 24 (let m : units tile ≤ 24 = u.most tile in omega (arith, m, e)) u.most;
@@ -157,7 +147,8 @@ had_none units works tile none u = record {
 }
 
 -- a free unit has a new result
-pub is_issued : (units : ℕ → ℕ) (works : ℕ → ℕ → Bool) (tile n s time : ℕ) → units tile ≡ 0 → tile_of s ≡ tile → 1 ≤ time
+pub is_issued : (units : ℕ → ℕ) (works : ℕ → ℕ → Bool) (tile n s time : ℕ) → units tile ≡ 0 → tile_of s ≡ tile
+    → 1 ≤ time
     → time ≤ 24 → UnitsRule units works → UnitsRule (units_to units tile time) (works_more works n s)
 is_issued units works tile n s time free e some most u = record {
   most = to_most units tile time 24 most u.most;
@@ -228,7 +219,8 @@ module _ {W : Type 0} (blocks : List Block) (good : AllGood blocks) (budget leas
     was_none p l e = (tied).travelling p l ∙ e
 
     first_none : is_here (g.parcels m (2 * s)) ≡ false
-    first_none = was_none (2 * s) (omega (arith, small)) (first_travels (g.asked m) (g.works m) f s r.inst small r.is_inst
+    first_none = was_none (2 * s) (omega (arith, small)) (first_travels (g.asked m)
+        (g.works m) f s r.inst small r.is_inst
         ∙ ap (λ b. not b && form_travels (form_of r.inst.op) true (to_come (g.asked m) f (form_of r.inst.op) r.inst s)
         (is_some (at f.places (2 * s)))) had)
 
@@ -330,4 +322,3 @@ module _ {W : Type 0} (blocks : List Block) (good : AllGood blocks) (budget leas
 
   pub out_going : s < 128 → Going blocks budget least (slot_enters (slot_of f.code s) s f G)
   out_going small = slot_going (result_of (g.asked m) f s ((tied).working s had)) small
-
