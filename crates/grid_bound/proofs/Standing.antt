@@ -117,19 +117,24 @@ module _ {W : Type 0} (blocks : List Block) (good : AllGood blocks) (budget : �
             frame_lane blocks budget sizes h f fs t.seen (table_in (committed h.window.state) f) good ok rule e t.solves
             next_size
 
+    next_block : (x : Block) × (slice_get blocks h.window.state.next ≡ Some x)
+    next_block = item_at blocks h.window.state.next ok.next
+
     pub stands : Stands blocks budget sizes h
-    stands = let b : (x : Block) × (slice_get blocks h.window.state.next ≡ Some x) =
-    item_at blocks h.window.state.next ok.next in record {
+    stands = record {
       ok = ok;
       went = on.went;
       room = on.room;
       parts = parts;
       none = far_rest n h a;
-      due = λ e. (due h rule e, (let c : slice_index h.window.generations 0 ≤ h.counts.cycles = made 0 in
-          omega (arith, c, few)));
-      block = b.0;
-      is_next = b.1;
-      is_size = sym (ap size_in b.1) ∙ sym next_size;
+      due = λ e. (
+        due h rule e,
+        (let c : slice_index h.window.generations 0 ≤ h.counts.cycles = made 0 in
+            omega (arith, c, few)),
+      );
+      block = next_block.0;
+      is_next = next_block.1;
+      is_size = sym (ap size_in next_block.1) ∙ sym next_size;
       lane = lane;
     }
 
