@@ -1,6 +1,7 @@
 -- The bound of a run by the cost of its trace.
-use Rattle.std.proofs.Common.{◌≡◌, ℕ, suc, ◌+◌, ◌*◌, ◌-◌, ◌^◌, ◌<◌, ◌≤◌, List, length, Option, Some, None, slice_get, refl}
-use Rattle.std.proofs.Common.{sym, ap, ◌∙◌, subst, arith}
+use Rattle.std.proofs.Common.{◌≡◌, ℕ, suc, ◌+◌, ◌*◌, ◌-◌, ◌^◌, ◌<◌, ◌≤◌, ◌⊎◌, inl, inr, List, length, Option, Some, None}
+use Rattle.std.proofs.Common.{zero, slice_get, refl, sym, ap, ◌∙◌, arith}
+use Rattle.std.proofs.lemmas.Bool.{cases_lt}
 use Rattle.trips_isa.specs.declared.block.Block.{Block}
 use Rattle.trips_isa.specs.Machine.{State, runs}
 use Rattle.commit_flush_spec.specs.InFlight.{opened}
@@ -20,6 +21,7 @@ use Rattle.grid_served.specs.Lanes.{lane_in}
 use Rattle.grid_served.specs.Runs.{Stands, AfterStanding}
 use Rattle.grid_served.proofs.Bounded as bounded
 use Rattle.grid_bound.specs.GoesOn.{GoesOn}
+use Rattle.grid_bound.proofs.Before.{steps}
 use Rattle.grid_bound.proofs.Standing.{reached_state, all_stand, stands}
 
 size_most : (b : Block) → cost b ≤ greatest → size b ≤ 160
@@ -32,6 +34,15 @@ size_in_most blocks good k = by (slice_get blocks k) refl
     by : (o : Option Block) → slice_get blocks k ≡ o → size_in o ≤ 160
     by None e = omega arith
     by (Some b) e = size_most b (cost_most b (good k b e).fits)
+
+-- prices only add up
+total_later : (sizes : ℕ → ℕ) (m n : ℕ) → m ≤ n → total sizes m ≤ total sizes n
+total_later sizes m zero l = let e : m ≡ 0 = omega (arith, l) in let t = ap (total sizes) e in omega (arith, t)
+total_later sizes m (suc n) l = by (cases_lt m (suc n))
+  where
+    by : (m < suc n) ⊎ (suc n ≤ m) → total sizes m ≤ total sizes (suc n)
+    by (inl k) = let h : total sizes m ≤ total sizes n = total_later sizes m n (omega (arith, k)) in omega (arith, h)
+    by (inr k) = let e : m ≡ suc n = omega (arith, k, l) in let t = ap (total sizes) e in omega (arith, t)
 
 module _ {W : Type 0} (blocks : List Block) (good : AllGood blocks) (budget : ℕ) (next : W → ℕ)
     (follows : W → W → Type 0) (bound : (w : W) → next w ≤ 3) (s : State) (entries : List ℕ) (weather : W)
@@ -90,6 +101,23 @@ module _ {W : Type 0} (blocks : List Block) (good : AllGood blocks) (budget : �
         ≡ total sizes (length h.window.state.trace) + cost_of blocks s.trace =
         priced (suc n) h (record { between = m; before = a; after = cycle }) in
         omega (arith, b, p)
+
+    -- whatever the next cycle does
+    pub any_cycle : (h : Grid W) → Eager next follows blocks budget m h
+        → suc n + cost_of blocks s.trace ≤ cost_of blocks h.window.state.trace + 41472
+    any_cycle h cycle =
+        let one : TakesSteps blocks m.window.state h.window = takes_steps blocks good budget m.window h.window last.ok
+        on.went (steps blocks budget next follows m h cycle) in
+        let grown : length h.window.state.trace ≡ length m.window.state.trace + one.steps = one.grown in
+        let more : total sizes (length m.window.state.trace) ≤ total sizes (length h.window.state.trace) =
+        total_later sizes (length m.window.state.trace) (length h.window.state.trace) (omega (arith, grown)) in
+        let b : n + cost_of blocks s.trace < cost_of blocks m.window.state.trace + 41472 = moment in
+        let p : cost_of blocks m.window.state.trace + total sizes (length s.trace)
+        ≡ total sizes (length m.window.state.trace) + cost_of blocks s.trace = priced n m a in
+        let q : cost_of blocks h.window.state.trace + total sizes (length s.trace)
+        ≡ total sizes (length h.window.state.trace) + cost_of blocks s.trace =
+        priced (suc n) h (record { between = m; before = a; after = cycle }) in
+        omega (arith, b, more, p, q)
 
     pub spends : n < 41472 * budget
     spends = bounded.spends blocks good budget next follows bound sizes g n m run last small

@@ -10,6 +10,11 @@ returns-clause-commit g c = λ blocks budget n s entries weather m h good opens 
     costs.commit blocks good budget g.W.Weather.next g.W.Weather.follows bound s entries weather opens n m a on few h
     cycle e
 
+pub returns-clause-last : goal.returns-clause-last
+returns-clause-last g c = λ blocks budget n s entries weather m h good opens bound a on few cycle.
+    costs.any_cycle blocks good budget g.W.Weather.next g.W.Weather.follows bound s entries weather opens n m a on few h
+    cycle
+
 pub returns-clause-ends : goal.returns-clause-ends
 returns-clause-ends g c = λ blocks budget n s entries weather h good opens bound a on few.
     costs.spends blocks good budget g.W.Weather.next g.W.Weather.follows bound s entries weather opens n h a on few
