@@ -1,9 +1,9 @@
 -- Part (4), one data tile: it answers a request of the oldest frame where one waits for nothing.
-use Rattle.std.proofs.Common.{◌≡◌, ◌≢◌, ℕ, zero, suc, ◌+◌, ◌*◌, ◌<◌, ◌≤◌, ◌==◌, ◌&&◌, ◌||◌, ◌⊎◌, inl, inr, Bool, true}
-use Rattle.std.proofs.Common.{false, cond, not, List, [], ◌∷◌, Option, Some, None, slice_index_or, refl, sym, ap, ap₂, ◌∙◌}
+use Rattle.std.proofs.Common.{◌≡◌, ℕ, ◌<◌, ◌≤◌, ◌==◌, ◌⊎◌, inl, inr, Bool, true}
+use Rattle.std.proofs.Common.{false, cond, not, List, [], ◌∷◌, Option, Some, None, refl, sym, ap, ◌∙◌}
 use Rattle.std.proofs.Common.{subst, arith}
-use Rattle.std.proofs.lemmas.Bool.{cond_both, cond-true, cond-false, and_from, and_parts, and_left, and_right, both_ways}
-use Rattle.std.proofs.lemmas.Bool.{cases_Bool, or_cases, or_left, or_right, eqb-true, eq-eqb, false_from_ne_true}
+use Rattle.std.proofs.lemmas.Bool.{cond-true, cond-false, and_from, and_parts, both_ways}
+use Rattle.std.proofs.lemmas.Bool.{cases_Bool, or_left, or_right, eqb-true, false_from_ne_true}
 use Rattle.trips_isa.specs.declared.block.Inst.{Inst}
 use Rattle.trips_isa.specs.declared.block.Block.{Block}
 use Rattle.trips_isa.specs.declared.form.Form.{Form}
@@ -13,8 +13,7 @@ use Rattle.trips_isa.specs.Forms.{form_of, is_load, is_store}
 use Rattle.trips_isa.specs.Rule.{Answer}
 use Rattle.trips_isa.specs.Blocks.{Solves, at_place}
 use Rattle.commit_flush_spec.specs.Frames.{Frame, at, numbers}
-use Rattle.commit_flush_spec.specs.Older.{Older, committed, nearest, violated}
-use Rattle.commit_flush_spec.specs.Ends.{store_came, all_below}
+use Rattle.commit_flush_spec.specs.Older.{Older, committed}
 use Rattle.commit_flush_spec.specs.Memory.{request, with_inst, with_slot}
 use Rattle.commit_flush_spec.specs.Invariant.{Below, AllGood, FrameOk}
 use Rattle.commit_flush_spec.proofs.Frames.{seen}
@@ -27,16 +26,16 @@ use Rattle.grid_cycle_spec.specs.Grid.{Grid}
 use Rattle.grid_cycle_spec.specs.Choosing.{least, eldest, found_in, with_frame}
 use Rattle.grid_cycle_spec.specs.DataTiles.{tile_by, tile_for, asks_store, all_resolved, must_wait, may_answer}
 use Rattle.grid_cycle_spec.specs.DataTiles.{answers_request, answered_by, answer_chosen, data_turn}
-use Rattle.grid_cycle_bound.specs.Course.{Course, Good, Task}
+use Rattle.grid_cycle_bound.specs.Course.{Course, Task}
 use Rattle.grid_cycle_bound.specs.Lane.{any, all_come, Front, Stage, Running, is_standing, answerable}
 use Rattle.grid_cycle_bound.specs.Lane as lane
 use Rattle.grid_cycle_bound.specs.Sending.{station_of}
-use Rattle.grid_cycle_bound.specs.Answering.{answer_one, has_at, at_tile, Retold, RunsOn, Answered, TileAnswers}
-use Rattle.grid_cycle_bound.specs.Blocks.{slot_tasks, room, numbers_in, slot_task, course_of}
+use Rattle.grid_cycle_bound.specs.Answering.{answer_one, has_at, at_tile, Retold, TileAnswers}
+use Rattle.grid_cycle_bound.specs.Blocks.{room, numbers_in, slot_task, course_of}
 use Rattle.grid_cycle_bound.specs.Seen.{has_come, front_of, fetch_of}
 use Rattle.grid_cycle_bound.proofs.Counting.{any_true}
 use Rattle.grid_cycle_bound.proofs.Seen.{numbers_seen}
-use Rattle.grid_cycle_bound.proofs.Sizes.{slot_tasks_is, room_is, slot_is}
+use Rattle.grid_cycle_bound.proofs.Sizes.{room_is, slot_is}
 use Rattle.grid_served.specs.Behind.{Behind}
 use Rattle.grid_served.specs.DataRule.{DataRule}
 use Rattle.grid_served.proofs.Ahead.{same_number, younger_apart}
@@ -45,9 +44,9 @@ use Rattle.grid_served.proofs.Walk.{chosen_keeps}
 use Rattle.grid_served.proofs.Others.{behind_at, answer_other}
 use Rattle.grid_served.proofs.Ended.{oldest_ok}
 use Rattle.grid_served.proofs.Fronts.{front_behind}
-use Rattle.grid_served.proofs.Choosing.{IsLeast, is_least, none_least, elder_other, none_any}
+use Rattle.grid_served.proofs.Choosing.{IsLeast, is_least, none_least, elder_other}
 use Rattle.grid_served.proofs.Standing.{StandsAt, standing_is}
-use Rattle.grid_served.proofs.Told.{told, told_solves, told_holds, told_good, told_same, retold}
+use Rattle.grid_served.proofs.Told.{told, told_solves, told_holds, told_good, retold}
 use Rattle.grid_served.proofs.Waiting.{address_came}
 use Rattle.grid_served.proofs.Requesting as asking
 use Rattle.grid_served.proofs.Loading as loading

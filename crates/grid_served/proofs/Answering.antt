@@ -1,19 +1,18 @@
 -- Part (4) as a whole: the data tiles, one after another, serve the oldest frame.
-use Rattle.std.proofs.Common.{◌≡◌, ℕ, zero, suc, Bool, true, false, List, [], ◌∷◌, Option, None, refl, sym, ap, ◌∙◌, subst}
+use Rattle.std.proofs.Common.{◌≡◌, ℕ, zero, suc, Bool, false, List, [], ◌∷◌, Option, refl, sym, ap, ◌∙◌, subst}
 use Rattle.trips_isa.specs.declared.block.Block.{Block}
 use Rattle.trips_isa.specs.declared.run.Stepped.TheVariants as stepped
 use Rattle.commit_flush_spec.specs.Frames.{Frame, numbers}
 use Rattle.commit_flush_spec.specs.Older.{Older, committed}
 use Rattle.commit_flush_spec.specs.Invariant.{AllGood}
 use Rattle.commit_flush_spec.specs.Laws.{WindowOk}
-use Rattle.commit_flush_spec.specs.Window.{Window}
 use Rattle.grid_cycle_spec.specs.Grid.{Grid}
 use Rattle.grid_cycle_spec.specs.Choosing.{eldest, each}
-use Rattle.grid_cycle_spec.specs.DataTiles.{answers_request, answer_chosen, data_turn, answers}
+use Rattle.grid_cycle_spec.specs.DataTiles.{answers_request, answer_chosen, data_turn}
 use Rattle.grid_cycle_bound.specs.Lane.{Stage, Running, Fetching}
-use Rattle.grid_cycle_bound.specs.Answering.{TileAnswers, Between, TilesAnswer}
+use Rattle.grid_cycle_bound.specs.Answering.{TileAnswers, TilesAnswer}
 use Rattle.grid_cycle_bound.specs.Blocks.{course_of}
-use Rattle.grid_cycle_bound.specs.Seen.{front_of, fetch_of}
+use Rattle.grid_cycle_bound.specs.Seen.{front_of}
 use Rattle.grid_served.specs.DataRule.{DataRule}
 use Rattle.grid_served.proofs.Steady.{Onward, steady}
 use Rattle.grid_served.proofs.Walk.{each_keeps, chosen_keeps}

@@ -1,8 +1,8 @@
 -- Part (6), the places of the oldest frame, one after another.
-use Rattle.std.proofs.Common.{◌≡◌, ◌≢◌, ℕ, zero, suc, ◌+◌, ◌*◌, ◌-◌, ◌/◌, ◌%◌, ◌<◌, ◌≤◌, ◌==◌, ◌&&◌, ◌||◌, ◌⊎◌, inl, inr}
-use Rattle.std.proofs.Common.{Bool, true, false, cond, not, nat_lt, List, [], ◌∷◌, length, Option, Some, None, slice_get}
+use Rattle.std.proofs.Common.{◌≡◌, ◌≢◌, ℕ, zero, suc, ◌+◌, ◌*◌, ◌-◌, ◌/◌, ◌%◌, ◌<◌, ◌≤◌, ◌==◌, ◌⊎◌, inl, inr}
+use Rattle.std.proofs.Common.{Bool, true, false, cond, nat_lt, List, length, Option, Some, None, slice_get}
 use Rattle.std.proofs.Common.{slice_index_or, refl, sym, ap, ap₂, ◌∙◌, subst, arith}
-use Rattle.std.proofs.lemmas.Bool.{cond-true, cond-false, cases_Bool, cases_lt, lt-ltb, le-ltb, ltb-true, ltb-false, eqb-true}
+use Rattle.std.proofs.lemmas.Bool.{cond-true, cond-false, cases_Bool, cases_lt, lt-ltb, le-ltb}
 use Rattle.std.proofs.lemmas.Bool.{eq-eqb, ne_eqb, true≢false}
 use Rattle.trips_isa.specs.declared.block.Inst.{Inst}
 use Rattle.trips_isa.specs.declared.block.ReadSlot.{ReadSlot}
@@ -15,11 +15,10 @@ use Rattle.trips_isa.specs.Places.{place_of, place_at, first_place}
 use Rattle.trips_isa.specs.Rule.{Answer}
 use Rattle.trips_isa.specs.Blocks.{at_place}
 use Rattle.block_cases.specs.Orders.{slot_of}
-use Rattle.operand_net.specs.declared.parcel.Parcel.{Parcel}
 use Rattle.operand_net.specs.declared.parcel.Stand.{Stand}
 use Rattle.operand_net.specs.declared.parcel.Stand.TheVariants.{Nowhere, Away, Held}
-use Rattle.operand_net.specs.Places.{come, put, without}
-use Rattle.commit_flush_spec.specs.Frames.{Frame, at, target, is_target, first_read_place}
+use Rattle.operand_net.specs.Places.{come, put}
+use Rattle.commit_flush_spec.specs.Frames.{Frame, at, target, is_target}
 use Rattle.commit_flush_spec.specs.Older.{committed}
 use Rattle.commit_flush_spec.specs.Invariant.{AllGood, FrameOk}
 use Rattle.commit_flush_spec.specs.Laws.{WindowOk}
@@ -32,12 +31,12 @@ use Rattle.grid_cycle_spec.specs.Grid.{Grid}
 use Rattle.grid_cycle_spec.specs.Arrivals.{asks, delivers, is_waiting, slot_arrives, inst_arrives, place_arrives}
 use Rattle.grid_cycle_spec.specs.Arrivals.{arrives_if, arrival}
 use Rattle.grid_cycle_spec.specs.Choosing.{with_frame}
-use Rattle.grid_cycle_bound.specs.Course.{Kind, Reading, Plain, Serving, Course, Target, Task}
+use Rattle.grid_cycle_bound.specs.Course.{Kind, Plain, Serving, Course, Task}
 use Rattle.grid_cycle_bound.specs.Lane.{Phase, Absent, Idle, Sent, Front, first_parcel, second_parcel}
 use Rattle.grid_cycle_bound.specs.Answering.{hits}
 use Rattle.grid_cycle_bound.specs.Moving.{row, free_at}
 use Rattle.grid_cycle_bound.specs.Blocks.{slot_tasks, kind_of, first_of, slot_task, read_task, target_at, course_of}
-use Rattle.grid_cycle_bound.specs.Seen.{slot_phase, read_phase, phase_of, front_of}
+use Rattle.grid_cycle_bound.specs.Seen.{slot_phase, read_phase, front_of}
 use Rattle.grid_cycle_bound.proofs.Sizes.{slot_tasks_is, slot_is, read_is}
 use Rattle.grid_served.specs.MoveRule.{IsToken, Travels, MoveRule}
 use Rattle.grid_served.proofs.Ended.{oldest_ok}

@@ -1,31 +1,26 @@
 -- Part (6), one place of the oldest frame: what has come there arrives.
-use Rattle.std.proofs.Common.{◌≡◌, ◌≢◌, ℕ, zero, suc, ◌+◌, ◌*◌, ◌-◌, ◌/◌, ◌%◌, ◌<◌, ◌≤◌, ◌==◌, ◌&&◌, ◌||◌, ◌⊎◌, inl, inr}
-use Rattle.std.proofs.Common.{Bool, true, false, cond, not, nat_lt, List, [], ◌∷◌, length, drop, Option, Some, None, is_none}
-use Rattle.std.proofs.Common.{is_some, slice_get, slice_index, slice_index_or, set, refl, sym, ap, ap₂, ◌∙◌, subst, arith}
+use Rattle.std.proofs.Common.{◌≡◌, ◌≢◌, ℕ, suc, ◌+◌, ◌*◌, ◌/◌, ◌%◌, ◌<◌, ◌≤◌, ◌==◌, ◌&&◌, ◌||◌, ◌⊎◌, inl, inr}
+use Rattle.std.proofs.Common.{Bool, true, false, cond, not, nat_lt, List, [], ◌∷◌, length, Some, None, is_none}
+use Rattle.std.proofs.Common.{slice_index, slice_index_or, refl, sym, ap, ap₂, ◌∙◌, subst, arith}
 use Rattle.std.proofs.Common.{true≢false}
-use Rattle.std.proofs.lemmas.Bool.{cond_both, cond-true, cond-false, and_from, and_left, and_right, both_ways, cases_eq}
-use Rattle.std.proofs.lemmas.Bool.{cases_lt, cases_Bool, lt-ltb, le-ltb, ltb-true, ltb-false, eqb-true, eq-eqb, ne_eqb}
-use Rattle.std.proofs.lemmas.Bool.{or_left, or_right, not_from_true}
+use Rattle.std.proofs.lemmas.Bool.{cond-true, cond-false, and_from, and_right, cases_eq}
+use Rattle.std.proofs.lemmas.Bool.{cases_lt, lt-ltb, le-ltb, eq-eqb, ne_eqb}
+use Rattle.std.proofs.lemmas.Bool.{or_left, or_right}
 use Rattle.trips_isa.specs.declared.block.Token.{Token}
 use Rattle.trips_isa.specs.declared.block.Inst.{Inst}
-use Rattle.trips_isa.specs.declared.block.ReadSlot.{ReadSlot}
 use Rattle.trips_isa.specs.declared.block.Block.{Block}
-use Rattle.trips_isa.specs.declared.form.Form.{Form}
 use Rattle.trips_isa.specs.declared.form.Form.TheVariants as form
 use Rattle.trips_isa.specs.declared.run.Stepped.TheVariants as stepped
 use Rattle.trips_isa.specs.Forms.{form_of}
-use Rattle.trips_isa.specs.Places.{place_of, place_at, first_place}
 use Rattle.trips_isa.specs.Rule.{Answer}
 use Rattle.block_cases.specs.Orders.{slot_of}
-use Rattle.operand_net.specs.declared.parcel.Parcel.{Parcel}
 use Rattle.operand_net.specs.declared.parcel.Stand.{Stand}
-use Rattle.operand_net.specs.declared.parcel.Stand.TheVariants.{Nowhere, Away, Held}
-use Rattle.operand_net.specs.declared.parcel.Trip.{Trip}
-use Rattle.operand_net.specs.Places.{Places, put, come, without}
+use Rattle.operand_net.specs.declared.parcel.Stand.TheVariants.{Nowhere}
+use Rattle.operand_net.specs.Places.{put}
 use Rattle.operand_net.specs.Tick.{ticked}
 use Rattle.commit_flush_spec.specs.Causes.{NoFrame, NoExit, NoToken, Done, NotNow, judged}
-use Rattle.commit_flush_spec.specs.Frames.{Frame, Exit, at, target, is_target, first_read_place, token_places}
-use Rattle.commit_flush_spec.specs.Older.{Older, committed, successor_of}
+use Rattle.commit_flush_spec.specs.Frames.{Frame, at, target, is_target, token_places}
+use Rattle.commit_flush_spec.specs.Older.{committed, successor_of}
 use Rattle.commit_flush_spec.specs.Dataflow.{can_deliver, deliver, delivered}
 use Rattle.commit_flush_spec.specs.Ends.{can_exit, exit, exit_by, branch_of, branch_mark, with_exit, kept}
 use Rattle.commit_flush_spec.specs.Invariant.{AllGood, FrameOk}
@@ -40,27 +35,23 @@ use Rattle.window_progress.proofs.Frames.{change_oldest}
 use Rattle.window_progress.specs.Observers.{has_number}
 use Rattle.grid_cycle_spec.specs.Grid.{Grid}
 use Rattle.grid_cycle_spec.specs.Acting.{act, flushed, gone}
-use Rattle.grid_cycle_spec.specs.Arrivals.{asks, delivers, is_waiting, load_arrives, slot_arrives, inst_arrives}
-use Rattle.grid_cycle_spec.specs.Arrivals.{place_arrives, arrives_if, arrival}
-use Rattle.grid_cycle_spec.specs.Choosing.{with_frame}
-use Rattle.grid_cycle_bound.specs.Course.{Kind, Reading, Plain, Serving, Course, Target, Task}
+use Rattle.grid_cycle_spec.specs.Arrivals.{asks, delivers, is_waiting}
+use Rattle.grid_cycle_bound.specs.Course.{Kind, Reading, Plain, Serving, Course, Task}
 use Rattle.grid_cycle_bound.specs.Lane.{any, Phase, Absent, Idle, Working, Asking, Standing, Sent, Front, first_parcel}
 use Rattle.grid_cycle_bound.specs.Lane.{second_parcel}
-use Rattle.grid_cycle_bound.specs.Answering.{hits}
 use Rattle.grid_cycle_bound.specs.Moving.{row, free_at, landed}
 use Rattle.grid_cycle_bound.specs.Moving as moving
-use Rattle.grid_cycle_bound.specs.Blocks.{slot_tasks, kind_of, first_of, slot_task, read_task, target_at, course_of}
-use Rattle.grid_cycle_bound.specs.Seen.{slot_phase, read_phase, phase_of, has_come, front_of, sent_of}
-use Rattle.grid_cycle_bound.proofs.Sizes.{slot_tasks_is, slot_is, read_is}
+use Rattle.grid_cycle_bound.specs.Blocks.{slot_tasks, kind_of, course_of}
+use Rattle.grid_cycle_bound.specs.Seen.{slot_phase, has_come, front_of}
+use Rattle.grid_cycle_bound.proofs.Sizes.{slot_tasks_is}
 use Rattle.grid_served.specs.Behind.{Behind}
-use Rattle.grid_served.specs.MoveRule.{IsToken, Travels, MoveRule}
-use Rattle.grid_served.proofs.Ahead.{same_number, frame_of_place, place_in_frame, younger_apart}
-use Rattle.grid_served.proofs.Others.{behind_at, was_flushed, acted_leaving, with_parcels}
+use Rattle.grid_served.specs.MoveRule.{IsToken, MoveRule}
+use Rattle.grid_served.proofs.Ahead.{same_number, frame_of_place, place_in_frame}
+use Rattle.grid_served.proofs.Others.{behind_at, was_flushed, acted_leaving}
 use Rattle.grid_served.proofs.Ended.{asks_oldest, oldest_ok}
-use Rattle.grid_served.proofs.Fronts.{slot_far, slot_phase_is, at_slot, at_read}
-use Rattle.grid_served.proofs.Entering.{slot_targets, read_targets}
+use Rattle.grid_served.proofs.Fronts.{slot_far, slot_phase_is, at_slot}
 use Rattle.grid_served.proofs.Standing.{waiting_is}
-use Rattle.grid_served.proofs.Landing.{due, due_is, not_taken, due_there, not_landed, has_landed, one_more, spot_came}
+use Rattle.grid_served.proofs.Landing.{due, due_is, not_taken, due_there, not_landed, one_more, spot_came}
 use Rattle.grid_served.proofs.Landing.{exit_came}
 
 -- whether the first or the second token of a task lands at a spot, where its parcel stands so after the tick

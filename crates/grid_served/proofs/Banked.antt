@@ -1,10 +1,10 @@
 -- Part (3): each bank answers the lowest read of the oldest frame that it may, and else one of another frame.
-use Rattle.std.proofs.Common.{◌≡◌, ◌≢◌, ℕ, zero, suc, ◌+◌, ◌*◌, ◌-◌, ◌<◌, ◌≤◌, ◌==◌, ◌&&◌, ◌⊎◌, inl, inr, Bool, true}
-use Rattle.std.proofs.Common.{false, cond, not, nat_lt, List, [], ◌∷◌, length, Option, Some, None, is_some, slice_get}
-use Rattle.std.proofs.Common.{slice_index, slice_index_or, set, get_or, refl, sym, ap, ap₂, ◌∙◌, subst, arith, true≢false}
+use Rattle.std.proofs.Common.{◌≡◌, ◌≢◌, ℕ, suc, ◌+◌, ◌*◌, ◌-◌, ◌<◌, ◌≤◌, ◌==◌, ◌&&◌, ◌⊎◌, inl, inr, Bool, true}
+use Rattle.std.proofs.Common.{false, cond, not, nat_lt, List, ◌∷◌, length, Option, Some, None, is_some, slice_get}
+use Rattle.std.proofs.Common.{slice_index, slice_index_or, set, refl, sym, ap, ap₂, ◌∙◌, subst, arith, true≢false}
 use Rattle.std.proofs.Math.Path.{fun_ext}
 use Rattle.std.proofs.lemmas.Bool.{cond-true, cond-false, and_from, and_parts, and_left, and_right, both_ways, cases_eq}
-use Rattle.std.proofs.lemmas.Bool.{cases_lt, lt-ltb, le-ltb, eqb-true, eq-eqb, not_from_false, or_left, not-true}
+use Rattle.std.proofs.lemmas.Bool.{cases_lt, lt-ltb, le-ltb, eqb-true, eq-eqb, not_from_false, not-true}
 use Rattle.std.proofs.lemmas.List.{get_or-set_other}
 use Rattle.trips_isa.specs.declared.block.Token.{Token}
 use Rattle.trips_isa.specs.declared.block.Inst.{Inst}
@@ -14,14 +14,14 @@ use Rattle.trips_isa.specs.declared.form.Form.{Form}
 use Rattle.trips_isa.specs.declared.form.Form.TheVariants as form
 use Rattle.trips_isa.specs.declared.run.Stepped.TheVariants as stepped
 use Rattle.trips_isa.specs.Forms.{form_of}
-use Rattle.trips_isa.specs.Places.{nodes_of, read_node, inst_nodes, place_of, place_at}
+use Rattle.trips_isa.specs.Places.{read_node, inst_nodes, place_of, place_at}
 use Rattle.trips_isa.specs.Tables.{node_gives}
 use Rattle.trips_isa.specs.Blocks.{computes}
 use Rattle.trips_isa.specs.Rule.{Answer}
 use Rattle.block_cases.specs.Orders.{slot_of}
 use Rattle.operand_net.specs.declared.parcel.Stand.TheVariants.{Nowhere}
 use Rattle.commit_flush_spec.specs.Causes.{NoFrame, Happened, Done, NotNow}
-use Rattle.commit_flush_spec.specs.Frames.{Frame, at, target, is_target, first_read_place}
+use Rattle.commit_flush_spec.specs.Frames.{Frame, at, target, is_target}
 use Rattle.commit_flush_spec.specs.Older.{Older, committed}
 use Rattle.commit_flush_spec.specs.Sending.{send, token_with}
 use Rattle.commit_flush_spec.specs.Dataflow.{can_read, read, read_seen, read_answered}
@@ -43,14 +43,14 @@ use Rattle.window_progress.proofs.Fills.{read_fills}
 use Rattle.grid_cycle_spec.specs.Stations.{bank_node, bank_of}
 use Rattle.grid_cycle_spec.specs.Grid.{Grid}
 use Rattle.grid_cycle_spec.specs.Acting.{is_done, may}
-use Rattle.grid_cycle_spec.specs.Choosing.{least, eldest, found_in, each, reads, with_frame}
+use Rattle.grid_cycle_spec.specs.Choosing.{least, eldest, found_in, reads, with_frame}
 use Rattle.grid_cycle_spec.specs.Sending.{enter_both}
-use Rattle.grid_cycle_spec.specs.Banks.{bank_in, is_bank, answers_read, read_chosen, bank_turn, reads_answered}
-use Rattle.grid_cycle_bound.specs.Course.{Kind, Course, Task, is_reading}
-use Rattle.grid_cycle_bound.specs.Lane.{any, Phase, Sent, Idle, Front, is_idle, unread}
-use Rattle.grid_cycle_bound.specs.Sending.{pick, none_busy, station_of, launch, sent_from, reads_front}
+use Rattle.grid_cycle_spec.specs.Banks.{bank_in, is_bank, answers_read, read_chosen, bank_turn}
+use Rattle.grid_cycle_bound.specs.Course.{Course, Task, is_reading}
+use Rattle.grid_cycle_bound.specs.Lane.{any, Sent, Front, is_idle, unread}
+use Rattle.grid_cycle_bound.specs.Sending.{pick, none_busy, station_of, launch, sent_from}
 use Rattle.grid_cycle_bound.specs.Blocks.{slot_tasks, kind_of, slot_task, read_task, target_at, course_of}
-use Rattle.grid_cycle_bound.specs.Seen.{read_phase, phase_of, has_come, front_of, sent_of}
+use Rattle.grid_cycle_bound.specs.Seen.{read_phase, phase_of, front_of}
 use Rattle.grid_cycle_bound.proofs.Counting.{any_from}
 use Rattle.grid_cycle_bound.proofs.Seen.{unread_seen}
 use Rattle.grid_cycle_bound.proofs.Sizes.{slot_tasks_is, slot_is, read_is}
@@ -59,7 +59,7 @@ use Rattle.grid_served.specs.Shows.{QuietReads}
 use Rattle.grid_served.proofs.Ahead.{same_number, younger_apart}
 use Rattle.grid_served.proofs.Others.{behind_at, read_other}
 use Rattle.grid_served.proofs.Ended.{asks_oldest, oldest_ok}
-use Rattle.grid_served.proofs.Fronts.{front_behind, SameTask, task_same, same_front, at_read}
+use Rattle.grid_served.proofs.Fronts.{front_behind, task_same, same_front, at_read}
 use Rattle.grid_served.proofs.Choosing.{IsLeast, is_least, none_least, elder_other, none_any}
 use Rattle.grid_served.proofs.Entering.{both_only, both_other, first_enters, second_enters, filled_is, read_targets}
 

@@ -1,5 +1,5 @@
 -- Part (3) as a whole: the banks answer the reads of the oldest frame that the lane picks.
-use Rattle.std.proofs.Common.{◌≡◌, ℕ, zero, suc, ◌+◌, ◌%◌, ◌<◌, ◌≤◌, ◌&&◌, Bool, true, false, cond, nat_lt, List, ◌∷◌}
+use Rattle.std.proofs.Common.{◌≡◌, ℕ, zero, suc, ◌<◌, ◌&&◌, Bool, true, false, cond, nat_lt, List, ◌∷◌}
 use Rattle.std.proofs.Common.{refl, sym, ap, ◌∙◌, arith}
 use Rattle.std.proofs.Math.Path.{fun_ext}
 use Rattle.std.proofs.lemmas.Bool.{cond-false, and_parts, and_right, lt-ltb, le-ltb}
@@ -9,8 +9,7 @@ use Rattle.trips_isa.specs.Rule.{Answer}
 use Rattle.commit_flush_spec.specs.Frames.{Frame}
 use Rattle.commit_flush_spec.specs.Invariant.{AllGood}
 use Rattle.commit_flush_spec.specs.Laws.{WindowOk}
-use Rattle.commit_flush_spec.specs.Window.{Window}
-use Rattle.grid_cycle_spec.specs.Stations.{bank_of, banks}
+use Rattle.grid_cycle_spec.specs.Stations.{bank_of}
 use Rattle.grid_cycle_spec.specs.Grid.{Grid}
 use Rattle.grid_cycle_spec.specs.Choosing.{eldest, each, reads}
 use Rattle.grid_cycle_spec.specs.Banks.{answers_read, bank_turn, reads_answered}

@@ -1,14 +1,14 @@
 -- Part (1): the oldest frame stays as it is where it lacks an output; else its block is committed, or the run traps.
-use Rattle.std.proofs.Common.{◌≡◌, ℕ, suc, ◌+◌, ◌<◌, ◌==◌, ◌&&◌, ◌⊎◌, inl, inr, Bool, true, false, cond, not, nat_le}
-use Rattle.std.proofs.Common.{List, [], ◌∷◌, ◌++◌, length, Option, Some, None, refl, sym, ap, ap₂, ◌∙◌, subst, arith}
-use Rattle.std.proofs.lemmas.Bool.{cond_both, cond-true, cond-false, cases_Bool, both_ways, and_right, false_from_ne_true}
+use Rattle.std.proofs.Common.{◌≡◌, ℕ, suc, ◌<◌, ◌==◌, ◌&&◌, inl, inr, Bool, true, false, cond, not, nat_le}
+use Rattle.std.proofs.Common.{List, [], ◌∷◌, length, Option, Some, None, refl, sym, ap, ap₂, ◌∙◌, subst, arith}
+use Rattle.std.proofs.lemmas.Bool.{cond_both, cond-true, cond-false, both_ways, and_right, false_from_ne_true}
 use Rattle.std.proofs.lemmas.Bool.{lt-leb}
 use Rattle.trips_isa.specs.declared.block.Block.{Block}
 use Rattle.trips_isa.specs.declared.run.Traced.{Traced}
 use Rattle.trips_isa.specs.declared.run.Stepped.{Stepped}
 use Rattle.trips_isa.specs.declared.run.Stepped.TheVariants as stepped
 use Rattle.trips_isa.specs.Outcomes.{Outcome, Comes, Faults, unless}
-use Rattle.trips_isa.specs.Machine.{State, apply}
+use Rattle.trips_isa.specs.Machine.{State}
 use Rattle.operand_net.specs.declared.parcel.Stand.TheVariants.{Nowhere}
 use Rattle.commit_flush_spec.specs.Causes.{NoFrame, Missing, Unsealed, Spent, Happened, Done, NotNow, judged}
 use Rattle.commit_flush_spec.specs.Frames.{Frame, Exit}
@@ -24,13 +24,13 @@ use Rattle.commit_flush_spec.proofs.Events.{taken}
 use Rattle.window_progress.proofs.Frames.{change_oldest}
 use Rattle.window_progress.proofs.Next.{at_oldest}
 use Rattle.grid_cycle_spec.specs.Grid.{Grid, numbers_of, forget}
-use Rattle.grid_cycle_spec.specs.Acting.{is_done, may, flushed, settled}
-use Rattle.grid_cycle_spec.specs.Ends.{seal_one, seal_each, one_committed, learning, committed_as, commit_in}
+use Rattle.grid_cycle_spec.specs.Acting.{is_done, may}
+use Rattle.grid_cycle_spec.specs.Ends.{seal_one, seal_each, learning, committed_as, commit_in}
 use Rattle.grid_cycle_spec.specs.Ends.{commit_oldest, ends}
 use Rattle.grid_cycle_bound.proofs.Programs.{applied_trace, length_more}
 use Rattle.grid_served.specs.Behind.{Apart, Behind}
 use Rattle.grid_served.specs.Shows.{Commits}
-use Rattle.grid_served.proofs.Ahead.{same_number, younger_apart, event_leads}
+use Rattle.grid_served.proofs.Ahead.{younger_apart, event_leads}
 use Rattle.grid_served.proofs.Others.{behind_at, windowed}
 
 -- tests --------------------------------------------------------------------------------------------

@@ -1,16 +1,14 @@
 -- The tokens of a node enter the mesh as the lane has them: from the node at which they enter to where they are used.
-use Rattle.std.proofs.Common.{◌≡◌, ◌≢◌, ℕ, zero, suc, ◌+◌, ◌*◌, ◌%◌, ◌<◌, ◌==◌, ◌&&◌, ◌⊎◌, inl, inr, Bool, true, false}
-use Rattle.std.proofs.Common.{cond, List, Option, Some, None, is_some, slice_get, slice_index, length, refl, sym, ap, ap₂}
+use Rattle.std.proofs.Common.{◌≡◌, ◌≢◌, ℕ, suc, ◌+◌, ◌*◌, ◌%◌, ◌<◌, ◌==◌, ◌&&◌, ◌⊎◌, inl, inr, Bool, true, false}
+use Rattle.std.proofs.Common.{cond, Option, Some, None, is_some, slice_get, slice_index, refl, sym, ap, ap₂}
 use Rattle.std.proofs.Common.{◌∙◌, arith}
 use Rattle.std.proofs.lemmas.Bool.Decides.{nat_tests}
-use Rattle.std.proofs.lemmas.Bool.{ne_eqb, eq-eqb, cond-true, cond-false, true_from_ne_false}
-use Rattle.trips_isa.specs.declared.block.Token.{Token}
+use Rattle.std.proofs.lemmas.Bool.{ne_eqb, eq-eqb, cond-false}
 use Rattle.trips_isa.specs.declared.block.Inst.{Inst}
 use Rattle.trips_isa.specs.declared.block.ReadSlot.{ReadSlot}
 use Rattle.trips_isa.specs.declared.block.Block.{Block}
 use Rattle.trips_isa.specs.Forms.{form_of}
 use Rattle.trips_isa.specs.Places.{nodes_of, place_of, place_at, first_place}
-use Rattle.trips_isa.specs.Rule.{Answer}
 use Rattle.block_cases.specs.Orders.{slot_of}
 use Rattle.operand_net.specs.declared.parcel.Stand.{Stand}
 use Rattle.operand_net.specs.declared.parcel.Stand.TheVariants.{Nowhere}
@@ -21,7 +19,6 @@ use Rattle.window_progress.proofs.Producers.{node_of_slot, node_of_read}
 use Rattle.grid_cycle_spec.specs.Stations.{home}
 use Rattle.grid_cycle_spec.specs.Grid.{Grid}
 use Rattle.grid_cycle_spec.specs.Sending.{enters, enters_if, enter_both}
-use Rattle.grid_cycle_bound.specs.Course.{Target}
 use Rattle.grid_cycle_bound.specs.Sending.{parcel, launch}
 use Rattle.grid_cycle_bound.specs.Blocks.{target_at}
 use Rattle.grid_served.proofs.Ahead.{same_number}

@@ -1,7 +1,7 @@
 -- Part (2): with a frame in flight the oldest one stays as it is; without one the fetch of the next block goes on.
-use Rattle.std.proofs.Common.{◌≡◌, ◌≢◌, ℕ, zero, suc, ◌+◌, ◌-◌, ◌^◌, ◌<◌, ◌≤◌, ◌==◌, ◌&&◌, ◌||◌, ◌⊎◌, inl, inr, Bool, true, false, cond}
-use Rattle.std.proofs.Common.{not, nat_lt, List, [], ◌∷◌, ◌++◌, length, Option, Some, None, is_none, is_some, slice_get}
-use Rattle.std.proofs.Common.{slice_index, slice_index_or, slice_set, get_or, refl, sym, ap, ap₂, ◌∙◌, subst, arith}
+use Rattle.std.proofs.Common.{◌≡◌, ℕ, zero, suc, ◌+◌, ◌-◌, ◌^◌, ◌<◌, ◌==◌, ◌&&◌, ◌⊎◌, inl, inr, Bool, true, false, cond}
+use Rattle.std.proofs.Common.{not, nat_lt, List, [], ◌∷◌, ◌++◌, Option, Some, None, is_none, is_some, slice_get}
+use Rattle.std.proofs.Common.{slice_index, slice_index_or, slice_set, refl, sym, ap, ap₂, ◌∙◌, subst, arith}
 use Rattle.std.proofs.Math.Path.{fun_ext}
 use Rattle.std.proofs.lemmas.Bool.{cond_both, cond-true, cond-false, or_parts, eqb-false, ne_eqb, eq-eqb}
 use Rattle.std.proofs.lemmas.List.{get_or-set_other}
@@ -14,8 +14,7 @@ use Rattle.trips_isa.specs.Rule.{Answer}
 use Rattle.block_cases.specs.Orders.{slot_of}
 use Rattle.block_predict.specs.Predicts.{predicted}
 use Rattle.commit_flush_spec.specs.Causes.{NoFrame, NoBlock, Worn, Serial, Wrong, Happened, Done, NotNow, judged}
-use Rattle.commit_flush_spec.specs.Frames.{Frame, Exit, at, blank, fresh, unset}
-use Rattle.commit_flush_spec.specs.Frames as frames
+use Rattle.commit_flush_spec.specs.Frames.{Frame, Exit, at, fresh, unset}
 use Rattle.commit_flush_spec.specs.Older.{after_all, committed, follows}
 use Rattle.commit_flush_spec.specs.Window.{Window, can, can_fetch, can_now, done, happens, unless_over, in_flight}
 use Rattle.commit_flush_spec.specs.Window.{lowest_empty, is_worn, fetched}

@@ -1,9 +1,9 @@
 -- Part (5), results, as a whole: what tile k's unit does to the oldest frame before it issues.
-use Rattle.std.proofs.Common.{◌≡◌, ◌≢◌, ℕ, zero, suc, ◌+◌, ◌*◌, ◌-◌, ◌<◌, ◌≤◌, ◌==◌, ◌&&◌, ◌⊎◌, inl, inr, Bool, true}
-use Rattle.std.proofs.Common.{false, cond, nat_lt, List, [], ◌∷◌, Option, Some, None, slice_index, refl, sym, ap, ap₂, ◌∙◌}
+use Rattle.std.proofs.Common.{◌≡◌, ◌≢◌, ℕ, zero, suc, ◌*◌, ◌-◌, ◌≤◌, ◌==◌, ◌⊎◌, inl, inr, Bool, true}
+use Rattle.std.proofs.Common.{false, cond, List, [], ◌∷◌, Option, Some, None, slice_index, refl, sym, ap, ap₂, ◌∙◌}
 use Rattle.std.proofs.Common.{subst, arith}
-use Rattle.std.proofs.lemmas.Bool.{cond_both, cond-true, cond-false, and_from, and_parts, both_ways, cases_eq, eqb-true}
-use Rattle.std.proofs.lemmas.Bool.{eq-eqb, ne_eqb}
+use Rattle.std.proofs.lemmas.Bool.{cond_both, cond-true, and_from, and_parts, both_ways, cases_eq, eqb-true}
+use Rattle.std.proofs.lemmas.Bool.{eq-eqb}
 use Rattle.trips_isa.specs.declared.block.Inst.{Inst}
 use Rattle.trips_isa.specs.declared.block.Block.{Block}
 use Rattle.trips_isa.specs.declared.form.Form.{Form}
@@ -21,13 +21,12 @@ use Rattle.grid_cycle_spec.specs.Choosing.{least, eldest, found_in, slots, with_
 use Rattle.grid_cycle_spec.specs.Units.{result_enters, slot_enters, rests, result_chosen, in_unit, unit_on}
 use Rattle.grid_cycle_bound.specs.Course.{Course, Task}
 use Rattle.grid_cycle_bound.specs.Lane.{Phase, Working, Front}
-use Rattle.grid_cycle_bound.specs.Sending.{result, tile_of as lane_tile}
+use Rattle.grid_cycle_bound.specs.Sending.{tile_of as lane_tile}
 use Rattle.grid_cycle_bound.specs.Turning.{finished}
-use Rattle.grid_cycle_bound.specs.Blocks.{slot_tasks, course_of}
+use Rattle.grid_cycle_bound.specs.Blocks.{course_of}
 use Rattle.grid_cycle_bound.specs.Seen.{phase_of, front_of}
-use Rattle.grid_cycle_bound.proofs.Sizes.{slot_tasks_is}
 use Rattle.grid_served.specs.Behind.{Behind}
-use Rattle.grid_served.specs.UnitRule.{InUnit, UnitRule}
+use Rattle.grid_served.specs.UnitRule.{UnitRule}
 use Rattle.grid_served.proofs.Ahead.{same_number, younger_apart}
 use Rattle.grid_served.proofs.Others.{behind_at, result_other}
 use Rattle.grid_served.proofs.Fronts.{front_behind}

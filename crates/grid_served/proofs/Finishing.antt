@@ -1,11 +1,9 @@
 -- Part (5), results: a unit whose time is over gives the result that it has of the oldest frame.
-use Rattle.std.proofs.Common.{◌≡◌, ◌≢◌, ℕ, zero, suc, ◌+◌, ◌*◌, ◌-◌, ◌<◌, ◌≤◌, ◌==◌, ◌&&◌, ◌⊎◌, inl, inr, Bool, true}
+use Rattle.std.proofs.Common.{◌≡◌, ◌≢◌, ℕ, suc, ◌*◌, ◌-◌, ◌<◌, ◌==◌, ◌&&◌, Bool, true}
 use Rattle.std.proofs.Common.{false, cond, nat_lt, List, ◌∷◌, length, Option, Some, None, is_some, slice_get, slice_index}
-use Rattle.std.proofs.Common.{slice_index_or, refl, sym, ap, ap₂, ◌∙◌, subst, arith}
-use Rattle.std.proofs.Math.Path.{fun_ext}
-use Rattle.std.proofs.lemmas.Bool.{cond-true, cond-false, and_from, and_parts, and_left, and_right, both_ways, cases_eq}
-use Rattle.std.proofs.lemmas.Bool.{cases_lt, cases_Bool, ltb-true, lt-ltb, le-ltb, eqb-true, eqb-false, eq-eqb, ne_eqb}
-use Rattle.trips_isa.specs.declared.block.Token.{Token}
+use Rattle.std.proofs.Common.{slice_index_or, refl, sym, ap, ap₂, ◌∙◌, arith}
+use Rattle.std.proofs.lemmas.Bool.{cond-true, cond-false, and_from, and_right}
+use Rattle.std.proofs.lemmas.Bool.{ltb-true, eq-eqb, ne_eqb}
 use Rattle.trips_isa.specs.declared.block.Inst.{Inst}
 use Rattle.trips_isa.specs.declared.block.ReadSlot.{ReadSlot}
 use Rattle.trips_isa.specs.declared.block.Block.{Block}
@@ -19,7 +17,7 @@ use Rattle.trips_isa.specs.Blocks.{at_place}
 use Rattle.block_cases.specs.Orders.{slot_of}
 use Rattle.operand_net.specs.declared.parcel.Stand.{Stand}
 use Rattle.operand_net.specs.declared.parcel.Stand.TheVariants.{Nowhere}
-use Rattle.commit_flush_spec.specs.Frames.{Frame, at, target, is_target, slot_node}
+use Rattle.commit_flush_spec.specs.Frames.{Frame, at, target, is_target}
 use Rattle.commit_flush_spec.specs.Older.{committed}
 use Rattle.commit_flush_spec.specs.Window.{Window}
 use Rattle.commit_flush_spec.specs.Invariant.{AllGood, FrameOk}
@@ -29,25 +27,22 @@ use Rattle.commit_flush_spec.proofs.Tokens.{inst_in}
 use Rattle.grid_cycle_spec.specs.Stations.{control, data_node, tile_node, tile_of}
 use Rattle.grid_cycle_spec.specs.Grid.{Grid}
 use Rattle.grid_cycle_spec.specs.Arrivals.{is_waiting}
-use Rattle.grid_cycle_spec.specs.Choosing.{least, eldest, found_in, slots, with_frame}
+use Rattle.grid_cycle_spec.specs.Choosing.{slots}
 use Rattle.grid_cycle_spec.specs.DataTiles.{tile_by}
 use Rattle.grid_cycle_spec.specs.Sending.{enters, enter_both}
-use Rattle.grid_cycle_spec.specs.Units.{result_enters, slot_enters, rests, result_chosen, in_unit, unit_on}
+use Rattle.grid_cycle_spec.specs.Units.{result_enters, slot_enters, rests}
 use Rattle.grid_cycle_bound.specs.Course.{Kind, Course, Task, Plain, Serving}
 use Rattle.grid_cycle_bound.specs.Course as course
 use Rattle.grid_cycle_bound.specs.Lane.{Phase, Absent, Idle, Working, Asking, Standing, Sent, Front}
-use Rattle.grid_cycle_bound.specs.Sending.{parcel, launch, result, sent_from, tile_of as lane_tile}
+use Rattle.grid_cycle_bound.specs.Sending.{parcel, launch, result, sent_from}
 use Rattle.grid_cycle_bound.specs.Turning.{finished}
 use Rattle.grid_cycle_bound.specs.Blocks.{slot_tasks, kind_of, first_of, slot_task, target_at, course_of}
 use Rattle.grid_cycle_bound.specs.Seen.{slot_phase, read_phase, phase_of, front_of}
 use Rattle.grid_cycle_bound.proofs.Sizes.{slot_tasks_is, slot_is}
-use Rattle.grid_served.specs.Behind.{Behind}
 use Rattle.grid_served.specs.UnitRule.{ResultOf, InUnit, UnitRule}
-use Rattle.grid_served.proofs.Ahead.{same_number, younger_apart}
-use Rattle.grid_served.proofs.Others.{behind_at, result_other}
+use Rattle.grid_served.proofs.Ahead.{same_number}
 use Rattle.grid_served.proofs.Ended.{oldest_ok}
-use Rattle.grid_served.proofs.Fronts.{front_behind, left_unit, slot_far, slot_phase_is, SameTask, task_same, at_slot}
-use Rattle.grid_served.proofs.Choosing.{IsLeast, is_least, none_least, elder_other}
+use Rattle.grid_served.proofs.Fronts.{left_unit, slot_far, slot_phase_is, task_same, at_slot}
 use Rattle.grid_served.proofs.Entering.{born, one_entered, both_only, both_other, first_enters, second_enters}
 use Rattle.grid_served.proofs.Entering.{slot_targets}
 

@@ -11,7 +11,7 @@ use Rattle.commit_flush_spec.specs.Frames.{Frame, at}
 use Rattle.grid_cycle_spec.specs.Grid.{Grid}
 use Rattle.grid_cycle_spec.specs.Arrivals.{is_waiting}
 use Rattle.grid_cycle_bound.specs.Course.{Kind, Reading, Plain, Serving, Course}
-use Rattle.grid_cycle_bound.specs.Lane.{Phase, Absent, Idle, Working, Asking, Standing, Sent, Front}
+use Rattle.grid_cycle_bound.specs.Lane.{Phase, Idle, Working, Asking, Standing, Sent, Front}
 use Rattle.grid_cycle_bound.specs.Blocks.{slot_tasks, kind_of}
 use Rattle.grid_cycle_bound.specs.Seen.{after_unit, slot_phase, read_phase, phase_of, has_come, front_of}
 use Rattle.grid_served.specs.Behind.{Behind}

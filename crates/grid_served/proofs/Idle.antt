@@ -1,14 +1,14 @@
 -- Without a frame in flight banks, data tiles and arrivals do nothing, and units only have less to do.
-use Rattle.std.proofs.Common.{◌≡◌, ℕ, zero, suc, ◌+◌, ◌-◌, ◌<◌, ◌≤◌, ◌==◌, ◌⊎◌, inl, inr, Bool, true, false, cond, nat_lt}
-use Rattle.std.proofs.Common.{List, [], ◌∷◌, Option, Some, None, refl, sym, ap, ap₂, ◌∙◌, subst, arith}
+use Rattle.std.proofs.Common.{◌≡◌, ℕ, zero, suc, ◌-◌, ◌<◌, ◌≤◌, ◌==◌, ◌⊎◌, inl, inr, cond, nat_lt}
+use Rattle.std.proofs.Common.{List, [], refl, sym, ap, ◌∙◌, arith}
 use Rattle.std.proofs.Math.Path.{fun_ext}
-use Rattle.std.proofs.lemmas.Bool.{cond_both, cond-true, cond-false, cases_eq, cases_lt, lt-ltb, le-ltb, eqb-true, eq-eqb}
+use Rattle.std.proofs.lemmas.Bool.{cond_both, cond-true, cond-false, cases_eq, cases_lt, lt-ltb, le-ltb, eq-eqb}
 use Rattle.std.proofs.lemmas.Bool.{ne_eqb}
 use Rattle.trips_isa.specs.declared.block.Block.{Block}
 use Rattle.grid_cycle_spec.specs.Grid.{Grid}
-use Rattle.grid_cycle_spec.specs.Banks.{answers_read, read_chosen, bank_turn, reads_answered}
+use Rattle.grid_cycle_spec.specs.Banks.{answers_read, read_chosen, bank_turn}
 use Rattle.grid_cycle_spec.specs.Choosing.{eldest, each, reads, slots}
-use Rattle.grid_cycle_spec.specs.Units.{in_unit, result_chosen, unit_on, issue_chosen, issues, unit_turn, works_on, ready}
+use Rattle.grid_cycle_spec.specs.Units.{in_unit, result_chosen, unit_on, issue_chosen, issues, unit_turn, ready}
 use Rattle.grid_served.proofs.Finished.{units_on}
 
 module _ {W : Type 0} (blocks : List Block) (budget : ℕ) where

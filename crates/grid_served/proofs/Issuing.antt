@@ -1,11 +1,11 @@
 -- Part (5), issues: a free unit issues the lowest ready entry of the oldest frame on its tile, else one of another frame.
-use Rattle.std.proofs.Common.{◌≡◌, ◌≢◌, ℕ, zero, suc, ◌+◌, ◌*◌, ◌-◌, ◌<◌, ◌≤◌, ◌==◌, ◌&&◌, ◌||◌, ◌⊎◌, inl, inr, Bool}
-use Rattle.std.proofs.Common.{true, false, cond, not, nat_lt, List, [], ◌∷◌, length, Option, Some, None, is_some}
-use Rattle.std.proofs.Common.{slice_get, slice_index, slice_index_or, set, get_or, refl, sym, ap, ap₂, ◌∙◌, subst, arith}
+use Rattle.std.proofs.Common.{◌≡◌, ◌≢◌, ℕ, suc, ◌+◌, ◌*◌, ◌-◌, ◌<◌, ◌≤◌, ◌==◌, ◌&&◌, ◌||◌, ◌⊎◌, inl, inr, Bool}
+use Rattle.std.proofs.Common.{true, false, cond, not, List, [], ◌∷◌, length, Option, Some, None}
+use Rattle.std.proofs.Common.{slice_get, slice_index, slice_index_or, refl, sym, ap, ap₂, ◌∙◌, subst, arith}
 use Rattle.std.proofs.Common.{true≢false}
 use Rattle.std.proofs.lemmas.Bool.{cond_both, cond-true, cond-false, and_from, and_parts, and_left, and_right, both_ways}
-use Rattle.std.proofs.lemmas.Bool.{cases_eq, cases_lt, cases_Bool, lt-ltb, le-ltb, eqb-true, eqb-false, eq-eqb, ne_eqb}
-use Rattle.std.proofs.lemmas.Bool.{not_from_false, not-true, or_left, or_right, false_from_ne_true}
+use Rattle.std.proofs.lemmas.Bool.{cases_eq, cases_lt, eqb-true, eq-eqb, ne_eqb}
+use Rattle.std.proofs.lemmas.Bool.{not_from_false, not-true, or_left, false_from_ne_true}
 use Rattle.std.proofs.lemmas.List.{get_or-set_other}
 use Rattle.trips_isa.specs.declared.block.Inst.{Inst}
 use Rattle.trips_isa.specs.declared.block.ReadSlot.{ReadSlot}
@@ -15,7 +15,7 @@ use Rattle.trips_isa.specs.Forms.{form_of}
 use Rattle.trips_isa.specs.Rule.{Answer}
 use Rattle.trips_isa.specs.Blocks.{Responses, Solves, at_place}
 use Rattle.block_cases.specs.Orders.{slot_of}
-use Rattle.commit_flush_spec.specs.Causes.{NoFrame, Happened, Done, NotNow}
+use Rattle.commit_flush_spec.specs.Causes.{NoFrame, Done, NotNow}
 use Rattle.commit_flush_spec.specs.Frames.{Frame, Exit, at}
 use Rattle.trips_isa.specs.declared.block.Stored.{Stored}
 use Rattle.commit_flush_spec.specs.Older.{committed}
@@ -33,14 +33,13 @@ use Rattle.window_progress.proofs.Bits.{ready_tells}
 use Rattle.window_progress.proofs.Search.{done_is}
 use Rattle.window_progress.proofs.Frames.{change_oldest}
 use Rattle.grid_cycle_spec.specs.Stations.{tile_of}
-use Rattle.grid_cycle_spec.specs.Costs.{latency}
 use Rattle.grid_cycle_spec.specs.Grid.{Grid}
 use Rattle.grid_cycle_spec.specs.Acting.{is_done, may}
 use Rattle.grid_cycle_spec.specs.Arrivals.{is_waiting}
 use Rattle.grid_cycle_spec.specs.Choosing.{least, eldest, found_in, slots, with_frame}
 use Rattle.grid_cycle_spec.specs.Units.{takes, issued, issue_chosen, issues, ready as unit_ready}
 use Rattle.grid_cycle_bound.specs.Course.{Course, Task, is_reading}
-use Rattle.grid_cycle_bound.specs.Lane.{any, Phase, Working, Front, is_idle, unissued, ready}
+use Rattle.grid_cycle_bound.specs.Lane.{any, Working, Front, is_idle, unissued, ready}
 use Rattle.grid_cycle_bound.specs.Sending.{tile_of as lane_tile}
 use Rattle.grid_cycle_bound.specs.Blocks.{slot_tasks, kind_of, slot_task, read_task, course_of}
 use Rattle.grid_cycle_bound.specs.Seen.{slot_phase, read_phase, phase_of, has_come, front_of}
@@ -51,7 +50,7 @@ use Rattle.grid_served.specs.Behind.{Behind}
 use Rattle.grid_served.proofs.Ahead.{same_number, younger_apart}
 use Rattle.grid_served.proofs.Others.{behind_at, issue_other}
 use Rattle.grid_served.proofs.Ended.{asks_oldest, oldest_ok}
-use Rattle.grid_served.proofs.Fronts.{front_behind, slot_far, slot_phase_is, SameTask, task_same, at_slot, at_read}
+use Rattle.grid_served.proofs.Fronts.{front_behind, slot_far, slot_phase_is, task_same, at_slot, at_read}
 use Rattle.grid_served.proofs.Choosing.{IsLeast, is_least, none_least, elder_other, none_any}
 use Rattle.grid_served.proofs.Banked.{same_done}
 use Rattle.grid_served.proofs.Finishing.{slots_are}

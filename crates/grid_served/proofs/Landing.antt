@@ -1,20 +1,19 @@
 -- Parcels that come to their end in a tick, and the tokens that they are.
-use Rattle.std.proofs.Common.{◌≡◌, ◌≢◌, ℕ, zero, suc, ◌+◌, ◌*◌, ◌-◌, ◌/◌, ◌%◌, ◌<◌, ◌≤◌, ◌==◌, ◌&&◌, ◌||◌, ◌⊎◌, inl, inr}
+use Rattle.std.proofs.Common.{◌≡◌, ◌≢◌, ℕ, zero, suc, ◌*◌, ◌-◌, ◌<◌, ◌==◌, ◌&&◌, ◌||◌, ◌⊎◌, inl, inr}
 use Rattle.std.proofs.Common.{Bool, true, false, cond, not, nat_lt, List, Option, Some, None, is_some, set, length, refl}
 use Rattle.std.proofs.Common.{sym, ap, ap₂, ◌∙◌, subst, arith, true≢false}
-use Rattle.std.proofs.lemmas.Bool.{cond_both, cond-true, cond-false, cases_eq, lt-ltb, le-ltb, ltb-true, ltb-false, ne_eqb}
+use Rattle.std.proofs.lemmas.Bool.{cond_both, cond-true, cases_eq, ltb-true, ne_eqb}
 use Rattle.std.proofs.lemmas.Bool.{eq-eqb, or_right}
 use Rattle.operand_net.specs.declared.parcel.Stand.{Stand}
 use Rattle.operand_net.specs.declared.parcel.Stand.TheVariants.{Nowhere, Away, Held}
 use Rattle.operand_net.specs.declared.parcel.Trip.{Trip}
 use Rattle.operand_net.specs.Tick.{link_of, next_of, ticked, any_wants, is_free, wants}
 use Rattle.trips_isa.specs.declared.block.Token.{Token}
-use Rattle.trips_isa.specs.declared.block.Block.{Block}
 use Rattle.trips_isa.specs.Rule.{Answer}
 use Rattle.commit_flush_spec.specs.Frames.{Frame, Exit, at, is_target}
 use Rattle.commit_flush_spec.proofs.Lists.{other_at, set_here}
-use Rattle.grid_cycle_bound.specs.Course.{Target, Task}
-use Rattle.grid_cycle_bound.specs.Lane.{any, Phase, Absent, Idle, Working, Asking, Standing, Sent}
+use Rattle.grid_cycle_bound.specs.Course.{Target}
+use Rattle.grid_cycle_bound.specs.Lane.{any}
 use Rattle.grid_cycle_bound.specs.Answering.{hits}
 use Rattle.grid_cycle_bound.specs.Moving.{taken, is_nowhere, landed}
 use Rattle.grid_cycle_bound.specs.Seen.{has_come}

@@ -1,26 +1,24 @@
 -- Part (4), loads: a load of the oldest frame is answered, and its tokens enter the mesh at the data tile.
-use Rattle.std.proofs.Common.{◌≡◌, ◌≢◌, ℕ, suc, ◌+◌, ◌*◌, ◌<◌, ◌==◌, ◌&&◌, ◌||◌, ◌⊎◌, inl, inr, Bool, true, false, cond}
-use Rattle.std.proofs.Common.{not, List, [], ◌∷◌, length, Option, Some, None, is_some, slice_index, slice_index_or, set}
-use Rattle.std.proofs.Common.{refl, sym, ap, ap₂, ◌∙◌, subst, arith}
+use Rattle.std.proofs.Common.{◌≡◌, ◌≢◌, ℕ, suc, ◌*◌, ◌<◌, ◌==◌, ◌&&◌, ◌||◌, ◌⊎◌, inl, inr, Bool, true, false}
+use Rattle.std.proofs.Common.{not, List, [], ◌∷◌, Some, None, is_some, slice_index, slice_index_or, set}
+use Rattle.std.proofs.Common.{refl, sym, ap, ap₂, ◌∙◌, subst}
 use Rattle.std.proofs.Math.Path.{fun_ext}
 use Rattle.std.proofs.lemmas.Bool.{cond-true, cond-false, and_right, both_ways, cases_eq, ne_eqb}
 use Rattle.trips_isa.specs.declared.block.Token.{Token}
 use Rattle.trips_isa.specs.declared.block.Inst.{Inst}
 use Rattle.trips_isa.specs.declared.block.Block.{Block}
-use Rattle.trips_isa.specs.declared.form.Form.{Form}
 use Rattle.trips_isa.specs.declared.form.Form.TheVariants as form
 use Rattle.trips_isa.specs.declared.run.Stepped.TheVariants as stepped
 use Rattle.trips_isa.specs.Forms.{form_of, is_load, is_store}
-use Rattle.trips_isa.specs.Places.{place_at, first_place}
+use Rattle.trips_isa.specs.Places.{first_place}
 use Rattle.trips_isa.specs.Rule.{Answer}
 use Rattle.trips_isa.specs.Blocks.{at_place}
 use Rattle.block_cases.specs.Orders.{slot_of}
-use Rattle.operand_net.specs.declared.parcel.Stand.TheVariants.{Nowhere}
 use Rattle.commit_flush_spec.specs.Causes.{NoFrame, NoRequest, Done, NotNow, judged}
 use Rattle.commit_flush_spec.specs.Frames.{Frame, Taken, at, target, is_target, slot_node}
-use Rattle.commit_flush_spec.specs.Older.{Older, committed}
+use Rattle.commit_flush_spec.specs.Older.{Older}
 use Rattle.commit_flush_spec.specs.Sending.{send, token_with}
-use Rattle.commit_flush_spec.specs.Memory.{request, is_request, can_load, load, load_answered, taken_of, taken_word}
+use Rattle.commit_flush_spec.specs.Memory.{is_request, can_load, load, load_answered, taken_of, taken_word}
 use Rattle.commit_flush_spec.specs.Invariant.{AllGood, FrameOk, has_sent, inst_sent}
 use Rattle.commit_flush_spec.specs.Laws.{WindowOk}
 use Rattle.commit_flush_spec.specs.Window.{Window, alone, change, can, can_now, unless_over, done, happens}
@@ -38,11 +36,11 @@ use Rattle.grid_cycle_spec.specs.Choosing.{with_frame}
 use Rattle.grid_cycle_spec.specs.Sending.{enter_both}
 use Rattle.grid_cycle_spec.specs.DataTiles.{tile_by, unasked}
 use Rattle.grid_cycle_spec.specs.DataTiles as tiles
-use Rattle.grid_cycle_bound.specs.Course.{Kind, Course, Task, Serving}
-use Rattle.grid_cycle_bound.specs.Lane.{Phase, Sent, Front}
+use Rattle.grid_cycle_bound.specs.Course.{Course, Task}
+use Rattle.grid_cycle_bound.specs.Lane.{Sent, Front}
 use Rattle.grid_cycle_bound.specs.Sending.{launch, sent_from}
 use Rattle.grid_cycle_bound.specs.Answering.{settled, resolves, answer_one}
-use Rattle.grid_cycle_bound.specs.Blocks.{slot_tasks, kind_of, first_of, slot_task, target_at, course_of}
+use Rattle.grid_cycle_bound.specs.Blocks.{kind_of, first_of, slot_task, target_at}
 use Rattle.grid_cycle_bound.specs.Seen.{slot_phase, phase_of, has_come, front_of}
 use Rattle.grid_served.specs.DataRule.{DataRule}
 use Rattle.grid_served.proofs.Ahead.{same_number}

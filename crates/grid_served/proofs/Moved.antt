@@ -1,10 +1,10 @@
 -- Part (6) as a whole: the parcels of the oldest frame move as the lane's do, and what other frames are delivered it does
 -- not see.
 use Rattle.std.proofs.Common.{◌≡◌, ◌≢◌, ℕ, zero, suc, ◌+◌, ◌*◌, ◌-◌, ◌/◌, ◌%◌, ◌<◌, ◌≤◌, ◌==◌, ◌&&◌, ◌||◌, ◌⊎◌, inl, inr}
-use Rattle.std.proofs.Common.{Bool, true, false, cond, not, nat_lt, List, [], ◌∷◌, length, Option, Some, None, slice_get}
+use Rattle.std.proofs.Common.{Bool, true, false, nat_lt, List, [], ◌∷◌, length, Option, Some, None, slice_get}
 use Rattle.std.proofs.Common.{slice_index, slice_index_or, refl, sym, ap, ap₂, ◌∙◌, subst, arith}
 use Rattle.std.proofs.Math.Path.{fun_ext}
-use Rattle.std.proofs.lemmas.Bool.{cond-true, cond-false, cases_Bool, cases_lt, lt-ltb, le-ltb, ltb-true, ltb-false}
+use Rattle.std.proofs.lemmas.Bool.{cond-true, cond-false, cases_lt, lt-ltb, le-ltb}
 use Rattle.std.proofs.lemmas.Bool.{eq-eqb, ne_eqb}
 use Rattle.trips_isa.specs.declared.block.Inst.{Inst}
 use Rattle.trips_isa.specs.declared.block.ReadSlot.{ReadSlot}
@@ -27,7 +27,7 @@ use Rattle.commit_flush_spec.proofs.Tokens as tokens
 use Rattle.grid_cycle_spec.specs.Grid.{Grid, numbers_of}
 use Rattle.grid_cycle_spec.specs.Arrivals.{is_waiting, arrival, arrivals}
 use Rattle.grid_cycle_spec.specs.Choosing.{each, places}
-use Rattle.grid_cycle_bound.specs.Course.{Kind, Reading, Plain, Serving, Course, Task}
+use Rattle.grid_cycle_bound.specs.Course.{Kind, Reading, Plain, Serving, Course}
 use Rattle.grid_cycle_bound.specs.Lane.{any, Phase, Absent, Idle, Working, Asking, Standing, Sent, Front, first_parcel}
 use Rattle.grid_cycle_bound.specs.Lane.{second_parcel}
 use Rattle.grid_cycle_bound.specs.Sending.{none_busy}
@@ -42,11 +42,11 @@ use Rattle.grid_served.specs.MoveRule.{Travels, MoveRule}
 use Rattle.grid_served.proofs.Ahead.{younger_apart}
 use Rattle.grid_served.proofs.Steady.{Onward, then_onward, steady}
 use Rattle.grid_served.proofs.Walk.{each_keeps, comes_keeps}
-use Rattle.grid_served.proofs.Others.{behind_at, behind_then, arrival_other}
+use Rattle.grid_served.proofs.Others.{behind_at, arrival_other}
 use Rattle.grid_served.proofs.Ended.{oldest_ok}
 use Rattle.grid_served.proofs.Fronts.{front_behind, left_unit, slot_far, slot_phase_is, far_same, same_front, at_slot, at_read}
-use Rattle.grid_served.proofs.Landing.{due, due_is, not_taken, ticked_there, there_is, not_there, free_same, any_pairs}
-use Rattle.grid_served.proofs.Arriving.{land_first, land_second, AtPlace, T, part, lands}
+use Rattle.grid_served.proofs.Landing.{due, ticked_there, there_is, not_there, free_same, any_pairs}
+use Rattle.grid_served.proofs.Arriving.{land_first, land_second, AtPlace, T, lands}
 use Rattle.grid_served.proofs.Arrived.{place_turns}
 
 places_are : places ≡ 320

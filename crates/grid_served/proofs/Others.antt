@@ -1,7 +1,7 @@
 -- What other frames do, the oldest frame does not see.
-use Rattle.std.proofs.Common.{◌≡◌, ℕ, zero, suc, ◌+◌, ◌*◌, ◌/◌, ◌<◌, ◌==◌, ◌&&◌, ◌||◌, Bool, true, false, cond, nat_lt}
+use Rattle.std.proofs.Common.{◌≡◌, ℕ, zero, suc, ◌+◌, ◌*◌, ◌/◌, ◌<◌, ◌==◌, ◌&&◌, ◌||◌, Bool, false, cond, nat_lt}
 use Rattle.std.proofs.Common.{List, [], ◌∷◌, Option, Some, None, length, drop, is_some, slice_index, refl, sym, ap, ap₂}
-use Rattle.std.proofs.Common.{◌∙◌, subst}
+use Rattle.std.proofs.Common.{◌∙◌}
 use Rattle.std.proofs.lemmas.Bool.{cond_both, or_from}
 use Rattle.trips_isa.specs.declared.block.Block.{Block}
 use Rattle.trips_isa.specs.declared.block.Inst.{Inst}
@@ -12,7 +12,7 @@ use Rattle.block_cases.specs.Orders.{slot_of}
 use Rattle.operand_net.specs.declared.parcel.Parcel.{Parcel}
 use Rattle.operand_net.specs.declared.parcel.Stand.{Stand}
 use Rattle.operand_net.specs.declared.parcel.Stand.TheVariants.{Nowhere, Away, Held}
-use Rattle.operand_net.specs.Places.{Places, put, come, without}
+use Rattle.operand_net.specs.Places.{Places, put, come}
 use Rattle.commit_flush_spec.specs.Frames.{Frame, at, target, first_read_place, token_places}
 use Rattle.commit_flush_spec.specs.Memory.{request}
 use Rattle.commit_flush_spec.specs.Window.{Window, Event, happens}
@@ -27,7 +27,7 @@ use Rattle.grid_cycle_spec.specs.Banks.{read_chosen}
 use Rattle.grid_cycle_spec.specs.DataTiles.{tile_by, unasked, load_answered, waits_now, wrong_load, store_resolved}
 use Rattle.grid_cycle_spec.specs.DataTiles.{answered_by, answer_chosen}
 use Rattle.grid_cycle_spec.specs.Units.{result_enters, slot_enters, rests, result_chosen, takes, issued, issue_chosen}
-use Rattle.grid_cycle_spec.specs.Arrivals.{asks, delivers, is_waiting, load_arrives, slot_arrives}
+use Rattle.grid_cycle_spec.specs.Arrivals.{asks, delivers, is_waiting, slot_arrives}
 use Rattle.grid_cycle_spec.specs.Arrivals.{inst_arrives, place_arrives, arrives_if, arrival}
 use Rattle.grid_served.specs.Behind.{Apart, Behind}
 use Rattle.grid_served.proofs.Ahead.{swapped, other_of, frame_of_place, younger_apart, IsOther, Leads, event_leads}

@@ -1,17 +1,14 @@
 -- A request of the oldest frame that a data tile has chosen: its slot, and what its answer leaves as it was.
-use Rattle.std.proofs.Common.{◌≡◌, ◌≢◌, ℕ, suc, ◌+◌, ◌*◌, ◌-◌, ◌<◌, ◌==◌, ◌&&◌, ◌⊎◌, inl, inr, Bool, true, false, cond}
-use Rattle.std.proofs.Common.{List, ◌∷◌, length, Option, Some, None, slice_index_or, set, refl, sym, ap, ap₂, ◌∙◌, subst}
+use Rattle.std.proofs.Common.{◌≡◌, ◌≢◌, ℕ, suc, ◌*◌, ◌-◌, ◌<◌, true, false}
+use Rattle.std.proofs.Common.{List, ◌∷◌, length, Some, None, slice_index_or, set, refl, sym, ap, ap₂, ◌∙◌}
 use Rattle.std.proofs.Common.{arith}
-use Rattle.std.proofs.lemmas.Bool.{cond-false, and_right, eqb-true, ne_eqb}
 use Rattle.trips_isa.specs.declared.block.Inst.{Inst}
 use Rattle.trips_isa.specs.declared.block.Block.{Block}
 use Rattle.trips_isa.specs.declared.form.Form.{Form}
 use Rattle.trips_isa.specs.declared.form.Form.TheVariants as form
-use Rattle.trips_isa.specs.declared.run.Stepped.TheVariants as stepped
 use Rattle.trips_isa.specs.Forms.{form_of}
 use Rattle.trips_isa.specs.Rule.{Answer}
 use Rattle.trips_isa.specs.Blocks.{at_place}
-use Rattle.block_cases.specs.Orders.{slot_of}
 use Rattle.commit_flush_spec.specs.Frames.{Frame, at}
 use Rattle.commit_flush_spec.specs.Older.{Older, committed}
 use Rattle.commit_flush_spec.specs.Memory.{with_slot, with_inst, request}
@@ -23,8 +20,8 @@ use Rattle.window_progress.specs.Observers.{has_number}
 use Rattle.grid_cycle_spec.specs.Grid.{Grid}
 use Rattle.grid_cycle_spec.specs.Arrivals.{is_waiting}
 use Rattle.grid_cycle_spec.specs.DataTiles.{tile_by, tile_for}
-use Rattle.grid_cycle_bound.specs.Course.{Kind, Plain, Serving, Course, Task}
-use Rattle.grid_cycle_bound.specs.Lane.{Phase, Standing, Front}
+use Rattle.grid_cycle_bound.specs.Course.{Serving, Course, Task}
+use Rattle.grid_cycle_bound.specs.Lane.{Standing, Front}
 use Rattle.grid_cycle_bound.specs.Sending.{station_of}
 use Rattle.grid_cycle_bound.specs.Blocks.{slot_tasks, kind_of, slot_task, course_of}
 use Rattle.grid_cycle_bound.specs.Seen.{slot_phase, phase_of, front_of}
@@ -32,7 +29,7 @@ use Rattle.grid_cycle_bound.proofs.Sizes.{slot_tasks_is, slot_is}
 use Rattle.grid_served.specs.DataRule.{StandsFor, DataRule}
 use Rattle.grid_served.proofs.Ahead.{same_number}
 use Rattle.grid_served.proofs.Ended.{oldest_ok}
-use Rattle.grid_served.proofs.Fronts.{slot_far, slot_phase_is, SameTask, task_same, at_slot}
+use Rattle.grid_served.proofs.Fronts.{slot_far, slot_phase_is, task_same, at_slot}
 use Rattle.grid_served.proofs.Standing.{waiting_is, released}
 use Rattle.grid_served.proofs.Told.{told, told_holds}
 use Rattle.grid_served.proofs.Waiting.{address_came}

@@ -1,28 +1,25 @@
 -- From part (3) on: what is left of a cycle serves the oldest frame, or waits for the fetch of the next block.
-use Rattle.std.proofs.Common.{◌≡◌, ◌≢◌, ℕ, zero, suc, ◌+◌, ◌-◌, ◌<◌, ◌≤◌, ◌==◌, ◌&&◌, ◌⊎◌, inl, inr, Bool, true, false}
-use Rattle.std.proofs.Common.{cond, nat_lt, List, [], ◌∷◌, length, Option, Some, None, slice_get, refl, sym, ap, ap₂, ◌∙◌}
+use Rattle.std.proofs.Common.{◌≡◌, ℕ, ◌-◌, ◌<◌, ◌≤◌, ◌==◌, ◌&&◌, ◌⊎◌, inl, inr, Bool, true, false}
+use Rattle.std.proofs.Common.{cond, nat_lt, List, [], ◌∷◌, length, Option, Some, None, refl, sym, ap, ap₂, ◌∙◌}
 use Rattle.std.proofs.Common.{subst, arith}
 use Rattle.std.proofs.lemmas.Bool.{cond-true, cond-false, cases_lt, lt-ltb, le-ltb, eqb-true, and_parts}
 use Rattle.trips_isa.specs.declared.block.Block.{Block}
 use Rattle.trips_isa.specs.declared.run.Stepped.TheVariants as stepped
 use Rattle.trips_isa.specs.Machine.{State}
 use Rattle.trips_isa.specs.Rule.{Answer}
-use Rattle.operand_net.specs.Places.{Places}
 use Rattle.operand_net.specs.Tick.{Ticked}
 use Rattle.commit_flush_spec.specs.Frames.{Frame}
 use Rattle.commit_flush_spec.specs.Older.{Older, committed}
-use Rattle.commit_flush_spec.specs.Window.{Window}
 use Rattle.commit_flush_spec.specs.Invariant.{AllGood, FrameOk}
 use Rattle.commit_flush_spec.specs.Laws.{WindowOk}
 use Rattle.commit_flush_spec.proofs.Frames.{seen, seen_agrees}
 use Rattle.grid_cycle_spec.specs.Grid.{Grid, Fetching, numbers_of}
-use Rattle.grid_cycle_spec.specs.Choosing.{each}
 use Rattle.grid_cycle_spec.specs.Banks.{reads_answered}
-use Rattle.grid_cycle_spec.specs.DataTiles.{data_turn, answers}
-use Rattle.grid_cycle_spec.specs.Units.{unit_turn, works_on}
+use Rattle.grid_cycle_spec.specs.DataTiles.{answers}
+use Rattle.grid_cycle_spec.specs.Units.{works_on}
 use Rattle.grid_cycle_spec.specs.Arrivals.{arrivals}
-use Rattle.grid_cycle_spec.specs.Cycles.{counted, Moves}
-use Rattle.grid_cycle_bound.specs.Course.{Course, Good, Task}
+use Rattle.grid_cycle_spec.specs.Cycles.{Moves}
+use Rattle.grid_cycle_bound.specs.Course.{Course}
 use Rattle.grid_cycle_bound.specs.Lane.{Front, Stage, Running}
 use Rattle.grid_cycle_bound.specs.Lane as lane
 use Rattle.grid_cycle_bound.specs.Sending.{reads_front, reading, tile_of as lane_tile}
@@ -41,7 +38,7 @@ use Rattle.grid_served.proofs.Steady.{Onward, steady}
 use Rattle.grid_served.proofs.Walk.{banks_keep, answers_keep, works_keep, arrivals_keep}
 use Rattle.grid_served.proofs.Ended.{oldest_ok}
 use Rattle.grid_served.proofs.Ticks.{oldest_ticks}
-use Rattle.grid_served.proofs.Told.{told, told_table, told_same, told_solves, told_holds, told_good}
+use Rattle.grid_served.proofs.Told.{told, told_table, told_same, told_solves, told_good}
 use Rattle.grid_served.proofs.Banking as banking
 use Rattle.grid_served.proofs.Answered.{StageAt, Held, Emptied}
 use Rattle.grid_served.proofs.Answering.{idle_tiles, fetch_waits, tiles_serve}

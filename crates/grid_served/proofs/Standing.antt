@@ -1,8 +1,8 @@
 -- Requests that stand at data tiles, as the lane and as the grid have them.
-use Rattle.std.proofs.Common.{◌≡◌, ◌≢◌, ℕ, suc, ◌+◌, ◌*◌, ◌-◌, ◌<◌, ◌==◌, ◌&&◌, ◌⊎◌, inl, inr, Bool, true, false, cond}
-use Rattle.std.proofs.Common.{not, nat_lt, List, Option, Some, None, slice_get, slice_index_or, set, refl, sym, ap, ap₂}
-use Rattle.std.proofs.Common.{◌∙◌, subst, true≢false}
-use Rattle.std.proofs.lemmas.Bool.{cases_eq, ltb-true, eqb-true, ne_eqb, and_parts, cases_Bool}
+use Rattle.std.proofs.Common.{◌≡◌, ◌≢◌, ℕ, suc, ◌*◌, ◌-◌, ◌<◌, ◌⊎◌, inl, inr, Bool, true, false, cond}
+use Rattle.std.proofs.Common.{nat_lt, List, Option, Some, None, slice_get, slice_index_or, set, refl, sym, ap}
+use Rattle.std.proofs.Common.{◌∙◌}
+use Rattle.std.proofs.lemmas.Bool.{cases_eq, ltb-true, eqb-true, ne_eqb}
 use Rattle.trips_isa.specs.declared.block.Inst.{Inst}
 use Rattle.trips_isa.specs.declared.block.ReadSlot.{ReadSlot}
 use Rattle.trips_isa.specs.Forms.{form_of}
@@ -13,7 +13,7 @@ use Rattle.commit_flush_spec.proofs.Lists.{none_at, other_at}
 use Rattle.grid_cycle_spec.specs.Grid.{Grid}
 use Rattle.grid_cycle_spec.specs.Arrivals.{is_waiting}
 use Rattle.grid_cycle_bound.specs.Course.{Kind, Reading, Plain, Serving}
-use Rattle.grid_cycle_bound.specs.Lane.{Phase, Absent, Idle, Working, Asking, Standing, Sent, is_standing}
+use Rattle.grid_cycle_bound.specs.Lane.{Idle, Sent, is_standing}
 use Rattle.grid_cycle_bound.specs.Blocks.{slot_tasks, kind_of}
 use Rattle.grid_cycle_bound.specs.Seen.{slot_phase, read_phase, phase_of}
 use Rattle.grid_served.proofs.Fronts.{slot_far, slot_phase_is}

@@ -1,8 +1,6 @@
 -- Parts (2) to (6) keep the window's invariant, leave the committed state, and do not end the run.
 use Rattle.std.proofs.Common.{◌≡◌, ℕ, List, [], ◌∷◌, Option, Some, None, slice_get, refl, sym, ap, ◌∙◌, subst}
 use Rattle.trips_isa.specs.declared.block.Block.{Block}
-use Rattle.trips_isa.specs.declared.run.Stepped.{Stepped}
-use Rattle.trips_isa.specs.Machine.{State}
 use Rattle.commit_flush_spec.specs.Frames.{Frame}
 use Rattle.commit_flush_spec.specs.Causes.{Happened, Done, NotNow}
 use Rattle.commit_flush_spec.specs.Window.{Window, Event, can, done, if_done, happens, fetched, lowest_empty}
@@ -12,7 +10,7 @@ use Rattle.commit_flush_spec.specs.Laws.{WindowOk}
 use Rattle.commit_flush_spec.proofs.Events.{state_stays}
 use Rattle.commit_flush_spec.proofs.Whole.{happens_moves}
 use Rattle.grid_cycle_spec.specs.Grid.{Grid}
-use Rattle.grid_cycle_spec.specs.Acting.{act, flushed, gone}
+use Rattle.grid_cycle_spec.specs.Acting.{flushed, gone}
 use Rattle.grid_served.proofs.Walk.{IsSingle, IsFlushing, Carries}
 
 -- a window comes from another by events that commit nothing

@@ -1,9 +1,9 @@
 -- Part (4), stores: a store of the oldest frame is resolved, or finds a load of its own frame wrong and flushes it.
-use Rattle.std.proofs.Common.{◌≡◌, ◌≢◌, ℕ, zero, suc, ◌+◌, ◌*◌, ◌-◌, ◌<◌, ◌≤◌, ◌==◌, ◌&&◌, ◌||◌, ◌⊎◌, inl, inr, Bool}
+use Rattle.std.proofs.Common.{◌≡◌, ◌≢◌, ℕ, suc, ◌+◌, ◌*◌, ◌-◌, ◌<◌, ◌≤◌, ◌==◌, ◌&&◌, ◌||◌, ◌⊎◌, inl, inr, Bool}
 use Rattle.std.proofs.Common.{true, false, cond, not, nat_lt, List, [], ◌∷◌, length, drop, Option, Some, None, is_some}
-use Rattle.std.proofs.Common.{slice_index, slice_index_or, set, refl, sym, ap, ap₂, ◌∙◌, subst, arith, true≢false}
+use Rattle.std.proofs.Common.{slice_index, set, refl, sym, ap, ap₂, ◌∙◌, subst, arith, true≢false}
 use Rattle.std.proofs.Math.Path.{fun_ext}
-use Rattle.std.proofs.lemmas.Bool.{cond-true, cond-false, and_right, both_ways, cases_eq, cases_Bool, ne_eqb, eq-eqb}
+use Rattle.std.proofs.lemmas.Bool.{cond-true, cond-false, and_right, both_ways, cases_eq, ne_eqb, eq-eqb}
 use Rattle.std.proofs.lemmas.Bool.{or_cases, eqb-true, lt-ltb, le-ltb, or_right, false_from_ne_true, ltb-false}
 use Rattle.trips_isa.specs.declared.block.Inst.{Inst}
 use Rattle.trips_isa.specs.declared.block.Stored.{Stored}
@@ -18,12 +18,11 @@ use Rattle.trips_isa.specs.Rule.{Answer}
 use Rattle.trips_isa.specs.Stores.{stored_of}
 use Rattle.trips_isa.specs.Blocks.{at_place}
 use Rattle.block_cases.specs.Orders.{slot_of}
-use Rattle.operand_net.specs.declared.parcel.Stand.TheVariants.{Nowhere}
 use Rattle.commit_flush_spec.specs.Causes.{NoFrame, NoRequest, Done, NotNow, judged}
 use Rattle.commit_flush_spec.specs.Frames.{Frame, Taken, at, numbers, slot_node}
 use Rattle.commit_flush_spec.specs.Sending.{mark_with}
-use Rattle.commit_flush_spec.specs.Older.{Older, committed, follows, took_touched, nearest, violated, cut}
-use Rattle.commit_flush_spec.specs.Memory.{request, is_request, can_store, store, store_resolved, with_store, checked}
+use Rattle.commit_flush_spec.specs.Older.{Older, took_touched, nearest, violated, cut}
+use Rattle.commit_flush_spec.specs.Memory.{is_request, can_store, store, store_resolved, with_store, checked}
 use Rattle.commit_flush_spec.specs.Invariant.{AllGood, FrameOk, FramesOk}
 use Rattle.commit_flush_spec.specs.Laws.{WindowOk, NoneLost, AllKept}
 use Rattle.commit_flush_spec.specs.Window.{Window, change, can, can_now, unless_over, done, happens}
@@ -37,15 +36,14 @@ use Rattle.window_progress.proofs.Guesses.{not_violated}
 use Rattle.window_progress.proofs.Search.{some_is}
 use Rattle.window_progress.proofs.Stuck.{numbers_are}
 use Rattle.grid_cycle_spec.specs.Stations.{data_node}
-use Rattle.grid_cycle_spec.specs.Grid.{Grid, Fetching}
+use Rattle.grid_cycle_spec.specs.Grid.{Grid}
 use Rattle.grid_cycle_spec.specs.Acting.{act, flushed, gone, settled}
 use Rattle.grid_cycle_spec.specs.Arrivals.{is_waiting}
 use Rattle.grid_cycle_spec.specs.Choosing.{least}
 use Rattle.grid_cycle_spec.specs.DataTiles.{tile_by, unasked, stored_by, load_in, wrong_behind, wrong_from, wrong_load}
 use Rattle.grid_cycle_spec.specs.DataTiles.{waits_now}
 use Rattle.grid_cycle_spec.specs.DataTiles as tiles
-use Rattle.grid_cycle_spec.specs.Fetches.{stands}
-use Rattle.grid_cycle_bound.specs.Course.{Course, Task, Target}
+use Rattle.grid_cycle_bound.specs.Course.{Course, Task}
 use Rattle.grid_cycle_bound.specs.Lane.{Phase, Sent, Front, Stage}
 use Rattle.grid_cycle_bound.specs.Lane as lane
 use Rattle.grid_cycle_bound.specs.Answering.{hits, resolves, answer_one}
@@ -54,7 +52,7 @@ use Rattle.grid_cycle_bound.specs.Blocks.{kind_of, first_of, slot_task, target_a
 use Rattle.grid_cycle_bound.specs.Seen.{slot_phase, phase_of, has_come, front_of, fetch_of}
 use Rattle.grid_served.specs.Behind.{Behind}
 use Rattle.grid_served.specs.DataRule.{DataRule}
-use Rattle.grid_served.proofs.Ahead.{same_number, younger_apart}
+use Rattle.grid_served.proofs.Ahead.{same_number}
 use Rattle.grid_served.proofs.Others.{behind_at, was_flushed, acted_leaving, waiting_now}
 use Rattle.grid_served.proofs.Ended.{asks_oldest}
 use Rattle.grid_served.proofs.Fronts.{front_behind, slot_far, slot_phase_is, same_front, at_slot}

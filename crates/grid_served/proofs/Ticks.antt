@@ -1,5 +1,5 @@
 -- Part (6), the tick: the parcels of the oldest frame wait for no others.
-use Rattle.std.proofs.Common.{◌≡◌, ℕ, suc, ◌+◌, ◌<◌, ◌≤◌, List, ◌∷◌, length, get_or, refl, ap, ◌∙◌, arith}
+use Rattle.std.proofs.Common.{ℕ, suc, ◌+◌, ◌≤◌, List, ◌∷◌, arith}
 use Rattle.operand_net.specs.Places.{Places}
 use Rattle.operand_net.specs.Tick.{Ticked, RowTicked, frames_want}
 use Rattle.grid_served.specs.Parts.{RowMoves}

@@ -1,6 +1,6 @@
 -- An eager cycle serves its oldest frame, where the grid stands as the parts ask.
-use Rattle.std.proofs.Common.{◌≡◌, ℕ, suc, ◌-◌, ◌^◌, ◌<◌, ◌≤◌, ◌==◌, ◌⊎◌, inl, inr, Bool, true, false, List, [], ◌∷◌}
-use Rattle.std.proofs.Common.{length, Option, Some, None, slice_get, slice_index, refl, sym, ap, ◌∙◌, subst, arith}
+use Rattle.std.proofs.Common.{◌≡◌, ℕ, ◌-◌, ◌^◌, ◌<◌, ◌≤◌, ◌==◌, ◌⊎◌, inl, inr, Bool, true, false, List, [], ◌∷◌}
+use Rattle.std.proofs.Common.{length, Option, Some, None, slice_get, slice_index, refl, sym, ap, ◌∙◌, subst}
 use Rattle.std.proofs.lemmas.Bool.{cond_both}
 use Rattle.trips_isa.specs.declared.block.Block.{Block}
 use Rattle.trips_isa.specs.declared.run.Stepped.{Stepped}
@@ -19,8 +19,7 @@ use Rattle.grid_cycle_spec.specs.Acting.{may}
 use Rattle.grid_cycle_spec.specs.Costs.{size}
 use Rattle.grid_cycle_spec.specs.Ends.{seal_one, seal_each, commit_in, commit_oldest, ends}
 use Rattle.grid_cycle_spec.specs.Fetches.{fetches}
-use Rattle.grid_cycle_spec.specs.Arrivals.{arrivals}
-use Rattle.grid_cycle_spec.specs.Cycles.{acts, counted, Moves, Follows, Eager}
+use Rattle.grid_cycle_spec.specs.Cycles.{acts, Moves, Follows, Eager}
 use Rattle.grid_cycle_bound.specs.Course.{Course}
 use Rattle.grid_cycle_bound.specs.Lane.{Stage, Running, is_complete}
 use Rattle.grid_cycle_bound.specs.Sending.{fetching, reading}

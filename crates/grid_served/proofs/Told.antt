@@ -1,9 +1,9 @@
 -- The table of what a frame sees: the committed state and the frame's own stores answer its reads and loads. It hangs on
 -- the block and the stores alone, and where a store has come the front is retold by the table of what is seen then.
-use Rattle.std.proofs.Common.{◌≡◌, ℕ, suc, ◌+◌, ◌-◌, ◌<◌, ◌≤◌, ◌⊎◌, inl, inr, Bool, true, false, cond, not, nat_lt, List}
-use Rattle.std.proofs.Common.{Option, Some, None, slice_get, refl, sym, ap, ap₂, ◌∙◌, subst, arith, true≢false}
+use Rattle.std.proofs.Common.{◌≡◌, ℕ, ◌+◌, ◌-◌, ◌<◌, ◌≤◌, ◌⊎◌, inl, inr, Bool, true, false, cond, not, nat_lt, List}
+use Rattle.std.proofs.Common.{Option, Some, None, slice_get, refl, sym, ap, ap₂, ◌∙◌, subst, arith}
 use Rattle.std.proofs.Math.Path.{fun_ext}
-use Rattle.std.proofs.lemmas.Bool.{cases_lt, and_left, and_right, false_from_ne_true, and_parts, not-true}
+use Rattle.std.proofs.lemmas.Bool.{cases_lt, and_left, and_right}
 use Rattle.trips_isa.specs.declared.block.Inst.{Inst}
 use Rattle.trips_isa.specs.declared.block.ReadSlot.{ReadSlot}
 use Rattle.trips_isa.specs.declared.block.Stored.{Stored}
@@ -23,10 +23,9 @@ use Rattle.commit_flush_spec.specs.Older.{Older}
 use Rattle.commit_flush_spec.specs.Invariant.{AllGood, Below, FrameOk, Holds}
 use Rattle.commit_flush_spec.specs.Dataflow.{read_seen}
 use Rattle.commit_flush_spec.proofs.Frames.{or_zero, slot_seen, seen_if_read, seen, seen_agrees}
-use Rattle.window_progress.specs.Observers.{is_ready}
 use Rattle.grid_cycle_spec.specs.Grid.{Grid}
-use Rattle.grid_cycle_bound.specs.Course.{Course, Good, Task, Kind, is_reading}
-use Rattle.grid_cycle_bound.specs.Lane.{Front, is_idle, unissued, ready}
+use Rattle.grid_cycle_bound.specs.Course.{Good, Task, is_reading}
+use Rattle.grid_cycle_bound.specs.Lane.{is_idle, unissued, ready}
 use Rattle.grid_cycle_bound.specs.Answering.{spot_of, Retold}
 use Rattle.grid_cycle_bound.specs.Blocks.{slot_tasks, first_of, slot_task, read_task, task_of, course_of}
 use Rattle.grid_cycle_bound.specs.Seen.{read_phase, front_of}

@@ -1,6 +1,6 @@
 -- How busy units are changes in part (5) alone.
 use Rattle.std.proofs.Common.{◌≡◌, ℕ, zero, suc, ◌+◌, ◌*◌, ◌/◌, ◌==◌, Bool, true, false, cond, nat_lt, List, [], ◌∷◌}
-use Rattle.std.proofs.Common.{Option, Some, None, refl, sym, ap, ◌∙◌}
+use Rattle.std.proofs.Common.{Option, Some, None, refl, ap, ◌∙◌}
 use Rattle.std.proofs.lemmas.Bool.{cond_both}
 use Rattle.trips_isa.specs.declared.block.Block.{Block}
 use Rattle.trips_isa.specs.declared.block.Inst.{Inst}
@@ -17,17 +17,17 @@ use Rattle.commit_flush_spec.specs.Memory.{request}
 use Rattle.commit_flush_spec.specs.Window.{Window, happens}
 use Rattle.commit_flush_spec.specs.Window as window
 use Rattle.grid_cycle_spec.specs.Stations.{bank_node, data_node}
-use Rattle.grid_cycle_spec.specs.Grid.{Grid, Fetching, numbers_of, forget}
-use Rattle.grid_cycle_spec.specs.Acting.{may, act, flushed, gone, settled}
+use Rattle.grid_cycle_spec.specs.Grid.{Grid, Fetching, numbers_of}
+use Rattle.grid_cycle_spec.specs.Acting.{may, act, flushed, gone}
 use Rattle.grid_cycle_spec.specs.Choosing.{eldest, each, places, reads, with_frame}
 use Rattle.grid_cycle_spec.specs.Sending.{enter_both}
 use Rattle.grid_cycle_spec.specs.Ends.{seal_one, seal_each, learning, committed_as, commit_in, commit_oldest, ends}
 use Rattle.grid_cycle_spec.specs.Ends.{one_committed}
-use Rattle.grid_cycle_spec.specs.Fetches.{fill_where, fetch_on, fetch_ends, begins, fetches}
+use Rattle.grid_cycle_spec.specs.Fetches.{fill_where, fetch_on, fetch_ends, fetches}
 use Rattle.grid_cycle_spec.specs.Banks.{answers_read, read_chosen, bank_turn, reads_answered}
 use Rattle.grid_cycle_spec.specs.DataTiles.{unasked, load_answered, waits_now, wrong_load, store_resolved}
 use Rattle.grid_cycle_spec.specs.DataTiles.{answers_request, answered_by, answer_chosen, data_turn, answers}
-use Rattle.grid_cycle_spec.specs.Arrivals.{asks, delivers, is_waiting, load_arrives, slot_arrives, inst_arrives}
+use Rattle.grid_cycle_spec.specs.Arrivals.{asks, delivers, is_waiting, slot_arrives, inst_arrives}
 use Rattle.grid_cycle_spec.specs.Arrivals.{place_arrives, arrives_if, arrival, arrivals}
 use Rattle.grid_served.proofs.Entering.{both_only}
 use Rattle.grid_served.proofs.Fetched.{begins_begun}

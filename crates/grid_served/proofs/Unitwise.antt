@@ -1,11 +1,10 @@
 -- Part (5), tile by tile: behind the first k tiles the lane's tasks of these tiles have had their turn.
-use Rattle.std.proofs.Common.{◌≡◌, ◌≢◌, ℕ, zero, suc, ◌+◌, ◌-◌, ◌<◌, ◌≤◌, ◌==◌, ◌&&◌, ◌⊎◌, inl, inr, Bool, true, false}
-use Rattle.std.proofs.Common.{cond, not, nat_lt, List, ◌∷◌, Option, Some, None, slice_index, refl, sym, ap, ap₂, ◌∙◌, subst}
+use Rattle.std.proofs.Common.{◌≡◌, ℕ, zero, suc, ◌-◌, ◌<◌, ◌≤◌, ◌==◌, ◌&&◌, ◌⊎◌, inl, inr, Bool, true, false}
+use Rattle.std.proofs.Common.{cond, not, nat_lt, List, ◌∷◌, refl, sym, ap, ap₂, ◌∙◌, subst}
 use Rattle.std.proofs.Common.{arith}
 use Rattle.std.proofs.Math.Path.{fun_ext}
-use Rattle.std.proofs.lemmas.Bool.{cond_both, cond-true, cond-false, and_from, and_parts, and_left, and_right, cases_eq}
-use Rattle.std.proofs.lemmas.Bool.{cases_lt, lt-ltb, le-ltb, ltb-true, ltb-false, eqb-true, eq-eqb, ne_eqb}
-use Rattle.trips_isa.specs.declared.block.Inst.{Inst}
+use Rattle.std.proofs.lemmas.Bool.{cond-true, cond-false, and_parts, and_left, and_right, cases_eq}
+use Rattle.std.proofs.lemmas.Bool.{cases_lt, lt-ltb, le-ltb, eqb-true, eq-eqb, ne_eqb}
 use Rattle.trips_isa.specs.declared.block.Block.{Block}
 use Rattle.trips_isa.specs.declared.run.Stepped.TheVariants as stepped
 use Rattle.trips_isa.specs.Rule.{Answer}
@@ -17,9 +16,9 @@ use Rattle.commit_flush_spec.specs.Laws.{WindowOk}
 use Rattle.grid_cycle_spec.specs.Grid.{Grid}
 use Rattle.grid_cycle_spec.specs.Units.{unit_on, issues, unit_turn}
 use Rattle.grid_cycle_bound.specs.Course.{Course, Task}
-use Rattle.grid_cycle_bound.specs.Lane.{any, Phase, Working, Front, is_idle, ready}
+use Rattle.grid_cycle_bound.specs.Lane.{any, Phase, Working, Front, ready}
 use Rattle.grid_cycle_bound.specs.Sending.{found, tile_of as lane_tile}
-use Rattle.grid_cycle_bound.specs.Turning.{less_one, finished, finish_front, busy, issued, issue_front, units_after}
+use Rattle.grid_cycle_bound.specs.Turning.{less_one, finished, finish_front, busy, issued, units_after}
 use Rattle.grid_cycle_bound.specs.Blocks.{course_of}
 use Rattle.grid_cycle_bound.specs.Seen.{phase_of, has_come, front_of}
 use Rattle.grid_served.specs.UnitRule.{UnitRule}
@@ -27,7 +26,7 @@ use Rattle.grid_served.proofs.Steady.{Onward, steady}
 use Rattle.grid_served.proofs.Walk.{unit_keeps}
 use Rattle.grid_served.proofs.Ended.{oldest_ok}
 use Rattle.grid_served.proofs.Fronts.{same_front}
-use Rattle.grid_served.proofs.Finished.{AfterUnit, given, after_unit, units_on}
+use Rattle.grid_served.proofs.Finished.{AfterUnit, after_unit, units_on}
 use Rattle.grid_served.proofs.Issuing.{AfterIssue, picked, after_issue}
 use Rattle.grid_served.proofs.Waiting.{address_came}
 

@@ -1,5 +1,5 @@
 -- What part (6) of a cycle asks of a frame and of its parcels.
-use Rattle.std.specs.Prelude.{◌≡◌, ◌≢◌, ℕ, suc, ◌*◌, ◌/◌, ◌%◌, ◌<◌, ◌≤◌, ◌==◌, Bool, true, false, cond, Option, Some, None}
+use Rattle.std.specs.Prelude.{◌≡◌, ◌≢◌, ℕ, ◌/◌, ◌%◌, ◌<◌, ◌≤◌, ◌==◌, true, false, cond, Some, None}
 use Rattle.trips_isa.specs.declared.block.Inst.{Inst}
 use Rattle.trips_isa.specs.declared.form.Form.{Form}
 use Rattle.trips_isa.specs.declared.form.Form.TheVariants.{Load, Store, Branch}
@@ -11,7 +11,7 @@ use Rattle.commit_flush_spec.specs.Frames.{Frame, at, target, is_target}
 use Rattle.window_progress.specs.Observers.{has_number}
 use Rattle.grid_cycle_spec.specs.Grid.{Grid}
 use Rattle.grid_cycle_spec.specs.Arrivals.{is_waiting}
-use Rattle.grid_cycle_bound.specs.Lane.{Phase, Asking, first_parcel, second_parcel}
+use Rattle.grid_cycle_bound.specs.Lane.{Asking, first_parcel, second_parcel}
 use Rattle.grid_cycle_bound.specs.Seen.{phase_of}
 
 -- the token in a place is there, and has a target
