@@ -167,7 +167,8 @@ module _ {W : Type 0} (blocks : List Block) (good : AllGood blocks) (o : Older) 
         → Landed (has_come f) (g.parcels n (2 * s)) (target_at f.code (place_at i.first))
         × Landed (has_come f) (g.parcels n (suc (2 * s))) (target_at f.code (place_at i.second))
     tokens_land k e first sent one two = (
-      landed (has_come f) (g.parcels n (2 * s)) (target_at f.code (place_at i.first)) (held (2 * s) (omega (arith, small)))
+      landed (has_come f) (g.parcels n (2 * s)) (target_at f.code (place_at i.first)) (held (2 * s) (omega
+          (arith, small)))
           (λ h. token_has (2 * s) (place_at i.first) (first_target f.code s i small is ∙ first)
           ((slot_sends f s small).0 ∙ sent_is sent) (one h)),
       landed (has_come f) (g.parcels n (suc (2 * s))) (target_at f.code (place_at i.second))
@@ -220,7 +221,8 @@ module _ {W : Type 0} (blocks : List Block) (good : AllGood blocks) (o : Older) 
       request_goes k e false c h = on_its_way (g.parcels n (2 * s)) (held (2 * s) (omega (arith, small))) (h refl)
 
       load_fine : form_of i.op ≡ Load → (b : Bool) → is_waiting (at f.requests i.number) s ≡ b
-          → FineAt g.units (has_come f) (slot_task f.code table s (Some i)) (cond b (asking g f s i.number) (sent_of g f s))
+          → FineAt g.units (has_come f) (slot_task f.code table s (Some i)) (cond b (asking g f s i.number)
+          (sent_of g f s))
       load_fine e true w = request_goes Load e (g.asked n i.number) refl (λ c. first_by Load e
           ∙ ap₂ (λ x y. (true && (x && not y)) || is_some (at f.places (2 * s))) w c)
       load_fine e false w = first_lands Load e (tokens_land Load e (ap (λ x. first_place x i.number i.first) e)
@@ -229,7 +231,8 @@ module _ {W : Type 0} (blocks : List Block) (good : AllGood blocks) (o : Older) 
           (λ h. or_none _ _ (sym (first_by Load e) ∙ h)) (λ h. sym (second_by Load e) ∙ h))
 
       store_fine : form_of i.op ≡ Store → (b : Bool) → is_waiting (at f.requests i.number) s ≡ b
-          → FineAt g.units (has_come f) (slot_task f.code table s (Some i)) (cond b (asking g f s i.number) (sent_of g f s))
+          → FineAt g.units (has_come f) (slot_task f.code table s (Some i)) (cond b (asking g f s i.number)
+          (sent_of g f s))
       store_fine e true w = request_goes Store e (g.asked n i.number) refl (λ c. first_by Store e
           ∙ ap₂ (λ x y. true && (x && not y)) w c)
       store_fine e false w = first_lands Store e (output_lands (first_of f.code Store i there)

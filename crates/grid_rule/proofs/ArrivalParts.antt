@@ -208,7 +208,8 @@ module _ {W : Type 0} (blocks : List Block) (good : AllGood blocks) (budget : �
             asked_are = more_frame g.asked m k.inst.number x d;
             works_are = λ s. refl;
           })
-          (served_tied (g.parcels m) (left m) (g.asked m) (asks' m) (g.works m) f f p tied inside here gone others low even
+          (served_tied (g.parcels m) (left m) (g.asked m) (asks' m)
+          (g.works m) f f p tied inside here gone others low even
           refl refl refl
           (slot_travels (asks' m) (g.works m) f p k.inst low k.is_inst
           ∙ ap (λ b. not (g.works m (p / 2)) && b) none ∙ and_none (not (g.works m (p / 2))))
@@ -218,7 +219,8 @@ module _ {W : Type 0} (blocks : List Block) (good : AllGood blocks) (budget : �
           go.ties.busy held
 
     -- a branch comes to the control tile
-    module _ (even : (p % 2 == 0) ≡ true) (leaves : f.leaving ≡ Some (p / 2)) (branch : form_of k.inst.op ≡ Branch) where
+    module _ (even : (p % 2 == 0) ≡ true) (leaves : f.leaving ≡ Some (p / 2)) (branch : form_of k.inst.op
+        ≡ Branch) where
       abbrev E : Option Exit
       E = exit_by blocks f.block (branch_of f f.leaving)
 
@@ -236,14 +238,16 @@ module _ {W : Type 0} (blocks : List Block) (good : AllGood blocks) (budget : �
 
       exit_rules : EachFrame FrameRule (a.older ++ X ∷ a.younger)
       exit_rules =
-          let was : EachFrame FrameRule (a.older ++ f ∷ a.younger) = subst (EachFrame FrameRule) a.split go.ties.frames in
+          let was : EachFrame FrameRule (a.older ++ f ∷ a.younger) = subst
+          (EachFrame FrameRule) a.split go.ties.frames in
           each_join FrameRule a.older (X ∷ a.younger) (each_front FrameRule a.older (f ∷ a.younger) was) (
             exit_rule blocks good o f ok rule E (branch_mark f f.leaving),
             (each_rest FrameRule a.older (f ∷ a.younger) was).1,
           )
 
       exit_ties : Ties 0 (a.older ++ X ∷ a.younger) left g.asked g.works g.careful g.units
-      exit_ties = ties_step 0 m g.window.frames a X g.parcels left g.asked g.asked g.works g.works g.careful g.units g.units
+      exit_ties = ties_step 0 m g.window.frames a X g.parcels left g.asked g.asked g.works g.works g.careful
+          g.units g.units
           refl other_frames go.ties runs exit_rules exit_tied
           (frame_sure blocks good budget g a0.frame.number a 0 go.ties) go.ties.busy held
 
@@ -278,7 +282,8 @@ module _ {W : Type 0} (blocks : List Block) (good : AllGood blocks) (budget : �
     half_small = let l : p < 256 = grind (arith, nat_tests) in omega (arith, l)
 
     load_token : form_of k.inst.op ≡ Load → at f.requests k.inst.number ≡ Some (p / 2) → is_some (at f.places p) ≡ false
-    load_token e w = none_is (at f.places p) (waiting_none blocks o f ok (p / 2) p k.inst.number k.inst half_small place_is
+    load_token e w = none_is (at f.places p) (waiting_none blocks o f ok
+        (p / 2) p k.inst.number k.inst half_small place_is
         k.is_inst (ap is_load e) w)
 
     so_far : (t : Form) → form_of k.inst.op ≡ t
@@ -298,7 +303,8 @@ module _ {W : Type 0} (blocks : List Block) (good : AllGood blocks) (budget : �
         (is_some (at f.places p))) e
         ∙ ap (λ z. form_travels t (p % 2 == 0) z (is_some (at f.places p))) c ∙ h
 
-    asked_now : (is_waiting (at f.requests k.inst.number) (p / 2) && not (asked_more g.asked m k.inst.number m k.inst.number))
+    asked_now : (is_waiting (at f.requests k.inst.number) (p / 2) && not (asked_more
+        g.asked m k.inst.number m k.inst.number))
         ≡ false
     asked_now = ap (λ b. is_waiting (at f.requests k.inst.number) (p / 2) && not b) (more_here g.asked m k.inst.number)
         ∙ and_none (is_waiting (at f.requests k.inst.number) (p / 2))

@@ -135,7 +135,9 @@ module _ {W : Type 0} (blocks : List Block) (good : AllGood blocks) (budget leas
       (answered blocks good budget least g go bank low q.0 q.1 a d s)
 
   -- part (3) keeps the rule
-  pub banks_going : (g : Grid W) → Going blocks budget least g → Going blocks budget least (reads_answered blocks budget g)
+  pub banks_going : (g : Grid W) → Going blocks budget least g → Going blocks budget least
+      (reads_answered blocks budget g)
   banks_going g go = each_going blocks budget least (bank_turn blocks budget) 4
-      (λ bank low x r. chosen_going bank low (eldest (answers_read blocks budget x bank) reads x.window.frames) x r refl)
+      (λ bank low x r. chosen_going bank low (eldest
+      (answers_read blocks budget x bank) reads x.window.frames) x r refl)
       4 (omega arith) g go

@@ -28,7 +28,8 @@ module _ {W : Type 0} (blocks : List Block) (good : AllGood blocks) (budget : �
       let a : Grid W = fetches blocks budget g in
       let b : Grid W = reads_answered blocks budget a in
       works_going blocks good budget 1 (answers blocks budget b)
-      (answers_going blocks good budget 1 b (banks_going blocks good budget 1 a (fetches_going blocks good budget 1 g r)))
+      (answers_going blocks good budget 1 b (banks_going blocks good budget 1 a
+      (fetches_going blocks good budget 1 g r)))
 
   counted_ruled : (g h : Grid W) → h ≡ counted g → Ruled blocks budget 1 g → Ruled blocks budget 1 h
   counted_ruled g h e r = subst (Ruled blocks budget 1) (sym e) (record { ok = r.ok; ties = r.ties; fetch = r.fetch })

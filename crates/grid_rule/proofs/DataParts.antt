@@ -257,7 +257,8 @@ module _ {W : Type 0} (blocks : List Block) (good : AllGood blocks) (budget leas
         s.keeps s.others (λ q d j. e.others m q (inr (d, j)))
         (enters_at F (2 * l.waits.slot) g.parcels after e)
         (load_travels (g.asked m) (g.works m) f l.waits.slot l.waits.inst l.small l.waits.is_inst is_a_load rests none)
-        (load_travels (asks' m) (g.works m) F l.waits.slot l.waits.inst l.small l.waits.is_inst is_a_load rests none_now)
+        (load_travels (asks' m)
+        (g.works m) F l.waits.slot l.waits.inst l.small l.waits.is_inst is_a_load rests none_now)
         (answered_standing (g.asked m) (asks' m) f F k refl refl had (but_here g.asked m k) (but_number g.asked m k)
         (tied).standing) tied)
         (λ z. load_keeps f k (Some l.taken) (sure z)
@@ -431,7 +432,8 @@ module _ {W : Type 0} (blocks : List Block) (good : AllGood blocks) (budget leas
       let a = k.there in
       let p = both_true _ _ k.passes in
       let may : may_answer g a.frame q.1 ≡ true = (both_true _ _ p.1).1 in
-      let low : tile < 4 = subst (λ t. t < 4) (equal (tile_for a.frame (request a.frame q.1)) tile (both_true _ _ p.1).0)
+      let low : tile < 4 = subst (λ t. t < 4) (equal (tile_for a.frame (request a.frame q.1)) tile
+      (both_true _ _ p.1).0)
       (tile_low a.frame (request a.frame q.1)) in
       subst (Going blocks budget least)
       (sym (with_at q.0 (λ f h. answered_by blocks budget tile q.0 q.1 (request f q.1) h) g.window.frames a g))

@@ -252,7 +252,8 @@ with_none n does (f ∷ fs) g e =
     ap (λ b. cond b (does f g) (with_frame n does fs g)) o.0 ∙ with_none n does fs g o.1
 
 -- a change of the frame
-pub changed_at : (does : Older → Frame → List Frame → List Frame) (o : Older) (n : ℕ) (fs : List Frame) (a : FrameAt n fs)
+pub changed_at : (does : Older → Frame → List Frame → List Frame) (o : Older) (n : ℕ) (fs : List Frame)
+    (a : FrameAt n fs)
     → change does o fs n ≡ a.older ++ does (after_all a.older o) a.frame a.younger
 changed_at does o n fs a =
     ap₂ (λ l m. change does o l m) a.split (sym a.number)

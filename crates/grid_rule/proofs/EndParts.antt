@@ -111,7 +111,8 @@ module _ {W : Type 0} (blocks : List Block) (good : AllGood blocks) (budget leas
       subst (λ (w : Window). Ruled blocks budget least (forget (λ m. m == n) (record g { window = w }))) (sym is) all
 
 module _ {W : Type 0} (blocks : List Block) (good : AllGood blocks) (budget least : ℕ) where
-  seal_ruled : (n : ℕ) (g : Grid W) → Ruled blocks budget least g → Ruled blocks budget least (seal_one blocks budget n g)
+  seal_ruled : (n : ℕ) (g : Grid W) → Ruled blocks budget least g → Ruled blocks budget least
+      (seal_one blocks budget n g)
   seal_ruled n g r = go (may blocks budget (Seal n) g) refl
     where
       go : (b : Bool) → may blocks budget (Seal n) g ≡ b → Ruled blocks budget least (cond b

@@ -89,7 +89,8 @@ module _ {W : Type 0} (blocks : List Block) (good : AllGood blocks) (budget leas
 
   filled_so : Fills
   filled_so =
-      let c : can_fetch blocks f.block g.window ≡ Done = (went g.window.over (can_fetch blocks f.block g.window) done).1 in
+      let c : can_fetch blocks f.block g.window ≡ Done = (went g.window.over (can_fetch blocks f.block
+      g.window) done).1 in
       let a = not_now (is_none (lowest_empty 8 0 g.window.frames)) NoFrame _ c in
       let b = not_now (is_none (slice_get blocks f.block)) NoBlock _ a.1 in
       let n = some_of (lowest_empty 8 0 g.window.frames) a.0 in

@@ -217,7 +217,8 @@ module _ (blocks : List Block) (good : AllGood blocks) (o : Older) (f : Frame) (
       two_stores : is_store (form_of (k.inst).op) ≡ true → (t : ℕ) (j : Inst) → slot_of f.code t ≡ Some j
           → is_store (form_of j.op) ≡ true → j.number ≡ (k.inst).number → get_or f.fired t false ≡ true → ⊥
       two_stores e t j d h z g =
-          let small : (k.inst).number < 32 = number_small f.code (good f.block f.code ok.code).fits s k.inst k.is_inst in
+          let small : (k.inst).number < 32 = number_small f.code
+          (good f.block f.code ok.code).fits s k.inst k.is_inst in
           fired_not t g (one_fires blocks good o f ok (416 + (k.inst).number) (omega (arith, small)) s t k.inst j
           k.is_inst d (store_place k.inst (k.inst).number e refl) (store_place j (k.inst).number h z) k.ready g)
 
@@ -405,7 +406,8 @@ Rules fs = EachFrame FrameRule fs
 cut_rules : (touched : ℕ → Bool) (fs : List Frame) → Rules fs → Rules (cut touched fs)
 cut_rules touched [] h = tt
 cut_rules touched (f ∷ fs) h =
-    go (violated (λ n. passes (at f.stores) n touched) f.loads) (cut_rules (passes (at f.stores) numbers touched) fs h.1)
+    go (violated (λ n. passes (at f.stores) n touched) f.loads) (cut_rules (passes
+    (at f.stores) numbers touched) fs h.1)
   where
     go : (b : Bool) → Rules (cut (passes (at f.stores) numbers touched) fs)
         → Rules (cond b [] (f ∷ cut (passes (at f.stores) numbers touched) fs))
@@ -492,7 +494,8 @@ done_rules blocks good budget (event.Read n m) w c ok r = alone_rules blocks (ca
     (λ o f k h d. read_rule blocks good o f k h m d) NoFrame (committed w.state) w.frames n c ok.frames r
 done_rules blocks good budget (event.Fire n s) w c ok r = alone_rules blocks (can_fire s) (fire s)
     (λ o f k h d. fire_rule blocks good o f k h s d) NoFrame (committed w.state) w.frames n c ok.frames r
-done_rules blocks good budget (event.Deliver t) w c ok r = alone_rules blocks (can_deliver (t % 320)) (deliver (t % 320))
+done_rules blocks good budget (event.Deliver t) w c ok r = alone_rules blocks (can_deliver (t % 320)) (deliver
+    (t % 320))
     (λ o f k h d. deliver_rule blocks good o f k h (t % 320) d) NoToken (committed w.state) w.frames (t / 320) c
     ok.frames r
 done_rules blocks good budget (event.Load n m) w c ok r = alone_rules blocks (can_load m) (load m)

@@ -90,7 +90,8 @@ module _ {W : Type 0} (blocks : List Block) (good : AllGood blocks) (budget leas
     sure = frame_sure blocks good budget g a0.frame.number a least go.ties
 
     fires_now : get_or (set f.fired s true) s false ≡ true
-    fires_now = flag_here f.fired s (let l : length f.fired ≡ 128 = ok.sized.fired in let j = k.small in omega (arith, l, j))
+    fires_now = flag_here f.fired s (let l : length f.fired ≡ 128 = ok.sized.fired in let j = k.small in omega
+        (arith, l, j))
 
     nothing_comes : (t : Form) → form_of k.inst.op ≡ t → to_come (g.asked m) f t k.inst s ≡ false
     nothing_comes General e = refl
@@ -146,7 +147,8 @@ module _ {W : Type 0} (blocks : List Block) (good : AllGood blocks) (budget leas
           asked_are = λ j. refl;
           works_are = more_frame g.works m s x d;
         })
-        (fired_tied (g.parcels m) (g.asked m) (g.works m) (works' m) f F s k.inst k.small k.is_inst code fired come keeps
+        (fired_tied (g.parcels m) (g.asked m) (g.works m)
+        (works' m) f F s k.inst k.small k.is_inst code fired come keeps
         same' no_parcel (more_here g.works m s) (more_slot g.works m s) result standing tied)
         sure' (is_issued g.units g.works tile m s (latency k.inst.op) free on time.some time.most go.ties.busy)
         (go.ties.mesh m))

@@ -230,7 +230,8 @@ module _ {W : Type 0} (blocks : List Block) (budget : ℕ) where
           ⊎ (put g.parcels c.frame c.place Nowhere k q ≡ Nowhere)
       taken k q = go ((k == c.frame) && (q == c.place))
         where
-          go : (b : Bool) → (cond b Nowhere (g.parcels k q) ≡ g.parcels k q) ⊎ (cond b Nowhere (g.parcels k q) ≡ Nowhere)
+          go : (b : Bool) → (cond b Nowhere (g.parcels k q) ≡ g.parcels k q) ⊎ (cond b Nowhere (g.parcels k q)
+              ≡ Nowhere)
           go true = inr refl
           go false = inl refl
 
@@ -283,7 +284,8 @@ module _ {W : Type 0} (blocks : List Block) (budget : ℕ) where
   arrivals_clear : (ns : List ℕ) (g : Grid W) → ((n q : ℕ) → q < 320 → HeldFrom 0 (g.parcels n q)) → (n p : ℕ)
       → p < 320 → list_any (λ m. m == n) ns ≡ true → HeldFrom 1 ((arrivals blocks budget ns g).parcels n p)
   arrivals_clear [] g h n p l e = absurd (true≢false (sym e))
-  arrivals_clear (k ∷ ns) g h n p l e = go (k == n) refl e (λ z. arrivals_clear ns (each (arrival blocks budget k) places g)
+  arrivals_clear (k ∷ ns) g h n p l e = go (k == n) refl e (λ z. arrivals_clear ns (each
+      (arrival blocks budget k) places g)
       (λ j q lq. fewer_held 0 g (each (arrival blocks budget k) places g) j q (each_fewer k places g) (h j q lq))
       n p l z)
     where

@@ -113,7 +113,8 @@ module _ (asked works : ℕ → Bool) (f : Frame) (s : ℕ) (i : Inst) (small : 
       ∙ ap₂ (λ b t. not b && form_travels t true (to_come asked f t i s) (is_some (at f.places (2 * s)))) rests load
       ∙ ap (λ b. b || is_some (at f.places (2 * s))) none ∙ sym (ap (λ k. is_some (at f.places k)) e)
   load_travels q (inr e) = ap (travels asked works f) e ∙ second_travels asked works f s i small is
-      ∙ ap₂ (λ b t. not b && form_travels t false (to_come asked f t i s) (is_some (at f.places (suc (2 * s))))) rests load
+      ∙ ap₂ (λ b t. not b && form_travels t false (to_come asked f t i s) (is_some (at f.places (suc
+      (2 * s))))) rests load
       ∙ sym (ap (λ k. is_some (at f.places k)) e)
 
 -- firing -----------------------------------------------------------------------------------------
@@ -236,7 +237,8 @@ module _ (c c' : ℕ → Stand) (asked asked' works : ℕ → Bool) (f g : Frame
 
 -- a token is delivered: its place is empty
 module _ (c c' : ℕ → Stand) (asked works : ℕ → Bool) (f g : Frame) (p : ℕ) (t : Tied c asked works f)
-    (inside : p < 320) (here : is_here (c p) ≡ true) (gone : is_here (c' p) ≡ false) (others : (q : ℕ) → q ≢ p → c' q ≡ c q)
+    (inside : p < 320) (here : is_here (c p) ≡ true) (gone : is_here (c' p) ≡ false) (others : (q : ℕ) → q ≢ p
+    → c' q ≡ c q)
     (code : g.code ≡ f.code) (fired : g.fired ≡ f.fired) (requests : g.requests ≡ f.requests)
     (leaving : g.leaving ≡ f.leaving) (places : g.places ≡ set f.places p None)
     (only : (i : Inst) → nat_lt p 256 ≡ true → slot_of f.code (p / 2) ≡ Some i
@@ -288,7 +290,8 @@ second_same x y z Branch = refl
 
 -- what is to come of a slot has come to where it is served
 module _ (c c' : ℕ → Stand) (asked asked' works : ℕ → Bool) (f g : Frame) (p : ℕ) (t : Tied c asked works f)
-    (inside : p < 320) (here : is_here (c p) ≡ true) (gone : is_here (c' p) ≡ false) (others : (q : ℕ) → q ≢ p → c' q ≡ c q)
+    (inside : p < 320) (here : is_here (c p) ≡ true) (gone : is_here (c' p) ≡ false) (others : (q : ℕ) → q ≢ p
+    → c' q ≡ c q)
     (low : nat_lt p 256 ≡ true) (even : (p % 2 == 0) ≡ true) (code : g.code ≡ f.code)
     (fired : g.fired ≡ f.fired) (places : g.places ≡ f.places) (none : travels asked' works g p ≡ false)
     (come : (i : Inst) (s : ℕ) → s ≢ p / 2 → (k : Form) → to_come asked' g k i s ≡ to_come asked f k i s)
@@ -302,7 +305,8 @@ module _ (c c' : ℕ → Stand) (asked asked' works : ℕ → Bool) (f g : Frame
     where
       go : (b : Bool) → (q % 2 == 0) ≡ b → b ≡ false
       go false i = refl
-      go true i = absurd (let x : q % 2 ≡ 0 = grind (arith, nat_tests) in let y : p % 2 ≡ 0 = grind (arith, nat_tests) in
+      go true i = absurd (let x : q % 2 ≡ 0 = grind (arith, nat_tests) in let y : p % 2 ≡ 0 = grind
+          (arith, nat_tests) in
           n (omega (arith, x, y, e)))
 
   same_half : (q : ℕ) → q ≢ p → q / 2 ≡ p / 2 → travels asked' works g q ≡ travels asked works f q
@@ -324,7 +328,8 @@ module _ (c c' : ℕ → Stand) (asked asked' works : ℕ → Bool) (f g : Frame
   served_tied = taken_tied c c' asked asked' works f g p gone others none
       (λ q n. elim (equal_or (q / 2) (p / 2)) [
         | inl e ↦ same_half q n e
-        | inr d ↦ travels_by asked works asked' works f g q code refl (λ i e. come i (q / 2) d (form_of i.op)) (token_same q)
+        | inr d ↦ travels_by asked works asked' works f g q code refl (λ i e. come i (q / 2) d (form_of i.op))
+            (token_same q)
       ]) standing
       (λ s w u. in_unit_by asked asked' f g s code (λ z. ap (λ l. get_or l s false) fired ∙ z)
       (λ i e. come i s (λ z. true≢false (sym w ∙ ap works z ∙ (comes c asked works f t p inside here low).rests))

@@ -51,7 +51,8 @@ module _ {W : Type 0} (blocks : List Block) (good : AllGood blocks) (budget leas
           let small : s < slots = subst (λ k. s < k) (sym slots_are) (omega (arith, low, all)) in
           let none : test a.frame = (each_rest test a.older (a.frame ∷ a.younger)
           (subst (EachFrame test) a.split (eldest_none (in_unit g tile) slots g.window.frames e))).0 in
-          true≢false (sym (ap₂ (λ x y. x && y) (ap (λ k. g.works k s) a.number ∙ w) (ap (λ k. k == tile) on ∙ same tile))
+          true≢false (sym (ap₂ (λ x y. x && y) (ap (λ k. g.works k s) a.number ∙ w) (ap (λ k. k == tile) on
+          ∙ same tile))
           ∙ none s small)
 
   result_going : (tile : ℕ) (o : Option (ℕ × ℕ)) (g : Grid W) → Going blocks budget least g

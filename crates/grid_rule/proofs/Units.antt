@@ -113,7 +113,8 @@ slots_are = refl
 -- units ------------------------------------------------------------------------------------------
 
 -- a unit whose time goes on
-pub goes_on : (units : ℕ → ℕ) (works : ℕ → ℕ → Bool) (tile left : ℕ) → units tile ≡ suc (suc left) → UnitsRule units works
+pub goes_on : (units : ℕ → ℕ) (works : ℕ → ℕ → Bool) (tile left : ℕ) → units tile ≡ suc (suc left)
+    → UnitsRule units works
     → UnitsRule (units_to units tile (suc left)) works
 goes_on units works tile left e u = record {
   most = to_most units tile (suc left) 24 (let m : units tile ≤ 24 = u.most tile in omega (arith, m, e)) u.most;
@@ -146,7 +147,8 @@ had_none units works tile none u = record {
 }
 
 -- a free unit has a new result
-pub is_issued : (units : ℕ → ℕ) (works : ℕ → ℕ → Bool) (tile n s time : ℕ) → units tile ≡ 0 → tile_of s ≡ tile → 1 ≤ time
+pub is_issued : (units : ℕ → ℕ) (works : ℕ → ℕ → Bool) (tile n s time : ℕ) → units tile ≡ 0 → tile_of s ≡ tile
+    → 1 ≤ time
     → time ≤ 24 → UnitsRule units works → UnitsRule (units_to units tile time) (works_more works n s)
 is_issued units works tile n s time free e some most u = record {
   most = to_most units tile time 24 most u.most;
@@ -217,7 +219,8 @@ module _ {W : Type 0} (blocks : List Block) (good : AllGood blocks) (budget leas
     was_none p l e = (tied).travelling p l ∙ e
 
     first_none : is_here (g.parcels m (2 * s)) ≡ false
-    first_none = was_none (2 * s) (omega (arith, small)) (first_travels (g.asked m) (g.works m) f s r.inst small r.is_inst
+    first_none = was_none (2 * s) (omega (arith, small)) (first_travels (g.asked m)
+        (g.works m) f s r.inst small r.is_inst
         ∙ ap (λ b. not b && form_travels (form_of r.inst.op) true (to_come (g.asked m) f (form_of r.inst.op) r.inst s)
         (is_some (at f.places (2 * s)))) had)
 
