@@ -18,6 +18,20 @@ use Rattle.grid_cycle_spec.proofs.Parts.{Keeps, eager_keeps}
 abbrev Later : {W : Type 0} → Grid W → Grid W → Type 0
 Later g h = g.counts.cycles ≤ h.counts.cycles
 
+module _ (blocks : List Block) (budget : ℕ) where
+  -- where the run has ended no event happens
+  stuck : (e : Event) (w : Window) (s : Stepped) → w.over ≡ s → (s ≡ stepped.Went → ⊥)
+      → happens blocks budget e w ≡ w
+  stuck e w stepped.Went i n = absurd (n refl)
+  stuck e w stepped.Ended i n = ap (λ o. if_done (unless_over o (can_now blocks budget e w)) (done blocks e w) w) i
+  stuck e w stepped.StackFull i n = ap (λ o. if_done (unless_over o (can_now blocks budget e w)) (done blocks e w) w) i
+  stuck e w (stepped.Trap c) i n = ap (λ o. if_done (unless_over o (can_now blocks budget e w)) (done blocks e w) w) i
+
+  all_stuck : (es : List Event) (w : Window) (s : Stepped) → w.over ≡ s → (s ≡ stepped.Went → ⊥)
+      → plays blocks budget es w ≡ w
+  all_stuck [] w s i n = refl
+  all_stuck (e ∷ es) w s i n = ap (plays blocks budget es) (stuck e w s i n) ∙ all_stuck es w s i n
+
 module _ {W : Type 0} (blocks : List Block) (budget : ℕ) where
   by_counts : (g h : Grid W) → h.counts ≡ g.counts → Later g h
   by_counts g h e =
@@ -54,19 +68,6 @@ module _ {W : Type 0} (blocks : List Block) (budget : ℕ) where
     committing = λ g may. commit_later g.window.frames g;
     counting = λ c g. omega arith;
   }
-
-  -- where the run has ended no event happens
-  stuck : (e : Event) (w : Window) (s : Stepped) → w.over ≡ s → (s ≡ stepped.Went → ⊥)
-      → happens blocks budget e w ≡ w
-  stuck e w stepped.Went i n = absurd (n refl)
-  stuck e w stepped.Ended i n = ap (λ o. if_done (unless_over o (can_now blocks budget e w)) (done blocks e w) w) i
-  stuck e w stepped.StackFull i n = ap (λ o. if_done (unless_over o (can_now blocks budget e w)) (done blocks e w) w) i
-  stuck e w (stepped.Trap c) i n = ap (λ o. if_done (unless_over o (can_now blocks budget e w)) (done blocks e w) w) i
-
-  all_stuck : (es : List Event) (w : Window) (s : Stepped) → w.over ≡ s → (s ≡ stepped.Went → ⊥)
-      → plays blocks budget es w ≡ w
-  all_stuck [] w s i n = refl
-  all_stuck (e ∷ es) w s i n = ap (plays blocks budget es) (stuck e w s i n) ∙ all_stuck es w s i n
 
   module _ (next : W → ℕ) (follows : W → W → Type 0) (g h : Grid W) (cycle : Eager next follows blocks budget g h) where
     pub cycles_before : g.counts.cycles ≤ h.counts.cycles
