@@ -81,7 +81,7 @@ module _ {W : Type 0} (blocks : List Block) (budget : ℕ) where
     went_before e = by g.window.over refl
       where
         over_same : (s : Stepped) → g.window.over ≡ s → (s ≡ stepped.Went → ⊥) → s ≡ stepped.Went
-        over_same s i n = sym i ∙ ap (λ (w : Window). w.over) (sym (steps.played ∙ all_stuck steps.events g.window s i n))
+        over_same s i n = sym i ∙ ap (λ (w : Window). w.over) (sym (steps.played ∙ all_stuck blocks budget steps.events g.window s i n))
             ∙ e
 
         by : (s : Stepped) → g.window.over ≡ s → g.window.over ≡ stepped.Went
