@@ -38,11 +38,11 @@ size_in_most blocks good k = by (slice_get blocks k) refl
 -- prices only add up
 total_later : (sizes : ℕ → ℕ) (m n : ℕ) → m ≤ n → total sizes m ≤ total sizes n
 total_later sizes m zero l = let e : m ≡ 0 = omega (arith, l) in let t = ap (total sizes) e in omega (arith, t)
-total_later sizes m (suc n) l = by (cases_lt m (suc n))
+total_later sizes m (suc n) l = by (cases_lt m (suc n)) (total_later sizes m n)
   where
-    by : (m < suc n) ⊎ (suc n ≤ m) → total sizes m ≤ total sizes (suc n)
-    by (inl k) = let h : total sizes m ≤ total sizes n = total_later sizes m n (omega (arith, k)) in omega (arith, h)
-    by (inr k) = let e : m ≡ suc n = omega (arith, k, l) in let t = ap (total sizes) e in omega (arith, t)
+    by : (m < suc n) ⊎ (suc n ≤ m) → (m ≤ n → total sizes m ≤ total sizes n) → total sizes m ≤ total sizes (suc n)
+    by (inl k) below = let h : total sizes m ≤ total sizes n = below (omega (arith, k)) in omega (arith, h)
+    by (inr k) below = let e : m ≡ suc n = omega (arith, k, l) in let t = ap (total sizes) e in omega (arith, t)
 
 module _ {W : Type 0} (blocks : List Block) (good : AllGood blocks) (budget : ℕ) (next : W → ℕ)
     (follows : W → W → Type 0) (bound : (w : W) → next w ≤ 3) (s : State) (entries : List ℕ) (weather : W)
