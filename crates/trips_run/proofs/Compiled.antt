@@ -1,6 +1,6 @@
 -- What the run of a compiled program is told to come to.
 use Rattle.std.proofs.Common.{◌≡◌, ℕ, ℤ, ◌+◌, ◌-◌, ◌*◌, ◌<◌, ◌≤◌, List, ◌++◌, slice_index, refl, sym, ap, ◌∙◌, subst}
-use Rattle.std.proofs.Common.{length, Option, arith}
+use Rattle.std.proofs.Common.{false, length, Option, arith}
 use Rattle.std.specs.Prelude.{codes}
 use Rattle.std.specs.Fmt.{signed_decimal}
 use Rattle.trips_outside.specs.Outside.{Holds}
@@ -24,10 +24,13 @@ use Rattle.trips_run.specs.declared.status.Status.TheVariants as status
 use Rattle.trips_run.specs.Request.{Request, origin_held, settings_of}
 use Rattle.grid_place.specs.declared.placed.Placing.{Placing}
 use Rattle.trips_run.specs.Read.{HoldsInput}
+use Rattle.grid_cycle_spec.specs.Costs.{cost_of}
 use Rattle.trips_report.specs.declared.show.Show.{Show}
 use Rattle.trips_report.specs.Runs.{output_and}
 use Rattle.trips_report.proofs.Parts.{shows_nothing}
-use Rattle.trips_run.specs.Report.{ending_of, run_report, shown_report, shown_behind, no_counts, nothing_shown}
+use Rattle.trips_run.specs.Report.{ending_of, run_report, shown_report, shown_behind, counted_behind}
+use Rattle.trips_run.specs.Report.{no_counts, nothing_shown}
+use Rattle.trips_run.proofs.GridRuns.{hides}
 use Rattle.trips_run.specs.Worked.{status_of, IsRunOfText}
 use Rattle.trips_run.specs.Table.{ended_report, full_report}
 use Rattle.trips_run.specs.Evaluated.{SaysOf, HasNotEnded, RunEndsAs}
@@ -96,25 +99,39 @@ module _ (settings : Settings) (n : ℕ) (text input : List ℕ) (program : Type
   finished_status : (output : List ℕ) (value : ℤ) (steps : ℕ)
       → eval program input n ≡ Done output value steps → s ≡ status.Ended
   finished_status output value steps done =
-      run.3.0 ∙ ap (λ (a : Stepped). status_of (ending_of a (run_of run.0 input settings.most).0.next))
+      run.3.2.0 ∙ ap (λ (a : Stepped). status_of (ending_of a (run_of run.0 input settings.most).0.next))
       (finished_run output value steps done).answer
 
-  pub finished_shown : (output : List ℕ) (value : ℤ) (steps : ℕ)
+  pub finished_counted : (output : List ℕ) (value : ℤ) (steps : ℕ)
+      → eval program input n ≡ Done output value steps
+      → (s ≡ status.Ended) × ((run_of run.0 input settings.most).1 ≡ stepped.Ended)
+      × (report ≡ counted_behind (ended_report output value) (run_of run.0 input settings.most).0 run.3.0
+      (cost_of run.0.blocks (run_of run.0 input settings.most).0.trace) settings.show)
+  finished_counted output value steps done = (
+    finished_status output value steps done,
+    (finished_run output value steps done).answer,
+    run.3.2.1 ∙ ap (λ (t : List ℕ). counted_behind t (run_of run.0 input settings.most).0 run.3.0
+        (cost_of run.0.blocks (run_of run.0 input settings.most).0.trace) settings.show)
+        (ended (run_of run.0 input settings.most) output value (finished_run output value steps done)),
+  )
+
+  pub finished_shown : (output : List ℕ) (value : ℤ) (steps : ℕ) → settings.show.cycles ≡ false
       → eval program input n ≡ Done output value steps
       → (s ≡ status.Ended) × ((run_of run.0 input settings.most).1 ≡ stepped.Ended)
       × (report ≡ shown_behind (ended_report output value) (run_of run.0 input settings.most).0 settings.show)
-  finished_shown output value steps done = (
-    finished_status output value steps done,
-    (finished_run output value steps done).answer,
-    run.3.1 ∙ ap (λ (t : List ℕ). shown_behind t (run_of run.0 input settings.most).0 settings.show)
-        (ended (run_of run.0 input settings.most) output value (finished_run output value steps done)),
-  )
+  finished_shown output value steps hidden done =
+      let told = finished_counted output value steps done in (
+        told.0,
+        told.1,
+        told.2 ∙ hides (ended_report output value) (run_of run.0 input settings.most).0 run.3.0 no_counts
+            (cost_of run.0.blocks (run_of run.0 input settings.most).0.trace) 0 settings.show hidden,
+      )
 
   pub finished_told : (output : List ℕ) (value : ℤ) (steps : ℕ) → settings.show ≡ nothing_shown
       → eval program input n ≡ Done output value steps
       → (s ≡ status.Ended) × (report ≡ ended_report output value)
   finished_told output value steps none done =
-      let told = finished_shown output value steps done in (
+      let told = finished_shown output value steps (ap (λ (v : Show). v.cycles) none) done in (
         told.0,
         told.2 ∙ nothing_behind (ended_report output value) (run_of run.0 input settings.most).0 settings.show none,
       )
@@ -130,24 +147,38 @@ module _ (settings : Settings) (n : ℕ) (text input : List ℕ) (program : Type
   deep_status : (output : List ℕ) → eval program input n ≡ Stopped Deep output
       → s ≡ status.StackFull
   deep_status output deep =
-      run.3.0 ∙ ap (λ (a : Stepped). status_of (ending_of a (run_of run.0 input settings.most).0.next))
+      run.3.2.0 ∙ ap (λ (a : Stepped). status_of (ending_of a (run_of run.0 input settings.most).0.next))
       (deep_run output deep).answer
 
-  pub deep_shown : (output : List ℕ) → eval program input n ≡ Stopped Deep output
+  pub deep_counted : (output : List ℕ) → eval program input n ≡ Stopped Deep output
       → (s ≡ status.StackFull) × ((run_of run.0 input settings.most).1 ≡ stepped.StackFull)
-      × (report ≡ shown_behind (full_report output) (run_of run.0 input settings.most).0 settings.show)
-  deep_shown output deep = (
+      × (report ≡ counted_behind (full_report output) (run_of run.0 input settings.most).0 run.3.0
+      (cost_of run.0.blocks (run_of run.0 input settings.most).0.trace) settings.show)
+  deep_counted output deep = (
     deep_status output deep,
     (deep_run output deep).answer,
-    run.3.1 ∙ ap (λ (t : List ℕ). shown_behind t (run_of run.0 input settings.most).0 settings.show)
+    run.3.2.1 ∙ ap (λ (t : List ℕ). counted_behind t (run_of run.0 input settings.most).0 run.3.0
+        (cost_of run.0.blocks (run_of run.0 input settings.most).0.trace) settings.show)
         (full (run_of run.0 input settings.most) output (deep_run output deep)),
   )
+
+  pub deep_shown : (output : List ℕ) → settings.show.cycles ≡ false
+      → eval program input n ≡ Stopped Deep output
+      → (s ≡ status.StackFull) × ((run_of run.0 input settings.most).1 ≡ stepped.StackFull)
+      × (report ≡ shown_behind (full_report output) (run_of run.0 input settings.most).0 settings.show)
+  deep_shown output hidden deep =
+      let told = deep_counted output deep in (
+        told.0,
+        told.1,
+        told.2 ∙ hides (full_report output) (run_of run.0 input settings.most).0 run.3.0 no_counts
+            (cost_of run.0.blocks (run_of run.0 input settings.most).0.trace) 0 settings.show hidden,
+      )
 
   pub deep_told : (output : List ℕ) → settings.show ≡ nothing_shown
       → eval program input n ≡ Stopped Deep output
       → (s ≡ status.StackFull) × (report ≡ full_report output)
   deep_told output none deep =
-      let told = deep_shown output deep in
+      let told = deep_shown output (ap (λ (v : Show). v.cycles) none) deep in
       (told.0, told.2 ∙ nothing_behind (full_report output) (run_of run.0 input settings.most).0 settings.show none)
 
   -- where the budget was spent
@@ -199,7 +230,7 @@ run_ends_as held q text input s report holds holds_input run =
       accepted = m.accepted;
       tokens = m.tokens;
       lexed = m.lexed;
-      says = λ n lt. subst (λ (x : Status). SaysOf x (eval m.program input n)) (sym run.3.0)
+      says = λ n lt. subst (λ (x : Status). SaysOf x (eval m.program input n)) (sym run.3.2.0)
           (says r.1 r.0.next (eval m.program input n) (m.ends input run.2 q.most n lt));
       spent = λ spent n enough.
           spent_told (settings_of q) n text input m.program s report run m.accepted enough spent;

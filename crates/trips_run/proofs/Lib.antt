@@ -1,9 +1,11 @@
 pub mod BlockRuns
+pub mod GridRuns
 pub mod Told
 pub mod Rows
 pub mod Ends
 pub mod Causes
 pub mod Reported
+pub mod CountedRuns
 pub mod OneFault
 pub mod Results
 pub mod Compiled

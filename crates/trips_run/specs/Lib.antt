@@ -2,6 +2,7 @@ pub mod Request
 pub mod Read
 pub mod Report
 pub mod Refusal
+pub mod Counted
 pub mod Worked
 pub mod Answer
 pub mod Checked

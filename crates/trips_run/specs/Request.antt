@@ -1,5 +1,5 @@
 -- Which request the words of a command line make: that of `trips_words`, and what its file is read as.
-use Rattle.std.specs.Prelude.{ℕ, false, if◌then◌else◌, List, map, String, Option, None, Some, option_map}
+use Rattle.std.specs.Prelude.{ℕ, if◌then◌else◌, List, map, String, Option, None, Some, option_map}
 use Rattle.std.specs.Prelude.{codes, nat_eq, string_bytes}
 use Rattle.std.specs.List.{ends_with}
 use Rattle.bench_text.specs.Text.{bench_text}
@@ -36,20 +36,21 @@ placing_of None = Greedy
 placing_of (Some number) = Seeded number
 
 -- A request: what is done, with the bytes of what, read as what, with the input of which name, if it has
--- one, how compiled blocks are placed, how many blocks or steps it may take, and what the report of a run
--- shows behind its ending.
+-- one, how compiled blocks are placed, the seed of the grid, how many blocks or steps it may take, and what
+-- the report of a run shows behind its ending.
 pub record Request : Type 0 where
   pub work : Work
   pub origin : Origin
   pub form : FileForm
   pub input : Option (List ℕ)
   pub placing : Placing
+  pub seed : ℕ
   pub most : ℕ
   pub show : Show
 
 -- how a request's work is done within so many blocks or steps, where this is shown
 abbrev pub settings_with : Request → ℕ → Show → Settings
-settings_with q most show = record { placing = q.placing; most = most; show = show }
+settings_with q most show = record { placing = q.placing; seed = q.seed; most = most; show = show }
 
 -- how the work of a request is done
 abbrev pub settings_of : Request → Settings
@@ -77,8 +78,9 @@ planned r = record {
   form = form_of r.command r.file;
   input = r.input;
   placing = placing_of r.place;
+  seed = r.seed;
   most = r.most;
-  show = record { regs = r.regs; trace = r.trace; cycles = false };
+  show = record { regs = r.regs; trace = r.trace; cycles = r.cycles };
 }
 
 -- the request of the words of a command line, without the program's name

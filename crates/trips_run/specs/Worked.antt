@@ -1,8 +1,9 @@
 -- What is done with the bytes of a file: the status and the report.
-use Rattle.std.specs.Prelude.{◌≡◌, ◌≢◌, ℕ, List}
+use Rattle.std.specs.Prelude.{◌≡◌, ◌≢◌, ℕ, true, List}
 use Rattle.std.specs.Prelude.{◌⊎◌, All}
 use Rattle.trips_isa.specs.declared.block.Block.{Block}
 use Rattle.trips_isa.specs.declared.block.Image.{Image}
+use Rattle.trips_isa.specs.declared.run.Counts.{Counts}
 use Rattle.trips_isa.specs.declared.run.Ending.{Ending}
 use Rattle.trips_isa.specs.declared.run.Ending.TheVariants as ending
 use Rattle.trips_isa.specs.Machine.{runs, start}
@@ -13,6 +14,7 @@ use Rattle.c_front.specs.Fronts.{IsAccepted}
 use Rattle.c_compile.specs.Images.{IsImageOf}
 use Rattle.flat_lower.specs.Keeps as bytes
 use Rattle.grid_place.specs.declared.placed.Placing.{Placing}
+use Rattle.grid_cycle_spec.specs.Costs.{cost_of}
 use Rattle.c_meaning_spec.specs.Eval.{eval}
 use Rattle.c_meaning.specs.declared.outcome.Outcome.{Outcome}
 use Rattle.c_meaning.specs.declared.outcome.Outcome.TheVariants as outcome
@@ -29,10 +31,11 @@ use Rattle.trips_run.specs.declared.command_line.FileForm.TheVariants as form
 use Rattle.trips_run.specs.declared.command_line.Settings.{Settings}
 use Rattle.trips_run.specs.declared.status.Status.{Status}
 use Rattle.trips_run.specs.declared.status.Status.TheVariants as status
-use Rattle.trips_run.specs.Report.{ending_of, shown_report}
+use Rattle.trips_run.specs.Report.{ending_of, counted_report, form_text}
 use Rattle.trips_run.specs.Refusal.{front_refusal}
 use Rattle.trips_report.specs.Evaluations.{eval_report}
 use Rattle.trips_run.specs.Refused.{IsRefusedAs}
+use Rattle.trips_run.specs.Counted.{IsCountedRun, IsGivenUp, IsUnfinished}
 
 -- this status, with this text
 abbrev pub IsFixed : Status → List ℕ → Status → List ℕ → Type 0
@@ -51,12 +54,22 @@ status_of ending.StackFull = status.StackFull
 status_of ending.Budget = status.Budget
 status_of (ending.Trap block cause) = status.Trap
 
--- These tell the sequential machine's run of an image on an input, within a budget of blocks.
+-- These tell the sequential machine's run of an image on an input, within a budget of blocks, and what the grid
+-- counted of it where that is shown.
 abbrev pub IsRunBy : List Block → List ℕ → List ℕ → Settings → Status → List ℕ → Type 0
 IsRunBy blocks bytes input settings s report =
     let run = runs blocks (start bytes input) settings.most in
     let ended = ending_of run.1 run.0.next in
-    IsFixed (status_of ended) (shown_report ended run.0 settings.show) s report
+    (counts : Counts) × (settings.show.cycles ≡ true
+    → IsCountedRun blocks bytes input settings.seed settings.most ended counts)
+    × IsFixed (status_of ended)
+    (counted_report ended run.0 counts (cost_of blocks run.0.trace) settings.show) s report
+
+-- or that the grid's run of it is given up
+abbrev pub IsRunOrGivenUp : Image → List ℕ → Settings → Status → List ℕ → Type 0
+IsRunOrGivenUp image input settings s report =
+    IsRunBy image.blocks image.bytes input settings s report
+    ⊎ (IsGivenUp image input settings × IsFixed status.Refused form_text s report)
 
 -- the status that tells an outcome
 abbrev pub eval_status : Outcome → Status
@@ -122,3 +135,8 @@ IsRefusal work how bytes s report =
 abbrev pub IsDone : Work → FileForm → Settings → List ℕ → List ℕ → Status → List ℕ → Type 0
 IsDone work how settings bytes input s report =
     IsRefusal work how bytes s report ⊎ IsWorked work how settings bytes input s report
+
+-- it is so, or the grid's run is given up
+abbrev pub IsTried : Work → FileForm → Settings → List ℕ → List ℕ → Status → List ℕ → Type 0
+IsTried work how settings bytes input s report = IsDone work how settings bytes input s report
+    ⊎ (IsUnfinished work how settings bytes input × IsFixed status.Refused form_text s report)

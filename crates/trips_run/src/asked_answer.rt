@@ -1,10 +1,10 @@
 //! The answer to a request: its file is read first, then its input, and then the work is done.
 
-ghost use Rattle.std.specs.Prelude.{◌≡◌, ◌≤◌, length, Some, IfOk, option_map};
+ghost use Rattle.std.specs.Prelude.{◌≡◌, ◌<◌, ◌≤◌, length, Some, IfOk, IfSome, option_map};
 ghost use Rattle.trips_outside.specs.Outside.{Rose};
 ghost use Rattle.trips_run.specs.Request.{form_of, settings_of, request_of, request_seen};
 ghost use Rattle.trips_run.specs.Read.{limit_of};
-ghost use Rattle.trips_run.specs.Worked.{IsDone};
+ghost use Rattle.trips_run.specs.Worked.{IsTried};
 ghost use Rattle.trips_run.specs.Answer.{AfterReading, IsAnswerBehind, IsAnswer};
 
 use crate::answer::{Answer, fixed, too_large, unread};
@@ -47,8 +47,9 @@ fn run_done(
     input: Items<u8>,
     settings: Settings,
 ) -> Result<Answer, AllocError>
-    requires { length bytes.now ≤ limit_of form }
-    ensures { IfOk result (λ answer. IsDone Command.Run form settings bytes.now input
+    requires few { length bytes.now ≤ limit_of form }
+    requires some { 0 < settings.most }
+    ensures { IfOk result (λ answer. IsTried Command.Run form settings bytes.now input
         answer.status answer.report.items) }
 {
     match form {
@@ -65,8 +66,9 @@ fn done(
     bytes: &[u8],
     input: Items<u8>,
 ) -> Result<Answer, AllocError>
-    requires { length bytes.now ≤ limit_of (form_of asked.command asked.file.now) }
-    ensures { IfOk result (λ answer. IsDone asked.entry.command
+    requires few { length bytes.now ≤ limit_of (form_of asked.command asked.file.now) }
+    requires some { 0 < asked.most }
+    ensures { IfOk result (λ answer. IsTried asked.entry.command
         (form_of asked.entry.command asked.entry.file.now) (settings_of (request_seen asked.entry))
         bytes.now input answer.status answer.report.items) }
 {
@@ -91,9 +93,10 @@ fn input_answer(
     bytes: &[u8],
     loaded: Loaded,
 ) -> Result<Answer, AllocError>
-    requires { length bytes.now ≤ limit_of (form_of asked.command asked.file.now) }
+    requires few { length bytes.now ≤ limit_of (form_of asked.command asked.file.now) }
+    requires some { 0 < asked.most }
     ensures { IfOk result (λ answer. AfterReading loaded
-        (λ input. IsDone asked.entry.command
+        (λ input. IsTried asked.entry.command
         (form_of asked.entry.command asked.entry.file.now) (settings_of (request_seen asked.entry))
         bytes.now input answer.status answer.report.items)
         answer.status answer.report.items) }
@@ -112,7 +115,8 @@ fn file_answer<F: Files>(
     asked: Asked<'_>,
     bytes: &[u8],
 ) -> Result<Answer, AllocError>
-    requires { length bytes.now ≤ limit_of (form_of asked.command asked.file.now) }
+    requires few { length bytes.now ≤ limit_of (form_of asked.command asked.file.now) }
+    requires some { 0 < asked.most }
     ensures answer { IfOk result (λ answer. IsAnswerBehind (request_seen asked.entry)
         (F.held files.old) (Rose (F.faults files.old) (F.faults files.new)) bytes.now
         answer.status answer.report.items) }
@@ -129,6 +133,7 @@ fn asked_answer<F: Files>(
     files: &mut F,
     asked: Asked<'_>,
 ) -> Result<Answer, AllocError>
+    requires some { 0 < asked.most }
     ensures answer { IfOk result (λ answer. IsAnswer (Some (request_seen asked.entry))
         (F.held files.old) (Rose (F.faults files.old) (F.faults files.new))
         answer.status answer.report.items) }
@@ -150,6 +155,7 @@ fn answer_to<F: Files>(
     files: &mut F,
     asked: Option<Asked<'_>>,
 ) -> Result<Answer, AllocError>
+    requires some { IfSome asked (λ request. 0 < request.most) }
     ensures answer { IfOk result (λ answer. IsAnswer (option_map request_seen asked.entry)
         (F.held files.old) (Rose (F.faults files.old) (F.faults files.new))
         answer.status answer.report.items) }

@@ -1,6 +1,6 @@
 //! The request of the words, what it reads its file as, and how its work is done.
 
-ghost use Rattle.std.specs.Prelude.{◌≡◌, IfOk, option_map};
+ghost use Rattle.std.specs.Prelude.{◌≡◌, ◌<◌, IfOk, IfSome, option_map};
 ghost use Rattle.trips_run.specs.Request.{form_named, form_of, placing_of, settings_of, request_of, request_seen};
 
 use grid_place::Placing;
@@ -21,6 +21,8 @@ pub enum FileForm {
 pub struct Settings {
     /// how the blocks of a compiled program are placed
     pub placing: Placing,
+    /// the seed of the grid's predictor and of its network's delays
+    pub seed: u64,
     /// how many blocks or steps it may take
     pub most: u32,
     /// what the report of a run shows behind its ending
@@ -71,18 +73,20 @@ pub fn settings_for(asked: Asked<'_>) -> Settings
 {
     Settings {
         placing: placing_of(asked.place),
+        seed: asked.seed,
         most: asked.most,
         show: Show {
             regs: asked.regs,
             trace: asked.trace,
-            cycles: false,
+            cycles: asked.cycles,
         },
     }
 }
 
 /// The request of the words, and none where they make none. Want of memory is the only error.
 pub fn asked_by(alloc: Global, words: &[String]) -> Result<Option<Asked<'_>>, AllocError>
-    ensures { IfOk result (λ asked. option_map request_seen asked ≡ request_of words.now) }
+    ensures asked { IfOk result (λ asked. option_map request_seen asked ≡ request_of words.now) }
+    ensures some { IfOk result (λ asked. IfSome asked (λ request. 0 < request.most)) }
 {
     match request(alloc, words) {
         Ok(asked) => Ok(asked),

@@ -1,15 +1,15 @@
 //! `run` on the bytes of an image, and on a target text.
 
-ghost use Rattle.std.specs.Prelude.{◌≡◌, IfOk};
+ghost use Rattle.std.specs.Prelude.{◌≡◌, ◌<◌, IfOk};
 ghost use Rattle.trips_isa.specs.Images.{FitsImage};
 ghost use Rattle.trips_words.specs.declared.commands.Command.TheVariants.{Run};
 ghost use Rattle.trips_run.specs.declared.command_line.FileForm.TheVariants as form;
-ghost use Rattle.trips_run.specs.Worked.{IsDone};
+ghost use Rattle.trips_run.specs.Worked.{IsTried};
 ghost use Rattle.trips_run.specs.Checked.{IsRunOfChecked};
 
 use crate::answer::{Answer, refused};
 use crate::command_line::Settings;
-use crate::running::run_image;
+use crate::gridded::run_image;
 use base::Items;
 use block_check::{CheckedImage, ImageRefusal};
 use block_image::{ImageFault, decode};
@@ -25,12 +25,13 @@ fn checked_answer(
     input: Items<u8>,
     settings: Settings,
 ) -> Result<Answer, AllocError>
-    requires { FitsImage image }
+    requires fits { FitsImage image }
+    requires some { 0 < settings.most }
     ensures { IfOk result (λ answer.
         IsRunOfChecked image settings input answer.status answer.report.items) }
 {
     match CheckedImage::make(alloc, image) {
-        Ok(checked) => run_image(alloc, &checked, input, settings),
+        Ok(checked) => run_image(alloc, checked, input, settings),
         Err(ImageRefusal::Bad(number, fault)) => refused(alloc, Said::Check(number, fault)),
         Err(ImageRefusal::Memory) => Err(AllocError),
     }
@@ -43,7 +44,8 @@ pub fn bytes_answer(
     input: Items<u8>,
     settings: Settings,
 ) -> Result<Answer, AllocError>
-    ensures { IfOk result (λ answer. IsDone Run form.Image settings bytes.now input answer.status
+    requires { 0 < settings.most }
+    ensures { IfOk result (λ answer. IsTried Run form.Image settings bytes.now input answer.status
         answer.report.items) }
 {
     match decode(alloc, bytes) {
@@ -60,7 +62,8 @@ pub fn target_answer(
     input: Items<u8>,
     settings: Settings,
 ) -> Result<Answer, AllocError>
-    ensures { IfOk result (λ answer. IsDone Run form.Target settings text.now input answer.status
+    requires { 0 < settings.most }
+    ensures { IfOk result (λ answer. IsTried Run form.Target settings text.now input answer.status
         answer.report.items) }
 {
     match assemble(alloc, text) {

@@ -9,6 +9,7 @@ mod answer;
 mod asked_answer;
 mod command_line;
 mod eval_answer;
+mod gridded;
 mod image_answer;
 mod loading;
 mod report;

@@ -1,7 +1,7 @@
-//! The run of a checked image.
+//! The run of a checked image on the sequential machine.
 
-ghost use Rattle.std.specs.Prelude.{◌≡◌, ◌<◌, ◌≤◌, ◌+◌, length, IfOk};
-ghost use Rattle.trips_isa.specs.Machine.{runs};
+ghost use Rattle.std.specs.Prelude.{◌≡◌, ◌<◌, ◌≤◌, ◌+◌, ℕ, false, List, length, IfOk};
+ghost use Rattle.trips_isa.specs.Machine.{runs, start};
 ghost use Rattle.trips_run.specs.Report.{ending_of};
 ghost use Rattle.trips_run.specs.Worked.{status_of, IsRunBy};
 
@@ -9,14 +9,13 @@ use crate::answer::Answer;
 use crate::command_line::Settings;
 use crate::report::run_text;
 use crate::status::Status;
-use base::Items;
 use block_atomic::Arch;
 use block_check::CheckedImage;
 use std::alloc::{AllocError, Global};
 use trips_isa::{Ending, Stepped};
 
-// The status that tells an ending.
-fn status_for(ending: Ending) -> Status
+/// The status that tells an ending.
+pub fn status_for(ending: Ending) -> Status
     ensures { result ≡ status_of ending }
 {
     match ending {
@@ -51,21 +50,20 @@ fn run_blocks(arch: &mut Arch, image: &CheckedImage, budget: u32) -> Ending
     Ending::Budget
 }
 
-/// Runs an image on an input, for as many blocks as the settings allow, and tells how its run ended and what is shown.
-/// Want of memory is the only error.
-pub fn run_image(
+/// Runs a machine on the blocks of its image, for as many as the settings allow, and tells how its run ended and what is
+/// shown, of which nothing is counted. Want of memory is the only error.
+pub fn machine_answer(
     alloc: Global,
+    mut arch: Arch,
     image: &CheckedImage,
-    input: Items<u8>,
     settings: Settings,
 ) -> Result<Answer, AllocError>
-    requires { 0 < length image.now.blocks }
-    ensures { IfOk result (λ answer. IsRunBy image.now.blocks image.now.bytes input settings
-        answer.status answer.report.items) }
+    requires next { arch.state.next < length image.now.blocks }
+    requires room { length arch.state.trace + settings.most ≤ arch.budget }
+    ensures { IfOk result (λ answer. (bytes input : List ℕ) → arch.state ≡ start bytes input
+        → settings.show.cycles ≡ false
+        → IsRunBy image.now.blocks bytes input settings answer.status answer.report.items) }
 {
-    let Ok(mut arch) = Arch::make(alloc, image, input.into_vec(), settings.most) else {
-        return Err(AllocError);
-    };
     let ending = run_blocks(&mut arch, image, settings.most);
     let report = run_text(alloc, ending, &arch, settings.show)?;
     Ok(Answer {

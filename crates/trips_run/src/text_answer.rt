@@ -7,11 +7,11 @@ ghost use Rattle.trips_run.specs.declared.command_line.FileForm.{FileForm};
 ghost use Rattle.trips_run.specs.declared.command_line.FileForm.TheVariants as form;
 ghost use Rattle.trips_run.specs.declared.command_line.Settings.{Settings};
 ghost use Rattle.flat_lower.specs.Keeps.{IsInput};
-ghost use Rattle.trips_run.specs.Worked.{IsDone};
+ghost use Rattle.trips_run.specs.Worked.{IsDone, IsTried};
 
 use crate::answer::{Answer, stage_refused};
 use crate::command_line::Settings;
-use crate::running::run_image;
+use crate::gridded::run_image;
 use crate::status::Status;
 use base::{Items, Memory};
 use block_check::CheckedImage;
@@ -32,14 +32,15 @@ pub fn text_answer(
     input: Items<u8>,
     settings: Settings,
 ) -> Result<Answer, AllocError>
-    requires { length text.now < 4_294_967_295 }
-    ensures { IfOk result (λ answer. IsDone Run form.Source settings text.now input answer.status
+    requires few { length text.now < 4_294_967_295 }
+    requires some { 0 < settings.most }
+    ensures { IfOk result (λ answer. IsTried Run form.Source settings text.now input answer.status
         answer.report.items) }
 {
     match compile(alloc, text, settings.placing) {
         Ok(image) => {
             is_input(input.as_slice());
-            run_image(alloc, &image, input, settings)
+            run_image(alloc, image, input, settings)
         }
         Err(refusal) => stage_refused(alloc, refusal),
     }

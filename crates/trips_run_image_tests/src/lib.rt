@@ -2,9 +2,13 @@
 #![tactic(auto)]
 
 #[cfg(test)]
+mod grid_tests;
+#[cfg(test)]
 mod image_tests;
 #[cfg(test)]
 mod machine_tests;
+#[cfg(test)]
+mod placed_tests;
 #[cfg(test)]
 mod tool_tests;
 #[cfg(test)]

@@ -17,9 +17,9 @@ N[1] genu 7 W[1]
 N[2] scall 0
 ";
 
-// A store whose value a division makes late, and a load of eight bytes in the next block that takes one
-// of them from it.
-const STORED: &str = "trips 1
+/// A store whose value a division makes late, and a load of eight bytes in the next block that takes one
+/// of them from it.
+pub const STORED: &str = "trips 1
 data 0
 block 0 mask 00000001
 N[0] genu 7 N[2,0]

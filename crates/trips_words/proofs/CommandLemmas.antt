@@ -101,6 +101,15 @@ no_flag_place verb.Assemble = refl
 no_flag_place verb.Disassemble = refl
 no_flag_place verb.Check = refl
 
+pub no_flag_seed : (k : Verb) → is_flag (codes "seed") (options_of k) ≡ false
+no_flag_seed verb.Run = refl
+no_flag_seed verb.Bench = refl
+no_flag_seed verb.Evaluate = refl
+no_flag_seed verb.Compile = refl
+no_flag_seed verb.Assemble = refl
+no_flag_seed verb.Disassemble = refl
+no_flag_seed verb.Check = refl
+
 -- what is found under the name of no flag is what is said
 pub found_said : (options : List Named) (said : Said) (m : ArgMatches) (name : Text)
     → FindsSaid options said m → is_flag name options ≡ false
@@ -118,26 +127,32 @@ pub found_on : (options : List Named) (said : Said) (m : ArgMatches) (name : Tex
 found_on options said m name f = ap is_on (f name) ∙ on_is (is_flag name options) (value_said name said)
 
 -- options by their parts
-abbrev pub options_by : Option Text → Option Text → Option Text → Bool → Bool → Options
-options_by input number place regs trace = record {
+abbrev pub options_by : Option Text → Option Text → Option Text → Option Text → Bool → Bool → Bool → Options
+options_by input number place seed regs trace cycles = record {
   input = input;
   number = number;
   place = place;
+  seed = seed;
   regs = regs;
   trace = trace;
+  cycles = cycles;
 }
 
 -- options that are the same part by part
-pub same_options : (input input' number number' place place' : Option Text)
-    (regs regs' trace trace' : Bool) → input ≡ input' → number ≡ number' → place ≡ place'
-    → regs ≡ regs' → trace ≡ trace'
-    → options_by input number place regs trace ≡ options_by input' number' place' regs' trace'
-same_options input input' number number' place place' regs regs' trace trace' a b c d e =
-    ap (λ (x : Option Text). options_by x number place regs trace) a
-    ∙ ap (λ (x : Option Text). options_by input' x place regs trace) b
-    ∙ ap (λ (x : Option Text). options_by input' number' x regs trace) c
-    ∙ ap (λ (x : Bool). options_by input' number' place' x trace) d
-    ∙ ap (λ (x : Bool). options_by input' number' place' regs' x) e
+pub same_options : (input input' number number' place place' seed seed' : Option Text)
+    (regs regs' trace trace' cycles cycles' : Bool) → input ≡ input' → number ≡ number' → place ≡ place'
+    → seed ≡ seed' → regs ≡ regs' → trace ≡ trace' → cycles ≡ cycles'
+    → options_by input number place seed regs trace cycles
+    ≡ options_by input' number' place' seed' regs' trace' cycles'
+same_options input input' number number' place place' seed seed' regs regs' trace trace' cycles cycles' a b c d
+    e f g =
+    ap (λ (x : Option Text). options_by x number place seed regs trace cycles) a
+    ∙ ap (λ (x : Option Text). options_by input' x place seed regs trace cycles) b
+    ∙ ap (λ (x : Option Text). options_by input' number' x seed regs trace cycles) c
+    ∙ ap (λ (x : Option Text). options_by input' number' place' x regs trace cycles) d
+    ∙ ap (λ (x : Bool). options_by input' number' place' seed' x trace cycles) e
+    ∙ ap (λ (x : Bool). options_by input' number' place' seed' regs' x cycles) f
+    ∙ ap (λ (x : Bool). options_by input' number' place' seed' regs' trace' x) g
 
 -- where something was found, words say something, and else they say nothing
 pub told_some : (k : Verb) (said : Option Said) (m : ArgMatches) (r : Option Request)

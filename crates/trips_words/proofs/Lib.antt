@@ -9,4 +9,5 @@ pub mod Walks
 pub mod Defaults
 pub mod Matches
 pub mod CommandLemmas
+pub mod Counts
 pub mod StandardFacts

@@ -12,8 +12,10 @@ plain = record {
   input = None;
   most = 1000000;
   place = None;
+  seed = 0;
   regs = false;
   trace = false;
+  cycles = false;
 }
 
 pub run_is : asked (codes "run" ∷ codes "a.c" ∷ []) ≡ Some plain
@@ -55,6 +57,13 @@ place_is_large = refl
 pub no_image_is_placed : asked (codes "run" ∷ codes "b.img" ∷ codes "--place" ∷ codes "1" ∷ []) ≡ None
 unfolding verb_named
 no_image_is_placed = refl
+
+-- the seed may be any word of the machine, and 0 where none is said
+pub seeded_is : asked (codes "bench" ∷ codes "3" ∷ codes "--cycles" ∷ codes "--seed"
+    ∷ codes "18446744073709551615" ∷ [])
+    ≡ Some (record plain { file = codes "3"; functions = Some 3; seed = 18446744073709551615; cycles = true })
+unfolding verb_named
+seeded_is = refl
 
 -- a value may hold a further `=`
 pub equals_is : asked (codes "eval" ∷ codes "a.c" ∷ codes "--input=b=c" ∷ [])

@@ -18,10 +18,11 @@ use Rattle.trips_words.specs.Words.{words_read}
 -- the options of a command, and the one of them that counts blocks or steps
 abbrev pub run_options : List Named
 run_options = valued (codes "input") ∷ valued (codes "blocks") ∷ valued (codes "place")
-    ∷ flag (codes "regs") ∷ flag (codes "trace") ∷ []
+    ∷ valued (codes "seed") ∷ flag (codes "regs") ∷ flag (codes "trace") ∷ flag (codes "cycles") ∷ []
 
 abbrev pub bench_options : List Named
-bench_options = valued (codes "blocks") ∷ valued (codes "place") ∷ []
+bench_options = valued (codes "blocks") ∷ valued (codes "place") ∷ valued (codes "seed")
+    ∷ flag (codes "cycles") ∷ []
 
 abbrev pub eval_options : List Named
 eval_options = valued (codes "input") ∷ valued (codes "steps") ∷ []
@@ -64,7 +65,8 @@ command_of verb.Check = command.Check
 
 -- What is asked for: a command and its file, or how many functions the benchmark's text has that is run
 -- in its place, the name of the input if there is one, how many blocks or steps it may take, the number by
--- which compiled blocks are placed if one is said, and whether registers and committed blocks are shown.
+-- which compiled blocks are placed if one is said, the seed of the grid, and whether registers, committed
+-- blocks and the counts of the grid are shown.
 pub record Request : Type 0 where
   pub command : Command
   pub file : Text
@@ -72,16 +74,20 @@ pub record Request : Type 0 where
   pub input : Option Text
   pub most : ℕ
   pub place : Option ℕ
+  pub seed : ℕ
   pub regs : Bool
   pub trace : Bool
+  pub cycles : Bool
 
 -- What is said under the names of a command's options: each value if it is said, and whether a flag is.
 pub record Options : Type 0 where
   pub input : Option Text
   pub number : Option Text
   pub place : Option Text
+  pub seed : Option Text
   pub regs : Bool
   pub trace : Bool
+  pub cycles : Bool
 
 -- how many blocks or steps the number says, and how many are taken without one
 abbrev pub most_said : Option Text → Option ℕ
@@ -100,6 +106,11 @@ place_said file None = Some None
 place_said file (Some word) =
     if is_c_name file then option_map (λ n. Some n) (number_within MOST_SEED word) else None
 
+-- the seed, which may be any word of the machine, and is 0 where none is said
+abbrev pub seed_said : Option Text → Option ℕ
+seed_said None = Some 0
+seed_said (Some word) = number_within MOST_SEED word
+
 -- a flag is said, by its value
 abbrev pub is_on : Option Text → Bool
 is_on None = false
@@ -110,26 +121,28 @@ abbrev pub functions_said : Verb → Text → Option (Option ℕ)
 functions_said verb.Bench word = option_map (λ n. Some n) (number_to MOST_FUNCTIONS word)
 functions_said other word = Some None
 
--- the request of a command, of its file or its number of functions, of its counts and of its options
-abbrev pub request_counted : Verb → Text → Options → Option ℕ → ℕ → Option ℕ → Request
-request_counted k name options functions most place = record {
+-- the request of a command, of its file or its number of functions, of its numbers and of its options
+abbrev pub request_counted : Verb → Text → Options → Option ℕ → ℕ → Option ℕ → ℕ → Request
+request_counted k name options functions most place seed = record {
   command = command_of k;
   file = name;
   functions = functions;
   input = options.input;
   most = most;
   place = place;
+  seed = seed;
   regs = options.regs;
   trace = options.trace;
+  cycles = options.cycles;
 }
 
 -- the request of a command, of its file or its number of functions, and of its options: the numbers are in
 -- their ranges
 abbrev pub request_of_file : Verb → Text → Options → Option Request
 request_of_file k name options =
-    option_and_then (λ functions. option_and_then (λ most.
-    option_map (request_counted k name options functions most) (place_said name options.place))
-    (most_said options.number)) (functions_said k name)
+    option_and_then (λ functions. option_and_then (λ most. option_and_then (λ place.
+    option_map (request_counted k name options functions most place) (seed_said options.seed))
+    (place_said name options.place)) (most_said options.number)) (functions_said k name)
 
 -- the request of a command, of its file, which it has, and of its options
 abbrev pub request_with : Verb → Option Text → Options → Option Request
@@ -141,8 +154,10 @@ options_said k said = record {
   input = value_said (codes "input") said;
   number = value_said (counted k) said;
   place = value_said (codes "place") said;
+  seed = value_said (codes "seed") said;
   regs = is_on (value_said (codes "regs") said);
   trace = is_on (value_said (codes "trace") said);
+  cycles = is_on (value_said (codes "cycles") said);
 }
 
 -- the request of a command and what its words say
@@ -168,8 +183,10 @@ request_seen asked = record {
   input = option_copied asked.input;
   most = asked.most;
   place = asked.place;
+  seed = asked.seed;
   regs = asked.regs;
   trace = asked.trace;
+  cycles = asked.cycles;
 }
 
 -- options of the code
@@ -178,6 +195,8 @@ options_seen options = record {
   input = option_copied options.input;
   number = option_copied options.number;
   place = option_copied options.place;
+  seed = option_copied options.seed;
   regs = options.regs;
   trace = options.trace;
+  cycles = options.cycles;
 }

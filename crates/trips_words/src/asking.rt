@@ -1,11 +1,12 @@
 //! The request of a command and of what its words say.
 
-ghost use Rattle.std.specs.Prelude.{◌≡◌, Option, IfOk, option_map, option_and_then, option_copied};
+ghost use Rattle.std.specs.Prelude.{◌≡◌, ◌<◌, Option, IfOk, IfSome, option_map, option_and_then, option_copied};
 ghost use Rattle.std.specs.Prelude.{drop, map, string_bytes};
 ghost use Rattle.trips_words.specs.Words.{Said};
 ghost use Rattle.trips_words.specs.Read.{FindsSaid, Tells};
 ghost use Rattle.trips_words.specs.Requests.{options_of, counted, verb_named, command_of, most_said, is_on};
-ghost use Rattle.trips_words.specs.Requests.{functions_said, is_c_name, place_said, options_said, options_seen};
+ghost use Rattle.trips_words.specs.Requests.{functions_said, is_c_name, place_said, seed_said, options_said};
+ghost use Rattle.trips_words.specs.Requests.{options_seen};
 ghost use Rattle.trips_words.specs.Requests.{request_of_file, request_with, request_of, request_by, request_seen, asked};
 
 use crate::commands::{Asked, Command, DEFAULT_COUNT, MOST_COUNT, MOST_FUNCTIONS, MOST_SEED, Verb};
@@ -22,8 +23,10 @@ pub struct FoundOptions<'a> {
     /// how many blocks or steps
     pub number: Option<&'a str>,
     pub place: Option<&'a str>,
+    pub seed: Option<&'a str>,
     pub regs: bool,
     pub trace: bool,
+    pub cycles: bool,
 }
 
 // What a name stands for.
@@ -132,6 +135,16 @@ fn place_said(file: &str, word: Option<&str>) -> Option<Option<u64>>
     }
 }
 
+// The seed that a word says, and 0 where there is none.
+fn seed_said(word: Option<&str>) -> Option<u64>
+    ensures { result ≡ seed_said (option_copied word.entry) }
+{
+    match word {
+        None => Some(0),
+        Some(word) => number_within(word.as_bytes(), MOST_SEED),
+    }
+}
+
 // The request of a command, of its file or its number of functions, and of its options.
 fn request_of_file<'a>(command: Verb, file: &'a str, options: FoundOptions<'a>) -> Option<Asked<'a>>
     ensures { option_map request_seen result
@@ -140,6 +153,7 @@ fn request_of_file<'a>(command: Verb, file: &'a str, options: FoundOptions<'a>) 
     let functions = functions_said(command, file)?;
     let most = most_said(options.number)?;
     let place = place_said(file, options.place)?;
+    let seed = seed_said(options.seed)?;
     Some(Asked {
         command: command_of(command),
         file,
@@ -147,8 +161,10 @@ fn request_of_file<'a>(command: Verb, file: &'a str, options: FoundOptions<'a>) 
         input: options.input,
         most,
         place,
+        seed,
         regs: options.regs,
         trace: options.trace,
+        cycles: options.cycles,
     })
 }
 
@@ -173,8 +189,10 @@ fn options_found<'a>(command: Verb, matches: &ArgMatches<'a>) -> FoundOptions<'a
         input: matches.get_str("input"),
         number: matches.get_str(counted(command)),
         place: matches.get_str("place"),
+        seed: matches.get_str("seed"),
         regs: is_on(matches.get_str("regs")),
         trace: is_on(matches.get_str("trace")),
+        cycles: is_on(matches.get_str("cycles")),
     }
 }
 
@@ -231,10 +249,11 @@ fn named_request<'a>(
 }
 
 /// The request of the words of a command line, without the program's name, and none where they make
-/// none. Want of memory is the only error.
+/// none. A request has some blocks or steps. Want of memory is the only error.
 pub fn request(alloc: Global, words: &[String]) -> Result<Option<Asked<'_>>, Memory>
     ensures ok { IfOk result (λ request. option_map request_seen request
         ≡ asked (map (λ word. string_bytes word) words.now)) }
+    ensures some { IfOk result (λ request. IfSome request (λ asked. 0 < asked.most)) }
 {
     match words.first() {
         None => Ok(None),

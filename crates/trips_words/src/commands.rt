@@ -27,7 +27,7 @@ pub const MOST_FUNCTIONS: u32 = 64;
 /// The most blocks or steps that may be asked for.
 pub const MOST_COUNT: u32 = 4_000_000;
 
-/// The greatest number by which blocks may be placed.
+/// The greatest seed, and the greatest number by which blocks may be placed.
 pub const MOST_SEED: u64 = 18_446_744_073_709_551_615;
 
 /// How many blocks or steps are taken where none are asked for.
@@ -46,8 +46,12 @@ pub struct Asked<'a> {
     pub most: u32,
     /// the number by which compiled blocks are placed, if one is said
     pub place: Option<u64>,
+    /// the seed of the predictor and of the network's delays
+    pub seed: u64,
     /// whether the registers are shown
     pub regs: bool,
     /// whether the committed blocks are shown
     pub trace: bool,
+    /// whether the counts of the grid are shown
+    pub cycles: bool,
 }

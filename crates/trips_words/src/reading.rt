@@ -41,8 +41,10 @@ fn run_command<'a>(alloc: Global) -> Result<clap::Command<'a>, AllocError>
         .arg(valued(alloc, "input"))?
         .arg(valued(alloc, "blocks"))?
         .arg(valued(alloc, "place"))?
+        .arg(valued(alloc, "seed"))?
         .arg(flag(alloc, "regs"))?
         .arg(flag(alloc, "trace"))?
+        .arg(flag(alloc, "cycles"))?
         .arg(Arg::new(alloc, FILE))
 }
 
@@ -54,6 +56,8 @@ fn bench_command<'a>(alloc: Global) -> Result<clap::Command<'a>, AllocError>
         .disable_help_flag(true)
         .arg(valued(alloc, "blocks"))?
         .arg(valued(alloc, "place"))?
+        .arg(valued(alloc, "seed"))?
+        .arg(flag(alloc, "cycles"))?
         .arg(Arg::new(alloc, FILE))
 }
 

@@ -103,6 +103,21 @@ const ASKED: &[Row] = &[
         },
     ),
     (
+        &["run", "a.c", "--seed", "18446744073709551615"],
+        Asked {
+            seed: 18_446_744_073_709_551_615,
+            ..PLAIN
+        },
+    ),
+    (
+        &["run", "b.img", "--seed=0", "--cycles"],
+        Asked {
+            file: "b.img",
+            cycles: true,
+            ..PLAIN
+        },
+    ),
+    (
         &["compile", "a.c"],
         Asked {
             command: Command::Compile,

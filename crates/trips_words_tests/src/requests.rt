@@ -12,8 +12,10 @@ pub const PLAIN: Asked<'static> = Asked {
     input: None,
     most: 1_000_000,
     place: None,
+    seed: 0,
     regs: false,
     trace: false,
+    cycles: false,
 };
 
 /// The words of a command line.
@@ -42,6 +44,8 @@ pub fn assert_asked(
     assert!(rt; asked.input == wanted.input, "{texts:?}");
     assert!(rt; asked.most == wanted.most, "{texts:?}");
     assert!(rt; asked.place == wanted.place, "{texts:?}");
+    assert!(rt; asked.seed == wanted.seed, "{texts:?}");
+    assert!(rt; asked.cycles == wanted.cycles, "{texts:?}");
     assert!(rt; asked.regs == wanted.regs, "{texts:?}");
     assert!(rt; asked.trace == wanted.trace, "{texts:?}");
     Ok(())

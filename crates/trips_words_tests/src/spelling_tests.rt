@@ -66,6 +66,24 @@ const COMPILE_PLACE: &[&[&str]] = &[
     &["compile", "--place=7", "--", "a.c"],
 ];
 
+const SEED: &[&[&str]] = &[
+    &["run", "a.c", "--seed", "7"],
+    &["run", "--seed", "7", "a.c"],
+    &["run", "a.c", "--seed=7"],
+    &["run", "--seed=7", "--", "a.c"],
+];
+
+const CYCLES: &[&[&str]] = &[
+    &["run", "a.c", "--cycles"],
+    &["run", "--cycles", "a.c"],
+    &["run", "--cycles", "--", "a.c"],
+];
+
+const BENCH_SEED: &[&[&str]] = &[
+    &["bench", "64", "--seed", "7", "--cycles"],
+    &["bench", "--cycles", "--seed=7", "64"],
+];
+
 const REGS: &[&[&str]] = &[
     &["run", "a.c", "--regs"],
     &["run", "--regs", "a.c"],
@@ -170,6 +188,24 @@ const SPELLINGS: &[(&[&[&str]], Asked<'static>)] = &[
         Asked {
             command: Command::Compile,
             place: Some(7),
+            ..PLAIN
+        },
+    ),
+    (SEED, Asked { seed: 7, ..PLAIN }),
+    (
+        CYCLES,
+        Asked {
+            cycles: true,
+            ..PLAIN
+        },
+    ),
+    (
+        BENCH_SEED,
+        Asked {
+            file: "64",
+            functions: Some(64),
+            seed: 7,
+            cycles: true,
             ..PLAIN
         },
     ),

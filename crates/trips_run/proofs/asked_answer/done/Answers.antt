@@ -1,4 +1,4 @@
-use Rattle.std.proofs.Common.{◌≤◌, length, sym, ap, subst, arith}
+use Rattle.std.proofs.Common.{◌≤◌, ◌<◌, length, sym, ap, subst, arith}
 use Rattle.trips_run.specs.declared.command_line.FileForm.{FileForm}
 use Rattle.trips_run.specs.Read.{limit_of}
 use Rattle.trips_run.specs.Request.{form_of}
@@ -9,16 +9,20 @@ use Rattle.trips_run.proofs.asked_answer.done.Goals as goal
 pub text_evaluated-requires : goal.text_evaluated-requires
 text_evaluated-requires c =
     let few = few_bytes (form_of c.args.asked.command c.args.asked.file.now) in
-    omega (arith, few, c.requires)
+    omega (arith, few, c.requires.few)
 
 pub text_compiled-requires : goal.text_compiled-requires
 text_compiled-requires c =
     let few = few_bytes (form_of c.args.asked.command c.args.asked.file.now) in
-    omega (arith, few, c.requires)
+    omega (arith, few, c.requires.few)
 
-pub run_done-requires : goal.run_done-requires
-run_done-requires c =
-    subst (λ (f : FileForm). length c.args.bytes.now ≤ limit_of f) (sym c.form_of-form.ensures) c.requires
+pub run_done-requires-clause-few : goal.run_done-requires-clause-few
+run_done-requires-clause-few c =
+    subst (λ (f : FileForm). length c.args.bytes.now ≤ limit_of f) (sym c.form_of-form.ensures) c.requires.few
+
+pub run_done-requires-clause-some : goal.run_done-requires-clause-some
+run_done-requires-clause-some c = subst (λ (t : Settings). 0 < t.most) (sym c.settings_for-settings.ensures)
+    c.requires.some
 
 pub returns-in-Run : goal.returns-in-Run
 returns-in-Run c = run_form_told _ _ _ _ _ _ _ _ c.in-Run.is c.form_of-form.ensures
