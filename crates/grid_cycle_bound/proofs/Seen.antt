@@ -37,7 +37,7 @@ module _ (f : Frame) where
   write_seen : (w : ℕ) → w < 32 → has_come f (384 + w) ≡ write_came f w
   write_seen w l = cond-true (nat_lt (384 + w) 416) _ _ (lt-ltb (384 + w) 416 (omega (arith, l)))
 
-  store_seen : (n : ℕ) → n < 32 → has_come f (416 + n) ≡ is_some (at f.stores n)
+  pub store_seen : (n : ℕ) → n < 32 → has_come f (416 + n) ≡ is_some (at f.stores n)
   store_seen n l =
       let e : 416 + n - 416 ≡ n = omega arith in
       cond-false (nat_lt (416 + n) 416) _ _ (le-ltb (416 + n) 416 (omega arith))
@@ -48,7 +48,7 @@ module _ (f : Frame) where
   writes_seen zero l = refl
   writes_seen (suc n) l = ap₂ (λ a b. a && b) (write_seen n (omega (arith, l))) (writes_seen n (omega (arith, l)))
 
-  numbers_seen : (n : ℕ) → n ≤ 32 → all_come (has_come f) (numbers_in f.code.mask n) ≡ all_below (store_came f) n
+  pub numbers_seen : (n : ℕ) → n ≤ 32 → all_come (has_come f) (numbers_in f.code.mask n) ≡ all_below (store_came f) n
   numbers_seen zero l = refl
   numbers_seen (suc n) l = go (in_mask f.code.mask n)
       ∙ ap (λ b. store_came f n && b) (numbers_seen n (omega (arith, l)))

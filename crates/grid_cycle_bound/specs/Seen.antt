@@ -1,5 +1,5 @@
 -- The lane of a grid: how far the oldest frame is, read off the window and the grid.
-use Rattle.std.specs.Prelude.{ℕ, suc, ◌+◌, ◌-◌, ◌*◌, Bool, false, cond, nat_lt, List, [], ◌∷◌, length}
+use Rattle.std.specs.Prelude.{ℕ, suc, ◌+◌, ◌-◌, ◌*◌, ◌==◌, ◌&&◌, Bool, false, cond, nat_lt, List, [], ◌∷◌, length}
 use Rattle.std.specs.Prelude.{Option, Some, None, is_some, slice_get, slice_index, slice_index_or}
 use Rattle.trips_isa.specs.declared.block.Inst.{Inst}
 use Rattle.trips_isa.specs.declared.block.ReadSlot.{ReadSlot}
@@ -45,10 +45,11 @@ abbrev pub phase_of : {W : Type 0} → Grid W → Frame → ℕ → Phase
 phase_of g f x = cond (nat_lt x slot_tasks) (slot_phase g f x (slot_of f.code x))
     (read_phase g f (x - slot_tasks) (slice_get f.code.reads.items (x - slot_tasks)))
 
--- whether a spot has its token: an operand, a predicate or a write, the store of a number, or the exit
+-- whether a spot has its token: an operand, a predicate or a write, the store of a number, or the exit; there is no
+-- other spot
 abbrev pub has_come : Frame → ℕ → Bool
 has_come f q = cond (nat_lt q FIRST_STORE) (is_some (at f.spots q))
-    (cond (nat_lt q EXIT) (is_some (at f.stores (q - FIRST_STORE))) (is_some f.exit))
+    (cond (nat_lt q EXIT) (is_some (at f.stores (q - FIRST_STORE))) (q == EXIT && is_some f.exit))
 
 -- the oldest frame, of this course
 abbrev pub front_of : {W : Type 0} → Course → Grid W → Frame → Front

@@ -1,0 +1,40 @@
+//! The cycle bound of a run, over the grid's definitions alone.
+ghost use Rattle.std.specs.Prelude.{◌≡◌, ℕ, suc, ◌+◌, ◌*◌, ◌-◌, ◌^◌, ◌<◌, ◌≤◌, List, length};
+ghost use Rattle.trips_isa.specs.declared.block.Block.{Block};
+ghost use Rattle.trips_isa.specs.Machine.{State};
+ghost use Rattle.commit_flush_spec.specs.InFlight.{opened};
+ghost use Rattle.commit_flush_spec.specs.Invariant.{AllGood};
+ghost use Rattle.commit_flush_spec.specs.Laws.{WindowOk};
+ghost use Rattle.grid_cycle_spec.specs.Costs.{cost_of};
+ghost use Rattle.grid_cycle_spec.specs.Grid.{Grid};
+ghost use Rattle.grid_cycle_spec.specs.Cycles.{AfterCycles, Eager, begun_at};
+ghost use Rattle.grid_bound.specs.GoesOn.{GoesOn};
+
+use operand_net::Weather;
+
+/// A run that goes on has made at every moment fewer cycles than its trace costs and the dearest block besides; a cycle
+/// that commits is within the cost of the trace, and any cycle within that and 41,472, so that this holds where the run
+/// ends too; and no run goes on for 41,472 cycles for each block of its budget. The
+/// premise on the weather is that it holds nothing for more than 3 cycles.
+pub fn cycles_cost_at_most<W: Weather>()
+    ensures moment { (blocks : List Block) (budget n : ℕ) (s : State) (entries : List ℕ) (weather : W) (h : Grid W)
+        → AllGood blocks → WindowOk blocks budget (opened s) → ((w : W) → W.next w ≤ 3)
+        → AfterCycles W.next W.follows blocks budget n (begun_at s entries weather) h → GoesOn budget h
+        → h.counts.cycles < 2 ^ 64 - 1
+        → n + cost_of blocks s.trace < cost_of blocks h.window.state.trace + 41472 }
+    ensures commit { (blocks : List Block) (budget n : ℕ) (s : State) (entries : List ℕ) (weather : W) (m h : Grid W)
+        → AllGood blocks → WindowOk blocks budget (opened s) → ((w : W) → W.next w ≤ 3)
+        → AfterCycles W.next W.follows blocks budget n (begun_at s entries weather) m → GoesOn budget m
+        → m.counts.cycles < 2 ^ 64 - 1 → Eager W.next W.follows blocks budget m h
+        → length h.window.state.trace ≡ suc (length m.window.state.trace)
+        → suc n + cost_of blocks s.trace ≤ cost_of blocks h.window.state.trace }
+    ensures last { (blocks : List Block) (budget n : ℕ) (s : State) (entries : List ℕ) (weather : W) (m h : Grid W)
+        → AllGood blocks → WindowOk blocks budget (opened s) → ((w : W) → W.next w ≤ 3)
+        → AfterCycles W.next W.follows blocks budget n (begun_at s entries weather) m → GoesOn budget m
+        → m.counts.cycles < 2 ^ 64 - 1 → Eager W.next W.follows blocks budget m h
+        → suc n + cost_of blocks s.trace ≤ cost_of blocks h.window.state.trace + 41472 }
+    ensures ends { (blocks : List Block) (budget n : ℕ) (s : State) (entries : List ℕ) (weather : W) (h : Grid W)
+        → AllGood blocks → WindowOk blocks budget (opened s) → ((w : W) → W.next w ≤ 3)
+        → AfterCycles W.next W.follows blocks budget n (begun_at s entries weather) h → GoesOn budget h
+        → h.counts.cycles < 2 ^ 64 - 1 → n < 41472 * budget }
+{}

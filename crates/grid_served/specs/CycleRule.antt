@@ -1,0 +1,28 @@
+-- What the parts of a cycle ask of the oldest frame, together.
+use Rattle.std.specs.Prelude.{◌≡◌, ℕ, false, List, ◌∷◌}
+use Rattle.trips_isa.specs.declared.block.Block.{Block}
+use Rattle.commit_flush_spec.specs.Frames.{Frame}
+use Rattle.grid_cycle_spec.specs.Grid.{Grid}
+use Rattle.grid_cycle_spec.specs.Choosing.{each}
+use Rattle.grid_cycle_spec.specs.Banks.{reads_answered}
+use Rattle.grid_cycle_spec.specs.DataTiles.{data_turn, answers}
+use Rattle.grid_cycle_spec.specs.Units.{unit_turn, works_on}
+use Rattle.grid_served.specs.Shows.{QuietReads}
+use Rattle.grid_served.specs.DataRule.{DataRule}
+use Rattle.grid_served.specs.UnitRule.{UnitRule}
+use Rattle.grid_served.specs.MoveRule.{MoveRule}
+
+-- parts (3) to (6), from the grid behind part (2) on
+pub record CycleRule {W : Type 0} (blocks : List Block) (budget : ℕ) (g : Grid W) : Type 0 where
+  pub reads : (f : Frame) (fs : List Frame) → g.window.frames ≡ f ∷ fs → f.sealed ≡ false → QuietReads g f
+  pub tiles : (d : ℕ) (f : Frame) (fs : List Frame)
+      → (each (data_turn blocks budget) d (reads_answered blocks budget g)).window.frames ≡ f ∷ fs → f.sealed ≡ false
+      → DataRule (each (data_turn blocks budget) d (reads_answered blocks budget g)) f
+  pub units : (k : ℕ) (f : Frame) (fs : List Frame)
+      → (each (unit_turn blocks budget) k (answers blocks budget (reads_answered blocks budget g))).window.frames
+      ≡ f ∷ fs → f.sealed ≡ false
+      → UnitRule (each (unit_turn blocks budget) k (answers blocks budget (reads_answered blocks budget g))) f
+  pub moves : (f : Frame) (fs : List Frame)
+      → (works_on blocks budget (answers blocks budget (reads_answered blocks budget g))).window.frames ≡ f ∷ fs
+      → f.sealed ≡ false
+      → MoveRule (works_on blocks budget (answers blocks budget (reads_answered blocks budget g))) f

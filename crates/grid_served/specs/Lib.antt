@@ -1,0 +1,9 @@
+pub mod Behind
+pub mod Shows
+pub mod UnitRule
+pub mod DataRule
+pub mod MoveRule
+pub mod Parts
+pub mod CycleRule
+pub mod Lanes
+pub mod Runs
