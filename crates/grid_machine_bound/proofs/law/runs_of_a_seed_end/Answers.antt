@@ -1,0 +1,11 @@
+use Rattle.grid_machine_bound.proofs.Bounded.{runs_end, runs_within, runs_trapped}
+use Rattle.grid_machine_bound.proofs.law.runs_of_a_seed_end.Goals as goal
+
+pub returns-clause-ends : goal.returns-clause-ends
+returns-clause-ends c = runs_end
+
+pub returns-clause-within : goal.returns-clause-within
+returns-clause-within c = runs_within
+
+pub returns-clause-trapped : goal.returns-clause-trapped
+returns-clause-trapped c = runs_trapped
