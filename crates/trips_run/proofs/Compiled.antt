@@ -1,10 +1,11 @@
 -- What the run of a compiled program is told to come to.
 use Rattle.std.proofs.Common.{◌≡◌, ℕ, ℤ, ◌+◌, ◌-◌, ◌*◌, ◌<◌, ◌≤◌, List, ◌++◌, slice_index, refl, sym, ap, ◌∙◌, subst}
-use Rattle.std.proofs.Common.{false, length, Option, arith}
+use Rattle.std.proofs.Common.{length, Option, arith}
 use Rattle.std.specs.Prelude.{codes}
 use Rattle.std.specs.Fmt.{signed_decimal}
 use Rattle.trips_outside.specs.Outside.{Holds}
 use Rattle.trips_isa.specs.declared.block.Image.{Image}
+use Rattle.trips_isa.specs.declared.run.Counts.{Counts}
 use Rattle.trips_isa.specs.declared.run.Ending.{Ending}
 use Rattle.trips_isa.specs.declared.run.Ending.TheVariants as ending
 use Rattle.trips_isa.specs.declared.run.Stepped.{Stepped}
@@ -28,9 +29,7 @@ use Rattle.grid_cycle_spec.specs.Costs.{cost_of}
 use Rattle.trips_report.specs.declared.show.Show.{Show}
 use Rattle.trips_report.specs.Runs.{output_and}
 use Rattle.trips_report.proofs.Parts.{shows_nothing}
-use Rattle.trips_run.specs.Report.{ending_of, run_report, shown_report, shown_behind, counted_behind}
-use Rattle.trips_run.specs.Report.{no_counts, nothing_shown}
-use Rattle.trips_run.proofs.GridRuns.{hides}
+use Rattle.trips_run.specs.Report.{ending_of, run_report, shown_report, shown_behind, nothing_shown}
 use Rattle.trips_run.specs.Worked.{status_of, IsRunOfText}
 use Rattle.trips_run.specs.Table.{ended_report, full_report}
 use Rattle.trips_run.specs.Evaluated.{SaysOf, HasNotEnded, RunEndsAs}
@@ -50,17 +49,17 @@ settled run few most holds s le =
 -- REPORTS
 
 -- where nothing is shown, the report stands alone
-nothing_behind : (report : List ℕ) (s : State) (show : Show) → show ≡ nothing_shown
-    → shown_behind report s show ≡ report
-nothing_behind report s show none =
-    ap (λ (v : Show). shown_behind report s v) none ∙ shows_nothing report s no_counts 0
+nothing_behind : (report : List ℕ) (s : State) (counts : Counts) (cost : ℕ) (show : Show) → show ≡ nothing_shown
+    → shown_behind report s counts cost show ≡ report
+nothing_behind report s counts cost show none =
+    ap (λ (v : Show). shown_behind report s counts cost v) none ∙ shows_nothing report s counts cost
 
 -- and a run's report is the plain one
-pub plain_told : (r : State × Stepped) (show : Show) (report : List ℕ) → show ≡ nothing_shown
-    → report ≡ shown_report (ending_of r.1 r.0.next) r.0 show
+pub plain_told : (r : State × Stepped) (counts : Counts) (cost : ℕ) (show : Show) (report : List ℕ)
+    → show ≡ nothing_shown → report ≡ shown_report (ending_of r.1 r.0.next) r.0 counts cost show
     → report ≡ run_report (ending_of r.1 r.0.next) r.0
-plain_told r show report none told =
-    told ∙ nothing_behind (run_report (ending_of r.1 r.0.next) r.0) r.0 show none
+plain_told r counts cost show report none told =
+    told ∙ nothing_behind (run_report (ending_of r.1 r.0.next) r.0) r.0 counts cost show none
 
 ended : (r : State × Stepped) (output : List ℕ) (value : ℤ) → HasEnded output value r
     → run_report (ending_of r.1 r.0.next) r.0 ≡ ended_report output value
@@ -102,38 +101,27 @@ module _ (settings : Settings) (n : ℕ) (text input : List ℕ) (program : Type
       run.3.2.0 ∙ ap (λ (a : Stepped). status_of (ending_of a (run_of run.0 input settings.most).0.next))
       (finished_run output value steps done).answer
 
-  pub finished_counted : (output : List ℕ) (value : ℤ) (steps : ℕ)
+  pub finished_shown : (output : List ℕ) (value : ℤ) (steps : ℕ)
       → eval program input n ≡ Done output value steps
       → (s ≡ status.Ended) × ((run_of run.0 input settings.most).1 ≡ stepped.Ended)
-      × (report ≡ counted_behind (ended_report output value) (run_of run.0 input settings.most).0 run.3.0
+      × (report ≡ shown_behind (ended_report output value) (run_of run.0 input settings.most).0 run.3.0
       (cost_of run.0.blocks (run_of run.0 input settings.most).0.trace) settings.show)
-  finished_counted output value steps done = (
+  finished_shown output value steps done = (
     finished_status output value steps done,
     (finished_run output value steps done).answer,
-    run.3.2.1 ∙ ap (λ (t : List ℕ). counted_behind t (run_of run.0 input settings.most).0 run.3.0
+    run.3.2.1 ∙ ap (λ (t : List ℕ). shown_behind t (run_of run.0 input settings.most).0 run.3.0
         (cost_of run.0.blocks (run_of run.0 input settings.most).0.trace) settings.show)
         (ended (run_of run.0 input settings.most) output value (finished_run output value steps done)),
   )
-
-  pub finished_shown : (output : List ℕ) (value : ℤ) (steps : ℕ) → settings.show.cycles ≡ false
-      → eval program input n ≡ Done output value steps
-      → (s ≡ status.Ended) × ((run_of run.0 input settings.most).1 ≡ stepped.Ended)
-      × (report ≡ shown_behind (ended_report output value) (run_of run.0 input settings.most).0 settings.show)
-  finished_shown output value steps hidden done =
-      let told = finished_counted output value steps done in (
-        told.0,
-        told.1,
-        told.2 ∙ hides (ended_report output value) (run_of run.0 input settings.most).0 run.3.0 no_counts
-            (cost_of run.0.blocks (run_of run.0 input settings.most).0.trace) 0 settings.show hidden,
-      )
 
   pub finished_told : (output : List ℕ) (value : ℤ) (steps : ℕ) → settings.show ≡ nothing_shown
       → eval program input n ≡ Done output value steps
       → (s ≡ status.Ended) × (report ≡ ended_report output value)
   finished_told output value steps none done =
-      let told = finished_shown output value steps (ap (λ (v : Show). v.cycles) none) done in (
+      let told = finished_shown output value steps done in (
         told.0,
-        told.2 ∙ nothing_behind (ended_report output value) (run_of run.0 input settings.most).0 settings.show none,
+        told.2 ∙ nothing_behind (ended_report output value) (run_of run.0 input settings.most).0 run.3.0
+            (cost_of run.0.blocks (run_of run.0 input settings.most).0.trace) settings.show none,
       )
 
   -- where its frames are too large within n steps
@@ -150,36 +138,27 @@ module _ (settings : Settings) (n : ℕ) (text input : List ℕ) (program : Type
       run.3.2.0 ∙ ap (λ (a : Stepped). status_of (ending_of a (run_of run.0 input settings.most).0.next))
       (deep_run output deep).answer
 
-  pub deep_counted : (output : List ℕ) → eval program input n ≡ Stopped Deep output
+  pub deep_shown : (output : List ℕ) → eval program input n ≡ Stopped Deep output
       → (s ≡ status.StackFull) × ((run_of run.0 input settings.most).1 ≡ stepped.StackFull)
-      × (report ≡ counted_behind (full_report output) (run_of run.0 input settings.most).0 run.3.0
+      × (report ≡ shown_behind (full_report output) (run_of run.0 input settings.most).0 run.3.0
       (cost_of run.0.blocks (run_of run.0 input settings.most).0.trace) settings.show)
-  deep_counted output deep = (
+  deep_shown output deep = (
     deep_status output deep,
     (deep_run output deep).answer,
-    run.3.2.1 ∙ ap (λ (t : List ℕ). counted_behind t (run_of run.0 input settings.most).0 run.3.0
+    run.3.2.1 ∙ ap (λ (t : List ℕ). shown_behind t (run_of run.0 input settings.most).0 run.3.0
         (cost_of run.0.blocks (run_of run.0 input settings.most).0.trace) settings.show)
         (full (run_of run.0 input settings.most) output (deep_run output deep)),
   )
-
-  pub deep_shown : (output : List ℕ) → settings.show.cycles ≡ false
-      → eval program input n ≡ Stopped Deep output
-      → (s ≡ status.StackFull) × ((run_of run.0 input settings.most).1 ≡ stepped.StackFull)
-      × (report ≡ shown_behind (full_report output) (run_of run.0 input settings.most).0 settings.show)
-  deep_shown output hidden deep =
-      let told = deep_counted output deep in (
-        told.0,
-        told.1,
-        told.2 ∙ hides (full_report output) (run_of run.0 input settings.most).0 run.3.0 no_counts
-            (cost_of run.0.blocks (run_of run.0 input settings.most).0.trace) 0 settings.show hidden,
-      )
 
   pub deep_told : (output : List ℕ) → settings.show ≡ nothing_shown
       → eval program input n ≡ Stopped Deep output
       → (s ≡ status.StackFull) × (report ≡ full_report output)
   deep_told output none deep =
-      let told = deep_shown output (ap (λ (v : Show). v.cycles) none) deep in
-      (told.0, told.2 ∙ nothing_behind (full_report output) (run_of run.0 input settings.most).0 settings.show none)
+      let told = deep_shown output deep in (
+        told.0,
+        told.2 ∙ nothing_behind (full_report output) (run_of run.0 input settings.most).0 run.3.0
+            (cost_of run.0.blocks (run_of run.0 input settings.most).0.trace) settings.show none,
+      )
 
   -- where the budget was spent
   pub spent_told : s ≡ status.Budget → HasNotEnded (eval program input n)

@@ -19,26 +19,31 @@ use Rattle.trips_run.specs.declared.status.Status.TheVariants as status
 use Rattle.trips_run.specs.Request.{Request, origin_held, settings_of}
 use Rattle.trips_run.specs.Read.{IsRead, IsInputRead, HoldsInput, limit_of}
 use Rattle.trips_run.specs.Report.{ending_of}
-use Rattle.trips_run.specs.Worked.{status_of, IsRunBy, IsWorked, IsTried}
+use Rattle.trips_run.specs.Worked.{status_of, IsRunBy, IsWorked, IsDone}
 use Rattle.trips_run.specs.Answer.{AfterReading}
 use Rattle.trips_run.specs.Answer.{IsAnswerBehind, IsAnswer}
 use Rattle.trips_run.specs.Table.{EndsAs, EvalEnds}
-use Rattle.trips_run.proofs.Rows.{is_told, input_held}
+use Rattle.trips_run.proofs.Rows.{is_told}
 
 -- a status that tells no end is none that does
 not_told : (s other : Status) → s ≡ other → is_told other ≡ false → is_told s ≡ true → ⊥
 not_told s other e none told =
     let both : true ≡ false = sym told ∙ ap is_told e ∙ none in absurd (cc)
 
+-- an input that was read is the one that is held
+input_held : (input : Option (List ℕ)) (held : List ℕ → Option (List ℕ)) (rose : Type 0)
+    (bytes : List ℕ) → IsInputRead input held rose (Bytes bytes) → HoldsInput input held bytes
+input_held None held rose bytes h = cc
+input_held (Some name) held rose bytes h = h.0
+
 module _ (q : Request) (held : List ℕ → Option (List ℕ)) (rose : Type 0) (s : Status)
     (report : List ℕ) (told : is_told s ≡ true) where
   done_ends : (bytes input : List ℕ) → Holds (origin_held held q.origin) bytes
-      → HoldsInput q.input held input → IsTried q.work q.form (settings_of q) bytes input s report
+      → HoldsInput q.input held input → IsDone q.work q.form (settings_of q) bytes input s report
       → EndsAs held q s
   unfolding is_told
-  done_ends bytes input h i (inr up) = absurd (not_told s status.Refused up.1.0 refl told)
-  done_ends bytes input h i (inl (inl out)) = absurd (not_told s status.Refused out.2.0 refl told)
-  done_ends bytes input h i (inl (inr run)) = record {
+  done_ends bytes input h i (inl out) = absurd (not_told s status.Refused out.2.0 refl told)
+  done_ends bytes input h i (inr run) = record {
     bytes = bytes;
     input = input;
     report = report;
@@ -49,7 +54,7 @@ module _ (q : Request) (held : List ℕ → Option (List ℕ)) (rose : Type 0) (
 
   input_ends : (bytes : List ℕ) (loaded : Loaded) → Holds (origin_held held q.origin) bytes
       → IsInputRead q.input held rose loaded
-      → AfterReading loaded (λ input. IsTried q.work q.form (settings_of q) bytes input s report) s report
+      → AfterReading loaded (λ input. IsDone q.work q.form (settings_of q) bytes input s report) s report
       → EndsAs held q s
   unfolding is_told
   input_ends bytes Fault h i a = absurd (not_told s status.ReadFault a.0 refl told)

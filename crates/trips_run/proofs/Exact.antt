@@ -1,7 +1,7 @@
 -- What a request gets whose file and input are told, where nothing fails.
 use Rattle.std.proofs.Common.{◌≡◌, ℕ, ◌<◌, ◌≤◌, List, Option, None, Some, IfSome}
 use Rattle.std.proofs.Common.{IsSomeAnd, All, length, inl, inr, refl, sym, ◌∙◌, ap, subst, arith}
-use Rattle.std.proofs.Common.{get_or, ◌⊎◌, true, false, true≢false}
+use Rattle.std.proofs.Common.{get_or, ◌⊎◌}
 use Rattle.std.proofs.lemmas.Option.{slice_get_within, get_or_from_slice_get}
 use Rattle.trips_outside.specs.Outside.{Holds}
 use Rattle.trips_isa.specs.declared.block.Image.{Image}
@@ -37,8 +37,7 @@ use Rattle.trips_report.specs.Refusals.{image_text, asm_text, check_text, too_la
 use Rattle.trips_run.specs.Refusal.{front_refusal}
 use Rattle.trips_run.specs.Refused.{IsRefusedByFront, IsNoImage, IsBadImage, IsNoText, IsBadText}
 use Rattle.trips_run.specs.Refused.{IsRefusedAs, IsLarge}
-use Rattle.trips_run.specs.Worked.{IsFixed, IsRunBy, IsEvaluation, IsRunOfText, IsCompiled, IsWorked, IsDone, IsTried}
-use Rattle.trips_run.specs.Counted.{IsGivenUp, IsUnfinished}
+use Rattle.trips_run.specs.Worked.{IsFixed, IsRunBy, IsEvaluation, IsRunOfText, IsCompiled, IsWorked, IsDone}
 use Rattle.trips_run.specs.Answer.{AfterReading, IsAnswerBehind, IsAnswer}
 use Rattle.trips_run.specs.Table.{AsksFor, HasLargeFile, HasLargeInput}
 use Rattle.trips_run.proofs.OneFault.{first_bad_once}
@@ -95,35 +94,6 @@ not_worked Disassemble how settings bytes input s report out bad run =
 not_worked Check how settings bytes input s report out bad run =
     image_not_refused bytes out run.0.0 run.0.1 run.0.2 bad
 
--- nor is their run given up
-unfinished_not_refused : (work : Work) (how : FileForm) (settings : Settings) (bytes input out : List ℕ)
-    → IsUnfinished work how settings bytes input → IsRefusedAs work how bytes out → ⊥
-unfinished_not_refused Run form.Source settings bytes input out up bad =
-    not_both bytes up.1.lowered.program bad.0 up.1.lowered.accepted bad.1
-unfinished_not_refused Run form.Target settings bytes input out up bad =
-    target_not_refused bytes out up.0 up.1 up.2 bad
-unfinished_not_refused Run form.Image settings bytes input out up bad =
-    image_not_refused bytes out up.0 up.1 up.2 bad
-unfinished_not_refused Evaluate how settings bytes input out up bad = up
-unfinished_not_refused Compile how settings bytes input out up bad = up
-unfinished_not_refused Assemble how settings bytes input out up bad = up
-unfinished_not_refused Disassemble how settings bytes input out up bad = up
-unfinished_not_refused Check how settings bytes input out up bad = up
-
--- a run is given up only where its counts are asked for
-pub never_unfinished : (how : FileForm) (settings : Settings) (bytes input : List ℕ)
-    → settings.show.cycles ≡ false → IsUnfinished Run how settings bytes input → ⊥
-never_unfinished form.Source settings bytes input hidden up = true≢false (sym up.2.0 ∙ hidden)
-never_unfinished form.Target settings bytes input hidden up = true≢false (sym up.3.0 ∙ hidden)
-never_unfinished form.Image settings bytes input hidden up = true≢false (sym up.3.0 ∙ hidden)
-
--- what is tried and not given up is done
-pub tried_done : (work : Work) (how : FileForm) (settings : Settings) (bytes input : List ℕ) (s : Status)
-    (report : List ℕ) → IsTried work how settings bytes input s report
-    → (IsUnfinished work how settings bytes input → ⊥) → IsDone work how settings bytes input s report
-tried_done work how settings bytes input s report (inl done) never = done
-tried_done work how settings bytes input s report (inr up) never = absurd (never up.0)
-
 front_once : (text a b : List ℕ) → IsRefusedByFront text a → IsRefusedByFront text b → a ≡ b
 front_once text a b x y =
     x.2 ∙ ap front_refusal (refused_once text x.0 y.0 x.1 y.1) ∙ sym y.2
@@ -179,14 +149,12 @@ refusal_once Check how bytes a b x y = image_once bytes a b x y
 
 -- what is done with bytes that are refused
 pub refused_exact : (work : Work) (how : FileForm) (settings : Settings) (bytes input : List ℕ)
-    (s : Status) (report out : List ℕ) → IsTried work how settings bytes input s report
+    (s : Status) (report out : List ℕ) → IsDone work how settings bytes input s report
     → IsRefusedAs work how bytes out → (s ≡ status.Refused) × (report ≡ out)
-refused_exact work how settings bytes input s report out (inl (inl x)) bad =
+refused_exact work how settings bytes input s report out (inl x) bad =
     (x.2.0, x.2.1 ∙ refusal_once work how bytes x.0 out x.1 bad)
-refused_exact work how settings bytes input s report out (inl (inr run)) bad =
+refused_exact work how settings bytes input s report out (inr run) bad =
     absurd (not_worked work how settings bytes input s report out bad run)
-refused_exact work how settings bytes input s report out (inr up) bad =
-    absurd (unfinished_not_refused work how settings bytes input out up.0 bad)
 
 -- with an accepted text under `eval`
 pub eval_exact : (how : FileForm) (settings : Settings) (text input : List ℕ) (s : Status)
@@ -215,19 +183,6 @@ pub text_exact : (settings : Settings) (text input : List ℕ) (s : Status) (rep
 text_exact settings text input s report program (inl x) is =
     absurd (not_both text program x.1.0 is x.1.1)
 text_exact settings text input s report program (inr run) is = run
-
--- the run of an image of good blocks is given up
-pub image_given_up : (settings : Settings) (bytes input : List ℕ) (image : Image)
-    → ImageBytes image bytes → IsUnfinished Run form.Image settings bytes input
-    → IsGivenUp image input settings
-image_given_up settings bytes input image spelled up =
-    subst (λ (i : Image). IsGivenUp i input settings) (one_image up.0 image bytes up.1 spelled) up.3
-
-pub target_given_up : (settings : Settings) (text input : List ℕ) (image : Image)
-    → TargetText image text → IsUnfinished Run form.Target settings text input
-    → IsGivenUp image input settings
-target_given_up settings text input image spelled up =
-    subst (λ (i : Image). IsGivenUp i input settings) (texts.one_image up.0 image text up.1 spelled) up.3
 
 -- with the text of an image of good blocks under `run`
 pub target_exact : (settings : Settings) (text input : List ℕ) (s : Status) (report : List ℕ)
@@ -358,19 +313,19 @@ module _ (request : Option Request) (held : List ℕ → Option (List ℕ)) (ros
   -- what is done where the file and the input are told
   pub complete : (work : Work) (how : FileForm) (most : ℕ) (show : Show) (bytes input : List ℕ)
       → (asks : AsksFor request held work how most show bytes input)
-      → IsTried work how (settings_with asks.q most show) bytes input s report
+      → IsDone work how (settings_with asks.q most show) bytes input s report
   complete work how most show bytes input asks =
       let rest = behind asks.q bytes asks.asked asks.told.told asks.told.few in
       let is = input_read asks.q.input held rose rest.0 input rest.1 asks.told.told_input
       asks.told.few_input r in
       let done = subst (λ (x : Loaded). AfterReading x
-      (λ i. IsTried asks.q.work asks.q.form (settings_of asks.q) bytes i s report) s report) is rest.2 in
-      subst (λ (v : Show). IsTried work how (settings_with asks.q most v) bytes input s report)
+      (λ i. IsDone asks.q.work asks.q.form (settings_of asks.q) bytes i s report) s report) is rest.2 in
+      subst (λ (v : Show). IsDone work how (settings_with asks.q most v) bytes input s report)
       asks.is_show
-      (subst (λ (m : ℕ). IsTried work how (settings_with asks.q m asks.q.show) bytes input s report)
+      (subst (λ (m : ℕ). IsDone work how (settings_with asks.q m asks.q.show) bytes input s report)
       asks.is_most
-      (subst (λ (f : FileForm). IsTried work f (settings_of asks.q) bytes input s report) asks.is_form
-      (subst (λ (w : Work). IsTried w asks.q.form (settings_of asks.q) bytes input s report)
+      (subst (λ (f : FileForm). IsDone work f (settings_of asks.q) bytes input s report) asks.is_form
+      (subst (λ (w : Work). IsDone w asks.q.form (settings_of asks.q) bytes input s report)
       asks.is_work done)))
 
   -- a file that is too large
@@ -390,7 +345,7 @@ module _ (request : Option Request) (held : List ℕ → Option (List ℕ)) (ros
       let rest = behind q text.0 e text.1 text.2 in
       let is = input_large q.input held rose rest.0 rest.1 large.1 r in
       subst (λ (x : Loaded). AfterReading x
-      (λ i. IsTried q.work q.form (settings_of q) text.0 i s report) s report) is rest.2
+      (λ i. IsDone q.work q.form (settings_of q) text.0 i s report) s report) is rest.2
     where
       some_of : (told : Option (List ℕ)) (P : List ℕ → Type 0) → IsSomeAnd told P
           → (bytes : List ℕ) × (told ≡ Some bytes) × P bytes

@@ -1,11 +1,10 @@
-pub mod BlockRuns
 pub mod GridRuns
 pub mod Told
 pub mod Rows
 pub mod Ends
 pub mod Causes
 pub mod Reported
-pub mod CountedRuns
+pub mod ShownRuns
 pub mod OneFault
 pub mod Results
 pub mod Compiled

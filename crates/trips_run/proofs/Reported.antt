@@ -1,9 +1,8 @@
 -- What is written where the request's file and input are told and nothing fails.
 use Rattle.std.proofs.Common.{◌≡◌, ◌≢◌, ℕ, ℤ, ◌+◌, ◌*◌, ◌≤◌, List, Option, Some}
-use Rattle.std.proofs.Common.{All, false, refl, subst}
+use Rattle.std.proofs.Common.{All, refl, subst}
 use Rattle.trips_outside.specs.Outside.{Appended}
 use Rattle.trips_isa.specs.declared.block.Image.{Image}
-use Rattle.trips_isa.specs.declared.run.Stepped.TheVariants as stepped
 use Rattle.trips_isa.specs.Machine.{runs, start}
 use Rattle.c_tree.specs.declared.typed.TypedProgram.{TypedProgram}
 use Rattle.c_meaning_spec.specs.declared.signal.Ending.TheVariants.{Deep}
@@ -12,8 +11,8 @@ use Rattle.c_front.specs.Fronts.{IsAccepted}
 use Rattle.c_compile.specs.Images.{IsImageOf}
 use Rattle.block_image.specs.Spelling.{ImageBytes}
 use Rattle.block_check.specs.Faults.{IsGood}
+use Rattle.grid_cycle_spec.specs.Costs.{cost_of}
 use Rattle.trips_report.specs.declared.show.Show.{Show}
-use Rattle.target_asm_spec.specs.Text.{TargetText}
 use Rattle.trips_tools.specs.Tools.{IsOneImage, IsGoodImage}
 use Rattle.trips_words.specs.declared.commands.Command.{Command as Work}
 use Rattle.trips_words.specs.declared.commands.Command.TheVariants.{Run, Evaluate, Compile}
@@ -25,18 +24,16 @@ use Rattle.trips_run.specs.declared.status.Status.TheVariants as status
 use Rattle.trips_run.specs.Request.{Request, settings_with}
 use Rattle.trips_report.specs.Evaluations.{eval_report}
 use Rattle.trips_report.specs.Refusals.{too_large_text}
-use Rattle.trips_run.specs.Report.{ending_of, run_report, shown_report, shown_behind, nothing_shown}
+use Rattle.trips_run.specs.Report.{ending_of, run_report, nothing_shown}
 use Rattle.trips_run.specs.Refused.{IsRefusedAs}
-use Rattle.trips_run.specs.Worked.{status_of, eval_status, outcome_of, IsDone, IsRunOfText}
-use Rattle.trips_run.specs.Counted.{IsUnfinished}
+use Rattle.trips_run.specs.Worked.{status_of, eval_status, outcome_of, IsRunOfText}
 use Rattle.trips_run.specs.Answer.{IsAnswer}
 use Rattle.trips_run.specs.Table.{IsAnswered, ended_report, full_report, Asks, AsksFor}
 use Rattle.trips_run.specs.Table.{HasLargeFile, HasLargeInput}
 use Rattle.trips_run.proofs.Exact.{complete, large_file, large_input, refused_exact, eval_exact}
-use Rattle.trips_run.proofs.Exact.{image_exact, text_exact, target_exact, tried_done, never_unfinished}
-use Rattle.trips_run.proofs.GridRuns.{shown_told}
+use Rattle.trips_run.proofs.Exact.{image_exact, text_exact}
 use Rattle.trips_run.proofs.Exact.{compiled_exact, assembled_exact, disassembled_exact, checked_exact}
-use Rattle.trips_run.proofs.Compiled.{finished_told, deep_told, finished_shown, deep_shown, plain_told}
+use Rattle.trips_run.proofs.Compiled.{finished_told, deep_told, plain_told}
 use Rattle.trips_run.proofs.Causes.{whole_of}
 
 module _ (held : List ℕ → Option (List ℕ)) (rose : Type 0) (old new : Option (List ℕ))
@@ -46,29 +43,16 @@ module _ (held : List ℕ → Option (List ℕ)) (rose : Type 0) (old new : Opti
       → (report : List ℕ) × IsAnswer q held rose s report × Appended old new report
   row_of s a c m = whole_of held rose old new cut q s a c m
 
-  -- the run of an accepted text that the row of its request tells, where its counts are not shown
+  -- the run of an accepted text that the row of its request tells
   text_done : (s : Status) (a : IsAnswered q held rose old new cut s) (c : cut → ⊥)
       (m : s ≢ status.Memory) (most : ℕ) (show : Show) (text input : List ℕ) (program : TypedProgram)
-      → (asks : AsksFor q held Run form.Source most show text input) → show.cycles ≡ false
-      → IsAccepted text program → (rose → ⊥)
+      → (asks : AsksFor q held Run form.Source most show text input) → IsAccepted text program
+      → (rose → ⊥)
       → IsRunOfText (settings_with asks.q most show) text input s (row_of s a c m).0
-  text_done s a c m most show text input program asks hidden is r =
+  text_done s a c m most show text input program asks is r =
       let row = row_of s a c m in
       text_exact (settings_with asks.q most show) text input s row.0 program
-      (tried_done Run form.Source (settings_with asks.q most show) text input s row.0
-      (complete q held rose s row.0 row.1 r Run form.Source most show text input asks)
-      (never_unfinished form.Source (settings_with asks.q most show) text input hidden)) is
-
-  -- what was done and not given up, of which the row of its request tells
-  done_of : (s : Status) (a : IsAnswered q held rose old new cut s) (c : cut → ⊥)
-      (m : s ≢ status.Memory) (work : Work) (how : FileForm) (most : ℕ) (show : Show)
-      (bytes input : List ℕ) → (asks : AsksFor q held work how most show bytes input) → (rose → ⊥)
-      → (IsUnfinished work how (settings_with asks.q most show) bytes input → ⊥)
-      → IsDone work how (settings_with asks.q most show) bytes input s (row_of s a c m).0
-  done_of s a c m work how most show bytes input asks r never =
-      let row = row_of s a c m in
-      tried_done work how (settings_with asks.q most show) bytes input s row.0
-      (complete q held rose s row.0 row.1 r work how most show bytes input asks) never
+      (complete q held rose s row.0 row.1 r Run form.Source most show text input asks) is
 
   pub headline : (s : Status) → IsAnswered q held rose old new cut s → (most n : ℕ)
       (text input output : List ℕ) (value : ℤ) (steps : ℕ) (program : TypedProgram)
@@ -77,7 +61,7 @@ module _ (held : List ℕ → Option (List ℕ)) (rose : Type 0) (old new : Opti
       → s ≢ status.Memory → (s ≡ status.Ended) × Appended old new (ended_report output value)
   headline s a most n text input output value steps program asks is done enough r c m =
       let row = row_of s a c m in
-      let run = text_done s a c m most nothing_shown text input program asks refl is r in
+      let run = text_done s a c m most nothing_shown text input program asks is r in
       let told = finished_told (settings_with asks.q most nothing_shown) n text input program s row.0
       run is enough output value steps refl done in
       (told.0, subst (Appended old new) told.1 row.2)
@@ -89,7 +73,7 @@ module _ (held : List ℕ → Option (List ℕ)) (rose : Type 0) (old new : Opti
       → s ≢ status.Memory → (s ≡ status.StackFull) × Appended old new (full_report output)
   deep s a most n text input output program asks is full enough r c m =
       let row = row_of s a c m in
-      let run = text_done s a c m most nothing_shown text input program asks refl is r in
+      let run = text_done s a c m most nothing_shown text input program asks is r in
       let told = deep_told (settings_with asks.q most nothing_shown) n text input program s row.0
       run is enough output refl full in
       (told.0, subst (Appended old new) told.1 row.2)
@@ -104,63 +88,11 @@ module _ (held : List ℕ → Option (List ℕ)) (rose : Type 0) (old new : Opti
       × Appended old new (run_report (ending_of run.1 run.0.next) run.0)
   text_run s a most text input program asks is r c m =
       let row = row_of s a c m in
-      let run = text_done s a c m most nothing_shown text input program asks refl is r in
-      let told = shown_told run.0.blocks run.0.bytes input (settings_with asks.q most nothing_shown) s row.0
-      refl run.3 in
-      let plain = plain_told (runs run.0.blocks (start run.0.bytes input) most) nothing_shown row.0 refl
-      told.1 in
-      (run.0, run.1, (told.0, subst (Appended old new) plain row.2))
-
-  pub shown_text_run : (s : Status) → IsAnswered q held rose old new cut s → (most : ℕ) (show : Show)
-      (text input : List ℕ) (program : TypedProgram)
-      → (asks : AsksFor q held Run form.Source most show text input)
-      → show.cycles ≡ false → IsAccepted text program
-      → (rose → ⊥) → (cut → ⊥) → s ≢ status.Memory
-      → (image : Image) × IsImageOf text asks.q.placing image
-      × let run = runs image.blocks (start image.bytes input) most in
-      (s ≡ status_of (ending_of run.1 run.0.next))
-      × Appended old new (shown_report (ending_of run.1 run.0.next) run.0 show)
-  shown_text_run s a most show text input program asks hidden is r c m =
-      let row = row_of s a c m in
-      let run = text_done s a c m most show text input program asks hidden is r in
-      let told = shown_told run.0.blocks run.0.bytes input (settings_with asks.q most show) s row.0
-      hidden run.3 in
-      (run.0, run.1, (told.0, subst (Appended old new) told.1 row.2))
-
-  -- and of one whose evaluation ends, or is too deep, within n steps
-  pub shown_headline : (s : Status) → IsAnswered q held rose old new cut s → (most n : ℕ)
-      (show : Show) (text input output : List ℕ) (value : ℤ) (steps : ℕ) (program : TypedProgram)
-      → (asks : AsksFor q held Run form.Source most show text input)
-      → show.cycles ≡ false → IsAccepted text program
-      → eval program input n ≡ Done output value steps → 16 * n + 16 ≤ most → (rose → ⊥) → (cut → ⊥)
-      → s ≢ status.Memory → (s ≡ status.Ended) × (image : Image)
-      × IsImageOf text asks.q.placing image
-      × let run = runs image.blocks (start image.bytes input) most in
-      (run.1 ≡ stepped.Ended)
-      × Appended old new (shown_behind (ended_report output value) run.0 show)
-  shown_headline s a most n show text input output value steps program asks hidden is done enough r c m =
-      let row = row_of s a c m in
-      let run = text_done s a c m most show text input program asks hidden is r in
-      let told = finished_shown (settings_with asks.q most show) n text input program s row.0
-      run is enough output value steps hidden done in
-      (told.0, run.0, run.1, (told.1, subst (Appended old new) told.2 row.2))
-
-  pub shown_deep : (s : Status) → IsAnswered q held rose old new cut s → (most n : ℕ) (show : Show)
-      (text input output : List ℕ) (program : TypedProgram)
-      → (asks : AsksFor q held Run form.Source most show text input)
-      → show.cycles ≡ false → IsAccepted text program
-      → eval program input n ≡ Stopped Deep output → 16 * n + 16 ≤ most → (rose → ⊥) → (cut → ⊥)
-      → s ≢ status.Memory → (s ≡ status.StackFull) × (image : Image)
-      × IsImageOf text asks.q.placing image
-      × let run = runs image.blocks (start image.bytes input) most in
-      (run.1 ≡ stepped.StackFull)
-      × Appended old new (shown_behind (full_report output) run.0 show)
-  shown_deep s a most n show text input output program asks hidden is deep enough r c m =
-      let row = row_of s a c m in
-      let run = text_done s a c m most show text input program asks hidden is r in
-      let told = deep_shown (settings_with asks.q most show) n text input program s row.0
-      run is enough output hidden deep in
-      (told.0, run.0, run.1, (told.1, subst (Appended old new) told.2 row.2))
+      let run = text_done s a c m most nothing_shown text input program asks is r in
+      let at_end = runs run.0.blocks (start run.0.bytes input) most in
+      let plain = plain_told at_end run.3.0 (cost_of run.0.blocks at_end.0.trace) nothing_shown row.0 refl
+      run.3.2.1 in
+      (run.0, run.1, (run.3.2.0, subst (Appended old new) plain row.2))
 
   pub evaluation : (s : Status) → IsAnswered q held rose old new cut s → (how : FileForm)
       (steps : ℕ) (text input : List ℕ) (program : TypedProgram)
@@ -169,7 +101,7 @@ module _ (held : List ℕ → Option (List ℕ)) (rose : Type 0) (old new : Opti
       × Appended old new (eval_report (outcome_of program input steps))
   evaluation s a how steps text input program asks is r c m =
       let row = row_of s a c m in
-      let done = done_of s a c m Evaluate how steps nothing_shown text input asks r (λ up. up) in
+      let done = complete q held rose s row.0 row.1 r Evaluate how steps nothing_shown text input asks in
       let told = eval_exact how (settings_with asks.q steps nothing_shown) text input s row.0 program
       done is in
       (told.0, subst (Appended old new) told.1 row.2)
@@ -182,44 +114,13 @@ module _ (held : List ℕ → Option (List ℕ)) (rose : Type 0) (old new : Opti
       × Appended old new (run_report (ending_of run.1 run.0.next) run.0)
   image_run s a blocks bytes input image asks spelled good r c m =
       let row = row_of s a c m in
-      let done = done_of s a c m Run form.Image blocks nothing_shown bytes input asks r
-      (never_unfinished form.Image (settings_with asks.q blocks nothing_shown) bytes input refl) in
-      let told = shown_told image.blocks image.bytes input (settings_with asks.q blocks nothing_shown) s row.0
-      refl (image_exact (settings_with asks.q blocks nothing_shown) bytes input s row.0 image done
-      spelled good) in
-      let plain = plain_told (runs image.blocks (start image.bytes input) blocks) nothing_shown row.0 refl
-      told.1 in
-      (told.0, subst (Appended old new) plain row.2)
-
-  pub shown_image_run : (s : Status) → IsAnswered q held rose old new cut s → (blocks : ℕ)
-      (show : Show) (bytes input : List ℕ) (image : Image)
-      → (asks : AsksFor q held Run form.Image blocks show bytes input) → show.cycles ≡ false
-      → ImageBytes image bytes → All IsGood image.blocks → (rose → ⊥) → (cut → ⊥)
-      → s ≢ status.Memory → let run = runs image.blocks (start image.bytes input) blocks in
-      (s ≡ status_of (ending_of run.1 run.0.next))
-      × Appended old new (shown_report (ending_of run.1 run.0.next) run.0 show)
-  shown_image_run s a blocks show bytes input image asks hidden spelled good r c m =
-      let row = row_of s a c m in
-      let done = done_of s a c m Run form.Image blocks show bytes input asks r
-      (never_unfinished form.Image (settings_with asks.q blocks show) bytes input hidden) in
-      let told = shown_told image.blocks image.bytes input (settings_with asks.q blocks show) s row.0
-      hidden (image_exact (settings_with asks.q blocks show) bytes input s row.0 image done spelled good) in
-      (told.0, subst (Appended old new) told.1 row.2)
-
-  pub target_run : (s : Status) → IsAnswered q held rose old new cut s → (blocks : ℕ)
-      (show : Show) (text input : List ℕ) (image : Image)
-      → (asks : AsksFor q held Run form.Target blocks show text input) → show.cycles ≡ false
-      → TargetText image text → All IsGood image.blocks → (rose → ⊥) → (cut → ⊥)
-      → s ≢ status.Memory → let run = runs image.blocks (start image.bytes input) blocks in
-      (s ≡ status_of (ending_of run.1 run.0.next))
-      × Appended old new (shown_report (ending_of run.1 run.0.next) run.0 show)
-  target_run s a blocks show text input image asks hidden spelled good r c m =
-      let row = row_of s a c m in
-      let done = done_of s a c m Run form.Target blocks show text input asks r
-      (never_unfinished form.Target (settings_with asks.q blocks show) text input hidden) in
-      let told = shown_told image.blocks image.bytes input (settings_with asks.q blocks show) s row.0
-      hidden (target_exact (settings_with asks.q blocks show) text input s row.0 image done spelled good) in
-      (told.0, subst (Appended old new) told.1 row.2)
+      let done = complete q held rose s row.0 row.1 r Run form.Image blocks nothing_shown bytes input asks in
+      let told = image_exact (settings_with asks.q blocks nothing_shown) bytes input s row.0 image done
+      spelled good in
+      let at_end = runs image.blocks (start image.bytes input) blocks in
+      let plain = plain_told at_end told.0 (cost_of image.blocks at_end.0.trace) nothing_shown row.0 refl
+      told.2.1 in
+      (told.2.0, subst (Appended old new) plain row.2)
 
   pub compiled : (s : Status) → IsAnswered q held rose old new cut s → (how : FileForm) (most : ℕ)
       (show : Show) (text input : List ℕ) (program : TypedProgram)
@@ -230,7 +131,7 @@ module _ (held : List ℕ → Option (List ℕ)) (rose : Type 0) (old new : Opti
       × (s ≡ status.Ended) × Appended old new bytes
   compiled s a how most show text input program asks is r c m =
       let row = row_of s a c m in
-      let done = done_of s a c m Compile how most show text input asks r (λ up. up) in
+      let done = complete q held rose s row.0 row.1 r Compile how most show text input asks in
       let run = compiled_exact how (settings_with asks.q most show) text input s row.0 program
       done is in
       (run.0, run.1, row.0, run.2, run.3, row.2)
@@ -242,7 +143,7 @@ module _ (held : List ℕ → Option (List ℕ)) (rose : Type 0) (old new : Opti
       → (s ≡ status.Ended) × Appended old new bytes
   assembled s a how most show text input bytes asks one r c m =
       let row = row_of s a c m in
-      let done = done_of s a c m Assemble how most show text input asks r (λ up. up) in
+      let done = complete q held rose s row.0 row.1 r Assemble how most show text input asks in
       let told = assembled_exact how (settings_with asks.q most show) text input s row.0 bytes
       done one in
       (told.0, subst (Appended old new) told.1 row.2)
@@ -254,7 +155,7 @@ module _ (held : List ℕ → Option (List ℕ)) (rose : Type 0) (old new : Opti
       → (s ≡ status.Ended) × Appended old new text
   disassembled s a how most show bytes input text asks one r c m =
       let row = row_of s a c m in
-      let done = done_of s a c m Disassemble how most show bytes input asks r (λ up. up) in
+      let done = complete q held rose s row.0 row.1 r Disassemble how most show bytes input asks in
       let told = disassembled_exact how (settings_with asks.q most show) bytes input s row.0 text
       done one in
       (told.0, subst (Appended old new) told.1 row.2)
@@ -266,7 +167,7 @@ module _ (held : List ℕ → Option (List ℕ)) (rose : Type 0) (old new : Opti
       → (s ≡ status.Ended) × Appended old new report
   checked s a how most show bytes input report asks good r c m =
       let row = row_of s a c m in
-      let done = done_of s a c m Check how most show bytes input asks r (λ up. up) in
+      let done = complete q held rose s row.0 row.1 r Check how most show bytes input asks in
       let told = checked_exact how (settings_with asks.q most show) bytes input s row.0 report
       done good in
       (told.0, subst (Appended old new) told.1 row.2)

@@ -21,9 +21,9 @@ use Rattle.trips_run.specs.declared.loading.Loaded.TheVariants.{Fault, TooLarge,
 use Rattle.trips_run.specs.declared.status.Status.{Status}
 use Rattle.trips_run.specs.declared.status.Status.TheVariants as status
 use Rattle.trips_run.specs.Request.{Request, origin_held, settings_of}
-use Rattle.trips_run.specs.Read.{IsRead, IsInputRead, HoldsInput, limit_of, most_input_bytes}
+use Rattle.trips_run.specs.Read.{IsRead, IsInputRead, limit_of, most_input_bytes}
 use Rattle.trips_run.specs.Report.{ending_of}
-use Rattle.trips_run.specs.Worked.{status_of, IsRunBy, eval_status, outcome_of, IsWorked, IsTried}
+use Rattle.trips_run.specs.Worked.{status_of, IsRunBy, eval_status, outcome_of, IsWorked, IsDone}
 use Rattle.trips_run.specs.Answer.{AfterReading, IsAnswerBehind, IsAnswer}
 use Rattle.trips_run.specs.Refused.{IsBad, MayBeLarge, IsLarge, MayBeRefused, IsRefused}
 use Rattle.trips_run.proofs.Exact.{not_worked}
@@ -122,12 +122,6 @@ not_large_input (Some name) held rose bytes h large =
     let lt = of_read (λ (bs : List ℕ). most_input_bytes < length bs) (held name) bytes h.0 large in
     absurd (omega (arith, h.1, lt))
 
--- an input that was read is the one that is held
-pub input_held : (input : Option (List ℕ)) (held : List ℕ → Option (List ℕ)) (rose : Type 0)
-    (bytes : List ℕ) → IsInputRead input held rose (Bytes bytes) → HoldsInput input held bytes
-input_held None held rose bytes h = cc
-input_held (Some name) held rose bytes h = h.0
-
 -- answers ---------------------------------------------------------------------------------------
 
 module _ (q : Request) (held : List ℕ → Option (List ℕ)) (rose : Type 0) (s : Status)
@@ -140,18 +134,11 @@ module _ (q : Request) (held : List ℕ → Option (List ℕ)) (rose : Type 0) (
       not_worked q.work q.form (settings_of q) bytes input s report bad.0 bad.1 run
 
   done_kind : (bytes input : List ℕ) → Holds (origin_held held q.origin) bytes
-      → length bytes ≤ limit_of q.form → HoldsInput q.input held input → (IsLarge q.input held → ⊥)
-      → IsTried q.work q.form (settings_of q) bytes input s report → Kind (Some q) held rose s
-  done_kind bytes input h few hi small (inr up) = refused up.1.0 (inr (inr record {
-    bytes = bytes;
-    input = input;
-    holds = h;
-    holds_input = hi;
-    unfinished = up.0;
-  }))
-  done_kind bytes input h few hi small (inl (inl out)) =
+      → length bytes ≤ limit_of q.form → (IsLarge q.input held → ⊥)
+      → IsDone q.work q.form (settings_of q) bytes input s report → Kind (Some q) held rose s
+  done_kind bytes input h few small (inl out) =
       refused out.2.0 (inl (of_told (IsBad q) (origin_held held q.origin) bytes h (inr (out.0, out.1))))
-  done_kind bytes input h few hi small (inl (inr run)) =
+  done_kind bytes input h few small (inr run) =
       ran (work_tells q.work q.form (settings_of q) bytes input s report run) not_refused
     where
       not_refused : IsRefused (Some q) held → ⊥
@@ -161,14 +148,13 @@ module _ (q : Request) (held : List ℕ → Option (List ℕ)) (rose : Type 0) (
 
   input_kind : (bytes : List ℕ) (loaded : Loaded) → Holds (origin_held held q.origin) bytes
       → length bytes ≤ limit_of q.form → IsInputRead q.input held rose loaded
-      → AfterReading loaded (λ input. IsTried q.work q.form (settings_of q) bytes input s report) s report
+      → AfterReading loaded (λ input. IsDone q.work q.form (settings_of q) bytes input s report) s report
       → Kind (Some q) held rose s
   input_kind bytes Fault h few i a = unread a.0 (input_fault q.input held rose i)
   input_kind bytes TooLarge h few i a =
-      refused a.0 (inr (inl (input_too_large q.input held rose i)))
+      refused a.0 (inr (input_too_large q.input held rose i))
   input_kind bytes (Bytes input) h few i a =
-      done_kind bytes input h few (input_held q.input held rose input i)
-      (not_large_input q.input held rose input i) a
+      done_kind bytes input h few (not_large_input q.input held rose input i) a
 
   asked_kind : (loaded : Loaded) → IsRead (origin_held held q.origin) rose (limit_of q.form) loaded
       → AfterReading loaded (λ bytes. IsAnswerBehind q held rose bytes s report) s report

@@ -1,12 +1,8 @@
 -- What the parts of an answer say together.
-use Rattle.std.proofs.Common.{◌≡◌, ◌≢◌, ℕ, ◌<◌, ◌≤◌, false, List, Option}
+use Rattle.std.proofs.Common.{◌≡◌, ◌≢◌, ℕ, ◌<◌, ◌≤◌, List, Option}
 use Rattle.std.proofs.Common.{None, Some, Result, Ok, Err, IfOk, All}
-use Rattle.std.proofs.Common.{◌⊎◌, inl, inr, refl, sym, ◌∙◌, ap, subst, arith}
-use Rattle.trips_isa.specs.declared.block.Block.{Block}
+use Rattle.std.proofs.Common.{◌⊎◌, inl, inr, refl, sym, ap, subst, arith}
 use Rattle.trips_isa.specs.declared.block.Image.{Image}
-use Rattle.trips_isa.specs.declared.run.Ending.{Ending}
-use Rattle.trips_isa.specs.declared.run.Stepped.{Stepped}
-use Rattle.trips_isa.specs.Machine.{State, runs, start}
 use Rattle.block_image.specs.Spelling.{ImageBytes}
 use Rattle.block_check.specs.Faults.{IsGood}
 use Rattle.block_check.specs.Images.{IsCheckedImage}
@@ -35,7 +31,6 @@ use Rattle.trips_words.specs.Requests as line
 use Rattle.trips_run.specs.Request.{Request, origin_held, planned, request_seen}
 use Rattle.trips_run.specs.Read.{IsRead, IsInputRead, limit_of}
 use Rattle.trips_run.specs.Read.{most_input_bytes, most_source_bytes, most_target_bytes, most_image_bytes}
-use Rattle.trips_run.specs.Report.{ending_of, shown_report}
 use Rattle.target_asm_spec.specs.Text.{TargetText}
 use Rattle.trips_report.specs.declared.said.Said.{Said}
 use Rattle.trips_report.specs.Refusals.{refusal_report}
@@ -46,35 +41,13 @@ use Rattle.trips_tools.specs.Tools.{IsOneImage, IsGoodImage, Makes}
 use Rattle.trips_run.specs.Made.{IsMade}
 use Rattle.trips_run.specs.Refusal.{front_refusal}
 use Rattle.trips_run.specs.Refused.{IsRefusedByFront, IsNoImage, IsBadImage}
-use Rattle.trips_run.specs.Worked.{status_of, IsRefusalBy, IsRunBy, IsRunOrGivenUp, IsEvaluation, IsDone, IsTried}
+use Rattle.trips_run.specs.Worked.{IsRefusalBy, IsRunBy, IsEvaluation, IsDone}
 use Rattle.trips_run.specs.Answer.{AfterReading, IsAnswerBehind, IsAnswer}
 use Rattle.trips_run.specs.Checked.{IsRunOfChecked}
-use Rattle.trips_run.proofs.GridRuns.{machine_told}
 
 -- every block of a checked image is good
 pub checked_good : (image : Image) → IsCheckedImage image → All IsGood image.blocks
 checked_good image checked = λ k d lt. (checked.each k d lt).good
-
--- a run of the machine from a state, with its status and its report
-pub run_told : (blocks : List Block) (bytes input : List ℕ) (settings : Settings)
-    (first after : State) (ending : Ending) (s : Status) (report : List ℕ)
-    → first ≡ start bytes input → settings.show.cycles ≡ false → after ≡ (runs blocks first settings.most).0
-    → ending ≡ ending_of (runs blocks first settings.most).1 (runs blocks first settings.most).0.next
-    → s ≡ status_of ending → report ≡ shown_report ending after settings.show
-    → IsRunBy blocks bytes input settings s report
-run_told blocks bytes input settings first after ending s report f hidden a e h t =
-    let same : runs blocks first settings.most ≡ runs blocks (start bytes input) settings.most =
-    ap (λ (st : State). runs blocks st settings.most) f in
-    let ends : ending ≡ ending_of (runs blocks (start bytes input) settings.most).1
-    (runs blocks (start bytes input) settings.most).0.next =
-    e ∙ ap (λ (r : State × Stepped). ending_of r.1 r.0.next) same in
-    machine_told blocks bytes input settings s report hidden (
-      h ∙ ap status_of ends,
-      t ∙ ap (λ (x : Ending). shown_report x after settings.show) ends
-          ∙ ap (λ (st : State). shown_report (ending_of (runs blocks (start bytes input) settings.most).1
-          (runs blocks (start bytes input) settings.most).0.next) st settings.show)
-          (a ∙ ap (λ (r : State × Stepped). r.0) same),
-    )
 
 -- refusals of texts ---------------------------------------------------------------------------
 
@@ -95,26 +68,18 @@ front_told text refusal may some = (refusal, refusal_is text refusal may some, r
 pub run_refused_told : {E : Type 0} (text input : List ℕ) (settings : Settings) (refusal : Refusal)
     (r : Result Answer E) → MayBeRefused text refusal
     → IfOk r (λ a. IsRefusalBy refusal a.status a.report.items)
-    → IfOk r (λ a. IsTried Run form.Source settings text input a.status a.report.items)
+    → IfOk r (λ a. IsDone Run form.Source settings text input a.status a.report.items)
 run_refused_told text input settings refusal (Err e) may told = tt
 run_refused_told text input settings refusal (Ok a) may told =
-    inl (inl (front_refusal refusal, front_told text refusal may told.0, told.1))
+    inl (front_refusal refusal, front_told text refusal may told.0, told.1)
 
 -- the run of the image that is compiled from a text
-compiled_tried : (text input : List ℕ) (settings : Settings) (image : Image) (s : Status) (report : List ℕ)
-    → IsImageOf text settings.placing image → IsInput input
-    → IsRunOrGivenUp image input settings s report
-    → IsTried Run form.Source settings text input s report
-compiled_tried text input settings image s report is bytes (inl run) = inl (inr (image, is, bytes, run))
-compiled_tried text input settings image s report is bytes (inr up) = inr ((image, is, up.0), up.1)
-
 pub compiled_told : {E : Type 0} (text input : List ℕ) (settings : Settings) (image : Image)
     (r : Result Answer E) → IsImageOf text settings.placing image → IsInput input
-    → IfOk r (λ a. IsRunOrGivenUp image input settings a.status a.report.items)
-    → IfOk r (λ a. IsTried Run form.Source settings text input a.status a.report.items)
+    → IfOk r (λ a. IsRunBy image.blocks image.bytes input settings a.status a.report.items)
+    → IfOk r (λ a. IsDone Run form.Source settings text input a.status a.report.items)
 compiled_told text input settings image (Err e) is bytes told = tt
-compiled_told text input settings image (Ok a) is bytes told =
-    compiled_tried text input settings image a.status a.report.items is bytes told
+compiled_told text input settings image (Ok a) is bytes told = inr (image, is, bytes, told)
 
 -- the refusal of a text under `eval`
 pub eval_refused_told : {E : Type 0} (steps : ℕ) (text input : List ℕ) (refusal : Refusal)
@@ -161,50 +126,36 @@ written_told text placing image (Ok a) is told = λ how settings input same.
 
 -- images --------------------------------------------------------------------------------------
 
-image_run : (bytes input : List ℕ) (settings : Settings) (image : Image) (s : Status) (report : List ℕ)
-    → ImageBytes image bytes → All IsGood image.blocks → IsRunOrGivenUp image input settings s report
-    → IsTried Run form.Image settings bytes input s report
-image_run bytes input settings image s report spelled good (inl run) = inl (inr (image, spelled, good, run))
-image_run bytes input settings image s report spelled good (inr up) =
-    inr ((image, spelled, good, up.0), up.1)
-
-checked_image : (bytes input : List ℕ) (settings : Settings) (image : Image) (s : Status) (report : List ℕ)
+checked_done : (bytes input : List ℕ) (settings : Settings) (image : Image) (s : Status) (report : List ℕ)
     → ImageBytes image bytes → IsRunOfChecked image settings input s report
-    → IsTried Run form.Image settings bytes input s report
-checked_image bytes input settings image s report spelled (inl run) =
-    image_run bytes input settings image s report spelled run.0 run.1
-checked_image bytes input settings image s report spelled (inr bad) =
-    inl (inl (_, inr (image, bad.0, bad.1, spelled, bad.2, refl), bad.3))
+    → IsDone Run form.Image settings bytes input s report
+checked_done bytes input settings image s report spelled (inl run) =
+    inr (image, spelled, run.0, run.1)
+checked_done bytes input settings image s report spelled (inr bad) =
+    inl (_, inr (image, bad.0, bad.1, spelled, bad.2, refl), bad.3)
 
 -- the answer to the image that the bytes spell
 pub image_told : {E : Type 0} (bytes input : List ℕ) (settings : Settings) (image : Image)
     (r : Result Answer E) → ImageBytes image bytes
     → IfOk r (λ a. IsRunOfChecked image settings input a.status a.report.items)
-    → IfOk r (λ a. IsTried Run form.Image settings bytes input a.status a.report.items)
+    → IfOk r (λ a. IsDone Run form.Image settings bytes input a.status a.report.items)
 image_told bytes input settings image (Err e) spelled told = tt
 image_told bytes input settings image (Ok a) spelled told =
-    checked_image bytes input settings image a.status a.report.items spelled told
+    checked_done bytes input settings image a.status a.report.items spelled told
 
-target_run : (text input : List ℕ) (settings : Settings) (image : Image) (s : Status) (report : List ℕ)
-    → TargetText image text → All IsGood image.blocks → IsRunOrGivenUp image input settings s report
-    → IsTried Run form.Target settings text input s report
-target_run text input settings image s report spelled good (inl run) = inl (inr (image, spelled, good, run))
-target_run text input settings image s report spelled good (inr up) =
-    inr ((image, spelled, good, up.0), up.1)
-
-checked_target : (text input : List ℕ) (settings : Settings) (image : Image) (s : Status) (report : List ℕ)
-    → TargetText image text → IsRunOfChecked image settings input s report
-    → IsTried Run form.Target settings text input s report
+checked_target : (text input : List ℕ) (settings : Settings) (image : Image) (s : Status)
+    (report : List ℕ) → TargetText image text → IsRunOfChecked image settings input s report
+    → IsDone Run form.Target settings text input s report
 checked_target text input settings image s report spelled (inl run) =
-    target_run text input settings image s report spelled run.0 run.1
+    inr (image, spelled, run.0, run.1)
 checked_target text input settings image s report spelled (inr bad) =
-    inl (inl (_, inr (image, bad.0, bad.1, spelled, bad.2, refl), bad.3))
+    inl (_, inr (image, bad.0, bad.1, spelled, bad.2, refl), bad.3)
 
 -- the answer to the image of a target text
 pub target_told : {E : Type 0} (text input : List ℕ) (settings : Settings) (image : Image)
     (r : Result Answer E) → TargetText image text
     → IfOk r (λ a. IsRunOfChecked image settings input a.status a.report.items)
-    → IfOk r (λ a. IsTried Run form.Target settings text input a.status a.report.items)
+    → IfOk r (λ a. IsDone Run form.Target settings text input a.status a.report.items)
 target_told text input settings image (Err e) spelled told = tt
 target_told text input settings image (Ok a) spelled told =
     checked_target text input settings image a.status a.report.items spelled told
@@ -269,23 +220,23 @@ pub evaluate_told : {E : Type 0} (work : Work) (how : FileForm) (steps : ℕ) (s
     → seen ≡ input
     → IfOk r (λ a. (f : FileForm) (t : Settings) → t.most ≡ steps
     → IsDone Evaluate f t bytes seen a.status a.report.items)
-    → IfOk r (λ a. IsTried work how settings bytes input a.status a.report.items)
+    → IfOk r (λ a. IsDone work how settings bytes input a.status a.report.items)
 evaluate_told work how steps settings bytes seen input (Err e) is most same told = tt
 evaluate_told work how steps settings bytes seen input (Ok a) is most same told =
-    inl (subst (λ (w : Work). IsDone w how settings bytes input a.status a.report.items) (sym is)
+    subst (λ (w : Work). IsDone w how settings bytes input a.status a.report.items) (sym is)
     (subst (λ (i : List ℕ). IsDone Evaluate how settings bytes i a.status a.report.items) same
-    (told how settings most)))
+    (told how settings most))
 
 -- what `run` does with a file of this form
 pub run_form_told : {E : Type 0} (work : Work) (how read : FileForm) (settings seen : Settings)
     (bytes input : List ℕ) (r : Result Answer E) → work ≡ Run → read ≡ how → seen ≡ settings
-    → IfOk r (λ a. IsTried Run read seen bytes input a.status a.report.items)
-    → IfOk r (λ a. IsTried work how settings bytes input a.status a.report.items)
+    → IfOk r (λ a. IsDone Run read seen bytes input a.status a.report.items)
+    → IfOk r (λ a. IsDone work how settings bytes input a.status a.report.items)
 run_form_told work how read settings seen bytes input (Err e) is same set told = tt
 run_form_told work how read settings seen bytes input (Ok a) is same set told =
-    subst (λ (w : Work). IsTried w how settings bytes input a.status a.report.items) (sym is)
-    (subst (λ (f : FileForm). IsTried Run f settings bytes input a.status a.report.items) same
-    (subst (λ (t : Settings). IsTried Run read t bytes input a.status a.report.items) set told))
+    subst (λ (w : Work). IsDone w how settings bytes input a.status a.report.items) (sym is)
+    (subst (λ (f : FileForm). IsDone Run f settings bytes input a.status a.report.items) same
+    (subst (λ (t : Settings). IsDone Run read t bytes input a.status a.report.items) set told))
 
 -- what `compile` does, whatever its file is read as
 pub compile_told : {E : Type 0} (work : Work) (how : FileForm) (placing : Placing)
@@ -293,22 +244,22 @@ pub compile_told : {E : Type 0} (work : Work) (how : FileForm) (placing : Placin
     → settings.placing ≡ placing
     → IfOk r (λ a. (f : FileForm) (t : Settings) (i : List ℕ) → t.placing ≡ placing
     → IsDone Compile f t bytes i a.status a.report.items)
-    → IfOk r (λ a. IsTried work how settings bytes input a.status a.report.items)
+    → IfOk r (λ a. IsDone work how settings bytes input a.status a.report.items)
 compile_told work how placing settings bytes input (Err e) is same told = tt
 compile_told work how placing settings bytes input (Ok a) is same told =
-    inl (subst (λ (w : Work). IsDone w how settings bytes input a.status a.report.items) (sym is)
-    (told how settings input same))
+    subst (λ (w : Work). IsDone w how settings bytes input a.status a.report.items) (sym is)
+    (told how settings input same)
 
 -- what a tool does, whatever is asked for besides its file
 pub tool_told : {E : Type 0} (work which : Work) (how : FileForm) (settings : Settings)
     (bytes input : List ℕ) (r : Result Answer E) → work ≡ which
     → IfOk r (λ a. (f : FileForm) (t : Settings) (i : List ℕ)
     → IsDone which f t bytes i a.status a.report.items)
-    → IfOk r (λ a. IsTried work how settings bytes input a.status a.report.items)
+    → IfOk r (λ a. IsDone work how settings bytes input a.status a.report.items)
 tool_told work which how settings bytes input (Err e) is told = tt
 tool_told work which how settings bytes input (Ok a) is told =
-    inl (subst (λ (w : Work). IsDone w how settings bytes input a.status a.report.items) (sym is)
-    (told how settings input))
+    subst (λ (w : Work). IsDone w how settings bytes input a.status a.report.items) (sym is)
+    (told how settings input)
 
 -- the whole answer ----------------------------------------------------------------------------
 

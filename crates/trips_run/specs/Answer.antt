@@ -8,7 +8,7 @@ use Rattle.trips_run.specs.Request.{Request, origin_held, settings_of}
 use Rattle.trips_run.specs.Read.{IsRead, IsInputRead, limit_of}
 use Rattle.trips_run.specs.Report.{usage_text, read_fault_text}
 use Rattle.trips_report.specs.Refusals.{too_large_text}
-use Rattle.trips_run.specs.Worked.{IsFixed, IsTried}
+use Rattle.trips_run.specs.Worked.{IsFixed, IsDone}
 
 -- what a file was read to, or the answer where it was not read
 abbrev pub AfterReading : Loaded → (List ℕ → Type 0) → Status → List ℕ → Type 0
@@ -21,7 +21,7 @@ abbrev pub IsAnswerBehind : Request → (List ℕ → Option (List ℕ)) → Typ
     → List ℕ → Status → List ℕ → Type 0
 IsAnswerBehind q held rose bytes s report =
     (loaded : Loaded) × IsInputRead q.input held rose loaded
-    × AfterReading loaded (λ input. IsTried q.work q.form (settings_of q) bytes input s report) s report
+    × AfterReading loaded (λ input. IsDone q.work q.form (settings_of q) bytes input s report) s report
 
 -- Of the request (none where the words make none), of what names hold, and of whether the count of
 -- the files' faults rose, this is the answer.

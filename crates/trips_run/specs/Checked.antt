@@ -8,11 +8,11 @@ use Rattle.trips_run.specs.declared.command_line.Settings.{Settings}
 use Rattle.trips_run.specs.declared.status.Status.{Status}
 use Rattle.trips_run.specs.declared.status.Status.TheVariants as status
 use Rattle.trips_report.specs.Refusals.{check_text}
-use Rattle.trips_run.specs.Worked.{IsFixed, IsRunOrGivenUp}
+use Rattle.trips_run.specs.Worked.{IsFixed, IsRunBy}
 
 -- the run of an image of good blocks, or the refusal of its first block that is not good
 abbrev pub IsRunOfChecked : Image → Settings → List ℕ → Status → List ℕ → Type 0
 IsRunOfChecked image settings input s report =
-    (All IsGood image.blocks × IsRunOrGivenUp image input settings s report)
+    (All IsGood image.blocks × IsRunBy image.blocks image.bytes input settings s report)
     ⊎ ((number : ℕ) × (fault : CheckFault) × IsFirstBad image number fault
     × IsFixed status.Refused (check_text number fault) s report)

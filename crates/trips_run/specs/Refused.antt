@@ -17,10 +17,8 @@ use Rattle.trips_words.specs.declared.commands.Command.TheVariants.{Run, Evaluat
 use Rattle.trips_words.specs.declared.commands.Command.TheVariants.{Assemble, Disassemble, Check}
 use Rattle.trips_run.specs.declared.command_line.FileForm.{FileForm}
 use Rattle.trips_run.specs.declared.command_line.FileForm.TheVariants as form
-use Rattle.trips_outside.specs.Outside.{Holds}
-use Rattle.trips_run.specs.Request.{Request, origin_held, settings_of}
-use Rattle.trips_run.specs.Read.{HoldsInput, most_input_bytes, limit_of}
-use Rattle.trips_run.specs.Counted.{IsUnfinished}
+use Rattle.trips_run.specs.Request.{Request, origin_held}
+use Rattle.trips_run.specs.Read.{most_input_bytes, limit_of}
 use Rattle.trips_report.specs.Refusals.{image_text, asm_text, check_text}
 use Rattle.trips_run.specs.Refusal.{front_refusal}
 
@@ -78,19 +76,11 @@ abbrev pub IsLarge : Option (List ℕ) → (List ℕ → Option (List ℕ)) → 
 IsLarge None held = ⊥
 IsLarge (Some name) held = IsSomeAnd (held name) (λ bytes. most_input_bytes < length bytes)
 
--- The run of the request's file on its input, as far as they are told, is given up.
-pub record IsUnended (q : Request) (held : List ℕ → Option (List ℕ)) : Type 0 where
-  pub bytes : List ℕ
-  pub input : List ℕ
-  pub holds : Holds (origin_held held q.origin) bytes
-  pub holds_input : HoldsInput q.input held input
-  pub unfinished : IsUnfinished q.work q.form (settings_of q) bytes input
-
 -- the request is refused only where this holds
 abbrev pub MayBeRefused : Option Request → (List ℕ → Option (List ℕ)) → Type 0
 MayBeRefused None held = ⊥
 MayBeRefused (Some q) held =
-    IfSome (origin_held held q.origin) (IsBad q) ⊎ (MayBeLarge q.input held ⊎ IsUnended q held)
+    IfSome (origin_held held q.origin) (IsBad q) ⊎ MayBeLarge q.input held
 
 -- and it is refused where this holds
 abbrev pub IsRefused : Option Request → (List ℕ → Option (List ℕ)) → Type 0

@@ -18,24 +18,14 @@ ending_of stepped.Ended next = ending.Ended
 ending_of stepped.StackFull next = ending.StackFull
 ending_of (stepped.Trap cause) next = ending.Trap next cause
 
--- nothing is counted
-abbrev pub no_counts : Counts
-no_counts = record { cycles = 0; fetched = 0; committed = 0; flushed = 0 }
+-- the report of a run, from how it ended, the state at its end, what the grid counted and what the committed blocks may
+-- cost, and what is shown behind it
+abbrev pub shown_report : Ending → State → Counts → ℕ → Show → List ℕ
+shown_report ending s counts cost show = reports.run_report ending s counts cost show
 
--- the report of a run, from how it ended and the state at its end, and what is shown behind it
-abbrev pub shown_report : Ending → State → Show → List ℕ
-shown_report ending s show = reports.run_report ending s no_counts 0 show
-
--- a report, and behind it what is shown of the state at the end of the run
-abbrev pub shown_behind : List ℕ → State → Show → List ℕ
-shown_behind report s show = reports.with_shown report s no_counts 0 show
-
--- the same with what the grid counted, and what the committed blocks may cost
-abbrev pub counted_report : Ending → State → Counts → ℕ → Show → List ℕ
-counted_report ending s counts cost show = reports.run_report ending s counts cost show
-
-abbrev pub counted_behind : List ℕ → State → Counts → ℕ → Show → List ℕ
-counted_behind report s counts cost show = reports.with_shown report s counts cost show
+-- a report, and behind it what is shown of the end of the run
+abbrev pub shown_behind : List ℕ → State → Counts → ℕ → Show → List ℕ
+shown_behind report s counts cost show = reports.with_shown report s counts cost show
 
 -- nothing is shown behind the ending
 abbrev pub nothing_shown : Show
@@ -48,10 +38,6 @@ run_report ending s = plain_report ending s
 -- the report on words that are no request
 unfoldable pub usage_text : List ℕ
 usage_text = codes "usage\n"
-
--- the report on a run of the grid that goes on behind as many cycles as it may make
-unfoldable pub form_text : List ℕ
-form_text = codes "refused form 1 FormNotBuilt\n"
 
 -- the report on a file that cannot be read
 unfoldable pub read_fault_text : List ℕ

@@ -18,8 +18,8 @@ use Rattle.trips_run.specs.Request.{Request, origin_held, settings_of}
 use Rattle.trips_run.specs.Read.{HoldsInput, IsTold, limit_of}
 use Rattle.trips_run.specs.Refused.{IsLarge}
 use Rattle.trips_report.specs.Runs.{output_and}
-use Rattle.trips_run.specs.Report.{ending_of, counted_behind, form_text, nothing_shown}
-use Rattle.trips_run.specs.Counted.{IsCountedRun, IsGivenUp}
+use Rattle.trips_run.specs.Report.{ending_of, shown_behind, nothing_shown}
+use Rattle.trips_run.specs.Counted.{IsCountedRun}
 use Rattle.trips_run.specs.Worked.{IsWorked}
 use Rattle.trips_run.specs.Answer.{IsAnswer}
 
@@ -70,16 +70,15 @@ abbrev pub Asks : Option Request → (List ℕ → Option (List ℕ)) → Work �
 Asks request held work how most bytes input =
     AsksFor request held work how most nothing_shown bytes input
 
--- The run of an image was reported with its counts: with this status, this text and behind it what is shown of the
--- end of the machine's run, where the counts are those of the grid's run; or it was given up.
+-- The run of an image was reported: with this status, and with this text, behind which stands what is shown of the end
+-- of the machine's run and of the counts of the grid's run.
 abbrev pub IsReported : Image → List ℕ → Settings → Status → List ℕ → Status → Option (List ℕ)
     → Option (List ℕ) → Type 0
 IsReported image input settings wanted text s old new =
     let run = runs image.blocks (start image.bytes input) settings.most in
-    ((counts : Counts) × IsCountedRun image.blocks image.bytes input settings.seed settings.most
+    (counts : Counts) × IsCountedRun image.blocks image.bytes input settings.seed settings.most
     (ending_of run.1 run.0.next) counts × (s ≡ wanted)
-    × Appended old new (counted_behind text run.0 counts (cost_of image.blocks run.0.trace) settings.show))
-    ⊎ (IsGivenUp image input settings × (s ≡ status.Refused) × Appended old new form_text)
+    × Appended old new (shown_behind text run.0 counts (cost_of image.blocks run.0.trace) settings.show)
 
 -- the request's file is told, and is longer than its limit
 abbrev pub HasLargeFile : Request → (List ℕ → Option (List ℕ)) → Type 0

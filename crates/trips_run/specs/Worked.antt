@@ -1,5 +1,5 @@
 -- What is done with the bytes of a file: the status and the report.
-use Rattle.std.specs.Prelude.{◌≡◌, ◌≢◌, ℕ, true, List}
+use Rattle.std.specs.Prelude.{◌≡◌, ◌≢◌, ℕ, List}
 use Rattle.std.specs.Prelude.{◌⊎◌, All}
 use Rattle.trips_isa.specs.declared.block.Block.{Block}
 use Rattle.trips_isa.specs.declared.block.Image.{Image}
@@ -31,11 +31,11 @@ use Rattle.trips_run.specs.declared.command_line.FileForm.TheVariants as form
 use Rattle.trips_run.specs.declared.command_line.Settings.{Settings}
 use Rattle.trips_run.specs.declared.status.Status.{Status}
 use Rattle.trips_run.specs.declared.status.Status.TheVariants as status
-use Rattle.trips_run.specs.Report.{ending_of, counted_report, form_text}
+use Rattle.trips_run.specs.Report.{ending_of, shown_report}
 use Rattle.trips_run.specs.Refusal.{front_refusal}
 use Rattle.trips_report.specs.Evaluations.{eval_report}
 use Rattle.trips_run.specs.Refused.{IsRefusedAs}
-use Rattle.trips_run.specs.Counted.{IsCountedRun, IsGivenUp, IsUnfinished}
+use Rattle.trips_run.specs.Counted.{IsCountedRun}
 
 -- this status, with this text
 abbrev pub IsFixed : Status → List ℕ → Status → List ℕ → Type 0
@@ -55,21 +55,14 @@ status_of ending.Budget = status.Budget
 status_of (ending.Trap block cause) = status.Trap
 
 -- These tell the sequential machine's run of an image on an input, within a budget of blocks, and what the grid
--- counted of it where that is shown.
+-- counted of it.
 abbrev pub IsRunBy : List Block → List ℕ → List ℕ → Settings → Status → List ℕ → Type 0
 IsRunBy blocks bytes input settings s report =
     let run = runs blocks (start bytes input) settings.most in
     let ended = ending_of run.1 run.0.next in
-    (counts : Counts) × (settings.show.cycles ≡ true
-    → IsCountedRun blocks bytes input settings.seed settings.most ended counts)
+    (counts : Counts) × IsCountedRun blocks bytes input settings.seed settings.most ended counts
     × IsFixed (status_of ended)
-    (counted_report ended run.0 counts (cost_of blocks run.0.trace) settings.show) s report
-
--- or that the grid's run of it is given up
-abbrev pub IsRunOrGivenUp : Image → List ℕ → Settings → Status → List ℕ → Type 0
-IsRunOrGivenUp image input settings s report =
-    IsRunBy image.blocks image.bytes input settings s report
-    ⊎ (IsGivenUp image input settings × IsFixed status.Refused form_text s report)
+    (shown_report ended run.0 counts (cost_of blocks run.0.trace) settings.show) s report
 
 -- the status that tells an outcome
 abbrev pub eval_status : Outcome → Status
@@ -135,8 +128,3 @@ IsRefusal work how bytes s report =
 abbrev pub IsDone : Work → FileForm → Settings → List ℕ → List ℕ → Status → List ℕ → Type 0
 IsDone work how settings bytes input s report =
     IsRefusal work how bytes s report ⊎ IsWorked work how settings bytes input s report
-
--- it is so, or the grid's run is given up
-abbrev pub IsTried : Work → FileForm → Settings → List ℕ → List ℕ → Status → List ℕ → Type 0
-IsTried work how settings bytes input s report = IsDone work how settings bytes input s report
-    ⊎ (IsUnfinished work how settings bytes input × IsFixed status.Refused form_text s report)

@@ -4,7 +4,7 @@ ghost use Rattle.std.specs.Prelude.{◌≡◌, ◌<◌, ◌≤◌, length, Some,
 ghost use Rattle.trips_outside.specs.Outside.{Rose};
 ghost use Rattle.trips_run.specs.Request.{form_of, settings_of, request_of, request_seen};
 ghost use Rattle.trips_run.specs.Read.{limit_of};
-ghost use Rattle.trips_run.specs.Worked.{IsTried};
+ghost use Rattle.trips_run.specs.Worked.{IsDone};
 ghost use Rattle.trips_run.specs.Answer.{AfterReading, IsAnswerBehind, IsAnswer};
 
 use crate::answer::{Answer, fixed, too_large, unread};
@@ -49,7 +49,7 @@ fn run_done(
 ) -> Result<Answer, AllocError>
     requires few { length bytes.now ≤ limit_of form }
     requires some { 0 < settings.most }
-    ensures { IfOk result (λ answer. IsTried Command.Run form settings bytes.now input
+    ensures { IfOk result (λ answer. IsDone Command.Run form settings bytes.now input
         answer.status answer.report.items) }
 {
     match form {
@@ -68,7 +68,7 @@ fn done(
 ) -> Result<Answer, AllocError>
     requires few { length bytes.now ≤ limit_of (form_of asked.command asked.file.now) }
     requires some { 0 < asked.most }
-    ensures { IfOk result (λ answer. IsTried asked.entry.command
+    ensures { IfOk result (λ answer. IsDone asked.entry.command
         (form_of asked.entry.command asked.entry.file.now) (settings_of (request_seen asked.entry))
         bytes.now input answer.status answer.report.items) }
 {
@@ -96,7 +96,7 @@ fn input_answer(
     requires few { length bytes.now ≤ limit_of (form_of asked.command asked.file.now) }
     requires some { 0 < asked.most }
     ensures { IfOk result (λ answer. AfterReading loaded
-        (λ input. IsTried asked.entry.command
+        (λ input. IsDone asked.entry.command
         (form_of asked.entry.command asked.entry.file.now) (settings_of (request_seen asked.entry))
         bytes.now input answer.status answer.report.items)
         answer.status answer.report.items) }

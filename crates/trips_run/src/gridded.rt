@@ -1,32 +1,43 @@
 //! The run of a checked image on the grid.
 
-ghost use Rattle.std.specs.Prelude.{◌≡◌, ◌<◌, true, false, IfOk};
+ghost use Rattle.std.specs.Prelude.{◌≡◌, ◌<◌, IfOk};
 ghost use Rattle.grid_cycle_spec.specs.Costs.{cost_of};
 ghost use Rattle.grid_machine.specs.Seeds.{IsRan, blocks_of, grid_of};
-ghost use Rattle.trips_run.specs.Report.{counted_report};
-ghost use Rattle.trips_run.specs.Worked.{IsFixed, status_of, IsRunBy, IsRunOrGivenUp};
+ghost use Rattle.trips_run.specs.Report.{shown_report};
+ghost use Rattle.trips_run.specs.Worked.{IsFixed, status_of, IsRunBy};
 
-use crate::answer::{Answer, fixed};
+use crate::answer::Answer;
 use crate::command_line::Settings;
-use crate::report::counted_text;
-use crate::running::{machine_answer, status_for};
+use crate::report::run_text;
 use crate::status::Status;
 use base::Items;
-use block_atomic::Arch;
 use block_check::CheckedImage;
 use grid_machine::Ran;
+use grid_machine_bound::runs_of_a_seed_end;
 use std::alloc::{AllocError, Global};
 use trips_isa::Ending;
 use trips_report::Show;
 
+// The status that tells an ending.
+fn status_for(ending: Ending) -> Status
+    ensures { result ≡ status_of ending }
+{
+    match ending {
+        Ending::Ended => Status::Ended,
+        Ending::StackFull => Status::StackFull,
+        Ending::Budget => Status::Budget,
+        Ending::Trap { .. } => Status::Trap,
+    }
+}
+
 // The answer of a run that has ended so.
 fn ended_answer(alloc: Global, ran: &Ran, ending: Ending, show: Show) -> Result<Answer, AllocError>
-    ensures { IfOk result (λ answer. IsFixed (status_of ending) (counted_report ending
+    ensures { IfOk result (λ answer. IsFixed (status_of ending) (shown_report ending
         (grid_of ran.now).window.state (grid_of ran.now).counts
         (cost_of (blocks_of ran.now) (grid_of ran.now).window.state.trace) show)
         answer.status answer.report.items) }
 {
-    let report = counted_text(alloc, ending, ran.arch(), ran.counts(), ran.cost(), show)?;
+    let report = run_text(alloc, ending, ran.arch(), ran.counts(), ran.cost(), show)?;
     Ok(Answer {
         status: status_for(ending),
         report,
@@ -51,56 +62,8 @@ fn ran_image(
     }
 }
 
-// Where the counts are shown, a run that is given up is refused.
-#[tactic(auto, unfolding(crate::specs::Report::form_text))]
-fn counted_answer(
-    alloc: Global,
-    image: CheckedImage,
-    input: Items<u8>,
-    settings: Settings,
-) -> Result<Answer, AllocError>
-    requires some { 0 < settings.most }
-    requires shown { settings.show.cycles ≡ true }
-    ensures { IfOk result (λ answer.
-        IsRunOrGivenUp image input settings answer.status answer.report.items) }
-{
-    let ran = ran_image(alloc, image, input, settings)?;
-    let ending = ran.ending;
-    match ending {
-        Some(ending) => ended_answer(alloc, &ran, ending, settings.show),
-        None => fixed(alloc, Status::Refused, b"refused form 1 FormNotBuilt\n"),
-    }
-}
-
-// Where they are not, the sequential machine runs the image of a run that is given up.
-fn plain_answer(
-    alloc: Global,
-    image: CheckedImage,
-    input: Items<u8>,
-    settings: Settings,
-) -> Result<Answer, AllocError>
-    requires some { 0 < settings.most }
-    requires hidden { settings.show.cycles ≡ false }
-    ensures { IfOk result (λ answer.
-        IsRunBy image.blocks image.bytes input settings answer.status answer.report.items) }
-{
-    let again = Vec::from_slice(alloc, input.as_slice())?;
-    let Ok(arch) = Arch::make(alloc, &image, again, settings.most) else {
-        return Err(AllocError);
-    };
-    let ran = ran_image(alloc, image, input, settings)?;
-    let ending = ran.ending;
-    match ending {
-        Some(ending) => ended_answer(alloc, &ran, ending, settings.show),
-        None => {
-            let held = ran.window.image();
-            machine_answer(alloc, arch, held, settings)
-        }
-    }
-}
-
 /// Runs an image on an input, on the grid of the settings' seed and for as many blocks as they allow, and tells how its
-/// run ended and what is shown. Want of memory is the only error.
+/// run ended and what is shown. Want of memory is the only error: each run ends within its cost.
 pub fn run_image(
     alloc: Global,
     image: CheckedImage,
@@ -109,11 +72,14 @@ pub fn run_image(
 ) -> Result<Answer, AllocError>
     requires some { 0 < settings.most }
     ensures { IfOk result (λ answer.
-        IsRunOrGivenUp image input settings answer.status answer.report.items) }
+        IsRunBy image.blocks image.bytes input settings answer.status answer.report.items) }
 {
-    if settings.show.cycles {
-        counted_answer(alloc, image, input, settings)
-    } else {
-        plain_answer(alloc, image, input, settings)
+    let _ = image.count();
+    runs_of_a_seed_end();
+    let ran = ran_image(alloc, image, input, settings)?;
+    let ending = ran.ending;
+    match ending {
+        Some(ending) => ended_answer(alloc, &ran, ending, settings.show),
+        None => unreachable!(),
     }
 }

@@ -4,7 +4,7 @@ ghost use Rattle.std.specs.Prelude.{◌≡◌, ◌<◌, IfOk};
 ghost use Rattle.trips_isa.specs.Images.{FitsImage};
 ghost use Rattle.trips_words.specs.declared.commands.Command.TheVariants.{Run};
 ghost use Rattle.trips_run.specs.declared.command_line.FileForm.TheVariants as form;
-ghost use Rattle.trips_run.specs.Worked.{IsTried};
+ghost use Rattle.trips_run.specs.Worked.{IsDone};
 ghost use Rattle.trips_run.specs.Checked.{IsRunOfChecked};
 
 use crate::answer::{Answer, refused};
@@ -45,7 +45,7 @@ pub fn bytes_answer(
     settings: Settings,
 ) -> Result<Answer, AllocError>
     requires { 0 < settings.most }
-    ensures { IfOk result (λ answer. IsTried Run form.Image settings bytes.now input answer.status
+    ensures { IfOk result (λ answer. IsDone Run form.Image settings bytes.now input answer.status
         answer.report.items) }
 {
     match decode(alloc, bytes) {
@@ -63,7 +63,7 @@ pub fn target_answer(
     settings: Settings,
 ) -> Result<Answer, AllocError>
     requires { 0 < settings.most }
-    ensures { IfOk result (λ answer. IsTried Run form.Target settings text.now input answer.status
+    ensures { IfOk result (λ answer. IsDone Run form.Target settings text.now input answer.status
         answer.report.items) }
 {
     match assemble(alloc, text) {

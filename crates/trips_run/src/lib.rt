@@ -13,7 +13,6 @@ mod gridded;
 mod image_answer;
 mod loading;
 mod report;
-mod running;
 mod status;
 mod text_answer;
 mod tool_answer;

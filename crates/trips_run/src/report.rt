@@ -3,7 +3,7 @@
 ghost use Rattle.std.specs.Prelude.{◌≡◌, IfOk};
 ghost use Rattle.trips_report.specs.Evaluations.{eval_report};
 ghost use Rattle.trips_report.specs.Refusals.{refusal_report};
-ghost use Rattle.trips_run.specs.Report.{counted_report, shown_report};
+ghost use Rattle.trips_run.specs.Report.{shown_report};
 
 use block_atomic::Arch;
 use c_meaning::Outcome;
@@ -13,7 +13,7 @@ use trips_report::{Said, Show};
 
 /// The report of a run, from how it ended, the machine at its end, what was counted of it and what its blocks may cost,
 /// with what is shown behind it.
-pub fn counted_text(
+pub fn run_text(
     alloc: Global,
     ending: Ending,
     arch: &Arch,
@@ -22,30 +22,12 @@ pub fn counted_text(
     show: Show,
 ) -> Result<Vec<u8>, AllocError>
     ensures { IfOk result (λ report.
-        report.items ≡ counted_report ending arch.now.state counts cost show) }
+        report.items ≡ shown_report ending arch.now.state counts cost show) }
 {
     match trips_report::run_report(alloc, ending, arch, counts, cost, show) {
         Ok(report) => Ok(report),
         Err(_) => Err(AllocError),
     }
-}
-
-/// The report of a run of which nothing is counted.
-pub fn run_text(
-    alloc: Global,
-    ending: Ending,
-    arch: &Arch,
-    show: Show,
-) -> Result<Vec<u8>, AllocError>
-    ensures { IfOk result (λ report. report.items ≡ shown_report ending arch.now.state show) }
-{
-    let counts = Counts {
-        cycles: 0,
-        fetched: 0,
-        committed: 0,
-        flushed: 0,
-    };
-    counted_text(alloc, ending, arch, counts, 0, show)
 }
 
 /// The report of an evaluation.

@@ -7,7 +7,7 @@ ghost use Rattle.trips_run.specs.declared.command_line.FileForm.{FileForm};
 ghost use Rattle.trips_run.specs.declared.command_line.FileForm.TheVariants as form;
 ghost use Rattle.trips_run.specs.declared.command_line.Settings.{Settings};
 ghost use Rattle.flat_lower.specs.Keeps.{IsInput};
-ghost use Rattle.trips_run.specs.Worked.{IsDone, IsTried};
+ghost use Rattle.trips_run.specs.Worked.{IsDone};
 
 use crate::answer::{Answer, stage_refused};
 use crate::command_line::Settings;
@@ -34,7 +34,7 @@ pub fn text_answer(
 ) -> Result<Answer, AllocError>
     requires few { length text.now < 4_294_967_295 }
     requires some { 0 < settings.most }
-    ensures { IfOk result (λ answer. IsTried Run form.Source settings text.now input answer.status
+    ensures { IfOk result (λ answer. IsDone Run form.Source settings text.now input answer.status
         answer.report.items) }
 {
     match compile(alloc, text, settings.placing) {

@@ -1,4 +1,4 @@
-ghost use Rattle.std.specs.Prelude.{◌≡◌, ◌≢◌, ◌≤◌, ◌+◌, ◌*◌, ◌∷◌, [], All, List, ℕ, ℤ, None, Some, true, false};
+ghost use Rattle.std.specs.Prelude.{◌≡◌, ◌≢◌, ◌≤◌, ◌+◌, ◌*◌, ◌∷◌, [], All, List, ℕ, ℤ, None, Some};
 ghost use Rattle.trips_isa.specs.declared.block.Image.{Image};
 ghost use Rattle.trips_isa.specs.declared.run.Stepped.TheVariants as stepped;
 ghost use Rattle.trips_isa.specs.Machine.{runs, start};
@@ -23,7 +23,7 @@ ghost use Rattle.trips_report.specs.Evaluations.{eval_report};
 ghost use Rattle.trips_report.specs.Refusals.{too_large_text};
 ghost use Rattle.trips_run.specs.Refused.{IsRefusedAs, MayBeRefused, IsRefused};
 ghost use Rattle.trips_run.specs.Worked.{status_of, eval_status, outcome_of};
-ghost use Rattle.trips_run.specs.Report.{ending_of, run_report, shown_report, shown_behind};
+ghost use Rattle.trips_run.specs.Report.{ending_of, run_report};
 ghost use Rattle.trips_run.specs.Table.{IsAnswered, IsCutOff, IsOneOf, ended_report, full_report, Asks, AsksFor};
 ghost use Rattle.trips_run.specs.Table.{HasLargeFile, HasLargeInput, EndsAs, EvalEnds, IsReported};
 ghost use Rattle.trips_run.specs.Evaluated.{RunEndsAs};
@@ -65,32 +65,31 @@ pub fn trips_run<F: Files, K: Sink>(
         → (result ≡ Status.StackFull)
         × Appended (K.written sink.old) (K.written sink.new) (full_report output) }
 
-    // The same reports where registers or trace are asked for: behind them stand those of the end of the
-    // run of an image of the text, whose blocks are placed as it is asked for.
+    // The same reports, whatever is asked for behind them: there is an image of the text, whose blocks are placed as it
+    // is asked for, and a run of it on the grid of the request's seed, of which all this is told: its committed blocks
+    // are the machine's, and it has made no more cycles than they cost.
     ensures shown_headline { (most n : ℕ) (show : Show) (text input output : List ℕ) (value : ℤ)
         (steps : ℕ) (program : TypedProgram)
         → (asks : AsksFor (request_of words.now) (F.held files.old) Run form.Source most show text input)
-        → show.cycles ≡ false
         → IsAccepted text program → eval program input n ≡ Done output value steps
         → 16 * n + 16 ≤ most
         → ¬ Rose (F.faults files.old) (F.faults files.new)
         → ¬ Rose (K.faults sink.old) (K.faults sink.new) → result ≢ Status.Memory
-        → (result ≡ Status.Ended) × (image : Image) × IsImageOf text asks.q.placing image
-        × let run = runs image.blocks (start image.bytes input) most in
-        (run.1 ≡ stepped.Ended) × Appended (K.written sink.old) (K.written sink.new)
-        (shown_behind (ended_report output value) run.0 show) }
+        → (image : Image) × IsImageOf text asks.q.placing image
+        × ((runs image.blocks (start image.bytes input) most).1 ≡ stepped.Ended)
+        × IsReported image input (settings_with asks.q most show) Status.Ended (ended_report output value)
+        result (K.written sink.old) (K.written sink.new) }
     ensures shown_deep { (most n : ℕ) (show : Show) (text input output : List ℕ)
         (program : TypedProgram)
         → (asks : AsksFor (request_of words.now) (F.held files.old) Run form.Source most show text input)
-        → show.cycles ≡ false
         → IsAccepted text program → eval program input n ≡ Stopped Deep output
         → 16 * n + 16 ≤ most
         → ¬ Rose (F.faults files.old) (F.faults files.new)
         → ¬ Rose (K.faults sink.old) (K.faults sink.new) → result ≢ Status.Memory
-        → (result ≡ Status.StackFull) × (image : Image) × IsImageOf text asks.q.placing image
-        × let run = runs image.blocks (start image.bytes input) most in
-        (run.1 ≡ stepped.StackFull) × Appended (K.written sink.old) (K.written sink.new)
-        (shown_behind (full_report output) run.0 show) }
+        → (image : Image) × IsImageOf text asks.q.placing image
+        × ((runs image.blocks (start image.bytes input) most).1 ≡ stepped.StackFull)
+        × IsReported image input (settings_with asks.q most show) Status.StackFull (full_report output)
+        result (K.written sink.old) (K.written sink.new) }
 
     // Whatever its evaluation comes to, the run of an image of the text is reported, placed as asked for.
     ensures text_run { (most : ℕ) (text input : List ℕ) (program : TypedProgram)
@@ -115,67 +114,10 @@ pub fn trips_run<F: Files, K: Sink>(
         × Appended (K.written sink.old) (K.written sink.new)
         (run_report (ending_of run.1 run.0.next) run.0) }
 
-    // The same of both, and of the run of a target text, with what is shown behind the ending.
+    // The same of both, and of the run of a target text, whatever is asked for behind the ending: the counts are those of
+    // a grid that comes by exactly as many eager cycles from the stated start of the request's seed.
     ensures shown_text_run { (most : ℕ) (show : Show) (text input : List ℕ) (program : TypedProgram)
         → (asks : AsksFor (request_of words.now) (F.held files.old) Run form.Source most show text input)
-        → show.cycles ≡ false
-        → IsAccepted text program
-        → ¬ Rose (F.faults files.old) (F.faults files.new)
-        → ¬ Rose (K.faults sink.old) (K.faults sink.new) → result ≢ Status.Memory
-        → (image : Image) × IsImageOf text asks.q.placing image
-        × let run = runs image.blocks (start image.bytes input) most in
-        (result ≡ status_of (ending_of run.1 run.0.next))
-        × Appended (K.written sink.old) (K.written sink.new)
-        (shown_report (ending_of run.1 run.0.next) run.0 show) }
-    ensures shown_image_run { (blocks : ℕ) (show : Show) (bytes input : List ℕ) (image : Image)
-        → AsksFor (request_of words.now) (F.held files.old) Run form.Image blocks show bytes input
-        → show.cycles ≡ false
-        → ImageBytes image bytes → All IsGood image.blocks
-        → ¬ Rose (F.faults files.old) (F.faults files.new)
-        → ¬ Rose (K.faults sink.old) (K.faults sink.new) → result ≢ Status.Memory
-        → let run = runs image.blocks (start image.bytes input) blocks in
-        (result ≡ status_of (ending_of run.1 run.0.next))
-        × Appended (K.written sink.old) (K.written sink.new)
-        (shown_report (ending_of run.1 run.0.next) run.0 show) }
-    ensures target_run { (blocks : ℕ) (show : Show) (text input : List ℕ) (image : Image)
-        → AsksFor (request_of words.now) (F.held files.old) Run form.Target blocks show text input
-        → show.cycles ≡ false
-        → TargetText image text → All IsGood image.blocks
-        → ¬ Rose (F.faults files.old) (F.faults files.new)
-        → ¬ Rose (K.faults sink.old) (K.faults sink.new) → result ≢ Status.Memory
-        → let run = runs image.blocks (start image.bytes input) blocks in
-        (result ≡ status_of (ending_of run.1 run.0.next))
-        × Appended (K.written sink.old) (K.written sink.new)
-        (shown_report (ending_of run.1 run.0.next) run.0 show) }
-
-    // Where the counts are asked for, they stand behind the same reports, and are those of a grid that comes by
-    // exactly as many eager cycles from the stated start of the request's seed; where that has made as many cycles
-    // as a run may make, and goes on, the run is refused.
-    ensures counted_headline { (most n : ℕ) (show : Show) (text input output : List ℕ) (value : ℤ)
-        (steps : ℕ) (program : TypedProgram)
-        → (asks : AsksFor (request_of words.now) (F.held files.old) Run form.Source most show text input)
-        → show.cycles ≡ true
-        → IsAccepted text program → eval program input n ≡ Done output value steps
-        → 16 * n + 16 ≤ most
-        → ¬ Rose (F.faults files.old) (F.faults files.new)
-        → ¬ Rose (K.faults sink.old) (K.faults sink.new) → result ≢ Status.Memory
-        → (image : Image) × IsImageOf text asks.q.placing image
-        × IsReported image input (settings_with asks.q most show) Status.Ended (ended_report output value)
-        result (K.written sink.old) (K.written sink.new) }
-    ensures counted_deep { (most n : ℕ) (show : Show) (text input output : List ℕ)
-        (program : TypedProgram)
-        → (asks : AsksFor (request_of words.now) (F.held files.old) Run form.Source most show text input)
-        → show.cycles ≡ true
-        → IsAccepted text program → eval program input n ≡ Stopped Deep output
-        → 16 * n + 16 ≤ most
-        → ¬ Rose (F.faults files.old) (F.faults files.new)
-        → ¬ Rose (K.faults sink.old) (K.faults sink.new) → result ≢ Status.Memory
-        → (image : Image) × IsImageOf text asks.q.placing image
-        × IsReported image input (settings_with asks.q most show) Status.StackFull (full_report output)
-        result (K.written sink.old) (K.written sink.new) }
-    ensures counted_text_run { (most : ℕ) (show : Show) (text input : List ℕ) (program : TypedProgram)
-        → (asks : AsksFor (request_of words.now) (F.held files.old) Run form.Source most show text input)
-        → show.cycles ≡ true
         → IsAccepted text program
         → ¬ Rose (F.faults files.old) (F.faults files.new)
         → ¬ Rose (K.faults sink.old) (K.faults sink.new) → result ≢ Status.Memory
@@ -183,18 +125,16 @@ pub fn trips_run<F: Files, K: Sink>(
         × let run = runs image.blocks (start image.bytes input) most in
         IsReported image input (settings_with asks.q most show) (status_of (ending_of run.1 run.0.next))
         (run_report (ending_of run.1 run.0.next) run.0) result (K.written sink.old) (K.written sink.new) }
-    ensures counted_image_run { (most : ℕ) (show : Show) (bytes input : List ℕ) (image : Image)
+    ensures shown_image_run { (most : ℕ) (show : Show) (bytes input : List ℕ) (image : Image)
         → (asks : AsksFor (request_of words.now) (F.held files.old) Run form.Image most show bytes input)
-        → show.cycles ≡ true
         → ImageBytes image bytes → All IsGood image.blocks
         → ¬ Rose (F.faults files.old) (F.faults files.new)
         → ¬ Rose (K.faults sink.old) (K.faults sink.new) → result ≢ Status.Memory
         → let run = runs image.blocks (start image.bytes input) most in
         IsReported image input (settings_with asks.q most show) (status_of (ending_of run.1 run.0.next))
         (run_report (ending_of run.1 run.0.next) run.0) result (K.written sink.old) (K.written sink.new) }
-    ensures counted_target_run { (most : ℕ) (show : Show) (text input : List ℕ) (image : Image)
+    ensures target_run { (most : ℕ) (show : Show) (text input : List ℕ) (image : Image)
         → (asks : AsksFor (request_of words.now) (F.held files.old) Run form.Target most show text input)
-        → show.cycles ≡ true
         → TargetText image text → All IsGood image.blocks
         → ¬ Rose (F.faults files.old) (F.faults files.new)
         → ¬ Rose (K.faults sink.old) (K.faults sink.new) → result ≢ Status.Memory

@@ -1,6 +1,6 @@
 use Rattle.trips_run.proofs.Causes as causes
 use Rattle.trips_run.proofs.Reported as reported
-use Rattle.trips_run.proofs.CountedRuns as counted
+use Rattle.trips_run.proofs.ShownRuns as shown
 use Rattle.trips_run.proofs.top.trips_run.Goals as goal
 
 pub returns-in-Ok-write_all-clause-answered : goal.returns-in-Ok-write_all-clause-answered
@@ -82,23 +82,25 @@ returns-in-Ok-write_all-clause-large_input g c =
 
 pub returns-in-Ok-write_all-clause-shown_text_run : goal.returns-in-Ok-write_all-clause-shown_text_run
 returns-in-Ok-write_all-clause-shown_text_run g c =
-    reported.shown_text_run _ _ _ _ _ _ _ (returns-in-Ok-write_all-clause-answered g c)
+    shown.text_run _ _ _ _ _ _ _ (returns-in-Ok-write_all-clause-answered g c)
 
 pub returns-in-Ok-write_all-clause-shown_headline : goal.returns-in-Ok-write_all-clause-shown_headline
 returns-in-Ok-write_all-clause-shown_headline g c =
-    reported.shown_headline _ _ _ _ _ _ _ (returns-in-Ok-write_all-clause-answered g c)
+    λ most n show text input output value steps program. shown.headline _ _ _ _ _ _ _
+    (returns-in-Ok-write_all-clause-answered g c) most show text input n output value steps program
 
 pub returns-in-Ok-write_all-clause-shown_deep : goal.returns-in-Ok-write_all-clause-shown_deep
 returns-in-Ok-write_all-clause-shown_deep g c =
-    reported.shown_deep _ _ _ _ _ _ _ (returns-in-Ok-write_all-clause-answered g c)
+    λ most n show text input output program. shown.deep _ _ _ _ _ _ _
+    (returns-in-Ok-write_all-clause-answered g c) most show text input n output program
 
 pub returns-in-Ok-write_all-clause-shown_image_run : goal.returns-in-Ok-write_all-clause-shown_image_run
 returns-in-Ok-write_all-clause-shown_image_run g c =
-    reported.shown_image_run _ _ _ _ _ _ _ (returns-in-Ok-write_all-clause-answered g c)
+    shown.image_run _ _ _ _ _ _ _ (returns-in-Ok-write_all-clause-answered g c)
 
 pub returns-in-Ok-write_all-clause-target_run : goal.returns-in-Ok-write_all-clause-target_run
 returns-in-Ok-write_all-clause-target_run g c =
-    reported.target_run _ _ _ _ _ _ _ (returns-in-Ok-write_all-clause-answered g c)
+    shown.target_run _ _ _ _ _ _ _ (returns-in-Ok-write_all-clause-answered g c)
 
 pub returns-in-Ok-write_all-clause-compiled : goal.returns-in-Ok-write_all-clause-compiled
 returns-in-Ok-write_all-clause-compiled g c =
@@ -119,25 +121,3 @@ returns-in-Ok-write_all-clause-checked g c =
 pub returns-in-Ok-write_all-clause-made_ends : goal.returns-in-Ok-write_all-clause-made_ends
 returns-in-Ok-write_all-clause-made_ends g c =
     causes.made_ends _ _ _ _ _ _ _ (returns-in-Ok-write_all-clause-answered g c)
-
-pub returns-in-Ok-write_all-clause-counted_headline : goal.returns-in-Ok-write_all-clause-counted_headline
-returns-in-Ok-write_all-clause-counted_headline g c =
-    λ most n show text input output value steps program. counted.headline _ _ _ _ _ _ _
-    (returns-in-Ok-write_all-clause-answered g c) most show text input n output value steps program
-
-pub returns-in-Ok-write_all-clause-counted_deep : goal.returns-in-Ok-write_all-clause-counted_deep
-returns-in-Ok-write_all-clause-counted_deep g c =
-    λ most n show text input output program. counted.deep _ _ _ _ _ _ _
-    (returns-in-Ok-write_all-clause-answered g c) most show text input n output program
-
-pub returns-in-Ok-write_all-clause-counted_text_run : goal.returns-in-Ok-write_all-clause-counted_text_run
-returns-in-Ok-write_all-clause-counted_text_run g c =
-    counted.text_run _ _ _ _ _ _ _ (returns-in-Ok-write_all-clause-answered g c)
-
-pub returns-in-Ok-write_all-clause-counted_image_run : goal.returns-in-Ok-write_all-clause-counted_image_run
-returns-in-Ok-write_all-clause-counted_image_run g c =
-    counted.image_run _ _ _ _ _ _ _ (returns-in-Ok-write_all-clause-answered g c)
-
-pub returns-in-Ok-write_all-clause-counted_target_run : goal.returns-in-Ok-write_all-clause-counted_target_run
-returns-in-Ok-write_all-clause-counted_target_run g c =
-    counted.target_run _ _ _ _ _ _ _ (returns-in-Ok-write_all-clause-answered g c)
