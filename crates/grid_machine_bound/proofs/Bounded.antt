@@ -1,9 +1,8 @@
 -- The cycle bound of the runs of a seed.
 use Rattle.std.proofs.Common.{◌≡◌, ℕ, zero, suc, ◌+◌, ◌*◌, ◌^◌, ◌<◌, ◌≤◌, Bool, true, false, cond, nat_lt, List, length}
-use Rattle.std.proofs.Common.{Option, Some, None, refl, sym, ap, ◌∙◌, subst, true≢false, arith, ◌-◌, ◌%◌}
+use Rattle.std.proofs.Common.{Option, Some, None, refl, sym, ap, ◌∙◌, subst, true≢false, arith, ◌-◌}
 use Rattle.std.proofs.lemmas.Bool.{ltb-true, ltb-false}
 use Rattle.std.proofs.Math.Nat.{mod-lt}
-use Rattle.rand_pcg.specs.Pcg.{pcg32}
 use Rattle.trips_isa.specs.declared.block.Block.{Block}
 use Rattle.trips_isa.specs.declared.run.Ending.{Ending}
 use Rattle.trips_isa.specs.declared.run.Stepped.{Stepped}
@@ -21,7 +20,7 @@ use Rattle.commit_flush_spec.proofs.Events.{opens}
 use Rattle.grid_cycle.specs.Going.{goes}
 use Rattle.grid_cycle_spec.specs.Costs.{cost_of}
 use Rattle.grid_cycle_spec.specs.Grid.{Grid}
-use Rattle.grid_cycle_spec.specs.Cycles.{AfterCycles, Eager, closed}
+use Rattle.grid_cycle_spec.specs.Cycles.{AfterCycles, Eager}
 use Rattle.grid_cycle_spec.proofs.Agreeing.{takes_steps}
 use Rattle.grid_run.specs.Answered.{ComesTo, IsCutOff}
 use Rattle.grid_run.specs.Endings.{ending_of, is_going}
@@ -98,7 +97,7 @@ are_cycles blocks budget next follows (suc n) g h c = record {
 -- a run of a seed ------------------------------------------------------------------------------------
 
 hold_most : (w : PcgWeather) → next_hold w ≤ 3
-hold_most w = let l : (pcg32 w.generator).0 % 4 < 4 = mod-lt (pcg32 w.generator).0 (omega arith) in omega (arith, l)
+hold_most w = let l : next_hold w < 4 = mod-lt _ (omega arith) in omega (arith, l)
 
 module _ (blocks : List Block) (good : AllGood blocks) (some : 0 < length blocks) (bytes input : List ℕ)
     (fits : length bytes ≤ data_size) (budget seed : ℕ) where
@@ -136,28 +135,28 @@ module _ (blocks : List Block) (good : AllGood blocks) (some : 0 < length blocks
     commits_one : (o : Stepped) → last.window.over ≡ o → ((k : ℕ) → o ≡ stepped.Trap k → ⊥)
         → is_going budget last.window ≡ false
         → suc (length m.window.state.trace) ≤ length last.window.state.trace
-    commits_one stepped.Went i no e =
+    commits_one stepped.Went i safe e =
         let all : budget ≤ length last.window.state.trace =
         spent last.window.over (length last.window.state.trace) budget i e in
         let room : length m.window.state.trace < budget = on.room in
         omega (arith, all, room)
-    commits_one stepped.Ended i no e =
+    commits_one stepped.Ended i safe e =
         let k : 0 < one.steps = ended_later blocks m.window.state last.window.state one.steps
         (subst (λ o. Reached blocks m.window.state one.steps last.window.state o) i one.reached) in
         let grown : length last.window.state.trace ≡ length m.window.state.trace + one.steps = one.grown in
         omega (arith, k, grown)
-    commits_one stepped.StackFull i no e =
+    commits_one stepped.StackFull i safe e =
         let k : 0 < one.steps = full_later blocks m.window.state last.window.state one.steps
         (subst (λ o. Reached blocks m.window.state one.steps last.window.state o) i one.reached) in
         let grown : length last.window.state.trace ≡ length m.window.state.trace + one.steps = one.grown in
         omega (arith, k, grown)
-    commits_one (stepped.Trap k) i no e = absurd (no k refl)
+    commits_one (stepped.Trap k) i safe e = absurd (safe k refl)
 
     no_trap_end : ((k : ℕ) → last.window.over ≡ stepped.Trap k → ⊥) → is_going budget last.window ≡ false
         → suc n ≤ cost_of blocks last.window.state.trace
-    no_trap_end no e =
+    no_trap_end safe e =
         let least : suc (length m.window.state.trace) ≤ length last.window.state.trace =
-        commits_one last.window.over refl no e in
+        commits_one last.window.over refl safe e in
         let most : length last.window.state.trace ≤ suc (length m.window.state.trace) =
         cycle_grows blocks good budget next_hold IsAfter m last c in
         let l : suc n + 0 ≤ cost_of blocks last.window.state.trace =
@@ -179,13 +178,13 @@ module _ (blocks : List Block) (good : AllGood blocks) (some : 0 < length blocks
   ended_cost : (n : ℕ) (last : Grid PcgWeather) → GoesFor next_hold IsAfter blocks budget n g last
       → last.counts.cycles < 2 ^ 64 - 1 → ((k : ℕ) → last.window.over ≡ stepped.Trap k → ⊥)
       → is_going budget last.window ≡ false → n ≤ cost_of blocks last.window.state.trace
-  ended_cost zero last c few no e = omega arith
-  ended_cost (suc n) last c few no e =
+  ended_cost zero last c few safe e = omega arith
+  ended_cost (suc n) last c few safe e =
       let m : Grid PcgWeather = c.between in
       let k : m.counts.cycles ≤ last.counts.cycles =
       cycles_before blocks budget next_hold IsAfter m last c.after in
       no_trap_end n m last (are_cycles blocks budget next_hold IsAfter n g m (c.before).0)
-      (goes_on budget m (c.before).1) (omega (arith, k, few)) c.after no e
+      (goes_on budget m (c.before).1) (omega (arith, k, few)) c.after safe e
 
   going_cost : (n : ℕ) (last : Grid PcgWeather) → GoesFor next_hold IsAfter blocks budget n g last
       → last.counts.cycles < 2 ^ 64 - 1 → is_going budget last.window ≡ true → n < 41472 * budget

@@ -1,12 +1,13 @@
 -- What the machine's run has made: each step adds its block to the trace.
-use Rattle.std.proofs.Common.{◌≡◌, ℕ, zero, suc, ◌+◌, ◌<◌, ◌≤◌, List, [], ◌∷◌, length, Option, Some, None, slice_get}
-use Rattle.std.proofs.Common.{refl, sym, ap, ◌∙◌, subst, arith}
+use Rattle.std.proofs.Common.{◌≡◌, ℕ, zero, suc, ◌+◌, ◌<◌, List, [], ◌∷◌, length, Option, Some, None, slice_get}
+use Rattle.std.proofs.Common.{refl, sym, ap, subst, arith}
 use Rattle.trips_isa.specs.declared.block.Block.{Block}
 use Rattle.trips_isa.specs.declared.run.Stepped.{Stepped}
 use Rattle.trips_isa.specs.declared.run.Stepped.TheVariants.{Went, Ended, StackFull, Trap}
 use Rattle.trips_isa.specs.Tables.{deepest}
-use Rattle.trips_isa.specs.Blocks.{token_of}
-use Rattle.trips_isa.specs.Outcomes.{Effects, cause, plain, unless}
+use Rattle.trips_isa.specs.Blocks.{leaving_of, token_of}
+use Rattle.trips_isa.specs.Marks.{cause}
+use Rattle.trips_isa.specs.Outcomes.{Effects, plain, unless}
 use Rattle.trips_isa.specs.Machine.{State, come_to, goes_on, runs, step_in, step_of}
 use Rattle.commit_flush_spec.specs.Laws.{Reached}
 use Rattle.commit_flush_spec.proofs.Applying.{apply_next, apply_trace, next_in}
@@ -46,7 +47,8 @@ module _ (blocks : List Block) (some : 0 < length blocks) where
       → (step_in blocks o s).1 ≡ Went → Made s 1 (step_in blocks o s).0
   step_made None s is l e = absurd (none_missing blocks s.next l is)
   step_made (Some b) s is l e = come_made (cause b (token_of b s.registers s.memory deepest)) b.writes.items
-      (plain blocks s.next b s.registers s.memory) s (next_in blocks some s.next _) e
+      (plain blocks s.next b s.registers s.memory) s
+      (next_in blocks some s.next (leaving_of b (token_of b s.registers s.memory deepest))) e
 
   more_made : (s t : State) (n : ℕ) (o : Stepped) → (o ≡ Went → Made s n t) → (goes_on blocks t o).1 ≡ Went
       → Made s (suc n) (goes_on blocks t o).0

@@ -1,5 +1,5 @@
 //! The cycle bound of the runs of a seed, over their definitions alone.
-ghost use Rattle.std.specs.Prelude.{◌≡◌, ℕ, ◌+◌, ◌^◌, ◌<◌, ◌≤◌, ¬, false, List, length, Some, None};
+ghost use Rattle.std.specs.Prelude.{◌≡◌, ℕ, ◌+◌, ◌^◌, ◌<◌, ◌≤◌, false, List, length, Some, None};
 ghost use Rattle.trips_isa.specs.declared.block.Block.{Block};
 ghost use Rattle.trips_isa.specs.declared.run.Ending.{Ending};
 ghost use Rattle.trips_isa.specs.Stores.{data_size};
@@ -16,7 +16,7 @@ ghost use Rattle.grid_machine_bound.specs.Traps.{is_trap};
 pub fn runs_of_a_seed_end()
     ensures ends { (blocks : List Block) (bytes input : List ℕ) (budget seed : ℕ) (h : Grid PcgWeather)
         → AllGood blocks → 0 < length blocks → length bytes ≤ data_size → 0 < budget → budget < 2 ^ 32
-        → ¬ IsRan blocks bytes input budget seed None h }
+        → IsRan blocks bytes input budget seed None h → ⊥ }
     ensures within { (blocks : List Block) (bytes input : List ℕ) (budget seed : ℕ) (e : Ending) (h : Grid PcgWeather)
         → AllGood blocks → 0 < length blocks → length bytes ≤ data_size → 0 < budget → budget < 2 ^ 32
         → is_trap e ≡ false → IsRan blocks bytes input budget seed (Some e) h
