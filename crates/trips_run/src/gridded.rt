@@ -1,6 +1,6 @@
 //! The run of a checked image on the grid.
 
-ghost use Rattle.std.specs.Prelude.{◌≡◌, ◌<◌, IfOk};
+ghost use Rattle.std.specs.Prelude.{◌≡◌, ◌<◌, ◌^◌, IfOk};
 ghost use Rattle.grid_cycle_spec.specs.Costs.{cost_of};
 ghost use Rattle.grid_machine.specs.Seeds.{IsRan, blocks_of, grid_of};
 ghost use Rattle.trips_run.specs.Report.{shown_report};
@@ -62,6 +62,11 @@ fn ran_image(
     }
 }
 
+// A number of blocks is below 2^32.
+fn is_small(budget: u32)
+    ensures { budget < 2 ^ 32 }
+{}
+
 /// Runs an image on an input, on the grid of the settings' seed and for as many blocks as they allow, and tells how its
 /// run ended and what is shown. Want of memory is the only error: each run ends within its cost.
 pub fn run_image(
@@ -75,6 +80,7 @@ pub fn run_image(
         IsRunBy image.blocks image.bytes input settings answer.status answer.report.items) }
 {
     let _ = image.count();
+    is_small(settings.most);
     runs_of_a_seed_end();
     let ran = ran_image(alloc, image, input, settings)?;
     let ending = ran.ending;
