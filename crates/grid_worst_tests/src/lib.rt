@@ -1,0 +1,5 @@
+//! Compiled programs on the grid in the slowest weather, with a predictor that is no help.
+#![tactic(auto)]
+
+#[cfg(test)]
+mod worst_tests;
