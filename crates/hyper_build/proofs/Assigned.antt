@@ -1,7 +1,6 @@
 -- What `assign` gives is as `build` wants it.
-use Rattle.std.proofs.Common.{◌≡◌, ℕ, zero, suc, ◌+◌, ◌≤◌, Bool, true, false, List, [], ◌∷◌, ◌++◌}
-use Rattle.std.proofs.Common.{length, Some, refl, sym, ap, ◌∙◌, subst, arith, slice_get}
-use Rattle.std.specs.List.{concat}
+use Rattle.std.proofs.Common.{◌≡◌, ℕ, zero, suc, ◌≤◌, Bool, List, [], ◌∷◌}
+use Rattle.std.proofs.Common.{length, Some, refl, sym, ap, subst, arith, slice_get}
 use mathlib.Core.Path.{fun_ext}
 use Rattle.ir_forms.specs.FlatCode.{Function, Program}
 use Rattle.ir_forms.specs.FlatRuns.{flat_run}
@@ -10,7 +9,7 @@ use Rattle.reg_assign.specs.Live.{AreSmall, AreCut, AreFew, VarSet}
 use Rattle.reg_assign.specs.Keeps.{is_among, kept_by, keeping_all, assigned_program, tame_and, KeepsOwn}
 use Rattle.hyper_build.specs.Tree.{is_saved}
 use Rattle.hyper_build.specs.Whole.{EndsSo}
-use Rattle.hyper_build.specs.Laws.{saved_program, built_program, FitsGroups, cuts_by, groups_by, plan_of}
+use Rattle.hyper_build.specs.Laws.{saved_program, built_program, FitsGroups, groups_by, plan_of}
 use Rattle.hyper_build.specs.Laws.{AreAssigned, KeepsAssigned, GivesAssigned}
 use Rattle.hyper_build.specs.Smallness.{CutsAll, AssignedAreLittle}
 use Rattle.hyper_build.proofs.Built.{build_gives, build_keeps, cut_blocks_little}

@@ -8,7 +8,7 @@ use Rattle.ir_forms.specs.declared.flat.Arg.{Arg}
 use Rattle.ir_forms.specs.declared.flat.Arg.TheVariants.{Const, Var}
 use Rattle.ir_forms.specs.FlatCode.{Step, Code, Nop, ◌▹◌, Let, Frame, Load, Save, Call, Put, Get, If}
 use Rattle.ir_forms.specs.FlatCode.{Loop, Break, Continue, Return, Function, Program}
-use Rattle.ir_forms.specs.FlatFits.{FitsArg, FitsLastings, FitsReturn, FitsCall, FitsStep, FitsCode}
+use Rattle.ir_forms.specs.FlatFits.{FitsArg, FitsLastings, FitsReturn, FitsStep, FitsCode}
 use Rattle.ir_forms.specs.FlatFits.{FitsFunction, FitsProgram, steps_in, steps_of}
 use Rattle.ir_forms.specs.FlatRuns.{flat_run}
 use Rattle.ir_forms.specs.Frames.{frames_at}
@@ -16,13 +16,12 @@ use Rattle.ir_forms.specs.HyperRuns.{Layout, labels_alone, hyper_run}
 use Rattle.ir_forms.specs.HyperWords as words
 use Rattle.reg_assign.specs.Keeps.{calls_in, calls, keeping_in, keeping, keeping_all, with_body}
 use Rattle.reg_assign.specs.Keeps.{KeepsOwnIn, KeepsOwn, tame_and}
-use Rattle.hyper_build.specs.Tree.{Plan, Routine, function_of, plain, goes_on, annotated_in, annotated}
+use Rattle.hyper_build.specs.Tree.{Plan, Routine, function_of, goes_on, annotated_in, annotated}
 use Rattle.hyper_build.specs.Tree.{annotated_all, is_saved}
-use Rattle.hyper_build.specs.Routines.{built}
-use Rattle.hyper_build.specs.World.{World, AreBytes, IsFaithful, checks_of}
+use Rattle.hyper_build.specs.World.{World, AreBytes}
 use Rattle.hyper_build.specs.Fits.{IsWordArg, AreWordArgs, IsWordReturn, FitsStmt, FitsTree, FitsRoutine}
-use Rattle.hyper_build.specs.Whole.{world_of, flat_of, FitsWorld, EndsSo}
-use Rattle.hyper_build.specs.Laws.{saved_program, built_program, FitsGroups, BuildKeepsMeaning}
+use Rattle.hyper_build.specs.Whole.{world_of, FitsWorld, EndsSo}
+use Rattle.hyper_build.specs.Laws.{built_program, FitsGroups, BuildKeepsMeaning}
 use Rattle.hyper_build.specs.Laws.{BuildGivesBlocks}
 use Rattle.hyper_build.specs.Smallness.{CutsAll, CutBlocksAreLittle}
 use Rattle.hyper_build.proofs.Little.{IsCutStmt, IsCutTree, IsCutRoutine, built_little}

@@ -11,9 +11,12 @@ use Rattle.ir_forms.specs.HyperRuns.{Machine, block_at}
 use Rattle.hyper_build.specs.Tree.{Stmt, LetAt, FrameAt, LoadAt, SaveAt, CallAt, PutAt, GetAt, IfAt, LoopAt}
 use Rattle.hyper_build.specs.Tree.{BreakAt, ContinueAt, ReturnAt, Tree, End, ◌▸◌, Routine, function_of}
 use Rattle.hyper_build.specs.Tree.{plain_in, plain}
-use Rattle.hyper_build.specs.Straight.{Place, size_in, is_test, is_loop_test}
+use Rattle.hyper_build.specs.Straight.{Place, is_item}
+use Rattle.hyper_build.specs.Legs.{is_test, is_loop_test}
+use Rattle.hyper_build.specs.Sizes.{size_in}
+use Rattle.hyper_build.specs.Entries.{entry, part_entry, turn_entry}
+use Rattle.hyper_build.specs.Build.{blocks_in, test_blocks}
 use Rattle.hyper_build.specs.Merging.{SetsLow}
-use Rattle.hyper_build.specs.Build.{entry, part_entry, turn_entry, blocks_in, test_blocks}
 use Rattle.hyper_build.specs.Routines.{parameters_size, place_of, way_out, body_label}
 use Rattle.hyper_build.specs.World.{World, Has, Stack, Rel, IsFrame, frame, checks_of, env_in}
 use Rattle.hyper_build.specs.Follow.{Follows, Does, ways_of, CallsFollow}
@@ -30,7 +33,6 @@ use Rattle.hyper_build.proofs.Sizes.{length_in}
 use Rattle.hyper_build.proofs.Caller.{call_does}
 use Rattle.hyper_build.proofs.Callee.{enters}
 use Rattle.hyper_build.proofs.Forks.{fork_does}
-use Rattle.hyper_build.specs.Straight.{is_item}
 use Rattle.ir_forms.specs.declared.flat.Arg.{Arg}
 use Rattle.std.proofs.Common.{Bool, true, false, cond}
 use Rattle.hyper_build.proofs.Simple.{let_does, frame_does, load_does, save_does, put_does, get_does}

@@ -1,22 +1,24 @@
 -- How many blocks are made: no more than the flat code says.
-use Rattle.std.proofs.Common.{◌≡◌, ℕ, zero, suc, ◌+◌, ◌<◌, ◌≤◌, Bool, true, false, cond, List, [], ◌∷◌}
-use Rattle.std.proofs.Common.{◌++◌, length, Some, None, refl, arith, slice_get, length-append}
+use Rattle.std.proofs.Common.{◌≡◌, ℕ, zero, suc, ◌+◌, ◌≤◌, Bool, true, false, cond, List, [], ◌∷◌}
+use Rattle.std.proofs.Common.{length, Some, refl, arith, slice_get, length-append}
 use Rattle.ir_forms.specs.declared.flat.Arg.{Arg}
 use Rattle.ir_forms.specs.FlatCode.{Step, Code, Nop, ◌▹◌, Let, Frame, Load, Save, Call, Put, Get, If}
 use Rattle.ir_forms.specs.FlatCode.{Loop, Break, Continue, Return, Function}
 use Rattle.ir_forms.specs.FlatFits.{FitsStep, FitsCode, FitsFunction, steps_in, steps_of}
 use Rattle.ir_forms.specs.FlatFits.{code_blocks_in, code_blocks, code_blocks_of_all}
 use Rattle.reg_assign.specs.Keeps.{calls_in, calls}
-use Rattle.hyper_build.specs.Tree.{Plan, Routine, Tree, Stmt, End, ◌▸◌, LetAt, FrameAt, LoadAt, SaveAt}
+use Rattle.hyper_build.specs.Tree.{Plan, Routine, Tree, End, ◌▸◌, LetAt, FrameAt, LoadAt, SaveAt}
 use Rattle.hyper_build.specs.Tree.{CallAt, PutAt, GetAt, IfAt, LoopAt, BreakAt, ContinueAt, ReturnAt}
 use Rattle.hyper_build.specs.Tree.{goes_on, annotated_in, annotated, annotated_all}
 use Rattle.hyper_build.specs.Parts.{cut_size, moved_size}
 use Rattle.hyper_build.specs.Passing.{argument_moves, argument_cuts, parameter_moves, parameter_cuts}
-use Rattle.hyper_build.specs.Straight.{is_item, is_loop_test, leg_size, arguments_size, size_in, size}
-use Rattle.hyper_build.specs.Straight.{test_size, turn_size}
-use Rattle.hyper_build.specs.Routines.{parameters_size, routine_size, all_blocks, routine_blocks, built}
+use Rattle.hyper_build.specs.Straight.{is_item}
+use Rattle.hyper_build.specs.Legs.{is_loop_test, leg_size, is_bare}
+use Rattle.hyper_build.specs.Sizes.{arguments_size, size_in, size, test_size, turn_size}
+use Rattle.hyper_build.specs.Routines.{routine_size, all_blocks, routine_blocks}
 use Rattle.hyper_build.proofs.Moving.{cut_most}
 use Rattle.hyper_build.proofs.Follows.{length_routine}
+use Rattle.hyper_build.proofs.LoopPosts.{post_most}
 
 -- PASSING
 
@@ -111,7 +113,10 @@ module _ (fs : List Function) (each : (f : ℕ) (h : Function) → slice_get fs 
     stmt_few i k inside on (Loop body post) t =
         let hx = turn_few (i + 1) k true body t.0 in
         let hy = code_few (i + 1 + steps_of body) (k + calls body) false post t.1 in
-        omega (arith, hx, hy)
+        let b = annotated p (i + 1) k body in
+        let c = annotated p (i + 1 + steps_of body) (k + calls body) post in
+        let most = post_most (is_bare (p.cut i) b c) (size c) in
+        omega (arith, hx, hy, most)
     stmt_few i k inside on Break t = cut_most on
     stmt_few i k inside on Continue t = cut_most on
     stmt_few i k inside on (Return v) t = cut_most on

@@ -1,6 +1,6 @@
 -- Emission puts out the blocks of annotated code.
-use Rattle.std.proofs.Common.{◌≡◌, ℕ, suc, ◌+◌, ◌-◌, Bool, true, false, ◌&&◌, ◌||◌, not, cond, List, [], ◌∷◌}
-use Rattle.std.proofs.Common.{◌++◌, length, refl, sym, ap, ap₂, ◌∙◌, subst, arith, append_assoc, append-nil}
+use Rattle.std.proofs.Common.{◌≡◌, ℕ, ◌+◌, ◌-◌, Bool, true, false, ◌&&◌, ◌||◌, not, cond, List, [], ◌∷◌}
+use Rattle.std.proofs.Common.{◌++◌, refl, sym, ap, ap₂, ◌∙◌, subst, arith, append_assoc, append-nil}
 use Rattle.trips_isa.specs.declared.op.Op.TheVariants.{Mov, Sub}
 use Rattle.ir_forms.specs.declared.flat.Arg.{Arg}
 use Rattle.ir_forms.specs.declared.hyper.Source.TheVariants.{Const, Reg}
@@ -14,26 +14,30 @@ use Rattle.ir_forms.specs.HyperCode as hyper
 use Rattle.ir_forms.specs.HyperRuns.{jump}
 use Rattle.reg_assign.specs.Keeps.{calls_in, calls}
 use Rattle.hyper_build.specs.declared.emitting.Note.{Note}
-use Rattle.hyper_build.specs.Tree.{Tree, goes_on, annotated_in, annotated, LoopAt}
+use Rattle.hyper_build.specs.Tree.{Tree, goes_on, annotated_in, annotated}
 use Rattle.hyper_build.specs.Parts.{source, capped, set_then, load_then, save_then, cut, cut_blocks, cut_size}
-use Rattle.hyper_build.specs.Straight.{Place, items_in, items_of, leg_blocks}
-use Rattle.hyper_build.specs.Straight.{leg_size, size_in, size, turn_size, part_size, exit_leg, label_or}
-use Rattle.hyper_build.specs.Build.{give, body_end, choose, entry_in, entry, test_entry, part_entry, turn_entry}
+use Rattle.hyper_build.specs.Straight.{Place, in_loop, items_in, items_of}
+use Rattle.hyper_build.specs.Legs.{leg_blocks, leg_size, exit_leg, label_or, post_exit, post_size}
+use Rattle.hyper_build.specs.Sizes.{size_in, size, turn_size, part_size}
+use Rattle.hyper_build.specs.Entries.{body_end, choose, entry_in, entry, test_entry, part_entry}
+use Rattle.hyper_build.specs.Entries.{turn_entry}
 use Rattle.hyper_build.specs.Build.{blocks_in, blocks, test_blocks, turn_blocks}
-use Rattle.hyper_build.specs.Ground.{Ground, plan, place, left, entry_at}
-use Rattle.hyper_build.specs.Backward.{Emission, with_rest, put_out, cut_at, fall, before, setting}
+use Rattle.hyper_build.specs.Ground.{Ground, plan, place, entry_at}
+use Rattle.hyper_build.specs.Backward.{Emission, with_rest, put_out, cut_at, fall, fall_by, before}
 use Rattle.hyper_build.specs.Backward.{last_note, without_note, front_notes}
 use Rattle.hyper_build.specs.BackwardStatements.{put_byte, get_byte, leaving}
-use Rattle.hyper_build.specs.BackwardItems.{is_if_item, items_before, if_then, straight_items_in}
+use Rattle.hyper_build.specs.BackwardItems.{is_straight, is_if_item, items_before, if_then, straight_items_in}
 use Rattle.hyper_build.specs.BackwardItems.{straight_items}
 use Rattle.hyper_build.specs.BackwardCode.{exit_of, is_test_step, leg_out, test_block, items_out, end_of_body}
-use Rattle.hyper_build.specs.BackwardCode.{emit_in, emit, test_out, emit_turn}
+use Rattle.hyper_build.specs.BackwardCode.{is_bare_code, emit_in, emit, test_out, emit_turn}
 use Rattle.hyper_build.specs.Notes.{note_of, notes_in, notes_of, test_notes, turn_notes}
 use Rattle.hyper_build.specs.Reached.{Reached, IsReached}
-use Rattle.hyper_build.proofs.ItemLegs.{and_parts, straight_code, item_is, if_size, item_calls, item_notes}
+use Rattle.hyper_build.proofs.ItemLegs.{and_parts, straight_code, item_is, if_size, no_calls, no_notes}
+use Rattle.hyper_build.proofs.ItemLegs.{item_calls, item_notes}
+use Rattle.hyper_build.proofs.LoopPosts.{bare_is, bare_straight}
 use Rattle.hyper_build.proofs.Reaching.{joined, mapped, restated, one_less, before_reached, before_by_reached}
 use Rattle.hyper_build.proofs.Reaching.{cut_reached, call_reached}
-use Rattle.hyper_build.proofs.ReachingLegs.{LegAt, leg_reached}
+use Rattle.hyper_build.proofs.ReachingLegs.{leg_reached}
 use Rattle.hyper_build.proofs.ReachingTests.{by_kind, IsTestReached, loop_test_reached}
 use Rattle.hyper_build.proofs.LoopTests.{loop_test_is}
 use Rattle.hyper_build.proofs.LastNotes.{last_behind, front_before}
@@ -270,34 +274,93 @@ IsTurnReached g b a c =
     (turn_blocks (place g b a) (annotated (plan g) i k c) l s.rest)
     (turn_entry (place g b a) (annotated (plan g) i k c) l s.rest)
 
-abbrev loop_by : Ground → Code → Code → Note → Emission → Emission
-loop_by g body post note behind =
-    let next = put_out (emit g behind.label note.next post
-    (with_rest (jump note.head) (without_note behind))) in
-    let after = end_of_body ((plan g).cut note.place) g.arrays post next.label note.head in
-    fall (put_out (emit_turn g behind.label next.label body (with_rest after next)))
+-- what emission does at a loop, by whether its last part has no block of its own
+abbrev loop_by : Bool → Ground → Code → Code → Note → Emission → Emission
+loop_by bare g body post note behind =
+    let ends = (plan g).cut note.place in
+    let start = with_rest (jump note.head) (without_note behind) in
+    let next = put_out (emit g behind.label note.next post start) in
+    cond bare
+    (fall (put_out (emit_turn g behind.label note.head body
+    (with_rest (end_of_body ends g.arrays post note.head note.head) (fall_by (steps_of post) start)))))
+    (fall (put_out (emit_turn g behind.label next.label body
+    (with_rest (end_of_body ends g.arrays post next.label note.head) next))))
 
-loop_reached : (g : Ground) (b a : ℕ) (body post : Code) (note : Note) (l i k : ℕ)
+-- and the blocks
+abbrev loop_blocks : Bool → Place → Bool → Tree → Tree → ℕ → Block → List Block
+loop_blocks bare p c body post l k =
+    let next = l + 1 + turn_size body in
+    let out = post_exit bare l in
+    let again = label_or next out in
+    let q = in_loop p (next + post_size bare (size post)) again in
+    let after = body_end q c post again l in
+    turn_entry q body (l + 1) after
+    ∷ (turn_blocks q body (l + 1) after
+    ++ (leg_blocks out (entry q post (next + 1) (jump l)) (blocks q post (next + 1) (jump l)) ++ k ∷ []))
+
+loop_reached : (bare : Bool) (g : Ground) (b a : ℕ) (body post : Code) (note : Note) (l i k : ℕ)
     (N : List Note) (behind : Emission) (top : Block) (o : List Block)
     → ((broke again : ℕ) → IsTurnReached g broke again body)
     → ((broke again : ℕ) → IsReached g broke again post)
-    → behind.label ≡ l + 1 + turn_size (annotated (plan g) (i + 1) k body) + 1
-    + size (annotated (plan g) (i + 1 + steps_of body) (k + calls body) post)
+    → (bare ≡ true → is_straight post ≡ true)
+    → behind.label ≡ l + 1 + turn_size (annotated (plan g) (i + 1) k body)
+    + post_size bare (size (annotated (plan g) (i + 1 + steps_of body) (k + calls body) post))
     → behind.place ≡ i + 1 + steps_of body + steps_of post
     → behind.calls ≡ k + calls body + calls post → behind.out ≡ top ∷ o
-    → note ≡ note_of l i (l + 1 + turn_size (annotated (plan g) (i + 1) k body))
+    → note ≡ note_of l i (label_or (l + 1 + turn_size (annotated (plan g) (i + 1) k body)) (post_exit bare l))
     → front_notes behind.notes ≡ (N ++ turn_notes (plan g) (l + 1) (i + 1) k body)
     ++ notes_of (plan g) (l + 1 + turn_size (annotated (plan g) (i + 1) k body) + 1)
     (i + 1 + steps_of body) (k + calls body) post
-    → Reached o (loop_by g body post note behind) l i k N
-    (blocks_in (place g b a) (LoopAt ((plan g).cut i) (annotated (plan g) (i + 1) k body)
-    (annotated (plan g) (i + 1 + steps_of body) (k + calls body) post)) l top)
+    → Reached o (loop_by bare g body post note behind) l i k N
+    (loop_blocks bare (place g b a) ((plan g).cut i) (annotated (plan g) (i + 1) k body)
+    (annotated (plan g) (i + 1 + steps_of body) (k + calls body) post) l top)
     (jump l)
-loop_reached g b a body post note l i k N behind top o f1 f2 el ei ek eo ex en =
+loop_reached true g b a body post note l i k N behind top o f1 f2 es el ei ek eo ex en =
+    let C = annotated (plan g) (i + 1) k body in
+    let next = l + 1 + turn_size C in
+    let br = next + 0 in
+    let start = with_rest (jump note.head) (without_note behind) in
+    let bl = behind.label in
+    let hd = note.head in
+    let cuts = (plan g).cut note.place in
+    let after = end_of_body cuts g.arrays post hd hd in
+    let s1 = with_rest after (fall_by (steps_of post) start) in
+    let t1 = emit_turn g bl hd body s1 in
+    let u = put_out t1 in
+    let n1 = turn_notes (plan g) (l + 1) (i + 1) k body in
+    let none = no_notes (plan g) (next + 1) (i + 1 + steps_of body) (k + calls body) post (es refl) in
+    let few = no_calls post (es refl) in
+    let r1 = f1 bl hd s1 (l + 1) (i + 1) k N (el ∙ omega arith) (omega (arith, ei)) (omega (arith, ek, few))
+    (en ∙ ap (λ y. (N ++ n1) ++ y) none ∙ append-nil (N ++ n1)) in
+    let eul : u.label ≡ l = one_less t1.label l r1.label in
+    let head : note.head ≡ l = ap (λ (x : Note). x.head) ex in
+    let np : note.place ≡ i = ap (λ (x : Note). x.place) ex in
+    let ecut : cuts ≡ (plan g).cut i = ap (plan g).cut np in
+    let X = λ (m n : ℕ) (y : Block). turn_entry (place g m n) C (l + 1) y in
+    let Y = λ (m n : ℕ) (y : Block). turn_blocks (place g m n) C (l + 1) y in
+    let B = λ (m n : ℕ) (y : Block). X m n y ∷ (Y m n y ++ top ∷ []) in
+    let out : u.out ≡ B bl hd after ++ o =
+    ap₂ (λ y z. y ∷ z) r1.rest (r1.out ∙ ap (λ y. Y bl hd after ++ y) eo
+    ∙ sym (append_assoc (Y bl hd after) (top ∷ []) o)) in
+    let e1 = ap (λ (y : Bool). B bl hd (end_of_body y g.arrays post hd hd)) ecut in
+    let F = λ (m n : ℕ). B m n (end_of_body ((plan g).cut i) g.arrays post n n) in
+    let e2 = ap (λ m. F m hd) el in
+    let e3 = ap (λ n. F br n) head in
+    let e4 = ap (λ y. B br l y)
+    (sym (end_is g (place g br l) ((plan g).cut i) (i + 1 + steps_of body) (k + calls body) post l l)) in
+    record {
+      label = eul;
+      place = one_less u.place i r1.place;
+      calls = r1.calls;
+      notes = r1.notes;
+      out = out ∙ ap (λ y. y ++ o) (e1 ∙ e2 ∙ e3 ∙ e4);
+      rest = ap jump eul;
+    }
+loop_reached false g b a body post note l i k N behind top o f1 f2 es el ei ek eo ex en =
     let C = annotated (plan g) (i + 1) k body in
     let D = annotated (plan g) (i + 1 + steps_of body) (k + calls body) post in
     let next = l + 1 + turn_size C in
-    let br = next + 1 + size D in
+    let br = next + (1 + size D) in
     let start = with_rest (jump note.head) (without_note behind) in
     let bl = behind.label in
     let t2 = emit g bl note.next post start in
@@ -309,14 +372,13 @@ loop_reached g b a body post note l i k N behind top o f1 f2 el ei ek eo ex en =
     let t1 = emit_turn g bl nl body s1 in
     let u = put_out t1 in
     let n1 = turn_notes (plan g) (l + 1) (i + 1) k body in
-    let r2 = f2 bl note.next start (next + 1) (i + 1 + steps_of body) (k + calls body) (N ++ n1) el ei ek
-    en in
+    let r2 = f2 bl note.next start (next + 1) (i + 1 + steps_of body) (k + calls body) (N ++ n1) (el ∙ omega arith) ei ek en in
     let enl : nl ≡ next = one_less t2.label next r2.label in
     let r1 = f1 bl nl s1 (l + 1) (i + 1) k N (enl ∙ omega arith) r2.place r2.calls r2.notes in
     let eul : u.label ≡ l = one_less t1.label l r1.label in
-    let head : note.head ≡ l = ap (λ (x : Note). x.head) ex in
-    let np : note.place ≡ i = ap (λ (x : Note). x.place) ex in
-    let after_is : note.next ≡ next = ap (λ (x : Note). x.next) ex in
+    let head : note.head ≡ l = ap (λ (y : Note). y.head) ex in
+    let np : note.place ≡ i = ap (λ (y : Note). y.place) ex in
+    let after_is : note.next ≡ next = ap (λ (y : Note). y.next) ex in
     let ecut : cuts ≡ (plan g).cut i = ap (plan g).cut np in
     let Z = λ (m n q : ℕ). entry (place g m n) D (next + 1) (jump q) in
     let W = λ (m n q : ℕ). blocks (place g m n) D (next + 1) (jump q) in
@@ -338,8 +400,7 @@ loop_reached g b a body post note l i k N behind top o f1 f2 el ei ek eo ex en =
     let e4 = ap (λ z. F br next z note.head) after_is in
     let e5 = ap (λ q. F br next next q) head in
     let e6 = ap (λ y. B br next next l y)
-    (sym (end_is g (place g br next) ((plan g).cut i) (i + 1 + steps_of body) (k + calls body)
-    post next l)) in
+    (sym (end_is g (place g br next) ((plan g).cut i) (i + 1 + steps_of body) (k + calls body) post next l)) in
     record {
       label = eul;
       place = one_less u.place i r1.place;
@@ -415,20 +476,30 @@ mutual
       all_reached g b a on x one other s l i k N (reached g b a one) (reached g b a other) el ei ek en
   step_reached g b a on (Loop body post) s l i k N el ei ek en =
       let behind = put_out s in
+      let cut_ = (plan g).cut i in
       let C = annotated (plan g) (i + 1) k body in
       let D = annotated (plan g) (i + 1 + steps_of body) (k + calls body) post in
-      let e = one_less s.label (l + 1 + turn_size C + 1 + size D) (el ∙ omega arith) in
+      let bare = is_bare_code cut_ body post in
+      let same = bare_is (plan g) (i + 1) k (i + 1 + steps_of body) (k + calls body) cut_ body post in
+      let e = one_less s.label (l + 1 + turn_size C + post_size bare (size D))
+      (el ∙ ap (λ y. l + (1 + (turn_size C + (post_size y (size D) + 1)))) same ∙ omega arith) in
       let nx = l + 1 + turn_size C in
       let n1 = turn_notes (plan g) (l + 1) (i + 1) k body in
       let n2 = notes_of (plan g) (nx + 1) (i + 1 + steps_of body) (k + calls body) post in
-      let x = note_of l i nx in
+      let x = note_of l i (label_or nx (post_exit bare l)) in
       let M = (N ++ n1) ++ n2 in
       let all : s.notes ≡ M ++ x ∷ [] =
       en ∙ sym (append_assoc N n1 (n2 ++ x ∷ [])) ∙ sym (append_assoc (N ++ n1) n2 (x ∷ [])) in
-      loop_reached g b a body post (last_note behind.notes) l i k N behind s.rest s.out
-      (λ broke again. turn_reached g broke again body) (λ broke again. reached g broke again post) e
-      (omega (arith, ei)) (omega (arith, ek)) refl (ap last_note all ∙ last_behind M x)
-      (ap front_notes all ∙ front_before M x)
+      let note = last_note behind.notes in
+      let ex : note ≡ x = ap last_note all ∙ last_behind M x in
+      restated
+      (ap (λ m. loop_by (is_bare_code ((plan g).cut m) body post) g body post note behind)
+      (ap (λ (y : Note). y.place) ex))
+      (ap (λ z. loop_blocks z (place g b a) cut_ C D l s.rest) same) refl
+      (loop_reached bare g b a body post note l i k N behind s.rest s.out
+      (λ broke again. turn_reached g broke again body) (λ broke again. reached g broke again post)
+      (bare_straight cut_ body post) e (omega (arith, ei)) (omega (arith, ek)) refl ex
+      (ap front_notes all ∙ front_before M x))
   step_reached g b a on Break s l i k N el ei ek en =
       passed on s l i k N _ el ei (omega (arith, ek)) (en ∙ append-nil N)
   step_reached g b a on Continue s l i k N el ei ek en =

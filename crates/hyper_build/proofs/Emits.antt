@@ -1,5 +1,5 @@
 -- Items that are put before the rest of a block.
-use Rattle.std.proofs.Common.{◌≡◌, ℕ, List, [], ◌∷◌, ◌++◌, map, reverse, refl, sym, ap, ap₂, ◌∙◌}
+use Rattle.std.proofs.Common.{◌≡◌, ℕ, List, [], ◌∷◌, ◌++◌, map, reverse, ap, ap₂, ◌∙◌}
 use Rattle.std.proofs.lemmas.List.{reverse-append}
 use Rattle.trips_isa.specs.declared.op.Op.{Op}
 use Rattle.ir_forms.specs.declared.flat.Arg.{Arg}

@@ -2,7 +2,6 @@
 use Rattle.std.proofs.Common.{◌≡◌, ℕ, suc, ◌+◌, ◌≤◌, Bool, true, false, cond, not, ◌&&◌, ◌||◌}
 use Rattle.std.proofs.Common.{List, [], ◌∷◌, ◌++◌, map, length, Option, Some, None, refl, sym, ap, ap₂, ◌∙◌}
 use Rattle.std.proofs.Common.{arith}
-use Rattle.ir_forms.specs.declared.flat.Arg.{Arg}
 use Rattle.ir_forms.specs.FlatCode.{Step, Let, Frame, Load, Save, Call, Put, Get, If, Loop, Break, Continue}
 use Rattle.ir_forms.specs.FlatCode.{Return, Code, Nop, ◌▹◌, Function}
 use Rattle.ir_forms.specs.FlatFits.{steps_in, steps_of, is_small_leg, is_empty, small_if, small_ifs_in, small_ifs}
@@ -17,18 +16,20 @@ use Rattle.hyper_build.specs.Parts.{source, Move, cut, cut_blocks, cut_size, cha
 use Rattle.hyper_build.specs.Parts.{moved_blocks}
 use Rattle.hyper_build.specs.Passing.{saving, restoring, argument_moves, argument_cuts, result_then}
 use Rattle.hyper_build.specs.Passing.{parameter_moves, parameter_cuts}
-use Rattle.hyper_build.specs.Straight.{Place, in_loop, items_in, items_of, is_small_if, is_item, exit_leg}
-use Rattle.hyper_build.specs.Straight.{label_or, leg_blocks, leg_size, is_loop_test, arguments_size, size_in}
-use Rattle.hyper_build.specs.Straight.{size, turn_size, part_size}
+use Rattle.hyper_build.specs.Straight.{Place, in_loop, items_in, items_of, is_small_if, is_item}
+use Rattle.hyper_build.specs.Legs.{exit_leg, label_or, leg_blocks, leg_size, is_loop_test, is_bare, post_exit, post_size}
+use Rattle.hyper_build.specs.Sizes.{arguments_size, size_in, size, turn_size, part_size}
+use Rattle.hyper_build.specs.Entries.{call_block, choose, body_end, entry_in, entry, test_entry, turn_entry}
+use Rattle.hyper_build.specs.Entries.{back_block}
+use Rattle.hyper_build.specs.Build.{blocks_in, blocks, test_blocks, turn_blocks}
 use Rattle.hyper_build.specs.BackwardItems.{is_straight_in, is_straight, is_if_item, if_then}
 use Rattle.hyper_build.specs.BackwardCode.{is_break_code, is_test_step, test_block}
-use Rattle.hyper_build.specs.Build.{call_block, choose, body_end, entry_in, entry, test_entry, turn_entry, blocks_in}
-use Rattle.hyper_build.specs.Build.{blocks, test_blocks, turn_blocks, back_block}
 use Rattle.hyper_build.specs.Routines.{place_of, way_out, body_entry, body_label}
 use Rattle.hyper_build.specs.Routines.{parameters_size, routine_size, routine_blocks, all_blocks, entry_from}
 use Rattle.hyper_build.specs.Laws.{KeepsSmallIfs}
 use Rattle.hyper_build.proofs.ItemLegs.{and_parts, item_is, legs_straight}
 use Rattle.hyper_build.proofs.LoopTests.{break_is, loop_test_is}
+use Rattle.hyper_build.proofs.LoopPosts.{post_none}
 
 abbrev filled : Block → ℕ
 filled b = filled_ifs b.items
@@ -430,14 +431,20 @@ mutual
       let A = annotated p (i + 1) n body in
       let C = annotated p (i + 1 + steps_of body) (n + calls body) post in
       let next = l + 1 + turn_size A in
-      let q = in_loop P (next + 1 + size C) next in
-      let after = body_end q (p.cut i) C next l in
+      let bare = is_bare (p.cut i) A C in
+      let exit_ = post_exit bare l in
+      let again = label_or next exit_ in
+      let q = in_loop P (next + post_size bare (size C)) again in
+      let after = body_end q (p.cut i) C again l in
+      let first = entry q C (next + 1) (jump l) in
+      let others = blocks q C (next + 1) (jump l) in
       let x = (turn_keeps q p (l + 1) (i + 1) n body after).0 in
       let y = (code_keeps q p (next + 1) (i + 1 + steps_of body) (n + calls body) post (jump l)).0 in
-      let a1 = filled_append (turn_blocks q A (l + 1) after)
-      (entry q C (next + 1) (jump l) ∷ (blocks q C (next + 1) (jump l) ++ k ∷ [])) in
-      let a2 = filled_append (blocks q C (next + 1) (jump l)) (k ∷ []) in
-      omega (arith, x, y, a1, a2)
+      let z = leg_keeps exit_ first others (small_ifs post) y
+      (λ d h. post_none p (i + 1) n (i + 1 + steps_of body) (n + calls body) (p.cut i) body post l d h) in
+      let a1 = filled_append (turn_blocks q A (l + 1) after) (leg_blocks exit_ first others ++ k ∷ []) in
+      let a2 = filled_append (leg_blocks exit_ first others) (k ∷ []) in
+      omega (arith, x, z, a1, a2)
   step_keeps P p l i n on Break k e = absurd (cc e)
   step_keeps P p l i n on Continue k e = absurd (cc e)
   step_keeps P p l i n on (Return v) k e = absurd (cc e)

@@ -5,7 +5,7 @@ use Rattle.ir_forms.specs.FlatCode.{Step, If, Code}
 use Rattle.ir_forms.specs.FlatFits.{steps_in}
 use Rattle.ir_forms.specs.HyperRuns.{jump}
 use Rattle.hyper_build.specs.declared.numbering.Numbering.{Numbering}
-use Rattle.hyper_build.specs.Straight.{label_or}
+use Rattle.hyper_build.specs.Legs.{label_or}
 use Rattle.hyper_build.specs.Ground.{Ground, plan}
 use Rattle.hyper_build.specs.Backward.{Emission, with_rest, put_out}
 use Rattle.hyper_build.specs.BackwardStatements.{leaving}

@@ -1,5 +1,5 @@
 -- Ifs that are items of their block: flat legs say so already, and have no calls and no notes.
-use Rattle.std.proofs.Common.{◌≡◌, ℕ, ◌+◌, Bool, true, false, ◌&&◌, ◌||◌, not, cond, List, [], ◌++◌, refl, ap, ap₂}
+use Rattle.std.proofs.Common.{◌≡◌, ℕ, ◌+◌, Bool, true, false, ◌&&◌, ◌||◌, not, cond, List, [], ◌++◌, refl, ap₂}
 use Rattle.ir_forms.specs.declared.flat.Arg.{Arg}
 use Rattle.ir_forms.specs.FlatCode.{Step, Let, Frame, Load, Save, Call, Put, Get, If, Loop, Break, Continue}
 use Rattle.ir_forms.specs.FlatCode.{Return, Code, Nop, ◌▹◌}
@@ -8,7 +8,9 @@ use Rattle.reg_assign.specs.Keeps.{calls_in, calls}
 use Rattle.hyper_build.specs.declared.emitting.Note.{Note}
 use Rattle.hyper_build.specs.Tree.{Tree, Plan, plain, goes_on, annotated_in, annotated}
 use Rattle.hyper_build.specs.Parts.{cut_size}
-use Rattle.hyper_build.specs.Straight.{straight_in, straight, leg_size, size_in, size, is_small_if, is_item}
+use Rattle.hyper_build.specs.Straight.{straight_in, straight, is_small_if, is_item}
+use Rattle.hyper_build.specs.Legs.{leg_size}
+use Rattle.hyper_build.specs.Sizes.{size_in, size}
 use Rattle.hyper_build.specs.BackwardItems.{is_straight_in, is_straight, is_if_item}
 use Rattle.hyper_build.specs.Notes.{notes_in, notes_of}
 

@@ -18,6 +18,8 @@ pub mod Memories
 pub mod Plains
 pub mod Forks
 pub mod ItemLegs
+pub mod LoopPosts
+pub mod Endings
 pub mod LoopTests
 pub mod LowRegisters
 pub mod Merges
@@ -41,5 +43,6 @@ pub mod Emissions
 pub mod ArgumentSizes
 pub mod NumbersForward
 pub mod IfPasses
+pub mod LoopPasses
 pub mod TestPasses
 pub mod FunctionsOut

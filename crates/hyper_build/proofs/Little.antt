@@ -1,5 +1,5 @@
 -- Where a plan cuts everywhere, each block is small, has one group, or holds one small if.
-use Rattle.std.proofs.Common.{◌≡◌, ◌⊎◌, inl, inr, ℕ, zero, suc, ◌+◌, ◌≤◌, Bool, true, false, cond, not, ◌&&◌}
+use Rattle.std.proofs.Common.{◌≡◌, inl, inr, ℕ, zero, suc, ◌+◌, ◌≤◌, Bool, true, false, cond, not, ◌&&◌}
 use Rattle.std.proofs.Common.{◌||◌, List, [], ◌∷◌, ◌++◌, map, length, Option, Some, None, refl, ap, ap₂, ◌∙◌, subst}
 use Rattle.std.proofs.Common.{arith, slice_get}
 use Rattle.ir_forms.specs.declared.flat.Arg.{Arg}
@@ -7,7 +7,7 @@ use Rattle.ir_forms.specs.declared.hyper.Exit.TheVariants as exit
 use Rattle.ir_forms.specs.FlatFits.{is_small_leg, is_empty}
 use Rattle.ir_forms.specs.Frames.{frame_limit}
 use Rattle.ir_forms.specs.HyperCode.{Done, Block}
-use Rattle.ir_forms.specs.HyperFits.{IsSmall, items_in, ifs_in, tests_in, exits_in, is_filled}
+use Rattle.ir_forms.specs.HyperFits.{items_in, ifs_in, tests_in, exits_in, is_filled}
 use Rattle.ir_forms.specs.HyperRuns.{jump}
 use Rattle.reg_assign.specs.Live.{AreSmall}
 use Rattle.hyper_build.specs.Tree.{Stmt, LetAt, FrameAt, LoadAt, SaveAt, CallAt, PutAt, GetAt, IfAt}
@@ -15,16 +15,18 @@ use Rattle.hyper_build.specs.Tree.{LoopAt, BreakAt, ContinueAt, ReturnAt, Tree, 
 use Rattle.hyper_build.specs.Parts.{source, cut, cut_blocks, chain, chain_blocks, moved, moved_blocks}
 use Rattle.hyper_build.specs.Passing.{saving, restoring, argument_moves, argument_cuts, result_then}
 use Rattle.hyper_build.specs.Passing.{parameter_moves, parameter_cuts}
-use Rattle.hyper_build.specs.Straight.{Place, in_loop, straight, items_of, is_small_if, is_item, exit_leg}
-use Rattle.hyper_build.specs.Straight.{leg_blocks, leg_size, is_break, is_end, is_test, is_loop_test}
-use Rattle.hyper_build.specs.Straight.{arguments_size, size_in, size, turn_size, part_size}
-use Rattle.hyper_build.specs.Build.{call_block, choose, give, body_end, entry_in, entry, test_entry, turn_entry}
+use Rattle.hyper_build.specs.Straight.{Place, in_loop, straight, items_of, is_small_if, is_item}
+use Rattle.hyper_build.specs.Legs.{exit_leg, leg_blocks, leg_size, is_break, is_end, is_test, is_loop_test}
+use Rattle.hyper_build.specs.Legs.{label_or, is_bare, post_exit, post_size}
+use Rattle.hyper_build.specs.Sizes.{arguments_size, size_in, size, turn_size, part_size}
+use Rattle.hyper_build.specs.Entries.{call_block, choose, give, entry_in, entry, test_entry}
+use Rattle.hyper_build.specs.Entries.{turn_entry}
 use Rattle.hyper_build.specs.Build.{blocks_in, blocks, test_blocks, turn_blocks}
-use Rattle.hyper_build.specs.Routines.{way_out, place_of, way_in, parameters_size, body_label}
+use Rattle.hyper_build.specs.Routines.{way_out, place_of, parameters_size, body_label}
 use Rattle.hyper_build.specs.Routines.{body_entry, routine_size, routine_blocks, all_blocks, entry_from}
 use Rattle.hyper_build.specs.Routines.{built}
 use Rattle.hyper_build.specs.SmallIfs.{IsShortLeg, if_block}
-use Rattle.hyper_build.specs.Smallness.{TestsJump, IsGroupBlock, IsLittle, CutsAll}
+use Rattle.hyper_build.specs.Smallness.{TestsJump, IsLittle}
 use Rattle.hyper_build.proofs.ItemLegs.{and_parts}
 
 abbrev AllLittle : List Block → Type 0
@@ -397,14 +399,18 @@ mutual
       )
   little_in p (LoopAt true body post) l k t g s =
       let next = l + 1 + turn_size body in
-      let q = in_loop p (next + 1 + size post) next in
-      let x = little_turn q body (l + 1) (jump next) t.1 g (little_jump next) in
+      let bare = is_bare true body post in
+      let exit_ = post_exit bare l in
+      let again = label_or next exit_ in
+      let q = in_loop p (next + post_size bare (size post)) again in
+      let x = little_turn q body (l + 1) (jump again) t.1 g (little_jump again) in
       let y = little_tree q post (next + 1) (jump l) t.2 g (little_jump l) in (
         little_jump l,
         (
           x.0,
-          little_append (turn_blocks q body (l + 1) (jump next)) _ x.1
-              (y.0, little_append (blocks q post (next + 1) (jump l)) (k ∷ []) y.1 (s, tt)),
+          little_append (turn_blocks q body (l + 1) (jump again)) _ x.1
+              (little_append (leg_blocks exit_ (entry q post (next + 1) (jump l))
+              (blocks q post (next + 1) (jump l))) (k ∷ []) (leg_little exit_ _ _ y.0 y.1) (s, tt)),
         ),
       )
   little_in p (BreakAt c) l k t g s = (little_jump p.broke, cuts_little c k s)

@@ -8,7 +8,7 @@ use Rattle.ir_forms.specs.FlatCode.{Return, Code, Nop, ◌▹◌}
 use Rattle.ir_forms.specs.FlatFits.{steps_in, steps_of, is_empty}
 use Rattle.reg_assign.specs.Keeps.{calls_in, calls}
 use Rattle.hyper_build.specs.Tree.{Plan, goes_on, annotated_in, annotated}
-use Rattle.hyper_build.specs.Straight.{is_break, is_end, is_test, is_loop_test}
+use Rattle.hyper_build.specs.Legs.{is_break, is_end, is_test, is_loop_test}
 use Rattle.hyper_build.specs.BackwardCode.{is_break_code, is_test_step}
 
 -- WHAT STANDS BEHIND A PLACE

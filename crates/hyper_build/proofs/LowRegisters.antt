@@ -11,9 +11,10 @@ use Rattle.hyper_build.specs.Tree.{Stmt, LetAt, FrameAt, LoadAt, SaveAt, CallAt,
 use Rattle.hyper_build.specs.Tree.{LoopAt, BreakAt, ContinueAt, ReturnAt, Tree, End, ◌▸◌, Routine}
 use Rattle.hyper_build.specs.Parts.{cut, cut_size, chain, Move, moved}
 use Rattle.hyper_build.specs.Passing.{saving, argument_moves, argument_cuts}
-use Rattle.hyper_build.specs.Straight.{Place, straight, items_in, items_of, is_item, arguments_size, size_in}
+use Rattle.hyper_build.specs.Straight.{Place, straight, items_in, items_of, is_item}
+use Rattle.hyper_build.specs.Sizes.{arguments_size, size_in}
+use Rattle.hyper_build.specs.Entries.{call_block, give, body_end, choose, entry_in, entry}
 use Rattle.hyper_build.specs.Merging.{SetsLow}
-use Rattle.hyper_build.specs.Build.{call_block, give, body_end, choose, entry_in, entry}
 use Rattle.hyper_build.specs.World.{World}
 use Rattle.hyper_build.specs.Fits.{FitsStmt, FitsTree}
 use Rattle.hyper_build.proofs.Registers.{register_low}

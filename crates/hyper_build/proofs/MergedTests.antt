@@ -1,5 +1,5 @@
 -- A loop's test and its leg do, as one block, what they mean.
-use Rattle.std.proofs.Common.{◌≡◌, ℕ, zero, suc, ◌+◌, ◌≤◌, Bool, true, false, ◌&&◌, ◌++◌, arith}
+use Rattle.std.proofs.Common.{◌≡◌, ℕ, zero, suc, ◌+◌, Bool, true, false, ◌++◌, arith}
 use Rattle.ir_forms.specs.declared.flat.Arg.{Arg}
 use Rattle.ir_forms.specs.FlatSteps.{State, Res, Calls, read, exec, act}
 use Rattle.ir_forms.specs.HyperCode.{Block}
@@ -7,9 +7,12 @@ use Rattle.ir_forms.specs.HyperRuns.{Machine, jump}
 use Rattle.hyper_build.specs.Tree.{Stmt, LetAt, FrameAt, LoadAt, SaveAt, CallAt, PutAt, GetAt, IfAt, LoopAt}
 use Rattle.hyper_build.specs.Tree.{BreakAt, ContinueAt, ReturnAt, Tree, End, ◌▸◌, Routine, plain, plain_in}
 use Rattle.hyper_build.specs.Parts.{source, cut, cut_blocks}
-use Rattle.hyper_build.specs.Straight.{Place, is_break, is_test, size}
+use Rattle.hyper_build.specs.Straight.{Place}
+use Rattle.hyper_build.specs.Legs.{is_break, is_test}
+use Rattle.hyper_build.specs.Sizes.{size}
+use Rattle.hyper_build.specs.Entries.{entry, test_entry}
+use Rattle.hyper_build.specs.Build.{blocks, test_blocks}
 use Rattle.hyper_build.specs.Merging.{merged, test_register, SetsLow}
-use Rattle.hyper_build.specs.Build.{entry, blocks, test_entry, test_blocks}
 use Rattle.hyper_build.specs.World.{World, Has, Rel, IsFrame, checks_of, env_in}
 use Rattle.hyper_build.specs.Follow.{Follows, Does, ways_of}
 use Rattle.hyper_build.specs.Fits.{IsBuilt, FitsStmt, FitsTree, IsPlace}

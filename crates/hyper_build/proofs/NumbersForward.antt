@@ -1,6 +1,6 @@
 -- Numbers forward are what annotated code says: labels by its size, and a note for each loop.
-use Rattle.std.proofs.Common.{◌≡◌, ◌⊎◌, inl, inr, ℕ, zero, suc, ◌+◌, Bool, List, [], ◌∷◌, ◌++◌, Option}
-use Rattle.std.proofs.Common.{true, false, cond, ◌&&◌, refl, sym, ap, ap₂, ◌∙◌, subst, arith, append_assoc, append-nil}
+use Rattle.std.proofs.Common.{◌≡◌, ◌⊎◌, inl, inr, ℕ, zero, suc, ◌+◌, Bool, List, [], ◌∷◌, ◌++◌}
+use Rattle.std.proofs.Common.{true, false, cond, ◌&&◌, refl, sym, ap, ◌∙◌, arith, append_assoc, append-nil}
 use Rattle.ir_forms.specs.declared.flat.Arg.{Arg}
 use Rattle.ir_forms.specs.FlatCode.{Step, Let, Frame, Load, Save, Call, Put, Get, If, Loop, Break, Continue}
 use Rattle.ir_forms.specs.FlatCode.{Return, Code, Nop, ◌▹◌, Function}
@@ -10,16 +10,19 @@ use Rattle.hyper_build.specs.declared.emitting.Note.{Note}
 use Rattle.hyper_build.specs.declared.numbering.Numbering.{Numbering}
 use Rattle.hyper_build.specs.Tree.{Plan, goes_on, annotated_in, annotated, Routine, annotated_all}
 use Rattle.hyper_build.specs.Parts.{cut_size}
-use Rattle.hyper_build.specs.Straight.{leg_size, size_in, size, test_size, turn_size, part_size}
+use Rattle.hyper_build.specs.Legs.{leg_size, label_or, post_exit, post_size}
+use Rattle.hyper_build.specs.Sizes.{size_in, size, test_size, turn_size, part_size}
 use Rattle.hyper_build.specs.Routines.{body_label, routine_size, entry_from}
 use Rattle.hyper_build.specs.Ground.{Ground, plan, entry_at}
-use Rattle.hyper_build.specs.BackwardItems.{is_if_item}
-use Rattle.hyper_build.specs.Forward.{with_blocks, with_statement, with_note, number_items, led_by, led, number_in}
+use Rattle.hyper_build.specs.BackwardItems.{is_straight, is_if_item}
+use Rattle.hyper_build.specs.Forward.{with_blocks, with_statement, with_statements, with_note, number_items}
+use Rattle.hyper_build.specs.Forward.{led_by, led, number_in}
 use Rattle.hyper_build.specs.Forward.{number, number_test, number_turn, way_in_size}
-use Rattle.hyper_build.specs.Forward.{number_function, number_all, entries_from, numbers_start}
-use Rattle.hyper_build.specs.BackwardCode.{is_break_code, is_test_step}
+use Rattle.hyper_build.specs.Forward.{number_function, number_all, entries_from}
+use Rattle.hyper_build.specs.BackwardCode.{is_bare_code, is_break_code, is_test_step}
 use Rattle.hyper_build.specs.Notes.{note_of, notes_in, notes_of, test_notes, turn_notes}
-use Rattle.hyper_build.proofs.ItemLegs.{and_parts, item_is, if_size, item_calls, item_notes}
+use Rattle.hyper_build.proofs.ItemLegs.{and_parts, item_is, if_size, no_calls, no_notes, item_calls, item_notes}
+use Rattle.hyper_build.proofs.LoopPosts.{bare_is, bare_straight}
 use Rattle.hyper_build.proofs.LoopTests.{break_steps, break_calls, loop_test_is}
 use Rattle.hyper_build.proofs.ReachingLegs.{NoExit, HasExit, kind}
 
@@ -190,18 +193,38 @@ IsTurnNumbered g l i k c = (N : List Note) → number_turn (plan g) c (numbers_a
     ≡ numbers_at (l + turn_size (annotated (plan g) i k c)) (i + steps_of c) (k + calls c)
     (N ++ turn_notes (plan g) l i k c)
 
-loop_numbers : (g : Ground) (l i k : ℕ) (on : Bool) (body post : Code) (N : List Note)
+-- what stands behind a loop, by whether its last part has no block of its own
+abbrev loop_numbered : Bool → Plan → Code → Code → Numbering → Numbering
+loop_numbered z p body post s =
+    let next = number_turn p body (with_statement (with_blocks 1 s)) in
+    cond z
+    (with_note (note_of s.label s.place s.label) (with_blocks 1 (with_statements (steps_of post) next)))
+    (with_note (note_of s.label s.place next.label) (with_blocks 1 (number p post (with_blocks 1 next))))
+
+loop_by : (z : Bool) (g : Ground) (l i k : ℕ) (body post : Code) (N : List Note)
+    → (z ≡ true → is_straight post ≡ true)
     → IsTurnNumbered g (l + 1) (i + 1) k body
     → IsNumbered g (l + 1 + turn_size (annotated (plan g) (i + 1) k body) + 1) (i + 1 + steps_of body)
     (k + calls body) post
-    → number_in (plan g) on (Loop body post) (numbers_at l i k N)
+    → loop_numbered z (plan g) body post (numbers_at l i k N)
     ≡ numbers_at (l + (1 + (turn_size (annotated (plan g) (i + 1) k body)
-    + (1 + (size (annotated (plan g) (i + 1 + steps_of body) (k + calls body) post) + 1)))))
+    + (post_size z (size (annotated (plan g) (i + 1 + steps_of body) (k + calls body) post)) + 1))))
     (i + (1 + (steps_of body + steps_of post))) (k + (calls body + calls post))
-    (N ++ notes_in (plan g) l i k (Loop body post))
-loop_numbers g l i k on body post N f1 f2 =
+    (N ++ (turn_notes (plan g) (l + 1) (i + 1) k body
+    ++ (notes_of (plan g) (l + 1 + turn_size (annotated (plan g) (i + 1) k body) + 1) (i + 1 + steps_of body)
+    (k + calls body) post
+    ++ note_of l i (label_or (l + 1 + turn_size (annotated (plan g) (i + 1) k body)) (post_exit z l)) ∷ [])))
+loop_by true g l i k body post N es f1 f2 =
     let C = annotated (plan g) (i + 1) k body in
-    let D = annotated (plan g) (i + 1 + steps_of body) (k + calls body) post in
+    let n1 = turn_notes (plan g) (l + 1) (i + 1) k body in
+    let x = note_of l i l in
+    let none = no_notes (plan g) (l + 1 + turn_size C + 1) (i + 1 + steps_of body) (k + calls body) post (es refl) in
+    let few = no_calls post (es refl) in
+    ap (λ (s : Numbering). with_note x (with_blocks 1 (with_statements (steps_of post) s))) (f1 N)
+    ∙ same (omega arith) (omega arith) (omega (arith, few))
+    (append_assoc N n1 (x ∷ []) ∙ ap (λ y. N ++ (n1 ++ (y ++ x ∷ []))) (sym none))
+loop_by false g l i k body post N es f1 f2 =
+    let C = annotated (plan g) (i + 1) k body in
     let next = l + 1 + turn_size C in
     let n1 = turn_notes (plan g) (l + 1) (i + 1) k body in
     let n2 = notes_of (plan g) (next + 1) (i + 1 + steps_of body) (k + calls body) post in
@@ -213,6 +236,22 @@ loop_numbers g l i k on body post N f1 f2 =
     ∙ ap (λ s. with_note x (with_blocks 1 s)) e2
     ∙ same (omega arith) (omega arith) (omega arith)
     (append_assoc (N ++ n1) n2 (x ∷ []) ∙ append_assoc N n1 (n2 ++ x ∷ []))
+
+loop_numbers : (g : Ground) (l i k : ℕ) (on : Bool) (body post : Code) (N : List Note)
+    → IsTurnNumbered g (l + 1) (i + 1) k body
+    → IsNumbered g (l + 1 + turn_size (annotated (plan g) (i + 1) k body) + 1) (i + 1 + steps_of body)
+    (k + calls body) post
+    → number_in (plan g) on (Loop body post) (numbers_at l i k N)
+    ≡ numbers_at (l + size_in (annotated_in (plan g) i k on (Loop body post)))
+    (i + (1 + (steps_of body + steps_of post))) (k + (calls body + calls post))
+    (N ++ notes_in (plan g) l i k (Loop body post))
+loop_numbers g l i k on body post N f1 f2 =
+    let C = annotated (plan g) (i + 1) k body in
+    let D = annotated (plan g) (i + 1 + steps_of body) (k + calls body) post in
+    let c = (plan g).cut i in
+    let e = bare_is (plan g) (i + 1) k (i + 1 + steps_of body) (k + calls body) c body post in
+    loop_by (is_bare_code c body post) g l i k body post N (bare_straight c body post) f1 f2
+    ∙ same (ap (λ y. l + (1 + (turn_size C + (post_size y (size D) + 1)))) (sym e)) refl refl refl
 
 mutual
   pub step_numbers : (g : Ground) (l i k : ℕ) (on : Bool) (x : Step) (N : List Note)

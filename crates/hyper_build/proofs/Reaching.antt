@@ -1,6 +1,6 @@
 -- Where stretches of emission lead: steps, chains, moves and calls.
 use Rattle.std.proofs.Common.{◌≡◌, ℕ, suc, ◌+◌, ◌-◌, Bool, true, false, List, [], ◌∷◌, ◌++◌, length}
-use Rattle.std.proofs.Common.{map, Option, Some, None, refl, sym, ap, ap₂, ◌∙◌, subst, arith, append_assoc}
+use Rattle.std.proofs.Common.{map, Option, refl, sym, ap, ap₂, ◌∙◌, subst, arith, append_assoc}
 use Rattle.trips_isa.specs.declared.op.Op.TheVariants.{Mov}
 use Rattle.ir_forms.specs.declared.flat.Arg.{Arg}
 use Rattle.ir_forms.specs.declared.hyper.Source.TheVariants.{Const}
@@ -11,8 +11,8 @@ use Rattle.hyper_build.specs.Tree.{Plan}
 use Rattle.hyper_build.specs.Parts.{set_then, cut, cut_blocks, cut_size, chain, chain_blocks, Move}
 use Rattle.hyper_build.specs.Parts.{moved, moved_blocks, moved_size}
 use Rattle.hyper_build.specs.Passing.{saving, restoring, argument_moves, argument_cuts, result_then}
-use Rattle.hyper_build.specs.Straight.{arguments_size}
-use Rattle.hyper_build.specs.Build.{call_block}
+use Rattle.hyper_build.specs.Sizes.{arguments_size}
+use Rattle.hyper_build.specs.Entries.{call_block}
 use Rattle.hyper_build.specs.Backward.{Emission, with_rest, put_out, cut_at, fall, fall_by, fall_call, before}
 use Rattle.hyper_build.specs.Backward.{before_by}
 use Rattle.hyper_build.specs.BackwardStatements.{chained, moving, back_out, call_out}

@@ -1,13 +1,15 @@
 -- Emission puts out the blocks of annotated code: legs of ifs.
-use Rattle.std.proofs.Common.{◌≡◌, ◌⊎◌, inl, inr, ℕ, ◌+◌, ◌-◌, List, [], ◌∷◌, ◌++◌, Option, Some, None}
+use Rattle.std.proofs.Common.{◌≡◌, ◌⊎◌, inl, inr, ℕ, ◌+◌, List, [], ◌∷◌, ◌++◌, Option, Some, None}
 use Rattle.std.proofs.Common.{refl, sym, ap, ap₂, ◌∙◌, subst, arith}
 use Rattle.ir_forms.specs.FlatCode.{Let, Frame, Load, Save, Call, Put, Get, If, Loop, Break, Continue}
 use Rattle.ir_forms.specs.FlatCode.{Return, Code, Nop, ◌▹◌}
 use Rattle.ir_forms.specs.HyperCode.{Block}
 use Rattle.hyper_build.specs.declared.emitting.Note.{Note}
 use Rattle.hyper_build.specs.Tree.{annotated}
-use Rattle.hyper_build.specs.Straight.{exit_leg, label_or, leg_blocks, leg_size, size}
-use Rattle.hyper_build.specs.Build.{entry, blocks}
+use Rattle.hyper_build.specs.Legs.{exit_leg, label_or, leg_blocks, leg_size}
+use Rattle.hyper_build.specs.Sizes.{size}
+use Rattle.hyper_build.specs.Entries.{entry}
+use Rattle.hyper_build.specs.Build.{blocks}
 use Rattle.hyper_build.specs.Ground.{Ground, plan, place}
 use Rattle.hyper_build.specs.Backward.{Emission}
 use Rattle.hyper_build.specs.BackwardCode.{exit_of, leg_out, emit}

@@ -1,5 +1,5 @@
 -- What emission puts out before the test of a loop.
-use Rattle.std.proofs.Common.{◌≡◌, ℕ, ◌+◌, ◌-◌, Bool, true, false, cond, ◌&&◌, List, [], ◌∷◌, ◌++◌, refl, sym, ap}
+use Rattle.std.proofs.Common.{◌≡◌, ℕ, ◌+◌, ◌-◌, Bool, true, false, cond, List, ◌++◌, refl, sym, ap}
 use Rattle.std.proofs.Common.{◌∙◌, subst, arith}
 use Rattle.ir_forms.specs.declared.flat.Arg.{Arg}
 use Rattle.ir_forms.specs.FlatCode.{Step, Let, Frame, Load, Save, Call, Put, Get, If, Loop, Break, Continue}
@@ -11,9 +11,10 @@ use Rattle.reg_assign.specs.Keeps.{calls_in, calls}
 use Rattle.hyper_build.specs.declared.emitting.Note.{Note}
 use Rattle.hyper_build.specs.Tree.{annotated_in, annotated}
 use Rattle.hyper_build.specs.Parts.{source, cut, cut_blocks}
-use Rattle.hyper_build.specs.Straight.{size, test_size}
+use Rattle.hyper_build.specs.Sizes.{size, test_size}
+use Rattle.hyper_build.specs.Entries.{choose, entry, test_entry}
+use Rattle.hyper_build.specs.Build.{blocks, test_blocks}
 use Rattle.hyper_build.specs.Merging.{merged, test_register}
-use Rattle.hyper_build.specs.Build.{choose, entry, blocks, test_entry, test_blocks}
 use Rattle.hyper_build.specs.Ground.{Ground, plan, place}
 use Rattle.hyper_build.specs.Backward.{Emission, cut_at, fall}
 use Rattle.hyper_build.specs.BackwardStatements.{leaving}

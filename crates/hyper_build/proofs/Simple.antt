@@ -19,7 +19,7 @@ use Rattle.ir_forms.specs.FlatFits.{is_lasting, is_variable, FitsArg}
 use Rattle.ir_forms.specs.FlatSteps.{State, Res, Calls, read, if_set, turn, settle, with_var, with_memory}
 use Rattle.ir_forms.specs.FlatSteps.{with_output, with_next}
 use Rattle.ir_forms.specs.HyperCode.{Block, Done, Set, Leave}
-use Rattle.ir_forms.specs.HyperRuns.{Machine, with_register, value_of, loaded, saved, run, jump, block_or}
+use Rattle.ir_forms.specs.HyperRuns.{Machine, with_register, value_of, loaded, saved, run, block_or}
 use Rattle.ir_forms.specs.HyperRuns as machine
 use Rattle.hyper_build.specs.Tree.{Routine, LetAt, FrameAt, LoadAt, SaveAt, PutAt, GetAt, BreakAt, ContinueAt, ReturnAt}
 use Rattle.hyper_build.specs.Parts.{source, capped, set_then, save_then, cut, cut_blocks, cut_size}

@@ -1,37 +1,38 @@
 -- Every block of annotated code that fits has items that fit, and leads to a block of the program.
-use Rattle.std.proofs.Common.{◌≡◌, ℕ, zero, suc, ◌+◌, ◌-◌, ◌^◌, ◌<◌, ◌≤◌, Bool, true, false, cond, not}
-use Rattle.std.proofs.Common.{◌||◌, ◌&&◌, List, [], ◌∷◌, ◌++◌, map, length, Option, Some, None, refl, sym}
-use Rattle.std.proofs.Common.{subst, arith, inl, inr, min, nat_eq, slice_get, eq-eqb}
+use Rattle.std.proofs.Common.{◌≡◌, ℕ, suc, ◌+◌, ◌^◌, ◌<◌, ◌≤◌, Bool, true, false, cond, not}
+use Rattle.std.proofs.Common.{◌||◌, List, [], ◌∷◌, ◌++◌, map, length, Option, Some, None, refl, sym}
+use Rattle.std.proofs.Common.{subst, arith, inl, inr, nat_eq, slice_get, eq-eqb}
 use Rattle.std.specs.List.{concat}
 use Rattle.reg_assign.specs.Keeps.{is_among}
 use Rattle.std.proofs.lemmas.Bool.{cases_lt}
-use Rattle.trips_isa.specs.declared.op.Op.{Op}
 use Rattle.ir_forms.specs.declared.flat.Arg.{Arg}
 use Rattle.ir_forms.specs.declared.flat.Arg.TheVariants as arg
 use Rattle.ir_forms.specs.declared.hyper.Exit.{Exit}
 use Rattle.ir_forms.specs.declared.hyper.Exit.TheVariants as exit
-use Rattle.ir_forms.specs.Frames.{register_of, frame_limit, argument_register}
-use Rattle.ir_forms.specs.FlatFits.{FitsArg, FitsVar, FitsLastings, FitsResult, FitsReturn, is_lasting}
-use Rattle.ir_forms.specs.HyperCode.{Items, Done, Set, Load, Save, If, Tail, Leave, Test, Block}
+use Rattle.ir_forms.specs.Frames.{register_of, frame_limit}
+use Rattle.ir_forms.specs.FlatFits.{FitsArg, FitsLastings, FitsResult, FitsReturn}
+use Rattle.ir_forms.specs.HyperCode.{Items, Done, Tail, Leave, Test, Block}
 use Rattle.ir_forms.specs.HyperFits.{FitsSource, FitsItems}
 use Rattle.ir_forms.specs.HyperRuns.{jump}
 use Rattle.hyper_build.specs.Tree.{Stmt, LetAt, FrameAt, LoadAt, SaveAt, CallAt, PutAt, GetAt, IfAt}
 use Rattle.hyper_build.specs.Tree.{LoopAt, BreakAt, ContinueAt, ReturnAt, Tree, End, ◌▸◌, Routine}
 use Rattle.hyper_build.specs.Tree.{is_saved}
-use Rattle.hyper_build.specs.Parts.{source, capped, set_then, cut, cut_blocks, cut_size, chain, chain_blocks}
+use Rattle.hyper_build.specs.Parts.{source, capped, cut, cut_blocks, cut_size, chain, chain_blocks}
 use Rattle.hyper_build.specs.Parts.{Move, moved, moved_blocks, moved_size}
-use Rattle.hyper_build.specs.Passing.{below_end, saving, restoring, argument_moves, argument_cuts}
+use Rattle.hyper_build.specs.Passing.{saving, restoring, argument_moves, argument_cuts}
 use Rattle.hyper_build.specs.Passing.{result_then}
-use Rattle.hyper_build.specs.Straight.{Place, in_loop, straight_in, straight, items_in, items_of, is_item}
-use Rattle.hyper_build.specs.Straight.{exit_leg, label_or, leg_blocks, leg_size, is_loop_test, arguments_size}
-use Rattle.hyper_build.specs.Straight.{size_in, size, test_size, turn_size, part_size}
-use Rattle.hyper_build.specs.Build.{call_block, call_entry, back_block, give, body_end, choose, entry_in}
-use Rattle.hyper_build.specs.Build.{entry, test_entry, turn_entry, blocks_in, blocks, test_blocks, turn_blocks}
+use Rattle.hyper_build.specs.Straight.{Place, in_loop, straight, items_in, items_of, is_item}
+use Rattle.hyper_build.specs.Legs.{exit_leg, label_or, leg_blocks, leg_size, is_loop_test, is_bare, post_exit, post_size}
+use Rattle.hyper_build.specs.Sizes.{arguments_size, size_in, size, test_size, turn_size, part_size}
+use Rattle.hyper_build.specs.Entries.{call_block, give, body_end, choose, entry_in}
+use Rattle.hyper_build.specs.Entries.{entry, test_entry, turn_entry}
+use Rattle.hyper_build.specs.Build.{blocks_in, blocks, test_blocks, turn_blocks}
 use Rattle.hyper_build.specs.World.{World}
 use Rattle.hyper_build.specs.Fits.{FitsCallAt, FitsStmt, FitsTree}
 use Rattle.hyper_build.proofs.Registers.{lasting_below, register_lasting, register_scratch, or_left}
 use Rattle.hyper_build.proofs.Registers.{or_right, among_left, among_right}
 use Rattle.hyper_build.proofs.Simple.{variable_small}
+use Rattle.hyper_build.proofs.LoopPosts.{post_label, post_room}
 
 -- SOUND BLOCKS
 
@@ -469,30 +470,37 @@ module _ (W : World) (g : Routine) (scalars : g.scalars ≤ 64) (N : ℕ)
         )
     sound_in inside p (LoopAt c body post) l k t q le s =
         let next = l + 1 + turn_size body in
-        let broke = next + 1 + size post in
-        let r = in_loop p broke next in
-        let after = body_end r c post next l in
-        let qb : GoodPlace N true (in_loop p broke next) = record {
+        let bare = is_bare c body post in
+        let broke = next + post_size bare (size post) in
+        let again = label_or next (post_exit bare l) in
+        let r = in_loop p broke again in
+        let after = body_end r c post again l in
+        let low : again < N = post_label N next l bare (omega (arith, le)) (omega (arith, le)) in
+        let qb : GoodPlace N true (in_loop p broke again) = record {
           gave = q.gave;
           entries = q.entries;
           broke = λ e. omega (arith, le);
-          again = λ e. omega (arith, le);
+          again = λ e. low;
         } in
-        let qp : GoodPlace N false (in_loop p broke next) = record {
+        let qp : GoodPlace N false (in_loop p broke again) = record {
           gave = q.gave;
           entries = q.entries;
           broke = λ e. omega (arith, le);
-          again = λ e. omega (arith, le);
+          again = λ e. low;
         } in
-        let ends = end_sound r c post next l t.1 (omega (arith, le)) (omega (arith, le)) in
+        let ends = end_sound r c post again l t.1 low (omega (arith, le)) in
         let x = sound_turn r body (l + 1) after t.0 qb (omega (arith, le)) ends in
-        let y = sound_tree false r post (next + 1) (jump l) t.1 qp (omega (arith, le))
-        (jump_sound N l (omega (arith, le))) in (
+        let y : post_exit bare l ≡ None → Sound N (entry r post (next + 1) (jump l))
+        × AllSound N (blocks r post (next + 1) (jump l)) =
+        λ none. sound_tree false r post (next + 1) (jump l) t.1 qp
+        (post_room N next (size post) l bare none (omega (arith, le))) (jump_sound N l (omega (arith, le))) in (
           jump_sound N l (omega (arith, le)),
           (
             x.0,
             sound_append N (turn_blocks r body (l + 1) after) _ x.1
-                (y.0, sound_append N (blocks r post (next + 1) (jump l)) (k ∷ []) y.1 (s, tt)),
+                (sound_append N (leg_blocks (post_exit bare l) (entry r post (next + 1) (jump l))
+                (blocks r post (next + 1) (jump l))) (k ∷ [])
+                (leg_sound (post_exit bare l) _ _ y) (s, tt)),
           ),
         )
     sound_in inside p (BreakAt c) l k t q le s = (jump_sound N p.broke (q.broke t), cuts_sound N c k s)

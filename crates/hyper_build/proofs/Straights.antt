@@ -1,5 +1,5 @@
 -- Straight code as items: what it does, one item after the other, and if-items.
-use Rattle.std.proofs.Common.{◌≡◌, ℕ, zero, suc, ◌+◌, ◌-◌, ◌*◌, ◌%◌, ◌^◌, ◌<◌, ◌≤◌, Bool, true, false, cond}
+use Rattle.std.proofs.Common.{◌≡◌, ℕ, zero, suc, ◌+◌, ◌-◌, ◌%◌, ◌^◌, ◌<◌, ◌≤◌, Bool, true, false, cond}
 use Rattle.std.proofs.Common.{not, ◌&&◌, ◌||◌, List, [], ◌∷◌, ◌++◌, Option, Some, None, refl, sym, ap, ◌∙◌}
 use Rattle.std.proofs.Common.{subst, arith, min}
 use Rattle.trips_isa.specs.declared.op.Op.{Op}
@@ -10,11 +10,11 @@ use Rattle.trips_isa.specs.Stores.{is_good_address}
 use Rattle.ir_forms.specs.declared.flat.Arg.{Arg}
 use Rattle.ir_forms.specs.declared.hyper.Source.{Source}
 use Rattle.ir_forms.specs.declared.hyper.Source.TheVariants.{Const, Reg}
-use Rattle.trips_isa.specs.Acts.{Act, Accessed, divisions, is_clean, is_fault}
+use Rattle.trips_isa.specs.Acts.{Act, Accessed, divisions, is_clean}
 use Rattle.ir_forms.specs.Frames.{register_of, frame_limit}
 use Rattle.ir_forms.specs.Cells.{apply, load, save}
 use Rattle.ir_forms.specs.FlatSteps.{State, Res, Gone, Broke, Again, Gave, TooDeep, Unfinished, Wild}
-use Rattle.ir_forms.specs.FlatSteps.{Calls, read, turn, must, settle, unfinished, with_var, with_memory}
+use Rattle.ir_forms.specs.FlatSteps.{Calls, read, turn, must, settle, with_var, with_memory}
 use Rattle.ir_forms.specs.FlatSteps.{chosen, then_run, act, exec}
 use Rattle.ir_forms.specs.declared.hyper.Exit.TheVariants as exit
 use Rattle.ir_forms.specs.HyperCode.{Items, Done, Set, Load, Save, If, Leave, Test, Block}
@@ -26,15 +26,17 @@ use Rattle.hyper_build.specs.Tree.{LoopAt, BreakAt, ContinueAt, ReturnAt, Tree, 
 use Rattle.hyper_build.specs.Tree.{plain_in, plain}
 use Rattle.hyper_build.specs.Parts.{source, capped, cut, cut_blocks, cut_size}
 use Rattle.hyper_build.specs.Straight.{Place, straight_in, straight, items_in, items_of, is_small_if, is_item}
-use Rattle.hyper_build.specs.Straight.{exit_leg, label_or, leg_blocks, leg_size, size}
-use Rattle.hyper_build.specs.Build.{choose, entry, blocks}
-use Rattle.hyper_build.specs.World.{World, Has, Goes, Rel, Kept, IsFrame, frame, slots, checks_of, env_in}
-use Rattle.hyper_build.specs.Follow.{Way, Next, Came, Follows, ways_of}
+use Rattle.hyper_build.specs.Legs.{exit_leg, label_or, leg_blocks, leg_size}
+use Rattle.hyper_build.specs.Sizes.{size}
+use Rattle.hyper_build.specs.Entries.{choose, entry}
+use Rattle.hyper_build.specs.Build.{blocks}
+use Rattle.hyper_build.specs.World.{World, Has, Goes, Rel, Kept, IsFrame, slots, checks_of, env_in}
+use Rattle.hyper_build.specs.Follow.{Way, Next, Follows, ways_of}
 use Rattle.hyper_build.specs.Fits.{IsBuilt, FitsStmt, FitsTree, IsPlace}
-use Rattle.hyper_build.specs.Premises.{StmtDoes, TreeDoes, AluGivesWords}
+use Rattle.hyper_build.specs.Premises.{StmtDoes, AluGivesWords}
 use Rattle.hyper_build.proofs.ItemLegs.{and_parts}
 use Rattle.hyper_build.proofs.Goes.{clean_append, goes_same, goes_then, goes_cut}
-use Rattle.hyper_build.proofs.Following.{kept_here, kept_then, settled, stands_here, must_follow}
+use Rattle.hyper_build.proofs.Following.{kept_here, kept_then, must_follow}
 use Rattle.hyper_build.proofs.Memories.{load_is, save_is}
 use Rattle.hyper_build.proofs.Moving.{cut_most}
 use Rattle.hyper_build.proofs.Relates.{kept_same}

@@ -1,19 +1,20 @@
 -- A loop does what it means where its body and the part behind it do.
-use Rattle.std.proofs.Common.{◌≡◌, ℕ, zero, suc, ◌+◌, ◌*◌, ◌≤◌, Bool, true, false, cond, not, ◌||◌}
-use Rattle.std.proofs.Common.{List, [], ◌∷◌, ◌++◌, Some, refl, sym, subst, arith, slice_get}
-use Rattle.std.proofs.Common.{length-append}
-use Rattle.ir_forms.specs.declared.hyper.Exit.TheVariants as exit
+use Rattle.std.proofs.Common.{◌≡◌, ◌⊎◌, inl, inr, ℕ, zero, suc, ◌+◌, Bool, true, false, cond, not, ◌||◌}
+use Rattle.std.proofs.Common.{true≢false, [], ◌∷◌, ◌++◌, Some, refl, sym, ap, ◌∙◌, subst, arith, slice_get}
 use Rattle.ir_forms.specs.FlatSteps.{State, Res, Gone, Broke, Again, Gave, TooDeep, Unfinished, Wild}
-use Rattle.ir_forms.specs.FlatSteps.{Calls, unfinished, settle, counted, after_post, after_body}
-use Rattle.ir_forms.specs.FlatSteps.{loop_turns, turn, exec}
-use Rattle.ir_forms.specs.HyperCode.{Leave, Block}
+use Rattle.ir_forms.specs.FlatSteps.{Calls, counted, after_post, after_body}
+use Rattle.ir_forms.specs.FlatSteps.{loop_turns, exec}
+use Rattle.ir_forms.specs.HyperCode.{Block}
 use Rattle.ir_forms.specs.HyperRuns.{Machine, jump}
-use Rattle.hyper_build.specs.Tree.{Tree, LoopAt, Routine, plain}
-use Rattle.hyper_build.specs.Straight.{Place, in_loop, straight, items_of, size, turn_size}
+use Rattle.hyper_build.specs.Tree.{Tree, End, LoopAt, Routine, plain}
+use Rattle.hyper_build.specs.Straight.{Place, in_loop, straight, items_of}
+use Rattle.hyper_build.specs.Legs.{label_or, leg_blocks, continues, is_bare, post_exit, post_size}
+use Rattle.hyper_build.specs.Sizes.{size, turn_size}
+use Rattle.hyper_build.specs.Entries.{body_end, entry, turn_entry}
+use Rattle.hyper_build.specs.Build.{blocks, turn_blocks}
 use Rattle.hyper_build.specs.Merging.{SetsLow}
-use Rattle.hyper_build.specs.Build.{body_end, entry, turn_entry, blocks, turn_blocks}
 use Rattle.hyper_build.specs.World.{World, Has, Rel, IsFrame, checks_of, env_in}
-use Rattle.hyper_build.specs.Follow.{Way, Next, Breaks, Continues, Returns, Follows, ways_of}
+use Rattle.hyper_build.specs.Follow.{Way, Follows, ways_of}
 use Rattle.hyper_build.specs.Fits.{IsBuilt, FitsTree, IsPlace}
 use Rattle.hyper_build.specs.Premises.{StmtDoes, TreeDoes, TurnDoes, AluGivesWords}
 use Rattle.hyper_build.proofs.Goes.{goes_here, goes_then, goes_jump}
@@ -21,6 +22,8 @@ use Rattle.hyper_build.proofs.Following.{kept_here, follows_then, follows_more, 
 use Rattle.hyper_build.proofs.Following.{has_front, has_back}
 use Rattle.hyper_build.proofs.Relates.{rel_counted, kept_same}
 use Rattle.hyper_build.proofs.Sizes.{length_blocks, length_turn}
+use Rattle.hyper_build.proofs.LoopPosts.{length_post, bare_parts}
+use Rattle.hyper_build.proofs.Endings.{IsOther, exec_other}
 use Rattle.hyper_build.proofs.LowRegisters.{end_low}
 use Rattle.hyper_build.proofs.Straights.{tree_walks, walks_follow}
 
@@ -40,8 +43,38 @@ module _ (W : World) (built : IsBuilt W) (words : AluGivesWords) (call : Calls) 
 
   -- A LOOP'S PARTS
 
-  -- The blocks of a loop whose head has the label l: k stands at `broke`, and what is behind the body
-  -- at `again`.
+  -- The body's block goes on with what is behind the body, and no continue leads there.
+  abbrev pub IsLone : Bool → Tree → Tree → Type 0
+  IsLone c body post = (c || not (straight post) ≡ false) × (continues (plain body) ≡ false)
+
+  -- What is behind the body stands at `again`; or it does nothing and `again` is the head; or nothing leads there.
+  abbrev pub IsPart : Place → Bool → Tree → Tree → ℕ → ℕ → ℕ → Type 0
+  IsPart p c body post l broke again =
+      ((slice_get W.program again ≡ Some (entry (in_loop p broke again) post (again + 1) (jump l)))
+      × Has W.program (again + 1) (blocks (in_loop p broke again) post (again + 1) (jump l)))
+      ⊎ (((post ≡ End) × (again ≡ l)) ⊎ IsLone c body post)
+
+  part_lacks : (p : Place) (c : Bool) (body post : Tree) (l broke : ℕ)
+      → (post ≡ End) ⊎ ((c || not (straight post) ≡ false) × (continues (plain body) ≡ false))
+      → IsPart p c body post l broke l
+  part_lacks p c body post l broke (inl e) = inr (inl (e, refl))
+  part_lacks p c body post l broke (inr e) = inr (inr e)
+
+  part_there : (bare : Bool) (p : Place) (c : Bool) (body post : Tree) (l broke next : ℕ) (k : Block)
+      → is_bare c body post ≡ bare
+      → Has W.program next (leg_blocks (post_exit bare l)
+      (entry (in_loop p broke (label_or next (post_exit bare l))) post (next + 1) (jump l))
+      (blocks (in_loop p broke (label_or next (post_exit bare l))) post (next + 1) (jump l)) ++ k ∷ [])
+      → IsPart p c body post l broke (label_or next (post_exit bare l))
+  part_there true p c body post l broke next k e has = part_lacks p c body post l broke (bare_parts c body post e)
+  part_there false p c body post l broke next k e has =
+      inl (
+        has.0,
+        has_front W.program (next + 1) (blocks (in_loop p broke next) post (next + 1) (jump l)) (k ∷ [])
+            has.1,
+      )
+
+  -- The blocks of a loop whose head has the label l: k stands at `broke`.
   pub record IsLoop (p : Place) (c : Bool) (body post : Tree) (l broke again : ℕ) (k : Block)
       : Type 0
     where
@@ -49,10 +82,7 @@ module _ (W : World) (built : IsBuilt W) (words : AluGivesWords) (call : Calls) 
           ≡ Some (turn_entry (in_loop p broke again) body (l + 1) (body_end (in_loop p broke again) c post again l))
       pub inner : Has W.program (l + 1)
           (turn_blocks (in_loop p broke again) body (l + 1) (body_end (in_loop p broke again) c post again l))
-      pub behind : slice_get W.program again
-          ≡ Some (entry (in_loop p broke again) post (again + 1) (jump l))
-      pub posts : Has W.program (again + 1)
-          (blocks (in_loop p broke again) post (again + 1) (jump l))
+      pub part : IsPart p c body post l broke again
       pub last : slice_get W.program broke ≡ Some k
 
   module _ (inside : Bool) (p : Place) (c : Bool) (body post : Tree) (l broke again : ℕ) (k : Block)
@@ -72,15 +102,26 @@ module _ (W : World) (built : IsBuilt W) (words : AluGivesWords) (call : Calls) 
         fits_post
 
     -- the part behind the body in a block of its own
-    post_jumped : (s : State) (m : Machine) (n : ℕ) → Rel W start g s m
+    post_jumped : (IsLone c body post → ⊥) → (s : State) (m : Machine) (n : ℕ) → Rel W start g s m
         → Here (jump again) s m n 1 (ways_of (in_loop p broke again) (jump l)) (runs post s n)
-    post_jumped s m n rel =
-        follows_then W (W.base + start + 8) (Rel W start g) (jump again)
-        (entry (in_loop p broke again) post (again + 1) (jump l)) s s m m n n 1 1 0
-        (ways_of (in_loop p broke again) (jump l)) (runs post s n) (goes_jump W again _ m lp.behind)
-        (kept_here _ s m) (omega arith) (omega arith)
-        (does_post false (in_loop p broke again) fits_post q_place (again + 1) (jump l) lp.posts s m n
-        rel)
+    post_jumped wrong s m n rel = go lp.part
+      where
+        go : IsPart p c body post l broke again
+            → Here (jump again) s m n 1 (ways_of (in_loop p broke again) (jump l)) (runs post s n)
+        go (inl has) =
+            follows_then W (W.base + start + 8) (Rel W start g) (jump again)
+            (entry (in_loop p broke again) post (again + 1) (jump l)) s s m m n n 1 1 0
+            (ways_of (in_loop p broke again) (jump l)) (runs post s n) (goes_jump W again _ m has.0)
+            (kept_here _ s m) (omega arith) (omega arith)
+            (does_post false (in_loop p broke again) fits_post q_place (again + 1) (jump l) has.1 s m n rel)
+        go (inr (inr lone)) = absurd (wrong lone)
+        go (inr (inl (e, a))) =
+            let does : TreeDoes W call start g End = subst (λ (c : Tree). TreeDoes W call start g c) e does_post in
+            let f = follows_more W (W.base + start + 8) (Rel W start g) (jump l) s m n n 0 1
+            (ways_of (in_loop p broke again) (jump l)) (runs End s n) (omega arith)
+            (does false (in_loop p broke again) tt q_place l (jump l) tt s m n rel) in
+            subst (λ (x : ℕ). Here (jump x) s m n 1 (ways_of (in_loop p broke again) (jump l)) (runs post s n)) (sym a)
+            (subst (λ (c : Tree). Here (jump l) s m n 1 (ways_of (in_loop p broke again) (jump l)) (runs c s n)) (sym e) f)
 
     -- or in the same block, where it is items alone
     post_follows : (s : State) (m : Machine) (n : ℕ) → Rel W start g s m
@@ -111,7 +152,7 @@ module _ (W : World) (built : IsBuilt W) (words : AluGivesWords) (call : Calls) 
         go : (b : Bool) → c || not (straight post) ≡ b
             → Here (cond b (jump again) here) s m n 1 (ways_of (in_loop p broke again) (jump l))
             (runs post s n)
-        go true e = post_jumped s m n rel
+        go true e = post_jumped (λ z. true≢false (sym e ∙ z.0)) s m n rel
         go false e = items (is_straight c (straight post) e)
 
     -- what follows the part behind the body, where the next turns do
@@ -136,21 +177,21 @@ module _ (W : World) (built : IsBuilt W) (words : AluGivesWords) (call : Calls) 
     body_then : (b : Block) (s : State) (m : Machine) (n : ℕ) (r : Res) (next : State → ℕ → Res)
         → Here b s m n 0 (ways_of (in_loop p broke again)
         (body_end (in_loop p broke again) c post again l)) r
-        → ((s1 : State) (m1 : Machine) (n1 : ℕ) → Rel W start g s1 m1
+        → (continues (plain body) ≡ false → IsOther r) → ((s1 : State) (m1 : Machine) (n1 : ℕ) → Rel W start g s1 m1
         → Here (jump l) s1 m1 n1 0 (ways_of p k) (next s1 n1))
         → Here b s m n 1 (ways_of p k) (after_body r (runs post) next)
-    body_then b s m n (Gone s1 n1) next f h =
+    body_then b s m n (Gone s1 n1) next f other h =
         let after = body_end (in_loop p broke again) c post again l in
         follows_then W (W.base + start + 8) (Rel W start g) b after s s1 m f.after n n1 f.j 0 1
         (ways_of p k) (after_post (runs post s1 n1) next) f.goes f.kept f.few f.rounds
         (post_then after s1 f.after n1 1 (runs post s1 n1) next
         (post_follows s1 f.after n1 f.rel) h)
-    body_then b s m n (Again s1 n1) next f h =
+    body_then b s m n (Again s1 n1) next f other h =
         follows_then W (W.base + start + 8) (Rel W start g) b (jump again) s s1 m f.after n n1 f.j 0 1
         (ways_of p k) (after_post (runs post s1 n1) next) f.goes f.kept f.few f.rounds
         (post_then (jump again) s1 f.after n1 1 (runs post s1 n1) next
-        (post_jumped s1 f.after n1 f.rel) h)
-    body_then b s m n (Broke s1 n1) next f h =
+        (post_jumped (λ z. other z.1) s1 f.after n1 f.rel) h)
+    body_then b s m n (Broke s1 n1) next f other h =
         settled W (W.base + start + 8) (Rel W start g) b s m n 1 (ways_of p k) s1 n1 out
         (record {
           j = f.j + 1;
@@ -163,16 +204,16 @@ module _ (W : World) (built : IsBuilt W) (words : AluGivesWords) (call : Calls) 
           few = omega (arith, f.few);
           rounds = omega (arith, f.rounds);
         })
-    body_then b s m n (Gave w s1 n1) next f h =
+    body_then b s m n (Gave w s1 n1) next f other h =
         follows_more W (W.base + start + 8) (Rel W start g) b s m n n 0 1 (ways_of p k)
         (Gave w s1 n1) (omega arith) f
-    body_then b s m n (TooDeep out) next f h =
+    body_then b s m n (TooDeep out) next f other h =
         follows_more W (W.base + start + 8) (Rel W start g) b s m n n 0 1 (ways_of p k)
         (TooDeep out) (omega arith) f
-    body_then b s m n (Unfinished out r) next f h =
+    body_then b s m n (Unfinished out r) next f other h =
         follows_more W (W.base + start + 8) (Rel W start g) b s m n n 0 1 (ways_of p k)
         (Unfinished out r) (omega arith) f
-    body_then b s m n Wild next f h = tt
+    body_then b s m n Wild next f other h = tt
 
     -- TURNS
 
@@ -193,45 +234,33 @@ module _ (W : World) (built : IsBuilt W) (words : AluGivesWords) (call : Calls) 
         (body_then b (counted s) m n (runs body (counted s) n) (loop_turns j (runs body) (runs post))
         (does_body true (in_loop p broke again) fits_body q_place (l + 1)
         (body_end (in_loop p broke again) c post again l) after_low lp.inner (counted s) m n rel1)
+        (λ z. exec_other (checks_of W) call (env_in W start g) (plain body) z (counted s) n)
         (λ s1 m1 n1 rel2. turns_follow j s1 m1 n1 rel2)))
 
   pub loop_does : (c : Bool) (body post : Tree) → TurnDoes W call start g body
       → TreeDoes W call start g post → StmtDoes W call start g (LoopAt c body post)
   loop_does c body post does_body does_post inside p fits is l k has s m n rel =
-      turns_follow inside p c body post l broke next k parts is fits.0 fits.1 does_body does_post
-      (suc n) s m n rel
-    where
-      next : ℕ
-      next = l + 1 + turn_size body
-
-      broke : ℕ
-      broke = l + 1 + turn_size body + 1 + size post
-
-      q : Place
-      q = in_loop p (l + 1 + turn_size body + 1 + size post) (l + 1 + turn_size body)
-
-      after : Block
-      after = body_end (in_loop p (l + 1 + turn_size body + 1 + size post) (l + 1 + turn_size body)) c post (l + 1 + turn_size body) l
-
-      first : List Block
-      first = turn_blocks q body (l + 1) after
-
-      second : List Block
-      second = blocks q post (next + 1) (jump l)
-
-      behind : Has W.program next (entry q post (next + 1) (jump l) ∷ (second ++ k ∷ []))
-      behind = has_back W.program (l + 1) next first (entry q post (next + 1) (jump l) ∷ (second ++ k ∷ []))
-          (omega (arith, length_turn q body (l + 1) after)) has.1
-
-      last : Has W.program broke (k ∷ [])
-      last = has_back W.program (next + 1) broke second (k ∷ [])
-          (omega (arith, length_blocks q post (next + 1) (jump l))) behind.1
-
-      parts : IsLoop p c body post l broke next k
-      parts = record {
+      let next = l + 1 + turn_size body in
+      let bare = is_bare c body post in
+      let broke = next + post_size bare (size post) in
+      let again = label_or next (post_exit bare l) in
+      let q = in_loop p broke again in
+      let after = body_end q c post again l in
+      let first = turn_blocks q body (l + 1) after in
+      let e = entry q post (next + 1) (jump l) in
+      let others = blocks q post (next + 1) (jump l) in
+      let second = leg_blocks (post_exit bare l) e others in
+      let behind : Has W.program next (second ++ k ∷ []) =
+      has_back W.program (l + 1) next first (second ++ k ∷ []) (omega (arith, length_turn q body (l + 1) after)) has.1 in
+      let last : Has W.program broke (k ∷ []) =
+      has_back W.program next broke second (k ∷ [])
+      (omega (arith, length_post bare l e others ∙ ap (post_size bare) (length_blocks q post (next + 1) (jump l))))
+      behind in
+      turns_follow inside p c body post l broke again k
+      (record {
         head = has.0;
-        inner = has_front W.program (l + 1) first (entry q post (next + 1) (jump l) ∷ (second ++ k ∷ [])) has.1;
-        behind = behind.0;
-        posts = has_front W.program (next + 1) second (k ∷ []) behind.1;
+        inner = has_front W.program (l + 1) first (second ++ k ∷ []) has.1;
+        part = part_there bare p c body post l broke next k refl behind;
         last = last.0;
-      }
+      })
+      is fits.0 fits.1 does_body does_post (suc n) s m n rel

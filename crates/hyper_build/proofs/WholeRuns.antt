@@ -9,7 +9,7 @@ use Rattle.trips_isa.specs.Machine.{memory_of}
 use Rattle.ir_forms.specs.Frames.{frames_at, frame_limit}
 use Rattle.ir_forms.specs.Cells.{Closed}
 use Rattle.ir_forms.specs.FlatSteps.{State, Res, Gone, Broke, Again, Gave, TooDeep, Unfinished, Wild}
-use Rattle.ir_forms.specs.FlatRuns.{calls_within, first_mark, first_memory, flat_run}
+use Rattle.ir_forms.specs.FlatRuns.{first_memory, flat_run}
 use Rattle.ir_forms.specs.FlatRuns as flat
 use Rattle.ir_forms.specs.HyperCode.{Block}
 use Rattle.ir_forms.specs.HyperRuns.{Machine, Layout, Standing, Ended, with_register, run, start, hyper_run, block_at}

@@ -4,16 +4,17 @@ use Rattle.ir_forms.specs.declared.flat.Arg.{Arg}
 use Rattle.ir_forms.specs.declared.hyper.Exit.TheVariants as exit
 use Rattle.ir_forms.specs.FlatCode.{Step, Let, Frame, Load, Save, Call, Put, Get, If, Loop, Break, Continue}
 use Rattle.ir_forms.specs.FlatCode.{Return, Code, Nop, ◌▹◌}
-use Rattle.ir_forms.specs.FlatFits.{steps_in, is_empty}
+use Rattle.ir_forms.specs.FlatFits.{steps_in, steps_of, is_empty}
 use Rattle.ir_forms.specs.HyperCode.{Done, Leave, Test, Block}
 use Rattle.ir_forms.specs.HyperRuns.{jump}
 use Rattle.hyper_build.specs.Tree.{Plan, goes_on}
 use Rattle.hyper_build.specs.Parts.{source}
-use Rattle.hyper_build.specs.Straight.{label_or}
+use Rattle.hyper_build.specs.Legs.{label_or, are_operations, continues}
+use Rattle.hyper_build.specs.Entries.{give}
 use Rattle.hyper_build.specs.Ground.{Ground, plan, entry_at, left}
 use Rattle.hyper_build.specs.Merging.{merged, test_register}
-use Rattle.hyper_build.specs.Build.{give}
-use Rattle.hyper_build.specs.Backward.{Emission, with_rest, put_out, cut_at, fall, before_by, last_note, without_note}
+use Rattle.hyper_build.specs.Backward.{Emission, with_rest, put_out, cut_at, fall, fall_by, before_by}
+use Rattle.hyper_build.specs.Backward.{last_note, without_note}
 use Rattle.hyper_build.specs.BackwardStatements.{let_out, frame_out, load_out, save_out, byte_out, byte_in}
 use Rattle.hyper_build.specs.BackwardStatements.{leaving, back_out, call_out}
 use Rattle.hyper_build.specs.BackwardItems.{is_straight, is_if_item, items_before, straight_items_in}
@@ -66,6 +67,10 @@ items_out plan arrays n x s =
 
 -- LOOPS
 
+-- whether a loop's last part has no block of its own, by whether the body's block ends before it
+abbrev pub is_bare_code : Bool → Code → Code → Bool
+is_bare_code c body post = is_empty post || (not c && (are_operations post && not (continues body)))
+
 -- what the body goes on with
 abbrev pub end_of_body : Bool → ℕ → Code → ℕ → ℕ → Block
 end_of_body c arrays post l head =
@@ -99,10 +104,14 @@ abbrev mutual
   emit_in g broke again on (Loop body post) s =
       let behind = put_out s in
       let note = last_note behind.notes in
-      let next = put_out (emit g behind.label note.next post
-      (with_rest (jump note.head) (without_note behind))) in
-      let after = end_of_body ((plan g).cut note.place) g.arrays post next.label note.head in
-      fall (put_out (emit_turn g behind.label next.label body (with_rest after next)))
+      let ends = (plan g).cut note.place in
+      let start = with_rest (jump note.head) (without_note behind) in
+      let next = put_out (emit g behind.label note.next post start) in
+      cond (is_bare_code ends body post)
+      (fall (put_out (emit_turn g behind.label note.head body
+      (with_rest (end_of_body ends g.arrays post note.head note.head) (fall_by (steps_of post) start)))))
+      (fall (put_out (emit_turn g behind.label next.label body
+      (with_rest (end_of_body ends g.arrays post next.label note.head) next))))
   emit_in g broke again on Break s = leaving (jump broke) (cut_at on s)
   emit_in g broke again on Continue s = leaving (jump again) (cut_at on s)
   emit_in g broke again on (Return v) s = leaving (give v (left g.frame)) (cut_at on s)

@@ -11,7 +11,7 @@ use Rattle.ir_forms.specs.HyperCode.{Done, Set, Leave, Block}
 use Rattle.hyper_build.specs.Tree.{Plan}
 use Rattle.hyper_build.specs.Parts.{source, capped, set_then, load_then, save_then, Move}
 use Rattle.hyper_build.specs.Passing.{saving, restoring, argument_moves, argument_cuts, result_then}
-use Rattle.hyper_build.specs.Build.{call_block}
+use Rattle.hyper_build.specs.Entries.{call_block}
 use Rattle.hyper_build.specs.Backward.{Emission, with_rest, put_out, cut_at, fall, fall_call, before}
 use Rattle.hyper_build.specs.Backward.{setting}
 

@@ -4,15 +4,15 @@ use Rattle.std.specs.Prelude.{ℕ, ◌+◌, Bool, cond, ◌&&◌, List, [], ◌�
 use Rattle.ir_forms.specs.declared.flat.Arg.{Arg}
 use Rattle.ir_forms.specs.FlatCode.{Step, Let, Frame, Load, Save, Call, Put, Get, If, Loop, Break, Continue}
 use Rattle.ir_forms.specs.FlatCode.{Return, Code, Nop, ◌▹◌, Function}
-use Rattle.ir_forms.specs.FlatFits.{steps_in, is_empty}
+use Rattle.ir_forms.specs.FlatFits.{steps_in, steps_of, is_empty}
 use Rattle.hyper_build.specs.declared.emitting.Note.{Note}
 use Rattle.hyper_build.specs.declared.numbering.Numbering.{Numbering}
 use Rattle.hyper_build.specs.Tree.{Plan, goes_on}
 use Rattle.hyper_build.specs.Parts.{cut_size, moved_size}
 use Rattle.hyper_build.specs.Passing.{parameter_moves, parameter_cuts}
-use Rattle.hyper_build.specs.Straight.{arguments_size}
+use Rattle.hyper_build.specs.Sizes.{arguments_size}
 use Rattle.hyper_build.specs.BackwardItems.{is_if_item}
-use Rattle.hyper_build.specs.BackwardCode.{exit_of, is_test_step}
+use Rattle.hyper_build.specs.BackwardCode.{exit_of, is_bare_code, is_test_step}
 
 -- STEPS
 
@@ -85,8 +85,11 @@ abbrev mutual
       (with_blocks 1 (number p other (led other (number p one (led one (with_statement s))))))
   number_in p on (Loop body post) s =
       let next = number_turn p body (with_statement (with_blocks 1 s)) in
-      let end = with_blocks 1 (number p post (with_blocks 1 next)) in
-      with_note (record { head = s.label; next = next.label; place = s.place }) end
+      cond (is_bare_code (p.cut s.place) body post)
+      (with_note (record { head = s.label; next = s.label; place = s.place })
+      (with_blocks 1 (with_statements (steps_of post) next)))
+      (with_note (record { head = s.label; next = next.label; place = s.place })
+      (with_blocks 1 (number p post (with_blocks 1 next))))
   number_in p on Break s = with_statement (with_blocks (cut_size on) s)
   number_in p on Continue s = with_statement (with_blocks (cut_size on) s)
   number_in p on (Return v) s = with_statement (with_blocks (cut_size on) s)

@@ -2,7 +2,10 @@ pub mod Tree
 pub mod Parts
 pub mod Passing
 pub mod Straight
+pub mod Legs
+pub mod Sizes
 pub mod Merging
+pub mod Entries
 pub mod Build
 pub mod Routines
 pub mod World

@@ -5,8 +5,9 @@ use Rattle.ir_forms.specs.FlatFits.{steps_in, steps_of, is_empty}
 use Rattle.reg_assign.specs.Keeps.{calls_in, calls}
 use Rattle.hyper_build.specs.declared.emitting.Note.{Note}
 use Rattle.hyper_build.specs.Tree.{Plan, goes_on, annotated_in, annotated}
-use Rattle.hyper_build.specs.Straight.{leg_size, size_in, size, turn_size, part_size}
-use Rattle.hyper_build.specs.BackwardCode.{is_test_step}
+use Rattle.hyper_build.specs.Legs.{leg_size, label_or, post_exit}
+use Rattle.hyper_build.specs.Sizes.{size_in, size, turn_size, part_size}
+use Rattle.hyper_build.specs.BackwardCode.{is_bare_code, is_test_step}
 
 abbrev pub note_of : ℕ → ℕ → ℕ → Note
 note_of head place next = record { head = head; place = place; next = next }
@@ -22,7 +23,7 @@ abbrev mutual
       let next = l + 1 + turn_size (annotated p (i + 1) k body) in
       turn_notes p (l + 1) (i + 1) k body
       ++ (notes_of p (next + 1) (i + 1 + steps_of body) (k + calls body) post
-      ++ note_of l i next ∷ [])
+      ++ note_of l i (label_or next (post_exit (is_bare_code (p.cut i) body post) l)) ∷ [])
   notes_in p l i k _ = []
 
   pub notes_of : Plan → ℕ → ℕ → ℕ → Code → List Note

@@ -1,16 +1,16 @@
 -- What it is that a statement and code do what they mean.
 use Rattle.std.specs.Prelude.{◌≡◌, ℕ, ◌^◌, ◌<◌, Bool, true}
 use Rattle.trips_isa.specs.declared.op.Op.{Op}
-use Rattle.ir_forms.specs.declared.flat.Arg.{Arg}
 use Rattle.trips_isa.specs.Alu.{alu_of}
 use Rattle.ir_forms.specs.FlatFits.{operates}
 use Rattle.ir_forms.specs.FlatSteps.{Calls, act, exec}
 use Rattle.ir_forms.specs.HyperCode.{Block}
-use Rattle.hyper_build.specs.Tree.{Stmt, IfAt, LoopAt, Tree, Routine, plain_in, plain}
-use Rattle.hyper_build.specs.Straight.{Place, is_item}
+use Rattle.hyper_build.specs.Tree.{Stmt, Tree, Routine, plain_in, plain}
+use Rattle.hyper_build.specs.Straight.{Place}
+use Rattle.hyper_build.specs.Entries.{entry_in, entry, turn_entry}
+use Rattle.hyper_build.specs.Build.{blocks_in, blocks, turn_blocks}
 use Rattle.hyper_build.specs.Merging.{SetsLow}
-use Rattle.hyper_build.specs.Build.{entry_in, entry, turn_entry, blocks_in, blocks, turn_blocks}
-use Rattle.hyper_build.specs.World.{World, Has, IsFrame, checks_of, env_in}
+use Rattle.hyper_build.specs.World.{World, Has, checks_of, env_in}
 use Rattle.hyper_build.specs.Follow.{Does, ways_of}
 use Rattle.hyper_build.specs.Fits.{FitsStmt, FitsTree, IsPlace}
 

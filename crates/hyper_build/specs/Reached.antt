@@ -6,8 +6,9 @@ use Rattle.ir_forms.specs.HyperCode.{Block}
 use Rattle.reg_assign.specs.Keeps.{calls}
 use Rattle.hyper_build.specs.declared.emitting.Note.{Note}
 use Rattle.hyper_build.specs.Tree.{annotated}
-use Rattle.hyper_build.specs.Straight.{size}
-use Rattle.hyper_build.specs.Build.{entry, blocks}
+use Rattle.hyper_build.specs.Sizes.{size}
+use Rattle.hyper_build.specs.Entries.{entry}
+use Rattle.hyper_build.specs.Build.{blocks}
 use Rattle.hyper_build.specs.Ground.{Ground, plan, place}
 use Rattle.hyper_build.specs.Backward.{Emission}
 use Rattle.hyper_build.specs.BackwardCode.{emit}

@@ -2,8 +2,6 @@
 
 ghost use Rattle.std.specs.Prelude.{◌≡◌, OnOk, IfOk, drop};
 ghost use Rattle.ir_forms.specs.FlatViews.{code_of, step_of};
-ghost use Rattle.hyper_build.specs.Tree as tree;
-ghost use Rattle.hyper_build.specs.Straight.{label_or};
 ghost use Rattle.hyper_build.specs.Backward as back;
 ghost use Rattle.hyper_build.specs.BackwardCode as code;
 ghost use Rattle.hyper_build.specs.Backward.{emission_of};
@@ -12,11 +10,13 @@ ghost use Rattle.hyper_build.specs.Emitted.{rest_of};
 ghost use Rattle.hyper_build.specs.Ground as ground;
 
 use crate::calling::{put_back, put_call};
-use crate::counting::steps_in;
-use crate::emitting::{Emitting, cut, fall, fallen_by, put_out, put_rest, take_note};
+use crate::counting::{steps_in, steps_of};
+use crate::emitting::{Emitting, cut, fall, fall_by, fallen_by, put_out, put_rest, take_note};
+use crate::exits::{exit_of, goes_on, label_of};
 use crate::ground::Site;
 use crate::merging::{is_last, is_loop_test, put_merged};
 use crate::operands::source;
+use crate::posts::is_bare;
 use crate::rest::{Rest, jump};
 use crate::singles::{
     before_by, put_byte, put_frame, put_get, put_jump, put_let, put_loading, put_return,
@@ -27,72 +27,6 @@ use base::{Boxed, Items, Memory};
 use ir_forms::{Arg, Exit, FlatStmt, Tail};
 use std::alloc::Global;
 
-/// Where a break or a continue alone leads.
-fn exit_in(s: &FlatStmt, broke: u32, again: u32) -> Option<u32>
-    ensures { result ≡ code.exit_in broke again (step_of s.now) }
-{
-    match s {
-        FlatStmt::Let { .. } => None,
-        FlatStmt::Frame { .. } => None,
-        FlatStmt::Load { .. } => None,
-        FlatStmt::Save { .. } => None,
-        FlatStmt::Call { .. } => None,
-        FlatStmt::Put(_) => None,
-        FlatStmt::Get { .. } => None,
-        FlatStmt::If { .. } => None,
-        FlatStmt::Loop { .. } => None,
-        FlatStmt::Break => Some(broke),
-        FlatStmt::Continue => Some(again),
-        FlatStmt::Return(_) => None,
-    }
-}
-
-/// Where a leg that has no block of its own leads.
-pub fn exit_of(stmts: &[FlatStmt], join: u32, broke: u32, again: u32) -> Option<u32>
-    ensures { result ≡ code.exit_of join broke again (code_of stmts.now) }
-{
-    let (first, rest) = match stmts.split_first() {
-        None => return Some(join),
-        Some(parts) => parts,
-    };
-    if rest.is_empty() {
-        exit_in(first, broke, again)
-    } else {
-        None
-    }
-}
-
-/// Whether nothing goes on behind a statement.
-fn leaves(s: &FlatStmt) -> bool
-    ensures { result ≡ tree.leaves (step_of s.now) }
-{
-    match s {
-        FlatStmt::Let { .. } => false,
-        FlatStmt::Frame { .. } => false,
-        FlatStmt::Load { .. } => false,
-        FlatStmt::Save { .. } => false,
-        FlatStmt::Call { .. } => false,
-        FlatStmt::Put(_) => false,
-        FlatStmt::Get { .. } => false,
-        FlatStmt::If { .. } => false,
-        FlatStmt::Loop { .. } => false,
-        FlatStmt::Break => true,
-        FlatStmt::Continue => true,
-        FlatStmt::Return(_) => true,
-    }
-}
-
-/// Whether statements do anything, from one of them on, before they leave.
-pub fn goes_on(stmts: &[FlatStmt], at: usize) -> bool
-    ensures { result ≡ tree.goes_on (code_of (drop at stmts.now)) }
-{
-    if at < stmts.len() {
-        !leaves(&stmts[at])
-    } else {
-        false
-    }
-}
-
 /// A leg that has blocks begins with one.
 fn put_leg(emitting: &mut Emitting, alloc: Global, exit: Option<u32>) -> Result<(), Memory>
     ensures { OnOk result (emission_of emitting.new
@@ -101,16 +35,6 @@ fn put_leg(emitting: &mut Emitting, alloc: Global, exit: Option<u32>) -> Result<
     match exit {
         None => put_out(emitting, alloc),
         Some(_) => Ok(()),
-    }
-}
-
-/// A leg's label, or where it leads at once.
-fn label_of(label: u32, exit: Option<u32>) -> u32
-    ensures { result ≡ label_or label exit }
-{
-    match exit {
-        None => label,
-        Some(exit) => exit,
     }
 }
 
@@ -244,16 +168,27 @@ fn put_stmt(
             put_out(emitting, alloc)?;
             let behind = emitting.label;
             let note = take_note(emitting);
-            put_rest(emitting, jump(alloc, note.head));
-            put_stmts(post.as_slice(), emitting, alloc, site, behind, note.next)?;
-            put_out(emitting, alloc)?;
-            let next = emitting.label;
             let ends = site.cuts(note.place);
-            let rest = body_end(alloc, ends, site.arrays, post.as_slice(), next, note.head)?;
-            put_rest(emitting, rest);
-            put_turn(body.as_slice(), emitting, alloc, site, behind, next)?;
-            put_out(emitting, alloc)?;
-            fall(emitting);
+            let arrays = site.arrays;
+            put_rest(emitting, jump(alloc, note.head));
+            if is_bare(ends, body.as_slice(), post.as_slice()) {
+                let statements = steps_of(post.as_slice())?;
+                fall_by(emitting, statements);
+                let rest = body_end(alloc, ends, arrays, post.as_slice(), note.head, note.head)?;
+                put_rest(emitting, rest);
+                put_turn(body.as_slice(), emitting, alloc, site, behind, note.head)?;
+                put_out(emitting, alloc)?;
+                fall(emitting);
+            } else {
+                put_stmts(post.as_slice(), emitting, alloc, site, behind, note.next)?;
+                put_out(emitting, alloc)?;
+                let next = emitting.label;
+                let rest = body_end(alloc, ends, arrays, post.as_slice(), next, note.head)?;
+                put_rest(emitting, rest);
+                put_turn(body.as_slice(), emitting, alloc, site, behind, next)?;
+                put_out(emitting, alloc)?;
+                fall(emitting);
+            }
         }
         FlatStmt::Break => put_jump(emitting, alloc, broke, on)?,
         FlatStmt::Continue => put_jump(emitting, alloc, again, on)?,

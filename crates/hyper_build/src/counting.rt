@@ -5,7 +5,7 @@ ghost use Rattle.ir_forms.specs.FlatFits as flat;
 ghost use Rattle.ir_forms.specs.FlatViews.{code_of, step_of};
 ghost use Rattle.hyper_build.specs.Parts as parts;
 ghost use Rattle.hyper_build.specs.Passing as passing;
-ghost use Rattle.hyper_build.specs.Straight as straight;
+ghost use Rattle.hyper_build.specs.Sizes as sizes;
 
 use crate::calling::argument_cuts;
 use crate::functions::parameter_cuts;
@@ -51,7 +51,7 @@ pub fn cut_size(ends: bool) -> u32
 /// The blocks that a call's arguments begin.
 #[tactic(auto, using(crate::proofs::ArgumentSizes::argument_more))]
 pub fn arguments_size(small: bool, args: &[Arg]) -> Result<u32, Memory>
-    ensures { IfOk result (λ n. n ≡ straight.arguments_size small args.now) }
+    ensures { IfOk result (λ n. n ≡ sizes.arguments_size small args.now) }
 {
     let mut blocks = 0;
     let mut at = args.len();
@@ -109,7 +109,7 @@ pub fn steps_in(s: &FlatStmt) -> Result<u32, Memory>
 
 /// The statements of code.
 #[cycle(steps)]
-fn steps_of(stmts: &[FlatStmt]) -> Result<u32, Memory>
+pub fn steps_of(stmts: &[FlatStmt]) -> Result<u32, Memory>
     ensures { IfOk result (λ n. n ≡ flat.steps_of (code_of stmts.now)) }
 {
     let mut steps = 0;

@@ -12,8 +12,8 @@ ghost use Rattle.hyper_build.specs.Emitted.{rest_of};
 ghost use Rattle.hyper_build.specs.Merging as merging;
 ghost use Rattle.hyper_build.specs.Parts as parts;
 
-use crate::code::exit_of;
 use crate::emitting::{Emitting, fall, put_rest};
+use crate::exits::exit_of;
 use crate::operands::source;
 use crate::rest::{Rest, closed, jump, put_set};
 use crate::straight::{both, put_if};

@@ -3,15 +3,17 @@
 ghost use Rattle.std.specs.Prelude.{◌≡◌, ◌+◌, ◌-◌, ◌++◌, ◌∷◌, [], map, IfOk, OnOk};
 ghost use Rattle.ir_forms.specs.FlatViews.{code_of, step_of, function_of};
 ghost use Rattle.hyper_build.specs.Parts as parts;
-ghost use Rattle.hyper_build.specs.Straight as straight;
 ghost use Rattle.hyper_build.specs.Ground as ground;
 ghost use Rattle.hyper_build.specs.Forward as forward;
 
-use crate::code::{exit_of, goes_on};
-use crate::counting::{arguments_size, cut_size, narrow, parameters_size, plus, steps_in};
+use crate::counting::{
+    arguments_size, cut_size, narrow, parameters_size, plus, steps_in, steps_of,
+};
 use crate::emitting::Note;
+use crate::exits::{exit_of, goes_on};
 use crate::ground::Site;
 use crate::merging::{is_last, is_loop_test};
+use crate::posts::is_bare;
 use crate::straight::is_if_item;
 use base::{Items, Memory};
 use ir_forms::{Arg, FlatFunc, FlatStmt};
@@ -178,13 +180,22 @@ fn number_stmt(
         FlatStmt::Loop { body, post } => {
             let head = numbering.label;
             let place = numbering.place;
+            let ends = site.cuts(place);
             count_behind(numbering, 1)?;
             number_turn(body.as_slice(), numbering, site)?;
-            let next = numbering.label;
-            count_blocks(numbering, 1)?;
-            number_stmts(post.as_slice(), numbering, site)?;
-            count_blocks(numbering, 1)?;
-            add_note(numbering, Note { head, place, next })?;
+            if is_bare(ends, body.as_slice(), post.as_slice()) {
+                let statements = steps_of(post.as_slice())?;
+                count_statements(numbering, statements)?;
+                count_blocks(numbering, 1)?;
+                let next = head;
+                add_note(numbering, Note { head, place, next })?;
+            } else {
+                let next = numbering.label;
+                count_blocks(numbering, 1)?;
+                number_stmts(post.as_slice(), numbering, site)?;
+                count_blocks(numbering, 1)?;
+                add_note(numbering, Note { head, place, next })?;
+            }
         }
         FlatStmt::Break => count_behind(numbering, cut_size(on))?,
         FlatStmt::Continue => count_behind(numbering, cut_size(on))?,

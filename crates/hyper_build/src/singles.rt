@@ -2,7 +2,7 @@
 
 ghost use Rattle.std.specs.Prelude.{◌≡◌, ◌-◌, OnOk, IfOk, Some, None};
 ghost use Rattle.ir_forms.specs.HyperRuns as hyper;
-ghost use Rattle.hyper_build.specs.Build as build;
+ghost use Rattle.hyper_build.specs.Entries as entries;
 ghost use Rattle.hyper_build.specs.Backward as back;
 ghost use Rattle.hyper_build.specs.BackwardStatements as code;
 ghost use Rattle.hyper_build.specs.Backward.{emission_of};
@@ -215,7 +215,7 @@ pub fn left(alloc: Global, frame: u64) -> Result<Rest, Memory>
 
 /// A value goes to register 3, before a rest.
 fn put_given(rest: &mut Rest, value: Option<Arg>) -> Result<(), Memory>
-    ensures { OnOk result (rest_of rest.new ≡ build.give value (rest_of rest.old)) }
+    ensures { OnOk result (rest_of rest.new ≡ entries.give value (rest_of rest.old)) }
 {
     match value {
         None => Ok(()),
@@ -232,7 +232,7 @@ pub fn put_return(
     on: bool,
 ) -> Result<(), Memory>
     ensures { OnOk result (emission_of emitting.new
-        ≡ code.leaving (build.give value (ground.left site.now.frame))
+        ≡ code.leaving (entries.give value (ground.left site.now.frame))
         (back.cut_at on (emission_of emitting.old))) }
 {
     cut(emitting, alloc, on)?;

@@ -26,7 +26,7 @@ pub fn both(one: bool, other: bool) -> bool
 }
 
 /// Whether one of both is so.
-fn either(one: bool, other: bool) -> bool
+pub fn either(one: bool, other: bool) -> bool
     ensures { result ≡ one || other }
 {
     one || other
@@ -108,7 +108,7 @@ fn is_small_leg(stmts: &[FlatStmt]) -> bool
 }
 
 /// Whether a leg is empty.
-fn is_no_leg(stmts: &[FlatStmt]) -> bool
+pub fn is_no_leg(stmts: &[FlatStmt]) -> bool
     ensures { result ≡ flat.is_empty (code_of stmts.now) }
 {
     match stmts.split_first() {

@@ -1,10 +1,11 @@
 //! Where the blocks of a program with every statement lead, under plans that cut everywhere and nowhere,
 //! and that join all ifs or none.
 
-use crate::making::{Answers, plan, program};
+use crate::making::{Answers, Looping, loop_alone, plan, program};
 use base::Memory;
 use hyper_build::build;
 use ir_forms::{Exit, HyperProgram, Tail};
+use reg_assign::Assigned;
 use std::alloc::Global;
 use std::process::Abort;
 
@@ -133,10 +134,14 @@ const YES: Answers = Answers {
     of_three: 3,
 };
 
-fn built(alloc: Global, cuts: Answers, joins: Answers) -> Result<HyperProgram, Memory> {
-    let assigned = program(alloc)?;
+fn built(
+    alloc: Global,
+    assigned: &Assigned,
+    cuts: Answers,
+    joins: Answers,
+) -> Result<HyperProgram, Memory> {
     let plan = plan(alloc, cuts, joins)?;
-    build(alloc, &assigned, &plan)
+    build(alloc, assigned, &plan)
 }
 
 fn exit_of(tail: &Tail) -> Option<Exit> {
@@ -167,16 +172,17 @@ fn assert_exits(rt: &impl Abort, program: &HyperProgram, rows: &[Row]) {
     }
 }
 
-/// Under a plan there are so many blocks, and they lead where the rows say.
+/// Under a plan a program has so many blocks, and they lead where the rows say.
 fn assert_built(
     rt: &impl Abort,
     alloc: Global,
+    assigned: &Assigned,
     cuts: Answers,
     joins: Answers,
     blocks: usize,
     rows: &[Row],
 ) {
-    let program = built(alloc, cuts, joins).expect(rt, "memory");
+    let program = built(alloc, assigned, cuts, joins).expect(rt, "memory");
     assert_eq!(rt; program.blocks.len(), blocks, "of {blocks} blocks");
     assert_exits(rt, &program, rows);
 }
@@ -187,8 +193,80 @@ fn assert_built(
 #[test]
 fn every_statement_is_built(rt: HostRuntime) {
     let alloc = rt.alloc();
-    assert_built(&rt, alloc, LACKING, LACKING, 63, CUT_EVERYWHERE);
-    assert_built(&rt, alloc, NO, NO, 35, CUT_NOWHERE);
-    assert_built(&rt, alloc, LACKING, YES, 55, CUT_AND_JOINED);
-    assert_built(&rt, alloc, NO, YES, 29, JOINED);
+    let program = program(alloc).expect(&rt, "memory");
+    assert_built(&rt, alloc, &program, LACKING, LACKING, 63, CUT_EVERYWHERE);
+    assert_built(&rt, alloc, &program, NO, NO, 35, CUT_NOWHERE);
+    assert_built(&rt, alloc, &program, LACKING, YES, 55, CUT_AND_JOINED);
+    assert_built(&rt, alloc, &program, NO, YES, 29, JOINED);
+}
+
+// A loop with no last part goes on at its head, and has no block for that part.
+const BARE_AND_CUT: &[Row] = &[
+    (5, Exit::Jump(6), None),
+    (6, Exit::Jump(9), Some(Exit::Jump(7))),
+    (7, Exit::Jump(8), None),
+    (8, Exit::Jump(6), None),
+    (9, Exit::Return, None),
+];
+
+// Nor has one whose body's block does that part, where no continue leads there.
+const BARE: &[Row] = &[
+    (4, Exit::Jump(5), None),
+    (5, Exit::Jump(7), Some(Exit::Jump(6))),
+    (6, Exit::Jump(5), None),
+    (7, Exit::Return, None),
+];
+
+const CUT: &[Row] = &[
+    (5, Exit::Jump(6), None),
+    (6, Exit::Jump(11), Some(Exit::Jump(7))),
+    (7, Exit::Jump(8), None),
+    (8, Exit::Jump(9), None),
+    (9, Exit::Jump(10), None),
+    (10, Exit::Jump(6), None),
+    (11, Exit::Return, None),
+];
+
+const CONTINUED: &[Row] = &[
+    (4, Exit::Jump(5), None),
+    (5, Exit::Jump(9), Some(Exit::Jump(6))),
+    (6, Exit::Jump(8), Some(Exit::Jump(7))),
+    (7, Exit::Jump(5), None),
+    (8, Exit::Jump(5), None),
+    (9, Exit::Return, None),
+];
+
+/// Under a plan a loop alone has so many blocks, and they lead where the rows say.
+fn assert_looping(
+    rt: &impl Abort,
+    alloc: Global,
+    of: Looping,
+    cuts: Answers,
+    blocks: usize,
+    rows: &[Row],
+) {
+    let program = loop_alone(alloc, of).expect(rt, "memory");
+    assert_built(rt, alloc, &program, cuts, NO, blocks, rows);
+}
+
+#[test]
+fn loops_have_a_block_for_a_last_part_that_is_led_to(rt: HostRuntime) {
+    let alloc = rt.alloc();
+    let none = Looping {
+        continues: false,
+        goes_on: false,
+    };
+    let lone = Looping {
+        continues: false,
+        goes_on: true,
+    };
+    let both = Looping {
+        continues: true,
+        goes_on: true,
+    };
+    assert_looping(&rt, alloc, none, LACKING, 10, BARE_AND_CUT);
+    assert_looping(&rt, alloc, none, NO, 8, BARE);
+    assert_looping(&rt, alloc, lone, LACKING, 12, CUT);
+    assert_looping(&rt, alloc, lone, NO, 8, BARE);
+    assert_looping(&rt, alloc, both, NO, 10, CONTINUED);
 }

@@ -123,6 +123,58 @@ pub fn program(alloc: Global) -> Result<Assigned, Memory> {
     })
 }
 
+/// An if that does one statement where a variable is not 0.
+fn where_set(alloc: Global, variable: u16, s: FlatStmt) -> Result<FlatStmt, Memory> {
+    Ok(FlatStmt::If {
+        test: Arg::Var(variable),
+        yes: only(alloc, s)?,
+        no: Items::new(alloc),
+    })
+}
+
+/// What a loop has besides a break and an operation: a continue, and an operation as its last part.
+#[derive(Clone, Copy)]
+pub struct Looping {
+    pub continues: bool,
+    pub goes_on: bool,
+}
+
+/// A loop with a break and an operation.
+fn looping(alloc: Global, of: Looping) -> Result<FlatStmt, Memory> {
+    let mut body = only(alloc, where_set(alloc, 0, FlatStmt::Break)?)?;
+    if of.continues {
+        body.push(where_set(alloc, 1, FlatStmt::Continue)?)?;
+    }
+    body.push(set(1))?;
+    let mut post = Items::new(alloc);
+    if of.goes_on {
+        post.push(set(2))?;
+    }
+    Ok(FlatStmt::Loop { body, post })
+}
+
+/// A main that is a loop and a return.
+pub fn loop_alone(alloc: Global, of: Looping) -> Result<Assigned, Memory> {
+    let mut body = only(alloc, looping(alloc, of)?)?;
+    body.push(FlatStmt::Return(Some(Arg::Var(1))))?;
+    let mut functions = Items::new(alloc);
+    functions.push(FlatFunc {
+        params: 0,
+        scalars: 3,
+        arrays: 0,
+        body,
+    })?;
+    Ok(Assigned {
+        flat: FlatProgram {
+            functions,
+            bytes: Items::new(alloc),
+            main: 0,
+        },
+        live: Items::new(alloc),
+        groups: Items::new(alloc),
+    })
+}
+
 /// Answers for so many places, so many of each three of which are yes, the first first.
 #[derive(Clone, Copy)]
 pub struct Answers {

@@ -4,12 +4,13 @@ use Rattle.ir_forms.specs.FlatViews.{code_of, step_of}
 use Rattle.ir_forms.proofs.Views.{step_let, step_frame, step_load, step_save, step_call, step_put}
 use Rattle.ir_forms.proofs.Views.{step_get, step_if, step_loop, step_break, step_continue}
 use Rattle.ir_forms.proofs.Views.{step_return}
-use Rattle.hyper_build.specs.Backward.{emission_of}
+use Rattle.hyper_build.specs.Backward.{emission_of, last_note}
 use Rattle.hyper_build.specs.Laws.{cuts_by, joins_by}
 use Rattle.hyper_build.specs.BackwardItems.{is_if_item}
 use Rattle.hyper_build.specs.BackwardCode as code
 use Rattle.hyper_build.proofs.IfPasses.{emit_item, emit_test}
-use Rattle.hyper_build.specs.BackwardCode.{is_break_code, is_test_step}
+use Rattle.hyper_build.proofs.LoopPasses.{emit_bare, emit_full}
+use Rattle.hyper_build.specs.BackwardCode.{is_bare_code, is_break_code, is_test_step}
 use Rattle.hyper_build.proofs.TestPasses.{part_plain, part_tests, part_ifs}
 use Rattle.hyper_build.proofs.code.+emit.Goals as goal
 
@@ -76,13 +77,28 @@ put_stmt-returns-in_ok-put_get-in-Get t c =
     code.emit_in c.args.site.now c.args.broke c.args.again c.args.on st (emission_of c.args.emitting.now)) e in
     grind (arith, h, k)
 
-pub put_stmt-returns-in_ok-put_out-in-Loop-3 : goal.put_stmt-returns-in_ok-put_out-in-Loop-3
-put_stmt-returns-in_ok-put_out-in-Loop-3 t c =
+pub put_stmt-returns-in_ok-put_out-in-Loop-2 : goal.put_stmt-returns-in_ok-put_out-in-Loop-2
+put_stmt-returns-in_ok-put_out-in-Loop-2 t c =
     let e = ap step_of c.in-Loop.is ∙ step_loop c.in-Loop.body c.in-Loop.post in
     let h = part_plain c.args.site.now c.args.broke c.args.again c.args.last c.args.on (step_of c.args.s.now)
     (emission_of c.args.emitting.now) (λ j. ap (is_test_step j) e) in
-    let k = ap (λ (st : Step).
-    code.emit_in c.args.site.now c.args.broke c.args.again c.args.on st (emission_of c.args.emitting.now)) e in
+    let en : c.take_note-note.result ≡ last_note (emission_of c.args.emitting.now).notes = grind arith in
+    let is : is_bare_code c.cuts-ends-in-Loop.result (code_of c.in-Loop.body) (code_of c.in-Loop.post) ≡ true = grind arith in
+    let k = emit_bare c.args.site.now c.args.broke c.args.again c.args.on (step_of c.args.s.now) (code_of c.in-Loop.body)
+    (code_of c.in-Loop.post) (emission_of c.args.emitting.now) c.take_note-note.result c.cuts-ends-in-Loop.result e en
+    c.cuts-ends-in-Loop.ensures is in
+    grind (arith, h, k)
+
+pub put_stmt-returns-in_ok-put_out-in-Loop-4 : goal.put_stmt-returns-in_ok-put_out-in-Loop-4
+put_stmt-returns-in_ok-put_out-in-Loop-4 t c =
+    let e = ap step_of c.in-Loop.is ∙ step_loop c.in-Loop.body c.in-Loop.post in
+    let h = part_plain c.args.site.now c.args.broke c.args.again c.args.last c.args.on (step_of c.args.s.now)
+    (emission_of c.args.emitting.now) (λ j. ap (is_test_step j) e) in
+    let en : c.take_note-note.result ≡ last_note (emission_of c.args.emitting.now).notes = grind arith in
+    let is : is_bare_code c.cuts-ends-in-Loop.result (code_of c.in-Loop.body) (code_of c.in-Loop.post) ≡ false = grind arith in
+    let k = emit_full c.args.site.now c.args.broke c.args.again c.args.on (step_of c.args.s.now) (code_of c.in-Loop.body)
+    (code_of c.in-Loop.post) (emission_of c.args.emitting.now) c.take_note-note.result c.cuts-ends-in-Loop.result e en
+    c.cuts-ends-in-Loop.ensures is in
     grind (arith, h, k)
 
 pub put_stmt-returns-in_ok-put_jump-in-Break : goal.put_stmt-returns-in_ok-put_jump-in-Break

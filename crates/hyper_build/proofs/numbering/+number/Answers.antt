@@ -6,9 +6,10 @@ use Rattle.ir_forms.proofs.Views.{step_get, step_if, step_loop, step_break, step
 use Rattle.ir_forms.proofs.Views.{step_return}
 use Rattle.hyper_build.specs.Ground.{plan}
 use Rattle.hyper_build.specs.BackwardItems.{is_if_item}
-use Rattle.hyper_build.specs.BackwardCode.{is_break_code, is_test_step}
+use Rattle.hyper_build.specs.BackwardCode.{is_bare_code, is_break_code, is_test_step}
 use Rattle.hyper_build.specs.Forward.{number_in}
 use Rattle.hyper_build.proofs.IfPasses.{number_item, number_test}
+use Rattle.hyper_build.proofs.LoopPasses.{number_bare, number_full}
 use Rattle.hyper_build.proofs.TestPasses.{numbers_plain, numbers_test, numbers_ifs}
 use Rattle.hyper_build.proofs.numbering.+number.Goals as goal
 
@@ -73,7 +74,19 @@ number_stmt-returns-in_ok-add_note-in-Loop t c =
     let e = ap step_of c.in-Loop.is ∙ step_loop c.in-Loop.body c.in-Loop.post in
     let h = numbers_plain c.args.site.now c.args.last c.args.on (step_of c.args.s.now) c.args.numbering.now
     (λ j. ap (is_test_step j) e) in
-    let k = ap (λ (st : Step). number_in (plan c.args.site.now) c.args.on st c.args.numbering.now) e in
+    let is : is_bare_code c.cuts-ends.result (code_of c.in-Loop.body) (code_of c.in-Loop.post) ≡ true = grind arith in
+    let k = number_bare c.args.site.now c.args.on (step_of c.args.s.now) (code_of c.in-Loop.body) (code_of c.in-Loop.post)
+    c.args.numbering.now c.cuts-ends.result e c.cuts-ends.ensures is in
+    grind (arith, h, k)
+
+pub number_stmt-returns-in_ok-add_note-in-Loop-2 : goal.number_stmt-returns-in_ok-add_note-in-Loop-2
+number_stmt-returns-in_ok-add_note-in-Loop-2 t c =
+    let e = ap step_of c.in-Loop.is ∙ step_loop c.in-Loop.body c.in-Loop.post in
+    let h = numbers_plain c.args.site.now c.args.last c.args.on (step_of c.args.s.now) c.args.numbering.now
+    (λ j. ap (is_test_step j) e) in
+    let is : is_bare_code c.cuts-ends.result (code_of c.in-Loop.body) (code_of c.in-Loop.post) ≡ false = grind arith in
+    let k = number_full c.args.site.now c.args.on (step_of c.args.s.now) (code_of c.in-Loop.body) (code_of c.in-Loop.post)
+    c.args.numbering.now c.cuts-ends.result e c.cuts-ends.ensures is in
     grind (arith, h, k)
 
 pub number_stmt-returns-in_ok-count_behind-in-Break : goal.number_stmt-returns-in_ok-count_behind-in-Break

@@ -5,7 +5,7 @@ use Rattle.ir_forms.proofs.Views.{step_let, step_frame, step_load, step_save, st
 use Rattle.ir_forms.proofs.Views.{step_get, step_if, step_loop, step_break, step_continue}
 use Rattle.ir_forms.proofs.Views.{step_return}
 use Rattle.hyper_build.specs.BackwardCode as code
-use Rattle.hyper_build.proofs.code.exit_in.Goals as goal
+use Rattle.hyper_build.proofs.exits.exit_in.Goals as goal
 
 pub returns-in-Let : goal.returns-in-Let
 returns-in-Let c =

@@ -1,10 +1,10 @@
-use Rattle.std.proofs.Common.{◌≡◌, ℕ, Bool, true, false, List, [], ◌∷◌, length, Option, None, refl}
+use Rattle.std.proofs.Common.{◌≡◌, ℕ, true, false, List, [], ◌∷◌, length, None, refl}
 use Rattle.std.proofs.Common.{sym, ap, ◌∙◌}
 use Rattle.std.specs.Prelude.{◌==◌}
 use Rattle.ir_forms.specs.declared.flat.FlatStmt.{FlatStmt}
 use Rattle.ir_forms.specs.FlatViews.{code_of}
 use Rattle.hyper_build.specs.BackwardCode.{exit_of}
-use Rattle.hyper_build.proofs.code.exit_of.Goals as goal
+use Rattle.hyper_build.proofs.exits.exit_of.Goals as goal
 
 -- two statements or more have blocks
 exit_more : (join broke again : ℕ) (s : FlatStmt) (rest : List FlatStmt)
