@@ -16,9 +16,9 @@ use Rattle.ir_forms.specs.FlatFits.{operates, loads, stores}
 use Rattle.ir_forms.specs.HyperFits.{FitsItems, LeadsOn, AllLeadOn, FitsHyper}
 use Rattle.predication.specs.declared.work.Entry.{Entry}
 use Rattle.predication.specs.Environments.{Scope, Env, Bits, no_bits, put, note, from_node, under}
-use Rattle.predication.specs.Environments.{member, at_start, distinct}
+use Rattle.predication.specs.Environments.{left_bits, member, at_start, distinct}
 use Rattle.predication.specs.Operands.{node_of, Chain, Got, chain, longer, movs, read_of, operand, second, most_apps}
-use Rattle.predication.specs.Operands.{is_test, bit_of, fresh_test, test_by, tested}
+use Rattle.predication.specs.Operands.{bit_set, fresh_test, test_by, tested}
 use Rattle.predication.specs.Ifs.{left_of, side_of, join, items, touched}
 use Rattle.predication.specs.Tails.{address_end, exit_with, tail_with, labelled, leaving, tail}
 use Rattle.predication.specs.Tails.{tail_touched}
@@ -132,7 +132,7 @@ items_below n g j m env bits (Set r op a b rest) f =
     let y = second t (j + length x.nodes) env b in
     let k = j + length x.nodes + length y.nodes in
     let e = put env r (from_node k) in
-    let ts = note bits r (bit_of (is_test op) k) in
+    let ts = note bits r (bit_set op bits a k) in
     let mine : List FlowNode =
     node_of op 0 g x.sources y.sources ∷ (items g (suc k) m e ts rest).nodes in
     below_append n x.nodes (y.nodes ++ mine) (operand_below n j env a)
@@ -163,7 +163,8 @@ items_below n g j m env bits (If t one other rest) f =
     let z = items (under x.last false) (i + length y.nodes) y.number env no_bits other in
     let c = join x.last (i + length y.nodes + length z.nodes) env y.env z.env (touched one)
     (touched other) (distinct (touched one ++ touched other)) in
-    let o = items g (i + length y.nodes + length z.nodes + length c.nodes) z.number c.env no_bits rest in
+    let lb = left_bits bits (touched one ++ touched other) in
+    let o = items g (i + length y.nodes + length z.nodes + length c.nodes) z.number c.env lb rest in
     below_append n x.nodes (y.nodes ++ (z.nodes ++ (c.nodes ++ o.nodes))) (tested_below n g j env bits t)
     (below_append n y.nodes (z.nodes ++ (c.nodes ++ o.nodes))
     (items_below n (under x.last true) i m env no_bits one f.1)
@@ -172,7 +173,7 @@ items_below n g j m env bits (If t one other rest) f =
     (below_append n c.nodes o.nodes
     (join_below n x.last (i + length y.nodes + length z.nodes) env y.env z.env (touched one)
     (touched other) (distinct (touched one ++ touched other)))
-    (items_below n g (i + length y.nodes + length z.nodes + length c.nodes) z.number c.env no_bits
+    (items_below n g (i + length y.nodes + length z.nodes + length c.nodes) z.number c.env lb
     rest f.3))))
 
 -- EXITS

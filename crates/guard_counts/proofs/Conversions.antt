@@ -11,8 +11,8 @@ use Rattle.ir_forms.specs.HyperCode.{Items, Done, Set, Load, Save, If, Block}
 use Rattle.ir_forms.specs.HyperFits.{FitsItems, is_filled, filled_ifs}
 use Rattle.ir_forms.specs.FlowFits.{is_branch}
 use Rattle.predication.specs.Environments.{Scope, Env, Bits, no_bits, under, put, note, from_node, at_start}
-use Rattle.predication.specs.Environments.{distinct}
-use Rattle.predication.specs.Operands.{node_of, operand, second, is_test, bit_of, tested}
+use Rattle.predication.specs.Environments.{left_bits, distinct}
+use Rattle.predication.specs.Operands.{node_of, operand, second, bit_set, tested}
 use Rattle.predication.specs.Ifs.{items, join, touched}
 use Rattle.predication.specs.Converted.{begun, ended, predicated}
 use Rattle.predication.proofs.Ops.{op_form}
@@ -87,8 +87,8 @@ items_guarded (Set r o a c rest) g j m env bits f =
     let x = operand j env a in
     let y = second (takes_right (role_of o)) (j + length x.nodes) env c in
     let k = j + length x.nodes + length y.nodes in
-    let later = items g (suc k) m (put env r (from_node k)) (note bits r (bit_of (is_test o) k)) rest in
-    let h = items_guarded rest g (suc k) m (put env r (from_node k)) (note bits r (bit_of (is_test o) k)) f.4 in
+    let later = items g (suc k) m (put env r (from_node k)) (note bits r (bit_set o bits a k)) rest in
+    let h = items_guarded rest g (suc k) m (put env r (from_node k)) (note bits r (bit_set o bits a k)) f.4 in
     item_guarded x.nodes y.nodes later.nodes (node_of o 0 g x.sources y.sources) (has_sense g) (Set r o a c rest)
     (filled_ifs rest) (node_counts o 0 g x.sources y.sources later.nodes (ap is_branch (op_form o f.1)))
     (omega (arith, h))
@@ -117,11 +117,12 @@ items_guarded (If t one other rest) g j m env bits f =
     let c = join x.last (i + length y.nodes + length n.nodes) env y.env n.env (touched one) (touched other)
     (distinct (touched one ++ touched other)) in
     let at = i + length y.nodes + length n.nodes + length c.nodes in
-    let o = items g at n.number c.env no_bits rest in
+    let lb = left_bits bits (touched one ++ touched other) in
+    let o = items g at n.number c.env lb rest in
     if_guarded x.nodes y.nodes n.nodes c.nodes o.nodes (has_sense g) t one other rest
     (items_guarded one (under x.last true) i m env no_bits f.1)
     (items_guarded other (under x.last false) (i + length y.nodes) y.number env no_bits f.2)
-    (items_guarded rest g at n.number c.env no_bits f.3)
+    (items_guarded rest g at n.number c.env lb f.3)
 
 pub converts_sensed : (b : Block) → FitsItems b.items → filled_ifs b.items ≤ sensed_nodes (predicated b).nodes
 converts_sensed b f =

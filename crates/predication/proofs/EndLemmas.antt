@@ -1,7 +1,7 @@
 -- One item emitted, and the rest to come, is the item and the rest to come.
 use Rattle.std.proofs.Common.{◌≡◌, ℕ, suc, ◌+◌, List, [], ◌∷◌, ◌++◌, length, length-append, refl, sym, ap, subst}
 use Rattle.std.proofs.Common.{◌∙◌, arith, map, append_assoc, append-nil, Bool}
-use Rattle.std.specs.Prelude.{Option, Some, None, pos}
+use Rattle.std.specs.Prelude.{Option, None, pos}
 use Rattle.trips_isa.specs.declared.op.Op.{Op}
 use Rattle.trips_isa.specs.Forms.{role_of, takes_right}
 use Rattle.ir_forms.specs.declared.hyper.Source.{Source}
@@ -9,10 +9,9 @@ use Rattle.ir_forms.specs.declared.flow.FlowSource.{FlowSource}
 use Rattle.ir_forms.specs.declared.flow.FlowNode.{FlowNode}
 use Rattle.ir_forms.specs.HyperCode.{Items, Set, Load, Save}
 use Rattle.predication.specs.declared.work.Work.{Work}
-use Rattle.predication.specs.declared.work.Named.{Named}
 use Rattle.predication.specs.declared.work.Names.{Names}
-use Rattle.predication.specs.Environments.{Scope, Entry, Env, Bits, put, note, from_node}
-use Rattle.predication.specs.Operands.{Got, node_of, operand, second, is_test, bit_of}
+use Rattle.predication.specs.Environments.{Scope, Env, Bits, put, note, from_node}
+use Rattle.predication.specs.Operands.{Got, node_of, operand, second, bit_set}
 use Rattle.predication.specs.Ifs.{Out, items, touched}
 use Rattle.predication.specs.inside.Emits.{Adds, low, node, env_of, bits_of}
 use Rattle.predication.specs.inside.Ends.{End, behind, out_of, ends}
@@ -76,17 +75,17 @@ same_node w w2 o m g l l2 r r2 e f u =
 
 -- A `Set` that is emitted.
 pub set_ends : (g : Scope) (w w1 w2 w3 : Work) (n n2 : Names) (r : ℕ) (o : Op) (a b : Source)
-    (left right : List FlowSource) (at : ℕ) (tr it : Bool)
-    → tr ≡ takes_right (role_of o) → it ≡ is_test o
+    (left right : List FlowSource) (at : ℕ) (tr : Bool) (bit : Option ℕ)
+    → tr ≡ takes_right (role_of o) → bit ≡ bit_set o (bits_of n.bits) a at
     → Adds w w1 (operand (length w.nodes) (env_of n.entries) a).nodes
     → left ≡ (operand (length w.nodes) (env_of n.entries) a).sources
     → Adds w1 w2 (second tr (length w1.nodes) (env_of n.entries) b).nodes
     → right ≡ (second tr (length w1.nodes) (env_of n.entries) b).sources
     → at ≡ length w2.nodes → Adds w2 w3 (node o (pos 0) 0 g left right ∷ [])
     → env_of n2.entries ≡ put (env_of n.entries) r (from_node at)
-    → bits_of n2.bits ≡ note (bits_of n.bits) r (bit_of it at) → n2.sets ≡ n.sets ++ r ∷ []
+    → bits_of n2.bits ≡ note (bits_of n.bits) r bit → n2.sets ≡ n.sets ++ r ∷ []
     → (rest : Items) → ends g w3 n2 rest ≡ ends g w n (Set r o a b rest)
-set_ends g w w1 w2 w3 n n2 r o a b left right at tr it er ei p s q t e u v z y rest =
+set_ends g w w1 w2 w3 n n2 r o a b left right at tr bit er ei p s q t e u v z y rest =
     let j = length w.nodes in
     let env = env_of n.entries in
     let xs = operand j env a in
@@ -105,13 +104,13 @@ set_ends g w w1 w2 w3 n n2 r o a b left right at tr it er ei p s q t e u v z y r
     adds_two w w1 w3 xs.nodes (ys.nodes ++ nd ∷ []) p (adds_two w1 w2 w3 ys.nodes (nd ∷ []) q2 u2) in
     let ek : at ≡ k = e ∙ adds_count w1 w2 ys.nodes q2 ∙ ap (λ (i : ℕ). i + length ys.nodes) l1 in
     let env2 = put env r (from_node k) in
-    let bits2 = note (bits_of n.bits) r (bit_of (is_test o) k) in
+    let bits2 = note (bits_of n.bits) r (bit_set o (bits_of n.bits) a k) in
     let os = items g (suc k) w.number env2 bits2 rest in
     emitted g w w3 n n2 X (suc k) w.number env2 bits2 (r ∷ []) rest (adds_nodes w w3 X all)
     (counted j xs.nodes ys.nodes nd) (adds_number w w3 X all)
     (v ∙ ap (λ (i : ℕ). put env r (from_node i)) ek)
-    (z ∙ ap (λ (c : Bool). note (bits_of n.bits) r (bit_of c at)) ei
-    ∙ ap (λ (i : ℕ). note (bits_of n.bits) r (bit_of (is_test o) i)) ek) y
+    (z ∙ ap (λ (c : Option ℕ). note (bits_of n.bits) r c) ei
+    ∙ ap (λ (i : ℕ). note (bits_of n.bits) r (bit_set o (bits_of n.bits) a i)) ek) y
     ∙ ap (λ (ns : List FlowNode). end_of os (n.sets ++ (r ∷ touched rest)) (w.nodes ++ map low ns))
     (grouped xs.nodes ys.nodes os.nodes nd)
 

@@ -1,7 +1,7 @@
 -- Exits and tails emitted are those of the definition.
 use Rattle.std.proofs.Common.{◌≡◌, ℕ, suc, ◌+◌, ◌-◌, ◌/◌, ◌%◌, ◌^◌, Bool, true, false, cond, nat_lt, List, []}
 use Rattle.std.proofs.Common.{◌∷◌, ◌++◌}
-use Rattle.std.proofs.Common.{length, refl, sym, ap, ap₂, subst, ◌∙◌, arith, map, append_assoc, append-nil, IsTrue, ◌↔◌}
+use Rattle.std.proofs.Common.{length, sym, ap, ap₂, subst, ◌∙◌, arith, map, IsTrue, ◌↔◌}
 use Rattle.std.proofs.lemmas.Bool.Decides.{nat_tests}
 use Rattle.trips_isa.specs.declared.op.Op.{Op}
 use Rattle.trips_isa.specs.declared.op.Op.TheVariants.{Genu, App, Callo, Ret}
@@ -21,7 +21,7 @@ use Rattle.predication.specs.declared.work.Work.{Work}
 use Rattle.predication.specs.declared.work.Named.{Named}
 use Rattle.predication.specs.declared.work.Noted.{Noted}
 use Rattle.predication.specs.declared.work.Names.{Names}
-use Rattle.predication.specs.Environments.{Scope, Env, Bits, no_bits, under, put, from_node, distinct}
+use Rattle.predication.specs.Environments.{Scope, no_bits, under, distinct}
 use Rattle.predication.specs.Operands.{Chain, constant_of, operand, tested, mov_of}
 use Rattle.predication.specs.Ifs.{Joined, join}
 use Rattle.predication.specs.Outcomes.{NamesLabel, NamesLabels}

@@ -1,11 +1,11 @@
 -- One register joined, and then the others, is all of them joined.
-use Rattle.std.proofs.Common.{◌≡◌, ℕ, ◌+◌, List, [], ◌∷◌, ◌++◌, length, length-append, sym, ap, ◌∙◌}
+use Rattle.std.proofs.Common.{◌≡◌, ℕ, ◌+◌, List, [], ◌∷◌, ◌++◌, length, length-append, ap, ◌∙◌}
 use Rattle.std.proofs.Common.{arith, map, append_assoc, true, false}
 use Rattle.ir_forms.specs.declared.flow.FlowNode.{FlowNode}
 use Rattle.predication.specs.declared.work.Work.{Work}
 use Rattle.predication.specs.declared.work.Named.{Named}
 use Rattle.predication.specs.declared.work.Names.{Names}
-use Rattle.predication.specs.Environments.{Entry, Env, under, put}
+use Rattle.predication.specs.Environments.{Entry, under, put}
 use Rattle.predication.specs.Ifs.{Part, Joined}
 use Rattle.predication.specs.inside.Emits.{Adds, low, leg_part, both_nodes, both_entry, puts, joined_at}
 use Rattle.predication.proofs.AddLemmas.{more_nodes, adds_nodes, adds_count}

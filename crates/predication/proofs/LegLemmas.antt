@@ -1,5 +1,5 @@
 -- Both legs of an if emitted and met, and the rest to come, is the if and the rest to come.
-use Rattle.std.proofs.Common.{◌≡◌, ℕ, suc, ◌+◌, List, [], ◌∷◌, ◌++◌, length, length-append, refl, sym, ap, ap₂, subst}
+use Rattle.std.proofs.Common.{◌≡◌, ℕ, ◌+◌, List, [], ◌++◌, length, length-append, sym, ap, subst}
 use Rattle.std.proofs.Common.{◌∙◌, arith, map, append_assoc, append-nil, true, false}
 use Rattle.ir_forms.specs.declared.hyper.Source.{Source}
 use Rattle.ir_forms.specs.declared.flow.FlowNode.{FlowNode}
@@ -12,13 +12,13 @@ use Rattle.predication.specs.declared.work.Work.{Work}
 use Rattle.predication.specs.declared.work.Named.{Named}
 use Rattle.predication.specs.declared.work.Noted.{Noted}
 use Rattle.predication.specs.declared.work.Names.{Names}
-use Rattle.predication.specs.Environments.{Scope, Env, Bits, no_bits, under, distinct}
+use Rattle.predication.specs.Environments.{Scope, Env, no_bits, left_bits, under, distinct}
 use Rattle.predication.specs.Operands.{Chain, tested}
 use Rattle.predication.specs.Ifs.{Joined, Out, join, items, touched}
 use Rattle.predication.specs.inside.Emits.{Adds, low, env_of, bits_of, joined_at}
 use Rattle.predication.specs.inside.Ends.{End, behind, out_of, ends}
 use Rattle.predication.proofs.AddLemmas.{more_nodes, count_more, adds_nodes, adds_number, adds_count}
-use Rattle.predication.proofs.EndLemmas.{end_of, after, goes_on, emitted}
+use Rattle.predication.proofs.EndLemmas.{end_of, goes_on, emitted}
 
 -- a state that has come from another by these nodes
 pub record Came (w w2 : Work) (n2 : Names) (X : List FlowNode) (m : ℕ) (v : Env) (set : List ℕ) : Type 0 where
@@ -106,7 +106,7 @@ pub branch_ends : (g gy gn : Scope) (w wt wy wn w3 : Work) (n n3 fy sy fn sn : N
     → gn ≡ under at false → Begins n.entries fn → ends gn wn sn Done ≡ ends gn wy fn other
     → Adds wn w3 (joined_at at (length wn.nodes) n.entries sy sn (distinct (sy.sets ++ sn.sets))).nodes
     → env_of n3.entries ≡ (joined_at at (length wn.nodes) n.entries sy sn (distinct (sy.sets ++ sn.sets))).env
-    → n3.bits ≡ [] → n3.sets ≡ n.sets ++ (sy.sets ++ sn.sets)
+    → bits_of n3.bits ≡ left_bits (bits_of n.bits) (sy.sets ++ sn.sets) → n3.sets ≡ n.sets ++ (sy.sets ++ sn.sets)
     → (rest : Items) → ends g w3 n3 rest ≡ ends g w n (If t one other rest)
 branch_ends g gy gn w wt wy wn w3 n n3 fy sy fn sn t one other at ea p ey begun hy en began hn q v z s rest =
     let j = length w.nodes in
@@ -146,9 +146,13 @@ branch_ends g gy gn w wt wy wn w3 n n3 fy sy fn sn t one other at ea p ey begun 
     let sets : n3.sets ≡ n.sets ++ (touched one ++ touched other) =
     s ∙ ap (λ (x : List ℕ). n.sets ++ (x ++ sn.sets)) cy.sets
     ∙ ap (λ (x : List ℕ). n.sets ++ (touched one ++ x)) cn.sets in
-    let os = items g k o.number c.env no_bits rest in
-    emitted g w w3 n n3 X k o.number c.env no_bits (touched one ++ touched other) rest nodes many num
-    (v ∙ ap (λ (d : Joined). d.env) ec) (ap (λ (x : List Noted). bits_of x) z) sets
+    let lb = left_bits (bits_of n.bits) (touched one ++ touched other) in
+    let bits : bits_of n3.bits ≡ lb =
+    z ∙ ap (λ (x : List ℕ). left_bits (bits_of n.bits) (x ++ sn.sets)) cy.sets
+    ∙ ap (λ (x : List ℕ). left_bits (bits_of n.bits) (touched one ++ x)) cn.sets in
+    let os = items g k o.number c.env lb rest in
+    emitted g w w3 n n3 X k o.number c.env lb (touched one ++ touched other) rest nodes many num
+    (v ∙ ap (λ (d : Joined). d.env) ec) bits sets
     ∙ ap (λ (ns : List FlowNode). end_of os (n.sets ++ ((touched one ++ touched other) ++ touched rest))
     (w.nodes ++ map low ns)) (four_grouped xs.nodes y.nodes o.nodes c.nodes os.nodes)
 

@@ -4,6 +4,7 @@ pub mod Halves
 pub mod Operands
 pub mod Legs
 pub mod Memory
+pub mod BitLemmas
 pub mod Untaken
 pub mod WordLemmas
 pub mod Taken

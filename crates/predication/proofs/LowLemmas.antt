@@ -1,6 +1,6 @@
 -- A block of at most 128 nodes has numbers that a node's field holds: each load, store and exit is a node.
 use Rattle.std.proofs.Common.{◌≡◌, ℕ, zero, suc, ◌+◌, ◌/◌, ◌%◌, ◌<◌, ◌≤◌, Bool, true, false, nat_lt, List, [], ◌∷◌}
-use Rattle.std.proofs.Common.{◌++◌, length, length-append, map, refl, sym, ap, ap₂, ◌∙◌, arith}
+use Rattle.std.proofs.Common.{◌++◌, length, length-append, map, refl, ap, ap₂, arith}
 use Rattle.std.specs.Prelude.{Option, Some, None}
 use Rattle.trips_isa.specs.Forms.{role_of, takes_right}
 use Rattle.ir_forms.specs.declared.hyper.Source.{Source}
@@ -11,17 +11,16 @@ use Rattle.ir_forms.specs.declared.flow.FlowSource.{FlowSource}
 use Rattle.ir_forms.specs.declared.flow.FlowNode.{FlowNode}
 use Rattle.ir_forms.specs.HyperCode.{Items, Done, Set, Load, Save, If, Tail, Leave, Test, Block}
 use Rattle.predication.specs.Environments.{Scope, Entry, Env, Bits, put, note, from_node, under, no_bits, member}
-use Rattle.predication.specs.Environments.{at_start, distinct}
+use Rattle.predication.specs.Environments.{at_start, left_bits, distinct}
 use Rattle.trips_isa.specs.declared.op.Op.TheVariants.{Ret}
-use Rattle.predication.specs.Operands.{Got, node_of, chain, longer, movs, read_of, operand, second, is_test}
-use Rattle.predication.specs.Operands.{bit_of, fresh_test}
-use Rattle.predication.specs.Operands.{test_by, tested, most_apps}
-use Rattle.predication.specs.Ifs.{left_of, side_of, Joined, join, Out, items, touched}
-use Rattle.predication.specs.Tails.{Ending, branch_of, leaving, tail, tail_touched}
+use Rattle.predication.specs.Operands.{Got, node_of, chain, longer, movs, read_of, operand, second, bit_set}
+use Rattle.predication.specs.Operands.{fresh_test, test_by, tested, most_apps}
+use Rattle.predication.specs.Ifs.{left_of, side_of, join, items, touched}
+use Rattle.predication.specs.Tails.{branch_of, leaving, tail, tail_touched}
 use Rattle.predication.specs.Converted.{begun, ended, all_nodes}
 use Rattle.predication.specs.inside.Emits.{low}
-use Rattle.predication.proofs.Untaken.{legs_at, test_at, yea_out, nay_at, nay_out, join_at, joined, rest_at, rest_out}
-use Rattle.predication.proofs.Tails.{t_yea, t_nay_at, t_nay, t_join_at, t_joined}
+use Rattle.predication.proofs.Untaken.{legs_at, test_at, yea_out, nay_at, nay_out, joined, rest_at, rest_out}
+use Rattle.predication.proofs.Tails.{t_yea, t_nay_at, t_nay, t_joined}
 
 -- no node has a number above k
 abbrev AtMost : ℕ → List FlowNode → Type 0
@@ -109,7 +108,8 @@ items_up (If t yea nay rest) g j m env bits =
       arith,
       items_up yea (under (test_at g j env bits t) true) (legs_at g j env bits t) m env no_bits,
       items_up nay (under (test_at g j env bits t) false) (nay_at g j m env bits t yea) y.number env no_bits,
-      items_up rest g (rest_at g j m env bits t yea nay) n.number (joined g j m env bits t yea nay).env no_bits,
+      items_up rest g (rest_at g j m env bits t yea nay) n.number (joined g j m env bits t yea nay).env
+          (left_bits bits (touched yea ++ touched nay)),
     )
 
 -- as many as there are loads and stores, each of which is a node
@@ -120,8 +120,8 @@ items_few (Set r o a b rest) g j m env bits =
     let xs = operand j env a in
     let ys = second (takes_right (role_of o)) (j + length xs.nodes) env b in
     let k = j + length xs.nodes + length ys.nodes in
-    let os = items g (suc k) m (put env r (from_node k)) (note bits r (bit_of (is_test o) k)) rest in
-    let h = items_few rest g (suc k) m (put env r (from_node k)) (note bits r (bit_of (is_test o) k)) in
+    let os = items g (suc k) m (put env r (from_node k)) (note bits r (bit_set o bits a k)) rest in
+    let h = items_few rest g (suc k) m (put env r (from_node k)) (note bits r (bit_set o bits a k)) in
     let nd = node_of o 0 g xs.sources ys.sources in
     let l = length-append xs.nodes (ys.nodes ++ nd ∷ os.nodes) in
     let l2 = length-append ys.nodes (nd ∷ os.nodes) in
@@ -151,7 +151,8 @@ items_few (If t yea nay rest) g j m env bits =
     let o = rest_out g j m env bits t yea nay rest in
     let a = items_few yea (under (test_at g j env bits t) true) (legs_at g j env bits t) m env no_bits in
     let b = items_few nay (under (test_at g j env bits t) false) (nay_at g j m env bits t yea) y.number env no_bits in
-    let d = items_few rest g (rest_at g j m env bits t yea nay) n.number c.env no_bits in
+    let d = items_few rest g (rest_at g j m env bits t yea nay) n.number c.env
+    (left_bits bits (touched yea ++ touched nay)) in
     let l1 = length-append x (y.nodes ++ (n.nodes ++ (c.nodes ++ o.nodes))) in
     let l2 = length-append y.nodes (n.nodes ++ (c.nodes ++ o.nodes)) in
     let l3 = length-append n.nodes (c.nodes ++ o.nodes) in
@@ -182,14 +183,15 @@ items_most (If t yea nay rest) g j m env bits k h =
     let n = nay_out g j m env bits t yea nay in
     let c = joined g j m env bits t yea nay in
     let un = items_up nay (under (test_at g j env bits t) false) (nay_at g j m env bits t yea) y.number env no_bits in
-    let ur = items_up rest g (rest_at g j m env bits t yea nay) n.number c.env no_bits in
+    let ur = items_up rest g (rest_at g j m env bits t yea nay) n.number c.env
+    (left_bits bits (touched yea ++ touched nay)) in
     let ln : n.number ≤ k = omega (arith, ur, h) in
     let ly : y.number ≤ k = omega (arith, un, ln) in
     most_append k _ _ (tested_most k g j env bits t)
     (most_append k _ _ (items_most yea _ _ m env no_bits k ly)
     (most_append k _ _ (items_most nay _ _ y.number env no_bits k ln)
     (most_append k _ _ (join_most (distinct (touched yea ++ touched nay)) k _ _ env y.env n.env (touched yea) (touched nay))
-    (items_most rest g _ n.number c.env no_bits k h))))
+    (items_most rest g _ n.number c.env (left_bits bits (touched yea ++ touched nay)) k h))))
 
 -- EXITS
 

@@ -1,7 +1,7 @@
 -- What is emitted of a block, put together, is the block's flow block, and its counts are the block's.
-use Rattle.std.proofs.Common.{◌≡◌, ℕ, suc, ◌+◌, ◌<◌, ◌≤◌, List, [], ◌∷◌, ◌++◌, length, refl, sym, ap, subst, ◌∙◌, arith}
-use Rattle.std.proofs.Common.{map, append-nil, IfOk, IfErr}
-use Rattle.std.specs.Prelude.{Option, Some, None, Result, Ok, Err}
+use Rattle.std.proofs.Common.{◌≡◌, ℕ, ◌+◌, ◌≤◌, List, [], ◌++◌, length, refl, sym, ap, subst, ◌∙◌, arith}
+use Rattle.std.proofs.Common.{map, IfOk, IfErr}
+use Rattle.std.specs.Prelude.{None, Result, Ok, Err}
 use Rattle.std.proofs.lemmas.List.{map-append, length-map}
 use Rattle.ir_forms.specs.declared.flow.FlowNode.{FlowNode}
 use Rattle.ir_forms.specs.declared.flow.FlowBlock.{FlowBlock}
@@ -21,7 +21,7 @@ use Rattle.predication.specs.Tails.{Ending, tail, tail_touched}
 use Rattle.predication.specs.Converted.{begun, ended, all_nodes, all_touched, predicated}
 use Rattle.predication.specs.Outcomes.{Counts, counts_of, HasRoomFor, IsRefusal}
 use Rattle.predication.specs.inside.Emits.{low, env_of, bits_of}
-use Rattle.predication.specs.inside.Ends.{End, out_of, ends, behind, ending_of, work_after}
+use Rattle.predication.specs.inside.Ends.{End, out_of, ends, ending_of, work_after}
 use Rattle.predication.specs.inside.Made.{writes_of, reads_of, mask_of, flow_of, flow_in, counts_by, counts_in}
 use Rattle.predication.specs.inside.Made.{IsEmitted}
 use Rattle.predication.proofs.Static.{tail_number}

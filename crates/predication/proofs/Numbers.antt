@@ -11,8 +11,8 @@ use Rattle.trips_isa.specs.Rule.{Answer}
 use Rattle.trips_isa.specs.Tables.{or_else}
 use Rattle.ir_forms.specs.declared.flow.FlowNode.{FlowNode}
 use Rattle.ir_forms.specs.FlowRuns.{Computes, met, Obeys, stored_where, stored_in, stores, present, numbered, tokens}
-use Rattle.predication.specs.Environments.{Scope, Env, Bits, put, from_node, under, no_bits, note, distinct}
-use Rattle.predication.specs.Operands.{node_of, operand, second, bit_of, is_test, tested}
+use Rattle.predication.specs.Environments.{Scope, Env, Bits, put, from_node, under, no_bits, left_bits, note, distinct}
+use Rattle.predication.specs.Operands.{node_of, operand, second, bit_set, tested}
 use Rattle.predication.specs.Ifs.{items, touched}
 use Rattle.ir_forms.specs.HyperCode.{Items, Done, Set, Load, Save, If}
 use Rattle.ir_forms.specs.HyperFits.{FitsItems}
@@ -79,12 +79,12 @@ items_rise (Set r o a b rest) g j m env bits tk =
     let tr = takes_right (role_of o) in
     let ys = (second tr i env b).nodes in
     let k = i + length ys in
-    let rs = items g (suc k) m (put env r (from_node k)) (note bits r (bit_of (is_test o) k)) rest in
+    let rs = items g (suc k) m (put env r (from_node k)) (note bits r (bit_set o bits a k)) rest in
     let n = node_of o 0 g (operand j env a).sources (second tr i env b).sources in
     rises_append m m _ xs _ (quiet_rises m xs (operand_quiet j env a))
     (rises_append m m _ ys _ (quiet_rises m ys (second_quiet tr i env b))
     (rises_still m rs.number n rs.nodes (ap is_still (op_form o tk.1))
-    (items_rise rest g (suc k) m (put env r (from_node k)) (note bits r (bit_of (is_test o) k)) tk.4)))
+    (items_rise rest g (suc k) m (put env r (from_node k)) (note bits r (bit_set o bits a k)) tk.4)))
 items_rise (Load r o a rest) g j m env bits tk =
     let xs = (operand j env a).nodes in
     let k = j + length xs in
@@ -117,7 +117,8 @@ items_rise (If t yea nay rest) g j m env bits tk =
     (rises_append n.number n.number _ c.nodes _
     (quiet_rises n.number c.nodes (join_quiet (distinct (touched yea ++ touched nay)) k
     (join_at g j m env bits t yea nay) env y.env n.env (touched yea) (touched nay)))
-    (items_rise rest g (rest_at g j m env bits t yea nay) n.number c.env no_bits tk.3))))
+    (items_rise rest g (rest_at g j m env bits t yea nay) n.number c.env
+    (left_bits bits (touched yea ++ touched nay)) tk.3))))
 
 pub next_le : (F : Form) (m : ℕ) → m ≤ next_after F m
 next_le form.General m = omega arith

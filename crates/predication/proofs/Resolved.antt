@@ -21,9 +21,9 @@ use Rattle.ir_forms.specs.declared.flow.FlowBlock.{FlowBlock}
 use Rattle.ir_forms.specs.HyperCode.{Items, Done, Set, Load, Save, If, Tail, Leave, Test}
 use Rattle.ir_forms.specs.HyperFits.{FitsSource, FitsItems, FitsTail}
 use Rattle.predication.specs.Environments.{Scope, Entry, Env, Bits, no_bits, under, put, note, from_node}
-use Rattle.predication.specs.Environments.{at_start, member, distinct}
+use Rattle.predication.specs.Environments.{at_start, left_bits, member, distinct}
 use Rattle.predication.specs.Operands.{Got, node_of, constant_of, mov_of, longer, chain, movs, read_of}
-use Rattle.predication.specs.Operands.{operand, second, is_test, bit_of, fresh_test, test_by, tested}
+use Rattle.predication.specs.Operands.{operand, second, bit_set, fresh_test, test_by, tested}
 use Rattle.predication.specs.Ifs.{Part, left_of, side_of, Joined, join, items, touched}
 use Rattle.predication.specs.Tails.{exit_with, tail_with, labelled, addressed, high_half, low_half, branch_of}
 use Rattle.predication.specs.Tails.{tail_touched, Ending, leaving, tail}
@@ -236,7 +236,7 @@ module _ (address : ℕ → ℕ) where
       kept_append x.nodes _ (kept_operand j env a t.2)
       (kept_append y.nodes _ (kept_second tr (j + length x.nodes) env b t.3)
       (kept_cons _ _ (node_kept o 0 g x.sources y.sources)
-      (kept_items rest g (suc k) m (put env r (from_node k)) (note bits r (bit_of (is_test o) k)) t.4)))
+      (kept_items rest g (suc k) m (put env r (from_node k)) (note bits r (bit_set o bits a k)) t.4)))
   kept_items (Load r o a rest) g j m env bits t =
       let x = operand j env a in
       let k = j + length x.nodes in
@@ -263,7 +263,8 @@ module _ (address : ℕ → ℕ) where
       (kept_append c.nodes _
       (kept_join (distinct (touched one ++ touched other)) x.last (i + length y.nodes + length n.nodes) env y.env n.env
       (touched one) (touched other))
-      (kept_items rest g (i + length y.nodes + length n.nodes + length c.nodes) n.number c.env no_bits f.3))))
+      (kept_items rest g (i + length y.nodes + length n.nodes + length c.nodes) n.number c.env
+      (left_bits bits (touched one ++ touched other)) f.3))))
 
   -- ENDS
 

@@ -15,10 +15,10 @@ use Rattle.ir_forms.specs.declared.flow.FlowSource.{FlowSource}
 use Rattle.ir_forms.specs.declared.flow.FlowSource.TheVariants.{Read, Node}
 use Rattle.ir_forms.specs.declared.flow.FlowNode.{FlowNode}
 use Rattle.predication.specs.Environments.{Scope, Entry, Env, Bits, put, from_node, both, under, sense_on}
-use Rattle.predication.specs.Environments.{member, distinct, no_bits, note}
+use Rattle.predication.specs.Environments.{member, distinct, no_bits, left_bits, note}
 use Rattle.predication.specs.Operands.{node_of, constant_of, mov_of, Chain, longer, chain, Got, movs, froms}
-use Rattle.predication.specs.Operands.{read_of, operand, second, bit_of, is_test, fresh_test, test_by, tested}
-use Rattle.predication.specs.Operands.{test_of}
+use Rattle.predication.specs.Operands.{read_of, operand, second, bit_of, is_test, is_move, bit_at, bit_set}
+use Rattle.predication.specs.Operands.{fresh_test, test_by, tested, test_of}
 use Rattle.predication.specs.Ifs.{Part, left_of, side_of, Joined, join, Out, items, touched}
 use Rattle.predication.specs.Tails.{branch_of, Ending, leaving, tail, tail_touched, high_half, low_half}
 use Rattle.predication.proofs.Halves.{high_is, low_is}
@@ -41,6 +41,7 @@ use Rattle.std.proofs.Common.{◌^◌}
 use Rattle.ir_forms.specs.HyperFits.{FitsExit, exits_in}
 use Rattle.ir_forms.specs.FlowRegular.{is_silent}
 use Rattle.predication.proofs.Operands.{below}
+use Rattle.predication.proofs.BitLemmas.{bit_left}
 use Rattle.predication.proofs.Numbers.{rises_le, items_rise}
 use Rattle.predication.proofs.Tails.{t_yea, t_nay_at, t_nay, t_join_at, t_joined}
 use Rattle.predication.proofs.Converted.{touched_low, tail_low, either_low}
@@ -235,6 +236,21 @@ module _ (T : ℕ → Type 0) where
   bit_good : (b : Bool) (j k i : ℕ) → k < j → T k → bit_of b k ≡ Some i → (i < j) × T i
   bit_good true j k i l t e = let same : k ≡ i = cc in (omega (arith, l, same), subst T same t)
   bit_good false j k i l t e = absurd (cc)
+
+  copied_good : (j : ℕ) (bits : Bits) (a : Source) (i : ℕ) → GoodBits j bits → bit_at bits a ≡ Some i → (i < j) × T i
+  copied_good j bits (Const w) i g e = absurd (cc e)
+  copied_good j bits (Reg r) i g e = g r i e
+
+  set_good : (o : Op) (bits : Bits) (a : Source) (j k i : ℕ) → k < j → T k → GoodBits j bits
+      → bit_set o bits a k ≡ Some i → (i < j) × T i
+  set_good o bits a j k i l t g e = go (is_move o) e
+    where
+      go : (b : Bool) → cond b (bit_at bits a) (bit_of (is_test o) k) ≡ Some i → (i < j) × T i
+      go true z = copied_good j bits a i g z
+      go false z = bit_good (is_test o) j k i l t z
+
+  left_good : (j : ℕ) (bits : Bits) (rs : List ℕ) → GoodBits j bits → GoodBits j (left_bits bits rs)
+  left_good j bits rs g q k e = g q k (bit_left rs bits q k e).1
 
   -- PIECES
 
@@ -524,7 +540,7 @@ module _ (T : ℕ → Type 0) where
       let ys = (second tr i env b).nodes in
       let k = i + length ys in
       let e2 = put env r (from_node k) in
-      let b2 = note bits r (bit_of (is_test o) k) in
+      let b2 = note bits r (bit_set o bits a k) in
       let rs = items g (suc k) m e2 b2 rest in
       let n = node_of o 0 g (operand j env a).sources (second tr i env b).sources in
       let h1 = heard_back j xs (ys ++ n ∷ rs.nodes) hd in
@@ -535,8 +551,8 @@ module _ (T : ℕ → Type 0) where
       let later : j ≤ suc k = omega arith in
       let z = items_static rest g (suc k) m e2 b2 tk.4 (guard_later j (suc k) g later gg)
       (put_good (suc k) env r (from_node k) (env_later j (suc k) env later ge) (((omega arith, tk'), tt), tt))
-      (note_good (suc k) bits r (bit_of (is_test o) k) (bits_later j (suc k) bits later gb)
-      (λ q e. bit_good (is_test o) (suc k) k q (omega arith) tk' e)) h2.1 le in
+      (note_good (suc k) bits r (bit_set o bits a k) (bits_later j (suc k) bits later gb)
+      (λ q e. set_good o bits a (suc k) k q (omega arith) tk' (bits_later j (suc k) bits later gb) e)) h2.1 le in
       let w : Well k n = record {
         form = set_form o n tk.1 refl refl;
         taken_left = set_left o (operand j env a).sources tk.1;
@@ -624,6 +640,7 @@ module _ (T : ℕ → Type 0) where
       let na = nay_at g j m env bits t yea in
       let ja = join_at g j m env bits t yea nay in
       let ra = rest_at g j m env bits t yea nay in
+      let lb = left_bits bits (touched yea ++ touched nay) in
       let h1 = heard_back j xs (y.nodes ++ (n.nodes ++ (c.nodes ++ o.nodes))) hd in
       let h2 = heard_back i y.nodes (n.nodes ++ (c.nodes ++ o.nodes)) h1 in
       let h3 = heard_back na n.nodes (c.nodes ++ o.nodes) h2 in
@@ -632,7 +649,7 @@ module _ (T : ℕ → Type 0) where
       (heard_front j xs (y.nodes ++ (n.nodes ++ (c.nodes ++ o.nodes))) hd) in
       let ry = rises_le m y.number y.nodes (items_rise yea (under k true) i m env no_bits tk.1) in
       let rn = rises_le y.number n.number n.nodes (items_rise nay (under k false) na y.number env no_bits tk.2) in
-      let ro = rises_le n.number o.number o.nodes (items_rise rest g ra n.number c.env no_bits tk.3) in
+      let ro = rises_le n.number o.number o.nodes (items_rise rest g ra n.number c.env lb tk.3) in
       let ly = items_static yea (under k true) i m env no_bits tk.1 (good_under i k true x.last x.talks)
       (env_later j i env (omega arith) ge) (no_bits_good i)
       (heard_front i y.nodes (n.nodes ++ (c.nodes ++ o.nodes)) h1) (omega (arith, rn, ro, le)) in
@@ -646,8 +663,9 @@ module _ (T : ℕ → Type 0) where
       (sym (member_distinct q (touched yea ++ touched nay)) ∙ e)) kj x.talks
       (env_later j ja env (omega arith) ge) (ly.env ja (omega arith)) (ln.env ja (omega arith))
       (heard_front ja c.nodes o.nodes h3) in
-      let lr = items_static rest g ra n.number c.env no_bits tk.3 (guard_later j ra g (omega arith) gg)
-      (lj.env ra (omega arith)) (no_bits_good ra) h4 le in
+      let lr = items_static rest g ra n.number c.env lb tk.3 (guard_later j ra g (omega arith) gg)
+      (lj.env ra (omega arith))
+      (left_good ra bits (touched yea ++ touched nay) (bits_later j ra bits (omega arith) gb)) h4 le in
       let l1 = length-append xs (y.nodes ++ (n.nodes ++ (c.nodes ++ o.nodes))) in
       let l2 = length-append y.nodes (n.nodes ++ (c.nodes ++ o.nodes)) in
       let l3 = length-append n.nodes (c.nodes ++ o.nodes) in

@@ -19,7 +19,7 @@ use Rattle.ir_forms.specs.declared.flow.FlowSource.TheVariants.{Node}
 use Rattle.ir_forms.specs.declared.flow.FlowNode.{FlowNode}
 use Rattle.ir_forms.specs.HyperRuns.{register_put, value_of}
 use Rattle.ir_forms.specs.FlowRuns.{Computes, first, gives, met, exits, leaving_in}
-use Rattle.predication.specs.Environments.{Scope, Env, Bits, from_node, under, member, distinct, no_bits}
+use Rattle.predication.specs.Environments.{Scope, Env, Bits, from_node, under, member, distinct, no_bits, left_bits}
 use Rattle.predication.specs.Operands.{constant_of, mov_of, operand, second, tested}
 use Rattle.predication.specs.Ifs.{Joined, join, items, touched}
 use Rattle.predication.specs.Tails.{branch_of, Ending, leaving, tail, tail_touched, address_nodes, high_half, low_half}
@@ -118,7 +118,8 @@ items_inner (If t yea nay rest) g j m env bits tk =
     (inner_append n.nodes _ (items_inner nay (under k false) (nay_at g j m env bits t yea) y.number env no_bits tk.2)
     (inner_append c.nodes _ (join_inner (distinct (touched yea ++ touched nay)) k
     (join_at g j m env bits t yea nay) env y.env n.env (touched yea) (touched nay))
-    (items_inner rest g (rest_at g j m env bits t yea nay) n.number c.env no_bits tk.3))))
+    (items_inner rest g (rest_at g j m env bits t yea nay) n.number c.env
+    (left_bits bits (touched yea ++ touched nay)) tk.3))))
 
 module _ (regs : ℕ → ℕ) (h : ℕ → Answer) (f : Computes) (st : ℕ → Option Stored) (mem : List ℕ) where
   abbrev pub Taken : Type 0

@@ -19,9 +19,10 @@ use Rattle.ir_forms.specs.declared.flow.FlowNode.{FlowNode}
 use Rattle.trips_isa.specs.Acts.{Act}
 use Rattle.ir_forms.specs.HyperRuns.{register_put, value_of}
 use Rattle.ir_forms.specs.FlowRuns.{Computes, first, met, act_tokens, fired}
-use Rattle.predication.specs.Environments.{Scope, Env, Bits, put, from_node, under, no_bits, note, distinct}
-use Rattle.predication.specs.Operands.{node_of, Got, operand, second, bit_of, is_test, fresh_test, test_by}
-use Rattle.predication.specs.Operands.{tested, test_of}
+use Rattle.predication.specs.Environments.{Scope, Env, Bits, put, from_node, under, no_bits, left_bits, note, member}
+use Rattle.predication.specs.Environments.{distinct}
+use Rattle.predication.specs.Operands.{node_of, Got, operand, second, bit_of, is_test, is_move, bit_at, bit_set}
+use Rattle.predication.specs.Operands.{fresh_test, test_by, tested, test_of}
 use Rattle.predication.specs.Ifs.{Out, items, touched}
 use Rattle.trips_isa.specs.Forms.{size_of, role_in}
 use Rattle.trips_isa.specs.Rule.{low, matched}
@@ -44,6 +45,7 @@ use Rattle.predication.proofs.WordLemmas.{Words, load_word, save_bytes}
 use Rattle.trips_isa.proofs.WordLemmas.{alu_fits}
 use Rattle.predication.proofs.Operands.{Meant, Gives, operand_gives, second_gives}
 use Rattle.predication.proofs.Ops.{op_form, op_fires, op_acts, test_bit}
+use Rattle.predication.proofs.BitLemmas.{bit_left, none_among, move_gives}
 use Rattle.trips_isa.specs.Alu.{alu_of, loaded_as}
 use Rattle.trips_isa.specs.Stores.{is_good_address, bytes_seen}
 use Rattle.std.specs.Prelude.{slice_index}
@@ -99,8 +101,9 @@ module _ (regs : ℕ → ℕ) (h : ℕ → Answer) (f : Computes) (st : ℕ → 
 
   -- the nodes of bits give the registers' words, which are 0 or 1
   pub record BitIs (k v : ℕ) : Type 0 where
-    pub gives : h k ≡ Some (Word v)
-    pub means : Meant regs h f st mem → v < 2
+    pub word : ℕ
+    pub gives : h k ≡ Some (Word word)
+    pub means : Meant regs h f st mem → (word ≡ v) × (v < 2)
 
   abbrev pub BitsAre : Bits → (ℕ → ℕ) → Type 0
   BitsAre bits vals = (r k : ℕ) → bits r ≡ Some k → BitIs k (vals r)
@@ -111,6 +114,7 @@ module _ (regs : ℕ → ℕ) (h : ℕ → Answer) (f : Computes) (st : ℕ → 
     pub live : Live regs h (items g j m env bits is).env after.registers
     pub calm : Calm regs h (items g j m env bits is).nodes
     pub bit : BitsAre (items g j m env bits is).bits after.registers
+    pub kept : (q : ℕ) → member q (touched is) ≡ false → after.registers q ≡ s.registers q
     pub means : Meant regs h f st mem → Words s → Holds st mem m s.memory → Means (items g j m env bits is) s after is
 
   pub no_bit : (vals : ℕ → ℕ) → BitsAre no_bits vals
@@ -128,8 +132,46 @@ module _ (regs : ℕ → ℕ) (h : ℕ → Answer) (f : Computes) (st : ℕ → 
   bit_is : (b : Bool) (k i v : ℕ) → h k ≡ Some (Word v) → (b ≡ true → Meant regs h f st mem → v < 2) → bit_of b k
       ≡ Some i → BitIs i v
   bit_is true k i v e l z = let same : k ≡ i = cc in record
-      { gives = subst (λ (n : ℕ). h n ≡ Some (Word v)) same e; means = l refl }
+      { word = v; gives = subst (λ (n : ℕ). h n ≡ Some (Word v)) same e; means = λ m. (refl, l refl m) }
   bit_is false k i v e l z = absurd (cc)
+
+  -- a copied word keeps its bit
+  copied_is : (bits : Bits) (vals : ℕ → ℕ) (a : Source) (i v : ℕ) → (Meant regs h f st mem → v ≡ value_of vals a)
+      → BitsAre bits vals → bit_at bits a ≡ Some i → BitIs i v
+  copied_is bits vals (Const w) i v c bs z = absurd (cc z)
+  copied_is bits vals (Reg r) i v c bs z =
+      let b = bs r i z in
+      record {
+        word = b.word;
+        gives = b.gives;
+        means = λ m.
+            let q = b.means m in
+            let e : v ≡ vals r = c m in
+            (q.0 ∙ sym e, subst (λ (x : ℕ). x < 2) (sym e) q.1);
+      }
+
+  set_is : (o : Op) (bits : Bits) (vals : ℕ → ℕ) (a : Source) (k i v : ℕ) → h k ≡ Some (Word v)
+      → (is_test o ≡ true → Meant regs h f st mem → v < 2)
+      → (is_move o ≡ true → Meant regs h f st mem → v ≡ value_of vals a)
+      → BitsAre bits vals → bit_set o bits a k ≡ Some i → BitIs i v
+  set_is o bits vals a k i v e l c bs z = either (is_move o) c z
+    where
+      either : (b : Bool) → (b ≡ true → Meant regs h f st mem → v ≡ value_of vals a)
+          → cond b (bit_at bits a) (bit_of (is_test o) k) ≡ Some i → BitIs i v
+      either true c z = copied_is bits vals a i v (c refl) bs z
+      either false c z = bit_is (is_test o) k i v e l z
+
+  -- a register that is not set keeps its word
+  kept_put : (b c : Bool) (x v y : ℕ) → cond b true c ≡ false → (c ≡ false → x ≡ cond b v y) → x ≡ y
+  kept_put true c x v y e g = absurd (cc e)
+  kept_put false c x v y e g = g e
+
+  -- behind an if whose legs kept their words
+  bits_behind : (bits : Bits) (vals vals2 : ℕ → ℕ) (rs : List ℕ)
+      → ((q : ℕ) → member q rs ≡ false → vals2 q ≡ vals q) → BitsAre bits vals → BitsAre (left_bits bits rs) vals2
+  bits_behind bits vals vals2 rs same bs q k e =
+      let z = bit_left rs bits q k e in
+      subst (λ (v : ℕ). BitIs k v) (sym (same q z.0)) (bs q k z.1)
 
   pub met_node : (g : Scope) (t u : Answer) → met h g ≡ true → t ≡ if_matched (met h g) u → t ≡ u
   met_node g t u m e = let e2 : if_matched (met h g) u ≡ u = rw m refl in e ∙ e2
@@ -175,7 +217,8 @@ module _ (regs : ℕ → ℕ) (h : ℕ → Answer) (f : Computes) (st : ℕ → 
       → Runs regs h f st j (test_by g j env r b).nodes → Decides (test_by g j env r b).last (vals r)
   test_decides g j env r None vals tk u l a y = operand_decides g j env (Reg r) vals tk u l y
   test_decides g j env r (Some k) vals tk u l a y = let b =
-      a k refl in record { word = vals r; gives = b.gives; means = λ m. low_bit (vals r) (b.means m) }
+      a k refl in record
+      { word = b.word; gives = b.gives; means = λ m. ap low (b.means m).0 ∙ low_bit (vals r) (b.means m).1 }
 
   pub tested_decides : (g : Scope) (j : ℕ) (env : Env) (bits : Bits) (t : Source) (vals : ℕ → ℕ) → FitsSource t
       → met h g ≡ true → Live regs h env vals → BitsAre bits vals
@@ -212,7 +255,7 @@ module _ (regs : ℕ → ℕ) (h : ℕ → Answer) (f : Computes) (st : ℕ → 
       let ys = (second tr i env b).nodes in
       let k = i + length ys in
       let en = from_node k in
-      let bi = note bits r (bit_of (is_test o) k) in
+      let bi = note bits r (bit_set o bits a k) in
       let rs = items g (suc k) m (put env r en) bi rest in
       let n = node_of o 0 g (operand j env a).sources (second tr i env b).sources in
       let x1 = runs_back regs h f st j xs (ys ++ n ∷ rs.nodes) x in
@@ -232,9 +275,12 @@ module _ (regs : ℕ → ℕ) (h : ℕ → Answer) (f : Computes) (st : ℕ → 
       λ mt. fr.means (set_meant k o g (operand j env a).sources (second tr i env b).sources opr mt) in
       let vb : is_test o ≡ true → Meant regs h f st mem → v < 2 = λ it mt. let q =
       test_bit o ga.word gb.word it in let z = vm mt in omega (arith, q, z) in
+      let vc : is_move o ≡ true → Meant regs h f st mem → v ≡ value_of s.registers a =
+      λ it mt. vm mt ∙ move_gives o ga.word gb.word it ∙ ga.means mt in
       let w = ih (suc k) m (put env r en) bi s1 (live_put regs h env s.registers r v en l
       (λ old. from_sound regs h k v old e))
-      (note_are bits s.registers r v (bit_of (is_test o) k) (λ q z. bit_is (is_test o) k q v e vb z) bs) x2.2 in
+      (note_are bits s.registers r v (bit_set o bits a k) (λ q z. set_is o bits s.registers a k q v e vb vc bs z) bs)
+      x2.2 in
       record {
         after = w.after;
         live = w.live;
@@ -242,6 +288,8 @@ module _ (regs : ℕ → ℕ) (h : ℕ → Answer) (f : Computes) (st : ℕ → 
             (calm_append regs h ys (n ∷ rs.nodes) (second_calm regs h tr i env b sp)
             (cl, (operand_few regs h f st j env a sp xf, second_few regs h f st tr i env b sp yf), w.calm));
         bit = w.bit;
+        kept = λ q e2. kept_put (nat_eq q r) (member q (touched rest)) (w.after.registers q) v (s.registers q) e2
+            (w.kept q);
         means = λ mt ws mm.
             let ea = ga.means mt in
             let eb = gb.means mt in
@@ -327,6 +375,8 @@ module _ (regs : ℕ → ℕ) (h : ℕ → Answer) (f : Computes) (st : ℕ → 
         calm = calm_append regs h xs (n ∷ rs.nodes) (operand_calm regs h j env a sp)
             (cl, (operand_few regs h f st j env a sp xf, omega arith), w.calm);
         bit = w.bit;
+        kept = λ q e2. kept_put (nat_eq q r) (member q (touched rest)) (w.after.registers q) v (s.registers q) e2
+            (w.kept q);
         means = λ mt ws mm.
             let va = value_of s.registers a in
             let lva = value_word s.registers a ws.registers ta in
@@ -395,6 +445,7 @@ module _ (regs : ℕ → ℕ) (h : ℕ → Answer) (f : Computes) (st : ℕ → 
             (calm_append regs h ys (n ∷ rs.nodes) (operand_calm regs h i env b sp)
             (cl, (operand_few regs h f st j env a sp xf, operand_few regs h f st i env b sp yf), w.calm));
         bit = w.bit;
+        kept = w.kept;
         means = λ mt ws mm.
             let va = value_of s.registers a in
             let vv = value_of s.registers b in
@@ -446,19 +497,21 @@ module _ (regs : ℕ → ℕ) (h : ℕ → Answer) (f : Computes) (st : ℕ → 
   abbrev Rest : Scope → ℕ → ℕ → Env → Bits → Source → Items → Items → Items → Type 0
   Rest g j m env bits t yea nay rest =
       (s2 : Machine) → Live regs h (joined g j m env bits t yea nay).env s2.registers
+      → BitsAre (left_bits bits (touched yea ++ touched nay)) s2.registers
       → On g (rest_at g j m env bits t yea nay) (nay_out g j m env bits t yea nay).number
-      (joined g j m env bits t yea nay).env no_bits rest s2
+      (joined g j m env bits t yea nay).env (left_bits bits (touched yea ++ touched nay)) rest s2
 
   on_yea :
       (g : Scope) (j m : ℕ) (env : Env) (bits : Bits) (t : Source) (yea nay rest : Items) (s : Machine) (w : ℕ)
-      → Clear regs h g → Live regs h env s.registers → Parts regs h f st mem g j m env bits t yea nay rest
+      → Clear regs h g → Live regs h env s.registers → BitsAre bits s.registers
+      → Parts regs h f st mem g j m env bits t yea nay rest
       → h (test_at g j env bits t) ≡ Some (Word w) → low w ≡ true
       → (Meant regs h f st mem → low w ≡ nonzero (value_of s.registers t))
       → On (under (test_at g j env bits t) true) (legs_at g j env bits t) m env no_bits yea s
       → Off regs h f st mem (under (test_at g j env bits t) false) (nay_at g j m env bits t yea)
       (yea_out g j m env bits t yea).number env no_bits nay
       → Rest g j m env bits t yea nay rest → On g j m env bits (If t yea nay rest) s
-  on_yea g j m env bits t yea nay rest s w cl l p e od wm y n ir =
+  on_yea g j m env bits t yea nay rest s w cl l bs p e od wm y n ir =
       let k = test_at g j env bits t in
       let ms = test_met k w true e od in
       let cy = word_clear regs h k w true e in
@@ -470,7 +523,10 @@ module _ (regs : ℕ → ℕ) (h : ℕ → Answer) (f : Computes) (st : ℕ → 
       let live2 = join_yea regs h f st k ja env yo.env no'.env (touched yea)
       (touched nay) y.after.registers cy cn ms.0 ms.1 y.live
       (untouched yea (under k true) (legs_at g j env bits t) m env no_bits) n.dead p.joined_runs in
-      let r = ir y.after live2 in
+      let rs = touched yea ++ touched nay in
+      let same : (q : ℕ) → member q rs ≡ false → y.after.registers q ≡ s.registers q =
+      λ q z. y.kept q (none_among q (touched yea) (touched nay) z).0 in
+      let r = ir y.after live2 (bits_behind bits s.registers y.after.registers rs same bs) in
       let v = value_of s.registers t in
       record {
         after = r.after;
@@ -481,6 +537,7 @@ module _ (regs : ℕ → ℕ) (h : ℕ → Answer) (f : Computes) (st : ℕ → 
             (join_calm regs h f st (distinct (touched yea ++ touched nay)) k ja env yo.env no'.env (touched yea)
             (touched nay) cy cn sp p.joined_runs) r.calm;
         bit = r.bit;
+        kept = λ q z. let u = none_among q rs (touched rest) z in r.kept q u.1 ∙ same q u.0;
         means = λ mt ws mm.
             let zy = y.means mt ws mm in
             let zr = r.means mt zy.words (n.memory y.after.memory zy.memory) in
@@ -501,14 +558,15 @@ module _ (regs : ℕ → ℕ) (h : ℕ → Answer) (f : Computes) (st : ℕ → 
 
   on_nay :
       (g : Scope) (j m : ℕ) (env : Env) (bits : Bits) (t : Source) (yea nay rest : Items) (s : Machine) (w : ℕ)
-      → Clear regs h g → Live regs h env s.registers → Parts regs h f st mem g j m env bits t yea nay rest
+      → Clear regs h g → Live regs h env s.registers → BitsAre bits s.registers
+      → Parts regs h f st mem g j m env bits t yea nay rest
       → h (test_at g j env bits t) ≡ Some (Word w) → low w ≡ false
       → (Meant regs h f st mem → low w ≡ nonzero (value_of s.registers t))
       → Off regs h f st mem (under (test_at g j env bits t) true) (legs_at g j env bits t) m env no_bits yea
       → On (under (test_at g j env bits t) false) (nay_at g j m env bits t yea)
       (yea_out g j m env bits t yea).number env no_bits nay s
       → Rest g j m env bits t yea nay rest → On g j m env bits (If t yea nay rest) s
-  on_nay g j m env bits t yea nay rest s w cl l p e od wm y n ir =
+  on_nay g j m env bits t yea nay rest s w cl l bs p e od wm y n ir =
       let k = test_at g j env bits t in
       let ms = test_met k w false e od in
       let cy = word_clear regs h k w true e in
@@ -520,7 +578,10 @@ module _ (regs : ℕ → ℕ) (h : ℕ → Answer) (f : Computes) (st : ℕ → 
       let live2 = join_nay regs h f st k ja env yo.env no'.env (touched yea)
       (touched nay) n.after.registers cy cn ms.0 ms.1 n.live
       (untouched nay (under k false) (nay_at g j m env bits t yea) yo.number env no_bits) y.dead p.joined_runs in
-      let r = ir n.after live2 in
+      let rs = touched yea ++ touched nay in
+      let same : (q : ℕ) → member q rs ≡ false → n.after.registers q ≡ s.registers q =
+      λ q z. n.kept q (none_among q (touched yea) (touched nay) z).1 in
+      let r = ir n.after live2 (bits_behind bits s.registers n.after.registers rs same bs) in
       let v = value_of s.registers t in
       record {
         after = r.after;
@@ -531,6 +592,7 @@ module _ (regs : ℕ → ℕ) (h : ℕ → Answer) (f : Computes) (st : ℕ → 
             (join_calm regs h f st (distinct (touched yea ++ touched nay)) k ja env yo.env no'.env (touched yea)
             (touched nay) cy cn sp p.joined_runs) r.calm;
         bit = r.bit;
+        kept = λ q z. let u = none_among q rs (touched rest) z in r.kept q u.1 ∙ same q u.0;
         means = λ mt ws mm.
             let zn = n.means mt ws (y.memory s.memory mm) in
             let zr = r.means mt zn.words zn.memory in
@@ -570,7 +632,7 @@ module _ (regs : ℕ → ℕ) (h : ℕ → Answer) (f : Computes) (st : ℕ → 
           let k = test_at g j env bits t in
           let ms = test_met k w true e o in
           let cn = word_clear regs h k w false e in
-          on_yea g j m env bits t yea nay rest s w cl l p e o wm (iy (word_clear regs h k w true e) ms.0)
+          on_yea g j m env bits t yea nay rest s w cl l bs p e o wm (iy (word_clear regs h k w true e) ms.0)
           (off_items regs h f st mem nay (under k false) (nay_at g j m env bits t yea)
           (yea_out g j m env bits t yea).number env no_bits tn cn ms.1 (live_sparse regs h env s.registers l)
           (absent_none regs h) p.nay_runs) ir
@@ -578,7 +640,7 @@ module _ (regs : ℕ → ℕ) (h : ℕ → Answer) (f : Computes) (st : ℕ → 
           let k = test_at g j env bits t in
           let ms = test_met k w false e o in
           let cy = word_clear regs h k w true e in
-          on_nay g j m env bits t yea nay rest s w cl l p e o wm
+          on_nay g j m env bits t yea nay rest s w cl l bs p e o wm
           (off_items regs h f st mem yea (under k true) (legs_at g j env bits t) m env no_bits ty cy ms.0
           (live_sparse regs h env s.registers l) (absent_none regs h) p.yea_runs)
           (ins (word_clear regs h k w false e) ms.1) ir
@@ -593,6 +655,7 @@ module _ (regs : ℕ → ℕ) (h : ℕ → Answer) (f : Computes) (st : ℕ → 
         live = l;
         calm = tt;
         bit = bs;
+        kept = λ q e. refl;
         means = λ t ws mm. record
             { same = refl; memory = mm; acts = refl; words = ws };
       }
@@ -612,5 +675,6 @@ module _ (regs : ℕ → ℕ) (h : ℕ → Answer) (f : Computes) (st : ℕ → 
       (no_bit s.registers) p.yea_runs)
       (λ c v. on_items nay (under (test_at g j env bits t) false) (nay_at g j m env bits t yea)
       (yea_out g j m env bits t yea).number env no_bits s tk.2 c v l (no_bit s.registers) p.nay_runs)
-      (λ s2 l2. on_items rest g (rest_at g j m env bits t yea nay) (nay_out g j m env bits t yea nay).number
-      (joined g j m env bits t yea nay).env no_bits s2 tk.3 cl u l2 (no_bit s2.registers) p.rest_runs)
+      (λ s2 l2 b2. on_items rest g (rest_at g j m env bits t yea nay) (nay_out g j m env bits t yea nay).number
+      (joined g j m env bits t yea nay).env (left_bits bits (touched yea ++ touched nay)) s2 tk.3 cl u l2 b2
+      p.rest_runs)

@@ -15,9 +15,9 @@ use Rattle.ir_forms.specs.declared.flow.FlowNode.{FlowNode}
 use Rattle.trips_isa.specs.Acts.{Act}
 use Rattle.ir_forms.specs.FlowRuns.{Computes, first, met, stored_where, act_tokens, fired, count}
 use Rattle.predication.specs.Environments.{Scope, Entry, Env, Bits, put, from_node, under, member, no_bits}
-use Rattle.predication.specs.Environments.{note, distinct}
-use Rattle.predication.specs.Operands.{node_of, Got, operand, second, bit_of, is_test, fresh_test, test_by}
-use Rattle.predication.specs.Operands.{tested, test_of}
+use Rattle.predication.specs.Environments.{left_bits, note, distinct}
+use Rattle.predication.specs.Operands.{node_of, Got, operand, second, bit_of, is_test, is_move, bit_at, bit_set}
+use Rattle.predication.specs.Operands.{fresh_test, test_by, tested, test_of}
 use Rattle.predication.specs.Ifs.{Joined, join, Out, items, touched}
 use Rattle.trips_isa.specs.Forms.{is_load, is_store}
 use Rattle.ir_forms.specs.HyperCode.{Items, Done, Set, Load, Save, If}
@@ -30,6 +30,7 @@ use Rattle.predication.proofs.Tables.{operand_calm, second_calm, Runs, runs_fron
 use Rattle.predication.proofs.Tables.{second_few}
 use Rattle.predication.proofs.Legs.{member_append, untouched, joins_out, join_quiet, join_dead, join_calm}
 use Rattle.predication.proofs.Memory.{Holds, holds_none}
+use Rattle.predication.proofs.BitLemmas.{bit_left}
 
 -- THE PARTS OF AN IF, BY NAME
 
@@ -65,7 +66,7 @@ rest_at g j m env bits t yea nay = join_at g j m env bits t yea nay + length (jo
 abbrev pub rest_out : Scope → ℕ → ℕ → Env → Bits → Source → Items → Items → Items → Out
 rest_out g j m env bits t yea nay rest =
     items g (rest_at g j m env bits t yea nay) (nay_out g j m env bits t yea nay).number
-    (joined g j m env bits t yea nay).env no_bits rest
+    (joined g j m env bits t yea nay).env (left_bits bits (touched yea ++ touched nay)) rest
 
 pub fresh_quiet : (g : Scope) (j : ℕ) (x : Got) → Quiet x.nodes → Quiet (fresh_test g j x).nodes
 fresh_quiet g j x q = quiet_append x.nodes _ q ((refl, refl), tt)
@@ -191,6 +192,21 @@ module _ (regs : ℕ → ℕ) (h : ℕ → Answer) where
   bit_absent true k i e z = let same : k ≡ i = cc in subst (λ (n : ℕ). h n ≡ None) same e
   bit_absent false k i e z = absurd (cc)
 
+  copied_absent : (bits : Bits) (a : Source) (i : ℕ) → Absent bits → bit_at bits a ≡ Some i → h i ≡ None
+  copied_absent bits (Const w) i ab z = absurd (cc z)
+  copied_absent bits (Reg r) i ab z = ab r i z
+
+  set_absent : (o : Op) (bits : Bits) (a : Source) (k i : ℕ) → h k ≡ None → Absent bits → bit_set o bits a k ≡ Some i
+      → h i ≡ None
+  set_absent o bits a k i e ab z = go (is_move o) z
+    where
+      go : (b : Bool) → cond b (bit_at bits a) (bit_of (is_test o) k) ≡ Some i → h i ≡ None
+      go true z = copied_absent bits a i ab z
+      go false z = bit_absent (is_test o) k i e z
+
+  absent_left : (bits : Bits) (rs : List ℕ) → Absent bits → Absent (left_bits bits rs)
+  absent_left bits rs ab q k e = ab q k (bit_left rs bits q k e).1
+
   module _ (f : Computes) (st : ℕ → Option Stored) (mem : List ℕ) where
     -- TESTS
 
@@ -297,7 +313,7 @@ module _ (regs : ℕ → ℕ) (h : ℕ → Answer) where
         (yea_out g j m env bits t yea).number env no_bits nay)
         → (Sparse regs h (joined g j m env bits t yea nay).env
         → Off g (rest_at g j m env bits t yea nay) (nay_out g j m env bits t yea nay).number
-        (joined g j m env bits t yea nay).env no_bits rest)
+        (joined g j m env bits t yea nay).env (left_bits bits (touched yea ++ touched nay)) rest)
         → Off g j m env bits (If t yea nay rest)
     off_if g j m env bits t yea nay rest cl u sp ab p fy fn fr =
         let k = test_at g j env bits t in
@@ -327,7 +343,8 @@ module _ (regs : ℕ → ℕ) (h : ℕ → Answer) where
               dead_after q (member q (touched yea ++ touched nay)) (member q (touched rest)) (je q)
               ((rest_out g j m env bits t yea nay rest).env q)
               (w.dead q) (untouched rest g (rest_at g j m env bits t yea nay)
-              (nay_out g j m env bits t yea nay).number je no_bits q) (jd q)
+              (nay_out g j m env bits t yea nay).number je
+              (left_bits bits (touched yea ++ touched nay)) q) (jd q)
               (sym (member_append q (touched yea ++ touched nay) (touched rest)) ∙ e2);
           acts = fired_if xs a b c o (tested_quiet g j env bits t)
               (join_quiet (distinct (touched yea ++ touched nay)) k ja env ye ne (touched yea) (touched nay))
@@ -352,7 +369,7 @@ module _ (regs : ℕ → ℕ) (h : ℕ → Answer) where
         let ys = (second tb i env b).nodes in
         let k = i + length ys in
         let en = from_node k in
-        let bi = note bits r (bit_of (is_test op) k) in
+        let bi = note bits r (bit_set op bits a k) in
         let o = items g (suc k) m (put env r en) bi rest in
         let n = node_of op 0 g (operand j env a).sources (second tb i env b).sources in
         let x1 = runs_back regs h f st j xs (ys ++ n ∷ o.nodes) x in
@@ -361,7 +378,7 @@ module _ (regs : ℕ → ℕ) (h : ℕ → Answer) where
         let de = from_dead regs h k e in
         let w = off_items rest g (suc k) m (put env r en) bi tk.4 cl u
         (sparse_put regs h env r en sp (dead_few regs h en de))
-        (absent_note bits r (bit_of (is_test op) k) (λ q z. bit_absent (is_test op) k q e z) ab) x2.2 in
+        (absent_note bits r (bit_set op bits a k) (λ q z. set_absent op bits a k q e ab z) ab) x2.2 in
         let fa = operand_few regs h f st j env a sp (runs_front regs h f st j xs (ys ++ n ∷ o.nodes) x) in
         let fb = second_few regs h f st tb i env b sp (runs_front regs h f st i ys (n ∷ o.nodes) x1) in
         record {
@@ -428,4 +445,5 @@ module _ (regs : ℕ → ℕ) (h : ℕ → Answer) where
         (λ c v. off_items nay (under (test_at g j env bits t) false) (nay_at g j m env bits t yea)
         (yea_out g j m env bits t yea).number env no_bits tk.2 c v sp absent_none p.nay_runs)
         (λ s. off_items rest g (rest_at g j m env bits t yea nay) (nay_out g j m env bits t yea nay).number
-        (joined g j m env bits t yea nay).env no_bits tk.3 cl u s absent_none p.rest_runs)
+        (joined g j m env bits t yea nay).env (left_bits bits (touched yea ++ touched nay)) tk.3 cl u s
+        (absent_left bits (touched yea ++ touched nay) ab) p.rest_runs)

@@ -4,7 +4,6 @@ use Rattle.std.specs.Prelude.{ℕ, Bool, true, false, cond, nat_eq, List, [], �
 use Rattle.std.specs.Prelude.{None}
 use Rattle.trips_isa.specs.declared.block.Sense.{Sense}
 use Rattle.trips_isa.specs.declared.block.Sense.TheVariants.{OnTrue, OnFalse}
-use Rattle.ir_forms.specs.declared.flow.FlowSource.{FlowSource}
 use Rattle.ir_forms.specs.declared.flow.FlowSource.TheVariants.{Node}
 use Rattle.ir_forms.specs.declared.flow.Guard.{Guard}
 -- Where the word of a register comes from: exactly one of the sources that are given is there, or one
@@ -62,6 +61,11 @@ no_bits r = None
 -- register r has a bit or none, all others stay
 abbrev pub note : Bits → ℕ → Option ℕ → Bits
 note bits r b q = cond (nat_eq q r) b (bits q)
+
+-- some registers have no bit, all others stay
+abbrev pub left_bits : Bits → List ℕ → Bits
+left_bits bits [] = bits
+left_bits bits (r ∷ rs) = left_bits (note bits r None) rs
 
 -- SETS OF REGISTERS
 

@@ -6,10 +6,10 @@ use Rattle.trips_isa.specs.Forms.{role_of, takes_right}
 use Rattle.ir_forms.specs.declared.flow.FlowSource.{FlowSource}
 use Rattle.ir_forms.specs.declared.flow.FlowNode.{FlowNode}
 use Rattle.ir_forms.specs.HyperCode.{Items, Done, Set, Load, Save, If}
-use Rattle.predication.specs.Environments.{Scope, Entry, Env, Bits, no_bits, under, put, note, from_node}
-use Rattle.predication.specs.Environments.{both, member, distinct}
-use Rattle.predication.specs.Operands.{Chain, Got, node_of, mov_of, movs, froms, operand, second, is_test}
-use Rattle.predication.specs.Operands.{bit_of, tested}
+use Rattle.predication.specs.Environments.{Scope, Entry, Env, Bits, no_bits, left_bits, under, put, note}
+use Rattle.predication.specs.Environments.{from_node, both, member, distinct}
+use Rattle.predication.specs.Operands.{Chain, Got, node_of, mov_of, movs, froms, operand, second, bit_set}
+use Rattle.predication.specs.Operands.{tested}
 
 -- THE END OF AN IF
 
@@ -73,7 +73,7 @@ items g j m env bits (Set r op a b rest) =
     let y : Got = second (takes_right (role_of op)) (j + length x.nodes) env b in
     let k : ℕ = j + length x.nodes + length y.nodes in
     let o : Out = items g (suc k) m (put env r (from_node k))
-    (note bits r (bit_of (is_test op) k)) rest in
+    (note bits r (bit_set op bits a k)) rest in
     record o { nodes = x.nodes ++ (y.nodes ++ node_of op 0 g x.sources y.sources ∷ o.nodes) }
 items g j m env bits (Load r op a rest) =
     let x : Got = operand j env a in
@@ -94,5 +94,5 @@ items g j m env bits (If t one other rest) =
     let c : Joined = join x.last (i + length y.nodes + length n.nodes) env y.env n.env
     (touched one) (touched other) (distinct (touched one ++ touched other)) in
     let o : Out = items g (i + length y.nodes + length n.nodes + length c.nodes) n.number c.env
-    no_bits rest in
+    (left_bits bits (touched one ++ touched other)) rest in
     record o { nodes = x.nodes ++ (y.nodes ++ (n.nodes ++ (c.nodes ++ o.nodes))) }

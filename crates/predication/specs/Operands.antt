@@ -1,5 +1,5 @@
 -- The nodes of operands and tests, from a node's number on, and the sources that they come to.
-use Rattle.std.specs.Prelude.{ℕ, zero, suc, ◌+◌, ◌/◌, ◌%◌, pos, Bool, true, false, nat_lt, List, []}
+use Rattle.std.specs.Prelude.{ℕ, zero, suc, ◌+◌, ◌/◌, ◌%◌, pos, Bool, true, false, cond, nat_lt, List, []}
 use Rattle.std.specs.Prelude.{◌∷◌, ◌++◌, length, Option, Some, None}
 use Rattle.trips_isa.specs.declared.op.Op.{Op}
 use Rattle.trips_isa.specs.declared.op.Op.TheVariants.{Teq, Tne, Tlt, Tle, Tgt, Tge, Tltu, Tleu}
@@ -107,6 +107,20 @@ is_test _ = false
 abbrev pub bit_of : Bool → ℕ → Option ℕ
 bit_of true k = Some k
 bit_of false k = None
+
+-- whether an operation's word is that of its first operand
+abbrev pub is_move : Op → Bool
+is_move Mov = true
+is_move _ = false
+
+-- the bit that an operand has
+abbrev pub bit_at : Bits → Source → Option ℕ
+bit_at bits (Const w) = None
+bit_at bits (Reg r) = bits r
+
+-- the bit of a register that node k sets: a copied word keeps its bit, else it is the node itself, where that tests
+abbrev pub bit_set : Op → Bits → Source → ℕ → Option ℕ
+bit_set o bits a k = cond (is_move o) (bit_at bits a) (bit_of (is_test o) k)
 
 -- `tnei 0` of an operand
 abbrev pub fresh_test : Scope → ℕ → Got → Chain

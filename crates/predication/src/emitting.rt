@@ -7,7 +7,7 @@ ghost use Rattle.predication.specs.Operands as operands;
 ghost use Rattle.predication.specs.inside.Emits.{bits_of, env_of};
 ghost use Rattle.predication.specs.inside.Ends.{ends};
 
-use crate::naming::{note_bit, put_entry};
+use crate::naming::{bit_of, note_bit, put_entry};
 use crate::nodes::push;
 use crate::reading::{one, operand, second};
 use crate::work::{Entry, Names, Work};
@@ -35,10 +35,40 @@ fn is_test(op: Op) -> bool
     }
 }
 
-fn bit_at(is_bit: bool, at: u32) -> Option<u32>
+fn is_move(op: Op) -> bool
+    ensures { result ≡ operands.is_move op }
+{
+    match op {
+        Op::Mov => true,
+        _ => false,
+    }
+}
+
+fn node_bit(is_bit: bool, at: u32) -> Option<u32>
     ensures { result ≡ operands.bit_of is_bit at }
 {
     if is_bit { Some(at) } else { None }
+}
+
+// The bit that an operand has.
+fn operand_bit(names: &Names, operand: Source) -> Option<u32>
+    ensures { result ≡ operands.bit_at (bits_of names.now.bits) operand }
+{
+    match operand {
+        Source::Const(_) => None,
+        Source::Reg(register) => bit_of(names.bits.as_slice(), register),
+    }
+}
+
+// The bit of a register that a node sets: a copied word keeps its bit.
+fn bit_set(names: &Names, op: Op, operand: Source, at: u32) -> Option<u32>
+    ensures { result ≡ operands.bit_set op (bits_of names.now.bits) operand at }
+{
+    if is_move(op) {
+        operand_bit(names, operand)
+    } else {
+        node_bit(is_test(op), at)
+    }
 }
 
 /// From here on a register has a node's word wherever the node fires.
@@ -55,16 +85,22 @@ pub fn name_entry(alloc: Global, names: &mut Names, register: u8, at: u32) -> Re
     Ok(())
 }
 
-// From here on a register has a node's word, which may be a bit.
-fn name(alloc: Global, names: &mut Names, register: u8, at: u32, is_bit: bool) -> Result<(), Memory>
+// From here on a register has a node's word, and a bit or none.
+fn name(
+    alloc: Global,
+    names: &mut Names,
+    register: u8,
+    at: u32,
+    bit: Option<u32>,
+) -> Result<(), Memory>
     ensures env { OnOk result (env_of names.new.entries
         ≡ put (env_of names.old.entries) register (from_node at)) }
     ensures bits { OnOk result (bits_of names.new.bits
-        ≡ note (bits_of names.old.bits) register (operands.bit_of is_bit at)) }
+        ≡ note (bits_of names.old.bits) register bit) }
     ensures sets { OnOk result (names.new.sets ≡ names.old.sets ++ register ∷ []) }
 {
     name_entry(alloc, names, register, at)?;
-    note_bit(&mut names.bits, register, bit_at(is_bit, at))?;
+    note_bit(&mut names.bits, register, bit)?;
     Ok(())
 }
 
@@ -100,7 +136,8 @@ pub fn set(
     let left = operand(alloc, work, names, a)?;
     let right = second(alloc, work, names, takes_right(op), b)?;
     let at = push(work, op, 0, 0, guard, left, right)?;
-    name(alloc, names, to, at, is_test(op))?;
+    let bit = bit_set(names, op, a, at);
+    name(alloc, names, to, at, bit)?;
     Ok(())
 }
 
@@ -120,7 +157,7 @@ pub fn load(
     let left = operand(alloc, work, names, address)?;
     let number = take_number(work)?;
     let at = push(work, op, 0, number, guard, left, Items::new(alloc))?;
-    name(alloc, names, to, at, false)?;
+    name(alloc, names, to, at, None)?;
     Ok(())
 }
 

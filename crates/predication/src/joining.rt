@@ -1,15 +1,15 @@
 //! The end of an if: each register that a leg sets takes its word from both legs.
 ghost use Rattle.std.specs.Prelude.{◌≡◌, ◌++◌, [], Some, length, IfOk, OnOk};
 ghost use Rattle.predication.specs.Environments as names;
-ghost use Rattle.predication.specs.Environments.{distinct};
+ghost use Rattle.predication.specs.Environments.{distinct, left_bits};
 ghost use Rattle.predication.specs.Ifs as spec;
-ghost use Rattle.predication.specs.inside.Emits.{Adds, both_entry, both_nodes, env_of, joined_at};
-ghost use Rattle.predication.specs.inside.Emits.{leg_part, puts};
+ghost use Rattle.predication.specs.inside.Emits.{Adds, bits_of, both_entry, both_nodes, env_of};
+ghost use Rattle.predication.specs.inside.Emits.{joined_at, leg_part, puts};
 
-use crate::naming::{entry_of, put_all};
+use crate::naming::{entry_of, note_bit, put_all};
 use crate::nodes::push_mov;
 use crate::reading::{one, read};
-use crate::work::{Entry, Named, Names, Work};
+use crate::work::{Entry, Named, Names, Noted, Work};
 use base::{Items, Memory};
 use ir_forms::{FlowSource, Guard};
 use std::alloc::Global;
@@ -197,8 +197,19 @@ fn each_once(alloc: Global, registers: &[u8]) -> Result<Items<u8>, Memory>
     Ok(once)
 }
 
-/// The end of both legs of the test of a node: what they set takes its word from both, no register
-/// has a bit, and all that they set is set.
+// From here on registers have no bit.
+fn forget(bits: &mut Items<Noted>, registers: &[u8]) -> Result<(), Memory>
+    ensures { OnOk result (bits_of bits.new
+        ≡ left_bits (bits_of bits.old) registers.now) }
+{
+    for register in registers {
+        note_bit(bits, *register, None)?;
+    }
+    Ok(())
+}
+
+/// The end of both legs of the test of a node: what they set takes its word from both and has no
+/// bit, and all that they set is set.
 pub fn meet(
     alloc: Global,
     work: &mut Work,
@@ -211,7 +222,8 @@ pub fn meet(
         names.old.entries yes.now no.now (distinct (yes.now.sets ++ no.now.sets))).nodes) }
     ensures env { OnOk result (env_of names.new.entries ≡ (joined_at test (length work.old.nodes)
         names.old.entries yes.now no.now (distinct (yes.now.sets ++ no.now.sets))).env) }
-    ensures bits { OnOk result (names.new.bits ≡ []) }
+    ensures bits { OnOk result (bits_of names.new.bits
+        ≡ left_bits (bits_of names.old.bits) (yes.now.sets ++ no.now.sets)) }
     ensures sets { OnOk result (names.new.sets
         ≡ names.old.sets ++ (yes.now.sets ++ no.now.sets)) }
 {
@@ -227,7 +239,7 @@ pub fn meet(
         once.as_slice(),
     )?;
     put_all(&mut names.entries, named)?;
-    names.bits = Items::new(alloc);
+    forget(&mut names.bits, registers.as_slice())?;
     names.sets.append(registers)?;
     Ok(())
 }

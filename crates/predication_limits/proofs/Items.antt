@@ -9,14 +9,14 @@ use Rattle.trips_isa.specs.Forms.{form_of, role_of, role_in, takes_right}
 use Rattle.ir_forms.specs.HyperCode.{Items, Done, Set, Load, Save, If}
 use Rattle.ir_forms.specs.HyperFits.{FitsItems, ifs_in, items_in}
 use Rattle.predication.specs.Environments.{Env, Bits, put, note, from_node, member}
-use Rattle.predication.specs.Operands.{operand, second, is_test, bit_of, node_of}
+use Rattle.predication.specs.Operands.{operand, second, bit_set, node_of}
 use Rattle.predication.specs.Ifs.{Out, items, touched}
 use Rattle.predication.proofs.Ops.{op_form}
 use Rattle.predication.proofs.Untaken.{load_form, store_form}
 use Rattle.predication_limits.specs.Costs.{items_cost, source_cost}
 use Rattle.predication_limits.proofs.Flat.{Told, told_back, Good, nothing, no_piece, grouped}
 use Rattle.predication_limits.proofs.Pieces.{IsSet, ArePlain, set_later, plains_later, put_plain, put_kept, put_here}
-use Rattle.predication_limits.proofs.Pieces.{AreBits, note_bits, bit_is, Names, operand_piece, second_piece}
+use Rattle.predication_limits.proofs.Pieces.{AreBits, note_bits, set_is, Names, operand_piece, second_piece}
 
 pub not_constant : (e : Form) → e ≡ form.General → e ≡ form.Constant → ⊥
 not_constant e a b = absurd (cc)
@@ -80,12 +80,12 @@ module _ (T P : ℕ → Type 0) where
       let y = second tr (j + length x.nodes) env c in
       let k = j + length x.nodes + length y.nodes in
       let n = node_of o 0 None x.sources y.sources in
-      let later = items None (suc k) m (put env r (from_node k)) (note bits r (bit_of (is_test o) k)) rest in
+      let later = items None (suc k) m (put env r (from_node k)) (note bits r (bit_set o bits a k)) rest in
       let ty = told_back T j x.nodes (y.nodes ++ n ∷ later.nodes) t in
       let tn = told_back T (j + length x.nodes) y.nodes (n ∷ later.nodes) ty in
-      let h = items_out rest (suc k) m (put env r (from_node k)) (note bits r (bit_of (is_test o) k)) f.4 z p.2
+      let h = items_out rest (suc k) m (put env r (from_node k)) (note bits r (bit_set o bits a k)) f.4 z p.2
       (put_plain j k env r (omega arith) g)
-      (note_bits T bits r (bit_of (is_test o) k) b (λ i e. bit_is T o k i tn.0 e)) tn.1 in
+      (note_bits T bits r (bit_set o bits a k) b (λ i e. set_is T o bits a k i b tn.0 e)) tn.1 in
       let good = grouped P j x.nodes y.nodes x.sources y.sources (source_cost a) (source_cost c) (items_cost rest)
       tr o (pos 0) 0 later.nodes (operand_piece P j env a g p.0)
       (second_piece P tr (j + length x.nodes) env c (plains_later j (j + length x.nodes) env (omega arith) g) p.1)

@@ -16,7 +16,7 @@ use Rattle.predication.specs.declared.work.Entry.{Entry}
 use Rattle.predication.specs.Environments.{Env, Bits, put, note, from_node}
 use Rattle.predication.specs.Converted.{reads_in}
 use Rattle.predication.specs.Operands.{Chain, Got, constant_of, longer, chain, read_of, operand, second, is_test}
-use Rattle.predication.specs.Operands.{bit_of, test_of, fresh_test, test_by, tested}
+use Rattle.predication.specs.Operands.{bit_of, is_move, bit_at, bit_set, test_of, fresh_test, test_by, tested}
 use Rattle.predication_limits.specs.Costs.{apps, source_cost}
 use Rattle.predication_limits.proofs.Flat.{uses, times, node_uses, uses_append, named_once}
 use Rattle.predication_limits.proofs.Flat.{flat_append, used_append, price_append, read_append, Told, told_back}
@@ -160,6 +160,19 @@ bit_is T o k i t e = go (is_test o) refl e
     go : (b : Bool) → is_test o ≡ b → bit_of b k ≡ Some i → T i
     go true q z = let same : k ≡ i = cc in subst T same (t (test_no_copy o q))
     go false q z = absurd (cc)
+
+copied_is : (T : ℕ → Type 0) (bits : Bits) (a : Source) (i : ℕ) → ((r k : ℕ) → bits r ≡ Some k → T k)
+    → bit_at bits a ≡ Some i → T i
+copied_is T bits (Const w) i b e = absurd (cc e)
+copied_is T bits (Reg r) i b e = b r i e
+
+pub set_is : (T : ℕ → Type 0) (o : Op) (bits : Bits) (a : Source) (k i : ℕ) → ((r k : ℕ) → bits r ≡ Some k → T k)
+    → (is_copy (role_of o) ≡ false → T k) → bit_set o bits a k ≡ Some i → T i
+set_is T o bits a k i b t e = go (is_move o) e
+  where
+    go : (m : Bool) → cond m (bit_at bits a) (bit_of (is_test o) k) ≡ Some i → T i
+    go true z = copied_is T bits a i b z
+    go false z = bit_is T o k i t z
 
 -- OPERANDS
 

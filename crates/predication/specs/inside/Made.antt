@@ -1,7 +1,5 @@
 -- The parts of a flow block, from its nodes and from what registers are named at its end.
-use Rattle.std.specs.Prelude.{◌≡◌, ℕ, zero, suc, ◌+◌, ◌^◌, Bool, true, false, ◌||◌, cond, List, [], ◌∷◌, length, map}
-use Rattle.ir_forms.specs.declared.flow.FlowSource.{FlowSource}
-use Rattle.ir_forms.specs.declared.flow.FlowSource.TheVariants.{Read, Node}
+use Rattle.std.specs.Prelude.{◌≡◌, ℕ, zero, suc, ◌+◌, ◌^◌, Bool, ◌||◌, cond, List, [], ◌∷◌, length, map}
 use Rattle.ir_forms.specs.declared.flow.FlowNode.{FlowNode}
 use Rattle.ir_forms.specs.declared.flow.FlowWrite.{FlowWrite}
 use Rattle.ir_forms.specs.declared.flow.FlowBlock.{FlowBlock}

@@ -1,10 +1,10 @@
-use Rattle.std.proofs.Common.{◌≡◌, ℕ, suc, ◌+◌, ◌<◌, List, ◌∷◌, length, drop, sym, ap, ◌∙◌, arith}
+use Rattle.std.proofs.Common.{◌≡◌, ℕ, suc, ◌+◌, List, ◌∷◌, drop, sym, ap, ◌∙◌, arith}
 use Rattle.std.specs.Prelude.{Some}
 use Rattle.std.proofs.Math.Seq.{drop-cons}
 use Rattle.ir_forms.specs.declared.hyper.HyperItem.{HyperItem}
 use Rattle.ir_forms.specs.HyperCode.{Items}
 use Rattle.ir_forms.specs.HyperViews.{items_of, then_items}
-use Rattle.ir_forms.proofs.Views.{then_set, then_load, then_save, then_if}
+use Rattle.ir_forms.proofs.Views.{then_set, then_load, then_save}
 use Rattle.predication.specs.inside.Ends.{ends}
 use Rattle.predication.proofs.LegLemmas.{branch_ends, if_is}
 use Rattle.predication.proofs.branching.+item.Goals as goal

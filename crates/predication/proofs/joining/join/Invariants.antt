@@ -1,5 +1,5 @@
 use Rattle.std.proofs.Common.{◌≡◌, ◌++◌, drop, length, map}
-use Rattle.predication.specs.inside.Emits.{low, env_of, puts, joined_at}
+use Rattle.predication.specs.inside.Emits.{low, puts, joined_at}
 use Rattle.predication.proofs.joining.join.Given as goal
 
 abbrev pub invariant-loop-register : goal.invariant-loop-register
