@@ -1,9 +1,10 @@
 -- The bound of a run by the cost of its trace.
-use Rattle.std.proofs.Common.{◌≡◌, ℕ, suc, ◌+◌, ◌*◌, ◌-◌, ◌^◌, ◌<◌, ◌≤◌, ◌⊎◌, inl, inr, List, length, Option, Some, None}
+use Rattle.std.proofs.Common.{◌≡◌, ℕ, suc, ◌+◌, ◌*◌, ◌-◌, ◌^◌, ◌<◌, ◌≤◌, ◌⊎◌, inl, inr, List, [], length, Option, Some, None}
 use Rattle.std.proofs.Common.{zero, slice_get, refl, sym, ap, ◌∙◌, arith}
 use Rattle.std.proofs.lemmas.Bool.{cases_lt}
 use Rattle.trips_isa.specs.declared.block.Block.{Block}
 use Rattle.trips_isa.specs.Machine.{State, runs}
+use Rattle.block_predict.specs.Predicts.{Holding}
 use Rattle.commit_flush_spec.specs.InFlight.{opened}
 use Rattle.commit_flush_spec.specs.Invariant.{AllGood}
 use Rattle.commit_flush_spec.specs.Laws.{WindowOk, TakesSteps}
@@ -45,10 +46,10 @@ total_later sizes m (suc n) l = by (cases_lt m (suc n)) (total_later sizes m n)
     by (inr k) below = let e : m ≡ suc n = omega (arith, k, l) in let t = ap (total sizes) e in omega (arith, t)
 
 module _ {W : Type 0} (blocks : List Block) (good : AllGood blocks) (budget : ℕ) (next : W → ℕ)
-    (follows : W → W → Type 0) (bound : (w : W) → next w ≤ 3) (s : State) (entries : List ℕ) (weather : W)
+    (follows : W → W → Type 0) (bound : (w : W) → next w ≤ 3) (s : State) (predictor : Holding) (weather : W)
     (opens : WindowOk blocks budget (opened s)) where
   abbrev g : Grid W
-  g = begun_at s entries weather
+  g = record (begun_at s [] weather) { predictor = predictor }
 
   abbrev sizes : ℕ → ℕ
   sizes = sizes_from blocks s
@@ -75,10 +76,10 @@ module _ {W : Type 0} (blocks : List Block) (good : AllGood blocks) (budget : �
   module _ (n : ℕ) (m : Grid W) (a : AfterCycles next follows blocks budget n g m) (on : GoesOn budget m)
       (few : m.counts.cycles < 2 ^ 64 - 1) where
     run : AfterStanding next follows blocks budget sizes n g m
-    run = all_stand blocks good budget next follows bound s entries weather opens n m a on few
+    run = all_stand blocks good budget next follows bound s predictor weather opens n m a on few
 
     last : Stands blocks budget sizes m
-    last = stands blocks good budget next follows bound s entries weather opens n m a on few
+    last = stands blocks good budget next follows bound s predictor weather opens n m a on few
 
     pub moment : n + cost_of blocks s.trace < cost_of blocks m.window.state.trace + 41472
     moment =

@@ -1,3 +1,4 @@
+pub mod Begun
 pub mod Before
 pub mod Standing
 pub mod Costs

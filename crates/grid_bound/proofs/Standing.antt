@@ -6,6 +6,7 @@ use Rattle.trips_isa.specs.declared.run.Stepped.{Stepped}
 use Rattle.trips_isa.specs.declared.run.Stepped.TheVariants as stepped
 use Rattle.trips_isa.specs.Machine.{State, runs}
 use Rattle.commit_flush_spec.specs.Frames.{Frame}
+use Rattle.block_predict.specs.Predicts.{Holding}
 use Rattle.commit_flush_spec.specs.InFlight.{opened}
 use Rattle.commit_flush_spec.specs.Older.{committed}
 use Rattle.commit_flush_spec.specs.Invariant.{AllGood}
@@ -27,7 +28,6 @@ use Rattle.grid_served.proofs.Ended.{oldest_ok}
 use Rattle.grid_served.proofs.FarUnits.{far_cycle}
 use Rattle.grid_served.proofs.Told.{table_tells}
 use Rattle.grid_rule.specs.Rule.{GridRule, GenerationsCounted}
-use Rattle.grid_rule.proofs.Begin.{begins_right, begins_counted}
 use Rattle.grid_rule.proofs.CycleParts.{cycles_rule, cycles_window}
 use Rattle.grid_rule.proofs.EndParts.{Ruled, ends_ruled}
 use Rattle.grid_rule.proofs.FetchParts.{fetches_going}
@@ -37,6 +37,7 @@ use Rattle.grid_rule.proofs.Ties.{rule_of, ties_of}
 use Rattle.grid_asks.proofs.Asked.{cycle_rule, due}
 use Rattle.grid_lanes.proofs.LaneRules.{frame_lane, no_lane}
 use Rattle.grid_bound.specs.GoesOn.{GoesOn}
+use Rattle.grid_bound.proofs.Begun.{begun_rule, begun_counted}
 use Rattle.grid_bound.proofs.Before.{cycles_before, steps, went_before}
 
 -- an item below the length is there
@@ -54,10 +55,10 @@ reached_state blocks s t n stepped.StackFull r = ap (λ (p : State × Stepped). 
 reached_state blocks s t n (stepped.Trap c) r = ap (λ (p : State × Stepped). p.0) r.0
 
 module _ {W : Type 0} (blocks : List Block) (good : AllGood blocks) (budget : ℕ) (next : W → ℕ)
-    (follows : W → W → Type 0) (bound : (w : W) → next w ≤ 3) (s : State) (entries : List ℕ) (weather : W)
+    (follows : W → W → Type 0) (bound : (w : W) → next w ≤ 3) (s : State) (predictor : Holding) (weather : W)
     (opens : WindowOk blocks budget (opened s)) where
   abbrev g : Grid W
-  g = begun_at s entries weather
+  g = record (begun_at s [] weather) { predictor = predictor }
 
   abbrev sizes : ℕ → ℕ
   sizes = sizes_from blocks s
@@ -73,13 +74,13 @@ module _ {W : Type 0} (blocks : List Block) (good : AllGood blocks) (budget : �
   -- one grid of the run
   module _ (n : ℕ) (h : Grid W) (a : After n h) (on : GoesOn budget h) (few : h.counts.cycles < 2 ^ 64 - 1) where
     ok : WindowOk blocks budget h.window
-    ok = cycles_window blocks good budget next follows bound n g h opens (begins_right s entries weather) a
+    ok = cycles_window blocks good budget next follows bound n g h opens (begun_rule s predictor weather) a
 
     rule : GridRule h
-    rule = cycles_rule blocks good budget next follows bound n g h opens (begins_right s entries weather) a
+    rule = cycles_rule blocks good budget next follows bound n g h opens (begun_rule s predictor weather) a
 
     made : GenerationsCounted h
-    made = cycles_count blocks budget next follows n g h (begins_counted s entries weather) a
+    made = cycles_count blocks budget next follows n g h (begun_counted s predictor weather) a
 
     ran : TakesSteps blocks s h.window
     ran = takes_steps blocks good budget g.window h.window opens refl (cycles_steps blocks budget next follows n g h a)
@@ -143,7 +144,7 @@ module _ {W : Type 0} (blocks : List Block) (good : AllGood blocks) (budget : �
   on_before n m h a c on =
       let went : m.window.over ≡ stepped.Went = went_before blocks budget next follows m h c on.went in
       let okm : WindowOk blocks budget m.window =
-      cycles_window blocks good budget next follows bound n g m opens (begins_right s entries weather) a in
+      cycles_window blocks good budget next follows bound n g m opens (begun_rule s predictor weather) a in
       let one : TakesSteps blocks m.window.state h.window =
       takes_steps blocks good budget m.window h.window okm went (steps blocks budget next follows m h c) in
       let grown : length h.window.state.trace ≡ length m.window.state.trace + one.steps = one.grown in

@@ -8,10 +8,8 @@ use Rattle.operand_net.specs.declared.weather.PcgWeather.{PcgWeather}
 use Rattle.block_predict.specs.Seeded as exits
 use Rattle.grid_cycle_spec.specs.Grid.{Grid}
 use Rattle.grid_cycle_spec.specs.Cycles.{begun_at}
-use Rattle.grid_state.specs.Seen.{seen}
 use Rattle.grid_run.specs.Answered.{HasCome}
 use Rattle.grid_run.specs.WholeRuns.{IsRun, most_cycles}
-use Rattle.grid_machine.specs.declared.outcome.Ran.{Ran}
 
 -- the hold that the weather of a seed gives next, and the weather after it
 abbrev pub next_hold : PcgWeather → ℕ
@@ -38,10 +36,3 @@ pub record IsRan (blocks : List Block) (bytes input : List ℕ) (budget seed : �
   pub committed : h.counts.committed ≡ length h.window.state.trace
   -- the machine's state and ending; or, without an ending, all cycles were made and the run goes on
   pub comes : HasCome blocks (start bytes input) budget budget (most_cycles budget) answer h
-
--- the grid that a run has come to, and the blocks of its image
-abbrev pub grid_of : Ran → Grid PcgWeather
-grid_of ran = seen ran.window.window ran.state
-
-abbrev pub blocks_of : Ran → List Block
-blocks_of ran = ran.window.image.blocks

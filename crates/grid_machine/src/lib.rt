@@ -2,11 +2,7 @@
 #![tactic(auto)]
 
 mod made;
-mod outcome;
 mod running;
-mod seeded;
 
 pub use made::{make, make_at};
-pub use outcome::Ran;
 pub use running::{cycle, run};
-pub use seeded::run_image;

@@ -1,3 +1,4 @@
 pub mod Growing
 pub mod Making
+pub mod RunCosts
 pub mod Bounded

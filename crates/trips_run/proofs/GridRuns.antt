@@ -1,6 +1,6 @@
 -- Runs of the grid, and what is written of them.
 use Rattle.std.proofs.Common.{◌≡◌, ℕ, ◌+◌, ◌≤◌, false, List, refl, ap, ◌∙◌, subst}
-use Rattle.std.proofs.Common.{Option, None, Some, Result, Ok, Err, IfOk}
+use Rattle.std.proofs.Common.{Option, Some, Result, Ok, Err, IfOk}
 use Rattle.trips_isa.specs.declared.block.Block.{Block}
 use Rattle.trips_isa.specs.declared.block.Image.{Image}
 use Rattle.trips_isa.specs.declared.run.Ending.{Ending}
@@ -74,8 +74,8 @@ module _ (blocks : List Block) (bytes input : List ℕ) (settings : Settings) (s
 
 -- the answer of a run that has ended, which is within its cost
 pub ended_told : {E : Type 0} (image : Image) (input : List ℕ) (settings : Settings) (seen : List Block)
-    (answer : Option Ending) (e : Ending) (g : Grid PcgWeather) (r : Result Answer E) → answer ≡ Some e
-    → HasRan image input settings answer g → seen ≡ image.blocks
+    (e : Ending) (g : Grid PcgWeather) (r : Result Answer E)
+    → HasRan image input settings (Some e) g → seen ≡ image.blocks
     → (is_trap e ≡ false → HasRan image input settings (Some e) g
     → g.counts.cycles ≤ cost_of image.blocks g.window.state.trace)
     → (HasRan image input settings (Some e) g
@@ -83,15 +83,7 @@ pub ended_told : {E : Type 0} (image : Image) (input : List ℕ) (settings : Set
     → IfOk r (λ a. IsFixed (status_of e) (shown_report e g.window.state g.counts
     (cost_of seen g.window.state.trace) settings.show) a.status a.report.items)
     → IfOk r (λ a. IsRunBy image.blocks image.bytes input settings a.status a.report.items)
-ended_told image input settings seen answer e g (Err x) is ran same within at_most told = tt
-ended_told image input settings seen answer e g (Ok a) is ran same within at_most told =
-    let here = subst (λ (x : Option Ending). HasRan image input settings x g) is ran in
-    grid_told image.blocks image.bytes input settings a.status a.report.items seen e g here same
-    (λ none. within none here) (at_most here) told
-
--- no run goes on past all the cycles that it may make
-pub cut_off : (image : Image) (input : List ℕ) (settings : Settings) (answer : Option Ending) (g : Grid PcgWeather)
-    → answer ≡ None → HasRan image input settings answer g
-    → (HasRan image input settings None g → ⊥) → ⊥
-cut_off image input settings answer g is ran never =
-    never (subst (λ (x : Option Ending). HasRan image input settings x g) is ran)
+ended_told image input settings seen e g (Err x) ran same within at_most told = tt
+ended_told image input settings seen e g (Ok a) ran same within at_most told =
+    grid_told image.blocks image.bytes input settings a.status a.report.items seen e g ran same
+    (λ none. within none ran) (at_most ran) told

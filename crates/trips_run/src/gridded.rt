@@ -1,8 +1,9 @@
 //! The run of a checked image on the grid.
 
-ghost use Rattle.std.specs.Prelude.{◌≡◌, ◌<◌, IfOk};
+ghost use Rattle.std.specs.Prelude.{◌≡◌, ◌<◌, IfOk, Some};
 ghost use Rattle.grid_cycle_spec.specs.Costs.{cost_of};
-ghost use Rattle.grid_machine.specs.Seeds.{IsRan, blocks_of, grid_of};
+ghost use Rattle.grid_machine.specs.Seeds.{IsRan};
+ghost use Rattle.grid_engine.specs.Engines.{blocks_of, grid_of};
 ghost use Rattle.trips_run.specs.Report.{shown_report};
 ghost use Rattle.trips_run.specs.Worked.{IsFixed, status_of, IsRunBy};
 
@@ -12,7 +13,7 @@ use crate::report::run_text;
 use crate::status::Status;
 use base::Items;
 use block_check::CheckedImage;
-use grid_machine::Ran;
+use grid_engine::Ran;
 use grid_machine_bound::runs_of_a_seed_end;
 use std::alloc::{AllocError, Global};
 use trips_isa::Ending;
@@ -30,14 +31,18 @@ fn status_for(ending: Ending) -> Status
     }
 }
 
-// The answer of a run that has ended so.
-fn ended_answer(alloc: Global, ran: &Ran, ending: Ending, show: Show) -> Result<Answer, AllocError>
-    ensures { IfOk result (λ answer. IsFixed (status_of ending) (shown_report ending
-        (grid_of ran.now).window.state (grid_of ran.now).counts
-        (cost_of (blocks_of ran.now) (grid_of ran.now).window.state.trace) show)
+// The answer of a run that has ended.
+fn ended_answer(alloc: Global, ran: &Ran, show: Show) -> Result<Answer, AllocError>
+    ensures { IfOk result (λ answer. IsFixed (status_of ran.now.ending) (shown_report ran.now.ending
+        (grid_of ran.now.grid).window.state (grid_of ran.now.grid).counts
+        (cost_of (blocks_of ran.now.grid) (grid_of ran.now.grid).window.state.trace) show)
         answer.status answer.report.items) }
 {
-    let report = run_text(alloc, ending, ran.arch(), ran.counts(), ran.cost(), show)?;
+    let ending = ran.ending;
+    let arch = ran.grid.window().arch();
+    let counts = ran.grid.counts();
+    let cost = ran.grid.cost();
+    let report = run_text(alloc, ending, arch, counts, cost, show)?;
     Ok(Answer {
         status: status_for(ending),
         report,
@@ -53,10 +58,10 @@ fn ran_image(
 ) -> Result<Ran, AllocError>
     requires some { 0 < settings.most }
     ensures ran { IfOk result (λ ran. IsRan image.blocks image.bytes input settings.most settings.seed
-        ran.ending (grid_of ran)) }
-    ensures image { IfOk result (λ ran. blocks_of ran ≡ image.blocks) }
+        (Some ran.ending) (grid_of ran.grid)) }
+    ensures image { IfOk result (λ ran. blocks_of ran.grid ≡ image.blocks) }
 {
-    match grid_machine::run_image(alloc, image, input.into_vec(), settings.seed, settings.most) {
+    match grid_engine::run_image(alloc, image, input.into_vec(), settings.seed, settings.most) {
         Ok(ran) => Ok(ran),
         Err(_) => Err(AllocError),
     }
@@ -77,9 +82,5 @@ pub fn run_image(
     let _ = image.count();
     runs_of_a_seed_end();
     let ran = ran_image(alloc, image, input, settings)?;
-    let ending = ran.ending;
-    match ending {
-        Some(ending) => ended_answer(alloc, &ran, ending, settings.show),
-        None => unreachable!(),
-    }
+    ended_answer(alloc, &ran, settings.show)
 }

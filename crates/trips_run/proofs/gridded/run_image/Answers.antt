@@ -1,17 +1,8 @@
 use Rattle.std.specs.Prelude.{◌<◌, ◌^◌, length}
 use Rattle.std.proofs.Common.{arith}
 use Rattle.commit_flush.proofs.SeenFacts.{all_good}
-use Rattle.trips_run.proofs.GridRuns.{ended_told, cut_off}
+use Rattle.trips_run.proofs.GridRuns.{ended_told}
 use Rattle.trips_run.proofs.gridded.run_image.Goals as goal
-
-pub unreachable-requires : goal.unreachable-requires
-unreachable-requires c =
-    let image = c.count.ensures.image in
-    let some : 0 < length c.args.image.blocks = omega (arith, image.fits.some) in
-    let few : c.args.settings.most < 2 ^ 32 = omega (arith) in
-    cut_off c.args.image c.args.input c.args.settings _ _ c.in-None.is c.in_ok-ran.ensures.ran
-    (c.runs_of_a_seed_end.ensures.ends _ _ _ _ _ _ (all_good c.args.image image) some
-    image.fits.few c.requires.some few)
 
 pub returns : goal.returns
 returns c =
@@ -19,7 +10,7 @@ returns c =
     let good = all_good c.args.image image in
     let some : 0 < length c.args.image.blocks = omega (arith, image.fits.some) in
     let few : c.args.settings.most < 2 ^ 32 = omega (arith) in
-    ended_told c.args.image c.args.input c.args.settings _ _ c.in-Some.ending _ _ c.in-Some.is
+    ended_told c.args.image c.args.input c.args.settings _ c.in_ok-ran.ran.ending _ _
     c.in_ok-ran.ensures.ran c.in_ok-ran.ensures.image
     (c.runs_of_a_seed_end.ensures.within _ _ _ _ _ _ _ good some image.fits.few c.requires.some few)
     (c.runs_of_a_seed_end.ensures.trapped _ _ _ _ _ _ _ good some image.fits.few c.requires.some few)

@@ -1,0 +1,5 @@
+pub mod History
+pub mod EngineFacts
+pub mod LackFacts
+pub mod StepFacts
+pub mod FetchFacts

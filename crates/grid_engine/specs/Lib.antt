@@ -1,0 +1,5 @@
+pub mod Holds
+pub mod Engines
+pub mod Lacks
+pub mod Nexts
+pub mod Follows
