@@ -1,7 +1,6 @@
 -- What a running frame holds tells which of its steps may be taken; and how many numbers each step has.
 use Rattle.std.proofs.Common.{◌≡◌, ℕ, ◌<◌, ◌≤◌, Bool, true, false, not, ◌&&◌, ◌||◌, [], ◌∷◌, length}
 use Rattle.std.proofs.Common.{Option, Some, None, is_some, is_none, sym, ap, ◌∙◌, subst, true≢false, refl, arith}
-use Rattle.std.proofs.lemmas.List.{get_or_past}
 use Rattle.trips_isa.specs.declared.block.Block.{Block}
 use Rattle.trips_isa.specs.declared.block.Inst.{Inst}
 use Rattle.trips_isa.specs.declared.block.ReadSlot.{ReadSlot}
@@ -101,9 +100,9 @@ slot_none : (z : Option Inst) (c x : Bool) → z ≡ None
 slot_none None c x e = refl
 slot_none (Some i) c x e = absurd (cc)
 
-pub slot_off : (b : Block) (h : Held) (o : Older) (k : ℕ) → length b.insts.items ≤ k
+pub slot_off : (b : Block) (h : Held) (o : Older) (k : ℕ) → slot_of b k ≡ None
     → is_next Firing o (running b h) k ≡ false
-slot_off b h o k l = slot_none (slot_of b k) _ _ (get_or_past b.insts.items k None l)
+slot_off b h o k e = slot_none (slot_of b k) _ _ e
 
 -- bounds of numbers -------------------------------------------------------------------------------
 

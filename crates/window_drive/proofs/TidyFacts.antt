@@ -3,7 +3,6 @@ use Rattle.std.proofs.Common.{◌≡◌, ◌≢◌, ℕ, ◌+◌, ◌-◌, ◌*�
 use Rattle.std.proofs.Common.{[], ◌∷◌, Option, Some, None, length, slice_get, get_or, refl, sym, ap, ◌∙◌, subst}
 use Rattle.std.proofs.Common.{true≢false, arith}
 use Rattle.std.proofs.lemmas.Bool.{lt-ltb, le-ltb}
-use Rattle.std.proofs.lemmas.List.{get_or_past}
 use Rattle.std.proofs.lemmas.Option.{slice_get_within}
 use Rattle.trips_isa.specs.declared.block.Block.{Block}
 use Rattle.trips_isa.specs.declared.block.Inst.{Inst}
@@ -15,7 +14,7 @@ use Rattle.commit_flush_spec.specs.Invariant.{FrameOk, inst_sent, slot_sent, has
 use Rattle.commit_flush_spec.specs.Window.{Window}
 use Rattle.commit_flush_spec.specs.Laws.{WindowOk}
 use Rattle.commit_flush_order.specs.Places.{frame_of, numbers_of}
-use Rattle.commit_flush_order.proofs.FrameFacts.{frame_ok, oldest}
+use Rattle.commit_flush_order.proofs.FrameFacts.{frame_ok, has_age, oldest}
 use Rattle.window_drive.specs.Tidy.{IsTidy}
 use Rattle.window_drive.proofs.PickFacts.{below_eight}
 
@@ -25,13 +24,12 @@ and_none false f None e i = true≢false (sym i)
 and_none a f (Some v) e i = absurd (cc)
 
 -- a slot that the block does not have has sent nothing
-no_slot : (f : Frame) (p : ℕ) → 2 * length f.code.insts.items ≤ p → p < 256 → has_sent f p ≡ true → ⊥
-no_slot f p l m e =
+no_slot : (f : Frame) (p : ℕ) → p < 256 → slot_of f.code (p / 2) ≡ None → has_sent f p ≡ true → ⊥
+no_slot f p m none e =
     let low = lt-ltb p 256 m in
     let sent : slot_sent f (p / 2) ≡ true =
     sym (ap (λ b. cond b (slot_sent f (p / 2)) (get_or f.reads ((p - 256) / 2) false)) low) ∙ e in
-    and_none (get_or f.fired (p / 2) false) f (slot_of f.code (p / 2))
-    (get_or_past f.code.insts.items (p / 2) None (omega (arith, l))) sent
+    and_none (get_or f.fired (p / 2) false) f (slot_of f.code (p / 2)) none sent
 
 none_or : (t : Answer) (x : Bool) → (t ≢ None → x ≡ true) → (x ≡ true → ⊥) → t ≡ None
 none_or None x h never = refl
@@ -51,7 +49,7 @@ module _ (blocks : List Block) (o : Older) (f : Frame) (ok : FrameOk blocks o f)
   pub tidy : f.number < 8 → IsTidy f
   tidy below = record {
     number = below;
-    slots = λ p l m. none_or (at f.places p) (has_sent f p) (ok.once.places p) (no_slot f p l m);
+    slots = λ p m none. none_or (at f.places p) (has_sent f p) (ok.once.places p) (no_slot f p m none);
     reads = λ p l. none_or (at f.places p) (has_sent f p) (ok.once.places p) (no_read p l);
   }
 
@@ -69,3 +67,9 @@ tidy_oldest blocks budget w n f ok a i =
         let same : g ≡ f = cc in
         let is : g.number ≡ n = cc in
         subst (λ (h : Frame). h.number ≡ n) same is
+
+-- the block of a frame in flight is its block of the image
+pub code_at : (blocks : List Block) (budget : ℕ) (w : Window) (n : ℕ) (f : Frame) → WindowOk blocks budget w
+    → frame_of n w.frames ≡ Some f → slice_get blocks f.block ≡ Some f.code
+code_at blocks budget w n f ok e =
+    let a = has_age n w.frames f e in (frame_ok blocks w.frames (committed w.state) ok.frames a.0 f a.2).code

@@ -5,6 +5,7 @@
 
 mod allowed;
 mod driving;
+mod known;
 mod next;
 mod running;
 mod searching;

@@ -8,9 +8,11 @@ ghost use Rattle.commit_flush_spec.specs.Older.{Older, committed};
 ghost use Rattle.commit_flush_order.specs.Places.{numbers_of};
 ghost use Rattle.frame_state.specs.Held.{running};
 ghost use Rattle.window_progress.specs.NextEvent as spec;
+ghost use Rattle.window_drive.specs.Known.{IsKnown, IsUsed};
 ghost use Rattle.window_drive.specs.Steps.{as_next, next_at};
 ghost use Rattle.window_drive.specs.Tidy.{IsTidy};
 
+use crate::known::{Known, used_of};
 use crate::searching::lowest;
 use crate::step::Step;
 use commit_flush::Window;
@@ -19,12 +21,13 @@ use frame_state::Body;
 use trips_isa::{Block, Stepped};
 
 // The event of the lowest number of a step of the oldest frame that may be taken.
-fn next_at(held: &Body, block: &Block, step: Step) -> Option<Event>
-    requires { IsTidy (running block.now held.now) }
+fn next_at(held: &Body, block: &Block, used: u16, step: Step) -> Option<Event>
+    requires tidy { IsTidy (running block.now held.now) }
+    requires used { IsUsed block.now used }
     ensures { (s : State) → as_next result ≡ next_at step (committed s) (running block.now held.now) }
 {
     let frame = held.number();
-    match lowest(held, block, step) {
+    match lowest(held, block, used, step) {
         None => None,
         Some(number) => Some(step.event(frame, number)),
     }
@@ -42,66 +45,74 @@ fn next_exit(held: &Body) -> Option<Event>
 }
 
 // The loads and stores of the oldest frame, and its exit.
-fn next_request(held: &Body, block: &Block) -> Option<Event>
-    requires { IsTidy (running block.now held.now) }
+fn next_request(held: &Body, block: &Block, used: u16) -> Option<Event>
+    requires tidy { IsTidy (running block.now held.now) }
+    requires used { IsUsed block.now used }
     ensures { (s : State) → as_next result
         ≡ or_else (spec.next_store (committed s) (running block.now held.now))
         (or_else (spec.next_load (committed s) (running block.now held.now))
         (spec.next_exit (committed s) (running block.now held.now))) }
 {
-    if let Some(e) = next_at(held, block, Step::Store) {
+    if let Some(e) = next_at(held, block, used, Step::Store) {
         return Some(e);
     }
-    if let Some(e) = next_at(held, block, Step::Load) {
+    if let Some(e) = next_at(held, block, used, Step::Load) {
         return Some(e);
     }
     next_exit(held)
 }
 
 // The step of the oldest frame that is next.
-fn next_step(held: &Body, block: &Block) -> Option<Event>
-    requires { IsTidy (running block.now held.now) }
+fn next_step(held: &Body, block: &Block, used: u16) -> Option<Event>
+    requires tidy { IsTidy (running block.now held.now) }
+    requires used { IsUsed block.now used }
     ensures { (s : State) → as_next result ≡ spec.next_step (committed s) (running block.now held.now) }
 {
-    if let Some(e) = next_at(held, block, Step::Token) {
+    if let Some(e) = next_at(held, block, used, Step::Token) {
         return Some(e);
     }
-    if let Some(e) = next_at(held, block, Step::Firing) {
+    if let Some(e) = next_at(held, block, used, Step::Firing) {
         return Some(e);
     }
-    if let Some(e) = next_at(held, block, Step::Read) {
+    if let Some(e) = next_at(held, block, used, Step::Read) {
         return Some(e);
     }
-    next_request(held, block)
+    next_request(held, block, used)
 }
 
 // The event of the oldest frame that is next, where it runs.
-fn next_of_running(held: &Body, block: &Block) -> Option<Event>
-    requires { IsTidy (running block.now held.now) }
+fn next_of_running(held: &Body, block: &Block, used: u16) -> Option<Event>
+    requires tidy { IsTidy (running block.now held.now) }
+    requires used { IsUsed block.now used }
     ensures { (s : State) → as_next result ≡ spec.next_of_frame (committed s) (running block.now held.now) }
 {
     let frame = held.number();
     if held.is_complete(block) {
         Some(Event::Seal { frame })
     } else {
-        next_step(held, block)
+        next_step(held, block, used)
     }
 }
 
 // The event of the oldest frame that is next: one that does not run is sealed, and is committed.
-fn next_of_frame(window: &Window, frame: u8) -> Option<Event>
-    requires { slice_get (numbers_of window.now.window.frames) 0 ≡ Some frame }
+fn next_of_frame(window: &Window, known: Option<Known>, frame: u8) -> Option<Event>
+    requires known { IsKnown window.now.image.blocks known }
+    requires oldest { slice_get (numbers_of window.now.window.frames) 0 ≡ Some frame }
     ensures { as_next result ≡ spec.next_in window.now.window.frames window.now.window.state }
 {
     window.keeps_invariant();
     match window.running(frame) {
         None => Some(Event::Commit),
-        Some((held, block)) => next_of_running(held, block),
+        Some((held, block)) => {
+            let used = used_of(known, held.block(), block);
+            next_of_running(held, block, used)
+        }
     }
 }
 
 // The next event while the run goes on.
-fn next_while_going(window: &Window) -> Option<Event>
+fn next_while_going(window: &Window, known: Option<Known>) -> Option<Event>
+    requires known { IsKnown window.now.image.blocks known }
     requires goes_on { window.now.window.over ≡ Went }
     ensures { as_next result ≡ spec.next_event window.now.budget window.now.window }
 {
@@ -113,7 +124,18 @@ fn next_while_going(window: &Window) -> Option<Event>
         None => Some(Event::Fetch {
             block: window.arch().next(),
         }),
-        Some(frame) => next_of_frame(window, frame),
+        Some(frame) => next_of_frame(window, known, frame),
+    }
+}
+
+/// The next event, where this is known of a block of the image.
+pub fn next_with(window: &Window, known: Option<Known>) -> Option<Event>
+    requires known { IsKnown window.now.image.blocks known }
+    ensures value { as_next result ≡ spec.next_event window.now.budget window.now.window }
+{
+    match window.over() {
+        Stepped::Went => next_while_going(window, known),
+        Stepped::Ended | Stepped::StackFull | Stepped::Trap(_) => None,
     }
 }
 
@@ -122,8 +144,5 @@ fn next_while_going(window: &Window) -> Option<Event>
 pub fn next_event(window: &Window) -> Option<Event>
     ensures value { as_next result ≡ spec.next_event window.now.budget window.now.window }
 {
-    match window.over() {
-        Stepped::Went => next_while_going(window),
-        Stepped::Ended | Stepped::StackFull | Stepped::Trap(_) => None,
-    }
+    next_with(window, None)
 }

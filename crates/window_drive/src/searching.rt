@@ -5,6 +5,7 @@ ghost use Rattle.commit_flush_spec.specs.Older.{committed};
 ghost use Rattle.frame_state.specs.Held.{running};
 ghost use Rattle.window_progress.specs.NextEvent.{lowest};
 ghost use Rattle.window_drive.specs.Steps.{count_of, is_next};
+ghost use Rattle.window_drive.specs.Known.{IsUsed};
 ghost use Rattle.window_drive.specs.Tidy.{IsTidy};
 ghost use Rattle.window_drive.specs.declared.step.Step.TheVariants as step;
 
@@ -30,15 +31,6 @@ fn between(held: &Body, block: &Block, step: Step, from: u16, to: u16) -> Option
     None
 }
 
-// How many slots a block uses.
-fn slots_of(block: &Block) -> u16
-    ensures value { result ≡ length block.now.insts.items }
-    ensures within { result ≤ 128 }
-{
-    let insts = block.insts.as_slice();
-    insts.len() as u16
-}
-
 // How many reads a block declares.
 fn reads_of(block: &Block) -> u16
     ensures value { result ≡ length block.now.reads.items }
@@ -49,13 +41,14 @@ fn reads_of(block: &Block) -> u16
 }
 
 // The lowest place with a token, which is one of the block's slots or reads.
-fn lowest_place(held: &Body, block: &Block) -> Option<u16>
-    requires { IsTidy (running block.now held.now) }
+fn lowest_place(held: &Body, block: &Block, used: u16) -> Option<u16>
+    requires tidy { IsTidy (running block.now held.now) }
+    requires used { IsUsed block.now used }
     ensures value { (s : State) → result
         ≡ lowest (is_next step.Token (committed s) (running block.now held.now)) (count_of step.Token) 0 }
     ensures within { IfSome result (λ n. n < count_of step.Token) }
 {
-    let slots = 2 * slots_of(block);
+    let slots = 2 * used;
     let reads = 256 + 2 * reads_of(block);
     match between(held, block, Step::Token, 0, slots) {
         Some(place) => Some(place),
@@ -64,24 +57,26 @@ fn lowest_place(held: &Body, block: &Block) -> Option<u16>
 }
 
 // The lowest ready slot.
-fn lowest_slot(held: &Body, block: &Block) -> Option<u16>
+fn lowest_slot(held: &Body, block: &Block, used: u16) -> Option<u16>
+    requires { IsUsed block.now used }
     ensures value { (s : State) → result
         ≡ lowest (is_next step.Firing (committed s) (running block.now held.now)) (count_of step.Firing) 0 }
     ensures within { IfSome result (λ n. n < count_of step.Firing) }
 {
-    between(held, block, Step::Firing, 0, slots_of(block))
+    between(held, block, Step::Firing, 0, used)
 }
 
-/// The lowest number of a step that the oldest frame may take, where it runs.
-pub fn lowest(held: &Body, block: &Block, step: Step) -> Option<u16>
-    requires { IsTidy (running block.now held.now) }
+/// The lowest number of a step that the oldest frame may take, where it runs. Its block uses so many slots.
+pub fn lowest(held: &Body, block: &Block, used: u16, step: Step) -> Option<u16>
+    requires tidy { IsTidy (running block.now held.now) }
+    requires used { IsUsed block.now used }
     ensures value { (s : State) → result
         ≡ lowest (is_next step (committed s) (running block.now held.now)) (count_of step) 0 }
     ensures within { IfSome result (λ n. n < count_of step) }
 {
     match step {
-        Step::Token => lowest_place(held, block),
-        Step::Firing => lowest_slot(held, block),
+        Step::Token => lowest_place(held, block, used),
+        Step::Firing => lowest_slot(held, block, used),
         Step::Read | Step::Store | Step::Load => between(held, block, step, 0, step.count()),
     }
 }

@@ -8,13 +8,11 @@ use Rattle.window_drive.proofs.SearchFacts.{of_slots}
 use Rattle.window_drive.proofs.searching.lowest_slot.Goals as goal
 
 pub between-requires-clause-within : goal.between-requires-clause-within
-between-requires-clause-within c =
-    let l = c.slots_of.ensures.within in let p = slots_are in omega (arith, l, p)
+between-requires-clause-within c = let l = c.requires.few in let p = slots_are in omega (arith, l, p)
 
 pub returns-clause-value : goal.returns-clause-value
 returns-clause-value c = λ s.
     let b = c.args.block.now in
     let h = c.args.held.now in
-    of_slots (is_next Firing (committed s) (running b h)) c.slots_of.result c.between.result c.slots_of.ensures.within
-    (λ k m. slot_off b h (committed s) k (let v = c.slots_of.ensures.value in omega (arith, m, v)))
-    (c.between.ensures.value s)
+    of_slots (is_next Firing (committed s) (running b h)) c.args.used c.between.result c.requires.few
+    (λ k m. slot_off b h (committed s) k (c.requires.past k m)) (c.between.ensures.value s)
