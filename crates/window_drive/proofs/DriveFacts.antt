@@ -1,9 +1,9 @@
 -- One next event more, and none: what is seen of a window that is driven.
-use Rattle.std.proofs.Common.{◌≡◌, ◌-◌, ◌<◌, Some, None, length, sym, ap, ◌∙◌, subst}
+use Rattle.std.proofs.Common.{◌≡◌, ◌-◌, ◌<◌, Option, Some, None, length, sym, ap, ◌∙◌, subst}
 use Rattle.trips_isa.specs.declared.run.Stepped.{Stepped}
 use Rattle.trips_isa.specs.declared.run.Stepped.TheVariants.{Went}
 use Rattle.trips_isa.specs.Machine.{runs}
-use Rattle.commit_flush_spec.specs.Window.{Event, happens}
+use Rattle.commit_flush_spec.specs.Window.{Window, Event, happens}
 use Rattle.commit_flush_spec.specs.Invariant.{AllGood}
 use Rattle.commit_flush_spec.specs.Laws.{WindowOk}
 use Rattle.commit_flush.specs.Seen.{Seen}
@@ -11,6 +11,8 @@ use Rattle.window_progress.specs.NextEvent.{next_event}
 use Rattle.window_progress.specs.Work.{work}
 use Rattle.window_progress.specs.Driving.{driven}
 use Rattle.window_progress.specs.Laws.{HasGenerations}
+use Rattle.window_drive.specs.declared.known.Known.{Known}
+use Rattle.window_drive.specs.Known.{IsKnown}
 use Rattle.window_progress.proofs.Lowered.{work_falls, may_fill, has_work}
 use Rattle.window_progress.proofs.Ends.{driven_steps, driven_rests}
 use Rattle.window_progress.proofs.Runs.{driven_runs}
@@ -62,3 +64,8 @@ comes_to a v o is told good ok room went =
     ap (λ x. (v.window.state, x)) told
     ∙ ap (λ (z : Seen). (z.window.state, z.window.over)) is
     ∙ driven_runs a.image.blocks a.budget a.window good ok room went
+
+-- an event leaves the image, and so what is known of its blocks
+pub stays_known : (v u : Seen) (x : Window) (k : Option Known) → u ≡ record v { window = x }
+    → IsKnown v.image.blocks k → IsKnown u.image.blocks k
+stays_known v u x k e is = subst (λ (z : Seen). IsKnown z.image.blocks k) (sym e) is

@@ -1,27 +1,22 @@
--- What the steps of the oldest frame are answered, and which of them is the first that may be taken.
-use Rattle.std.proofs.Common.{◌≡◌, ℕ, ◌<◌, Bool, true, false, cond, List, ◌∷◌}
-use Rattle.std.proofs.Common.{Some, None, refl, sym, ap, ap₂, ◌∙◌, subst, ◌⊎◌, inl, inr, arith}
+-- What a running frame holds tells which of its steps may be taken; and how many numbers each step has.
+use Rattle.std.proofs.Common.{◌≡◌, ℕ, ◌<◌, ◌≤◌, Bool, true, false, not, ◌&&◌, ◌||◌, [], ◌∷◌, length}
+use Rattle.std.proofs.Common.{Option, Some, None, is_some, is_none, sym, ap, ◌∙◌, subst, true≢false, refl, arith}
 use Rattle.trips_isa.specs.declared.block.Block.{Block}
-use Rattle.trips_isa.specs.declared.run.Stepped.TheVariants.{Went}
-use Rattle.commit_flush_spec.specs.Frames.{Frame}
+use Rattle.trips_isa.specs.declared.block.Inst.{Inst}
+use Rattle.trips_isa.specs.declared.block.ReadSlot.{ReadSlot}
+use Rattle.trips_isa.specs.Machine.{State}
+use Rattle.trips_isa.specs.Rule.{Answer}
+use Rattle.block_cases.specs.Orders.{slot_of}
+use Rattle.commit_flush_spec.specs.Frames.{at, target, is_target}
 use Rattle.commit_flush_spec.specs.Older.{Older, committed}
-use Rattle.commit_flush_spec.specs.Causes.{NoFrame, NoToken, Happened, Done, NotNow}
-use Rattle.commit_flush_spec.specs.Dataflow.{can_read, can_fire, can_deliver}
-use Rattle.commit_flush_spec.specs.Memory.{can_load, can_store}
-use Rattle.commit_flush_spec.specs.Ends.{store_came}
-use Rattle.commit_flush_order.specs.Places.{frame_of}
-use Rattle.commit_flush.specs.Telling.{store_came_in}
-use Rattle.frame_state.proofs.CompleteFacts.{not_all}
-use Rattle.commit_flush_spec.specs.Window.{Window, Event, on_frame, can_now, unless_over, can}
-use Rattle.block_cases.specs.Orders.{NoneBelow}
-use Rattle.frame_events.specs.Events as told
-use Rattle.window_progress.specs.NextEvent.{is_done, event_of, places, slots, reads, stores_came}
+use Rattle.commit_flush_spec.specs.Causes.{NoFrame, NoRead, NotYet, NoInst, NotReady, NoToken, NoRequest, judged}
+use Rattle.commit_flush_spec.specs.Dataflow.{read_seen}
+use Rattle.frame_state.specs.Held.{Held, running}
+use Rattle.window_progress.specs.NextEvent.{is_done, places, slots, reads}
 use Rattle.window_progress.proofs.Stuck.{numbers_are}
-use Rattle.window_progress.proofs.Next.{same, at_oldest, place_of}
-use Rattle.window_progress.proofs.Least.{finds, finds_none}
 use Rattle.window_drive.specs.declared.step.Step.{Step}
 use Rattle.window_drive.specs.declared.step.Step.TheVariants.{Token, Firing, Read, Store, Load}
-use Rattle.window_drive.specs.Steps.{count_of, event_at, is_next, next_at}
+use Rattle.window_drive.specs.Steps.{count_of, is_next}
 
 -- how many numbers there are ----------------------------------------------------------------------
 
@@ -45,75 +40,69 @@ small Read k l = let e = reads_are in omega (arith, l, e)
 small Store k l = let e = numbers_are in omega (arith, l, e)
 small Load k l = let e = numbers_are in omega (arith, l, e)
 
--- what a step is answered -------------------------------------------------------------------------
+-- what may be taken ------------------------------------------------------------------------------
 
-pub same_done : (h : Happened) → told.is_done h ≡ is_done h
-same_done Done = refl
-same_done (NotNow c) = refl
+-- a token is there
+pub token_there : (t : Answer) (x y : Bool) → true ≡ is_some t → x ≡ y
+    → x ≡ is_done (judged ((false, NoToken) ∷ (is_none t, NoToken) ∷ (not y, NoToken) ∷ []))
+token_there None x y e i = absurd (true≢false e)
+token_there (Some v) x true e i = i
+token_there (Some v) x false e i = i
 
-pub oldest_is : (none : Happened) (can : Older → Frame → Happened) (w : Window) (f : Frame) (fs : List Frame)
-    → w.frames ≡ f ∷ fs → on_frame none can (committed w.state) w.frames f.number ≡ can (committed w.state) f
-oldest_is none can w f fs e =
-    ap (λ l. on_frame none can (committed w.state) l f.number) e ∙ at_oldest none can (committed w.state) f fs
+-- or it is not
+pub no_token : (t : Answer) (y : Bool) → false ≡ is_some t
+    → false ≡ is_done (judged ((false, NoToken) ∷ (is_none t, NoToken) ∷ (not y, NoToken) ∷ []))
+no_token None y e = refl
+no_token (Some v) y e = absurd (true≢false (sym e))
 
--- what the step of number k is answered at a frame
-abbrev pub answer : Step → Older → Frame → ℕ → Happened
-answer Token o f k = can_deliver k o f
-answer Firing o f k = can_fire k o f
-answer Read o f k = can_read k o f
-answer Store o f k = can_store k o f
-answer Load o f k = can_load k o f
+-- an instruction that has not fired is there
+pub fired_there : (z x : Bool) (t : Answer) → true ≡ not z → x ≡ is_some t
+    → x ≡ is_done (judged ((false, NoFrame) ∷ (z, NoInst) ∷ (is_none t, NotReady) ∷ []))
+fired_there true x t e i = absurd (true≢false e)
+fired_there false x None e i = i
+fired_there false x (Some v) e i = i
 
-step_answer : (t : Step) (blocks : List Block) (budget : ℕ) (w : Window) (f : Frame) (fs : List Frame) (k : ℕ)
-    → w.frames ≡ f ∷ fs → k < count_of t
-    → can_now blocks budget (event_at t f.number k) w ≡ answer t (committed w.state) f k
-step_answer Token blocks budget w f fs k e l =
-    let at' = place_of f.number k (small Token k l) in
-    ap₂ (λ p n. on_frame (NotNow NoToken) (can_deliver p) (committed w.state) w.frames n) at'.0 at'.1
-    ∙ oldest_is (NotNow NoToken) (can_deliver k) w f fs e
-step_answer Firing blocks budget w f fs k e l = oldest_is (NotNow NoFrame) (can_fire k) w f fs e
-step_answer Read blocks budget w f fs k e l = oldest_is (NotNow NoFrame) (can_read k) w f fs e
-step_answer Store blocks budget w f fs k e l = oldest_is (NotNow NoFrame) (can_store k) w f fs e
-step_answer Load blocks budget w f fs k e l = oldest_is (NotNow NoFrame) (can_load k) w f fs e
+-- or it is not
+pub not_fired : (z : Bool) (t : Answer) → false ≡ not z
+    → false ≡ is_done (judged ((false, NoFrame) ∷ (z, NoInst) ∷ (is_none t, NotReady) ∷ []))
+not_fired true t e = refl
+not_fired false t e = absurd (true≢false (sym e))
 
-pub goes : (blocks : List Block) (budget : ℕ) (e : Event) (w : Window) → w.over ≡ Went
-    → can blocks budget e w ≡ can_now blocks budget e w
-goes blocks budget e w o = ap (λ s. unless_over s (can_now blocks budget e w)) o
+-- the oldest frame sees every register
+pub unread_next : (s : State) (q : Option ReadSlot) (c x : Bool) → x ≡ not (is_none q || c)
+    → x ≡ is_done (judged ((false, NoFrame) ∷ (is_none q || c, NoRead)
+    ∷ (is_none (read_seen (committed s) q), NotYet) ∷ []))
+unread_next s None c x i = i
+unread_next s (Some v) true x i = i
+unread_next s (Some v) false x i = i
 
--- whether the code's answer to a step is Done
-pub step_done : (t : Step) (blocks : List Block) (budget : ℕ) (w : Window) (f : Frame) (fs : List Frame) (n k : ℕ)
-    (e : Event) (h : Happened) (b : Bool) → w.over ≡ Went → w.frames ≡ f ∷ fs → n ≡ f.number → k < count_of t
-    → e ≡ event_at t n k → h ≡ can blocks budget e w → b ≡ told.is_done h
-    → b ≡ is_done (answer t (committed w.state) f k)
-step_done t blocks budget w f fs n k e h b o x m l i a d =
-    d ∙ ap told.is_done (a ∙ ap (λ y. can blocks budget y w) (i ∙ ap (λ z. event_at t z k) m)
-    ∙ goes blocks budget (event_at t f.number k) w o ∙ step_answer t blocks budget w f fs k x l)
-    ∙ same_done (answer t (committed w.state) f k)
+-- a request is there, and what more is wanted of it
+pub asked_and : (r x y : Bool) → true ≡ r → x ≡ y
+    → x ≡ (is_done (judged ((false, NoFrame) ∷ (not r, NoRequest) ∷ [])) && y)
+asked_and true x y e i = i
+asked_and false x y e i = absurd (true≢false e)
 
--- the first that may be taken ---------------------------------------------------------------------
+-- or it is not
+pub not_asked : (r y : Bool) → false ≡ r
+    → false ≡ (is_done (judged ((false, NoFrame) ∷ (not r, NoRequest) ∷ [])) && y)
+not_asked true y e = absurd (true≢false (sym e))
+not_asked false y e = refl
 
-pub found_step : (t : Step) (o : Older) (f : Frame) (n k : ℕ) → n ≡ f.number → k < count_of t → is_next t o f k ≡ true
-    → NoneBelow (is_next t o f) k → Some (event_at t n k) ≡ next_at t o f
-found_step t o f n k m l h first =
-    ap (λ z. Some (event_at t z k)) m
-    ∙ ap (event_of (event_at t f.number)) (sym ((finds (is_next t o f) (count_of t) k).1
-    (record { below = l; holds = h; least = first })))
+-- what may not be taken ---------------------------------------------------------------------------
 
-pub no_step : (t : Step) (o : Older) (f : Frame) → NoneBelow (is_next t o f) (count_of t) → None ≡ next_at t o f
-no_step t o f none =
-    ap (event_of (event_at t f.number)) (sym ((finds_none (is_next t o f) (count_of t)).1 none))
+pub place_off : (b : Block) (h : Held) (o : Older) (p : ℕ) → at h.places p ≡ None
+    → is_next Token o (running b h) p ≡ false
+place_off b h o p e =
+    ap (λ t. is_done (judged ((false, NoToken) ∷ (is_none t, NoToken) ∷ (not (is_target (target b p)), NoToken) ∷ []))) e
 
--- stores of the oldest frame ----------------------------------------------------------------------
+slot_none : (z : Option Inst) (c x : Bool) → z ≡ None
+    → is_done (judged ((false, NoFrame) ∷ (is_none z || c, NoInst) ∷ (x, NotReady) ∷ [])) ≡ false
+slot_none None c x e = refl
+slot_none (Some i) c x e = absurd (cc)
 
-pub first_frame : (gs : List Frame) (n : ℕ) (f : Frame) (fs : List Frame) → gs ≡ f ∷ fs → n ≡ f.number
-    → frame_of n gs ≡ Some f
-first_frame gs n f fs e m =
-    ap₂ frame_of m e ∙ ap (λ b. cond b (Some f) (frame_of f.number fs)) (same f.number)
-
-pub store_missing : (gs : List Frame) (m n k : ℕ) → false ≡ store_came_in k (frame_of m gs) → k < n
-    → (f : Frame) (fs : List Frame) → gs ≡ f ∷ fs → m ≡ f.number → false ≡ stores_came f n
-store_missing gs m n k h l f fs e i =
-    sym (not_all (store_came f) n k l (sym (h ∙ ap (store_came_in k) (first_frame gs m f fs e i))))
+pub slot_off : (b : Block) (h : Held) (o : Older) (k : ℕ) → slot_of b k ≡ None
+    → is_next Firing o (running b h) k ≡ false
+slot_off b h o k e = slot_none (slot_of b k) _ _ e
 
 -- bounds of numbers -------------------------------------------------------------------------------
 
@@ -147,10 +136,3 @@ counts_stores t n e m = m ∙ sym numbers_are ∙ ap count_of (sym e)
 
 pub counts_loads : (t : Step) (n : ℕ) → t ≡ Load → n ≡ 32 → n ≡ count_of t
 counts_loads t n e m = m ∙ sym numbers_are ∙ ap count_of (sym e)
-
--- steps without a further condition
-pub plain : (t : Step) (o : Older) (f : Frame) (k : ℕ) (b : Bool) → (t ≡ Token) ⊎ ((t ≡ Firing) ⊎ (t ≡ Read))
-    → b ≡ is_done (answer t o f k) → b ≡ is_next t o f k
-plain t o f k b (inl e) d = d ∙ ap (λ s. is_done (answer s o f k)) e ∙ ap (λ s. is_next s o f k) (sym e)
-plain t o f k b (inr (inl e)) d = d ∙ ap (λ s. is_done (answer s o f k)) e ∙ ap (λ s. is_next s o f k) (sym e)
-plain t o f k b (inr (inr e)) d = d ∙ ap (λ s. is_done (answer s o f k)) e ∙ ap (λ s. is_next s o f k) (sym e)

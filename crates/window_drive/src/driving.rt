@@ -5,7 +5,8 @@ ghost use Rattle.trips_isa.specs.Machine.{runs};
 ghost use Rattle.window_progress.specs.Driving.{driven};
 ghost use Rattle.window_progress.specs.Laws.{HasGenerations};
 
-use crate::next::next_event;
+use crate::known::recall;
+use crate::next::next_with;
 use commit_flush::Window;
 use trips_isa::Stepped;
 
@@ -22,8 +23,10 @@ pub fn drive(window: &mut Window) -> Stepped
         (window.old.budget - length window.old.window.state.trace) }
 {
     window.keeps_invariant();
-    while let Some(e) = next_event(window) {
+    let mut known = None;
+    while let Some(e) = next_with(window, known) {
         window.keeps_invariant();
+        known = recall(window, known);
         let _ = window.event(e);
     }
     window.over()

@@ -3,9 +3,12 @@
 //! Which event is next is defined in crates/window_progress (docs/WINDOW.md, "Driving").
 #![tactic(auto)]
 
+mod allowed;
 mod driving;
+mod known;
 mod next;
 mod running;
+mod searching;
 mod step;
 
 pub use driving::drive;

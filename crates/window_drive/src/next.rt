@@ -1,132 +1,118 @@
 //! Which event of a window is next.
-ghost use Rattle.std.specs.Prelude.{◌≡◌, ◌<◌, ◌∷◌, List, Some, None, cond, length};
-ghost use Rattle.trips_isa.specs.declared.run.Stepped.TheVariants.{Went};
+ghost use Rattle.std.specs.Prelude.{◌≡◌, Some, slice_get};
+ghost use Rattle.trips_isa.specs.Machine.{State};
 ghost use Rattle.trips_isa.specs.Tables.{or_else};
-ghost use Rattle.commit_flush_spec.specs.Frames.{Frame};
-ghost use Rattle.commit_flush_spec.specs.Older.{committed};
-ghost use Rattle.commit_flush_spec.specs.Window.{can};
+ghost use Rattle.trips_isa.specs.declared.block.Block.{Block};
+ghost use Rattle.trips_isa.specs.declared.run.Stepped.TheVariants.{Went};
+ghost use Rattle.commit_flush_spec.specs.Older.{Older, committed};
+ghost use Rattle.commit_flush_order.specs.Places.{numbers_of};
+ghost use Rattle.frame_state.specs.Held.{running};
 ghost use Rattle.window_progress.specs.NextEvent as spec;
-ghost use Rattle.frame_events.specs.Events.{as_event};
-ghost use Rattle.window_drive.specs.Steps.{as_next, count_of, is_next, next_at};
+ghost use Rattle.window_drive.specs.Known.{IsKnown, IsUsed};
+ghost use Rattle.window_drive.specs.Steps.{as_next, next_at};
+ghost use Rattle.window_drive.specs.Tidy.{IsTidy};
 
+use crate::known::{Known, used_of};
+use crate::searching::lowest;
 use crate::step::Step;
 use commit_flush::Window;
 use frame_events::Event;
-use trips_isa::Stepped;
-
-// Whether every store of a lower number has come to the oldest frame.
-fn stores_came(window: &Window, frame: u8, number: u8) -> bool
-    ensures { (f : Frame) (fs : List Frame) → window.now.window.frames ≡ f ∷ fs → frame ≡ f.number
-        → result ≡ spec.stores_came f number }
-{
-    for lower in 0..number {
-        if !window.store_came(frame, lower) {
-            return false;
-        }
-    }
-    true
-}
-
-// Whether the step of a number of the oldest frame may be taken.
-fn is_next(window: &Window, step: Step, frame: u8, number: u16) -> bool
-    requires frame { frame < 8 }
-    requires number { number < count_of step }
-    requires goes_on { window.now.window.over ≡ Went }
-    ensures { (f : Frame) (fs : List Frame) → window.now.window.frames ≡ f ∷ fs → frame ≡ f.number
-        → result ≡ is_next step (committed window.now.window.state) f number }
-{
-    let happens = window.can(step.event(frame, number)).is_done();
-    match step {
-        Step::Token | Step::Firing | Step::Read => happens,
-        Step::Store => happens && window.stored(frame, number as u8).is_none(),
-        Step::Load => happens && stores_came(window, frame, number as u8),
-    }
-}
+use frame_state::Body;
+use trips_isa::{Block, Stepped};
 
 // The event of the lowest number of a step of the oldest frame that may be taken.
-fn next_at(window: &Window, step: Step, frame: u8) -> Option<Event>
-    requires frame { frame < 8 }
-    requires goes_on { window.now.window.over ≡ Went }
-    ensures { (f : Frame) (fs : List Frame) → window.now.window.frames ≡ f ∷ fs → frame ≡ f.number
-        → as_next result ≡ next_at step (committed window.now.window.state) f }
+fn next_at(held: &Body, block: &Block, used: u16, step: Step) -> Option<Event>
+    requires tidy { IsTidy (running block.now held.now) }
+    requires used { IsUsed block.now used }
+    ensures { (s : State) → as_next result ≡ next_at step (committed s) (running block.now held.now) }
 {
-    let count = step.count();
-    for number in 0..count {
-        if is_next(window, step, frame, number) {
-            return Some(step.event(frame, number));
-        }
+    let frame = held.number();
+    match lowest(held, block, used, step) {
+        None => None,
+        Some(number) => Some(step.event(frame, number)),
     }
-    None
 }
 
-// An event, where it would be done.
-fn if_done(window: &Window, e: Event) -> Option<Event>
-    ensures { as_next result ≡ cond (spec.is_done (can window.now.image.blocks window.now.budget (as_event e)
-        window.now.window)) (Some (as_event e)) None }
+// The exit of the branch that waits.
+fn next_exit(held: &Body) -> Option<Event>
+    ensures { (b : Block) (o : Older) → as_next result ≡ spec.next_exit o (running b held.now) }
 {
-    if window.can(e).is_done() {
-        Some(e)
-    } else {
-        None
+    let frame = held.number();
+    match held.leaving() {
+        None => None,
+        Some(_) => Some(Event::Exit { frame }),
     }
 }
 
 // The loads and stores of the oldest frame, and its exit.
-fn next_request(window: &Window, frame: u8) -> Option<Event>
-    requires frame { frame < 8 }
-    requires goes_on { window.now.window.over ≡ Went }
-    ensures { (f : Frame) (fs : List Frame) → window.now.window.frames ≡ f ∷ fs → frame ≡ f.number
-        → as_next result ≡ or_else (spec.next_store (committed window.now.window.state) f)
-        (or_else (spec.next_load (committed window.now.window.state) f)
-        (spec.next_exit (committed window.now.window.state) f)) }
+fn next_request(held: &Body, block: &Block, used: u16) -> Option<Event>
+    requires tidy { IsTidy (running block.now held.now) }
+    requires used { IsUsed block.now used }
+    ensures { (s : State) → as_next result
+        ≡ or_else (spec.next_store (committed s) (running block.now held.now))
+        (or_else (spec.next_load (committed s) (running block.now held.now))
+        (spec.next_exit (committed s) (running block.now held.now))) }
 {
-    if let Some(e) = next_at(window, Step::Store, frame) {
+    if let Some(e) = next_at(held, block, used, Step::Store) {
         return Some(e);
     }
-    if let Some(e) = next_at(window, Step::Load, frame) {
+    if let Some(e) = next_at(held, block, used, Step::Load) {
         return Some(e);
     }
-    if_done(window, Event::Exit { frame })
+    next_exit(held)
 }
 
 // The step of the oldest frame that is next.
-fn next_step(window: &Window, frame: u8) -> Option<Event>
-    requires frame { frame < 8 }
-    requires goes_on { window.now.window.over ≡ Went }
-    ensures { (f : Frame) (fs : List Frame) → window.now.window.frames ≡ f ∷ fs → frame ≡ f.number
-        → as_next result ≡ spec.next_step (committed window.now.window.state) f }
+fn next_step(held: &Body, block: &Block, used: u16) -> Option<Event>
+    requires tidy { IsTidy (running block.now held.now) }
+    requires used { IsUsed block.now used }
+    ensures { (s : State) → as_next result ≡ spec.next_step (committed s) (running block.now held.now) }
 {
-    if let Some(e) = next_at(window, Step::Token, frame) {
+    if let Some(e) = next_at(held, block, used, Step::Token) {
         return Some(e);
     }
-    if let Some(e) = next_at(window, Step::Firing, frame) {
+    if let Some(e) = next_at(held, block, used, Step::Firing) {
         return Some(e);
     }
-    if let Some(e) = next_at(window, Step::Read, frame) {
+    if let Some(e) = next_at(held, block, used, Step::Read) {
         return Some(e);
     }
-    next_request(window, frame)
+    next_request(held, block, used)
 }
 
-// The event of the oldest frame that is next, where the budget is not spent.
-fn next_of_frame(window: &Window, frame: u8) -> Option<Event>
-    requires frame { frame < 8 }
-    requires goes_on { window.now.window.over ≡ Went }
-    requires unspent { length window.now.window.state.trace < window.now.budget }
-    ensures { (f : Frame) (fs : List Frame) → window.now.window.frames ≡ f ∷ fs → frame ≡ f.number
-        → as_next result ≡ spec.next_of_frame (committed window.now.window.state) f }
+// The event of the oldest frame that is next, where it runs.
+fn next_of_running(held: &Body, block: &Block, used: u16) -> Option<Event>
+    requires tidy { IsTidy (running block.now held.now) }
+    requires used { IsUsed block.now used }
+    ensures { (s : State) → as_next result ≡ spec.next_of_frame (committed s) (running block.now held.now) }
 {
-    if window.can(Event::Commit).is_done() {
-        return Some(Event::Commit);
+    let frame = held.number();
+    if held.is_complete(block) {
+        Some(Event::Seal { frame })
+    } else {
+        next_step(held, block, used)
     }
-    if window.can(Event::Seal { frame }).is_done() {
-        return Some(Event::Seal { frame });
+}
+
+// The event of the oldest frame that is next: one that does not run is sealed, and is committed.
+fn next_of_frame(window: &Window, known: Option<Known>, frame: u8) -> Option<Event>
+    requires known { IsKnown window.now.image.blocks known }
+    requires oldest { slice_get (numbers_of window.now.window.frames) 0 ≡ Some frame }
+    ensures { as_next result ≡ spec.next_in window.now.window.frames window.now.window.state }
+{
+    window.keeps_invariant();
+    match window.running(frame) {
+        None => Some(Event::Commit),
+        Some((held, block)) => {
+            let used = used_of(known, held.block(), block);
+            next_of_running(held, block, used)
+        }
     }
-    next_step(window, frame)
 }
 
 // The next event while the run goes on.
-fn next_while_going(window: &Window) -> Option<Event>
+fn next_while_going(window: &Window, known: Option<Known>) -> Option<Event>
+    requires known { IsKnown window.now.image.blocks known }
     requires goes_on { window.now.window.over ≡ Went }
     ensures { as_next result ≡ spec.next_event window.now.budget window.now.window }
 {
@@ -138,7 +124,18 @@ fn next_while_going(window: &Window) -> Option<Event>
         None => Some(Event::Fetch {
             block: window.arch().next(),
         }),
-        Some(frame) => next_of_frame(window, frame),
+        Some(frame) => next_of_frame(window, known, frame),
+    }
+}
+
+/// The next event, where this is known of a block of the image.
+pub fn next_with(window: &Window, known: Option<Known>) -> Option<Event>
+    requires known { IsKnown window.now.image.blocks known }
+    ensures value { as_next result ≡ spec.next_event window.now.budget window.now.window }
+{
+    match window.over() {
+        Stepped::Went => next_while_going(window, known),
+        Stepped::Ended | Stepped::StackFull | Stepped::Trap(_) => None,
     }
 }
 
@@ -147,8 +144,5 @@ fn next_while_going(window: &Window) -> Option<Event>
 pub fn next_event(window: &Window) -> Option<Event>
     ensures value { as_next result ≡ spec.next_event window.now.budget window.now.window }
 {
-    match window.over() {
-        Stepped::Went => next_while_going(window),
-        Stepped::Ended | Stepped::StackFull | Stepped::Trap(_) => None,
-    }
+    next_with(window, None)
 }
