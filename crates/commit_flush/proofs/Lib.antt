@@ -20,3 +20,5 @@ pub mod StoreTold
 pub mod LoadTold
 pub mod EmptyFacts
 pub mod LendFacts
+pub mod BitFacts
+pub mod ObserveFacts

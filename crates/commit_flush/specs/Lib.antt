@@ -5,3 +5,4 @@ pub mod Left
 pub mod Youngest
 pub mod Telling
 pub mod Lent
+pub mod Observed

@@ -6,6 +6,7 @@
 
 mod ages;
 mod asking;
+mod bits;
 mod bytes;
 mod committing;
 mod dropping;
@@ -14,6 +15,7 @@ mod happening;
 mod lending;
 mod looking;
 mod moving;
+mod observing;
 mod orders;
 mod parts;
 mod storing;

@@ -19,7 +19,7 @@ not_all p (suc n) w l e = elim (cases_lt w n) [
   | inr h ↦ let same : n ≡ w = omega arith in ap (λ k. p k && all_below p n) same ∙ ap (λ b. b && all_below p n) e
 ]
 
-numbers_are : numbers ≡ 32
+pub numbers_are : numbers ≡ 32
 unfolding numbers
 numbers_are = refl
 

@@ -10,3 +10,4 @@ pub mod WantFacts
 pub mod OutputFacts
 pub mod LeastFacts
 pub mod StandardFacts
+pub mod LackFacts

@@ -1,6 +1,6 @@
 -- The ready slots, read off flags.
 use Rattle.std.proofs.Common.{◌≡◌, ℕ, ◌+◌, Bool, true, false, ◌&&◌, ◌||◌, not, Option, Some, None}
-use Rattle.std.proofs.Common.{get_or, refl, sym, ap, ap₂, ◌∙◌}
+use Rattle.std.proofs.Common.{get_or, refl, sym, ap, ap₂, ◌∙◌, true≢false}
 use Rattle.std.specs.Prelude.{is_some, is_none}
 use Rattle.trips_isa.specs.declared.op.Op.{Op}
 use Rattle.trips_isa.specs.declared.op.Op.TheVariants as op
@@ -146,6 +146,27 @@ matches OnFalse p = refl
 gated : (b : Bool) (t : Answer) → is_some (if_matched b t) ≡ (b && is_some t)
 gated true t = refl
 gated false t = refl
+
+-- where all of it holds, what is taken has come
+chosen : (m l t r : Bool) → (m && ((l || not t) && r)) ≡ true → t ≡ true → l ≡ true
+chosen true true t r e k = refl
+chosen true false true r e k = absurd (true≢false (sym e))
+chosen true false false r e k = absurd (true≢false (sym k))
+chosen false l t r e k = absurd (true≢false (sym e))
+
+-- the left operand of an instruction that gives a token has come, where it takes one
+pub left_came : (b : Block) (h : Held) (s : ℕ) (i : Inst) → slot_of b s ≡ Some i
+    → is_some (token_with (running b h) (slot_node b s) 0) ≡ true → takes_left (role_of i.op) ≡ true
+    → is_some (at h.spots s) ≡ true
+left_came b h s i e gives_it takes =
+    let a : ℕ → ℕ → ℕ = slot_computes (Some i) (λ x. 0) in
+    let l : Answer = at h.spots s in
+    let r : Answer = at h.spots (128 + s) in
+    let p : Answer = at h.spots (256 + s) in
+    chosen (matched i.sense p) (is_some l) (takes_left (role_of i.op)) (is_some r || not (takes_right (role_of i.op)))
+    (sym (ap is_some (token_is b s i e false h 0)
+    ∙ gated (matched i.sense p) (gives (role_of i.op) a l r)
+    ∙ ap (λ z. matched i.sense p && z) (given (role_of i.op) a l r (has_role i.op))) ∙ gives_it) takes
 
 regroup : (f l r p : Bool) → ((not f && l) && (r && p)) ≡ (not f && (p && (l && r)))
 regroup true l r p = refl

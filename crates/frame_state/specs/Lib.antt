@@ -5,3 +5,4 @@ pub mod Predicates
 pub mod Effects
 pub mod Wants
 pub mod Shapes
+pub mod Lacks

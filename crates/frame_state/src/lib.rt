@@ -9,6 +9,7 @@
 mod body;
 mod ending;
 mod events;
+mod lacks;
 mod marks;
 mod outcome;
 mod outputs;
@@ -24,6 +25,6 @@ mod wants;
 
 pub use body::Body;
 pub use outputs::Outputs;
-pub use parts::{Departure, Took};
+pub use parts::{Departure, Lack, Took};
 pub use shape::Shape;
 pub use states::{Empty, Running, Sealed};

@@ -16,8 +16,8 @@ pub fn in_mask(mask: u32, number: u8) -> bool
     number < 32 && (mask >> number) % 2 == 1
 }
 
-// Whether a write has its token.
-fn write_came(spots: &Spots, w: usize) -> bool
+/// Whether a write has its token.
+pub fn write_came(spots: &Spots, w: usize) -> bool
     requires { w < 1000 }
     ensures { result ≡ is_some (at spots.now (FIRST_WRITE + w)) }
 {
@@ -37,8 +37,8 @@ pub fn writes_came(spots: &Spots, count: usize) -> bool
     true
 }
 
-// Whether a number has its store, or wants none.
-fn store_came(stores: &Row<Stored, 32, 1>, mask: u32, number: u8) -> bool
+/// Whether a number has its store, or wants none.
+pub fn store_came(stores: &Row<Stored, 32, 1>, mask: u32, number: u8) -> bool
     ensures { result ≡ (not (in_mask mask number) || is_some (at stores.now number)) }
 {
     !in_mask(mask, number) || stores.get(number as usize).is_some()

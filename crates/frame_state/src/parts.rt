@@ -14,3 +14,13 @@ pub struct Departure {
     pub system: bool,
     pub successor: u32,
 }
+
+/// An output that a frame lacks: a declared write, the store of a number of the mask, or the exit.
+///
+/// Of two the lesser one stands first here, and of two with one name that of the lower number.
+#[derive(Clone, Copy, Debug, PartialEq, Eq, PartialOrd, Ord)]
+pub enum Lack {
+    Write(u8),
+    Store(u8),
+    Exit,
+}

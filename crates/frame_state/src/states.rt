@@ -1,5 +1,5 @@
 //! A frame as its states: empty, running and sealed.
-ghost use Rattle.std.specs.Prelude.{◌≡◌, ◌<◌, ◌+◌, ◌^◌, Some, true, false, length, IfOk, IfErr};
+ghost use Rattle.std.specs.Prelude.{◌≡◌, ◌<◌, ◌+◌, ◌^◌, Some, true, false, is_none, length, IfOk, IfErr};
 ghost use Rattle.trips_isa.specs.declared.block.Block.{Block};
 ghost use Rattle.trips_isa.specs.Stores.{stored_of};
 ghost use Rattle.block_cases.specs.Orders.{slot_of};
@@ -11,11 +11,12 @@ ghost use Rattle.commit_flush_spec.specs.Memory as memory;
 ghost use Rattle.commit_flush_spec.specs.Memory.{request, load, taken_word, with_store};
 ghost use Rattle.commit_flush_spec.specs.Ends.{branch_mark, with_exit, complete, seal, outputs, cause_held};
 ghost use Rattle.frame_state.specs.Held.{Stays, exit_of, filled, running, sealed};
+ghost use Rattle.frame_state.specs.Lacks.{least_lack};
 ghost use Rattle.frame_state.specs.Moves.{closed};
 
 use crate::body::Body;
 use crate::outputs::Outputs;
-use crate::parts::Departure;
+use crate::parts::{Departure, Lack};
 use std::alloc::{AllocError, Global};
 use std::marker::Model;
 use trips_isa::{Block, Inst};
@@ -155,6 +156,14 @@ impl Running {
         ensures stays { Stays self.old self.new }
     {
         self.body.leave(block, exit);
+    }
+
+    /// The least output that has not come: none exactly where the frame may be sealed.
+    pub fn lacks(&self, block: &Block) -> Option<Lack>
+        ensures value { result ≡ least_lack (running block.now self.now) }
+        ensures whole { is_none result ≡ complete (running block.now self.now) }
+    {
+        self.body.lacks(block)
     }
 
     /// Seals a frame that has all its outputs, and hands back one that lacks some.

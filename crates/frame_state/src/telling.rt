@@ -32,6 +32,13 @@ impl Body {
         self.leaving
     }
 
+    /// The token that has come to a place of the block.
+    pub fn spot(&self, q: usize) -> Option<Token>
+        ensures value { result ≡ at self.now.spots q }
+    {
+        self.spots.get(q)
+    }
+
     /// What a load of a slot takes.
     pub fn took(&self, inst: Inst, slot: u8) -> Took
         ensures value { taken_of result ≡ memory.taken_of inst (at self.now.spots slot) }
