@@ -140,6 +140,22 @@ fn assert_row(rt: &impl Abort, window: &mut Window, arch: &mut Arch, row: Row)
         Row::Leads(want) => assert!(rt; window.successor() == want, "the next block {want:?}"),
         Row::Commits(want) => assert_commit(rt, window, arch, want),
         Row::Holds(register, want) => assert_word(rt, window, register, want),
+        Row::Asks(frame, want) => assert!(rt;
+            window.asked(frame) == want,
+            "frame {frame} asks {want}"
+        ),
+        Row::Address(frame, number, want) => assert!(rt;
+            window.address_of(frame, number) == want,
+            "number {number} of frame {frame} has the address {want:?}"
+        ),
+        Row::Lacks(frame, want) => assert!(rt;
+            window.lacks(frame) == want,
+            "frame {frame} lacks {want:?}"
+        ),
+        Row::Ready(frame, slots, reads) => assert!(rt;
+            window.ready(frame) == slots && window.unread(frame) == reads,
+            "frame {frame} has the slots {slots} and the reads {reads}"
+        ),
     }
 }
 

@@ -20,6 +20,8 @@ mod making;
 #[cfg(test)]
 mod memory_tests;
 #[cfg(test)]
+mod observe_tests;
+#[cfg(test)]
 mod opening_tests;
 #[cfg(test)]
 mod own_tests;

@@ -1,7 +1,8 @@
 //! Rows of a table of events.
 
 use frame_events::{Cause, Event};
-use trips_isa::Stepped;
+use frame_state::Lack;
+use trips_isa::{Stepped, Token};
 
 /// A line of a table of events.
 #[derive(Clone, Copy, Debug)]
@@ -18,4 +19,12 @@ pub enum Row {
     Commits(Stepped),
     /// The word of a committed register.
     Holds(u8, u64),
+    /// The numbers with which a load or a store of a frame waits, as bits.
+    Asks(u8, u32),
+    /// The address of what waits with a number in a frame.
+    Address(u8, u8, Option<Token>),
+    /// The least output that a frame lacks.
+    Lacks(u8, Option<Lack>),
+    /// The slots of a frame that may fire, and its open reads, as bits.
+    Ready(u8, u128, u32),
 }

@@ -1,9 +1,8 @@
 -- Which slots of the frame of a number may fire, and which reads may be answered.
 use Rattle.std.proofs.Common.{◌≡◌, ℕ, ◌+◌, ◌-◌, ◌*◌, ◌<◌, ◌≤◌, ◌⊎◌, inl, inr, Bool, true, false, cond, not, ◌&&◌, ◌||◌}
-use Rattle.std.proofs.Common.{nat_lt, List, [], ◌∷◌, Option, Some, None, length, slice_get, slice_index_or}
-use Rattle.std.proofs.Common.{refl, sym, ap, ◌∙◌, arith, is_some, is_none}
+use Rattle.std.proofs.Common.{nat_lt, List, [], ◌∷◌, Option, Some, None, slice_get, slice_index_or}
+use Rattle.std.proofs.Common.{refl, sym, ap, ◌∙◌, arith, is_some, is_none, true≢false}
 use Rattle.std.proofs.lemmas.Bool.{cases_lt, lt-ltb, le-ltb}
-use Rattle.std.proofs.lemmas.Option.{slice_get_past}
 use Rattle.trips_isa.specs.declared.block.Block.{Block}
 use Rattle.trips_isa.specs.declared.run.Stepped.{Stepped}
 use Rattle.trips_isa.specs.declared.run.Stepped.TheVariants.{Went, Ended, StackFull, Trap}
@@ -21,6 +20,7 @@ use Rattle.commit_flush_order.specs.Places.{frame_of}
 use Rattle.commit_flush_order.proofs.FrameFacts.{none_asked, one_asked}
 use Rattle.frame_state.specs.Held.{Held, running}
 use Rattle.frame_state.specs.Shapes.{is_ready}
+use Rattle.commit_flush.specs.Observed.{unread_in}
 use Rattle.frame_events.specs.Events as events
 use Rattle.frame_events.specs.Phases.{IsIdle}
 use Rattle.operand_net.specs.Marks.{has_bit}
@@ -91,42 +91,21 @@ never_done (Trap c) h e = refl
 
 -- reads ------------------------------------------------------------------------------------------
 
--- a read that is not declared, or was answered, is not answered
-closed : (b : Block) (answered : Bool) (r : ℕ) → (r < length b.reads.items → answered ≡ true)
-    → (is_none (slice_get b.reads.items r) || answered) ≡ true
-closed b answered r e = go (cases_lt r (length b.reads.items))
+-- a read that is not open at the frame of a number is not answered
+pub not_open : (n r x : ℕ) (fs : List Frame) (o : Older) → has_bit x r ≡ unread_in r (frame_of n fs)
+    → has_bit x r ≡ false → is_done (on_frame (NotNow NoFrame) (can_read r) o fs n) ≡ false
+not_open n r x fs o is off = go (frame_of n fs) refl (sym is ∙ off)
   where
-    second : (x : Bool) → (x || true) ≡ true
-    second true = refl
-    second false = refl
+    three : (s t u : Bool) → (not s && not t) ≡ false
+        → is_done (judged ((s, NoFrame) ∷ (t, NoRead) ∷ (u, NotYet) ∷ [])) ≡ false
+    three true t u e = refl
+    three false true u e = refl
+    three false false u e = absurd (true≢false e)
 
-    first : (a : Bool) → (true || a) ≡ true
-    first true = refl
-    first false = refl
-
-    go : (r < length b.reads.items) ⊎ (length b.reads.items ≤ r) → (is_none (slice_get b.reads.items r) || answered) ≡ true
-    go (inl l) = ap (λ a. is_none (slice_get b.reads.items r) || a) (e l) ∙ second (is_none (slice_get b.reads.items r))
-    go (inr l) = ap (λ z. is_none z || answered) (slice_get_past b.reads.items r l) ∙ first answered
-
--- so at the frame of a number that runs
-pub closed_read : (n r : ℕ) (fs : List Frame) (o : Older) (b : Block) (h : Held)
-    → frame_of n fs ≡ Some (running b h) → (r < length b.reads.items → slice_index_or h.reads r false ≡ true)
-    → is_done (on_frame (NotNow NoFrame) (can_read r) o fs n) ≡ false
-closed_read n r fs o b h e w =
-    ap is_done (one_asked (NotNow NoFrame) (can_read r) n fs o (running b h) e)
-    ∙ ap (λ t. is_done (judged ((t, NoRead)
-    ∷ (is_none (read_seen (seen_at o fs n) (slice_get b.reads.items r)), NotYet) ∷ [])))
-    (closed b (slice_index_or h.reads r false) r w)
-
-pub idle_read : (n r : ℕ) (fs : List Frame) (o : Older) → IsIdle (frame_of n fs)
-    → is_done (on_frame (NotNow NoFrame) (can_read r) o fs n) ≡ false
-idle_read n r fs o i = go (frame_of n fs) refl i
-  where
-    go : (z : Option Frame) → frame_of n fs ≡ z → IsIdle z
+    go : (z : Option Frame) → frame_of n fs ≡ z → unread_in r z ≡ false
         → is_done (on_frame (NotNow NoFrame) (can_read r) o fs n) ≡ false
     go None e k = ap is_done (none_asked (NotNow NoFrame) (can_read r) n fs o e)
     go (Some f) e k =
         ap is_done (one_asked (NotNow NoFrame) (can_read r) n fs o f e)
-        ∙ ap (λ b. is_done (cond b (NotNow NoFrame)
-        (judged ((is_none (slice_get f.code.reads.items r) || slice_index_or f.reads r false, NoRead)
-        ∷ (is_none (read_seen (seen_at o fs n) (slice_get f.code.reads.items r)), NotYet) ∷ [])))) k
+        ∙ three f.sealed (is_none (slice_get f.code.reads.items r) || slice_index_or f.reads r false)
+        (is_none (read_seen (seen_at o fs n) (slice_get f.code.reads.items r))) k

@@ -1,6 +1,5 @@
 //! The slots of a frame that may fire, and the reads that have not been answered, as bits.
-ghost use Rattle.std.specs.Prelude.{◌≡◌, ◌≤◌, ◌<◌, ℕ, false, length, slice_index_or, true};
-ghost use Rattle.trips_isa.specs.Fits.{FitsBlock};
+ghost use Rattle.std.specs.Prelude.{◌≡◌, ◌<◌, ℕ, false};
 ghost use Rattle.trips_isa.specs.declared.block.Block.{Block};
 ghost use Rattle.trips_isa.specs.declared.run.Stepped.TheVariants.{Went};
 ghost use Rattle.operand_net.specs.Marks.{has_bit};
@@ -10,16 +9,18 @@ ghost use Rattle.commit_flush_spec.specs.InFlight.{on_frame};
 ghost use Rattle.commit_flush_spec.specs.Older.{committed};
 ghost use Rattle.commit_flush_spec.specs.Window as event;
 ghost use Rattle.commit_flush_spec.specs.Window.{can};
+ghost use Rattle.commit_flush_order.specs.Places.{frame_of};
+ghost use Rattle.commit_flush.specs.Observed.{unread_in};
 ghost use Rattle.frame_state.specs.Held.{running};
 ghost use Rattle.frame_state.specs.Shapes.{IsShape, is_ready};
 ghost use Rattle.grid_cycle_spec.specs.Acting.{is_done};
 ghost use Rattle.grid_window.specs.Shaped.{AreShapes};
 
-use crate::bits::{joined, with_bit};
+use crate::bits::joined;
 use crate::shapes::Shapes;
 use commit_flush::Window;
 use frame_state::{Body, Shape};
-use trips_isa::{Block, Stepped};
+use trips_isa::Stepped;
 
 // The slots of a frame that runs which fire now.
 fn ready_in(held: &Body, shape: &Shape) -> u128
@@ -56,36 +57,12 @@ pub fn ready(window: &Window, shapes: &Shapes, frame: u8) -> u128
     }
 }
 
-// The first reads of a frame, without those that were answered.
-fn open_reads(held: &Body, count: u8) -> u32
-    requires { count ≤ 32 }
-    ensures { (r : ℕ) → r < count → has_bit result r ≡ false → slice_index_or held.now.reads r false ≡ true }
-{
-    let mut bits = 0;
-    for read in 0..count {
-        bits = with_bit(bits, read, held.is_read(read));
-    }
-    bits
-}
-
-// How many reads a block declares.
-fn declared(block: &Block) -> u8
-    requires { FitsBlock block.now }
-    ensures value { result ≡ length block.now.reads.items }
-    ensures within { result ≤ 32 }
-{
-    let reads = block.reads.as_slice();
-    reads.len() as u8
-}
-
 /// The reads of a frame that have not been answered.
 pub fn unread(window: &Window, frame: u8) -> u32
-    ensures { (r : ℕ) → r < 32 → has_bit result r ≡ false → is_done (can window.now.image.blocks
+    ensures value { (r : ℕ) → r < 32
+        → has_bit result r ≡ unread_in r (frame_of frame window.now.window.frames) }
+    ensures closed { (r : ℕ) → r < 32 → has_bit result r ≡ false → is_done (can window.now.image.blocks
         window.now.budget (event.Read frame r) window.now.window) ≡ false }
 {
-    window.keeps_invariant();
-    match window.running(frame) {
-        None => 0,
-        Some((held, block)) => open_reads(held, declared(block)),
-    }
+    window.unread(frame)
 }

@@ -16,7 +16,7 @@ use crate::asking::slot_of;
 use commit_flush::Window;
 use frame_state::Body;
 use grid_stations::Request;
-use trips_isa::{Inst, Op, Sense, Token};
+use trips_isa::{Inst, Token};
 
 // An immediate as a word.
 fn immediate(imm: i32) -> u64
@@ -52,21 +52,11 @@ pub fn tile_by(inst: Inst, left: Option<Token>) -> u8
     }
 }
 
-/// A move of the left operand.
-const MOVE: Inst = Inst {
-    op: Op::Mov,
-    sense: Sense::Always,
-    number: 0,
-    imm: 0,
-    first: None,
-    second: None,
-};
-
-// The token at the left operand of a slot: what a move there would give.
+// The token at the left operand of a slot.
 fn left_of(held: &Body, slot: u8) -> Option<Token>
     ensures { result ≡ at held.now.spots slot }
 {
-    held.token_of(MOVE, slot, 0)
+    held.spot(slot as usize)
 }
 
 /// The slot that waits with a number in a frame.
