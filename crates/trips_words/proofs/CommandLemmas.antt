@@ -12,9 +12,9 @@ use Rattle.clap.specs.declared.builder.command.Command.TheViews.{out-Command}
 use Rattle.trips_words.specs.declared.commands.Verb.{Verb}
 use Rattle.trips_words.specs.declared.commands.Verb.TheVariants as verb
 use Rattle.trips_words.specs.Words.{Text, Named, Said, file_name, value_said}
-use Rattle.trips_words.specs.Requests.{run_options, bench_options, eval_options, compile_options, options_of}
-use Rattle.trips_words.specs.Requests.{counted, is_on, Options, Request, verb_named, request_of, request_by}
-use Rattle.trips_words.specs.Requests.{asked}
+use Rattle.trips_words.specs.Options.{run_options, bench_options, eval_options, compile_options, options_of}
+use Rattle.trips_words.specs.Options.{counted, is_on, Options}
+use Rattle.trips_words.specs.Requests.{Request, verb_named, request_of, request_by, asked}
 use Rattle.trips_words.specs.Read.{IsRead, is_flag, or_off, FindsSaid, Tells}
 
 pub run_read : IsRead (codes "run") run_options

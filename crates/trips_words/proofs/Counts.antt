@@ -8,7 +8,8 @@ use Rattle.trips_words.specs.declared.commands.Asked.{Asked}
 use Rattle.trips_words.specs.declared.commands.TheConstants.{MOST_COUNT}
 use Rattle.trips_words.specs.Numbers.{is_number, value_from, number_to}
 use Rattle.trips_words.specs.Words.{Text, Said, file_name, value_said, words_read}
-use Rattle.trips_words.specs.Requests.{Request, Options, options_of, options_said, verb_named, request_seen, asked}
+use Rattle.trips_words.specs.Options.{Options, options_of, options_said}
+use Rattle.trips_words.specs.Requests.{Request, verb_named, request_seen, asked}
 use Rattle.trips_words.specs.Requests.{functions_said, most_said, place_said, seed_said, request_counted}
 use Rattle.trips_words.specs.Requests.{request_of_file, request_with, request_of, request_by}
 

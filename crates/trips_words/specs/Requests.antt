@@ -1,46 +1,17 @@
 -- Which request the words of a command line make (README.md of this crate).
-use Rattle.std.specs.Prelude.{ℕ, Bool, false, not, ◌&&◌, if◌then◌else◌, nat_eq, List, [], ◌∷◌, codes}
+use Rattle.std.specs.Prelude.{ℕ, Bool, not, ◌&&◌, if◌then◌else◌, nat_eq, List, [], ◌∷◌, codes}
 use Rattle.std.specs.Prelude.{Option, None, Some, option_map, option_and_then, option_copied}
 use Rattle.std.specs.List.{ends_with}
 use Rattle.std.specs.Str.{bytes_eq}
 use Rattle.trips_words.specs.declared.commands.Command.{Command}
 use Rattle.trips_words.specs.declared.commands.Command.TheVariants as command
 use Rattle.trips_words.specs.declared.commands.Asked.{Asked}
-use Rattle.trips_words.specs.declared.asking.FoundOptions.{FoundOptions}
 use Rattle.trips_words.specs.declared.commands.Verb.{Verb}
 use Rattle.trips_words.specs.declared.commands.Verb.TheVariants as verb
-use Rattle.trips_words.specs.declared.commands.TheConstants.{DEFAULT_COUNT, MOST_COUNT, MOST_FUNCTIONS}
-use Rattle.trips_words.specs.declared.commands.TheConstants.{MOST_SEED}
+use Rattle.trips_words.specs.declared.commands.TheConstants.{DEFAULT_COUNT, MOST_COUNT, MOST_FUNCTIONS, MOST_SEED}
 use Rattle.trips_words.specs.Numbers.{number_to, number_within}
-use Rattle.trips_words.specs.Words.{Text, Named, valued, flag, Said, file_name, value_said}
-use Rattle.trips_words.specs.Words.{words_read}
-
--- the options of a command, and the one of them that counts blocks or steps
-abbrev pub run_options : List Named
-run_options = valued (codes "input") ∷ valued (codes "blocks") ∷ valued (codes "place")
-    ∷ valued (codes "seed") ∷ flag (codes "regs") ∷ flag (codes "trace") ∷ flag (codes "cycles") ∷ []
-
-abbrev pub bench_options : List Named
-bench_options = valued (codes "blocks") ∷ valued (codes "place") ∷ valued (codes "seed")
-    ∷ flag (codes "cycles") ∷ []
-
-abbrev pub eval_options : List Named
-eval_options = valued (codes "input") ∷ valued (codes "steps") ∷ []
-
-abbrev pub compile_options : List Named
-compile_options = valued (codes "place") ∷ []
-
-abbrev pub options_of : Verb → List Named
-options_of verb.Run = run_options
-options_of verb.Bench = bench_options
-options_of verb.Evaluate = eval_options
-options_of verb.Compile = compile_options
-options_of other = []
-
-abbrev pub counted : Verb → Text
-counted verb.Run = codes "blocks"
-counted verb.Bench = codes "blocks"
-counted other = codes "steps"
+use Rattle.trips_words.specs.Options.{Options, options_of, options_said}
+use Rattle.trips_words.specs.Words.{Text, Said, file_name, value_said, words_read}
 
 -- what a name stands for
 unfoldable pub verb_named : Text → Option Verb
@@ -79,16 +50,6 @@ pub record Request : Type 0 where
   pub trace : Bool
   pub cycles : Bool
 
--- What is said under the names of a command's options: each value if it is said, and whether a flag is.
-pub record Options : Type 0 where
-  pub input : Option Text
-  pub number : Option Text
-  pub place : Option Text
-  pub seed : Option Text
-  pub regs : Bool
-  pub trace : Bool
-  pub cycles : Bool
-
 -- how many blocks or steps the number says, and how many are taken without one
 abbrev pub most_said : Option Text → Option ℕ
 most_said None = Some DEFAULT_COUNT
@@ -110,11 +71,6 @@ place_said file (Some word) =
 abbrev pub seed_said : Option Text → Option ℕ
 seed_said None = Some 0
 seed_said (Some word) = number_within MOST_SEED word
-
--- a flag is said, by its value
-abbrev pub is_on : Option Text → Bool
-is_on None = false
-is_on (Some value) = bytes_eq value (codes "true")
 
 -- how many functions the benchmark has, by its word; none of another command
 abbrev pub functions_said : Verb → Text → Option (Option ℕ)
@@ -148,18 +104,6 @@ request_of_file k name options =
 abbrev pub request_with : Verb → Option Text → Options → Option Request
 request_with k file options = option_and_then (λ name. request_of_file k name options) file
 
--- what words say of a command's options
-abbrev pub options_said : Verb → Said → Options
-options_said k said = record {
-  input = value_said (codes "input") said;
-  number = value_said (counted k) said;
-  place = value_said (codes "place") said;
-  seed = value_said (codes "seed") said;
-  regs = is_on (value_said (codes "regs") said);
-  trace = is_on (value_said (codes "trace") said);
-  cycles = is_on (value_said (codes "cycles") said);
-}
-
 -- the request of a command and what its words say
 abbrev pub request_of : Verb → Said → Option Request
 request_of k said = request_with k (value_said file_name said) (options_said k said)
@@ -187,16 +131,4 @@ request_seen asked = record {
   regs = asked.regs;
   trace = asked.trace;
   cycles = asked.cycles;
-}
-
--- options of the code
-abbrev pub options_seen : FoundOptions → Options
-options_seen options = record {
-  input = option_copied options.input;
-  number = option_copied options.number;
-  place = option_copied options.place;
-  seed = option_copied options.seed;
-  regs = options.regs;
-  trace = options.trace;
-  cycles = options.cycles;
 }

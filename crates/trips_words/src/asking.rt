@@ -4,9 +4,9 @@ ghost use Rattle.std.specs.Prelude.{◌≡◌, ◌<◌, Option, IfOk, IfSome, op
 ghost use Rattle.std.specs.Prelude.{drop, map, string_bytes};
 ghost use Rattle.trips_words.specs.Words.{Said};
 ghost use Rattle.trips_words.specs.Read.{FindsSaid, Tells};
-ghost use Rattle.trips_words.specs.Requests.{options_of, counted, verb_named, command_of, most_said, is_on};
-ghost use Rattle.trips_words.specs.Requests.{functions_said, is_c_name, place_said, seed_said, options_said};
-ghost use Rattle.trips_words.specs.Requests.{options_seen};
+ghost use Rattle.trips_words.specs.Options.{options_of, counted, is_on, options_said, options_seen};
+ghost use Rattle.trips_words.specs.Requests.{verb_named, command_of, most_said};
+ghost use Rattle.trips_words.specs.Requests.{functions_said, is_c_name, place_said, seed_said};
 ghost use Rattle.trips_words.specs.Requests.{request_of_file, request_with, request_of, request_by, request_seen, asked};
 
 use crate::commands::{Asked, Command, DEFAULT_COUNT, MOST_COUNT, MOST_FUNCTIONS, MOST_SEED, Verb};

@@ -4,7 +4,7 @@ ghost use Rattle.std.specs.Prelude.{◌≡◌, ◌≢◌, List, [], IfOk, None, 
 ghost use Rattle.clap.specs.Words.{rule_of, app_of, kind_of};
 ghost use Rattle.clap.specs.declared.error.kind.ErrorKind.TheVariants.{OutOfMemory};
 ghost use Rattle.trips_words.specs.Words.{Text, Named, words_read, valued, flag};
-ghost use Rattle.trips_words.specs.Requests.{options_of, run_options, bench_options, eval_options, compile_options};
+ghost use Rattle.trips_words.specs.Options.{options_of, run_options, bench_options, eval_options, compile_options};
 ghost use Rattle.trips_words.specs.Read.{raw_rule, raw_app, IsRead, Tells};
 
 use crate::commands::Verb;
