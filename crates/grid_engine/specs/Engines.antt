@@ -1,4 +1,5 @@
--- A grid as contracts see it: what stands of it at every moment, and what its run has cost (docs/GRID.md, "The engine").
+-- A grid as contracts see it: what stands of it at every moment, and what its run has cost (docs/GRID.md, "The
+-- engine").
 use Rattle.std.specs.Prelude.{◌≡◌, ℕ, ◌+◌, ◌^◌, ◌<◌, ◌≤◌, false, List, Some}
 use Rattle.trips_isa.specs.declared.block.Block.{Block}
 use Rattle.trips_isa.specs.declared.run.Ending.{Ending}

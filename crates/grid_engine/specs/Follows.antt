@@ -1,5 +1,5 @@
--- Which block an idle fetch unit would begin to fetch, case by case, as the code tells it. That this is what part (2) of a
--- cycle begins is proved in proofs/FetchFacts.antt.
+-- Which block an idle fetch unit would begin to fetch, case by case, as the code tells it. That this is what part (2)
+-- of a cycle begins is proved in proofs/FetchFacts.antt.
 use Rattle.std.specs.Prelude.{ℕ, List, [], ◌∷◌, Option, Some, None}
 use Rattle.trips_isa.specs.declared.block.Block.{Block}
 use Rattle.trips_isa.specs.Machine.{State}

@@ -2,8 +2,8 @@
 
 use operand_net::{Calm, PcgWeather, Weather, Worst};
 
-/// A weather no state of which holds a parcel for more than 3 cycles. It is a law: a proof over any such weather has it of
-/// holds to come.
+/// A weather no state of which holds a parcel for more than 3 cycles. It is a law: a proof over any such weather has it
+/// of holds to come.
 pub trait BriefWeather: Weather {
     ghost use Rattle.std.specs.Prelude.{◌≤◌};
 

@@ -56,8 +56,8 @@ impl<W: BriefWeather + Drop> Drop for Grid<W> {
 }
 
 impl<W: BriefWeather + Drop> Grid<W> {
-    /// A grid on an image at the start of its run, for at most so many blocks: nothing is under way, and the predictor and
-    /// the weather are those given. Want of memory is the only error.
+    /// A grid on an image at the start of its run, for at most so many blocks: nothing is under way, and the predictor
+    /// and the weather are those given. Want of memory is the only error.
     pub fn make(
         alloc: Global,
         image: CheckedImage,
@@ -76,8 +76,8 @@ impl<W: BriefWeather + Drop> Grid<W> {
         Ok(Grid { parts })
     }
 
-    /// A grid on an image from a machine's state on. `budget` counts all that the machine has made. Want of memory is the
-    /// only error.
+    /// A grid on an image from a machine's state on. `budget` counts all that the machine has made. Want of memory is
+    /// the only error.
     pub fn make_at(
         alloc: Global,
         image: CheckedImage,
@@ -113,9 +113,9 @@ impl<W: BriefWeather + Drop> Grid<W> {
 }
 
 impl<W: BriefWeather> Grid<W> {
-    /// A cycle, which is eager, where the run goes on, and how the run has then ended; none exactly where it goes on after
-    /// it. Where it has ended the frames in flight are flushed. A run that has ended answers its ending again, and nothing
-    /// changes.
+    /// A cycle, which is eager, where the run goes on, and how the run has then ended; none exactly where it goes on
+    /// after it. Where it has ended the frames in flight are flushed. A run that has ended answers its ending again,
+    /// and nothing changes.
     pub fn cycle(&mut self) -> Option<Ending>
         ensures eager { is_going self.old.window.budget self.old.window.window ≡ true
             → IsCycle W.next W.follows (blocks_of self.old) self.old.window.budget (grid_of self.old) (grid_of self.new) }
@@ -135,8 +135,8 @@ impl<W: BriefWeather> Grid<W> {
     }
 
     /// Cycles until the run has ended, and how: as the machine's run ends within what is left of the budget. Each run
-    /// ends, in any weather, with any predictor and from any state. At its end the frames in flight are flushed. A run that
-    /// has ended answers its ending again, and nothing changes.
+    /// ends, in any weather, with any predictor and from any state. At its end the frames in flight are flushed. A run
+    /// that has ended answers its ending again, and nothing changes.
     pub fn run(&mut self) -> Ending
         ensures run { IsRun W.next W.follows (blocks_of self.old) self.old.window.budget
             (self.new.state.counts.cycles - self.old.state.counts.cycles) (grid_of self.old) (grid_of self.new) }
