@@ -1,12 +1,8 @@
 -- The lowered program of an accepted text is its flat program.
-use Rattle.std.proofs.Common.{◌≡◌, ℕ, ◌+◌, ◌*◌, ◌≤◌, List, [], ◌∷◌, length, Some, None, refl, sym}
+use Rattle.std.proofs.Common.{◌≡◌, ℕ, ◌≤◌, List, [], ◌∷◌, Some, refl, sym}
 use Rattle.std.proofs.Common.{subst, arith}
 use Rattle.std.specs.Prelude.{slice_get}
-use Rattle.c_tree.specs.declared.token.Lexeme.{Lexeme}
-use Rattle.c_tree.specs.declared.tree.Program.{Program}
 use Rattle.c_tree.specs.declared.typed.TypedProgram.{TypedProgram}
-use Rattle.c_lex.specs.Answers.{Lexed}
-use Rattle.c_grammar.specs.Answers.{IsUnit}
 use Rattle.c_type_rules.specs.Units.{Accepts}
 use Rattle.c_type_rules.proofs.UnitsSound.{accepts_fine}
 use Rattle.c_type_laws.specs.WellFormed.{WellFormed}

@@ -1,6 +1,7 @@
 -- The image of a flat program by any plan, where no pass refuses a block of it and the checker takes each.
 use Rattle.std.proofs.Common.{◌≡◌, ℕ, ◌+◌, ◌≤◌, Bool, List, length, sym, subst, arith}
 use Rattle.std.specs.List.{All}
+use Rattle.std.specs.Prelude.{Option, Some, None, IfSome}
 use Rattle.trips_isa.specs.declared.block.Block.{Block}
 use Rattle.trips_isa.specs.declared.block.Image.{Image}
 use Rattle.trips_isa.specs.Stores.{data_size}
@@ -22,6 +23,11 @@ use Rattle.c_compile_laws.specs.Compiled.{IsCompiled}
 use Rattle.c_compile_checked.specs.Checked.{AreChecked}
 use Rattle.c_compile_checked.proofs.Passed.{are_checked}
 use Rattle.c_compile.proofs.CutPrograms.{data_fits, some_blocks}
+
+-- what follows from what is said of what is there, if something is
+pub some_weaker : {A : Type 0} (P Q : A → Type 0) (o : Option A) → ((x : A) → P x → Q x) → IfSome o P → IfSome o Q
+some_weaker P Q None f h = h
+some_weaker P Q (Some x) f h = f x h
 
 -- each block of a checked image is good
 pub all_good : (i image : Image) → i ≡ image → IsCheckedImage i → All GoodBlock image.blocks

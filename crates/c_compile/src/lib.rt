@@ -8,7 +8,11 @@ mod compiling;
 mod law;
 mod lowering;
 mod rooms;
+mod within;
 
+pub use attempts::Tried;
 pub use compiling::compile;
 pub use law::{accepted_texts_keep_meaning, images_mean_texts};
 pub use lowering::lower_text;
+pub use rooms::Count;
+pub use within::compile_within;

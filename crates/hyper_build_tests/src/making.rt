@@ -140,7 +140,7 @@ pub struct Looping {
 }
 
 /// A loop with a break and an operation.
-fn looped(alloc: Global, of: Looping) -> Result<FlatStmt, Memory> {
+fn loop_of(alloc: Global, of: Looping) -> Result<FlatStmt, Memory> {
     let mut body = only(alloc, where_set(alloc, 0, FlatStmt::Break)?)?;
     if of.continues {
         body.push(where_set(alloc, 1, FlatStmt::Continue)?)?;
@@ -155,7 +155,7 @@ fn looped(alloc: Global, of: Looping) -> Result<FlatStmt, Memory> {
 
 /// A main that is a loop and a return.
 pub fn loop_alone(alloc: Global, of: Looping) -> Result<Assigned, Memory> {
-    let mut body = only(alloc, looped(alloc, of)?)?;
+    let mut body = only(alloc, loop_of(alloc, of)?)?;
     body.push(FlatStmt::Return(Some(Arg::Var(1))))?;
     let mut functions = Items::new(alloc);
     functions.push(FlatFunc {

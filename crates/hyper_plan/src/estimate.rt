@@ -8,9 +8,10 @@
 //! test. Where one leg alone sets a register, the other lets its word before through a `mov`, or a null goes
 //! to its write; and so a null store stands for each store. What these cost is counted high.
 
+use crate::operations::{constant_size, is_move, is_test, takes_right, targets_of};
 use crate::producers::{NOTHING, Producer, Producers, REGISTERS};
 use ir_forms::Arg;
-use trips_isa::{Form, Op, Role, form_of, role_of};
+use trips_isa::Op;
 
 /// The most reads that a block has; so many writes, and so many load/store numbers.
 const MOST_PARTS: u32 = 32;
@@ -48,42 +49,6 @@ pub fn register_of(v: u16) -> usize {
         v as usize + 12
     } else {
         v as usize - 76
-    }
-}
-
-/// The instructions of a constant: one for each 16 bits.
-fn constant_size(word: u64) -> u32 {
-    if word < 65_536 {
-        1
-    } else if word < 4_294_967_296 {
-        2
-    } else if word < 281_474_976_710_656 {
-        3
-    } else {
-        4
-    }
-}
-
-fn is_test(op: Op) -> bool {
-    match op {
-        Op::Teq | Op::Tne | Op::Tlt | Op::Tle | Op::Tgt | Op::Tge => true,
-        Op::Tltu | Op::Tleu | Op::Tgtu | Op::Tgeu => true,
-        _ => false,
-    }
-}
-
-fn takes_right(op: Op) -> bool {
-    match role_of(op) {
-        Role::Both => true,
-        _ => false,
-    }
-}
-
-/// How many places an instruction names.
-fn targets_of(op: Op) -> u8 {
-    match form_of(op) {
-        Form::General => 2,
-        _ => 1,
     }
 }
 
@@ -195,14 +160,27 @@ impl Estimate {
         }
     }
 
-    /// A register becomes what an operation gives.
+    /// Whether an operand is a word that is a bit.
+    fn is_bit(&self, x: Arg) -> bool {
+        match x {
+            Arg::Const(_) => false,
+            Arg::Var(v) => self.has_bit(register_of(v)),
+        }
+    }
+
+    /// A register becomes what an operation gives. A copied word keeps its bit.
     pub fn set(&mut self, register: usize, op: Op, a: Arg, b: Arg) {
+        let bit = if is_move(op) {
+            self.is_bit(a)
+        } else {
+            is_test(op)
+        };
         self.operand(a);
         if takes_right(op) {
             self.operand(b);
         }
         self.operation();
-        self.give(register, targets_of(op), is_test(op));
+        self.give(register, targets_of(op), bit);
     }
 
     /// A register becomes a value.
@@ -279,13 +257,21 @@ impl Estimate {
     }
 
     /// A loop's test, with which its leg goes on in the same block, and the exit that leaves the loop. A `mov`
-    /// keeps the word; `tnei` gives a bit for the leg, and one for the exits.
+    /// keeps the word. A bit is the test of the leg and of both exits; of another word `tnei` gives a bit for the leg,
+    /// and one for the exits.
     pub fn merge(&mut self, x: Arg) {
         self.put(TEST, x);
-        self.take(TEST);
-        self.take(TEST);
-        self.count(4);
-        self.ifs = self.ifs.saturating_add(2);
+        if self.is_bit(x) {
+            self.operand(x);
+            self.operand(x);
+            self.count(1);
+            self.ifs = self.ifs.saturating_add(1);
+        } else {
+            self.take(TEST);
+            self.take(TEST);
+            self.count(4);
+            self.ifs = self.ifs.saturating_add(2);
+        }
     }
 
     /// What came behind so many instructions stands under a guard: each has the bit brought to it.

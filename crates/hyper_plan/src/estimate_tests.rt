@@ -46,6 +46,39 @@ fn a_bit_is_a_test_itself(rt: HostRuntime) {
 }
 
 #[test]
+fn a_bit_stays_one(rt: HostRuntime) {
+    // its copy is a test itself
+    let mut block = Estimate::empty();
+    block.set(20, Op::Tlt, Arg::Var(0), Arg::Var(1));
+    block.put(21, Arg::Var(8));
+    block.test(Arg::Var(9));
+    assert_eq!(rt; parts(&block), (4, 2, 2, 0), "a copied bit");
+    // so is it behind an if in which nothing sets it
+    let mut block = Estimate::empty();
+    block.set(20, Op::Tlt, Arg::Var(0), Arg::Var(1));
+    let legs = block.begin_legs(Arg::Var(2));
+    block.put(21, Arg::Var(3));
+    assert!(&rt; !block.has_bit(20), "no bit in a leg");
+    let first = block.turn_leg(&legs);
+    block.end_legs(&legs, &first);
+    assert!(&rt; block.has_bit(20), "a bit behind an if");
+    assert!(&rt; !block.has_bit(21), "no bit where a leg sets it");
+}
+
+#[test]
+fn a_loops_test_is_made_once(rt: HostRuntime) {
+    // a bit: the mov that keeps it, two exits, and two movs
+    let mut block = Estimate::empty();
+    block.set(20, Op::Tlt, Arg::Var(0), Arg::Var(1));
+    block.merge(Arg::Var(8));
+    assert_eq!(rt; (parts(&block), block.ifs), ((5, 2, 2, 0), 1), "a bit");
+    // a word is made a bit twice
+    let mut block = Estimate::empty();
+    block.merge(Arg::Var(8));
+    assert_eq!(rt; (parts(&block), block.ifs), ((6, 1, 1, 0), 2), "a word");
+}
+
+#[test]
 fn legs_cost_guards_and_nulls(rt: HostRuntime) {
     let mut block = Estimate::empty();
     block.set(20, Op::Tlt, Arg::Var(0), Arg::Var(1));

@@ -69,7 +69,7 @@ impl Estimate {
         first
     }
 
-    /// Both legs end.
+    /// Both legs end. A register that neither sets keeps its bit.
     pub fn end_legs(&mut self, legs: &Legs, first: &Producers) {
         let depth = self.depth;
         self.depth = depth.saturating_sub(1);
@@ -84,14 +84,6 @@ impl Estimate {
                 kept = self.meet_alone(register, legs, first.get(register), kept);
             } else if other {
                 kept = self.meet_alone(register, legs, producer, kept);
-            } else {
-                self.producers.put(
-                    register,
-                    Producer {
-                        bit: false,
-                        ..producer
-                    },
-                );
             }
         }
         self.add_nulls(kept, self.stores.saturating_sub(legs.stores));

@@ -11,6 +11,7 @@ mod if_items;
 mod items;
 mod legs;
 mod open_block;
+mod operations;
 mod plans;
 mod producers;
 mod walk;

@@ -1,6 +1,6 @@
 use Rattle.std.proofs.Common.{◌≡◌, ℕ, List, subst, sym, ap, ◌∙◌}
 use Rattle.std.specs.List.{All}
-use Rattle.std.specs.Prelude.{Option, Some, None, IfSome}
+use Rattle.std.specs.Prelude.{Option, IfSome}
 use Rattle.std.proofs.lemmas.Result.{IfOk-weaker}
 use Rattle.trips_isa.specs.declared.block.Image.{Image}
 use Rattle.trips_isa.specs.Images.{FitsImage}
@@ -9,7 +9,7 @@ use Rattle.ir_forms.specs.FlatViews.{program_of}
 use Rattle.ir_forms.specs.HyperViews.{blocks_of}
 use Rattle.c_compile_layout.specs.Emitted.{image_of}
 use Rattle.c_compile_laws.specs.Compiled.{IsCompiled}
-use Rattle.c_compile.proofs.TriedPlans.{followed, low, checked, is_compiled}
+use Rattle.c_compile.proofs.TriedPlans.{some_weaker, followed, low, checked, is_compiled}
 use Rattle.c_compile.proofs.attempts.attempt.Goals as goal
 
 pub machine_blocks-requires : goal.machine_blocks-requires
@@ -34,10 +34,6 @@ image_or_none-requires c =
       few = ready.few;
       fits = subst (λ (bs : List ℕ). FitsImage (image_of us bs)) (sym c.as_slice.ensures.value) ready.fits;
     }
-
-some_weaker : {A : Type 0} (P Q : A → Type 0) (o : Option A) → ((x : A) → P x → Q x) → IfSome o P → IfSome o Q
-some_weaker P Q None f h = h
-some_weaker P Q (Some x) f h = f x h
 
 pub returns-in-Ok : goal.returns-in-Ok
 returns-in-Ok c =
