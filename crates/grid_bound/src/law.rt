@@ -14,27 +14,26 @@ use operand_net::Weather;
 
 /// A run that goes on has made at every moment fewer cycles than its trace costs and the dearest block besides; a cycle
 /// that commits is within the cost of the trace, and any cycle within that and 41,472, so that this holds where the run
-/// ends too; and no run goes on for 41,472 cycles for each block of its budget. The
-/// premise on the weather is that it holds nothing for more than 3 cycles.
+/// ends too; and no run goes on for 41,472 cycles for each block of its budget. It holds in any weather.
 pub fn cycles_cost_at_most<W: Weather>()
     ensures moment { (blocks : List Block) (budget n : ℕ) (s : State) (entries : List ℕ) (weather : W) (h : Grid W)
-        → AllGood blocks → WindowOk blocks budget (opened s) → ((w : W) → W.next w ≤ 3)
+        → AllGood blocks → WindowOk blocks budget (opened s)
         → AfterCycles W.next W.follows blocks budget n (begun_at s entries weather) h → GoesOn budget h
         → h.counts.cycles < 2 ^ 64 - 1
         → n + cost_of blocks s.trace < cost_of blocks h.window.state.trace + 41472 }
     ensures commit { (blocks : List Block) (budget n : ℕ) (s : State) (entries : List ℕ) (weather : W) (m h : Grid W)
-        → AllGood blocks → WindowOk blocks budget (opened s) → ((w : W) → W.next w ≤ 3)
+        → AllGood blocks → WindowOk blocks budget (opened s)
         → AfterCycles W.next W.follows blocks budget n (begun_at s entries weather) m → GoesOn budget m
         → m.counts.cycles < 2 ^ 64 - 1 → Eager W.next W.follows blocks budget m h
         → length h.window.state.trace ≡ suc (length m.window.state.trace)
         → suc n + cost_of blocks s.trace ≤ cost_of blocks h.window.state.trace }
     ensures last { (blocks : List Block) (budget n : ℕ) (s : State) (entries : List ℕ) (weather : W) (m h : Grid W)
-        → AllGood blocks → WindowOk blocks budget (opened s) → ((w : W) → W.next w ≤ 3)
+        → AllGood blocks → WindowOk blocks budget (opened s)
         → AfterCycles W.next W.follows blocks budget n (begun_at s entries weather) m → GoesOn budget m
         → m.counts.cycles < 2 ^ 64 - 1 → Eager W.next W.follows blocks budget m h
         → suc n + cost_of blocks s.trace ≤ cost_of blocks h.window.state.trace + 41472 }
     ensures ends { (blocks : List Block) (budget n : ℕ) (s : State) (entries : List ℕ) (weather : W) (h : Grid W)
-        → AllGood blocks → WindowOk blocks budget (opened s) → ((w : W) → W.next w ≤ 3)
+        → AllGood blocks → WindowOk blocks budget (opened s)
         → AfterCycles W.next W.follows blocks budget n (begun_at s entries weather) h → GoesOn budget h
         → h.counts.cycles < 2 ^ 64 - 1 → n < 41472 * budget }
 {}

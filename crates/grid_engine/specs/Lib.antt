@@ -1,4 +1,3 @@
-pub mod Holds
 pub mod Engines
 pub mod Lacks
 pub mod Nexts

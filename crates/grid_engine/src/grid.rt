@@ -11,7 +11,6 @@ ghost use Rattle.grid_engine.specs.Engines.{IsCycle, IsTallied, IsWithinCost, bl
 ghost use Rattle.grid_engine.specs.Lacks.{OldestSteps, oldest_lacks};
 ghost use Rattle.grid_engine.specs.Nexts.{next_fetch, next_firing};
 
-use crate::brief::BriefWeather;
 use crate::lack::Lack;
 use crate::{fetching, firing, moving, waiting};
 use base::Memory;
@@ -22,17 +21,18 @@ use commit_flush::Window;
 use frame_events::Event;
 use grid_parts::Grid as Parts;
 use grid_window::GridWindow;
+use operand_net::Weather;
 use std::alloc::Global;
 use std::marker::Model;
 use trips_isa::{Counts, Ending};
 
 /// A grid on an image: the window of frames in flight, what is under way beside it, and the counts. Contracts see it as
 /// these parts. Each has come from a stated start by the eager cycles that it counts.
-pub struct Grid<W: BriefWeather> {
+pub struct Grid<W: Weather> {
     parts: Parts<GridWindow, W>,
 }
 
-impl<W: BriefWeather> Model for Grid<W> {
+impl<W: Weather> Model for Grid<W> {
     ghost use Rattle.commit_flush.specs.Seen.{Seen};
     ghost use Rattle.grid_parts.specs.declared.grid.Grid.{Grid as Held};
 
@@ -45,7 +45,7 @@ impl<W: BriefWeather> Model for Grid<W> {
     ghost invariant = { λ g. IsEngine W.next W.follows (blocks_of g.parts) g.parts.window.budget (grid_of g.parts) };
 }
 
-impl<W: BriefWeather + Drop> Drop for Grid<W> {
+impl<W: Weather + Drop> Drop for Grid<W> {
     fn drop(self) {
         let Grid { parts } = self;
         let Parts {
@@ -55,7 +55,7 @@ impl<W: BriefWeather + Drop> Drop for Grid<W> {
     }
 }
 
-impl<W: BriefWeather + Drop> Grid<W> {
+impl<W: Weather + Drop> Grid<W> {
     /// A grid on an image at the start of its run, for at most so many blocks: nothing is under way, and the predictor
     /// and the weather are those given. Want of memory is the only error.
     pub fn make(
@@ -112,7 +112,7 @@ impl<W: BriefWeather + Drop> Grid<W> {
     }
 }
 
-impl<W: BriefWeather> Grid<W> {
+impl<W: Weather> Grid<W> {
     /// A cycle, which is eager, where the run goes on, and how the run has then ended; none exactly where it goes on
     /// after it. Where it has ended the frames in flight are flushed. A run that has ended answers its ending again,
     /// and nothing changes.

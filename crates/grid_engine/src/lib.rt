@@ -2,7 +2,6 @@
 //! (docs/GRID.md, "The engine").
 #![tactic(auto)]
 
-mod brief;
 mod fetching;
 mod firing;
 mod grid;
@@ -12,7 +11,6 @@ mod outcome;
 mod seeded;
 mod waiting;
 
-pub use brief::BriefWeather;
 pub use grid::Grid;
 pub use lack::Lack;
 pub use outcome::Ran;

@@ -10,18 +10,18 @@ ghost use Rattle.grid_engine.specs.Engines.{IsCycle, IsEngine, IsTallied, IsWith
 ghost use Rattle.grid_engine.specs.Lacks.{OldestSteps, oldest_lacks};
 ghost use Rattle.grid_engine.specs.declared.lack.Lack.{Lack};
 
-use crate::brief::BriefWeather;
 use base::Memory;
 use block_atomic::Arch;
 use block_check::CheckedImage;
 use block_predict::Predictor;
 use grid_parts::Grid as Parts;
 use grid_window::GridWindow;
+use operand_net::Weather;
 use std::alloc::Global;
 use trips_isa::Ending;
 
 /// A grid at the start of an image's run.
-pub fn made<W: BriefWeather + Drop>(
+pub fn made<W: Weather + Drop>(
     alloc: Global,
     image: CheckedImage,
     input: Vec<u8>,
@@ -42,7 +42,7 @@ pub fn made<W: BriefWeather + Drop>(
 }
 
 /// A grid from a machine's state on.
-pub fn made_at<W: BriefWeather + Drop>(
+pub fn made_at<W: Weather + Drop>(
     alloc: Global,
     image: CheckedImage,
     arch: Arch,
@@ -66,7 +66,7 @@ pub fn made_at<W: BriefWeather + Drop>(
 }
 
 /// A cycle, where the run goes on.
-pub fn cycle<W: BriefWeather>(parts: &mut Parts<GridWindow, W>) -> Option<Ending>
+pub fn cycle<W: Weather>(parts: &mut Parts<GridWindow, W>) -> Option<Ending>
     requires engine { IsEngine W.next W.follows (blocks_of parts.old) parts.old.window.budget (grid_of parts.old) }
     ensures engine { IsEngine W.next W.follows (blocks_of parts.new) parts.new.window.budget (grid_of parts.new) }
     ensures eager { is_going parts.old.window.budget parts.old.window.window ≡ true
@@ -84,7 +84,7 @@ pub fn cycle<W: BriefWeather>(parts: &mut Parts<GridWindow, W>) -> Option<Ending
 }
 
 /// Cycles until the run has ended.
-pub fn run<W: BriefWeather>(parts: &mut Parts<GridWindow, W>) -> Ending
+pub fn run<W: Weather>(parts: &mut Parts<GridWindow, W>) -> Ending
     requires engine { IsEngine W.next W.follows (blocks_of parts.old) parts.old.window.budget (grid_of parts.old) }
     ensures engine { IsEngine W.next W.follows (blocks_of parts.new) parts.new.window.budget (grid_of parts.new) }
     ensures run { IsRun W.next W.follows (blocks_of parts.old) parts.old.window.budget
@@ -108,14 +108,14 @@ pub fn run<W: BriefWeather>(parts: &mut Parts<GridWindow, W>) -> Ending
 }
 
 /// What was counted of a grid is within its cost, and adds up. It does nothing.
-pub fn keeps_cost<W: BriefWeather>(parts: &Parts<GridWindow, W>)
+pub fn keeps_cost<W: Weather>(parts: &Parts<GridWindow, W>)
     requires engine { IsEngine W.next W.follows (blocks_of parts.now) parts.now.window.budget (grid_of parts.now) }
     ensures within { IsWithinCost (blocks_of parts.now) parts.now.window.budget (grid_of parts.now) }
     ensures tallied { IsTallied parts.now.window.budget (grid_of parts.now) }
 {}
 
 /// Where the oldest frame lacks an output, some event of it would be done. It does nothing.
-pub fn keeps_steps<W: BriefWeather>(parts: &Parts<GridWindow, W>)
+pub fn keeps_steps<W: Weather>(parts: &Parts<GridWindow, W>)
     requires engine { IsEngine W.next W.follows (blocks_of parts.now) parts.now.window.budget (grid_of parts.now) }
     ensures steps { (lack : Lack) → oldest_lacks parts.now.window.window.frames ≡ Some lack
         → OldestSteps (blocks_of parts.now) parts.now.window.budget parts.now.window.window

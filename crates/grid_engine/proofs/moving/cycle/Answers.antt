@@ -22,7 +22,7 @@ returns-clause-engine g c =
     c.cycle.ensures.image c.cycle.ensures.budget
     (runs_keep next follows (blocks_of x) x.window.budget (going_cycles x.window.budget x.window.window)
     (grid_of x) (grid_of y) c.requires.engine c.cycle.ensures.run c.cycle.ensures.cycles c.cycle.ensures.same
-    (cycle_few next follows (blocks_of x) x.window.budget g.met.W.BriefWeather.brief (grid_of x) (grid_of y)
+    (cycle_few next follows (blocks_of x) x.window.budget g.met.W.Weather.bounded (grid_of x) (grid_of y)
     c.requires.engine c.cycle.ensures.cycles) c.cycle.ensures.kept)
 
 pub returns-clause-eager : goal.returns-clause-eager

@@ -5,7 +5,7 @@ use Rattle.grid_engine.proofs.moving.keeps_cost.Goals as goal
 pub returns-clause-within : goal.returns-clause-within
 returns-clause-within g c =
     let x = c.args.parts.now in
-    within g.W.Weather.next g.W.Weather.follows (blocks_of x) x.window.budget g.met.W.BriefWeather.brief (grid_of x)
+    within g.W.Weather.next g.W.Weather.follows (blocks_of x) x.window.budget g.met.W.Weather.bounded (grid_of x)
     c.requires.engine
 
 pub returns-clause-tallied : goal.returns-clause-tallied

@@ -22,7 +22,7 @@ unreachable-requires g c =
     let next = g.W.Weather.next in
     let follows = g.W.Weather.follows in
     let more = r.more in
-    never_cut next follows (blocks_of x) x.window.budget g.met.W.BriefWeather.brief (grid_of x) (grid_of y)
+    never_cut next follows (blocks_of x) x.window.budget g.met.W.Weather.bounded (grid_of x) (grid_of y)
     (runs_keep next follows (blocks_of x) x.window.budget (y.state.counts.cycles - x.state.counts.cycles)
     (grid_of x) (grid_of y) c.requires.engine r.run (omega (arith, more)) r.same (r.few c.requires.engine.few) r.kept)
     (λ on. subst (λ o. HasCome (blocks_of x) x.window.window.state
