@@ -7,10 +7,10 @@ use Rattle.commit_flush_spec.specs.Frames.{Frame}
 use Rattle.commit_flush_spec.specs.Invariant.{AllGood}
 use Rattle.commit_flush_spec.specs.Laws.{WindowOk}
 use Rattle.commit_flush_spec.specs.Window.{Window}
+use Rattle.frame_state.specs.declared.parts.Lack.{Lack}
 use Rattle.window_progress.proofs.Next.{never_stuck}
 use Rattle.grid_run.specs.Endings.{is_going}
 use Rattle.grid_machine.proofs.Starts.{went_of}
-use Rattle.grid_engine.specs.declared.lack.Lack.{Lack}
 use Rattle.grid_engine.specs.Lacks.{OldestSteps, oldest_lacks}
 use Rattle.grid_engine.proofs.LackFacts.{Lacking, lacking}
 

@@ -1,6 +1,8 @@
 //! The grid.
 ghost use Rattle.std.specs.Prelude.{◌≡◌, ◌<◌, ◌≤◌, ◌+◌, ◌-◌, IfOk, IfSome, [], length, Some, true, false};
+ghost use Rattle.std.specs.Prelude.{is_none, slice_get};
 ghost use Rattle.trips_isa.specs.Machine.{start};
+ghost use Rattle.commit_flush.specs.Observed.{is_whole_in};
 ghost use Rattle.grid_cycle_spec.specs.Costs.{cost_of};
 ghost use Rattle.grid_state.specs.Changes.{begun_with};
 ghost use Rattle.grid_run.specs.Answered.{ComesTo};
@@ -11,7 +13,6 @@ ghost use Rattle.grid_engine.specs.Engines.{IsCycle, IsTallied, IsWithinCost, bl
 ghost use Rattle.grid_engine.specs.Lacks.{OldestSteps, oldest_lacks};
 ghost use Rattle.grid_engine.specs.Nexts.{next_fetch, next_firing};
 
-use crate::lack::Lack;
 use crate::{fetching, firing, moving, waiting};
 use base::Memory;
 use block_atomic::Arch;
@@ -19,6 +20,7 @@ use block_check::CheckedImage;
 use block_predict::Predictor;
 use commit_flush::Window;
 use frame_events::Event;
+use frame_state::Lack;
 use grid_parts::Grid as Parts;
 use grid_window::GridWindow;
 use operand_net::Weather;
@@ -197,6 +199,7 @@ impl<W: Weather> Grid<W> {
     /// outputs. Where it lacks one, a Read, a Fire, a Deliver, a Load, a Store or an Exit of it would be done.
     pub fn waiting_on(&self) -> Option<Lack>
         ensures value { result ≡ oldest_lacks self.now.window.window.frames }
+        ensures whole { is_none result ≡ is_whole_in (slice_get self.now.window.window.frames 0) }
         ensures steps { IfSome result (λ lack. OldestSteps (blocks_of self.now) self.now.window.budget
             self.now.window.window self.now.window.window.frames) }
     {

@@ -5,13 +5,12 @@
 mod fetching;
 mod firing;
 mod grid;
-mod lack;
 mod moving;
 mod outcome;
 mod seeded;
 mod waiting;
 
+pub use frame_state::Lack;
 pub use grid::Grid;
-pub use lack::Lack;
 pub use outcome::Ran;
 pub use seeded::run_image;

@@ -1,6 +1,7 @@
 //! How a grid is made, and how it moves, with what stands of it at every moment.
 ghost use Rattle.std.specs.Prelude.{◌≡◌, ◌<◌, ◌≤◌, ◌+◌, ◌-◌, IfOk, [], length, Some, true, false};
 ghost use Rattle.trips_isa.specs.Machine.{start};
+ghost use Rattle.frame_state.specs.declared.parts.Lack.{Lack};
 ghost use Rattle.grid_state.specs.Changes.{begun_with};
 ghost use Rattle.grid_run.specs.Answered.{ComesTo};
 ghost use Rattle.grid_run.specs.Endings.{ended, is_going};
@@ -8,7 +9,6 @@ ghost use Rattle.grid_run.specs.Tallies.{CountsCommits};
 ghost use Rattle.grid_run.specs.WholeRuns.{IsRun, going_cycles, most_cycles};
 ghost use Rattle.grid_engine.specs.Engines.{IsCycle, IsEngine, IsTallied, IsWithinCost, blocks_of, grid_of};
 ghost use Rattle.grid_engine.specs.Lacks.{OldestSteps, oldest_lacks};
-ghost use Rattle.grid_engine.specs.declared.lack.Lack.{Lack};
 
 use base::Memory;
 use block_atomic::Arch;
