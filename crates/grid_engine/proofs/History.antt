@@ -1,5 +1,6 @@
 -- Runs one after another: cycles that follow cycles, and what comes of none.
-use Rattle.std.proofs.Common.{◌≡◌, ℕ, zero, suc, ◌+◌, Bool, true, false, cond, List, [], refl, sym, ap, ◌∙◌, subst, arith}
+use Rattle.std.proofs.Common.{◌≡◌, ℕ, zero, suc, ◌+◌, Bool, true, false}
+use Rattle.std.proofs.Common.{cond, List, [], refl, sym, ap, ◌∙◌, subst, arith}
 use Rattle.trips_isa.specs.declared.block.Block.{Block}
 use Rattle.grid_cycle_spec.specs.Cycles.{Eager}
 use Rattle.grid_cycle_spec.specs.Grid.{Grid}

@@ -10,8 +10,8 @@ use grid_stations::{Windows, ready_slot};
 /// The firing of the eldest entry that may fire on a tile.
 pub fn next_firing<V: Windows>(window: &V, tile: u8) -> Option<Event>
     requires tile { tile < 16 }
-    ensures { result ≡ fire_of (eldest (fires (V.blocks window.now) (V.budget window.now) (V.held window.now) tile) slots
-        (V.held window.now).frames) }
+    ensures { result ≡ fire_of (eldest (fires (V.blocks window.now) (V.budget window.now) (V.held window.now) tile)
+        slots (V.held window.now).frames) }
 {
     let frames = window.numbers();
     match ready_slot(window, tile, frames.as_slice()) {

@@ -120,7 +120,8 @@ impl<W: Weather> Grid<W> {
     /// and nothing changes.
     pub fn cycle(&mut self) -> Option<Ending>
         ensures eager { is_going self.old.window.budget self.old.window.window ≡ true
-            → IsCycle W.next W.follows (blocks_of self.old) self.old.window.budget (grid_of self.old) (grid_of self.new) }
+            → IsCycle W.next W.follows (blocks_of self.old) self.old.window.budget
+            (grid_of self.old) (grid_of self.new) }
         ensures value { result ≡ ended self.old.window.budget self.new.window.window }
         ensures same { is_going self.old.window.budget self.old.window.window ≡ false
             → grid_of self.new ≡ grid_of self.old }

@@ -28,5 +28,6 @@ returns-clause-engine g c =
 pub returns-clause-eager : goal.returns-clause-eager
 returns-clause-eager g c = λ on.
     let x = c.args.parts.now in
-    cycle_of g.W.Weather.next g.W.Weather.follows (blocks_of x) x.window.budget (grid_of x) (grid_of c.cycle.new.grid) on
+    cycle_of g.W.Weather.next g.W.Weather.follows (blocks_of x) x.window.budget (grid_of x)
+    (grid_of c.cycle.new.grid) on
     c.cycle.ensures.run
