@@ -8,7 +8,7 @@ use Rattle.block_predict.specs.Predicts.{Holding}
 use Rattle.commit_flush_spec.specs.InFlight.{opened}
 use Rattle.commit_flush_spec.specs.Invariant.{AllGood}
 use Rattle.commit_flush_spec.specs.Laws.{WindowOk, TakesSteps}
-use Rattle.grid_cycle_spec.specs.Costs.{size, cost, cost_of, greatest}
+use Rattle.grid_cycle_spec.specs.Costs.{size, cost, cost_in, cost_of, greatest}
 use Rattle.grid_cycle_spec.specs.Grid.{Grid}
 use Rattle.grid_cycle_spec.specs.Cycles.{Eager, AfterCycles, begun_at}
 use Rattle.grid_cycle_spec.proofs.Routes.{cost_most}
@@ -28,6 +28,10 @@ use Rattle.grid_bound.proofs.Standing.{reached_state, all_stand, stands}
 size_most : (b : Block) → cost b ≤ greatest → size b ≤ 160
 unfolding cost greatest
 size_most b l = omega (arith, l)
+
+cost_is : (b : Block) → cost b ≡ price (size b)
+unfolding cost
+cost_is b = refl
 
 size_in_most : (blocks : List Block) → AllGood blocks → (k : ℕ) → size_in (slice_get blocks k) ≤ 160
 size_in_most blocks good k = by (slice_get blocks k) refl
@@ -88,6 +92,20 @@ module _ {W : Type 0} (blocks : List Block) (good : AllGood blocks) (budget : �
         bounded.moment blocks good budget next follows bound sizes g n m run last in
         let c : 1 ≤ left sizes (lane_in m) = left_some sizes (lane_in m) in
         let d : sizes (length m.window.state.trace) ≤ 160 = small (length m.window.state.trace) in
+        let e : cost_of blocks m.window.state.trace + total sizes (length s.trace)
+        ≡ total sizes (length m.window.state.trace) + cost_of blocks s.trace = priced n m a in
+        omega (arith, b, c, d, e)
+
+    -- the same by the cost of the block that commits next
+    pub soon : n + cost_of blocks s.trace
+        < cost_of blocks m.window.state.trace + cost_in (slice_get blocks m.window.state.next)
+    soon =
+        let b : n + left sizes (lane_in m) + total sizes (length s.trace)
+        ≤ total sizes (length m.window.state.trace) + price (sizes (length m.window.state.trace)) =
+        bounded.moment blocks good budget next follows bound sizes g n m run last in
+        let c : 1 ≤ left sizes (lane_in m) = left_some sizes (lane_in m) in
+        let d : cost_in (slice_get blocks m.window.state.next) ≡ price (sizes (length m.window.state.trace)) =
+        ap cost_in last.is_next ∙ cost_is last.block ∙ ap price last.is_size in
         let e : cost_of blocks m.window.state.trace + total sizes (length s.trace)
         ≡ total sizes (length m.window.state.trace) + cost_of blocks s.trace = priced n m a in
         omega (arith, b, c, d, e)

@@ -16,7 +16,7 @@ use Rattle.grid_run.specs.WholeRuns.{IsKept, IsRun, going_cycles, most_cycles}
 use Rattle.grid_machine.proofs.Starts.{most_is}
 use Rattle.grid_machine_bound.specs.Traps.{is_trap}
 use Rattle.grid_machine_bound.proofs.Bounded.{no_trap}
-use Rattle.grid_machine_bound.proofs.RunCosts.{any_cost, end_cost, goes_short}
+use Rattle.grid_machine_bound.proofs.RunCosts.{any_cost, end_cost, goes_short, some_cost}
 use Rattle.grid_engine.specs.Engines.{IsEngine, IsTallied, IsWithinCost}
 use Rattle.grid_engine.proofs.History.{runs_none, runs_on}
 
@@ -114,6 +114,8 @@ module _ {W : Type 0} (next : W → ℕ) (follows : W → W → Type 0) (blocks 
       moment = to_greatest g.counts.cycles (cost_of blocks g.window.state.trace)
           (any_cost next follows holds blocks e.good budget (e.begun).state (e.begun).predictor (e.begun).weather
           (e.begun).opens e.small g (e.begun).run e.few);
+      next = some_cost next follows holds blocks e.good budget (e.begun).state (e.begun).predictor (e.begun).weather
+          (e.begun).opens e.small g (e.begun).run e.few;
       ending = λ x tells plain.
           let told : (is_going budget g.window ≡ false) × (x ≡ ending_of g.window.over g.window.state.next) =
           ended_off (is_going budget g.window) (ending_of g.window.over g.window.state.next) x tells in

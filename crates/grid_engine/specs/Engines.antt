@@ -1,6 +1,6 @@
 -- A grid as contracts see it: what stands of it at every moment, and what its run has cost (docs/GRID.md, "The
 -- engine").
-use Rattle.std.specs.Prelude.{◌≡◌, ℕ, ◌+◌, ◌^◌, ◌<◌, ◌≤◌, false, List, Some}
+use Rattle.std.specs.Prelude.{◌≡◌, ℕ, ◌+◌, ◌^◌, ◌<◌, ◌≤◌, false, List, Some, slice_get}
 use Rattle.trips_isa.specs.declared.block.Block.{Block}
 use Rattle.trips_isa.specs.declared.run.Ending.{Ending}
 use Rattle.trips_isa.specs.Machine.{State}
@@ -9,7 +9,7 @@ use Rattle.commit_flush.specs.Seen.{Seen}
 use Rattle.commit_flush_spec.specs.InFlight.{opened}
 use Rattle.commit_flush_spec.specs.Invariant.{AllGood}
 use Rattle.commit_flush_spec.specs.Laws.{WindowOk}
-use Rattle.grid_cycle_spec.specs.Costs.{cost_of, greatest}
+use Rattle.grid_cycle_spec.specs.Costs.{cost_in, cost_of, greatest}
 use Rattle.grid_cycle_spec.specs.Cycles.{Eager}
 use Rattle.grid_cycle_spec.specs.Grid.{Grid}
 use Rattle.grid_cycle_spec.specs.Laws.{AddsUp}
@@ -57,10 +57,12 @@ pub record IsCycle {W : Type 0} (next : W → ℕ) (follows : W → W → Type 0
   pub eager : Eager next follows blocks budget g last
   pub ends : h ≡ at_end budget last
 
--- a grid has made at most as many cycles as its trace costs and the greatest cost of a block besides; at an ending that
--- is no trap, at most as many as its trace costs
+-- a grid has made at most as many cycles as its trace costs and the greatest cost of a block besides, or the cost of the
+-- block that comes next, which at a trap is the block that trapped; at an ending that is no trap, at most as many as its
+-- trace costs
 pub record IsWithinCost {W : Type 0} (blocks : List Block) (budget : ℕ) (g : Grid W) : Type 0 where
   pub moment : g.counts.cycles ≤ cost_of blocks g.window.state.trace + greatest
+  pub next : g.counts.cycles ≤ cost_of blocks g.window.state.trace + cost_in (slice_get blocks g.window.state.next)
   pub ending : (e : Ending) → ended budget g.window ≡ Some e → is_trap e ≡ false
       → g.counts.cycles ≤ cost_of blocks g.window.state.trace
 

@@ -1,18 +1,18 @@
 -- What a run from a stated start costs, in any weather and from any state that opens a window right.
 use Rattle.std.proofs.Common.{◌≡◌, ℕ, zero, suc, ◌+◌, ◌*◌, ◌^◌, ◌<◌, ◌≤◌, Bool, true, false, cond, nat_lt, List, length}
-use Rattle.std.proofs.Common.{refl, sym, ap, ◌∙◌, subst, arith, ◌-◌}
+use Rattle.std.proofs.Common.{refl, sym, ap, ◌∙◌, subst, arith, ◌-◌, slice_get}
 use Rattle.std.proofs.lemmas.Bool.{ltb-true, ltb-false}
 use Rattle.trips_isa.specs.declared.block.Block.{Block}
 use Rattle.trips_isa.specs.declared.run.Stepped.{Stepped}
 use Rattle.trips_isa.specs.declared.run.Stepped.TheVariants as stepped
-use Rattle.trips_isa.specs.Machine.{State}
+use Rattle.trips_isa.specs.Machine.{State, runs}
 use Rattle.block_predict.specs.Predicts.{Holding}
 use Rattle.commit_flush_spec.specs.Window.{Window}
 use Rattle.commit_flush_spec.specs.InFlight.{opened}
 use Rattle.commit_flush_spec.specs.Invariant.{AllGood}
 use Rattle.commit_flush_spec.specs.Laws.{Reached, TakesSteps, WindowOk}
 use Rattle.grid_cycle.specs.Going.{goes}
-use Rattle.grid_cycle_spec.specs.Costs.{cost_of}
+use Rattle.grid_cycle_spec.specs.Costs.{cost_in, cost_of}
 use Rattle.grid_cycle_spec.specs.Grid.{Grid}
 use Rattle.grid_cycle_spec.specs.Cycles.{AfterCycles, Eager}
 use Rattle.grid_cycle_spec.proofs.Agreeing.{takes_steps}
@@ -23,7 +23,7 @@ use Rattle.grid_run.proofs.CallFacts.{closed_cycles}
 use Rattle.grid_run.proofs.RunFacts.{closed_window, end_closed, end_going, going_by}
 use Rattle.grid_bound.specs.GoesOn.{GoesOn}
 use Rattle.grid_bound.proofs.Before.{cycles_before, steps}
-use Rattle.grid_bound.proofs.Standing.{stands}
+use Rattle.grid_bound.proofs.Standing.{reached_state, stands}
 use Rattle.grid_bound.proofs.Costs as costs
 use Rattle.grid_machine.proofs.Starts.{most_is, went_of}
 use Rattle.grid_machine_bound.proofs.Growing.{cycle_grows}
@@ -102,6 +102,34 @@ module _ {W : Type 0} (next : W → ℕ) (follows : W → W → Type 0) (holds :
         (stands blocks good budget next follows holds s predictor weather opens n m a on few).ok on.went
         (steps blocks budget next follows m last c)
 
+    -- the last cycle commits a block, or is within what the block costs that comes next
+    next_end : suc n ≤ cost_of blocks last.window.state.trace + cost_in (slice_get blocks last.window.state.next)
+    unfolding runs
+    next_end = by one.steps refl
+      where
+        by : (k : ℕ) → one.steps ≡ k
+            → suc n ≤ cost_of blocks last.window.state.trace + cost_in (slice_get blocks last.window.state.next)
+        by zero i =
+            let same : last.window.state ≡ m.window.state =
+            reached_state blocks m.window.state last.window.state one.steps last.window.over one.reached
+            ∙ ap (λ k. (runs blocks m.window.state k).0) i in
+            let l : n + cost_of blocks s.trace
+            < cost_of blocks m.window.state.trace + cost_in (slice_get blocks m.window.state.next) =
+            costs.soon blocks good budget next follows holds s predictor weather opens n m a on few in
+            let e : cost_of blocks last.window.state.trace ≡ cost_of blocks m.window.state.trace =
+            ap (λ (t : State). cost_of blocks t.trace) same in
+            let f : cost_in (slice_get blocks last.window.state.next) ≡ cost_in (slice_get blocks m.window.state.next) =
+            ap (λ (t : State). cost_in (slice_get blocks t.next)) same in
+            omega (arith, l, e, f)
+        by (suc k) i =
+            let grown : length last.window.state.trace ≡ length m.window.state.trace + one.steps = one.grown in
+            let most : length last.window.state.trace ≤ suc (length m.window.state.trace) =
+            cycle_grows blocks good budget next follows m last c in
+            let l : suc n + cost_of blocks s.trace ≤ cost_of blocks last.window.state.trace =
+            costs.commit blocks good budget next follows holds s predictor weather opens n m a on few last c
+            (omega (arith, grown, most, i)) in
+            omega (arith, l)
+
     -- without a trap the last cycle commits a block
     commits_one : (o : Stepped) → last.window.over ≡ o → ((k : ℕ) → o ≡ stepped.Trap k → ⊥)
         → is_going budget last.window ≡ false
@@ -144,6 +172,16 @@ module _ {W : Type 0} (next : W → ℕ) (follows : W → W → Type 0) (holds :
       let k : m.counts.cycles ≤ last.counts.cycles =
       cycles_before blocks budget next follows m last c.after in
       any_end n m last (are_cycles blocks budget next follows n g m (c.before).0)
+      (goes_on budget m (c.before).1) (omega (arith, k, few)) c.after
+
+  next_cost : (n : ℕ) (last : Grid W) → GoesFor next follows blocks budget n g last → last.counts.cycles < 2 ^ 64 - 1
+      → n ≤ cost_of blocks last.window.state.trace + cost_in (slice_get blocks last.window.state.next)
+  next_cost zero last c few = omega arith
+  next_cost (suc n) last c few =
+      let m : Grid W = c.between in
+      let k : m.counts.cycles ≤ last.counts.cycles =
+      cycles_before blocks budget next follows m last c.after in
+      next_end n m last (are_cycles blocks budget next follows n g m (c.before).0)
       (goes_on budget m (c.before).1) (omega (arith, k, few)) c.after
 
   ended_cost : (n : ℕ) (last : Grid W) → GoesFor next follows blocks budget n g last
@@ -191,6 +229,18 @@ module _ {W : Type 0} (next : W → ℕ) (follows : W → W → Type 0) (holds :
         cycles_cost h.counts.cycles final whole.cycles few_cycles in
         let e = same_cost in
         omega (arith, l, e)
+
+    -- and within that and what the block costs that comes next: where it has trapped, the block that trapped
+    pub some_cost : h.counts.cycles
+        ≤ cost_of blocks h.window.state.trace + cost_in (slice_get blocks h.window.state.next)
+    some_cost =
+        let l : h.counts.cycles
+        ≤ cost_of blocks final.window.state.trace + cost_in (slice_get blocks final.window.state.next) =
+        next_cost h.counts.cycles final whole.cycles few_cycles in
+        let e = same_cost in
+        let f : cost_in (slice_get blocks h.window.state.next) ≡ cost_in (slice_get blocks final.window.state.next) =
+        ap (λ (t : State). cost_in (slice_get blocks t.next)) end.state in
+        omega (arith, l, e, f)
 
     -- a run that goes on has made fewer cycles than a run may make
     pub goes_short : is_going budget h.window ≡ true → h.counts.cycles < most_cycles budget
