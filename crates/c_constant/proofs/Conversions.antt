@@ -6,7 +6,8 @@ use Rattle.std.specs.Int.{w64, cast_signed}
 use Rattle.std.proofs.lemmas.Int.{of_z-to_z}
 use Rattle.std.proofs.lemmas.Bool.Decides.{nat_tests}
 use Rattle.c_tree.specs.declared.Kind.{Kind}
-use Rattle.c_tree.specs.declared.Kind.TheVariants.{Char, UChar, Int, UInt, Long, ULong}
+use Rattle.c_tree.specs.declared.Kind.TheVariants.{Char, UChar, Short, UShort, Int, UInt, Long}
+use Rattle.c_tree.specs.declared.Kind.TheVariants.{ULong}
 use Rattle.c_constant.specs.Kinds.{number, word, IsWord, by_sign, converted}
 
 -- a word is that of the number that it is read as
@@ -17,6 +18,8 @@ word_signed a h = of_z-to_z w64 a h
 pub word_number : (k : Kind) (a : ℕ) → a < 2 ^ 64 → word (number k a) ≡ a
 word_number Char a h = word_signed a h
 word_number UChar a h = refl
+word_number Short a h = word_signed a h
+word_number UShort a h = refl
 word_number Int a h = word_signed a h
 word_number UInt a h = refl
 word_number Long a h = word_signed a h
@@ -57,6 +60,18 @@ converted_is Char w h = go (order (w % 256) 128)
         let b : (w + 128) % 2 ^ 64 < 256 = h.narrow in
         by_sign_high 128 (w % 256) l ∙ omega arith
 converted_is UChar w h = let b : w < 256 = h.narrow in omega arith
+converted_is Short w h = go (order (w % 65536) 32768)
+  where
+    go : ((w % 65536 < 32768) ⊎ (32768 ≤ w % 65536)) → by_sign 32768 (w % 65536) ≡ w
+    go (inl l) =
+        let a = h.below in
+        let b : (w + 32768) % 2 ^ 64 < 65536 = h.narrow in
+        by_sign_low 32768 (w % 65536) l ∙ omega arith
+    go (inr l) =
+        let a = h.below in
+        let b : (w + 32768) % 2 ^ 64 < 65536 = h.narrow in
+        by_sign_high 32768 (w % 65536) l ∙ omega arith
+converted_is UShort w h = let b : w < 65536 = h.narrow in omega arith
 converted_is Int w h = go (order (w % 4294967296) 2147483648)
   where
     go : ((w % 4294967296 < 2147483648) ⊎ (2147483648 ≤ w % 4294967296))
@@ -84,6 +99,14 @@ converted_word Char w = go (order (w % 256) 128)
     go (inr l) =
         let e = by_sign_high 128 (w % 256) l in record { below = omega arith; narrow = omega arith }
 converted_word UChar w = record { below = omega arith; narrow = omega arith }
+converted_word Short w = go (order (w % 65536) 32768)
+  where
+    go : ((w % 65536 < 32768) ⊎ (32768 ≤ w % 65536)) → IsWord Short (by_sign 32768 (w % 65536))
+    go (inl l) =
+        let e = by_sign_low 32768 (w % 65536) l in record { below = omega arith; narrow = omega arith }
+    go (inr l) =
+        let e = by_sign_high 32768 (w % 65536) l in record { below = omega arith; narrow = omega arith }
+converted_word UShort w = record { below = omega arith; narrow = omega arith }
 converted_word Int w = go (order (w % 4294967296) 2147483648)
   where
     go : ((w % 4294967296 < 2147483648) ⊎ (2147483648 ≤ w % 4294967296))

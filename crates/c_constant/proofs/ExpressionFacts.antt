@@ -42,13 +42,18 @@ module _ (l : ℕ) where
   call_needs w es = ap (λ (n : Needs). n.need) (needs-Call (at l (node.Call w es)) w es refl)
 
   assignment_need : (o : Option BinaryOp) (w : List ℕ) (i y : Expr)
-      → (needs (at l (node.Assign o (at l (node.Element w i)) y))).need
+      → (needs (at l (node.Assign o (at l (node.Element w None i)) y))).need
       ≡ max (needs i).need (2 + (needs y).need)
   assignment_need o w i y =
       ap (λ (n : Needs). n.need) (needs-Assign
-      (at l (node.Assign o (at l (node.Element w i)) y)) o _ y refl)
+      (at l (node.Assign o (at l (node.Element w None i)) y)) o _ y refl)
       ∙ ap (λ (n : Needs). assign_need n.index (needs y).need)
-      (needs-Element (at l (node.Element w i)) w i refl)
+      (needs-Element (at l (node.Element w None i)) w None i refl)
+
+  row_need : (w : List ℕ) (r i : Expr)
+      → (needs (at l (node.Element w (Some r) i))).need ≡ max (needs r).need (1 + (needs i).need)
+  row_need w r i = ap (λ (n : Needs). n.need)
+      (needs-Element (at l (node.Element w (Some r) i)) w (Some r) i refl)
 
 abbrev int : ℕ → Expr
 int v = at 1 (node.Number v Int)
@@ -85,6 +90,10 @@ second_argument : (needs (at 1 (node.Call (102 ∷ []) (int 1 ∷ int 2 ∷ []))
 second_argument = simp (number_need, call_needs) refl
 
 -- `a[1] = 2` needs three
-to_an_element : (needs (at 1 (node.Assign None (at 1 (node.Element (97 ∷ []) (int 1)))
+to_an_element : (needs (at 1 (node.Assign None (at 1 (node.Element (97 ∷ []) None (int 1)))
     (int 2)))).need ≡ 3
 to_an_element = simp (number_need, assignment_need) refl
+
+-- `a[1][2]` needs two
+of_two_indexes : (needs (at 1 (node.Element (97 ∷ []) (Some (int 1)) (int 2)))).need ≡ 2
+of_two_indexes = simp (number_need, row_need) refl

@@ -4,4 +4,5 @@ pub mod Sizes
 pub mod Conversions
 pub mod StandardFacts
 pub mod Nodes
+pub mod Capped
 pub mod ExpressionFacts

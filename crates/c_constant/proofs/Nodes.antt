@@ -1,6 +1,7 @@
 -- The definitions at each node.
 use Rattle.std.proofs.Common.{◌≡◌, ℕ, ◌+◌, max, List, [], ◌∷◌, map, Option, Some, None, sym, ap}
 use Rattle.std.proofs.Common.{◌∙◌}
+use Rattle.std.specs.Prelude.{option_map}
 use Rattle.c_tree.specs.declared.token.Kind.{Kind}
 use Rattle.c_tree.specs.declared.token.Kind.TheVariants.{Int}
 use Rattle.c_tree.specs.declared.tree.UnaryOp.{UnaryOp}
@@ -12,13 +13,12 @@ use Rattle.c_tree.specs.declared.tree.ExprNode.{fold-ExprNode, roll-ExprNode}
 use Rattle.c_tree.specs.declared.tree.ExprNode.TheVariants as node
 use Rattle.c_tree.specs.declared.tree.ExprNode.TheOpen.{ExprNode-F}
 use Rattle.c_constant.specs.declared.constants.Constant.{Constant}
-use Rattle.c_constant.specs.declared.constants.NamedConstant.{NamedConstant}
 use Rattle.c_constant.specs.Kinds.{common}
 use Rattle.c_constant.specs.Operation.{left_at, unary_at, result_of, unary_result}
 use Rattle.c_constant.specs.Constant.{named, given, cast_value, one_value, binary_value, choice_value}
-use Rattle.c_constant.specs.Constant.{node_value, of_value, constant}
+use Rattle.c_constant.specs.Constant.{NamedConstant, node_value, of_value, constant}
 use Rattle.c_constant.specs.Need.{Needs, plain, call_need, assign_need, node_needs, of_needs, needs}
-use Rattle.c_constant.specs.Need.{need}
+use Rattle.c_constant.specs.Need.{need, indexes_need, element_needs}
 
 -- an expression at a line
 abbrev pub at : ℕ → ExprNode → Expr
@@ -60,10 +60,10 @@ module _ (names : List NamedConstant) (f : Expr) where
   value-Name w h = ap (λ n. constant names (at f.line n)) h
       ∙ value_by names f.line _ (ExprNode-F.Name w) (node.rolls-Name w)
 
-  pub value-Element : (w : List ℕ) (i : Expr) → f.node ≡ node.Element w i
+  pub value-Element : (w : List ℕ) (r : Option Expr) (i : Expr) → f.node ≡ node.Element w r i
       → constant names f ≡ given Int None
-  value-Element w i h = ap (λ n. constant names (at f.line n)) h
-      ∙ value_by names f.line _ (ExprNode-F.Element w i) (node.rolls-Element w i)
+  value-Element w r i h = ap (λ n. constant names (at f.line n)) h
+      ∙ value_by names f.line _ (ExprNode-F.Element w r i) (node.rolls-Element w r i)
 
   pub value-Call : (w : List ℕ) (es : List Expr) → f.node ≡ node.Call w es
       → constant names f ≡ given Int None
@@ -122,10 +122,12 @@ module _ (f : Expr) where
   needs-Name w h = ap (λ n. needs (at f.line n)) h
       ∙ needs_by f.line _ (ExprNode-F.Name w) (node.rolls-Name w)
 
-  pub needs-Element : (w : List ℕ) (i : Expr) → f.node ≡ node.Element w i
-      → needs f ≡ record { need = need i; index = Some (need i) }
-  needs-Element w i h = ap (λ n. needs (at f.line n)) h
-      ∙ needs_by f.line _ (ExprNode-F.Element w i) (node.rolls-Element w i)
+  pub needs-Element : (w : List ℕ) (r : Option Expr) (i : Expr) → f.node ≡ node.Element w r i
+      → needs f ≡ element_needs (indexes_need (option_map need r) (need i))
+  needs-Element w None i h = ap (λ n. needs (at f.line n)) h
+      ∙ needs_by f.line _ (ExprNode-F.Element w None i) (node.rolls-Element w None i)
+  needs-Element w (Some r) i h = ap (λ n. needs (at f.line n)) h
+      ∙ needs_by f.line _ (ExprNode-F.Element w (Some r) i) (node.rolls-Element w (Some r) i)
 
   pub needs-Call : (w : List ℕ) (es : List Expr) → f.node ≡ node.Call w es
       → needs f ≡ plain (call_need (map needs es))

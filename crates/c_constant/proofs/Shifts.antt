@@ -4,7 +4,8 @@ use Rattle.std.proofs.Math.Nat.{le-div_iff_mul-le}
 use Rattle.std.proofs.lemmas.Bool.{cases_lt}
 use Rattle.std.proofs.lemmas.Grind.{common_steps}
 use Rattle.c_tree.specs.declared.Kind.{Kind}
-use Rattle.c_tree.specs.declared.Kind.TheVariants.{Char, UChar, Int, UInt, Long, ULong}
+use Rattle.c_tree.specs.declared.Kind.TheVariants.{Char, UChar, Short, UShort, Int, UInt, Long}
+use Rattle.c_tree.specs.declared.Kind.TheVariants.{ULong}
 use Rattle.c_constant.specs.Kinds.{in_kind, is_signed}
 
 -- no signed type holds a number from 2^63 on
@@ -12,6 +13,8 @@ pub beyond : (k : Kind) (n : ℕ) → IsTrue (is_signed k) → 92233720368547758
     → in_kind k (pos n) ≡ None
 beyond Char n s h = grind (arith, common_steps)
 beyond UChar n s h = cc
+beyond Short n s h = grind (arith, common_steps)
+beyond UShort n s h = cc
 beyond Int n s h = grind (arith, common_steps)
 beyond UInt n s h = cc
 beyond Long n s h = grind (arith, common_steps)

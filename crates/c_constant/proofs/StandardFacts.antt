@@ -1,6 +1,7 @@
 -- The definitions at worked values.
 use Rattle.std.proofs.Common.{◌≡◌, pos, negsuc, Some, None, refl}
-use Rattle.c_tree.specs.declared.Kind.TheVariants.{Char, UChar, Int, UInt, Long, ULong}
+use Rattle.c_tree.specs.declared.Kind.TheVariants.{Char, UChar, Short, UShort, Int, UInt, Long}
+use Rattle.c_tree.specs.declared.Kind.TheVariants.{ULong}
 use Rattle.c_tree.specs.declared.UnaryOp.TheVariants as one
 use Rattle.c_tree.specs.declared.BinaryOp.TheVariants as op
 use Rattle.c_constant.specs.Kinds.{bytes, common, converted, in_kind}
@@ -72,6 +73,21 @@ zero_extended : converted ULong 18446744073709551615 ≡ 18446744073709551615
 unfolding converted
 zero_extended = refl
 
+-- 40000 at a short
+short_wraps : converted Short 40000 ≡ 18446744073709526080
+unfolding converted
+short_wraps = refl
+
+short_zero_extended : converted UShort 18446744073709551615 ≡ 65535
+unfolding converted
+short_zero_extended = refl
+
+shorts_are_ints : common UShort Short ≡ Int
+shorts_are_ints = refl
+
+short_is_promoted : left_at op.ShiftLeft UShort ULong ≡ Int
+short_is_promoted = refl
+
 long_holds_unsigned : common UInt Long ≡ Long
 long_holds_unsigned = refl
 
@@ -94,8 +110,17 @@ test_is_int = refl
 byte : bytes UChar ≡ 1
 byte = refl
 
+two_bytes : bytes Short ≡ 2
+two_bytes = refl
+
 eight_bytes : bytes ULong ≡ 8
 eight_bytes = refl
+
+greatest_short : in_kind Short (pos 32767) ≡ Some (pos 32767)
+greatest_short = refl
+
+beyond_short : in_kind Short (pos 32768) ≡ None
+beyond_short = refl
 
 least_long : in_kind Long (negsuc 9223372036854775807) ≡ Some (negsuc 9223372036854775807)
 least_long = refl

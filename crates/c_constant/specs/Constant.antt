@@ -11,7 +11,6 @@ use Rattle.c_tree.specs.declared.tree.ExprNode.TheOpen.{ExprNode-F, Number, Name
 use Rattle.c_tree.specs.declared.tree.ExprNode.TheOpen.{Group, Unary, Cast, Bump, Binary, Choice}
 use Rattle.c_tree.specs.declared.tree.ExprNode.TheOpen.{Assign, Comma}
 use Rattle.c_constant.specs.declared.constants.Constant.{Constant}
-use Rattle.c_constant.specs.declared.constants.NamedConstant.{NamedConstant}
 use Rattle.c_constant.specs.Kinds.{common, converted}
 use Rattle.c_constant.specs.Operation.{operate, operate_one, left_at, right_at, unary_at, result_of}
 use Rattle.c_constant.specs.Operation.{unary_result}
@@ -19,6 +18,19 @@ use Rattle.c_constant.specs.Operation.{unary_result}
 -- a constant of this kind and value
 abbrev pub given : Kind → Option ℕ → Constant
 given k v = record { kind = k; value = v }
+
+-- a name that stands for a constant
+pub record NamedConstant : Type 0 where
+  pub name : List ℕ
+  pub constant : Constant
+
+-- `EOF` of `<stdio.h>` stands for -1 of type int. Whether it is in scope is judged elsewhere, before
+-- any value is asked for.
+abbrev pub ends : List NamedConstant
+ends = (record {
+  name = 69 ∷ 79 ∷ 70 ∷ [];
+  constant = given Int (Some 18446744073709551615);
+}) ∷ []
 
 -- what a name stands for where some names stand for constants: no constant, where it is none of them
 abbrev pub named : List NamedConstant → List ℕ → Constant
@@ -84,7 +96,7 @@ node_value names (Binary op x y) =
 node_value names (Choice t x y) =
     given (common x.kind y.kind) (choice_value (common x.kind y.kind) t.value x.value y.value)
 node_value names (Name w) = named names w
-node_value names (Element w i) = given Int None
+node_value names (Element w row i) = given Int None
 node_value names (Call w es) = given Int None
 node_value names (Bump op e) = given Int None
 node_value names (Assign op x y) = given Int None

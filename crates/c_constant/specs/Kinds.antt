@@ -1,9 +1,10 @@
--- The six integer types, their words and their conversions (C17 6.2.5, 6.2.6.2, 6.3.1).
+-- The eight integer types, their words and their conversions (C17 6.2.5, 6.2.6.2, 6.3.1).
 use Rattle.std.specs.Prelude.{ℕ, ◌+◌, ◌-◌, ◌/◌, ◌%◌, ◌^◌, ℤ, pos, negsuc, Bool, true, false, cond}
 use Rattle.std.specs.Prelude.{◌<◌, nat_lt, int_le, ◌&&◌, Option, Some, None}
 use Rattle.std.specs.Int.{w64, cast_signed, cast_unsigned}
 use Rattle.c_tree.specs.declared.Kind.{Kind}
-use Rattle.c_tree.specs.declared.Kind.TheVariants.{Char, UChar, Int, UInt, Long, ULong}
+use Rattle.c_tree.specs.declared.Kind.TheVariants.{Char, UChar, Short, UShort, Int, UInt, Long}
+use Rattle.c_tree.specs.declared.Kind.TheVariants.{ULong}
 use Rattle.c_constant.specs.declared.kinds.KindRow.{KindRow}
 
 -- THE TABLE
@@ -12,6 +13,8 @@ use Rattle.c_constant.specs.declared.kinds.KindRow.{KindRow}
 abbrev pub row : Kind → KindRow
 row Char = record { bits = 8; signed = true }
 row UChar = record { bits = 8; signed = false }
+row Short = record { bits = 16; signed = true }
+row UShort = record { bits = 16; signed = false }
 row Int = record { bits = 32; signed = true }
 row UInt = record { bits = 32; signed = false }
 row Long = record { bits = 64; signed = true }
@@ -33,6 +36,8 @@ is_signed k = (row k).signed
 abbrev pub same_kind : Kind → Kind → Bool
 same_kind Char Char = true
 same_kind UChar UChar = true
+same_kind Short Short = true
+same_kind UShort UShort = true
 same_kind Int Int = true
 same_kind UInt UInt = true
 same_kind Long Long = true

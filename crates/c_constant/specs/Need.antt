@@ -1,5 +1,6 @@
 -- How many temporaries an expression needs, if operands are computed from left to right.
 use Rattle.std.specs.Prelude.{ℕ, ◌+◌, max, min, Bool, nat_le, List, [], ◌∷◌, Option, Some, None}
+use Rattle.std.specs.Prelude.{option_map}
 use Rattle.c_constant.specs.declared.needs.Need.{Need}
 use Rattle.c_tree.specs.declared.limits.TheConstants.{MOST_NEED}
 use Rattle.c_tree.specs.declared.tree.Expr.{Expr, Expr-F, fold-Expr}
@@ -31,11 +32,21 @@ abbrev pub assign_need : Option ℕ → ℕ → ℕ
 assign_need None e = 1 + e
 assign_need (Some i) e = max i (2 + e)
 
+-- the need of one index, and of two, of which the first is held while the second is computed
+abbrev pub indexes_need : Option ℕ → ℕ → ℕ
+indexes_need None i = i
+indexes_need (Some r) i = max r (1 + i)
+
+-- the needs of an element whose indexes have this need
+abbrev pub element_needs : ℕ → Needs
+element_needs n = record { need = n; index = Some n }
+
 -- one level of an expression, whose parts have these needs
 abbrev pub node_needs : ExprNode-F Needs Needs → Needs
 node_needs (Number v k) = plain 1
 node_needs (Name w) = plain 1
-node_needs (Element w i) = record { need = i.need; index = Some i.need }
+node_needs (Element w row i) =
+    element_needs (indexes_need (option_map (λ (r : Needs). r.need) row) i.need)
 node_needs (Call w es) = plain (call_need es)
 node_needs (Group e) = e
 node_needs (Unary op e) = plain e.need

@@ -1,6 +1,7 @@
 //! Constant expressions.
 
-ghost use Rattle.std.specs.Prelude.{◌≡◌};
+ghost use Rattle.std.specs.Prelude.{◌≡◌, nat_eq, [], ◌∷◌};
+ghost use Rattle.std.specs.Cmp.Lexicographic.{pointwise};
 ghost use Rattle.c_constant.specs.Kinds as kinds;
 ghost use Rattle.c_constant.specs.Operation as operations;
 ghost use Rattle.c_constant.specs.Constant as values;
@@ -16,12 +17,11 @@ pub struct Constant {
     pub value: Option<u64>,
 }
 
-/// A name that stands for a constant.
-#[derive(Debug, Drop)]
-pub struct NamedConstant {
-    pub name: Word,
-    pub constant: Constant,
-}
+// What `EOF` stands for: -1.
+const END: Constant = Constant {
+    kind: Kind::Int,
+    value: Some(u64::MAX),
+};
 
 // What is no constant.
 const NONE: Constant = Constant {
@@ -169,46 +169,48 @@ fn three(test: Constant, yes: Constant, no: Constant) -> Constant
     }
 }
 
-// What a name stands for.
-fn named(names: &[NamedConstant], word: &Word) -> Constant
-    ensures { result ≡ values.named names.now word.now }
+// Whether a name is `EOF`.
+fn is_end(word: &[u8]) -> bool
+    ensures { result ≡ pointwise nat_eq (69 ∷ 79 ∷ 70 ∷ []) word.now }
 {
-    for n in names {
-        if n.name == *word {
-            return n.constant;
-        }
-    }
-    NONE
+    b"EOF".as_slice() == word
 }
 
-/// The value of a constant expression (C17 6.6) in which these names stand for constants, none where
-/// it is undefined or no constant.
+// What a name stands for.
+fn named(word: &Word) -> Constant
+    ensures { result ≡ values.named values.ends word.now }
+{
+    if is_end(word.as_slice()) { END } else { NONE }
+}
+
+/// The value of a constant expression (C17 6.6) in which `EOF` stands for -1, none where it is undefined
+/// or no constant.
 #[tactic(auto, using(crate::proofs::Nodes::values))]
-pub fn constant_of(names: &[NamedConstant], e: &Expr) -> Constant
-    ensures { result ≡ values.constant names.now e.now }
+pub fn constant_of(e: &Expr) -> Constant
+    ensures { result ≡ values.constant values.ends e.now }
 {
     match &e.node {
         ExprNode::Number { value, kind } => Constant {
             kind: *kind,
             value: Some(*value),
         },
-        ExprNode::Group(e) => constant_of(names, e.get()),
-        ExprNode::Unary { op, e } => one(*op, constant_of(names, e.get())),
+        ExprNode::Group(e) => constant_of(e.get()),
+        ExprNode::Unary { op, e } => one(*op, constant_of(e.get())),
         ExprNode::Cast { to, e } => Constant {
             kind: *to,
-            value: cast_value(*to, constant_of(names, e.get()).value),
+            value: cast_value(*to, constant_of(e.get()).value),
         },
         ExprNode::Binary { op, left, right } => two(
             *op,
-            constant_of(names, left.get()),
-            constant_of(names, right.get()),
+            constant_of(left.get()),
+            constant_of(right.get()),
         ),
         ExprNode::Choice { test, yes, no } => three(
-            constant_of(names, test.get()),
-            constant_of(names, yes.get()),
-            constant_of(names, no.get()),
+            constant_of(test.get()),
+            constant_of(yes.get()),
+            constant_of(no.get()),
         ),
-        ExprNode::Name(word) => named(names, word),
+        ExprNode::Name(word) => named(word),
         ExprNode::Element { .. } => NONE,
         ExprNode::Call { .. } => NONE,
         ExprNode::Bump { .. } => NONE,

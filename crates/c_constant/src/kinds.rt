@@ -26,6 +26,14 @@ pub fn row(kind: Kind) -> KindRow
             bits: 8,
             signed: false,
         },
+        Kind::Short => KindRow {
+            bits: 16,
+            signed: true,
+        },
+        Kind::UShort => KindRow {
+            bits: 16,
+            signed: false,
+        },
         Kind::Int => KindRow {
             bits: 32,
             signed: true,

@@ -10,7 +10,7 @@ mod signed;
 mod unsigned;
 mod words;
 
-pub use constants::{Constant, NamedConstant, constant_of};
+pub use constants::{Constant, constant_of};
 pub use kinds::{
     KindRow, bytes, common, left_at, promoted, result_of, right_at, row, unary_at, unary_result,
     width,

@@ -1,11 +1,13 @@
 //! How many temporaries an expression needs.
 
-ghost use Rattle.std.specs.Prelude.{◌≡◌, ◌+◌, ◌≤◌, max, map, min, Option, Some, None, IsTrue, ℕ};
+ghost use Rattle.std.specs.Prelude.{◌≡◌, ◌+◌, ◌≤◌, max, map, option_map, min, Option, Some, None};
+ghost use Rattle.std.specs.Prelude.{IsTrue, ℕ};
 ghost use Rattle.std.specs.Prelude.{◌↔◌};
-ghost use Rattle.c_constant.specs.Need.{counted, capped, assign_need, call_need};
+ghost use Rattle.c_constant.specs.Need.{counted, capped, capped_if, assign_need, indexes_need};
+ghost use Rattle.c_constant.specs.Need.{call_need};
 ghost use Rattle.c_constant.specs.Need as needs;
 
-use base::Items;
+use base::{Boxed, Items};
 use c_tree::{Expr, ExprNode, MOST_NEED};
 
 /// A need, and the need of the index where the expression is an element, each counted up to 17.
@@ -20,6 +22,16 @@ fn plain(need: u64) -> Need
     ensures { result ≡ record { need = need; index = None } }
 {
     Need { need, index: None }
+}
+
+// The needs of an element whose indexes have this need.
+fn element(need: u64) -> Need
+    ensures { result ≡ record { need = need; index = Some need } }
+{
+    Need {
+        need,
+        index: Some(need),
+    }
 }
 
 // The greater of two needs.
@@ -44,6 +56,16 @@ fn assigned(index: Option<u64>, right: u64) -> u64
     match index {
         None => further(right, 1),
         Some(index) => larger(index, further(right, 2)).min(17),
+    }
+}
+
+// The need of the indexes of an element, by that of the first one where there are two.
+fn indexes(first: Option<u64>, index: u64) -> u64
+    ensures { result ≡ capped (indexes_need first index) }
+{
+    match first {
+        None => index.min(17),
+        Some(first) => larger(first, further(index, 1)).min(17),
     }
 }
 
@@ -82,6 +104,18 @@ fn operand(e: &Expr) -> u64
     counted_need(e).need
 }
 
+// The need of the first of two indexes, where there is one.
+#[cycle(need)]
+#[inline(never)]
+fn first_index(row: &Option<Boxed<Expr>>) -> Option<u64>
+    ensures { result ≡ capped_if (option_map needs.need row.now) }
+{
+    match row {
+        None => None,
+        Some(row) => Some(operand(row.get())),
+    }
+}
+
 // The needs of an expression, each counted up to 17.
 #[cycle(need)]
 fn counted_need(e: &Expr) -> Need
@@ -90,13 +124,10 @@ fn counted_need(e: &Expr) -> Need
     match &e.node {
         ExprNode::Number { .. } => plain(1),
         ExprNode::Name(_) => plain(1),
-        ExprNode::Element { index, .. } => {
-            let need = operand(index.get());
-            Need {
-                need,
-                index: Some(need),
-            }
-        }
+        ExprNode::Element { row, index, .. } => element(indexes(
+            first_index(row),
+            operand(index.get()),
+        )),
         ExprNode::Call { args, .. } => plain(call(args)),
         ExprNode::Group(e) => counted_need(e.get()),
         ExprNode::Unary { e, .. } => plain(operand(e.get())),

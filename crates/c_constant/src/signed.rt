@@ -41,6 +41,7 @@ fn in_signed(kind: Kind, z: i64) -> Option<u64>
 {
     match kind {
         Kind::Char => within(-0x80, 0x7f, z),
+        Kind::Short => within(-0x8000, 0x7fff, z),
         Kind::Int => within(-0x8000_0000, 0x7fff_ffff, z),
         _ => Some(z.cast_unsigned()),
     }

@@ -16,6 +16,7 @@ fn in_unsigned(kind: Kind, word: u64) -> Option<u64>
 {
     match kind {
         Kind::UChar => Some(word % 0x100),
+        Kind::UShort => Some(word % 0x1_0000),
         Kind::UInt => Some(word % 0x1_0000_0000),
         _ => Some(word),
     }

@@ -16,6 +16,8 @@ pub fn convert(kind: Kind, word: u64) -> u64
     match kind {
         Kind::Char => by_sign(128, word % 0x100),
         Kind::UChar => word % 0x100,
+        Kind::Short => by_sign(0x8000, word % 0x1_0000),
+        Kind::UShort => word % 0x1_0000,
         Kind::Int => by_sign(0x8000_0000, word % 0x1_0000_0000),
         Kind::UInt => word % 0x1_0000_0000,
         Kind::Long | Kind::ULong => word,
@@ -31,10 +33,10 @@ pub fn operation(op: BinaryOp, kind: Kind, a: u64, b: u64) -> Option<u64>
     ensures { result ≡ operate op kind a b }
 {
     match kind {
-        Kind::Char | Kind::Int | Kind::Long => {
+        Kind::Char | Kind::Short | Kind::Int | Kind::Long => {
             signed_operation(op, kind, a.cast_signed(), b.cast_signed())
         }
-        Kind::UChar | Kind::UInt | Kind::ULong => unsigned_operation(op, kind, a, b),
+        Kind::UChar | Kind::UShort | Kind::UInt | Kind::ULong => unsigned_operation(op, kind, a, b),
     }
 }
 
@@ -44,7 +46,11 @@ pub fn unary(op: UnaryOp, kind: Kind, a: u64) -> Option<u64>
     ensures { result ≡ operate_one op kind a }
 {
     match kind {
-        Kind::Char | Kind::Int | Kind::Long => signed_unary(op, kind, a.cast_signed()),
-        Kind::UChar | Kind::UInt | Kind::ULong => unsigned_unary(op, kind, a),
+        Kind::Char | Kind::Short | Kind::Int | Kind::Long => signed_unary(
+            op,
+            kind,
+            a.cast_signed(),
+        ),
+        Kind::UChar | Kind::UShort | Kind::UInt | Kind::ULong => unsigned_unary(op, kind, a),
     }
 }

@@ -1,8 +1,8 @@
 //! Constructs that stand in themselves up to the deepest one that may, and one deeper.
 
 use crate::parse_tests::{
-    A, ASSIGN, Answer, BEGIN, CLOSE, COLON, DO, ELSE, END, FOR, IF, INT, LEFT, MINUS, OPEN, One,
-    QUESTION, RETURN, RIGHT, SEMICOLON, Token, WHILE, add, answer_to,
+    A, ASSIGN, Answer, BEGIN, CLOSE, COLON, DEFAULT, DO, ELSE, END, FOR, IF, INT, LEFT, MINUS,
+    OPEN, One, QUESTION, RETURN, RIGHT, SEMICOLON, SWITCH, Token, WHILE, add, answer_to,
 };
 use c_tree::Lexeme;
 use std::alloc::Global;
@@ -82,6 +82,15 @@ const NESTS: &[Nest] = &[
     },
     Nest {
         before: &[],
+        opener: &[A, LEFT, One, RIGHT, LEFT],
+        middle: &[One],
+        closer: &[RIGHT],
+        after: &[SEMICOLON],
+        most: 62,
+        deep: 1,
+    },
+    Nest {
+        before: &[],
         opener: &[One, QUESTION],
         middle: &[One],
         closer: &[COLON, One],
@@ -151,6 +160,15 @@ const NESTS: &[Nest] = &[
         after: &[],
         most: 62,
         deep: 5,
+    },
+    Nest {
+        before: &[],
+        opener: &[SWITCH, OPEN, One, CLOSE, BEGIN, DEFAULT, COLON],
+        middle: &[SEMICOLON],
+        closer: &[END],
+        after: &[],
+        most: 62,
+        deep: 7,
     },
 ];
 

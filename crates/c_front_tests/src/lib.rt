@@ -6,6 +6,8 @@ mod depth_tests;
 #[cfg(test)]
 mod lex_tests;
 #[cfg(test)]
+mod parse_rows;
+#[cfg(test)]
 mod parse_tests;
 #[cfg(test)]
 mod type_constant_rows;

@@ -1,6 +1,7 @@
 //! Lists of tokens, each token on a line of its own, with the answer that C17 and docs/LANGUAGE.md
 //! give them.
 
+use crate::parse_rows::{ARRAYS, SECTIONS};
 use c_parse::{ParseFault, parse};
 use c_tree::{Form, Key, Kind, Lexeme, Mark, Word};
 use std::alloc::{AllocError, Global};
@@ -21,6 +22,12 @@ pub use Token::{A, Include, One};
 
 pub const INT: Token = Token::Key(Key::Int);
 
+pub const CHAR: Token = Token::Key(Key::Char);
+
+pub const SHORT: Token = Token::Key(Key::Short);
+
+pub const UNSIGNED: Token = Token::Key(Key::Unsigned);
+
 pub const VOID: Token = Token::Key(Key::Void);
 
 pub const IF: Token = Token::Key(Key::If);
@@ -32,6 +39,12 @@ pub const WHILE: Token = Token::Key(Key::While);
 pub const DO: Token = Token::Key(Key::Do);
 
 pub const FOR: Token = Token::Key(Key::For);
+
+pub const SWITCH: Token = Token::Key(Key::Switch);
+
+pub const CASE: Token = Token::Key(Key::Case);
+
+pub const DEFAULT: Token = Token::Key(Key::Default);
 
 pub const RETURN: Token = Token::Key(Key::Return);
 
@@ -101,7 +114,7 @@ pub fn add(alloc: Global, list: &mut Vec<Lexeme>, tokens: &[Token]) -> Result<()
     Ok(())
 }
 
-type Row = (&'static [Token], Answer);
+pub type Row = (&'static [Token], Answer);
 
 const ROWS: &[Row] = &[
     (&[], Answer::Syntax(1)),
@@ -225,11 +238,19 @@ fn answers_each_list(rt: HostRuntime) -> Result<(), Fail> {
     assert_rows(&rt, rt.alloc(), ROWS)
 }
 
+#[test]
+fn answers_each_list_with_sections_or_rows(rt: HostRuntime) -> Result<(), Fail> {
+    assert_rows(&rt, rt.alloc(), SECTIONS)?;
+    assert_rows(&rt, rt.alloc(), ARRAYS)
+}
+
 const WHOLE: &[Token] = &[
-    INT, A, OPEN, INT, A, LEFT, RIGHT, CLOSE, BEGIN, INT, A, ASSIGN, One, COMMA, A, SEMICOLON, IF,
-    OPEN, A, CLOSE, WHILE, OPEN, A, CLOSE, SEMICOLON, ELSE, FOR, OPEN, A, SEMICOLON, A, SEMICOLON,
-    A, CLOSE, BEGIN, END, RETURN, A, QUESTION, OPEN, INT, CLOSE, One, COLON, A, OPEN, A, COMMA,
-    One, CLOSE, SEMICOLON, END,
+    INT, A, OPEN, INT, A, LEFT, RIGHT, LEFT, One, RIGHT, CLOSE, BEGIN, INT, A, ASSIGN, One, COMMA,
+    A, LEFT, One, RIGHT, LEFT, One, RIGHT, SEMICOLON, SWITCH, OPEN, A, CLOSE, BEGIN, CASE, One,
+    COLON, DEFAULT, COLON, SEMICOLON, SEMICOLON, CASE, A, COLON, SEMICOLON, END, IF, OPEN, A, LEFT,
+    A, RIGHT, LEFT, A, RIGHT, CLOSE, WHILE, OPEN, A, CLOSE, SEMICOLON, ELSE, FOR, OPEN, A,
+    SEMICOLON, A, SEMICOLON, A, CLOSE, BEGIN, END, RETURN, A, QUESTION, OPEN, INT, CLOSE, One,
+    COLON, A, OPEN, A, COMMA, One, CLOSE, SEMICOLON, END,
 ];
 
 fn assert_begin(rt: &impl Abort, alloc: Global, begin: &[Token], want: Answer) -> Result<(), Fail> {

@@ -30,7 +30,8 @@ fn call(alloc: Global, name: &[u8]) -> Result<ExprNode, TypeFault> {
 fn element(alloc: Global, line: u32, name: &[u8]) -> Result<ExprNode, TypeFault> {
     let array = Word::from_slice(alloc, name)?;
     let index = Boxed::new(alloc, number(line, 0))?;
-    Ok(ExprNode::Element { array, index })
+    let row = None;
+    Ok(ExprNode::Element { array, row, index })
 }
 
 fn expression_node(alloc: Global, line: u32, value: Value) -> Result<ExprNode, TypeFault> {
@@ -145,7 +146,7 @@ fn function(
     Ok(function_of(head, Some(body)))
 }
 
-fn global_of(line: u32, kind: Kind, name: Word, size: ArraySize, init: Items<Expr>) -> Top {
+fn global_of(line: u32, kind: Kind, name: Word, size: ArraySize, init: Items<Items<Expr>>) -> Top {
     Top {
         line,
         node: TopNode::Global {
@@ -157,11 +158,13 @@ fn global_of(line: u32, kind: Kind, name: Word, size: ArraySize, init: Items<Exp
     }
 }
 
-/// A list of one value.
-fn values(alloc: Global, line: u32, value: Value) -> Result<Items<Expr>, TypeFault> {
+/// One list of one value.
+fn values(alloc: Global, line: u32, value: Value) -> Result<Items<Items<Expr>>, TypeFault> {
     let mut all = Items::new(alloc);
     all.push(expression(alloc, line, value)?)?;
-    Ok(all)
+    let mut lists = Items::new(alloc);
+    lists.push(all)?;
+    Ok(lists)
 }
 
 fn scalar(alloc: Global, line: u32, name: &[u8], value: Value) -> Result<Top, TypeFault> {

@@ -15,6 +15,8 @@ use Rattle.c_tree.specs.declared.tree.Expr.{Expr}
 use Rattle.c_tree.specs.declared.tree.ExprNode.TheVariants as exprs
 use Rattle.c_tree.specs.declared.tree.UnaryOp.TheVariants as unary
 use Rattle.c_tree.specs.declared.tree.ForInit.TheVariants as inits
+use Rattle.c_tree.specs.declared.tree.Label.{Label}
+use Rattle.c_tree.specs.declared.tree.Section.{Section}
 use Rattle.c_tree.specs.declared.tree.Stmt.{Stmt}
 use Rattle.c_tree.specs.declared.tree.StmtNode.TheVariants as node
 use Rattle.c_grammar.specs.Tokens.{Tokens, token, punct, word, May}
@@ -30,11 +32,14 @@ use Rattle.c_grammar.specs.Statements.{inner, entry, entries, locals, absent, gi
 use Rattle.c_grammar.specs.Statements.{value, array, last_decl, next_decl, declaration, inner_is}
 use Rattle.c_grammar.specs.Statements.{entry_stmt, entry_local, stop, go, compound, empty, plain}
 use Rattle.c_grammar.specs.Statements.{if_only, if_else, while, repeat, init_local, init_plain, for}
-use Rattle.c_grammar.specs.Statements.{break, continue, return}
+use Rattle.c_grammar.specs.Statements.{break, continue, return, rows, label, labels, body, section}
+use Rattle.c_grammar.specs.Statements.{sections, a_case, a_default, last_label, next_label}
+use Rattle.c_grammar.specs.Statements.{last_stmt, next_stmt, section_is, no_section, next_section}
+use Rattle.c_grammar.specs.Statements.{switch}
 use Rattle.c_grammar.specs.Numbers.{is_mark, is_key}
 use Rattle.c_grammar.specs.Parsing.{first, is_next, is_word}
 use Rattle.c_grammar.specs.ModelTypes.{is_type, begins_type}
-use Rattle.c_grammar.specs.ModelStatements.{begins_expression, begins_statement}
+use Rattle.c_grammar.specs.ModelStatements.{begins_expression, begins_statement, begins_label}
 use Rattle.c_grammar.proofs.Numbers.{mark_is, key_is}
 use Rattle.c_grammar.proofs.Agree.{apart, Grows, Frees}
 use Rattle.c_grammar.proofs.Types.{types_shorter, types_begin}
@@ -67,6 +72,7 @@ stmt_begins empty = refl
 stmt_begins (plain x) = starts_begin _ (level_starts x)
 stmt_begins (if_only c x) = refl
 stmt_begins (if_else c x y) = refl
+stmt_begins (switch c x) = refl
 stmt_begins (while c x) = refl
 stmt_begins (repeat x c) = refl
 stmt_begins (for i o p x) = refl
@@ -101,6 +107,7 @@ no_type_form (form.Key key.If) h = refl
 no_type_form (form.Key key.While) h = refl
 no_type_form (form.Key key.Do) h = refl
 no_type_form (form.Key key.For) h = refl
+no_type_form (form.Key key.Switch) h = refl
 no_type_form (form.Key key.Break) h = refl
 no_type_form (form.Key key.Continue) h = refl
 no_type_form (form.Key key.Return) h = refl
@@ -143,6 +150,64 @@ pub entries_no_else : {may : May} {d : ℕ} {ss : List Stmt} {f t : Tokens}
 entries_no_else stop = refl
 entries_no_else (go x y) = entry_no_else x
 
+-- ---- sections of a switch
+
+pub label_begins : {may : May} {d : ℕ} {x : Label} {f t : Tokens} → Writes may (label x) d f t
+    → first begins_label f ≡ true
+label_begins (a_case x) = refl
+label_begins a_default = refl
+
+pub labels_begin : {may : May} {d : ℕ} {xs : List Label} {f t : Tokens} → Writes may (labels xs) d f t
+    → first begins_label f ≡ true
+labels_begin (last_label x) = label_begins x
+labels_begin (next_label x y) = label_begins x
+
+pub body_begins : {may : May} {d : ℕ} {ss : List Stmt} {f t : Tokens} → Writes may (body ss) d f t
+    → first begins_statement f ≡ true
+body_begins (last_stmt x) = inner_begins x
+body_begins (next_stmt x y) = inner_begins x
+
+section_begins : {may : May} {d : ℕ} {x : Section} {f t : Tokens} → Writes may (section x) d f t
+    → first begins_label f ≡ true
+section_begins (section_is x y) = labels_begin x
+
+-- no statement begins with a label
+label_form : (f : Form) → begins_label f ≡ true → begins_statement f ≡ false
+label_form (form.Key key.Case) h = refl
+label_form (form.Key key.Default) h = refl
+label_form _ h = absurd (false≢true h)
+
+pub label_no_statement : (ts : Tokens) → first begins_label ts ≡ true
+    → first begins_statement ts ≡ false
+label_no_statement ts h = apart begins_label begins_statement
+    (λ f p q. false≢true (sym (label_form f p) ∙ q)) ts h
+
+pub statement_no_label : (ts : Tokens) → first begins_statement ts ≡ true
+    → first begins_label ts ≡ false
+statement_no_label ts h = apart begins_statement begins_label
+    (λ f p q. false≢true (sym (label_form f q) ∙ p)) ts h
+
+label_no_word : (k : Key) → begins_label (form.Key k) ≡ false → (ts : Tokens)
+    → first begins_label ts ≡ true → is_word k ts ≡ false
+label_no_word k no' ts h = apart begins_label (is_key k)
+    (λ f p q. false≢true (sym no' ∙ ap begins_label (sym (key_is k f q)) ∙ p)) ts h
+
+label_no_mark : (k : Mark) → (ts : Tokens) → first begins_label ts ≡ true → is_next k ts ≡ false
+label_no_mark k ts h = apart begins_label (is_mark k)
+    (λ f p q. false≢true (ap begins_label (sym (mark_is k f q)) ∙ p)) ts h
+
+pub section_no_brace : {may : May} {d : ℕ} {x : Section} {f t : Tokens}
+    → Writes may (section x) d f t → is_next mark.RightBrace f ≡ false
+section_no_brace x = label_no_mark mark.RightBrace _ (section_begins x)
+
+-- behind a section stands a label or the brace
+pub sections_behind : {may : May} {d : ℕ} {xs : List Section} {f t : Tokens}
+    → Writes may (sections xs) d f t
+    → (first begins_statement f ≡ false) × (is_word key.Else f ≡ false)
+sections_behind no_section = (refl, refl)
+sections_behind (next_section x y) =
+    let h = section_begins x in (label_no_statement _ h, label_no_word key.Else refl _ h)
+
 -- ---- lengths
 
 -- a phrase takes a token at least, what stands behind the name of a local maybe none
@@ -158,6 +223,7 @@ writes_shorter (tested x) = let h = spells_shorter x in omega arith
 writes_shorter bare = omega arith
 writes_shorter (value x) = let h = spells_shorter x in omega arith
 writes_shorter (array x) = let h = spells_shorter x in omega arith
+writes_shorter (rows x y) = let h = spells_shorter x in let i = spells_shorter y in omega arith
 writes_shorter (last_decl x) = let h = writes_shorter x in omega arith
 writes_shorter (next_decl x y) = let h = writes_shorter x in let i = writes_shorter y in omega arith
 writes_shorter (declaration x y) = let h = types_shorter x in let i = writes_shorter y in omega arith
@@ -172,6 +238,18 @@ writes_shorter (plain x) = let h = spells_shorter x in omega arith
 writes_shorter (if_only c x) = let h = writes_shorter c in let i = writes_shorter x in omega arith
 writes_shorter (if_else c x y) =
     let h = writes_shorter c in let i = writes_shorter x in let j = writes_shorter y in omega arith
+writes_shorter (a_case x) = let h = spells_shorter x in omega arith
+writes_shorter a_default = omega arith
+writes_shorter (last_label x) = writes_shorter x
+writes_shorter (next_label x y) =
+    let h = writes_shorter x in let i = writes_shorter y in omega arith
+writes_shorter (last_stmt x) = writes_shorter x
+writes_shorter (next_stmt x y) = let h = writes_shorter x in let i = writes_shorter y in omega arith
+writes_shorter (section_is x y) = let h = writes_shorter x in let i = writes_shorter y in omega arith
+writes_shorter no_section = omega arith
+writes_shorter (next_section x y) =
+    let h = writes_shorter x in let i = writes_shorter y in omega arith
+writes_shorter (switch c x) = let h = writes_shorter c in let i = writes_shorter x in omega arith
 writes_shorter (while c x) = let h = writes_shorter c in let i = writes_shorter x in omega arith
 writes_shorter (repeat x c) = let h = writes_shorter c in let i = writes_shorter x in omega arith
 writes_shorter (init_local ok x) = writes_shorter x
@@ -288,6 +366,15 @@ form_shortest l (form.Key key.For) h =
             (inner_empty d u (fr _ _ (omega arith))),
       );
     }
+form_shortest l (form.Key key.Switch) h =
+    record {
+      rest = λ u. test_first (punct 0 mark.LeftBrace ∷ punct 0 mark.RightBrace ∷ u);
+      grows = λ u. omega arith;
+      writes = λ may d u fr. (
+        (false, at l (node.Switch zero_expr [])),
+        switch (tested (shortest 16)) no_section,
+      );
+    }
 form_shortest l (form.Key key.Break) h = record {
   rest = semi;
   grows = λ u. omega arith;
@@ -344,6 +431,7 @@ pub type_alone : (l : ℕ) (f : Form) → is_type f ≡ true
     → (k : Kind) × ((u : Tokens) → Types l k (token l f ∷ u) u)
 type_alone l (form.Key key.Char) h = (kind.Char, λ u. types.char)
 type_alone l (form.Key key.Int) h = (kind.Int, λ u. types.int)
+type_alone l (form.Key key.Short) h = (kind.Short, λ u. types.short)
 type_alone l (form.Key key.Long) h = (kind.Long, λ u. types.long)
 type_alone l (form.Key key.Signed) h = (kind.Int, λ u. types.signed)
 type_alone l (form.Key key.Unsigned) h = (kind.UInt, λ u. types.unsigned)

@@ -9,6 +9,7 @@ use Rattle.c_grammar.specs.Tokens.{Tokens, punct, May}
 use Rattle.c_grammar.specs.Types.{Types, unsigned}
 use Rattle.c_grammar.specs.Operators.{at}
 use Rattle.c_grammar.specs.Expressions.{expr, Spells, number, name, group, element, call, suffix}
+use Rattle.c_grammar.specs.Expressions.{row_element}
 use Rattle.c_grammar.specs.Expressions.{prefix, cast, join, choice, assign, up}
 use Rattle.c_grammar.specs.Numbers.{is_mark}
 use Rattle.c_grammar.specs.Parsing.{Out, and_then, syntax, too_deep, tail, line_of, is_next, expect}
@@ -227,6 +228,7 @@ module _ (m d : ℕ) (nested : Nested) (known : Deeper nested m d) where
   cast_lands cut g g' may _ _ t' name q s f tied = absurd (omega (arith, q))
   cast_lands cut g g' may _ _ t' (group ok x) q s f tied = absurd (omega (arith, q))
   cast_lands cut g g' may _ _ t' (element ok x) q s f tied = absurd (omega (arith, q))
+  cast_lands cut g g' may _ _ t' (row_element ok x ok' y) q s f tied = absurd (omega (arith, q))
   cast_lands cut g g' may _ _ t' (call ok x) q s f tied = absurd (omega (arith, q))
   cast_lands cut g g' may _ f' t' (suffix x y) q s f tied = absurd (omega (arith, q))
   cast_lands cut g g' may _ _ t' (prefix p ok x) q s f tied = absurd (omega (arith, q))

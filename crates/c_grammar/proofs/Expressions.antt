@@ -13,11 +13,13 @@ use Rattle.c_grammar.specs.Tokens.{Tokens, token, punct, named, May}
 use Rattle.c_grammar.specs.Operators.{at, Prefix, sign, increase, decrease, prefix_mark}
 use Rattle.c_grammar.specs.Operators.{operand_level, prefixed}
 use Rattle.c_grammar.specs.Expressions.{expr, args, arg_list, Spells, number, name, group, element}
+use Rattle.c_grammar.specs.Expressions.{row_element}
 use Rattle.c_grammar.specs.Expressions.{call, none, some, last, next, suffix, prefix, cast, join}
 use Rattle.c_grammar.specs.Expressions.{choice, assign, up}
 use Rattle.c_grammar.specs.Numbers.{is_mark}
 use Rattle.c_grammar.specs.Parsing.{Out, and_then, syntax, by_option, first, is_next, expect}
 use Rattle.c_grammar.specs.ModelExpressions.{Nested, is_name, number_by, number_of, prefix_of, seen}
+use Rattle.c_grammar.specs.ModelExpressions.{index_of, second_of, after_index}
 use Rattle.c_grammar.specs.ModelExpressions.{suffixes, group_of, element_of, no_args_of}
 use Rattle.c_grammar.specs.ModelExpressions.{arg_list_of, args_of, call_of, after_name, named_of}
 use Rattle.c_grammar.specs.ModelExpressions.{primary_of, postfix_of, operand_of, prefixed_of}
@@ -131,27 +133,58 @@ module _ (m d : ℕ) (nested : Nested) (known : Deeper nested m d) where
       )) nested
       known.reach (λ h l. group_rest l h)
 
+  abbrev IndexIs : Rel Expr
+  IndexIs = Then (OpenIs mark.LeftBracket d)
+      (λ k. Then (Level 16 (suc d)) (λ e. Then (Is mark.RightBracket) (λ k'. Done e)))
+
+  index_piece : Piece same_tree IndexIs any always always
+      (λ t. punct 0 mark.LeftBracket ∷ zero_token ∷ punct 0 mark.RightBracket ∷ t) m (index_of nested)
+  unfolding index_of
+  index_piece =
+      opening same_tree (λ k. Then (Level 16 (suc d))
+      (λ e. Then (Is mark.RightBracket) (λ k'. Done e))) always
+      always (λ t. zero_token ∷ punct 0 mark.RightBracket ∷ t) m d mark.LeftBracket _
+      (λ t. omega arith)
+      (λ k may t fr fr'. (
+        zero_expr,
+        (zero_expr, punct 0 mark.RightBracket ∷ t, shortest 16, (0, t, refl, (refl, refl))),
+      )) nested
+      known.reach
+      (λ h k. closed mark.RightBracket (omega arith) (λ e. e) (known.expression_in h))
+
+  abbrev SecondIs : ℕ → List ℕ → Expr → Rel Expr
+  SecondIs l w r = Then IndexIs (λ e. Done (at l (node.Element w (Some r) e)))
+
+  second_piece : (l : ℕ) (w : List ℕ) (r : Expr)
+      → Piece same_tree (SecondIs l w r) any always (ends_at 0)
+      (λ t. punct 0 mark.LeftBracket ∷ zero_token ∷ punct 0 mark.RightBracket ∷ t) m
+      (second_of nested l w r)
+  unfolding second_of
+  second_piece l w r = seq (λ e ts. expr_here (at l (node.Element w (Some r) e)) ts) index_piece
+      (λ e. done same_tree (at l (node.Element w (Some r) e)) m (λ t h. tt)) (λ t. omega arith)
+      (λ may x y u t r h. tt)
+
+  abbrev AfterIndex : ℕ → List ℕ → Expr → Rel Expr
+  AfterIndex l w e = Either (SecondIs l w e) (Done (at l (node.Element w None e)))
+
+  after_index_piece : (l : ℕ) (w : List ℕ) (e : Expr)
+      → Piece same_tree (AfterIndex l w e) any always (ends_at 0) (λ t. t) m (after_index nested l w e)
+  unfolding after_index
+  after_index_piece l w i =
+      either_of (is_mark mark.LeftBracket) (second_piece l w i)
+      (done same_tree (at l (node.Element w None i)) m (λ t h. tt))
+      (λ may x f t r. ap (is_next mark.LeftBracket) r.2.2.0)
+      (λ may x f t r e. not_next mark.LeftBracket 0 f (subst (Stops 0) (sym r.1) e) (omega arith))
+
   abbrev ElementIs : ℕ → List ℕ → Rel Expr
-  ElementIs l w = Then (OpenIs mark.LeftBracket d)
-      (λ k. Then (Level 16 (suc d)) (λ e. Then (Is mark.RightBracket)
-      (λ k'. Done (at l (node.Element w e)))))
+  ElementIs l w = Then IndexIs (λ e. AfterIndex l w e)
 
   element_piece : (l : ℕ) (w : List ℕ) → Piece same_tree (ElementIs l w) any always (ends_at 0)
       (λ t. punct 0 mark.LeftBracket ∷ zero_token ∷ punct 0 mark.RightBracket ∷ t) m
       (element_of nested l w)
   unfolding element_of
-  element_piece l w =
-      opening same_tree (λ k. Then (Level 16 (suc d))
-      (λ e. Then (Is mark.RightBracket) (λ k'. Done (at l (node.Element w e))))) always
-      (ends_at 0) (λ t. zero_token ∷ punct 0 mark.RightBracket ∷ t) m d mark.LeftBracket _
-      (λ t. omega arith)
-      (λ k may t fr fr'. (
-        at l (node.Element w zero_expr),
-        (zero_expr, punct 0 mark.RightBracket ∷ t, shortest 16, (0, t, refl, (refl, refl))),
-      )) nested
-      known.reach
-      (λ h k. closed mark.RightBracket (omega arith) (λ e. at l (node.Element w e))
-      (known.expression_in h))
+  element_piece l w = seq (λ e ts. after_index nested l w e ts) index_piece
+      (λ e. after_index_piece l w e) (λ t. omega arith) (λ may x y u t r h. tt)
 
   abbrev ArgsAre : Rel (List Expr)
   ArgsAre may es f t = Spells may (args es) (suc d) f t
@@ -241,7 +274,7 @@ module _ (m d : ℕ) (nested : Nested) (known : Deeper nested m d) where
       (done same_tree (at l (node.Name w)) m (λ t h. tt))
       (λ may x f t r. ap (is_next mark.LeftParen) r.2.0)
       (λ may x f t r e. not_next mark.LeftParen 0 f (subst (Stops 0) (sym r.1) e) (omega arith)))
-      (λ may x f t r. ap (is_next mark.LeftBracket) r.2.0) no_bracket
+      (λ may x f t r. ap (is_next mark.LeftBracket) r.2.2.0) no_bracket
     where
       no_bracket : (may : May) (x : Expr) (f t : Tokens)
           → Either (CallIs l w) (Done (at l (node.Name w))) may x f t → Stops 0 t
@@ -310,14 +343,51 @@ module _ (m d : ℕ) (nested : Nested) (known : Deeper nested m d) where
   abbrev PrimaryIs : Rel Expr
   PrimaryIs = Either NamedIs (Either GroupIs NumberIs)
 
+  -- an index in its brackets, and what spells it
+  index_to : (may : May) (e : Expr) (f u : Tokens) → IndexIs may e f u
+      → (k : ℕ) × (v : Tokens) × (k' : ℕ) × (f ≡ punct k mark.LeftBracket ∷ v)
+      × (may (punct k mark.LeftBracket ∷ v) (suc d) ≡ true)
+      × Spells may (expr 16 e) (suc d) v (punct k' mark.RightBracket ∷ u)
+  index_to may e f u r =
+      let c = r.3 in let b = c.3 in (
+        r.0,
+        r.1,
+        b.0,
+        r.2.0,
+        r.2.1,
+        ends_with (λ e t. Spells may (expr 16 e) (suc d) r.1 (punct b.0 mark.RightBracket ∷ t))
+            (subst (λ (u : Tokens). Spells may (expr 16 c.0) (suc d) r.1 u) b.2 c.2) b.3,
+      )
+
+  index_from : (may : May) (e : Expr) (k k' : ℕ) (v u : Tokens)
+      → may (punct k mark.LeftBracket ∷ v) (suc d) ≡ true
+      → Spells may (expr 16 e) (suc d) v (punct k' mark.RightBracket ∷ u)
+      → IndexIs may e (punct k mark.LeftBracket ∷ v) u
+  index_from may e k k' v u ok x = (
+    k,
+    v,
+    (refl, ok),
+    (e, punct k' mark.RightBracket ∷ u, x, (k', u, refl, (refl, refl))),
+  )
+
+  element_to : (may : May) (l : ℕ) (w : List ℕ) (r e : Expr) (f u t : Tokens) → IndexIs may r f u
+      → AfterIndex l w r may e u t → Spells may (expr 0 e) d (named l w ∷ f) t
+  element_to may l w r e f u t x (that q) =
+      let i = index_to may r f u x in
+      subst (λ (f : Tokens). Spells may (expr 0 e) d (named l w ∷ f) t) (sym i.3)
+      (ends_with (λ e t. Spells may (expr 0 e) d (named l w ∷ punct i.0 mark.LeftBracket ∷ i.1) t)
+      (element i.4 i.5) q)
+  element_to may l w r e f u t x (this q) =
+      let i = index_to may r f u x in let j = index_to may q.0 u q.1 q.2 in
+      subst (λ (f : Tokens). Spells may (expr 0 e) d (named l w ∷ f) t) (sym i.3)
+      (ends_with (λ e t. Spells may (expr 0 e) d (named l w ∷ punct i.0 mark.LeftBracket ∷ i.1) t)
+      (row_element i.4
+      (subst (λ (z : Tokens). Spells may (expr 16 r) (suc d) i.1 (punct i.2 mark.RightBracket ∷ z)) j.3 i.5)
+      j.4 j.5) q.3)
+
   named_to : (may : May) (l : ℕ) (w : List ℕ) (e : Expr) (f t : Tokens) → AfterName l w may e f t
       → Spells may (expr 0 e) d (named l w ∷ f) t
-  named_to may l w e f t (this q) =
-      let c = q.3 in let o = q.2 in
-      subst (λ (u : Tokens). Spells may (expr 0 e) d (named l w ∷ u) t) (sym o.0)
-      (ends_with (λ e t. Spells may (expr 0 e) d (named l w ∷ punct q.0 mark.LeftBracket ∷ q.1) t)
-      (element o.1 (subst (λ (u : Tokens). Spells may (expr 16 c.0) (suc d) q.1 u) c.3.2 c.2))
-      c.3.3)
+  named_to may l w e f t (this q) = element_to may l w q.0 e f q.1 t q.2 q.3
   named_to may l w e f t (that (this q)) =
       let c = q.3 in let o = q.2 in
       subst (λ (u : Tokens). Spells may (expr 0 e) d (named l w ∷ u) t) (sym o.0)
@@ -348,16 +418,19 @@ module _ (m d : ℕ) (nested : Nested) (known : Deeper nested m d) where
         (l, w),
         punct k mark.LeftBracket ∷ v,
         refl,
+        this (i, t, index_from may i k k' v t ok x, that (refl, refl)),
+      )
+  primary_from may _ _ t (row_element {l = l} {k = k} {k' = k'} {j = j} {j' = j'} {w = w} {r = r}
+      {e = i} {m = v} {m' = v'} ok x ok' y) e =
+      this (
+        (l, w),
+        punct k mark.LeftBracket ∷ v,
+        refl,
         this (
-          k,
-          v,
-          (refl, ok),
-          (
-            i,
-            punct k' mark.RightBracket ∷ t,
-            x,
-            (k', t, refl, (refl, refl)),
-          ),
+          r,
+          punct j mark.LeftBracket ∷ v',
+          index_from may r k k' v (punct j mark.LeftBracket ∷ v') ok x,
+          this (i, t, index_from may i j j' v' t ok' y, (refl, refl)),
         ),
       )
   primary_from may _ _ t (call {l = l} {k = k} {w = w} {es = es} {m = v} ok x) e =
@@ -434,6 +507,7 @@ module _ (m d : ℕ) (nested : Nested) (known : Deeper nested m d) where
   no_prefix name le = refl
   no_prefix (group ok x) le = refl
   no_prefix (element ok x) le = refl
+  no_prefix (row_element ok x ok' y) le = refl
   no_prefix (call ok x) le = refl
   no_prefix (suffix s x) le = no_prefix x (omega arith)
   no_prefix (prefix p ok x) le = absurd (omega (arith, le))
@@ -458,6 +532,7 @@ module _ (m d : ℕ) (nested : Nested) (known : Deeper nested m d) where
   unary_from may _ _ t name e = absurd (omega (arith, e))
   unary_from may _ _ t (group ok x) e = absurd (omega (arith, e))
   unary_from may _ _ t (element ok x) e = absurd (omega (arith, e))
+  unary_from may _ _ t (row_element ok x ok' y) e = absurd (omega (arith, e))
   unary_from may _ _ t (call ok x) e = absurd (omega (arith, e))
   unary_from may _ f t (suffix s x) e = absurd (omega (arith, e))
   unary_from may _ _ t (prefix {l = l} {e = i} {m = v} p ok x) e =

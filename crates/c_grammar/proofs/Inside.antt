@@ -8,6 +8,7 @@ use Rattle.c_tree.specs.declared.tree.ExprNode.TheVariants as node
 use Rattle.c_grammar.specs.Tokens.{Tokens, punct, May}
 use Rattle.c_grammar.specs.Operators.{at, binary_level, Assigner, assigner_mark, assigner_op}
 use Rattle.c_grammar.specs.Expressions.{expr, Spells, number, name, group, element, call, suffix}
+use Rattle.c_grammar.specs.Expressions.{row_element}
 use Rattle.c_grammar.specs.Expressions.{prefix, cast, join, choice, assign, up}
 use Rattle.c_grammar.specs.Numbers.{is_mark}
 use Rattle.c_grammar.specs.Parsing.{and_then, is_next, expect}
@@ -128,6 +129,7 @@ module _ (m d : ℕ) (nested : Nested) (known : Deeper nested m d) where
   choice_in may _ _ t name q = absurd (omega (arith, q))
   choice_in may _ _ t (group ok x) q = absurd (omega (arith, q))
   choice_in may _ _ t (element ok x) q = absurd (omega (arith, q))
+  choice_in may _ _ t (row_element ok x ok' y) q = absurd (omega (arith, q))
   choice_in may _ _ t (call ok x) q = absurd (omega (arith, q))
   choice_in may _ f t (suffix x y) q = absurd (omega (arith, q))
   choice_in may _ _ t (prefix p ok x) q = absurd (omega (arith, q))
@@ -214,6 +216,7 @@ module _ (m d : ℕ) (nested : Nested) (known : Deeper nested m d) where
   assign_in may _ _ t name q = absurd (omega (arith, q))
   assign_in may _ _ t (group ok x) q = absurd (omega (arith, q))
   assign_in may _ _ t (element ok x) q = absurd (omega (arith, q))
+  assign_in may _ _ t (row_element ok x ok' y) q = absurd (omega (arith, q))
   assign_in may _ _ t (call ok x) q = absurd (omega (arith, q))
   assign_in may _ f t (suffix x y) q = absurd (omega (arith, q))
   assign_in may _ _ t (prefix p ok x) q = absurd (omega (arith, q))

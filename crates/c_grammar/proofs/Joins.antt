@@ -7,6 +7,7 @@ use Rattle.c_grammar.specs.Tokens.{Tokens, punct, May}
 use Rattle.c_grammar.specs.Operators.{Joiner, joiner_mark, below, joined, Suffix, suffix_mark}
 use Rattle.c_grammar.specs.Operators.{suffixed}
 use Rattle.c_grammar.specs.Expressions.{expr, Spells, number, name, group, element, call, suffix}
+use Rattle.c_grammar.specs.Expressions.{row_element}
 use Rattle.c_grammar.specs.Expressions.{prefix, cast, join, choice, assign, up}
 use Rattle.c_grammar.specs.Parsing.{Out, and_then, tail, line_of}
 use Rattle.c_grammar.specs.ModelExpressions.{joiner, suffix_of, seen, loop, suffixes}
@@ -67,6 +68,7 @@ join_from k g number e js = absurd (omega (arith, e))
 join_from k g name e js = absurd (omega (arith, e))
 join_from k g (group ok x) e js = absurd (omega (arith, e))
 join_from k g (element ok x) e js = absurd (omega (arith, e))
+join_from k g (row_element ok x ok' y) e js = absurd (omega (arith, e))
 join_from k g (call ok x) e js = absurd (omega (arith, e))
 join_from k g (suffix s x) e js = absurd (omega (arith, e, g.many))
 join_from k g (prefix p ok x) e js = absurd (omega (arith, e, g.many))
@@ -216,6 +218,7 @@ suffix_from number e js = absurd (omega (arith, e))
 suffix_from name e js = absurd (omega (arith, e))
 suffix_from (group ok x) e js = absurd (omega (arith, e))
 suffix_from (element ok x) e js = absurd (omega (arith, e))
+suffix_from (row_element ok x ok' y) e js = absurd (omega (arith, e))
 suffix_from (call ok x) e js = absurd (omega (arith, e))
 suffix_from (suffix s x) e js = suffix_from x refl (on' s js)
 suffix_from (prefix p ok x) e js = absurd (omega (arith, e))

@@ -29,6 +29,10 @@ spells_far h (e.group ok x) =
 spells_far h (e.element ok x) =
     let l = spells_shorter x in e.element (h _ _ (omega arith) ok) (spells_far (later (omega arith) h) x)
 spells_far h (e.call ok x) = let l = spells_shorter x in e.call (h _ _ (omega arith) ok) (spells_far h x)
+spells_far h (e.row_element ok x ok' y) =
+    let l = spells_shorter x in let l' = spells_shorter y in
+    e.row_element (h _ _ (omega arith) ok) (spells_far (later (omega arith) h) x) (h _ _ (omega arith) ok')
+    (spells_far (later (omega arith) h) y)
 spells_far h e.none = e.none
 spells_far h (e.some x) = e.some (spells_far h x)
 spells_far h (e.last x) = e.last (spells_far (later (omega arith) h) x)
@@ -56,6 +60,9 @@ writes_far h (s.tested x) = s.tested (spells_far (later (omega arith) h) x)
 writes_far h s.bare = s.bare
 writes_far h (s.value x) = s.value (spells_far h x)
 writes_far h (s.array x) = s.array (spells_far (later (omega arith) h) x)
+writes_far h (s.rows x y) =
+    let l = spells_shorter y in
+    s.rows (spells_far (later (omega arith) h) x) (spells_far (later (omega arith) h) y)
 writes_far h (s.last_decl x) = s.last_decl (writes_far (later (omega arith) h) x)
 writes_far h (s.next_decl x y) =
     let l = writes_shorter y in s.next_decl (writes_far (later (omega arith) h) x) (writes_far h y)
@@ -73,6 +80,21 @@ writes_far h (s.if_only c x) =
 writes_far h (s.if_else c x y) =
     let l = writes_shorter x in let l' = writes_shorter y in
     s.if_else (writes_far (later (omega arith) h) c) (writes_far (later (omega arith) h) x) (writes_far h y)
+writes_far h (s.a_case x) = s.a_case (spells_far (later (omega arith) h) x)
+writes_far h s.a_default = s.a_default
+writes_far h (s.last_label x) = s.last_label (writes_far h x)
+writes_far h (s.next_label x y) =
+    let l = writes_shorter y in s.next_label (writes_far (later (omega arith) h) x) (writes_far h y)
+writes_far h (s.last_stmt x) = s.last_stmt (writes_far h x)
+writes_far h (s.next_stmt x y) =
+    let l = writes_shorter y in s.next_stmt (writes_far (later (omega arith) h) x) (writes_far h y)
+writes_far h (s.section_is x y) =
+    let l = writes_shorter y in s.section_is (writes_far (later (omega arith) h) x) (writes_far h y)
+writes_far h s.no_section = s.no_section
+writes_far h (s.next_section x y) =
+    let l = writes_shorter y in s.next_section (writes_far (later (omega arith) h) x) (writes_far h y)
+writes_far h (s.switch c x) =
+    let l = writes_shorter x in s.switch (writes_far (later (omega arith) h) c) (writes_far h x)
 writes_far h (s.while c x) = let l = writes_shorter x in s.while (writes_far (later (omega arith) h) c) (writes_far h x)
 writes_far h (s.repeat x c) =
     let l = writes_shorter c in s.repeat (writes_far (later (omega arith) h) x) (writes_far (later (omega arith) h) c)
@@ -106,11 +128,21 @@ units_far h (u.last_value x) = u.last_value (spells_far (later (omega arith) h) 
 units_far h (u.last_comma x) = u.last_comma (spells_far (later (omega arith) h) x)
 units_far h (u.next_value x y) =
     let l = units_shorter y in u.next_value (spells_far (later (omega arith) h) x) (units_far h y)
+units_far h (u.last_row x) = u.last_row (units_far (later (omega arith) h) x)
+units_far h (u.last_row_comma x) = u.last_row_comma (units_far (later (omega arith) h) x)
+units_far h (u.next_row x y) =
+    let l = units_shorter y in u.next_row (units_far (later (omega arith) h) x) (units_far h y)
 units_far h u.bare = u.bare
 units_far h (u.valued x) = u.valued (spells_far h x)
 units_far h (u.sized x) = u.sized (units_far (later (omega arith) h) x)
+units_far h (u.rows_sized x y) =
+    let l = spells_shorter y in u.rows_sized (units_far (later (omega arith) h) x) (spells_far (later (omega arith) h) y)
 units_far h (u.filled x y) =
     let l = units_shorter y in u.filled (units_far (later (omega arith) h) x) (units_far (later (omega arith) h) y)
+units_far h (u.rows_filled x y z) =
+    let l = spells_shorter y in let l' = units_shorter z in
+    u.rows_filled (units_far (later (omega arith) h) x) (spells_far (later (omega arith) h) y)
+    (units_far (later (omega arith) h) z)
 units_far h (u.last_global x) = u.last_global (units_far (later (omega arith) h) x)
 units_far h (u.next_global x y) =
     let l = units_shorter y in u.next_global (units_far (later (omega arith) h) x) (units_far h y)
@@ -118,6 +150,9 @@ units_far h u.unlabelled = u.unlabelled
 units_far h u.labelled = u.labelled
 units_far h u.no_brackets = u.no_brackets
 units_far h (u.some_brackets x) = u.some_brackets (units_far h x)
+units_far h (u.two_brackets x y) =
+    let l = spells_shorter y in
+    u.two_brackets (units_far (later (omega arith) h) x) (spells_far (later (omega arith) h) y)
 units_far h (u.param_is x y z) =
     let l = units_shorter z in u.param_is x (units_far (later (omega arith) h) y) (units_far h z)
 units_far h u.no_params = u.no_params

@@ -1,6 +1,6 @@
 -- Facts on expressions of a level: what they begin with, what may be assigned to, what opens.
 use Rattle.std.proofs.Common.{◌≡◌, ℕ, zero, suc, ◌<◌, ◌≤◌, true, false, List, [], ◌∷◌, length, refl}
-use Rattle.std.proofs.Common.{sym, ap, ◌∙◌, arith}
+use Rattle.std.proofs.Common.{Some, None, sym, ap, ◌∙◌, arith}
 use Rattle.std.proofs.lemmas.Bool.{false≢true}
 use Rattle.c_tree.specs.declared.token.Lexeme.{Lexeme}
 use Rattle.c_tree.specs.declared.token.Form.{Form}
@@ -16,6 +16,7 @@ use Rattle.c_grammar.specs.Tokens.{Tokens, token, May}
 use Rattle.c_grammar.specs.Operators.{at, op, comma, sign, increase, decrease, increased, decreased}
 use Rattle.c_grammar.specs.Operators.{assigner_op}
 use Rattle.c_grammar.specs.Expressions.{Phrase, expr, arg_list, Spells, number, name, group}
+use Rattle.c_grammar.specs.Expressions.{row_element}
 use Rattle.c_grammar.specs.Expressions.{element, call, none, some, last, next, suffix, prefix, cast}
 use Rattle.c_grammar.specs.Expressions.{join, choice, assign, up}
 use Rattle.c_grammar.specs.Numbers.{is_mark}
@@ -56,6 +57,7 @@ level_starts number = refl
 level_starts name = refl
 level_starts (group ok x) = refl
 level_starts (element ok x) = refl
+level_starts (row_element ok x ok' y) = refl
 level_starts (call ok x) = refl
 level_starts (suffix s x) = level_starts x
 level_starts (prefix (sign unary.Plus) ok x) = refl
@@ -95,6 +97,7 @@ unary_no_cast number le = refl
 unary_no_cast name le = refl
 unary_no_cast (group ok x) le = starts_no_type _ (level_starts x)
 unary_no_cast (element ok x) le = refl
+unary_no_cast (row_element ok x ok' y) le = refl
 unary_no_cast (call ok x) le = refl
 unary_no_cast (suffix s x) le = unary_no_cast x le'
   where
@@ -117,6 +120,7 @@ paren_opens number h = absurd (false≢true h)
 paren_opens name h = absurd (false≢true h)
 paren_opens (group ok x) h = ok
 paren_opens (element ok x) h = absurd (false≢true h)
+paren_opens (row_element ok x ok' y) h = absurd (false≢true h)
 paren_opens (call ok x) h = absurd (false≢true h)
 paren_opens (suffix s x) h = paren_opens x h
 paren_opens (prefix (sign unary.Plus) ok x) h = absurd (false≢true h)
@@ -137,7 +141,9 @@ unfolding is_unary
 unary_is (number {v = v} {k = k}) le = ap is_unary_node (node.outs-Number v k)
 unary_is (name {w = w}) le = ap is_unary_node (node.outs-Name w)
 unary_is (group {e = e} ok x) le = ap is_unary_node (node.outs-Group e)
-unary_is (element {w = w} {e = e} ok x) le = ap is_unary_node (node.outs-Element w e)
+unary_is (element {w = w} {e = e} ok x) le = ap is_unary_node (node.outs-Element w None e)
+unary_is (row_element {w = w} {r = r} {e = e} ok x ok' y) le =
+    ap is_unary_node (node.outs-Element w (Some r) e)
 unary_is (call {w = w} {es = es} ok x) le = ap is_unary_node (node.outs-Call w es)
 unary_is (suffix {e = e} increased x) le = ap is_unary_node (node.outs-Bump bump.PostInc e)
 unary_is (suffix {e = e} decreased x) le = ap is_unary_node (node.outs-Bump bump.PostDec e)
@@ -157,6 +163,7 @@ unary_only number h = up (up number)
 unary_only name h = up (up name)
 unary_only (group ok x) h = up (up (group ok x))
 unary_only (element ok x) h = up (up (element ok x))
+unary_only (row_element ok x ok' y) h = up (up (row_element ok x ok' y))
 unary_only (call ok x) h = up (up (call ok x))
 unary_only (suffix s x) h = up (suffix s x)
 unary_only (prefix p ok x) h = prefix p ok x
@@ -180,6 +187,8 @@ spells_shorter number = omega arith
 spells_shorter name = omega arith
 spells_shorter (group ok x) = let h = spells_shorter x in omega arith
 spells_shorter (element ok x) = let h = spells_shorter x in omega arith
+spells_shorter (row_element ok x ok' y) =
+    let h = spells_shorter x in let i = spells_shorter y in omega arith
 spells_shorter (call ok x) = let h = spells_shorter x in omega arith
 spells_shorter none = omega arith
 spells_shorter (some x) = spells_shorter x

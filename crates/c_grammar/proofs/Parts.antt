@@ -14,12 +14,13 @@ use Rattle.c_grammar.specs.Tokens.{Tokens, punct, named, May}
 use Rattle.c_grammar.specs.Expressions.{expr, Spells}
 use Rattle.c_grammar.specs.Statements.{declared, Closer, semicolon, paren, closer_mark, until, test}
 use Rattle.c_grammar.specs.Statements.{shape, decls, locals, Writes, absent, given, tested, bare}
-use Rattle.c_grammar.specs.Statements.{value, array, last_decl, next_decl, declaration}
+use Rattle.c_grammar.specs.Statements.{value, array, rows, last_decl, next_decl, declaration}
 use Rattle.c_grammar.specs.Numbers.{is_mark}
 use Rattle.c_grammar.specs.Parsing.{Out, and_then, is_next, expect}
 use Rattle.c_grammar.specs.ModelTypes.{begins_type}
 use Rattle.c_grammar.specs.ModelExpressions.{Nested, expression_of, assignment_of, conditional_of}
 use Rattle.c_grammar.specs.ModelStatements.{begins_expression, absent_of, given_of, until_of}
+use Rattle.c_grammar.specs.ModelStatements.{size_of, second_of, after_size}
 use Rattle.c_grammar.specs.ModelStatements.{test_of, value_of, array_of, shape_of, decl_of}
 use Rattle.c_grammar.specs.ModelStatements.{decls_of, locals_of}
 use Rattle.c_grammar.proofs.Numbers.{mark_self}
@@ -152,9 +153,18 @@ module _ (m d : ℕ) (nested : Nested) (known : Deeper nested m d) where
   abbrev ValueIs : Rel (ArraySize × Option Expr)
   ValueIs = Then (Is mark.Assign) (λ k. Then (Level 15 d) (λ e. Done (size.Scalar, Some e)))
 
+  abbrev SizeIs : Rel Expr
+  SizeIs = Then (Is mark.LeftBracket) (λ k. Then (Level 14 d)
+      (λ e. Then (Is mark.RightBracket) (λ k'. Done e)))
+
+  abbrev SecondIs : Expr → Rel (ArraySize × Option Expr)
+  SecondIs r = Then SizeIs (λ e. Done (size.Rows (Some r) e, no_expr))
+
+  abbrev AfterSize : Expr → Rel (ArraySize × Option Expr)
+  AfterSize e = Either (SecondIs e) (Done (size.Sized e, no_expr))
+
   abbrev ArrayIs : Rel (ArraySize × Option Expr)
-  ArrayIs = Then (Is mark.LeftBracket) (λ k. Then (Level 14 d)
-      (λ e. Then (Is mark.RightBracket) (λ k'. Done (size.Sized e, no_expr))))
+  ArrayIs = Then SizeIs AfterSize
 
   abbrev BareIs : Rel (ArraySize × Option Expr)
   BareIs = Done (size.Scalar, no_expr)
@@ -170,15 +180,75 @@ module _ (m d : ℕ) (nested : Nested) (known : Deeper nested m d) where
       (λ may x y u t r h. subst (Stops 15) (sym r.1) h))
       (λ t. omega arith) (λ may x y u t r h. tt)
 
+  size_piece : Piece same_tree SizeIs any always always
+      (λ t. punct 0 mark.LeftBracket ∷ zero_token ∷ punct 0 mark.RightBracket ∷ t) m (size_of nested)
+  unfolding size_of
+  size_piece =
+      seq (λ _ ts. and_then (conditional_of nested ts)
+      (λ e ts. and_then (expect mark.RightBracket ts) (λ _ ts. expr_is e ts)))
+      (mark_piece mark.LeftBracket m)
+      (λ k. closed mark.RightBracket (omega arith) (λ e. e) (conditional_piece m d nested known))
+      (λ t. omega arith) (λ may x y u t r h. tt)
+
+  second_piece : (r : Expr) → Piece same_tree (SecondIs r) any always shape_ends
+      (λ t. punct 0 mark.LeftBracket ∷ zero_token ∷ punct 0 mark.RightBracket ∷ t) m
+      (second_of nested r)
+  unfolding second_of
+  second_piece r = seq (λ e ts. shape_here (size.Rows (Some r) e, no_expr) ts) size_piece
+      (λ e. done same_tree (size.Rows (Some r) e, no_expr) m (λ t h. tt)) (λ t. omega arith)
+      (λ may x y u t r h. tt)
+
+  after_size_piece : (e : Expr) → Piece same_tree (AfterSize e) any always shape_ends (λ t. t) m
+      (after_size nested e)
+  unfolding after_size
+  after_size_piece i =
+      either_of (is_mark mark.LeftBracket) (second_piece i)
+      (done same_tree (size.Sized i, no_expr) m (λ t h. tt))
+      (λ may x f t r. ap (is_next mark.LeftBracket) r.2.2)
+      (λ may x f t r e. not_next mark.LeftBracket 15 f (subst (Stops 15) (sym r.1) e) (omega arith))
+
   array_piece : Piece same_tree ArrayIs any always shape_ends
       (λ t. punct 0 mark.LeftBracket ∷ zero_token ∷ punct 0 mark.RightBracket ∷ t) m (array_of nested)
   unfolding array_of
-  array_piece =
-      seq (λ _ ts. and_then (conditional_of nested ts)
-      (λ e ts. and_then (expect mark.RightBracket ts)
-      (λ _ ts. shape_here (size.Sized e, no_expr) ts))) (mark_piece mark.LeftBracket m)
-      (λ k. closed mark.RightBracket (omega arith) (λ e. (size.Sized e, no_expr))
-      (conditional_piece m d nested known)) (λ t. omega arith) (λ may x y u t r h. tt)
+  array_piece = seq (λ e ts. after_size nested e ts) size_piece (λ e. after_size_piece e)
+      (λ t. omega arith) (λ may x y u t r h. tt)
+
+  -- a size in its brackets, and what spells it
+  size_to : (may : May) (e : Expr) (f u : Tokens) → SizeIs may e f u
+      → (k : ℕ) × (v : Tokens) × (k' : ℕ) × (f ≡ punct k mark.LeftBracket ∷ v)
+      × Spells may (expr 14 e) d v (punct k' mark.RightBracket ∷ u)
+  size_to may e f u r =
+      let c = r.3 in let b = c.3 in (
+        r.0,
+        r.1,
+        b.0,
+        r.2,
+        ends_with (λ e t. Spells may (expr 14 e) d r.1 (punct b.0 mark.RightBracket ∷ t))
+            (subst (λ (u : Tokens). Spells may (expr 14 c.0) d r.1 u) b.2 c.2) b.3,
+      )
+
+  size_from : (may : May) (e : Expr) (k k' : ℕ) (v u : Tokens)
+      → Spells may (expr 14 e) d v (punct k' mark.RightBracket ∷ u)
+      → SizeIs may e (punct k mark.LeftBracket ∷ v) u
+  size_from may e k k' v u x = (
+    k,
+    v,
+    refl,
+    (e, punct k' mark.RightBracket ∷ u, x, (k', u, refl, (refl, refl))),
+  )
+
+  array_to : (may : May) (s : ArraySize × Option Expr) (e : Expr) (f u t : Tokens) → SizeIs may e f u
+      → AfterSize e may s u t → ShapeIs d may s f t
+  array_to may s e f u t x (that q) =
+      let i = size_to may e f u x in
+      subst (λ (f : Tokens). ShapeIs d may s f t) (sym i.3)
+      (ends_with (λ s t. ShapeIs d may s (punct i.0 mark.LeftBracket ∷ i.1) t) (array i.4) q)
+  array_to may s e f u t x (this q) =
+      let i = size_to may e f u x in let j = size_to may q.0 u q.1 q.2 in
+      subst (λ (f : Tokens). ShapeIs d may s f t) (sym i.3)
+      (ends_with (λ s t. ShapeIs d may s (punct i.0 mark.LeftBracket ∷ i.1) t)
+      (rows (subst (λ (z : Tokens). Spells may (expr 14 e) d i.1 (punct i.2 mark.RightBracket ∷ z)) j.3 i.4)
+      j.4) q.3)
 
   shape_piece : Piece same_tree (ShapeIs d) any always shape_ends (λ t. t) m (shape_of nested)
   unfolding shape_of
@@ -186,14 +256,14 @@ module _ (m d : ℕ) (nested : Nested) (known : Deeper nested m d) where
       iff (either_of (is_mark mark.Assign) value_piece
       (either_of (is_mark mark.LeftBracket) array_piece
       (done same_tree (size.Scalar, no_expr) m (λ t h. tt))
-      (λ may x f t r. ap (is_next mark.LeftBracket) r.2)
+      (λ may x f t r. ap (is_next mark.LeftBracket) r.2.2)
       (λ may x f t r e. not_next mark.LeftBracket 15 f (subst (Stops 15) (sym r.1) e)
       (omega arith)))
       (λ may x f t r. ap (is_next mark.Assign) r.2) no_assign) to from
     where
       no_assign : (may : May) (s : ArraySize × Option Expr) (f t : Tokens)
           → Either ArrayIs BareIs may s f t → Stops 15 t → is_next mark.Assign f ≡ false
-      no_assign may s f t (this r) e = ap (is_next mark.Assign) r.2
+      no_assign may s f t (this r) e = ap (is_next mark.Assign) r.2.2
       no_assign may s f t (that r) e = not_next mark.Assign 15 f (subst (Stops 15) (sym r.1) e)
           (omega arith)
 
@@ -203,11 +273,7 @@ module _ (m d : ℕ) (nested : Nested) (known : Deeper nested m d) where
           let x = r.3 in
           subst (λ (f : Tokens). ShapeIs d may s f t) (sym r.2)
           (ends_with (λ s t. ShapeIs d may s (punct r.0 mark.Assign ∷ r.1) t) (value x.2) x.3)
-      to may s f t (that (this r)) =
-          let x = r.3 in let k = x.3 in
-          subst (λ (f : Tokens). ShapeIs d may s f t) (sym r.2)
-          (ends_with (λ s t. ShapeIs d may s (punct r.0 mark.LeftBracket ∷ r.1) t)
-          (array (subst (λ (u : Tokens). Spells may (expr 14 x.0) d r.1 u) k.2 x.2)) k.3)
+      to may s f t (that (this r)) = array_to may s r.0 f r.1 t r.2 r.3
       to may s f t (that (that r)) = ends_with (λ s t. ShapeIs d may s f t) bare r
 
       from' : (may : May) (a : ArraySize × Option Expr) (f t : Tokens) → Writes may (shape a) d f t
@@ -215,16 +281,13 @@ module _ (m d : ℕ) (nested : Nested) (known : Deeper nested m d) where
       from' may _ _ t bare = that (that (refl, refl))
       from' may _ _ t (value {k = k} {e = e} {m = u} x) = this (k, u, refl, (e, t, x, (refl, refl)))
       from' may _ _ t (array {k = k} {k' = k'} {e = e} {m = u} x) =
+          that (this (e, t, size_from may e k k' u t x, that (refl, refl)))
+      from' may _ _ t (rows {k = k} {k' = k'} {j = j} {j' = j'} {r = r} {e = e} {m = u} {m' = u'} x y) =
           that (this (
-            k,
-            u,
-            refl,
-            (
-              e,
-              punct k' mark.RightBracket ∷ t,
-              x,
-              (k', t, refl, (refl, refl)),
-            ),
+            r,
+            punct j mark.LeftBracket ∷ u',
+            size_from may r k k' u (punct j mark.LeftBracket ∷ u') x,
+            this (e, t, size_from may e j j' u' t y, (refl, refl)),
           ))
 
       from : (may : May) (s : ArraySize × Option Expr) (f t : Tokens) → ShapeIs d may s f t

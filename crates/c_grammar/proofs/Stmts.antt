@@ -1,5 +1,6 @@
 -- Statements, a production a part, where those one deeper are known.
-use Rattle.std.proofs.Common.{◌≡◌, ℕ, suc, Bool, true, false, List, [], ◌∷◌, Some, None, Ok, refl}
+use Rattle.std.proofs.Common.{◌≡◌, ℕ, suc, Bool, true, false, List, [], ◌∷◌, ◌++◌, Some, None, Ok}
+use Rattle.std.proofs.Common.{refl}
 use Rattle.std.proofs.Common.{sym, ap, ◌∙◌, subst, arith}
 use Rattle.std.proofs.lemmas.Bool.{false≢true}
 use Rattle.c_tree.specs.declared.token.Lexeme.{Lexeme}
@@ -8,6 +9,8 @@ use Rattle.c_tree.specs.declared.token.Mark.TheVariants as mark
 use Rattle.c_tree.specs.declared.token.Key.{Key}
 use Rattle.c_tree.specs.declared.token.Key.TheVariants as key
 use Rattle.c_tree.specs.declared.tree.Expr.{Expr}
+use Rattle.c_tree.specs.declared.tree.Label.{Label}
+use Rattle.c_tree.specs.declared.tree.Section.{Section}
 use Rattle.c_tree.specs.declared.tree.Stmt.{Stmt}
 use Rattle.c_tree.specs.declared.tree.StmtNode.{StmtNode}
 use Rattle.c_tree.specs.declared.tree.StmtNode.TheVariants as node
@@ -19,26 +22,35 @@ use Rattle.c_grammar.specs.Statements.{at, semicolon, paren, for_init, test, loc
 use Rattle.c_grammar.specs.Statements.{entry, init, entries, Writes, entry_stmt, entry_local, stop}
 use Rattle.c_grammar.specs.Statements.{go, compound, empty, plain, if_only, if_else, while, repeat}
 use Rattle.c_grammar.specs.Statements.{init_local, init_plain, for, break, continue, return}
+use Rattle.c_grammar.specs.Statements.{label, labels, body, section, sections, labelled, sectioned}
+use Rattle.c_grammar.specs.Statements.{a_case, a_default, last_label, next_label, last_stmt}
+use Rattle.c_grammar.specs.Statements.{next_stmt, section_is, no_section, next_section, switch}
 use Rattle.c_grammar.specs.Numbers.{is_mark, is_key}
-use Rattle.c_grammar.specs.Parsing.{Out, and_then, is_next, is_word, expect, expect_keyword}
+use Rattle.c_grammar.specs.Parsing.{Out, and_then, first, is_next, is_word, expect, expect_keyword}
 use Rattle.c_grammar.specs.ModelTypes.{is_type}
-use Rattle.c_grammar.specs.ModelExpressions.{Nested}
+use Rattle.c_grammar.specs.ModelExpressions.{Nested, conditional_of}
 use Rattle.c_grammar.specs.ModelStatements.{Below, until_of, test_of, one_of, entry_of, entries_of}
 use Rattle.c_grammar.specs.ModelStatements.{init_local_of, init_plain_of, init_of, else_of, no_of}
 use Rattle.c_grammar.specs.ModelStatements.{if_of, while_of, do_of, for_of, leave_of, return_of}
+use Rattle.c_grammar.specs.ModelStatements.{begins_label, begins_statement, case_of, default_of}
+use Rattle.c_grammar.specs.ModelStatements.{label_of, labels_of, body_of, section_of, sections_of}
+use Rattle.c_grammar.specs.ModelStatements.{switch_of}
 use Rattle.c_grammar.specs.ModelStatements.{empty_of, compound_of, plain_of, simple_of, stmt_of}
 use Rattle.c_grammar.proofs.Agree.{stay, Tied, Lands, good, bind_lands, fine}
 use Rattle.c_grammar.proofs.Pieces.{Rel, Sound, read, stuck, Complete, Then, always, any, Piece}
 use Rattle.c_grammar.proofs.Pieces.{seq, forget, done, Done, iff, turn, ends_by, ends_with}
 use Rattle.c_grammar.proofs.Pieces.{same_tree, Either, this, that, either, either_of, Is}
 use Rattle.c_grammar.proofs.Pieces.{mark_piece, IsWord, word_piece}
-use Rattle.c_grammar.proofs.Lists.{Many, over, more, many_piece}
+use Rattle.c_grammar.proofs.Lists.{Many, over, more, many_piece, More, rests, runs_on}
+use Rattle.c_grammar.proofs.Lists.{repeated_piece}
 use Rattle.c_grammar.proofs.Stops.{mark_stops}
 use Rattle.c_grammar.proofs.Levels.{zero_token, level_starts, starts_no_mark}
 use Rattle.c_grammar.proofs.Joins.{Level}
-use Rattle.c_grammar.proofs.Expressions.{Deeper}
-use Rattle.c_grammar.proofs.Inside.{expression_piece, never}
+use Rattle.c_grammar.proofs.Expressions.{Deeper, closed}
+use Rattle.c_grammar.proofs.Inside.{conditional_piece, expression_piece, never}
 use Rattle.c_grammar.proofs.Begins.{inner_begins, begins_no_type, until_no_type, locals_begin}
+use Rattle.c_grammar.proofs.Begins.{begins_no_word, labels_begin, body_begins, statement_no_label}
+use Rattle.c_grammar.proofs.Begins.{section_no_brace, sections_behind}
 use Rattle.c_grammar.proofs.Begins.{starts_no_word, entry_no_brace, entries_no_else, writes_shorter}
 use Rattle.c_grammar.proofs.Parts.{Until, closer_first, until_piece, Test, test_first, test_piece}
 use Rattle.c_grammar.proofs.Parts.{locals_first, stmt_here}
@@ -67,6 +79,39 @@ InitIs d may i f t = Writes may (init i) d f t
 
 abbrev pub EntriesAre : ℕ → Rel (List Stmt)
 EntriesAre d may ss f t = Writes may (entries ss) d f t
+
+abbrev LabelIs : ℕ → Rel Label
+LabelIs d may x f t = Writes may (label x) d f t
+
+abbrev LabelsAre : ℕ → Rel (List Label)
+LabelsAre d may xs f t = Writes may (labels xs) d f t
+
+abbrev RunIs : ℕ → Rel (List Stmt)
+RunIs d may ss f t = Writes may (body ss) d f t
+
+-- behind the labels of a section stands no other one
+abbrev no_label : List Label → Tokens → Type 0
+no_label xs t = first begins_label t ≡ false
+
+-- behind a statement of a section stands no `else`
+abbrev not_else : Stmt → Tokens → Type 0
+not_else s t = is_word key.Else t ≡ false
+
+-- behind the last statement of a section stands neither a statement nor `else`
+abbrev behind_here : Tokens → Type 0
+behind_here t = (first begins_statement t ≡ false) × (is_word key.Else t ≡ false)
+
+abbrev behind_run : List Stmt → Tokens → Type 0
+behind_run ss t = behind_here t
+
+abbrev behind_sections : List Section → Tokens → Type 0
+behind_sections xs t = behind_here t
+
+abbrev label_here : Label → Tokens → Out Label
+label_here x t = Ok (x, t)
+
+abbrev sections_here : List Section → Tokens → Out (List Section)
+sections_here xs t = Ok (xs, t)
 
 abbrev pub BodyIs : ℕ → Rel Stmt
 BodyIs d = Then (Is mark.LeftBrace) (λ l. Then (EntriesAre d)
@@ -222,6 +267,232 @@ module _ (m d : ℕ) (nested : Nested) (deeper : Deeper nested m d) (below : Bel
           → Either InitLocal InitPlain may i f t
       from may _ f t (init_local {ss = ss} ok x) = this (ss, t, (ok, x), (refl, refl))
       from may _ f t (init_plain {o = o} x) = that (o, t, x, (refl, refl))
+
+  -- ---- sections of a switch
+
+  abbrev CaseIs : Rel Label
+  CaseIs = Then (IsWord key.Case) (λ l. Then (Level 14 d)
+      (λ e. Then (Is mark.Colon) (λ k. Done (labelled l (Some e)))))
+
+  case_piece : Piece same_tree CaseIs any always always
+      (λ t. word 0 key.Case ∷ zero_token ∷ punct 0 mark.Colon ∷ t) m (case_of nested)
+  unfolding case_of
+  case_piece =
+      seq (λ l ts. and_then (conditional_of nested ts)
+      (λ e ts. and_then (expect mark.Colon ts) (λ _ ts. label_here (labelled l (Some e)) ts)))
+      (word_piece key.Case m)
+      (λ l. closed mark.Colon (omega arith) (λ e. labelled l (Some e))
+      (conditional_piece m d nested deeper)) (λ t. omega arith) (λ may x y u t r h. tt)
+
+  abbrev DefaultIs : Rel Label
+  DefaultIs = Then (IsWord key.Default) (λ l. Then (Is mark.Colon) (λ k. Done (labelled l None)))
+
+  default_piece : Piece same_tree DefaultIs any always always
+      (λ t. word 0 key.Default ∷ punct 0 mark.Colon ∷ t) m (default_of nested)
+  unfolding default_of
+  default_piece =
+      seq (λ l ts. and_then (expect mark.Colon ts) (λ _ ts. label_here (labelled l None) ts))
+      (word_piece key.Default m)
+      (λ l. seq (λ _ ts. label_here (labelled l None) ts) (mark_piece mark.Colon m)
+      (λ k. done same_tree (labelled l None) m (λ t h. tt)) (λ t. omega arith)
+      (λ may x y u t r h. tt)) (λ t. omega arith) (λ may x y u t r h. tt)
+
+  label_piece : Piece same_tree (LabelIs d) any always always
+      (λ t. word 0 key.Default ∷ punct 0 mark.Colon ∷ t) m (label_of nested)
+  unfolding label_of
+  label_piece =
+      iff (either_of (is_key key.Case) case_piece default_piece
+      (λ may x f t r. ap (is_word key.Case) r.2)
+      (λ may x f t r e. ap (is_word key.Case) r.2)) to from
+    where
+      to : (may : May) (x : Label) (f t : Tokens) → Either CaseIs DefaultIs may x f t
+          → LabelIs d may x f t
+      to may x f t (this r) =
+          let c = r.3 in let k = c.3 in
+          subst (λ (f : Tokens). LabelIs d may x f t) (sym r.2)
+          (ends_with (λ x t. LabelIs d may x (word r.0 key.Case ∷ r.1) t)
+          (a_case (subst (λ (u : Tokens). Spells may (expr 14 c.0) d r.1 u) k.2 c.2)) k.3)
+      to may x f t (that r) =
+          let k = r.3 in
+          subst (λ (f : Tokens). LabelIs d may x f t) (sym r.2)
+          (subst (λ (u : Tokens). LabelIs d may x (word r.0 key.Default ∷ u) t) (sym k.2)
+          (ends_with (λ x t. LabelIs d may x (word r.0 key.Default ∷ punct k.0 mark.Colon ∷ k.1) t)
+          a_default k.3))
+
+      from : (may : May) (x : Label) (f t : Tokens) → LabelIs d may x f t
+          → Either CaseIs DefaultIs may x f t
+      from may _ _ t (a_case {l = l} {k = k} {e = e} {m = u} x) =
+          this (l, u, refl, (e, punct k mark.Colon ∷ t, x, (k, t, refl, (refl, refl))))
+      from may _ _ t (a_default {l = l} {k = k}) =
+          that (l, punct k mark.Colon ∷ t, refl, (k, t, refl, (refl, refl)))
+
+  labels_piece : Piece same_tree (LabelsAre d) any always no_label
+      (λ t. word 0 key.Default ∷ punct 0 mark.Colon ∷ t) m (labels_of nested)
+  unfolding labels_of
+  labels_piece =
+      repeated_piece (LabelIs d) (LabelsAre d) always (λ t. word 0 key.Default ∷ punct 0 mark.Colon ∷ t) m
+      (label_of nested) label_piece begins_label to from (λ t. first begins_label t ≡ false)
+      (λ may x f t r. writes_shorter r) (λ may xs f t l. labels_begin l) (λ t h. h)
+      (λ may x xs f t l. tt) (λ x t h. tt)
+    where
+      to_more : (may : May) (x : Label) (xs : List Label) (f u t : Tokens) → LabelIs d may x f u
+          → More (LabelsAre d) x may xs u t → LabelsAre d may xs f t
+      to_more may x _ f _ t r rests = last_label r
+      to_more may x _ f _ t r (runs_on l) = next_label r l
+
+      to : (may : May) (xs : List Label) (f t : Tokens)
+          → Then (LabelIs d) (λ x. More (LabelsAre d) x) may xs f t → LabelsAre d may xs f t
+      to may xs f t r = to_more may r.0 xs f r.1 t r.2 r.3
+
+      from : (may : May) (xs : List Label) (f t : Tokens) → LabelsAre d may xs f t
+          → Then (LabelIs d) (λ x. More (LabelsAre d) x) may xs f t
+      from may _ f t (last_label {x = x} r) = (x, t, r, rests)
+      from may _ f t (next_label {x = x} {m = u} r l) = (x, u, r, runs_on l)
+
+  -- a statement inside another one, whether it ends in an open `if` or not
+  abbrev SomeIs : Rel Stmt
+  SomeIs may s f t = (b : Bool) × Writes may (inner b s) d f t
+
+  some_piece : Piece same_tree SomeIs any always not_else stmt_first m below.inner
+  some_piece =
+      record {
+        grow = known.inner_piece.grow;
+        least = λ may t fr fr'. let l = known.inner_piece.least may t fr fr' in (l.0.1, (l.0.0, l.1));
+        sound = λ ts h. by_out ts (below.inner ts) (known.inner_piece.sound ts tt);
+        complete = λ cut g g' may s f' t' r e f tied.
+            known.inner_piece.complete cut g g' may (r.0, s) f' t' r.1 (λ _. e) f tied;
+      }
+    where
+      by_out : (ts : Tokens) (out : Out Stmt) → Sound pair_tree (InnerIs d) closed_off m ts out
+          → Sound same_tree SomeIs always m ts out
+      by_out ts _ (read p t a k) = read (p.1) t
+          (record {
+            put = a.put;
+            way = a.way;
+            is = a.is;
+            again = λ may w u. (p.0, a.again may w u);
+          }) tt
+      by_out ts _ (stuck s o) =
+          stuck s (record {
+            put = o.put;
+            way = o.way;
+            is = o.is;
+            more = o.more;
+            grows = o.grows;
+            held = o.held;
+            completes = λ u. let c = o.completes u in (c.0.1, (c.0.0, c.1));
+          })
+
+  run_piece : Piece same_tree (RunIs d) any always behind_run stmt_first m (body_of nested below)
+  unfolding body_of
+  run_piece =
+      repeated_piece SomeIs (RunIs d) not_else stmt_first m
+      below.inner some_piece begins_statement to from behind_here
+      (λ may x f t r. writes_shorter r.1) (λ may xs f t l. body_begins l) (λ t h. h.0)
+      (λ may x xs f t l. begins_no_word key.Else refl f (body_begins l)) (λ x t h. h.1)
+    where
+      to_more : (may : May) (s : Stmt) (ss : List Stmt) (f u t : Tokens) → SomeIs may s f u
+          → More (RunIs d) s may ss u t → RunIs d may ss f t
+      to_more may s _ f _ t r rests = last_stmt r.1
+      to_more may s _ f _ t r (runs_on l) = next_stmt r.1 l
+
+      to : (may : May) (ss : List Stmt) (f t : Tokens)
+          → Then SomeIs (λ s. More (RunIs d) s) may ss f t → RunIs d may ss f t
+      to may ss f t r = to_more may r.0 ss f r.1 t r.2 r.3
+
+      from : (may : May) (ss : List Stmt) (f t : Tokens) → RunIs d may ss f t
+          → Then SomeIs (λ s. More (RunIs d) s) may ss f t
+      from may _ f t (last_stmt {b = b} {s = s} r) = (s, t, (b, r), rests)
+      from may _ f t (next_stmt {b = b} {s = s} {m = u} r l) = (s, u, (b, r), runs_on l)
+
+  abbrev SectionIs : Rel (List Section)
+  SectionIs may xs f t = (x : Section) × Writes may (section x) d f t × (xs ≡ x ∷ [])
+
+  abbrev SectionChain : Rel (List Section)
+  SectionChain = Then (LabelsAre d) (λ ls. Then (RunIs d) (λ ss. Done (sectioned ls ss ∷ [])))
+
+  section_piece : Piece same_tree SectionIs any always behind_sections
+      (λ t. word 0 key.Default ∷ punct 0 mark.Colon ∷ stmt_first t) m (section_of nested below)
+  unfolding section_of
+  section_piece =
+      iff (seq (λ ls ts. and_then (body_of nested below ts)
+      (λ ss ts. sections_here (sectioned ls ss ∷ []) ts)) labels_piece
+      (λ ls. seq (λ ss ts. sections_here (sectioned ls ss ∷ []) ts) run_piece
+      (λ ss. done same_tree (sectioned ls ss ∷ []) m (λ t h. tt)) (λ t. omega arith)
+      (λ may ss y u t r h. subst behind_here (sym r.1) h))
+      (λ t. omega arith) (λ may ls y u t r h. statement_no_label u (body_begins r.2))) to from
+    where
+      to : (may : May) (xs : List Section) (f t : Tokens) → SectionChain may xs f t
+          → SectionIs may xs f t
+      to may xs f t r =
+          let c = r.3 in (
+            sectioned r.0 c.0,
+            subst (λ (t : Tokens). Writes may (section (sectioned r.0 c.0)) d f t) c.3.1
+                (section_is r.2 c.2),
+            sym c.3.0,
+          )
+
+      from_one : (may : May) (x : Section) (xs : List Section) (f t : Tokens)
+          → Writes may (section x) d f t → x ∷ [] ≡ xs → SectionChain may xs f t
+      from_one may _ xs f t (section_is {ls = ls} {ss = ss} {m = u} y z) e =
+          (ls, u, y, (ss, t, z, (e, refl)))
+
+      from : (may : May) (xs : List Section) (f t : Tokens) → SectionIs may xs f t
+          → SectionChain may xs f t
+      from may xs f t r = from_one may r.0 xs f t r.1 (sym r.2)
+
+  abbrev SectionsAre : Rel (List Section)
+  SectionsAre may xs f t = Writes may (sections xs) d f t
+
+  sections_piece : Piece same_tree SectionsAre any always always
+      (λ t. punct 0 mark.RightBrace ∷ t) m (sections_of nested below)
+  unfolding sections_of
+  sections_piece =
+      many_piece SectionIs SectionsAre behind_sections
+      (λ t. word 0 key.Default ∷ punct 0 mark.Colon ∷ stmt_first t) m
+      (section_of nested below) section_piece mark.RightBrace to from
+      (λ may x f t r. writes_shorter r.1) (λ may x f t r. section_no_brace r.1)
+      (λ may x xs u t l. sections_behind l)
+    where
+      to : (may : May) (xs : List Section) (f t : Tokens)
+          → Many SectionIs SectionsAre mark.RightBrace may xs f t → Writes may (sections xs) d f t
+      to may _ _ t over = no_section
+      to may _ f t (more {xs = xs} r l) =
+          subst (λ (x : List Section). Writes may (sections (x ++ xs)) d f t) (sym r.2)
+          (next_section r.1 l)
+
+      from : (may : May) (xs : List Section) (f t : Tokens) → Writes may (sections xs) d f t
+          → Many SectionIs SectionsAre mark.RightBrace may xs f t
+      from may _ _ t no_section = over
+      from may _ f t (next_section {x = x} y z) = more (x, y, refl) z
+
+  abbrev SwitchIs : Rel (Bool × Stmt)
+  SwitchIs = Then (IsWord key.Switch) (λ l. Then (Test d)
+      (λ c. Then (Is mark.LeftBrace) (λ k. Then SectionsAre
+      (λ xs. Done (false, at l (node.Switch c xs))))))
+
+  switch_piece : Piece pair_tree SwitchIs any closed_off closed_off
+      (λ t. word 0 key.Switch ∷ test_first (punct 0 mark.LeftBrace ∷ punct 0 mark.RightBrace ∷ t)) m
+      (switch_of nested below)
+  unfolding switch_of
+  switch_piece =
+      seq (λ l ts. and_then (test_of nested ts)
+      (λ c ts. and_then (expect mark.LeftBrace ts)
+      (λ _ ts. and_then (sections_of nested below ts)
+      (λ xs ts. stmt_here (at l (node.Switch c xs)) ts))))
+      (word_piece key.Switch m)
+      (λ l. seq (λ c ts. and_then (expect mark.LeftBrace ts)
+      (λ _ ts. and_then (sections_of nested below ts)
+      (λ xs ts. stmt_here (at l (node.Switch c xs)) ts)))
+      (test_piece m d nested deeper)
+      (λ c. seq (λ _ ts. and_then (sections_of nested below ts)
+      (λ xs ts. stmt_here (at l (node.Switch c xs)) ts)) (mark_piece mark.LeftBrace m)
+      (λ k. seq (λ xs ts. stmt_here (at l (node.Switch c xs)) ts) sections_piece
+      (λ xs. done pair_tree (false, at l (node.Switch c xs)) m (λ t h e. never e))
+      (λ t. omega arith) (λ may x y u t r h. tt))
+      (λ t. omega arith) (λ may x y u t r h. tt))
+      (λ t. omega arith) (λ may x y u t r h. tt))
+      (λ t. omega arith) (λ may x y u t r h. tt)
 
   -- ---- the productions
 
@@ -532,8 +803,11 @@ module _ (m d : ℕ) (nested : Nested) (deeper : Deeper nested m d) (below : Bel
       (λ may y f t r. ap (is_word key.Return) r.2)
       (λ may y f t r e. simple1_no key.Return refl refl may y f t r)
 
+  abbrev Stmt5 : Rel (Bool × Stmt)
+  Stmt5 = Either SwitchIs SimpleIs
+
   abbrev Stmt4 : Rel (Bool × Stmt)
-  Stmt4 = Either ForIs SimpleIs
+  Stmt4 = Either ForIs Stmt5
 
   abbrev Stmt3 : Rel (Bool × Stmt)
   Stmt3 = Either DoIs Stmt4
@@ -547,23 +821,31 @@ module _ (m d : ℕ) (nested : Nested) (deeper : Deeper nested m d) (below : Bel
   abbrev StmtChain : Rel (Bool × Stmt)
   StmtChain = Either CompoundIs Stmt1
 
+  stmt5_no : (may : May) (y : Bool × Stmt) (f t : Tokens) → Stmt5 may y f t
+      → is_word key.For f ≡ false
+  stmt5_no may y f t (this r) = ap (is_word key.For) r.2
+  stmt5_no may y f t (that r) = simple_no key.For refl refl refl may y f t r
+
   stmt4_no : (may : May) (y : Bool × Stmt) (f t : Tokens) → Stmt4 may y f t
       → is_word key.Do f ≡ false
   stmt4_no may y f t (this r) = ap (is_word key.Do) r.2
-  stmt4_no may y f t (that r) = simple_no key.Do refl refl refl may y f t r
+  stmt4_no may y f t (that (this r)) = ap (is_word key.Do) r.2
+  stmt4_no may y f t (that (that r)) = simple_no key.Do refl refl refl may y f t r
 
   stmt3_no : (may : May) (y : Bool × Stmt) (f t : Tokens) → Stmt3 may y f t
       → is_word key.While f ≡ false
   stmt3_no may y f t (this r) = ap (is_word key.While) r.2
   stmt3_no may y f t (that (this r)) = ap (is_word key.While) r.2
-  stmt3_no may y f t (that (that r)) = simple_no key.While refl refl refl may y f t r
+  stmt3_no may y f t (that (that (this r))) = ap (is_word key.While) r.2
+  stmt3_no may y f t (that (that (that r))) = simple_no key.While refl refl refl may y f t r
 
   stmt2_no : (may : May) (y : Bool × Stmt) (f t : Tokens) → Stmt2 may y f t
       → is_word key.If f ≡ false
   stmt2_no may y f t (this r) = ap (is_word key.If) r.2
   stmt2_no may y f t (that (this r)) = ap (is_word key.If) r.2
   stmt2_no may y f t (that (that (this r))) = ap (is_word key.If) r.2
-  stmt2_no may y f t (that (that (that r))) = simple_no key.If refl refl refl may y f t r
+  stmt2_no may y f t (that (that (that (this r)))) = ap (is_word key.If) r.2
+  stmt2_no may y f t (that (that (that (that r)))) = simple_no key.If refl refl refl may y f t r
 
   stmt1_no : (may : May) (y : Bool × Stmt) (f t : Tokens) → Stmt1 may y f t
       → is_next mark.LeftBrace f ≡ false
@@ -571,7 +853,8 @@ module _ (m d : ℕ) (nested : Nested) (deeper : Deeper nested m d) (below : Bel
   stmt1_no may y f t (that (this r)) = ap (is_next mark.LeftBrace) r.2
   stmt1_no may y f t (that (that (this r))) = ap (is_next mark.LeftBrace) r.2
   stmt1_no may y f t (that (that (that (this r)))) = ap (is_next mark.LeftBrace) r.2
-  stmt1_no may y f t (that (that (that (that r)))) = simple_no_brace may y f t r
+  stmt1_no may y f t (that (that (that (that (this r))))) = ap (is_next mark.LeftBrace) r.2
+  stmt1_no may y f t (that (that (that (that (that r))))) = simple_no_brace may y f t r
 
   chain_piece : Piece pair_tree StmtChain any closed_off closed_off stmt_first m
       (stmt_of nested below)
@@ -581,8 +864,11 @@ module _ (m d : ℕ) (nested : Nested) (deeper : Deeper nested m d) (below : Bel
       (either_of (is_key key.If) if_piece
       (either_of (is_key key.While) while_piece
       (either_of (is_key key.Do) do_piece
-      (either_of (is_key key.For) for_piece simple_piece (λ may y f t r. ap (is_word key.For) r.2)
-      (λ may y f t r e. simple_no key.For refl refl refl may y f t r))
+      (either_of (is_key key.For) for_piece
+      (either_of (is_key key.Switch) switch_piece simple_piece
+      (λ may y f t r. ap (is_word key.Switch) r.2)
+      (λ may y f t r e. simple_no key.Switch refl refl refl may y f t r))
+      (λ may y f t r. ap (is_word key.For) r.2) (λ may y f t r e. stmt5_no may y f t r))
       (λ may y f t r. ap (is_word key.Do) r.2) (λ may y f t r e. stmt4_no may y f t r))
       (λ may y f t r. ap (is_word key.While) r.2) (λ may y f t r e. stmt3_no may y f t r))
       (λ may y f t r. ap (is_word key.If) r.2) (λ may y f t r e. stmt2_no may y f t r))
@@ -624,26 +910,31 @@ module _ (m d : ℕ) (nested : Nested) (deeper : Deeper nested m d) (below : Bel
       (ends_with (λ y t. StmtIs d may y (word r.0 key.For ∷ punct k.0 mark.LeftParen ∷ k.1) t)
       (for i.2 o.2 o'.2 p.2) p.3))
   stmt_to may y f t (that (that (that (that (that (this r)))))) =
+      let c = r.3 in let k = c.3 in let xs = k.3 in
+      from_front may y f r.1 t r.2
+      (ends_with (λ y t. StmtIs d may y (word r.0 key.Switch ∷ r.1) t)
+      (switch (subst (λ (u : Tokens). Writes may (test c.0) d r.1 u) k.2 c.2) xs.2) xs.3)
+  stmt_to may y f t (that (that (that (that (that (that (this r))))))) =
       from_front may y f r.1 t r.2 (ends_with (λ y t. StmtIs d may y (word r.0 key.Return ∷ r.1) t)
       (return r.3.2) r.3.3)
-  stmt_to may y f t (that (that (that (that (that (that (this r))))))) =
+  stmt_to may y f t (that (that (that (that (that (that (that (this r)))))))) =
       let k = r.3 in from_front may y f r.1 t r.2 (subst (λ (u : Tokens). StmtIs d may y (word r.0 key.Break ∷ u) t)
       (sym k.2) (ends_with (λ y t. StmtIs d may y (word r.0 key.Break ∷ punct k.0 mark.Semicolon ∷ k.1) t) break
       k.3))
-  stmt_to may y f t (that (that (that (that (that (that (that (this r)))))))) =
+  stmt_to may y f t (that (that (that (that (that (that (that (that (this r))))))))) =
       let k = r.3 in from_front may y f r.1 t r.2
       (subst (λ (u : Tokens). StmtIs d may y (word r.0 key.Continue ∷ u) t) (sym k.2)
       (ends_with (λ y t. StmtIs d may y (word r.0 key.Continue ∷ punct k.0 mark.Semicolon ∷ k.1) t) continue k.3))
-  stmt_to may y f t (that (that (that (that (that (that (that (that (this r))))))))) =
+  stmt_to may y f t (that (that (that (that (that (that (that (that (that (this r)))))))))) =
       from_front may y f r.1 t r.2 (ends_with
       (λ y t. StmtIs d may y (punct r.0 mark.Semicolon ∷ r.1) t) empty r.3)
-  stmt_to may y f t (that (that (that (that (that (that (that (that (that r))))))))) =
+  stmt_to may y f t (that (that (that (that (that (that (that (that (that (that r)))))))))) =
       let k = r.3 in ends_with (λ y t. StmtIs d may y f t)
       (plain (subst (λ (u : Tokens). Spells may (expr 16 r.0) d f u) k.2 r.2)) k.3
 
   is_simple : {may : May} {y : Bool × Stmt} {f t : Tokens} → SimpleIs may y f t
       → StmtChain may y f t
-  is_simple r = that (that (that (that (that r))))
+  is_simple r = that (that (that (that (that (that r)))))
 
   stmt_from : (may : May) (b : Bool) (s : Stmt) (f t : Tokens) → Writes may (stmt b s) d f t
       → StmtChain may (b, s) f t
@@ -692,6 +983,13 @@ module _ (m d : ℕ) (nested : Nested) (deeper : Deeper nested m d) (below : Bel
         refl,
         (k, u, refl, (i, u1, xi, (o, u2, xo, (o', u3, xo', ((b, s), t, z, (refl, refl)))))),
       )))))
+  stmt_from may _ _ _ t (switch {l = l} {k = k} {c = c} {xs = xs} {m = u} {m' = v} x z) =
+      that (that (that (that (that (this (
+        l,
+        u,
+        refl,
+        (c, punct k mark.LeftBrace ∷ v, x, (k, v, refl, (xs, t, z, (refl, refl)))),
+      ))))))
   stmt_from may _ _ _ t (return {l = l} {o = o} {m = u} x) =
       is_simple (this (l, u, refl, (o, t, x, (refl, refl))))
   stmt_from may _ _ _ t (break {l = l} {k = k}) =

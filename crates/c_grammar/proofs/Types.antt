@@ -8,12 +8,14 @@ use Rattle.c_tree.specs.declared.token.Kind.{Kind}
 use Rattle.c_tree.specs.declared.token.Kind.TheVariants as kind
 use Rattle.c_grammar.specs.Tokens.{Tokens, word, May}
 use Rattle.c_grammar.specs.Types.{Types, char, signed_char, unsigned_char, int, signed, signed_int}
+use Rattle.c_grammar.specs.Types.{short, short_int, signed_short, signed_short_int, unsigned_short}
+use Rattle.c_grammar.specs.Types.{unsigned_short_int}
 use Rattle.c_grammar.specs.Types.{unsigned, unsigned_int, long, long_int, signed_long}
 use Rattle.c_grammar.specs.Types.{signed_long_int, unsigned_long, unsigned_long_int}
 use Rattle.c_grammar.specs.Numbers.{is_key}
 use Rattle.c_grammar.specs.Parsing.{Out, and_then, is_word, expect_keyword}
-use Rattle.c_grammar.specs.ModelTypes.{begins_type, int_of, char_of, long_of, sized_of, signed_of}
-use Rattle.c_grammar.specs.ModelTypes.{unsigned_of, plain_of, longs_of, type_of}
+use Rattle.c_grammar.specs.ModelTypes.{begins_type, int_of, char_of, and_int_of, sized_of}
+use Rattle.c_grammar.specs.ModelTypes.{signed_of, unsigned_of, plain_of, begun_of, type_of}
 use Rattle.c_grammar.proofs.Numbers.{key_self}
 use Rattle.c_grammar.proofs.Pieces.{Rel, Then, always, any, same_tree, Piece, seq, done, Done, iff}
 use Rattle.c_grammar.proofs.Pieces.{either_of, Either, this, that, IsWord, word_piece, ends_with}
@@ -38,10 +40,16 @@ not_int [] e = refl
 not_int (t ∷ ts) e = (or_false (is_key key.Int t.form) _
     (or_false (is_key key.Char t.form) _ e).1).0
 
+not_short : (ts : Tokens) → begins_type ts ≡ false → is_word key.Short ts ≡ false
+not_short [] e = refl
+not_short (t ∷ ts) e = (or_false (is_key key.Short t.form) _
+    (or_false (is_key key.Int t.form) _ (or_false (is_key key.Char t.form) _ e).1).1).0
+
 not_long : (ts : Tokens) → begins_type ts ≡ false → is_word key.Long ts ≡ false
 not_long [] e = refl
 not_long (t ∷ ts) e = (or_false (is_key key.Long t.form) _
-    (or_false (is_key key.Int t.form) _ (or_false (is_key key.Char t.form) _ e).1).1).0
+    (or_false (is_key key.Short t.form) _
+    (or_false (is_key key.Int t.form) _ (or_false (is_key key.Char t.form) _ e).1).1).1).0
 
 word_begins : (k : Key) (l : ℕ) (f u : Tokens) → f ≡ word l k ∷ u → is_word k f ≡ true
 word_begins k l f u e = ap (is_word k) e ∙ key_self k
@@ -50,11 +58,13 @@ data IntIs (l : ℕ) (k : Kind) (may : May) : ℕ × Kind → Tokens → Tokens 
   left_out : {t : Tokens} → IntIs l k may (l, k) t t
   given : {j : ℕ} {t : Tokens} → IntIs l k may (l, k) (word j key.Int ∷ t) t
 
-data SizedIs (l : ℕ) (c i g : Kind) (may : May) : ℕ × Kind → Tokens → Tokens → Type 0 where
-  chars : {j : ℕ} {t : Tokens} → SizedIs l c i g may (l, c) (word j key.Char ∷ t) t
+data SizedIs (l : ℕ) (c s i g : Kind) (may : May) : ℕ × Kind → Tokens → Tokens → Type 0 where
+  chars : {j : ℕ} {t : Tokens} → SizedIs l c s i g may (l, c) (word j key.Char ∷ t) t
+  shorts : {j : ℕ} {x : ℕ × Kind} {u t : Tokens} → IntIs l s may x u t
+      → SizedIs l c s i g may x (word j key.Short ∷ u) t
   longs : {j : ℕ} {x : ℕ × Kind} {u t : Tokens} → IntIs l g may x u t
-      → SizedIs l c i g may x (word j key.Long ∷ u) t
-  ints : {x : ℕ × Kind} {f t : Tokens} → IntIs l i may x f t → SizedIs l c i g may x f t
+      → SizedIs l c s i g may x (word j key.Long ∷ u) t
+  ints : {x : ℕ × Kind} {f t : Tokens} → IntIs l i may x f t → SizedIs l c s i g may x f t
 
 abbrev named_here : ℕ × Kind → Tokens → Out (ℕ × Kind)
 named_here x ts = Ok (x, ts)
@@ -67,6 +77,9 @@ word_then : (m : ℕ) (w : Key) (v : ℕ → ℕ × Kind)
     (λ ts. and_then (expect_keyword w ts) (λ l ts. named_here (v l) ts))
 word_then m w v = seq (λ l ts. named_here (v l) ts) (word_piece w m)
     (λ l. done same_tree (v l) m (λ t h. tt)) (λ t. omega arith) (λ may x y u t r h. tt)
+
+abbrev FromWord : Key → Kind → Rel (ℕ × Kind)
+FromWord w k = Then (IsWord w) (λ l. IntIs l k)
 
 module _ (m : ℕ) where
   int_piece : (l : ℕ) (k : Kind) → Piece same_tree (IntIs l k) any always type_ends (λ t. t) m
@@ -90,13 +103,13 @@ module _ (m : ℕ) where
       from may _ _ t left_out = that (refl, refl)
       from may _ _ t (given {j = j}) = this (j, t, refl, (refl, refl))
 
-  abbrev LongIs : ℕ → Kind → Rel (ℕ × Kind)
-  LongIs l g = Then (IsWord key.Long) (λ j. IntIs l g)
+  abbrev WordInt : Key → ℕ → Kind → Rel (ℕ × Kind)
+  WordInt w l k = Then (IsWord w) (λ j. IntIs l k)
 
-  long_piece : (l : ℕ) (g : Kind) → Piece same_tree (LongIs l g) any always type_ends
-      (λ t. word 0 key.Long ∷ t) m (long_of l g)
-  unfolding long_of
-  long_piece l g = seq (λ _ ts. int_of l g ts) (word_piece key.Long m) (λ j. int_piece l g)
+  and_int_piece : (w : Key) (l : ℕ) (k : Kind) → Piece same_tree (WordInt w l k) any always type_ends
+      (λ t. word 0 w ∷ t) m (and_int_of w l k)
+  unfolding and_int_of
+  and_int_piece w l k = seq (λ _ ts. int_of l k ts) (word_piece w m) (λ j. int_piece l k)
       (λ t. omega arith) (λ may x y u t r h. tt)
 
   char_piece : (l : ℕ) (c : Kind) → Piece same_tree
@@ -110,70 +123,87 @@ module _ (m : ℕ) where
   int_no_char may l k _ _ t left_out e = not_char t e
   int_no_char may l k _ _ t given e = refl
 
+  int_no_short : (may : May) (l : ℕ) (k : Kind) (x : ℕ × Kind) (f t : Tokens) → IntIs l k may x f t
+      → begins_type t ≡ false → is_word key.Short f ≡ false
+  int_no_short may l k _ _ t left_out e = not_short t e
+  int_no_short may l k _ _ t given e = refl
+
   int_no_long : (may : May) (l : ℕ) (k : Kind) (x : ℕ × Kind) (f t : Tokens) → IntIs l k may x f t
       → begins_type t ≡ false → is_word key.Long f ≡ false
   int_no_long may l k _ _ t left_out e = not_long t e
   int_no_long may l k _ _ t given e = refl
 
-  abbrev SizedChain : ℕ → Kind → Kind → Kind → Rel (ℕ × Kind)
-  SizedChain l c i g = Either (WordThen key.Char (λ _. (l, c))) (Either (LongIs l g) (IntIs l i))
+  abbrev SizedChain : ℕ → Kind → Kind → Kind → Kind → Rel (ℕ × Kind)
+  SizedChain l c s i g = Either (WordThen key.Char (λ _. (l, c)))
+      (Either (WordInt key.Short l s) (Either (WordInt key.Long l g) (IntIs l i)))
 
-  sized_piece : (l : ℕ) (c i g : Kind) → Piece same_tree (SizedIs l c i g) any always type_ends
-      (λ t. t) m (sized_of l c i g)
+  sized_piece : (l : ℕ) (c s i g : Kind) → Piece same_tree (SizedIs l c s i g) any always type_ends
+      (λ t. t) m (sized_of l c s i g)
   unfolding sized_of
-  sized_piece l c i g =
+  sized_piece l c s i g =
       iff (either_of (is_key key.Char) (char_piece l c)
-      (either_of (is_key key.Long) (long_piece l g) (int_piece l i)
+      (either_of (is_key key.Short) (and_int_piece key.Short l s)
+      (either_of (is_key key.Long) (and_int_piece key.Long l g) (int_piece l i)
       (λ may x f t r. word_begins key.Long r.0 f r.1 r.2)
       (λ may x f t r e. int_no_long may l i x f t r e))
+      (λ may x f t r. word_begins key.Short r.0 f r.1 r.2) no_short)
       (λ may x f t r. word_begins key.Char r.0 f r.1 r.2) no_char)
       to from
     where
+      no_short : (may : May) (x : ℕ × Kind) (f t : Tokens)
+          → Either (WordInt key.Long l g) (IntIs l i) may x f t → type_ends x t
+          → is_word key.Short f ≡ false
+      no_short may x f t (this r) e = ap (is_word key.Short) r.2
+      no_short may x f t (that r) e = int_no_short may l i x f t r e
+
       no_char : (may : May) (x : ℕ × Kind) (f t : Tokens)
-          → Either (LongIs l g) (IntIs l i) may x f t → type_ends x t → is_word key.Char f ≡ false
+          → Either (WordInt key.Short l s) (Either (WordInt key.Long l g) (IntIs l i)) may x f t
+          → type_ends x t → is_word key.Char f ≡ false
       no_char may x f t (this r) e = ap (is_word key.Char) r.2
-      no_char may x f t (that r) e = int_no_char may l i x f t r e
+      no_char may x f t (that (this r)) e = ap (is_word key.Char) r.2
+      no_char may x f t (that (that r)) e = int_no_char may l i x f t r e
 
-      to : (may : May) (x : ℕ × Kind) (f t : Tokens) → SizedChain l c i g may x f t
-          → SizedIs l c i g may x f t
-      to may x f t (this r) = subst (λ (u : Tokens). SizedIs l c i g may x u t) (sym r.2)
-          (ends_with (λ x t. SizedIs l c i g may x (word r.0 key.Char ∷ r.1) t) chars r.3)
-      to may x f t (that (this r)) = subst (λ (u : Tokens). SizedIs l c i g may x u t) (sym r.2)
-          (longs r.3)
-      to may x f t (that (that r)) = ints r
+      to : (may : May) (x : ℕ × Kind) (f t : Tokens) → SizedChain l c s i g may x f t
+          → SizedIs l c s i g may x f t
+      to may x f t (this r) = subst (λ (u : Tokens). SizedIs l c s i g may x u t) (sym r.2)
+          (ends_with (λ x t. SizedIs l c s i g may x (word r.0 key.Char ∷ r.1) t) chars r.3)
+      to may x f t (that (this r)) = subst (λ (u : Tokens). SizedIs l c s i g may x u t) (sym r.2)
+          (shorts r.3)
+      to may x f t (that (that (this r))) = subst (λ (u : Tokens). SizedIs l c s i g may x u t)
+          (sym r.2) (longs r.3)
+      to may x f t (that (that (that r))) = ints r
 
-      from : (may : May) (x : ℕ × Kind) (f t : Tokens) → SizedIs l c i g may x f t
-          → SizedChain l c i g may x f t
+      from : (may : May) (x : ℕ × Kind) (f t : Tokens) → SizedIs l c s i g may x f t
+          → SizedChain l c s i g may x f t
       from may _ _ t (chars {j = j}) = this (j, t, refl, (refl, refl))
-      from may _ _ t (longs {j = j} {u = u} r) = that (this (j, u, refl, r))
-      from may _ _ t (ints r) = that (that r)
+      from may _ _ t (shorts {j = j} {u = u} r) = that (this (j, u, refl, r))
+      from may _ _ t (longs {j = j} {u = u} r) = that (that (this (j, u, refl, r)))
+      from may _ _ t (ints r) = that (that (that r))
 
   abbrev SignedIs : Rel (ℕ × Kind)
-  SignedIs = Then (IsWord key.Signed) (λ l. SizedIs l kind.Char kind.Int kind.Long)
+  SignedIs = Then (IsWord key.Signed) (λ l. SizedIs l kind.Char kind.Short kind.Int kind.Long)
 
   abbrev UnsignedIs : Rel (ℕ × Kind)
-  UnsignedIs = Then (IsWord key.Unsigned) (λ l. SizedIs l kind.UChar kind.UInt kind.ULong)
-
-  abbrev LongsAre : Rel (ℕ × Kind)
-  LongsAre = Then (IsWord key.Long) (λ l. IntIs l kind.Long)
+  UnsignedIs = Then (IsWord key.Unsigned) (λ l. SizedIs l kind.UChar kind.UShort kind.UInt kind.ULong)
 
   signed_piece : Piece same_tree SignedIs any always type_ends
       (λ t. word 0 key.Signed ∷ t) m signed_of
   unfolding signed_of
-  signed_piece = seq (λ l ts. sized_of l kind.Char kind.Int kind.Long ts) (word_piece key.Signed m)
-      (λ l. sized_piece l kind.Char kind.Int kind.Long) (λ t. omega arith) (λ may x y u t r h. tt)
+  signed_piece = seq (λ l ts. sized_of l kind.Char kind.Short kind.Int kind.Long ts) (word_piece key.Signed m)
+      (λ l. sized_piece l kind.Char kind.Short kind.Int kind.Long) (λ t. omega arith) (λ may x y u t r h. tt)
 
   unsigned_piece : Piece same_tree UnsignedIs any always type_ends
       (λ t. word 0 key.Unsigned ∷ t) m unsigned_of
   unfolding unsigned_of
-  unsigned_piece = seq (λ l ts. sized_of l kind.UChar kind.UInt kind.ULong ts)
-      (word_piece key.Unsigned m) (λ l. sized_piece l kind.UChar kind.UInt kind.ULong)
+  unsigned_piece = seq (λ l ts. sized_of l kind.UChar kind.UShort kind.UInt kind.ULong ts)
+      (word_piece key.Unsigned m) (λ l. sized_piece l kind.UChar kind.UShort kind.UInt kind.ULong)
       (λ t. omega arith) (λ may x y u t r h. tt)
 
-  longs_piece : Piece same_tree LongsAre any always type_ends (λ t. word 0 key.Long ∷ t) m longs_of
-  unfolding longs_of
-  longs_piece = seq (λ l ts. int_of l kind.Long ts) (word_piece key.Long m)
-      (λ l. int_piece l kind.Long) (λ t. omega arith) (λ may x y u t r h. tt)
+  begun_piece : (w : Key) (k : Kind) → Piece same_tree (FromWord w k) any always type_ends
+      (λ t. word 0 w ∷ t) m (begun_of w k)
+  unfolding begun_of
+  begun_piece w k = seq (λ l ts. int_of l k ts) (word_piece w m)
+      (λ l. int_piece l k) (λ t. omega arith) (λ may x y u t r h. tt)
 
   plain_piece : (w : Key) (k : Kind) → Piece same_tree
       (WordThen w (λ l. (l, k))) any always type_ends (λ t. word 0 w ∷ t) m (plain_of w k)
@@ -187,18 +217,26 @@ abbrev pub type_first : Tokens → Tokens
 type_first t = word 0 key.Unsigned ∷ t
 
 abbrev FromUnsigned : Rel (ℕ × Kind)
-FromUnsigned = Then (IsWord key.Unsigned) (λ l. SizedIs l kind.UChar kind.UInt kind.ULong)
+FromUnsigned = Then (IsWord key.Unsigned) (λ l. SizedIs l kind.UChar kind.UShort kind.UInt kind.ULong)
 
 abbrev FromSigned : Rel (ℕ × Kind)
-FromSigned = Then (IsWord key.Signed) (λ l. SizedIs l kind.Char kind.Int kind.Long)
+FromSigned = Then (IsWord key.Signed) (λ l. SizedIs l kind.Char kind.Short kind.Int kind.Long)
+
+abbrev FromShort : Rel (ℕ × Kind)
+FromShort = FromWord key.Short kind.Short
 
 abbrev FromLong : Rel (ℕ × Kind)
-FromLong = Then (IsWord key.Long) (λ l. IntIs l kind.Long)
+FromLong = FromWord key.Long kind.Long
 
 abbrev TypeChain : Rel (ℕ × Kind)
 TypeChain = Either (WordThen key.Char (λ l. (l, kind.Char)))
     (Either (WordThen key.Int (λ l. (l, kind.Int)))
-    (Either FromLong (Either FromSigned FromUnsigned)))
+    (Either FromShort (Either FromLong (Either FromSigned FromUnsigned))))
+
+short_to : (may : May) (l : ℕ) (x : ℕ × Kind) (u t : Tokens) → IntIs l kind.Short may x u t
+    → TypeIs may x (word l key.Short ∷ u) t
+short_to may l _ _ t left_out = short
+short_to may l _ _ t given = short_int
 
 long_to : (may : May) (l : ℕ) (x : ℕ × Kind) (u t : Tokens) → IntIs l kind.Long may x u t
     → TypeIs may x (word l key.Long ∷ u) t
@@ -206,16 +244,20 @@ long_to may l _ _ t left_out = long
 long_to may l _ _ t given = long_int
 
 signed_to : (may : May) (l : ℕ) (x : ℕ × Kind) (u t : Tokens)
-    → SizedIs l kind.Char kind.Int kind.Long may x u t → TypeIs may x (word l key.Signed ∷ u) t
+    → SizedIs l kind.Char kind.Short kind.Int kind.Long may x u t → TypeIs may x (word l key.Signed ∷ u) t
 signed_to may l _ _ t chars = signed_char
+signed_to may l _ _ t (shorts left_out) = signed_short
+signed_to may l _ _ t (shorts given) = signed_short_int
 signed_to may l _ _ t (longs left_out) = signed_long
 signed_to may l _ _ t (longs given) = signed_long_int
 signed_to may l _ _ t (ints left_out) = signed
 signed_to may l _ _ t (ints given) = signed_int
 
 unsigned_to : (may : May) (l : ℕ) (x : ℕ × Kind) (u t : Tokens)
-    → SizedIs l kind.UChar kind.UInt kind.ULong may x u t → TypeIs may x (word l key.Unsigned ∷ u) t
+    → SizedIs l kind.UChar kind.UShort kind.UInt kind.ULong may x u t → TypeIs may x (word l key.Unsigned ∷ u) t
 unsigned_to may l _ _ t chars = unsigned_char
+unsigned_to may l _ _ t (shorts left_out) = unsigned_short
+unsigned_to may l _ _ t (shorts given) = unsigned_short_int
 unsigned_to may l _ _ t (longs left_out) = unsigned_long
 unsigned_to may l _ _ t (longs given) = unsigned_long_int
 unsigned_to may l _ _ t (ints left_out) = unsigned
@@ -227,27 +269,43 @@ type_to may x f t (this r) = subst (λ (u : Tokens). TypeIs may x u t) (sym r.2)
 type_to may x f t (that (this r)) = subst (λ (u : Tokens). TypeIs may x u t) (sym r.2)
     (ends_with (λ x t. TypeIs may x (word r.0 key.Int ∷ r.1) t) int r.3)
 type_to may x f t (that (that (this r))) =
-    subst (λ (u : Tokens). TypeIs may x u t) (sym r.2) (long_to may r.0 x r.1 t r.3)
+    subst (λ (u : Tokens). TypeIs may x u t) (sym r.2) (short_to may r.0 x r.1 t r.3)
 type_to may x f t (that (that (that (this r)))) =
+    subst (λ (u : Tokens). TypeIs may x u t) (sym r.2) (long_to may r.0 x r.1 t r.3)
+type_to may x f t (that (that (that (that (this r))))) =
     subst (λ (u : Tokens). TypeIs may x u t) (sym r.2) (signed_to may r.0 x r.1 t r.3)
-type_to may x f t (that (that (that (that r)))) =
+type_to may x f t (that (that (that (that (that r))))) =
     subst (λ (u : Tokens). TypeIs may x u t) (sym r.2) (unsigned_to may r.0 x r.1 t r.3)
+
+abbrev is_short : {may : May} {x : ℕ × Kind} {f t : Tokens} → FromShort may x f t
+    → TypeChain may x f t
+is_short r = that (that (this r))
 
 abbrev is_long : {may : May} {x : ℕ × Kind} {f t : Tokens} → FromLong may x f t
     → TypeChain may x f t
-is_long r = that (that (this r))
+is_long r = that (that (that (this r)))
 
 abbrev is_signed : {may : May} {x : ℕ × Kind} {f t : Tokens} → FromSigned may x f t
     → TypeChain may x f t
-is_signed r = that (that (that (this r)))
+is_signed r = that (that (that (that (this r))))
 
 abbrev is_unsigned : {may : May} {x : ℕ × Kind} {f t : Tokens} → FromUnsigned may x f t
     → TypeChain may x f t
-is_unsigned r = that (that (that (that r)))
+is_unsigned r = that (that (that (that (that r))))
 
 type_from : (may : May) (l : ℕ) (k : Kind) (f t : Tokens) → Types l k f t → TypeChain may (l, k) f t
 type_from may l _ _ t char = this (l, t, refl, (refl, refl))
 type_from may l _ _ t int = that (this (l, t, refl, (refl, refl)))
+type_from may l _ _ t short = is_short (l, t, refl, left_out)
+type_from may l _ _ t (short_int {k = k}) = is_short (l, word k key.Int ∷ t, refl, given)
+type_from may l _ _ t (signed_short {k = k}) =
+    is_signed (l, word k key.Short ∷ t, refl, shorts left_out)
+type_from may l _ _ t (signed_short_int {k = k} {j = j}) =
+    is_signed (l, word k key.Short ∷ word j key.Int ∷ t, refl, shorts given)
+type_from may l _ _ t (unsigned_short {k = k}) =
+    is_unsigned (l, word k key.Short ∷ t, refl, shorts left_out)
+type_from may l _ _ t (unsigned_short_int {k = k} {j = j}) =
+    is_unsigned (l, word k key.Short ∷ word j key.Int ∷ t, refl, shorts given)
 type_from may l _ _ t long = is_long (l, t, refl, left_out)
 type_from may l _ _ t (long_int {k = k}) = is_long (l, word k key.Int ∷ t, refl, given)
 type_from may l _ _ t (signed_char {k = k}) = is_signed (l, word k key.Char ∷ t, refl, chars)
@@ -270,11 +328,13 @@ unfolding type_of
 type_piece m =
     iff (either_of (is_key key.Char) (plain_piece m key.Char kind.Char)
     (either_of (is_key key.Int) (plain_piece m key.Int kind.Int)
-    (either_of (is_key key.Long) (longs_piece m)
+    (either_of (is_key key.Short) (begun_piece m key.Short kind.Short)
+    (either_of (is_key key.Long) (begun_piece m key.Long kind.Long)
     (either_of (is_key key.Signed) (signed_piece m) (unsigned_piece m)
     (λ may x f t r. word_begins key.Signed r.0 f r.1 r.2)
     (λ may x f t r e. ap (is_word key.Signed) r.2))
     (λ may x f t r. word_begins key.Long r.0 f r.1 r.2) no_long)
+    (λ may x f t r. word_begins key.Short r.0 f r.1 r.2) no_short)
     (λ may x f t r. word_begins key.Int r.0 f r.1 r.2) no_int)
     (λ may x f t r. word_begins key.Char r.0 f r.1 r.2) no_char)
     type_to (λ may x f t r. type_from may x.0 x.1 f t r)
@@ -284,21 +344,30 @@ type_piece m =
     no_long may x f t (this r) e = ap (is_word key.Long) r.2
     no_long may x f t (that r) e = ap (is_word key.Long) r.2
 
-    no_int : (may : May) (x : ℕ × Kind) (f t : Tokens)
+    no_short : (may : May) (x : ℕ × Kind) (f t : Tokens)
         → Either FromLong (Either FromSigned FromUnsigned) may x f t → type_ends x t
-        → is_word key.Int f ≡ false
+        → is_word key.Short f ≡ false
+    no_short may x f t (this r) e = ap (is_word key.Short) r.2
+    no_short may x f t (that (this r)) e = ap (is_word key.Short) r.2
+    no_short may x f t (that (that r)) e = ap (is_word key.Short) r.2
+
+    no_int : (may : May) (x : ℕ × Kind) (f t : Tokens)
+        → Either FromShort (Either FromLong (Either FromSigned FromUnsigned)) may x f t
+        → type_ends x t → is_word key.Int f ≡ false
     no_int may x f t (this r) e = ap (is_word key.Int) r.2
     no_int may x f t (that (this r)) e = ap (is_word key.Int) r.2
-    no_int may x f t (that (that r)) e = ap (is_word key.Int) r.2
+    no_int may x f t (that (that (this r))) e = ap (is_word key.Int) r.2
+    no_int may x f t (that (that (that r))) e = ap (is_word key.Int) r.2
 
     no_char : (may : May) (x : ℕ × Kind) (f t : Tokens)
         → Either (WordThen key.Int (λ l. (l, kind.Int)))
-        (Either FromLong (Either FromSigned FromUnsigned)) may x f t → type_ends x t
-        → is_word key.Char f ≡ false
+        (Either FromShort (Either FromLong (Either FromSigned FromUnsigned))) may x f t
+        → type_ends x t → is_word key.Char f ≡ false
     no_char may x f t (this r) e = ap (is_word key.Char) r.2
     no_char may x f t (that (this r)) e = ap (is_word key.Char) r.2
     no_char may x f t (that (that (this r))) e = ap (is_word key.Char) r.2
-    no_char may x f t (that (that (that r))) e = ap (is_word key.Char) r.2
+    no_char may x f t (that (that (that (this r)))) e = ap (is_word key.Char) r.2
+    no_char may x f t (that (that (that (that r)))) e = ap (is_word key.Char) r.2
 
 -- a type takes a token at least, and begins with a word of one
 pub types_shorter : {l : ℕ} {k : Kind} {f t : Tokens} → Types l k f t → length t < length f
@@ -310,6 +379,12 @@ types_shorter signed = omega arith
 types_shorter signed_int = omega arith
 types_shorter unsigned = omega arith
 types_shorter unsigned_int = omega arith
+types_shorter short = omega arith
+types_shorter short_int = omega arith
+types_shorter signed_short = omega arith
+types_shorter signed_short_int = omega arith
+types_shorter unsigned_short = omega arith
+types_shorter unsigned_short_int = omega arith
 types_shorter long = omega arith
 types_shorter long_int = omega arith
 types_shorter signed_long = omega arith
@@ -326,6 +401,12 @@ types_begin signed = refl
 types_begin signed_int = refl
 types_begin unsigned = refl
 types_begin unsigned_int = refl
+types_begin short = refl
+types_begin short_int = refl
+types_begin signed_short = refl
+types_begin signed_short_int = refl
+types_begin unsigned_short = refl
+types_begin unsigned_short_int = refl
 types_begin long = refl
 types_begin long_int = refl
 types_begin signed_long = refl

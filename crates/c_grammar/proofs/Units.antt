@@ -20,6 +20,8 @@ use Rattle.c_grammar.specs.Statements.{Writes, entries}
 use Rattle.c_grammar.specs.Statements as s
 use Rattle.c_grammar.specs.Units.{at, global, function, Phrase, Units, shape, globals, label}
 use Rattle.c_grammar.specs.Units.{brackets, params, result, func, item, unit, no_size, some_size}
+use Rattle.c_grammar.specs.Units.{last_row, last_row_comma, next_row, rows_sized, rows_filled}
+use Rattle.c_grammar.specs.Units.{two_brackets}
 use Rattle.c_grammar.specs.Units.{last_value, last_comma, next_value, bare, valued, sized, filled}
 use Rattle.c_grammar.specs.Units.{last_global, next_global, unlabelled, labelled, no_brackets}
 use Rattle.c_grammar.specs.Units.{some_brackets, param_is, no_params, void_params, some_params}
@@ -67,16 +69,23 @@ units_shorter (some_size x) = let h = spells_shorter x in omega arith
 units_shorter (last_value x) = let h = spells_shorter x in omega arith
 units_shorter (last_comma x) = let h = spells_shorter x in omega arith
 units_shorter (next_value x y) = let h = spells_shorter x in let i = units_shorter y in omega arith
+units_shorter (last_row x) = let h = units_shorter x in omega arith
+units_shorter (last_row_comma x) = let h = units_shorter x in omega arith
+units_shorter (next_row x y) = let h = units_shorter x in let i = units_shorter y in omega arith
 units_shorter bare = omega arith
 units_shorter (valued x) = let h = spells_shorter x in omega arith
 units_shorter (sized x) = let h = units_shorter x in omega arith
 units_shorter (filled x y) = let h = units_shorter x in let i = units_shorter y in omega arith
+units_shorter (rows_sized x y) = let h = units_shorter x in let i = spells_shorter y in omega arith
+units_shorter (rows_filled x y z) =
+    let h = units_shorter x in let i = spells_shorter y in let j = units_shorter z in omega arith
 units_shorter (last_global x) = let h = units_shorter x in omega arith
 units_shorter (next_global x y) = let h = units_shorter x in let i = units_shorter y in omega arith
 units_shorter unlabelled = omega arith
 units_shorter labelled = omega arith
 units_shorter no_brackets = omega arith
 units_shorter (some_brackets x) = let h = units_shorter x in omega arith
+units_shorter (two_brackets x y) = let h = units_shorter x in let i = spells_shorter y in omega arith
 units_shorter (param_is x y z) =
     let h = types_shorter x in let i = units_shorter y in let j = units_shorter z in omega arith
 units_shorter no_params = omega arith
@@ -227,7 +236,7 @@ module _ (m : ℕ) (nested : Nested) (known : Deeper nested m 0) (body : Tokens 
       (globals_piece m nested known k l w) (λ may x f t q. ap (is_next mark.LeftParen) q.2)
       (λ may gs f t q e. begins may q.0 gs f q.1 t q.2 q.3)
     where
-      begins : (may : May) (h : ArraySize × List Expr) (gs : List Top) (f u t : Tokens)
+      begins : (may : May) (h : ArraySize × List (List Expr)) (gs : List Top) (f u t : Tokens)
           → Units may (shape h) f u → Tail (GlobalsAre k) mark.Semicolon false
           (global l k w h) may gs u t → is_next mark.LeftParen f ≡ false
       begins may _ _ f _ t bare ends = refl
@@ -236,6 +245,8 @@ module _ (m : ℕ) (nested : Nested) (known : Deeper nested m 0) (body : Tokens 
       begins may _ gs f u t (valued x) r = refl
       begins may _ gs f u t (sized x) r = refl
       begins may _ gs f u t (filled x y) r = refl
+      begins may _ gs f u t (rows_sized x y) r = refl
+      begins may _ gs f u t (rows_filled x y z) r = refl
 
   abbrev VoidItem : Rel (List Top)
   VoidItem = Then (IsWord key.Void) (λ l. Then Named (λ n. FuncIs None n.0 n.1))
@@ -298,7 +309,7 @@ module _ (m : ℕ) (nested : Nested) (known : Deeper nested m 0) (body : Tokens 
             (rest_to may q.0 r l w p.0 x.0 q.1 p.1 x.1 p.2 x.2)),
       )
 
-  globals_are : (may : May) (k : Kind) (l : ℕ) (w : List ℕ) (h : ArraySize × List Expr)
+  globals_are : (may : May) (k : Kind) (l : ℕ) (w : List ℕ) (h : ArraySize × List (List Expr))
       (gs : List Top) (v u t : Tokens) → Units may (shape h) v u
       → Tail (GlobalsAre k) mark.Semicolon false (global l k w h) may gs u t
       → GlobalsAre k may gs (named l w ∷ v) t

@@ -1,5 +1,5 @@
 -- What token lists spell which expressions (C17 6.5).
-use Rattle.std.specs.Prelude.{◌≡◌, ℕ, suc, true, List, [], ◌∷◌}
+use Rattle.std.specs.Prelude.{◌≡◌, ℕ, suc, true, List, [], ◌∷◌, Some, None}
 use Rattle.c_tree.specs.declared.token.Form.TheVariants as form
 use Rattle.c_tree.specs.declared.token.Mark.TheVariants as mark
 use Rattle.c_tree.specs.declared.token.Kind.{Kind}
@@ -34,7 +34,17 @@ pub data Spells (may : May) : Phrase → ℕ → Tokens → Tokens → Type 0 wh
   element : {l k k' d : ℕ} {w : List ℕ} {e : Expr} {m t : Tokens}
       → may (punct k mark.LeftBracket ∷ m) (suc d) ≡ true
       → Spells may (expr expression e) (suc d) m (punct k' mark.RightBracket ∷ t)
-      → Spells may (expr 0 (at l (node.Element w e))) d (named l w ∷ punct k mark.LeftBracket ∷ m) t
+      → Spells may (expr 0 (at l (node.Element w None e))) d
+      (named l w ∷ punct k mark.LeftBracket ∷ m) t
+  -- of an array with two sizes; each bracket opens a depth of its own
+  row_element : {l k k' j j' d : ℕ} {w : List ℕ} {r e : Expr} {m m' t : Tokens}
+      → may (punct k mark.LeftBracket ∷ m) (suc d) ≡ true
+      → Spells may (expr expression r) (suc d) m
+      (punct k' mark.RightBracket ∷ punct j mark.LeftBracket ∷ m')
+      → may (punct j mark.LeftBracket ∷ m') (suc d) ≡ true
+      → Spells may (expr expression e) (suc d) m' (punct j' mark.RightBracket ∷ t)
+      → Spells may (expr 0 (at l (node.Element w (Some r) e))) d
+      (named l w ∷ punct k mark.LeftBracket ∷ m) t
   -- 6.5.2.2
   call : {l k d : ℕ} {w : List ℕ} {es : List Expr} {m t : Tokens}
       → may (punct k mark.LeftParen ∷ m) (suc d) ≡ true

@@ -162,12 +162,27 @@ module _ (nested : Nested) where
       and_then (nested.expression ts) (λ e ts.
       and_then (expect mark.RightParen ts) (λ _ ts. Ok (at l (node.Group e), ts))))
 
-  -- takes the index of an element, behind its name
-  unfoldable pub element_of : ℕ → List ℕ → Tokens → Out Expr
-  element_of l w ts =
+  -- takes an index in its brackets
+  unfoldable pub index_of : Tokens → Out Expr
+  index_of ts =
       and_then (enter mark.LeftBracket nested ts) (λ _ ts.
       and_then (nested.expression ts) (λ e ts.
-      and_then (expect mark.RightBracket ts) (λ _ ts. Ok (at l (node.Element w e), ts))))
+      and_then (expect mark.RightBracket ts) (λ _ ts. Ok (e, ts))))
+
+  -- takes the second index of an element
+  unfoldable pub second_of : ℕ → List ℕ → Expr → Tokens → Out Expr
+  second_of l w r ts = and_then (index_of ts)
+      (λ e ts. Ok (at l (node.Element w (Some r) e), ts))
+
+  -- takes what stands behind the first index of an element
+  unfoldable pub after_index : ℕ → List ℕ → Expr → Tokens → Out Expr
+  after_index l w e ts =
+      if is_next mark.LeftBracket ts then second_of l w e ts
+      else Ok (at l (node.Element w None e), ts)
+
+  -- takes the indexes of an element, behind its name
+  unfoldable pub element_of : ℕ → List ℕ → Tokens → Out Expr
+  element_of l w ts = and_then (index_of ts) (λ e ts. after_index l w e ts)
 
   -- takes the end of no arguments
   unfoldable pub no_args_of : Tokens → Out (List Expr)

@@ -9,6 +9,8 @@ use Rattle.c_tree.specs.declared.token.Key.TheVariants as key
 use Rattle.c_tree.specs.declared.token.Kind.{Kind}
 use Rattle.c_tree.specs.declared.tree.Expr.{Expr}
 use Rattle.c_tree.specs.declared.tree.ArraySize.TheVariants as size
+use Rattle.c_tree.specs.declared.tree.Label.{Label}
+use Rattle.c_tree.specs.declared.tree.Section.{Section}
 use Rattle.c_tree.specs.declared.tree.Stmt.{Stmt}
 use Rattle.c_tree.specs.declared.tree.StmtNode.{StmtNode}
 use Rattle.c_tree.specs.declared.tree.StmtNode.TheVariants as node
@@ -16,9 +18,10 @@ use Rattle.c_tree.specs.declared.tree.ForInit.{ForInit}
 use Rattle.c_tree.specs.declared.tree.ForInit.TheVariants as inits
 use Rattle.c_grammar.specs.Tokens.{Tokens}
 use Rattle.c_grammar.specs.Statements.{at, Shape, declared, Closer, semicolon, paren, closer_mark}
-use Rattle.c_grammar.specs.Statements.{for_init}
+use Rattle.c_grammar.specs.Statements.{for_init, labelled, sectioned}
 use Rattle.c_grammar.specs.Parsing.{Out, and_then, syntax, too_deep, first, is_next, is_word}
 use Rattle.c_grammar.specs.Parsing.{expect, expect_keyword, name_of, listed, many}
+use Rattle.c_grammar.specs.Parsing.{repeated}
 use Rattle.c_grammar.specs.ModelTypes.{begins_type, type_of}
 use Rattle.c_grammar.specs.ModelExpressions.{Nested, inside, expression_of, assignment_of}
 use Rattle.c_grammar.specs.ModelExpressions.{conditional_of}
@@ -42,12 +45,19 @@ begins_statement (form.Key key.If) = true
 begins_statement (form.Key key.While) = true
 begins_statement (form.Key key.Do) = true
 begins_statement (form.Key key.For) = true
+begins_statement (form.Key key.Switch) = true
 begins_statement (form.Key key.Break) = true
 begins_statement (form.Key key.Continue) = true
 begins_statement (form.Key key.Return) = true
 begins_statement (form.Mark mark.LeftBrace) = true
 begins_statement (form.Mark mark.Semicolon) = true
 begins_statement f = begins_expression f
+
+-- can a label begin with it?
+abbrev pub begins_label : Form → Bool
+begins_label (form.Key key.Case) = true
+begins_label (form.Key key.Default) = true
+begins_label _ = false
 
 -- the statement and the declaration one deeper
 pub record Below : Type 0 where
@@ -82,12 +92,25 @@ module _ (nested : Nested) where
       and_then (expect mark.Assign ts) (λ _ ts.
       and_then (assignment_of nested ts) (λ e ts. Ok ((size.Scalar, Some e), ts)))
 
-  -- takes an array's size
-  unfoldable pub array_of : Tokens → Out Shape
-  array_of ts =
+  -- takes a size in its brackets
+  unfoldable pub size_of : Tokens → Out Expr
+  size_of ts =
       and_then (expect mark.LeftBracket ts) (λ _ ts.
       and_then (conditional_of nested ts) (λ e ts.
-      and_then (expect mark.RightBracket ts) (λ _ ts. Ok ((size.Sized e, None), ts))))
+      and_then (expect mark.RightBracket ts) (λ _ ts. Ok (e, ts))))
+
+  -- takes the second size of an array
+  unfoldable pub second_of : Expr → Tokens → Out Shape
+  second_of r ts = and_then (size_of ts) (λ e ts. Ok ((size.Rows (Some r) e, None), ts))
+
+  -- takes what stands behind the first size of an array
+  unfoldable pub after_size : Expr → Tokens → Out Shape
+  after_size e ts =
+      if is_next mark.LeftBracket ts then second_of e ts else Ok ((size.Sized e, None), ts)
+
+  -- takes the sizes of an array
+  unfoldable pub array_of : Tokens → Out Shape
+  array_of ts = and_then (size_of ts) (λ e ts. after_size e ts)
 
   -- takes what stands behind a name
   unfoldable pub shape_of : Tokens → Out Shape
@@ -109,7 +132,48 @@ module _ (nested : Nested) where
   unfoldable pub locals_of : Tokens → Out (List Stmt)
   locals_of ts = and_then (type_of ts) (λ k ts. decls_of k.1 ts)
 
+  -- takes a case and its colon
+  unfoldable pub case_of : Tokens → Out Label
+  case_of ts =
+      and_then (expect_keyword key.Case ts) (λ l ts.
+      and_then (conditional_of nested ts) (λ e ts.
+      and_then (expect mark.Colon ts) (λ _ ts. Ok (labelled l (Some e), ts))))
+
+  -- takes `default` and its colon
+  unfoldable pub default_of : Tokens → Out Label
+  default_of ts = and_then (expect_keyword key.Default ts)
+      (λ l ts. and_then (expect mark.Colon ts) (λ _ ts. Ok (labelled l None, ts)))
+
+  -- takes a label
+  unfoldable pub label_of : Tokens → Out Label
+  label_of ts = if is_word key.Case ts then case_of ts else default_of ts
+
+  -- takes the labels of a section
+  unfoldable pub labels_of : Tokens → Out (List Label)
+  labels_of ts = repeated begins_label label_of (suc (length ts)) ts
+
   module _ (below : Below) where
+    -- takes the statements of a section
+    unfoldable pub body_of : Tokens → Out (List Stmt)
+    body_of ts = repeated begins_statement below.inner (suc (length ts)) ts
+
+    -- takes a section, as a list of one
+    unfoldable pub section_of : Tokens → Out (List Section)
+    section_of ts = and_then (labels_of ts)
+        (λ ls ts. and_then (body_of ts) (λ ss ts. Ok (sectioned ls ss ∷ [], ts)))
+
+    -- takes the sections of a switch
+    unfoldable pub sections_of : Tokens → Out (List Section)
+    sections_of ts = many mark.RightBrace section_of (suc (length ts)) ts
+
+    -- takes a `switch`
+    unfoldable pub switch_of : Tokens → Out Stmt
+    switch_of ts =
+        and_then (expect_keyword key.Switch ts) (λ l ts.
+        and_then (test_of ts) (λ c ts.
+        and_then (expect mark.LeftBrace ts) (λ _ ts.
+        and_then (sections_of ts) (λ xs ts. Ok (at l (node.Switch c xs), ts)))))
+
     -- takes a statement, as a list of one
     unfoldable pub one_of : Tokens → Out (List Stmt)
     one_of ts = and_then (below.inner ts) (λ s ts. Ok (s ∷ [], ts))
@@ -221,6 +285,7 @@ module _ (nested : Nested) where
         else if is_word key.While ts then while_of ts
         else if is_word key.Do ts then do_of ts
         else if is_word key.For ts then for_of ts
+        else if is_word key.Switch ts then switch_of ts
         else simple_of ts
 
 -- what stands one deeper, where so many more depths may be opened

@@ -99,6 +99,21 @@ listed_on k trailing item n x ts =
     else and_then (listed k trailing item n (tail ts)) (λ xs ts. Ok (x ∷ xs, ts))
     else and_then (expect k ts) (λ _ ts. Ok (x ∷ [], ts))
 
+-- items, one at least, as long as another one begins
+abbrev pub repeated : {A : Type 0} → (Form → Bool) → (Tokens → Out A) → ℕ → Tokens → Out (List A)
+repeated begins item zero ts = syntax ts
+repeated begins item (suc n) ts =
+    and_then (item ts) (λ x ts.
+    if first begins ts then and_then (repeated begins item n ts) (λ xs ts. Ok (x ∷ xs, ts))
+    else Ok (x ∷ [], ts))
+
+-- behind an item of such a list
+abbrev pub repeated_on : {A : Type 0} → (Form → Bool) → (Tokens → Out A) → ℕ → A → Tokens
+    → Out (List A)
+repeated_on begins item n x ts =
+    if first begins ts then and_then (repeated begins item n ts) (λ xs ts. Ok (x ∷ xs, ts))
+    else Ok (x ∷ [], ts)
+
 -- items, each of which is some of what is listed, up to a mark
 abbrev pub many : {A : Type 0} → Mark → (Tokens → Out (List A)) → ℕ → Tokens → Out (List A)
 many k item zero ts = syntax ts

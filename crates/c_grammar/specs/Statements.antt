@@ -8,6 +8,8 @@ use Rattle.c_tree.specs.declared.token.Kind.{Kind}
 use Rattle.c_tree.specs.declared.tree.Expr.{Expr}
 use Rattle.c_tree.specs.declared.tree.ArraySize.{ArraySize}
 use Rattle.c_tree.specs.declared.tree.ArraySize.TheVariants as size
+use Rattle.c_tree.specs.declared.tree.Label.{Label}
+use Rattle.c_tree.specs.declared.tree.Section.{Section, roll-Section}
 use Rattle.c_tree.specs.declared.tree.Stmt.{Stmt}
 use Rattle.c_tree.specs.declared.tree.StmtNode.{StmtNode}
 use Rattle.c_tree.specs.declared.tree.StmtNode.TheVariants as node
@@ -45,6 +47,14 @@ abbrev pub for_init : Option Expr → ForInit
 for_init None = first.Nothing
 for_init (Some e) = first.First e
 
+-- the label of a line, with the constant of a case or with none
+abbrev pub labelled : ℕ → Option Expr → Label
+labelled l v = record { line = l; value = v }
+
+-- the section of some labels and statements
+abbrev pub sectioned : List Label → List Stmt → Section
+sectioned ls ss = roll-Section (record { labels = ls; body = ss })
+
 -- The Bool says whether the statement ends in an `if` that has no `else`.
 pub data Phrase : Type 0 where
   -- an expression or none, up to the closer
@@ -65,6 +75,15 @@ pub data Phrase : Type 0 where
   init : ForInit → Phrase
   -- entries up to the closing brace
   entries : List Stmt → Phrase
+  -- a label with its colon
+  label : Label → Phrase
+  -- the labels of a section, one at least
+  labels : List Label → Phrase
+  -- the statements of a section, one at least
+  body : List Stmt → Phrase
+  section : Section → Phrase
+  -- sections up to the closing brace
+  sections : List Section → Phrase
 
 -- The tokens from the first list up to the second spell the phrase, which stands at this depth.
 pub data Writes (may : May) : Phrase → ℕ → Tokens → Tokens → Type 0 where
@@ -83,6 +102,11 @@ pub data Writes (may : May) : Phrase → ℕ → Tokens → Tokens → Type 0 wh
   array : {k k' d : ℕ} {e : Expr} {m t : Tokens}
       → Spells may (expr conditional e) d m (punct k' mark.RightBracket ∷ t)
       → Writes may (shape (size.Sized e, None)) d (punct k mark.LeftBracket ∷ m) t
+  rows : {k k' j j' d : ℕ} {r e : Expr} {m m' t : Tokens}
+      → Spells may (expr conditional r) d m
+      (punct k' mark.RightBracket ∷ punct j mark.LeftBracket ∷ m')
+      → Spells may (expr conditional e) d m' (punct j' mark.RightBracket ∷ t)
+      → Writes may (shape (size.Rows (Some r) e, None)) d (punct k mark.LeftBracket ∷ m) t
   last_decl : {l j d : ℕ} {k : Kind} {w : List ℕ} {s : Shape} {m t : Tokens}
       → Writes may (shape s) d m (punct j mark.Semicolon ∷ t)
       → Writes may (decls k (declared l k w s ∷ [])) d (named l w ∷ m) t
@@ -122,6 +146,37 @@ pub data Writes (may : May) : Phrase → ℕ → Tokens → Tokens → Type 0 wh
       → Writes may (test c) d m m'
       → Writes may (inner false aye) d m' (word k key.Else ∷ m'') → Writes may (inner b nay) d m'' t
       → Writes may (stmt b (at l (node.If c aye (Some nay)))) d (word l key.If ∷ m) t
+  -- 6.8.1
+  a_case : {l k d : ℕ} {e : Expr} {m t : Tokens}
+      → Spells may (expr conditional e) d m (punct k mark.Colon ∷ t)
+      → Writes may (label (labelled l (Some e))) d (word l key.Case ∷ m) t
+  a_default : {l k d : ℕ} {t : Tokens}
+      → Writes may (label (labelled l None)) d (word l key.Default ∷ punct k mark.Colon ∷ t) t
+  last_label : {d : ℕ} {x : Label} {f t : Tokens} → Writes may (label x) d f t
+      → Writes may (labels (x ∷ [])) d f t
+  next_label : {d : ℕ} {x : Label} {xs : List Label} {f m t : Tokens} → Writes may (label x) d f m
+      → Writes may (labels xs) d m t
+      → Writes may (labels (x ∷ xs)) d f t
+  -- 6.8.4.2: a statement of a section stands inside the switch
+  last_stmt : {d : ℕ} {b : Bool} {s : Stmt} {f t : Tokens} → Writes may (inner b s) d f t
+      → Writes may (body (s ∷ [])) d f t
+  next_stmt : {d : ℕ} {b : Bool} {s : Stmt} {ss : List Stmt} {f m t : Tokens}
+      → Writes may (inner b s) d f m
+      → Writes may (body ss) d m t
+      → Writes may (body (s ∷ ss)) d f t
+  section_is : {d : ℕ} {ls : List Label} {ss : List Stmt} {f m t : Tokens}
+      → Writes may (labels ls) d f m
+      → Writes may (body ss) d m t
+      → Writes may (section (sectioned ls ss)) d f t
+  no_section : {k d : ℕ} {t : Tokens} → Writes may (sections []) d (punct k mark.RightBrace ∷ t) t
+  next_section : {d : ℕ} {x : Section} {xs : List Section} {f m t : Tokens}
+      → Writes may (section x) d f m
+      → Writes may (sections xs) d m t
+      → Writes may (sections (x ∷ xs)) d f t
+  switch : {l k d : ℕ} {c : Expr} {xs : List Section} {m m' t : Tokens}
+      → Writes may (test c) d m (punct k mark.LeftBrace ∷ m')
+      → Writes may (sections xs) d m' t
+      → Writes may (stmt false (at l (node.Switch c xs))) d (word l key.Switch ∷ m) t
   -- 6.8.5
   while : {l d : ℕ} {b : Bool} {c : Expr} {s : Stmt} {m m' t : Tokens} → Writes may (test c) d m m'
       → Writes may (inner b s) d m' t → Writes may (stmt b (at l (node.While c s))) d

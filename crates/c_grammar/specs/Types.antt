@@ -18,6 +18,16 @@ pub data Types : ℕ → Kind → Tokens → Tokens → Type 0 where
   unsigned : {l : ℕ} {t : Tokens} → Types l kind.UInt (word l key.Unsigned ∷ t) t
   unsigned_int : {l k : ℕ} {t : Tokens} → Types l kind.UInt
       (word l key.Unsigned ∷ word k key.Int ∷ t) t
+  short : {l : ℕ} {t : Tokens} → Types l kind.Short (word l key.Short ∷ t) t
+  short_int : {l k : ℕ} {t : Tokens} → Types l kind.Short (word l key.Short ∷ word k key.Int ∷ t) t
+  signed_short : {l k : ℕ} {t : Tokens} → Types l kind.Short
+      (word l key.Signed ∷ word k key.Short ∷ t) t
+  signed_short_int : {l k j : ℕ} {t : Tokens}
+      → Types l kind.Short (word l key.Signed ∷ word k key.Short ∷ word j key.Int ∷ t) t
+  unsigned_short : {l k : ℕ} {t : Tokens} → Types l kind.UShort
+      (word l key.Unsigned ∷ word k key.Short ∷ t) t
+  unsigned_short_int : {l k j : ℕ} {t : Tokens}
+      → Types l kind.UShort (word l key.Unsigned ∷ word k key.Short ∷ word j key.Int ∷ t) t
   long : {l : ℕ} {t : Tokens} → Types l kind.Long (word l key.Long ∷ t) t
   long_int : {l k : ℕ} {t : Tokens} → Types l kind.Long (word l key.Long ∷ word k key.Int ∷ t) t
   signed_long : {l k : ℕ} {t : Tokens} → Types l kind.Long

@@ -24,9 +24,14 @@ use Rattle.c_grammar.specs.Statements.{Writes, entries}
 abbrev pub at : ℕ → TopNode → Top
 at l n = record { line = l; node = n }
 
--- a size and the initial values
+-- the sizes of a global and the lists of its initial values
 abbrev pub Shape : Type 0
-Shape = ArraySize × List Expr
+Shape = ArraySize × List (List Expr)
+
+-- one pair of brackets, with a size or empty
+abbrev pub one_size : Option Expr → ArraySize
+one_size None = sizes.Open
+one_size (Some e) = sizes.Sized e
 
 -- a global
 abbrev pub global : ℕ → Kind → List ℕ → Shape → Top
@@ -47,9 +52,11 @@ parameter n k a = record { line = n.0; kind = k; name = n.1; size = a }
 -- what a part of a unit spells
 pub data Phrase : Type 0 where
   -- a size or none, up to the bracket
-  size : ArraySize → Phrase
+  size : Option Expr → Phrase
   -- values up to the brace
   values : List Expr → Phrase
+  -- rows of values in braces of their own, up to the brace
+  rows : List (List Expr) → Phrase
   -- what stands behind the name of a global
   shape : Shape → Phrase
   -- globals up to the semicolon
@@ -71,10 +78,10 @@ pub data Phrase : Type 0 where
 -- The tokens from the first list up to the second spell the phrase, which stands at depth 0.
 pub data Units (may : May) : Phrase → Tokens → Tokens → Type 0 where
   -- 6.7.6.2
-  no_size : {k : ℕ} {t : Tokens} → Units may (size sizes.Open) (punct k mark.RightBracket ∷ t) t
+  no_size : {k : ℕ} {t : Tokens} → Units may (size None) (punct k mark.RightBracket ∷ t) t
   some_size : {k : ℕ} {e : Expr} {f t : Tokens}
       → Spells may (expr conditional e) 0 f (punct k mark.RightBracket ∷ t)
-      → Units may (size (sizes.Sized e)) f t
+      → Units may (size (Some e)) f t
   -- 6.7.9
   last_value : {k : ℕ} {e : Expr} {f t : Tokens}
       → Spells may (expr conditional e) 0 f (punct k mark.RightBrace ∷ t)
@@ -85,15 +92,36 @@ pub data Units (may : May) : Phrase → Tokens → Tokens → Type 0 where
   next_value : {k : ℕ} {e : Expr} {es : List Expr} {f m t : Tokens}
       → Spells may (expr conditional e) 0 f (punct k mark.Comma ∷ m) → Units may (values es) m t
       → Units may (values (e ∷ es)) f t
+  last_row : {k k' : ℕ} {es : List Expr} {m t : Tokens}
+      → Units may (values es) m (punct k' mark.RightBrace ∷ t)
+      → Units may (rows (es ∷ [])) (punct k mark.LeftBrace ∷ m) t
+  last_row_comma : {k k' k'' : ℕ} {es : List Expr} {m t : Tokens}
+      → Units may (values es) m (punct k' mark.Comma ∷ punct k'' mark.RightBrace ∷ t)
+      → Units may (rows (es ∷ [])) (punct k mark.LeftBrace ∷ m) t
+  next_row : {k k' : ℕ} {es : List Expr} {ess : List (List Expr)} {m m' t : Tokens}
+      → Units may (values es) m (punct k' mark.Comma ∷ m')
+      → Units may (rows ess) m' t
+      → Units may (rows (es ∷ ess)) (punct k mark.LeftBrace ∷ m) t
   bare : {t : Tokens} → Units may (shape (sizes.Scalar, [])) t t
   valued : {k : ℕ} {e : Expr} {m t : Tokens} → Spells may (expr conditional e) 0 m t
-      → Units may (shape (sizes.Scalar, e ∷ [])) (punct k mark.Assign ∷ m) t
-  sized : {k : ℕ} {e : Expr} {m t : Tokens} → Units may (size (sizes.Sized e)) m t
+      → Units may (shape (sizes.Scalar, (e ∷ []) ∷ [])) (punct k mark.Assign ∷ m) t
+  sized : {k : ℕ} {e : Expr} {m t : Tokens} → Units may (size (Some e)) m t
       → Units may (shape (sizes.Sized e, [])) (punct k mark.LeftBracket ∷ m) t
-  filled : {k k' k'' : ℕ} {a : ArraySize} {es : List Expr} {m m' t : Tokens}
-      → Units may (size a) m (punct k' mark.Assign ∷ punct k'' mark.LeftBrace ∷ m')
+  filled : {k k' k'' : ℕ} {o : Option Expr} {es : List Expr} {m m' t : Tokens}
+      → Units may (size o) m (punct k' mark.Assign ∷ punct k'' mark.LeftBrace ∷ m')
       → Units may (values es) m' t
-      → Units may (shape (a, es)) (punct k mark.LeftBracket ∷ m) t
+      → Units may (shape (one_size o, es ∷ [])) (punct k mark.LeftBracket ∷ m) t
+  rows_sized : {k j j' : ℕ} {r e : Expr} {m m' t : Tokens}
+      → Units may (size (Some r)) m (punct j mark.LeftBracket ∷ m')
+      → Spells may (expr conditional e) 0 m' (punct j' mark.RightBracket ∷ t)
+      → Units may (shape (sizes.Rows (Some r) e, [])) (punct k mark.LeftBracket ∷ m) t
+  rows_filled : {k j j' k' k'' : ℕ} {o : Option Expr} {e : Expr} {ess : List (List Expr)}
+      {m m' m'' t : Tokens}
+      → Units may (size o) m (punct j mark.LeftBracket ∷ m')
+      → Spells may (expr conditional e) 0 m' (punct j' mark.RightBracket
+      ∷ punct k' mark.Assign ∷ punct k'' mark.LeftBrace ∷ m'')
+      → Units may (rows ess) m'' t
+      → Units may (shape (sizes.Rows o e, ess)) (punct k mark.LeftBracket ∷ m) t
   last_global : {l j : ℕ} {k : Kind} {w : List ℕ} {s : Shape} {m t : Tokens}
       → Units may (shape s) m (punct j mark.Semicolon ∷ t)
       → Units may (globals k (global l k w s ∷ [])) (named l w ∷ m) t
@@ -104,8 +132,12 @@ pub data Units (may : May) : Phrase → Tokens → Tokens → Type 0 where
   unlabelled : {l : ℕ} {t : Tokens} → Units may (label l (l, None)) t t
   labelled : {l k : ℕ} {w : List ℕ} {t : Tokens} → Units may (label l (k, Some w)) (named k w ∷ t) t
   no_brackets : {t : Tokens} → Units may (brackets sizes.Scalar) t t
-  some_brackets : {k : ℕ} {a : ArraySize} {m t : Tokens} → Units may (size a) m t
-      → Units may (brackets a) (punct k mark.LeftBracket ∷ m) t
+  some_brackets : {k : ℕ} {o : Option Expr} {m t : Tokens} → Units may (size o) m t
+      → Units may (brackets (one_size o)) (punct k mark.LeftBracket ∷ m) t
+  two_brackets : {k j j' : ℕ} {o : Option Expr} {e : Expr} {m m' t : Tokens}
+      → Units may (size o) m (punct j mark.LeftBracket ∷ m')
+      → Spells may (expr conditional e) 0 m' (punct j' mark.RightBracket ∷ t)
+      → Units may (brackets (sizes.Rows o e)) (punct k mark.LeftBracket ∷ m) t
   param_is : {l : ℕ} {k : Kind} {n : Label} {a : ArraySize} {f m m' t : Tokens} → Types l k f m
       → Units may (label l n) m m' → Units may (brackets a) m' t
       → Units may (param (parameter n k a)) f t

@@ -11,6 +11,7 @@ use Rattle.c_meaning_spec.specs.State.{cell_in, row_in}
 use Rattle.c_meaning.specs.declared.arrays.Cell.{Cell}
 use Rattle.c_meaning.specs.declared.arrays.Span.{Span}
 use Rattle.c_meaning.specs.Cells.{shown, row_of, rows, total, Follows, SpansKnown, CellsKnown}
+use Rattle.c_meaning.specs.Cells.{span_length}
 use Rattle.c_meaning.specs.Cells.{IsLaid, worded}
 use Rattle.c_meaning.proofs.Rows.{start-least, length-rows}
 
@@ -140,6 +141,15 @@ length-taken (suc n) (c ∷ cells) h = ap suc (length-taken n cells (omega arith
 length-row : (s : Span) (cells : List Cell) → s.length ≤ length cells
     → length (row_of s cells) ≡ s.length
 length-row s cells h = simp length-map (length-taken s.length cells h)
+
+-- an array has as many elements as its span has cells
+pub row-count : (a : ℕ) (spans : List Span) (cells : List Cell) → total spans ≤ length cells
+    → length (row_in (slice_get (rows spans cells) a)) ≡ span_length (slice_get spans a)
+row-count a [] cells le = refl
+row-count zero (s ∷ spans) cells le = length-row s cells (omega arith)
+row-count (suc a) (s ∷ spans) cells le =
+    let m : length (drop s.length cells) ≡ length cells - s.length = length-drop s.length cells in
+    row-count a spans (drop s.length cells) (omega arith)
 
 unset_from : (a : ℕ) (spans : List Span) (cells : List Cell) (last stamp : ℕ) (span : Span)
     → slice_get spans a ≡ Some span → last < stamp → total spans ≤ length cells

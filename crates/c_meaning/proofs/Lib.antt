@@ -5,3 +5,4 @@ pub mod Spends
 pub mod Turns
 pub mod Results
 pub mod Followed
+pub mod Places

@@ -19,6 +19,11 @@ abbrev pub rows : List Span → List Cell → List (List (Option ℕ))
 rows [] cells = []
 rows (span ∷ spans) cells = row_of span cells ∷ rows spans (drop span.length cells)
 
+-- how many cells an array has, if it is there
+abbrev pub span_length : Option Span → ℕ
+span_length None = 0
+span_length (Some span) = span.length
+
 -- how many cells the arrays have
 abbrev pub total : List Span → ℕ
 total [] = 0

@@ -1,21 +1,28 @@
 -- What the evaluator's values stand for.
-use Rattle.std.specs.Prelude.{List, map, reverse, Option, Some, None}
+use Rattle.std.specs.Prelude.{ℕ, List, ◌++◌, map, reverse, Option, Some, None}
 use Rattle.std.specs.Borrow.{Bor}
 use Rattle.c_tree.specs.declared.TypedExpr.{TypedExpr}
 use Rattle.c_tree.specs.declared.TypedStmt.{TypedStmt}
 use Rattle.c_meaning_spec.specs.State.{State}
+use Rattle.c_meaning_spec.specs.declared.Ending.TheVariants.{More}
 use Rattle.c_meaning_spec.specs.Task.{Of, Run, Turn}
 use Rattle.c_meaning_spec.specs.Task as meant
+use Rattle.c_meaning_spec.specs.Statement.{Target, bodies}
+use Rattle.c_meaning_steps.specs.StatementSteps.{sections_step, compared_step}
 use Rattle.c_meaning_steps.specs.Follow.{Follow, FConverting, FUnary, FElement, FArgument, FLeft, FRight}
 use Rattle.c_meaning_steps.specs.Follow.{FAnd, FOr, FTruth, FValued, FChoice, FComma, FAssignElement}
 use Rattle.c_meaning_steps.specs.Follow.{FAssigned, FCompounded, FBumpElement, FCaller, FDropped}
 use Rattle.c_meaning_steps.specs.Follow.{FInitialised, FSequence, FIf, FThenTurn, FLocals, FTest, FBody}
+use Rattle.c_meaning_steps.specs.Follow.{FAfterRow, FRowElement, FAssignAfterRow, FAssignRow}
+use Rattle.c_meaning_steps.specs.Follow.{FBumpAfterRow, FBumpRow, FSwitch, FSections}
 use Rattle.c_meaning_steps.specs.Follow.{FReturning, Step, Does, Gives, Ends}
 use Rattle.c_meaning_steps.specs.Ahead.{Next, ToDo, Given, Ended, IsStep}
 use Rattle.c_meaning_steps.specs.Operands.{Fetched, Failed}
 use Rattle.c_meaning_steps.specs.Operands as operands
 use Rattle.c_meaning.specs.declared.fetch.Fetch.{Fetch}
 use Rattle.c_meaning.specs.declared.fetch.Fetch.TheVariants as fetch
+use Rattle.c_meaning.specs.declared.compare.Compared.{Compared}
+use Rattle.c_meaning.specs.declared.compare.Compared.TheVariants as compared
 use Rattle.c_meaning.specs.declared.store.Store.{Store}
 use Rattle.c_meaning.specs.declared.machine.Machine.{Machine}
 use Rattle.c_meaning.specs.declared.frame.Task.{Task}
@@ -37,6 +44,7 @@ view s = record {
   output = s.output.items;
   scalars = s.scalars.items;
   arrays = s.arrays;
+  rows = s.rows.items;
   base = s.base;
   room = s.room;
 }
@@ -59,6 +67,9 @@ follow_operand operand.OfAnd right = FAnd right
 follow_operand operand.OfOr right = FOr right
 follow_operand operand.OfComma right = FComma right
 follow_operand (operand.Stored op to at p) right = FAssignElement op to at p right
+follow_operand (operand.StoredRow op to at p i) right = FAssignRow op to at p i right
+follow_operand (operand.AfterRow p) index = FAfterRow p index
+follow_operand (operand.BumpAfterRow op k p) index = FBumpAfterRow op k p index
 
 -- a frame of a loop, by its stage
 abbrev pub follow_turn : Stage → List TypedStmt → Option TypedExpr → Option TypedExpr → TypedStmt
@@ -73,6 +84,7 @@ abbrev pub follow : Frame → Follow
 follow (frame.Converting to) = FConverting to
 follow (frame.Unary op k) = FUnary op k
 follow (frame.Element p) = FElement p
+follow (frame.RowElement p i) = FRowElement p i
 follow (frame.Argument f rest done) = FArgument f rest.now done.items
 follow (frame.Operand o right) = follow_operand o right.now
 follow (frame.Operated op k a) = FRight op k a
@@ -82,6 +94,9 @@ follow (frame.Choice one other) = FChoice one.now other.now
 follow (frame.Assigned x) = FAssigned x
 follow (frame.Compounded op to at x old) = FCompounded op to at x old
 follow (frame.BumpElement op k p) = FBumpElement op k p
+follow (frame.BumpRow op k p i) = FBumpRow op k p i
+follow (frame.StoredAfterRow op to at p index right) =
+    FAssignAfterRow op to at p index.now right.now
 follow (frame.Caller is_main scalars count base room) =
     FCaller is_main scalars.items count base room
 follow frame.Dropped = FDropped
@@ -90,6 +105,8 @@ follow (frame.Sequence rest) = FSequence rest.now
 follow (frame.If one other) = FIf one.now (behind other)
 follow (frame.Turning stage rest l) = follow_turn stage rest.now (behind l.test)
     (behind l.post) l.body.now
+follow (frame.Switch xs) = FSwitch xs.now
+follow (frame.Sections rest behind) = FSections (rest.now ++ bodies behind.now)
 follow frame.Returning = FReturning
 
 -- the frames, the topmost first
@@ -101,6 +118,13 @@ abbrev pub fetched : Fetch → State → operands.Fetch
 fetched (fetch.Word w) s = Fetched w s
 fetched (fetch.Fails why) s = Failed why s
 fetched fetch.Deferred s = operands.Deferred s
+
+-- what is done after some labels, where others are behind them: the statements here are run, no step was
+-- left, or the other labels are compared
+abbrev pub goes_on : Compared → ℕ → List Target → List TypedStmt → State → Step
+goes_on compared.Found w ts here s = sections_step here s
+goes_on compared.Spent w ts here s = Ends More s
+goes_on (compared.Passed other) w ts here s = compared_step w ts (bodies other.now) s
 
 -- a move, as what is to be done next
 abbrev pub next : Move → Next

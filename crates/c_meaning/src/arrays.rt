@@ -3,7 +3,7 @@ ghost use Rattle.std.specs.Prelude.{replicate, slice_get, slice_set, Some, None,
 ghost use Rattle.std.specs.Prelude.{IsFalse, IsSome, IfOk, OnOk};
 ghost use Rattle.c_meaning_spec.specs.State.{cell_in, held, row_in, element_set};
 ghost use Rattle.c_meaning.specs.Cells.{CellsKnown, SpansKnown, Follows, shown, worded, rows};
-ghost use Rattle.c_meaning.specs.Cells.{total};
+ghost use Rattle.c_meaning.specs.Cells.{total, span_length};
 
 use std::alloc::{AllocError, Global};
 use std::marker::Model;
@@ -78,6 +78,16 @@ fn span_at(spans: &[Span], array: u64) -> Option<Span>
     match spans.get(array as usize) {
         None => None,
         Some(span) => Some(*span),
+    }
+}
+
+// How many cells an array has by its number.
+fn length_at(spans: &[Span], array: u64) -> usize
+    ensures { result ≡ span_length (slice_get spans.now array) }
+{
+    match span_at(spans, array) {
+        None => 0,
+        Some(span) => span.length,
     }
 }
 
@@ -184,6 +194,13 @@ impl Arrays {
         ensures value { result ≡ held (cell_in (slice_get self.now array) at) }
     {
         read(self.spans.as_slice(), self.cells.as_slice(), array, at)
+    }
+
+    /// How many elements an array has, and 0 where it is not there.
+    pub fn count_in(&self, array: u64) -> usize
+        ensures value { result ≡ length (row_in (slice_get self.now array)) }
+    {
+        length_at(self.spans.as_slice(), array)
     }
 
     /// Sets an element, if it is there.

@@ -1,6 +1,7 @@
 ghost use Rattle.std.specs.Prelude.{IfOk};
 ghost use Rattle.c_tree.specs.TypedTrees.{node_of};
-ghost use Rattle.c_meaning_steps.specs.Follow.{FAssignElement, FAssigned, FCompounded};
+ghost use Rattle.c_meaning_spec.specs.Task.{Of};
+ghost use Rattle.c_meaning_steps.specs.Follow.{FAssignElement, FAssigned, FCompounded, Pushes, FBumpElement};
 ghost use Rattle.c_meaning_steps.specs.Follow.{some_step, store_step};
 ghost use Rattle.c_meaning_steps.specs.Operands.{operand_step};
 ghost use Rattle.c_meaning_steps.specs.ExpressionSteps.{assigned_step, compounded_step};
@@ -32,9 +33,13 @@ impl<'a> Machine<'a> {
     {
         match &left.node {
             TypedNode::Name(place) => self.assign_to(op, left.kind, at, right, scalar_of(*place)),
-            TypedNode::Element { array, index } => {
-                self.assign_indexed(op, left.kind, at, *array, index.get(), right)
-            }
+            TypedNode::Element { array, row, index } => match row {
+                None => self.assign_indexed(op, left.kind, at, *array, index.get(), right),
+                Some(row) => {
+                    let row = row.get();
+                    self.assign_by_row(op, left.kind, at, *array, row, index.get(), right)
+                }
+            },
             _ => Ok(Move::End(Ending::Undefined)),
         }
     }
@@ -169,16 +174,27 @@ impl<'a> Machine<'a> {
     {
         match &e.node {
             TypedNode::Name(place) => Ok(self.bump_object(op, e.kind, scalar_of(*place))),
-            TypedNode::Element { array, index } => self.push(
-                Task::Of(index.get()),
-                Frame::BumpElement {
-                    op,
-                    kind: e.kind,
-                    place: *array,
-                },
-            ),
+            TypedNode::Element { array, row, index } => match row {
+                None => self.bump_element(op, e.kind, *array, index.get()),
+                Some(row) => self.bump_by_row(op, e.kind, *array, row.get(), index.get()),
+            },
             _ => Ok(Move::End(Ending::Undefined)),
         }
+    }
+
+    // `++` and `--` on an element, of which the index comes first.
+    fn bump_element(
+        &mut self,
+        op: BumpOp,
+        kind: Option<Kind>,
+        place: Place,
+        index: &'a TypedExpr,
+    ) -> Result<Move<'a>, AllocError>
+        ensures { IfOk result (Makes
+            (Pushes (Of index.now) (FBumpElement op kind place))
+            self.old self.new) }
+    {
+        self.push(Task::Of(index), Frame::BumpElement { op, kind, place })
     }
 
     /// `++` and `--` on an object.

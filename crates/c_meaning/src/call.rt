@@ -1,6 +1,6 @@
 ghost use Rattle.std.specs.Prelude.{◌≡◌, ◌+◌, ◌-◌, ◌*◌, ◌<◌, ◌≤◌, ◌^◌, ◌++◌, ◌∷◌, [], map, length};
 ghost use Rattle.std.specs.Prelude.{replicate, true, Some, None, IfOk, OnOk, SomeIff, slice_get};
-ghost use Rattle.c_meaning_spec.specs.Call.{array_bytes, frame as frame_of, scalars_of, unset_array};
+ghost use Rattle.c_meaning_spec.specs.Call.{array_bytes, array_row, frame as frame_of, scalars_of, unset_array};
 ghost use Rattle.c_meaning_steps.specs.ExpressionSteps.{entered_step, enter_step, read_step, get_step};
 ghost use Rattle.c_meaning_steps.specs.ExpressionSteps.{put_step, called_step, arguments_step};
 ghost use Rattle.c_meaning.specs.View.{behind, Makes};
@@ -79,6 +79,16 @@ fn put_scalars(
         scalars.push(Some(*word))?;
     }
     pad(scalars, f.scalars.len().saturating_sub(done.len()))
+}
+
+// Adds the second sizes of the arrays of a call.
+fn add_rows(rows: &mut Vec<Option<u32>>, f: &TypedFunc) -> Result<(), AllocError>
+    ensures { OnOk result (rows.new.items ≡ rows.old.items ++ map array_row f.now.arrays) }
+{
+    for a in f.arrays.as_slice() {
+        rows.push(a.row)?;
+    }
+    Ok(())
 }
 
 // Adds the arrays of a call, unset.
@@ -250,6 +260,7 @@ impl<'a> Machine<'a> {
         let mut scalars = spare(self.alloc, &mut self.spare_scalars);
         put_scalars(&mut scalars, f, done)?;
         add_arrays(&mut self.store.arrays, f)?;
+        add_rows(&mut self.store.rows, f)?;
         let scalars = std::mem::replace(&mut self.store.scalars, scalars);
         let frame = Frame::Caller {
             is_main,

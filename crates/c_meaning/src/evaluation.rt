@@ -1,6 +1,7 @@
 ghost use Rattle.std.specs.Prelude.{◌≡◌, ◌+◌, ◌<◌, [], map, length, false, IfOk, OnOk};
 ghost use Rattle.c_meaning_spec.specs.State.{Result as Reached};
 ghost use Rattle.c_meaning_spec.specs.Call.{called as called_by};
+ghost use Rattle.c_meaning_spec.specs.Eval.{global_row};
 ghost use Rattle.c_meaning_spec.specs.Eval.{first_cells, length_of as length_in, start, outcome};
 ghost use Rattle.c_meaning_spec.specs.Eval.{eval, meaning};
 ghost use Rattle.c_tree.specs.declared.Kind.TheVariants.{Int};
@@ -41,6 +42,17 @@ fn global_arrays(alloc: Global, program: &TypedProgram) -> Result<Arrays, AllocE
     Ok(arrays)
 }
 
+// The second sizes of the globals.
+fn global_rows(alloc: Global, program: &TypedProgram) -> Result<Vec<Option<u32>>, AllocError>
+    ensures { IfOk result (λ rows. rows.items ≡ map global_row program.now.globals) }
+{
+    let mut rows = Vec::new(alloc);
+    for g in program.globals.as_slice() {
+        rows.push(g.row)?;
+    }
+    Ok(rows)
+}
+
 // The state before the call of main.
 fn first_store<'a>(
     alloc: Global,
@@ -51,12 +63,14 @@ fn first_store<'a>(
     ensures { IfOk result (λ s. view s ≡ start program.now input.now n) }
 {
     let arrays = global_arrays(alloc, program)?;
+    let rows = global_rows(alloc, program)?;
     Ok(Store {
         stock: n,
         input,
         output: Vec::new(alloc),
         scalars: Vec::new(alloc),
         arrays,
+        rows,
         base: 0,
         room: 0,
     })

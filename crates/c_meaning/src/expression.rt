@@ -84,7 +84,10 @@ impl<'a> Machine<'a> {
         match &e.node {
             TypedNode::Number(w) => Ok(Move::Give(Signal::Value(*w))),
             TypedNode::Name(place) => Ok(self.name(program, *place)),
-            TypedNode::Element { array, index } => self.indexed(*array, index.get()),
+            TypedNode::Element { array, row, index } => match row {
+                None => self.indexed(*array, index.get()),
+                Some(row) => self.element_by_row(*array, row.get(), index.get()),
+            },
             TypedNode::Call { function, args } => {
                 let done = spare(self.alloc, &mut self.spare_words);
                 self.arguments(program, *function, args.as_slice(), done)

@@ -151,6 +151,17 @@ impl<'a> Store<'a> {
         }
     }
 
+    // An element whose index may be a leaf.
+    fn element_by(&mut self, array: Place, index: &TypedExpr) -> Fetch
+        ensures { fetched result (view self.new)
+            ≡ element_fetch array (leaf_of_node (node_of index.now)) (view self.old) }
+    {
+        match leaf_of(index) {
+            None => Fetch::Deferred,
+            Some(leaf) => self.element(array, leaf),
+        }
+    }
+
     /// The word of an operand that is a leaf, an operation on leaves or an element by a leaf.
     pub fn fetch(&mut self, e: &TypedExpr) -> Fetch
         ensures { fetched result (view self.new) ≡ fetch_of (node_of e.now) (view self.old) }
@@ -161,9 +172,9 @@ impl<'a> Store<'a> {
                 None => Fetch::Deferred,
                 Some(leaf) => self.leaf(leaf),
             },
-            TypedNode::Element { array, index } => match leaf_of(index.get()) {
-                None => Fetch::Deferred,
-                Some(leaf) => self.element(*array, leaf),
+            TypedNode::Element { array, row, index } => match row {
+                None => self.element_by(*array, index.get()),
+                Some(_) => Fetch::Deferred,
             },
             TypedNode::Binary { op, left, right } => self.binary(*op, left.get(), right.get()),
             _ => Fetch::Deferred,

@@ -1,5 +1,5 @@
 use c_meaning_spec::{Ending, Object, Signal};
-use c_tree::{BinaryOp, BumpOp, Callee, Kind, Place, TypedExpr, TypedStmt, UnaryOp};
+use c_tree::{BinaryOp, BumpOp, Callee, Kind, Place, TypedExpr, TypedSection, TypedStmt, UnaryOp};
 
 /// A loop from its test on.
 #[derive(Clone, Copy)]
@@ -17,7 +17,8 @@ pub enum Task<'a> {
     Turn(Loop<'a>),
 }
 
-/// What an expression that is evaluated next is to the node in which it stands.
+/// What an expression that is evaluated next is to the node in which it stands: a right operand, the right
+/// side of an assignment to an element, or the second of two indexes.
 #[derive(Clone, Copy)]
 pub enum Operand {
     Right {
@@ -31,6 +32,19 @@ pub enum Operand {
         op: Option<BinaryOp>,
         to: Option<Kind>,
         at: Kind,
+        place: Place,
+    },
+    StoredRow {
+        op: Option<BinaryOp>,
+        to: Option<Kind>,
+        at: Kind,
+        place: Place,
+        row: u64,
+    },
+    AfterRow(Place),
+    BumpAfterRow {
+        op: BumpOp,
+        kind: Option<Kind>,
         place: Place,
     },
 }
@@ -53,6 +67,10 @@ pub enum Frame<'a> {
         kind: Option<Kind>,
     },
     Element(Place),
+    RowElement {
+        place: Place,
+        row: u64,
+    },
     Argument {
         callee: Callee,
         rest: &'a [TypedExpr],
@@ -86,6 +104,20 @@ pub enum Frame<'a> {
         kind: Option<Kind>,
         place: Place,
     },
+    BumpRow {
+        op: BumpOp,
+        kind: Option<Kind>,
+        place: Place,
+        row: u64,
+    },
+    StoredAfterRow {
+        op: Option<BinaryOp>,
+        to: Option<Kind>,
+        at: Kind,
+        place: Place,
+        index: &'a TypedExpr,
+        right: &'a TypedExpr,
+    },
     Caller {
         is_main: bool,
         scalars: Vec<Option<u64>>,
@@ -104,6 +136,11 @@ pub enum Frame<'a> {
         stage: Stage,
         rest: &'a [TypedStmt],
         turn: Loop<'a>,
+    },
+    Switch(&'a [TypedSection]),
+    Sections {
+        rest: &'a [TypedStmt],
+        behind: &'a [TypedSection],
     },
     Returning,
 }

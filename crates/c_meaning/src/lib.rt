@@ -5,6 +5,7 @@
 mod arrays;
 mod assignment;
 mod call;
+mod compare;
 mod evaluation;
 mod expression;
 mod fetch;
@@ -14,6 +15,8 @@ mod outcome;
 mod resume;
 mod statement;
 mod store;
+mod switch;
+mod two_indexes;
 mod words;
 
 pub use evaluation::evaluate;

@@ -61,6 +61,17 @@ impl<'a> Machine<'a> {
             Operand::Stored { op, to, at, place } => {
                 self.assign_element(op, to, at, place, right, w)
             }
+            Operand::StoredRow {
+                op,
+                to,
+                at,
+                place,
+                row,
+            } => { self.assign_row(op, to, at, place, row, right, w) }
+            Operand::AfterRow(place) => self.element_after_row(place, right, w),
+            Operand::BumpAfterRow { op, kind, place } => {
+                self.bump_after_row(op, kind, place, right, w)
+            }
         }
     }
 
@@ -90,6 +101,7 @@ impl<'a> Machine<'a> {
             Frame::Converting(to) => Ok(Move::Give(Signal::Value(convert(to, w)))),
             Frame::Unary { op, kind } => Ok(self.given(unary_of(op, kind, w))),
             Frame::Element(place) => Ok(self.element(place, w)),
+            Frame::RowElement { place, row } => Ok(self.row_element(place, row, w)),
             Frame::Argument { callee, rest, done } => {
                 self.argument(program, callee, rest, done, w)
             }
@@ -116,6 +128,20 @@ impl<'a> Machine<'a> {
                 let object = self.store.element_of(place, w);
                 Ok(self.bump_object(op, kind, object))
             }
+            Frame::BumpRow {
+                op,
+                kind,
+                place,
+                row,
+            } => { Ok(self.bump_row(op, kind, place, row, w)) }
+            Frame::StoredAfterRow {
+                op,
+                to,
+                at,
+                place,
+                index,
+                right,
+            } => { self.assign_after_row(op, to, at, place, index, right, w) }
             Frame::Initialised(i) => {
                 Ok(self.stored(Object::InScalar(i as u64), w, Signal::Nothing))
             }
@@ -125,6 +151,7 @@ impl<'a> Machine<'a> {
                 rest: _,
                 turn,
             } => self.after_test(turn, w),
+            Frame::Switch(sections) => self.after_switch(sections, w),
             Frame::Returning => Ok(Move::Give(Signal::Returns(Some(w)))),
             _ => Ok(Move::End(Ending::Undefined)),
         }
@@ -170,6 +197,7 @@ impl<'a> Machine<'a> {
                 rest: _,
                 turn,
             } => self.after_body(program, turn, signal),
+            Frame::Sections { rest, behind } => self.after_section(rest, behind, signal),
             frame => match signal {
                 Signal::Value(w) => self.with_value(program, frame, w),
                 _ => Ok(Move::End(Ending::Undefined)),
@@ -191,6 +219,7 @@ impl<'a> Machine<'a> {
             (λ s. returned_step is_main signal (record s {
               scalars = scalars.items;
               arrays = take count s.arrays;
+              rows = take count s.rows;
               base = base;
               room = room;
             }))
@@ -198,6 +227,7 @@ impl<'a> Machine<'a> {
     {
         let used = std::mem::replace(&mut self.store.scalars, scalars);
         self.store.arrays.keep_first(count);
+        self.store.rows.truncate(count);
         self.store.base = base;
         self.store.room = room;
         self.spare_scalars.push(used)?;

@@ -87,6 +87,11 @@ impl<'a> Machine<'a> {
                 };
                 self.begin(program, init, turn)
             }
+            TypedStmt::Switch {
+                scalar: _,
+                test,
+                sections,
+            } => self.switch(test, sections.as_slice()),
             TypedStmt::Break => Ok(Move::Give(Signal::Breaks)),
             TypedStmt::Continue => Ok(Move::Give(Signal::Continues)),
             TypedStmt::Return(None) => Ok(Move::Give(Signal::Returns(None))),

@@ -1,8 +1,10 @@
 ghost use Rattle.std.specs.Prelude.{◌≡◌, map, Some, replicate, ◌++◌, ◌-◌, length, ◌↔◌, IsTrue};
 ghost use Rattle.std.specs.Prelude.{IsFalse, IsSome, IfOk, OnOk, slice_get, slice_set, None};
+ghost use Rattle.std.specs.Prelude.{◌+◌, ◌*◌, ◌<◌, SomeIff};
 ghost use Rattle.c_meaning_spec.specs.State.{held, cell, written};
 ghost use Rattle.c_meaning_spec.specs.Task.{array_of as array_number, element_of as element_object};
-ghost use Rattle.c_meaning_spec.specs.Task.{scalar_of as scalar_object};
+ghost use Rattle.c_meaning_spec.specs.Task.{scalar_of as scalar_object, row_size, place_in as place};
+ghost use Rattle.c_meaning_spec.specs.Task.{row_element_of as row_element_object};
 ghost use Rattle.c_meaning.specs.View.{view};
 
 use crate::arrays::Arrays;
@@ -18,6 +20,7 @@ pub struct Store<'a> {
     pub output: Vec<u8>,
     pub scalars: Vec<Option<u64>>,
     pub arrays: Arrays,
+    pub rows: Vec<Option<u32>>,
     pub base: u32,
     pub room: u32,
 }
@@ -43,6 +46,46 @@ fn write_scalar(scalars: &mut Vec<Option<u64>>, at: u64, value: Option<u64>) -> 
         true
     } else {
         false
+    }
+}
+
+// The second size of an array, if it is there and has two.
+fn row_size_at(rows: &[Option<u32>], at: u64) -> Option<u32>
+    ensures { result ≡ row_size (slice_get rows.now at) }
+{
+    match rows.get(at as usize) {
+        None => None,
+        Some(size) => *size,
+    }
+}
+
+// Where the element at two indexes is among `count` cells in rows of `size`, if it is in a row of its array.
+fn in_rows(size: u64, count: u64, row: u64, index: u64) -> Option<u64>
+    ensures { SomeIff result (index < size × row * size + index < count) (row * size + index) }
+{
+    if index >= size {
+        return None;
+    }
+    match row.checked_mul(size) {
+        None => None,
+        Some(start) => match start.checked_add(index) {
+            None => None,
+            Some(at) => if at < count { Some(at) } else { None },
+        },
+    }
+}
+
+// The place of an element by two indexes among the cells of an array: one behind them all where an index
+// is outside its own dimension.
+fn place_in(size: Option<u32>, count: u64, row: u64, index: u64) -> u64
+    ensures { result ≡ place size count row index }
+{
+    match size {
+        None => count,
+        Some(size) => match in_rows(size as u64, count, row, index) {
+            None => count,
+            Some(at) => at,
+        },
     }
 }
 
@@ -108,6 +151,20 @@ impl<'a> Store<'a> {
         match self.array_of(place) {
             None => None,
             Some(array) => Some(Object::InArray(array, index)),
+        }
+    }
+
+    /// An element by the words of its two indexes.
+    pub fn row_element_of(&self, place: Place, row: u64, index: u64) -> Option<Object>
+        ensures { result ≡ row_element_object place row index (view self.now) }
+    {
+        match self.array_of(place) {
+            None => None,
+            Some(array) => {
+                let size = row_size_at(self.rows.as_slice(), array);
+                let count = self.arrays.count_in(array);
+                Some(Object::InArray(array, place_in(size, count as u64, row, index)))
+            }
         }
     }
 }

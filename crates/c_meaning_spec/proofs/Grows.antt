@@ -18,7 +18,8 @@ use Rattle.c_tree.specs.declared.TypedNode.TheOpen.{Convert, Bump, Binary, Choic
 use Rattle.c_tree.specs.declared.TypedStmt.{TypedStmt}
 use Rattle.c_tree.specs.declared.TypedForInit.{out-TypedForInit}
 use Rattle.c_tree.specs.declared.TypedForInit.TheOpen.{Declare, Plain, Compound, If, While, Do, For}
-use Rattle.c_tree.specs.declared.TypedForInit.TheOpen.{Break, Continue, Return}
+use Rattle.c_tree.specs.declared.TypedForInit.TheOpen.{Switch, Break, Continue, Return}
+use Rattle.c_tree.specs.declared.TypedSection.{TypedSection}
 use Rattle.c_tree.specs.declared.TypedForInit.TheOpen as init
 use Rattle.c_tree.specs.declared.TypedFunc.{TypedFunc}
 use Rattle.c_tree.specs.declared.TypedProgram.{TypedProgram}
@@ -33,7 +34,8 @@ use Rattle.c_meaning_spec.specs.State.{given, cell, cell_in, held, written, load
 use Rattle.c_meaning_spec.specs.Output.{output_of, IsPrefix}
 use Rattle.c_meaning_spec.specs.Word.{is_false, compound_of, bump_of}
 use Rattle.c_meaning_spec.specs.Task.{Task, Of, Run, Turn, Parts, element_in, element_of, scalar_of}
-use Rattle.c_meaning_spec.specs.Task.{is_array, name, element}
+use Rattle.c_meaning_spec.specs.Task.{is_array, name, element, row_element_in, row_element_of}
+use Rattle.c_meaning_spec.specs.Task.{row_element, after_row}
 use Rattle.c_meaning_spec.specs.Call.{frame, entered, returned, entered_if, enter, read_from, get_char}
 use Rattle.c_meaning_spec.specs.Call.{put_char, called, arguments}
 use Rattle.c_tree.specs.declared.limits.TheConstants.{MOST_FRAME_BYTES}
@@ -42,14 +44,20 @@ use Rattle.c_meaning_spec.specs.Expression.{converting, unary, operated, after_l
 use Rattle.c_meaning_spec.specs.Expression.{after_and, after_or, binary, valued, after_choice, after_comma}
 use Rattle.c_meaning_spec.specs.Expression.{assigned, compounded, assign_to, assign_element, assign}
 use Rattle.c_meaning_spec.specs.Expression.{bump_object, bump_element, bump, opened, node, expression}
+use Rattle.c_meaning_spec.specs.Expression.{assign_row, assign_after_row, bump_row, bump_after_row}
 use Rattle.c_tree.specs.TypedTrees.{Level, Beginning}
 use Rattle.c_meaning_spec.specs.Statement.{going_on, sequence, dropped, initialised, unset}
 use Rattle.c_meaning_spec.specs.Statement.{unset_row, declare, run_if, after_if, then_turn, locals, begin}
 use Rattle.c_meaning_spec.specs.Statement.{after_body, after_test, turn, returning, begun, statement}
+use Rattle.c_meaning_spec.specs.Statement.{Target, targets, after_sections, run_from, compared_by}
+use Rattle.c_meaning_spec.specs.Statement.{compared, after_switch}
 use Rattle.c_meaning_spec.proofs.Puts.{Puts, stock_of, same-prefix, prefix-prefix, p-go, p-then, p-element}
 use Rattle.c_meaning_spec.proofs.Puts.{p-left, p-enter, p-get_char, p-put_char, p-argument, p-converting}
 use Rattle.c_meaning_spec.proofs.Puts.{p-unary, p-operated, p-after_left, p-truth, p-after_and, p-after_or}
 use Rattle.c_meaning_spec.proofs.Puts.{p-valued, p-after_choice, p-after_comma, p-assigned, p-compounded}
+use Rattle.c_meaning_spec.proofs.Puts.{p-cond, p-row_element, p-after_row, p-assign_row}
+use Rattle.c_meaning_spec.proofs.Puts.{p-assign_after_row, p-bump_row, p-bump_after_row}
+use Rattle.c_meaning_spec.proofs.Puts.{p-after_sections, p-run_from, p-compared, p-after_switch}
 use Rattle.c_meaning_spec.proofs.Puts.{p-assign_element, p-bump_element, p-opened, p-going_on, p-sequence}
 use Rattle.c_meaning_spec.proofs.Puts.{p-dropped, p-initialised, p-after_if, p-locals, p-after_body}
 use Rattle.c_meaning_spec.proofs.Puts.{p-after_test, p-returning, p-begun}
@@ -198,6 +206,15 @@ module _ (d n : ℕ) where
       g-some (element_in (held (slice_get s.scalars i)) w) s f f' h
   g-element_of (place.Array a) w s f f' h = h _
 
+  g-row_element_of : (p : Place) (i j : ℕ) (s : State) (f f' : Object → Result)
+      → ((x : Object) → Grew d n (f x) (f' x))
+      → Grew d n (with_some (row_element_of p i j s) s f)
+      (with_some (row_element_of p i j (more d s)) (more d s) f')
+  g-row_element_of (place.Global g) i j s f f' h = h _
+  g-row_element_of (place.Scalar k) i j s f f' h =
+      g-some (row_element_in (held (slice_get s.scalars k)) i j s.rows s.arrays) s f f' h
+  g-row_element_of (place.Array a) i j s f f' h = h _
+
   g-held : (x : Object) (s : State) (f f' : ℕ → Result) → ((w : ℕ) → Grew d n (f w) (f' w))
       → Grew d n (with_some (held (cell s x)) s f)
       (with_some (held (cell (more d s) x)) (more d s) f')
@@ -207,6 +224,16 @@ module _ (d n : ℕ) where
   g-element : (p : Place) (v : Signal) (s : State) → s.stock < n
       → Grew d n (element p v s) (element p v (more d s))
   g-element p v s h = g-want v s _ _ (λ w. g-element_of p w s _ _ (λ x. g-load x s h))
+
+  g-row_element : (p : Place) (i : ℕ) (v : Signal) (s : State) → s.stock < n
+      → Grew d n (row_element p i v s) (row_element p i v (more d s))
+  g-row_element p i v s h = g-want v s _ _
+      (λ j. g-row_element_of p i j s _ _ (λ x. g-load x s h))
+
+  g-after_sections : (v : Signal) (s : State) → s.stock < n
+      → Grew d n (after_sections v s) (after_sections v (more d s))
+  g-after_sections Breaks s h = g-go _ s h
+  g-after_sections _ s h = g-go _ s h
 
   -- WHAT NO PART IS IN
 
@@ -271,6 +298,11 @@ module _ (d n : ℕ) where
       → s.stock < n → Grew d n (bump_element op k p v s) (bump_element op k p v (more d s))
   g-bump_element op k p v s h = g-want v s _ _
       (λ w. g-element_of p w s _ _ (λ x. g-bump_object op k s x h))
+
+  g-bump_row : (op : BumpOp) (k : Option Kind) (p : Place) (i : ℕ) (v : Signal) (s : State)
+      → s.stock < n → Grew d n (bump_row op k p i v s) (bump_row op k p i v (more d s))
+  g-bump_row op k p i v s h = g-want v s _ _
+      (λ j. g-row_element_of p i j s _ _ (λ x. g-bump_object op k s x h))
 
   g-dropped : (v : Signal) (s : State) → s.stock < n → Grew d n (dropped v s) (dropped v (more d s))
   g-dropped v s h = g-go _ s h
@@ -390,27 +422,60 @@ module _ (d n : ℕ) (rec rec' : Parts) (below : (t : Task) (s : State) → s.st
   g-assign_element op to at p r v s h =
       g-want d n v s _ _ (λ w. g-element_of d n p w s _ _ (λ x. g-assign_to op to at r s x h))
 
+  g-assign_row : (op : Option BinaryOp) (to : Option Kind) (at : Kind) (p : Place) (i : ℕ)
+      (r : TypedExpr) (v : Signal) (s : State) → s.stock < n
+      → Grew d n (assign_row rec op to at p i r v s) (assign_row rec' op to at p i r v (more d s))
+  g-assign_row op to at p i r v s h =
+      g-want d n v s _ _ (λ j. g-row_element_of d n p i j s _ _ (λ x. g-assign_to op to at r s x h))
+
+  g-assign_after_row : (op : Option BinaryOp) (to : Option Kind) (at : Kind) (p : Place)
+      (index r : TypedExpr) (v : Signal) (s : State) → s.stock < n
+      → Grew d n (assign_after_row rec op to at p index r v s)
+      (assign_after_row rec' op to at p index r v (more d s))
+  g-assign_after_row op to at p index r v s h =
+      g-want d n v s _ _ (λ i. g-of index s _ _ h (g-assign_row op to at p i r)
+      (p-assign_row rec' puts op to at p i r))
+
   g-assign : (op : Option BinaryOp) (to : Option Kind) (at : Kind) (l : Node) (r : TypedExpr)
       (s : State) → s.stock < n → Grew d n (assign rec op to at l r s)
       (assign rec' op to at l r (more d s))
   g-assign op to at (Name p) r s h = g-some d n (scalar_of p) s _ _
       (λ x. g-assign_to op to at r s x h)
-  g-assign op to at (Element p index) r s h =
+  g-assign op to at (Element p None index) r s h =
       g-of index s _ _ h (g-assign_element op to at p r) (p-assign_element rec' puts op to at p r)
+  g-assign op to at (Element p (Some row) index) r s h =
+      g-of row s _ _ h (g-assign_after_row op to at p index r)
+      (p-assign_after_row rec' puts op to at p index r)
   g-assign op to at _ r s h = g-undefined d n s
+
+  g-bump_after_row : (op : BumpOp) (k : Option Kind) (p : Place) (index : TypedExpr) (v : Signal)
+      (s : State) → s.stock < n → Grew d n (bump_after_row rec op k p index v s)
+      (bump_after_row rec' op k p index v (more d s))
+  g-bump_after_row op k p index v s h =
+      g-want d n v s _ _ (λ i. g-of index s _ _ h (g-bump_row d n op k p i)
+      (p-bump_row rec' puts op k p i))
 
   g-bump : (op : BumpOp) (k : Option Kind) (l : Node) (s : State) → s.stock < n
       → Grew d n (bump rec op k l s) (bump rec' op k l (more d s))
   g-bump op k (Name p) s h = g-some d n (scalar_of p) s _ _ (λ x. g-bump_object d n op k s x h)
-  g-bump op k (Element p index) s h = g-of index s _ _ h (g-bump_element d n op k p)
+  g-bump op k (Element p None index) s h = g-of index s _ _ h (g-bump_element d n op k p)
       (p-bump_element rec' puts op k p)
+  g-bump op k (Element p (Some row) index) s h = g-of row s _ _ h (g-bump_after_row op k p index)
+      (p-bump_after_row rec' puts op k p index)
   g-bump op k _ s h = g-undefined d n s
+
+  g-after_row : (p : Place) (index : TypedExpr) (v : Signal) (s : State) → s.stock < n
+      → Grew d n (after_row rec p index v s) (after_row rec' p index v (more d s))
+  g-after_row p index v s h =
+      g-want d n v s _ _ (λ i. g-of index s _ _ h (g-row_element d n p i) (p-row_element p i))
 
   g-opened : (P : TypedProgram) (e : Node) (s : State) → s.stock < n
       → Grew d n (opened rec P e s) (opened rec' P e (more d s))
   g-opened P (Number w) s h = g-go d n _ s h
   g-opened P (Name p) s h = g-name d n P p s h
-  g-opened P (Element p i) s h = g-of i s _ _ h (g-element d n p) (p-element p)
+  g-opened P (Element p None i) s h = g-of i s _ _ h (g-element d n p) (p-element p)
+  g-opened P (Element p (Some row) i) s h = g-of row s _ _ h (g-after_row p i)
+      (p-after_row rec' puts p i)
   g-opened P (Call f args) s h = g-arguments P f args [] s h
   g-opened P (Unary op e) s h = g-of e s _ _ h (g-unary d n op e.kind) (p-unary rec' puts op e.kind)
   g-opened P (Cast to e) s h = g-of e s _ _ h (g-converting d n to) (p-converting rec' puts to)
@@ -445,6 +510,36 @@ module _ (d n : ℕ) (rec rec' : Parts) (below : (t : Task) (s : State) → s.st
   g-sequence (st ∷ rest) s h =
       g-run st s _ _ h (λ v s h. g-going_on v s _ _ h (g-sequence rest s h))
       (λ v u. p-going_on rec' puts v u _ (p-sequence rec' puts rest))
+
+  g-run_from : (all : List TypedStmt) (s : State) → s.stock < n
+      → Grew d n (run_from rec all s) (run_from rec' all (more d s))
+  g-run_from all s h = g-then d n _ _ _ _ (g-sequence all s h) (g-after_sections d n) p-after_sections
+
+  g-compared_by : (w : ℕ) (l : Option ℕ) (here here' there there' fallback fallback' : State → Result)
+      → ((u : State) → u.stock < n → Grew d n (here u) (here' (more d u)))
+      → ((u : State) → u.stock < n → Grew d n (there u) (there' (more d u)))
+      → ((u : State) → u.stock < n → Grew d n (fallback u) (fallback' (more d u)))
+      → ((u : State) → Puts u.output u.stock (here' u))
+      → ((u : State) → Puts u.output u.stock (there' u)) → (s : State) → s.stock < n
+      → Grew d n (compared_by w l here there fallback s)
+      (compared_by w l here' there' fallback' (more d s))
+  g-compared_by w None here here' there there' fallback fallback' a b c p q s h = c s h
+  g-compared_by w (Some m) here here' there there' fallback fallback' a b c p q s h =
+      g-spend d n s _ _ (omega arith)
+      (λ u k. g-cond d n (nat_eq w m) _ _ _ _ (a u k) (b u k))
+      (λ u. p-cond (nat_eq w m) u.output u.stock _ _ (p u) (q u))
+
+  g-compared : (w : ℕ) (ts : List Target) (other : List TypedStmt) (s : State) → s.stock < n
+      → Grew d n (compared rec w ts other s) (compared rec' w ts other (more d s))
+  g-compared w [] other s h = g-run_from other s h
+  g-compared w (t ∷ ts) other s h =
+      g-compared_by w t.label _ _ _ _ _ _ (g-run_from t.statements) (g-compared w ts other)
+      (g-compared w ts t.statements) (p-run_from rec' puts t.statements)
+      (p-compared rec' puts w ts other) s h
+
+  g-after_switch : (xs : List TypedSection) (v : Signal) (s : State) → s.stock < n
+      → Grew d n (after_switch rec xs v s) (after_switch rec' xs v (more d s))
+  g-after_switch xs v s h = g-want d n v s _ _ (λ w. g-compared w (targets xs) [] s h)
 
   g-initialised : (i : ℕ) (v : Signal) (s : State) → s.stock < n
       → Grew d n (initialised i v s) (initialised i v (more d s))
@@ -524,6 +619,7 @@ module _ (d n : ℕ) (rec rec' : Parts) (below : (t : Task) (s : State) → s.st
   g-begun (Do body t) s h = g-run body s _ _ h (g-after_body (Some t) None body)
       (p-after_body rec' puts (Some t) None body)
   g-begun (For f test post body) s h = g-begin (out-TypedForInit f) test post body s h
+  g-begun (Switch i t xs) s h = g-of t s _ _ h (g-after_switch xs) (p-after_switch rec' puts xs)
   g-begun Break s h = g-go d n _ s h
   g-begun Continue s h = g-go d n _ s h
   g-begun (Return None) s h = g-go d n _ s h

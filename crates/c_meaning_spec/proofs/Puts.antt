@@ -17,7 +17,8 @@ use Rattle.c_tree.specs.declared.TypedNode.TheOpen.{Convert, Bump, Binary, Choic
 use Rattle.c_tree.specs.declared.TypedStmt.{TypedStmt, out-TypedStmt}
 use Rattle.c_tree.specs.declared.TypedForInit.{out-TypedForInit}
 use Rattle.c_tree.specs.declared.TypedForInit.TheOpen.{Declare, Plain, Compound, If, While, Do, For}
-use Rattle.c_tree.specs.declared.TypedForInit.TheOpen.{Break, Continue, Return}
+use Rattle.c_tree.specs.declared.TypedForInit.TheOpen.{Switch, Break, Continue, Return}
+use Rattle.c_tree.specs.declared.TypedSection.{TypedSection}
 use Rattle.c_tree.specs.declared.TypedForInit.TheOpen as init
 use Rattle.c_tree.specs.declared.TypedFunc.{TypedFunc}
 use Rattle.c_tree.specs.declared.TypedProgram.{TypedProgram}
@@ -33,7 +34,7 @@ use Rattle.c_meaning_spec.specs.State.{given, cell, held, written, load, store, 
 use Rattle.c_meaning_spec.specs.Output.{output_of, IsPrefix}
 use Rattle.c_meaning_spec.specs.Word.{is_false, compound_of, bump_of, bump_value}
 use Rattle.c_meaning_spec.specs.Task.{Task, Of, Run, Turn, Parts, element_of, scalar_of, is_array, name}
-use Rattle.c_meaning_spec.specs.Task.{element}
+use Rattle.c_meaning_spec.specs.Task.{element, row_element_of, row_element, after_row}
 use Rattle.c_meaning_spec.specs.Call.{entered, returned, left, entered_if, enter, read_from, get_char}
 use Rattle.c_meaning_spec.specs.Call.{put_char, called, arguments}
 use Rattle.c_tree.specs.TypedTrees.{Node, node_of}
@@ -41,10 +42,12 @@ use Rattle.c_meaning_spec.specs.Expression.{converting, unary, operated, after_l
 use Rattle.c_meaning_spec.specs.Expression.{after_and, after_or, binary, valued, after_choice, after_comma}
 use Rattle.c_meaning_spec.specs.Expression.{assigned, compounded, assign_to, assign_element, assign, giving}
 use Rattle.c_meaning_spec.specs.Expression.{bump_object, bump_element, bump, opened, node, expression}
+use Rattle.c_meaning_spec.specs.Expression.{assign_row, assign_after_row, bump_row, bump_after_row}
 use Rattle.c_tree.specs.TypedTrees.{Level, Beginning}
 use Rattle.c_meaning_spec.specs.Statement.{going_on, sequence, dropped, initialised, unset}
 use Rattle.c_meaning_spec.specs.Statement.{unset_row, declare, run_if, after_if, then_turn, locals, begin}
-use Rattle.c_meaning_spec.specs.Statement.{after_body, after_test, turn, returning, begun}
+use Rattle.c_meaning_spec.specs.Statement.{after_body, after_test, turn, returning, begun, Target, targets}
+use Rattle.c_meaning_spec.specs.Statement.{after_sections, run_from, compared_by, compared, after_switch}
 use Rattle.c_meaning_spec.specs.Eval.{perform, evaluated, enough, meaning}
 
 abbrev pub stock_of : Result → ℕ
@@ -135,6 +138,25 @@ p-name P (place.Array a) s = p-go _ s
 
 pub p-element : (p : Place) (v : Signal) (s : State) → Puts s.output s.stock (element p v s)
 p-element p v s = p-want v s _ (λ w. p-some (element_of p w s) s _ (λ x. p-load x s))
+
+pub p-row_element : (p : Place) (i : ℕ) (v : Signal) (s : State)
+    → Puts s.output s.stock (row_element p i v s)
+p-row_element p i v s = p-want v s _ (λ j. p-some (row_element_of p i j s) s _ (λ x. p-load x s))
+
+-- SWITCHES
+
+pub p-after_sections : (v : Signal) (s : State) → Puts s.output s.stock (after_sections v s)
+p-after_sections Breaks s = p-go _ s
+p-after_sections _ s = p-go _ s
+
+p-compared_by : (w : ℕ) (l : Option ℕ) (here there fallback : State → Result)
+    → ((u : State) → Puts u.output u.stock (here u))
+    → ((u : State) → Puts u.output u.stock (there u))
+    → ((u : State) → Puts u.output u.stock (fallback u)) → (s : State)
+    → Puts s.output s.stock (compared_by w l here there fallback s)
+p-compared_by w None here there fallback a b c s = c s
+p-compared_by w (Some n) here there fallback a b c s =
+    p-spend s _ (λ u. p-cond (nat_eq w n) u.output u.stock _ _ (a u) (b u))
 
 -- CALLS
 
@@ -278,10 +300,24 @@ module _ (rec : Parts) (below : (t : Task) (s : State) → Puts s.output s.stock
   p-assign_element op to at p r v s = p-want v s _
       (λ w. p-some (element_of p w s) s _ (λ x. p-assign_to op to at r s x))
 
+  pub p-assign_row : (op : Option BinaryOp) (to : Option Kind) (at : Kind) (p : Place) (i : ℕ)
+      (r : TypedExpr) (v : Signal) (s : State)
+      → Puts s.output s.stock (assign_row rec op to at p i r v s)
+  p-assign_row op to at p i r v s = p-want v s _
+      (λ j. p-some (row_element_of p i j s) s _ (λ x. p-assign_to op to at r s x))
+
+  pub p-assign_after_row : (op : Option BinaryOp) (to : Option Kind) (at : Kind) (p : Place)
+      (index r : TypedExpr) (v : Signal) (s : State)
+      → Puts s.output s.stock (assign_after_row rec op to at p index r v s)
+  p-assign_after_row op to at p index r v s = p-want v s _
+      (λ i. p-of index s _ (p-assign_row op to at p i r))
+
   p-assign : (op : Option BinaryOp) (to : Option Kind) (at : Kind) (l : Node) (r : TypedExpr)
       (s : State) → Puts s.output s.stock (assign rec op to at l r s)
   p-assign op to at (Name p) r s = p-some (scalar_of p) s _ (λ x. p-assign_to op to at r s x)
-  p-assign op to at (Element p index) r s = p-of index s _ (p-assign_element op to at p r)
+  p-assign op to at (Element p None index) r s = p-of index s _ (p-assign_element op to at p r)
+  p-assign op to at (Element p (Some row) index) r s =
+      p-of row s _ (p-assign_after_row op to at p index r)
   p-assign op to at _ r s = p-over Undefined s
 
   pub p-giving : (w : ℕ) (v : Signal) (s : State) → Puts s.output s.stock (giving w v s)
@@ -299,17 +335,32 @@ module _ (rec : Parts) (below : (t : Task) (s : State) → Puts s.output s.stock
   p-bump_element op k p v s = p-want v s _
       (λ w. p-some (element_of p w s) s _ (λ x. p-bump_object op k s x))
 
+  pub p-bump_row : (op : BumpOp) (k : Option Kind) (p : Place) (i : ℕ) (v : Signal) (s : State)
+      → Puts s.output s.stock (bump_row op k p i v s)
+  p-bump_row op k p i v s = p-want v s _
+      (λ j. p-some (row_element_of p i j s) s _ (λ x. p-bump_object op k s x))
+
+  pub p-bump_after_row : (op : BumpOp) (k : Option Kind) (p : Place) (index : TypedExpr) (v : Signal)
+      (s : State) → Puts s.output s.stock (bump_after_row rec op k p index v s)
+  p-bump_after_row op k p index v s = p-want v s _ (λ i. p-of index s _ (p-bump_row op k p i))
+
   p-bump : (op : BumpOp) (k : Option Kind) (l : Node) (s : State)
       → Puts s.output s.stock (bump rec op k l s)
   p-bump op k (Name p) s = p-some (scalar_of p) s _ (λ x. p-bump_object op k s x)
-  p-bump op k (Element p index) s = p-of index s _ (p-bump_element op k p)
+  p-bump op k (Element p None index) s = p-of index s _ (p-bump_element op k p)
+  p-bump op k (Element p (Some row) index) s = p-of row s _ (p-bump_after_row op k p index)
   p-bump op k _ s = p-over Undefined s
+
+  pub p-after_row : (p : Place) (index : TypedExpr) (v : Signal) (s : State)
+      → Puts s.output s.stock (after_row rec p index v s)
+  p-after_row p index v s = p-want v s _ (λ i. p-of index s _ (p-row_element p i))
 
   pub p-opened : (P : TypedProgram) (n : Node) (s : State)
       → Puts s.output s.stock (opened rec P n s)
   p-opened P (Number w) s = p-go _ s
   p-opened P (Name p) s = p-name P p s
-  p-opened P (Element p index) s = p-of index s _ (p-element p)
+  p-opened P (Element p None index) s = p-of index s _ (p-element p)
+  p-opened P (Element p (Some row) index) s = p-of row s _ (p-after_row p index)
   p-opened P (Call f args) s = p-arguments P f args [] s
   p-opened P (Unary op e) s = p-of e s _ (p-unary op e.kind)
   p-opened P (Cast to e) s = p-of e s _ (p-converting to)
@@ -339,6 +390,21 @@ module _ (rec : Parts) (below : (t : Task) (s : State) → Puts s.output s.stock
   pub p-sequence : (all : List TypedStmt) (s : State) → Puts s.output s.stock (sequence rec all s)
   p-sequence [] s = p-go _ s
   p-sequence (st ∷ rest) s = p-run st s _ (λ v u. p-going_on v u _ (p-sequence rest))
+
+  pub p-run_from : (all : List TypedStmt) (s : State)
+      → Puts s.output s.stock (run_from rec all s)
+  p-run_from all s = p-then s.output s.stock (sequence rec all s) _ (p-sequence all s) p-after_sections
+
+  pub p-compared : (w : ℕ) (ts : List Target) (other : List TypedStmt) (s : State)
+      → Puts s.output s.stock (compared rec w ts other s)
+  p-compared w [] other s = p-run_from other s
+  p-compared w (t ∷ ts) other s =
+      p-compared_by w t.label _ _ _ (p-run_from t.statements) (p-compared w ts other)
+      (p-compared w ts t.statements) s
+
+  pub p-after_switch : (xs : List TypedSection) (v : Signal) (s : State)
+      → Puts s.output s.stock (after_switch rec xs v s)
+  p-after_switch xs v s = p-want v s _ (λ w. p-compared w (targets xs) [] s)
 
   pub p-dropped : (v : Signal) (s : State) → Puts s.output s.stock (dropped v s)
   p-dropped v s = p-go _ s
@@ -424,6 +490,7 @@ module _ (rec : Parts) (below : (t : Task) (s : State) → Puts s.output s.stock
   p-begun (While t body) s = below (Turn (Some t) None body) s
   p-begun (Do body t) s = p-run body s _ (p-after_body (Some t) None body)
   p-begun (For f test post body) s = p-begin (out-TypedForInit f) test post body s
+  p-begun (Switch i t xs) s = p-of t s _ (p-after_switch xs)
   p-begun Break s = p-go _ s
   p-begun Continue s = p-go _ s
   p-begun (Return None) s = p-go _ s

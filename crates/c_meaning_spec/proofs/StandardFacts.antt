@@ -1,6 +1,6 @@
 -- The definitions at worked programs: what each gives, puts out and costs.
 use Rattle.std.proofs.Common.{◌≡◌, ℕ, pos, negsuc, Some, None, List, [], ◌∷◌, refl}
-use Rattle.c_tree.specs.declared.Kind.TheVariants.{Char, Int}
+use Rattle.c_tree.specs.declared.Kind.TheVariants.{Char, Short, Int}
 use Rattle.c_tree.specs.declared.BinaryOp.TheVariants.{LogicalAnd, Equal, ShiftLeft, Add, Divide}
 use Rattle.c_tree.specs.declared.UnaryOp.TheVariants.{Minus}
 use Rattle.c_tree.specs.declared.BumpOp.TheVariants.{PostDec}
@@ -13,8 +13,8 @@ use Rattle.c_tree.specs.declared.TypedNode.TheOpen.{Number, Name, Element, Call,
 use Rattle.c_tree.specs.declared.TypedNode.TheOpen.{Bump, Binary, Assign}
 use Rattle.c_tree.specs.declared.TypedStmt.{TypedStmt, roll-TypedStmt, out-roll-TypedStmt}
 use Rattle.c_tree.specs.declared.TypedForInit.{roll-TypedForInit, out-roll-TypedForInit}
-use Rattle.c_tree.specs.declared.TypedForInit.TheOpen.{Declare, Plain, Compound, If, For, Return}
-use Rattle.c_tree.specs.declared.TypedForInit.TheOpen.{Nothing}
+use Rattle.c_tree.specs.declared.TypedForInit.TheOpen.{Declare, Plain, Compound, If, For, Switch}
+use Rattle.c_tree.specs.declared.TypedForInit.TheOpen.{Break, Return, Nothing}
 use Rattle.c_tree.specs.declared.TypedFunc.{TypedFunc}
 use Rattle.c_tree.specs.declared.TypedGlobal.{TypedGlobal}
 use Rattle.c_tree.specs.declared.TypedProgram.{TypedProgram}
@@ -68,11 +68,11 @@ declared = statement (Declare (place.Scalar 0) None)
 
 -- int a[2];
 abbrev two_elements : TypedGlobal
-two_elements = record { kind = Int; length = Some 2; init = [] }
+two_elements = record { kind = Int; length = Some 2; row = None; init = [] }
 
 abbrev element_at : ℕ → TypedProgram
 element_at i = program (two_elements ∷ [])
-    (return_of (int (Element (place.Global 0) (number i))) ∷ [])
+    (return_of (int (Element (place.Global 0) None (number i))) ∷ [])
 
 -- return 7; costs the call of main, its body, the return and the constant
 four_steps : eval (returns (number 7)) [] 9 ≡ Done [] (pos 7) 4
@@ -94,7 +94,7 @@ abbrev n : TypedExpr
 n = int (Name (place.Global 0))
 
 abbrev calls_itself : TypedProgram
-calls_itself = program (record { kind = Int; length = None; init = [] } ∷ [])
+calls_itself = program (record { kind = Int; length = None; row = None; init = [] } ∷ [])
     (statement (If (int (Binary Equal n (number 0)))
     (statement (Compound
     (statement (Plain (Some (int (Assign None Int n (number 1)))))
@@ -172,6 +172,7 @@ with_local n w = record {
   output = [];
   scalars = Some w ∷ [];
   arrays = [];
+  rows = [];
   base = 0;
   room = 0;
 }
@@ -184,7 +185,7 @@ unfolding evaluated converted operate
 one_turn = simp trees refl
 
 -- a frame: 18 words, those of the scalars, and the arrays' bytes rounded up to 8
-frame_is_rounded : frame (record (function []) { arrays = record { kind = Char; length = 9 } ∷ [] })
+frame_is_rounded : frame (record (function []) { arrays = record { kind = Char; length = 9; row = None } ∷ [] })
     ≡ 168
 frame_is_rounded = refl
 
@@ -196,6 +197,7 @@ at_room room = record {
   output = [];
   scalars = [];
   arrays = [];
+  rows = [];
   base = 0;
   room = room;
 }
@@ -211,7 +213,54 @@ just_fits : called (λ t s. Over More s) (program [] []) (Func 0) [] (at_room 10
       output = [];
       scalars = None ∷ [];
       arrays = [];
+      rows = [];
       base = 0;
       room = 1048576;
     })
 just_fits = refl
+
+-- switch (2) { case 1: return 1; case 2: return 5; }
+abbrev two_cases : TypedStmt
+two_cases = statement (Switch 0 (number 2)
+    (record { labels = Some 1 ∷ []; body = return_of (number 1) ∷ [] }
+    ∷ record { labels = Some 2 ∷ []; body = return_of (number 5) ∷ [] } ∷ []))
+
+-- each label that is compared costs a step
+second_case : eval (program [] (two_cases ∷ [])) [] 9 ≡ Done [] (pos 5) 8
+unfolding eval meaning evaluated converted
+second_case = simp trees refl
+
+-- switch (3) { default: case 1: return 1; }: default is not compared
+abbrev default_first : TypedStmt
+default_first = statement (Switch 0 (number 3)
+    (record { labels = None ∷ Some 1 ∷ []; body = return_of (number 1) ∷ [] } ∷ []))
+
+by_default : eval (program [] (default_first ∷ [])) [] 9 ≡ Done [] (pos 1) 7
+unfolding eval meaning evaluated converted
+by_default = simp trees refl
+
+-- switch (1) { case 1: break; } return 3; a break ends the switch alone
+abbrev left_switch : TypedStmt
+left_switch = statement (Switch 0 (number 1)
+    (record { labels = Some 1 ∷ []; body = statement Break ∷ [] } ∷ []))
+
+behind_the_switch : eval (program [] (left_switch ∷ return_of (number 3) ∷ [])) [] 9
+    ≡ Done [] (pos 3) 8
+unfolding eval meaning evaluated converted
+behind_the_switch = simp trees refl
+
+-- short t[2][3]; return t[i][j];
+abbrev two_rows : TypedGlobal
+two_rows = record { kind = Short; length = Some 6; row = Some 3; init = 1 ∷ 2 ∷ 3 ∷ 4 ∷ [] }
+
+abbrev in_row : ℕ → ℕ → TypedProgram
+in_row i j = program (two_rows ∷ [])
+    (return_of (int (Element (place.Global 0) (Some (number i)) (number j))) ∷ [])
+
+second_row : eval (in_row 1 0) [] 9 ≡ Done [] (pos 4) 6
+unfolding eval meaning evaluated converted
+second_row = simp trees refl
+
+behind_the_row : eval (in_row 0 3) [] 9 ≡ Stopped Undefined []
+unfolding eval meaning evaluated converted
+behind_the_row = simp trees refl

@@ -33,6 +33,10 @@ frame f = 8 * (18 + length f.scalars) + all_bytes f.arrays
 abbrev pub unset_array : TypedArray → List (Option ℕ)
 unset_array a = replicate a.length None
 
+-- the second size of an array, if it has two
+abbrev pub array_row : TypedArray → Option ℕ
+array_row a = a.row
+
 -- the scalars of a call: the arguments, and then unset ones
 abbrev pub scalars_of : TypedFunc → List ℕ → List (Option ℕ)
 scalars_of f done = map Some done ++ replicate (length f.scalars - length done) None
@@ -42,6 +46,7 @@ abbrev pub entered : TypedFunc → List ℕ → State → State
 entered f done s = record s {
   scalars = scalars_of f done;
   arrays = s.arrays ++ map unset_array f.arrays;
+  rows = s.rows ++ map array_row f.arrays;
   base = length s.arrays;
   room = s.room + frame f;
 }
@@ -65,6 +70,7 @@ left is_main scalars count base room v s =
     returned is_main v (record s {
       scalars = scalars;
       arrays = take count s.arrays;
+      rows = take count s.rows;
       base = base;
       room = room;
     })

@@ -50,6 +50,10 @@ length_of (Some n) = n
 abbrev pub first_cells : TypedGlobal → List (Option ℕ)
 first_cells g = map Some g.init ++ replicate (length_of g.length - length g.init) (Some 0)
 
+-- the second size of a global, if it has two
+abbrev pub global_row : TypedGlobal → Option ℕ
+global_row g = g.row
+
 -- the state before the call of main
 abbrev pub start : TypedProgram → List ℕ → ℕ → State
 start P input n = record {
@@ -58,6 +62,7 @@ start P input n = record {
   output = [];
   scalars = [];
   arrays = map first_cells P.globals;
+  rows = map global_row P.globals;
   base = 0;
   room = 0;
 }

@@ -21,7 +21,8 @@ use Rattle.c_meaning_spec.specs.State.{held, store}
 use Rattle.c_constant.specs.Kinds.{converted}
 use Rattle.c_meaning_spec.specs.Word.{is_false, truth_of, binary_of, unary_of, compound_of, bump_of}
 use Rattle.c_meaning_spec.specs.Word.{bump_value}
-use Rattle.c_meaning_spec.specs.Task.{Parts, Of, element_of, scalar_of, name, element}
+use Rattle.c_meaning_spec.specs.Task.{Parts, Of, element_of, row_element_of, scalar_of, name, element}
+use Rattle.c_meaning_spec.specs.Task.{after_row}
 use Rattle.c_meaning_spec.specs.Call.{arguments}
 
 -- OPERATIONS
@@ -100,11 +101,25 @@ abbrev pub assign_element : Parts → Option BinaryOp → Option Kind → Kind �
 assign_element rec op to at p right v s =
     want v s (λ w. with_some (element_of p w s) s (assign_to rec op to at right s))
 
--- of the left side only an index is evaluated
+-- an assignment to an element by two indexes, of which the first is known, by the value of the second
+abbrev pub assign_row : Parts → Option BinaryOp → Option Kind → Kind → Place → ℕ → TypedExpr → Signal
+    → State → Result
+assign_row rec op to at p i right v s =
+    want v s (λ j. with_some (row_element_of p i j s) s (assign_to rec op to at right s))
+
+-- the second index after the first one
+abbrev pub assign_after_row : Parts → Option BinaryOp → Option Kind → Kind → Place → TypedExpr
+    → TypedExpr → Signal → State → Result
+assign_after_row rec op to at p index right v s =
+    want v s (λ i. then (rec (Of index) s) (assign_row rec op to at p i right))
+
+-- of the left side only indexes are evaluated
 abbrev pub assign : Parts → Option BinaryOp → Option Kind → Kind → Node → TypedExpr → State → Result
 assign rec op to at (Name p) right s = with_some (scalar_of p) s (assign_to rec op to at right s)
-assign rec op to at (Element p index) right s =
+assign rec op to at (Element p None index) right s =
     then (rec (Of index) s) (assign_element rec op to at p right)
+assign rec op to at (Element p (Some row) index) right s =
+    then (rec (Of row) s) (assign_after_row rec op to at p index right)
 assign rec op to at _ right s = Over Undefined s
 
 -- after a store: the value that the whole gives
@@ -121,10 +136,21 @@ bump_object op k s x =
 abbrev pub bump_element : BumpOp → Option Kind → Place → Signal → State → Result
 bump_element op k p v s = want v s (λ w. with_some (element_of p w s) s (bump_object op k s))
 
--- of the operand only an index is evaluated
+-- ++ and -- on an element by two indexes, of which the first is known, by the value of the second
+abbrev pub bump_row : BumpOp → Option Kind → Place → ℕ → Signal → State → Result
+bump_row op k p i v s =
+    want v s (λ j. with_some (row_element_of p i j s) s (bump_object op k s))
+
+-- the second index after the first one
+abbrev pub bump_after_row : Parts → BumpOp → Option Kind → Place → TypedExpr → Signal → State → Result
+bump_after_row rec op k p index v s = want v s (λ i. then (rec (Of index) s) (bump_row op k p i))
+
+-- of the operand only indexes are evaluated
 abbrev pub bump : Parts → BumpOp → Option Kind → Node → State → Result
 bump rec op k (Name p) s = with_some (scalar_of p) s (bump_object op k s)
-bump rec op k (Element p index) s = then (rec (Of index) s) (bump_element op k p)
+bump rec op k (Element p None index) s = then (rec (Of index) s) (bump_element op k p)
+bump rec op k (Element p (Some row) index) s =
+    then (rec (Of row) s) (bump_after_row rec op k p index)
 bump rec op k _ s = Over Undefined s
 
 -- NODES
@@ -133,7 +159,8 @@ bump rec op k _ s = Over Undefined s
 abbrev pub opened : Parts → TypedProgram → Node → State → Result
 opened rec P (Number w) s = Go (Value w) s
 opened rec P (Name p) s = name P p s
-opened rec P (Element p index) s = then (rec (Of index) s) (element p)
+opened rec P (Element p None index) s = then (rec (Of index) s) (element p)
+opened rec P (Element p (Some row) index) s = then (rec (Of row) s) (after_row rec p index)
 opened rec P (Call f args) s = arguments rec P f args [] s
 opened rec P (Unary op e) s = then (rec (Of e) s) (unary op e.kind)
 opened rec P (Cast to e) s = then (rec (Of e) s) (converting to)

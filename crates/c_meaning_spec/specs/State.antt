@@ -10,7 +10,7 @@ use Rattle.c_meaning_spec.specs.declared.signal.Object.TheVariants.{InScalar, In
 -- A value is held as its word: the number modulo 2^64. What is not set is none. Arrays are
 -- numbered: the globals come first, a global scalar being an array of length 1, and then the arrays
 -- of each active function. The scalar of an array parameter holds the number of the array that it
--- stands for.
+-- stands for. An array with two sizes is the list of its rows' cells, row behind row.
 pub record State : Type 0 where
   -- the steps that are left
   pub stock : ℕ
@@ -20,6 +20,8 @@ pub record State : Type 0 where
   -- the scalars of the function that runs
   pub scalars : List (Option ℕ)
   pub arrays : List (List (Option ℕ))
+  -- the second size of each array, none where it has one
+  pub rows : List (Option ℕ)
   -- the number of the running function's first array
   pub base : ℕ
   -- the bytes of the frames of the active functions

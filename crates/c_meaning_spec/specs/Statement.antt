@@ -1,5 +1,5 @@
 -- Statements: each spends a step, and control goes on, or leaves a loop or the function.
-use Rattle.std.specs.Prelude.{ℕ, ◌+◌, cond, List, [], ◌∷◌, Option, Some, None, slice_get, slice_set}
+use Rattle.std.specs.Prelude.{ℕ, ◌+◌, ◌++◌, cond, nat_eq, List, [], ◌∷◌, Option, Some, None, slice_get, slice_set}
 use Rattle.std.specs.Prelude.{length, replicate}
 use Rattle.c_tree.specs.declared.Place.{Place}
 use Rattle.c_tree.specs.declared.Place.TheVariants.{Scalar, Array}
@@ -8,7 +8,9 @@ use Rattle.c_tree.specs.declared.TypedExpr.{TypedExpr}
 use Rattle.c_tree.specs.declared.TypedStmt.{TypedStmt}
 use Rattle.c_tree.specs.declared.TypedForInit.{out-TypedForInit}
 use Rattle.c_tree.specs.declared.TypedForInit.TheOpen.{Declare, Plain, Compound, If}
-use Rattle.c_tree.specs.declared.TypedForInit.TheOpen.{While, Do, For, Break, Continue, Return}
+use Rattle.c_tree.specs.declared.TypedForInit.TheOpen.{While, Do, For, Switch, Break, Continue}
+use Rattle.c_tree.specs.declared.TypedForInit.TheOpen.{Return}
+use Rattle.c_tree.specs.declared.TypedSection.{TypedSection}
 use Rattle.c_tree.specs.declared.TypedForInit.TheOpen as init
 use Rattle.c_meaning_spec.specs.declared.signal.Signal.{Signal}
 use Rattle.c_meaning_spec.specs.declared.signal.Signal.TheVariants.{Nothing, Breaks, Continues, Returns}
@@ -109,6 +111,55 @@ abbrev pub turn : Parts → Option TypedExpr → Option TypedExpr → TypedStmt 
 turn rec None post body s = then (rec (Run body) s) (after_body rec None post body)
 turn rec (Some t) post body s = then (rec (Of t) s) (after_test rec (Some t) post body)
 
+-- SWITCHES
+
+-- a label, none for `default`, and the statements that run from it on
+pub record Target : Type 0 where
+  pub label : Option ℕ
+  pub statements : List TypedStmt
+
+-- the statements of sections, one behind another
+abbrev pub bodies : List TypedSection → List TypedStmt
+bodies [] = []
+bodies (x ∷ xs) = x.body ++ bodies xs
+
+-- the labels before the same statements
+abbrev pub leading : List (Option ℕ) → List TypedStmt → List Target
+leading [] all = []
+leading (l ∷ ls) all = (record { label = l; statements = all }) ∷ leading ls all
+
+-- the labels of sections in the order of the text, each with the statements from its section on
+abbrev pub targets : List TypedSection → List Target
+targets [] = []
+targets (x ∷ xs) = leading x.labels (bodies (x ∷ xs)) ++ targets xs
+
+-- a `break` ends the switch
+abbrev pub after_sections : Signal → State → Result
+after_sections Breaks s = Go Nothing s
+after_sections v s = Go v s
+
+-- the statements from a label on
+abbrev pub run_from : Parts → List TypedStmt → State → Result
+run_from rec all s = then (sequence rec all s) after_sections
+
+-- a case label costs a step, and is the one or is followed by those behind it
+abbrev pub compared_by : ℕ → Option ℕ → (State → Result) → (State → Result) → (State → Result)
+    → State → Result
+compared_by w None here there fallback s = fallback s
+compared_by w (Some n) here there fallback s = spend s (λ s. cond (nat_eq w n) (here s) (there s))
+
+-- the word is compared with the case labels in the order of the text, up to the first that is equal;
+-- where none is, control goes on at `default`, or behind the switch
+abbrev pub compared : Parts → ℕ → List Target → List TypedStmt → State → Result
+compared rec w [] other s = run_from rec other s
+compared rec w (t ∷ ts) other s =
+    compared_by w t.label (run_from rec t.statements) (compared rec w ts other)
+    (compared rec w ts t.statements) s
+
+-- the labels, by the value of the test
+abbrev pub after_switch : Parts → List TypedSection → Signal → State → Result
+after_switch rec xs v s = want v s (λ w. compared rec w (targets xs) [] s)
+
 -- STATEMENTS
 
 -- a return of the value of an expression
@@ -125,6 +176,7 @@ begun rec (If t one other) s = then (rec (Of t) s) (after_if rec one other)
 begun rec (While t body) s = rec (Turn (Some t) None body) s
 begun rec (Do body t) s = then (rec (Run body) s) (after_body rec (Some t) None body)
 begun rec (For first test post body) s = begin rec (out-TypedForInit first) test post body s
+begun rec (Switch i t xs) s = then (rec (Of t) s) (after_switch rec xs)
 begun rec Break s = Go Breaks s
 begun rec Continue s = Go Continues s
 begun rec (Return None) s = Go (Returns None) s

@@ -1,5 +1,6 @@
 -- What is evaluated, and what a name stands for.
-use Rattle.std.specs.Prelude.{ℕ, ◌+◌, Bool, true, false, cond, Option, Some, None, slice_get}
+use Rattle.std.specs.Prelude.{ℕ, ◌+◌, ◌*◌, Bool, true, false, cond, ◌&&◌, nat_lt, List, length, Option}
+use Rattle.std.specs.Prelude.{Some, None, slice_get}
 use Rattle.c_tree.specs.declared.Place.{Place}
 use Rattle.c_tree.specs.declared.Place.TheVariants.{Global, Scalar, Array}
 use Rattle.c_tree.specs.declared.TypedExpr.{TypedExpr}
@@ -10,7 +11,8 @@ use Rattle.c_meaning_spec.specs.declared.signal.Signal.{Signal}
 use Rattle.c_meaning_spec.specs.declared.signal.Signal.TheVariants.{Value}
 use Rattle.c_meaning_spec.specs.declared.signal.Object.{Object}
 use Rattle.c_meaning_spec.specs.declared.signal.Object.TheVariants.{InScalar, InArray}
-use Rattle.c_meaning_spec.specs.State.{State, Result, Go, want, with_some, cell, held, load}
+use Rattle.c_meaning_spec.specs.State.{State, Result, Go, then, want, with_some, cell, held, load}
+use Rattle.c_meaning_spec.specs.State.{row_in}
 
 -- an expression, a statement, or a loop from its test on
 pub data Task : Type 0 where
@@ -38,6 +40,27 @@ element_in (Some a) w = Some (InArray a w)
 abbrev pub element_of : Place → ℕ → State → Option Object
 element_of p w s = element_in (array_of p s) w
 
+-- the place of an element by two indexes among the cells of an array, of which there are n in rows of
+-- q: one behind them all where an index is outside its own dimension
+abbrev pub place_in : Option ℕ → ℕ → ℕ → ℕ → ℕ
+place_in None n i j = n
+place_in (Some q) n i j = cond (nat_lt j q && nat_lt (i * q + j) n) (i * q + j) n
+
+-- the second size of an array, if it is there and has two
+abbrev pub row_size : Option (Option ℕ) → Option ℕ
+row_size None = None
+row_size (Some q) = q
+
+-- an element of an array by two indexes, if there is the array
+abbrev pub row_element_in : Option ℕ → ℕ → ℕ → List (Option ℕ) → List (List (Option ℕ)) → Option Object
+row_element_in None i j rows arrays = None
+row_element_in (Some a) i j rows arrays =
+    Some (InArray a (place_in (row_size (slice_get rows a)) (length (row_in (slice_get arrays a))) i j))
+
+-- an element by the words of its two indexes; that one is outside is met where it is read or stored
+abbrev pub row_element_of : Place → ℕ → ℕ → State → Option Object
+row_element_of p i j s = row_element_in (array_of p s) i j s.rows s.arrays
+
 -- the scalar that a name names
 abbrev pub scalar_of : Place → Option Object
 scalar_of (Global g) = Some (InArray g 0)
@@ -64,3 +87,11 @@ name P (Array a) s = Go (Value (s.base + a)) s
 -- the value of an element, by the value of its index
 abbrev pub element : Place → Signal → State → Result
 element p v s = want v s (λ w. with_some (element_of p w s) s (λ x. load x s))
+
+-- the value of an element by two indexes, of which the first is known, by the value of the second
+abbrev pub row_element : Place → ℕ → Signal → State → Result
+row_element p i v s = want v s (λ j. with_some (row_element_of p i j s) s (λ x. load x s))
+
+-- the second index after the first one
+abbrev pub after_row : Parts → Place → TypedExpr → Signal → State → Result
+after_row rec p index v s = want v s (λ i. then (rec (Of index) s) (row_element p i))

@@ -23,17 +23,19 @@ use Rattle.c_meaning_spec.specs.State.{State, Result, Go, then, spend, spend_of,
 use Rattle.c_meaning_spec.specs.State.{given, cell, held, store_in}
 use Rattle.c_meaning_spec.specs.Word.{compound_of, bump_of, bump_value}
 use Rattle.c_meaning_spec.specs.Task.{Of, Parts, element_of, scalar_of, is_array, name}
-use Rattle.c_meaning_spec.specs.Task.{element}
+use Rattle.c_meaning_spec.specs.Task.{element, row_element_of, row_element, after_row}
 use Rattle.c_tree.specs.declared.limits.TheConstants.{MOST_FRAME_BYTES}
 use Rattle.c_meaning_spec.specs.Call.{frame, entered_if, enter, read_from, get_char, put_char}
 use Rattle.c_meaning_spec.specs.Call.{called, arguments}
 use Rattle.c_tree.specs.TypedTrees.{Node, node_of}
 use Rattle.c_meaning_spec.specs.Expression.{converting, binary, assign_to, assign, giving}
 use Rattle.c_meaning_spec.specs.Expression.{bump_object, bump, opened, node, expression, compounded}
-use Rattle.c_meaning_spec.specs.Expression.{assign_element, after_left}
+use Rattle.c_meaning_spec.specs.Expression.{assign_element, after_left, assign_row, assign_after_row}
+use Rattle.c_meaning_spec.specs.Expression.{bump_row}
 use Rattle.c_meaning_spec.specs.Eval.{meaning}
 use Rattle.c_meaning_steps.specs.Follow.{Follow, FElement, FArgument, FLeft, FRight}
-use Rattle.c_meaning_steps.specs.Follow.{FAssignElement}
+use Rattle.c_meaning_steps.specs.Follow.{FAssignElement, FAfterRow, FRowElement, FAssignAfterRow}
+use Rattle.c_meaning_steps.specs.Follow.{FAssignRow}
 use Rattle.c_meaning_steps.specs.Follow.{FAssigned, FCompounded}
 use Rattle.c_meaning_steps.specs.Follow.{Step, Pushes, Does, Gives, Ends, Behind, under}
 use Rattle.c_meaning_steps.specs.Follow.{spend_step_of, spend_step, want_step, some_step, given_step}
@@ -43,7 +45,9 @@ use Rattle.c_meaning_steps.specs.ExpressionSteps.{bump_step, entered_step, enter
 use Rattle.c_meaning_steps.specs.ExpressionSteps.{put_step, called_step, arguments_step, binary_step}
 use Rattle.c_meaning_steps.specs.ExpressionSteps.{opened_step, node_step, conversion_step, of_step}
 use Rattle.c_meaning_steps.specs.ExpressionSteps.{compounded_step, assign_element_step, right_step}
-use Rattle.c_meaning_steps.specs.ExpressionSteps.{element_step}
+use Rattle.c_meaning_steps.specs.ExpressionSteps.{element_step, row_element_step, after_row_step}
+use Rattle.c_meaning_steps.specs.ExpressionSteps.{assign_row_step, assign_after_row_step}
+use Rattle.c_meaning_steps.specs.ExpressionSteps.{bump_row_step}
 use Rattle.c_meaning_steps.specs.Ahead.{back_of, settle_of}
 use Rattle.c_meaning_spec.proofs.Equations.{meaning-is}
 use Rattle.c_meaning_steps.proofs.Operands.{plain, s-operand}
@@ -123,13 +127,30 @@ module _ (P : TypedProgram) where
   s-assign_element op to at p right w s =
       s-some (element_of p w s) s _ _ (λ x. s-assign_to op to at right s x)
 
+  pub s-assign_row : (op : Option BinaryOp) (to : Option Kind) (at : Kind) (p : Place) (i : ℕ)
+      (right : TypedExpr) (j : ℕ) (s : State) → settle (assign_row_step op to at p i right j s)
+      ≡ assign_row means op to at p i right (Value j) s
+  s-assign_row op to at p i right j s =
+      s-some (row_element_of p i j s) s _ _ (λ x. s-assign_to op to at right s x)
+
+  pub s-assign_after_row : (op : Option BinaryOp) (to : Option Kind) (at : Kind) (p : Place)
+      (index right : TypedExpr) (i : ℕ) (s : State)
+      → settle (assign_after_row_step op to at p index right i s)
+      ≡ assign_after_row means op to at p index right (Value i) s
+  s-assign_after_row op to at p index right i s =
+      s-operand P index (FAssignRow op to at p i right) s _
+      (λ j u. s-assign_row op to at p i right j u)
+
   s-assign : (op : Option BinaryOp) (to : Option Kind) (at : Kind) (l : Node) (right : TypedExpr)
       (s : State) → settle (assign_step op to at l right s) ≡ assign means op to at l right s
   s-assign op to at (Name p) right s = s-some (scalar_of p) s _ _
       (λ x. s-assign_to op to at right s x)
-  s-assign op to at (Element p index) right s =
+  s-assign op to at (Element p None index) right s =
       s-operand P index (FAssignElement op to at p right) s _
       (λ w u. s-assign_element op to at p right w u)
+  s-assign op to at (Element p (Some row) index) right s =
+      s-operand P row (FAssignAfterRow op to at p index right) s _
+      (λ i u. s-assign_after_row op to at p index right i u)
   s-assign op to at _ right s = refl
 
   pub s-bump_object : (op : BumpOp) (k : Option Kind) (s : State) (x : Object)
@@ -139,10 +160,16 @@ module _ (P : TypedProgram) where
       s-store_in (cell s x) s x new (Value (bump_value op old new)) (giving (bump_value op old new))
       (λ s. refl)))
 
+  pub s-bump_row : (op : BumpOp) (k : Option Kind) (p : Place) (i j : ℕ) (s : State)
+      → settle (bump_row_step op k p i j s) ≡ bump_row op k p i (Value j) s
+  s-bump_row op k p i j s =
+      s-some (row_element_of p i j s) s _ _ (λ x. s-bump_object op k s x)
+
   s-bump : (op : BumpOp) (k : Option Kind) (l : Node) (s : State)
       → settle (bump_step op k l s) ≡ bump means op k l s
   s-bump op k (Name p) s = s-some (scalar_of p) s _ _ (λ x. s-bump_object op k s x)
-  s-bump op k (Element p index) s = refl
+  s-bump op k (Element p None index) s = refl
+  s-bump op k (Element p (Some row) index) s = refl
   s-bump op k _ s = refl
 
   s-entered : (is_main fits : Bool) (f : TypedFunc) (done : List ℕ) (s : State)
@@ -189,6 +216,15 @@ module _ (P : TypedProgram) where
       → settle (element_step p w s) ≡ element p (Value w) s
   s-element p w s = s-some (element_of p w s) s _ _ (λ x. s-given _ s)
 
+  pub s-row_element : (p : Place) (i j : ℕ) (s : State)
+      → settle (row_element_step p i j s) ≡ row_element p i (Value j) s
+  s-row_element p i j s = s-some (row_element_of p i j s) s _ _ (λ x. s-given _ s)
+
+  pub s-after_row : (p : Place) (index : TypedExpr) (i : ℕ) (s : State)
+      → settle (after_row_step p index i s) ≡ after_row means p index (Value i) s
+  s-after_row p index i s = s-operand P index (FRowElement p i) s _
+      (λ j u. s-row_element p i j u)
+
   s-binary : (op : BinaryOp) (l r : TypedExpr) (s : State)
       → settle (binary_step op l r s) ≡ binary means op l r s
   s-binary LogicalAnd l r s = refl
@@ -199,7 +235,9 @@ module _ (P : TypedProgram) where
   s-opened : (e : Node) (s : State) → settle (opened_step P e s) ≡ opened means P e s
   s-opened (Number w) s = refl
   s-opened (Name p) s = s-name p s
-  s-opened (Element p i) s = s-operand P i (FElement p) s _ (λ w u. s-element p w u)
+  s-opened (Element p None i) s = s-operand P i (FElement p) s _ (λ w u. s-element p w u)
+  s-opened (Element p (Some row) i) s = s-operand P row (FAfterRow p i) s _
+      (λ w u. s-after_row p i w u)
   s-opened (Call f args) s = s-arguments f args [] s
   s-opened (Unary op e) s = refl
   s-opened (Cast to e) s = refl
@@ -230,7 +268,7 @@ module _ (P : TypedProgram) where
   s-conversion to e (Convert to' e') s h = s-convert s.stock to to' e' s
   s-conversion to e (Number w) s h = plainly to e _ s h (λ s. refl)
   s-conversion to e (Name p) s h = plainly to e _ s h (λ s. refl)
-  s-conversion to e (Element p i) s h = plainly to e _ s h (λ s. refl)
+  s-conversion to e (Element p row i) s h = plainly to e _ s h (λ s. refl)
   s-conversion to e (Call f args) s h = plainly to e _ s h (λ s. refl)
   s-conversion to e (Unary op x) s h = plainly to e _ s h (λ s. refl)
   s-conversion to e (Cast k x) s h = plainly to e _ s h (λ s. refl)

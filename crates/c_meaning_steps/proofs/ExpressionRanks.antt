@@ -24,7 +24,7 @@ use Rattle.c_meaning_spec.specs.declared.Object.{Object}
 use Rattle.c_meaning_spec.specs.declared.Object.TheVariants.{InScalar, InArray}
 use Rattle.c_meaning_spec.specs.State.{State, cell, held, written}
 use Rattle.c_meaning_spec.specs.Word.{compound_of, bump_of, bump_value}
-use Rattle.c_meaning_spec.specs.Task.{Of, Run, Turn, element_of, scalar_of, is_array}
+use Rattle.c_meaning_spec.specs.Task.{Of, Run, Turn, element_of, row_element_of, scalar_of, is_array}
 use Rattle.c_tree.specs.declared.limits.TheConstants.{MOST_FRAME_BYTES}
 use Rattle.c_meaning_spec.specs.Call.{frame, entered}
 use Rattle.c_tree.specs.TypedTrees.{Node, node_of}
@@ -32,7 +32,8 @@ use Rattle.c_meaning_steps.specs.Operands.{Fetch, Fetched, Failed, Deferred, fet
 use Rattle.c_meaning_steps.specs.Operands.{operand_step}
 use Rattle.c_meaning_steps.proofs.Stocks.{Leaves, l-fetch}
 use Rattle.c_meaning_steps.specs.Follow.{Follow, FConverting, FElement, FArgument, FLeft, FRight}
-use Rattle.c_meaning_steps.specs.Follow.{FAssignElement}
+use Rattle.c_meaning_steps.specs.Follow.{FAssignElement, FAfterRow, FRowElement, FAssignAfterRow}
+use Rattle.c_meaning_steps.specs.Follow.{FAssignRow}
 use Rattle.c_meaning_steps.specs.Follow.{FAssigned, FCompounded, FDropped}
 use Rattle.c_meaning_steps.specs.Follow.{Step, Pushes, Does, Gives, Ends, Behind, under}
 use Rattle.c_meaning_steps.specs.Follow.{spend_step_of, spend_step, want_step, some_step, given_step}
@@ -43,6 +44,8 @@ use Rattle.c_meaning_steps.specs.ExpressionSteps.{put_step, called_step, argumen
 use Rattle.c_meaning_steps.specs.ExpressionSteps.{opened_step, node_step, conversion_step, of_step}
 use Rattle.c_meaning_steps.specs.ExpressionSteps.{assigned_step, compounded_step, assign_element_step}
 use Rattle.c_meaning_steps.specs.ExpressionSteps.{right_step, element_step, operated_step}
+use Rattle.c_meaning_steps.specs.ExpressionSteps.{row_element_step, after_row_step, assign_row_step}
+use Rattle.c_meaning_steps.specs.ExpressionSteps.{assign_after_row_step, bump_row_step}
 use Rattle.c_meaning_steps.specs.Ahead.{is_conversion, task_rank}
 
 -- what is left to be done after a step, beside the frames below
@@ -72,7 +75,7 @@ pub r-spend : (s : State) (f : State → Step) → ((s : State) → Light s.stoc
     → cost (spend_step s f) ≤ 8 * s.stock
 r-spend s f h = r-spend_of s.stock s f h refl
 
-r-light : (s : State) (step : Step) → cost step ≤ 8 * s.stock → Light s.stock step
+pub r-light : (s : State) (step : Step) → cost step ≤ 8 * s.stock → Light s.stock step
 r-light s step h = omega arith
 
 pub r-ends : (why : Ending) (s : State) → Light s.stock (Ends why s)
@@ -165,12 +168,29 @@ pub r-assign_element : (op : Option BinaryOp) (to : Option Kind) (at : Kind) (p 
 r-assign_element op to at p right w s =
     r-some (element_of p w s) s _ (λ x. r-assign_to op to at right s x)
 
+pub r-assign_row : (op : Option BinaryOp) (to : Option Kind) (at : Kind) (p : Place) (i : ℕ)
+    (right : TypedExpr) (j : ℕ) (s : State)
+    → Light s.stock (assign_row_step op to at p i right j s)
+r-assign_row op to at p i right j s =
+    r-some (row_element_of p i j s) s _ (λ x. r-assign_to op to at right s x)
+
+pub r-assign_after_row : (op : Option BinaryOp) (to : Option Kind) (at : Kind) (p : Place)
+    (index right : TypedExpr) (i : ℕ) (s : State)
+    → Light s.stock (assign_after_row_step op to at p index right i s)
+r-assign_after_row op to at p index right i s =
+    r-operand index (FAssignRow op to at p i right) s (assign_row_step op to at p i right)
+    (λ j u. r-assign_row op to at p i right j u)
+
 r-assign : (op : Option BinaryOp) (to : Option Kind) (at : Kind) (l : Node) (right : TypedExpr)
     (s : State) → Light s.stock (assign_step op to at l right s)
 r-assign op to at (Name p) right s = r-some (scalar_of p) s _ (λ x. r-assign_to op to at right s x)
-r-assign op to at (Element p index) right s =
+r-assign op to at (Element p None index) right s =
     r-operand index (FAssignElement op to at p right) s (assign_element_step op to at p right)
     (λ w u. r-assign_element op to at p right w u)
+r-assign op to at (Element p (Some row) index) right s =
+    r-operand row (FAssignAfterRow op to at p index right) s
+    (assign_after_row_step op to at p index right)
+    (λ i u. r-assign_after_row op to at p index right i u)
 r-assign op to at _ right s = r-ends Undefined s
 
 pub r-bump_object : (op : BumpOp) (k : Option Kind) (s : State) (x : Object)
@@ -178,9 +198,14 @@ pub r-bump_object : (op : BumpOp) (k : Option Kind) (s : State) (x : Object)
 r-bump_object op k s x = r-some (held (cell s x)) s _ (λ old. r-some (bump_of op k old) s _ (λ new.
     r-store_in (cell s x) s x new (Value (bump_value op old new))))
 
+pub r-bump_row : (op : BumpOp) (k : Option Kind) (p : Place) (i j : ℕ) (s : State)
+    → Light s.stock (bump_row_step op k p i j s)
+r-bump_row op k p i j s = r-some (row_element_of p i j s) s _ (λ x. r-bump_object op k s x)
+
 r-bump : (op : BumpOp) (k : Option Kind) (l : Node) (s : State) → Light s.stock (bump_step op k l s)
 r-bump op k (Name p) s = r-some (scalar_of p) s _ (λ x. r-bump_object op k s x)
-r-bump op k (Element p index) s = r-of index FDropped s
+r-bump op k (Element p None index) s = r-of index FDropped s
+r-bump op k (Element p (Some row) index) s = r-of row FDropped s
 r-bump op k _ s = r-ends Undefined s
 
 r-entered : (is_main fits : Bool) (f : TypedFunc) (done : List ℕ) (s : State)
@@ -229,6 +254,14 @@ r-right op k r a s = r-operand r (FRight op k a) s (operated_step op k a) (λ b 
 pub r-element : (p : Place) (w : ℕ) (s : State) → Light s.stock (element_step p w s)
 r-element p w s = r-some (element_of p w s) s _ (λ x. r-given _ s)
 
+pub r-row_element : (p : Place) (i j : ℕ) (s : State) → Light s.stock (row_element_step p i j s)
+r-row_element p i j s = r-some (row_element_of p i j s) s _ (λ x. r-given _ s)
+
+pub r-after_row : (p : Place) (index : TypedExpr) (i : ℕ) (s : State)
+    → Light s.stock (after_row_step p index i s)
+r-after_row p index i s = r-operand index (FRowElement p i) s (row_element_step p i)
+    (λ j u. r-row_element p i j u)
+
 r-binary : (op : BinaryOp) (l r : TypedExpr) (s : State) → Light s.stock (binary_step op l r s)
 r-binary LogicalAnd l r s = r-of l FDropped s
 r-binary LogicalOr l r s = r-of l FDropped s
@@ -238,7 +271,10 @@ r-binary op l r s = r-operand l (FLeft op l.kind r) s (right_step op l.kind r)
 r-opened : (P : TypedProgram) (e : Node) (s : State) → Light s.stock (opened_step P e s)
 r-opened P (Number w) s = r-gives Nothing s
 r-opened P (Name p) s = r-name P p s
-r-opened P (Element p i) s = r-operand i (FElement p) s (element_step p) (λ w u. r-element p w u)
+r-opened P (Element p None i) s = r-operand i (FElement p) s (element_step p)
+    (λ w u. r-element p w u)
+r-opened P (Element p (Some row) i) s = r-operand row (FAfterRow p i) s (after_row_step p i)
+    (λ w u. r-after_row p i w u)
 r-opened P (Call f args) s = r-arguments P f args [] s
 r-opened P (Unary op e) s = r-of e FDropped s
 r-opened P (Cast to e) s = r-of e FDropped s

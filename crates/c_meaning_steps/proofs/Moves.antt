@@ -1,5 +1,5 @@
 -- The machine's moves keep what is meant.
-use Rattle.std.proofs.Common.{◌≡◌, ℕ, Bool, List, [], ◌∷◌}
+use Rattle.std.proofs.Common.{◌≡◌, ℕ, Bool, nat_eq, List, [], ◌∷◌}
 use Rattle.std.proofs.Common.{Option, Some, None, refl, sym, ap}
 use Rattle.std.proofs.Common.{◌∙◌}
 use Rattle.c_tree.specs.declared.Place.{Place}
@@ -8,7 +8,8 @@ use Rattle.c_tree.specs.declared.TypedExpr.{TypedExpr}
 use Rattle.c_tree.specs.declared.TypedStmt.{TypedStmt, out-TypedStmt}
 use Rattle.c_tree.specs.declared.TypedForInit.{out-TypedForInit}
 use Rattle.c_tree.specs.declared.TypedForInit.TheOpen.{Declare, Plain, Compound, If, While, Do, For}
-use Rattle.c_tree.specs.declared.TypedForInit.TheOpen.{Break, Continue, Return}
+use Rattle.c_tree.specs.declared.TypedForInit.TheOpen.{Switch, Break, Continue, Return}
+use Rattle.c_tree.specs.declared.TypedSection.{TypedSection}
 use Rattle.c_tree.specs.declared.TypedForInit.TheOpen as init
 use Rattle.c_tree.specs.declared.TypedProgram.{TypedProgram}
 use Rattle.c_meaning_spec.specs.declared.Signal.{Signal}
@@ -24,18 +25,25 @@ use Rattle.c_tree.specs.TypedTrees.{Level, Beginning}
 use Rattle.c_meaning_spec.specs.Statement.{going_on, sequence, dropped, unset, unset_row}
 use Rattle.c_meaning_spec.specs.Statement.{declare, run_if, then_turn, locals, begin, after_body, turn}
 use Rattle.c_meaning_spec.specs.Statement.{begun, statement, initialised, after_test, after_if}
+use Rattle.c_meaning_spec.specs.Statement.{Target, targets, after_sections, run_from, compared_by}
+use Rattle.c_meaning_spec.specs.Statement.{compared, after_switch}
 use Rattle.c_meaning_spec.specs.Eval.{meaning}
 use Rattle.c_meaning_steps.specs.Follow.{Follow, FConverting, FUnary, FElement, FArgument, FLeft, FRight}
 use Rattle.c_meaning_steps.specs.Follow.{FAnd, FOr, FTruth, FValued, FChoice, FComma, FAssignElement}
 use Rattle.c_meaning_steps.specs.Follow.{FAssigned, FCompounded, FBumpElement, FCaller, FDropped}
 use Rattle.c_meaning_steps.specs.Follow.{FInitialised, FSequence, FIf, FThenTurn, FLocals, FTest, FBody}
+use Rattle.c_meaning_steps.specs.Follow.{FAfterRow, FRowElement, FAssignAfterRow, FAssignRow}
+use Rattle.c_meaning_steps.specs.Follow.{FBumpAfterRow, FBumpRow, FSwitch, FSections}
 use Rattle.c_meaning_steps.specs.Follow.{FReturning, Step, Pushes, Does, Gives, Ends, Behind}
 use Rattle.c_meaning_steps.specs.StatementSteps.{sequence_step, unset_step, unset_row_step, declare_step}
 use Rattle.c_meaning_steps.specs.StatementSteps.{then_turn_step, locals_step, begin_step, turn_step}
 use Rattle.c_meaning_steps.specs.StatementSteps.{begun_step, statement_step, act_step, if_step}
 use Rattle.c_meaning_steps.specs.StatementSteps.{dropped_step, turned_step}
 use Rattle.c_meaning_steps.specs.StatementSteps.{initialised_step, after_test_step, after_if_step}
+use Rattle.c_meaning_steps.specs.StatementSteps.{sections_step, compared_by_step, compared_step}
+use Rattle.c_meaning_steps.specs.StatementSteps.{after_switch_step}
 use Rattle.c_meaning_steps.specs.ResumeSteps.{returned_step, going_on_step, body_step, resume_step}
+use Rattle.c_meaning_steps.specs.ResumeSteps.{after_section_step}
 use Rattle.c_meaning_steps.specs.Ahead.{Next, ToDo, Given, back_of, unwind_of, settle_of, ahead_of}
 use Rattle.c_meaning_steps.specs.Ahead.{ahead_next, IsStep}
 use Rattle.c_meaning_spec.proofs.Equations.{meaning-is}
@@ -44,6 +52,8 @@ use Rattle.c_meaning_steps.proofs.ExpressionMoves.{s-spend, s-want, s-some, s-co
 use Rattle.c_meaning_steps.proofs.ExpressionMoves.{s-store_in, s-store_alone, s-compounded}
 use Rattle.c_meaning_steps.proofs.ExpressionMoves.{s-assign_element, s-bump_object, s-arguments}
 use Rattle.c_meaning_steps.proofs.ExpressionMoves.{s-right, s-element, s-of, s-followed}
+use Rattle.c_meaning_steps.proofs.ExpressionMoves.{s-row_element, s-after_row, s-assign_row}
+use Rattle.c_meaning_steps.proofs.ExpressionMoves.{s-assign_after_row, s-bump_row}
 
 then-then : (r : Result) (f g : Signal → State → Result)
     → then (then r f) g ≡ then r (λ v s. then (f v s) g)
@@ -140,6 +150,33 @@ module _ (P : TypedProgram) where
   s-turn (Some t) post body s = s-operand P t (FTest (Some t) post body) s _
       (λ w u. s-after_test (Some t) post body w u)
 
+  -- SWITCHES
+
+  s-sections : (all : List TypedStmt) (s : State)
+      → settle (sections_step all s) ≡ run_from means all s
+  s-sections [] s = refl
+  s-sections (st ∷ rest) s =
+      sym (then-then (means (Run st) s) (λ v s. going_on v s (sequence means rest)) after_sections)
+
+  s-compared_by : (w : ℕ) (l : Option ℕ) (here there fallback : State → Step)
+      (here' there' fallback' : State → Result) (s : State)
+      → ((u : State) → settle (here u) ≡ here' u) → ((u : State) → settle (there u) ≡ there' u)
+      → ((u : State) → settle (fallback u) ≡ fallback' u)
+      → settle (compared_by_step w l here there fallback s)
+      ≡ compared_by w l here' there' fallback' s
+  s-compared_by w None here there fallback here' there' fallback' s h t f = f s
+  s-compared_by w (Some n) here there fallback here' there' fallback' s h t f =
+      s-spend P s _ _ (λ u. s-cond P (nat_eq w n) (here u) (there u) (here' u) (there' u) (h u) (t u))
+
+  s-compared : (w : ℕ) (ts : List Target) (other : List TypedStmt) (s : State)
+      → settle (compared_step w ts other s) ≡ compared means w ts other s
+  s-compared w [] other s = s-sections other s
+  s-compared w (t ∷ ts) other s =
+      s-compared_by w t.label (sections_step t.statements) (compared_step w ts other)
+      (compared_step w ts t.statements) (run_from means t.statements) (compared means w ts other)
+      (compared means w ts t.statements) s (λ u. s-sections t.statements u)
+      (λ u. s-compared w ts other u) (λ u. s-compared w ts t.statements u)
+
   s-begun : (st : Level) (s : State) → settle (begun_step P st s) ≡ begun means st s
   s-begun (Declare p e) s = s-declare p e s
   s-begun (Plain None) s = refl
@@ -149,6 +186,8 @@ module _ (P : TypedProgram) where
   s-begun (While t body) s = refl
   s-begun (Do body t) s = refl
   s-begun (For f test post body) s = s-begin (out-TypedForInit f) test post body s
+  s-begun (Switch i t xs) s = s-operand P t (FSwitch xs) s _
+      (λ w u. s-compared w (targets xs) [] u)
   s-begun Break s = refl
   s-begun Continue s = refl
   s-begun (Return None) s = refl
@@ -178,10 +217,19 @@ module _ (P : TypedProgram) where
   s-body test post body Breaks s = refl
   s-body test post body _ s = refl
 
+  s-after_section : (rest : List TypedStmt) (v : Signal) (s : State)
+      → settle (after_section_step rest v s)
+      ≡ then (going_on v s (sequence means rest)) after_sections
+  s-after_section rest Nothing s = s-sections rest s
+  s-after_section rest Breaks s = refl
+  s-after_section rest _ s = refl
+
   pub s-resume : (f : Follow) (v : Signal) (s : State) → settle (resume_step P f v s) ≡ back f v s
   s-resume (FConverting to) v s = s-want P v s _ _ (λ w. refl)
   s-resume (FUnary op k) v s = s-want P v s _ _ (λ w. s-given P _ s)
   s-resume (FElement p) v s = s-want P v s _ _ (λ w. s-element P p w s)
+  s-resume (FAfterRow p index) v s = s-want P v s _ _ (λ w. s-after_row P p index w s)
+  s-resume (FRowElement p i) v s = s-want P v s _ _ (λ w. s-row_element P p i w s)
   s-resume (FArgument f rest done) v s = s-want P v s _ _ (λ w. s-arguments P f rest _ s)
   s-resume (FLeft op k right) v s = s-want P v s _ _ (λ w. s-right P op k right w s)
   s-resume (FRight op k a) v s = s-want P v s _ _ (λ w. s-given P _ s)
@@ -193,11 +241,17 @@ module _ (P : TypedProgram) where
   s-resume (FComma right) v s = refl
   s-resume (FAssignElement op to at p right) v s =
       s-want P v s _ _ (λ w. s-assign_element P op to at p right w s)
+  s-resume (FAssignAfterRow op to at p index right) v s =
+      s-want P v s _ _ (λ w. s-assign_after_row P op to at p index right w s)
+  s-resume (FAssignRow op to at p i right) v s =
+      s-want P v s _ _ (λ w. s-assign_row P op to at p i right w s)
   s-resume (FAssigned x) v s = s-want P v s _ _ (λ w. s-store_alone P (cell s x) s x w)
   s-resume (FCompounded op to at x old) v s =
       s-want P v s _ _ (λ w. s-compounded P op to at x old w s)
   s-resume (FBumpElement op k p) v s =
       s-want P v s _ _ (λ w. s-some P (element_of p w s) s _ _ (λ x. s-bump_object P op k s x))
+  s-resume (FBumpAfterRow op k p index) v s = s-want P v s _ _ (λ w. refl)
+  s-resume (FBumpRow op k p i) v s = s-want P v s _ _ (λ w. s-bump_row P op k p i w s)
   s-resume (FCaller is_main scalars count base room) v s = s-returned is_main v _
   s-resume FDropped v s = refl
   s-resume (FInitialised i) v s = s-want P v s _ _ (λ w. s-initialised i w s)
@@ -207,6 +261,8 @@ module _ (P : TypedProgram) where
   s-resume (FLocals rest test post body) v s = s-going_on v s _ _ (s-locals rest test post body s)
   s-resume (FTest test post body) v s = s-want P v s _ _ (λ w. s-after_test test post body w s)
   s-resume (FBody test post body) v s = s-body test post body v s
+  s-resume (FSwitch xs) v s = s-want P v s _ _ (λ w. s-compared w (targets xs) [] s)
+  s-resume (FSections rest) v s = s-after_section rest v s
   s-resume FReturning v s = s-want P v s _ _ (λ w. refl)
 
   pub s-act : (t : Task) (s : State) → settle (act_step P t s) ≡ means t s

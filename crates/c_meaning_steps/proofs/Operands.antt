@@ -112,7 +112,7 @@ module _ (P : TypedProgram) where
       let i : l ≡ Local j = cc in ap (λ (l : Leaf). leaf_result l s) i ∙ leaf-scalar e j s h
   leaf-is e (Name (place.Global i)) l s h g = absurd (cc)
   leaf-is e (Name (place.Array i)) l s h g = absurd (cc)
-  leaf-is e (Element p i) l s h g = absurd (cc)
+  leaf-is e (Element p row i) l s h g = absurd (cc)
   leaf-is e (Call f args) l s h g = absurd (cc)
   leaf-is e (Unary op x) l s h g = absurd (cc)
   leaf-is e (Cast k x) l s h g = absurd (cc)
@@ -178,9 +178,10 @@ module _ (P : TypedProgram) where
   fetch-is e (Name (place.Scalar i)) s h = told-leaf (Local i) s _ ∙ leaf-scalar e i s h
   fetch-is e (Name (place.Global i)) s h = refl
   fetch-is e (Name (place.Array i)) s h = refl
-  fetch-is e (Element p i) s h =
-      let g = plain e (Element p i) s h (λ s. refl) in
+  fetch-is e (Element p None i) s h =
+      let g = plain e (Element p None i) s h (λ s. refl) in
       element-is p i _ s (means (Of e)) refl g ∙ sym g
+  fetch-is e (Element p (Some row) i) s h = refl
   fetch-is e (Binary op l r) s h =
       let g = plain e (Binary op l r) s h (λ s. refl) in
       binary-is op l r _ _ s (means (Of e)) refl refl g ∙ sym g

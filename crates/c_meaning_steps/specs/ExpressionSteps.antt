@@ -21,12 +21,14 @@ use Rattle.c_meaning_spec.specs.declared.Object.{Object}
 use Rattle.c_meaning_spec.specs.declared.Object.TheVariants.{InScalar, InArray}
 use Rattle.c_meaning_spec.specs.State.{State, cell, held}
 use Rattle.c_meaning_spec.specs.Word.{bump_of, bump_value, binary_of, compound_of}
-use Rattle.c_meaning_spec.specs.Task.{Of, Run, scalar_of, is_array, element_of}
+use Rattle.c_meaning_spec.specs.Task.{Of, Run, scalar_of, is_array, element_of, row_element_of}
 use Rattle.c_meaning_spec.specs.Call.{frame, entered, left}
 use Rattle.c_tree.specs.TypedTrees.{Node, node_of}
 use Rattle.c_meaning_steps.specs.Operands.{operand_step}
 use Rattle.c_meaning_steps.specs.Follow.{FConverting, FUnary, FElement, FArgument, FLeft, FRight, FAnd, FOr}
 use Rattle.c_meaning_steps.specs.Follow.{FChoice, FComma, FAssignElement, FAssigned, FCompounded}
+use Rattle.c_meaning_steps.specs.Follow.{FAssignAfterRow, FAssignRow, FBumpAfterRow, FAfterRow}
+use Rattle.c_meaning_steps.specs.Follow.{FRowElement}
 use Rattle.c_meaning_steps.specs.Follow.{FBumpElement, FCaller, Step, Pushes, Gives, Ends, spend_step}
 use Rattle.c_meaning_steps.specs.Follow.{some_step, given_step, load_step, store_step}
 
@@ -61,11 +63,26 @@ abbrev pub assign_element_step : Option BinaryOp → Option Kind → Kind → Pl
 assign_element_step op to at p right w s =
     some_step (element_of p w s) s (assign_to_step op to at right s)
 
+-- an assignment to an element by two indexes, of which the first is known, by the value of the second
+abbrev pub assign_row_step : Option BinaryOp → Option Kind → Kind → Place → ℕ → TypedExpr → ℕ
+    → State → Step
+assign_row_step op to at p i right j s =
+    some_step (row_element_of p i j s) s (assign_to_step op to at right s)
+
+-- the second index after the first one
+abbrev pub assign_after_row_step : Option BinaryOp → Option Kind → Kind → Place → TypedExpr
+    → TypedExpr → ℕ → State → Step
+assign_after_row_step op to at p index right i s =
+    operand_step index (FAssignRow op to at p i right) s (assign_row_step op to at p i right)
+
 -- an assignment
 abbrev pub assign_step : Option BinaryOp → Option Kind → Kind → Node → TypedExpr → State → Step
 assign_step op to at (Name p) right s = some_step (scalar_of p) s (assign_to_step op to at right s)
-assign_step op to at (Element p index) right s =
+assign_step op to at (Element p None index) right s =
     operand_step index (FAssignElement op to at p right) s (assign_element_step op to at p right)
+assign_step op to at (Element p (Some row) index) right s =
+    operand_step row (FAssignAfterRow op to at p index right) s
+    (assign_after_row_step op to at p index right)
 assign_step op to at _ right s = Ends Undefined s
 
 -- ++ and -- on an object
@@ -74,10 +91,15 @@ bump_object_step op k s x =
     some_step (held (cell s x)) s (λ old.
     some_step (bump_of op k old) s (λ new. store_step s x new (Value (bump_value op old new))))
 
+-- ++ and -- on an element by two indexes, of which the first is known, by the value of the second
+abbrev pub bump_row_step : BumpOp → Option Kind → Place → ℕ → ℕ → State → Step
+bump_row_step op k p i j s = some_step (row_element_of p i j s) s (bump_object_step op k s)
+
 -- ++ and --
 abbrev pub bump_step : BumpOp → Option Kind → Node → State → Step
 bump_step op k (Name p) s = some_step (scalar_of p) s (bump_object_step op k s)
-bump_step op k (Element p index) s = Pushes (Of index) (FBumpElement op k p) s
+bump_step op k (Element p None index) s = Pushes (Of index) (FBumpElement op k p) s
+bump_step op k (Element p (Some row) index) s = Pushes (Of row) (FBumpAfterRow op k p index) s
 bump_step op k _ s = Ends Undefined s
 
 -- CALLS
@@ -140,6 +162,14 @@ right_step op k right a s = operand_step right (FRight op k a) s (operated_step 
 abbrev pub element_step : Place → ℕ → State → Step
 element_step p w s = some_step (element_of p w s) s (λ x. load_step x s)
 
+-- the value of an element by two indexes, of which the first is known, by the value of the second
+abbrev pub row_element_step : Place → ℕ → ℕ → State → Step
+row_element_step p i j s = some_step (row_element_of p i j s) s (λ x. load_step x s)
+
+-- the second index after the first one
+abbrev pub after_row_step : Place → TypedExpr → ℕ → State → Step
+after_row_step p index i s = operand_step index (FRowElement p i) s (row_element_step p i)
+
 -- an operation on two operands
 abbrev pub binary_step : BinaryOp → TypedExpr → TypedExpr → State → Step
 binary_step LogicalAnd left right s = Pushes (Of left) (FAnd right) s
@@ -151,7 +181,9 @@ binary_step op left right s =
 abbrev pub opened_step : TypedProgram → Node → State → Step
 opened_step P (Number w) s = Gives (Value w) s
 opened_step P (Name p) s = name_step P p s
-opened_step P (Element p index) s = operand_step index (FElement p) s (element_step p)
+opened_step P (Element p None index) s = operand_step index (FElement p) s (element_step p)
+opened_step P (Element p (Some row) index) s =
+    operand_step row (FAfterRow p index) s (after_row_step p index)
 opened_step P (Call f args) s = arguments_step P f args [] s
 opened_step P (Unary op e) s = Pushes (Of e) (FUnary op e.kind) s
 opened_step P (Cast to e) s = Pushes (Of e) (FConverting to) s

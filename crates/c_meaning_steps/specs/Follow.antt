@@ -8,6 +8,7 @@ use Rattle.c_tree.specs.declared.Place.{Place}
 use Rattle.c_tree.specs.declared.Callee.{Callee}
 use Rattle.c_tree.specs.declared.TypedExpr.{TypedExpr}
 use Rattle.c_tree.specs.declared.TypedStmt.{TypedStmt}
+use Rattle.c_tree.specs.declared.TypedSection.{TypedSection}
 use Rattle.c_meaning_spec.specs.declared.Signal.{Signal}
 use Rattle.c_meaning_spec.specs.declared.Signal.TheVariants.{Value}
 use Rattle.c_meaning_spec.specs.declared.Ending.{Ending}
@@ -21,6 +22,8 @@ pub data Follow : Type 0 where
   FConverting : (to : Kind) → Follow
   FUnary : (op : UnaryOp) (k : Option Kind) → Follow
   FElement : (p : Place) → Follow
+  FAfterRow : (p : Place) (index : TypedExpr) → Follow
+  FRowElement : (p : Place) (i : ℕ) → Follow
   FArgument : (f : Callee) (rest : List TypedExpr) (done : List ℕ) → Follow
   FLeft : (op : BinaryOp) (k : Option Kind) (right : TypedExpr) → Follow
   FRight : (op : BinaryOp) (k : Option Kind) (a : ℕ) → Follow
@@ -32,9 +35,15 @@ pub data Follow : Type 0 where
   FComma : (right : TypedExpr) → Follow
   FAssignElement : (op : Option BinaryOp) (to : Option Kind) (at : Kind) (p : Place)
       (right : TypedExpr) → Follow
+  FAssignAfterRow : (op : Option BinaryOp) (to : Option Kind) (at : Kind) (p : Place)
+      (index right : TypedExpr) → Follow
+  FAssignRow : (op : Option BinaryOp) (to : Option Kind) (at : Kind) (p : Place) (i : ℕ)
+      (right : TypedExpr) → Follow
   FAssigned : (x : Object) → Follow
   FCompounded : (op : BinaryOp) (to : Option Kind) (at : Kind) (x : Object) (old : ℕ) → Follow
   FBumpElement : (op : BumpOp) (k : Option Kind) (p : Place) → Follow
+  FBumpAfterRow : (op : BumpOp) (k : Option Kind) (p : Place) (index : TypedExpr) → Follow
+  FBumpRow : (op : BumpOp) (k : Option Kind) (p : Place) (i : ℕ) → Follow
   FCaller : (is_main : Bool) (scalars : List (Option ℕ)) (count base room : ℕ) → Follow
   FDropped : Follow
   FInitialised : (i : ℕ) → Follow
@@ -44,6 +53,8 @@ pub data Follow : Type 0 where
   FLocals : (rest : List TypedStmt) (test post : Option TypedExpr) (body : TypedStmt) → Follow
   FTest : (test post : Option TypedExpr) (body : TypedStmt) → Follow
   FBody : (test post : Option TypedExpr) (body : TypedStmt) → Follow
+  FSwitch : (sections : List TypedSection) → Follow
+  FSections : (rest : List TypedStmt) → Follow
   FReturning : Follow
 
 -- one move: to a task and what follows it, to a task alone, with what a part gave, to the end, or

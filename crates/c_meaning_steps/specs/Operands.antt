@@ -111,7 +111,8 @@ if_leaf (Some l) s = leaf_fetch l s
 abbrev pub fetch : Node → State → Fetch
 fetch (Number w) s = leaf_fetch (Constant w) s
 fetch (Name p) s = if_leaf (leaf_in p) s
-fetch (Element p index) s = element_fetch p (leaf_of (node_of index)) s
+fetch (Element p None index) s = element_fetch p (leaf_of (node_of index)) s
+fetch (Element p (Some row) index) s = Deferred s
 fetch (Binary op l r) s = binary_fetch op l.kind (leaf_of (node_of l)) (leaf_of (node_of r)) s
 fetch _ s = Deferred s
 

@@ -1,5 +1,5 @@
 -- The moves of statements.
-use Rattle.std.specs.Prelude.{ℕ, ◌+◌, cond, List, [], ◌∷◌, Option, Some, None, slice_get}
+use Rattle.std.specs.Prelude.{ℕ, ◌+◌, cond, nat_eq, List, [], ◌∷◌, Option, Some, None, slice_get}
 use Rattle.std.specs.Prelude.{slice_set, length, replicate}
 use Rattle.c_tree.specs.declared.Place.{Place}
 use Rattle.c_tree.specs.declared.Place.TheVariants as place
@@ -7,8 +7,9 @@ use Rattle.c_tree.specs.declared.TypedExpr.{TypedExpr}
 use Rattle.c_tree.specs.declared.TypedStmt.{TypedStmt, out-TypedStmt}
 use Rattle.c_tree.specs.declared.TypedForInit.{out-TypedForInit}
 use Rattle.c_tree.specs.declared.TypedForInit.TheOpen.{Declare, Plain, Compound, If, While, Do, For}
-use Rattle.c_tree.specs.declared.TypedForInit.TheOpen.{Break, Continue, Return}
+use Rattle.c_tree.specs.declared.TypedForInit.TheOpen.{Switch, Break, Continue, Return}
 use Rattle.c_tree.specs.declared.TypedForInit.TheOpen as init
+use Rattle.c_tree.specs.declared.TypedSection.{TypedSection}
 use Rattle.c_tree.specs.declared.TypedProgram.{TypedProgram}
 use Rattle.c_meaning_spec.specs.declared.Signal.{Signal}
 use Rattle.c_meaning_spec.specs.declared.Signal.TheVariants.{Nothing, Breaks, Continues, Returns}
@@ -17,9 +18,11 @@ use Rattle.c_meaning_spec.specs.declared.Object.TheVariants.{InScalar}
 use Rattle.c_meaning_spec.specs.State.{State, cell, written}
 use Rattle.c_meaning_spec.specs.Word.{is_false}
 use Rattle.c_meaning_spec.specs.Task.{Task, Of, Run, Turn}
+use Rattle.c_meaning_spec.specs.Statement.{Target, targets}
 use Rattle.c_tree.specs.TypedTrees.{node_of}
 use Rattle.c_tree.specs.TypedTrees.{Level, Beginning}
 use Rattle.c_meaning_steps.specs.Follow.{FDropped, FInitialised, FSequence, FIf, FThenTurn, FLocals, FTest}
+use Rattle.c_meaning_steps.specs.Follow.{FSwitch, FSections}
 use Rattle.c_meaning_steps.specs.Follow.{FBody, FReturning, Step, Pushes, Does, Gives, Ends, spend_step}
 use Rattle.c_meaning_steps.specs.Follow.{store_step, under}
 use Rattle.c_meaning_steps.specs.Operands.{operand_step}
@@ -106,6 +109,30 @@ if_step (Some st) s = Does (Run st) s
 abbrev pub after_if_step : TypedStmt → Option TypedStmt → ℕ → State → Step
 after_if_step one other w s = cond (is_false w) (if_step other s) (Does (Run one) s)
 
+-- the statements of a switch from a label on
+abbrev pub sections_step : List TypedStmt → State → Step
+sections_step [] s = Gives Nothing s
+sections_step (st ∷ rest) s = Pushes (Run st) (FSections rest) s
+
+-- a case label spends its step, and is the one or is followed by those behind it
+abbrev pub compared_by_step : ℕ → Option ℕ → (State → Step) → (State → Step) → (State → Step)
+    → State → Step
+compared_by_step w None here there fallback s = fallback s
+compared_by_step w (Some n) here there fallback s =
+    spend_step s (λ u. cond (nat_eq w n) (here u) (there u))
+
+-- a word is compared with labels, up to the first that is equal; where none is, control goes on at the
+-- other statements
+abbrev pub compared_step : ℕ → List Target → List TypedStmt → State → Step
+compared_step w [] other s = sections_step other s
+compared_step w (t ∷ ts) other s =
+    compared_by_step w t.label (sections_step t.statements) (compared_step w ts other)
+    (compared_step w ts t.statements) s
+
+-- the labels of a switch, by the value of its test
+abbrev pub after_switch_step : List TypedSection → ℕ → State → Step
+after_switch_step xs w s = compared_step w (targets xs) [] s
+
 -- a return of a value
 abbrev pub returning_step : ℕ → State → Step
 returning_step w s = Gives (Returns (Some w)) s
@@ -120,6 +147,7 @@ begun_step P (If t one other) s = operand_step t (FIf one other) s (after_if_ste
 begun_step P (While t body) s = Does (Turn (Some t) None body) s
 begun_step P (Do body t) s = Pushes (Run body) (FBody (Some t) None body) s
 begun_step P (For first test post body) s = begin_step P (out-TypedForInit first) test post body s
+begun_step P (Switch i t xs) s = operand_step t (FSwitch xs) s (after_switch_step xs)
 begun_step P Break s = Gives Breaks s
 begun_step P Continue s = Gives Continues s
 begun_step P (Return None) s = Gives (Returns None) s

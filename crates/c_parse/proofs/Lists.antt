@@ -10,6 +10,7 @@ use Rattle.c_grammar.specs.Tokens.{Tokens}
 use Rattle.c_grammar.specs.Parsing.{Stop, Out, and_then, syntax, tail, line_of, is_next, expect, listed, is_end, to_end}
 use Rattle.c_grammar.specs.ModelExpressions.{inside, conditional_of}
 use Rattle.c_grammar.specs.ModelStatements.{below_at, compound_of}
+use Rattle.c_grammar.specs.ModelUnits.{row_of, rows_of}
 use Rattle.c_grammar.specs.ModelUnits.{values_of, global_of, more_globals_of, param_of, param_list_of, item_of, unit_of}
 use Rattle.c_grammar.proofs.Agree.{if_true, if_false}
 use Rattle.c_parse.specs.Reads.{behind, Fails}
@@ -109,6 +110,11 @@ pub values_init : (left turns : ℕ) (ts : Tokens) → turns ≡ length ts + 1
     ts
 unfolding values_of
 values_init left turns ts e = trailed_init mark.RightBrace (conditional_of (inside left)) turns ts e
+
+pub rows_init : (left turns : ℕ) (ts : Tokens) → turns ≡ length ts + 1
+    → behind [] (listed mark.RightBrace true (row_of (inside left)) (turns - 0) ts) ≡ rows_of (inside left) ts
+unfolding rows_of
+rows_init left turns ts e = trailed_init mark.RightBrace (row_of (inside left)) turns ts e
 
 -- ---- parameters and globals
 

@@ -1,15 +1,17 @@
 -- What stands one deeper, and the loops of statements.
-use Rattle.std.proofs.Common.{◌≡◌, ℕ, suc, ◌+◌, ◌-◌, ◌<◌, true, false, cond, List, [], ◌∷◌, ◌++◌, length, Ok, Err, refl}
+use Rattle.std.proofs.Common.{◌≡◌, ℕ, suc, ◌+◌, ◌-◌, ◌<◌, Bool, true, false, cond, List, [], ◌∷◌, ◌++◌, length, Ok, Err, refl}
 use Rattle.std.proofs.Common.{sym, ap, ◌∙◌, arith, append_assoc}
 use Rattle.c_tree.specs.declared.token.Kind.{Kind}
+use Rattle.c_tree.specs.declared.token.Form.{Form}
 use Rattle.c_tree.specs.declared.token.Mark.{Mark}
 use Rattle.c_tree.specs.declared.token.Mark.TheVariants as mark
 use Rattle.c_grammar.specs.Tokens.{Tokens}
-use Rattle.c_grammar.specs.Parsing.{Stop, Out, and_then, syntax, too_deep, tail, first, is_next, listed, many}
+use Rattle.c_grammar.specs.Parsing.{Stop, Out, and_then, syntax, too_deep, tail, first, is_next, listed, many, repeated}
 use Rattle.c_grammar.specs.ModelTypes.{begins_type}
 use Rattle.c_grammar.specs.ModelExpressions.{inside}
 use Rattle.c_grammar.specs.ModelStatements.{begins_statement, decl_of, decls_of, locals_of, entry_of, entries_of}
-use Rattle.c_grammar.specs.ModelStatements.{stmt_of, below_at}
+use Rattle.c_grammar.specs.ModelStatements.{stmt_of, below_at, begins_label, label_of, labels_of, body_of, section_of}
+use Rattle.c_grammar.specs.ModelStatements.{sections_of}
 use Rattle.c_parse.specs.Reads.{behind, Fails}
 use Rattle.c_parse.specs.declared.fault.Stopped.{Stopped}
 use Rattle.c_parse.specs.declared.fault.Stopped.TheVariants as stopped
@@ -114,3 +116,43 @@ pub entries_init : (left turns : ℕ) (ts : Tokens) → turns ≡ length ts + 1
     (inside left) (below_at left) ts
 unfolding entries_of
 entries_init left turns ts e = many_init mark.RightBrace (entry_of (inside left) (below_at left)) turns ts e
+
+pub sections_init : (left turns : ℕ) (ts : Tokens) → turns ≡ length ts + 1
+    → behind [] (many mark.RightBrace (section_of (inside left) (below_at left)) (turns - 0) ts) ≡ sections_of
+    (inside left) (below_at left) ts
+unfolding sections_of
+sections_init left turns ts e = many_init mark.RightBrace (section_of (inside left) (below_at left)) turns ts e
+
+-- ---- items as long as another one begins
+
+module _ {A : Type 0} (begins : Form → Bool) (run : Tokens → Out A) where
+  repeated_turn : (n n' : ℕ) (found : List A) (x : A) (ts mid : Tokens) → n ≡ suc n' → run ts ≡ Ok (x, mid)
+      → first begins mid ≡ true
+      → behind found (repeated begins run n ts) ≡ behind (found ++ x ∷ []) (repeated begins run n' mid)
+  repeated_turn n n' found x ts mid e h c =
+      rw e (rw h (rw c (appended found (x ∷ []) (repeated begins run n' mid))))
+
+  -- the loop's turn keeps what it will find
+  pub repeated_keeps : (turns turn' : ℕ) (found found' : List A) (ts rest : Tokens) (x : A) (whole : Out (List A))
+      → turn' < turns → behind found (repeated begins run (turns - turn') ts) ≡ whole → run ts ≡ Ok (x, rest)
+      → first begins rest ≡ true → found' ≡ found ++ x ∷ []
+      → behind found' (repeated begins run (turns - (turn' + 1)) rest) ≡ whole
+  repeated_keeps turns turn' found found' ts rest x whole lt inv h c e =
+      rw e (sym (repeated_turn (turns - turn') (turns - (turn' + 1)) found x ts rest (omega (arith, lt)) h c) ∙ inv)
+
+  repeated_init : (turns : ℕ) (ts : Tokens) → turns ≡ length ts + 1
+      → behind [] (repeated begins run (turns - 0) ts) ≡ repeated begins run (suc (length ts)) ts
+  repeated_init turns ts e =
+      let i : turns - 0 ≡ suc (length ts) = omega (arith, e) in
+      behind_none _ ∙ ap (λ (n : ℕ). repeated begins run n ts) i
+
+pub labels_init : (left turns : ℕ) (ts : Tokens) → turns ≡ length ts + 1
+    → behind [] (repeated begins_label (label_of (inside left)) (turns - 0) ts) ≡ labels_of (inside left) ts
+unfolding labels_of
+labels_init left turns ts e = repeated_init begins_label (label_of (inside left)) turns ts e
+
+pub body_init : (left turns : ℕ) (ts : Tokens) → turns ≡ length ts + 1
+    → behind [] (repeated begins_statement (below_at left).inner (turns - 0) ts) ≡ body_of (inside left)
+    (below_at left) ts
+unfolding body_of
+body_init left turns ts e = repeated_init begins_statement (below_at left).inner turns ts e

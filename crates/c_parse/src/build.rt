@@ -1,12 +1,13 @@
-//! The nodes of statements, each from its parts.
+//! The nodes of statements and the sizes of arrays, each from its parts.
 
 ghost use Rattle.std.specs.Prelude.{◌≡◌, IfOk, Some, None, [], ◌∷◌};
 ghost use Rattle.c_grammar.specs.Statements as grammar;
+ghost use Rattle.c_grammar.specs.Units as units;
 ghost use Rattle.c_tree.specs.declared.tree.StmtNode.TheVariants as node;
 
 use crate::held::Held;
 use base::{Boxed, Items};
-use c_tree::{Expr, ForInit, Stmt, StmtNode, Top};
+use c_tree::{ArraySize, Expr, ForInit, Section, Stmt, StmtNode, Top};
 use std::alloc::{AllocError, Global};
 
 pub fn if_only(line: u32, test: Expr, yes: Boxed<Stmt>) -> Stmt
@@ -70,6 +71,25 @@ pub fn for_loop(
             post: post.into_inner(),
             body,
         },
+    }
+}
+
+pub fn switch(line: u32, test: Expr, sections: Items<Section>) -> Stmt
+    ensures { result ≡ grammar.at line (node.Switch test sections) }
+{
+    Stmt {
+        line,
+        node: StmtNode::Switch { test, sections },
+    }
+}
+
+/// One pair of brackets, with a size or empty.
+pub fn one_size(given: Option<Expr>) -> ArraySize
+    ensures { result ≡ units.one_size given }
+{
+    match given {
+        None => ArraySize::Open,
+        Some(e) => ArraySize::Sized(e),
     }
 }
 

@@ -26,14 +26,13 @@ impl Parser<'_> {
         Ok((line, None))
     }
 
-    #[tactic(auto, unfolding(c_grammar::specs::ModelUnits::some_brackets_of, c_grammar::specs::ModelUnits::brackets_of))]
+    #[tactic(auto, unfolding(c_grammar::specs::ModelUnits::brackets_of))]
     fn brackets(&mut self, left: u8) -> Result<ArraySize, Stopped>
         ensures { Reads (model.brackets_of (inside left) self.old.rest.now) result
             self.new.rest.now }
     {
         if self.is_next(Mark::LeftBracket) {
-            self.expect(Mark::LeftBracket)?;
-            return self.size(left);
+            return self.dimensions(left);
         }
         Ok(ArraySize::Scalar)
     }

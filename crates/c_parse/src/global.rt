@@ -18,16 +18,62 @@ use c_tree::{ArraySize, Expr, Kind, Mark, Top, TopNode, Word};
 impl Parser<'_> {
     /// A size or none, up to the bracket.
     #[tactic(auto, unfolding(c_grammar::specs::ModelUnits::no_size_of, c_grammar::specs::ModelUnits::some_size_of, c_grammar::specs::ModelUnits::size_of))]
-    pub fn size(&mut self, left: u8) -> Result<ArraySize, Stopped>
+    fn size(&mut self, left: u8) -> Result<Option<Expr>, Stopped>
         ensures { Reads (model.size_of (inside left) self.old.rest.now) result self.new.rest.now }
     {
         if self.is_next(Mark::RightBracket) {
             self.expect(Mark::RightBracket)?;
-            return Ok(ArraySize::Open);
+            return Ok(None);
         }
         let size = self.conditional(left)?;
         self.expect(Mark::RightBracket)?;
-        Ok(ArraySize::Sized(size))
+        Ok(Some(size))
+    }
+
+    /// A second size in its brackets.
+    #[tactic(auto, unfolding(c_grammar::specs::ModelUnits::second_of))]
+    fn second_size(&mut self, left: u8) -> Result<Expr, Stopped>
+        ensures { Reads (model.second_of (inside left) self.old.rest.now) result
+            self.new.rest.now }
+    {
+        self.expect(Mark::LeftBracket)?;
+        let size = self.conditional(left)?;
+        self.expect(Mark::RightBracket)?;
+        Ok(size)
+    }
+
+    /// A second pair of brackets.
+    #[tactic(auto, unfolding(c_grammar::specs::ModelUnits::two_pairs_of))]
+    fn second_pair(&mut self, left: u8, rows: Held<Option<Expr>>) -> Result<ArraySize, Stopped>
+        ensures { Reads (model.two_pairs_of (inside left) rows self.old.rest.now) result
+            self.new.rest.now }
+    {
+        let size = self.second_size(left)?;
+        let rows = rows.into_inner();
+        Ok(ArraySize::Rows { rows, size })
+    }
+
+    /// Behind the first pair of brackets: a second one, or what stands behind the array.
+    #[tactic(auto, unfolding(c_grammar::specs::ModelUnits::after_first))]
+    fn after_first(&mut self, left: u8, first: Option<Expr>) -> Result<ArraySize, Stopped>
+        ensures { Reads (model.after_first (inside left) first self.old.rest.now) result
+            self.new.rest.now }
+    {
+        if self.is_next(Mark::LeftBracket) {
+            return self.second_pair(left, Held::new(first));
+        }
+        Ok(build::one_size(first))
+    }
+
+    /// The brackets of an array, one pair or two.
+    #[tactic(auto, unfolding(c_grammar::specs::ModelUnits::dimensions_of))]
+    pub fn dimensions(&mut self, left: u8) -> Result<ArraySize, Stopped>
+        ensures { Reads (model.dimensions_of (inside left) self.old.rest.now) result
+            self.new.rest.now }
+    {
+        self.expect(Mark::LeftBracket)?;
+        let first = self.size(left)?;
+        self.after_first(left, first)
     }
 
     /// Values up to the brace, with a comma more where there is one.
@@ -52,32 +98,96 @@ impl Parser<'_> {
         Err(Stopped::Syntax)
     }
 
+    /// The values of an array with one size.
+    #[tactic(auto, unfolding(c_grammar::specs::ModelUnits::flat_of))]
+    fn flat(&mut self, left: u8) -> Result<Items<Items<Expr>>, Stopped>
+        ensures { Reads (model.flat_of (inside left) self.old.rest.now) result self.new.rest.now }
+    {
+        let values = self.values(left)?;
+        let mut found = Items::new(self.alloc);
+        found.push(values)?;
+        Ok(found)
+    }
+
+    /// A row of values in its braces.
+    #[tactic(auto, unfolding(c_grammar::specs::ModelUnits::row_of))]
+    fn row(&mut self, left: u8) -> Result<Items<Expr>, Stopped>
+        ensures { Reads (model.row_of (inside left) self.old.rest.now) result self.new.rest.now }
+    {
+        self.expect(Mark::LeftBrace)?;
+        self.values(left)
+    }
+
+    /// Rows up to the brace, with a comma more where there is one.
+    fn rows(&mut self, left: u8) -> Result<Items<Items<Expr>>, Stopped>
+        ensures { Reads (model.rows_of (inside left) self.old.rest.now) result self.new.rest.now }
+    {
+        let mut found = Items::new(self.alloc);
+        let turns = self.rest.len() + 1;
+        for _turn in 0..turns {
+            let row = self.row(left)?;
+            found.push(row)?;
+            if !self.is_next(Mark::Comma) {
+                self.expect(Mark::RightBrace)?;
+                return Ok(found);
+            }
+            self.advance();
+            if self.is_next(Mark::RightBrace) {
+                self.advance();
+                return Ok(found);
+            }
+        }
+        Err(Stopped::Syntax)
+    }
+
+    /// A list of values behind one pair of brackets.
     #[tactic(auto, unfolding(c_grammar::specs::ModelUnits::filled_of))]
     fn filled(
         &mut self,
         left: u8,
         size: Held<ArraySize>,
-    ) -> Result<(ArraySize, Items<Expr>), Stopped>
+    ) -> Result<(ArraySize, Items<Items<Expr>>), Stopped>
         ensures { Reads (model.filled_of (inside left) size self.old.rest.now) result
             self.new.rest.now }
     {
         self.expect(Mark::Assign)?;
         self.expect(Mark::LeftBrace)?;
-        let values = self.values(left)?;
-        Ok((size.into_inner(), values))
+        let lists = self.flat(left)?;
+        Ok((size.into_inner(), lists))
     }
 
-    fn or_sized(&mut self, size: ArraySize) -> Result<(ArraySize, Items<Expr>), Stopped>
+    /// Rows of values behind two pairs of brackets.
+    #[tactic(auto, unfolding(c_grammar::specs::ModelUnits::rows_filled_of))]
+    fn rows_filled(
+        &mut self,
+        left: u8,
+        size: Held<ArraySize>,
+    ) -> Result<(ArraySize, Items<Items<Expr>>), Stopped>
+        ensures { Reads (model.rows_filled_of (inside left) size self.old.rest.now) result
+            self.new.rest.now }
+    {
+        self.expect(Mark::Assign)?;
+        self.expect(Mark::LeftBrace)?;
+        let lists = self.rows(left)?;
+        Ok((size.into_inner(), lists))
+    }
+
+    fn or_sized(&mut self, size: ArraySize) -> Result<(ArraySize, Items<Items<Expr>>), Stopped>
         ensures { Reads (model.or_sized size self.old.rest.now) result self.new.rest.now }
     {
-        match size {
-            ArraySize::Scalar | ArraySize::Open => Err(Stopped::Syntax),
-            ArraySize::Sized(e) => Ok((ArraySize::Sized(e), Items::new(self.alloc))),
+        if has_first(&size) {
+            Ok((size, Items::new(self.alloc)))
+        } else {
+            Err(Stopped::Syntax)
         }
     }
 
     #[tactic(auto, unfolding(c_grammar::specs::ModelUnits::after_size))]
-    fn after_size(&mut self, left: u8, size: ArraySize) -> Result<(ArraySize, Items<Expr>), Stopped>
+    fn after_size(
+        &mut self,
+        left: u8,
+        size: ArraySize,
+    ) -> Result<(ArraySize, Items<Items<Expr>>), Stopped>
         ensures { Reads (model.after_size (inside left) size self.old.rest.now) result
             self.new.rest.now }
     {
@@ -87,29 +197,76 @@ impl Parser<'_> {
         self.or_sized(size)
     }
 
+    #[tactic(auto, unfolding(c_grammar::specs::ModelUnits::after_rows))]
+    fn after_rows(
+        &mut self,
+        left: u8,
+        size: ArraySize,
+    ) -> Result<(ArraySize, Items<Items<Expr>>), Stopped>
+        ensures { Reads (model.after_rows (inside left) size self.old.rest.now) result
+            self.new.rest.now }
+    {
+        if self.is_next(Mark::Assign) {
+            return self.rows_filled(left, Held::new(size));
+        }
+        self.or_sized(size)
+    }
+
+    #[tactic(auto, unfolding(c_grammar::specs::ModelUnits::rows_array_of))]
+    fn rows_array(
+        &mut self,
+        left: u8,
+        rows: Held<Option<Expr>>,
+    ) -> Result<(ArraySize, Items<Items<Expr>>), Stopped>
+        ensures { Reads (model.rows_array_of (inside left) rows self.old.rest.now) result
+            self.new.rest.now }
+    {
+        let size = self.second_size(left)?;
+        let rows = rows.into_inner();
+        self.after_rows(left, ArraySize::Rows { rows, size })
+    }
+
+    /// Behind the first pair of brackets of a global.
+    #[tactic(auto, unfolding(c_grammar::specs::ModelUnits::after_pair))]
+    fn after_pair(
+        &mut self,
+        left: u8,
+        first: Option<Expr>,
+    ) -> Result<(ArraySize, Items<Items<Expr>>), Stopped>
+        ensures { Reads (model.after_pair (inside left) first self.old.rest.now) result
+            self.new.rest.now }
+    {
+        if self.is_next(Mark::LeftBracket) {
+            return self.rows_array(left, Held::new(first));
+        }
+        self.after_size(left, build::one_size(first))
+    }
+
     #[tactic(auto, unfolding(c_grammar::specs::ModelUnits::array_of))]
-    fn global_array(&mut self, left: u8) -> Result<(ArraySize, Items<Expr>), Stopped>
+    fn global_array(&mut self, left: u8) -> Result<(ArraySize, Items<Items<Expr>>), Stopped>
         ensures { Reads (model.array_of (inside left) self.old.rest.now) result self.new.rest.now }
     {
         self.expect(Mark::LeftBracket)?;
-        let size = self.size(left)?;
-        self.after_size(left, size)
+        let first = self.size(left)?;
+        self.after_pair(left, first)
     }
 
     #[tactic(auto, unfolding(c_grammar::specs::ModelUnits::valued_of))]
-    fn valued(&mut self, left: u8) -> Result<(ArraySize, Items<Expr>), Stopped>
+    fn valued(&mut self, left: u8) -> Result<(ArraySize, Items<Items<Expr>>), Stopped>
         ensures { Reads (model.valued_of (inside left) self.old.rest.now) result self.new.rest.now }
     {
         self.expect(Mark::Assign)?;
         let value = self.conditional(left)?;
         let mut values = Items::new(self.alloc);
         values.push(value)?;
-        Ok((ArraySize::Scalar, values))
+        let mut lists = Items::new(self.alloc);
+        lists.push(values)?;
+        Ok((ArraySize::Scalar, lists))
     }
 
     /// What stands behind the name of a global.
     #[tactic(auto, unfolding(c_grammar::specs::ModelUnits::shape_of))]
-    fn global_shape(&mut self, left: u8) -> Result<(ArraySize, Items<Expr>), Stopped>
+    fn global_shape(&mut self, left: u8) -> Result<(ArraySize, Items<Items<Expr>>), Stopped>
         ensures { Reads (model.shape_of (inside left) self.old.rest.now) result self.new.rest.now }
     {
         if self.is_next(Mark::Assign) {
@@ -203,5 +360,19 @@ impl Parser<'_> {
             },
         };
         self.more_globals(left, kind, first)
+    }
+}
+
+/// Has the first pair of brackets a size?
+fn has_first(size: &ArraySize) -> bool
+    ensures { result ≡ model.has_first size.now }
+{
+    match size {
+        ArraySize::Scalar | ArraySize::Open => false,
+        ArraySize::Sized(_) => true,
+        ArraySize::Rows { rows, .. } => match rows {
+            None => false,
+            Some(_) => true,
+        },
     }
 }

@@ -13,6 +13,7 @@ mod make;
 mod parser;
 mod primary;
 mod statement;
+mod switch;
 mod types;
 mod unit;
 

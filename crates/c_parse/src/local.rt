@@ -60,14 +60,49 @@ impl Parser<'_> {
         Ok((ArraySize::Scalar, Some(value)))
     }
 
-    #[tactic(auto, unfolding(c_grammar::specs::ModelStatements::array_of))]
-    fn array(&mut self, left: u8) -> Result<(ArraySize, Option<Expr>), Stopped>
-        ensures { Reads (model.array_of (inside left) self.old.rest.now) result self.new.rest.now }
+    /// A size in its brackets.
+    #[tactic(auto, unfolding(c_grammar::specs::ModelStatements::size_of))]
+    fn local_size(&mut self, left: u8) -> Result<Expr, Stopped>
+        ensures { Reads (model.size_of (inside left) self.old.rest.now) result self.new.rest.now }
     {
         self.expect(Mark::LeftBracket)?;
         let size = self.conditional(left)?;
         self.expect(Mark::RightBracket)?;
+        Ok(size)
+    }
+
+    #[tactic(auto, unfolding(c_grammar::specs::ModelStatements::second_of))]
+    fn local_rows(&mut self, left: u8, rows: Expr) -> Result<(ArraySize, Option<Expr>), Stopped>
+        ensures { Reads (model.second_of (inside left) rows self.old.rest.now) result
+            self.new.rest.now }
+    {
+        let size = self.local_size(left)?;
+        let rows = Some(rows);
+        Ok((ArraySize::Rows { rows, size }, None))
+    }
+
+    /// Behind the first size of a local: a second one, or what stands behind the array.
+    #[tactic(auto, unfolding(c_grammar::specs::ModelStatements::after_size))]
+    fn after_local_size(
+        &mut self,
+        left: u8,
+        size: Expr,
+    ) -> Result<(ArraySize, Option<Expr>), Stopped>
+        ensures { Reads (model.after_size (inside left) size self.old.rest.now) result
+            self.new.rest.now }
+    {
+        if self.is_next(Mark::LeftBracket) {
+            return self.local_rows(left, size);
+        }
         Ok((ArraySize::Sized(size), None))
+    }
+
+    #[tactic(auto, unfolding(c_grammar::specs::ModelStatements::array_of))]
+    fn array(&mut self, left: u8) -> Result<(ArraySize, Option<Expr>), Stopped>
+        ensures { Reads (model.array_of (inside left) self.old.rest.now) result self.new.rest.now }
+    {
+        let size = self.local_size(left)?;
+        self.after_local_size(left, size)
     }
 
     /// What stands behind the name of a local.

@@ -1,6 +1,6 @@
 //! The nodes of expressions, each from its parts.
 
-ghost use Rattle.std.specs.Prelude.{◌≡◌, IfOk};
+ghost use Rattle.std.specs.Prelude.{◌≡◌, IfOk, Some, None};
 ghost use Rattle.c_grammar.specs.Operators as grammar;
 ghost use Rattle.c_tree.specs.declared.tree.ExprNode.TheVariants as node;
 
@@ -70,12 +70,38 @@ pub fn group(alloc: Global, line: u32, inner: Expr) -> Result<Expr, AllocError>
 }
 
 pub fn element(alloc: Global, line: u32, array: Word, index: Expr) -> Result<Expr, AllocError>
-    ensures { IfOk result (λ e. e ≡ grammar.at line (node.Element array index)) }
+    ensures { IfOk result (λ e. e ≡ grammar.at line (node.Element array None index)) }
 {
     let index = Boxed::new(alloc, index)?;
     Ok(Expr {
         line,
-        node: ExprNode::Element { array, index },
+        node: ExprNode::Element {
+            array,
+            row: None,
+            index,
+        },
+    })
+}
+
+/// An element with two indexes.
+pub fn row_element(
+    alloc: Global,
+    line: u32,
+    array: Word,
+    row: Expr,
+    index: Expr,
+) -> Result<Expr, AllocError>
+    ensures { IfOk result (λ e. e ≡ grammar.at line (node.Element array (Some row) index)) }
+{
+    let row = Boxed::new(alloc, row)?;
+    let index = Boxed::new(alloc, index)?;
+    Ok(Expr {
+        line,
+        node: ExprNode::Element {
+            array,
+            row: Some(row),
+            index,
+        },
     })
 }
 

@@ -69,6 +69,7 @@ impl Parser<'_> {
     {
         self.is_word(Key::Char)
             || self.is_word(Key::Int)
+            || self.is_word(Key::Short)
             || self.is_word(Key::Long)
             || self.is_word(Key::Signed)
             || self.is_word(Key::Unsigned)

@@ -38,16 +38,56 @@ impl Parser<'_> {
         Ok(make::group(self.alloc, line, inner)?)
     }
 
+    /// An index in its brackets.
+    #[cycle(expression)]
+    #[tactic(auto, unfolding(c_grammar::specs::ModelExpressions::index_of))]
+    fn index(&mut self, left: u8) -> Result<Expr, Stopped>
+        ensures { Reads (model.index_of (model.inside left) self.old.rest.now) result
+            self.new.rest.now }
+    {
+        let left = self.enter(Mark::LeftBracket, left)?;
+        let index = self.expression(left)?;
+        self.expect(Mark::RightBracket)?;
+        Ok(index)
+    }
+
+    #[cycle(expression)]
+    #[tactic(auto, unfolding(c_grammar::specs::ModelExpressions::second_of))]
+    fn second_index(&mut self, left: u8, line: u32, array: Word, row: Expr) -> Result<Expr, Stopped>
+        ensures { Reads (model.second_of (model.inside left) line array row self.old.rest.now)
+            result self.new.rest.now }
+    {
+        let index = self.index(left)?;
+        Ok(make::row_element(self.alloc, line, array, row, index)?)
+    }
+
+    /// Behind the first index of an element: a second one, or what stands behind the element.
+    #[cycle(expression)]
+    #[tactic(auto, unfolding(c_grammar::specs::ModelExpressions::after_index))]
+    fn after_index(
+        &mut self,
+        left: u8,
+        line: u32,
+        array: Word,
+        index: Expr,
+    ) -> Result<Expr, Stopped>
+        ensures { Reads (model.after_index (model.inside left) line array index self.old.rest.now)
+            result self.new.rest.now }
+    {
+        if self.is_next(Mark::LeftBracket) {
+            return self.second_index(left, line, array, index);
+        }
+        Ok(make::element(self.alloc, line, array, index)?)
+    }
+
     #[cycle(expression)]
     #[tactic(auto, unfolding(c_grammar::specs::ModelExpressions::element_of))]
     fn element(&mut self, left: u8, line: u32, array: Word) -> Result<Expr, Stopped>
         ensures { Reads (model.element_of (model.inside left) line array self.old.rest.now) result
             self.new.rest.now }
     {
-        let left = self.enter(Mark::LeftBracket, left)?;
-        let index = self.expression(left)?;
-        self.expect(Mark::RightBracket)?;
-        Ok(make::element(self.alloc, line, array, index)?)
+        let index = self.index(left)?;
+        self.after_index(left, line, array, index)
     }
 
     #[cycle(expression)]

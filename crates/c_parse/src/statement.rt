@@ -18,7 +18,7 @@ use c_tree::{Expr, ForInit, Form, Key, Mark, Stmt, StmtNode};
 
 impl Parser<'_> {
     /// Can a statement begin with the first token?
-    fn begins_statement(&self) -> bool
+    pub fn begins_statement(&self) -> bool
         ensures { result ≡ parsing.first model.begins_statement self.now.rest.now }
     {
         match self.rest {
@@ -29,7 +29,7 @@ impl Parser<'_> {
 
     /// A statement inside another one.
     #[cycle(statement)]
-    fn inner(&mut self, left: u8) -> Result<Stmt, Stopped>
+    pub fn inner(&mut self, left: u8) -> Result<Stmt, Stopped>
         ensures { Reads ((model.below_at left).inner self.old.rest.now) result self.new.rest.now }
     {
         if left == 0 {
@@ -342,6 +342,9 @@ impl Parser<'_> {
         if self.is_word(Key::For) {
             return self.for_statement(left);
         }
+        if self.is_word(Key::Switch) {
+            return self.switch_statement(left);
+        }
         self.simple(left)
     }
 }
@@ -353,7 +356,14 @@ fn begins_with(form: &Form) -> bool
         Form::Name(_) | Form::Number { .. } => true,
         Form::Key(key) => matches!(
             key,
-            Key::If | Key::While | Key::Do | Key::For | Key::Break | Key::Continue | Key::Return
+            Key::If
+                | Key::While
+                | Key::Do
+                | Key::For
+                | Key::Switch
+                | Key::Break
+                | Key::Continue
+                | Key::Return
         ),
         Form::Mark(mark) => matches!(
             mark,

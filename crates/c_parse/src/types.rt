@@ -28,31 +28,37 @@ impl Parser<'_> {
         Ok((line, kind))
     }
 
-    #[tactic(auto, unfolding(c_grammar::specs::ModelTypes::long_of))]
-    fn long(&mut self, line: u32, kind: Kind) -> Result<(u32, Kind), Stopped>
-        ensures { Reads (model.long_of line kind self.old.rest.now) result self.new.rest.now }
+    /// `short` or `long`, and an `int` that may be left out, behind a sign.
+    #[tactic(auto, unfolding(c_grammar::specs::ModelTypes::and_int_of))]
+    fn and_int(&mut self, key: Key, line: u32, kind: Kind) -> Result<(u32, Kind), Stopped>
+        ensures { Reads (model.and_int_of key line kind self.old.rest.now) result
+            self.new.rest.now }
     {
-        self.expect_keyword(Key::Long)?;
+        self.expect_keyword(key)?;
         self.int(line, kind)
     }
 
-    /// Behind `signed` or `unsigned`: the types with `char`, `int` and `long`.
+    /// Behind `signed` or `unsigned`: the types with `char`, `short`, `int` and `long`.
     #[tactic(auto, unfolding(c_grammar::specs::ModelTypes::sized_of))]
     fn sized(
         &mut self,
         line: u32,
         char: Kind,
+        short: Kind,
         int: Kind,
         long: Kind,
     ) -> Result<(u32, Kind), Stopped>
-        ensures { Reads (model.sized_of line char int long self.old.rest.now) result
+        ensures { Reads (model.sized_of line char short int long self.old.rest.now) result
             self.new.rest.now }
     {
         if self.is_word(Key::Char) {
             return self.char(line, char);
         }
+        if self.is_word(Key::Short) {
+            return self.and_int(Key::Short, line, short);
+        }
         if self.is_word(Key::Long) {
-            return self.long(line, long);
+            return self.and_int(Key::Long, line, long);
         }
         self.int(line, int)
     }
@@ -62,7 +68,7 @@ impl Parser<'_> {
         ensures { Reads (model.signed_of self.old.rest.now) result self.new.rest.now }
     {
         let line = self.expect_keyword(Key::Signed)?;
-        self.sized(line, Kind::Char, Kind::Int, Kind::Long)
+        self.sized(line, Kind::Char, Kind::Short, Kind::Int, Kind::Long)
     }
 
     #[tactic(auto, unfolding(c_grammar::specs::ModelTypes::unsigned_of))]
@@ -70,7 +76,7 @@ impl Parser<'_> {
         ensures { Reads (model.unsigned_of self.old.rest.now) result self.new.rest.now }
     {
         let line = self.expect_keyword(Key::Unsigned)?;
-        self.sized(line, Kind::UChar, Kind::UInt, Kind::ULong)
+        self.sized(line, Kind::UChar, Kind::UShort, Kind::UInt, Kind::ULong)
     }
 
     #[tactic(auto, unfolding(c_grammar::specs::ModelTypes::plain_of))]
@@ -81,12 +87,13 @@ impl Parser<'_> {
         Ok((line, kind))
     }
 
-    #[tactic(auto, unfolding(c_grammar::specs::ModelTypes::longs_of))]
-    fn longs(&mut self) -> Result<(u32, Kind), Stopped>
-        ensures { Reads (model.longs_of self.old.rest.now) result self.new.rest.now }
+    /// A type that begins with `short` or `long`.
+    #[tactic(auto, unfolding(c_grammar::specs::ModelTypes::begun_of))]
+    fn begun(&mut self, key: Key, kind: Kind) -> Result<(u32, Kind), Stopped>
+        ensures { Reads (model.begun_of key kind self.old.rest.now) result self.new.rest.now }
     {
-        let line = self.expect_keyword(Key::Long)?;
-        self.int(line, Kind::Long)
+        let line = self.expect_keyword(key)?;
+        self.int(line, kind)
     }
 
     /// A type, and the line of its first word.
@@ -100,8 +107,11 @@ impl Parser<'_> {
         if self.is_word(Key::Int) {
             return self.plain(Key::Int, Kind::Int);
         }
+        if self.is_word(Key::Short) {
+            return self.begun(Key::Short, Kind::Short);
+        }
         if self.is_word(Key::Long) {
-            return self.longs();
+            return self.begun(Key::Long, Kind::Long);
         }
         if self.is_word(Key::Signed) {
             return self.signed();

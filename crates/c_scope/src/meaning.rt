@@ -5,7 +5,12 @@ use c_tree::{Callee, Kind, Place, Slot, Word};
 #[derive(Drop)]
 pub enum Meaning {
     Scalar(Kind, Place),
-    Array(Kind, Place),
+    /// An array: the type of its elements, how many of them a row has where it has two sizes, and its place.
+    Array {
+        kind: Kind,
+        row: Option<u32>,
+        place: Place,
+    },
     /// A function. `callee` is what a call of it calls, none where the unit does not define it; `defined`
     /// says whether its definition, or the include that stands for one, has come.
     Function {

@@ -16,11 +16,11 @@ pub use limits::{
 };
 pub use token::{Form, Key, Kind, Lexeme, Mark};
 pub use tree::{
-    ArraySize, BinaryOp, BumpOp, Expr, ExprNode, ForInit, Param, Program, Stmt, StmtNode, Top,
-    TopNode, UnaryOp,
+    ArraySize, BinaryOp, BumpOp, Expr, ExprNode, ForInit, Label, Param, Program, Section, Stmt,
+    StmtNode, Top, TopNode, UnaryOp,
 };
 pub use typed::{
     Callee, Place, Slot, TypedArray, TypedExpr, TypedForInit, TypedFunc, TypedGlobal, TypedNode,
-    TypedProgram, TypedStmt,
+    TypedProgram, TypedSection, TypedStmt,
 };
 pub use word::Word;

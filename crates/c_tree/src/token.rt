@@ -97,12 +97,14 @@ pub enum Mark {
     MinusMinus,
 }
 
-/// An arithmetic type: `char` (which is signed), `unsigned char`, `int`, `unsigned int`, `long` and
-/// `unsigned long`, of 8, 8, 32, 32, 64 and 64 bits.
+/// An arithmetic type: `char` (which is signed), `unsigned char`, `short`, `unsigned short`, `int`,
+/// `unsigned int`, `long` and `unsigned long`, of 8, 8, 16, 16, 32, 32, 64 and 64 bits.
 #[derive(Clone, Copy, Debug, PartialEq, Eq)]
 pub enum Kind {
     Char,
     UChar,
+    Short,
+    UShort,
     Int,
     UInt,
     Long,

@@ -52,7 +52,8 @@ pub struct Expr {
 
 /// What an expression is. A parenthesised one is a `Group`.
 ///
-/// `Assign` has the operator of a compound assignment, and none for `=`.
+/// An `Element` of an array with two sizes has the first of its two indexes as `row`. `Assign` has the
+/// operator of a compound assignment, and none for `=`.
 #[derive(Drop)]
 #[cycle(expr)]
 pub enum ExprNode {
@@ -63,6 +64,7 @@ pub enum ExprNode {
     Name(Word),
     Element {
         array: Word,
+        row: Option<Boxed<Expr>>,
         index: Boxed<Expr>,
     },
     Call {
@@ -103,12 +105,30 @@ pub enum ExprNode {
     },
 }
 
-/// What follows a declared name: no brackets, empty ones, or ones with a size.
+/// What follows a declared name: no brackets, empty ones, ones with a size, or two pairs of brackets, of
+/// which the first may be empty.
 #[derive(Drop)]
 pub enum ArraySize {
     Scalar,
     Open,
     Sized(Expr),
+    Rows { rows: Option<Expr>, size: Expr },
+}
+
+/// A label of a section, at the line of its keyword: a case with its constant, or `default`, which has
+/// none (C17 6.8.1).
+#[derive(Drop)]
+pub struct Label {
+    pub line: u32,
+    pub value: Option<Expr>,
+}
+
+/// A section of a switch: its labels, one at least, and the statements behind them, one at least.
+#[derive(Drop)]
+#[cycle(stmt)]
+pub struct Section {
+    pub labels: Items<Label>,
+    pub body: Items<Stmt>,
 }
 
 /// A statement (C17 6.8) or a local declaration, and the line of its first token.
@@ -152,6 +172,10 @@ pub enum StmtNode {
         post: Option<Expr>,
         body: Boxed<Stmt>,
     },
+    Switch {
+        test: Expr,
+        sections: Items<Section>,
+    },
     Break,
     Continue,
     Return(Option<Expr>),
@@ -184,8 +208,9 @@ pub struct Top {
 
 /// What an item is. A declaration of globals gives one `Global` for each of its declarators.
 ///
-/// A scalar's initialiser is a list of one. A `result` of none is void, and a `body` of none makes a
-/// prototype.
+/// A global's `init` has one list of values for each row that is given where it has two sizes, and else
+/// one list, which has one value for a scalar; without an initialiser it has none. A `result` of none is
+/// void, and a `body` of none makes a prototype.
 #[derive(Drop)]
 pub enum TopNode {
     Include,
@@ -193,7 +218,7 @@ pub enum TopNode {
         kind: Kind,
         name: Word,
         size: ArraySize,
-        init: Items<Expr>,
+        init: Items<Items<Expr>>,
     },
     Func {
         result: Option<Kind>,

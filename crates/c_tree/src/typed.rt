@@ -19,18 +19,21 @@ pub enum Callee {
     PutChar,
 }
 
-/// What a scalar slot of a function holds: a value, or the array that an array parameter stands for.
+/// What a scalar slot of a function holds: a value, or the array that an array parameter stands for, with
+/// its second size where it has two.
 #[derive(Clone, Copy, Debug, PartialEq, Eq)]
 pub enum Slot {
     Scalar(Kind),
-    Address(Kind),
+    Address { kind: Kind, row: Option<u32> },
 }
 
-/// A local array.
+/// A local array: how many elements it has in all, and how many each of its rows has where it has two
+/// sizes.
 #[derive(Clone, Copy, Debug, PartialEq, Eq)]
 pub struct TypedArray {
     pub kind: Kind,
     pub length: u32,
+    pub row: Option<u32>,
 }
 
 /// A typed expression. Its kind is none for a call that gives no value.
@@ -55,6 +58,7 @@ pub enum TypedNode {
     Name(Place),
     Element {
         array: Place,
+        row: Option<Boxed<TypedExpr>>,
         index: Boxed<TypedExpr>,
     },
     Call {
@@ -99,7 +103,17 @@ pub enum TypedNode {
     },
 }
 
-/// A typed statement.
+/// A section of a typed switch: the words of its labels, converted to the type of the test, where
+/// `default` has none, and its statements.
+#[derive(Drop)]
+#[cycle(typed_stmt)]
+pub struct TypedSection {
+    pub labels: Items<Option<u64>>,
+    pub body: Items<TypedStmt>,
+}
+
+/// A typed statement. The `scalar` of a `Switch` is the one that it counts: a slot of its own, of the type
+/// of its test.
 #[derive(Drop)]
 #[cycle(typed_stmt)]
 pub enum TypedStmt {
@@ -128,6 +142,11 @@ pub enum TypedStmt {
         post: Option<TypedExpr>,
         body: Boxed<TypedStmt>,
     },
+    Switch {
+        scalar: u32,
+        test: TypedExpr,
+        sections: Items<TypedSection>,
+    },
     Break,
     Continue,
     Return(Option<TypedExpr>),
@@ -142,12 +161,14 @@ pub enum TypedForInit {
     Locals(Items<TypedStmt>),
 }
 
-/// A global: a scalar where its length is none. `init` has the values given, converted to the kind;
-/// the rest is zero.
+/// A global: a scalar where its length is none, which counts all elements; `row` is the second size where
+/// it has two. `init` has the values given, converted to the kind, and with two sizes whole rows; the rest
+/// is zero.
 #[derive(Drop)]
 pub struct TypedGlobal {
     pub kind: Kind,
     pub length: Option<u32>,
+    pub row: Option<u32>,
     pub init: Items<u64>,
 }
 

@@ -1,5 +1,5 @@
 -- The definitions at each statement.
-use Rattle.std.proofs.Common.{◌≡◌, ℕ, Bool, true, List, [], ◌∷◌, map, max, Option, Some, None, sym, ap, ◌∙◌, subst}
+use Rattle.std.proofs.Common.{◌≡◌, ℕ, refl, List, [], ◌∷◌, map, max, Option, Some, None, sym, ap, ◌∙◌, subst}
 use Rattle.std.specs.Prelude.{option_map, Result, Ok, Err}
 use Rattle.std.specs.Result.{IsErrAnd}
 use Rattle.c_tree.specs.declared.token.Kind.{Kind}
@@ -8,6 +8,8 @@ use Rattle.c_tree.specs.declared.tree.Expr.{Expr}
 use Rattle.c_tree.specs.declared.tree.ForInit.{ForInit, map-ForInit, fold-roll-ForInit, fold-ForInit, roll-ForInit}
 use Rattle.c_tree.specs.declared.tree.ForInit.TheVariants as first_part
 use Rattle.c_tree.specs.declared.tree.ForInit.TheOpen.{ForInit-F, StmtNode-F}
+use Rattle.c_tree.specs.declared.tree.Section.{Section, fold-Section, fold-roll-Section, out-Section}
+use Rattle.c_tree.specs.declared.tree.Section.{roll-out-Section}
 use Rattle.c_tree.specs.declared.tree.Stmt.{Stmt, fold_out-Stmt, size-Stmt}
 use Rattle.c_tree.specs.declared.tree.StmtNode.{StmtNode, map-StmtNode, fold-roll-StmtNode}
 use Rattle.c_tree.specs.declared.tree.StmtNode.{fold-StmtNode, roll-StmtNode}
@@ -23,32 +25,40 @@ use Rattle.c_type_expr.specs.Trees.{tree}
 use Rattle.c_type_expr.specs.Constants.{full}
 use Rattle.c_type_expr.specs.Says.{Stops}
 use Rattle.c_type.specs.declared.state.State.{State}
-use Rattle.c_type.specs.States.{at, full_if, tree_if, entered, left}
+use Rattle.c_type.specs.declared.state.Around.{Around}
+use Rattle.c_type.specs.States.{at, full_if, tree_if, entered, left, with_switch}
 use Rattle.c_type.specs.Declarations.{declared, declare_fault, declare_tree}
 use Rattle.c_type.specs.Statements.{Part, Beginning, part, beginning_of, init_part, node_part}
 use Rattle.c_type.specs.Statements.{at_line, all_after, all_fault, all_trees, else_after}
 use Rattle.c_type.specs.Statements.{else_fault, else_tree, rest_fault, for_fault, for_tree}
-use Rattle.c_type.specs.Statements.{return_fault, return_tree}
+use Rattle.c_type.specs.Statements.{return_fault, return_tree, in_loop, SectionPart, section_part}
+use Rattle.c_type.specs.Statements.{statements_in, section_of, switch_part, switch_fault, switch_tree, switch_kind}
+use Rattle.c_type.specs.Statements.{sections_after}
 use Rattle.c_type.specs.Runs.{Runs}
 
 abbrev A : Type 0
 A = ℕ → Part
 
 -- what a statement does is given by its node, whose parts are folded
-part_by : (l : ℕ) (n : StmtNode) (x : StmtNode-F ForInit StmtNode Stmt) → roll-StmtNode x ≡ n
-    → part (at l n) ≡ node_part (map-StmtNode ForInit StmtNode Stmt Beginning A Part
-    (fold-ForInit Beginning A Part init_part node_part at_line)
-    (fold-StmtNode Beginning A Part init_part node_part at_line) part x) l
+part_by : (l : ℕ) (n : StmtNode) (x : StmtNode-F ForInit StmtNode Section Stmt) → roll-StmtNode x ≡ n
+    → part (at l n) ≡ node_part (map-StmtNode ForInit StmtNode Section Stmt Beginning A SectionPart Part
+    (fold-ForInit Beginning A SectionPart Part init_part node_part section_part at_line)
+    (fold-StmtNode Beginning A SectionPart Part init_part node_part section_part at_line)
+    (fold-Section Beginning A SectionPart Part init_part node_part section_part at_line) part x) l
 unfolding part
 part_by l n x e =
-    fold_out-Stmt Beginning A Part init_part node_part at_line (at l n)
-    ∙ ap (λ (m : StmtNode). fold-StmtNode Beginning A Part init_part node_part at_line m l) (sym e)
-    ∙ ap (λ (f : A). f l) (fold-roll-StmtNode Beginning A Part init_part node_part at_line x)
+    fold_out-Stmt Beginning A SectionPart Part init_part node_part section_part at_line (at l n)
+    ∙ ap (λ (m : StmtNode). fold-StmtNode Beginning A SectionPart Part init_part node_part section_part at_line m l) (sym e)
+    ∙ ap (λ (f : A). f l) (fold-roll-StmtNode Beginning A SectionPart Part init_part node_part section_part at_line x)
 
 -- the measure of a list of statements, and of a leg that may be left out
 abbrev pub deepest : List Stmt → ℕ
 deepest [] = 0
 deepest (s ∷ ss) = max (size-Stmt s) (deepest ss)
+
+abbrev pub deepest_in : List Section → ℕ
+deepest_in [] = 0
+deepest_in (x ∷ xs) = max (deepest (statements_in x)) (deepest_in xs)
 
 abbrev pub else_size : Option Stmt → ℕ
 else_size None = 0
@@ -60,7 +70,7 @@ pub after-Declare : (l : ℕ) (k : Kind) (w : List ℕ) (size : ArraySize) (init
 after-Declare l k w size init v =
     ap (λ (p : Part). p.after v) (part_by l _ (StmtNode-F.Declare k w size init) (node.rolls-Declare k w size init))
 
-pub fault-Declare : (l : ℕ) (k : Kind) (w : List ℕ) (size : ArraySize) (init : Option Expr) (b : Bool) (v : State)
+pub fault-Declare : (l : ℕ) (k : Kind) (w : List ℕ) (size : ArraySize) (init : Option Expr) (b : Around) (v : State)
     → (part (at l (node.Declare k w size init))).fault b v ≡ declare_fault size k w init l v
 fault-Declare l k w size init b v =
     ap (λ (p : Part). p.fault b v) (part_by l _ (StmtNode-F.Declare k w size init) (node.rolls-Declare k w size init))
@@ -76,7 +86,7 @@ pub ruleset on_declare = (after-Declare, fault-Declare, tree-Declare)
 pub after-Plain : (l : ℕ) (e : Option Expr) (v : State) → (part (at l (node.Plain e))).after v ≡ v
 after-Plain l e v = ap (λ (p : Part). p.after v) (part_by l _ (StmtNode-F.Plain e) (node.rolls-Plain e))
 
-pub fault-Plain : (l : ℕ) (e : Option Expr) (b : Bool) (v : State)
+pub fault-Plain : (l : ℕ) (e : Option Expr) (b : Around) (v : State)
     → (part (at l (node.Plain e))).fault b v ≡ full_if e Free v.names
 fault-Plain l e b v = ap (λ (p : Part). p.fault b v) (part_by l _ (StmtNode-F.Plain e) (node.rolls-Plain e))
 
@@ -91,7 +101,7 @@ pub after-Compound : (l : ℕ) (ss : List Stmt) (v : State)
     → (part (at l (node.Compound ss))).after v ≡ left (all_after (map part ss) (entered v))
 after-Compound l ss v = ap (λ (p : Part). p.after v) (part_by l _ (StmtNode-F.Compound ss) (node.rolls-Compound ss))
 
-pub fault-Compound : (l : ℕ) (ss : List Stmt) (b : Bool) (v : State)
+pub fault-Compound : (l : ℕ) (ss : List Stmt) (b : Around) (v : State)
     → (part (at l (node.Compound ss))).fault b v ≡ all_fault (map part ss) b (entered v)
 fault-Compound l ss b v =
     ap (λ (p : Part). p.fault b v) (part_by l _ (StmtNode-F.Compound ss) (node.rolls-Compound ss))
@@ -108,8 +118,8 @@ pub after-While : (l : ℕ) (test : Expr) (body : Stmt) (v : State)
 after-While l test body v =
     ap (λ (p : Part). p.after v) (part_by l _ (StmtNode-F.While test body) (node.rolls-While test body))
 
-pub fault-While : (l : ℕ) (test : Expr) (body : Stmt) (b : Bool) (v : State)
-    → (part (at l (node.While test body))).fault b v ≡ first (full test Value v.names) ((part body).fault true v)
+pub fault-While : (l : ℕ) (test : Expr) (body : Stmt) (b : Around) (v : State)
+    → (part (at l (node.While test body))).fault b v ≡ first (full test Value v.names) ((part body).fault in_loop v)
 fault-While l test body b v =
     ap (λ (p : Part). p.fault b v) (part_by l _ (StmtNode-F.While test body) (node.rolls-While test body))
 
@@ -126,8 +136,8 @@ pub after-Do : (l : ℕ) (body : Stmt) (test : Expr) (v : State)
 after-Do l body test v =
     ap (λ (p : Part). p.after v) (part_by l _ (StmtNode-F.Do body test) (node.rolls-Do body test))
 
-pub fault-Do : (l : ℕ) (body : Stmt) (test : Expr) (b : Bool) (v : State)
-    → (part (at l (node.Do body test))).fault b v ≡ first ((part body).fault true v)
+pub fault-Do : (l : ℕ) (body : Stmt) (test : Expr) (b : Around) (v : State)
+    → (part (at l (node.Do body test))).fault b v ≡ first ((part body).fault in_loop v)
     (full test Value ((part body).after v).names)
 fault-Do l body test b v =
     ap (λ (p : Part). p.fault b v) (part_by l _ (StmtNode-F.Do body test) (node.rolls-Do body test))
@@ -147,7 +157,7 @@ after-For l init test post body v =
     ap (λ (p : Part). p.after v) (part_by l _ (StmtNode-F.For init test post body)
     (node.rolls-For init test post body))
 
-pub fault-For : (l : ℕ) (init : ForInit) (test post : Option Expr) (body : Stmt) (b : Bool) (v : State)
+pub fault-For : (l : ℕ) (init : ForInit) (test post : Option Expr) (body : Stmt) (b : Around) (v : State)
     → (part (at l (node.For init test post body))).fault b v ≡ for_fault (beginning_of init) test post (part body) b
     (entered v)
 unfolding beginning_of
@@ -169,7 +179,7 @@ pub ruleset on_for = (after-For, fault-For, tree-For)
 pub after-Break : (l : ℕ) (v : State) → (part (at l node.Break)).after v ≡ v
 after-Break l v = ap (λ (p : Part). p.after v) (part_by l _ StmtNode-F.Break node.rolls-Break)
 
-pub fault-Break : (l : ℕ) (b : Bool) (v : State) → (part (at l node.Break)).fault b v ≡ unless b (Mismatch l)
+pub fault-Break : (l : ℕ) (b : Around) (v : State) → (part (at l node.Break)).fault b v ≡ unless b.may_break (Mismatch l)
 fault-Break l b v = ap (λ (p : Part). p.fault b v) (part_by l _ StmtNode-F.Break node.rolls-Break)
 
 pub tree-Break : (l : ℕ) (v : State) → (part (at l node.Break)).tree v ≡ typed.Break
@@ -181,7 +191,7 @@ pub ruleset on_break = (after-Break, fault-Break, tree-Break)
 pub after-Continue : (l : ℕ) (v : State) → (part (at l node.Continue)).after v ≡ v
 after-Continue l v = ap (λ (p : Part). p.after v) (part_by l _ StmtNode-F.Continue node.rolls-Continue)
 
-pub fault-Continue : (l : ℕ) (b : Bool) (v : State) → (part (at l node.Continue)).fault b v ≡ unless b (Mismatch l)
+pub fault-Continue : (l : ℕ) (b : Around) (v : State) → (part (at l node.Continue)).fault b v ≡ unless b.may_continue (Mismatch l)
 fault-Continue l b v = ap (λ (p : Part). p.fault b v) (part_by l _ StmtNode-F.Continue node.rolls-Continue)
 
 pub tree-Continue : (l : ℕ) (v : State) → (part (at l node.Continue)).tree v ≡ typed.Continue
@@ -193,7 +203,7 @@ pub ruleset on_continue = (after-Continue, fault-Continue, tree-Continue)
 pub after-Return : (l : ℕ) (e : Option Expr) (v : State) → (part (at l (node.Return e))).after v ≡ v
 after-Return l e v = ap (λ (p : Part). p.after v) (part_by l _ (StmtNode-F.Return e) (node.rolls-Return e))
 
-pub fault-Return : (l : ℕ) (e : Option Expr) (b : Bool) (v : State)
+pub fault-Return : (l : ℕ) (e : Option Expr) (b : Around) (v : State)
     → (part (at l (node.Return e))).fault b v ≡ first (full_if e Value v.names) (return_fault v.result e l)
 fault-Return l e b v = ap (λ (p : Part). p.fault b v) (part_by l _ (StmtNode-F.Return e) (node.rolls-Return e))
 
@@ -211,7 +221,7 @@ after-If l test one None v =
 after-If l test one (Some s) v =
     ap (λ (p : Part). p.after v) (part_by l _ (StmtNode-F.If test one (Some s)) (node.rolls-If test one (Some s)))
 
-pub fault-If : (l : ℕ) (test : Expr) (one : Stmt) (other : Option Stmt) (b : Bool) (v : State)
+pub fault-If : (l : ℕ) (test : Expr) (one : Stmt) (other : Option Stmt) (b : Around) (v : State)
     → (part (at l (node.If test one other))).fault b v ≡ first (full test Value v.names)
     (first ((part one).fault b v) (else_fault (option_map part other) b ((part one).after v)))
 fault-If l test one None b v =
@@ -227,22 +237,61 @@ tree-If l test one None v =
 tree-If l test one (Some s) v =
     ap (λ (p : Part). p.tree v) (part_by l _ (StmtNode-F.If test one (Some s)) (node.rolls-If test one (Some s)))
 
+-- a switch: the state after it, its first fault and its tree; each section is that of its statements
+pub fold_section : (x : Section) → fold-Section Beginning A SectionPart Part init_part node_part section_part at_line x
+    ≡ section_of x
+unfolding part
+fold_section x =
+    ap (λ (y : Section). fold-Section Beginning A SectionPart Part init_part node_part section_part at_line y)
+    (sym (roll-out-Section x))
+    ∙ fold-roll-Section Beginning A SectionPart Part init_part node_part section_part at_line (out-Section x)
+
+all_sections : (xs : List Section)
+    → map (fold-Section Beginning A SectionPart Part init_part node_part section_part at_line) xs ≡ map section_of xs
+all_sections [] = refl
+all_sections (x ∷ xs) =
+    ap (λ (y : SectionPart). y ∷ map (fold-Section Beginning A SectionPart Part init_part node_part section_part
+    at_line) xs) (fold_section x)
+    ∙ ap (λ (ys : List SectionPart). section_of x ∷ ys) (all_sections xs)
+
+pub part-Switch : (l : ℕ) (test : Expr) (xs : List Section)
+    → part (at l (node.Switch test xs)) ≡ switch_part test (map section_of xs) l
+part-Switch l test xs =
+    part_by l _ (StmtNode-F.Switch test xs) (node.rolls-Switch test xs)
+    ∙ ap (λ ys. switch_part test ys l) (all_sections xs)
+
+pub after-Switch : (l : ℕ) (test : Expr) (xs : List Section) (v : State)
+    → (part (at l (node.Switch test xs))).after v ≡ sections_after (map section_of xs)
+    (with_switch (switch_kind test v.names) v)
+after-Switch l test xs v = ap (λ (p : Part). p.after v) (part-Switch l test xs)
+
+pub fault-Switch : (l : ℕ) (test : Expr) (xs : List Section) (b : Around) (v : State)
+    → (part (at l (node.Switch test xs))).fault b v ≡ switch_fault test (map section_of xs) l b v
+fault-Switch l test xs b v = ap (λ (p : Part). p.fault b v) (part-Switch l test xs)
+
+pub tree-Switch : (l : ℕ) (test : Expr) (xs : List Section) (v : State)
+    → (part (at l (node.Switch test xs))).tree v ≡ switch_tree test (map section_of xs) v
+tree-Switch l test xs v = ap (λ (p : Part). p.tree v) (part-Switch l test xs)
+
+pub ruleset on_switch = (after-Switch, fault-Switch, tree-Switch)
+
 pub ruleset on_if = (after-If, fault-If, tree-If)
 
 -- what the first part of a `for` does is given by its node, whose parts are folded
-init_by : (i : ForInit) (x : ForInit-F ForInit StmtNode Stmt) → roll-ForInit x ≡ i
-    → beginning_of i ≡ init_part (map-ForInit ForInit StmtNode Stmt Beginning A Part
-    (fold-ForInit Beginning A Part init_part node_part at_line)
-    (fold-StmtNode Beginning A Part init_part node_part at_line) part x)
+init_by : (i : ForInit) (x : ForInit-F ForInit StmtNode Section Stmt) → roll-ForInit x ≡ i
+    → beginning_of i ≡ init_part (map-ForInit ForInit StmtNode Section Stmt Beginning A SectionPart Part
+    (fold-ForInit Beginning A SectionPart Part init_part node_part section_part at_line)
+    (fold-StmtNode Beginning A SectionPart Part init_part node_part section_part at_line)
+    (fold-Section Beginning A SectionPart Part init_part node_part section_part at_line) part x)
 unfolding beginning_of part
-init_by i x e = ap (λ (m : ForInit). fold-ForInit Beginning A Part init_part node_part at_line m) (sym e)
-    ∙ fold-roll-ForInit Beginning A Part init_part node_part at_line x
+init_by i x e = ap (λ (m : ForInit). fold-ForInit Beginning A SectionPart Part init_part node_part section_part at_line m) (sym e)
+    ∙ fold-roll-ForInit Beginning A SectionPart Part init_part node_part section_part at_line x
 
 -- a first part that is left out
 pub after-Nothing : (v : State) → (beginning_of first_part.Nothing).after v ≡ v
 after-Nothing v = ap (λ (p : Beginning). p.after v) (init_by _ ForInit-F.Nothing first_part.rolls-Nothing)
 
-pub fault-Nothing : (b : Bool) (v : State) → (beginning_of first_part.Nothing).fault b v ≡ None
+pub fault-Nothing : (b : Around) (v : State) → (beginning_of first_part.Nothing).fault b v ≡ None
 fault-Nothing b v = ap (λ (p : Beginning). p.fault b v) (init_by _ ForInit-F.Nothing first_part.rolls-Nothing)
 
 pub tree-Nothing : (v : State) → (beginning_of first_part.Nothing).tree v ≡ typed_init.Nothing
@@ -252,7 +301,7 @@ tree-Nothing v = ap (λ (p : Beginning). p.tree v) (init_by _ ForInit-F.Nothing 
 pub after-First : (e : Expr) (v : State) → (beginning_of (first_part.First e)).after v ≡ v
 after-First e v = ap (λ (p : Beginning). p.after v) (init_by _ (ForInit-F.First e) (first_part.rolls-First e))
 
-pub fault-First : (e : Expr) (b : Bool) (v : State)
+pub fault-First : (e : Expr) (b : Around) (v : State)
     → (beginning_of (first_part.First e)).fault b v ≡ full e Free v.names
 fault-First e b v = ap (λ (p : Beginning). p.fault b v) (init_by _ (ForInit-F.First e) (first_part.rolls-First e))
 
@@ -265,7 +314,7 @@ pub after-Locals : (ss : List Stmt) (v : State)
     → (beginning_of (first_part.Locals ss)).after v ≡ all_after (map part ss) v
 after-Locals ss v = ap (λ (p : Beginning). p.after v) (init_by _ (ForInit-F.Locals ss) (first_part.rolls-Locals ss))
 
-pub fault-Locals : (ss : List Stmt) (b : Bool) (v : State)
+pub fault-Locals : (ss : List Stmt) (b : Around) (v : State)
     → (beginning_of (first_part.Locals ss)).fault b v ≡ all_fault (map part ss) b v
 fault-Locals ss b v =
     ap (λ (p : Beginning). p.fault b v) (init_by _ (ForInit-F.Locals ss) (first_part.rolls-Locals ss))
@@ -287,7 +336,7 @@ pub ruleset beginnings = (
 )
 
 -- where the test has no fault, an `if`'s fault is that of its legs
-pub if_next : (l : ℕ) (test : Expr) (one : Stmt) (other : Option Stmt) (b : Bool) (v : State)
+pub if_next : (l : ℕ) (test : Expr) (one : Stmt) (other : Option Stmt) (b : Around) (v : State)
     → full test Value v.names ≡ None
     → (part (at l (node.If test one other))).fault b v ≡ first ((part one).fault b v)
     (else_fault (option_map part other) b ((part one).after v))
@@ -296,18 +345,18 @@ if_next l test one other b v e =
     ∙ ap (λ f. first f (first ((part one).fault b v) (else_fault (option_map part other) b ((part one).after v)))) e
 
 -- where the test has no fault, a `while`'s fault is that of its body
-pub while_next : (l : ℕ) (test : Expr) (body : Stmt) (b : Bool) (v : State) → full test Value v.names ≡ None
-    → (part (at l (node.While test body))).fault b v ≡ (part body).fault true v
-while_next l test body b v e = fault-While l test body b v ∙ ap (λ f. first f ((part body).fault true v)) e
+pub while_next : (l : ℕ) (test : Expr) (body : Stmt) (b : Around) (v : State) → full test Value v.names ≡ None
+    → (part (at l (node.While test body))).fault b v ≡ (part body).fault in_loop v
+while_next l test body b v e = fault-While l test body b v ∙ ap (λ f. first f ((part body).fault in_loop v)) e
 
 -- where the body has no fault, a `do`'s fault is that of its test
-pub do_next : (l : ℕ) (body : Stmt) (test : Expr) (b : Bool) (v : State) → (part body).fault true v ≡ None
+pub do_next : (l : ℕ) (body : Stmt) (test : Expr) (b : Around) (v : State) → (part body).fault in_loop v ≡ None
     → (part (at l (node.Do body test))).fault b v ≡ full test Value ((part body).after v).names
 do_next l body test b v e =
     fault-Do l body test b v ∙ ap (λ f. first f (full test Value ((part body).after v).names)) e
 
 -- where the first part has no fault, a `for`'s fault is that of the rest
-pub for_next : (l : ℕ) (init : ForInit) (test post : Option Expr) (body : Stmt) (b : Bool) (v : State)
+pub for_next : (l : ℕ) (init : ForInit) (test post : Option Expr) (body : Stmt) (b : Around) (v : State)
     → (beginning_of init).fault b (entered v) ≡ None
     → (part (at l (node.For init test post body))).fault b v ≡ rest_fault test post (part body)
     ((beginning_of init).after (entered v))
@@ -316,7 +365,7 @@ for_next l init test post body b v e =
     ∙ ap (λ f. first f (rest_fault test post (part body) ((beginning_of init).after (entered v)))) e
 
 -- an error that is handed on keeps its cause
-pub stopped : (p : Part) (b : Bool) (old new : State) (r : Result TypedStmt TypeFault) (e : TypeFault)
+pub stopped : (p : Part) (b : Around) (old new : State) (r : Result TypedStmt TypeFault) (e : TypeFault)
     → IsErrAnd r (λ x. x ≡ e) → Stops (p.fault b old) e → Runs p b old new r
 stopped p b old new (Ok t) e h s = absurd h
 stopped p b old new (Err x) e h s = subst (Stops (p.fault b old)) (sym h) s

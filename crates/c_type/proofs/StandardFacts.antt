@@ -12,7 +12,8 @@ use Rattle.c_tree.specs.declared.typed.Slot.TheVariants as slot
 use Rattle.c_scope.specs.declared.meaning.Meaning.TheVariants as meaning
 use Rattle.c_scope.specs.Scope.{look_up}
 use Rattle.c_type_expr.specs.declared.fault.TypeFault.TheVariants.{NoMain, Twice, Mismatch, TooManyParams}
-use Rattle.c_constant.specs.Kinds.{bytes}
+use Rattle.c_constant.specs.Kinds.{bytes, converted}
+use Rattle.c_type.specs.Statements.{label_among, in_switch, nowhere}
 use Rattle.c_type.specs.Units.{eof_name, getchar_name, putchar_name, same_slots, included}
 use Rattle.c_type.specs.Programs.{main_name, program_fault, table}
 
@@ -82,8 +83,30 @@ ending_declared = refl
 long_bytes : bytes Long ≡ 8
 long_bytes = refl
 
-addresses_are_no_scalars : same_slots (slot.Scalar Int ∷ []) (slot.Address Int ∷ []) ≡ false
+addresses_are_no_scalars : same_slots (slot.Scalar Int ∷ []) (slot.Address Int None ∷ []) ≡ false
 addresses_are_no_scalars = refl
 
 signs_differ : same_slots (slot.Scalar Int ∷ []) (slot.Scalar UInt ∷ []) ≡ false
 signs_differ = refl
+
+-- arrays of rows of three and of four elements, and of one size
+rows_differ : same_slots (slot.Address Int (Some 3) ∷ []) (slot.Address Int (Some 4) ∷ []) ≡ false
+rows_differ = refl
+
+sizes_differ : same_slots (slot.Address Int (Some 3) ∷ []) (slot.Address Int None ∷ []) ≡ false
+sizes_differ = refl
+
+-- `case -1:` behind `case 4294967295u:` in an unsigned switch, and a second `default`
+same_value : label_among (Some (converted UInt 18446744073709551615)) (Some 4294967295 ∷ []) ≡ true
+unfolding converted
+same_value = refl
+
+second_default : label_among None (Some 0 ∷ None ∷ []) ≡ true
+second_default = refl
+
+-- a `continue` in a switch in no loop, and a `break` there
+no_loop : (in_switch nowhere).may_continue ≡ false
+no_loop = refl
+
+leaves_switch : (in_switch nowhere).may_break ≡ true
+leaves_switch = refl

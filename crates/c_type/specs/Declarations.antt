@@ -6,6 +6,7 @@ use Rattle.c_tree.specs.declared.tree.ArraySize.{ArraySize}
 use Rattle.c_tree.specs.declared.tree.ArraySize.TheVariants as size
 use Rattle.c_tree.specs.declared.tree.Expr.{Expr}
 use Rattle.c_tree.specs.declared.typed.Place.TheVariants as place
+use Rattle.c_tree.specs.declared.typed.TypedArray.{TypedArray}
 use Rattle.c_tree.specs.declared.typed.TypedStmt.{TypedStmt}
 use Rattle.c_tree.specs.declared.typed.TypedStmt.TheVariants as typed
 use Rattle.c_constant.specs.Kinds.{bytes}
@@ -52,26 +53,60 @@ abbrev pub scalar_init_fault : Kind → List ℕ → Option Expr → ℕ → Sta
 scalar_init_fault k w init l v =
     first (scalar_fault w l v) (full_if init Value (with_scalar k w v).names)
 
--- the size comes before the declarator
-abbrev pub sized_fault : Expr → Kind → List ℕ → Option Expr → ℕ → Scope → Blame
-sized_fault e k w init l G =
-    first (first (size_fault e G) (array_fault (word_in (length_of e)) k w l G)) (no_init init l)
+-- how many rows the sizes of an array give, 1 where it has one size
+abbrev pub rows_of : ArraySize → ℕ
+rows_of (size.Sized e) = 1
+rows_of (size.Rows (Some r) e) = word_in (length_of r)
+rows_of _ = 0
 
--- a declaration's first fault: the size, the declarator, then the initialiser
+-- how long each is
+abbrev pub length_in : ArraySize → ℕ
+length_in (size.Sized e) = word_in (length_of e)
+length_in (size.Rows o e) = word_in (length_of e)
+length_in _ = 0
+
+-- how many elements they give in all
+abbrev pub extent : ArraySize → ℕ
+extent s = rows_of s * length_in s
+
+-- this second size, of an array with two sizes
+abbrev pub row_if : ArraySize → ℕ → Option ℕ
+row_if (size.Rows o e) n = Some n
+row_if _ n = None
+
+-- how many elements a row has, of an array with two sizes
+abbrev pub row_in : ArraySize → Option ℕ
+row_in s = row_if s (length_in s)
+
+-- the local array of these sizes
+abbrev pub typed_array : ArraySize → Kind → TypedArray
+typed_array s k = record { kind = k; length = extent s; row = row_in s }
+
+-- the sizes of a local array are given, and constants of at least 1
+abbrev pub sizes_fault : ArraySize → ℕ → Scope → Blame
+sizes_fault size.Scalar l G = Some (Mismatch l)
+sizes_fault size.Open l G = Some (Mismatch l)
+sizes_fault (size.Sized e) l G = size_fault e G
+sizes_fault (size.Rows None e) l G = Some (Mismatch l)
+sizes_fault (size.Rows (Some r) e) l G = first (size_fault r G) (size_fault e G)
+
+-- the sizes come before the declarator
+abbrev pub sized_fault : ArraySize → Kind → List ℕ → Option Expr → ℕ → Scope → Blame
+sized_fault s k w init l G =
+    first (first (sizes_fault s l G) (array_fault (extent s) k w l G)) (no_init init l)
+
+-- a declaration's first fault: the sizes, the declarator, then the initialiser
 abbrev pub declare_fault : ArraySize → Kind → List ℕ → Option Expr → ℕ → State → Blame
 declare_fault size.Scalar k w init l v = scalar_init_fault k w init l v
-declare_fault size.Open k w init l v = Some (Mismatch l)
-declare_fault (size.Sized e) k w init l v = sized_fault e k w init l v.names
+declare_fault s k w init l v = sized_fault s k w init l v.names
 
 -- the state after a declaration
 abbrev pub declared : ArraySize → Kind → List ℕ → State → State
 declared size.Scalar k w v = with_scalar k w v
-declared size.Open k w v = v
-declared (size.Sized e) k w v = with_array k w (word_in (length_of e)) v
+declared s k w v = with_array k (row_in s) w (extent s) v
 
 -- the typed declaration
 abbrev pub declare_tree : ArraySize → Kind → List ℕ → Option Expr → State → TypedStmt
 declare_tree size.Scalar k w init v =
     typed.Declare (place.Scalar (length v.scalars)) (value_of init k (with_scalar k w v).names)
-declare_tree size.Open k w init v = typed.Declare (place.Array (length v.arrays)) None
-declare_tree (size.Sized e) k w init v = typed.Declare (place.Array (length v.arrays)) None
+declare_tree s k w init v = typed.Declare (place.Array (length v.arrays)) None

@@ -1,16 +1,18 @@
 -- Functions (C17 6.7.6.3, 6.9.1): parameters, prototypes and definitions.
-use Rattle.std.specs.Prelude.{ℕ, Bool, true, false, not, ◌||◌, nat_lt, length, List, [], ◌∷◌, ◌++◌}
+use Rattle.std.specs.Prelude.{ℕ, ◌+◌, ◌*◌, Bool, true, false, not, ◌||◌, nat_le, nat_lt, length, List, [], ◌∷◌, ◌++◌}
 use Rattle.std.specs.Prelude.{map, Option, Some, None}
-use Rattle.c_tree.specs.declared.limits.TheConstants.{MOST_PARAMETERS}
+use Rattle.c_tree.specs.declared.limits.TheConstants.{MOST_PARAMETERS, MOST_OBJECT_BYTES}
 use Rattle.c_tree.specs.declared.token.Kind.{Kind}
 use Rattle.c_tree.specs.declared.tree.ArraySize.{ArraySize}
 use Rattle.c_tree.specs.declared.tree.ArraySize.TheVariants as size
 use Rattle.c_tree.specs.declared.tree.Param.{Param}
+use Rattle.c_tree.specs.declared.tree.Section.{Section}
 use Rattle.c_tree.specs.declared.tree.Stmt.{Stmt}
 use Rattle.c_tree.specs.declared.tree.StmtNode.{StmtNode, out-StmtNode}
 use Rattle.c_tree.specs.declared.tree.ForInit.{ForInit}
 use Rattle.c_tree.specs.declared.tree.ForInit.TheOpen.{StmtNode-F, Compound}
 use Rattle.c_tree.specs.declared.typed.Callee.{Callee}
+use Rattle.c_tree.specs.declared.typed.Place.TheVariants as place
 use Rattle.c_tree.specs.declared.typed.Slot.{Slot}
 use Rattle.c_tree.specs.declared.typed.Slot.TheVariants as slot
 use Rattle.c_tree.specs.declared.typed.TypedFunc.{TypedFunc}
@@ -18,14 +20,17 @@ use Rattle.c_tree.specs.declared.typed.TypedGlobal.{TypedGlobal}
 use Rattle.c_tree.specs.declared.typed.TypedStmt.TheVariants as typed
 use Rattle.c_scope.specs.declared.meaning.Meaning.{Meaning}
 use Rattle.c_scope.specs.declared.meaning.Meaning.TheVariants as meaning
-use Rattle.c_scope.specs.Scope.{Scope, look_up, same_name, opened, closed}
+use Rattle.c_scope.specs.Scope.{Scope, look_up, same_name, opened, closed, declared_in, bound}
 use Rattle.c_type_expr.specs.declared.fault.TypeFault.TheVariants.{Twice, Mismatch, TooManyParams}
+use Rattle.c_type_expr.specs.declared.fault.TypeFault.TheVariants.{TooLarge}
+use Rattle.c_type_expr.specs.Constants.{size_fault, length_of, word_in}
+use Rattle.c_constant.specs.Kinds.{bytes}
 use Rattle.c_type_expr.specs.Roles.{Blame, first, unless}
 use Rattle.c_type.specs.declared.file_scope.FileScope.{FileScope}
 use Rattle.c_type.specs.declared.state.State.{State}
 use Rattle.c_type.specs.States.{with_scalar, with_address}
-use Rattle.c_type.specs.Declarations.{is_end}
-use Rattle.c_type.specs.Statements.{Part, part, all_after, all_fault, all_trees}
+use Rattle.c_type.specs.Declarations.{is_end, row_in}
+use Rattle.c_type.specs.Statements.{Part, part, nowhere, all_after, all_fault, all_trees}
 use Rattle.c_type.specs.Units.{function_fault}
 use Rattle.c_type.specs.Signatures.{function_names, prototype_names}
 
@@ -34,7 +39,7 @@ use Rattle.c_type.specs.Signatures.{function_names, prototype_names}
 -- a parameter takes a word, or the address of an array
 abbrev pub slot_for : ArraySize → Kind → Slot
 slot_for size.Scalar k = slot.Scalar k
-slot_for _ k = slot.Address k
+slot_for s k = slot.Address k (row_in s)
 
 -- the same of a parameter
 abbrev pub slot_of : Param → Slot
@@ -56,28 +61,67 @@ name_fault is_def G seen None l = unless (not is_def) (Mismatch l)
 name_fault is_def G seen (Some w) l =
     unless (not (named_among seen w || is_end (look_up G w))) (Twice l)
 
+-- what the function keeps of a parameter
+abbrev pub named_param : Option (List ℕ) → ArraySize → Kind → State → State
+named_param None s k v = v
+named_param (Some w) size.Scalar k v = with_scalar k w v
+named_param (Some w) s k v = with_address k (row_in s) w v
+
+-- the state with all parameters
+abbrev pub with_params : List Param → State → State
+with_params [] v = v
+with_params (p ∷ ps) v = with_params ps (named_param p.name p.size p.kind v)
+
+-- what the name of a parameter means, of that number among the scalars
+abbrev pub param_meaning : ArraySize → Kind → ℕ → Meaning
+param_meaning size.Scalar k n = meaning.Scalar k (place.Scalar n)
+param_meaning s k n = meaning.Array k (row_in s) (place.Scalar n)
+
+-- the names after a parameter of that number
+abbrev pub param_names : Option (List ℕ) → ArraySize → Kind → ℕ → Scope → Scope
+param_names None s k n G = G
+param_names (Some w) s k n G = declared_in (bound w (param_meaning s k n)) G
+
+-- the number of the next one
+abbrev pub next_number : Option (List ℕ) → ℕ → ℕ
+next_number None n = n
+next_number (Some w) n = n + 1
+
+-- the names after parameters, the first of that number
+abbrev pub params_names : List Param → ℕ → Scope → Scope
+params_names [] n G = G
+params_names (p ∷ ps) n G =
+    params_names ps (next_number p.name n) (param_names p.name p.size p.kind n G)
+
+-- the state before any parameter
+abbrev pub started : Scope → Option Kind → State
+started G given = record { names = opened G; scalars = []; arrays = []; result = given }
+
+-- the second size of an array parameter is a constant of at least 1, in which the parameters before
+-- it are in scope
+abbrev pub row_fault : ArraySize → Scope → List Param → Blame
+row_fault (size.Rows o e) G seen = size_fault e (with_params seen (started G None)).names
+row_fault _ G seen = None
+
+-- no row has more bytes than an array may have
+abbrev pub row_bytes_fault : ArraySize → Kind → ℕ → Blame
+row_bytes_fault (size.Rows o e) k l =
+    unless (nat_le (word_in (length_of e) * bytes k) MOST_OBJECT_BYTES) (TooLarge l)
+row_bytes_fault _ k l = None
+
 -- a parameter after others, with which a function has no more than it may have
 abbrev pub param_fault : Bool → Scope → List Param → Param → Blame
 param_fault is_def G seen p =
-    first (name_fault is_def G seen p.name p.line)
-    (unless (nat_lt (length seen) MOST_PARAMETERS) (TooManyParams p.line))
+    first (row_fault p.size G seen)
+    (first (name_fault is_def G seen p.name p.line)
+    (first (unless (nat_lt (length seen) MOST_PARAMETERS) (TooManyParams p.line))
+    (row_bytes_fault p.size p.kind p.line)))
 
 -- the first fault of parameters after others
 abbrev pub params_fault : Bool → Scope → List Param → List Param → Blame
 params_fault is_def G seen [] = None
 params_fault is_def G seen (p ∷ ps) =
     first (param_fault is_def G seen p) (params_fault is_def G (seen ++ p ∷ []) ps)
-
--- what the function keeps of a parameter
-abbrev pub named_param : Option (List ℕ) → ArraySize → Kind → State → State
-named_param None s k v = v
-named_param (Some w) size.Scalar k v = with_scalar k w v
-named_param (Some w) _ k v = with_address k w v
-
--- the state with all parameters
-abbrev pub with_params : List Param → State → State
-with_params [] v = v
-with_params (p ∷ ps) v = with_params ps (named_param p.name p.size p.kind v)
 
 -- SIGNATURES: a call calls the definition that the unit has of the name, wherever it stands
 
@@ -108,7 +152,7 @@ head_fault is_def given w params l G =
 -- DEFINITIONS
 
 -- the outermost block of a body and the parameters are one scope
-abbrev pub body_in : StmtNode-F ForInit StmtNode Stmt → Stmt → Part
+abbrev pub body_in : StmtNode-F ForInit StmtNode Section Stmt → Stmt → Part
 body_in (Compound ss) s = record {
   after = all_after (map part ss);
   fault = all_fault (map part ss);
@@ -119,10 +163,6 @@ body_in _ s = part s
 -- what the body of a function does
 unfoldable pub body_part : Stmt → Part
 body_part s = body_in (out-StmtNode s.node) s
-
--- the state before any parameter
-abbrev pub started : Scope → Option Kind → State
-started G given = record { names = opened G; scalars = []; arrays = []; result = given }
 
 -- the state in which the body of a function begins, of which a call calls that callee
 abbrev pub body_entry : Option Callee → List ℕ → Option Kind → List Param → Scope → State
@@ -138,7 +178,7 @@ abbrev pub definition_fault : Scope → Option Kind → List ℕ → List Param 
     → Blame
 definition_fault T given w params body l U =
     first (head_fault true given w params l U.names)
-    ((body_part body).fault false (entry T w given params U.names))
+    ((body_part body).fault nowhere (entry T w given params U.names))
 
 -- the function of a body that begins in a state
 abbrev pub typed_function : ℕ → Stmt → State → TypedFunc

@@ -1,38 +1,63 @@
 -- Statements (C17 6.8): the first fault, the typed tree, and the state after them.
-use Rattle.std.specs.Prelude.{ℕ, Bool, true, List, [], ◌∷◌, Option, Some, None}
+use Rattle.std.specs.Prelude.{ℕ, Bool, true, false, not, ◌||◌, nat_eq, nat_lt, length, map, List, [], ◌∷◌}
+use Rattle.std.specs.Prelude.{◌++◌, Option, Some, None}
 use Rattle.c_tree.specs.declared.token.Kind.{Kind}
 use Rattle.c_tree.specs.declared.tree.Expr.{Expr}
+use Rattle.c_tree.specs.declared.tree.Label.{Label}
+use Rattle.c_tree.specs.declared.tree.Section.{Section, out-Section, roll-Section}
 use Rattle.c_tree.specs.declared.tree.Stmt.{Stmt, Stmt-F, fold-Stmt}
 use Rattle.c_tree.specs.declared.tree.ForInit.{ForInit, fold-ForInit}
-use Rattle.c_tree.specs.declared.tree.ForInit.TheOpen.{StmtNode-F, ForInit-F, Declare, Plain}
+use Rattle.c_tree.specs.declared.tree.ForInit.TheOpen.{StmtNode-F, ForInit-F, Section-F, Declare}
+use Rattle.c_tree.specs.declared.tree.ForInit.TheOpen.{Plain, Switch}
 use Rattle.c_tree.specs.declared.tree.ForInit.TheOpen.{Compound, If, While, Do, For, Break}
 use Rattle.c_tree.specs.declared.tree.ForInit.TheOpen.{Continue, Return, Nothing, First, Locals}
 use Rattle.c_tree.specs.declared.typed.TypedExpr.{TypedExpr}
+use Rattle.c_tree.specs.declared.typed.TypedSection.{TypedSection}
 use Rattle.c_tree.specs.declared.typed.TypedStmt.{TypedStmt}
 use Rattle.c_tree.specs.declared.typed.TypedStmt.TheVariants as typed
 use Rattle.c_tree.specs.declared.typed.TypedForInit.{TypedForInit}
 use Rattle.c_tree.specs.declared.typed.TypedForInit.TheVariants as typed_init
 use Rattle.c_scope.specs.Scope.{Scope}
-use Rattle.c_type_expr.specs.declared.fault.TypeFault.TheVariants.{Mismatch}
+use Rattle.c_tree.specs.declared.limits.TheConstants.{MOST_SCALARS}
+use Rattle.c_type_expr.specs.declared.fault.TypeFault.TheVariants.{Twice, Mismatch, TooManyScalars}
 use Rattle.c_type_expr.specs.declared.role.Role.TheVariants.{Value, Free}
 use Rattle.c_type_expr.specs.Roles.{Blame, first, unless}
-use Rattle.c_type_expr.specs.Trees.{tree}
-use Rattle.c_type_expr.specs.Constants.{full}
+use Rattle.c_constant.specs.Kinds.{promoted}
+use Rattle.c_type_expr.specs.Trees.{tree, kind_of, with_convert}
+use Rattle.c_type_expr.specs.Constants.{full, full_constant, constant_at}
 use Rattle.c_type.specs.declared.state.State.{State}
-use Rattle.c_type.specs.States.{full_if, tree_if, value_of, entered, left}
+use Rattle.c_type.specs.declared.state.Around.{Around}
+use Rattle.c_type.specs.States.{full_if, tree_if, value_of, entered, left, with_switch}
 use Rattle.c_type.specs.Declarations.{declare_fault, declared, declare_tree}
 
--- what a statement does to the state, its first fault (inside a loop or not) and its tree
+-- around a body or an `else` of no loop and no switch
+abbrev pub nowhere : Around
+nowhere = record { may_break = false; may_continue = false }
+
+-- around the body of a loop
+abbrev pub in_loop : Around
+in_loop = record { may_break = true; may_continue = true }
+
+-- around a statement of a switch: a `continue` is that of a loop around the switch
+abbrev pub in_switch : Around → Around
+in_switch b = record { may_break = true; may_continue = b.may_continue }
+
+-- what a statement does to the state, its first fault (by what is around it) and its tree
 pub record Part : Type 0 where
   pub after : State → State
-  pub fault : Bool → State → Blame
+  pub fault : Around → State → Blame
   pub tree : State → TypedStmt
 
 -- the same of the first part of a `for`
 pub record Beginning : Type 0 where
   pub after : State → State
-  pub fault : Bool → State → Blame
+  pub fault : Around → State → Blame
   pub tree : State → TypedForInit
+
+-- a section of a switch: its labels, and what its statements do
+pub record SectionPart : Type 0 where
+  pub labels : List Label
+  pub body : List Part
 
 -- the state after several statements
 abbrev pub all_after : List Part → State → State
@@ -40,7 +65,7 @@ all_after [] v = v
 all_after (p ∷ ps) v = all_after ps (p.after v)
 
 -- the first fault of several
-abbrev pub all_fault : List Part → Bool → State → Blame
+abbrev pub all_fault : List Part → Around → State → Blame
 all_fault [] b v = None
 all_fault (p ∷ ps) b v = first (p.fault b v) (all_fault ps b (p.after v))
 
@@ -55,7 +80,7 @@ else_after None v = v
 else_after (Some p) v = p.after v
 
 -- its first fault
-abbrev pub else_fault : Option Part → Bool → State → Blame
+abbrev pub else_fault : Option Part → Around → State → Blame
 else_fault None b v = None
 else_fault (Some p) b v = p.fault b v
 
@@ -80,20 +105,20 @@ return_tree (Some k) e G = value_of e k G
 abbrev pub do_part : Part → Expr → Part
 do_part body test = record {
   after = body.after;
-  fault = λ b v. first (body.fault true v) (full test Value (body.after v).names);
+  fault = λ b v. first (body.fault in_loop v) (full test Value (body.after v).names);
   tree = λ v. typed.Do (body.tree v) (tree test (body.after v).names);
 }
 
 -- a `for` is a block of its own, which holds its first part
 abbrev pub tail_fault : Option Expr → Part → State → Blame
-tail_fault post body v = first (full_if post Free v.names) (body.fault true v)
+tail_fault post body v = first (full_if post Free v.names) (body.fault in_loop v)
 
 -- the first fault behind the first part
 abbrev pub rest_fault : Option Expr → Option Expr → Part → State → Blame
 rest_fault test post body v = first (full_if test Value v.names) (tail_fault post body v)
 
 -- the first fault of a `for`
-abbrev pub for_fault : Beginning → Option Expr → Option Expr → Part → Bool → State → Blame
+abbrev pub for_fault : Beginning → Option Expr → Option Expr → Part → Around → State → Blame
 for_fault init test post body b v =
     first (init.fault b v) (rest_fault test post body (init.after v))
 
@@ -111,8 +136,102 @@ for_part init test post body = record {
   tree = λ v. for_tree init test post body (entered v);
 }
 
+-- SWITCHES
+
+-- the type to which the test of a switch is promoted
+abbrev pub switch_kind : Expr → Scope → Kind
+switch_kind test G = promoted (kind_of (tree test G))
+
+-- the word of a constant at a type, where there is one
+abbrev pub word_if : Kind → Option Expr → Option ℕ
+word_if k None = None
+word_if k (Some e) = Some (constant_at k e)
+
+-- the word of a label at a type, none for `default`
+abbrev pub label_word : Kind → Label → Option ℕ
+label_word k x = word_if k x.value
+
+-- are two labels the same?
+abbrev pub same_label : Option ℕ → Option ℕ → Bool
+same_label None None = true
+same_label (Some m) (Some n) = nat_eq m n
+same_label _ _ = false
+
+-- is the label one of these?
+abbrev pub label_among : Option ℕ → List (Option ℕ) → Bool
+label_among x [] = false
+label_among x (y ∷ ys) = same_label x y || label_among x ys
+
+-- the constant of a case
+abbrev pub case_fault : Option Expr → Scope → Blame
+case_fault None G = None
+case_fault (Some e) G = full_constant e G
+
+-- a label behind others: its constant comes before the label, which is another than they
+abbrev pub label_fault : Kind → List (Option ℕ) → Label → Scope → Blame
+label_fault k seen x G =
+    first (case_fault x.value G) (unless (not (label_among (label_word k x) seen)) (Twice x.line))
+
+-- the labels of a section behind others
+abbrev pub labels_fault : Kind → List (Option ℕ) → List Label → Scope → Blame
+labels_fault k seen [] G = None
+labels_fault k seen (x ∷ xs) G =
+    first (label_fault k seen x G) (labels_fault k (seen ++ label_word k x ∷ []) xs G)
+
+-- the first fault of a section behind these labels: its labels come before its statements
+abbrev pub section_fault : Kind → List (Option ℕ) → SectionPart → Around → State → Blame
+section_fault k seen x b v =
+    first (labels_fault k seen x.labels v.names) (all_fault x.body b v)
+
+-- the first fault of some sections
+abbrev pub sections_fault : Kind → List (Option ℕ) → List SectionPart → Around → State → Blame
+sections_fault k seen [] b v = None
+sections_fault k seen (x ∷ xs) b v =
+    first (section_fault k seen x b v)
+    (sections_fault k (seen ++ map (label_word k) x.labels) xs b (all_after x.body v))
+
+-- the state after them
+abbrev pub sections_after : List SectionPart → State → State
+sections_after [] v = v
+sections_after (x ∷ xs) v = sections_after xs (all_after x.body v)
+
+-- the typed section of a type
+abbrev pub section_tree : Kind → SectionPart → State → TypedSection
+section_tree k x v = record {
+  labels = map (label_word k) x.labels;
+  body = all_trees x.body v;
+}
+
+-- the typed sections
+abbrev pub sections_trees : Kind → List SectionPart → State → List TypedSection
+sections_trees k [] v = []
+sections_trees k (x ∷ xs) v = section_tree k x v ∷ sections_trees k xs (all_after x.body v)
+
+-- a switch: its test, then the scalar that it counts, then its sections
+abbrev pub switch_fault : Expr → List SectionPart → ℕ → Around → State → Blame
+switch_fault test xs l b v =
+    first (full test Value v.names)
+    (first (unless (nat_lt (length v.scalars) MOST_SCALARS) (TooManyScalars l))
+    (sections_fault (switch_kind test v.names) [] xs (in_switch b)
+    (with_switch (switch_kind test v.names) v)))
+
+-- the typed switch: its test is promoted
+abbrev pub switch_tree : Expr → List SectionPart → State → TypedStmt
+switch_tree test xs v =
+    let k = switch_kind test v.names in
+    typed.Switch (length v.scalars) (with_convert k (tree test v.names))
+    (sections_trees k xs (with_switch k v))
+
+-- a switch
+abbrev pub switch_part : Expr → List SectionPart → ℕ → Part
+switch_part test xs l = record {
+  after = λ v. sections_after xs (with_switch (switch_kind test v.names) v);
+  fault = switch_fault test xs l;
+  tree = switch_tree test xs;
+}
+
 -- what a node of that line does
-abbrev pub node_part : StmtNode-F Beginning (ℕ → Part) Part → ℕ → Part
+abbrev pub node_part : StmtNode-F Beginning (ℕ → Part) SectionPart Part → ℕ → Part
 node_part (Declare k w size init) l = record {
   after = declared size k w;
   fault = λ b v. declare_fault size k w init l v;
@@ -136,19 +255,20 @@ node_part (If test one other) l = record {
 }
 node_part (While test body) l = record {
   after = body.after;
-  fault = λ b v. first (full test Value v.names) (body.fault true v);
+  fault = λ b v. first (full test Value v.names) (body.fault in_loop v);
   tree = λ v. typed.While (tree test v.names) (body.tree v);
 }
 node_part (Do body test) l = do_part body test
 node_part (For init test post body) l = for_part init test post body
+node_part (Switch test sections) l = switch_part test sections l
 node_part Break l = record {
   after = λ v. v;
-  fault = λ b v. unless b (Mismatch l);
+  fault = λ b v. unless b.may_break (Mismatch l);
   tree = λ v. typed.Break;
 }
 node_part Continue l = record {
   after = λ v. v;
-  fault = λ b v. unless b (Mismatch l);
+  fault = λ b v. unless b.may_continue (Mismatch l);
   tree = λ v. typed.Continue;
 }
 node_part (Return e) l = record {
@@ -158,7 +278,7 @@ node_part (Return e) l = record {
 }
 
 -- what the first part of a `for` does
-abbrev pub init_part : ForInit-F Beginning (ℕ → Part) Part → Beginning
+abbrev pub init_part : ForInit-F Beginning (ℕ → Part) SectionPart Part → Beginning
 init_part Nothing = record { after = λ v. v; fault = λ b v. None; tree = λ v. typed_init.Nothing }
 init_part (First e) = record {
   after = λ v. v;
@@ -171,14 +291,35 @@ init_part (Locals ps) = record {
   tree = λ v. typed_init.Locals (all_trees ps v);
 }
 
+-- a section has its labels, and what its statements do
+abbrev pub section_part : Section-F Beginning (ℕ → Part) SectionPart Part → SectionPart
+section_part x = record { labels = x.labels; body = x.body }
+
 -- a statement, whose node has its line
-abbrev pub at_line : Stmt-F Beginning (ℕ → Part) Part → Part
+abbrev pub at_line : Stmt-F Beginning (ℕ → Part) SectionPart Part → Part
 at_line s = s.node s.line
 
 -- what a statement does, by recursion on it
 unfoldable pub part : Stmt → Part
-part s = fold-Stmt Beginning (ℕ → Part) Part init_part node_part at_line s
+part s = fold-Stmt Beginning (ℕ → Part) SectionPart Part init_part node_part section_part at_line s
+
+-- the labels of a section
+abbrev pub labels_in : Section → List Label
+labels_in x = (out-Section x).labels
+
+-- its statements
+abbrev pub statements_in : Section → List Stmt
+statements_in x = (out-Section x).body
+
+-- the section of these labels and statements
+abbrev pub sectioned : List Label → List Stmt → Section
+sectioned ls ss = roll-Section (record { labels = ls; body = ss })
+
+-- what a section does
+abbrev pub section_of : Section → SectionPart
+section_of x = record { labels = labels_in x; body = map part (statements_in x) }
 
 -- what the first part of a `for` does, by recursion on it
 unfoldable pub beginning_of : ForInit → Beginning
-beginning_of i = fold-ForInit Beginning (ℕ → Part) Part init_part node_part at_line i
+beginning_of i =
+    fold-ForInit Beginning (ℕ → Part) SectionPart Part init_part node_part section_part at_line i

@@ -1,5 +1,5 @@
 -- What the typing of a function keeps, and full expressions that may be left out.
-use Rattle.std.specs.Prelude.{ℕ, Option, Some, None, List, [], ◌∷◌, ◌++◌, length}
+use Rattle.std.specs.Prelude.{ℕ, Bool, true, false, Option, Some, None, List, [], ◌∷◌, ◌++◌, length}
 use Rattle.c_tree.specs.declared.token.Kind.{Kind}
 use Rattle.c_tree.specs.declared.tree.Expr.{Expr}
 use Rattle.c_tree.specs.declared.tree.Stmt.{Stmt}
@@ -30,6 +30,11 @@ abbrev pub value_of : Option Expr → Kind → Scope → Option TypedExpr
 value_of None k G = None
 value_of (Some e) k G = Some (with_convert k (tree e G))
 
+-- is a block open?
+abbrev pub some_block : Scope → Bool
+some_block [] = false
+some_block (f ∷ G) = true
+
 -- the state with one block more
 abbrev pub entered : State → State
 entered v = record v { names = opened v.names }
@@ -46,21 +51,25 @@ with_scalar k w v =
       scalars = v.scalars ++ slot.Scalar k ∷ [];
     }
 
--- an array parameter more, which takes a scalar's slot
-abbrev pub with_address : Kind → List ℕ → State → State
-with_address k w v =
+-- an array parameter more, of this second size or of one size, which takes a scalar's slot
+abbrev pub with_address : Kind → Option ℕ → List ℕ → State → State
+with_address k q w v =
     record v {
-      names = declared_in (bound w (meaning.Array k (place.Scalar (length v.scalars)))) v.names;
-      scalars = v.scalars ++ slot.Address k ∷ [];
+      names = declared_in (bound w (meaning.Array k q (place.Scalar (length v.scalars)))) v.names;
+      scalars = v.scalars ++ slot.Address k q ∷ [];
     }
 
--- a local array more
-abbrev pub with_array : Kind → List ℕ → ℕ → State → State
-with_array k w n v =
+-- a local array more, of so many elements in all
+abbrev pub with_array : Kind → Option ℕ → List ℕ → ℕ → State → State
+with_array k q w n v =
     record v {
-      names = declared_in (bound w (meaning.Array k (place.Array (length v.arrays)))) v.names;
-      arrays = v.arrays ++ (record { kind = k; length = n }) ∷ [];
+      names = declared_in (bound w (meaning.Array k q (place.Array (length v.arrays)))) v.names;
+      arrays = v.arrays ++ (record { kind = k; length = n; row = q }) ∷ [];
     }
+
+-- the scalar of a switch more, which has no name
+abbrev pub with_switch : Kind → State → State
+with_switch k v = record v { scalars = v.scalars ++ slot.Scalar k ∷ [] }
 
 -- the statement of a line and a node
 abbrev pub at : ℕ → StmtNode → Stmt

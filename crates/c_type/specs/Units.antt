@@ -1,5 +1,5 @@
 -- File scope (C17 6.7, 6.9): the include, globals and the signatures of functions.
-use Rattle.std.specs.Prelude.{ℕ, ◌+◌, ◌*◌, Bool, true, false, cond, not, ◌&&◌, nat_le, nat_lt}
+use Rattle.std.specs.Prelude.{ℕ, ◌+◌, ◌-◌, ◌*◌, replicate, take, drop, Bool, true, false, cond, not, ◌&&◌, nat_le, nat_lt}
 use Rattle.std.specs.Prelude.{length, List, [], ◌∷◌, ◌++◌, map, Option, Some, None}
 use Rattle.c_tree.specs.declared.limits.TheConstants.{MOST_OBJECT_BYTES}
 use Rattle.c_tree.specs.declared.token.Kind.{Kind}
@@ -17,11 +17,11 @@ use Rattle.c_scope.specs.declared.meaning.Meaning.{Meaning}
 use Rattle.c_scope.specs.declared.meaning.Meaning.TheVariants as meaning
 use Rattle.c_scope.specs.Scope.{Scope, look_up, declared_in, bound}
 use Rattle.c_type_expr.specs.declared.fault.TypeFault.TheVariants.{Twice, Mismatch, TooLarge}
-use Rattle.c_type_expr.specs.Roles.{Blame, first, unless}
+use Rattle.c_type_expr.specs.Roles.{Blame, first, unless, same_row}
 use Rattle.c_type_expr.specs.Constants.{size_fault, length_of, word_in, full_constant, constant_at}
 use Rattle.c_type.specs.declared.file_scope.FileScope.{FileScope}
 use Rattle.c_constant.specs.Kinds.{bytes}
-use Rattle.c_type.specs.Declarations.{is_end, twice_fault}
+use Rattle.c_type.specs.Declarations.{is_end, twice_fault, row_in}
 
 -- the names `EOF`, `getchar` and `putchar`
 abbrev pub eof_name : List ℕ
@@ -40,7 +40,7 @@ putchar_name = 112 ∷ 117 ∷ 116 ∷ 99 ∷ 104 ∷ 97 ∷ 114 ∷ []
 -- are the parameters of one type?
 abbrev pub same_slot : Slot → Slot → Bool
 same_slot (slot.Scalar j) (slot.Scalar k) = same_kind j k
-same_slot (slot.Address j) (slot.Address k) = same_kind j k
+same_slot (slot.Address j p) (slot.Address k q) = same_kind j k && same_row p q
 same_slot _ _ = false
 
 -- are they, one by one?
@@ -122,16 +122,33 @@ abbrev pub values_fault : List Expr → Scope → Blame
 values_fault [] G = None
 values_fault (e ∷ es) G = first (full_constant e G) (values_fault es G)
 
+-- the values of all lists, in the order of the text
+abbrev pub all_values : List (List Expr) → List Expr
+all_values [] = []
+all_values (es ∷ ess) = es ++ all_values ess
+
 -- what the name of a global means
 abbrev pub global_meaning : ArraySize → Kind → ℕ → Meaning
 global_meaning size.Scalar k n = meaning.Scalar k (place.Global n)
-global_meaning _ k n = meaning.Array k (place.Global n)
+global_meaning s k n = meaning.Array k (row_in s) (place.Global n)
+
+-- how many rows a global has, 1 where it has one size or none: empty first brackets of two have as many
+-- as are given
+abbrev pub global_rows : ArraySize → List (List Expr) → ℕ
+global_rows (size.Rows None e) init = length init
+global_rows (size.Rows (Some r) e) init = word_in (length_of r)
+global_rows _ init = 1
+
+-- how many values each holds: empty brackets have the length of the list
+abbrev pub row_length : ArraySize → List (List Expr) → ℕ
+row_length size.Scalar init = 1
+row_length size.Open init = length (all_values init)
+row_length (size.Sized e) init = word_in (length_of e)
+row_length (size.Rows o e) init = word_in (length_of e)
 
 -- how many values a global holds
-abbrev pub count_of : ArraySize → List Expr → ℕ
-count_of size.Scalar init = 1
-count_of size.Open init = length init
-count_of (size.Sized e) init = word_in (length_of e)
+abbrev pub count_of : ArraySize → List (List Expr) → ℕ
+count_of s init = global_rows s init * row_length s init
 
 -- an array has a length
 abbrev pub length_in : ArraySize → ℕ → Option ℕ
@@ -142,16 +159,49 @@ length_in _ n = Some n
 abbrev pub global_names : ArraySize → Kind → List ℕ → FileScope → Scope
 global_names size k w U = declared_in (bound w (global_meaning size k (length U.globals))) U.names
 
+-- the words of a row, with zeros behind them up to its length
+abbrev pub row_words : Kind → ℕ → List Expr → List ℕ
+row_words k n es = map (constant_at k) es ++ replicate (n - length es) 0
+
+-- the words of rows
+abbrev pub rows_words : Kind → ℕ → List (List Expr) → List ℕ
+rows_words k n [] = []
+rows_words k n (es ∷ ess) = row_words k n es ++ rows_words k n ess
+
+-- the words of rows taken from those of all values, as many for each row as it has values
+abbrev pub filled_rows : ℕ → List (List Expr) → List ℕ → List ℕ
+filled_rows n [] ws = []
+filled_rows n (es ∷ ess) ws =
+    (take (length es) ws ++ replicate (n - length es) 0) ++ filled_rows n ess (drop (length es) ws)
+
+-- the words that a global begins with: whole rows, where it has two sizes
+abbrev pub init_words : ArraySize → Kind → List (List Expr) → List ℕ
+init_words (size.Rows o e) k init = rows_words k (word_in (length_of e)) init
+init_words _ k init = map (constant_at k) (all_values init)
+
+-- has no row more values than its length?
+abbrev pub rows_fit : ℕ → List (List Expr) → Bool
+rows_fit n [] = true
+rows_fit n (es ∷ ess) = nat_le (length es) n && rows_fit n ess
+
+-- are there no more values than the global holds, and no more rows?
+abbrev pub init_fits : ArraySize → List (List Expr) → Bool
+init_fits (size.Rows None e) init = rows_fit (word_in (length_of e)) init
+init_fits (size.Rows (Some r) e) init =
+    nat_le (length init) (word_in (length_of r)) && rows_fit (word_in (length_of e)) init
+init_fits s init = nat_le (length (all_values init)) (count_of s init)
+
 -- the typed global
-abbrev pub typed_global : ArraySize → Kind → List Expr → TypedGlobal
+abbrev pub typed_global : ArraySize → Kind → List (List Expr) → TypedGlobal
 typed_global size k init = record {
   kind = k;
   length = length_in size (count_of size init);
-  init = map (constant_at k) init;
+  row = row_in size;
+  init = init_words size k init;
 }
 
 -- the file scope after a global
-abbrev pub with_global : ArraySize → Kind → List ℕ → List Expr → FileScope → FileScope
+abbrev pub with_global : ArraySize → Kind → List ℕ → List (List Expr) → FileScope → FileScope
 with_global size k w init U =
     record U {
       names = global_names size k w U;
@@ -159,20 +209,24 @@ with_global size k w init U =
       bytes = count_of size init * bytes k + U.bytes;
     }
 
--- the size comes before the declarator, and the values after it
-abbrev pub count_fault : ArraySize → List Expr → ℕ → Scope → Blame
+-- the sizes come before the declarator, and the values after it; empty first brackets want a value or
+-- a row
+abbrev pub count_fault : ArraySize → List (List Expr) → ℕ → Scope → Blame
 count_fault size.Scalar init l G = None
-count_fault size.Open init l G = unless (nat_lt 0 (length init)) (Mismatch l)
+count_fault size.Open init l G = unless (nat_lt 0 (length (all_values init))) (Mismatch l)
 count_fault (size.Sized e) init l G = size_fault e G
+count_fault (size.Rows None e) init l G =
+    first (size_fault e G) (unless (nat_lt 0 (length init)) (Mismatch l))
+count_fault (size.Rows (Some r) e) init l G = first (size_fault r G) (size_fault e G)
 
 -- what of the declarator comes before its values
-abbrev pub admitted_fault : ArraySize → Kind → List ℕ → List Expr → ℕ → FileScope → Blame
+abbrev pub admitted_fault : ArraySize → Kind → List ℕ → List (List Expr) → ℕ → FileScope → Blame
 admitted_fault size k w init l U =
     first (count_fault size init l U.names) (place_fault (count_of size init) k w l U)
 
--- a global's first fault: the size, the declarator, the values, then their count
-abbrev pub global_fault : ArraySize → Kind → List ℕ → List Expr → ℕ → FileScope → Blame
+-- a global's first fault: the sizes, the declarator, the values, then that they are not too many
+abbrev pub global_fault : ArraySize → Kind → List ℕ → List (List Expr) → ℕ → FileScope → Blame
 global_fault size k w init l U =
     first (admitted_fault size k w init l U)
-    (first (values_fault init (global_names size k w U))
-    (unless (nat_le (length init) (count_of size init)) (Mismatch l)))
+    (first (values_fault (all_values init) (global_names size k w U))
+    (unless (init_fits size init) (Mismatch l)))

@@ -14,3 +14,13 @@ pub fn counted(count: usize) -> Result<u32, TypeFault>
     }
     Ok(count as u32)
 }
+
+/// A length, for which a typed program has 32 bits. One that has more is want of memory.
+pub fn short(length: u64) -> Result<u32, TypeFault>
+    ensures { Says None length result }
+{
+    if length > 0xffff_ffff {
+        return Err(TypeFault::Memory);
+    }
+    Ok(length as u32)
+}

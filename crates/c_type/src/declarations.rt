@@ -11,9 +11,9 @@ ghost use Rattle.c_type.specs.Declarations as declarations;
 ghost use Rattle.c_type.specs.Statements.{part};
 ghost use Rattle.c_type.specs.Runs.{Runs, Moves, Adds};
 
-use crate::counts::counted;
+use crate::counts::{counted, short};
 use crate::parts::value_to;
-use crate::state::State;
+use crate::state::{Around, State};
 use c_constant::bytes;
 use c_scope::{Meaning, Scopes};
 use c_tree::{
@@ -49,25 +49,61 @@ pub fn twice(names: &Scopes, name: &Word, line: u32) -> Result<(), TypeFault>
     }
 }
 
-/// The length of an array that may be declared.
+/// How many rows the sizes of a local array give, 1 where it has one size, and how long each is.
+fn sizes(names: &Scopes, size: &ArraySize, line: u32) -> Result<(u64, u64), TypeFault>
+    ensures { Says (declarations.sizes_fault size.now line names.now)
+        (declarations.rows_of size.now, declarations.length_in size.now) result }
+{
+    match size {
+        ArraySize::Scalar => Err(TypeFault::Mismatch(line)),
+        ArraySize::Open => Err(TypeFault::Mismatch(line)),
+        ArraySize::Sized(size) => {
+            let length = size_length(names, size)?;
+            Ok((1, length))
+        }
+        ArraySize::Rows { rows, size } => match rows {
+            None => Err(TypeFault::Mismatch(line)),
+            Some(rows) => {
+                let rows = size_length(names, rows)?;
+                let length = size_length(names, size)?;
+                Ok((rows, length))
+            }
+        },
+    }
+}
+
+/// The second size of an array that has so long rows, where it has two.
+pub fn row_in(size: &ArraySize, length: u32) -> Option<u32>
+    ensures { result ≡ declarations.row_if size.now length }
+{
+    match size {
+        ArraySize::Rows { .. } => Some(length),
+        _ => None,
+    }
+}
+
+/// How many elements an array has that may be declared, and its second size.
 fn array_length(
     names: &Scopes,
-    size: &Expr,
+    size: &ArraySize,
     kind: Kind,
     name: &Word,
     line: u32,
-) -> Result<u32, TypeFault>
-    ensures { Says (first (constants.size_fault size.now names.now)
-        (declarations.array_fault (constants.word_in (constants.length_of size.now)) kind name.now
-        line names.now))
-        (constants.word_in (constants.length_of size.now)) result }
+) -> Result<(u32, Option<u32>), TypeFault>
+    ensures { Says (first (declarations.sizes_fault size.now line names.now)
+        (declarations.array_fault (declarations.extent size.now) kind name.now line names.now))
+        (declarations.extent size.now, declarations.row_in size.now) result }
 {
-    let length = size_length(names, size)?;
+    let (rows, length) = sizes(names, size, line)?;
     twice(names, name, line)?;
-    if length > MOST_OBJECT_BYTES / bytes(kind) as u64 {
+    let Some(all) = rows.checked_mul(length) else {
+        return Err(TypeFault::TooLarge(line));
+    };
+    if all > MOST_OBJECT_BYTES / bytes(kind) as u64 {
         return Err(TypeFault::TooLarge(line));
     }
-    Ok(length as u32)
+    let length = short(length)?;
+    Ok((all as u32, row_in(size, length)))
 }
 
 /// The place of a scalar that may be declared.
@@ -105,37 +141,41 @@ pub fn add_address(
     alloc: Global,
     state: &mut State,
     kind: Kind,
+    row: Option<u32>,
     name: Word,
     place: u32,
 ) -> Result<(), TypeFault>
     requires { place ≡ length state.old.scalars }
-    ensures { Adds (states.with_address kind name state.old) state.new result }
+    ensures { Adds (states.with_address kind row name state.old) state.new result }
 {
-    state
-        .names
-        .declare(alloc, name, Meaning::Array(kind, Place::Scalar(place)))?;
-    state.scalars.push(Slot::Address(kind))?;
+    let meaning = Meaning::Array {
+        kind,
+        row,
+        place: Place::Scalar(place),
+    };
+    state.names.declare(alloc, name, meaning)?;
+    state.scalars.push(Slot::Address { kind, row })?;
     Ok(())
 }
 
 fn add_array(
     alloc: Global,
     state: &mut State,
-    kind: Kind,
+    array: TypedArray,
     name: Word,
     place: u32,
-    count: u32,
 ) -> Result<(), TypeFault>
     requires { place ≡ length state.old.arrays }
-    ensures { Adds (states.with_array kind name count state.old) state.new result }
+    ensures { Adds (states.with_array array.kind array.row name array.length state.old) state.new
+        result }
 {
-    state
-        .names
-        .declare(alloc, name, Meaning::Array(kind, Place::Array(place)))?;
-    state.arrays.push(TypedArray {
-        kind,
-        length: count,
-    })?;
+    let meaning = Meaning::Array {
+        kind: array.kind,
+        row: array.row,
+        place: Place::Array(place),
+    };
+    state.names.declare(alloc, name, meaning)?;
+    state.arrays.push(array)?;
     Ok(())
 }
 
@@ -148,35 +188,34 @@ fn no_init(init: &Option<Expr>, line: u32) -> Result<(), TypeFault>
     }
 }
 
-/// The length of a local array that may be declared.
-fn bare_length(
+/// A local array that may be declared.
+fn bare_array(
     names: &Scopes,
-    size: &Expr,
+    size: &ArraySize,
     kind: Kind,
     name: &Word,
     init: &Option<Expr>,
     line: u32,
-) -> Result<u32, TypeFault>
+) -> Result<TypedArray, TypeFault>
     ensures { Says (declarations.sized_fault size.now kind name.now init.now line names.now)
-        (constants.word_in (constants.length_of size.now)) result }
+        (declarations.typed_array size.now kind) result }
 {
-    let count = array_length(names, size, kind, name, line)?;
+    let (length, row) = array_length(names, size, kind, name, line)?;
     no_init(init, line)?;
-    Ok(count)
+    Ok(TypedArray { kind, length, row })
 }
 
 fn sized(
     alloc: Global,
     state: &mut State,
-    kind: Kind,
+    array: TypedArray,
     name: Word,
-    count: u32,
 ) -> Result<TypedStmt, TypeFault>
     ensures { Moves None (TypedStmt.Declare (Place.Array (length state.old.arrays)) None)
-        (states.with_array kind name count state.old) state.new result }
+        (states.with_array array.kind array.row name array.length state.old) state.new result }
 {
     let place = counted(state.arrays.len())?;
-    add_array(alloc, state, kind, name, place, count)?;
+    add_array(alloc, state, array, name, place)?;
     Ok(TypedStmt::Declare {
         place: Place::Array(place),
         init: None,
@@ -189,16 +228,17 @@ fn declare_array(
     line: u32,
     kind: Kind,
     name: Word,
-    size: &Expr,
+    size: &ArraySize,
     init: &Option<Expr>,
 ) -> Result<TypedStmt, TypeFault>
     ensures { Moves (declarations.sized_fault size.now kind name init.now line state.old.names)
         (TypedStmt.Declare (Place.Array (length state.old.arrays)) None)
-        (states.with_array kind name (constants.word_in (constants.length_of size.now)) state.old)
+        (states.with_array kind (declarations.row_in size.now) name
+        (declarations.extent size.now) state.old)
         state.new result }
 {
-    let count = bare_length(&state.names, size, kind, &name, init, line)?;
-    sized(alloc, state, kind, name, count)
+    let array = bare_array(&state.names, size, kind, &name, init, line)?;
+    sized(alloc, state, array, name)
 }
 
 fn declare_scalar(
@@ -227,19 +267,18 @@ fn declare_scalar(
 pub fn declare(
     alloc: Global,
     state: &mut State,
-    in_loop: bool,
+    around: Around,
     line: u32,
     kind: Kind,
     name: Word,
     size: ArraySize,
     init: Option<Expr>,
 ) -> Result<TypedStmt, TypeFault>
-    ensures { Runs (part (states.at line (node.Declare kind name size init))) in_loop state.old
+    ensures { Runs (part (states.at line (node.Declare kind name size init))) around state.old
         state.new result }
 {
     match size {
         ArraySize::Scalar => declare_scalar(alloc, state, line, kind, name, init),
-        ArraySize::Open => Err(TypeFault::Mismatch(line)),
-        ArraySize::Sized(size) => declare_array(alloc, state, line, kind, name, &size, &init),
+        size => declare_array(alloc, state, line, kind, name, &size, &init),
     }
 }

@@ -1,129 +1,52 @@
 //! Prototypes and definitions of functions.
 
-ghost use Rattle.std.specs.Prelude.{◌≡◌, ◌≤◌, [], map, None, take, ◌+◌};
+ghost use Rattle.std.specs.Prelude.{◌≡◌, map, None, OnOk, true};
 ghost use Rattle.std.specs.Option.{option_copied};
-ghost use Rattle.c_type_expr.specs.Roles.{first, unless};
 ghost use Rattle.c_type_expr.specs.Says.{Says};
 ghost use Rattle.c_scope.specs.Scope.{closed};
 ghost use Rattle.c_type.specs.Functions as functions;
+ghost use Rattle.c_type.specs.States.{some_block};
+ghost use Rattle.c_type.specs.Statements.{nowhere};
 ghost use Rattle.c_type.specs.Functions.{body_part, file_with};
 ghost use Rattle.c_type.specs.Runs.{Runs, Adds};
 
 use crate::counts::counted;
-use crate::declarations::{add_address, add_scalar, is_end};
+use crate::declarations::{add_address, add_scalar};
 use crate::file_scope::FileScope;
+use crate::parameters::{param_row, params_at, slots_of};
 use crate::signatures::{agrees, undefined};
-use crate::state::State;
+use crate::state::{Around, State};
 use crate::statements::{all, type_stmt};
 use base::{Items, Queue};
 use c_scope::{Meaning, Scopes};
 use c_tree::{
-    ArraySize, Callee, Kind, MOST_PARAMETERS, Param, Slot, Stmt, StmtNode, TypedFunc, TypedGlobal,
-    TypedStmt, Word,
+    ArraySize, Callee, Kind, Param, Slot, Stmt, StmtNode, TypedFunc, TypedGlobal, TypedStmt, Word,
 };
 use c_type_expr::TypeFault;
 use std::alloc::Global;
 
-fn slot_of(param: &Param) -> Slot
-    ensures { result ≡ functions.slot_of param.now }
-{
-    match param.size {
-        ArraySize::Scalar => Slot::Scalar(param.kind),
-        _ => Slot::Address(param.kind),
-    }
-}
-
-fn slots_of(alloc: Global, params: &[Param]) -> Result<Items<Slot>, TypeFault>
-    ensures { Says None (map functions.slot_of params.now) result }
-{
-    let mut found = Items::new(alloc);
-    for param in params {
-        found.push(slot_of(param))?;
-    }
-    Ok(found)
-}
-
-fn is_named(name: &Option<Word>, word: &Word) -> bool
-    ensures { result ≡ functions.is_named name.now word.now }
-{
-    match name {
-        None => false,
-        Some(name) => name == word,
-    }
-}
-
-fn named_among(params: &[Param], word: &Word) -> bool
-    ensures { result ≡ functions.named_among params.now word.now }
-{
-    let mut found = false;
-    for param in params {
-        found = found || is_named(&param.name, word);
-    }
-    found
-}
-
-fn name_at(
-    names: &Scopes,
-    is_def: bool,
-    seen: &[Param],
-    name: &Option<Word>,
-    line: u32,
-) -> Result<(), TypeFault>
-    ensures { Says (functions.name_fault is_def names.now seen.now name.now line) tt result }
-{
-    match name {
-        None => {
-            if is_def {
-                Err(TypeFault::Mismatch(line))
-            } else {
-                Ok(())
-            }
-        }
-        Some(word) => {
-            if named_among(seen, word) || is_end(names.look_up(word)) {
-                Err(TypeFault::Twice(line))
-            } else {
-                Ok(())
-            }
-        }
-    }
-}
-
-fn param_at(names: &Scopes, is_def: bool, seen: &[Param], param: &Param) -> Result<(), TypeFault>
-    ensures { Says (functions.param_fault is_def names.now seen.now param.now) tt result }
-{
-    name_at(names, is_def, seen, &param.name, param.line)?;
-    if seen.len() < MOST_PARAMETERS {
-        Ok(())
-    } else {
-        Err(TypeFault::TooManyParams(param.line))
-    }
-}
-
-/// Whether a function may have these parameters: the first that is one too many is the last that is looked at.
-fn params_at(names: &Scopes, is_def: bool, params: &[Param]) -> Result<(), TypeFault>
-    ensures { Says (functions.params_fault is_def names.now [] params.now) tt result }
-{
-    for i in 0..params.len() {
-        param_at(names, is_def, &params[..i], &params[i])?;
-    }
-    Ok(())
-}
+// Around the body of a function.
+const NOWHERE: Around = Around {
+    may_break: false,
+    may_continue: false,
+};
 
 /// What stands before a function's body: the slots of the parameters.
 fn head(
     alloc: Global,
-    names: &Scopes,
+    names: &mut Scopes,
     is_def: bool,
     given: Option<Kind>,
     name: &Word,
     params: &[Param],
     line: u32,
 ) -> Result<Items<Slot>, TypeFault>
-    ensures { Says (functions.head_fault is_def given name.now params.now line names.now)
+    requires { some_block names.old ≡ true }
+    ensures value { Says (functions.head_fault is_def given name.now params.now line names.old)
         (map functions.slot_of params.now) result }
+    ensures same { OnOk result (names.new ≡ names.old) }
 {
-    params_at(names, is_def, params)?;
+    params_at(alloc, names, is_def, params)?;
     let slots = slots_of(alloc, params)?;
     undefined(names.look_up(name), is_def, line)?;
     agrees(names.look_up(name), given, slots.as_slice(), line)?;
@@ -175,12 +98,14 @@ pub fn prototype(
     name: Word,
     params: &[Param],
 ) -> Result<Scopes, TypeFault>
+    requires { some_block names ≡ true }
     ensures { Says
         (functions.head_fault Rattle.std.specs.Prelude.false given name params.now line names)
         (functions.with_prototype table.now name given (map functions.slot_of params.now) names)
         result }
 {
-    let slots = head(alloc, &names, false, given, &name, params, line)?;
+    let mut names = names;
+    let slots = head(alloc, &mut names, false, given, &name, params, line)?;
     if names.look_up(&name).is_some() {
         return Ok(names);
     }
@@ -204,7 +129,10 @@ fn add_param(alloc: Global, state: &mut State, param: Param) -> Result<(), TypeF
     };
     match size {
         ArraySize::Scalar => add_scalar(alloc, state, kind, name, place),
-        _ => add_address(alloc, state, kind, name, place),
+        size => {
+            let row = param_row(&size)?;
+            add_address(alloc, state, kind, row, name, place)
+        }
     }
 }
 
@@ -221,16 +149,16 @@ fn add_params(alloc: Global, state: &mut State, params: Items<Param>) -> Result<
 /// A body, whose outermost block is the scope of the parameters.
 #[tactic(auto, unfolding(crate::specs::Functions::body_part))]
 fn body(alloc: Global, state: &mut State, s: Stmt) -> Result<TypedStmt, TypeFault>
-    ensures { Runs (functions.body_part s) Rattle.std.specs.Prelude.false state.old state.new
+    ensures { Runs (functions.body_part s) nowhere state.old state.new
         result }
 {
     let Stmt { line, node } = s;
     match node {
         StmtNode::Compound(body) => {
-            let body = all(alloc, state, false, body)?;
+            let body = all(alloc, state, NOWHERE, body)?;
             Ok(TypedStmt::Compound(body))
         }
-        node => type_stmt(alloc, state, false, Stmt { line, node }),
+        node => type_stmt(alloc, state, NOWHERE, Stmt { line, node }),
     }
 }
 
@@ -266,7 +194,7 @@ fn bodied(
     s: Stmt,
     count: u32,
 ) -> Result<(Scopes, TypedFunc), TypeFault>
-    ensures { Says ((functions.body_part s).fault Rattle.std.specs.Prelude.false state)
+    ensures { Says ((functions.body_part s).fault nowhere state)
         (closed ((functions.body_part s).after state).names, functions.typed_function count s state)
         result }
 {
@@ -302,7 +230,7 @@ fn defined(
     s: Stmt,
     count: u32,
 ) -> Result<FileScope, TypeFault>
-    ensures { Says ((body_part s).fault Rattle.std.specs.Prelude.false state)
+    ensures { Says ((body_part s).fault nowhere state)
         (file_with globals bytes functions count s state) result }
 {
     let (names, function) = bodied(alloc, state, s, count)?;
@@ -327,12 +255,14 @@ pub fn definition(
     params: Items<Param>,
     s: Stmt,
 ) -> Result<FileScope, TypeFault>
+    requires { some_block file.names ≡ true }
     ensures { Says (functions.definition_fault table.now given name params s line file)
         (functions.with_definition table.now given name params s file) result }
 {
+    let mut file = file;
     let slots = head(
         alloc,
-        &file.names,
+        &mut file.names,
         true,
         given,
         &name,

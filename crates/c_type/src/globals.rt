@@ -1,20 +1,21 @@
 //! The globals.
 
-ghost use Rattle.std.specs.Prelude.{◌≡◌, ◌+◌, ◌*◌, ◌≤◌, nat_le, map, length, None, IfOk};
+ghost use Rattle.std.specs.Prelude.{◌≡◌, ◌+◌, ◌*◌, ◌≤◌, nat_le, length, None, IfOk};
+ghost use Rattle.c_type.specs.Declarations as declarations;
 ghost use Rattle.c_type_expr.specs.Roles.{first, unless};
 ghost use Rattle.c_type_expr.specs.Says.{Says};
-ghost use Rattle.c_type_expr.specs.Constants as constants;
 ghost use Rattle.c_constant.specs.Kinds as kinds;
 ghost use Rattle.c_type.specs.Units as units;
 
-use crate::counts::counted;
-use crate::declarations::twice;
+use crate::counts::{counted, short};
+use crate::declarations::{row_in, twice};
 use crate::file_scope::FileScope;
+use crate::initialisers::{rows_fit, value_count, values, whole_rows};
 use base::Items;
 use c_constant::bytes;
 use c_scope::{Meaning, Scopes};
 use c_tree::{ArraySize, Expr, Kind, MOST_OBJECT_BYTES, Place, TypedGlobal, Word};
-use c_type_expr::{TypeFault, full_constant, size_length};
+use c_type_expr::{TypeFault, size_length};
 use std::alloc::Global;
 
 /// Whether the globals have room for `count` more of a kind.
@@ -26,22 +27,28 @@ fn has_room(count: u64, kind: Kind, taken: u64) -> bool
 
 fn place_at(
     file: &FileScope,
-    count: u64,
+    rows: u64,
+    length: u64,
     kind: Kind,
     name: &Word,
     line: u32,
-) -> Result<(), TypeFault>
-    ensures { Says (units.place_fault count kind name.now line file.now) tt result }
+) -> Result<u64, TypeFault>
+    ensures value { Says (units.place_fault (rows * length) kind name.now line file.now)
+        (rows * length) result }
+    ensures few { IfOk result (λ n. n * kinds.bytes kind + file.now.bytes ≤ MOST_OBJECT_BYTES) }
 {
     twice(&file.names, name, line)?;
+    let Some(count) = rows.checked_mul(length) else {
+        return Err(TypeFault::TooLarge(line));
+    };
     if has_room(count, kind, file.bytes) {
-        Ok(())
+        Ok(count)
     } else {
         Err(TypeFault::TooLarge(line))
     }
 }
 
-fn some_values(count: usize, line: u32) -> Result<(), TypeFault>
+fn some_values(count: u64, line: u32) -> Result<(), TypeFault>
     ensures { Says (unless (Rattle.std.specs.Prelude.nat_lt 0 count) (TypeFault.Mismatch line)) tt
         result }
 {
@@ -52,40 +59,53 @@ fn some_values(count: usize, line: u32) -> Result<(), TypeFault>
     }
 }
 
-/// How many values a global holds.
-fn count_in(names: &Scopes, size: &ArraySize, init: &[Expr], line: u32) -> Result<u64, TypeFault>
+/// How many rows a global has, and how many values each holds.
+fn sizes_in(
+    names: &Scopes,
+    size: &ArraySize,
+    init: &[Items<Expr>],
+    line: u32,
+) -> Result<(u64, u64), TypeFault>
     ensures { Says (units.count_fault size.now init.now line names.now)
-        (units.count_of size.now init.now) result }
+        (units.global_rows size.now init.now, units.row_length size.now init.now) result }
 {
     match size {
-        ArraySize::Scalar => Ok(1),
+        ArraySize::Scalar => Ok((1, 1)),
         ArraySize::Open => {
-            some_values(init.len(), line)?;
-            Ok(init.len() as u64)
+            let count = value_count(init)?;
+            some_values(count, line)?;
+            Ok((1, count))
         }
-        ArraySize::Sized(size) => size_length(names, size),
+        ArraySize::Sized(size) => {
+            let length = size_length(names, size)?;
+            Ok((1, length))
+        }
+        ArraySize::Rows { rows, size } => match rows {
+            None => {
+                let length = size_length(names, size)?;
+                some_values(init.len() as u64, line)?;
+                Ok((init.len() as u64, length))
+            }
+            Some(rows) => {
+                let rows = size_length(names, rows)?;
+                let length = size_length(names, size)?;
+                Ok((rows, length))
+            }
+        },
     }
 }
 
-/// The values of an initialiser at a kind.
-fn values(alloc: Global, names: &Scopes, kind: Kind, init: &[Expr]) -> Result<Items<u64>, TypeFault>
-    ensures { Says (units.values_fault init.now names.now)
-        (map (constants.constant_at kind) init.now) result }
-{
-    let mut found = Items::new(alloc);
-    for e in init {
-        let word = full_constant(names, kind, e)?;
-        found.push(word)?;
-    }
-    Ok(found)
-}
-
-fn meaning_of(size: &ArraySize, kind: Kind, number: u32) -> Meaning
+fn meaning_of(size: &ArraySize, kind: Kind, length: u32, number: u32) -> Meaning
+    requires { declarations.row_if size.now length ≡ declarations.row_in size.now }
     ensures { result ≡ units.global_meaning size.now kind number }
 {
     match size {
         ArraySize::Scalar => Meaning::Scalar(kind, Place::Global(number)),
-        _ => Meaning::Array(kind, Place::Global(number)),
+        size => Meaning::Array {
+            kind,
+            row: row_in(size, length),
+            place: Place::Global(number),
+        },
     }
 }
 
@@ -99,54 +119,89 @@ fn length_in(size: &ArraySize, count: u64) -> Option<u32>
     }
 }
 
-fn fits(count: u64, given: usize, line: u32) -> Result<(), TypeFault>
-    ensures { Says (unless (nat_le given count) (TypeFault.Mismatch line)) tt result }
+/// Whether there are no more values than a global holds, nor more rows than it has.
+fn fits(size: &ArraySize, rows: u64, length: u64, given: u64, init: &[Items<Expr>]) -> bool
+    requires rows { rows ≡ units.global_rows size.now init.now }
+    requires length { length ≡ units.row_length size.now init.now }
+    requires given { given ≡ Rattle.std.specs.Prelude.length (units.all_values init.now) }
+    ensures { result ≡ units.init_fits size.now init.now }
 {
-    if given as u64 <= count {
-        Ok(())
-    } else {
-        Err(TypeFault::Mismatch(line))
+    match size {
+        ArraySize::Rows { rows: wanted, .. } => match wanted {
+            None => rows_fit(length, init),
+            Some(_) => init.len() as u64 <= rows && rows_fit(length, init),
+        },
+        _ => given <= length,
     }
 }
 
-/// The number of a global that may be declared, and how many values it holds.
-fn admitted(
+/// What is known of a global that may be declared: its number, its rows and their length, and how many
+/// values it holds.
+#[derive(Clone, Copy, Debug, PartialEq, Eq)]
+struct Admitted {
+    number: u32,
+    rows: u64,
+    length: u64,
+    count: u64,
+}
+
+fn admit(
     file: &FileScope,
     line: u32,
     kind: Kind,
     name: &Word,
     size: &ArraySize,
-    init: &[Expr],
-) -> Result<(u64, u32), TypeFault>
-    ensures value { Says (units.admitted_fault size.now kind name.now init.now line file.now)
-        (units.count_of size.now init.now, length file.now.globals) result }
-    ensures few { IfOk result (λ r. r.0 * kinds.bytes kind + file.now.bytes ≤ MOST_OBJECT_BYTES) }
+    init: &[Items<Expr>],
+) -> Result<Admitted, TypeFault>
+    ensures value { Says (units.admitted_fault size.now kind name.now init.now line file.now) (record {
+      number = length file.now.globals;
+      rows = units.global_rows size.now init.now;
+      length = units.row_length size.now init.now;
+      count = units.count_of size.now init.now;
+    }) result }
+    ensures few { IfOk result
+        (λ r. r.count * kinds.bytes kind + file.now.bytes ≤ MOST_OBJECT_BYTES) }
 {
-    let count = count_in(&file.names, size, init, line)?;
-    place_at(file, count, kind, name, line)?;
+    let (rows, length) = sizes_in(&file.names, size, init, line)?;
+    let count = place_at(file, rows, length, kind, name, line)?;
     let number = counted(file.globals.len())?;
-    Ok((count, number))
+    Ok(Admitted {
+        number,
+        rows,
+        length,
+        count,
+    })
 }
 
-/// The values of a global of which the name is declared.
+/// The words of a global of which the name is declared.
+#[tactic(auto, using(crate::proofs::Rows::on_rows))]
 fn given(
     alloc: Global,
     names: &Scopes,
     line: u32,
     kind: Kind,
-    count: u64,
-    init: &[Expr],
+    size: &ArraySize,
+    known: Admitted,
+    init: &[Items<Expr>],
 ) -> Result<Items<u64>, TypeFault>
-    ensures { Says (first (units.values_fault init.now names.now)
-        (unless (nat_le (length init.now) count) (TypeFault.Mismatch line)))
-        (map (constants.constant_at kind) init.now) result }
+    requires rows { known.rows ≡ units.global_rows size.now init.now }
+    requires length { known.length ≡ units.row_length size.now init.now }
+    ensures { Says (first (units.values_fault (units.all_values init.now) names.now)
+        (unless (units.init_fits size.now init.now) (TypeFault.Mismatch line)))
+        (units.init_words size.now kind init.now) result }
 {
     let words = values(alloc, names, kind, init)?;
-    fits(count, init.len(), line)?;
-    Ok(words)
+    if !fits(size, known.rows, known.length, words.len() as u64, init) {
+        return Err(TypeFault::Mismatch(line));
+    }
+    match size {
+        ArraySize::Rows { .. } => whole_rows(alloc, words.as_slice(), init, known.length),
+        _ => Ok(words),
+    }
 }
 
 /// The file scope after a global.
+#[tactic(auto, using(crate::proofs::Rows::on_global))]
 pub fn global(
     alloc: Global,
     file: FileScope,
@@ -154,20 +209,22 @@ pub fn global(
     kind: Kind,
     name: Word,
     size: &ArraySize,
-    init: &[Expr],
+    init: &[Items<Expr>],
 ) -> Result<FileScope, TypeFault>
     ensures { Says (units.global_fault size.now kind name init.now line file)
         (units.with_global size.now kind name init.now file) result }
 {
     let mut file = file;
-    let (count, number) = admitted(&file, line, kind, &name, size, init)?;
+    let known = admit(&file, line, kind, &name, size, init)?;
+    let length = short(known.length)?;
     file.names
-        .declare(alloc, name, meaning_of(size, kind, number))?;
-    let init = given(alloc, &file.names, line, kind, count, init)?;
-    file.bytes += count * bytes(kind) as u64;
+        .declare(alloc, name, meaning_of(size, kind, length, known.number))?;
+    let init = given(alloc, &file.names, line, kind, size, known, init)?;
+    file.bytes += known.count * bytes(kind) as u64;
     file.globals.push(TypedGlobal {
         kind,
-        length: length_in(size, count),
+        length: length_in(size, known.count),
+        row: row_in(size, length),
         init,
     })?;
     Ok(file)

@@ -7,11 +7,14 @@ mod file_scope;
 mod functions;
 mod globals;
 mod includes;
+mod initialisers;
+mod parameters;
 mod parts;
 mod program;
 mod signatures;
 mod state;
 mod statements;
+mod switches;
 
 pub use c_type_expr::TypeFault;
 pub use program::type_program;

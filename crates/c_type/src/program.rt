@@ -1,9 +1,10 @@
 //! The typing of a translation unit, item by item.
 
-ghost use Rattle.std.specs.Prelude.{◌≡◌, [], ◌∷◌, None};
+ghost use Rattle.std.specs.Prelude.{◌≡◌, [], ◌∷◌, None, true};
 ghost use Rattle.std.specs.Option.{option_copied};
 ghost use Rattle.c_type_expr.specs.Roles.{unless};
 ghost use Rattle.c_type_expr.specs.Says.{Says};
+ghost use Rattle.c_type.specs.States.{some_block};
 ghost use Rattle.c_type.specs.Programs as programs;
 
 use crate::file_scope::FileScope;
@@ -108,6 +109,7 @@ fn prototype_at(
     name: Word,
     params: &[Param],
 ) -> Result<FileScope, TypeFault>
+    requires { some_block file.names ≡ true }
     ensures { Says (programs.prototype_fault given name params.now line file)
         (programs.with_prototype_at table.now given name params.now file) result }
 {
@@ -137,6 +139,7 @@ fn function(
     params: Items<Param>,
     body: Option<Stmt>,
 ) -> Result<FileScope, TypeFault>
+    requires { some_block file.names ≡ true }
     ensures { Says (programs.node_fault table.now (TopNode.Func given name params body) line file)
         (programs.node_after table.now (TopNode.Func given name params body) file) result }
 {
@@ -148,6 +151,7 @@ fn function(
 
 /// The file scope after an item.
 fn item(alloc: Global, table: &Scopes, file: FileScope, top: Top) -> Result<FileScope, TypeFault>
+    requires { some_block file.names ≡ true }
     ensures { Says (programs.item_fault table.now top file) (programs.item_after table.now top file)
         result }
 {
@@ -170,6 +174,7 @@ fn item(alloc: Global, table: &Scopes, file: FileScope, top: Top) -> Result<File
 }
 
 /// The file scope after all items.
+#[tactic(auto, using(crate::proofs::Blocks::on_items))]
 fn items(alloc: Global, table: &Scopes, tops: Items<Top>) -> Result<FileScope, TypeFault>
     ensures { Says (programs.items_fault table.now tops programs.empty_file)
         (programs.items_after table.now tops programs.empty_file) result }

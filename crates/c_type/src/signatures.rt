@@ -7,14 +7,16 @@ ghost use Rattle.c_type.specs.Units as units;
 
 use c_scope::Meaning;
 use c_tree::{Kind, Slot};
-use c_type_expr::TypeFault;
+use c_type_expr::{TypeFault, same_row};
 
 fn same_slot(a: Slot, b: Slot) -> bool
     ensures { result ≡ units.same_slot a b }
 {
     match (a, b) {
         (Slot::Scalar(j), Slot::Scalar(k)) => j == k,
-        (Slot::Address(j), Slot::Address(k)) => j == k,
+        (Slot::Address { kind: j, row: p }, Slot::Address { kind: k, row: q }) => {
+            j == k && same_row(p, q)
+        }
         _ => false,
     }
 }

@@ -4,6 +4,13 @@ use base::Items;
 use c_scope::Scopes;
 use c_tree::{Kind, Slot, TypedArray};
 
+/// What is around a statement: whether a `break` or a `continue` there is that of a loop or a switch.
+#[derive(Clone, Copy, Debug, PartialEq, Eq)]
+pub struct Around {
+    pub may_break: bool,
+    pub may_continue: bool,
+}
+
 /// The names in scope, and the scalars and arrays of the function so far.
 #[derive(Drop)]
 pub struct State {

@@ -1,28 +1,39 @@
 //! The typing of statements, node by node.
 
-ghost use Rattle.std.specs.Prelude.{◌≡◌, map, option_map};
+ghost use Rattle.std.specs.Prelude.{◌≡◌, [], map, option_map};
 ghost use Rattle.c_tree.specs.declared.tree.StmtNode.TheVariants as node;
 ghost use Rattle.c_type.specs.States.{at, tree_if};
-ghost use Rattle.c_type.specs.Statements.{part, beginning_of, tail_fault, rest_fault};
-ghost use Rattle.c_type.specs.Runs.{Runs, Moves, RunAll, RunElse, RunLegs, Begins};
+ghost use Rattle.c_type.specs.Statements.{part, section_of, beginning_of, tail_fault, rest_fault};
+ghost use Rattle.c_type.specs.Statements.{in_loop};
+ghost use Rattle.c_type.specs.Runs.{Runs, Moves, RunAll, RunElse, RunLegs, RunSection, RunSections};
+ghost use Rattle.c_type.specs.Runs.{Begins};
 
 use crate::declarations::declare;
 use crate::parts::{full_if, return_stmt};
-use crate::state::State;
+use crate::state::{Around, State};
+use crate::switches::{section_labels, switch_scalar, switch_test};
 use base::{Boxed, Items, Queue};
-use c_tree::{Expr, ForInit, Stmt, StmtNode, TypedExpr, TypedForInit, TypedStmt};
+use c_tree::{
+    Expr, ForInit, Kind, Section, Stmt, StmtNode, TypedExpr, TypedForInit, TypedSection, TypedStmt,
+};
 use c_type_expr::{Role, TypeFault, full};
 use std::alloc::Global;
+
+// Around the body of a loop.
+const IN_LOOP: Around = Around {
+    may_break: true,
+    may_continue: true,
+};
 
 #[tactic(auto, using(crate::proofs::Nodes::on_plain))]
 fn plain(
     alloc: Global,
     state: &State,
-    in_loop: bool,
+    around: Around,
     line: u32,
     e: Option<Expr>,
 ) -> Result<TypedStmt, TypeFault>
-    ensures { Runs (part (at line (node.Plain e))) in_loop state.now state.now result }
+    ensures { Runs (part (at line (node.Plain e))) around state.now state.now result }
 {
     let e = full_if(alloc, &state.names, Role::Free, e)?;
     Ok(TypedStmt::Plain(e))
@@ -32,20 +43,20 @@ fn plain(
 fn give(
     alloc: Global,
     state: &State,
-    in_loop: bool,
+    around: Around,
     line: u32,
     e: Option<Expr>,
 ) -> Result<TypedStmt, TypeFault>
-    ensures { Runs (part (at line (node.Return e))) in_loop state.now state.now result }
+    ensures { Runs (part (at line (node.Return e))) around state.now state.now result }
 {
     return_stmt(alloc, state, line, e)
 }
 
 #[tactic(auto, using(crate::proofs::Nodes::on_break))]
-fn break_stmt(state: &State, in_loop: bool, line: u32) -> Result<TypedStmt, TypeFault>
-    ensures { Runs (part (at line node.Break)) in_loop state.now state.now result }
+fn break_stmt(state: &State, around: Around, line: u32) -> Result<TypedStmt, TypeFault>
+    ensures { Runs (part (at line node.Break)) around state.now state.now result }
 {
-    if in_loop {
+    if around.may_break {
         Ok(TypedStmt::Break)
     } else {
         Err(TypeFault::Mismatch(line))
@@ -53,10 +64,10 @@ fn break_stmt(state: &State, in_loop: bool, line: u32) -> Result<TypedStmt, Type
 }
 
 #[tactic(auto, using(crate::proofs::Nodes::on_continue))]
-fn continue_stmt(state: &State, in_loop: bool, line: u32) -> Result<TypedStmt, TypeFault>
-    ensures { Runs (part (at line node.Continue)) in_loop state.now state.now result }
+fn continue_stmt(state: &State, around: Around, line: u32) -> Result<TypedStmt, TypeFault>
+    ensures { Runs (part (at line node.Continue)) around state.now state.now result }
 {
-    if in_loop {
+    if around.may_continue {
         Ok(TypedStmt::Continue)
     } else {
         Err(TypeFault::Mismatch(line))
@@ -68,15 +79,15 @@ fn continue_stmt(state: &State, in_loop: bool, line: u32) -> Result<TypedStmt, T
 pub fn all(
     alloc: Global,
     state: &mut State,
-    in_loop: bool,
+    around: Around,
     body: Items<Stmt>,
 ) -> Result<Items<TypedStmt>, TypeFault>
-    ensures { RunAll (map part body) in_loop state.old state.new result }
+    ensures { RunAll (map part body) around state.old state.new result }
 {
     let mut rest = Queue::from_items(body);
     let mut found = Items::new(alloc);
     while let Some(stmt) = rest.pop() {
-        let stmt = type_stmt(alloc, state, in_loop, stmt)?;
+        let stmt = type_stmt(alloc, state, around, stmt)?;
         found.push(stmt)?;
     }
     Ok(found)
@@ -87,14 +98,14 @@ pub fn all(
 fn block(
     alloc: Global,
     state: &mut State,
-    in_loop: bool,
+    around: Around,
     line: u32,
     body: Items<Stmt>,
 ) -> Result<TypedStmt, TypeFault>
-    ensures { Runs (part (at line (node.Compound body))) in_loop state.old state.new result }
+    ensures { Runs (part (at line (node.Compound body))) around state.old state.new result }
 {
     state.names.open()?;
-    let body = all(alloc, state, in_loop, body)?;
+    let body = all(alloc, state, around, body)?;
     state.names.close();
     Ok(TypedStmt::Compound(body))
 }
@@ -103,12 +114,12 @@ fn block(
 fn boxed(
     alloc: Global,
     state: &mut State,
-    in_loop: bool,
+    around: Around,
     s: Boxed<Stmt>,
 ) -> Result<Boxed<TypedStmt>, TypeFault>
-    ensures { Runs (part s) in_loop state.old state.new result }
+    ensures { Runs (part s) around state.old state.new result }
 {
-    let s = type_stmt(alloc, state, in_loop, s.into_inner())?;
+    let s = type_stmt(alloc, state, around, s.into_inner())?;
     Ok(Boxed::new(alloc, s)?)
 }
 
@@ -116,15 +127,15 @@ fn boxed(
 fn else_leg(
     alloc: Global,
     state: &mut State,
-    in_loop: bool,
+    around: Around,
     no: Option<Boxed<Stmt>>,
 ) -> Result<Option<Boxed<TypedStmt>>, TypeFault>
-    ensures { RunElse (option_map part no) in_loop state.old state.new result }
+    ensures { RunElse (option_map part no) around state.old state.new result }
 {
     match no {
         None => Ok(None),
         Some(no) => {
-            let no = boxed(alloc, state, in_loop, no)?;
+            let no = boxed(alloc, state, around, no)?;
             Ok(Some(no))
         }
     }
@@ -134,14 +145,14 @@ fn else_leg(
 fn legs(
     alloc: Global,
     state: &mut State,
-    in_loop: bool,
+    around: Around,
     yes: Boxed<Stmt>,
     no: Option<Boxed<Stmt>>,
 ) -> Result<(Boxed<TypedStmt>, Option<Boxed<TypedStmt>>), TypeFault>
-    ensures { RunLegs (part yes) (option_map part no) in_loop state.old state.new result }
+    ensures { RunLegs (part yes) (option_map part no) around state.old state.new result }
 {
-    let yes = boxed(alloc, state, in_loop, yes)?;
-    let no = else_leg(alloc, state, in_loop, no)?;
+    let yes = boxed(alloc, state, around, yes)?;
+    let no = else_leg(alloc, state, around, no)?;
     Ok((yes, no))
 }
 
@@ -150,16 +161,16 @@ fn legs(
 fn either(
     alloc: Global,
     state: &mut State,
-    in_loop: bool,
+    around: Around,
     line: u32,
     test: Expr,
     yes: Boxed<Stmt>,
     no: Option<Boxed<Stmt>>,
 ) -> Result<TypedStmt, TypeFault>
-    ensures { Runs (part (at line (node.If test yes no))) in_loop state.old state.new result }
+    ensures { Runs (part (at line (node.If test yes no))) around state.old state.new result }
 {
     let test = full(alloc, &state.names, Role::Value, test)?;
-    let (yes, no) = legs(alloc, state, in_loop, yes, no)?;
+    let (yes, no) = legs(alloc, state, around, yes, no)?;
     Ok(TypedStmt::If { test, yes, no })
 }
 
@@ -168,15 +179,15 @@ fn either(
 fn while_stmt(
     alloc: Global,
     state: &mut State,
-    in_loop: bool,
+    around: Around,
     line: u32,
     test: Expr,
     body: Boxed<Stmt>,
 ) -> Result<TypedStmt, TypeFault>
-    ensures { Runs (part (at line (node.While test body))) in_loop state.old state.new result }
+    ensures { Runs (part (at line (node.While test body))) around state.old state.new result }
 {
     let test = full(alloc, &state.names, Role::Value, test)?;
-    let body = boxed(alloc, state, true, body)?;
+    let body = boxed(alloc, state, IN_LOOP, body)?;
     Ok(TypedStmt::While { test, body })
 }
 
@@ -185,14 +196,14 @@ fn while_stmt(
 fn do_stmt(
     alloc: Global,
     state: &mut State,
-    in_loop: bool,
+    around: Around,
     line: u32,
     body: Boxed<Stmt>,
     test: Expr,
 ) -> Result<TypedStmt, TypeFault>
-    ensures { Runs (part (at line (node.Do body test))) in_loop state.old state.new result }
+    ensures { Runs (part (at line (node.Do body test))) around state.old state.new result }
 {
-    let body = boxed(alloc, state, true, body)?;
+    let body = boxed(alloc, state, IN_LOOP, body)?;
     let test = full(alloc, &state.names, Role::Value, test)?;
     Ok(TypedStmt::Do { body, test })
 }
@@ -202,10 +213,10 @@ fn do_stmt(
 fn beginning(
     alloc: Global,
     state: &mut State,
-    in_loop: bool,
+    around: Around,
     init: ForInit,
 ) -> Result<TypedForInit, TypeFault>
-    ensures { Begins (beginning_of init) in_loop state.old state.new result }
+    ensures { Begins (beginning_of init) around state.old state.new result }
 {
     match init {
         ForInit::Nothing => Ok(TypedForInit::Nothing),
@@ -214,7 +225,7 @@ fn beginning(
             Ok(TypedForInit::First(e))
         }
         ForInit::Locals(locals) => {
-            let locals = all(alloc, state, in_loop, locals)?;
+            let locals = all(alloc, state, around, locals)?;
             Ok(TypedForInit::Locals(locals))
         }
     }
@@ -246,7 +257,7 @@ fn tail_of(
 {
     let Tail { post, body } = tail;
     let post = full_if(alloc, &state.names, Role::Free, post)?;
-    let body = boxed(alloc, state, true, body)?;
+    let body = boxed(alloc, state, IN_LOOP, body)?;
     Ok((post, body))
 }
 
@@ -276,16 +287,16 @@ fn rest_of(
 fn for_stmt(
     alloc: Global,
     state: &mut State,
-    in_loop: bool,
+    around: Around,
     line: u32,
     init: ForInit,
     rest: Rest,
 ) -> Result<TypedStmt, TypeFault>
-    ensures { Runs (part (at line (node.For init rest.test rest.tail.post rest.tail.body))) in_loop
+    ensures { Runs (part (at line (node.For init rest.test rest.tail.post rest.tail.body))) around
         state.old state.new result }
 {
     state.names.open()?;
-    let init = beginning(alloc, state, in_loop, init)?;
+    let init = beginning(alloc, state, around, init)?;
     let (test, (post, body)) = rest_of(alloc, state, rest)?;
     state.names.close();
     Ok(TypedStmt::For {
@@ -296,15 +307,79 @@ fn for_stmt(
     })
 }
 
+#[cycle(stmt)]
+fn section(
+    alloc: Global,
+    state: &mut State,
+    around: Around,
+    kind: Kind,
+    seen: &mut Items<Option<u64>>,
+    s: Section,
+) -> Result<TypedSection, TypeFault>
+    ensures { RunSection kind seen.old (section_of s) around state.old state.new seen.new result }
+{
+    let Section { labels, body } = s;
+    let labels = section_labels(alloc, &state.names, kind, seen, labels.as_slice())?;
+    let body = all(alloc, state, around, body)?;
+    Ok(TypedSection { labels, body })
+}
+
+/// The sections of a switch, one after another.
+#[cycle(stmt)]
+fn some_sections(
+    alloc: Global,
+    state: &mut State,
+    around: Around,
+    kind: Kind,
+    sections: Items<Section>,
+) -> Result<Items<TypedSection>, TypeFault>
+    ensures { RunSections kind [] (map section_of sections) around state.old state.new result }
+{
+    let mut rest = Queue::from_items(sections);
+    let mut found = Items::new(alloc);
+    let mut seen = Items::new(alloc);
+    while let Some(s) = rest.pop() {
+        let s = section(alloc, state, around, kind, &mut seen, s)?;
+        found.push(s)?;
+    }
+    Ok(found)
+}
+
+#[cycle(stmt)]
+#[tactic(auto, using(crate::proofs::Nodes::on_switch))]
+fn switch(
+    alloc: Global,
+    state: &mut State,
+    around: Around,
+    line: u32,
+    test: Expr,
+    sections: Items<Section>,
+) -> Result<TypedStmt, TypeFault>
+    ensures { Runs (part (at line (node.Switch test sections))) around state.old state.new result }
+{
+    let (test, kind) = switch_test(alloc, &state.names, test)?;
+    let scalar = switch_scalar(state, kind, line)?;
+    let around = Around {
+        may_break: true,
+        may_continue: around.may_continue,
+    };
+    let sections = some_sections(alloc, state, around, kind, sections)?;
+    Ok(TypedStmt::Switch {
+        scalar,
+        test,
+        sections,
+    })
+}
+
 /// The typed tree of a statement, or its first fault.
 #[cycle(stmt)]
 pub fn type_stmt(
     alloc: Global,
     state: &mut State,
-    in_loop: bool,
+    around: Around,
     s: Stmt,
 ) -> Result<TypedStmt, TypeFault>
-    ensures { Runs (part s) in_loop state.old state.new result }
+    ensures { Runs (part s) around state.old state.new result }
 {
     let Stmt { line, node } = s;
     match node {
@@ -313,12 +388,12 @@ pub fn type_stmt(
             name,
             size,
             init,
-        } => declare(alloc, state, in_loop, line, kind, name, size, init),
-        StmtNode::Plain(e) => plain(alloc, state, in_loop, line, e),
-        StmtNode::Compound(body) => block(alloc, state, in_loop, line, body),
-        StmtNode::If { test, yes, no } => either(alloc, state, in_loop, line, test, yes, no),
-        StmtNode::While { test, body } => while_stmt(alloc, state, in_loop, line, test, body),
-        StmtNode::Do { body, test } => do_stmt(alloc, state, in_loop, line, body, test),
+        } => declare(alloc, state, around, line, kind, name, size, init),
+        StmtNode::Plain(e) => plain(alloc, state, around, line, e),
+        StmtNode::Compound(body) => block(alloc, state, around, line, body),
+        StmtNode::If { test, yes, no } => either(alloc, state, around, line, test, yes, no),
+        StmtNode::While { test, body } => while_stmt(alloc, state, around, line, test, body),
+        StmtNode::Do { body, test } => do_stmt(alloc, state, around, line, body, test),
         StmtNode::For {
             init,
             test,
@@ -326,10 +401,13 @@ pub fn type_stmt(
             body,
         } => {
             let tail = Tail { post, body };
-            for_stmt(alloc, state, in_loop, line, init, Rest { test, tail })
+            for_stmt(alloc, state, around, line, init, Rest { test, tail })
         }
-        StmtNode::Break => break_stmt(state, in_loop, line),
-        StmtNode::Continue => continue_stmt(state, in_loop, line),
-        StmtNode::Return(e) => give(alloc, state, in_loop, line, e),
+        StmtNode::Switch { test, sections } => {
+            switch(alloc, state, around, line, test, sections)
+        }
+        StmtNode::Break => break_stmt(state, around, line),
+        StmtNode::Continue => continue_stmt(state, around, line),
+        StmtNode::Return(e) => give(alloc, state, around, line, e),
     }
 }

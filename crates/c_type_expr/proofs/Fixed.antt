@@ -1,6 +1,6 @@
 -- What is no constant, at each node.
 use Rattle.std.proofs.Common.{◌≡◌, ℕ, List, [], ◌∷◌, map, Option, Some, None, refl, sym, ap, ◌∙◌}
-use Rattle.std.specs.Prelude.{is_some}
+use Rattle.std.specs.Prelude.{is_some, option_map}
 use Rattle.c_tree.specs.declared.token.Kind.{Kind}
 use Rattle.c_tree.specs.declared.tree.UnaryOp.{UnaryOp}
 use Rattle.c_tree.specs.declared.tree.BumpOp.{BumpOp}
@@ -13,6 +13,7 @@ use Rattle.c_tree.specs.declared.tree.ExprNode.TheOpen.{ExprNode-F}
 use Rattle.c_scope.specs.Scope.{Scope, look_up}
 use Rattle.c_type_expr.specs.declared.fault.TypeFault.TheVariants.{Unknown, Mismatch}
 use Rattle.c_type_expr.specs.Roles.{Blame, first}
+use Rattle.c_type_expr.specs.Constants.{name_fixed, row_fixed}
 use Rattle.c_type_expr.specs.Constants.{no_constant, calls_known, all_fixed, node_fixed, fixed_line, not_fixed}
 use Rattle.c_type_expr.specs.Says.{at}
 
@@ -37,14 +38,18 @@ module _ (f : Expr) (G : Scope) where
       ∙ ap (λ (b : B). b G) (fixed_by f.line _ (ExprNode-F.Number v k) (node.rolls-Number v k))
 
   pub fixed-Name : (w : List ℕ) → f.node ≡ node.Name w
-      → not_fixed f G ≡ no_constant (is_some (look_up G w)) f.line
+      → not_fixed f G ≡ name_fixed (look_up G w) f.line
   fixed-Name w h = ap (λ n. not_fixed (at f.line n) G) h
       ∙ ap (λ (b : B). b G) (fixed_by f.line _ (ExprNode-F.Name w) (node.rolls-Name w))
 
-  pub fixed-Element : (w : List ℕ) (i : Expr) → f.node ≡ node.Element w i
-      → not_fixed f G ≡ first (not_fixed i G) (no_constant (is_some (look_up G w)) f.line)
-  fixed-Element w i h = ap (λ n. not_fixed (at f.line n) G) h
-      ∙ ap (λ (b : B). b G) (fixed_by f.line _ (ExprNode-F.Element w i) (node.rolls-Element w i))
+  pub fixed-Element : (w : List ℕ) (r : Option Expr) (i : Expr) → f.node ≡ node.Element w r i
+      → not_fixed f G ≡ first (row_fixed (option_map not_fixed r) G)
+      (first (not_fixed i G) (no_constant (is_some (look_up G w)) f.line))
+  fixed-Element w None i h = ap (λ n. not_fixed (at f.line n) G) h
+      ∙ ap (λ (b : B). b G) (fixed_by f.line _ (ExprNode-F.Element w None i) (node.rolls-Element w None i))
+  fixed-Element w (Some r) i h = ap (λ n. not_fixed (at f.line n) G) h
+      ∙ ap (λ (b : B). b G) (fixed_by f.line _ (ExprNode-F.Element w (Some r) i)
+      (node.rolls-Element w (Some r) i))
 
   pub fixed-Call : (w : List ℕ) (es : List Expr) → f.node ≡ node.Call w es
       → not_fixed f G ≡ first (all_fixed (map not_fixed es) G) (no_constant (calls_known (look_up G w)) f.line)

@@ -26,6 +26,11 @@ use Rattle.c_type_expr.specs.Trees.{argument, arguments, unary, cast, bump, bina
 use Rattle.c_type_expr.specs.Trees.{comma, node_tree, of_node, tree, args_tree}
 use Rattle.c_type_expr.specs.Says.{at}
 
+-- the size of a first index, where there is one
+abbrev pub row_size : Option Expr → ℕ
+row_size None = 0
+row_size (Some e) = size-Expr e
+
 abbrev A : Type 0
 A = ℕ → Judged
 
@@ -83,11 +88,18 @@ module _ (G : Scope) (r : Role) (l : ℕ) where
       (judged_by l _ (ExprNode-F.Name w) (node.rolls-Name w))
 
   pub fault-Element : (w : List ℕ) (i : Expr)
-      → fault (at l (node.Element w i)) G r
-      ≡ first (fault i G Value) (element_fault (look_up G w) r l)
+      → fault (at l (node.Element w None i)) G r
+      ≡ first (fault i G Value) (element_fault (look_up G w) false r l)
   unfolding fault is_place
   fault-Element w i = ap (λ (j : Judged). j.blame G r)
-      (judged_by l _ (ExprNode-F.Element w i) (node.rolls-Element w i))
+      (judged_by l _ (ExprNode-F.Element w None i) (node.rolls-Element w None i))
+
+  pub fault-Row : (w : List ℕ) (x i : Expr)
+      → fault (at l (node.Element w (Some x) i)) G r
+      ≡ first (fault x G Value) (first (fault i G Value) (element_fault (look_up G w) true r l))
+  unfolding fault is_place
+  fault-Row w x i = ap (λ (j : Judged). j.blame G r)
+      (judged_by l _ (ExprNode-F.Element w (Some x) i) (node.rolls-Element w (Some x) i))
 
   pub fault-Call : (w : List ℕ) (es : List Expr)
       → fault (at l (node.Call w es)) G r ≡ first (args_fault (slots_of (look_up G w)) es G)
@@ -161,10 +173,16 @@ module _ (G : Scope) (l : ℕ) where
   tree-Name w = ap (λ (f : C). f G) (tree_by l _ (ExprNode-F.Name w) (node.rolls-Name w))
 
   pub tree-Element : (w : List ℕ) (i : Expr)
-      → tree (at l (node.Element w i)) G ≡ a (Some (array_kind (look_up G w)))
-      (typed.Element (array_place (look_up G w)) (tree i G))
-  tree-Element w i = ap (λ (f : C). f G) (tree_by l _ (ExprNode-F.Element w i)
-      (node.rolls-Element w i))
+      → tree (at l (node.Element w None i)) G ≡ a (Some (array_kind (look_up G w)))
+      (typed.Element (array_place (look_up G w)) None (tree i G))
+  tree-Element w i = ap (λ (f : C). f G) (tree_by l _ (ExprNode-F.Element w None i)
+      (node.rolls-Element w None i))
+
+  pub tree-Row : (w : List ℕ) (x i : Expr)
+      → tree (at l (node.Element w (Some x) i)) G ≡ a (Some (array_kind (look_up G w)))
+      (typed.Element (array_place (look_up G w)) (Some (tree x G)) (tree i G))
+  tree-Row w x i = ap (λ (f : C). f G) (tree_by l _ (ExprNode-F.Element w (Some x) i)
+      (node.rolls-Element w (Some x) i))
 
   pub tree-Call : (w : List ℕ) (es : List Expr)
       → tree (at l (node.Call w es)) G ≡ a (result_kind (look_up G w))
@@ -217,11 +235,12 @@ module _ (f : Expr) where
   place-Name w h = ap (λ n. is_place (at f.line n)) h
       ∙ ap (λ (j : Judged). j.place) (judged_by f.line _ (ExprNode-F.Name w) (node.rolls-Name w))
 
-  pub place-Element : (w : List ℕ) (i : Expr) → f.node ≡ node.Element w i → is_place f ≡ true
+  pub place-Element : (w : List ℕ) (r : Option Expr) (i : Expr) → f.node ≡ node.Element w r i
+      → is_place f ≡ true
   unfolding is_place
-  place-Element w i h = ap (λ n. is_place (at f.line n)) h
-      ∙ ap (λ (j : Judged). j.place) (judged_by f.line _ (ExprNode-F.Element w i)
-      (node.rolls-Element w i))
+  place-Element w r i h = ap (λ n. is_place (at f.line n)) h
+      ∙ ap (λ (j : Judged). j.place) (judged_by f.line _ (ExprNode-F.Element w r i)
+      (node.rolls-Element w r i))
 
   pub place-Call : (w : List ℕ) (es : List Expr) → f.node ≡ node.Call w es → is_place f ≡ false
   unfolding is_place
@@ -282,6 +301,8 @@ pub ruleset on_number = (fault-Number, tree-Number)
 pub ruleset on_name = (fault-Name, tree-Name)
 
 pub ruleset on_element = (fault-Element, tree-Element)
+
+pub ruleset on_row_element = (fault-Row, tree-Row)
 
 pub ruleset on_call = (fault-Call, tree-Call)
 

@@ -1,5 +1,5 @@
 -- The test for a place holds of places alone.
-use Rattle.std.proofs.Common.{◌≡◌, ℕ, true, false, map, refl, sym, ◌∙◌, subst}
+use Rattle.std.proofs.Common.{◌≡◌, ℕ, true, false, map, Some, None, refl, sym, ◌∙◌, subst}
 use Rattle.std.proofs.lemmas.Bool.{false≢true}
 use Rattle.c_tree.specs.declared.tree.Expr.{Expr, Expr-F, ind-Expr, roll-Expr}
 use Rattle.c_tree.specs.declared.tree.ExprNode.{ExprNode, roll-ExprNode, map-ExprNode}
@@ -15,8 +15,8 @@ use Rattle.c_type_expr.proofs.Nodes.{place-Choice, place-Assign, place-Comma}
 -- a place passes the test
 pub place_passes : (e : Expr) → IsPlace e → is_place e ≡ true
 place_passes _ (a_name {l = l} {w = w}) = place-Name (at l (node.Name w)) w refl
-place_passes _ (an_element {l = l} {w = w} i) =
-    place-Element (at l (node.Element w i)) w i refl
+place_passes _ (an_element {l = l} {w = w} r i) =
+    place-Element (at l (node.Element w r i)) w r i refl
 place_passes _ (in_group {l = l} {e = e} p) =
     place-Group (at l (node.Group e)) e refl ∙ place_passes e p
 
@@ -36,8 +36,11 @@ module _ (N E : Type 0) (node_of : N → ExprNode) (of : E → Expr) (passes : (
   at_node (ExprNode-F.Number v k) l = subst (λ n. Passes (at l n)) (sym (node.rolls-Number v k))
       (fails _ (place-Number (at l (node.Number v k)) v k refl))
   at_node (ExprNode-F.Name w) l = subst (λ n. Passes (at l n)) (sym (node.rolls-Name w)) (λ h. a_name)
-  at_node (ExprNode-F.Element w i) l =
-      subst (λ n. Passes (at l n)) (sym (node.rolls-Element w (of i))) (λ h. an_element (of i))
+  at_node (ExprNode-F.Element w None i) l =
+      subst (λ n. Passes (at l n)) (sym (node.rolls-Element w None (of i))) (λ h. an_element None (of i))
+  at_node (ExprNode-F.Element w (Some x) i) l =
+      subst (λ n. Passes (at l n)) (sym (node.rolls-Element w (Some (of x)) (of i)))
+      (λ h. an_element (Some (of x)) (of i))
   at_node (ExprNode-F.Call w es) l =
       subst (λ n. Passes (at l n)) (sym (node.rolls-Call w (map of es)))
       (fails _ (place-Call (at l (node.Call w (map of es))) w (map of es) refl))

@@ -32,9 +32,11 @@ use Rattle.c_type_expr.specs.Trees.{binary, choice, assign, comma, name_tree, ar
 use Rattle.c_type_expr.specs.Trees.{array_place, result_kind, callee_of}
 use Rattle.c_type_expr.specs.Says.{at}
 use Rattle.c_type_expr.specs.Typed.{Typed, Passed, number, scalar, array, ending, element, call}
+use Rattle.c_type_expr.specs.Typed.{row_element}
 use Rattle.c_type_expr.specs.Typed.{group, operator, conversion, step, operation, either}
 use Rattle.c_type_expr.specs.Typed.{assignment, sequence, none, value, address}
 use Rattle.c_type_expr.proofs.Nodes.{fault-Number, tree-Number, fault-Name, tree-Name}
+use Rattle.c_type_expr.proofs.Nodes.{fault-Row, tree-Row}
 use Rattle.c_type_expr.proofs.Nodes.{fault-Element, tree-Element, fault-Call, tree-Call}
 use Rattle.c_type_expr.proofs.Nodes.{fault-Group, tree-Group, fault-Unary, tree-Unary, fault-Cast}
 use Rattle.c_type_expr.proofs.Nodes.{tree-Cast, fault-Bump, tree-Bump, fault-Binary, tree-Binary}
@@ -75,8 +77,8 @@ mutual
     fault-Name G r l w ∙ ap (λ m. name_fault m r l) m ∙ fine (takes_element r) (Mismatch l) h,
     sym (tree-Name G l w ∙ ap name_tree m),
   )
-  sound G _ _ _ (array {r = r} {l = l} {w = w} {k = k} {p = p} m h) = (
-    fault-Name G r l w ∙ ap (λ m. name_fault m r l) m ∙ fine (takes_array k r) (Mismatch l) h,
+  sound G _ _ _ (array {r = r} {l = l} {w = w} {k = k} {q = q} {p = p} m h) = (
+    fault-Name G r l w ∙ ap (λ m. name_fault m r l) m ∙ fine (takes_array k q r) (Mismatch l) h,
     sym (tree-Name G l w ∙ ap name_tree m),
   )
   sound G _ _ _ (ending {r = r} {l = l} {w = w} m h) = (
@@ -86,10 +88,20 @@ mutual
   sound G _ _ _ (element {r = r} {l = l} {w = w} {k = k} {p = p} {i = i} {j = j} d m h) =
       let s = sound G Value i j d in (
         fault-Element G r l w i ∙ both _ _ s.0
-            (ap (λ m. element_fault m r l) m ∙ fine (takes_element r) (Mismatch l) h),
+            (ap (λ m. element_fault m false r l) m ∙ fine (takes_element r) (Mismatch l) h),
         sym (tree-Element G l w i ∙ ap (λ m. a (Some (array_kind m))
-            (typed.Element (array_place m) (tree i G))) m
-            ∙ ap (λ (j : TypedExpr). a (Some k) (typed.Element p j)) (sym s.1)),
+            (typed.Element (array_place m) None (tree i G))) m
+            ∙ ap (λ (j : TypedExpr). a (Some k) (typed.Element p None j)) (sym s.1)),
+      )
+  sound G _ _ _ (row_element {r = r} {l = l} {n = n} {w = w} {k = k} {p = p} {x = x} {i = i} {y = y}
+      {j = j} c d m h) =
+      let u = sound G Value x y c in let s = sound G Value i j d in (
+        fault-Row G r l w x i ∙ both _ _ u.0 (both _ _ s.0
+            (ap (λ m. element_fault m true r l) m ∙ fine (takes_element r) (Mismatch l) h)),
+        sym (tree-Row G l w x i ∙ ap (λ m. a (Some (array_kind m))
+            (typed.Element (array_place m) (Some (tree x G)) (tree i G))) m
+            ∙ ap (λ (y : TypedExpr). a (Some k) (typed.Element p (Some y) (tree i G))) (sym u.1)
+            ∙ ap (λ (j : TypedExpr). a (Some k) (typed.Element p (Some y) j)) (sym s.1)),
       )
   sound G _ _ _ (call {r = r} {l = l} {w = w} {result = result} {slots = slots} {c = c} {d = d}
       {es = es} {ts = ts} m p h) =
@@ -158,8 +170,8 @@ mutual
         ap (λ (t : TypedExpr). with_convert k t ∷ ts) s.1
             ∙ ap (λ (ts : List TypedExpr). with_convert k (tree e G) ∷ ts) p.2,
       )
-  passed G _ _ _ (address {k = k} {e = e} {t = t} {slots = slots} {es = es} {ts = ts} d ds) =
-      let s = sound G (Array k) e t d in let p = passed G slots es ts ds in (
+  passed G _ _ _ (address {k = k} {q = q} {e = e} {t = t} {slots = slots} {es = es} {ts = ts} d ds) =
+      let s = sound G (Array k q) e t d in let p = passed G slots es ts ds in (
         both _ _ s.0 p.0,
         ap suc p.1,
         ap (λ (t : TypedExpr). t ∷ ts) s.1
@@ -185,19 +197,32 @@ name_typed : (G : Scope) (r : Role) (l : ℕ) (w : List ℕ) (m : Option Meaning
     → Typed G r (at l (node.Name w)) (name_tree m)
 name_typed G r l w None e h = absurd (cc)
 name_typed G r l w (Some (meaning.Scalar k p)) e h = scalar e (held _ _ h)
-name_typed G r l w (Some (meaning.Array k p)) e h = array e (held _ _ h)
+name_typed G r l w (Some (meaning.Array k q p)) e h = array e (held _ _ h)
 name_typed G r l w (Some (meaning.Function result slots c d)) e h = absurd (false≢true (held _ _ h))
 name_typed G r l w (Some meaning.EndOfFile) e h = ending e (held _ _ h)
 
 element_typed : (G : Scope) (r : Role) (l : ℕ) (w : List ℕ) (i : Expr) (j : TypedExpr)
-    (m : Option Meaning) → look_up G w ≡ m → Typed G Value i j → element_fault m r l ≡ None
-    → Typed G r (at l (node.Element w i))
-    (a (Some (array_kind m)) (typed.Element (array_place m) j))
+    (m : Option Meaning) → look_up G w ≡ m → Typed G Value i j → element_fault m false r l ≡ None
+    → Typed G r (at l (node.Element w None i))
+    (a (Some (array_kind m)) (typed.Element (array_place m) None j))
 element_typed G r l w i j None e d h = absurd (cc)
 element_typed G r l w i j (Some (meaning.Scalar k p)) e d h = absurd (cc)
-element_typed G r l w i j (Some (meaning.Array k p)) e d h = element d e (held _ _ h)
+element_typed G r l w i j (Some (meaning.Array k None p)) e d h = element d e (held _ _ h)
+element_typed G r l w i j (Some (meaning.Array k (Some n) p)) e d h = absurd (cc)
 element_typed G r l w i j (Some (meaning.Function result slots c s)) e d h = absurd (cc)
 element_typed G r l w i j (Some meaning.EndOfFile) e d h = absurd (cc)
+
+row_typed : (G : Scope) (r : Role) (l : ℕ) (w : List ℕ) (x i : Expr) (y j : TypedExpr)
+    (m : Option Meaning) → look_up G w ≡ m → Typed G Value x y → Typed G Value i j
+    → element_fault m true r l ≡ None
+    → Typed G r (at l (node.Element w (Some x) i))
+    (a (Some (array_kind m)) (typed.Element (array_place m) (Some y) j))
+row_typed G r l w x i y j None e c d h = absurd (cc)
+row_typed G r l w x i y j (Some (meaning.Scalar k p)) e c d h = absurd (cc)
+row_typed G r l w x i y j (Some (meaning.Array k None p)) e c d h = absurd (cc)
+row_typed G r l w x i y j (Some (meaning.Array k (Some n) p)) e c d h = row_element c d e (held _ _ h)
+row_typed G r l w x i y j (Some (meaning.Function result slots k s)) e c d h = absurd (cc)
+row_typed G r l w x i y j (Some meaning.EndOfFile) e c d h = absurd (cc)
 
 call_typed : (G : Scope) (r : Role) (l : ℕ) (w : List ℕ) (es : List Expr) (ts : List TypedExpr)
     (m : Option Meaning) → look_up G w ≡ m
@@ -206,7 +231,7 @@ call_typed : (G : Scope) (r : Role) (l : ℕ) (w : List ℕ) (es : List Expr) (t
     → Typed G r (at l (node.Call w es)) (a (result_kind m) (typed.Call (callee_of m) ts))
 call_typed G r l w es ts None e d h = absurd (cc)
 call_typed G r l w es ts (Some (meaning.Scalar k p)) e d h = absurd (cc)
-call_typed G r l w es ts (Some (meaning.Array k p)) e d h = absurd (cc)
+call_typed G r l w es ts (Some (meaning.Array k q p)) e d h = absurd (cc)
 call_typed G r l w es ts (Some (meaning.Function result slots None s)) e d h = absurd (cc)
 call_typed G r l w es ts (Some (meaning.Function result slots (Some c) s)) e d h =
     let s = split _ _ h in call e (d (eqb-true (length es) (length slots) (held _ _ s.1))) (held _ _ s.0)
@@ -225,8 +250,8 @@ module _ (N E : Type 0) (node_of : N → ExprNode) (of : E → Expr) (whole : (e
   args_whole [] (x ∷ es) h e = absurd (omega (arith, e))
   args_whole (slot.Scalar k ∷ slots) (x ∷ es) h e =
       let s = split _ _ h in value (whole x G Value s.0) (args_whole slots es s.1 (omega (arith, e)))
-  args_whole (slot.Address k ∷ slots) (x ∷ es) h e =
-      let s = split _ _ h in address (whole x G (Array k) s.0) (args_whole slots es s.1 (omega (arith, e)))
+  args_whole (slot.Address k q ∷ slots) (x ∷ es) h e =
+      let s = split _ _ h in address (whole x G (Array k q) s.0) (args_whole slots es s.1 (omega (arith, e)))
 
   abbrev Is : ℕ → Role → ExprNode → Type 0
   Is l r n = fault (at l n) G r ≡ None → Typed G r (at l n) (tree (at l n) G)
@@ -243,8 +268,15 @@ module _ (N E : Type 0) (node_of : N → ExprNode) (of : E → Expr) (whole : (e
       subst (Is l r) (sym (node.rolls-Name w))
       (λ h. subst (Typed G r _) (sym (tree-Name G l w))
       (name_typed G r l w (look_up G w) refl (sym (fault-Name G r l w) ∙ h)))
-  at_node l r (ExprNode-F.Element w i) =
-      subst (Is l r) (sym (node.rolls-Element w (of i)))
+  at_node l r (ExprNode-F.Element w (Some x) i) =
+      subst (Is l r) (sym (node.rolls-Element w (Some (of x)) (of i)))
+      (λ h. let s = split _ _ (sym (fault-Row G r l w (of x) (of i)) ∙ h) in
+      let u = split _ _ s.1 in
+      subst (Typed G r _) (sym (tree-Row G l w (of x) (of i)))
+      (row_typed G r l w (of x) (of i) _ _ (look_up G w) refl (whole x G Value s.0)
+      (whole i G Value u.0) u.1))
+  at_node l r (ExprNode-F.Element w None i) =
+      subst (Is l r) (sym (node.rolls-Element w None (of i)))
       (λ h. let s = split _ _ (sym (fault-Element G r l w (of i)) ∙ h) in
       subst (Typed G r _) (sym (tree-Element G l w (of i)))
       (element_typed G r l w (of i) _ (look_up G w) refl (whole i G Value s.0) s.1))

@@ -9,7 +9,7 @@ use Rattle.c_scope.specs.declared.meaning.Meaning.{Meaning}
 use Rattle.c_scope.specs.declared.meaning.Meaning.TheVariants as meaning
 use Rattle.c_scope.specs.Scope.{Scope, look_up}
 use Rattle.c_constant.specs.Kinds.{number, converted}
-use Rattle.c_constant.specs.Constant.{constant}
+use Rattle.c_constant.specs.Constant.{constant, ends}
 use Rattle.c_constant.specs.Need.{need_fits}
 use Rattle.c_tree.specs.declared.token.Kind.{Kind}
 use Rattle.c_type_expr.specs.declared.fault.TypeFault.TheVariants.{Unknown, Mismatch, Need}
@@ -21,6 +21,12 @@ use Rattle.c_type_expr.specs.Faults.{fault}
 abbrev pub no_constant : Bool → ℕ → Blame
 no_constant true l = Some (Mismatch l)
 no_constant false l = Some (Unknown l)
+
+-- a name: the constant `EOF`, another known name, or an unknown one
+abbrev pub name_fixed : Option Meaning → ℕ → Blame
+name_fixed None l = Some (Unknown l)
+name_fixed (Some meaning.EndOfFile) l = None
+name_fixed (Some _) l = Some (Mismatch l)
 
 -- may a call of it be more than a call of a function that is not in scope or that the unit does not
 -- define?
@@ -34,12 +40,18 @@ abbrev pub all_fixed : List (Scope → Blame) → Scope → Blame
 all_fixed [] G = None
 all_fixed (e ∷ es) G = first (e G) (all_fixed es G)
 
--- numbers, groups, casts and operators are constants; a name is none, known or not, an element is
--- judged as its array's name, and a call as the function's
+-- what of a first index is no constant, where there are two
+abbrev pub row_fixed : Option (Scope → Blame) → Scope → Blame
+row_fixed None G = None
+row_fixed (Some e) G = e G
+
+-- numbers, groups, casts, operators and `EOF` are constants; another name is none, known or not, an
+-- element is judged as its array's name, and a call as the function's
 abbrev pub node_fixed : ExprNode-F (ℕ → Scope → Blame) (Scope → Blame) → ℕ → Scope → Blame
 node_fixed (Number v k) l G = None
-node_fixed (Name w) l G = no_constant (is_some (look_up G w)) l
-node_fixed (Element w i) l G = first (i G) (no_constant (is_some (look_up G w)) l)
+node_fixed (Name w) l G = name_fixed (look_up G w) l
+node_fixed (Element w row i) l G =
+    first (row_fixed row G) (first (i G) (no_constant (is_some (look_up G w)) l))
 node_fixed (Call w es) l G = first (all_fixed es G) (no_constant (calls_known (look_up G w)) l)
 node_fixed (Group e) l G = e G
 node_fixed (Unary op e) l G = e G
@@ -73,7 +85,7 @@ full e r G = first (fault e G r) (need_fault e)
 -- a full expression that is a constant: its parts, its value, its need
 abbrev pub full_constant : Expr → Scope → Blame
 full_constant e G =
-    first (not_fixed e G) (first (value_fault (constant [] e).value e.line) (need_fault e))
+    first (not_fixed e G) (first (value_fault (constant ends e).value e.line) (need_fault e))
 
 -- the word of a value, 0 where there is none
 abbrev pub word_in : Option ℕ → ℕ
@@ -82,7 +94,7 @@ word_in (Some w) = w
 
 -- the word of a constant's value at a type
 abbrev pub constant_at : Kind → Expr → ℕ
-constant_at k e = converted k (word_in (constant [] e).value)
+constant_at k e = converted k (word_in (constant ends e).value)
 
 -- the length that a number gives: none below 1
 abbrev pub length_from : ℤ → Option ℕ
@@ -96,7 +108,7 @@ length_in k (Some w) = length_from (number k w)
 
 -- the length that a size stands for
 abbrev pub length_of : Expr → Option ℕ
-length_of e = length_in (constant [] e).kind (constant [] e).value
+length_of e = length_in (constant ends e).kind (constant ends e).value
 
 -- a size: a constant of at least 1
 abbrev pub size_fault : Expr → Scope → Blame

@@ -1,5 +1,5 @@
 -- The first node of an expression that fails, in the order of the text (C17 6.5).
-use Rattle.std.specs.Prelude.{ℕ, Bool, true, false, nat_eq, length, List, [], ◌∷◌, Option, Some}
+use Rattle.std.specs.Prelude.{ℕ, Bool, true, false, not, ◌&&◌, nat_eq, is_some, length, List, [], ◌∷◌, Option, Some}
 use Rattle.std.specs.Prelude.{None}
 use Rattle.c_tree.specs.declared.token.Kind.{Kind}
 use Rattle.c_tree.specs.declared.tree.Expr.{Expr, Expr-F, fold-Expr}
@@ -26,7 +26,7 @@ unwanted_value r l = unless (takes_value r) (Mismatch l)
 -- may a name of this meaning stand there?
 abbrev pub takes_name : Meaning → Role → Bool
 takes_name (meaning.Scalar k p) r = takes_element r
-takes_name (meaning.Array k p) r = takes_array k r
+takes_name (meaning.Array k q p) r = takes_array k q r
 takes_name (meaning.Function result params callee defined) r = false
 takes_name meaning.EndOfFile r = takes_value r
 
@@ -35,11 +35,18 @@ abbrev pub name_fault : Option Meaning → Role → ℕ → Blame
 name_fault None r l = Some (Unknown l)
 name_fault (Some m) r l = unless (takes_name m r) (Mismatch l)
 
--- an element of something that is not in scope, or no array, or not what stands there
-abbrev pub element_fault : Option Meaning → Role → ℕ → Blame
-element_fault None r l = Some (Unknown l)
-element_fault (Some (meaning.Array k p)) r l = unless (takes_element r) (Mismatch l)
-element_fault (Some _) r l = Some (Mismatch l)
+-- has an element as many indexes as its array has sizes?
+abbrev pub fits_sizes : Option ℕ → Bool → Bool
+fits_sizes None two = not two
+fits_sizes (Some n) two = two
+
+-- an element, by two indexes or by one, of something that is not in scope, or no array of so many
+-- sizes, or not what stands there
+abbrev pub element_fault : Option Meaning → Bool → Role → ℕ → Blame
+element_fault None two r l = Some (Unknown l)
+element_fault (Some (meaning.Array k q p)) two r l =
+    unless (fits_sizes q two && takes_element r) (Mismatch l)
+element_fault (Some _) two r l = Some (Mismatch l)
 
 -- may a call of a function of this result stand there?
 abbrev pub takes_result : Option Kind → Role → Bool
@@ -68,7 +75,7 @@ slots_of _ = []
 -- what the argument of a parameter is wanted for
 abbrev pub role_of : Slot → Role
 role_of (slot.Scalar k) = Value
-role_of (slot.Address k) = Array k
+role_of (slot.Address k q) = Array k q
 
 -- what the first argument is wanted for
 abbrev pub role_at : List Slot → Role
@@ -90,10 +97,15 @@ abbrev pub args_blame : List Slot → List Judged → Scope → Blame
 args_blame slots [] G = None
 args_blame slots (e ∷ es) G = first (e.blame G (role_at slots)) (args_blame (rest_of slots) es G)
 
+-- what of a first index fails first, where there are two
+abbrev pub row_blame : Option Judged → Scope → Blame
+row_blame None G = None
+row_blame (Some e) G = e.blame G Value
+
 -- is the node a name or an element, in any groups?
 abbrev pub node_place : ExprNode-F (ℕ → Judged) Judged → Bool
 node_place (Name w) = true
-node_place (Element w i) = true
+node_place (Element w row i) = true
 node_place (Group e) = e.place
 node_place _ = false
 
@@ -101,7 +113,9 @@ node_place _ = false
 abbrev pub node_blame : ExprNode-F (ℕ → Judged) Judged → ℕ → Scope → Role → Blame
 node_blame (Number v k) l G r = unwanted_value r l
 node_blame (Name w) l G r = name_fault (look_up G w) r l
-node_blame (Element w i) l G r = first (i.blame G Value) (element_fault (look_up G w) r l)
+node_blame (Element w row i) l G r =
+    first (row_blame row G)
+    (first (i.blame G Value) (element_fault (look_up G w) (is_some row) r l))
 node_blame (Call w es) l G r =
     first (args_blame (slots_of (look_up G w)) es G) (call_fault (look_up G w) (length es) r l)
 node_blame (Group e) l G r = e.blame G r

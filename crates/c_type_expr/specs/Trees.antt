@@ -49,17 +49,17 @@ end_of_file = a (Some Int) (typed.Number 18446744073709551615)
 -- a name as a typed expression
 abbrev pub name_tree : Option Meaning → TypedExpr
 name_tree (Some (meaning.Scalar k p)) = a (Some k) (typed.Name p)
-name_tree (Some (meaning.Array k p)) = a (Some k) (typed.Name p)
+name_tree (Some (meaning.Array k q p)) = a (Some k) (typed.Name p)
 name_tree _ = end_of_file
 
 -- the type of an array's elements
 abbrev pub array_kind : Option Meaning → Kind
-array_kind (Some (meaning.Array k p)) = k
+array_kind (Some (meaning.Array k q p)) = k
 array_kind _ = Int
 
 -- where an array is
 abbrev pub array_place : Option Meaning → Place
-array_place (Some (meaning.Array k p)) = p
+array_place (Some (meaning.Array k q p)) = p
 array_place _ = place.Global 0
 
 -- the type of a call, if it has a value
@@ -135,12 +135,18 @@ assign op x y =
 abbrev pub comma : TypedExpr → TypedExpr → TypedExpr
 comma x y = a y.kind (typed.Comma x y)
 
+-- that of a first index, where there are two
+abbrev pub row_tree : Option (Scope → TypedExpr) → Scope → Option TypedExpr
+row_tree None G = None
+row_tree (Some e) G = Some (e G)
+
 -- the typed expression of a node
 abbrev pub node_tree : ExprNode-F (Scope → TypedExpr) (Scope → TypedExpr) → Scope → TypedExpr
 node_tree (Number v k) G = a (Some k) (typed.Number v)
 node_tree (Name w) G = name_tree (look_up G w)
-node_tree (Element w i) G =
-    a (Some (array_kind (look_up G w))) (typed.Element (array_place (look_up G w)) (i G))
+node_tree (Element w row i) G =
+    a (Some (array_kind (look_up G w)))
+    (typed.Element (array_place (look_up G w)) (row_tree row G) (i G))
 node_tree (Call w es) G =
     a (result_kind (look_up G w))
     (typed.Call (callee_of (look_up G w)) (arguments (slots_of (look_up G w)) es G))

@@ -31,15 +31,20 @@ mutual
     scalar : {r : Role} {l : ℕ} {w : List ℕ} {k : Kind} {p : Place}
         → look_up G w ≡ Some (meaning.Scalar k p) → takes_element r ≡ true
         → Typed G r (at l (node.Name w)) (a (Some k) (typed.Name p))
-    array : {r : Role} {l : ℕ} {w : List ℕ} {k : Kind} {p : Place}
-        → look_up G w ≡ Some (meaning.Array k p) → takes_array k r ≡ true
+    array : {r : Role} {l : ℕ} {w : List ℕ} {k : Kind} {q : Option ℕ} {p : Place}
+        → look_up G w ≡ Some (meaning.Array k q p) → takes_array k q r ≡ true
         → Typed G r (at l (node.Name w)) (a (Some k) (typed.Name p))
     ending : {r : Role} {l : ℕ} {w : List ℕ}
         → look_up G w ≡ Some meaning.EndOfFile → takes_value r ≡ true
         → Typed G r (at l (node.Name w)) end_of_file
     element : {r : Role} {l : ℕ} {w : List ℕ} {k : Kind} {p : Place} {i : Expr} {j : TypedExpr}
-        → Typed G Value i j → look_up G w ≡ Some (meaning.Array k p) → takes_element r ≡ true
-        → Typed G r (at l (node.Element w i)) (a (Some k) (typed.Element p j))
+        → Typed G Value i j → look_up G w ≡ Some (meaning.Array k None p) → takes_element r ≡ true
+        → Typed G r (at l (node.Element w None i)) (a (Some k) (typed.Element p None j))
+    row_element : {r : Role} {l n : ℕ} {w : List ℕ} {k : Kind} {p : Place} {x i : Expr}
+        {y j : TypedExpr}
+        → Typed G Value x y → Typed G Value i j → look_up G w ≡ Some (meaning.Array k (Some n) p)
+        → takes_element r ≡ true
+        → Typed G r (at l (node.Element w (Some x) i)) (a (Some k) (typed.Element p (Some y) j))
     call : {r : Role} {l : ℕ} {w : List ℕ} {result : Option Kind} {slots : List Slot} {c : Callee}
         {d : Bool} {es : List Expr} {ts : List TypedExpr}
         → look_up G w ≡ Some (meaning.Function result slots (Some c) d) → Passed G slots es ts
@@ -75,6 +80,6 @@ mutual
     value : {k : Kind} {e : Expr} {t : TypedExpr} {slots : List Slot} {es : List Expr}
         {ts : List TypedExpr} → Typed G Value e t → Passed G slots es ts
         → Passed G (slot.Scalar k ∷ slots) (e ∷ es) (with_convert k t ∷ ts)
-    address : {k : Kind} {e : Expr} {t : TypedExpr} {slots : List Slot} {es : List Expr}
-        {ts : List TypedExpr} → Typed G (Array k) e t → Passed G slots es ts
-        → Passed G (slot.Address k ∷ slots) (e ∷ es) (t ∷ ts)
+    address : {k : Kind} {q : Option ℕ} {e : Expr} {t : TypedExpr} {slots : List Slot}
+        {es : List Expr} {ts : List TypedExpr} → Typed G (Array k q) e t → Passed G slots es ts
+        → Passed G (slot.Address k q ∷ slots) (e ∷ es) (t ∷ ts)

@@ -18,7 +18,10 @@ pub fn role_for(slots: &[Slot]) -> Role
     match slots {
         [] => Role::Surplus,
         [Slot::Scalar(_), ..] => Role::Value,
-        [Slot::Address(kind), ..] => Role::Array(*kind),
+        [Slot::Address { kind, row }, ..] => Role::Array {
+            kind: *kind,
+            row: *row,
+        },
     }
 }
 

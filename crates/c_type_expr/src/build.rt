@@ -169,8 +169,24 @@ pub fn element(
     array: Place,
     index: Boxed<TypedExpr>,
 ) -> Result<Boxed<TypedExpr>, AllocError>
-    ensures { IfOk result (λ t. t ≡ trees.a (Some kind) (TypedNode.Element array index)) }
+    ensures { IfOk result (λ t. t ≡ trees.a (Some kind) (TypedNode.Element array None index)) }
 {
     let kind = Some(kind);
-    boxed(alloc, kind, TypedNode::Element { array, index })
+    let row = None;
+    boxed(alloc, kind, TypedNode::Element { array, row, index })
+}
+
+#[inline(never)]
+pub fn row_element(
+    alloc: Global,
+    kind: Kind,
+    array: Place,
+    row: Boxed<TypedExpr>,
+    index: Boxed<TypedExpr>,
+) -> Result<Boxed<TypedExpr>, AllocError>
+    ensures { IfOk result (λ t. t ≡ trees.a (Some kind) (TypedNode.Element array (Some row) index)) }
+{
+    let kind = Some(kind);
+    let row = Some(row);
+    boxed(alloc, kind, TypedNode::Element { array, row, index })
 }

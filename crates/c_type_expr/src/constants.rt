@@ -1,6 +1,6 @@
 //! Constant expressions and full expressions.
 
-ghost use Rattle.std.specs.Prelude.{◌≡◌, map, Option};
+ghost use Rattle.std.specs.Prelude.{◌≡◌, map, option_map, Option};
 ghost use Rattle.std.specs.Option.{option_copied};
 ghost use Rattle.c_scope.specs.Scope.{look_up};
 ghost use Rattle.c_type_expr.specs.Constants as constants;
@@ -11,7 +11,7 @@ ghost use Rattle.c_type_expr.specs.Says.{Says};
 use crate::expressions::type_expr;
 use crate::fault::TypeFault;
 use crate::role::Role;
-use base::Items;
+use base::{Boxed, Items};
 use c_constant::{constant_of, convert, need_fits};
 use c_scope::{Meaning, Scopes};
 use c_tree::{Expr, ExprNode, Kind, TypedExpr, Word};
@@ -99,6 +99,35 @@ fn or_mismatch(scope: &Scopes, e: &Expr, line: u32) -> Option<TypeFault>
     first(not_fixed(scope, e), mismatch(line))
 }
 
+// A name is `EOF`, or no constant.
+#[inline(never)]
+fn name_fixed(found: Option<&Meaning>, line: u32) -> Option<TypeFault>
+    ensures { result ≡ constants.name_fixed (option_copied found.entry) line }
+{
+    match found {
+        None => Some(TypeFault::Unknown(line)),
+        Some(Meaning::EndOfFile) => None,
+        Some(_) => Some(TypeFault::Mismatch(line)),
+    }
+}
+
+// The fault of the first of two indexes, where there is one, or else one that comes after it.
+#[cycle(fixed)]
+#[inline(never)]
+fn row_before(
+    scope: &Scopes,
+    row: &Option<Boxed<Expr>>,
+    then: Option<TypeFault>,
+) -> Option<TypeFault>
+    ensures { result ≡ roles.first
+        (constants.row_fixed (option_map constants.not_fixed row.now) scope.now) then }
+{
+    match row {
+        None => then,
+        Some(row) => first(not_fixed(scope, row.get()), then),
+    }
+}
+
 // The first part of an expression that is no constant.
 #[cycle(fixed)]
 fn not_fixed(scope: &Scopes, e: &Expr) -> Option<TypeFault>
@@ -106,11 +135,15 @@ fn not_fixed(scope: &Scopes, e: &Expr) -> Option<TypeFault>
 {
     match &e.node {
         ExprNode::Number { .. } => None,
-        ExprNode::Name(word) => no_constant(scope.look_up(word).is_some(), e.line),
-        ExprNode::Element { array, index } => before(
+        ExprNode::Name(word) => name_fixed(scope.look_up(word), e.line),
+        ExprNode::Element { array, row, index } => row_before(
             scope,
-            index.get(),
-            no_constant(scope.look_up(array).is_some(), e.line),
+            row,
+            before(
+                scope,
+                index.get(),
+                no_constant(scope.look_up(array).is_some(), e.line),
+            ),
         ),
         ExprNode::Call { function, args } => call_fixed(scope, function, args, e.line),
         ExprNode::Group(e) => not_fixed(scope, e.get()),
@@ -187,7 +220,7 @@ pub fn full_constant(scope: &Scopes, kind: Kind, e: &Expr) -> Result<u64, TypeFa
         result }
 {
     refuse(not_fixed(scope, e))?;
-    let word = value_in(constant_of(&[], e).value, e.line)?;
+    let word = value_in(constant_of(e).value, e.line)?;
     need_of(e)?;
     Ok(convert(kind, word))
 }
@@ -199,7 +232,7 @@ fn length_in(kind: Kind, value: Option<u64>) -> Option<u64>
         None => None,
         Some(word) => {
             let is_negative = match kind {
-                Kind::Char | Kind::Int | Kind::Long => word >= 0x8000_0000_0000_0000,
+                Kind::Char | Kind::Short | Kind::Int | Kind::Long => word >= 0x8000_0000_0000_0000,
                 _ => false,
             };
             if is_negative || word == 0 {
@@ -211,12 +244,23 @@ fn length_in(kind: Kind, value: Option<u64>) -> Option<u64>
     }
 }
 
+/// The length that a size stands for, or 0.
+pub fn length_or_zero(e: &Expr) -> u64
+    ensures { result ≡ constants.word_in (constants.length_of e.now) }
+{
+    let found = constant_of(e);
+    match length_in(found.kind, found.value) {
+        None => 0,
+        Some(length) => length,
+    }
+}
+
 /// The length that a size stands for: a constant of at least 1.
 pub fn size_length(scope: &Scopes, e: &Expr) -> Result<u64, TypeFault>
     ensures { Says (constants.size_fault e.now scope.now)
         (constants.word_in (constants.length_of e.now)) result }
 {
     refuse(not_fixed(scope, e))?;
-    let found = constant_of(&[], e);
+    let found = constant_of(e);
     value_in(length_in(found.kind, found.value), e.line)
 }

@@ -1,6 +1,6 @@
 //! The typing of expressions, node by node.
 
-ghost use Rattle.std.specs.Prelude.{◌≡◌, Some};
+ghost use Rattle.std.specs.Prelude.{◌≡◌, Some, None};
 ghost use Rattle.c_tree.specs.declared.typed.TypedExpr.{TypedExpr};
 ghost use Rattle.c_type_expr.specs.Roles.{first};
 ghost use Rattle.c_tree.specs.declared.tree.ExprNode.TheVariants as node;
@@ -89,11 +89,52 @@ fn element(
     array: Word,
     index: Boxed<Expr>,
 ) -> Result<Boxed<TypedExpr>, TypeFault>
-    ensures { Types (at line (node.Element array index)) role scope.now result }
+    ensures { Types (at line (node.Element array None index)) role scope.now result }
 {
     let index = operand(alloc, scope, Role::Value, index)?;
-    let (kind, place) = element_at(scope.look_up(&array), role, line)?;
+    let (kind, place) = element_at(scope.look_up(&array), false, role, line)?;
     Ok(build::element(alloc, kind, place, index)?)
+}
+
+// An element with two indexes.
+#[cycle(expr)]
+#[tactic(auto, using(crate::proofs::Nodes::on_row_element))]
+#[inline(never)]
+fn row_element(
+    alloc: Global,
+    scope: &Scopes,
+    role: Role,
+    line: u32,
+    array: Word,
+    row: Boxed<Expr>,
+    index: Boxed<Expr>,
+) -> Result<Boxed<TypedExpr>, TypeFault>
+    ensures { Types (at line (node.Element array (Some row) index)) role scope.now result }
+{
+    let row = operand(alloc, scope, Role::Value, row)?;
+    let index = operand(alloc, scope, Role::Value, index)?;
+    let (kind, place) = element_at(scope.look_up(&array), true, role, line)?;
+    Ok(build::row_element(alloc, kind, place, row, index)?)
+}
+
+// An element with one index or two.
+#[cycle(expr)]
+#[inline(never)]
+fn element_of(
+    alloc: Global,
+    scope: &Scopes,
+    role: Role,
+    line: u32,
+    array: Word,
+    row: Option<Boxed<Expr>>,
+    index: Boxed<Expr>,
+) -> Result<Boxed<TypedExpr>, TypeFault>
+    ensures { Types (at line (node.Element array row index)) role scope.now result }
+{
+    match row {
+        None => element(alloc, scope, role, line, array, index),
+        Some(row) => row_element(alloc, scope, role, line, array, row, index),
+    }
 }
 
 #[cycle(expr)]
@@ -370,7 +411,9 @@ fn operand(
     match node {
         ExprNode::Number { value, kind } => number(alloc, scope, role, line, value, kind),
         ExprNode::Name(word) => name(alloc, scope, role, line, word),
-        ExprNode::Element { array, index } => element(alloc, scope, role, line, array, index),
+        ExprNode::Element { array, row, index } => {
+            element_of(alloc, scope, role, line, array, row, index)
+        }
         ExprNode::Call { function, args } => call(alloc, scope, role, line, function, args),
         ExprNode::Group(e) => operand(alloc, scope, role, e),
         ExprNode::Unary { op, e } => unary(alloc, scope, role, line, op, e),

@@ -4,6 +4,7 @@ ghost use Rattle.std.specs.Prelude.{◌≡◌};
 ghost use Rattle.std.specs.Option.{option_copied};
 ghost use Rattle.c_type_expr.specs.Faults.{unwanted_value, name_fault, element_fault, call_fault};
 ghost use Rattle.c_type_expr.specs.Faults.{callee_fault, slots_of, takes_result};
+ghost use Rattle.c_type_expr.specs.Faults as faults;
 ghost use Rattle.c_type_expr.specs.Roles.{unless};
 ghost use Rattle.c_type_expr.specs.Trees.{name_tree, array_kind, array_place, result_kind};
 ghost use Rattle.c_type_expr.specs.Trees.{callee_of, callee_or};
@@ -67,8 +68,8 @@ pub fn name_at(found: Option<&Meaning>, role: Role, line: u32) -> Result<TypedEx
                 Err(TypeFault::Mismatch(line))
             }
         }
-        Some(Meaning::Array(kind, place)) => {
-            if role.takes_array(*kind) {
+        Some(Meaning::Array { kind, row, place }) => {
+            if role.takes_array(*kind, *row) {
                 Ok(named(*kind, *place))
             } else {
                 Err(TypeFault::Mismatch(line))
@@ -85,18 +86,30 @@ pub fn name_at(found: Option<&Meaning>, role: Role, line: u32) -> Result<TypedEx
     }
 }
 
+/// Whether an element has as many indexes as its array has sizes.
+fn fits_sizes(row: Option<u32>, two: bool) -> bool
+    ensures { result ≡ faults.fits_sizes row two }
+{
+    match row {
+        None => !two,
+        Some(_) => two,
+    }
+}
+
+/// The type of an element, by two indexes or by one, and the place of its array.
 pub fn element_at(
     found: Option<&Meaning>,
+    two: bool,
     role: Role,
     line: u32,
 ) -> Result<(Kind, Place), TypeFault>
-    ensures { Says (element_fault (option_copied found.entry) role line)
+    ensures { Says (element_fault (option_copied found.entry) two role line)
         (array_kind (option_copied found.entry), array_place (option_copied found.entry)) result }
 {
     match found {
         None => Err(TypeFault::Unknown(line)),
-        Some(Meaning::Array(kind, place)) => {
-            if role.takes_element() {
+        Some(Meaning::Array { kind, row, place }) => {
+            if fits_sizes(*row, two) && role.takes_element() {
                 Ok((*kind, *place))
             } else {
                 Err(TypeFault::Mismatch(line))

@@ -13,9 +13,9 @@ mod fault;
 mod found;
 mod role;
 
-pub use build::with_convert;
-pub use constants::{full, full_constant, size_length};
+pub use build::{kind_of, with_convert};
+pub use constants::{full, full_constant, length_or_zero, size_length};
 pub use exact::typing_is_exact;
 pub use expressions::type_expr;
 pub use fault::TypeFault;
-pub use role::Role;
+pub use role::{Role, same_row};

@@ -5,6 +5,17 @@ ghost use Rattle.c_type_expr.specs.Roles as roles;
 
 use c_tree::Kind;
 
+/// Whether two second sizes are one, or both missing.
+pub fn same_row(a: Option<u32>, b: Option<u32>) -> bool
+    ensures { result ≡ roles.same_row a b }
+{
+    match (a, b) {
+        (None, None) => true,
+        (Some(m), Some(n)) => m == n,
+        _ => false,
+    }
+}
+
 /// What an expression is wanted for.
 #[derive(Clone, Copy, Debug, PartialEq, Eq)]
 pub enum Role {
@@ -14,8 +25,8 @@ pub enum Role {
     Free,
     /// It is written to.
     Written,
-    /// It is the argument of an array parameter.
-    Array(Kind),
+    /// It is the argument of an array parameter, of this type and second size.
+    Array { kind: Kind, row: Option<u32> },
     /// It is an argument that no parameter takes.
     Surplus,
 }
@@ -26,7 +37,7 @@ impl Role {
         ensures { result ≡ roles.takes_value self }
     {
         match self {
-            Role::Written | Role::Array(_) => false,
+            Role::Written | Role::Array { .. } => false,
             _ => true,
         }
     }
@@ -36,7 +47,7 @@ impl Role {
         ensures { result ≡ roles.takes_element self }
     {
         match self {
-            Role::Array(_) => false,
+            Role::Array { .. } => false,
             _ => true,
         }
     }
@@ -51,12 +62,15 @@ impl Role {
         }
     }
 
-    /// Whether the name of an array of a kind may stand there.
-    pub fn takes_array(self, kind: Kind) -> bool
-        ensures { result ≡ roles.takes_array kind self }
+    /// Whether the name of an array of a kind and a second size may stand there.
+    pub fn takes_array(self, kind: Kind, row: Option<u32>) -> bool
+        ensures { result ≡ roles.takes_array kind row self }
     {
         match self {
-            Role::Array(wanted) => kind == wanted,
+            Role::Array {
+                kind: wanted,
+                row: wanted_row,
+            } => kind == wanted && same_row(row, wanted_row),
             Role::Surplus => true,
             _ => false,
         }

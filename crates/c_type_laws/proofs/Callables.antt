@@ -21,7 +21,7 @@ use Rattle.c_type.specs.Programs.{with_prototype_at, prototype_fault}
 use Rattle.c_type_laws.specs.Objects as object
 use Rattle.c_type_laws.specs.WellFormed.{FunctionFits}
 use Rattle.c_type_laws.proofs.Moves.{split}
-use Rattle.c_type_laws.proofs.Parts.{each_last}
+use Rattle.c_type_laws.proofs.Lists.{each_last}
 use Rattle.c_type_laws.proofs.Definitions.{the, file_stays, its_signature, its_fitness}
 use Rattle.c_type_laws.proofs.Frames.{Agrees, type_agrees}
 use Rattle.c_type_laws.proofs.Files.{More, Met, Names, Bound, declare, still_ends, note}

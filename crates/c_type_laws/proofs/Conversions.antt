@@ -1,7 +1,8 @@
 -- The types that operators want, once their operands are converted to them.
 use Rattle.std.proofs.Common.{◌≡◌, refl, sym}
 use Rattle.c_tree.specs.declared.token.Kind.{Kind}
-use Rattle.c_tree.specs.declared.token.Kind.TheVariants.{Char, UChar, Int, UInt, Long, ULong}
+use Rattle.c_tree.specs.declared.token.Kind.TheVariants.{Char, UChar, Short, UShort, Int, UInt}
+use Rattle.c_tree.specs.declared.token.Kind.TheVariants.{Long, ULong}
 use Rattle.c_tree.specs.declared.tree.UnaryOp.{UnaryOp}
 use Rattle.c_tree.specs.declared.tree.UnaryOp.TheVariants.{Not}
 use Rattle.c_tree.specs.declared.tree.BinaryOp.{BinaryOp}
@@ -10,9 +11,11 @@ use Rattle.c_constant.specs.Kinds.{promoted, common}
 use Rattle.c_constant.specs.Operation.{left_at, right_at, unary_at}
 
 -- a promoted type is promoted
-promoted_once : (k : Kind) → promoted (promoted k) ≡ promoted k
+pub promoted_once : (k : Kind) → promoted (promoted k) ≡ promoted k
 promoted_once Char = refl
 promoted_once UChar = refl
+promoted_once Short = refl
+promoted_once UShort = refl
 promoted_once Int = refl
 promoted_once UInt = refl
 promoted_once Long = refl
@@ -23,40 +26,68 @@ pub record Common (j k : Kind) : Type 0 where
   pub itself : common (common j k) (common j k) ≡ common j k
   pub left : common j (common j k) ≡ common j k
 
--- each of the 36 pairs
+-- each of the 64 pairs
 pub commons : (j k : Kind) → Common j k
 commons Char Char = record { itself = refl; left = refl }
 commons Char UChar = record { itself = refl; left = refl }
+commons Char Short = record { itself = refl; left = refl }
+commons Char UShort = record { itself = refl; left = refl }
 commons Char Int = record { itself = refl; left = refl }
 commons Char UInt = record { itself = refl; left = refl }
 commons Char Long = record { itself = refl; left = refl }
 commons Char ULong = record { itself = refl; left = refl }
 commons UChar Char = record { itself = refl; left = refl }
 commons UChar UChar = record { itself = refl; left = refl }
+commons UChar Short = record { itself = refl; left = refl }
+commons UChar UShort = record { itself = refl; left = refl }
 commons UChar Int = record { itself = refl; left = refl }
 commons UChar UInt = record { itself = refl; left = refl }
 commons UChar Long = record { itself = refl; left = refl }
 commons UChar ULong = record { itself = refl; left = refl }
+commons Short Char = record { itself = refl; left = refl }
+commons Short UChar = record { itself = refl; left = refl }
+commons Short Short = record { itself = refl; left = refl }
+commons Short UShort = record { itself = refl; left = refl }
+commons Short Int = record { itself = refl; left = refl }
+commons Short UInt = record { itself = refl; left = refl }
+commons Short Long = record { itself = refl; left = refl }
+commons Short ULong = record { itself = refl; left = refl }
+commons UShort Char = record { itself = refl; left = refl }
+commons UShort UChar = record { itself = refl; left = refl }
+commons UShort Short = record { itself = refl; left = refl }
+commons UShort UShort = record { itself = refl; left = refl }
+commons UShort Int = record { itself = refl; left = refl }
+commons UShort UInt = record { itself = refl; left = refl }
+commons UShort Long = record { itself = refl; left = refl }
+commons UShort ULong = record { itself = refl; left = refl }
 commons Int Char = record { itself = refl; left = refl }
 commons Int UChar = record { itself = refl; left = refl }
+commons Int Short = record { itself = refl; left = refl }
+commons Int UShort = record { itself = refl; left = refl }
 commons Int Int = record { itself = refl; left = refl }
 commons Int UInt = record { itself = refl; left = refl }
 commons Int Long = record { itself = refl; left = refl }
 commons Int ULong = record { itself = refl; left = refl }
 commons UInt Char = record { itself = refl; left = refl }
 commons UInt UChar = record { itself = refl; left = refl }
+commons UInt Short = record { itself = refl; left = refl }
+commons UInt UShort = record { itself = refl; left = refl }
 commons UInt Int = record { itself = refl; left = refl }
 commons UInt UInt = record { itself = refl; left = refl }
 commons UInt Long = record { itself = refl; left = refl }
 commons UInt ULong = record { itself = refl; left = refl }
 commons Long Char = record { itself = refl; left = refl }
 commons Long UChar = record { itself = refl; left = refl }
+commons Long Short = record { itself = refl; left = refl }
+commons Long UShort = record { itself = refl; left = refl }
 commons Long Int = record { itself = refl; left = refl }
 commons Long UInt = record { itself = refl; left = refl }
 commons Long Long = record { itself = refl; left = refl }
 commons Long ULong = record { itself = refl; left = refl }
 commons ULong Char = record { itself = refl; left = refl }
 commons ULong UChar = record { itself = refl; left = refl }
+commons ULong Short = record { itself = refl; left = refl }
+commons ULong UShort = record { itself = refl; left = refl }
 commons ULong Int = record { itself = refl; left = refl }
 commons ULong UInt = record { itself = refl; left = refl }
 commons ULong Long = record { itself = refl; left = refl }

@@ -1,9 +1,9 @@
 -- A function's definition: its parameters, and that its typed function is well formed.
-use Rattle.std.proofs.Common.{◌≡◌, ℕ, ◌+◌, ◌<◌, ◌≤◌, true, false, List, [], ◌∷◌, ◌++◌, map, length, take, drop, Option}
+use Rattle.std.proofs.Common.{◌≡◌, ℕ, ◌+◌, ◌<◌, ◌≤◌, true, List, [], ◌∷◌, ◌++◌, map, length, take, drop, Option}
 use Rattle.std.proofs.Common.{Some, None, refl, sym, ap, ◌∙◌, subst, arith, append_assoc, append-nil, length-append}
 use Rattle.std.proofs.Common.{suc}
 use Rattle.std.specs.Prelude.{slice_get}
-use Rattle.std.proofs.lemmas.Bool.{ltb-true}
+use Rattle.std.proofs.lemmas.Bool.{leb-true, ltb-true}
 use Rattle.c_tree.specs.declared.token.Kind.{Kind}
 use Rattle.c_tree.specs.declared.tree.ArraySize.{ArraySize}
 use Rattle.c_tree.specs.declared.tree.ArraySize.TheVariants as size
@@ -17,11 +17,14 @@ use Rattle.c_scope.specs.declared.meaning.Meaning.TheVariants as meaning
 use Rattle.c_scope.specs.Scope.{Scope, Frame, opened, closed, bound}
 use Rattle.c_type.specs.declared.state.State.{State}
 use Rattle.c_type.specs.Functions.{slot_for, slot_of, name_fault, params_fault, named_param, with_params, body_part}
-use Rattle.c_type.specs.Functions.{started, typed_function}
+use Rattle.c_type.specs.Functions.{started, typed_function, param_fault, row_fault, row_bytes_fault}
+use Rattle.c_type.specs.Declarations.{row_in}
+use Rattle.c_type.specs.Statements.{nowhere}
 use Rattle.c_type_laws.specs.Objects.{signature, of_function, slot_scalar, slot_array}
-use Rattle.c_type_laws.specs.WellFormed.{Each, IsScalar, ArrayFits, FunctionFits}
+use Rattle.c_type_laws.specs.WellFormed.{Each, IsScalar, SlotFits, ArrayFits, FunctionFits}
 use Rattle.c_type_laws.proofs.Moves.{split, held, Known, Fine, Within, Ahead}
-use Rattle.c_type_laws.proofs.Parts.{at_end, known_in, outer_in}
+use Rattle.c_type_laws.proofs.Lists.{at_end, each_both, size_some, outer_in}
+use Rattle.c_type_laws.proofs.Parts.{known_in}
 use Rattle.c_type_laws.proofs.Bodies.{body_sound}
 
 -- PARAMETERS
@@ -45,12 +48,19 @@ named w size.Open k v = record {
 }
 named w (size.Sized n) k v =
     record { scalars = refl; arrays = refl; result = refl; outer = λ F F' G e. outer_in _ v.names F F' G e }
+named w (size.Rows r n) k v =
+    record { scalars = refl; arrays = refl; result = refl; outer = λ F F' G e. outer_in _ v.names F F' G e }
 
 -- a parameter without a fault has a name
 one : (G : Scope) (seen : List Param) (name : Option (List ℕ)) (l : ℕ) (s : ArraySize) (k : Kind) (v : State)
     → name_fault true G seen name l ≡ None → Began (slot_for s k ∷ []) v (named_param name s k v)
 one G seen None l s k v h = absurd (cc)
 one G seen (Some w) l s k v h = named w s k v
+
+-- the name of a parameter without a fault has none
+name_fine : (G : Scope) (seen : List Param) (p : Param) → param_fault true G seen p ≡ None
+    → name_fault true G seen p.name p.line ≡ None
+name_fine G seen p h = (split _ _ (split _ _ h).1).0
 
 -- all parameters together
 began : (G : Scope) (seen ps : List Param) (v : State) → params_fault true G seen ps ≡ None
@@ -60,7 +70,7 @@ began G seen [] v h =
 began G seen (p ∷ ps) v h =
     let s = split _ _ h in
     let u = named_param p.name p.size p.kind v in
-    let a = one G seen p.name p.line p.size p.kind v (split _ _ s.0).0 in
+    let a = one G seen p.name p.line p.size p.kind v (name_fine G seen p s.0) in
     let b = began G (seen ++ p ∷ []) ps u s.1 in
     record {
       scalars = b.scalars ∙ ap (λ ss. ss ++ map slot_of ps) a.scalars
@@ -84,7 +94,7 @@ few : (G : Scope) (seen ps : List Param) → length seen ≤ 8 → params_fault 
 few G seen [] l h = omega (arith, l)
 few G seen (p ∷ ps) l h =
     let s = split _ _ h in
-    let fewer = ltb-true (length seen) 8 (held _ _ (split _ _ s.0).1) in
+    let fewer = ltb-true (length seen) 8 (held _ _ (split _ _ (split _ _ (split _ _ s.0).1).1).0) in
     counted seen p (length ps) (few G (seen ++ p ∷ []) ps (one_more seen p fewer) s.1)
 
 module _ (P : TypedProgram) (f : TypedFunc) where
@@ -95,9 +105,12 @@ module _ (P : TypedProgram) (f : TypedFunc) where
   slot_known w size.Scalar k v h g =
       known_in P f (bound w (meaning.Scalar k (place.Scalar (length v.scalars)))) v.names (ap slot_scalar h) g
   slot_known w size.Open k v h g =
-      known_in P f (bound w (meaning.Array k (place.Scalar (length v.scalars)))) v.names (ap slot_array h) g
+      known_in P f (bound w (meaning.Array k None (place.Scalar (length v.scalars)))) v.names (ap slot_array h) g
   slot_known w (size.Sized n) k v h g =
-      known_in P f (bound w (meaning.Array k (place.Scalar (length v.scalars)))) v.names (ap slot_array h) g
+      known_in P f (bound w (meaning.Array k None (place.Scalar (length v.scalars)))) v.names (ap slot_array h) g
+  slot_known w (size.Rows r n) k v h g =
+      known_in P f (bound w (meaning.Array k (row_in (size.Rows r n)) (place.Scalar (length v.scalars)))) v.names
+      (ap slot_array h) g
 
   -- the same of a parameter that has no fault
   one_known : (G : Scope) (seen : List Param) (name : Option (List ℕ)) (l : ℕ) (s : ArraySize) (k : Kind) (v : State)
@@ -113,14 +126,43 @@ module _ (P : TypedProgram) (f : TypedFunc) where
   params_known G seen (p ∷ ps) v ss h e k =
       let s = split _ _ h in
       let u = named_param p.name p.size p.kind v in
-      let a = one G seen p.name p.line p.size p.kind v (split _ _ s.0).0 in
+      let a = one G seen p.name p.line p.size p.kind v (name_fine G seen p s.0) in
       let is : f.scalars ≡ ((v.scalars ++ slot_of p ∷ []) ++ map slot_of ps) ++ ss =
       e ∙ ap (λ xs. xs ++ ss) (sym (append_assoc v.scalars (slot_of p ∷ []) (map slot_of ps))) in
       let here : slice_get f.scalars (length v.scalars) ≡ Some (slot_of p) =
       ap (λ xs. slice_get xs (length v.scalars)) (is ∙ append_assoc (v.scalars ++ slot_of p ∷ []) (map slot_of ps) ss)
       ∙ at_end v.scalars (slot_of p) (map slot_of ps ++ ss) in
       params_known G (seen ++ p ∷ []) ps u ss s.1 (is ∙ ap (λ xs. (xs ++ map slot_of ps) ++ ss) (sym a.scalars))
-      (one_known G seen p.name p.line p.size p.kind v (split _ _ s.0).0 here k)
+      (one_known G seen p.name p.line p.size p.kind v (name_fine G seen p s.0) here k)
+
+-- SECOND SIZES
+
+-- the slot of a parameter without a fault fits
+slot_fits : (s : ArraySize) (k : Kind) (l : ℕ) (G : Scope) (seen : List Param) → row_fault s G seen ≡ None
+    → row_bytes_fault s k l ≡ None → SlotFits (slot_for s k)
+slot_fits size.Scalar k l G seen h b = tt
+slot_fits size.Open k l G seen h b = tt
+slot_fits (size.Sized n) k l G seen h b = tt
+slot_fits (size.Rows r n) k l G seen h b =
+    (size_some n (with_params seen (started G None)).names h, leb-true _ 1048576 (held _ _ b))
+
+-- the same of all parameters
+slots_fit : (G : Scope) (seen ps : List Param) → params_fault true G seen ps ≡ None → Each SlotFits (map slot_of ps)
+slots_fit G seen [] h = tt
+slots_fit G seen (p ∷ ps) h =
+    let s = split _ _ h in
+    let q = split _ _ s.0 in
+    let r = split _ _ (split _ _ q.1).1 in
+    (slot_fits p.size p.kind p.line G seen q.0 r.1, slots_fit G (seen ++ p ∷ []) ps s.1)
+
+-- a slot that holds a value has no second size
+scalar_slot : (s : Slot) → IsScalar s → SlotFits s
+scalar_slot (slot.Scalar k) h = tt
+scalar_slot (slot.Address k q) h = absurd h
+
+scalars_fit : (ss : List Slot) → Each IsScalar ss → Each SlotFits ss
+scalars_fit [] h = tt
+scalars_fit (s ∷ ss) h = (scalar_slot s h.0, scalars_fit ss h.1)
 
 -- LISTS
 
@@ -190,7 +232,7 @@ module _ (P : TypedProgram) (H G : Scope) (given : Option Kind) (params : List P
       ∙ ap (λ n. n + length goes.scalars) (as_long params)
 
   -- the function is well formed where the body has no fault
-  pub its_fitness : Known P the G → (body_part body).fault false v0 ≡ None → FunctionFits P the
+  pub its_fitness : Known P the G → (body_part body).fault nowhere v0 ≡ None → FunctionFits P the
   its_fitness k h =
       let names : Known P the v0.names =
       params_known P the H [] params (started G given) goes.scalars fine slots (tt, k) in
@@ -205,12 +247,15 @@ module _ (P : TypedProgram) (H G : Scope) (given : Option Kind) (params : List P
       } in
       let within : Within P the end =
       record { scalars = []; arrays = []; are = sym (append-nil end.scalars); and = sym (append-nil end.arrays) } in
-      let r = (body_sound P the body).runs false v0 entry within h in
+      let r = (body_sound P the body).runs nowhere v0 entry within h in
       record {
         params = at_most;
         slots = omega (arith, slots_long);
         scalars = r.0.count;
         locals = subst (Each IsScalar) (sym (ap (drop (length params)) slots ∙ dropped params goes.scalars)) goes.hold;
+        rows = subst (Each SlotFits) (sym slots)
+            (each_both SlotFits (map slot_of params) goes.scalars (slots_fit H [] params fine)
+            (scalars_fit goes.scalars goes.hold));
         arrays = r.0.arrays;
         body = r.1;
       }

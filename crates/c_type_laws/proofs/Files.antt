@@ -21,7 +21,8 @@ use Rattle.c_scope.specs.Scope.{Scope, Frame, same_name, find, look_up, declared
 use Rattle.c_type.specs.Declarations.{is_end}
 use Rattle.c_type.specs.Units.{eof_name, getchar_name, putchar_name, int_slots}
 use Rattle.c_type.specs.Functions.{callee_in}
-use Rattle.c_type_laws.specs.Objects.{scalar_at, array_at, global_scalar, global_array, signature, signature_of}
+use Rattle.c_type_laws.specs.Objects.{scalar_at, array_at, Shape, shape, global_scalar, global_array, signature}
+use Rattle.c_type_laws.specs.Objects.{signature_of}
 use Rattle.c_type_laws.specs.Objects.{of_function}
 use Rattle.c_type_laws.proofs.Values.{Exists}
 use Rattle.c_type_laws.proofs.Moves.{Known, KnownFrame, some_is}
@@ -52,11 +53,11 @@ module _ (P P' : TypedProgram) (more : More P P') where
   scalar_more f (place.Array n) k e = e
 
   -- an array stays one
-  array_more : (f : TypedFunc) (p : Place) (k : Kind) → array_at P f p ≡ Some k → array_at P' f p ≡ Some k
-  array_more f (place.Global n) k e =
-      ap (λ gs. global_array (slice_get gs n)) more.are ∙ kept global_array refl P.globals more.globals n k e
-  array_more f (place.Scalar n) k e = e
-  array_more f (place.Array n) k e = e
+  array_more : (f : TypedFunc) (p : Place) (s : Shape) → array_at P f p ≡ Some s → array_at P' f p ≡ Some s
+  array_more f (place.Global n) s e =
+      ap (λ gs. global_array (slice_get gs n)) more.are ∙ kept global_array refl P.globals more.globals n s e
+  array_more f (place.Scalar n) s e = e
+  array_more f (place.Array n) s e = e
 
   -- a function keeps its signature
   signature_more : (c : Callee) (r : Option Kind) (s : List Slot) → signature_of P c ≡ Some (signature r s)
@@ -107,7 +108,7 @@ module _ (T : Scope) where
   -- what a name at file scope means is there, or is declared as it is here
   abbrev pub Bound : TypedProgram → Scope → List ℕ → Meaning → Type 0
   Bound P G w (meaning.Scalar k p) = (f : TypedFunc) → scalar_at P f p ≡ Some k
-  Bound P G w (meaning.Array k p) = (f : TypedFunc) → array_at P f p ≡ Some k
+  Bound P G w (meaning.Array k q p) = (f : TypedFunc) → array_at P f p ≡ Some (shape k q)
   Bound P G w (meaning.Function r s c d) = IsFunction G w r s × Calls w r s c × (d ≡ true → (x : Callee) × (c ≡ Some x))
   Bound P G w meaning.EndOfFile = Unit {0}
 
@@ -128,7 +129,7 @@ module _ (T : Scope) where
       → ((w : List ℕ) (r : Option Kind) (s : List Slot) → IsFunction G w r s → IsFunction G' w r s)
       → (w : List ℕ) (m : Meaning) → Bound P G w m → Bound P' G' w m
   bound_more P P' G G' more go w (meaning.Scalar k p) b = λ f. scalar_more P P' more f p k (b f)
-  bound_more P P' G G' more go w (meaning.Array k p) b = λ f. array_more P P' more f p k (b f)
+  bound_more P P' G G' more go w (meaning.Array k q p) b = λ f. array_more P P' more f p (shape k q) (b f)
   bound_more P P' G G' more go w (meaning.Function r s c d) b = (go w r s b.0, b.1, b.2)
   bound_more P P' G G' more go w meaning.EndOfFile b = tt
 
@@ -217,7 +218,7 @@ module _ (T : Scope) where
   exists : (P : TypedProgram) (F : Frame) (n : Names P T F) (f : TypedFunc) (w : List ℕ) (m : Meaning)
       → Bound P (F ∷ []) w m → Exists P f m
   exists P F n f w (meaning.Scalar k p) b = b f
-  exists P F n f w (meaning.Array k p) b = b f
+  exists P F n f w (meaning.Array k q p) b = b f
   exists P F n f w (meaning.Function r s None d) b = tt
   exists P F n f w (meaning.Function r s (Some c) d) b = calls P F n w r s c d b
   exists P F n f w meaning.EndOfFile b = tt

@@ -1,7 +1,7 @@
 -- The names at file scope: one block, in which declarations of a function agree.
 use Rattle.std.proofs.Common.{◌≡◌, ℕ, Bool, true, false, cond, List, [], ◌∷◌, Option, Some, None, refl, sym, ap, ◌∙◌}
 use Rattle.std.proofs.Common.{subst}
-use Rattle.std.specs.Prelude.{is_some, ◌&&◌, ◌||◌, not}
+use Rattle.std.specs.Prelude.{is_some, ◌||◌, not}
 use Rattle.std.specs.Cmp.Lexicographic.{bytes_decides}
 use Rattle.std.proofs.lemmas.Bool.{false≢true}
 use Rattle.c_tree.specs.declared.token.Kind.{Kind}
@@ -15,21 +15,20 @@ use Rattle.c_scope.specs.Scope.{Scope, Frame, same_name, find, look_up, or_else,
 use Rattle.c_type.specs.Declarations.{is_end, twice_fault}
 use Rattle.c_type.specs.Units.{same_slot, same_slots, same_result, type_fault}
 use Rattle.c_constant.proofs.SameKinds.{kinds_are}
+use Rattle.c_type_expr.specs.Roles.{same_row}
+use Rattle.c_type_laws.proofs.Values.{both, rows_are}
 use Rattle.c_type_laws.proofs.Moves.{held, some_is}
 
 -- EQUAL SIGNATURES
 
--- two tests that both hold
-pub both : (a b : Bool) → (a && b) ≡ true → (a ≡ true) × (b ≡ true)
-both true b h = (refl, h)
-both false b h = absurd (false≢true h)
-
 -- equal slots are one
 slot_is : (s t : Slot) → same_slot s t ≡ true → s ≡ t
 slot_is (slot.Scalar j) (slot.Scalar k) h = ap slot.Scalar (kinds_are j k h)
-slot_is (slot.Scalar j) (slot.Address k) h = absurd (false≢true h)
-slot_is (slot.Address j) (slot.Scalar k) h = absurd (false≢true h)
-slot_is (slot.Address j) (slot.Address k) h = ap slot.Address (kinds_are j k h)
+slot_is (slot.Scalar j) (slot.Address k q) h = absurd (false≢true h)
+slot_is (slot.Address j p) (slot.Scalar k) h = absurd (false≢true h)
+slot_is (slot.Address j p) (slot.Address k q) h =
+    let r = both _ (same_row p q) h in
+    ap (λ j. slot.Address j p) (kinds_are j k r.0) ∙ ap (λ p. slot.Address k p) (rows_are p q r.1)
 
 -- equal lists of slots are one
 slots_are : (ss ts : List Slot) → same_slots ss ts ≡ true → ss ≡ ts

@@ -2,7 +2,9 @@ pub mod Conversions
 pub mod Values
 pub mod TypedNeeds
 pub mod Moves
+pub mod Lists
 pub mod Parts
+pub mod Switches
 pub mod Bodies
 pub mod Definitions
 pub mod Frames

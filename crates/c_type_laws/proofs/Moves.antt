@@ -10,6 +10,8 @@ use Rattle.c_scope.specs.Scope.{Scope, Frame, same_name, find, look_up, opened, 
 use Rattle.c_type_expr.specs.declared.fault.TypeFault.{TypeFault}
 use Rattle.c_type_expr.specs.Roles.{Blame, first, unless}
 use Rattle.c_type.specs.declared.state.State.{State}
+use Rattle.c_type.specs.declared.state.Around.{Around}
+use Rattle.c_type.specs.Statements.{in_loop}
 use Rattle.c_type.specs.States.{entered, left}
 use Rattle.c_type_laws.specs.WellFormed.{Each, IsScalar, ArrayFits}
 use Rattle.c_type_laws.proofs.Values.{Exists, Knows}
@@ -138,15 +140,15 @@ module _ (P : TypedProgram) (f : TypedFunc) where
   -- PARTS
 
   -- a part goes ahead, and where it has no fault, it keeps what holds and gives what it should
-  pub record Moves {T : Type 0} (Q : Bool → T → Type 0) (after : State → State) (fault : Bool → State → Blame)
+  pub record Moves {T : Type 0} (Q : Around → T → Type 0) (after : State → State) (fault : Around → State → Blame)
       (tree : State → T) : Type 0 where
     pub ahead : (v : State) → Ahead v (after v)
-    pub runs : (b : Bool) (v : State) → Fine v → Within (after v) → fault b v ≡ None → Fine (after v) × Q b (tree v)
+    pub runs : (b : Around) (v : State) → Fine v → Within (after v) → fault b v ≡ None → Fine (after v) × Q b (tree v)
 
-  module _ {T : Type 0} {Q : Bool → T → Type 0} {after : State → State} {fault : Bool → State → Blame} {tree : State
+  module _ {T : Type 0} {Q : Around → T → Type 0} {after : State → State} {fault : Around → State → Blame} {tree : State
       → T} where
     -- what it gives is made into something else
-    pub made : {U : Type 0} {R : Bool → U → Type 0} (g : T → U) → ((b : Bool) (t : T) → Q b t → R b (g t))
+    pub made : {U : Type 0} {R : Around → U → Type 0} (g : T → U) → ((b : Around) (t : T) → Q b t → R b (g t))
         → Moves Q after fault tree → Moves R after fault (λ v. g (tree v))
     made g h m = record {
       ahead = m.ahead;
@@ -154,8 +156,8 @@ module _ (P : TypedProgram) (f : TypedFunc) where
     }
 
     -- the body of a loop
-    pub looped : Moves Q after fault tree → Moves (λ b. Q true) after (λ b. fault true) tree
-    looped m = record { ahead = m.ahead; runs = λ b. m.runs true }
+    pub looped : Moves Q after fault tree → Moves (λ b. Q in_loop) after (λ b. fault in_loop) tree
+    looped m = record { ahead = m.ahead; runs = λ b. m.runs in_loop }
 
     -- a block of its own
     pub scoped : Moves Q after fault tree
@@ -188,7 +190,7 @@ module _ (P : TypedProgram) (f : TypedFunc) where
     }
 
     -- one part and then another
-    pub then : {U : Type 0} {R : Bool → U → Type 0} {after' : State → State} {fault' : Bool → State
+    pub then : {U : Type 0} {R : Around → U → Type 0} {after' : State → State} {fault' : Around → State
         → Blame} {tree' : State → U}
         → Moves Q after fault tree → Moves R after' fault' tree'
         → Moves {T = T × U} (λ b t. Q b t.0 × R b t.1) (λ v. after' (after v))

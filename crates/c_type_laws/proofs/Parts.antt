@@ -1,8 +1,8 @@
 -- What each statement does to what typing keeps, and that its typed tree is well formed.
-use Rattle.std.proofs.Common.{◌≡◌, ℕ, ◌*◌, ◌<◌, ◌≤◌, Bool, true, false, cond, ℤ, pos, negsuc, List, [], ◌∷◌, ◌++◌}
+use Rattle.std.proofs.Common.{◌≡◌, ℕ, ◌*◌, ◌<◌, ◌≤◌, List, [], ◌∷◌, ◌++◌}
 use Rattle.std.proofs.Common.{length, Option, Some, None, refl, sym, ap, ◌∙◌, subst, arith, append-nil, length-append}
-use Rattle.std.specs.Prelude.{IfSome, nat_lt, slice_get}
-use Rattle.std.proofs.lemmas.Bool.{false≢true, leb-true, ltb-true}
+use Rattle.std.specs.Prelude.{IfSome, slice_get}
+use Rattle.std.proofs.lemmas.Bool.{leb-true, ltb-true}
 use Rattle.c_tree.specs.declared.token.Kind.{Kind}
 use Rattle.c_tree.specs.declared.tree.ArraySize.{ArraySize}
 use Rattle.c_tree.specs.declared.tree.ArraySize.TheVariants as size
@@ -20,20 +20,19 @@ use Rattle.c_tree.specs.declared.typed.TypedForInit.{out-roll-TypedForInit}
 use Rattle.c_tree.specs.declared.typed.TypedForInit.TheVariants as typed_init
 use Rattle.c_scope.specs.declared.meaning.Binding.{Binding}
 use Rattle.c_scope.specs.declared.meaning.Meaning.TheVariants as meaning
-use Rattle.c_scope.specs.Scope.{Scope, Frame, declared_in, bound}
-use Rattle.c_constant.specs.Constant.{constant}
-use Rattle.c_constant.specs.Kinds.{number}
+use Rattle.c_scope.specs.Scope.{Scope, declared_in, bound}
 use Rattle.c_constant.specs.Need.{Needs, need, needs}
 use Rattle.c_type_expr.specs.declared.role.Role.TheVariants.{Value, Free}
 use Rattle.c_type_expr.specs.Roles.{Blame}
 use Rattle.c_type_expr.specs.Trees.{tree, with_convert}
-use Rattle.c_type_expr.specs.Constants.{full, need_fault, size_fault, value_fault, length_of, length_in, length_from}
-use Rattle.c_type_expr.specs.Constants.{word_in}
+use Rattle.c_type_expr.specs.Constants.{full, need_fault}
 use Rattle.c_type_expr.proofs.Theorem.{complete}
 use Rattle.c_type.specs.declared.state.State.{State}
-use Rattle.c_type.specs.States.{full_if, tree_if, value_of, with_scalar, with_array}
+use Rattle.c_type.specs.declared.state.Around.{Around}
+use Rattle.c_type.specs.States.{full_if, tree_if, value_of, with_scalar, with_array, with_switch}
 use Rattle.c_constant.specs.Kinds.{bytes}
-use Rattle.c_type.specs.Declarations.{scalar_init_fault, sized_fault, declare_tree}
+use Rattle.c_type.specs.Declarations.{scalar_init_fault, sized_fault, extent, row_in, declare_tree}
+use Rattle.c_type.specs.Statements.{SectionPart}
 use Rattle.c_type.specs.Statements.{Part, Beginning, node_part, init_part, all_after, all_fault, all_trees, else_after}
 use Rattle.c_type.specs.Statements.{else_fault, else_tree, return_fault, return_tree}
 use Rattle.c_tree.specs.declared.tree.ForInit.TheOpen.{StmtNode-F, ForInit-F}
@@ -48,47 +47,11 @@ use Rattle.c_type_laws.proofs.Values.{Exists, Plain, fits, plain_has, converted_
 use Rattle.c_type_laws.proofs.TypedNeeds.{same_needs, converted_need}
 use Rattle.c_type_laws.proofs.Moves.{split, held, Known, knows, Fine, Within, Ahead, Moves, still, made, looped}
 use Rattle.c_type_laws.proofs.Moves.{scoped, then}
+use Rattle.c_type_laws.proofs.Lists.{at_end, each_last, extent_some, an_array, outer_in}
 
 -- a statement that is built is open again
 opened : (s : TypedStmt) (x : level.Level) → roll-TypedStmt x ≡ s → out-TypedStmt s ≡ x
 opened s x e = ap out-TypedStmt (sym e) ∙ out-roll-TypedStmt x
-
--- LISTS
-
--- an element stands behind those before it
-pub at_end : {A : Type 0} (xs : List A) (x : A) (ys : List A) → slice_get ((xs ++ x ∷ []) ++ ys) (length xs) ≡ Some x
-at_end [] x ys = refl
-at_end (z ∷ xs) x ys = at_end xs x ys
-
--- what holds of a list and one element more
-pub each_last : {A : Type 0} (Q : A → Type 0) (xs : List A) (x : A) → Each Q xs → Q x → Each Q (xs ++ x ∷ [])
-each_last Q [] x a b = (b, tt)
-each_last Q (y ∷ xs) x a b = (a.0, each_last Q xs x a.1 b)
-
--- SIZES
-
--- a length that a number gives is at least 1
-from_some : (z : ℤ) (l : ℕ) → value_fault (length_from z) l ≡ None → 1 ≤ word_in (length_from z)
-from_some (pos n) l e = by (nat_lt 0 n) refl
-  where
-    by : (b : Bool) → nat_lt 0 n ≡ b → 1 ≤ word_in (length_from (pos n))
-    by true h = subst (λ b. 1 ≤ word_in (cond b (Some n) None)) (sym h) (ltb-true 0 n h)
-    by false h = absurd (false≢true (held _ _ (sym (ap (λ b. value_fault (cond b (Some n) None) l) h) ∙ e)))
-from_some (negsuc n) l e = absurd (false≢true (held _ _ e))
-
--- the same of the value of a constant
-in_some : (k : Kind) (v : Option ℕ) (l : ℕ) → value_fault (length_in k v) l ≡ None → 1 ≤ word_in (length_in k v)
-in_some k None l e = absurd (false≢true (held _ _ e))
-in_some k (Some w) l e = from_some (number k w) l e
-
--- a size without a fault is at least 1
-pub size_some : (e : Expr) (G : Scope) → size_fault e G ≡ None → 1 ≤ word_in (length_of e)
-size_some e G h = in_some (constant [] e).kind (constant [] e).value e.line (split _ _ h).1
-
--- a declaration changes the innermost block alone
-pub outer_in : (b : Binding) (N : Scope) (F F' : Frame) (G : Scope) → N ≡ F ∷ F' ∷ G → (new : Frame)
-    × (declared_in b N ≡ new ∷ F' ∷ G)
-outer_in b N F F' G e = (b ∷ F, ap (declared_in b) e)
 
 module _ (P : TypedProgram) (f : TypedFunc) where
   -- FULL EXPRESSIONS
@@ -105,7 +68,7 @@ module _ (P : TypedProgram) (f : TypedFunc) where
       (fits P f G (knows P f G k) Value e _ d, needs_fit e _ (same_needs G Value e _ d) s.1)
 
   -- the same, converted to a type
-  full_converted : (k : Kind) (e : Expr) (G : Scope) → Known P f G → full e Value G ≡ None
+  pub full_converted : (k : Kind) (e : Expr) (G : Scope) → Known P f G → full e Value G ≡ None
       → IsValue P f k (with_convert k (tree e G))
   full_converted k e G g h =
       let v = full_value e G g h in
@@ -123,8 +86,8 @@ module _ (P : TypedProgram) (f : TypedFunc) where
       (fits P f G (knows P f G k) Free e _ d, needs_fit e _ (same_needs G Free e _ d) s.1)
 
   -- a part that keeps everything
-  asks : {T : Type 0} (Q : Bool → T → Type 0) (fault : Bool → State → Blame) (t : State → T)
-      → ((b : Bool) (v : State) → Fine P f v → fault b v ≡ None → Q b (t v)) → Moves P f Q (λ v. v) fault t
+  pub asks : {T : Type 0} (Q : Around → T → Type 0) (fault : Around → State → Blame) (t : State → T)
+      → ((b : Around) (v : State) → Fine P f v → fault b v ≡ None → Q b (t v)) → Moves P f Q (λ v. v) fault t
   asks Q fault t h = record { ahead = still P f; runs = λ b v i w e. (i, h b v i e) }
 
   -- a test, as a part
@@ -150,11 +113,11 @@ module _ (P : TypedProgram) (f : TypedFunc) where
   -- STATEMENTS
 
   -- the tree of a statement is well formed
-  abbrev pub Run : Bool → TypedStmt → Type 0
+  abbrev pub Run : Around → TypedStmt → Type 0
   Run b s = WellFormedStmt P f b (out-TypedStmt s)
 
   -- the tree of the first part of a `for` is
-  abbrev pub Begin : Bool → TypedForInit → Type 0
+  abbrev pub Begin : Around → TypedForInit → Type 0
   Begin b s = Begins P f b (out-TypedForInit s)
 
   -- a statement keeps what holds, and its tree is well formed
@@ -174,16 +137,16 @@ module _ (P : TypedProgram) (f : TypedFunc) where
   SoundElse p = Moves P f (RunsElse P f) (else_after p) (else_fault p) (else_tree p)
 
   -- a node that is well formed makes a statement that is
-  pub run : (b : Bool) (s : TypedStmt) (x : level.Level) → roll-TypedStmt x ≡ s → WellFormedStmt P f b x → Run b s
+  pub run : (b : Around) (s : TypedStmt) (x : level.Level) → roll-TypedStmt x ≡ s → WellFormedStmt P f b x → Run b s
   run b s x e r = subst (WellFormedStmt P f b) (sym (opened s x e)) r
 
   -- the same of the first part of a `for`
-  begin : (b : Bool) (s : TypedForInit) (x : level.Beginning) → roll-TypedForInit x ≡ s → Begins P f b x → Begin b s
+  begin : (b : Around) (s : TypedForInit) (x : level.Beginning) → roll-TypedForInit x ≡ s → Begins P f b x → Begin b s
   begin b s x e r = subst (Begins P f b) (sym (ap out-TypedForInit (sym e) ∙ out-roll-TypedForInit x)) r
 
   -- a node of a statement, at a line
   abbrev Node : Type 0
-  Node = StmtNode-F Beginning (ℕ → Part) Part
+  Node = StmtNode-F Beginning (ℕ → Part) SectionPart Part
 
   -- an expression statement
   pub on_plain : (e : Option Expr) (l : ℕ) → Sound (node_part (StmtNode-F.Plain e) l)
@@ -234,14 +197,11 @@ module _ (P : TypedProgram) (f : TypedFunc) where
 
   -- a `break`
   pub on_break : (l : ℕ) → Sound (node_part StmtNode-F.Break l)
-  on_break l = asks _ _ _ (λ b v i h. subst (λ b. Run b typed.Break) (sym (held _ _ h))
-      (run true _ _ typed.rolls-Break rule.breaks))
+  on_break l = asks _ _ _ (λ b v i h. run b _ _ typed.rolls-Break (rule.breaks (held _ _ h)))
 
   -- a `continue`
   pub on_continue : (l : ℕ) → Sound (node_part StmtNode-F.Continue l)
-  on_continue l = asks _ _ _
-      (λ b v i h. subst (λ b. Run b typed.Continue) (sym (held _ _ h))
-      (run true _ _ typed.rolls-Continue rule.continues))
+  on_continue l = asks _ _ _ (λ b v i h. run b _ _ typed.rolls-Continue (rule.continues (held _ _ h)))
 
   -- a value is returned exactly where the function gives one
   return_fits : (r : Option Kind) (e : Option Expr) (G : Scope) (l : ℕ) → Known P f G → full_if e Value G ≡ None
@@ -279,15 +239,27 @@ module _ (P : TypedProgram) (f : TypedFunc) where
   }
 
   -- a local array is one array more
-  array_ahead : (k : Kind) (w : List ℕ) (n : ℕ) (v : State) → Ahead P f v (with_array k w n v)
-  array_ahead k w n v = record {
+  array_ahead : (k : Kind) (q : Option ℕ) (w : List ℕ) (n : ℕ) (v : State) → Ahead P f v (with_array k q w n v)
+  array_ahead k q w n v = record {
     scalars = [];
-    arrays = (record { kind = k; length = n }) ∷ [];
+    arrays = an_array k q n ∷ [];
     are = sym (append-nil v.scalars);
     and = refl;
     hold = tt;
     result = refl;
     outer = λ F F' G e. outer_in _ v.names F F' G e;
+  }
+
+  -- the scalar of a switch is one slot more
+  pub switch_ahead : (k : Kind) (v : State) → Ahead P f v (with_switch k v)
+  switch_ahead k v = record {
+    scalars = slot.Scalar k ∷ [];
+    arrays = [];
+    are = refl;
+    and = sym (append-nil v.arrays);
+    hold = (tt, tt);
+    result = refl;
+    outer = λ F F' G e. (F, e);
   }
 
   -- the slot of a local scalar
@@ -296,10 +268,9 @@ module _ (P : TypedProgram) (f : TypedFunc) where
   scalar_is k w v i = ap (λ ss. slice_get ss (length v.scalars)) i.are ∙ at_end v.scalars (slot.Scalar k) i.scalars
 
   -- the array of a local array
-  array_is : (k : Kind) (w : List ℕ) (n : ℕ) (v : State) → Within P f (with_array k w n v)
-      → slice_get f.arrays (length v.arrays) ≡ Some (record { kind = k; length = n })
-  array_is k w n v i = ap (λ ss. slice_get ss (length v.arrays)) i.and
-      ∙ at_end v.arrays (record { kind = k; length = n }) i.arrays
+  array_is : (k : Kind) (q : Option ℕ) (w : List ℕ) (n : ℕ) (v : State) → Within P f (with_array k q w n v)
+      → slice_get f.arrays (length v.arrays) ≡ Some (an_array k q n)
+  array_is k q w n v i = ap (λ ss. slice_get ss (length v.arrays)) i.and ∙ at_end v.arrays (an_array k q n) i.arrays
 
   -- an initialiser is converted to the type of its scalar
   init_fits : (k : Kind) (init : Option Expr) (G : Scope) → Known P f G → full_if init Value G ≡ None
@@ -308,15 +279,15 @@ module _ (P : TypedProgram) (f : TypedFunc) where
   init_fits k (Some e) G g h = full_converted k e G g h
 
   -- a slot more, where there are enough
-  still_more : (ss : List Slot) (s : Slot) (n : ℕ) → n ≤ length ss → n ≤ length (ss ++ s ∷ [])
+  pub still_more : (ss : List Slot) (s : Slot) (n : ℕ) → n ≤ length ss → n ≤ length (ss ++ s ∷ [])
   still_more ss s n h = omega (arith, h, length-append ss (s ∷ []))
 
   -- one more than fewer than 64
-  one_more : (ss : List Slot) (s : Slot) → length ss < 64 → length (ss ++ s ∷ []) ≤ 64
+  pub one_more : (ss : List Slot) (s : Slot) → length ss < 64 → length (ss ++ s ∷ []) ≤ 64
   one_more ss s h = omega (arith, h, length-append ss (s ∷ []))
 
   -- the declaration of a local scalar
-  scalar_runs : (k : Kind) (w : List ℕ) (init : Option Expr) (l : ℕ) (b : Bool) (v : State) → Fine P f v
+  scalar_runs : (k : Kind) (w : List ℕ) (init : Option Expr) (l : ℕ) (b : Around) (v : State) → Fine P f v
       → Within P f (with_scalar k w v)
       → scalar_init_fault k w init l v ≡ None → Fine P f (with_scalar k w v)
       × Run b (declare_tree size.Scalar k w init v)
@@ -338,24 +309,29 @@ module _ (P : TypedProgram) (f : TypedFunc) where
       )
 
   -- the declaration of a local array
-  array_runs : (e : Expr) (k : Kind) (w : List ℕ) (init : Option Expr) (l : ℕ) (b : Bool) (v : State) → Fine P f v
-      → Within P f (with_array k w (word_in (length_of e)) v)
-      → sized_fault e k w init l v.names ≡ None → Fine P f (with_array k w (word_in (length_of e)) v)
-      × Run b (declare_tree (size.Sized e) k w init v)
-  array_runs e k w init l b v i within h =
-      let s = split _ _ (split _ _ h).0 in
-      let n = word_in (length_of e) in
-      let is = array_is k w n v within in
-      let fits : ArrayFits (record { kind = k; length = n }) =
-      record { some = size_some e v.names s.0; bytes = leb-true (n * bytes k) 1048576 (held _ _ (split _ _ s.1).1) } in
-      let known = known_in (bound w (meaning.Array k (place.Array (length v.arrays)))) v.names
+  array_runs : (s : ArraySize) (k : Kind) (w : List ℕ) (init : Option Expr) (l : ℕ) (b : Around) (v : State)
+      → Fine P f v → Within P f (with_array k (row_in s) w (extent s) v) → sized_fault s k w init l v.names ≡ None
+      → Fine P f (with_array k (row_in s) w (extent s) v)
+      × Run b (typed.Declare (place.Array (length v.arrays)) None)
+  array_runs s k w init l b v i within h =
+      let c = split _ _ (split _ _ h).0 in
+      let n = extent s in
+      let q = row_in s in
+      let is = array_is k q w n v within in
+      let some = extent_some s l v.names c.0 in
+      let fits : ArrayFits (an_array k q n) = record {
+        some = some.0;
+        rows = some.1;
+        bytes = leb-true (n * bytes k) 1048576 (held _ _ (split _ _ c.1).1);
+      } in
+      let known = known_in (bound w (meaning.Array k q (place.Array (length v.arrays)))) v.names
       (ap local_array is) i.names in (
         record {
           names = known;
           result = i.result;
           params = i.params;
           count = i.count;
-          arrays = each_last ArrayFits v.arrays (record { kind = k; length = n }) i.arrays fits;
+          arrays = each_last ArrayFits v.arrays (an_array k q n) i.arrays fits;
         },
         run b _ _ (typed.rolls-Declare _ _) (rule.array is),
       )
@@ -364,9 +340,14 @@ module _ (P : TypedProgram) (f : TypedFunc) where
   pub on_declare : (k : Kind) (w : List ℕ) (size : ArraySize) (init : Option Expr) (l : ℕ)
       → Sound (node_part (StmtNode-F.Declare k w size init) l)
   on_declare k w size.Scalar init l = record { ahead = scalar_ahead k w; runs = scalar_runs k w init l }
-  on_declare k w size.Open init l = record { ahead = still P f; runs = λ b v i w e. absurd (cc) }
+  on_declare k w size.Open init l =
+      record { ahead = array_ahead k (row_in size.Open) w (extent size.Open); runs = array_runs size.Open k w init l }
   on_declare k w (size.Sized e) init l =
-      record { ahead = array_ahead k w (word_in (length_of e)); runs = array_runs e k w init l }
+      let s = size.Sized e in
+      record { ahead = array_ahead k (row_in s) w (extent s); runs = array_runs s k w init l }
+  on_declare k w (size.Rows r e) init l =
+      let s = size.Rows r e in
+      record { ahead = array_ahead k (row_in s) w (extent s); runs = array_runs s k w init l }
 
   -- FIRST PARTS
 

@@ -1,9 +1,10 @@
 -- The definitions at worked trees: some are well formed, and others are not.
-use Rattle.std.proofs.Common.{◌≡◌, ℕ, ◌≤◌, Bool, true, false, List, [], ◌∷◌, replicate, Option, Some, None, refl, sym}
+use Rattle.std.proofs.Common.{◌≡◌, ℕ, ◌≤◌, List, [], ◌∷◌, replicate, Option, Some, None, refl, sym}
 use Rattle.std.proofs.Common.{ap, ◌∙◌, subst, arith}
 use Rattle.std.proofs.lemmas.Bool.{true≢false}
 use Rattle.c_tree.specs.declared.token.Kind.{Kind}
-use Rattle.c_tree.specs.declared.token.Kind.TheVariants.{Char, UChar, Int, UInt, Long, ULong}
+use Rattle.c_tree.specs.declared.token.Kind.TheVariants.{Char, UChar, Short, UShort, Int, UInt, Long}
+use Rattle.c_tree.specs.declared.token.Kind.TheVariants.{ULong}
 use Rattle.c_tree.specs.declared.tree.BinaryOp.TheVariants.{Add, ShiftLeft}
 use Rattle.c_tree.specs.declared.typed.Callee.TheVariants as callee
 use Rattle.c_tree.specs.declared.typed.Place.TheVariants as place
@@ -21,12 +22,14 @@ use Rattle.c_constant.specs.Kinds.{common, same_kind}
 use Rattle.c_constant.specs.Need.{Needs}
 use Rattle.std.specs.Prelude.{option_map, slice_get}
 use Rattle.c_type_laws.specs.Objects.{slot_scalar, of_function}
-use Rattle.c_tree.specs.TypedTrees.{Node, node_of}
-use Rattle.c_type_laws.specs.Expressions.{Gives, Has, IsObject, Passes}
+use Rattle.c_tree.specs.TypedTrees.{Node}
+use Rattle.c_type_laws.specs.Expressions.{Gives, Has, Passes}
 use Rattle.c_type_laws.specs.Expressions as rule
 use Rattle.c_type_laws.specs.Needs.{FitsNeed}
 use Rattle.c_tree.specs.TypedTrees.{Level}
-use Rattle.c_type_laws.specs.Statements.{IsTest, WellFormedStmt, RunsAll}
+use Rattle.c_type.specs.declared.state.Around.{Around}
+use Rattle.c_type.specs.Statements.{nowhere, in_loop, in_switch}
+use Rattle.c_type_laws.specs.Statements.{WellFormedStmt, Labels}
 use Rattle.c_type_laws.specs.Statements as run
 use Rattle.c_type_laws.specs.WellFormed.{GlobalFits, FunctionFits, WellFormed}
 use Rattle.c_type_laws.proofs.Moves.{some_is}
@@ -52,7 +55,7 @@ function all = record {
 
 -- int g[3];
 abbrev three_ints : TypedGlobal
-three_ints = record { kind = Int; length = Some 3; init = [] }
+three_ints = record { kind = Int; length = Some 3; row = None; init = [] }
 
 -- a program with one global
 abbrev program : List TypedStmt → TypedProgram
@@ -73,7 +76,7 @@ module _ (P : TypedProgram) (f : TypedFunc) where
   number k w = given k (Number w) rule.number
 
   -- a statement as it is built
-  ran : (b : Bool) (s : Level) → WellFormedStmt P f b s → WellFormedStmt P f b (out-TypedStmt (statement s))
+  ran : (b : Around) (s : Level) → WellFormedStmt P f b s → WellFormedStmt P f b (out-TypedStmt (statement s))
   ran b s r = subst (WellFormedStmt P f b) (sym (out-roll-TypedStmt s)) r
 
   -- a number needs one temporary
@@ -99,6 +102,8 @@ module _ (P : TypedProgram) (f : TypedFunc) where
   not_char : (k : Kind) → common Char k ≡ Char → ⊥
   not_char Char h = absurd (cc)
   not_char UChar h = absurd (cc)
+  not_char Short h = absurd (cc)
+  not_char UShort h = absurd (cc)
   not_char Int h = absurd (cc)
   not_char UInt h = absurd (cc)
   not_char Long h = absurd (cc)
@@ -139,7 +144,7 @@ module _ (P : TypedProgram) (f : TypedFunc) where
   -- an argument that is missing
   no_argument : (s : Slot) (slots : List Slot) → Passes P f (s ∷ slots) [] → ⊥
   no_argument (slot.Scalar k) slots p = elim p [ ]
-  no_argument (slot.Address k) slots p = elim p [ ]
+  no_argument (slot.Address k q) slots p = elim p [ ]
 
   -- one too many
   surplus : (e : TypedExpr) (es : List TypedExpr) → Passes P f [] (e ∷ es) → ⊥
@@ -154,27 +159,41 @@ module _ (P : TypedProgram) (f : TypedFunc) where
   -- JUMPS AND RETURNS
 
   -- while (1) break;
-  loop : WellFormedStmt P f false (While (of Int (Number 1)) (statement Break))
-  loop = run.while_loop (record { kind = Int; value = (number Int 1, one_need Int 1) }) (ran true Break run.breaks)
+  loop : WellFormedStmt P f nowhere (While (of Int (Number 1)) (statement Break))
+  loop = run.while_loop (record { kind = Int; value = (number Int 1, one_need Int 1) }) (ran in_loop Break (run.breaks refl))
 
   -- a `break` in no loop
-  lonely_break : WellFormedStmt P f false Break → ⊥
-  lonely_break r = elim r [ ]
+  lonely_break : WellFormedStmt P f nowhere Break → ⊥
+  lonely_break (run.breaks h) = absurd (true≢false (sym h))
 
   -- a `continue` in no loop
-  lonely_continue : WellFormedStmt P f false Continue → ⊥
-  lonely_continue r = elim r [ ]
+  lonely_continue : WellFormedStmt P f nowhere Continue → ⊥
+  lonely_continue (run.continues h) = absurd (true≢false (sym h))
+
+  -- a `break` in a switch in no loop, and a `continue` there
+  break_in_switch : WellFormedStmt P f (in_switch nowhere) Break
+  break_in_switch = run.breaks refl
+
+  continue_in_switch : WellFormedStmt P f (in_switch nowhere) Continue → ⊥
+  continue_in_switch (run.continues h) = absurd (true≢false (sym h))
+
+  -- two labels of one value, and two of `default`
+  same_case : Labels Int [] (Some 7 ∷ Some 7 ∷ []) → ⊥
+  same_case (run.a_label a b (run.a_label c d e)) = absurd (true≢false d)
+
+  second_default : Labels Int [] (None ∷ None ∷ []) → ⊥
+  second_default (run.a_label a b (run.a_label c d e)) = absurd (true≢false d)
 
   -- a parameter is not declared again
-  declared_parameter : (b : Bool) → f.params ≡ 1 → WellFormedStmt P f b (Declare (place.Scalar 0) None) → ⊥
+  declared_parameter : (b : Around) → f.params ≡ 1 → WellFormedStmt P f b (Declare (place.Scalar 0) None) → ⊥
   declared_parameter b e (run.scalar h s i) = absurd (omega (arith, e, h))
 
   -- a function that gives a value returns none
-  nothing_returned : (b : Bool) (k : Kind) → f.result ≡ Some k → WellFormedStmt P f b (Return None) → ⊥
+  nothing_returned : (b : Around) (k : Kind) → f.result ≡ Some k → WellFormedStmt P f b (Return None) → ⊥
   nothing_returned b k e (run.returns h) = subst (λ r. run.IsReturn P f r None) e h
 
   -- a function that is void returns a value
-  value_returned : (b : Bool) (t : TypedExpr) → f.result ≡ None → WellFormedStmt P f b (Return (Some t)) → ⊥
+  value_returned : (b : Around) (t : TypedExpr) → f.result ≡ None → WellFormedStmt P f b (Return (Some t)) → ⊥
   value_returned b t e (run.returns h) = subst (λ r. run.IsReturn P f r (Some t)) e h
 
 -- PROGRAMS
@@ -190,7 +209,7 @@ main = function (statement (Return (Some (of Int (Number 7)))) ∷ [])
 -- it is well formed
 seven_is : WellFormed seven
 seven_is = record {
-  globals = (record { some = omega arith; holds = omega arith; words = tt }, tt);
+  globals = (record { some = omega arith; rows = tt; holds = omega arith; words = tt }, tt);
   bytes = omega arith;
   functions = (
     record {
@@ -198,9 +217,10 @@ seven_is = record {
       slots = omega arith;
       scalars = omega arith;
       locals = (tt, tt);
+      rows = (tt, tt);
       arrays = tt;
-      body = ran seven main false _
-          (run.compound (run.next (ran seven main false _
+      body = ran seven main nowhere _
+          (run.compound (run.next (ran seven main nowhere _
           (run.returns (number seven main Int 7, one_need seven main Int 7))) run.end));
     },
     tt,
@@ -224,5 +244,5 @@ crowd : (P : TypedProgram) (all : TypedStmt)
 crowd P all w = absurd (omega (arith, w.scalars))
 
 -- an array without elements
-empty : GlobalFits (record { kind = Int; length = Some 0; init = [] }) → ⊥
+empty : GlobalFits (record { kind = Int; length = Some 0; row = None; init = [] }) → ⊥
 empty w = absurd (omega (arith, w.some))

@@ -1,5 +1,6 @@
 -- The typed tree of an expression needs what the expression needs.
-use Rattle.std.proofs.Common.{◌≡◌, ℕ, ◌+◌, max, Bool, true, false, List, map, Option, Some, cond, refl, sym, ap, ◌∙◌}
+use Rattle.std.proofs.Common.{◌≡◌, ℕ, ◌+◌, max, Bool, true, false, List, map, Option, Some, None, cond, refl, sym, ap}
+use Rattle.std.proofs.Common.{◌∙◌}
 use Rattle.c_tree.specs.declared.token.Kind.{Kind}
 use Rattle.c_tree.specs.declared.tree.Expr.{Expr}
 use Rattle.c_tree.specs.declared.typed.Slot.{Slot}
@@ -11,12 +12,13 @@ use Rattle.c_tree.specs.declared.typed.TypedNode.TheOpen as node
 use Rattle.c_scope.specs.Scope.{Scope}
 use Rattle.c_constant.specs.Kinds.{same_kind, common}
 use Rattle.c_constant.specs.Operation.{right_at}
-use Rattle.c_constant.specs.Need.{Needs, plain, args_need, call_need, assign_need, needs, need}
+use Rattle.c_constant.specs.Need.{Needs, plain, args_need, call_need, assign_need, element_needs, needs, need}
 use Rattle.c_constant.proofs.Nodes.{needs-Number, needs-Name, needs-Element, needs-Call, needs-Group, needs-Unary}
 use Rattle.c_constant.proofs.Nodes.{needs-Cast, needs-Bump, needs-Binary, needs-Choice, needs-Assign, needs-Comma}
 use Rattle.c_type_expr.specs.declared.role.Role.{Role}
 use Rattle.c_type_expr.specs.Trees.{a, kind_of, with_convert, assigned_from}
-use Rattle.c_type_expr.specs.Typed.{Typed, Passed, number, scalar, array, ending, element, call, group, operator}
+use Rattle.c_type_expr.specs.Typed.{Typed, Passed, number, scalar, array, ending, element, row_element, call}
+use Rattle.c_type_expr.specs.Typed.{group, operator}
 use Rattle.c_type_expr.specs.Typed.{conversion, step, operation, either, assignment, sequence, none, value, address}
 use Rattle.c_tree.specs.TypedTrees.{Node}
 use Rattle.c_type_laws.specs.Needs.{node_needs, of_needs, typed_needs}
@@ -58,9 +60,14 @@ module _ (G : Scope) where
     same_needs _ _ _ (array {w = w} {p = p} m h) = by _ _ (node.Name p) (typed.rolls-Name p) ∙ sym (needs-Name _ w refl)
     same_needs _ _ _ (ending {w = w} m h) = by _ _ (node.Number _) (typed.rolls-Number _) ∙ sym (needs-Name _ w refl)
     same_needs _ _ _ (element {w = w} {p = p} {i = i} {j = j} d m h) =
-        by _ _ (node.Element p j) (typed.rolls-Element p j)
-        ∙ ap (λ (n : Needs). record { need = n.need; index = Some n.need }) (same_needs _ i j d)
-        ∙ sym (needs-Element _ w i refl)
+        by _ _ (node.Element p None j) (typed.rolls-Element p None j)
+        ∙ ap (λ (n : Needs). element_needs n.need) (same_needs _ i j d)
+        ∙ sym (needs-Element _ w None i refl)
+    same_needs _ _ _ (row_element {w = w} {p = p} {x = x} {i = i} {y = y} {j = j} d d' m h) =
+        by _ _ (node.Element p (Some y) j) (typed.rolls-Element p (Some y) j)
+        ∙ ap (λ (n : Needs). element_needs (max n.need (1 + typed_need j))) (same_needs _ x y d)
+        ∙ ap (λ (n : Needs). element_needs (max (need x) (1 + n.need))) (same_needs _ i j d')
+        ∙ sym (needs-Element _ w (Some x) i refl)
     same_needs _ _ _ (call {w = w} {slots = slots} {c = c} {es = es} {ts = ts} m p h) =
         by _ _ (node.Call c ts) (typed.rolls-Call c ts) ∙ ap plain (passed_need slots es ts p)
         ∙ sym (needs-Call _ w es refl)

@@ -14,7 +14,8 @@ use Rattle.c_tree.specs.declared.typed.TypedGlobal.{TypedGlobal}
 use Rattle.c_tree.specs.declared.typed.TypedNode.TheOpen.{Call, Convert}
 use Rattle.c_tree.specs.declared.typed.TypedProgram.{TypedProgram}
 use Rattle.c_type_laws.specs.Objects.{Signature, signature, of_function, slot_scalar, slot_array, scalar_kind}
-use Rattle.c_type_laws.specs.Objects.{element_kind, global_scalar, global_array, local_array, scalar_at, array_at}
+use Rattle.c_type_laws.specs.Objects.{Shape, shape, shape_if, global_scalar, global_array, local_array, scalar_at}
+use Rattle.c_type_laws.specs.Objects.{array_at}
 use Rattle.c_type_laws.specs.Expressions.{Gives, Passes}
 use Rattle.c_type_laws.specs.Expressions as rule
 use Rattle.c_type_laws.specs.WellFormed.{FunctionFits, WellFormed}
@@ -85,13 +86,14 @@ no_conversion P f r k e g = elim g [ ]
 slot_is_scalar : (o : Option Slot) (k : Kind) → slot_scalar o ≡ Some k → o ≡ Some (slot.Scalar k)
 slot_is_scalar None k h = absurd (cc)
 slot_is_scalar (Some (slot.Scalar j)) k h = ap (λ k. Some (slot.Scalar k)) (some_is _ _ h)
-slot_is_scalar (Some (slot.Address j)) k h = absurd (cc)
+slot_is_scalar (Some (slot.Address j q)) k h = absurd (cc)
 
--- a slot that has the type of an array's elements stands for an array
-slot_is_array : (o : Option Slot) (k : Kind) → slot_array o ≡ Some k → o ≡ Some (slot.Address k)
-slot_is_array None k h = absurd (cc)
-slot_is_array (Some (slot.Scalar j)) k h = absurd (cc)
-slot_is_array (Some (slot.Address j)) k h = ap (λ k. Some (slot.Address k)) (some_is _ _ h)
+-- a slot that stands for an array
+slot_is_array : (o : Option Slot) (k : Kind) (q : Option ℕ) → slot_array o ≡ Some (shape k q)
+    → o ≡ Some (slot.Address k q)
+slot_is_array None k q h = absurd (cc)
+slot_is_array (Some (slot.Scalar j)) k q h = absurd (cc)
+slot_is_array (Some (slot.Address j p)) k q h = ap (λ (s : Shape). Some (slot.Address s.kind s.row)) (some_is _ _ h)
 
 -- a local scalar or a parameter that is a value
 pub scalar_slot : (P : TypedProgram) (f : TypedFunc) (n : ℕ) (k : Kind) → scalar_at P f (place.Scalar n) ≡ Some k
@@ -99,9 +101,9 @@ pub scalar_slot : (P : TypedProgram) (f : TypedFunc) (n : ℕ) (k : Kind) → sc
 scalar_slot P f n k h = slot_is_scalar (slice_get f.scalars n) k h
 
 -- a parameter that stands for an array
-pub array_slot : (P : TypedProgram) (f : TypedFunc) (n : ℕ) (k : Kind) → array_at P f (place.Scalar n) ≡ Some k
-    → slice_get f.scalars n ≡ Some (slot.Address k)
-array_slot P f n k h = slot_is_array (slice_get f.scalars n) k h
+pub array_slot : (P : TypedProgram) (f : TypedFunc) (n : ℕ) (k : Kind) (q : Option ℕ)
+    → array_at P f (place.Scalar n) ≡ Some (shape k q) → slice_get f.scalars n ≡ Some (slot.Address k q)
+array_slot P f n k q h = slot_is_array (slice_get f.scalars n) k q h
 
 -- a global scalar or array
 pub record GlobalAt (P : TypedProgram) (n : ℕ) (k : Kind) : Type 0 where
@@ -125,30 +127,49 @@ pub global_scalar_at : (P : TypedProgram) (f : TypedFunc) (n : ℕ) (k : Kind) �
     → (g : GlobalAt P n k) × (g.global.length ≡ None)
 global_scalar_at P f n k h = scalar_by P n k (slice_get P.globals n) refl h
 
+-- a global array: its length, and its second size
+pub record ArrayAt (P : TypedProgram) (n : ℕ) (k : Kind) (q : Option ℕ) : Type 0 where
+  pub global : TypedGlobal
+  pub is : slice_get P.globals n ≡ Some global
+  pub kind : global.kind ≡ k
+  pub row : global.row ≡ q
+  pub long : ℕ
+  pub holds : global.length ≡ Some long
+
 -- the same, where what has the number is told apart
-array_by : (P : TypedProgram) (n : ℕ) (k : Kind) (o : Option TypedGlobal) → slice_get P.globals n ≡ o → global_array o
-    ≡ Some k
-    → (g : GlobalAt P n k) × ((l : ℕ) × (g.global.length ≡ Some l))
-array_by P n k None e h = absurd (cc)
-array_by P n k (Some g) e h = by g.length refl
+array_by : (P : TypedProgram) (n : ℕ) (k : Kind) (q : Option ℕ) (o : Option TypedGlobal) → slice_get P.globals n ≡ o
+    → global_array o ≡ Some (shape k q) → ArrayAt P n k q
+array_by P n k q None e h = absurd (cc)
+array_by P n k q (Some g) e h = by g.length refl
   where
-    by : (l : Option ℕ) → g.length ≡ l → (g : GlobalAt P n k) × ((l : ℕ) × (g.global.length ≡ Some l))
-    by None q = let no : None ≡ Some k = sym (ap (element_kind g.kind) q) ∙ h in absurd (cc)
-    by (Some l) q = (record { global = g; is = e; kind = some_is _ _ (sym (ap (element_kind g.kind) q) ∙ h) }, (l, q))
+    by : (l : Option ℕ) → g.length ≡ l → ArrayAt P n k q
+    by None z = let no : None ≡ Some (shape k q) = sym (ap (shape_if (shape g.kind g.row)) z) ∙ h in absurd (cc)
+    by (Some l) z =
+        let s : shape g.kind g.row ≡ shape k q = some_is _ _ (sym (ap (shape_if (shape g.kind g.row)) z) ∙ h) in
+        record {
+          global = g;
+          is = e;
+          kind = ap (λ (s : Shape). s.kind) s;
+          row = ap (λ (s : Shape). s.row) s;
+          long = l;
+          holds = z;
+        }
 
 -- a global array has a length
-pub global_array_at : (P : TypedProgram) (f : TypedFunc) (n : ℕ) (k : Kind) → array_at P f (place.Global n) ≡ Some k
-    → (g : GlobalAt P n k) × ((l : ℕ) × (g.global.length ≡ Some l))
-global_array_at P f n k h = array_by P n k (slice_get P.globals n) refl h
+pub global_array_at : (P : TypedProgram) (f : TypedFunc) (n : ℕ) (k : Kind) (q : Option ℕ)
+    → array_at P f (place.Global n) ≡ Some (shape k q) → ArrayAt P n k q
+global_array_at P f n k q h = array_by P n k q (slice_get P.globals n) refl h
 
 -- the same, where what has the number is told apart
-local_by : (f : TypedFunc) (n : ℕ) (k : Kind) (o : Option TypedArray) → slice_get f.arrays n ≡ o → local_array o
-    ≡ Some k
-    → (a : TypedArray) × (slice_get f.arrays n ≡ Some a) × (a.kind ≡ k)
-local_by f n k None e h = absurd (cc)
-local_by f n k (Some a) e h = (a, e, some_is _ _ h)
+local_by : (f : TypedFunc) (n : ℕ) (k : Kind) (q : Option ℕ) (o : Option TypedArray) → slice_get f.arrays n ≡ o
+    → local_array o ≡ Some (shape k q) → (a : TypedArray) × (slice_get f.arrays n ≡ Some a) × (a.kind ≡ k) × (a.row ≡ q)
+local_by f n k q None e h = absurd (cc)
+local_by f n k q (Some a) e h =
+    let s : shape a.kind a.row ≡ shape k q = some_is _ _ h in
+    (a, e, ap (λ (s : Shape). s.kind) s, ap (λ (s : Shape). s.row) s)
 
 -- a local array
-pub local_array_at : (P : TypedProgram) (f : TypedFunc) (n : ℕ) (k : Kind) → array_at P f (place.Array n) ≡ Some k
-    → (a : TypedArray) × (slice_get f.arrays n ≡ Some a) × (a.kind ≡ k)
-local_array_at P f n k h = local_by f n k (slice_get f.arrays n) refl h
+pub local_array_at : (P : TypedProgram) (f : TypedFunc) (n : ℕ) (k : Kind) (q : Option ℕ)
+    → array_at P f (place.Array n) ≡ Some (shape k q)
+    → (a : TypedArray) × (slice_get f.arrays n ≡ Some a) × (a.kind ≡ k) × (a.row ≡ q)
+local_array_at P f n k q h = local_by f n k q (slice_get f.arrays n) refl h

@@ -30,7 +30,8 @@ use Rattle.c_type_laws.specs.Objects.{Signature, signature, of_function, signatu
 use Rattle.c_type_laws.specs.WellFormed.{Each, FunctionFits, IsMain, WellFormed}
 use Rattle.c_constant.proofs.SameKinds.{kinds_are}
 use Rattle.c_type_laws.proofs.Moves.{split, held, some_is, KnownFrame}
-use Rattle.c_type_laws.proofs.Frames.{both, declared_look, one_block}
+use Rattle.c_type_laws.proofs.Values.{both}
+use Rattle.c_type_laws.proofs.Frames.{declared_look, one_block}
 use Rattle.c_type_laws.proofs.Files.{BuiltIn, reads, writes, NamedBy, Names, Bound, calls, all_known, find_bound}
 use Rattle.c_type_laws.proofs.Steps.{program, file, Holds, Step, nothing_new}
 use Rattle.c_type_laws.proofs.Globals.{on_global}
@@ -200,7 +201,7 @@ module _ (T : Scope) (m : ℕ) where
       → IsMain (program T m gs fs)
   main_fits F gs fs n fit None e h q = absurd (false≢true h)
   main_fits F gs fs n fit (Some (meaning.Scalar k p)) e h q = absurd (false≢true h)
-  main_fits F gs fs n fit (Some (meaning.Array k p)) e h q = absurd (false≢true h)
+  main_fits F gs fs n fit (Some (meaning.Array k o p)) e h q = absurd (false≢true h)
   main_fits F gs fs n fit (Some meaning.EndOfFile) e h q = absurd (false≢true h)
   main_fits F gs fs n fit (Some (meaning.Function r s c d)) e h q =
       let P = program T m gs fs in

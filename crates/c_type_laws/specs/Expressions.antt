@@ -19,7 +19,7 @@ use Rattle.c_tree.specs.declared.typed.TypedFunc.{TypedFunc}
 use Rattle.c_tree.specs.declared.typed.TypedProgram.{TypedProgram}
 use Rattle.c_constant.specs.Kinds.{same_kind, common}
 use Rattle.c_constant.specs.Operation.{left_at, right_at, result_of, unary_at, unary_result}
-use Rattle.c_type_laws.specs.Objects.{scalar_at, array_at, signature, signature_of}
+use Rattle.c_type_laws.specs.Objects.{scalar_at, array_at, shape, signature, signature_of}
 
 mutual
   -- the node gives a value of the type; of none, it gives no value
@@ -27,7 +27,11 @@ mutual
     number : {k : Kind} {w : ℕ} → Gives P f (Some k) (Number w)
     scalar : {k : Kind} {p : Place} → scalar_at P f p ≡ Some k → Gives P f (Some k) (Name p)
     element : {k j : Kind} {p : Place} {i : TypedExpr}
-        → array_at P f p ≡ Some k → Has P f j i → Gives P f (Some k) (Element p i)
+        → array_at P f p ≡ Some (shape k None) → Has P f j i → Gives P f (Some k) (Element p None i)
+    -- an array with two sizes has two indexes
+    row_element : {k i j : Kind} {n : ℕ} {p : Place} {x y : TypedExpr}
+        → array_at P f p ≡ Some (shape k (Some n)) → Has P f i x → Has P f j y
+        → Gives P f (Some k) (Element p (Some x) y)
     call : {r : Option Kind} {slots : List Slot} {c : Callee} {es : List TypedExpr}
         → signature_of P c ≡ Some (signature r slots) → Passes P f slots es
         → Gives P f r (Call c es)
@@ -70,15 +74,20 @@ mutual
     named : {k : Kind} {e : TypedExpr} {p : Place}
         → e.kind ≡ Some k → node_of e ≡ Name p → scalar_at P f p ≡ Some k → IsObject P f k e
     indexed : {k j : Kind} {e i : TypedExpr} {p : Place}
-        → e.kind ≡ Some k → node_of e ≡ Element p i → array_at P f p ≡ Some k → Has P f j i
-        → IsObject P f k e
+        → e.kind ≡ Some k → node_of e ≡ Element p None i → array_at P f p ≡ Some (shape k None)
+        → Has P f j i → IsObject P f k e
+    row_indexed : {k i j : Kind} {n : ℕ} {e x y : TypedExpr} {p : Place}
+        → e.kind ≡ Some k → node_of e ≡ Element p (Some x) y
+        → array_at P f p ≡ Some (shape k (Some n)) → Has P f i x → Has P f j y → IsObject P f k e
 
   -- the arguments are as many as the parameters and fit them one by one: a value of the parameter's
-  -- type, or the name of an array whose elements are of the parameter's type
+  -- type, or the name of an array whose elements are of the parameter's type and whose second size is
+  -- the parameter's
   pub data Passes (P : TypedProgram) (f : TypedFunc) : List Slot → List TypedExpr → Type 0 where
     end : Passes P f [] []
     value : {k : Kind} {slots : List Slot} {e : TypedExpr} {es : List TypedExpr}
         → Has P f k e → Passes P f slots es → Passes P f (slot.Scalar k ∷ slots) (e ∷ es)
-    address : {k : Kind} {p : Place} {slots : List Slot} {e : TypedExpr} {es : List TypedExpr}
-        → e.kind ≡ Some k → node_of e ≡ Name p → array_at P f p ≡ Some k → Passes P f slots es
-        → Passes P f (slot.Address k ∷ slots) (e ∷ es)
+    address : {k : Kind} {q : Option ℕ} {p : Place} {slots : List Slot} {e : TypedExpr}
+        {es : List TypedExpr}
+        → e.kind ≡ Some k → node_of e ≡ Name p → array_at P f p ≡ Some (shape k q)
+        → Passes P f slots es → Passes P f (slot.Address k q ∷ slots) (e ∷ es)

@@ -1,17 +1,18 @@
 -- How many temporaries a typed expression needs, if operands are computed from left to right.
-use Rattle.std.specs.Prelude.{◌+◌, ◌≤◌, max, Some}
+use Rattle.std.specs.Prelude.{◌+◌, ◌≤◌, max, option_map}
 use Rattle.c_tree.specs.declared.limits.TheConstants.{MOST_NEED}
 use Rattle.c_tree.specs.declared.typed.TypedExpr.{TypedExpr, TypedExpr-F, fold-TypedExpr}
 use Rattle.c_tree.specs.declared.typed.TypedNode.TheOpen.{TypedNode-F, Number, Name, Element, Call}
 use Rattle.c_tree.specs.declared.typed.TypedNode.TheOpen.{Unary, Cast, Convert, Bump, Binary}
 use Rattle.c_tree.specs.declared.typed.TypedNode.TheOpen.{Choice, Assign, Comma}
-use Rattle.c_constant.specs.Need.{Needs, plain, call_need, assign_need}
+use Rattle.c_constant.specs.Need.{Needs, plain, call_need, assign_need, indexes_need, element_needs}
 
 -- a conversion needs what its operand needs
 abbrev pub node_needs : TypedNode-F Needs Needs → Needs
 node_needs (Number w) = plain 1
 node_needs (Name p) = plain 1
-node_needs (Element p i) = record { need = i.need; index = Some i.need }
+node_needs (Element p row i) =
+    element_needs (indexes_need (option_map (λ (r : Needs). r.need) row) i.need)
 node_needs (Call c es) = plain (call_need es)
 node_needs (Unary op e) = plain e.need
 node_needs (Cast to e) = plain e.need

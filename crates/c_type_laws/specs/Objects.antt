@@ -15,40 +15,49 @@ use Rattle.c_tree.specs.declared.typed.TypedProgram.{TypedProgram}
 
 -- OBJECTS
 
--- the type of a global without a length, and the type of the elements of one with a length
+-- an array: the type of its elements, and how many of them a row has where it has two sizes
+pub record Shape : Type 0 where
+  pub kind : Kind
+  pub row : Option ℕ
+
+-- an array of elements of the type, with this second size
+abbrev pub shape : Kind → Option ℕ → Shape
+shape k q = record { kind = k; row = q }
+
+-- the type of a global without a length
 abbrev pub scalar_kind : Kind → Option ℕ → Option Kind
 scalar_kind k None = Some k
 scalar_kind k (Some n) = None
 
--- the type of a global's elements, where it is an array
-abbrev pub element_kind : Kind → Option ℕ → Option Kind
-element_kind k None = None
-element_kind k (Some n) = Some k
+-- the array that a global with a length is
+abbrev pub shape_if : Shape → Option ℕ → Option Shape
+shape_if s None = None
+shape_if s (Some n) = Some s
 
 -- the type of a global that is a scalar
 abbrev pub global_scalar : Option TypedGlobal → Option Kind
 global_scalar None = None
 global_scalar (Some g) = scalar_kind g.kind g.length
 
--- the type of the elements of a global that is an array
-abbrev pub global_array : Option TypedGlobal → Option Kind
+-- the array that a global is, if it is one
+abbrev pub global_array : Option TypedGlobal → Option Shape
 global_array None = None
-global_array (Some g) = element_kind g.kind g.length
+global_array (Some g) = shape_if (shape g.kind g.row) g.length
 
 -- the type of a slot that holds a value
 abbrev pub slot_scalar : Option Slot → Option Kind
 slot_scalar (Some (slot.Scalar k)) = Some k
 slot_scalar _ = None
 
--- the type of the elements of the array that a slot stands for
-abbrev pub slot_array : Option Slot → Option Kind
-slot_array (Some (slot.Address k)) = Some k
+-- the array that a slot stands for, if it stands for one
+abbrev pub slot_array : Option Slot → Option Shape
+slot_array (Some (slot.Address k q)) = Some (shape k q)
 slot_array _ = None
 
--- the type of the elements of a local array
-abbrev pub local_array : Option TypedArray → Option Kind
+-- a local array
+abbrev pub local_array : Option TypedArray → Option Shape
 local_array None = None
-local_array (Some a) = Some a.kind
+local_array (Some a) = Some (shape a.kind a.row)
 
 -- the type of the scalar that a place names, none where it names no scalar
 abbrev pub scalar_at : TypedProgram → TypedFunc → Place → Option Kind
@@ -56,9 +65,8 @@ scalar_at P f (place.Global n) = global_scalar (slice_get P.globals n)
 scalar_at P f (place.Scalar n) = slot_scalar (slice_get f.scalars n)
 scalar_at P f (place.Array n) = None
 
--- the type of the elements of the array that a place names, none where it names no array; an array
--- parameter names one
-abbrev pub array_at : TypedProgram → TypedFunc → Place → Option Kind
+-- the array that a place names, none where it names no array; an array parameter names one
+abbrev pub array_at : TypedProgram → TypedFunc → Place → Option Shape
 array_at P f (place.Global n) = global_array (slice_get P.globals n)
 array_at P f (place.Scalar n) = slot_array (slice_get f.scalars n)
 array_at P f (place.Array n) = local_array (slice_get f.arrays n)

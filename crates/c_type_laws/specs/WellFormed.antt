@@ -1,5 +1,5 @@
 -- A typed program that is well formed: what evaluation and translation may rely on.
-use Rattle.std.specs.Prelude.{◌≡◌, ℕ, ◌+◌, ◌*◌, ◌≤◌, false, List, [], ◌∷◌, Option, Some, None}
+use Rattle.std.specs.Prelude.{◌≡◌, ℕ, ◌+◌, ◌*◌, ◌≤◌, List, [], ◌∷◌, Option, Some, None}
 use Rattle.std.specs.Prelude.{length, drop, slice_get}
 use Rattle.c_tree.specs.declared.limits.TheConstants.{MOST_OBJECT_BYTES, MOST_PARAMETERS, MOST_SCALARS}
 use Rattle.c_tree.specs.declared.token.Kind.TheVariants.{Int}
@@ -11,6 +11,7 @@ use Rattle.c_tree.specs.declared.typed.TypedGlobal.{TypedGlobal}
 use Rattle.c_tree.specs.declared.typed.TypedProgram.{TypedProgram}
 use Rattle.c_tree.specs.declared.typed.TypedStmt.{out-TypedStmt}
 use Rattle.c_constant.specs.Kinds.{bytes, IsWord}
+use Rattle.c_type.specs.Statements.{nowhere}
 use Rattle.c_type_laws.specs.Statements.{WellFormedStmt}
 
 -- the condition holds of each of the list
@@ -34,9 +35,15 @@ abbrev pub all_bytes : List TypedGlobal → ℕ
 all_bytes [] = 0
 all_bytes (g ∷ gs) = global_bytes g + all_bytes gs
 
+-- an array with two sizes has whole rows, and a row has an element
+abbrev pub IsRows : Option ℕ → ℕ → Type 0
+IsRows None n = Unit {0}
+IsRows (Some r) n = (1 ≤ r) × ((m : ℕ) × (n ≡ m * r))
+
 -- an array has an element; a global holds no fewer values than it is given, each of its type
 pub record GlobalFits (g : TypedGlobal) : Type 0 where
   pub some : 1 ≤ count_of g.length
+  pub rows : IsRows g.row (count_of g.length)
   pub holds : length g.init ≤ count_of g.length
   pub words : Each (IsWord g.kind) g.init
 
@@ -45,12 +52,18 @@ pub record GlobalFits (g : TypedGlobal) : Type 0 where
 -- a local array has an element, and no more bytes than an array may have
 pub record ArrayFits (a : TypedArray) : Type 0 where
   pub some : 1 ≤ a.length
+  pub rows : IsRows a.row a.length
   pub bytes : a.length * bytes a.kind ≤ MOST_OBJECT_BYTES
 
 -- the slot holds a value, and does not stand for an array
 abbrev pub IsScalar : Slot → Type 0
 IsScalar (slot.Scalar k) = Unit {0}
-IsScalar (slot.Address k) = ⊥
+IsScalar (slot.Address k q) = ⊥
+
+-- a row of an array parameter has an element, and no more bytes than an array may have
+abbrev pub SlotFits : Slot → Type 0
+SlotFits (slot.Address k (Some n)) = (1 ≤ n) × (n * bytes k ≤ MOST_OBJECT_BYTES)
+SlotFits _ = Unit {0}
 
 -- a function that is well formed
 pub record FunctionFits (P : TypedProgram) (f : TypedFunc) : Type 0 where
@@ -60,9 +73,10 @@ pub record FunctionFits (P : TypedProgram) (f : TypedFunc) : Type 0 where
   -- no more slots than a function may have scalars, of which those after the parameters hold values
   pub scalars : length f.scalars ≤ MOST_SCALARS
   pub locals : Each IsScalar (drop f.params f.scalars)
+  pub rows : Each SlotFits f.scalars
   pub arrays : Each ArrayFits f.arrays
-  -- the body is well formed, and in no loop
-  pub body : WellFormedStmt P f false (out-TypedStmt f.body)
+  -- the body is well formed, and in no loop and no switch
+  pub body : WellFormedStmt P f nowhere (out-TypedStmt f.body)
 
 -- MAIN
 

@@ -1,20 +1,23 @@
 -- A constant expression is one of which no part is the first that is none.
-use Rattle.std.proofs.Common.{◌≡◌, ℕ, Bool, true, false, map, Some, None, refl, sym, ap, ◌∙◌, subst}
+use Rattle.std.proofs.Common.{◌≡◌, ℕ, Bool, true, false, map, Option, Some, None, refl, sym, ap, ◌∙◌, subst}
 use Rattle.std.specs.Prelude.{is_some}
 use Rattle.std.proofs.lemmas.Bool.{false≢true}
 use Rattle.c_tree.specs.declared.tree.Expr.{Expr, Expr-F, ind-Expr, roll-Expr}
 use Rattle.c_tree.specs.declared.tree.ExprNode.{ExprNode, roll-ExprNode, map-ExprNode}
 use Rattle.c_tree.specs.declared.tree.ExprNode.TheOpen.{ExprNode-F}
 use Rattle.c_tree.specs.declared.tree.ExprNode.TheVariants as node
+use Rattle.c_scope.specs.declared.meaning.Meaning.{Meaning}
+use Rattle.c_scope.specs.declared.meaning.Meaning.TheVariants as meaning
 use Rattle.c_scope.specs.Scope.{Scope, look_up}
 use Rattle.c_type_expr.specs.declared.fault.TypeFault.TheVariants.{Mismatch}
 use Rattle.c_type_expr.specs.Roles.{Blame, first, unless}
-use Rattle.c_type_expr.specs.Constants.{not_fixed, no_constant, calls_known}
+use Rattle.c_type_expr.specs.Constants.{not_fixed, name_fixed, no_constant, calls_known}
 use Rattle.c_type_expr.specs.Says.{at}
 use Rattle.c_type_expr.proofs.Fixed.{fixed-Number, fixed-Name, fixed-Element, fixed-Call}
 use Rattle.c_type_expr.proofs.Fixed.{fixed-Group, fixed-Unary, fixed-Cast, fixed-Bump, fixed-Binary}
 use Rattle.c_type_expr.proofs.Fixed.{fixed-Choice, fixed-Assign, fixed-Comma}
-use Rattle.c_type_rules.specs.Constants.{IsConstant, number, group, operator, conversion, operation, choice}
+use Rattle.c_type_rules.specs.Constants.{IsConstant, number, ending, group, operator, conversion}
+use Rattle.c_type_rules.specs.Constants.{operation, choice}
 
 -- two parts without a fault
 both : (f g : Blame) → f ≡ None → g ≡ None → first f g ≡ None
@@ -29,8 +32,10 @@ held true l e = refl
 held false l e = absurd (cc)
 
 -- no part of a constant expression is none
-pub constant_fine : (G : Scope) (e : Expr) → IsConstant e → not_fixed e G ≡ None
+pub constant_fine : (G : Scope) (e : Expr) → IsConstant G e → not_fixed e G ≡ None
 constant_fine G _ (number {l = l} {v = v} {k = k}) = fixed-Number (at l (node.Number v k)) G v k refl
+constant_fine G _ (ending {l = l} {w = w} h) =
+    fixed-Name (at l (node.Name w)) G w refl ∙ ap (λ m. name_fixed m l) h
 constant_fine G _ (group {l = l} {e = e} d) = fixed-Group (at l (node.Group e)) G e refl ∙ constant_fine G e d
 constant_fine G _ (operator {l = l} {op = op} {e = e} d) =
     fixed-Unary (at l (node.Unary op e)) G op e refl ∙ constant_fine G e d
@@ -43,12 +48,20 @@ constant_fine G _ (choice {l = l} {c = c} {x = x} {y = y} d d1 d2) =
     ∙ both _ _ (constant_fine G c d) (both _ _ (constant_fine G x d1) (constant_fine G y d2))
 
 abbrev Whole : Expr → Type 0
-Whole e = (G : Scope) → not_fixed e G ≡ None → IsConstant e
+Whole e = (G : Scope) → not_fixed e G ≡ None → IsConstant G e
 
 abbrev WholeNode : ExprNode → Type 0
 WholeNode n = (l : ℕ) → Whole (at l n)
 
--- a name is no constant, known or not
+-- a name that is a constant is that of `EOF`
+is_ending : (m : Option Meaning) (l : ℕ) → name_fixed m l ≡ None → m ≡ Some meaning.EndOfFile
+is_ending None l h = absurd (cc)
+is_ending (Some meaning.EndOfFile) l h = refl
+is_ending (Some (meaning.Scalar k p)) l h = absurd (false≢true (held false l h))
+is_ending (Some (meaning.Array k q p)) l h = absurd (false≢true (held false l h))
+is_ending (Some (meaning.Function g ps c d)) l h = absurd (false≢true (held false l h))
+
+-- another name is none, known or not
 no_name : (b : Bool) (l : ℕ) → no_constant b l ≡ None → false ≡ true
 no_name true l h = held false l h
 no_name false l h = absurd (cc)
@@ -58,12 +71,16 @@ module _ (N E : Type 0) (node_of : N → ExprNode) (of : E → Expr) (whole : (e
   at_node (ExprNode-F.Number v k) l = subst (λ n. Whole (at l n)) (sym (node.rolls-Number v k)) (λ G h. number)
   at_node (ExprNode-F.Name w) l =
       subst (λ n. Whole (at l n)) (sym (node.rolls-Name w))
+      (λ G h. ending (is_ending (look_up G w) l (sym (fixed-Name (at l (node.Name w)) G w refl) ∙ h)))
+  at_node (ExprNode-F.Element w None i) l =
+      subst (λ n. Whole (at l n)) (sym (node.rolls-Element w None (of i)))
       (λ G h. absurd (false≢true (no_name (is_some (look_up G w)) l
-      (sym (fixed-Name (at l (node.Name w)) G w refl) ∙ h))))
-  at_node (ExprNode-F.Element w i) l =
-      subst (λ n. Whole (at l n)) (sym (node.rolls-Element w (of i)))
+      (split _ _ (sym (fixed-Element (at l (node.Element w None (of i))) G w None (of i) refl) ∙ h)).1)))
+  at_node (ExprNode-F.Element w (Some x) i) l =
+      subst (λ n. Whole (at l n)) (sym (node.rolls-Element w (Some (of x)) (of i)))
       (λ G h. absurd (false≢true (no_name (is_some (look_up G w)) l
-      (split _ _ (sym (fixed-Element (at l (node.Element w (of i))) G w (of i) refl) ∙ h)).1)))
+      (split _ _ (split _ _ (sym (fixed-Element (at l (node.Element w (Some (of x)) (of i))) G w (Some (of x)) (of i)
+      refl) ∙ h)).1).1)))
   at_node (ExprNode-F.Call w es) l =
       subst (λ n. Whole (at l n)) (sym (node.rolls-Call w (map of es)))
       (λ G h. absurd (false≢true (no_name (calls_known (look_up G w)) l

@@ -6,7 +6,8 @@ use Rattle.c_type_expr.specs.Roles.{Blame, first}
 use Rattle.c_type_rules.specs.Judgements.{Judgement, a_test}
 use Rattle.c_type_rules.specs.Order.{parts}
 use Rattle.c_type_rules.specs.FirstFaults.{Passes, AllPass, FirstFault, fails, inside}
-use Rattle.c_type_rules.proofs.Follows.{fault_of, first_of, Follows, follows}
+use Rattle.c_type_rules.proofs.FollowsParts.{fault_of, first_of}
+use Rattle.c_type_rules.proofs.Follows.{Follows, follows}
 use Rattle.c_type_rules.proofs.Passing.{passes_none, none_passes}
 
 -- ---- from the relation to the folds

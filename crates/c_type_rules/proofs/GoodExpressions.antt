@@ -1,11 +1,11 @@
 -- A fault that the folds find in an expression is its first one in the order of the text.
-use Rattle.std.proofs.Common.{ℕ, List, [], ◌∷◌, map, Option, Some, None, refl, sym, subst, length}
+use Rattle.std.proofs.Common.{ℕ, true, false, List, [], ◌∷◌, map, Option, Some, None, refl, sym, subst, length}
 use Rattle.std.specs.Prelude.{is_some}
 use Rattle.c_tree.specs.declared.tree.Expr.{Expr, Expr-F, ind-Expr, roll-Expr}
 use Rattle.c_tree.specs.declared.tree.ExprNode.{ExprNode, roll-ExprNode, out-roll-ExprNode, map-ExprNode}
 use Rattle.c_tree.specs.declared.tree.ExprNode.TheOpen.{ExprNode-F}
 use Rattle.c_tree.specs.declared.typed.Slot.{Slot}
-use Rattle.c_constant.specs.Constant.{constant}
+use Rattle.c_constant.specs.Constant.{constant, ends}
 use Rattle.c_scope.specs.Scope.{Scope, look_up}
 use Rattle.c_type_expr.specs.declared.fault.TypeFault.TheVariants.{Mismatch}
 use Rattle.c_type_expr.specs.declared.role.Role.{Role}
@@ -20,7 +20,7 @@ use Rattle.c_type_rules.specs.Judgements.{expression_parts, constant_parts}
 use Rattle.c_type_rules.proofs.Follows.{follows}
 use Rattle.c_type_rules.proofs.FirstFaults.{Good, AllGood, Sane, good_append, good_by, test_good}
 use Rattle.c_type_rules.proofs.SaneTests.{sane_unless, sane_value, sane_name, sane_element}
-use Rattle.c_type_rules.proofs.SaneTests.{sane_call, sane_constant, sane_word, sane_need}
+use Rattle.c_type_rules.proofs.SaneTests.{sane_call, sane_named, sane_constant, sane_word, sane_need}
 
 -- good in each role, and as a constant expression
 record GoodExpr (e : Expr) : Type 0 where
@@ -60,8 +60,10 @@ module _ (N E : Type 0) (node_of : N → ExprNode) (of : E → Expr) (good : (e 
       → AllGood (expression_parts G r l (map-ExprNode N E ExprNode Expr node_of of y))
   each_part G r l (ExprNode-F.Number v k) = value_last r l
   each_part G r l (ExprNode-F.Name w) = last _ (sane_name (look_up G w) r l)
-  each_part G r l (ExprNode-F.Element w i) =
-      ((good i).asked G Value, last _ (sane_element (look_up G w) r l))
+  each_part G r l (ExprNode-F.Element w None i) =
+      ((good i).asked G Value, last _ (sane_element (look_up G w) false r l))
+  each_part G r l (ExprNode-F.Element w (Some x) i) =
+      ((good x).asked G Value, ((good i).asked G Value, last _ (sane_element (look_up G w) true r l)))
   each_part G r l (ExprNode-F.Call w es) =
       good_append (argument_parts G (slots_of (look_up G w)) (map of es)) _
       (arguments_good G (slots_of (look_up G w)) es)
@@ -85,9 +87,11 @@ module _ (N E : Type 0) (node_of : N → ExprNode) (of : E → Expr) (good : (e 
   each_constant : (G : Scope) (l : ℕ) (y : ExprNode-F N E)
       → AllGood (constant_parts G l (map-ExprNode N E ExprNode Expr node_of of y))
   each_constant G l (ExprNode-F.Number v k) = tt
-  each_constant G l (ExprNode-F.Name w) = last _ (sane_constant (is_some (look_up G w)) l)
-  each_constant G l (ExprNode-F.Element w i) =
+  each_constant G l (ExprNode-F.Name w) = last _ (sane_named (look_up G w) l)
+  each_constant G l (ExprNode-F.Element w None i) =
       ((good i).fixed G, last _ (sane_constant (is_some (look_up G w)) l))
+  each_constant G l (ExprNode-F.Element w (Some x) i) =
+      ((good x).fixed G, ((good i).fixed G, last _ (sane_constant (is_some (look_up G w)) l)))
   each_constant G l (ExprNode-F.Call w es) =
       good_append (map (a_constant G) (map of es)) _ (constants_good G es)
       (last _ (sane_constant (calls_known (look_up G w)) l))
@@ -131,7 +135,7 @@ optional_good G r (Some e) = good_by (an_optional G r (Some e)) refl (full_good 
 pub full_constant_good : (G : Scope) (e : Expr) → Good (a_full_constant G e)
 full_constant_good G e =
     good_by (a_full_constant G e) refl
-    ((good_expr e).fixed G, (test_good _ (sane_word (constant [] e).value e.line), last _ (sane_need e)))
+    ((good_expr e).fixed G, (test_good _ (sane_word (constant ends e).value e.line), last _ (sane_need e)))
 
 pub size_good : (G : Scope) (e : Expr) → Good (a_size G e)
 size_good G e = good_by (a_size G e) refl ((good_expr e).fixed G, last _ (sane_word (length_of e) e.line))

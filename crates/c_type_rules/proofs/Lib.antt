@@ -1,10 +1,16 @@
 pub mod Tests
 pub mod Definitions
 pub mod Constants
+pub mod SoundParts
 pub mod Sound
+pub mod CompleteParts
 pub mod Complete
+pub mod Lengths
+pub mod GlobalsSound
 pub mod UnitsSound
+pub mod GlobalsComplete
 pub mod UnitsComplete
+pub mod FollowsParts
 pub mod Follows
 pub mod Passing
 pub mod FirstFaults

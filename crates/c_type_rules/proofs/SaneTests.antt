@@ -2,6 +2,7 @@
 use Rattle.std.proofs.Common.{ℕ, Bool, true, false, List, [], length, Option, Some, None, nat_eq}
 use Rattle.std.specs.Prelude.{not, is_some, ◌||◌, ◌&&◌}
 use Rattle.c_tree.specs.declared.token.Kind.{Kind}
+use Rattle.c_tree.specs.declared.tree.ArraySize.{ArraySize}
 use Rattle.c_tree.specs.declared.tree.ArraySize.TheVariants as size
 use Rattle.c_tree.specs.declared.tree.Expr.{Expr}
 use Rattle.c_tree.specs.declared.tree.Param.{Param}
@@ -17,7 +18,7 @@ use Rattle.c_type_expr.specs.declared.fault.TypeFault.TheVariants.{TooManyScalar
 use Rattle.c_type_expr.specs.declared.role.Role.{Role}
 use Rattle.c_type_expr.specs.Roles.{Blame, first, unless, takes_value, takes_element}
 use Rattle.c_type_expr.specs.Faults.{unwanted_value, takes_name, takes_result, name_fault}
-use Rattle.c_type_expr.specs.Faults.{element_fault, callee_fault, call_fault}
+use Rattle.c_type_expr.specs.Faults.{fits_sizes, element_fault, callee_fault, call_fault}
 use Rattle.c_type_expr.specs.Constants as constants
 use Rattle.c_type.specs.declared.file_scope.FileScope.{FileScope}
 use Rattle.c_type.specs.declared.state.State.{State}
@@ -49,12 +50,13 @@ pub sane_name : (m : Option Meaning) (r : Role) (l : ℕ) → Sane (name_fault m
 sane_name None r l = tt
 sane_name (Some m) r l = sane_unless (takes_name m r) (Mismatch l) tt
 
-pub sane_element : (m : Option Meaning) (r : Role) (l : ℕ) → Sane (element_fault m r l)
-sane_element None r l = tt
-sane_element (Some (meaning.Array k p)) r l = sane_unless (takes_element r) (Mismatch l) tt
-sane_element (Some (meaning.Scalar k p)) r l = tt
-sane_element (Some (meaning.Function g ps c d)) r l = tt
-sane_element (Some meaning.EndOfFile) r l = tt
+pub sane_element : (m : Option Meaning) (two : Bool) (r : Role) (l : ℕ) → Sane (element_fault m two r l)
+sane_element None two r l = tt
+sane_element (Some (meaning.Array k q p)) two r l =
+    sane_unless (fits_sizes q two && takes_element r) (Mismatch l) tt
+sane_element (Some (meaning.Scalar k p)) two r l = tt
+sane_element (Some (meaning.Function g ps c d)) two r l = tt
+sane_element (Some meaning.EndOfFile) two r l = tt
 
 sane_callee : (c : Option Callee) (g : Option Kind) (ps : List Slot) (n : ℕ) (r : Role) (l : ℕ)
     → Sane (callee_fault c g ps n r l)
@@ -66,12 +68,19 @@ pub sane_call : (m : Option Meaning) (n : ℕ) (r : Role) (l : ℕ) → Sane (ca
 sane_call None n r l = tt
 sane_call (Some (meaning.Function g ps c d)) n r l = sane_callee c g ps n r l
 sane_call (Some (meaning.Scalar k p)) n r l = tt
-sane_call (Some (meaning.Array k p)) n r l = tt
+sane_call (Some (meaning.Array k q p)) n r l = tt
 sane_call (Some meaning.EndOfFile) n r l = tt
 
 pub sane_constant : (b : Bool) (l : ℕ) → Sane (constants.no_constant b l)
 sane_constant true l = tt
 sane_constant false l = tt
+
+pub sane_named : (m : Option Meaning) (l : ℕ) → Sane (constants.name_fixed m l)
+sane_named None l = tt
+sane_named (Some meaning.EndOfFile) l = tt
+sane_named (Some (meaning.Scalar k p)) l = tt
+sane_named (Some (meaning.Array k q p)) l = tt
+sane_named (Some (meaning.Function g ps c d)) l = tt
 
 pub sane_word : (o : Option ℕ) (l : ℕ) → Sane (constants.value_fault o l)
 sane_word o l = sane_unless (is_some o) (Mismatch l) tt
@@ -109,11 +118,17 @@ sane_param d G seen None l = sane_unless (not d) (Mismatch l) tt
 sane_param d G seen (Some w) l =
     sane_unless (not (named_among seen w || is_end (look_up G w))) (Twice l) tt
 
+pub sane_row_bytes : (s : ArraySize) (k : Kind) (l : ℕ) → Sane (functions.row_bytes_fault s k l)
+sane_row_bytes size.Scalar k l = tt
+sane_row_bytes size.Open k l = tt
+sane_row_bytes (size.Sized e) k l = tt
+sane_row_bytes (size.Rows o e) k l = sane_unless _ (TooLarge l) tt
+
 sane_defined : (d : Bool) (m : Option Meaning) (l : ℕ) → Sane (defined_fault d m l)
 sane_defined d None l = tt
 sane_defined d (Some (meaning.Function g ps c s)) l = sane_unless (not (d && s)) (Twice l) tt
 sane_defined d (Some (meaning.Scalar k p)) l = tt
-sane_defined d (Some (meaning.Array k p)) l = tt
+sane_defined d (Some (meaning.Array k q p)) l = tt
 sane_defined d (Some meaning.EndOfFile) l = tt
 
 sane_type : (g : Option Kind) (ps : List Slot) (m : Option Meaning) (l : ℕ) → Sane (type_fault g ps m l)
@@ -121,7 +136,7 @@ sane_type g ps None l = tt
 sane_type g ps (Some (meaning.Function h qs c s)) l =
     sane_unless (same_result h g && same_slots qs ps) (Mismatch l) tt
 sane_type g ps (Some (meaning.Scalar k p)) l = tt
-sane_type g ps (Some (meaning.Array k p)) l = tt
+sane_type g ps (Some (meaning.Array k q p)) l = tt
 sane_type g ps (Some meaning.EndOfFile) l = tt
 
 pub sane_function : (d : Bool) (g : Option Kind) (ps : List Slot) (m : Option Meaning) (l : ℕ)

@@ -1,5 +1,5 @@
 -- An item, or a unit, without a fault has by the rules what the definitions compute.
-use Rattle.std.proofs.Common.{◌≡◌, ℕ, Bool, true, false, List, [], ◌∷◌, ◌++◌, map, Option, Some}
+use Rattle.std.proofs.Common.{◌≡◌, ℕ, ◌<◌, Bool, true, false, List, [], ◌∷◌, ◌++◌, map, length, Option, Some}
 use Rattle.std.proofs.Common.{None, refl, sym, ap, ◌∙◌, subst}
 use Rattle.std.specs.Prelude.{◌&&◌, cond, is_some}
 use Rattle.std.proofs.lemmas.Bool.{false≢true}
@@ -7,9 +7,9 @@ use Rattle.c_tree.specs.declared.token.Kind.{Kind}
 use Rattle.c_tree.specs.declared.token.Kind.TheVariants.{Int}
 use Rattle.c_tree.specs.declared.tree.ArraySize.{ArraySize}
 use Rattle.c_tree.specs.declared.tree.ArraySize.TheVariants as size
-use Rattle.c_tree.specs.declared.tree.Expr.{Expr}
 use Rattle.c_tree.specs.declared.tree.Param.{Param}
 use Rattle.c_tree.specs.declared.tree.Program.{Program}
+use Rattle.c_tree.specs.declared.tree.Section.{Section}
 use Rattle.c_tree.specs.declared.tree.Stmt.{Stmt}
 use Rattle.c_tree.specs.declared.tree.StmtNode.{StmtNode, out-StmtNode, roll-StmtNode, roll-out-StmtNode}
 use Rattle.c_tree.specs.declared.tree.StmtNode.TheVariants as node
@@ -20,16 +20,13 @@ use Rattle.c_tree.specs.declared.tree.TopNode.{TopNode}
 use Rattle.c_tree.specs.declared.tree.TopNode.TheVariants.{Include, Global, Func}
 use Rattle.c_tree.specs.declared.typed.Callee.{Callee}
 use Rattle.c_tree.specs.declared.typed.Slot.{Slot}
-use Rattle.c_constant.specs.Kinds.{converted}
-use Rattle.c_constant.specs.Constant.{constant}
-use Rattle.c_constant.specs.Need.{need_fits}
 use Rattle.c_scope.specs.declared.meaning.Meaning.{Meaning}
 use Rattle.c_scope.specs.declared.meaning.Meaning.TheVariants as meaning
 use Rattle.c_scope.specs.Scope.{Scope, look_up}
 use Rattle.c_type_expr.specs.declared.fault.TypeFault.{TypeFault}
 use Rattle.c_type_expr.specs.declared.fault.TypeFault.TheVariants.{Twice}
 use Rattle.c_type_expr.specs.declared.fault.TypeFault.TheVariants as fault
-use Rattle.c_type_expr.specs.Constants.{not_fixed, length_of, word_in, constant_at}
+use Rattle.c_type_expr.specs.Constants.{length_of}
 use Rattle.c_type_expr.specs.Roles.{Blame}
 use Rattle.c_type_expr.specs.Says.{Stops}
 use Rattle.c_type.specs.declared.file_scope.FileScope.{FileScope}
@@ -37,52 +34,30 @@ use Rattle.c_type.specs.declared.state.State.{State}
 use Rattle.c_type.specs.States.{at}
 use Rattle.c_type.specs.Declarations.{is_end}
 use Rattle.c_type.specs.Units.{eof_name, getchar_name, putchar_name, int_slots, with_include}
-use Rattle.c_type.specs.Units.{include_clash, global_names, count_of, count_fault, values_fault}
+use Rattle.c_type.specs.Units.{include_clash, global_names}
 use Rattle.c_type.specs.Units.{function_fault, same_result, same_slots}
 use Rattle.c_type.specs.Functions.{slot_of, named_among, params_fault, name_fault, head_fault}
+use Rattle.c_type.specs.Functions.{param_fault, row_fault, row_bytes_fault, with_params, started}
 use Rattle.c_type.specs.Functions.{entry, body_part, callee_in}
-use Rattle.c_type.specs.Statements.{Part}
+use Rattle.c_type.specs.Statements.{Part, nowhere}
 use Rattle.c_type.specs.Programs.{table, empty_file, is_int, no_slots, is_main, node_fault}
 use Rattle.c_type.specs.Programs.{node_after, item_after, items_fault, items_after, program_fault}
 use Rattle.c_type.specs.Programs.{program_tree}
-use Rattle.c_type_rules.specs.Units.{Values, Count, Named, Params, Agrees, Heads, is_block, Body}
-use Rattle.c_type_rules.specs.Units.{Item, Items, Accepts, no_value, one_value, single, counted}
-use Rattle.c_type_rules.specs.Units.{sized, unnamed, named, no_param, one_param, fresh, again}
+use Rattle.c_type_rules.specs.Units.{Row}
+use Rattle.c_type_rules.specs.Units.{no_row_size, row_size}
+use Rattle.c_type_rules.specs.Units.{Named, Params, Agrees, Heads, is_block, Body}
+use Rattle.c_type_rules.specs.Units.{Item, Items, Accepts}
+use Rattle.c_type_rules.specs.Units.{unnamed, named, no_param, one_param, fresh, again}
 use Rattle.c_type_rules.specs.Units.{outermost, other, include, include_again, global, prototype}
 use Rattle.c_type_rules.specs.Units.{definition, no_item, one_item, accepts}
-use Rattle.c_type_rules.proofs.Constants.{constant_typed}
-use Rattle.c_type_rules.proofs.Sound.{both}
-use Rattle.c_type_rules.proofs.Complete.{split, held, not_held, less, at_most, sized_typed, whole_stmt, whole_all}
+use Rattle.c_type_rules.proofs.SoundParts.{both}
+use Rattle.c_type_rules.proofs.CompleteParts.{split, held, not_held, less, at_most, sized_typed}
+use Rattle.c_type_rules.proofs.Complete.{whole_stmt, whole_all}
 use Rattle.c_type_rules.proofs.UnitsSound.{block_body, plain_body}
 use Rattle.c_type_rules.proofs.Definitions.{called}
 use Rattle.c_constant.proofs.SameKinds.{kinds_are}
 use Rattle.c_type_rules.proofs.Tests.{both_hold, neither_holds, params_are, results_are}
-
--- a value without a fault has its word by the rules, before others
-value_typed : (G : Scope) (k : Kind) (e : Expr) (es : List Expr) (o : Option ℕ) → (constant [] e).value ≡ o
-    → not_fixed e G ≡ None → is_some o ≡ true → need_fits e ≡ true → Values k es (map (constant_at k) es)
-    → Values k (e ∷ es) (map (constant_at k) (e ∷ es))
-value_typed G k e es None v f h n d = absurd (false≢true h)
-value_typed G k e es (Some w) v f h n d =
-    subst (λ o. Values k (e ∷ es) (converted k (word_in o) ∷ map (constant_at k) es)) (sym v)
-    (one_value (constant_typed e G f) v n d)
-
--- values without a fault have their words by the rules
-pub values_typed : (G : Scope) (k : Kind) (es : List Expr) → values_fault es G ≡ None
-    → Values k es (map (constant_at k) es)
-values_typed G k [] h = no_value
-values_typed G k (e ∷ es) h =
-    let q = split _ _ h in
-    let r = split _ _ q.0 in
-    let u = split _ _ r.1 in
-    value_typed G k e es (constant [] e).value refl r.0 (held _ _ u.0) (held _ _ u.1) (values_typed G k es q.1)
-
--- what a global holds has its count by the rules
-count_typed : (G : Scope) (init : List Expr) (s : ArraySize) (l : ℕ) → count_fault s init l G ≡ None
-    → Count init s (count_of s init)
-count_typed G init size.Scalar l h = single
-count_typed G init size.Open l h = counted (less _ _ (held _ _ h))
-count_typed G init (size.Sized e) l h = sized (sized_typed G e (length_of e) refl h)
+use Rattle.c_type_rules.proofs.GlobalsComplete.{count_typed, init_typed}
 
 -- a parameter's name without a fault is one by the rules
 pub named_typed : (d : Bool) (G : Scope) (seen : List Param) (o : Option (List ℕ)) (l : ℕ)
@@ -91,14 +66,35 @@ named_typed d G seen None l h = unnamed (not_held _ _ h)
 named_typed d G seen (Some w) l h =
     let q = neither_holds (named_among seen w) (is_end (look_up G w)) (not_held _ _ h) in named q.0 q.1
 
+-- a second size without a fault is one by the rules
+pub row_typed : (G : Scope) (seen : List Param) (k : Kind) (s : ArraySize) (l : ℕ) → row_fault s G seen ≡ None
+    → row_bytes_fault s k l ≡ None → Row G seen k s
+row_typed G seen k size.Scalar l h b = no_row_size refl
+row_typed G seen k size.Open l h b = no_row_size refl
+row_typed G seen k (size.Sized e) l h b = no_row_size refl
+row_typed G seen k (size.Rows o e) l h b =
+    row_size (sized_typed (with_params seen (started G None)).names e (length_of e) refl h)
+    (at_most _ _ (held _ _ b))
+
+-- a parameter without a fault is one by the rules
+pub param_typed : (d : Bool) (G : Scope) (seen : List Param) (p : Param) → param_fault d G seen p ≡ None
+    → Row G seen p.kind p.size × Named d G seen p.name × (length seen < 8)
+param_typed d G seen p h =
+    let q = split _ _ h in
+    let r = split _ _ q.1 in
+    let u = split _ _ r.1 in (
+      row_typed G seen p.kind p.size p.line q.0 u.1,
+      named_typed d G seen p.name p.line r.0,
+      less _ _ (held _ _ u.0),
+    )
+
 -- parameters without a fault are some by the rules
 pub params_typed : (d : Bool) (G : Scope) (seen ps : List Param) → params_fault d G seen ps ≡ None → Params d G seen ps
 params_typed d G seen [] h = no_param
 params_typed d G seen (p ∷ ps) h =
     let q = split _ _ h in
-    let r = split _ _ q.0 in
-    one_param (named_typed d G seen p.name p.line r.0) (less _ _ (held _ _ r.1))
-    (params_typed d G (seen ++ p ∷ []) ps q.1)
+    let r = param_typed d G seen p q.0 in
+    one_param r.0 r.1 r.2 (params_typed d G (seen ++ p ∷ []) ps q.1)
 
 -- a function without a fault agrees with what its name means
 agrees_typed : (d : Bool) (r : Option Kind) (ss : List Slot) (m : Option Meaning) (l : ℕ)
@@ -106,7 +102,7 @@ agrees_typed : (d : Bool) (r : Option Kind) (ss : List Slot) (m : Option Meaning
 agrees_typed d r ss None l h = fresh
 agrees_typed d r ss (Some (meaning.Scalar k p)) l h =
     absurd (false≢true (held false (Twice l) (split (Some (Twice l)) None h).0))
-agrees_typed d r ss (Some (meaning.Array k p)) l h =
+agrees_typed d r ss (Some (meaning.Array k q p)) l h =
     absurd (false≢true (held false (Twice l) (split (Some (Twice l)) None h).0))
 agrees_typed d r ss (Some meaning.EndOfFile) l h =
     absurd (false≢true (held false (Twice l) (split (Some (Twice l)) None h).0))
@@ -125,19 +121,19 @@ heads_typed d r w ps l G h =
 
 abbrev WholeBody : Stmt → Type 0
 WholeBody s =
-    (v : State) → (body_part s).fault false v ≡ None → Body v s ((body_part s).tree v) ((body_part s).after v)
+    (v : State) → (body_part s).fault nowhere v ≡ None → Body v s ((body_part s).tree v) ((body_part s).after v)
 
 block_whole : (l : ℕ) (ss : List Stmt) → WholeBody (at l (node.Compound ss))
 block_whole l ss v =
-    subst (λ (p : Part). p.fault false v ≡ None → Body v (at l (node.Compound ss)) (p.tree v) (p.after v))
-    (sym (block_body l ss)) (λ h. outermost (whole_all false v ss h))
+    subst (λ (p : Part). p.fault nowhere v ≡ None → Body v (at l (node.Compound ss)) (p.tree v) (p.after v))
+    (sym (block_body l ss)) (λ h. outermost (whole_all nowhere v ss h))
 
 other_whole : (s : Stmt) → is_block (out-StmtNode s.node) ≡ false → WholeBody s
 other_whole s e v =
-    subst (λ (p : Part). p.fault false v ≡ None → Body v s (p.tree v) (p.after v))
-    (sym (plain_body s e)) (λ h. other e (whole_stmt s false v h))
+    subst (λ (p : Part). p.fault nowhere v ≡ None → Body v s (p.tree v) (p.after v))
+    (sym (plain_body s e)) (λ h. other e (whole_stmt s nowhere v h))
 
-whole_in : (s : Stmt) (x : StmtNode-F ForInit StmtNode Stmt) → out-StmtNode s.node ≡ x → WholeBody s
+whole_in : (s : Stmt) (x : StmtNode-F ForInit StmtNode Section Stmt) → out-StmtNode s.node ≡ x → WholeBody s
 whole_in s (StmtNode-F.Compound ss) e =
     subst (λ n. WholeBody (at s.line n))
     (sym (sym (roll-out-StmtNode s.node) ∙ ap roll-StmtNode e ∙ node.rolls-Compound ss)) (block_whole s.line ss)
@@ -171,7 +167,7 @@ item_typed unit l U (Global k w s init) h =
     let u = split _ _ r.1 in
     let y = split _ _ q.1 in
     global (count_typed U.names init s l r.0) (not_held _ _ u.0) (at_most _ _ (held _ _ u.1))
-    (values_typed (global_names s k w U) k init y.0) (at_most _ _ (held _ _ y.1))
+    (init_typed (global_names s k w U) U.names k s init l r.0 y.0 (held _ _ y.1))
 item_typed unit l U (Func given w params None) h =
     prototype (called unit w) (heads_typed false given w params l U.names h)
 item_typed unit l U (Func given w params (Some s)) h =
@@ -206,7 +202,7 @@ function_is (Some k) [] c d h h' e =
 main_is : (m : Option Meaning) → is_main m ≡ true → m ≡ Some (meaning.Function (Some Int) [] (callee_in m) true)
 main_is None h = absurd (false≢true h)
 main_is (Some (meaning.Scalar k p)) h = absurd (false≢true h)
-main_is (Some (meaning.Array k p)) h = absurd (false≢true h)
+main_is (Some (meaning.Array k q p)) h = absurd (false≢true h)
 main_is (Some meaning.EndOfFile) h = absurd (false≢true h)
 main_is (Some (meaning.Function r ps c d)) h =
     let q = main_parts (is_int r) (no_slots ps) d h in function_is r ps c d q.0 q.1 q.2

@@ -1,14 +1,15 @@
 -- What the rules give an item, or a unit, has no fault, and is what the definitions compute.
-use Rattle.std.proofs.Common.{◌≡◌, ℕ, ◌+◌, ◌*◌, ◌≤◌, Bool, true, false, not, List, [], ◌∷◌, ◌++◌}
+use Rattle.std.proofs.Common.{◌≡◌, ℕ, ◌+◌, ◌*◌, ◌≤◌, ◌<◌, Bool, true, false, not, List, [], ◌∷◌, ◌++◌}
 use Rattle.std.proofs.Common.{map, length, Option, Some, None, refl, sym, ap, ◌∙◌, subst}
 use Rattle.std.specs.Prelude.{◌&&◌, ◌||◌, cond}
 use Rattle.std.proofs.lemmas.Bool.{false≢true}
 use Rattle.c_tree.specs.declared.token.Kind.{Kind}
 use Rattle.c_tree.specs.declared.token.Kind.TheVariants.{Int}
 use Rattle.c_tree.specs.declared.tree.ArraySize.{ArraySize}
-use Rattle.c_tree.specs.declared.tree.Expr.{Expr}
+use Rattle.c_tree.specs.declared.tree.ArraySize.TheVariants as size
 use Rattle.c_tree.specs.declared.tree.Param.{Param}
 use Rattle.c_tree.specs.declared.tree.Program.{Program}
+use Rattle.c_tree.specs.declared.tree.Section.{Section}
 use Rattle.c_tree.specs.declared.tree.Stmt.{Stmt}
 use Rattle.c_tree.specs.declared.tree.StmtNode.{StmtNode, out-StmtNode, out-roll-StmtNode}
 use Rattle.c_tree.specs.declared.tree.StmtNode.TheVariants as node
@@ -20,57 +21,41 @@ use Rattle.c_tree.specs.declared.typed.Slot.{Slot}
 use Rattle.c_tree.specs.declared.typed.TypedProgram.{TypedProgram}
 use Rattle.c_tree.specs.declared.typed.TypedStmt.{TypedStmt}
 use Rattle.c_tree.specs.declared.typed.TypedStmt.TheVariants as typed
-use Rattle.c_constant.specs.Kinds.{converted}
-use Rattle.c_constant.specs.Need.{need_fits}
 use Rattle.c_scope.specs.declared.meaning.Meaning.{Meaning}
 use Rattle.c_scope.specs.Scope.{Scope, look_up, is_here, closed}
 use Rattle.c_type_expr.specs.declared.fault.TypeFault.TheVariants.{Twice, Mismatch, TooManyParams}
-use Rattle.c_type_expr.specs.declared.fault.TypeFault.TheVariants.{TooLarge, Need, NoMain}
+use Rattle.c_type_expr.specs.declared.fault.TypeFault.TheVariants.{TooLarge, NoMain}
 use Rattle.c_type_expr.specs.Roles.{unless}
-use Rattle.c_type_expr.specs.Constants.{word_in, value_fault, constant_at}
+use Rattle.c_type_expr.specs.Constants.{word_in}
 use Rattle.c_type.specs.declared.file_scope.FileScope.{FileScope}
 use Rattle.c_type.specs.declared.state.State.{State}
 use Rattle.c_type.specs.States.{at}
 use Rattle.c_constant.specs.Kinds.{bytes}
-use Rattle.c_type.specs.Declarations.{is_end, is_taken}
+use Rattle.c_type.specs.Declarations.{is_end, is_taken, row_in}
 use Rattle.c_type.specs.Units.{eof_name, getchar_name, putchar_name, int_slots, with_include}
-use Rattle.c_type.specs.Units.{include_clash, global_names, length_in, count_of, count_fault}
-use Rattle.c_type.specs.Units.{values_fault, function_fault, same_slots}
-use Rattle.c_type.specs.Functions.{slot_of, params_fault, name_fault, head_fault, body_entry, entry}
-use Rattle.c_type.specs.Functions.{body_in, body_part, callee_in}
+use Rattle.c_type.specs.Units.{include_clash, global_names, length_in, count_of}
+use Rattle.c_type.specs.Units.{function_fault, same_slots}
+use Rattle.c_type.specs.Functions.{slot_of, params_fault, name_fault, row_fault, row_bytes_fault, head_fault}
+use Rattle.c_type.specs.Functions.{body_entry, entry, with_params, started}
+use Rattle.c_type.specs.Functions.{param_fault, body_in, body_part, callee_in}
 use Rattle.c_type.specs.Signatures.{prototype_names}
-use Rattle.c_type.specs.Statements.{Part, part}
+use Rattle.c_type.specs.Statements.{Part, part, nowhere}
 use Rattle.c_type.specs.Programs.{table, empty_file, main_name, number_in, is_main, node_fault}
 use Rattle.c_type.specs.Programs.{node_after, items_fault, items_after, whole, program_fault}
 use Rattle.c_type.specs.Programs.{program_tree}
-use Rattle.c_type_rules.specs.Units.{Values, Count, Named, Params, Agrees, Heads, is_block, Body}
-use Rattle.c_type_rules.specs.Units.{Item, Items, Accepts, typed_function, no_value, one_value}
-use Rattle.c_type_rules.specs.Units.{single, counted, sized, unnamed, named, no_param, one_param}
+use Rattle.c_type_rules.specs.Units.{Row}
+use Rattle.c_type_rules.specs.Units.{no_row_size, row_size}
+use Rattle.c_type_rules.specs.Units.{Named, Params, Agrees, Heads, is_block, Body}
+use Rattle.c_type_rules.specs.Units.{Item, Items, Accepts, typed_function}
+use Rattle.c_type_rules.specs.Units.{unnamed, named, no_param, one_param}
 use Rattle.c_type_rules.specs.Units.{fresh, again, outermost, other, include, include_again, global}
 use Rattle.c_type_rules.specs.Units.{prototype, definition, no_item, one_item, accepts}
-use Rattle.c_type_rules.proofs.Constants.{constant_fine}
-use Rattle.c_type_rules.proofs.Sound.{both, fine, free, size_fine, less, at_most, types_fine, all_fine}
-use Rattle.c_type_rules.proofs.Complete.{split}
+use Rattle.c_type_rules.proofs.SoundParts.{both, fine, free, size_fine, less, at_most}
+use Rattle.c_type_rules.proofs.Sound.{types_fine, all_fine}
+use Rattle.c_type_rules.proofs.CompleteParts.{split}
 use Rattle.c_type_rules.proofs.Definitions.{calls_is}
 use Rattle.c_type_rules.proofs.Tests.{neither_holds, result_itself, params_themselves}
-
--- the values of a global have no fault, and their words
-pub values_fine : (G : Scope) (k : Kind) (es : List Expr) (ns : List ℕ) → Values k es ns
-    → (values_fault es G ≡ None) × (ns ≡ map (constant_at k) es)
-values_fine G k _ _ no_value = (refl, refl)
-values_fine G k _ _ (one_value {e = e} {n = n} {es = es} {ns = ns} f v n' d) =
-    let s = values_fine G k es ns d in (
-      both _ _ (both _ _ (constant_fine G e f) (both _ _ (ap (λ o. value_fault o e.line) v)
-          (fine (need_fits e) (Need e.line) n'))) s.0,
-      ap (λ o. converted k (word_in o) ∷ ns) (sym v) ∙ ap (λ ns. constant_at k e ∷ ns) s.1,
-    )
-
--- what a global holds has no fault, and its count
-count_fine : (G : Scope) (init : List Expr) (s : ArraySize) (n : ℕ) (l : ℕ) → Count init s n
-    → (count_fault s init l G ≡ None) × (n ≡ count_of s init)
-count_fine G init _ _ l single = (refl, refl)
-count_fine G init _ _ l (counted h) = (fine _ (Mismatch l) (less _ _ h), refl)
-count_fine G init _ _ l (sized {e = e} {n = n} s) = (size_fine G e n s, ap word_in (sym s.1))
+use Rattle.c_type_rules.proofs.GlobalsSound.{count_fine, init_fine}
 
 -- a parameter's name has no fault
 pub named_fine : (d : Bool) (G : Scope) (seen : List Param) (o : Option (List ℕ)) (l : ℕ) → Named d G seen o
@@ -79,12 +64,36 @@ named_fine d G seen _ l (unnamed h) = fine _ (Mismatch l) (ap not h)
 named_fine d G seen _ l (named {w = w} h h') =
     fine _ (Twice l) (ap (λ b. not (b || is_end (look_up G w))) h ∙ ap not h')
 
+-- the second size of an array parameter has no fault
+row_in_fine : (G : Scope) (seen : List Param) (k : Kind) (s : ArraySize) (l : ℕ) → row_in s ≡ None
+    → (row_fault s G seen ≡ None) × (row_bytes_fault s k l ≡ None)
+row_in_fine G seen k size.Scalar l h = (refl, refl)
+row_in_fine G seen k size.Open l h = (refl, refl)
+row_in_fine G seen k (size.Sized e) l h = (refl, refl)
+row_in_fine G seen k (size.Rows o e) l h = absurd (cc)
+
+pub row_fine : (G : Scope) (seen : List Param) (k : Kind) (s : ArraySize) (l : ℕ) → Row G seen k s
+    → (row_fault s G seen ≡ None) × (row_bytes_fault s k l ≡ None)
+row_fine G seen k _ l (no_row_size {s = s} h) = row_in_fine G seen k s l h
+row_fine G seen k _ l (row_size {o = o} {e = e} {n = n} s h) = (
+  size_fine (with_params seen (started G None)).names e n s,
+  fine _ (TooLarge l) (at_most _ _ (subst (λ x. word_in x * bytes k ≤ 1048576) (sym s.1) h)),
+)
+
+-- a parameter has no fault
+pub param_fine : (d : Bool) (G : Scope) (seen : List Param) (p : Param) → Row G seen p.kind p.size
+    → Named d G seen p.name → length seen < 8 → param_fault d G seen p ≡ None
+param_fine d G seen p x n h =
+    let r = row_fine G seen p.kind p.size p.line x in
+    both _ _ r.0
+    (both _ _ (named_fine d G seen p.name p.line n)
+    (both _ _ (fine _ (TooManyParams p.line) (less _ _ h)) r.1))
+
 -- parameters have no fault
 pub params_fine : (d : Bool) (G : Scope) (seen ps : List Param) → Params d G seen ps → params_fault d G seen ps ≡ None
 params_fine d G _ _ no_param = refl
-params_fine d G _ _ (one_param {seen = seen} {ps = ps} {p = p} n h r) =
-    both _ _ (both _ _ (named_fine d G seen p.name p.line n) (fine _ (TooManyParams p.line) (less _ _ h)))
-    (params_fine d G _ ps r)
+params_fine d G _ _ (one_param {seen = seen} {ps = ps} {p = p} x n h r) =
+    both _ _ (param_fine d G seen p x n h) (params_fine d G _ ps r)
 
 -- a function that agrees with what its name means has no fault
 agrees_fine : (d : Bool) (r : Option Kind) (ss : List Slot) (m : Option Meaning) (l : ℕ) → Agrees d r ss m
@@ -102,7 +111,7 @@ heads_fine d r w ps l G h =
 
 abbrev BodyFine : State → Stmt → TypedStmt → State → Type 0
 BodyFine v s t w =
-    ((body_part s).fault false v ≡ None) × (t ≡ (body_part s).tree v) × (w ≡ (body_part s).after v)
+    ((body_part s).fault nowhere v ≡ None) × (t ≡ (body_part s).tree v) × (w ≡ (body_part s).after v)
 
 -- a body that is a block is judged without a scope of its own
 pub block_body : (l : ℕ) (ss : List Stmt)
@@ -112,7 +121,7 @@ block_body l ss =
     ap (λ x. body_in x (at l (node.Compound ss)))
     (ap out-StmtNode (sym (node.rolls-Compound ss)) ∙ out-roll-StmtNode (StmtNode-F.Compound ss))
 
-plain_in : (x : StmtNode-F ForInit StmtNode Stmt) (s : Stmt) → is_block x ≡ false → body_in x s ≡ part s
+plain_in : (x : StmtNode-F ForInit StmtNode Section Stmt) (s : Stmt) → is_block x ≡ false → body_in x s ≡ part s
 plain_in (StmtNode-F.Compound ss) s h = absurd (false≢true (sym h))
 plain_in _ s h = refl
 
@@ -124,16 +133,16 @@ plain_body s h = plain_in (out-StmtNode s.node) s h
 -- a body has no fault, and its tree
 pub body_fine : (v : State) (s : Stmt) (t : TypedStmt) (w : State) → Body v s t w → BodyFine v s t w
 body_fine _ _ _ _ (outermost {v = v} {w = w} {l = l} {ss = ss} {ts = ts} d) =
-    let s = all_fine false v ss ts w d in
+    let s = all_fine nowhere v ss ts w d in
     let e = block_body l ss in (
-      ap (λ (p : Part). p.fault false v) e ∙ s.0,
+      ap (λ (p : Part). p.fault nowhere v) e ∙ s.0,
       ap typed.Compound s.1 ∙ sym (ap (λ (p : Part). p.tree v) e),
       s.2 ∙ sym (ap (λ (p : Part). p.after v) e),
     )
 body_fine _ _ _ _ (other {v = v} {w = w} {s = s} {t = t} h d) =
-    let q = types_fine false v s t w d in
+    let q = types_fine nowhere v s t w d in
     let e = plain_body s h in (
-      ap (λ (p : Part). p.fault false v) e ∙ q.0,
+      ap (λ (p : Part). p.fault nowhere v) e ∙ q.0,
       q.1 ∙ sym (ap (λ (p : Part). p.tree v) e),
       q.2 ∙ sym (ap (λ (p : Part). p.after v) e),
     )
@@ -162,23 +171,24 @@ item_fine unit l _ _ _ (include_again {U = U} e) = (
   ap (λ b. cond b None (include_clash U.names l)) e,
   ap (λ b. record U { names = cond b U.names (with_include U.names) }) (sym e),
 )
-item_fine unit l _ _ _ (global {U = U} {k = k} {w = w} {s = s} {init = init} {n = n} {ns = ns} c h m d f) =
+item_fine unit l _ _ _ (global {U = U} {k = k} {w = w} {s = s} {init = init} {n = n} {ns = ns} c h m d) =
     let p = count_fine U.names init s n l c in
-    let q = values_fine (global_names s k w U) k init ns d in (
+    let q = init_fine (global_names s k w U) k n s init ns p.1 d in (
       both _ _
           (both _ _ p.0 (both _ _ (free U.names w l h) (fine _ (TooLarge l)
           (at_most _ _ (subst (λ n. n * bytes k + U.bytes ≤ 1048576) p.1 m)))))
-          (both _ _ q.0 (fine _ (Mismatch l) (at_most _ _ (subst (λ n. length init ≤ n) p.1 f)))),
+          (both _ _ q.0 (fine _ (Mismatch l) q.1)),
       ap (λ n. record U {
         names = global_names s k w U;
-        globals = U.globals ++ (record { kind = k; length = length_in s n; init = ns }) ∷ [];
+        globals = U.globals ++ (record { kind = k; length = length_in s n; row = row_in s; init = ns }) ∷ [];
         bytes = n * bytes k + U.bytes;
       }) p.1
           ∙ ap (λ ns. record U {
             names = global_names s k w U;
-            globals = U.globals ++ (record { kind = k; length = length_in s (count_of s init); init = ns }) ∷ [];
+            globals = U.globals
+                ++ (record { kind = k; length = length_in s (count_of s init); row = row_in s; init = ns }) ∷ [];
             bytes = count_of s init * bytes k + U.bytes;
-          }) q.1,
+          }) q.2,
     )
 item_fine unit l _ _ _ (prototype {U = U} {given = given} {w = w} {params = params} {c = c} k h) = (
   heads_fine false given w params l U.names h,

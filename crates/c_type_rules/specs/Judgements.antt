@@ -1,6 +1,7 @@
 -- What of a unit is judged, and the order in which the parts of an expression are: operands before
 -- their node (C17 6.5, 6.6).
-use Rattle.std.specs.Prelude.{ℕ, Bool, is_some, length, List, [], ◌∷◌, ◌++◌, map, Option, Some}
+use Rattle.std.specs.Prelude.{ℕ, Bool, true, false, is_some, length, List, [], ◌∷◌, ◌++◌, map}
+use Rattle.std.specs.Prelude.{Option, Some}
 use Rattle.c_tree.specs.declared.token.Kind.{Kind}
 use Rattle.c_tree.specs.declared.tree.Expr.{Expr}
 use Rattle.c_tree.specs.declared.tree.ExprNode.{ExprNode}
@@ -10,6 +11,8 @@ use Rattle.c_tree.specs.declared.tree.ExprNode.TheOpen.{Assign, Comma}
 use Rattle.c_tree.specs.declared.tree.ForInit.{ForInit}
 use Rattle.c_tree.specs.declared.tree.Param.{Param}
 use Rattle.c_tree.specs.declared.tree.Program.{Program}
+use Rattle.c_tree.specs.declared.tree.Label.{Label}
+use Rattle.c_tree.specs.declared.tree.Section.{Section}
 use Rattle.c_tree.specs.declared.tree.Stmt.{Stmt}
 use Rattle.c_tree.specs.declared.tree.Top.{Top}
 use Rattle.c_tree.specs.declared.typed.Slot.{Slot}
@@ -20,9 +23,10 @@ use Rattle.c_type_expr.specs.declared.role.Role.TheVariants.{Value, Free}
 use Rattle.c_type_expr.specs.Roles.{Blame, unless, left_role}
 use Rattle.c_type_expr.specs.Faults.{unwanted_value, name_fault, element_fault, call_fault}
 use Rattle.c_type_expr.specs.Faults.{slots_of, role_at, rest_of, is_place}
-use Rattle.c_type_expr.specs.Constants.{no_constant, calls_known}
+use Rattle.c_type_expr.specs.Constants.{name_fixed, no_constant, calls_known}
 use Rattle.c_type.specs.declared.file_scope.FileScope.{FileScope}
 use Rattle.c_type.specs.declared.state.State.{State}
+use Rattle.c_type.specs.declared.state.Around.{Around}
 
 -- one thing that is judged, with that in which it is judged
 pub data Judgement : Type 0 where
@@ -37,11 +41,14 @@ pub data Judgement : Type 0 where
   a_constant : Scope → Expr → Judgement
   a_full_constant : Scope → Expr → Judgement
   a_size : Scope → Expr → Judgement
-  -- a statement inside a loop or not, several, an `else` that may be left out, and what begins a `for`
-  a_statement : Bool → State → Stmt → Judgement
-  some_statements : Bool → State → List Stmt → Judgement
-  an_else : Bool → State → Option Stmt → Judgement
-  a_beginning : Bool → State → ForInit → Judgement
+  -- a statement by what is around it, several, an `else` that may be left out, and what begins a `for`
+  a_statement : Around → State → Stmt → Judgement
+  some_statements : Around → State → List Stmt → Judgement
+  an_else : Around → State → Option Stmt → Judgement
+  a_beginning : Around → State → ForInit → Judgement
+  -- labels of a switch of a type behind others, and its sections
+  some_labels : Scope → Kind → List (Option ℕ) → List Label → Judgement
+  some_sections : Kind → List (Option ℕ) → Around → State → List Section → Judgement
   -- a function's body, and parameters after others
   a_body : State → Stmt → Judgement
   a_param : Bool → Scope → List Param → Param → Judgement
@@ -63,8 +70,11 @@ argument_parts G slots (e ∷ es) =
 abbrev pub expression_parts : Scope → Role → ℕ → ExprNode-F ExprNode Expr → List Judgement
 expression_parts G r l (Number v k) = a_test (unwanted_value r l) ∷ []
 expression_parts G r l (Name w) = a_test (name_fault (look_up G w) r l) ∷ []
-expression_parts G r l (Element w i) =
-    an_expression G Value i ∷ a_test (element_fault (look_up G w) r l) ∷ []
+expression_parts G r l (Element w None i) =
+    an_expression G Value i ∷ a_test (element_fault (look_up G w) false r l) ∷ []
+expression_parts G r l (Element w (Some x) i) =
+    an_expression G Value x ∷ an_expression G Value i
+    ∷ a_test (element_fault (look_up G w) true r l) ∷ []
 expression_parts G r l (Call w es) =
     argument_parts G (slots_of (look_up G w)) es ++ a_test (call_fault (look_up G w) (length es) r l) ∷ []
 expression_parts G r l (Group e) = an_expression G r e ∷ []
@@ -87,9 +97,11 @@ expression_parts G r l (Comma x y) =
 -- the parts of a constant expression of that line
 abbrev pub constant_parts : Scope → ℕ → ExprNode-F ExprNode Expr → List Judgement
 constant_parts G l (Number v k) = []
-constant_parts G l (Name w) = a_test (no_constant (is_some (look_up G w)) l) ∷ []
-constant_parts G l (Element w i) =
+constant_parts G l (Name w) = a_test (name_fixed (look_up G w) l) ∷ []
+constant_parts G l (Element w None i) =
     a_constant G i ∷ a_test (no_constant (is_some (look_up G w)) l) ∷ []
+constant_parts G l (Element w (Some x) i) =
+    a_constant G x ∷ a_constant G i ∷ a_test (no_constant (is_some (look_up G w)) l) ∷ []
 constant_parts G l (Call w es) =
     map (a_constant G) es ++ a_test (no_constant (calls_known (look_up G w)) l) ∷ []
 constant_parts G l (Group e) = a_constant G e ∷ []

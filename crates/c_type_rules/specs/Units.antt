@@ -1,5 +1,5 @@
 -- Which typed programs a translation unit has, by one rule for each kind of item (C17 6.7, 6.9).
-use Rattle.std.specs.Prelude.{◌≡◌, ℕ, ◌+◌, ◌*◌, ◌≤◌, ◌<◌, Bool, true, false, ◌&&◌, length, List, []}
+use Rattle.std.specs.Prelude.{◌≡◌, ℕ, ◌+◌, ◌-◌, ◌*◌, replicate, ◌≤◌, ◌<◌, Bool, true, false, ◌&&◌, length, List, []}
 use Rattle.std.specs.Prelude.{◌∷◌, ◌++◌, map, Option, Some, None}
 use Rattle.c_tree.specs.declared.limits.TheConstants.{MOST_OBJECT_BYTES, MOST_PARAMETERS}
 use Rattle.c_tree.specs.declared.token.Kind.{Kind}
@@ -9,6 +9,7 @@ use Rattle.c_tree.specs.declared.tree.ArraySize.TheVariants as size
 use Rattle.c_tree.specs.declared.tree.Expr.{Expr}
 use Rattle.c_tree.specs.declared.tree.Param.{Param}
 use Rattle.c_tree.specs.declared.tree.Program.{Program}
+use Rattle.c_tree.specs.declared.tree.Section.{Section}
 use Rattle.c_tree.specs.declared.tree.Stmt.{Stmt}
 use Rattle.c_tree.specs.declared.tree.StmtNode.{StmtNode, out-StmtNode}
 use Rattle.c_tree.specs.declared.tree.StmtNode.TheVariants as node
@@ -24,7 +25,7 @@ use Rattle.c_tree.specs.declared.typed.TypedProgram.{TypedProgram}
 use Rattle.c_tree.specs.declared.typed.TypedStmt.{TypedStmt}
 use Rattle.c_tree.specs.declared.typed.TypedStmt.TheVariants as typed
 use Rattle.c_constant.specs.Kinds.{converted}
-use Rattle.c_constant.specs.Constant.{constant}
+use Rattle.c_constant.specs.Constant.{constant, ends}
 use Rattle.c_constant.specs.Need.{need_fits}
 use Rattle.c_scope.specs.declared.meaning.Meaning.{Meaning}
 use Rattle.c_scope.specs.declared.meaning.Meaning.TheVariants as meaning
@@ -33,10 +34,13 @@ use Rattle.c_type.specs.declared.file_scope.FileScope.{FileScope}
 use Rattle.c_type.specs.declared.state.State.{State}
 use Rattle.c_type.specs.States.{at}
 use Rattle.c_constant.specs.Kinds.{bytes}
-use Rattle.c_type.specs.Declarations.{is_end, is_taken}
+use Rattle.c_type.specs.Declarations.{is_end, is_taken, row_in}
+use Rattle.c_type_expr.specs.Constants.{length_of}
+use Rattle.c_type.specs.Statements.{nowhere}
 use Rattle.c_type.specs.Units.{eof_name, getchar_name, putchar_name, int_slots, with_include, global_names, length_in}
+use Rattle.c_type.specs.Units.{all_values}
 use Rattle.c_type.specs.Signatures.{prototype_names}
-use Rattle.c_type.specs.Functions.{slot_of, named_among, body_entry}
+use Rattle.c_type.specs.Functions.{slot_of, named_among, with_params, started, body_entry}
 use Rattle.c_type.specs.Programs.{empty_file, main_name, number_in}
 use Rattle.c_type_rules.specs.Constants.{IsConstant, Size}
 use Rattle.c_type_rules.specs.Definitions.{CallsIn}
@@ -45,17 +49,38 @@ use Rattle.c_type_rules.specs.Statements.{Types, TypesAll}
 -- CONSTANTS
 
 -- the words of constant expressions, each with a value and a need within the limit, at a type
-pub data Values (k : Kind) : List Expr → List ℕ → Type 0 where
-  no_value : Values k [] []
+pub data Values (G : Scope) (k : Kind) : List Expr → List ℕ → Type 0 where
+  no_value : Values G k [] []
   one_value : {e : Expr} {n : ℕ} {es : List Expr} {ns : List ℕ}
-      → IsConstant e → (constant [] e).value ≡ Some n → need_fits e ≡ true
-      → Values k es ns → Values k (e ∷ es) (converted k n ∷ ns)
+      → IsConstant G e → (constant ends e).value ≡ Some n → need_fits e ≡ true
+      → Values G k es ns → Values G k (e ∷ es) (converted k n ∷ ns)
+
+-- the words of rows of values, none with more than its length, each with zeros behind its values
+pub data RowValues (G : Scope) (k : Kind) (n : ℕ) : List (List Expr) → List ℕ → Type 0 where
+  no_row : RowValues G k n [] []
+  one_row : {es : List Expr} {ess : List (List Expr)} {ws ns : List ℕ}
+      → Values G k es ws → length es ≤ n → RowValues G k n ess ns
+      → RowValues G k n (es ∷ ess) ((ws ++ replicate (n - length es) 0) ++ ns)
 
 -- how many values a global holds
-pub data Count (init : List Expr) : ArraySize → ℕ → Type 0 where
-  single : Count init size.Scalar 1
-  counted : 0 < length init → Count init size.Open (length init)
-  sized : {e : Expr} {n : ℕ} → Size e n → Count init (size.Sized e) n
+pub data Count (G : Scope) (init : List (List Expr)) : ArraySize → ℕ → Type 0 where
+  single : Count G init size.Scalar 1
+  counted : 0 < length (all_values init) → Count G init size.Open (length (all_values init))
+  sized : {e : Expr} {n : ℕ} → Size G e n → Count G init (size.Sized e) n
+  rows_counted : {e : Expr} {n : ℕ} → Size G e n → 0 < length init
+      → Count G init (size.Rows None e) (length init * n)
+  rows_sized : {r e : Expr} {m n : ℕ} → Size G r m → Size G e n
+      → Count G init (size.Rows (Some r) e) (m * n)
+
+-- the words that a global of so many values begins with: those of one list, or of whole rows
+pub data Init (G : Scope) (k : Kind) (count : ℕ) : ArraySize → List (List Expr) → List ℕ → Type 0
+  where
+    in_list : {s : ArraySize} {init : List (List Expr)} {ns : List ℕ} → row_in s ≡ None
+        → Values G k (all_values init) ns → length (all_values init) ≤ count
+        → Init G k count s init ns
+    in_rows : {o : Option Expr} {e : Expr} {n : ℕ} {init : List (List Expr)} {ns : List ℕ}
+        → length_of e ≡ Some n → RowValues G k n init ns → length init * n ≤ count
+        → Init G k count (size.Rows o e) init ns
 
 -- FUNCTIONS
 
@@ -65,11 +90,20 @@ pub data Named (is_def : Bool) (G : Scope) (seen : List Param) : Option (List �
   named : {w : List ℕ} → named_among seen w ≡ false → is_end (look_up G w) ≡ false
       → Named is_def G seen (Some w)
 
+-- the second size of an array parameter: a constant of at least 1 where the parameters before it are in
+-- scope, of no more bytes than an array may have
+pub data Row (G : Scope) (seen : List Param) (k : Kind) : ArraySize → Type 0 where
+  no_row_size : {s : ArraySize} → row_in s ≡ None → Row G seen k s
+  row_size : {o : Option Expr} {e : Expr} {n : ℕ}
+      → Size (with_params seen (started G None)).names e n → n * bytes k ≤ MOST_OBJECT_BYTES
+      → Row G seen k (size.Rows o e)
+
 -- parameters after others, in all no more than a function may have
 pub data Params (is_def : Bool) (G : Scope) : List Param → List Param → Type 0 where
   no_param : {seen : List Param} → Params is_def G seen []
   one_param : {seen ps : List Param} {p : Param}
-      → Named is_def G seen p.name → length seen < MOST_PARAMETERS → Params is_def G (seen ++ p ∷ []) ps
+      → Row G seen p.kind p.size → Named is_def G seen p.name → length seen < MOST_PARAMETERS
+      → Params is_def G (seen ++ p ∷ []) ps
       → Params is_def G seen (p ∷ ps)
 
 -- the name means nothing yet, or a function of the same type; a function has one definition
@@ -85,16 +119,16 @@ Heads is_def given w params G =
     Params is_def G [] params × Agrees is_def given (map slot_of params) (look_up G w)
 
 -- is the node a block?
-abbrev pub is_block : StmtNode-F ForInit StmtNode Stmt → Bool
+abbrev pub is_block : StmtNode-F ForInit StmtNode Section Stmt → Bool
 is_block (Compound ss) = true
 is_block _ = false
 
 -- a body: its outermost block is the scope of the parameters
 pub data Body : State → Stmt → TypedStmt → State → Type 0 where
   outermost : {v w : State} {l : ℕ} {ss : List Stmt} {ts : List TypedStmt}
-      → TypesAll false v ss ts w → Body v (at l (node.Compound ss)) (typed.Compound ts) w
+      → TypesAll nowhere v ss ts w → Body v (at l (node.Compound ss)) (typed.Compound ts) w
   other : {v w : State} {s : Stmt} {t : TypedStmt}
-      → is_block (out-StmtNode s.node) ≡ false → Types false v s t w → Body v s t w
+      → is_block (out-StmtNode s.node) ≡ false → Types nowhere v s t w → Body v s t w
 
 -- ITEMS
 
@@ -115,13 +149,19 @@ pub data Item (unit : List Top) : FileScope → TopNode → FileScope → Type 0
       → Agrees true (Some Int) int_slots (look_up U.names putchar_name)
       → Item unit U Include (record U { names = with_include U.names })
   include_again : {U : FileScope} → is_end (look_up U.names eof_name) ≡ true → Item unit U Include U
-  global : {U : FileScope} {k : Kind} {w : List ℕ} {s : ArraySize} {init : List Expr} {n : ℕ}
+  global : {U : FileScope} {k : Kind} {w : List ℕ} {s : ArraySize} {init : List (List Expr)} {n : ℕ}
       {ns : List ℕ}
-      → Count init s n → is_taken U.names w ≡ false → n * bytes k + U.bytes ≤ MOST_OBJECT_BYTES
-      → Values k init ns → length init ≤ n
+      → Count U.names init s n → is_taken U.names w ≡ false
+      → n * bytes k + U.bytes ≤ MOST_OBJECT_BYTES
+      → Init (global_names s k w U) k n s init ns
       → Item unit U (Global k w s init) (record U {
         names = global_names s k w U;
-        globals = U.globals ++ (record { kind = k; length = length_in s n; init = ns }) ∷ [];
+        globals = U.globals ++ (record {
+          kind = k;
+          length = length_in s n;
+          row = row_in s;
+          init = ns;
+        }) ∷ [];
         bytes = n * bytes k + U.bytes;
       })
   prototype : {U : FileScope} {given : Option Kind} {w : List ℕ} {params : List Param}

@@ -1,6 +1,6 @@
 //! The typing relation and the definitions that the code answers by.
 
-ghost use Rattle.std.specs.Prelude.{◌≡◌, ◌↔◌, ◌⊎◌, Bool, Some, None, Ok, Err};
+ghost use Rattle.std.specs.Prelude.{◌≡◌, ◌↔◌, ◌⊎◌, Some, None, Ok, Err};
 ghost use Rattle.c_tree.specs.declared.tree.Stmt.{Stmt};
 ghost use Rattle.c_tree.specs.declared.tree.Program.{Program};
 ghost use Rattle.c_tree.specs.declared.typed.TypedStmt.{TypedStmt};
@@ -9,6 +9,7 @@ ghost use Rattle.c_type_expr.specs.declared.fault.TypeFault.{TypeFault};
 ghost use Rattle.c_type_expr.specs.declared.fault.TypeFault.TheVariants.{Memory};
 ghost use Rattle.c_type_expr.specs.Says.{Says};
 ghost use Rattle.c_type.specs.declared.state.State.{State};
+ghost use Rattle.c_type.specs.declared.state.Around.{Around};
 ghost use Rattle.c_type.specs.Statements.{part};
 ghost use Rattle.c_type.specs.Programs.{program_fault, program_tree};
 ghost use Rattle.c_type_rules.specs.Statements.{Types};
@@ -18,7 +19,7 @@ ghost use Rattle.c_type_rules.specs.FirstFaults.{UnitFails};
 /// The rules give a statement a typed tree and a state after it exactly where nothing in it fails,
 /// and then these alone.
 pub fn statements_are_exact()
-    ensures { (b : Bool) (v : State) (s : Stmt) (t : TypedStmt) (w : State) → Types b v s t w
+    ensures { (b : Around) (v : State) (s : Stmt) (t : TypedStmt) (w : State) → Types b v s t w
         ↔ (((part s).fault b v ≡ None) × (t ≡ (part s).tree v) × (w ≡ (part s).after v)) }
 {}
 

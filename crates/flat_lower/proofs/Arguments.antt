@@ -95,13 +95,13 @@ module _ (P : TypedProgram) (most : ℕ) (S : Scene) (y : IsScene P S) where
   -- ARRAYS
 
   -- an array's number, and its address in the temporary
-  whole_end : (p : Place) (k : Kind) (n d top low : ℕ) (s : eval.State) (f : State) → d < 16
-      → FitsWhole (scope P S) k p → Related S s f → array_of p s ≡ Some n → 1 + 8 * s.stock ≤ top
+  whole_end : (p : Place) (k : Kind) (row : Option ℕ) (n d top low : ℕ) (s : eval.State) (f : State) → d < 16
+      → FitsWhole (scope P S) k row p → Related S s f → array_of p s ≡ Some n → 1 + 8 * s.stock ≤ top
       → low ≤ s.stock + most * f.rounds
-      → Goes most (ArgIs (slot.Address k) d f)
+      → Goes most (ArgIs (slot.Address k row) d f)
       (run P most S y (whole_code (context P S) p (temp d)) f) top low (Value n) s
-  whole_end p k n d top low s f ld t r h hu hl =
-      let q = place_is P (functions P most) (base P most) S y p k n s f r t h in
+  whole_end p k row n d top low s f ld t r h hu hl =
+      let q = place_is P (functions P most) (base P most) S y p k row n s f r t h in
       let w = q.whole (temp d) 80 in
       record {
         t = w.t;
@@ -113,79 +113,80 @@ module _ (P : TypedProgram) (most : ℕ) (S : Scene) (y : IsScene P S) where
               (omega arith) (omega arith) (keeps_all S d s f r) w.sets;
           value = q.array.it.at;
           is = w.sets.value;
-          scalar = record { array = q.array; is = refl };
+          scalar = record { array = q.array; wide = q.wide; is = refl };
         };
         leads = w.leads;
       }
 
-  is_whole : (g n : ℕ) (k : Kind) → GlobalIs (scope P S) g k (Some n)
+  is_whole : (g n : ℕ) (k : Kind) (row : Option ℕ) → GlobalIs (scope P S) g k (Some n) row
       → is_array (slice_get P.globals g) ≡ true
-  is_whole g n k x = ap is_array x.found ∙ go x.global.length x.long
+  is_whole g n k row x = ap is_array x.found ∙ go x.global.length x.long
     where
       go : (l : Option ℕ) → l ≡ Some n → is_array (Some (record x.global { length = l })) ≡ true
       go None e = absurd (cc e)
       go (Some n) e = refl
 
-  whole_arg : (p : Place) (k : Kind) (d top low : ℕ) (s : eval.State) (f : State) → d < 16
-      → FitsWhole (scope P S) k p → Related S s f → 1 + 8 * s.stock ≤ top
+  whole_arg : (p : Place) (k : Kind) (row : Option ℕ) (d top low : ℕ) (s : eval.State) (f : State) → d < 16
+      → FitsWhole (scope P S) k row p → Related S s f → 1 + 8 * s.stock ≤ top
       → low ≤ s.stock + most * f.rounds
-      → Follows most (ArgIs (slot.Address k) d f)
+      → Follows most (ArgIs (slot.Address k row) d f)
       (run P most S y (name_code (context P S) p (temp d) k) f) top low (name P p s)
-  whole_arg (Global g) k d top low s f ld t r hu hl =
-      subst (λ b. Follows most (ArgIs (slot.Address k) d f)
+  whole_arg (Global g) k row d top low s f ld t r hu hl =
+      subst (λ b. Follows most (ArgIs (slot.Address k row) d f)
       (run P most S y (global_code (context P S) b g (temp d) k) f) top low
-      (cond b (Go (Value g) s) (load (InArray g 0) s))) (sym (is_whole g t.0 k t.1))
-      (whole_end (Global g) k g d top low s f ld t r refl hu hl)
-  whole_arg (Scalar i) k d top low s f ld t r hu hl =
-      needed most (ArgIs (slot.Address k) d f) (run P most S y (copied (temp d) i) f) top low
+      (cond b (Go (Value g) s) (load (InArray g 0) s))) (sym (is_whole g t.0 k row t.1))
+      (whole_end (Global g) k row g d top low s f ld t r refl hu hl)
+  whole_arg (Scalar i) k row d top low s f ld t r hu hl =
+      needed most (ArgIs (slot.Address k row) d f) (run P most S y (copied (temp d) i) f) top low
       (held (cell s (InScalar i))) s (λ w. Go (Value w) s) (λ w e.
-      whole_end (Scalar i) k w d top low s f ld t r e hu hl)
-  whole_arg (Array a) k d top low s f ld t r hu hl =
-      whole_end (Array a) k (s.base + a) d top low s f ld t r refl hu hl
+      whole_end (Scalar i) k row w d top low s f ld t r e hu hl)
+  whole_arg (Array a) k row d top low s f ld t r hu hl =
+      whole_end (Array a) k row (s.base + a) d top low s f ld t r refl hu hl
 
-  address_node : (x : Node) (j : Option Kind) (T : Type 0) (k : Kind) (d top low : ℕ)
-      (s : eval.State) (f : State) → FitsArg (scope P S) d (slot.Address k) T (plain_node x j)
+  address_node : (x : Node) (j : Option Kind) (T : Type 0) (k : Kind) (row : Option ℕ) (d top low : ℕ)
+      (s : eval.State) (f : State) → FitsArg (scope P S) d (slot.Address k row) T (plain_node x j)
       → Related S s f → 8 * s.stock ≤ top + 3
       → low ≤ s.stock + most * f.rounds - nodes (plain_node x j)
-      → Follows most (ArgIs (slot.Address k) d f)
+      → Follows most (ArgIs (slot.Address k row) d f)
       (run P most S y (expr_code (context P S) d (plain_node x j)) f) top low
       (expression (meaning P) P x s)
-  address_node (node.Name p) None T k d top low s f t r hu hl = absurd (cc t.1)
-  address_node (node.Name p) (Some j) T k d top low s f t r hu hl =
+  address_node (node.Name p) None T k row d top low s f t r hu hl = absurd (cc t.1)
+  address_node (node.Name p) (Some j) T k row d top low s f t r hu hl =
       let same : j ≡ k = cc t.1 in
-      spending P most S y (ArgIs (slot.Address k) d f)
+      spending P most S y (ArgIs (slot.Address k row) d f)
       (name_code (context P S) p (temp d) j) s f top low (opened (meaning P) P (node.Name p)) r
       (omega arith) (λ n e rn.
-      subst (λ j. Follows most (ArgIs (slot.Address k) d f)
+      subst (λ j. Follows most (ArgIs (slot.Address k row) d f)
       (run P most S y (name_code (context P S) p (temp d) j) f) top low
       (name P p (record s { stock = n }))) (sym same)
-      (whole_arg p k d top low (record s { stock = n }) f t.0 t.2 rn (omega arith) (omega arith)))
-  address_node (node.Number w) j T k d top low s f t r hu hl = absurd t
-  address_node (node.Element p index) j T k d top low s f t r hu hl = absurd t
-  address_node (node.Call c args) j T k d top low s f t r hu hl = absurd t
-  address_node (node.Unary o e) j T k d top low s f t r hu hl = absurd t
-  address_node (node.Cast to e) j T k d top low s f t r hu hl = absurd t
-  address_node (node.Convert to e) j T k d top low s f t r hu hl = absurd t
-  address_node (node.Bump o e) j T k d top low s f t r hu hl = absurd t
-  address_node (node.Binary o l e) j T k d top low s f t r hu hl = absurd t
-  address_node (node.Choice c one other) j T k d top low s f t r hu hl = absurd t
-  address_node (node.Assign o at l e) j T k d top low s f t r hu hl = absurd t
-  address_node (node.Comma l e) j T k d top low s f t r hu hl = absurd t
+      (whole_arg p k row d top low (record s { stock = n }) f t.0 t.2 rn (omega arith) (omega arith)))
+  address_node (node.Number w) j T k row d top low s f t r hu hl = absurd t
+  address_node (node.Element p None index) j T k row d top low s f t r hu hl = absurd t
+  address_node (node.Element p (Some i) index) j T k row d top low s f t r hu hl = absurd t
+  address_node (node.Call c args) j T k row d top low s f t r hu hl = absurd t
+  address_node (node.Unary o e) j T k row d top low s f t r hu hl = absurd t
+  address_node (node.Cast to e) j T k row d top low s f t r hu hl = absurd t
+  address_node (node.Convert to e) j T k row d top low s f t r hu hl = absurd t
+  address_node (node.Bump o e) j T k row d top low s f t r hu hl = absurd t
+  address_node (node.Binary o l e) j T k row d top low s f t r hu hl = absurd t
+  address_node (node.Choice c one other) j T k row d top low s f t r hu hl = absurd t
+  address_node (node.Assign o at l e) j T k row d top low s f t r hu hl = absurd t
+  address_node (node.Comma l e) j T k row d top low s f t r hu hl = absurd t
 
-  address_arg : (e : TypedExpr) (x : tree.Expr) (T : Type 0) (k : Kind) (d top low : ℕ)
+  address_arg : (e : TypedExpr) (x : tree.Expr) (T : Type 0) (k : Kind) (row : Option ℕ) (d top low : ℕ)
       (s : eval.State) (f : State) → x ≡ plain_node (node_of e) e.kind
-      → FitsArg (scope P S) d (slot.Address k) T x → Related S s f → 8 * s.stock ≤ top + 3
+      → FitsArg (scope P S) d (slot.Address k row) T x → Related S s f → 8 * s.stock ≤ top + 3
       → low ≤ s.stock + most * f.rounds - nodes x
-      → Follows most (ArgIs (slot.Address k) d f)
+      → Follows most (ArgIs (slot.Address k row) d f)
       (run P most S y (expr_code (context P S) d x) f) top low (meaning P (Of e) s)
-  address_arg e x T k d top low s f q t r hu hl =
-      subst (λ r. Follows most (ArgIs (slot.Address k) d f)
+  address_arg e x T k row d top low s f q t r hu hl =
+      subst (λ r. Follows most (ArgIs (slot.Address k row) d f)
       (run P most S y (expr_code (context P S) d x) f) top low r) (sym (meaning-is P (Of e) s))
-      (subst (λ x. Follows most (ArgIs (slot.Address k) d f)
+      (subst (λ x. Follows most (ArgIs (slot.Address k row) d f)
       (run P most S y (expr_code (context P S) d x) f) top low
       (expression (meaning P) P (node_of e) s)) (sym q)
-      (address_node (node_of e) e.kind T k d top low s f
-      (subst (FitsArg (scope P S) d (slot.Address k) T) q t) r hu
+      (address_node (node_of e) e.kind T k row d top low s f
+      (subst (FitsArg (scope P S) d (slot.Address k row) T) q t) r hu
       (subst (λ x. low ≤ s.stock + most * f.rounds - nodes x) q hl)))
 
   -- one argument
@@ -200,8 +201,8 @@ module _ (P : TypedProgram) (most : ℕ) (S : Scene) (y : IsScene P S) where
       (run P most S y (code P most S y d e) f) top low (meaning P (Of e) s)
       (λ v s1 g. scalar_arg k e.kind d f v s1 g (sym (kind_is e) ∙ t.1))
       (h S y d top low f t.0 r hu hl)
-  arg_follows (slot.Address k) e d top low s f h t r hu hl =
-      address_arg e (expr_of e) (FitsExpr (scope P S) d (expr_of e)) k d top low s f
+  arg_follows (slot.Address k row) e d top low s f h t r hu hl =
+      address_arg e (expr_of e) (FitsExpr (scope P S) d (expr_of e)) k row d top low s f
       (expr_is e) t r hu hl
 
   -- ALL OF THEM

@@ -5,7 +5,7 @@ use Rattle.std.proofs.Common.{sym, ap, ◌∙◌, subst, arith}
 use Rattle.std.specs.Prelude.{slice_get, nat_eq}
 use Rattle.std.proofs.lemmas.Bool.Decides.{nat_tests}
 use Rattle.c_tree.specs.declared.Kind.{Kind}
-use Rattle.c_tree.specs.declared.Kind.TheVariants.{Int}
+use Rattle.c_tree.specs.declared.Kind.TheVariants.{Int, ULong}
 use Rattle.c_tree.specs.declared.UnaryOp.{UnaryOp}
 use Rattle.c_tree.specs.declared.BinaryOp.{BinaryOp}
 use Rattle.c_tree.specs.declared.BinaryOp.TheVariants.{LogicalOr, LogicalAnd, BitOr, BitXor, BitAnd}
@@ -69,12 +69,14 @@ use Rattle.flat_lower.proofs.Pieces.{element_address}
 use Rattle.flat_lower.proofs.Values.{KeptIs, ValueIs, Valued, value_at, kept_at, keeps_all}
 use Rattle.flat_lower.proofs.Values.{keeps_both, functions, base, FollowsOf, run, code, keeps_set}
 use Rattle.flat_lower.proofs.Values.{value_end, operand, spending}
+use Rattle.flat_lower.proofs.Depths.{depth_fits}
+use Rattle.flat_lower.proofs.RowElements.{joined, row_element_is, row_operands, row_reads}
 use Rattle.flat_lower.proofs.Simple.{FollowsHere}
 use Rattle.c_tree.specs.declared.BumpOp.{BumpOp}
 use Rattle.c_tree.specs.declared.BumpOp.TheVariants.{PreInc, PreDec, PostInc, PostDec}
 use Rattle.c_meaning_spec.specs.State.{written, store, with_some}
 use Rattle.c_meaning_spec.specs.Word.{bump_of, bump_value}
-use Rattle.c_meaning_spec.specs.Task.{scalar_of}
+use Rattle.c_meaning_spec.specs.Task.{scalar_of, row_element_of}
 use Rattle.c_tree.specs.TypedTrees.{Node, node_of}
 use Rattle.c_meaning_spec.specs.Expression.{giving, bump_object, bump_element, bump}
 use Rattle.ir_forms.specs.declared.flat.Arg.{Arg}
@@ -396,7 +398,7 @@ module _ (P : TypedProgram) (most : ℕ) (S : Scene) (y : IsScene P S) where
       (top - t1) low f g s1 (λ lt. omega (arith, ea)) refl x.keeps x.is
       (right_word r k x.kind w kr x.is_kind x.fits) (omega arith) (omega arith)))
 
-  global_compound : (o : BinaryOp) (n : ℕ) (k at : Kind) (gl : GlobalIs (scope P S) n k None)
+  global_compound : (o : BinaryOp) (n : ℕ) (k at : Kind) (gl : GlobalIs (scope P S) n k None None)
       (q : ObjectIs S.objects n k) (r : TypedExpr) (d top low : ℕ) (s : eval.State) (f : State)
       → suc d < 16 → q.it.at ≡ global_at P.globals n → FollowsOf P most r s
       → FitsExpr (scope P S) (suc d) (expr_of r) → FitsCompound (Some o) at k (kind_of (expr_of r))
@@ -446,8 +448,48 @@ module _ (P : TypedProgram) (most : ℕ) (S : Scene) (y : IsScene P S) where
 
   -- TO AN ELEMENT
 
+  -- the word in the temporary is the index of the object where the element is there
+  stored_plain : (p : Place) (q : Option ℕ) (k at : Kind) (r : TypedExpr) (j : Option Kind)
+      (d n w i top low : ℕ) (s : eval.State) (f0 g : State) → suc d < 16 → FitsWhole (scope P S) k q p
+      → array_of p s ≡ Some n → ((o : ObjectIs S.objects n k) → i < o.it.length → w ≡ i)
+      → ((s1 : eval.State) → s1.stock ≤ s.stock → FollowsOf P most r s1)
+      → FitsExpr (scope P S) (suc d) (expr_of r) → kind_of (expr_of r) ≡ Some k
+      → ValueIs S d j f0 w s g → 8 * s.stock + 7 ≤ top
+      → low ≤ s.stock + most * g.rounds - nodes (expr_of r)
+      → FollowsHere P most S y d (Some k) f0
+      (Then (address_code (context P S) p k (temp d) (temp d))
+      (Then (code P most S y (suc d) r) (element_assign d k))) g top low
+      (assign_to (meaning P) None (Some k) at r s (InArray n i))
+  stored_plain p q k at r j d n w i top low s f0 g ld t en same h fits kr v hu hl =
+      let a = address_code (context P S) p k (temp d) (temp d) in
+      let c = element_assign d k in
+      let b = Then (code P most S y (suc d) r) c in
+      let o = (place_is P (functions P most) (base P most) S y p k q n s g v.keeps.rel t en).array in
+      let adr = addressed P (functions P most) (base P most) k w o.it.at in
+      let pa = address_puts P (functions P most) (base P most) S y p k q n s g v.keeps.rel t en o (temp d)
+      (temp d) w (omega arith) (λ e. omega arith) (λ e. omega arith) v.is in
+      let g1 = pa.to in
+      let k1 = keeps_set P most S y d f0 g g1 s (temp d) 81 adr (omega arith) (omega arith)
+      (omega arith) v.keeps pa.sets in
+      let hg : low ≤ s.stock + most * g1.rounds - nodes (expr_of r) = subst
+      (λ c. low ≤ s.stock + most * c - nodes (expr_of r)) (sym pa.sets.rounds) hl in
+      after_puts (Valued S d (Some k) f0) a b g 3 (temp d) 81 adr top low
+      (then (meaning P (Of r) s) (assigned (InArray n i))) pa (omega arith)
+      (operand P most S y (Valued S d (Some k) f0) r (suc d) c s g1 (top - pa.t) low
+      (assigned (InArray n i)) (h s (omega arith)) fits k1.rel (omega (arith, pa.few)) hg
+      (λ u s1 g2 t1 hv ls us ds.
+      wanted most (Valued S d (Some k) f0) (run P most S y c g2) (top - pa.t - t1) low u s1
+      (λ w. store s1 (InArray n i) w) (λ x ex.
+      let z = value_at S (suc d) r.kind g1 u x s1 g2 ex hv in
+      store_next k n i adr o d x (top - pa.t - t1) low f0 g2 s1 ld
+      (λ lt. ap (λ w. addressed P (functions P most) (base P most) k w o.it.at) (same o lt)
+      ∙ element_address P (functions P most) (base P most) S y n i k o lt)
+      (z.keeps.kept d (omega arith) ∙ pa.sets.value)
+      (keeps_both S d (suc d) f0 g1 g2 s s1 (omega arith) k1 z.keeps) z.is
+      (right_word r k z.kind x kr z.is_kind z.fits) (omega (arith, pa.few)) (omega arith))))
+
   element_plain : (p : Place) (k at : Kind) (r : TypedExpr) (j : Option Kind) (d i top low : ℕ)
-      (s : eval.State) (f0 g : State) → suc d < 16 → FitsWhole (scope P S) k p
+      (s : eval.State) (f0 g : State) → suc d < 16 → FitsWhole (scope P S) k None p
       → ((s1 : eval.State) → s1.stock ≤ s.stock → FollowsOf P most r s1)
       → FitsExpr (scope P S) (suc d) (expr_of r) → kind_of (expr_of r) ≡ Some k
       → ValueIs S d j f0 i s g → 8 * s.stock + 7 ≤ top
@@ -457,40 +499,18 @@ module _ (P : TypedProgram) (most : ℕ) (S : Scene) (y : IsScene P S) where
       (Then (code P most S y (suc d) r) (element_assign d k))) g top low
       (assign_element (meaning P) None (Some k) at p r (Value i) s)
   element_plain p k at r j d i top low s f0 g ld t h fits kr v hu hl =
-      let a = address_code (context P S) p k (temp d) (temp d) in
-      let c = element_assign d k in
-      let b = Then (code P most S y (suc d) r) c in
-      needed most (Valued S d (Some k) f0) (run P most S y (Then a b) g) top low
+      let whole = Then (address_code (context P S) p k (temp d) (temp d))
+      (Then (code P most S y (suc d) r) (element_assign d k)) in
+      needed most (Valued S d (Some k) f0) (run P most S y whole g) top low
       (element_of p i s) s (assign_to (meaning P) None (Some k) at r s) (λ x ex.
       let e = element_is P most S y p k i s x ex in
-      subst (λ x. FollowsHere P most S y d (Some k) f0 (Then a b) g top low
+      subst (λ x. FollowsHere P most S y d (Some k) f0 whole g top low
       (assign_to (meaning P) None (Some k) at r s x)) (sym e.is)
-      (let q = (place_is P (functions P most)
-      (base P most) S y p k e.number s g v.keeps.rel t e.array).array in
-      let adr = addressed P (functions P most) (base P most) k i q.it.at in
-      let pa = address_puts P (functions P most) (base P most) S y p k e.number s g v.keeps.rel t e.array q (temp d)
-      (temp d) i (omega arith) (λ e. omega arith) (λ e. omega arith) v.is in
-      let g1 = pa.to in
-      let k1 = keeps_set P most S y d f0 g g1 s (temp d) 81 adr (omega arith) (omega arith)
-      (omega arith) v.keeps pa.sets in
-      let hg : low ≤ s.stock + most * g1.rounds - nodes (expr_of r) = subst
-      (λ c. low ≤ s.stock + most * c - nodes (expr_of r)) (sym pa.sets.rounds) hl in
-      after_puts (Valued S d (Some k) f0) a b g 3 (temp d) 81 adr top low
-      (then (meaning P (Of r) s) (assigned (InArray e.number i))) pa (omega arith)
-      (operand P most S y (Valued S d (Some k) f0) r (suc d) c s g1 (top - pa.t) low
-      (assigned (InArray e.number i)) (h s (omega arith)) fits k1.rel (omega (arith, pa.few)) hg
-      (λ u s1 g2 t1 hv ls us ds.
-      wanted most (Valued S d (Some k) f0) (run P most S y c g2) (top - pa.t - t1) low u s1
-      (λ w. store s1 (InArray e.number i) w) (λ w ew.
-      let z = value_at S (suc d) r.kind g1 u w s1 g2 ew hv in
-      store_next k e.number i adr q d w (top - pa.t - t1) low f0 g2 s1 ld
-      (λ lt. element_address P (functions P most) (base P most) S y e.number i k q lt)
-      (z.keeps.kept d (omega arith) ∙ pa.sets.value)
-      (keeps_both S d (suc d) f0 g1 g2 s s1 (omega arith) k1 z.keeps) z.is
-      (right_word r k z.kind w kr z.is_kind z.fits) (omega (arith, pa.few)) (omega arith))))))
+      (stored_plain p None k at r j d e.number i i top low s f0 g ld t e.array (λ o lt. refl) h fits kr v
+      hu hl))
 
-  element_compound : (o : BinaryOp) (p : Place) (k at : Kind) (r : TypedExpr) (j : Option Kind)
-      (d i top low : ℕ) (s : eval.State) (f0 g : State) → suc (suc d) < 16 → FitsWhole (scope P S) k p
+  element_compound : (o : BinaryOp) (p : Place) (sz : Option ℕ) (k at : Kind) (r : TypedExpr) (j : Option Kind)
+      (d i top low : ℕ) (s : eval.State) (f0 g : State) → suc (suc d) < 16 → FitsWhole (scope P S) k sz p
       → ((s1 : eval.State) → s1.stock ≤ s.stock → FollowsOf P most r s1)
       → FitsExpr (scope P S) (suc (suc d)) (expr_of r)
       → FitsCompound (Some o) at k (kind_of (expr_of r)) → ValueIs S d j f0 i s g
@@ -501,7 +521,7 @@ module _ (P : TypedProgram) (most : ℕ) (S : Scene) (y : IsScene P S) where
       (Then (compound_code o d (suc (suc d)) at k)
       (only (Save (save_op k) (Var (temp (suc d))) (Var (temp d))))))) g top low
       (assign_element (meaning P) (Some o) (Some k) at p r (Value i) s)
-  element_compound o p k at r j d i top low s f0 g ld t h fits kr v hu hl =
+  element_compound o p sz k at r j d i top low s f0 g ld t h fits kr v hu hl =
       let a = address_code (context P S) p k (temp (suc d)) (temp d) in
       let l = only (Load (temp d) (load_op k) (Var (temp (suc d)))) in
       let n = converted_here at (temp d) in
@@ -519,9 +539,9 @@ module _ (P : TypedProgram) (most : ℕ) (S : Scene) (y : IsScene P S) where
       (held (cell s (InArray e.number i))) s
       (λ old. then (meaning P (Of r) s) (compounded o (Some k) at (InArray e.number i) old))
       (λ old eo.
-      let q = (place_is P (functions P most) (base P most) S y p k e.number s g v.keeps.rel t e.array).array in
+      let q = (place_is P (functions P most) (base P most) S y p k sz e.number s g v.keeps.rel t e.array).array in
       let adr = addressed P (functions P most) (base P most) k i q.it.at in
-      let pa = address_puts P (functions P most) (base P most) S y p k e.number s g v.keeps.rel t e.array q
+      let pa = address_puts P (functions P most) (base P most) S y p k sz e.number s g v.keeps.rel t e.array q
       (temp (suc d)) (temp d) i (omega arith) (λ e. omega arith) (λ e. omega arith) v.is in
       let g1 = pa.to in
       let k1 = keeps_set P most S y d f0 g g1 s (temp (suc d)) 81 adr (omega arith) (omega arith)
@@ -598,7 +618,7 @@ module _ (P : TypedProgram) (most : ℕ) (S : Scene) (y : IsScene P S) where
       let x = tl.1.1 in
       global_plain n k at (record {
         it = object (global_at P.globals n) x.global.kind
-            (length_of x.global.length);
+            (length_of x.global.length) x.global.row;
         found = y.globals n x.global x.found;
         kind = x.kind;
       }) r d top
@@ -607,14 +627,14 @@ module _ (P : TypedProgram) (most : ℕ) (S : Scene) (y : IsScene P S) where
       let x = tl.1.1 in
       global_compound o n k at x (record {
         it = object (global_at P.globals n) x.global.kind
-            (length_of x.global.length);
+            (length_of x.global.length) x.global.row;
         found = y.globals n x.global x.found;
         kind = x.kind;
       }) r d top
       low s f (lr (suc d) tr) refl (h r s (omega arith)) tr tc rl hu (omega arith)
   assign_left o k at (node.Name (Array a)) j r d top low s f h ld lr tl tr tc rl hu hl =
       absurd tl.1.1
-  assign_left None k at (node.Element p e) j r d top low s f h ld lr tl tr tc rl hu hl =
+  assign_left None k at (node.Element p None e) j r d top low s f h ld lr tl tr tc rl hu hl =
       let b = Then (address_code (context P S) p k (temp d) (temp d))
       (Then (code P most S y (suc d) r) (element_assign d k)) in
       operand P most S y (Valued S d (Some k) f) e d b s f top low
@@ -627,7 +647,7 @@ module _ (P : TypedProgram) (most : ℕ) (S : Scene) (y : IsScene P S) where
       element_plain p k at r e.kind d w (top - t1) low s1 f g (lr (suc d) tr) tl.1
       (λ s2 le. h r s2 (omega arith)) tr tc (value_at S d e.kind f v w s1 g ew hv) (omega arith)
       (omega arith)))
-  assign_left (Some o) k at (node.Element p e) j r d top low s f h ld lr tl tr tc rl hu hl =
+  assign_left (Some o) k at (node.Element p None e) j r d top low s f h ld lr tl tr tc rl hu hl =
       let b = Then (old_element (context P S) p d at k)
       (Then (code P most S y (suc (suc d)) r)
       (Then (compound_code o d (suc (suc d)) at k)
@@ -639,9 +659,45 @@ module _ (P : TypedProgram) (most : ℕ) (S : Scene) (y : IsScene P S) where
       wanted most (Valued S d (Some k) f) (run P most S y b g) (top - t1) low v s1
       (λ w. with_some (element_of p w s1) s1 (assign_to (meaning P) (Some o) (Some k) at r s1))
       (λ w ew.
-      element_compound o p k at r e.kind d w (top - t1) low s1 f g (lr (suc (suc d)) tr) tl.1
+      element_compound o p None k at r e.kind d w (top - t1) low s1 f g (lr (suc (suc d)) tr) tl.1
       (λ s2 le. h r s2 (omega arith)) tr tc (value_at S d e.kind f v w s1 g ew hv) (omega arith)
       (omega arith)))
+  assign_left None k at (node.Element p (Some row) e) j r d top low s f h ld lr tl tr tc rl hu hl =
+      let b = Then (address_code (context P S) p k (temp d) (temp d))
+      (Then (code P most S y (suc d) r) (element_assign d k)) in
+      let q = tl.1.0 in
+      let Q = Valued S d (Some k) f in
+      row_operands P most S y Q p k q row e d b s f top low
+      (λ i j s. with_some (row_element_of p i j s) s (assign_to (meaning P) None (Some k) at r s))
+      (depth_fits (scope P S) (suc d) (expr_of e) tl.3) h tl.1.1 tl.2 tl.3 rl (omega arith) (omega arith)
+      (λ i j s2 g t1 v ls us ds.
+      needed most Q (run P most S y b g) (top - t1) low (row_element_of p i j s2) s2
+      (assign_to (meaning P) None (Some k) at r s2) (λ x ex.
+      let n = row_element_is P most S y p k q i j s2 g x v.keeps.rel tl.1.1 ex in
+      subst (λ x. FollowsHere P most S y d (Some k) f b g (top - t1) low
+      (assign_to (meaning P) None (Some k) at r s2 x)) (sym n.is)
+      (stored_plain p (Some q) k at r (Some ULong) d n.number (joined q i j) n.index (top - t1) low s2 f g
+      (lr (suc d) tr) tl.1.1 n.array n.same (λ s3 le. h r s3 (omega arith)) tr tc v (omega arith)
+      (omega arith))))
+  assign_left (Some o) k at (node.Element p (Some row) e) j r d top low s f h ld lr tl tr tc rl hu hl =
+      let b = Then (old_element (context P S) p d at k)
+      (Then (code P most S y (suc (suc d)) r)
+      (Then (compound_code o d (suc (suc d)) at k)
+      (only (Save (save_op k) (Var (temp (suc d))) (Var (temp d)))))) in
+      let q = tl.1.0 in
+      let Q = Valued S d (Some k) f in
+      row_operands P most S y Q p k q row e d b s f top low
+      (λ i j s. with_some (row_element_of p i j s) s (assign_to (meaning P) (Some o) (Some k) at r s))
+      (depth_fits (scope P S) (suc d) (expr_of e) tl.3) h tl.1.1 tl.2 tl.3 rl (omega arith) (omega arith)
+      (λ i j s2 g t1 v ls us ds.
+      row_reads P most S y Q (run P most S y b g) (top - t1) low p k q i j s2 g
+      (λ x old. then (meaning P (Of r) s2) (compounded o (Some k) at x old)) v.keeps.rel tl.1.1
+      (λ n m en same.
+      subst (λ o1. FollowsHere P most S y d (Some k) f b g (top - t1) low
+      (with_some (element_in o1 m) s2 (assign_to (meaning P) (Some o) (Some k) at r s2))) en
+      (element_compound o p (Some q) k at r (Some ULong) d m (top - t1) low s2 f g
+      (lr (suc (suc d)) tr) tl.1.1 (λ s3 le. h r s3 (omega arith)) tr tc
+      (subst (λ w. ValueIs S d (Some ULong) f w s2 g) same v) (omega arith) (omega arith))))
   assign_left o k at (node.Number w) j r d top low s f h ld lr tl tr tc rl hu hl = absurd tl
   assign_left o k at (node.Call g args) j r d top low s f h ld lr tl tr tc rl hu hl = absurd tl
   assign_left o k at (node.Unary u e) j r d top low s f h ld lr tl tr tc rl hu hl = absurd tl

@@ -5,7 +5,7 @@ use Rattle.std.proofs.Common.{sym, ap, ◌∙◌, subst, arith}
 use Rattle.std.specs.Prelude.{slice_get, nat_eq}
 use Rattle.std.proofs.lemmas.Bool.Decides.{nat_tests}
 use Rattle.c_tree.specs.declared.Kind.{Kind}
-use Rattle.c_tree.specs.declared.Kind.TheVariants.{Int}
+use Rattle.c_tree.specs.declared.Kind.TheVariants.{Int, ULong}
 use Rattle.c_tree.specs.declared.UnaryOp.{UnaryOp}
 use Rattle.c_tree.specs.declared.BinaryOp.{BinaryOp}
 use Rattle.c_tree.specs.declared.BinaryOp.TheVariants.{LogicalOr, LogicalAnd, BitOr, BitXor, BitAnd}
@@ -69,12 +69,14 @@ use Rattle.flat_lower.proofs.Pieces.{element_address}
 use Rattle.flat_lower.proofs.Values.{KeptIs, ValueIs, Valued, value_at, kept_at, keeps_all}
 use Rattle.flat_lower.proofs.Values.{keeps_both, functions, base, FollowsOf, run, code, keeps_set}
 use Rattle.flat_lower.proofs.Values.{value_end, operand, spending}
+use Rattle.flat_lower.proofs.Depths.{depth_fits}
+use Rattle.flat_lower.proofs.RowElements.{row_operands, row_reads}
 use Rattle.flat_lower.proofs.Simple.{FollowsHere}
 use Rattle.c_tree.specs.declared.BumpOp.{BumpOp}
 use Rattle.c_tree.specs.declared.BumpOp.TheVariants.{PreInc, PreDec, PostInc, PostDec}
 use Rattle.c_meaning_spec.specs.State.{written, store, with_some}
 use Rattle.c_meaning_spec.specs.Word.{bump_of, bump_value}
-use Rattle.c_meaning_spec.specs.Task.{scalar_of}
+use Rattle.c_meaning_spec.specs.Task.{scalar_of, row_element_of}
 use Rattle.c_tree.specs.TypedTrees.{Node, node_of}
 use Rattle.c_meaning_spec.specs.Expression.{giving, bump_object, bump_element, bump}
 use Rattle.ir_forms.specs.declared.flat.Arg.{Arg}
@@ -305,7 +307,7 @@ module _ (P : TypedProgram) (most : ℕ) (S : Scene) (y : IsScene P S) where
 
   -- a global scalar
   global_bump : (o : BumpOp) (k : Kind) (g d top low : ℕ) (f : State) (s : eval.State) → d < 16
-      → GlobalIs (scope P S) g k None → Related S s f → 4 + 8 * s.stock ≤ top
+      → GlobalIs (scope P S) g k None None → Related S s f → 4 + 8 * s.stock ≤ top
       → low ≤ s.stock + most * f.rounds
       → FollowsHere P most S y d (Some k) f
       (bump_memory o (is_before o) (Const (global_at P.globals g)) d k) f top low
@@ -313,7 +315,7 @@ module _ (P : TypedProgram) (most : ℕ) (S : Scene) (y : IsScene P S) where
   global_bump o k g d top low f s ld x r hu hl =
       let q : ObjectIs S.objects g k = record {
         it = object (global_at P.globals g) x.global.kind
-            (length_of x.global.length);
+            (length_of x.global.length) x.global.row;
         found = y.globals g x.global x.found;
         kind = x.kind;
       } in
@@ -322,12 +324,12 @@ module _ (P : TypedProgram) (most : ℕ) (S : Scene) (y : IsScene P S) where
       (bumped_value o)
 
   -- an element, behind its index
-  element_end : (o : BumpOp) (p : Place) (k : Kind) (j : Option Kind) (d w top low : ℕ)
-      (f0 g : State) (s : eval.State) → d < 16 → FitsWhole (scope P S) k p → ValueIs S d j f0 w s g
+  element_end : (o : BumpOp) (p : Place) (q : Option ℕ) (k : Kind) (j : Option Kind) (d w top low : ℕ)
+      (f0 g : State) (s : eval.State) → d < 16 → FitsWhole (scope P S) k q p → ValueIs S d j f0 w s g
       → 7 + 8 * s.stock ≤ top → low ≤ s.stock + most * g.rounds
       → FollowsHere P most S y d (Some k) f0 (element_bump (context P S) o p d k) g top low
       (bump_element o (Some k) p (Value w) s)
-  element_end o p k j d w top low f0 g s ld t v hu hl =
+  element_end o p q k j d w top low f0 g s ld t v hu hl =
       let a = address_code (context P S) p k 80 (temp d) in
       let b = bump_memory o (is_before o) (Var 80) d k in
       needed most (Valued S d (Some k) f0) (run P most S y (Then a b) g) top low
@@ -335,19 +337,19 @@ module _ (P : TypedProgram) (most : ℕ) (S : Scene) (y : IsScene P S) where
       let i = element_is P most S y p k w s x ex in
       subst (λ x. FollowsHere P most S y d (Some k) f0 (Then a b) g top low
       (bump_object o (Some k) s x)) (sym i.is)
-      (let q = (place_is P (functions P most)
-      (base P most) S y p k i.number s g v.keeps.rel t i.array).array in
-      let at = addressed P (functions P most) (base P most) k w q.it.at in
-      let pa = address_puts P (functions P most) (base P most) S y p k i.number s g v.keeps.rel t i.array q 80
+      (let z = (place_is P (functions P most)
+      (base P most) S y p k q i.number s g v.keeps.rel t i.array).array in
+      let at = addressed P (functions P most) (base P most) k w z.it.at in
+      let pa = address_puts P (functions P most) (base P most) S y p k q i.number s g v.keeps.rel t i.array z 80
       (temp d) w (omega arith) (λ e. omega arith) (λ e. omega arith) v.is in
       let ke = keeps_set P most S y d f0 g pa.to s 80 81 at (omega arith) (omega arith) (omega arith) v.keeps pa.sets in
       moved most (Valued S d (Some k) f0) (run P most S y (Then a b) g)
       (run P most S y b pa.to) pa.t top low (bump_object o (Some k) s (InArray i.number w))
       (then_moves checked (functions P most) (base P most) S.env a b g pa.to pa.t pa.leads)
       (omega (arith, pa.few))
-      (memory_bump o k (Var 80) i.number w at d (top - pa.t) low f0 pa.to s (is_before o) q ld
+      (memory_bump o k (Var 80) i.number w at d (top - pa.t) low f0 pa.to s (is_before o) z ld
       (λ h e. var_read (functions P most) (base P most) S.env h 80 at (e ∙ pa.sets.value))
-      (λ lt. element_address P (functions P most) (base P most) S y i.number w k q lt)
+      (λ lt. element_address P (functions P most) (base P most) S y i.number w k z lt)
       ke (omega (arith, pa.few)) (subst (λ r. low ≤ s.stock + most * r) (sym pa.sets.rounds) hl)
       (bumped_value o))))
 
@@ -366,7 +368,7 @@ module _ (P : TypedProgram) (most : ℕ) (S : Scene) (y : IsScene P S) where
       scalar_bump o k i d top low f s (is_before o) ld t.1.1 r (omega arith) (omega arith)
       (bumped_value o)
   bump_left o k (node.Name (Array a)) j d top low s f ld h t r hu hl = absurd t.1.1
-  bump_left o k (node.Element p e) j d top low s f ld h t r hu hl =
+  bump_left o k (node.Element p None e) j d top low s f ld h t r hu hl =
       operand P most S y (Valued S d (Some k) f) e d
       (element_bump (context P S) o p d k) s f top low (bump_element o (Some k) p)
       (h e s (omega arith)) t.2 r (omega arith) (omega arith)
@@ -374,8 +376,23 @@ module _ (P : TypedProgram) (most : ℕ) (S : Scene) (y : IsScene P S) where
       wanted most (Valued S d (Some k) f) (run P most S y (element_bump (context P S) o p d k) g)
       (top - t1) low v s1 (λ w. with_some (element_of p w s1) s1 (bump_object o (Some k) s1))
       (λ w ew.
-      element_end o p k e.kind d w (top - t1) low f g s1 ld t.1
+      element_end o p None k e.kind d w (top - t1) low f g s1 ld t.1
       (value_at S d e.kind f v w s1 g ew hv) (omega arith) (omega arith)))
+  bump_left o k (node.Element p (Some row) e) j d top low s f ld h t r hu hl =
+      let b = element_bump (context P S) o p d k in
+      let q = t.1.0 in
+      let Q = Valued S d (Some k) f in
+      row_operands P most S y Q p k q row e d b s f top low
+      (λ i j s. with_some (row_element_of p i j s) s (bump_object o (Some k) s))
+      (depth_fits (scope P S) (suc d) (expr_of e) t.3) h t.1.1 t.2 t.3 r (omega arith) (omega arith)
+      (λ i j s2 g t1 v ls us ds.
+      row_reads P most S y Q (run P most S y b g) (top - t1) low p k q i j s2 g
+      (λ x old. with_some (bump_of o (Some k) old) s2 (λ new. then (store s2 x new)
+      (giving (bump_value o old new)))) v.keeps.rel t.1.1 (λ n m en same.
+      subst (λ o1. FollowsHere P most S y d (Some k) f b g (top - t1) low
+      (with_some (element_in o1 m) s2 (bump_object o (Some k) s2))) en
+      (element_end o p (Some q) k (Some ULong) d m (top - t1) low f g s2 ld t.1.1
+      (subst (λ w. ValueIs S d (Some ULong) f w s2 g) same v) (omega arith) (omega arith))))
   bump_left o k (node.Number w) j d top low s f ld h t r hu hl = absurd t
   bump_left o k (node.Call g args) j d top low s f ld h t r hu hl = absurd t
   bump_left o k (node.Unary u e) j d top low s f ld h t r hu hl = absurd t
@@ -391,7 +408,8 @@ module _ (P : TypedProgram) (most : ℕ) (S : Scene) (y : IsScene P S) where
   pub left_kind : (k : Option Kind) (x : Node) (j : Option Kind) (d : ℕ)
       → FitsLeft (scope P S) d k (plain_node x j) → j ≡ k
   left_kind k (node.Name p) j d t = t.0
-  left_kind k (node.Element p e) j d t = t.0
+  left_kind k (node.Element p None e) j d t = t.0
+  left_kind k (node.Element p (Some row) e) j d t = t.0
   left_kind k (node.Number w) j d t = absurd t
   left_kind k (node.Call g args) j d t = absurd t
   left_kind k (node.Unary u e) j d t = absurd t
@@ -407,7 +425,8 @@ module _ (P : TypedProgram) (most : ℕ) (S : Scene) (y : IsScene P S) where
   pub left_some : (x : Node) (j : Option Kind) (d : ℕ)
       → FitsLeft (scope P S) d None (plain_node x j) → ⊥
   left_some (node.Name p) j d t = t.1
-  left_some (node.Element p e) j d t = t.1
+  left_some (node.Element p None e) j d t = t.1
+  left_some (node.Element p (Some row) e) j d t = t.1
   left_some (node.Number w) j d t = t
   left_some (node.Call g args) j d t = t
   left_some (node.Unary u e) j d t = t

@@ -5,7 +5,7 @@ use Rattle.std.proofs.Common.{ap₂, ◌∙◌, subst, arith}
 use Rattle.std.specs.Prelude.{◌&&◌, nat_eq, nat_lt, nat_le}
 use Rattle.std.proofs.lemmas.Bool.Decides.{nat_tests}
 use Rattle.c_tree.specs.declared.Kind.{Kind}
-use Rattle.c_tree.specs.declared.Kind.TheVariants.{Char, UChar, Int, UInt, Long, ULong}
+use Rattle.c_tree.specs.declared.Kind.TheVariants.{Char, UChar, Short, UShort, Int, UInt, Long, ULong}
 use Rattle.c_constant.specs.Kinds.{converted}
 use Rattle.c_constant.specs.Kinds.{bytes}
 use Rattle.trips_isa.specs.declared.op.Op.{Op}
@@ -61,6 +61,8 @@ load_same k m n a h = go k h
         → load checked (load_op k) m a ≡ load checked (load_op k) n a
     go Char h = by_size (load_op Char) 1 h
     go UChar h = by_size (load_op UChar) 1 h
+    go Short h = by_size (load_op Short) 2 h
+    go UShort h = by_size (load_op UShort) 2 h
     go Int h = by_size (load_op Int) 4 h
     go UInt h = by_size (load_op UInt) 4 h
     go Long h = by_size (load_op Long) 8 h
@@ -165,6 +167,8 @@ save_is k m a v g h = go k g h
         → save checked (save_op k) m a v ≡ Some (number_put m a (bytes k) v)
     go Char g h = by_size 1 g h
     go UChar g h = by_size 1 g h
+    go Short g h = by_size 2 g h
+    go UShort g h = by_size 2 g h
     go Int g h = by_size 4 g h
     go UInt g h = by_size 4 g h
     go Long g h = by_size 8 g h
@@ -173,6 +177,9 @@ save_is k m a v g h = go k g h
 -- the bytes of a word of a type make it again
 low_one : (v : ℕ) → low_bytes 1 v ≡ v % 256
 low_one v = omega arith
+
+low_two : (v : ℕ) → low_bytes 2 v ≡ v % 65536
+low_two v = omega arith
 
 low_four : (v : ℕ) → low_bytes 4 v ≡ v % 4294967296
 low_four v = omega arith
@@ -186,6 +193,12 @@ again_char v =
     let e : v % 256 % 256 ≡ v % 256 = omega arith in
     ap (λ x. cond (nat_lt x 128) x (x + (18446744073709551616 - (128 + 128)))) e
 
+again_short : (v : ℕ) → converted Short (v % 65536) ≡ converted Short v
+unfolding converted
+again_short v =
+    let e : v % 65536 % 65536 ≡ v % 65536 = omega arith in
+    ap (λ x. cond (nat_lt x 32768) x (x + (18446744073709551616 - (32768 + 32768)))) e
+
 again_int : (v : ℕ) → converted Int (v % 4294967296) ≡ converted Int v
 unfolding converted
 again_int v =
@@ -197,6 +210,9 @@ unfolding converted
 loaded_again Char v f = ap (loaded_as (load_op Char)) (low_one v) ∙ again_char v
     ∙ converted_is Char v f
 loaded_again UChar v f = let n : v < 256 = f.narrow in omega arith
+loaded_again Short v f = ap (loaded_as (load_op Short)) (low_two v) ∙ again_short v
+    ∙ converted_is Short v f
+loaded_again UShort v f = let n : v < 65536 = f.narrow in low_two v ∙ omega arith
 loaded_again Int v f = ap (loaded_as (load_op Int)) (low_four v) ∙ again_int v
     ∙ converted_is Int v f
 loaded_again UInt v f = let n : v < 4294967296 = f.narrow in low_four v ∙ omega arith
@@ -222,6 +238,8 @@ load_saved k m a v g f = go k g ∙ ap Some (loaded_again k v f)
         ≡ Some (loaded_as (load_op k) (low_bytes (bytes k) v))
     go Char g = by_size (load_op Char) 1 g
     go UChar g = by_size (load_op UChar) 1 g
+    go Short g = by_size (load_op Short) 2 g
+    go UShort g = by_size (load_op UShort) 2 g
     go Int g = by_size (load_op Int) 4 g
     go UInt g = by_size (load_op UInt) 4 g
     go Long g = by_size (load_op Long) 8 g

@@ -49,6 +49,7 @@ use Rattle.flat_lower.specs.Fits.{FitsArgs, FitsCall, FitsExpr, FitsOne, FitsFun
 use Rattle.flat_lower.specs.Fits.{FitsStmt}
 use Rattle.flat_lower.specs.Sizes.{nodes, all_nodes, size_of, IsMost}
 use Rattle.flat_lower.proofs.Straight.{puts_let, var_read, put_at, put_other}
+use Rattle.flat_lower.specs.declared.around.Around.TheVariants as around
 use Rattle.flat_lower.proofs.Follows.{Post, Goes, Follows, FollowsOver, wanted, moved}
 use Rattle.flat_lower.proofs.Related.{Scene, IsScene, scope, context, frames_from, Related}
 use Rattle.flat_lower.proofs.Related.{recounted, unseen}
@@ -159,7 +160,7 @@ module _ (P : TypedProgram) (most : ℕ) (sound : FitsSource (source_of P)) (lar
       let first = begins P S y f F is ws vs s (counted g) (omega arith) are (recounted S s g ke.rel) in
       comes_back P most S y j f found vs g xs reads d ld k ek f0 room (main_is_int j f found) s top low
       (meaning P (Run f.body) (entered f ws s)) ke.rel ke (omega arith)
-      (h (called_scene P S f F) scene (top - 11) low _ fits.body (omega arith) first (omega arith)
+      (h (called_scene P S f F) scene around.Nowhere (top - 11) low _ fits.body (omega arith) first (omega arith)
       (omega (arith, mul-suc most g.rounds)))
 
   -- the whole call, from its arguments on
@@ -234,6 +235,7 @@ module _ (P : TypedProgram) (most : ℕ) (sound : FitsSource (source_of P)) (lar
               scalars = u.scalars;
               count = u.count;
               stored = u.stored;
+              rows = u.rows;
               input = refl;
               bytes = λ i c h. r.bytes (suc i) c (ap (λ z. slice_get z (suc i)) e ∙ h);
               output = u.output;
@@ -272,6 +274,7 @@ module _ (P : TypedProgram) (most : ℕ) (sound : FitsSource (source_of P)) (lar
           scalars = r.scalars;
           count = r.count;
           stored = r.stored;
+          rows = r.rows;
           input = r.input;
           bytes = r.bytes;
           output = ap (λ o. o ++ (w % 256) ∷ []) r.output;

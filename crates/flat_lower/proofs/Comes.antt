@@ -42,18 +42,18 @@ use Rattle.c_constant.specs.Kinds.{IsWord}
 use Rattle.flat_lower.specs.Operations.{temp}
 use Rattle.flat_lower.specs.Expressions.{result_var}
 use Rattle.flat_lower.specs.Statements.{end_code, stmt_code, lowered_func, lowered_from}
-use Rattle.flat_lower.specs.Fits.{FitsStmt}
+use Rattle.flat_lower.specs.declared.around.Around.TheVariants as around
 use Rattle.flat_lower.specs.Sizes.{size_of}
 use Rattle.flat_lower.proofs.Straight.{put_at, put_other}
 use Rattle.flat_lower.proofs.Bytes.{marked_out}
 use Rattle.flat_lower.proofs.Objects.{Object, all_first, all_same, all_length, within_row}
 use Rattle.flat_lower.proofs.Objects.{AllStored}
-use Rattle.flat_lower.proofs.Follows.{Post, Goes, Follows, FollowsOver, run_of}
+use Rattle.flat_lower.proofs.Follows.{Post, Goes, Follows, FollowsIn, FollowsOver, run_of}
 use Rattle.flat_lower.proofs.Related.{Scene, IsScene, scope, context, frames_from, IsScalar}
 use Rattle.flat_lower.proofs.Related.{Related}
 use Rattle.flat_lower.proofs.Values.{KeptIs, ValueIs, Valued, functions, base, run}
 use Rattle.flat_lower.proofs.Entered.{own_objects, called_scene, LoweredIs}
-use Rattle.flat_lower.proofs.Returns.{Ended, ReturnIs, FollowsRun, function_at, lowered_of}
+use Rattle.flat_lower.proofs.Returns.{EndedIn, ReturnIs, FollowsRun, function_at, lowered_of}
 use Rattle.flat_lower.proofs.Returns.{lowered_is, body_run, this_call, call_dives, closed_leads}
 use Rattle.flat_lower.proofs.Returns.{closed_stops, after, resumed, returns}
 
@@ -70,7 +70,7 @@ module _ (P : TypedProgram) (most : ℕ) (S : Scene) (y : IsScene P S) (j : ℕ)
   at = arrays_at (base P most) F S.env.used
 
   abbrev B : Code
-  B = stmt_code (context P (called_scene P S f F)) (stmt_of f.body)
+  B = stmt_code (context P (called_scene P S f F)) around.Nowhere (stmt_of f.body)
 
   -- the call of the function with these arguments
   module _ (xs : List Arg) (are : read_all checked g xs ≡ Some vs) (d : ℕ) (ld : d < 16) (k : Option Kind)
@@ -179,7 +179,7 @@ module _ (P : TypedProgram) (most : ℕ) (S : Scene) (y : IsScene P S) (j : ℕ)
     -- whatever the body came to; main is of type int
     pub comes_back : (nat_eq j P.main ≡ true → f.result ≡ Some Int) → (s : eval.State)
         (top low : ℕ) (r : Result) → Related S s g → KeptIs S d f0 s g
-        → 11 ≤ top → Follows most (Ended (called_scene P S f F))
+        → 11 ≤ top → FollowsIn around.Nowhere most (EndedIn around.Nowhere (called_scene P S f F))
         (body_run P most S.env.used j f found vs (counted g) B) (top - 11) low r
         → Follows most (Valued S d k f0) (run P most S y C g) top low
         (then r (left (nat_eq j P.main) s.scalars (length s.arrays) s.base s.room))

@@ -2,7 +2,7 @@
 use Rattle.std.proofs.Common.{◌≡◌, ℕ, suc, ◌<◌, Option, Some, None}
 use Rattle.c_tree.specs.declared.Kind.{Kind}
 use Rattle.flat_lower.specs.Tree.{Expr, Number, Name, Element, Call, Unary, Cast, Convert, Bump}
-use Rattle.flat_lower.specs.Tree.{Binary, Choice, Assign, Comma}
+use Rattle.flat_lower.specs.Tree.{Binary, Choice, Assign, Comma, RowElement}
 use Rattle.flat_lower.specs.Fits.{Scope, FitsExpr, FitsLeft}
 
 mutual
@@ -12,6 +12,7 @@ mutual
   depth_fits c d (Name None p) t = absurd t
   depth_fits c d (Name (Some k) p) t = t.0
   depth_fits c d (Element k p index) t = depth_fits c d index t.1
+  depth_fits c d (RowElement k p row index) t = depth_fits c d row t.1
   depth_fits c d (Call k f args) t = t.0
   depth_fits c d (Unary k o e) t = depth_fits c d e t.0
   depth_fits c d (Cast k to e) t = depth_fits c d e t.0
@@ -26,6 +27,7 @@ mutual
   left_fits c d None (Name j p) t = absurd t.1
   left_fits c d (Some k) (Name j p) t = t.1.0
   left_fits c d k (Element j p index) t = depth_fits c d index t.2
+  left_fits c d k (RowElement j p row index) t = depth_fits c d row t.2
   left_fits c d k (Number j w) t = absurd t
   left_fits c d k (Call j f args) t = absurd t
   left_fits c d k (Unary j o e) t = absurd t

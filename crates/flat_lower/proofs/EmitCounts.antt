@@ -6,11 +6,14 @@ use Rattle.ir_forms.specs.FlatCode.{Then}
 use Rattle.ir_forms.specs.FlatViews.{code_of}
 use Rattle.flat_lower.specs.Tree.{Stmt, Declare, Plain, Compound, If, While, Do, For, Break}
 use Rattle.flat_lower.specs.Tree.{Continue, Return, Stmts, NoStmts, WithStmt, First, Nothing}
-use Rattle.flat_lower.specs.Tree.{FirstOf, Locals}
+use Rattle.flat_lower.specs.Tree.{FirstOf, Locals, Switch, Sections, NoSections, WithSection}
+use Rattle.c_tree.specs.declared.TypedSection.{TypedSection}
+use Rattle.flat_lower.specs.declared.around.Around.{Around}
 use Rattle.flat_lower.specs.TreeViews.{stmt_of}
 use Rattle.flat_lower.specs.Objects.{Context}
-use Rattle.flat_lower.specs.Statements.{stmt_code, stmts_code}
-use Rattle.flat_lower.specs.Emitted.{Adds, block_of}
+use Rattle.flat_lower.specs.Statements.{stmt_code, stmts_code, sections_code}
+use Rattle.flat_lower.specs.Switches.{section_code}
+use Rattle.flat_lower.specs.Emitted.{Adds, block_of, sections_in}
 use Rattle.flat_lower.proofs.Emits.{then_then, then_nop}
 
 abbrev mutual
@@ -23,6 +26,7 @@ abbrev mutual
   stmts_in (While t body) = suc (stmts_in body)
   stmts_in (Do body t) = suc (stmts_in body)
   stmts_in (For first t p body) = suc (stmts_in_first first + stmts_in body)
+  stmts_in (Switch t xs) = suc (suc (stmts_in_sections xs))
   stmts_in Break = 1
   stmts_in Continue = 1
   stmts_in (Return e) = 1
@@ -30,6 +34,10 @@ abbrev mutual
   pub stmts_in_all : Stmts → ℕ
   stmts_in_all NoStmts = 0
   stmts_in_all (WithStmt s rest) = stmts_in s + stmts_in_all rest
+
+  pub stmts_in_sections : Sections → ℕ
+  stmts_in_sections NoSections = 0
+  stmts_in_sections (WithSection ls body rest) = suc (stmts_in_all body + stmts_in_sections rest)
 
   pub stmts_in_first : First → ℕ
   stmts_in_first Nothing = 0
@@ -43,30 +51,59 @@ abbrev pub count_block : List TypedStmt → ℕ
 count_block all = stmts_in_all (block_of all)
 
 -- some statements are emitted, and `rest` are to come
-pub record StmtsSoFar (c : Context) (all rest : List TypedStmt) (old code : List FlatStmt) : Type 0 where
-  pub written : Then (code_of code) (stmts_code c (block_of rest))
-      ≡ Then (code_of old) (stmts_code c (block_of all))
+pub record StmtsSoFar (c : Context) (around : Around) (all rest : List TypedStmt) (old code : List FlatStmt) : Type 0 where
+  pub written : Then (code_of code) (stmts_code c around (block_of rest))
+      ≡ Then (code_of old) (stmts_code c around (block_of all))
   pub fewer : count_block rest ≤ count_block all
 
 -- at the start
-pub stmts_start : (c : Context) (all : List TypedStmt) (old : List FlatStmt)
-    → StmtsSoFar c all all old old
-stmts_start c all old = record { written = refl; fewer = omega arith }
+pub stmts_start : (c : Context) (b : Around) (all : List TypedStmt) (old : List FlatStmt)
+    → StmtsSoFar c b all all old old
+stmts_start c b all old = record { written = refl; fewer = omega arith }
 
 -- one statement more
-pub stmts_go_on : (c : Context) (all rest : List TypedStmt) (a : TypedStmt)
+pub stmts_go_on : (c : Context) (b : Around) (all rest : List TypedStmt) (a : TypedStmt)
     (old code code' : List FlatStmt)
-    → StmtsSoFar c all (a ∷ rest) old code → Adds code code' (stmt_code c (stmt_of a))
-    → StmtsSoFar c all rest old code'
-stmts_go_on c all rest a old code code' s h = record {
+    → StmtsSoFar c b all (a ∷ rest) old code → Adds code code' (stmt_code c b (stmt_of a))
+    → StmtsSoFar c b all rest old code'
+stmts_go_on c b all rest a old code code' s h = record {
   written =
-      ap (λ z. Then z (stmts_code c (block_of rest))) h.is
-      ∙ then_then (code_of code) (stmt_code c (stmt_of a)) (stmts_code c (block_of rest))
+      ap (λ z. Then z (stmts_code c b (block_of rest))) h.is
+      ∙ then_then (code_of code) (stmt_code c b (stmt_of a)) (stmts_code c b (block_of rest))
       ∙ s.written;
   fewer = omega (arith, s.fewer);
 }
 
 -- at the end
-pub stmts_end : (c : Context) (all : List TypedStmt) (old code : List FlatStmt)
-    → StmtsSoFar c all [] old code → Adds old code (stmts_code c (block_of all))
-stmts_end c all old code s = record { is = sym (then_nop (code_of code)) ∙ s.written }
+pub stmts_end : (c : Context) (b : Around) (all : List TypedStmt) (old code : List FlatStmt)
+    → StmtsSoFar c b all [] old code → Adds old code (stmts_code c b (block_of all))
+stmts_end c b all old code s = record { is = sym (then_nop (code_of code)) ∙ s.written }
+
+abbrev pub count_sections : List TypedSection → ℕ
+count_sections xs = stmts_in_sections (sections_in xs)
+
+-- some sections are emitted, and `rest` are to come
+pub record SectionsSoFar (c : Context) (around : Around) (all rest : List TypedSection)
+    (old code : List FlatStmt) : Type 0 where
+  pub written : Then (code_of code) (sections_code c around (sections_in rest))
+      ≡ Then (code_of old) (sections_code c around (sections_in all))
+  pub fewer : count_sections rest ≤ count_sections all
+
+-- one section more
+pub sections_go_on : (c : Context) (b : Around) (all rest : List TypedSection) (a : TypedSection)
+    (old code code' : List FlatStmt) → SectionsSoFar c b all (a ∷ rest) old code
+    → Adds code code' (section_code (stmts_code c b (block_of a.body)))
+    → SectionsSoFar c b all rest old code'
+sections_go_on c b all rest a old code code' s h = record {
+  written =
+      ap (λ z. Then z (sections_code c b (sections_in rest))) h.is
+      ∙ then_then (code_of code) (section_code (stmts_code c b (block_of a.body)))
+      (sections_code c b (sections_in rest))
+      ∙ s.written;
+  fewer = omega (arith, s.fewer);
+}
+
+-- at the end
+pub sections_end : (c : Context) (b : Around) (all : List TypedSection) (old code : List FlatStmt)
+    → SectionsSoFar c b all [] old code → Adds old code (sections_code c b (sections_in all))
+sections_end c b all old code s = record { is = sym (then_nop (code_of code)) ∙ s.written }

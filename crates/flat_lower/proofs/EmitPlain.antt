@@ -20,7 +20,8 @@ module _ (f : TypedExpr) where
         → named_scalar (level x k) ≡ None
     unnamed_at k (TypedNode-F.Name p) e = absurd (no_name p (sym e ∙ node.rolls-Name p))
     unnamed_at k (TypedNode-F.Number w) e = refl
-    unnamed_at k (TypedNode-F.Element p i) e = refl
+    unnamed_at k (TypedNode-F.Element p None i) e = refl
+    unnamed_at k (TypedNode-F.Element p (Some r) i) e = refl
     unnamed_at k (TypedNode-F.Call g args) e = refl
     unnamed_at k (TypedNode-F.Unary op a) e = refl
     unnamed_at k (TypedNode-F.Cast to a) e = refl
@@ -41,7 +42,8 @@ module _ (f : TypedExpr) where
           → roll-TypedNode x ≡ f.node → simple_arg (level x k) ≡ None
       complex_at k (TypedNode-F.Name p) e = absurd (no_name p (sym e ∙ node.rolls-Name p))
       complex_at k (TypedNode-F.Number w) e = absurd (no_number w (sym e ∙ node.rolls-Number w))
-      complex_at k (TypedNode-F.Element p i) e = refl
+      complex_at k (TypedNode-F.Element p None i) e = refl
+      complex_at k (TypedNode-F.Element p (Some r) i) e = refl
       complex_at k (TypedNode-F.Call g args) e = refl
       complex_at k (TypedNode-F.Unary op a) e = refl
       complex_at k (TypedNode-F.Cast to a) e = refl
@@ -65,7 +67,8 @@ module _ (f : TypedExpr) where
         absurd (no_assignment op a l r (sym e ∙ node.rolls-Assign op a l r))
     unassigned_at k (TypedNode-F.Name p) e = refl
     unassigned_at k (TypedNode-F.Number w) e = refl
-    unassigned_at k (TypedNode-F.Element p i) e = refl
+    unassigned_at k (TypedNode-F.Element p None i) e = refl
+    unassigned_at k (TypedNode-F.Element p (Some r) i) e = refl
     unassigned_at k (TypedNode-F.Call g args) e = refl
     unassigned_at k (TypedNode-F.Unary op a) e = refl
     unassigned_at k (TypedNode-F.Cast to a) e = refl

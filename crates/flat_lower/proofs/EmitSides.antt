@@ -11,7 +11,7 @@ use Rattle.c_tree.specs.declared.TypedNode.TheVariants as node
 use Rattle.c_tree.specs.declared.TypedNode.TheOpen.{TypedNode-F}
 use Rattle.ir_forms.specs.declared.flat.FlatStmt.{FlatStmt}
 use Rattle.ir_forms.specs.FlatCode.{Code, Nop, Then}
-use Rattle.flat_lower.specs.Tree.{Expr, Name, Element, Bump, Assign, kind_of}
+use Rattle.flat_lower.specs.Tree.{Expr, Name, Element, RowElement, Bump, Assign, kind_of}
 use Rattle.flat_lower.specs.TreeViews.{expr_of}
 use Rattle.flat_lower.specs.Objects.{Context}
 use Rattle.flat_lower.specs.Expressions.{with_kind, bump_code, before_right, after_right, right_at}
@@ -20,16 +20,17 @@ use Rattle.flat_lower.specs.Emitted.{Adds, side_in, shape}
 use Rattle.flat_lower.specs.declared.side.Side.{Side}
 use Rattle.flat_lower.specs.declared.side.Side.TheVariants as side
 use Rattle.flat_lower.proofs.Emits.{two, turned}
-use Rattle.flat_lower.proofs.EmitTrees.{level, by_out}
+use Rattle.flat_lower.proofs.EmitTrees.{level, by_out, expr-Element, expr-RowElement}
 
 -- NODES THAT ARE NO LEFT SIDE
 
-module _ (f : TypedExpr) (no_element : (p : Place) (i : TypedExpr) → f.node ≡ node.Element p i → ⊥) where
+module _ (f : TypedExpr) (no_element : (p : Place) (r : Option TypedExpr) (i : TypedExpr)
+    → f.node ≡ node.Element p r i → ⊥) where
   index_at : (c : Context) (d : ℕ) (k : Option Kind) (x : TypedNode-F TypedNode TypedExpr)
       → roll-TypedNode x ≡ f.node
       → index_code c d (level x k) ≡ Nop
-  index_at c d k (TypedNode-F.Element p i) e =
-      absurd (no_element p i (sym e ∙ node.rolls-Element p i))
+  index_at c d k (TypedNode-F.Element p r i) e =
+      absurd (no_element p r i (sym e ∙ node.rolls-Element p r i))
   index_at c d k (TypedNode-F.Number w) e = refl
   index_at c d k (TypedNode-F.Name p) e = refl
   index_at c d k (TypedNode-F.Call g args) e = refl
@@ -50,8 +51,8 @@ module _ (f : TypedExpr) (no_element : (p : Place) (i : TypedExpr) → f.node �
   module _ (no_name : (p : Place) → f.node ≡ node.Name p → ⊥) where
     neither_at : (k : Option Kind) (x : TypedNode-F TypedNode TypedExpr) → roll-TypedNode x ≡ f.node
         → side_in (level x k) ≡ side.Neither
-    neither_at k (TypedNode-F.Element p i) e =
-        absurd (no_element p i (sym e ∙ node.rolls-Element p i))
+    neither_at k (TypedNode-F.Element p r i) e =
+        absurd (no_element p r i (sym e ∙ node.rolls-Element p r i))
     neither_at k (TypedNode-F.Name p) e = absurd (no_name p (sym e ∙ node.rolls-Name p))
     neither_at k (TypedNode-F.Number w) e = refl
     neither_at k (TypedNode-F.Call g args) e = refl
@@ -69,39 +70,52 @@ module _ (f : TypedExpr) (no_element : (p : Place) (i : TypedExpr) → f.node �
     neither = ap side_in (by_out f) ∙ neither_at f.kind (out-TypedNode f.node)
         (roll-out-TypedNode f.node)
 
+-- an element is one by one index or by two
+pub side_element : (f : TypedExpr) (p : Place) (r : Option TypedExpr) (i : TypedExpr)
+    → f.node ≡ node.Element p r i → side.Element p ≡ side_in (expr_of f)
+side_element f p None i h = sym (ap side_in (expr-Element f p i h))
+side_element f p (Some r) i h = sym (ap side_in (expr-RowElement f p r i h))
+
 -- SHAPES
 
 bump_shape : (c : Context) (o : BumpOp) (d : ℕ) (l : Expr)
     → bump_code c o d (shape (side_in l)) ≡ bump_code c o d l
 bump_shape c o d (Name k p) = refl
 bump_shape c o d (Element k p i) = refl
+bump_shape c o d (RowElement k p r i) = refl
 bump_shape c o d _ = refl
 
 before_shape : (c : Context) (o : Option BinaryOp) (at : Kind) (d : ℕ) (l : Expr)
     → before_right c o at d (shape (side_in l)) ≡ before_right c o at d l
 before_shape c None at d (Name k p) = refl
 before_shape c None at d (Element k p i) = refl
+before_shape c None at d (RowElement k p r i) = refl
 before_shape c None at d _ = refl
 before_shape c (Some o) at d (Name k p) = refl
 before_shape c (Some o) at d (Element k p i) = refl
+before_shape c (Some o) at d (RowElement k p r i) = refl
 before_shape c (Some o) at d _ = refl
 
 after_shape : (c : Context) (o : Option BinaryOp) (at : Kind) (d : ℕ) (l : Expr)
     → after_right c o at d (shape (side_in l)) ≡ after_right c o at d l
 after_shape c None at d (Name k p) = refl
 after_shape c None at d (Element k p i) = refl
+after_shape c None at d (RowElement k p r i) = refl
 after_shape c None at d _ = refl
 after_shape c (Some o) at d (Name k p) = refl
 after_shape c (Some o) at d (Element k p i) = refl
+after_shape c (Some o) at d (RowElement k p r i) = refl
 after_shape c (Some o) at d _ = refl
 
 right_shape : (o : Option BinaryOp) (d : ℕ) (l : Expr)
     → right_at o d (shape (side_in l)) ≡ right_at o d l
 right_shape None d (Name k p) = refl
 right_shape None d (Element k p i) = refl
+right_shape None d (RowElement k p r i) = refl
 right_shape None d _ = refl
 right_shape (Some o) d (Name k p) = refl
 right_shape (Some o) d (Element k p i) = refl
+right_shape (Some o) d (RowElement k p r i) = refl
 right_shape (Some o) d _ = refl
 
 -- `++` and `--`: the index, and then what follows

@@ -1,5 +1,5 @@
 -- Typed statements level by level, as plain data.
-use Rattle.std.proofs.Common.{◌≡◌, List, Option, Some, None, sym, ap, ◌∙◌}
+use Rattle.std.proofs.Common.{◌≡◌, ℕ, List, [], ◌∷◌, map, Option, Some, None, refl, sym, ap, ◌∙◌}
 use Rattle.c_tree.specs.declared.Place.{Place}
 use Rattle.c_tree.specs.declared.TypedExpr.{TypedExpr}
 use Rattle.c_tree.specs.declared.TypedStmt.{TypedStmt, map-TypedStmt, fold-TypedStmt}
@@ -9,22 +9,42 @@ use Rattle.c_tree.specs.declared.TypedForInit.{TypedForInit, map-TypedForInit, f
 use Rattle.c_tree.specs.declared.TypedForInit.{fold-roll-TypedForInit, roll-TypedForInit}
 use Rattle.c_tree.specs.declared.TypedForInit.TheVariants as init
 use Rattle.c_tree.specs.declared.TypedForInit.TheOpen.{TypedStmt-F, TypedForInit-F}
+use Rattle.c_tree.specs.declared.TypedSection.{TypedSection, fold-TypedSection, fold_out-TypedSection}
 use Rattle.flat_lower.specs.Tree.{Stmt, Declare, Plain, Compound, If, While, Do, For, Break}
-use Rattle.flat_lower.specs.Tree.{Continue, Return, First, Nothing, FirstOf, Locals}
-use Rattle.flat_lower.specs.TreeViews.{expr_of, expr_if, stmt_by, first_by, stmt_of}
-use Rattle.flat_lower.specs.Emitted.{block_of, first_of, other_of}
+use Rattle.flat_lower.specs.Tree.{Switch, Continue, Return, First, Nothing, FirstOf, Locals}
+use Rattle.flat_lower.specs.TreeViews.{expr_of, expr_if, stmt_by, first_by, stmt_of, Section}
+use Rattle.flat_lower.specs.TreeViews.{sections_of, section_by}
+use Rattle.flat_lower.specs.Emitted.{block_of, first_of, other_of, section_of, sections_in}
 
-stmt_is : (x : TypedStmt-F TypedForInit TypedStmt) (s : TypedStmt) → roll-TypedStmt x ≡ s
-    → stmt_of s ≡ stmt_by (map-TypedStmt TypedForInit TypedStmt First Stmt first_of stmt_of x)
-unfolding stmt_of first_of
-stmt_is x s e = ap (fold-TypedStmt First Stmt first_by stmt_by) (sym e)
-    ∙ fold-roll-TypedStmt First Stmt first_by stmt_by x
+-- a section by the fold of the whole
+abbrev section_fold : TypedSection → Section
+section_fold x = fold-TypedSection First Stmt Section first_by stmt_by section_by x
 
-first_is : (x : TypedForInit-F TypedForInit TypedStmt) (i : TypedForInit) → roll-TypedForInit x ≡ i
-    → first_of i ≡ first_by (map-TypedForInit TypedForInit TypedStmt First Stmt first_of stmt_of x)
+-- is that of its statements
+fold_section : (x : TypedSection) → section_fold x ≡ section_of x
+unfolding stmt_of
+fold_section x = fold_out-TypedSection First Stmt Section first_by stmt_by section_by x
+
+all_sections : (xs : List TypedSection) → map section_fold xs ≡ map section_of xs
+all_sections [] = refl
+all_sections (x ∷ xs) =
+    ap (λ (y : Section). y ∷ map section_fold xs) (fold_section x)
+    ∙ ap (λ (ys : List Section). section_of x ∷ ys) (all_sections xs)
+
+stmt_is : (x : TypedStmt-F TypedForInit TypedStmt TypedSection) (s : TypedStmt) → roll-TypedStmt x ≡ s
+    → stmt_of s ≡ stmt_by (map-TypedStmt TypedForInit TypedStmt TypedSection First Stmt Section first_of
+    stmt_of section_fold x)
 unfolding stmt_of first_of
-first_is x i e = ap (fold-TypedForInit First Stmt first_by stmt_by) (sym e)
-    ∙ fold-roll-TypedForInit First Stmt first_by stmt_by x
+stmt_is x s e = ap (fold-TypedStmt First Stmt Section first_by stmt_by section_by) (sym e)
+    ∙ fold-roll-TypedStmt First Stmt Section first_by stmt_by section_by x
+
+first_is : (x : TypedForInit-F TypedForInit TypedStmt TypedSection) (i : TypedForInit)
+    → roll-TypedForInit x ≡ i
+    → first_of i ≡ first_by (map-TypedForInit TypedForInit TypedStmt TypedSection First Stmt Section
+    first_of stmt_of section_fold x)
+unfolding stmt_of first_of
+first_is x i e = ap (fold-TypedForInit First Stmt Section first_by stmt_by section_by) (sym e)
+    ∙ fold-roll-TypedForInit First Stmt Section first_by stmt_by section_by x
 
 pub stmt-Declare : (p : Place) (e : Option TypedExpr)
     → stmt_of (node.Declare p e) ≡ Declare p (expr_if e)
@@ -51,6 +71,11 @@ stmt-Do b t = stmt_is (TypedStmt-F.Do b t) _ (node.rolls-Do b t)
 pub stmt-For : (i : TypedForInit) (t p : Option TypedExpr) (b : TypedStmt)
     → stmt_of (node.For i t p b) ≡ For (first_of i) (expr_if t) (expr_if p) (stmt_of b)
 stmt-For i t p b = stmt_is (TypedStmt-F.For i t p b) _ (node.rolls-For i t p b)
+
+pub stmt-Switch : (i : ℕ) (t : TypedExpr) (xs : List TypedSection)
+    → stmt_of (node.Switch i t xs) ≡ Switch (expr_of t) (sections_in xs)
+stmt-Switch i t xs = stmt_is (TypedStmt-F.Switch i t xs) _ (node.rolls-Switch i t xs)
+    ∙ ap (λ ys. Switch (expr_of t) (sections_of ys)) (all_sections xs)
 
 pub stmt-Break : stmt_of node.Break ≡ Break
 stmt-Break = stmt_is TypedStmt-F.Break _ node.rolls-Break

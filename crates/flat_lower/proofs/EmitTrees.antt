@@ -1,5 +1,5 @@
 -- The typed trees level by level, as plain data.
-use Rattle.std.proofs.Common.{◌≡◌, ℕ, List, Option, refl, sym, ap, ◌∙◌}
+use Rattle.std.proofs.Common.{◌≡◌, ℕ, List, Option, Some, None, refl, sym, ap, ◌∙◌}
 use Rattle.c_tree.specs.declared.Kind.{Kind}
 use Rattle.c_tree.specs.declared.UnaryOp.{UnaryOp}
 use Rattle.c_tree.specs.declared.BumpOp.{BumpOp}
@@ -13,7 +13,7 @@ use Rattle.c_tree.specs.declared.TypedNode.{roll-out-TypedNode}
 use Rattle.c_tree.specs.declared.TypedNode.TheVariants as node
 use Rattle.c_tree.specs.declared.TypedNode.TheOpen.{TypedNode-F}
 use Rattle.flat_lower.specs.Tree.{Expr, Number, Name, Element, Call, Unary, Cast, Convert, Bump}
-use Rattle.flat_lower.specs.Tree.{Binary, Choice, Assign, Comma, kind_of}
+use Rattle.flat_lower.specs.Tree.{Binary, Choice, Assign, Comma, kind_of, RowElement}
 use Rattle.flat_lower.specs.TreeViews.{Kindless, node_by, expr_by, expr_of}
 use Rattle.flat_lower.specs.Emitted.{args_of}
 
@@ -45,9 +45,13 @@ module _ (f : TypedExpr) where
   pub expr-Name : (p : Place) → f.node ≡ node.Name p → expr_of f ≡ Name f.kind p
   expr-Name p h = by _ (TypedNode-F.Name p) (node.rolls-Name p) h
 
-  pub expr-Element : (p : Place) (i : TypedExpr) → f.node ≡ node.Element p i
+  pub expr-Element : (p : Place) (i : TypedExpr) → f.node ≡ node.Element p None i
       → expr_of f ≡ Element f.kind p (expr_of i)
-  expr-Element p i h = by _ (TypedNode-F.Element p i) (node.rolls-Element p i) h
+  expr-Element p i h = by _ (TypedNode-F.Element p None i) (node.rolls-Element p None i) h
+
+  pub expr-RowElement : (p : Place) (r i : TypedExpr) → f.node ≡ node.Element p (Some r) i
+      → expr_of f ≡ RowElement f.kind p (expr_of r) (expr_of i)
+  expr-RowElement p r i h = by _ (TypedNode-F.Element p (Some r) i) (node.rolls-Element p (Some r) i) h
 
   pub expr-Call : (g : Callee) (args : List TypedExpr) → f.node ≡ node.Call g args
       → expr_of f ≡ Call f.kind g (args_of args)
@@ -94,7 +98,8 @@ module _ (f : TypedExpr) where
 kind_by : (x : TypedNode-F Kindless Expr) (k : Option Kind) → kind_of (node_by x k) ≡ k
 kind_by (TypedNode-F.Number w) k = refl
 kind_by (TypedNode-F.Name p) k = refl
-kind_by (TypedNode-F.Element p i) k = refl
+kind_by (TypedNode-F.Element p None i) k = refl
+kind_by (TypedNode-F.Element p (Some r) i) k = refl
 kind_by (TypedNode-F.Call g args) k = refl
 kind_by (TypedNode-F.Unary op e) k = refl
 kind_by (TypedNode-F.Cast to e) k = refl

@@ -2,6 +2,7 @@
 use Rattle.std.proofs.Common.{ℕ, suc, ◌+◌, List}
 use Rattle.c_tree.specs.declared.TypedExpr.{TypedExpr}
 use Rattle.flat_lower.specs.Tree.{Expr, Number, Name, Element, Call, Unary, Cast, Convert, Bump}
+use Rattle.flat_lower.specs.Tree.{RowElement}
 use Rattle.flat_lower.specs.Tree.{Binary, Choice, Assign, Comma, Exprs, NoExprs, WithExpr}
 use Rattle.flat_lower.specs.TreeViews.{expr_of}
 use Rattle.flat_lower.specs.Emitted.{args_of}
@@ -12,6 +13,7 @@ abbrev mutual
   nodes (Number k w) = 1
   nodes (Name k p) = 1
   nodes (Element k p index) = suc (nodes index)
+  nodes (RowElement k p row index) = suc (nodes row + nodes index)
   nodes (Call k f args) = suc (all_nodes args)
   nodes (Unary k op e) = suc (nodes e)
   nodes (Cast k to e) = suc (nodes e)

@@ -25,27 +25,32 @@ use Rattle.ir_forms.specs.declared.flat.Arg.TheVariants.{Const, Var}
 use Rattle.ir_forms.specs.FlatCode.{Code, Nop, Then, only}
 use Rattle.ir_forms.specs.FlatCode as flat
 use Rattle.ir_forms.specs.Cells.{Memory, apply}
-use Rattle.ir_forms.specs.FlatSteps.{State, read}
+use Rattle.ir_forms.specs.FlatSteps.{State, Broke, read}
 use Rattle.ir_forms.specs.FlatRuns.{checked}
 use Rattle.ir_forms.proofs.Steps.{then_nop, nop_leads, break_leads, continue_leads, return_leads}
-use Rattle.ir_forms.proofs.Steps.{return_none_leads}
+use Rattle.ir_forms.proofs.Steps.{return_none_leads, both_lead}
+use Rattle.ir_forms.proofs.Leads.{Leads}
 use Rattle.flat_lower.specs.Tree as tree
 use Rattle.flat_lower.specs.TreeViews.{expr_of, expr_if}
 use Rattle.c_constant.specs.Kinds.{IsWord}
-use Rattle.flat_lower.specs.Operations.{temp, copied}
+use Rattle.flat_lower.specs.Operations.{temp, set_word, copied}
 use Rattle.flat_lower.specs.Statements.{expr_if_code, declare_code, return_code}
 use Rattle.flat_lower.specs.Fits.{Scope, FitsExpr, FitsExprIf, FitsDeclare, FitsReturn}
+use Rattle.flat_lower.specs.FitsSwitches.{IsLooped}
+use Rattle.flat_lower.specs.Switches.{break_code, continue_code, found_code}
+use Rattle.flat_lower.specs.declared.around.Around.{Around}
+use Rattle.flat_lower.specs.declared.around.Around.TheVariants as around
 use Rattle.flat_lower.specs.Sizes.{nodes, nodes_if}
 use Rattle.flat_lower.proofs.Straight.{puts_let, var_read}
 use Rattle.flat_lower.proofs.Objects.{Object, Stored, AllStored}
 use Rattle.flat_lower.proofs.TreeFacts.{kind_is}
-use Rattle.flat_lower.proofs.Follows.{Goes, Follows, wanted}
-use Rattle.flat_lower.proofs.Related.{Scene, IsScene, scope, context, Related, scalar_unset}
+use Rattle.flat_lower.proofs.Follows.{FollowsIn, wanted_in}
+use Rattle.flat_lower.proofs.Related.{Scene, IsScene, scope, context, Related, scalar_unset, sets_unseen}
 use Rattle.flat_lower.proofs.Values.{Valued, value_at, kept_at, functions, base, FollowsOf, run}
-use Rattle.flat_lower.proofs.Values.{code, operand}
+use Rattle.flat_lower.proofs.Values.{code, operand_in}
 use Rattle.flat_lower.proofs.Stores.{scalar_sets}
 use Rattle.flat_lower.proofs.Entered.{none_of, replicate_length}
-use Rattle.flat_lower.proofs.Returns.{ReturnIs, Ended}
+use Rattle.flat_lower.proofs.Returns.{ReturnIs, EndedIn, LeftBy}
 
 -- an array that is unset keeps its bytes
 unset_stored : (o : Object) (row : List (Option ℕ)) (m : Memory) → Stored o row m
@@ -71,6 +76,17 @@ all_unset (o ∷ os) (r ∷ rs) m zero row e a =
     (unset_stored o row m (subst (λ r. Stored o r m) same a.0), a.1)
 all_unset (o ∷ os) (r ∷ rs) m (suc k) row e a = (a.0, all_unset os rs m k row e a.1)
 
+-- a run that breaks with a word in temporary 0
+pub record Leaves (P : TypedProgram) (most : ℕ) (S : Scene) (y : IsScene P S) (a : Code) (f : State)
+    (w : ℕ) (s : eval.State) : Type 0 where
+  pub t : ℕ
+  pub to : State
+  pub few : t ≤ 2
+  pub rel : Related S s to
+  pub is : to.vars (temp 0) ≡ Some w
+  pub rounds : to.rounds ≡ f.rounds
+  pub leads : Leads (run P most S y a f) t (Broke to)
+
 -- RETURNS
 
 none_returned : (c : Scope) (q : Option Kind) → FitsReturn c q None → ReturnIs q None
@@ -89,9 +105,9 @@ returned_word c (Some k) e j w h ej f =
     let same : j ≡ k = cc (sym ej ∙ sym (kind_is e) ∙ h.1) in
     subst (λ k. IsWord k w) same f
 
-module _ (P : TypedProgram) (most : ℕ) (S : Scene) (y : IsScene P S) where
+module _ (P : TypedProgram) (most : ℕ) (S : Scene) (y : IsScene P S) (x : Around) where
   abbrev pub EndsHere : Code → State → ℕ → ℕ → Result → Type 0
-  EndsHere a f top low r = Follows most (Ended S) (run P most S y a f) top low r
+  EndsHere a f top low r = FollowsIn x most (EndedIn x S) (run P most S y a f) top low r
 
   -- nothing is left to do
   pub nothing_left : (s : eval.State) (f : State) (top low : ℕ) → Related S s f → 8 * s.stock ≤ top
@@ -113,7 +129,7 @@ module _ (P : TypedProgram) (most : ℕ) (S : Scene) (y : IsScene P S) where
   dropped_ends e s f top low h t r hu hl =
       subst (λ a. EndsHere a f top low (then (meaning P (Of e) s) dropped))
       (then_nop (code P most S y 0 e))
-      (operand P most S y (Ended S) e 0 Nop s f top low dropped h t r (omega arith) hl
+      (operand_in P most S y x (EndedIn x S) e 0 Nop s f top low dropped h t r (omega arith) hl
       (λ v s1 g t1 hv ls us ds. nothing_left s1 g (top - t1) low
       (kept_at S 0 e.kind f v s1 g hv).rel (omega arith) (omega arith)))
 
@@ -160,6 +176,7 @@ module _ (P : TypedProgram) (most : ℕ) (S : Scene) (y : IsScene P S) where
             scalars = r.scalars;
             count = r.count;
             stored = all_unset S.objects s.arrays f.memory (s.base + a) row e r.stored;
+            rows = r.rows;
             input = r.input;
             bytes = r.bytes;
             output = r.output;
@@ -181,44 +198,20 @@ module _ (P : TypedProgram) (most : ℕ) (S : Scene) (y : IsScene P S) where
       go None ec = tt
       go (Some c) ec =
           let s0 = written s (InScalar i) None in
-          operand P most S y (Ended S) e 0 (copied i (temp 0)) s0 f top low (initialised i)
+          operand_in P most S y x (EndedIn x S) e 0 (copied i (temp 0)) s0 f top low (initialised i)
           (h e s0 (omega arith)) t.2 (scalar_unset S s f i c ec r) (omega arith) hl
           (λ v s1 g t1 hv ls us ds.
-          wanted most (Ended S) (run P most S y (copied i (temp 0)) g) (top - t1) low v s1
+          wanted_in x most (EndedIn x S) (run P most S y (copied i (temp 0)) g) (top - t1) low v s1
           (λ w. then (store s1 (InScalar i) w) dropped) (λ w ew.
-          let x = value_at S 0 e.kind f v w s1 g ew hv in
-          let same : x.kind ≡ t.0 = cc (sym x.is_kind ∙ sym (kind_is e) ∙ t.3) in
+          let z = value_at S 0 e.kind f v w s1 g ew hv in
+          let same : z.kind ≡ t.0 = cc (sym z.is_kind ∙ sym (kind_is e) ∙ t.3) in
           set_end i w (Var (temp 0)) t.0 (top - t1) low s1 g t.1
-          (subst (λ k. IsWord k w) same x.fits)
-          (var_read (functions P most) (base P most) S.env g (temp 0) w x.is) x.keeps.rel
+          (subst (λ k. IsWord k w) same z.fits)
+          (var_read (functions P most) (base P most) S.env g (temp 0) w z.is) z.keeps.rel
           (omega arith) (omega arith)
           (cell s1 (InScalar i)) refl))
 
   -- WHAT LEAVES
-
-  pub break_ends : (s : eval.State) (f : State) (top low : ℕ) → Related S s f
-      → 1 + 8 * s.stock ≤ top → low ≤ s.stock + most * f.rounds
-      → EndsHere (only flat.Break) f top low (Go Breaks s)
-  break_ends s f top low r hu hl = record {
-    t = 1;
-    to = f;
-    upper = hu;
-    lower = hl;
-    holds = r;
-    leads = break_leads checked (functions P most) (base P most) S.env f;
-  }
-
-  pub continue_ends : (s : eval.State) (f : State) (top low : ℕ) → Related S s f
-      → 1 + 8 * s.stock ≤ top → low ≤ s.stock + most * f.rounds
-      → EndsHere (only flat.Continue) f top low (Go Continues s)
-  continue_ends s f top low r hu hl = record {
-    t = 1;
-    to = f;
-    upper = hu;
-    lower = hl;
-    holds = r;
-    leads = continue_leads checked (functions P most) (base P most) S.env f;
-  }
 
   pub return_ends : (s : eval.State) (f : State) (top low : ℕ)
       → FitsReturn (scope P S) S.func.result None → Related S s f → 1 + 8 * s.stock ≤ top
@@ -241,22 +234,100 @@ module _ (P : TypedProgram) (most : ℕ) (S : Scene) (y : IsScene P S) where
       (then (meaning P (Of e) s) returning)
   value_ends e s f top low h t r hu hl =
       let b = only (flat.Return (Some (Var (temp 0)))) in
-      operand P most S y (Ended S) e 0 b s f top low returning h
+      operand_in P most S y x (EndedIn x S) e 0 b s f top low returning h
       (returned_fits (scope P S) S.func.result (expr_of e) t) r (omega arith) hl
       (λ v s1 g t1 hv ls us ds.
-      wanted most (Ended S) (run P most S y b g) (top - t1) low v s1 (λ w. Go (Returns (Some w)) s1)
+      wanted_in x most (EndedIn x S) (run P most S y b g) (top - t1) low v s1 (λ w. Go (Returns (Some w)) s1)
       (λ w ew.
-      let x = value_at S 0 e.kind f v w s1 g ew hv in
+      let z = value_at S 0 e.kind f v w s1 g ew hv in
       record {
         t = 1;
         to = g;
         upper = omega arith;
         lower = omega arith;
         holds = (
-          x.keeps.rel,
+          z.keeps.rel,
           returned_word
-              (scope P S) S.func.result e x.kind w t x.is_kind x.fits,
+              (scope P S) S.func.result e z.kind w t z.is_kind z.fits,
         );
         leads = return_leads checked (functions P most) (base P most) S.env (Var (temp 0)) g w
-            (var_read (functions P most) (base P most) S.env g (temp 0) w x.is);
+            (var_read (functions P most) (base P most) S.env g (temp 0) w z.is);
       }))
+
+module _ (P : TypedProgram) (most : ℕ) (S : Scene) (y : IsScene P S) where
+  -- a word in temporary 0, and a break
+  pub left_with : (w : ℕ) (s : eval.State) (f : State) → Related S s f
+      → Leaves P most S y (found_code w) f w s
+  unfolding apply
+  left_with w s f r =
+      let p = puts_let (functions P most) (base P most) S.env op.Mov (Const w) (Const 0) f 1 (temp 0) 80 w 0 w
+      (omega arith) refl refl refl in
+      record {
+        t = p.t + 1;
+        to = p.to;
+        few = omega (arith, p.few);
+        rel = sets_unseen S y s f p.to (temp 0) 80 w (omega arith) (omega arith) p.sets r;
+        is = p.sets.value;
+        rounds = p.sets.rounds;
+        leads = both_lead checked (functions P most) (base P most) S.env (set_word (temp 0) w)
+            (only flat.Break) f p.to p.t 1 (Broke p.to) p.leads
+            (break_leads checked (functions P most) (base P most) S.env p.to);
+      }
+
+  -- a break where no word is needed
+  pub just_breaks : (x : Around) (s : eval.State) (f : State) (top low : ℕ)
+      → LeftBy x S 0 s f → 1 + 8 * s.stock ≤ top → low ≤ s.stock + most * f.rounds
+      → EndsHere P most S y x (only flat.Break) f top low (Go Breaks s)
+  just_breaks x s f top low r hu hl = record {
+    t = 1;
+    to = f;
+    upper = hu;
+    lower = hl;
+    holds = r;
+    leads = break_leads checked (functions P most) (base P most) S.env f;
+  }
+
+  pub break_ends : (x : Around) (s : eval.State) (f : State) (top low : ℕ) → Related S s f
+      → 2 + 8 * s.stock ≤ top → low ≤ s.stock + most * f.rounds
+      → EndsHere P most S y x (break_code x) f top low (Go Breaks s)
+  break_ends around.Nowhere s f top low r hu hl =
+      just_breaks around.Nowhere s f top low r (omega arith) hl
+  break_ends around.Loop s f top low r hu hl =
+      just_breaks around.Loop s f top low r (omega arith) hl
+  break_ends around.Switch s f top low r hu hl =
+      just_breaks around.Switch s f top low r (omega arith) hl
+  break_ends around.SwitchInLoop s f top low r hu hl =
+      let p = left_with 0 s f r in
+      record {
+        t = p.t;
+        to = p.to;
+        upper = omega (arith, p.few);
+        lower = subst (λ r. low ≤ s.stock + most * r) (sym p.rounds) hl;
+        holds = (p.rel, p.is);
+        leads = p.leads;
+      }
+
+  -- a continue stands in a loop
+  pub continue_ends : (x : Around) → IsLooped x → (s : eval.State) (f : State) (top low : ℕ)
+      → Related S s f → 2 + 8 * s.stock ≤ top → low ≤ s.stock + most * f.rounds
+      → EndsHere P most S y x (continue_code x) f top low (Go Continues s)
+  continue_ends around.Nowhere h s f top low r hu hl = absurd h
+  continue_ends around.Loop h s f top low r hu hl = record {
+    t = 1;
+    to = f;
+    upper = omega arith;
+    lower = hl;
+    holds = (tt, r);
+    leads = continue_leads checked (functions P most) (base P most) S.env f;
+  }
+  continue_ends around.Switch h s f top low r hu hl = absurd h
+  continue_ends around.SwitchInLoop h s f top low r hu hl =
+      let p = left_with 1 s f r in
+      record {
+        t = p.t;
+        to = p.to;
+        upper = omega (arith, p.few);
+        lower = subst (λ r. low ≤ s.stock + most * r) (sym p.rounds) hl;
+        holds = (tt, (p.rel, p.is));
+        leads = p.leads;
+      }

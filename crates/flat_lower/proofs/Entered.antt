@@ -5,7 +5,7 @@ use Rattle.std.proofs.Common.{take, replicate, Option, Some, None, refl, sym, ap
 use Rattle.std.proofs.Common.{arith}
 use Rattle.std.specs.Prelude.{slice_get}
 use Rattle.c_tree.specs.declared.Kind.{Kind}
-use Rattle.c_tree.specs.declared.Kind.TheVariants.{Char, UChar, Int, UInt, Long, ULong}
+use Rattle.c_tree.specs.declared.Kind.TheVariants.{Char, UChar, Short, UShort, Int, UInt, Long, ULong}
 use Rattle.c_tree.specs.declared.Slot.{Slot}
 use Rattle.c_tree.specs.declared.Slot.TheVariants as slot
 use Rattle.c_tree.specs.declared.TypedArray.{TypedArray}
@@ -15,7 +15,7 @@ use Rattle.c_tree.specs.declared.TypedProgram.{TypedProgram}
 use Rattle.c_meaning_spec.specs.State as eval
 use Rattle.c_constant.specs.Kinds.{bytes}
 use Rattle.c_meaning_spec.specs.Call.{array_bytes, all_bytes, frame, unset_array, scalars_of}
-use Rattle.c_meaning_spec.specs.Call.{entered}
+use Rattle.c_meaning_spec.specs.Call.{entered, array_row}
 use Rattle.trips_isa.specs.Stores.{data_size}
 use Rattle.ir_forms.specs.FlatCode.{Function}
 use Rattle.ir_forms.specs.Frames.{slots_of, frame_of, arrays_at}
@@ -29,7 +29,7 @@ use Rattle.flat_lower.specs.Statements.{lowered_func, globals_image}
 use Rattle.flat_lower.proofs.Bytes.{opened, marked_out}
 use Rattle.flat_lower.proofs.Objects.{Object, end_of, Laid, laid_append, laid_lower, element_in}
 use Rattle.flat_lower.proofs.Objects.{Stored, AllStored, all_append, all_same, all_length}
-use Rattle.flat_lower.proofs.Objects.{within_row}
+use Rattle.flat_lower.proofs.Objects.{within_row, object_row}
 use Rattle.flat_lower.proofs.Related.{Scene, IsScene, object, frames_from, ObjectIs, AddressIs}
 use Rattle.flat_lower.proofs.Related.{IsScalar, Related}
 
@@ -62,7 +62,24 @@ replicate_length (suc n) a = ap suc (replicate_length n a)
 -- the arrays of a call, from an address on
 abbrev pub own_objects : ℕ → List TypedArray → List Object
 own_objects at [] = []
-own_objects at (a ∷ rest) = object at a.kind a.length ∷ own_objects (at + array_bytes a) rest
+own_objects at (a ∷ rest) = object at a.kind a.length a.row ∷ own_objects (at + array_bytes a) rest
+
+-- their second sizes
+pub own_rows : (at : ℕ) (arrays : List TypedArray)
+    → map object_row (own_objects at arrays) ≡ map array_row arrays
+own_rows at [] = refl
+own_rows at (a ∷ rest) = ap (λ (rs : List (Option ℕ)). a.row ∷ rs) (own_rows (at + array_bytes a) rest)
+
+rows_append : (os ps : List Object)
+    → map object_row (os ++ ps) ≡ map object_row os ++ map object_row ps
+rows_append [] ps = refl
+rows_append (o ∷ os) ps = ap (λ (rs : List (Option ℕ)). o.row ∷ rs) (rows_append os ps)
+
+-- those of the first of some objects
+pub rows_first : (os ps : List Object)
+    → take (length os) (map object_row (os ++ ps)) ≡ map object_row os
+rows_first [] ps = refl
+rows_first (o ∷ os) ps = ap (λ (rs : List (Option ℕ)). o.row ∷ rs) (rows_first os ps)
 
 array_room : (a : TypedArray) → bytes a.kind * a.length ≤ array_bytes a
 array_room a = go (a.length * bytes a.kind) (bytes a.kind * a.length)
@@ -104,18 +121,18 @@ own_laid at (a ∷ rest) h =
 
 pub own_at : (at : ℕ) (arrays : List TypedArray) (n : ℕ) (a : TypedArray)
     → slice_get arrays n ≡ Some a → slice_get (own_objects at arrays) n
-    ≡ Some (object (at + array_at arrays n) a.kind a.length)
+    ≡ Some (object (at + array_at arrays n) a.kind a.length a.row)
 unfolding array_at
 own_at at [] n a h = absurd (cc h)
 own_at at (b ∷ rest) zero a h =
     let e : b ≡ a = cc h in
     let z : at ≡ at + 0 = omega arith in
-    ap Some (ap (λ (b : TypedArray). object at b.kind b.length) e
-    ∙ ap (λ at. object at a.kind a.length) z)
+    ap Some (ap (λ (b : TypedArray). object at b.kind b.length b.row) e
+    ∙ ap (λ at. object at a.kind a.length a.row) z)
 own_at at (b ∷ rest) (suc n) a h =
     let z : at + array_bytes b + bytes_before (map array_bytes rest) n
     ≡ at + (array_bytes b + bytes_before (map array_bytes rest) n) = omega arith in
-    own_at (at + array_bytes b) rest n a h ∙ ap (λ at. Some (object at a.kind a.length)) z
+    own_at (at + array_bytes b) rest n a h ∙ ap (λ at. Some (object at a.kind a.length a.row)) z
 
 -- unset arrays whose bytes open
 open_element : (m : Memory) (lo size at i : ℕ) (k : Kind) (n : ℕ) → lo ≤ at
@@ -183,7 +200,7 @@ module _ (P : TypedProgram) where
         room = room;
         few = few;
         words = omega (arith, l.arrays);
-        globals = λ g x h. get_first S.objects (own_objects at f.arrays) g (object _ x.kind _)
+        globals = λ g x h. get_first S.objects (own_objects at f.arrays) g (object _ x.kind _ x.row)
             (y.globals g x h);
         arrays = λ a x h. get_second S.objects (own_objects at f.arrays) a
             ∙ own_at at f.arrays a x h;
@@ -201,12 +218,13 @@ module _ (P : TypedProgram) where
   more_objects : (objects more : List Object) (x : Slot) (w : ℕ) (o : Option ℕ)
       → IsScalar objects x w o → IsScalar (objects ++ more) x w o
   more_objects objects more (slot.Scalar k) w o h = h
-  more_objects objects more (slot.Address k) w o h = record {
+  more_objects objects more (slot.Address k q) w o h = record {
     array = record {
       it = h.array.it;
       found = get_first objects more w h.array.it h.array.found;
       kind = h.array.kind;
     };
+    wide = h.wide;
     is = h.is;
   }
 
@@ -277,6 +295,8 @@ module _ (P : TypedProgram) where
             (marked g.memory at F.arrays Open) y.laid
             (λ b lo hi. marked_out g.memory at F.arrays Open b (inl (omega arith))) r.stored)
             (own_stored g.memory at F.arrays at f.arrays (omega arith) (omega (arith, l.arrays)));
+        rows = ap₂ (λ (a b : List (Option ℕ)). a ++ b) r.rows (sym (own_rows at f.arrays))
+            ∙ sym (rows_append S.objects own);
         input = r.input;
         bytes = r.bytes;
         output = r.output;

@@ -40,6 +40,7 @@ use Rattle.flat_lower.proofs.Values.{Valued, value_at, valued_settles, functions
 use Rattle.flat_lower.proofs.Values.{run, code, spending}
 use Rattle.flat_lower.proofs.Simple.{FollowsHere, number_node, name_node, unary_node, cast_node}
 use Rattle.flat_lower.proofs.Simple.{element_node, convert_end}
+use Rattle.flat_lower.proofs.RowNodes.{row_element_node}
 use Rattle.flat_lower.proofs.Binary.{strict_node, depth_is}
 use Rattle.flat_lower.proofs.Legs.{choice_node, comma_node, and_node, or_node}
 use Rattle.flat_lower.proofs.Bumps.{bump_node}
@@ -77,9 +78,12 @@ module _ (P : TypedProgram) (most : ℕ) (sound : FitsSource (source_of P)) (lar
     node_follows : (x : Node) → 8 * s.stock ≤ top + 4 → Here x
     node_follows (node.Number w) hu t hl = number_node P most S y j w d top low s f t r hu hl
     node_follows (node.Name p) hu t hl = name_node P most S y j p d top low s f t r hu hl
-    node_follows (node.Element p e) hu t hl =
+    node_follows (node.Element p None e) hu t hl =
         element_node P most S y j p e d top low s f (depth_fits (scope P S) d (expr_of e) t.1)
         (h.0 e) t r hu hl
+    node_follows (node.Element p (Some row) e) hu t hl =
+        row_element_node P most S y j p row e d top low s f
+        (depth_fits (scope P S) d (expr_of row) t.1) h.0 t r hu hl
     node_follows (node.Call c es) hu t hl =
         call_node P most sound large S y j c es d top low s f h.0 h.1 t r hu hl
     node_follows (node.Unary o e) hu t hl =
@@ -163,8 +167,10 @@ module _ (P : TypedProgram) (most : ℕ) (sound : FitsSource (source_of P)) (lar
       node_follows S y s h j d top low f r (node.Number w) (omega arith) t hl
   level_follows (node.Name p) S y s h j d top low f r hu t hl =
       node_follows S y s h j d top low f r (node.Name p) (omega arith) t hl
-  level_follows (node.Element p e) S y s h j d top low f r hu t hl =
-      node_follows S y s h j d top low f r (node.Element p e) (omega arith) t hl
+  level_follows (node.Element p None e) S y s h j d top low f r hu t hl =
+      node_follows S y s h j d top low f r (node.Element p None e) (omega arith) t hl
+  level_follows (node.Element p (Some row) e) S y s h j d top low f r hu t hl =
+      node_follows S y s h j d top low f r (node.Element p (Some row) e) (omega arith) t hl
   level_follows (node.Call c es) S y s h j d top low f r hu t hl =
       node_follows S y s h j d top low f r (node.Call c es) (omega arith) t hl
   level_follows (node.Unary o e) S y s h j d top low f r hu t hl =

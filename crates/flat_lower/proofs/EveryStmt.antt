@@ -17,7 +17,7 @@ use Rattle.c_meaning_spec.specs.Task.{Task, Of, Turn}
 use Rattle.c_meaning_spec.specs.Task as task
 use Rattle.c_tree.specs.TypedTrees.{Level, Beginning}
 use Rattle.c_meaning_spec.specs.Statement.{going_on, sequence, run_if, after_if, after_body}
-use Rattle.c_meaning_spec.specs.Statement.{locals, begin, begun, statement}
+use Rattle.c_meaning_spec.specs.Statement.{locals, begin, begun, statement, targets, compared, after_switch}
 use Rattle.c_meaning_spec.specs.Eval.{meaning}
 use Rattle.c_meaning_spec.proofs.Equations.{weight, meaning-is}
 use Rattle.c_meaning_spec.proofs.Induction.{by-parts}
@@ -35,19 +35,26 @@ use Rattle.flat_lower.specs.Statements.{expr_if_code, if_so, turn_code, loop_cod
 use Rattle.flat_lower.specs.Statements.{stmt_code, stmts_code, first_code}
 use Rattle.flat_lower.specs.Fits.{FitsExpr, FitsExprIf, FitsStmt, FitsStmts, FitsFirst, FitsSource}
 use Rattle.flat_lower.specs.Sizes.{nodes, nodes_if, size_of, size_of_all, size_of_first, IsMost}
+use Rattle.flat_lower.specs.declared.around.Around.{Around}
+use Rattle.flat_lower.specs.declared.around.Around.TheVariants as around
+use Rattle.flat_lower.specs.Tree.{kind_of}
+use Rattle.flat_lower.specs.Switches.{in_switch, switched_code}
+use Rattle.flat_lower.specs.Emitted.{sections_in}
+use Rattle.flat_lower.proofs.SwitchSections.{FollowsBlock, rest_of}
+use Rattle.flat_lower.proofs.SwitchWhole.{switch_ends}
 use Rattle.flat_lower.proofs.Straight.{puts_let, var_read}
 use Rattle.flat_lower.proofs.TreeFacts.{plain_stmt, plain_first, stmt_is, first_of, first_is}
-use Rattle.flat_lower.proofs.Follows.{Post, Settles, Follows, moved, wanted, then_follows}
+use Rattle.flat_lower.proofs.Follows.{Settles, FollowsIn, moved_in, wanted_in, then_follows_in}
 use Rattle.flat_lower.proofs.Follows.{leaves_first}
 use Rattle.flat_lower.proofs.Related.{Scene, IsScene, scope, context, Related, sets_unseen}
 use Rattle.flat_lower.proofs.Values.{Valued, value_at, kept_at, functions, base, FollowsOf, run}
-use Rattle.flat_lower.proofs.Values.{code, operand, spending}
+use Rattle.flat_lower.proofs.Values.{code, operand_in, spending_in}
 use Rattle.flat_lower.proofs.Legs.{is_true}
-use Rattle.flat_lower.proofs.Returns.{Ended, FollowsRun}
+use Rattle.flat_lower.proofs.Returns.{EndedIn, FollowsRun}
 use Rattle.flat_lower.proofs.EveryExpr.{expr_follows}
 use Rattle.flat_lower.proofs.Ends.{EndsHere, nothing_left, declare_ends, break_ends}
 use Rattle.flat_lower.proofs.Ends.{continue_ends, return_ends, value_ends}
-use Rattle.flat_lower.proofs.PlainEnds.{plain_ends}
+use Rattle.flat_lower.proofs.PlainEnds.{plain_ends_in}
 use Rattle.flat_lower.proofs.Loops.{so_part, after, so_falls, loop_of, post_of, stmt as stmt_at}
 use Rattle.flat_lower.proofs.Loops.{FollowsTurn, FollowsDo, turn_follows, do_follows, so_loop}
 
@@ -65,29 +72,33 @@ module _ (P : TypedProgram) (most : ℕ) where
     pub again : (t : TypedExpr) (body : TypedStmt) (s : eval.State) → s.stock ≤ n
         → FollowsDo P most t body s
 
-  module _ (S : Scene) (y : IsScene P S) where
+  module _ (S : Scene) (y : IsScene P S) (x : Around) where
+    -- the code of a statement
+    abbrev here : TypedStmt → Code
+    here st = stmt_code (context P S) x (stmt_of st)
+
     -- a run that is another's at once
     at_once : (a : Code) (f : State) (next : Run) (top low : ℕ) (r : Result)
-        → Moves (run P most S y a f) 0 next → Follows most (Ended S) next top low r
-        → EndsHere P most S y a f top low r
+        → Moves (run P most S y a f) 0 next → FollowsIn x most (EndedIn x S) next top low r
+        → EndsHere P most S y x a f top low r
     at_once a f next top low r m h =
-        moved most (Ended S) (run P most S y a f) next 0 top low r m (omega arith)
-        (subst (λ n. Follows most (Ended S) next n low r) (zero_off top) h)
+        moved_in x most (EndedIn x S) (run P most S y a f) next 0 top low r m (omega arith)
+        (subst (λ n. FollowsIn x most (EndedIn x S) next n low r) (zero_off top) h)
 
     -- a statement, and those behind it where it leaves nothing
     seq_follows : (a b : Code) (f : State) (up down top low : ℕ) (r : Result)
-        (next : eval.State → Result) → EndsHere P most S y a f up down r → up ≤ top → low ≤ down
+        (next : eval.State → Result) → EndsHere P most S y x a f up down r → up ≤ top → low ≤ down
         → ((s1 : eval.State) (g : State) (t : ℕ) → Related S s1 g → t + 8 * s1.stock ≤ up
-        → down ≤ s1.stock + most * g.rounds → EndsHere P most S y b g (top - t) low (next s1))
-        → EndsHere P most S y (Then a b) f top low (then r (λ v s. going_on v s next))
+        → down ≤ s1.stock + most * g.rounds → EndsHere P most S y x b g (top - t) low (next s1))
+        → EndsHere P most S y x (Then a b) f top low (then r (λ v s. going_on v s next))
     seq_follows a b f up down top low (Go Nothing s1) next h hu hl go =
-        then_follows (functions P most) (base P most) most S.env (Ended S)
-        (Ended S) a b f up down top low (Go Nothing s1) (λ v s. going_on v s next) h hu hl
+        then_follows_in (functions P most) (base P most) most S.env x x (EndedIn x S)
+        (EndedIn x S) a b f up down top low (Go Nothing s1) (λ v s. going_on v s next) h hu hl
         (λ v s2 g t e holds us ds. nothing v s2 g t e holds us ds)
       where
         nothing : (v : Signal) (s2 : eval.State) (g : State) (t : ℕ) → Go Nothing s1 ≡ Go v s2
-            → Ended S v s2 g → t + 8 * s2.stock ≤ up → down ≤ s2.stock + most * g.rounds
-            → Settles v × EndsHere P most S y b g (top - t) low (going_on v s2 next)
+            → EndedIn x S v s2 g → t + 8 * s2.stock ≤ up → down ≤ s2.stock + most * g.rounds
+            → Settles v × EndsHere P most S y x b g (top - t) low (going_on v s2 next)
         nothing Nothing s2 g t e holds us ds = (tt, go s2 g t holds us ds)
         nothing (Value w) s2 g t e holds us ds = absurd (cc e)
         nothing Breaks s2 g t e holds us ds = absurd (cc e)
@@ -96,34 +107,48 @@ module _ (P : TypedProgram) (most : ℕ) where
     seq_follows a b f up down top low (Go (Value w) s1) next h hu hl go = absurd h.holds
     seq_follows a b f up down top low (Go Breaks s1) next h hu hl go =
         leaves_first (functions P most) (base P most) most S.env
-        (Ended S) a b f up down top low Breaks s1 (λ x. x) hu hl h
+        x (EndedIn x S) a b f up down top low Breaks s1 (λ z. z) hu hl h
     seq_follows a b f up down top low (Go Continues s1) next h hu hl go =
         leaves_first (functions P most) (base P most) most S.env
-        (Ended S) a b f up down top low Continues s1 (λ x. x) hu hl h
+        x (EndedIn x S) a b f up down top low Continues s1 (λ z. z) hu hl h
     seq_follows a b f up down top low (Go (Returns w) s1) next h hu hl go =
-        leaves_first (functions P most) (base P most) most S.env (Ended S) a b f up down top low
-        (Returns w) s1 (λ x. x) hu hl h
+        leaves_first (functions P most) (base P most) most S.env x (EndedIn x S) a b f up down top low
+        (Returns w) s1 (λ z. z) hu hl h
     seq_follows a b f up down top low (Over why s1) next h hu hl go =
-        then_follows (functions P most) (base P most) most S.env (Ended S)
-        (Ended S) a b f up down top low (Over why s1) (λ v s. going_on v s next) h hu hl
+        then_follows_in (functions P most) (base P most) most S.env x x (EndedIn x S)
+        (EndedIn x S) a b f up down top low (Over why s1) (λ v s. going_on v s next) h hu hl
         (λ v s2 g t e holds us ds. absurd (cc e))
 
     -- LISTS
 
     stmts_follow : (n : ℕ) → Below n → (all : List TypedStmt) (s : eval.State) (f : State)
-        (top low : ℕ) → s.stock ≤ n → FitsStmts (scope P S) S.func.result (stmts_of (map stmt_of all))
+        (top low : ℕ) → s.stock ≤ n → FitsStmts (scope P S) S.func.result x (stmts_of (map stmt_of all))
         → size_of_all (stmts_of (map stmt_of all)) ≤ most → Related S s f → 8 * s.stock ≤ top
         → low ≤ s.stock + most * f.rounds - size_of_all (stmts_of (map stmt_of all))
-        → EndsHere P most S y (stmts_code (context P S) (stmts_of (map stmt_of all))) f top low
+        → EndsHere P most S y x (stmts_code (context P S) x (stmts_of (map stmt_of all))) f top low
         (sequence (meaning P) all s)
     stmts_follow n h [] s f top low le t z r hu hl =
-        nothing_left P most S y s f top low r hu (omega arith)
+        nothing_left P most S y x s f top low r hu (omega arith)
     stmts_follow n h (st ∷ rest) s f top low le t z r hu hl =
-        let b = stmts_code (context P S) (stmts_of (map stmt_of rest)) in
+        let b = stmts_code (context P S) x (stmts_of (map stmt_of rest)) in
         let down = s.stock + most * f.rounds - size_of (stmt_of st) in
-        seq_follows (stmt_at P most S y st) b f (8 * s.stock) down top low
+        seq_follows (here st) b f (8 * s.stock) down top low
         (meaning P (task.Run st) s) (sequence (meaning P) rest)
-        (h.run st s le S y (8 * s.stock) down f t.0 (omega arith) r (omega arith) (omega arith)) hu
+        (h.run st s le S y x (8 * s.stock) down f t.0 (omega arith) r (omega arith) (omega arith)) hu
+        (omega arith)
+        (λ s1 g t1 rel us ds. stmts_follow n h rest s1 g (top - t1) low (omega arith) t.1
+        (omega arith) rel (omega arith) (omega arith))
+
+    -- those of a section, of which there is one
+    block_follows : (n : ℕ) → Below n → FollowsBlock P most S y x n
+    block_follows n h [] s f top low le fill t z r hu hl = absurd fill
+    block_follows n h (st ∷ rest) s f top low le fill t z r hu hl =
+        let b = stmts_code (context P S) x (stmts_of (map stmt_of rest)) in
+        let up = 8 * s.stock - 4 in
+        let down = s.stock + most * f.rounds - size_of (stmt_of st) in
+        seq_follows (here st) b f up down top low
+        (meaning P (task.Run st) s) (sequence (meaning P) rest)
+        (h.run st s le S y x up down f t.0 (omega arith) r (omega arith) (omega arith)) (omega arith)
         (omega arith)
         (λ s1 g t1 rel us ds. stmts_follow n h rest s1 g (top - t1) low (omega arith) t.1
         (omega arith) rel (omega arith) (omega arith))
@@ -134,10 +159,10 @@ module _ (P : TypedProgram) (most : ℕ) where
     loop_starts : (n : ℕ) → Below n → (test post : Option TypedExpr) (body : TypedStmt)
         (s : eval.State) (f : State) (top low : ℕ) → s.stock ≤ n
         → FitsExprIf (scope P S) (expr_if test) → FitsExprIf (scope P S) (expr_if post)
-        → FitsStmt (scope P S) S.func.result (stmt_of body)
+        → FitsStmt (scope P S) S.func.result around.Loop (stmt_of body)
         → nodes_if (expr_if test) + (nodes_if (expr_if post) + size_of (stmt_of body)) ≤ most
         → Related S s f → 1 + 8 * s.stock ≤ top → low ≤ s.stock + most * f.rounds
-        → EndsHere P most S y (loop_code (context P S) (expr_if test) (expr_if post)
+        → EndsHere P most S y x (loop_code (context P S) (expr_if test) (expr_if post)
         (stmt_at P most S y body)) f top low (meaning P (Turn test post body) s)
     loop_starts n h test post body s f top low le tt0 tp tb z r hu hl =
         let a = turn_code (context P S) (expr_if test) (stmt_at P most S y body) in
@@ -145,52 +170,52 @@ module _ (P : TypedProgram) (most : ℕ) where
         at_once (only (Loop a b)) f (loop_of P most S y a b f) top low
         (meaning P (Turn test post body) s)
         (loop_moves checked (functions P most) (base P most) S.env a b f)
-        (h.turn test post body s le S y top low f tt0 tp tb z r hu hl)
+        (h.turn test post body s le S y x top low f tt0 tp tb z r hu hl)
 
     -- a for's declarations, and then its first turn
     locals_follow : (n : ℕ) → Below n → (all : List TypedStmt) (test post : Option TypedExpr)
         (body : TypedStmt) (s : eval.State) (f : State) (top low : ℕ) → s.stock ≤ n
-        → FitsStmts (scope P S) S.func.result (stmts_of (map stmt_of all))
+        → FitsStmts (scope P S) S.func.result x (stmts_of (map stmt_of all))
         → size_of_all (stmts_of (map stmt_of all)) ≤ most → FitsExprIf (scope P S) (expr_if test)
-        → FitsExprIf (scope P S) (expr_if post) → FitsStmt (scope P S) S.func.result (stmt_of body)
+        → FitsExprIf (scope P S) (expr_if post) → FitsStmt (scope P S) S.func.result around.Loop (stmt_of body)
         → nodes_if (expr_if test) + (nodes_if (expr_if post) + size_of (stmt_of body)) ≤ most
         → Related S s f → 1 + 8 * s.stock ≤ top
         → low ≤ s.stock + most * f.rounds - size_of_all (stmts_of (map stmt_of all))
-        → EndsHere P most S y (Then (stmts_code (context P S) (stmts_of (map stmt_of all)))
+        → EndsHere P most S y x (Then (stmts_code (context P S) x (stmts_of (map stmt_of all)))
         (loop_code (context P S) (expr_if test) (expr_if post) (stmt_at P most S y body))) f top
         low (locals (meaning P) all test post body s)
     locals_follow n h [] test post body s f top low le t z tt0 tp tb zl r hu hl =
         loop_starts n h test post body s f top low le tt0 tp tb zl r hu (omega arith)
     locals_follow n h (st ∷ rest) test post body s f top low le t z tt0 tp tb zl r hu hl =
-        let b = stmts_code (context P S) (stmts_of (map stmt_of rest)) in
+        let b = stmts_code (context P S) x (stmts_of (map stmt_of rest)) in
         let l = loop_code (context P S) (expr_if test) (expr_if post) (stmt_at P most S y body) in
         let down = s.stock + most * f.rounds - size_of (stmt_of st) in
-        subst (λ a. EndsHere P most S y a f top low
+        subst (λ a. EndsHere P most S y x a f top low
         (locals (meaning P) (st ∷ rest) test post body s))
-        (sym (then_then (stmt_at P most S y st) b l))
-        (seq_follows (stmt_at P most S y st) (Then b l) f (8 * s.stock) down top low
+        (sym (then_then (here st) b l))
+        (seq_follows (here st) (Then b l) f (8 * s.stock) down top low
         (meaning P (task.Run st) s) (locals (meaning P) rest test post body)
-        (h.run st s le S y (8 * s.stock) down f t.0 (omega arith) r (omega arith) (omega arith))
+        (h.run st s le S y x (8 * s.stock) down f t.0 (omega arith) r (omega arith) (omega arith))
         (omega arith) (omega arith)
         (λ s1 g t1 rel us ds. locals_follow n h rest test post body s1 g (top - t1) low
         (omega arith) t.1 (omega arith) tt0 tp tb zl rel (omega arith) (omega arith)))
 
-    for_starts : (n : ℕ) → Below n → (x : Beginning) (test post : Option TypedExpr) (body : TypedStmt)
+    for_starts : (n : ℕ) → Below n → (i : Beginning) (test post : Option TypedExpr) (body : TypedStmt)
         (s : eval.State) (f : State) (top low : ℕ) → s.stock ≤ n
-        → FitsFirst (scope P S) S.func.result (plain_first x) → size_of_first (plain_first x) ≤ most
+        → FitsFirst (scope P S) S.func.result x (plain_first i) → size_of_first (plain_first i) ≤ most
         → FitsExprIf (scope P S) (expr_if test) → FitsExprIf (scope P S) (expr_if post)
-        → FitsStmt (scope P S) S.func.result (stmt_of body)
+        → FitsStmt (scope P S) S.func.result around.Loop (stmt_of body)
         → nodes_if (expr_if test) + (nodes_if (expr_if post) + size_of (stmt_of body)) ≤ most
         → Related S s f → 1 + 8 * s.stock ≤ top
-        → low ≤ s.stock + most * f.rounds - size_of_first (plain_first x)
-        → EndsHere P most S y (Then (first_code (context P S) (plain_first x))
+        → low ≤ s.stock + most * f.rounds - size_of_first (plain_first i)
+        → EndsHere P most S y x (Then (first_code (context P S) x (plain_first i))
         (loop_code (context P S) (expr_if test) (expr_if post) (stmt_at P most S y body))) f top
-        low (begin (meaning P) x test post body s)
+        low (begin (meaning P) i test post body s)
     for_starts n h stmt.Nothing test post body s f top low le t z tt0 tp tb zl r hu hl =
         loop_starts n h test post body s f top low le tt0 tp tb zl r hu (omega arith)
     for_starts n h (stmt.First e) test post body s f top low le t z tt0 tp tb zl r hu hl =
         let l = loop_code (context P S) (expr_if test) (expr_if post) (stmt_at P most S y body) in
-        operand P most S y (Ended S) e 0 l s f top low (λ v s. meaning P (Turn test post body) s)
+        operand_in P most S y x (EndedIn x S) e 0 l s f top low (λ v s. meaning P (Turn test post body) s)
         (h.expr e s le) t r (omega arith) hl
         (λ v s1 g t1 hv ls us ds. loop_starts n h test post body s1 g (top - t1) low
         (omega arith) tt0 tp tb zl (kept_at S 0 e.kind f v s1 g hv).rel (omega arith)
@@ -201,10 +226,10 @@ module _ (P : TypedProgram) (most : ℕ) where
     -- the first turn of a do is taken
     do_starts : (n : ℕ) → Below n → (t : TypedExpr) (body : TypedStmt) (s : eval.State) (f : State)
         (top low : ℕ) → s.stock ≤ n → FitsExpr (scope P S) 0 (expr_of t)
-        → FitsStmt (scope P S) S.func.result (stmt_of body)
+        → FitsStmt (scope P S) S.func.result around.Loop (stmt_of body)
         → nodes (expr_of t) + size_of (stmt_of body) ≤ most → Related S s f → 4 + 8 * s.stock ≤ top
         → low ≤ s.stock + most * f.rounds
-        → EndsHere P most S y (do_code (context P S) (expr_of t) (stmt_at P most S y body)) f top
+        → EndsHere P most S y x (do_code (context P S) (expr_of t) (stmt_at P most S y body)) f top
         low (then (meaning P (task.Run body) s) (after P most (Some t) None body))
     unfolding apply
     do_starts n h t body s f top low le te tb z r hu hl =
@@ -215,140 +240,152 @@ module _ (P : TypedProgram) (most : ℕ) where
         let p = puts_let fs bs S.env op.Mov (Const 1) (Const 0) f 1 (temp 0) 80 1 0 1 (omega arith) refl refl refl in
         let rel = sets_unseen S y s f p.to (temp 0) 80 1 (omega arith) (omega arith) p.sets r in
         let res = then (meaning P (task.Run body) s) (after P most (Some t) None body) in
-        moved most (Ended S) (run P most S y (Then (set_word (temp 0) 1) (only (Loop a b))) f)
+        moved_in x most (EndedIn x S) (run P most S y (Then (set_word (temp 0) 1) (only (Loop a b))) f)
         (run P most S y (only (Loop a b)) p.to) p.t top low res
         (then_moves checked fs bs S.env (set_word (temp 0) 1) (only (Loop a b)) f p.to p.t p.leads)
         (omega (arith, p.few))
         (at_once (only (Loop a b)) p.to (loop_of P most S y a b p.to) (top - p.t) low res
         (loop_moves checked fs bs S.env a b p.to)
-        (subst (λ q. Follows most (Ended S) (loop_of P most S y a b p.to) (top - p.t) low
+        (subst (λ q. FollowsIn x most (EndedIn x S) (loop_of P most S y a b p.to) (top - p.t) low
         (then (cond q (Go Breaks s) (meaning P (task.Run body) s))
         (after P most (Some t) None body))) (is_true 0)
         (so_loop P most 1 t body s (suc s.stock) (h.run body s le) (λ s1 lt. h.again t body s1 (omega arith))
-        (λ v s1 e. let x = so_falls P most 1 body s v s1 e in omega arith)
-        S y (top - p.t) low p.to te tb z rel p.sets.value (omega (arith, p.few))
+        (λ v s1 e. let z = so_falls P most 1 body s v s1 e in omega arith)
+        S y x (top - p.t) low p.to te tb z rel p.sets.value (omega (arith, p.few))
         (subst (λ r. low ≤ s.stock + most * r) (sym p.sets.rounds) hl))))
 
     -- CHOICES
 
     if_follows : (n : ℕ) → Below n → (t : TypedExpr) (one : TypedStmt) (other : Option TypedStmt)
         (B : Code) (m : ℕ) (s : eval.State) (f : State) (top low : ℕ) → s.stock ≤ n
-        → FitsExpr (scope P S) 0 (expr_of t) → FitsStmt (scope P S) S.func.result (stmt_of one)
+        → FitsExpr (scope P S) 0 (expr_of t) → FitsStmt (scope P S) S.func.result x (stmt_of one)
         → size_of (stmt_of one) ≤ most
         → ((s1 : eval.State) (g : State) (up : ℕ) → s1.stock ≤ n → Related S s1 g
         → 8 * s1.stock ≤ up → low ≤ s1.stock + most * g.rounds - m
-        → EndsHere P most S y B g up low (run_if (meaning P) other s1))
+        → EndsHere P most S y x B g up low (run_if (meaning P) other s1))
         → Related S s f → 8 * s.stock ≤ top
         → low ≤ s.stock + most * f.rounds - (nodes (expr_of t) + (size_of (stmt_of one) + m))
-        → EndsHere P most S y (Then (code P most S y 0 t)
-        (only (If (Var (temp 0)) (stmt_at P most S y one) B))) f top low
+        → EndsHere P most S y x (Then (code P most S y 0 t)
+        (only (If (Var (temp 0)) (here one) B))) f top low
         (then (meaning P (Of t) s) (after_if (meaning P) one other))
     if_follows n h t one other B m s f top low le te tone zone hb r hu hl =
-        let A = stmt_at P most S y one in
-        operand P most S y (Ended S) t 0 (only (If (Var (temp 0)) A B)) s f top low
+        let A = here one in
+        operand_in P most S y x (EndedIn x S) t 0 (only (If (Var (temp 0)) A B)) s f top low
         (after_if (meaning P) one other) (h.expr t s le) te r (omega arith) (omega arith)
         (λ v s1 g t1 hv ls us ds.
-        wanted most (Ended S) (run P most S y (only (If (Var (temp 0)) A B)) g) (top - t1) low v s1
+        wanted_in x most (EndedIn x S) (run P most S y (only (If (Var (temp 0)) A B)) g) (top - t1) low v s1
         (λ w. cond (is_false w) (run_if (meaning P) other s1) (meaning P (task.Run one) s1))
         (λ w ew.
-        let x = value_at S 0 t.kind f v w s1 g ew hv in
-        leg w s1 g (top - t1) (omega arith) x.keeps.rel x.is (omega arith) (omega arith)))
+        let z = value_at S 0 t.kind f v w s1 g ew hv in
+        leg w s1 g (top - t1) (omega arith) z.keeps.rel z.is (omega arith) (omega arith)))
       where
         leg : (w : ℕ) (s1 : eval.State) (g : State) (up : ℕ) → s1.stock ≤ n → Related S s1 g
             → g.vars (temp 0) ≡ Some w → 3 + 8 * s1.stock ≤ up
             → low ≤ s1.stock + most * g.rounds - (size_of (stmt_of one) + m)
-            → EndsHere P most S y (only (If (Var (temp 0)) (stmt_at P most S y one) B)) g up low
+            → EndsHere P most S y x (only (If (Var (temp 0)) (here one) B)) g up low
             (cond (is_false w) (run_if (meaning P) other s1) (meaning P (task.Run one) s1))
         leg zero s1 g up le1 rel e hu1 hl1 =
-            moved most (Ended S) (run P most S y
-            (only (If (Var (temp 0)) (stmt_at P most S y one) B)) g) (run P most S y B g) 1 up low
+            moved_in x most (EndedIn x S) (run P most S y
+            (only (If (Var (temp 0)) (here one) B)) g) (run P most S y B g) 1 up low
             (run_if (meaning P) other s1)
             (if_other checked (functions P most) (base P most) S.env (Var (temp 0))
-            (stmt_at P most S y one) B g
+            (here one) B g
             (var_read (functions P most) (base P most) S.env g (temp 0) 0 e)) (omega arith)
             (hb s1 g (up - 1) le1 rel (omega arith) (omega arith))
         leg (suc w) s1 g up le1 rel e hu1 hl1 =
-            subst (λ b. EndsHere P most S y
-            (only (If (Var (temp 0)) (stmt_at P most S y one) B)) g up low
+            subst (λ b. EndsHere P most S y x
+            (only (If (Var (temp 0)) (here one) B)) g up low
             (cond b (run_if (meaning P) other s1) (meaning P (task.Run one) s1)))
             (sym (is_true w))
-            (moved most (Ended S) (run P most S y
-            (only (If (Var (temp 0)) (stmt_at P most S y one) B)) g)
-            (run P most S y (stmt_at P most S y one) g) 1 up low (meaning P (task.Run one) s1)
+            (moved_in x most (EndedIn x S) (run P most S y
+            (only (If (Var (temp 0)) (here one) B)) g)
+            (run P most S y (here one) g) 1 up low (meaning P (task.Run one) s1)
             (if_one checked (functions P most) (base P most) S.env (Var (temp 0))
-            (stmt_at P most S y one) B g w
+            (here one) B g w
             (var_read (functions P most) (base P most) S.env g (temp 0) (suc w) e)) (omega arith)
-            (h.run one s1 le1 S y (up - 1) low g tone zone rel (omega arith) (omega arith)))
+            (h.run one s1 le1 S y x (up - 1) low g tone zone rel (omega arith) (omega arith)))
 
     -- EVERY STATEMENT
 
-    begun_follows : (x : Level) (s : eval.State) (f : State) (top low : ℕ) → Below s.stock
-        → FitsStmt (scope P S) S.func.result (plain_stmt x) → size_of (plain_stmt x) ≤ most
+    begun_follows : (l : Level) (s : eval.State) (f : State) (top low : ℕ) → Below s.stock
+        → FollowsBlock P most S y (in_switch x) s.stock
+        → FitsStmt (scope P S) S.func.result x (plain_stmt l) → size_of (plain_stmt l) ≤ most
         → Related S s f → 4 + 8 * s.stock ≤ top
-        → low ≤ suc s.stock + most * f.rounds - size_of (plain_stmt x)
-        → EndsHere P most S y (stmt_code (context P S) (plain_stmt x)) f top low
-        (begun (meaning P) x s)
-    begun_follows (stmt.Declare p e) s f top low h t z r hu hl =
-        declare_ends P most S y p e top low s f h.expr t r (omega arith) (omega arith)
-    begun_follows (stmt.Plain None) s f top low h t z r hu hl =
-        nothing_left P most S y s f top low r (omega arith) (omega arith)
-    begun_follows (stmt.Plain (Some e)) s f top low h t z r hu hl =
-        plain_ends P most S y e s f top low (h.expr e s (omega arith)) t r (omega arith)
+        → low ≤ suc s.stock + most * f.rounds - size_of (plain_stmt l)
+        → EndsHere P most S y x (stmt_code (context P S) x (plain_stmt l)) f top low
+        (begun (meaning P) l s)
+    begun_follows (stmt.Declare p e) s f top low h hb t z r hu hl =
+        declare_ends P most S y x p e top low s f h.expr t r (omega arith) (omega arith)
+    begun_follows (stmt.Plain None) s f top low h hb t z r hu hl =
+        nothing_left P most S y x s f top low r (omega arith) (omega arith)
+    begun_follows (stmt.Plain (Some e)) s f top low h hb t z r hu hl =
+        plain_ends_in P most S y x e s f top low (h.expr e s (omega arith)) t r (omega arith)
         (omega arith)
-    begun_follows (stmt.Compound all) s f top low h t z r hu hl =
+    begun_follows (stmt.Compound all) s f top low h hb t z r hu hl =
         stmts_follow s.stock h all s f top low (omega arith) t (omega arith) r (omega arith)
         (omega arith)
-    begun_follows (stmt.If c one None) s f top low h t z r hu hl =
+    begun_follows (stmt.If c one None) s f top low h hb t z r hu hl =
         if_follows s.stock h c one None Nop 0 s f top low (omega arith) t.0 t.1 (omega arith)
-        (λ s1 g up le rel hu1 hl1. nothing_left P most S y s1 g up low rel hu1 (omega arith)) r
+        (λ s1 g up le rel hu1 hl1. nothing_left P most S y x s1 g up low rel hu1 (omega arith)) r
         (omega arith) (omega arith)
-    begun_follows (stmt.If c one (Some other)) s f top low h t z r hu hl =
-        if_follows s.stock h c one (Some other) (Then (stmt_at P most S y other) Nop)
+    begun_follows (stmt.If c one (Some other)) s f top low h hb t z r hu hl =
+        if_follows s.stock h c one (Some other) (Then (here other) Nop)
         (size_of (stmt_of other)) s f top low (omega arith) t.0 t.1 (omega arith)
         (λ s1 g up le rel hu1 hl1.
-        subst (λ a. EndsHere P most S y a g up low (meaning P (task.Run other) s1))
-        (sym (then_nop (stmt_at P most S y other)))
-        (h.run other s1 le S y up low g t.2.0 (omega arith) rel (omega arith) hl1)) r (omega arith)
+        subst (λ a. EndsHere P most S y x a g up low (meaning P (task.Run other) s1))
+        (sym (then_nop (here other)))
+        (h.run other s1 le S y x up low g t.2.0 (omega arith) rel (omega arith) hl1)) r (omega arith)
         (omega arith)
-    begun_follows (stmt.While c body) s f top low h t z r hu hl =
+    begun_follows (stmt.While c body) s f top low h hb t z r hu hl =
         loop_starts s.stock h (Some c) None body s f top low (omega arith) t.0 tt t.1 (omega arith) r
         (omega arith) (omega arith)
-    begun_follows (stmt.Do body c) s f top low h t z r hu hl =
+    begun_follows (stmt.Do body c) s f top low h hb t z r hu hl =
         do_starts s.stock h c body s f top low (omega arith) t.1 t.0 (omega arith) r (omega arith)
         (omega arith)
-    begun_follows (stmt.For first test post body) s f top low h t z r hu hl =
+    begun_follows (stmt.For first test post body) s f top low h hb t z r hu hl =
         let l = loop_code (context P S) (expr_if test) (expr_if post) (stmt_at P most S y body) in
         let e = first_is first in
-        let t0 : FitsFirst (scope P S) S.func.result (plain_first (out-TypedForInit first)) = subst
-        (FitsFirst (scope P S) S.func.result) e t.0 in
+        let t0 : FitsFirst (scope P S) S.func.result x (plain_first (out-TypedForInit first)) = subst
+        (FitsFirst (scope P S) S.func.result x) e t.0 in
         let size : size_of_first (first_of first) ≡ size_of_first (plain_first (out-TypedForInit first)) =
         ap size_of_first e in
-        subst (λ x. EndsHere P most S y (Then (first_code (context P S) x) l) f top low
+        subst (λ q. EndsHere P most S y x (Then (first_code (context P S) x q) l) f top low
         (begin (meaning P) (out-TypedForInit first) test post body s)) (sym e)
         (for_starts s.stock h (out-TypedForInit first) test post body s f top low (omega arith) t0
         (omega arith) t.1 t.2 t.3 (omega arith) r (omega arith) (omega arith))
-    begun_follows stmt.Break s f top low h t z r hu hl =
-        break_ends P most S y s f top low r (omega arith) (omega arith)
-    begun_follows stmt.Continue s f top low h t z r hu hl =
-        continue_ends P most S y s f top low r (omega arith) (omega arith)
-    begun_follows (stmt.Return None) s f top low h t z r hu hl =
-        return_ends P most S y s f top low t r (omega arith) (omega arith)
-    begun_follows (stmt.Return (Some e)) s f top low h t z r hu hl =
-        value_ends P most S y e s f top low (h.expr e s (omega arith)) t r (omega arith) (omega arith)
+    begun_follows (stmt.Switch i c xs) s f top low h hb t z r hu hl =
+        let a = switched_code x (sections_in xs) (rest_of P most S y (in_switch x) xs) in
+        operand_in P most S y x (EndedIn x S) c 0 a s f top low (after_switch (meaning P) xs)
+        (h.expr c s (omega arith)) t.0 r (omega arith) (omega arith)
+        (λ v s1 g t1 hv ls us ds.
+        wanted_in x most (EndedIn x S) (run P most S y a g) (top - t1) low v s1
+        (λ w. compared (meaning P) w (targets xs) [] s1) (λ w ew.
+        let q = value_at S 0 c.kind f v w s1 g ew hv in
+        switch_ends P most S y x s.stock hb (kind_of (expr_of c)) xs w s1 g (top - t1) low (omega arith) t.1
+        t.2 t.3 (omega arith) q.keeps.rel q.is (omega arith) (omega arith)))
+    begun_follows stmt.Break s f top low h hb t z r hu hl =
+        break_ends P most S y x s f top low r (omega arith) (omega arith)
+    begun_follows stmt.Continue s f top low h hb t z r hu hl =
+        continue_ends P most S y x t s f top low r (omega arith) (omega arith)
+    begun_follows (stmt.Return None) s f top low h hb t z r hu hl =
+        return_ends P most S y x s f top low t r (omega arith) (omega arith)
+    begun_follows (stmt.Return (Some e)) s f top low h hb t z r hu hl =
+        value_ends P most S y x e s f top low (h.expr e s (omega arith)) t r (omega arith) (omega arith)
 
   stmt_follows : (st : TypedStmt) (s : eval.State) → ((n : ℕ) → s.stock ≡ suc n → Below n)
       → FollowsRun P most st s
-  stmt_follows st s h S y top low f t z r hu hl =
-      let x = out-TypedStmt st in
-      subst (λ q. EndsHere P most S y (stmt_code (context P S) (stmt_of st)) f top low q)
+  stmt_follows st s h S y x top low f t z r hu hl =
+      let l = out-TypedStmt st in
+      subst (λ q. EndsHere P most S y x (stmt_code (context P S) x (stmt_of st)) f top low q)
       (sym (meaning-is P (task.Run st) s))
-      (subst (λ q. FitsStmt (scope P S) S.func.result q → size_of q ≤ most
+      (subst (λ q. FitsStmt (scope P S) S.func.result x q → size_of q ≤ most
       → low ≤ s.stock + most * f.rounds - size_of q
-      → EndsHere P most S y (stmt_code (context P S) q) f top low (statement (meaning P) x s))
+      → EndsHere P most S y x (stmt_code (context P S) x q) f top low (statement (meaning P) l s))
       (sym (stmt_is st))
-      (λ t z hl. spending P most S y (Ended S) (stmt_code (context P S) (plain_stmt x)) s f top low
-      (begun (meaning P) x) r (omega arith) (λ n e rn.
-      begun_follows S y x (record s { stock = n }) f top low (h n e) t z rn (omega arith)
+      (λ t z hl. spending_in P most S y x (EndedIn x S) (stmt_code (context P S) x (plain_stmt l)) s f top low
+      (begun (meaning P) l) r (omega arith) (λ n e rn.
+      begun_follows S y x l (record s { stock = n }) f top low (h n e)
+      (block_follows S y (in_switch x) n (h n e)) t z rn (omega arith)
       (omega arith))) t z hl)
 
   -- EVERYTHING

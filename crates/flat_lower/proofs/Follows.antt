@@ -16,14 +16,23 @@ use Rattle.ir_forms.specs.FlatRuns.{checked}
 use Rattle.ir_forms.proofs.Leads.{Run, Leads, Stops, Moves, Waits, leads_from, stops_from}
 use Rattle.ir_forms.proofs.Leads.{waits_stop}
 use Rattle.ir_forms.proofs.Steps.{code_run, then_moves, first_leads, first_stops, code_waits}
+use Rattle.flat_lower.specs.declared.around.Around.{Around}
+use Rattle.flat_lower.specs.declared.around.Around.TheVariants as around
 
--- how a run goes on behind what gave a signal
-abbrev pub ends : Signal → State → ℕ → Res
-ends Nothing = settle
-ends (Value w) = settle
-ends Breaks = Broke
-ends Continues = Again
-ends (Returns w) = Gave w
+-- how a run goes on behind a `continue`: a switch between it and its loop is left first
+abbrev pub continues_in : Around → State → ℕ → Res
+continues_in around.Nowhere = Again
+continues_in around.Loop = Again
+continues_in around.Switch = Again
+continues_in around.SwitchInLoop = Broke
+
+-- how a run goes on behind what gave a signal, by what stands around it
+abbrev pub ends_in : Around → Signal → State → ℕ → Res
+ends_in x Nothing = settle
+ends_in x (Value w) = settle
+ends_in x Breaks = Broke
+ends_in x Continues = continues_in x
+ends_in x (Returns w) = Gave w
 
 -- the run goes on behind it
 abbrev pub Settles : Signal → Type 0
@@ -37,13 +46,18 @@ abbrev pub Post : Type 1
 Post = Signal → eval.State → State → Type 0
 
 -- it comes to a state within turns that the steps pay, and the steps are bounded by the rounds
-pub record Goes (most : ℕ) (P : Post) (run : Run) (top low : ℕ) (v : Signal) (s : eval.State) : Type 0 where
+pub record GoesIn (x : Around) (most : ℕ) (P : Post) (run : Run) (top low : ℕ) (v : Signal)
+    (s : eval.State) : Type 0 where
   pub t : ℕ
   pub to : State
   pub upper : t + 8 * s.stock ≤ top
   pub lower : low ≤ s.stock + most * to.rounds
   pub holds : P v s to
-  pub leads : Leads run t (ends v to)
+  pub leads : Leads run t (ends_in x v to)
+
+-- the same in a loop
+abbrev pub Goes : ℕ → Post → Run → ℕ → ℕ → Signal → eval.State → Type 0
+Goes most P run top low v s = GoesIn around.Loop most P run top low v s
 
 pub record Dives (run : Run) (top : ℕ) (out : List ℕ) : Type 0 where
   pub t : ℕ
@@ -62,9 +76,13 @@ FollowsOver most run top low More out = Halts most run top low out
 FollowsOver most run top low Undefined out = Unit {0}
 FollowsOver most run top low Deep out = Dives run top out
 
+abbrev pub FollowsIn : Around → ℕ → Post → Run → ℕ → ℕ → Result → Type 0
+FollowsIn x most P run top low (Go v s) = GoesIn x most P run top low v s
+FollowsIn x most P run top low (Over why s) = FollowsOver most run top low why s.output
+
+-- the same in a loop, and of what can neither break nor continue
 abbrev pub Follows : ℕ → Post → Run → ℕ → ℕ → Result → Type 0
-Follows most P run top low (Go v s) = Goes most P run top low v s
-Follows most P run top low (Over why s) = FollowsOver most run top low why s.output
+Follows most P run top low r = FollowsIn around.Loop most P run top low r
 
 -- the prefix of a run costs its turns
 over_moved : (most : ℕ) (run next : Run) (t top low : ℕ) (why : Ending) (out : List ℕ)
@@ -84,18 +102,23 @@ over_moved most run next t top low Deep out m h g = record {
   leads = leads_from run next t g.t (λ k. TooDeep out) m g.leads;
 }
 
-pub moved : (most : ℕ) (P : Post) (run next : Run) (t top low : ℕ) (r : Result) → Moves run t next
-    → t ≤ top → Follows most P next (top - t) low r → Follows most P run top low r
-moved most P run next t top low (Go v s) m h g = record {
+pub moved_in : (x : Around) (most : ℕ) (P : Post) (run next : Run) (t top low : ℕ) (r : Result)
+    → Moves run t next → t ≤ top → FollowsIn x most P next (top - t) low r
+    → FollowsIn x most P run top low r
+moved_in x most P run next t top low (Go v s) m h g = record {
   t = t + g.t;
   to = g.to;
   upper = omega (arith, g.upper);
   lower = g.lower;
   holds = g.holds;
-  leads = leads_from run next t g.t (ends v g.to) m g.leads;
+  leads = leads_from run next t g.t (ends_in x v g.to) m g.leads;
 }
-moved most P run next t top low (Over why s) m h g =
+moved_in x most P run next t top low (Over why s) m h g =
     over_moved most run next t top low why s.output m h g
+
+pub moved : (most : ℕ) (P : Post) (run next : Run) (t top low : ℕ) (r : Result) → Moves run t next
+    → t ≤ top → Follows most P next (top - t) low r → Follows most P run top low r
+moved = moved_in around.Loop
 
 -- more turns, and fewer steps to account for
 over_weaker : (most : ℕ) (run : Run) (top low up down : ℕ) (why : Ending) (out : List ℕ) → up ≤ top
@@ -113,13 +136,13 @@ over_weaker most run top low up down Deep out h k g =
     record { t = g.t; upper = omega (arith, g.upper); leads = g.leads }
 
 -- a step that is spent; with none left the run has not ended
-pub spends : (most : ℕ) (P : Post) (run : Run) (top low : ℕ) (s : eval.State) (c : ℕ)
+pub spends : (x : Around) (most : ℕ) (P : Post) (run : Run) (top low : ℕ) (s : eval.State) (c : ℕ)
     (next : eval.State → Result) → Waits run s.output c → low ≤ s.stock + most * c
-    → ((n : ℕ) → s.stock ≡ suc n → Follows most P run top low (next (record s { stock = n })))
-    → Follows most P run top low (spend s next)
-spends most P run top low s c next w h f = go s.stock refl
+    → ((n : ℕ) → s.stock ≡ suc n → FollowsIn x most P run top low (next (record s { stock = n })))
+    → FollowsIn x most P run top low (spend s next)
+spends x most P run top low s c next w h f = go s.stock refl
   where
-    go : (n : ℕ) → s.stock ≡ n → Follows most P run top low (spend_of n s next)
+    go : (n : ℕ) → s.stock ≡ n → FollowsIn x most P run top low (spend_of n s next)
     go zero e = record {
       t = 0;
       r = c;
@@ -137,14 +160,20 @@ needed most P run top low None s next f = tt
 needed most P run top low (Some a) s next f = f a refl
 
 -- a value that is taken
+pub wanted_in : (x : Around) (most : ℕ) (P : Post) (run : Run) (top low : ℕ) (v : Signal)
+    (s : eval.State) (next : ℕ → Result)
+    → ((w : ℕ) → v ≡ Value w → FollowsIn x most P run top low (next w))
+    → FollowsIn x most P run top low (want v s next)
+wanted_in x most P run top low Nothing s next f = tt
+wanted_in x most P run top low (Value w) s next f = f w refl
+wanted_in x most P run top low Breaks s next f = tt
+wanted_in x most P run top low Continues s next f = tt
+wanted_in x most P run top low (Returns w) s next f = tt
+
 pub wanted : (most : ℕ) (P : Post) (run : Run) (top low : ℕ) (v : Signal) (s : eval.State)
     (next : ℕ → Result) → ((w : ℕ) → v ≡ Value w → Follows most P run top low (next w))
     → Follows most P run top low (want v s next)
-wanted most P run top low Nothing s next f = tt
-wanted most P run top low (Value w) s next f = f w refl
-wanted most P run top low Breaks s next f = tt
-wanted most P run top low Continues s next f = tt
-wanted most P run top low (Returns w) s next f = tt
+wanted = wanted_in around.Loop
 
 -- another predicate for what the run comes to
 pub weaker : (most : ℕ) (P Q : Post) (run : Run) (top low : ℕ) (r : Result)
@@ -182,14 +211,34 @@ module _ (fs : List Function) (base most : ℕ) (e : Env) where
     leads = first_leads checked fs base e a b f g.t (λ k. TooDeep out) (λ k next. refl) g.leads;
   }
 
-  pub settles_is : (v : Signal) → Settles v → ends v ≡ settle
-  settles_is Nothing h = refl
-  settles_is (Value w) h = refl
-  settles_is Breaks h = absurd h
-  settles_is Continues h = absurd h
-  settles_is (Returns w) h = absurd h
+  pub settles_in : (x : Around) (v : Signal) → Settles v → ends_in x v ≡ settle
+  settles_in x Nothing h = refl
+  settles_in x (Value w) h = refl
+  settles_in x Breaks h = absurd h
+  settles_in x Continues h = absurd h
+  settles_in x (Returns w) h = absurd h
 
-  -- a part and what follows it, where what follows knows that the run goes on
+  pub settles_is : (v : Signal) → Settles v → ends_in around.Loop v ≡ settle
+  settles_is = settles_in around.Loop
+
+  -- a part and what follows it, where what follows knows that the run goes on; as it goes on, what stands
+  -- around the part may be another
+  pub then_follows_in : (z x : Around) (P Q : Post) (a b : Code) (f : State) (up down top low : ℕ)
+      (r : Result) (next : Signal → eval.State → Result) → FollowsIn z most P (run_of a f) up down r
+      → up ≤ top → low ≤ down
+      → ((v : Signal) (s : eval.State) (g : State) (t : ℕ) → r ≡ Go v s → P v s g
+      → t + 8 * s.stock ≤ up → down ≤ s.stock + most * g.rounds
+      → Settles v × FollowsIn x most Q (run_of b g) (top - t) low (next v s))
+      → FollowsIn x most Q (run_of (Then a b) f) top low (then r next)
+  then_follows_in z x P Q a b f up down top low (Go v s) next g hu hd h =
+      let k = h v s g.to g.t refl g.holds g.upper g.lower in
+      let l : Leads (run_of a f) g.t (settle g.to) = subst (λ x. Leads (run_of a f) g.t (x g.to))
+      (settles_in z v k.0) g.leads in
+      moved_in x most Q (run_of (Then a b) f) (run_of b g.to) g.t top low (next v s)
+      (then_moves checked fs base e a b f g.to g.t l) (omega (arith, g.upper)) k.1
+  then_follows_in z x P Q a b f up down top low (Over why s) next g hu hd h =
+      over_first a b f up down top low why s.output hu hd g
+
   pub then_follows : (P Q : Post) (a b : Code) (f : State) (up down top low : ℕ) (r : Result)
       (next : Signal → eval.State → Result) → Follows most P (run_of a f) up down r → up ≤ top
       → low ≤ down
@@ -197,33 +246,30 @@ module _ (fs : List Function) (base most : ℕ) (e : Env) where
       → t + 8 * s.stock ≤ up → down ≤ s.stock + most * g.rounds
       → Settles v × Follows most Q (run_of b g) (top - t) low (next v s))
       → Follows most Q (run_of (Then a b) f) top low (then r next)
-  then_follows P Q a b f up down top low (Go v s) next g hu hd h =
-      let k = h v s g.to g.t refl g.holds g.upper g.lower in
-      let l : Leads (run_of a f) g.t (settle g.to) = subst (λ x. Leads (run_of a f) g.t (x g.to))
-      (settles_is v k.0) g.leads in
-      moved most Q (run_of (Then a b) f) (run_of b g.to) g.t top low (next v s)
-      (then_moves checked fs base e a b f g.to g.t l) (omega (arith, g.upper)) k.1
-  then_follows P Q a b f up down top low (Over why s) next g hu hd h =
-      over_first a b f up down top low why s.output hu hd g
+  then_follows = then_follows_in around.Loop around.Loop
+
+  -- what leaves does not go on
+  pub leaving_in : (x : Around) (v : Signal) → (Settles v → ⊥) → (h : State) (k : ℕ)
+      (next : State → ℕ → Res) → then_run (ends_in x v h k) next ≡ ends_in x v h k
+  leaving_in x Nothing n h k next = absurd (n tt)
+  leaving_in x (Value w) n h k next = absurd (n tt)
+  leaving_in x Breaks n h k next = refl
+  leaving_in around.Nowhere Continues n h k next = refl
+  leaving_in around.Loop Continues n h k next = refl
+  leaving_in around.Switch Continues n h k next = refl
+  leaving_in around.SwitchInLoop Continues n h k next = refl
+  leaving_in x (Returns w) n h k next = refl
 
   -- a statement and those behind it: what leaves the first leaves both
-  pub leaves_first : (P : Post) (a b : Code) (f : State) (up down top low : ℕ) (v : Signal)
+  pub leaves_first : (x : Around) (P : Post) (a b : Code) (f : State) (up down top low : ℕ) (v : Signal)
       (s : eval.State) → (Settles v → ⊥) → up ≤ top → low ≤ down
-      → Goes most P (run_of a f) up down v s → Goes most P (run_of (Then a b) f) top low v s
-  leaves_first P a b f up down top low v s n hu hd g = record {
+      → GoesIn x most P (run_of a f) up down v s → GoesIn x most P (run_of (Then a b) f) top low v s
+  leaves_first x P a b f up down top low v s n hu hd g = record {
     t = g.t;
     to = g.to;
     upper = omega (arith, g.upper);
     lower = omega (arith, g.lower);
     holds = g.holds;
-    leads = first_leads checked fs base e a b f g.t (ends v g.to)
-        (λ k next. stays v n k next) g.leads;
+    leads = first_leads checked fs base e a b f g.t (ends_in x v g.to)
+        (λ k next. leaving_in x v n g.to k next) g.leads;
   }
-    where
-      stays : (v : Signal) → (Settles v → ⊥) → (k : ℕ) (next : State → ℕ → Res)
-          → then_run (ends v g.to k) next ≡ ends v g.to k
-      stays Nothing n k next = absurd (n tt)
-      stays (Value w) n k next = absurd (n tt)
-      stays Breaks n k next = refl
-      stays Continues n k next = refl
-      stays (Returns w) n k next = refl

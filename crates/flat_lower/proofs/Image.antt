@@ -8,7 +8,7 @@ use Rattle.std.specs.Prelude.{nat_eq, nat_lt, nat_le, slice_get, slice_index}
 use Rattle.std.proofs.lemmas.Bool.Decides.{nat_tests}
 use native.Mathlib.Nat.{div-div-eq-div-mul, zero-div, pow-zero}
 use Rattle.c_tree.specs.declared.Kind.{Kind}
-use Rattle.c_tree.specs.declared.Kind.TheVariants.{Char, UChar, Int, UInt, Long, ULong}
+use Rattle.c_tree.specs.declared.Kind.TheVariants.{Char, UChar, Short, UShort, Int, UInt, Long, ULong}
 use Rattle.c_tree.specs.declared.TypedGlobal.{TypedGlobal}
 use Rattle.c_constant.specs.Kinds.{bytes}
 use Rattle.c_meaning_spec.specs.Eval.{length_of, first_cells}
@@ -134,6 +134,8 @@ word_loaded k m a w good fits h =
 zero_fits : (k : Kind) → IsWord k 0
 zero_fits Char = record { below = omega arith; narrow = omega arith }
 zero_fits UChar = record { below = omega arith; narrow = omega arith }
+zero_fits Short = record { below = omega arith; narrow = omega arith }
+zero_fits UShort = record { below = omega arith; narrow = omega arith }
 zero_fits Int = record { below = omega arith; narrow = omega arith }
 zero_fits UInt = record { below = omega arith; narrow = omega arith }
 zero_fits Long = record { below = omega arith; narrow = omega arith }
@@ -198,7 +200,7 @@ init_length k (w ∷ ws) = both_length (word_bytes (bytes k) w) (init_bytes (byt
 
 fewer_bytes : (k : Kind) (n l : ℕ) → n ≤ l → bytes k * n ≤ bytes k * l
 fewer_bytes k n l le = by_size (λ s. s * n ≤ s * l) (bytes k) (size_is k) (omega arith)
-    (omega arith) (omega arith)
+    (omega arith) (omega arith) (omega arith)
 
 all_bytes : (k : Kind) (n : ℕ) → n * bytes k ≡ bytes k * n
 all_bytes k n = mul_comm n (bytes k)
@@ -232,7 +234,7 @@ all_words P (w ∷ ws) h (suc j) v e = all_words P ws (λ k d lt. h (suc k) d (o
 
 pub global_stored : (m : Memory) (lo : ℕ) (g : TypedGlobal) → FitsGlobal g
     → ImageAt m lo (global_image g) → lo % 8 ≡ 0 → lo + global_bytes g ≤ data_size
-    → Stored (object lo g.kind (length_of g.length)) (first_cells g) m
+    → Stored (object lo g.kind (length_of g.length) g.row) (first_cells g) m
 global_stored m lo g t h whole room =
     let k = g.kind in
     let L = length_of g.length in
@@ -261,7 +263,7 @@ global_stored m lo g t h whole room =
     left_room : (k : Kind) (n l room : ℕ) → n ≤ l → bytes k * l ≤ room
         → bytes k * (l - n) ≤ room - n * bytes k
     left_room k n l room le h = by_size (λ s. s * l ≤ room → s * (l - n) ≤ room - n * s) (bytes k)
-        (size_is k) (λ h. omega arith) (λ h. omega arith) (λ h. omega arith) h
+        (size_is k) (λ h. omega arith) (λ h. omega arith) (λ h. omega arith) (λ h. omega arith) h
 
     inside : (i w : ℕ) → slice_get (first_cells g) i ≡ Some (Some w) → i < length_of g.length
     inside i w q = go (map Some g.init ++ replicate (length_of g.length - length g.init) (Some 0)) i

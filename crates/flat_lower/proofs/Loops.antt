@@ -32,14 +32,16 @@ use Rattle.flat_lower.specs.Operations.{temp}
 use Rattle.flat_lower.specs.Statements.{expr_if_code, if_so, turn_code, stmt_code}
 use Rattle.flat_lower.specs.Fits.{FitsExpr, FitsExprIf, FitsStmt}
 use Rattle.flat_lower.specs.Sizes.{nodes, nodes_if, size_of}
+use Rattle.flat_lower.specs.declared.around.Around.{Around}
+use Rattle.flat_lower.specs.declared.around.Around.TheVariants as around
 use Rattle.flat_lower.proofs.Straight.{var_read}
-use Rattle.flat_lower.proofs.Follows.{Post, Settles, Goes, Follows, ends, moved, settles_is, wanted}
+use Rattle.flat_lower.proofs.Follows.{Post, Settles, Follows, FollowsIn, moved, moved_in, settles_is, wanted}
 use Rattle.flat_lower.proofs.Related.{Scene, IsScene, scope, context, Related, recounted}
 use Rattle.flat_lower.proofs.Values.{Valued, valued_settles, value_at, kept_at, functions, base}
 use Rattle.flat_lower.proofs.Values.{FollowsOf, run, code, operand}
 use Rattle.flat_lower.proofs.Legs.{is_true}
-use Rattle.flat_lower.proofs.Returns.{Ended, FollowsRun}
-use Rattle.flat_lower.proofs.Ends.{EndsHere, nothing_left, break_ends}
+use Rattle.flat_lower.proofs.Returns.{Ended, EndedIn, FollowsRun}
+use Rattle.flat_lower.proofs.Ends.{EndsHere, just_breaks}
 
 module _ (P : TypedProgram) (most : ℕ) where
   -- a body under a word that was tested, and a turn up to its body's end: where the test fails the
@@ -116,21 +118,21 @@ module _ (P : TypedProgram) (most : ℕ) where
     post_of a b f = post_run checked (functions P most) (base P most) S.env a b f
 
     -- a turn, and what follows its body
-    pub loop_follows : (a b : Code) (f : State) (up down top low : ℕ) (r : Result)
+    pub loop_follows : (x : Around) (a b : Code) (f : State) (up down top low : ℕ) (r : Result)
         (test post : Option TypedExpr) (body : TypedStmt)
-        → EndsHere P most S y a (counted f) up down r → suc up ≤ top → low ≤ down
+        → EndsHere P most S y around.Loop a (counted f) up down r → suc up ≤ top → low ≤ down
         → ((v : Signal) (s1 : eval.State) (g : State) (t : ℕ) → r ≡ Go v s1 → Related S s1 g
         → t + 8 * s1.stock ≤ up → down ≤ s1.stock + most * g.rounds
-        → Follows most (Ended S) (post_of a b g) (top - suc t) low
+        → FollowsIn x most (EndedIn x S) (post_of a b g) (top - suc t) low
         (then_turn (meaning P) post test post body s1))
-        → Follows most (Ended S) (loop_of a b f) top low (then r (after test post body))
-    loop_follows a b f up down top low (Go Nothing s1) test post body h hu hl go =
-        moved most (Ended S) (loop_of a b f) (post_of a b h.to) (suc h.t) top low
+        → FollowsIn x most (EndedIn x S) (loop_of a b f) top low (then r (after test post body))
+    loop_follows x a b f up down top low (Go Nothing s1) test post body h hu hl go =
+        moved_in x most (EndedIn x S) (loop_of a b f) (post_of a b h.to) (suc h.t) top low
         (then_turn (meaning P) post test post body s1)
         (turn_goes checked (functions P most) (base P most) S.env a b f h.to h.t h.leads)
         (omega (arith, h.upper)) (go Nothing s1 h.to h.t refl h.holds h.upper h.lower)
-    loop_follows a b f up down top low (Go (Value w) s1) test post body h hu hl go = absurd h.holds
-    loop_follows a b f up down top low (Go Breaks s1) test post body h hu hl go = record {
+    loop_follows x a b f up down top low (Go (Value w) s1) test post body h hu hl go = absurd h.holds
+    loop_follows x a b f up down top low (Go Breaks s1) test post body h hu hl go = record {
       t = suc h.t;
       to = h.to;
       upper = omega (arith, h.upper);
@@ -139,12 +141,12 @@ module _ (P : TypedProgram) (most : ℕ) where
       leads = turn_leads checked (functions P most) (base P most) S.env a b f h.t (Broke h.to)
           (settle h.to) (λ k p next. refl) h.leads;
     }
-    loop_follows a b f up down top low (Go Continues s1) test post body h hu hl go =
-        moved most (Ended S) (loop_of a b f) (post_of a b h.to) (suc h.t) top low
+    loop_follows x a b f up down top low (Go Continues s1) test post body h hu hl go =
+        moved_in x most (EndedIn x S) (loop_of a b f) (post_of a b h.to) (suc h.t) top low
         (then_turn (meaning P) post test post body s1)
         (turn_continues checked (functions P most) (base P most) S.env a b f h.to h.t h.leads)
-        (omega (arith, h.upper)) (go Continues s1 h.to h.t refl h.holds h.upper h.lower)
-    loop_follows a b f up down top low (Go (Returns w) s1) test post body h hu hl go = record {
+        (omega (arith, h.upper)) (go Continues s1 h.to h.t refl h.holds.1 h.upper h.lower)
+    loop_follows x a b f up down top low (Go (Returns w) s1) test post body h hu hl go = record {
       t = suc h.t;
       to = h.to;
       upper = omega (arith, h.upper);
@@ -153,7 +155,7 @@ module _ (P : TypedProgram) (most : ℕ) where
       leads = turn_leads checked (functions P most) (base P most) S.env a b f h.t (Gave w h.to)
           (Gave w h.to) (λ k p next. refl) h.leads;
     }
-    loop_follows a b f up down top low (Over More s1) test post body h hu hl go = record {
+    loop_follows x a b f up down top low (Over More s1) test post body h hu hl go = record {
       t = suc h.t;
       r = h.r;
       upper = omega (arith, h.upper);
@@ -161,8 +163,8 @@ module _ (P : TypedProgram) (most : ℕ) where
       stops = turn_stops checked (functions P most)
           (base P most) S.env a b f h.t s1.output h.r h.stops;
     }
-    loop_follows a b f up down top low (Over Undefined s1) test post body h hu hl go = tt
-    loop_follows a b f up down top low (Over Deep s1) test post body h hu hl go = record {
+    loop_follows x a b f up down top low (Over Undefined s1) test post body h hu hl go = tt
+    loop_follows x a b f up down top low (Over Deep s1) test post body h hu hl go = record {
       t = suc h.t;
       upper = omega (arith, h.upper);
       leads = turn_leads checked (functions P most) (base P most) S.env a b f h.t
@@ -170,21 +172,21 @@ module _ (P : TypedProgram) (most : ℕ) where
     }
 
     -- the part after a body, and the next turn
-    pub post_follows : (Q : Post) (a b : Code) (f : State) (up down top low : ℕ) (r : Result)
+    pub post_follows : (x : Around) (Q : Post) (a b : Code) (f : State) (up down top low : ℕ) (r : Result)
         (next : Signal → eval.State → Result) → Follows most Q (run P most S y b f) up down r
         → up ≤ top → low ≤ down
         → ((v : Signal) (s1 : eval.State) (g : State) (t : ℕ) → r ≡ Go v s1 → Q v s1 g
         → t + 8 * s1.stock ≤ up → down ≤ s1.stock + most * g.rounds
-        → Settles v × Follows most (Ended S) (loop_of a b g) (top - t) low (next v s1))
-        → Follows most (Ended S) (post_of a b f) top low (then r next)
-    post_follows Q a b f up down top low (Go v s1) next h hu hl go =
+        → Settles v × FollowsIn x most (EndedIn x S) (loop_of a b g) (top - t) low (next v s1))
+        → FollowsIn x most (EndedIn x S) (post_of a b f) top low (then r next)
+    post_follows x Q a b f up down top low (Go v s1) next h hu hl go =
         let k = go v s1 h.to h.t refl h.holds h.upper h.lower in
-        let l : Leads (run P most S y b f) h.t (settle h.to) = subst (λ x. Leads (run P most S y b f) h.t (x h.to))
+        let l : Leads (run P most S y b f) h.t (settle h.to) = subst (λ q. Leads (run P most S y b f) h.t (q h.to))
         (settles_is (functions P most) (base P most) most S.env v k.0) h.leads in
-        moved most (Ended S) (post_of a b f) (loop_of a b h.to) h.t top low (next v s1)
+        moved_in x most (EndedIn x S) (post_of a b f) (loop_of a b h.to) h.t top low (next v s1)
         (post_moves checked (functions P most) (base P most) S.env a b f h.to h.t l)
         (omega (arith, h.upper)) k.1
-    post_follows Q a b f up down top low (Over More s1) next h hu hl go = record {
+    post_follows x Q a b f up down top low (Over More s1) next h hu hl go = record {
       t = h.t;
       r = h.r;
       upper = omega (arith, h.upper);
@@ -192,8 +194,8 @@ module _ (P : TypedProgram) (most : ℕ) where
       stops = post_stops checked (functions P most)
           (base P most) S.env a b f h.t s1.output h.r h.stops;
     }
-    post_follows Q a b f up down top low (Over Undefined s1) next h hu hl go = tt
-    post_follows Q a b f up down top low (Over Deep s1) next h hu hl go = record {
+    post_follows x Q a b f up down top low (Over Undefined s1) next h hu hl go = tt
+    post_follows x Q a b f up down top low (Over Deep s1) next h hu hl go = record {
       t = h.t;
       upper = omega (arith, h.upper);
       leads = post_leads checked (functions P most) (base P most) S.env a b f h.t
@@ -201,43 +203,43 @@ module _ (P : TypedProgram) (most : ℕ) where
     }
 
     abbrev pub stmt : TypedStmt → Code
-    stmt body = stmt_code (context P S) (stmt_of body)
+    stmt body = stmt_code (context P S) around.Loop (stmt_of body)
 
     -- THE PARTS OF A TURN
 
     -- the word stands in temporary 0
     pub so_ends : (w : ℕ) (body : TypedStmt) (s : eval.State) (g : State) (up low : ℕ)
-        → FollowsRun P most body s → FitsStmt (scope P S) S.func.result (stmt_of body)
+        → FollowsRun P most body s → FitsStmt (scope P S) S.func.result around.Loop (stmt_of body)
         → size_of (stmt_of body) ≤ most → Related S s g → g.vars (temp 0) ≡ Some w
         → 2 + 8 * s.stock ≤ up → low ≤ s.stock + most * g.rounds - size_of (stmt_of body)
-        → EndsHere P most S y (if_so (stmt body)) g up low (so_part w body s)
+        → EndsHere P most S y around.Loop (if_so (stmt body)) g up low (so_part w body s)
     so_ends zero body s g up low h t z r e hu hl =
         moved most (Ended S) (run P most S y (if_so (stmt body)) g)
         (run P most S y (only flat.Break) g) 1 up low (Go Breaks s)
         (if_other checked (functions P most) (base P most) S.env (Var (temp 0)) (stmt body)
         (only flat.Break) g (var_read (functions P most) (base P most) S.env g (temp 0) 0 e))
         (omega arith)
-        (break_ends P most S y s g (up - 1) low r (omega arith) (omega arith))
+        (just_breaks P most S y around.Loop s g (up - 1) low r (omega arith) (omega arith))
     so_ends (suc w) body s g up low h t z r e hu hl =
-        subst (λ b. EndsHere P most S y (if_so (stmt body)) g up low
+        subst (λ b. EndsHere P most S y around.Loop (if_so (stmt body)) g up low
         (cond b (Go Breaks s) (meaning P (task.Run body) s))) (sym (is_true w))
         (moved most (Ended S) (run P most S y (if_so (stmt body)) g)
         (run P most S y (stmt body) g) 1 up low (meaning P (task.Run body) s)
         (if_one checked (functions P most) (base P most) S.env (Var (temp 0)) (stmt body)
         (only flat.Break) g w (var_read (functions P most) (base P most) S.env g (temp 0)
         (suc w) e)) (omega arith)
-        (h S y (up - 1) low g t z r (omega arith) hl))
+        (h S y around.Loop (up - 1) low g t z r (omega arith) hl))
 
     pub part_ends : (test : Option TypedExpr) (body : TypedStmt) (s : eval.State) (g : State)
         (up low : ℕ) → ((e : TypedExpr) → FollowsOf P most e s)
         → ((s1 : eval.State) → s1.stock ≤ s.stock → FollowsRun P most body s1)
-        → FitsExprIf (scope P S) (expr_if test) → FitsStmt (scope P S) S.func.result (stmt_of body)
+        → FitsExprIf (scope P S) (expr_if test) → FitsStmt (scope P S) S.func.result around.Loop (stmt_of body)
         → size_of (stmt_of body) ≤ most → Related S s g → 8 * s.stock ≤ up + 1
         → low ≤ s.stock + most * g.rounds - (nodes_if (expr_if test) + size_of (stmt_of body))
-        → EndsHere P most S y (turn_code (context P S) (expr_if test) (stmt body)) g up low
+        → EndsHere P most S y around.Loop (turn_code (context P S) (expr_if test) (stmt body)) g up low
         (turn_part test body s)
     part_ends None body s g up low he hs tt0 t z r hu hl =
-        hs s (omega arith) S y up low g t z r (omega arith) (omega arith)
+        hs s (omega arith) S y around.Loop up low g t z r (omega arith) (omega arith)
     part_ends (Some e) body s g up low he hs te t z r hu hl =
         operand P most S y (Ended S) e 0 (if_so (stmt body)) s g up low
         (λ v s. want v s (λ w. so_part w body s)) (he e) te r (omega arith) (omega arith)
@@ -253,22 +255,22 @@ module _ (P : TypedProgram) (most : ℕ) where
   -- a while or a for, from a turn on
   abbrev pub FollowsTurn : Option TypedExpr → Option TypedExpr → TypedStmt → eval.State → Type 0
   FollowsTurn test post body s =
-      (S : Scene) (y : IsScene P S) (top low : ℕ) (f : State)
+      (S : Scene) (y : IsScene P S) (x : Around) (top low : ℕ) (f : State)
       → FitsExprIf (scope P S) (expr_if test) → FitsExprIf (scope P S) (expr_if post)
-      → FitsStmt (scope P S) S.func.result (stmt_of body)
+      → FitsStmt (scope P S) S.func.result around.Loop (stmt_of body)
       → nodes_if (expr_if test) + (nodes_if (expr_if post) + size_of (stmt_of body)) ≤ most
       → Related S s f → 1 + 8 * s.stock ≤ top → low ≤ s.stock + most * f.rounds
-      → Follows most (Ended S) (loop_of S y (turn_code (context P S) (expr_if test) (stmt S y body))
+      → FollowsIn x most (EndedIn x S) (loop_of S y (turn_code (context P S) (expr_if test) (stmt S y body))
       (expr_if_code (context P S) (expr_if post)) f) top low (meaning P (Turn test post body) s)
 
   -- a do, from its test on
   abbrev pub FollowsDo : TypedExpr → TypedStmt → eval.State → Type 0
   FollowsDo t body s =
-      (S : Scene) (y : IsScene P S) (top low : ℕ) (f : State) → FitsExpr (scope P S) 0 (expr_of t)
-      → FitsStmt (scope P S) S.func.result (stmt_of body)
+      (S : Scene) (y : IsScene P S) (x : Around) (top low : ℕ) (f : State) → FitsExpr (scope P S) 0 (expr_of t)
+      → FitsStmt (scope P S) S.func.result around.Loop (stmt_of body)
       → nodes (expr_of t) + size_of (stmt_of body) ≤ most → Related S s f → 8 * s.stock ≤ top
       → low ≤ s.stock + most * f.rounds - nodes (expr_of t)
-      → Follows most (Ended S) (post_of S y (if_so (stmt S y body)) (code P most S y 0 t) f) top low
+      → FollowsIn x most (EndedIn x S) (post_of S y (if_so (stmt S y body)) (code P most S y 0 t) f) top low
       (meaning P (Turn (Some t) None body) s)
 
   pub turn_follows : (test post : Option TypedExpr) (body : TypedStmt) (s : eval.State)
@@ -276,14 +278,14 @@ module _ (P : TypedProgram) (most : ℕ) where
       → ((s1 : eval.State) → s1.stock ≤ s.stock → FollowsRun P most body s1)
       → ((s1 : eval.State) → s1.stock < s.stock → FollowsTurn test post body s1)
       → FollowsTurn test post body s
-  turn_follows test post body s he hs ht S y top low f tt0 tp tb z r hu hl =
+  turn_follows test post body s he hs ht S y x top low f tt0 tp tb z r hu hl =
       let a = turn_code (context P S) (expr_if test) (stmt S y body) in
       let b = expr_if_code (context P S) (expr_if post) in
       let up = 8 * s.stock - 1 in
       let down = s.stock + most * suc f.rounds - (nodes_if (expr_if test) + size_of (stmt_of body)) in
-      subst (λ x. Follows most (Ended S) (loop_of S y a b f) top low x)
+      subst (λ q. FollowsIn x most (EndedIn x S) (loop_of S y a b f) top low q)
       (sym (turn_is test post body s))
-      (loop_follows S y a b f up down top low (turn_part test body s) test post body
+      (loop_follows S y x a b f up down top low (turn_part test body s) test post body
       (part_ends S y test body s (counted f) up down (λ e. he e s (omega arith)) hs tt0 tb
       (omega arith) (recounted S s f r) (omega arith) (omega arith))
       (omega arith) (omega (arith, mul-suc most f.rounds))
@@ -293,24 +295,24 @@ module _ (P : TypedProgram) (most : ℕ) where
           → s1.stock < s.stock → Related S s1 g → t1 + 8 * s1.stock ≤ 8 * s.stock - 1
           → s.stock + most * suc f.rounds -
           (nodes_if (expr_if test) + size_of (stmt_of body)) ≤ s1.stock + most * g.rounds
-          → Follows most (Ended S) (post_of S y
+          → FollowsIn x most (EndedIn x S) (post_of S y
           (turn_code (context P S) (expr_if test) (stmt S y body))
           (expr_if_code (context P S) (expr_if p)) g) (top - suc t1) low
           (then_turn (meaning P) p test post body s1)
       next None e s1 g t1 falls rel us ds =
           let a = turn_code (context P S) (expr_if test) (stmt S y body) in
-          let whole = ht s1 falls S y (top - suc t1) low g tt0 tp tb z rel (omega arith)
+          let whole = ht s1 falls S y x (top - suc t1) low g tt0 tp tb z rel (omega arith)
           (omega (arith, mul-suc most f.rounds)) in
-          let there : Follows most (Ended S) (loop_of S y a Nop g) (top - suc t1) low
+          let there : FollowsIn x most (EndedIn x S) (loop_of S y a Nop g) (top - suc t1) low
           (meaning P (Turn test post body) s1) =
-          subst (λ p. Follows most (Ended S)
+          subst (λ p. FollowsIn x most (EndedIn x S)
           (loop_of S y a (expr_if_code (context P S) (expr_if p)) g) (top - suc t1) low
           (meaning P (Turn test post body) s1)) e whole in
-          moved most (Ended S) (post_of S y a Nop g) (loop_of S y a Nop g) 0 (top - suc t1) low
+          moved_in x most (EndedIn x S) (post_of S y a Nop g) (loop_of S y a Nop g) 0 (top - suc t1) low
           (meaning P (Turn test post body) s1)
           (post_moves checked (functions P most) (base P most) S.env a Nop g g 0
           (nop_leads checked (functions P most) (base P most) S.env g)) (omega arith)
-          (subst (λ n. Follows most (Ended S) (loop_of S y a Nop g) n low
+          (subst (λ n. FollowsIn x most (EndedIn x S) (loop_of S y a Nop g) n low
           (meaning P (Turn test post body) s1)) (zero_off (top - suc t1)) there)
         where
           zero_off : (n : ℕ) → n ≡ n - 0
@@ -323,16 +325,16 @@ module _ (P : TypedProgram) (most : ℕ) where
           (λ p. nodes_if (expr_if test) + (nodes_if (expr_if p) + size_of (stmt_of body)) ≤ most) e z in
           let up2 = 8 * s1.stock - 3 in
           let down2 = s1.stock + most * g.rounds - nodes (expr_of q) in
-          post_follows S y (Valued S 0 q.kind g) a b g up2 down2 (top - suc t1) low
+          post_follows S y x (Valued S 0 q.kind g) a b g up2 down2 (top - suc t1) low
           (meaning P (Of q) s1) (λ v s. meaning P (Turn test post body) s)
           (he q s1 (omega arith) S y 0 up2 down2 g fits rel (omega arith) (omega arith))
           (omega arith) (omega (arith, mul-suc most f.rounds))
           (λ v s2 g2 t2 eq hv us2 ds2. let falls2 = meaning-falls P (Of q) s1 v s2 eq in (
             valued_settles S 0 q.kind g v s2 g2 hv,
-            subst (λ p. Follows most (Ended S)
+            subst (λ p. FollowsIn x most (EndedIn x S)
                 (loop_of S y a (expr_if_code (context P S) (expr_if p)) g2) (top - suc t1 - t2) low
                 (meaning P (Turn test post body) s2)) e
-                (ht s2 (omega arith) S y (top - suc t1 - t2) low g2 tt0 tp tb z
+                (ht s2 (omega arith) S y x (top - suc t1 - t2) low g2 tt0 tp tb z
                 (kept_at S 0 q.kind g v s2 g2 hv).rel (omega arith)
                 (omega (arith, mul-suc most f.rounds))),
           ))
@@ -341,41 +343,41 @@ module _ (P : TypedProgram) (most : ℕ) where
   pub so_loop : (w : ℕ) (t : TypedExpr) (body : TypedStmt) (s : eval.State) (bound : ℕ)
       → FollowsRun P most body s → ((s1 : eval.State) → s1.stock < bound → FollowsDo t body s1)
       → ((v : Signal) (s1 : eval.State) → so_part w body s ≡ Go v s1 → s1.stock < bound)
-      → (S : Scene) (y : IsScene P S) (top low : ℕ) (f : State) → FitsExpr (scope P S) 0 (expr_of t)
-      → FitsStmt (scope P S) S.func.result (stmt_of body)
+      → (S : Scene) (y : IsScene P S) (x : Around) (top low : ℕ) (f : State) → FitsExpr (scope P S) 0 (expr_of t)
+      → FitsStmt (scope P S) S.func.result around.Loop (stmt_of body)
       → nodes (expr_of t) + size_of (stmt_of body) ≤ most → Related S s f
       → f.vars (temp 0) ≡ Some w → 3 + 8 * s.stock ≤ top → low ≤ s.stock + most * f.rounds
-      → Follows most (Ended S) (loop_of S y (if_so (stmt S y body)) (code P most S y 0 t) f) top low
+      → FollowsIn x most (EndedIn x S) (loop_of S y (if_so (stmt S y body)) (code P most S y 0 t) f) top low
       (then (so_part w body s) (after (Some t) None body))
-  so_loop w t body s bound hs hd falls S y top low f te tb z r e hu hl =
+  so_loop w t body s bound hs hd falls S y x top low f te tb z r e hu hl =
       let a = if_so (stmt S y body) in
       let b = code P most S y 0 t in
       let up = 8 * s.stock + 2 in
       let down = s.stock + most * suc f.rounds - size_of (stmt_of body) in
-      loop_follows S y a b f up down top low (so_part w body s) (Some t) None body
+      loop_follows S y x a b f up down top low (so_part w body s) (Some t) None body
       (so_ends S y w body s (counted f) up down hs tb (omega arith) (recounted S s f r) e
       (omega arith) (omega arith))
       (omega arith) (omega (arith, mul-suc most f.rounds))
       (λ v s1 g t1 eq rel us ds.
-      hd s1 (falls v s1 eq) S y (top - suc t1) low g te tb z rel (omega arith)
+      hd s1 (falls v s1 eq) S y x (top - suc t1) low g te tb z rel (omega arith)
       (omega (arith, mul-suc most f.rounds)))
 
   pub do_follows : (t : TypedExpr) (body : TypedStmt) (s : eval.State) → FollowsOf P most t s
       → ((s1 : eval.State) → s1.stock ≤ s.stock → FollowsRun P most body s1)
       → ((s1 : eval.State) → s1.stock < s.stock → FollowsDo t body s1) → FollowsDo t body s
-  do_follows t body s he hs hd S y top low f te tb z r hu hl =
+  do_follows t body s he hs hd S y x top low f te tb z r hu hl =
       let a = if_so (stmt S y body) in
       let b = code P most S y 0 t in
       let up = 8 * s.stock - 3 in
       let down = s.stock + most * f.rounds - nodes (expr_of t) in
-      subst (λ x. Follows most (Ended S) (post_of S y a b f) top low x)
+      subst (λ q. FollowsIn x most (EndedIn x S) (post_of S y a b f) top low q)
       (sym (meaning-is P (Turn (Some t) None body) s))
-      (post_follows S y (Valued S 0 t.kind f) a b f up down top low (meaning P (Of t) s)
+      (post_follows S y x (Valued S 0 t.kind f) a b f up down top low (meaning P (Of t) s)
       (after_test (meaning P) (Some t) None body)
       (he S y 0 up down f te r (omega arith) (omega arith)) (omega arith) (omega arith)
       (λ v s1 g t1 eq hv us ds. let falls = meaning-falls P (Of t) s v s1 eq in (
         valued_settles S 0 t.kind f v s1 g hv,
-        subst (λ x. Follows most (Ended S) (loop_of S y a b g) (top - t1) low x)
+        subst (λ q. FollowsIn x most (EndedIn x S) (loop_of S y a b g) (top - t1) low q)
             (sym (test_is t None body v s1))
             (tested v s1 g t1 falls hv (omega arith) (omega arith)),
       )))
@@ -383,12 +385,12 @@ module _ (P : TypedProgram) (most : ℕ) where
       tested : (v : Signal) (s1 : eval.State) (g : State) (t1 : ℕ) → s1.stock < s.stock
           → Valued S 0 t.kind f v s1 g → 3 + 8 * s1.stock ≤ top - t1
           → low ≤ s1.stock + most * g.rounds
-          → Follows most (Ended S) (loop_of S y (if_so (stmt S y body)) (code P most S y 0 t) g)
+          → FollowsIn x most (EndedIn x S) (loop_of S y (if_so (stmt S y body)) (code P most S y 0 t) g)
           (top - t1) low (then (want v s1 (λ w. so_part w body s1)) (after (Some t) None body))
       tested Nothing s1 g t1 falls hv hu1 hl1 = tt
       tested (Value w) s1 g t1 falls hv hu1 hl1 =
           so_loop w t body s1 s.stock (hs s1 (omega arith)) hd
-          (λ v s2 eq. let le = so_falls w body s1 v s2 eq in omega arith) S y
+          (λ v s2 eq. let le = so_falls w body s1 v s2 eq in omega arith) S y x
           (top - t1) low g te tb z hv.keeps.rel hv.is hu1 hl1
       tested Breaks s1 g t1 falls hv hu1 hl1 = tt
       tested Continues s1 g t1 falls hv hu1 hl1 = tt

@@ -6,7 +6,7 @@ use Rattle.std.proofs.Common.{arith}
 use Rattle.std.specs.Prelude.{◌&&◌, nat_eq, nat_lt, nat_le, slice_get, slice_set}
 use Rattle.std.proofs.lemmas.Bool.Decides.{nat_tests}
 use Rattle.c_tree.specs.declared.Kind.{Kind}
-use Rattle.c_tree.specs.declared.Kind.TheVariants.{Char, UChar, Int, UInt, Long, ULong}
+use Rattle.c_tree.specs.declared.Kind.TheVariants.{Char, UChar, Short, UShort, Int, UInt, Long, ULong}
 use Rattle.c_constant.specs.Kinds.{bytes}
 use Rattle.trips_isa.specs.Stores.{is_good_address, data_size}
 use Rattle.ir_forms.specs.Cells.{Mark, Closed, Open, Held, Cell, Memory, number_put, all_open}
@@ -22,6 +22,11 @@ pub record Object : Type 0 where
   pub at : ℕ
   pub kind : Kind
   pub length : ℕ
+  -- the second size, where it has two
+  pub row : Option ℕ
+
+abbrev pub object_row : Object → Option ℕ
+object_row o = o.row
 
 abbrev pub element_at : Object → ℕ → ℕ
 element_at o i = o.at + bytes o.kind * i
@@ -71,29 +76,32 @@ laid_at lo hi (p ∷ os) (suc k) o h e =
 
 -- ELEMENTS
 
--- sizes by their type: 1, 4 or 8
+-- sizes by their type: 1, 2, 4 or 8
 abbrev pub SizeIs : ℕ → Type 0
-SizeIs s = (s ≡ 1) ⊎ ((s ≡ 4) ⊎ (s ≡ 8))
+SizeIs s = (s ≡ 1) ⊎ ((s ≡ 2) ⊎ ((s ≡ 4) ⊎ (s ≡ 8)))
 
 pub size_is : (k : Kind) → SizeIs (bytes k)
 size_is Char = inl refl
 size_is UChar = inl refl
-size_is Int = inr (inl refl)
-size_is UInt = inr (inl refl)
-size_is Long = inr (inr refl)
-size_is ULong = inr (inr refl)
+size_is Short = inr (inl refl)
+size_is UShort = inr (inl refl)
+size_is Int = inr (inr (inl refl))
+size_is UInt = inr (inr (inl refl))
+size_is Long = inr (inr (inr refl))
+size_is ULong = inr (inr (inr refl))
 
 -- what follows of elements holds where it holds for each size
-pub by_size : (P : ℕ → Type 0) (s : ℕ) → SizeIs s → P 1 → P 4 → P 8 → P s
-by_size P s (inl e) a b c = subst P (sym e) a
-by_size P s (inr (inl e)) a b c = subst P (sym e) b
-by_size P s (inr (inr e)) a b c = subst P (sym e) c
+pub by_size : (P : ℕ → Type 0) (s : ℕ) → SizeIs s → P 1 → P 2 → P 4 → P 8 → P s
+by_size P s (inl e) a b c d = subst P (sym e) a
+by_size P s (inr (inl e)) a b c d = subst P (sym e) b
+by_size P s (inr (inr (inl e))) a b c d = subst P (sym e) c
+by_size P s (inr (inr (inr e))) a b c d = subst P (sym e) d
 
 -- an element lies inside its object
 pub element_in : (k : Kind) (at n i : ℕ) → i < n
     → at + bytes k * i + bytes k ≤ at + bytes k * n
 element_in k at n i lt = by_size (λ s. at + s * i + s ≤ at + s * n) (bytes k) (size_is k)
-    (omega arith) (omega arith) (omega arith)
+    (omega arith) (omega arith) (omega arith) (omega arith)
 
 -- and apart from the others
 pub elements_apart : (k : Kind) (at i j : ℕ) → i ≢ j
@@ -118,9 +126,10 @@ pub good_element : (k : Kind) (at i : ℕ) → at % 8 ≡ 0 → at + bytes k * i
     → is_good_address (at + bytes k * i) (bytes k) ≡ true
 good_element k at i e h =
     good_tests (at + bytes k * i) (bytes k)
-    (by_size (λ s. 0 < s) (bytes k) (size_is k) (omega arith) (omega arith) (omega arith))
-    (by_size (λ s. (at + s * i) % s ≡ 0) (bytes k) (size_is k) (omega arith) (omega arith)
+    (by_size (λ s. 0 < s) (bytes k) (size_is k) (omega arith) (omega arith) (omega arith)
     (omega arith))
+    (by_size (λ s. (at + s * i) % s ≡ 0) (bytes k) (size_is k) (omega arith) (omega arith)
+    (omega arith) (omega arith))
     h
 
 -- OBJECTS IN MEMORY

@@ -11,7 +11,7 @@ use Rattle.std.proofs.lemmas.Int.{fits_signed_from_abs}
 use Rattle.std.proofs.lemmas.Bool.Decides.{nat_tests}
 use native.Mathlib.Nat.{div-le_self, div-add-mod', mod-lt}
 use Rattle.c_tree.specs.declared.Kind.{Kind}
-use Rattle.c_tree.specs.declared.Kind.TheVariants.{Char, UChar, Int, UInt, Long, ULong}
+use Rattle.c_tree.specs.declared.Kind.TheVariants.{Char, UChar, Short, UShort, Int, UInt, Long, ULong}
 use Rattle.c_tree.specs.declared.UnaryOp.{UnaryOp}
 use Rattle.c_tree.specs.declared.UnaryOp.TheVariants.{Plus, Minus, Complement, Not}
 use Rattle.c_tree.specs.declared.BinaryOp.TheVariants.{LogicalOr, LogicalAnd, BitOr, BitXor, BitAnd}
@@ -47,6 +47,8 @@ module _ (a b w : ℕ) (p : a < 2 ^ 64) (q : b < 2 ^ 64) where
   unfolding operate
   add_gives Char t h = absurd t
   add_gives UChar t h = absurd t
+  add_gives Short t h = absurd t
+  add_gives UShort t h = absurd t
   add_gives Int t h =
       let x = word_of_is _ w h in
       let l = between_is _ _ _ _ x.1 in
@@ -99,6 +101,8 @@ module _ (a b w : ℕ) (p : a < 2 ^ 64) (q : b < 2 ^ 64) where
   unfolding operate
   sub_gives Char t h = absurd t
   sub_gives UChar t h = absurd t
+  sub_gives Short t h = absurd t
+  sub_gives UShort t h = absurd t
   sub_gives Int t h =
       let x = word_of_is _ w h in
       let l = between_is _ _ _ _ x.1 in
@@ -123,6 +127,8 @@ module _ (a b w : ℕ) (p : a < 2 ^ 64) (q : b < 2 ^ 64) where
   unfolding operate
   mul_gives Char t h = absurd t
   mul_gives UChar t h = absurd t
+  mul_gives Short t h = absurd t
+  mul_gives UShort t h = absurd t
   mul_gives Int t h =
       let x = word_of_is _ w h in
       let l = between_is _ _ _ _ x.1 in
@@ -203,6 +209,8 @@ module _ (a b : ℕ) (p : a < 2 ^ 64) (q : b < 2 ^ 64) where
 abbrev pub compared : Kind → (ℤ → ℤ → Bool) → (ℕ → ℕ → Bool) → ℕ → ℕ → Bool
 compared Char f g a b = f (alu.signed a) (alu.signed b)
 compared UChar f g a b = g a b
+compared Short f g a b = f (alu.signed a) (alu.signed b)
+compared UShort f g a b = g a b
 compared Int f g a b = f (alu.signed a) (alu.signed b)
 compared UInt f g a b = g a b
 compared Long f g a b = f (alu.signed a) (alu.signed b)
@@ -214,6 +222,8 @@ module _ (a b w : ℕ) where
   unfolding operate
   less_gives Char h = answered (compared Char int_lt nat_lt a b) w h
   less_gives UChar h = answered (compared UChar int_lt nat_lt a b) w h
+  less_gives Short h = answered (compared Short int_lt nat_lt a b) w h
+  less_gives UShort h = answered (compared UShort int_lt nat_lt a b) w h
   less_gives Int h = answered (compared Int int_lt nat_lt a b) w h
   less_gives UInt h = answered (compared UInt int_lt nat_lt a b) w h
   less_gives Long h = answered (compared Long int_lt nat_lt a b) w h
@@ -224,6 +234,8 @@ module _ (a b w : ℕ) where
   unfolding operate
   greater_gives Char h = answered (compared Char int_lt nat_lt b a) w h
   greater_gives UChar h = answered (compared UChar int_lt nat_lt b a) w h
+  greater_gives Short h = answered (compared Short int_lt nat_lt b a) w h
+  greater_gives UShort h = answered (compared UShort int_lt nat_lt b a) w h
   greater_gives Int h = answered (compared Int int_lt nat_lt b a) w h
   greater_gives UInt h = answered (compared UInt int_lt nat_lt b a) w h
   greater_gives Long h = answered (compared Long int_lt nat_lt b a) w h
@@ -234,6 +246,8 @@ module _ (a b w : ℕ) where
   unfolding operate
   less_equal_gives Char h = answered (compared Char int_le nat_le a b) w h
   less_equal_gives UChar h = answered (compared UChar int_le nat_le a b) w h
+  less_equal_gives Short h = answered (compared Short int_le nat_le a b) w h
+  less_equal_gives UShort h = answered (compared UShort int_le nat_le a b) w h
   less_equal_gives Int h = answered (compared Int int_le nat_le a b) w h
   less_equal_gives UInt h = answered (compared UInt int_le nat_le a b) w h
   less_equal_gives Long h = answered (compared Long int_le nat_le a b) w h
@@ -244,6 +258,8 @@ module _ (a b w : ℕ) where
   unfolding operate
   greater_equal_gives Char h = answered (compared Char int_le nat_le b a) w h
   greater_equal_gives UChar h = answered (compared UChar int_le nat_le b a) w h
+  greater_equal_gives Short h = answered (compared Short int_le nat_le b a) w h
+  greater_equal_gives UShort h = answered (compared UShort int_le nat_le b a) w h
   greater_equal_gives Int h = answered (compared Int int_le nat_le b a) w h
   greater_equal_gives UInt h = answered (compared UInt int_le nat_le b a) w h
   greater_equal_gives Long h = answered (compared Long int_le nat_le b a) w h
@@ -282,6 +298,8 @@ not_zero k b h = go (nat_eq b 0) refl
     zero_number : (k : Kind) → is_zero (number k 0) ≡ true
     zero_number Char = refl
     zero_number UChar = refl
+    zero_number Short = refl
+    zero_number UShort = refl
     zero_number Int = refl
     zero_number UInt = refl
     zero_number Long = refl
@@ -300,6 +318,8 @@ pub record Quotient (k : Kind) (b x w : ℕ) : Type 0 where
 abbrev pub divided : Kind → ℕ → ℕ → ℕ
 divided Char a b = alu.quotient a b
 divided UChar a b = alu.quotient_unsigned a b
+divided Short a b = alu.quotient a b
+divided UShort a b = alu.quotient_unsigned a b
 divided Int a b = alu.quotient a b
 divided UInt a b = alu.quotient_unsigned a b
 divided Long a b = alu.quotient a b
@@ -325,6 +345,8 @@ module _ (a b w : ℕ) where
   unfolding operate
   divide_gives Char t f q h = absurd t
   divide_gives UChar t f q h = absurd t
+  divide_gives Short t f q h = absurd t
+  divide_gives UShort t f q h = absurd t
   divide_gives Int t f q h =
       let x = word_of_is _ w h in
       let d = quotient_is Int (number Int a) (number Int b) x.0 x.1 in
@@ -493,6 +515,8 @@ module _ (a b w : ℕ) where
   unfolding operate
   remainder_gives Char t f g h = absurd t
   remainder_gives UChar t f g h = absurd t
+  remainder_gives Short t f g h = absurd t
+  remainder_gives UShort t f g h = absurd t
   remainder_gives Int t f g h =
       let x = word_of_is _ w h in
       let r = provided_is (quotient Int (number Int a) (number Int b)) (int_rem (number Int a) (number Int b)) x.0

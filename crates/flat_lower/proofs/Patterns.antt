@@ -11,7 +11,7 @@ use Rattle.std.proofs.lemmas.Bool.Decides.{nat_tests}
 use native.Mathlib.Nat.{div-le_self, mod-lt}
 use lib.Bits.{and_block, or_block, xor_block, and_lt, or_lt, xor_lt}
 use Rattle.c_tree.specs.declared.Kind.{Kind}
-use Rattle.c_tree.specs.declared.Kind.TheVariants.{Char, UChar, Int, UInt, Long, ULong}
+use Rattle.c_tree.specs.declared.Kind.TheVariants.{Char, UChar, Short, UShort, Int, UInt, Long, ULong}
 use Rattle.c_tree.specs.declared.UnaryOp.{UnaryOp}
 use Rattle.c_tree.specs.declared.UnaryOp.TheVariants.{Plus, Minus, Complement, Not}
 use Rattle.c_tree.specs.declared.BinaryOp.TheVariants.{BitOr, BitXor, BitAnd, ShiftLeft, ShiftRight}
@@ -84,6 +84,8 @@ module _ (f : ℕ → ℕ → ℕ)
   closes : (k : Kind) → IsArithmetic k → (a b : ℕ) → IsWord k a → IsWord k b → IsWord k (f a b)
   closes Char t a b x y = absurd t
   closes UChar t a b x y = absurd t
+  closes Short t a b x y = absurd t
+  closes UShort t a b x y = absurd t
   closes Int t a b x y = closed a b x y
   closes UInt t a b x y = record {
     below = below 64 a b x.below y.below;
@@ -166,6 +168,8 @@ module _ (a b w : ℕ) (p : a < 2 ^ 64) (q : b < 2 ^ 64) where
   unfolding operate
   left_gives Char t h = absurd t
   left_gives UChar t h = absurd t
+  left_gives Short t h = absurd t
+  left_gives UShort t h = absurd t
   left_gives Int t h = left_int (number Int a) (number Int b) (word_number Int a p)
       (word_number Int b q) h
   left_gives UInt t h =
@@ -245,6 +249,8 @@ module _ (a b w : ℕ) (q : b < 2 ^ 64) where
 abbrev pub shifted : Kind → ℕ → ℕ → ℕ
 shifted Char a b = word (int_shr (alu.signed a) (b % 64))
 shifted UChar a b = a / 2 ^ (b % 64)
+shifted Short a b = word (int_shr (alu.signed a) (b % 64))
+shifted UShort a b = a / 2 ^ (b % 64)
 shifted Int a b = word (int_shr (alu.signed a) (b % 64))
 shifted UInt a b = a / 2 ^ (b % 64)
 shifted Long a b = word (int_shr (alu.signed a) (b % 64))
@@ -256,6 +262,8 @@ module _ (a b w : ℕ) (q : b < 2 ^ 64) where
   unfolding operate
   right_gives Char t f h = absurd t
   right_gives UChar t f h = absurd t
+  right_gives Short t f h = absurd t
+  right_gives UShort t f h = absurd t
   right_gives Int t f h =
       let e = shifts a b w q Int 32 (omega arith) refl (number Int a) (number Int b) (word_number Int b q) h in
       record {
@@ -292,6 +300,8 @@ module _ (a w : ℕ) where
   unfolding operate_one
   minus_gives Char t f h = absurd t
   minus_gives UChar t f h = absurd t
+  minus_gives Short t f h = absurd t
+  minus_gives UShort t f h = absurd t
   minus_gives Int t f h =
       let x = word_of_is _ w h in
       let l = between_is _ _ _ _ x.1 in
@@ -323,6 +333,8 @@ module _ (a w : ℕ) where
   unfolding operate_one
   complement_gives Char t f h = absurd t
   complement_gives UChar t f h = absurd t
+  complement_gives Short t f h = absurd t
+  complement_gives UShort t f h = absurd t
   complement_gives Int t f h =
       let x = word_of_is _ w h in
       let l = between_is _ _ _ _ x.1 in
@@ -365,9 +377,11 @@ module _ (a w : ℕ) where
 
       zero_is : (k : Kind) → is_zero (number k a) ≡ nat_eq a 0
       zero_is UChar = refl
+      zero_is UShort = refl
       zero_is UInt = refl
       zero_is ULong = refl
       zero_is Char = signed_zero
+      zero_is Short = signed_zero
       zero_is Int = signed_zero
       zero_is Long = signed_zero
 

@@ -35,6 +35,8 @@ use Rattle.flat_lower.proofs.Straight.{var_read}
 use Rattle.flat_lower.proofs.TreeFacts.{plain_node, kind_levels, expr_is}
 use Rattle.flat_lower.proofs.Related.{Scene, IsScene, scope, context, Related, held_is}
 use Rattle.flat_lower.proofs.Values.{functions, base, FollowsOf, spending}
+use Rattle.flat_lower.specs.declared.around.Around.TheVariants as around
+use Rattle.flat_lower.specs.declared.around.Around.{Around}
 use Rattle.flat_lower.proofs.Returns.{Ended}
 use Rattle.flat_lower.proofs.Ends.{EndsHere, dropped_ends, set_end}
 
@@ -55,7 +57,8 @@ scalar_node (node.Name (Scalar j)) k i h = ap (λ (n : ℕ). node.Name (Scalar n
 scalar_node (node.Name (Global g)) k i h = absurd (cc h)
 scalar_node (node.Name (Array a)) k i h = absurd (cc h)
 scalar_node (node.Number w) k i h = absurd (cc h)
-scalar_node (node.Element p e) k i h = absurd (cc h)
+scalar_node (node.Element p None e) k i h = absurd (cc h)
+scalar_node (node.Element p (Some row) e) k i h = absurd (cc h)
 scalar_node (node.Call g args) k i h = absurd (cc h)
 scalar_node (node.Unary o e) k i h = absurd (cc h)
 scalar_node (node.Cast to e) k i h = absurd (cc h)
@@ -77,7 +80,8 @@ simple_node (node.Name (Scalar j)) k b h = subst (Simple (node.Name (Scalar j)))
 simple_node (node.Number w) k b h = subst (Simple (node.Number w)) (cc h) (A_number w)
 simple_node (node.Name (Global g)) k b h = absurd (cc h)
 simple_node (node.Name (Array a)) k b h = absurd (cc h)
-simple_node (node.Element p e) k b h = absurd (cc h)
+simple_node (node.Element p None e) k b h = absurd (cc h)
+simple_node (node.Element p (Some row) e) k b h = absurd (cc h)
 simple_node (node.Call g args) k b h = absurd (cc h)
 simple_node (node.Unary o e) k b h = absurd (cc h)
 simple_node (node.Cast to e) k b h = absurd (cc h)
@@ -111,22 +115,22 @@ module _ (P : TypedProgram) (most : ℕ) (S : Scene) (y : IsScene P S) where
       (top low : ℕ) → Simple x b → q ≡ Some k → FitsExpr (scope P S) 0 (plain_node x q)
       → slice_get S.func.scalars i ≡ Some (slot.Scalar k) → Related S s f → 1 + 8 * s.stock ≤ top
       → low ≤ s.stock + most * f.rounds
-      → EndsHere P most S y (only (Let i op.Mov b (Const 0))) f top low
+      → EndsHere P most S y around.Loop (only (Let i op.Mov b (Const 0))) f top low
       (then (then (opened (meaning P) P x s) (assigned (InScalar i))) dropped)
   set_ends i _ q k _ s f top low (A_number w) eq t ti r hu hl =
-      set_end P most S y i w (Const w) k top low s f ti (same_word q k w eq t) refl r hu hl
+      set_end P most S y around.Loop i w (Const w) k top low s f ti (same_word q k w eq t) refl r hu hl
       (cell s (InScalar i)) refl
   set_ends i _ q k _ s f top low (A_scalar j) eq t ti r hu hl =
       go (held (cell s (InScalar j))) refl
     where
       go : (o : Option ℕ) → held (cell s (InScalar j)) ≡ o
-          → EndsHere P most S y (only (Let i op.Mov (Var j) (Const 0))) f top low
+          → EndsHere P most S y around.Loop (only (Let i op.Mov (Var j) (Const 0))) f top low
           (then (then (given o s) (assigned (InScalar i))) dropped)
       go None e = tt
       go (Some w) e =
           let z = r.scalars j w (slot.Scalar k) (same_scalar q k j eq t)
           (held_is (cell s (InScalar j)) w e) in
-          set_end P most S y i w (Var j) k top low s f ti z.1
+          set_end P most S y around.Loop i w (Var j) k top low s f ti z.1
           (var_read (functions P most) (base P most) S.env f j w z.0) r hu hl
           (cell s (InScalar i)) refl
 
@@ -135,12 +139,12 @@ module _ (P : TypedProgram) (most : ℕ) (S : Scene) (y : IsScene P S) where
       (top low : ℕ) → Simple x b → q ≡ Some k → FitsExpr (scope P S) 0 (plain_node x q)
       → slice_get S.func.scalars i ≡ Some (slot.Scalar k) → Related S s f → 8 * s.stock ≤ top
       → low ≤ s.stock + most * f.rounds - 1
-      → EndsHere P most S y (only (Let i op.Mov b (Const 0))) f top low
+      → EndsHere P most S y around.Loop (only (Let i op.Mov b (Const 0))) f top low
       (then (then (eval.spend s (opened (meaning P) P x)) (assigned (InScalar i))) dropped)
   node_ends i b q k x s f top low z eq t ti r hu hl =
       let o = opened (meaning P) P x in
       let a = assigned (InScalar i) in
-      subst (EndsHere P most S y (only (Let i op.Mov b (Const 0))) f top low)
+      subst (EndsHere P most S y around.Loop (only (Let i op.Mov b (Const 0))) f top low)
       (sym (ap (λ q. then q dropped) (then_spend s.stock s o a)
       ∙ then_spend s.stock s (λ s. then (o s) a) dropped))
       (spending P most S y (Ended S) (only (Let i op.Mov b (Const 0))) s f top low
@@ -171,7 +175,7 @@ module _ (P : TypedProgram) (most : ℕ) (S : Scene) (y : IsScene P S) where
       → FitsExpr (scope P S) 0 (tree.Assign q None at (expr_of l) (expr_of e)) → Related S s f
       → 8 * s.stock ≤ top + 3
       → low ≤ s.stock + most * f.rounds - (1 + (left_nodes (expr_of l) + nodes (expr_of e)))
-      → EndsHere P most S y (only (Let i op.Mov b (Const 0))) f top low
+      → EndsHere P most S y around.Loop (only (Let i op.Mov b (Const 0))) f top low
       (then (eval.spend s (assign (meaning P) None q at (node_of l) e)) dropped)
   short_ends i b at l e s f top low q nl z t r hu hl =
       let c = only (Let i op.Mov b (Const 0)) in
@@ -183,13 +187,13 @@ module _ (P : TypedProgram) (most : ℕ) (S : Scene) (y : IsScene P S) where
       let k = kinds q l.kind e.kind i at (node_of e) t1 in
       let one : nodes (expr_of e) ≡ 1 = ap nodes (expr_is e) ∙ simple_nodes (node_of e) b e.kind z in
       let next = λ (s : eval.State). then (meaning P (Of e) s) (assigned (InScalar i)) in
-      subst (λ x. EndsHere P most S y c f top low
+      subst (λ x. EndsHere P most S y around.Loop c f top low
       (then (eval.spend s (assign (meaning P) None q at x e)) dropped)) (sym nl)
-      (subst (EndsHere P most S y c f top low) (sym (then_spend s.stock s next dropped))
+      (subst (EndsHere P most S y around.Loop c f top low) (sym (then_spend s.stock s next dropped))
       (spending P most S y (Ended S) c s f top low (λ s. then (next s) dropped) r
       (omega (arith, hl)) (λ n en rn.
       let s0 = record s { stock = n } in
-      subst (λ q. EndsHere P most S y c f top low (then (then q (assigned (InScalar i))) dropped))
+      subst (λ q. EndsHere P most S y around.Loop c f top low (then (then q (assigned (InScalar i))) dropped))
       (sym (meaning-is P (Of e) s0 ∙ simple_spends (node_of e) b s0 z))
       (node_ends i b e.kind k.0 (node_of e) s0 f top low z k.1 k.2 k.3 rn (omega (arith, en, hu))
       (omega (arith, en, hl, one))))))
@@ -198,38 +202,38 @@ module _ (P : TypedProgram) (most : ℕ) (S : Scene) (y : IsScene P S) where
   pub plain_ends : (e : TypedExpr) (s : eval.State) (f : State) (top low : ℕ)
       → FollowsOf P most e s → FitsExpr (scope P S) 0 (expr_of e) → Related S s f
       → 8 * s.stock ≤ top + 3 → low ≤ s.stock + most * f.rounds - nodes (expr_of e)
-      → EndsHere P most S y (plain_code (context P S) (expr_of e)) f top low
+      → EndsHere P most S y around.Loop (plain_code (context P S) (expr_of e)) f top low
       (then (meaning P (Of e) s) dropped)
   plain_ends e s f top low h t r hu hl =
       subst (λ x. FitsExpr (scope P S) 0 x → low ≤ s.stock + most * f.rounds - nodes x
-      → EndsHere P most S y (plain_code (context P S) x) f top low
+      → EndsHere P most S y around.Loop (plain_code (context P S) x) f top low
       (then (meaning P (Of e) s) dropped)) (sym (expr_is e)) (by_node (node_of e) refl) t hl
     where
-      long : EndsHere P most S y (expr_code (context P S) 0 (plain_node (node_of e) e.kind)) f top
+      long : EndsHere P most S y around.Loop (expr_code (context P S) 0 (plain_node (node_of e) e.kind)) f top
           low (then (meaning P (Of e) s) dropped)
       long =
-          subst (λ x. EndsHere P most S y (expr_code (context P S) 0 x) f top low
+          subst (λ x. EndsHere P most S y around.Loop (expr_code (context P S) 0 x) f top low
           (then (meaning P (Of e) s) dropped)) (expr_is e)
-          (dropped_ends P most S y e s f top low h t r hu hl)
+          (dropped_ends P most S y around.Loop e s f top low h t r hu hl)
 
       by_long : (x : Node) → node_of e ≡ x
-          → EndsHere P most S y (expr_code (context P S) 0 (plain_node x e.kind)) f top low
+          → EndsHere P most S y around.Loop (expr_code (context P S) 0 (plain_node x e.kind)) f top low
           (then (meaning P (Of e) s) dropped)
       by_long x ex =
-          subst (λ x. EndsHere P most S y (expr_code (context P S) 0 (plain_node x e.kind)) f top low
+          subst (λ x. EndsHere P most S y around.Loop (expr_code (context P S) 0 (plain_node x e.kind)) f top low
           (then (meaning P (Of e) s) dropped)) ex long
 
       by_node : (x : Node) → node_of e ≡ x → FitsExpr (scope P S) 0 (plain_node x e.kind)
           → low ≤ s.stock + most * f.rounds - nodes (plain_node x e.kind)
-          → EndsHere P most S y (plain_code (context P S) (plain_node x e.kind)) f top low
+          → EndsHere P most S y around.Loop (plain_code (context P S) (plain_node x e.kind)) f top low
           (then (meaning P (Of e) s) dropped)
       by_node (node.Assign None at l x) ex t hl =
           either_way (named_scalar (expr_of l)) (simple_arg (expr_of x))
           (expr_code (context P S) 0 (tree.Assign e.kind None at (expr_of l) (expr_of x)))
-          (λ a. EndsHere P most S y a f top low (then (meaning P (Of e) s) dropped))
+          (λ a. EndsHere P most S y around.Loop a f top low (then (meaning P (Of e) s) dropped))
           (by_long (node.Assign None at l x) ex)
           (λ i b ei eb.
-          subst (λ q. EndsHere P most S y (only (Let i op.Mov b (Const 0))) f top low
+          subst (λ q. EndsHere P most S y around.Loop (only (Let i op.Mov b (Const 0))) f top low
           (then q dropped))
           (sym (meaning-is P (Of e) s ∙ ap (λ n. expression (meaning P) P n s) ex))
           (short_ends i b at l x s f top low e.kind
@@ -238,7 +242,8 @@ module _ (P : TypedProgram) (most : ℕ) (S : Scene) (y : IsScene P S) where
       by_node (node.Assign (Some o) at l x) ex t hl = by_long (node.Assign (Some o) at l x) ex
       by_node (node.Number w) ex t hl = by_long (node.Number w) ex
       by_node (node.Name p) ex t hl = by_long (node.Name p) ex
-      by_node (node.Element p x) ex t hl = by_long (node.Element p x) ex
+      by_node (node.Element p None x) ex t hl = by_long (node.Element p None x) ex
+      by_node (node.Element p (Some row) x) ex t hl = by_long (node.Element p (Some row) x) ex
       by_node (node.Call g args) ex t hl = by_long (node.Call g args) ex
       by_node (node.Unary o x) ex t hl = by_long (node.Unary o x) ex
       by_node (node.Cast to x) ex t hl = by_long (node.Cast to x) ex
@@ -247,3 +252,27 @@ module _ (P : TypedProgram) (most : ℕ) (S : Scene) (y : IsScene P S) where
       by_node (node.Binary o l x) ex t hl = by_long (node.Binary o l x) ex
       by_node (node.Choice t1 a b) ex t hl = by_long (node.Choice t1 a b) ex
       by_node (node.Comma l x) ex t hl = by_long (node.Comma l x) ex
+
+module _ (P : TypedProgram) (most : ℕ) (S : Scene) (y : IsScene P S) where
+  -- what neither breaks nor continues does so by whatever stands around it
+  any_around : (x : Around) (a : Code) (f : State) (top low : ℕ) (r : Result)
+      → EndsHere P most S y around.Loop a f top low (then r dropped)
+      → EndsHere P most S y x a f top low (then r dropped)
+  any_around x a f top low (Go v s) h = record {
+    t = h.t;
+    to = h.to;
+    upper = h.upper;
+    lower = h.lower;
+    holds = h.holds;
+    leads = h.leads;
+  }
+  any_around x a f top low (Over why s) h = h
+
+  pub plain_ends_in : (x : Around) (e : TypedExpr) (s : eval.State) (f : State) (top low : ℕ)
+      → FollowsOf P most e s → FitsExpr (scope P S) 0 (expr_of e) → Related S s f
+      → 8 * s.stock ≤ top + 3 → low ≤ s.stock + most * f.rounds - nodes (expr_of e)
+      → EndsHere P most S y x (plain_code (context P S) (expr_of e)) f top low
+      (then (meaning P (Of e) s) dropped)
+  plain_ends_in x e s f top low h t r hu hl =
+      any_around x (plain_code (context P S) (expr_of e)) f top low (meaning P (Of e) s)
+      (plain_ends P most S y e s f top low h t r hu hl)

@@ -5,7 +5,7 @@ use Rattle.std.proofs.Common.{Option, Some, None, refl, sym, ap, ap₂, ◌∙�
 use Rattle.std.specs.Prelude.{nat_eq, nat_lt, slice_get, slice_set}
 use Rattle.std.proofs.lemmas.Bool.Decides.{nat_tests}
 use Rattle.c_tree.specs.declared.Kind.{Kind}
-use Rattle.c_tree.specs.declared.Kind.TheVariants.{Char, UChar, Int, UInt, Long, ULong}
+use Rattle.c_tree.specs.declared.Kind.TheVariants.{Char, UChar, Short, UShort, Int, UInt, Long, ULong}
 use Rattle.c_tree.specs.declared.Place.{Place}
 use Rattle.c_tree.specs.declared.Place.TheVariants.{Global, Scalar, Array}
 use Rattle.c_tree.specs.declared.Slot.{Slot}
@@ -44,6 +44,7 @@ use Rattle.flat_lower.proofs.Straight.{put_at, put_other, Sets, Puts, puts_let, 
 use Rattle.flat_lower.proofs.Straight.{puts_within, var_read, set_one}
 use Rattle.flat_lower.proofs.Objects.{Object, element_at, end_of, Laid, Stands, laid_at, element_in}
 use Rattle.flat_lower.proofs.Objects.{good_element, Holds, Stored, AllStored, all_at, all_put}
+use Rattle.flat_lower.proofs.Objects.{object_row}
 use Rattle.flat_lower.proofs.Objects.{put_element, within_row, set_here, set_there, set_length}
 
 -- an active function: the objects so far in order of their numbers, the number of its first array,
@@ -64,8 +65,8 @@ context P S = context_of P.globals (func_of S.func)
 abbrev pub frames_from : TypedProgram → ℕ
 frames_from P = frames_at (globals_image P.globals)
 
-abbrev pub object : ℕ → Kind → ℕ → Object
-object at k n = record { at = at; kind = k; length = n }
+abbrev pub object : ℕ → Kind → ℕ → Option ℕ → Object
+object at k n q = record { at = at; kind = k; length = n; row = q }
 
 -- the objects lie in order below the frame's end, and globals and own arrays are among them
 pub record IsScene (P : TypedProgram) (S : Scene) : Type 0 where
@@ -74,10 +75,10 @@ pub record IsScene (P : TypedProgram) (S : Scene) : Type 0 where
   pub few : length S.func.scalars ≤ 64
   pub words : S.env.used % 8 ≡ 0
   pub globals : (g : ℕ) (x : TypedGlobal) → slice_get P.globals g ≡ Some x
-      → slice_get S.objects g ≡ Some (object (global_at P.globals g) x.kind (length_of x.length))
+      → slice_get S.objects g ≡ Some (object (global_at P.globals g) x.kind (length_of x.length) x.row)
   pub arrays : (a : ℕ) (x : TypedArray) → slice_get S.func.arrays a ≡ Some x
       → slice_get S.objects (S.first + a) ≡ Some
-      (object (S.env.arrays + array_at S.func.arrays a) x.kind x.length)
+      (object (S.env.arrays + array_at S.func.arrays a) x.kind x.length x.row)
 
 -- an array by its number
 pub record ObjectIs (objects : List Object) (n : ℕ) (k : Kind) : Type 0 where
@@ -86,19 +87,21 @@ pub record ObjectIs (objects : List Object) (n : ℕ) (k : Kind) : Type 0 where
   pub kind : it.kind ≡ k
 
 -- a set scalar gives a set variable: its word, or the address of the array that it stands for
-pub record AddressIs (objects : List Object) (w : ℕ) (k : Kind) (o : Option ℕ) : Type 0 where
+pub record AddressIs (objects : List Object) (w : ℕ) (k : Kind) (q o : Option ℕ) : Type 0 where
   pub array : ObjectIs objects w k
+  pub wide : array.it.row ≡ q
   pub is : o ≡ Some array.it.at
 
 abbrev pub IsScalar : List Object → Slot → ℕ → Option ℕ → Type 0
 IsScalar objects (slot.Scalar k) w o = (o ≡ Some w) × IsWord k w
-IsScalar objects (slot.Address k) w o = AddressIs objects w k o
+IsScalar objects (slot.Address k q) w o = AddressIs objects w k q o
 
 pub record Related (S : Scene) (s : eval.State) (f : State) : Type 0 where
   pub scalars : (i w : ℕ) (x : Slot) → slice_get S.func.scalars i ≡ Some x
       → slice_get s.scalars i ≡ Some (Some w) → IsScalar S.objects x w (f.vars i)
   pub count : length s.scalars ≡ length S.func.scalars
   pub stored : AllStored S.objects s.arrays f.memory
+  pub rows : s.rows ≡ map object_row S.objects
   pub input : f.input ≡ s.input
   pub bytes : (i b : ℕ) → slice_get s.input i ≡ Some b → b < 256
   pub output : f.output ≡ s.output
@@ -112,6 +115,7 @@ spent S s f n r = record {
   scalars = r.scalars;
   count = r.count;
   stored = r.stored;
+  rows = r.rows;
   input = r.input;
   bytes = r.bytes;
   output = r.output;
@@ -125,6 +129,7 @@ recounted S s f r = record {
   scalars = r.scalars;
   count = r.count;
   stored = r.stored;
+  rows = r.rows;
   input = r.input;
   bytes = r.bytes;
   output = r.output;
@@ -141,6 +146,7 @@ unseen S y s f g h hm hi ho r = record {
       (sym (h i (omega (arith, within_row S.func.scalars i x e, y.few)))) (r.scalars i w x e k);
   count = r.count;
   stored = subst (AllStored S.objects s.arrays) (sym hm) r.stored;
+  rows = r.rows;
   input = hi ∙ r.input;
   bytes = r.bytes;
   output = ho ∙ r.output;
@@ -166,6 +172,7 @@ scalar_set S y s f i w k c e g fits r = record {
   scalars = λ j v x ej hj. go j v x ej hj (nat_eq j i) refl;
   count = set_length s.scalars i (Some w) ∙ r.count;
   stored = r.stored;
+  rows = r.rows;
   input = r.input;
   bytes = r.bytes;
   output = r.output;
@@ -198,6 +205,7 @@ scalar_unset S s f i c g r = record {
   scalars = λ j v x ej hj. go j v x ej hj (nat_eq j i) refl;
   count = set_length s.scalars i None ∙ r.count;
   stored = r.stored;
+  rows = r.rows;
   input = r.input;
   bytes = r.bytes;
   output = r.output;
@@ -269,6 +277,7 @@ element_saved {P} S y s f n i w c k o h fits r =
           (put_element o.it f.memory i w)) (sym e)
           (all_put 0 (frames_from P + S.env.used) S.objects s.arrays f.memory n i w o.it x.row c
           y.laid y.room o.found x.found x.is fits r.stored);
+      rows = r.rows;
       input = r.input;
       bytes = r.bytes;
       output = r.output;

@@ -41,17 +41,20 @@ use Rattle.c_constant.specs.Kinds.{IsWord}
 use Rattle.flat_lower.specs.Operations.{temp}
 use Rattle.flat_lower.specs.Expressions.{result_var}
 use Rattle.flat_lower.specs.Statements.{end_code, stmt_code, lowered_func, lowered_from}
+use Rattle.flat_lower.specs.declared.around.Around.{Around}
+use Rattle.flat_lower.specs.declared.around.Around.TheVariants as around
 use Rattle.flat_lower.specs.Fits.{FitsStmt}
+use Rattle.flat_lower.specs.FitsSwitches.{IsLooped}
 use Rattle.flat_lower.specs.Sizes.{size_of}
 use Rattle.flat_lower.proofs.Straight.{put_at, put_other}
 use Rattle.flat_lower.proofs.Bytes.{marked_out}
 use Rattle.flat_lower.proofs.Objects.{Object, all_first, all_same, all_length, within_row}
-use Rattle.flat_lower.proofs.Objects.{AllStored}
-use Rattle.flat_lower.proofs.Follows.{Post, Goes, Follows, FollowsOver, run_of}
+use Rattle.flat_lower.proofs.Objects.{AllStored, object_row}
+use Rattle.flat_lower.proofs.Follows.{Post, Goes, Follows, FollowsIn, FollowsOver, run_of}
 use Rattle.flat_lower.proofs.Related.{Scene, IsScene, scope, context, frames_from, IsScalar}
 use Rattle.flat_lower.proofs.Related.{Related}
 use Rattle.flat_lower.proofs.Values.{KeptIs, ValueIs, Valued, functions, base, run}
-use Rattle.flat_lower.proofs.Entered.{own_objects, called_scene, LoweredIs}
+use Rattle.flat_lower.proofs.Entered.{own_objects, called_scene, LoweredIs, rows_first}
 
 -- STATEMENTS, AS WHAT IS SAID OF THEM
 
@@ -62,23 +65,34 @@ ReturnIs None (Some w) = ⊥
 ReturnIs (Some k) None = ⊥
 ReturnIs (Some k) (Some w) = IsWord k w
 
+-- what is left behind a break or a continue, by what stands around it: a switch in a loop is left with a word
+-- in temporary 0, and no continue leaves a switch in no loop
+abbrev pub LeftBy : Around → Scene → ℕ → eval.State → State → Type 0
+LeftBy around.SwitchInLoop S w s f = Related S s f × (f.vars (temp 0) ≡ Some w)
+LeftBy _ S w s f = Related S s f
+
+-- what a statement comes to, by what stands around it
+abbrev pub EndedIn : Around → Scene → Post
+EndedIn x S Nothing s f = Related S s f
+EndedIn x S (Value w) s f = ⊥
+EndedIn x S Breaks s f = LeftBy x S 0 s f
+EndedIn x S Continues s f = IsLooped x × LeftBy x S 1 s f
+EndedIn x S (Returns w) s f = Related S s f × ReturnIs S.func.result w
+
+-- the same in a loop
 abbrev pub Ended : Scene → Post
-Ended S Nothing s f = Related S s f
-Ended S (Value w) s f = ⊥
-Ended S Breaks s f = Related S s f
-Ended S Continues s f = Related S s f
-Ended S (Returns w) s f = Related S s f × ReturnIs S.func.result w
+Ended S v s f = EndedIn around.Loop S v s f
 
 module _ (P : TypedProgram) (most : ℕ) where
   -- a statement is paid by its steps but for four turns
   abbrev pub FollowsRun : TypedStmt → eval.State → Type 0
   FollowsRun st s =
-      (S : Scene) → IsScene P S → (top low : ℕ) (f : State)
-      → FitsStmt (scope P S) S.func.result (stmt_of st) → size_of (stmt_of st) ≤ most
+      (S : Scene) → IsScene P S → (x : Around) (top low : ℕ) (f : State)
+      → FitsStmt (scope P S) S.func.result x (stmt_of st) → size_of (stmt_of st) ≤ most
       → Related S s f → 8 * s.stock ≤ top + 4
       → low ≤ s.stock + most * f.rounds - size_of (stmt_of st)
-      → Follows most (Ended S) (run_of (functions P most) (base P most) most S.env
-      (stmt_code (context P S) (stmt_of st)) f) top low (meaning P (task.Run st) s)
+      → FollowsIn x most (EndedIn x S) (run_of (functions P most) (base P most) most S.env
+      (stmt_code (context P S) x (stmt_of st)) f) top low (meaning P (task.Run st) s)
 
   -- FUNCTIONS
 
@@ -206,6 +220,7 @@ module _ (P : TypedProgram) (most : ℕ) where
     resumed s s2 = record s2 {
       scalars = s.scalars;
       arrays = take (length s.arrays) s2.arrays;
+      rows = take (length s.arrays) s2.rows;
       base = s.base;
       room = s.room;
     }
@@ -231,6 +246,8 @@ module _ (P : TypedProgram) (most : ℕ) where
                 (take (length s.arrays) s2.arrays) h.memory
                 (marked h.memory at F.arrays Closed) y.laid
                 (λ b lo hi. marked_out h.memory at F.arrays Closed b (inl (omega arith))) st;
+            rows = ap (λ n. take n s2.rows) n
+                ∙ ap (take (length S.objects)) q.rows ∙ rows_first S.objects own;
             input = q.input;
             bytes = q.bytes;
             output = q.output;

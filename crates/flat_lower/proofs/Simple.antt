@@ -90,23 +90,23 @@ module _ (P : TypedProgram) (most : ℕ) (S : Scene) (y : IsScene P S) where
       (temp d) 80 w 0 w (omega arith) refl refl refl) (omega arith) (omega arith))
 
   -- a global scalar as an array of one element
-  global_object : (g : ℕ) (k : Kind) (l : Option ℕ) → GlobalIs (scope P S) g k l
+  global_object : (g : ℕ) (k : Kind) (l q : Option ℕ) → GlobalIs (scope P S) g k l q
       → ObjectIs S.objects g k
-  global_object g k l x = record {
+  global_object g k l q x = record {
     it = object (global_at P.globals g) x.global.kind
-        (length_of x.global.length);
+        (length_of x.global.length) x.global.row;
     found = y.globals g x.global x.found;
     kind = x.kind;
   }
 
   -- where a global scalar is loaded from
   pub global_loaded : (g w : ℕ) (k : Kind) (s : eval.State) (f : State)
-      → GlobalIs (scope P S) g k None → held (cell s (InArray g 0)) ≡ Some w → Related S s f
+      → GlobalIs (scope P S) g k None None → held (cell s (InArray g 0)) ≡ Some w → Related S s f
       → (cells.load checked (load_op k) f.memory (global_at P.globals g) ≡ Some w) × IsWord k w
   global_loaded g w k s f x h r =
       let o : ObjectIs S.objects g k = record {
         it = object (global_at P.globals g) x.global.kind
-            (length_of x.global.length);
+            (length_of x.global.length) x.global.row;
         found = y.globals g x.global x.found;
         kind = x.kind;
       } in
@@ -117,7 +117,7 @@ module _ (P : TypedProgram) (most : ℕ) (S : Scene) (y : IsScene P S) where
         subst (λ k. IsWord k w) x.kind v.fits,
       )
 
-  pub is_scalar : (g : ℕ) (k : Kind) → GlobalIs (scope P S) g k None
+  pub is_scalar : (g : ℕ) (k : Kind) → GlobalIs (scope P S) g k None None
       → is_array (slice_get P.globals g) ≡ false
   is_scalar g k x = ap is_array x.found ∙ go x.global.length x.long
     where
@@ -141,7 +141,7 @@ module _ (P : TypedProgram) (most : ℕ) (S : Scene) (y : IsScene P S) where
       refl refl) hu hl)
 
   named_global : (g : ℕ) (k : Kind) (d top low : ℕ) (s : eval.State) (f : State) → d < 16
-      → GlobalIs (scope P S) g k None → Related S s f → 1 + 8 * s.stock ≤ top
+      → GlobalIs (scope P S) g k None None → Related S s f → 1 + 8 * s.stock ≤ top
       → low ≤ s.stock + most * f.rounds
       → FollowsHere d (Some k) f (only (Load (temp d) (load_op k) (Const (global_at P.globals g))))
       f top low (load (InArray g 0) s)
@@ -276,12 +276,12 @@ module _ (P : TypedProgram) (most : ℕ) (S : Scene) (y : IsScene P S) where
         subst (λ k. IsWord k v) o.kind x.fits,
       )
 
-  element_end : (p : Place) (k : Kind) (d w top low : ℕ) (f0 g : State) (s : eval.State)
-      (j : Option Kind) → d < 16 → FitsWhole (scope P S) k p → ValueIs S d j f0 w s g
+  pub element_end : (p : Place) (q : Option ℕ) (k : Kind) (d w top low : ℕ) (f0 g : State) (s : eval.State)
+      (j : Option Kind) → d < 16 → FitsWhole (scope P S) k q p → ValueIs S d j f0 w s g
       → 4 + 8 * s.stock ≤ top → low ≤ s.stock + most * g.rounds
       → FollowsHere d (Some k) f0 (element_code (context P S) p d k) g top low
       (element p (Value w) s)
-  element_end p k d w top low f0 g s j ld t v hu hl =
+  element_end p q k d w top low f0 g s j ld t v hu hl =
       let fs = functions P most in
       let b = base P most in
       let a = address_code (context P S) p k (temp d) (temp d) in
@@ -292,8 +292,8 @@ module _ (P : TypedProgram) (most : ℕ) (S : Scene) (y : IsScene P S) where
       subst (λ x. FollowsHere d (Some k) f0 (Then a l) g top low (load x s)) (sym i.is)
       (needed most (Valued S d (Some k) f0) (run P most S y (Then a l) g) top low
       (held (cell s (InArray i.number w))) s (λ u. Go (Value u) s) (λ u eu.
-      let o = (place_is P fs b S y p k i.number s g v.keeps.rel t i.array).array in
-      let pa = address_puts P fs b S y p k i.number s g v.keeps.rel t i.array o (temp d) (temp d) w (omega arith)
+      let o = (place_is P fs b S y p k q i.number s g v.keeps.rel t i.array).array in
+      let pa = address_puts P fs b S y p k q i.number s g v.keeps.rel t i.array o (temp d) (temp d) w (omega arith)
       (λ e. omega arith) (λ e. omega arith) v.is in
       let z = element_loaded p k i.number w u (addressed P fs b k w o.it.at) s g pa.to o eu v.keeps.rel refl
       pa.sets.memory in
@@ -308,17 +308,17 @@ module _ (P : TypedProgram) (most : ℕ) (S : Scene) (y : IsScene P S) where
       → FitsExpr (scope P S) d (tree.Element k p (expr_of e)) → Related S s f → 8 * s.stock ≤ top + 4
       → low ≤ s.stock + most * f.rounds - (1 + nodes (expr_of e))
       → FollowsHere d k f (expr_code (context P S) d (tree.Element k p (expr_of e))) f top low
-      (spend s (opened (meaning P) P (node.Element p e)))
+      (spend s (opened (meaning P) P (node.Element p None e)))
   element_node None p e d top low s f ld h t r hu hl = absurd t.0
   element_node (Some k) p e d top low s f ld h t r hu hl =
       let b = element_code (context P S) p d k in
       spending P most S y (Valued S d (Some k) f) (Then (code P most S y d e) b) s f top low
-      (opened (meaning P) P (node.Element p e)) r (omega arith) (λ n q rn.
+      (opened (meaning P) P (node.Element p None e)) r (omega arith) (λ n q rn.
       let s0 = record s { stock = n } in
       operand P most S y (Valued S d (Some k) f) e d b s0 f top low (element p)
       (h s0 (omega arith)) t.1 rn (omega arith) (omega arith)
       (λ v s1 g tt1 hv ls us ds.
       wanted most (Valued S d (Some k) f) (run P most S y b g) (top - tt1) low v s1
       (λ w. eval.with_some (element_of p w s1) s1 (λ x. load x s1)) (λ w ew.
-      element_end p k d w (top - tt1) low f g s1 e.kind ld t.0
+      element_end p None k d w (top - tt1) low f g s1 e.kind ld t.0
       (value_at S d e.kind f v w s1 g ew hv) (omega arith) (omega arith))))

@@ -2,7 +2,7 @@
 use Rattle.std.proofs.Common.{◌≡◌, ℕ, ◌-◌, ◌^◌, List, [], ◌∷◌, true, false, Option, Some, None}
 use Rattle.std.proofs.Common.{refl}
 use Rattle.c_tree.specs.declared.Kind.{Kind}
-use Rattle.c_tree.specs.declared.Kind.TheVariants.{Char, UChar, Int, UInt, Long, ULong}
+use Rattle.c_tree.specs.declared.Kind.TheVariants.{Char, UChar, Short, UShort, Int, UInt, Long, ULong}
 use Rattle.c_tree.specs.declared.UnaryOp.TheVariants.{Minus, Complement, Not}
 use Rattle.c_tree.specs.declared.BumpOp.TheVariants.{PreInc, PostInc, PostDec}
 use Rattle.c_tree.specs.declared.BinaryOp.{BinaryOp}
@@ -29,32 +29,32 @@ use Rattle.flat_lower.specs.Statements.{lowered}
 
 -- PROGRAMS
 
-abbrev n : ℕ → Expr
+abbrev pub n : ℕ → Expr
 n w = Number (Some Int) w
 
-abbrev int : ℕ → Expr
+abbrev pub int : ℕ → Expr
 int i = Name (Some Int) (place.Scalar i)
 
-abbrev two : BinaryOp → Expr → Expr → Expr
+abbrev pub two : BinaryOp → Expr → Expr → Expr
 two o l r = Binary (Some Int) o l r
 
-abbrev set : Expr → Expr → Expr
+abbrev pub set : Expr → Expr → Expr
 set l r = Assign (Some Int) None Int l r
 
-abbrev does : Expr → Stmt
+abbrev pub does : Expr → Stmt
 does e = Plain (Some e)
 
-abbrev gives : Expr → Stmt
+abbrev pub gives : Expr → Stmt
 gives e = Return (Some e)
 
-abbrev stmts : List Stmt → Stmts
+abbrev pub stmts : List Stmt → Stmts
 stmts [] = NoStmts
 stmts (s ∷ rest) = WithStmt s (stmts rest)
 
-abbrev block : List Stmt → Stmt
+abbrev pub block : List Stmt → Stmt
 block all = Compound (stmts all)
 
-abbrev exprs : List Expr → Exprs
+abbrev pub exprs : List Expr → Exprs
 exprs [] = NoExprs
 exprs (e ∷ es) = WithExpr e (exprs es)
 
@@ -70,7 +70,7 @@ func params scalars arrays all = record {
 abbrev ints : List Slot
 ints = slot.Scalar Int ∷ slot.Scalar Int ∷ []
 
-abbrev main : List TypedGlobal → List TypedArray → List Stmt → Source
+abbrev pub main : List TypedGlobal → List TypedArray → List Stmt → Source
 main globals arrays all = record {
   globals = globals;
   functions = func 0 ints arrays all ∷ [];
@@ -94,7 +94,7 @@ seen (TooDeep out) = 5 ∷ out
 seen (Unfinished out r) = 6 ∷ out
 seen Wild = 7 ∷ []
 
-abbrev run : Source → List ℕ → List ℕ
+abbrev pub run : Source → List ℕ → List ℕ
 run P input = seen (flat_run checked (lowered P) input 400)
 
 -- RETURNS
@@ -178,7 +178,7 @@ breaks = refl
 -- OBJECTS
 
 abbrev longs : TypedGlobal
-longs = record { kind = Long; length = Some 9; init = [] }
+longs = record { kind = Long; length = Some 9; row = None; init = [] }
 
 abbrev long : Place → Expr → Expr
 long p i = Element (Some Long) p i
@@ -196,9 +196,10 @@ unfolding flat_run frame_limit first_memory apply load save marked lowered globa
 doubles = refl
 
 -- char c[3]; c[2] = 200; return c[2];
-pub chars_have_a_sign : run (main [] (record { kind = Int; length = 1 } ∷ record {
+pub chars_have_a_sign : run (main [] (record { kind = Int; length = 1; row = None } ∷ record {
   kind = Char;
   length = 3;
+  row = None;
 } ∷ []) (does (Assign (Some Char) None Char (Element (Some Char) (place.Array 1) (n 2))
     (Convert (Some Char) Char (n 200))) ∷ gives
     (Convert (Some Int) Int (Element (Some Char) (place.Array 1) (n 2))) ∷ [])) []
@@ -208,7 +209,7 @@ chars_have_a_sign = refl
 
 -- unsigned char g = 255; return g++ + (g += 3);
 abbrev byte : TypedGlobal
-byte = record { kind = UChar; length = None; init = 255 ∷ [] }
+byte = record { kind = UChar; length = None; row = None; init = 255 ∷ [] }
 
 abbrev g : Expr
 g = Name (Some UChar) (place.Global 1)
@@ -239,9 +240,9 @@ abbrev calling : Source
 calling = record {
   globals = [];
   functions =
-      func 2 (slot.Address Int ∷ slot.Scalar Int ∷ []) []
+      func 2 (slot.Address Int None ∷ slot.Scalar Int ∷ []) []
       (does (Assign (Some Int) (Some op.Add) Int (a (int 1)) (int 1)) ∷ gives (a (int 1)) ∷ [])
-      ∷ func 0 [] (record { kind = Int; length = 2 } ∷ [])
+      ∷ func 0 [] (record { kind = Int; length = 2; row = None } ∷ [])
       (does (set (b (n 1)) (n 5)) ∷ does
       (Call (Some Int) callee.PutChar (exprs
       (f_of (two op.Subtract (f_of (n 1)) (n 5)) ∷ []))) ∷ gives (b (n 1)) ∷ []) ∷ [];

@@ -9,7 +9,7 @@ use Rattle.c_tree.specs.declared.TypedFunc.{TypedFunc}
 use Rattle.c_tree.specs.declared.TypedProgram.{TypedProgram}
 use Rattle.c_meaning_spec.specs.State as eval
 use Rattle.c_constant.specs.Kinds.{bytes}
-use Rattle.c_meaning_spec.specs.Eval.{length_of, first_cells}
+use Rattle.c_meaning_spec.specs.Eval.{length_of, first_cells, global_row}
 use Rattle.c_meaning_spec.specs.Eval as evaluation
 use Rattle.trips_isa.specs.Stores.{data_size}
 use Rattle.ir_forms.specs.Frames.{frames_at, frame_limit, rounded}
@@ -21,7 +21,7 @@ use Rattle.flat_lower.specs.Objects.{global_bytes, bytes_before, global_at}
 use Rattle.flat_lower.specs.Statements.{global_image, globals_image}
 use Rattle.flat_lower.specs.Fits.{FitsGlobal, FitsSource}
 use Rattle.flat_lower.specs.Keeps.{IsInput}
-use Rattle.flat_lower.proofs.Objects.{Object, end_of, Laid, laid_lower, AllStored}
+use Rattle.flat_lower.proofs.Objects.{Object, object_row, end_of, Laid, laid_lower, AllStored}
 use Rattle.flat_lower.proofs.Related.{Scene, IsScene, object, frames_from, Related}
 use Rattle.flat_lower.proofs.Image.{ImageAt, both_length, image_first, image_rest, global_room}
 use Rattle.flat_lower.proofs.Image.{global_length, global_stored}
@@ -30,7 +30,7 @@ use Rattle.flat_lower.proofs.Image.{global_length, global_stored}
 
 abbrev pub objects_from : ℕ → List TypedGlobal → List Object
 objects_from lo [] = []
-objects_from lo (g ∷ gs) = object lo g.kind (length_of g.length) ∷ objects_from
+objects_from lo (g ∷ gs) = object lo g.kind (length_of g.length) g.row ∷ objects_from
     (lo + global_bytes g) gs
 
 abbrev pub room_of : List TypedGlobal → ℕ
@@ -67,18 +67,25 @@ objects_laid lo (g ∷ gs) h =
 
 objects_at : (lo : ℕ) (gs : List TypedGlobal) (n : ℕ) (g : TypedGlobal) → slice_get gs n ≡ Some g
     → slice_get (objects_from lo gs) n ≡ Some
-    (object (lo + bytes_before (map global_bytes gs) n) g.kind (length_of g.length))
+    (object (lo + bytes_before (map global_bytes gs) n) g.kind (length_of g.length) g.row)
 objects_at lo [] n g h = absurd (cc h)
 objects_at lo (x ∷ gs) zero g h =
     let e : x ≡ g = cc h in
     let z : lo ≡ lo + 0 = omega arith in
-    ap Some (ap (λ (x : TypedGlobal). object lo x.kind (length_of x.length)) e
-    ∙ ap (λ at. object at g.kind (length_of g.length)) z)
+    ap Some (ap (λ (x : TypedGlobal). object lo x.kind (length_of x.length) x.row) e
+    ∙ ap (λ at. object at g.kind (length_of g.length) g.row) z)
 objects_at lo (x ∷ gs) (suc n) g h =
     let z : lo + global_bytes x + bytes_before (map global_bytes gs) n
     ≡ lo + (global_bytes x + bytes_before (map global_bytes gs) n) = omega arith in
     objects_at (lo + global_bytes x) gs n g h
-    ∙ ap (λ at. Some (object at g.kind (length_of g.length))) z
+    ∙ ap (λ at. Some (object at g.kind (length_of g.length) g.row)) z
+
+-- their second sizes
+objects_rows : (lo : ℕ) (gs : List TypedGlobal)
+    → map global_row gs ≡ map object_row (objects_from lo gs)
+objects_rows lo [] = refl
+objects_rows lo (g ∷ gs) =
+    ap (λ (rs : List (Option ℕ)). g.row ∷ rs) (objects_rows (lo + global_bytes g) gs)
 
 rest_fits : (g : TypedGlobal) (gs : List TypedGlobal) → All FitsGlobal (g ∷ gs) → All FitsGlobal gs
 rest_fits g gs h k d lt = h (suc k) d (omega arith)
@@ -155,7 +162,7 @@ module _ (P : TypedProgram) (sound : FitsSource (source_of P)) where
             λ g x h.
             let z : 0 + bytes_before (map global_bytes P.globals) g ≡ bytes_before (map global_bytes P.globals) g =
             omega arith in objects_at 0 P.globals g x h
-            ∙ ap (λ at. Some (object at x.kind (length_of x.length))) z;
+            ∙ ap (λ at. Some (object at x.kind (length_of x.length) x.row)) z;
         arrays = λ a x h. absurd (cc h);
       }
 
@@ -176,6 +183,7 @@ module _ (P : TypedProgram) (sound : FitsSource (source_of P)) where
     count = refl;
     stored = all_globals (first_memory (globals_image P.globals)) 0 P.globals sound.globals
         (start_image (globals_image P.globals)) refl (omega (arith, sound.room, frames_is));
+    rows = objects_rows 0 P.globals;
     input = refl;
     bytes = h;
     output = refl;

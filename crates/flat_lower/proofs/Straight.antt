@@ -5,7 +5,7 @@ use Rattle.std.proofs.Common.{ap₂, ◌∙◌, subst, arith}
 use Rattle.std.specs.Prelude.{nat_eq, nat_lt, nat_le, int_lt, int_le}
 use Rattle.std.proofs.lemmas.Bool.Decides.{nat_tests}
 use Rattle.c_tree.specs.declared.Kind.{Kind}
-use Rattle.c_tree.specs.declared.Kind.TheVariants.{Char, UChar, Int, UInt, Long, ULong}
+use Rattle.c_tree.specs.declared.Kind.TheVariants.{Char, UChar, Short, UShort, Int, UInt, Long, ULong}
 use Rattle.c_tree.specs.declared.UnaryOp.{UnaryOp}
 use Rattle.c_tree.specs.declared.UnaryOp.TheVariants.{Plus, Minus, Complement, Not}
 use Rattle.c_tree.specs.declared.BumpOp.{BumpOp}
@@ -204,6 +204,8 @@ module _ (fs : List Function) (base : ℕ) (e : Env) where
   unfolding apply
   reduced_puts Char f x spare a h = puts_none f 1 x spare a h
   reduced_puts UChar f x spare a h = puts_none f 1 x spare a h
+  reduced_puts Short f x spare a h = puts_none f 1 x spare a h
+  reduced_puts UShort f x spare a h = puts_none f 1 x spare a h
   reduced_puts Int f x spare a h = puts_none f 1 x spare a h
   reduced_puts UInt f x spare a h = one_puts op.Extuw f 1 x x spare a (omega arith) h refl
   reduced_puts Long f x spare a h = puts_none f 1 x spare a h
@@ -270,6 +272,8 @@ module _ (fs : List Function) (base : ℕ) (e : Env) where
   unfolding apply
   works_less Char f x y a b w hx hy g = works_two op.Tlt Int f x y a b w hx hy refl g
   works_less UChar f x y a b w hx hy g = works_two op.Tltu Int f x y a b w hx hy refl g
+  works_less Short f x y a b w hx hy g = works_two op.Tlt Int f x y a b w hx hy refl g
+  works_less UShort f x y a b w hx hy g = works_two op.Tltu Int f x y a b w hx hy refl g
   works_less Int f x y a b w hx hy g = works_two op.Tlt Int f x y a b w hx hy refl g
   works_less UInt f x y a b w hx hy g = works_two op.Tltu Int f x y a b w hx hy refl g
   works_less Long f x y a b w hx hy g = works_two op.Tlt Int f x y a b w hx hy refl g
@@ -281,6 +285,8 @@ module _ (fs : List Function) (base : ℕ) (e : Env) where
   unfolding apply
   works_greater Char f x y a b w hx hy g = works_two op.Tgt Int f x y a b w hx hy refl g
   works_greater UChar f x y a b w hx hy g = works_two op.Tgtu Int f x y a b w hx hy refl g
+  works_greater Short f x y a b w hx hy g = works_two op.Tgt Int f x y a b w hx hy refl g
+  works_greater UShort f x y a b w hx hy g = works_two op.Tgtu Int f x y a b w hx hy refl g
   works_greater Int f x y a b w hx hy g = works_two op.Tgt Int f x y a b w hx hy refl g
   works_greater UInt f x y a b w hx hy g = works_two op.Tgtu Int f x y a b w hx hy refl g
   works_greater Long f x y a b w hx hy g = works_two op.Tgt Int f x y a b w hx hy refl g
@@ -292,6 +298,8 @@ module _ (fs : List Function) (base : ℕ) (e : Env) where
   unfolding apply
   works_less_equal Char f x y a b w hx hy g = works_two op.Tle Int f x y a b w hx hy refl g
   works_less_equal UChar f x y a b w hx hy g = works_two op.Tleu Int f x y a b w hx hy refl g
+  works_less_equal Short f x y a b w hx hy g = works_two op.Tle Int f x y a b w hx hy refl g
+  works_less_equal UShort f x y a b w hx hy g = works_two op.Tleu Int f x y a b w hx hy refl g
   works_less_equal Int f x y a b w hx hy g = works_two op.Tle Int f x y a b w hx hy refl g
   works_less_equal UInt f x y a b w hx hy g = works_two op.Tleu Int f x y a b w hx hy refl g
   works_less_equal Long f x y a b w hx hy g = works_two op.Tle Int f x y a b w hx hy refl g
@@ -303,6 +311,8 @@ module _ (fs : List Function) (base : ℕ) (e : Env) where
   unfolding apply
   works_greater_equal Char f x y a b w hx hy g = works_two op.Tge Int f x y a b w hx hy refl g
   works_greater_equal UChar f x y a b w hx hy g = works_two op.Tgeu Int f x y a b w hx hy refl g
+  works_greater_equal Short f x y a b w hx hy g = works_two op.Tge Int f x y a b w hx hy refl g
+  works_greater_equal UShort f x y a b w hx hy g = works_two op.Tgeu Int f x y a b w hx hy refl g
   works_greater_equal Int f x y a b w hx hy g = works_two op.Tge Int f x y a b w hx hy refl g
   works_greater_equal UInt f x y a b w hx hy g = works_two op.Tgeu Int f x y a b w hx hy refl g
   works_greater_equal Long f x y a b w hx hy g = works_two op.Tge Int f x y a b w hx hy refl g
@@ -313,6 +323,8 @@ module _ (fs : List Function) (base : ℕ) (e : Env) where
   unfolding apply
   works_right Char f x y a b w hx hy g = works_two op.Sra Char f x y a b w hx hy refl g
   works_right UChar f x y a b w hx hy g = works_two op.Srl UChar f x y a b w hx hy refl g
+  works_right Short f x y a b w hx hy g = works_two op.Sra Short f x y a b w hx hy refl g
+  works_right UShort f x y a b w hx hy g = works_two op.Srl UShort f x y a b w hx hy refl g
   works_right Int f x y a b w hx hy g = works_two op.Sra Int f x y a b w hx hy refl g
   works_right UInt f x y a b w hx hy g = works_two op.Srl UInt f x y a b w hx hy refl g
   works_right Long f x y a b w hx hy g = works_two op.Sra Long f x y a b w hx hy refl g
@@ -336,6 +348,10 @@ module _ (fs : List Function) (base : ℕ) (e : Env) where
       works_two op.Divs Char f x y a b w hx hy (divs_applies a b d.some) d.gives
   works_divide UChar f x y a b w hx hy d =
       works_two op.Divu UChar f x y a b w hx hy (divu_applies a b d.some) d.gives
+  works_divide Short f x y a b w hx hy d =
+      works_two op.Divs Short f x y a b w hx hy (divs_applies a b d.some) d.gives
+  works_divide UShort f x y a b w hx hy d =
+      works_two op.Divu UShort f x y a b w hx hy (divu_applies a b d.some) d.gives
   works_divide Int f x y a b w hx hy d = works_two op.Divs Int f x y a b w hx hy
       (divs_applies a b d.some) d.gives
   works_divide UInt f x y a b w hx hy d =
@@ -392,6 +408,10 @@ module _ (fs : List Function) (base : ℕ) (e : Env) where
       works_signed Char f x y a b w nx ny hx hy d.some d.gives
   works_remainder UChar f x y a b w nx ny hx hy d =
       works_unsigned UChar f x y a b w nx ny hx hy d.some d.gives
+  works_remainder Short f x y a b w nx ny hx hy d =
+      works_signed Short f x y a b w nx ny hx hy d.some d.gives
+  works_remainder UShort f x y a b w nx ny hx hy d =
+      works_unsigned UShort f x y a b w nx ny hx hy d.some d.gives
   works_remainder Int f x y a b w nx ny hx hy d =
       works_signed Int f x y a b w nx ny hx hy d.some d.gives
   works_remainder UInt f x y a b w nx ny hx hy d =
@@ -491,6 +511,8 @@ module _ (fs : List Function) (base : ℕ) (e : Env) where
       here : (k : Kind) → Puts (converted_here k x) f 1 x 80 (converted k a)
       here Char = one_puts op.Extsb f 1 x x 80 a (omega arith) hx refl
       here UChar = one_puts op.Extub f 1 x x 80 a (omega arith) hx refl
+      here Short = one_puts op.Extsh f 1 x x 80 a (omega arith) hx refl
+      here UShort = one_puts op.Extuh f 1 x x 80 a (omega arith) hx refl
       here Int = one_puts op.Extsw f 1 x x 80 a (omega arith) hx refl
       here UInt = one_puts op.Extuw f 1 x x 80 a (omega arith) hx refl
       here Long = puts_none f 1 x 80 (converted Long a) (hx ∙ ap Some (sym (converted_long a p)))
@@ -504,6 +526,8 @@ module _ (fs : List Function) (base : ℕ) (e : Env) where
       there : (k : Kind) → Puts (converted_to k to x) f 1 to 80 (converted k a)
       there Char = one_puts op.Extsb f 1 to x 80 a (omega arith) hx refl
       there UChar = one_puts op.Extub f 1 to x 80 a (omega arith) hx refl
+      there Short = one_puts op.Extsh f 1 to x 80 a (omega arith) hx refl
+      there UShort = one_puts op.Extuh f 1 to x 80 a (omega arith) hx refl
       there Int = one_puts op.Extsw f 1 to x 80 a (omega arith) hx refl
       there UInt = one_puts op.Extuw f 1 to x 80 a (omega arith) hx refl
       there Long = puts_as (converted_to Long to x) f 1 to 80 a (converted Long a)
@@ -553,6 +577,8 @@ module _ (fs : List Function) (base : ℕ) (e : Env) where
   unfolding converted apply
   narrowed_puts Char f spare x v n hx = one_puts op.Extsb f 1 x x spare v (omega arith) hx refl
   narrowed_puts UChar f spare x v n hx = one_puts op.Extub f 1 x x spare v (omega arith) hx refl
+  narrowed_puts Short f spare x v n hx = one_puts op.Extsh f 1 x x spare v (omega arith) hx refl
+  narrowed_puts UShort f spare x v n hx = one_puts op.Extuh f 1 x x spare v (omega arith) hx refl
   narrowed_puts Int f spare x v n hx = one_puts op.Extsw f 1 x x spare v (omega arith) hx refl
   narrowed_puts UInt f spare x v n hx = one_puts op.Extuw f 1 x x spare v (omega arith) hx refl
   narrowed_puts Long f spare x v n hx = absurd (cc n)
@@ -574,6 +600,14 @@ module _ (fs : List Function) (base : ℕ) (e : Env) where
       let g = bump_gives o Int old b.middle p tt b.done in
       puts_as (narrowed_here (narrowing UChar) to) f 1 to spare (converted UChar v) w
       (ap (converted UChar) (e ∙ g.is) ∙ b.is) (narrowed_puts UChar f spare to v refl hx)
+  bump_end o Short f spare to v old w hx e p b =
+      let g = bump_gives o Int old b.middle p tt b.done in
+      puts_as (narrowed_here (narrowing Short) to) f 1 to spare (converted Short v) w
+      (ap (converted Short) (e ∙ g.is) ∙ b.is) (narrowed_puts Short f spare to v refl hx)
+  bump_end o UShort f spare to v old w hx e p b =
+      let g = bump_gives o Int old b.middle p tt b.done in
+      puts_as (narrowed_here (narrowing UShort) to) f 1 to spare (converted UShort v) w
+      (ap (converted UShort) (e ∙ g.is) ∙ b.is) (narrowed_puts UShort f spare to v refl hx)
   bump_end o Int f spare to v old w hx e p b =
       let g = bump_gives o Int old b.middle p tt b.done in
       puts_none f 1 to spare w (hx ∙ ap Some
@@ -597,6 +631,10 @@ module _ (fs : List Function) (base : ℕ) (e : Env) where
       let g = bump_gives o Int old b.middle p tt b.done in subst (IsWord Char) b.is (converted_word Char b.middle)
   bump_fits o UChar old w p b =
       let g = bump_gives o Int old b.middle p tt b.done in subst (IsWord UChar) b.is (converted_word UChar b.middle)
+  bump_fits o Short old w p b =
+      let g = bump_gives o Int old b.middle p tt b.done in subst (IsWord Short) b.is (converted_word Short b.middle)
+  bump_fits o UShort old w p b =
+      let g = bump_gives o Int old b.middle p tt b.done in subst (IsWord UShort) b.is (converted_word UShort b.middle)
   bump_fits o Int old w p b =
       let g = bump_gives o Int old b.middle p tt b.done in subst (IsWord Int) b.is (converted_word Int b.middle)
   bump_fits o UInt old w p b =

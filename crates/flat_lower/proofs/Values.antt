@@ -29,7 +29,10 @@ use Rattle.flat_lower.specs.Statements.{lowered_from}
 use Rattle.flat_lower.specs.Fits.{FitsExpr}
 use Rattle.flat_lower.specs.Sizes.{nodes}
 use Rattle.flat_lower.proofs.Straight.{Sets, Puts}
-use Rattle.flat_lower.proofs.Follows.{Post, Settles, Goes, Follows, run_of, then_follows, spends}
+use Rattle.flat_lower.specs.declared.around.Around.{Around}
+use Rattle.flat_lower.specs.declared.around.Around.TheVariants as around
+use Rattle.flat_lower.proofs.Follows.{Post, Settles, Goes, Follows, FollowsIn, run_of, then_follows_in}
+use Rattle.flat_lower.proofs.Follows.{spends}
 use Rattle.flat_lower.proofs.Related.{Scene, IsScene, scope, context, frames_from, Related}
 use Rattle.flat_lower.proofs.Related.{sets_unseen, spent}
 
@@ -144,17 +147,17 @@ module _ (P : TypedProgram) (most : ℕ) where
     }
 
     -- an operand at its depth, and what follows it
-    pub operand : (Q : Post) (e : TypedExpr) (d : ℕ) (b : Code) (s : eval.State) (f : State)
-        (top low : ℕ) (next : Signal → eval.State → Result) → FollowsOf e s
+    pub operand_in : (x : Around) (Q : Post) (e : TypedExpr) (d : ℕ) (b : Code) (s : eval.State)
+        (f : State) (top low : ℕ) (next : Signal → eval.State → Result) → FollowsOf e s
         → FitsExpr (scope P S) d (expr_of e) → Related S s f → 8 * s.stock - 3 ≤ top
         → low ≤ s.stock + most * f.rounds - nodes (expr_of e)
         → ((v : Signal) (s1 : eval.State) (g : State) (t : ℕ) → Valued S d e.kind f v s1 g
         → s1.stock < s.stock → t + 8 * s1.stock ≤ 8 * s.stock - 3
         → s.stock + most * f.rounds - nodes (expr_of e) ≤ s1.stock + most * g.rounds
-        → Follows most Q (run b g) (top - t) low (next v s1))
-        → Follows most Q (run (Then (code d e) b) f) top low (then (meaning P (Of e) s) next)
-    operand Q e d b s f top low next h fits r hu hl go =
-        then_follows functions base most S.env (Valued S d e.kind f) Q (code d e) b f
+        → FollowsIn x most Q (run b g) (top - t) low (next v s1))
+        → FollowsIn x most Q (run (Then (code d e) b) f) top low (then (meaning P (Of e) s) next)
+    operand_in x Q e d b s f top low next h fits r hu hl go =
+        then_follows_in functions base most S.env around.Loop x (Valued S d e.kind f) Q (code d e) b f
         (8 * s.stock - 3) (s.stock + most * f.rounds - nodes (expr_of e)) top low
         (meaning P (Of e) s) next
         (h S y d (8 * s.stock - 3) (s.stock + most * f.rounds - nodes (expr_of e)) f fits r
@@ -164,13 +167,31 @@ module _ (P : TypedProgram) (most : ℕ) where
           go v s1 g t holds (meaning-falls P (Of e) s v s1 eq) u l,
         ))
 
+    pub operand : (Q : Post) (e : TypedExpr) (d : ℕ) (b : Code) (s : eval.State) (f : State)
+        (top low : ℕ) (next : Signal → eval.State → Result) → FollowsOf e s
+        → FitsExpr (scope P S) d (expr_of e) → Related S s f → 8 * s.stock - 3 ≤ top
+        → low ≤ s.stock + most * f.rounds - nodes (expr_of e)
+        → ((v : Signal) (s1 : eval.State) (g : State) (t : ℕ) → Valued S d e.kind f v s1 g
+        → s1.stock < s.stock → t + 8 * s1.stock ≤ 8 * s.stock - 3
+        → s.stock + most * f.rounds - nodes (expr_of e) ≤ s1.stock + most * g.rounds
+        → Follows most Q (run b g) (top - t) low (next v s1))
+        → Follows most Q (run (Then (code d e) b) f) top low (then (meaning P (Of e) s) next)
+    operand = operand_in around.Loop
+
     -- a node spends its step first
+    pub spending_in : (x : Around) (Q : Post) (a : Code) (s : eval.State) (f : State) (top low : ℕ)
+        (next : eval.State → Result) → Related S s f → low ≤ s.stock + most * f.rounds
+        → ((n : ℕ) → s.stock ≡ suc n → Related S (record s { stock = n }) f
+        → FollowsIn x most Q (run a f) top low (next (record s { stock = n })))
+        → FollowsIn x most Q (run a f) top low (spend s next)
+    spending_in x Q a s f top low next r hl go =
+        spends x most Q (run a f) top low s f.rounds next
+        (code_waits checked functions base S.env a f s.output r.output) hl
+        (λ n e. go n e (spent S s f n r))
+
     pub spending : (Q : Post) (a : Code) (s : eval.State) (f : State) (top low : ℕ)
         (next : eval.State → Result) → Related S s f → low ≤ s.stock + most * f.rounds
         → ((n : ℕ) → s.stock ≡ suc n → Related S (record s { stock = n }) f
         → Follows most Q (run a f) top low (next (record s { stock = n })))
         → Follows most Q (run a f) top low (spend s next)
-    spending Q a s f top low next r hl go =
-        spends most Q (run a f) top low s f.rounds next
-        (code_waits checked functions base S.env a f s.output r.output) hl
-        (λ n e. go n e (spent S s f n r))
+    spending = spending_in around.Loop

@@ -38,11 +38,12 @@ use Rattle.flat_lower.specs.Fits.{FitsFunc, FitsSource}
 use Rattle.flat_lower.specs.Sizes.{size_of, IsMost}
 use Rattle.flat_lower.specs.Keeps.{Finishes, Overflows, GoesOn, Keeps, IsInput, Means, KeepsMeaning}
 use Rattle.c_constant.proofs.Conversions.{converted_is}
-use Rattle.flat_lower.proofs.Follows.{Goes, Dives, Halts, Follows}
+use Rattle.flat_lower.specs.declared.around.Around.TheVariants as around
+use Rattle.flat_lower.proofs.Follows.{Goes, Dives, Halts, Follows, FollowsIn}
 use Rattle.flat_lower.proofs.Related.{Scene, IsScene, context, Related}
 use Rattle.flat_lower.proofs.Values.{functions, base}
 use Rattle.flat_lower.proofs.Entered.{ArgsAre, called_scene, called_is, begins, frame_is}
-use Rattle.flat_lower.proofs.Returns.{ReturnIs, Ended, lowered_of, lowered_is, body_run, this_call}
+use Rattle.flat_lower.proofs.Returns.{ReturnIs, EndedIn, lowered_of, lowered_is, body_run, this_call}
 use Rattle.flat_lower.proofs.Returns.{call_dives, call_waits, closed_leads, closed_stops}
 use Rattle.flat_lower.proofs.Calls.{typed_at, func_at, within, beyond, under, limit}
 use Rattle.flat_lower.proofs.Comes.{zero_fits}
@@ -106,7 +107,7 @@ module _ (P : TypedProgram) (most : ℕ) (sound : FitsSource (source_of P)) (lar
   inner a = body_run P most 0 P.main f found [] g0 a
 
   abbrev B : Code
-  B = stmt_code (context P S1) (stmt_of f.body)
+  B = stmt_code (context P S1) around.Nowhere (stmt_of f.body)
 
   abbrev env : Env
   env = env_of (base P most) F 0
@@ -131,7 +132,7 @@ module _ (P : TypedProgram) (most : ℕ) (sound : FitsSource (source_of P)) (lar
     abbrev low : ℕ
     low = n - size_of (stmt_of f.body)
 
-    comes_out : (r : Result) → Follows most (Ended S1) (inner B) (8 * n + 4) low r
+    comes_out : (r : Result) → FollowsIn around.Nowhere most (EndedIn around.Nowhere S1) (inner B) (8 * n + 4) low r
         → Ends most (suc n) main_run (then r
         (left true [] (length (evaluation.start P input n).arrays) 0 0))
     comes_out (Go Nothing s) h =
@@ -222,7 +223,7 @@ module _ (P : TypedProgram) (most : ℕ) (sound : FitsSource (source_of P)) (lar
       let rel = begins P S0 y0 f F is [] [] s g0 (omega arith) (no_args f.scalars f.params params)
       (first_related P sound f input n bytes) in
       comes_out room n (meaning P (task.Run f.body) (entered f [] s))
-      (runs_follow P most sound large f.body (entered f [] s) S1 y1 (8 * n + 4)
+      (runs_follow P most sound large f.body (entered f [] s) S1 y1 around.Nowhere (8 * n + 4)
       (n - size_of (stmt_of f.body)) first fits.body (omega arith) rel (omega arith)
       (omega (arith, mul-zero most)))
     where

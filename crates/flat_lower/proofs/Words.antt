@@ -10,7 +10,7 @@ use Rattle.std.proofs.lemmas.Int.{ints, of_z-to_z, int_wrap_fits, wrapping_add-b
 use Rattle.std.proofs.lemmas.Int.{wrapping_sub-bits, wrapping_mul-bits}
 use Rattle.std.proofs.lemmas.Bool.Decides.{nat_tests}
 use Rattle.c_tree.specs.declared.Kind.{Kind}
-use Rattle.c_tree.specs.declared.Kind.TheVariants.{Char, UChar, Int, UInt, Long, ULong}
+use Rattle.c_tree.specs.declared.Kind.TheVariants.{Char, UChar, Short, UShort, Int, UInt, Long, ULong}
 use Rattle.c_constant.specs.Kinds.{number, word, word_of, reduced, between, in_kind, by_sign}
 use Rattle.c_constant.specs.Kinds.{converted}
 use Rattle.trips_isa.specs.Alu.{extended}

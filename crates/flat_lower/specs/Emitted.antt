@@ -7,9 +7,11 @@ use Rattle.ir_forms.specs.FlatCode.{Code, Then}
 use Rattle.ir_forms.specs.FlatViews.{code_of}
 use Rattle.flat_lower.specs.Tree.{Stmt, First, NoStmts, WithStmt, Expr, Number, Name, Element, Call}
 use Rattle.flat_lower.specs.Tree.{Unary, Cast, Convert, Bump, Binary, Choice, Assign, Comma, Exprs}
-use Rattle.flat_lower.specs.Tree.{Stmts}
+use Rattle.flat_lower.specs.Tree.{Stmts, RowElement, Sections}
+use Rattle.c_tree.specs.declared.TypedSection.{TypedSection}
 use Rattle.c_tree.specs.declared.TypedForInit.{TypedForInit, fold-TypedForInit}
 use Rattle.flat_lower.specs.TreeViews.{expr_of, exprs_of, stmt_of, stmts_of, stmt_by, first_by}
+use Rattle.flat_lower.specs.TreeViews.{Section, sections_of, section_by}
 use Rattle.flat_lower.specs.declared.side.Side.{Side}
 use Rattle.flat_lower.specs.declared.side.Side.TheVariants as side
 
@@ -32,12 +34,21 @@ other_of (Some s) = WithStmt (stmt_of s) NoStmts
 
 -- the first part of a for
 unfoldable pub first_of : TypedForInit → First
-first_of i = fold-TypedForInit First Stmt first_by stmt_by i
+first_of i = fold-TypedForInit First Stmt Section first_by stmt_by section_by i
+
+-- a section of a switch
+abbrev pub section_of : TypedSection → Section
+section_of x = record { labels = x.labels; body = block_of x.body }
+
+-- the sections of a switch
+abbrev pub sections_in : List TypedSection → Sections
+sections_in xs = sections_of (map section_of xs)
 
 -- what a left side is
 abbrev pub side_in : Expr → Side
 side_in (Name k p) = side.Name p
 side_in (Element k p index) = side.Element p
+side_in (RowElement k p row index) = side.Element p
 side_in (Number k w) = side.Neither
 side_in (Call k f args) = side.Neither
 side_in (Unary k o e) = side.Neither

@@ -2,6 +2,7 @@
 -- d and changes no lower temporary; arguments go into temporaries d, d + 1 and on.
 use Rattle.std.specs.Prelude.{ℕ, suc, ◌+◌, Bool, true, false, cond, List, [], ◌∷◌, Option, Some}
 use Rattle.std.specs.Prelude.{None, slice_get}
+use Rattle.flat_lower.specs.Tree.{RowElement}
 use Rattle.c_tree.specs.declared.Kind.{Kind}
 use Rattle.c_tree.specs.declared.UnaryOp.{UnaryOp}
 use Rattle.c_tree.specs.declared.BumpOp.{BumpOp}
@@ -23,7 +24,7 @@ use Rattle.flat_lower.specs.Tree.{Binary, Choice, Assign, Comma, Exprs, NoExprs,
 use Rattle.flat_lower.specs.Operations.{temp, scratch, set_word, copied, converted_to}
 use Rattle.flat_lower.specs.Operations.{converted_here, binary_code, unary_code, bumped, is_before}
 use Rattle.flat_lower.specs.Operations.{load_op, save_op}
-use Rattle.flat_lower.specs.Objects.{Context, global_at, address_code, whole_code}
+use Rattle.flat_lower.specs.Objects.{Context, global_at, address_code, whole_code, row_of}
 
 -- where a kind is known
 abbrev pub with_kind : Option Kind → (Kind → Code) → Code
@@ -42,6 +43,18 @@ abbrev pub name_code : Context → Place → ℕ → Kind → Code
 name_code c (Global g) to k = global_code c (is_array (slice_get c.globals g)) g to k
 name_code c (Scalar i) to k = copied to i
 name_code c (Array a) to k = whole_code c (Array a) to
+
+-- the index in temporary d of the first element of a row, and the index in the next temporary of the row,
+-- make an index among all elements
+abbrev pub joined_by : Option ℕ → ℕ → Code
+joined_by None d = Nop
+joined_by (Some q) d =
+    Then (only (Let (temp d) op.Mul (Var (temp d)) (Const q)))
+    (only (Let (temp d) op.Add (Var (temp d)) (Var (temp (suc d)))))
+
+-- the code of two indexes of an array, by that of each
+abbrev pub joined_code : Context → Place → ℕ → Code → Code → Code
+joined_code c p d row index = Then row (Then index (joined_by (row_of c p) d))
 
 -- the element whose index stands in temporary d
 abbrev pub element_code : Context → Place → ℕ → Kind → Code
@@ -80,6 +93,7 @@ bump_element c o p d k =
 abbrev pub bump_code : Context → BumpOp → ℕ → Expr → Kind → Code
 bump_code c o d (Name j p) k = bump_name c o p d k
 bump_code c o d (Element j p index) k = bump_element c o p d k
+bump_code c o d (RowElement j p row index) k = bump_element c o p d k
 bump_code c o d _ k = Nop
 
 -- ASSIGNMENTS
@@ -118,7 +132,9 @@ assign_element d k =
 -- before the right side: what follows the index, where there is one
 abbrev pub before_right : Context → Option BinaryOp → Kind → ℕ → Expr → Kind → Code
 before_right c None at d (Element j p index) k = address_code c p k (temp d) (temp d)
+before_right c None at d (RowElement j p row index) k = address_code c p k (temp d) (temp d)
 before_right c (Some o) at d (Element j p index) k = old_element c p d at k
+before_right c (Some o) at d (RowElement j p row index) k = old_element c p d at k
 before_right c (Some o) at d (Name j p) k = old_name c p d at k
 before_right c o at d _ k = Nop
 
@@ -127,16 +143,22 @@ abbrev pub right_at : Option BinaryOp → ℕ → Expr → ℕ
 right_at None d (Name j p) = d
 right_at (Some o) d (Name j p) = suc d
 right_at None d (Element j p index) = suc d
+right_at None d (RowElement j p row index) = suc d
 right_at (Some o) d (Element j p index) = suc (suc d)
+right_at (Some o) d (RowElement j p row index) = suc (suc d)
 right_at o d _ = d
 
 -- behind the right side
 abbrev pub after_right : Context → Option BinaryOp → Kind → ℕ → Expr → Kind → Code
 after_right c None at d (Name j p) k = assign_name c p d k
 after_right c None at d (Element j p index) k = assign_element d k
+after_right c None at d (RowElement j p row index) k = assign_element d k
 after_right c (Some o) at d (Name j p) k =
     Then (compound_code o d (suc d) at k) (assign_name c p d k)
 after_right c (Some o) at d (Element j p index) k =
+    Then (compound_code o d (suc (suc d)) at k)
+    (only (Save (save_op k) (Var (temp (suc d))) (Var (temp d))))
+after_right c (Some o) at d (RowElement j p row index) k =
     Then (compound_code o d (suc (suc d)) at k)
     (only (Save (save_op k) (Var (temp (suc d))) (Var (temp d))))
 after_right c o at d _ k = Nop
@@ -185,6 +207,9 @@ abbrev mutual
   expr_code c d (Number k w) = set_word (temp d) w
   expr_code c d (Name k p) = with_kind k (name_code c p (temp d))
   expr_code c d (Element k p index) = Then (expr_code c d index) (with_kind k (element_code c p d))
+  expr_code c d (RowElement k p row index) =
+      Then (joined_code c p d (expr_code c d row) (expr_code c (suc d) index))
+      (with_kind k (element_code c p d))
   expr_code c d (Call k f args) = Then (args_code c d args) (call_code f k d (temps d args))
   expr_code c d (Unary k o e) =
       Then (expr_code c d e) (with_kind (kind_of e) (λ j. unary_code o j (temp d)))
@@ -201,9 +226,11 @@ abbrev mutual
       (Then (expr_code c (right_at o d l) r) (with_kind (kind_of l) (after_right c o at d l))))
   expr_code c d (Comma k l r) = Then (expr_code c d l) (expr_code c d r)
 
-  -- the index of a left side
+  -- the index of a left side, which may have two
   pub index_code : Context → ℕ → Expr → Code
   index_code c d (Element k p index) = expr_code c d index
+  index_code c d (RowElement k p row index) =
+      joined_code c p d (expr_code c d row) (expr_code c (suc d) index)
   index_code c d _ = Nop
 
   -- the code that leaves the values of the arguments in the temporaries from d on

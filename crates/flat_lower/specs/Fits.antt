@@ -1,5 +1,5 @@
 -- Typed programs that are lowered: what typing gives of each node, and temporaries that suffice.
-use Rattle.std.specs.Prelude.{◌≡◌, ℕ, suc, ◌+◌, ◌<◌, ◌≤◌, true, false, List, [], ◌∷◌, length, take}
+use Rattle.std.specs.Prelude.{◌≡◌, ℕ, zero, suc, ◌+◌, ◌^◌, ◌<◌, ◌≤◌, true, false, List, [], ◌∷◌, length, take}
 use Rattle.std.specs.Prelude.{All, Option, Some, None, slice_get}
 use Rattle.c_tree.specs.declared.limits.TheConstants.{MOST_NEED, MOST_SCALARS}
 use Rattle.c_tree.specs.declared.Kind.{Kind}
@@ -14,6 +14,7 @@ use Rattle.c_tree.specs.declared.Callee.{Callee}
 use Rattle.c_tree.specs.declared.Callee.TheVariants as callee
 use Rattle.c_tree.specs.declared.Slot.{Slot}
 use Rattle.c_tree.specs.declared.Slot.TheVariants as slot
+use Rattle.flat_lower.specs.Tree.{RowElement, Switch, Sections, NoSections, WithSection}
 use Rattle.c_tree.specs.declared.TypedArray.{TypedArray}
 use Rattle.c_tree.specs.declared.TypedGlobal.{TypedGlobal}
 use Rattle.c_constant.specs.Operation.{result_of, unary_result}
@@ -29,6 +30,10 @@ use Rattle.c_constant.specs.Kinds.{IsWord}
 use Rattle.flat_lower.specs.Kinds.{IsArithmetic}
 use Rattle.flat_lower.specs.Expressions.{operand_at, right_at}
 use Rattle.flat_lower.specs.Statements.{globals_image}
+use Rattle.flat_lower.specs.Switches.{in_switch, section_count}
+use Rattle.flat_lower.specs.FitsSwitches.{FitsLabels, free_sections, IsFilled, IsLabelled, IsLooped}
+use Rattle.flat_lower.specs.declared.around.Around.{Around}
+use Rattle.flat_lower.specs.declared.around.Around.TheVariants as around
 
 -- what names and calls stand for in a function
 pub record Scope : Type 0 where
@@ -39,30 +44,32 @@ pub record Scope : Type 0 where
 
 -- NAMES
 
--- a global, and its type
-pub record GlobalIs (c : Scope) (g : ℕ) (k : Kind) (length : Option ℕ) : Type 0 where
+-- a global, its type and its sizes
+pub record GlobalIs (c : Scope) (g : ℕ) (k : Kind) (length row : Option ℕ) : Type 0 where
   pub global : TypedGlobal
   pub found : slice_get c.globals g ≡ Some global
   pub kind : global.kind ≡ k
   pub long : global.length ≡ length
+  pub wide : global.row ≡ row
 
--- the function has a local array of this number and type
-pub record ArrayIs (c : Scope) (a : ℕ) (k : Kind) : Type 0 where
+-- the function has a local array of this number, type and second size
+pub record ArrayIs (c : Scope) (a : ℕ) (k : Kind) (row : Option ℕ) : Type 0 where
   pub array : TypedArray
   pub found : slice_get c.arrays a ≡ Some array
   pub kind : array.kind ≡ k
+  pub wide : array.row ≡ row
 
 -- a name stands for an object of the type
 abbrev pub FitsName : Scope → Kind → Place → Type 0
-FitsName c k (Global g) = GlobalIs c g k None
+FitsName c k (Global g) = GlobalIs c g k None None
 FitsName c k (Scalar i) = slice_get c.scalars i ≡ Some (slot.Scalar k)
 FitsName c k (Array a) = ⊥
 
--- an array whose elements are of a type
-abbrev pub FitsWhole : Scope → Kind → Place → Type 0
-FitsWhole c k (Global g) = (n : ℕ) × GlobalIs c g k (Some n)
-FitsWhole c k (Scalar i) = slice_get c.scalars i ≡ Some (slot.Address k)
-FitsWhole c k (Array a) = ArrayIs c a k
+-- an array whose elements are of a type, with its second size if it has two
+abbrev pub FitsWhole : Scope → Kind → Option ℕ → Place → Type 0
+FitsWhole c k q (Global g) = (n : ℕ) × GlobalIs c g k (Some n) q
+FitsWhole c k q (Scalar i) = slice_get c.scalars i ≡ Some (slot.Address k q)
+FitsWhole c k q (Array a) = ArrayIs c a k q
 
 -- EXPRESSIONS
 
@@ -118,7 +125,12 @@ FitsNamed c d (Some k) p = (d < MOST_NEED) × FitsName c k p
 -- an element whose value is taken
 abbrev pub FitsElement : Scope → Option Kind → Place → Type 0
 FitsElement c None p = ⊥
-FitsElement c (Some k) p = FitsWhole c k p
+FitsElement c (Some k) p = FitsWhole c k None p
+
+-- an element by two indexes
+abbrev pub FitsRowElement : Scope → Option Kind → Place → Type 0
+FitsRowElement c None p = ⊥
+FitsRowElement c (Some k) p = (q : ℕ) × FitsWhole c k (Some q) p
 
 -- a call, where `args` says that the arguments fit some parameters, and `one` that they are one
 -- value
@@ -132,8 +144,9 @@ FitsCall c k callee.PutChar args one es = (k ≡ Some Int) × one
 -- an argument for a parameter, where `fits` says that it is an expression
 abbrev pub FitsArg : Scope → ℕ → Slot → Type 0 → Expr → Type 0
 FitsArg c d (slot.Scalar k) fits e = fits × (kind_of e ≡ Some k)
-FitsArg c d (slot.Address k) fits (Name j p) = (d < MOST_NEED) × (j ≡ Some k) × FitsWhole c k p
-FitsArg c d (slot.Address k) fits _ = ⊥
+FitsArg c d (slot.Address k q) fits (Name j p) =
+    (d < MOST_NEED) × (j ≡ Some k) × FitsWhole c k q p
+FitsArg c d (slot.Address k q) fits _ = ⊥
 
 -- the temporaries from d on
 abbrev mutual
@@ -141,6 +154,8 @@ abbrev mutual
   FitsExpr c d (Number k w) = FitsNumber d k w
   FitsExpr c d (Name k p) = FitsNamed c d k p
   FitsExpr c d (Element k p index) = FitsElement c k p × FitsExpr c d index
+  FitsExpr c d (RowElement k p row index) =
+      FitsRowElement c k p × FitsExpr c d row × FitsExpr c (suc d) index
   FitsExpr c d (Call k f args) =
       (d < MOST_NEED) × FitsCall c k f (λ slots. FitsArgs c d slots args) (FitsOne c d args) args
   FitsExpr c d (Unary k o e) = FitsExpr c d e × FitsKind k (FitsUnary o (kind_of e))
@@ -162,6 +177,8 @@ abbrev mutual
   pub FitsLeft : Scope → ℕ → Option Kind → Expr → Type 0
   FitsLeft c d k (Name j p) = (j ≡ k) × FitsNamed c d k p
   FitsLeft c d k (Element j p index) = (j ≡ k) × FitsElement c k p × FitsExpr c d index
+  FitsLeft c d k (RowElement j p row index) =
+      (j ≡ k) × FitsRowElement c k p × FitsExpr c d row × FitsExpr c (suc d) index
   FitsLeft c d k _ = ⊥
 
   -- the one argument of `putchar`
@@ -197,28 +214,39 @@ FitsReturn c None (Some e) = ⊥
 FitsReturn c (Some k) None = ⊥
 FitsReturn c (Some k) (Some e) = FitsExpr c 0 e × (kind_of e ≡ Some k)
 
+-- by what stands around a statement
 abbrev mutual
-  pub FitsStmt : Scope → Option Kind → Stmt → Type 0
-  FitsStmt c k (Declare p e) = FitsDeclare c p e
-  FitsStmt c k (Plain e) = FitsExprIf c e
-  FitsStmt c k (Compound all) = FitsStmts c k all
-  FitsStmt c k (If t one other) = FitsExpr c 0 t × FitsStmt c k one × FitsStmts c k other
-  FitsStmt c k (While t body) = FitsExpr c 0 t × FitsStmt c k body
-  FitsStmt c k (Do body t) = FitsStmt c k body × FitsExpr c 0 t
-  FitsStmt c k (For first test post body) =
-      FitsFirst c k first × FitsExprIf c test × FitsExprIf c post × FitsStmt c k body
-  FitsStmt c k Break = Unit {0}
-  FitsStmt c k Continue = Unit {0}
-  FitsStmt c k (Return e) = FitsReturn c k e
+  pub FitsStmt : Scope → Option Kind → Around → Stmt → Type 0
+  FitsStmt c k x (Declare p e) = FitsDeclare c p e
+  FitsStmt c k x (Plain e) = FitsExprIf c e
+  FitsStmt c k x (Compound all) = FitsStmts c k x all
+  FitsStmt c k x (If t one other) = FitsExpr c 0 t × FitsStmt c k x one × FitsStmts c k x other
+  FitsStmt c k x (While t body) = FitsExpr c 0 t × FitsStmt c k around.Loop body
+  FitsStmt c k x (Do body t) = FitsStmt c k around.Loop body × FitsExpr c 0 t
+  FitsStmt c k x (For first test post body) =
+      FitsFirst c k x first × FitsExprIf c test × FitsExprIf c post × FitsStmt c k around.Loop body
+  FitsStmt c k x (Switch t xs) =
+      FitsExpr c 0 t × FitsSections c k (in_switch x) (kind_of t) xs × (free_sections xs ≤ 1)
+      × (section_count xs < 2 ^ 64)
+  FitsStmt c k x Break = Unit {0}
+  FitsStmt c k x Continue = IsLooped x
+  FitsStmt c k x (Return e) = FitsReturn c k e
 
-  pub FitsStmts : Scope → Option Kind → Stmts → Type 0
-  FitsStmts c k NoStmts = Unit {0}
-  FitsStmts c k (WithStmt s rest) = FitsStmt c k s × FitsStmts c k rest
+  pub FitsStmts : Scope → Option Kind → Around → Stmts → Type 0
+  FitsStmts c k x NoStmts = Unit {0}
+  FitsStmts c k x (WithStmt s rest) = FitsStmt c k x s × FitsStmts c k x rest
 
-  pub FitsFirst : Scope → Option Kind → First → Type 0
-  FitsFirst c k Nothing = Unit {0}
-  FitsFirst c k (FirstOf e) = FitsExpr c 0 e
-  FitsFirst c k (Locals all) = FitsStmts c k all
+  -- each section has a label and a statement
+  pub FitsSections : Scope → Option Kind → Around → Option Kind → Sections → Type 0
+  FitsSections c k x j NoSections = Unit {0}
+  FitsSections c k x j (WithSection ls body rest) =
+      IsLabelled ls × FitsLabels j ls × IsFilled body × FitsStmts c k x body
+      × FitsSections c k x j rest
+
+  pub FitsFirst : Scope → Option Kind → Around → First → Type 0
+  FitsFirst c k x Nothing = Unit {0}
+  FitsFirst c k x (FirstOf e) = FitsExpr c 0 e
+  FitsFirst c k x (Locals all) = FitsStmts c k x all
 
 -- PROGRAMS
 
@@ -235,7 +263,7 @@ scope_of P f = record {
 pub record FitsFunc (P : Source) (f : Func) : Type 0 where
   pub scalars : length f.scalars ≤ MOST_SCALARS
   pub params : f.params ≤ length f.scalars
-  pub body : FitsStmt (scope_of P f) f.result f.body
+  pub body : FitsStmt (scope_of P f) f.result around.Nowhere f.body
 
 -- a global's values are words of its type, and no more than it has room for
 pub record FitsGlobal (g : TypedGlobal) : Type 0 where

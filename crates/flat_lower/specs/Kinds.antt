@@ -1,11 +1,13 @@
 -- The types in which operations are done.
 use Rattle.c_tree.specs.declared.Kind.{Kind}
-use Rattle.c_tree.specs.declared.Kind.TheVariants.{Char, UChar, Int, UInt, Long, ULong}
+use Rattle.c_tree.specs.declared.Kind.TheVariants.{Char, UChar, Short, UShort, Int, UInt, Long, ULong}
 
 -- the types in which operations are done
 abbrev pub IsArithmetic : Kind → Type 0
 IsArithmetic Char = ⊥
 IsArithmetic UChar = ⊥
+IsArithmetic Short = ⊥
+IsArithmetic UShort = ⊥
 IsArithmetic Int = Unit {0}
 IsArithmetic UInt = Unit {0}
 IsArithmetic Long = Unit {0}

@@ -4,6 +4,8 @@ use Rattle.std.specs.Prelude.{None, slice_get}
 use Rattle.c_tree.specs.declared.Kind.{Kind}
 use Rattle.c_tree.specs.declared.Place.{Place}
 use Rattle.c_tree.specs.declared.Place.TheVariants.{Global, Scalar, Array}
+use Rattle.c_tree.specs.declared.Slot.{Slot}
+use Rattle.c_tree.specs.declared.Slot.TheVariants as slot
 use Rattle.c_tree.specs.declared.TypedArray.{TypedArray}
 use Rattle.c_tree.specs.declared.TypedGlobal.{TypedGlobal}
 use Rattle.c_meaning_spec.specs.Task.{is_array}
@@ -20,6 +22,7 @@ use Rattle.flat_lower.specs.Operations.{temp, scratch, shift_of}
 -- what the code of a function needs to know
 pub record Context : Type 0 where
   pub globals : List TypedGlobal
+  pub scalars : List Slot
   pub arrays : List TypedArray
 
 -- a global takes whole words, a scalar too
@@ -39,6 +42,28 @@ global_at globals g = bytes_before (map global_bytes globals) g
 -- the place of a local array among the function's
 unfoldable pub array_at : List TypedArray → ℕ → ℕ
 array_at arrays a = bytes_before (map array_bytes arrays) a
+
+-- the second size of a global, if it is there and has two
+abbrev pub global_row : Option TypedGlobal → Option ℕ
+global_row None = None
+global_row (Some g) = g.row
+
+-- of the array that a parameter stands for
+abbrev pub slot_row : Option Slot → Option ℕ
+slot_row None = None
+slot_row (Some (slot.Scalar k)) = None
+slot_row (Some (slot.Address k q)) = q
+
+-- of a local array
+abbrev pub array_row : Option TypedArray → Option ℕ
+array_row None = None
+array_row (Some a) = a.row
+
+-- the second size of the array that a name stands for
+abbrev pub row_of : Context → Place → Option ℕ
+row_of c (Global g) = global_row (slice_get c.globals g)
+row_of c (Scalar i) = slot_row (slice_get c.scalars i)
+row_of c (Array a) = array_row (slice_get c.arrays a)
 
 -- an offset in a variable and the address of an object make an address
 abbrev pub based : Context → Place → ℕ → ℕ → Code

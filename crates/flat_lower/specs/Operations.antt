@@ -1,7 +1,7 @@
 -- The flat code of C's operations and conversions on words that variables hold.
 use Rattle.std.specs.Prelude.{ℕ, ◌+◌, Bool, true, false, cond, Option, Some, None}
 use Rattle.c_tree.specs.declared.Kind.{Kind}
-use Rattle.c_tree.specs.declared.Kind.TheVariants.{Char, UChar, Int, UInt, Long, ULong}
+use Rattle.c_tree.specs.declared.Kind.TheVariants.{Char, UChar, Short, UShort, Int, UInt, Long, ULong}
 use Rattle.c_tree.specs.declared.UnaryOp.{UnaryOp}
 use Rattle.c_tree.specs.declared.UnaryOp.TheVariants.{Plus, Minus, Complement, Not}
 use Rattle.c_tree.specs.declared.BumpOp.{BumpOp}
@@ -49,6 +49,8 @@ two_done to o x y = only (Let to o (Var x) (Var y))
 abbrev pub narrowing : Kind → Option Op
 narrowing Char = Some op.Extsb
 narrowing UChar = Some op.Extub
+narrowing Short = Some op.Extsh
+narrowing UShort = Some op.Extuh
 narrowing Int = Some op.Extsw
 narrowing UInt = Some op.Extuw
 narrowing Long = None
@@ -151,6 +153,8 @@ is_before PostDec = false
 abbrev pub load_op : Kind → Op
 load_op Char = op.Lbs
 load_op UChar = op.Lb
+load_op Short = op.Lhs
+load_op UShort = op.Lh
 load_op Int = op.Lws
 load_op UInt = op.Lw
 load_op Long = op.Ld
@@ -160,6 +164,8 @@ load_op ULong = op.Ld
 abbrev pub save_op : Kind → Op
 save_op Char = op.Sb
 save_op UChar = op.Sb
+save_op Short = op.Sh
+save_op UShort = op.Sh
 save_op Int = op.Sw
 save_op UInt = op.Sw
 save_op Long = op.Sd
@@ -169,6 +175,8 @@ save_op ULong = op.Sd
 abbrev pub shift_of : Kind → ℕ
 shift_of Char = 0
 shift_of UChar = 0
+shift_of Short = 1
+shift_of UShort = 1
 shift_of Int = 2
 shift_of UInt = 2
 shift_of Long = 3

@@ -5,7 +5,7 @@ use Rattle.flat_lower.specs.Tree.{Expr, Number, Name, Element, Call, Unary, Cast
 use Rattle.flat_lower.specs.Tree.{Binary, Choice, Assign, Comma, Exprs, NoExprs, WithExpr, Stmt}
 use Rattle.flat_lower.specs.Tree.{Declare, Plain, Compound, If, While, Do, For, Break, Continue}
 use Rattle.flat_lower.specs.Tree.{Return, Stmts, NoStmts, WithStmt, First, Nothing, FirstOf, Locals}
-use Rattle.flat_lower.specs.Tree.{Func, Source}
+use Rattle.flat_lower.specs.Tree.{Func, Source, RowElement, Switch, Sections, NoSections, WithSection}
 
 -- a conversion that typing adds costs nothing, and of a left side only an index counts
 abbrev mutual
@@ -14,6 +14,7 @@ abbrev mutual
   nodes (Number k w) = 1
   nodes (Name k p) = 1
   nodes (Element k p index) = 1 + nodes index
+  nodes (RowElement k p row index) = 1 + (nodes row + nodes index)
   nodes (Call k f args) = 2 + all_nodes args
   nodes (Unary k o e) = 1 + nodes e
   nodes (Cast k to e) = 1 + nodes e
@@ -27,6 +28,7 @@ abbrev mutual
   -- the nodes of the index of a left side
   pub left_nodes : Expr → ℕ
   left_nodes (Element k p index) = nodes index
+  left_nodes (RowElement k p row index) = nodes row + nodes index
   left_nodes _ = 0
 
   -- the nodes of all arguments
@@ -39,6 +41,11 @@ abbrev pub nodes_if : Option Expr → ℕ
 nodes_if None = 0
 nodes_if (Some e) = nodes e
 
+-- the labels of a section, of which each that is compared costs a step
+abbrev pub label_count : List (Option ℕ) → ℕ
+label_count [] = 0
+label_count (l ∷ ls) = 1 + label_count ls
+
 abbrev mutual
   -- the statements and nodes of a statement, those inside it too
   pub size_of : Stmt → ℕ
@@ -50,6 +57,7 @@ abbrev mutual
   size_of (Do body t) = 1 + (size_of body + nodes t)
   size_of (For first test post body) = 1 +
       (size_of_first first + (nodes_if test + (nodes_if post + size_of body)))
+  size_of (Switch t xs) = 1 + (nodes t + size_of_sections xs)
   size_of Break = 1
   size_of Continue = 1
   size_of (Return e) = 1 + nodes_if e
@@ -58,6 +66,12 @@ abbrev mutual
   pub size_of_all : Stmts → ℕ
   size_of_all NoStmts = 0
   size_of_all (WithStmt s rest) = size_of s + size_of_all rest
+
+  -- the size of all sections, with their labels
+  pub size_of_sections : Sections → ℕ
+  size_of_sections NoSections = 0
+  size_of_sections (WithSection ls body rest) =
+      label_count ls + (size_of_all body + size_of_sections rest)
 
   -- the size of the first part of a `for`
   pub size_of_first : First → ℕ

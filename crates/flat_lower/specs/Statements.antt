@@ -22,6 +22,10 @@ use Rattle.flat_lower.specs.TreeViews.{source_of}
 use Rattle.flat_lower.specs.Operations.{temp, set_word, copied}
 use Rattle.flat_lower.specs.Objects.{Context, global_bytes}
 use Rattle.flat_lower.specs.Expressions.{expr_code}
+use Rattle.flat_lower.specs.Switches.{in_switch, break_code, continue_code, section_code, switched_code}
+use Rattle.flat_lower.specs.declared.around.Around.{Around}
+use Rattle.flat_lower.specs.declared.around.Around.TheVariants as around
+use Rattle.flat_lower.specs.Tree.{Switch, Sections, NoSections, WithSection}
 
 -- STATEMENTS
 
@@ -92,31 +96,39 @@ abbrev pub do_code : Context → Expr → Code → Code
 do_code c t body = Then (set_word (temp 0) 1) (only (Loop (if_so body) (expr_code c 0 t)))
 
 abbrev mutual
-  -- the code of a statement
-  pub stmt_code : Context → Stmt → Code
-  stmt_code c (Declare p e) = declare_code c p e
-  stmt_code c (Plain e) = plain_if_code c e
-  stmt_code c (Compound all) = stmts_code c all
-  stmt_code c (If t one other) =
-      Then (expr_code c 0 t) (only (flat.If (Var (temp 0)) (stmt_code c one) (stmts_code c other)))
-  stmt_code c (While t body) = loop_code c (Some t) None (stmt_code c body)
-  stmt_code c (Do body t) = do_code c t (stmt_code c body)
-  stmt_code c (For first test post body) =
-      Then (first_code c first) (loop_code c test post (stmt_code c body))
-  stmt_code c Break = only flat.Break
-  stmt_code c Continue = only flat.Continue
-  stmt_code c (Return e) = return_code c e
+  -- the code of a statement, by what stands around it
+  pub stmt_code : Context → Around → Stmt → Code
+  stmt_code c a (Declare p e) = declare_code c p e
+  stmt_code c a (Plain e) = plain_if_code c e
+  stmt_code c a (Compound all) = stmts_code c a all
+  stmt_code c a (If t one other) =
+      Then (expr_code c 0 t) (only (flat.If (Var (temp 0)) (stmt_code c a one) (stmts_code c a other)))
+  stmt_code c a (While t body) = loop_code c (Some t) None (stmt_code c around.Loop body)
+  stmt_code c a (Do body t) = do_code c t (stmt_code c around.Loop body)
+  stmt_code c a (For first test post body) =
+      Then (first_code c a first) (loop_code c test post (stmt_code c around.Loop body))
+  stmt_code c a (Switch t xs) =
+      Then (expr_code c 0 t) (switched_code a xs (sections_code c (in_switch a) xs))
+  stmt_code c a Break = break_code a
+  stmt_code c a Continue = continue_code a
+  stmt_code c a (Return e) = return_code c e
 
   -- the code of statements, one after another
-  pub stmts_code : Context → Stmts → Code
-  stmts_code c NoStmts = Nop
-  stmts_code c (WithStmt s rest) = Then (stmt_code c s) (stmts_code c rest)
+  pub stmts_code : Context → Around → Stmts → Code
+  stmts_code c a NoStmts = Nop
+  stmts_code c a (WithStmt s rest) = Then (stmt_code c a s) (stmts_code c a rest)
+
+  -- the code of the sections of a switch, one after another
+  pub sections_code : Context → Around → Sections → Code
+  sections_code c a NoSections = Nop
+  sections_code c a (WithSection ls body rest) =
+      Then (section_code (stmts_code c a body)) (sections_code c a rest)
 
   -- the code of the first part of a `for`
-  pub first_code : Context → First → Code
-  first_code c Nothing = Nop
-  first_code c (FirstOf e) = expr_code c 0 e
-  first_code c (Locals all) = stmts_code c all
+  pub first_code : Context → Around → First → Code
+  first_code c a Nothing = Nop
+  first_code c a (FirstOf e) = expr_code c 0 e
+  first_code c a (Locals all) = stmts_code c a all
 
 -- FUNCTIONS
 
@@ -126,7 +138,7 @@ end_code is_main = cond is_main (only (flat.Return (Some (Const 0)))) Nop
 
 -- what the code of a function knows of objects
 abbrev pub context_of : List TypedGlobal → Func → Context
-context_of globals f = record { globals = globals; arrays = f.arrays }
+context_of globals f = record { globals = globals; scalars = f.scalars; arrays = f.arrays }
 
 -- the flat form of a function, which may be main
 abbrev pub lowered_func : List TypedGlobal → Bool → Func → Function
@@ -134,7 +146,7 @@ lowered_func globals is_main f = record {
   params = f.params;
   scalars = length f.scalars;
   arrays = all_bytes f.arrays;
-  body = Then (stmt_code (context_of globals f) f.body) (end_code is_main);
+  body = Then (stmt_code (context_of globals f) around.Nowhere f.body) (end_code is_main);
 }
 
 -- the functions from number n on

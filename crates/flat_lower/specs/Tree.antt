@@ -16,6 +16,7 @@ mutual
     Number : (k : Option Kind) (w : ℕ) → Expr
     Name : (k : Option Kind) (p : Place) → Expr
     Element : (k : Option Kind) (p : Place) (index : Expr) → Expr
+    RowElement : (k : Option Kind) (p : Place) (row index : Expr) → Expr
     Call : (k : Option Kind) (f : Callee) (args : Exprs) → Expr
     Unary : (k : Option Kind) (op : UnaryOp) (e : Expr) → Expr
     Cast : (k : Option Kind) (to : Kind) (e : Expr) → Expr
@@ -41,6 +42,7 @@ mutual
     While : (test : Expr) (body : Stmt) → Stmt
     Do : (body : Stmt) (test : Expr) → Stmt
     For : (first : First) (test post : Option Expr) (body : Stmt) → Stmt
+    Switch : (test : Expr) (sections : Sections) → Stmt
     Break : Stmt
     Continue : Stmt
     Return : (e : Option Expr) → Stmt
@@ -49,6 +51,11 @@ mutual
   pub data Stmts : Type 0 where
     NoStmts : Stmts
     WithStmt : (s : Stmt) (rest : Stmts) → Stmts
+
+  -- the sections of a switch, each with its labels, none for `default`, and its statements
+  pub data Sections : Type 0 where
+    NoSections : Sections
+    WithSection : (labels : List (Option ℕ)) (body : Stmts) (rest : Sections) → Sections
 
   -- the first part of a for
   pub data First : Type 0 where
@@ -75,6 +82,7 @@ abbrev pub kind_of : Expr → Option Kind
 kind_of (Number k w) = k
 kind_of (Name k p) = k
 kind_of (Element k p index) = k
+kind_of (RowElement k p row index) = k
 kind_of (Call k f args) = k
 kind_of (Unary k op e) = k
 kind_of (Cast k to e) = k

@@ -1,14 +1,15 @@
 -- The declared typed programs, seen as plain data.
-use Rattle.std.specs.Prelude.{List, [], ◌∷◌, map, Option, Some, None}
+use Rattle.std.specs.Prelude.{ℕ, List, [], ◌∷◌, map, Option, Some, None}
 use Rattle.c_tree.specs.declared.Kind.{Kind}
 use Rattle.c_tree.specs.declared.TypedExpr.{TypedExpr, TypedExpr-F, fold-TypedExpr}
 use Rattle.c_tree.specs.declared.TypedNode.TheOpen.{TypedNode-F}
 use Rattle.c_tree.specs.declared.TypedNode.TheOpen as node
 use Rattle.c_tree.specs.declared.TypedStmt.{TypedStmt, fold-TypedStmt}
-use Rattle.c_tree.specs.declared.TypedForInit.TheOpen.{TypedStmt-F, TypedForInit-F}
+use Rattle.c_tree.specs.declared.TypedForInit.TheOpen.{TypedStmt-F, TypedForInit-F, TypedSection-F}
 use Rattle.c_tree.specs.declared.TypedForInit.TheOpen as stmt
 use Rattle.c_tree.specs.declared.TypedFunc.{TypedFunc}
 use Rattle.c_tree.specs.declared.TypedProgram.{TypedProgram}
+use Rattle.flat_lower.specs.Tree.{RowElement, Switch, Sections, NoSections, WithSection}
 use Rattle.flat_lower.specs.Tree.{Expr, Number, Name, Element, Call, Unary, Cast, Convert, Bump}
 use Rattle.flat_lower.specs.Tree.{Binary, Choice, Assign, Comma, Exprs, NoExprs, WithExpr, Stmt}
 use Rattle.flat_lower.specs.Tree.{Declare, Plain, Compound, If, While, Do, For, Break, Continue}
@@ -28,7 +29,8 @@ Kindless = Option Kind → Expr
 abbrev pub node_by : TypedNode-F Kindless Expr → Kindless
 node_by (node.Number w) k = Number k w
 node_by (node.Name p) k = Name k p
-node_by (node.Element p index) k = Element k p index
+node_by (node.Element p None index) k = Element k p index
+node_by (node.Element p (Some row) index) k = RowElement k p row index
 node_by (node.Call f args) k = Call k f (exprs_of args)
 node_by (node.Unary op e) k = Unary k op e
 node_by (node.Cast to e) k = Cast k to e
@@ -62,8 +64,18 @@ abbrev pub stmts_if : Option Stmt → Stmts
 stmts_if None = NoStmts
 stmts_if (Some s) = WithStmt s NoStmts
 
--- one level of a statement and of the first part of a for
-abbrev pub stmt_by : TypedStmt-F First Stmt → Stmt
+-- a section of a switch
+pub record Section : Type 0 where
+  pub labels : List (Option ℕ)
+  pub body : Stmts
+
+-- sections as plain data
+abbrev pub sections_of : List Section → Sections
+sections_of [] = NoSections
+sections_of (x ∷ rest) = WithSection x.labels x.body (sections_of rest)
+
+-- one level of a statement, of the first part of a for and of a section
+abbrev pub stmt_by : TypedStmt-F First Stmt Section → Stmt
 stmt_by (stmt.Declare p init) = Declare p (expr_if init)
 stmt_by (stmt.Plain e) = Plain (expr_if e)
 stmt_by (stmt.Compound all) = Compound (stmts_of all)
@@ -71,19 +83,24 @@ stmt_by (stmt.If t one other) = If (expr_of t) one (stmts_if other)
 stmt_by (stmt.While t body) = While (expr_of t) body
 stmt_by (stmt.Do body t) = Do body (expr_of t)
 stmt_by (stmt.For first test post body) = For first (expr_if test) (expr_if post) body
+stmt_by (stmt.Switch i t xs) = Switch (expr_of t) (sections_of xs)
 stmt_by stmt.Break = Break
 stmt_by stmt.Continue = Continue
 stmt_by (stmt.Return e) = Return (expr_if e)
 
 -- the first part of a for from its open form
-abbrev pub first_by : TypedForInit-F First Stmt → First
+abbrev pub first_by : TypedForInit-F First Stmt Section → First
 first_by stmt.Nothing = Nothing
 first_by (stmt.First e) = FirstOf (expr_of e)
 first_by (stmt.Locals all) = Locals (stmts_of all)
 
+-- a section from its open form
+abbrev pub section_by : TypedSection-F First Stmt Section → Section
+section_by x = record { labels = x.labels; body = stmts_of x.body }
+
 -- a statement as plain data
 unfoldable pub stmt_of : TypedStmt → Stmt
-stmt_of s = fold-TypedStmt First Stmt first_by stmt_by s
+stmt_of s = fold-TypedStmt First Stmt Section first_by stmt_by section_by s
 
 -- a function as plain data
 abbrev pub func_of : TypedFunc → Func

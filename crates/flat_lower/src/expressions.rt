@@ -9,7 +9,7 @@ ghost use Rattle.flat_lower.specs.Tree as tree;
 ghost use Rattle.flat_lower.specs.TreeViews.{expr_of};
 ghost use Rattle.flat_lower.specs.Expressions as expressions;
 ghost use Rattle.flat_lower.specs.Expressions.{expr_code, args_code, index_code, temps};
-ghost use Rattle.flat_lower.specs.Expressions.{binary_end, operand_at, with_kind};
+ghost use Rattle.flat_lower.specs.Expressions.{binary_end, operand_at, with_kind, joined_code};
 ghost use Rattle.flat_lower.specs.Operations as operations;
 ghost use Rattle.flat_lower.specs.Operations.{set_word, unary_code, binary_code};
 ghost use Rattle.flat_lower.specs.Emitted.{Adds, args_of, side_in};
@@ -18,7 +18,7 @@ use crate::assignments::{put_after, put_before, right_at};
 use crate::bumping::put_bump;
 use crate::calling::put_callee;
 use crate::emit::{deeper, put_if, temp};
-use crate::names::{put_element, put_name};
+use crate::names::{put_element, put_joined, put_name};
 use crate::operations::{put_converted_here, put_word};
 use crate::places::Places;
 use crate::results::{put_binary_at, put_tested, put_unary_at, truth};
@@ -86,6 +86,50 @@ fn put_element_value(
     Ok(())
 }
 
+// Two indexes, which make one among all elements.
+#[cycle(value)]
+#[inline(never)]
+fn put_indexes(
+    code: &mut Items<FlatStmt>,
+    alloc: Global,
+    places: &Places,
+    d: u8,
+    array: Place,
+    row: &TypedExpr,
+    index: &TypedExpr,
+) -> Result<(), Memory>
+    ensures { OnOk result (Adds code.old code.new (joined_code places.now array d
+        (expr_code places.now d (expr_of row.now))
+        (expr_code places.now (suc d) (expr_of index.now)))) }
+{
+    put_value(code, alloc, places, d, row)?;
+    let second = deeper(d)?;
+    put_value(code, alloc, places, second, index)?;
+    put_joined(code, places, array, d, second)?;
+    Ok(())
+}
+
+// The value of an element after its two indexes.
+#[cycle(value)]
+#[inline(never)]
+fn put_row_element(
+    code: &mut Items<FlatStmt>,
+    alloc: Global,
+    places: &Places,
+    d: u8,
+    kind: Option<Kind>,
+    array: Place,
+    row: &TypedExpr,
+    index: &TypedExpr,
+) -> Result<(), Memory>
+    ensures { OnOk result (Adds code.old code.new (expr_code places.now d
+        (tree.RowElement kind array (expr_of row.now) (expr_of index.now)))) }
+{
+    put_indexes(code, alloc, places, d, array, row, index)?;
+    put_element(code, places, kind, array, d)?;
+    Ok(())
+}
+
 /// The arguments, each in a temporary of its own; gives those.
 #[cycle(value)]
 fn put_args(
@@ -129,7 +173,7 @@ fn put_called(
     Ok(())
 }
 
-/// The index of a left side, where it has one.
+/// The index of a left side, where it has one; two make one.
 #[cycle(value)]
 #[tactic(auto, using(crate::proofs::Emits::nothing))]
 fn put_index(
@@ -142,7 +186,10 @@ fn put_index(
     ensures { OnOk result (Adds code.old code.new (index_code places.now d (expr_of e.now))) }
 {
     match &e.node {
-        TypedNode::Element { index, .. } => put_value(code, alloc, places, d, index.get()),
+        TypedNode::Element { array, row, index } => match row {
+            None => put_value(code, alloc, places, d, index.get()),
+            Some(row) => put_indexes(code, alloc, places, d, *array, row.get(), index.get()),
+        },
         _ => Ok(()),
     }
 }
@@ -365,9 +412,21 @@ pub fn put_value(
     match &e.node {
         TypedNode::Number(w) => put_word(code, temp(d), *w),
         TypedNode::Name(place) => put_name(code, places, e.kind, *place, temp(d)),
-        TypedNode::Element { array, index } => {
-            put_element_value(code, alloc, places, d, e.kind, *array, index.get())
-        }
+        TypedNode::Element { array, row, index } => match row {
+            None => put_element_value(code, alloc, places, d, e.kind, *array, index.get()),
+            Some(row) => {
+                put_row_element(
+                    code,
+                    alloc,
+                    places,
+                    d,
+                    e.kind,
+                    *array,
+                    row.get(),
+                    index.get(),
+                )
+            }
+        },
         TypedNode::Call { function, args } => {
             put_called(code, alloc, places, d, e.kind, *function, args.as_slice())
         }

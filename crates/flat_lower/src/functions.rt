@@ -9,6 +9,7 @@ ghost use Rattle.flat_lower.specs.Objects.{global_bytes};
 ghost use Rattle.flat_lower.specs.Statements.{stmt_code, end_code, lowered_func, lowered_from};
 ghost use Rattle.flat_lower.specs.Emitted.{Adds, starts_from};
 
+use crate::around::Around;
 use crate::emit::put_return;
 use crate::places::Places;
 use crate::statements::put_stmt;
@@ -81,10 +82,10 @@ fn body_of(
     s: &TypedStmt,
 ) -> Result<Items<FlatStmt>, Memory>
     ensures { IfOk result (λ code.
-        code_of code ≡ Then (stmt_code places.now (stmt_of s.now)) (end_code is_main)) }
+        code_of code ≡ Then (stmt_code places.now Around.Nowhere (stmt_of s.now)) (end_code is_main)) }
 {
     let mut code = Items::new(alloc);
-    put_stmt(&mut code, alloc, places, s)?;
+    put_stmt(&mut code, alloc, places, Around::Nowhere, s)?;
     put_end(&mut code, is_main)?;
     Ok(code)
 }
@@ -119,7 +120,13 @@ fn lower_func(
     let scalars = scalars_of(f.scalars.len())?;
     let arrays = total_of(f.arrays.as_slice())?;
     let starts = starts_of(alloc, f.arrays.as_slice())?;
-    let places = Places::new(globals, addresses, f.arrays.as_slice(), starts.as_slice());
+    let places = Places::new(
+        globals,
+        addresses,
+        f.scalars.as_slice(),
+        f.arrays.as_slice(),
+        starts.as_slice(),
+    );
     let body = body_of(alloc, &places, is_main, &f.body)?;
     Ok(FlatFunc {
         params,

@@ -5,6 +5,7 @@
 #![tactic(auto)]
 
 mod addressing;
+mod around;
 mod assignments;
 mod bumping;
 mod calling;
@@ -22,5 +23,6 @@ mod results;
 mod side;
 mod sides;
 mod statements;
+mod switching;
 
 pub use lowering::lower;

@@ -1,18 +1,21 @@
 //! The flat code of names and elements.
 
-ghost use Rattle.std.specs.Prelude.{false, OnOk};
+ghost use Rattle.std.specs.Prelude.{◌≡◌, suc, Some, false, OnOk};
 ghost use Rattle.c_tree.specs.declared.Place.TheVariants.{Global, Scalar, Array};
 ghost use Rattle.flat_lower.specs.Operations as operations;
 ghost use Rattle.flat_lower.specs.Expressions.{with_kind, global_code, name_code, element_code};
+ghost use Rattle.flat_lower.specs.Expressions.{joined_by};
+ghost use Rattle.flat_lower.specs.Objects.{row_of};
 ghost use Rattle.flat_lower.specs.Emitted.{Adds};
 
 use crate::addressing::{put_address, put_whole};
-use crate::emit::{put_load, scalar, temp};
+use crate::emit::{put_let, put_load, scalar, temp};
 use crate::operations::{load_op, put_copy};
 use crate::places::Places;
 use base::{Items, Memory};
 use c_tree::{Kind, Place};
 use ir_forms::{Arg, FlatStmt};
+use trips_isa::Op;
 
 // The value of a global.
 fn put_global_value(
@@ -124,5 +127,45 @@ pub fn put_element(
     match kind {
         None => Ok(()),
         Some(kind) => put_element_of(code, places, array, d, kind),
+    }
+}
+
+// The index of a row's first element, and the index in the row, by the second size.
+fn put_joined_by(code: &mut Items<FlatStmt>, size: u32, d: u8, next: u8) -> Result<(), Memory>
+    requires { next ≡ suc d }
+    ensures { OnOk result (Adds code.old code.new (joined_by (Some size) d)) }
+{
+    put_let(
+        code,
+        temp(d),
+        Op::Mul,
+        Arg::Var(temp(d)),
+        Arg::Const(size as u64),
+    )?;
+    put_let(
+        code,
+        temp(d),
+        Op::Add,
+        Arg::Var(temp(d)),
+        Arg::Var(temp(next)),
+    )?;
+    Ok(())
+}
+
+/// The indexes in temporaries d and `next`, the one behind it, make one among all elements.
+#[tactic(auto, using(crate::proofs::Emits::nothing))]
+pub fn put_joined(
+    code: &mut Items<FlatStmt>,
+    places: &Places,
+    array: Place,
+    d: u8,
+    next: u8,
+) -> Result<(), Memory>
+    requires { next ≡ suc d }
+    ensures { OnOk result (Adds code.old code.new (joined_by (row_of places.now array) d)) }
+{
+    match places.row(array) {
+        None => Ok(()),
+        Some(size) => put_joined_by(code, size, d, next),
     }
 }

@@ -51,6 +51,8 @@ fn narrowing(kind: Kind) -> Option<Op>
     match kind {
         Kind::Char => Some(Op::Extsb),
         Kind::UChar => Some(Op::Extub),
+        Kind::Short => Some(Op::Extsh),
+        Kind::UShort => Some(Op::Extuh),
         Kind::Int => Some(Op::Extsw),
         Kind::UInt => Some(Op::Extuw),
         Kind::Long => None,
@@ -112,6 +114,8 @@ fn put_reduced(code: &mut Items<FlatStmt>, kind: Kind, x: u16) -> Result<(), Mem
         Kind::UInt => put_one(code, x, Op::Extuw, x),
         Kind::Char => Ok(()),
         Kind::UChar => Ok(()),
+        Kind::Short => Ok(()),
+        Kind::UShort => Ok(()),
         Kind::Int => Ok(()),
         Kind::Long => Ok(()),
         Kind::ULong => Ok(()),
@@ -125,6 +129,8 @@ fn by_sign(kind: Kind, signed: Op, unsigned: Op) -> Op
     match kind {
         Kind::Char => signed,
         Kind::UChar => unsigned,
+        Kind::Short => signed,
+        Kind::UShort => unsigned,
         Kind::Int => signed,
         Kind::UInt => unsigned,
         Kind::Long => signed,
@@ -242,6 +248,8 @@ fn bump_narrowing(kind: Kind) -> Option<Op>
         Kind::Int => None,
         Kind::Char => narrowing(kind),
         Kind::UChar => narrowing(kind),
+        Kind::Short => narrowing(kind),
+        Kind::UShort => narrowing(kind),
         Kind::UInt => narrowing(kind),
         Kind::Long => narrowing(kind),
         Kind::ULong => narrowing(kind),
@@ -282,6 +290,8 @@ pub fn load_op(kind: Kind) -> Op
     match kind {
         Kind::Char => Op::Lbs,
         Kind::UChar => Op::Lb,
+        Kind::Short => Op::Lhs,
+        Kind::UShort => Op::Lh,
         Kind::Int => Op::Lws,
         Kind::UInt => Op::Lw,
         Kind::Long => Op::Ld,
@@ -296,6 +306,8 @@ pub fn save_op(kind: Kind) -> Op
     match kind {
         Kind::Char => Op::Sb,
         Kind::UChar => Op::Sb,
+        Kind::Short => Op::Sh,
+        Kind::UShort => Op::Sh,
         Kind::Int => Op::Sw,
         Kind::UInt => Op::Sw,
         Kind::Long => Op::Sd,
@@ -310,6 +322,8 @@ pub fn shift_of(kind: Kind) -> u64
     match kind {
         Kind::Char => 0,
         Kind::UChar => 0,
+        Kind::Short => 1,
+        Kind::UShort => 1,
         Kind::Int => 2,
         Kind::UInt => 2,
         Kind::Long => 3,

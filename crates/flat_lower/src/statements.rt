@@ -11,17 +11,20 @@ ghost use Rattle.flat_lower.specs.Operations as operations;
 ghost use Rattle.flat_lower.specs.Expressions.{expr_code};
 ghost use Rattle.flat_lower.specs.Statements.{expr_if_code, declare_code, return_code, if_so};
 ghost use Rattle.flat_lower.specs.Statements.{turn_code, loop_code, do_code, stmt_code, stmts_code};
-ghost use Rattle.flat_lower.specs.Statements.{first_code};
-ghost use Rattle.flat_lower.specs.Emitted.{Adds, block_of, first_of, other_of};
+ghost use Rattle.flat_lower.specs.Statements.{first_code, sections_code};
+ghost use Rattle.flat_lower.specs.Switches.{section_code};
+ghost use Rattle.flat_lower.specs.Emitted.{Adds, block_of, first_of, other_of, sections_in};
 
-use crate::emit::{put_break, put_continue, put_if, put_return, scalar, temp};
+use crate::around::Around;
+use crate::emit::{put_if, put_return, scalar, temp};
 use crate::expressions::put_value;
 use crate::looping::{put_do, put_for, put_while};
 use crate::operations::put_copy;
 use crate::places::Places;
 use crate::plain::put_plain;
+use crate::switching::{in_switch, put_broken, put_continued, put_section_of, put_switched};
 use base::{Boxed, Items, Memory};
-use c_tree::{Place, TypedExpr, TypedForInit, TypedStmt};
+use c_tree::{Place, TypedExpr, TypedForInit, TypedSection, TypedStmt};
 use ir_forms::{Arg, FlatStmt};
 use std::alloc::Global;
 
@@ -130,23 +133,29 @@ fn put_stmts(
     code: &mut Items<FlatStmt>,
     alloc: Global,
     places: &Places,
+    around: Around,
     all: &[TypedStmt],
 ) -> Result<(), Memory>
-    ensures { OnOk result (Adds code.old code.new (stmts_code places.now (block_of all.now))) }
+    ensures { OnOk result (Adds code.old code.new (stmts_code places.now around (block_of all.now))) }
 {
     for s in all {
-        put_stmt(code, alloc, places, s)?;
+        put_stmt(code, alloc, places, around, s)?;
     }
     Ok(())
 }
 
 /// The code of a statement, on its own.
 #[cycle(stmt)]
-fn stmt(alloc: Global, places: &Places, s: &TypedStmt) -> Result<Items<FlatStmt>, Memory>
-    ensures { IfOk result (λ code. code_of code ≡ stmt_code places.now (stmt_of s.now)) }
+fn stmt(
+    alloc: Global,
+    places: &Places,
+    around: Around,
+    s: &TypedStmt,
+) -> Result<Items<FlatStmt>, Memory>
+    ensures { IfOk result (λ code. code_of code ≡ stmt_code places.now around (stmt_of s.now)) }
 {
     let mut code = Items::new(alloc);
-    put_stmt(&mut code, alloc, places, s)?;
+    put_stmt(&mut code, alloc, places, around, s)?;
     Ok(code)
 }
 
@@ -155,14 +164,15 @@ fn stmt(alloc: Global, places: &Places, s: &TypedStmt) -> Result<Items<FlatStmt>
 fn stmt_if(
     alloc: Global,
     places: &Places,
+    around: Around,
     s: &Option<Boxed<TypedStmt>>,
 ) -> Result<Items<FlatStmt>, Memory>
     ensures { IfOk result (λ code.
-        code_of code ≡ stmts_code places.now (other_of s.now)) }
+        code_of code ≡ stmts_code places.now around (other_of s.now)) }
 {
     match s {
         None => Ok(Items::new(alloc)),
-        Some(s) => stmt(alloc, places, s.get()),
+        Some(s) => stmt(alloc, places, around, s.get()),
     }
 }
 
@@ -172,16 +182,17 @@ fn put_choice(
     code: &mut Items<FlatStmt>,
     alloc: Global,
     places: &Places,
+    around: Around,
     test: &TypedExpr,
     yes: &TypedStmt,
     no: &Option<Boxed<TypedStmt>>,
 ) -> Result<(), Memory>
-    ensures { OnOk result (Adds code.old code.new (stmt_code places.now
+    ensures { OnOk result (Adds code.old code.new (stmt_code places.now around
         (tree.If (expr_of test.now) (stmt_of yes.now) (other_of no.now)))) }
 {
     put_value(code, alloc, places, 0, test)?;
-    let yes = stmt(alloc, places, yes)?;
-    let no = stmt_if(alloc, places, no)?;
+    let yes = stmt(alloc, places, around, yes)?;
+    let no = stmt_if(alloc, places, around, no)?;
     put_if(code, Arg::Var(temp(0)), yes, no)?;
     Ok(())
 }
@@ -195,10 +206,10 @@ fn put_while_loop(
     test: &TypedExpr,
     body: &TypedStmt,
 ) -> Result<(), Memory>
-    ensures { OnOk result (Adds code.old code.new (stmt_code places.now
+    ensures { OnOk result (Adds code.old code.new (stmt_code places.now Around.Loop
         (tree.While (expr_of test.now) (stmt_of body.now)))) }
 {
-    let body = stmt(alloc, places, body)?;
+    let body = stmt(alloc, places, Around::Loop, body)?;
     put_while(code, alloc, places, test, body)?;
     Ok(())
 }
@@ -212,10 +223,10 @@ fn put_do_loop(
     body: &TypedStmt,
     test: &TypedExpr,
 ) -> Result<(), Memory>
-    ensures { OnOk result (Adds code.old code.new (stmt_code places.now
+    ensures { OnOk result (Adds code.old code.new (stmt_code places.now Around.Loop
         (tree.Do (stmt_of body.now) (expr_of test.now)))) }
 {
-    let body = stmt(alloc, places, body)?;
+    let body = stmt(alloc, places, Around::Loop, body)?;
     put_do(code, alloc, places, test, body)?;
     Ok(())
 }
@@ -227,14 +238,15 @@ fn put_first(
     code: &mut Items<FlatStmt>,
     alloc: Global,
     places: &Places,
+    around: Around,
     first: &TypedForInit,
 ) -> Result<(), Memory>
-    ensures { OnOk result (Adds code.old code.new (first_code places.now (first_of first.now))) }
+    ensures { OnOk result (Adds code.old code.new (first_code places.now around (first_of first.now))) }
 {
     match first {
         TypedForInit::Nothing => Ok(()),
         TypedForInit::First(e) => put_value(code, alloc, places, 0, e),
-        TypedForInit::Locals(all) => put_stmts(code, alloc, places, all.as_slice()),
+        TypedForInit::Locals(all) => put_stmts(code, alloc, places, around, all.as_slice()),
     }
 }
 
@@ -244,17 +256,74 @@ fn put_for_loop(
     code: &mut Items<FlatStmt>,
     alloc: Global,
     places: &Places,
+    around: Around,
     first: &TypedForInit,
     test: &Option<TypedExpr>,
     post: &Option<TypedExpr>,
     body: &TypedStmt,
 ) -> Result<(), Memory>
-    ensures { OnOk result (Adds code.old code.new (stmt_code places.now (tree.For
+    ensures { OnOk result (Adds code.old code.new (stmt_code places.now around (tree.For
         (first_of first.now) (expr_if test.now) (expr_if post.now) (stmt_of body.now)))) }
 {
-    put_first(code, alloc, places, first)?;
-    let body = stmt(alloc, places, body)?;
+    put_first(code, alloc, places, around, first)?;
+    let body = stmt(alloc, places, Around::Loop, body)?;
     put_for(code, alloc, places, test, post, body)?;
+    Ok(())
+}
+
+// A section of a switch.
+#[cycle(stmt)]
+fn put_section(
+    code: &mut Items<FlatStmt>,
+    alloc: Global,
+    places: &Places,
+    around: Around,
+    all: &[TypedStmt],
+) -> Result<(), Memory>
+    ensures { OnOk result (Adds code.old code.new
+        (section_code (stmts_code places.now around (block_of all.now)))) }
+{
+    let mut body = Items::new(alloc);
+    put_stmts(&mut body, alloc, places, around, all)?;
+    put_section_of(code, alloc, body)?;
+    Ok(())
+}
+
+// The sections of a switch, one after another.
+#[cycle(stmt)]
+fn put_sections(
+    code: &mut Items<FlatStmt>,
+    alloc: Global,
+    places: &Places,
+    around: Around,
+    sections: &[TypedSection],
+) -> Result<(), Memory>
+    ensures { OnOk result (Adds code.old code.new
+        (sections_code places.now around (sections_in sections.now))) }
+{
+    for section in sections {
+        put_section(code, alloc, places, around, section.body.as_slice())?;
+    }
+    Ok(())
+}
+
+// A switch.
+#[cycle(stmt)]
+fn put_switch(
+    code: &mut Items<FlatStmt>,
+    alloc: Global,
+    places: &Places,
+    around: Around,
+    test: &TypedExpr,
+    sections: &[TypedSection],
+) -> Result<(), Memory>
+    ensures { OnOk result (Adds code.old code.new (stmt_code places.now around
+        (tree.Switch (expr_of test.now) (sections_in sections.now)))) }
+{
+    put_value(code, alloc, places, 0, test)?;
+    let mut body = Items::new(alloc);
+    put_sections(&mut body, alloc, places, in_switch(around), sections)?;
+    put_switched(code, alloc, around, sections, body)?;
     Ok(())
 }
 
@@ -264,15 +333,24 @@ pub fn put_stmt(
     code: &mut Items<FlatStmt>,
     alloc: Global,
     places: &Places,
+    around: Around,
     s: &TypedStmt,
 ) -> Result<(), Memory>
-    ensures { OnOk result (Adds code.old code.new (stmt_code places.now (stmt_of s.now))) }
+    ensures { OnOk result (Adds code.old code.new (stmt_code places.now around (stmt_of s.now))) }
 {
     match s {
         TypedStmt::Declare { place, init } => put_declared(code, alloc, places, *place, init),
         TypedStmt::Plain(e) => put_plain(code, alloc, places, e),
-        TypedStmt::Compound(all) => put_stmts(code, alloc, places, all.as_slice()),
-        TypedStmt::If { test, yes, no } => put_choice(code, alloc, places, test, yes.get(), no),
+        TypedStmt::Compound(all) => put_stmts(code, alloc, places, around, all.as_slice()),
+        TypedStmt::If { test, yes, no } => put_choice(
+            code,
+            alloc,
+            places,
+            around,
+            test,
+            yes.get(),
+            no,
+        ),
         TypedStmt::While { test, body } => { put_while_loop(code, alloc, places, test, body.get()) }
         TypedStmt::Do { body, test } => put_do_loop(code, alloc, places, body.get(), test),
         TypedStmt::For {
@@ -280,9 +358,14 @@ pub fn put_stmt(
             test,
             post,
             body,
-        } => put_for_loop(code, alloc, places, init, test, post, body.get()),
-        TypedStmt::Break => put_break(code),
-        TypedStmt::Continue => put_continue(code),
+        } => put_for_loop(code, alloc, places, around, init, test, post, body.get()),
+        TypedStmt::Switch {
+            scalar: _,
+            test,
+            sections,
+        } => put_switch(code, alloc, places, around, test, sections.as_slice()),
+        TypedStmt::Break => put_broken(code, around),
+        TypedStmt::Continue => put_continued(code, around),
         TypedStmt::Return(e) => put_returned(code, alloc, places, e),
     }
 }

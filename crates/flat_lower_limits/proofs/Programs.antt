@@ -13,6 +13,7 @@ use Rattle.ir_forms.specs.FlatFits.{FitsFunction}
 use Rattle.flat_lower.specs.Tree.{Func, Source}
 use Rattle.flat_lower.specs.Fits.{FitsFunc, FitsSource, scope_of}
 use Rattle.flat_lower.specs.Statements.{context_of, lowered_func, lowered_from, lowered}
+use Rattle.flat_lower.specs.declared.around.Around.TheVariants as around
 use Rattle.flat_lower_limits.specs.Jumps.{JumpsInLoops}
 use Rattle.flat_lower_limits.specs.Laws.{FitsOfAnyLength}
 use Rattle.flat_lower_limits.proofs.Fitting.{joined}
@@ -102,7 +103,7 @@ module _ (P : Source) (s : FitsSource P) where
         );
   }
 
-  func_fits : (f : Func) (b : Bool) → FitsFunc P f → f.params ≤ 8 → JumpsInLoops false f.body
+  func_fits : (f : Func) (b : Bool) → FitsFunc P f → f.params ≤ 8 → JumpsInLoops around.Nowhere f.body
       → FitsFunction functions (lowered_func P.globals b f)
   func_fits f b fits few jumps = record {
     scalars = fits.scalars;
@@ -110,7 +111,7 @@ module _ (P : Source) (s : FitsSource P) where
     few = few;
     words = arrays_are_words f.arrays;
     body = (joined (stmt_fits functions (scope_of P f) (all_bytes f.arrays) f.result
-        (context_of P.globals f) known (places P s f) false f.body fits.body jumps)
+        (context_of P.globals f) known (places P s f) around.Nowhere f.body fits.body jumps)
         (end_fits b)).fits;
   }
 

@@ -14,6 +14,7 @@ use Rattle.flat_lower.specs.Tree.{WithStmt, Func, Source}
 use Rattle.flat_lower.specs.Fits.{FitsFunc, FitsSource}
 use Rattle.flat_lower.specs.Statements.{lowered}
 use Rattle.flat_lower_limits.specs.Nodes.{expr_nodes, source_size}
+use Rattle.flat_lower.specs.declared.around.Around.TheVariants as around
 use Rattle.flat_lower_limits.specs.Jumps.{JumpsInLoops}
 use Rattle.flat_lower_limits.proofs.Whole.{lowered_fits}
 
@@ -31,11 +32,11 @@ added = refl
 -- JUMPS
 
 -- `while (1) if (1) break;`
-leaves : JumpsInLoops false (While (n 1) (If (n 1) Break NoStmts))
+leaves : JumpsInLoops around.Nowhere (While (n 1) (If (n 1) Break NoStmts))
 leaves = (refl, tt)
 
 -- a continue behind a loop
-stray : JumpsInLoops false (Compound (WithStmt (While (n 1) Break) (WithStmt Continue NoStmts))) → ⊥
+stray : JumpsInLoops around.Nowhere (Compound (WithStmt (While (n 1) Break) (WithStmt Continue NoStmts))) → ⊥
 stray h = false_is h.1.0
   where
     false_is : false ≡ true → ⊥
@@ -105,4 +106,4 @@ small_source = record {
 
 small_fits : FitsProgram (lowered small)
 small_fits = lowered_fits small small_source (lone (λ f. f.params ≤ 8) (omega arith))
-    (lone (λ f. JumpsInLoops false f.body) tt) (omega arith)
+    (lone (λ f. JumpsInLoops around.Nowhere f.body) tt) (omega arith)

@@ -1,6 +1,6 @@
 -- The code of a statement fits where its jumps stand in loops.
-use Rattle.std.proofs.Common.{◌≡◌, ℕ, Bool, true, false, List, length, Option, Some}
-use Rattle.std.proofs.Common.{None, refl, subst, arith}
+use Rattle.std.proofs.Common.{◌≡◌, ℕ, suc, ◌+◌, ◌^◌, ◌<◌, Bool, true, false, cond, List, [], ◌∷◌, length, Option}
+use Rattle.std.proofs.Common.{Some, None, refl, sym, subst, arith}
 use Rattle.std.proofs.lemmas.Option.{slice_get_within}
 use Rattle.c_tree.specs.declared.Kind.{Kind}
 use Rattle.c_tree.specs.declared.Place.{Place}
@@ -9,24 +9,32 @@ use Rattle.c_tree.specs.declared.Slot.TheVariants as slot
 use Rattle.trips_isa.specs.declared.op.Op.TheVariants as op
 use Rattle.ir_forms.specs.declared.flat.Arg.{Arg}
 use Rattle.ir_forms.specs.declared.flat.Arg.TheVariants.{Const, Var}
-use Rattle.ir_forms.specs.FlatCode.{Code, Nop, only, Function}
+use Rattle.ir_forms.specs.FlatCode.{Code, Nop, Then, only, Function}
 use Rattle.ir_forms.specs.FlatCode as flat
 use Rattle.ir_forms.specs.FlatFits.{FitsVar, FitsArg}
 use Rattle.flat_lower.specs.Tree.{Expr, Number, Name, Assign, Stmt, Declare, Plain, Compound, If, While, Do, For, Break}
 use Rattle.flat_lower.specs.Tree.{Continue, Return, Stmts, NoStmts, WithStmt, First, Nothing}
-use Rattle.flat_lower.specs.Tree.{FirstOf, Locals}
+use Rattle.flat_lower.specs.Tree.{FirstOf, Locals, Switch, Sections, NoSections, WithSection, kind_of}
+use Rattle.flat_lower.specs.declared.around.Around.{Around}
+use Rattle.flat_lower.specs.declared.around.Around.TheVariants as around
+use Rattle.flat_lower.specs.Switches.{in_switch, break_code, continue_code, behind_code, found_code}
+use Rattle.flat_lower.specs.Switches.{labels_code, compared_code, has_default, default_at, section_count}
+use Rattle.flat_lower.specs.Switches.{section_code, switched_code}
+use Rattle.flat_lower.specs.FitsSwitches.{IsLooped, FitsLabels}
 use Rattle.flat_lower.specs.Fits.{Scope, FitsExpr, FitsExprIf, FitsDeclare, FitsReturn, FitsStmt}
-use Rattle.flat_lower.specs.Fits.{FitsStmts, FitsFirst}
-use Rattle.flat_lower.specs.Operations.{temp}
+use Rattle.flat_lower.specs.Fits.{FitsStmts, FitsSections, FitsFirst}
+use Rattle.flat_lower.specs.Operations.{temp, scratch, set_word}
 use Rattle.flat_lower.specs.Objects.{Context}
 use Rattle.flat_lower.specs.Expressions.{right_at, expr_code}
 use Rattle.flat_lower.specs.Statements.{expr_if_code, declare_code, return_code, if_so, turn_code}
 use Rattle.flat_lower.specs.Statements.{loop_code, do_code, stmt_code, stmts_code, first_code}
+use Rattle.flat_lower.specs.Statements.{sections_code}
 use Rattle.flat_lower.specs.Statements.{end_code, named_scalar, simple_arg, plain_code, plain_if_code}
 use Rattle.flat_lower.proofs.PlainEnds.{either_way}
 use Rattle.flat_lower_limits.specs.Jumps.{JumpsInLoops, AllJumpsInLoops, FirstJumpsInLoops}
+use Rattle.flat_lower_limits.specs.Jumps.{IsLeft, SectionsJumpInLoops}
 use Rattle.flat_lower_limits.proofs.Fitting.{Fitting, nothing_fits, single_fits, let_fits, if_fits, loop_fits, joined}
-use Rattle.flat_lower_limits.proofs.Fitting.{scalar_fits, temp_fits}
+use Rattle.flat_lower_limits.proofs.Fitting.{scalar_fits, temp_fits, scratch_fits}
 use Rattle.flat_lower_limits.proofs.Operations.{word_fits, copied_fits}
 use Rattle.flat_lower_limits.proofs.Places.{HasPlaces, FitsSide}
 use Rattle.flat_lower_limits.proofs.Expressions.{Callable, name_place, side_place, expr_fits}
@@ -124,34 +132,133 @@ module _ (fs : List Function) (c : Scope) (bytes : ℕ) (k : Option Kind) (x : C
   do_code_fits i t body h p = joined (word_fits (temp 0) 1 first_temp (omega arith))
       (loop_fits (if_so body) (expr_code x 0 t) (if_so_fits body p) (value false 0 t h))
 
+  -- SWITCHES
+
+  -- whether what stands around a statement is a loop of the flat form
+  abbrev pub inside : Around → Bool
+  inside around.Nowhere = false
+  inside around.Loop = true
+  inside around.Switch = true
+  inside around.SwitchInLoop = true
+
+  in_switch_is : (a : Around) → inside (in_switch a) ≡ true
+  in_switch_is around.Nowhere = refl
+  in_switch_is around.Loop = refl
+  in_switch_is around.Switch = refl
+  in_switch_is around.SwitchInLoop = refl
+
+  found_fits : (m : ℕ) → m < 2 ^ 64 → Fits true (found_code m)
+  found_fits m h = joined (word_fits (temp 0) m first_temp h) (single_fits flat.Break refl)
+
+  break_fits : (a : Around) → IsLeft a → Fits (inside a) (break_code a)
+  break_fits around.Nowhere h = absurd h
+  break_fits around.Loop h = single_fits flat.Break refl
+  break_fits around.Switch h = single_fits flat.Break refl
+  break_fits around.SwitchInLoop h = found_fits 0 (omega arith)
+
+  continue_fits : (a : Around) → IsLooped a → Fits (inside a) (continue_code a)
+  continue_fits around.Nowhere h = absurd h
+  continue_fits around.Loop h = single_fits flat.Continue refl
+  continue_fits around.Switch h = absurd h
+  continue_fits around.SwitchInLoop h = found_fits 1 (omega arith)
+
+  behind_fits : (a : Around) → Fits (inside a) (behind_code a)
+  behind_fits around.Nowhere = nothing_fits
+  behind_fits around.Loop = if_fits (Var (temp 0)) (continue_code around.Loop) Nop first_temp
+      (continue_fits around.Loop tt) nothing_fits
+  behind_fits around.Switch = nothing_fits
+  behind_fits around.SwitchInLoop = if_fits (Var (temp 0)) (continue_code around.SwitchInLoop) Nop first_temp
+      (continue_fits around.SwitchInLoop tt) nothing_fits
+
+  first_scratch : FitsVar (length c.scalars) (scratch 0)
+  first_scratch = scratch_fits (length c.scalars) 0 (omega arith)
+
+  labels_fit : (j : Option Kind) (m : ℕ) (ls : List (Option ℕ)) → m < 2 ^ 64 → FitsLabels j ls
+      → Fits true (labels_code m ls)
+  labels_fit j m [] h t = nothing_fits
+  labels_fit j m (None ∷ ls) h t = labels_fit j m ls h t.1
+  labels_fit None m (Some w ∷ ls) h t = absurd t.0
+  labels_fit (Some j) m (Some w ∷ ls) h t =
+      joined (joined (let_fits (scratch 0) op.Teq (Var (temp 0)) (Const w) refl first_scratch first_temp t.0.below)
+      (if_fits (Var (scratch 0)) (found_code m) Nop first_scratch (found_fits m h) nothing_fits))
+      (labels_fit (Some j) m ls h t.1)
+
+  compared_fits : (a : Around) (j : Option Kind) (m : ℕ) (xs : Sections) → m + section_count xs < 2 ^ 64
+      → FitsSections c k a j xs → Fits true (compared_code m xs)
+  compared_fits a j m NoSections h t = nothing_fits
+  compared_fits a j m (WithSection ls body rest) h t =
+      joined (labels_fit j m ls (omega arith) t.1) (compared_fits a j (suc m) rest (omega arith) t.4)
+
+  default_below : (m o : ℕ) (xs : Sections) → m + section_count xs < 2 ^ 64 → o < 2 ^ 64
+      → default_at m o xs < 2 ^ 64
+  default_below m o NoSections h g = g
+  default_below m o (WithSection ls body rest) h g =
+      default_below (suc m) (cond (has_default ls) m o) rest (omega arith) (by_default (has_default ls))
+    where
+      by_default : (b : Bool) → cond b m o < 2 ^ 64
+      by_default true = omega arith
+      by_default false = g
+
+  -- a switch whose sections fit
+  switched_fits : (a : Around) (j : Option Kind) (xs : Sections) (body : Code) → section_count xs < 2 ^ 64
+      → FitsSections c k (in_switch a) j xs → Fits true body → Fits (inside a) (switched_code a xs body)
+  switched_fits a j xs body h t p =
+      joined (loop_fits (Then (compared_code 0 xs) (found_code (default_at 0 (section_count xs) xs))) Nop
+      (joined (compared_fits (in_switch a) j 0 xs (omega arith) t)
+      (found_fits (default_at 0 (section_count xs) xs) (default_below 0 (section_count xs) xs (omega arith) h)))
+      nothing_fits)
+      (joined (loop_fits (Then body (only flat.Break)) Nop (joined p (single_fits flat.Break refl)) nothing_fits)
+      (behind_fits a))
+
+  -- a section whose statements fit
+  section_fits : (body : Code) → Fits true body → Fits true (section_code body)
+  section_fits body p =
+      if_fits (Var (temp 0)) (only (flat.Let (temp 0) op.Sub (Var (temp 0)) (Const 1)))
+      (Then body (set_word (temp 0) 0)) first_temp
+      (let_fits (temp 0) op.Sub (Var (temp 0)) (Const 1) refl first_temp first_temp (omega arith))
+      (joined p (word_fits (temp 0) 0 first_temp (omega arith)))
+
   -- STATEMENTS
 
   mutual
-    pub stmt_fits : (i : Bool) (s : Stmt) → FitsStmt c k s → JumpsInLoops i s
-        → Fits i (stmt_code x s)
-    stmt_fits i (Declare p e) t j = declare_fits i p e t
-    stmt_fits i (Plain e) t j = plain_if_fits i e t
-    stmt_fits i (Compound all) t j = stmts_fit i all t j
-    stmt_fits i (If e one other) t j = joined (value i 0 e t.0)
-        (if_fits (Var (temp 0)) (stmt_code x one) (stmts_code x other) first_temp
-        (stmt_fits i one t.1 j.0) (stmts_fit i other t.2 j.1))
-    stmt_fits i (While e body) t j = loop_code_fits i (Some e) None (stmt_code x body) t.0 tt
-        (stmt_fits true body t.1 j)
-    stmt_fits i (Do body e) t j = do_code_fits i e (stmt_code x body) t.1
-        (stmt_fits true body t.0 j)
-    stmt_fits i (For first test post body) t j = joined (first_fits i first t.0 j.0)
-        (loop_code_fits i test post (stmt_code x body) t.1 t.2 (stmt_fits true body t.3 j.1))
-    stmt_fits i Break t j = single_fits flat.Break j
-    stmt_fits i Continue t j = single_fits flat.Continue j
-    stmt_fits i (Return e) t j = return_fits i k e t
+    pub stmt_fits : (a : Around) (s : Stmt) → FitsStmt c k a s → JumpsInLoops a s
+        → Fits (inside a) (stmt_code x a s)
+    stmt_fits a (Declare p e) t j = declare_fits (inside a) p e t
+    stmt_fits a (Plain e) t j = plain_if_fits (inside a) e t
+    stmt_fits a (Compound all) t j = stmts_fit a all t j
+    stmt_fits a (If e one other) t j = joined (value (inside a) 0 e t.0)
+        (if_fits (Var (temp 0)) (stmt_code x a one) (stmts_code x a other) first_temp
+        (stmt_fits a one t.1 j.0) (stmts_fit a other t.2 j.1))
+    stmt_fits a (While e body) t j = loop_code_fits (inside a) (Some e) None (stmt_code x around.Loop body) t.0 tt
+        (stmt_fits around.Loop body t.1 j)
+    stmt_fits a (Do body e) t j = do_code_fits (inside a) e (stmt_code x around.Loop body) t.1
+        (stmt_fits around.Loop body t.0 j)
+    stmt_fits a (For first test post body) t j = joined (first_fits a first t.0 j.0)
+        (loop_code_fits (inside a) test post (stmt_code x around.Loop body) t.1 t.2
+        (stmt_fits around.Loop body t.3 j.1))
+    stmt_fits a (Switch e xs) t j = joined (value (inside a) 0 e t.0)
+        (switched_fits a (kind_of e) xs (sections_code x (in_switch a) xs) t.3 t.1
+        (subst (λ i. Fits i (sections_code x (in_switch a) xs)) (in_switch_is a)
+        (sections_fit (in_switch a) (in_switch_is a) (kind_of e) xs t.1 j)))
+    stmt_fits a Break t j = break_fits a j
+    stmt_fits a Continue t j = continue_fits a j
+    stmt_fits a (Return e) t j = return_fits (inside a) k e t
 
-    stmts_fit : (i : Bool) (all : Stmts) → FitsStmts c k all → AllJumpsInLoops i all
-        → Fits i (stmts_code x all)
-    stmts_fit i NoStmts t j = nothing_fits
-    stmts_fit i (WithStmt s rest) t j = joined (stmt_fits i s t.0 j.0) (stmts_fit i rest t.1 j.1)
+    stmts_fit : (a : Around) (all : Stmts) → FitsStmts c k a all → AllJumpsInLoops a all
+        → Fits (inside a) (stmts_code x a all)
+    stmts_fit a NoStmts t j = nothing_fits
+    stmts_fit a (WithStmt s rest) t j = joined (stmt_fits a s t.0 j.0) (stmts_fit a rest t.1 j.1)
 
-    first_fits : (i : Bool) (first : First) → FitsFirst c k first → FirstJumpsInLoops i first
-        → Fits i (first_code x first)
-    first_fits i Nothing t j = nothing_fits
-    first_fits i (FirstOf e) t j = value i 0 e t
-    first_fits i (Locals all) t j = stmts_fit i all t j
+    sections_fit : (a : Around) → inside a ≡ true → (j : Option Kind) (xs : Sections)
+        → FitsSections c k a j xs → SectionsJumpInLoops a xs → Fits (inside a) (sections_code x a xs)
+    sections_fit a e q NoSections t j = nothing_fits
+    sections_fit a e q (WithSection ls body rest) t j =
+        joined (subst (λ i. Fits i (section_code (stmts_code x a body))) (sym e)
+        (section_fits (stmts_code x a body) (subst (λ i. Fits i (stmts_code x a body)) e
+        (stmts_fit a body t.3 j.0)))) (sections_fit a e q rest t.4 j.1)
+
+    first_fits : (a : Around) (first : First) → FitsFirst c k a first → FirstJumpsInLoops a first
+        → Fits (inside a) (first_code x a first)
+    first_fits a Nothing t j = nothing_fits
+    first_fits a (FirstOf e) t j = value (inside a) 0 e t
+    first_fits a (Locals all) t j = stmts_fit a all t j

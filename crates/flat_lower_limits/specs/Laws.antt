@@ -10,6 +10,7 @@ use Rattle.flat_lower.specs.Tree.{Func, Source}
 use Rattle.flat_lower.specs.Fits.{FitsSource}
 use Rattle.flat_lower.specs.Statements.{lowered}
 use Rattle.flat_lower_limits.specs.Nodes.{source_size}
+use Rattle.flat_lower.specs.declared.around.Around.TheVariants as around
 use Rattle.flat_lower_limits.specs.Jumps.{JumpsInLoops}
 
 -- each function has no more parameters than it may have, as many as a call has registers for
@@ -19,7 +20,7 @@ FewParams P = (n : ℕ) (f : Func) → slice_get P.functions n ≡ Some f → f.
 -- each function's jumps stand in its loops
 abbrev pub PlacedJumps : Source → Type 0
 PlacedJumps P =
-    (n : ℕ) (f : Func) → slice_get P.functions n ≡ Some f → JumpsInLoops false f.body
+    (n : ℕ) (f : Func) → slice_get P.functions n ≡ Some f → JumpsInLoops around.Nowhere f.body
 
 -- a fitting program but for its length, each part named as there
 pub record FitsButLength (P : Program) : Type 0 where

@@ -22,6 +22,7 @@ fn program(alloc: Global, w: u64) -> Result<TypedProgram, Memory> {
     globals.push(TypedGlobal {
         kind: Kind::Int,
         length: Some(3),
+        row: None,
         init,
     })?;
     let value = TypedExpr {

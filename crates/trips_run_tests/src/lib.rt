@@ -10,6 +10,8 @@ mod eval_tests;
 #[cfg(test)]
 mod run_tests;
 #[cfg(test)]
+mod switch_tests;
+#[cfg(test)]
 mod tables;
 #[cfg(test)]
 mod token_tests;

@@ -11,6 +11,8 @@ const TYPES: &[&str] = &[
     "char",
     "signed char",
     "unsigned char",
+    "short",
+    "unsigned short",
     "int",
     "unsigned int",
     "long",

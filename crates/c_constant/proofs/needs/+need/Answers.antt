@@ -2,6 +2,9 @@ use Rattle.std.proofs.Common.{arith}
 use Rattle.c_constant.proofs.Nodes.{needs-Number, needs-Name, needs-Element, needs-Call}
 use Rattle.c_constant.proofs.Nodes.{needs-Unary, needs-Bump, needs-Binary, needs-Choice}
 use Rattle.c_constant.proofs.Nodes.{needs-Assign, needs-Comma, needs-Cast, needs-Group}
+use Rattle.std.specs.Prelude.{option_map}
+use Rattle.c_constant.specs.Need.{need}
+use Rattle.c_constant.proofs.Capped.{indexes_capped}
 use Rattle.c_constant.proofs.needs.+need.Goals as goal
 
 pub counted_need-returns-in-Number : goal.counted_need-returns-in-Number
@@ -33,7 +36,8 @@ counted_need-returns-in-Name t c = let h = needs-Name c.args.e.now c.in-Name.fie
 
 pub counted_need-returns-in-Element : goal.counted_need-returns-in-Element
 counted_need-returns-in-Element t c =
-    let h = needs-Element c.args.e.now c.in-Element.array c.in-Element.index c.in-Element.is in grind (arith, h)
+    let h = needs-Element c.args.e.now c.in-Element.array c.in-Element.row c.in-Element.index c.in-Element.is in
+    let k = indexes_capped (option_map need c.in-Element.row) (need c.in-Element.index) in grind (arith, h, k)
 
 pub counted_need-returns-in-Call : goal.counted_need-returns-in-Call
 counted_need-returns-in-Call t c =

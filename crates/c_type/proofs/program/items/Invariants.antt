@@ -1,4 +1,5 @@
-use Rattle.std.proofs.Common.{◌≡◌, length}
+use Rattle.std.proofs.Common.{◌≡◌, true, length}
+use Rattle.c_type.specs.States.{some_block}
 use Rattle.c_type.specs.Programs.{items_fault, items_after, empty_file}
 use Rattle.c_type.proofs.program.items.Given as goal
 
@@ -6,6 +7,7 @@ abbrev pub invariant-loop-top : goal.invariant-loop-top
 invariant-loop-top l = record {
   same_fault : items_fault l.table l.fn.tops empty_file ≡ items_fault l.table l.rest l.file;
   same_after : items_after l.table l.fn.tops empty_file ≡ items_after l.table l.rest l.file;
+  some : some_block l.file.names ≡ true;
 }
 
 abbrev pub decreases-loop-top : goal.decreases-loop-top

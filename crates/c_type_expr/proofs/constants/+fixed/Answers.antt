@@ -37,7 +37,7 @@ not_fixed-returns-in-Name t c =
 
 pub not_fixed-returns-in-Element : goal.not_fixed-returns-in-Element
 not_fixed-returns-in-Element t c =
-    let h = fixed-Element c.args.e.now c.args.scope.now c.in-Element.array c.in-Element.index c.in-Element.is in
+    let h = fixed-Element c.args.e.now c.args.scope.now c.in-Element.array c.in-Element.row c.in-Element.index c.in-Element.is in
     grind (arith, h)
 
 pub not_fixed-returns-in-Call : goal.not_fixed-returns-in-Call

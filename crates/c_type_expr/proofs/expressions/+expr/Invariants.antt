@@ -2,7 +2,7 @@ use Rattle.std.proofs.Common.{◌≡◌, ◌+◌, ◌*◌, ◌≤◌, ◌++◌, 
 use Rattle.c_tree.specs.declared.tree.Expr.{size-Expr}
 use Rattle.c_type_expr.specs.Faults.{args_fault}
 use Rattle.c_type_expr.specs.Trees.{args_tree}
-use Rattle.c_type_expr.proofs.Nodes.{deepest}
+use Rattle.c_type_expr.proofs.Nodes.{deepest, row_size}
 use Rattle.c_type_expr.proofs.expressions.+expr.Given as goal
 
 abbrev pub decreases-operand : goal.decreases-operand
@@ -19,6 +19,12 @@ decreases-call l = 5 * deepest l.args + 3
 
 abbrev pub decreases-element : goal.decreases-element
 decreases-element l = 5 * size-Expr l.index + 2
+
+abbrev pub decreases-row_element : goal.decreases-row_element
+decreases-row_element l = 5 * max (size-Expr l.row) (size-Expr l.index) + 2
+
+abbrev pub decreases-element_of : goal.decreases-element_of
+decreases-element_of l = 5 * max (row_size l.row) (size-Expr l.index) + 3
 
 abbrev pub decreases-unary : goal.decreases-unary
 decreases-unary l = 5 * size-Expr l.e + 2

@@ -5,7 +5,8 @@ use Rattle.flat_lower.specs.Expressions.{expr_code, index_code}
 use Rattle.flat_lower.proofs.Emits.{two, turned, nothing}
 use Rattle.flat_lower.proofs.EmitTrees.{expr-Number, expr-Name, expr-Element, expr-Call, expr-Unary}
 use Rattle.flat_lower.proofs.EmitTrees.{expr-Cast, expr-Convert, expr-Bump, expr-Binary}
-use Rattle.flat_lower.proofs.EmitTrees.{expr-Choice}
+use Rattle.flat_lower.proofs.EmitTrees.{expr-Choice, expr-RowElement}
+use Rattle.c_tree.specs.declared.TypedNode.TheVariants as node
 use Rattle.flat_lower.proofs.EmitTrees.{expr-Assign, expr-Comma}
 use Rattle.flat_lower.proofs.EmitSides.{no_index, bumps, assigns}
 use Rattle.flat_lower.proofs.EmitWeights.{nodes}
@@ -58,14 +59,38 @@ put_assignment-returns t c =
 
 pub put_index-put_value-requires : goal.put_index-put_value-requires
 put_index-put_value-requires t c =
-    let n = ap nodes (expr-Element c.args.e.now c.in-Element.array c.in-Element.index c.in-Element.is) in
+    let n = ap nodes (expr-Element c.args.e.now c.in-Element.array c.in-Element.index
+    (c.in-Element.is ∙ ap (λ r. node.Element c.in-Element.array r c.in-Element.index) c.in-None.is)) in
     (grind (arith, n, c.decreases), tt)
 
-pub put_index-returns-in-Element : goal.put_index-returns-in-Element
-put_index-returns-in-Element t c =
+pub put_index-put_indexes-requires : goal.put_index-put_indexes-requires
+put_index-put_indexes-requires t c =
+    let n = ap nodes (expr-RowElement c.args.e.now c.in-Element.array c.in-Some.row c.in-Element.index
+    (c.in-Element.is ∙ ap (λ r. node.Element c.in-Element.array r c.in-Element.index) c.in-Some.is)) in
+    (grind (arith, n, c.decreases), tt)
+
+pub put_index-returns-in-None : goal.put_index-returns-in-None
+put_index-returns-in-None t c =
     let h = ap (index_code c.args.places.now c.args.d) (expr-Element c.args.e.now c.in-Element.array
-    c.in-Element.index c.in-Element.is) in
+    c.in-Element.index
+    (c.in-Element.is ∙ ap (λ r. node.Element c.in-Element.array r c.in-Element.index) c.in-None.is)) in
     grind (arith, h)
+
+pub put_index-returns-in-Some : goal.put_index-returns-in-Some
+put_index-returns-in-Some t c =
+    let h = ap (index_code c.args.places.now c.args.d) (expr-RowElement c.args.e.now c.in-Element.array
+    c.in-Some.row c.in-Element.index
+    (c.in-Element.is ∙ ap (λ r. node.Element c.in-Element.array r c.in-Element.index) c.in-Some.is)) in
+    grind (arith, h)
+
+pub put_indexes-returns : goal.put_indexes-returns
+put_indexes-returns t c =
+    let h = two c.in_ok-put_value.ensures (two c.in_ok-put_value-2.ensures c.in_ok-put_joined.ensures) in
+    grind (arith, h)
+
+pub put_row_element-returns : goal.put_row_element-returns
+put_row_element-returns t c = let h = two c.in_ok-put_indexes.ensures c.in_ok-put_element.ensures in grind
+    (arith, h)
 
 pub put_index-returns-in_default : goal.put_index-returns-in_default
 put_index-returns-in_default t c =
@@ -119,13 +144,28 @@ put_value-returns-in-Name t c =
 
 pub put_value-put_element_value-requires : goal.put_value-put_element_value-requires
 put_value-put_element_value-requires t c =
-    let n = ap nodes (expr-Element c.args.e.now c.in-Element.array c.in-Element.index c.in-Element.is) in
+    let n = ap nodes (expr-Element c.args.e.now c.in-Element.array c.in-Element.index
+    (c.in-Element.is ∙ ap (λ r. node.Element c.in-Element.array r c.in-Element.index) c.in-None.is)) in
     (grind (arith, n, c.decreases), tt)
 
-pub put_value-returns-in-Element : goal.put_value-returns-in-Element
-put_value-returns-in-Element t c =
+pub put_value-returns-in-None : goal.put_value-returns-in-None
+put_value-returns-in-None t c =
     let h = ap (expr_code c.args.places.now c.args.d) (expr-Element c.args.e.now c.in-Element.array
-    c.in-Element.index c.in-Element.is) in
+    c.in-Element.index
+    (c.in-Element.is ∙ ap (λ r. node.Element c.in-Element.array r c.in-Element.index) c.in-None.is)) in
+    grind (arith, h)
+
+pub put_value-put_row_element-requires : goal.put_value-put_row_element-requires
+put_value-put_row_element-requires t c =
+    let n = ap nodes (expr-RowElement c.args.e.now c.in-Element.array c.in-Some.row c.in-Element.index
+    (c.in-Element.is ∙ ap (λ r. node.Element c.in-Element.array r c.in-Element.index) c.in-Some.is)) in
+    (grind (arith, n, c.decreases), tt)
+
+pub put_value-returns-in-Some : goal.put_value-returns-in-Some
+put_value-returns-in-Some t c =
+    let h = ap (expr_code c.args.places.now c.args.d) (expr-RowElement c.args.e.now c.in-Element.array
+    c.in-Some.row c.in-Element.index
+    (c.in-Element.is ∙ ap (λ r. node.Element c.in-Element.array r c.in-Element.index) c.in-Some.is)) in
     grind (arith, h)
 
 pub put_value-put_called-requires : goal.put_value-put_called-requires

@@ -60,3 +60,9 @@ decreases-put_comma l = 8 * (count l.left.now + count l.right.now) + 1
 abbrev pub invariant-put_args-loop-arg : goal.invariant-put_args-loop-arg
 invariant-put_args-loop-arg l = SoFar l.places l.d l.at l.args
     (drop l.arg-index l.args) l.fn.code l.code l.vars
+
+abbrev pub decreases-put_indexes : goal.decreases-put_indexes
+decreases-put_indexes l = 8 * (count l.row.now + count l.index.now) + 1
+
+abbrev pub decreases-put_row_element : goal.decreases-put_row_element
+decreases-put_row_element l = 8 * (count l.row.now + count l.index.now) + 2

@@ -1,3 +1,4 @@
+use Rattle.std.proofs.Common.{None}
 use Rattle.std.proofs.Common.{◌+◌, ◌++◌, drop, map, get_or, sym, ap, ◌∙◌, append-nil, arith}
 use Rattle.c_meaning_spec.specs.Call as call
 use Rattle.c_tree.specs.declared.Kind.TheVariants.{Char}
@@ -15,7 +16,7 @@ pub loop-array-preserved : goal.loop-array-preserved
 loop-array-preserved c =
     let all = c.args.arrays.now in
     let i = c.loop-array.array-index in
-    let z : TypedArray = record { kind = Char; length = 0 } in
+    let z : TypedArray = record { kind = Char; length = 0; row = None } in
     let a = get_or all i z in
     let d = item_at all i z (omega arith) in
     let e = ap (λ r. c.loop-array.found ++ starts_from c.loop-array.at (map call.array_bytes r)) (sym d) ∙

@@ -1,3 +1,4 @@
+use Rattle.std.proofs.Common.{None}
 use Rattle.std.proofs.Common.{◌≡◌, ◌+◌, drop, get_or, ap, ◌∙◌, arith}
 use Rattle.c_meaning_spec.specs.Call as call
 use Rattle.c_tree.specs.declared.Kind.TheVariants.{Char}
@@ -10,7 +11,7 @@ pub loop-array-preserved : goal.loop-array-preserved
 loop-array-preserved c =
     let all = c.args.arrays.now in
     let i = c.loop-array.array-index in
-    let a : TypedArray = record { kind = Char; length = 0 } in
+    let a : TypedArray = record { kind = Char; length = 0; row = None } in
     let d : call.all_bytes (drop i all) ≡ call.array_bytes (get_or all i a) + call.all_bytes (drop
     (i + 1) all) =
     ap call.all_bytes (item_at all i a (omega arith)) in

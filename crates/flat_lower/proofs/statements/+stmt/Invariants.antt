@@ -1,7 +1,7 @@
 use Rattle.std.proofs.Common.{◌+◌, ◌*◌, drop}
 use Rattle.flat_lower.specs.Emitted.{first_of, other_of}
 use Rattle.flat_lower.proofs.EmitCounts.{StmtsSoFar, stmts_in_all, stmts_in_first, count_stmt}
-use Rattle.flat_lower.proofs.EmitCounts.{count_block}
+use Rattle.flat_lower.proofs.EmitCounts.{count_block, count_sections, SectionsSoFar}
 use Rattle.flat_lower.proofs.statements.+stmt.Given as goal
 
 abbrev pub decreases-put_stmt : goal.decreases-put_stmt
@@ -32,4 +32,17 @@ abbrev pub decreases-put_for_loop : goal.decreases-put_for_loop
 decreases-put_for_loop l = 4 * (stmts_in_first (first_of l.first.now) + count_stmt l.body.now) + 2
 
 abbrev pub invariant-put_stmts-loop-s : goal.invariant-put_stmts-loop-s
-invariant-put_stmts-loop-s l = StmtsSoFar l.places l.all (drop l.s-index l.all) l.fn.code l.code
+invariant-put_stmts-loop-s l = StmtsSoFar l.places l.around l.all (drop l.s-index l.all) l.fn.code l.code
+
+abbrev pub decreases-put_section : goal.decreases-put_section
+decreases-put_section l = 4 * count_block l.all.now + 2
+
+abbrev pub decreases-put_sections : goal.decreases-put_sections
+decreases-put_sections l = 4 * count_sections l.sections.now + 3
+
+abbrev pub decreases-put_switch : goal.decreases-put_switch
+decreases-put_switch l = 4 * count_sections l.sections.now + 4
+
+abbrev pub invariant-put_sections-loop-section : goal.invariant-put_sections-loop-section
+invariant-put_sections-loop-section l = SectionsSoFar l.places l.around l.sections
+    (drop l.section-index l.sections) l.fn.code l.code

@@ -7,8 +7,17 @@ use Rattle.c_tree.specs.declared.token.Mark.TheVariants as marks
 use Rattle.c_parse.specs.Reads.{opened, behind}
 use Rattle.c_parse.proofs.parser.Parser.+expression.Given as goal
 
+abbrev pub decreases-index : goal.decreases-index
+decreases-index l = 32 * l.left
+
+abbrev pub decreases-second_index : goal.decreases-second_index
+decreases-second_index l = 32 * l.left + 1
+
+abbrev pub decreases-after_index : goal.decreases-after_index
+decreases-after_index l = 32 * l.left + 2
+
 abbrev pub decreases-element : goal.decreases-element
-decreases-element l = 32 * l.left
+decreases-element l = 32 * l.left + 3
 
 abbrev pub decreases-call : goal.decreases-call
 decreases-call l = 32 * l.left
@@ -35,46 +44,46 @@ abbrev pub decreases-assigned : goal.decreases-assigned
 decreases-assigned l = 32 * l.left
 
 abbrev pub decreases-after_name : goal.decreases-after_name
-decreases-after_name l = 32 * l.left + 1
+decreases-after_name l = 32 * l.left + 4
 
 abbrev pub decreases-named : goal.decreases-named
-decreases-named l = 32 * l.left + 2
+decreases-named l = 32 * l.left + 5
 
 abbrev pub decreases-primary : goal.decreases-primary
-decreases-primary l = 32 * l.left + 3
+decreases-primary l = 32 * l.left + 6
 
 abbrev pub decreases-postfix : goal.decreases-postfix
-decreases-postfix l = 32 * l.left + 4
+decreases-postfix l = 32 * l.left + 7
 
 abbrev pub decreases-unary : goal.decreases-unary
-decreases-unary l = 32 * l.left + 5
+decreases-unary l = 32 * l.left + 8
 
 abbrev pub decreases-cast : goal.decreases-cast
-decreases-cast l = 32 * l.left + 6
+decreases-cast l = 32 * l.left + 9
 
 abbrev pub decreases-binary : goal.decreases-binary
-decreases-binary l = 32 * l.left + 7 + l.level
+decreases-binary l = 32 * l.left + 10 + l.level
 
 abbrev pub decreases-choice : goal.decreases-choice
 decreases-choice l = 32 * l.left + 1
 
 abbrev pub decreases-conditional : goal.decreases-conditional
-decreases-conditional l = 32 * l.left + 18
+decreases-conditional l = 32 * l.left + 21
 
 abbrev pub decreases-assign : goal.decreases-assign
 decreases-assign l = 32 * l.left + 1
 
 abbrev pub decreases-assignment : goal.decreases-assignment
-decreases-assignment l = 32 * l.left + 19
+decreases-assignment l = 32 * l.left + 22
 
 abbrev pub decreases-expression : goal.decreases-expression
-decreases-expression l = 32 * l.left + 20
+decreases-expression l = 32 * l.left + 23
 
 abbrev pub decreases-arg_list : goal.decreases-arg_list
-decreases-arg_list l = 32 * l.left + 20
+decreases-arg_list l = 32 * l.left + 23
 
 abbrev pub decreases-args : goal.decreases-args
-decreases-args l = 32 * l.left + 21
+decreases-args l = 32 * l.left + 24
 
 abbrev pub invariant-arg_list-loop-turn : goal.invariant-arg_list-loop-turn
 invariant-arg_list-loop-turn l =

@@ -1,11 +1,13 @@
 use Rattle.std.proofs.Common.{◌+◌, ◌-◌, length, sym, ap, ◌∙◌, subst, refl, List}
+use Rattle.c_tree.specs.declared.tree.Section.{Section}
 use Rattle.c_tree.specs.declared.tree.Stmt.{Stmt}
 use Rattle.c_tree.specs.declared.token.Mark.TheVariants as marks
-use Rattle.c_grammar.specs.Parsing.{Out, many}
+use Rattle.c_grammar.specs.Parsing.{Out, many, repeated}
 use Rattle.c_grammar.specs.ModelExpressions.{inside}
-use Rattle.c_grammar.specs.ModelStatements.{entry_of, below_at}
+use Rattle.c_grammar.specs.ModelStatements.{begins_statement, entry_of, section_of, below_at}
 use Rattle.c_parse.specs.Reads.{Reads, behind}
-use Rattle.c_parse.proofs.Nested.{inner_none, inner_some, entries_init, many_keeps}
+use Rattle.c_parse.proofs.Nested.{inner_none, inner_some, entries_init, many_keeps, repeated_keeps, body_init}
+use Rattle.c_parse.proofs.Nested.{sections_init}
 use Rattle.c_parse.proofs.parser.Parser.+statement.Goals as goal
 
 pub entries-loop-turn-init : goal.entries-loop-turn-init
@@ -31,3 +33,30 @@ pub inner-returns : goal.inner-returns
 inner-returns t c =
     subst (λ (o : Out Stmt). Reads o c.statement.result c.statement.new.self.rest.now)
     (sym (inner_some c.args.left c.args.self.now.rest.now c.if-left-eq0.false)) c.statement.ensures
+
+pub section_body-loop-turn-init : goal.section_body-loop-turn-init
+section_body-loop-turn-init t c =
+    ap (λ (found : List Stmt). behind found (repeated begins_statement (below_at c.args.left).inner
+    (length c.args.self.now.rest.now + 1 - 0) c.args.self.now.rest.now)) c.new-found.ensures.value
+    ∙ body_init c.args.left (length c.args.self.now.rest.now + 1) c.args.self.now.rest.now refl
+
+pub section_body-loop-turn-preserved : goal.section_body-loop-turn-preserved
+section_body-loop-turn-preserved t c =
+    repeated_keeps begins_statement (below_at c.args.left).inner (length c.args.self.now.rest.now + 1)
+    c.loop-turn._turn c.loop-turn.found _ c.loop-turn.self.rest.now c.inner.new.self.rest.now
+    c.in_ok-statement.statement _
+    c.loop-turn-test.true c.loop-turn.invariant c.in_ok-statement.ensures (cc) c.in_ok-push.ensures.ok
+
+pub sections-loop-turn-init : goal.sections-loop-turn-init
+sections-loop-turn-init t c =
+    ap (λ (found : List Section). behind found (many marks.RightBrace
+    (section_of (inside c.args.left) (below_at c.args.left)) (length c.args.self.now.rest.now + 1 - 0)
+    c.args.self.now.rest.now)) c.new-found.ensures.value
+    ∙ sections_init c.args.left (length c.args.self.now.rest.now + 1) c.args.self.now.rest.now refl
+
+pub sections-loop-turn-preserved : goal.sections-loop-turn-preserved
+sections-loop-turn-preserved t c =
+    many_keeps marks.RightBrace (section_of (inside c.args.left) (below_at c.args.left))
+    (length c.args.self.now.rest.now + 1) c.loop-turn._turn c.loop-turn.found _ c.loop-turn.self.rest.now
+    c.section.new.self.rest.now c.in_ok-more.more _
+    c.loop-turn-test.true c.loop-turn.invariant (cc) c.in_ok-more.ensures c.in_ok-append.ensures.ok

@@ -1,7 +1,8 @@
 use Rattle.std.proofs.Common.{◌≡◌, ◌+◌, ◌-◌, ◌*◌}
-use Rattle.c_grammar.specs.Parsing.{many}
+use Rattle.c_grammar.specs.Parsing.{many, repeated}
 use Rattle.c_grammar.specs.ModelExpressions.{inside}
-use Rattle.c_grammar.specs.ModelStatements.{entry_of, entries_of, below_at}
+use Rattle.c_grammar.specs.ModelStatements.{begins_statement, entry_of, entries_of, body_of, section_of, sections_of}
+use Rattle.c_grammar.specs.ModelStatements.{below_at}
 use Rattle.c_tree.specs.declared.token.Mark.TheVariants as marks
 use Rattle.c_parse.specs.Reads.{behind}
 use Rattle.c_parse.proofs.parser.Parser.+statement.Given as goal
@@ -42,6 +43,18 @@ decreases-do_statement l = 16 * l.left + 4
 abbrev pub decreases-for_statement : goal.decreases-for_statement
 decreases-for_statement l = 16 * l.left + 4
 
+abbrev pub decreases-section_body : goal.decreases-section_body
+decreases-section_body l = 16 * l.left + 1
+
+abbrev pub decreases-section : goal.decreases-section
+decreases-section l = 16 * l.left + 2
+
+abbrev pub decreases-sections : goal.decreases-sections
+decreases-sections l = 16 * l.left + 3
+
+abbrev pub decreases-switch_statement : goal.decreases-switch_statement
+decreases-switch_statement l = 16 * l.left + 4
+
 abbrev pub decreases-statement : goal.decreases-statement
 decreases-statement l = 16 * l.left + 6
 
@@ -49,3 +62,13 @@ abbrev pub invariant-entries-loop-turn : goal.invariant-entries-loop-turn
 invariant-entries-loop-turn l =
     behind l.found (many marks.RightBrace (entry_of (inside l.left) (below_at l.left)) (l.turns - l._turn)
     l.self.rest.now) ≡ entries_of (inside l.left) (below_at l.left) l.fn.self.rest.now
+
+abbrev pub invariant-section_body-loop-turn : goal.invariant-section_body-loop-turn
+invariant-section_body-loop-turn l =
+    behind l.found (repeated begins_statement (below_at l.left).inner (l.turns - l._turn) l.self.rest.now) ≡ body_of
+    (inside l.left) (below_at l.left) l.fn.self.rest.now
+
+abbrev pub invariant-sections-loop-turn : goal.invariant-sections-loop-turn
+invariant-sections-loop-turn l =
+    behind l.found (many marks.RightBrace (section_of (inside l.left) (below_at l.left)) (l.turns - l._turn)
+    l.self.rest.now) ≡ sections_of (inside l.left) (below_at l.left) l.fn.self.rest.now

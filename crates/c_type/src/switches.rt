@@ -1,0 +1,120 @@
+//! The labels of a switch, its test and its scalar.
+
+ghost use Rattle.std.specs.Prelude.{◌≡◌, ◌∷◌, [], ◌++◌, length, map, not, nat_lt};
+ghost use Rattle.c_tree.specs.declared.limits.TheConstants.{MOST_SCALARS};
+ghost use Rattle.c_type_expr.specs.Constants as constants;
+ghost use Rattle.c_type_expr.specs.Roles.{unless};
+ghost use Rattle.c_type_expr.specs.Says.{Says};
+ghost use Rattle.c_type_expr.specs.Trees.{tree, with_convert};
+ghost use Rattle.c_type.specs.States.{with_switch};
+ghost use Rattle.c_type.specs.Statements as statements;
+ghost use Rattle.c_type.specs.Statements.{label_among, labels_fault, switch_kind, case_fault};
+ghost use Rattle.c_type.specs.Runs.{Moves, Joins};
+
+use crate::state::State;
+use base::{Boxed, Items};
+use c_constant::promoted;
+use c_scope::Scopes;
+use c_tree::{Expr, Kind, Label, MOST_SCALARS, Slot, TypedExpr};
+use c_type_expr::{Role, TypeFault, full, full_constant, kind_of, with_convert};
+use std::alloc::Global;
+
+fn same_label(a: Option<u64>, b: Option<u64>) -> bool
+    ensures { result ≡ statements.same_label a b }
+{
+    match (a, b) {
+        (None, None) => true,
+        (Some(m), Some(n)) => m == n,
+        _ => false,
+    }
+}
+
+/// Whether a label is one of these.
+fn among(word: Option<u64>, seen: &[Option<u64>]) -> bool
+    ensures { result ≡ label_among word seen.now }
+{
+    let mut found = false;
+    for other in seen {
+        found = found || same_label(word, *other);
+    }
+    found
+}
+
+/// One label more, which is another than those before it.
+fn add_label(seen: &mut Items<Option<u64>>, word: Option<u64>, line: u32) -> Result<(), TypeFault>
+    ensures { Joins (unless (not (label_among word seen.old)) (TypeFault.Twice line)) tt
+        (seen.old ++ word ∷ []) seen.new result }
+{
+    if among(word, seen.as_slice()) {
+        return Err(TypeFault::Twice(line));
+    }
+    seen.push(word)?;
+    Ok(())
+}
+
+/// The word of a label at a type, none for `default`.
+fn label_word(names: &Scopes, kind: Kind, label: &Label) -> Result<Option<u64>, TypeFault>
+    ensures { Says (case_fault label.now.value names.now) (statements.label_word kind label.now)
+        result }
+{
+    match &label.value {
+        None => Ok(None),
+        Some(e) => {
+            let word = full_constant(names, kind, e)?;
+            Ok(Some(word))
+        }
+    }
+}
+
+/// The words of the labels of a section, each another than those before it.
+pub fn section_labels(
+    alloc: Global,
+    names: &Scopes,
+    kind: Kind,
+    seen: &mut Items<Option<u64>>,
+    labels: &[Label],
+) -> Result<Items<Option<u64>>, TypeFault>
+    ensures { Joins (labels_fault kind seen.old labels.now names.now)
+        (map (statements.label_word kind) labels.now)
+        (seen.old ++ map (statements.label_word kind) labels.now) seen.new result }
+{
+    let mut found = Items::new(alloc);
+    for label in labels {
+        let word = label_word(names, kind, label)?;
+        add_label(seen, word, label.line)?;
+        found.push(word)?;
+    }
+    Ok(found)
+}
+
+/// The test of a switch, promoted, and its type.
+pub fn switch_test(
+    alloc: Global,
+    names: &Scopes,
+    test: Expr,
+) -> Result<(TypedExpr, Kind), TypeFault>
+    ensures { Says (constants.full test Role.Value names.now) (
+      with_convert (switch_kind test names.now) (tree test names.now),
+      switch_kind test names.now,
+    ) result }
+{
+    let test = full(alloc, names, Role::Value, test)?;
+    let kind = promoted(kind_of(&test));
+    let test = Boxed::new(alloc, test)?;
+    let test = with_convert(alloc, kind, test)?;
+    Ok((test.into_inner(), kind))
+}
+
+/// The number of the scalar that a switch counts.
+pub fn switch_scalar(state: &mut State, kind: Kind, line: u32) -> Result<u32, TypeFault>
+    ensures { Moves
+        (unless (nat_lt (length state.old.scalars) MOST_SCALARS) (TypeFault.TooManyScalars line))
+        (length state.old.scalars) (with_switch kind state.old) state.new result }
+{
+    let place = state.scalars.len();
+    if place as u64 >= MOST_SCALARS {
+        return Err(TypeFault::TooManyScalars(line));
+    }
+    state.scalars.push(Slot::Scalar(kind))?;
+    Ok(place as u32)
+}

@@ -1,0 +1,56 @@
+-- The labels of a switch one by one.
+use Rattle.std.proofs.Common.{◌≡◌, ℕ, suc, Bool, true, false, cond, List, [], ◌∷◌, map, length, Option, Some}
+use Rattle.std.proofs.Common.{None, refl, sym, ap, ◌∙◌}
+use Rattle.c_tree.specs.declared.TypedSection.{TypedSection}
+use Rattle.ir_forms.specs.declared.flat.FlatStmt.{FlatStmt}
+use Rattle.ir_forms.specs.FlatCode.{Then}
+use Rattle.ir_forms.specs.FlatViews.{code_of}
+use Rattle.flat_lower.specs.Switches.{label_code, labels_code, compared_code, section_count}
+use Rattle.flat_lower.specs.Emitted.{Adds, sections_in}
+use Rattle.flat_lower.proofs.Emits.{then_then, then_nop}
+
+-- some labels are emitted, and `rest` are to come
+pub record LabelsSoFar (n : ℕ) (all rest : List (Option ℕ)) (old code : List FlatStmt) : Type 0 where
+  pub written : Then (code_of code) (labels_code n rest) ≡ Then (code_of old) (labels_code n all)
+
+-- one label more
+pub labels_go_on : (n : ℕ) (all rest : List (Option ℕ)) (l : Option ℕ) (old code code' : List FlatStmt)
+    → LabelsSoFar n all (l ∷ rest) old code → Adds code code' (label_code n l)
+    → LabelsSoFar n all rest old code'
+labels_go_on n all rest l old code code' s h = record {
+  written =
+      ap (λ z. Then z (labels_code n rest)) h.is
+      ∙ then_then (code_of code) (label_code n l) (labels_code n rest)
+      ∙ s.written;
+}
+
+-- at the end
+pub labels_end : (n : ℕ) (all : List (Option ℕ)) (old code : List FlatStmt)
+    → LabelsSoFar n all [] old code → Adds old code (labels_code n all)
+labels_end n all old code s = record { is = sym (then_nop (code_of code)) ∙ s.written }
+
+-- the labels of n sections are emitted, and those of `rest` are to come
+pub record ComparedSoFar (n : ℕ) (all rest : List TypedSection) (old code : List FlatStmt) : Type 0 where
+  pub written : Then (code_of code) (compared_code n (sections_in rest))
+      ≡ Then (code_of old) (compared_code 0 (sections_in all))
+
+-- those of one section more
+pub compared_goes_on : (n : ℕ) (all rest : List TypedSection) (x : TypedSection)
+    (old code code' : List FlatStmt) → ComparedSoFar n all (x ∷ rest) old code
+    → Adds code code' (labels_code n x.labels) → ComparedSoFar (suc n) all rest old code'
+compared_goes_on n all rest x old code code' s h = record {
+  written =
+      ap (λ z. Then z (compared_code (suc n) (sections_in rest))) h.is
+      ∙ then_then (code_of code) (labels_code n x.labels) (compared_code (suc n) (sections_in rest))
+      ∙ s.written;
+}
+
+-- at the end
+pub compared_ends : (n : ℕ) (all : List TypedSection) (old code : List FlatStmt)
+    → ComparedSoFar n all [] old code → Adds old code (compared_code 0 (sections_in all))
+compared_ends n all old code s = record { is = sym (then_nop (code_of code)) ∙ s.written }
+
+-- sections are as many as they are seen
+pub counted : (xs : List TypedSection) → section_count (sections_in xs) ≡ length xs
+counted [] = refl
+counted (x ∷ xs) = ap suc (counted xs)

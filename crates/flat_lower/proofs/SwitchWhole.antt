@@ -1,0 +1,113 @@
+-- A whole switch behind its test: the labels are compared, and then the sections run.
+use Rattle.std.proofs.Common.{◌≡◌, ◌≢◌, ℕ, zero, suc, ◌+◌, ◌-◌, ◌*◌, ◌^◌, ◌<◌, ◌≤◌, List, [], ◌∷◌, drop, length}
+use Rattle.std.proofs.Common.{Option, Some, None, refl, sym, ap, ◌∙◌, subst, mul-suc, arith}
+use Rattle.c_tree.specs.declared.Kind.{Kind}
+use Rattle.c_tree.specs.declared.TypedSection.{TypedSection}
+use Rattle.c_tree.specs.declared.TypedProgram.{TypedProgram}
+use Rattle.c_meaning_spec.specs.State as eval
+use Rattle.c_meaning_spec.specs.Statement.{sequence, bodies, targets, run_from, compared}
+use Rattle.c_meaning_spec.specs.Eval.{meaning}
+use Rattle.ir_forms.specs.FlatCode.{Code, Nop, Then, only, Loop}
+use Rattle.ir_forms.specs.FlatCode as flat
+use Rattle.ir_forms.specs.FlatSteps.{State, counted}
+use Rattle.flat_lower.specs.declared.around.Around.{Around}
+use Rattle.flat_lower.specs.Operations.{temp}
+use Rattle.flat_lower.specs.Switches.{in_switch, behind_code, found_code, compared_code, default_at}
+use Rattle.flat_lower.specs.Switches.{section_count, switched_code}
+use Rattle.flat_lower.specs.Emitted.{sections_in}
+use Rattle.flat_lower.specs.FitsSwitches.{cases_in, free_sections}
+use Rattle.flat_lower.specs.Fits.{FitsSections}
+use Rattle.flat_lower.specs.Sizes.{size_of_sections}
+use Rattle.flat_lower.proofs.EmitArguments.{drop_all}
+use Rattle.flat_lower.proofs.Follows.{moved_in}
+use Rattle.flat_lower.proofs.Related.{Scene, IsScene, scope, Related, recounted}
+use Rattle.flat_lower.proofs.Values.{run}
+use Rattle.flat_lower.proofs.Returns.{EndedIn}
+use Rattle.flat_lower.proofs.Ends.{EndsHere}
+use Rattle.flat_lower.proofs.SwitchLabels.{Choice, Ends_there, Goes_to, sections_choose}
+use Rattle.flat_lower.proofs.SwitchSections.{rest_of, FollowsBlock, skipping, sections_run}
+use Rattle.flat_lower.proofs.SwitchCounts.{default_small, cases_small, count_is, drop_none, fits_drop}
+use Rattle.flat_lower.proofs.SwitchCounts.{size_drop}
+use Rattle.flat_lower.proofs.SwitchEnds.{loop_left, loop_stops, runs_out}
+
+module _ (P : TypedProgram) (most : ℕ) (S : Scene) (y : IsScene P S) where
+  -- the code of the sections, in its loop
+  abbrev pub run_code : Around → List TypedSection → Code
+  run_code a all =
+      Then (only (Loop (Then (rest_of P most S y (in_switch a) all) (only flat.Break)) Nop)) (behind_code a)
+
+  -- the comparing, in its loop
+  abbrev pub compare_code : List TypedSection → Code
+  compare_code all =
+      Then (compared_code 0 (sections_in all)) (found_code (default_at 0 (section_count (sections_in all))
+      (sections_in all)))
+
+  -- the sections, of which m are skipped
+  switch_runs : (a : Around) (n : ℕ) → FollowsBlock P most S y (in_switch a) n → (j : Option Kind)
+      (all : List TypedSection) (m : ℕ) (s : eval.State) (f : State) (top low : ℕ) → s.stock ≤ n
+      → FitsSections (scope P S) S.func.result (in_switch a) j (sections_in all)
+      → size_of_sections (sections_in all) ≤ most → m ≤ length all → m < 2 ^ 64 → Related S s f
+      → f.vars (temp 0) ≡ Some m → 2 * m + 4 + 8 * s.stock ≤ top → low ≤ s.stock + most * f.rounds
+      → EndsHere P most S y a (run_code a all) f top low (run_from (meaning P) (bodies (drop m all)) s)
+  switch_runs a n hb j all m s f top low le t z lm lt r e hu hl =
+      let x = in_switch a in
+      let sk = skipping P most S y x all m (only flat.Break) s (counted f) lm lt (recounted S s f r) e in
+      let small = size_drop all m in
+      let there : low ≤ s.stock + most * sk.to.rounds - size_of_sections (sections_in (drop m all)) = subst
+      (λ c. low ≤ s.stock + most * c - size_of_sections (sections_in (drop m all))) (sym sk.rounds)
+      (omega (arith, mul-suc most f.rounds, small)) in
+      let few = sk.few in
+      runs_out P most S y a (rest_of P most S y x all) (rest_of P most S y x (drop m all)) f sk.to sk.t
+      (8 * s.stock) low top low (sequence (meaning P) (bodies (drop m all)) s) sk.moves
+      (sections_run P most S y x n hb j (drop m all) s sk.to (8 * s.stock) low le
+      (fits_drop (scope P S) S.func.result j x all m t) (omega arith) sk.rel sk.word (omega arith) there)
+      (omega arith) (omega arith)
+
+  pub switch_ends : (a : Around) (n : ℕ) → FollowsBlock P most S y (in_switch a) n → (j : Option Kind)
+      (all : List TypedSection) (w : ℕ) (s : eval.State) (g : State) (top low : ℕ) → s.stock ≤ n
+      → FitsSections (scope P S) S.func.result (in_switch a) j (sections_in all)
+      → free_sections (sections_in all) ≤ 1 → section_count (sections_in all) < 2 ^ 64
+      → size_of_sections (sections_in all) ≤ most → Related S s g → g.vars (temp 0) ≡ Some w
+      → 7 + 8 * s.stock ≤ top
+      → low ≤ s.stock + most * g.rounds - size_of_sections (sections_in all)
+      → EndsHere P most S y a (switched_code a (sections_in all) (rest_of P most S y (in_switch a) all)) g top
+      low (compared (meaning P) w (targets all) [] s)
+  switch_ends a n hb j all w s g top low le t free short z r e hu hl =
+      let xs = sections_in all in
+      let o = section_count xs in
+      let count = count_is all in
+      let behind_all : [] ≡ bodies (drop o all) = sym (ap bodies (drop_all all o (omega arith))) in
+      let small = default_small (scope P S) S.func.result j (in_switch a) xs t free in
+      by_choice (sections_choose P most S y all w (default_at 0 o xs) all 0 0 0 o [] s (counted g) (drop_none all)
+      (omega arith) (omega arith) (omega arith) behind_all (omega arith) refl (omega (arith, small))
+      (recounted S s g r) e)
+    where
+      few : cases_in (sections_in all) ≤ size_of_sections (sections_in all)
+      few = cases_small (sections_in all)
+
+      by_choice : Choice P most S y all (compare_code all) (counted g) s 0 (cases_in (sections_in all))
+          (compared (meaning P) w (targets all) [] s)
+          → EndsHere P most S y a (Then (only (Loop (compare_code all) Nop)) (run_code a all)) g top low
+          (compared (meaning P) w (targets all) [] s)
+      by_choice (Ends_there x) =
+          let c = few in
+          subst (λ q. EndsHere P most S y a (Then (only (Loop (compare_code all) Nop)) (run_code a all)) g top low q) (sym x.is)
+          (record {
+            t = suc x.t;
+            r = suc g.rounds;
+            upper = omega (arith, x.few);
+            lower = omega (arith, mul-suc most g.rounds, x.all);
+            stops = loop_stops P most S y (compare_code all) (run_code a all) g x.t x.at.output (suc g.rounds) x.stops;
+          })
+      by_choice (Goes_to x) =
+          let c = few in
+          let count = count_is all in
+          let low1 : low ≤ x.at.stock + most * x.to.rounds = subst
+          (λ c. low ≤ x.at.stock + most * c) (sym x.rounds)
+          (omega (arith, mul-suc most g.rounds, x.left)) in
+          moved_in a most (EndedIn a S) (run P most S y (Then (only (Loop (compare_code all) Nop)) (run_code a all)) g)
+          (run P most S y (run_code a all) x.to) (suc x.t) top low (compared (meaning P) w (targets all) [] s)
+          (loop_left P most S y (compare_code all) (run_code a all) g x.t x.to x.leads) (omega (arith, x.few))
+          (subst (λ q. EndsHere P most S y a (run_code a all) x.to (top - suc x.t) low q) (sym x.is)
+          (switch_runs a n hb j all x.m x.at x.to (top - suc x.t) low (omega (arith, x.less)) t z x.count
+          (omega (arith, x.count)) x.rel x.word (omega (arith, x.few)) low1))

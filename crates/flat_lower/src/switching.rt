@@ -1,0 +1,279 @@
+//! The flat code of switches, but for their statements.
+
+ghost use Rattle.std.specs.Prelude.{◌≡◌, ◌+◌, ◌<◌, Some, OnOk, IfOk};
+ghost use Rattle.ir_forms.specs.FlatCode as flat;
+ghost use Rattle.ir_forms.specs.FlatCode.{Then, only};
+ghost use Rattle.ir_forms.specs.FlatViews.{code_of};
+ghost use Rattle.flat_lower.specs.Operations as operations;
+ghost use Rattle.flat_lower.specs.Operations.{set_word};
+ghost use Rattle.flat_lower.specs.Switches as switches;
+ghost use Rattle.flat_lower.specs.Switches.{break_code, continue_code, behind_code, found_code, label_code};
+ghost use Rattle.flat_lower.specs.Switches.{labels_code, compared_code, chosen_code, section_code};
+ghost use Rattle.flat_lower.specs.Switches.{switched_code, section_count};
+ghost use Rattle.flat_lower.specs.Emitted.{Adds, sections_in};
+
+use crate::around::Around;
+use crate::emit::{put_break, put_continue, put_if, put_let, put_loop, scratch, temp};
+use crate::operations::put_word;
+use base::{Items, Memory};
+use c_tree::TypedSection;
+use ir_forms::{Arg, FlatStmt};
+use std::alloc::Global;
+use trips_isa::Op;
+
+/// What stands around the sections of a switch, by what stands around it.
+pub fn in_switch(around: Around) -> Around
+    ensures { result ≡ switches.in_switch around }
+{
+    match around {
+        Around::Nowhere => Around::Switch,
+        Around::Loop => Around::SwitchInLoop,
+        Around::Switch => Around::Switch,
+        Around::SwitchInLoop => Around::SwitchInLoop,
+    }
+}
+
+// A word in temporary 0, and a break.
+fn put_left(code: &mut Items<FlatStmt>, w: u64) -> Result<(), Memory>
+    ensures { OnOk result (Adds code.old code.new (found_code w)) }
+{
+    put_word(code, temp(0), w)?;
+    put_break(code)?;
+    Ok(())
+}
+
+/// A `break`.
+pub fn put_broken(code: &mut Items<FlatStmt>, around: Around) -> Result<(), Memory>
+    ensures { OnOk result (Adds code.old code.new (break_code around)) }
+{
+    match around {
+        Around::Nowhere => put_break(code),
+        Around::Loop => put_break(code),
+        Around::Switch => put_break(code),
+        Around::SwitchInLoop => put_left(code, 0),
+    }
+}
+
+/// A `continue`.
+pub fn put_continued(code: &mut Items<FlatStmt>, around: Around) -> Result<(), Memory>
+    ensures { OnOk result (Adds code.old code.new (continue_code around)) }
+{
+    match around {
+        Around::Nowhere => put_continue(code),
+        Around::Loop => put_continue(code),
+        Around::Switch => put_continue(code),
+        Around::SwitchInLoop => put_left(code, 1),
+    }
+}
+
+// A `continue` on its own.
+fn continued(alloc: Global, around: Around) -> Result<Items<FlatStmt>, Memory>
+    ensures { IfOk result (λ code. code_of code ≡ continue_code around) }
+{
+    let mut code = Items::new(alloc);
+    put_continued(&mut code, around)?;
+    Ok(code)
+}
+
+// A `continue` that has left a switch goes on.
+fn put_going_on(code: &mut Items<FlatStmt>, alloc: Global, around: Around) -> Result<(), Memory>
+    ensures { OnOk result (Adds code.old code.new
+        (only (flat.If (Arg.Var (operations.temp 0)) (continue_code around) flat.Nop))) }
+{
+    let yes = continued(alloc, around)?;
+    put_if(code, Arg::Var(temp(0)), yes, Items::new(alloc))?;
+    Ok(())
+}
+
+/// What follows a switch.
+#[tactic(auto, using(crate::proofs::Emits::nothing))]
+fn put_behind(code: &mut Items<FlatStmt>, alloc: Global, around: Around) -> Result<(), Memory>
+    ensures { OnOk result (Adds code.old code.new (behind_code around)) }
+{
+    match around {
+        Around::Nowhere => Ok(()),
+        Around::Loop => put_going_on(code, alloc, Around::Loop),
+        Around::Switch => Ok(()),
+        Around::SwitchInLoop => put_going_on(code, alloc, Around::SwitchInLoop),
+    }
+}
+
+// So many sections are skipped, on its own.
+fn found(alloc: Global, n: u64) -> Result<Items<FlatStmt>, Memory>
+    ensures { IfOk result (λ code. code_of code ≡ found_code n) }
+{
+    let mut code = Items::new(alloc);
+    put_left(&mut code, n)?;
+    Ok(code)
+}
+
+// A label of a case.
+fn put_case(code: &mut Items<FlatStmt>, alloc: Global, n: u64, w: u64) -> Result<(), Memory>
+    ensures { OnOk result (Adds code.old code.new (label_code n (Some w))) }
+{
+    put_let(code, scratch(0), Op::Teq, Arg::Var(temp(0)), Arg::Const(w))?;
+    let yes = found(alloc, n)?;
+    put_if(code, Arg::Var(scratch(0)), yes, Items::new(alloc))?;
+    Ok(())
+}
+
+/// A label of the section behind n others.
+#[tactic(auto, using(crate::proofs::Emits::nothing))]
+fn put_label(
+    code: &mut Items<FlatStmt>,
+    alloc: Global,
+    n: u64,
+    label: Option<u64>,
+) -> Result<(), Memory>
+    ensures { OnOk result (Adds code.old code.new (label_code n label)) }
+{
+    match label {
+        None => Ok(()),
+        Some(w) => put_case(code, alloc, n, w),
+    }
+}
+
+/// The labels of the section behind n others.
+fn put_labels(
+    code: &mut Items<FlatStmt>,
+    alloc: Global,
+    n: u64,
+    labels: &[Option<u64>],
+) -> Result<(), Memory>
+    ensures { OnOk result (Adds code.old code.new (labels_code n labels.now)) }
+{
+    for label in labels {
+        put_label(code, alloc, n, *label)?;
+    }
+    Ok(())
+}
+
+/// The labels of all sections.
+fn put_compared(
+    code: &mut Items<FlatStmt>,
+    alloc: Global,
+    sections: &[TypedSection],
+) -> Result<(), Memory>
+    ensures { OnOk result (Adds code.old code.new (compared_code 0 (sections_in sections.now))) }
+{
+    let mut n: u64 = 0;
+    for section in sections {
+        put_labels(code, alloc, n, section.labels.as_slice())?;
+        n += 1;
+    }
+    Ok(())
+}
+
+/// Whether `default` is among the labels of a section.
+fn has_default(labels: &[Option<u64>]) -> bool
+    ensures { result ≡ switches.has_default labels.now }
+{
+    for label in labels {
+        if label.is_none() {
+            return true;
+        }
+    }
+    false
+}
+
+/// How many sections are skipped where no label is equal.
+fn default_at(sections: &[TypedSection]) -> u64
+    ensures { result ≡ switches.default_at 0 (section_count (sections_in sections.now))
+        (sections_in sections.now) }
+{
+    let mut other = sections.len() as u64;
+    let mut n: u64 = 0;
+    for section in sections {
+        if has_default(section.labels.as_slice()) {
+            other = n;
+        }
+        n += 1;
+    }
+    other
+}
+
+// How many sections are skipped, in a loop's body on its own.
+fn comparing(alloc: Global, sections: &[TypedSection]) -> Result<Items<FlatStmt>, Memory>
+    ensures { IfOk result (λ code. code_of code ≡ Then (compared_code 0 (sections_in sections.now))
+        (found_code (switches.default_at 0 (section_count (sections_in sections.now))
+        (sections_in sections.now)))) }
+{
+    let mut code = Items::new(alloc);
+    put_compared(&mut code, alloc, sections)?;
+    put_left(&mut code, default_at(sections))?;
+    Ok(code)
+}
+
+// How many sections are skipped, by the value in temporary 0.
+fn put_chosen(
+    code: &mut Items<FlatStmt>,
+    alloc: Global,
+    sections: &[TypedSection],
+) -> Result<(), Memory>
+    ensures { OnOk result (Adds code.old code.new (chosen_code (sections_in sections.now))) }
+{
+    let body = comparing(alloc, sections)?;
+    put_loop(code, body, Items::new(alloc))?;
+    Ok(())
+}
+
+// One section less is skipped, on its own.
+fn skipped(alloc: Global) -> Result<Items<FlatStmt>, Memory>
+    ensures { IfOk result (λ code. code_of code ≡ only (flat.Let (operations.temp 0) Op.Sub
+        (Arg.Var (operations.temp 0)) (Arg.Const 1))) }
+{
+    let mut code = Items::new(alloc);
+    put_let(
+        &mut code,
+        temp(0),
+        Op::Sub,
+        Arg::Var(temp(0)),
+        Arg::Const(1),
+    )?;
+    Ok(code)
+}
+
+/// The statements of a section are emitted: it is skipped, or run, and then no other is skipped.
+pub fn put_section_of(
+    code: &mut Items<FlatStmt>,
+    alloc: Global,
+    mut body: Items<FlatStmt>,
+) -> Result<(), Memory>
+    ensures { OnOk result (Adds code.old code.new (section_code (code_of body))) }
+{
+    put_word(&mut body, temp(0), 0)?;
+    let yes = skipped(alloc)?;
+    put_if(code, Arg::Var(temp(0)), yes, body)?;
+    Ok(())
+}
+
+// The loop of the sections, which are emitted.
+fn put_run(
+    code: &mut Items<FlatStmt>,
+    alloc: Global,
+    mut body: Items<FlatStmt>,
+) -> Result<(), Memory>
+    ensures { OnOk result (Adds code.old code.new
+        (only (flat.Loop (Then (code_of body) (only flat.Break)) flat.Nop))) }
+{
+    put_break(&mut body)?;
+    put_loop(code, body, Items::new(alloc))?;
+    Ok(())
+}
+
+/// A switch whose sections are emitted, behind its test.
+pub fn put_switched(
+    code: &mut Items<FlatStmt>,
+    alloc: Global,
+    around: Around,
+    sections: &[TypedSection],
+    body: Items<FlatStmt>,
+) -> Result<(), Memory>
+    ensures { OnOk result (Adds code.old code.new
+        (switched_code around (sections_in sections.now) (code_of body))) }
+{
+    put_chosen(code, alloc, sections)?;
+    put_run(code, alloc, body)?;
+    put_behind(code, alloc, around)?;
+    Ok(())
+}
