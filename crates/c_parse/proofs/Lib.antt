@@ -1,5 +1,6 @@
 pub mod Enters
 pub mod Turns
+pub mod Climbs
 pub mod Nested
 pub mod Lists
 pub mod Answered

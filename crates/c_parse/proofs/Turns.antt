@@ -25,11 +25,16 @@ use Rattle.c_grammar.proofs.Pieces.{same_tree, always, sound_short}
 use Rattle.c_grammar.proofs.Stops.{by_some, by_none, joiner_is}
 use Rattle.c_grammar.proofs.Joins.{Level}
 use Rattle.c_grammar.proofs.Inside.{inside_known, level_is, binary_piece, assignment_piece}
-use Rattle.c_parse.specs.Reads.{operator_of, operator_at, joins_by, of_level, IsAssigner, Fails, Reads, opened, behind}
+use Rattle.c_parse.specs.Reads.{operator_of, operator_at, joins_by, IsAssigner, Fails, Reads, opened, behind}
 use Rattle.c_parse.specs.declared.fault.Stopped.{Stopped}
 use Rattle.c_parse.specs.declared.fault.Stopped.TheVariants as stopped
 
 -- ---- the operator of a level
+
+-- the operator, where it joins at this level
+abbrev pub of_level : ℕ → Option (ℕ × BinaryOp) → Option BinaryOp
+of_level n None = None
+of_level n (Some p) = cond (eqb (p.0) n) (Some (p.1)) None
 
 same_eqb : (a b c d : ℕ) → (a ≡ b → c ≡ d) → (c ≡ d → a ≡ b) → eqb a b ≡ eqb c d
 same_eqb a b c d to from = by (eqb c d) refl
@@ -88,8 +93,9 @@ form_operator : (n : ℕ) (f : Form) → operator_of (joiner (binary_level n) f)
 form_operator n (form.Mark m) = mark_operator n m
 form_operator n _ = refl
 
-pub operator_is : (n : ℕ) (t : Lexeme) (ts : Tokens) → operator_at n (t ∷ ts) ≡ of_level n (joins_by t.form)
-operator_is n t ts = form_operator n t.form
+pub operator_is : (n : ℕ) (ts : Tokens) → operator_at n ts ≡ of_level n (seen joins_by ts)
+operator_is n [] = refl
+operator_is n (t ∷ ts) = form_operator n t.form
 
 -- ---- phrases joined to the left
 
@@ -212,12 +218,6 @@ pub binary_next : (left n : ℕ) (ts : Tokens) → binary_of (inside left) (suc 
     (binary_of (inside left) n ts) (λ a ts. loop (binary_of (inside left) n) (binary_level n) (length ts) a ts)
 unfolding binary_of
 binary_next left n ts = refl
-
-pub binary_at : (left level n : ℕ) (ts : Tokens) → level ≡ n + 1
-    → binary_of (inside left) level ts ≡ and_then (binary_of (inside left) n ts)
-    (λ a ts. loop (binary_of (inside left) n) (binary_level n) (length ts) a ts)
-binary_at left level n ts e =
-    let e' : level ≡ suc n = omega (arith, e) in ap (λ (k : ℕ). binary_of (inside left) k ts) e' ∙ binary_next left n ts
 
 -- ---- commas
 
@@ -355,11 +355,6 @@ assign_with left to ts new r p (Some s) i q h =
   where
     assign_here : Expr → Tokens → Out Expr
     assign_here a ts = Ok (a, ts)
-
-pub operator_here : (n : ℕ) (ts : Tokens) (t : Lexeme) → 1 ≤ length ts → t ≡ get_or ts 0 t
-    → operator_at n ts ≡ of_level n (joins_by t.form)
-operator_here n [] t le e = absurd (omega (arith, le))
-operator_here n (u ∷ ts) t le e = operator_is n u ts ∙ ap (λ (t : Lexeme). of_level n (joins_by t.form)) (sym e)
 
 -- ---- lists: the loop's start, and its faults
 

@@ -1,5 +1,5 @@
 -- What the parser's methods ensure: they compute the model, unless memory runs out.
-use Rattle.std.specs.Prelude.{◌≡◌, ℕ, suc, true, nat_eq, if◌then◌else◌, List}
+use Rattle.std.specs.Prelude.{◌≡◌, ◌≤◌, ◌<◌, ℕ, suc, true, List}
 use Rattle.std.specs.Prelude.{◌++◌, Option, Some, None, Result, Ok, Err}
 use Rattle.c_tree.specs.declared.token.Form.{Form}
 use Rattle.c_tree.specs.declared.token.Form.TheVariants as form
@@ -106,10 +106,13 @@ joins_by (form.Mark mark.AndAnd) = Some (8, binary.LogicalAnd)
 joins_by (form.Mark mark.OrOr) = Some (9, binary.LogicalOr)
 joins_by _ = None
 
--- the operator, where it joins at this level
-abbrev pub of_level : ℕ → Option (ℕ × BinaryOp) → Option BinaryOp
-of_level n None = None
-of_level n (Some p) = if nat_eq p.0 n then Some (p.1) else None
+-- no operator of the levels from `b` to before `n` is found
+abbrev pub Outside : ℕ → ℕ → Option (ℕ × BinaryOp) → Type 0
+Outside b n found = (p : ℕ × BinaryOp) → found ≡ Some p → b ≤ p.0 → p.0 < n → ⊥
+
+-- an operator of these levels is found
+abbrev pub Inside : ℕ → ℕ → Option (ℕ × BinaryOp) → ℕ × BinaryOp → Type 0
+Inside b n found p = (found ≡ Some p) × (b ≤ p.0) × (p.0 < n)
 
 -- what a loop has found, and what it will still find
 abbrev pub behind : {A : Type 0} → List A → Out (List A) → Out (List A)

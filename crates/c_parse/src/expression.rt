@@ -1,10 +1,10 @@
 //! Binary, conditional, assignment and comma expressions (C17 6.5.5 to 6.5.17).
 
-ghost use Rattle.std.specs.Prelude.{◌≡◌, ◌≤◌, ◌<◌, length, [], ◌∷◌};
+ghost use Rattle.std.specs.Prelude.{◌≡◌, ◌≤◌, ◌<◌, length, [], ◌∷◌, MatchOption};
 ghost use Rattle.c_grammar.specs.ModelExpressions as model;
 ghost use Rattle.c_grammar.specs.Operators.{Assigner, assigner_mark, assigner_op};
 ghost use Rattle.c_parse.specs.Reads as reads;
-ghost use Rattle.c_parse.specs.Reads.{Reads, operator_at, joins_by, IsAssigner};
+ghost use Rattle.c_parse.specs.Reads.{Reads, joins_by, IsAssigner};
 
 use crate::fault::Stopped;
 use crate::make;
@@ -52,44 +52,51 @@ fn joins(form: &Form) -> Option<(u8, BinaryOp)>
     }
 }
 
-/// The operator, if it is of the level.
-fn of_level(level: u8, found: Option<(u8, BinaryOp)>) -> Option<BinaryOp>
-    ensures { result ≡ reads.of_level level found }
+/// The operator with its level, if that is one of the levels from `below` to before `level`.
+fn within(below: u8, level: u8, found: Option<(u8, BinaryOp)>) -> Option<(u8, BinaryOp)>
+    ensures { MatchOption result (reads.Outside below level found)
+        (reads.Inside below level found) }
 {
     match found {
-        Some((of, op)) => { if of == level { Some(op) } else { None } }
+        Some((of, op)) => {
+            if below <= of && of < level {
+                Some((of, op))
+            } else {
+                None
+            }
+        }
         None => None,
     }
 }
 
 impl Parser<'_> {
-    /// The operator that comes next, if phrases so many levels above a cast join by it.
-    #[tactic(auto, using(crate::proofs::Turns::operator_is))]
-    fn operator(&self, below: u8) -> Option<BinaryOp>
-        ensures { result ≡ operator_at below self.now.rest.now }
+    /// The operator that comes next, and how many levels above a cast its right side is.
+    fn operator(&self) -> Option<(u8, BinaryOp)>
+        ensures { result ≡ model.seen joins_by self.now.rest.now }
     {
         match self.rest {
             [] => None,
-            [lexeme, ..] => of_level(below, joins(&lexeme.form)),
+            [lexeme, ..] => joins(&lexeme.form),
         }
     }
 
     /// A phrase of so many levels of binary operators above a cast.
+    ///
+    /// An operator joins all that was read so far: what binds tighter than it stands there already. So one
+    /// operand is read once, and not once a level.
     #[cycle(expression)]
     fn binary(&mut self, left: u8, level: u8) -> Result<Expr, Stopped>
         requires { level ≤ 10 }
         ensures { Reads (model.binary_of (model.inside left) level self.old.rest.now) result
             self.new.rest.now }
     {
-        if level == 0 {
-            return self.cast(left);
-        }
-        let below = level - 1;
-        let mut whole = self.binary(left, below)?;
-        while let Some(op) = self.operator(below) {
+        let mut whole = self.cast(left)?;
+        let mut below = 0u8;
+        while let Some((of, op)) = within(below, level, self.operator()) {
             self.advance();
-            let right = self.binary(left, below)?;
+            let right = self.binary(left, of)?;
             whole = make::binary(self.alloc, op, whole, right)?;
+            below = of;
         }
         Ok(whole)
     }

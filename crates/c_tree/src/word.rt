@@ -5,14 +5,18 @@ ghost use Rattle.std.specs.Hash as fed;
 ghost use Rattle.std.proofs.Common.{rules};
 ghost use Rattle.std.specs.Cmp.Rules.{hashing};
 
+use smallvec::SmallVec;
 use std::alloc::{AllocError, Global};
 use std::hash::{Hash, Hasher};
 use std::marker::Model;
 
-/// An identifier (C17 6.4.2), seen as the list of its bytes.
+/// How many bytes a word has at most that takes no memory of its own.
+const SHORT_WORD_BYTES: usize = 20;
+
+/// An identifier (C17 6.4.2), seen as the list of its bytes. A short one takes no memory of its own.
 #[derive(Debug, Drop)]
 pub struct Word {
-    bytes: Vec<u8>,
+    bytes: SmallVec<u8, SHORT_WORD_BYTES>,
 }
 
 impl Model for Word {
@@ -29,7 +33,7 @@ impl Word {
         ensures ok { IfOk result (λ w. w ≡ bytes.now) }
     {
         Ok(Word {
-            bytes: Vec::from_slice(alloc, bytes)?,
+            bytes: SmallVec::from_slice(alloc, bytes)?,
         })
     }
 
@@ -54,7 +58,7 @@ impl PartialEq for Word {
     ghost laws = { partial_equiv_from_equiv nat_list_eq_equiv };
 
     fn eq(&self, other: &Word) -> bool {
-        self.bytes == other.bytes
+        self.bytes.as_slice() == other.bytes.as_slice()
     }
 }
 
@@ -68,6 +72,6 @@ impl Hash for Word {
     ghost respects_eq = { Prim.search (hashing, rules) };
 
     fn hash<H: Hasher>(&self, state: &mut H) {
-        self.bytes.hash(state);
+        self.bytes.as_slice().hash(state);
     }
 }

@@ -1,13 +1,15 @@
-use Rattle.std.proofs.Common.{◌+◌, ◌-◌, length, arith, rules, sym, ap, ◌∙◌, subst, refl, List, false}
+use Rattle.std.proofs.Common.{ℕ, ◌+◌, ◌-◌, length, arith, rules, sym, ap, ◌∙◌, subst, refl, List, false, Option}
 use Rattle.std.proofs.lemmas.Grind.{common_steps}
 use Rattle.c_tree.specs.declared.tree.Expr.{Expr}
 use Rattle.c_grammar.specs.Operators.{binary_level}
 use Rattle.c_tree.specs.declared.token.Mark.TheVariants as marks
 use Rattle.c_grammar.specs.Parsing.{Out, and_then, listed}
-use Rattle.c_parse.specs.Reads.{Reads, behind}
-use Rattle.c_grammar.specs.ModelExpressions.{inside, loop, binary_of, assignment_of}
+use Rattle.c_tree.specs.declared.tree.BinaryOp.{BinaryOp}
+use Rattle.c_grammar.specs.Tokens.{Tokens}
+use Rattle.c_parse.specs.Reads.{Reads, Fails, Outside, Inside, joins_by, behind}
+use Rattle.c_grammar.specs.ModelExpressions.{seen, inside, loop, binary_of, assignment_of}
 use Rattle.c_parse.proofs.Turns.{listed_keeps, arg_list_init, assign_with, commas_of, comma_on, comma_shorter}
-use Rattle.c_parse.proofs.Turns.{binary_at, binary_zero, turn_on, turns_end, turn_shorter}
+use Rattle.c_parse.proofs.Climbs.{climb, climbs, climb_end, climb_turn, climb_fails, climb_shorter}
 use Rattle.c_parse.proofs.parser.Parser.+expression.Goals as goal
 
 pub arg_list-loop-turn-init : goal.arg_list-loop-turn-init
@@ -27,15 +29,16 @@ assign-returns-in-Some t c =
     assign_with c.args.left c.args.to c.args.self.now.rest.now c.assigned.new.self.rest.now c.assigned.result
     (c.in-Some.mark, c.in-Some.op) _ refl c.in-Some.ensures (λ s e f. c.assigned.ensures s e f)
 
-pub binary-returns-then-level-eq0 : goal.binary-returns-then-level-eq0
-binary-returns-then-level-eq0 t c =
-    subst (λ (o : Out Expr). Reads o c.cast.result c.cast.new.self.rest.now)
-    (sym (binary_zero c.args.left c.args.level c.args.self.now.rest.now c.if-level-eq0.true)) c.cast.ensures
+pub binary-returns-in_err-whole : goal.binary-returns-in_err-whole
+binary-returns-in_err-whole t c =
+    rw (climbs c.args.left c.args.level c.args.self.now.rest.now) (first_of (search rules, grind (arith, common_steps)))
 
 pub binary-returns : goal.binary-returns
 binary-returns t c =
-    sym c.loop-op.invariant.0 ∙ turns_end c.args.left (c.args.level - 1) (omega arith) c.loop-op.whole
-    c.loop-op.self.rest.now (sym c.operator.ensures ∙ c.in_default.is)
+    sym c.loop-of.invariant.0 ∙ climb_end c.args.left c.args.level c.loop-of.below (omega arith)
+    c.loop-of.invariant.1 c.loop-of.whole c.loop-of.self.rest.now
+    (subst (λ (o : Option (ℕ × BinaryOp)). Outside c.loop-of.below c.args.level o) c.operator.ensures
+    c.in_default.ensures)
 
 pub expression-returns-in_err-whole : goal.expression-returns-in_err-whole
 expression-returns-in_err-whole t c =
@@ -60,38 +63,51 @@ expression-loop-self-preserved t c =
     (ap (assignment_of (inside c.args.left)) (sym c.advance.ensures) ∙ c.in_ok-right.ensures))
     ∙ c.loop-self.invariant
 
-pub binary-returns-in_err-whole : goal.binary-returns-in_err-whole
-binary-returns-in_err-whole t c =
-    rw (binary_at c.args.left c.args.level (c.args.level - 1) c.args.self.now.rest.now (omega arith))
-    (first_of (search rules, grind (arith, common_steps)))
+pub binary-loop-of-init : goal.binary-loop-of-init
+binary-loop-of-init t c = (
+  sym (climbs c.args.left c.args.level c.args.self.now.rest.now
+      ∙ ap (λ (o : Out Expr). and_then o (climb c.args.left (c.args.level - 0) 0)) c.in_ok-whole.ensures),
+  omega arith,
+)
 
-pub binary-loop-op-init : goal.binary-loop-op-init
-binary-loop-op-init t c =
-    let k = c.args.level - 1 in (
-      sym (binary_at c.args.left c.args.level k c.args.self.now.rest.now (omega arith)
-          ∙ ap (λ (o : Out Expr). and_then o (λ a ts. loop (binary_of (inside c.args.left) k) (binary_level k)
-          (length ts) a
-          ts)) c.in_ok-whole.ensures),
-      omega arith,
-      omega arith,
-    )
+pub binary-loop-of-smaller : goal.binary-loop-of-smaller
+binary-loop-of-smaller t c =
+    climb_shorter c.args.left c.args.level c.loop-of.below (omega arith) c.loop-of.whole c.loop-of.self.rest.now
+    (c.in-Some.of, c.in-Some.op)
+    (subst (λ (o : Option (ℕ × BinaryOp)). Inside c.loop-of.below c.args.level o (c.in-Some.of, c.in-Some.op))
+    c.operator.ensures c.in-Some.ensures) c.in_ok-right.right c.binary.new.self.rest.now
+    (ap (binary_of (inside c.args.left) c.in-Some.of) (sym c.advance.ensures) ∙ c.in_ok-right.ensures)
 
-pub binary-loop-op-smaller : goal.binary-loop-op-smaller
-binary-loop-op-smaller t c =
-    let k = c.args.level - 1 in
-    turn_shorter c.args.left k (omega arith) c.loop-op.self.rest.now c.binary-in-Some.new.self.rest.now
-    c.in_ok-right.right c.in-Some.op (cc) (ap (binary_of (inside c.args.left) k) (sym c.advance.ensures)
-    ∙ c.in_ok-right.ensures)
-
-pub binary-loop-op-preserved : goal.binary-loop-op-preserved
-binary-loop-op-preserved t c =
-    let rest = c.binary-in-Some.new.self.rest.now in
-    let k = c.args.level - 1 in (
-      ap (λ (w : Expr). loop (binary_of (inside c.args.left) k) (binary_level k) (length rest) w rest)
+pub binary-loop-of-preserved : goal.binary-loop-of-preserved
+binary-loop-of-preserved t c =
+    let found : Inside c.loop-of.below c.args.level (seen joins_by c.loop-of.self.rest.now)
+            (c.in-Some.of, c.in-Some.op) =
+        subst (λ (o : Option (ℕ × BinaryOp)). Inside c.loop-of.below c.args.level o (c.in-Some.of, c.in-Some.op))
+        c.operator.ensures c.in-Some.ensures
+    in (
+      ap (λ (w : Expr). climb c.args.left (c.args.level - c.in-Some.of) c.in-Some.of w c.binary.new.self.rest.now)
           c.in_ok-whole-2.ensures
-          ∙ sym (turn_on c.args.left k (omega arith) c.loop-op.whole c.in_ok-right.right c.loop-op.self.rest.now rest
-          c.in-Some.op (cc) (ap (binary_of (inside c.args.left) k) (sym c.advance.ensures) ∙ c.in_ok-right.ensures))
-          ∙ c.loop-op.invariant.0,
-      omega arith,
-      omega arith,
+          ∙ sym (climb_turn c.args.left c.args.level c.loop-of.below (omega arith) c.loop-of.whole
+          c.loop-of.self.rest.now (c.in-Some.of, c.in-Some.op) found c.in_ok-right.right c.binary.new.self.rest.now
+          (ap (binary_of (inside c.args.left) c.in-Some.of) (sym c.advance.ensures) ∙ c.in_ok-right.ensures))
+          ∙ c.loop-of.invariant.0,
+      omega (arith, found.2),
     )
+
+pub binary-returns-in_err-right : goal.binary-returns-in_err-right
+binary-returns-in_err-right t c =
+    let found : Inside c.loop-of.below c.args.level (seen joins_by c.loop-of.self.rest.now)
+            (c.in-Some.of, c.in-Some.op) =
+        subst (λ (o : Option (ℕ × BinaryOp)). Inside c.loop-of.below c.args.level o (c.in-Some.of, c.in-Some.op))
+        c.operator.ensures c.in-Some.ensures
+    in
+    let stops =
+        climb_fails c.args.left c.args.level c.loop-of.below (omega arith) c.loop-of.whole c.loop-of.self.rest.now
+        (c.in-Some.of, c.in-Some.op) found c.in_err-right.field-0.0 c.binary.new.self.rest.now
+        (subst (λ (ts : Tokens). Fails (binary_of (inside c.args.left) c.in-Some.of ts) c.in_err-right.field-0.0
+        c.binary.new.self.rest.now) c.advance.ensures c.in_err-right.ensures)
+    in
+    let fails =
+        subst (λ (o : Out Expr). Fails o c.in_err-right.field-0.0 c.binary.new.self.rest.now) c.loop-of.invariant.0 stops
+    in
+    first_of (search rules, grind (arith, common_steps))

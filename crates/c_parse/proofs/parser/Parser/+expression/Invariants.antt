@@ -1,10 +1,11 @@
-use Rattle.std.proofs.Common.{◌≡◌, ◌<◌, ◌+◌, ◌-◌, ◌*◌, length, false}
+use Rattle.std.proofs.Common.{◌≡◌, ◌≤◌, ◌+◌, ◌-◌, ◌*◌, length, false}
 use Rattle.c_grammar.specs.Operators.{binary_level}
 use Rattle.c_grammar.specs.Parsing.{listed}
 use Rattle.c_grammar.specs.ModelExpressions.{arg_list_of, inside, loop, suffixes, binary_of, assignment_of}
 use Rattle.c_grammar.specs.ModelExpressions.{expression_of, postfix_of}
 use Rattle.c_tree.specs.declared.token.Mark.TheVariants as marks
 use Rattle.c_parse.specs.Reads.{opened, behind}
+use Rattle.c_parse.proofs.Climbs.{climb}
 use Rattle.c_parse.proofs.parser.Parser.+expression.Given as goal
 
 abbrev pub decreases-index : goal.decreases-index
@@ -97,13 +98,13 @@ invariant-postfix-loop-op l =
 abbrev pub decreases-postfix-loop-op : goal.decreases-postfix-loop-op
 decreases-postfix-loop-op l = length l.self.rest.now
 
-abbrev pub invariant-binary-loop-op : goal.invariant-binary-loop-op
-invariant-binary-loop-op l =
-    (loop (binary_of (inside l.left) l.below) (binary_level l.below) (length l.self.rest.now) l.whole
-    l.self.rest.now ≡ binary_of (inside l.left) l.level l.fn.self.rest.now) × (l.level ≡ l.below + 1) × (l.below < 10)
+abbrev pub invariant-binary-loop-of : goal.invariant-binary-loop-of
+invariant-binary-loop-of l =
+    (climb l.left (l.level - l.below) l.below l.whole l.self.rest.now ≡ binary_of (inside l.left) l.level
+    l.fn.self.rest.now) × (l.below ≤ l.level)
 
-abbrev pub decreases-binary-loop-op : goal.decreases-binary-loop-op
-decreases-binary-loop-op l = length l.self.rest.now
+abbrev pub decreases-binary-loop-of : goal.decreases-binary-loop-of
+decreases-binary-loop-of l = length l.self.rest.now
 
 abbrev pub invariant-expression-loop-self : goal.invariant-expression-loop-self
 invariant-expression-loop-self l =
