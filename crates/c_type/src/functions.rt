@@ -1,6 +1,6 @@
 //! Prototypes and definitions of functions.
 
-ghost use Rattle.std.specs.Prelude.{◌≡◌, map, None, OnOk, true};
+ghost use Rattle.std.specs.Prelude.{◌≡◌, map, length, Some, None, OnOk, true};
 ghost use Rattle.std.specs.Option.{option_copied};
 ghost use Rattle.c_type_expr.specs.Says.{Says};
 ghost use Rattle.c_scope.specs.Scope.{closed};
@@ -112,7 +112,28 @@ pub fn prototype(
     declared(alloc, table, names, given, name, slots, false)
 }
 
-/// Keeps a parameter.
+/// Keeps a parameter of that name.
+fn add_named(
+    alloc: Global,
+    state: &mut State,
+    kind: Kind,
+    name: Word,
+    size: &ArraySize,
+    place: u32,
+) -> Result<(), TypeFault>
+    requires { place ≡ length state.old.scalars }
+    ensures { Adds (functions.named_param (Some name) size.now kind state.old) state.new result }
+{
+    match size {
+        ArraySize::Scalar => add_scalar(alloc, state, kind, name, place),
+        size => {
+            let row = param_row(size)?;
+            add_address(alloc, state, kind, row, name, place)
+        }
+    }
+}
+
+/// Keeps a parameter, where it has a name.
 fn add_param(alloc: Global, state: &mut State, param: Param) -> Result<(), TypeFault>
     ensures { Adds (functions.named_param param.name param.size param.kind state.old) state.new
         result }
@@ -124,15 +145,9 @@ fn add_param(alloc: Global, state: &mut State, param: Param) -> Result<(), TypeF
         size,
         ..
     } = param;
-    let Some(name) = name else {
-        return Ok(());
-    };
-    match size {
-        ArraySize::Scalar => add_scalar(alloc, state, kind, name, place),
-        size => {
-            let row = param_row(&size)?;
-            add_address(alloc, state, kind, row, name, place)
-        }
+    match name {
+        None => Ok(()),
+        Some(name) => add_named(alloc, state, kind, name, &size, place),
     }
 }
 
