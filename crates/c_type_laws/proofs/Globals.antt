@@ -144,6 +144,13 @@ init_long (size.Rows (Some r) e) k init h =
     let q = both (nat_le (length init) m) (rows_fit n init) h in
     subst (λ i. i ≤ m * n) (sym (rows_long k n init q.1)) (mul-le-mul_right n (leb-true (length init) m q.0))
 
+-- what has no sizes has no rows
+no_rows : (size : ArraySize) (n : ℕ) → length_in size n ≡ None → row_in size ≡ None
+no_rows size.Scalar n h = refl
+no_rows size.Open n h = refl
+no_rows (size.Sized e) n h = refl
+no_rows (size.Rows o e) n h = absurd (cc)
+
 -- a global is not `EOF`
 not_end : (size : ArraySize) (k : Kind) (n : ℕ) → is_end (Some (global_meaning size k n)) ≡ false
 not_end size.Scalar k n = refl
@@ -184,6 +191,7 @@ module _ (T : Scope) (m : ℕ) where
       leb-true (count_of size init * bytes k + b) 1048576 (held _ _ p.1) in
       let good : GlobalFits g = record {
         some = subst (λ n. 1 ≤ n) (sym (holds_as size init)) (some_values size init l (F ∷ []) q.0);
+        single = no_rows size (count_of size init);
         rows = subst (λ n. IsRows (row_in size) n) (sym (holds_as size init))
             (whole_rows size init l (F ∷ []) q.0);
         holds = subst (λ n. length g.init ≤ n) (sym (holds_as size init)) many;

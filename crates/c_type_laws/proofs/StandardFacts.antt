@@ -209,7 +209,7 @@ main = function (statement (Return (Some (of Int (Number 7)))) ∷ [])
 -- it is well formed
 seven_is : WellFormed seven
 seven_is = record {
-  globals = (record { some = omega arith; rows = tt; holds = omega arith; words = tt }, tt);
+  globals = (record { some = omega arith; single = λ h. refl; rows = tt; holds = omega arith; words = tt }, tt);
   bytes = omega arith;
   functions = (
     record {

@@ -11,6 +11,11 @@ abbrev pub AreWordsOf : Kind → List ℕ → Type 0
 AreWordsOf k [] = Unit {0}
 AreWordsOf k (w ∷ ws) = IsWord k w × AreWordsOf k ws
 
+-- there is one at least
+abbrev pub IsFilled : {A : Type 0} → List A → Type 0
+IsFilled [] = ⊥
+IsFilled (x ∷ xs) = Unit {0}
+
 -- a constant's value is a word of its type
 abbrev pub FormHasWord : Form → Type 0
 FormHasWord (form.Number v k) = IsWord k v
