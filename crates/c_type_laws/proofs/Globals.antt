@@ -3,7 +3,7 @@ use Rattle.std.proofs.Common.{◌≡◌, ℕ, zero, suc, ◌+◌, ◌-◌, ◌*�
 use Rattle.std.proofs.Common.{Some, None, refl, sym, ap, ◌∙◌, subst, arith, append-nil, length-append}
 use Rattle.std.specs.Prelude.{replicate, nat_le}
 use Rattle.std.proofs.lemmas.List.{length-replicate}
-use Rattle.std.proofs.Math.Nat.{mul-le-mul_right, le-refl}
+use Rattle.std.proofs.Math.Nat.{mul-le-mul_right, le_refl, zero-mul, suc-mul, add_comm}
 use Rattle.std.proofs.lemmas.Bool.{leb-true, ltb-true}
 use Rattle.c_tree.specs.declared.token.Kind.{Kind}
 use Rattle.c_tree.specs.declared.token.Kind.TheVariants.{Char, UChar, Short, UShort, Int, UInt}
@@ -113,18 +113,19 @@ row_long : (k : Kind) (n : ℕ) (es : List Expr) → length es ≤ n → length 
 row_long k n es h =
     let m = length es in
     length-append (map (constant_at k) es) (replicate (n - m) 0)
-    ∙ ap (λ i. i + length (replicate (n - m) 0)) (as_many k es)
+    ∙ ap (λ i. i + length {A = ℕ} (replicate (n - m) 0)) (as_many k es)
     ∙ ap (λ i. m + i) (length-replicate (n - m) 0)
     ∙ omega (arith, h)
 
 rows_long : (k : Kind) (n : ℕ) (ess : List (List Expr)) → rows_fit n ess ≡ true
     → length (rows_words k n ess) ≡ length ess * n
-rows_long k n [] h = refl
+rows_long k n [] h = sym (zero-mul n)
 rows_long k n (es ∷ ess) h =
     let q = both (nat_le (length es) n) (rows_fit n ess) h in
     length-append (row_words k n es) (rows_words k n ess)
     ∙ ap (λ i. i + length (rows_words k n ess)) (row_long k n es (leb-true (length es) n q.0))
     ∙ ap (λ i. n + i) (rows_long k n ess q.1)
+    ∙ add_comm n (length ess * n) ∙ sym (suc-mul (length ess) n)
 
 -- no more than the global holds
 init_long : (size : ArraySize) (k : Kind) (init : List (List Expr)) → init_fits size init ≡ true
@@ -137,7 +138,7 @@ init_long (size.Sized e) k init h =
     subst (λ n. n ≤ count_of (size.Sized e) init) (sym (as_many k (all_values init))) (leb-true _ _ h)
 init_long (size.Rows None e) k init h =
     let n = word_in (length_of e) in
-    subst (λ m. m ≤ length init * n) (sym (rows_long k n init h)) (le-refl (length init * n))
+    subst (λ m. m ≤ length init * n) (sym (rows_long k n init h)) (le_refl (length init * n))
 init_long (size.Rows (Some r) e) k init h =
     let n = word_in (length_of e) in
     let m = word_in (length_of r) in

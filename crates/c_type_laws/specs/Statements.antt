@@ -108,10 +108,10 @@ mutual
         → WellFormedStmt P f b (out-TypedStmt s) → RunsAll P f b ss → RunsAll P f b (s ∷ ss)
 
   -- each section of a switch of the type, behind these labels, is well formed
-  pub data RunsSections (P : TypedProgram) (f : TypedFunc) (k : Kind)
-      : List (Option ℕ) → Around → List TypedSection → Type 0 where
-    no_section : {seen : List (Option ℕ)} {b : Around} → RunsSections P f k seen b []
-    a_section : {seen : List (Option ℕ)} {b : Around} {s : TypedSection} {ss : List TypedSection}
+  pub data RunsSections (P : TypedProgram) (f : TypedFunc)
+      : Kind → List (Option ℕ) → Around → List TypedSection → Type 0 where
+    no_section : {k : Kind} {seen : List (Option ℕ)} {b : Around} → RunsSections P f k seen b []
+    a_section : {k : Kind} {seen : List (Option ℕ)} {b : Around} {s : TypedSection} {ss : List TypedSection}
         → Labels k seen s.labels → RunsAll P f b s.body → RunsSections P f k (seen ++ s.labels) b ss
         → RunsSections P f k seen b (s ∷ ss)
 
