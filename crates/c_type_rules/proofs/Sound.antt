@@ -231,9 +231,9 @@ mutual
   -- the same of the sections of a switch
   pub sections_fine : (k : Kind) (seen : List (Option ℕ)) (b : Around) (v : State) (xs : List Section)
       (ts : List TypedSection) (w : State) → TypesSections k seen b v xs ts w → SectionsFine k seen b v xs ts w
-  sections_fine k _ _ _ _ _ _ no_section = (refl, refl, refl)
-  sections_fine k _ _ _ _ _ _ (one_section {seen = seen} {words = words} {b = b} {v = v} {v' = v'} {w = w} {ls = ls}
-      {ss = ss} {ts = ts} {xs = xs} {us = us} f p q) =
+  sections_fine _ _ _ _ _ _ _ no_section = (refl, refl, refl)
+  sections_fine _ _ _ _ _ _ _ (one_section {k = k} {seen = seen} {words = words} {b = b} {v = v} {v' = v'} {w = w}
+      {ls = ls} {ss = ss} {ts = ts} {xs = xs} {us = us} f p q) =
       let a = labels_fine v.names k seen ls words f in
       let x = all_fine b v ss ts v' p in
       let y = sections_fine k (seen ++ words) b v' xs us w q in

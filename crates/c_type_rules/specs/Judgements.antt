@@ -1,7 +1,7 @@
 -- What of a unit is judged, and the order in which the parts of an expression are: operands before
 -- their node (C17 6.5, 6.6).
 use Rattle.std.specs.Prelude.{ℕ, Bool, true, false, is_some, length, List, [], ◌∷◌, ◌++◌, map}
-use Rattle.std.specs.Prelude.{Option, Some}
+use Rattle.std.specs.Prelude.{Option, Some, None}
 use Rattle.c_tree.specs.declared.token.Kind.{Kind}
 use Rattle.c_tree.specs.declared.tree.Expr.{Expr}
 use Rattle.c_tree.specs.declared.tree.ExprNode.{ExprNode}

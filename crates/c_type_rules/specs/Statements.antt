@@ -127,12 +127,13 @@ mutual
         → Types b v s t v' → TypesAll b v' ss ts w → TypesAll b v (s ∷ ss) (t ∷ ts) w
 
   -- the sections of a switch of a type, behind labels of these words: no two labels are the same
-  pub data TypesSections (k : Kind) : List (Option ℕ) → Around → State → List Section
+  pub data TypesSections : Kind → List (Option ℕ) → Around → State → List Section
       → List TypedSection → State → Type 0 where
-    no_section : {seen : List (Option ℕ)} {b : Around} {v : State}
+    no_section : {k : Kind} {seen : List (Option ℕ)} {b : Around} {v : State}
         → TypesSections k seen b v [] [] v
-    one_section : {seen words : List (Option ℕ)} {b : Around} {v v' w : State} {ls : List Label}
-        {ss : List Stmt} {ts : List TypedStmt} {xs : List Section} {us : List TypedSection}
+    one_section : {k : Kind} {seen words : List (Option ℕ)} {b : Around} {v v' w : State}
+        {ls : List Label} {ss : List Stmt} {ts : List TypedStmt} {xs : List Section}
+        {us : List TypedSection}
         → Labels v.names k seen ls words → TypesAll b v ss ts v'
         → TypesSections k (seen ++ words) b v' xs us w
         → TypesSections k seen b v (sectioned ls ss ∷ xs) ((record { labels = words; body = ts }) ∷ us) w
