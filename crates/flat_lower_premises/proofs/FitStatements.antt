@@ -150,8 +150,8 @@ module _ (P : TypedProgram) (f : TypedFunc) (globals : Each GlobalFits P.globals
     runs_sections : (k : Kind) (seen : List (Option ℕ)) (b : TypedAround) (x : Around) → Continues b x
         → (xs : List TypedSection) → RunsSections P f k seen b xs → SectionsHaveWords xs
         → SectionsFew top (sections_in xs) → FitsSections c f.result x (Some k) (sections_in xs)
-    runs_sections k _ b x ok _ rule.no_section w m = tt
-    runs_sections k _ b x ok _ (rule.a_section {seen = seen} {s = s} {ss = ss} l r rs)
+    runs_sections _ _ b x ok _ rule.no_section w m = tt
+    runs_sections _ _ b x ok _ (rule.a_section {k = k} {seen = seen} {s = s} {ss = ss} l r rs)
         (word.one_section i j w ws) m = (
           labelled s.labels i,
           labels_fit k seen s.labels l,

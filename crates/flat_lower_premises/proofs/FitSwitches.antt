@@ -91,8 +91,8 @@ module _ (P : TypedProgram) (f : TypedFunc) where
   one_free : (k : Kind) (seen : List (Option ℕ)) (b : Around) (xs : List TypedSection)
       → RunsSections P f k seen b xs → SectionsHaveWords xs → defaults seen ≤ 1
       → free_sections (sections_in xs) + defaults seen ≤ 1
-  one_free k _ b _ rule.no_section w h = h
-  one_free k _ b _ (rule.a_section {seen = seen} {s = s} {ss = ss} l r rs) (word.one_section i j u ws) h =
+  one_free _ _ b _ rule.no_section w h = h
+  one_free _ _ b _ (rule.a_section {k = k} {seen = seen} {s = s} {ss = ss} l r rs) (word.one_section i j u ws) h =
       let d = one_default k seen s.labels l h in
       let e = defaults_joined seen s.labels in
       let g = free_has_default s.labels i in

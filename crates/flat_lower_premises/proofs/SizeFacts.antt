@@ -24,9 +24,9 @@ grouped =
     let b = nodes-Binary 1 Add (number 1) (number 2) in
     let x = nodes-Number 1 1 Int in let y = nodes-Number 1 2 Int in omega arith
 
--- `switch (1) { case 1: default: ; }`: three of its own, the test, the section, two labels and the statement
+-- `switch (1) { case 1: default: ; }`: two of its own, the test, the section, two labels and the statement
 chosen : stmt_nodes (s.at 1 (stmt.Switch (number 1)
-    (s.sectioned (s.labelled 1 (Some (number 1)) ∷ s.labelled 1 None ∷ []) (s.at 1 (stmt.Plain None) ∷ []) ∷ []))) ≡ 8
+    (s.sectioned (s.labelled 1 (Some (number 1)) ∷ s.labelled 1 None ∷ []) (s.at 1 (stmt.Plain None) ∷ []) ∷ []))) ≡ 7
 chosen =
     let ls = s.labelled 1 (Some (number 1)) ∷ s.labelled 1 None ∷ [] in
     let ss = s.at 1 (stmt.Plain None) ∷ [] in

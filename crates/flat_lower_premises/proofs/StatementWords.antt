@@ -242,8 +242,8 @@ mutual
   sections_have : (k : Kind) (seen : List (Option ℕ)) (b : Around) (v : State) (xs : List Section)
       (us : List TypedSection) (w : State) → TypesSections k seen b v xs us w → plain.SectionsHaveWords xs
       → words.SectionsHaveWords us
-  sections_have k _ _ _ _ _ _ typing.no_section x = words.no_section
-  sections_have k _ _ _ _ _ _ (typing.one_section {seen = seen} {words = ws} {b = b} {v = v} {v' = v'} {w = w}
+  sections_have _ _ _ _ _ _ _ typing.no_section x = words.no_section
+  sections_have _ _ _ _ _ _ _ (typing.one_section {k = k} {seen = seen} {words = ws} {b = b} {v = v} {v' = v'} {w = w}
       {ls = ls} {ss = ss} {ts = ts} {xs = xs} {us = us} l p q) x =
       let y = section_opened ls ss xs x in
       words.one_section (labels_filled v.names k seen ls ws l y.labelled) (stmts_filled b v ss ts v' p y.filled)

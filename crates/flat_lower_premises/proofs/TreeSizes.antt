@@ -135,7 +135,7 @@ module _ (l : ℕ) where
   nodes-For i c p b = by_stmt l _ (StmtNode-F.For i c p b) (stmt.rolls-For i c p b)
 
   pub nodes-Switch : (c : Expr) (xs : List Section)
-      → stmt_nodes (s.at l (stmt.Switch c xs)) ≡ 3 + (expr_nodes c + sections_nodes xs)
+      → stmt_nodes (s.at l (stmt.Switch c xs)) ≡ 2 + (expr_nodes c + sections_nodes xs)
   nodes-Switch c xs = by_stmt l _ (StmtNode-F.Switch c xs) (stmt.rolls-Switch c xs)
 
   pub nodes-Break : stmt_nodes (s.at l stmt.Break) ≡ 1

@@ -1,5 +1,5 @@
 -- How many nodes a unit has: each function, each statement and each expression counts one, a call
--- three, as its name and its parentheses, and another pair of parentheses nothing. A switch counts three,
+-- three, as its name and its parentheses, and another pair of parentheses nothing. A switch counts two,
 -- and each of its sections and labels one. What typing computes once and for all, as an array's size, the
 -- values of a global or a case label's constant, is not counted.
 use Rattle.std.specs.Prelude.{ℕ, ◌+◌, List, [], ◌∷◌, length, map, Option, Some, None}
@@ -68,7 +68,7 @@ stmt_level_nodes (If c s other) = 1 + (expr_nodes c + (s + total_if other))
 stmt_level_nodes (While c s) = 1 + (expr_nodes c + s)
 stmt_level_nodes (Do s c) = 1 + (s + expr_nodes c)
 stmt_level_nodes (For i c p s) = 1 + (i + (expr_if_nodes c + (expr_if_nodes p + s)))
-stmt_level_nodes (Switch c xs) = 3 + (expr_nodes c + total xs)
+stmt_level_nodes (Switch c xs) = 2 + (expr_nodes c + total xs)
 stmt_level_nodes Break = 1
 stmt_level_nodes Continue = 1
 stmt_level_nodes (Return e) = 1 + expr_if_nodes e
