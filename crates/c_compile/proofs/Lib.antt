@@ -1,4 +1,5 @@
 pub mod Placed
+pub mod SmallRows
 pub mod Accepted
 pub mod Images
 pub mod CutPrograms

@@ -11,6 +11,7 @@ use Rattle.c_tree.specs.declared.tree.Param.{Param}
 use Rattle.c_tree.specs.declared.tree.Stmt.{Stmt}
 use Rattle.c_tree.specs.declared.typed.Place.TheVariants as place
 use Rattle.c_tree.specs.declared.typed.Slot.{Slot}
+use Rattle.c_tree.specs.declared.typed.Slot.TheVariants as slot
 use Rattle.c_tree.specs.declared.typed.TypedFunc.{TypedFunc}
 use Rattle.c_tree.specs.declared.typed.TypedProgram.{TypedProgram}
 use Rattle.c_scope.specs.declared.meaning.Meaning.TheVariants as meaning
@@ -24,7 +25,7 @@ use Rattle.c_type_laws.specs.Objects.{signature, of_function, slot_scalar, slot_
 use Rattle.c_type_laws.specs.WellFormed.{Each, IsScalar, SlotFits, ArrayFits, FunctionFits}
 use Rattle.c_type_laws.proofs.Moves.{split, held, Known, Fine, Within, Ahead}
 use Rattle.c_type_laws.proofs.Lists.{at_end, each_both, size_some, outer_in}
-use Rattle.c_type_laws.proofs.Parts.{known_in}
+use Rattle.c_type_laws.proofs.Declarations.{known_in}
 use Rattle.c_type_laws.proofs.Bodies.{body_sound}
 
 -- PARAMETERS

@@ -3,7 +3,7 @@ use Rattle.std.proofs.Common.{◌≡◌, ℕ, zero, suc, ◌+◌, ◌-◌, ◌*�
 use Rattle.std.proofs.Common.{Some, None, refl, sym, ap, ◌∙◌, subst, arith, append-nil, length-append}
 use Rattle.std.specs.Prelude.{replicate, nat_le}
 use Rattle.std.proofs.lemmas.List.{length-replicate}
-use Rattle.std.proofs.Math.Nat.{mul-le-mul_right, le-refl}
+use Rattle.std.proofs.Math.Nat.{mul-le-mul_right, le_refl, zero-mul, suc-mul, add_comm}
 use Rattle.std.proofs.lemmas.Bool.{leb-true, ltb-true}
 use Rattle.c_tree.specs.declared.token.Kind.{Kind}
 use Rattle.c_tree.specs.declared.token.Kind.TheVariants.{Char, UChar, Short, UShort, Int, UInt}
@@ -113,18 +113,19 @@ row_long : (k : Kind) (n : ℕ) (es : List Expr) → length es ≤ n → length 
 row_long k n es h =
     let m = length es in
     length-append (map (constant_at k) es) (replicate (n - m) 0)
-    ∙ ap (λ i. i + length (replicate (n - m) 0)) (as_many k es)
+    ∙ ap (λ i. i + length {A = ℕ} (replicate (n - m) 0)) (as_many k es)
     ∙ ap (λ i. m + i) (length-replicate (n - m) 0)
     ∙ omega (arith, h)
 
 rows_long : (k : Kind) (n : ℕ) (ess : List (List Expr)) → rows_fit n ess ≡ true
     → length (rows_words k n ess) ≡ length ess * n
-rows_long k n [] h = refl
+rows_long k n [] h = sym (zero-mul n)
 rows_long k n (es ∷ ess) h =
     let q = both (nat_le (length es) n) (rows_fit n ess) h in
     length-append (row_words k n es) (rows_words k n ess)
     ∙ ap (λ i. i + length (rows_words k n ess)) (row_long k n es (leb-true (length es) n q.0))
     ∙ ap (λ i. n + i) (rows_long k n ess q.1)
+    ∙ add_comm n (length ess * n) ∙ sym (suc-mul (length ess) n)
 
 -- no more than the global holds
 init_long : (size : ArraySize) (k : Kind) (init : List (List Expr)) → init_fits size init ≡ true
@@ -137,12 +138,19 @@ init_long (size.Sized e) k init h =
     subst (λ n. n ≤ count_of (size.Sized e) init) (sym (as_many k (all_values init))) (leb-true _ _ h)
 init_long (size.Rows None e) k init h =
     let n = word_in (length_of e) in
-    subst (λ m. m ≤ length init * n) (sym (rows_long k n init h)) (le-refl (length init * n))
+    subst (λ m. m ≤ length init * n) (sym (rows_long k n init h)) (le_refl (length init * n))
 init_long (size.Rows (Some r) e) k init h =
     let n = word_in (length_of e) in
     let m = word_in (length_of r) in
     let q = both (nat_le (length init) m) (rows_fit n init) h in
     subst (λ i. i ≤ m * n) (sym (rows_long k n init q.1)) (mul-le-mul_right n (leb-true (length init) m q.0))
+
+-- what has no sizes has no rows
+no_rows : (size : ArraySize) (n : ℕ) → length_in size n ≡ None → row_in size ≡ None
+no_rows size.Scalar n h = refl
+no_rows size.Open n h = refl
+no_rows (size.Sized e) n h = refl
+no_rows (size.Rows o e) n h = absurd (cc)
 
 -- a global is not `EOF`
 not_end : (size : ArraySize) (k : Kind) (n : ℕ) → is_end (Some (global_meaning size k n)) ≡ false
@@ -153,8 +161,8 @@ not_end (size.Rows o e) k n = refl
 
 module _ (T : Scope) (m : ℕ) where
   -- the name of a global names it
-  global_bound : (size : ArraySize) (k : Kind) (w : List ℕ) (init : List (List Expr)) (G : Scope) (gs : List TypedGlobal)
-      (fs : List TypedFunc)
+  global_bound : (size : ArraySize) (k : Kind) (w : List ℕ) (init : List (List Expr)) (G : Scope)
+      (gs : List TypedGlobal) (fs : List TypedFunc)
       → Bound T (program T m (gs ++ typed_global size k init ∷ []) fs) G w (global_meaning size k (length gs))
   global_bound size.Scalar k w init G gs fs =
       λ f. ap object.global_scalar (at_last gs (typed_global size.Scalar k init))
@@ -165,8 +173,8 @@ module _ (T : Scope) (m : ℕ) where
       λ f. ap object.global_array (at_last gs (typed_global (size.Rows o e) k init))
 
   -- a global that has no fault
-  pub on_global : (k : Kind) (w : List ℕ) (size : ArraySize) (init : List (List Expr)) (l : ℕ) (N : Scope) (n : ℕ) (F : Frame)
-      (gs : List TypedGlobal) (b : ℕ) (fs : List TypedFunc)
+  pub on_global : (k : Kind) (w : List ℕ) (size : ArraySize) (init : List (List Expr)) (l : ℕ) (N : Scope) (n : ℕ)
+      (F : Frame) (gs : List TypedGlobal) (b : ℕ) (fs : List TypedFunc)
       → Holds T m N n F gs b fs → global_fault size k w init l (file T m F gs b fs) ≡ None
       → Step T m N n F fs (with_global size k w init (file T m F gs b fs))
   on_global k w size init l N n F gs b fs i h =
@@ -184,6 +192,7 @@ module _ (T : Scope) (m : ℕ) where
       leb-true (count_of size init * bytes k + b) 1048576 (held _ _ p.1) in
       let good : GlobalFits g = record {
         some = subst (λ n. 1 ≤ n) (sym (holds_as size init)) (some_values size init l (F ∷ []) q.0);
+        single = no_rows size (count_of size init);
         rows = subst (λ n. IsRows (row_in size) n) (sym (holds_as size init))
             (whole_rows size init l (F ∷ []) q.0);
         holds = subst (λ n. length g.init ≤ n) (sym (holds_as size init)) many;

@@ -11,7 +11,7 @@ use Rattle.c_tree.specs.declared.typed.TypedProgram.{TypedProgram}
 use Rattle.c_tree.specs.declared.typed.TypedSection.{TypedSection}
 use Rattle.c_tree.specs.declared.typed.TypedStmt.{TypedStmt, out-TypedStmt}
 use Rattle.c_tree.specs.declared.typed.TypedForInit.{TypedForInit, out-TypedForInit}
-use Rattle.c_tree.specs.declared.typed.TypedForInit.TheOpen.{TypedStmt-F, TypedForInit-F, Declare}
+use Rattle.c_tree.specs.declared.typed.TypedForInit.TheOpen.{Declare}
 use Rattle.c_tree.specs.declared.typed.TypedForInit.TheOpen.{Plain, Compound, If, While, Do, For, Switch}
 use Rattle.c_tree.specs.declared.typed.TypedForInit.TheOpen.{Break, Continue, Return, Nothing}
 use Rattle.c_tree.specs.declared.typed.TypedForInit.TheOpen.{First, Locals}
@@ -108,10 +108,10 @@ mutual
         → WellFormedStmt P f b (out-TypedStmt s) → RunsAll P f b ss → RunsAll P f b (s ∷ ss)
 
   -- each section of a switch of the type, behind these labels, is well formed
-  pub data RunsSections (P : TypedProgram) (f : TypedFunc) (k : Kind)
-      : List (Option ℕ) → Around → List TypedSection → Type 0 where
-    no_section : {seen : List (Option ℕ)} {b : Around} → RunsSections P f k seen b []
-    a_section : {seen : List (Option ℕ)} {b : Around} {s : TypedSection} {ss : List TypedSection}
+  pub data RunsSections (P : TypedProgram) (f : TypedFunc)
+      : Kind → List (Option ℕ) → Around → List TypedSection → Type 0 where
+    no_section : {k : Kind} {seen : List (Option ℕ)} {b : Around} → RunsSections P f k seen b []
+    a_section : {k : Kind} {seen : List (Option ℕ)} {b : Around} {s : TypedSection} {ss : List TypedSection}
         → Labels k seen s.labels → RunsAll P f b s.body → RunsSections P f k (seen ++ s.labels) b ss
         → RunsSections P f k seen b (s ∷ ss)
 

@@ -40,9 +40,11 @@ abbrev pub IsRows : Option ℕ → ℕ → Type 0
 IsRows None n = Unit {0}
 IsRows (Some r) n = (1 ≤ r) × ((m : ℕ) × (n ≡ m * r))
 
--- an array has an element; a global holds no fewer values than it is given, each of its type
+-- an array has an element, and what is no array has no rows; a global holds no fewer values than it is given,
+-- each of its type
 pub record GlobalFits (g : TypedGlobal) : Type 0 where
   pub some : 1 ≤ count_of g.length
+  pub single : g.length ≡ None → g.row ≡ None
   pub rows : IsRows g.row (count_of g.length)
   pub holds : length g.init ≤ count_of g.length
   pub words : Each (IsWord g.kind) g.init

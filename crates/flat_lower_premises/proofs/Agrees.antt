@@ -1,7 +1,7 @@
 -- Operators, and the types that typing gives their operands.
 use Rattle.std.proofs.Common.{◌≡◌, ℕ, Some, refl, sym, ap, ◌∙◌, subst}
 use Rattle.c_tree.specs.declared.Kind.{Kind}
-use Rattle.c_tree.specs.declared.Kind.TheVariants.{Char, UChar, Int, UInt, Long, ULong}
+use Rattle.c_tree.specs.declared.Kind.TheVariants.{Char, UChar, Short, UShort, Int, UInt, Long, ULong}
 use Rattle.c_tree.specs.declared.UnaryOp.{UnaryOp}
 use Rattle.c_tree.specs.declared.UnaryOp.TheVariants.{Plus, Minus, Complement, Not}
 use Rattle.c_tree.specs.declared.BinaryOp.{BinaryOp}
@@ -21,6 +21,8 @@ use Rattle.flat_lower.specs.Fits.{FitsBinary, FitsUnary, FitsCompound}
 promoted_works : (k : Kind) → IsArithmetic (promoted k)
 promoted_works Char = tt
 promoted_works UChar = tt
+promoted_works Short = tt
+promoted_works UShort = tt
 promoted_works Int = tt
 promoted_works UInt = tt
 promoted_works Long = tt
@@ -30,26 +32,36 @@ promoted_works ULong = tt
 larger_works : (j k : Kind) → IsArithmetic j → IsArithmetic k → IsArithmetic (larger j k)
 larger_works Char k a b = absurd a
 larger_works UChar k a b = absurd a
+larger_works Short k a b = absurd a
+larger_works UShort k a b = absurd a
 larger_works Int Char a b = absurd b
 larger_works Int UChar a b = absurd b
+larger_works Int Short a b = absurd b
+larger_works Int UShort a b = absurd b
 larger_works Int Int a b = tt
 larger_works Int UInt a b = tt
 larger_works Int Long a b = tt
 larger_works Int ULong a b = tt
 larger_works UInt Char a b = absurd b
 larger_works UInt UChar a b = absurd b
+larger_works UInt Short a b = absurd b
+larger_works UInt UShort a b = absurd b
 larger_works UInt Int a b = tt
 larger_works UInt UInt a b = tt
 larger_works UInt Long a b = tt
 larger_works UInt ULong a b = tt
 larger_works Long Char a b = absurd b
 larger_works Long UChar a b = absurd b
+larger_works Long Short a b = absurd b
+larger_works Long UShort a b = absurd b
 larger_works Long Int a b = tt
 larger_works Long UInt a b = tt
 larger_works Long Long a b = tt
 larger_works Long ULong a b = tt
 larger_works ULong Char a b = absurd b
 larger_works ULong UChar a b = absurd b
+larger_works ULong Short a b = absurd b
+larger_works ULong UShort a b = absurd b
 larger_works ULong Int a b = tt
 larger_works ULong UInt a b = tt
 larger_works ULong Long a b = tt

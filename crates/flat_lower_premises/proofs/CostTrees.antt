@@ -55,6 +55,7 @@ converted_few k t = go (same_kind (kind_of t) k)
 -- of a left side only an index counts
 pub left_few : (e : tree.Expr) → left_nodes e ≤ nodes e
 left_few (tree.Element k p index) = omega arith
+left_few (tree.RowElement k p row index) = omega arith
 left_few _ = omega arith
 
 -- STATEMENTS

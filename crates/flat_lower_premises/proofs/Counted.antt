@@ -48,14 +48,20 @@ counted may _ f t (spelled.some_size x) = tt
 counted may _ f t (spelled.last_value x) = tt
 counted may _ f t (spelled.last_comma x) = tt
 counted may _ f t (spelled.next_value x y) = tt
+counted may _ f t (spelled.last_row x) = tt
+counted may _ f t (spelled.last_row_comma x) = tt
+counted may _ f t (spelled.next_row x y) = tt
 counted may _ f t spelled.bare = tt
 counted may _ f t (spelled.valued x) = tt
 counted may _ f t (spelled.sized x) = tt
 counted may _ f t (spelled.filled x y) = tt
+counted may _ f t (spelled.rows_sized x y) = tt
+counted may _ f t (spelled.rows_filled x y z) = tt
 counted may _ f t spelled.unlabelled = tt
 counted may _ f t spelled.labelled = tt
 counted may _ f t spelled.no_brackets = tt
 counted may _ f t (spelled.some_brackets x) = tt
+counted may _ f t (spelled.two_brackets x y) = tt
 counted may _ f t (spelled.param_is x y z) = tt
 counted may _ f t spelled.no_params = tt
 counted may _ f t spelled.void_params = tt
@@ -77,7 +83,7 @@ item_adds : (T : List Top) (U : FileScope) (n : TopNode) (V : FileScope) → Ite
     → length V.globals ≤ 1 + length U.globals
 item_adds T U _ _ (typing.include e g p) = omega arith
 item_adds T U _ _ (typing.include_again e) = omega arith
-item_adds T U _ _ (typing.global c e b v l) = added U.globals _
+item_adds T U _ _ (typing.global c e b v) = added U.globals _
 item_adds T U _ _ (typing.prototype k h) = omega arith
 item_adds T U _ _ (typing.definition k h b) = omega arith
 

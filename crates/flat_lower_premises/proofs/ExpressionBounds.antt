@@ -1,6 +1,6 @@
 -- A pass through a typed expression costs no more than the expression has nodes, and a typed
 -- expression has fewer than twice as many.
-use Rattle.std.proofs.Common.{◌≡◌, ◌+◌, ◌*◌, ◌≤◌, List, Option, Some, arith}
+use Rattle.std.proofs.Common.{◌≡◌, ◌+◌, ◌*◌, ◌≤◌, List, Option, Some, None, arith}
 use Rattle.c_tree.specs.declared.token.Kind.{Kind}
 use Rattle.c_tree.specs.declared.token.Kind.TheVariants.{Int}
 use Rattle.c_tree.specs.declared.tree.Expr.{Expr}
@@ -16,7 +16,7 @@ use Rattle.c_constant.specs.Operation.{left_at, right_at, result_of, unary_at, u
 use Rattle.c_type_expr.specs.declared.role.Role.{Role}
 use Rattle.c_type_expr.specs.Trees.{a, kind_of, with_convert, end_of_file, assigned_at}
 use Rattle.c_type_expr.specs.Trees.{assigned_from}
-use Rattle.c_type_expr.specs.Typed.{Typed, Passed, number, scalar, array, ending, element, call}
+use Rattle.c_type_expr.specs.Typed.{Typed, Passed, number, scalar, array, ending, element, row_element, call}
 use Rattle.c_type_expr.specs.Typed.{group, operator, conversion, step, operation, either}
 use Rattle.c_type_expr.specs.Typed.{assignment, sequence, none, value, address}
 use Rattle.flat_lower_premises.specs.Nodes.{expr_nodes, exprs_nodes}
@@ -71,9 +71,13 @@ module _ (G : Scope) where
         let m = ending_one in
         (omega (arith, m.0), omega (arith, m.1))
     typed_few (element {l = l} {w = w} {k = k} {p = p} {i = i} {j = j} x m h) =
-        let n = nodes-Element l w i in let c = typed_few x in
-        let m = at_node (Some k) _ (node.Element p j) (typed.rolls-Element p j) in
+        let n = nodes-Element l w None i in let c = typed_few x in
+        let m = at_node (Some k) _ (node.Element p None j) (typed.rolls-Element p None j) in
         (omega (arith, c.0, m.0), omega (arith, c.1, m.1))
+    typed_few (row_element {l = l} {w = w} {k = k} {p = p} {x = r} {i = i} {y = s} {j = j} x y m h) =
+        let n = nodes-Element l w (Some r) i in let c = typed_few x in let d = typed_few y in
+        let m = at_node (Some k) _ (node.Element p (Some s) j) (typed.rolls-Element p (Some s) j) in
+        (omega (arith, c.0, d.0, m.0), omega (arith, c.1, d.1, m.1))
     typed_few (call {l = l} {w = w} {result = result} {c = c} {es = es} {ts = ts} i x h) =
         let n = nodes-Call l w es in let d = passed_few x in
         let m = at_node result _ (node.Call c ts) (typed.rolls-Call c ts) in

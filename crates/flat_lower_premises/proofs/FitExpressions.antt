@@ -13,17 +13,18 @@ use Rattle.c_tree.specs.declared.TypedExpr.{TypedExpr}
 use Rattle.c_tree.specs.declared.TypedNode.TheOpen as node
 use Rattle.c_tree.specs.declared.TypedFunc.{TypedFunc}
 use Rattle.c_tree.specs.declared.TypedProgram.{TypedProgram}
-use Rattle.c_constant.specs.Need.{Needs, args_need, call_need, assign_need}
+use Rattle.c_constant.specs.Need.{Needs, args_need, call_need, assign_need, indexes_need}
 use Rattle.c_type_laws.specs.Objects.{Signature, signature, signature_of}
 use Rattle.c_tree.specs.TypedTrees.{Node, node_of}
 use Rattle.c_type_laws.specs.Expressions.{Gives, Has, IsObject, Passes}
 use Rattle.c_type_laws.specs.Expressions as rule
 use Rattle.c_type_laws.specs.Needs.{typed_needs}
+use Rattle.c_type_laws.specs.WellFormed.{Each, GlobalFits}
 use Rattle.c_type_laws.proofs.Moves.{some_is}
 use Rattle.flat_lower_premises.specs.TypedTrees.{NodeHasWords, ExprsHaveWords}
 use Rattle.flat_lower_premises.specs.TypedTrees as word
 use Rattle.flat_lower.specs.Tree.{Expr, Number, Name, Element, Call, Unary, Cast, Convert, Bump}
-use Rattle.flat_lower.specs.Tree.{Binary, Choice, Assign, Comma, Exprs, NoExprs, WithExpr, kind_of}
+use Rattle.flat_lower.specs.Tree.{RowElement, Binary, Choice, Assign, Comma, Exprs, NoExprs, WithExpr, kind_of}
 use Rattle.flat_lower.specs.TreeViews.{expr_of, exprs_of, func_of}
 use Rattle.flat_lower.specs.Expressions.{operand_at, right_at}
 use Rattle.flat_lower.specs.Fits.{Scope, FitsBinary, FitsUnary, FitsCompound, FitsCall, FitsArg}
@@ -32,7 +33,7 @@ use Rattle.flat_lower.proofs.TreeFacts.{plain_node, expr_is, kind_is}
 use Rattle.flat_lower.proofs.Depths.{depth_fits}
 use Rattle.flat_lower.proofs.Calls.{func_at}
 use Rattle.flat_lower_premises.proofs.NodeNeeds.{need, level_needs, needs_is, binary_left, binary_right}
-use Rattle.flat_lower_premises.proofs.NodeNeeds.{choice_test, choice_one, choice_other, comma_left}
+use Rattle.flat_lower_premises.proofs.NodeNeeds.{row_first, row_second, choice_test, choice_one, choice_other, comma_left}
 use Rattle.flat_lower_premises.proofs.NodeNeeds.{comma_right, Room, assign_room, arg_room, args_room}
 use Rattle.flat_lower_premises.proofs.Agrees.{unary_agrees, binary_agrees, compound_agrees}
 use Rattle.flat_lower_premises.proofs.Named.{scope, scalar_fits, array_fits, found_by}
@@ -65,9 +66,13 @@ words_at : (e : TypedExpr) (k : Option Kind) (x : Node) → e.kind ≡ k → nod
 words_at e k x q n w = subst (NodeHasWords k) n (subst (λ k. NodeHasWords k (node_of e)) q w)
 
 -- the words of an operand
-index_words : (r : Option Kind) (p : Place) (i : TypedExpr) → NodeHasWords r (node.Element p i)
+index_words : (r : Option Kind) (p : Place) (i : TypedExpr) → NodeHasWords r (node.Element p None i)
     → NodeHasWords i.kind (node_of i)
 index_words r p i (word.element w) = w
+
+row_words : (r : Option Kind) (p : Place) (x i : TypedExpr) → NodeHasWords r (node.Element p (Some x) i)
+    → NodeHasWords x.kind (node_of x) × NodeHasWords i.kind (node_of i)
+row_words r p x i (word.row_element w u) = (w, u)
 
 converted_words : (r : Option Kind) (k : Kind) (i : TypedExpr) → NodeHasWords r (node.Convert k i)
     → NodeHasWords i.kind (node_of i)
@@ -89,7 +94,12 @@ right_indexed : (o : Option BinaryOp) (k : Option Kind) (p : Place) (x : Expr) (
 right_indexed None k p x d i n l = omega (arith, l)
 right_indexed (Some o) k p x d i n l = omega (arith, l)
 
-module _ (P : TypedProgram) (f : TypedFunc) where
+right_row : (o : Option BinaryOp) (k : Option Kind) (p : Place) (x y : Expr) (d i n : ℕ)
+    → d + assign_need (Some i) n ≤ 16 → right_at o d (RowElement k p x y) + n ≤ 16
+right_row None k p x y d i n l = omega (arith, l)
+right_row (Some o) k p x y d i n l = omega (arith, l)
+
+module _ (P : TypedProgram) (f : TypedFunc) (globals : Each GlobalFits P.globals) where
   abbrev c : Scope
   c = scope P f
 
@@ -102,8 +112,11 @@ module _ (P : TypedProgram) (f : TypedFunc) where
       let t : Room d None = omega (arith, r) in
       subst (λ (s : Needs). Room d s.index) (sym (needs_at e (node.Name p) n)) t
   bump_room _ _ d (rule.indexed {k = k} {e = e} {i = i} {p = p} q n s v) l =
-      let r : Room d (Some (need i)) = room_at e (node.Element p i) d n l in
-      subst (λ (s : Needs). Room d s.index) (sym (needs_at e (node.Element p i) n)) r
+      let r : Room d (Some (need i)) = room_at e (node.Element p None i) d n l in
+      subst (λ (s : Needs). Room d s.index) (sym (needs_at e (node.Element p None i) n)) r
+  bump_room _ _ d (rule.row_indexed {k = k} {e = e} {x = x} {y = y} {p = p} q n s v u) l =
+      let r : Room d (Some (indexes_need (Some (need x)) (need y))) = room_at e (node.Element p (Some x) y) d n l in
+      subst (λ (s : Needs). Room d s.index) (sym (needs_at e (node.Element p (Some x) y) n)) r
 
   right_room : (o : Option BinaryOp) (k : Kind) (e : TypedExpr) (d m : ℕ) → IsObject P f k e
       → d + assign_need (typed_needs e).index m ≤ 16 → right_at o d (expr_of e) + m ≤ 16
@@ -112,9 +125,13 @@ module _ (P : TypedProgram) (f : TypedFunc) where
       subst (λ x. right_at o d x + m ≤ 16) (sym (at_level e (Some k) (node.Name p) q n))
       (right_named o (Some k) p d m r)
   right_room o _ _ d m (rule.indexed {k = k} {e = e} {i = i} {p = p} q n s v) l =
-      let r = assign_at e (node.Element p i) d m n l in
-      subst (λ x. right_at o d x + m ≤ 16) (sym (at_level e (Some k) (node.Element p i) q n))
+      let r = assign_at e (node.Element p None i) d m n l in
+      subst (λ x. right_at o d x + m ≤ 16) (sym (at_level e (Some k) (node.Element p None i) q n))
       (right_indexed o (Some k) p (expr_of i) d (need i) m r)
+  right_room o _ _ d m (rule.row_indexed {k = k} {e = e} {x = x} {y = y} {p = p} q n s v u) l =
+      let r = assign_at e (node.Element p (Some x) y) d m n l in
+      subst (λ x. right_at o d x + m ≤ 16) (sym (at_level e (Some k) (node.Element p (Some x) y) q n))
+      (right_row o (Some k) p (expr_of x) (expr_of y) d (indexes_need (Some (need x)) (need y)) m r)
 
   -- CALLS
 
@@ -146,21 +163,22 @@ module _ (P : TypedProgram) (f : TypedFunc) where
       (sym (ap (λ (s : Signature). s.result) is), one_arg d es one)
 
   -- the first argument has a temporary, or else the result has
-  address_depth : (d : ℕ) (k : Kind) (fits : Type 0) (x : Expr)
-      → FitsArg c d (slot.Address k) fits x
+  address_depth : (d : ℕ) (k : Kind) (q : Option ℕ) (fits : Type 0) (x : Expr)
+      → FitsArg c d (slot.Address k q) fits x
       → d < 16
-  address_depth d k fits (Name j p) t = t.0
-  address_depth d k fits (Number j w) t = absurd t
-  address_depth d k fits (Element j p i) t = absurd t
-  address_depth d k fits (Call j g args) t = absurd t
-  address_depth d k fits (Unary j o e) t = absurd t
-  address_depth d k fits (Cast j to e) t = absurd t
-  address_depth d k fits (Convert j to e) t = absurd t
-  address_depth d k fits (Bump j o e) t = absurd t
-  address_depth d k fits (Binary j o l r) t = absurd t
-  address_depth d k fits (Choice j x y z) t = absurd t
-  address_depth d k fits (Assign j o at l r) t = absurd t
-  address_depth d k fits (Comma j l r) t = absurd t
+  address_depth d k q fits (Name j p) t = t.0
+  address_depth d k q fits (Number j w) t = absurd t
+  address_depth d k q fits (Element j p i) t = absurd t
+  address_depth d k q fits (RowElement j p x i) t = absurd t
+  address_depth d k q fits (Call j g args) t = absurd t
+  address_depth d k q fits (Unary j o e) t = absurd t
+  address_depth d k q fits (Cast j to e) t = absurd t
+  address_depth d k q fits (Convert j to e) t = absurd t
+  address_depth d k q fits (Bump j o e) t = absurd t
+  address_depth d k q fits (Binary j o l r) t = absurd t
+  address_depth d k q fits (Choice j x y z) t = absurd t
+  address_depth d k q fits (Assign j o at l r) t = absurd t
+  address_depth d k q fits (Comma j l r) t = absurd t
 
   call_depth : (d : ℕ) (slots : List Slot) (es : List TypedExpr)
       → FitsArgs c d slots (exprs_of (map expr_of es)) → d + call_need (map typed_needs es) ≤ 16
@@ -168,8 +186,8 @@ module _ (P : TypedProgram) (f : TypedFunc) where
   call_depth d slots [] t l = omega (arith, l)
   call_depth d [] (e ∷ es) t l = absurd t
   call_depth d (slot.Scalar k ∷ slots) (e ∷ es) t l = depth_fits c d (expr_of e) t.0.0
-  call_depth d (slot.Address k ∷ slots) (e ∷ es) t l =
-      address_depth d k (FitsExpr c d (expr_of e)) (expr_of e) t.0
+  call_depth d (slot.Address k q ∷ slots) (e ∷ es) t l =
+      address_depth d k q (FitsExpr c d (expr_of e)) (expr_of e) t.0
 
   -- EXPRESSIONS
 
@@ -183,9 +201,15 @@ module _ (P : TypedProgram) (f : TypedFunc) where
     fits : (k : Option Kind) (x : Node) (d : ℕ) → Gives P f k x → NodeHasWords k x
         → d + (level_needs x).need ≤ 16 → FitsExpr c d (plain_node x k)
     fits _ _ d (rule.number {k = k} {w = w}) (word.number h) l = (omega (arith, l), h)
-    fits _ _ d (rule.scalar {k = k} {p = p} s) w l = (omega (arith, l), scalar_fits P f k p s)
+    fits _ _ d (rule.scalar {k = k} {p = p} s) w l = (omega (arith, l), scalar_fits P f globals k p s)
     fits _ _ d (rule.element {k = k} {j = j} {p = p} {i = i} s v) (word.element w) l =
-        (array_fits P f k p s, (has j i d v w l).fits)
+        (array_fits P f k None p s, (has j i d v w l).fits)
+    fits _ _ d (rule.row_element {k = k} {i = i} {j = j} {n = n} {p = p} {x = x} {y = y} s v u)
+        (word.row_element wx wy) l = (
+          (n, array_fits P f k (Some n) p s),
+          (has i x d v wx (row_first d (need x) (need y) l)).fits,
+          (has j y (suc d) u wy (row_second d (need x) (need y) l)).fits,
+        )
     fits _ _ d (rule.call {r = r} {slots = slots} {c = x} {es = es} s p) (word.call w) l =
         let ns = map typed_needs es in
         let a = args slots es d 0 d p w (omega arith) (call_room d ns l) in
@@ -261,12 +285,22 @@ module _ (P : TypedProgram) (f : TypedFunc) where
     left _ _ d (rule.named {k = k} {e = e} {p = p} q n s) w r =
         let room : Room d None = index_at e (node.Name p) d n r in
         subst (FitsLeft c d (Some k)) (sym (at_level e (Some k) (node.Name p) q n))
-        (refl, (room, scalar_fits P f k p s))
+        (refl, (room, scalar_fits P f globals k p s))
     left _ _ d (rule.indexed {k = k} {j = j} {e = e} {i = i} {p = p} q n s v) w r =
-        let room : Room d (Some (need i)) = index_at e (node.Element p i) d n r in
-        let wi = index_words (Some k) p i (words_at e (Some k) (node.Element p i) q n w) in
-        subst (FitsLeft c d (Some k)) (sym (at_level e (Some k) (node.Element p i) q n))
-        (refl, array_fits P f k p s, (has j i d v wi room).fits)
+        let room : Room d (Some (need i)) = index_at e (node.Element p None i) d n r in
+        let wi = index_words (Some k) p i (words_at e (Some k) (node.Element p None i) q n w) in
+        subst (FitsLeft c d (Some k)) (sym (at_level e (Some k) (node.Element p None i) q n))
+        (refl, array_fits P f k None p s, (has j i d v wi room).fits)
+    left _ _ d (rule.row_indexed {k = k} {i = i} {j = j} {n = m} {e = e} {x = x} {y = y} {p = p} q n s v u) w r =
+        let room : Room d (Some (indexes_need (Some (need x)) (need y))) =
+            index_at e (node.Element p (Some x) y) d n r in
+        let wi = row_words (Some k) p x y (words_at e (Some k) (node.Element p (Some x) y) q n w) in
+        subst (FitsLeft c d (Some k)) (sym (at_level e (Some k) (node.Element p (Some x) y) q n)) (
+          refl,
+          (m, array_fits P f k (Some m) p s),
+          (has i x d v wi.0 (row_first d (need x) (need y) room)).fits,
+          (has j y (suc d) u wi.1 (row_second d (need x) (need y) room)).fits,
+        )
 
     -- arguments, from number i on
     args : (slots : List Slot) (es : List TypedExpr) (d i t : ℕ) → Passes P f slots es
@@ -280,13 +314,13 @@ module _ (P : TypedProgram) (f : TypedFunc) where
           (x.fits, x.kind),
           args slots es d (i + 1) (suc t) p ws (omega (arith, q)) (args_room d i (need e) m l),
         )
-    args _ _ d i t (rule.address {k = k} {p = p} {slots = slots} {e = e} {es = es} h n s ps)
+    args _ _ d i t (rule.address {k = k} {q = row} {p = p} {slots = slots} {e = e} {es = es} h n s ps)
         (word.one_expr w ws) q l =
         let m = args_need (i + 1) (map typed_needs es) in
         let r : t + 1 ≤ 16 = room_at e (node.Name p) t n (arg_room d i t (need e) m q l) in (
-          subst (λ x. FitsArg c t (slot.Address k) (FitsExpr c t x) x)
+          subst (λ x. FitsArg c t (slot.Address k row) (FitsExpr c t x) x)
               (sym (at_level e (Some k) (node.Name p) h n))
-              (omega (arith, r), refl, array_fits P f k p s),
+              (omega (arith, r), refl, array_fits P f k row p s),
           args slots es d (i + 1) (suc t) ps ws (omega (arith, q)) (args_room d i (need e) m l),
         )
 

@@ -1,5 +1,5 @@
 -- Well formed programs are as the lowering takes them, and keep their meaning.
-use Rattle.std.proofs.Common.{◌≡◌, ℕ, zero, suc, ◌+◌, ◌*◌, ◌≤◌, false, List, [], ◌∷◌}
+use Rattle.std.proofs.Common.{◌≡◌, ℕ, zero, suc, ◌+◌, ◌*◌, ◌<◌, ◌≤◌, List, [], ◌∷◌, map}
 use Rattle.std.proofs.Common.{length, All, Option, Some, None, refl, sym, ap, subst, arith}
 use Rattle.std.specs.Prelude.{slice_get}
 use Rattle.c_tree.specs.declared.Kind.{Kind}
@@ -8,6 +8,7 @@ use Rattle.c_tree.specs.declared.TypedGlobal.{TypedGlobal}
 use Rattle.c_tree.specs.declared.TypedProgram.{TypedProgram}
 use Rattle.c_constant.specs.Kinds.{bytes}
 use Rattle.c_meaning_spec.specs.Eval.{length_of, eval}
+use Rattle.c_type.specs.Statements.{nowhere}
 use Rattle.c_type_laws.specs.WellFormed.{Each, count_of, all_bytes, GlobalFits, FunctionFits}
 use Rattle.c_type_laws.specs.WellFormed.{WellFormed}
 use Rattle.c_type_laws.specs.WellFormed as typed
@@ -19,7 +20,8 @@ use Rattle.trips_isa.specs.Stores.{data_size}
 use Rattle.ir_forms.specs.Frames.{rounded, frames_at, frame_limit}
 use Rattle.ir_forms.specs.FlatRuns.{checked, flat_run}
 use Rattle.flat_lower.specs.Tree.{Func, Source}
-use Rattle.flat_lower.specs.TreeViews.{func_of, source_of}
+use Rattle.flat_lower.specs.TreeViews.{stmt_of, func_of, source_of}
+use Rattle.flat_lower.specs.declared.around.Around.TheVariants.{Nowhere}
 use Rattle.c_constant.specs.Kinds.{IsWord}
 use Rattle.flat_lower.specs.Objects.{global_bytes}
 use Rattle.flat_lower.specs.Statements.{global_image, globals_image, lowered_program}
@@ -30,8 +32,10 @@ use Rattle.flat_lower.specs.Keeps.{IsInput, Keeps}
 use Rattle.flat_lower.proofs.Image.{both_length, global_length}
 use Rattle.flat_lower.proofs.Calls.{limit, typed_at, func_at}
 use Rattle.flat_lower.proofs.Whole.{keeps_meaning}
-use Rattle.flat_lower_premises.specs.Limits.{HasFewGlobals}
+use Rattle.flat_lower_limits.specs.Nodes.{stmt_nodes, funcs_size, source_size}
+use Rattle.flat_lower_premises.specs.Limits.{HasFewGlobals, HasFewNodes}
 use Rattle.flat_lower_premises.specs.Most.{largest, most_of}
+use Rattle.flat_lower_premises.proofs.FewSections.{few}
 use Rattle.flat_lower_premises.proofs.FitStatements.{stmt_fits}
 
 -- GLOBALS
@@ -88,19 +92,35 @@ words_of (g ∷ fs) zero f w h =
     subst (λ (f : TypedFunc). StmtHasWords f.body) e w.0
 words_of (g ∷ fs) (suc n) f w h = words_of fs n f w.1 h
 
-function_fits : (P : TypedProgram) (f : TypedFunc) → FunctionFits P f → StmtHasWords f.body
-    → FitsFunc (source_of P) (func_of f)
-function_fits P f h w =
-    record { scalars = h.scalars; params = h.slots; body = stmt_fits P f false f.body h.body w }
+-- a body has no more nodes than the program
+body_nodes : (fs : List TypedFunc) (n : ℕ) (f : TypedFunc) → slice_get fs n ≡ Some f
+    → 1 + stmt_nodes (stmt_of f.body) ≤ funcs_size (map func_of fs)
+body_nodes [] n f h = absurd (cc h)
+body_nodes (g ∷ fs) zero f h =
+    let e : g ≡ f = cc h in
+    let x : 1 + stmt_nodes (stmt_of g.body) ≤ funcs_size (map func_of (g ∷ fs)) = omega arith in
+    subst (λ (f : TypedFunc). 1 + stmt_nodes (stmt_of f.body) ≤ funcs_size (map func_of (g ∷ fs))) e x
+body_nodes (g ∷ fs) (suc n) f h = let x = body_nodes fs n f h in omega (arith, x)
+
+function_fits : (P : TypedProgram) → Each GlobalFits P.globals → (f : TypedFunc) → FunctionFits P f
+    → StmtHasWords f.body → stmt_nodes (stmt_of f.body) < 16777216 → FitsFunc (source_of P) (func_of f)
+function_fits P globals f h w n =
+    record {
+      scalars = h.scalars;
+      params = h.slots;
+      body = stmt_fits P f globals 16777216 (omega arith) nowhere Nowhere (λ e. absurd (cc e)) f.body h.body w
+          (few 16777216 (stmt_of f.body) n);
+    }
 
 module _ (P : TypedProgram) (h : WellFormed P) (w : ProgramHasWords P) where
-  each_fits : (n : ℕ) (g : Func) → slice_get (source_of P).functions n ≡ Some g
+  each_fits : HasFewNodes P → (n : ℕ) (g : Func) → slice_get (source_of P).functions n ≡ Some g
       → FitsFunc (source_of P) g
-  each_fits n g e =
+  each_fits nodes n g e =
       let x = typed_at P.functions n g e in
       subst (FitsFunc (source_of P)) x.is
-      (function_fits P x.f (function_at P h n x.f x.found)
-      (words_of P.functions n x.f w.functions x.found))
+      (function_fits P h.globals x.f (function_at P h n x.f x.found)
+      (words_of P.functions n x.f w.functions x.found)
+      (let m = body_nodes P.functions n x.f x.found in omega (arith, m, nodes)))
 
   main_fits : FitsMain (source_of P)
   main_fits =
@@ -122,10 +142,10 @@ module _ (P : TypedProgram) (h : WellFormed P) (w : ProgramHasWords P) where
       let e = limit in
       omega (arith, l, b, near, e, few)
 
-  pub source_fits : HasFewGlobals P → FitsSource (source_of P)
-  source_fits few =
+  pub source_fits : HasFewGlobals P → HasFewNodes P → FitsSource (source_of P)
+  source_fits few nodes =
       record {
-        each = each_fits;
+        each = each_fits nodes;
         globals = globals_fit P.globals h.globals w.globals;
         main = main_fits;
         room = room few;
@@ -150,8 +170,8 @@ most_is P n f h = let x = below_largest P.functions n f h in omega (arith, x)
 
 -- MEANING
 
-pub meaning_kept : (P : TypedProgram) → WellFormed P → ProgramHasWords P → HasFewGlobals P
+pub meaning_kept : (P : TypedProgram) → WellFormed P → ProgramHasWords P → HasFewGlobals P → HasFewNodes P
     → (input : List ℕ) → IsInput input → (n : ℕ)
     → Keeps (most_of (source_of P)) (flat_run checked (lowered_program P) input) n (eval P input n)
-meaning_kept P h w few =
-    keeps_meaning P (most_of (source_of P)) (source_fits P h w few) (most_is (source_of P))
+meaning_kept P h w globals nodes =
+    keeps_meaning P (most_of (source_of P)) (source_fits P h w globals nodes) (most_is (source_of P))

@@ -1,5 +1,5 @@
 -- Well formed statements are as the lowering takes them.
-use Rattle.std.proofs.Common.{◌≡◌, ℕ, Bool, true, List, map, Option, Some, None, sym}
+use Rattle.std.proofs.Common.{◌≡◌, ℕ, ◌^◌, ◌≤◌, true, List, [], ◌++◌, map, Option, Some, None, sym}
 use Rattle.std.proofs.Common.{subst, arith}
 use Rattle.std.specs.Prelude.{slice_get}
 use Rattle.c_tree.specs.declared.Kind.{Kind}
@@ -8,36 +8,62 @@ use Rattle.c_tree.specs.declared.Slot.TheVariants as slot
 use Rattle.c_tree.specs.declared.TypedExpr.{TypedExpr}
 use Rattle.c_tree.specs.declared.TypedFunc.{TypedFunc}
 use Rattle.c_tree.specs.declared.TypedProgram.{TypedProgram}
+use Rattle.c_tree.specs.declared.TypedSection.{TypedSection}
 use Rattle.c_tree.specs.declared.TypedStmt.{TypedStmt, out-TypedStmt}
 use Rattle.c_tree.specs.declared.TypedForInit.{TypedForInit, out-TypedForInit}
 use Rattle.c_tree.specs.TypedTrees.{Level, Beginning}
+use Rattle.c_type.specs.declared.state.Around.{Around as TypedAround}
+use Rattle.c_type.specs.Statements.{in_loop}
+use Rattle.c_type.specs.Statements as typed
 use Rattle.c_type_laws.specs.Statements.{IsValue, IsTest, IsEffect, IsValueIf}
 use Rattle.c_type_laws.specs.Statements.{IsTestIf, IsEffectIf, IsReturn, WellFormedStmt, RunsAll, Begins}
+use Rattle.c_type_laws.specs.Statements.{RunsSections}
 use Rattle.c_type_laws.specs.Statements as rule
+use Rattle.c_type_laws.specs.WellFormed.{Each, GlobalFits}
 use Rattle.flat_lower_premises.specs.TypedTrees.{ExprHasWords, ExprIfHasWords, LevelHasWords, StmtsHaveWords}
-use Rattle.flat_lower_premises.specs.TypedTrees.{BeginningHasWords}
+use Rattle.flat_lower_premises.specs.TypedTrees.{SectionsHaveWords, BeginningHasWords}
 use Rattle.flat_lower_premises.specs.TypedTrees as word
 use Rattle.flat_lower.specs.TreeViews.{expr_of, expr_if, stmt_of, stmts_of}
 use Rattle.flat_lower.specs.Fits.{Scope, FitsExpr, FitsExprIf, FitsDeclare, FitsReturn, FitsStmt}
-use Rattle.flat_lower.specs.Fits.{FitsStmts, FitsFirst}
+use Rattle.flat_lower.specs.Fits.{FitsStmts, FitsSections, FitsFirst}
+use Rattle.flat_lower.specs.FitsSwitches.{IsLooped}
+use Rattle.flat_lower.specs.Emitted.{sections_in}
+use Rattle.flat_lower.specs.Switches.{in_switch}
+use Rattle.flat_lower.specs.Tree.{Stmt, First}
+use Rattle.flat_lower.specs.declared.around.Around.{Around}
+use Rattle.flat_lower.specs.declared.around.Around.TheVariants as around
 use Rattle.flat_lower.proofs.TreeFacts.{plain_stmt, plain_first, first_of, stmt_is, first_is}
 use Rattle.flat_lower_premises.proofs.Named.{scope}
 use Rattle.flat_lower_premises.proofs.FitExpressions.{IsFit, has, whole}
+use Rattle.flat_lower_premises.proofs.FitSwitches.{labels_fit, labelled, filled, few_free}
+use Rattle.flat_lower_premises.proofs.FewSections.{IsFew, AllFew, SectionsFew, FirstFew}
 
-module _ (P : TypedProgram) (f : TypedFunc) where
+-- what typing says of a `continue` holds of what the lowering knows
+abbrev Continues : TypedAround → Around → Type 0
+Continues b x = b.may_continue ≡ true → IsLooped x
+
+-- in a switch as around it
+still_looped : (x : Around) → IsLooped x → IsLooped (in_switch x)
+still_looped around.Nowhere h = absurd h
+still_looped around.Loop h = tt
+still_looped around.Switch h = absurd h
+still_looped around.SwitchInLoop h = tt
+
+module _ (P : TypedProgram) (f : TypedFunc) (globals : Each GlobalFits P.globals) (top : ℕ) (word_counts : top ≤ 2 ^ 64)
+    where
   abbrev c : Scope
   c = scope P f
 
   -- FULL EXPRESSIONS
 
-  value : (k : Kind) (e : TypedExpr) → IsValue P f k e → ExprHasWords e → IsFit P f 0 k e
-  value k e h w = let n = h.1 in has P f k e 0 h.0 w (omega (arith, n))
+  value : (k : Kind) (e : TypedExpr) → IsValue P f k e → ExprHasWords e → IsFit P f globals 0 k e
+  value k e h w = let n = h.1 in has P f globals k e 0 h.0 w (omega (arith, n))
 
   test : (e : TypedExpr) → IsTest P f e → ExprHasWords e → FitsExpr c 0 (expr_of e)
   test e h w = (value h.kind e h.value w).fits
 
   effect : (e : TypedExpr) → IsEffect P f e → ExprHasWords e → FitsExpr c 0 (expr_of e)
-  effect e h w = let n = h.1 in whole P f e 0 h.0 w (omega (arith, n))
+  effect e h w = let n = h.1 in whole P f globals e 0 h.0 w (omega (arith, n))
 
   test_if : (e : Option TypedExpr) → IsTestIf P f e → ExprIfHasWords e → FitsExprIf c (expr_if e)
   test_if None h w = tt
@@ -64,58 +90,84 @@ module _ (P : TypedProgram) (f : TypedFunc) where
   -- STATEMENTS
 
   -- a statement, and the first part of a for, by their levels
-  at_level : (s : TypedStmt) → FitsStmt c f.result (plain_stmt (out-TypedStmt s))
-      → FitsStmt c f.result (stmt_of s)
-  at_level s t = subst (FitsStmt c f.result) (sym (stmt_is s)) t
+  at_level : (x : Around) (s : TypedStmt) → FitsStmt c f.result x (plain_stmt (out-TypedStmt s))
+      → FitsStmt c f.result x (stmt_of s)
+  at_level x s t = subst (FitsStmt c f.result x) (sym (stmt_is s)) t
 
-  at_first : (i : TypedForInit) → FitsFirst c f.result (plain_first (out-TypedForInit i))
-      → FitsFirst c f.result (first_of i)
-  at_first i t = subst (FitsFirst c f.result) (sym (first_is i)) t
+  at_first : (x : Around) (i : TypedForInit) → FitsFirst c f.result x (plain_first (out-TypedForInit i))
+      → FitsFirst c f.result x (first_of i)
+  at_first x i t = subst (FitsFirst c f.result x) (sym (first_is i)) t
+
+  few_level : (s : TypedStmt) → IsFew top (stmt_of s) → IsFew top (plain_stmt (out-TypedStmt s))
+  few_level s n = subst (λ (x : Stmt). IsFew top x) (stmt_is s) n
+
+  few_first : (i : TypedForInit) → FirstFew top (first_of i) → FirstFew top (plain_first (out-TypedForInit i))
+  few_first i n = subst (λ (x : First). FirstFew top x) (first_is i) n
 
   mutual
-    runs : (b : Bool) (x : Level) → WellFormedStmt P f b x → LevelHasWords x
-        → FitsStmt c f.result (plain_stmt x)
-    runs b _ (rule.scalar {n = n} {k = k} {init = init} l s h) (word.declared w) =
+    runs : (b : TypedAround) (x : Around) → Continues b x → (y : Level) → WellFormedStmt P f b y
+        → LevelHasWords y → IsFew top (plain_stmt y) → FitsStmt c f.result x (plain_stmt y)
+    runs b x ok _ (rule.scalar {n = n} {k = k} {init = init} l s h) (word.declared w) m =
         declared n k init s h w
-    runs b _ (rule.array {n = n} s) w = tt
-    runs b _ (rule.plain {e = e} h) (word.plain w) = effect_if e h w
-    runs b _ (rule.compound {ss = ss} h) (word.compound w) = runs_all b ss h w
-    runs b _ (rule.choice {test = t} {one = one} h r rule.without) (word.choice wt w wo) =
-        (test t h wt, at_level one (runs b (out-TypedStmt one) r w), tt)
-    runs b _ (rule.choice {test = t} {one = one} h r (rule.with_else {s = s} q))
-        (word.choice wt w (word.with_else wo)) = (
-          test t h wt,
-          at_level one (runs b (out-TypedStmt one) r w),
-          (at_level s (runs b (out-TypedStmt s) q wo), tt),
-        )
-    runs b _ (rule.while_loop {test = t} {body = body} h r) (word.while_loop wt w) =
-        (test t h wt, at_level body (runs true (out-TypedStmt body) r w))
-    runs b _ (rule.do_loop {test = t} {body = body} r h) (word.do_loop w wt) =
-        (at_level body (runs true (out-TypedStmt body) r w), test t h wt)
-    runs b _ (rule.for_loop {init = init} {test = t} {post = post} {body = body} i h p r)
-        (word.for_loop wi wt wp w) = (
-          at_first init (begins b (out-TypedForInit init) i wi),
+    runs b x ok _ (rule.array {n = n} s) w m = tt
+    runs b x ok _ (rule.plain {e = e} h) (word.plain w) m = effect_if e h w
+    runs b x ok _ (rule.compound {ss = ss} h) (word.compound w) m = runs_all b x ok ss h w m
+    runs b x ok _ (rule.choice {test = t} {one = one} h r rule.without) (word.choice wt w wo) m =
+        (test t h wt, at_level x one (runs b x ok (out-TypedStmt one) r w (few_level one m.0)), tt)
+    runs b x ok _ (rule.choice {test = t} {one = one} h r (rule.with_else {s = s} q))
+        (word.choice wt w (word.with_else wo)) m =
+        (test t h wt, at_level x one (runs b x ok (out-TypedStmt one) r w (few_level one m.0)), (at_level x s (runs b x ok (out-TypedStmt s) q wo (few_level s m.1.0)), tt))
+    runs b x ok _ (rule.while_loop {test = t} {body = body} h r) (word.while_loop wt w) m =
+        (test t h wt, at_level around.Loop body (runs in_loop around.Loop (λ e. tt) (out-TypedStmt body) r w (few_level body m)))
+    runs b x ok _ (rule.do_loop {test = t} {body = body} r h) (word.do_loop w wt) m =
+        (at_level around.Loop body (runs in_loop around.Loop (λ e. tt) (out-TypedStmt body) r w (few_level body m)), test t h wt)
+    runs b x ok _ (rule.for_loop {init = init} {test = t} {post = post} {body = body} i h p r)
+        (word.for_loop wi wt wp w) m = (
+          at_first x init (begins b x ok (out-TypedForInit init) i wi (few_first init m.0)),
           test_if t h wt,
           effect_if post p wp,
-          at_level body (runs true (out-TypedStmt body) r w),
+          at_level around.Loop body (runs in_loop around.Loop (λ e. tt) (out-TypedStmt body) r w (few_level body m.1)),
         )
-    runs b _ rule.breaks w = tt
-    runs b _ rule.continues w = tt
-    runs b _ (rule.returns {e = e} h) (word.returns w) = returned f.result e h w
+    runs b x ok _ (rule.switch {n = n} {k = k} {test = t} {sections = xs} l s q v r) (word.switch wt ws) m =
+        let u = value k t v wt in (
+          u.fits,
+          subst (λ j. FitsSections c f.result (in_switch x) j (sections_in xs)) (sym u.kind)
+              (runs_sections k [] (typed.in_switch b) (in_switch x) (λ e. still_looped x (ok e)) xs r ws m.1),
+          few_free P f k (typed.in_switch b) xs r ws,
+          (let h = m.0 in omega (arith, h, word_counts)),
+        )
+    runs b x ok _ (rule.breaks h) w m = tt
+    runs b x ok _ (rule.continues h) w m = ok h
+    runs b x ok _ (rule.returns {e = e} h) (word.returns w) m = returned f.result e h w
 
-    runs_all : (b : Bool) (ss : List TypedStmt) → RunsAll P f b ss → StmtsHaveWords ss
-        → FitsStmts c f.result (stmts_of (map stmt_of ss))
-    runs_all b _ rule.end w = tt
-    runs_all b _ (rule.next {s = s} {ss = ss} r h) (word.one_stmt w ws) =
-        (at_level s (runs b (out-TypedStmt s) r w), runs_all b ss h ws)
+    runs_all : (b : TypedAround) (x : Around) → Continues b x → (ss : List TypedStmt) → RunsAll P f b ss
+        → StmtsHaveWords ss → AllFew top (stmts_of (map stmt_of ss))
+        → FitsStmts c f.result x (stmts_of (map stmt_of ss))
+    runs_all b x ok _ rule.end w m = tt
+    runs_all b x ok _ (rule.next {s = s} {ss = ss} r h) (word.one_stmt w ws) m =
+        (at_level x s (runs b x ok (out-TypedStmt s) r w (few_level s m.0)), runs_all b x ok ss h ws m.1)
 
-    begins : (b : Bool) (x : Beginning) → Begins P f b x → BeginningHasWords x
-        → FitsFirst c f.result (plain_first x)
-    begins b _ rule.nothing w = tt
-    begins b _ (rule.first {e = e} h) (word.first w) = effect e h w
-    begins b _ (rule.locals {ss = ss} h) (word.locals w) = runs_all b ss h w
+    runs_sections : (k : Kind) (seen : List (Option ℕ)) (b : TypedAround) (x : Around) → Continues b x
+        → (xs : List TypedSection) → RunsSections P f k seen b xs → SectionsHaveWords xs
+        → SectionsFew top (sections_in xs) → FitsSections c f.result x (Some k) (sections_in xs)
+    runs_sections _ _ b x ok _ rule.no_section w m = tt
+    runs_sections _ _ b x ok _ (rule.a_section {k = k} {seen = seen} {s = s} {ss = ss} l r rs)
+        (word.one_section i j w ws) m = (
+          labelled s.labels i,
+          labels_fit k seen s.labels l,
+          filled s.body j,
+          runs_all b x ok s.body r w m.0,
+          runs_sections k (seen ++ s.labels) b x ok ss rs ws m.1,
+        )
+
+    begins : (b : TypedAround) (x : Around) → Continues b x → (y : Beginning) → Begins P f b y
+        → BeginningHasWords y → FirstFew top (plain_first y) → FitsFirst c f.result x (plain_first y)
+    begins b x ok _ rule.nothing w m = tt
+    begins b x ok _ (rule.first {e = e} h) (word.first w) m = effect e h w
+    begins b x ok _ (rule.locals {ss = ss} h) (word.locals w) m = runs_all b x ok ss h w m
 
   -- a statement fits
-  pub stmt_fits : (b : Bool) (s : TypedStmt) → WellFormedStmt P f b (out-TypedStmt s)
-      → LevelHasWords (out-TypedStmt s) → FitsStmt c f.result (stmt_of s)
-  stmt_fits b s h w = at_level s (runs b (out-TypedStmt s) h w)
+  pub stmt_fits : (b : TypedAround) (x : Around) → Continues b x → (s : TypedStmt)
+      → WellFormedStmt P f b (out-TypedStmt s) → LevelHasWords (out-TypedStmt s) → IsFew top (stmt_of s)
+      → FitsStmt c f.result x (stmt_of s)
+  stmt_fits b x ok s r w m = at_level x s (runs b x ok (out-TypedStmt s) r w (few_level s m))

@@ -1,10 +1,10 @@
 -- The numbers of a text's tokens are words of their types.
-use Rattle.std.proofs.Common.{◌≡◌, ℕ, ◌+◌, ◌-◌, ◌%◌, ◌^◌, ◌<◌, ◌≤◌, Bool, true, false, cond}
-use Rattle.std.proofs.Common.{List, [], ◌∷◌, Option, Some, None, refl, sym, ap, ◌∙◌, subst, arith}
+use Rattle.std.proofs.Common.{◌≡◌, ℕ, ◌+◌, ◌-◌, ◌^◌, ◌<◌, ◌≤◌, Bool, true, false, cond}
+use Rattle.std.proofs.Common.{List, [], ◌∷◌, Option, Some, None, refl, subst, arith}
 use Rattle.std.specs.Prelude.{nat_lt, nat_eq, not, ◌&&◌, ◌||◌}
 use Rattle.std.proofs.lemmas.Bool.Decides.{nat_tests}
 use Rattle.c_tree.specs.declared.Kind.{Kind}
-use Rattle.c_tree.specs.declared.Kind.TheVariants.{Char, UChar, Int, UInt, Long, ULong}
+use Rattle.c_tree.specs.declared.Kind.TheVariants.{Char, UChar, Short, UShort, Int, UInt, Long, ULong}
 use Rattle.c_tree.specs.declared.Key.{Key}
 use Rattle.c_lex.specs.declared.piece.Reading.{Reading}
 use Rattle.c_lex.specs.declared.piece.Reading.TheVariants as reads
@@ -27,6 +27,8 @@ use Rattle.flat_lower_premises.specs.Words.{FormHasWord, TokensHaveWords}
 holds : (k : Kind) (v : ℕ) → v < limit k → IsWord k v
 holds Char v h = record { below = omega arith; narrow = omega arith }
 holds UChar v h = record { below = omega arith; narrow = omega arith }
+holds Short v h = record { below = omega arith; narrow = omega arith }
+holds UShort v h = record { below = omega arith; narrow = omega arith }
 holds Int v h = record { below = omega arith; narrow = omega arith }
 holds UInt v h = record { below = omega arith; narrow = omega arith }
 holds Long v h = record { below = omega arith; narrow = omega arith }

@@ -3,9 +3,11 @@ pub mod CostTrees
 pub mod CostUnits
 pub mod Counted
 pub mod ExpressionBounds
+pub mod FewSections
 pub mod FitExpressions
 pub mod FitPrograms
 pub mod FitStatements
+pub mod FitSwitches
 pub mod ItemWords
 pub mod LexedWords
 pub mod Named

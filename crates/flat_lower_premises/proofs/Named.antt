@@ -7,8 +7,10 @@ use Rattle.c_tree.specs.declared.Place.TheVariants.{Global, Scalar, Array}
 use Rattle.c_tree.specs.declared.Slot.{Slot}
 use Rattle.c_tree.specs.declared.TypedFunc.{TypedFunc}
 use Rattle.c_tree.specs.declared.TypedProgram.{TypedProgram}
-use Rattle.c_type_laws.specs.Objects.{Signature, signature, of_function, scalar_at, array_at}
+use Rattle.c_type_laws.specs.Objects.{Signature, signature, of_function, scalar_at, array_at, shape}
+use Rattle.c_type_laws.specs.WellFormed.{Each, GlobalFits}
 use Rattle.c_type_laws.proofs.Moves.{some_is}
+use Rattle.c_type_laws.proofs.Whole.{each_at}
 use Rattle.c_type_laws.proofs.Uses.{scalar_slot, array_slot, global_scalar_at, global_array_at}
 use Rattle.c_type_laws.proofs.Uses.{local_array_at}
 use Rattle.flat_lower.specs.TreeViews.{func_of, source_of}
@@ -18,23 +20,29 @@ use Rattle.flat_lower.specs.Fits.{Scope, scope_of, FitsName, FitsWhole}
 abbrev pub scope : TypedProgram → TypedFunc → Scope
 scope P f = scope_of (source_of P) (func_of f)
 
-pub scalar_fits : (P : TypedProgram) (f : TypedFunc) (k : Kind) (p : Place)
+pub scalar_fits : (P : TypedProgram) (f : TypedFunc) → Each GlobalFits P.globals → (k : Kind) (p : Place)
     → scalar_at P f p ≡ Some k → FitsName (scope P f) k p
-scalar_fits P f k (Global g) h =
+scalar_fits P f w k (Global g) h =
     let x = global_scalar_at P f g k h in
-    record { global = x.0.global; found = x.0.is; kind = x.0.kind; long = x.1 }
-scalar_fits P f k (Scalar i) h = scalar_slot P f i k h
-scalar_fits P f k (Array a) h = absurd (cc h)
+    record {
+      global = x.0.global;
+      found = x.0.is;
+      kind = x.0.kind;
+      long = x.1;
+      wide = (each_at GlobalFits P.globals g x.0.global w x.0.is).single x.1;
+    }
+scalar_fits P f w k (Scalar i) h = scalar_slot P f i k h
+scalar_fits P f w k (Array a) h = absurd (cc h)
 
-pub array_fits : (P : TypedProgram) (f : TypedFunc) (k : Kind) (p : Place)
-    → array_at P f p ≡ Some k → FitsWhole (scope P f) k p
-array_fits P f k (Global g) h =
-    let x = global_array_at P f g k h in
-    (x.1.0, record { global = x.0.global; found = x.0.is; kind = x.0.kind; long = x.1.1 })
-array_fits P f k (Scalar i) h = array_slot P f i k h
-array_fits P f k (Array a) h =
-    let x = local_array_at P f a k h in
-    record { array = x.0; found = x.1; kind = x.2 }
+pub array_fits : (P : TypedProgram) (f : TypedFunc) (k : Kind) (q : Option ℕ) (p : Place)
+    → array_at P f p ≡ Some (shape k q) → FitsWhole (scope P f) k q p
+array_fits P f k q (Global g) h =
+    let x = global_array_at P f g k q h in
+    (x.long, record { global = x.global; found = x.is; kind = x.kind; long = x.holds; wide = x.row })
+array_fits P f k q (Scalar i) h = array_slot P f i k q h
+array_fits P f k q (Array a) h =
+    let x = local_array_at P f a k q h in
+    record { array = x.0; found = x.1; kind = x.2; wide = x.3 }
 
 -- the function of a call
 pub record Found (P : TypedProgram) (n : ℕ) (r : Option Kind) (slots : List Slot) : Type 0 where

@@ -1,5 +1,5 @@
 -- The need of a typed expression by its node, and what it leaves for the node's operands.
-use Rattle.std.proofs.Common.{◌≡◌, ℕ, ◌+◌, ◌<◌, ◌≤◌, max, map, Option, Some}
+use Rattle.std.proofs.Common.{◌≡◌, ℕ, suc, ◌+◌, ◌<◌, ◌≤◌, max, map, Option, Some}
 use Rattle.std.proofs.Common.{None, refl, ◌∙◌, arith}
 use Rattle.c_tree.specs.declared.BinaryOp.{BinaryOp}
 use Rattle.c_tree.specs.declared.BinaryOp.TheVariants.{LogicalOr, LogicalAnd}
@@ -7,7 +7,7 @@ use Rattle.c_tree.specs.declared.TypedExpr.{TypedExpr, fold_out-TypedExpr}
 use Rattle.c_tree.specs.declared.TypedNode.{TypedNode, map-TypedNode, fold-TypedNode}
 use Rattle.c_tree.specs.declared.TypedNode.{fold_out-TypedNode}
 use Rattle.c_tree.specs.declared.TypedNode.TheOpen as node
-use Rattle.c_constant.specs.Need.{Needs, plain, call_need, assign_need}
+use Rattle.c_constant.specs.Need.{Needs, plain, call_need, assign_need, indexes_need, element_needs}
 use Rattle.c_tree.specs.TypedTrees.{Node, node_of}
 use Rattle.c_type_laws.specs.Needs.{node_needs, of_needs, typed_needs}
 use Rattle.flat_lower.specs.Expressions.{operand_at}
@@ -20,7 +20,8 @@ need e = (typed_needs e).need
 abbrev pub level_needs : Node → Needs
 level_needs (node.Number w) = plain 1
 level_needs (node.Name p) = plain 1
-level_needs (node.Element p i) = record { need = need i; index = Some (need i) }
+level_needs (node.Element p None i) = element_needs (need i)
+level_needs (node.Element p (Some r) i) = element_needs (indexes_need (Some (need r)) (need i))
 level_needs (node.Call c es) = plain (call_need (map typed_needs es))
 level_needs (node.Unary o e) = plain (need e)
 level_needs (node.Cast to e) = plain (need e)
@@ -36,7 +37,8 @@ levels : (x : Node) → node_needs
     (fold-TypedNode Needs Needs node_needs of_needs) typed_needs x) ≡ level_needs x
 levels (node.Number w) = refl
 levels (node.Name p) = refl
-levels (node.Element p i) = refl
+levels (node.Element p None i) = refl
+levels (node.Element p (Some r) i) = refl
 levels (node.Call c es) = refl
 levels (node.Unary o e) = refl
 levels (node.Cast to e) = refl
@@ -78,6 +80,13 @@ comma_left d a b l = omega (arith, l)
 
 pub comma_right : (d a b : ℕ) → d + max a b ≤ 16 → d + b ≤ 16
 comma_right d a b l = omega (arith, l)
+
+-- the second of two indexes, while the first is held
+pub row_first : (d a b : ℕ) → d + max a (1 + b) ≤ 16 → d + a ≤ 16
+row_first d a b l = omega (arith, l)
+
+pub row_second : (d a b : ℕ) → d + max a (1 + b) ≤ 16 → suc d + b ≤ 16
+row_second d a b l = omega (arith, l)
 
 -- an object's temporary, or the temporaries for the index of an element
 abbrev pub Room : ℕ → Option ℕ → Type 0

@@ -10,9 +10,9 @@ use Rattle.c_tree.specs.declared.tree.StmtNode.TheVariants as stmt
 use Rattle.c_grammar.specs.Operators.{at}
 use Rattle.c_grammar.specs.Statements as s
 use Rattle.c_grammar.specs.Units.{global, function}
-use Rattle.flat_lower_premises.specs.Nodes.{expr_nodes, unit_nodes}
+use Rattle.flat_lower_premises.specs.Nodes.{expr_nodes, stmt_nodes, unit_nodes}
 use Rattle.flat_lower_premises.proofs.TreeSizes.{nodes-Number, nodes-Group, nodes-Binary, nodes-Plain}
-use Rattle.flat_lower_premises.proofs.TreeSizes.{nodes-Compound, nodes-While, nodes-Return}
+use Rattle.flat_lower_premises.proofs.TreeSizes.{nodes-Compound, nodes-While, nodes-Return, nodes-Switch, nodes-section}
 
 abbrev number : ℕ → Expr
 number v = at 1 (node.Number v Int)
@@ -23,6 +23,15 @@ grouped =
     let g = nodes-Group 1 (at 1 (node.Binary Add (number 1) (number 2))) in
     let b = nodes-Binary 1 Add (number 1) (number 2) in
     let x = nodes-Number 1 1 Int in let y = nodes-Number 1 2 Int in omega arith
+
+-- `switch (1) { case 1: default: ; }`: two of its own, the test, the section, two labels and the statement
+chosen : stmt_nodes (s.at 1 (stmt.Switch (number 1)
+    (s.sectioned (s.labelled 1 (Some (number 1)) ∷ s.labelled 1 None ∷ []) (s.at 1 (stmt.Plain None) ∷ []) ∷ []))) ≡ 7
+chosen =
+    let ls = s.labelled 1 (Some (number 1)) ∷ s.labelled 1 None ∷ [] in
+    let ss = s.at 1 (stmt.Plain None) ∷ [] in
+    let w = nodes-Switch 1 (number 1) (s.sectioned ls ss ∷ []) in let x = nodes-section ls ss in
+    let p = nodes-Plain 1 None in let y = nodes-Number 1 1 Int in omega arith
 
 -- `while (1) ;`
 abbrev endless : Stmt
@@ -36,7 +45,7 @@ returned = s.at 1 (stmt.Return (Some (number 2)))
 -- loop, its test, its empty body, the return and its number
 counted : unit_nodes
     (function 1 (Some Int) (102 ∷ []) [] None
-    ∷ global 1 Int (120 ∷ []) (size.Scalar, number 5 ∷ [])
+    ∷ global 1 Int (120 ∷ []) (size.Scalar, (number 5 ∷ []) ∷ [])
     ∷ function 1 (Some Int) (109 ∷ 97 ∷ 105 ∷ 110 ∷ []) []
     (Some (s.at 1 (stmt.Compound (endless ∷ returned ∷ [])))) ∷ []) ≡ 7
 counted =

@@ -8,6 +8,8 @@ use Rattle.c_grammar.specs.Tokens.{Tokens, May}
 use Rattle.c_grammar.specs.Types.{Types, char, signed_char, unsigned_char, int, signed, signed_int}
 use Rattle.c_grammar.specs.Types.{unsigned, unsigned_int, long, long_int, signed_long}
 use Rattle.c_grammar.specs.Types.{signed_long_int, unsigned_long, unsigned_long_int}
+use Rattle.c_grammar.specs.Types.{short, short_int, signed_short, signed_short_int, unsigned_short}
+use Rattle.c_grammar.specs.Types.{unsigned_short_int}
 use Rattle.c_grammar.specs.Operators.{Joiner, op, comma, joined, Prefix, sign, increase, decrease}
 use Rattle.c_grammar.specs.Operators.{prefixed, Suffix, increased, decreased, suffixed}
 use Rattle.c_grammar.specs.Operators.{assigner_op}
@@ -18,12 +20,13 @@ use Rattle.c_grammar.specs.Statements.{Writes}
 use Rattle.c_grammar.specs.Units as u
 use Rattle.c_grammar.specs.Units.{Units}
 use Rattle.flat_lower_premises.specs.Nodes.{expr_nodes, exprs_nodes, expr_if_nodes, stmt_nodes, first_nodes}
-use Rattle.flat_lower_premises.specs.Nodes.{stmts_nodes, top_nodes, unit_nodes}
+use Rattle.flat_lower_premises.specs.Nodes.{stmts_nodes, section_nodes, sections_nodes, top_nodes, unit_nodes}
 use Rattle.flat_lower_premises.specs.Sizes.{UnitsAreSmall}
 use Rattle.flat_lower_premises.proofs.TreeSizes.{nodes-Number, nodes-Name, nodes-Element, nodes-Call, nodes-Group}
 use Rattle.flat_lower_premises.proofs.TreeSizes.{nodes-Unary, nodes-Cast, nodes-Bump, nodes-Binary, nodes-Choice}
 use Rattle.flat_lower_premises.proofs.TreeSizes.{nodes-Assign, nodes-Comma, nodes-Declare, nodes-Plain}
 use Rattle.flat_lower_premises.proofs.TreeSizes.{nodes-Compound, nodes-If, nodes-While, nodes-Do, nodes-For}
+use Rattle.flat_lower_premises.proofs.TreeSizes.{nodes-Switch, nodes-section}
 use Rattle.flat_lower_premises.proofs.TreeSizes.{nodes-Break, nodes-Continue, nodes-Return, nodes-Nothing}
 use Rattle.flat_lower_premises.proofs.TreeSizes.{nodes-First, nodes-Locals, stmts_append, units_append}
 
@@ -43,6 +46,12 @@ types_few signed = omega arith
 types_few signed_int = omega arith
 types_few unsigned = omega arith
 types_few unsigned_int = omega arith
+types_few short = omega arith
+types_few short_int = omega arith
+types_few signed_short = omega arith
+types_few signed_short_int = omega arith
+types_few unsigned_short = omega arith
+types_few unsigned_short_int = omega arith
 types_few long = omega arith
 types_few long_int = omega arith
 types_few signed_long = omega arith
@@ -71,7 +80,9 @@ spells_few (e.name {l = l} {w = w}) = let n = nodes-Name l w in omega arith
 spells_few (e.group {l = l} {e = a} ok x) =
     let h = spells_few x in let n = nodes-Group l a in omega arith
 spells_few (e.element {l = l} {w = w} {e = a} ok x) =
-    let h = spells_few x in let n = nodes-Element l w a in omega arith
+    let h = spells_few x in let n = nodes-Element l w None a in omega arith
+spells_few (e.row_element {l = l} {w = w} {r = r} {e = a} ok x ok' y) =
+    let h = spells_few x in let i = spells_few y in let n = nodes-Element l w (Some r) a in omega arith
 spells_few (e.call {l = l} {w = w} {es = es} ok x) =
     let h = spells_few x in let n = nodes-Call l w es in omega arith
 spells_few e.none = omega arith
@@ -107,6 +118,11 @@ written_nodes (s.inner b x) = stmt_nodes x
 written_nodes (s.entry ss) = stmts_nodes ss
 written_nodes (s.init i) = first_nodes i
 written_nodes (s.entries ss) = stmts_nodes ss
+written_nodes (s.label x) = 2
+written_nodes (s.labels ls) = 1 + length ls
+written_nodes (s.body ss) = stmts_nodes ss
+written_nodes (s.section x) = section_nodes x
+written_nodes (s.sections xs) = sections_nodes xs
 
 for_init_few : (o : Option Expr) → first_nodes (s.for_init o) ≡ expr_if_nodes o
 for_init_few None = nodes-Nothing
@@ -120,6 +136,7 @@ writes_few (s.tested x) = let h = spells_few x in omega arith
 writes_few s.bare = omega arith
 writes_few (s.value x) = let h = spells_few x in omega arith
 writes_few (s.array x) = let h = spells_few x in omega arith
+writes_few (s.rows x y) = let h = spells_few x in let i = spells_few y in omega arith
 writes_few (s.last_decl {l = l} {k = k} {w = w} {s = a} x) =
     let h = writes_few x in let n = nodes-Declare l k w a.0 a.1 in omega arith
 writes_few (s.next_decl {l = l} {k = k} {w = w} {s = a} x y) =
@@ -142,6 +159,18 @@ writes_few (s.if_only {l = l} {c = c} {aye = aye} x y) =
 writes_few (s.if_else {l = l} {c = c} {aye = aye} {nay = nay} x y z) =
     let h = writes_few x in let i = writes_few y in let j = writes_few z in
     let n = nodes-If l c aye (Some nay) in omega arith
+writes_few (s.a_case x) = let h = spells_few x in omega arith
+writes_few s.a_default = omega arith
+writes_few (s.last_label x) = let h = writes_few x in omega arith
+writes_few (s.next_label x y) = let h = writes_few x in let i = writes_few y in omega arith
+writes_few (s.last_stmt x) = let h = writes_few x in omega arith
+writes_few (s.next_stmt x y) = let h = writes_few x in let i = writes_few y in omega arith
+writes_few (s.section_is {ls = ls} {ss = ss} x y) =
+    let h = writes_few x in let i = writes_few y in let n = nodes-section ls ss in omega arith
+writes_few s.no_section = omega arith
+writes_few (s.next_section x y) = let h = writes_few x in let i = writes_few y in omega arith
+writes_few (s.switch {l = l} {c = c} {xs = xs} x y) =
+    let h = writes_few x in let i = writes_few y in let n = nodes-Switch l c xs in omega arith
 writes_few (s.while {l = l} {c = c} {s = b} x y) =
     let h = writes_few x in let i = writes_few y in let n = nodes-While l c b in omega arith
 writes_few (s.repeat {l = l} {c = c} {s = b} x y) =
@@ -174,16 +203,23 @@ units_few (u.some_size x) = let h = spells_few x in omega arith
 units_few (u.last_value x) = let h = spells_few x in omega arith
 units_few (u.last_comma x) = let h = spells_few x in omega arith
 units_few (u.next_value x y) = let h = spells_few x in let i = units_few y in omega arith
+units_few (u.last_row x) = let h = units_few x in omega arith
+units_few (u.last_row_comma x) = let h = units_few x in omega arith
+units_few (u.next_row x y) = let h = units_few x in let i = units_few y in omega arith
 units_few u.bare = omega arith
 units_few (u.valued x) = let h = spells_few x in omega arith
 units_few (u.sized x) = let h = units_few x in omega arith
 units_few (u.filled x y) = let h = units_few x in let i = units_few y in omega arith
+units_few (u.rows_sized x y) = let h = units_few x in let i = spells_few y in omega arith
+units_few (u.rows_filled x y z) =
+    let h = units_few x in let i = spells_few y in let j = units_few z in omega arith
 units_few (u.last_global x) = let h = units_few x in omega arith
 units_few (u.next_global x y) = let h = units_few x in let i = units_few y in omega arith
 units_few u.unlabelled = omega arith
 units_few u.labelled = omega arith
 units_few u.no_brackets = omega arith
 units_few (u.some_brackets x) = let h = units_few x in omega arith
+units_few (u.two_brackets x y) = let h = units_few x in let i = spells_few y in omega arith
 units_few (u.param_is x y z) =
     let h = types_few x in let i = units_few y in let j = units_few z in omega arith
 units_few u.no_params = omega arith

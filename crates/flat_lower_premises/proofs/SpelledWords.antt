@@ -1,5 +1,5 @@
 -- What tokens with words spell has words: expressions.
-use Rattle.std.proofs.Common.{◌≡◌, ℕ, sym, ap, ◌∙◌, subst}
+use Rattle.std.proofs.Common.{◌≡◌, ℕ, Some, None, sym, ap, ◌∙◌, subst}
 use Rattle.c_tree.specs.declared.token.Kind.{Kind}
 use Rattle.c_tree.specs.declared.tree.BumpOp.TheVariants as bump
 use Rattle.c_tree.specs.declared.tree.Expr.{Expr}
@@ -62,6 +62,12 @@ named_type type.signed h = h.1
 named_type type.signed_int h = h.1.1
 named_type type.unsigned h = h.1
 named_type type.unsigned_int h = h.1.1
+named_type type.short h = h.1
+named_type type.short_int h = h.1.1
+named_type type.signed_short h = h.1.1
+named_type type.signed_short_int h = h.1.1.1
+named_type type.unsigned_short h = h.1.1
+named_type type.unsigned_short_int h = h.1.1.1
 named_type type.long h = h.1
 named_type type.long_int h = h.1.1
 named_type type.signed_long h = h.1.1
@@ -77,7 +83,10 @@ spelled e.name h = (made _ _ (node.rolls-Name _) has.name, h.1)
 spelled (e.group ok x) h =
     let a = spelled x h.1 in (made _ _ (node.rolls-Group _) (has.group a.0), a.1.1)
 spelled (e.element ok x) h =
-    let a = spelled x h.1.1 in (made _ _ (node.rolls-Element _ _) (has.element a.0), a.1.1)
+    let a = spelled x h.1.1 in (made _ _ (node.rolls-Element _ None _) (has.element a.0), a.1.1)
+spelled (e.row_element ok x ok' y) h =
+    let a = spelled x h.1.1 in let b = spelled y a.1.1.1 in
+    (made _ _ (node.rolls-Element _ (Some _) _) (has.row_element a.0 b.0), b.1.1)
 spelled (e.call ok x) h =
     let a = spelled x h.1.1 in (made _ _ (node.rolls-Call _ _) (has.call a.0), a.1)
 spelled e.none h = (has.no_expr, h.1)

@@ -1,5 +1,5 @@
 -- The laws at a worked program, and what their premises keep out.
-use Rattle.std.proofs.Common.{◌≡◌, ◌≤◌, false, [], ◌∷◌, length, Option, Some, None, refl}
+use Rattle.std.proofs.Common.{◌≡◌, ◌≤◌, [], ◌∷◌, length, Option, Some, None, refl}
 use Rattle.std.proofs.Common.{sym, ap, ◌∙◌, subst, arith}
 use Rattle.c_tree.specs.declared.token.Kind.{Kind}
 use Rattle.c_tree.specs.declared.token.Kind.TheVariants.{Char, Int, Long}
@@ -15,6 +15,7 @@ use Rattle.c_tree.specs.declared.typed.TypedForInit.TheOpen as stmt
 use Rattle.c_constant.specs.Need.{Needs}
 use Rattle.c_constant.specs.Kinds.{converted}
 use Rattle.c_tree.specs.TypedTrees.{node_of}
+use Rattle.c_type.specs.Statements.{nowhere}
 use Rattle.c_type_laws.specs.Expressions.{Gives, Has}
 use Rattle.c_type_laws.specs.Expressions as rule
 use Rattle.c_type_laws.specs.Needs.{FitsNeed}
@@ -30,10 +31,11 @@ use Rattle.flat_lower.specs.Tree.{Source}
 use Rattle.flat_lower.specs.TreeViews.{source_of}
 use Rattle.flat_lower.specs.Objects.{global_bytes}
 use Rattle.flat_lower.specs.Fits.{FitsCompound, FitsSource}
-use Rattle.flat_lower_premises.specs.Limits.{HasFewGlobals}
+use Rattle.flat_lower_premises.specs.Limits.{HasFewGlobals, HasFewNodes}
 use Rattle.flat_lower_premises.specs.Most.{most_of}
 use Rattle.flat_lower_premises.proofs.NodeNeeds.{level_needs, needs_is}
 use Rattle.flat_lower_premises.proofs.FitPrograms.{source_fits}
+use Rattle.flat_lower_premises.proofs.TypedTreeSizes.{body_nodes, by_stmt, by_node}
 
 -- A PROGRAM
 
@@ -55,14 +57,14 @@ main = record {
 -- char c = 1; int main(void) { return 7; }
 abbrev seven : TypedProgram
 seven = record {
-  globals = record { kind = Char; length = None; init = 1 ∷ [] } ∷ [];
+  globals = record { kind = Char; length = None; row = None; init = 1 ∷ [] } ∷ [];
   functions = main ∷ [];
   main = 0;
 }
 
-ran : (s : Level) → WellFormedStmt seven main false s
-    → WellFormedStmt seven main false (out-TypedStmt (roll-TypedStmt s))
-ran s r = subst (WellFormedStmt seven main false) (sym (out-roll-TypedStmt s)) r
+ran : (s : Level) → WellFormedStmt seven main nowhere s
+    → WellFormedStmt seven main nowhere (out-TypedStmt (roll-TypedStmt s))
+ran s r = subst (WellFormedStmt seven main nowhere) (sym (out-roll-TypedStmt s)) r
 
 number_is : Has seven main Int number
 number_is =
@@ -85,6 +87,8 @@ seven_is = record {
   globals = (
     record {
       some = omega arith;
+      single = λ h. refl;
+      rows = tt;
       holds = omega arith;
       words = (one_of, tt);
     },
@@ -97,6 +101,7 @@ seven_is = record {
       slots = omega arith;
       scalars = omega arith;
       locals = tt;
+      rows = tt;
       arrays = tt;
       body = ran _ (run.compound (run.next (ran _ (run.returns (number_is, number_need))) run.end));
     },
@@ -121,9 +126,20 @@ seven_words = record {
   );
 }
 
+-- the compound, the return and the number
+seven_body : body_nodes main.body ≡ 3
+seven_body =
+    let b = by_stmt main.body (stmt.Compound (returned ∷ [])) refl in
+    let r = by_stmt returned (stmt.Return (Some number)) refl in
+    let n = by_node (Some Int) number.node (node.Number 7) refl in
+    omega (arith, b, r, n)
+
+seven_nodes : HasFewNodes seven
+seven_nodes = let b = seven_body in omega (arith, b)
+
 -- it meets what is asked, and so it fits
 seven_fits : FitsSource (source_of seven)
-seven_fits = source_fits seven seven_is seven_words (omega arith)
+seven_fits = source_fits seven seven_is seven_words (omega arith) seven_nodes
 
 -- THE PREMISES
 
@@ -142,7 +158,7 @@ sum : FitsCompound (Some Add) Int Char (Some Int)
 sum = (tt, refl, refl)
 
 -- a char takes a whole word
-whole_word : global_bytes (record { kind = Char; length = None; init = [] }) ≡ 8
+whole_word : global_bytes (record { kind = Char; length = None; row = None; init = [] }) ≡ 8
 whole_word = refl
 
 -- one global more than the limit

@@ -1,13 +1,16 @@
 -- A pass through a typed statement costs no more than the statement has nodes, and a typed
 -- statement has fewer than twice as many.
-use Rattle.std.proofs.Common.{◌≡◌, ◌+◌, ◌*◌, ◌≤◌, Bool, List, Option, Some, None, length, arith}
+use Rattle.std.proofs.Common.{◌≡◌, ℕ, ◌+◌, ◌*◌, ◌≤◌, List, ◌∷◌, ◌++◌, Option, Some, None, length, arith}
 use Rattle.c_tree.specs.declared.token.Kind.{Kind}
 use Rattle.c_tree.specs.declared.tree.ArraySize.TheVariants as size
 use Rattle.c_tree.specs.declared.tree.Expr.{Expr}
+use Rattle.c_tree.specs.declared.tree.Label.{Label}
+use Rattle.c_tree.specs.declared.tree.Section.{Section}
 use Rattle.c_tree.specs.declared.tree.Stmt.{Stmt}
 use Rattle.c_tree.specs.declared.tree.ForInit.{ForInit}
 use Rattle.c_tree.specs.declared.typed.Place.TheVariants as place
 use Rattle.c_tree.specs.declared.typed.TypedExpr.{TypedExpr}
+use Rattle.c_tree.specs.declared.typed.TypedSection.{TypedSection}
 use Rattle.c_tree.specs.declared.typed.TypedStmt.{TypedStmt, roll-TypedStmt}
 use Rattle.c_tree.specs.declared.typed.TypedStmt.TheVariants as typed
 use Rattle.c_tree.specs.declared.typed.TypedForInit.{TypedForInit, roll-TypedForInit}
@@ -16,21 +19,27 @@ use Rattle.c_tree.specs.declared.typed.TypedForInit.TheOpen as level
 use Rattle.c_tree.specs.TypedTrees.{Level, Beginning}
 use Rattle.c_scope.specs.Scope.{Scope}
 use Rattle.c_type_expr.specs.declared.role.Role.{Role}
-use Rattle.c_type_expr.specs.Trees.{with_convert}
+use Rattle.c_constant.specs.Kinds.{promoted}
+use Rattle.c_type_expr.specs.Trees.{kind_of, with_convert}
 use Rattle.c_type.specs.declared.state.State.{State}
+use Rattle.c_type.specs.declared.state.Around.{Around}
 use Rattle.c_type_rules.specs.Statements.{FullIf, absent, present, Initialises, without_value}
 use Rattle.c_type_rules.specs.Statements.{with_value, Types, scalar_declared, array_declared}
+use Rattle.c_type_rules.specs.Statements.{rows_declared, switches, Labels, no_label, a_case, a_default}
+use Rattle.c_type_rules.specs.Statements.{TypesSections, no_section, one_section}
 use Rattle.c_type_rules.specs.Statements.{expression, block, either, while_loop, do_loop}
 use Rattle.c_type_rules.specs.Statements.{for_loop, breaks, continues, returns, returns_value}
 use Rattle.c_type_rules.specs.Statements.{TypesAll, no_more, one_more, without_else}
 use Rattle.c_type_rules.specs.Statements.{with_else, Begins, no_first, first_value, first_locals}
 use Rattle.flat_lower.specs.Sizes as plain
+use Rattle.flat_lower.specs.Sizes.{label_count}
+use Rattle.flat_lower.specs.Emitted.{sections_in}
 use Rattle.flat_lower.proofs.TreeFacts.{plain_stmt, plain_first}
 use Rattle.flat_lower_limits.specs.Nodes as limits
 use Rattle.flat_lower_premises.specs.Nodes as nodes
 use Rattle.flat_lower_premises.proofs.TreeSizes.{nodes-Declare, nodes-Plain, nodes-Compound, nodes-If, nodes-While}
 use Rattle.flat_lower_premises.proofs.TreeSizes.{nodes-Do, nodes-For, nodes-Break, nodes-Continue, nodes-Return}
-use Rattle.flat_lower_premises.proofs.TreeSizes.{nodes-Nothing, nodes-First, nodes-Locals}
+use Rattle.flat_lower_premises.proofs.TreeSizes.{nodes-Switch, nodes-section, nodes-Nothing, nodes-First, nodes-Locals}
 use Rattle.flat_lower_premises.proofs.CostTrees as cost_trees
 use Rattle.flat_lower_premises.proofs.CostTrees.{cost_if, body_cost, first_cost, bodies_cost}
 use Rattle.flat_lower_premises.proofs.TypedTreeSizes as sizes
@@ -65,8 +74,22 @@ initial_few {G = G} {k = k} (with_value {t = t} x) =
     let c = typed_few G x.0 in let d = converted_few k t in
     (omega (arith, c.0, d.0), omega (arith, c.1, d.1))
 
+-- as many labels as before
+labels_few : {G : Scope} {k : Kind} {seen words : List (Option ℕ)} {ls : List Label} → Labels G k seen ls words
+    → label_count words ≡ length ls
+labels_few no_label = omega arith
+labels_few (a_case c v n l d) = let h = labels_few d in omega (arith, h)
+labels_few (a_default l d) = let h = labels_few d in omega (arith, h)
+
+-- what the sections of a switch cost, and how many nodes they have
+abbrev sections_cost : List TypedSection → ℕ
+sections_cost xs = plain.size_of_sections (sections_in xs)
+
+abbrev sections_nodes : List TypedSection → ℕ
+sections_nodes xs = limits.sections_nodes (sections_in xs)
+
 mutual
-  pub types_few : {b : Bool} {v w : State} {s : Stmt} {t : TypedStmt} → Types b v s t w
+  pub types_few : {b : Around} {v w : State} {s : Stmt} {t : TypedStmt} → Types b v s t w
       → (body_cost t ≤ nodes.stmt_nodes s) × (1 + body_nodes t ≤ 2 * nodes.stmt_nodes s)
   types_few {v = v} (scalar_declared {l = l} {k = k} {w = w} {init = init} {t = t} i j x) =
       let n = nodes-Declare l k w size.Scalar init in let c = initial_few x in
@@ -75,6 +98,11 @@ mutual
       (omega (arith, c.0, m.0), omega (arith, c.1, m.1))
   types_few {v = v} (array_declared {l = l} {k = k} {w = w} {e = e} x i j) =
       let n = nodes-Declare l k w (size.Sized e) None in
+      let p = place.Array (length v.arrays) in
+      let m = at_stmt _ (level.Declare p None) (typed.rolls-Declare p None) in
+      (omega (arith, m.0), omega (arith, m.1))
+  types_few {v = v} (rows_declared {l = l} {k = k} {w = w} {r = r} {e = e} x y i j) =
+      let n = nodes-Declare l k w (size.Rows (Some r) e) None in
       let p = place.Array (length v.arrays) in
       let m = at_stmt _ (level.Declare p None) (typed.rolls-Declare p None) in
       (omega (arith, m.0), omega (arith, m.1))
@@ -110,11 +138,18 @@ mutual
       let g = full_few z in let h = types_few u in
       let m = at_stmt _ (level.For i d q t) (typed.rolls-For i d q t) in
       (omega (arith, e.0, f.0, g.0, h.0, m.0), omega (arith, e.1, f.1, g.1, h.1, m.1))
-  types_few (breaks {l = l}) =
+  types_few {v = v} (switches {l = l} {c = c} {d = d} {xs = xs} {ts = ts} x i y) =
+      let k = promoted (kind_of d) in
+      let n = nodes-Switch l c xs in let e = typed_few v.names x.0 in let f = converted_few k d in
+      let h = sections_few y in
+      let m = at_stmt _ (level.Switch (length v.scalars) (with_convert k d) ts)
+      (typed.rolls-Switch (length v.scalars) (with_convert k d) ts) in
+      (omega (arith, e.0, f.0, h.0, m.0), omega (arith, e.1, f.1, h.1, m.1))
+  types_few (breaks {l = l} i) =
       let n = nodes-Break l in
       let m = at_stmt _ level.Break typed.rolls-Break in
       (omega (arith, m.0), omega (arith, m.1))
-  types_few (continues {l = l}) =
+  types_few (continues {l = l} i) =
       let n = nodes-Continue l in
       let m = at_stmt _ level.Continue typed.rolls-Continue in
       (omega (arith, m.0), omega (arith, m.1))
@@ -128,7 +163,7 @@ mutual
       let m = at_stmt _ (level.Return u) (typed.rolls-Return u) in
       (omega (arith, c.0, d.0, m.0), omega (arith, c.1, d.1, m.1))
 
-  pub all_few : {b : Bool} {v w : State} {ss : List Stmt} {ts : List TypedStmt}
+  pub all_few : {b : Around} {v w : State} {ss : List Stmt} {ts : List TypedStmt}
       → TypesAll b v ss ts w
       → (bodies_cost ts ≤ nodes.stmts_nodes ss) × (bodies_nodes ts ≤ 2 * nodes.stmts_nodes ss)
   all_few no_more = (omega arith, omega arith)
@@ -136,7 +171,15 @@ mutual
       let c = types_few x in let d = all_few y in
       (omega (arith, c.0, d.0), omega (arith, c.1, d.1))
 
-  begins_few : {b : Bool} {v w : State} {i : ForInit} {j : TypedForInit}
+  sections_few : {k : Kind} {seen : List (Option ℕ)} {b : Around} {v w : State} {xs : List Section}
+      {us : List TypedSection} → TypesSections k seen b v xs us w
+      → (sections_cost us ≤ nodes.sections_nodes xs) × (sections_nodes us ≤ 2 * nodes.sections_nodes xs)
+  sections_few no_section = (omega arith, omega arith)
+  sections_few (one_section {ls = ls} {ss = ss} x y z) =
+      let n = nodes-section ls ss in let l = labels_few x in let c = all_few y in let d = sections_few z in
+      (omega (arith, n, l, c.0, d.0), omega (arith, n, l, c.1, d.1))
+
+  begins_few : {b : Around} {v w : State} {i : ForInit} {j : TypedForInit}
       → Begins b v i j w
       → (first_cost j ≤ nodes.first_nodes i) × (first_nodes j ≤ 2 * nodes.first_nodes i)
   begins_few no_first =

@@ -1,11 +1,13 @@
 -- Where each number of a statement is a word of its type, so is each number of its typed tree.
-use Rattle.std.proofs.Common.{◌≡◌, ℕ, Bool, true, List, ◌∷◌, Option, Some, None, sym, ap, ◌∙◌}
+use Rattle.std.proofs.Common.{◌≡◌, ℕ, List, [], ◌∷◌, ◌++◌, Option, Some, None, sym, ap, ◌∙◌}
 use Rattle.std.proofs.Common.{subst}
 use Rattle.c_tree.specs.Trees as untyped
 use Rattle.c_tree.specs.TypedTrees as level
 use Rattle.c_tree.specs.declared.token.Kind.{Kind}
 use Rattle.c_tree.specs.declared.tree.ArraySize.{ArraySize}
 use Rattle.c_tree.specs.declared.tree.Expr.{Expr}
+use Rattle.c_tree.specs.declared.tree.Label.{Label}
+use Rattle.c_tree.specs.declared.tree.Section.{Section, out-Section, out-roll-Section}
 use Rattle.c_tree.specs.declared.tree.Stmt.{Stmt}
 use Rattle.c_tree.specs.declared.tree.StmtNode.{StmtNode, roll-StmtNode, out-StmtNode}
 use Rattle.c_tree.specs.declared.tree.StmtNode.{out-roll-StmtNode}
@@ -13,8 +15,9 @@ use Rattle.c_tree.specs.declared.tree.StmtNode.TheVariants as node
 use Rattle.c_tree.specs.declared.tree.ForInit.{ForInit, roll-ForInit, out-ForInit, out-roll-ForInit}
 use Rattle.c_tree.specs.declared.tree.ForInit.TheVariants as first_part
 use Rattle.c_tree.specs.declared.tree.ForInit.TheOpen.{Declare, Plain, Compound, If, While, Do, For}
-use Rattle.c_tree.specs.declared.tree.ForInit.TheOpen.{Return, First, Locals}
+use Rattle.c_tree.specs.declared.tree.ForInit.TheOpen.{Switch, Return, First, Locals, Section-F}
 use Rattle.c_tree.specs.declared.typed.TypedExpr.{TypedExpr}
+use Rattle.c_tree.specs.declared.typed.TypedSection.{TypedSection}
 use Rattle.c_tree.specs.declared.typed.TypedStmt.{TypedStmt, roll-TypedStmt, out-TypedStmt}
 use Rattle.c_tree.specs.declared.typed.TypedStmt.{out-roll-TypedStmt}
 use Rattle.c_tree.specs.declared.typed.TypedStmt.TheVariants as typed
@@ -22,12 +25,18 @@ use Rattle.c_tree.specs.declared.typed.TypedForInit.{TypedForInit, roll-TypedFor
 use Rattle.c_tree.specs.declared.typed.TypedForInit.{out-TypedForInit, out-roll-TypedForInit}
 use Rattle.c_tree.specs.declared.typed.TypedForInit.TheVariants as typed_init
 use Rattle.c_scope.specs.Scope.{Scope}
+use Rattle.c_constant.specs.Kinds.{promoted}
 use Rattle.c_type_expr.specs.declared.role.Role.{Role}
 use Rattle.c_type_expr.specs.declared.role.Role.TheVariants.{Value, Free}
+use Rattle.c_type_expr.specs.Trees.{kind_of, with_convert}
 use Rattle.c_type.specs.declared.state.State.{State}
-use Rattle.c_type.specs.States.{entered, with_scalar}
+use Rattle.c_type.specs.declared.state.Around.{Around}
+use Rattle.c_type.specs.States.{entered, with_scalar, with_switch}
+use Rattle.c_type.specs.Statements.{in_loop, in_switch, sectioned}
 use Rattle.c_type_rules.specs.Statements.{FullIf, Initialises, Types, TypesAll, TypesIf, Begins}
+use Rattle.c_type_rules.specs.Statements.{TypesSections}
 use Rattle.c_type_rules.specs.Statements as typing
+use Rattle.flat_lower_premises.specs.Words.{IsFilled}
 use Rattle.flat_lower_premises.specs.Trees as plain
 use Rattle.flat_lower_premises.specs.TypedTrees as words
 use Rattle.flat_lower_premises.proofs.TypedWords.{converted_has, typed_has}
@@ -99,6 +108,42 @@ in_for : {i : ForInit} {c p : Option Expr} {s : Stmt} → plain.LevelHasWords (F
     → OfFor i c p s
 in_for (plain.for_loop h h1 h2 h3) = record { beginning = h; test = h1; progress = h2; body = h3 }
 
+in_switch_of : {c : Expr} {xs : List Section} → plain.LevelHasWords (Switch c xs)
+    → plain.ExprHasWords c × plain.SectionsHaveWords xs
+in_switch_of (plain.switch h h') = (h, h')
+
+-- the parts of a section
+record OfSection (x : Section-F ForInit StmtNode Section Stmt) : Type 0 where
+  labelled : IsFilled x.labels
+  filled : IsFilled x.body
+  body : plain.StmtsHaveWords x.body
+
+first_section : {x : Section} {xs : List Section} → plain.SectionsHaveWords (x ∷ xs) → OfSection (out-Section x)
+first_section (plain.one_section l ls f h hs) = record { labelled = l; filled = f; body = h }
+
+rest_sections : {x : Section} {xs : List Section} → plain.SectionsHaveWords (x ∷ xs)
+    → plain.SectionsHaveWords xs
+rest_sections (plain.one_section l ls f h hs) = hs
+
+-- a section that is built is open again
+section_opened : (ls : List Label) (ss : List Stmt) (xs : List Section)
+    → plain.SectionsHaveWords (sectioned ls ss ∷ xs) → OfSection (record { labels = ls; body = ss })
+section_opened ls ss xs h =
+    let x : Section-F ForInit StmtNode Section Stmt = record { labels = ls; body = ss } in
+    subst OfSection (out-roll-Section x) (first_section h)
+
+-- a section has as many typed labels and statements
+labels_filled : (G : Scope) (k : Kind) (seen : List (Option ℕ)) (ls : List Label) (ws : List (Option ℕ))
+    → typing.Labels G k seen ls ws → IsFilled ls → IsFilled ws
+labels_filled G k seen _ _ typing.no_label f = f
+labels_filled G k seen _ _ (typing.a_case c v n l d) f = tt
+labels_filled G k seen _ _ (typing.a_default l d) f = tt
+
+stmts_filled : (b : Around) (v : State) (ss : List Stmt) (ts : List TypedStmt) (w : State) → TypesAll b v ss ts w
+    → IsFilled ss → IsFilled ts
+stmts_filled b _ _ _ _ typing.no_more f = f
+stmts_filled b _ _ _ _ (typing.one_more p q) f = tt
+
 in_return : {e : Option Expr} → plain.LevelHasWords (Return e) → plain.ExprIfHasWords e
 in_return (plain.returns h) = h
 
@@ -134,7 +179,7 @@ first_made n x e h = subst words.BeginningHasWords
 
 mutual
   -- where a statement has words, so has its typed tree
-  pub types_have : (b : Bool) (v : State) (s : Stmt) (t : TypedStmt) (u : State) → Types b v s t u
+  pub types_have : (b : Around) (v : State) (s : Stmt) (t : TypedStmt) (u : State) → Types b v s t u
       → plain.StmtHasWords s → words.StmtHasWords t
   types_have _ _ _ _ _ (typing.scalar_declared {v = v} {k = k} {w = w} {init = init} {t = t} h m d)
       x =
@@ -142,6 +187,8 @@ mutual
       (initialises_has (with_scalar k w v).names k init t d
       (in_declare (opened _ _ (node.rolls-Declare k w _ init) x))))
   types_have _ _ _ _ _ (typing.array_declared s h m) x =
+      made _ _ (typed.rolls-Declare _ None) (words.declared tt)
+  types_have _ _ _ _ _ (typing.rows_declared r s h m) x =
       made _ _ (typed.rolls-Declare _ None) (words.declared tt)
   types_have _ _ _ _ _ (typing.expression {v = v} {e = e} {t = t} d) x =
       made _ _ (typed.rolls-Plain t) (words.plain
@@ -157,19 +204,25 @@ mutual
   types_have _ _ _ _ _ (typing.while_loop {v = v} {w = w} {c = c} {d = d} {s = s} {t = t} f p) x =
       let y = in_while (opened _ _ (node.rolls-While c s) x) in
       made _ _ (typed.rolls-While d t) (words.while_loop (typed_has v.names Value c d f.0 y.0)
-      (types_have true v s t w p y.1))
+      (types_have in_loop v s t w p y.1))
   types_have _ _ _ _ _ (typing.do_loop {v = v} {w = w} {c = c} {d = d} {s = s} {t = t} p f) x =
       let y = in_do (opened _ _ (node.rolls-Do s c) x) in
-      made _ _ (typed.rolls-Do t d) (words.do_loop (types_have true v s t w p y.0)
+      made _ _ (typed.rolls-Do t d) (words.do_loop (types_have in_loop v s t w p y.0)
       (typed_has w.names Value c d f.0 y.1))
   types_have _ _ _ _ _ (typing.for_loop {b = b} {v = v} {v' = v'} {w = w} {init = init} {i = i}
       {c = c} {p = p} {d = d} {q = q} {s = s} {t = t} g f f' h) x =
       let y = in_for (opened _ _ (node.rolls-For init c p s) x) in
       made _ _ (typed.rolls-For i d q t) (words.for_loop
       (begin_has b (entered v) init i v' g y.beginning) (full_if_has v'.names Value c d f y.test)
-      (full_if_has v'.names Free p q f' y.progress) (types_have true v' s t w h y.body))
-  types_have _ _ _ _ _ typing.breaks x = made _ _ typed.rolls-Break words.breaks
-  types_have _ _ _ _ _ typing.continues x = made _ _ typed.rolls-Continue words.continues
+      (full_if_has v'.names Free p q f' y.progress) (types_have in_loop v' s t w h y.body))
+  types_have _ _ _ _ _ (typing.switches {b = b} {v = v} {w = w} {c = c} {d = d} {xs = xs} {ts = ts} f m p) x =
+      let y = in_switch_of (opened _ _ (node.rolls-Switch c xs) x) in
+      let k = promoted (kind_of d) in
+      made _ _ (typed.rolls-Switch _ (with_convert k d) ts)
+      (words.switch (converted_has k d (typed_has v.names Value c d f.0 y.0))
+      (sections_have k [] (in_switch b) (with_switch k v) xs ts w p y.1))
+  types_have _ _ _ _ _ (typing.breaks h) x = made _ _ typed.rolls-Break words.breaks
+  types_have _ _ _ _ _ (typing.continues h) x = made _ _ typed.rolls-Continue words.continues
   types_have _ _ _ _ _ (typing.returns h) x = made _ _ (typed.rolls-Return None) (words.returns tt)
   types_have _ _ _ _ _ (typing.returns_value {v = v} {k = k} {e = e} {t = t} h d) x =
       made _ _ (typed.rolls-Return _) (words.returns {e = Some _}
@@ -177,7 +230,7 @@ mutual
       (in_return (opened _ _ (node.rolls-Return (Some e)) x)))))
 
   -- the same of several
-  pub all_have : (b : Bool) (v : State) (ss : List Stmt) (ts : List TypedStmt) (w : State)
+  pub all_have : (b : Around) (v : State) (ss : List Stmt) (ts : List TypedStmt) (w : State)
       → TypesAll b v ss ts w → plain.StmtsHaveWords ss → words.StmtsHaveWords ts
   all_have _ _ _ _ _ typing.no_more x = words.no_stmt
   all_have _ _ _ _ _ (typing.one_more {b = b} {v = v} {v' = v'} {w = w} {s = s} {t = t} {ss = ss}
@@ -185,15 +238,27 @@ mutual
       words.one_stmt (types_have b v s t v' p (first_stmt x))
       (all_have b v' ss ts w q (rest_stmts x))
 
+  -- the same of the sections of a switch
+  sections_have : (k : Kind) (seen : List (Option ℕ)) (b : Around) (v : State) (xs : List Section)
+      (us : List TypedSection) (w : State) → TypesSections k seen b v xs us w → plain.SectionsHaveWords xs
+      → words.SectionsHaveWords us
+  sections_have _ _ _ _ _ _ _ typing.no_section x = words.no_section
+  sections_have _ _ _ _ _ _ _ (typing.one_section {k = k} {seen = seen} {words = ws} {b = b} {v = v} {v' = v'} {w = w}
+      {ls = ls} {ss = ss} {ts = ts} {xs = xs} {us = us} l p q) x =
+      let y = section_opened ls ss xs x in
+      words.one_section (labels_filled v.names k seen ls ws l y.labelled) (stmts_filled b v ss ts v' p y.filled)
+      (all_have b v ss ts v' p y.body)
+      (sections_have k (seen ++ ws) b v' xs us w q (rest_sections x))
+
   -- the same of a leg that may be left out
-  if_has : (b : Bool) (v : State) (o : Option Stmt) (u : Option TypedStmt) (w : State)
+  if_has : (b : Around) (v : State) (o : Option Stmt) (u : Option TypedStmt) (w : State)
       → TypesIf b v o u w → plain.ElseHasWords o → words.ElseHasWords u
   if_has _ _ _ _ _ typing.without_else x = words.without_else
   if_has _ _ _ _ _ (typing.with_else {b = b} {v = v} {w = w} {s = s} {t = t} p) x =
       words.with_else (types_have b v s t w p (in_else x))
 
   -- the same of the first part of a `for`
-  begin_has : (b : Bool) (v : State) (i : ForInit) (j : TypedForInit) (w : State) → Begins b v i j w
+  begin_has : (b : Around) (v : State) (i : ForInit) (j : TypedForInit) (w : State) → Begins b v i j w
       → plain.BeginningHasWords (out-ForInit i) → words.BeginningHasWords (out-TypedForInit j)
   begin_has _ _ _ _ _ typing.no_first x = first_made _ _ typed_init.rolls-Nothing words.nothing
   begin_has _ _ _ _ _ (typing.first_value {v = v} {e = e} {t = t} d) x =

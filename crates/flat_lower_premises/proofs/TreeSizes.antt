@@ -1,5 +1,5 @@
 -- The nodes of untyped trees, level by level.
-use Rattle.std.proofs.Common.{◌≡◌, ℕ, ◌+◌, List, [], ◌∷◌, ◌++◌, Option, Some, None, sym}
+use Rattle.std.proofs.Common.{◌≡◌, ℕ, ◌+◌, List, [], ◌∷◌, ◌++◌, length, Option, Some, None, sym}
 use Rattle.std.proofs.Common.{ap, ◌∙◌, arith}
 use Rattle.c_tree.specs.declared.token.Kind.{Kind}
 use Rattle.c_tree.specs.declared.tree.UnaryOp.{UnaryOp}
@@ -15,6 +15,8 @@ use Rattle.c_tree.specs.declared.tree.ForInit.{ForInit, map-ForInit, fold-roll-F
 use Rattle.c_tree.specs.declared.tree.ForInit.{fold-ForInit, roll-ForInit}
 use Rattle.c_tree.specs.declared.tree.ForInit.TheVariants as first
 use Rattle.c_tree.specs.declared.tree.ForInit.TheOpen.{ForInit-F, StmtNode-F}
+use Rattle.c_tree.specs.declared.tree.Label.{Label}
+use Rattle.c_tree.specs.declared.tree.Section.{Section, fold-roll-Section}
 use Rattle.c_tree.specs.declared.tree.Stmt.{Stmt, fold_out-Stmt}
 use Rattle.c_tree.specs.declared.tree.StmtNode.{StmtNode, map-StmtNode, fold-roll-StmtNode}
 use Rattle.c_tree.specs.declared.tree.StmtNode.{fold-StmtNode, roll-StmtNode}
@@ -25,7 +27,7 @@ use Rattle.c_grammar.specs.Statements as s
 use Rattle.flat_lower_premises.specs.Nodes.{level_nodes, of_level, expr_nodes, exprs_nodes}
 use Rattle.flat_lower_premises.specs.Nodes.{expr_if_nodes, stmt_level_nodes, first_level_nodes, of_stmt_level}
 use Rattle.flat_lower_premises.specs.Nodes.{stmt_nodes, first_nodes, stmts_nodes, stmt_if_nodes}
-use Rattle.flat_lower_premises.specs.Nodes.{unit_nodes}
+use Rattle.flat_lower_premises.specs.Nodes.{section_level_nodes, section_nodes, sections_nodes, unit_nodes}
 
 -- EXPRESSIONS
 
@@ -45,9 +47,11 @@ module _ (l : ℕ) where
   pub nodes-Name : (w : List ℕ) → expr_nodes (at l (node.Name w)) ≡ 1
   nodes-Name w = by_node l _ (ExprNode-F.Name w) (node.rolls-Name w)
 
-  pub nodes-Element : (w : List ℕ) (i : Expr)
-      → expr_nodes (at l (node.Element w i)) ≡ 1 + expr_nodes i
-  nodes-Element w i = by_node l _ (ExprNode-F.Element w i) (node.rolls-Element w i)
+  pub nodes-Element : (w : List ℕ) (o : Option Expr) (i : Expr)
+      → expr_nodes (at l (node.Element w o i)) ≡ 1 + (expr_if_nodes o + expr_nodes i)
+  nodes-Element w None i = by_node l _ (ExprNode-F.Element w None i) (node.rolls-Element w None i)
+  nodes-Element w (Some r) i =
+      by_node l _ (ExprNode-F.Element w (Some r) i) (node.rolls-Element w (Some r) i)
 
   pub nodes-Call : (w : List ℕ) (es : List Expr)
       → expr_nodes (at l (node.Call w es)) ≡ 3 + exprs_nodes es
@@ -86,15 +90,16 @@ module _ (l : ℕ) where
 
 -- STATEMENTS
 
-by_stmt : (l : ℕ) (n : StmtNode) (x : StmtNode-F ForInit StmtNode Stmt) → roll-StmtNode x ≡ n
-    → stmt_nodes (s.at l n) ≡ stmt_level_nodes (map-StmtNode ForInit StmtNode Stmt ℕ ℕ ℕ first_nodes
-    (fold-StmtNode ℕ ℕ ℕ first_level_nodes stmt_level_nodes of_stmt_level) stmt_nodes x)
-unfolding stmt_nodes first_nodes
+by_stmt : (l : ℕ) (n : StmtNode) (x : StmtNode-F ForInit StmtNode Section Stmt) → roll-StmtNode x ≡ n
+    → stmt_nodes (s.at l n) ≡ stmt_level_nodes (map-StmtNode ForInit StmtNode Section Stmt ℕ ℕ ℕ ℕ first_nodes
+    (fold-StmtNode ℕ ℕ ℕ ℕ first_level_nodes stmt_level_nodes section_level_nodes of_stmt_level)
+    section_nodes stmt_nodes x)
+unfolding stmt_nodes first_nodes section_nodes
 by_stmt l n x e =
-    fold_out-Stmt ℕ ℕ ℕ first_level_nodes stmt_level_nodes of_stmt_level (s.at l n)
-    ∙ ap (λ (m : StmtNode). fold-StmtNode ℕ ℕ ℕ first_level_nodes stmt_level_nodes of_stmt_level m)
+    fold_out-Stmt ℕ ℕ ℕ ℕ first_level_nodes stmt_level_nodes section_level_nodes of_stmt_level (s.at l n)
+    ∙ ap (λ (m : StmtNode). fold-StmtNode ℕ ℕ ℕ ℕ first_level_nodes stmt_level_nodes section_level_nodes of_stmt_level m)
     (sym e)
-    ∙ fold-roll-StmtNode ℕ ℕ ℕ first_level_nodes stmt_level_nodes of_stmt_level x
+    ∙ fold-roll-StmtNode ℕ ℕ ℕ ℕ first_level_nodes stmt_level_nodes section_level_nodes of_stmt_level x
 
 module _ (l : ℕ) where
   pub nodes-Declare : (k : Kind) (w : List ℕ) (size : ArraySize) (init : Option Expr)
@@ -129,6 +134,10 @@ module _ (l : ℕ) where
       ≡ 1 + (first_nodes i + (expr_if_nodes c + (expr_if_nodes p + stmt_nodes b)))
   nodes-For i c p b = by_stmt l _ (StmtNode-F.For i c p b) (stmt.rolls-For i c p b)
 
+  pub nodes-Switch : (c : Expr) (xs : List Section)
+      → stmt_nodes (s.at l (stmt.Switch c xs)) ≡ 2 + (expr_nodes c + sections_nodes xs)
+  nodes-Switch c xs = by_stmt l _ (StmtNode-F.Switch c xs) (stmt.rolls-Switch c xs)
+
   pub nodes-Break : stmt_nodes (s.at l stmt.Break) ≡ 1
   nodes-Break = by_stmt l _ StmtNode-F.Break stmt.rolls-Break
 
@@ -139,14 +148,22 @@ module _ (l : ℕ) where
       → stmt_nodes (s.at l (stmt.Return e)) ≡ 1 + expr_if_nodes e
   nodes-Return e = by_stmt l _ (StmtNode-F.Return e) (stmt.rolls-Return e)
 
-by_first : (i : ForInit) (x : ForInit-F ForInit StmtNode Stmt) → roll-ForInit x ≡ i
-    → first_nodes i ≡ first_level_nodes (map-ForInit ForInit StmtNode Stmt ℕ ℕ ℕ first_nodes
-    (fold-StmtNode ℕ ℕ ℕ first_level_nodes stmt_level_nodes of_stmt_level) stmt_nodes x)
-unfolding stmt_nodes first_nodes
+by_first : (i : ForInit) (x : ForInit-F ForInit StmtNode Section Stmt) → roll-ForInit x ≡ i
+    → first_nodes i ≡ first_level_nodes (map-ForInit ForInit StmtNode Section Stmt ℕ ℕ ℕ ℕ first_nodes
+    (fold-StmtNode ℕ ℕ ℕ ℕ first_level_nodes stmt_level_nodes section_level_nodes of_stmt_level)
+    section_nodes stmt_nodes x)
+unfolding stmt_nodes first_nodes section_nodes
 by_first i x e =
-    ap (λ (j : ForInit). fold-ForInit ℕ ℕ ℕ first_level_nodes stmt_level_nodes of_stmt_level j)
+    ap (λ (j : ForInit). fold-ForInit ℕ ℕ ℕ ℕ first_level_nodes stmt_level_nodes section_level_nodes of_stmt_level j)
     (sym e)
-    ∙ fold-roll-ForInit ℕ ℕ ℕ first_level_nodes stmt_level_nodes of_stmt_level x
+    ∙ fold-roll-ForInit ℕ ℕ ℕ ℕ first_level_nodes stmt_level_nodes section_level_nodes of_stmt_level x
+
+pub nodes-section : (ls : List Label) (ss : List Stmt)
+    → section_nodes (s.sectioned ls ss) ≡ 1 + (length ls + stmts_nodes ss)
+unfolding section_nodes stmt_nodes
+nodes-section ls ss =
+    fold-roll-Section ℕ ℕ ℕ ℕ first_level_nodes stmt_level_nodes section_level_nodes of_stmt_level
+    (record { labels = ls; body = ss })
 
 pub nodes-Nothing : first_nodes first.Nothing ≡ 0
 nodes-Nothing = by_first _ ForInit-F.Nothing first.rolls-Nothing

@@ -1,5 +1,5 @@
 -- Where each number of an expression is a word of its type, so is each number of its typed tree.
-use Rattle.std.proofs.Common.{◌≡◌, ℕ, Bool, true, false, cond, List, ◌∷◌, Option, Some, refl, sym}
+use Rattle.std.proofs.Common.{◌≡◌, ℕ, Bool, true, false, cond, List, ◌∷◌, Option, Some, None, refl, sym}
 use Rattle.std.proofs.Common.{ap, ◌∙◌, subst, arith}
 use Rattle.c_tree.specs.Trees as untyped
 use Rattle.c_tree.specs.TypedTrees as level
@@ -44,8 +44,12 @@ opened n x e h = subst plain.NodeHasWords (ap out-ExprNode (sym e) ∙ out-roll-
 pub word_of_number : {v : ℕ} {k : Kind} → plain.NodeHasWords (Number v k) → IsWord k v
 word_of_number (plain.number h) = h
 
-in_element : {w : List ℕ} {i : Expr} → plain.NodeHasWords (Element w i) → plain.ExprHasWords i
+in_element : {w : List ℕ} {i : Expr} → plain.NodeHasWords (Element w None i) → plain.ExprHasWords i
 in_element (plain.element h) = h
+
+in_row_element : {w : List ℕ} {x i : Expr} → plain.NodeHasWords (Element w (Some x) i)
+    → plain.ExprHasWords x × plain.ExprHasWords i
+in_row_element (plain.row_element h h') = (h, h')
 
 in_call : {w : List ℕ} {es : List Expr} → plain.NodeHasWords (Call w es) → plain.ExprsHaveWords es
 in_call (plain.call h) = h
@@ -159,9 +163,13 @@ module _ (G : Scope) where
     typed_has _ _ _ (typing.array {p = p} m h) w = made _ _ _ (typed.rolls-Name p) words.name
     typed_has _ _ _ (typing.ending m h) w = end_of_file_has
     typed_has _ _ _ (typing.element {w = v} {p = p} {i = i} {j = j} d m h) w =
-        made _ _ _ (typed.rolls-Element p j)
+        made _ _ _ (typed.rolls-Element p None j)
         (words.element (typed_has Value i j d
-        (in_element (opened _ _ (node.rolls-Element v i) w))))
+        (in_element (opened _ _ (node.rolls-Element v None i) w))))
+    typed_has _ _ _ (typing.row_element {w = v} {p = p} {x = x} {i = i} {y = y} {j = j} d d' m h) w =
+        let q = in_row_element (opened _ _ (node.rolls-Element v (Some x) i) w) in
+        made _ _ _ (typed.rolls-Element p (Some y) j)
+        (words.row_element (typed_has Value x y d q.0) (typed_has Value i j d' q.1))
     typed_has _ _ _ (typing.call {w = v} {slots = slots} {c = c} {es = es} {ts = ts} m ps h) w =
         made _ _ _ (typed.rolls-Call c ts)
         (words.call (passed_have slots es ts ps (in_call (opened _ _ (node.rolls-Call v es) w))))
@@ -199,7 +207,7 @@ module _ (G : Scope) where
         {ts = ts} d ds) w =
         words.one_expr (converted_has k t (typed_has Value e t d (first_expr w)))
         (passed_have slots es ts ds (rest_exprs w))
-    passed_have _ _ _ (typing.address {k = k} {e = e} {t = t} {slots = slots} {es = es}
+    passed_have _ _ _ (typing.address {k = k} {q = q} {e = e} {t = t} {slots = slots} {es = es}
         {ts = ts} d ds) w =
-        words.one_expr (typed_has (Array k) e t d (first_expr w))
+        words.one_expr (typed_has (Array k q) e t d (first_expr w))
         (passed_have slots es ts ds (rest_exprs w))

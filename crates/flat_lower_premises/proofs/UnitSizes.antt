@@ -29,7 +29,7 @@ item_few : {T : List Top} {U V : FileScope} {n : TopNode} → Item T U n V
     → funcs_nodes V.functions ≤ funcs_nodes U.functions + 2 * top_nodes n
 item_few (include i j k) = omega arith
 item_few (include_again i) = omega arith
-item_few (global i j k x y) = omega arith
+item_few (global i j k x) = omega arith
 item_few (prototype k x) = omega arith
 item_few (definition {U = U} {params = params} {t = t} {v = v} k h x) =
     let c = body_few x in

@@ -1,6 +1,7 @@
 -- What tokens with words spell has words: translation units.
-use Rattle.std.proofs.Common.{List, [], ◌∷◌, ◌++◌}
+use Rattle.std.proofs.Common.{List, [], ◌∷◌, ◌++◌, Option, Some, None}
 use Rattle.c_tree.specs.declared.token.Lexeme.{Lexeme}
+use Rattle.c_tree.specs.declared.tree.Expr.{Expr}
 use Rattle.c_tree.specs.declared.tree.StmtNode.TheVariants as node
 use Rattle.c_tree.specs.declared.tree.Top.{Top}
 use Rattle.c_grammar.specs.Tokens.{Tokens, May}
@@ -8,21 +9,28 @@ use Rattle.c_grammar.specs.Units.{Phrase, Units}
 use Rattle.c_grammar.specs.Units as u
 use Rattle.c_grammar.specs.Answers.{IsUnit}
 use Rattle.flat_lower_premises.specs.Words.{TokensHaveWords}
-use Rattle.flat_lower_premises.specs.Trees.{ExprsHaveWords, SizeHasWords, TopHasWords, UnitHasWords}
+use Rattle.flat_lower_premises.specs.Trees.{ExprIfHasWords, ExprsHaveWords, RowsHaveWords, SizeHasWords}
+use Rattle.flat_lower_premises.specs.Trees.{TopHasWords, UnitHasWords}
 use Rattle.flat_lower_premises.specs.Trees as has
 use Rattle.flat_lower_premises.proofs.SpelledWords.{named_type, spelled}
 use Rattle.flat_lower_premises.proofs.WrittenWords.{made, written}
 
 -- each number of the phrase is a word of its type; of parameters nothing is said
 abbrev PhraseHasWords : Phrase → Type 0
-PhraseHasWords (u.size a) = SizeHasWords a
+PhraseHasWords (u.size o) = ExprIfHasWords o
 PhraseHasWords (u.values es) = ExprsHaveWords es
-PhraseHasWords (u.shape x) = SizeHasWords x.0 × ExprsHaveWords x.1
+PhraseHasWords (u.rows ess) = RowsHaveWords ess
+PhraseHasWords (u.shape x) = SizeHasWords x.0 × RowsHaveWords x.1
 PhraseHasWords (u.globals k xs) = UnitHasWords xs
 PhraseHasWords (u.func r x) = TopHasWords x.node
 PhraseHasWords (u.item xs) = UnitHasWords xs
 PhraseHasWords (u.unit xs) = UnitHasWords xs
 PhraseHasWords _ = Unit {0}
+
+-- one pair of brackets
+one_size_has : (o : Option Expr) → ExprIfHasWords o → SizeHasWords (u.one_size o)
+one_size_has None h = tt
+one_size_has (Some e) h = h
 
 -- items that follow one another have words if each part has
 items_joined : (xs ys : List Top) → UnitHasWords xs → UnitHasWords ys → UnitHasWords (xs ++ ys)
@@ -38,11 +46,20 @@ united (u.last_value x) h = let a = spelled x h in (has.one_expr a.0 has.no_expr
 united (u.last_comma x) h = let a = spelled x h in (has.one_expr a.0 has.no_expr, a.1.1.1)
 united (u.next_value x y) h =
     let a = spelled x h in let b = united y a.1.1 in (has.one_expr a.0 b.0, b.1)
-united u.bare h = ((tt, has.no_expr), h)
-united (u.valued x) h = let a = spelled x h.1 in ((tt, has.one_expr a.0 has.no_expr), a.1)
-united (u.sized x) h = let a = united x h.1 in ((a.0, has.no_expr), a.1)
-united (u.filled x y) h =
-    let a = united x h.1 in let b = united y a.1.1.1 in ((a.0, b.0), b.1)
+united (u.last_row x) h = let a = united x h.1 in ((a.0, tt), a.1.1)
+united (u.last_row_comma x) h = let a = united x h.1 in ((a.0, tt), a.1.1.1)
+united (u.next_row x y) h =
+    let a = united x h.1 in let b = united y a.1.1 in ((a.0, b.0), b.1)
+united u.bare h = ((tt, tt), h)
+united (u.valued x) h = let a = spelled x h.1 in ((tt, (has.one_expr a.0 has.no_expr, tt)), a.1)
+united (u.sized x) h = let a = united x h.1 in ((a.0, tt), a.1)
+united (u.filled {o = o} x y) h =
+    let a = united x h.1 in let b = united y a.1.1.1 in ((one_size_has o a.0, (b.0, tt)), b.1)
+united (u.rows_sized x y) h =
+    let a = united x h.1 in let b = spelled y a.1.1 in (((a.0, b.0), tt), b.1.1)
+united (u.rows_filled x y z) h =
+    let a = united x h.1 in let b = spelled y a.1.1 in let c = united z b.1.1.1.1 in
+    (((a.0, b.0), c.0), c.1)
 united (u.last_global x) h = let a = united x h.1 in ((a.0, tt), a.1.1)
 united (u.next_global x y) h =
     let a = united x h.1 in let b = united y a.1.1 in ((a.0, b.0), b.1)
@@ -50,6 +67,7 @@ united u.unlabelled h = (tt, h)
 united u.labelled h = (tt, h.1)
 united u.no_brackets h = (tt, h)
 united (u.some_brackets x) h = (tt, (united x h.1).1)
+united (u.two_brackets x y) h = (tt, (spelled y (united x h.1).1.1).1.1)
 united (u.param_is x y z) h = (tt, (united z (united y (named_type x h)).1).1)
 united u.no_params h = (tt, h.1)
 united u.void_params h = (tt, h.1.1)

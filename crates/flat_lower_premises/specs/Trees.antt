@@ -1,5 +1,5 @@
--- Trees each of whose numbers is a word of its type, and each of whose assignments has an operator
--- that C gives one. A rule for each node.
+-- Trees each of whose numbers is a word of its type, each of whose assignments has an operator that C gives
+-- one, and each of whose sections of a switch has a label and a statement. A rule for each node.
 use Rattle.std.specs.Prelude.{ℕ, List, [], ◌∷◌, Option, Some, None}
 use Rattle.c_tree.specs.Trees.{Node, node_of, Level, level_of, Beginning}
 use Rattle.c_tree.specs.declared.token.Kind.{Kind}
@@ -9,21 +9,22 @@ use Rattle.c_tree.specs.declared.tree.BinaryOp.{BinaryOp}
 use Rattle.c_tree.specs.declared.tree.ArraySize.{ArraySize}
 use Rattle.c_tree.specs.declared.tree.ArraySize.TheVariants as size
 use Rattle.c_tree.specs.declared.tree.Expr.{Expr}
-use Rattle.c_tree.specs.declared.tree.ExprNode.{ExprNode, out-ExprNode}
-use Rattle.c_tree.specs.declared.tree.ExprNode.TheOpen.{ExprNode-F, Number, Name, Element, Call}
+use Rattle.c_tree.specs.declared.tree.ExprNode.TheOpen.{Number, Name, Element, Call}
 use Rattle.c_tree.specs.declared.tree.ExprNode.TheOpen.{Group, Unary, Cast, Bump, Binary, Choice}
 use Rattle.c_tree.specs.declared.tree.ExprNode.TheOpen.{Assign, Comma}
+use Rattle.c_tree.specs.declared.tree.Label.{Label}
+use Rattle.c_tree.specs.declared.tree.Section.{Section, out-Section}
 use Rattle.c_tree.specs.declared.tree.Stmt.{Stmt}
-use Rattle.c_tree.specs.declared.tree.StmtNode.{StmtNode, out-StmtNode}
 use Rattle.c_tree.specs.declared.tree.ForInit.{ForInit, out-ForInit}
-use Rattle.c_tree.specs.declared.tree.ForInit.TheOpen.{StmtNode-F, ForInit-F, Declare, Plain}
-use Rattle.c_tree.specs.declared.tree.ForInit.TheOpen.{Compound, If, While, Do, For, Break}
+use Rattle.c_tree.specs.declared.tree.ForInit.TheOpen.{Declare, Plain}
+use Rattle.c_tree.specs.declared.tree.ForInit.TheOpen.{Compound, If, While, Do, For, Switch, Break}
 use Rattle.c_tree.specs.declared.tree.ForInit.TheOpen.{Continue, Return, Nothing, First, Locals}
 use Rattle.c_tree.specs.declared.tree.Top.{Top}
 use Rattle.c_tree.specs.declared.tree.TopNode.{TopNode}
 use Rattle.c_tree.specs.declared.tree.TopNode.TheVariants as top
 use Rattle.c_constant.specs.Kinds.{IsWord}
 use Rattle.flat_lower_premises.specs.Assigners.{IsAssigner}
+use Rattle.flat_lower_premises.specs.Words.{IsFilled}
 
 -- EXPRESSIONS
 
@@ -33,7 +34,9 @@ mutual
     number : {v : ℕ} {k : Kind} → IsWord k v → NodeHasWords (Number v k)
     name : {w : List ℕ} → NodeHasWords (Name w)
     element : {w : List ℕ} {i : Expr}
-        → NodeHasWords (node_of i) → NodeHasWords (Element w i)
+        → NodeHasWords (node_of i) → NodeHasWords (Element w None i)
+    row_element : {w : List ℕ} {x i : Expr}
+        → NodeHasWords (node_of x) → NodeHasWords (node_of i) → NodeHasWords (Element w (Some x) i)
     call : {w : List ℕ} {es : List Expr} → ExprsHaveWords es → NodeHasWords (Call w es)
     group : {e : Expr} → NodeHasWords (node_of e) → NodeHasWords (Group e)
     operator : {op : UnaryOp} {e : Expr}
@@ -65,10 +68,21 @@ abbrev pub ExprIfHasWords : Option Expr → Type 0
 ExprIfHasWords None = Unit {0}
 ExprIfHasWords (Some e) = ExprHasWords e
 
--- the same of an array's size
+-- the same of an array's sizes
 abbrev pub SizeHasWords : ArraySize → Type 0
 SizeHasWords (size.Sized e) = ExprHasWords e
+SizeHasWords (size.Rows o e) = ExprIfHasWords o × ExprHasWords e
 SizeHasWords _ = Unit {0}
+
+-- the same of the constants of labels
+abbrev pub LabelsHaveWords : List Label → Type 0
+LabelsHaveWords [] = Unit {0}
+LabelsHaveWords (l ∷ ls) = ExprIfHasWords l.value × LabelsHaveWords ls
+
+-- the same of the rows of values of a global
+abbrev pub RowsHaveWords : List (List Expr) → Type 0
+RowsHaveWords [] = Unit {0}
+RowsHaveWords (es ∷ ess) = ExprsHaveWords es × RowsHaveWords ess
 
 -- STATEMENTS
 
@@ -89,6 +103,8 @@ mutual
     for_loop : {i : ForInit} {c p : Option Expr} {s : Stmt}
         → BeginningHasWords (out-ForInit i) → ExprIfHasWords c → ExprIfHasWords p
         → LevelHasWords (level_of s) → LevelHasWords (For i c p s)
+    switch : {c : Expr} {xs : List Section}
+        → ExprHasWords c → SectionsHaveWords xs → LevelHasWords (Switch c xs)
     breaks : LevelHasWords Break
     continues : LevelHasWords Continue
     returns : {e : Option Expr} → ExprIfHasWords e → LevelHasWords (Return e)
@@ -98,6 +114,14 @@ mutual
     no_stmt : StmtsHaveWords []
     one_stmt : {s : Stmt} {ss : List Stmt}
         → LevelHasWords (level_of s) → StmtsHaveWords ss → StmtsHaveWords (s ∷ ss)
+
+  -- the same of all sections of a switch, each of which has a label and a statement
+  pub data SectionsHaveWords : List Section → Type 0 where
+    no_section : SectionsHaveWords []
+    one_section : {x : Section} {xs : List Section}
+        → IsFilled (out-Section x).labels → LabelsHaveWords (out-Section x).labels
+        → IsFilled (out-Section x).body → StmtsHaveWords (out-Section x).body
+        → SectionsHaveWords xs → SectionsHaveWords (x ∷ xs)
 
   -- the same of the statement of an `else`, if there is one
   pub data ElseHasWords : Option Stmt → Type 0 where
@@ -121,10 +145,10 @@ StmtIfHasWords (Some s) = StmtHasWords s
 
 -- UNITS
 
--- an array parameter's size says nothing, and is not looked at
+-- an array parameter's sizes are not looked at
 abbrev pub TopHasWords : TopNode → Type 0
 TopHasWords top.Include = Unit {0}
-TopHasWords (top.Global k w a init) = SizeHasWords a × ExprsHaveWords init
+TopHasWords (top.Global k w a init) = SizeHasWords a × RowsHaveWords init
 TopHasWords (top.Func r w ps body) = StmtIfHasWords body
 
 -- the same of all items

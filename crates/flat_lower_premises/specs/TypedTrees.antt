@@ -1,5 +1,5 @@
--- Typed trees each of whose numbers is a word of its type, and each of whose assignments has an
--- operator that C gives one. A rule for each node.
+-- Typed trees each of whose numbers is a word of its type, each of whose assignments has an operator that C
+-- gives one, and each of whose sections of a switch has a label and a statement. A rule for each node.
 use Rattle.std.specs.Prelude.{ℕ, List, [], ◌∷◌, Option, Some, None}
 use Rattle.c_tree.specs.TypedTrees.{Node, node_of, Level, Beginning}
 use Rattle.c_tree.specs.declared.token.Kind.{Kind}
@@ -13,17 +13,18 @@ use Rattle.c_tree.specs.declared.typed.TypedNode.{TypedNode, out-TypedNode}
 use Rattle.c_tree.specs.declared.typed.TypedNode.TheOpen.{TypedNode-F, Number, Name, Element, Call}
 use Rattle.c_tree.specs.declared.typed.TypedNode.TheOpen.{Unary, Cast, Convert, Bump, Binary}
 use Rattle.c_tree.specs.declared.typed.TypedNode.TheOpen.{Choice, Assign, Comma}
+use Rattle.c_tree.specs.declared.typed.TypedSection.{TypedSection}
 use Rattle.c_tree.specs.declared.typed.TypedStmt.{TypedStmt, out-TypedStmt}
 use Rattle.c_tree.specs.declared.typed.TypedForInit.{TypedForInit, out-TypedForInit}
 use Rattle.c_tree.specs.declared.typed.TypedForInit.TheOpen.{TypedStmt-F, TypedForInit-F, Declare}
 use Rattle.c_tree.specs.declared.typed.TypedForInit.TheOpen.{Plain, Compound, If, While, Do, For}
-use Rattle.c_tree.specs.declared.typed.TypedForInit.TheOpen.{Break, Continue, Return, Nothing}
+use Rattle.c_tree.specs.declared.typed.TypedForInit.TheOpen.{Switch, Break, Continue, Return, Nothing}
 use Rattle.c_tree.specs.declared.typed.TypedForInit.TheOpen.{First, Locals}
 use Rattle.c_tree.specs.declared.typed.TypedGlobal.{TypedGlobal}
 use Rattle.c_tree.specs.declared.typed.TypedFunc.{TypedFunc}
 use Rattle.c_tree.specs.declared.typed.TypedProgram.{TypedProgram}
 use Rattle.c_constant.specs.Kinds.{IsWord}
-use Rattle.flat_lower_premises.specs.Words.{AreWordsOf}
+use Rattle.flat_lower_premises.specs.Words.{AreWordsOf, IsFilled}
 use Rattle.flat_lower_premises.specs.Assigners.{IsAssigner}
 
 -- EXPRESSIONS
@@ -34,7 +35,10 @@ mutual
     number : {k : Kind} {w : ℕ} → IsWord k w → NodeHasWords (Some k) (Number w)
     name : {r : Option Kind} {p : Place} → NodeHasWords r (Name p)
     element : {r : Option Kind} {p : Place} {i : TypedExpr}
-        → NodeHasWords i.kind (node_of i) → NodeHasWords r (Element p i)
+        → NodeHasWords i.kind (node_of i) → NodeHasWords r (Element p None i)
+    row_element : {r : Option Kind} {p : Place} {x i : TypedExpr}
+        → NodeHasWords x.kind (node_of x) → NodeHasWords i.kind (node_of i)
+        → NodeHasWords r (Element p (Some x) i)
     call : {r : Option Kind} {c : Callee} {es : List TypedExpr}
         → ExprsHaveWords es → NodeHasWords r (Call c es)
     operator : {r : Option Kind} {op : UnaryOp} {e : TypedExpr}
@@ -92,6 +96,8 @@ mutual
     for_loop : {i : TypedForInit} {c p : Option TypedExpr} {s : TypedStmt}
         → BeginningHasWords (out-TypedForInit i) → ExprIfHasWords c → ExprIfHasWords p
         → LevelHasWords (out-TypedStmt s) → LevelHasWords (For i c p s)
+    switch : {n : ℕ} {c : TypedExpr} {xs : List TypedSection}
+        → ExprHasWords c → SectionsHaveWords xs → LevelHasWords (Switch n c xs)
     breaks : LevelHasWords Break
     continues : LevelHasWords Continue
     returns : {e : Option TypedExpr} → ExprIfHasWords e → LevelHasWords (Return e)
@@ -101,6 +107,13 @@ mutual
     no_stmt : StmtsHaveWords []
     one_stmt : {s : TypedStmt} {ss : List TypedStmt}
         → LevelHasWords (out-TypedStmt s) → StmtsHaveWords ss → StmtsHaveWords (s ∷ ss)
+
+  -- the same of all sections of a switch, each of which has a label and a statement
+  pub data SectionsHaveWords : List TypedSection → Type 0 where
+    no_section : SectionsHaveWords []
+    one_section : {x : TypedSection} {xs : List TypedSection}
+        → IsFilled x.labels → IsFilled x.body → StmtsHaveWords x.body → SectionsHaveWords xs
+        → SectionsHaveWords (x ∷ xs)
 
   -- the same of the statement of an `else`, if there is one
   pub data ElseHasWords : Option TypedStmt → Type 0 where

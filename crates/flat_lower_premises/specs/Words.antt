@@ -1,5 +1,5 @@
 -- Words that stand for a value of a type, and the tokens whose numbers are such words.
-use Rattle.std.specs.Prelude.{◌≡◌, ℕ, ◌<◌, ◌^◌, List, [], ◌∷◌}
+use Rattle.std.specs.Prelude.{ℕ, List, [], ◌∷◌}
 use Rattle.c_tree.specs.declared.token.Kind.{Kind}
 use Rattle.c_tree.specs.declared.token.Form.{Form}
 use Rattle.c_tree.specs.declared.token.Form.TheVariants as form
@@ -10,6 +10,11 @@ use Rattle.c_constant.specs.Kinds.{IsWord}
 abbrev pub AreWordsOf : Kind → List ℕ → Type 0
 AreWordsOf k [] = Unit {0}
 AreWordsOf k (w ∷ ws) = IsWord k w × AreWordsOf k ws
+
+-- there is one at least
+abbrev pub IsFilled : {A : Type 0} → List A → Type 0
+IsFilled [] = ⊥
+IsFilled (x ∷ xs) = Unit {0}
 
 -- a constant's value is a word of its type
 abbrev pub FormHasWord : Form → Type 0

@@ -12,13 +12,14 @@ ghost use Rattle.flat_lower.specs.Tree.{Source};
 ghost use Rattle.flat_lower.specs.Sizes.{IsMost};
 ghost use Rattle.flat_lower.specs.Keeps.{IsInput, Keeps};
 ghost use Rattle.flat_lower.specs.Statements.{lowered_program};
-ghost use Rattle.flat_lower_premises.specs.Limits.{HasFewGlobals};
+ghost use Rattle.flat_lower_premises.specs.Limits.{HasFewGlobals, HasFewNodes};
 ghost use Rattle.flat_lower_premises.specs.Most.{most_of};
 
-/// A well formed program, whose numbers are words and which has few globals, fits: of each node
-/// typing says what lowering relies on, temporaries and memory suffice, and main can be called.
+/// A well formed program, whose numbers are words and which has few globals and few nodes, fits: of each
+/// node typing says what lowering relies on, temporaries and memory suffice, a word counts the sections of
+/// a switch, and main can be called.
 pub fn typed_programs_fit()
-    ensures { (P : TypedProgram) → WellFormed P → ProgramHasWords P → HasFewGlobals P
+    ensures { (P : TypedProgram) → WellFormed P → ProgramHasWords P → HasFewGlobals P → HasFewNodes P
         → FitsSource (source_of P) }
 {}
 
@@ -31,7 +32,7 @@ pub fn most_of_is_most()
 /// The lowered program of such a program does what C means by it, on every input: within n steps of
 /// the evaluation the same output and the same result, or the same overflow, or as much output.
 pub fn lowered_programs_keep_meaning()
-    ensures { (P : TypedProgram) → WellFormed P → ProgramHasWords P → HasFewGlobals P
+    ensures { (P : TypedProgram) → WellFormed P → ProgramHasWords P → HasFewGlobals P → HasFewNodes P
         → (input : List ℕ) → IsInput input → (n : ℕ)
         → Keeps (most_of (source_of P)) (flat_run checked (lowered_program P) input) n
         (eval P input n) }

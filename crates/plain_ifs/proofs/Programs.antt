@@ -5,20 +5,22 @@ use Rattle.c_tree.specs.declared.TypedFunc.{TypedFunc}
 use Rattle.c_tree.specs.declared.TypedGlobal.{TypedGlobal}
 use Rattle.ir_forms.specs.FlatFits.{small_ifs_of_all}
 use Rattle.flat_lower.specs.TreeViews.{stmt_of, func_of}
+use Rattle.flat_lower.specs.declared.around.Around.TheVariants.{Nowhere}
 use Rattle.flat_lower.specs.Statements.{stmt_code, end_code, context_of, lowered_from, lowered, lowered_program}
 use Rattle.plain_ifs.specs.PlainIfs.{ifs_of_funcs}
 use Rattle.plain_ifs.specs.Laws.{LowersPlainIfs, AssignsPlainIfs}
 use Rattle.plain_ifs.proofs.SmallIfs.{then_small}
 use Rattle.plain_ifs.proofs.Statements.{shows}
 use Rattle.plain_ifs.proofs.Kept.{assigns_small}
+use Rattle.plain_ifs.proofs.StandardFacts.{one_plain_if}
 
 module _ (globals : List TypedGlobal) (main : ℕ) where
   functions_show : (n : ℕ) (fs : List TypedFunc)
       → ifs_of_funcs fs ≤ small_ifs_of_all (lowered_from globals main n (map func_of fs))
   functions_show n [] = omega arith
   functions_show n (f ∷ fs) =
-      let h = (shows (context_of globals (func_of f)) f.body).ifs in
-      let w = then_small (stmt_code (context_of globals (func_of f)) (stmt_of f.body))
+      let h = (shows (context_of globals (func_of f)) f.body Nowhere).ifs in
+      let w = then_small (stmt_code (context_of globals (func_of f)) Nowhere (stmt_of f.body))
       (end_code (nat_eq n main)) in
       let rest = functions_show (suc n) fs in
       omega (arith, h, w, rest)

@@ -10,13 +10,14 @@ use Rattle.c_tree.specs.declared.TypedNode.{roll-TypedNode, out-roll-TypedNode}
 use Rattle.c_tree.specs.declared.TypedNode.TheOpen as node
 use Rattle.c_tree.specs.declared.TypedStmt.{TypedStmt, roll-TypedStmt, map-TypedStmt, fold-roll-TypedStmt}
 use Rattle.c_tree.specs.declared.TypedForInit.{TypedForInit}
+use Rattle.c_tree.specs.declared.TypedSection.{TypedSection}
 use Rattle.c_tree.specs.declared.TypedForInit.TheOpen.{TypedStmt-F}
 use Rattle.c_tree.specs.declared.TypedForInit.TheOpen as stmt
 use Rattle.c_tree.specs.declared.TypedProgram.{TypedProgram}
 use Rattle.c_tree.specs.TypedTrees.{Node, node_of}
 use Rattle.plain_ifs.specs.PlainIfs.{is_scalar, is_simple, is_plain_assignment, Counted, no_leg, assigns, if_ifs}
-use Rattle.plain_ifs.specs.PlainIfs.{counted_by, first_by, counted, plain_ifs}
-use Rattle.plain_ifs.proofs.Statements.{first_ifs}
+use Rattle.plain_ifs.specs.PlainIfs.{counted_by, first_by, section_by, counted, plain_ifs}
+use Rattle.plain_ifs.proofs.Statements.{first_ifs, section_ifs}
 
 -- ASSIGNMENTS
 
@@ -83,6 +84,10 @@ with_other_else t = refl
 chained : (t : TypedExpr) → counted_by (stmt.If t assignment (Some (no_leg 1))) ≡ no_leg 1
 chained t = refl
 
+-- the ifs of all sections of a switch, which is no leg itself
+in_sections : (t : TypedExpr) → counted_by (stmt.Switch 0 t (1 ∷ 2 ∷ [])) ≡ no_leg 3
+in_sections t = refl
+
 -- A PROGRAM
 
 -- an expression of type int
@@ -103,10 +108,10 @@ three_assigns =
     (node_back (node.Number 3))
 
 -- a statement is counted by its parts
-by_parts : (x : TypedStmt-F TypedForInit TypedStmt) → counted (roll-TypedStmt x)
-    ≡ counted_by (map-TypedStmt TypedForInit TypedStmt ℕ Counted first_ifs counted x)
-unfolding counted first_ifs
-by_parts x = fold-roll-TypedStmt ℕ Counted first_by counted_by x
+by_parts : (x : TypedStmt-F TypedForInit TypedStmt TypedSection) → counted (roll-TypedStmt x)
+    ≡ counted_by (map-TypedStmt TypedForInit TypedStmt TypedSection ℕ Counted ℕ first_ifs counted section_ifs x)
+unfolding counted first_ifs section_ifs
+by_parts x = fold-roll-TypedStmt ℕ Counted ℕ first_by counted_by section_by x
 
 -- an expression statement, which is a plain assignment or is none
 abbrev expression : Bool → Counted

@@ -6,7 +6,7 @@ use Rattle.c_tree.specs.declared.Place.TheVariants.{Scalar}
 use Rattle.c_tree.specs.declared.TypedExpr.{TypedExpr}
 use Rattle.c_tree.specs.declared.TypedNode.TheOpen as node
 use Rattle.c_tree.specs.declared.TypedStmt.{TypedStmt, fold-TypedStmt}
-use Rattle.c_tree.specs.declared.TypedForInit.TheOpen.{TypedStmt-F, TypedForInit-F}
+use Rattle.c_tree.specs.declared.TypedForInit.TheOpen.{TypedStmt-F, TypedForInit-F, TypedSection-F}
 use Rattle.c_tree.specs.declared.TypedForInit.TheOpen as stmt
 use Rattle.c_tree.specs.declared.TypedFunc.{TypedFunc}
 use Rattle.c_tree.specs.declared.TypedProgram.{TypedProgram}
@@ -74,8 +74,13 @@ else_ifs (Some s) = s.ifs
 abbrev pub if_ifs : Counted → Option Counted → ℕ
 if_ifs one other = cond (one.leg && else_leg other) 1 0 + (one.ifs + else_ifs other)
 
+-- the plain ifs in several sections, once each is counted
+abbrev pub ifs_of_sections : List ℕ → ℕ
+ifs_of_sections [] = 0
+ifs_of_sections (n ∷ rest) = n + ifs_of_sections rest
+
 -- a statement, once its parts are counted
-abbrev pub counted_by : TypedStmt-F ℕ Counted → Counted
+abbrev pub counted_by : TypedStmt-F ℕ Counted ℕ → Counted
 counted_by (stmt.Declare p init) = no_leg 0
 counted_by (stmt.Plain e) = record { ifs = 0; alone = assigns e; leg = assigns e }
 counted_by (stmt.Compound all) =
@@ -84,19 +89,24 @@ counted_by (stmt.If t one other) = no_leg (if_ifs one other)
 counted_by (stmt.While t body) = no_leg body.ifs
 counted_by (stmt.Do body t) = no_leg body.ifs
 counted_by (stmt.For first test post body) = no_leg (first + body.ifs)
+counted_by (stmt.Switch i t xs) = no_leg (ifs_of_sections xs)
 counted_by stmt.Break = no_leg 0
 counted_by stmt.Continue = no_leg 0
 counted_by (stmt.Return e) = no_leg 0
 
 -- the plain ifs in the first part of a `for`, which has only declarations
-abbrev pub first_by : TypedForInit-F ℕ Counted → ℕ
+abbrev pub first_by : TypedForInit-F ℕ Counted ℕ → ℕ
 first_by stmt.Nothing = 0
 first_by (stmt.First e) = 0
 first_by (stmt.Locals all) = ifs_of_all all
 
+-- the plain ifs in the statements of a section
+abbrev pub section_by : TypedSection-F ℕ Counted ℕ → ℕ
+section_by x = ifs_of_all x.body
+
 -- what is counted of a statement
 unfoldable pub counted : TypedStmt → Counted
-counted s = fold-TypedStmt ℕ Counted first_by counted_by s
+counted s = fold-TypedStmt ℕ Counted ℕ first_by counted_by section_by s
 
 -- PROGRAMS
 
