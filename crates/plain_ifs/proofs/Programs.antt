@@ -12,7 +12,6 @@ use Rattle.plain_ifs.specs.Laws.{LowersPlainIfs, AssignsPlainIfs}
 use Rattle.plain_ifs.proofs.SmallIfs.{then_small}
 use Rattle.plain_ifs.proofs.Statements.{shows}
 use Rattle.plain_ifs.proofs.Kept.{assigns_small}
-use Rattle.plain_ifs.proofs.StandardFacts.{one_plain_if}
 
 module _ (globals : List TypedGlobal) (main : ℕ) where
   functions_show : (n : ℕ) (fs : List TypedFunc)
