@@ -109,3 +109,59 @@ int main(void) {
   return (int) h;
 }
 ";
+
+/// Conversions from a type to the two short ones and back, and operators between them.
+pub const SHORTS: &str = "#include <stdio.h>
+unsigned h;
+void say(long x) {
+  h = h * 31 + (unsigned) (x ^ x >> 32);
+  putchar((int) (h & 255));
+}
+short s; unsigned short t = 65535;
+short ss[2] = {-32768, 32767}; unsigned short ts[3] = {65535, 32768};
+void from(@ a) {
+  s = (short) a; t = a; ss[1] = a; ts[2] = a; say(s); say(t); say(ss[1]); say(ts[2]);
+  say((short) a + 1); say((unsigned short) a * 2); say((@) s); say((@) t); say((short) (unsigned short) a);
+  say(s + a > 0); say(t - a < 1); say(a < s); say(a < t); say(a == s); say(a != t); say(s < t); say(s == t);
+  say(a & s); say(a ^ t); say(a | s); say((a & t) >> 1); say(t >> (a & 7)); say(s >> (a & 15)); say(t << (a & 15));
+  say(s / (t | 1)); say(t % (a | 1)); say(a ? s : t); say(-s); say(~t); say(!s); say(+t);
+  s += a & 15; t -= a; ss[0] ^= a; ts[1] |= a; say(s); say(t); say(ss[0]); say(ts[1]);
+  say(s++); say(--t); say(ss[1]--); say(++ts[2]); say(s); say(t); say(ss[1]); say(ts[2]);
+}
+int main(void) {
+  from(5); from(-3); from(127); from(200); from(32767); from(32768); from(65535); from(-70000); from(1000000);
+  return (int) h;
+}
+";
+
+/// Arrays with two sizes: global, local, and as a parameter.
+pub const TABLES: &str = "#include <stdio.h>
+unsigned h;
+void say(long x) {
+  h = h * 31 + (unsigned) (x ^ x >> 32);
+  putchar((int) (h & 255));
+}
+@ before = 77;
+@ g[3][5] = {{1, -2, 3}, {100, 127, -128, 90,},};
+@ open[][2] = {{-1}, {2, 3}, {4}};
+@ behind[2] = {78, 79};
+void change(@ t[][5], int i, int j) {
+  t[i][j] += 3; say(t[i][j]); t[i + 1][j - 1] = t[i][j] - 9; say(t[i + 1][j - 1]++); say(--t[i + 1][j - 1]);
+  t[i][j] <<= 1 & i; say(t[i][j]); t[i][t[i][j] & 3] ^= 21; say(t[i][t[i][j] & 3]--);
+}
+int all(@ t[7][5], int rows) {
+  int i; int j; int sum = 0;
+  for (i = 0; i < rows; i++) for (j = 0; j < 5; j++) { say(t[i][j]); sum += (int) t[i][j] & 63; }
+  return sum;
+}
+int main(void) {
+  @ l[2][5]; @ one[1][1]; int i; int j;
+  for (j = 0; j < 5; j++) for (i = 0; i < 2; i++) l[i][j] = g[i][4 - j] + i;
+  one[0][0] = 9;
+  change(g, 0, 1); change(g, 1, 4); change(l, 0, 3); say(all(g, 3)); say(all(l, 2));
+  i = 0; open[i][1] = open[i + 1][i]; say(open[i++][1]++); say(i); --open[0][i];
+  for (i = 0; i < 3; i++) for (j = 0; j < 2; j++) say(open[i][j]);
+  say(before); say(behind[0]); say(behind[1]); say(one[0][0]); say(g[open[0][1] - 2][one[0][0] - 9]);
+  return (int) h;
+}
+";

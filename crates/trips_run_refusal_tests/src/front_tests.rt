@@ -318,7 +318,7 @@ fn with_scalars(alloc: Global, more: &str) -> Result<String, AllocError> {
     Ok(text)
 }
 
-// The 65th scalar stands on line 3.
+// The 65th scalar stands on line 3; a switch counts one.
 #[test]
 fn takes_64_scalars(rt: HostRuntime) -> Result<(), Fail> {
     let alloc = rt.alloc();
@@ -335,6 +335,13 @@ fn takes_64_scalars(rt: HostRuntime) -> Result<(), Fail> {
         &rt,
         alloc,
         with_scalars(alloc, "int y;")?.as_str(),
+        Status::Refused,
+        many,
+    )?;
+    assert_run(
+        &rt,
+        alloc,
+        with_scalars(alloc, "switch (0) { }")?.as_str(),
         Status::Refused,
         many,
     )?;

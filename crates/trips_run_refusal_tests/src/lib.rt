@@ -4,6 +4,10 @@
 #[cfg(test)]
 mod front_tests;
 #[cfg(test)]
+mod larger_rows;
+#[cfg(test)]
+mod larger_tests;
+#[cfg(test)]
 mod option_tests;
 #[cfg(test)]
 mod report_tests;

@@ -8,7 +8,13 @@ mod block_tests;
 #[cfg(test)]
 mod eval_tests;
 #[cfg(test)]
+mod larger_rows;
+#[cfg(test)]
+mod programs;
+#[cfg(test)]
 mod run_tests;
+#[cfg(test)]
+mod switch_rows;
 #[cfg(test)]
 mod switch_tests;
 #[cfg(test)]

@@ -1,44 +1,19 @@
-//! `switch`, `short` and arrays with two sizes: `run` and `eval` on texts of C, and what is refused.
+//! `switch`, `short` and arrays with two sizes, on `run` and `eval`, and whole programs with them.
+use crate::larger_rows::{LARGER_COUNTED, LARGER_UNDEFINED, SHORTS, TWO_SIZES};
+use crate::programs::{PROGRAMS, Program};
+use crate::switch_rows::SWITCHES;
 use std::alloc::{AllocError, Global};
 use std::process::Abort;
 use std::test::Fail;
 use trips_run::Status;
 use trips_run_harness::answer_of;
 
-// A text and what it returns.
-type Row = (&'static str, &'static str);
-
-const RETURNED: &[Row] = &[
-    (
-        "int f(int x) { int s = 0; switch (x) { case 1: s = 1; case 2: s = s + 10; break; default: s = 100; case 7: s = s + 3; } return s; } int main(void) { return f(1) * 1000000 + f(2) * 10000 + f(7) * 1000 + f(5); }",
-        "11103103",
-    ),
-    (
-        "short t[2][3] = {{1, 2, 3}, {4}}; int main(void) { int i; int j; int s = 0; for (i = 0; i < 2; i++) for (j = 0; j < 3; j++) s = s * 10 + t[i][j]; return s; }",
-        "123400",
-    ),
-    ("int main(void) { short x = 40000; return x; }", "-25536"),
-    // `break` and `continue` in a switch in a loop
-    (
-        "int main(void) { int i; int s = 0; for (i = 0; i < 6; i++) { switch (i) { case 1: continue; case 4: break; default: s += 1; } s += 10; } return s; }",
-        "54",
-    ),
-    // a switch in a switch
-    (
-        "int main(void) { switch (1) { case 1: switch (2) { case 2: break; default: return 9; } return 5; } return 7; }",
-        "5",
-    ),
-    (
-        "int f(int n, short a[][2]) { a[1][1] = n; return a[0][0]; } int main(void) { short a[2][2]; a[0][0] = 3; return f(4, a) * 10 + a[1][1]; }",
-        "34",
-    ),
-    (
-        "char c[][2] = {{1}, {2, 3}}; int main(void) { return c[0][1] * 100 + c[1][0] * 10 + c[1][1]; }",
-        "23",
-    ),
-];
-
-fn assert_returned(rt: &impl Abort, alloc: Global, rows: &[Row]) -> Result<(), AllocError> {
+// The text puts nothing out and returns this, under `run` as under `eval`.
+fn assert_returned(
+    rt: &impl Abort,
+    alloc: Global,
+    rows: &[(&str, &str)],
+) -> Result<(), AllocError> {
     for (text, result) in rows {
         let held = [("a.c", text.as_bytes())];
         let report = format!(in alloc; "output 0\n\nresult {result}\n")?;
@@ -53,81 +28,101 @@ fn assert_returned(rt: &impl Abort, alloc: Global, rows: &[Row]) -> Result<(), A
 }
 
 #[test]
-fn returns_what_c_says(rt: HostRuntime) -> Result<(), Fail> {
-    assert_returned(&rt, rt.alloc(), RETURNED)?;
+fn switches_go_where_c_says(rt: HostRuntime) -> Result<(), Fail> {
+    assert_returned(&rt, rt.alloc(), SWITCHES)?;
     Ok(())
 }
 
-// A text and the report of `eval`.
-const EVALUATED: &[Row] = &[
-    (
-        "int main(void) { switch (2) { case 1: return 1; case 2: return 5; } }",
-        "output 0\n\nresult 5\nsteps 8\n",
-    ),
-    (
-        "short t[2][3]; int main(void) { return t[0][3]; }",
-        "undefined\n",
-    ),
-    (
-        "int main(void) { switch (1) { case 1: case 1: ; } }",
-        "refused type 2 Twice line 1\n",
-    ),
-    (
-        "int main(void) { switch (0u) { case -1: case 4294967295u: ; } }",
-        "refused type 2 Twice line 1\n",
-    ),
-    (
-        "int main(void) { switch (0) { default: default: ; } }",
-        "refused type 2 Twice line 1\n",
-    ),
-    (
-        "int main(void) { switch (0) { case 0: continue; } }",
-        "refused type 3 Mismatch line 1\n",
-    ),
-    (
-        "int main(void) { case 0: ; }",
-        "refused parse 1 Syntax line 1\n",
-    ),
-    (
-        "int main(void) { switch (0) { case 0: int x; } }",
-        "refused parse 1 Syntax line 1\n",
-    ),
-    (
-        "int t[2][2]; int main(void) { return t[0]; }",
-        "refused type 3 Mismatch line 1\n",
-    ),
-    (
-        "int t[2]; int main(void) { return t[0][0]; }",
-        "refused type 3 Mismatch line 1\n",
-    ),
-    (
-        "int t[2][2] = {1, 2}; int main(void) { return 0; }",
-        "refused parse 1 Syntax line 1\n",
-    ),
-    (
-        "int t[1][1] = {{1, 2}}; int main(void) { return 0; }",
-        "refused type 3 Mismatch line 1\n",
-    ),
-    (
-        "char t[4294967296][4294967296]; int main(void) { return 0; }",
-        "refused type 9 TooLarge line 1\n",
-    ),
-    (
-        "short long x; int main(void) { return 0; }",
-        "refused parse 1 Syntax line 1\n",
-    ),
-];
+#[test]
+fn arrays_with_two_sizes_have_rows(rt: HostRuntime) -> Result<(), Fail> {
+    assert_returned(&rt, rt.alloc(), TWO_SIZES)?;
+    Ok(())
+}
 
-fn assert_evaluated(rt: &impl Abort, alloc: Global, rows: &[Row]) -> Result<(), AllocError> {
+#[test]
+fn short_types_are_promoted(rt: HostRuntime) -> Result<(), Fail> {
+    assert_returned(&rt, rt.alloc(), SHORTS)?;
+    Ok(())
+}
+
+fn assert_evaluated(
+    rt: &impl Abort,
+    alloc: Global,
+    status: Status,
+    rows: &[(&str, &str)],
+) -> Result<(), AllocError> {
     for (text, report) in rows {
-        let (_, written) = answer_of(alloc, &["eval", "a.c"], &[("a.c", text.as_bytes())])?;
+        let (answered, written) = answer_of(alloc, &["eval", "a.c"], &[("a.c", text.as_bytes())])?;
+        assert_eq!(rt; answered, status, "{text}");
         assert_eq!(rt; written.as_slice(), report.as_bytes(), "{text}");
     }
     Ok(())
 }
 
 #[test]
-fn evaluates_and_refuses(rt: HostRuntime) -> Result<(), Fail> {
-    assert_evaluated(&rt, rt.alloc(), EVALUATED)?;
+fn counts_labels_and_indexes(rt: HostRuntime) -> Result<(), Fail> {
+    assert_evaluated(&rt, rt.alloc(), Status::Ended, LARGER_COUNTED)?;
+    Ok(())
+}
+
+fn assert_undefined(rt: &impl Abort, alloc: Global, texts: &[&str]) -> Result<(), AllocError> {
+    for text in texts {
+        assert_evaluated(rt, alloc, Status::Undefined, &[(*text, "undefined\n")])?;
+    }
+    Ok(())
+}
+
+#[test]
+fn is_undefined_outside_of_rows_and_ranges(rt: HostRuntime) -> Result<(), Fail> {
+    assert_undefined(&rt, rt.alloc(), LARGER_UNDEFINED)?;
+    Ok(())
+}
+
+// A switch counts one of its function's scalars: so a frame has 160 bytes, and 6,552 of them have room above that of `main`.
+const LAST_FRAME: &str =
+    "int f(int n) { switch (n) { case 0: return 7; } return f(n - 1); } int main(void) { return f(6551); }";
+
+const FRAME_TOO_MANY: &str =
+    "int f(int n) { switch (n) { case 0: return 7; } return f(n - 1); } int main(void) { return f(6552); }";
+
+#[test]
+fn a_switch_counts_in_the_frame(rt: HostRuntime) -> Result<(), Fail> {
+    let alloc = rt.alloc();
+    assert_returned(&rt, alloc, &[(LAST_FRAME, "7")])?;
+    assert_evaluated(&rt, alloc, Status::StackFull, &[(FRAME_TOO_MANY, "deep\n")])?;
+    Ok(())
+}
+
+fn report_of(alloc: Global, program: &Program) -> Result<Vec<u8>, AllocError> {
+    let count = program.output.len();
+    let result = program.result;
+    let mut report = Vec::new(alloc);
+    report.extend_from_slice(format!(in alloc; "output {count}\n")?.as_bytes())?;
+    report.extend_from_slice(program.output.as_bytes())?;
+    report.extend_from_slice(format!(in alloc; "\nresult {result}\n")?.as_bytes())?;
+    Ok(report)
+}
+
+fn assert_programs(rt: &impl Abort, alloc: Global, programs: &[Program]) -> Result<(), AllocError> {
+    for program in programs {
+        let name = program.name;
+        let held = [
+            ("a.c", program.text.as_bytes()),
+            ("t", program.input.as_bytes()),
+        ];
+        let report = report_of(alloc, program)?;
+        let (status, written) = answer_of(alloc, &["run", "a.c", "--input", "t"], &held)?;
+        assert_eq!(rt; status, Status::Ended, "run {name}");
+        assert_eq!(rt; written.as_slice(), report.as_slice(), "run {name}");
+        let (status, written) = answer_of(alloc, &["eval", "a.c", "--input", "t"], &held)?;
+        assert_eq!(rt; status, Status::Ended, "eval {name}");
+        assert!(rt; written.starts_with(report.as_slice()), "eval {name}");
+    }
+    Ok(())
+}
+
+#[test]
+fn programs_do_what_a_compiler_of_c_makes_them_do(rt: HostRuntime) -> Result<(), Fail> {
+    assert_programs(&rt, rt.alloc(), PROGRAMS)?;
     Ok(())
 }
