@@ -36,7 +36,7 @@ defaults (None ∷ ls) = 1 + defaults ls
 defaults (Some w ∷ ls) = defaults ls
 
 defaults_joined : (xs ys : List (Option ℕ)) → defaults (xs ++ ys) ≡ defaults xs + defaults ys
-defaults_joined [] ys = refl
+defaults_joined [] ys = omega arith
 defaults_joined (None ∷ xs) ys = let h = defaults_joined xs ys in omega (arith, h)
 defaults_joined (Some w ∷ xs) ys = defaults_joined xs ys
 
@@ -91,7 +91,7 @@ module _ (P : TypedProgram) (f : TypedFunc) where
   one_free : (k : Kind) (seen : List (Option ℕ)) (b : Around) (xs : List TypedSection)
       → RunsSections P f k seen b xs → SectionsHaveWords xs → defaults seen ≤ 1
       → free_sections (sections_in xs) + defaults seen ≤ 1
-  one_free _ _ b _ rule.no_section w h = h
+  one_free _ _ b _ rule.no_section w h = omega (arith, h)
   one_free _ _ b _ (rule.a_section {k = k} {seen = seen} {s = s} {ss = ss} l r rs) (word.one_section i j u ws) h =
       let d = one_default k seen s.labels l h in
       let e = defaults_joined seen s.labels in
