@@ -3,7 +3,7 @@ use Rattle.std.proofs.Common.{◌≡◌, ℕ, zero, suc, ◌+◌, ◌≤◌, Boo
 use Rattle.std.proofs.Common.{None, refl, arith}
 use Rattle.std.specs.Prelude.{slice_get}
 use Rattle.c_tree.specs.declared.Kind.{Kind}
-use Rattle.c_tree.specs.declared.Kind.TheVariants.{Char, UChar, Int, UInt, Long, ULong}
+use Rattle.c_tree.specs.declared.Kind.TheVariants.{Char, UChar, Short, UShort, Int, UInt, Long, ULong}
 use Rattle.c_tree.specs.declared.UnaryOp.{UnaryOp}
 use Rattle.c_tree.specs.declared.UnaryOp.TheVariants.{Plus, Minus, Complement, Not}
 use Rattle.c_tree.specs.declared.BumpOp.{BumpOp}
@@ -16,16 +16,16 @@ use Rattle.c_meaning_spec.specs.Task.{is_array}
 use Rattle.trips_isa.specs.declared.op.Op.TheVariants as op
 use Rattle.ir_forms.specs.declared.flat.Arg.{Arg}
 use Rattle.ir_forms.specs.declared.flat.Arg.TheVariants.{Const, Var}
-use Rattle.ir_forms.specs.FlatCode.{Step, Let, Load, Save, Code, Nop, ◌▹◌, Then, only}
+use Rattle.ir_forms.specs.FlatCode.{Step, Let, Load, Save, If, Loop, Code, Nop, ◌▹◌, Then, only}
 use Rattle.ir_forms.specs.FlatFits.{code_blocks_in, code_blocks}
-use Rattle.flat_lower.specs.Tree.{Expr, Name, Element}
+use Rattle.flat_lower.specs.Tree.{Expr, Name, Element, RowElement}
 use Rattle.flat_lower.specs.Operations.{temp, scratch, shift_of, is_before, narrowed_here}
 use Rattle.flat_lower.specs.Operations.{converted_to, converted_here, reduced_here, binary_code}
 use Rattle.flat_lower.specs.Operations.{load_op, save_op, unary_code, bump_op, bump_narrowing}
 use Rattle.flat_lower.specs.Operations.{bumped}
 use Rattle.flat_lower.specs.Objects.{Context, global_at, based, address_by, address_code}
 use Rattle.flat_lower.specs.Objects.{whole_code}
-use Rattle.flat_lower.specs.Expressions.{with_kind, global_code, name_code, element_code}
+use Rattle.flat_lower.specs.Expressions.{with_kind, global_code, name_code, joined_by, element_code}
 use Rattle.flat_lower.specs.Expressions.{bump_scalar}
 use Rattle.flat_lower.specs.Expressions.{bump_memory, bump_name, bump_element}
 use Rattle.flat_lower.specs.Expressions.{assign_name, old_name, compound_code, old_element}
@@ -64,6 +64,22 @@ none m = record { few = omega arith }
 pub one_more : (s : Step) → code_blocks_in s ≡ 1 → Makes 0 1 (only s)
 one_more s h = record { few = omega (arith, h) }
 
+-- an if is three blocks besides its legs'
+pub chosen : {s t m n : ℕ} {a b : Code} → (v : Arg) → Makes s m a → Makes t n b
+    → Makes (s + t) (3 + (m + n)) (only (If v a b))
+chosen v p q =
+    let j = p.few in
+    let k = q.few in
+    record { few = omega (arith, j, k) }
+
+-- a loop too
+pub looped : {s t m n : ℕ} {a b : Code} → Makes s m a → Makes t n b
+    → Makes (s + t) (3 + (m + n)) (only (Loop a b))
+looped p q =
+    let j = p.few in
+    let k = q.few in
+    record { few = omega (arith, j, k) }
+
 pub known_kind : (m : ℕ) (k : Option Kind) (f : Kind → Code) → ((k : Kind) → Makes 0 m (f k))
     → Makes 0 m (with_kind k f)
 known_kind m None f h = none m
@@ -74,6 +90,8 @@ known_kind m (Some k) f h = h k
 converted_to_makes : (k : Kind) (to x : ℕ) → Makes 0 1 (converted_to k to x)
 converted_to_makes Char to x = record { few = omega arith }
 converted_to_makes UChar to x = record { few = omega arith }
+converted_to_makes Short to x = record { few = omega arith }
+converted_to_makes UShort to x = record { few = omega arith }
 converted_to_makes Int to x = record { few = omega arith }
 converted_to_makes UInt to x = record { few = omega arith }
 converted_to_makes Long to x = record { few = omega arith }
@@ -82,6 +100,8 @@ converted_to_makes ULong to x = record { few = omega arith }
 pub converted_here_makes : (k : Kind) (x : ℕ) → Makes 0 1 (converted_here k x)
 converted_here_makes Char x = record { few = omega arith }
 converted_here_makes UChar x = record { few = omega arith }
+converted_here_makes Short x = record { few = omega arith }
+converted_here_makes UShort x = record { few = omega arith }
 converted_here_makes Int x = record { few = omega arith }
 converted_here_makes UInt x = record { few = omega arith }
 converted_here_makes Long x = record { few = omega arith }
@@ -90,6 +110,8 @@ converted_here_makes ULong x = record { few = omega arith }
 bump_narrowed_makes : (k : Kind) (x : ℕ) → Makes 0 1 (narrowed_here (bump_narrowing k) x)
 bump_narrowed_makes Char x = record { few = omega arith }
 bump_narrowed_makes UChar x = record { few = omega arith }
+bump_narrowed_makes Short x = record { few = omega arith }
+bump_narrowed_makes UShort x = record { few = omega arith }
 bump_narrowed_makes Int x = record { few = omega arith }
 bump_narrowed_makes UInt x = record { few = omega arith }
 bump_narrowed_makes Long x = record { few = omega arith }
@@ -156,6 +178,11 @@ module _ (c : Context) where
   pub element_makes : (p : Place) (d : ℕ) (k : Kind) → Makes 0 4 (element_code c p d k)
   element_makes p d k = after (address_makes p k (temp d) (temp d))
       (one_more (Load (temp d) (load_op k) (Var (temp d))) refl)
+
+  -- two indexes become one
+  pub joined_by_makes : (q : Option ℕ) (d : ℕ) → Makes 0 2 (joined_by q d)
+  joined_by_makes None d = none 2
+  joined_by_makes (Some q) d = record { few = omega arith }
 
   -- BUMPS
 
@@ -239,3 +266,16 @@ module _ (c : Context) where
   after_element_makes (Some o) at d j p index k =
       after (compound_makes o d (suc (suc d)) at k)
       (one_more (Save (save_op k) (Var (temp (suc d))) (Var (temp d))) refl)
+
+  -- and for an element by two indexes, of which one is made before
+  pub before_row_makes : (o : Option BinaryOp) (at : Kind) (d : ℕ) (j : Option Kind) (p : Place)
+      (row index : Expr) (k : Kind)
+      → Makes 0 5 (before_right c o at d (RowElement j p row index) k)
+  before_row_makes None at d j p row index k = before_element_makes None at d j p index k
+  before_row_makes (Some o) at d j p row index k = before_element_makes (Some o) at d j p index k
+
+  pub after_row_makes : (o : Option BinaryOp) (at : Kind) (d : ℕ) (j : Option Kind) (p : Place)
+      (row index : Expr) (k : Kind)
+      → Makes 0 5 (after_right c o at d (RowElement j p row index) k)
+  after_row_makes None at d j p row index k = after_element_makes None at d j p index k
+  after_row_makes (Some o) at d j p row index k = after_element_makes (Some o) at d j p index k

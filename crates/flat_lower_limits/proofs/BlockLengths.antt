@@ -21,88 +21,89 @@ use Rattle.flat_lower.specs.Tree.{Expr, Number, Name, Element, Call, Unary, Cast
 use Rattle.flat_lower.specs.Tree.{Binary, Choice, Assign, Comma, Exprs, NoExprs, WithExpr, Stmt}
 use Rattle.flat_lower.specs.Tree.{Declare, Plain, Compound, If, While, Do, For, Break, Continue}
 use Rattle.flat_lower.specs.Tree.{Return, Stmts, NoStmts, WithStmt, First, Nothing, FirstOf, Locals}
-use Rattle.flat_lower.specs.Tree.{Func, kind_of}
+use Rattle.flat_lower.specs.Tree.{Func, RowElement, Switch, Sections, NoSections, WithSection, kind_of}
+use Rattle.flat_lower.specs.Switches.{in_switch}
+use Rattle.flat_lower.specs.declared.around.Around.{Around}
+use Rattle.flat_lower.specs.declared.around.Around.TheVariants as around
 use Rattle.flat_lower.specs.Operations.{set_word, temp, binary_code, unary_code}
-use Rattle.flat_lower.specs.Objects.{Context}
+use Rattle.flat_lower.specs.Objects.{Context, row_of}
 use Rattle.flat_lower.specs.Expressions.{with_kind, name_code, element_code, bump_code}
-use Rattle.flat_lower.specs.Expressions.{before_right}
+use Rattle.flat_lower.specs.Expressions.{before_right, joined_code}
 use Rattle.flat_lower.specs.Expressions.{right_at, after_right, temps, call_code, binary_end}
 use Rattle.flat_lower.specs.Expressions.{tested, operand_at, expr_code, index_code, args_code}
 use Rattle.flat_lower.specs.Statements.{expr_if_code, declare_code, return_code, if_so, turn_code}
 use Rattle.flat_lower.specs.Statements.{loop_code, do_code, stmt_code, stmts_code, first_code}
 use Rattle.flat_lower.specs.Statements.{end_code, named_scalar, simple_arg, plain_code, plain_if_code}
-use Rattle.flat_lower.specs.Statements.{context_of, lowered_from, lowered}
+use Rattle.flat_lower.specs.Statements.{sections_code, context_of, lowered_from, lowered}
 use Rattle.flat_lower.proofs.PlainEnds.{either_way}
 use Rattle.flat_lower_limits.specs.Nodes.{expr_nodes, exprs_nodes, expr_if_nodes, stmt_nodes, stmts_nodes}
-use Rattle.flat_lower_limits.specs.Nodes.{first_nodes, funcs_size}
+use Rattle.flat_lower_limits.specs.Nodes.{sections_nodes, first_nodes, funcs_size}
 use Rattle.flat_lower_limits.specs.Laws.{FewBlocks}
-use Rattle.flat_lower_limits.proofs.BlockCounts.{Makes, after, eased, none, one_more, known_kind}
+use Rattle.flat_lower_limits.proofs.BlockCounts.{Makes, after, eased, none, one_more, chosen, looped, known_kind}
 use Rattle.flat_lower_limits.proofs.BlockCounts.{converted_here_makes, binary_makes, unary_makes, name_makes}
 use Rattle.flat_lower_limits.proofs.BlockCounts.{element_makes, bump_name_makes, bump_element_makes}
 use Rattle.flat_lower_limits.proofs.BlockCounts.{before_name_makes, after_name_makes, before_element_makes}
-use Rattle.flat_lower_limits.proofs.BlockCounts.{after_element_makes}
-
--- PARTS
-
--- an if makes three blocks besides its legs'
-chosen : {s t m n : ℕ} {a b : Code} → (v : Arg) → Makes s m a → Makes t n b
-    → Makes (s + t) (3 + (m + n)) (only (flat.If v a b))
-chosen v p q =
-    let j = p.few in
-    let k = q.few in
-    record { few = omega (arith, j, k) }
-
--- a loop too
-looped : {s t m n : ℕ} {a b : Code} → Makes s m a → Makes t n b
-    → Makes (s + t) (3 + (m + n)) (only (flat.Loop a b))
-looped p q =
-    let j = p.few in
-    let k = q.few in
-    record { few = omega (arith, j, k) }
+use Rattle.flat_lower_limits.proofs.BlockCounts.{after_element_makes, joined_by_makes, before_row_makes, after_row_makes}
+use Rattle.flat_lower_limits.proofs.SectionNodes.{bodies_nodes}
+use Rattle.flat_lower_limits.proofs.SwitchBlocks.{break_makes, continue_makes, section_makes, switched_makes}
 
 -- LEFT SIDES
 
 -- the index of a left side
 abbrev IndexMakes : Context → ℕ → Expr → Type 0
-IndexMakes c d (Element k p index) = Makes 2 (6 * expr_nodes index) (expr_code c d index)
+IndexMakes c d (Element k p index) = Makes 4 (6 * expr_nodes index) (expr_code c d index)
+IndexMakes c d (RowElement k p row index) =
+    Makes 8 (6 * (expr_nodes row + expr_nodes index) + 2)
+    (joined_code c p d (expr_code c d row) (expr_code c (suc d) index))
 IndexMakes c d _ = Unit {0}
 
 module _ (c : Context) where
   bump_makes : (o : BumpOp) (d : ℕ) (e : Expr) (k : Option Kind) → IndexMakes c d e
-      → Makes 2 (6 * (1 + expr_nodes e)) (Then (index_code c d e) (with_kind k (bump_code c o d e)))
-  bump_makes o d (Name j p) k t = eased 2 (6 * (1 + 1))
+      → Makes 4 (6 * (1 + expr_nodes e)) (Then (index_code c d e) (with_kind k (bump_code c o d e)))
+  bump_makes o d (Name j p) k t = eased 4 (6 * (1 + 1))
       (known_kind 4 k (bump_code c o d (Name j p)) (λ k. bump_name_makes c o p d k)) (omega arith)
-  bump_makes o d (Element j p index) k t = eased 2 (6 * (1 + (1 + expr_nodes index)))
+  bump_makes o d (Element j p index) k t = eased 4 (6 * (1 + (1 + expr_nodes index)))
       (after t (known_kind 7 k (bump_code c o d (Element j p index))
       (λ k. bump_element_makes c o p d k))) (omega arith)
-  bump_makes o d e k t = eased 2 (6 * (1 + expr_nodes e))
+  bump_makes o d (RowElement j p row index) k t =
+      eased 4 (6 * (1 + (1 + (expr_nodes row + expr_nodes index))))
+      (after t (known_kind 7 k (bump_code c o d (RowElement j p row index))
+      (λ k. bump_element_makes c o p d k))) (omega arith)
+  bump_makes o d e k t = eased 4 (6 * (1 + expr_nodes e))
       (known_kind 0 k (bump_code c o d e) (λ k. none 0)) (omega arith)
 
   -- where the left side is none
   right_alone : (k : Option Kind) (f g : Kind → Code) (right : Code) (m n : ℕ)
-      → ((k : Kind) → Makes 0 0 (f k)) → ((k : Kind) → Makes 0 0 (g k)) → Makes 2 (6 * n) right
-      → Makes 2 (6 * (1 + (m + n))) (Then (with_kind k f) (Then right (with_kind k g)))
-  right_alone k f g right m n p q r = eased 2 (6 * (1 + (m + n)))
+      → ((k : Kind) → Makes 0 0 (f k)) → ((k : Kind) → Makes 0 0 (g k)) → Makes 4 (6 * n) right
+      → Makes 4 (6 * (1 + (m + n))) (Then (with_kind k f) (Then right (with_kind k g)))
+  right_alone k f g right m n p q r = eased 4 (6 * (1 + (m + n)))
       (after (known_kind 0 k f p) (after r (known_kind 0 k g q))) (omega arith)
 
   assign_makes : (o : Option BinaryOp) (at : Kind) (d : ℕ) (l : Expr) (k : Option Kind)
       (right : Code) (n : ℕ)
-      → IndexMakes c d l → Makes 2 (6 * n) right
-      → Makes 2 (6 * (1 + (expr_nodes l + n))) (Then (index_code c d l)
+      → IndexMakes c d l → Makes 4 (6 * n) right
+      → Makes 4 (6 * (1 + (expr_nodes l + n))) (Then (index_code c d l)
       (Then (with_kind k (before_right c o at d l))
       (Then right (with_kind k (after_right c o at d l)))))
-  assign_makes o at d (Name j p) k right n t q = eased 2 (6 * (1 + (1 + n)))
+  assign_makes o at d (Name j p) k right n t q = eased 4 (6 * (1 + (1 + n)))
       (after (known_kind 2 k (before_right c o at d (Name j p))
       (λ k. before_name_makes c o at d j p k))
       (after q (known_kind 5 k (after_right c o at d (Name j p))
       (λ k. after_name_makes c o at d j p k)))) (omega arith)
   assign_makes o at d (Element j p index) k right n t q =
-      eased 2 (6 * (1 + (1 + expr_nodes index + n)))
+      eased 4 (6 * (1 + (1 + expr_nodes index + n)))
       (after t
       (after (known_kind 5 k (before_right c o at d (Element j p index))
       (λ k. before_element_makes c o at d j p index k))
       (after q (known_kind 5 k (after_right c o at d (Element j p index))
       (λ k. after_element_makes c o at d j p index k))))) (omega arith)
+  assign_makes o at d (RowElement j p row index) k right n t q =
+      eased 4 (6 * (1 + (1 + (expr_nodes row + expr_nodes index) + n)))
+      (after t
+      (after (known_kind 5 k (before_right c o at d (RowElement j p row index))
+      (λ k. before_row_makes c o at d j p row index k))
+      (after q (known_kind 5 k (after_right c o at d (RowElement j p row index))
+      (λ k. after_row_makes c o at d j p row index k))))) (omega arith)
   assign_makes None at d l k right n t q =
       right_alone k (before_right c None at d l) (after_right c None at d l) right (expr_nodes l) n
       (λ k. none 0) (λ k. none 0) q
@@ -111,6 +112,12 @@ module _ (c : Context) where
       (expr_nodes l) n (λ k. none 0) (λ k. none 0) q
 
   -- EXPRESSIONS
+
+  -- two indexes
+  indexes_make : (p : Place) (d m n : ℕ) (row index : Code) → Makes 4 (6 * m) row → Makes 4 (6 * n) index
+      → Makes 8 (6 * (m + n) + 2) (joined_code c p d row index)
+  indexes_make p d m n row index q r = eased 8 (6 * (m + n) + 2)
+      (after q (after r (joined_by_makes c (row_of c p) d))) (omega arith)
 
   word_makes : (to w : ℕ) → Makes 0 1 (set_word to w)
   word_makes to w = record { few = omega arith }
@@ -125,48 +132,54 @@ module _ (c : Context) where
   tested_makes d = record { few = omega arith }
 
   binary_end_makes : (o : BinaryOp) (k : Option Kind) (d : ℕ) (right : Code) (n : ℕ)
-      → Makes 2 n right → Makes 2 (n + 5) (binary_end o k d right)
-  binary_end_makes LogicalAnd k d right n p = eased 2 (n + 5)
+      → Makes 4 n right → Makes 4 (n + 5) (binary_end o k d right)
+  binary_end_makes LogicalAnd k d right n p = eased 4 (n + 5)
       (chosen (Var (temp d)) (after p (tested_makes d)) (none 0)) (omega arith)
-  binary_end_makes LogicalOr k d right n p = eased 2 (n + 5)
+  binary_end_makes LogicalOr k d right n p = eased 4 (n + 5)
       (chosen (Var (temp d)) (word_makes (temp d) 1) (after p (tested_makes d))) (omega arith)
-  binary_end_makes o k d right n p = eased 2 (n + 5) (after p
+  binary_end_makes o k d right n p = eased 4 (n + 5) (after p
       (known_kind 3 k (λ k. binary_code o k (temp d) (temp (suc d)))
       (λ k. binary_makes o k (temp d) (temp (suc d))))) (omega arith)
 
   mutual
-    pub expr_makes : (d : ℕ) (e : Expr) → Makes 2 (6 * expr_nodes e) (expr_code c d e)
+    pub expr_makes : (d : ℕ) (e : Expr) → Makes 4 (6 * expr_nodes e) (expr_code c d e)
     expr_makes d (Number k w) = record { few = omega arith }
-    expr_makes d (Name k p) = eased 2 6 (known_kind 1 k (name_code c p (temp d))
+    expr_makes d (Name k p) = eased 4 6 (known_kind 1 k (name_code c p (temp d))
         (λ k. name_makes c p (temp d) k)) (omega arith)
-    expr_makes d (Element k p index) = eased 2 (6 * (1 + expr_nodes index))
+    expr_makes d (Element k p index) = eased 4 (6 * (1 + expr_nodes index))
         (after (expr_makes d index) (known_kind 4 k (element_code c p d)
         (λ k. element_makes c p d k))) (omega arith)
-    expr_makes d (Call k f args) = eased 2 (6 * (3 + exprs_nodes args))
+    expr_makes d (RowElement k p row index) = eased 4 (6 * (1 + (expr_nodes row + expr_nodes index)))
+        (after (indexes_make p d (expr_nodes row) (expr_nodes index) (expr_code c d row)
+        (expr_code c (suc d) index) (expr_makes d row) (expr_makes (suc d) index))
+        (known_kind 4 k (element_code c p d) (λ k. element_makes c p d k))) (omega arith)
+    expr_makes d (Call k f args) = eased 4 (6 * (3 + exprs_nodes args))
         (after (args_make d args) (call_makes f k d args)) (omega arith)
-    expr_makes d (Unary k o e) = eased 2 (6 * (1 + expr_nodes e))
+    expr_makes d (Unary k o e) = eased 4 (6 * (1 + expr_nodes e))
         (after (expr_makes d e) (known_kind 2 (kind_of e) (λ j. unary_code o j (temp d))
         (λ j. unary_makes o j (temp d)))) (omega arith)
-    expr_makes d (Cast k to e) = eased 2 (6 * (1 + expr_nodes e))
+    expr_makes d (Cast k to e) = eased 4 (6 * (1 + expr_nodes e))
         (after (expr_makes d e) (converted_here_makes to (temp d))) (omega arith)
-    expr_makes d (Convert k to e) = eased 2 (6 * (1 + expr_nodes e))
+    expr_makes d (Convert k to e) = eased 4 (6 * (1 + expr_nodes e))
         (after (expr_makes d e) (converted_here_makes to (temp d))) (omega arith)
     expr_makes d (Bump k o e) = bump_makes o d e (kind_of e) (index_makes d e)
-    expr_makes d (Binary k o l r) = eased 2 (6 * (1 + (expr_nodes l + expr_nodes r)))
+    expr_makes d (Binary k o l r) = eased 4 (6 * (1 + (expr_nodes l + expr_nodes r)))
         (after (expr_makes d l) (binary_end_makes o (kind_of l) d (expr_code c (operand_at o d) r)
         (6 * expr_nodes r) (expr_makes (operand_at o d) r))) (omega arith)
     expr_makes d (Choice k t one other) =
-        eased 2 (6 * (1 + (expr_nodes t + (expr_nodes one + expr_nodes other))))
+        eased 4 (6 * (1 + (expr_nodes t + (expr_nodes one + expr_nodes other))))
         (after (expr_makes d t) (chosen (Var (temp d)) (expr_makes d one) (expr_makes d other)))
         (omega arith)
     expr_makes d (Assign k o at l r) = assign_makes o at d l (kind_of l)
         (expr_code c (right_at o d l) r) (expr_nodes r) (index_makes d l)
         (expr_makes (right_at o d l) r)
-    expr_makes d (Comma k l r) = eased 2 (6 * (1 + (expr_nodes l + expr_nodes r)))
+    expr_makes d (Comma k l r) = eased 4 (6 * (1 + (expr_nodes l + expr_nodes r)))
         (after (expr_makes d l) (expr_makes d r)) (omega arith)
 
     index_makes : (d : ℕ) (e : Expr) → IndexMakes c d e
     index_makes d (Element k p index) = expr_makes d index
+    index_makes d (RowElement k p row index) = indexes_make p d (expr_nodes row) (expr_nodes index)
+        (expr_code c d row) (expr_code c (suc d) index) (expr_makes d row) (expr_makes (suc d) index)
     index_makes d _ = tt
 
     args_make : (d : ℕ) (es : Exprs) → Makes 0 (6 * exprs_nodes es) (args_code c d es)
@@ -230,36 +243,46 @@ module _ (c : Context) where
       (looped (if_so_makes body (6 * n) p) (expr_makes 0 t))) (omega arith)
 
   mutual
-    pub stmt_makes : (s : Stmt) → Makes 1 (6 * stmt_nodes s) (stmt_code c s)
-    stmt_makes (Declare p e) = declare_makes p e
-    stmt_makes (Plain e) = eased 1 (6 * (1 + expr_if_nodes e)) (plain_if_makes e) (omega arith)
-    stmt_makes (Compound all) = eased 1 (6 * (1 + stmts_nodes all)) (stmts_make all) (omega arith)
-    stmt_makes (If t one other) = eased 1
+    pub stmt_makes : (a : Around) (s : Stmt) → Makes 1 (6 * stmt_nodes s) (stmt_code c a s)
+    stmt_makes a (Declare p e) = declare_makes p e
+    stmt_makes a (Plain e) = eased 1 (6 * (1 + expr_if_nodes e)) (plain_if_makes e) (omega arith)
+    stmt_makes a (Compound all) = eased 1 (6 * (1 + stmts_nodes all)) (stmts_make a all) (omega arith)
+    stmt_makes a (If t one other) = eased 1
         (6 * (1 + (expr_nodes t + (stmt_nodes one + stmts_nodes other))))
-        (after (expr_makes 0 t) (chosen (Var (temp 0)) (stmt_makes one) (stmts_make other)))
+        (after (expr_makes 0 t) (chosen (Var (temp 0)) (stmt_makes a one) (stmts_make a other)))
         (omega arith)
-    stmt_makes (While t body) = eased 1 (6 * (1 + (expr_nodes t + stmt_nodes body)))
-        (loop_code_makes (Some t) None (stmt_code c body) (stmt_nodes body) (stmt_makes body))
-        (omega arith)
-    stmt_makes (Do body t) = do_code_makes t (stmt_code c body) (stmt_nodes body) (stmt_makes body)
-    stmt_makes (For first test post body) =
+    stmt_makes a (While t body) = eased 1 (6 * (1 + (expr_nodes t + stmt_nodes body)))
+        (loop_code_makes (Some t) None (stmt_code c around.Loop body) (stmt_nodes body)
+        (stmt_makes around.Loop body)) (omega arith)
+    stmt_makes a (Do body t) = do_code_makes t (stmt_code c around.Loop body) (stmt_nodes body)
+        (stmt_makes around.Loop body)
+    stmt_makes a (For first test post body) =
         eased 1 (6 * (1 + (first_nodes first +
         (expr_if_nodes test + (expr_if_nodes post + stmt_nodes body)))))
-        (after (first_makes first) (loop_code_makes test post (stmt_code c body) (stmt_nodes body)
-        (stmt_makes body))) (omega arith)
-    stmt_makes Break = record { few = omega arith }
-    stmt_makes Continue = record { few = omega arith }
-    stmt_makes (Return e) = return_makes e
+        (after (first_makes a first) (loop_code_makes test post (stmt_code c around.Loop body)
+        (stmt_nodes body) (stmt_makes around.Loop body))) (omega arith)
+    stmt_makes a (Switch t xs) = eased 1 (6 * (2 + (expr_nodes t + sections_nodes xs)))
+        (after (expr_makes 0 t) (switched_makes a xs (sections_code c (in_switch a) xs)
+        (sections_make (in_switch a) xs))) (omega arith)
+    stmt_makes a Break = eased 1 6 (break_makes a) (omega arith)
+    stmt_makes a Continue = eased 1 6 (continue_makes a) (omega arith)
+    stmt_makes a (Return e) = return_makes e
 
-    stmts_make : (all : Stmts) → Makes 0 (6 * stmts_nodes all) (stmts_code c all)
-    stmts_make NoStmts = none 0
-    stmts_make (WithStmt s rest) = eased 0 (6 * (stmt_nodes s + stmts_nodes rest))
-        (after (stmt_makes s) (stmts_make rest)) (omega arith)
+    stmts_make : (a : Around) (all : Stmts) → Makes 0 (6 * stmts_nodes all) (stmts_code c a all)
+    stmts_make a NoStmts = none 0
+    stmts_make a (WithStmt s rest) = eased 0 (6 * (stmt_nodes s + stmts_nodes rest))
+        (after (stmt_makes a s) (stmts_make a rest)) (omega arith)
 
-    first_makes : (first : First) → Makes 0 (6 * first_nodes first) (first_code c first)
-    first_makes Nothing = none 0
-    first_makes (FirstOf e) = eased 0 (6 * expr_nodes e) (expr_makes 0 e) (omega arith)
-    first_makes (Locals all) = stmts_make all
+    sections_make : (a : Around) (xs : Sections) → Makes 0 (6 * bodies_nodes xs) (sections_code c a xs)
+    sections_make a NoSections = none 0
+    sections_make a (WithSection ls body rest) = eased 0 (6 * (1 + (stmts_nodes body + bodies_nodes rest)))
+        (after (section_makes (stmts_code c a body) (stmts_nodes body) (stmts_make a body))
+        (sections_make a rest)) (omega arith)
+
+    first_makes : (a : Around) (first : First) → Makes 0 (6 * first_nodes first) (first_code c a first)
+    first_makes a Nothing = none 0
+    first_makes a (FirstOf e) = eased 0 (6 * expr_nodes e) (expr_makes 0 e) (omega arith)
+    first_makes a (Locals all) = stmts_make a all
 
 -- PROGRAMS
 
@@ -270,9 +293,9 @@ end_makes false = none 1
 module _ (globals : List TypedGlobal) (main : ℕ) where
   body_makes : (b : Bool) (f : Func)
       → Makes 0 (6 * stmt_nodes f.body)
-      (Then (stmt_code (context_of globals f) f.body) (end_code b))
+      (Then (stmt_code (context_of globals f) around.Nowhere f.body) (end_code b))
   body_makes b f = eased 0 (6 * stmt_nodes f.body)
-      (after (stmt_makes (context_of globals f) f.body) (end_makes b)) (omega arith)
+      (after (stmt_makes (context_of globals f) around.Nowhere f.body) (end_makes b)) (omega arith)
 
   functions_make : (n : ℕ) (fs : List Func)
       → code_blocks_of_all (lowered_from globals main n fs) ≤ 6 * funcs_size fs

@@ -20,21 +20,21 @@ use Rattle.ir_forms.specs.FlatFits.{FitsVar, FitsLastings, FitsResult}
 use Rattle.ir_forms.specs.FlatFits as limits
 use Rattle.flat_lower.specs.Tree.{Expr, Number, Name, Element, Call, Unary, Cast, Convert, Bump}
 use Rattle.flat_lower.specs.Tree.{Binary, Choice, Assign, Comma, Exprs, NoExprs, WithExpr, Func}
-use Rattle.flat_lower.specs.Tree.{kind_of}
-use Rattle.flat_lower.specs.Fits.{Scope, FitsName, FitsWhole, FitsNamed, FitsElement, FitsArg}
+use Rattle.flat_lower.specs.Tree.{kind_of, RowElement}
+use Rattle.flat_lower.specs.Fits.{Scope, FitsName, FitsWhole, FitsNamed, FitsElement, FitsRowElement, FitsArg}
 use Rattle.flat_lower.specs.Fits.{FitsExpr, FitsLeft, FitsOne, FitsArgs}
 use Rattle.flat_lower.specs.Operations.{temp, set_word, unary_code, binary_code}
 use Rattle.flat_lower.specs.Objects.{Context}
 use Rattle.flat_lower.specs.Expressions.{name_code, element_code, bump_code, before_right, right_at}
 use Rattle.flat_lower.specs.Expressions.{after_right, temps, result_var, tested, binary_end}
-use Rattle.flat_lower.specs.Expressions.{operand_at}
+use Rattle.flat_lower.specs.Expressions.{operand_at, joined_code}
 use Rattle.flat_lower.specs.Expressions.{expr_code, index_code, args_code, call_code}
 use Rattle.flat_lower.proofs.Depths.{depth_fits}
 use Rattle.flat_lower_limits.proofs.Fitting.{Fitting, nothing_fits, single_fits, let_fits, if_fits}
 use Rattle.flat_lower_limits.proofs.Fitting.{with_kind_fits, joined, scalar_fits, temp_fits, temp_lasts}
 use Rattle.flat_lower_limits.proofs.Operations.{word_fits, converted_here_fits, binary_fits, unary_fits}
 use Rattle.flat_lower_limits.proofs.Places.{HasPlaces, FitsPlace, FitsSide, name_fits, element_fits, bump_fits}
-use Rattle.flat_lower_limits.proofs.Places.{before_fits, after_fits}
+use Rattle.flat_lower_limits.proofs.Places.{joined_code_fits, before_fits, after_fits}
 
 -- PLACES
 
@@ -45,11 +45,11 @@ module _ (c : Scope) where
       (slice_get_within c.scalars j (slot.Scalar k) t)
   name_place k (Array a) t = tt
 
-  whole_place : (k : Kind) (p : Place) → FitsWhole c k p → FitsPlace (length c.scalars) p
-  whole_place k (Global g) t = tt
-  whole_place k (Scalar j) t = scalar_fits (length c.scalars) j
-      (slice_get_within c.scalars j (slot.Address k) t)
-  whole_place k (Array a) t = tt
+  whole_place : (k : Kind) (q : Option ℕ) (p : Place) → FitsWhole c k q p → FitsPlace (length c.scalars) p
+  whole_place k q (Global g) t = tt
+  whole_place k q (Scalar j) t = scalar_fits (length c.scalars) j
+      (slice_get_within c.scalars j (slot.Address k q) t)
+  whole_place k q (Array a) t = tt
 
   named_place : (d : ℕ) (k : Option Kind) (p : Place) → FitsNamed c d k p
       → FitsPlace (length c.scalars) p
@@ -58,18 +58,25 @@ module _ (c : Scope) where
 
   element_place : (k : Option Kind) (p : Place) → FitsElement c k p → FitsPlace (length c.scalars) p
   element_place None p t = absurd t
-  element_place (Some k) p t = whole_place k p t
+  element_place (Some k) p t = whole_place k None p t
+
+  row_element_place : (k : Option Kind) (p : Place) → FitsRowElement c k p
+      → FitsPlace (length c.scalars) p
+  row_element_place None p t = absurd t
+  row_element_place (Some k) p t = whole_place k (Some t.0) p t.1
 
   pub side_place : (d : ℕ) (k : Option Kind) (e : Expr) → FitsLeft c d k e
       → FitsSide (length c.scalars) e
   side_place d k (Name j p) t = named_place d k p t.1
   side_place d k (Element j p index) t = element_place k p t.1
+  side_place d k (RowElement j p row index) t = row_element_place k p t.1
   side_place d k _ t = tt
 
   left_depth : (d : ℕ) (k : Option Kind) (e : Expr) → FitsLeft c d k e → d < 16
   left_depth d None (Name j p) t = absurd t.1
   left_depth d (Some k) (Name j p) t = t.1.0
   left_depth d k (Element j p index) t = depth_fits c d index t.2
+  left_depth d k (RowElement j p row index) t = depth_fits c d row t.2
   left_depth d k _ t = absurd t
 
 -- CALLS
@@ -82,8 +89,8 @@ pub record Callable (fs : List Function) (functions : List Func) : Type 0 where
 module _ (c : Scope) (n : ℕ) where
   argument_depth : (d : ℕ) (s : Slot) (e : Expr) → FitsArg c d s (FitsExpr c d e) e → d < 16
   argument_depth d (slot.Scalar k) e t = depth_fits c d e t.0
-  argument_depth d (slot.Address k) (Name j p) t = t.0
-  argument_depth d (slot.Address k) _ t = absurd t
+  argument_depth d (slot.Address k q) (Name j p) t = t.0
+  argument_depth d (slot.Address k q) _ t = absurd t
 
   arguments_last : (d : ℕ) (ss : List Slot) (es : Exprs) → FitsArgs c d ss es
       → FitsLastings n (temps d es)
@@ -158,10 +165,18 @@ module _ (fs : List Function) (c : Scope) (bytes : ℕ) (i : Bool) (x : Context)
   argument_fits : (d : ℕ) (s : Slot) (e : Expr) → (FitsExpr c d e → Fits (expr_code x d e))
       → FitsArg c d s (FitsExpr c d e) e → Fits (expr_code x d e)
   argument_fits d (slot.Scalar k) e f t = f t.0
-  argument_fits d (slot.Address k) (Name j p) f t =
+  argument_fits d (slot.Address k q) (Name j p) f t =
       with_kind_fits j (name_code x p (temp d))
-      (λ j. name_fits x low p (temp d) j (whole_place c k p t.2) (depth d t.0))
-  argument_fits d (slot.Address k) _ f t = absurd t
+      (λ j. name_fits x low p (temp d) j (whole_place c k q p t.2) (depth d t.0))
+  argument_fits d (slot.Address k q) _ f t = absurd t
+
+  -- two indexes of an array
+  indexes_fit : (d : ℕ) (p : Place) (row index : Expr) → FitsExpr c (suc d) index
+      → Fits (expr_code x d row) → Fits (expr_code x (suc d) index)
+      → Fits (joined_code x p d (expr_code x d row) (expr_code x (suc d) index))
+  indexes_fit d p row index t u v =
+      joined_code_fits x low p d (expr_code x d row) (expr_code x (suc d) index)
+      (depth_fits c (suc d) index t) u v
 
   mutual
     pub expr_fits : (d : ℕ) (e : Expr) → FitsExpr c d e → Fits (expr_code x d e)
@@ -172,6 +187,10 @@ module _ (fs : List Function) (c : Scope) (bytes : ℕ) (i : Bool) (x : Context)
     expr_fits d (Element k p index) t = joined (expr_fits d index t.1)
         (with_kind_fits k (element_code x p d)
         (λ j. element_fits x low p d j (element_place c k p t.0) (depth_fits c d index t.1)))
+    expr_fits d (RowElement k p row index) t = joined
+        (indexes_fit d p row index t.2 (expr_fits d row t.1) (expr_fits (suc d) index t.2))
+        (with_kind_fits k (element_code x p d)
+        (λ j. element_fits x low p d j (row_element_place c k p t.0) (depth_fits c d row t.1)))
     expr_fits d (Call k (callee.Func f) args) t =
         joined (args_fit d (take t.1.0.params t.1.0.scalars) args t.1.3)
         (called_fits k f d args t.1.0 t.1.1 t.1.3 t.0)
@@ -208,6 +227,8 @@ module _ (fs : List Function) (c : Scope) (bytes : ℕ) (i : Bool) (x : Context)
 
     index_fits : (d : ℕ) (k : Option Kind) (e : Expr) → FitsLeft c d k e → Fits (index_code x d e)
     index_fits d k (Element j p index) t = expr_fits d index t.2
+    index_fits d k (RowElement j p row index) t =
+        indexes_fit d p row index t.3 (expr_fits d row t.2) (expr_fits (suc d) index t.3)
     index_fits d k _ t = nothing_fits
 
     one_fits : (d : ℕ) (es : Exprs) → FitsOne c d es → Fits (args_code x d es)

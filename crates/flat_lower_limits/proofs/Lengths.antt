@@ -21,50 +21,40 @@ use Rattle.flat_lower.specs.Tree.{Expr, Number, Name, Element, Call, Unary, Cast
 use Rattle.flat_lower.specs.Tree.{Binary, Choice, Assign, Comma, Exprs, NoExprs, WithExpr, Stmt}
 use Rattle.flat_lower.specs.Tree.{Declare, Plain, Compound, If, While, Do, For, Break, Continue}
 use Rattle.flat_lower.specs.Tree.{Return, Stmts, NoStmts, WithStmt, First, Nothing, FirstOf, Locals}
-use Rattle.flat_lower.specs.Tree.{Func, kind_of}
+use Rattle.flat_lower.specs.Tree.{Func, RowElement, Switch, Sections, NoSections, WithSection, kind_of}
+use Rattle.flat_lower.specs.Switches.{in_switch}
+use Rattle.flat_lower.specs.declared.around.Around.{Around}
+use Rattle.flat_lower.specs.declared.around.Around.TheVariants as around
 use Rattle.flat_lower.specs.Operations.{set_word, temp, binary_code, unary_code}
-use Rattle.flat_lower.specs.Objects.{Context}
+use Rattle.flat_lower.specs.Objects.{Context, row_of}
 use Rattle.flat_lower.specs.Expressions.{with_kind, name_code, element_code, bump_code}
-use Rattle.flat_lower.specs.Expressions.{before_right}
+use Rattle.flat_lower.specs.Expressions.{before_right, joined_code}
 use Rattle.flat_lower.specs.Expressions.{right_at, after_right, temps, call_code, binary_end}
 use Rattle.flat_lower.specs.Expressions.{tested, operand_at, expr_code, index_code, args_code}
 use Rattle.flat_lower.specs.Statements.{expr_if_code, declare_code, return_code, if_so, turn_code}
 use Rattle.flat_lower.specs.Statements.{loop_code, do_code, stmt_code, stmts_code, first_code}
 use Rattle.flat_lower.specs.Statements.{end_code, named_scalar, simple_arg, plain_code, plain_if_code}
-use Rattle.flat_lower.specs.Statements.{context_of, lowered_from, lowered}
+use Rattle.flat_lower.specs.Statements.{sections_code, context_of, lowered_from, lowered}
 use Rattle.flat_lower.proofs.PlainEnds.{either_way}
 use Rattle.flat_lower_limits.specs.Nodes.{expr_nodes, exprs_nodes, expr_if_nodes, stmt_nodes, stmts_nodes}
-use Rattle.flat_lower_limits.specs.Nodes.{first_nodes, funcs_size}
+use Rattle.flat_lower_limits.specs.Nodes.{sections_nodes, first_nodes, funcs_size}
 use Rattle.flat_lower_limits.specs.Laws.{FewStatements}
-use Rattle.flat_lower_limits.proofs.Counts.{Takes, after, eased, none, one_more, known_kind}
+use Rattle.flat_lower_limits.proofs.Counts.{Takes, after, eased, none, one_more, chosen, looped, known_kind}
 use Rattle.flat_lower_limits.proofs.Counts.{converted_here_takes, binary_takes, unary_takes, name_takes}
 use Rattle.flat_lower_limits.proofs.Counts.{element_takes, bump_name_takes, bump_element_takes}
 use Rattle.flat_lower_limits.proofs.Counts.{before_name_takes, after_name_takes, before_element_takes}
-use Rattle.flat_lower_limits.proofs.Counts.{after_element_takes}
-
--- PARTS
-
--- an if is one statement more than its legs
-chosen : {s t m n : ℕ} {a b : Code} → (v : Arg) → Takes s m a → Takes t n b
-    → Takes (s + t) (1 + (m + n)) (only (flat.If v a b))
-chosen v p q =
-    let j = p.few in
-    let k = q.few in
-    record { few = omega (arith, j, k) }
-
--- a loop too
-looped : {s t m n : ℕ} {a b : Code} → Takes s m a → Takes t n b
-    → Takes (s + t) (1 + (m + n)) (only (flat.Loop a b))
-looped p q =
-    let j = p.few in
-    let k = q.few in
-    record { few = omega (arith, j, k) }
+use Rattle.flat_lower_limits.proofs.Counts.{after_element_takes, joined_by_takes, before_row_takes, after_row_takes}
+use Rattle.flat_lower_limits.proofs.SectionNodes.{bodies_nodes}
+use Rattle.flat_lower_limits.proofs.SwitchLengths.{break_takes, continue_takes, section_takes, switched_takes}
 
 -- LEFT SIDES
 
 -- the index of a left side
 abbrev IndexTakes : Context → ℕ → Expr → Type 0
 IndexTakes c d (Element k p index) = Takes 2 (4 * expr_nodes index) (expr_code c d index)
+IndexTakes c d (RowElement k p row index) =
+    Takes 4 (4 * (expr_nodes row + expr_nodes index) + 2)
+    (joined_code c p d (expr_code c d row) (expr_code c (suc d) index))
 IndexTakes c d _ = Unit {0}
 
 module _ (c : Context) where
@@ -74,6 +64,10 @@ module _ (c : Context) where
       (known_kind 4 k (bump_code c o d (Name j p)) (λ k. bump_name_takes c o p d k)) (omega arith)
   bump_takes o d (Element j p index) k t = eased 2 (4 * (1 + (1 + expr_nodes index)))
       (after t (known_kind 7 k (bump_code c o d (Element j p index))
+      (λ k. bump_element_takes c o p d k))) (omega arith)
+  bump_takes o d (RowElement j p row index) k t =
+      eased 2 (4 * (1 + (1 + (expr_nodes row + expr_nodes index))))
+      (after t (known_kind 7 k (bump_code c o d (RowElement j p row index))
       (λ k. bump_element_takes c o p d k))) (omega arith)
   bump_takes o d e k t = eased 2 (4 * (1 + expr_nodes e))
       (known_kind 0 k (bump_code c o d e) (λ k. none 0)) (omega arith)
@@ -103,6 +97,13 @@ module _ (c : Context) where
       (λ k. before_element_takes c o at d j p index k))
       (after q (known_kind 5 k (after_right c o at d (Element j p index))
       (λ k. after_element_takes c o at d j p index k))))) (omega arith)
+  assign_takes o at d (RowElement j p row index) k right n t q =
+      eased 2 (4 * (1 + (1 + (expr_nodes row + expr_nodes index) + n)))
+      (after t
+      (after (known_kind 5 k (before_right c o at d (RowElement j p row index))
+      (λ k. before_row_takes c o at d j p row index k))
+      (after q (known_kind 5 k (after_right c o at d (RowElement j p row index))
+      (λ k. after_row_takes c o at d j p row index k))))) (omega arith)
   assign_takes None at d l k right n t q =
       right_alone k (before_right c None at d l) (after_right c None at d l) right (expr_nodes l) n
       (λ k. none 0) (λ k. none 0) q
@@ -111,6 +112,12 @@ module _ (c : Context) where
       (expr_nodes l) n (λ k. none 0) (λ k. none 0) q
 
   -- EXPRESSIONS
+
+  -- two indexes
+  indexes_take : (p : Place) (d m n : ℕ) (row index : Code) → Takes 2 (4 * m) row → Takes 2 (4 * n) index
+      → Takes 4 (4 * (m + n) + 2) (joined_code c p d row index)
+  indexes_take p d m n row index q r = eased 4 (4 * (m + n) + 2)
+      (after q (after r (joined_by_takes c (row_of c p) d))) (omega arith)
 
   word_takes : (to w : ℕ) → Takes 0 1 (set_word to w)
   word_takes to w = record { few = omega arith }
@@ -142,6 +149,10 @@ module _ (c : Context) where
     expr_takes d (Element k p index) = eased 2 (4 * (1 + expr_nodes index))
         (after (expr_takes d index) (known_kind 4 k (element_code c p d)
         (λ k. element_takes c p d k))) (omega arith)
+    expr_takes d (RowElement k p row index) = eased 2 (4 * (1 + (expr_nodes row + expr_nodes index)))
+        (after (indexes_take p d (expr_nodes row) (expr_nodes index) (expr_code c d row)
+        (expr_code c (suc d) index) (expr_takes d row) (expr_takes (suc d) index))
+        (known_kind 4 k (element_code c p d) (λ k. element_takes c p d k))) (omega arith)
     expr_takes d (Call k f args) = eased 2 (4 * (3 + exprs_nodes args))
         (after (args_take d args) (call_takes f k d args)) (omega arith)
     expr_takes d (Unary k o e) = eased 2 (4 * (1 + expr_nodes e))
@@ -167,6 +178,8 @@ module _ (c : Context) where
 
     index_takes : (d : ℕ) (e : Expr) → IndexTakes c d e
     index_takes d (Element k p index) = expr_takes d index
+    index_takes d (RowElement k p row index) = indexes_take p d (expr_nodes row) (expr_nodes index)
+        (expr_code c d row) (expr_code c (suc d) index) (expr_takes d row) (expr_takes (suc d) index)
     index_takes d _ = tt
 
     args_take : (d : ℕ) (es : Exprs) → Takes 0 (4 * exprs_nodes es) (args_code c d es)
@@ -230,36 +243,46 @@ module _ (c : Context) where
       (looped (if_so_takes body (4 * n) p) (expr_takes 0 t))) (omega arith)
 
   mutual
-    pub stmt_takes : (s : Stmt) → Takes 0 (4 * stmt_nodes s) (stmt_code c s)
-    stmt_takes (Declare p e) = declare_takes p e
-    stmt_takes (Plain e) = eased 0 (4 * (1 + expr_if_nodes e)) (plain_if_takes e) (omega arith)
-    stmt_takes (Compound all) = eased 0 (4 * (1 + stmts_nodes all)) (stmts_take all) (omega arith)
-    stmt_takes (If t one other) = eased 0
+    pub stmt_takes : (a : Around) (s : Stmt) → Takes 0 (4 * stmt_nodes s) (stmt_code c a s)
+    stmt_takes a (Declare p e) = declare_takes p e
+    stmt_takes a (Plain e) = eased 0 (4 * (1 + expr_if_nodes e)) (plain_if_takes e) (omega arith)
+    stmt_takes a (Compound all) = eased 0 (4 * (1 + stmts_nodes all)) (stmts_take a all) (omega arith)
+    stmt_takes a (If t one other) = eased 0
         (4 * (1 + (expr_nodes t + (stmt_nodes one + stmts_nodes other))))
-        (after (expr_takes 0 t) (chosen (Var (temp 0)) (stmt_takes one) (stmts_take other)))
+        (after (expr_takes 0 t) (chosen (Var (temp 0)) (stmt_takes a one) (stmts_take a other)))
         (omega arith)
-    stmt_takes (While t body) = eased 0 (4 * (1 + (expr_nodes t + stmt_nodes body)))
-        (loop_code_takes (Some t) None (stmt_code c body) (stmt_nodes body) (stmt_takes body))
-        (omega arith)
-    stmt_takes (Do body t) = do_code_takes t (stmt_code c body) (stmt_nodes body) (stmt_takes body)
-    stmt_takes (For first test post body) =
+    stmt_takes a (While t body) = eased 0 (4 * (1 + (expr_nodes t + stmt_nodes body)))
+        (loop_code_takes (Some t) None (stmt_code c around.Loop body) (stmt_nodes body)
+        (stmt_takes around.Loop body)) (omega arith)
+    stmt_takes a (Do body t) = do_code_takes t (stmt_code c around.Loop body) (stmt_nodes body)
+        (stmt_takes around.Loop body)
+    stmt_takes a (For first test post body) =
         eased 0 (4 * (1 + (first_nodes first +
         (expr_if_nodes test + (expr_if_nodes post + stmt_nodes body)))))
-        (after (first_takes first) (loop_code_takes test post (stmt_code c body) (stmt_nodes body)
-        (stmt_takes body))) (omega arith)
-    stmt_takes Break = record { few = omega arith }
-    stmt_takes Continue = record { few = omega arith }
-    stmt_takes (Return e) = return_takes e
+        (after (first_takes a first) (loop_code_takes test post (stmt_code c around.Loop body)
+        (stmt_nodes body) (stmt_takes around.Loop body))) (omega arith)
+    stmt_takes a (Switch t xs) = eased 0 (4 * (2 + (expr_nodes t + sections_nodes xs)))
+        (after (expr_takes 0 t) (switched_takes a xs (sections_code c (in_switch a) xs)
+        (sections_take (in_switch a) xs))) (omega arith)
+    stmt_takes a Break = eased 0 4 (break_takes a) (omega arith)
+    stmt_takes a Continue = eased 0 4 (continue_takes a) (omega arith)
+    stmt_takes a (Return e) = return_takes e
 
-    stmts_take : (all : Stmts) → Takes 0 (4 * stmts_nodes all) (stmts_code c all)
-    stmts_take NoStmts = none 0
-    stmts_take (WithStmt s rest) = eased 0 (4 * (stmt_nodes s + stmts_nodes rest))
-        (after (stmt_takes s) (stmts_take rest)) (omega arith)
+    stmts_take : (a : Around) (all : Stmts) → Takes 0 (4 * stmts_nodes all) (stmts_code c a all)
+    stmts_take a NoStmts = none 0
+    stmts_take a (WithStmt s rest) = eased 0 (4 * (stmt_nodes s + stmts_nodes rest))
+        (after (stmt_takes a s) (stmts_take a rest)) (omega arith)
 
-    first_takes : (first : First) → Takes 0 (4 * first_nodes first) (first_code c first)
-    first_takes Nothing = none 0
-    first_takes (FirstOf e) = eased 0 (4 * expr_nodes e) (expr_takes 0 e) (omega arith)
-    first_takes (Locals all) = stmts_take all
+    sections_take : (a : Around) (xs : Sections) → Takes 0 (4 * bodies_nodes xs) (sections_code c a xs)
+    sections_take a NoSections = none 0
+    sections_take a (WithSection ls body rest) = eased 0 (4 * (1 + (stmts_nodes body + bodies_nodes rest)))
+        (after (section_takes (stmts_code c a body) (stmts_nodes body) (stmts_take a body))
+        (sections_take a rest)) (omega arith)
+
+    first_takes : (a : Around) (first : First) → Takes 0 (4 * first_nodes first) (first_code c a first)
+    first_takes a Nothing = none 0
+    first_takes a (FirstOf e) = eased 0 (4 * expr_nodes e) (expr_takes 0 e) (omega arith)
+    first_takes a (Locals all) = stmts_take a all
 
 -- PROGRAMS
 
@@ -270,8 +293,8 @@ end_takes false = none 1
 module _ (globals : List TypedGlobal) (main : ℕ) where
   body_takes : (b : Bool) (f : Func)
       → Takes 0 (4 * stmt_nodes f.body + 1)
-      (Then (stmt_code (context_of globals f) f.body) (end_code b))
-  body_takes b f = after (stmt_takes (context_of globals f) f.body) (end_takes b)
+      (Then (stmt_code (context_of globals f) around.Nowhere f.body) (end_code b))
+  body_takes b f = after (stmt_takes (context_of globals f) around.Nowhere f.body) (end_takes b)
 
   functions_take : (n : ℕ) (fs : List Func)
       → steps_of_all (lowered_from globals main n fs) ≤ 4 * funcs_size fs

@@ -6,8 +6,11 @@ pub mod Expressions
 pub mod Statements
 pub mod Programs
 pub mod Counts
+pub mod SectionNodes
+pub mod SwitchLengths
 pub mod Lengths
 pub mod BlockCounts
+pub mod SwitchBlocks
 pub mod BlockLengths
 pub mod Whole
 pub mod StandardFacts

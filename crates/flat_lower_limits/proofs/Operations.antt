@@ -1,7 +1,7 @@
 -- The code of operations and conversions fits where its variables do.
 use Rattle.std.proofs.Common.{◌≡◌, ℕ, ◌^◌, ◌<◌, Bool, true, false, cond, List, refl, arith}
 use Rattle.c_tree.specs.declared.Kind.{Kind}
-use Rattle.c_tree.specs.declared.Kind.TheVariants.{Char, UChar, Int, UInt, Long, ULong}
+use Rattle.c_tree.specs.declared.Kind.TheVariants.{Char, UChar, Short, UShort, Int, UInt, Long, ULong}
 use Rattle.c_tree.specs.declared.UnaryOp.{UnaryOp}
 use Rattle.c_tree.specs.declared.UnaryOp.TheVariants.{Plus, Minus, Complement, Not}
 use Rattle.c_tree.specs.declared.BumpOp.{BumpOp}
@@ -43,6 +43,8 @@ bumps PostDec = refl
 pub loads_fit : (k : Kind) → loads (load_op k) ≡ true
 loads_fit Char = refl
 loads_fit UChar = refl
+loads_fit Short = refl
+loads_fit UShort = refl
 loads_fit Int = refl
 loads_fit UInt = refl
 loads_fit Long = refl
@@ -51,6 +53,8 @@ loads_fit ULong = refl
 pub saves_fit : (k : Kind) → stores (save_op k) ≡ true
 saves_fit Char = refl
 saves_fit UChar = refl
+saves_fit Short = refl
+saves_fit UShort = refl
 saves_fit Int = refl
 saves_fit UInt = refl
 saves_fit Long = refl
@@ -77,6 +81,8 @@ module _ {fs : List Function} {n bytes : ℕ} {i : Bool} where
       → Fitting fs n bytes i (converted_to k to x)
   converted_to_fits Char to x p q = one to op.Extsb x refl p q
   converted_to_fits UChar to x p q = one to op.Extub x refl p q
+  converted_to_fits Short to x p q = one to op.Extsh x refl p q
+  converted_to_fits UShort to x p q = one to op.Extuh x refl p q
   converted_to_fits Int to x p q = one to op.Extsw x refl p q
   converted_to_fits UInt to x p q = one to op.Extuw x refl p q
   converted_to_fits Long to x p q = copied_fits to x p q
@@ -85,6 +91,8 @@ module _ {fs : List Function} {n bytes : ℕ} {i : Bool} where
   pub converted_here_fits : (k : Kind) (x : ℕ) → FitsVar n x → Fitting fs n bytes i (converted_here k x)
   converted_here_fits Char x p = one x op.Extsb x refl p p
   converted_here_fits UChar x p = one x op.Extub x refl p p
+  converted_here_fits Short x p = one x op.Extsh x refl p p
+  converted_here_fits UShort x p = one x op.Extuh x refl p p
   converted_here_fits Int x p = one x op.Extsw x refl p p
   converted_here_fits UInt x p = one x op.Extuw x refl p p
   converted_here_fits Long x p = nothing_fits
@@ -143,6 +151,8 @@ module _ {fs : List Function} {n bytes : ℕ} {i : Bool} where
       → Fitting fs n bytes i (narrowed_here (bump_narrowing k) x)
   bump_narrowed_fits Char x p = one x op.Extsb x refl p p
   bump_narrowed_fits UChar x p = one x op.Extub x refl p p
+  bump_narrowed_fits Short x p = one x op.Extsh x refl p p
+  bump_narrowed_fits UShort x p = one x op.Extuh x refl p p
   bump_narrowed_fits Int x p = nothing_fits
   bump_narrowed_fits UInt x p = one x op.Extuw x refl p p
   bump_narrowed_fits Long x p = nothing_fits

@@ -4,7 +4,7 @@ use Rattle.std.proofs.Common.{ℕ, zero, suc, ◌^◌, ◌<◌, ◌≤◌, Bool,
 use Rattle.std.proofs.Common.{Some, None, refl, arith}
 use Rattle.std.specs.Prelude.{slice_get}
 use Rattle.c_tree.specs.declared.Kind.{Kind}
-use Rattle.c_tree.specs.declared.Kind.TheVariants.{Char, UChar, Int, UInt, Long, ULong}
+use Rattle.c_tree.specs.declared.Kind.TheVariants.{Char, UChar, Short, UShort, Int, UInt, Long, ULong}
 use Rattle.c_tree.specs.declared.BumpOp.{BumpOp}
 use Rattle.c_tree.specs.declared.BinaryOp.{BinaryOp}
 use Rattle.c_tree.specs.declared.Place.{Place}
@@ -13,16 +13,17 @@ use Rattle.c_meaning_spec.specs.Task.{is_array}
 use Rattle.trips_isa.specs.declared.op.Op.TheVariants as op
 use Rattle.ir_forms.specs.declared.flat.Arg.{Arg}
 use Rattle.ir_forms.specs.declared.flat.Arg.TheVariants.{Const, Var}
-use Rattle.ir_forms.specs.FlatCode.{Function}
+use Rattle.ir_forms.specs.FlatCode.{Function, Code, Then, only, Save}
 use Rattle.ir_forms.specs.FlatFits.{FitsVar, FitsArg}
-use Rattle.flat_lower.specs.Tree.{Expr, Name, Element}
+use Rattle.flat_lower.specs.Tree.{Expr, Name, Element, RowElement}
 use Rattle.flat_lower.specs.Operations.{temp, scratch, load_op, save_op, shift_of, is_before}
 use Rattle.flat_lower.specs.Objects.{Context, global_at, array_at, based, address_by, address_code}
-use Rattle.flat_lower.specs.Objects.{whole_code}
-use Rattle.flat_lower.specs.Expressions.{global_code, name_code, element_code, bump_scalar}
-use Rattle.flat_lower.specs.Expressions.{bump_memory, bump_name, bump_element, bump_code}
+use Rattle.flat_lower.specs.Objects.{whole_code, row_of}
+use Rattle.flat_lower.specs.Expressions.{global_code, name_code, joined_by, joined_code, element_code}
+use Rattle.flat_lower.specs.Expressions.{bump_scalar, bump_memory, bump_name, bump_element, bump_code}
 use Rattle.flat_lower.specs.Expressions.{assign_name, old_name, compound_code, old_element}
 use Rattle.flat_lower.specs.Expressions.{assign_element, before_right, right_at, after_right}
+use Rattle.flat_lower_limits.specs.Laws.{IsSmallRow}
 use Rattle.flat_lower_limits.proofs.Fitting.{Fitting, nothing_fits, let_fits, frame_fits, load_fits}
 use Rattle.flat_lower_limits.proofs.Fitting.{save_fits, joined, temp_fits, scratch_fits}
 use Rattle.flat_lower_limits.proofs.Operations.{loads_fit, saves_fit, copied_fits, converted_to_fits}
@@ -38,17 +39,21 @@ FitsPlace n (Array a) = Unit {0}
 abbrev pub FitsSide : ℕ → Expr → Type 0
 FitsSide n (Name k p) = FitsPlace n p
 FitsSide n (Element k p index) = FitsPlace n p
+FitsSide n (RowElement k p row index) = FitsPlace n p
 FitsSide n _ = Unit {0}
 
--- what a context says of addresses: those of globals are words, and arrays lie among the function's
--- bytes
+-- what a context says of objects: the addresses of globals are words, arrays lie among the
+-- function's bytes, and second sizes are words
 pub record HasPlaces (c : Context) (bytes : ℕ) : Type 0 where
   pub globals : (g : ℕ) → global_at c.globals g < 2 ^ 64
   pub arrays : (a : ℕ) → array_at c.arrays a ≤ bytes
+  pub rows : (p : Place) → IsSmallRow (row_of c p)
 
 shift_low : (k : Kind) → shift_of k < 2 ^ 64
 shift_low Char = omega arith
 shift_low UChar = omega arith
+shift_low Short = omega arith
+shift_low UShort = omega arith
 shift_low Int = omega arith
 shift_low UInt = omega arith
 shift_low Long = omega arith
@@ -105,6 +110,21 @@ module _ {fs : List Function} {n bytes : ℕ} {i : Bool} (c : Context) (low : Ha
       joined (address_fits p k (temp d) (temp d) t q q)
       (load_fits (temp d) (load_op k) (Var (temp d)) (loads_fit k) q q)
 
+  -- two indexes become one
+  joined_by_fits : (q : Option ℕ) (d : ℕ) → IsSmallRow q → suc d < 16
+      → Fitting fs n bytes i (joined_by q d)
+  joined_by_fits None d r h = nothing_fits
+  joined_by_fits (Some q) d r h =
+      let p = temp_fits n d (omega arith) in
+      joined (let_fits (temp d) op.Mul (Var (temp d)) (Const q) refl p p r)
+      (let_fits (temp d) op.Add (Var (temp d)) (Var (temp (suc d))) refl p p (temp_fits n (suc d) h))
+
+  pub joined_code_fits : (p : Place) (d : ℕ) (row index : Code) → suc d < 16
+      → Fitting fs n bytes i row → Fitting fs n bytes i index
+      → Fitting fs n bytes i (joined_code c p d row index)
+  joined_code_fits p d row index h t u =
+      joined t (joined u (joined_by_fits (row_of c p) d (low.rows p) h))
+
   -- BUMPS
 
   bump_scalar_fits : (o : BumpOp) (b : Bool) (j d : ℕ) (k : Kind) → FitsVar n j → d < 16
@@ -146,6 +166,7 @@ module _ {fs : List Function} {n bytes : ℕ} {i : Bool} (c : Context) (low : Ha
       → Fitting fs n bytes i (bump_code c o d e k)
   bump_fits o d (Name j p) k t h = bump_name_fits o p d k t h
   bump_fits o d (Element j p index) k t h = bump_element_fits o p d k t h
+  bump_fits o d (RowElement j p row index) k t h = bump_element_fits o p d k t h
   bump_fits o d _ k t h = nothing_fits
 
   -- ASSIGNMENTS
@@ -187,12 +208,26 @@ module _ {fs : List Function} {n bytes : ℕ} {i : Bool} (c : Context) (low : Ha
       joined (save_fits (save_op k) (Var (temp d)) (Var (temp (suc d))) (saves_fit k) q r)
       (copied_fits (temp d) (temp (suc d)) q r)
 
+  -- the result of the operation of a compound assignment goes to the element
+  changed_element_fits : (o : BinaryOp) (d : ℕ) (at k : Kind) → suc (suc d) < 16
+      → Fitting fs n bytes i (Then (compound_code o d (suc (suc d)) at k)
+      (only (Save (save_op k) (Var (temp (suc d))) (Var (temp d)))))
+  changed_element_fits o d at k h =
+      let q = temp_fits n d (omega arith) in
+      let r = temp_fits n (suc d) (omega arith) in
+      joined (compound_fits o d (suc (suc d)) at k (omega arith) h)
+      (save_fits (save_op k) (Var (temp (suc d))) (Var (temp d)) (saves_fit k) r q)
+
   pub before_fits : (o : Option BinaryOp) (at : Kind) (d : ℕ) (l : Expr) (k : Kind) → FitsSide n l
       → right_at o d l < 16 → Fitting fs n bytes i (before_right c o at d l k)
   before_fits None at d (Element j p index) k t h =
       let q = temp_fits n d (omega arith) in
       address_fits p k (temp d) (temp d) t q q
+  before_fits None at d (RowElement j p row index) k t h =
+      let q = temp_fits n d (omega arith) in
+      address_fits p k (temp d) (temp d) t q q
   before_fits (Some o) at d (Element j p index) k t h = old_element_fits p d at k t (omega arith)
+  before_fits (Some o) at d (RowElement j p row index) k t h = old_element_fits p d at k t (omega arith)
   before_fits (Some o) at d (Name j p) k t h = old_name_fits p d at k t (omega arith)
   before_fits o at d _ k t h = nothing_fits
 
@@ -200,12 +235,10 @@ module _ {fs : List Function} {n bytes : ℕ} {i : Bool} (c : Context) (low : Ha
       → right_at o d l < 16 → Fitting fs n bytes i (after_right c o at d l k)
   after_fits None at d (Name j p) k t h = assign_name_fits p d k t h
   after_fits None at d (Element j p index) k t h = assign_element_fits d k h
+  after_fits None at d (RowElement j p row index) k t h = assign_element_fits d k h
   after_fits (Some o) at d (Name j p) k t h =
       joined (compound_fits o d (suc d) at k (omega arith) h)
       (assign_name_fits p d k t (omega arith))
-  after_fits (Some o) at d (Element j p index) k t h =
-      let q = temp_fits n d (omega arith) in
-      let r = temp_fits n (suc d) (omega arith) in
-      joined (compound_fits o d (suc (suc d)) at k (omega arith) h)
-      (save_fits (save_op k) (Var (temp (suc d))) (Var (temp d)) (saves_fit k) r q)
+  after_fits (Some o) at d (Element j p index) k t h = changed_element_fits o d at k h
+  after_fits (Some o) at d (RowElement j p row index) k t h = changed_element_fits o d at k h
   after_fits o at d _ k t h = nothing_fits

@@ -4,6 +4,7 @@ use Rattle.std.proofs.Common.{[], ◌∷◌, Some, refl, sym, ap, ◌∙◌, sub
 use Rattle.std.proofs.Common.{arith}
 use Rattle.std.specs.Prelude.{slice_get, nat_eq}
 use Rattle.std.proofs.lemmas.List.{length-take-le}
+use Rattle.c_tree.specs.declared.Place.{Place}
 use Rattle.c_tree.specs.declared.TypedArray.{TypedArray}
 use Rattle.c_tree.specs.declared.TypedGlobal.{TypedGlobal}
 use Rattle.c_constant.specs.Kinds.{bytes}
@@ -11,11 +12,12 @@ use Rattle.c_meaning_spec.specs.Call.{all_bytes}
 use Rattle.ir_forms.specs.FlatCode.{Function}
 use Rattle.ir_forms.specs.FlatFits.{FitsFunction}
 use Rattle.flat_lower.specs.Tree.{Func, Source}
+use Rattle.flat_lower.specs.Objects.{row_of}
 use Rattle.flat_lower.specs.Fits.{FitsFunc, FitsSource, scope_of}
 use Rattle.flat_lower.specs.Statements.{context_of, lowered_func, lowered_from, lowered}
 use Rattle.flat_lower.specs.declared.around.Around.TheVariants as around
 use Rattle.flat_lower_limits.specs.Jumps.{JumpsInLoops}
-use Rattle.flat_lower_limits.specs.Laws.{FitsOfAnyLength}
+use Rattle.flat_lower_limits.specs.Laws.{FitsOfAnyLength, IsSmallRow}
 use Rattle.flat_lower_limits.proofs.Fitting.{joined}
 use Rattle.flat_lower_limits.proofs.Expressions.{Callable}
 use Rattle.flat_lower_limits.proofs.Rooms.{places, image_is_bytes}
@@ -104,25 +106,26 @@ module _ (P : Source) (s : FitsSource P) where
   }
 
   func_fits : (f : Func) (b : Bool) → FitsFunc P f → f.params ≤ 8 → JumpsInLoops around.Nowhere f.body
+      → ((p : Place) → IsSmallRow (row_of (context_of P.globals f) p))
       → FitsFunction functions (lowered_func P.globals b f)
-  func_fits f b fits few jumps = record {
+  func_fits f b fits few jumps rows = record {
     scalars = fits.scalars;
     params = fits.params;
     few = few;
     words = arrays_are_words f.arrays;
     body = (joined (stmt_fits functions (scope_of P f) (all_bytes f.arrays) f.result
-        (context_of P.globals f) known (places P s f) around.Nowhere f.body fits.body jumps)
+        (context_of P.globals f) known (places P s f rows) around.Nowhere f.body fits.body jumps)
         (end_fits b)).fits;
   }
 
 pub fits_at_any_length : FitsOfAnyLength
 unfolding lowered functions
-fits_at_any_length P s few jumps = record {
+fits_at_any_length P s few jumps rows = record {
   each = λ j h e.
       let from = comes_from P.globals P.main 0 j P.functions h e in
       subst (FitsFunction (functions P s)) from.lowers.is
       (func_fits P s from.func from.lowers.is_main (s.each j from.func from.found)
-      (few j from.func from.found) (jumps j from.func from.found));
+      (few j from.func from.found) (jumps j from.func from.found) (rows j from.func from.found));
   main =
       let to = found_at P.globals P.main 0 P.main P.functions s.main.main s.main.found in
       record {

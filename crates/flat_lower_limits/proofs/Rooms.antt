@@ -11,11 +11,13 @@ use Rattle.c_constant.specs.Kinds.{bytes}
 use Rattle.c_meaning_spec.specs.Call.{array_bytes, all_bytes}
 use Rattle.trips_isa.specs.Stores.{data_size}
 use Rattle.ir_forms.specs.Frames.{frames_at, frame_limit}
-use Rattle.flat_lower.specs.Objects.{global_bytes, bytes_before, global_at, array_at}
+use Rattle.c_tree.specs.declared.Place.{Place}
+use Rattle.flat_lower.specs.Objects.{global_bytes, bytes_before, global_at, array_at, row_of}
 use Rattle.flat_lower.specs.Tree.{Func, Source}
 use Rattle.flat_lower.specs.Fits.{FitsSource}
 use Rattle.flat_lower.specs.Statements.{context_of, word_bytes, init_bytes, global_image, globals_image}
 use Rattle.flat_lower.proofs.Starts.{room_of, images_length}
+use Rattle.flat_lower_limits.specs.Laws.{IsSmallRow}
 use Rattle.flat_lower_limits.proofs.Places.{HasPlaces}
 
 arrays_inside : (arrays : List TypedArray) (a : ℕ)
@@ -34,15 +36,17 @@ rounded_up : (n limit : ℕ) → (n + 7) / 8 * 8 + limit ≤ data_size → n < 2
 rounded_up n limit h = omega (arith, h)
 
 pub places : (P : Source) → FitsSource P → (f : Func)
+    → ((p : Place) → IsSmallRow (row_of (context_of P.globals f) p))
     → HasPlaces (context_of P.globals f) (all_bytes f.arrays)
 unfolding global_at array_at
-places P s f = record {
+places P s f rows = record {
   globals = λ g.
       let low = rounded_up (length (globals_image P.globals)) frame_limit s.room in
       let long = images_length P.globals s.globals in
       let h = globals_inside P.globals g in
       omega (arith, low, long, h);
   arrays = arrays_inside f.arrays;
+  rows = rows;
 }
 
 -- BYTES

@@ -1,21 +1,24 @@
 -- Worked sources: their sizes, their jumps, a program that fits, and one that shows that three
 -- statements a node would not do.
-use Rattle.std.proofs.Common.{◌≡◌, ℕ, zero, suc, ◌≤◌, true, false, [], ◌∷◌}
+use Rattle.std.proofs.Common.{◌≡◌, ℕ, zero, suc, ◌≤◌, [], ◌∷◌}
 use Rattle.std.proofs.Common.{Some, None, refl, subst, arith}
 use Rattle.std.specs.Prelude.{slice_get}
 use Rattle.c_tree.specs.declared.Kind.TheVariants.{Int, Long}
 use Rattle.c_tree.specs.declared.BinaryOp.TheVariants.{Add}
+use Rattle.c_tree.specs.declared.Place.{Place}
 use Rattle.c_tree.specs.declared.Place.TheVariants as place
 use Rattle.ir_forms.specs.FlatFits.{FitsProgram, steps_of_all}
 use Rattle.ir_forms.specs.Frames.{frame_limit}
-use Rattle.flat_lower.specs.Tree.{Expr, Number, Name, Element, Assign, Convert}
-use Rattle.flat_lower.specs.Tree.{Compound, If, While, Break, Continue, Return, NoStmts}
-use Rattle.flat_lower.specs.Tree.{WithStmt, Func, Source}
+use Rattle.flat_lower.specs.Tree.{Expr, Number, Name, Element, RowElement, Assign, Convert}
+use Rattle.flat_lower.specs.Tree.{Stmt, Compound, If, While, Switch, Break, Continue, Return, NoStmts}
+use Rattle.flat_lower.specs.Tree.{WithStmt, NoSections, WithSection, Func, Source}
 use Rattle.flat_lower.specs.Fits.{FitsFunc, FitsSource}
-use Rattle.flat_lower.specs.Statements.{lowered}
-use Rattle.flat_lower_limits.specs.Nodes.{expr_nodes, source_size}
+use Rattle.flat_lower.specs.Objects.{row_of}
+use Rattle.flat_lower.specs.Statements.{context_of, lowered}
+use Rattle.flat_lower_limits.specs.Nodes.{expr_nodes, stmt_nodes, source_size}
 use Rattle.flat_lower.specs.declared.around.Around.TheVariants as around
 use Rattle.flat_lower_limits.specs.Jumps.{JumpsInLoops}
+use Rattle.flat_lower_limits.specs.Laws.{IsSmallRow, SmallRows}
 use Rattle.flat_lower_limits.proofs.Whole.{lowered_fits}
 
 abbrev n : ℕ → Expr
@@ -29,18 +32,37 @@ added : expr_nodes (Assign (Some Long) (Some Add) Long (Element (Some Long) (pla
     (Convert (Some Long) Long (Name (Some Int) (place.Scalar 0)))) ≡ 5
 added = refl
 
+-- `t[1][2]`: the element and its two indexes
+cell : expr_nodes (RowElement (Some Int) (place.Array 0) (n 1) (n 2)) ≡ 3
+cell = refl
+
+-- `{ case 1: default: break; case 2: continue; }` behind a test
+abbrev chooses : Stmt
+chooses = Switch (n 1)
+    (WithSection (Some 1 ∷ None ∷ []) (WithStmt Break NoStmts)
+    (WithSection (Some 2 ∷ []) (WithStmt Continue NoStmts) NoSections))
+
+-- the switch two, its test, two sections, three labels, two jumps
+chooses_size : stmt_nodes chooses ≡ 10
+chooses_size = refl
+
 -- JUMPS
 
 -- `while (1) if (1) break;`
 leaves : JumpsInLoops around.Nowhere (While (n 1) (If (n 1) Break NoStmts))
-leaves = (refl, tt)
+leaves = (tt, tt)
+
+-- a break leaves a switch, and a continue goes on with the loop around it
+in_a_loop : JumpsInLoops around.Nowhere (While (n 1) chooses)
+in_a_loop = ((tt, tt), ((tt, tt), tt))
+
+-- a switch alone is nothing to go on with
+in_no_loop : JumpsInLoops around.Nowhere chooses → ⊥
+in_no_loop h = h.1.0.0
 
 -- a continue behind a loop
 stray : JumpsInLoops around.Nowhere (Compound (WithStmt (While (n 1) Break) (WithStmt Continue NoStmts))) → ⊥
-stray h = false_is h.1.0
-  where
-    false_is : false ≡ true → ⊥
-    false_is e = cc e
+stray h = h.1.0
 
 -- LENGTHS
 
@@ -57,7 +79,7 @@ deep = record {
     result = Some Int;
     params = 0;
     scalars = [];
-    arrays = record { kind = Long; length = 1 } ∷ [];
+    arrays = record { kind = Long; length = 1; row = None } ∷ [];
     body = Return (Some (Convert (Some Int) Int (nested 8)));
   } ∷ [];
   main = 0;
@@ -104,6 +126,15 @@ small_source = record {
   room = omega arith;
 }
 
+-- it has no array
+small_rows : SmallRows small
+small_rows = lone (λ f. (p : Place) → IsSmallRow (row_of (context_of [] f) p)) none
+  where
+    none : (p : Place) → IsSmallRow (row_of (context_of [] seven) p)
+    none (place.Global g) = tt
+    none (place.Scalar j) = tt
+    none (place.Array a) = tt
+
 small_fits : FitsProgram (lowered small)
 small_fits = lowered_fits small small_source (lone (λ f. f.params ≤ 8) (omega arith))
-    (lone (λ f. JumpsInLoops around.Nowhere f.body) tt) (omega arith)
+    (lone (λ f. JumpsInLoops around.Nowhere f.body) tt) small_rows (omega arith)

@@ -5,8 +5,8 @@ use Rattle.flat_lower_limits.proofs.Programs.{fits_at_any_length}
 use Rattle.flat_lower_limits.proofs.Lengths.{few_statements}
 
 pub lowered_fits : LoweredFits
-lowered_fits P s few jumps short =
-    let f = fits_at_any_length P s few jumps in
+lowered_fits P s few jumps rows short =
+    let f = fits_at_any_length P s few jumps rows in
     let most = few_statements P in
     record {
       each = f.each;

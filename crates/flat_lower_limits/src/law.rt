@@ -2,10 +2,10 @@
 
 ghost use Rattle.flat_lower_limits.specs.Laws.{FewBlocks, FewStatements, FitsOfAnyLength, LoweredFits};
 
-/// The flat program of a source as typing gives it, with at most 8 parameters a function and with
-/// its jumps in loops, fits but for its length: each operation is of a fitting form, each variable
-/// one of its function's, each call has the arguments that its function takes, jumps stand in
-/// loops, and globals and frames lie inside data memory.
+/// The flat program of a source as typing gives it, with at most 8 parameters a function, with its
+/// jumps in loops and switches and with second sizes that are words, fits but for its length: each
+/// operation is of a fitting form, each variable one of its function's, each call has the arguments
+/// that its function takes, jumps stand in loops, and globals and frames lie inside data memory.
 pub fn flat_programs_fit_at_any_length()
     ensures { FitsOfAnyLength }
 {}
