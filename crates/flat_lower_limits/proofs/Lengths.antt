@@ -1,6 +1,5 @@
 -- How many flat statements the code of expressions, statements and programs has.
-use Rattle.std.proofs.Common.{ℕ, suc, ◌+◌, ◌*◌, ◌≤◌, Bool, true, false, List, [], ◌∷◌}
-use Rattle.std.proofs.Common.{Option, Some, None, refl, arith}
+use Rattle.std.proofs.Common.{ℕ, suc, ◌+◌, ◌*◌, ◌≤◌, Bool, true, false, List, [], ◌∷◌, Option, Some, None, refl, arith}
 use Rattle.std.specs.Prelude.{nat_eq}
 use Rattle.c_tree.specs.declared.Kind.{Kind}
 use Rattle.c_tree.specs.declared.BinaryOp.{BinaryOp}
@@ -12,38 +11,34 @@ use Rattle.c_tree.specs.declared.Place.{Place}
 use Rattle.c_tree.specs.declared.Place.TheVariants.{Global, Scalar, Array}
 use Rattle.c_tree.specs.declared.TypedGlobal.{TypedGlobal}
 use Rattle.trips_isa.specs.declared.op.Op.TheVariants as op
-use Rattle.ir_forms.specs.declared.flat.Arg.{Arg}
 use Rattle.ir_forms.specs.declared.flat.Arg.TheVariants.{Const, Var}
 use Rattle.ir_forms.specs.FlatCode.{Code, Nop, Then, only, Let}
 use Rattle.ir_forms.specs.FlatCode as flat
 use Rattle.ir_forms.specs.FlatFits.{steps_of_all}
-use Rattle.flat_lower.specs.Tree.{Expr, Number, Name, Element, Call, Unary, Cast, Convert, Bump}
-use Rattle.flat_lower.specs.Tree.{Binary, Choice, Assign, Comma, Exprs, NoExprs, WithExpr, Stmt}
-use Rattle.flat_lower.specs.Tree.{Declare, Plain, Compound, If, While, Do, For, Break, Continue}
-use Rattle.flat_lower.specs.Tree.{Return, Stmts, NoStmts, WithStmt, First, Nothing, FirstOf, Locals}
+use Rattle.flat_lower.specs.Tree.{Expr, Number, Name, Element, Call, Unary, Cast, Convert, Bump, Binary, Choice, Assign}
+use Rattle.flat_lower.specs.Tree.{Comma, Exprs, NoExprs, WithExpr, Stmt, Declare, Plain, Compound, If, While, Do, For}
+use Rattle.flat_lower.specs.Tree.{Break, Continue, Return, Stmts, NoStmts, WithStmt, First, Nothing, FirstOf, Locals}
 use Rattle.flat_lower.specs.Tree.{Func, RowElement, Switch, Sections, NoSections, WithSection, kind_of}
 use Rattle.flat_lower.specs.Switches.{in_switch}
 use Rattle.flat_lower.specs.declared.around.Around.{Around}
 use Rattle.flat_lower.specs.declared.around.Around.TheVariants as around
 use Rattle.flat_lower.specs.Operations.{set_word, temp, binary_code, unary_code}
 use Rattle.flat_lower.specs.Objects.{Context, row_of}
-use Rattle.flat_lower.specs.Expressions.{with_kind, name_code, element_code, bump_code}
-use Rattle.flat_lower.specs.Expressions.{before_right, joined_code}
-use Rattle.flat_lower.specs.Expressions.{right_at, after_right, temps, call_code, binary_end}
-use Rattle.flat_lower.specs.Expressions.{tested, operand_at, expr_code, index_code, args_code}
-use Rattle.flat_lower.specs.Statements.{expr_if_code, declare_code, return_code, if_so, turn_code}
-use Rattle.flat_lower.specs.Statements.{loop_code, do_code, stmt_code, stmts_code, first_code}
-use Rattle.flat_lower.specs.Statements.{end_code, named_scalar, simple_arg, plain_code, plain_if_code}
-use Rattle.flat_lower.specs.Statements.{sections_code, context_of, lowered_from, lowered}
+use Rattle.flat_lower.specs.Expressions.{with_kind, name_code, element_code, bump_code, before_right, joined_code}
+use Rattle.flat_lower.specs.Expressions.{right_at, after_right, temps, call_code, binary_end, tested, operand_at}
+use Rattle.flat_lower.specs.Expressions.{expr_code, index_code, args_code}
+use Rattle.flat_lower.specs.Statements.{expr_if_code, declare_code, return_code, if_so, turn_code, loop_code, do_code}
+use Rattle.flat_lower.specs.Statements.{stmt_code, stmts_code, first_code, end_code, named_scalar, simple_arg}
+use Rattle.flat_lower.specs.Statements.{plain_code, plain_if_code, sections_code, context_of, lowered_from, lowered}
 use Rattle.flat_lower.proofs.PlainEnds.{either_way}
 use Rattle.flat_lower_limits.specs.Nodes.{expr_nodes, exprs_nodes, expr_if_nodes, stmt_nodes, stmts_nodes}
 use Rattle.flat_lower_limits.specs.Nodes.{sections_nodes, first_nodes, funcs_size}
 use Rattle.flat_lower_limits.specs.Laws.{FewStatements}
 use Rattle.flat_lower_limits.proofs.Counts.{Takes, after, eased, none, one_more, chosen, looped, known_kind}
-use Rattle.flat_lower_limits.proofs.Counts.{converted_here_takes, binary_takes, unary_takes, name_takes}
-use Rattle.flat_lower_limits.proofs.Counts.{element_takes, bump_name_takes, bump_element_takes}
-use Rattle.flat_lower_limits.proofs.Counts.{before_name_takes, after_name_takes, before_element_takes}
-use Rattle.flat_lower_limits.proofs.Counts.{after_element_takes, joined_by_takes, before_row_takes, after_row_takes}
+use Rattle.flat_lower_limits.proofs.Counts.{converted_here_takes, binary_takes, unary_takes, name_takes, element_takes}
+use Rattle.flat_lower_limits.proofs.Counts.{bump_name_takes, bump_element_takes, before_name_takes, after_name_takes}
+use Rattle.flat_lower_limits.proofs.Counts.{before_element_takes, after_element_takes, joined_by_takes}
+use Rattle.flat_lower_limits.proofs.Counts.{before_row_takes, after_row_takes}
 use Rattle.flat_lower_limits.proofs.SectionNodes.{bodies_nodes}
 use Rattle.flat_lower_limits.proofs.SwitchLengths.{break_takes, continue_takes, section_takes, switched_takes}
 

@@ -1,7 +1,7 @@
 -- Where globals and arrays lie: addresses that are words, places inside a function's arrays, and an
 -- image of bytes.
-use Rattle.std.proofs.Common.{◌≡◌, ℕ, zero, suc, ◌+◌, ◌-◌, ◌*◌, ◌/◌, ◌%◌, ◌^◌, ◌<◌, ◌≤◌, List, []}
-use Rattle.std.proofs.Common.{◌∷◌, ◌++◌, map, length, replicate, arith}
+use Rattle.std.proofs.Common.{ℕ, zero, suc, ◌+◌, ◌-◌, ◌*◌, ◌/◌, ◌%◌, ◌^◌, ◌<◌, ◌≤◌, List, []}
+use Rattle.std.proofs.Common.{◌∷◌, map, length, replicate, arith}
 use Rattle.std.specs.Prelude.{All}
 use Rattle.std.proofs.Math.Nat.{mod-lt}
 use Rattle.std.proofs.lemmas.List.Elements.{All-nil, All-cons, All-append, All-replicate}
@@ -10,7 +10,7 @@ use Rattle.c_tree.specs.declared.TypedGlobal.{TypedGlobal}
 use Rattle.c_constant.specs.Kinds.{bytes}
 use Rattle.c_meaning_spec.specs.Call.{array_bytes, all_bytes}
 use Rattle.trips_isa.specs.Stores.{data_size}
-use Rattle.ir_forms.specs.Frames.{frames_at, frame_limit}
+use Rattle.ir_forms.specs.Frames.{frame_limit}
 use Rattle.c_tree.specs.declared.Place.{Place}
 use Rattle.flat_lower.specs.Objects.{global_bytes, bytes_before, global_at, array_at, row_of}
 use Rattle.flat_lower.specs.Tree.{Func, Source}
