@@ -10,14 +10,16 @@ use Rattle.c_tree.specs.declared.typed.TypedFunc.{TypedFunc}
 use Rattle.c_tree.specs.declared.typed.TypedProgram.{TypedProgram}
 use Rattle.c_tree.specs.declared.typed.TypedStmt.TheVariants as typed
 use Rattle.c_type.specs.States.{at}
-use Rattle.c_type.specs.Statements.{statements_in, Part, Beginning, SectionPart, node_part, init_part, section_part, at_line, part}
+use Rattle.c_type.specs.Statements.{statements_in, Part, Beginning, SectionPart, node_part, init_part, section_part}
+use Rattle.c_type.specs.Statements.{at_line, part}
 use Rattle.c_type.proofs.Nodes.{fold_section}
 use Rattle.c_type.specs.Functions.{body_in, body_part}
 use Rattle.c_type_laws.specs.Statements as rule
 use Rattle.c_type_laws.specs.WellFormed.{Each}
 use Rattle.c_type_laws.proofs.Moves.{made}
 use Rattle.c_type_laws.proofs.Parts.{Sound, SoundFirst, SoundAll, run, on_plain, on_all, on_else, on_compound, on_if}
-use Rattle.c_type_laws.proofs.Parts.{on_while, on_do, on_for, on_break, on_continue, on_return, on_declare, on_nothing}
+use Rattle.c_type_laws.proofs.Parts.{on_while, on_do, on_for, on_break, on_continue, on_return, on_nothing}
+use Rattle.c_type_laws.proofs.Declarations.{on_declare}
 use Rattle.c_type_laws.proofs.Switches.{on_switch}
 use Rattle.c_type_laws.proofs.Parts.{on_first, on_locals}
 
@@ -68,7 +70,8 @@ module _ (P : TypedProgram) (f : TypedFunc) where
 
     -- each production, from its parts
     node_good : (l : ℕ) (y : StmtNode-F I N X S)
-        → Sound P f (node_part (map-StmtNode ForInit StmtNode Section Stmt Beginning A SectionPart Part init_fold node_fold section_fold part
+        → Sound P f (node_part
+        (map-StmtNode ForInit StmtNode Section Stmt Beginning A SectionPart Part init_fold node_fold section_fold part
         (map-StmtNode I N X S ForInit StmtNode Section Stmt of_i of_n of_x of_s y)) l)
     node_good l (StmtNode-F.Declare k w size init) = on_declare P f k w size init l
     node_good l (StmtNode-F.Plain e) = on_plain P f e l
@@ -108,7 +111,8 @@ module _ (P : TypedProgram) (f : TypedFunc) where
         (node_good l y)
 
     -- the same of a first part as it is rolled
-    at_init : (y : ForInit-F I N X S) → InitGood (roll-ForInit (map-ForInit I N X S ForInit StmtNode Section Stmt of_i of_n of_x of_s y))
+    at_init : (y : ForInit-F I N X S)
+        → InitGood (roll-ForInit (map-ForInit I N X S ForInit StmtNode Section Stmt of_i of_n of_x of_s y))
     unfolding part
     at_init y =
         subst (λ (g : Beginning). SoundFirst P f g)
@@ -132,7 +136,9 @@ module _ (P : TypedProgram) (f : TypedFunc) where
   -- a statement is its node at its line
   at_stmt : (l : ℕ) (n : StmtNode) → NodeGood n → StmtGood (at l n)
   unfolding part
-  at_stmt l n h = subst (Sound P f) (sym (fold_out-Stmt Beginning A SectionPart Part init_part node_part section_part at_line (at l n))) (h l)
+  at_stmt l n h =
+      subst (Sound P f)
+      (sym (fold_out-Stmt Beginning A SectionPart Part init_part node_part section_part at_line (at l n))) (h l)
 
   -- every statement keeps what holds, and its tree is well formed
   pub sound : (s : Stmt) → StmtGood s
@@ -144,7 +150,8 @@ module _ (P : TypedProgram) (f : TypedFunc) where
       (λ x y e. subst (λ (x : StmtNode-F ForInit StmtNode Section Stmt). NodeGood (roll-StmtNode x)) e
       (at_node _ _ _ _ (λ i. i.0) (λ n. n.0) (λ x. x.0) (λ s. s.0) (λ i. i.1) (λ x. x.1) (λ s. s.1) y))
       (λ x y e. subst (λ (x : Section-F ForInit StmtNode Section Stmt). SectionGood (roll-Section x)) e
-      (at_section _ (in_section _ _ _ _ (λ i. i.0) (λ n. n.0) (λ x. x.0) (λ s. s.0) (λ i. i.1) (λ x. x.1) (λ s. s.1) y)))
+      (at_section _
+      (in_section _ _ _ _ (λ i. i.0) (λ n. n.0) (λ x. x.0) (λ s. s.0) (λ i. i.1) (λ x. x.1) (λ s. s.1) y)))
       (λ x y e. subst (λ (x : Stmt-F ForInit StmtNode Section Stmt). StmtGood (roll-Stmt x)) e
       (at_stmt y.line y.node.0 y.node.1))
 

@@ -25,7 +25,7 @@ use Rattle.c_type_laws.specs.Objects.{signature, of_function, slot_scalar, slot_
 use Rattle.c_type_laws.specs.WellFormed.{Each, IsScalar, SlotFits, ArrayFits, FunctionFits}
 use Rattle.c_type_laws.proofs.Moves.{split, held, Known, Fine, Within, Ahead}
 use Rattle.c_type_laws.proofs.Lists.{at_end, each_both, size_some, outer_in}
-use Rattle.c_type_laws.proofs.Parts.{known_in}
+use Rattle.c_type_laws.proofs.Declarations.{known_in}
 use Rattle.c_type_laws.proofs.Bodies.{body_sound}
 
 -- PARAMETERS

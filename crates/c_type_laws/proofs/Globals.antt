@@ -161,8 +161,8 @@ not_end (size.Rows o e) k n = refl
 
 module _ (T : Scope) (m : ℕ) where
   -- the name of a global names it
-  global_bound : (size : ArraySize) (k : Kind) (w : List ℕ) (init : List (List Expr)) (G : Scope) (gs : List TypedGlobal)
-      (fs : List TypedFunc)
+  global_bound : (size : ArraySize) (k : Kind) (w : List ℕ) (init : List (List Expr)) (G : Scope)
+      (gs : List TypedGlobal) (fs : List TypedFunc)
       → Bound T (program T m (gs ++ typed_global size k init ∷ []) fs) G w (global_meaning size k (length gs))
   global_bound size.Scalar k w init G gs fs =
       λ f. ap object.global_scalar (at_last gs (typed_global size.Scalar k init))
@@ -173,8 +173,8 @@ module _ (T : Scope) (m : ℕ) where
       λ f. ap object.global_array (at_last gs (typed_global (size.Rows o e) k init))
 
   -- a global that has no fault
-  pub on_global : (k : Kind) (w : List ℕ) (size : ArraySize) (init : List (List Expr)) (l : ℕ) (N : Scope) (n : ℕ) (F : Frame)
-      (gs : List TypedGlobal) (b : ℕ) (fs : List TypedFunc)
+  pub on_global : (k : Kind) (w : List ℕ) (size : ArraySize) (init : List (List Expr)) (l : ℕ) (N : Scope) (n : ℕ)
+      (F : Frame) (gs : List TypedGlobal) (b : ℕ) (fs : List TypedFunc)
       → Holds T m N n F gs b fs → global_fault size k w init l (file T m F gs b fs) ≡ None
       → Step T m N n F fs (with_global size k w init (file T m F gs b fs))
   on_global k w size init l N n F gs b fs i h =

@@ -4,6 +4,7 @@ pub mod TypedNeeds
 pub mod Moves
 pub mod Lists
 pub mod Parts
+pub mod Declarations
 pub mod Switches
 pub mod Bodies
 pub mod Definitions

@@ -7,6 +7,7 @@ use Rattle.c_tree.specs.declared.token.Kind.TheVariants.{Char, UChar, Short, USh
 use Rattle.c_tree.specs.declared.token.Kind.TheVariants.{ULong}
 use Rattle.c_tree.specs.declared.tree.BinaryOp.TheVariants.{Add, ShiftLeft}
 use Rattle.c_tree.specs.declared.typed.Callee.TheVariants as callee
+use Rattle.c_tree.specs.declared.typed.Place.{Place}
 use Rattle.c_tree.specs.declared.typed.Place.TheVariants as place
 use Rattle.c_tree.specs.declared.typed.Slot.{Slot}
 use Rattle.c_tree.specs.declared.typed.Slot.TheVariants as slot
@@ -14,14 +15,14 @@ use Rattle.c_tree.specs.declared.typed.TypedExpr.{TypedExpr}
 use Rattle.c_tree.specs.declared.typed.TypedFunc.{TypedFunc}
 use Rattle.c_tree.specs.declared.typed.TypedGlobal.{TypedGlobal}
 use Rattle.c_tree.specs.declared.typed.TypedNode.{roll-TypedNode, out-roll-TypedNode}
-use Rattle.c_tree.specs.declared.typed.TypedNode.TheOpen.{Number, Name, Call, Convert, Binary}
+use Rattle.c_tree.specs.declared.typed.TypedNode.TheOpen.{Number, Name, Element, Call, Convert, Binary}
 use Rattle.c_tree.specs.declared.typed.TypedProgram.{TypedProgram}
 use Rattle.c_tree.specs.declared.typed.TypedStmt.{TypedStmt, roll-TypedStmt, out-TypedStmt, out-roll-TypedStmt}
 use Rattle.c_tree.specs.declared.typed.TypedForInit.TheOpen.{Declare, Compound, While, Break, Continue, Return}
 use Rattle.c_constant.specs.Kinds.{common, same_kind}
 use Rattle.c_constant.specs.Need.{Needs}
 use Rattle.std.specs.Prelude.{option_map, slice_get}
-use Rattle.c_type_laws.specs.Objects.{slot_scalar, of_function}
+use Rattle.c_type_laws.specs.Objects.{slot_scalar, of_function, Shape, shape, array_at}
 use Rattle.c_tree.specs.TypedTrees.{Node}
 use Rattle.c_type_laws.specs.Expressions.{Gives, Has, Passes}
 use Rattle.c_type_laws.specs.Expressions as rule
@@ -141,6 +142,13 @@ module _ (P : TypedProgram) (f : TypedFunc) where
   no_slot n r e (rule.scalar h) = let no : None ≡ Some _ = sym (ap (λ ss. slot_scalar (slice_get ss n)) e)
       ∙ h in absurd (cc)
 
+  -- an array with two sizes has no element by one index
+  one_index : (p : Place) (r : Option Kind) (k : Kind) (n : ℕ) (i : TypedExpr)
+      → array_at P f p ≡ Some (shape k (Some n)) → Gives P f r (Element p None i) → ⊥
+  one_index p r k n i e (rule.element {k = j} h x) =
+      let is : shape k (Some n) ≡ shape j None = some_is _ _ (sym e ∙ h) in
+      let no : Some n ≡ None = ap (λ (s : Shape). s.row) is in absurd (cc)
+
   -- an argument that is missing
   no_argument : (s : Slot) (slots : List Slot) → Passes P f (s ∷ slots) [] → ⊥
   no_argument (slot.Scalar k) slots p = elim p [ ]
@@ -160,7 +168,9 @@ module _ (P : TypedProgram) (f : TypedFunc) where
 
   -- while (1) break;
   loop : WellFormedStmt P f nowhere (While (of Int (Number 1)) (statement Break))
-  loop = run.while_loop (record { kind = Int; value = (number Int 1, one_need Int 1) }) (ran in_loop Break (run.breaks refl))
+  loop =
+      run.while_loop (record { kind = Int; value = (number Int 1, one_need Int 1) })
+      (ran in_loop Break (run.breaks refl))
 
   -- a `break` in no loop
   lonely_break : WellFormedStmt P f nowhere Break → ⊥
@@ -246,3 +256,7 @@ crowd P all w = absurd (omega (arith, w.scalars))
 -- an array without elements
 empty : GlobalFits (record { kind = Int; length = Some 0; row = None; init = [] }) → ⊥
 empty w = absurd (omega (arith, w.some))
+
+-- five elements are no rows of two
+no_rows : GlobalFits (record { kind = Short; length = Some 5; row = Some 2; init = [] }) → ⊥
+no_rows w = absurd (omega (arith, w.rows.1.1))

@@ -22,7 +22,8 @@ use Rattle.c_type_laws.proofs.Moves.{split, held, Fine, Moves}
 use Rattle.c_type_laws.proofs.Moves.{further, before}
 use Rattle.c_type_laws.proofs.Conversions.{promoted_once}
 use Rattle.c_type_laws.proofs.Lists.{at_end, labels_good}
-use Rattle.c_type_laws.proofs.Parts.{asks, full_converted, Sound, SoundAll, run, still_more, one_more, switch_ahead}
+use Rattle.c_type_laws.proofs.Parts.{asks, full_converted, Sound, SoundAll, run}
+use Rattle.c_type_laws.proofs.Declarations.{still_more, one_more, switch_ahead}
 
 module _ (P : TypedProgram) (f : TypedFunc) where
   -- the trees of sections of a switch of the type, behind these labels, are well formed
