@@ -1,5 +1,5 @@
 -- What tokens with words spell has words: statements and local declarations.
-use Rattle.std.proofs.Common.{◌≡◌, ℕ, List, [], ◌∷◌, ◌++◌, Option, Some, None, sym, ap, ◌∙◌, subst}
+use Rattle.std.proofs.Common.{◌≡◌, ℕ, List, ◌∷◌, ◌++◌, Option, Some, None, sym, ap, ◌∙◌, subst}
 use Rattle.c_tree.specs.declared.tree.Expr.{Expr}
 use Rattle.c_tree.specs.declared.tree.Label.{Label}
 use Rattle.c_tree.specs.declared.tree.Section.{Section, out-Section, out-roll-Section}
@@ -23,11 +23,11 @@ use Rattle.flat_lower_premises.specs.Trees as has
 use Rattle.flat_lower_premises.proofs.SpelledWords.{named_type, spelled}
 
 -- a section of which the parts are open: it has a label and a statement, with words
-record OpenHasWords (x : Section-F ForInit StmtNode Section Stmt) : Type 0 where
-  labelled : IsFilled x.labels
-  labels : LabelsHaveWords x.labels
-  filled : IsFilled x.body
-  body : StmtsHaveWords x.body
+pub record OpenHasWords (x : Section-F ForInit StmtNode Section Stmt) : Type 0 where
+  pub labelled : IsFilled x.labels
+  pub labels : LabelsHaveWords x.labels
+  pub filled : IsFilled x.body
+  pub body : StmtsHaveWords x.body
 
 -- each number of the phrase is a word of its type
 abbrev pub PhraseHasWords : Phrase → Type 0
