@@ -30,10 +30,14 @@ pub fn stored_byte(stored: Option<Stored>, address: u64) -> Option<u8>
     }
 }
 
-// The byte that is seen behind the stores of numbers below this one, over the byte `under`.
+// The byte that is seen behind the stores of numbers below this one, over the byte `under`. Where no store is there, no
+// number is looked at.
 fn seen_over(stores: &Row<Stored, 32, 1>, below: u8, address: u64, under: u8) -> u8
     ensures { result ≡ byte_seen (λ n. slice_index_or stores.now n None) (λ a. under) below address }
 {
+    if below <= 32 && stores.word(0) == 0 {
+        return under;
+    }
     let mut byte = under;
     for n in 0..below {
         if let Some(newer) = stored_byte(stores.get(n as usize), address) {
