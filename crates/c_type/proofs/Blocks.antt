@@ -18,14 +18,14 @@ use Rattle.c_tree.specs.declared.tree.Top.{Top}
 use Rattle.c_tree.specs.declared.tree.TopNode.{TopNode}
 use Rattle.c_tree.specs.declared.tree.TopNode.TheVariants.{Include, Global, Func}
 use Rattle.c_scope.specs.declared.meaning.Binding.{Binding}
-use Rattle.c_scope.specs.Scope.{Scope, look_up, opened, closed, declared_in, bound}
+use Rattle.c_scope.specs.Scope.{Scope, look_up, opened, closed, declared_in}
 use Rattle.c_type.specs.declared.file_scope.FileScope.{FileScope}
 use Rattle.c_type.specs.declared.state.State.{State}
 use Rattle.c_type.specs.States.{at, some_block, entered, with_switch}
 use Rattle.c_type.specs.Declarations.{is_end, declared}
 use Rattle.c_type.specs.Statements.{statements_in, part, beginning_of, all_after, section_of, sections_after, switch_kind}
 use Rattle.c_type.specs.Units.{eof_name, with_include}
-use Rattle.c_type.specs.Functions.{named_param, with_params, started, body_in, body_part, entry}
+use Rattle.c_type.specs.Functions.{named_param, with_params, body_in, body_part, entry}
 use Rattle.c_type.specs.Functions.{param_names, next_number, params_names, slot_of, callee_in}
 use Rattle.c_type.specs.Signatures.{function_names}
 use Rattle.c_type.specs.Programs.{node_after, item_after}

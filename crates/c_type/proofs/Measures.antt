@@ -1,5 +1,5 @@
 -- The measure of a switch's sections.
-use Rattle.std.proofs.Common.{◌≡◌, ℕ, ◌+◌, ◌≤◌, List, [], ◌∷◌, max, refl, ap, arith}
+use Rattle.std.proofs.Common.{◌≡◌, ◌+◌, ◌≤◌, List, [], ◌∷◌, max, refl, ap, arith}
 use Rattle.c_tree.specs.declared.tree.Expr.{Expr}
 use Rattle.c_tree.specs.declared.tree.ForInit.TheViews.{sized-Switch}
 use Rattle.c_tree.specs.declared.tree.Section.{Section, size-Section, size_is-Section}

@@ -1,6 +1,5 @@
 -- Statements (C17 6.8): the first fault, the typed tree, and the state after them.
-use Rattle.std.specs.Prelude.{ℕ, Bool, true, false, not, ◌||◌, nat_eq, nat_lt, length, map, List, [], ◌∷◌}
-use Rattle.std.specs.Prelude.{◌++◌, Option, Some, None}
+use Rattle.std.specs.Prelude.{ℕ, true, false, nat_lt, length, map, List, [], ◌∷◌, ◌++◌, Option, Some, None}
 use Rattle.c_tree.specs.declared.token.Kind.{Kind}
 use Rattle.c_tree.specs.declared.tree.Expr.{Expr}
 use Rattle.c_tree.specs.declared.tree.Label.{Label}
@@ -19,16 +18,17 @@ use Rattle.c_tree.specs.declared.typed.TypedForInit.{TypedForInit}
 use Rattle.c_tree.specs.declared.typed.TypedForInit.TheVariants as typed_init
 use Rattle.c_scope.specs.Scope.{Scope}
 use Rattle.c_tree.specs.declared.limits.TheConstants.{MOST_SCALARS}
-use Rattle.c_type_expr.specs.declared.fault.TypeFault.TheVariants.{Twice, Mismatch, TooManyScalars}
+use Rattle.c_type_expr.specs.declared.fault.TypeFault.TheVariants.{Mismatch, TooManyScalars}
 use Rattle.c_type_expr.specs.declared.role.Role.TheVariants.{Value, Free}
 use Rattle.c_type_expr.specs.Roles.{Blame, first, unless}
 use Rattle.c_constant.specs.Kinds.{promoted}
 use Rattle.c_type_expr.specs.Trees.{tree, kind_of, with_convert}
-use Rattle.c_type_expr.specs.Constants.{full, full_constant, constant_at}
+use Rattle.c_type_expr.specs.Constants.{full}
 use Rattle.c_type.specs.declared.state.State.{State}
 use Rattle.c_type.specs.declared.state.Around.{Around}
 use Rattle.c_type.specs.States.{full_if, tree_if, value_of, entered, left, with_switch}
 use Rattle.c_type.specs.Declarations.{declare_fault, declared, declare_tree}
+pub use Rattle.c_type.specs.Labels.{word_if, label_word, same_label, label_among, case_fault, label_fault, labels_fault}
 
 -- around a body or an `else` of no loop and no switch
 abbrev pub nowhere : Around
@@ -141,42 +141,6 @@ for_part init test post body = record {
 -- the type to which the test of a switch is promoted
 abbrev pub switch_kind : Expr → Scope → Kind
 switch_kind test G = promoted (kind_of (tree test G))
-
--- the word of a constant at a type, where there is one
-abbrev pub word_if : Kind → Option Expr → Option ℕ
-word_if k None = None
-word_if k (Some e) = Some (constant_at k e)
-
--- the word of a label at a type, none for `default`
-abbrev pub label_word : Kind → Label → Option ℕ
-label_word k x = word_if k x.value
-
--- are two labels the same?
-abbrev pub same_label : Option ℕ → Option ℕ → Bool
-same_label None None = true
-same_label (Some m) (Some n) = nat_eq m n
-same_label _ _ = false
-
--- is the label one of these?
-abbrev pub label_among : Option ℕ → List (Option ℕ) → Bool
-label_among x [] = false
-label_among x (y ∷ ys) = same_label x y || label_among x ys
-
--- the constant of a case
-abbrev pub case_fault : Option Expr → Scope → Blame
-case_fault None G = None
-case_fault (Some e) G = full_constant e G
-
--- a label behind others: its constant comes before the label, which is another than they
-abbrev pub label_fault : Kind → List (Option ℕ) → Label → Scope → Blame
-label_fault k seen x G =
-    first (case_fault x.value G) (unless (not (label_among (label_word k x) seen)) (Twice x.line))
-
--- the labels of a section behind others
-abbrev pub labels_fault : Kind → List (Option ℕ) → List Label → Scope → Blame
-labels_fault k seen [] G = None
-labels_fault k seen (x ∷ xs) G =
-    first (label_fault k seen x G) (labels_fault k (seen ++ label_word k x ∷ []) xs G)
 
 -- the first fault of a section behind these labels: its labels come before its statements
 abbrev pub section_fault : Kind → List (Option ℕ) → SectionPart → Around → State → Blame

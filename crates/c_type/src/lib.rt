@@ -8,6 +8,7 @@ mod functions;
 mod globals;
 mod includes;
 mod initialisers;
+mod jumps;
 mod parameters;
 mod parts;
 mod program;

@@ -1,12 +1,13 @@
-//! Full expressions that may be left out, and what a `return` wants.
+//! Full expressions that may be left out, and statements that are one.
 
 ghost use Rattle.std.specs.Prelude.{◌≡◌};
-ghost use Rattle.c_type_expr.specs.Roles.{first};
+ghost use Rattle.c_tree.specs.declared.tree.StmtNode.TheVariants as node;
 ghost use Rattle.c_type_expr.specs.Says.{Says};
 ghost use Rattle.c_type.specs.States as states;
-ghost use Rattle.c_type.specs.Statements.{return_fault, return_tree};
+ghost use Rattle.c_type.specs.Statements.{part};
+ghost use Rattle.c_type.specs.Runs.{Runs};
 
-use crate::state::State;
+use crate::state::{Around, State};
 use base::Boxed;
 use c_scope::Scopes;
 use c_tree::{Expr, Kind, TypedExpr, TypedStmt};
@@ -51,34 +52,17 @@ pub fn value_to(
     }
 }
 
-pub fn return_stmt(
+/// An expression statement, or one of a semicolon alone.
+#[tactic(auto, using(crate::proofs::Nodes::on_plain))]
+pub fn plain(
     alloc: Global,
     state: &State,
+    around: Around,
     line: u32,
     e: Option<Expr>,
 ) -> Result<TypedStmt, TypeFault>
-    ensures { Says (first (states.full_if e Role.Value state.now.names)
-        (return_fault state.now.result e line))
-        (TypedStmt.Return (return_tree state.now.result e state.now.names)) result }
+    ensures { Runs (part (states.at line (node.Plain e))) around state.now state.now result }
 {
-    match state.result {
-        None => {
-            let found = e.is_some();
-            let e = full_if(alloc, &state.names, Role::Value, e)?;
-            if found {
-                Err(TypeFault::Mismatch(line))
-            } else {
-                Ok(TypedStmt::Return(e))
-            }
-        }
-        Some(kind) => {
-            let missing = e.is_none();
-            let e = value_to(alloc, &state.names, kind, e)?;
-            if missing {
-                Err(TypeFault::Mismatch(line))
-            } else {
-                Ok(TypedStmt::Return(e))
-            }
-        }
-    }
+    let e = full_if(alloc, &state.names, Role::Free, e)?;
+    Ok(TypedStmt::Plain(e))
 }

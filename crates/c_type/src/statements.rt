@@ -9,7 +9,8 @@ ghost use Rattle.c_type.specs.Runs.{Runs, Moves, RunAll, RunElse, RunLegs, RunSe
 ghost use Rattle.c_type.specs.Runs.{Begins};
 
 use crate::declarations::declare;
-use crate::parts::{full_if, return_stmt};
+use crate::jumps::{break_stmt, continue_stmt, give};
+use crate::parts::{full_if, plain};
 use crate::state::{Around, State};
 use crate::switches::{section_labels, switch_scalar, switch_test};
 use base::{Boxed, Items, Queue};
@@ -24,55 +25,6 @@ const IN_LOOP: Around = Around {
     may_break: true,
     may_continue: true,
 };
-
-#[tactic(auto, using(crate::proofs::Nodes::on_plain))]
-fn plain(
-    alloc: Global,
-    state: &State,
-    around: Around,
-    line: u32,
-    e: Option<Expr>,
-) -> Result<TypedStmt, TypeFault>
-    ensures { Runs (part (at line (node.Plain e))) around state.now state.now result }
-{
-    let e = full_if(alloc, &state.names, Role::Free, e)?;
-    Ok(TypedStmt::Plain(e))
-}
-
-#[tactic(auto, using(crate::proofs::Nodes::on_return))]
-fn give(
-    alloc: Global,
-    state: &State,
-    around: Around,
-    line: u32,
-    e: Option<Expr>,
-) -> Result<TypedStmt, TypeFault>
-    ensures { Runs (part (at line (node.Return e))) around state.now state.now result }
-{
-    return_stmt(alloc, state, line, e)
-}
-
-#[tactic(auto, using(crate::proofs::Nodes::on_break))]
-fn break_stmt(state: &State, around: Around, line: u32) -> Result<TypedStmt, TypeFault>
-    ensures { Runs (part (at line node.Break)) around state.now state.now result }
-{
-    if around.may_break {
-        Ok(TypedStmt::Break)
-    } else {
-        Err(TypeFault::Mismatch(line))
-    }
-}
-
-#[tactic(auto, using(crate::proofs::Nodes::on_continue))]
-fn continue_stmt(state: &State, around: Around, line: u32) -> Result<TypedStmt, TypeFault>
-    ensures { Runs (part (at line node.Continue)) around state.now state.now result }
-{
-    if around.may_continue {
-        Ok(TypedStmt::Continue)
-    } else {
-        Err(TypeFault::Mismatch(line))
-    }
-}
 
 /// The statements of a block, one after another.
 #[cycle(stmt)]
