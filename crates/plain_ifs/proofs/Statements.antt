@@ -10,13 +10,12 @@ use Rattle.c_tree.specs.declared.TypedForInit.TheOpen.{TypedStmt-F, TypedForInit
 use Rattle.c_tree.specs.declared.TypedForInit.TheOpen as stmt
 use Rattle.c_tree.specs.declared.TypedSection.{TypedSection, roll-TypedSection, map-TypedSection}
 use Rattle.c_tree.specs.declared.TypedSection.{fold-TypedSection, fold_out-TypedSection}
-use Rattle.trips_isa.specs.declared.op.Op.TheVariants as op
-use Rattle.ir_forms.specs.declared.flat.Arg.TheVariants.{Const, Var}
+use Rattle.ir_forms.specs.declared.flat.Arg.TheVariants.{Var}
 use Rattle.ir_forms.specs.FlatCode.{Code, Nop, Then, only}
 use Rattle.ir_forms.specs.FlatCode as flat
 use Rattle.ir_forms.specs.FlatFits.{small_ifs}
 use Rattle.flat_lower.specs.Tree.{Expr, Stmt, Declare, If, While, Do, For, Break, Continue, Return}
-use Rattle.flat_lower.specs.Tree.{NoStmts, WithStmt, First, Switch, Sections, NoSections, WithSection}
+use Rattle.flat_lower.specs.Tree.{NoStmts, WithStmt, First, Switch, Sections, WithSection}
 use Rattle.flat_lower.specs.TreeViews.{expr_of, expr_if, stmt_by, stmt_of, stmts_of, Section}
 use Rattle.flat_lower.specs.TreeViews.{sections_of, section_by}
 use Rattle.flat_lower.specs.TreeViews as view
