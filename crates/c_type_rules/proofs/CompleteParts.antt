@@ -55,7 +55,8 @@ pub full_if_typed : (G : Scope) (r : Role) (e : Option Expr) → full_if e r G �
 full_if_typed G r None h = absent
 full_if_typed G r (Some e) h = present (full_typed G r e h)
 
-pub initialises : (G : Scope) (k : Kind) (e : Option Expr) → full_if e Value G ≡ None → Initialises G k e (value_of e k G)
+pub initialises : (G : Scope) (k : Kind) (e : Option Expr) → full_if e Value G ≡ None
+    → Initialises G k e (value_of e k G)
 initialises G k None h = without_value
 initialises G k (Some e) h = with_value (full_typed G Value e h)
 

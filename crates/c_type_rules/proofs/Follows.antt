@@ -7,7 +7,6 @@ use Rattle.c_tree.specs.declared.tree.ArraySize.{ArraySize}
 use Rattle.c_tree.specs.declared.tree.ArraySize.TheVariants as size
 use Rattle.c_tree.specs.declared.tree.Expr.{Expr}
 use Rattle.c_tree.specs.declared.tree.ExprNode.{out-ExprNode}
-use Rattle.c_tree.specs.declared.tree.ExprNode.TheVariants as node
 use Rattle.c_tree.specs.declared.tree.ForInit.{ForInit, out-ForInit}
 use Rattle.c_tree.specs.declared.tree.ForInit.TheOpen.{ForInit-F, StmtNode-F}
 use Rattle.c_tree.specs.declared.tree.ForInit.TheVariants as first_part
@@ -98,8 +97,8 @@ module _ (b : Around) (v : State) (s : Stmt) where
   statement_follows (StmtNode-F.Return e) h =
       by_statement _ (statement_is _ _ h ∙ statement.rolls-Return e) ∙ fault-Return s.line e b v
 
-beginning_follows : (b : Around) (v : State) (i : ForInit) (x : ForInit-F ForInit StmtNode Section Stmt) → out-ForInit i ≡ x
-    → (beginning_of i).fault b v ≡ first_of (beginning_parts b v x)
+beginning_follows : (b : Around) (v : State) (i : ForInit) (x : ForInit-F ForInit StmtNode Section Stmt)
+    → out-ForInit i ≡ x → (beginning_of i).fault b v ≡ first_of (beginning_parts b v x)
 beginning_follows b v i ForInit-F.Nothing h =
     ap (λ i. (beginning_of i).fault b v) (beginning_is i _ h ∙ first_part.rolls-Nothing) ∙ fault-Nothing b v
 beginning_follows b v i (ForInit-F.First e) h =

@@ -76,7 +76,8 @@ first_of xs = firsts (map fault_of xs)
 node_is : (n : ExprNode) (x : ExprNode-F ExprNode Expr) → out-ExprNode n ≡ x → n ≡ roll-ExprNode x
 node_is n x e = sym (roll-out-ExprNode n) ∙ ap roll-ExprNode e
 
-pub statement_is : (n : StmtNode) (x : StmtNode-F ForInit StmtNode Section Stmt) → out-StmtNode n ≡ x → n ≡ roll-StmtNode x
+pub statement_is : (n : StmtNode) (x : StmtNode-F ForInit StmtNode Section Stmt) → out-StmtNode n ≡ x
+    → n ≡ roll-StmtNode x
 statement_is n x e = sym (roll-out-StmtNode n) ∙ ap roll-StmtNode e
 
 pub beginning_is : (i : ForInit) (x : ForInit-F ForInit StmtNode Section Stmt) → out-ForInit i ≡ x → i ≡ roll-ForInit x

@@ -91,8 +91,8 @@ fit_rows (Some r) e n init s f h =
     ∙ ap (λ x. rows_fit (word_in x) init) s ∙ f
 
 -- what a global begins with has no fault, is not too much, and its words
-pub init_fine : (G : Scope) (k : Kind) (n : ℕ) (s : ArraySize) (init : List (List Expr)) (ns : List ℕ) → n ≡ count_of s init
-    → Init G k n s init ns → InitFine G k s init ns
+pub init_fine : (G : Scope) (k : Kind) (n : ℕ) (s : ArraySize) (init : List (List Expr)) (ns : List ℕ)
+    → n ≡ count_of s init → Init G k n s init ns → InitFine G k s init ns
 init_fine G k n _ _ _ e (in_list {s = s} {init = init} {ns = ns} h d f) =
     list_fine G k s init ns h d (subst (λ n. length (all_values init) ≤ n) e f)
 init_fine G k n _ _ _ e (in_rows {o = o} {e = x} {n = m} {init = init} {ns = ns} s d f) =

@@ -1,5 +1,5 @@
 -- The order of the text in which the parts of statements and units are judged (C17 6.7 to 6.9).
-use Rattle.std.specs.Prelude.{ℕ, Bool, true, false, not, nat_lt, length, List, [], ◌∷◌, ◌++◌}
+use Rattle.std.specs.Prelude.{ℕ, true, false, not, nat_lt, length, List, [], ◌∷◌, ◌++◌}
 use Rattle.std.specs.Prelude.{map, Option, Some, None}
 use Rattle.c_tree.specs.declared.limits.TheConstants.{MOST_PARAMETERS, MOST_SCALARS}
 use Rattle.c_tree.specs.declared.token.Kind.{Kind}
