@@ -22,7 +22,6 @@ use Rattle.c_tree.specs.declared.tree.TopNode.TheVariants.{Include, Global, Func
 use Rattle.c_scope.specs.Scope.{Scope, look_up}
 use Rattle.c_type_expr.specs.declared.fault.TypeFault.TheVariants.{Twice, Mismatch}
 use Rattle.c_type_expr.specs.Roles.{Blame, first, unless}
-use Rattle.c_type_expr.specs.Faults.{fault}
 use Rattle.c_type_expr.specs.Constants.{full_constant, size_fault}
 use Rattle.c_type.specs.declared.file_scope.FileScope.{FileScope}
 use Rattle.c_type.specs.declared.state.State.{State}
