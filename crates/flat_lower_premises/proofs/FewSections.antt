@@ -1,5 +1,5 @@
 -- A source of few nodes has few sections in each switch.
-use Rattle.std.proofs.Common.{ℕ, ◌+◌, ◌<◌, ◌≤◌, arith}
+use Rattle.std.proofs.Common.{ℕ, ◌<◌, ◌≤◌, arith}
 use Rattle.flat_lower.specs.Tree.{Stmt, Declare, Plain, Compound, If, While, Do, For, Switch, Break}
 use Rattle.flat_lower.specs.Tree.{Continue, Return, Stmts, NoStmts, WithStmt, First, Nothing}
 use Rattle.flat_lower.specs.Tree.{FirstOf, Locals, Sections, NoSections, WithSection}

@@ -1,10 +1,9 @@
 -- Well formed expressions are as the lowering takes them.
 use Rattle.std.proofs.Common.{◌≡◌, ℕ, suc, ◌+◌, ◌<◌, ◌≤◌, List, [], ◌∷◌, map, Option, Some, None}
-use Rattle.std.proofs.Common.{refl, sym, ap, ap₂, ◌∙◌, subst, arith}
+use Rattle.std.proofs.Common.{refl, sym, ap, ◌∙◌, subst, arith}
 use Rattle.c_tree.specs.declared.Kind.{Kind}
 use Rattle.c_tree.specs.declared.Kind.TheVariants.{Int}
 use Rattle.c_tree.specs.declared.BinaryOp.{BinaryOp}
-use Rattle.c_tree.specs.declared.Place.{Place}
 use Rattle.c_tree.specs.declared.Callee.{Callee}
 use Rattle.c_tree.specs.declared.Callee.TheVariants as callee
 use Rattle.c_tree.specs.declared.Slot.{Slot}
@@ -32,72 +31,13 @@ use Rattle.flat_lower.specs.Fits.{FitsExpr, FitsLeft, FitsOne, FitsArgs}
 use Rattle.flat_lower.proofs.TreeFacts.{plain_node, expr_is, kind_is}
 use Rattle.flat_lower.proofs.Depths.{depth_fits}
 use Rattle.flat_lower.proofs.Calls.{func_at}
-use Rattle.flat_lower_premises.proofs.NodeNeeds.{need, level_needs, needs_is, binary_left, binary_right}
+use Rattle.flat_lower_premises.proofs.NodeNeeds.{need, level_needs, binary_left, binary_right}
 use Rattle.flat_lower_premises.proofs.NodeNeeds.{row_first, row_second, choice_test, choice_one, choice_other, comma_left}
 use Rattle.flat_lower_premises.proofs.NodeNeeds.{comma_right, Room, assign_room, arg_room, args_room}
 use Rattle.flat_lower_premises.proofs.Agrees.{unary_agrees, binary_agrees, compound_agrees}
 use Rattle.flat_lower_premises.proofs.Named.{scope, scalar_fits, array_fits, found_by}
-
--- AN EXPRESSION BY ITS NODE
-
-pub at_level : (e : TypedExpr) (k : Option Kind) (x : Node) → e.kind ≡ k → node_of e ≡ x
-    → expr_of e ≡ plain_node x k
-at_level e k x q n = expr_is e ∙ ap₂ (λ x k. plain_node x k) n q
-
-needs_at : (e : TypedExpr) (x : Node) → node_of e ≡ x → typed_needs e ≡ level_needs x
-needs_at e x n = needs_is e ∙ ap level_needs n
-
-room_at : (e : TypedExpr) (x : Node) (d : ℕ) → node_of e ≡ x → d + need e ≤ 16
-    → d + (level_needs x).need ≤ 16
-room_at e x d n l = subst (λ (s : Needs). d + s.need ≤ 16) (needs_at e x n) l
-
--- a left side's index, by the node
-assign_at : (e : TypedExpr) (x : Node) (d m : ℕ) → node_of e ≡ x
-    → d + assign_need (typed_needs e).index m ≤ 16 → d + assign_need (level_needs x).index m ≤ 16
-assign_at e x d m n l =
-    subst (λ (s : Needs). d + assign_need s.index m ≤ 16) (needs_at e x n) l
-
-index_at : (e : TypedExpr) (x : Node) (d : ℕ) → node_of e ≡ x → Room d (typed_needs e).index
-    → Room d (level_needs x).index
-index_at e x d n r = subst (λ (s : Needs). Room d s.index) (needs_at e x n) r
-
-words_at : (e : TypedExpr) (k : Option Kind) (x : Node) → e.kind ≡ k → node_of e ≡ x
-    → NodeHasWords e.kind (node_of e) → NodeHasWords k x
-words_at e k x q n w = subst (NodeHasWords k) n (subst (λ k. NodeHasWords k (node_of e)) q w)
-
--- the words of an operand
-index_words : (r : Option Kind) (p : Place) (i : TypedExpr) → NodeHasWords r (node.Element p None i)
-    → NodeHasWords i.kind (node_of i)
-index_words r p i (word.element w) = w
-
-row_words : (r : Option Kind) (p : Place) (x i : TypedExpr) → NodeHasWords r (node.Element p (Some x) i)
-    → NodeHasWords x.kind (node_of x) × NodeHasWords i.kind (node_of i)
-row_words r p x i (word.row_element w u) = (w, u)
-
-converted_words : (r : Option Kind) (k : Kind) (i : TypedExpr) → NodeHasWords r (node.Convert k i)
-    → NodeHasWords i.kind (node_of i)
-converted_words r k i (word.conversion w) = w
-
--- the arguments' room
-call_room : (d : ℕ) (ns : List Needs) → d + call_need ns ≤ 16 → d + args_need 0 ns ≤ 16
-call_room d [] l = omega (arith, l)
-call_room d (n ∷ ns) l = l
-
--- the temporary of the right side of an assignment
-right_named : (o : Option BinaryOp) (k : Option Kind) (p : Place) (d n : ℕ) → d + (1 + n) ≤ 16
-    → right_at o d (Name k p) + n ≤ 16
-right_named None k p d n l = omega (arith, l)
-right_named (Some o) k p d n l = omega (arith, l)
-
-right_indexed : (o : Option BinaryOp) (k : Option Kind) (p : Place) (x : Expr) (d i n : ℕ)
-    → d + assign_need (Some i) n ≤ 16 → right_at o d (Element k p x) + n ≤ 16
-right_indexed None k p x d i n l = omega (arith, l)
-right_indexed (Some o) k p x d i n l = omega (arith, l)
-
-right_row : (o : Option BinaryOp) (k : Option Kind) (p : Place) (x y : Expr) (d i n : ℕ)
-    → d + assign_need (Some i) n ≤ 16 → right_at o d (RowElement k p x y) + n ≤ 16
-right_row None k p x y d i n l = omega (arith, l)
-right_row (Some o) k p x y d i n l = omega (arith, l)
+use Rattle.flat_lower_premises.proofs.ByNodes.{at_level, needs_at, room_at, assign_at, index_at, words_at, index_words}
+use Rattle.flat_lower_premises.proofs.ByNodes.{row_words, converted_words, call_room, right_named, right_indexed, right_row}
 
 module _ (P : TypedProgram) (f : TypedFunc) (globals : Each GlobalFits P.globals) where
   abbrev c : Scope
@@ -293,7 +233,7 @@ module _ (P : TypedProgram) (f : TypedFunc) (globals : Each GlobalFits P.globals
         (refl, array_fits P f k None p s, (has j i d v wi room).fits)
     left _ _ d (rule.row_indexed {k = k} {i = i} {j = j} {n = m} {e = e} {x = x} {y = y} {p = p} q n s v u) w r =
         let room : Room d (Some (indexes_need (Some (need x)) (need y))) =
-            index_at e (node.Element p (Some x) y) d n r in
+        index_at e (node.Element p (Some x) y) d n r in
         let wi = row_words (Some k) p x y (words_at e (Some k) (node.Element p (Some x) y) q n w) in
         subst (FitsLeft c d (Some k)) (sym (at_level e (Some k) (node.Element p (Some x) y) q n)) (
           refl,

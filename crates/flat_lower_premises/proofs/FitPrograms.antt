@@ -32,7 +32,7 @@ use Rattle.flat_lower.specs.Keeps.{IsInput, Keeps}
 use Rattle.flat_lower.proofs.Image.{both_length, global_length}
 use Rattle.flat_lower.proofs.Calls.{limit, typed_at, func_at}
 use Rattle.flat_lower.proofs.Whole.{keeps_meaning}
-use Rattle.flat_lower_limits.specs.Nodes.{stmt_nodes, funcs_size, source_size}
+use Rattle.flat_lower_limits.specs.Nodes.{stmt_nodes, funcs_size}
 use Rattle.flat_lower_premises.specs.Limits.{HasFewGlobals, HasFewNodes}
 use Rattle.flat_lower_premises.specs.Most.{largest, most_of}
 use Rattle.flat_lower_premises.proofs.FewSections.{few}

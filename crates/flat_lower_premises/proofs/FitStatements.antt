@@ -49,8 +49,7 @@ still_looped around.Loop h = tt
 still_looped around.Switch h = absurd h
 still_looped around.SwitchInLoop h = tt
 
-module _ (P : TypedProgram) (f : TypedFunc) (globals : Each GlobalFits P.globals) (top : ℕ) (word_counts : top ≤ 2 ^ 64)
-    where
+module _ (P : TypedProgram) (f : TypedFunc) (globals : Each GlobalFits P.globals) (top : ℕ) (low : top ≤ 2 ^ 64) where
   abbrev c : Scope
   c = scope P f
 
@@ -115,18 +114,28 @@ module _ (P : TypedProgram) (f : TypedFunc) (globals : Each GlobalFits P.globals
     runs b x ok _ (rule.choice {test = t} {one = one} h r rule.without) (word.choice wt w wo) m =
         (test t h wt, at_level x one (runs b x ok (out-TypedStmt one) r w (few_level one m.0)), tt)
     runs b x ok _ (rule.choice {test = t} {one = one} h r (rule.with_else {s = s} q))
-        (word.choice wt w (word.with_else wo)) m =
-        (test t h wt, at_level x one (runs b x ok (out-TypedStmt one) r w (few_level one m.0)), (at_level x s (runs b x ok (out-TypedStmt s) q wo (few_level s m.1.0)), tt))
-    runs b x ok _ (rule.while_loop {test = t} {body = body} h r) (word.while_loop wt w) m =
-        (test t h wt, at_level around.Loop body (runs in_loop around.Loop (λ e. tt) (out-TypedStmt body) r w (few_level body m)))
-    runs b x ok _ (rule.do_loop {test = t} {body = body} r h) (word.do_loop w wt) m =
-        (at_level around.Loop body (runs in_loop around.Loop (λ e. tt) (out-TypedStmt body) r w (few_level body m)), test t h wt)
+        (word.choice wt w (word.with_else wo)) m = (
+          test t h wt,
+          at_level x one (runs b x ok (out-TypedStmt one) r w (few_level one m.0)),
+          (at_level x s (runs b x ok (out-TypedStmt s) q wo (few_level s m.1.0)), tt),
+        )
+    runs b x ok _ (rule.while_loop {test = t} {body = body} h r) (word.while_loop wt w) m = (
+      test t h wt,
+      at_level around.Loop body
+          (runs in_loop around.Loop (λ e. tt) (out-TypedStmt body) r w (few_level body m)),
+    )
+    runs b x ok _ (rule.do_loop {test = t} {body = body} r h) (word.do_loop w wt) m = (
+      at_level around.Loop body
+          (runs in_loop around.Loop (λ e. tt) (out-TypedStmt body) r w (few_level body m)),
+      test t h wt,
+    )
     runs b x ok _ (rule.for_loop {init = init} {test = t} {post = post} {body = body} i h p r)
         (word.for_loop wi wt wp w) m = (
           at_first x init (begins b x ok (out-TypedForInit init) i wi (few_first init m.0)),
           test_if t h wt,
           effect_if post p wp,
-          at_level around.Loop body (runs in_loop around.Loop (λ e. tt) (out-TypedStmt body) r w (few_level body m.1)),
+          at_level around.Loop body
+              (runs in_loop around.Loop (λ e. tt) (out-TypedStmt body) r w (few_level body m.1)),
         )
     runs b x ok _ (rule.switch {n = n} {k = k} {test = t} {sections = xs} l s q v r) (word.switch wt ws) m =
         let u = value k t v wt in (
@@ -134,7 +143,7 @@ module _ (P : TypedProgram) (f : TypedFunc) (globals : Each GlobalFits P.globals
           subst (λ j. FitsSections c f.result (in_switch x) j (sections_in xs)) (sym u.kind)
               (runs_sections k [] (typed.in_switch b) (in_switch x) (λ e. still_looped x (ok e)) xs r ws m.1),
           few_free P f k (typed.in_switch b) xs r ws,
-          (let h = m.0 in omega (arith, h, word_counts)),
+          (let h = m.0 in omega (arith, h, low)),
         )
     runs b x ok _ (rule.breaks h) w m = tt
     runs b x ok _ (rule.continues h) w m = ok h

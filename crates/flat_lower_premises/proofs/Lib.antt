@@ -1,4 +1,5 @@
 pub mod Agrees
+pub mod ByNodes
 pub mod CostTrees
 pub mod CostUnits
 pub mod Counted

@@ -97,8 +97,8 @@ by_stmt : (l : ℕ) (n : StmtNode) (x : StmtNode-F ForInit StmtNode Section Stmt
 unfolding stmt_nodes first_nodes section_nodes
 by_stmt l n x e =
     fold_out-Stmt ℕ ℕ ℕ ℕ first_level_nodes stmt_level_nodes section_level_nodes of_stmt_level (s.at l n)
-    ∙ ap (λ (m : StmtNode). fold-StmtNode ℕ ℕ ℕ ℕ first_level_nodes stmt_level_nodes section_level_nodes of_stmt_level m)
-    (sym e)
+    ∙ ap (λ (m : StmtNode). fold-StmtNode ℕ ℕ ℕ ℕ first_level_nodes stmt_level_nodes section_level_nodes
+    of_stmt_level m) (sym e)
     ∙ fold-roll-StmtNode ℕ ℕ ℕ ℕ first_level_nodes stmt_level_nodes section_level_nodes of_stmt_level x
 
 module _ (l : ℕ) where
