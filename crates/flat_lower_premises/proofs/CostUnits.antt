@@ -1,6 +1,6 @@
 -- A pass through a function of a typed program costs no more than the unit has nodes; so the text's
 -- tokens bound that, and the blocks of its flat program.
-use Rattle.std.proofs.Common.{◌+◌, ◌*◌, ◌≤◌, max, List, [], ◌∷◌, length, arith}
+use Rattle.std.proofs.Common.{◌≤◌, max, List, [], ◌∷◌, length, arith}
 use Rattle.c_tree.specs.declared.tree.Stmt.{Stmt}
 use Rattle.c_tree.specs.declared.tree.Top.{Top}
 use Rattle.c_tree.specs.declared.tree.TopNode.{TopNode}

@@ -13,7 +13,6 @@ use Rattle.c_tree.specs.declared.typed.TypedStmt.{TypedStmt, roll-TypedStmt, out
 use Rattle.c_tree.specs.declared.typed.TypedStmt.{out-roll-TypedStmt}
 use Rattle.c_tree.specs.declared.typed.TypedForInit.TheOpen as stmt
 use Rattle.c_constant.specs.Need.{Needs}
-use Rattle.c_constant.specs.Kinds.{converted}
 use Rattle.c_tree.specs.TypedTrees.{node_of}
 use Rattle.c_type.specs.Statements.{nowhere}
 use Rattle.c_type_laws.specs.Expressions.{Gives, Has}

@@ -9,14 +9,13 @@ use Rattle.c_tree.specs.declared.tree.BinaryOp.{BinaryOp}
 use Rattle.c_tree.specs.declared.typed.Place.{Place}
 use Rattle.c_tree.specs.declared.typed.Callee.{Callee}
 use Rattle.c_tree.specs.declared.typed.TypedExpr.{TypedExpr}
-use Rattle.c_tree.specs.declared.typed.TypedNode.{TypedNode, out-TypedNode}
-use Rattle.c_tree.specs.declared.typed.TypedNode.TheOpen.{TypedNode-F, Number, Name, Element, Call}
+use Rattle.c_tree.specs.declared.typed.TypedNode.TheOpen.{Number, Name, Element, Call}
 use Rattle.c_tree.specs.declared.typed.TypedNode.TheOpen.{Unary, Cast, Convert, Bump, Binary}
 use Rattle.c_tree.specs.declared.typed.TypedNode.TheOpen.{Choice, Assign, Comma}
 use Rattle.c_tree.specs.declared.typed.TypedSection.{TypedSection}
 use Rattle.c_tree.specs.declared.typed.TypedStmt.{TypedStmt, out-TypedStmt}
 use Rattle.c_tree.specs.declared.typed.TypedForInit.{TypedForInit, out-TypedForInit}
-use Rattle.c_tree.specs.declared.typed.TypedForInit.TheOpen.{TypedStmt-F, TypedForInit-F, Declare}
+use Rattle.c_tree.specs.declared.typed.TypedForInit.TheOpen.{Declare}
 use Rattle.c_tree.specs.declared.typed.TypedForInit.TheOpen.{Plain, Compound, If, While, Do, For}
 use Rattle.c_tree.specs.declared.typed.TypedForInit.TheOpen.{Switch, Break, Continue, Return, Nothing}
 use Rattle.c_tree.specs.declared.typed.TypedForInit.TheOpen.{First, Locals}
