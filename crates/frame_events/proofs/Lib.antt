@@ -1,1 +1,2 @@
 pub mod PhaseFacts
+pub mod TryFacts

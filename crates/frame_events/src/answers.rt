@@ -47,8 +47,8 @@ fn fire_answer(held: &Body, block: &Block, slot: u8) -> Happened
     }
 }
 
-// Whether tokens are delivered to a place of a block.
-fn is_target(place: usize) -> bool
+/// Whether tokens are delivered to a place of a block.
+pub(crate) fn is_target(place: usize) -> bool
     ensures { result ≡ is_target place }
 {
     place < FIRST_STORE as usize

@@ -13,6 +13,7 @@ mod law;
 mod parts;
 mod phase;
 mod telling;
+mod trying;
 
 pub use answers::{can_deliver, can_exit, can_fire, can_load, can_read, can_seal, can_store};
 pub use changes::{deliver_in, exit_in, fire_in, load_in, read_in, store_in};
@@ -25,3 +26,4 @@ pub use telling::{
     block_in, cause_in, exit_come, is_sealed_in, is_serial_in, leads_to, outputs_in, read_register,
     register_to, token_in, waiting_load, waiting_store,
 };
+pub use trying::{Arrival, try_deliver, try_fire};

@@ -38,8 +38,8 @@ fn is_serial(block: &Block) -> bool
     false
 }
 
-// The register of the write at a place of a block, if a write is there.
-fn write_at(block: &Block, place: usize) -> Option<u8>
+/// The register of the write at a place of a block, if a write is there.
+pub(crate) fn write_at(block: &Block, place: usize) -> Option<u8>
     ensures { result ≡ write_at block.now.writes.items place }
 {
     if place < FIRST_WRITE as usize {

@@ -1,4 +1,5 @@
 pub mod MarkFacts
+pub mod BareFacts
 pub mod NodeFacts
 pub mod StayFacts
 pub mod TargetFacts

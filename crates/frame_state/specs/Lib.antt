@@ -1,4 +1,5 @@
 pub mod MarkRows
+pub mod Faulting
 pub mod Held
 pub mod Moves
 pub mod Predicates

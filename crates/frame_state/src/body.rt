@@ -10,9 +10,9 @@ ghost use Rattle.frame_state.specs.Held.{taken_of, exit_of, filled};
 ghost use Rattle.frame_state.specs.Moves.{slot_token, slot_mark, sent_to, sent_by, fired_by, fired_slot};
 ghost use Rattle.frame_state.specs.Moves.{moved, closed};
 
-use crate::marks::MarkRow;
+use crate::marks::MarkTable;
 use crate::parts::{Departure, Took};
-use crate::rule::{gives, mark, stored};
+use crate::rule::{can_fault, gives, mark, stored};
 use crate::spots::Spots;
 use crate::target::{first_place, place_at};
 use bit_rows::{Flags, Row};
@@ -37,10 +37,7 @@ pub struct Body {
     pub(crate) loads: Row<Took, 32, 1>,
     pub(crate) stores: Row<Stored, 32, 1>,
     pub(crate) exit: Option<Departure>,
-    pub(crate) spot_marks: MarkRow<416, 7>,
-    pub(crate) place_marks: MarkRow<320, 5>,
-    pub(crate) store_marks: MarkRow<32, 1>,
-    pub(crate) exit_mark: u8,
+    pub(crate) marks: MarkTable,
 }
 
 impl Model for Body {
@@ -61,12 +58,7 @@ impl Model for Body {
       loads = all_taken b.loads;
       stores = b.stores;
       exit = exit_of b.exit;
-      marks = record {
-        spots = b.spot_marks;
-        places = b.place_marks;
-        stores = b.store_marks;
-        exit = b.exit_mark;
-      };
+      marks = b.marks;
     } };
 }
 
@@ -87,15 +79,6 @@ fn put_both(places: &mut Row<Token, 320, 5>, targets: (usize, usize), p: usize, 
 {
     put_if(places, targets.0, p, token);
     put_if(places, targets.1, p + 1, token);
-}
-
-// Sets the marks of both places of a node.
-fn mark_both(marks: &mut MarkRow<320, 5>, p: usize, mark: u8)
-    requires { p < 1000 }
-    ensures { marks.new ≡ slice_set (slice_set marks.old p mark) (suc p) mark }
-{
-    marks.set(p, mark);
-    marks.set(p + 1, mark);
 }
 
 impl Body {
@@ -122,10 +105,7 @@ impl Body {
                 value: None,
             }),
             exit: None,
-            spot_marks: MarkRow::none(),
-            place_marks: MarkRow::none(),
-            store_marks: MarkRow::none(),
-            exit_mark: 0,
+            marks: MarkTable::none(),
         }
     }
 
@@ -153,10 +133,7 @@ impl Body {
         self.loads.clear();
         self.stores.clear();
         self.exit = None;
-        self.spot_marks.clear();
-        self.place_marks.clear();
-        self.store_marks.clear();
-        self.exit_mark = 0;
+        self.marks.clear();
     }
 
     /// What the instruction of a slot gives of what has come; `bytes` is the number that a load's bytes make.
@@ -174,18 +151,17 @@ impl Body {
         )
     }
 
-    /// The mark of that.
-    #[inline]
-    pub fn mark_of(&self, inst: Inst, slot: u8) -> u8
+    // The mark of that, whatever marks were set.
+    fn find_mark(&self, inst: Inst, slot: u8) -> u8
         ensures value { result ≡ slot_mark self.now inst slot }
     {
         let slot = slot as usize;
         let left = self.spots.get(slot);
         let right = self.spots.get(128 + slot);
         let predicate = self.spots.get(256 + slot);
-        let left_mark = self.spot_marks.get(slot);
-        let right_mark = self.spot_marks.get(128 + slot);
-        let predicate_mark = self.spot_marks.get(256 + slot);
+        let left_mark = self.marks.spot(slot);
+        let right_mark = self.marks.spot(128 + slot);
+        let predicate_mark = self.marks.spot(256 + slot);
         mark(
             inst,
             left,
@@ -195,13 +171,28 @@ impl Body {
         )
     }
 
+    /// The mark of that: 0 where no mark was set and the instruction cannot fault.
+    #[tactic(auto, using(crate::proofs::BareFacts::no_mark))]
+    #[inline]
+    pub fn mark_of(&self, inst: Inst, slot: u8) -> u8
+        ensures value { result ≡ slot_mark self.now inst slot }
+    {
+        if self.marks.is_marked() {
+            self.find_mark(inst, slot)
+        } else if can_fault(inst.op) {
+            self.find_mark(inst, slot)
+        } else {
+            0
+        }
+    }
+
     // Puts a token with its mark on its way from place p on.
     fn send(&mut self, p: usize, targets: (usize, usize), token: Token, mark: u8)
         requires { p < 1000 }
         ensures { self.new ≡ sent_to p targets.0 targets.1 token mark self.old }
     {
         put_both(&mut self.places, targets, p, token);
-        mark_both(&mut self.place_marks, p, mark);
+        self.marks.send(p, mark);
     }
 
     // Puts what the instruction of a slot gives on its way, with its mark.
@@ -253,6 +244,39 @@ impl Body {
         }
     }
 
+    // Sends the token that an instruction of a slot gives.
+    fn send_token(&mut self, inst: Inst, slot: u8, token: Token)
+        requires { slot_token self.old inst slot 0 ≡ Some token }
+        ensures { self.new
+            ≡ sent_by inst slot (slot_token self.old inst slot 0) (slot_mark self.old inst slot) self.old }
+    {
+        let mark = self.mark_of(inst, slot);
+        let targets = (first_place(inst), place_at(inst.second));
+        self.send(2 * slot as usize, targets, token, mark);
+    }
+
+    // Fires an instruction that gives this token.
+    fn fire_token(&mut self, inst: Inst, slot: u8, token: Token)
+        requires { slot_token self.old inst slot 0 ≡ Some token }
+        ensures { self.new ≡ fired_by (form_of inst.op) inst slot self.old }
+    {
+        match form_of(inst.op) {
+            Form::Load | Form::Store => self.requests.put(inst.number as usize, slot),
+            Form::Branch => self.leaving = Some(slot),
+            Form::General | Form::Immediate | Form::Constant => self.send_token(inst, slot, token),
+        }
+    }
+
+    /// Fires a slot that holds this instruction, which gives this token.
+    pub(crate) fn fire_given(&mut self, inst: Inst, slot: u8, token: Token)
+        requires { slot_token self.old inst slot 0 ≡ Some token }
+        ensures value { self.new ≡ fired_by (form_of inst.op) inst slot
+            (record self.old { fired = slice_set self.old.fired slot true }) }
+    {
+        self.note_fired(slot);
+        self.fire_token(inst, slot, token);
+    }
+
     /// Puts the word of a read on its way.
     pub(crate) fn put_read(&mut self, read: u8, targets: (usize, usize), word: u64)
         ensures value { self.new ≡ sent_to (256 + 2 * read) targets.0 targets.1 (Word word) 0
@@ -262,14 +286,13 @@ impl Body {
         self.send(256 + 2 * read as usize, targets, Token::Word(word), 0);
     }
 
-    // Moves a token from its place on its way to a place of the block.
-    fn bring(&mut self, p: usize, q: usize, token: Token)
+    /// Moves a token from its place on its way to a place of the block.
+    pub(crate) fn bring(&mut self, p: usize, q: usize, token: Token)
         ensures { self.new ≡ moved p q (Some token) self.old }
     {
         self.places.take(p);
         self.spots.put(q, token);
-        let mark = self.place_marks.get(p);
-        self.spot_marks.set(q, mark);
+        self.marks.deliver(p, q);
     }
 
     /// Moves the token of a place, if one is there, to a place of the block.
@@ -327,7 +350,7 @@ impl Body {
     {
         self.requests.take(number as usize);
         self.stores.set(number as usize, stored);
-        self.store_marks.set(number as usize, mark);
+        self.marks.resolve(number, mark);
     }
 
     /// Resolves the store of a slot that waits with a number.
@@ -358,6 +381,6 @@ impl Body {
     {
         self.leaving = None;
         self.exit = exit;
-        self.exit_mark = mark;
+        self.marks.leave(mark);
     }
 }

@@ -27,8 +27,12 @@ impl Body {
     pub fn is_complete(&self, block: &Block) -> bool
         ensures value { result ≡ complete (running block.now self.now) }
     {
-        let writes = block.writes.len();
-        writes_came(&self.spots, writes) && stores_came(&self.stores, block.mask) && self.has_exit()
+        if self.has_exit() {
+            let writes = block.writes.len();
+            writes_came(&self.spots, writes) && stores_came(&self.stores, block.mask)
+        } else {
+            false
+        }
     }
 
     /// The tokens of the writes, the stores in ascending order of number, and the exit.
@@ -56,7 +60,7 @@ impl Body {
         requires { w < 32 }
         ensures { result ≡ mark_held self.now.marks (FIRST_WRITE + w) }
     {
-        self.spot_marks.get(FIRST_WRITE as usize + w)
+        self.marks.spot(FIRST_WRITE as usize + w)
     }
 
     // The mark of a number's store.
@@ -65,7 +69,7 @@ impl Body {
         requires { number < 32 }
         ensures { result ≡ mark_held self.now.marks (FIRST_STORE + number) }
     {
-        self.store_marks.get(number as usize)
+        self.marks.store(number as usize)
     }
 
     // The mark of a number's store, if the mask has it.
@@ -105,13 +109,24 @@ impl Body {
         mark
     }
 
-    /// The least mark of the outputs, 0 for none.
-    pub(crate) fn cause(&self, block: &Block) -> u8
+    // The least mark of the outputs, 0 for none, whatever marks were set.
+    fn find_cause(&self, block: &Block) -> u8
         ensures value { result ≡ cause_held (sealed block.now self.now) }
     {
-        let exit = self.exit_mark;
+        let exit = self.marks.exit();
         let count = block.writes.len();
         let numbers = least(self.least_of_numbers(block.mask), exit);
         least(self.least_of_writes(count), numbers)
+    }
+    /// The least mark of the outputs, 0 for none.
+    #[tactic(auto, using(crate::proofs::BareFacts::no_cause))]
+    pub(crate) fn cause(&self, block: &Block) -> u8
+        ensures value { result ≡ cause_held (sealed block.now self.now) }
+    {
+        if self.marks.is_marked() {
+            self.find_cause(block)
+        } else {
+            0
+        }
     }
 }

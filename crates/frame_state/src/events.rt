@@ -1,5 +1,5 @@
 //! The events of the window on one frame, and the tests that their causes are made of.
-ghost use Rattle.std.specs.Prelude.{◌≡◌, ◌||◌, Some, false, not, is_none, slice_get, slice_index_or, length, ◌<◌, ◌+◌};
+ghost use Rattle.std.specs.Prelude.{◌≡◌, ◌||◌, Some, None, cond, false, not, is_none, slice_get, slice_index_or, length, ◌<◌, ◌+◌};
 ghost use Rattle.trips_isa.specs.Blocks.{leaves_with};
 ghost use Rattle.trips_isa.specs.Stores.{stored_of};
 ghost use Rattle.block_cases.specs.Orders.{slot_of};
@@ -11,6 +11,7 @@ ghost use Rattle.commit_flush_spec.specs.Memory as memory;
 ghost use Rattle.commit_flush_spec.specs.Memory.{request, load, taken_word, with_store};
 ghost use Rattle.commit_flush_spec.specs.Ends.{branch_of, branch_mark, with_exit};
 ghost use Rattle.frame_state.specs.Held.{Stays, exit_of, running};
+ghost use Rattle.frame_state.specs.Moves.{slot_token};
 
 use crate::body::Body;
 use crate::parts::Departure;
@@ -34,6 +35,18 @@ impl Body {
         match slot_of(block, slot as usize) {
             None => false,
             Some(_) => !self.has_fired(slot),
+        }
+    }
+
+    /// The instruction that a slot holds and that has not fired.
+    #[inline]
+    pub fn waiting_inst(&self, block: &Block, slot: u8) -> Option<Inst>
+        ensures value { result ≡ cond (slice_index_or self.now.fired slot false) None (slot_of block.now slot) }
+    {
+        if self.has_fired(slot) {
+            None
+        } else {
+            slot_of(block, slot as usize)
         }
     }
 
@@ -126,6 +139,18 @@ impl Body {
         self.fire_slot(inst, slot);
     }
 
+    /// Fires a slot that holds this instruction, which gives this token: it goes on its way, or a load, a store or a
+    /// branch waits.
+    pub(crate) fn fire_with(&mut self, block: &Block, inst: Inst, slot: u8, token: Token)
+        requires slot { slot_of block.now slot ≡ Some inst }
+        requires token { slot_token self.old inst slot 0 ≡ Some token }
+        ensures value { (o : Older) → running block.now self.new ≡ fire slot o (running block.now self.old) }
+        ensures stays { Stays self.old self.new }
+    {
+        let _ = block;
+        self.fire_given(inst, slot, token);
+    }
+
     /// Moves the token in a place to the place of the block that it goes to.
     pub(crate) fn deliver(&mut self, block: &Block, place: u16)
         ensures value { (o : Older) → running block.now self.new ≡ deliver place o (running block.now self.old) }
@@ -133,6 +158,17 @@ impl Body {
     {
         let to = target(block, place as usize);
         self.bring_to(place as usize, to);
+    }
+
+    /// Moves the token in a place to this place of the block, which is the one that it goes to.
+    pub(crate) fn deliver_to(&mut self, block: &Block, place: u16, to: usize, token: Token)
+        requires token { at self.old.places place ≡ Some token }
+        requires to { to ≡ target block.now place }
+        ensures value { (o : Older) → running block.now self.new ≡ deliver place o (running block.now self.old) }
+        ensures stays { Stays self.old self.new }
+    {
+        let _ = block;
+        self.bring(place as usize, to, token);
     }
 
     /// Answers the load that waits with a number, which is the instruction of this slot; `bytes` is the number

@@ -5,17 +5,18 @@ ghost use Rattle.trips_isa.specs.Forms.{form_of, role_of, takes_left, takes_righ
 ghost use Rattle.trips_isa.specs.Rule.{matched, rule, low};
 ghost use Rattle.trips_isa.specs.Stores.{address_of, is_good_address, load_of, stored_of, null_store, word_store};
 ghost use Rattle.trips_isa.specs.Blocks.{form_computes, slot_computes};
-ghost use Rattle.trips_isa.specs.Faults.{own_fault};
+ghost use Rattle.trips_isa.specs.Faults.{divides, own_fault};
 ghost use Rattle.trips_isa.specs.Marks.{mark_by};
 ghost use Rattle.trips_isa.specs.Operands.{operands, word_of, given_of, is_guarded};
 ghost use Rattle.commit_flush_spec.specs.Memory.{taken_of};
 ghost use Rattle.frame_state.specs.Held as held;
+ghost use Rattle.frame_state.specs.Faulting.{can_fault};
 ghost use Rattle.frame_state.specs.declared.parts.Took.TheVariants.{Nothing, From};
 
 use crate::parts::Took;
 use trips_isa::{
-    Form, Inst, Operands, Role, Sense, Stored, Token, alu, form_of, is_guarded, loaded, mark_by,
-    only_if, operands_of, role_of, size_of,
+    Form, Inst, Op, Operands, Role, Sense, Stored, Token, alu, form_of, is_guarded, loaded,
+    mark_by, only_if, operands_of, role_of, size_of,
 };
 
 fn is_low(word: u64) -> bool
@@ -162,6 +163,24 @@ pub fn mark(
         only_if(is_guarded(inst.sense), marks.2),
     );
     only_if(is_matched(inst.sense, predicate), mark)
+}
+
+// Whether an operation divides.
+fn divides(op: Op) -> bool
+    ensures { result ≡ divides op }
+{
+    matches!(op, Op::Divs | Op::Divu)
+}
+
+/// Whether an operation can fault: a division, a load and a store can.
+pub fn can_fault(op: Op) -> bool
+    ensures { result ≡ can_fault op }
+{
+    match form_of(op) {
+        Form::General => divides(op),
+        Form::Load | Form::Store => true,
+        Form::Immediate | Form::Branch | Form::Constant => false,
+    }
 }
 
 /// What a load takes, of the token at its operand.

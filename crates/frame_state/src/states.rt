@@ -3,7 +3,7 @@ ghost use Rattle.std.specs.Prelude.{◌≡◌, ◌<◌, ◌+◌, ◌^◌, Some, 
 ghost use Rattle.trips_isa.specs.declared.block.Block.{Block};
 ghost use Rattle.trips_isa.specs.Stores.{stored_of};
 ghost use Rattle.block_cases.specs.Orders.{slot_of};
-ghost use Rattle.commit_flush_spec.specs.Frames.{at, fresh, slot_node};
+ghost use Rattle.commit_flush_spec.specs.Frames.{at, fresh, slot_node, target};
 ghost use Rattle.commit_flush_spec.specs.Sending.{mark_with};
 ghost use Rattle.commit_flush_spec.specs.Older.{Older};
 ghost use Rattle.commit_flush_spec.specs.Dataflow.{read_answered, fire, deliver};
@@ -12,14 +12,14 @@ ghost use Rattle.commit_flush_spec.specs.Memory.{request, load, taken_word, with
 ghost use Rattle.commit_flush_spec.specs.Ends.{branch_mark, with_exit, complete, seal, outputs, cause_held};
 ghost use Rattle.frame_state.specs.Held.{Stays, exit_of, filled, running, sealed};
 ghost use Rattle.frame_state.specs.Lacks.{least_lack};
-ghost use Rattle.frame_state.specs.Moves.{closed};
+ghost use Rattle.frame_state.specs.Moves.{closed, slot_token};
 
 use crate::body::Body;
 use crate::outputs::Outputs;
 use crate::parts::{Departure, Lack};
 use std::alloc::{AllocError, Global};
 use std::marker::Model;
-use trips_isa::{Block, Inst};
+use trips_isa::{Block, Inst, Token};
 
 /// A frame that holds no block. Contracts see what it held before, of which only its number and its
 /// generation are kept.
@@ -118,12 +118,32 @@ impl Running {
         self.body.fire(block, slot);
     }
 
+    /// Fires a slot that holds this instruction, which gives this token.
+    pub fn fire_with(&mut self, block: &Block, inst: Inst, slot: u8, token: Token)
+        requires slot { slot_of block.now slot ≡ Some inst }
+        requires token { slot_token self.old inst slot 0 ≡ Some token }
+        ensures value { (o : Older) → running block.now self.new ≡ fire slot o (running block.now self.old) }
+        ensures stays { Stays self.old self.new }
+    {
+        self.body.fire_with(block, inst, slot, token);
+    }
+
     /// Moves the token in a place to the place of the block that it goes to.
     pub fn deliver(&mut self, block: &Block, place: u16)
         ensures value { (o : Older) → running block.now self.new ≡ deliver place o (running block.now self.old) }
         ensures stays { Stays self.old self.new }
     {
         self.body.deliver(block, place);
+    }
+
+    /// Moves the token in a place to this place of the block, which is the one that it goes to.
+    pub fn deliver_to(&mut self, block: &Block, place: u16, to: usize, token: Token)
+        requires token { at self.old.places place ≡ Some token }
+        requires to { to ≡ target block.now place }
+        ensures value { (o : Older) → running block.now self.new ≡ deliver place o (running block.now self.old) }
+        ensures stays { Stays self.old self.new }
+    {
+        self.body.deliver_to(block, place, to, token);
     }
 
     /// Answers the load that waits with a number, which is the instruction of this slot; `bytes` is the number

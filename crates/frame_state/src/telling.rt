@@ -106,6 +106,20 @@ impl Body {
         &self.stores
     }
 
+    /// The tokens on their way, by place.
+    pub fn places(&self) -> &Row<Token, 320, 5>
+        ensures value { result.now ≡ self.now.places }
+    {
+        &self.places
+    }
+
+    /// The slots of the loads and the stores that wait, by number.
+    pub fn requests(&self) -> &Row<u8, 32, 1>
+        ensures value { result.now ≡ self.now.requests }
+    {
+        &self.requests
+    }
+
     /// What the answered loads took, by number.
     pub fn loads(&self) -> &Row<Took, 32, 1>
         ensures value { all_taken result.now ≡ self.now.loads }

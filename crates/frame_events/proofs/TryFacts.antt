@@ -1,0 +1,39 @@
+-- What a frame answers that is tried: what was found of it is what its causes ask.
+use Rattle.std.proofs.Common.{◌≡◌, ℕ, Bool, true, false, cond, ◌||◌, List, Option, Some, None, slice_get, slice_index_or}
+use Rattle.std.proofs.Common.{refl, sym, ap, ap₂, ◌∙◌}
+use Rattle.std.specs.Prelude.{is_none}
+use Rattle.trips_isa.specs.declared.block.Inst.{Inst}
+use Rattle.trips_isa.specs.declared.block.Block.{Block}
+use Rattle.trips_isa.specs.Rule.{Answer}
+use Rattle.block_cases.specs.Orders.{slot_of}
+use Rattle.commit_flush_spec.specs.Causes.{NoInst, NotReady, Done, NotNow}
+use Rattle.commit_flush_spec.specs.Frames.{slot_node}
+use Rattle.commit_flush_spec.specs.Sending.{token_with}
+use Rattle.commit_flush_spec.specs.Older.{Older}
+use Rattle.commit_flush_spec.specs.Dataflow.{can_fire}
+use Rattle.frame_state.specs.Held.{Held, running}
+use Rattle.frame_state.specs.Moves.{slot_token}
+use Rattle.frame_state.proofs.NodeFacts.{token_is}
+use Rattle.frame_events.specs.declared.phase.Phase.{Phase}
+use Rattle.frame_events.specs.declared.phase.Phase.TheVariants.{Going}
+use Rattle.frame_events.specs.Phases.{frame_in, with_block}
+
+-- an instruction that was found has not fired
+unfired : (c : Bool) (z : Option Inst) (i : Inst) → Some i ≡ cond c None z → (c ≡ false) × (z ≡ Some i)
+unfired true z i e = absurd (cc)
+unfired false z i e = (refl, sym e)
+
+-- where the instruction of a slot is found, its token says whether it fires
+pub answers_fire : (b : Block) (h : Held) (s : ℕ) (i : Inst) (t : Answer)
+    → Some i ≡ cond (slice_index_or h.fired s false) None (slot_of b s) → t ≡ slot_token h i s 0 → (o : Older)
+    → cond (is_none t) (NotNow NotReady) Done ≡ can_fire s o (running b h)
+answers_fire b h s i t found e o =
+    let u = unfired (slice_index_or h.fired s false) (slot_of b s) i found in
+    ap (λ x. cond (is_none x) (NotNow NotReady) Done) (e ∙ sym (token_is b s i u.1 false h 0))
+    ∙ sym (ap₂ (λ x y. cond (is_none x || y) (NotNow NoInst)
+    (cond (is_none (token_with (running b h) (slot_node b s) 0)) (NotNow NotReady) Done)) u.1 u.0)
+
+-- a frame that runs, with its block
+pub going_is : (blocks : List Block) (b : Block) (h : Held) (p : Phase) → p ≡ Going h
+    → slice_get blocks h.block ≡ Some b → frame_in blocks p ≡ Some (running b h)
+going_is blocks b h p e is = ap (frame_in blocks) e ∙ ap (with_block false h) is
