@@ -81,9 +81,9 @@ binary-loop-of-smaller t c =
 pub binary-loop-of-preserved : goal.binary-loop-of-preserved
 binary-loop-of-preserved t c =
     let found : Inside c.loop-of.below c.args.level (seen joins_by c.loop-of.self.rest.now)
-            (c.in-Some.of, c.in-Some.op) =
-        subst (λ (o : Option (ℕ × BinaryOp)). Inside c.loop-of.below c.args.level o (c.in-Some.of, c.in-Some.op))
-        c.operator.ensures c.in-Some.ensures
+    (c.in-Some.of, c.in-Some.op) =
+    subst (λ (o : Option (ℕ × BinaryOp)). Inside c.loop-of.below c.args.level o (c.in-Some.of, c.in-Some.op))
+    c.operator.ensures c.in-Some.ensures
     in (
       ap (λ (w : Expr). climb c.args.left (c.args.level - c.in-Some.of) c.in-Some.of w c.binary.new.self.rest.now)
           c.in_ok-whole-2.ensures
@@ -97,17 +97,17 @@ binary-loop-of-preserved t c =
 pub binary-returns-in_err-right : goal.binary-returns-in_err-right
 binary-returns-in_err-right t c =
     let found : Inside c.loop-of.below c.args.level (seen joins_by c.loop-of.self.rest.now)
-            (c.in-Some.of, c.in-Some.op) =
-        subst (λ (o : Option (ℕ × BinaryOp)). Inside c.loop-of.below c.args.level o (c.in-Some.of, c.in-Some.op))
-        c.operator.ensures c.in-Some.ensures
+    (c.in-Some.of, c.in-Some.op) =
+    subst (λ (o : Option (ℕ × BinaryOp)). Inside c.loop-of.below c.args.level o (c.in-Some.of, c.in-Some.op))
+    c.operator.ensures c.in-Some.ensures
     in
     let stops =
-        climb_fails c.args.left c.args.level c.loop-of.below (omega arith) c.loop-of.whole c.loop-of.self.rest.now
-        (c.in-Some.of, c.in-Some.op) found c.in_err-right.field-0.0 c.binary.new.self.rest.now
-        (subst (λ (ts : Tokens). Fails (binary_of (inside c.args.left) c.in-Some.of ts) c.in_err-right.field-0.0
-        c.binary.new.self.rest.now) c.advance.ensures c.in_err-right.ensures)
+    climb_fails c.args.left c.args.level c.loop-of.below (omega arith) c.loop-of.whole c.loop-of.self.rest.now
+    (c.in-Some.of, c.in-Some.op) found c.in_err-right.field-0.0 c.binary.new.self.rest.now
+    (subst (λ (ts : Tokens). Fails (binary_of (inside c.args.left) c.in-Some.of ts) c.in_err-right.field-0.0
+    c.binary.new.self.rest.now) c.advance.ensures c.in_err-right.ensures)
     in
     let fails =
-        subst (λ (o : Out Expr). Fails o c.in_err-right.field-0.0 c.binary.new.self.rest.now) c.loop-of.invariant.0 stops
+    subst (λ (o : Out Expr). Fails o c.in_err-right.field-0.0 c.binary.new.self.rest.now) c.loop-of.invariant.0 stops
     in
     first_of (search rules, grind (arith, common_steps))
