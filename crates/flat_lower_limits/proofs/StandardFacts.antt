@@ -1,19 +1,20 @@
--- Worked sources: their sizes, their jumps, a program that fits, and one that shows that three
--- statements a node would not do.
-use Rattle.std.proofs.Common.{◌≡◌, ℕ, zero, suc, ◌≤◌, [], ◌∷◌}
+-- Worked sources: their sizes, their jumps, a second size that is no word, a program that fits, and one that shows
+-- that three statements a node would not do.
+use Rattle.std.proofs.Common.{◌≡◌, ℕ, zero, suc, ◌^◌, ◌≤◌, false, [], ◌∷◌}
 use Rattle.std.proofs.Common.{Some, None, refl, subst, arith}
 use Rattle.std.specs.Prelude.{slice_get}
 use Rattle.c_tree.specs.declared.Kind.TheVariants.{Int, Long}
 use Rattle.c_tree.specs.declared.BinaryOp.TheVariants.{Add}
 use Rattle.c_tree.specs.declared.Place.{Place}
 use Rattle.c_tree.specs.declared.Place.TheVariants as place
-use Rattle.ir_forms.specs.FlatFits.{FitsProgram, steps_of_all}
+use Rattle.ir_forms.specs.FlatFits.{FitsCode, FitsProgram, steps_of_all}
 use Rattle.ir_forms.specs.Frames.{frame_limit}
 use Rattle.flat_lower.specs.Tree.{Expr, Number, Name, Element, RowElement, Assign, Convert}
 use Rattle.flat_lower.specs.Tree.{Stmt, Compound, If, While, Switch, Break, Continue, Return, NoStmts}
 use Rattle.flat_lower.specs.Tree.{WithStmt, NoSections, WithSection, Func, Source}
 use Rattle.flat_lower.specs.Fits.{FitsFunc, FitsSource}
 use Rattle.flat_lower.specs.Objects.{row_of}
+use Rattle.flat_lower.specs.Expressions.{joined_by}
 use Rattle.flat_lower.specs.Statements.{context_of, lowered}
 use Rattle.flat_lower_limits.specs.Nodes.{expr_nodes, stmt_nodes, source_size}
 use Rattle.flat_lower.specs.declared.around.Around.TheVariants as around
@@ -63,6 +64,12 @@ in_no_loop h = h.1.0.0
 -- a continue behind a loop
 stray : JumpsInLoops around.Nowhere (Compound (WithStmt (While (n 1) Break) (WithStmt Continue NoStmts))) → ⊥
 stray h = h.1.0
+
+-- SECOND SIZES
+
+-- one that is no word stands in no code that fits
+too_wide : FitsCode [] 0 0 false (joined_by (Some (2 ^ 64)) 0) → ⊥
+too_wide h = let k = h.0.3 in omega (arith, k)
 
 -- LENGTHS
 
