@@ -14,6 +14,7 @@ pub mod LoadFacts
 pub mod StoreFacts
 pub mod PlayFacts
 pub mod MoveFacts
+pub mod TryFacts
 pub mod CutFacts
 pub mod FetchAsked
 pub mod StoreTold

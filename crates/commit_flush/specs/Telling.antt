@@ -1,9 +1,8 @@
 -- What is told of the frame of a number beside what crates/frame_events tells of one frame. Nothing is told where no
 -- frame is in flight.
-use Rattle.std.specs.Prelude.{ℕ, Bool, false, Option, Some, None}
+use Rattle.std.specs.Prelude.{ℕ, Option, Some, None}
 use Rattle.trips_isa.specs.declared.block.Stored.{Stored}
 use Rattle.commit_flush_spec.specs.Frames.{Frame, Exit, at}
-use Rattle.commit_flush_spec.specs.Ends.{store_came}
 
 -- the number of an exit
 abbrev pub number_of_exit : Option Exit → Option ℕ
@@ -14,8 +13,3 @@ number_of_exit (Some e) = Some e.exit
 abbrev pub stored_in : ℕ → Option Frame → Option Stored
 stored_in n None = None
 stored_in n (Some f) = at f.stores n
-
--- whether number n has its store, or wants none
-abbrev pub store_came_in : ℕ → Option Frame → Bool
-store_came_in n None = false
-store_came_in n (Some f) = store_came f n

@@ -1,11 +1,13 @@
 //! Events, whatever they are, one by one and one after another.
 ghost use Rattle.std.specs.Prelude.{◌≡◌};
+ghost use Rattle.trips_isa.specs.declared.run.Stepped.TheVariants.{Went};
 ghost use Rattle.commit_flush_spec.specs.Causes as causes;
 ghost use Rattle.commit_flush_spec.specs.Window.{can, done, happens, plays};
 ghost use Rattle.frame_events.specs.Events.{as_event, as_events, as_happened};
 
 use crate::window::Window;
-use frame_events::{Event, Happened};
+use frame_events::{Cause, Event, Happened};
+use trips_isa::Stepped;
 
 impl Window {
     // What an event does where it is done.
@@ -27,8 +29,8 @@ impl Window {
         }
     }
 
-    /// Lets an event happen, where no cause holds against it, and tells which does. Numbers may be any.
-    pub fn event(&mut self, e: Event) -> Happened
+    // Lets an event happen while the run goes on, where no cause holds against it: it is asked first.
+    fn ask_event(&mut self, e: Event) -> Happened
         ensures answer { as_happened result
             ≡ can self.old.image.blocks self.old.budget (as_event e) self.old.window }
         ensures window { self.new ≡ record self.old {
@@ -40,6 +42,36 @@ impl Window {
             self.make_happen(e);
         }
         happened
+    }
+
+    // Lets an event happen while the run goes on, where no cause holds against it.
+    fn event_now(&mut self, e: Event) -> Happened
+        requires goes_on { self.old.window.over ≡ Went }
+        ensures answer { as_happened result
+            ≡ can self.old.image.blocks self.old.budget (as_event e) self.old.window }
+        ensures window { self.new ≡ record self.old {
+          window = happens self.old.image.blocks self.old.budget (as_event e) self.old.window;
+        } }
+    {
+        match e {
+            Event::Fire { frame, slot } => self.try_fire(frame, slot),
+            Event::Deliver { token } => self.try_deliver(token),
+            _ => self.ask_event(e),
+        }
+    }
+
+    /// Lets an event happen, where no cause holds against it, and tells which does. Numbers may be any.
+    pub fn event(&mut self, e: Event) -> Happened
+        ensures answer { as_happened result
+            ≡ can self.old.image.blocks self.old.budget (as_event e) self.old.window }
+        ensures window { self.new ≡ record self.old {
+          window = happens self.old.image.blocks self.old.budget (as_event e) self.old.window;
+        } }
+    {
+        match self.over() {
+            Stepped::Went => self.event_now(e),
+            Stepped::Ended | Stepped::StackFull | Stepped::Trap(_) => Happened::NotNow(Cause::Over),
+        }
     }
 
     /// Plays events one after another.

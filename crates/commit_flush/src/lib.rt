@@ -20,6 +20,7 @@ mod orders;
 mod parts;
 mod storing;
 mod telling;
+mod trying;
 mod window;
 
 pub use window::Window;

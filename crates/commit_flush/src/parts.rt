@@ -1,11 +1,13 @@
 //! Changes of a window's parts, where no window stands while they change one after another.
-ghost use Rattle.std.specs.Prelude.{◌≡◌, ◌<◌, ◌≤◌, All, drop, length, take};
+ghost use Rattle.std.specs.Prelude.{◌≡◌, ◌<◌, ◌≤◌, All, Some, drop, length, take};
 ghost use Rattle.reg_bank.specs.Ages.{at, drop_from};
+ghost use Rattle.commit_flush_order.specs.Places.{place_of};
 ghost use Rattle.commit_flush.specs.Emptied.{IsEmptied};
 ghost use Rattle.commit_flush.specs.Tokens.{AwaitsToken, with_token};
 
+use crate::orders;
 use arrayvec::ArrayVec;
-use frame_events::{Phase, empty_in};
+use frame_events::{Arrival, Phase, empty_in};
 use reg_bank::Banks;
 use trips_isa::Token;
 
@@ -56,5 +58,19 @@ pub fn keep_token(banks: &mut Banks, age: Option<u8>, register: Option<u8>, toke
                 Some(token) => banks.write(age, register, token),
             },
         },
+    }
+}
+
+/// Has the banks keep a token that has come to a write of the frame of a number.
+#[tactic(auto, using(crate::proofs::TryFacts::no_register))]
+pub fn keep_arrival(banks: &mut Banks, order: &[u8], frame: u8, arrival: Arrival)
+    requires eight { length order.now ≤ 8 }
+    requires awaits { AwaitsToken (at banks.old) (place_of frame order.now) arrival.register }
+    ensures { at banks.new
+        ≡ with_token (at banks.old) (place_of frame order.now) arrival.register (Some arrival.token) }
+{
+    if arrival.register.is_some() {
+        let age = orders::place_of(order, frame);
+        keep_token(banks, age, arrival.register, Some(arrival.token));
     }
 }

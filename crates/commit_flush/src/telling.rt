@@ -1,13 +1,12 @@
 //! What is told of the frame of a number, and of the window as a whole.
 ghost use Rattle.std.specs.Prelude.{◌≡◌};
-ghost use Rattle.trips_isa.specs.Places.{in_mask};
 ghost use Rattle.commit_flush_spec.specs.Invariant.{AllGood};
 ghost use Rattle.commit_flush_spec.specs.Laws.{WindowOk};
 ghost use Rattle.frame_state.specs.Held.{exit_of};
 ghost use Rattle.frame_events.specs.Phases.{HasBlock, frame_in};
 ghost use Rattle.frame_events.specs.Told.{block_in, exit_come};
 ghost use Rattle.commit_flush_order.specs.Places.{frame_of};
-ghost use Rattle.commit_flush.specs.Telling.{number_of_exit, store_came_in, stored_in};
+ghost use Rattle.commit_flush.specs.Telling.{number_of_exit, stored_in};
 
 use crate::window::Window;
 use block_check::CheckedImage;
@@ -25,13 +24,6 @@ fn number_of_exit(exit: Option<Departure>) -> Option<u8>
     }
 }
 
-// Whether a mask has a store number.
-fn in_mask(mask: u32, number: u8) -> bool
-    ensures { result ≡ in_mask mask number }
-{
-    number < 32 && (mask >> number) % 2 == 1
-}
-
 // The resolved store of a number.
 fn stored_in(phase: &Phase, image: &CheckedImage, number: u8) -> Option<Stored>
     requires { HasBlock image.now.blocks phase.now }
@@ -40,17 +32,6 @@ fn stored_in(phase: &Phase, image: &CheckedImage, number: u8) -> Option<Stored>
     match flying(phase, image) {
         None => None,
         Some((held, _)) => held.stored(number),
-    }
-}
-
-// Whether a number has its store, or wants none.
-fn store_came_in(phase: &Phase, image: &CheckedImage, number: u8) -> bool
-    requires { HasBlock image.now.blocks phase.now }
-    ensures { result ≡ store_came_in number (frame_in image.now.blocks phase.now) }
-{
-    match flying(phase, image) {
-        None => false,
-        Some((held, block)) => !in_mask(block.mask, number) || held.stored(number).is_some(),
     }
 }
 
@@ -82,16 +63,6 @@ impl Window {
         match self.phase(frame) {
             None => None,
             Some(phase) => stored_in(phase, self.image(), number),
-        }
-    }
-
-    /// Whether a number of a frame in flight has its store, or wants none.
-    pub fn store_came(&self, frame: u8, number: u8) -> bool
-        ensures value { result ≡ store_came_in number (frame_of frame self.now.window.frames) }
-    {
-        match self.phase(frame) {
-            None => false,
-            Some(phase) => store_came_in(phase, self.image(), number),
         }
     }
 
