@@ -164,6 +164,10 @@ pub(crate) const TOO_LARGE: &[&str] = &[
     "unsigned short t[4294967295][4294967295];",
     "char t[1024][1024]; char c;",
     "int f(char a[][1048577]) { return 0; }",
+    "int f(int a[][4294967296]);",
+    "int t[][4294967296] = {{1}};",
+    "char t[4294967297][1];",
+    "char t[18446744073709551615u][18446744073709551615u];",
 ];
 
 // Texts of some lines, and their reports.
@@ -215,5 +219,9 @@ pub(crate) const AT_LINES: &[(&str, &str)] = &[
     (
         "int\nt\n[65536]\n[65536];\nint main(void) { return 0; }",
         "refused type 9 TooLarge line 2\n",
+    ),
+    (
+        "int t[2][2];\nint main(void) { return\nt[0][t[0][t[0][t[0][t[0][t[0][t[0][t[0][t[0][t[0][t[0][t[0][t[0][t[0][t[0][t[0][0]]]]]]]]]]]]]]]]; }",
+        "refused type 8 Need line 3\n",
     ),
 ];

@@ -54,6 +54,10 @@ pub(crate) const TWO_SIZES: &[(&str, &str)] = &[
         "int f(int a[][2]); int f(int b[4][1 + 1]) { return b[0][1]; } int t[3][2] = {{1, 2}}; int main(void) { return f(t); }",
         "2",
     ),
+    (
+        "int t[2][2]; int main(void) { return t[0][t[0][t[0][t[0][t[0][t[0][t[0][t[0][t[0][t[0][t[0][t[0][t[0][t[0][t[0][0]]]]]]]]]]]]]]] + 3; }",
+        "3",
+    ),
 ];
 
 // The two short types: promotions, conversions, and operators at the edges of their ranges.
@@ -156,6 +160,18 @@ pub(crate) const SHORTS: &[(&str, &str)] = &[
         "signed short a = 1; short int b = 2; signed short int c = 3; unsigned short d = -1; unsigned short int e = -2; short x[2] = {40000, -40000}; int main(void) { return a + b + c + d + e + x[0] + x[1]; }",
         "131075",
     ),
+    (
+        "int main(void) { short s[3]; unsigned short t[3]; s[0] = -1; t[0] = -1; s[1] = 7; t[1] = 9; return (s[0] == t[0]) * 1000 + s[0] * t[1] + s[1]; }",
+        "-2",
+    ),
+    (
+        "short s = -32768; int main(void) { s = -s; return s; }",
+        "-32768",
+    ),
+    (
+        "unsigned short s = 1; int main(void) { return s - 2 < 0; }",
+        "1",
+    ),
 ];
 
 // A switch costs a step and each compared label of a case one; two indexes are two nodes.
@@ -245,4 +261,7 @@ pub(crate) const LARGER_UNDEFINED: &[&str] = &[
     "int main(void) { unsigned short x = 65535; return x << 16; }",
     "int main(void) { short x = -1; return x << 1; }",
     "int main(void) { short x = 1; return x << 31; }",
+    "int main(void) { int x; switch (2) { case 1: x = 3; } return x; }",
+    "int f(void) { switch (1) { case 0: return 3; } } int main(void) { return f(); }",
+    "int main(void) { int i; int s = 0; for (i = 0; i < 2; i++) switch (i) { case 0: { int x; x = 1; s += x; } default: { int x; if (i == 1) s += x; } } return s; }",
 ];

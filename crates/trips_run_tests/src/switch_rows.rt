@@ -142,4 +142,40 @@ pub(crate) const SWITCHES: &[(&str, &str)] = &[
         "int f(int n) { switch (n) { case 0: return 0; } return f(n - 1); } int main(void) { return f(6551); }",
         "0",
     ),
+    (
+        "int main(void) { int i; int s = 0; for (i = 0; i < 4; i++) if (i & 1) switch (i) { case 1: continue; default: s += 7; break; } else s++; return s; }",
+        "9",
+    ),
+    (
+        "int f(void) { switch (1) { case 0: return 3; } } int main(void) { f(); return 4; }",
+        "4",
+    ),
+    (
+        "void f(int x) { switch (x) { case 1: return; } } int main(void) { f(1); f(2); return 4; }",
+        "4",
+    ),
+    (
+        "int main(void) { switch (1) { case 1: for (;;) { switch (2) { case 2: break; } break; } } return 6; }",
+        "6",
+    ),
+    (
+        "int main(void) { int i = 0; do switch (i) { case 0: continue; default: break; } while (i++ < 3); return i; }",
+        "4",
+    ),
+    (
+        "char x = 5; int main(void) { switch (x--) { case 5: switch (x) { case 4: return 9; } } return 1; }",
+        "9",
+    ),
+    (
+        "unsigned u = 4294967295u; int main(void) { switch (u) { case -1l: return 1; } return 0; }",
+        "1",
+    ),
+    (
+        "unsigned u = 4294967295u; int main(void) { switch (u + 0l) { case -1: return 1; case 4294967295: return 2; } return 0; }",
+        "2",
+    ),
+    (
+        "int main(void) { int x; switch (1) { case 1: x = 3; } return x; }",
+        "3",
+    ),
 ];
