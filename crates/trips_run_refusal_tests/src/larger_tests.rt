@@ -29,6 +29,15 @@ fn assert_refused(
     Ok(())
 }
 
+// A `main` with this body, behind these items.
+fn main_of(alloc: Global, items: &str, body: &str) -> Result<String, AllocError> {
+    let mut text = String::from_str(alloc, items)?;
+    text.push_str(" int main(void) { ")?;
+    text.push_str(body)?;
+    text.push_str(" }")?;
+    Ok(text)
+}
+
 // Each body of `main`, behind the same items, is refused so.
 fn assert_bodies(
     rt: &impl Abort,
@@ -38,7 +47,7 @@ fn assert_bodies(
     report: &str,
 ) -> Result<(), AllocError> {
     for body in bodies {
-        let text = format!(in alloc; "{items}int main(void) {{ {body} }}")?;
+        let text = main_of(alloc, items, *body)?;
         assert_refused(rt, alloc, text.as_str(), report)?;
     }
     Ok(())
@@ -52,7 +61,7 @@ fn assert_items(
     report: &str,
 ) -> Result<(), AllocError> {
     for item in items {
-        let text = format!(in alloc; "{item} int main(void) {{ return 0; }}")?;
+        let text = main_of(alloc, *item, "return 0;")?;
         assert_refused(rt, alloc, text.as_str(), report)?;
     }
     Ok(())
