@@ -1,6 +1,7 @@
 pub mod StepFacts
 pub mod SearchFacts
 pub mod PickFacts
-pub mod TidyFacts
+pub mod OldestFacts
+pub mod BitFacts
 pub mod DriveFacts
 pub mod RoomFacts

@@ -1,9 +1,11 @@
 -- The least number from one up to another that passes a test.
 use Rattle.std.proofs.Common.{◌≡◌, ℕ, zero, suc, ◌+◌, ◌-◌, ◌<◌, ◌≤◌, Bool, true, false, cond, Option, Some, None}
-use Rattle.std.proofs.Common.{refl, sym, ap, ap₂, ◌∙◌, arith}
+use Rattle.std.proofs.Common.{refl, sym, ap, ◌∙◌, arith}
 use Rattle.trips_isa.specs.Tables.{or_else}
-use Rattle.window_progress.specs.NextEvent.{lowest, places, slots}
-use Rattle.window_drive.proofs.StepFacts.{places_are, slots_are}
+use Rattle.commit_flush_spec.specs.Frames.{numbers}
+use Rattle.window_progress.specs.NextEvent.{lowest, reads, slots}
+use Rattle.window_progress.proofs.Stuck.{numbers_are}
+use Rattle.window_drive.proofs.StepFacts.{reads_are, slots_are}
 
 -- one number more, which does not pass
 pub passes : (test : ℕ → Bool) (k t : ℕ) → test k ≡ false → k < t
@@ -60,7 +62,7 @@ split test k m t a b =
     ap (λ n. lowest test n k) all ∙ parts test (m - k) (t - m) k
     ∙ ap (λ x. or_else (lowest test (m - k) k) (lowest test (t - m) x)) here
 
-none_between : (test : ℕ → Bool) (k t : ℕ) → k ≤ t → ((i : ℕ) → k ≤ i → i < t → test i ≡ false)
+pub none_between : (test : ℕ → Bool) (k t : ℕ) → k ≤ t → ((i : ℕ) → k ≤ i → i < t → test i ≡ false)
     → lowest test (t - k) k ≡ None
 none_between test k t l h = nothing test (t - k) k (λ i a b. h i a (omega (arith, l, b)))
 
@@ -85,19 +87,20 @@ behind test k m t a b h =
 pub whole : (test : ℕ → Bool) (n m : ℕ) (a : Option ℕ) → a ≡ lowest test (n - 0) 0 → n ≡ m → a ≡ lowest test m 0
 whole test n m a e i = let z : n - 0 ≡ m = omega (arith, i) in e ∙ ap (λ x. lowest test x 0) z
 
--- the places of the slots of a block, and of its reads
-pub of_places : (test : ℕ → Bool) (x y : ℕ) (a b : Option ℕ) → x ≤ 256 → y ≤ 320 → 256 ≤ y
-    → ((p : ℕ) → x ≤ p → p < 256 → test p ≡ false) → ((p : ℕ) → y ≤ p → test p ≡ false)
-    → a ≡ lowest test (x - 0) 0 → b ≡ lowest test (y - 256) 256 → or_else a b ≡ lowest test places 0
-of_places test x y a b lx ly low first last e i =
-    ap₂ or_else e (i ∙ sym (before test 256 y 320 low ly (λ p l m. last p l))
-    ∙ sym (behind test x 256 320 lx (omega arith) first))
-    ∙ sym (split test 0 x 320 (omega arith) (omega (arith, lx)))
-    ∙ (let z : 320 - 0 ≡ places = omega (arith, places_are) in ap (λ n. lowest test n 0) z)
+-- all slots
+pub of_slots : (test : ℕ → Bool) (a : Option ℕ) → a ≡ lowest test (128 - 0) 0 → a ≡ lowest test slots 0
+of_slots test a e = whole test 128 slots a e (sym slots_are)
 
--- the slots of a block
-pub of_slots : (test : ℕ → Bool) (x : ℕ) (a : Option ℕ) → x ≤ 128 → ((k : ℕ) → x ≤ k → test k ≡ false)
-    → a ≡ lowest test (x - 0) 0 → a ≡ lowest test slots 0
-of_slots test x a l off e =
-    e ∙ sym (before test 0 x 128 (omega arith) l (λ k m n. off k m))
-    ∙ (let z : 128 - 0 ≡ slots = omega (arith, slots_are) in ap (λ n. lowest test n 0) z)
+-- the reads of a block
+pub of_reads : (test : ℕ → Bool) (x : ℕ) (a : Option ℕ) → x ≤ 32 → ((k : ℕ) → x ≤ k → test k ≡ false)
+    → a ≡ lowest test (x - 0) 0 → a ≡ lowest test reads 0
+of_reads test x a l off e =
+    e ∙ sym (before test 0 x 32 (omega arith) l (λ k m n. off k m))
+    ∙ (let z : 32 - 0 ≡ reads = omega (arith, reads_are) in ap (λ n. lowest test n 0) z)
+
+-- all numbers, and none of them
+pub of_numbers : (test : ℕ → Bool) (a : Option ℕ) → a ≡ lowest test (32 - 0) 0 → a ≡ lowest test numbers 0
+of_numbers test a e = whole test 32 numbers a e (sym numbers_are)
+
+pub no_number : (test : ℕ → Bool) → ((k : ℕ) → k < 32 → test k ≡ false) → None ≡ lowest test numbers 0
+no_number test off = of_numbers test None (sym (none_between test 0 32 (omega arith) (λ i a b. off i b)))

@@ -1,17 +1,22 @@
 -- What a running frame holds tells which of its steps may be taken; and how many numbers each step has.
-use Rattle.std.proofs.Common.{◌≡◌, ℕ, ◌<◌, ◌≤◌, Bool, true, false, not, ◌&&◌, ◌||◌, [], ◌∷◌, length}
+use Rattle.std.proofs.Common.{◌≡◌, ℕ, zero, suc, ◌<◌, ◌≤◌, Bool, true, false, not, ◌&&◌, ◌||◌, List, [], ◌∷◌, length}
+use Rattle.std.proofs.Common.{slice_get, slice_index_or}
 use Rattle.std.proofs.Common.{Option, Some, None, is_some, is_none, sym, ap, ◌∙◌, subst, true≢false, refl, arith}
 use Rattle.trips_isa.specs.declared.block.Block.{Block}
-use Rattle.trips_isa.specs.declared.block.Inst.{Inst}
+use Rattle.trips_isa.specs.declared.form.Form.{Form}
+use Rattle.trips_isa.specs.Forms.{is_load, is_store}
 use Rattle.trips_isa.specs.declared.block.ReadSlot.{ReadSlot}
 use Rattle.trips_isa.specs.Machine.{State}
 use Rattle.trips_isa.specs.Rule.{Answer}
 use Rattle.block_cases.specs.Orders.{slot_of}
-use Rattle.commit_flush_spec.specs.Frames.{at, target, is_target}
+use Rattle.commit_flush_spec.specs.Frames.{at, slot_node, target, is_target}
+use Rattle.commit_flush_spec.specs.Memory.{is_request, with_inst}
+use Rattle.commit_flush_spec.specs.Sending.{token_with}
 use Rattle.commit_flush_spec.specs.Older.{Older, committed}
 use Rattle.commit_flush_spec.specs.Causes.{NoFrame, NoRead, NotYet, NoInst, NotReady, NoToken, NoRequest, judged}
 use Rattle.commit_flush_spec.specs.Dataflow.{read_seen}
 use Rattle.frame_state.specs.Held.{Held, running}
+use Rattle.frame_state.specs.Shapes.{is_ready}
 use Rattle.window_progress.specs.NextEvent.{is_done, places, slots, reads}
 use Rattle.window_progress.proofs.Stuck.{numbers_are}
 use Rattle.window_drive.specs.declared.step.Step.{Step}
@@ -95,14 +100,47 @@ pub place_off : (b : Block) (h : Held) (o : Older) (p : ℕ) → at h.places p �
 place_off b h o p e =
     ap (λ t. is_done (judged ((false, NoToken) ∷ (is_none t, NoToken) ∷ (not (is_target (target b p)), NoToken) ∷ []))) e
 
-slot_none : (z : Option Inst) (c x : Bool) → z ≡ None
-    → is_done (judged ((false, NoFrame) ∷ (is_none z || c, NoInst) ∷ (x, NotReady) ∷ [])) ≡ false
-slot_none None c x e = refl
-slot_none (Some i) c x e = absurd (cc)
+read_none : (q : Option ReadSlot) (c x : Bool) → q ≡ None
+    → is_done (judged ((false, NoFrame) ∷ (is_none q || c, NoRead) ∷ (x, NotYet) ∷ [])) ≡ false
+read_none None c x e = refl
+read_none (Some r) c x e = absurd (cc)
 
-pub slot_off : (b : Block) (h : Held) (o : Older) (k : ℕ) → slot_of b k ≡ None
-    → is_next Firing o (running b h) k ≡ false
-slot_off b h o k e = slot_none (slot_of b k) _ _ e
+past_reads : (rs : List ReadSlot) (k : ℕ) → length rs ≤ k → slice_get rs k ≡ None
+past_reads [] k l = refl
+past_reads (r ∷ rs) zero l = absurd (omega (arith, l))
+past_reads (r ∷ rs) (suc k) l = past_reads rs k (omega (arith, l))
+
+-- a read that the block does not declare
+pub read_off : (b : Block) (h : Held) (o : Older) (k : ℕ) → length b.reads.items ≤ k
+    → is_next Read o (running b h) k ≡ false
+read_off b h o k l = read_none (slice_get b.reads.items k) _ _ (past_reads b.reads.items k l)
+
+no_request : (p : Form → Bool) (b : Block) (z : Option ℕ) (y : Bool) → z ≡ None
+    → (is_done (judged ((false, NoFrame) ∷ (not (is_request p (with_inst b z)), NoRequest) ∷ [])) && y) ≡ false
+no_request p b None y e = refl
+no_request p b (Some t) y e = absurd (cc)
+
+-- a number with which nothing waits
+pub store_off : (b : Block) (h : Held) (o : Older) (k : ℕ) → at h.requests k ≡ None
+    → is_next Store o (running b h) k ≡ false
+store_off b h o k e = no_request is_store b (at h.requests k) _ e
+
+pub load_off : (b : Block) (h : Held) (o : Older) (k : ℕ) → at h.requests k ≡ None
+    → is_next Load o (running b h) k ≡ false
+load_off b h o k e = no_request is_load b (at h.requests k) _ e
+
+-- a slot that is ready
+ready_is : (z : Bool) (t : Answer) → (not z && is_some t)
+    ≡ is_done (judged ((false, NoFrame) ∷ (z, NoInst) ∷ (is_none t, NotReady) ∷ []))
+ready_is true None = refl
+ready_is true (Some v) = refl
+ready_is false None = refl
+ready_is false (Some v) = refl
+
+pub ready_next : (b : Block) (h : Held) (o : Older) (k : ℕ)
+    → is_ready (running b h) k ≡ is_next Firing o (running b h) k
+ready_next b h o k = ready_is (is_none (slot_of b k) || slice_index_or h.fired k false)
+    (token_with (running b h) (slot_node b k) 0)
 
 -- bounds of numbers -------------------------------------------------------------------------------
 

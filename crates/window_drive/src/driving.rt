@@ -5,7 +5,7 @@ ghost use Rattle.trips_isa.specs.Machine.{runs};
 ghost use Rattle.window_progress.specs.Driving.{driven};
 ghost use Rattle.window_progress.specs.Laws.{HasGenerations};
 
-use crate::known::recall;
+use crate::known::remember;
 use crate::next::next_with;
 use commit_flush::Window;
 use trips_isa::Stepped;
@@ -24,9 +24,9 @@ pub fn drive(window: &mut Window) -> Stepped
 {
     window.keeps_invariant();
     let mut known = None;
-    while let Some(e) = next_with(window, known) {
+    while let Some(e) = next_with(window, &known) {
         window.keeps_invariant();
-        known = recall(window, known);
+        remember(&mut known, window, e);
         let _ = window.event(e);
     }
     window.over()

@@ -1,77 +1,66 @@
 //! What driving remembers of the block that it works on.
-ghost use Rattle.std.specs.Prelude.{◌≡◌, List, Some, slice_get};
+ghost use Rattle.std.specs.Prelude.{◌≡◌, ◌<◌, IfSome, List, Some, length, slice_get};
 ghost use Rattle.trips_isa.specs.declared.block.Block.{Block};
-ghost use Rattle.window_drive.specs.Known.{IsKnown, IsUsed};
+ghost use Rattle.frame_state.specs.Shapes.{IsShape};
+ghost use Rattle.window_drive.specs.Known.{IsKnown};
 
+use block_check::CheckedImage;
 use commit_flush::Window;
-use trips_isa::Block;
+use frame_events::{Event, block_at};
+use frame_state::Shape;
 
-/// The number of a block of the image, and a number of slots behind which it has none.
-#[derive(Clone, Copy, Debug, PartialEq, Eq)]
+/// The number of a block of the image, and its shape.
+#[derive(Drop)]
 pub struct Known {
     pub block: u32,
-    pub used: u16,
+    pub shape: Shape,
 }
 
-// The number of slots up to the last that holds an instruction.
-fn used_slots(block: &Block) -> u16
-    ensures { IsUsed block.now result }
-{
-    let insts = block.insts.as_slice();
-    let mut used = insts.len();
-    while used > 0 && insts[used - 1].is_none() {
-        used -= 1;
-    }
-    used as u16
-}
-
-/// The number of slots that the block of a number uses, by what is known, or looked for.
-pub fn used_of(known: Option<Known>, number: u32, block: &Block) -> u16
-    ensures { (blocks : List Block) → IsKnown blocks known → slice_get blocks number ≡ Some block.now
-        → IsUsed block.now result }
+/// The shape of the block of a number, where it is known.
+pub fn shape_of(known: &Option<Known>, number: u32) -> Option<&Shape>
+    ensures { (blocks : List Block) (b : Block) → IsKnown blocks known.now → slice_get blocks number ≡ Some b
+        → IfSome result (λ x. IsShape b x.now) }
 {
     match known {
-        None => used_slots(block),
+        None => None,
         Some(known) => {
             if known.block == number {
-                known.used
+                Some(&known.shape)
             } else {
-                used_slots(block)
+                None
             }
         }
     }
 }
 
-// That, as it is remembered.
-fn learnt(known: Option<Known>, number: u32, block: &Block) -> Known
-    ensures { (blocks : List Block) → IsKnown blocks known → slice_get blocks number ≡ Some block.now
-        → IsKnown blocks (Some result) }
+// What is known of a block of the image.
+fn learnt(image: &CheckedImage, number: u32) -> Known
+    requires { number < length image.now.blocks }
+    ensures { IsKnown image.now.blocks (Some result) }
 {
     Known {
         block: number,
-        used: used_of(known, number, block),
+        shape: Shape::make(block_at(image, number)),
     }
 }
 
-// What is known of a frame's block, where it runs.
-fn recall_at(window: &Window, known: Option<Known>, frame: u8) -> Option<Known>
-    requires { IsKnown window.now.image.blocks known }
-    ensures { IsKnown window.now.image.blocks result }
+// Remembers a block of the image, where it is another than before.
+fn remember_block(known: &mut Option<Known>, image: &CheckedImage, number: u32)
+    requires { IsKnown image.now.blocks known.old }
+    ensures { IsKnown image.now.blocks known.new }
 {
-    window.keeps_invariant();
-    match window.running(frame) {
-        None => known,
-        Some((held, block)) => Some(learnt(known, held.block(), block)),
+    if shape_of(known, number).is_none() && number < image.count() {
+        *known = Some(learnt(image, number));
     }
 }
 
-/// What is known of the oldest frame's block, where one runs.
-pub fn recall(window: &Window, known: Option<Known>) -> Option<Known>
-    requires { IsKnown window.now.image.blocks known }
-    ensures { IsKnown window.now.image.blocks result }
+/// Remembers the block that an event fetches.
+pub fn remember(known: &mut Option<Known>, window: &Window, e: Event)
+    requires { IsKnown window.now.image.blocks known.old }
+    ensures { IsKnown window.now.image.blocks known.new }
 {
-    match window.frame_at(0) {
-        None => known,
-        Some(frame) => recall_at(window, known, frame),
+    match e {
+        Event::Fetch { block } => remember_block(known, window.image(), block),
+        _ => {}
     }
 }

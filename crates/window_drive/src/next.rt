@@ -1,5 +1,5 @@
 //! Which event of a window is next.
-ghost use Rattle.std.specs.Prelude.{◌≡◌, Some, slice_get};
+ghost use Rattle.std.specs.Prelude.{◌≡◌, ◌<◌, IfSome, Some, slice_get};
 ghost use Rattle.trips_isa.specs.Machine.{State};
 ghost use Rattle.trips_isa.specs.Tables.{or_else};
 ghost use Rattle.trips_isa.specs.declared.block.Block.{Block};
@@ -7,27 +7,27 @@ ghost use Rattle.trips_isa.specs.declared.run.Stepped.TheVariants.{Went};
 ghost use Rattle.commit_flush_spec.specs.Older.{Older, committed};
 ghost use Rattle.commit_flush_order.specs.Places.{numbers_of};
 ghost use Rattle.frame_state.specs.Held.{running};
+ghost use Rattle.frame_state.specs.Shapes.{IsShape};
 ghost use Rattle.window_progress.specs.NextEvent as spec;
-ghost use Rattle.window_drive.specs.Known.{IsKnown, IsUsed};
+ghost use Rattle.window_drive.specs.Known.{IsKnown};
 ghost use Rattle.window_drive.specs.Steps.{as_next, next_at};
-ghost use Rattle.window_drive.specs.Tidy.{IsTidy};
 
-use crate::known::{Known, used_of};
+use crate::known::{Known, shape_of};
 use crate::searching::lowest;
 use crate::step::Step;
 use commit_flush::Window;
 use frame_events::Event;
-use frame_state::Body;
+use frame_state::{Body, Shape};
 use trips_isa::{Block, Stepped};
 
 // The event of the lowest number of a step of the oldest frame that may be taken.
-fn next_at(held: &Body, block: &Block, used: u16, step: Step) -> Option<Event>
-    requires tidy { IsTidy (running block.now held.now) }
-    requires used { IsUsed block.now used }
+fn next_at(held: &Body, block: &Block, shape: Option<&Shape>, step: Step) -> Option<Event>
+    requires number { held.now.number < 8 }
+    requires shape { IfSome shape (λ x. IsShape block.now x.now) }
     ensures { (s : State) → as_next result ≡ next_at step (committed s) (running block.now held.now) }
 {
     let frame = held.number();
-    match lowest(held, block, used, step) {
+    match lowest(held, block, shape, step) {
         None => None,
         Some(number) => Some(step.event(frame, number)),
     }
@@ -45,58 +45,58 @@ fn next_exit(held: &Body) -> Option<Event>
 }
 
 // The loads and stores of the oldest frame, and its exit.
-fn next_request(held: &Body, block: &Block, used: u16) -> Option<Event>
-    requires tidy { IsTidy (running block.now held.now) }
-    requires used { IsUsed block.now used }
+fn next_request(held: &Body, block: &Block, shape: Option<&Shape>) -> Option<Event>
+    requires number { held.now.number < 8 }
+    requires shape { IfSome shape (λ x. IsShape block.now x.now) }
     ensures { (s : State) → as_next result
         ≡ or_else (spec.next_store (committed s) (running block.now held.now))
         (or_else (spec.next_load (committed s) (running block.now held.now))
         (spec.next_exit (committed s) (running block.now held.now))) }
 {
-    if let Some(e) = next_at(held, block, used, Step::Store) {
+    if let Some(e) = next_at(held, block, shape, Step::Store) {
         return Some(e);
     }
-    if let Some(e) = next_at(held, block, used, Step::Load) {
+    if let Some(e) = next_at(held, block, shape, Step::Load) {
         return Some(e);
     }
     next_exit(held)
 }
 
 // The step of the oldest frame that is next.
-fn next_step(held: &Body, block: &Block, used: u16) -> Option<Event>
-    requires tidy { IsTidy (running block.now held.now) }
-    requires used { IsUsed block.now used }
+fn next_step(held: &Body, block: &Block, shape: Option<&Shape>) -> Option<Event>
+    requires number { held.now.number < 8 }
+    requires shape { IfSome shape (λ x. IsShape block.now x.now) }
     ensures { (s : State) → as_next result ≡ spec.next_step (committed s) (running block.now held.now) }
 {
-    if let Some(e) = next_at(held, block, used, Step::Token) {
+    if let Some(e) = next_at(held, block, shape, Step::Token) {
         return Some(e);
     }
-    if let Some(e) = next_at(held, block, used, Step::Firing) {
+    if let Some(e) = next_at(held, block, shape, Step::Firing) {
         return Some(e);
     }
-    if let Some(e) = next_at(held, block, used, Step::Read) {
+    if let Some(e) = next_at(held, block, shape, Step::Read) {
         return Some(e);
     }
-    next_request(held, block, used)
+    next_request(held, block, shape)
 }
 
 // The event of the oldest frame that is next, where it runs.
-fn next_of_running(held: &Body, block: &Block, used: u16) -> Option<Event>
-    requires tidy { IsTidy (running block.now held.now) }
-    requires used { IsUsed block.now used }
+fn next_of_running(held: &Body, block: &Block, shape: Option<&Shape>) -> Option<Event>
+    requires number { held.now.number < 8 }
+    requires shape { IfSome shape (λ x. IsShape block.now x.now) }
     ensures { (s : State) → as_next result ≡ spec.next_of_frame (committed s) (running block.now held.now) }
 {
     let frame = held.number();
     if held.is_complete(block) {
         Some(Event::Seal { frame })
     } else {
-        next_step(held, block, used)
+        next_step(held, block, shape)
     }
 }
 
 // The event of the oldest frame that is next: one that does not run is sealed, and is committed.
-fn next_of_frame(window: &Window, known: Option<Known>, frame: u8) -> Option<Event>
-    requires known { IsKnown window.now.image.blocks known }
+fn next_of_frame(window: &Window, known: &Option<Known>, frame: u8) -> Option<Event>
+    requires known { IsKnown window.now.image.blocks known.now }
     requires oldest { slice_get (numbers_of window.now.window.frames) 0 ≡ Some frame }
     ensures { as_next result ≡ spec.next_in window.now.window.frames window.now.window.state }
 {
@@ -104,15 +104,15 @@ fn next_of_frame(window: &Window, known: Option<Known>, frame: u8) -> Option<Eve
     match window.running(frame) {
         None => Some(Event::Commit),
         Some((held, block)) => {
-            let used = used_of(known, held.block(), block);
-            next_of_running(held, block, used)
+            let shape = shape_of(known, held.block());
+            next_of_running(held, block, shape)
         }
     }
 }
 
 // The next event while the run goes on.
-fn next_while_going(window: &Window, known: Option<Known>) -> Option<Event>
-    requires known { IsKnown window.now.image.blocks known }
+fn next_while_going(window: &Window, known: &Option<Known>) -> Option<Event>
+    requires known { IsKnown window.now.image.blocks known.now }
     requires goes_on { window.now.window.over ≡ Went }
     ensures { as_next result ≡ spec.next_event window.now.budget window.now.window }
 {
@@ -129,8 +129,8 @@ fn next_while_going(window: &Window, known: Option<Known>) -> Option<Event>
 }
 
 /// The next event, where this is known of a block of the image.
-pub fn next_with(window: &Window, known: Option<Known>) -> Option<Event>
-    requires known { IsKnown window.now.image.blocks known }
+pub fn next_with(window: &Window, known: &Option<Known>) -> Option<Event>
+    requires known { IsKnown window.now.image.blocks known.now }
     ensures value { as_next result ≡ spec.next_event window.now.budget window.now.window }
 {
     match window.over() {
@@ -144,5 +144,5 @@ pub fn next_with(window: &Window, known: Option<Known>) -> Option<Event>
 pub fn next_event(window: &Window) -> Option<Event>
     ensures value { as_next result ≡ spec.next_event window.now.budget window.now.window }
 {
-    next_with(window, None)
+    next_with(window, &None)
 }

@@ -13,8 +13,8 @@ loop-e-preserved c = record {
   on = turn c.args.window.now c.loop-e.window c.event.new.self (as_event c.in-Some.e) c.loop-e.invariant.on
       c.keeps_invariant-in-Some.ensures.blocks c.keeps_invariant-in-Some.ensures.window c.in-Some.ensures.value
       c.event.ensures.window;
-  known = stays_known c.loop-e.window c.event.new.self _ c.recall-known.result c.event.ensures.window
-      c.recall-known.ensures;
+  known = stays_known c.loop-e.window c.event.new.self _ c.remember.new.known c.event.ensures.window
+      c.remember.ensures;
 }
 
 pub returns-clause-driven : goal.returns-clause-driven

@@ -1,19 +1,19 @@
-use Rattle.std.proofs.Common.{◌≡◌, Some, slice_get, ap, ◌∙◌}
+use Rattle.std.proofs.Common.{slice_get, ap, ◌∙◌}
 use Rattle.frame_state.specs.Held.{running}
 use Rattle.window_drive.proofs.PickFacts.{idle_next, found_next}
-use Rattle.window_drive.proofs.TidyFacts.{code_at, tidy_oldest}
+use Rattle.window_drive.proofs.OldestFacts.{code_at, number_oldest}
 use Rattle.window_drive.proofs.next.next_of_frame.Goals as goal
 
-pub next_of_running-requires-clause-tidy : goal.next_of_running-requires-clause-tidy
-next_of_running-requires-clause-tidy c =
+pub next_of_running-requires-clause-number : goal.next_of_running-requires-clause-number
+next_of_running-requires-clause-number c =
     let w = c.args.window.now in
-    tidy_oldest w.image.blocks w.budget w.window c.args.frame (running c.in-Some.block.now c.in-Some.held.now)
+    number_oldest w.image.blocks w.budget w.window c.args.frame (running c.in-Some.block.now c.in-Some.held.now)
     c.keeps_invariant.ensures.window c.requires.oldest c.in-Some.ensures.value
 
-pub next_of_running-requires-clause-used : goal.next_of_running-requires-clause-used
-next_of_running-requires-clause-used c =
+pub next_of_running-requires-clause-shape : goal.next_of_running-requires-clause-shape
+next_of_running-requires-clause-shape c =
     let w = c.args.window.now in
-    c.used_of-used.ensures w.image.blocks c.requires.known
+    c.shape_of-shape.ensures w.image.blocks c.in-Some.block.now c.requires.known
     (ap (slice_get w.image.blocks) c.block.ensures.value
     ∙ code_at w.image.blocks w.budget w.window c.args.frame (running c.in-Some.block.now c.in-Some.held.now)
     c.keeps_invariant.ensures.window c.in-Some.ensures.value)
