@@ -6,3 +6,5 @@ pub mod Turns
 pub mod Results
 pub mod Followed
 pub mod Places
+pub mod Parts
+pub mod Unwinds

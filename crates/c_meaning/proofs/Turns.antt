@@ -1,28 +1,23 @@
--- A turn of the evaluator's loop keeps what is ahead and leaves less to be done.
+-- A turn of the evaluator's loop keeps what is ahead.
 use Rattle.std.proofs.Common.{◌≡◌, ℕ, zero, suc, ◌+◌, ◌*◌, ◌<◌, ◌≤◌, Bool, true, false, List, []}
 use Rattle.std.proofs.Common.{◌∷◌, ◌++◌, map, reverse, length, nat_eq, refl, sym, ap, ◌∙◌, arith}
 use Rattle.std.proofs.lemmas.Bool.Decides.{nat_tests}
 use Rattle.std.proofs.lemmas.List.{length-reverse, length-map}
-use Rattle.c_tree.specs.declared.Callee.{Callee}
 use Rattle.c_tree.specs.declared.TypedProgram.{TypedProgram}
 use Rattle.c_meaning_spec.specs.declared.Signal.{Signal}
 use Rattle.c_meaning_spec.specs.declared.Ending.{Ending}
 use Rattle.c_meaning_spec.specs.State.{State, Result, Go, Over, then}
 use Rattle.c_meaning_spec.specs.Task.{Task}
-use Rattle.c_meaning_spec.specs.Call.{called}
 use Rattle.c_meaning_spec.specs.Eval.{meaning}
 use Rattle.c_meaning_steps.specs.Follow.{Follow}
-use Rattle.c_meaning_steps.specs.ExpressionSteps.{called_step}
-use Rattle.c_meaning_steps.specs.StatementSteps.{act_step}
 use Rattle.c_meaning_steps.specs.ResumeSteps.{resume_step}
-use Rattle.c_meaning_steps.specs.Ahead.{Next, ToDo, Given, Ended, ahead_next, rank, is_over, is_empty}
+use Rattle.c_meaning_steps.specs.Ahead.{Next, ToDo, Given, Ended, ahead_next, is_over, is_empty}
 use Rattle.c_meaning_steps.specs.Ahead.{unwind_of, IsReached, IsStep}
-use Rattle.c_meaning_steps.proofs.ExpressionMoves.{s-called}
-use Rattle.c_meaning_steps.proofs.Moves.{act-keeps, resume-keeps, step-ahead, ahead-is}
-use Rattle.c_meaning_steps.proofs.Ranks.{act-falls, resume-falls}
+use Rattle.c_meaning_steps.proofs.Moves.{resume-keeps}
 use Rattle.c_meaning.specs.View.{follow, frames}
 use Rattle.c_meaning.specs.declared.frame.Frame.{Frame}
 use Rattle.c_meaning.proofs.Lists.{stack_push}
+use Rattle.c_meaning.proofs.Unwinds.{then-on}
 
 pub frames-length : (fs : List Frame) → length (frames fs) ≡ length fs
 unfolding frames
@@ -33,22 +28,10 @@ pub frames-top : (old rest : List Frame) (f : Frame) → old ≡ rest ++ f ∷ [
 unfolding frames
 frames-top old rest f e = ap (λ (fs : List Frame). reverse (map follow fs)) e ∙ stack_push rest f
 
-pub do-kept : (P : TypedProgram) (t : Task) (s s' : State) (n n0 : Next) (old new : List Frame)
-    → n0 ≡ ToDo t → IsStep (act_step P t s) n s' (frames old) (frames new)
-    → ahead_next P n (frames new) s' ≡ ahead_next P n0 (frames old) s
-do-kept P t s s' n n0 old new e h = act-keeps P t s n s' (frames old) (frames new) h
-    ∙ ap (λ (m : Next). ahead_next P m (frames old) s) (sym e)
-
-pub do-less : (P : TypedProgram) (t : Task) (s s' : State) (n n0 : Next) (old new : List Frame)
-    → n0 ≡ ToDo t → IsStep (act_step P t s) n s' (frames old) (frames new)
-    → rank n s'.stock (length new) < rank n0 s.stock (length old)
-do-less P t s s' n n0 old new e h =
-    let a = act-falls P t s n s' (frames old) (frames new) h in
-    let b = frames-length old in
-    let c = frames-length new in
-    let d : rank n0 s.stock (length old) ≡ rank (ToDo t) s.stock (length old) =
-    ap (λ (m : Next). rank m s.stock (length old)) e in
-    omega arith
+push-on : (fs : List Frame) (f : Frame) (gs : List Follow)
+    → map follow fs ++ follow f ∷ gs ≡ map follow (fs ++ f ∷ []) ++ gs
+push-on [] f gs = refl
+push-on (g ∷ fs) f gs = ap (λ (xs : List Follow). follow g ∷ xs) (push-on fs f gs)
 
 pub give-kept : (P : TypedProgram) (f : Frame) (v : Signal) (s s' : State) (n n0 : Next)
     (old rest new : List Frame) → n0 ≡ Given v → old ≡ rest ++ f ∷ []
@@ -58,19 +41,6 @@ give-kept P f v s s' n n0 old rest new e o h =
     resume-keeps P (follow f) v s n s' (frames rest) (frames new) h ∙
     (ap (λ (fs : List Follow). ahead_next P (Given v) fs s) (sym (frames-top old rest f o))
     ∙ ap (λ (m : Next). ahead_next P m (frames old) s) (sym e))
-
-pub give-less : (P : TypedProgram) (f : Frame) (v : Signal) (s s' : State) (n n0 : Next)
-    (old rest new : List Frame) → n0 ≡ Given v → old ≡ rest ++ f ∷ []
-    → IsStep (resume_step P (follow f) v s) n s' (frames rest) (frames new)
-    → rank n s'.stock (length new) < rank n0 s.stock (length old)
-give-less P f v s s' n n0 old rest new e o h =
-    let a = resume-falls P (follow f) v s n s' (frames rest) (frames new) h in
-    let b : length (frames old) ≡ suc (length (frames rest)) = ap length (frames-top old rest f o) in
-    let g = frames-length old in
-    let c = frames-length new in
-    let d : rank n0 s.stock (length old) ≡ rank (Given v) s.stock (length old) =
-    ap (λ (m : Next). rank m s.stock (length old)) e in
-    omega arith
 
 suc-not-zero : (n : ℕ) → false ≡ nat_eq (suc n) 0
 suc-not-zero n = grind (arith, nat_tests)
@@ -110,17 +80,24 @@ unfolding unwind_of
 then-unwound P (Go v s) = refl
 then-unwound P (Over why s) = refl
 
--- what is ahead of the first call is the evaluation
-pub called-ahead : (P : TypedProgram) (f : Callee) (done : List ℕ) (s s0 s' : State) (n : Next)
-    (old new : List Frame) → s ≡ s0 → done ≡ [] → old ≡ []
-    → IsStep (called_step P f done s) n s' (frames old) (frames new)
-    → ahead_next P n (frames new) s' ≡ called (meaning P) P f [] s0
-called-ahead P f done s s0 s' n old new e d o h =
-    step-ahead P (called_step P f done s) n s' (frames old) (frames new) h ∙
-    (ahead-is P (called_step P f done s) (frames old) ∙
-    (ap (λ (r : Result). then r (unwind_of P (frames old))) (s-called P f done s) ∙
-    (ap (λ (fs : List Follow). then (called (meaning P) P f done s) (unwind_of P fs))
-    (no-frames old o) ∙
-    (then-unwound P (called (meaning P) P f done s) ∙
-    (ap (λ (x : List ℕ). called (meaning P) P f x s) d
-    ∙ ap (λ (x : State). called (meaning P) P f [] x) e)))))
+-- before no frames a part is what it means
+pub no_more : (P : TypedProgram) (r : Result) (fs : List Frame) → fs ≡ []
+    → then r (unwind_of P (frames fs)) ≡ r
+no_more P r fs e =
+    ap (λ (fs : List Follow). then r (unwind_of P fs)) (no-frames fs e) ∙ then-unwound P r
+
+-- a frame that is moved from those that are to follow to those that stand there
+pub moved_on : (pending rest old new : List Frame) (f : Frame) → pending ≡ rest ++ f ∷ [] → new ≡ old ++ f ∷ []
+    → map follow rest ++ frames new ≡ map follow pending ++ frames old
+moved_on pending rest old new f p n =
+    ap (λ (fs : List Follow). map follow rest ++ fs) (frames-top new old f n)
+    ∙ (push-on rest f (frames old) ∙ ap (λ (fs : List Frame). map follow fs ++ frames old) (sym p))
+
+-- a task before frames of two lists
+pub both_follow : (P : TypedProgram) (t : Task) (s s' : State) (fs gs now : List Follow)
+    → now ≡ fs ++ gs → s' ≡ s
+    → then (meaning P t s') (unwind_of P now) ≡ then (then (meaning P t s) (unwind_of P fs)) (unwind_of P gs)
+both_follow P t s s' fs gs now e d =
+    ap (λ (x : State). then (meaning P t x) (unwind_of P now)) d
+    ∙ (ap (λ (xs : List Follow). then (meaning P t s) (unwind_of P xs)) e
+    ∙ then-on P (meaning P t s) fs gs)

@@ -1,3 +1,4 @@
 pub mod Cells
 pub mod View
 pub mod Answer
+pub mod Direct

@@ -5,6 +5,7 @@ use Rattle.c_tree.specs.declared.TypedExpr.{TypedExpr}
 use Rattle.c_tree.specs.declared.TypedStmt.{TypedStmt}
 use Rattle.c_meaning_spec.specs.State.{State}
 use Rattle.c_meaning_spec.specs.declared.Ending.TheVariants.{More}
+use Rattle.c_meaning_spec.specs.declared.Signal.TheVariants.{Nothing}
 use Rattle.c_meaning_spec.specs.Task.{Of, Run, Turn}
 use Rattle.c_meaning_spec.specs.Task as meant
 use Rattle.c_meaning_spec.specs.Statement.{Target, bodies}
@@ -125,6 +126,12 @@ abbrev pub goes_on : Compared → ℕ → List Target → List TypedStmt → Sta
 goes_on compared.Found w ts here s = sections_step here s
 goes_on compared.Spent w ts here s = Ends More s
 goes_on (compared.Passed other) w ts here s = compared_step w ts (bodies other.now) s
+
+-- what is done after all labels of a switch: the statements of these sections are run, or no step was left
+abbrev pub found : Compared → State → Step
+found compared.Found s = Gives Nothing s
+found compared.Spent s = Ends More s
+found (compared.Passed here) s = sections_step (bodies here.now) s
 
 -- a move, as what is to be done next
 abbrev pub next : Move → Next

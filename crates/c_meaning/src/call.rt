@@ -36,7 +36,7 @@ fn bytes_of(a: &TypedArray) -> u64
 }
 
 /// The bytes of the active frames with that of f, if so many are allowed.
-fn room_with(room: u32, f: &TypedFunc) -> Option<u32>
+pub fn room_with(room: u32, f: &TypedFunc) -> Option<u32>
     ensures { SomeIff result (room + frame_of f.now ≤ MOST_FRAME_BYTES) (room + frame_of f.now) }
 {
     let scalars = f.scalars.len() as u64;
@@ -67,7 +67,7 @@ fn pad(scalars: &mut Vec<Option<u64>>, count: usize) -> Result<(), AllocError>
 }
 
 /// Puts the arguments of a call into a list, and then unset scalars.
-fn put_scalars(
+pub fn put_scalars(
     scalars: &mut Vec<Option<u64>>,
     f: &TypedFunc,
     done: &[u64],
@@ -82,7 +82,7 @@ fn put_scalars(
 }
 
 // Adds the second sizes of the arrays of a call.
-fn add_rows(rows: &mut Vec<Option<u32>>, f: &TypedFunc) -> Result<(), AllocError>
+pub fn add_rows(rows: &mut Vec<Option<u32>>, f: &TypedFunc) -> Result<(), AllocError>
     ensures { OnOk result (rows.new.items ≡ rows.old.items ++ map array_row f.now.arrays) }
 {
     for a in f.arrays.as_slice() {
@@ -92,7 +92,7 @@ fn add_rows(rows: &mut Vec<Option<u32>>, f: &TypedFunc) -> Result<(), AllocError
 }
 
 // Adds the arrays of a call, unset.
-fn add_arrays(arrays: &mut Arrays, f: &TypedFunc) -> Result<(), AllocError>
+pub fn add_arrays(arrays: &mut Arrays, f: &TypedFunc) -> Result<(), AllocError>
     ensures { OnOk result (arrays.new ≡ arrays.old ++ map unset_array f.now.arrays) }
 {
     for a in f.arrays.as_slice() {
@@ -134,7 +134,7 @@ impl<'a> Machine<'a> {
             }
         }
         let moved = self.called(program, callee, done.as_slice())?;
-        self.spare_words.push(done)?;
+        self.store.spare_words.push(done)?;
         Ok(moved)
     }
 
@@ -257,7 +257,7 @@ impl<'a> Machine<'a> {
         if count > 0xffff_ffff {
             return Err(AllocError);
         }
-        let mut scalars = spare(self.alloc, &mut self.spare_scalars);
+        let mut scalars = spare(self.store.alloc, &mut self.store.spare_scalars);
         put_scalars(&mut scalars, f, done)?;
         add_arrays(&mut self.store.arrays, f)?;
         add_rows(&mut self.store.rows, f)?;

@@ -3,7 +3,8 @@
 ghost use Rattle.std.specs.Prelude.{◌≡◌, ◌++◌, List};
 ghost use Rattle.c_meaning_spec.specs.Statement.{Target, bodies, leading};
 ghost use Rattle.c_meaning_steps.specs.StatementSteps.{sections_step, compared_by_step, compared_step};
-ghost use Rattle.c_meaning.specs.View.{view, goes_on};
+ghost use Rattle.c_meaning_steps.specs.StatementSteps.{after_switch_step};
+ghost use Rattle.c_meaning.specs.View.{view, goes_on, found};
 
 use crate::store::Store;
 use c_tree::TypedSection;
@@ -69,6 +70,26 @@ impl<'a> Store<'a> {
                     rest = more;
                 }
                 Compared::Found => return Compared::Found,
+                Compared::Spent => return Compared::Spent,
+            }
+        }
+        Compared::Passed(other)
+    }
+
+    /// The sections whose statements are run where the word is that of a switch: those from the label on that
+    /// is equal to it, those from `default` on, or none.
+    pub fn find_label<'s>(&mut self, sections: &'s [TypedSection], w: u64) -> Compared<'s>
+        ensures { found result (view self.new) ≡ after_switch_step sections.now w (view self.old) }
+    {
+        let mut here = sections;
+        let mut other: &'s [TypedSection] = &[];
+        while let Some((section, behind)) = here.split_first() {
+            match self.compare(w, section.labels.as_slice(), here, other) {
+                Compared::Passed(next) => {
+                    other = next;
+                    here = behind;
+                }
+                Compared::Found => return Compared::Passed(here),
                 Compared::Spent => return Compared::Spent,
             }
         }

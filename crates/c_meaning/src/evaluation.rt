@@ -1,19 +1,22 @@
-ghost use Rattle.std.specs.Prelude.{◌≡◌, ◌+◌, ◌<◌, [], map, length, false, IfOk, OnOk};
-ghost use Rattle.c_meaning_spec.specs.State.{Result as Reached};
+ghost use Rattle.std.specs.Prelude.{◌≡◌, ◌++◌, [], map, false, IfOk, OnOk};
+ghost use Rattle.c_meaning_spec.specs.State.{Result as Reached, then};
 ghost use Rattle.c_meaning_spec.specs.Call.{called as called_by};
 ghost use Rattle.c_meaning_spec.specs.Eval.{global_row};
 ghost use Rattle.c_meaning_spec.specs.Eval.{first_cells, length_of as length_in, start, outcome};
 ghost use Rattle.c_meaning_spec.specs.Eval.{eval, meaning};
 ghost use Rattle.c_tree.specs.declared.Kind.TheVariants.{Int};
 ghost use Rattle.c_constant.specs.Kinds.{number, converted};
-ghost use Rattle.c_meaning_steps.specs.Ahead.{ahead_next, rank, is_over as is_over_of, IsReached};
-ghost use Rattle.c_meaning.specs.View.{next, view, frames};
+ghost use Rattle.c_meaning_steps.specs.Ahead.{ahead_next, unwind_of, is_over as is_over_of, IsReached};
+ghost use Rattle.c_meaning.specs.View.{follow, frames, next, task_of, view};
+ghost use Rattle.c_meaning.specs.Direct.{Stopped, Values, Runs};
 ghost use Rattle.c_meaning.specs.Answer.{answer};
 
 use crate::arrays::Arrays;
-use crate::frame::Move;
+use crate::direct::{Ran, Stop};
+use crate::frame::{Move, Task};
 use crate::machine::Machine;
 use crate::outcome::Outcome;
+use crate::runs::{MOST_EXPR_DEPTH, MOST_STMT_DEPTH};
 use crate::store::Store;
 use base::{Items, Memory};
 use c_meaning_spec::{Ending, Signal};
@@ -65,6 +68,7 @@ fn first_store<'a>(
     let arrays = global_arrays(alloc, program)?;
     let rows = global_rows(alloc, program)?;
     Ok(Store {
+        alloc,
         stock: n,
         input,
         output: Vec::new(alloc),
@@ -73,6 +77,11 @@ fn first_store<'a>(
         rows,
         base: 0,
         room: 0,
+        stop: Stop::Memory,
+        returned: None,
+        pending: Vec::new(alloc),
+        spare_scalars: Vec::new(alloc),
+        spare_words: Vec::new(alloc),
     })
 }
 
@@ -95,20 +104,115 @@ impl<'a> Machine<'a> {
         }
     }
 
-    /// One move, after which as much is ahead and less is to be done.
+    // The frames of what is to follow a part that was not evaluated to its end come before those that stand there.
+    #[tactic(auto, using(crate::proofs::Turns::moved_on))]
+    fn stack_pending(&mut self) -> Result<(), AllocError>
+        ensures kept { OnOk result (frames self.new.stack.items
+            ≡ map follow self.old.store.pending.items ++ frames self.old.stack.items) }
+        ensures same { OnOk result (view self.new.store ≡ view self.old.store) }
+    {
+        while let Some(frame) = self.store.pending.pop() {
+            self.stack.push(frame)?;
+        }
+        Ok(())
+    }
+
+    // What is to be done first where a part was not evaluated to its end.
+    #[tactic(auto, using(crate::proofs::Turns::both_follow))]
+    fn stopped(&mut self, program: &'a TypedProgram) -> Result<Move<'a>, AllocError>
+        ensures { IfOk result (λ m. (r : Reached) → Stopped program.now r self.old.store
+            → ahead_next program.now (next m) (frames self.new.stack.items) (view self.new.store)
+            ≡ then r (unwind_of program.now (frames self.old.stack.items))) }
+    {
+        let stop = self.store.stop;
+        match stop {
+            Stop::Fails(why) => Ok(Move::End(why)),
+            Stop::AtExpr(e) => {
+                self.stack_pending()?;
+                Ok(Move::Do(Task::Of(e)))
+            }
+            Stop::AtStmt(st) => {
+                self.stack_pending()?;
+                Ok(Move::Do(Task::Run(st)))
+            }
+            Stop::Memory => Err(AllocError),
+        }
+    }
+
+    // What an expression came to, as what is to be done next.
+    fn valued(
+        &mut self,
+        program: &'a TypedProgram,
+        word: Option<u64>,
+    ) -> Result<Move<'a>, AllocError>
+        ensures { IfOk result (λ m. (r : Reached) → Values program.now r self.old.store word
+            → ahead_next program.now (next m) (frames self.new.stack.items) (view self.new.store)
+            ≡ then r (unwind_of program.now (frames self.old.stack.items))) }
+    {
+        match word {
+            Some(w) => Ok(Move::Give(Signal::Value(w))),
+            None => {
+                let moved = self.stopped(program)?;
+                Ok(moved)
+            }
+        }
+    }
+
+    // What a statement came to, as what is to be done next.
+    fn ran(&mut self, program: &'a TypedProgram, x: Ran) -> Result<Move<'a>, AllocError>
+        ensures { IfOk result (λ m. (r : Reached) → Runs program.now r self.old.store x
+            → ahead_next program.now (next m) (frames self.new.stack.items) (view self.new.store)
+            ≡ then r (unwind_of program.now (frames self.old.stack.items))) }
+    {
+        match x {
+            Ran::Nothing => Ok(Move::Give(Signal::Nothing)),
+            Ran::Breaks => Ok(Move::Give(Signal::Breaks)),
+            Ran::Continues => Ok(Move::Give(Signal::Continues)),
+            Ran::Returns => Ok(Move::Give(Signal::Returns(self.store.returned))),
+            Ran::Stops => {
+                let moved = self.stopped(program)?;
+                Ok(moved)
+            }
+        }
+    }
+
+    // A task is done, up to a call in it or to where it is too deep.
+    fn perform(&mut self, program: &'a TypedProgram, task: Task<'a>) -> Result<Move<'a>, AllocError>
+        ensures { IfOk result (λ m.
+            ahead_next program.now (next m) (frames self.new.stack.items) (view self.new.store)
+            ≡ then (meaning program.now (task_of task.entry) (view self.old.store))
+            (unwind_of program.now (frames self.old.stack.items))) }
+    {
+        match task {
+            Task::Of(e) => {
+                let word = self.store.value_of(program, e, MOST_EXPR_DEPTH);
+                let moved = self.valued(program, word)?;
+                Ok(moved)
+            }
+            Task::Run(st) => {
+                let x = self.store.run(program, st, MOST_STMT_DEPTH);
+                let moved = self.ran(program, x)?;
+                Ok(moved)
+            }
+            Task::Turn(turn) => {
+                let x = self.store.run_loop(program, turn, MOST_STMT_DEPTH);
+                let moved = self.ran(program, x)?;
+                Ok(moved)
+            }
+        }
+    }
+
+    /// Some of what is to be done, after which as much is ahead.
     fn advance(&mut self, program: &'a TypedProgram, now: Move<'a>) -> Result<Move<'a>, AllocError>
         requires { is_over_of (next now) (frames self.old.stack.items) ≡ false }
-        ensures kept { IfOk result (λ m.
+        ensures { IfOk result (λ m.
             ahead_next program.now (next m) (frames self.new.stack.items) (view self.new.store)
             ≡ ahead_next program.now (next now.entry) (frames self.old.stack.items)
             (view self.old.store)) }
-        ensures less { IfOk result (λ m.
-            rank (next m) self.new.store.stock (length self.new.stack.items)
-            < rank (next now.entry) self.old.store.stock (length self.old.stack.items)) }
     {
         match now {
             Move::Do(task) => {
-                let moved = self.act(program, task)?;
+                let moved = self.perform(program, task)?;
                 Ok(moved)
             }
             Move::Give(signal) => match self.stack.pop() {
@@ -122,27 +226,35 @@ impl<'a> Machine<'a> {
         }
     }
 
-    /// All that is left to be done.
+    /// All that is left to be done. There are at most 2^64 turns, of which each spends a step or takes a frame off.
+    #[tactic(auto, using(crate::proofs::Turns::reached))]
     fn go(&mut self, program: &'a TypedProgram, start: Move<'a>) -> Result<Move<'a>, AllocError>
         ensures { IfOk result (λ m. IsReached (next m) (view self.new.store)
             (ahead_next program.now (next start.entry) (frames self.old.stack.items)
             (view self.old.store))) }
     {
         let mut now = start;
-        while !self.is_over(&now) {
+        for _round in 0..u64::MAX {
+            if self.is_over(&now) {
+                return Ok(now);
+            }
             now = self.advance(program, now)?;
         }
-        Ok(now)
+        Err(AllocError)
     }
 
     /// The call of main.
+    #[tactic(auto, using(crate::proofs::Turns::no_more))]
     fn run_main(&mut self, program: &'a TypedProgram) -> Result<Move<'a>, AllocError>
         requires { self.old.stack.items ≡ [] }
         ensures { IfOk result (λ m. IsReached (next m) (view self.new.store)
             (called_by (meaning program.now) program.now (Callee.Func program.now.main) []
             (view self.old.store))) }
     {
-        let first = self.called(program, Callee::Func(program.main), &[])?;
+        let word = self
+            .store
+            .begin_call(program, Callee::Func(program.main), &[]);
+        let first = self.valued(program, word)?;
         let last = self.go(program, first)?;
         Ok(last)
     }
@@ -183,13 +295,7 @@ fn evaluate_from<'a>(
 {
     let mut machine = machine;
     let last = machine.run_main(program)?;
-    let Machine {
-        alloc: _,
-        store,
-        stack: _,
-        spare_scalars: _,
-        spare_words: _,
-    } = machine;
+    let Machine { store, stack: _ } = machine;
     ended(last, store, n)
 }
 
@@ -207,11 +313,8 @@ pub fn evaluate(
 {
     let store = first_store(alloc, program, input, n)?;
     let machine = Machine {
-        alloc,
         store,
         stack: Vec::new(alloc),
-        spare_scalars: Vec::new(alloc),
-        spare_words: Vec::new(alloc),
     };
     let outcome = evaluate_from(program, machine, n)?;
     Ok(outcome)

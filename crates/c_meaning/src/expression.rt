@@ -17,7 +17,7 @@ use c_tree::{BinaryOp, Kind, Place, TypedExpr, TypedNode, TypedProgram};
 use std::alloc::AllocError;
 
 // Whether a global is an array.
-fn is_array(program: &TypedProgram, g: u32) -> bool
+pub fn is_array(program: &TypedProgram, g: u32) -> bool
     ensures { result ≡ is_array_in (slice_get program.now.globals g) }
 {
     match program.globals.as_slice().get(g as usize) {
@@ -89,7 +89,7 @@ impl<'a> Machine<'a> {
                 Some(row) => self.element_by_row(*array, row.get(), index.get()),
             },
             TypedNode::Call { function, args } => {
-                let done = spare(self.alloc, &mut self.spare_words);
+                let done = spare(self.store.alloc, &mut self.store.spare_words);
                 self.arguments(program, *function, args.as_slice(), done)
             }
             TypedNode::Unary { op, e } => {

@@ -5,7 +5,9 @@
 mod arrays;
 mod assignment;
 mod call;
+mod calls;
 mod compare;
+mod direct;
 mod evaluation;
 mod expression;
 mod fetch;
@@ -13,10 +15,12 @@ mod frame;
 mod machine;
 mod outcome;
 mod resume;
+mod runs;
 mod statement;
 mod store;
 mod switch;
 mod two_indexes;
+mod values;
 mod words;
 
 pub use evaluation::evaluate;

@@ -6,18 +6,13 @@ ghost use Rattle.c_meaning.specs.View.{view, task_of, follow, Makes};
 use crate::frame::{Frame, Move, Task};
 use crate::store::Store;
 use c_meaning_spec::{Ending, Object, Signal};
-use std::alloc::{AllocError, Global};
+use std::alloc::AllocError;
 
 /// An evaluation under way: what it goes over, and what follows.
-///
-/// The lists that a call needs are used again by later calls.
 #[derive(Drop)]
 pub struct Machine<'a> {
-    pub alloc: Global,
     pub store: Store<'a>,
     pub stack: Vec<Frame<'a>>,
-    pub spare_scalars: Vec<Vec<Option<u64>>>,
-    pub spare_words: Vec<Vec<u64>>,
 }
 
 impl<'a> Machine<'a> {

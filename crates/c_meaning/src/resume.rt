@@ -1,10 +1,10 @@
 ghost use Rattle.std.specs.Prelude.{◌≡◌, IfOk, take};
 ghost use Rattle.c_meaning_spec.specs.Word.{truth_of};
 ghost use Rattle.c_meaning_steps.specs.Follow.{Gives};
-ghost use Rattle.c_meaning_steps.specs.StatementSteps.{sequence_step, locals_step, act_step};
+ghost use Rattle.c_meaning_steps.specs.StatementSteps.{sequence_step, locals_step};
 ghost use Rattle.c_meaning_steps.specs.ResumeSteps.{value_step, returned_step, going_on_step};
 ghost use Rattle.c_meaning_steps.specs.ResumeSteps.{body_step, resume_step};
-ghost use Rattle.c_meaning.specs.View.{view, behind, task_of, follow, follow_operand, follow_turn};
+ghost use Rattle.c_meaning.specs.View.{view, behind, follow, follow_operand, follow_turn};
 ghost use Rattle.c_meaning.specs.View.{Makes};
 
 use crate::frame::{Frame, Loop, Move, Operand, Stage, Task};
@@ -16,19 +16,6 @@ use c_tree::{TypedExpr, TypedProgram, TypedStmt};
 use std::alloc::AllocError;
 
 impl<'a> Machine<'a> {
-    /// The move of a task.
-    pub fn act(&mut self, program: &'a TypedProgram, task: Task<'a>) -> Result<Move<'a>, AllocError>
-        ensures { IfOk result (Makes
-            (act_step program.now (task_of task.entry))
-            self.old self.new) }
-    {
-        match task {
-            Task::Of(e) => self.of(program, e),
-            Task::Run(st) => self.run(program, st),
-            Task::Turn(turn) => self.turn(turn),
-        }
-    }
-
     // What follows the value of an operand.
     fn with_operand(
         &mut self,
@@ -230,7 +217,7 @@ impl<'a> Machine<'a> {
         self.store.rows.truncate(count);
         self.store.base = base;
         self.store.room = room;
-        self.spare_scalars.push(used)?;
+        self.store.spare_scalars.push(used)?;
         Ok(self.returned(is_main, signal))
     }
 

@@ -8,13 +8,18 @@ ghost use Rattle.c_meaning_spec.specs.Task.{row_element_of as row_element_object
 ghost use Rattle.c_meaning.specs.View.{view};
 
 use crate::arrays::Arrays;
+use crate::direct::Stop;
+use crate::frame::Frame;
 use c_meaning_spec::Object;
 use c_tree::Place;
-use std::alloc::AllocError;
+use std::alloc::{AllocError, Global};
 
-/// What an evaluation goes over.
+/// What an evaluation goes over, and the frames of what is to follow where a part was not evaluated to its end.
+///
+/// The lists that a call needs are used again by later calls.
 #[derive(Drop)]
 pub struct Store<'a> {
+    pub alloc: Global,
     pub stock: u64,
     pub input: &'a [u8],
     pub output: Vec<u8>,
@@ -23,6 +28,11 @@ pub struct Store<'a> {
     pub rows: Vec<Option<u32>>,
     pub base: u32,
     pub room: u32,
+    pub stop: Stop<'a>,
+    pub returned: Option<u64>,
+    pub pending: Vec<Frame<'a>>,
+    pub spare_scalars: Vec<Vec<Option<u64>>>,
+    pub spare_words: Vec<Vec<u64>>,
 }
 
 // The value of a scalar, if it is set.

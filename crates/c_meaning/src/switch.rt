@@ -2,38 +2,18 @@
 
 ghost use Rattle.std.specs.Prelude.{IfOk, ◌++◌};
 ghost use Rattle.c_meaning_spec.specs.Statement.{bodies};
-ghost use Rattle.c_meaning_steps.specs.Follow.{FSwitch};
-ghost use Rattle.c_meaning_steps.specs.Operands.{operand_step};
 ghost use Rattle.c_meaning_steps.specs.StatementSteps.{sections_step, after_switch_step};
 ghost use Rattle.c_meaning_steps.specs.ResumeSteps.{after_section_step};
 ghost use Rattle.c_meaning.specs.View.{Makes};
 
 use crate::compare::Compared;
-use crate::fetch::Fetch;
 use crate::frame::{Frame, Move, Task};
 use crate::machine::Machine;
 use c_meaning_spec::{Ending, Signal};
-use c_tree::{TypedExpr, TypedSection, TypedStmt};
+use c_tree::{TypedSection, TypedStmt};
 use std::alloc::AllocError;
 
 impl<'a> Machine<'a> {
-    /// A switch: its test, and then its labels.
-    pub fn switch(
-        &mut self,
-        test: &'a TypedExpr,
-        sections: &'a [TypedSection],
-    ) -> Result<Move<'a>, AllocError>
-        ensures { IfOk result (Makes
-            (λ s. operand_step test.now (FSwitch sections.now) s (after_switch_step sections.now))
-            self.old self.new) }
-    {
-        match self.store.fetch(test) {
-            Fetch::Word(w) => self.after_switch(sections, w),
-            Fetch::Fails(why) => Ok(Move::End(why)),
-            Fetch::Deferred => self.push(Task::Of(test), Frame::Switch(sections)),
-        }
-    }
-
     /// The labels in the order of the text, and then the statements from the one on that is equal to the
     /// word, from `default` on, or none.
     pub fn after_switch(

@@ -6,6 +6,7 @@ pub use Rattle.c_type_expr.specs.Says
 pub mod States
 pub mod Declarations
 pub mod Labels
+pub mod Seen
 pub mod Statements
 pub mod Runs
 pub mod Units

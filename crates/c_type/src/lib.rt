@@ -12,6 +12,7 @@ mod jumps;
 mod parameters;
 mod parts;
 mod program;
+mod seen;
 mod signatures;
 mod state;
 mod statements;

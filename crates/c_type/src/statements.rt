@@ -11,6 +11,7 @@ ghost use Rattle.c_type.specs.Runs.{Begins};
 use crate::declarations::declare;
 use crate::jumps::{break_stmt, continue_stmt, give};
 use crate::parts::{full_if, plain};
+use crate::seen::SeenLabels;
 use crate::state::{Around, State};
 use crate::switches::{section_labels, switch_scalar, switch_test};
 use base::{Boxed, Items, Queue};
@@ -265,7 +266,7 @@ fn section(
     state: &mut State,
     around: Around,
     kind: Kind,
-    seen: &mut Items<Option<u64>>,
+    seen: &mut SeenLabels,
     s: Section,
 ) -> Result<TypedSection, TypeFault>
     ensures { RunSection kind seen.old (section_of s) around state.old state.new seen.new result }
@@ -289,7 +290,7 @@ fn some_sections(
 {
     let mut rest = Queue::from_items(sections);
     let mut found = Items::new(alloc);
-    let mut seen = Items::new(alloc);
+    let mut seen = SeenLabels::new(alloc);
     while let Some(s) = rest.pop() {
         let s = section(alloc, state, around, kind, &mut seen, s)?;
         found.push(s)?;

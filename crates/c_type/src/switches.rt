@@ -1,6 +1,6 @@
 //! The labels of a switch, its test and its scalar.
 
-ghost use Rattle.std.specs.Prelude.{◌≡◌, ◌∷◌, [], ◌++◌, length, map, not, nat_lt};
+ghost use Rattle.std.specs.Prelude.{◌++◌, length, map, nat_lt};
 ghost use Rattle.c_tree.specs.declared.limits.TheConstants.{MOST_SCALARS};
 ghost use Rattle.c_type_expr.specs.Constants as constants;
 ghost use Rattle.c_type_expr.specs.Roles.{unless};
@@ -8,9 +8,10 @@ ghost use Rattle.c_type_expr.specs.Says.{Says};
 ghost use Rattle.c_type_expr.specs.Trees.{tree, with_convert};
 ghost use Rattle.c_type.specs.States.{with_switch};
 ghost use Rattle.c_type.specs.Statements as statements;
-ghost use Rattle.c_type.specs.Statements.{label_among, labels_fault, switch_kind, case_fault};
+ghost use Rattle.c_type.specs.Statements.{labels_fault, switch_kind, case_fault};
 ghost use Rattle.c_type.specs.Runs.{Moves, Joins};
 
+use crate::seen::SeenLabels;
 use crate::state::State;
 use base::{Boxed, Items};
 use c_constant::promoted;
@@ -18,39 +19,6 @@ use c_scope::Scopes;
 use c_tree::{Expr, Kind, Label, MOST_SCALARS, Slot, TypedExpr};
 use c_type_expr::{Role, TypeFault, full, full_constant, kind_of, with_convert};
 use std::alloc::Global;
-
-fn same_label(a: Option<u64>, b: Option<u64>) -> bool
-    ensures { result ≡ statements.same_label a b }
-{
-    match (a, b) {
-        (None, None) => true,
-        (Some(m), Some(n)) => m == n,
-        _ => false,
-    }
-}
-
-/// Whether a label is one of these.
-fn among(word: Option<u64>, seen: &[Option<u64>]) -> bool
-    ensures { result ≡ label_among word seen.now }
-{
-    let mut found = false;
-    for other in seen {
-        found = found || same_label(word, *other);
-    }
-    found
-}
-
-/// One label more, which is another than those before it.
-fn add_label(seen: &mut Items<Option<u64>>, word: Option<u64>, line: u32) -> Result<(), TypeFault>
-    ensures { Joins (unless (not (label_among word seen.old)) (TypeFault.Twice line)) tt
-        (seen.old ++ word ∷ []) seen.new result }
-{
-    if among(word, seen.as_slice()) {
-        return Err(TypeFault::Twice(line));
-    }
-    seen.push(word)?;
-    Ok(())
-}
 
 /// The word of a label at a type, none for `default`.
 fn label_word(names: &Scopes, kind: Kind, label: &Label) -> Result<Option<u64>, TypeFault>
@@ -71,7 +39,7 @@ pub fn section_labels(
     alloc: Global,
     names: &Scopes,
     kind: Kind,
-    seen: &mut Items<Option<u64>>,
+    seen: &mut SeenLabels,
     labels: &[Label],
 ) -> Result<Items<Option<u64>>, TypeFault>
     ensures { Joins (labels_fault kind seen.old labels.now names.now)
@@ -81,7 +49,7 @@ pub fn section_labels(
     let mut found = Items::new(alloc);
     for label in labels {
         let word = label_word(names, kind, label)?;
-        add_label(seen, word, label.line)?;
+        seen.add(word, label.line)?;
         found.push(word)?;
     }
     Ok(found)

@@ -1,16 +1,18 @@
-use Rattle.std.proofs.Common.{◌≡◌, refl, [], subst}
+use Rattle.std.proofs.Common.{◌≡◌, [], subst, ◌∙◌}
 use Rattle.c_tree.specs.declared.Callee.TheVariants.{Func}
 use Rattle.c_meaning_spec.specs.State.{Result}
+use Rattle.c_meaning_spec.specs.Call.{called}
+use Rattle.c_meaning_spec.specs.Eval.{meaning}
 use Rattle.c_meaning_steps.specs.Ahead.{IsReached}
-use Rattle.c_meaning.specs.View.{next, view, frames}
-use Rattle.c_meaning.proofs.Turns.{called-ahead}
+use Rattle.c_meaning.specs.View.{next, view}
+use Rattle.c_meaning.proofs.Turns.{no_more}
 use Rattle.c_meaning.proofs.machine.Machine.run_main.Goals as goal
 
 pub returns : goal.returns
 returns c =
+    let r = called (meaning c.args.program.now) c.args.program.now (Func c.args.program.now.main) []
+    (view c.args.self.now.store) in
     subst (λ (r : Result). IsReached (next c.in_ok-last.last) (view c.go.new.self.store) r)
-    (called-ahead c.args.program.now (Func c.args.program.now.main) [] (view c.args.self.now.store)
-    (view c.args.self.now.store) (view c.called.new.self.store) (next c.in_ok-first.first)
-    c.args.self.now.stack.items c.called.new.self.stack.items refl refl c.requires
-    c.in_ok-first.ensures)
+    (c.in_ok-first.ensures r c.begin_call-word.ensures
+    ∙ no_more c.args.program.now r c.args.self.now.stack.items c.requires)
     c.in_ok-last.ensures

@@ -1,0 +1,89 @@
+-- What a task means, by what its parts mean.
+use Rattle.std.proofs.Common.{◌≡◌, ℕ, Bool, true, List, length, Option, sym, ap, subst, ◌∙◌}
+use Rattle.c_tree.specs.declared.Place.TheVariants.{Scalar}
+use Rattle.c_tree.specs.declared.TypedFunc.{TypedFunc}
+use Rattle.c_tree.specs.declared.TypedNode.{out-TypedNode, out-roll-TypedNode}
+use Rattle.c_tree.specs.declared.TypedNode.TheOpen.{Number, Name}
+use Rattle.c_tree.specs.declared.TypedNode.TheVariants as node
+use Rattle.c_meaning_spec.specs.declared.Object.TheVariants.{InScalar}
+use Rattle.c_meaning_spec.specs.Call.{entered, entered_if, left}
+use Rattle.c_meaning_steps.specs.Follow.{Follow, FCaller}
+use Rattle.c_meaning.specs.View.{follow}
+use Rattle.c_meaning.specs.Direct.{Values}
+use Rattle.c_meaning.specs.declared.frame.Frame.{Frame}
+use Rattle.c_meaning.specs.declared.store.Store.{Store}
+use Rattle.c_tree.specs.declared.TypedExpr.{TypedExpr}
+use Rattle.c_tree.specs.declared.TypedStmt.{TypedStmt, out-TypedStmt}
+use Rattle.c_tree.specs.declared.TypedProgram.{TypedProgram}
+use Rattle.c_tree.specs.TypedTrees.{Node, node_of}
+use Rattle.c_meaning_spec.specs.State.{State, then, spend, load}
+use Rattle.c_meaning_spec.specs.Task.{Of, Run, Turn}
+use Rattle.c_meaning_spec.specs.Expression.{expression}
+use Rattle.c_meaning_spec.specs.Statement.{statement, turn}
+use Rattle.c_meaning_spec.specs.Eval.{meaning}
+use Rattle.c_tree.specs.declared.TypedSection.{TypedSection}
+use Rattle.c_meaning_spec.specs.declared.Signal.TheVariants.{Nothing, Value}
+use Rattle.c_meaning_spec.specs.declared.Ending.TheVariants.{More}
+use Rattle.c_meaning_spec.specs.State.{Go, Over}
+use Rattle.c_meaning_spec.specs.Statement.{after_switch, run_from}
+use Rattle.c_meaning_spec.proofs.Equations.{meaning-is}
+use Rattle.c_meaning_steps.specs.Ahead.{back_of, settle_of}
+use Rattle.c_meaning_steps.specs.Follow.{Ends, Gives, FSwitch, FSections}
+use Rattle.c_meaning_steps.specs.StatementSteps.{after_switch_step, sections_step}
+use Rattle.c_meaning_steps.proofs.Moves.{s-resume}
+
+pub of_is : (P : TypedProgram) (e : TypedExpr) (s : State)
+    → meaning P (Of e) s ≡ expression (meaning P) P (node_of e) s
+of_is P e s = meaning-is P (Of e) s
+
+pub run_is : (P : TypedProgram) (st : TypedStmt) (s : State)
+    → meaning P (Run st) s ≡ statement (meaning P) (out-TypedStmt st) s
+run_is P st s = meaning-is P (Run st) s
+
+pub turn_is : (P : TypedProgram) (test post : Option TypedExpr) (body : TypedStmt) (s : State)
+    → meaning P (Turn test post body) s ≡ turn (meaning P) test post body s
+turn_is P test post body s = meaning-is P (Turn test post body) s
+
+-- the labels of a switch lead to the statements of these sections
+pub label_is : (P : TypedProgram) (xs : List TypedSection) (here : List TypedStmt) (w : ℕ) (s s' : State)
+    → sections_step here s' ≡ after_switch_step xs w s
+    → run_from (meaning P) here s' ≡ after_switch (meaning P) xs (Value w) s
+label_is P xs here w s s' e =
+    sym (s-resume P (FSections here) Nothing s')
+    ∙ (ap (settle_of P) e ∙ s-resume P (FSwitch xs) (Value w) s)
+
+-- or no step is left for one of them
+pub ends : (P : TypedProgram) (xs : List TypedSection) (w : ℕ) (s s' : State)
+    → Ends More s' ≡ after_switch_step xs w s → Over More s' ≡ after_switch (meaning P) xs (Value w) s
+ends P xs w s s' e = ap (settle_of P) e ∙ s-resume P (FSwitch xs) (Value w) s
+
+-- or none is there
+pub no_label : (P : TypedProgram) (xs : List TypedSection) (w : ℕ) (s s' : State)
+    → Gives Nothing s' ≡ after_switch_step xs w s → Go Nothing s' ≡ after_switch (meaning P) xs (Value w) s
+no_label P xs w s s' e = ap (settle_of P) e ∙ s-resume P (FSwitch xs) (Value w) s
+
+-- a call that was entered, with its body left before the frame of its caller
+pub begun_call : (P : TypedProgram) (is_main : Bool) (f : TypedFunc) (done : List ℕ) (s mid : State) (x : Frame)
+    (m : Store) (word : Option ℕ) → mid ≡ entered f done s
+    → follow x ≡ FCaller is_main s.scalars (length s.arrays) s.base s.room
+    → Values P (then (meaning P (Run f.body) mid) (back_of P (follow x))) m word
+    → Values P (entered_if (meaning P) is_main true f done s) m word
+begun_call P is_main f done s mid x m word e d h =
+    subst (λ (y : State). Values P (then (meaning P (Run f.body) y)
+    (left is_main s.scalars (length s.arrays) s.base s.room)) m word) e
+    (subst (λ (y : Follow). Values P (then (meaning P (Run f.body) mid) (back_of P y)) m word) d h)
+
+-- leaves
+pub number_is : (P : TypedProgram) (e : TypedExpr) (w : ℕ) (s : State) → node_of e ≡ Number w
+    → meaning P (Of e) s ≡ spend s (λ u. Go (Value w) u)
+number_is P e w s h = of_is P e s ∙ ap (λ (n : Node). expression (meaning P) P n s) h
+
+pub number_node : (P : TypedProgram) (e : TypedExpr) (w : ℕ) (s : State) → e.node ≡ node.Number w
+    → meaning P (Of e) s ≡ spend s (λ u. Go (Value w) u)
+number_node P e w s h =
+    number_is P e w s (ap out-TypedNode h
+    ∙ (ap out-TypedNode (sym (node.rolls-Number w)) ∙ out-roll-TypedNode (Number w)))
+
+pub scalar_is : (P : TypedProgram) (e : TypedExpr) (i : ℕ) (s : State) → node_of e ≡ Name (Scalar i)
+    → meaning P (Of e) s ≡ spend s (λ u. load (InScalar i) u)
+scalar_is P e i s h = of_is P e s ∙ ap (λ (n : Node). expression (meaning P) P n s) h

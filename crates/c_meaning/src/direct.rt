@@ -1,0 +1,163 @@
+//! Parts that are evaluated at once, by recursion on the tree: what they come to, and what is put before what they are
+//! a part of where they are not evaluated to their end.
+
+ghost use Rattle.std.specs.Prelude.{OnOk};
+ghost use Rattle.c_meaning_spec.specs.State.{Result as Meant, then, given, with_some, load, store};
+ghost use Rattle.c_meaning_spec.specs.Task.{Of, Run};
+ghost use Rattle.c_meaning_spec.specs.Eval.{meaning};
+ghost use Rattle.c_meaning_steps.specs.Ahead.{back_of};
+ghost use Rattle.c_meaning.specs.View.{view, follow};
+ghost use Rattle.c_meaning.specs.Direct.{Stopped, Values, Runs, Turned};
+
+use crate::frame::{Frame, Loop};
+use crate::store::Store;
+use c_meaning_spec::{Ending, Object};
+use c_tree::{TypedExpr, TypedProgram, TypedStmt};
+use std::alloc::AllocError;
+
+/// Why a part was not evaluated to its end: the evaluation ends, an expression or a statement is to be evaluated first
+/// and then what the frames of `Store::pending` say, of which the first follows it, or there is no memory.
+#[derive(Clone, Copy)]
+pub enum Stop<'a> {
+    Fails(Ending),
+    AtExpr(&'a TypedExpr),
+    AtStmt(&'a TypedStmt),
+    Memory,
+}
+
+/// What a statement comes to that is evaluated at once: a signal, of which `Store::returned` has the value, or it
+/// stopped for a reason that `Store::stop` has.
+#[derive(Clone, Copy)]
+pub enum Ran {
+    Nothing,
+    Breaks,
+    Continues,
+    Returns,
+    Stops,
+}
+
+impl<'a> Store<'a> {
+    /// An expression that is left to be evaluated.
+    #[tactic(auto, using(crate::proofs::Unwinds::unwound))]
+    pub fn leave_expr(&mut self, program: &'a TypedProgram, e: &'a TypedExpr) -> Option<u64>
+        ensures { Values program.now (meaning program.now (Of e.now) (view self.old)) self.new result }
+    {
+        self.pending.clear();
+        self.stop = Stop::AtExpr(e);
+        None
+    }
+
+    /// A statement that is left to be evaluated.
+    #[tactic(auto, using(crate::proofs::Unwinds::unwound))]
+    pub fn leave_stmt(&mut self, program: &'a TypedProgram, st: &'a TypedStmt)
+        ensures { Stopped program.now (meaning program.now (Run st.now) (view self.old)) self.new }
+    {
+        self.pending.clear();
+        self.stop = Stop::AtStmt(st);
+    }
+
+    // The frame of what follows, where something is left to be evaluated before it.
+    #[tactic(auto, using(crate::proofs::Unwinds::one_more))]
+    fn before(&mut self, program: &'a TypedProgram, frame: Frame<'a>) -> Result<(), AllocError>
+        ensures { OnOk result ((r : Meant) → Stopped program.now r self.old
+            → Stopped program.now (then r (back_of program.now (follow frame.entry))) self.new) }
+    {
+        let stop = self.stop;
+        match stop {
+            Stop::Fails(_) => Ok(()),
+            Stop::AtExpr(_) => {
+                self.pending.push(frame)?;
+                Ok(())
+            }
+            Stop::AtStmt(_) => {
+                self.pending.push(frame)?;
+                Ok(())
+            }
+            Stop::Memory => Ok(()),
+        }
+    }
+
+    /// What follows an expression that was not evaluated to its end, of another one in which it stands.
+    pub fn held(&mut self, program: &'a TypedProgram, frame: Frame<'a>) -> Option<u64>
+        ensures { (r : Meant) → Stopped program.now r self.old
+            → Values program.now (then r (back_of program.now (follow frame.entry))) self.new result }
+    {
+        match self.before(program, frame) {
+            Ok(()) => None,
+            Err(_) => {
+                self.stop = Stop::Memory;
+                None
+            }
+        }
+    }
+
+    /// The same of a statement.
+    pub fn kept(&mut self, program: &'a TypedProgram, frame: Frame<'a>) -> Ran
+        ensures { (r : Meant) → Stopped program.now r self.old
+            → Runs program.now (then r (back_of program.now (follow frame.entry))) self.new result }
+    {
+        match self.before(program, frame) {
+            Ok(()) => Ran::Stops,
+            Err(_) => {
+                self.stop = Stop::Memory;
+                Ran::Stops
+            }
+        }
+    }
+
+    /// The same of a turn of a loop.
+    pub fn kept_turn(&mut self, program: &'a TypedProgram, frame: Frame<'a>) -> Ran
+        ensures { (r : Meant) (l : Loop) → Stopped program.now r self.old
+            → Turned program.now l (then r (back_of program.now (follow frame.entry))) self.new result }
+    {
+        match self.before(program, frame) {
+            Ok(()) => Ran::Stops,
+            Err(_) => {
+                self.stop = Stop::Memory;
+                Ran::Stops
+            }
+        }
+    }
+
+    /// A value, if there is one.
+    pub fn value(&mut self, program: &'a TypedProgram, word: Option<u64>) -> Option<u64>
+        ensures { Values program.now (given word (view self.old)) self.new result }
+    {
+        match word {
+            Some(w) => Some(w),
+            None => {
+                self.stop = Stop::Fails(Ending::Undefined);
+                None
+            }
+        }
+    }
+
+    /// What an object holds, if there is the object.
+    pub fn loaded(&mut self, program: &'a TypedProgram, object: Option<Object>) -> Option<u64>
+        ensures { Values program.now
+            (with_some object (view self.old) (λ x. load x (view self.old))) self.new result }
+    {
+        match object {
+            None => {
+                self.stop = Stop::Fails(Ending::Undefined);
+                None
+            }
+            Some(object) => {
+                let word = self.load(object);
+                self.value(program, word)
+            }
+        }
+    }
+
+    /// A word into an object.
+    pub fn put(&mut self, program: &'a TypedProgram, object: Object, w: u64) -> Option<u64>
+        ensures { Values program.now (store (view self.old) object w) self.new result }
+    {
+        if self.set(object, w) {
+            Some(w)
+        } else {
+            self.stop = Stop::Fails(Ending::Undefined);
+            None
+        }
+    }
+}

@@ -1,0 +1,545 @@
+//! Statements that are evaluated at once, by recursion on their trees to a depth that is bounded.
+
+ghost use Rattle.std.specs.Prelude.{◌++◌, slice_get};
+ghost use Rattle.c_tree.specs.declared.TypedStmt.{out-TypedStmt};
+ghost use Rattle.c_tree.specs.declared.TypedForInit.{out-TypedForInit};
+ghost use Rattle.c_meaning_spec.specs.State.{then, store};
+ghost use Rattle.c_meaning_spec.specs.Task.{Of, Run, Turn};
+ghost use Rattle.c_meaning_spec.specs.Statement as meant;
+ghost use Rattle.c_meaning_spec.specs.Statement.{bodies};
+ghost use Rattle.c_meaning_spec.specs.Eval.{meaning};
+ghost use Rattle.c_meaning.specs.View.{behind, view};
+ghost use Rattle.c_meaning.specs.Direct.{Runs, Turned};
+
+use crate::compare::Compared;
+use crate::direct::{Ran, Stop};
+use crate::frame::{Frame, Loop, Stage};
+use crate::statement::unboxed;
+use crate::store::Store;
+use c_meaning_spec::{Ending, Object, Signal};
+use c_tree::{Place, TypedExpr, TypedForInit, TypedProgram, TypedSection, TypedStmt};
+
+/// How deep expressions are evaluated at once.
+pub const MOST_EXPR_DEPTH: u32 = 128;
+
+/// How deep statements are evaluated at once.
+pub const MOST_STMT_DEPTH: u32 = 64;
+
+impl<'a> Store<'a> {
+    // A word into a scalar, as its initial value.
+    fn initial(&mut self, program: &'a TypedProgram, i: u32, w: u64) -> Ran
+        ensures { Runs program.now
+            (then (store (view self.old) (Object.InScalar i) w) meant.dropped) self.new result }
+    {
+        if self.set(Object::InScalar(i as u64), w) {
+            Ran::Nothing
+        } else {
+            {
+                self.stop = Stop::Fails(Ending::Undefined);
+                Ran::Stops
+            }
+        }
+    }
+
+    // An expression statement.
+    fn run_plain(&mut self, program: &'a TypedProgram, e: &'a TypedExpr) -> Ran
+        ensures { Runs program.now
+            (then (meaning program.now (Of e.now) (view self.old)) meant.dropped) self.new result }
+    {
+        match self.value_of(program, e, MOST_EXPR_DEPTH) {
+            Some(_) => Ran::Nothing,
+            None => self.kept(program, Frame::Dropped),
+        }
+    }
+
+    // A return of a value.
+    fn run_return(&mut self, program: &'a TypedProgram, e: &'a TypedExpr) -> Ran
+        ensures { Runs program.now
+            (then (meaning program.now (Of e.now) (view self.old)) meant.returning) self.new result }
+    {
+        match self.value_of(program, e, MOST_EXPR_DEPTH) {
+            Some(w) => {
+                self.returned = Some(w);
+                Ran::Returns
+            },
+            None => self.kept(program, Frame::Returning),
+        }
+    }
+
+    // A local's initialiser.
+    fn run_initial(&mut self, program: &'a TypedProgram, i: u32, e: &'a TypedExpr) -> Ran
+        ensures { Runs program.now
+            (then (meaning program.now (Of e.now) (view self.old)) (meant.initialised i)) self.new result }
+    {
+        match self.value_of(program, e, MOST_EXPR_DEPTH) {
+            Some(w) => self.initial(program, i, w),
+            None => self.kept(program, Frame::Initialised(i)),
+        }
+    }
+
+    // The declaration of an array.
+    fn run_array(&mut self, program: &'a TypedProgram, at: u64) -> Ran
+        ensures { Runs program.now
+            (meant.unset_row at (slice_get (view self.old).arrays at) (view self.old)) self.new result }
+    {
+        match self.arrays.unset(at) {
+            Err(_) => {
+                self.stop = Stop::Memory;
+                Ran::Stops
+            }
+            Ok(there) => if there {
+                Ran::Nothing
+            } else {
+                self.stop = Stop::Fails(Ending::Undefined);
+                Ran::Stops
+            },
+        }
+    }
+
+    // A local is unset, and then initialised.
+    fn run_declare(
+        &mut self,
+        program: &'a TypedProgram,
+        place: Place,
+        init: Option<&'a TypedExpr>,
+    ) -> Ran
+        ensures { Runs program.now
+            (meant.declare (meaning program.now) place (behind init.entry) (view self.old)) self.new result }
+    {
+        match place {
+            Place::Scalar(i) => {
+                if self.unset_scalar(i as u64) {
+                    match init {
+                        None => Ran::Nothing,
+                        Some(e) => self.run_initial(program, i, e),
+                    }
+                } else {
+                    {
+                        self.stop = Stop::Fails(Ending::Undefined);
+                        Ran::Stops
+                    }
+                }
+            }
+            Place::Array(a) => match init {
+                None => self.run_array(program, self.base as u64 + a as u64),
+                Some(_) => {
+                    self.stop = Stop::Fails(Ending::Undefined);
+                    Ran::Stops
+                },
+            },
+            Place::Global(_) => {
+                self.stop = Stop::Fails(Ending::Undefined);
+                Ran::Stops
+            },
+        }
+    }
+
+    // The last part of a loop, after which it turns again.
+    fn run_post(&mut self, program: &'a TypedProgram, turn: Loop<'a>) -> Ran
+        ensures { Turned program.now turn.entry
+            (meant.then_turn (meaning program.now) (behind turn.entry.post) (behind turn.entry.test)
+            (behind turn.entry.post) turn.entry.body.now (view self.old)) self.new result }
+    {
+        match turn.post {
+            None => Ran::Continues,
+            Some(e) => match self.value_of(program, e, MOST_EXPR_DEPTH) {
+                Some(_) => Ran::Continues,
+                None => {
+                    let frame = Frame::Turning {
+                        stage: Stage::Turns,
+                        rest: &[],
+                        turn,
+                    };
+                    self.kept_turn(program, frame)
+                }
+            },
+        }
+    }
+
+    /// A statement, which is left where it is too deep.
+    #[cycle(runs)]
+    #[tactic(auto, using(crate::proofs::Parts::run_is))]
+    pub fn run(&mut self, program: &'a TypedProgram, st: &'a TypedStmt, depth: u32) -> Ran
+        ensures { Runs program.now
+            (meaning program.now (Run st.now) (view self.old)) self.new result }
+    {
+        if depth == 0 {
+            self.leave_stmt(program, st);
+            Ran::Stops
+        } else if self.stock == 0 {
+            {
+                self.stop = Stop::Fails(Ending::More);
+                Ran::Stops
+            }
+        } else {
+            self.stock -= 1;
+            self.begun(program, st, depth - 1)
+        }
+    }
+
+    // A statement after its step.
+    #[cycle(runs)]
+    fn begun(&mut self, program: &'a TypedProgram, st: &'a TypedStmt, depth: u32) -> Ran
+        ensures { Runs program.now
+            (meant.begun (meaning program.now) (out-TypedStmt st.now) (view self.old)) self.new result }
+    {
+        match st {
+            TypedStmt::Declare { place, init } => self.run_declare(program, *place, init.as_ref()),
+            TypedStmt::Plain(None) => Ran::Nothing,
+            TypedStmt::Plain(Some(e)) => self.run_plain(program, e),
+            TypedStmt::Compound(all) => self.run_all(program, all.as_slice(), depth),
+            TypedStmt::If { test, yes, no } => {
+                self.run_if(program, test, yes.get(), unboxed(no), depth)
+            }
+            TypedStmt::While { test, body } => {
+                let turn = Loop {
+                    test: Some(test),
+                    post: None,
+                    body: body.get(),
+                };
+                self.run_loop(program, turn, depth)
+            }
+            TypedStmt::Do { body, test } => {
+                let turn = Loop {
+                    test: Some(test),
+                    post: None,
+                    body: body.get(),
+                };
+                self.run_do(program, turn, depth)
+            }
+            TypedStmt::For {
+                init,
+                test,
+                post,
+                body,
+            } => {
+                let turn = Loop {
+                    test: test.as_ref(),
+                    post: post.as_ref(),
+                    body: body.get(),
+                };
+                self.run_for(program, init, turn, depth)
+            }
+            TypedStmt::Switch {
+                scalar: _,
+                test,
+                sections,
+            } => self.run_switch(program, test, sections.as_slice(), depth),
+            TypedStmt::Break => Ran::Breaks,
+            TypedStmt::Continue => Ran::Continues,
+            TypedStmt::Return(None) => {
+                self.returned = None;
+                Ran::Returns
+            },
+            TypedStmt::Return(Some(e)) => self.run_return(program, e),
+        }
+    }
+
+    // Statements one after another.
+    #[cycle(runs)]
+    fn run_all(&mut self, program: &'a TypedProgram, all: &'a [TypedStmt], depth: u32) -> Ran
+        ensures { Runs program.now
+            (meant.sequence (meaning program.now) all.now (view self.old)) self.new result }
+    {
+        let mut rest = all;
+        while let Some((st, more)) = rest.split_first() {
+            match self.run(program, st, depth) {
+                Ran::Nothing => {
+                    rest = more;
+                }
+                Ran::Breaks => return Ran::Breaks,
+                Ran::Continues => return Ran::Continues,
+                Ran::Returns => return Ran::Returns,
+                Ran::Stops => return self.kept(program, Frame::Sequence(more)),
+            }
+        }
+        Ran::Nothing
+    }
+
+    // An `if`.
+    #[cycle(runs)]
+    fn run_if(
+        &mut self,
+        program: &'a TypedProgram,
+        test: &'a TypedExpr,
+        first: &'a TypedStmt,
+        other: Option<&'a TypedStmt>,
+        depth: u32,
+    ) -> Ran
+        ensures { Runs program.now
+            (then (meaning program.now (Of test.now) (view self.old))
+            (meant.after_if (meaning program.now) first.now (behind other.entry))) self.new result }
+    {
+        match self.value_of(program, test, MOST_EXPR_DEPTH) {
+            Some(w) => {
+                if w == 0 {
+                    match other {
+                        None => Ran::Nothing,
+                        Some(other) => self.run(program, other, depth),
+                    }
+                } else {
+                    self.run(program, first, depth)
+                }
+            }
+            None => self.kept(program, Frame::If { first, other }),
+        }
+    }
+
+    // The body of a loop, and its last part.
+    #[cycle(runs)]
+    fn run_body(&mut self, program: &'a TypedProgram, turn: Loop<'a>, depth: u32) -> Ran
+        ensures { Turned program.now turn.entry
+            (then (meaning program.now (Run turn.entry.body.now) (view self.old))
+            (meant.after_body (meaning program.now) (behind turn.entry.test) (behind turn.entry.post)
+            turn.entry.body.now)) self.new result }
+    {
+        match self.run(program, turn.body, depth) {
+            Ran::Nothing => self.run_post(program, turn),
+            Ran::Continues => self.run_post(program, turn),
+            Ran::Breaks => Ran::Nothing,
+            Ran::Returns => Ran::Returns,
+            Ran::Stops => {
+                let frame = Frame::Turning {
+                    stage: Stage::Ran,
+                    rest: &[],
+                    turn,
+                };
+                self.kept_turn(program, frame)
+            }
+        }
+    }
+
+    // The test of a loop, and its body where the test holds.
+    #[cycle(runs)]
+    fn run_test(
+        &mut self,
+        program: &'a TypedProgram,
+        test: &'a TypedExpr,
+        turn: Loop<'a>,
+        depth: u32,
+    ) -> Ran
+        ensures { Turned program.now turn.entry
+            (then (meaning program.now (Of test.now) (view self.old))
+            (meant.after_test (meaning program.now) (behind turn.entry.test) (behind turn.entry.post)
+            turn.entry.body.now)) self.new result }
+    {
+        match self.value_of(program, test, MOST_EXPR_DEPTH) {
+            Some(w) => {
+                if w == 0 {
+                    Ran::Nothing
+                } else {
+                    self.run_body(program, turn, depth)
+                }
+            }
+            None => {
+                let frame = Frame::Turning {
+                    stage: Stage::Tests,
+                    rest: &[],
+                    turn,
+                };
+                self.kept_turn(program, frame)
+            }
+        }
+    }
+
+    // One turn of a loop.
+    #[cycle(runs)]
+    #[tactic(auto, using(crate::proofs::Parts::turn_is))]
+    fn run_turn(&mut self, program: &'a TypedProgram, turn: Loop<'a>, depth: u32) -> Ran
+        ensures { Turned program.now turn.entry
+            (meaning program.now (Turn (behind turn.entry.test) (behind turn.entry.post)
+            turn.entry.body.now) (view self.old)) self.new result }
+    {
+        match turn.test {
+            None => self.run_body(program, turn, depth),
+            Some(test) => self.run_test(program, test, turn, depth),
+        }
+    }
+
+    /// A loop from its test on.
+    #[cycle(runs)]
+    pub fn run_loop(&mut self, program: &'a TypedProgram, turn: Loop<'a>, depth: u32) -> Ran
+        ensures { Runs program.now
+            (meaning program.now (Turn (behind turn.entry.test) (behind turn.entry.post)
+            turn.entry.body.now) (view self.old)) self.new result }
+    {
+        for _round in 0..u64::MAX {
+            match self.run_turn(program, turn, depth) {
+                Ran::Continues => {}
+                Ran::Nothing => return Ran::Nothing,
+                Ran::Breaks => return Ran::Breaks,
+                Ran::Returns => return Ran::Returns,
+                Ran::Stops => return Ran::Stops,
+            }
+        }
+        self.stop = Stop::Memory;
+        Ran::Stops
+    }
+
+    // A loop whose body comes before its test.
+    #[cycle(runs)]
+    fn run_do(&mut self, program: &'a TypedProgram, turn: Loop<'a>, depth: u32) -> Ran
+        ensures { Runs program.now
+            (then (meaning program.now (Run turn.entry.body.now) (view self.old))
+            (meant.after_body (meaning program.now) (behind turn.entry.test) (behind turn.entry.post)
+            turn.entry.body.now)) self.new result }
+    {
+        match self.run_body(program, turn, depth) {
+            Ran::Continues => self.run_loop(program, turn, depth),
+            Ran::Nothing => Ran::Nothing,
+            Ran::Breaks => Ran::Breaks,
+            Ran::Returns => Ran::Returns,
+            Ran::Stops => Ran::Stops,
+        }
+    }
+
+    // A `for`.
+    #[cycle(runs)]
+    fn run_for(
+        &mut self,
+        program: &'a TypedProgram,
+        init: &'a TypedForInit,
+        turn: Loop<'a>,
+        depth: u32,
+    ) -> Ran
+        ensures { Runs program.now
+            (meant.begin (meaning program.now) (out-TypedForInit init.now) (behind turn.entry.test)
+            (behind turn.entry.post) turn.entry.body.now (view self.old)) self.new result }
+    {
+        match init {
+            TypedForInit::Nothing => self.run_loop(program, turn, depth),
+            TypedForInit::First(e) => match self.value_of(program, e, MOST_EXPR_DEPTH) {
+                Some(_) => self.run_loop(program, turn, depth),
+                None => {
+                    let frame = Frame::Turning {
+                        stage: Stage::Turns,
+                        rest: &[],
+                        turn,
+                    };
+                    self.kept(program, frame)
+                }
+            },
+            TypedForInit::Locals(all) => self.run_locals(program, all.as_slice(), turn, depth),
+        }
+    }
+
+    // The declarations of a `for`, and then its turns.
+    #[cycle(runs)]
+    fn run_locals(
+        &mut self,
+        program: &'a TypedProgram,
+        all: &'a [TypedStmt],
+        turn: Loop<'a>,
+        depth: u32,
+    ) -> Ran
+        ensures { Runs program.now
+            (meant.locals (meaning program.now) all.now (behind turn.entry.test)
+            (behind turn.entry.post) turn.entry.body.now (view self.old)) self.new result }
+    {
+        let mut rest = all;
+        while let Some((st, more)) = rest.split_first() {
+            match self.run(program, st, depth) {
+                Ran::Nothing => {
+                    rest = more;
+                }
+                Ran::Breaks => return Ran::Breaks,
+                Ran::Continues => return Ran::Continues,
+                Ran::Returns => return Ran::Returns,
+                Ran::Stops => {
+                    let frame = Frame::Turning {
+                        stage: Stage::Begins,
+                        rest: more,
+                        turn,
+                    };
+                    return self.kept(program, frame);
+                }
+            }
+        }
+        self.run_loop(program, turn, depth)
+    }
+
+    // A switch.
+    #[cycle(runs)]
+    fn run_switch(
+        &mut self,
+        program: &'a TypedProgram,
+        test: &'a TypedExpr,
+        sections: &'a [TypedSection],
+        depth: u32,
+    ) -> Ran
+        ensures { Runs program.now
+            (then (meaning program.now (Of test.now) (view self.old))
+            (meant.after_switch (meaning program.now) sections.now)) self.new result }
+    {
+        match self.value_of(program, test, MOST_EXPR_DEPTH) {
+            Some(w) => self.run_labels(program, sections, w, depth),
+            None => self.kept(program, Frame::Switch(sections)),
+        }
+    }
+
+    // The statements of a switch from the label on that is equal to the word, from `default` on, or none.
+    #[cycle(runs)]
+    #[tactic(auto, using(crate::proofs::Parts::label_is, crate::proofs::Parts::ends, crate::proofs::Parts::no_label))]
+    fn run_labels(
+        &mut self,
+        program: &'a TypedProgram,
+        sections: &'a [TypedSection],
+        w: u64,
+        depth: u32,
+    ) -> Ran
+        ensures { Runs program.now
+            (meant.after_switch (meaning program.now) sections.now (Signal.Value w) (view self.old)) self.new result }
+    {
+        match self.find_label(sections, w) {
+            Compared::Passed(here) => self.run_sections(program, &[], here, depth),
+            Compared::Found => Ran::Nothing,
+            Compared::Spent => {
+                self.stop = Stop::Fails(Ending::More);
+                Ran::Stops
+            },
+        }
+    }
+
+    // Statements of a section, and then those of the sections behind it.
+    #[cycle(runs)]
+    fn run_sections(
+        &mut self,
+        program: &'a TypedProgram,
+        first: &'a [TypedStmt],
+        behind: &'a [TypedSection],
+        depth: u32,
+    ) -> Ran
+        ensures { Runs program.now
+            (meant.run_from (meaning program.now) (first.now ++ bodies behind.now) (view self.old))
+            self.new result }
+    {
+        let mut rest = first;
+        let mut later = behind;
+        'statements: loop {
+            match rest.split_first() {
+                Some((st, more)) => match self.run(program, st, depth) {
+                    Ran::Nothing => {
+                        rest = more;
+                    }
+                    Ran::Breaks => return Ran::Nothing,
+                    Ran::Continues => return Ran::Continues,
+                    Ran::Returns => return Ran::Returns,
+                    Ran::Stops => {
+                        let frame = Frame::Sections {
+                            rest: more,
+                            behind: later,
+                        };
+                        return self.kept(program, frame);
+                    }
+                },
+                None => match later.split_first() {
+                    Some((section, others)) => {
+                        rest = section.body.as_slice();
+                        later = others;
+                    }
+                    None => return Ran::Nothing,
+                },
+            }
+        }
+    }
+}
