@@ -3,4 +3,5 @@ pub mod Events
 pub mod Counting
 pub mod Routes
 pub mod Agreeing
+pub mod FlushedFirst
 pub mod StandardFacts

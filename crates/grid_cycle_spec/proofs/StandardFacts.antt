@@ -1,6 +1,10 @@
 -- Worked rows of the definitions.
-use Rattle.std.proofs.Common.{◌≡◌, ℕ, ◌==◌, ◌||◌, false, [], ◌∷◌, Some, refl}
+use Rattle.std.proofs.Common.{◌≡◌, ℕ, ◌==◌, ◌||◌, false, [], ◌∷◌, Some, None, refl}
+use Rattle.trips_isa.specs.declared.block.Block.{Block}
 use Rattle.trips_isa.specs.declared.op.Op.TheVariants.{Add, Mul, Divs, Ld}
+use Rattle.trips_isa.specs.Machine.{State}
+use Rattle.commit_flush_spec.specs.Frames.{Frame, Bytes, fresh, numbers}
+use Rattle.commit_flush_spec.specs.Window.{opened}
 use Rattle.operand_net.specs.Tick.{next_of}
 use Rattle.grid_cycle_spec.specs.Stations.{control, bank_node, data_node, tile_node, tile_of, bank_of}
 use Rattle.grid_cycle_spec.specs.Stations.{data_tile_of, far}
@@ -9,7 +13,7 @@ use Rattle.grid_cycle_spec.specs.Choosing.{least, each}
 use Rattle.grid_cycle_spec.specs.Grid.{Grid}
 use Rattle.grid_cycle_spec.specs.Fetches.{fetches}
 use Rattle.grid_cycle_spec.specs.Units.{unit_on}
-use Rattle.grid_cycle_spec.specs.DataTiles.{bit_of}
+use Rattle.grid_cycle_spec.specs.DataTiles.{bit_of, by_block, wrong_from, wrong_load}
 use Rattle.grid_cycle_spec.specs.Cycles.{begun_at, counted}
 
 -- nodes: 5 by 5, row by row
@@ -41,6 +45,27 @@ tile_of_address = refl
 -- the bit of number 1 of block 32 is that of number 1 of block 0
 pub waiting_bit : bit_of 32 1 ≡ 1
 waiting_bit = refl
+
+-- frame 3 has just stored bytes 8 and 9 by number 0; frame 5, of block 7, has loaded byte 10 by number 0 and byte 9 by
+-- number 1
+abbrev pub storing : Block → Frame
+storing b = record (fresh 3 4 b) {
+  loads = [];
+  stores = Some (record { number = 0; address = 8; size = 2; value = Some 4660 }) ∷ [];
+}
+
+abbrev pub guessing : Block → Frame
+guessing b = record (fresh 5 7 b) { loads = Some (Bytes 10 1) ∷ Some (Bytes 9 1) ∷ []; stores = [] }
+
+pub second_is_wrong : (b : Block) → wrong_from 0 (storing b) (guessing b ∷ []) ≡ Some (5, 1)
+unfolding numbers
+second_is_wrong b = refl
+
+pub its_block : (b : Block) → by_block (storing b ∷ guessing b ∷ []) (Some (5, 1)) ≡ Some (7, 1)
+its_block b = refl
+
+pub no_frame_to_store : (s : State) → wrong_load [] 9 3 0 (opened s) ≡ None
+no_frame_to_store s = refl
 
 -- from control to the last tile: along the row, then along the column
 pub corner_to_corner : far 0 24 ≡ 8

@@ -12,11 +12,11 @@ use Rattle.commit_flush_spec.specs.Frames.{Frame, at, numbers}
 use Rattle.commit_flush_spec.specs.Older.{took_touched, nearest, passes}
 use Rattle.commit_flush_spec.specs.Ends.{store_came, all_below}
 use Rattle.commit_flush_spec.specs.Memory.{request, with_store}
-use Rattle.commit_flush_spec.specs.Window.{Window, Load, Store, happens}
+use Rattle.commit_flush_spec.specs.Window.{Window, Load, Store, can, happens}
 use Rattle.grid_cycle_spec.specs.Stations.{data_tile_of, data_node, data_tiles}
 use Rattle.grid_cycle_spec.specs.Grid.{Grid}
-use Rattle.grid_cycle_spec.specs.Acting.{act}
-use Rattle.grid_cycle_spec.specs.Choosing.{eldest, each, least, with_frame}
+use Rattle.grid_cycle_spec.specs.Acting.{act, is_done}
+use Rattle.grid_cycle_spec.specs.Choosing.{eldest, each, found_in, least, with_frame}
 use Rattle.grid_cycle_spec.specs.Sending.{enter_both}
 
 -- requests ---------------------------------------------------------------------------------------
@@ -80,32 +80,36 @@ abbrev pub stored_by : Frame → Option (ℕ × Inst) → Option Stored
 stored_by f None = None
 stored_by f (Some q) = stored_of q.1 (at f.spots q.0) (at f.spots (128 + q.0))
 
--- a frame's block beside the number of a load, or what was found behind the frame
-abbrev pub load_in : Frame → Option ℕ → Option (ℕ × ℕ) → Option (ℕ × ℕ)
-load_in f None behind = behind
-load_in f (Some n) behind = Some (f.block, n)
-
--- the first of some frames with a load that took a touched byte, and its lowest such load
+-- the first of some frames with a load that took a touched byte, by number, and its lowest such load
 abbrev pub wrong_behind : (ℕ → Bool) → List Frame → Option (ℕ × ℕ)
 wrong_behind touched [] = None
-wrong_behind touched (f ∷ fs) = load_in f
+wrong_behind touched (f ∷ fs) = found_in f
     (least (λ n. took_touched (passes (at f.stores) n touched) (at f.loads n)) numbers 0)
     (wrong_behind (passes (at f.stores) numbers touched) fs)
 
 -- the same, where store n of f has just been resolved: its own loads of greater numbers, then younger frames
 abbrev pub wrong_from : ℕ → Frame → List Frame → Option (ℕ × ℕ)
-wrong_from n f fs = load_in f
+wrong_from n f fs = found_in f
     (least (λ k. took_touched (nearest (at f.stores) n k) (at f.loads k)) numbers 0)
     (wrong_behind (nearest (at f.stores) n numbers) fs)
 
--- the block and the number of the lowest wrong load of the oldest frame that the store with number n of the frame
--- of number m flushes, none where it flushes none
-abbrev pub wrong_load : ℕ → ℕ → List Frame → Option (ℕ × ℕ)
-wrong_load m n [] = None
-wrong_load m n (f ∷ fs) = cond (f.number == m) (wrong_from n (with_store n (stored_by f (request f n)) 0 f) fs)
-    (wrong_load m n fs)
+-- the same, where what waits with number n in the frame of number m is resolved as a store
+abbrev pub wrong_in : ℕ → ℕ → List Frame → Option (ℕ × ℕ)
+wrong_in m n [] = None
+wrong_in m n (f ∷ fs) = cond (f.number == m) (wrong_from n (with_store n (stored_by f (request f n)) 0 f) fs)
+    (wrong_in m n fs)
 
--- the load waits from now on, and its block stands as the predicted next block
+-- the frame that Store of this frame and number would flush first, by number, and its lowest wrong load; none where
+-- that event would flush none, or would not be Done
+abbrev pub wrong_load : List Block → ℕ → ℕ → ℕ → Window → Option (ℕ × ℕ)
+wrong_load blocks budget m n w = cond (is_done (can blocks budget (Store m n) w)) (wrong_in m n w.frames) None
+
+-- a load by its block, in place of the number of its frame
+abbrev pub by_block : List Frame → Option (ℕ × ℕ) → Option (ℕ × ℕ)
+by_block fs None = None
+by_block fs (Some c) = with_frame c.0 (λ f o. Some (f.block, c.1)) fs None
+
+-- the load of this block and number waits from now on, and the block stands as the predicted next block
 abbrev pub waits_now : {W : Type 0} → Option (ℕ × ℕ) → Grid W → Grid W
 waits_now None g = g
 waits_now (Some q) g = record g {
@@ -113,10 +117,11 @@ waits_now (Some q) g = record g {
   standing = Some q.0;
 }
 
--- store n of the frame of number m is resolved, and what it flushes goes
+-- store n of the frame of number m is resolved, and what it flushes goes; its lowest wrong load waits from now on
 abbrev pub store_resolved : {W : Type 0} → List Block → ℕ → ℕ → ℕ → Grid W → Grid W
 store_resolved blocks budget m n g =
-    waits_now (wrong_load m n g.window.frames) (act blocks budget (Store m n) (unasked m n g))
+    waits_now (by_block g.window.frames (wrong_load blocks budget m n g.window))
+    (act blocks budget (Store m n) (unasked m n g))
 
 -- turns ------------------------------------------------------------------------------------------
 

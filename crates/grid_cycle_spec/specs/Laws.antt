@@ -1,7 +1,8 @@
 -- The words of the grid's laws.
-use Rattle.std.specs.Prelude.{◌≡◌, ℕ, ◌+◌, ◌<◌, ◌≤◌, List, length}
+use Rattle.std.specs.Prelude.{◌≡◌, ℕ, ◌+◌, ◌<◌, ◌≤◌, List, [], ◌∷◌, length, Option, Some, None}
 use Rattle.trips_isa.specs.declared.block.Block.{Block}
 use Rattle.trips_isa.specs.declared.op.Op.{Op}
+use Rattle.commit_flush_spec.specs.Frames.{Frame}
 use Rattle.commit_flush_spec.specs.Window.{Window, Event, plays}
 use Rattle.operand_net.specs.Tick.{next_of}
 use Rattle.grid_cycle_spec.specs.Grid.{Grid}
@@ -16,6 +17,16 @@ pub record ByEvents (blocks : List Block) (budget : ℕ) (v w : Window) : Type 0
 -- each frame that was filled has been committed, has been flushed, or is in flight
 abbrev pub AddsUp : {W : Type 0} → Grid W → Type 0
 AddsUp g = g.counts.fetched ≡ g.counts.committed + g.counts.flushed + length g.window.frames
+
+-- the number of the first of some frames
+abbrev pub first_number : List Frame → Option ℕ
+first_number [] = None
+first_number (f ∷ fs) = Some f.number
+
+-- the frame of a load, where one is named
+abbrev pub frame_named : Option (ℕ × ℕ) → Option ℕ
+frame_named None = None
+frame_named (Some c) = Some c.0
 
 -- an operation takes from one cycle to the longest latency
 pub record TakesTime (op : Op) : Type 0 where

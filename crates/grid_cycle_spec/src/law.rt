@@ -7,11 +7,14 @@ ghost use Rattle.trips_isa.specs.declared.run.Stepped.TheVariants.{Went};
 ghost use Rattle.trips_isa.specs.Fits.{FitsBlock};
 ghost use Rattle.commit_flush_spec.specs.Invariant.{AllGood};
 ghost use Rattle.commit_flush_spec.specs.Laws.{TakesSteps, WindowOk};
+ghost use Rattle.commit_flush_spec.specs.Window.{Store, Window, happens};
 ghost use Rattle.grid_cycle_spec.specs.Stations.{bank_of, bank_node, data_tile_of, data_node, far, home, tile_of, tile_node};
 ghost use Rattle.grid_cycle_spec.specs.Costs.{cost, cost_of, greatest};
 ghost use Rattle.grid_cycle_spec.specs.Grid.{Grid};
+ghost use Rattle.grid_cycle_spec.specs.Acting.{gone};
+ghost use Rattle.grid_cycle_spec.specs.DataTiles.{wrong_load};
 ghost use Rattle.grid_cycle_spec.specs.Cycles.{AfterCycles, Eager, closed};
-ghost use Rattle.grid_cycle_spec.specs.Laws.{AddsUp, ByEvents, IsNearer, TakesTime};
+ghost use Rattle.grid_cycle_spec.specs.Laws.{AddsUp, ByEvents, IsNearer, TakesTime, first_number, frame_named};
 
 use operand_net::Weather;
 
@@ -45,6 +48,14 @@ pub fn counts_add_up<W: Weather>()
         → AfterCycles W.next W.follows blocks budget n g h → AddsUp h }
     ensures closed { (g : Grid W) → AddsUp g
         → (closed g).counts.fetched ≡ (closed g).counts.committed + (closed g).counts.flushed }
+{}
+
+/// The frame that `wrong_load` names is the first that the store's event flushes. So it names one exactly where that
+/// event is done and flushes any.
+pub fn wrong_loads_are_flushed_first()
+    ensures { (blocks : List Block) (budget m n : ℕ) (w : Window) → WindowOk blocks budget w
+        → frame_named (wrong_load blocks budget m n w)
+        ≡ first_number (gone w (happens blocks budget (Store m n) w)) }
 {}
 
 /// What a block may cost.

@@ -10,4 +10,5 @@ mod law;
 pub use law::{
     costs_add_up, costs_are_bounded, cycles_are_events, cycles_take_steps, links_lead_nearer,
     operations_take_time, stations_are_nodes, weather_changes_no_state,
+    wrong_loads_are_flushed_first,
 };

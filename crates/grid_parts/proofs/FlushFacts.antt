@@ -11,8 +11,8 @@ use Rattle.commit_flush_spec.specs.Memory.{request}
 use Rattle.grid_cycle_spec.specs.Grid.{Grid, numbers_of}
 use Rattle.grid_cycle_spec.specs.Acting.{flushed, settled}
 use Rattle.grid_cycle_spec.specs.Choosing.{with_frame}
-use Rattle.grid_cycle_spec.specs.DataTiles.{answer_chosen, answered_by}
-use Rattle.grid_stations.specs.Asked.{frame_of, found_in, request_at}
+use Rattle.grid_cycle_spec.specs.DataTiles.{answer_chosen, answered_by, by_block}
+use Rattle.grid_stations.specs.Asked.{block_of, frame_of, found_in, request_at}
 use Rattle.grid_stations.specs.declared.windows.Request.{Request}
 use Rattle.grid_stations.proofs.FrameFacts.{by_frame, with_frame_is}
 
@@ -102,3 +102,24 @@ module _ {W : Type 0} where
             → answered_by blocks budget tile n k (Some (q.slot, q.inst)) g ≡ by_frame answers_it g o
         go None e = absurd (cc)
         go (Some f) e = waits f (request f k) e
+
+-- the block of a frame, beside a load's number
+abbrev with_load : ℕ → Option ℕ → Option (ℕ × ℕ)
+with_load k None = None
+with_load k (Some b) = Some (b, k)
+
+-- a load by its block, of the block that is told of its frame
+block_told : (fs : List Frame) (n k : ℕ) (o : Option ℕ) → o ≡ block_of n fs → with_load k o ≡ by_block fs (Some (n, k))
+block_told fs n k o e = ap (with_load k) e ∙ go (frame_of n fs)
+    ∙ sym (with_frame_is n (λ f p. Some (f.block, k)) fs None)
+  where
+    go : (p : Option Frame) → with_load k (found_in (λ f. Some f.block) p)
+        ≡ by_frame (λ f x. Some (f.block, k)) None p
+    go None = refl
+    go (Some f) = refl
+
+pub no_block : (fs : List Frame) (n k : ℕ) → None ≡ block_of n fs → None ≡ by_block fs (Some (n, k))
+no_block fs n k e = block_told fs n k None e
+
+pub some_block : (fs : List Frame) (n k b : ℕ) → Some b ≡ block_of n fs → Some (b, k) ≡ by_block fs (Some (n, k))
+some_block fs n k b e = block_told fs n k (Some b) e

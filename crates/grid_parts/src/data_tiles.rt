@@ -63,6 +63,23 @@ impl<V: Windows, W> Grid<V, W> {
         self.acted(frames.as_slice());
     }
 
+    // The lowest wrong load of the frame that the store would flush first, by its block.
+    fn wrong_block(&self, frame: u8, number: u8) -> Option<(u32, u8)>
+        requires frame { frame < 8 }
+        requires number { number < 32 }
+        ensures { result ≡ spec.by_block (V.held self.now.window).frames
+            (spec.wrong_load (V.blocks self.now.window) (V.budget self.now.window) frame number
+            (V.held self.now.window)) }
+    {
+        match self.window.wrong_load(frame, number) {
+            None => None,
+            Some((wrong, load)) => match self.window.block_of(wrong) {
+                None => None,
+                Some(block) => Some((block, load)),
+            },
+        }
+    }
+
     // The lowest load that the store makes wrong waits from now on.
     fn store_resolved(&mut self, frame: u8, number: u8)
         requires frame { frame < 8 }
@@ -75,7 +92,7 @@ impl<V: Windows, W> Grid<V, W> {
         ensures image { V.blocks self.new.window ≡ V.blocks self.old.window }
         ensures budget { V.budget self.new.window ≡ V.budget self.old.window }
     {
-        let wrong = self.window.wrong_load(frame, number);
+        let wrong = self.wrong_block(frame, number);
         self.store_acts(frame, number);
         match wrong {
             Some(load) => self.state.wait_from_now(load.0, load.1),

@@ -40,7 +40,8 @@ use Rattle.commit_flush_spec.specs.Window.{in_flight}
 use Rattle.commit_flush_spec.proofs.Look.{or_false}
 use Rattle.grid_cycle_spec.specs.DataTiles.{asks_store, tile_by, tile_for, bit_of, all_resolved, must_wait, may_answer}
 use Rattle.grid_cycle_spec.specs.DataTiles.{answers_request, unasked, load_answered}
-use Rattle.grid_cycle_spec.specs.DataTiles.{wrong_load, waits_now, answered_by, answer_chosen, data_turn, answers}
+use Rattle.grid_cycle_spec.specs.DataTiles.{by_block, wrong_load, waits_now, answered_by, answer_chosen, data_turn}
+use Rattle.grid_cycle_spec.specs.DataTiles.{answers}
 use Rattle.grid_cycle_spec.specs.DataTiles as data_tiles_spec
 use Rattle.grid_rule.specs.UnderWay.{Gives, InUnit, Tied, to_come}
 use Rattle.grid_rule.specs.Rule.{EachFrame, FrameRule, Waits}
@@ -368,7 +369,8 @@ module _ {W : Type 0} (blocks : List Block) (good : AllGood blocks) (budget leas
     store_going = subst (λ y. Going blocks budget least (answered_by blocks budget tile m k y g)) (sym q.is_request)
         (subst (λ b. Going blocks budget least (cond b (data_tiles_spec.store_resolved blocks budget m k g)
         (load_answered blocks budget tile m k q.slot g))) (sym q.is_kind)
-        (waits_going (wrong_load m k g.window.frames) (act blocks budget (Store m k) (unasked m k g)) acts))
+        (waits_going (by_block g.window.frames (wrong_load blocks budget m k g.window))
+        (act blocks budget (Store m k) (unasked m k g)) acts))
 
   -- answers ----------------------------------------------------------------------------------------
 

@@ -25,7 +25,7 @@ use Rattle.grid_cycle_spec.specs.Choosing.{with_frame}
 use Rattle.grid_cycle_spec.specs.Sending.{enters, enters_if, enter_both}
 use Rattle.grid_cycle_spec.specs.Banks.{read_chosen}
 use Rattle.grid_cycle_spec.specs.DataTiles.{tile_by, unasked, load_answered, waits_now, wrong_load, store_resolved}
-use Rattle.grid_cycle_spec.specs.DataTiles.{answered_by, answer_chosen}
+use Rattle.grid_cycle_spec.specs.DataTiles.{answered_by, answer_chosen, by_block}
 use Rattle.grid_cycle_spec.specs.Units.{result_enters, slot_enters, rests, result_chosen, takes, issued, issue_chosen}
 use Rattle.grid_cycle_spec.specs.Arrivals.{asks, delivers, is_waiting, slot_arrives}
 use Rattle.grid_cycle_spec.specs.Arrivals.{inst_arrives, place_arrives, arrives_if, arrival}
@@ -264,7 +264,8 @@ module _ {W : Type 0} (blocks : List Block) (budget : ℕ) (f : Frame) (g : Grid
   store_other : (k j : ℕ) → (n == k) ≡ false → (m : Grid W) → WindowOk blocks budget m.window → Behind f g m
       → Behind f g (store_resolved blocks budget k j m)
   store_other k j e m ok b =
-      waiting_now (wrong_load k j m.window.frames) (act blocks budget (window.Store k j) (unasked k j m))
+      waiting_now (by_block m.window.frames (wrong_load blocks budget k j m.window))
+      (act blocks budget (window.Store k j) (unasked k j m))
       (acted (unasked k j m) (window.Store k j) e ok (not_asked m k j e b))
 
   answered_other : (tile k j : ℕ) (o : Option (ℕ × Inst)) → (n == k) ≡ false → (m : Grid W)

@@ -37,11 +37,11 @@ use Rattle.window_progress.proofs.Search.{some_is}
 use Rattle.window_progress.proofs.Stuck.{numbers_are}
 use Rattle.grid_cycle_spec.specs.Stations.{data_node}
 use Rattle.grid_cycle_spec.specs.Grid.{Grid}
-use Rattle.grid_cycle_spec.specs.Acting.{act, flushed, gone, settled}
+use Rattle.grid_cycle_spec.specs.Acting.{act, flushed, gone, is_done, settled}
 use Rattle.grid_cycle_spec.specs.Arrivals.{is_waiting}
-use Rattle.grid_cycle_spec.specs.Choosing.{least}
-use Rattle.grid_cycle_spec.specs.DataTiles.{tile_by, unasked, stored_by, load_in, wrong_behind, wrong_from, wrong_load}
-use Rattle.grid_cycle_spec.specs.DataTiles.{waits_now}
+use Rattle.grid_cycle_spec.specs.Choosing.{found_in, least}
+use Rattle.grid_cycle_spec.specs.DataTiles.{tile_by, unasked, stored_by, wrong_behind, wrong_from, wrong_in, wrong_load}
+use Rattle.grid_cycle_spec.specs.DataTiles.{by_block, waits_now}
 use Rattle.grid_cycle_spec.specs.DataTiles as tiles
 use Rattle.grid_cycle_bound.specs.Course.{Course, Task}
 use Rattle.grid_cycle_bound.specs.Lane.{Phase, Sent, Front, Stage}
@@ -179,19 +179,24 @@ module _ {W : Type 0} (blocks : List Block) (good : AllGood blocks) (budget : �
               (none_least (λ n. took_touched (nearest (at V.stores) k n) (at e.loads n)) numbers z r.0
               (omega (arith, l, m, w))) r.2)
 
-      -- its block stands as the next one
-      wrong_is : wrong_load e.number k h.window.frames ≡ Some (e.block, some_found.0)
-      wrong_is = ap (wrong_load e.number k) i
+      wrong_is : wrong_load blocks budget e.number k h.window ≡ Some (e.number, some_found.0)
+      wrong_is = ap (λ z. cond (is_done z) (wrong_in e.number k h.window.frames) None) it
+          ∙ ap (wrong_in e.number k) i
           ∙ cond-true (e.number == e.number) _ _ (same_number e.number)
           ∙ ap (λ q. wrong_from k (with_store k (stored_by e q) 0 e) younger)
           (asking.request_is blocks good budget h e younger i ok rule k asked)
-          ∙ ap (λ q. load_in e q (wrong_behind (nearest (at V.stores) k numbers) younger)) some_found.1
+          ∙ ap (λ q. found_in e q (wrong_behind (nearest (at V.stores) k numbers) younger)) some_found.1
+
+      -- its block stands as the next one
+      block_is : by_block h.window.frames (wrong_load blocks budget e.number k h.window)
+          ≡ Some (e.block, some_found.0)
+      block_is = ap₂ by_block i wrong_is ∙ cond-true (e.number == e.number) _ _ (same_number e.number)
 
       next_is : (h.window.state.next == e.block) ≡ true
       next_is = (subst (FramesOk blocks o) i ok.frames).1
 
       flushed_is : H ≡ waits_now (Some (e.block, some_found.0)) (settled (flushed (e ∷ younger) base))
-      flushed_is = ap₂ (λ q l. waits_now q (settled (flushed l base))) wrong_is all_gone
+      flushed_is = ap₂ (λ q l. waits_now q (settled (flushed l base))) block_is all_gone
 
       pub emptied : H.window.frames ≡ []
       emptied = ap (λ (m : Grid W). m.window.frames) flushed_is ∙ none_left
@@ -222,7 +227,7 @@ module _ {W : Type 0} (blocks : List Block) (good : AllGood blocks) (budget : �
 
       -- what else the store does is of younger frames
       pub stays : Behind V base H
-      stays = waiting_now blocks budget V base (wrong_load e.number k h.window.frames)
+      stays = waiting_now blocks budget V base (by_block h.window.frames (wrong_load blocks budget e.number k h.window))
           (act blocks budget (window.Store e.number k) A) (record {
             younger = only_younger.younger;
             frames = only_younger.frames;

@@ -25,7 +25,7 @@ use Rattle.grid_cycle_spec.specs.Ends.{seal_one, seal_each, learning, committed_
 use Rattle.grid_cycle_spec.specs.Ends.{one_committed}
 use Rattle.grid_cycle_spec.specs.Fetches.{fill_where, fetch_on, fetch_ends, fetches}
 use Rattle.grid_cycle_spec.specs.Banks.{answers_read, read_chosen, bank_turn, reads_answered}
-use Rattle.grid_cycle_spec.specs.DataTiles.{unasked, load_answered, waits_now, wrong_load, store_resolved}
+use Rattle.grid_cycle_spec.specs.DataTiles.{unasked, load_answered, waits_now, by_block, wrong_load, store_resolved}
 use Rattle.grid_cycle_spec.specs.DataTiles.{answers_request, answered_by, answer_chosen, data_turn, answers}
 use Rattle.grid_cycle_spec.specs.Arrivals.{asks, delivers, is_waiting, slot_arrives, inst_arrives}
 use Rattle.grid_cycle_spec.specs.Arrivals.{place_arrives, arrives_if, arrival, arrivals}
@@ -139,7 +139,8 @@ module _ {W : Type 0} (blocks : List Block) (budget : ℕ) where
   waits_kept (Some q) g = refl
 
   store_kept : (m n : ℕ) → Kept (store_resolved blocks budget m n)
-  store_kept m n g = waits_kept (wrong_load m n g.window.frames) (act blocks budget (window.Store m n) (unasked m n g))
+  store_kept m n g = waits_kept (by_block g.window.frames (wrong_load blocks budget m n g.window))
+      (act blocks budget (window.Store m n) (unasked m n g))
       ∙ act_kept (window.Store m n) (unasked m n g)
 
   answered_kept : (tile m n : ℕ) (o : Option (ℕ × Inst)) → Kept (answered_by blocks budget tile m n o)

@@ -140,11 +140,14 @@ pub trait Windows {
         requires number { number < 32 }
         ensures { result ≡ all_resolved frame number (held self.now).frames };
 
-    /// The block and the number of the lowest load that a store of this frame and number makes wrong.
-    fn wrong_load(&self, frame: u8, number: u8) -> Option<(u32, u8)>
+    /// The frame that the store of this frame and number would flush first, with the lowest number of its wrong loads;
+    /// none exactly where that store would flush none or would not be done.
+    fn wrong_load(&self, frame: u8, number: u8) -> Option<(u8, u8)>
         requires frame { frame < 8 }
         requires number { number < 32 }
-        ensures { result ≡ wrong_load frame number (held self.now).frames };
+        ensures value { result
+            ≡ wrong_load (blocks self.now) (budget self.now) frame number (held self.now) }
+        ensures within { IfSome result (λ c. c.0 < 8) };
 
     /// The slots of a frame that may fire, as bits.
     fn ready(&self, frame: u8) -> u128

@@ -1,6 +1,7 @@
 -- The lowest load that a store makes wrong, found from its own frame on.
 use Rattle.std.proofs.Common.{◌≡◌, ℕ, suc, ◌+◌, ◌<◌, ◌≤◌, ◌⊎◌, inl, inr, ◌==◌, Bool, true, false, cond, List, []}
 use Rattle.std.proofs.Common.{◌∷◌, Option, Some, None, length, drop, set, slice_get, refl, sym, ap, ◌∙◌, subst, arith}
+use Rattle.std.specs.Prelude.{IfSome}
 use Rattle.std.proofs.Math.Path.{fun_ext}
 use Rattle.std.proofs.lemmas.Bool.{cases_lt}
 use Rattle.std.proofs.lemmas.Option.{none-some, same_Some}
@@ -10,6 +11,7 @@ use Rattle.trips_isa.specs.declared.block.Stored.{Stored}
 use Rattle.commit_flush_spec.specs.Frames.{Frame, Taken, at, numbers}
 use Rattle.commit_flush_spec.specs.Memory.{request, with_store}
 use Rattle.commit_flush_spec.specs.Older.{covers, nearest, passes, took_touched}
+use Rattle.commit_flush_spec.specs.Laws.{AreNumbers}
 use Rattle.commit_flush_spec.proofs.Lists.{other_at, set_here}
 use Rattle.frame_state.specs.Held.{Held, as_frame, running}
 use Rattle.lsq_order.specs.Reached.{FitsReach, narrowed}
@@ -19,8 +21,9 @@ use Rattle.grid_window.proofs.NearFacts.{near_low, own_at, passes_is, took_none}
 use Rattle.commit_flush_order.specs.Places.{age_of, later}
 use Rattle.commit_flush.proofs.LoadFacts.{fits_reach}
 use Rattle.commit_flush.proofs.StoreFacts.{finds_same, narrowed_same}
-use Rattle.grid_cycle_spec.specs.Choosing.{least}
-use Rattle.grid_cycle_spec.specs.DataTiles.{load_in, stored_by, wrong_behind, wrong_from, wrong_load}
+use Rattle.grid_cycle_spec.specs.Choosing.{found_in, least}
+use Rattle.grid_cycle_spec.specs.Grid.{numbers_of}
+use Rattle.grid_cycle_spec.specs.DataTiles.{stored_by, wrong_behind, wrong_from, wrong_in}
 use Rattle.grid_state.proofs.SlotFacts.{least_is, least_none}
 use Rattle.commit_flush.specs.Lent.{IsLent}
 use Rattle.grid_window.proofs.OlderFacts.{drop_here, drop_past, lent_at}
@@ -118,19 +121,19 @@ fits_stored f (Some q) = fits_reach q.1 (at f.spots q.0) (at f.spots (128 + q.0)
 -- one frame after another ------------------------------------------------------------------------
 
 -- what was found in a frame, whatever is behind it
-pub found_first : (f : Frame) (o : Option ℕ) (x : ℕ × ℕ) (behind : Option (ℕ × ℕ)) → Some x ≡ load_in f o None
-    → Some x ≡ load_in f o behind
+pub found_first : (f : Frame) (o : Option ℕ) (x : ℕ × ℕ) (behind : Option (ℕ × ℕ)) → Some x ≡ found_in f o None
+    → Some x ≡ found_in f o behind
 found_first f None x behind e = absurd (none-some x (sym e))
 found_first f (Some n) x behind e = e
 
-pub found_later : (f : Frame) (o : Option ℕ) (behind : Option (ℕ × ℕ)) → None ≡ load_in f o None
-    → load_in f o behind ≡ behind
+pub found_later : (f : Frame) (o : Option ℕ) (behind : Option (ℕ × ℕ)) → None ≡ found_in f o None
+    → found_in f o behind ≡ behind
 found_later f None behind e = refl
-found_later f (Some n) behind e = absurd (none-some (f.block, n) e)
+found_later f (Some n) behind e = absurd (none-some (f.number, n) e)
 
-pub none_found : (f : Frame) (o : Option ℕ) → None ≡ load_in f o None → o ≡ None
+pub none_found : (f : Frame) (o : Option ℕ) → None ≡ found_in f o None → o ≡ None
 none_found f None e = refl
-none_found f (Some n) e = absurd (none-some (f.block, n) e)
+none_found f (Some n) e = absurd (none-some (f.number, n) e)
 
 module _ (fs : List Frame) (a : ℕ) (f : Frame) (e : slice_get fs a ≡ Some f) (touched : ℕ → Bool) (all : Option (ℕ × ℕ))
     (so_far : wrong_behind touched (drop a fs) ≡ all) where
@@ -140,13 +143,13 @@ module _ (fs : List Frame) (a : ℕ) (f : Frame) (e : slice_get fs a ≡ Some f)
   abbrev behind : Option (ℕ × ℕ)
   behind = wrong_behind (passes (at f.stores) numbers touched) (drop (suc a) fs)
 
-  one : wrong_behind touched (drop a fs) ≡ load_in f found behind
+  one : wrong_behind touched (drop a fs) ≡ found_in f found behind
   one = ap (wrong_behind touched) (drop_here fs a f e)
 
-  pub behind_here : (x : ℕ × ℕ) → Some x ≡ load_in f found None → Some x ≡ all
+  pub behind_here : (x : ℕ × ℕ) → Some x ≡ found_in f found None → Some x ≡ all
   behind_here x is = found_first f found x behind is ∙ sym one ∙ so_far
 
-  pub behind_later : None ≡ load_in f found None → (left : ℕ → Bool)
+  pub behind_later : None ≡ found_in f found None → (left : ℕ → Bool)
       → ((z : ℕ) → left z ≡ passes (at f.stores) numbers touched z) → wrong_behind left (drop (a + 1) fs) ≡ all
   behind_later is left same =
       let next : a + 1 ≡ suc a = omega arith in
@@ -164,25 +167,25 @@ behind_nowhere fs a touched all so_far l = sym (ap (wrong_behind touched) (drop_
 abbrev pub wrong_of : ℕ → Frame → List Frame → Option (ℕ × ℕ)
 wrong_of k f fs = wrong_from k (with_store k (stored_by f (request f k)) 0 f) fs
 
-pub no_load : (fs : List Frame) (n k : ℕ) → None ≡ age_of n fs → None ≡ wrong_load n k fs
+pub no_load : (fs : List Frame) (n k : ℕ) → None ≡ age_of n fs → None ≡ wrong_in n k fs
 no_load [] n k e = refl
 no_load (f ∷ fs) n k e = go (f.number == n) e (age_of n fs) refl (no_load fs n k)
   where
     go : (b : Bool) → None ≡ cond b (Some 0) (later (age_of n fs)) → (p : Option ℕ) → age_of n fs ≡ p
-        → (None ≡ age_of n fs → None ≡ wrong_load n k fs) → None ≡ cond b (wrong_of k f fs) (wrong_load n k fs)
+        → (None ≡ age_of n fs → None ≡ wrong_in n k fs) → None ≡ cond b (wrong_of k f fs) (wrong_in n k fs)
     go true w p q rest = absurd (none-some 0 w)
     go false w None q rest = rest (sym q)
     go false w (Some a) q rest = absurd (none-some (suc a) (w ∙ ap later q))
 
 pub load_of_age : (fs : List Frame) (n k a : ℕ) → Some a ≡ age_of n fs → (x : Option (ℕ × ℕ))
-    → ((f : Frame) → slice_get fs a ≡ Some f → x ≡ wrong_of k f (drop (suc a) fs)) → x ≡ wrong_load n k fs
+    → ((f : Frame) → slice_get fs a ≡ Some f → x ≡ wrong_of k f (drop (suc a) fs)) → x ≡ wrong_in n k fs
 load_of_age [] n k a e x is = absurd (none-some a (sym e))
 load_of_age (f ∷ fs) n k a e x is =
     go (f.number == n) e (age_of n fs) refl (λ j q w. load_of_age fs n k j q x w)
   where
     go : (b : Bool) → Some a ≡ cond b (Some 0) (later (age_of n fs)) → (p : Option ℕ) → age_of n fs ≡ p
         → ((j : ℕ) → Some j ≡ age_of n fs → ((g : Frame) → slice_get fs j ≡ Some g → x ≡ wrong_of k g (drop (suc j) fs))
-        → x ≡ wrong_load n k fs) → x ≡ cond b (wrong_of k f fs) (wrong_load n k fs)
+        → x ≡ wrong_in n k fs) → x ≡ cond b (wrong_of k f fs) (wrong_in n k fs)
     go true w p q rest =
         let here : a ≡ 0 = same_Some a 0 w in
         is f (ap (slice_get (f ∷ fs)) here) ∙ ap (λ j. wrong_of k f (drop (suc j) (f ∷ fs))) here
@@ -192,15 +195,44 @@ load_of_age (f ∷ fs) n k a e x is =
         rest j (sym q) (λ g h. is g (ap (slice_get (f ∷ fs)) here ∙ h)
         ∙ ap (λ i. wrong_of k g (drop (suc i) (f ∷ fs))) here)
 
+-- a frame that is found is one of the eight
+found_small : (f : Frame) (o : Option ℕ) (behind : Option (ℕ × ℕ)) → f.number < 8 → IfSome behind (λ c. c.0 < 8)
+    → IfSome (found_in f o behind) (λ c. c.0 < 8)
+found_small f None behind l h = h
+found_small f (Some n) behind l h = l
+
+behind_small : (touched : ℕ → Bool) (fs : List Frame) → AreNumbers (numbers_of fs)
+    → IfSome (wrong_behind touched fs) (λ c. c.0 < 8)
+behind_small touched [] h = tt
+behind_small touched (f ∷ fs) h =
+    found_small f (least (is_passed (at f.stores) f.loads touched) numbers 0)
+    (wrong_behind (passes (at f.stores) numbers touched) fs) h.0
+    (behind_small (passes (at f.stores) numbers touched) fs h.2)
+
+pub wrong_small : (fs : List Frame) (n k : ℕ) → AreNumbers (numbers_of fs)
+    → IfSome (wrong_in n k fs) (λ c. c.0 < 8)
+wrong_small [] n k h = tt
+wrong_small (f ∷ fs) n k h =
+    let g : Frame = with_store k (stored_by f (request f k)) 0 f in
+    go (f.number == n)
+    (found_small g (least (is_own (at g.stores) g.loads k) numbers 0)
+    (wrong_behind (nearest (at g.stores) k numbers) fs) h.0 (behind_small (nearest (at g.stores) k numbers) fs h.2))
+    (wrong_small fs n k h.2)
+  where
+    go : (b : Bool) → IfSome (wrong_of k f fs) (λ c. c.0 < 8) → IfSome (wrong_in n k fs) (λ c. c.0 < 8)
+        → IfSome (cond b (wrong_of k f fs) (wrong_in n k fs)) (λ c. c.0 < 8)
+    go true x y = x
+    go false x y = y
+
 -- what is found of a store, by what is lent of its frame
 pub wrong_told : (h : Held) (b : Block) (sealed : Bool) (k : ℕ) (s : Option Stored) (o : Option ℕ) (fs : List Frame)
     (x : Option (ℕ × ℕ)) → s ≡ stored_by (as_frame sealed b h) (request (running b h) k)
     → o ≡ least (is_own (at (set h.stores k s)) h.loads k) numbers 0
-    → x ≡ load_in (as_frame sealed b h) o (wrong_behind (nearest (at (set h.stores k s)) k numbers) fs)
+    → x ≡ found_in (as_frame sealed b h) o (wrong_behind (nearest (at (set h.stores k s)) k numbers) fs)
     → x ≡ wrong_of k (as_frame sealed b h) fs
 wrong_told h b sealed k s o fs x store found is =
     is
-    ∙ ap (λ z. load_in (as_frame sealed b h) z (wrong_behind (nearest (at (set h.stores k s)) k numbers) fs)) found
+    ∙ ap (λ z. found_in (as_frame sealed b h) z (wrong_behind (nearest (at (set h.stores k s)) k numbers) fs)) found
     ∙ ap (λ z. wrong_from k (with_store k z 0 (as_frame sealed b h)) fs) store
 
 -- what a search says of rows that are those of a frame
@@ -214,11 +246,11 @@ finds_in stores rows loads taken touched from o e w h =
 module _ (fs : List Frame) (a : ℕ) (h : Held) (b : Block) (l : IsLent h b (slice_get fs a)) (touched : ℕ → Bool)
     (o : Option ℕ) (f : Frame) (e : slice_get fs a ≡ Some f) where
   pub told_here : Finds (at h.stores) h.loads touched 0 o → (x : Option (ℕ × ℕ))
-      → x ≡ load_in (as_frame l.0 b h) o None
-      → x ≡ load_in f (least (is_passed (at f.stores) f.loads touched) numbers 0) None
+      → x ≡ found_in (as_frame l.0 b h) o None
+      → x ≡ found_in f (least (is_passed (at f.stores) f.loads touched) numbers 0) None
   told_here finds x is =
-      is ∙ ap (λ z. load_in (as_frame l.0 b h) z None) (least_passed (at h.stores) h.loads touched o finds)
-      ∙ ap (λ (g : Frame). load_in g (least (is_passed (at g.stores) g.loads touched) numbers 0) None)
+      is ∙ ap (λ z. found_in (as_frame l.0 b h) z None) (least_passed (at h.stores) h.loads touched o finds)
+      ∙ ap (λ (g : Frame). found_in g (least (is_passed (at g.stores) g.loads touched) numbers 0) None)
       (lent_at fs a h b l f e)
 
   pub told_left : (z : ℕ) (left : Bool) → left ≡ passes (at h.stores) numbers touched z

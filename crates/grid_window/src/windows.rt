@@ -87,7 +87,7 @@ impl Windows for GridWindow {
         older::settled(&self.window, frame, number)
     }
 
-    fn wrong_load(&self, frame: u8, number: u8) -> Option<(u32, u8)> {
+    fn wrong_load(&self, frame: u8, number: u8) -> Option<(u8, u8)> {
         violations::wrong_load(&self.window, frame, number)
     }
 

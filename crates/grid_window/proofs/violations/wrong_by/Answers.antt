@@ -67,5 +67,5 @@ returns-in-Some-first_wrong c = λ f e.
     (c.stored_by-stored.ensures b z.0 ∙ ap (stored_by (as_frame z.0 b h)) c.request.ensures.value)
     (own_least h.stores m c.stored_by-stored.result (omega (arith, small, few)) (reached c.of-reach.result)
     c.of-reach.ensures.reached h.loads (Some c.in-Some-first_wrong.load) found)
-    (ap (λ k. Some (k, c.in-Some-first_wrong.load)) c.block.ensures.value)
+    (ap (λ k. Some (k, c.in-Some-first_wrong.load)) c.number.ensures.value)
     ∙ ap (λ (g : Frame). wrong_of m g (drop (suc c.args.age) fs)) (lent_at fs c.args.age h b z f e)

@@ -1,10 +1,16 @@
-use Rattle.grid_window.proofs.WrongFacts.{load_of_age, no_load}
+use Rattle.std.proofs.Common.{None, ap, cond, sym, ◌∙◌, ◌<◌, subst}
+use Rattle.std.specs.Prelude.{IfSome}
+use Rattle.grid_cycle_spec.specs.DataTiles.{wrong_in}
+use Rattle.grid_window.proofs.WrongFacts.{wrong_small}
 use Rattle.grid_window.proofs.violations.wrong_load.Goals as goal
 
-pub returns-in-None : goal.returns-in-None
-returns-in-None c = no_load c.args.window.now.window.frames c.args.frame c.args.number c.in-None.ensures.value
-
-pub returns-in-Some : goal.returns-in-Some
-returns-in-Some c =
-    load_of_age c.args.window.now.window.frames c.args.frame c.args.number c.in-Some.age c.in-Some.ensures.value _
-    c.wrong_by.ensures
+pub returns-then : goal.returns-then
+returns-then c =
+    let fs = c.args.window.now.window.frames in
+    let m = c.args.frame in
+    let n = c.args.number in
+    record {
+      value = c.wrong_in.ensures ∙ ap (λ b. cond b (wrong_in m n fs) None) c.if-may.ensures;
+      within = subst (λ o. IfSome o (λ q. q.0 < 8)) (sym c.wrong_in.ensures)
+          (wrong_small fs m n c.keeps_invariant.ensures.window.numbers);
+    }
