@@ -111,10 +111,10 @@ with_load k (Some b) = Some (b, k)
 -- a load by its block, of the block that is told of its frame
 block_told : (fs : List Frame) (n k : ℕ) (o : Option ℕ) → o ≡ block_of n fs → with_load k o ≡ by_block fs (Some (n, k))
 block_told fs n k o e = ap (with_load k) e ∙ go (frame_of n fs)
-    ∙ sym (with_frame_is n (λ f p. Some (f.block, k)) fs None)
+    ∙ sym (with_frame_is {A = Option (ℕ × ℕ)} n (λ f p. Some (f.block, k)) fs None)
   where
     go : (p : Option Frame) → with_load k (found_in (λ f. Some f.block) p)
-        ≡ by_frame (λ f x. Some (f.block, k)) None p
+        ≡ by_frame {A = Option (ℕ × ℕ)} (λ f x. Some (f.block, k)) None p
     go None = refl
     go (Some f) = refl
 
