@@ -14,7 +14,7 @@ use Rattle.commit_flush_spec.specs.Memory.{can_store, request}
 use Rattle.commit_flush_spec.specs.Ends.{can_exit}
 use Rattle.commit_flush_spec.specs.Dropping.{left_by, with_resolved, stored_alone, store_left, exited_alone}
 use Rattle.commit_flush_spec.specs.Dropping.{exit_left}
-use Rattle.commit_flush_spec.specs.Window.{Event, can, done}
+use Rattle.commit_flush_spec.specs.Window.{can}
 use Rattle.commit_flush_spec.specs.Window as event
 use Rattle.commit_flush_spec.proofs.Frames.{not_now}
 use Rattle.commit_flush_spec.proofs.DropFacts.{stores_drop, exits_drop}

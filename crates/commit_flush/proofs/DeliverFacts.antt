@@ -1,8 +1,8 @@
 -- What Deliver makes of a window in code: where the token comes to a write, the banks keep it.
 use Rattle.std.proofs.Common.{◌≡◌, ◌≢◌, ℕ, zero, suc, ◌+◌, ◌-◌, ◌/◌, ◌%◌, ◌<◌, ◌≤◌, Bool, true, false, cond, not, ◌==◌}
-use Rattle.std.proofs.Common.{nat_le, List, [], ◌∷◌, Option, Some, None, length, set, get_or, slice_get, refl, sym}
+use Rattle.std.proofs.Common.{nat_le, List, [], ◌∷◌, Option, Some, None, length, set, slice_get, refl, sym}
 use Rattle.std.proofs.Common.{ap, ap₂, ◌∙◌, subst, arith}
-use Rattle.std.specs.Prelude.{All, IfSome, is_none}
+use Rattle.std.specs.Prelude.{All, is_none}
 use Rattle.std.proofs.lemmas.Bool.Decides.{nat_tests}
 use Rattle.std.proofs.lemmas.List.Elements.{All-set, All-get_or}
 use Rattle.std.proofs.lemmas.Option.{slice_get_within, get_or_from_slice_get}
@@ -37,11 +37,9 @@ use Rattle.commit_flush_order.proofs.KeptFacts.{alone_kept, write_kept}
 use Rattle.frame_events.specs.declared.phase.Phase.{Phase}
 use Rattle.frame_events.specs.Phases.{HasBlock, Keeps, changed, frame_in, slots_of}
 use Rattle.frame_events.specs.Told.{register_to, token_in, write_at}
-use Rattle.commit_flush.specs.Seen.{IsSound, Seen, window_of}
+use Rattle.commit_flush.specs.Seen.{IsSound, window_of}
 use Rattle.commit_flush.specs.Tokens.{with_token, AwaitsToken}
 use Rattle.commit_flush.proofs.SeenFacts.{good, found, mapped_slot, numbers_seen}
-use Rattle.commit_flush.proofs.PhaseFacts.{seen, read_phase}
-use Rattle.commit_flush.proofs.MoveFacts.{inside, below}
 use Rattle.commit_flush.proofs.EventFacts.{Becomes, becomes, made, running, same_generations, same_numbers}
 use Rattle.commit_flush.proofs.EventFacts.{below_eight, changed_slots, changed_frames}
 
@@ -251,51 +249,3 @@ module _ {image : Image} {budget : ℕ} {machine : Machine} {over : Stepped} {ph
       (stays (token / token_places) (token % token_places) p f o is t.1 (below_eight s (token / token_places) p q is keeps)
       k (at f.places (token % token_places)) refl registers2 kept_is))
       s.room
-
-  -- the same with what was told of the window that is seen --------------------------------------------
-
-  some_within : (r : Option ℕ) → IfSome r (λ a. a < 8) → (a : ℕ) → r ≡ Some a → a < 8
-  some_within None h a e = absurd (cc)
-  some_within (Some b) h a e = let same : b ≡ a = cc in subst (λ x. x < 8) same h
-
-  pub awaits_told : (token : ℕ) (v : Seen) → seen s ≡ v
-      → can v.image.blocks v.budget (Deliver token) v.window ≡ Done → (age register : Option ℕ)
-      → age ≡ age_of (token / token_places) v.window.frames → IfSome age (λ a. a < 8)
-      → register ≡ register_to (token % token_places) (frame_of (token / token_places) v.window.frames)
-      → (p : Phase) → p ≡ get_or phases (token / token_places) p → AwaitsToken registers age register
-  awaits_told token v w d age register a_is few r_is p r =
-      let d2 = inside s (Deliver token) v w d in
-      let l = below s (Deliver token) NoToken (can_deliver (token % token_places)) (token / token_places) refl d2 in
-      let a2 : age ≡ age_of (token / token_places) old.frames =
-      a_is ∙ ap (λ (z : Seen). age_of (token / token_places) z.window.frames) (sym w) in
-      let r2 : register ≡ register_to (token % token_places) (frame_of (token / token_places) old.frames) =
-      r_is ∙ ap (λ (z : Seen). register_to (token % token_places)
-      (frame_of (token / token_places) z.window.frames)) (sym w) in
-      subst (λ x. AwaitsToken registers x register) (sym a2)
-      (subst (AwaitsToken registers (age_of (token / token_places) old.frames)) (sym r2)
-      (awaits token d2 p (read_phase s (token / token_places) p l r) (λ a e. some_within age few a (a2 ∙ e))))
-
-  pub delivers_told : (token : ℕ) (v : Seen) → seen s ≡ v
-      → can v.image.blocks v.budget (Deliver token) v.window ≡ Done → (age register : Option ℕ) (arrived : Answer)
-      → age ≡ age_of (token / token_places) v.window.frames
-      → register ≡ register_to (token % token_places) (frame_of (token / token_places) v.window.frames)
-      → arrived ≡ token_in (token % token_places) (frame_of (token / token_places) v.window.frames)
-      → (p q : Phase) → p ≡ get_or phases (token / token_places) p
-      → ((o : Older) → frame_in image.blocks q ≡ changed (deliver (token % token_places) o) (frame_in image.blocks p))
-      → HasBlock image.blocks q → Keeps p q → (registers2 : Ages)
-      → registers2 ≡ with_token registers age register arrived
-      → Becomes image budget old (Deliver token) machine over (set phases (token / token_places) q) order registers2
-  delivers_told token v w d age register arrived a_is r_is t_is p q r change has keeps registers2 kept_is =
-      let d2 = inside s (Deliver token) v w d in
-      let l = below s (Deliver token) NoToken (can_deliver (token % token_places)) (token / token_places) refl d2 in
-      delivers token d2 p q (read_phase s (token / token_places) p l r) change has keeps registers2
-      (kept_is
-      ∙ ap (λ x. with_token registers x register arrived)
-      (a_is ∙ ap (λ (z : Seen). age_of (token / token_places) z.window.frames) (sym w))
-      ∙ ap (λ x. with_token registers (age_of (token / token_places) old.frames) x arrived)
-      (r_is ∙ ap (λ (z : Seen). register_to (token % token_places)
-      (frame_of (token / token_places) z.window.frames)) (sym w))
-      ∙ ap (with_token registers (age_of (token / token_places) old.frames)
-      (register_to (token % token_places) (frame_of (token / token_places) old.frames)))
-      (t_is ∙ ap (λ (z : Seen). token_in (token % token_places)
-      (frame_of (token / token_places) z.window.frames)) (sym w)))

@@ -3,7 +3,6 @@ use Rattle.std.proofs.Common.{◌≡◌, ℕ, ◌<◌, List, [], take, drop, sym
 use Rattle.trips_isa.specs.declared.block.Image.{Image}
 use Rattle.trips_isa.specs.declared.run.Stepped.{Stepped}
 use Rattle.trips_isa.specs.Machine.{Machine}
-use Rattle.commit_flush_spec.specs.InFlight.{Window}
 use Rattle.reg_bank.specs.Ages.{Ages, drop_from}
 use Rattle.commit_flush_order.specs.Kept.{AreKept}
 use Rattle.commit_flush_order.proofs.KeptFacts.{drop_kept}

@@ -9,7 +9,7 @@ use Rattle.trips_isa.specs.declared.block.Inst.{Inst}
 use Rattle.trips_isa.specs.declared.block.Block.{Block}
 use Rattle.trips_isa.specs.declared.form.Form.{Form}
 use Rattle.trips_isa.specs.declared.form.Form.TheVariants.{General, Immediate, Load, Store, Branch, Constant}
-use Rattle.trips_isa.specs.Forms.{form_of, role_in, role_of, takes_left}
+use Rattle.trips_isa.specs.Forms.{form_of, role_in, takes_left}
 use Rattle.trips_isa.specs.Rule.{Answer}
 use Rattle.block_cases.specs.Orders.{slot_of}
 use Rattle.commit_flush_spec.specs.Frames.{Frame, at, slot_node}

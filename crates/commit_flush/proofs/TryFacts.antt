@@ -1,30 +1,29 @@
 -- What an event that is tried makes of a window in code: where it happens what it does, else nothing.
-use Rattle.std.proofs.Common.{◌≡◌, ℕ, ◌/◌, ◌%◌, ◌<◌, ◌≤◌, List, length, Option, Some, None, set, get_or, slice_get}
+use Rattle.std.proofs.Common.{◌≡◌, ℕ, ◌/◌, ◌%◌, ◌<◌, ◌≤◌, List, Option, Some, None, set, get_or, slice_get}
 use Rattle.std.proofs.Common.{refl, sym, ap, ◌∙◌, subst, arith}
 use Rattle.std.proofs.lemmas.Option.{slice_get_within}
 use Rattle.trips_isa.specs.declared.block.Token.{Token}
 use Rattle.trips_isa.specs.declared.block.Image.{Image}
 use Rattle.trips_isa.specs.declared.run.Stepped.{Stepped}
-use Rattle.trips_isa.specs.declared.run.Stepped.TheVariants.{Went}
+use Rattle.trips_isa.specs.declared.run.Stepped.TheVariants.{Went, Ended, StackFull, Trap}
 use Rattle.trips_isa.specs.Rule.{Answer}
 use Rattle.trips_isa.specs.Machine.{Machine}
 use Rattle.commit_flush_spec.specs.Causes.{Cause, NoFrame, NoToken, Happened, Done, NotNow}
-use Rattle.commit_flush_spec.specs.Frames.{Frame, token_places}
+use Rattle.commit_flush_spec.specs.Frames.{token_places}
 use Rattle.commit_flush_spec.specs.Older.{Older, committed}
-use Rattle.commit_flush_spec.specs.InFlight.{Window, on_frame}
+use Rattle.commit_flush_spec.specs.InFlight.{Window}
 use Rattle.commit_flush_spec.specs.Numbered.{seen_at}
 use Rattle.commit_flush_spec.specs.Dataflow.{can_fire, fire, can_deliver, deliver}
 use Rattle.commit_flush_spec.specs.Window.{Event, Deliver, can, can_now, unless_over, done, happens, if_done}
 use Rattle.commit_flush_spec.specs.Window as event
 use Rattle.reg_bank.specs.Ages.{Ages}
-use Rattle.commit_flush_order.specs.Places.{age_of, frame_of, place_of, numbers_of}
+use Rattle.commit_flush_order.specs.Places.{age_of, frame_of, place_of}
 use Rattle.commit_flush_order.proofs.FrameFacts.{none_asked}
 use Rattle.commit_flush_order.proofs.OrderFacts.{place_is}
 use Rattle.frame_events.specs.declared.phase.Phase.{Phase}
-use Rattle.frame_events.specs.declared.trying.Arrival.{Arrival}
 use Rattle.frame_events.specs.Phases.{HasBlock, Keeps, answered, changed, frame_in}
 use Rattle.frame_events.specs.Told.{register_to, token_in}
-use Rattle.frame_events.specs.Tried.{Leaves, arrived, tried}
+use Rattle.frame_events.specs.Tried.{Leaves, tried}
 use Rattle.commit_flush.specs.Seen.{IsSound, Seen, window_of}
 use Rattle.commit_flush.specs.Tokens.{with_token, AwaitsToken}
 use Rattle.commit_flush.proofs.SeenFacts.{few, found, not_found, numbers_seen, set_stays}
@@ -47,6 +46,23 @@ no_register b age (Some r) t e = absurd (cc)
 -- while the run goes on an event is answered by its own causes
 pub now_is : (o : Stepped) (h : Happened) → o ≡ Went → h ≡ unless_over o h
 now_is o h e = sym (ap (λ x. unless_over x h) e)
+
+-- an event is done only while the run goes on
+pub went_if_done : (o : Stepped) (h : Happened) → unless_over o h ≡ Done → o ≡ Went
+went_if_done Went h e = refl
+went_if_done Ended h e = absurd (cc)
+went_if_done StackFull h e = absurd (cc)
+went_if_done (Trap c) h e = absurd (cc)
+
+-- where an event is done, what happens is what it does
+pub happens_done : (v : Seen) (e f : Event) → f ≡ e → can v.image.blocks v.budget f v.window ≡ Done → (new : Seen)
+    → new ≡ record v { window = happens v.image.blocks v.budget e v.window }
+    → new ≡ record v { window = done v.image.blocks f v.window }
+happens_done v e f is d new n =
+    let does : happens v.image.blocks v.budget e v.window ≡ done v.image.blocks f v.window =
+    ap (λ x. happens v.image.blocks v.budget x v.window) (sym is)
+    ∙ ap (λ h. if_done h (done v.image.blocks f v.window) v.window) d in
+    subst (λ (w : Window). new ≡ record v { window = w }) does n
 
 -- the parts of a window after an event that is tried and answered so
 pub record Turns (image : Image) (budget : ℕ) (old : Window) (e : Event) (h : Happened) (machine : Machine)

@@ -18,8 +18,12 @@ impl Window {
         match e {
             Event::Fetch { block } => self.fetch(block),
             Event::Read { frame, read } => self.read(frame, read),
-            Event::Fire { frame, slot } => self.fire(frame, slot),
-            Event::Deliver { token } => self.deliver(token),
+            Event::Fire { frame, slot } => {
+                let _ = self.try_fire(frame, slot);
+            }
+            Event::Deliver { token } => {
+                let _ = self.try_deliver(token);
+            }
             Event::Load { frame, number } => self.load(frame, number),
             Event::Store { frame, number } => self.store(frame, number),
             Event::Exit { frame } => self.exit(frame),
@@ -29,7 +33,9 @@ impl Window {
         }
     }
 
-    // Lets an event happen while the run goes on, where no cause holds against it: it is asked first.
+    // Lets an event happen while the run goes on, where no cause holds against it: it is asked first. It stays a call, so
+    // that Fire and Deliver, of which there are most, keep little on the stack.
+    #[inline(never)]
     fn ask_event(&mut self, e: Event) -> Happened
         ensures answer { as_happened result
             ≡ can self.old.image.blocks self.old.budget (as_event e) self.old.window }

@@ -12,3 +12,4 @@ pub mod OutputFacts
 pub mod LeastFacts
 pub mod StandardFacts
 pub mod LackFacts
+pub mod GivingFacts

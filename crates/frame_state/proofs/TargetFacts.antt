@@ -64,6 +64,29 @@ slot_named b s f = go (slice_get b.insts.items s) refl
         ∙ sym (ap (λ n. named_at n f) (no_node b s e))
     go (Some i) e = let t = there b.insts.items s i e in sym (ap (λ n. named_at n f) (slot_got b s t.0))
 
+-- a slot that is there, and one past the last
+item_at : (is : List (Option Inst)) (s : ℕ) (d : Option Inst) → s < length is → get_or is s d ≡ get_or is s None
+item_at [] s d h = absurd (omega arith)
+item_at (x ∷ is) zero d h = refl
+item_at (x ∷ is) (suc s) d h = item_at is s d (omega arith)
+
+past_last : (is : List (Option Inst)) (s : ℕ) → length is ≤ s → get_or is s None ≡ None
+past_last [] s h = refl
+past_last (x ∷ is) zero h = absurd (omega arith)
+past_last (x ∷ is) (suc s) h = past_last is s (omega arith)
+
+pub item_named : (b : Block) (is : List (Option Inst)) (s : ℕ) (d : Option Inst) (f : Bool) → is ≡ b.insts.items
+    → s < length is → named_at (Some (inst_node s (get_or is s d))) f
+    ≡ named_at (slice_get (nodes_of b) (slot_node b s)) f
+item_named b is s d f e h = ap (λ i. named_at (Some (inst_node s i)) f)
+    (item_at is s d h ∙ ap (λ js. get_or js s None) e) ∙ slot_named b s f
+
+pub past_named : (b : Block) (is : List (Option Inst)) (s : ℕ) (f : Bool) → is ≡ b.insts.items → length is ≤ s
+    → NO_PLACE ≡ named_at (slice_get (nodes_of b) (slot_node b s)) f
+past_named b is s f e h = sym (nowhere f)
+    ∙ ap (λ i. named_at (Some (inst_node s i)) f) (sym (past_last is s h) ∙ ap (λ js. get_or js s None) e)
+    ∙ slot_named b s f
+
 -- a read that is there
 pub read_named : (b : Block) (rs : List ReadSlot) (r : ℕ) (d : ReadSlot) (f : Bool) → rs ≡ b.reads.items
     → r < length rs → named_at (Some (read_node (get_or rs r d))) f ≡ named_at (slice_get (nodes_of b) r) f

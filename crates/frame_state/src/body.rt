@@ -10,9 +10,10 @@ ghost use Rattle.frame_state.specs.Held.{taken_of, exit_of, filled};
 ghost use Rattle.frame_state.specs.Moves.{slot_token, slot_mark, sent_to, sent_by, fired_by, fired_slot};
 ghost use Rattle.frame_state.specs.Moves.{moved, closed};
 
+use crate::giving::slot_gives;
 use crate::marks::MarkTable;
 use crate::parts::{Departure, Took};
-use crate::rule::{can_fault, gives, mark, stored};
+use crate::rule::{can_fault, mark, stored};
 use crate::spots::Spots;
 use crate::target::{first_place, place_at};
 use bit_rows::{Flags, Row};
@@ -137,18 +138,11 @@ impl Body {
     }
 
     /// What the instruction of a slot gives of what has come; `bytes` is the number that a load's bytes make.
-    #[inline]
+    #[inline(always)]
     pub fn token_of(&self, inst: Inst, slot: u8, bytes: u64) -> Option<Token>
         ensures value { result ≡ slot_token self.now inst slot bytes }
     {
-        let slot = slot as usize;
-        gives(
-            inst,
-            self.spots.get(slot),
-            self.spots.get(128 + slot),
-            self.spots.get(256 + slot),
-            bytes,
-        )
+        slot_gives(&self.spots, inst, slot, bytes)
     }
 
     // The mark of that, whatever marks were set.

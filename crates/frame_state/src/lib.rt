@@ -9,6 +9,7 @@
 mod body;
 mod ending;
 mod events;
+mod giving;
 mod lacks;
 mod marks;
 mod outcome;

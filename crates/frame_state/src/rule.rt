@@ -1,13 +1,12 @@
 //! What an instruction gives of the tokens at its operands and its predicate, and the mark of that.
-ghost use Rattle.std.specs.Prelude.{◌≡◌, ℕ, cond, Some};
+ghost use Rattle.std.specs.Prelude.{◌≡◌, cond, Some};
 ghost use Rattle.trips_isa.specs.Alu.{word};
-ghost use Rattle.trips_isa.specs.Forms.{form_of, role_of, takes_left, takes_right};
-ghost use Rattle.trips_isa.specs.Rule.{matched, rule, low};
+ghost use Rattle.trips_isa.specs.Forms.{role_of, takes_left, takes_right};
+ghost use Rattle.trips_isa.specs.Rule.{matched, low};
 ghost use Rattle.trips_isa.specs.Stores.{address_of, is_good_address, load_of, stored_of, null_store, word_store};
-ghost use Rattle.trips_isa.specs.Blocks.{form_computes, slot_computes};
 ghost use Rattle.trips_isa.specs.Faults.{divides, own_fault};
 ghost use Rattle.trips_isa.specs.Marks.{mark_by};
-ghost use Rattle.trips_isa.specs.Operands.{operands, word_of, given_of, is_guarded};
+ghost use Rattle.trips_isa.specs.Operands.{operands, is_guarded};
 ghost use Rattle.commit_flush_spec.specs.Memory.{taken_of};
 ghost use Rattle.frame_state.specs.Held as held;
 ghost use Rattle.frame_state.specs.Faulting.{can_fault};
@@ -15,8 +14,8 @@ ghost use Rattle.frame_state.specs.declared.parts.Took.TheVariants.{Nothing, Fro
 
 use crate::parts::Took;
 use trips_isa::{
-    Form, Inst, Op, Operands, Role, Sense, Stored, Token, alu, form_of, is_guarded, loaded,
-    mark_by, only_if, operands_of, role_of, size_of,
+    Form, Inst, Op, Role, Sense, Stored, Token, form_of, is_guarded, loaded, mark_by, only_if,
+    operands_of, role_of, size_of,
 };
 
 fn is_low(word: u64) -> bool
@@ -49,6 +48,13 @@ fn immediate(imm: i32) -> u64
     (imm as i64).cast_unsigned()
 }
 
+/// The immediate or the constant of an instruction as a word.
+pub fn immediate_of(inst: Inst) -> u64
+    ensures value { result ≡ word inst.imm }
+{
+    immediate(inst.imm)
+}
+
 // The address of a load or a store.
 fn address_of(inst: Inst, left: u64) -> u64
     ensures { result ≡ address_of inst left }
@@ -63,68 +69,14 @@ fn is_good(address: u64, size: u8) -> bool
     size > 0 && address % size as u64 == 0 && address <= 4_194_304 - size as u64
 }
 
-// What a load gives of its operand's word, where its bytes make this number.
-fn load_of(inst: Inst, bytes: u64, left: u64) -> u64
-    ensures { result ≡ load_of inst (λ a. bytes) left }
+/// What a load gives of its operand's word, where its bytes make this number.
+pub fn load_of(inst: Inst, bytes: u64, left: u64) -> u64
+    ensures value { result ≡ load_of inst (λ a. bytes) left }
 {
     if is_good(address_of(inst, left), size_of(inst.op)) {
         loaded(inst.op, bytes)
     } else {
         0
-    }
-}
-
-// The word of an instruction, of its operands' words.
-fn computed(inst: Inst, bytes: u64, left: u64, right: u64) -> u64
-    ensures { result ≡ form_computes (form_of inst.op) inst (λ a. bytes) left right }
-{
-    match form_of(inst.op) {
-        Form::General => alu(inst.op, left, right),
-        Form::Immediate | Form::Constant => alu(inst.op, left, immediate(inst.imm)),
-        Form::Load => load_of(inst, bytes, left),
-        Form::Store => right,
-        Form::Branch => left,
-    }
-}
-
-// The word that a role gives of its operands' words.
-fn word_of(inst: Inst, bytes: u64, left: u64, right: u64) -> u64
-    ensures { result ≡ word_of (role_of inst.op) (slot_computes (Some inst) (λ a. bytes)) left right }
-{
-    match role_of(inst.op) {
-        Role::Copy => left,
-        _ => computed(inst, bytes, left, right),
-    }
-}
-
-// What an instruction gives of its operands.
-fn given_of(inst: Inst, bytes: u64, operands: Operands) -> Option<Token>
-    ensures { result ≡ given_of (role_of inst.op) (slot_computes (Some inst) (λ a. bytes)) operands }
-{
-    match operands {
-        Operands::Missing => None,
-        Operands::Nulls(_, _) => Some(Token::Null),
-        Operands::Words(left, right) => Some(Token::Word(word_of(inst, bytes, left, right))),
-    }
-}
-
-/// The token of an instruction, of the tokens at its operands and its predicate; `bytes` is the number
-/// that a load's bytes make.
-#[tactic(auto, using(trips_isa::proofs::OperandFacts::gives_is))]
-pub fn gives(
-    inst: Inst,
-    left: Option<Token>,
-    right: Option<Token>,
-    predicate: Option<Token>,
-    bytes: u64,
-) -> Option<Token>
-    ensures value { result ≡ rule (role_of inst.op) inst.sense
-        (slot_computes (Some inst) (λ a. bytes)) left right predicate }
-{
-    if is_matched(inst.sense, predicate) {
-        given_of(inst, bytes, operands_of(role_of(inst.op), left, right))
-    } else {
-        None
     }
 }
 

@@ -5,9 +5,7 @@ ghost use Rattle.trips_isa.specs.Places.{place_of, place_at, first_place, inst_n
 ghost use Rattle.commit_flush_spec.specs.Frames.{named_at, slot_node, target};
 ghost use Rattle.block_cases.specs.Orders.{slot_of};
 
-use trips_isa::{
-    Block, EXIT, FIRST_STORE, FIRST_WRITE, Form, Inst, NO_PLACE, ReadSlot, Spot, form_of,
-};
+use trips_isa::{Block, EXIT, FIRST_STORE, FIRST_WRITE, Inst, NO_PLACE, Op, ReadSlot, Spot};
 
 /// The number of a place.
 pub fn place(spot: Spot) -> usize
@@ -33,15 +31,23 @@ pub fn place_at(spot: Option<Spot>) -> usize
     }
 }
 
+// The first place that an operation names which has this number and this first target.
+fn first_of(op: Op, number: u8, first: Option<Spot>) -> usize
+    ensures { result ≡ first_place (form_of op) number first }
+{
+    match op {
+        Op::Sb | Op::Sh | Op::Sw | Op::Sd => FIRST_STORE as usize + number as usize,
+        Op::Bro | Op::Callo | Op::Br | Op::Ret | Op::Scall => EXIT as usize,
+        _ => place_at(first),
+    }
+}
+
 /// The first place that an instruction names: a store names its number and a branch the exit.
+#[inline]
 pub fn first_place(inst: Inst) -> usize
     ensures value { result ≡ first_place (form_of inst.op) inst.number inst.first }
 {
-    match form_of(inst.op) {
-        Form::Store => FIRST_STORE as usize + inst.number as usize,
-        Form::Branch => EXIT as usize,
-        _ => place_at(inst.first),
-    }
+    first_of(inst.op, inst.number, inst.first)
 }
 
 /// What a slot holds.
@@ -57,18 +63,18 @@ pub fn slot_of(block: &Block, slot: usize) -> Option<Inst>
 }
 
 // The first place that what a slot holds names.
-fn first_named(inst: Option<Inst>) -> usize
-    ensures { (s : ℕ) → result ≡ (inst_node s inst).first }
+fn first_named(inst: &Option<Inst>) -> usize
+    ensures { (s : ℕ) → result ≡ (inst_node s inst.now).first }
 {
     match inst {
         None => NO_PLACE as usize,
-        Some(inst) => first_place(inst),
+        Some(inst) => first_place(*inst),
     }
 }
 
 // The second place that what a slot holds names.
-fn second_named(inst: Option<Inst>) -> usize
-    ensures { (s : ℕ) → result ≡ (inst_node s inst).second }
+fn second_named(inst: &Option<Inst>) -> usize
+    ensures { (s : ℕ) → result ≡ (inst_node s inst.now).second }
 {
     match inst {
         None => NO_PLACE as usize,
@@ -77,8 +83,8 @@ fn second_named(inst: Option<Inst>) -> usize
 }
 
 // The place that what a slot holds names first or second.
-fn inst_target(inst: Option<Inst>, first: bool) -> usize
-    ensures { (s : ℕ) → result ≡ named_at (Some (inst_node s inst)) first }
+fn inst_target(inst: &Option<Inst>, first: bool) -> usize
+    ensures { (s : ℕ) → result ≡ named_at (Some (inst_node s inst.now)) first }
 {
     if first {
         first_named(inst)
@@ -87,11 +93,17 @@ fn inst_target(inst: Option<Inst>, first: bool) -> usize
     }
 }
 
-// The place that a slot of the block names first or second.
+// The place that a slot of the block names first or second; its instruction stays where it is.
+#[inline(always)]
 fn slot_target(block: &Block, slot: usize, first: bool) -> usize
     ensures { result ≡ named_at (slice_get (nodes_of block.now) (slot_node block.now slot)) first }
 {
-    inst_target(slot_of(block, slot), first)
+    let insts = block.insts.as_slice();
+    if slot < insts.len() {
+        inst_target(&insts[slot], first)
+    } else {
+        NO_PLACE as usize
+    }
 }
 
 // The place that a read names first or second.

@@ -1,4 +1,4 @@
-use Rattle.std.proofs.Common.{ℕ, Bool, ◌+◌, sym, refl, ◌∙◌, arith}
+use Rattle.std.proofs.Common.{◌+◌, sym, refl, ◌∙◌, arith}
 use Rattle.std.specs.Prelude.{is_some}
 use Rattle.commit_flush_spec.specs.Frames.{at}
 use Rattle.frame_state.proofs.LackFacts.{starts, missing_here, come_here, none_left}

@@ -1,10 +1,12 @@
-use Rattle.std.proofs.Common.{Some, ap, ◌∙◌}
-use Rattle.trips_isa.specs.Places.{inst_node}
-use Rattle.commit_flush_spec.specs.Frames.{named_at}
-use Rattle.frame_state.proofs.TargetFacts.{slot_named}
+use Rattle.std.proofs.Common.{◌∙◌, arith}
+use Rattle.frame_state.proofs.TargetFacts.{item_named, past_named}
 use Rattle.frame_state.proofs.target.slot_target.Goals as goal
 
-pub returns : goal.returns
-returns c = c.inst_target.ensures c.args.slot
-    ∙ ap (λ i. named_at (Some (inst_node c.args.slot i)) c.args.first) c.slot_of.ensures.value
-    ∙ slot_named c.args.block.now c.args.slot c.args.first
+pub returns-then-slot-insts : goal.returns-then-slot-insts
+returns-then-slot-insts c = c.inst_target.ensures c.args.slot
+    ∙ item_named c.args.block.now c.as_slice-insts.result.now c.args.slot _ c.args.first
+    c.as_slice-insts.ensures.value (omega arith)
+
+pub returns-else-slot-insts : goal.returns-else-slot-insts
+returns-else-slot-insts c = past_named c.args.block.now c.as_slice-insts.result.now c.args.slot c.args.first
+    c.as_slice-insts.ensures.value (omega arith)

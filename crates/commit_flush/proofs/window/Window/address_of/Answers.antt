@@ -1,6 +1,5 @@
 use Rattle.std.proofs.Common.{false, sym, ap, ◌∙◌}
 use Rattle.std.specs.Prelude.{is_some}
-use Rattle.commit_flush_spec.specs.Memory.{request}
 use Rattle.frame_state.specs.Held.{running}
 use Rattle.commit_flush_order.specs.Places.{frame_of}
 use Rattle.commit_flush.specs.Observed.{address_by, address_in, waits_in}

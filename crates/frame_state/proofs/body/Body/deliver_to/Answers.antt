@@ -1,5 +1,4 @@
 use Rattle.std.proofs.Common.{Some, ap, sym, ◌∙◌}
-use Rattle.commit_flush_spec.specs.Frames.{at}
 use Rattle.frame_state.specs.Held.{Held, running}
 use Rattle.frame_state.specs.Moves.{moved}
 use Rattle.frame_state.proofs.NodeFacts.{comes}

@@ -1,4 +1,3 @@
-use Rattle.frame_state.specs.MarkRows.{AreBare}
 use Rattle.frame_state.proofs.BareFacts.{none_bare}
 use Rattle.frame_state.proofs.marks.MarkTable.none.Goals as goal
 
