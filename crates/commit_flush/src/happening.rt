@@ -67,6 +67,9 @@ impl Window {
     }
 
     /// Lets an event happen, where no cause holds against it, and tells which does. Numbers may be any.
+    ///
+    /// It stays a call, whose instructions are counted by bench/window.
+    #[inline(never)]
     pub fn event(&mut self, e: Event) -> Happened
         ensures answer { as_happened result
             ≡ can self.old.image.blocks self.old.budget (as_event e) self.old.window }
