@@ -25,14 +25,19 @@ IsExit (exit.System l) m b = (b.0).op ≡ Scall
 -- the one exit that is taken
 pub record TakesExit (e : Exit) (m : Machine) (taken : List (Inst × Token)) : Type 0 where
   pub branch : Inst × Token
+  -- no other branch fires
   pub only : taken ≡ branch ∷ []
+  -- it is the exit that the hyper block leaves by
   pub is : IsExit e m branch
 
 -- what a table of the flow block comes to where the hyper block begins at m
 pub record Comes (at : Layout) (b : Block) (f : FlowBlock) (m : Machine) (h : ℕ → Answer) : Type 0
   where
+    -- each register holds afterwards what the hyper block leaves in it
     pub registers : (r : ℕ) → written m.registers h f.writes r ≡ (after_block at b m).registers r
+    -- the stores that fire, in the order of their numbers, do what the saves do in order
     pub memory : stored_all m.registers h f.nodes m.memory ≡ (after_block at b m).memory
+    -- the branch that fires is the exit that the tail's tests choose
     pub exit : TakesExit (exit_of b.tail (after_items b.items m).registers) (after_items b.items m)
         (exits h 0 f.nodes)
     -- the same operations are done in the same order, so that what is clean stays clean

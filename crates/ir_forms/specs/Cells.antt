@@ -28,7 +28,9 @@ Memory = ℕ → Cell
 -- Where a breach ends nothing, what is not set reads as 0, and what faults does what the machine
 -- does.
 pub record Checks : Type 0 where
+  -- a variable was not set since its call began, or a byte may not be loaded or saved
   pub tame : Bool
+  -- a division by 0, or a bad address
   pub clean : Bool
 
 -- none where a breach ends the run

@@ -5,6 +5,8 @@ use Rattle.ir_forms.specs.declared.flat.Arg.{Arg}
 
 -- A call has besides the variables that stay set over it.
 mutual
+  -- a statement: an operation into a variable, an address in the frame, a load, a save, a call, a
+  -- byte put out or taken in, or one that chooses, repeats or leaves
   pub data Step : Type 0 where
     Let : (to : ℕ) (op : Op) (a b : Arg) → Step
     Frame : (to at : ℕ) → Step
@@ -37,6 +39,7 @@ only s = s ▹ Nop
 -- a function, its first `params` scalars its parameters
 pub record Function : Type 0 where
   pub params : ℕ
+  -- how many scalars it has, numbered from 0
   pub scalars : ℕ
   -- the bytes of its local arrays
   pub arrays : ℕ
@@ -47,4 +50,5 @@ pub record Program : Type 0 where
   pub functions : List Function
   -- the start of data memory
   pub bytes : List ℕ
+  -- its place among the functions
   pub main : ℕ

@@ -8,6 +8,7 @@ use Rattle.ir_forms.specs.FlatCode.{Step, Let, Frame, Load, Save, Call, Put, Get
 use Rattle.ir_forms.specs.FlatCode.{Continue, Return, Code, Nop, ◌▹◌}
 use Rattle.ir_forms.specs.Cells.{Memory, Checks, breach, apply, load, save}
 
+-- how a flat run stands in one active call; what its callers keep is with them
 pub record State : Type 0 where
   -- the variables of the active call; none where one was not set since the call began
   pub vars : ℕ → Option ℕ
@@ -34,6 +35,7 @@ pub data Res : Type 0 where
   Unfinished : (output : List ℕ) (rounds : ℕ) → Res
   Wild : Res
 
+-- the run is out of turns: what it has put out, and the rounds that it has begun
 abbrev pub unfinished : State → Res
 unfinished s = Unfinished s.output s.rounds
 
@@ -42,6 +44,7 @@ abbrev pub settle : State → ℕ → Res
 settle s zero = unfinished s
 settle s (suc m) = Gone s (suc m)
 
+-- goes on with one turn less, where one is left
 abbrev pub turn : State → ℕ → (ℕ → Res) → Res
 turn s zero next = unfinished s
 turn s (suc m) next = next m
@@ -50,10 +53,12 @@ turn s (suc m) next = next m
 abbrev pub ten_turns : State → ℕ → (ℕ → Res) → Res
 ten_turns s m next = cond (nat_lt m 10) (unfinished s) (next (m - 10))
 
+-- goes on with what is there; where a breach left nothing, the run ends as wild
 abbrev pub must : {A : Type 0} → Option A → (A → Res) → Res
 must None next = Wild
 must (Some a) next = next a
 
+-- what follows a statement is done only where the statement ends by going on
 abbrev pub then_run : Res → (State → ℕ → Res) → Res
 then_run (Gone s m) next = next s m
 then_run (Broke s m) next = Broke s m
@@ -65,35 +70,44 @@ then_run Wild next = Wild
 
 -- VARIABLES
 
+-- the word of a variable; where it is not set, a breach of tameness, or 0 where that is not checked
 abbrev pub if_set : Bool → Option ℕ → Option ℕ
 if_set tame None = breach tame 0
 if_set tame (Some w) = Some w
 
+-- the word of an argument: a constant, or what its variable was set to
 abbrev pub read : Checks → State → Arg → Option ℕ
 read c s (Const w) = Some w
 read c s (Var v) = if_set c.tame (s.vars v)
 
+-- a word before others, where all are there
 abbrev pub beside : Option ℕ → Option (List ℕ) → Option (List ℕ)
 beside (Some w) (Some ws) = Some (w ∷ ws)
 beside (Some w) None = None
 beside None ws = None
 
+-- the words of a call's arguments, from the first; none where one of them is a breach
 abbrev pub read_all : Checks → State → List Arg → Option (List ℕ)
 read_all c s [] = Some []
 read_all c s (a ∷ args) = beside (read c s a) (read_all c s args)
 
+-- variables after one of them was set, or unset where the word is none
 abbrev pub var_put : (ℕ → Option ℕ) → ℕ → Option ℕ → ℕ → Option ℕ
 var_put vars to w v = cond (nat_eq v to) w (vars v)
 
+-- a statement's result in its variable
 abbrev pub with_var : State → ℕ → ℕ → State
 with_var s to w = record s { vars = var_put s.vars to (Some w) }
 
+-- what a save leaves in data memory
 abbrev pub with_memory : State → Memory → State
 with_memory s m = record s { memory = m }
 
+-- a byte put out, behind those before it
 abbrev pub with_output : State → ℕ → State
 with_output s b = record s { output = s.output ++ b ∷ [] }
 
+-- one more turn of a loop, or one more call, is begun
 abbrev pub counted : State → State
 counted s = record s { rounds = suc s.rounds }
 
@@ -114,6 +128,8 @@ after_post (TooDeep out) next = TooDeep out
 after_post (Unfinished out r) next = Unfinished out r
 after_post Wild next = Wild
 
+-- A break leaves the loop. The body's end and a continue lead to the part after the body, and from
+-- there to the next turn.
 abbrev pub after_body : Res → (State → ℕ → Res) → (State → ℕ → Res) → Res
 after_body (Gone s m) post next = after_post (post s m) next
 after_body (Broke s m) post next = settle s m
@@ -136,6 +152,7 @@ loop_turns (suc j) body post s m =
 abbrev pub Calls : Type 0
 Calls = ℕ → List ℕ → ℕ → State → ℕ → Res
 
+-- what a call gives goes to its variable, if it has one
 abbrev pub result_put : (ℕ → Option ℕ) → Option ℕ → Option ℕ → ℕ → Option ℕ
 result_put vars None w = vars
 result_put vars (Some to) w = var_put vars to w
@@ -157,6 +174,7 @@ after_call s kept to Wild = Wild
 
 -- STATEMENTS
 
+-- the active call ends, with the word of its value if it gives one
 abbrev pub return_of : Checks → State → ℕ → Option Arg → Res
 return_of c s m None = Gave None s m
 return_of c s m (Some x) = must (read c s x) (λ w. Gave (Some w) s m)
@@ -167,6 +185,8 @@ chosen zero one other = other
 chosen (suc w) one other = one
 
 abbrev mutual
+  -- What one statement comes to in the active call, within m turns. A statement of parts takes a
+  -- turn itself, and a loop one for each time that it goes round.
   pub act : Checks → Calls → Env → Step → State → ℕ → Res
   act c call e (Let to op x y) s m = turn s m (λ m.
       must (read c s x) (λ a. must (read c s y)
@@ -190,6 +210,7 @@ abbrev mutual
   act c call e Continue s m = turn s m (λ m. Again s m)
   act c call e (Return x) s m = turn s m (λ m. return_of c s m x)
 
+  -- what statements in order come to, within m turns
   pub exec : Checks → Calls → Env → Code → State → ℕ → Res
   exec c call e Nop s m = settle s m
   exec c call e (st ▹ rest) s m = then_run (act c call e st s m) (exec c call e rest)

@@ -118,14 +118,18 @@ pub record FitsFlow (b : FlowBlock) : Type 0 where
   pub nodes : All (FitsNode b) b.nodes
   pub writes : All (FitsWrite b) b.writes
   pub mask : b.mask < 2 ^ 32
+  -- nothing waits for itself
   pub order : (rank : ℕ → ℕ) × HasOrder b rank
+  -- whatever words the nodes compute
   pub tidy : (regs : ℕ → ℕ) (f : Computes) (h : ℕ → Answer) → OnPath regs f h b → IsTidy regs h b
+  -- and so has no output twice
   pub one : (regs : ℕ → ℕ) (f : Computes) (h : ℕ → Answer) → OnPath regs f h b
       → TakesAtMostOne regs h b
 
 -- a block in which every output has its token on every path
 pub record IsComplete (b : FlowBlock) : Type 0 where
   pub fits : FitsFlow b
+  -- each write and each number of the mask has its token, whatever words the nodes compute
   pub all : (regs : ℕ → ℕ) (f : Computes) (h : ℕ → Answer) → OnPath regs f h b → TakesOne regs h b
 
 -- COUNTS

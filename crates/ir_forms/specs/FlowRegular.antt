@@ -74,6 +74,7 @@ pub record IsRegular (b : FlowBlock) : Type 0 where
   -- stores have numbers of the mask
   pub masked : (j : ℕ) (n : FlowNode) → slice_get b.nodes j ≡ Some n → form_of n.op ≡ Store
       → in_mask b.mask n.number ≡ true
+  -- sources stand only at operands that a node's role takes
   pub operands : (j : ℕ) (n : FlowNode) → slice_get b.nodes j ≡ Some n → TakesOnly n
   -- a guard has a sense
   pub guards : (j : ℕ) (n : FlowNode) (g : Guard) → slice_get b.nodes j ≡ Some n → n.guard ≡ Some g

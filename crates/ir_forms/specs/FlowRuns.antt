@@ -36,10 +36,12 @@ abbrev pub first : (ℕ → ℕ) → (ℕ → Answer) → List FlowSource → An
 first regs h [] = None
 first regs h (s ∷ rest) = or_else (got regs h s) (first regs h rest)
 
+-- the sense in which a node takes its predicate; one without a guard always fires
 abbrev pub sense_of : Option Guard → Sense
 sense_of None = Always
 sense_of (Some g) = g.sense
 
+-- the token at a node's predicate: that of its guard's node
 abbrev pub guard_token : (ℕ → Answer) → Option Guard → Answer
 guard_token h None = None
 guard_token h (Some g) = h g.node
@@ -82,6 +84,7 @@ abbrev pub stored_where : Bool → (ℕ → ℕ) → (ℕ → Answer) → FlowNo
 stored_where met regs h n =
     cond met (stored_of (inst_of n) (first regs h n.left) (first regs h n.right)) None
 
+-- what a node stores under number k: something only where it is a store of that number and fires
 abbrev pub stored_in : Form → (ℕ → ℕ) → (ℕ → Answer) → FlowNode → ℕ → Option Stored
 stored_in Store regs h n k = cond (nat_eq n.number k) (stored_where (met h n.guard) regs h n) None
 stored_in _ regs h n k = None
@@ -110,6 +113,7 @@ AtStart regs mem h b = Obeys regs (meant (stores regs h b.nodes) mem) h 0 b.node
 
 -- WHAT A TABLE COMES TO
 
+-- the word of a token; in the place of a null or absent one, the second
 abbrev pub word_or : Answer → ℕ → ℕ
 word_or None w = w
 word_or (Some Null) w = w
@@ -125,6 +129,7 @@ written regs h (w ∷ rest) r =
 unfoldable pub stored_all : (ℕ → ℕ) → (ℕ → Answer) → List FlowNode → List ℕ → List ℕ
 stored_all regs h nodes mem = store_all mem (listed_below (stores regs h nodes) 32)
 
+-- the branch that a node takes, with its token, where it is a branch and fires
 abbrev pub leaving_in : Form → FlowNode → Answer → List (Inst × Token)
 leaving_in Branch n (Some t) = (inst_of n, t) ∷ []
 leaving_in _ n t = []
@@ -156,6 +161,7 @@ fired regs h (n ∷ rest) =
 
 -- COUNTS
 
+-- one token, a null one too, or none
 abbrev pub present : Answer → ℕ
 present None = 0
 present (Some t) = 1
@@ -165,6 +171,7 @@ abbrev pub count : (ℕ → ℕ) → (ℕ → Answer) → List FlowSource → �
 count regs h [] = 0
 count regs h (s ∷ rest) = present (got regs h s) + count regs h rest
 
+-- how many tokens one node gives store number k
 abbrev pub numbered : Form → FlowNode → Answer → ℕ → ℕ
 numbered Store n t k = cond (nat_eq n.number k) (present t) 0
 numbered _ n t k = 0

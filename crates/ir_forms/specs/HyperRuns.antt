@@ -13,6 +13,8 @@ use Rattle.ir_forms.specs.declared.hyper.Exit.TheVariants as exit
 use Rattle.trips_isa.specs.Acts.{Act, Accessed, divisions, is_clean}
 use Rattle.ir_forms.specs.HyperCode.{Items, Done, Set, Load, Save, If, Tail, Leave, Test, Block}
 
+-- what blocks work on: 128 registers by their numbers, data memory, input and output; only the
+-- numbers below 128 are named
 pub record Machine : Type 0 where
   pub registers : ℕ → ℕ
   -- the bytes of data memory
@@ -21,15 +23,19 @@ pub record Machine : Type 0 where
   pub input : List ℕ
   pub output : List ℕ
 
+-- registers after one of them was set to a word
 abbrev pub register_put : (ℕ → ℕ) → ℕ → ℕ → ℕ → ℕ
 register_put regs to w r = cond (nat_eq r to) w (regs r)
 
+-- what an item that sets a register leaves
 abbrev pub with_register : Machine → ℕ → ℕ → Machine
 with_register m to w = record m { registers = register_put m.registers to w }
 
+-- what a save leaves
 abbrev pub with_memory : Machine → List ℕ → Machine
 with_memory m bytes = record m { memory = bytes }
 
+-- the word of an operand: a constant, or what its register holds now
 abbrev pub value_of : (ℕ → ℕ) → Source → ℕ
 value_of regs (Const w) = w
 value_of regs (Reg r) = regs r
@@ -56,6 +62,8 @@ abbrev pub pick : {A : Type 0} → ℕ → A → A → A
 pick zero one other = other
 pick (suc w) one other = one
 
+-- Items are done in order, each on what those before it left. Of an if-item one leg is done, then
+-- what follows it.
 abbrev pub after_items : Items → Machine → Machine
 after_items Done m = m
 after_items (Set r op a b rest) m =
@@ -91,12 +99,16 @@ acts (If t one other rest) m =
 -- The address at which each block stands, and the block that stands at an address. Where the blocks
 -- are not laid out yet a label is its own address.
 pub record Layout : Type 0 where
+  -- of a label, in bytes
   pub address : ℕ → ℕ
+  -- of an address
   pub label : ℕ → ℕ
 
+-- no block is laid out: each label is its own address
 abbrev pub labels_alone : Layout
 labels_alone = record { address = λ l. l; label = λ a. a }
 
+-- the exit that the tests of a tail lead to, by the registers as the items left them
 abbrev pub exit_of : Tail → (ℕ → ℕ) → Exit
 exit_of (Leave e) regs = e
 exit_of (Test t one other) regs = pick (value_of regs t) (exit_of one regs) (exit_of other regs)
@@ -115,6 +127,7 @@ next_label at (exit.Call l back) m = l
 next_label at exit.Return m = at.label (m.registers 2)
 next_label at (exit.System l) m = l
 
+-- whether an exit is a system call, which puts a byte out, takes one in, or ends the run
 abbrev pub is_system : Exit → Bool
 is_system (exit.System l) = true
 is_system _ = false
@@ -147,9 +160,11 @@ system call m next =
     (cond (nat_eq call 3) (Ended m.output (m.registers 3))
     (cond (nat_eq call 4) (Full m.output) (next m))))
 
+-- a block that only jumps
 abbrev pub jump : ℕ → Block
 jump l = record { items = Done; tail = Leave (exit.Jump l) }
 
+-- a block, or where none is there, a jump to block 0
 abbrev pub block_or : Option Block → Block
 block_or None = jump 0
 block_or (Some b) = b
@@ -158,6 +173,8 @@ block_or (Some b) = b
 abbrev pub block_at : List Block → ℕ → Block
 block_at P l = block_or (slice_get P l)
 
+-- From an exit to the next block. A system call does what register 0 says; of the others a call
+-- alone changes a register, that of the address to come back to.
 abbrev pub leave : Layout → List Block → (Block → Machine → Standing) → Exit → Machine → Standing
 leave at P next e m =
     cond (is_system e)

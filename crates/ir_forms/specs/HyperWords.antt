@@ -25,5 +25,6 @@ LeavesWords at b = (m : Machine) → HasWords m → HasWords (after_block at b m
 
 -- each of the first n labels is found again by its address, which is a word
 pub record IsFaithful (at : Layout) (n : ℕ) : Type 0 where
+  -- so that a return finds the block which the call named
   pub again : (l : ℕ) → l < n → at.label (at.address l) ≡ l
   pub word : (l : ℕ) → l < n → at.address l < 2 ^ 64
