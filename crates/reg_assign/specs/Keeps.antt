@@ -14,6 +14,7 @@ use Rattle.reg_assign.specs.Live.{VarSet}
 -- NUMBERED CALLS
 
 abbrev mutual
+  -- how many calls one statement has, those in its parts among them
   pub calls_in : Step → ℕ
   calls_in (Call f xs to kept) = 1
   calls_in (If x a b) = calls a + calls b
@@ -27,6 +28,7 @@ abbrev mutual
 
 -- Calls keep what their numbers say; the first has the number k.
 abbrev mutual
+  -- one statement of which the first call has the number k, with what its calls keep replaced
   pub keeping_in : (ℕ → VarSet) → ℕ → Step → Step
   keeping_in keep k (Let to op x y) = Let to op x y
   keeping_in keep k (Frame to at) = Frame to at
@@ -41,19 +43,23 @@ abbrev mutual
   keeping_in keep k Continue = Continue
   keeping_in keep k (Return x) = Return x
 
+  -- code of which the first call has the number k; calls count in the order of the text
   pub keeping : (ℕ → VarSet) → ℕ → Code → Code
   keeping keep k Nop = Nop
   keeping keep k (s ▹ rest) = keeping_in keep k s ▹ keeping keep (k + calls_in s) rest
 
+-- a function with other code, and the same parameters, scalars and arrays
 abbrev pub with_body : Function → Code → Function
 with_body f c =
     record { params = f.params; scalars = f.scalars; arrays = f.arrays; body = c }
 
+-- functions of which the first call has the number k
 abbrev pub keeping_all : (ℕ → VarSet) → ℕ → List Function → List Function
 keeping_all keep k [] = []
 keeping_all keep k (f ∷ fs) =
     with_body f (keeping keep k f.body) ∷ keeping_all keep (k + calls f.body) fs
 
+-- the set of the variables of a list
 abbrev pub is_among : List ℕ → VarSet
 is_among [] v = false
 is_among (x ∷ xs) v = nat_eq v x || is_among xs v
@@ -74,6 +80,7 @@ assigned_program P lists = record {
 
 -- LISTS FOR A PROGRAM
 
+-- how many calls functions have, of which each wants a list
 abbrev pub calls_of_all : List Function → ℕ
 calls_of_all [] = 0
 calls_of_all (f ∷ fs) = calls f.body + calls_of_all fs
@@ -83,23 +90,27 @@ abbrev pub AreLasting : List ℕ → Type 0
 AreLasting [] = Unit {0}
 AreLasting (v ∷ vs) = (stays v ≡ true) × AreLasting vs
 
+-- each list is one of scalars and temporaries
 abbrev pub EachLasting : List (List ℕ) → Type 0
 EachLasting [] = Unit {0}
 EachLasting (vs ∷ lists) = AreLasting vs × EachLasting lists
 
 -- one list for each call, of variables that can be kept
 pub record FitsLists (P : Program) (lists : List (List ℕ)) : Type 0 where
+  -- as many lists as calls
   pub each : length lists ≡ calls_of_all P.functions
   pub lasting : EachLasting lists
 
 -- each call in code of a function of n scalars keeps only these scalars, and temporaries
 abbrev mutual
+  -- each call of one statement
   pub KeepsOwnIn : ℕ → Step → Type 0
   KeepsOwnIn n (Call f xs to kept) = (v : ℕ) → kept v ≡ true → is_lasting n v ≡ true
   KeepsOwnIn n (If x a b) = KeepsOwn n a × KeepsOwn n b
   KeepsOwnIn n (Loop a b) = KeepsOwn n a × KeepsOwn n b
   KeepsOwnIn n _ = Unit {0}
 
+  -- each call of code
   pub KeepsOwn : ℕ → Code → Type 0
   KeepsOwn n Nop = Unit {0}
   KeepsOwn n (s ▹ rest) = KeepsOwnIn n s × KeepsOwn n rest
@@ -108,6 +119,7 @@ abbrev mutual
 -- functions
 pub record FitsKept (P : Program) (lists : List (List ℕ)) : Type 0 where
   pub fits : FitsProgram (assigned_program P lists)
+  -- a function's scalars, and temporaries
   pub own : (f : ℕ) (g : Function) → slice_get (assigned_program P lists).functions f ≡ Some g
       → KeepsOwn g.scalars g.body
 
@@ -115,11 +127,13 @@ pub record FitsKept (P : Program) (lists : List (List ℕ)) : Type 0 where
 
 -- the states are the same but for variables
 pub record SameOutside (s t : State) : Type 0 where
+  -- also in which bytes may be loaded and saved
   pub memory : t.memory ≡ s.memory
   pub input : t.input ≡ s.input
   pub output : t.output ≡ s.output
   pub rounds : t.rounds ≡ s.rounds
 
+-- a result is an ending with a state that is another one but for variables
 pub record Reaches (end : State → Res) (s : State) (r : Res) : Type 0 where
   pub state : State
   pub same : r ≡ end state

@@ -15,9 +15,11 @@ use Rattle.ir_forms.specs.FlatViews.{stays}
 
 -- SETS OF VARIABLES
 
+-- for each variable whether it is in the set
 abbrev pub VarSet : Type 0
 VarSet = ℕ → Bool
 
+-- no variable, as where a function ends
 abbrev pub empty : VarSet
 empty v = false
 
@@ -25,22 +27,27 @@ empty v = false
 abbrev pub one : ℕ → VarSet
 one k v = stays k && nat_eq v k
 
+-- the variables of either
 abbrev pub both : VarSet → VarSet → VarSet
 both a b v = a v || b v
 
+-- the variables of the first that are not of the second
 abbrev pub minus : VarSet → VarSet → VarSet
 minus a b v = a v && not (b v)
 
 -- WHAT IS READ
 
+-- the variable that an argument names, if it is one that stays set over a call
 abbrev pub reads : Arg → VarSet
 reads (Const w) = empty
 reads (Var k) = one k
 
+-- the variables that arguments of a call read
 abbrev pub reads_any : List Arg → VarSet
 reads_any [] = empty
 reads_any (x ∷ xs) = both (reads x) (reads_any xs)
 
+-- what a return reads, which may be nothing
 abbrev pub reads_if : Option Arg → VarSet
 reads_if None = empty
 reads_if (Some x) = reads x
@@ -51,6 +58,7 @@ result None = empty
 result (Some to) = one to
 
 abbrev mutual
+  -- every variable that is read somewhere in one statement, whether it was set before or not
   pub uses_in : Step → VarSet
   uses_in (Let to op x y) = both (reads x) (reads y)
   uses_in (Frame to at) = empty
@@ -79,6 +87,7 @@ head a b next = both next (both (uses a) (uses b))
 -- What is live before a statement, where these are live behind it, where a break leads, and where a
 -- continue leads. A return leads to where nothing is.
 abbrev mutual
+  -- Before one statement. A loop counts as its head.
   pub live_in : Step → VarSet → VarSet → VarSet → VarSet
   live_in (Let to op x y) next brk con = both (both (reads x) (reads y)) (minus next (one to))
   live_in (Frame to at) next brk con = minus next (one to)
@@ -94,6 +103,7 @@ abbrev mutual
   live_in Continue next brk con = con
   live_in (Return x) next brk con = reads_if x
 
+  -- before code, of which each statement is followed by the rest
   pub live : Code → VarSet → VarSet → VarSet → VarSet
   live Nop next brk con = next
   live (s ▹ rest) next brk con = live_in s (live rest next brk con) brk con
@@ -102,6 +112,7 @@ abbrev mutual
 
 -- For each call, in the order of the program: what is live after it and is not what it sets.
 abbrev mutual
+  -- of one statement: nothing but where it is a call or has calls in its parts
   pub kept_in : Step → VarSet → VarSet → VarSet → List VarSet
   kept_in (Call f xs to old) next brk con = minus next (result to) ∷ []
   kept_in (If x a b) next brk con = kept a next brk con ++ kept b next brk con
@@ -109,6 +120,7 @@ abbrev mutual
       kept a (head a b next) next (head a b next) ++ kept b (head a b next) empty empty
   kept_in _ next brk con = []
 
+  -- of code, where these are live behind it
   pub kept : Code → VarSet → VarSet → VarSet → List VarSet
   kept Nop next brk con = []
   kept (s ▹ rest) next brk con = kept_in s
@@ -118,6 +130,7 @@ abbrev mutual
 abbrev pub kept_over : Function → List VarSet
 kept_over f = kept f.body empty empty empty
 
+-- the sets of functions, one for each call, in the order of the calls
 abbrev pub kept_over_all : List Function → List VarSet
 kept_over_all [] = []
 kept_over_all (f ∷ fs) = kept_over f ++ kept_over_all fs
@@ -151,6 +164,7 @@ abbrev pub AreSmall : List (List ℕ) → Type 0
 AreSmall [] = Unit {0}
 AreSmall (g ∷ gs) = (length g ≤ 16) × AreSmall gs
 
+-- groups that are a list in pieces, in its order, each of at most 16 variables
 abbrev pub IsCut : List ℕ → List (List ℕ) → Type 0
 IsCut vs gs = (concat gs ≡ vs) × AreSmall gs
 

@@ -20,12 +20,15 @@ use Rattle.reg_assign.specs.Live.{VarSet, members}
 abbrev pub seen : ℕ → VarSet
 seen n v = nat_eq (bit_and (n / 2 ^ v) 1) 1
 
+-- the set of one variable; of a scratch variable, which is never kept, the empty set
 unfoldable pub bit : ℕ → ℕ
 bit k = cond (nat_lt k 80) (2 ^ k) 0
 
+-- the members of the first that are not of the second
 abbrev pub without : ℕ → ℕ → ℕ
 without a b = bit_xor a (bit_and a b)
 
+-- the set of what an argument reads
 abbrev pub read_by : Arg → ℕ
 read_by (Const w) = 0
 read_by (Var k) = bit k
@@ -35,12 +38,14 @@ abbrev pub with_read : ℕ → List Arg → ℕ
 with_read set [] = set
 with_read set (x ∷ xs) = with_read (bit_or set (read_by x)) xs
 
+-- the set of what a call sets
 abbrev pub set_by : Option ℕ → ℕ
 set_by None = 0
 set_by (Some to) = bit to
 
 -- WHAT LOOPS READ
 
+-- one more set read since the begin of the innermost loop
 abbrev pub adding : Reading → ℕ → Reading
 adding r set = record { read = bit_or r.read set; loops = r.loops }
 
@@ -48,6 +53,7 @@ adding r set = record { read = bit_or r.read set; loops = r.loops }
 abbrev pub behind_loop : ℕ → Reading → Reading
 behind_loop outer r = record { read = bit_or outer r.read; loops = r.loops ++ r.read ∷ [] }
 
+-- the arguments of a call are read
 abbrev pub adding_all : Reading → List Arg → Reading
 adding_all r xs = record { read = with_read r.read xs; loops = r.loops }
 
@@ -55,11 +61,13 @@ adding_all r xs = record { read = with_read r.read xs; loops = r.loops }
 abbrev pub opened : Reading → Reading
 opened r = record { read = 0; loops = r.loops }
 
+-- what a return gives is read, if it gives something
 abbrev pub adding_if : Reading → Option Arg → Reading
 adding_if r None = r
 adding_if r (Some x) = adding r (read_by x)
 
 abbrev mutual
+  -- the first pass over one statement
   pub reading_in : Step → Reading → Reading
   reading_in (Let to op x y) r = adding (adding r (read_by x)) (read_by y)
   reading_in (Frame to at) r = r
@@ -75,28 +83,34 @@ abbrev mutual
   reading_in Continue r = r
   reading_in (Return x) r = adding_if r x
 
+  -- the first pass over code, forward
   pub reading : Code → Reading → Reading
   reading Nop r = r
   reading (s ▹ rest) r = reading rest (reading_in s r)
 
 -- WHAT IS LIVE
 
+-- the note that was made last: that of the loop which the second pass meets next
 abbrev pub last_of : List ℕ → ℕ
 last_of [] = 0
 last_of (x ∷ []) = x
 last_of (x ∷ y ∷ more) = last_of (y ∷ more)
 
+-- the notes that are left when the last is taken
 abbrev pub front_of : List ℕ → List ℕ
 front_of [] = []
 front_of (x ∷ []) = []
 front_of (x ∷ y ∷ more) = x ∷ front_of (y ∷ more)
 
+-- another set is live; notes and lists stay
 abbrev pub living : Walk → ℕ → Walk
 living w set = record { live = set; loops = w.loops; lists = w.lists }
 
+-- before a statement that sets a variable
 abbrev pub setting : Walk → ℕ → Walk
 setting w to = living w (without w.live (bit to))
 
+-- before a statement that reads an argument
 abbrev pub reading_one : Walk → Arg → Walk
 reading_one w x = living w (bit_or w.live (read_by x))
 
@@ -116,6 +130,7 @@ at_head w = record {
   lists = w.lists;
 }
 
+-- the set of what a return reads
 abbrev pub read_if : Option Arg → ℕ
 read_if None = 0
 read_if (Some x) = read_by x
@@ -126,6 +141,7 @@ before_if x other w = living w (bit_or (bit_or w.live other) (read_by x))
 
 -- where a break and where a continue leads
 abbrev mutual
+  -- the second pass over one statement
   pub walk_in : Step → ℕ → ℕ → Walk → Walk
   walk_in (Let to op x y) b k w = reading_one (reading_one (setting w to) x) y
   walk_in (Frame to at) b k w = setting w to
@@ -143,6 +159,7 @@ abbrev mutual
   walk_in Continue b k w = living w k
   walk_in (Return x) b k w = living w (read_if x)
 
+  -- the second pass over code, from its end to its begin
   pub walk : Code → ℕ → ℕ → Walk → Walk
   walk Nop b k w = w
   walk (s ▹ rest) b k w = walk_in s b k (walk rest b k w)
@@ -158,6 +175,7 @@ body_lists c lists = (walk c 0 0 (record {
   lists = lists;
 })).lists
 
+-- the lists of all calls, the last call's first
 abbrev pub lists_backward : List Function → List (List ℕ)
 lists_backward [] = []
 lists_backward (f ∷ fs) = body_lists f.body (lists_backward fs)
