@@ -20,6 +20,7 @@ pub record Emission : Type 0 where
   pub calls : ℕ
   pub notes : List Note
   pub out : List Block
+  -- the end of a block, of which the statements before are still to come in front
   pub rest : Block
 
 -- what the code holds of it, the last block first

@@ -82,6 +82,7 @@ end_of_body c arrays post l head =
 -- Before a statement, or before code, where a break and a continue lead to labels. `on` says whether the
 -- code behind the statement goes on.
 abbrev mutual
+  -- before one statement: its blocks are put out, and the rest does it first
   pub emit_in : Ground → ℕ → ℕ → Bool → Step → Emission → Emission
   emit_in g broke again on (Let to op a b) s = let_out (plan g) to op a b s
   emit_in g broke again on (Frame to at) s = frame_out (plan g) g.arrays to at s
@@ -116,6 +117,7 @@ abbrev mutual
   emit_in g broke again on Continue s = leaving (jump again) (cut_at on s)
   emit_in g broke again on (Return v) s = leaving (give v (left g.frame)) (cut_at on s)
 
+  -- before code, its last statement first
   pub emit : Ground → ℕ → ℕ → Code → Emission → Emission
   emit g broke again Nop s = s
   emit g broke again (s ▹ rest) x = emit_in g broke again (goes_on rest) s (emit g broke again rest x)

@@ -12,6 +12,7 @@ use Rattle.hyper_build.specs.Straight.{is_small_if}
 
 -- what of code needs no block of its own
 abbrev mutual
+  -- one operation on words, in the frame or in memory, or an if of such alone
   pub is_straight_in : Step → Bool
   is_straight_in (Let to op a b) = true
   is_straight_in (Frame to at) = true
@@ -20,6 +21,7 @@ abbrev mutual
   is_straight_in (If x one other) = is_straight one && is_straight other
   is_straight_in _ = false
 
+  -- each statement of the code is such
   pub is_straight : Code → Bool
   is_straight Nop = true
   is_straight (s ▹ rest) = is_straight_in s && is_straight rest
@@ -43,6 +45,7 @@ frame_then arrays to at k = set_then (register_of to) Sub (Reg 1) (Const (capped
 
 -- the items of straight code, and then others
 abbrev mutual
+  -- one statement, as one item
   pub straight_items_in : ℕ → Step → Items → Items
   straight_items_in arrays (Let to op a b) k = Set (register_of to) op (source a) (source b) k
   straight_items_in arrays (Frame to at) k =
@@ -53,6 +56,7 @@ abbrev mutual
       hyper.If (source x) (straight_items arrays one Done) (straight_items arrays other Done) k
   straight_items_in arrays _ k = k
 
+  -- code, an item for each statement
   pub straight_items : ℕ → Code → Items → Items
   straight_items arrays Nop k = k
   straight_items arrays (s ▹ rest) k = straight_items_in arrays s (straight_items arrays rest k)

@@ -66,6 +66,7 @@ way_in_out end frame s =
     let t = put_out (with_rest (entering frame s.rest) s) in
     put_out (with_rest (testing end frame t.label) t)
 
+-- before a function's body, at whose end the function returns; no loop stands around it
 abbrev pub body_out : Ground → Code → Emission → Emission
 body_out g c s = emit g 0 0 c (with_rest (left g.frame) s)
 
@@ -74,6 +75,7 @@ abbrev pub function_out : ℕ → Ground → Function → Emission → Emission
 function_out end g f s =
     way_in_out end (frame_of f) (parameters_out (ground_of g f) f.params (body_out (ground_of g f) f.body s))
 
+-- before functions, the last of them first
 abbrev pub functions_out : ℕ → Ground → List Function → Emission → Emission
 functions_out end g [] s = s
 functions_out end g (f ∷ fs) s = function_out end g f (functions_out end g fs s)
@@ -91,6 +93,7 @@ emission_end n = record {
   rest = jump 0;
 }
 
+-- the three blocks in front of all functions: the start, the end, and the end with a full stack
 abbrev pub first_blocks : ℕ → ℕ → List Block → List Block
 first_blocks base main out =
     start_block base main ∷ system_block 3 end_label ∷ system_block 4 full_label ∷ out

@@ -57,6 +57,7 @@ choose false item test = test
 -- The rest of a block that does a statement and then k, where the blocks that the statement begins
 -- stand from label l on.
 abbrev mutual
+  -- of one statement
   pub entry_in : Place → Stmt → ℕ → Block → Block
   entry_in p (LetAt c to op a b) l k =
       set_then (register_of to) op (source a) (source b) (cut c l k)
@@ -90,6 +91,7 @@ abbrev mutual
   entry_in p (ContinueAt c) l k = jump p.again
   entry_in p (ReturnAt c v) l k = give v p.gave
 
+  -- of code: each statement goes on with the next, and the last with k
   pub entry : Place → Tree → ℕ → Block → Block
   entry p End l k = k
   entry p (s ▸ rest) l k = entry_in p s l (entry p rest (l + size_in s) k)

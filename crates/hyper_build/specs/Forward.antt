@@ -64,6 +64,7 @@ abbrev pub led_by : Option ℕ → Numbering → Numbering
 led_by None s = with_blocks 1 s
 led_by (Some to) s = s
 
+-- before a leg of an if: one block more stands there, unless the leg has no block of its own
 abbrev pub led : Code → Numbering → Numbering
 led c s = led_by (exit_of 0 0 0 c) s
 
@@ -71,6 +72,7 @@ led c s = led_by (exit_of 0 0 0 c) s
 
 -- Behind a statement, or behind code. `on` says whether the code behind the statement goes on.
 abbrev mutual
+  -- behind one statement with its parts
   pub number_in : Plan → Bool → Step → Numbering → Numbering
   number_in p on (Let to op a b) s = single p s
   number_in p on (Frame to at) s = single p s
@@ -94,6 +96,7 @@ abbrev mutual
   number_in p on Continue s = with_statement (with_blocks (cut_size on) s)
   number_in p on (Return v) s = with_statement (with_blocks (cut_size on) s)
 
+  -- behind code, from its first statement on
   pub number : Plan → Code → Numbering → Numbering
   number p Nop s = s
   number p (x ▹ rest) s = number p rest (number_in p (goes_on rest) x s)
@@ -124,10 +127,12 @@ abbrev pub way_in_size : Bool → ℕ → ℕ
 way_in_size small params =
     2 + moved_size (parameter_cuts small) 0 (parameter_moves 0 params) + cut_size small
 
+-- behind a function, which counts one statement besides those of its body
 abbrev pub number_function : Plan → Function → Numbering → Numbering
 number_function p f s =
     number p f.body (with_statement (with_blocks (way_in_size (p.small s.place) f.params) s))
 
+-- behind functions, from the first on
 abbrev pub number_all : Plan → List Function → Numbering → Numbering
 number_all p [] s = s
 number_all p (f ∷ fs) s = number_all p fs (number_function p f s)

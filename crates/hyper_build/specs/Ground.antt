@@ -25,6 +25,7 @@ entry_at [] f = 0
 entry_at (e ∷ es) zero = e
 entry_at (e ∷ es) (suc f) = entry_at es f
 
+-- the answers and groups as a plan, which has one at every place
 abbrev pub plan : Ground → Plan
 plan g = plan_of g.cuts g.joins g.groups
 
@@ -35,6 +36,8 @@ left frame = record {
   tail = Leave exit.Return;
 }
 
+-- what statements of the function need of where they stand, where a break and a continue lead to
+-- labels
 abbrev pub place : Ground → ℕ → ℕ → Place
 place g broke again = record {
   frame = g.frame;

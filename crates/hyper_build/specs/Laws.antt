@@ -48,7 +48,9 @@ BuildKeepsMeaning =
 -- have, each of them fits.
 pub record AreBlocksOf (P : Program) (B : List Block) : Type 0 where
   pub followed : IsFollowed B
+  -- three stand before all functions
   pub few : length B ≤ 3 + code_blocks_of_all P.functions
+  -- an image has room for 524,288 blocks
   pub fit : length B ≤ 524288 → (k : ℕ) (b : Block) → slice_get B k ≡ Some b → FitsHyper b
 
 abbrev pub BuildGivesBlocks : Type 0
@@ -94,7 +96,9 @@ pub record AreAssigned (P : Program) (lists : List (List ℕ)) (groups : List (L
     : Type 0
   where
     pub kept : FitsKept P lists
+    -- each list is its groups in order, of at most 16 variables
     pub cut : AreCut lists groups
+    -- at most five for a call
     pub few : AreFew groups
 
 -- So of the program whose calls keep these variables, for all lists of answers.
@@ -107,6 +111,7 @@ KeepsAssigned =
     → EndsSo (hyper_run check at (built_program (plan_of cuts joins groups) P) P.bytes input) n
     (flat_run (tame_and check) (assigned_program P lists) input n)
 
+-- So are the blocks of what `assign` gives, for all lists of answers.
 abbrev pub GivesAssigned : Type 0
 GivesAssigned =
     (cuts joins : List Bool) (P : Program) (lists : List (List ℕ)) (groups : List (List (List ℕ)))

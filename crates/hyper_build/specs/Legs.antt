@@ -14,6 +14,7 @@ exit_leg p join (BreakAt c ▸ End) = Some p.broke
 exit_leg p join (ContinueAt c ▸ End) = Some p.again
 exit_leg p join _ = None
 
+-- the label that a leg leads to: its exit, or, where it has blocks, that of its first
 abbrev pub label_or : ℕ → Option ℕ → ℕ
 label_or l None = l
 label_or l (Some exit) = exit
@@ -23,6 +24,7 @@ abbrev pub leg_blocks : Option ℕ → Block → List Block → List Block
 leg_blocks None first others = first ∷ others
 leg_blocks (Some exit) first others = []
 
+-- how many blocks a leg has, which begins `others` behind its first
 abbrev pub leg_size : Tree → ℕ → ℕ
 leg_size End others = 0
 leg_size (BreakAt c ▸ End) others = 0
@@ -49,17 +51,20 @@ is_operation (Load to op a) = true
 is_operation (Save op a v) = true
 is_operation _ = false
 
+-- each statement of the code is one
 abbrev pub are_operations : Code → Bool
 are_operations Nop = true
 are_operations (s ▹ rest) = is_operation s && are_operations rest
 
 -- whether a continue of code leads to the last part of the loop whose body the code is
 abbrev mutual
+  -- a continue in a leg of an if counts; one in a loop inside leads to that loop
   pub continues_in : Step → Bool
   continues_in (If x one other) = continues one || continues other
   continues_in Continue = true
   continues_in _ = false
 
+  -- any statement of the code does
   pub continues : Code → Bool
   continues Nop = false
   continues (s ▹ rest) = continues_in s || continues rest
@@ -74,6 +79,7 @@ abbrev pub post_exit : Bool → ℕ → Option ℕ
 post_exit true head = Some head
 post_exit false head = None
 
+-- how many blocks a loop's last part has, which begins `others` behind its first
 abbrev pub post_size : Bool → ℕ → ℕ
 post_size true others = 0
 post_size false others = 1 + others

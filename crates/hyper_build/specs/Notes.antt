@@ -9,11 +9,14 @@ use Rattle.hyper_build.specs.Legs.{leg_size, label_or, post_exit}
 use Rattle.hyper_build.specs.Sizes.{size_in, size, turn_size, part_size}
 use Rattle.hyper_build.specs.BackwardCode.{is_bare_code, is_test_step}
 
+-- a loop whose head stands at a label, which is the statement of number `place`, and whose body
+-- goes on at label `next`
 abbrev pub note_of : ℕ → ℕ → ℕ → Note
 note_of head place next = record { head = head; place = place; next = next }
 
 -- Of code whose blocks stand from label l on, where i statements and k calls stand before it.
 abbrev mutual
+  -- of one statement: a loop's note stands behind those of the loops in it
   pub notes_in : Plan → ℕ → ℕ → ℕ → Step → List Note
   notes_in p l i k (If x one other) =
       let A = annotated p (i + 1) k one in
@@ -26,6 +29,7 @@ abbrev mutual
       ++ note_of l i (label_or next (post_exit (is_bare_code (p.cut i) body post) l)) ∷ [])
   notes_in p l i k _ = []
 
+  -- of code, those of its first statement in front
   pub notes_of : Plan → ℕ → ℕ → ℕ → Code → List Note
   notes_of p l i k Nop = []
   notes_of p l i k (x ▹ c) =

@@ -22,6 +22,7 @@ pub record Reached (o : List Block) (t : Emission) (l i k : ℕ) (N : List Note)
     pub place : t.place ≡ i
     pub calls : t.calls ≡ k
     pub notes : t.notes ≡ N
+    -- the new blocks stand in front of those that were out before
     pub out : t.out ≡ B ++ o
     pub rest : t.rest ≡ E
 

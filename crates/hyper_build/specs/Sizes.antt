@@ -14,6 +14,7 @@ arguments_size small args = moved_size (argument_cuts small) 0 (argument_moves 0
 
 -- of a statement
 abbrev mutual
+  -- a cut behind it begins a block, and its parts begin theirs
   pub size_in : Stmt → ℕ
   size_in (LetAt c to op a b) = cut_size c
   size_in (FrameAt c to at) = cut_size c
@@ -32,6 +33,7 @@ abbrev mutual
   size_in (ContinueAt c) = cut_size c
   size_in (ReturnAt c v) = cut_size c
 
+  -- of code
   pub size : Tree → ℕ
   size End = 0
   size (s ▸ rest) = size_in s + size rest

@@ -34,4 +34,5 @@ pub record HoldsSmallIf (b : Block) : Type 0 where
   pub is : b ≡ if_block test one other out
   pub first : IsShortLeg one
   pub second : IsShortLeg other
+  -- at least one of them sets a register
   pub filled : (is_filled one || is_filled other) ≡ true

@@ -18,6 +18,7 @@ use Rattle.hyper_build.specs.Laws.{built_program, FitsGroups, plan_of, AreAssign
 pub record IsGroupBlock (b : Block) : Type 0 where
   pub frame : ℕ
   pub variables : List ℕ
+  -- the label of the block that goes on
   pub to : ℕ
   pub few : length variables ≤ 16
   pub is : (b ≡ saving frame variables (jump to)) ⊎ (b ≡ restoring frame variables (jump to))
@@ -41,6 +42,7 @@ pub record IsSimple (b : Block) : Type 0 where
   pub plain : ifs_in b.items ≡ 0
   pub jumps : TestsJump b.tail
 
+-- the three kinds of blocks that the passes behind are proved to take
 abbrev pub IsLittle : Block → Type 0
 IsLittle b = IsSimple b ⊎ (IsGroupBlock b ⊎ HoldsSmallIf b)
 
@@ -51,6 +53,7 @@ pub record CutsAll (p : Plan) : Type 0 where
   pub small : (i : ℕ) → p.small i ≡ true
   pub groups : (k : ℕ) → AreSmall (p.groups k)
 
+-- each block of such a plan is little, so that some plan gives blocks which every pass takes
 abbrev pub CutBlocksAreLittle : Type 0
 CutBlocksAreLittle =
     (p : Plan) (P : Program) → FitsProgram P → FitsGroups p P → CutsAll p → (k : ℕ) (b : Block)

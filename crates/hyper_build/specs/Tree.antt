@@ -13,6 +13,7 @@ use Rattle.reg_assign.specs.Keeps.{calls_in, calls, is_among}
 -- behind has a block. `joined` makes an if an item of its block, `small` cuts a call's arguments behind
 -- every third.
 mutual
+  -- a flat statement with its annotations
   pub data Stmt : Type 0 where
     LetAt : (cut : Bool) (to : ℕ) (op : Op) (a b : Arg) → Stmt
     FrameAt : (cut : Bool) (to at : ℕ) → Stmt
@@ -42,6 +43,7 @@ is_saved groups = is_among (concat groups)
 
 -- The flat code without cuts; a call keeps what it saves.
 abbrev mutual
+  -- of one statement, the one of the same name without `At`
   pub plain_in : Stmt → Step
   plain_in (LetAt c to op a b) = Let to op a b
   plain_in (FrameAt c to at) = Frame to at
@@ -56,6 +58,7 @@ abbrev mutual
   plain_in (ContinueAt c) = Continue
   plain_in (ReturnAt c v) = Return v
 
+  -- of code
   pub plain : Tree → Code
   plain End = Nop
   plain (s ▸ rest) = plain_in s ▹ plain rest
@@ -68,6 +71,7 @@ pub record Routine : Type 0 where
   pub small : Bool
   pub body : Tree
 
+-- the flat function below a function with annotations
 abbrev pub function_of : Routine → Function
 function_of g =
     record { params = g.params; scalars = g.scalars; arrays = g.arrays; body = plain g.body }
@@ -91,13 +95,17 @@ goes_on (s ▹ rest) = not (leaves s)
 -- save, by the number of a call.
 pub record Plan : Type 0 where
   pub cut : ℕ → Bool
+  -- whether an if is an item of its block, or a loop's test goes on in it
   pub joined : ℕ → Bool
+  -- whether a call's arguments, or a function's parameters, end a block behind every third
   pub small : ℕ → Bool
+  -- of at most 16 variables, each saved and restored by one block
   pub groups : ℕ → List (List ℕ)
 
 -- Code with a plan's annotations, where i statements and k calls stand before it. `on` says whether the
 -- code behind a statement goes on.
 abbrev mutual
+  -- one statement, with the plan's answers at its number
   pub annotated_in : Plan → ℕ → ℕ → Bool → Step → Stmt
   annotated_in p i k on (Let to op a b) = LetAt (p.cut i) to op a b
   annotated_in p i k on (Frame to at) = FrameAt (p.cut i) to at
@@ -116,6 +124,7 @@ abbrev mutual
   annotated_in p i k on Continue = ContinueAt on
   annotated_in p i k on (Return v) = ReturnAt on v
 
+  -- code, whose first statement has the number i
   pub annotated : Plan → ℕ → ℕ → Code → Tree
   annotated p i k Nop = End
   annotated p i k (s ▹ rest) =

@@ -42,6 +42,7 @@ pub record FitsWorld (W : World) (bytes : List ℕ) (main : ℕ) : Type 0 where
 pub record Stops (run : ℕ → Standing) (n : ℕ) (end : Standing) : Type 0 where
   pub blocks : ℕ
   pub stands : (k : ℕ) → run (blocks + k) ≡ end
+  -- six blocks are the program's own, besides two a turn
   pub few : blocks ≤ 2 * n + 6
 
 -- a run that has not ended, where r rounds were begun
@@ -62,6 +63,8 @@ EndsSo run n (TooDeep out) = Stops run n (Full out)
 EndsSo run n (Unfinished out r) = IsUnended run n out r
 EndsSo run n Wild = Unit {0}
 
+-- Of all functions that fit and every layout with faithful addresses: the built program ends as the
+-- flat one does, within two blocks a turn and six more.
 abbrev pub WholeClaim : Type 0
 WholeClaim =
     (check : Bool) (at : Layout) (bytes : List ℕ) (fs : List Routine) (main : ℕ) (input : List ℕ)
