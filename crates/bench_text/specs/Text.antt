@@ -10,11 +10,14 @@ head = codes "#include <stdio.h>\nlong a[16];\n"
 unfoldable pub function_name : List ℕ
 function_name = codes "long f"
 
+-- its loops fill the array with x, x + 1, .., x + 15, and add it up from its start, so that a[15]
+-- is 16 x + 120
 unfoldable pub function_body : List ℕ
 function_body =
     codes "(long x) { long i; for (i = 0; i < 16; i = i + 1) a[i] = x + i; "
     ++ codes "for (i = 1; i < 16; i = i + 1) a[i] = a[i] + a[i - 1]; return a[15] + "
 
+-- behind the number k, which is added to the sum
 unfoldable pub function_end : List ℕ
 function_end = codes "; }\n"
 
@@ -37,6 +40,7 @@ main_head = codes "int main(void) { long x = 1;\n"
 unfoldable pub call_name : List ℕ
 call_name = codes "x = f"
 
+-- 65 is the letter A
 unfoldable pub call_end : List ℕ
 call_end = codes "(x) % 1000; putchar(65 + (int) (x % 26));\n"
 

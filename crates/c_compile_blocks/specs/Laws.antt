@@ -19,17 +19,20 @@ GivesEmitted =
 
 -- SLOTS
 
+-- whether a slot holds an instruction
 abbrev pub is_used : Option Inst → Bool
 is_used None = false
 is_used (Some i) = true
 
 -- the used slots of a block of m instructions are p(0) to p(m - 1)
 pub record HasSlots (p : ℕ → ℕ) (t : Block) : Type 0 where
+  -- how many instructions the block has
   pub count : ℕ
   pub used : (s : ℕ) → is_used (slot_of t (p s)) ≡ nat_lt s count
 
 -- the used slots of a block are those to which its placing took the first: by a seed, those of the seed's shuffle
 pub record HasPlacedSlots (p : Placing) (t : Block) : Type 0 where
+  -- for each slot the slot that its instruction goes to
   pub to : List ℕ
   pub is : IsPlacing p to
   pub slots : HasSlots (goes to) t

@@ -39,6 +39,7 @@ use Rattle.flat_lower.specs.declared.around.Around.TheVariants as around
 pub record Scope : Type 0 where
   pub globals : List TypedGlobal
   pub functions : List Func
+  -- the parameters first, each a value or an array's address
   pub scalars : List Slot
   pub arrays : List TypedArray
 
@@ -49,7 +50,9 @@ pub record GlobalIs (c : Scope) (g : ℕ) (k : Kind) (length row : Option ℕ) :
   pub global : TypedGlobal
   pub found : slice_get c.globals g ≡ Some global
   pub kind : global.kind ≡ k
+  -- how many elements it has, or rows, where it is an array
   pub long : global.length ≡ length
+  -- how many elements a row has, where it has two sizes
   pub wide : global.row ≡ row
 
 -- the function has a local array of this number, type and second size
@@ -57,6 +60,7 @@ pub record ArrayIs (c : Scope) (a : ℕ) (k : Kind) (row : Option ℕ) : Type 0 
   pub array : TypedArray
   pub found : slice_get c.arrays a ≡ Some array
   pub kind : array.kind ≡ k
+  -- how many elements a row has, where it has two sizes
   pub wide : array.row ≡ row
 
 -- a name stands for an object of the type
@@ -150,6 +154,7 @@ FitsArg c d (slot.Address k q) fits _ = ⊥
 
 -- the temporaries from d on
 abbrev mutual
+  -- the types of its parts are those that typing gives, and its need is at most what is left
   pub FitsExpr : Scope → ℕ → Expr → Type 0
   FitsExpr c d (Number k w) = FitsNumber d k w
   FitsExpr c d (Name k p) = FitsNamed c d k p
@@ -186,6 +191,7 @@ abbrev mutual
   FitsOne c d NoExprs = ⊥
   FitsOne c d (WithExpr e rest) = FitsExpr c d e × (rest ≡ NoExprs)
 
+  -- argument after argument for the parameters, each in the next temporary
   pub FitsArgs : Scope → ℕ → List Slot → Exprs → Type 0
   FitsArgs c d [] NoExprs = Unit {0}
   FitsArgs c d [] (WithExpr e rest) = ⊥
@@ -216,6 +222,7 @@ FitsReturn c (Some k) (Some e) = FitsExpr c 0 e × (kind_of e ≡ Some k)
 
 -- by what stands around a statement
 abbrev mutual
+  -- of one statement, in a function that gives this type or nothing
   pub FitsStmt : Scope → Option Kind → Around → Stmt → Type 0
   FitsStmt c k x (Declare p e) = FitsDeclare c p e
   FitsStmt c k x (Plain e) = FitsExprIf c e
@@ -232,6 +239,7 @@ abbrev mutual
   FitsStmt c k x Continue = IsLooped x
   FitsStmt c k x (Return e) = FitsReturn c k e
 
+  -- of statements in order, which have the same around them
   pub FitsStmts : Scope → Option Kind → Around → Stmts → Type 0
   FitsStmts c k x NoStmts = Unit {0}
   FitsStmts c k x (WithStmt s rest) = FitsStmt c k x s × FitsStmts c k x rest
@@ -243,6 +251,7 @@ abbrev mutual
       IsLabelled ls × FitsLabels j ls × IsFilled body × FitsStmts c k x body
       × FitsSections c k x j rest
 
+  -- of the first part of a for, which does not stand in its loop
   pub FitsFirst : Scope → Option Kind → Around → First → Type 0
   FitsFirst c k x Nothing = Unit {0}
   FitsFirst c k x (FirstOf e) = FitsExpr c 0 e
@@ -261,6 +270,7 @@ scope_of P f = record {
 
 -- a function that may be lowered
 pub record FitsFunc (P : Source) (f : Func) : Type 0 where
+  -- so that each has a number below the temporaries'
   pub scalars : length f.scalars ≤ MOST_SCALARS
   pub params : f.params ≤ length f.scalars
   pub body : FitsStmt (scope_of P f) f.result around.Nowhere f.body
@@ -268,11 +278,13 @@ pub record FitsFunc (P : Source) (f : Func) : Type 0 where
 -- a global's values are words of its type, and no more than it has room for
 pub record FitsGlobal (g : TypedGlobal) : Type 0 where
   pub words : All (IsWord g.kind) g.init
+  -- what is not given begins as zero
   pub few : length g.init ≤ length_of g.length
 
 -- main returns an int and has no parameters
 pub record FitsMain (P : Source) : Type 0 where
   pub main : Func
+  -- by the number that the program says
   pub found : slice_get P.functions P.main ≡ Some main
   pub result : main.result ≡ Some Int
   pub params : main.params ≡ 0
@@ -282,4 +294,5 @@ pub record FitsSource (P : Source) : Type 0 where
   pub each : (n : ℕ) (f : Func) → slice_get P.functions n ≡ Some f → FitsFunc P f
   pub globals : All FitsGlobal P.globals
   pub main : FitsMain P
+  -- the globals and all frames lie inside data memory
   pub room : frames_at (globals_image P.globals) + frame_limit ≤ data_size

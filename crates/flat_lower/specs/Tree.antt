@@ -12,6 +12,7 @@ use Rattle.c_tree.specs.declared.TypedGlobal.{TypedGlobal}
 
 -- each node has its kind, none where it gives no value
 mutual
+  -- an expression, with the conversions that typing put into it
   pub data Expr : Type 0 where
     Number : (k : Option Kind) (w : ℕ) → Expr
     Name : (k : Option Kind) (p : Place) → Expr
@@ -34,6 +35,7 @@ mutual
 
 -- the else of an if is a list of at most one statement
 mutual
+  -- a statement of C, with places in the place of names
   pub data Stmt : Type 0 where
     Declare : (p : Place) (init : Option Expr) → Stmt
     Plain : (e : Option Expr) → Stmt
@@ -65,7 +67,9 @@ mutual
 
 -- a function as plain data
 pub record Func : Type 0 where
+  -- none of a void function
   pub result : Option Kind
+  -- how many of the scalars are parameters
   pub params : ℕ
   pub scalars : List Slot
   pub arrays : List TypedArray
@@ -75,6 +79,7 @@ pub record Func : Type 0 where
 pub record Source : Type 0 where
   pub globals : List TypedGlobal
   pub functions : List Func
+  -- its place among the functions
   pub main : ℕ
 
 -- the type of the value that an expression gives

@@ -17,6 +17,7 @@ IsLeft around.SwitchInLoop = Unit {0}
 -- a break stands in a loop or a switch and a continue in a loop: in one of the statement's own, or in one around
 -- it, by what stands around it
 abbrev mutual
+  -- of one statement
   pub JumpsInLoops : Around → Stmt → Type 0
   JumpsInLoops a (Declare p e) = Unit {0}
   JumpsInLoops a (Plain e) = Unit {0}
@@ -31,10 +32,12 @@ abbrev mutual
   JumpsInLoops a Continue = IsLooped a
   JumpsInLoops a (Return e) = Unit {0}
 
+  -- of statements in order, which have the same around them
   pub AllJumpsInLoops : Around → Stmts → Type 0
   AllJumpsInLoops a NoStmts = Unit {0}
   AllJumpsInLoops a (WithStmt s rest) = JumpsInLoops a s × AllJumpsInLoops a rest
 
+  -- of the sections of a switch, in whose braces a break has the switch to leave
   pub SectionsJumpInLoops : Around → Sections → Type 0
   SectionsJumpInLoops a NoSections = Unit {0}
   SectionsJumpInLoops a (WithSection ls body rest) =

@@ -53,6 +53,7 @@ pub record AreBlocksOf (P : Program) (B : List Block) : Type 0 where
   -- an image has room for 524,288 blocks
   pub fit : length B ≤ 524288 → (k : ℕ) (b : Block) → slice_get B k ≡ Some b → FitsHyper b
 
+-- Whatever the plan, its blocks are such, where program and groups fit.
 abbrev pub BuildGivesBlocks : Type 0
 BuildGivesBlocks =
     (p : Plan) (P : Program) → FitsProgram P → FitsGroups p P → AreBlocksOf P (built_program p P)

@@ -18,6 +18,7 @@ use Rattle.predication.specs.Tails.{Ending, tail, tail_touched}
 abbrev pub register_count : ℕ
 register_count = 128
 
+-- so many loads and stores of a block have numbers of their own, of five bits
 abbrev pub number_count : ℕ
 number_count = 32
 
@@ -31,6 +32,7 @@ begun b = items None 0 0 at_start no_bits b.items
 abbrev pub ended : Block → Ending
 ended b = tail None (length (begun b).nodes) 0 (begun b).env (begun b).bits b.tail
 
+-- the nodes of the items, and behind them those of the tests and exits
 abbrev pub all_nodes : Block → List FlowNode
 all_nodes b = (begun b).nodes ++ (ended b).nodes
 
@@ -56,10 +58,12 @@ reads_in [] r = false
 reads_in (Read q ∷ ss) r = nat_eq q r || reads_in ss r
 reads_in (Node j ∷ ss) r = reads_in ss r
 
+-- whether an operand of some nodes takes the word that register r has when the block begins
 abbrev pub nodes_read : List FlowNode → ℕ → Bool
 nodes_read [] r = false
 nodes_read (n ∷ rest) r = reads_in n.left r || (reads_in n.right r || nodes_read rest r)
 
+-- whether a write hands that word on
 abbrev pub writes_read : List FlowWrite → ℕ → Bool
 writes_read [] r = false
 writes_read (w ∷ rest) r = reads_in w.sources r || writes_read rest r

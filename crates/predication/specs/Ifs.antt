@@ -35,6 +35,7 @@ side_of false g j r before mine = left_of g j r before.given before.kept
 -- the nodes of the end of an if, and the entries after it
 pub record Joined : Type 0 where
   pub nodes : List FlowNode
+  -- where each register's word comes from behind the if
   pub env : Env
 
 -- t is the test's node; each register of rs takes its word from both legs, which set those of ty
@@ -61,6 +62,7 @@ touched (If t one other rest) = (touched one ++ touched other) ++ touched rest
 pub record Out : Type 0 where
   pub nodes : List FlowNode
   pub env : Env
+  -- the registers whose word is known to be 0 or 1
   pub bits : Bits
   -- the next number of a load or a store
   pub number : ℕ

@@ -16,6 +16,7 @@ by_address address Genu imm = half_of (λ l. address l / 65536) imm
 by_address address App imm = half_of (λ l. address l % 65536) imm
 by_address address op imm = imm
 
+-- a node whose constant is a half of an address where it stood for a label
 abbrev pub resolved_node : (ℕ → ℕ) → FlowNode → FlowNode
 resolved_node address n = record n { imm = by_address address n.op n.imm }
 

@@ -18,6 +18,7 @@ exit_count = 8
 
 -- the load/store numbers and the exits that there are
 pub record HasRoom (b : Block) : Type 0 where
+  -- of loads and stores, over both legs of each if
   pub numbers : (begun b).number ≤ 32
   pub exits : exits_in b.tail ≤ exit_count
 
@@ -57,6 +58,7 @@ pub record IsTaken (b : Block) : Type 0 where
   pub fits : FitsHyper b
   pub room : HasRoom b
 
+-- So in every layout whose addresses are short.
 abbrev pub TakesAddressed : Type 0
 TakesAddressed =
     (at : Layout) (b : Block) → HasShortAddresses at → FitsHyper b → HasRoom b

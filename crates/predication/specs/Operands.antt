@@ -34,6 +34,7 @@ test_of g l = node_of Tnei 0 g l []
 -- nodes, and the number of the one that gives a word
 pub record Chain : Type 0 where
   pub nodes : List FlowNode
+  -- in the numbers of the block's nodes
   pub last : ℕ
 
 -- one `app` after the nodes of the upper bits, unless the word has 16 bits

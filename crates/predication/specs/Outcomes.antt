@@ -23,6 +23,7 @@ NamesLabel (exit.Call l back) = (l < label_end) × (back < label_end)
 NamesLabel exit.Return = Unit {0}
 NamesLabel (exit.System l) = Unit {0}
 
+-- the labels of each exit of an end
 abbrev pub NamesLabels : Tail → Type 0
 NamesLabels (Leave e) = NamesLabel e
 NamesLabels (Test t one other) = NamesLabels one × NamesLabels other
@@ -31,9 +32,11 @@ NamesLabels (Test t one other) = NamesLabels one × NamesLabels other
 
 -- how much a flow block has of each part; its numbers are those of loads and stores
 pub record Counts : Type 0 where
+  -- nodes, each of which becomes an instruction
   pub insts : ℕ
   pub reads : ℕ
   pub writes : ℕ
+  -- of loads and stores
   pub numbers : ℕ
   pub exits : ℕ
 

@@ -21,6 +21,7 @@ use Rattle.predication.specs.Ifs.{Joined, join}
 abbrev pub address_end : ℕ
 address_end = 2 ^ 32
 
+-- halves are below it
 abbrev pub half_end : ℕ
 half_end = 65536
 
@@ -30,6 +31,7 @@ half_end = 65536
 abbrev pub high_half : ℕ → ℕ
 high_half w = cond (nat_lt w address_end) (w / half_end) (half_end + (w - address_end))
 
+-- the lower half, held as 65,536 and the label where blocks are not laid out
 abbrev pub low_half : ℕ → ℕ
 low_half w = cond (nat_lt w address_end) (w % half_end) (half_end + (w - address_end))
 
@@ -40,10 +42,12 @@ exit_with f (exit.Call l back) = exit.Call l (f back)
 exit_with f exit.Return = exit.Return
 exit_with f (exit.System l) = exit.System l
 
+-- an end, in each of its exits
 abbrev pub tail_with : (ℕ → ℕ) → Tail → Tail
 tail_with f (Leave e) = Leave (exit_with f e)
 tail_with f (Test t one other) = Test t (tail_with f one) (tail_with f other)
 
+-- a block, in each exit of its end
 abbrev pub block_with : (ℕ → ℕ) → Block → Block
 block_with f b = record { items = b.items; tail = tail_with f b.tail }
 

@@ -35,6 +35,7 @@ pub record FitsMachine (b : Block) : Type 0 where
   pub numbers : predication.HasRoom b
   -- its reads, writes and instructions
   pub room : fan_out.HasRoom (complete (predicated (labelled b)))
+  -- the checker takes blocks of at most 256
   pub cases : (t : MachineBlock) → fan_out.IsTargeted (complete (predicated (labelled b))) t
       → cases (nodes_of t) ≤ 256
 
@@ -64,5 +65,6 @@ pub record IsNeverTooBig (b : Block) : Type 0 where
   pub targeting : (e : FlowFault) → fan_out_refusals.IsRefusal (complete (predicated (labelled b))) e
       → e ≡ Memory
 
+-- So of each block that is within the limits.
 abbrev pub OnlyMemoryRefuses : Type 0
 OnlyMemoryRefuses = (b : Block) → FitsMachine b → IsNeverTooBig b

@@ -26,6 +26,7 @@ pub record End : Type 0 where
   pub env : Env
   pub bits : Bits
   pub number : ℕ
+  -- the registers that are set on some path
   pub sets : List ℕ
 
 -- after more items, of which these nodes are come to
@@ -56,6 +57,7 @@ label l = address_end + l
 abbrev pub exit_labelled : Exit → Exit
 exit_labelled x = exit_with label x
 
+-- an end as the code has it, with labels to come back to from 2^32 on
 abbrev pub tail_labelled : declared.Tail → Tail
 tail_labelled t = tail_with label (tail_of t)
 

@@ -41,12 +41,15 @@ mask_members found (suc k) = mask_members found k + cond (member k found) (2 ^ k
 
 -- ALL OF THEM
 
+-- a write for each register that is set on some path
 unfoldable pub writes_of : Env → List ℕ → List FlowWrite
 writes_of env rs = writes_below env rs register_count
 
+-- the registers whose word at the block's begin some operand or write takes
 unfoldable pub reads_of : List FlowNode → List FlowWrite → List ℕ
 reads_of ns ws = reads_below ns ws register_count
 
+-- the mask of the block: the numbers of its stores
 unfoldable pub mask_of : List FlowNode → ℕ
 mask_of ns = mask_below ns number_count
 
@@ -61,6 +64,7 @@ flow_of ns env rs = record {
 
 -- COUNTS
 
+-- the counts of a flow block, whose numbers and exits were counted as they were emitted
 abbrev pub counts_by : FlowBlock → ℕ → ℕ → Counts
 counts_by f numbers exits = record {
   insts = length f.nodes;
@@ -74,6 +78,7 @@ counts_by f numbers exits = record {
 abbrev pub flow_in : Emitted → FlowBlock
 flow_in e = flow_of e.nodes (env_of e.names.entries) e.names.sets
 
+-- what the code compares with the machine's limits
 abbrev pub counts_in : Emitted → Counts
 counts_in e = counts_by (flow_in e) e.numbers e.exits
 
