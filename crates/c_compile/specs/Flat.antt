@@ -23,13 +23,19 @@ KeepsTextMeaning P F =
 -- The text is accepted, its program is lowered to this one, which does what the text's program
 -- means, fits the limits of the later passes and is small.
 pub record IsFlatOf (text : List ℕ) (F : Program) : Type 0 where
+  -- what the front end makes of the text
   pub program : TypedProgram
+  -- by lexer, grammar and typing
   pub accepted : IsAccepted text program
   pub is : F ≡ lowered_program program
   pub keeps : KeepsTextMeaning program F
+  -- its variables, arguments and memory are there
   pub fits : FitsProgram F
   -- its tokens bound what a pass through a function costs, and the blocks that are made of it
   pub tokens : Tokens
+  -- these are the text's tokens
   pub lexed : Lexed most_tokens text tokens
+  -- a pass through a function, up to its next round, costs no more steps than the text has tokens
   pub most : most_of (source_of program) ≤ length tokens
+  -- whatever plan cuts them
   pub blocks : code_blocks_of_all F.functions ≤ 12 * length tokens

@@ -17,21 +17,29 @@ use Rattle.c_compile.specs.Flat.{IsFlatOf}
 -- i is made of the text's flat program, and its blocks stand in the slots that a placing says
 pub record IsImageOf (text : List ℕ) (p : Placing) (i : Image) : Type 0 where
   pub flat : Program
+  -- it is the text's, and does what the text means
   pub lowered : IsFlatOf text flat
+  -- by some plan
   pub compiled : IsCompiled flat p i
 
 -- The image does what the text means: the text is accepted, and on each input the image's run ends
 -- as the evaluation does, has a full stack where that is too deep, and goes on where that goes on.
 pub record MeansText (text : List ℕ) (p : Placing) (i : Image) : Type 0 where
   pub program : TypedProgram
+  -- by lexer, grammar and typing
   pub accepted : IsAccepted text program
   pub tokens : Tokens
+  -- the limits count its tokens
   pub lexed : Lexed most_tokens text tokens
+  -- the same output and result, within 16 n + 6 blocks for n steps
   pub finished : DoesFinished program i
+  -- the stack is full within as many
   pub deep : DoesDeep program i
+  -- as far as n steps go, within as many blocks, and goes on
   pub unfinished : DoesUnfinished (length tokens) program i
   -- how its run has ended says how the evaluation has: it traps only where that is undefined
   pub ends : EndsAsEvaluated (length tokens) program i
+  -- where no number of steps ends the evaluation, no number of blocks ends the run
   pub endless : NeverEnds program i
   -- it is good, and as small as the text
   pub bounds : HasBounds (length tokens) p i

@@ -30,8 +30,11 @@ pub record IsMachineBlock (p : Placing) (b : hyper.Block) (u : Block) : Type 0 w
   pub room : HasRoom (flow_of b)
   -- with targets, in the slots of the flow block's nodes
   pub target : Block
+  -- each node at its number, the `mov`s that spread its result behind all
   pub targeted : IsTargeted (flow_of b) target
+  -- the checker takes no more
   pub cases : cases (nodes_of target) ≤ 256
+  -- its instructions moved to other slots, with every target that names them
   pub placed : IsPlaced p target u
 
 -- the same, whatever the number of its cases
@@ -46,6 +49,7 @@ pub record IsPassed (p : Placing) (b : hyper.Block) (u : Block) : Type 0 where
 pub record AreFirstPassed (p : Placing) (B : List hyper.Block) (n : ℕ) (us : List Block) : Type 0
   where
     pub size : length us ≡ n
+    -- each from the hyper block of the same number
     pub each : (k : ℕ) (b : hyper.Block) (u : Block) → slice_get B k ≡ Some b
         → slice_get us k ≡ Some u → IsPassed p b u
 
@@ -56,13 +60,17 @@ ArePassed p B us = AreFirstPassed p B (length B) us
 -- us are the machine blocks of a hyper program
 pub record AreMachineBlocks (p : Placing) (B : List hyper.Block) (us : List Block) : Type 0 where
   pub size : length us ≡ length B
+  -- each from the hyper block of the same number
   pub each : (k : ℕ) (b : hyper.Block) (u : Block) → slice_get B k ≡ Some b
       → slice_get us k ≡ Some u → IsMachineBlock p b u
 
 -- a hyper program that the passes take: its blocks fit, lead to its blocks, and are as many as an
 -- image holds of whatever size
 pub record FitsPasses (B : List hyper.Block) : Type 0 where
+  -- a run begins with block 0
   pub some : 1 ≤ length B
+  -- each block has at most five chunks
   pub few : length B ≤ most_blocks
+  -- and a call or a system call comes back to the block behind
   pub followed : IsFollowed B
   pub fit : (k : ℕ) (b : hyper.Block) → slice_get B k ≡ Some b → FitsHyper b

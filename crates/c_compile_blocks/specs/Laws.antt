@@ -28,12 +28,14 @@ is_used (Some i) = true
 pub record HasSlots (p : ℕ → ℕ) (t : Block) : Type 0 where
   -- how many instructions the block has
   pub count : ℕ
+  -- the slot to which s goes holds an instruction exactly where s is below that
   pub used : (s : ℕ) → is_used (slot_of t (p s)) ≡ nat_lt s count
 
 -- the used slots of a block are those to which its placing took the first: by a seed, those of the seed's shuffle
 pub record HasPlacedSlots (p : Placing) (t : Block) : Type 0 where
   -- for each slot the slot that its instruction goes to
   pub to : List ℕ
+  -- one of this placing
   pub is : IsPlacing p to
   pub slots : HasSlots (goes to) t
 

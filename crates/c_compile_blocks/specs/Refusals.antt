@@ -16,12 +16,14 @@ use Rattle.c_compile_blocks.specs.Blocks.{flow_of, AreFirstPassed}
 
 -- completing refuses what predication gives
 pub record IsIncomplete (b : hyper.Block) (e : FlowFault) : Type 0 where
+  -- predication itself has room
   pub room : HasRoomFor (counts_of (labelled b))
   pub refused : complete.IsRefusal (predicated (labelled b)) e
 
 -- the targets refuse what is completed
 pub record IsUntargeted (b : hyper.Block) (e : FlowFault) : Type 0 where
   pub room : HasRoomFor (counts_of (labelled b))
+  -- the completed block has room for its nodes, without the `mov`s that spread results
   pub limits : IsWithinLimits (flow_of b)
   pub refused : target.IsRefusal (flow_of b) e
 
@@ -36,6 +38,7 @@ pub record HasRefused (p : Placing) (B : List hyper.Block) (e : FlowFault) : Typ
   pub block : hyper.Block
   pub there : slice_get B number ≡ Some block
   pub refused : IsRefused block e
+  -- what the passes make of the blocks before it
   pub before : List Block
   pub passed : AreFirstPassed p B number before
 

@@ -19,11 +19,15 @@ use Rattle.c_compile_blocks.specs.Blocks.{AreMachineBlocks}
 pub record FlatMeans (P : TypedProgram) (F : Program) (t : ℕ) : Type 0 where
   -- the steps that a pass through a function costs
   pub most : ℕ
+  -- by the run with all checks, on each input of bytes
   pub keeps : (input : List ℕ) → IsInput input → (n : ℕ)
       → Keeps most (flat_run checked F input) n (eval P input n)
   pub fits : FitsProgram F
+  -- as many as the lexer takes, at most
   pub few : t ≤ MOST_TOKENS
+  -- and these are at most the text's tokens
   pub short : most ≤ t
+  -- whatever plan cuts them
   pub blocks : code_blocks_of_all F.functions ≤ 12 * t
 
 -- i is the image that the passes make of F: its calls keep what must be kept, its blocks end and its
@@ -32,11 +36,16 @@ pub record IsCompiled (F : Program) (p : Placing) (i : Image) : Type 0 where
   -- the variables that each call keeps, and their groups
   pub lists : List (List ℕ)
   pub groups : List (List (List ℕ))
+  -- a list for each call, in at most five groups of at most 16 variables
   pub assigned : AreAssigned F lists groups
+  -- calls that keep no more change no tame run
   pub keeps : KeepsTameRuns F lists
   -- where its blocks end, and which ifs are items of their block
   pub cuts : List Bool
   pub joins : List Bool
+  -- with labels in the place of addresses
   pub blocks : List Block
+  -- each is what the passes make of its hyper block
   pub made : AreMachineBlocks p (built_program (plan_of cuts joins groups) F) blocks
+  -- its labels resolved, and its globals beside
   pub is : i ≡ image_of blocks F.bytes

@@ -39,20 +39,28 @@ LabelBelow n op imm = Unit {0}
 -- labels, and its instructions stand in other slots; the flow block is complete and means b once its
 -- constants hold the addresses
 pub record IsEmitted (at : Layout) (n : ℕ) (b : hyper.Block) (u : Block) : Type 0 where
+  -- its constants and branches hold labels
   pub flow : FlowBlock
+  -- with addresses in its constants
   pub means : MeansBlock at b (resolved (by_address at.address) flow)
+  -- on every path each output has its token, once addresses stand in its constants
   pub complete : IsComplete (resolved (by_address at.address) flow)
+  -- each branch names a block that there is
   pub labels : All (λ x. LabelBelow n x.op x.imm) flow.nodes
+  -- so that targets can be given
   pub regular : IsRegular flow
+  -- for its nodes and the `mov`s that spread their results
   pub room : HasRoom flow
   -- with targets, in the slots of the flow block's nodes
   pub target : Block
   pub targeted : IsTargeted flow target
+  -- the checker takes no more
   pub cases : cases (nodes_of target) ≤ 256
   -- where each slot goes, and back
   pub there : ℕ → ℕ
   pub back : ℕ → ℕ
   pub permutes : Permutes there back
+  -- with every target that names them
   pub placed : IsMoved there target u
 
 -- 104,857 blocks of five chunks lie in an image
@@ -62,10 +70,12 @@ most_blocks = 104857
 -- us are the machine blocks of a hyper program, whose exits lead to its blocks
 pub record AreEmitted (B : List hyper.Block) (us : List Block) : Type 0 where
   pub size : length us ≡ length B
+  -- a run begins with block 0
   pub some : 1 ≤ length us
   pub few : length us ≤ most_blocks
   pub followed : IsFollowed B
   pub fit : (k : ℕ) (b : hyper.Block) → slice_get B k ≡ Some b → FitsHyper b
+  -- in the layout that these blocks have
   pub each : (k : ℕ) (b : hyper.Block) (u : Block) → slice_get B k ≡ Some b
       → slice_get us k ≡ Some u → IsEmitted (laid_out us) (length us) b u
 
@@ -81,6 +91,7 @@ image_of us bytes = record {
 -- an image whose parts lie in their fields, and whose blocks are all good
 pub record IsGoodImage (i : Image) : Type 0 where
   pub fits : FitsImage i
+  -- as the checker judges them
   pub good : All GoodBlock i.blocks
 
 -- n blocks of its image come to what n blocks of the hyper program, whose labels stand where its

@@ -43,13 +43,18 @@ CleanAsFlow f t =
 -- means a flow block that means b, once the labels in that block's branches are resolved
 pub record IsMade (at : Layout) (chunk : ℕ → ℕ) (k n : ℕ) (b : hyper.Block) (t : Block) : Type 0
   where
+    -- its constants hold addresses, and its branches labels
     pub flow : FlowBlock
     pub starts : HasStarts flow
     pub means : MeansBlock at b flow
+    -- registers and memory go on as words and bytes
     pub keeps : LeavesWords at b
+    -- to one of the n blocks, and back to the block behind
     pub exits : AllLeadOn k n b.tail
+    -- the machine block comes to what the flow block's table says, with offsets in its branches
     pub outcome : MeansFlow (resolved (by_offset chunk k) flow) t
     pub clean : CleanAsFlow (resolved (by_offset chunk k) flow) t
+    -- all its writes at once leave what its table says
     pub writes : WritesAsFlow flow
     pub registers : t.writes.items ≡ map register_of flow.writes
 
@@ -57,7 +62,9 @@ pub record IsMade (at : Layout) (chunk : ℕ → ℕ) (k n : ℕ) (b : hyper.Blo
 pub record AreMade (B : List hyper.Block) (ts : List Block) : Type 0 where
   pub size : length ts ≡ length B
   pub some : 1 ≤ length ts
+  -- an image has room for 524,288 chunks
   pub few : AreFew ts
+  -- in the layout that these blocks have
   pub each : (k : ℕ) (b : hyper.Block) (t : Block) → slice_get B k ≡ Some b
       → slice_get ts k ≡ Some t → IsMade (laid_out ts) (chunk_of ts) k (length ts) b t
 
@@ -70,6 +77,7 @@ pub record Same (m : Machine) (k : ℕ) (s : State) : Type 0 where
   pub memory : s.memory ≡ m.memory
   pub input : s.rest ≡ m.input
   pub output : s.output ≡ m.output
+  -- the number of the block that comes next
   pub next : s.next ≡ k
 
 -- how the run of an image stands where the hyper program's stands so; where something faulted, it

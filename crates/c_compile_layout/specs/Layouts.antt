@@ -16,6 +16,7 @@ laid_out ts = record { address = λ l. 128 * chunk_of ts l; label = λ a. to_add
 -- every address has 32 bits, so that a constant of two halves holds it, and is where a chunk begins
 pub record HasPlaces (at : Layout) : Type 0 where
   pub low : (l : ℕ) → at.address l < 2 ^ 32
+  -- a chunk has 128 bytes
   pub aligned : (l : ℕ) → at.address l % 128 ≡ 0
 
 -- the chunks of blocks are few enough for an image
