@@ -21,6 +21,7 @@ given k v = record { kind = k; value = v }
 
 -- a name that stands for a constant
 pub record NamedConstant : Type 0 where
+  -- its letters, by their bytes
   pub name : List ℕ
   pub constant : Constant
 

@@ -89,6 +89,7 @@ InBits false n w = w < 2 ^ n
 -- w is the word of a number that the type holds
 pub record IsWord (k : Kind) (w : ℕ) : Type 0 where
   pub below : w < 2 ^ 64
+  -- it is one of the type's numbers, modulo 2^64
   pub narrow : InBits (is_signed k) (width k) w
 
 -- RESULTS

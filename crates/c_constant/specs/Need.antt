@@ -10,7 +10,9 @@ use Rattle.c_tree.specs.declared.tree.ExprNode.TheOpen.{Assign, Comma}
 
 -- the need of an expression, and of its index where it is an element, in any groups
 pub record Needs : Type 0 where
+  -- in temporaries
   pub need : ℕ
+  -- none where it is no element
   pub index : Option ℕ
 
 -- the needs of what is no element

@@ -23,6 +23,7 @@ use Rattle.c_grammar.specs.ModelTypes.{begins_type, type_of}
 
 -- what stands one deeper, if it may
 pub record Nested : Type 0 where
+  -- whether one more depth may be opened
   pub allowed : Bool
   pub unary : Tokens → Out Expr
   pub cast : Tokens → Out Expr

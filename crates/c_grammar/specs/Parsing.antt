@@ -11,6 +11,7 @@ use Rattle.c_grammar.specs.Numbers.{is_mark, is_key}
 
 -- where parsing stops: the tokens from there on
 pub record Stop : Type 0 where
+  -- whether it is for the depth that the first of them opens
   pub deep : Bool
   pub rest : Tokens
 

@@ -33,19 +33,26 @@ module _ {X : Type 0} (R : Rel X) where
   -- the first token with which the tokens do not start
   pub record SyntaxAt (m : ℕ) (tokens front : Tokens) (t : Lexeme) (back : Tokens) : Type 0 where
     pub split : tokens ≡ front ++ t ∷ back
+    -- up to it some list of the grammar begins so, and no depth is beyond m
     pub before_it : StartsWithin m front
+    -- not at any depth
     pub with_it : Starts (front ++ t ∷ []) → ⊥
 
   -- the tokens start, and only end too early
   pub record EndsEarly (m : ℕ) (tokens : Tokens) : Type 0 where
+    -- in some list of the grammar, of which more would follow
     pub starts : StartsLate m tokens
+    -- they are no whole list of it
     pub is_none : (x : X) → R any_depth x tokens [] → ⊥
 
   -- the first token that opens a depth beyond m, in every list that begins so
   pub record DeepAt (m : ℕ) (tokens front : Tokens) (t : Lexeme) (back : Tokens) : Type 0 where
     pub split : tokens ≡ front ++ t ∷ back
+    -- some list goes on with it, where it alone may open that depth
     pub but_for_it : StartsBut m front t
+    -- in no list that begins so is it within m
     pub with_it : StartsWithin m (front ++ t ∷ []) → ⊥
+    -- a last token of that kind only ends the text too early
     pub not_early : EndsEarly m tokens → ⊥
 
   -- what a stop says: whether the depth is at fault, and the tokens from it on

@@ -19,6 +19,7 @@ pub record State : Type 0 where
   pub output : List ℕ
   -- the scalars of the function that runs
   pub scalars : List (Option ℕ)
+  -- of the program and of all active functions
   pub arrays : List (List (Option ℕ))
   -- the second size of each array, none where it has one
   pub rows : List (Option ℕ)

@@ -115,7 +115,9 @@ turn rec (Some t) post body s = then (rec (Of t) s) (after_test rec (Some t) pos
 
 -- a label, none for `default`, and the statements that run from it on
 pub record Target : Type 0 where
+  -- the word of a case
   pub label : Option ℕ
+  -- to the end of the switch's braces, through the sections behind
   pub statements : List TypedStmt
 
 -- the statements of sections, one behind another

@@ -18,6 +18,7 @@ use Rattle.c_tree.specs.declared.typed.TypedProgram.{TypedProgram}
 -- an array: the type of its elements, and how many of them a row has where it has two sizes
 pub record Shape : Type 0 where
   pub kind : Kind
+  -- none where it has one size
   pub row : Option ℕ
 
 -- an array of elements of the type, with this second size
@@ -76,6 +77,7 @@ array_at P f (place.Array n) = local_array (slice_get f.arrays n)
 -- what a function gives, none where it is void, and what it takes
 pub record Signature : Type 0 where
   pub result : Option Kind
+  -- in order, each a value or an array
   pub params : List Slot
 
 -- a result and parameters

@@ -28,6 +28,7 @@ IsValue P f k e = Has P f k e × FitsNeed e
 
 -- a full expression whose value, of whatever type, tells whether to go on
 pub record IsTest (P : TypedProgram) (f : TypedFunc) (e : TypedExpr) : Type 0 where
+  -- any integer type: what is not 0 is true
   pub kind : Kind
   pub value : IsValue P f kind e
 

@@ -46,6 +46,7 @@ pub record GlobalFits (g : TypedGlobal) : Type 0 where
   pub some : 1 ≤ count_of g.length
   pub single : g.length ≡ None → g.row ≡ None
   pub rows : IsRows g.row (count_of g.length)
+  -- the others begin as zero
   pub holds : length g.init ≤ count_of g.length
   pub words : Each (IsWord g.kind) g.init
 
@@ -85,6 +86,7 @@ pub record FunctionFits (P : TypedProgram) (f : TypedFunc) : Type 0 where
 -- a function of type int(void)
 pub record IsMain (P : TypedProgram) : Type 0 where
   pub function : TypedFunc
+  -- by the number that the program says
   pub is : slice_get P.functions P.main ≡ Some function
   pub result : function.result ≡ Some Int
   pub params : function.params ≡ 0
@@ -94,5 +96,6 @@ pub record WellFormed (P : TypedProgram) : Type 0 where
   pub globals : Each GlobalFits P.globals
   -- the globals have no more bytes than they may have
   pub bytes : all_bytes P.globals ≤ MOST_OBJECT_BYTES
+  -- each in the program whose functions it calls
   pub functions : Each (FunctionFits P) P.functions
   pub main : IsMain P
