@@ -17,6 +17,7 @@ use Rattle.flat_lower.specs.declared.side.Side.TheVariants as side
 
 -- the code between two lists of statements
 pub record Adds (old new : List FlatStmt) (x : Code) : Type 0 where
+  -- the new list does what the old one did and then x
   pub is : code_of new ≡ Then (code_of old) x
 
 -- arguments and statements, seen as plain data

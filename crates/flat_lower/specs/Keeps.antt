@@ -20,27 +20,38 @@ use Rattle.flat_lower.specs.Sizes.{IsMost}
 -- the run ends as main returned
 pub record Finishes (run : ℕ → Res) (most steps : ℕ) (out : List ℕ) (result : ℤ) : Type 0 where
   pub turns : ℕ
+  -- what main returns
   pub word : ℕ
+  -- the state at the end
   pub to : State
+  -- each step costs at most eight turns
   pub few : turns ≤ 8 * steps
+  -- each round goes with at most `most` steps
   pub many : steps ≤ most * (to.rounds + 1)
   pub fits : IsWord Int word
   pub is : number Int word ≡ result
   pub output : to.output ≡ out
+  -- with more turns too, which are left
   pub ends : (k : ℕ) → run (turns + k) ≡ Gave (Some word) to k
 
 -- the run ends where a frame had no room
 pub record Overflows (run : ℕ → Res) (n : ℕ) (out : List ℕ) : Type 0 where
   pub turns : ℕ
+  -- each step costs at most eight turns
   pub few : turns ≤ 8 * n
+  -- with more turns too
   pub ends : (k : ℕ) → run (turns + k) ≡ TooDeep out
 
 -- the run has come as far as the evaluation, and has not ended
 pub record GoesOn (run : ℕ → Res) (most n : ℕ) (out : List ℕ) : Type 0 where
   pub turns : ℕ
+  -- those that the run has begun by then
   pub rounds : ℕ
+  -- each step costs at most eight turns
   pub few : turns ≤ 8 * n
+  -- each round goes with at most `most` steps
   pub many : n ≤ most * (rounds + 1)
+  -- with the same output as the evaluation's
   pub is : run turns ≡ Unfinished out rounds
 
 -- of an undefined evaluation nothing is said

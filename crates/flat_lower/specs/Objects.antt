@@ -22,6 +22,7 @@ use Rattle.flat_lower.specs.Operations.{temp, scratch, shift_of}
 -- what the code of a function needs to know
 pub record Context : Type 0 where
   pub globals : List TypedGlobal
+  -- of the function, its parameters first
   pub scalars : List Slot
   pub arrays : List TypedArray
 

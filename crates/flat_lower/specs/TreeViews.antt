@@ -66,6 +66,7 @@ stmts_if (Some s) = WithStmt s NoStmts
 
 -- a section of a switch
 pub record Section : Type 0 where
+  -- the word of each case, none for `default`
   pub labels : List (Option ℕ)
   pub body : Stmts
 

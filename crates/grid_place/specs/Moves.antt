@@ -17,7 +17,9 @@ pub record KeepsSlots (p : ℕ → ℕ) : Type 0 where
 pub record Permutes (p q : ℕ → ℕ) : Type 0 where
   pub there : KeepsSlots p
   pub back : KeepsSlots q
+  -- going there and back
   pub returns : (s : ℕ) → q (p s) ≡ s
+  -- going back and there
   pub returned : (s : ℕ) → p (q s) ≡ s
 
 -- where slot s goes, by the list of where each slot goes
@@ -26,7 +28,9 @@ goes p s = slice_index_or p s s
 
 -- a list of where each slot goes that is a permutation
 pub record IsPermutation (p : List ℕ) : Type 0 where
+  -- an entry for each slot
   pub size : length p ≡ 128
+  -- from each slot the one that goes there
   pub back : ℕ → ℕ
   pub permutes : Permutes (goes p) back
 
@@ -63,12 +67,15 @@ renamed_inst p i = record {
 pub record HasSizes (b : Block) : Type 0 where
   pub reads : length b.reads.items ≤ 32
   pub writes : length b.writes.items ≤ 32
+  -- a slot for each number, used or not
   pub insts : length b.insts.items ≡ 128
 
 -- c is b with the instruction of each slot s at p s, every target renamed with it
 pub record IsMoved (p : ℕ → ℕ) (b c : Block) : Type 0 where
+  -- their targets name slots by their new numbers
   pub reads : c.reads.items ≡ map (renamed_read p) b.reads.items
   pub writes : c.writes.items ≡ b.writes.items
   pub mask : c.mask ≡ b.mask
   pub size : length c.insts.items ≡ 128
+  -- the instruction of slot s, with its targets renamed too
   pub insts : (s : ℕ) → slot_of c (p s) ≡ option_map (renamed_inst p) (slot_of b s)

@@ -15,6 +15,7 @@ IsPlacing (Seeded seed) to = to ≡ seeded seed
 pub record IsPlaced (placing : Placing) (b c : Block) : Type 0 where
   -- where each slot goes
   pub to : List ℕ
+  -- one that the placing allows
   pub is : IsPlacing placing to
   pub permutes : IsPermutation to
   pub moved : IsMoved (goes to) b c

@@ -12,6 +12,7 @@ only_cuts (c ∷ cs) = c && only_cuts cs
 -- the answers of a function: one for itself and one for each of its statements; where it has no room, each
 -- is to cut
 pub record AreAnswersOf (room : ℕ) (f : Function) (own : List Bool) : Type 0 where
+  -- the function's own first
   pub size : length own ≡ 1 + steps_of f.body
   pub cuts : room ≡ 0 → only_cuts own ≡ true
 

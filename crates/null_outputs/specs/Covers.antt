@@ -61,8 +61,10 @@ Want = ℕ → Bool
 
 -- where the cover of each guard, and of each operand of a node, stands
 pub record Places : Type 0 where
+  -- by the node that is the guard
   pub on_true : ℕ → ℕ
   pub on_false : ℕ → ℕ
+  -- by the node whose operand it is
   pub left : ℕ → ℕ
   pub right : ℕ → ℕ
 

@@ -30,6 +30,7 @@ IsAddedOp _ = ⊥
 -- a node as completing adds them
 pub record IsAdded (n : FlowNode) : Type 0 where
   pub op : IsAddedOp n.op
+  -- no label to resolve
   pub imm : n.imm ≡ pos 0
 
 -- the zeros of added nodes stay

@@ -34,10 +34,13 @@ EachMasked b (n ∷ rest) = MaskedIn (form_of n.op) b n × EachMasked b rest
 
 -- the table of the second block is a table of the first, and comes to the same
 pub record KeepsAt (b c : FlowBlock) (regs : ℕ → ℕ) (mem : List ℕ) (h : ℕ → Answer) : Type 0 where
+  -- the nodes that were there give the tokens that they gave
   pub start : AtStart regs mem h b
   pub registers : (r : ℕ) → written regs h c.writes r ≡ written regs h b.writes r
+  -- a null store changes nothing
   pub memory : stored_all regs h c.nodes mem ≡ stored_all regs h b.nodes mem
   pub exit : exits h 0 c.nodes ≡ exits h 0 b.nodes
+  -- no added node can fault
   pub acts : fired regs h c.nodes ≡ fired regs h b.nodes
 
 -- from every start of the second block
@@ -115,7 +118,11 @@ HasScope = (nodes : List FlowNode) (firm : Firm) (y : ℕ) (n : FlowNode) (ss : 
 
 -- what the test of sureness surely finds
 pub record Recognises : Type 0 where
+  -- a list with a source under the guard itself
   pub scope : RecognisesScope
+  -- a list with a source that is never absent
   pub always : RecognisesAlways
+  -- a list with a source under each sense of a firm node
   pub both : RecognisesBoth
+  -- under its own guard, where it is firm
   pub node : HasScope

@@ -11,6 +11,7 @@ use Rattle.null_outputs.specs.Wants.{complete}
 -- the nodes, reads and writes of a block are as few as a machine block has room for, each node
 -- counted as one instruction
 pub record IsWithinLimits (c : FlowBlock) : Type 0 where
+  -- the `mov`s that spread results are not counted here
   pub nodes : length c.nodes ≤ 128
   pub reads : length c.reads ≤ 32
   pub writes : length c.writes ≤ 32

@@ -30,5 +30,7 @@ pub record IsStraight (b : FlowBlock) : Type 0 where
       → takes_left (role_of n.op) ≡ true → IsFed y n.left
   pub right : (y : ℕ) (n : FlowNode) → y < front → slice_get b.nodes y ≡ Some n
       → takes_right (role_of n.op) ≡ true → IsFed y n.right
+  -- its first source is a read, or one of these nodes
   pub writes : (j : ℕ) (w : FlowWrite) → slice_get b.writes j ≡ Some w → IsFed front w.sources
+  -- its first store is one of them
   pub numbers : (k : ℕ) → in_mask b.mask k ≡ true → IsFed front (stores_of 0 b.nodes k)

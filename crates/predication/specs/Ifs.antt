@@ -16,6 +16,7 @@ use Rattle.predication.specs.Operands.{tested}
 -- nodes, and the entry that a leg leaves for a register
 pub record Part : Type 0 where
   pub nodes : List FlowNode
+  -- where the register's word comes from behind the leg
   pub entry : Entry
 
 -- A register of a leg that does not set it, g being the leg's scope: it is kept there, or what was
@@ -61,6 +62,7 @@ touched (If t one other rest) = (touched one ++ touched other) ++ touched rest
 -- what items come to
 pub record Out : Type 0 where
   pub nodes : List FlowNode
+  -- where each register's word comes from behind the items
   pub env : Env
   -- the registers whose word is known to be 0 or 1
   pub bits : Bits

@@ -34,6 +34,7 @@ NamesLabels (Test t one other) = NamesLabels one × NamesLabels other
 pub record Counts : Type 0 where
   -- nodes, each of which becomes an instruction
   pub insts : ℕ
+  -- registers that are read
   pub reads : ℕ
   pub writes : ℕ
   -- of loads and stores

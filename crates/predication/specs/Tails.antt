@@ -78,6 +78,7 @@ tail_touched (Test t one other) = tail_touched one ++ tail_touched other
 -- the nodes of an end, the entries after it, and the next number of an exit
 pub record Ending : Type 0 where
   pub nodes : List FlowNode
+  -- where each register's word comes from behind the end
   pub env : Env
   pub number : ℕ
 

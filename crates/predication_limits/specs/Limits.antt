@@ -25,6 +25,7 @@ pub record FitsParts (b : Block) : Type 0 where
   pub nodes : length (predicated b).nodes ≤ 128
   pub reads : length (predicated b).reads ≤ 32
   pub writes : length (predicated b).writes ≤ 32
+  -- of loads and stores
   pub numbers : (begun b).number ≤ 32
   pub exits : exits_in b.tail ≤ 8
 

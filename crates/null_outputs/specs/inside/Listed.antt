@@ -47,7 +47,9 @@ cover_in nodes g s = cover_of nodes (sure_in_guess nodes g) (places_in s)
 -- a region whose groups have these sizes, from p on
 pub record IsRegion {A : Type 0} (size : ℕ → A → ℕ) (p : ℕ) (items : List A) (r : Region) : Type 0
   where
+    -- where the group of each item begins
     pub starts : r.starts ≡ starts size p 0 items
+    -- behind the last group
     pub end : r.end ≡ end_of size p 0 items
 
 -- the nodes that join a write's sources, for any cover
@@ -96,11 +98,14 @@ all_numbers_by sure c b p = numbers_by sure c b p 0 32
 -- what is guessed of a block: its firm nodes, and which covers are wanted
 pub record IsGuess (b : FlowBlock) (g : Guess) : Type 0 where
   pub firm : g.firm ≡ firms b.nodes
+  -- the covers that writes and store numbers ask for
   pub wants : g.wants ≡ wants_of (sure_in_guess b.nodes g) b
+  -- whether the covers that are wanted want no others
   pub closed : g.closed ≡ is_closed (sure_in_guess b.nodes g) (firm_of g.wants) b
 
 -- the four regions of covers, one behind another
 pub record AreStarts (nodes : List FlowNode) (g : Guess) (s : Starts) : Type 0 where
+  -- behind the block's own nodes
   pub on_true : IsRegion (guard_part_size (want_in_guess g) nodes (sure_in_guess nodes g) true)
       (length nodes) nodes s.on_true
   pub on_false : IsRegion (guard_part_size (want_in_guess g) nodes (sure_in_guess nodes g) false)

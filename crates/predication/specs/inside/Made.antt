@@ -84,6 +84,7 @@ counts_in e = counts_by (flow_in e) e.numbers e.exits
 
 -- all of a block is emitted
 pub record IsEmitted (b : Block) (e : Emitted) : Type 0 where
+  -- with numbers modulo 256
   pub nodes : e.nodes ≡ map low (all_nodes b)
   pub env : env_of e.names.entries ≡ (ended b).env
   pub sets : e.names.sets ≡ all_touched b
