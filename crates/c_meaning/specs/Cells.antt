@@ -46,10 +46,13 @@ CellsKnown last (c ∷ cells) = (c.stamp ≤ last) × CellsKnown last cells
 
 -- the arrays are laid out in the cells, of which so many are used, with no stamp later than the last
 pub record IsLaid (spans : List Span) (cells : List Cell) (used last : ℕ) : Type 0 where
+  -- each begins where the one before it ends, the first at 0
   pub follows : Follows 0 spans
+  -- all cells of the arrays
   pub counted : used ≡ total spans
   pub fits : used ≤ length cells
   pub spans_known : SpansKnown last spans
+  -- so that the next stamp is one that no cell has
   pub cells_known : CellsKnown last cells
 
 -- a cell that is set

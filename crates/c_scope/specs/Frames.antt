@@ -37,4 +37,5 @@ HidesRight (e ∷ es) = (e.hidden ≡ place_in es e.binding.name) × HidesRight 
 -- the table finds the newest binding of each name
 pub record Kept {S : Type 0} (es : List Entry) (m : HashMap (List ℕ) ℕ S) : Type 0 where
   pub hides : HidesRight es
+  -- by its place, counted from the oldest
   pub finds : (q : List ℕ) → get same_name m q ≡ place_in es q

@@ -6,6 +6,7 @@ use Rattle.c_type.specs.Labels.{label_among}
 
 -- a set has the words of the cases among these labels, and a flag tells whether `default` is one of them
 pub record Knows {S : Type 0} (xs : List (Option ℕ)) (m : HashSet ℕ S) (d : Bool) : Type 0 where
+  -- as words of the promoted type of the test
   pub cases : (w : ℕ) → contains nat_eq m w ≡ label_among (Some w) xs
   pub default : d ≡ label_among None xs
 

@@ -44,18 +44,23 @@ in_switch b = record { may_break = true; may_continue = b.may_continue }
 
 -- what a statement does to the state, its first fault (by what is around it) and its tree
 pub record Part : Type 0 where
+  -- its declarations are in scope, and counted
   pub after : State → State
+  -- by the place in which it stands, in a loop, in a switch or in neither
   pub fault : Around → State → Blame
+  -- of use only where it has no fault
   pub tree : State → TypedStmt
 
 -- the same of the first part of a `for`
 pub record Beginning : Type 0 where
+  -- its declarations are in scope in the whole `for`
   pub after : State → State
   pub fault : Around → State → Blame
   pub tree : State → TypedForInit
 
 -- a section of a switch: its labels, and what its statements do
 pub record SectionPart : Type 0 where
+  -- in the order of the text
   pub labels : List Label
   pub body : List Part
 

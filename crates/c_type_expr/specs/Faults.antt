@@ -89,7 +89,9 @@ rest_of (s ∷ slots) = slots
 
 -- an expression: is it a name or an element, in any groups, and what of it fails in a role?
 pub record Judged : Type 0 where
+  -- so that it may be assigned to
   pub place : Bool
+  -- its first failing node, by what stands in scope
   pub blame : Scope → Role → Blame
 
 -- the first of the arguments that fails
