@@ -90,6 +90,7 @@ image_of us bytes = record {
 
 -- an image whose parts lie in their fields, and whose blocks are all good
 pub record IsGoodImage (i : Image) : Type 0 where
+  -- so that its bytes can be written and read back
   pub fits : FitsImage i
   -- as the checker judges them
   pub good : All GoodBlock i.blocks

@@ -62,6 +62,7 @@ begins_label _ = false
 -- the statement and the declaration one deeper
 pub record Below : Type 0 where
   pub inner : Tokens → Out Stmt
+  -- with its semicolon
   pub locals : Tokens → Out (List Stmt)
 
 module _ (nested : Nested) where

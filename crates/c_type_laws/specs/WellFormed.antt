@@ -76,6 +76,7 @@ pub record FunctionFits (P : TypedProgram) (f : TypedFunc) : Type 0 where
   -- no more slots than a function may have scalars, of which those after the parameters hold values
   pub scalars : length f.scalars ≤ MOST_SCALARS
   pub locals : Each IsScalar (drop f.params f.scalars)
+  -- of its array parameters
   pub rows : Each SlotFits f.scalars
   pub arrays : Each ArrayFits f.arrays
   -- the body is well formed, and in no loop and no switch

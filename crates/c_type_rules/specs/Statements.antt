@@ -53,11 +53,13 @@ pub data Initialises (G : Scope) (k : Kind) : Option Expr → Option TypedExpr �
 pub data Labels (G : Scope) (k : Kind) : List (Option ℕ) → List Label → List (Option ℕ) → Type 0
   where
     no_label : {seen : List (Option ℕ)} → Labels G k seen [] []
+    -- 6.8.4.2: its value is converted to the type of the test before it is compared
     a_case : {seen words : List (Option ℕ)} {l n : ℕ} {e : Expr} {xs : List Label}
         → IsConstant G e → (constant ends e).value ≡ Some n → need_fits e ≡ true
         → label_among (Some (converted k n)) seen ≡ false
         → Labels G k (seen ++ Some (converted k n) ∷ []) xs words
         → Labels G k seen ((record { line = l; value = Some e }) ∷ xs) (Some (converted k n) ∷ words)
+    -- at most once in a switch
     a_default : {seen words : List (Option ℕ)} {l : ℕ} {xs : List Label}
         → label_among None seen ≡ false → Labels G k (seen ++ None ∷ []) xs words
         → Labels G k seen ((record { line = l; value = None }) ∷ xs) (None ∷ words)
@@ -65,37 +67,46 @@ pub data Labels (G : Scope) (k : Kind) : List (Option ℕ) → List Label → Li
 mutual
   -- by what is around it, the statement has the typed tree; the second state is the one after it
   pub data Types : Around → State → Stmt → TypedStmt → State → Type 0 where
+    -- 6.2.1, 6.7: the name is in scope in its own initialiser
     scalar_declared : {b : Around} {v : State} {l : ℕ} {k : Kind} {w : List ℕ} {init : Option Expr}
         {t : Option TypedExpr}
         → is_taken v.names w ≡ false → length v.scalars < MOST_SCALARS
         → Initialises (with_scalar k w v).names k init t
         → Types b v (at l (node.Declare k w size.Scalar init))
         (typed.Declare (place.Scalar (length v.scalars)) t) (with_scalar k w v)
+    -- 6.7.6.2: it has no initialiser
     array_declared : {b : Around} {v : State} {l n : ℕ} {k : Kind} {w : List ℕ} {e : Expr}
         → Size v.names e n → is_taken v.names w ≡ false → n * bytes k ≤ MOST_OBJECT_BYTES
         → Types b v (at l (node.Declare k w (size.Sized e) None))
         (typed.Declare (place.Array (length v.arrays)) None) (with_array k None w n v)
+    -- the same with two sizes: so many rows, of so many elements each
     rows_declared : {b : Around} {v : State} {l m n : ℕ} {k : Kind} {w : List ℕ} {r e : Expr}
         → Size v.names r m → Size v.names e n → is_taken v.names w ≡ false
         → m * n * bytes k ≤ MOST_OBJECT_BYTES
         → Types b v (at l (node.Declare k w (size.Rows (Some r) e) None))
         (typed.Declare (place.Array (length v.arrays)) None) (with_array k (Some n) w (m * n) v)
+    -- 6.8.3: its value, if it has one, is not taken
     expression : {b : Around} {v : State} {l : ℕ} {e : Option Expr} {t : Option TypedExpr}
         → FullIf v.names Free e t → Types b v (at l (node.Plain e)) (typed.Plain t) v
+    -- 6.8.2: a scope of its own
     block : {b : Around} {v w : State} {l : ℕ} {ss : List Stmt} {ts : List TypedStmt}
         → TypesAll b (entered v) ss ts w
         → Types b v (at l (node.Compound ss)) (typed.Compound ts) (left w)
+    -- 6.8.4.1
     either : {b : Around} {v v' w : State} {l : ℕ} {c : Expr} {d : TypedExpr} {s : Stmt}
         {t : TypedStmt} {other : Option Stmt} {u : Option TypedStmt}
         → Full v.names Value c d → Types b v s t v' → TypesIf b v' other u w
         → Types b v (at l (node.If c s other)) (typed.If d t u) w
+    -- 6.8.5.1
     while_loop : {b : Around} {v w : State} {l : ℕ} {c : Expr} {d : TypedExpr} {s : Stmt}
         {t : TypedStmt}
         → Full v.names Value c d → Types in_loop v s t w
         → Types b v (at l (node.While c s)) (typed.While d t) w
+    -- 6.8.5.2
     do_loop : {b : Around} {v w : State} {l : ℕ} {c : Expr} {d : TypedExpr} {s : Stmt} {t : TypedStmt}
         → Types in_loop v s t w → Full w.names Value c d
         → Types b v (at l (node.Do s c)) (typed.Do t d) w
+    -- 6.8.5.3: what its first part declares is in scope in all of it, and not behind it
     for_loop : {b : Around} {v v' w : State} {l : ℕ} {init : ForInit} {i : TypedForInit}
         {c p : Option Expr} {d q : Option TypedExpr} {s : Stmt} {t : TypedStmt}
         → Begins b (entered v) init i v' → FullIf v'.names Value c d → FullIf v'.names Free p q
@@ -109,12 +120,16 @@ mutual
         (with_switch (promoted (kind_of d)) v) xs ts w
         → Types b v (at l (node.Switch c xs))
         (typed.Switch (length v.scalars) (with_convert (promoted (kind_of d)) d) ts) w
+    -- 6.8.6.3: in a loop or a switch
     breaks : {b : Around} {v : State} {l : ℕ} → b.may_break ≡ true
         → Types b v (at l node.Break) typed.Break v
+    -- 6.8.6.2: in a loop, which may have switches between
     continues : {b : Around} {v : State} {l : ℕ} → b.may_continue ≡ true
         → Types b v (at l node.Continue) typed.Continue v
+    -- 6.8.6.4: without a value in a function that gives none
     returns : {b : Around} {v : State} {l : ℕ}
         → v.result ≡ None → Types b v (at l (node.Return None)) (typed.Return None) v
+    -- and with one, converted to the function's type, in any other
     returns_value : {b : Around} {v : State} {l : ℕ} {k : Kind} {e : Expr} {t : TypedExpr}
         → v.result ≡ Some k → Full v.names Value e t
         → Types b v (at l (node.Return (Some e))) (typed.Return (Some (with_convert k t))) v

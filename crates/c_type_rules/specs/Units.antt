@@ -64,17 +64,23 @@ pub data RowValues (G : Scope) (k : Kind) (n : ℕ) : List (List Expr) → List 
 
 -- how many values a global holds
 pub data Count (G : Scope) (init : List (List Expr)) : ArraySize → ℕ → Type 0 where
+  -- a scalar
   single : Count G init size.Scalar 1
+  -- empty brackets: as many as the braces have values
   counted : 0 < length (all_values init) → Count G init size.Open (length (all_values init))
+  -- one for each element
   sized : {e : Expr} {n : ℕ} → Size G e n → Count G init (size.Sized e) n
+  -- an empty first pair of brackets: as many rows as the braces have
   rows_counted : {e : Expr} {n : ℕ} → Size G e n → 0 < length init
       → Count G init (size.Rows None e) (length init * n)
+  -- rows by elements
   rows_sized : {r e : Expr} {m n : ℕ} → Size G r m → Size G e n
       → Count G init (size.Rows (Some r) e) (m * n)
 
 -- the words that a global of so many values begins with: those of one list, or of whole rows
 pub data Init (G : Scope) (k : Kind) (count : ℕ) : ArraySize → List (List Expr) → List ℕ → Type 0
   where
+    -- of a scalar, or of an array with one size
     in_list : {s : ArraySize} {init : List (List Expr)} {ns : List ℕ} → row_in s ≡ None
         → Values G k (all_values init) ns → length (all_values init) ≤ count
         → Init G k count s init ns
@@ -109,7 +115,9 @@ pub data Params (is_def : Bool) (G : Scope) : List Param → List Param → Type
 -- the name means nothing yet, or a function of the same type; a function has one definition
 pub data Agrees (is_def : Bool) (given : Option Kind) (slots : List Slot) : Option Meaning → Type 0
   where
+    -- its first declaration
     fresh : Agrees is_def given slots None
+    -- a later one
     again : {c : Option Callee} {d : Bool} → is_def && d ≡ false
         → Agrees is_def given slots (Some (meaning.Function given slots c d))
 
@@ -144,11 +152,14 @@ typed_function count t v = record {
 
 -- in a unit of these items, the item leads from one file scope to the other
 pub data Item (unit : List Top) : FileScope → TopNode → FileScope → Type 0 where
+  -- 6.10.2: `EOF` is new, `getchar` and `putchar` are defined here, and prototypes before it agree
   include : {U : FileScope} → is_taken U.names eof_name ≡ false
       → Agrees true (Some Int) [] (look_up U.names getchar_name)
       → Agrees true (Some Int) int_slots (look_up U.names putchar_name)
       → Item unit U Include (record U { names = with_include U.names })
+  -- a later include declares nothing anew
   include_again : {U : FileScope} → is_end (look_up U.names eof_name) ≡ true → Item unit U Include U
+  -- 6.7.6.2, 6.7.9, 6.9.2: its name is new, and it is in scope in its own values
   global : {U : FileScope} {k : Kind} {w : List ℕ} {s : ArraySize} {init : List (List Expr)} {n : ℕ}
       {ns : List ℕ}
       → Count U.names init s n → is_taken U.names w ≡ false
@@ -164,11 +175,13 @@ pub data Item (unit : List Top) : FileScope → TopNode → FileScope → Type 0
         }) ∷ [];
         bytes = n * bytes k + U.bytes;
       })
+  -- 6.7.6.3
   prototype : {U : FileScope} {given : Option Kind} {w : List ℕ} {params : List Param}
       {c : Option Callee}
       → CallsIn unit w c → Heads false given w params U.names
       → Item unit U (Func given w params None)
       (record U { names = prototype_names c w given (map slot_of params) U.names })
+  -- 6.9.1: the body may call the function itself
   definition : {U : FileScope} {given : Option Kind} {w : List ℕ} {params : List Param}
       {c : Option Callee} {s : Stmt} {t : TypedStmt} {v : State}
       → CallsIn unit w c → Heads true given w params U.names
@@ -186,6 +199,7 @@ pub data Items (unit : List Top) : FileScope → List Top → FileScope → Type
 
 -- the unit is accepted with the typed program: it defines `int main(void)`
 pub data Accepts : Program → TypedProgram → Type 0 where
+  -- 5.1.2.2.1
   accepts : {p : Program} {U : FileScope} {c : Option Callee}
       → Items p.items empty_file p.items U
       → look_up U.names main_name ≡ Some (meaning.Function (Some Int) [] c true)

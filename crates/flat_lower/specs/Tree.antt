@@ -17,14 +17,18 @@ mutual
     Number : (k : Option Kind) (w : ℕ) → Expr
     Name : (k : Option Kind) (p : Place) → Expr
     Element : (k : Option Kind) (p : Place) (index : Expr) → Expr
+    -- by two indexes
     RowElement : (k : Option Kind) (p : Place) (row index : Expr) → Expr
     Call : (k : Option Kind) (f : Callee) (args : Exprs) → Expr
     Unary : (k : Option Kind) (op : UnaryOp) (e : Expr) → Expr
     Cast : (k : Option Kind) (to : Kind) (e : Expr) → Expr
+    -- a conversion that typing put in
     Convert : (k : Option Kind) (to : Kind) (e : Expr) → Expr
+    -- `++` and `--`, in front or behind
     Bump : (k : Option Kind) (op : BumpOp) (e : Expr) → Expr
     Binary : (k : Option Kind) (op : BinaryOp) (left right : Expr) → Expr
     Choice : (k : Option Kind) (test one other : Expr) → Expr
+    -- `=` has no operator; a compound one works in the type `at`
     Assign : (k : Option Kind) (op : Option BinaryOp) (at : Kind) (left right : Expr) → Expr
     Comma : (k : Option Kind) (left right : Expr) → Expr
 
@@ -38,6 +42,7 @@ mutual
   -- a statement of C, with places in the place of names
   pub data Stmt : Type 0 where
     Declare : (p : Place) (init : Option Expr) → Stmt
+    -- an expression statement, or an empty one
     Plain : (e : Option Expr) → Stmt
     Compound : (all : Stmts) → Stmt
     If : (test : Expr) (one : Stmt) (other : Stmts) → Stmt

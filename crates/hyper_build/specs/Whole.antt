@@ -32,6 +32,7 @@ pub record FitsWorld (W : World) (bytes : List ℕ) (main : ℕ) : Type 0 where
   pub fits : (f : ℕ) (g : Routine) → slice_get W.routines f ≡ Some g → FitsRoutine W g
   pub room : frames_at bytes + frame_limit ≤ data_size
   pub faithful : (l : ℕ) → l < length W.program → IsFaithful W.at l
+  -- each is below 256
   pub small : AreBytes bytes
   -- main takes no arguments
   pub routine : Routine

@@ -8,14 +8,20 @@ mutual
   -- a statement: an operation into a variable, an address in the frame, a load, a save, a call, a
   -- byte put out or taken in, or one that chooses, repeats or leaves
   pub data Step : Type 0 where
+    -- a variable gets what an operation on words gives
     Let : (to : ℕ) (op : Op) (a b : Arg) → Step
+    -- a variable gets the address of a byte of the call's own arrays
     Frame : (to at : ℕ) → Step
     Load : (to : ℕ) (op : Op) (address : Arg) → Step
     Save : (op : Op) (address value : Arg) → Step
     Call : (function : ℕ) (args : List Arg) (to : Option ℕ) (kept : ℕ → Bool) → Step
+    -- the low byte of a value is put out
     Put : (value : Arg) → Step
+    -- a variable gets the next byte of the input, or -1 at its end
     Get : (to : ℕ) → Step
+    -- the first where the test is not 0
     If : (test : Arg) (one other : Code) → Step
+    -- body and post by turns, until it is left; a continue in the body leads to the post
     Loop : (body post : Code) → Step
     Break : Step
     Continue : Step
