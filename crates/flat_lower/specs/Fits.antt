@@ -50,7 +50,7 @@ pub record GlobalIs (c : Scope) (g : ℕ) (k : Kind) (length row : Option ℕ) :
   pub global : TypedGlobal
   pub found : slice_get c.globals g ≡ Some global
   pub kind : global.kind ≡ k
-  -- how many elements it has, or rows, where it is an array
+  -- how many elements it has, those of all rows, where it is an array
   pub long : global.length ≡ length
   -- how many elements a row has, where it has two sizes
   pub wide : global.row ≡ row

@@ -50,7 +50,7 @@ pub record AreBlocksOf (P : Program) (B : List Block) : Type 0 where
   pub followed : IsFollowed B
   -- three stand before all functions
   pub few : length B ≤ 3 + code_blocks_of_all P.functions
-  -- an image has room for 524,288 blocks
+  -- labels are below 524,288
   pub fit : length B ≤ 524288 → (k : ℕ) (b : Block) → slice_get B k ≡ Some b → FitsHyper b
 
 -- Whatever the plan, its blocks are such, where program and groups fit.

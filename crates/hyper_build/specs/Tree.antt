@@ -99,7 +99,7 @@ pub record Plan : Type 0 where
   pub joined : ℕ → Bool
   -- whether a call's arguments, or a function's parameters, end a block behind every third
   pub small : ℕ → Bool
-  -- of at most 16 variables, each saved and restored by one block
+  -- each saved by one block, and restored by another
   pub groups : ℕ → List (List ℕ)
 
 -- Code with a plan's annotations, where i statements and k calls stand before it. `on` says whether the

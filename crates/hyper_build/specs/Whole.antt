@@ -43,7 +43,7 @@ pub record FitsWorld (W : World) (bytes : List ℕ) (main : ℕ) : Type 0 where
 pub record Stops (run : ℕ → Standing) (n : ℕ) (end : Standing) : Type 0 where
   pub blocks : ℕ
   pub stands : (k : ℕ) → run (blocks + k) ≡ end
-  -- six blocks are the program's own, besides two a turn
+  -- besides two a turn six are enough
   pub few : blocks ≤ 2 * n + 6
 
 -- a run that has not ended, where r rounds were begun

@@ -5,8 +5,7 @@ use Rattle.ir_forms.specs.declared.flat.Arg.{Arg}
 
 -- A call has besides the variables that stay set over it.
 mutual
-  -- a statement: an operation into a variable, an address in the frame, a load, a save, a call, a
-  -- byte put out or taken in, or one that chooses, repeats or leaves
+  -- a statement, which works on numbered variables and on byte memory
   pub data Step : Type 0 where
     -- a variable gets what an operation on words gives
     Let : (to : ℕ) (op : Op) (a b : Arg) → Step

@@ -98,7 +98,7 @@ all_numbers_by sure c b p = numbers_by sure c b p 0 32
 -- what is guessed of a block: its firm nodes, and which covers are wanted
 pub record IsGuess (b : FlowBlock) (g : Guess) : Type 0 where
   pub firm : g.firm ≡ firms b.nodes
-  -- the covers that writes and store numbers ask for
+  -- the covers that are found to be wanted, from writes and store numbers on
   pub wants : g.wants ≡ wants_of (sure_in_guess b.nodes g) b
   -- whether the covers that are wanted want no others
   pub closed : g.closed ≡ is_closed (sure_in_guess b.nodes g) (firm_of g.wants) b
