@@ -23,21 +23,27 @@ use Rattle.c_type_laws.specs.Objects.{scalar_at, array_at, shape, signature, sig
 mutual
   -- the node gives a value of the type; of none, it gives no value
   pub data Gives (P : TypedProgram) (f : TypedFunc) : Option Kind → Node → Type 0 where
+    -- 6.5.1
     number : {k : Kind} {w : ℕ} → Gives P f (Some k) (Number w)
+    -- 6.5.1
     scalar : {k : Kind} {p : Place} → scalar_at P f p ≡ Some k → Gives P f (Some k) (Name p)
+    -- 6.5.2.1: an array with one size has one index
     element : {k j : Kind} {p : Place} {i : TypedExpr}
         → array_at P f p ≡ Some (shape k None) → Has P f j i → Gives P f (Some k) (Element p None i)
     -- an array with two sizes has two indexes
     row_element : {k i j : Kind} {n : ℕ} {p : Place} {x y : TypedExpr}
         → array_at P f p ≡ Some (shape k (Some n)) → Has P f i x → Has P f j y
         → Gives P f (Some k) (Element p (Some x) y)
+    -- 6.5.2.2: a function that is void gives no value
     call : {r : Option Kind} {slots : List Slot} {c : Callee} {es : List TypedExpr}
         → signature_of P c ≡ Some (signature r slots) → Passes P f slots es
         → Gives P f r (Call c es)
     -- the operand is of the type to which the operator converts it
     unary : {op : UnaryOp} {j k : Kind} {e : TypedExpr}
         → Has P f j e → unary_at op j ≡ j → k ≡ unary_result op j → Gives P f (Some k) (Unary op e)
+    -- 6.5.4: from any type to any
     cast : {j k : Kind} {e : TypedExpr} → Has P f j e → Gives P f (Some k) (Cast k e)
+    -- 6.5.2.4, 6.5.3.1
     bump : {op : BumpOp} {k : Kind} {e : TypedExpr} → IsObject P f k e
         → Gives P f (Some k) (Bump op e)
     -- the same of both operands
@@ -48,6 +54,7 @@ mutual
     choice : {j k : Kind} {t x y : TypedExpr}
         → Has P f j t → Has P f k x → Has P f k y → common k k ≡ k
         → Gives P f (Some k) (Choice t x y)
+    -- 6.5.16.1: both sides are of one type
     assign : {k : Kind} {x y : TypedExpr}
         → IsObject P f k x → Has P f k y → Gives P f (Some k) (Assign None k x y)
     -- `at` is the type in which the operator works on both sides; the right side is of the type to
