@@ -43,7 +43,7 @@ abbrev pub is_end : Tree → Bool
 is_end End = true
 is_end (s ▸ rest) = false
 
--- whether code is operations alone, and has no if
+-- whether a statement is an operation
 abbrev pub is_operation : Step → Bool
 is_operation (Let to op a b) = true
 is_operation (Frame to at) = true
@@ -51,7 +51,7 @@ is_operation (Load to op a) = true
 is_operation (Save op a v) = true
 is_operation _ = false
 
--- each statement of the code is one
+-- whether code is operations alone, and has no if
 abbrev pub are_operations : Code → Bool
 are_operations Nop = true
 are_operations (s ▹ rest) = is_operation s && are_operations rest

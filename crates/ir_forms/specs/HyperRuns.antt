@@ -207,7 +207,7 @@ hyper_run check at P bytes input n = run check at P n (block_at P 0) (start byte
 abbrev pub hyper_meaning : List Block → List ℕ → List ℕ → ℕ → Standing
 hyper_meaning = hyper_run false labels_alone
 
--- the first n blocks of a run are clean: nothing that they do faults
+-- a run with the check has come to a fault
 abbrev pub IsUnclean : Standing → Type 0
 IsUnclean (Running out) = ⊥
 IsUnclean (Ended out v) = ⊥

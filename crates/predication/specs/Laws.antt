@@ -53,7 +53,7 @@ ConvertsFitting = (b : Block) → FitsHyper b → HasRoom b → FitsFlow (predic
 abbrev pub ConvertsRegular : Type 0
 ConvertsRegular = (b : Block) → FitsHyper b → HasRoom b → IsRegular (predicated b)
 
--- a block that fits, and its room, are as before where addresses stand for labels
+-- the passes take a block: it fits, and it has room
 pub record IsTaken (b : Block) : Type 0 where
   pub fits : FitsHyper b
   pub room : HasRoom b
