@@ -30,9 +30,11 @@ tile_node tile = node (1 + tile / 4) (1 + tile % 4)
 abbrev pub banks : ℕ
 banks = 4
 
+-- each of them serves a quarter of the addresses
 abbrev pub data_tiles : ℕ
 data_tiles = 4
 
+-- each of them serves eight slots of a block
 abbrev pub tiles : ℕ
 tiles = 16
 
@@ -58,5 +60,6 @@ home b q = cond (nat_lt q FIRST_WRITE) (tile_node (tile_of (q % 128)))
 abbrev pub apart : ℕ → ℕ → ℕ
 apart a b = (a - b) + (b - a)
 
+-- how many links a parcel takes from a node to another, at most eight
 abbrev pub far : ℕ → ℕ → ℕ
 far from to = apart (from % 5) (to % 5) + apart (from / 5) (to / 5)
