@@ -10,13 +10,16 @@ use Rattle.block_cases.specs.Orders.{slot_of}
 
 -- p takes each slot to a slot, and leaves every other number
 pub record KeepsSlots (p : ℕ → ℕ) : Type 0 where
+  -- slots stay slots
   pub within : (s : ℕ) → s < 128 → p s < 128
   pub beyond : (s : ℕ) → 128 ≤ s → p s ≡ s
 
 -- p is a permutation of the slots, and q goes back
 pub record Permutes (p q : ℕ → ℕ) : Type 0 where
+  -- where a slot goes, and where it comes from
   pub there : KeepsSlots p
   pub back : KeepsSlots q
+  -- each undoes the other
   pub returns : (s : ℕ) → q (p s) ≡ s
   pub returned : (s : ℕ) → p (q s) ≡ s
 
@@ -26,7 +29,9 @@ goes p s = slice_index_or p s s
 
 -- a list of where each slot goes that is a permutation
 pub record IsPermutation (p : List ℕ) : Type 0 where
+  -- an entry for each slot
   pub size : length p ≡ 128
+  -- where each slot comes from
   pub back : ℕ → ℕ
   pub permutes : Permutes (goes p) back
 
@@ -67,8 +72,11 @@ pub record HasSizes (b : Block) : Type 0 where
 
 -- c is b with the instruction of each slot s at p s, every target renamed with it
 pub record IsMoved (p : ℕ → ℕ) (b c : Block) : Type 0 where
+  -- reads name the same operands at their new slots
   pub reads : c.reads.items ≡ map (renamed_read p) b.reads.items
+  -- the registers of its writes and its store numbers stay
   pub writes : c.writes.items ≡ b.writes.items
   pub mask : c.mask ≡ b.mask
   pub size : length c.insts.items ≡ 128
+  -- what stood in slot s stands in slot p s
   pub insts : (s : ℕ) → slot_of c (p s) ≡ option_map (renamed_inst p) (slot_of b s)

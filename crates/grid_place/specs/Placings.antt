@@ -15,6 +15,9 @@ IsPlacing (Seeded seed) to = to ≡ seeded seed
 pub record IsPlaced (placing : Placing) (b c : Block) : Type 0 where
   -- where each slot goes
   pub to : List ℕ
+  -- it is one that the placing allows
   pub is : IsPlacing placing to
+  -- no two slots go to one
   pub permutes : IsPermutation to
+  -- the block is otherwise as it was
   pub moved : IsMoved (goes to) b c
