@@ -14,7 +14,9 @@ pub record IsLowest (stores : ℕ → Option Stored) (loads : List (Option Taken
     : Type 0 where
   pub from_on : from ≤ n
   pub below : n < 32
+  -- it took a touched byte that no store between hides from it
   pub wrong : is_wrong stores loads touched from n ≡ true
+  -- no load before it is wrong
   pub lowest : (m : ℕ) → from ≤ m → m < n → is_wrong stores loads touched from m ≡ false
 
 -- no load from number `from` on is wrong
