@@ -9,6 +9,7 @@ use Rattle.trips_isa.specs.declared.node.Node.{Node}
 use Rattle.block_cases.specs.Nodes.{targets, hits, one_if}
 use Rattle.block_cases.specs.CaseRule.{fires}
 use Rattle.block_cases.specs.Choosers.{is_chooser}
+-- the depth at which a token is asked for, that of the machine's own tables of tokens
 unfoldable pub use Rattle.trips_isa.specs.Tables.{deepest}
 
 -- whether a token is there

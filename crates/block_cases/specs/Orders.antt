@@ -97,6 +97,7 @@ bad_write b w = has_item (take w b.writes.items) (slice_index b.writes.items w)
 
 -- k is the least number below n that passes a test
 pub record IsLeast (p : ℕ → Bool) (n k : ℕ) : Type 0 where
+  -- one of the numbers that are tested
   pub below : k < n
   pub holds : p k ≡ true
   -- no lesser number passes

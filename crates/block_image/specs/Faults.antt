@@ -12,7 +12,9 @@ use Rattle.block_image.specs.Reading.{Slots, all_empty}
 
 -- these words stand in the bytes from a place on
 pub record Stands (at : ℕ) (bytes words : List ℕ) : Type 0 where
+  -- what stands behind them
   pub rest : List ℕ
+  -- each has 32 bits
   pub are_words : All (λ w. w < 2 ^ 32) words
   pub spelled : drop at bytes ≡ words_bytes words ++ rest
 
@@ -21,8 +23,7 @@ abbrev pub SpellsNone : ℕ → Type 0
 SpellsNone w = (s : Option Inst) → FitsSlot s → slot_word s ≡ w → ⊥
 
 -- The first fault of a body of so many chunks: after k whole chunks of slots there is no whole
--- chunk, or in a whole
--- chunk, after good slots, a word is no slot's.
+-- chunk, or in a whole chunk, after good slots, a word is no slot's.
 pub data BodyFault (chunks at : ℕ) (bytes : List ℕ) : ImageFault → Type 0 where
   short : (k : ℕ) (slots : Slots) → k < chunks → length slots ≡ 32 * k → All FitsSlot slots
       → Stands at bytes (map slot_word slots) → length bytes < at + 128 * k + 128
@@ -45,9 +46,14 @@ IsGoodWord ws i = is_bad (info_from 0 ws) i (get_or ws i 0) ≡ false
 pub record GoodHeader (total at : ℕ) (bytes ws : List ℕ) : Type 0 where
   pub size : length ws ≡ 32
   pub stands : Stands at bytes ws
+  -- the block does not take the chunks above the limit, by what its header states
   pub total_is : IsWithin total ws
+  -- no field past a count is set, and the info bits are good
   pub good : (i : ℕ) → i < 32 → IsGoodWord ws i
 
+-- The first fault of the block whose header begins at a place, where so many chunks come before it:
+-- its header is cut off, states too many chunks, or has a bad word; else its body has a fault; else
+-- its last body chunk, not the first, is empty.
 pub data BlockFault (total at : ℕ) (bytes : List ℕ) : ImageFault → Type 0 where
   no_header : length bytes < at + 128 → BlockFault total at bytes (Truncated (length bytes))
   too_many : (ws : List ℕ) → length ws ≡ 32 → Stands at bytes ws

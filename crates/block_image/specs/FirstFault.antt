@@ -23,16 +23,22 @@ sized blocks size = counted blocks ++ big_bytes 4 size
 -- the number of blocks and the data bytes are within their limits
 pub record GoodFront (blocks : ℕ) (bytes : List ℕ) : Type 0 where
   pub some : 1 ≤ blocks
+  -- the number of blocks has four bytes
   pub count : blocks < 2 ^ 32
   pub few : length bytes ≤ 4194304
+  -- no byte 0 ends the data bytes
   pub last : last_byte bytes ≡ 0 → ⊥
 
 -- some of the blocks that an image begins with
 pub record GoodBlocks (count : ℕ) (blocks : List Block) : Type 0 where
+  -- there is one more to come
   pub fewer : length blocks < count
   pub each : All FitsBlock blocks
+  -- their chunks, each block's header and body, are within the limit
   pub total : sum_by chunks blocks ≤ 524288
 
+-- The first fault of bytes, with the place that it is told at: each rule asks that all that comes
+-- before is as an image has it, and says what is wrong next.
 pub data FirstFault (bytes : List ℕ) : ImageFault → Type 0 where
   -- the magic
   no_magic : length bytes < 8 → FirstFault bytes (Truncated (length bytes))

@@ -10,15 +10,19 @@ abbrev pub info_from : ℕ → List ℕ → ℕ
 info_from info [] = info
 info_from info (w ∷ ws) = info_from (info * 4 + w / 1073741824) ws
 
+-- the upper 32 of the 64 info bits: a bit for each store number
 abbrev pub mask_in : ℕ → ℕ
 mask_in info = info / 4294967296
 
+-- the number of reads that the info bits state, be it too great or not
 abbrev pub reads_in : ℕ → ℕ
 reads_in info = info / 67108864 % 64
 
+-- that of writes, in the same way
 abbrev pub writes_in : ℕ → ℕ
 writes_in info = info / 1048576 % 64
 
+-- and that of body chunks
 abbrev pub chunks_in : ℕ → ℕ
 chunks_in info = info / 131072 % 8
 
@@ -36,13 +40,16 @@ is_bad info i w =
     (nat_le (writes_in info) i && not (w % 128 == 0))
     || (i == 16 && not (is_good_info info))
 
+-- the number of the first bad word, from word i on, if one is bad
 unfoldable pub first_bad : ℕ → ℕ → List ℕ → Option ℕ
 first_bad info i [] = None
 first_bad info i (w ∷ ws) = if is_bad info i w then Some i else first_bad info (suc i) ws
 
+-- an operand of the 8 bits of a read's target
 unfoldable pub operand_at : ℕ → Spot
 operand_at n = if nat_lt n 128 then spot.Left n else spot.Right (n - 128)
 
+-- the read of a word; the same target twice stands for one
 unfoldable pub read_at : ℕ → ReadSlot
 read_at w = record {
   register = w / 8388608 % 128;
@@ -50,5 +57,6 @@ read_at w = record {
   second = if w / 32768 % 256 == w / 128 % 256 then None else Some (operand_at (w / 32768 % 256));
 }
 
+-- the register of a word's write
 abbrev pub write_at : ℕ → ℕ
 write_at w = w % 128

@@ -5,10 +5,12 @@ use Rattle.trips_isa.specs.declared.block.Spot.TheVariants as spot
 use Rattle.trips_isa.specs.declared.block.ReadSlot.{ReadSlot}
 use Rattle.block_image.specs.Words.{word_of}
 
+-- the head of a list, if it has one
 abbrev pub first_of : {A : Type 0} → List A → Option A
 first_of [] = None
 first_of (x ∷ xs) = Some x
 
+-- what stands behind it
 abbrev pub rest_of : {A : Type 0} → List A → List A
 rest_of [] = []
 rest_of (x ∷ xs) = xs
@@ -30,6 +32,7 @@ read_fields None = 0
 read_fields (Some r) = word_of
     ((7, r.register) ∷ (8, second_number r.first r.second) ∷ (8, operand_number r.first) ∷ [])
 
+-- the register of a write; 0 past the count
 abbrev pub write_field : Option ℕ → ℕ
 write_field None = 0
 write_field (Some register) = register

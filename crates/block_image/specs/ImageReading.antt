@@ -12,6 +12,7 @@ use Rattle.block_image.specs.declared.fault.ImageFault.TheVariants.{Trailing, Ba
 use Rattle.block_image.specs.Spelling.{magic, chunks_of}
 use Rattle.block_image.specs.Reading.{◌>>=◌, block_at}
 
+-- a condition on the bytes, with the fault where it does not hold
 abbrev pub wants : Bool → ImageFault → Result (Unit {0}) ImageFault
 wants b fault = if b then Ok tt else Err fault
 
@@ -21,17 +22,21 @@ number_at at bytes =
     if nat_lt (length bytes) (at + 4) then Err (Truncated (length bytes)) else Ok
     (big_number 4 (drop at bytes))
 
+-- the first eight bytes are the magic
 unfoldable pub magic_at : List ℕ → Result (Unit {0}) ImageFault
 magic_at bytes =
     if nat_lt (length bytes) 8 then Err (Truncated (length bytes)) else wants
     (bytes_eq (take 8 bytes) magic) Magic
 
+-- the version is 1
 unfoldable pub version_at : List ℕ → Result (Unit {0}) ImageFault
 version_at bytes = number_at 8 bytes >>= λ v. wants (v == 1) Version
 
+-- the number of blocks, at least 1
 unfoldable pub count_at : List ℕ → Result ℕ ImageFault
 count_at bytes = number_at 12 bytes >>= λ n. wants (nat_lt 0 n) (BadField 12) >>= λ u. Ok n
 
+-- the number of data bytes, at most 4,194,304
 unfoldable pub size_at : List ℕ → Result ℕ ImageFault
 size_at bytes = number_at 16 bytes >>= λ d. wants (nat_le d 4194304) (BadField 16) >>= λ u. Ok d
 
@@ -50,6 +55,7 @@ blocks_at (suc n) total at bytes =
     blocks_at n (total + 1 + chunks_of b.insts.items)
     (at + 128 + 128 * chunks_of b.insts.items) bytes >>= λ bs. Ok (b ∷ bs)
 
+-- the image that the bytes spell, all of them, or the first fault that reading meets
 unfoldable pub image_at : List ℕ → Result Image ImageFault
 image_at bytes =
     magic_at bytes >>= λ u. version_at bytes >>= λ v. count_at bytes >>= λ n. size_at bytes >>= λ d.

@@ -65,9 +65,11 @@ fields_of Branch c i =
 fields_of Constant c i = (7, c.opcode) ∷ (16, signed_number 65536 i.imm) ∷
     (9, target_number i.first) ∷ []
 
+-- the word of an instruction of this form, whose operation has these numbers
 abbrev pub form_word : Form → Code → Inst → ℕ
 form_word f c i = word_of (fields_of f c i)
 
+-- the word of an instruction: its form and its numbers are those of its operation
 abbrev pub inst_word : Inst → ℕ
 inst_word i = form_word (form_of i.op) (code_of i.op) i
 

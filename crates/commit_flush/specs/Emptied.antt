@@ -7,8 +7,11 @@ use Rattle.frame_events.specs.Phases.{HasBlock, generation_of, number_of, slots_
 
 -- the frames of these numbers are empty, each keeps its number and its generation, and the others are as they were
 pub record IsEmptied (ns : List ℕ) (old new : List Phase) : Type 0 where
+  -- as many frames as before
   pub size : length new ≡ length old
   pub generations : map generation_of new ≡ map generation_of old
   pub numbers : map number_of new ≡ map number_of old
+  -- no frame in flight has one of these numbers any more
   pub slots : (blocks : List Block) → slots_of blocks new ≡ cleared ns (slots_of blocks old)
+  -- a frame in flight holds a block of the image still
   pub blocks : (blocks : List Block) → All (HasBlock blocks) old → All (HasBlock blocks) new

@@ -15,10 +15,12 @@ is_in n order = list_any (λ m. m == n) order
 pub record AreKept (slots : List (Option Frame)) (order : List ℕ) (registers : Ages) : Type 0 where
   -- there is room for eight frames, and each stands at its number
   pub eight : length slots ≡ 8
+  -- a frame stands where its own number says
   pub numbered : (n : ℕ) (f : Frame) → at slots n ≡ Some f → f.number ≡ n
   -- the order names the frames in flight, each once, and no other
   pub there : AllThere slots order
   pub once : AreNumbers order
+  -- a number that is not in the order has no frame in flight
   pub empty : (n : ℕ) → is_in n order ≡ false → at slots n ≡ None
   -- the banks say what the frames hold of registers
   pub banks : (a r : ℕ) → registers a r ≡ banked (by_age slots order) a r

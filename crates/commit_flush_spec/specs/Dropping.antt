@@ -43,6 +43,8 @@ resolved_leaves n f fs (Some q) = store_leaves n (with_resolved n f (Some q)) fs
 abbrev pub stored_alone : ℕ → Older → Frame → Frame
 stored_alone n o f = with_resolved n f (request f n)
 
+-- how many frames are left from the storing one on: those before the first that the store flushes,
+-- which may be the storing one itself
 abbrev pub store_left : ℕ → Older → Frame → List Frame → ℕ
 store_left n o f fs = resolved_leaves n f fs (request f n)
 
@@ -57,6 +59,8 @@ exit_leaves known (f ∷ fs) = cond (follows known f.block) (suc (length fs)) 0
 abbrev pub exited_alone : List Block → Older → Frame → Frame
 exited_alone blocks o f = with_exit (exit_by blocks f.block (branch_of f f.leaving)) (branch_mark f f.leaving) f
 
+-- how many are left from the leaving one on: all, or itself alone where the next one holds another
+-- block than its exit names
 abbrev pub exit_left : List Block → Older → Frame → List Frame → ℕ
 exit_left blocks o f fs = suc (exit_leaves (successor_of (exit_by blocks f.block (branch_of f f.leaving))) fs)
 
@@ -66,5 +70,6 @@ exit_left blocks o f fs = suc (exit_leaves (successor_of (exit_by blocks f.block
 abbrev pub unchanged : Older → Frame → Frame
 unchanged o f = f
 
+-- a flush leaves none from its frame on
 abbrev pub none_left : Older → Frame → List Frame → ℕ
 none_left o f fs = 0

@@ -23,14 +23,18 @@ pub record IsWhole (s : State) : Type 0 where
 
 -- what an instruction of a frame has sent stands in its place, its spot, its number or the exit
 pub record NoneLost (f : Frame) : Type 0 where
+  -- a token that was sent is on its way, or has arrived at its place of the block
   pub tokens : (p : ℕ) → has_sent f p ≡ true → is_target (target f.code p) ≡ true
       → (at f.places p ≢ None) ⊎ (at f.spots (target f.code p) ≢ None)
+  -- a load that has fired is answered, or waits with its number
   pub loads : (s : ℕ) (i : Inst) → slot_of f.code s ≡ Some i → is_load (form_of i.op) ≡ true
       → slice_index_or f.fired s false ≡ true
       → (at f.loads i.number ≢ None) ⊎ (at f.requests i.number ≡ Some s)
+  -- a store that has fired is resolved, or waits with its number
   pub stores : (s : ℕ) (i : Inst) → slot_of f.code s ≡ Some i → is_store (form_of i.op) ≡ true
       → slice_index_or f.fired s false ≡ true
       → (at f.stores i.number ≢ None) ⊎ (at f.requests i.number ≡ Some s)
+  -- a branch that has fired has made the exit known, or waits
   pub exits : (s : ℕ) (i : Inst) → slot_of f.code s ≡ Some i → form_of i.op ≡ Branch
       → slice_index_or f.fired s false ≡ true → (f.exit ≢ None) ⊎ (f.leaving ≡ Some s)
 
@@ -46,11 +50,17 @@ AreNumbers (n ∷ ns) = (n < 8) × (list_any (λ m. m == n) ns ≡ false) × Are
 
 -- the invariant of the window
 pub record WindowOk (blocks : List Block) (budget : ℕ) (w : Window) : Type 0 where
+  -- each frame is right over what it sees of older frames and of the committed state
   pub frames : FramesOk blocks (committed w.state) w.frames
+  -- no token of a running frame is lost
   pub kept : AllKept w.frames
+  -- each frame in flight is another one of the eight
   pub numbers : AreNumbers (map (λ (f : Frame). f.number) w.frames)
+  -- the committed registers and memory have their full lengths
   pub whole : IsWhole w.state
+  -- no more blocks were committed than the budget allows
   pub spent : length w.state.trace ≤ budget
+  -- the committed next block is one of the image
   pub next : w.state.next < length blocks
 
 -- state t and the answer o are those of the machine after n steps from state s; where the next block
@@ -61,6 +71,7 @@ Reached blocks s n t o = (t, o) ≡ runs blocks s n
 
 -- law commits are steps: from state s the window took as many steps of the machine as its trace grew by
 pub record TakesSteps (blocks : List Block) (s : State) (w : Window) : Type 0 where
+  -- how many blocks were committed since state s
   pub steps : ℕ
   pub grown : length w.state.trace ≡ length s.trace + steps
   pub reached : Reached blocks s steps w.state w.over

@@ -38,8 +38,6 @@ abbrev pub through : List ℕ → ℕ → (ℕ → Answer) → (ℕ → Option �
 through [] w spots look = look
 through (r ∷ rs) w spots look = through rs (suc w) spots (over_write r (spots (FIRST_WRITE + w)) look)
 
--- memory: the store queue ----------------------------------------------------------------------
-
 -- the fold -------------------------------------------------------------------------------------
 
 -- the block that an exit makes known

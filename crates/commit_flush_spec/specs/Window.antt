@@ -15,15 +15,25 @@ pub use Rattle.commit_flush_spec.specs.InFlight.{is_sealed, can_commit, commit}
 
 -- what may happen in a window; numbers may be any
 pub data Event : Type 0 where
+  -- block `block` of the image is filled into the lowest empty frame
   Fetch : (block : ℕ) → Event
+  -- a read is answered with its register's word
   Read : (frame read : ℕ) → Event
+  -- what a slot holds gives its token, or waits as a load, a store or a branch
   Fire : (frame slot : ℕ) → Event
+  -- the token in place `token` mod 320 of frame `token` / 320 goes to its place of the block
   Deliver : (token : ℕ) → Event
+  -- the load that waits with a number is answered with the bytes that it sees
   Load : (frame number : ℕ) → Event
+  -- the store that waits with a number is resolved, and flushes what took other bytes too early
   Store : (frame number : ℕ) → Event
+  -- the branch that waits makes the successor known, and flushes younger frames of another block
   Exit : (frame : ℕ) → Event
+  -- a frame that has all its outputs is closed
   Seal : (frame : ℕ) → Event
+  -- a frame is dropped with all younger ones
   Flush : (frame : ℕ) → Event
+  -- the oldest frame, which is sealed, changes the committed state, or ends the run with a trap
   Commit : Event
 
 -- events ---------------------------------------------------------------------------------------

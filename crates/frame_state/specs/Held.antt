@@ -17,6 +17,7 @@ pub record Held : Type 0 where
   -- which of the eight frames it is, and the number of its block in the image
   pub number : ℕ
   pub block : ℕ
+  -- how often the frame was filled
   pub generation : ℕ
   -- the tokens that have come, and those on their way
   pub spots : List Answer
@@ -26,6 +27,7 @@ pub record Held : Type 0 where
   pub reads : List Bool
   -- what waits
   pub requests : List (Option ℕ)
+  -- the slot of the branch that waits
   pub leaving : Option ℕ
   -- what the answered loads took, the resolved stores and the exit
   pub loads : List (Option Taken)

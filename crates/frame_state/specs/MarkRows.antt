@@ -9,8 +9,11 @@ marks_of xs = map or_unmarked xs
 
 -- no mark of these rows is set, nor is the exit's
 pub record AreBare (spots places stores : List ℕ) (exit : ℕ) : Type 0 where
+  -- operands, predicates and writes, by place of the block
   pub at_spots : (q : ℕ) → mark_on spots q ≡ 0
+  -- tokens on their way
   pub at_places : (q : ℕ) → mark_on places q ≡ 0
+  -- resolved stores, by number
   pub at_stores : (q : ℕ) → mark_on stores q ≡ 0
   pub at_exit : exit ≡ 0
 

@@ -9,9 +9,12 @@ use Rattle.frame_state.specs.Wants.{is_on_true, is_on_false}
 
 -- the flags of a shape say what each slot of a block wants
 pub record IsShape (b : Block) (shape : Shape) : Type 0 where
+  -- there is an instruction in the slot
   pub there : (s : ℕ) → s < 128 → slice_index_or shape.there s false ≡ is_some (slot_of b s)
+  -- which operands it takes
   pub left : (s : ℕ) → s < 128 → slice_index_or shape.left s false ≡ left_of (slot_of b s)
   pub right : (s : ℕ) → s < 128 → slice_index_or shape.right s false ≡ right_of (slot_of b s)
+  -- how it is predicated; one that always fires wants neither
   pub on_true : (s : ℕ) → s < 128 → slice_index_or shape.on_true s false ≡ is_on_true (slot_of b s)
   pub on_false : (s : ℕ) → s < 128 → slice_index_or shape.on_false s false ≡ is_on_false (slot_of b s)
 

@@ -25,6 +25,7 @@ use Rattle.grid_cycle_bound.specs.Course.{Kind, Reading, Plain, Serving, Target,
 unfoldable pub slot_tasks : ℕ
 slot_tasks = 128
 
+-- the tasks of the slots, and of the 32 reads behind them
 unfoldable pub room : ℕ
 room = 160
 

@@ -19,6 +19,7 @@ pub data Phase : Type 0 where
   Standing : Phase
   Sent : (p q : Stand) → Phase
 
+-- whether a task is still to begin: a read is not answered, or an entry is not issued
 abbrev pub is_idle : Phase → Bool
 is_idle Absent = false
 is_idle Idle = true
@@ -27,6 +28,7 @@ is_idle (Asking p) = false
 is_idle Standing = false
 is_idle (Sent p q) = false
 
+-- whether its request has come to its data tile and is not answered
 abbrev pub is_standing : Phase → Bool
 is_standing Absent = false
 is_standing Idle = false
@@ -53,6 +55,7 @@ first_parcel (Asking p) = p
 first_parcel Standing = Nowhere
 first_parcel (Sent p q) = p
 
+-- a task has one only once it has sent its tokens
 abbrev pub second_parcel : Phase → Stand
 second_parcel Absent = Nowhere
 second_parcel Idle = Nowhere
@@ -63,12 +66,15 @@ second_parcel (Sent p q) = q
 
 -- the oldest frame
 pub record Front : Type 0 where
+  -- its block, by what its reads and loads are answered
   pub course : Course
   -- the generation that its parcels carry
   pub generation : ℕ
+  -- how far each task is, by its number
   pub at : ℕ → Phase
   -- the spots that have their token
   pub come : ℕ → Bool
+  -- whether all its loads wait for older stores, so that no store of its own flushes it
   pub careful : Bool
 
 -- the block that commits next runs, or is fetched, with the cycles that this still takes beyond the next, where it is
@@ -79,8 +85,11 @@ pub data Stage : Type 0 where
 
 -- the lane: the stage, the cycles for which each tile's unit is busy, and how many blocks have been committed
 pub record Lane : Type 0 where
+  -- the block that commits next
   pub stage : Stage
+  -- how long the unit of each tile is busy, whichever frame has it
   pub units : ℕ → ℕ
+  -- blocks committed so far, so that the next one has this number
   pub done : ℕ
 
 -- what may be done ------------------------------------------------------------------------------
@@ -94,6 +103,7 @@ all_come come (q ∷ qs) = come q && all_come come qs
 abbrev pub unread : Front → ℕ → Bool
 unread f x = is_idle (f.at x) && is_reading (f.course.task x).kind
 
+-- an entry of its tile, be it ready or not
 abbrev pub unissued : Front → ℕ → Bool
 unissued f x = is_idle (f.at x) && not (is_reading (f.course.task x).kind)
 
@@ -109,6 +119,7 @@ answerable f x = is_standing (f.at x) && all_come f.come (f.course.task x).waits
 abbrev pub complete : Front → Bool
 complete f = all_come f.come f.course.outputs
 
+-- only a frame has outputs; a fetch is never complete
 abbrev pub is_complete : Stage → Bool
 is_complete (Running f) = complete f
 is_complete (Fetching o s) = false

@@ -46,6 +46,7 @@ FineAt u come t (Sent p q) = Landed come p t.first × Landed come q t.second
 abbrev pub Fine : (ℕ → ℕ) → Front → Type 0
 Fine u f = (x : ℕ) → x < f.course.room → FineAt u f.come (f.course.task x) (f.at x)
 
+-- a number has a task exactly where the block has a slot or a read for it
 abbrev pub Placed : Front → Type 0
 Placed f = (x : ℕ) → x < f.course.room → is_there (f.at x) ≡ (f.course.task x).declared
 
@@ -56,9 +57,13 @@ AtMost (Some c) m = c ≤ m
 
 -- the rule of a frame of a block of n tasks
 pub record FrontRule (n : ℕ) (u : ℕ → ℕ) (f : Front) : Type 0 where
+  -- its block has n tasks, from which its price is told
   pub size : tasks f.course ≡ n
+  -- all its outputs can come
   pub good : Good f.course
+  -- the declared tasks are there, and no other
   pub placed : Placed f
+  -- no token and no request of it is lost
   pub fine : Fine u f
 
 -- the rule of a stage that is not complete
@@ -68,7 +73,9 @@ StageRule n u (Fetching o s) = AtMost o 7
 
 -- the rule of a lane: units are busy for at most 24 cycles, and the stage is complete or has its rule
 pub record LaneRule (sizes : ℕ → ℕ) (l : Lane) : Type 0 where
+  -- no operation takes longer
   pub units : (t : ℕ) → l.units t ≤ 24
+  -- a complete stage has only its commit before it, and needs no rule
   pub stage : (is_complete l.stage ≡ true) ⊎ StageRule (sizes l.done) l.units l.stage
 
 -- the laws' words -------------------------------------------------------------------------------
@@ -80,9 +87,12 @@ Falls sizes l m = (m.done ≡ suc l.done)
 
 -- some cycles, then one more after which the lane has its rule
 pub record Goes (first : Lane → Type 0) (sizes : ℕ → ℕ) (m : Lane) : Type 0 where
+  -- the lane between them
   pub between : Lane
   pub before : first between
+  -- it serves the oldest frame, which may be its commit
   pub served : Served sizes between m
+  -- the rule holds behind the cycle, also for the block that comes next
   pub rule : LaneRule sizes m
 
 -- n cycles that serve the oldest frame, one after another

@@ -35,6 +35,7 @@ wait_left c false u = 24 * u
 abbrev pub on_tile : Front → (ℕ → Bool) → ℕ → Bool
 on_tile f p t = any f.course.room (λ x. p x && (f.course.task x).tile == t)
 
+-- as the entries of a tile that its unit has still to issue
 abbrev pub count_on : Front → (ℕ → Bool) → ℕ → ℕ
 count_on f p t = sum f.course.room (λ x. cond (p x && (f.course.task x).tile == t) 1 0)
 

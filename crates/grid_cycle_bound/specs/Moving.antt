@@ -34,6 +34,8 @@ asked Nowhere = Standing
 asked (Away trip a) = Asking (Away trip a)
 asked (Held trip h) = Asking (Held trip h)
 
+-- how far a task is after a cycle, by whether the links of its two parcels are free (m, k) and by
+-- how long each is held if it arrives (h, j)
 abbrev pub moved : (m k : Bool) (h j : ℕ) → Phase → Phase
 moved m k h j Absent = Absent
 moved m k h j Idle = Idle
@@ -42,6 +44,7 @@ moved m k h j (Asking p) = asked (goes m h p)
 moved m k h j Standing = Standing
 moved m k h j (Sent p q) = Sent (goes m h p) (goes k j q)
 
+-- no parcel is in the place: it has not entered, or has been delivered
 abbrev pub is_nowhere : Stand → Bool
 is_nowhere Nowhere = true
 is_nowhere (Away trip a) = false
@@ -51,6 +54,8 @@ is_nowhere (Held trip h) = false
 abbrev pub landed : Stand → Stand → Option Target → ℕ → Bool
 landed p q t s = not (is_nowhere p) && (is_nowhere q && hits t s)
 
+-- whether one of a task's two tokens is delivered to a spot in this cycle, by the task's phases
+-- before and after
 abbrev pub delivers : Phase → Phase → Task → ℕ → Bool
 delivers (Sent p q) (Sent p2 q2) t s = landed p p2 t.first s || landed q q2 t.second s
 delivers _ _ t s = false
@@ -60,12 +65,14 @@ abbrev pub move_at : (ℕ → ℕ) → Front → ℕ → Phase
 move_at hold f x = moved (free_at f (2 * x) (first_parcel (f.at x))) (free_at f (suc (2 * x)) (second_parcel (f.at x)))
     (hold (2 * x)) (hold (suc (2 * x))) (f.at x)
 
+-- the oldest frame after the tick, with the spots that have their token now
 abbrev pub move_front : (ℕ → ℕ) → Front → Front
 move_front hold f = record f {
   at = move_at hold f;
   come = λ s. f.come s || any f.course.room (λ x. delivers (f.at x) (move_at hold f x) (f.course.task x) s);
 }
 
+-- part (6) changes a frame alone; a fetch has no parcels
 abbrev pub moving : (ℕ → ℕ) → Stage → Stage
 moving hold (Running f) = Running (move_front hold f)
 moving hold (Fetching o s) = Fetching o s

@@ -22,9 +22,11 @@ abbrev pub found : ℕ → (ℕ → Bool) → (ℕ → ℕ) → ℕ
 found zero p f = 0
 found (suc n) p f = cond (p n) (f n) (found n p f)
 
+-- the bank of a read, or the data tile of a request, 0 to 3
 abbrev pub station_of : Front → ℕ → ℕ
 station_of f x = (f.course.task x).station
 
+-- the tile of an instruction, 0 to 15
 abbrev pub tile_of : Front → ℕ → ℕ
 tile_of f x = (f.course.task x).tile
 
@@ -77,6 +79,7 @@ reads_front f = record f {
       (sent_from f.generation (f.course.task x).here (f.course.task x)) (f.at x);
 }
 
+-- part (3) of the lane's stage; a block that is being fetched has no reads yet
 abbrev pub reading : Stage → Stage
 reading (Running f) = Running (reads_front f)
 reading (Fetching o s) = Fetching o s

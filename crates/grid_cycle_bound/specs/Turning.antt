@@ -9,6 +9,7 @@ use Rattle.grid_cycle_bound.specs.Sending.{pick, found, tile_of, result}
 abbrev pub less_one : (ℕ → ℕ) → ℕ → ℕ
 less_one u t = u t - 1
 
+-- a unit with no cycle left gives its result, and any other holds its task
 abbrev pub worked : ℕ → ℕ → Task → Phase
 worked generation zero t = result generation t.kind t
 worked generation (suc c) t = Working
@@ -22,9 +23,11 @@ finished generation (Asking p) c t = Asking p
 finished generation Standing c t = Standing
 finished generation (Sent p q) c t = Sent p q
 
+-- each task of the frame whose unit's time is over gives its result
 abbrev pub finish_front : (ℕ → ℕ) → Front → Front
 finish_front u f = record f { at = λ x. finished f.generation (f.at x) (u (tile_of f x)) (f.course.task x) }
 
+-- a busy unit takes no entry
 abbrev pub busy : (ℕ → ℕ) → ℕ → Bool
 busy u t = nat_lt 0 (u t)
 
@@ -32,13 +35,17 @@ busy u t = nat_lt 0 (u t)
 abbrev pub issued : (ℕ → ℕ) → Front → ℕ → Bool
 issued u f x = pick (ready f) (tile_of f) (busy u) x
 
+-- each free unit holds the entry that it has issued
 abbrev pub issue_front : (ℕ → ℕ) → Front → Front
 issue_front u f = record f { at = λ x. cond (issued u f x) Working (f.at x) }
 
+-- how long the unit of a tile is busy: as before, or for the latency of the entry that it has
+-- issued, if there is one
 abbrev pub units_after : (ℕ → ℕ) → Front → ℕ → ℕ
 units_after u f t = cond (busy u t) (u t)
     (found f.course.room (λ x. issued u f x && tile_of f x == t) (λ x. (f.course.task x).latency))
 
+-- part (5) of the lane's stage: units have a cycle less, then give results, then take entries
 abbrev pub turning : (ℕ → ℕ) → Stage → Stage
 turning u (Running f) = Running (issue_front (less_one u) (finish_front (less_one u) f))
 turning u (Fetching o s) = Fetching o s

@@ -32,8 +32,10 @@ each turn (suc n) g = turn n (each turn n g)
 unfoldable pub slots : ℕ
 slots = 128
 
+-- how many reads a block has at most, and how many load/store numbers
 unfoldable pub reads : ℕ
 reads = 32
 
+-- how many places a frame has for tokens and requests on their way
 unfoldable pub places : ℕ
 places = 320

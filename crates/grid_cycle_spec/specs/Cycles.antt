@@ -30,6 +30,7 @@ counted g = record g { counts = record g.counts { cycles = g.counts.cycles + 1 }
 -- part (6): the mesh ticks, by the weather's own relation, and what has arrived is delivered; `m` is the grid before
 pub record Moves {W : Type 0} (next : W → ℕ) (follows : W → W → Type 0) (blocks : List Block) (budget : ℕ)
     (m g : Grid W) : Type 0 where
+  -- the parcels and the weather behind the tick, when nothing has been delivered yet
   pub parcels : Places
   pub weather : W
   pub ticked : Ticked next follows (numbers_of m.window.frames) m.parcels parcels m.weather weather

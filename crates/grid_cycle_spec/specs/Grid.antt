@@ -17,6 +17,7 @@ pub record Fetching : Type 0 where
 
 -- the grid; frames are named by number, 0 to 7
 pub record Grid (W : Type 0) : Type 0 where
+  -- the frames in flight over the committed state, which the events of the window alone change
   pub window : Window
   -- where the parcel of each frame's place stands
   pub parcels : Places
@@ -34,8 +35,11 @@ pub record Grid (W : Type 0) : Type 0 where
   -- the careful frames, and each frame's history
   pub careful : ℕ → Bool
   pub histories : ℕ → ℕ
+  -- what has been learned of exits, with the history and the return stack of what is fetched
   pub predictor : Holding
+  -- what says for how many cycles a parcel that arrives next is held
   pub weather : W
+  -- cycles made, and frames fetched, committed and flushed
   pub counts : Counts
 
 -- the frames in flight by their numbers, the oldest first

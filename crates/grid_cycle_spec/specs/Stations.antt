@@ -30,9 +30,11 @@ tile_node tile = node (1 + tile / 4) (1 + tile % 4)
 abbrev pub banks : ℕ
 banks = 4
 
+-- each of them serves a quarter of the addresses
 abbrev pub data_tiles : ℕ
 data_tiles = 4
 
+-- each of them serves eight slots of a block
 abbrev pub tiles : ℕ
 tiles = 16
 
@@ -54,9 +56,10 @@ abbrev pub home : Block → ℕ → ℕ
 home b q = cond (nat_lt q FIRST_WRITE) (tile_node (tile_of (q % 128)))
     (bank_node (bank_of (slice_index_or b.writes.items (q - FIRST_WRITE) 0)))
 
--- how many links there are between two nodes: along the row, then along the column
+-- how far two numbers are apart
 abbrev pub apart : ℕ → ℕ → ℕ
 apart a b = (a - b) + (b - a)
 
+-- how many links a parcel takes from a node to another, at most eight: along the row, then along the column
 abbrev pub far : ℕ → ℕ → ℕ
 far from to = apart (from % 5) (to % 5) + apart (from / 5) (to / 5)

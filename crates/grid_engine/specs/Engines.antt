@@ -33,20 +33,27 @@ blocks_of g = g.window.image.blocks
 -- opens right, with any predictor and any weather
 pub record IsBegun {W : Type 0} (next : W → ℕ) (follows : W → W → Type 0) (blocks : List Block) (budget : ℕ)
     (g : Grid W) : Type 0 where
+  -- what the run began with: the committed state, what the predictor held, and the weather
   pub state : State
   pub predictor : Holding
   pub weather : W
+  -- with no frame in flight the window has its invariant on that state
   pub opens : WindowOk blocks budget (opened state)
+  -- as many eager cycles as are counted, before each of which the run goes on
   pub run : IsRun next follows blocks budget g.counts.cycles (begun_with state predictor weather) g
 
 -- what stands of every grid between two calls
 pub record IsEngine {W : Type 0} (next : W → ℕ) (follows : W → W → Type 0) (blocks : List Block) (budget : ℕ)
     (g : Grid W) : Type 0 where
+  -- the image was checked
   pub good : AllGood blocks
+  -- the budget is one that a run may have
   pub small : budget < 2 ^ 32
+  -- a run has led to it
   pub begun : IsBegun next follows blocks budget g
   -- no more cycles than a run may make
   pub few : g.counts.cycles ≤ most_cycles budget
+  -- its counts have room for a cycle, and at the end of the run no frame is in flight
   pub kept : IsKept budget g
 
 -- one eager cycle leads from a grid to another, whose frames in flight are flushed where the cycle has ended the run
@@ -55,14 +62,18 @@ pub record IsCycle {W : Type 0} (next : W → ℕ) (follows : W → W → Type 0
   -- the grid behind the cycle
   pub last : Grid W
   pub eager : Eager next follows blocks budget g last
+  -- and the flush of what is in flight, where the run has ended
   pub ends : h ≡ at_end budget last
 
 -- a grid has made at most as many cycles as its trace costs and the greatest cost of a block besides, or the cost of the
 -- block that comes next, which at a trap is the block that trapped; at an ending that is no trap, at most as many as its
 -- trace costs
 pub record IsWithinCost {W : Type 0} (blocks : List Block) (budget : ℕ) (g : Grid W) : Type 0 where
+  -- at every moment; a block costs at most 41,472
   pub moment : g.counts.cycles ≤ cost_of blocks g.window.state.trace + greatest
+  -- at every moment too, by what the block that comes next costs
   pub next : g.counts.cycles ≤ cost_of blocks g.window.state.trace + cost_in (slice_get blocks g.window.state.next)
+  -- at an ending that is no trap
   pub ending : (e : Ending) → ended budget g.window ≡ Some e → is_trap e ≡ false
       → g.counts.cycles ≤ cost_of blocks g.window.state.trace
 

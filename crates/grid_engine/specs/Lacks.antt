@@ -14,7 +14,9 @@ oldest_lacks fs = lack_in (slice_get fs 0)
 
 -- a Read, a Fire, a Deliver, a Load, a Store or an Exit of the frame of number n would be Done
 pub record HasStep (blocks : List Block) (budget : ℕ) (w : Window) (n : ℕ) : Type 0 where
+  -- the event that would be done
   pub event : Event
+  -- it is of that frame, and of none of the other kinds
   pub is_step : is_step_of n event ≡ true
   pub done : can blocks budget event w ≡ Done
 

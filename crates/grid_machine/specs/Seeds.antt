@@ -15,6 +15,7 @@ use Rattle.grid_run.specs.WholeRuns.{IsRun, most_cycles}
 abbrev pub next_hold : PcgWeather → ℕ
 next_hold w = holds.hold_of w.generator
 
+-- the second weather is the first after one hold more was drawn
 abbrev pub IsAfter : PcgWeather → PcgWeather → Type 0
 IsAfter v w = w.generator ≡ holds.generator_after v.generator
 

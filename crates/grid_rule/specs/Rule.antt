@@ -32,6 +32,7 @@ runs_in n (f ∷ fs) = (f.number == n && not f.sealed) || runs_in n fs
 
 -- a store of a number comes from an instruction that has fired
 pub record StoredBy (b : Block) (fired : List Bool) (n : ℕ) : Type 0 where
+  -- the slot and the store in it
   pub slot : ℕ
   pub inst : Inst
   pub is_inst : slot_of b slot ≡ Some inst
@@ -41,6 +42,7 @@ pub record StoredBy (b : Block) (fired : List Bool) (n : ℕ) : Type 0 where
 
 -- what waits in a slot with a number is a load or a store, and no store has come for the number
 pub record Waits (b : Block) (stores : List (Option Stored)) (n s : ℕ) : Type 0 where
+  -- the load or the store in slot s
   pub inst : Inst
   pub is_inst : slot_of b s ≡ Some inst
   pub kind : has_number (form_of inst.op) ≡ true
@@ -48,7 +50,9 @@ pub record Waits (b : Block) (stores : List (Option Stored)) (n s : ℕ) : Type 
 
 -- a token on its way has a target, a store that has come was given by an instruction, and what waits is one that may
 pub record FrameRule (f : Frame) : Type 0 where
+  -- no token is sent to a place that takes none
   pub targets : (p : ℕ) → at f.places p ≢ None → is_target (target f.code p) ≡ true
+  -- no store comes from nowhere
   pub stored : (n : ℕ) → at f.stores n ≢ None → StoredBy f.code f.fired n
   pub waits : (n s : ℕ) → at f.requests n ≡ Some s → Waits f.code f.stores n s
 
@@ -64,8 +68,11 @@ IsCareful g f = g.careful f.number ≡ true → none_guessed f ≡ true
 
 -- units are busy for at most 24 cycles more; a unit that has a result is busy, and has no other result
 pub record UnitsRule (units : ℕ → ℕ) (works : ℕ → ℕ → Bool) : Type 0 where
+  -- at most 24, the latency of a division
   pub most : (t : ℕ) → units t ≤ longest
+  -- slot s of frame n is in a unit that is busy
   pub busy : (n s : ℕ) → works n s ≡ true → 1 ≤ units (tile_of s)
+  -- two results of one tile are one: of one frame and of one slot
   pub alone : (m n r s : ℕ) → works m r ≡ true → works n s ≡ true → tile_of r ≡ tile_of s → (m ≡ n) × (r ≡ s)
 
 -- a parcel is on the mesh, and is held for so many cycles at least and 3 at most
@@ -84,12 +91,18 @@ FetchRule known (Some f) = (f.left < fetch_latency) × (follows known f.block �
 
 -- the grid's rule, where what has come to its end on the mesh is held for so many cycles at least
 pub record RuleFrom {W : Type 0} (least : ℕ) (g : Grid W) : Type 0 where
+  -- what waits and what has come in each frame is one that may
   pub frames : EachFrame FrameRule g.window.frames
+  -- what is under way of each running frame is what is to be
   pub tied : EachFrame (RunsTied g) g.window.frames
+  -- no careful frame has guessed a load
   pub careful : EachFrame (IsCareful g) g.window.frames
+  -- of a frame that is sealed or empty nothing is under way
   pub nothing : (n : ℕ) → runs_in n g.window.frames ≡ false → Nothing (g.parcels n) (g.asked n) (g.works n)
   pub units : UnitsRule g.units g.works
+  -- each parcel is on the mesh, and is held for at most 3 cycles
   pub mesh : (n p : ℕ) → p < token_places → HeldFrom least (g.parcels n p)
+  -- what is fetched may come next
   pub fetch : FetchRule (known_next g.window) g.fetching
 
 -- the grid's rule: in parts (1) to (5) of a cycle and between cycles nothing has come and is held no longer, since it

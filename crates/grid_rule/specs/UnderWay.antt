@@ -62,7 +62,9 @@ SlotGives asked f (Some i) s = Gives asked f (form_of i.op) i s
 
 -- the result of slot s is in a unit: the slot has fired, and what it gives is to come
 pub record InUnit (asked : ℕ → Bool) (f : Frame) (s : ℕ) : Type 0 where
+  -- as a slot does when it is issued
   pub fired : slice_index_or f.fired s false ≡ true
+  -- none of it is on the mesh or at a station yet
   pub gives : SlotGives asked f (slot_of f.code s) s
 
 -- frames ------------------------------------------------------------------------------------------
@@ -70,8 +72,11 @@ pub record InUnit (asked : ℕ → Bool) (f : Frame) (s : ℕ) : Type 0 where
 -- a running frame and what is under way of it: there is a parcel in a place exactly where one is to be, each request
 -- at a data tile is one that waits, and each result in a unit is one that is to come
 pub record Tied (parcels : ℕ → Stand) (asked works : ℕ → Bool) (f : Frame) : Type 0 where
+  -- exactly where one is to be, and nowhere else
   pub travelling : (p : ℕ) → p < token_places → is_here (parcels p) ≡ travels asked works f p
+  -- a request at a data tile is that of a number with which something waits
   pub standing : (n : ℕ) → asked n ≡ true → at f.requests n ≢ None
+  -- a result in a unit is that of a slot which has fired
   pub working : (s : ℕ) → works s ≡ true → InUnit asked f s
 
 -- nothing is under way

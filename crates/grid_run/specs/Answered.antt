@@ -13,6 +13,7 @@ pub record ComesTo {W : Type 0} (blocks : List Block) (s : State) (steps : ℕ) 
   pub state : h.window.state ≡ (runs blocks s steps).0
   pub over : h.window.over ≡ (runs blocks s steps).1
   pub ending : e ≡ ending_of (runs blocks s steps).1 (runs blocks s steps).0.next
+  -- what was in flight at the end of the run has been flushed
   pub rests : h.window.frames ≡ []
   pub counted : AllCounted h
 

@@ -31,6 +31,7 @@ pub record IsRun {W : Type 0} (next : W → ℕ) (follows : W → W → Type 0) 
 -- n eager cycles lead from a grid to another, whose frames in flight are flushed where the run has ended
 pub record AreCycles {W : Type 0} (next : W → ℕ) (follows : W → W → Type 0) (blocks : List Block) (budget n : ℕ)
     (g h : Grid W) : Type 0 where
+  -- the grid behind the last cycle, before the flush
   pub last : Grid W
   pub cycles : AfterCycles next follows blocks budget n g last
   pub ends : h ≡ at_end budget last

@@ -16,6 +16,7 @@ use Rattle.grid_cycle_bound.specs.Lane.{Lane}
 use Rattle.grid_cycle_bound.specs.Blocks.{vacant, course_of}
 use Rattle.grid_cycle_bound.specs.Seen.{lane_of}
 
+-- a register that is not known yet is told as 0; no read of it has been answered
 abbrev pub or_none : Option ℕ → ℕ
 or_none None = 0
 or_none (Some w) = w
@@ -25,6 +26,7 @@ abbrev pub finds : Older → Frame → Option Inst → ℕ → ℕ
 finds o f None address = 0
 finds o f (Some i) address = bytes_seen (at f.stores) o.memory i.number address (size_of i.op)
 
+-- a read sees its register, and any other node what a load of its address finds
 abbrev pub sees_at : Bool → Older → Frame → ℕ → ℕ → ℕ
 sees_at true o f x address = or_none (read_seen o (slice_get f.code.reads.items x))
 sees_at false o f x address = finds o f (inst_at f.code x) address
@@ -42,5 +44,6 @@ abbrev pub course_in : Older → List Frame → Course
 course_in o [] = record { room = 0; task = λ x. vacant; outputs = [] }
 course_in o (f ∷ fs) = course_of f.code (table_in o f)
 
+-- by what its oldest frame sees over the committed state now
 abbrev pub lane_in : {W : Type 0} → Grid W → Lane
 lane_in g = lane_of (course_in (committed g.window.state) g.window.frames) g

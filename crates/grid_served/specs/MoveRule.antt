@@ -29,11 +29,16 @@ Travels f _ i p = IsToken f p
 
 -- parcels stand where the phases of tasks have them, and each is what it is to be; no request is lost on its way
 pub record MoveRule {W : Type 0} (m : Grid W) (f : Frame) : Type 0 where
+  -- the lane's parcels are the grid's: the even places are the first ones of their tasks
   pub rows : (p : ℕ) → p < 320 → m.parcels f.number p
       ≡ cond (p % 2 == 0) (first_parcel (phase_of m f (p / 2))) (second_parcel (phase_of m f (p / 2)))
+  -- a parcel of a slot's place is the slot's request, its branch or its token
   pub slots : (p : ℕ) (i : Inst) → p < 256 → m.parcels f.number p ≢ Nowhere → slot_of f.code (p / 2) ≡ Some i
       → Travels f (form_of i.op) i p
+  -- a parcel of a read's place is a token of that read
   pub reads : (p : ℕ) → 256 ≤ p → p < 320 → m.parcels f.number p ≢ Nowhere → IsToken f p
+  -- a task that is asking has its request on the mesh
   pub asks : (x : ℕ) (s : Stand) → phase_of m f x ≡ Asking s → s ≢ Nowhere
+  -- only a load or a store waits with a number
   pub numbered : (n s : ℕ) → at f.requests n ≡ Some s → (i : Inst) → slot_of f.code s ≡ Some i
       → has_number (form_of i.op) ≡ true

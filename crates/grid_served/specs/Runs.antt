@@ -16,21 +16,30 @@ use Rattle.grid_served.specs.Lanes.{lane_in}
 -- what a cycle asks of the grid that it begins with: the run goes on, and the window and the lane have their rules.
 -- `sizes` tells how many tasks the n-th committed block has
 pub record Stands {W : Type 0} (blocks : List Block) (budget : ℕ) (sizes : ℕ → ℕ) (g : Grid W) : Type 0 where
+  -- the window's invariant
   pub ok : WindowOk blocks budget g.window
+  -- the run has not ended, and its budget is not spent
   pub went : g.window.over ≡ Went
   pub room : length g.window.state.trace < budget
+  -- what parts (3) to (6) ask, unless part (1) ends the run
   pub parts : (ends blocks budget g).window.over ≡ Went
       → CycleRule blocks budget (fetches blocks budget (ends blocks budget g))
+  -- there are sixteen tiles, and no unit beyond
   pub none : (t : ℕ) → 16 ≤ t → g.units t ≡ 0
+  -- without a frame in flight, the fetch is of the committed next block, and frame 0 can be filled
+  -- again
   pub due : g.window.frames ≡ [] → IsDue g g.fetching × (slice_index g.window.generations 0 < 2 ^ 64 - 1)
+  -- the block that commits next has as many tasks as `sizes` says
   pub block : Block
   pub is_next : slice_get blocks g.window.state.next ≡ Some block
   pub is_size : size block ≡ sizes (length g.window.state.trace)
+  -- the lane's rule
   pub lane : LaneRule sizes (lane_in g)
 
 -- some cycles, then one more
 pub record OneMore {W : Type 0} (first : Grid W → Type 0) (next : W → ℕ) (follows : W → W → Type 0)
     (blocks : List Block) (budget : ℕ) (sizes : ℕ → ℕ) (h : Grid W) : Type 0 where
+  -- the grid between them
   pub between : Grid W
   pub before : first between
   pub stands : Stands blocks budget sizes between

@@ -11,13 +11,17 @@ use Rattle.grid_cycle_bound.specs.Seen.{front_of}
 
 -- f is still the oldest frame of h, with the same block and the same stores resolved, and is seen so by this course
 pub record Shows {W : Type 0} (c : Course) (f : Frame) (h : Grid W) (seen : Front) : Type 0 where
+  -- the frame as it is in h, where it is still the oldest
   pub frame : Frame
   pub younger : List Frame
   pub frames : h.window.frames ≡ frame ∷ younger
   pub number : frame.number ≡ f.number
   pub code : frame.code ≡ f.code
+  -- no store of it has come meanwhile, so that its table stays
   pub stores : frame.stores ≡ f.stores
+  -- it is not sealed
   pub runs : frame.sealed ≡ false
+  -- what the lane sees of it by this course
   pub front : front_of c h frame ≡ seen
 
 -- the block of the oldest frame has been committed, or the run has trapped

@@ -23,6 +23,7 @@ abbrev pub with_less : ℕ → Fetching → Fetching
 with_less zero f = f
 with_less (suc left) f = record f { left = left }
 
+-- what the fetch unit does one cycle later; a fetch that is due stays so until it makes its event
 abbrev pub nearer : Option Fetching → Option Fetching
 nearer None = None
 nearer (Some f) = Some (with_less f.left f)

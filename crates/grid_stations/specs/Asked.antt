@@ -72,6 +72,7 @@ abbrev pub tile_in : Option Request → ℕ
 tile_in None = 0
 tile_in (Some q) = q.tile
 
+-- no store where nothing waits
 abbrev pub store_in : Option Request → Bool
 store_in None = false
 store_in (Some q) = is_store (form_of (q.inst).op)

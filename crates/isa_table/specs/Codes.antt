@@ -103,6 +103,8 @@ place_of_numbers opcode extended =
     if opcode == 2 && nat_lt extended 32 then 32 + extended else (
     if nat_lt opcode 64 then 64 + opcode else 0))
 
+-- the one operation that may have these numbers: any that has them stands at their place in the
+-- list
 unfoldable pub candidate_by_numbers : ℕ → ℕ → Op
 candidate_by_numbers opcode extended = get_or BY_NUMBERS (place_of_numbers opcode extended) op.Add
 

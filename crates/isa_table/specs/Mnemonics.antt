@@ -6,6 +6,7 @@ use Rattle.trips_isa.specs.declared.op.Op.{Op}
 use Rattle.trips_isa.specs.declared.op.Op.TheVariants as op
 use Rattle.isa_table.specs.declared.by_mnemonic.TheConstants.{BY_MNEMONIC}
 
+-- in ASCII, another for each operation
 unfoldable pub mnemonic_of : Op → List ℕ
 mnemonic_of op.Add = codes "add"
 mnemonic_of op.Sub = codes "sub"
@@ -80,6 +81,8 @@ abbrev pub mixed : ℕ → List ℕ → ℕ
 mixed start [] = start
 mixed start (letter ∷ letters) = mixed ((start * 1495 + letter) % 2027) letters
 
+-- the one operation that a word may name, by a perfect hash: the 145 entries have every operation
+-- at the place of its own mnemonic
 unfoldable pub candidate_by_mnemonic : List ℕ → Op
 candidate_by_mnemonic word = get_or BY_MNEMONIC (mixed 0 word % 145) op.Add
 

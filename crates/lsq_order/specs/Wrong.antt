@@ -9,12 +9,14 @@ use Rattle.lsq_order.specs.Reached.{narrowed}
 abbrev pub is_wrong : (ℕ → Option Stored) → List (Option Taken) → (ℕ → Bool) → ℕ → ℕ → Bool
 is_wrong stores loads touched from n = took_touched (narrowed stores from n touched) (at loads n)
 
--- the lowest wrong load from number `from` on and below `end`
+-- the lowest wrong load from number `from` on
 pub record IsLowest (stores : ℕ → Option Stored) (loads : List (Option Taken)) (touched : ℕ → Bool) (from n : ℕ)
     : Type 0 where
   pub from_on : from ≤ n
   pub below : n < 32
+  -- it took a touched byte that no store between hides from it
   pub wrong : is_wrong stores loads touched from n ≡ true
+  -- no load before it is wrong
   pub lowest : (m : ℕ) → from ≤ m → m < n → is_wrong stores loads touched from m ≡ false
 
 -- no load from number `from` on is wrong

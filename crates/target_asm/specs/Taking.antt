@@ -32,6 +32,7 @@ abbrev pub with_front : {A : Type 0} → List A → Taken (List A) → Taken (Li
 with_front front (Ok r) = Ok (front ++ r.0, r.1, r.2)
 with_front front (Err e) = Err e
 
+-- blocks that were read before, and those that are still read
 abbrev pub with_blocks : List Block → Result (List Block) AsmFault → Result (List Block) AsmFault
 with_blocks front (Ok bs) = Ok (front ++ bs)
 with_blocks front (Err e) = Err e

@@ -20,14 +20,17 @@ use Rattle.target_asm_spec.specs.Instructions.{inst_in}
 use Rattle.target_asm_spec.specs.Judging.{signed_in, inst_of}
 
 infixl 10 ◌>>>◌
+-- goes on with what was read, or stops at the fault
 abbrev pub ◌>>>◌ : {A B : Type 0} → Result A AsmFault → (A → Result B AsmFault) → Result B AsmFault
 (Ok x) >>> f = f x
 (Err e) >>> f = Err e
 
+-- what is there, or this fault where nothing is
 abbrev pub or_fault : {A : Type 0} → AsmFault → Option A → Result A AsmFault
 or_fault fault None = Err fault
 or_fault fault (Some x) = Ok x
 
+-- a condition on a line, with the fault where it does not hold
 abbrev pub wants : Bool → AsmFault → Result (Unit {0}) AsmFault
 wants true fault = Ok tt
 wants false fault = Err fault
@@ -63,6 +66,7 @@ one_read i line text =
     wants (nat_lt i 32) (Range line) >>> λ v. or_fault (Range line) (read_of s.0)
     >>> λ r. Ok (r, s.1)
 
+-- the lines of a block's reads, at most 32, numbered from 0; one more than 32 is met as a fault
 unfoldable pub reads_in : ℕ → List ℕ → Taken (List ReadSlot)
 reads_in line text = lines_in (codes "R[") one_read 33 0 line text
 
@@ -74,6 +78,7 @@ one_write i line text =
     wants (nat_lt i 32) (Range line) >>> λ v. or_fault (Range line) (field_in s.0.register 128)
     >>> λ g. Ok (g, s.1)
 
+-- the lines of its writes, in the same way
 unfoldable pub writes_in : ℕ → List ℕ → Taken (List ℕ)
 writes_in line text = lines_in (codes "W[") one_write 33 0 line text
 
@@ -82,10 +87,14 @@ writes_in line text = lines_in (codes "W[") one_write 33 0 line text
 -- Where blocks begin, where it is known: the chunk of each block, and for each chunk 1 more than
 -- the block that begins there, or 0.
 pub record Begins : Type 0 where
+  -- whether the tables below are told, so that goals are judged
   pub known : Bool
+  -- the chunk at which block k begins, at place k
   pub chunks : List ℕ
+  -- at the place of a chunk 1 more than the block that begins there, or 0
   pub starts : List ℕ
 
+-- the offset in chunks from the block that begins at `here` to block k, where there is one
 abbrev pub to_block : List ℕ → ℕ → ℕ → ℤ → Result ℤ AsmFault
 to_block chunks here line (pos k) =
     if nat_lt k (length chunks)
@@ -119,6 +128,7 @@ one_inst b here next line text =
     wants (nat_le (here + 2 + slot / 32) 524288) (Range line) >>> λ v.
     aimed b here line s.0.numbers.goal i.imm >>> λ imm. Ok (slot, record i { imm = imm }, s.1)
 
+-- the empty slots that a line passes over
 abbrev pub gap : ℕ → ℕ → List (Option Inst)
 gap from to = replicate (to - from) None
 
@@ -141,6 +151,7 @@ head_in k here line text =
     >>> λ u.
     wants (nat_le (here + 2) 524288) (Range line) >>> λ v. Ok (s.0.mask, s.1)
 
+-- a block of what its lines say
 abbrev pub block_of : ℕ → List ReadSlot → List ℕ → List (Option Inst) → Block
 block_of mask reads writes insts = record {
   reads = record { items = reads };
@@ -149,6 +160,7 @@ block_of mask reads writes insts = record {
   insts = record { items = insts };
 }
 
+-- all lines of block k, which begins at `here`, from the line of that number on
 unfoldable pub one_block : Begins → ℕ → ℕ → ℕ → List ℕ → Taken Block
 one_block b k here line text =
     head_in k here line text >>> λ h. reads_in (line + 1) h.1 >>> λ rs. writes_in rs.1 rs.2

@@ -19,6 +19,7 @@ start_row k size = suc k ∷ replicate (size - 1) 0
 abbrev pub start_rows : ℕ → List Block → List ℕ
 start_rows k blocks = numbered (λ i b. start_row i (chunks b)) k blocks
 
+-- an entry of the table as the block that it tells: 0 tells none
 abbrev pub named : ℕ → Option ℕ
 named zero = None
 named (suc k) = Some k

@@ -12,10 +12,12 @@ use Rattle.trips_isa.specs.declared.block.Sense.TheVariants.{Always, OnTrue, OnF
 use Rattle.trips_isa.specs.declared.block.Inst.{Inst}
 use Rattle.isa_table.specs.Spots.{spot_text}
 
+-- a target with the space before it; nothing where there is none
 abbrev pub target_text : Option Spot → List ℕ
 target_text None = []
 target_text (Some s) = 32 ∷ spot_text s
 
+-- the ending of a mnemonic that tells the predicate
 unfoldable pub sense_text : Sense → List ℕ
 sense_text Always = []
 sense_text OnTrue = codes "_t"

@@ -15,13 +15,17 @@ use Rattle.target_asm_spec.specs.LinePlaces.{goal_of_line}
 
 -- no line that may stand begins the rest of a text, where one is wanted
 pub record NoLine (p : Place) (rest : List ℕ) : Type 0 where
+  -- at the end of the text a line is wanted only before the first block
   pub wanted : rest ≡ [] → p.begins ≡ []
+  -- no line that may stand here is spelled there, whatever follows it
   pub none : (l : Line) (more : List ℕ) → MayStand p l → rest ≡ line_words l more → ⊥
 
 -- a line that may stand begins it, with a number outside its field or too many chunks
 pub record BadNumber (p : Place) (rest : List ℕ) : Type 0 where
+  -- the line, and what follows it
   pub line : Line
   pub more : List ℕ
+  -- its parts and its number are those that the place asks for
   pub stands : MayStand p line
   pub is : rest ≡ line_words line more
   pub outside : InFields p line → ⊥
@@ -29,11 +33,15 @@ pub record BadNumber (p : Place) (rest : List ℕ) : Type 0 where
 -- good lines to the end of the text, of which the first with a bad goal stands between two parts
 pub record BadGoal (text : List ℕ) (front : List Line) (goal : Goal) : Type 0 where
   pub line : Line
+  -- the lines behind it
   pub back : List Line
   pub is : text ≡ lines_words (front ++ line ∷ back) []
+  -- all lines stand where they may, with their numbers in their fields
   pub good : AreGood start (front ++ line ∷ back)
+  -- no goal before it is bad
   pub before : GoodGoals (place_after start (front ++ line ∷ back)).begins start front
   pub goal_is : goal_of_line line ≡ Some goal
+  -- it names no block, or its offset hits one
   pub bad : GoodGoal (place_after start (front ++ line ∷ back)).begins
       (place_after start front).here (Some goal) → ⊥
 
@@ -41,6 +49,7 @@ pub record BadGoal (text : List ℕ) (front : List Line) (goal : Goal) : Type 0 
 
 -- bytes of the first lines, of so many
 pub record GoodBytes (count : ℕ) (bytes : List ℕ) : Type 0 where
+  -- no more than data memory has
   pub few : count ≤ 4194304
   pub each : All (λ b. b < 256) bytes
 
@@ -55,6 +64,7 @@ first_line bytes = 3 + (length bytes + 31) / 32
 -- the first lines are good
 pub record GoodFront (text bytes rest : List ℕ) : Type 0 where
   pub good : GoodBytes (length bytes) bytes
+  -- data bytes do not end in 0
   pub last : last_byte bytes ≡ 0 → ⊥
   pub is : text ≡ data_words (length bytes) bytes rest
 

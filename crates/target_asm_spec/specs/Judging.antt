@@ -19,6 +19,7 @@ unfoldable pub signed_in : ℕ → ℤ → Option ℤ
 signed_in half (pos n) = if nat_lt n half then Some (pos n) else None
 signed_in half (negsuc n) = if nat_lt n half then Some (negsuc n) else None
 
+-- from 0 to values - 1
 unfoldable pub unsigned_in : ℕ → ℤ → Option ℤ
 unsigned_in values (pos n) = if nat_lt n values then Some (pos n) else None
 unsigned_in values (negsuc n) = None
@@ -30,10 +31,12 @@ number_of Store n = field_in n 32
 number_of Branch n = field_in n 8
 number_of form n = Some 0
 
+-- of `gens` a constant with a sign, of `genu` and `app` one without
 unfoldable pub constant_of : Op → ℤ → Option ℤ
 constant_of Gens n = signed_in 32768 n
 constant_of op n = unsigned_in 65536 n
 
+-- in chunks; where none is spelled it is 0
 abbrev pub offset_of : Option Goal → Option ℤ
 offset_of (Some (Offset n)) = signed_in 524288 n
 offset_of (Some (Label k)) = Some (pos 0)
@@ -48,6 +51,7 @@ immediate_of Store s = signed_in 256 s.numbers.imm
 immediate_of Constant s = constant_of s.op s.numbers.imm
 immediate_of Branch s = offset_of s.numbers.goal
 
+-- the instruction itself; none where a number lies outside its field
 unfoldable pub inst_of : SpelledInst → Option Inst
 inst_of s =
     number_of (form_of s.op) s.numbers.number >>= λ n. immediate_of (form_of s.op) s >>= λ imm.

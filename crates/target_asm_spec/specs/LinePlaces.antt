@@ -36,7 +36,9 @@ pub record Place : Type 0 where
   pub size : ℕ
   -- the number of the next read, of the next write, and the first slot that is left, if there is one
   pub next_read : Option ℕ
+  -- none where no more writes may follow
   pub next_write : Option ℕ
+  -- none before the first block
   pub next_slot : Option ℕ
 
 -- before the first block

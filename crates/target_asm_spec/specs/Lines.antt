@@ -111,6 +111,7 @@ MayHaveTargets form t = t.second ≡ None
 
 -- the parts of a line are those of its operation
 pub record IsInstruction (s : SpelledInst) : Type 0 where
+  -- a predicate, a goal and targets only as the operation's form has them
   pub sense : MayHaveSense (form_of s.op) s.sense
   pub goal : MayHaveGoal s.op s.numbers.goal
   pub targets : MayHaveTargets (form_of s.op) s.targets

@@ -6,12 +6,15 @@ use Rattle.target_asm_spec.specs.declared.spelled.SpelledTarget.{SpelledTarget}
 use Rattle.target_asm_spec.specs.declared.spelled.SpelledTarget.TheVariants as spelled
 use Rattle.target_asm_spec.specs.Reading.{◌>>=◌, or_else, after_in, number_in, index_in, field_in}
 
+-- a left operand, by what follows the number of its slot
 abbrev pub left_in : ℤ → List ℕ → Option (SpelledTarget × List ℕ)
 left_in n text = after_in (codes ",0]") text >>= λ rest. Some (spelled.Left n, rest)
 
+-- a right operand, in the same way
 abbrev pub right_in : ℤ → List ℕ → Option (SpelledTarget × List ℕ)
 right_in n text = after_in (codes ",1]") text >>= λ rest. Some (spelled.Right n, rest)
 
+-- a predicate, in the same way
 abbrev pub pred_in : ℤ → List ℕ → Option (SpelledTarget × List ℕ)
 pred_in n text = after_in (codes ",p]") text >>= λ rest. Some (spelled.Pred n, rest)
 
@@ -23,9 +26,11 @@ place_in n text = or_else (left_in n text) (or_else (right_in n text) (pred_in n
 unfoldable pub slot_in : List ℕ → Option (SpelledTarget × List ℕ)
 slot_in text = number_in text >>= λ n. place_in n.0 n.1
 
+-- a write, with its `W[`
 unfoldable pub write_in : List ℕ → Option (SpelledTarget × List ℕ)
 write_in text = index_in (codes "W[") text >>= λ n. Some (spelled.Write n.0, n.1)
 
+-- a target by what follows an `N[`, or, where the text begins with none, as a write
 abbrev pub target_by : Option (List ℕ) → List ℕ → Option (SpelledTarget × List ℕ)
 target_by (Some rest) text = slot_in rest
 target_by None text = write_in text
@@ -39,6 +44,7 @@ abbrev pub next_by : Option (List ℕ) → List ℕ → Option (Option SpelledTa
 next_by None text = Some (None, text)
 next_by (Some rest) text = target_in rest >>= λ t. Some (Some t.0, t.1)
 
+-- a target after a space; where no space follows there is none, and nothing was read
 unfoldable pub next_in : List ℕ → Option (Option SpelledTarget × List ℕ)
 next_in text = next_by (after_in (codes " ") text) text
 
@@ -49,6 +55,7 @@ spot_of (spelled.Left n) = field_in n 128 >>= λ s. Some (spot.Left s)
 spot_of (spelled.Right n) = field_in n 128 >>= λ s. Some (spot.Right s)
 spot_of (spelled.Pred n) = field_in n 128 >>= λ s. Some (spot.Pred s)
 
+-- no target has no number to judge
 unfoldable pub maybe_spot : Option SpelledTarget → Option (Option Spot)
 maybe_spot None = Some None
 maybe_spot (Some t) = spot_of t >>= λ s. Some (Some s)

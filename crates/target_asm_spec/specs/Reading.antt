@@ -4,6 +4,7 @@ use Rattle.std.specs.Prelude.{take, drop, get_or, Option, Some, None, Bool}
 use Rattle.std.specs.Prelude.{◌==◌, ◌&&◌, ◌||◌, nat_lt, nat_le, if◌then◌else◌, codes}
 
 infixl 10 ◌>>=◌
+-- goes on with what was read; where one part is not there, nothing is
 abbrev pub ◌>>=◌ : {A B : Type 0} → Option A → (A → Option B) → Option B
 None >>= f = None
 (Some x) >>= f = f x
@@ -24,6 +25,7 @@ after_in [] text = Some text
 after_in (c ∷ cs) [] = None
 after_in (c ∷ cs) (d ∷ ds) = if c == d then after_in cs ds else None
 
+-- 0 to 9, in ASCII
 abbrev pub is_digit : ℕ → Bool
 is_digit b = nat_le 48 b && nat_le b 57
 
@@ -36,6 +38,7 @@ digits_in (b ∷ bs) = if is_digit b then suc (digits_in bs) else 0
 unfoldable pub with_digit : ℕ → ℕ → ℕ
 with_digit v b = if nat_lt v 100000000 then v * 10 + (b - 48) else 1000000000
 
+-- the value of digits behind a value, the most significant first
 unfoldable pub value_from : ℕ → List ℕ → ℕ
 value_from v [] = v
 value_from v (b ∷ bs) = value_from (with_digit v b) bs
@@ -50,10 +53,12 @@ natural_in text =
     if is_no_number (digits_in text) text then None
     else Some (value_from 0 (take (digits_in text) text), drop (digits_in text) text)
 
+-- a number with a sign, by its size; there is no -0
 abbrev pub below_zero : ℕ → List ℕ → Option (ℤ × List ℕ)
 below_zero zero rest = None
 below_zero (suc n) rest = Some (negsuc n, rest)
 
+-- a number, by what follows a sign if the text begins with one
 abbrev pub number_by : Option (List ℕ) → List ℕ → Option (ℤ × List ℕ)
 number_by (Some rest) text = natural_in rest >>= λ n. below_zero n.0 n.1
 number_by None text = natural_in text >>= λ n. Some (pos n.0, n.1)
@@ -79,6 +84,7 @@ field_in (negsuc n) values = None
 
 -- hexadecimal ------------------------------------------------------------------------------------
 
+-- the value of a hexadecimal digit in lower case
 unfoldable pub hex_value : ℕ → Option ℕ
 hex_value b =
     if nat_le 48 b && nat_le b 57 then Some (b - 48) else (

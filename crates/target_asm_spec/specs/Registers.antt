@@ -17,6 +17,7 @@ is_operand (spelled.Right n) = true
 is_operand (spelled.Pred n) = false
 is_operand (spelled.Write n) = false
 
+-- whether two numbers are one, of whatever sign
 abbrev pub same_number : ℤ → ℤ → Bool
 same_number (pos n) (pos m) = n == m
 same_number (negsuc n) (negsuc m) = n == m

@@ -14,10 +14,12 @@ use Rattle.target_asm_spec.specs.Numbers.{hex_byte, hex_word, numbered}
 use Rattle.target_asm_spec.specs.Fields.{target_text, sense_text, numbers_text}
 use Rattle.target_asm_spec.specs.Chunks.{goal_of}
 
+-- the line of read i: `R[i] read G[r]`, and its one or two operands
 unfoldable pub read_line : ℕ → ReadSlot → List ℕ
 read_line i r = indexed 82 i ++ (codes " read " ++ (indexed 71 r.register
     ++ (target_text (Some r.first) ++ (target_text r.second ++ 10 ∷ []))))
 
+-- the line of write i: `W[i] write G[r]`
 unfoldable pub write_line : ℕ → ℕ → List ℕ
 write_line i register = indexed 87 i ++ (codes " write " ++ (indexed 71 register ++ 10 ∷ []))
 
@@ -39,6 +41,7 @@ abbrev pub slot_text : (ℤ → Option ℕ) → ℕ → ℕ → Option Inst → 
 slot_text goal here s None = []
 slot_text goal here s (Some i) = inst_line s i (goal (pos here +ℤ i.imm))
 
+-- the first line of block k, with its mask in eight hexadecimal digits
 unfoldable pub block_line : ℕ → ℕ → List ℕ
 block_line k mask = codes "block " ++ (decimal k ++ (codes " mask " ++ (hex_word mask ++ 10 ∷ [])))
 
@@ -48,6 +51,7 @@ block_text goal here k b =
     block_line k b.mask ++ (numbered read_line 0 b.reads.items ++
     (numbered write_line 0 b.writes.items ++ numbered (slot_text goal here) 0 b.insts.items))
 
+-- block k of an image, where an offset to a block of the same image is told by that block's number
 abbrev pub block_in : List Block → ℕ → Block → List ℕ
 block_in blocks k b = block_text (goal_of blocks) (chunk_of blocks k) k b
 
@@ -59,6 +63,7 @@ data_end count at = if ((at + 1) % 32 == 0) || (at + 1 == count) then 10 ∷ [] 
 unfoldable pub byte_text : ℕ → ℕ → ℕ → List ℕ
 byte_text count at b = hex_byte b ++ data_end count at
 
+-- the first two lines, of which the second tells the number of data bytes
 unfoldable pub head_lines : ℕ → List ℕ
 head_lines count = codes "trips 1\ndata " ++ (decimal count ++ 10 ∷ [])
 
@@ -69,5 +74,6 @@ image_text i = head_lines (length i.bytes) ++
 
 -- an image that fits, and its text
 pub record TargetText (i : Image) (text : List ℕ) : Type 0 where
+  -- each image that fits has one text
   pub fits : FitsImage i
   pub spelled : text ≡ image_text i

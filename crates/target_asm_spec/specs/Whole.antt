@@ -12,6 +12,7 @@ use Rattle.target_asm_spec.specs.declared.fault.AsmFault.TheVariants.{Syntax, Ra
 use Rattle.target_asm_spec.specs.Reading.{◌>>=◌, after_in, number_in, byte_in}
 use Rattle.target_asm_spec.specs.Blocks.{◌>>>◌, or_fault, wants, Begins, blocks_in}
 
+-- whether nothing is left of a text
 abbrev pub is_empty : List ℕ → Bool
 is_empty [] = true
 is_empty (c ∷ cs) = false
@@ -21,6 +22,7 @@ unfoldable pub count_in : List ℕ → Option (ℤ × List ℕ)
 count_in text = after_in (codes "data ") text >>= λ a. number_in a
     >>= λ n. after_in (codes "\n") n.1 >>= λ rest. Some (n.0, rest)
 
+-- how many data bytes there are, at most 4,194,304
 unfoldable pub bytes_limit : ℤ → Option ℕ
 bytes_limit (pos n) = if nat_le n 4194304 then Some n else None
 bytes_limit (negsuc n) = None
@@ -45,6 +47,7 @@ data_byte_in count at text = byte_in text >>= λ b. feed_in count at b.1 >>= λ 
 abbrev pub line_of_byte : ℕ → ℕ
 line_of_byte at = 3 + at / 32
 
+-- what is wrong with a byte that is not spelled, at its line
 abbrev pub byte_fault : ℕ → AsmFault
 byte_fault at = Syntax (line_of_byte at)
 
@@ -70,10 +73,12 @@ abbrev pub chunks_from : ℕ → List Block → List ℕ
 chunks_from here [] = []
 chunks_from here (b ∷ bs) = here ∷ chunks_from (here + chunks b) bs
 
+-- the tables of where blocks begin, from the blocks of the first reading
 abbrev pub begins_of : List Block → Begins
 begins_of blocks =
     record { known = true; chunks = chunks_from 0 blocks; starts = start_rows 0 blocks }
 
+-- the tables before the first reading, which judges no goal
 abbrev pub unknown : Begins
 unknown = record { known = false; chunks = []; starts = [] }
 

@@ -110,6 +110,7 @@ pub record FitsBlock (b : Block) : Type 0 where
   pub each_read : All FitsRead b.reads.items
   pub writes : length b.writes.items ≤ 32
   pub each_write : All (λ r. r < 128) b.writes.items
+  -- bit n is set where the block resolves store number n
   pub mask : b.mask < 2 ^ 32
   pub insts : length b.insts.items ≡ 128
   pub each_inst : All FitsSlot b.insts.items

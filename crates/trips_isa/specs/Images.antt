@@ -60,6 +60,7 @@ pub record FitsImage (i : Image) : Type 0 where
   pub total : sum_by chunks i.blocks ≤ 524288
   -- the bytes that data memory begins with
   pub few : length i.bytes ≤ 4194304
+  -- each is a byte
   pub bytes : All (λ b. b < 256) i.bytes
   -- no byte 0 ends them, so that each start of data memory has one image
   pub last : last_byte i.bytes ≡ 0 → ⊥

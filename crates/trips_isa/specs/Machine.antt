@@ -15,13 +15,17 @@ use Rattle.trips_isa.specs.Outcomes.{Effects, Outcome, Comes, Faults, outcome}
 
 -- what the machine has between two blocks (docs/MACHINE.md, "State")
 pub record State : Type 0 where
+  -- the words of the 128 registers
   pub registers : List ℕ
+  -- the bytes of data memory, by address
   pub memory : List ℕ
   -- the number of the next block
   pub next : ℕ
   -- the rest of the input
   pub rest : List ℕ
+  -- the bytes that were put out so far
   pub output : List ℕ
+  -- each executed block with the exit that it took, the first one first
   pub trace : List Traced
 
 -- applying effects ---------------------------------------------------------------------------

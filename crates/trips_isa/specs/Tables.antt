@@ -66,10 +66,12 @@ pub record Edge (ns : List Node) (x y : ℕ) : Type 0 where
   pub target : Node
   pub is_source : slice_get ns x ≡ Some source
   pub is_target : slice_get ns y ≡ Some target
+  -- the first names a place that the second takes, or is a store that the second, a load, sees
   pub fed : feeds source target ≡ true
 
 -- an order of the nodes along the edges
 pub record Ranked (ns : List Node) (rank : ℕ → ℕ) : Type 0 where
+  -- what feeds a node stands before it
   pub rises : (x y : ℕ) → Edge ns x y → rank x < rank y
   -- so that no chain of edges is longer than `deepest`
   pub below : (x : ℕ) → rank x < 160

@@ -21,9 +21,13 @@ held_by entries name = Some (or_empty (held_among entries name))
 
 -- Files that give at most a piece a call and fail at the listed calls, numbered from 1.
 pub record ListedFiles : Type 0 where
+  -- each name with its bytes, the first entry of a name being the one that counts
   pub entries : List (List ℕ × List ℕ)
+  -- how many bytes a call gives at most
   pub piece : ℕ
+  -- the numbers of the calls that fail
   pub failing : List ℕ
+  -- how many calls were made, and how many of them failed
   pub calls : ℕ
   pub faults : ℕ
 

@@ -7,10 +7,15 @@ use Rattle.trips_outside.specs.MemoryFiles.{is_listed}
 -- A sink that takes at most a piece a call, has room for so many bytes in all, and fails at the
 -- listed calls, numbered from 1.
 pub record ListedSink : Type 0 where
+  -- what was taken so far
   pub written : List ℕ
+  -- how many bytes it takes in all
   pub room : ℕ
+  -- how many bytes a call takes at most
   pub piece : ℕ
+  -- the numbers of the calls that fail
   pub failing : List ℕ
+  -- how many calls were made, and how many of them failed
   pub calls : ℕ
   pub faults : ℕ
 
@@ -38,8 +43,11 @@ after_write sink bytes (Some count) = record sink {
 
 -- A sink that keeps the first bytes, up to its room, and counts the others.
 pub record KeepingSink : Type 0 where
+  -- the first bytes that were written
   pub kept : List ℕ
+  -- how many bytes it keeps at most
   pub room : ℕ
+  -- how many bytes were written besides, which nothing tells any more
   pub lost : ℕ
 
 -- all that was written, where all of it was kept

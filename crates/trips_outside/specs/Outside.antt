@@ -12,7 +12,9 @@ Rose before now = next_count before ≤ now
 
 -- The count does not fall, and a failure comes only where it rose.
 pub record HasCause {T E : Type 0} (before now : ℕ) (result : Result T E) : Type 0 where
+  -- no fault is taken back
   pub later : before ≤ now
+  -- an error has a fault behind it that was counted
   pub failed : OnErr result (Rose before now)
 
 -- These are the bytes, where they are told.

@@ -16,7 +16,9 @@ use Rattle.grid_machine_bound.specs.Traps.{is_trap}
 -- was fetched has been committed or flushed.
 pub record IsCountedRun (blocks : List Block) (bytes input : List ℕ) (seed budget : ℕ) (ended : Ending)
     (counts : Counts) : Type 0 where
+  -- the grid as the run leaves it, in the weather that the seed's generator draws
   pub grid : Grid PcgWeather
+  -- a run that was answered this ending has led to it
   pub ran : IsRan blocks bytes input budget seed (Some ended) grid
   pub counted : counts ≡ grid.counts
   -- a run that ends in no trap makes no more cycles than the blocks of the machine's trace cost

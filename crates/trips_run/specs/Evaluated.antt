@@ -31,12 +31,15 @@ HasNotEnded outcome = ⊥
 -- A run of a text ended with this status: the file is told to hold an accepted text, and the input is
 -- told, as far as they are; and the status says so of the evaluation.
 pub record RunEndsAs (held : List ℕ → Option (List ℕ)) (q : Request) (s : Status) : Type 0 where
+  -- the C text of the request's file, and the bytes of its input
   pub text : List ℕ
   pub input : List ℕ
   pub holds : Holds (origin_held held q.origin) text
   pub holds_input : HoldsInput q.input held input
+  -- the typed program that the front end makes of the text, which is what is evaluated
   pub program : TypedProgram
   pub accepted : IsAccepted text program
+  -- the text's tokens; their number bounds the steps that one block does
   pub tokens : Tokens
   pub lexed : Lexed most_tokens text tokens
   -- a block does no more steps than the text has tokens

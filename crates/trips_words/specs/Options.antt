@@ -41,6 +41,7 @@ counted other = codes "steps"
 -- What is said under the names of a command's options: each value if it is said, and whether a flag is.
 pub record Options : Type 0 where
   pub input : Option Text
+  -- how many blocks a run may make, or how many steps an evaluation
   pub number : Option Text
   pub place : Option Text
   pub seed : Option Text

@@ -47,12 +47,15 @@ rule_for (flag name) = record (new_rule name) {
   parser = Some parser.Bool;
 }
 
+-- the one argument without a name before it, which is the file
 abbrev pub file_rule : Rule
 file_rule = single file_name None (Some 1)
 
+-- all arguments of a command: its options, and its file behind them
 abbrev pub rules_for : List Named → List Rule
 rules_for options = map rule_for options ++ file_rule ∷ []
 
+-- the built command that has them, with no help of its own and nothing below it
 abbrev pub shape_for : Text → List Named → Shape
 shape_for name options = record (new_shape name) {
   rules = rules_for options;
@@ -63,8 +66,11 @@ shape_for name options = record (new_shape name) {
 
 -- the command is simple, is built as above, and has no option under the name of its file
 pub record IsRead (name : Text) (options : List Named) : Type 0 where
+  -- the library's build of the raw command is the one that is stated here
   pub builds : built (raw_app name options) ≡ (record { top = shape_for name options; subs = [] })
+  -- the library's contract for simple commands says how its words are read
   pub simple : is_simple_and_free (raw_app name options) ≡ true
+  -- no option has the name under which the file is said
   pub no_file : named file_name options ≡ None
 
 -- the name is that of a flag

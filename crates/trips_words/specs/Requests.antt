@@ -41,11 +41,16 @@ command_of verb.Check = command.Check
 pub record Request : Type 0 where
   pub command : Command
   pub file : Text
+  -- how many functions the benchmark's text has; none where a file is read
   pub functions : Option ℕ
   pub input : Option Text
+  -- how many blocks a run may make, or how many steps an evaluation
   pub most : ℕ
+  -- without a number instructions are placed greedily
   pub place : Option ℕ
   pub seed : ℕ
+  -- what is shown behind the ending of a run: registers, committed blocks with their exits, and the
+  -- grid's counts
   pub regs : Bool
   pub trace : Bool
   pub cycles : Bool

@@ -60,6 +60,7 @@ behind_dashes word = None
 abbrev pub name_in : Text → Text
 name_in text = before_first (λ x. x == 61) text
 
+-- what stands behind a first `=`, which may be nothing
 abbrev pub value_in : Text → Option Text
 value_in text =
     if list_any (λ x. x == 61) text then Some (after_first (λ x. x == 61) text) else None

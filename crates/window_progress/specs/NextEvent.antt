@@ -32,9 +32,11 @@ lowest test (suc n) k = cond (test k) (Some k) (lowest test n (suc k))
 unfoldable pub slots : ℕ
 slots = 128
 
+-- the reads of a block at most, all of which are searched
 unfoldable pub reads : ℕ
 reads = 32
 
+-- the places of tokens on their way in a frame, all of which are searched
 unfoldable pub places : ℕ
 places = 320
 

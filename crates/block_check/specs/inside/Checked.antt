@@ -18,11 +18,13 @@ use Rattle.block_cases.specs.Orders.{IsInOrder}
 
 -- the first slot with a bad target, where no read has one
 pub record BadInst (b : Block) (j : ℕ) : Type 0 where
+  -- bad targets of reads are answered before those of slots
   pub reads : NoneBelow (bad_read b) (length b.reads.items)
   pub inst : IsLeast (bad_inst b) 128 j
 
 -- the first slot with a bad number, where no target is bad
 pub record BadInstNumber (b : Block) (j : ℕ) : Type 0 where
+  -- no target of a read or a slot is bad
   pub reads : NoneBelow (bad_read b) (length b.reads.items)
   pub insts : NoneBelow (bad_inst b) 128
   pub number : IsLeast (bad_number b) 128 j
@@ -68,8 +70,10 @@ fault_of net.TwoExits = TwoExits
 
 -- a fault of the third to the eighth kind
 pub record IsCaseFault (b : Block) (f : CheckFault) : Type 0 where
+  -- no fault of the first two kinds, of targets and numbers, is there
   pub in_order : IsInOrder b
   pub fault : NodeFault
+  -- the first fault of the block's nodes
   pub is_fault : IsFault (nodes_of b) (wanted_of b) fault
   pub said : f ≡ fault_of fault
 

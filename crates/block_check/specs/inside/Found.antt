@@ -38,19 +38,28 @@ any c = true
 -- what is known after these cases were visited, where more than 256 are not told apart
 pub record Added (ns : List Node) (cs : List (List Bool)) (count count' : ℕ) (two two' none none' :
     List Bool) : Type 0 where
+  -- the count of cases never falls
   pub more : count ≤ count'
+  -- a count above 256 is not exact; it only says that more than 256 cases were met
   pub many : 256 < count' → 256 < count + tally any cs
+  -- a count of at most 256 has counted each of these cases
   pub few : count' ≤ 256 → count' ≡ count + tally any cs
+  -- a place is marked where it was, or gets two tokens in one of these cases
   pub twos : count' ≤ 256 → (q : ℕ) → q < PLACES → bit two' q ≡ (bit two q
       || nat_lt 0 (tally (gets_two ns q) cs))
+  -- and in the other table where it was, or gets none in one of these
   pub nones : count' ≤ 256 → (q : ℕ) → q < PLACES → bit none' q ≡ (bit none q
       || nat_lt 0 (tally (gets_none ns q) cs))
 
 -- what is known of all cases
 pub record Explored (ns : List Node) (count : ℕ) (two none : List Bool) : Type 0 where
+  -- more than 256 were counted only where there are as many
   pub many : 256 < count → 256 < cases ns
+  -- else exactly the block's cases were counted
   pub few : count ≤ 256 → cases ns ≡ count
+  -- the marks say exactly which places get two tokens in some case
   pub twos : count ≤ 256 → (q : ℕ) → q < PLACES → bit two q ≡ true → GetsTwo ns q
   pub no_twos : count ≤ 256 → (q : ℕ) → q < PLACES → bit two q ≡ false → GetsTwo ns q → ⊥
+  -- and which get none in some case
   pub nones : count ≤ 256 → (q : ℕ) → q < PLACES → bit none q ≡ true → GetsNone ns q
   pub no_nones : count ≤ 256 → (q : ℕ) → q < PLACES → bit none q ≡ false → GetsNone ns q → ⊥

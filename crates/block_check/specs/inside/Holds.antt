@@ -20,6 +20,7 @@ first_chunks here (b ∷ bs) = here ∷ first_chunks (here + chunks b) bs
 -- the image was checked, and `starts` tells where its blocks begin
 pub record IsIndexed (blocks : List Block) (starts bytes : List ℕ) : Type 0 where
   pub checked : IsCheckedImage (image_of blocks bytes)
+  -- the chunk of each block, by its number
   pub starts_are : starts ≡ first_chunks 0 blocks
 
 -- why the block of this number ends the making of an image

@@ -15,24 +15,31 @@ FalseBelow end l = (q : ℕ) → q < end → bit l q ≡ false
 
 -- the least place that gets two tokens
 pub record FirstTwo (ns : List Node) (q : ℕ) : Type 0 where
+  -- no fault of a lower number is there: no cycle, and no more than 256 cases
   pub acyclic : IsAcyclic ns
   pub few : cases ns ≤ 256
+  -- the exit is judged by itself
   pub below : q < EXIT
   pub two : GetsTwo ns q
+  -- no lower place gets two
   pub least : (p : ℕ) → p < q → GetsTwo ns p → ⊥
 
 -- the least wanted place that gets no token, where none gets two
 pub record FirstGap (ns : List Node) (wanted : ℕ → Bool) (q : ℕ) : Type 0 where
+  -- no fault of a lower number is there
   pub acyclic : IsAcyclic ns
   pub few : cases ns ≤ 256
   pub no_two : NoTwo ns
+  -- the exit is judged by itself
   pub below : q < EXIT
   pub is_wanted : wanted q ≡ true
   pub none : GetsNone ns q
+  -- no lower wanted place gets none
   pub least : (p : ℕ) → p < q → wanted p ≡ true → GetsNone ns p → ⊥
 
 -- no branch fires in some case, where nothing else is at fault
 pub record LacksExit (ns : List Node) (wanted : ℕ → Bool) : Type 0 where
+  -- no fault of a lower number is there
   pub acyclic : IsAcyclic ns
   pub few : cases ns ≤ 256
   pub no_two : NoTwo ns
@@ -41,10 +48,12 @@ pub record LacksExit (ns : List Node) (wanted : ℕ → Bool) : Type 0 where
 
 -- two branches fire in some case, where nothing else is at fault
 pub record HasTwoExits (ns : List Node) (wanted : ℕ → Bool) : Type 0 where
+  -- no fault of a lower number is there
   pub acyclic : IsAcyclic ns
   pub few : cases ns ≤ 256
   pub no_two : NoTwo ns
   pub no_gap : NoGap ns wanted
+  -- in each case some branch fires
   pub exit : GetsNone ns EXIT → ⊥
   pub two : GetsTwo ns EXIT
 

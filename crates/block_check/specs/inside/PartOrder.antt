@@ -16,6 +16,7 @@ unplaced (r ∷ rs) = one_if (r == 255) + unplaced rs
 
 -- a node that is not placed feeds this one
 pub record Stuck (ns : List Node) (ranks : List ℕ) (n : Node) : Type 0 where
+  -- the node that feeds it, by its number
   pub source : ℕ
   pub node : Node
   pub is_node : slice_get ns source ≡ Some node
@@ -29,14 +30,20 @@ pub record Placed (ns : List Node) (ranks order : List ℕ) (x : ℕ) (placed : 
 
 -- an order along the edges of `placed` of the nodes
 pub record PartOrder (ns : List Node) (ranks order : List ℕ) (placed : ℕ) : Type 0 where
+  -- the rank of each node by its number, and the node at each rank
   pub ranks_size : length ranks ≡ length ns
   pub order_size : length order ≡ length ns
+  -- a node with a rank stands in the order at it
   pub ranked : (x : ℕ) → x < length ns → slice_index ranks x < 255 → Placed ns ranks order x placed
+  -- a rank is below 255, or says that the node is not placed
   pub either : (x : ℕ) → slice_index ranks x ≤ 255
+  -- the first `placed` entries of the order are nodes, each at its own rank
   pub in_order : (k : ℕ) → k < placed → slice_index order k < length ns
   pub ordered : (k : ℕ) → k < placed → slice_index ranks (slice_index order k) ≡ k
+  -- what feeds a placed node is placed, and before it
   pub rises : (x y : ℕ) → Edge ns x y → slice_index ranks y < 255 →
       slice_index ranks x < slice_index ranks y
+  -- all others are left
   pub left : placed + unplaced ranks ≡ length ns
 
 -- each node that is not placed waits for another one

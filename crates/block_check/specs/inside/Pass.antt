@@ -10,9 +10,12 @@ use Rattle.block_cases.specs.CaseRule.{pulled, first}
 
 -- the places of a node lie within the tables
 pub record InPlace (n : Node) : Type 0 where
+  -- its slot, or `PLACES` for a read
   pub slot : n.slot < 512
+  -- a place of the block, or `NO_PLACE`
   pub first : n.first < 768
   pub second : n.second < 768
+  -- the place below which it sees stores, as a load does, or 0
   pub below : n.below < 768
 
 -- so do those of each node
@@ -21,6 +24,7 @@ AllInPlace ns = All InPlace ns
 
 -- an empty slot: it names no place
 pub record IsSpare (n : Node) : Type 0 where
+  -- it takes nothing and gives nothing
   pub role : n.role ≡ Empty
   pub first : n.first ≡ NO_PLACE
   pub second : n.second ≡ NO_PLACE

@@ -33,5 +33,7 @@ zeros (suc n) = false ∷ zeros n
 
 -- an order of all nodes
 pub record Order (ns : List Node) (rank : ℕ → ℕ) (order : List ℕ) : Type 0 where
+  -- no node stands before one of a lower rank, and none stands twice
   pub sorted : Sorted rank order
+  -- each node is in it
   pub whole : (x : ℕ) → x < length ns → names order x ≡ true

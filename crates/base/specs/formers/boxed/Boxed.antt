@@ -22,9 +22,11 @@ use Rattle.base.specs.declared.boxed.Boxed.TheView.{view, invariant}
 use Rattle.base.specs.contracts.boxed.Boxed as C
 use Rattle.base.specs.contracts.boxed.Boxed.TheInside as I
 
+-- a box is seen as the value that it holds, so that it adds no shape of its own to it
 abbrev pub the_former : Former {0} → Former {0}
 the_former g = g
 
+-- it weighs what that value weighs
 abbrev pub the_weighed : {g : Former {0}} → Weighed g → Weighed (the_former g)
 the_weighed w = w
 
@@ -47,11 +49,13 @@ module _ (R S : RattleType) (h : R.Denot → S.Denot) where
     shr_same = λ b i. (box_of (one_value R (a.mir_same i) (a.own_same b.value i) (a.shr_same b.value i) gnil)).shr_at (with_value b tt);
   }
 
+  -- boxes of two types that are laid out, owned and lent alike are so too
   pub the_places : Alike R S h → Alike (C.the_row R) (C.the_row S) ((the_former this).map R.Denot S.Denot h)
   the_places a = view_places fields this view (λ X Y k u. refl) (λ X u. refl) R.Denot S.Denot h (C.the_row R).coded (C.the_row S).coded
       (invariant R.Denot) (invariant S.Denot) (λ u p q. refl) (λ u p q. refl) (λ u e. tt) (λ u e. tt)
       (over (I.the_row R)) (over (I.the_row S))
       (struct_places (I.the_type R) (I.the_type S) ((λ b. with_value b (h b.value)), tt) _ (λ d. refl) refl (laid _ _ _ (box_places a), tt))
 
+  -- where what they hold is coded alike, so are the boxes
   pub the_codes_placed : Recodes R S h → Recodes (C.the_row R) (C.the_row S) ((the_former this).map R.Denot S.Denot h)
   the_codes_placed e d = e d

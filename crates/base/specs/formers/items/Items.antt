@@ -19,18 +19,23 @@ use Rattle.base.specs.declared.items.Items.TheView.{view, invariant}
 use Rattle.base.specs.contracts.items.Items as C
 use Rattle.base.specs.contracts.items.Items.TheInside as I
 
+-- items are seen as their list: its shape is its length, and it contains each of them
 abbrev pub the_former : Former {0} → Former {0}
 the_former g = list g
 
+-- it weighs as much as the heaviest of them
 abbrev pub the_weighed : {g : Former {0}} → Weighed g → Weighed (the_former g)
 the_weighed w = w_list w
 
+-- a list that contains none of the type, from which a recursive type can begin
 pub the_empty : List ⊥
 the_empty = []
 
+-- what it contains, in order: the list itself
 abbrev pub the_items : (X : Type 0) → List X → List X
 the_items X d = d
 
+-- so the contained values, read off the shape, are that list
 pub the_items_listed : (X : Type 0) (d : List X) → listed _ (children (the_former this) X d) ≡ the_items X d
 the_items_listed X d = list-listed X d
 
@@ -38,11 +43,13 @@ abbrev fields : Former {0}
 fields = via (vec.the_former this Global) Inside (λ X a. a.items) (λ X v. record { items = v }) (λ X a. refl) (λ X v. refl)
 
 module _ (R S : RattleType) (h : R.Denot → S.Denot) where
+  -- items of two types that are laid out, owned and lent alike are so too
   pub the_places : Alike R S h → Alike (C.the_row R) (C.the_row S) ((the_former this).map R.Denot S.Denot h)
   the_places a = view_places fields (list this) view (λ X Y k u. refl) (λ X u. refl) R.Denot S.Denot h (C.the_row R).coded (C.the_row S).coded
       (invariant R.Denot) (invariant S.Denot) (λ u p q. refl) (λ u p q. refl) (λ u e. tt) (λ u e. tt)
       (over (I.the_row R)) (over (I.the_row S))
       (struct_places (I.the_type R) (I.the_type S) (vec.mapped h, tt) _ (λ d. refl) refl (laid _ _ _ (vec.the_places heap.the_row ghosts R S h a), tt))
 
+  -- where the items are coded alike, so are their lists
   pub the_codes_placed : Recodes R S h → Recodes (C.the_row R) (C.the_row S) ((the_former this).map R.Denot S.Denot h)
   the_codes_placed e d = sym (code_map R.coded.code S.coded.code h (λ x. sym (e x)) d)
