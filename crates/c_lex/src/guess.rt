@@ -8,7 +8,7 @@ ghost use Rattle.c_lex.specs.Tables.{lookup, keywords, marks};
 ghost use Rattle.c_lex.specs.Guesses.{spread_of, key_guess, mark_guess, row_at};
 
 use crate::table::{KEYWORDS, MARKS};
-use c_tree::{Key, Mark};
+use c_tree::{Key, Mark, same_bytes};
 
 /// For each spread the row of the keyword that may have it, or 255.
 pub const KEY_ROWS: [u8; 256] = [
@@ -88,7 +88,11 @@ fn row_at<T: Copy>(table: &[(&[u8], T)], at: usize, bytes: &[u8]) -> Option<T>
         return None;
     }
     let row = &table[at];
-    if row.0 == bytes { Some(row.1) } else { None }
+    if same_bytes(row.0, bytes) {
+        Some(row.1)
+    } else {
+        None
+    }
 }
 
 /// The keyword that the word is, if it is one.

@@ -33,17 +33,11 @@ pub fn add(
         ++ (record { binding = binding; hidden = h }) ∷ [])) }
     ensures err { OnErr result (entries.new.items ≡ entries.old.items) }
 {
-    let hidden = newest.get(&binding.name).copied();
     let key = binding.name.copy(alloc)?;
-    let at = entries.len();
-    entries.push(Entry { binding, hidden })?;
-    match newest.insert(key, at) {
-        Ok(_) => Ok(()),
-        Err(_) => {
-            entries.pop();
-            Err(AllocError)
-        }
-    }
+    entries.reserve(1)?;
+    let hidden = newest.insert(key, entries.len())?;
+    entries.push_reserved(Entry { binding, hidden });
+    Ok(())
 }
 
 /// Brings back what an entry hid.

@@ -23,4 +23,4 @@ pub use typed::{
     Callee, Place, Slot, TypedArray, TypedExpr, TypedForInit, TypedFunc, TypedGlobal, TypedNode,
     TypedProgram, TypedSection, TypedStmt,
 };
-pub use word::Word;
+pub use word::{Word, same_bytes};

@@ -1,0 +1,51 @@
+-- A run of spaces is passed by.
+use Rattle.std.proofs.Common.{◌≡◌, ℕ, suc, ◌+◌, Bool, true, false, [], ◌∷◌, take}
+use Rattle.std.proofs.Common.{drop, refl, sym, ap, subst, cond}
+use Rattle.c_lex.specs.declared.piece.Reading.TheVariants as reads
+use Rattle.c_lex.specs.Bytes.{Bytes, by_class, is_space, feeds, still_empty}
+use Rattle.c_lex.specs.Runs.{run_len}
+use Rattle.c_lex.specs.Spaces.{begins_space, spaces, after_spaces}
+use Rattle.c_lex.specs.Pieces.{Longest}
+use Rattle.c_lex.specs.Turns.{Place, Moved}
+use Rattle.c_lex.proofs.Fronts.{space_front}
+
+-- the spaces are the longest run, whatever came before
+run_is : (last : ℕ) (bs : Bytes) → spaces bs ≡ take (run_len (by_class is_space) last bs) bs
+run_is last [] = refl
+run_is last (b ∷ bs) = let h = run_is b bs in
+    elim (is_space b) as (λ v. cond v (b ∷ spaces bs) []
+    ≡ take (cond v (suc (run_len (by_class is_space) b bs)) 0) (b ∷ bs))
+    [ true ↦ ap (λ (x : Bytes). b ∷ x) h | false ↦ refl ]
+
+rest_is : (last : ℕ) (bs : Bytes) → after_spaces bs ≡ drop (run_len (by_class is_space) last bs) bs
+rest_is last [] = refl
+rest_is last (b ∷ bs) = let h = rest_is b bs in
+    elim (is_space b) as (λ v. cond v (after_spaces bs) (b ∷ bs)
+    ≡ drop (cond v (suc (run_len (by_class is_space) b bs)) 0) (b ∷ bs))
+    [ true ↦ h | false ↦ refl ]
+
+-- they are the longest piece where one stands at the front
+pub spaces_longest : (starts : Bool) (bs : Bytes) → begins_space bs ≡ true
+    → Longest starts bs (spaces bs) (after_spaces bs) reads.Gap
+spaces_longest starts [] e = absurd (cc)
+spaces_longest starts (b ∷ bs) e =
+    rw e (subst (λ (p : Bytes). Longest starts (b ∷ bs) (b ∷ p) (after_spaces bs) reads.Gap)
+    (sym (run_is b bs))
+    (subst (λ (r : Bytes). Longest starts (b ∷ bs) (b ∷ take (run_len (by_class is_space) b bs) bs) r reads.Gap)
+    (sym (rest_is b bs)) (space_front starts b bs e)))
+
+-- the place behind them
+pub passed : (most : ℕ) (old new : Place) → begins_space old.rest ≡ true
+    → new.line ≡ old.line + feeds (spaces old.rest)
+    → new.starts ≡ still_empty old.starts (spaces old.rest)
+    → new.rest ≡ after_spaces old.rest → new.tokens ≡ old.tokens → Moved most old new
+passed most old new begins line starts rest tokens =
+    record {
+      piece = spaces old.rest;
+      reading = reads.Gap;
+      longest = subst (λ (r : Bytes). Longest old.starts old.rest (spaces old.rest) r reads.Gap)
+          (sym rest) (spaces_longest old.starts old.rest begins);
+      line_is = line;
+      starts_is = starts;
+      grows = tokens;
+    }
