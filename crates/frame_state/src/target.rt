@@ -139,9 +139,7 @@ fn read_target(read: ReadSlot, first: bool) -> usize
     }
 }
 
-// The place that a node of the block names first or second: that of a read is asked for seldom.
-#[cold]
-#[inline(never)]
+// The place that a node of the block names first or second.
 fn node_target(block: &Block, node: usize, first: bool) -> usize
     ensures { result ≡ named_at (slice_get (nodes_of block.now) node) first }
 {
@@ -151,6 +149,15 @@ fn node_target(block: &Block, node: usize, first: bool) -> usize
     } else {
         slot_target(block, node - reads.len(), first)
     }
+}
+
+// The same, for a token of a read, of which fewer come than of tokens of slots.
+#[cold]
+#[inline(never)]
+fn far_target(block: &Block, node: usize, first: bool) -> usize
+    ensures { result ≡ named_at (slice_get (nodes_of block.now) node) first }
+{
+    node_target(block, node, first)
 }
 
 /// The places that a read names first and second.
@@ -173,6 +180,6 @@ pub fn target(block: &Block, p: usize) -> usize
     if p < 256 {
         slot_target(block, p / 2, p % 2 == 0)
     } else {
-        node_target(block, (p - 256) / 2, p % 2 == 0)
+        far_target(block, (p - 256) / 2, p % 2 == 0)
     }
 }
