@@ -1,12 +1,11 @@
 //! What a frame in flight holds, and how it changes where the instruction is at hand.
-ghost use Rattle.std.specs.Prelude.{◌≡◌, ◌<◌, ◌+◌, ◌*◌, ◌^◌, suc, Some, None, true, is_some, slice_set};
+ghost use Rattle.std.specs.Prelude.{◌≡◌, ◌<◌, ◌+◌, ◌*◌, ◌^◌, Some, None, true, is_some, slice_set};
 ghost use Rattle.trips_isa.specs.Forms.{form_of};
 ghost use Rattle.trips_isa.specs.Places.{first_place, place_at};
 ghost use Rattle.trips_isa.specs.Stores.{stored_of};
 ghost use Rattle.trips_isa.specs.declared.block.Token.TheVariants.{Word};
 ghost use Rattle.commit_flush_spec.specs.Marks.{mark_stored, mark_left};
-ghost use Rattle.commit_flush_spec.specs.Frames.{at, is_target};
-ghost use Rattle.commit_flush_spec.specs.Sending.{put_if};
+ghost use Rattle.commit_flush_spec.specs.Frames.{at};
 ghost use Rattle.frame_state.specs.Held.{taken_of, exit_of, filled};
 ghost use Rattle.frame_state.specs.Moves.{slot_token, slot_mark, sent_to, sent_by, fired_by, fired_if, fired_slot};
 ghost use Rattle.frame_state.specs.Moves.{moved, closed};
@@ -15,6 +14,7 @@ use crate::giving::slot_gives;
 use crate::marks::MarkTable;
 use crate::parts::{Departure, Took};
 use crate::rule::{can_fault, mark, stored};
+use crate::sending::put_both;
 use crate::spots::Spots;
 use crate::target::{first_place, place_at};
 use bit_rows::{Flags, Row};
@@ -62,27 +62,6 @@ impl Model for Body {
       exit = exit_of b.exit;
       marks = b.marks;
     } };
-}
-
-// Puts a token in a place, if the target is one that tokens are delivered to.
-#[inline(always)]
-fn put_if(places: &mut Row<Token, 320, 5>, target: usize, p: usize, token: Token)
-    ensures { places.new ≡ put_if (is_target target) places.old p token }
-{
-    if target < 416 {
-        places.put(p, token);
-    }
-}
-
-// Puts a token in the two places of its node, as far as their targets are there.
-#[inline(always)]
-fn put_both(places: &mut Row<Token, 320, 5>, targets: (usize, usize), p: usize, token: Token)
-    requires { p < 1000 }
-    ensures { places.new
-        ≡ put_if (is_target targets.1) (put_if (is_target targets.0) places.old p token) (suc p) token }
-{
-    put_if(places, targets.0, p, token);
-    put_if(places, targets.1, p + 1, token);
 }
 
 impl Body {

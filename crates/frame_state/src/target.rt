@@ -140,6 +140,7 @@ fn read_target(read: ReadSlot, first: bool) -> usize
 }
 
 // The place that a node of the block names first or second.
+#[inline(always)]
 fn node_target(block: &Block, node: usize, first: bool) -> usize
     ensures { result ≡ named_at (slice_get (nodes_of block.now) node) first }
 {
