@@ -62,7 +62,7 @@ impl Window {
         match e {
             Event::Fire { frame, slot } => self.try_fire(frame, slot),
             Event::Deliver { token } => self.try_deliver(token),
-            _ => self.ask_event(e),
+            other => self.ask_event(other),
         }
     }
 

@@ -1,7 +1,7 @@
 -- What a frame answers that is tried: what was found of it is what its causes ask.
 use Rattle.std.proofs.Common.{◌≡◌, ℕ, Bool, true, false, cond, ◌||◌, List, Option, Some, None, slice_get, slice_index_or}
 use Rattle.std.proofs.Common.{refl, sym, ap, ap₂, ◌∙◌}
-use Rattle.std.specs.Prelude.{is_none}
+use Rattle.std.specs.Prelude.{is_none, is_some}
 use Rattle.trips_isa.specs.declared.block.Inst.{Inst}
 use Rattle.trips_isa.specs.declared.block.Block.{Block}
 use Rattle.trips_isa.specs.Rule.{Answer}
@@ -24,7 +24,7 @@ unfired true z i e = absurd (cc)
 unfired false z i e = (refl, sym e)
 
 -- where the instruction of a slot is found, its token says whether it fires
-pub answers_fire : (b : Block) (h : Held) (s : ℕ) (i : Inst) (t : Answer)
+answers_fire : (b : Block) (h : Held) (s : ℕ) (i : Inst) (t : Answer)
     → Some i ≡ cond (slice_index_or h.fired s false) None (slot_of b s) → t ≡ slot_token h i s 0 → (o : Older)
     → cond (is_none t) (NotNow NotReady) Done ≡ can_fire s o (running b h)
 answers_fire b h s i t found e o =
@@ -32,6 +32,19 @@ answers_fire b h s i t found e o =
     ap (λ x. cond (is_none x) (NotNow NotReady) Done) (e ∙ sym (token_is b s i u.1 false h 0))
     ∙ sym (ap₂ (λ x y. cond (is_none x || y) (NotNow NoInst)
     (cond (is_none (token_with (running b h) (slot_node b s) 0)) (NotNow NotReady) Done)) u.1 u.0)
+
+-- a token is there or it is not
+by_token : (t : Answer) → cond (is_some t) Done (NotNow NotReady) ≡ cond (is_none t) (NotNow NotReady) Done
+by_token None = refl
+by_token (Some t) = refl
+
+-- and so does whether there is one
+pub answers_fired : (b : Block) (h : Held) (s : ℕ) (i : Inst) (z : Bool)
+    → Some i ≡ cond (slice_index_or h.fired s false) None (slot_of b s) → z ≡ is_some (slot_token h i s 0)
+    → (o : Older) → cond z Done (NotNow NotReady) ≡ can_fire s o (running b h)
+answers_fired b h s i z found e o =
+    ap (λ x. cond x Done (NotNow NotReady)) e ∙ by_token (slot_token h i s 0)
+    ∙ answers_fire b h s i (slot_token h i s 0) found refl o
 
 -- a frame that runs, with its block
 pub going_is : (blocks : List Block) (b : Block) (h : Held) (p : Phase) → p ≡ Going h

@@ -34,15 +34,15 @@ fn fire_running(frame: &mut Running, block: &Block, slot: u8) -> Happened
     ensures same { Leaves (as_happened result) frame.old frame.new }
     ensures stays { Stays frame.old frame.new }
 {
-    match frame.held().waiting_inst(block, slot) {
+    match frame.held().waiting_at(block, slot) {
         None => Happened::NotNow(Cause::NoInst),
-        Some(inst) => match frame.held().token_of(inst, slot, 0) {
-            None => Happened::NotNow(Cause::NotReady),
-            Some(token) => {
-                frame.fire_with(block, inst, slot, token);
+        Some(inst) => {
+            if frame.fire_if(block, inst, slot) {
                 Happened::Done
+            } else {
+                Happened::NotNow(Cause::NotReady)
             }
-        },
+        }
     }
 }
 

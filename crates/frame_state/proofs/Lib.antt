@@ -12,4 +12,5 @@ pub mod OutputFacts
 pub mod LeastFacts
 pub mod StandardFacts
 pub mod LackFacts
+pub mod FiringFacts
 pub mod GivingFacts

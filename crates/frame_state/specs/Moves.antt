@@ -1,5 +1,5 @@
 -- What the events of a frame do to what it holds, where the instruction is at hand.
-use Rattle.std.specs.Prelude.{ℕ, suc, ◌+◌, ◌*◌, Option, Some, None, slice_set}
+use Rattle.std.specs.Prelude.{ℕ, suc, ◌+◌, ◌*◌, Option, Some, None, true, slice_set}
 use Rattle.trips_isa.specs.declared.block.Token.{Token}
 use Rattle.trips_isa.specs.declared.block.Inst.{Inst}
 use Rattle.trips_isa.specs.declared.form.Form.{Form}
@@ -49,6 +49,11 @@ fired_by _ i s h = sent_by i s (slot_token h i s 0) (slot_mark h i s) h
 abbrev pub fired_slot : Option Inst → ℕ → Held → Held
 fired_slot None s h = h
 fired_slot (Some i) s h = fired_by (form_of i.op) i s h
+
+-- the instruction i of slot s fires where it gives a token, and else nothing happens
+abbrev pub fired_if : Answer → Inst → ℕ → Held → Held
+fired_if None i s h = h
+fired_if (Some t) i s h = fired_by (form_of i.op) i s (record h { fired = slice_set h.fired s true })
 
 -- the token of place p comes to place q of the block
 abbrev pub moved : ℕ → ℕ → Answer → Held → Held

@@ -1,19 +1,20 @@
 //! What a frame in flight holds, and how it changes where the instruction is at hand.
-ghost use Rattle.std.specs.Prelude.{◌≡◌, ◌<◌, ◌+◌, ◌*◌, ◌^◌, suc, Some, None, true, slice_set};
+ghost use Rattle.std.specs.Prelude.{◌≡◌, ◌<◌, ◌+◌, ◌*◌, ◌^◌, Some, None, true, is_some, slice_set};
 ghost use Rattle.trips_isa.specs.Forms.{form_of};
+ghost use Rattle.trips_isa.specs.Places.{first_place, place_at};
 ghost use Rattle.trips_isa.specs.Stores.{stored_of};
 ghost use Rattle.trips_isa.specs.declared.block.Token.TheVariants.{Word};
 ghost use Rattle.commit_flush_spec.specs.Marks.{mark_stored, mark_left};
-ghost use Rattle.commit_flush_spec.specs.Frames.{at, is_target};
-ghost use Rattle.commit_flush_spec.specs.Sending.{put_if};
+ghost use Rattle.commit_flush_spec.specs.Frames.{at};
 ghost use Rattle.frame_state.specs.Held.{taken_of, exit_of, filled};
-ghost use Rattle.frame_state.specs.Moves.{slot_token, slot_mark, sent_to, sent_by, fired_by, fired_slot};
+ghost use Rattle.frame_state.specs.Moves.{slot_token, slot_mark, sent_to, sent_by, fired_by, fired_if, fired_slot};
 ghost use Rattle.frame_state.specs.Moves.{moved, closed};
 
 use crate::giving::slot_gives;
 use crate::marks::MarkTable;
 use crate::parts::{Departure, Took};
 use crate::rule::{can_fault, mark, stored};
+use crate::sending::put_both;
 use crate::spots::Spots;
 use crate::target::{first_place, place_at};
 use bit_rows::{Flags, Row};
@@ -61,25 +62,6 @@ impl Model for Body {
       exit = exit_of b.exit;
       marks = b.marks;
     } };
-}
-
-// Puts a token in a place, if the target is one that tokens are delivered to.
-fn put_if(places: &mut Row<Token, 320, 5>, target: usize, p: usize, token: Token)
-    ensures { places.new ≡ put_if (is_target target) places.old p token }
-{
-    if target < 416 {
-        places.put(p, token);
-    }
-}
-
-// Puts a token in the two places of its node, as far as their targets are there.
-fn put_both(places: &mut Row<Token, 320, 5>, targets: (usize, usize), p: usize, token: Token)
-    requires { p < 1000 }
-    ensures { places.new
-        ≡ put_if (is_target targets.1) (put_if (is_target targets.0) places.old p token) (suc p) token }
-{
-    put_if(places, targets.0, p, token);
-    put_if(places, targets.1, p + 1, token);
 }
 
 impl Body {
@@ -146,8 +128,10 @@ impl Body {
     }
 
     // The mark of that, whatever marks were set.
-    fn find_mark(&self, inst: Inst, slot: u8) -> u8
-        ensures value { result ≡ slot_mark self.now inst slot }
+    #[cold]
+    #[inline(never)]
+    fn find_mark(&self, inst: &Inst, slot: u8) -> u8
+        ensures value { result ≡ slot_mark self.now inst.now slot }
     {
         let slot = slot as usize;
         let left = self.spots.get(slot);
@@ -157,7 +141,7 @@ impl Body {
         let right_mark = self.marks.spot(128 + slot);
         let predicate_mark = self.marks.spot(256 + slot);
         mark(
-            inst,
+            *inst,
             left,
             right,
             predicate,
@@ -165,11 +149,11 @@ impl Body {
         )
     }
 
-    /// The mark of that: 0 where no mark was set and the instruction cannot fault.
+    // The mark of that, where the instruction stands: 0 where no mark was set and it cannot fault.
     #[tactic(auto, using(crate::proofs::BareFacts::no_mark))]
     #[inline]
-    pub fn mark_of(&self, inst: Inst, slot: u8) -> u8
-        ensures value { result ≡ slot_mark self.now inst slot }
+    fn mark_from(&self, inst: &Inst, slot: u8) -> u8
+        ensures value { result ≡ slot_mark self.now inst.now slot }
     {
         if self.marks.is_marked() {
             self.find_mark(inst, slot)
@@ -180,7 +164,16 @@ impl Body {
         }
     }
 
+    /// The mark of what the instruction of a slot gives.
+    #[inline]
+    pub fn mark_of(&self, inst: Inst, slot: u8) -> u8
+        ensures value { result ≡ slot_mark self.now inst slot }
+    {
+        self.mark_from(&inst, slot)
+    }
+
     // Puts a token with its mark on its way from place p on.
+    #[inline(always)]
     fn send(&mut self, p: usize, targets: (usize, usize), token: Token, mark: u8)
         requires { p < 1000 }
         ensures { self.new ≡ sent_to p targets.0 targets.1 token mark self.old }
@@ -194,7 +187,7 @@ impl Body {
         ensures { self.new ≡ sent_by inst slot token mark self.old }
     {
         if let Some(token) = token {
-            let targets = (first_place(inst), place_at(inst.second));
+            let targets = (first_place(&inst), place_at(inst.second));
             self.send(2 * slot as usize, targets, token, mark);
         }
     }
@@ -238,37 +231,53 @@ impl Body {
         }
     }
 
-    // Sends the token that an instruction of a slot gives.
-    fn send_token(&mut self, inst: Inst, slot: u8, token: Token)
-        requires { slot_token self.old inst slot 0 ≡ Some token }
-        ensures { self.new
-            ≡ sent_by inst slot (slot_token self.old inst slot 0) (slot_mark self.old inst slot) self.old }
+    // Sends a token with its mark from the instruction of a slot, whose first place is that of its first target.
+    #[inline]
+    fn send_token(&mut self, inst: &Inst, slot: u8, token: Token, mark: u8)
+        requires { first_place (form_of inst.now.op) inst.now.number inst.now.first ≡ place_at inst.now.first }
+        ensures { self.new ≡ sent_by inst.now slot (Some token) mark self.old }
     {
-        let mark = self.mark_of(inst, slot);
-        let targets = (first_place(inst), place_at(inst.second));
+        let targets = (place_at(inst.first), place_at(inst.second));
         self.send(2 * slot as usize, targets, token, mark);
     }
 
-    // Fires an instruction that gives this token.
-    fn fire_token(&mut self, inst: Inst, slot: u8, token: Token)
-        requires { slot_token self.old inst slot 0 ≡ Some token }
-        ensures { self.new ≡ fired_by (form_of inst.op) inst slot self.old }
+    /// Fires a slot that holds this instruction, which gives this token. That it has fired is noted once its form is known.
+    #[inline]
+    pub(crate) fn fire_given(&mut self, inst: &Inst, slot: u8, token: Token)
+        requires { slot_token self.old inst.now slot 0 ≡ Some token }
+        ensures value { self.new ≡ fired_by (form_of inst.now.op) inst.now slot
+            (record self.old { fired = slice_set self.old.fired slot true }) }
     {
         match form_of(inst.op) {
-            Form::Load | Form::Store => self.requests.put(inst.number as usize, slot),
-            Form::Branch => self.leaving = Some(slot),
-            Form::General | Form::Immediate | Form::Constant => self.send_token(inst, slot, token),
+            Form::Load | Form::Store => {
+                self.note_fired(slot);
+                self.requests.put(inst.number as usize, slot);
+            }
+            Form::Branch => {
+                self.note_fired(slot);
+                self.leaving = Some(slot);
+            }
+            Form::General | Form::Immediate | Form::Constant => {
+                let mark = self.mark_from(inst, slot);
+                self.note_fired(slot);
+                self.send_token(inst, slot, token, mark);
+            }
         }
     }
 
-    /// Fires a slot that holds this instruction, which gives this token.
-    pub(crate) fn fire_given(&mut self, inst: Inst, slot: u8, token: Token)
-        requires { slot_token self.old inst slot 0 ≡ Some token }
-        ensures value { self.new ≡ fired_by (form_of inst.op) inst slot
-            (record self.old { fired = slice_set self.old.fired slot true }) }
+    /// Fires the instruction of a slot where it gives a token, and tells whether it does.
+    #[inline]
+    pub(crate) fn fire_ready(&mut self, inst: &Inst, slot: u8) -> bool
+        ensures fires { result ≡ is_some (slot_token self.old inst.now slot 0) }
+        ensures value { self.new ≡ fired_if (slot_token self.old inst.now slot 0) inst.now slot self.old }
     {
-        self.note_fired(slot);
-        self.fire_token(inst, slot, token);
+        match self.token_of(*inst, slot, 0) {
+            None => false,
+            Some(token) => {
+                self.fire_given(inst, slot, token);
+                true
+            }
+        }
     }
 
     /// Puts the word of a read on its way.

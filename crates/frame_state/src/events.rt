@@ -1,5 +1,5 @@
 //! The events of the window on one frame, and the tests that their causes are made of.
-ghost use Rattle.std.specs.Prelude.{◌≡◌, ◌||◌, Some, None, cond, false, not, is_none, slice_get, slice_index_or, length, ◌<◌, ◌+◌};
+ghost use Rattle.std.specs.Prelude.{◌≡◌, ◌||◌, Some, None, cond, false, not, is_none, is_some, option_copied, slice_get, slice_index_or, length, ◌<◌, ◌+◌};
 ghost use Rattle.trips_isa.specs.Blocks.{leaves_with};
 ghost use Rattle.trips_isa.specs.Stores.{stored_of};
 ghost use Rattle.block_cases.specs.Orders.{slot_of};
@@ -15,7 +15,7 @@ ghost use Rattle.frame_state.specs.Moves.{slot_token};
 
 use crate::body::Body;
 use crate::parts::Departure;
-use crate::target::{read_targets, slot_of, target};
+use crate::target::{inst_at, read_targets, slot_of, target};
 use trips_isa::{Block, Inst, Token};
 
 // The instruction of a slot with the token that it gives.
@@ -47,6 +47,19 @@ impl Body {
             None
         } else {
             slot_of(block, slot as usize)
+        }
+    }
+
+    /// The instruction that a slot holds and that has not fired, where it stands in the block.
+    #[inline]
+    pub fn waiting_at<'a>(&self, block: &'a Block, slot: u8) -> Option<&'a Inst>
+        ensures value { option_copied result
+            ≡ cond (slice_index_or self.now.fired slot false) None (slot_of block.now slot) }
+    {
+        if self.has_fired(slot) {
+            None
+        } else {
+            inst_at(block, slot as usize)
         }
     }
 
@@ -114,6 +127,7 @@ impl Body {
     }
 
     /// The place of the block to which the token in a place goes.
+    #[inline(always)]
     pub fn target_of(&self, block: &Block, place: u16) -> usize
         ensures value { result ≡ target block.now place }
     {
@@ -148,7 +162,21 @@ impl Body {
         ensures stays { Stays self.old self.new }
     {
         let _ = block;
-        self.fire_given(inst, slot, token);
+        self.fire_given(&inst, slot, token);
+    }
+
+    /// Fires the instruction that a slot holds where it gives a token, and tells whether it does.
+    #[inline]
+    pub(crate) fn fire_if(&mut self, block: &Block, inst: &Inst, slot: u8) -> bool
+        requires { slot_of block.now slot ≡ Some inst.now }
+        ensures fires { result ≡ is_some (slot_token self.old inst.now slot 0) }
+        ensures value { (o : Older) → running block.now self.new
+            ≡ cond result (fire slot o (running block.now self.old)) (running block.now self.old) }
+        ensures same { result ≡ false → self.new ≡ self.old }
+        ensures stays { Stays self.old self.new }
+    {
+        let _ = block;
+        self.fire_ready(inst, slot)
     }
 
     /// Moves the token in a place to the place of the block that it goes to.

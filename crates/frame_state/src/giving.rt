@@ -11,6 +11,7 @@ use crate::spots::Spots;
 use trips_isa::{Form, Inst, Op, Role, Sense, Token, alu, form_of};
 
 // How an operation of form G takes its operands.
+#[inline(always)]
 fn general_role(op: Op) -> Role
     ensures { result ≡ general_role op }
 {

@@ -17,6 +17,7 @@ mod outputs;
 mod parts;
 mod ready;
 mod rule;
+mod sending;
 mod shape;
 mod spots;
 mod states;

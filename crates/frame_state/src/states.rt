@@ -1,5 +1,5 @@
 //! A frame as its states: empty, running and sealed.
-ghost use Rattle.std.specs.Prelude.{◌≡◌, ◌<◌, ◌+◌, ◌^◌, Some, true, false, is_none, length, IfOk, IfErr};
+ghost use Rattle.std.specs.Prelude.{◌≡◌, ◌<◌, ◌+◌, ◌^◌, Some, true, false, cond, is_none, is_some, length, IfOk, IfErr};
 ghost use Rattle.trips_isa.specs.declared.block.Block.{Block};
 ghost use Rattle.trips_isa.specs.Stores.{stored_of};
 ghost use Rattle.block_cases.specs.Orders.{slot_of};
@@ -126,6 +126,19 @@ impl Running {
         ensures stays { Stays self.old self.new }
     {
         self.body.fire_with(block, inst, slot, token);
+    }
+
+    /// Fires the instruction that a slot holds where it gives a token, and tells whether it does.
+    #[inline]
+    pub fn fire_if(&mut self, block: &Block, inst: &Inst, slot: u8) -> bool
+        requires slot { slot_of block.now slot ≡ Some inst.now }
+        ensures fires { result ≡ is_some (slot_token self.old inst.now slot 0) }
+        ensures value { (o : Older) → running block.now self.new
+            ≡ cond result (fire slot o (running block.now self.old)) (running block.now self.old) }
+        ensures same { result ≡ false → self.new ≡ self.old }
+        ensures stays { Stays self.old self.new }
+    {
+        self.body.fire_if(block, inst, slot)
     }
 
     /// Moves the token in a place to the place of the block that it goes to.

@@ -1,21 +1,25 @@
-use Rattle.std.proofs.Common.{◌≡◌, cond, false, Some, None, slice_index_or}
+use Rattle.std.proofs.Common.{◌≡◌, cond, true, false, Some, None, option_copied, slice_index_or, sym, ap, ◌∙◌}
 use Rattle.block_cases.specs.Orders.{slot_of}
-use Rattle.frame_state.specs.Moves.{slot_token}
-use Rattle.frame_events.proofs.TryFacts.{answers_fire}
+use Rattle.frame_state.specs.Held.{Held}
+use Rattle.frame_events.proofs.TryFacts.{answers_fired}
 use Rattle.frame_events.proofs.trying.fire_running.Goals as goal
 
-pub returns-in-None-token_of-clause-answer : goal.returns-in-None-token_of-clause-answer
-returns-in-None-token_of-clause-answer c =
+pub returns-then-fire_if-clause-answer : goal.returns-then-fire_if-clause-answer
+returns-then-fire_if-clause-answer c =
+    let b = c.args.block.now in
     let h = c.args.frame.now in
-    let found : Some c.in-Some.inst ≡ cond (slice_index_or h.fired c.args.slot false) None
-    (slot_of c.args.block.now c.args.slot) = cc in
-    let token : None ≡ slot_token h c.in-Some.inst c.args.slot 0 = cc in
-    λ o. answers_fire c.args.block.now h c.args.slot c.in-Some.inst None found token o
+    let found : Some c.in-Some.inst.now ≡ cond (slice_index_or h.fired c.args.slot false) None (slot_of b c.args.slot) =
+    ap option_copied (sym c.in-Some.is) ∙ c.waiting_at.ensures.value
+    ∙ ap (λ (x : Held). cond (slice_index_or x.fired c.args.slot false) None (slot_of b c.args.slot)) c.held.ensures in
+    λ o. answers_fired b h c.args.slot c.in-Some.inst.now true found
+    (sym c.if-fire_if.true ∙ c.fire_if.ensures.fires) o
 
-pub returns-in-Some-token_of-clause-answer : goal.returns-in-Some-token_of-clause-answer
-returns-in-Some-token_of-clause-answer c =
+pub returns-else-fire_if-clause-answer : goal.returns-else-fire_if-clause-answer
+returns-else-fire_if-clause-answer c =
+    let b = c.args.block.now in
     let h = c.args.frame.now in
-    let found : Some c.in-Some.inst ≡ cond (slice_index_or h.fired c.args.slot false) None
-    (slot_of c.args.block.now c.args.slot) = cc in
-    let token : Some c.in-Some-token_of.token ≡ slot_token h c.in-Some.inst c.args.slot 0 = cc in
-    λ o. answers_fire c.args.block.now h c.args.slot c.in-Some.inst (Some c.in-Some-token_of.token) found token o
+    let found : Some c.in-Some.inst.now ≡ cond (slice_index_or h.fired c.args.slot false) None (slot_of b c.args.slot) =
+    ap option_copied (sym c.in-Some.is) ∙ c.waiting_at.ensures.value
+    ∙ ap (λ (x : Held). cond (slice_index_or x.fired c.args.slot false) None (slot_of b c.args.slot)) c.held.ensures in
+    λ o. answers_fired b h c.args.slot c.in-Some.inst.now false found
+    (sym c.if-fire_if.false ∙ c.fire_if.ensures.fires) o
