@@ -1,23 +1,22 @@
 -- What a load of a frame in flight takes, and the bytes that it sees.
-use Rattle.std.proofs.Common.{◌≡◌, ℕ, suc, ◌+◌, ◌*◌, ◌^◌, ◌<◌, ◌≤◌, Bool, true, false, cond}
-use Rattle.std.proofs.Common.{List, Option, Some, None, take, slice_get, refl, sym, ap, ap₂, ◌∙◌, subst, arith}
-use Rattle.std.proofs.Common.{add-one}
-use Rattle.std.proofs.Common.{add-one}
-use Rattle.std.proofs.Math.Nat.{pow-le-pow_right, pow-suc}
+use Rattle.std.proofs.Common.{◌≡◌, ℕ, suc, ◌+◌, ◌<◌, ◌≤◌, Bool, true, false, cond}
+use Rattle.std.proofs.Common.{List, [], ◌∷◌, Option, Some, None, take, slice_get, refl, sym, ap, ◌∙◌, subst, arith}
 use Rattle.std.proofs.lemmas.Bool.Decides.{nat_tests}
 use Rattle.trips_isa.specs.declared.op.Op.{Op}
 use Rattle.trips_isa.specs.declared.op.Op.TheVariants.{Sb, Sh, Sw, Sd, Lb, Lbs, Lh, Lhs, Lw, Lws, Ld}
 use Rattle.trips_isa.specs.declared.block.Token.TheVariants.{Null, Word}
 use Rattle.trips_isa.specs.declared.block.Inst.{Inst}
-use Rattle.trips_isa.specs.declared.block.Stored.{Stored}
 use Rattle.trips_isa.specs.Forms.{size_of}
 use Rattle.trips_isa.specs.Rule.{Answer}
 use Rattle.trips_isa.specs.Stores.{address_of, is_good_address, data_size, byte_seen, bytes_seen, stored_of}
 use Rattle.trips_isa.specs.Stores.{null_store}
 use Rattle.commit_flush_spec.specs.Frames.{Frame, Taken, NoBytes, Bytes, at, numbers}
-use Rattle.commit_flush_spec.specs.Older.{Older, after_all}
+use Rattle.commit_flush_spec.specs.Older.{Older, after, after_all}
 use Rattle.commit_flush_spec.specs.Memory.{request, taken_of, taken_word}
+use Rattle.lsq_order.specs.declared.sought.Sought.{Sought}
 use Rattle.lsq_order.specs.Reached.{FitsReach}
+use Rattle.lsq_order.specs.Taking.{taken}
+use Rattle.lsq_order.proofs.TakingFacts.{seen_small}
 use Rattle.commit_flush_order.proofs.OrderFacts.{after_more}
 use Rattle.frame_events.specs.Changes.{IsWord, word_of}
 use Rattle.frame_events.specs.Told.{taken_by, waiting_load}
@@ -82,31 +81,22 @@ numbers_are : numbers ≡ 32
 unfolding numbers
 numbers_are = refl
 
--- the byte behind one more frame
-pub byte_more : (fs : List Frame) (o : Older) (a : ℕ) (f : Frame) (address byte : ℕ) → slice_get fs a ≡ Some f
-    → byte ≡ byte_seen (at f.stores) (after_all (take a fs) o).memory 32 address
-    → byte ≡ (after_all (take (a + 1) fs) o).memory address
-byte_more fs o a f address byte e w =
-    let next : suc a ≡ a + 1 = omega arith in
-    w ∙ ap (λ n. byte_seen (at f.stores) (after_all (take a fs) o).memory n address) (sym numbers_are)
-    ∙ ap (λ (p : Older). p.memory address) (sym (after_more fs o a f e))
-    ∙ ap (λ k. (after_all (take k fs) o).memory address) next
+-- a byte of memory is small, also behind frames
+pub bytes_low : (fs : List Frame) (o : Older) → ((a : ℕ) → o.memory a < 256) → (a : ℕ)
+    → (after_all fs o).memory a < 256
+bytes_low [] o h a = h a
+bytes_low (f ∷ fs) o h a = bytes_low fs (after f o) (seen_small (at f.stores) o.memory h numbers) a
 
--- one more byte fits
-pub more_small : (v k b : ℕ) → v < 256 ^ k → b < 256 → v * 256 + b < 256 ^ (k + 1)
-more_small v k b h l =
-    let next : 256 ^ (k + 1) ≡ 256 ^ k * 256 = rw (add-one, pow-suc) refl in omega arith
-
-pub room : (v k : ℕ) → v < 256 ^ k → k < 8 → v < 256 ^ 7
-room v k h l =
-    let far : 256 ^ k ≤ 256 ^ 7 = pow-le-pow_right {n = 256} (omega arith) {i = k} {j = 7} (omega arith) in
-    omega arith
-
-pub bytes_more : (stores : ℕ → Option Stored) (mem : ℕ → ℕ) (n a k v b : ℕ) → v ≡ bytes_seen stores mem n a k
-    → b ≡ byte_seen stores mem n (a + k) → v * 256 + b ≡ bytes_seen stores mem n a (k + 1)
-bytes_more stores mem n a k v b e w =
-    let next : suc k ≡ k + 1 = omega arith in
-    ap₂ (λ x y. x * 256 + y) e w ∙ ap (bytes_seen stores mem n a) next
+-- what is taken behind one frame more
+pub taken_more : (fs : List Frame) (o : Older) (s new : Sought) (a k : ℕ) (f : Frame) → slice_get fs a ≡ Some f
+    → k ≡ a + 1 → taken new (after_all (take a fs) o).memory
+    ≡ taken s (byte_seen (at f.stores) (after_all (take a fs) o).memory 32)
+    → taken new (after_all (take a fs) o).memory ≡ taken s (after_all (take k fs) o).memory
+taken_more fs o s new a k f e is w =
+    let next : suc a ≡ k = omega (arith, is) in
+    w ∙ ap (λ n. taken s (byte_seen (at f.stores) (after_all (take a fs) o).memory n)) (sym numbers_are)
+    ∙ ap (λ (p : Older). taken s p.memory) (sym (after_more fs o a f e))
+    ∙ ap (λ n. taken s (after_all (take n fs) o).memory) next
 
 -- words ------------------------------------------------------------------------------------------
 

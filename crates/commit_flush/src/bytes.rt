@@ -1,5 +1,5 @@
 //! The bytes that a load of a frame in flight sees: of the nearest older stores, else of committed memory.
-ghost use Rattle.std.specs.Prelude.{◌≡◌, ◌<◌, ◌≤◌, ◌+◌, ◌^◌, ℕ, Some, length, slice_get, slice_index, take};
+ghost use Rattle.std.specs.Prelude.{◌≡◌, ◌<◌, ◌≤◌, ◌+◌, ◌^◌, ℕ, Some, length, slice_get, take};
 ghost use Rattle.trips_isa.specs.Stores.{byte_seen, bytes_seen};
 ghost use Rattle.commit_flush_spec.specs.Causes as causes;
 ghost use Rattle.commit_flush_spec.specs.Frames.{Frame, at};
@@ -7,6 +7,7 @@ ghost use Rattle.commit_flush_spec.specs.Older.{after_all, committed};
 ghost use Rattle.commit_flush_spec.specs.Numbered.{seen_at};
 ghost use Rattle.commit_flush_spec.specs.Window as window;
 ghost use Rattle.commit_flush_spec.specs.Window.{can, done};
+ghost use Rattle.lsq_order.specs.Taking.{IsSought, taken};
 ghost use Rattle.frame_state.specs.Held.{taken_if};
 ghost use Rattle.frame_events.specs.Changes.{IsWord};
 ghost use Rattle.frame_events.specs.Phases.{HasBlock, frame_in};
@@ -17,54 +18,52 @@ use crate::window::Window;
 use block_check::CheckedImage;
 use frame_events::{Phase, flying, load_in};
 use frame_state::Took;
-use lsq_order::seen_byte;
+use lsq_order::Sought;
 
-// The byte behind the stores of a frame below a number, over the byte `under`.
-fn byte_behind(phase: &Phase, image: &CheckedImage, below: u8, address: u64, under: u8) -> u8
-    requires { HasBlock image.now.blocks phase.now }
-    ensures { (f : Frame) (mem : ℕ → ℕ) → frame_in image.now.blocks phase.now ≡ Some f → under ≡ mem address
-        → result ≡ byte_seen (at f.stores) mem below address }
+// Takes what is still to be found from the stores of a frame below a number.
+fn seek_in(phase: &Phase, image: &CheckedImage, below: u8, sought: Sought) -> Sought
+    requires block { HasBlock image.now.blocks phase.now }
+    requires sound { IsSought sought }
+    ensures sound { IsSought result }
+    ensures taken { (f : Frame) (mem : ℕ → ℕ) → frame_in image.now.blocks phase.now ≡ Some f
+        → taken result mem ≡ taken sought (byte_seen (at f.stores) mem below) }
 {
     match flying(phase, image) {
-        None => under,
-        Some((held, _)) => seen_byte(held.stores(), below, address, under),
-    }
-}
-
-// The byte at an address of memory, and 0 past its end.
-fn byte_at(memory: &[u8], address: u64) -> u8
-    ensures { result ≡ slice_index memory.now address }
-{
-    if address < memory.len() as u64 {
-        memory[address as usize]
-    } else {
-        0
+        None => sought,
+        Some((held, _)) => sought.pass(held.stores(), below),
     }
 }
 
 impl Window {
-    // The byte behind the stores of the frame of an age below a number, over the byte `under`.
-    fn behind(&self, age: u8, below: u8, address: u64, under: u8) -> u8
-        ensures { (f : Frame) (mem : ℕ → ℕ) → slice_get self.now.window.frames age ≡ Some f → under ≡ mem address
-            → result ≡ byte_seen (at f.stores) mem below address }
+    // Takes what is still to be found from the stores of the frame of an age below a number.
+    fn seek(&self, age: u8, below: u8, sought: Sought) -> Sought
+        requires { IsSought sought }
+        ensures sound { IsSought result }
+        ensures taken { (f : Frame) (mem : ℕ → ℕ) → slice_get self.now.window.frames age ≡ Some f
+            → taken result mem ≡ taken sought (byte_seen (at f.stores) mem below) }
     {
         match self.phase_at(age) {
-            None => under,
-            Some(phase) => byte_behind(phase, self.image(), below, address, under),
+            None => sought,
+            Some(phase) => seek_in(phase, self.image(), below, sought),
         }
     }
 
-    // The byte at an address that the frame of an age sees of the older ones.
-    fn byte_older(&self, age: u8, address: u64) -> u8
-        requires { age ≤ length self.now.window.frames }
-        ensures { result
-            ≡ (after_all (take age self.now.window.frames) (committed self.now.window.state)).memory address }
+    // Takes what is still to be found from the stores of the frames before an age, the youngest first.
+    fn seek_older(&self, age: u8, sought: Sought) -> Sought
+        requires age { age ≤ length self.now.window.frames }
+        requires sound { IsSought sought }
+        ensures sound { IsSought result }
+        ensures taken { taken result (committed self.now.window.state).memory ≡ taken sought
+            (after_all (take age self.now.window.frames) (committed self.now.window.state)).memory }
     {
-        let mut byte = byte_at(self.arch().memory(), address);
-        for a in 0..age {
-            byte = self.behind(a, 32, address, byte);
+        let mut sought = sought;
+        for back in 0..age {
+            if sought.is_found() {
+                return sought;
+            }
+            sought = self.seek(age - 1 - back, 32, sought);
         }
-        byte
+        sought
     }
 
     // The number that the bytes make which a load of the frame of an age sees.
@@ -76,14 +75,9 @@ impl Window {
             (after_all (take age self.now.window.frames) (committed self.now.window.state)).memory
             number address size }
     {
-        let mut bytes: u64 = 0;
-        for k in 0..size {
-            let at = address + k as u64;
-            let under = self.byte_older(age, at);
-            let byte = self.behind(age, number, at, under);
-            bytes = bytes * 256 + byte as u64;
-        }
-        bytes
+        let own = self.seek(age, number, Sought::of(address, size));
+        let sought = self.seek_older(age, own);
+        sought.over(self.arch().memory())
     }
 
     // What the load of a frame that waits with a number takes.

@@ -1,3 +1,6 @@
-mod ByteFacts
+pub mod BitFacts
+pub mod MaskFacts
+pub mod PassFacts
 pub mod ReachFacts
+pub mod TakingFacts
 pub mod WrongFacts

@@ -1,7 +1,7 @@
 -- The loads of a frame, one after another, as its stores leave less and less of a reach.
 use Rattle.std.proofs.Common.{◌≡◌, ℕ, zero, suc, ◌+◌, ◌<◌, ◌≤◌, Bool, true, false, cond, ◌&&◌, not, nat_lt}
 use Rattle.std.proofs.Common.{List, Option}
-use Rattle.std.proofs.Common.{Some, None, inl, inr, ◌==◌, [], ◌∷◌, ◌||◌, length, get_or, refl, sym, ap, ap₂, ◌∙◌, arith}
+use Rattle.std.proofs.Common.{Some, None, inl, inr, ◌==◌, [], ◌∷◌, ◌||◌, ◌⊎◌, ◌*◌, ◌%◌, ◌^◌, bit_or, length, get_or, refl, sym, ap, ap₂, ◌∙◌, arith}
 use Rattle.std.specs.Prelude.{is_some}
 use Rattle.std.proofs.Math.Path.{fun_ext}
 use Rattle.std.proofs.lemmas.Bool.{lt-ltb, le-ltb, cases_eq, cases_lt}
@@ -12,8 +12,12 @@ use Rattle.commit_flush_spec.specs.Older.{covers, passes, nearest, any_touched, 
 use Rattle.frame_state.specs.declared.parts.Took.{Took}
 use Rattle.frame_state.specs.Held.{taken_if, all_taken}
 use Rattle.frame_state.proofs.MarkFacts.{taken_got}
+use Rattle.bit_rows.specs.Rows.{has_bit}
+use Rattle.lsq_order.specs.Masks.{IsNext}
 use Rattle.lsq_order.specs.Reached.{narrowed}
 use Rattle.lsq_order.specs.Wrong.{is_wrong, Finds}
+use Rattle.lsq_order.proofs.BitFacts.{or_clear}
+use Rattle.lsq_order.proofs.PassFacts.{not_there}
 
 -- the load/store numbers are 32
 pub numbers_are : numbers ≡ 32
@@ -40,6 +44,47 @@ pub wrong_is : (stores : ℕ → Option Stored) (loads : List (Option Took)) (to
     → b ≡ took_touched r (taken_if t) → is_wrong stores (all_taken loads) touched from n ≡ b
 wrong_is stores loads touched r from n t b h e eb =
     ap₂ took_touched (sym (fun_ext h)) (sym (ap taken_if e ∙ taken_got loads n)) ∙ sym eb
+
+-- numbers without a store and without a load -------------------------------------------------------
+
+-- where no store of some numbers is there, they leave all
+pub narrowed_gap : (stores : ℕ → Option Stored) (from low high : ℕ) (touched : ℕ → Bool) (a : ℕ) → from ≤ low
+    → low ≤ high → ((n : ℕ) → low ≤ n → n < high → stores n ≡ None)
+    → narrowed stores from low touched a ≡ narrowed stores from high touched a
+narrowed_gap stores from low zero touched a l le h =
+    let none : low ≡ 0 = omega (arith, le) in ap (λ n. narrowed stores from n touched a) none
+narrowed_gap stores from low (suc high) touched a l le h =
+    go (λ m. narrowed_gap stores from low high touched a l m (λ n f k. h n f (omega (arith, k)))) (cases_lt high low)
+  where
+    go : (low ≤ high → narrowed stores from low touched a ≡ narrowed stores from high touched a)
+        → (high < low) ⊎ (low ≤ high) → narrowed stores from low touched a ≡ narrowed stores from (suc high) touched a
+    go rest (inl k) = let same : low ≡ suc high = omega (arith, k, le) in ap (λ n. narrowed stores from n touched a) same
+    go rest (inr k) = rest k
+        ∙ sym (narrowed_next stores from high (suc high) touched a (omega (arith, l, k)) (omega arith)
+        ∙ ap (λ o. not (covers o a) && narrowed stores from high touched a) (h high k (omega arith)))
+
+-- a load that is not answered is not wrong
+pub unanswered : (stores : ℕ → Option Stored) (loads : List (Option Took)) (touched : ℕ → Bool) (from n : ℕ)
+    → get_or loads n None ≡ None → is_wrong stores (all_taken loads) touched from n ≡ false
+unanswered stores loads touched from n e =
+    ap (took_touched (narrowed stores from n touched)) (sym (ap taken_if (sym e) ∙ taken_got loads n))
+
+-- a number that the mask of both rows does not have is in neither
+module _ (stores : List (Option Stored)) (loads : List (Option Took)) (kept asked low high : ℕ)
+    (has_stores : (n : ℕ) → n < 64 → 64 * 0 + n < 32 → has_bit kept n ≡ is_some (get_or stores (64 * 0 + n) None))
+    (has_loads : (n : ℕ) → n < 64 → 64 * 0 + n < 32 → has_bit asked n ≡ is_some (get_or loads (64 * 0 + n) None))
+    (next : IsNext (bit_or kept asked % 2 ^ 32) low high) where
+  pub no_store_between : (n : ℕ) → low ≤ n → n < high → get_or stores n None ≡ None
+  no_store_between n f l =
+      let w = next.within in
+      not_there stores kept has_stores n (omega (arith, l, w))
+      (or_clear kept asked n (omega (arith, l, w)) (next.none n f l)).0
+
+  pub no_load_between : (n : ℕ) → low ≤ n → n < high → get_or loads n None ≡ None
+  no_load_between n f l =
+      let w = next.within in
+      not_there loads asked has_loads n (omega (arith, l, w))
+      (or_clear kept asked n (omega (arith, l, w)) (next.none n f l)).1
 
 -- the window's words ------------------------------------------------------------------------------
 

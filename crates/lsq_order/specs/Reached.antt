@@ -1,18 +1,18 @@
 -- The addresses at which a store is still the nearest (docs/WINDOW.md, "What a frame sees").
-use Rattle.std.specs.Prelude.{ℕ, zero, suc, ◌-◌, ◌≤◌, Bool, false, cond, ◌&&◌, not, nat_le, nat_lt, List}
+use Rattle.std.specs.Prelude.{ℕ, zero, suc, ◌-◌, ◌≤◌, Bool, cond, ◌&&◌, not, nat_le, nat_lt}
 use Rattle.std.specs.Prelude.{Option, Some, None}
-use Rattle.std.specs.Prelude.{slice_index_or}
+use Rattle.bit_rows.specs.Rows.{has_bit}
 use Rattle.trips_isa.specs.declared.block.Stored.{Stored}
 use Rattle.commit_flush_spec.specs.Older.{covers}
 use Rattle.lsq_order.specs.declared.reach.Reach.{Reach}
 
--- whether an address is among those from one on that are open
-abbrev pub is_open : ℕ → List Bool → ℕ → Bool
-is_open address flags a = nat_le address a && slice_index_or flags (a - address) false
+-- whether an address is among the 64 from one on, and its bit is set
+abbrev pub is_open : ℕ → ℕ → ℕ → Bool
+is_open address bits a = nat_le address a && (nat_lt (a - address) 64 && has_bit bits (a - address))
 
 -- whether a reach has an address
 abbrev pub reached : Reach → ℕ → Bool
-reached r a = is_open r.address r.flags a
+reached r a = is_open r.address r.bits a
 
 -- the first address of a store
 abbrev pub start : Option Stored → ℕ

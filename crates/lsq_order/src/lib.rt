@@ -1,12 +1,14 @@
-//! The order of loads and stores: which byte a load sees through the stores of a frame, and which loads wait.
+//! The order of loads and stores: which bytes a load takes of the stores of a frame, which answered loads a store makes
+//! wrong, and which loads wait.
 #![tactic(auto)]
 
+mod masks;
 mod reach;
-mod seen;
+mod sought;
 #[cfg(test)]
 mod tests;
 mod waiters;
 
 pub use reach::Reach;
-pub use seen::{seen_byte, stored_byte};
+pub use sought::Sought;
 pub use waiters::Waiters;

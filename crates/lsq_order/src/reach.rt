@@ -1,72 +1,64 @@
 //! The bytes at which a store is the nearest, and the loads that took one of them.
-ghost use Rattle.std.specs.Prelude.{◌≡◌, ◌<◌, ◌≤◌, ◌+◌, ◌-◌, ◌&&◌, ℕ, None, false, not, nat_le, nat_lt};
-ghost use Rattle.std.specs.Prelude.{length, is_some, slice_index_or};
+ghost use Rattle.std.specs.Prelude.{◌≡◌, ◌<◌, ◌≤◌, ◌+◌, ◌-◌, ◌&&◌, ℕ, None, not, nat_le, nat_lt};
+ghost use Rattle.std.specs.Prelude.{length, is_some};
+ghost use Rattle.bit_rows.specs.Rows.{has_bit};
 ghost use Rattle.commit_flush_spec.specs.Frames.{at, numbers};
-ghost use Rattle.commit_flush_spec.specs.Older.{covers, passes, nearest, any_touched, took_touched, violated};
+ghost use Rattle.commit_flush_spec.specs.Older.{any_touched, covers, passes, nearest, took_touched, violated};
 ghost use Rattle.frame_state.specs.Held.{taken_if, all_taken};
 ghost use Rattle.lsq_order.specs.Reached.{start};
 
-use bit_rows::{Flags, Row};
+use crate::masks::next_from;
+use bit_rows::Row;
 use frame_state::Took;
 use trips_isa::Stored;
 
-/// Eight addresses in a row, of which those that are open are reached.
+/// Addresses in a row, of which those whose bits are set are reached.
 #[derive(Drop)]
 pub struct Reach {
     pub(crate) address: u64,
-    pub(crate) flags: Flags<8, 1>,
+    pub(crate) bits: u64,
 }
 
-// Whether the address k behind a base is among so many from an address on.
-fn is_among(address: u64, size: u8, base: u64, k: u8) -> bool
-    ensures { result ≡ (nat_le address (base + k) && nat_lt (base + k - address) size) }
+// The low n bits of a word, and all from 64 on.
+fn low_bits(n: u64) -> u64
+    ensures { (i : ℕ) → i < 64 → has_bit result i ≡ nat_lt i n }
+{
+    if n < 64 { (1 << n) - 1 } else { u64::MAX }
+}
+
+// A word whose bits are led up by so many.
+fn led_up(word: u64, bits: u64) -> u64
+    requires { bits < 64 }
+    ensures { (i : ℕ) → i < 64 → has_bit result i ≡ (nat_le bits i && has_bit word (i - bits)) }
+{
+    word << bits
+}
+
+// Bits by offset from a base, of so many addresses from one on.
+fn bits_of(address: u64, size: u8, base: u64) -> u64
+    ensures { (i : ℕ) → i < 64
+        → has_bit result i ≡ (nat_le address (base + i) && nat_lt (base + i - address) size) }
 {
     if address <= base {
-        base - address < size as u64 && base - address + (k as u64) < size as u64
-    } else if address - base <= k as u64 {
-        k as u64 - (address - base) < size as u64
+        low_bits((size as u64).saturating_sub(base - address))
+    } else if address - base < 64 {
+        led_up(low_bits(size as u64), address - base)
     } else {
-        false
+        0
     }
 }
 
-// Whether a store has a byte at the address k behind a base.
+// Bits by offset from a base, of the bytes of a store.
 #[tactic(auto, using(crate::proofs::ReachFacts::covered, crate::proofs::ReachFacts::uncovered))]
-fn covers(stored: Option<Stored>, base: u64, k: u8) -> bool
-    ensures { result ≡ covers stored (base + k) }
+fn stored_bits(stored: Option<Stored>, base: u64) -> u64
+    ensures { (i : ℕ) → i < 64 → has_bit result i ≡ covers stored (base + i) }
 {
     match stored {
-        None => false,
+        None => 0,
         Some(stored) => match stored.value {
-            None => false,
-            Some(_) => is_among(stored.address, stored.size, base, k),
+            None => 0,
+            Some(_) => bits_of(stored.address, stored.size, base),
         },
-    }
-}
-
-// Whether flag k stays open behind a store.
-fn stays(flags: &Flags<8, 1>, address: u64, stored: Option<Stored>, k: u8) -> bool
-    ensures value { result ≡ (not (covers stored (address + k)) && slice_index_or flags.now k false) }
-    ensures size { length flags.now ≡ 8 }
-{
-    let flags = flags.has(k as usize);
-    if covers(stored, address, k) {
-        false
-    } else {
-        flags
-    }
-}
-
-// Takes the bytes of a store out.
-fn close(flags: &mut Flags<8, 1>, address: u64, stored: Option<Stored>)
-    ensures closed { (j : ℕ) → j < 8 → slice_index_or flags.new j false
-        ≡ (not (covers stored (address + j)) && slice_index_or flags.old j false) }
-    ensures size { length flags.new ≡ 8 }
-    ensures old_size { length flags.old ≡ 8 }
-{
-    for k in 0..8u8 {
-        let still = stays(flags, address, stored, k);
-        flags.set(k as usize, still);
     }
 }
 
@@ -80,18 +72,6 @@ fn start(stored: Option<Stored>) -> u64
     }
 }
 
-// Flags by offset of the bytes of a store.
-fn bytes_of(stored: Option<Stored>, address: u64) -> Flags<8, 1>
-    ensures flags { (j : ℕ) → j < 8 → slice_index_or result j false ≡ covers stored (address + j) }
-    ensures size { length result ≡ 8 }
-{
-    let mut flags = Flags::none();
-    for k in 0..8u8 {
-        flags.set(k as usize, covers(stored, address, k));
-    }
-    flags
-}
-
 impl Reach {
     ghost use Rattle.lsq_order.specs.Reached.{reached, narrowed, FitsReach};
     ghost use Rattle.lsq_order.specs.Wrong.{Finds};
@@ -102,59 +82,24 @@ impl Reach {
         ensures reached { (a : ℕ) → reached result a ≡ covers stored a }
     {
         let address = start(stored);
-        let flags = bytes_of(stored, address);
-        Reach { address, flags }
-    }
-
-    // Whether the address k behind a base is reached, where the base is not before the first address.
-    fn has_behind(&self, base: u64, k: u8) -> bool
-        requires { self.now.address ≤ base }
-        ensures { result ≡ reached self.now (base + k) }
-    {
-        let offset = (base - self.address).saturating_add(k as u64);
-        self.flags.has(offset as usize)
-    }
-
-    // Whether it is, where the base is before the first address, and k leads to that at least.
-    fn has_within(&self, base: u64, k: u8) -> bool
-        requires before { base < self.now.address }
-        requires near { self.now.address ≤ base + k }
-        ensures { result ≡ reached self.now (base + k) }
-    {
-        let offset = k as u64 - (self.address - base);
-        self.flags.has(offset as usize)
-    }
-
-    // Whether the address k behind a base is reached.
-    fn has(&self, base: u64, k: u8) -> bool
-        ensures { result ≡ reached self.now (base + k) }
-    {
-        if self.address <= base {
-            self.has_behind(base, k)
-        } else if self.address - base <= k as u64 {
-            self.has_within(base, k)
-        } else {
-            false
-        }
+        let bits = stored_bits(stored, address);
+        Reach { address, bits }
     }
 
     // Takes the bytes of a store out.
     fn narrow(&mut self, stored: Option<Stored>)
         ensures { (a : ℕ) → reached self.new a ≡ (not (covers stored a) && reached self.old a) }
     {
-        close(&mut self.flags, self.address, stored);
+        let taken = stored_bits(stored, self.address);
+        self.bits &= !taken;
     }
 
     // Whether one of some bytes from an address on is reached.
     fn has_any(&self, address: u64, size: u8) -> bool
         ensures { result ≡ any_touched (reached self.now) address size }
     {
-        for k in 0..size {
-            if self.has(address, k) {
-                return true;
-            }
-        }
-        false
+        let bits = bits_of(address, size, self.address) & self.bits;
+        bits != 0
     }
 
     // Whether an answered load took a byte that is reached.
@@ -192,11 +137,14 @@ impl Reach {
         ensures passed { from ≡ 0 → result ≡ None → (a : ℕ)
             → reached self.new a ≡ passes (at stores.now) numbers (reached self.old) a }
     {
-        for n in from..32u8 {
+        let there = ((stores.word(0) | loads.word(0)) % 0x1_0000_0000) as u32;
+        let mut n = next_from(there, from as u32);
+        while n < 32 {
             if self.is_taken(loads.get(n as usize)) {
-                return Some(n);
+                return Some(n as u8);
             }
             self.narrow(stores.get(n as usize));
+            n = next_from(there, n + 1);
         }
         None
     }

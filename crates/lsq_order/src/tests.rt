@@ -1,6 +1,8 @@
 //! Bytes behind the stores of a frame, loads that a store makes wrong, and a load that waits.
 
-use crate::{Reach, Waiters, seen_byte};
+ghost use Rattle.std.specs.Prelude.{◌<◌, ◌≤◌};
+
+use crate::{Reach, Sought, Waiters};
 use bit_rows::Row;
 use frame_state::Took;
 use std::process::Abort;
@@ -15,20 +17,50 @@ fn store(number: u8, value: Option<u64>) -> Stored {
     }
 }
 
+// What a load of some bytes from 64 on takes of the stores below a number, over bytes of memory that are all 9.
+fn taken(stores: &Row<Stored, 32, 1>, below: u8, address: u64, size: u8) -> u64
+    requires size { size ≤ 8 }
+    requires address { address < 1000 }
+{
+    Sought::of(address, size).pass(stores, below).over(&[9; 80])
+}
+
 #[test]
 fn sees_the_nearest_store(rt: HostRuntime) {
     let mut stores = Row::none(store(0, None));
     stores.put(1, store(1, Some(0x1234)));
     stores.put(3, store(3, None));
+    assert!(&rt; taken(&stores, 1, 64, 1) == 9, "its own number is not seen");
     assert!(&rt;
-        seen_byte(&stores, 1, 64, 9) == 9,
-        "its own number is not seen"
-    );
-    assert!(&rt;
-        seen_byte(&stores, 32, 64, 9) == 0x12,
+        taken(&stores, 32, 64, 1) == 0x12,
         "a null store is seen through"
     );
-    assert!(&rt; seen_byte(&stores, 32, 66, 9) == 9, "past its bytes");
+    assert!(&rt; taken(&stores, 32, 66, 1) == 9, "past its bytes");
+    assert!(&rt;
+        taken(&stores, 32, 62, 4) == 0x0909_1234,
+        "behind memory's bytes"
+    );
+    stores.put(
+        5,
+        Stored {
+            number: 5,
+            address: 65,
+            size: 1,
+            value: Some(0xff),
+        },
+    );
+    assert!(&rt;
+        taken(&stores, 32, 64, 4) == 0x12ff_0909,
+        "the nearest of two"
+    );
+    assert!(&rt;
+        taken(&stores, 5, 64, 8) == 0x1234_0909_0909_0909,
+        "a lower number"
+    );
+    assert!(&rt;
+        taken(&stores, 32, 79, 2) == 0x0900,
+        "past the end of memory"
+    );
 }
 
 #[test]

@@ -1,4 +1,4 @@
-use Rattle.std.proofs.Common.{◌≡◌, ◌<◌, ◌≤◌, ℕ, false}
+use Rattle.std.proofs.Common.{◌≡◌, ◌<◌, ◌≤◌, ◌-◌, ℕ, false}
 use Rattle.commit_flush_spec.specs.Frames.{at}
 use Rattle.frame_state.specs.Held.{all_taken}
 use Rattle.lsq_order.specs.Reached.{reached, narrowed}
@@ -7,7 +7,12 @@ use Rattle.lsq_order.proofs.reach.Reach.first_wrong.Given as goal
 
 abbrev pub invariant-loop-n : goal.invariant-loop-n
 invariant-loop-n l = record {
-  reach : (a : ℕ) → reached l.self a ≡ narrowed (at l.stores) l.from l.n (reached l.initial.self) a;
+  onward : l.from ≤ l.n;
+  within : l.n ≤ 32;
+  reach : (a : ℕ) → reached l.self a ≡ narrowed (at l.stores) l.from l.n (reached l.fn.self) a;
   none : (m : ℕ) → l.from ≤ m → m < l.n
-      → is_wrong (at l.stores) (all_taken l.loads) (reached l.initial.self) l.from m ≡ false;
+      → is_wrong (at l.stores) (all_taken l.loads) (reached l.fn.self) l.from m ≡ false;
 }
+
+abbrev pub decreases-loop-n : goal.decreases-loop-n
+decreases-loop-n l = 32 - l.n
