@@ -101,3 +101,10 @@ both_follow P t s s' fs gs now e d =
     ap (λ (x : State). then (meaning P t x) (unwind_of P now)) d
     ∙ (ap (λ (xs : List Follow). then (meaning P t s) (unwind_of P xs)) e
     ∙ then-on P (meaning P t s) fs gs)
+
+-- no value, before frames of two lists
+pub both_given : (P : TypedProgram) (v : Signal) (s s' : State) (fs gs now : List Follow) → now ≡ fs ++ gs → s' ≡ s
+    → unwind_of P now v s' ≡ then (unwind_of P fs v s) (unwind_of P gs)
+both_given P v s s' fs gs now e d =
+    ap (λ (x : State). unwind_of P now v x) d
+    ∙ (ap (λ (xs : List Follow). unwind_of P xs v s) e ∙ then-on P (Go v s) fs gs)

@@ -16,7 +16,7 @@ use crate::direct::{Ran, Stop};
 use crate::frame::{Move, Task};
 use crate::machine::Machine;
 use crate::outcome::Outcome;
-use crate::runs::{MOST_EXPR_DEPTH, MOST_STMT_DEPTH};
+use crate::runs::MOST_DEPTH;
 use crate::store::Store;
 use base::{Items, Memory};
 use c_meaning_spec::{Ending, Signal};
@@ -118,7 +118,7 @@ impl<'a> Machine<'a> {
     }
 
     // What is to be done first where a part was not evaluated to its end.
-    #[tactic(auto, using(crate::proofs::Turns::both_follow))]
+    #[tactic(auto, using(crate::proofs::Turns::both_follow, crate::proofs::Turns::both_given))]
     fn stopped(&mut self, program: &'a TypedProgram) -> Result<Move<'a>, AllocError>
         ensures { IfOk result (λ m. (r : Reached) → Stopped program.now r self.old.store
             → ahead_next program.now (next m) (frames self.new.stack.items) (view self.new.store)
@@ -134,6 +134,10 @@ impl<'a> Machine<'a> {
             Stop::AtStmt(st) => {
                 self.stack_pending()?;
                 Ok(Move::Do(Task::Run(st)))
+            }
+            Stop::Gave => {
+                self.stack_pending()?;
+                Ok(Move::Give(Signal::Nothing))
             }
             Stop::Memory => Err(AllocError),
         }
@@ -185,17 +189,17 @@ impl<'a> Machine<'a> {
     {
         match task {
             Task::Of(e) => {
-                let word = self.store.value_of(program, e, MOST_EXPR_DEPTH);
+                let word = self.store.value_of(program, e, MOST_DEPTH);
                 let moved = self.valued(program, word)?;
                 Ok(moved)
             }
             Task::Run(st) => {
-                let x = self.store.run(program, st, MOST_STMT_DEPTH);
+                let x = self.store.run(program, st, MOST_DEPTH);
                 let moved = self.ran(program, x)?;
                 Ok(moved)
             }
             Task::Turn(turn) => {
-                let x = self.store.run_loop(program, turn, MOST_STMT_DEPTH);
+                let x = self.store.run_loop(program, turn, MOST_DEPTH);
                 let moved = self.ran(program, x)?;
                 Ok(moved)
             }
@@ -253,7 +257,7 @@ impl<'a> Machine<'a> {
     {
         let word = self
             .store
-            .begin_call(program, Callee::Func(program.main), &[]);
+            .begin_call(program, Callee::Func(program.main), &[], MOST_DEPTH);
         let first = self.valued(program, word)?;
         let last = self.go(program, first)?;
         Ok(last)
