@@ -1,12 +1,12 @@
 -- What frames make of a part, one behind another.
-use Rattle.std.proofs.Common.{◌≡◌, List, [], ◌∷◌, ◌++◌, map, length, refl, sym, ap, ◌∙◌, arith}
+use Rattle.std.proofs.Common.{◌≡◌, List, [], ◌∷◌, ◌++◌, map, length, refl, sym, ap, subst, ◌∙◌, arith}
 use Rattle.std.specs.Borrow.{Bor}
 use Rattle.c_tree.specs.declared.TypedExpr.{TypedExpr}
 use Rattle.c_tree.specs.declared.TypedStmt.{TypedStmt}
 use Rattle.c_tree.specs.declared.TypedProgram.{TypedProgram}
 use Rattle.c_meaning_spec.specs.declared.Signal.{Signal}
-use Rattle.c_meaning_spec.specs.declared.Signal.TheVariants.{Nothing}
-use Rattle.c_meaning_spec.specs.Statement.{dropped}
+use Rattle.c_meaning_spec.specs.declared.Signal.TheVariants.{Nothing, Value, Breaks, Continues, Returns}
+use Rattle.c_meaning_spec.specs.Statement.{dropped, going_on, sequence}
 use Rattle.c_meaning_spec.specs.State.{State, Result, Go, Over, then}
 use Rattle.c_meaning_spec.specs.Task.{Task, Of, Run}
 use Rattle.c_meaning_spec.specs.Eval.{meaning}
@@ -128,3 +128,28 @@ plain_gave P x m r at e h =
     ap (λ (q : Result). then q dropped)
     (gave-empty P (view m) m.pending.items r (no-items m.pending.items e)
     (sym (ap (λ (y : Stop). stop_told P y m r) at) ∙ h))
+
+on-none : (P : TypedProgram) (v : Signal) (s : State) → going_on v s (sequence (meaning P) []) ≡ Go v s
+on-none P Nothing s = refl
+on-none P (Value w) s = refl
+on-none P Breaks s = refl
+on-none P Continues s = refl
+on-none P (Returns w) s = refl
+
+then-none : (P : TypedProgram) (r : Result) → then r (λ v s. going_on v s (sequence (meaning P) [])) ≡ r
+then-none P (Go v s) = on-none P v s
+then-none P (Over why s) = refl
+
+no-statements : (xs : List TypedStmt) → length xs ≡ 0 → xs ≡ []
+no-statements [] h = refl
+no-statements (x ∷ xs) h = absurd (omega arith)
+
+-- what stopped before no statement
+pub none_behind : (P : TypedProgram) (rest : List TypedStmt) (m : Store) (r : Result) → length rest ≡ 0
+    → stop_told P m.stop m r ≡ r
+    → stop_told P m.stop m (then r (λ v s. going_on v s (sequence (meaning P) rest)))
+    ≡ then r (λ v s. going_on v s (sequence (meaning P) rest))
+none_behind P rest m r e h =
+    subst (λ (q : Result). stop_told P m.stop m q ≡ q)
+    (sym (ap (λ (xs : List TypedStmt). then r (λ v s. going_on v s (sequence (meaning P) xs))) (no-statements rest e)
+    ∙ then-none P r)) h

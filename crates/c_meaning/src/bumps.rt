@@ -127,7 +127,7 @@ impl<'a> Store<'a> {
 
     /// `++` and `--`, of whose operand only indexes are evaluated.
     #[cycle(parts)]
-    #[inline(never)]
+    #[inline(always)]
     pub fn bump_value(
         &mut self,
         program: &'a TypedProgram,

@@ -7,7 +7,7 @@ ghost use Rattle.c_meaning_spec.specs.Call.{arguments, left, returned};
 ghost use Rattle.c_meaning_spec.specs.Call.{get_char as get_char_of, put_char as put_char_of};
 ghost use Rattle.c_meaning_spec.specs.Eval.{meaning};
 ghost use Rattle.c_meaning.specs.View.{behind, view};
-ghost use Rattle.c_meaning.specs.Direct.{IsCaller, Runs, Values, signal_of};
+ghost use Rattle.c_meaning.specs.Direct.{IsCaller, Runs, Stopped, Values, signal_of};
 
 use crate::call::{add_arrays, add_rows, put_scalars, room_with, spare};
 use crate::direct::{Ran, Stop};
@@ -73,14 +73,7 @@ impl<'a> Store<'a> {
                         return None;
                     }
                 },
-                None => {
-                    let frame = Frame::Argument {
-                        callee,
-                        rest: more,
-                        done,
-                    };
-                    return self.held(program, frame);
-                }
+                None => return self.held_argument(program, callee, more, done),
             }
         }
         let word = self.begin_call(program, callee, done.as_slice(), depth);
@@ -302,6 +295,28 @@ impl<'a> Store<'a> {
         }
     }
 
+    // The caller goes on behind the body of a call.
+    #[inline(never)]
+    fn held_caller(
+        &mut self,
+        program: &'a TypedProgram,
+        is_main: bool,
+        caller: Caller,
+    ) -> Option<u64>
+        ensures { (r : Meant) → Stopped program.now r self.old
+            → Values program.now (then r (left is_main caller.scalars.items caller.count caller.base caller.room))
+            self.new result }
+    {
+        let frame = Frame::Caller {
+            is_main,
+            scalars: caller.scalars,
+            count: caller.count,
+            base: caller.base,
+            room: caller.room,
+        };
+        self.held(program, frame)
+    }
+
     // What follows the body of a call: the caller goes on, or its frame is left behind a body that stopped.
     #[inline(always)]
     fn end_call(
@@ -320,16 +335,7 @@ impl<'a> Store<'a> {
             Ran::Breaks => self.leave_with(program, is_main, caller, x),
             Ran::Continues => self.leave_with(program, is_main, caller, x),
             Ran::Returns => self.leave_with(program, is_main, caller, x),
-            Ran::Stops => {
-                let frame = Frame::Caller {
-                    is_main,
-                    scalars: caller.scalars,
-                    count: caller.count,
-                    base: caller.base,
-                    room: caller.room,
-                };
-                self.held(program, frame)
-            }
+            Ran::Stops => self.held_caller(program, is_main, caller),
         }
     }
 

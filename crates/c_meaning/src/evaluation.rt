@@ -105,15 +105,14 @@ impl<'a> Machine<'a> {
     }
 
     // The frames of what is to follow a part that was not evaluated to its end come before those that stand there.
-    #[tactic(auto, using(crate::proofs::Turns::moved_on))]
+    #[tactic(auto, using(crate::proofs::Turns::turned_over))]
     fn stack_pending(&mut self) -> Result<(), AllocError>
         ensures kept { OnOk result (frames self.new.stack.items
             ≡ map follow self.old.store.pending.items ++ frames self.old.stack.items) }
         ensures same { OnOk result (view self.new.store ≡ view self.old.store) }
     {
-        while let Some(frame) = self.store.pending.pop() {
-            self.stack.push(frame)?;
-        }
+        self.store.pending.reverse();
+        self.stack.append(&mut self.store.pending)?;
         Ok(())
     }
 
@@ -306,7 +305,7 @@ fn evaluate_from<'a>(
 /// The evaluation of a program on an input with a stock of `n` steps: the definition's outcome,
 /// without the output so far of one that has not come to its end. Want of memory is the only error.
 ///
-/// The active calls stand on a list, so the host's stack does not grow with the recursion.
+/// What is to follow stands on a list where the recursion is deep, so the host's stack is bounded.
 pub fn evaluate(
     alloc: Global,
     program: &TypedProgram,

@@ -1,21 +1,21 @@
-//! What follows a part that was not evaluated to its end, in functions of their own, so that those that evaluate
-//! have no room for frames.
+//! What follows an expression that was not evaluated to its end, in functions of their own, so that those that
+//! evaluate have no room for frames.
 
-ghost use Rattle.c_meaning_spec.specs.State.{Result as Meant, then};
+ghost use Rattle.std.specs.Prelude.{◌++◌, ◌∷◌, []};
+ghost use Rattle.c_meaning_spec.specs.State.{Result as Meant, then, want};
 ghost use Rattle.c_meaning_spec.specs.Expression.{after_left, operated, assign_element, assigned};
-ghost use Rattle.c_meaning_spec.specs.Expression.{after_and, after_or, converting};
-ghost use Rattle.c_meaning_spec.specs.Task.{Turn, element as element_in};
-ghost use Rattle.c_meaning_spec.specs.Statement as meant;
+ghost use Rattle.c_meaning_spec.specs.Expression.{after_and, after_or, converting, compounded};
+ghost use Rattle.c_meaning_spec.specs.Expression.{assign_row, assign_after_row};
+ghost use Rattle.c_meaning_spec.specs.Call.{arguments};
+ghost use Rattle.c_meaning_spec.specs.Task.{element as element_in, row_element, after_row};
 ghost use Rattle.c_meaning_spec.specs.Eval.{meaning};
-ghost use Rattle.c_meaning.specs.View.{behind};
-ghost use Rattle.c_meaning.specs.Direct.{Stopped, Values, Runs, Turned};
+ghost use Rattle.c_meaning.specs.Direct.{Stopped, Values};
 ghost use Rattle.c_meaning_spec.specs.declared.Object.TheVariants.{InArray, InScalar};
 
-use crate::direct::Ran;
-use crate::frame::{Frame, Loop, Operand, Stage};
+use crate::frame::{Frame, Operand};
 use crate::store::Store;
 use c_meaning_spec::Object;
-use c_tree::{BinaryOp, Kind, Place, TypedExpr, TypedProgram, TypedStmt};
+use c_tree::{BinaryOp, Callee, Kind, Place, TypedExpr, TypedProgram};
 
 impl<'a> Store<'a> {
     /// The right operand follows the left one.
@@ -102,6 +102,143 @@ impl<'a> Store<'a> {
         self.held(program, Frame::Element(array))
     }
 
+    /// The second index of an element follows the first.
+    #[inline(never)]
+    pub fn held_row(
+        &mut self,
+        program: &'a TypedProgram,
+        array: Place,
+        index: &'a TypedExpr,
+    ) -> Option<u64>
+        ensures { (r : Meant) → Stopped program.now r self.old
+            → Values program.now (then r (after_row (meaning program.now) array index.now)) self.new result }
+    {
+        let operand = Operand::AfterRow(array);
+        let frame = Frame::Operand {
+            operand,
+            right: index,
+        };
+        self.held(program, frame)
+    }
+
+    /// An element follows its second index.
+    #[inline(never)]
+    pub fn held_row_element(
+        &mut self,
+        program: &'a TypedProgram,
+        place: Place,
+        row: u64,
+    ) -> Option<u64>
+        ensures { (r : Meant) → Stopped program.now r self.old
+            → Values program.now (then r (row_element place row)) self.new result }
+    {
+        self.held(program, Frame::RowElement { place, row })
+    }
+
+    /// An object is set after the value.
+    #[inline(never)]
+    pub fn held_object(&mut self, program: &'a TypedProgram, object: Object) -> Option<u64>
+        ensures { (r : Meant) → Stopped program.now r self.old
+            → Values program.now (then r (assigned object)) self.new result }
+    {
+        self.held(program, Frame::Assigned(object))
+    }
+
+    /// An object is set after the right operand of a compound assignment.
+    #[inline(never)]
+    pub fn held_compound(
+        &mut self,
+        program: &'a TypedProgram,
+        op: BinaryOp,
+        to: Option<Kind>,
+        at: Kind,
+        object: Object,
+        old: u64,
+    ) -> Option<u64>
+        ensures { (r : Meant) → Stopped program.now r self.old
+            → Values program.now (then r (compounded op to at object old)) self.new result }
+    {
+        let frame = Frame::Compounded {
+            op,
+            to,
+            at,
+            object,
+            old,
+        };
+        self.held(program, frame)
+    }
+
+    /// The right side of an assignment to an element follows the second index.
+    #[inline(never)]
+    pub fn held_row_store(
+        &mut self,
+        program: &'a TypedProgram,
+        op: Option<BinaryOp>,
+        to: Option<Kind>,
+        at: Kind,
+        place: Place,
+        row: u64,
+        right: &'a TypedExpr,
+    ) -> Option<u64>
+        ensures { (r : Meant) → Stopped program.now r self.old
+            → Values program.now (then r (assign_row (meaning program.now) op to at place row right.now))
+            self.new result }
+    {
+        let operand = Operand::StoredRow {
+            op,
+            to,
+            at,
+            place,
+            row,
+        };
+        self.held(program, Frame::Operand { operand, right })
+    }
+
+    /// The second index of an assignment to an element follows the first.
+    #[inline(never)]
+    pub fn held_store_in_row(
+        &mut self,
+        program: &'a TypedProgram,
+        op: Option<BinaryOp>,
+        to: Option<Kind>,
+        at: Kind,
+        place: Place,
+        index: &'a TypedExpr,
+        right: &'a TypedExpr,
+    ) -> Option<u64>
+        ensures { (r : Meant) → Stopped program.now r self.old
+            → Values program.now
+            (then r (assign_after_row (meaning program.now) op to at place index.now right.now))
+            self.new result }
+    {
+        let frame = Frame::StoredAfterRow {
+            op,
+            to,
+            at,
+            place,
+            index,
+            right,
+        };
+        self.held(program, frame)
+    }
+
+    /// The further arguments of a call follow one.
+    #[inline(never)]
+    pub fn held_argument(
+        &mut self,
+        program: &'a TypedProgram,
+        callee: Callee,
+        rest: &'a [TypedExpr],
+        done: Vec<u64>,
+    ) -> Option<u64>
+        ensures { (r : Meant) → Stopped program.now r self.old
+            → Values program.now (then r (λ v s. want v s
+            (λ w. arguments (meaning program.now) program.now callee rest.now (done.items ++ w ∷ []) s)))
+            self.new result }
+    {
+        self.held(program, Frame::Argument { callee, rest, done })
+    }
+
     /// A scalar is set after the value.
     #[inline(never)]
     pub fn held_scalar(&mut self, program: &'a TypedProgram, i: u32) -> Option<u64>
@@ -137,96 +274,5 @@ impl<'a> Store<'a> {
     {
         let operand = Operand::Stored { op, to, at, place };
         self.held(program, Frame::Operand { operand, right })
-    }
-
-    /// A branch follows the test.
-    #[inline(never)]
-    pub fn kept_if(
-        &mut self,
-        program: &'a TypedProgram,
-        first: &'a TypedStmt,
-        other: Option<&'a TypedStmt>,
-    ) -> Ran
-        ensures { (r : Meant) → Stopped program.now r self.old
-            → Runs program.now (then r
-            (meant.after_if (meaning program.now) first.now (behind other.entry))) self.new result }
-    {
-        self.kept(program, Frame::If { first, other })
-    }
-
-    /// A return follows its value.
-    #[inline(never)]
-    pub fn kept_return(&mut self, program: &'a TypedProgram) -> Ran
-        ensures { (r : Meant) → Stopped program.now r self.old
-            → Runs program.now (then r (meant.returning)) self.new result }
-    {
-        self.kept(program, Frame::Returning)
-    }
-
-    /// A local is set after its initialiser.
-    #[inline(never)]
-    pub fn kept_initial(&mut self, program: &'a TypedProgram, i: u32) -> Ran
-        ensures { (r : Meant) → Stopped program.now r self.old
-            → Runs program.now (then r (meant.initialised i)) self.new result }
-    {
-        self.kept(program, Frame::Initialised(i))
-    }
-
-    /// Statements follow one before them.
-    #[inline(never)]
-    pub fn kept_rest(&mut self, program: &'a TypedProgram, rest: &'a [TypedStmt]) -> Ran
-        ensures { (r : Meant) → Stopped program.now r self.old
-            → Runs program.now (then r
-            (λ v s. meant.going_on v s (meant.sequence (meaning program.now) rest.now))) self.new result }
-    {
-        self.kept(program, Frame::Sequence(rest))
-    }
-
-    /// A loop's body follows its test.
-    #[inline(never)]
-    pub fn kept_test(&mut self, program: &'a TypedProgram, turn: Loop<'a>) -> Ran
-        ensures { (r : Meant) → Stopped program.now r self.old
-            → Turned program.now turn.entry (then r
-            (meant.after_test (meaning program.now) (behind turn.entry.test) (behind turn.entry.post)
-            turn.entry.body.now)) self.new result }
-    {
-        let frame = Frame::Turning {
-            stage: Stage::Tests,
-            rest: &[],
-            turn,
-        };
-        self.kept_turn(program, frame)
-    }
-
-    /// What follows the body of a loop.
-    #[inline(never)]
-    pub fn kept_body(&mut self, program: &'a TypedProgram, turn: Loop<'a>) -> Ran
-        ensures { (r : Meant) → Stopped program.now r self.old
-            → Turned program.now turn.entry (then r
-            (meant.after_body (meaning program.now) (behind turn.entry.test) (behind turn.entry.post)
-            turn.entry.body.now)) self.new result }
-    {
-        let frame = Frame::Turning {
-            stage: Stage::Ran,
-            rest: &[],
-            turn,
-        };
-        self.kept_turn(program, frame)
-    }
-
-    /// The next turn of a loop follows its last part.
-    #[inline(never)]
-    pub fn kept_post(&mut self, program: &'a TypedProgram, turn: Loop<'a>) -> Ran
-        ensures { (r : Meant) → Stopped program.now r self.old
-            → Turned program.now turn.entry (then r
-            (λ v s. meaning program.now (Turn (behind turn.entry.test) (behind turn.entry.post)
-            turn.entry.body.now) s)) self.new result }
-    {
-        let frame = Frame::Turning {
-            stage: Stage::Turns,
-            rest: &[],
-            turn,
-        };
-        self.kept_turn(program, frame)
     }
 }

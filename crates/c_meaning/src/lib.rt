@@ -14,6 +14,7 @@ mod expression;
 mod fetch;
 mod frame;
 mod held;
+mod kept;
 mod loops;
 mod machine;
 mod operations;

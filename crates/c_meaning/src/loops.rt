@@ -9,7 +9,7 @@ ghost use Rattle.c_meaning.specs.View.{behind, view};
 ghost use Rattle.c_meaning.specs.Direct.{Runs, Turned};
 
 use crate::direct::{Ran, Stop};
-use crate::frame::{Frame, Loop, Stage};
+use crate::frame::Loop;
 use crate::store::Store;
 use c_tree::{TypedExpr, TypedForInit, TypedProgram, TypedStmt};
 
@@ -148,14 +148,7 @@ impl<'a> Store<'a> {
             TypedForInit::Nothing => self.run_loop(program, turn, depth),
             TypedForInit::First(e) => match self.value_of(program, e, depth) {
                 Some(_) => self.run_loop(program, turn, depth),
-                None => {
-                    let frame = Frame::Turning {
-                        stage: Stage::Turns,
-                        rest: &[],
-                        turn,
-                    };
-                    self.kept(program, frame)
-                }
+                None => self.kept_first(program, turn),
             },
             TypedForInit::Locals(all) => self.run_locals(program, all.as_slice(), turn, depth),
         }
@@ -184,14 +177,7 @@ impl<'a> Store<'a> {
                 Ran::Breaks => return Ran::Breaks,
                 Ran::Continues => return Ran::Continues,
                 Ran::Returns => return Ran::Returns,
-                Ran::Stops => {
-                    let frame = Frame::Turning {
-                        stage: Stage::Begins,
-                        rest: more,
-                        turn,
-                    };
-                    return self.kept(program, frame);
-                }
+                Ran::Stops => return self.kept_locals(program, more, turn),
             }
         }
         self.run_loop(program, turn, depth)

@@ -38,7 +38,7 @@ impl<'a> Store<'a> {
 
     // An operation whose operands are both evaluated.
     #[cycle(parts)]
-    #[inline(never)]
+    #[inline(always)]
     fn operation_value(
         &mut self,
         program: &'a TypedProgram,

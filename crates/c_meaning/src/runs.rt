@@ -19,7 +19,7 @@ use c_meaning_spec::{Ending, Object, Signal};
 use c_tree::{Place, TypedExpr, TypedProgram, TypedSection, TypedStmt};
 
 /// How deep expressions and statements are evaluated at once, those of the functions that are called among them.
-pub const MOST_DEPTH: u32 = 1024;
+pub const MOST_DEPTH: u32 = 3072;
 
 impl<'a> Store<'a> {
     // A word into a scalar, as its initial value.

@@ -13,7 +13,6 @@ ghost use Rattle.c_meaning.specs.View.{view};
 ghost use Rattle.c_meaning.specs.Direct.{Values};
 
 use crate::direct::Stop;
-use crate::frame::{Frame, Operand};
 use crate::store::{Store, scalar_of};
 use crate::words::compound_of;
 use c_meaning_spec::{Ending, Object};
@@ -49,7 +48,7 @@ impl<'a> Store<'a> {
 
     /// An assignment, of whose left side only indexes are evaluated.
     #[cycle(parts)]
-    #[inline(never)]
+    #[inline(always)]
     pub fn assign_value(
         &mut self,
         program: &'a TypedProgram,
@@ -84,7 +83,7 @@ impl<'a> Store<'a> {
 
     // An assignment to an element.
     #[cycle(parts)]
-    #[inline(never)]
+    #[inline(always)]
     fn assign_element(
         &mut self,
         program: &'a TypedProgram,
@@ -227,7 +226,7 @@ impl<'a> Store<'a> {
 
     // An assignment to a scalar of the function.
     #[cycle(parts)]
-    #[inline(never)]
+    #[inline(always)]
     fn assign_scalar(
         &mut self,
         program: &'a TypedProgram,
@@ -271,28 +270,9 @@ impl<'a> Store<'a> {
                     let object = self.row_element_of(place, i, j);
                     self.put_value(program, op, to, at, right, object, depth)
                 }
-                None => {
-                    let operand = Operand::StoredRow {
-                        op,
-                        to,
-                        at,
-                        place,
-                        row: i,
-                    };
-                    self.held(program, Frame::Operand { operand, right })
-                }
+                None => self.held_row_store(program, op, to, at, place, i, right),
             },
-            None => {
-                let frame = Frame::StoredAfterRow {
-                    op,
-                    to,
-                    at,
-                    place,
-                    index,
-                    right,
-                };
-                self.held(program, frame)
-            }
+            None => self.held_store_in_row(program, op, to, at, place, index, right),
         }
     }
 
@@ -321,7 +301,7 @@ impl<'a> Store<'a> {
             Some(object) => match op {
                 None => match self.value_of(program, right, depth) {
                     Some(w) => self.put(program, object, w),
-                    None => self.held(program, Frame::Assigned(object)),
+                    None => self.held_object(program, object),
                 },
                 Some(op) => match self.load(object) {
                     None => {
@@ -332,16 +312,7 @@ impl<'a> Store<'a> {
                         Some(w) => {
                             self.put_some(program, object, compound_of(op, to, at, old, w))
                         }
-                        None => {
-                            let frame = Frame::Compounded {
-                                op,
-                                to,
-                                at,
-                                object,
-                                old,
-                            };
-                            self.held(program, frame)
-                        }
+                        None => self.held_compound(program, op, to, at, object, old),
                     },
                 },
             },

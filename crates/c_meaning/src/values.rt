@@ -10,7 +10,7 @@ ghost use Rattle.c_meaning.specs.Direct.{Values};
 
 use crate::direct::Stop;
 use crate::expression::is_array;
-use crate::frame::{Frame, Operand};
+use crate::frame::Frame;
 use crate::store::Store;
 use crate::words::unary_of;
 use c_constant::convert;
@@ -129,7 +129,7 @@ impl<'a> Store<'a> {
 
     // What stands in a conversion, which costs nothing.
     #[cycle(parts)]
-    #[inline(never)]
+    #[inline(always)]
     fn converted(
         &mut self,
         program: &'a TypedProgram,
@@ -209,7 +209,7 @@ impl<'a> Store<'a> {
 
     // An element.
     #[cycle(parts)]
-    #[inline(never)]
+    #[inline(always)]
     fn indexed_value(
         &mut self,
         program: &'a TypedProgram,
@@ -250,22 +250,9 @@ impl<'a> Store<'a> {
                     let object = self.row_element_of(array, i, j);
                     self.loaded(program, object)
                 }
-                None => {
-                    let frame = Frame::RowElement {
-                        place: array,
-                        row: i,
-                    };
-                    self.held(program, frame)
-                }
+                None => self.held_row_element(program, array, i),
             },
-            None => {
-                let operand = Operand::AfterRow(array);
-                let frame = Frame::Operand {
-                    operand,
-                    right: index,
-                };
-                self.held(program, frame)
-            }
+            None => self.held_row(program, array, index),
         }
     }
 
@@ -290,7 +277,7 @@ impl<'a> Store<'a> {
 
     // A cast.
     #[cycle(parts)]
-    #[inline(never)]
+    #[inline(always)]
     fn cast_value(
         &mut self,
         program: &'a TypedProgram,
