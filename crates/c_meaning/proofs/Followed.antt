@@ -1,15 +1,14 @@
 -- An expression before a frame, which is taken off at once where the expression is evaluated.
-use Rattle.std.proofs.Common.{◌≡◌, ℕ, suc, List, [], ◌∷◌, ◌++◌, map, reverse, length, refl, sym, ap}
+use Rattle.std.proofs.Common.{◌≡◌, suc, List, [], ◌∷◌, ◌++◌, length, refl, sym, ap}
 use Rattle.std.proofs.Common.{subst, ◌∙◌, arith}
 use Rattle.c_meaning_spec.specs.declared.Signal.{Signal}
 use Rattle.c_meaning_spec.specs.State.{State}
 use Rattle.c_meaning_steps.specs.Follow.{Follow, Step, Pushes, Does, Gives, Ends, Behind, under}
 use Rattle.c_meaning_steps.specs.Ahead.{Next, ToDo, Given, Ended, NotGiven, IsStep}
-use Rattle.c_meaning.specs.View.{follow, frames, next, step_of}
+use Rattle.c_meaning.specs.View.{frames, next, step_of}
 use Rattle.c_meaning.specs.declared.frame.Frame.{Frame}
 use Rattle.c_meaning.specs.declared.frame.Move.{Move}
 use Rattle.c_meaning.specs.declared.frame.Move.TheVariants as move
-use Rattle.c_meaning.proofs.Lists.{stack_push}
 use Rattle.c_meaning.proofs.Turns.{frames-length, frames-top}
 
 -- where nothing is given, the frame stays

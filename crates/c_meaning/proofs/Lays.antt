@@ -1,19 +1,19 @@
 -- The arrays as they are kept: unsetting, adding and leaving.
-use Rattle.std.proofs.Common.{◌≡◌, ℕ, zero, suc, ◌+◌, ◌-◌, ◌<◌, ◌≤◌, Bool, true, false, cond}
+use Rattle.std.proofs.Common.{◌≡◌, ℕ, zero, suc, ◌+◌, ◌-◌, ◌<◌, ◌≤◌, Bool, false, cond}
 use Rattle.std.proofs.Common.{nat_eq, List, [], ◌∷◌, ◌++◌, map, length, take, drop, set, get_or}
 use Rattle.std.proofs.Common.{replicate, Option, Some, None, slice_get, refl, sym, ap, subst, ◌∙◌}
-use Rattle.std.proofs.Common.{arith, add-zero, zero-add, eq-eqb, length-append, length-set}
+use Rattle.std.proofs.Common.{arith, add-zero, zero-add, eq-eqb, length-append}
 use Rattle.std.proofs.Common.{length-drop, append_assoc}
 use Rattle.std.proofs.lemmas.List.{take-append-le, drop-append-le, length-replicate, length-map}
 use Rattle.std.proofs.lemmas.List.{map-append}
 use Rattle.std.proofs.lemmas.Bool.Decides.{nat_tests}
-use Rattle.c_meaning_spec.specs.State.{cell_in, row_in}
+use Rattle.c_meaning_spec.specs.State.{row_in}
 use Rattle.c_meaning.specs.declared.arrays.Cell.{Cell}
 use Rattle.c_meaning.specs.declared.arrays.Span.{Span}
 use Rattle.c_meaning.specs.Cells.{shown, row_of, rows, total, Follows, SpansKnown, CellsKnown}
 use Rattle.c_meaning.specs.Cells.{span_length}
 use Rattle.c_meaning.specs.Cells.{IsLaid, worded}
-use Rattle.c_meaning.proofs.Rows.{start-least, length-rows}
+use Rattle.c_meaning.proofs.Rows.{length-rows}
 
 -- STAMPS
 

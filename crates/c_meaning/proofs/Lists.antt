@@ -1,11 +1,10 @@
 -- Facts about lists that the evaluator's functions need.
 use Rattle.std.proofs.Common.{◌≡◌, ℕ, zero, suc, ◌+◌, ◌<◌, ◌≤◌, List, [], ◌∷◌, ◌++◌, map, reverse}
-use Rattle.std.proofs.Common.{length, drop, get_or, refl, ap, sym, ◌∙◌, arith}
+use Rattle.std.proofs.Common.{length, drop, get_or, refl, arith}
 use Rattle.std.proofs.lemmas.List.{map-append, reverse-append}
 use Rattle.c_tree.specs.declared.TypedArray.{TypedArray}
 use Rattle.c_meaning_spec.specs.Call.{array_bytes, all_bytes}
 use Rattle.c_meaning.specs.View.{follow}
-use Rattle.c_meaning_steps.specs.Follow.{Follow}
 use Rattle.c_meaning.specs.declared.frame.Frame.{Frame}
 
 pub stack_push : (xs : List Frame) (f : Frame)

@@ -7,16 +7,18 @@ use Rattle.c_tree.specs.declared.TypedNode.TheOpen.{Number, Name}
 use Rattle.c_tree.specs.declared.TypedNode.TheVariants as node
 use Rattle.c_meaning_spec.specs.declared.Object.TheVariants.{InScalar}
 use Rattle.c_meaning_spec.specs.Call.{entered, entered_if, left}
-use Rattle.c_meaning_steps.specs.Follow.{Follow, FCaller}
-use Rattle.c_meaning.specs.View.{follow}
-use Rattle.c_meaning.specs.Direct.{Values}
-use Rattle.c_meaning.specs.declared.frame.Frame.{Frame}
+use Rattle.c_meaning_spec.specs.declared.Signal.{Signal}
+use Rattle.c_meaning.specs.View.{view}
+use Rattle.c_meaning.specs.Direct.{IsCaller, IsEnd, Runs, Values, signal_of}
+use Rattle.c_meaning.specs.declared.calls.Caller.{Caller}
+use Rattle.c_meaning.specs.declared.direct.Ran.{Ran}
+use Rattle.c_meaning.specs.declared.direct.Ran.TheVariants as ran
 use Rattle.c_meaning.specs.declared.store.Store.{Store}
 use Rattle.c_tree.specs.declared.TypedExpr.{TypedExpr}
 use Rattle.c_tree.specs.declared.TypedStmt.{TypedStmt, out-TypedStmt}
 use Rattle.c_tree.specs.declared.TypedProgram.{TypedProgram}
 use Rattle.c_tree.specs.TypedTrees.{Node, node_of}
-use Rattle.c_meaning_spec.specs.State.{State, then, spend, load}
+use Rattle.c_meaning_spec.specs.State.{State, Result, then, spend, load}
 use Rattle.c_meaning_spec.specs.Task.{Of, Run, Turn}
 use Rattle.c_meaning_spec.specs.Expression.{expression}
 use Rattle.c_meaning_spec.specs.Statement.{statement, turn}
@@ -27,7 +29,7 @@ use Rattle.c_meaning_spec.specs.declared.Ending.TheVariants.{More}
 use Rattle.c_meaning_spec.specs.State.{Go, Over}
 use Rattle.c_meaning_spec.specs.Statement.{after_switch, run_from}
 use Rattle.c_meaning_spec.proofs.Equations.{meaning-is}
-use Rattle.c_meaning_steps.specs.Ahead.{back_of, settle_of}
+use Rattle.c_meaning_steps.specs.Ahead.{settle_of}
 use Rattle.c_meaning_steps.specs.Follow.{Ends, Gives, FSwitch, FSections}
 use Rattle.c_meaning_steps.specs.StatementSteps.{after_switch_step, sections_step}
 use Rattle.c_meaning_steps.proofs.Moves.{s-resume}
@@ -62,16 +64,39 @@ pub no_label : (P : TypedProgram) (xs : List TypedSection) (w : ℕ) (s s' : Sta
     → Gives Nothing s' ≡ after_switch_step xs w s → Go Nothing s' ≡ after_switch (meaning P) xs (Value w) s
 no_label P xs w s s' e = ap (settle_of P) e ∙ s-resume P (FSwitch xs) (Value w) s
 
--- a call that was entered, with its body left before the frame of its caller
-pub begun_call : (P : TypedProgram) (is_main : Bool) (f : TypedFunc) (done : List ℕ) (s mid : State) (x : Frame)
-    (m : Store) (word : Option ℕ) → mid ≡ entered f done s
-    → follow x ≡ FCaller is_main s.scalars (length s.arrays) s.base s.room
-    → Values P (then (meaning P (Run f.body) mid) (back_of P (follow x))) m word
+-- a call that was entered, with what its caller goes on with behind its body
+pub begun_call : (P : TypedProgram) (is_main : Bool) (f : TypedFunc) (done : List ℕ) (s mid : State) (c : Caller)
+    (m : Store) (word : Option ℕ) → mid ≡ entered f done s → IsCaller s c
+    → Values P (then (meaning P (Run f.body) mid) (left is_main c.scalars.items c.count c.base c.room)) m word
     → Values P (entered_if (meaning P) is_main true f done s) m word
-begun_call P is_main f done s mid x m word e d h =
+begun_call P is_main f done s mid c m word e d h =
     subst (λ (y : State). Values P (then (meaning P (Run f.body) y)
     (left is_main s.scalars (length s.arrays) s.base s.room)) m word) e
-    (subst (λ (y : Follow). Values P (then (meaning P (Run f.body) mid) (back_of P y)) m word) d h)
+    (subst (λ (x : ℕ). Values P (then (meaning P (Run f.body) mid)
+    (left is_main s.scalars (length s.arrays) s.base x)) m word) d.room
+    (subst (λ (x : ℕ). Values P (then (meaning P (Run f.body) mid)
+    (left is_main s.scalars (length s.arrays) x c.room)) m word) d.base
+    (subst (λ (x : ℕ). Values P (then (meaning P (Run f.body) mid)
+    (left is_main s.scalars x c.base c.room)) m word) d.count
+    (subst (λ (x : List (Option ℕ)). Values P (then (meaning P (Run f.body) mid)
+    (left is_main x c.count c.base c.room)) m word) d.scalars h))))
+
+-- what follows a statement that was run to its end, by its signal
+pub after_end : (P : TypedProgram) (r : Result) (x y : Ran) (m m' : Store) (word : Option ℕ)
+    (next : Signal → State → Result) → x ≡ y → IsEnd y → Runs P r m x
+    → Values P (next (signal_of x m.returned) (view m)) m' word → Values P (then r next) m' word
+after_end P r x y m m' word next e n h v =
+    ended P r y m m' word next n (subst (λ (z : Ran). Runs P r m z) e h)
+    (subst (λ (z : Ran). Values P (next (signal_of z m.returned) (view m)) m' word) e v)
+  where
+    ended : (P : TypedProgram) (r : Result) (y : Ran) (m m' : Store) (word : Option ℕ)
+        (next : Signal → State → Result) → IsEnd y → Runs P r m y
+        → Values P (next (signal_of y m.returned) (view m)) m' word → Values P (then r next) m' word
+    ended P r ran.Nothing m m' word next n h v = subst (λ (q : Result). Values P (then q next) m' word) h v
+    ended P r ran.Breaks m m' word next n h v = subst (λ (q : Result). Values P (then q next) m' word) h v
+    ended P r ran.Continues m m' word next n h v = subst (λ (q : Result). Values P (then q next) m' word) h v
+    ended P r ran.Returns m m' word next n h v = subst (λ (q : Result). Values P (then q next) m' word) h v
+    ended P r ran.Stops m m' word next n h v = absurd n
 
 -- leaves
 pub number_is : (P : TypedProgram) (e : TypedExpr) (w : ℕ) (s : State) → node_of e ≡ Number w

@@ -1,6 +1,6 @@
 -- What main returns, as the low 32 bits of its word by sign.
-use Rattle.std.proofs.Common.{◌≡◌, ℕ, ℤ, pos, negsuc, ◌+◌, ◌-◌, ◌<◌, ◌≤◌, ◌%◌, ◌^◌, Bool, true}
-use Rattle.std.proofs.Common.{false, cond, nat_lt, refl, sym, ap, ◌∙◌, arith}
+use Rattle.std.proofs.Common.{◌≡◌, ℕ, ◌<◌, ◌%◌, Bool}
+use Rattle.std.proofs.Common.{nat_lt, refl, arith}
 use Rattle.std.specs.Int.{cast_signed}
 use Rattle.std.specs.Int.{w32, w64}
 use Rattle.std.proofs.lemmas.Int.{ints}

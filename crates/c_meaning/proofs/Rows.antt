@@ -1,13 +1,13 @@
 -- The arrays as they are kept: reading and writing.
 use Rattle.std.proofs.Common.{◌≡◌, ℕ, zero, suc, ◌+◌, ◌-◌, ◌<◌, ◌≤◌, Bool, true, false, cond}
-use Rattle.std.proofs.Common.{nat_eq, List, [], ◌∷◌, ◌++◌, map, length, take, drop, set, get_or}
-use Rattle.std.proofs.Common.{replicate, Option, Some, None, slice_get, refl, sym, ap, subst, ◌∙◌}
-use Rattle.std.proofs.Common.{arith, add-zero, zero-add, eq-eqb, IsSome, IsTrue}
+use Rattle.std.proofs.Common.{List, [], ◌∷◌, map, length, take, drop, set, get_or}
+use Rattle.std.proofs.Common.{Option, Some, None, slice_get, refl, sym, ap, subst, ◌∙◌}
+use Rattle.std.proofs.Common.{arith, zero-add, eq-eqb, IsSome, IsTrue}
 use Rattle.std.specs.Prelude.{option_map}
 use Rattle.std.proofs.lemmas.List.{drop-set-lt, drop-set-add, take-set-le, map-set}
 use Rattle.std.proofs.Math.Seq.{take-set-lt}
 use Rattle.std.proofs.lemmas.Option.{slice_get-map, slice_get_past, slice_get-get_or}
-use Rattle.c_meaning_spec.specs.State.{cell_in, held, row_in, element_set}
+use Rattle.c_meaning_spec.specs.State.{cell_in, element_set}
 use Rattle.c_meaning.specs.declared.arrays.Cell.{Cell}
 use Rattle.c_meaning.specs.declared.arrays.Span.{Span}
 use Rattle.c_meaning.specs.Cells.{shown, row_of, rows, total, Follows}

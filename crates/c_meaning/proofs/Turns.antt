@@ -1,11 +1,11 @@
 -- A turn of the evaluator's loop keeps what is ahead.
-use Rattle.std.proofs.Common.{◌≡◌, ℕ, zero, suc, ◌+◌, ◌*◌, ◌<◌, ◌≤◌, Bool, true, false, List, []}
+use Rattle.std.proofs.Common.{◌≡◌, ℕ, suc, true, false, List, []}
 use Rattle.std.proofs.Common.{◌∷◌, ◌++◌, map, reverse, length, nat_eq, refl, sym, ap, ◌∙◌, arith}
 use Rattle.std.proofs.lemmas.Bool.Decides.{nat_tests}
-use Rattle.std.proofs.lemmas.List.{length-reverse, length-map}
+use Rattle.std.proofs.lemmas.List.{length-reverse, length-map, map-append, reverse-append, reverse-reverse}
+use Rattle.std.proofs.lemmas.Grind.{reverse_onto}
 use Rattle.c_tree.specs.declared.TypedProgram.{TypedProgram}
 use Rattle.c_meaning_spec.specs.declared.Signal.{Signal}
-use Rattle.c_meaning_spec.specs.declared.Ending.{Ending}
 use Rattle.c_meaning_spec.specs.State.{State, Result, Go, Over, then}
 use Rattle.c_meaning_spec.specs.Task.{Task}
 use Rattle.c_meaning_spec.specs.Eval.{meaning}
@@ -27,11 +27,6 @@ pub frames-top : (old rest : List Frame) (f : Frame) → old ≡ rest ++ f ∷ [
     → frames old ≡ follow f ∷ frames rest
 unfolding frames
 frames-top old rest f e = ap (λ (fs : List Frame). reverse (map follow fs)) e ∙ stack_push rest f
-
-push-on : (fs : List Frame) (f : Frame) (gs : List Follow)
-    → map follow fs ++ follow f ∷ gs ≡ map follow (fs ++ f ∷ []) ++ gs
-push-on [] f gs = refl
-push-on (g ∷ fs) f gs = ap (λ (xs : List Follow). follow g ∷ xs) (push-on fs f gs)
 
 pub give-kept : (P : TypedProgram) (f : Frame) (v : Signal) (s s' : State) (n n0 : Next)
     (old rest new : List Frame) → n0 ≡ Given v → old ≡ rest ++ f ∷ []
@@ -86,12 +81,29 @@ pub no_more : (P : TypedProgram) (r : Result) (fs : List Frame) → fs ≡ []
 no_more P r fs e =
     ap (λ (fs : List Follow). then r (unwind_of P fs)) (no-frames fs e) ∙ then-unwound P r
 
--- a frame that is moved from those that are to follow to those that stand there
-pub moved_on : (pending rest old new : List Frame) (f : Frame) → pending ≡ rest ++ f ∷ [] → new ≡ old ++ f ∷ []
-    → map follow rest ++ frames new ≡ map follow pending ++ frames old
-moved_on pending rest old new f p n =
-    ap (λ (fs : List Follow). map follow rest ++ fs) (frames-top new old f n)
-    ∙ (push-on rest f (frames old) ∙ ap (λ (fs : List Frame). map follow fs ++ frames old) (sym p))
+turn-map : (xs : List Frame) → map follow (reverse xs) ≡ reverse (map follow xs)
+turn-map [] = refl
+turn-map (x ∷ xs) =
+    ap (λ (fs : List Frame). map follow fs) (reverse_onto xs x [])
+    ∙ (map-append follow (reverse xs) (x ∷ [])
+    ∙ (ap (λ (fs : List Follow). fs ++ follow x ∷ []) (turn-map xs)
+    ∙ sym (reverse_onto (map follow xs) (follow x) [])))
+
+over-turned : (pending old : List Frame)
+    → reverse (map follow (old ++ reverse pending)) ≡ map follow pending ++ reverse (map follow old)
+over-turned pending old =
+    ap (λ (fs : List Follow). reverse fs) (map-append follow old (reverse pending))
+    ∙ (reverse-append (map follow old) (map follow (reverse pending))
+    ∙ ap (λ (fs : List Follow). fs ++ reverse (map follow old))
+    (ap (λ (fs : List Follow). reverse fs) (turn-map pending) ∙ reverse-reverse (map follow pending)))
+
+-- frames that were turned over, behind those that stand there
+pub turned_over : (pending turned old new : List Frame) → turned ≡ reverse pending → new ≡ old ++ turned
+    → frames new ≡ map follow pending ++ frames old
+unfolding frames
+turned_over pending turned old new t n =
+    ap (λ (fs : List Frame). reverse (map follow fs)) n
+    ∙ (ap (λ (fs : List Frame). reverse (map follow (old ++ fs))) t ∙ over-turned pending old)
 
 -- a task before frames of two lists
 pub both_follow : (P : TypedProgram) (t : Task) (s s' : State) (fs gs now : List Follow)
@@ -101,3 +113,10 @@ both_follow P t s s' fs gs now e d =
     ap (λ (x : State). then (meaning P t x) (unwind_of P now)) d
     ∙ (ap (λ (xs : List Follow). then (meaning P t s) (unwind_of P xs)) e
     ∙ then-on P (meaning P t s) fs gs)
+
+-- no value, before frames of two lists
+pub both_given : (P : TypedProgram) (v : Signal) (s s' : State) (fs gs now : List Follow) → now ≡ fs ++ gs → s' ≡ s
+    → unwind_of P now v s' ≡ then (unwind_of P fs v s) (unwind_of P gs)
+both_given P v s s' fs gs now e d =
+    ap (λ (x : State). unwind_of P now v x) d
+    ∙ (ap (λ (xs : List Follow). unwind_of P xs v s) e ∙ then-on P (Go v s) fs gs)

@@ -1,10 +1,12 @@
 -- What frames make of a part, one behind another.
-use Rattle.std.proofs.Common.{◌≡◌, List, [], ◌∷◌, ◌++◌, map, refl, sym, ap, ◌∙◌}
+use Rattle.std.proofs.Common.{◌≡◌, List, [], ◌∷◌, ◌++◌, map, length, refl, sym, ap, subst, ◌∙◌, arith}
 use Rattle.std.specs.Borrow.{Bor}
 use Rattle.c_tree.specs.declared.TypedExpr.{TypedExpr}
 use Rattle.c_tree.specs.declared.TypedStmt.{TypedStmt}
 use Rattle.c_tree.specs.declared.TypedProgram.{TypedProgram}
 use Rattle.c_meaning_spec.specs.declared.Signal.{Signal}
+use Rattle.c_meaning_spec.specs.declared.Signal.TheVariants.{Nothing, Value, Breaks, Continues, Returns}
+use Rattle.c_meaning_spec.specs.Statement.{dropped, going_on, sequence}
 use Rattle.c_meaning_spec.specs.State.{State, Result, Go, Over, then}
 use Rattle.c_meaning_spec.specs.Task.{Task, Of, Run}
 use Rattle.c_meaning_spec.specs.Eval.{meaning}
@@ -93,3 +95,61 @@ pub stmt_more : (P : TypedProgram) (x : Stop) (st : Bor TypedStmt) (old new : St
 stmt_more P x st old new f r at same more h =
     ap (λ (y : Stop). stop_told P y new (then r (back_of P (follow f)))) at
     ∙ rest_more P (Run st.now) old new f r same more (sym (ap (λ (y : Stop). stop_told P y old r) at) ∙ h)
+
+-- one frame more behind a call that gave no value
+pub gave_more : (P : TypedProgram) (x : Stop) (old new : Store) (f : Frame) (r : Result)
+    → x ≡ stop.Gave → view new ≡ view old → new.pending.items ≡ old.pending.items ++ f ∷ []
+    → stop_told P x old r ≡ r
+    → stop_told P x new (then r (back_of P (follow f))) ≡ then r (back_of P (follow f))
+gave_more P x old new f r at same more h =
+    ap (λ (y : Stop). stop_told P y new (then r (back_of P (follow f)))) at
+    ∙ (one_more P (Go Nothing (view new)) old.pending.items new.pending.items f more
+    ∙ (ap (λ s. then (unwind_of P (map follow old.pending.items) Nothing s) (back_of P (follow f))) same
+    ∙ ap (λ (q : Result). then q (back_of P (follow f))) (sym (ap (λ (y : Stop). stop_told P y old r) at) ∙ h)))
+
+-- no value, before no frames
+pub nothing_given : (P : TypedProgram) (s : State) (fs : List Frame) → fs ≡ []
+    → unwind_of P (map follow fs) Nothing s ≡ Go Nothing s
+nothing_given P s fs e = unwound P (Go Nothing s) fs e
+
+no-items : (fs : List Frame) → length fs ≡ 0 → fs ≡ []
+no-items [] h = refl
+no-items (f ∷ fs) h = absurd (omega arith)
+
+gave-empty : (P : TypedProgram) (s : State) (fs : List Frame) (r : Result) → fs ≡ []
+    → unwind_of P (map follow fs) Nothing s ≡ r → Go Nothing s ≡ r
+unfolding unwind_of
+gave-empty P s fs r e h = sym (ap (λ (gs : List Frame). unwind_of P (map follow gs) Nothing s) e) ∙ h
+
+-- an expression statement whose call gave no value, with no frame between
+pub plain_gave : (P : TypedProgram) (x : Stop) (m : Store) (r : Result) → x ≡ stop.Gave
+    → length m.pending.items ≡ 0 → stop_told P x m r ≡ r → Go Nothing (view m) ≡ then r dropped
+plain_gave P x m r at e h =
+    ap (λ (q : Result). then q dropped)
+    (gave-empty P (view m) m.pending.items r (no-items m.pending.items e)
+    (sym (ap (λ (y : Stop). stop_told P y m r) at) ∙ h))
+
+on-none : (P : TypedProgram) (v : Signal) (s : State) → going_on v s (sequence (meaning P) []) ≡ Go v s
+on-none P Nothing s = refl
+on-none P (Value w) s = refl
+on-none P Breaks s = refl
+on-none P Continues s = refl
+on-none P (Returns w) s = refl
+
+then-none : (P : TypedProgram) (r : Result) → then r (λ v s. going_on v s (sequence (meaning P) [])) ≡ r
+then-none P (Go v s) = on-none P v s
+then-none P (Over why s) = refl
+
+no-statements : (xs : List TypedStmt) → length xs ≡ 0 → xs ≡ []
+no-statements [] h = refl
+no-statements (x ∷ xs) h = absurd (omega arith)
+
+-- what stopped before no statement
+pub none_behind : (P : TypedProgram) (rest : List TypedStmt) (m : Store) (r : Result) → length rest ≡ 0
+    → stop_told P m.stop m r ≡ r
+    → stop_told P m.stop m (then r (λ v s. going_on v s (sequence (meaning P) rest)))
+    ≡ then r (λ v s. going_on v s (sequence (meaning P) rest))
+none_behind P rest m r e h =
+    subst (λ (q : Result). stop_told P m.stop m q ≡ q)
+    (sym (ap (λ (xs : List TypedStmt). then r (λ v s. going_on v s (sequence (meaning P) xs))) (no-statements rest e)
+    ∙ then-none P r)) h

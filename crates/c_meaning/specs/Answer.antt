@@ -1,6 +1,5 @@
 -- The evaluator's answer: the definition's outcome, without the output so far of one that is not
 -- Done.
-use Rattle.std.specs.Prelude.{ℕ, ℤ, List}
 use Rattle.c_meaning_spec.specs.declared.Ending.TheVariants as ending
 use Rattle.c_meaning_spec.specs.Eval.{Stopped}
 use Rattle.c_meaning_spec.specs.Eval as meant

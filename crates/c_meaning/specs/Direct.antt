@@ -1,13 +1,15 @@
 -- What a part comes to that is evaluated at once, by recursion on its tree.
-use Rattle.std.specs.Prelude.{◌≡◌, ℕ, map, Option, Some, None}
+use Rattle.std.specs.Prelude.{◌≡◌, ℕ, length, map, Option, Some, None}
 use Rattle.c_tree.specs.declared.TypedProgram.{TypedProgram}
 use Rattle.c_meaning_spec.specs.declared.Signal.TheVariants.{Nothing, Value, Breaks, Continues, Returns}
-use Rattle.c_meaning_spec.specs.State.{Result, Go, Over, then}
+use Rattle.c_meaning_spec.specs.declared.Signal.{Signal}
+use Rattle.c_meaning_spec.specs.State.{State, Result, Go, Over, then}
 use Rattle.c_meaning_spec.specs.Task.{Task, Of, Run, Turn}
 use Rattle.c_meaning_spec.specs.Eval.{meaning}
 use Rattle.c_meaning_steps.specs.Ahead.{unwind_of}
 use Rattle.c_meaning.specs.View.{behind, view, follow}
 use Rattle.c_meaning.specs.declared.store.Store.{Store}
+use Rattle.c_meaning.specs.declared.calls.Caller.{Caller}
 use Rattle.c_meaning.specs.declared.frame.Loop.{Loop}
 use Rattle.c_meaning.specs.declared.direct.Stop.{Stop}
 use Rattle.c_meaning.specs.declared.direct.Stop.TheVariants as stop
@@ -18,11 +20,13 @@ use Rattle.c_meaning.specs.declared.direct.Ran.TheVariants as ran
 abbrev pub rest_told : TypedProgram → Task → Store → Result
 rest_told P t m = then (meaning P t (view m)) (unwind_of P (map follow m.pending.items))
 
--- what a part means that was not evaluated to its end; of want of memory nothing is said
+-- what a part means that was not evaluated to its end, or that gave no value to the frames; of want of memory
+-- nothing is said
 abbrev pub stop_told : TypedProgram → Stop → Store → Result → Result
 stop_told P (stop.Fails why) m r = Over why (view m)
 stop_told P (stop.AtExpr e) m r = rest_told P (Of e.now) m
 stop_told P (stop.AtStmt st) m r = rest_told P (Run st.now) m
+stop_told P stop.Gave m r = unwind_of P (map follow m.pending.items) Nothing (view m)
 stop_told P stop.Memory m r = r
 
 -- what an expression means, by what it came to
@@ -37,6 +41,25 @@ ran_told P ran.Breaks m r = Go Breaks (view m)
 ran_told P ran.Continues m r = Go Continues (view m)
 ran_told P ran.Returns m r = Go (Returns m.returned) (view m)
 ran_told P ran.Stops m r = stop_told P m.stop m r
+
+-- the signal of a statement that was run to its end
+abbrev pub signal_of : Ran → Option ℕ → Signal
+signal_of ran.Nothing w = Nothing
+signal_of ran.Continues w = Continues
+signal_of ran.Returns w = Returns w
+signal_of _ w = Breaks
+
+-- a statement was run to its end
+abbrev pub IsEnd : Ran → Type 0
+IsEnd ran.Stops = ⊥
+IsEnd _ = Unit {0}
+
+-- what a call gives back is what its caller had
+pub record IsCaller (s : State) (c : Caller) : Type 0 where
+  pub scalars : c.scalars.items ≡ s.scalars
+  pub count : c.count ≡ length s.arrays
+  pub base : c.base ≡ s.base
+  pub room : c.room ≡ s.room
 
 -- what a turn of a loop means: where it continues, the next turn is due
 abbrev pub turned_told : TypedProgram → Loop → Ran → Store → Result → Result

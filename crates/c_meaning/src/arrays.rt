@@ -72,6 +72,7 @@ fn put_words(cells: &mut Vec<Cell>, stamp: u64, words: &[u64]) -> Result<(), All
 }
 
 // The span of an array by its number.
+#[inline(always)]
 fn span_at(spans: &[Span], array: u64) -> Option<Span>
     ensures { result ≡ slice_get spans.now array }
 {
@@ -92,6 +93,7 @@ fn length_at(spans: &[Span], array: u64) -> usize
 }
 
 /// The word of a cell, where it has this stamp.
+#[inline(always)]
 fn word_in(cell: Cell, stamp: u64) -> Option<u64>
     ensures { result ≡ shown stamp cell }
 {
@@ -123,6 +125,7 @@ fn sum_of(used: usize, length: usize) -> Result<usize, AllocError>
 }
 
 // The word of an element, if it is there and set.
+#[inline(always)]
 fn read(spans: &[Span], cells: &[Cell], array: u64, at: u64) -> Option<u64>
     requires follows { Follows 0 spans.now }
     requires fits { total spans.now ≤ length cells.now }
@@ -141,6 +144,7 @@ fn read(spans: &[Span], cells: &[Cell], array: u64, at: u64) -> Option<u64>
 }
 
 // Stores a word into an element, if it is there.
+#[inline(always)]
 fn write(spans: &[Span], cells: &mut Vec<Cell>, array: u64, at: u64, word: u64) -> bool
     requires follows { Follows 0 spans.now }
     requires fits { total spans.now ≤ length cells.old.items }
@@ -204,6 +208,7 @@ impl Arrays {
     }
 
     /// Sets an element, if it is there.
+    #[inline(always)]
     pub fn set(&mut self, array: u64, at: u64, word: u64) -> bool
         ensures there { IsTrue result ↔ IsSome (cell_in (slice_get self.old array) at) }
         ensures set { IsTrue result → self.new ≡ element_set self.old array at (Some word) }

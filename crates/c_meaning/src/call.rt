@@ -15,6 +15,7 @@ use c_tree::{Callee, MOST_FRAME_BYTES, TypedArray, TypedExpr, TypedFunc, TypedPr
 use std::alloc::{AllocError, Global};
 
 /// An empty list, which may have been used before.
+#[inline(always)]
 pub fn spare<T: Drop>(alloc: Global, pool: &mut Vec<Vec<T>>) -> Vec<T>
     ensures { result.items ≡ [] }
 {
@@ -36,6 +37,7 @@ fn bytes_of(a: &TypedArray) -> u64
 }
 
 /// The bytes of the active frames with that of f, if so many are allowed.
+#[inline(always)]
 pub fn room_with(room: u32, f: &TypedFunc) -> Option<u32>
     ensures { SomeIff result (room + frame_of f.now ≤ MOST_FRAME_BYTES) (room + frame_of f.now) }
 {
@@ -57,6 +59,7 @@ pub fn room_with(room: u32, f: &TypedFunc) -> Option<u32>
 }
 
 /// Adds scalars that are not set.
+#[inline(always)]
 fn pad(scalars: &mut Vec<Option<u64>>, count: usize) -> Result<(), AllocError>
     ensures { OnOk result (scalars.new.items ≡ scalars.old.items ++ replicate count None) }
 {
@@ -67,6 +70,7 @@ fn pad(scalars: &mut Vec<Option<u64>>, count: usize) -> Result<(), AllocError>
 }
 
 /// Puts the arguments of a call into a list, and then unset scalars.
+#[inline(always)]
 pub fn put_scalars(
     scalars: &mut Vec<Option<u64>>,
     f: &TypedFunc,
@@ -82,6 +86,7 @@ pub fn put_scalars(
 }
 
 // Adds the second sizes of the arrays of a call.
+#[inline(always)]
 pub fn add_rows(rows: &mut Vec<Option<u32>>, f: &TypedFunc) -> Result<(), AllocError>
     ensures { OnOk result (rows.new.items ≡ rows.old.items ++ map array_row f.now.arrays) }
 {
@@ -92,6 +97,7 @@ pub fn add_rows(rows: &mut Vec<Option<u32>>, f: &TypedFunc) -> Result<(), AllocE
 }
 
 // Adds the arrays of a call, unset.
+#[inline(always)]
 pub fn add_arrays(arrays: &mut Arrays, f: &TypedFunc) -> Result<(), AllocError>
     ensures { OnOk result (arrays.new ≡ arrays.old ++ map unset_array f.now.arrays) }
 {

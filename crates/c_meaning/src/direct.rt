@@ -2,7 +2,9 @@
 //! a part of where they are not evaluated to their end.
 
 ghost use Rattle.std.specs.Prelude.{OnOk};
-ghost use Rattle.c_meaning_spec.specs.State.{Result as Meant, then, given, with_some, load, store};
+ghost use Rattle.c_meaning_spec.specs.State.{Result as Meant, Go, then, given, with_some, load, store};
+ghost use Rattle.c_meaning_spec.specs.declared.Signal.TheVariants.{Nothing};
+ghost use Rattle.c_meaning_spec.specs.Statement.{dropped};
 ghost use Rattle.c_meaning_spec.specs.Task.{Of, Run};
 ghost use Rattle.c_meaning_spec.specs.Eval.{meaning};
 ghost use Rattle.c_meaning_steps.specs.Ahead.{back_of};
@@ -16,12 +18,14 @@ use c_tree::{TypedExpr, TypedProgram, TypedStmt};
 use std::alloc::AllocError;
 
 /// Why a part was not evaluated to its end: the evaluation ends, an expression or a statement is to be evaluated first
-/// and then what the frames of `Store::pending` say, of which the first follows it, or there is no memory.
+/// and then what the frames of `Store::pending` say, of which the first follows it, a call gave no value to these
+/// frames, or there is no memory.
 #[derive(Clone, Copy)]
 pub enum Stop<'a> {
     Fails(Ending),
     AtExpr(&'a TypedExpr),
     AtStmt(&'a TypedStmt),
+    Gave,
     Memory,
 }
 
@@ -39,6 +43,7 @@ pub enum Ran {
 impl<'a> Store<'a> {
     /// An expression that is left to be evaluated.
     #[tactic(auto, using(crate::proofs::Unwinds::unwound))]
+    #[inline(never)]
     pub fn leave_expr(&mut self, program: &'a TypedProgram, e: &'a TypedExpr) -> Option<u64>
         ensures { Values program.now (meaning program.now (Of e.now) (view self.old)) self.new result }
     {
@@ -49,6 +54,7 @@ impl<'a> Store<'a> {
 
     /// A statement that is left to be evaluated.
     #[tactic(auto, using(crate::proofs::Unwinds::unwound))]
+    #[inline(never)]
     pub fn leave_stmt(&mut self, program: &'a TypedProgram, st: &'a TypedStmt)
         ensures { Stopped program.now (meaning program.now (Run st.now) (view self.old)) self.new }
     {
@@ -73,11 +79,16 @@ impl<'a> Store<'a> {
                 self.pending.push(frame)?;
                 Ok(())
             }
+            Stop::Gave => {
+                self.pending.push(frame)?;
+                Ok(())
+            }
             Stop::Memory => Ok(()),
         }
     }
 
     /// What follows an expression that was not evaluated to its end, of another one in which it stands.
+    #[inline(never)]
     pub fn held(&mut self, program: &'a TypedProgram, frame: Frame<'a>) -> Option<u64>
         ensures { (r : Meant) → Stopped program.now r self.old
             → Values program.now (then r (back_of program.now (follow frame.entry))) self.new result }
@@ -92,6 +103,7 @@ impl<'a> Store<'a> {
     }
 
     /// The same of a statement.
+    #[inline(never)]
     pub fn kept(&mut self, program: &'a TypedProgram, frame: Frame<'a>) -> Ran
         ensures { (r : Meant) → Stopped program.now r self.old
             → Runs program.now (then r (back_of program.now (follow frame.entry))) self.new result }
@@ -105,7 +117,39 @@ impl<'a> Store<'a> {
         }
     }
 
+    /// What follows an expression statement whose expression gave no value: nothing, where no frame stands between.
+    #[tactic(auto, using(crate::proofs::Unwinds::plain_gave))]
+    #[inline(never)]
+    pub fn kept_plain(&mut self, program: &'a TypedProgram) -> Ran
+        ensures { (r : Meant) → Stopped program.now r self.old
+            → Runs program.now (then r dropped) self.new result }
+    {
+        let stop = self.stop;
+        match stop {
+            Stop::Gave => {
+                if self.pending.len() == 0 {
+                    Ran::Nothing
+                } else {
+                    self.kept(program, Frame::Dropped)
+                }
+            }
+            _ => self.kept(program, Frame::Dropped),
+        }
+    }
+
+    /// A call that gives no value.
+    #[tactic(auto, using(crate::proofs::Unwinds::nothing_given))]
+    #[inline(never)]
+    pub fn give_nothing(&mut self, program: &'a TypedProgram) -> Option<u64>
+        ensures { Values program.now (Go Nothing (view self.old)) self.new result }
+    {
+        self.pending.clear();
+        self.stop = Stop::Gave;
+        None
+    }
+
     /// The same of a turn of a loop.
+    #[inline(never)]
     pub fn kept_turn(&mut self, program: &'a TypedProgram, frame: Frame<'a>) -> Ran
         ensures { (r : Meant) (l : Loop) → Stopped program.now r self.old
             → Turned program.now l (then r (back_of program.now (follow frame.entry))) self.new result }
@@ -120,6 +164,7 @@ impl<'a> Store<'a> {
     }
 
     /// A value, if there is one.
+    #[inline(always)]
     pub fn value(&mut self, program: &'a TypedProgram, word: Option<u64>) -> Option<u64>
         ensures { Values program.now (given word (view self.old)) self.new result }
     {
@@ -133,6 +178,7 @@ impl<'a> Store<'a> {
     }
 
     /// What an object holds, if there is the object.
+    #[inline(always)]
     pub fn loaded(&mut self, program: &'a TypedProgram, object: Option<Object>) -> Option<u64>
         ensures { Values program.now
             (with_some object (view self.old) (λ x. load x (view self.old))) self.new result }
@@ -150,6 +196,7 @@ impl<'a> Store<'a> {
     }
 
     /// A word into an object.
+    #[inline(always)]
     pub fn put(&mut self, program: &'a TypedProgram, object: Object, w: u64) -> Option<u64>
         ensures { Values program.now (store (view self.old) object w) self.new result }
     {

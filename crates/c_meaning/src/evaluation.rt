@@ -16,7 +16,7 @@ use crate::direct::{Ran, Stop};
 use crate::frame::{Move, Task};
 use crate::machine::Machine;
 use crate::outcome::Outcome;
-use crate::runs::{MOST_EXPR_DEPTH, MOST_STMT_DEPTH};
+use crate::runs::MOST_DEPTH;
 use crate::store::Store;
 use base::{Items, Memory};
 use c_meaning_spec::{Ending, Signal};
@@ -105,20 +105,19 @@ impl<'a> Machine<'a> {
     }
 
     // The frames of what is to follow a part that was not evaluated to its end come before those that stand there.
-    #[tactic(auto, using(crate::proofs::Turns::moved_on))]
+    #[tactic(auto, using(crate::proofs::Turns::turned_over))]
     fn stack_pending(&mut self) -> Result<(), AllocError>
         ensures kept { OnOk result (frames self.new.stack.items
             ≡ map follow self.old.store.pending.items ++ frames self.old.stack.items) }
         ensures same { OnOk result (view self.new.store ≡ view self.old.store) }
     {
-        while let Some(frame) = self.store.pending.pop() {
-            self.stack.push(frame)?;
-        }
+        self.store.pending.reverse();
+        self.stack.append(&mut self.store.pending)?;
         Ok(())
     }
 
     // What is to be done first where a part was not evaluated to its end.
-    #[tactic(auto, using(crate::proofs::Turns::both_follow))]
+    #[tactic(auto, using(crate::proofs::Turns::both_follow, crate::proofs::Turns::both_given))]
     fn stopped(&mut self, program: &'a TypedProgram) -> Result<Move<'a>, AllocError>
         ensures { IfOk result (λ m. (r : Reached) → Stopped program.now r self.old.store
             → ahead_next program.now (next m) (frames self.new.stack.items) (view self.new.store)
@@ -134,6 +133,10 @@ impl<'a> Machine<'a> {
             Stop::AtStmt(st) => {
                 self.stack_pending()?;
                 Ok(Move::Do(Task::Run(st)))
+            }
+            Stop::Gave => {
+                self.stack_pending()?;
+                Ok(Move::Give(Signal::Nothing))
             }
             Stop::Memory => Err(AllocError),
         }
@@ -185,17 +188,17 @@ impl<'a> Machine<'a> {
     {
         match task {
             Task::Of(e) => {
-                let word = self.store.value_of(program, e, MOST_EXPR_DEPTH);
+                let word = self.store.value_of(program, e, MOST_DEPTH);
                 let moved = self.valued(program, word)?;
                 Ok(moved)
             }
             Task::Run(st) => {
-                let x = self.store.run(program, st, MOST_STMT_DEPTH);
+                let x = self.store.run(program, st, MOST_DEPTH);
                 let moved = self.ran(program, x)?;
                 Ok(moved)
             }
             Task::Turn(turn) => {
-                let x = self.store.run_loop(program, turn, MOST_STMT_DEPTH);
+                let x = self.store.run_loop(program, turn, MOST_DEPTH);
                 let moved = self.ran(program, x)?;
                 Ok(moved)
             }
@@ -253,7 +256,7 @@ impl<'a> Machine<'a> {
     {
         let word = self
             .store
-            .begin_call(program, Callee::Func(program.main), &[]);
+            .begin_call(program, Callee::Func(program.main), &[], MOST_DEPTH);
         let first = self.valued(program, word)?;
         let last = self.go(program, first)?;
         Ok(last)
@@ -302,7 +305,7 @@ fn evaluate_from<'a>(
 /// The evaluation of a program on an input with a stock of `n` steps: the definition's outcome,
 /// without the output so far of one that has not come to its end. Want of memory is the only error.
 ///
-/// The active calls stand on a list, so the host's stack does not grow with the recursion.
+/// What is to follow stands on a list where the recursion is deep, so the host's stack is bounded.
 pub fn evaluate(
     alloc: Global,
     program: &TypedProgram,

@@ -4,6 +4,7 @@
 
 mod arrays;
 mod assignment;
+mod bumps;
 mod call;
 mod calls;
 mod compare;
@@ -12,12 +13,17 @@ mod evaluation;
 mod expression;
 mod fetch;
 mod frame;
+mod held;
+mod kept;
+mod loops;
 mod machine;
+mod operations;
 mod outcome;
 mod resume;
 mod runs;
 mod statement;
 mod store;
+mod stores;
 mod switch;
 mod two_indexes;
 mod values;

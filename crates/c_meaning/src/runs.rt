@@ -2,28 +2,24 @@
 
 ghost use Rattle.std.specs.Prelude.{◌++◌, slice_get};
 ghost use Rattle.c_tree.specs.declared.TypedStmt.{out-TypedStmt};
-ghost use Rattle.c_tree.specs.declared.TypedForInit.{out-TypedForInit};
 ghost use Rattle.c_meaning_spec.specs.State.{then, store};
-ghost use Rattle.c_meaning_spec.specs.Task.{Of, Run, Turn};
+ghost use Rattle.c_meaning_spec.specs.Task.{Of, Run};
 ghost use Rattle.c_meaning_spec.specs.Statement as meant;
 ghost use Rattle.c_meaning_spec.specs.Statement.{bodies};
 ghost use Rattle.c_meaning_spec.specs.Eval.{meaning};
 ghost use Rattle.c_meaning.specs.View.{behind, view};
-ghost use Rattle.c_meaning.specs.Direct.{Runs, Turned};
+ghost use Rattle.c_meaning.specs.Direct.{Runs};
 
 use crate::compare::Compared;
 use crate::direct::{Ran, Stop};
-use crate::frame::{Frame, Loop, Stage};
+use crate::frame::{Frame, Loop};
 use crate::statement::unboxed;
 use crate::store::Store;
 use c_meaning_spec::{Ending, Object, Signal};
-use c_tree::{Place, TypedExpr, TypedForInit, TypedProgram, TypedSection, TypedStmt};
+use c_tree::{Place, TypedExpr, TypedProgram, TypedSection, TypedStmt};
 
-/// How deep expressions are evaluated at once.
-pub const MOST_EXPR_DEPTH: u32 = 128;
-
-/// How deep statements are evaluated at once.
-pub const MOST_STMT_DEPTH: u32 = 64;
+/// How deep expressions and statements are evaluated at once, those of the functions that are called among them.
+pub const MOST_DEPTH: u32 = 3072;
 
 impl<'a> Store<'a> {
     // A word into a scalar, as its initial value.
@@ -34,46 +30,55 @@ impl<'a> Store<'a> {
         if self.set(Object::InScalar(i as u64), w) {
             Ran::Nothing
         } else {
-            {
-                self.stop = Stop::Fails(Ending::Undefined);
-                Ran::Stops
-            }
+            self.stop = Stop::Fails(Ending::Undefined);
+            Ran::Stops
         }
     }
 
     // An expression statement.
-    fn run_plain(&mut self, program: &'a TypedProgram, e: &'a TypedExpr) -> Ran
+    #[cycle(parts)]
+    #[inline(always)]
+    fn run_plain(&mut self, program: &'a TypedProgram, e: &'a TypedExpr, depth: u32) -> Ran
         ensures { Runs program.now
             (then (meaning program.now (Of e.now) (view self.old)) meant.dropped) self.new result }
     {
-        match self.value_of(program, e, MOST_EXPR_DEPTH) {
+        match self.value_of(program, e, depth) {
             Some(_) => Ran::Nothing,
-            None => self.kept(program, Frame::Dropped),
+            None => self.kept_plain(program),
         }
     }
 
     // A return of a value.
-    fn run_return(&mut self, program: &'a TypedProgram, e: &'a TypedExpr) -> Ran
+    #[cycle(parts)]
+    #[inline(always)]
+    fn run_return(&mut self, program: &'a TypedProgram, e: &'a TypedExpr, depth: u32) -> Ran
         ensures { Runs program.now
             (then (meaning program.now (Of e.now) (view self.old)) meant.returning) self.new result }
     {
-        match self.value_of(program, e, MOST_EXPR_DEPTH) {
+        match self.value_of(program, e, depth) {
             Some(w) => {
                 self.returned = Some(w);
                 Ran::Returns
             },
-            None => self.kept(program, Frame::Returning),
+            None => self.kept_return(program),
         }
     }
 
     // A local's initialiser.
-    fn run_initial(&mut self, program: &'a TypedProgram, i: u32, e: &'a TypedExpr) -> Ran
+    #[cycle(parts)]
+    fn run_initial(
+        &mut self,
+        program: &'a TypedProgram,
+        i: u32,
+        e: &'a TypedExpr,
+        depth: u32,
+    ) -> Ran
         ensures { Runs program.now
             (then (meaning program.now (Of e.now) (view self.old)) (meant.initialised i)) self.new result }
     {
-        match self.value_of(program, e, MOST_EXPR_DEPTH) {
+        match self.value_of(program, e, depth) {
             Some(w) => self.initial(program, i, w),
-            None => self.kept(program, Frame::Initialised(i)),
+            None => self.kept_initial(program, i),
         }
     }
 
@@ -97,11 +102,14 @@ impl<'a> Store<'a> {
     }
 
     // A local is unset, and then initialised.
+    #[cycle(parts)]
+    #[inline(never)]
     fn run_declare(
         &mut self,
         program: &'a TypedProgram,
         place: Place,
         init: Option<&'a TypedExpr>,
+        depth: u32,
     ) -> Ran
         ensures { Runs program.now
             (meant.declare (meaning program.now) place (behind init.entry) (view self.old)) self.new result }
@@ -111,13 +119,11 @@ impl<'a> Store<'a> {
                 if self.unset_scalar(i as u64) {
                     match init {
                         None => Ran::Nothing,
-                        Some(e) => self.run_initial(program, i, e),
+                        Some(e) => self.run_initial(program, i, e, depth),
                     }
                 } else {
-                    {
-                        self.stop = Stop::Fails(Ending::Undefined);
-                        Ran::Stops
-                    }
+                    self.stop = Stop::Fails(Ending::Undefined);
+                    Ran::Stops
                 }
             }
             Place::Array(a) => match init {
@@ -134,30 +140,8 @@ impl<'a> Store<'a> {
         }
     }
 
-    // The last part of a loop, after which it turns again.
-    fn run_post(&mut self, program: &'a TypedProgram, turn: Loop<'a>) -> Ran
-        ensures { Turned program.now turn.entry
-            (meant.then_turn (meaning program.now) (behind turn.entry.post) (behind turn.entry.test)
-            (behind turn.entry.post) turn.entry.body.now (view self.old)) self.new result }
-    {
-        match turn.post {
-            None => Ran::Continues,
-            Some(e) => match self.value_of(program, e, MOST_EXPR_DEPTH) {
-                Some(_) => Ran::Continues,
-                None => {
-                    let frame = Frame::Turning {
-                        stage: Stage::Turns,
-                        rest: &[],
-                        turn,
-                    };
-                    self.kept_turn(program, frame)
-                }
-            },
-        }
-    }
-
     /// A statement, which is left where it is too deep.
-    #[cycle(runs)]
+    #[cycle(parts)]
     #[tactic(auto, using(crate::proofs::Parts::run_is))]
     pub fn run(&mut self, program: &'a TypedProgram, st: &'a TypedStmt, depth: u32) -> Ran
         ensures { Runs program.now
@@ -178,15 +162,21 @@ impl<'a> Store<'a> {
     }
 
     // A statement after its step.
-    #[cycle(runs)]
+    #[cycle(parts)]
+    #[inline(always)]
     fn begun(&mut self, program: &'a TypedProgram, st: &'a TypedStmt, depth: u32) -> Ran
         ensures { Runs program.now
             (meant.begun (meaning program.now) (out-TypedStmt st.now) (view self.old)) self.new result }
     {
         match st {
-            TypedStmt::Declare { place, init } => self.run_declare(program, *place, init.as_ref()),
+            TypedStmt::Declare { place, init } => self.run_declare(
+                program,
+                *place,
+                init.as_ref(),
+                depth,
+            ),
             TypedStmt::Plain(None) => Ran::Nothing,
-            TypedStmt::Plain(Some(e)) => self.run_plain(program, e),
+            TypedStmt::Plain(Some(e)) => self.run_plain(program, e, depth),
             TypedStmt::Compound(all) => self.run_all(program, all.as_slice(), depth),
             TypedStmt::If { test, yes, no } => {
                 self.run_if(program, test, yes.get(), unboxed(no), depth)
@@ -231,12 +221,13 @@ impl<'a> Store<'a> {
                 self.returned = None;
                 Ran::Returns
             },
-            TypedStmt::Return(Some(e)) => self.run_return(program, e),
+            TypedStmt::Return(Some(e)) => self.run_return(program, e, depth),
         }
     }
 
     // Statements one after another.
-    #[cycle(runs)]
+    #[cycle(parts)]
+    #[inline(never)]
     fn run_all(&mut self, program: &'a TypedProgram, all: &'a [TypedStmt], depth: u32) -> Ran
         ensures { Runs program.now
             (meant.sequence (meaning program.now) all.now (view self.old)) self.new result }
@@ -250,14 +241,15 @@ impl<'a> Store<'a> {
                 Ran::Breaks => return Ran::Breaks,
                 Ran::Continues => return Ran::Continues,
                 Ran::Returns => return Ran::Returns,
-                Ran::Stops => return self.kept(program, Frame::Sequence(more)),
+                Ran::Stops => return self.kept_rest(program, more),
             }
         }
         Ran::Nothing
     }
 
     // An `if`.
-    #[cycle(runs)]
+    #[cycle(parts)]
+    #[inline(never)]
     fn run_if(
         &mut self,
         program: &'a TypedProgram,
@@ -270,7 +262,7 @@ impl<'a> Store<'a> {
             (then (meaning program.now (Of test.now) (view self.old))
             (meant.after_if (meaning program.now) first.now (behind other.entry))) self.new result }
     {
-        match self.value_of(program, test, MOST_EXPR_DEPTH) {
+        match self.value_of(program, test, depth) {
             Some(w) => {
                 if w == 0 {
                     match other {
@@ -281,185 +273,13 @@ impl<'a> Store<'a> {
                     self.run(program, first, depth)
                 }
             }
-            None => self.kept(program, Frame::If { first, other }),
+            None => self.kept_if(program, first, other),
         }
-    }
-
-    // The body of a loop, and its last part.
-    #[cycle(runs)]
-    fn run_body(&mut self, program: &'a TypedProgram, turn: Loop<'a>, depth: u32) -> Ran
-        ensures { Turned program.now turn.entry
-            (then (meaning program.now (Run turn.entry.body.now) (view self.old))
-            (meant.after_body (meaning program.now) (behind turn.entry.test) (behind turn.entry.post)
-            turn.entry.body.now)) self.new result }
-    {
-        match self.run(program, turn.body, depth) {
-            Ran::Nothing => self.run_post(program, turn),
-            Ran::Continues => self.run_post(program, turn),
-            Ran::Breaks => Ran::Nothing,
-            Ran::Returns => Ran::Returns,
-            Ran::Stops => {
-                let frame = Frame::Turning {
-                    stage: Stage::Ran,
-                    rest: &[],
-                    turn,
-                };
-                self.kept_turn(program, frame)
-            }
-        }
-    }
-
-    // The test of a loop, and its body where the test holds.
-    #[cycle(runs)]
-    fn run_test(
-        &mut self,
-        program: &'a TypedProgram,
-        test: &'a TypedExpr,
-        turn: Loop<'a>,
-        depth: u32,
-    ) -> Ran
-        ensures { Turned program.now turn.entry
-            (then (meaning program.now (Of test.now) (view self.old))
-            (meant.after_test (meaning program.now) (behind turn.entry.test) (behind turn.entry.post)
-            turn.entry.body.now)) self.new result }
-    {
-        match self.value_of(program, test, MOST_EXPR_DEPTH) {
-            Some(w) => {
-                if w == 0 {
-                    Ran::Nothing
-                } else {
-                    self.run_body(program, turn, depth)
-                }
-            }
-            None => {
-                let frame = Frame::Turning {
-                    stage: Stage::Tests,
-                    rest: &[],
-                    turn,
-                };
-                self.kept_turn(program, frame)
-            }
-        }
-    }
-
-    // One turn of a loop.
-    #[cycle(runs)]
-    #[tactic(auto, using(crate::proofs::Parts::turn_is))]
-    fn run_turn(&mut self, program: &'a TypedProgram, turn: Loop<'a>, depth: u32) -> Ran
-        ensures { Turned program.now turn.entry
-            (meaning program.now (Turn (behind turn.entry.test) (behind turn.entry.post)
-            turn.entry.body.now) (view self.old)) self.new result }
-    {
-        match turn.test {
-            None => self.run_body(program, turn, depth),
-            Some(test) => self.run_test(program, test, turn, depth),
-        }
-    }
-
-    /// A loop from its test on.
-    #[cycle(runs)]
-    pub fn run_loop(&mut self, program: &'a TypedProgram, turn: Loop<'a>, depth: u32) -> Ran
-        ensures { Runs program.now
-            (meaning program.now (Turn (behind turn.entry.test) (behind turn.entry.post)
-            turn.entry.body.now) (view self.old)) self.new result }
-    {
-        for _round in 0..u64::MAX {
-            match self.run_turn(program, turn, depth) {
-                Ran::Continues => {}
-                Ran::Nothing => return Ran::Nothing,
-                Ran::Breaks => return Ran::Breaks,
-                Ran::Returns => return Ran::Returns,
-                Ran::Stops => return Ran::Stops,
-            }
-        }
-        self.stop = Stop::Memory;
-        Ran::Stops
-    }
-
-    // A loop whose body comes before its test.
-    #[cycle(runs)]
-    fn run_do(&mut self, program: &'a TypedProgram, turn: Loop<'a>, depth: u32) -> Ran
-        ensures { Runs program.now
-            (then (meaning program.now (Run turn.entry.body.now) (view self.old))
-            (meant.after_body (meaning program.now) (behind turn.entry.test) (behind turn.entry.post)
-            turn.entry.body.now)) self.new result }
-    {
-        match self.run_body(program, turn, depth) {
-            Ran::Continues => self.run_loop(program, turn, depth),
-            Ran::Nothing => Ran::Nothing,
-            Ran::Breaks => Ran::Breaks,
-            Ran::Returns => Ran::Returns,
-            Ran::Stops => Ran::Stops,
-        }
-    }
-
-    // A `for`.
-    #[cycle(runs)]
-    fn run_for(
-        &mut self,
-        program: &'a TypedProgram,
-        init: &'a TypedForInit,
-        turn: Loop<'a>,
-        depth: u32,
-    ) -> Ran
-        ensures { Runs program.now
-            (meant.begin (meaning program.now) (out-TypedForInit init.now) (behind turn.entry.test)
-            (behind turn.entry.post) turn.entry.body.now (view self.old)) self.new result }
-    {
-        match init {
-            TypedForInit::Nothing => self.run_loop(program, turn, depth),
-            TypedForInit::First(e) => match self.value_of(program, e, MOST_EXPR_DEPTH) {
-                Some(_) => self.run_loop(program, turn, depth),
-                None => {
-                    let frame = Frame::Turning {
-                        stage: Stage::Turns,
-                        rest: &[],
-                        turn,
-                    };
-                    self.kept(program, frame)
-                }
-            },
-            TypedForInit::Locals(all) => self.run_locals(program, all.as_slice(), turn, depth),
-        }
-    }
-
-    // The declarations of a `for`, and then its turns.
-    #[cycle(runs)]
-    fn run_locals(
-        &mut self,
-        program: &'a TypedProgram,
-        all: &'a [TypedStmt],
-        turn: Loop<'a>,
-        depth: u32,
-    ) -> Ran
-        ensures { Runs program.now
-            (meant.locals (meaning program.now) all.now (behind turn.entry.test)
-            (behind turn.entry.post) turn.entry.body.now (view self.old)) self.new result }
-    {
-        let mut rest = all;
-        while let Some((st, more)) = rest.split_first() {
-            match self.run(program, st, depth) {
-                Ran::Nothing => {
-                    rest = more;
-                }
-                Ran::Breaks => return Ran::Breaks,
-                Ran::Continues => return Ran::Continues,
-                Ran::Returns => return Ran::Returns,
-                Ran::Stops => {
-                    let frame = Frame::Turning {
-                        stage: Stage::Begins,
-                        rest: more,
-                        turn,
-                    };
-                    return self.kept(program, frame);
-                }
-            }
-        }
-        self.run_loop(program, turn, depth)
     }
 
     // A switch.
-    #[cycle(runs)]
+    #[cycle(parts)]
+    #[inline(never)]
     fn run_switch(
         &mut self,
         program: &'a TypedProgram,
@@ -471,14 +291,14 @@ impl<'a> Store<'a> {
             (then (meaning program.now (Of test.now) (view self.old))
             (meant.after_switch (meaning program.now) sections.now)) self.new result }
     {
-        match self.value_of(program, test, MOST_EXPR_DEPTH) {
+        match self.value_of(program, test, depth) {
             Some(w) => self.run_labels(program, sections, w, depth),
             None => self.kept(program, Frame::Switch(sections)),
         }
     }
 
     // The statements of a switch from the label on that is equal to the word, from `default` on, or none.
-    #[cycle(runs)]
+    #[cycle(parts)]
     #[tactic(auto, using(crate::proofs::Parts::label_is, crate::proofs::Parts::ends, crate::proofs::Parts::no_label))]
     fn run_labels(
         &mut self,
@@ -501,7 +321,8 @@ impl<'a> Store<'a> {
     }
 
     // Statements of a section, and then those of the sections behind it.
-    #[cycle(runs)]
+    #[cycle(parts)]
+    #[inline(never)]
     fn run_sections(
         &mut self,
         program: &'a TypedProgram,

@@ -36,6 +36,7 @@ pub struct Store<'a> {
 }
 
 // The value of a scalar, if it is set.
+#[inline(always)]
 fn scalar_at(scalars: &[Option<u64>], at: u64) -> Option<u64>
     ensures { result ≡ held (slice_get scalars.now at) }
 {
@@ -46,6 +47,7 @@ fn scalar_at(scalars: &[Option<u64>], at: u64) -> Option<u64>
 }
 
 /// Writes a scalar, if it is there.
+#[inline(always)]
 fn write_scalar(scalars: &mut Vec<Option<u64>>, at: u64, value: Option<u64>) -> bool
     ensures there { IsTrue result ↔ IsSome (slice_get scalars.old.items at) }
     ensures after { scalars.new.items ≡ slice_set scalars.old.items at value }
@@ -112,6 +114,7 @@ pub fn scalar_of(place: Place) -> Option<Object>
 
 impl<'a> Store<'a> {
     /// What an object holds, if it is there and is set.
+    #[inline(always)]
     pub fn load(&self, object: Object) -> Option<u64>
         ensures { result ≡ held (cell (view self.now) object) }
     {
@@ -122,6 +125,7 @@ impl<'a> Store<'a> {
     }
 
     /// Sets an object, if it is there.
+    #[inline(always)]
     pub fn set(&mut self, object: Object, word: u64) -> bool
         ensures there { IsTrue result ↔ IsSome (cell (view self.old) object) }
         ensures after { IsTrue result → view self.new ≡ written (view self.old) object (Some word) }
@@ -143,8 +147,9 @@ impl<'a> Store<'a> {
         write_scalar(&mut self.scalars, i, None)
     }
 
-    // The number of the array that a place stands for.
-    fn array_of(&self, place: Place) -> Option<u64>
+    /// The number of the array that a place stands for.
+    #[inline(always)]
+    pub fn array_of(&self, place: Place) -> Option<u64>
         ensures { result ≡ array_number place (view self.now) }
     {
         match place {
@@ -155,6 +160,7 @@ impl<'a> Store<'a> {
     }
 
     /// An element by the word of its index.
+    #[inline(always)]
     pub fn element_of(&self, place: Place, index: u64) -> Option<Object>
         ensures { result ≡ element_object place index (view self.now) }
     {

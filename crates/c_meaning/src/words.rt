@@ -5,6 +5,7 @@ use c_constant::{convert, operation, promoted, unary};
 use c_tree::{BinaryOp, BumpOp, Kind, UnaryOp};
 
 /// An operation on two words of a type.
+#[inline(always)]
 pub fn binary_of(op: BinaryOp, kind: Option<Kind>, a: u64, b: u64) -> Option<u64>
     ensures { result ≡ words.binary_of op kind a b }
 {
@@ -25,6 +26,7 @@ pub fn unary_of(op: UnaryOp, kind: Option<Kind>, a: u64) -> Option<u64>
 }
 
 // A word converted, if there is one.
+#[inline(always)]
 fn converted_if(kind: Kind, word: Option<u64>) -> Option<u64>
     ensures { result ≡ words.converted_if kind word }
 {
@@ -55,6 +57,7 @@ fn bump_operation(op: BumpOp) -> BinaryOp
 }
 
 /// What `++` or `--` stores.
+#[inline(always)]
 pub fn bump_of(op: BumpOp, kind: Option<Kind>, old: u64) -> Option<u64>
     ensures { result ≡ words.bump_of op kind old }
 {
@@ -65,6 +68,7 @@ pub fn bump_of(op: BumpOp, kind: Option<Kind>, old: u64) -> Option<u64>
 }
 
 /// What `++` or `--` gives.
+#[inline(always)]
 pub fn bump_value(op: BumpOp, old: u64, new: u64) -> u64
     ensures { result ≡ words.bump_value op old new }
 {

@@ -1,7 +1,5 @@
-use Rattle.std.proofs.Common.{◌≡◌, ◌<◌, ◌≤◌, ◌+◌, ◌*◌, sym, ap, ◌∙◌, arith, Option, List, ℕ, length}
-use Rattle.std.proofs.Common.{Fits, w64}
+use Rattle.std.proofs.Common.{sym, ap, ◌∙◌, arith, Option, List, ℕ}
 use Rattle.c_meaning_spec.specs.State.{cell_in, held}
-use Rattle.c_meaning.specs.Cells.{total}
 use Rattle.c_meaning.proofs.Rows.{absent, outside, present, within}
 use Rattle.c_meaning.proofs.arrays.read.Goals as goal
 

@@ -1,4 +1,4 @@
-use Rattle.std.proofs.Common.{◌≡◌, [], ap, ◌∙◌}
+use Rattle.std.proofs.Common.{[], ap, ◌∙◌}
 use Rattle.c_tree.specs.declared.Callee.TheVariants.{Func}
 use Rattle.c_meaning_spec.specs.State.{State}
 use Rattle.c_meaning_spec.specs.Call.{called}

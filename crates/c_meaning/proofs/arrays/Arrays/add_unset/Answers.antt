@@ -1,4 +1,4 @@
-use Rattle.std.proofs.Common.{◌≡◌, ◌≤◌, ◌-◌, ◌+◌, length, refl, ap, sym, ◌∙◌, arith, replicate}
+use Rattle.std.proofs.Common.{◌≡◌, ◌-◌, length, refl, arith}
 use Rattle.c_meaning.specs.Cells.{worded}
 use Rattle.c_meaning.proofs.Lays.{laid-cells, laid-add, rows-unset_added, enough-padded}
 use Rattle.c_meaning.proofs.Lays.{cells-later}

@@ -1,4 +1,4 @@
-use Rattle.std.proofs.Common.{◌≡◌, ◌≤◌, ap, sym, ◌∙◌, length, List, Option, ℕ, slice_get, arith}
+use Rattle.std.proofs.Common.{◌≤◌, ap, sym, ◌∙◌, length, List, Option, ℕ, slice_get, arith}
 use Rattle.c_meaning_spec.specs.State.{row_in}
 use Rattle.c_meaning.specs.declared.arrays.Span.{Span}
 use Rattle.c_meaning.specs.Cells.{total, span_length}

@@ -1,4 +1,4 @@
-use Rattle.std.proofs.Common.{◌≡◌, ap, sym, ◌∙◌, length, List, Option, ℕ, arith}
+use Rattle.std.proofs.Common.{◌≡◌, ap, sym, ◌∙◌, length, arith}
 use Rattle.c_meaning.proofs.Rows.{length-rows}
 use Rattle.c_meaning.proofs.arrays.Arrays.len.Goals as goal
 

@@ -1,4 +1,4 @@
-use Rattle.std.proofs.Common.{◌≡◌, ◌≤◌, length, refl, sym, subst, arith}
+use Rattle.std.proofs.Common.{refl, sym, subst, arith}
 use Rattle.c_meaning.specs.Cells.{SpansKnown}
 use Rattle.c_meaning.proofs.Lays.{laid-cells}
 use Rattle.c_meaning.proofs.arrays.Arrays.set.Goals as goal

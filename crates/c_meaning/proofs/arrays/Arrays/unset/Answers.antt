@@ -1,4 +1,4 @@
-use Rattle.std.proofs.Common.{◌≡◌, sym, ap, ◌∙◌, Option, Some, List, slice_get}
+use Rattle.std.proofs.Common.{sym, ap, ◌∙◌, List, slice_get}
 use Rattle.c_meaning.specs.declared.arrays.Span.{Span}
 use Rattle.c_meaning.proofs.Rows.{absent, row-present, never, always}
 use Rattle.c_meaning.proofs.Lays.{laid-unset, rows-unset}

@@ -1,4 +1,4 @@
-use Rattle.std.proofs.Common.{◌≡◌, List, map, reverse, refl, ap, ◌∙◌}
+use Rattle.std.proofs.Common.{List, map, reverse, refl, ap, ◌∙◌}
 use Rattle.c_meaning.specs.View.{follow, frames}
 use Rattle.c_meaning.specs.declared.frame.Frame.{Frame}
 use Rattle.c_meaning.proofs.Lists.{stack_push}

@@ -1,5 +1,5 @@
 use Rattle.std.proofs.Common.{refl}
-use Rattle.c_meaning.proofs.Unwinds.{expr_more, stmt_more}
+use Rattle.c_meaning.proofs.Unwinds.{expr_more, gave_more, stmt_more}
 use Rattle.c_meaning.proofs.store.Store.before.Goals as goal
 
 pub returns-in_ok-push-in-AtExpr : goal.returns-in_ok-push-in-AtExpr
@@ -13,3 +13,9 @@ returns-in_ok-push-in-AtStmt c =
     λ r h. stmt_more c.args.program.now c.args.self.now.stop c.in-AtStmt.field-0 c.args.self.now
     record c.args.self.now { pending = c.push-in-AtStmt.new.self } c.args.frame r c.in-AtStmt.is refl
     c.in_ok-push-in-AtStmt.ensures.items h
+
+pub returns-in_ok-push-in-Gave : goal.returns-in_ok-push-in-Gave
+returns-in_ok-push-in-Gave c =
+    λ r h. gave_more c.args.program.now c.args.self.now.stop c.args.self.now
+    record c.args.self.now { pending = c.push-in-Gave.new.self } c.args.frame r c.in-Gave.is refl
+    c.in_ok-push-in-Gave.ensures.items h
