@@ -93,7 +93,7 @@ impl Word {
     }
 }
 
-/// Whether two runs of bytes are the same. Most are short, and a loop over them takes less than a comparison by vectors.
+/// Whether two runs of bytes are the same. Most are short, and a loop over them takes less than comparing by vectors.
 pub fn same_bytes(a: &[u8], b: &[u8]) -> bool
     ensures { IsTrue result ↔ (a.now ≡ b.now) }
 {

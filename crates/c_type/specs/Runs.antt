@@ -15,8 +15,8 @@ use Rattle.c_type.specs.Statements.{SectionPart, sections_fault, sections_trees,
 use Rattle.c_type.specs.Statements.{section_tree, section_fault, label_word}
 use Rattle.c_type.specs.Statements.{Part, Beginning, all_after, all_fault, all_trees, else_after, else_fault, else_tree}
 
--- a value and the state after it exactly where nothing fails
-abbrev pub Moves : {A : Type 0} → Blame → A → State → State → Result A TypeFault → Type 0
+-- a value, and what is changed in place after it, exactly where nothing fails
+abbrev pub Moves : {A S : Type 0} → Blame → A → S → S → Result A TypeFault → Type 0
 Moves f t wanted new (Ok u) = (f ≡ None) × (u ≡ t) × (new ≡ wanted)
 Moves f t wanted new (Err e) = Stops f e
 
@@ -72,12 +72,6 @@ RunSection k seen x b old new after (Ok t) =
     × (t ≡ section_tree k x old) × (new ≡ all_after x.body old)
     × (after ≡ seen ++ map (label_word k) x.labels)
 RunSection k seen x b old new after (Err e) = Stops (section_fault k seen x b old) e
-
--- a value and the labels after it exactly where nothing fails
-abbrev pub Joins : {A : Type 0} → Blame → A → List (Option ℕ) → List (Option ℕ)
-    → Result A TypeFault → Type 0
-Joins f t wanted new (Ok u) = (f ≡ None) × (u ≡ t) × (new ≡ wanted)
-Joins f t wanted new (Err e) = Stops f e
 
 -- the names are those, unless memory runs out
 abbrev pub NamesAre : Scope → Scope → Result (Unit {0}) TypeFault → Type 0

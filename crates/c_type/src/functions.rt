@@ -8,7 +8,7 @@ ghost use Rattle.c_type.specs.Functions as functions;
 ghost use Rattle.c_type.specs.States.{some_block};
 ghost use Rattle.c_type.specs.Statements.{nowhere};
 ghost use Rattle.c_type.specs.Functions.{body_part, file_with};
-ghost use Rattle.c_type.specs.Runs.{Runs, Adds};
+ghost use Rattle.c_type.specs.Runs.{Runs, Moves, Adds};
 
 use crate::counts::counted;
 use crate::declarations::{add_address, add_scalar};
@@ -19,11 +19,10 @@ use crate::state::{Around, State};
 use crate::statements::{all, type_stmt};
 use base::{Items, Queue};
 use c_scope::{Meaning, Scopes};
-use c_tree::{
-    ArraySize, Callee, Kind, Param, Slot, Stmt, StmtNode, TypedFunc, TypedGlobal, TypedStmt, Word,
-};
+use c_tree::{ArraySize, Callee, Kind, Param, Slot, Stmt, StmtNode, TypedFunc, TypedStmt, Word};
 use c_type_expr::TypeFault;
 use std::alloc::Global;
+use std::mem;
 
 // Around the body of a function.
 const NOWHERE: Around = Around {
@@ -65,16 +64,16 @@ pub fn callee_in(found: Option<&Meaning>) -> Option<Callee>
 fn declared(
     alloc: Global,
     table: &Scopes,
-    names: Scopes,
+    names: &mut Scopes,
     given: Option<Kind>,
     name: Word,
     slots: Items<Slot>,
     defined: bool,
-) -> Result<Scopes, TypeFault>
-    ensures { Says None (functions.with_function table.now name given slots defined names) result }
+) -> Result<(), TypeFault>
+    ensures { Moves None tt (functions.with_function table.now name given slots defined names.old)
+        names.new result }
 {
     let callee = callee_in(table.look_up(&name));
-    let mut names = names;
     names.declare(
         alloc,
         name,
@@ -85,29 +84,29 @@ fn declared(
             defined,
         },
     )?;
-    Ok(names)
+    Ok(())
 }
 
 /// The names after a prototype.
 pub fn prototype(
     alloc: Global,
     table: &Scopes,
-    names: Scopes,
+    names: &mut Scopes,
     line: u32,
     given: Option<Kind>,
     name: Word,
     params: &[Param],
-) -> Result<Scopes, TypeFault>
-    requires { some_block names ≡ true }
-    ensures { Says
-        (functions.head_fault Rattle.std.specs.Prelude.false given name params.now line names)
-        (functions.with_prototype table.now name given (map functions.slot_of params.now) names)
-        result }
+) -> Result<(), TypeFault>
+    requires { some_block names.old ≡ true }
+    ensures { Moves
+        (functions.head_fault Rattle.std.specs.Prelude.false given name params.now line names.old)
+        tt
+        (functions.with_prototype table.now name given (map functions.slot_of params.now) names.old)
+        names.new result }
 {
-    let mut names = names;
-    let slots = head(alloc, &mut names, false, given, &name, params, line)?;
+    let slots = head(alloc, names, false, given, &name, params, line)?;
     if names.look_up(&name).is_some() {
-        return Ok(names);
+        return Ok(());
     }
     declared(alloc, table, names, given, name, slots, false)
 }
@@ -190,7 +189,8 @@ fn entry(
     requires { slots ≡ map functions.slot_of params }
     ensures { Says None (functions.entry table.now name given params names) result }
 {
-    let mut names = declared(alloc, table, names, given, name, slots, true)?;
+    let mut names = names;
+    declared(alloc, table, &mut names, given, name, slots, true)?;
     names.open()?;
     let mut state = State {
         names,
@@ -238,43 +238,36 @@ fn bodied(
 /// The file scope after a body that begins in a state.
 fn defined(
     alloc: Global,
-    globals: Items<TypedGlobal>,
-    bytes: u64,
-    functions: Items<TypedFunc>,
+    file: &mut FileScope,
     state: State,
     s: Stmt,
     count: u32,
-) -> Result<FileScope, TypeFault>
-    ensures { Says ((body_part s).fault nowhere state)
-        (file_with globals bytes functions count s state) result }
+) -> Result<(), TypeFault>
+    ensures { Moves ((body_part s).fault nowhere state) tt
+        (file_with file.old.globals file.old.bytes file.old.functions count s state) file.new
+        result }
 {
     let (names, function) = bodied(alloc, state, s, count)?;
-    let mut functions = functions;
-    functions.push(function)?;
-    Ok(FileScope {
-        names,
-        globals,
-        bytes,
-        functions,
-    })
+    file.names = names;
+    file.functions.push(function)?;
+    Ok(())
 }
 
 /// The file scope after a definition.
 pub fn definition(
     alloc: Global,
     table: &Scopes,
-    file: FileScope,
+    file: &mut FileScope,
     line: u32,
     given: Option<Kind>,
     name: Word,
     params: Items<Param>,
     s: Stmt,
-) -> Result<FileScope, TypeFault>
-    requires { some_block file.names ≡ true }
-    ensures { Says (functions.definition_fault table.now given name params s line file)
-        (functions.with_definition table.now given name params s file) result }
+) -> Result<(), TypeFault>
+    requires { some_block file.old.names ≡ true }
+    ensures { Moves (functions.definition_fault table.now given name params s line file.old) tt
+        (functions.with_definition table.now given name params s file.old) file.new result }
 {
-    let mut file = file;
     let slots = head(
         alloc,
         &mut file.names,
@@ -285,12 +278,7 @@ pub fn definition(
         line,
     )?;
     let count = counted(params.len())?;
-    let FileScope {
-        names,
-        globals,
-        bytes,
-        functions,
-    } = file;
+    let names = mem::replace(&mut file.names, Scopes::new(alloc));
     let state = entry(alloc, table, names, given, name, params, slots)?;
-    defined(alloc, globals, bytes, functions, state, s, count)
+    defined(alloc, file, state, s, count)
 }

@@ -6,6 +6,7 @@ ghost use Rattle.c_type_expr.specs.Roles.{first, unless};
 ghost use Rattle.c_type_expr.specs.Says.{Says};
 ghost use Rattle.c_constant.specs.Kinds as kinds;
 ghost use Rattle.c_type.specs.Units as units;
+ghost use Rattle.c_type.specs.Runs.{Moves};
 
 use crate::counts::{counted, short};
 use crate::declarations::{row_in, twice};
@@ -204,18 +205,17 @@ fn given(
 #[tactic(auto, using(crate::proofs::Rows::on_global))]
 pub fn global(
     alloc: Global,
-    file: FileScope,
+    file: &mut FileScope,
     line: u32,
     kind: Kind,
     name: Word,
     size: &ArraySize,
     init: &[Items<Expr>],
-) -> Result<FileScope, TypeFault>
-    ensures { Says (units.global_fault size.now kind name init.now line file)
-        (units.with_global size.now kind name init.now file) result }
+) -> Result<(), TypeFault>
+    ensures { Moves (units.global_fault size.now kind name init.now line file.old) tt
+        (units.with_global size.now kind name init.now file.old) file.new result }
 {
-    let mut file = file;
-    let known = admit(&file, line, kind, &name, size, init)?;
+    let known = admit(file, line, kind, &name, size, init)?;
     let length = short(known.length)?;
     file.names
         .declare(alloc, name, meaning_of(size, kind, length, known.number))?;
@@ -227,5 +227,5 @@ pub fn global(
         row: row_in(size, length),
         init,
     })?;
-    Ok(file)
+    Ok(())
 }

@@ -3,6 +3,7 @@
 ghost use Rattle.std.specs.Prelude.{◌≡◌, [], ◌∷◌, IfOk};
 ghost use Rattle.c_type_expr.specs.Says.{Says};
 ghost use Rattle.c_type.specs.Units as units;
+ghost use Rattle.c_type.specs.Runs.{Moves};
 
 use crate::declarations::{is_end, twice};
 use crate::signatures::{agrees, undefined};
@@ -74,25 +75,25 @@ fn clash(alloc: Global, names: &Scopes, line: u32) -> Result<(), TypeFault>
 }
 
 /// The names of the include, declared.
-fn declared(alloc: Global, names: Scopes) -> Result<Scopes, TypeFault>
-    ensures { Says None (units.with_include names) result }
+fn declared(alloc: Global, names: &mut Scopes) -> Result<(), TypeFault>
+    ensures { Moves None tt (units.with_include names.old) names.new result }
 {
-    let mut names = names;
     names.declare(alloc, getchar_name(alloc)?, get_char(alloc))?;
     let put = put_char(alloc)?;
     names.declare(alloc, putchar_name(alloc)?, put)?;
     names.declare(alloc, eof_name(alloc)?, Meaning::EndOfFile)?;
-    Ok(names)
+    Ok(())
 }
 
 /// The names after the include.
-pub fn include(alloc: Global, names: Scopes, line: u32) -> Result<Scopes, TypeFault>
-    ensures { Says (units.include_fault names line) (units.included names) result }
+pub fn include(alloc: Global, names: &mut Scopes, line: u32) -> Result<(), TypeFault>
+    ensures { Moves (units.include_fault names.old line) tt (units.included names.old) names.new
+        result }
 {
     let eof = eof_name(alloc)?;
     if is_end(names.look_up(&eof)) {
-        return Ok(names);
+        return Ok(());
     }
-    clash(alloc, &names, line)?;
+    clash(alloc, names, line)?;
     declared(alloc, names)
 }

@@ -6,6 +6,7 @@ ghost use Rattle.c_type_expr.specs.Roles.{unless};
 ghost use Rattle.c_type_expr.specs.Says.{Says};
 ghost use Rattle.c_type.specs.States.{some_block};
 ghost use Rattle.c_type.specs.Programs as programs;
+ghost use Rattle.c_type.specs.Runs.{Moves};
 
 use crate::file_scope::FileScope;
 use crate::functions::{callee_in, definition, prototype};
@@ -80,68 +81,46 @@ fn table(alloc: Global, items: &[Top]) -> Result<Scopes, TypeFault>
 }
 
 /// The file scope after the include.
-fn include_at(alloc: Global, file: FileScope, line: u32) -> Result<FileScope, TypeFault>
-    ensures { Says (programs.node_fault ([] ∷ []) TopNode.Include line file)
-        (programs.node_after ([] ∷ []) TopNode.Include file) result }
+fn include_at(alloc: Global, file: &mut FileScope, line: u32) -> Result<(), TypeFault>
+    ensures { Moves (programs.node_fault ([] ∷ []) TopNode.Include line file.old) tt
+        (programs.node_after ([] ∷ []) TopNode.Include file.old) file.new result }
 {
-    let FileScope {
-        names,
-        globals,
-        bytes,
-        functions,
-    } = file;
-    let names = include(alloc, names, line)?;
-    Ok(FileScope {
-        names,
-        globals,
-        bytes,
-        functions,
-    })
+    include(alloc, &mut file.names, line)
 }
 
 /// The file scope after a prototype.
 fn prototype_at(
     alloc: Global,
     table: &Scopes,
-    file: FileScope,
+    file: &mut FileScope,
     line: u32,
     given: Option<Kind>,
     name: Word,
     params: &[Param],
-) -> Result<FileScope, TypeFault>
-    requires { some_block file.names ≡ true }
-    ensures { Says (programs.prototype_fault given name params.now line file)
-        (programs.with_prototype_at table.now given name params.now file) result }
+) -> Result<(), TypeFault>
+    requires { some_block file.old.names ≡ true }
+    ensures { Moves (programs.prototype_fault given name params.now line file.old) tt
+        (programs.with_prototype_at table.now given name params.now file.old) file.new result }
 {
-    let FileScope {
-        names,
-        globals,
-        bytes,
-        functions,
-    } = file;
-    let names = prototype(alloc, table, names, line, given, name, params)?;
-    Ok(FileScope {
-        names,
-        globals,
-        bytes,
-        functions,
-    })
+    prototype(alloc, table, &mut file.names, line, given, name, params)
 }
 
 /// The file scope after a prototype or a definition.
 fn function(
     alloc: Global,
     table: &Scopes,
-    file: FileScope,
+    file: &mut FileScope,
     line: u32,
     given: Option<Kind>,
     name: Word,
     params: Items<Param>,
     body: Option<Stmt>,
-) -> Result<FileScope, TypeFault>
-    requires { some_block file.names ≡ true }
-    ensures { Says (programs.node_fault table.now (TopNode.Func given name params body) line file)
-        (programs.node_after table.now (TopNode.Func given name params body) file) result }
+) -> Result<(), TypeFault>
+    requires { some_block file.old.names ≡ true }
+    ensures { Moves
+        (programs.node_fault table.now (TopNode.Func given name params body) line file.old) tt
+        (programs.node_after table.now (TopNode.Func given name params body) file.old) file.new
+        result }
 {
     match body {
         None => prototype_at(alloc, table, file, line, given, name, params.as_slice()),
@@ -150,10 +129,10 @@ fn function(
 }
 
 /// The file scope after an item.
-fn item(alloc: Global, table: &Scopes, file: FileScope, top: Top) -> Result<FileScope, TypeFault>
-    requires { some_block file.names ≡ true }
-    ensures { Says (programs.item_fault table.now top file) (programs.item_after table.now top file)
-        result }
+fn item(alloc: Global, table: &Scopes, file: &mut FileScope, top: Top) -> Result<(), TypeFault>
+    requires { some_block file.old.names ≡ true }
+    ensures { Moves (programs.item_fault table.now top file.old) tt
+        (programs.item_after table.now top file.old) file.new result }
 {
     let Top { line, node } = top;
     match node {
@@ -187,7 +166,7 @@ fn items(alloc: Global, table: &Scopes, tops: Items<Top>) -> Result<FileScope, T
     };
     let mut rest = Queue::from_items(tops);
     while let Some(top) = rest.pop() {
-        file = item(alloc, table, file, top)?;
+        item(alloc, table, &mut file, top)?;
     }
     Ok(file)
 }

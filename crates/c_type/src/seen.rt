@@ -4,7 +4,7 @@ ghost use Rattle.std.specs.Prelude.{◌≡◌, ◌∷◌, [], ◌++◌, Some, No
 ghost use Rattle.c_type_expr.specs.Roles.{unless};
 ghost use Rattle.c_type.specs.Labels.{label_among};
 ghost use Rattle.c_type.specs.Seen.{Knows, Grows};
-ghost use Rattle.c_type.specs.Runs.{Joins};
+ghost use Rattle.c_type.specs.Runs.{Moves};
 
 use c_type_expr::TypeFault;
 use std::alloc::{AllocError, Global};
@@ -105,7 +105,7 @@ impl SeenLabels {
 
     /// One label more, which is another than those before it.
     pub fn add(&mut self, word: Option<u64>, line: u32) -> Result<(), TypeFault>
-        ensures { Joins (unless (not (label_among word self.old)) (TypeFault.Twice line)) tt
+        ensures { Moves (unless (not (label_among word self.old)) (TypeFault.Twice line)) tt
             (self.old ++ word ∷ []) self.new result }
     {
         match add_label(

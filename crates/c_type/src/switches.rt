@@ -9,7 +9,7 @@ ghost use Rattle.c_type_expr.specs.Trees.{tree, with_convert};
 ghost use Rattle.c_type.specs.States.{with_switch};
 ghost use Rattle.c_type.specs.Statements as statements;
 ghost use Rattle.c_type.specs.Statements.{labels_fault, switch_kind, case_fault};
-ghost use Rattle.c_type.specs.Runs.{Moves, Joins};
+ghost use Rattle.c_type.specs.Runs.{Moves};
 
 use crate::seen::SeenLabels;
 use crate::state::State;
@@ -42,7 +42,7 @@ pub fn section_labels(
     seen: &mut SeenLabels,
     labels: &[Label],
 ) -> Result<Items<Option<u64>>, TypeFault>
-    ensures { Joins (labels_fault kind seen.old labels.now names.now)
+    ensures { Moves (labels_fault kind seen.old labels.now names.now)
         (map (statements.label_word kind) labels.now)
         (seen.old ++ map (statements.label_word kind) labels.now) seen.new result }
 {
