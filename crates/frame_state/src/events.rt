@@ -127,7 +127,7 @@ impl Body {
     }
 
     /// The place of the block to which the token in a place goes.
-    #[inline(always)]
+    #[inline]
     pub fn target_of(&self, block: &Block, place: u16) -> usize
         ensures value { result ≡ target block.now place }
     {
