@@ -1,8 +1,7 @@
 -- Which frames have a resolved store or an answered load, after each event.
 use Rattle.std.proofs.Common.{◌≡◌, ◌≢◌, ℕ, zero, suc, ◌+◌, ◌*◌, ◌<◌, ◌⊎◌, inl, inr, Bool, true, false, cond, ◌==◌}
 use Rattle.std.proofs.Common.{◌||◌, List, [], ◌∷◌, ◌++◌, Option, Some, None, length, take, set, slice_get, refl, sym}
-use Rattle.std.proofs.Common.{ap, ◌∙◌}
-use Rattle.std.proofs.Common.{subst, arith, true≢false}
+use Rattle.std.proofs.Common.{ap, ◌∙◌, subst, arith, true≢false}
 use Rattle.std.proofs.lemmas.Option.{same_Some}
 use Rattle.trips_isa.specs.declared.block.Inst.{Inst}
 use Rattle.trips_isa.specs.declared.block.Block.{Block}
@@ -20,8 +19,8 @@ use Rattle.commit_flush_spec.specs.Causes.{Happened, Done, NotNow}
 use Rattle.commit_flush_spec.specs.Frames.{Frame, at, fresh}
 use Rattle.commit_flush_spec.specs.Sending.{send, token_with}
 use Rattle.commit_flush_spec.specs.Older.{Older, after}
-use Rattle.commit_flush_spec.specs.Dataflow.{read, read_seen, read_answered, fire, fire_form, fire_inst, deliver}
-use Rattle.commit_flush_spec.specs.Dataflow.{delivered}
+use Rattle.commit_flush_spec.specs.Dataflow.{read, read_seen, read_answered, fire, fire_form, fire_inst}
+use Rattle.commit_flush_spec.specs.Dataflow.{deliver, delivered}
 use Rattle.commit_flush_spec.specs.Memory.{load, load_answered, store, request, taken_of}
 use Rattle.commit_flush_spec.specs.Ends.{exit, seal, outputs, cause_held}
 use Rattle.commit_flush_spec.specs.InFlight.{Window, change, alone, flush, fetched, commit, commit_to}

@@ -41,8 +41,12 @@ invariant_of-self c =
     c.index.result.now c.empty_in.new.phase c.index.ensures c.in-Some.outputs c.in-Some.ensures.value
     (c.empty_in.ensures.frame _) (c.empty_in.ensures.block _) (keeps_read c.index.result.now c.index_mut.result.now
     c.empty_in.new.phase c.self.inside.frames.items c.args.frame c.index.ensures c.index_mut.ensures.value
-    (omega (arith, eight c.self.invariant.sound, oldest_below c.self.invariant.sound _ c.self.view_is c.args.frame
-    c.requires.oldest))
+    (omega (
+      arith,
+      eight c.self.invariant.sound,
+      oldest_below c.self.invariant.sound _ c.self.view_is c.args.frame
+          c.requires.oldest,
+    ))
     c.empty_in.ensures.keeps) c.writes.result.now c.stores.result.now c.exit.result c.system.result c.successor.result
     c.writes.ensures.value c.stores.ensures.value c.exit.ensures.value c.system.ensures.value c.successor.ensures.value
     c.apply-self-inside.new.self c.apply-self-inside.result c.apply-self-inside.ensures.applied
@@ -59,8 +63,12 @@ returns-in-Some c =
     c.index.result.now c.empty_in.new.phase c.index.ensures c.in-Some.outputs c.in-Some.ensures.value
     (c.empty_in.ensures.frame _) (c.empty_in.ensures.block _) (keeps_read c.index.result.now c.index_mut.result.now
     c.empty_in.new.phase c.self.inside.frames.items c.args.frame c.index.ensures c.index_mut.ensures.value
-    (omega (arith, eight c.self.invariant.sound, oldest_below c.self.invariant.sound _ c.self.view_is c.args.frame
-    c.requires.oldest))
+    (omega (
+      arith,
+      eight c.self.invariant.sound,
+      oldest_below c.self.invariant.sound _ c.self.view_is c.args.frame
+          c.requires.oldest,
+    ))
     c.empty_in.ensures.keeps) c.writes.result.now c.stores.result.now c.exit.result c.system.result c.successor.result
     c.writes.ensures.value c.stores.ensures.value c.exit.ensures.value c.system.ensures.value c.successor.ensures.value
     c.apply-self-inside.new.self c.apply-self-inside.result c.apply-self-inside.ensures.applied
