@@ -1,10 +1,12 @@
 -- Bits of words that are set one after another.
 use Rattle.std.proofs.Common.{◌≡◌, ◌≢◌, ℕ, ◌+◌, ◌*◌, ◌%◌, ◌^◌, ◌<◌, ◌≤◌, ◌⊎◌, inl, inr, Bool, true, false}
-use Rattle.std.proofs.Common.{◌==◌, ◌&&◌, ◌||◌, nat_lt, refl, sym, ap, ◌∙◌, arith, bit_or, true≢false}
-use Rattle.std.specs.Int.{w32, w128}
+use Rattle.std.proofs.Common.{◌==◌, ◌&&◌, ◌||◌, nat_lt, refl, sym, ap, ◌∙◌, arith, bit_or, max, true≢false}
+use Rattle.std.specs.Int.{bit_at, w32, w128}
+use Rattle.std.proofs.Math.Nat.{pow-le-pow_right}
 use Rattle.std.proofs.lemmas.Bool.{cases_lt, lt-ltb, le-ltb}
-use Rattle.std.proofs.lemmas.Nat.Bits.{bit_at-zero, bit_at_set_same, bit_at_set_other}
+use Rattle.std.proofs.lemmas.Nat.Bits.{bit_at-zero, bit_at_above, bit_at_or, bit_at_set_same, bit_at_set_other}
 use Rattle.bit_rows.specs.Rows.{has_bit}
+use Rattle.lsq_order.proofs.BitFacts.{cases_bit, is_clear, is_set, low_part}
 
 -- no bit of 0 is set
 pub no_bit : (s : ℕ) → has_bit 0 s ≡ false
@@ -76,3 +78,27 @@ all_to w n p rest past k = go (cases_lt k n)
     go : (k < n) ⊎ (n ≤ k) → has_bit w k ≡ p k
     go (inl l) = all_set w n p rest k l
     go (inr l) = rest k ∙ ap (λ b. b && p k) (le-ltb k n l) ∙ sym (past k l)
+
+-- the bits below a number alone
+pub low_same : (n k i : ℕ) → i < k → has_bit (n % 2 ^ k) i ≡ has_bit n i
+low_same n k i l = ap (λ z. z == 1) (low_part k n i l)
+
+pub low_clear : (n k i : ℕ) → k ≤ i → has_bit (n % 2 ^ k) i ≡ false
+low_clear n k i l =
+    let some = pow-le-pow_right {n = 2} (omega arith) {i = 0} {j = k} (omega arith) in
+    is_clear (n % 2 ^ k) i (bit_at_above (n % 2 ^ k) k i (omega (arith, some)) l)
+
+-- no bit of two words together is set where neither has one
+pub both_clear : (a b i : ℕ) → has_bit (bit_or a b) i ≡ false → (has_bit a i ≡ false) × (has_bit b i ≡ false)
+both_clear a b i e = go (cases_bit a i) (cases_bit b i) (bit_at_or a b i)
+  where
+    clash : bit_at (bit_or a b) i ≡ 1 → ⊥
+    clash one = true≢false (sym (is_set (bit_or a b) i one) ∙ e)
+
+    go : (bit_at a i ≡ 0) ⊎ (bit_at a i ≡ 1) → (bit_at b i ≡ 0) ⊎ (bit_at b i ≡ 1)
+        → bit_at (bit_or a b) i ≡ max (bit_at a i) (bit_at b i)
+        → (has_bit a i ≡ false) × (has_bit b i ≡ false)
+    go (inl x) (inl y) m = (is_clear a i x, is_clear b i y)
+    go (inr x) (inl y) m = absurd (clash (omega (arith, x, y, m)))
+    go (inr x) (inr y) m = absurd (clash (omega (arith, x, y, m)))
+    go (inl x) (inr y) m = absurd (clash (omega (arith, x, y, m)))

@@ -23,3 +23,5 @@ pub mod EmptyFacts
 pub mod LendFacts
 pub mod BitFacts
 pub mod ObserveFacts
+pub mod AccessFacts
+pub mod GapFacts

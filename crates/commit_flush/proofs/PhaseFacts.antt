@@ -23,7 +23,7 @@ use Rattle.frame_events.specs.Phases.{HasBlock, frame_in, slots_of}
 use Rattle.frame_events.specs.Told.{exit_come, is_serial_in, is_sealed_in}
 use Rattle.commit_flush.specs.Seen.{IsSound, Seen, flying, window_of}
 use Rattle.commit_flush.specs.Youngest.{IsYoungest}
-use Rattle.commit_flush.proofs.SeenFacts.{good, eight, found, not_found, has_block, mapped_slot}
+use Rattle.commit_flush.proofs.SeenFacts.{good, eight, few, count_seen, found, not_found, has_block, mapped_slot}
 
 module _ {image : Image} {budget : ℕ} {machine : Machine} {over : Stepped} {phases : List Phase} {order : List ℕ}
     {registers : Ages} (s : IsSound image budget machine over phases order registers) where
@@ -33,6 +33,11 @@ module _ {image : Image} {budget : ℕ} {machine : Machine} {over : Stepped} {ph
     budget = budget;
     window = window_of image.blocks machine.state over phases order;
   }
+
+  -- at most eight frames are in flight
+  pub few_seen : (v : Seen) → seen ≡ v → length v.window.frames ≤ 8
+  few_seen v e = subst (λ (z : Seen). length z.window.frames ≤ 8) e
+      (let l = few s in let count = count_seen s in omega (arith, l, count))
 
   -- an item that is read
   pub read_phase : (n : ℕ) (p : Phase) → n < 8 → p ≡ get_or phases n p → slice_get phases n ≡ Some p

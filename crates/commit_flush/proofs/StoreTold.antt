@@ -135,6 +135,18 @@ module _ (fs : List Frame) (a : ℕ) (f : Frame) (touched : ℕ → Bool) (found
       let none : a + 0 ≡ a = omega arith in
       ap (λ j. a + j) (one_more ∙ ap (λ b. cond b 0 (suc (untouched left (drop (suc a) fs)))) h) ∙ none
 
+-- past the last frame none is left
+pub past_all : (touched : ℕ → Bool) (fs : List Frame) (a count : ℕ) {all : ℕ} → (a ≡ length fs) × (count ≡ length fs)
+    → all ≡ a + untouched touched (drop a fs) → count ≡ all
+past_all touched fs a count e is =
+    let none : a + 0 ≡ count = (let x = e.0 in let y = e.1 in omega (arith, x, y)) in
+    sym (is ∙ ap (λ k. a + untouched touched (drop k fs)) e.0 ∙ ap (λ xs. a + untouched touched xs)
+    (drop_all fs) ∙ none)
+  where
+    drop_all : (xs : List Frame) → drop (length xs) xs ≡ []
+    drop_all [] = refl
+    drop_all (x ∷ xs) = drop_all xs
+
 -- how many frames it leaves, by what is found in its own frame
 module _ (v : Seen) (n a m : ℕ) (t : StoreFound v n a m) (touched : ℕ → Bool) (found : Option ℕ)
     (same : (x : ℕ) → touched x ≡ covers (waiting_store m (frame_of n v.window.frames)) x)

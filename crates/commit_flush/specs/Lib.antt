@@ -6,3 +6,4 @@ pub mod Youngest
 pub mod Telling
 pub mod Lent
 pub mod Observed
+pub mod Accesses

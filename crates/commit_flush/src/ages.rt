@@ -1,5 +1,5 @@
 //! What is told of the frames in flight: by age, by number, and what is known behind them.
-ghost use Rattle.std.specs.Prelude.{◌≡◌, ◌<◌, IfSome, MatchOption, None, Some, [], length, slice_get, slice_index};
+ghost use Rattle.std.specs.Prelude.{◌≡◌, ◌<◌, ◌≤◌, IfSome, MatchOption, None, Some, [], length, slice_get, slice_index};
 ghost use Rattle.commit_flush_spec.specs.Frames.{Frame};
 ghost use Rattle.commit_flush_spec.specs.Older.{after_all, committed, follows, successor_of};
 ghost use Rattle.commit_flush_spec.specs.InFlight.{is_sealed};
@@ -8,11 +8,13 @@ ghost use Rattle.frame_state.specs.Held.{exit_of};
 ghost use Rattle.frame_events.specs.Phases.{HasBlock, frame_in};
 ghost use Rattle.commit_flush_order.specs.Places.{age_of, frame_of, free_number, numbers_of};
 ghost use Rattle.commit_flush.specs.Youngest.{IsYoungest};
+ghost use Rattle.commit_flush.specs.Accesses.{NoneStores, NoneLoads};
 
 use crate::orders;
 use crate::window::Window;
 use frame_events::{Phase, exit_come, is_sealed_in, is_serial_in};
 use frame_state::Departure;
+use lsq_order::{end_below, next_from};
 
 /// Whether a block may follow where this is known of the next one.
 pub(crate) fn follows(known: Option<u32>, block: u32) -> bool
@@ -145,5 +147,29 @@ impl Window {
             None => false,
             Some(phase) => is_sealed_in(phase, self.image()),
         }
+    }
+
+    // One past the youngest frame before an age that may have a resolved store, and 0 where none has.
+    pub(crate) fn storing_before(&self, age: u8) -> u8
+        requires { age ≤ length self.now.window.frames }
+        ensures within { result ≤ age }
+        ensures none { NoneStores result age self.now.window.frames }
+    {
+        let _image = &self.image;
+        end_below(self.storing, age as u32) as u8
+    }
+
+    // The oldest frame from an age on that may have a resolved store or an answered load, and the count of frames where
+    // none has.
+    pub(crate) fn accessing_from(&self, from: u8) -> u8
+        requires { from ≤ length self.now.window.frames }
+        ensures onward { from ≤ result }
+        ensures within { result ≤ length self.now.window.frames }
+        ensures stores { NoneStores from result self.now.window.frames }
+        ensures loads { NoneLoads from result self.now.window.frames }
+    {
+        let count = self.in_flight();
+        let next = next_from(self.storing | self.loading, from as u32);
+        next.min(count as u32) as u8
     }
 }

@@ -12,8 +12,9 @@ ghost use Rattle.frame_state.specs.Held.{taken_if};
 ghost use Rattle.frame_events.specs.Changes.{IsWord};
 ghost use Rattle.frame_events.specs.Phases.{HasBlock, frame_in};
 ghost use Rattle.frame_events.specs.Told.{waiting_load};
-ghost use Rattle.commit_flush_order.specs.Places.{frame_of};
+ghost use Rattle.commit_flush_order.specs.Places.{age_of, frame_of};
 
+use crate::bits::with_bit;
 use crate::window::Window;
 use block_check::CheckedImage;
 use frame_events::{Phase, flying, load_in};
@@ -48,7 +49,8 @@ impl Window {
         }
     }
 
-    // Takes what is still to be found from the stores of the frames before an age, the youngest first.
+    // Takes what is still to be found from the stores of the frames before an age, the youngest first. A frame without
+    // stores is not looked at.
     fn seek_older(&self, age: u8, sought: Sought) -> Sought
         requires age { age ≤ length self.now.window.frames }
         requires sound { IsSought sought }
@@ -57,11 +59,13 @@ impl Window {
             (after_all (take age self.now.window.frames) (committed self.now.window.state)).memory }
     {
         let mut sought = sought;
-        for back in 0..age {
+        let mut end = self.storing_before(age);
+        while end > 0 {
             if sought.is_found() {
                 return sought;
             }
-            sought = self.seek(age - 1 - back, 32, sought);
+            sought = self.seek(end - 1, 32, sought);
+            end = self.storing_before(end - 1);
         }
         sought
     }
@@ -88,19 +92,17 @@ impl Window {
         frame_events::waiting_load(phase, self.image(), number)
     }
 
-    // The number that the bytes make which the load of a frame takes that waits with a number.
-    fn loaded(&self, frame: u8, number: u8) -> u64
+    // The number that the bytes make which the load of the frame of an age takes that waits with a number.
+    fn loaded(&self, frame: u8, age: u8, number: u8) -> u64
+        requires { age_of frame self.now.window.frames ≡ Some age }
         ensures { IsWord (seen_at (committed self.now.window.state) self.now.window.frames frame) number result
             (frame_of frame self.now.window.frames) }
     {
-        match self.age_of(frame) {
+        match self.takes(frame, number) {
             None => 0,
-            Some(age) => match self.takes(frame, number) {
-                None => 0,
-                Some(took) => match took {
-                    Took::Nothing => 0,
-                    Took::From(address, size) => self.bytes(age, number, address, size),
-                },
+            Some(took) => match took {
+                Took::Nothing => 0,
+                Took::From(address, size) => self.bytes(age, number, address, size),
             },
         }
     }
@@ -113,7 +115,13 @@ impl Window {
           window = done self.old.image.blocks (window.Load frame number) self.old.window;
         } }
     {
-        let bytes = self.loaded(frame, number);
-        load_in(&mut self.frames[frame as usize], &self.image, number, bytes);
+        match self.age_of(frame) {
+            None => {}
+            Some(age) => {
+                let bytes = self.loaded(frame, age, number);
+                load_in(&mut self.frames[frame as usize], &self.image, number, bytes);
+                self.loading = with_bit(self.loading, age, true);
+            }
+        }
     }
 }

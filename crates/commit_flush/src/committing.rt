@@ -6,6 +6,7 @@ ghost use Rattle.commit_flush_spec.specs.Window.{can, done};
 ghost use Rattle.frame_events.specs.Told.{cause_in};
 ghost use Rattle.commit_flush_order.specs.Places.{frame_of, numbers_of};
 
+use crate::bits::led_down;
 use crate::parts::flush_from;
 use crate::window::Window;
 use frame_events::{empty_in, outputs_in};
@@ -59,6 +60,8 @@ impl Window {
                 let _ = self.order.remove(0);
                 empty_in(&mut self.frames[frame as usize]);
                 self.banks.retire();
+                self.storing = led_down(self.storing);
+                self.loading = led_down(self.loading);
             }
         }
     }

@@ -4,6 +4,7 @@ ghost use Rattle.commit_flush_spec.specs.Causes as causes;
 ghost use Rattle.commit_flush_spec.specs.Window as window;
 ghost use Rattle.commit_flush_spec.specs.Window.{can, done};
 
+use crate::bits::low_part;
 use crate::window::Window;
 use frame_events::{block_at, fill_in};
 
@@ -24,6 +25,8 @@ impl Window {
                 let writes = block_at(&self.image, block).writes.as_slice();
                 self.banks.declare(age, writes);
                 self.order.push(frame);
+                self.storing = low_part(self.storing, age);
+                self.loading = low_part(self.loading, age);
             }
         }
     }

@@ -12,6 +12,7 @@ ghost use Rattle.frame_events.specs.Phases.{HasBlock, frame_in};
 ghost use Rattle.frame_events.specs.Told.{waiting_store};
 ghost use Rattle.commit_flush_order.specs.Places.{age_of, frame_of};
 
+use crate::bits::with_bit;
 use crate::parts::flush_from;
 use crate::window::Window;
 use block_check::CheckedImage;
@@ -57,17 +58,20 @@ impl Window {
         }
     }
 
-    // How many frames are left, of those from an age on, before the first that took a byte which is reached.
+    // How many frames are left, of those from an age on, before the first that took a byte which is reached. A frame
+    // without stores and loads is not looked at.
     fn left_from(&self, reach: &mut Reach, from: u8) -> u8
         requires { from ≤ length self.now.window.frames }
         ensures { result ≡ from + untouched (reached reach.old) (drop from self.now.window.frames) }
     {
         let _image = &self.image;
         let count = self.in_flight();
-        for a in from..count {
+        let mut a = self.accessing_from(from);
+        while a < count {
             if self.wrong_at(a, reach, 0).is_some() {
                 return a;
             }
+            a = self.accessing_from(a + 1);
         }
         count
     }
@@ -103,6 +107,7 @@ impl Window {
             Some(age) => {
                 let left = self.left_by_store(frame, age, number);
                 store_in(&mut self.frames[frame as usize], &self.image, number);
+                self.storing = with_bit(self.storing, age, true);
                 flush_from(&mut self.frames, &mut self.order, &mut self.banks, left);
             }
         }

@@ -28,11 +28,15 @@ pub struct Window {
     pub(crate) frames: Vec<Phase>,
     pub(crate) order: ArrayVec<u8, 8>,
     pub(crate) banks: Banks,
+    /// Words whose bits stand for ages: where a bit is clear, that frame has no resolved store, or no answered load.
+    pub(crate) storing: u32,
+    pub(crate) loading: u32,
 }
 
 impl Model for Window {
     ghost use Rattle.reg_bank.specs.Ages.{at};
-    ghost use Rattle.commit_flush.specs.Seen.{Seen, window_of, IsSound};
+    ghost use Rattle.commit_flush.specs.Seen.{Seen, window_of};
+    ghost use Rattle.commit_flush.specs.Accesses.{Stands};
 
     ghost Value = { Seen };
 
@@ -42,7 +46,8 @@ impl Model for Window {
       window = window_of w.image.blocks w.arch.state w.over w.frames.items w.order.items;
     } };
 
-    ghost invariant = { λ w. IsSound w.image w.budget w.arch w.over w.frames.items w.order.items (at w.banks) };
+    ghost invariant = { λ w.
+        Stands w.image w.budget w.arch w.over w.frames.items w.order.items (at w.banks) w.storing w.loading };
 }
 
 // A frame of a number that was never filled.
@@ -108,6 +113,8 @@ impl Window {
             frames,
             order: ArrayVec::new(),
             banks: Banks::make(),
+            storing: 0,
+            loading: 0,
         })
     }
 

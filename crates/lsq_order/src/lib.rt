@@ -9,6 +9,7 @@ mod sought;
 mod tests;
 mod waiters;
 
+pub use masks::{end_below, next_from};
 pub use reach::Reach;
 pub use sought::Sought;
 pub use waiters::Waiters;

@@ -3,7 +3,8 @@ ghost use Rattle.std.specs.Prelude.{◌≡◌, ◌≤◌};
 ghost use Rattle.lsq_order.specs.Masks.{IsEnd, IsNext};
 
 /// One past the highest bit of a mask below a number, and 0 where there is none.
-pub(crate) fn end_below(mask: u32, below: u32) -> u32
+#[inline]
+pub fn end_below(mask: u32, below: u32) -> u32
     requires { below ≤ 32 }
     ensures { IsEnd mask below result }
 {
@@ -16,7 +17,8 @@ pub(crate) fn end_below(mask: u32, below: u32) -> u32
 }
 
 /// The lowest bit of a mask from a number on, and 32 where there is none.
-pub(crate) fn next_from(mask: u32, from: u32) -> u32
+#[inline]
+pub fn next_from(mask: u32, from: u32) -> u32
     requires { from ≤ 32 }
     ensures { IsNext mask from result }
 {

@@ -7,6 +7,6 @@ use Rattle.commit_flush.proofs.window.Window.frame_at.Goals as goal
 pub returns : goal.returns
 returns c = record {
   value = c.number_at.ensures
-      ∙ ap (λ xs. slice_get xs c.args.age) (c.as_slice.ensures.value ∙ sym (numbers_seen c.self.invariant))
+      ∙ ap (λ xs. slice_get xs c.args.age) (c.as_slice.ensures.value ∙ sym (numbers_seen c.self.invariant.sound))
       ∙ ap (λ (w : Seen). slice_get (numbers_of w.window.frames) c.args.age) c.self.view_is;
 }

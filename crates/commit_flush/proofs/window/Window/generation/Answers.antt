@@ -6,12 +6,12 @@ use Rattle.commit_flush.proofs.SeenFacts.{eight, mapped_at}
 use Rattle.commit_flush.proofs.window.Window.generation.Goals as goal
 
 pub index-requires : goal.index-requires
-index-requires c = omega (arith, eight c.self.invariant)
+index-requires c = omega (arith, eight c.self.invariant.sound)
 
 pub returns : goal.returns
 returns c =
     let i = c.self.inside in
-    let below : c.args.frame < length i.frames.items = omega (arith, eight c.self.invariant) in
+    let below : c.args.frame < length i.frames.items = omega (arith, eight c.self.invariant.sound) in
     let at = slice_get_read i.frames.items (length i.frames.items) c.args.frame c.index.result.now refl below
     c.index.ensures in
     record {

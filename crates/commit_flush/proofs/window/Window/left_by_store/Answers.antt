@@ -11,7 +11,8 @@ left_from-requires c =
 pub returns-in-Some : goal.returns-in-Some
 returns-in-Some c =
     let v = c.args.self.now in
-    let t = store_found c.self.invariant c.args.frame c.args.age c.args.number _ c.self.view_is c.requires.done c.requires.age in
+    let t = store_found c.self.invariant.sound c.args.frame c.args.age c.args.number _ c.self.view_is
+    c.requires.done c.requires.age in
     own_wrong v c.args.frame c.args.age c.args.number t _ (Some c.in-Some.field-0)
     (λ x. c.of-reach.ensures.reached x ∙ ap (λ z. covers z x) c.will_store.ensures)
     (c.in-Some.ensures.found t.frame t.at_age) refl
@@ -19,7 +20,8 @@ returns-in-Some c =
 pub returns-in-None : goal.returns-in-None
 returns-in-None c =
     let v = c.args.self.now in
-    let t = store_found c.self.invariant c.args.frame c.args.age c.args.number _ c.self.view_is c.requires.done c.requires.age in
+    let t = store_found c.self.invariant.sound c.args.frame c.args.age c.args.number _ c.self.view_is
+    c.requires.done c.requires.age in
     c.left_from.ensures ∙ own_right v c.args.frame c.args.age c.args.number t _ None
     (λ x. c.of-reach.ensures.reached x ∙ ap (λ z. covers z x) c.will_store.ensures)
     (c.in-None.ensures.found t.frame t.at_age) refl _

@@ -6,5 +6,5 @@ use Rattle.commit_flush.proofs.window.Window.lowest_empty.Goals as goal
 
 pub returns-clause-value : goal.returns-clause-value
 returns-clause-value c =
-    c.free_number.ensures.value _ (numbers_seen c.self.invariant ∙ sym c.as_slice.ensures.value)
+    c.free_number.ensures.value _ (numbers_seen c.self.invariant.sound ∙ sym c.as_slice.ensures.value)
     ∙ ap (λ (w : Seen). free_number w.window.frames) c.self.view_is
