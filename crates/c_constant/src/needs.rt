@@ -71,13 +71,13 @@ fn indexes(first: Option<u64>, index: u64) -> u64
 
 // The need of some arguments, each after those before it.
 #[cycle(need)]
-fn args_need(args: &[Expr]) -> u64
+fn args_need(args: &[Boxed<Expr>]) -> u64
     ensures { result ≡ capped (needs.args_need 0 (map needs.needs args.now)) }
 {
     let mut most = 0;
     let mut at = 0;
     for arg in args {
-        most = larger(most, further(counted_need(arg).need, at));
+        most = larger(most, further(counted_need(arg.get()).need, at));
         at = further(at, 1);
     }
     most
@@ -85,7 +85,7 @@ fn args_need(args: &[Expr]) -> u64
 
 // The need of a call.
 #[cycle(need)]
-fn call(args: &Items<Expr>) -> u64
+fn call(args: &Items<Boxed<Expr>>) -> u64
     ensures { result ≡ capped (call_need (map needs.needs args.now)) }
 {
     if args.is_empty() {

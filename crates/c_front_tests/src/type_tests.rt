@@ -46,9 +46,9 @@ fn expression_node(alloc: Global, line: u32, value: Value) -> Result<ExprNode, T
     }
 }
 
-fn expression(alloc: Global, line: u32, value: Value) -> Result<Expr, TypeFault> {
+fn expression(alloc: Global, line: u32, value: Value) -> Result<Boxed<Expr>, TypeFault> {
     let node = expression_node(alloc, line, value)?;
-    Ok(Expr { line, node })
+    Ok(Boxed::new(alloc, Expr { line, node })?)
 }
 
 fn declaration(alloc: Global, line: u32, name: &[u8], init: Value) -> Result<StmtNode, TypeFault> {
@@ -146,7 +146,13 @@ fn function(
     Ok(function_of(head, Some(body)))
 }
 
-fn global_of(line: u32, kind: Kind, name: Word, size: ArraySize, init: Items<Items<Expr>>) -> Top {
+fn global_of(
+    line: u32,
+    kind: Kind,
+    name: Word,
+    size: ArraySize,
+    init: Items<Items<Boxed<Expr>>>,
+) -> Top {
     Top {
         line,
         node: TopNode::Global {
@@ -159,7 +165,7 @@ fn global_of(line: u32, kind: Kind, name: Word, size: ArraySize, init: Items<Ite
 }
 
 /// One list of one value.
-fn values(alloc: Global, line: u32, value: Value) -> Result<Items<Items<Expr>>, TypeFault> {
+fn values(alloc: Global, line: u32, value: Value) -> Result<Items<Items<Boxed<Expr>>>, TypeFault> {
     let mut all = Items::new(alloc);
     all.push(expression(alloc, line, value)?)?;
     let mut lists = Items::new(alloc);
@@ -175,7 +181,7 @@ fn scalar(alloc: Global, line: u32, name: &[u8], value: Value) -> Result<Top, Ty
 
 fn array(alloc: Global, line: u32, name: &[u8], count: u64) -> Result<Top, TypeFault> {
     let name = Word::from_slice(alloc, name)?;
-    let size = ArraySize::Sized(number(line, count));
+    let size = ArraySize::Sized(Boxed::new(alloc, number(line, count))?);
     Ok(global_of(line, Kind::Char, name, size, Items::new(alloc)))
 }
 
@@ -314,7 +320,7 @@ fn chain(alloc: Global, count: u32) -> Result<Boxed<Expr>, TypeFault> {
 fn give(e: Boxed<Expr>) -> Stmt {
     Stmt {
         line: 1,
-        node: StmtNode::Return(Some(e.into_inner())),
+        node: StmtNode::Return(Some(e)),
     }
 }
 

@@ -1,6 +1,6 @@
 -- The loops of lists in which a comma may stand behind the last item, of globals and of units.
 use Rattle.std.proofs.Common.{◌≡◌, ℕ, suc, ◌+◌, ◌-◌, ◌<◌, Bool, true, false, cond, List, [], ◌∷◌, ◌++◌, length, Ok, Err}
-use Rattle.std.proofs.Common.{refl, sym, ap, ◌∙◌, arith, append_assoc}
+use Rattle.std.proofs.Common.{Result, refl, sym, ap, ◌∙◌, subst, arith, append_assoc}
 use Rattle.std.proofs.lemmas.Bool.{false≢true}
 use Rattle.c_tree.specs.declared.token.Kind.{Kind}
 use Rattle.c_tree.specs.declared.token.Mark.{Mark}
@@ -13,7 +13,7 @@ use Rattle.c_grammar.specs.ModelStatements.{below_at, compound_of}
 use Rattle.c_grammar.specs.ModelUnits.{row_of, rows_of}
 use Rattle.c_grammar.specs.ModelUnits.{values_of, global_of, more_globals_of, param_of, param_list_of, item_of, unit_of}
 use Rattle.c_grammar.proofs.Agree.{if_true, if_false}
-use Rattle.c_parse.specs.Reads.{behind, Fails}
+use Rattle.c_parse.specs.Reads.{behind, Fails, Puts}
 use Rattle.c_parse.specs.Lists.{global_list_of}
 use Rattle.c_parse.specs.declared.fault.Stopped.{Stopped}
 use Rattle.c_parse.specs.declared.fault.Stopped.TheVariants as stopped
@@ -124,14 +124,14 @@ pub params_init : (left turns : ℕ) (ts : Tokens) → turns ≡ length ts + 1
 unfolding param_list_of
 params_init left turns ts e = listed_init mark.RightParen (param_of (inside left)) turns ts e
 
--- behind a first item the loop finds what stands behind it
-pub globals_init : (left turns : ℕ) (k : Kind) (x : Top) (ts : Tokens) → turns ≡ length ts + 1
-    → behind (x ∷ []) (listed mark.Semicolon false (global_of (inside left) k) (turns - 0) ts) ≡ behind (x ∷ [])
+-- behind what was found the loop finds the globals
+pub globals_init : (left turns : ℕ) (k : Kind) (found : List Top) (ts : Tokens) → turns ≡ length ts + 1
+    → behind found (listed mark.Semicolon false (global_of (inside left) k) (turns - 0) ts) ≡ behind found
     (global_list_of (inside left) k ts)
 unfolding global_list_of
-globals_init left turns k x ts e =
+globals_init left turns k found ts e =
     let i : turns - 0 ≡ suc (length ts) = omega (arith, e) in ap
-    (λ (n : ℕ). behind (x ∷ []) (listed mark.Semicolon false (global_of (inside left) k) n ts)) i
+    (λ (n : ℕ). behind found (listed mark.Semicolon false (global_of (inside left) k) n ts)) i
 
 -- a comma: more globals stand behind it
 pub globals_on : (left : ℕ) (k : Kind) (x : Top) (ts rest : Tokens) → is_next mark.Comma ts ≡ true → rest ≡ tail ts
@@ -139,6 +139,23 @@ pub globals_on : (left : ℕ) (k : Kind) (x : Top) (ts rest : Tokens) → is_nex
 unfolding more_globals_of global_list_of
 globals_on left k x [] rest e r = absurd (false≢true e)
 globals_on left k x (t ∷ ts) rest e r = rw r (if_true (is_next mark.Comma (t ∷ ts)) _ _ e)
+
+-- what is put behind a list is what stands behind it
+put_same : {A : Type 0} (out out' : Out (List A)) (old old' new : List A) (r : Result (Unit {0}) Stopped) (ts : Tokens)
+    → behind old out ≡ behind old' out' → Puts out' old' new r ts → Puts out old new r ts
+put_same out out' old old' new (Ok done) ts e h = e ∙ h
+put_same {A} out out' old old' new (Err s) ts e h = subst (λ (o : Out (List A)). Fails o s ts) (sym e) h
+
+-- a comma: more globals are put behind the first one
+pub globals_put : (left : ℕ) (k : Kind) (x : Top) (ts rest end : Tokens) (old mid new : List Top)
+    (r : Result (Unit {0}) Stopped) → is_next mark.Comma ts ≡ true → rest ≡ tail ts → mid ≡ old ++ x ∷ []
+    → Puts (global_list_of (inside left) k rest) mid new r end
+    → Puts (more_globals_of (inside left) k x ts) old new r end
+globals_put left k x ts rest end old mid new r c e m h =
+    put_same (more_globals_of (inside left) k x ts) (global_list_of (inside left) k rest) old mid new r end
+    (ap (λ (o : Out (List Top)). behind old o) (globals_on left k x ts rest c e)
+    ∙ behind_items old (x ∷ []) (global_list_of (inside left) k rest)
+    ∙ ap (λ (f : List Top). behind f (global_list_of (inside left) k rest)) (sym m)) h
 
 -- no comma: the semicolon is wanted
 pub globals_end : (left : ℕ) (k : Kind) (x : Top) (ts : Tokens) → is_next mark.Comma ts ≡ false
@@ -184,6 +201,21 @@ module _ {A : Type 0} (run : Tokens → Out (List A)) where
   end_fails turns turn' found ts new stopped.TooDeep whole lt inv h =
       sym inv ∙ end_err (turns - turn') (turns - (turn' + 1)) found ts _ (omega (arith, lt)) h
   end_fails turns turn' found ts new stopped.Memory whole lt inv h = tt
+
+  -- the same of items that are put behind those that were found
+  pub end_puts : (turns turn' : ℕ) (found found' : List A) (ts rest : Tokens) (whole : Out (List A))
+      → turn' < turns → behind found (to_end run (turns - turn') ts) ≡ whole → behind found (run ts) ≡ Ok (found', rest)
+      → is_end rest ≡ false → behind found' (to_end run (turns - (turn' + 1)) rest) ≡ whole
+  end_puts turns turn' found found' ts rest whole lt inv h c = by (run ts) refl h
+    where
+      by : (o : Out (List A)) → run ts ≡ o → behind found o ≡ Ok (found', rest)
+          → behind found' (to_end run (turns - (turn' + 1)) rest) ≡ whole
+      by (Err s) i g = absurd cc
+      by (Ok p) i g =
+          let q : (found ++ p.0, p.1) ≡ (found', rest) = cc in
+          end_keeps turns turn' found found' ts rest (p.0) whole lt inv
+          (i ∙ ap (λ (u : Tokens). Ok (p.0, u)) (ap (λ (u : List A × Tokens). u.1) q)) c
+          (ap (λ (u : List A × Tokens). u.0) (sym q))
 
   pub end_init : (turns : ℕ) (ts : Tokens) → turns ≡ length ts + 1
       → behind [] (to_end run (turns - 0) ts) ≡ to_end run (suc (length ts)) ts

@@ -15,7 +15,8 @@ use Rattle.c_grammar.specs.ModelStatements.{sections_of}
 use Rattle.c_parse.specs.Reads.{behind, Fails}
 use Rattle.c_parse.specs.declared.fault.Stopped.{Stopped}
 use Rattle.c_parse.specs.declared.fault.Stopped.TheVariants as stopped
-use Rattle.c_parse.proofs.Turns.{listed_init, behind_none}
+use Rattle.c_parse.proofs.Turns.{behind_none}
+use Rattle.c_tree.specs.declared.tree.Stmt.{Stmt}
 
 abbrev err : {A : Type 0} → Stop → Out A
 err s = Err s
@@ -54,10 +55,14 @@ locals_some left ts h =
     let e : left ≡ suc (left - 1) = omega (arith, h) in ap (λ (n : ℕ). (below_at n).locals ts) e
     ∙ locals_next (left - 1) ts
 
-pub decls_init : (left turns : ℕ) (k : Kind) (ts : Tokens) → turns ≡ length ts + 1
-    → behind [] (listed mark.Semicolon false (decl_of (inside left) k) (turns - 0) ts) ≡ decls_of (inside left) k ts
+-- behind what was found the loop finds the declarators
+pub decls_init : (left turns : ℕ) (k : Kind) (found : List Stmt) (ts : Tokens) → turns ≡ length ts + 1
+    → behind found (listed mark.Semicolon false (decl_of (inside left) k) (turns - 0) ts) ≡ behind found
+    (decls_of (inside left) k ts)
 unfolding decls_of
-decls_init left turns k ts e = listed_init mark.Semicolon (decl_of (inside left) k) turns ts e
+decls_init left turns k found ts e =
+    let i : turns - 0 ≡ suc (length ts) = omega (arith, e) in ap
+    (λ (n : ℕ). behind found (listed mark.Semicolon false (decl_of (inside left) k) n ts)) i
 
 -- ---- entries up to a mark
 
@@ -105,6 +110,23 @@ module _ {A : Type 0} (k : Mark) (run : Tokens → Out (List A)) where
   many_fails turns turn' found ts new stopped.TooDeep whole lt inv c h =
       sym inv ∙ many_err (turns - turn') (turns - (turn' + 1)) found ts _ (omega (arith, lt)) c h
   many_fails turns turn' found ts new stopped.Memory whole lt inv c h = tt
+
+  -- the same of a turn that puts behind what was found
+  pub many_puts : (turns turn' : ℕ) (found found' : List A) (ts rest : Tokens) (whole : Out (List A))
+      → turn' < turns → behind found (many k run (turns - turn') ts) ≡ whole → is_next k ts ≡ false
+      → behind found (run ts) ≡ Ok (found', rest)
+      → behind found' (many k run (turns - (turn' + 1)) rest) ≡ whole
+  many_puts turns turn' found found' ts rest whole lt inv c h = by (run ts) refl h
+    where
+      by : (o : Out (List A)) → run ts ≡ o → behind found o ≡ Ok (found', rest)
+          → behind found' (many k run (turns - (turn' + 1)) rest) ≡ whole
+      by (Err s) i g = absurd cc
+      by (Ok p) i g =
+          let q : (found ++ p.0, p.1) ≡ (found', rest) = cc in
+          let f : found' ≡ found ++ p.0 = ap (λ (u : List A × Tokens). u.0) (sym q) in
+          let r : p.1 ≡ rest = ap (λ (u : List A × Tokens). u.1) q in
+          many_keeps turns turn' found found' ts rest (p.0) whole lt inv c
+          (i ∙ ap (λ (u : Tokens). Ok (p.0, u)) r) f
 
   many_init : (turns : ℕ) (ts : Tokens) → turns ≡ length ts + 1
       → behind [] (many k run (turns - 0) ts) ≡ many k run (suc (length ts)) ts

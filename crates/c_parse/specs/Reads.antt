@@ -117,3 +117,8 @@ Inside b n found p = (found ≡ Some p) × (b ≤ p.0) × (p.0 < n)
 -- what a loop has found, and what it will still find
 abbrev pub behind : {A : Type 0} → List A → Out (List A) → Out (List A)
 behind found out = and_then out (λ xs ts. Ok (found ++ xs, ts))
+
+-- the method puts what the model gives behind what was found, and leaves the same tokens
+abbrev pub Puts : {A : Type 0} → Out (List A) → List A → List A → Result (Unit {0}) Stopped → Tokens → Type 0
+Puts out old new (Ok done) ts = behind old out ≡ Ok (new, ts)
+Puts out old new (Err e) ts = Fails (behind old out) e ts

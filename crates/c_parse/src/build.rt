@@ -1,16 +1,15 @@
 //! The nodes of statements and the sizes of arrays, each from its parts.
 
-ghost use Rattle.std.specs.Prelude.{◌≡◌, IfOk, Some, None, [], ◌∷◌};
+ghost use Rattle.std.specs.Prelude.{◌≡◌, Some, None};
 ghost use Rattle.c_grammar.specs.Statements as grammar;
 ghost use Rattle.c_grammar.specs.Units as units;
 ghost use Rattle.c_tree.specs.declared.tree.StmtNode.TheVariants as node;
 
 use crate::held::Held;
 use base::{Boxed, Items};
-use c_tree::{ArraySize, Expr, ForInit, Section, Stmt, StmtNode, Top};
-use std::alloc::{AllocError, Global};
+use c_tree::{ArraySize, Expr, ForInit, Section, Stmt, StmtNode};
 
-pub fn if_only(line: u32, test: Expr, yes: Boxed<Stmt>) -> Stmt
+pub fn if_only(line: u32, test: Boxed<Expr>, yes: Boxed<Stmt>) -> Stmt
     ensures { result ≡ grammar.at line (node.If test yes None) }
 {
     Stmt {
@@ -23,7 +22,7 @@ pub fn if_only(line: u32, test: Expr, yes: Boxed<Stmt>) -> Stmt
     }
 }
 
-pub fn if_else(line: u32, test: Expr, yes: Boxed<Stmt>, no: Boxed<Stmt>) -> Stmt
+pub fn if_else(line: u32, test: Boxed<Expr>, yes: Boxed<Stmt>, no: Boxed<Stmt>) -> Stmt
     ensures { result ≡ grammar.at line (node.If test yes (Some no)) }
 {
     Stmt {
@@ -36,7 +35,7 @@ pub fn if_else(line: u32, test: Expr, yes: Boxed<Stmt>, no: Boxed<Stmt>) -> Stmt
     }
 }
 
-pub fn while_loop(line: u32, test: Expr, body: Boxed<Stmt>) -> Stmt
+pub fn while_loop(line: u32, test: Boxed<Expr>, body: Boxed<Stmt>) -> Stmt
     ensures { result ≡ grammar.at line (node.While test body) }
 {
     Stmt {
@@ -45,7 +44,7 @@ pub fn while_loop(line: u32, test: Expr, body: Boxed<Stmt>) -> Stmt
     }
 }
 
-pub fn do_loop(line: u32, body: Boxed<Stmt>, test: Expr) -> Stmt
+pub fn do_loop(line: u32, body: Boxed<Stmt>, test: Boxed<Expr>) -> Stmt
     ensures { result ≡ grammar.at line (node.Do body test) }
 {
     Stmt {
@@ -57,8 +56,8 @@ pub fn do_loop(line: u32, body: Boxed<Stmt>, test: Expr) -> Stmt
 pub fn for_loop(
     line: u32,
     init: Held<ForInit>,
-    test: Held<Option<Expr>>,
-    post: Held<Option<Expr>>,
+    test: Held<Option<Boxed<Expr>>>,
+    post: Held<Option<Boxed<Expr>>>,
     body: Boxed<Stmt>,
 ) -> Stmt
     ensures { result ≡ grammar.at line (node.For init test post body) }
@@ -74,7 +73,7 @@ pub fn for_loop(
     }
 }
 
-pub fn switch(line: u32, test: Expr, sections: Items<Section>) -> Stmt
+pub fn switch(line: u32, test: Boxed<Expr>, sections: Items<Section>) -> Stmt
     ensures { result ≡ grammar.at line (node.Switch test sections) }
 {
     Stmt {
@@ -84,7 +83,7 @@ pub fn switch(line: u32, test: Expr, sections: Items<Section>) -> Stmt
 }
 
 /// One pair of brackets, with a size or empty.
-pub fn one_size(given: Option<Expr>) -> ArraySize
+pub fn one_size(given: Option<Boxed<Expr>>) -> ArraySize
     ensures { result ≡ units.one_size given }
 {
     match given {
@@ -94,20 +93,11 @@ pub fn one_size(given: Option<Expr>) -> ArraySize
 }
 
 /// The first part of a `for` that declares nothing.
-pub fn for_init(given: Option<Expr>) -> ForInit
+pub fn for_init(given: Option<Boxed<Expr>>) -> ForInit
     ensures { result ≡ grammar.for_init given }
 {
     match given {
         None => ForInit::Nothing,
         Some(e) => ForInit::First(e),
     }
-}
-
-/// A list of one item.
-pub fn only(alloc: Global, item: Top) -> Result<Items<Top>, AllocError>
-    ensures { IfOk result (λ items. items ≡ item ∷ []) }
-{
-    let mut items = Items::new(alloc);
-    items.push(item)?;
-    Ok(items)
 }

@@ -9,6 +9,7 @@ ghost use Rattle.c_parse.specs.Reads.{Reads, joins_by, IsAssigner};
 use crate::fault::Stopped;
 use crate::make;
 use crate::parser::Parser;
+use base::Boxed;
 use c_tree::{BinaryOp, Expr, ExprNode, Form, Mark};
 
 #[tactic(auto, unfolding(c_grammar::specs::ModelExpressions::is_unary))]
@@ -85,7 +86,7 @@ impl Parser<'_> {
     /// An operator joins all that was read so far: what binds tighter than it stands there already. So one
     /// operand is read once, and not once a level.
     #[cycle(expression)]
-    fn binary(&mut self, left: u8, level: u8) -> Result<Expr, Stopped>
+    fn binary(&mut self, left: u8, level: u8) -> Result<Boxed<Expr>, Stopped>
         requires { level ≤ 10 }
         ensures { Reads (model.binary_of (model.inside left) level self.old.rest.now) result
             self.new.rest.now }
@@ -103,7 +104,7 @@ impl Parser<'_> {
 
     #[cycle(expression)]
     #[tactic(auto, unfolding(c_grammar::specs::ModelExpressions::chosen_of))]
-    fn chosen(&mut self, left: u8, test: Expr) -> Result<Expr, Stopped>
+    fn chosen(&mut self, left: u8, test: Boxed<Expr>) -> Result<Boxed<Expr>, Stopped>
         ensures { Reads (model.chosen_of (model.inside left) test self.old.rest.now) result
             self.new.rest.now }
     {
@@ -116,7 +117,7 @@ impl Parser<'_> {
 
     #[cycle(expression)]
     #[tactic(auto, unfolding(c_grammar::specs::ModelExpressions::choice_from))]
-    fn choice(&mut self, left: u8, test: Expr) -> Result<Expr, Stopped>
+    fn choice(&mut self, left: u8, test: Boxed<Expr>) -> Result<Boxed<Expr>, Stopped>
         ensures { Reads (model.choice_from (model.inside left) test self.old.rest.now) result
             self.new.rest.now }
     {
@@ -128,7 +129,7 @@ impl Parser<'_> {
 
     #[cycle(expression)]
     #[tactic(auto, unfolding(c_grammar::specs::ModelExpressions::conditional_of))]
-    pub fn conditional(&mut self, left: u8) -> Result<Expr, Stopped>
+    pub fn conditional(&mut self, left: u8) -> Result<Boxed<Expr>, Stopped>
         ensures { Reads (model.conditional_of (model.inside left) self.old.rest.now) result
             self.new.rest.now }
     {
@@ -156,8 +157,8 @@ impl Parser<'_> {
         left: u8,
         mark: Mark,
         op: Option<BinaryOp>,
-        to: Expr,
-    ) -> Result<Expr, Stopped>
+        to: Boxed<Expr>,
+    ) -> Result<Boxed<Expr>, Stopped>
         ensures { (s : Assigner) → mark ≡ assigner_mark s → op ≡ assigner_op s
             → Reads (model.assigned_of (model.inside left) s to self.old.rest.now) result
             self.new.rest.now }
@@ -169,11 +170,11 @@ impl Parser<'_> {
 
     #[cycle(expression)]
     #[tactic(auto, unfolding(c_grammar::specs::ModelExpressions::assign_from))]
-    fn assign(&mut self, left: u8, to: Expr) -> Result<Expr, Stopped>
+    fn assign(&mut self, left: u8, to: Boxed<Expr>) -> Result<Boxed<Expr>, Stopped>
         ensures { Reads (model.assign_from (model.inside left) to self.old.rest.now) result
             self.new.rest.now }
     {
-        match self.assigner(&to) {
+        match self.assigner(to.get()) {
             Some((mark, op)) => self.assigned(left, mark, op, to),
             None => Ok(to),
         }
@@ -181,7 +182,7 @@ impl Parser<'_> {
 
     #[cycle(expression)]
     #[tactic(auto, unfolding(c_grammar::specs::ModelExpressions::assignment_of))]
-    pub fn assignment(&mut self, left: u8) -> Result<Expr, Stopped>
+    pub fn assignment(&mut self, left: u8) -> Result<Boxed<Expr>, Stopped>
         ensures { Reads (model.assignment_of (model.inside left) self.old.rest.now) result
             self.new.rest.now }
     {
@@ -190,7 +191,7 @@ impl Parser<'_> {
     }
 
     #[cycle(expression)]
-    pub fn expression(&mut self, left: u8) -> Result<Expr, Stopped>
+    pub fn expression(&mut self, left: u8) -> Result<Boxed<Expr>, Stopped>
         ensures { Reads (model.expression_of (model.inside left) self.old.rest.now) result
             self.new.rest.now }
     {

@@ -5,9 +5,8 @@ ghost use Rattle.c_grammar.specs.ModelExpressions.{inside};
 ghost use Rattle.c_grammar.specs.ModelStatements.{below_at, compound_of};
 ghost use Rattle.c_grammar.specs.ModelUnits as model;
 ghost use Rattle.c_grammar.specs.Parsing as parsing;
-ghost use Rattle.c_parse.specs.Reads.{Reads};
+ghost use Rattle.c_parse.specs.Reads.{Reads, Puts};
 
-use crate::build;
 use crate::fault::Stopped;
 use crate::parser::Parser;
 use base::Items;
@@ -163,7 +162,7 @@ impl Parser<'_> {
         self.prototype(outer, left, given, line, name, params)
     }
 
-    /// A function behind its name.
+    /// A function behind its name, which is put behind the items that were found.
     #[tactic(auto, unfolding(c_grammar::specs::ModelUnits::func_of))]
     fn function(
         &mut self,
@@ -172,16 +171,19 @@ impl Parser<'_> {
         given: Option<Kind>,
         line: u32,
         name: Word,
-    ) -> Result<Items<Top>, Stopped>
-        ensures { Reads (model.func_of (inside outer) (compound_of (inside left) (below_at left))
-            given line name self.old.rest.now) result self.new.rest.now }
+        found: &mut Items<Top>,
+    ) -> Result<(), Stopped>
+        ensures { Puts (model.func_of (inside outer) (compound_of (inside left) (below_at left))
+            given line name self.old.rest.now) found.old found.new result self.new.rest.now }
     {
         self.expect(Mark::LeftParen)?;
         let params = self.params(outer)?;
         let function = self.rest_of_function(outer, left, given, line, name, params)?;
-        Ok(build::only(self.alloc, function)?)
+        found.push(function)?;
+        Ok(())
     }
 
+    /// What stands behind a type and a name.
     #[tactic(auto, unfolding(c_grammar::specs::ModelUnits::after_name))]
     fn named_item(
         &mut self,
@@ -190,36 +192,37 @@ impl Parser<'_> {
         kind: Kind,
         line: u32,
         name: Word,
-    ) -> Result<Items<Top>, Stopped>
-        ensures { Reads (model.after_name (inside outer) (compound_of (inside left) (below_at left))
-            kind line name self.old.rest.now) result self.new.rest.now }
+        found: &mut Items<Top>,
+    ) -> Result<(), Stopped>
+        ensures { Puts (model.after_name (inside outer) (compound_of (inside left) (below_at left))
+            kind line name self.old.rest.now) found.old found.new result self.new.rest.now }
     {
         if self.is_next(Mark::LeftParen) {
-            return self.function(outer, left, Some(kind), line, name);
+            return self.function(outer, left, Some(kind), line, name, found);
         }
-        self.globals(outer, kind, line, name)
+        self.globals(outer, kind, line, name, found)
     }
 
     #[tactic(auto, unfolding(c_grammar::specs::ModelUnits::void_item_of))]
-    fn void_item(&mut self, outer: u8, left: u8) -> Result<Items<Top>, Stopped>
-        ensures { Reads (model.void_item_of (inside outer)
-            (compound_of (inside left) (below_at left)) self.old.rest.now) result
+    fn void_item(&mut self, outer: u8, left: u8, found: &mut Items<Top>) -> Result<(), Stopped>
+        ensures { Puts (model.void_item_of (inside outer)
+            (compound_of (inside left) (below_at left)) self.old.rest.now) found.old found.new result
             self.new.rest.now }
     {
         self.expect_keyword(Key::Void)?;
         let (line, name) = self.name()?;
-        self.function(outer, left, None, line, name)
+        self.function(outer, left, None, line, name, found)
     }
 
     #[tactic(auto, unfolding(c_grammar::specs::ModelUnits::typed_item_of))]
-    fn typed_item(&mut self, outer: u8, left: u8) -> Result<Items<Top>, Stopped>
-        ensures { Reads (model.typed_item_of (inside outer)
-            (compound_of (inside left) (below_at left)) self.old.rest.now) result
+    fn typed_item(&mut self, outer: u8, left: u8, found: &mut Items<Top>) -> Result<(), Stopped>
+        ensures { Puts (model.typed_item_of (inside outer)
+            (compound_of (inside left) (below_at left)) self.old.rest.now) found.old found.new result
             self.new.rest.now }
     {
         let (_, kind) = self.type_name()?;
         let (line, name) = self.name()?;
-        self.named_item(outer, left, kind, line, name)
+        self.named_item(outer, left, kind, line, name, found)
     }
 
     /// Whether no token is left.
@@ -242,8 +245,9 @@ impl Parser<'_> {
     }
 
     #[tactic(auto, unfolding(c_grammar::specs::ModelUnits::include_of))]
-    fn include(&mut self) -> Result<Items<Top>, Stopped>
-        ensures { Reads (model.include_of self.old.rest.now) result self.new.rest.now }
+    fn include(&mut self, found: &mut Items<Top>) -> Result<(), Stopped>
+        ensures { Puts (model.include_of self.old.rest.now) found.old found.new result
+            self.new.rest.now }
     {
         if !self.is_include() {
             return Err(Stopped::Syntax);
@@ -254,21 +258,23 @@ impl Parser<'_> {
             line,
             node: TopNode::Include,
         };
-        Ok(build::only(self.alloc, include)?)
+        found.push(include)?;
+        Ok(())
     }
 
+    /// An item, which is put behind those that were found.
     #[tactic(auto, unfolding(c_grammar::specs::ModelUnits::item_of))]
-    fn item(&mut self, outer: u8, left: u8) -> Result<Items<Top>, Stopped>
-        ensures { Reads (model.item_of (inside outer) (compound_of (inside left) (below_at left))
-            self.old.rest.now) result self.new.rest.now }
+    fn item(&mut self, outer: u8, left: u8, found: &mut Items<Top>) -> Result<(), Stopped>
+        ensures { Puts (model.item_of (inside outer) (compound_of (inside left) (below_at left))
+            self.old.rest.now) found.old found.new result self.new.rest.now }
     {
         if self.is_include() {
-            return self.include();
+            return self.include(found);
         }
         if self.is_word(Key::Void) {
-            return self.void_item(outer, left);
+            return self.void_item(outer, left, found);
         }
-        self.typed_item(outer, left)
+        self.typed_item(outer, left, found)
     }
 
     /// Items up to the end, one at least.
@@ -278,8 +284,7 @@ impl Parser<'_> {
         let mut found = Items::new(self.alloc);
         let turns = self.rest.len() + 1;
         for _turn in 0..turns {
-            let more = self.item(MOST_NESTING, MOST_NESTING - 1)?;
-            found.append(more)?;
+            self.item(MOST_NESTING, MOST_NESTING - 1, &mut found)?;
             if self.is_end() {
                 return Ok(found);
             }

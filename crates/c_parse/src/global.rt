@@ -1,24 +1,22 @@
 //! Globals (C17 6.7, 6.9.2), which stand at depth 0.
 
-ghost use Rattle.std.specs.Prelude.{◌≡◌, [], ◌∷◌, Ok};
+ghost use Rattle.std.specs.Prelude.{◌≡◌};
 ghost use Rattle.c_grammar.specs.ModelExpressions.{inside};
-ghost use Rattle.c_grammar.specs.Parsing as parsing;
 ghost use Rattle.c_grammar.specs.ModelUnits as model;
-ghost use Rattle.c_tree.specs.declared.token.Mark.TheVariants as marks;
-ghost use Rattle.c_parse.specs.Reads.{Reads, behind};
+ghost use Rattle.c_parse.specs.Reads.{Reads, Puts};
 ghost use Rattle.c_parse.specs.Lists.{global_list_of};
 
 use crate::build;
 use crate::fault::Stopped;
 use crate::held::Held;
 use crate::parser::Parser;
-use base::Items;
+use base::{Boxed, Items};
 use c_tree::{ArraySize, Expr, Kind, Mark, Top, TopNode, Word};
 
 impl Parser<'_> {
     /// A size or none, up to the bracket.
     #[tactic(auto, unfolding(c_grammar::specs::ModelUnits::no_size_of, c_grammar::specs::ModelUnits::some_size_of, c_grammar::specs::ModelUnits::size_of))]
-    fn size(&mut self, left: u8) -> Result<Option<Expr>, Stopped>
+    fn size(&mut self, left: u8) -> Result<Option<Boxed<Expr>>, Stopped>
         ensures { Reads (model.size_of (inside left) self.old.rest.now) result self.new.rest.now }
     {
         if self.is_next(Mark::RightBracket) {
@@ -32,7 +30,7 @@ impl Parser<'_> {
 
     /// A second size in its brackets.
     #[tactic(auto, unfolding(c_grammar::specs::ModelUnits::second_of))]
-    fn second_size(&mut self, left: u8) -> Result<Expr, Stopped>
+    fn second_size(&mut self, left: u8) -> Result<Boxed<Expr>, Stopped>
         ensures { Reads (model.second_of (inside left) self.old.rest.now) result
             self.new.rest.now }
     {
@@ -44,7 +42,11 @@ impl Parser<'_> {
 
     /// A second pair of brackets.
     #[tactic(auto, unfolding(c_grammar::specs::ModelUnits::two_pairs_of))]
-    fn second_pair(&mut self, left: u8, rows: Held<Option<Expr>>) -> Result<ArraySize, Stopped>
+    fn second_pair(
+        &mut self,
+        left: u8,
+        rows: Held<Option<Boxed<Expr>>>,
+    ) -> Result<ArraySize, Stopped>
         ensures { Reads (model.two_pairs_of (inside left) rows self.old.rest.now) result
             self.new.rest.now }
     {
@@ -55,7 +57,7 @@ impl Parser<'_> {
 
     /// Behind the first pair of brackets: a second one, or what stands behind the array.
     #[tactic(auto, unfolding(c_grammar::specs::ModelUnits::after_first))]
-    fn after_first(&mut self, left: u8, first: Option<Expr>) -> Result<ArraySize, Stopped>
+    fn after_first(&mut self, left: u8, first: Option<Boxed<Expr>>) -> Result<ArraySize, Stopped>
         ensures { Reads (model.after_first (inside left) first self.old.rest.now) result
             self.new.rest.now }
     {
@@ -77,7 +79,7 @@ impl Parser<'_> {
     }
 
     /// Values up to the brace, with a comma more where there is one.
-    fn values(&mut self, left: u8) -> Result<Items<Expr>, Stopped>
+    fn values(&mut self, left: u8) -> Result<Items<Boxed<Expr>>, Stopped>
         ensures { Reads (model.values_of (inside left) self.old.rest.now) result self.new.rest.now }
     {
         let mut found = Items::new(self.alloc);
@@ -100,7 +102,7 @@ impl Parser<'_> {
 
     /// The values of an array with one size.
     #[tactic(auto, unfolding(c_grammar::specs::ModelUnits::flat_of))]
-    fn flat(&mut self, left: u8) -> Result<Items<Items<Expr>>, Stopped>
+    fn flat(&mut self, left: u8) -> Result<Items<Items<Boxed<Expr>>>, Stopped>
         ensures { Reads (model.flat_of (inside left) self.old.rest.now) result self.new.rest.now }
     {
         let values = self.values(left)?;
@@ -111,7 +113,7 @@ impl Parser<'_> {
 
     /// A row of values in its braces.
     #[tactic(auto, unfolding(c_grammar::specs::ModelUnits::row_of))]
-    fn row(&mut self, left: u8) -> Result<Items<Expr>, Stopped>
+    fn row(&mut self, left: u8) -> Result<Items<Boxed<Expr>>, Stopped>
         ensures { Reads (model.row_of (inside left) self.old.rest.now) result self.new.rest.now }
     {
         self.expect(Mark::LeftBrace)?;
@@ -119,7 +121,7 @@ impl Parser<'_> {
     }
 
     /// Rows up to the brace, with a comma more where there is one.
-    fn rows(&mut self, left: u8) -> Result<Items<Items<Expr>>, Stopped>
+    fn rows(&mut self, left: u8) -> Result<Items<Items<Boxed<Expr>>>, Stopped>
         ensures { Reads (model.rows_of (inside left) self.old.rest.now) result self.new.rest.now }
     {
         let mut found = Items::new(self.alloc);
@@ -146,7 +148,7 @@ impl Parser<'_> {
         &mut self,
         left: u8,
         size: Held<ArraySize>,
-    ) -> Result<(ArraySize, Items<Items<Expr>>), Stopped>
+    ) -> Result<(ArraySize, Items<Items<Boxed<Expr>>>), Stopped>
         ensures { Reads (model.filled_of (inside left) size self.old.rest.now) result
             self.new.rest.now }
     {
@@ -162,7 +164,7 @@ impl Parser<'_> {
         &mut self,
         left: u8,
         size: Held<ArraySize>,
-    ) -> Result<(ArraySize, Items<Items<Expr>>), Stopped>
+    ) -> Result<(ArraySize, Items<Items<Boxed<Expr>>>), Stopped>
         ensures { Reads (model.rows_filled_of (inside left) size self.old.rest.now) result
             self.new.rest.now }
     {
@@ -172,7 +174,10 @@ impl Parser<'_> {
         Ok((size.into_inner(), lists))
     }
 
-    fn or_sized(&mut self, size: ArraySize) -> Result<(ArraySize, Items<Items<Expr>>), Stopped>
+    fn or_sized(
+        &mut self,
+        size: ArraySize,
+    ) -> Result<(ArraySize, Items<Items<Boxed<Expr>>>), Stopped>
         ensures { Reads (model.or_sized size self.old.rest.now) result self.new.rest.now }
     {
         if has_first(&size) {
@@ -187,7 +192,7 @@ impl Parser<'_> {
         &mut self,
         left: u8,
         size: ArraySize,
-    ) -> Result<(ArraySize, Items<Items<Expr>>), Stopped>
+    ) -> Result<(ArraySize, Items<Items<Boxed<Expr>>>), Stopped>
         ensures { Reads (model.after_size (inside left) size self.old.rest.now) result
             self.new.rest.now }
     {
@@ -202,7 +207,7 @@ impl Parser<'_> {
         &mut self,
         left: u8,
         size: ArraySize,
-    ) -> Result<(ArraySize, Items<Items<Expr>>), Stopped>
+    ) -> Result<(ArraySize, Items<Items<Boxed<Expr>>>), Stopped>
         ensures { Reads (model.after_rows (inside left) size self.old.rest.now) result
             self.new.rest.now }
     {
@@ -216,8 +221,8 @@ impl Parser<'_> {
     fn rows_array(
         &mut self,
         left: u8,
-        rows: Held<Option<Expr>>,
-    ) -> Result<(ArraySize, Items<Items<Expr>>), Stopped>
+        rows: Held<Option<Boxed<Expr>>>,
+    ) -> Result<(ArraySize, Items<Items<Boxed<Expr>>>), Stopped>
         ensures { Reads (model.rows_array_of (inside left) rows self.old.rest.now) result
             self.new.rest.now }
     {
@@ -231,8 +236,8 @@ impl Parser<'_> {
     fn after_pair(
         &mut self,
         left: u8,
-        first: Option<Expr>,
-    ) -> Result<(ArraySize, Items<Items<Expr>>), Stopped>
+        first: Option<Boxed<Expr>>,
+    ) -> Result<(ArraySize, Items<Items<Boxed<Expr>>>), Stopped>
         ensures { Reads (model.after_pair (inside left) first self.old.rest.now) result
             self.new.rest.now }
     {
@@ -243,7 +248,7 @@ impl Parser<'_> {
     }
 
     #[tactic(auto, unfolding(c_grammar::specs::ModelUnits::array_of))]
-    fn global_array(&mut self, left: u8) -> Result<(ArraySize, Items<Items<Expr>>), Stopped>
+    fn global_array(&mut self, left: u8) -> Result<(ArraySize, Items<Items<Boxed<Expr>>>), Stopped>
         ensures { Reads (model.array_of (inside left) self.old.rest.now) result self.new.rest.now }
     {
         self.expect(Mark::LeftBracket)?;
@@ -252,7 +257,7 @@ impl Parser<'_> {
     }
 
     #[tactic(auto, unfolding(c_grammar::specs::ModelUnits::valued_of))]
-    fn valued(&mut self, left: u8) -> Result<(ArraySize, Items<Items<Expr>>), Stopped>
+    fn valued(&mut self, left: u8) -> Result<(ArraySize, Items<Items<Boxed<Expr>>>), Stopped>
         ensures { Reads (model.valued_of (inside left) self.old.rest.now) result self.new.rest.now }
     {
         self.expect(Mark::Assign)?;
@@ -266,7 +271,7 @@ impl Parser<'_> {
 
     /// What stands behind the name of a global.
     #[tactic(auto, unfolding(c_grammar::specs::ModelUnits::shape_of))]
-    fn global_shape(&mut self, left: u8) -> Result<(ArraySize, Items<Items<Expr>>), Stopped>
+    fn global_shape(&mut self, left: u8) -> Result<(ArraySize, Items<Items<Boxed<Expr>>>), Stopped>
         ensures { Reads (model.shape_of (inside left) self.old.rest.now) result self.new.rest.now }
     {
         if self.is_next(Mark::Assign) {
@@ -296,12 +301,11 @@ impl Parser<'_> {
         })
     }
 
-    /// Globals up to the semicolon, behind those that were found.
-    fn global_list(&mut self, left: u8, kind: Kind, first: Top) -> Result<Items<Top>, Stopped>
-        ensures { Reads (behind (first ∷ []) (global_list_of (inside left) kind self.old.rest.now))
+    /// Globals up to the semicolon, behind the items that were found.
+    fn global_list(&mut self, left: u8, kind: Kind, found: &mut Items<Top>) -> Result<(), Stopped>
+        ensures { Puts (global_list_of (inside left) kind self.old.rest.now) found.old found.new
             result self.new.rest.now }
     {
-        let mut found = build::only(self.alloc, first)?;
         let turns = self.rest.len() + 1;
         for _turn in 0..turns {
             let global = self.global(left, kind)?;
@@ -310,31 +314,31 @@ impl Parser<'_> {
                 self.advance();
             } else {
                 self.expect(Mark::Semicolon)?;
-                return Ok(found);
+                return Ok(());
             }
         }
         Err(Stopped::Syntax)
     }
 
-    fn only_global(&mut self, first: Top) -> Result<Items<Top>, Stopped>
-        ensures { Reads (parsing.and_then (parsing.expect marks.Semicolon self.old.rest.now)
-            (λ _ ts. Ok (first ∷ [], ts))) result self.new.rest.now }
+    /// A global, and those that stand behind it, behind the items that were found.
+    #[tactic(auto, using(crate::proofs::Lists::globals_end))]
+    fn more_globals(
+        &mut self,
+        left: u8,
+        kind: Kind,
+        first: Top,
+        found: &mut Items<Top>,
+    ) -> Result<(), Stopped>
+        ensures { Puts (model.more_globals_of (inside left) kind first self.old.rest.now) found.old
+            found.new result self.new.rest.now }
     {
-        let found = build::only(self.alloc, first)?;
-        self.expect(Mark::Semicolon)?;
-        Ok(found)
-    }
-
-    #[tactic(auto, using(crate::proofs::Lists::globals_on, crate::proofs::Lists::globals_end))]
-    fn more_globals(&mut self, left: u8, kind: Kind, first: Top) -> Result<Items<Top>, Stopped>
-        ensures { Reads (model.more_globals_of (inside left) kind first self.old.rest.now) result
-            self.new.rest.now }
-    {
+        found.push(first)?;
         if self.is_next(Mark::Comma) {
             self.advance();
-            return self.global_list(left, kind, first);
+            return self.global_list(left, kind, found);
         }
-        self.only_global(first)
+        self.expect(Mark::Semicolon)?;
+        Ok(())
     }
 
     /// Globals behind the name of the first one.
@@ -345,9 +349,10 @@ impl Parser<'_> {
         kind: Kind,
         line: u32,
         name: Word,
-    ) -> Result<Items<Top>, Stopped>
-        ensures { Reads (model.globals_of (inside left) kind line name self.old.rest.now) result
-            self.new.rest.now }
+        found: &mut Items<Top>,
+    ) -> Result<(), Stopped>
+        ensures { Puts (model.globals_of (inside left) kind line name self.old.rest.now) found.old
+            found.new result self.new.rest.now }
     {
         let (size, init) = self.global_shape(left)?;
         let first = Top {
@@ -359,7 +364,7 @@ impl Parser<'_> {
                 init,
             },
         };
-        self.more_globals(left, kind, first)
+        self.more_globals(left, kind, first, found)
     }
 }
 

@@ -4,16 +4,16 @@ ghost use Rattle.std.specs.Prelude.{◌≡◌};
 ghost use Rattle.c_grammar.specs.Statements as grammar;
 ghost use Rattle.c_grammar.specs.ModelExpressions.{inside};
 ghost use Rattle.c_grammar.specs.ModelStatements as model;
-ghost use Rattle.c_parse.specs.Reads.{Reads};
+ghost use Rattle.c_parse.specs.Reads.{Reads, Puts};
 
 use crate::fault::Stopped;
 use crate::parser::Parser;
-use base::Items;
+use base::{Boxed, Items};
 use c_tree::{ArraySize, Expr, Kind, Mark, Stmt, StmtNode};
 
 impl Parser<'_> {
     #[tactic(auto, unfolding(c_grammar::specs::ModelStatements::absent_of, c_grammar::specs::ModelStatements::given_of, c_grammar::specs::ModelStatements::until_of))]
-    pub fn until_semicolon(&mut self, left: u8) -> Result<Option<Expr>, Stopped>
+    pub fn until_semicolon(&mut self, left: u8) -> Result<Option<Boxed<Expr>>, Stopped>
         ensures { Reads (model.until_of (inside left) grammar.semicolon self.old.rest.now) result
             self.new.rest.now }
     {
@@ -27,7 +27,7 @@ impl Parser<'_> {
     }
 
     #[tactic(auto, unfolding(c_grammar::specs::ModelStatements::absent_of, c_grammar::specs::ModelStatements::given_of, c_grammar::specs::ModelStatements::until_of))]
-    pub fn until_paren(&mut self, left: u8) -> Result<Option<Expr>, Stopped>
+    pub fn until_paren(&mut self, left: u8) -> Result<Option<Boxed<Expr>>, Stopped>
         ensures { Reads (model.until_of (inside left) grammar.paren self.old.rest.now) result
             self.new.rest.now }
     {
@@ -42,7 +42,7 @@ impl Parser<'_> {
 
     /// A condition in its parentheses.
     #[tactic(auto, unfolding(c_grammar::specs::ModelStatements::test_of))]
-    pub fn test(&mut self, left: u8) -> Result<Expr, Stopped>
+    pub fn test(&mut self, left: u8) -> Result<Boxed<Expr>, Stopped>
         ensures { Reads (model.test_of (inside left) self.old.rest.now) result self.new.rest.now }
     {
         self.expect(Mark::LeftParen)?;
@@ -52,7 +52,7 @@ impl Parser<'_> {
     }
 
     #[tactic(auto, unfolding(c_grammar::specs::ModelStatements::value_of))]
-    fn value(&mut self, left: u8) -> Result<(ArraySize, Option<Expr>), Stopped>
+    fn value(&mut self, left: u8) -> Result<(ArraySize, Option<Boxed<Expr>>), Stopped>
         ensures { Reads (model.value_of (inside left) self.old.rest.now) result self.new.rest.now }
     {
         self.expect(Mark::Assign)?;
@@ -62,7 +62,7 @@ impl Parser<'_> {
 
     /// A size in its brackets.
     #[tactic(auto, unfolding(c_grammar::specs::ModelStatements::size_of))]
-    fn local_size(&mut self, left: u8) -> Result<Expr, Stopped>
+    fn local_size(&mut self, left: u8) -> Result<Boxed<Expr>, Stopped>
         ensures { Reads (model.size_of (inside left) self.old.rest.now) result self.new.rest.now }
     {
         self.expect(Mark::LeftBracket)?;
@@ -72,7 +72,11 @@ impl Parser<'_> {
     }
 
     #[tactic(auto, unfolding(c_grammar::specs::ModelStatements::second_of))]
-    fn local_rows(&mut self, left: u8, rows: Expr) -> Result<(ArraySize, Option<Expr>), Stopped>
+    fn local_rows(
+        &mut self,
+        left: u8,
+        rows: Boxed<Expr>,
+    ) -> Result<(ArraySize, Option<Boxed<Expr>>), Stopped>
         ensures { Reads (model.second_of (inside left) rows self.old.rest.now) result
             self.new.rest.now }
     {
@@ -86,8 +90,8 @@ impl Parser<'_> {
     fn after_local_size(
         &mut self,
         left: u8,
-        size: Expr,
-    ) -> Result<(ArraySize, Option<Expr>), Stopped>
+        size: Boxed<Expr>,
+    ) -> Result<(ArraySize, Option<Boxed<Expr>>), Stopped>
         ensures { Reads (model.after_size (inside left) size self.old.rest.now) result
             self.new.rest.now }
     {
@@ -98,7 +102,7 @@ impl Parser<'_> {
     }
 
     #[tactic(auto, unfolding(c_grammar::specs::ModelStatements::array_of))]
-    fn array(&mut self, left: u8) -> Result<(ArraySize, Option<Expr>), Stopped>
+    fn array(&mut self, left: u8) -> Result<(ArraySize, Option<Boxed<Expr>>), Stopped>
         ensures { Reads (model.array_of (inside left) self.old.rest.now) result self.new.rest.now }
     {
         let size = self.local_size(left)?;
@@ -107,7 +111,7 @@ impl Parser<'_> {
 
     /// What stands behind the name of a local.
     #[tactic(auto, unfolding(c_grammar::specs::ModelStatements::shape_of))]
-    fn shape(&mut self, left: u8) -> Result<(ArraySize, Option<Expr>), Stopped>
+    fn shape(&mut self, left: u8) -> Result<(ArraySize, Option<Boxed<Expr>>), Stopped>
         ensures { Reads (model.shape_of (inside left) self.old.rest.now) result self.new.rest.now }
     {
         if self.is_next(Mark::Assign) {
@@ -137,12 +141,11 @@ impl Parser<'_> {
         })
     }
 
-    /// Declarators up to the semicolon.
-    fn declarators(&mut self, left: u8, kind: Kind) -> Result<Items<Stmt>, Stopped>
-        ensures { Reads (model.decls_of (inside left) kind self.old.rest.now) result
-            self.new.rest.now }
+    /// Declarators up to the semicolon, behind the statements that were found.
+    fn declarators(&mut self, left: u8, kind: Kind, found: &mut Items<Stmt>) -> Result<(), Stopped>
+        ensures { Puts (model.decls_of (inside left) kind self.old.rest.now) found.old found.new
+            result self.new.rest.now }
     {
-        let mut found = Items::new(self.alloc);
         let turns = self.rest.len() + 1;
         for _turn in 0..turns {
             let declarator = self.declarator(left, kind)?;
@@ -151,37 +154,40 @@ impl Parser<'_> {
                 self.advance();
             } else {
                 self.expect(Mark::Semicolon)?;
-                return Ok(found);
+                return Ok(());
             }
         }
         Err(Stopped::Syntax)
     }
 
     #[tactic(auto, unfolding(c_grammar::specs::ModelStatements::locals_of))]
-    fn locals(&mut self, left: u8) -> Result<Items<Stmt>, Stopped>
-        ensures { Reads (model.locals_of (inside left) self.old.rest.now) result self.new.rest.now }
+    fn locals(&mut self, left: u8, found: &mut Items<Stmt>) -> Result<(), Stopped>
+        ensures { Puts (model.locals_of (inside left) self.old.rest.now) found.old found.new result
+            self.new.rest.now }
     {
         let (_, kind) = self.type_name()?;
-        self.declarators(left, kind)
+        self.declarators(left, kind, found)
     }
 
-    /// A declaration inside a statement.
-    pub fn locals_inside(&mut self, left: u8) -> Result<Items<Stmt>, Stopped>
-        ensures { Reads ((model.below_at left).locals self.old.rest.now) result self.new.rest.now }
+    /// A declaration inside a statement, behind the statements that were found.
+    pub fn locals_inside(&mut self, left: u8, found: &mut Items<Stmt>) -> Result<(), Stopped>
+        ensures { Puts ((model.below_at left).locals self.old.rest.now) found.old found.new result
+            self.new.rest.now }
     {
         if left == 0 {
-            return self.no_locals();
+            return self.no_locals(found);
         }
-        self.locals(left - 1)
+        self.locals(left - 1, found)
     }
 
-    fn no_locals(&mut self) -> Result<Items<Stmt>, Stopped>
-        ensures { Reads ((model.below_at 0).locals self.old.rest.now) result self.new.rest.now }
+    fn no_locals(&mut self, found: &mut Items<Stmt>) -> Result<(), Stopped>
+        ensures { Puts ((model.below_at 0).locals self.old.rest.now) found.old found.new result
+            self.new.rest.now }
     {
+        let _unused = found;
         if self.begins_type() {
-            Err(Stopped::TooDeep)
-        } else {
-            Err(Stopped::Syntax)
+            return Err(Stopped::TooDeep);
         }
+        Err(Stopped::Syntax)
     }
 }

@@ -10,7 +10,7 @@ ghost use Rattle.c_parse.specs.Reads.{Reads, opened, IsSuffix, IsPrefix};
 use crate::fault::Stopped;
 use crate::make;
 use crate::parser::Parser;
-use base::Items;
+use base::{Boxed, Items};
 use c_tree::{BumpOp, Expr, ExprNode, Form, Mark, UnaryOp, Word};
 
 /// What stands before an operand.
@@ -27,7 +27,7 @@ pub enum Before {
 impl Parser<'_> {
     #[cycle(expression)]
     #[tactic(auto, unfolding(c_grammar::specs::ModelExpressions::group_of))]
-    fn group(&mut self, left: u8) -> Result<Expr, Stopped>
+    fn group(&mut self, left: u8) -> Result<Boxed<Expr>, Stopped>
         ensures { Reads (model.group_of (model.inside left) self.old.rest.now) result
             self.new.rest.now }
     {
@@ -41,7 +41,7 @@ impl Parser<'_> {
     /// An index in its brackets.
     #[cycle(expression)]
     #[tactic(auto, unfolding(c_grammar::specs::ModelExpressions::index_of))]
-    fn index(&mut self, left: u8) -> Result<Expr, Stopped>
+    fn index(&mut self, left: u8) -> Result<Boxed<Expr>, Stopped>
         ensures { Reads (model.index_of (model.inside left) self.old.rest.now) result
             self.new.rest.now }
     {
@@ -53,7 +53,13 @@ impl Parser<'_> {
 
     #[cycle(expression)]
     #[tactic(auto, unfolding(c_grammar::specs::ModelExpressions::second_of))]
-    fn second_index(&mut self, left: u8, line: u32, array: Word, row: Expr) -> Result<Expr, Stopped>
+    fn second_index(
+        &mut self,
+        left: u8,
+        line: u32,
+        array: Word,
+        row: Boxed<Expr>,
+    ) -> Result<Boxed<Expr>, Stopped>
         ensures { Reads (model.second_of (model.inside left) line array row self.old.rest.now)
             result self.new.rest.now }
     {
@@ -69,8 +75,8 @@ impl Parser<'_> {
         left: u8,
         line: u32,
         array: Word,
-        index: Expr,
-    ) -> Result<Expr, Stopped>
+        index: Boxed<Expr>,
+    ) -> Result<Boxed<Expr>, Stopped>
         ensures { Reads (model.after_index (model.inside left) line array index self.old.rest.now)
             result self.new.rest.now }
     {
@@ -82,7 +88,7 @@ impl Parser<'_> {
 
     #[cycle(expression)]
     #[tactic(auto, unfolding(c_grammar::specs::ModelExpressions::element_of))]
-    fn element(&mut self, left: u8, line: u32, array: Word) -> Result<Expr, Stopped>
+    fn element(&mut self, left: u8, line: u32, array: Word) -> Result<Boxed<Expr>, Stopped>
         ensures { Reads (model.element_of (model.inside left) line array self.old.rest.now) result
             self.new.rest.now }
     {
@@ -92,22 +98,19 @@ impl Parser<'_> {
 
     #[cycle(expression)]
     #[tactic(auto, unfolding(c_grammar::specs::ModelExpressions::call_of))]
-    fn call(&mut self, left: u8, line: u32, function: Word) -> Result<Expr, Stopped>
+    fn call(&mut self, left: u8, line: u32, function: Word) -> Result<Boxed<Expr>, Stopped>
         ensures { Reads (model.call_of (model.inside left) line function self.old.rest.now) result
             self.new.rest.now }
     {
         let left = self.enter(Mark::LeftParen, left)?;
         let args = self.args(left)?;
-        Ok(Expr {
-            line,
-            node: ExprNode::Call { function, args },
-        })
+        Ok(make::built(self.alloc, line, ExprNode::Call { function, args })?)
     }
 
     /// Arguments up to the closing parenthesis.
     #[cycle(expression)]
     #[tactic(auto, unfolding(c_grammar::specs::ModelExpressions::args_of, c_grammar::specs::ModelExpressions::no_args_of))]
-    fn args(&mut self, left: u8) -> Result<Items<Expr>, Stopped>
+    fn args(&mut self, left: u8) -> Result<Items<Boxed<Expr>>, Stopped>
         ensures { Reads (model.args_of (opened left) self.old.rest.now) result self.new.rest.now }
     {
         if self.is_next(Mark::RightParen) {
@@ -118,7 +121,7 @@ impl Parser<'_> {
     }
 
     #[cycle(expression)]
-    fn arg_list(&mut self, left: u8) -> Result<Items<Expr>, Stopped>
+    fn arg_list(&mut self, left: u8) -> Result<Items<Boxed<Expr>>, Stopped>
         ensures { Reads (model.arg_list_of (opened left) self.old.rest.now) result
             self.new.rest.now }
     {
@@ -139,7 +142,7 @@ impl Parser<'_> {
 
     #[cycle(expression)]
     #[tactic(auto, unfolding(c_grammar::specs::ModelExpressions::after_name))]
-    fn after_name(&mut self, left: u8, line: u32, name: Word) -> Result<Expr, Stopped>
+    fn after_name(&mut self, left: u8, line: u32, name: Word) -> Result<Boxed<Expr>, Stopped>
         ensures { Reads (model.after_name (model.inside left) line name self.old.rest.now) result
             self.new.rest.now }
     {
@@ -149,15 +152,12 @@ impl Parser<'_> {
         if self.is_next(Mark::LeftParen) {
             return self.call(left, line, name);
         }
-        Ok(Expr {
-            line,
-            node: ExprNode::Name(name),
-        })
+        Ok(make::built(self.alloc, line, ExprNode::Name(name))?)
     }
 
     #[cycle(expression)]
     #[tactic(auto, unfolding(c_grammar::specs::ModelExpressions::named_of))]
-    fn named(&mut self, left: u8) -> Result<Expr, Stopped>
+    fn named(&mut self, left: u8) -> Result<Boxed<Expr>, Stopped>
         ensures { Reads (model.named_of (model.inside left) self.old.rest.now) result
             self.new.rest.now }
     {
@@ -165,7 +165,7 @@ impl Parser<'_> {
         self.after_name(left, line, name)
     }
 
-    fn number(&mut self) -> Result<Expr, Stopped>
+    fn number(&mut self) -> Result<Boxed<Expr>, Stopped>
         ensures { Reads (model.number_of self.old.rest.now) result self.new.rest.now }
     {
         let [lexeme, ..] = self.rest else {
@@ -179,7 +179,7 @@ impl Parser<'_> {
                     kind: *kind,
                 };
                 self.advance();
-                Ok(Expr { line, node })
+                Ok(make::built(self.alloc, line, node)?)
             }
             _ => Err(Stopped::Syntax),
         }
@@ -187,7 +187,7 @@ impl Parser<'_> {
 
     #[cycle(expression)]
     #[tactic(auto, unfolding(c_grammar::specs::ModelExpressions::primary_of))]
-    fn primary(&mut self, left: u8) -> Result<Expr, Stopped>
+    fn primary(&mut self, left: u8) -> Result<Boxed<Expr>, Stopped>
         ensures { Reads (model.primary_of (model.inside left) self.old.rest.now) result
             self.new.rest.now }
     {
@@ -216,14 +216,14 @@ impl Parser<'_> {
 
     #[cycle(expression)]
     #[tactic(auto, unfolding(c_grammar::specs::ModelExpressions::postfix_of))]
-    fn postfix(&mut self, left: u8) -> Result<Expr, Stopped>
+    fn postfix(&mut self, left: u8) -> Result<Boxed<Expr>, Stopped>
         ensures { Reads (model.postfix_of (model.inside left) self.old.rest.now) result
             self.new.rest.now }
     {
         let mut whole = self.primary(left)?;
         while let Some(op) = self.suffix() {
             self.advance();
-            let line = whole.line;
+            let line = whole.get().line;
             whole = make::bump(self.alloc, line, op, whole)?;
         }
         Ok(whole)
@@ -249,7 +249,7 @@ impl Parser<'_> {
 
     #[cycle(expression)]
     #[tactic(auto, unfolding(c_grammar::specs::ModelExpressions::prefixed_of))]
-    fn signed_by(&mut self, left: u8, mark: Mark, op: UnaryOp) -> Result<Expr, Stopped>
+    fn signed_by(&mut self, left: u8, mark: Mark, op: UnaryOp) -> Result<Boxed<Expr>, Stopped>
         requires { mark ≡ prefix_mark (sign op) }
         ensures { Reads (model.prefixed_of (model.inside left) (sign op) self.old.rest.now) result
             self.new.rest.now }
@@ -262,7 +262,7 @@ impl Parser<'_> {
 
     #[cycle(expression)]
     #[tactic(auto, unfolding(c_grammar::specs::ModelExpressions::prefixed_of))]
-    fn increased(&mut self, left: u8) -> Result<Expr, Stopped>
+    fn increased(&mut self, left: u8) -> Result<Boxed<Expr>, Stopped>
         ensures { Reads (model.prefixed_of (model.inside left) increase self.old.rest.now) result
             self.new.rest.now }
     {
@@ -274,7 +274,7 @@ impl Parser<'_> {
 
     #[cycle(expression)]
     #[tactic(auto, unfolding(c_grammar::specs::ModelExpressions::prefixed_of))]
-    fn decreased(&mut self, left: u8) -> Result<Expr, Stopped>
+    fn decreased(&mut self, left: u8) -> Result<Boxed<Expr>, Stopped>
         ensures { Reads (model.prefixed_of (model.inside left) decrease self.old.rest.now) result
             self.new.rest.now }
     {
@@ -286,7 +286,7 @@ impl Parser<'_> {
 
     #[cycle(expression)]
     #[tactic(auto, unfolding(c_grammar::specs::ModelExpressions::unary_of))]
-    pub fn unary(&mut self, left: u8) -> Result<Expr, Stopped>
+    pub fn unary(&mut self, left: u8) -> Result<Boxed<Expr>, Stopped>
         ensures { Reads (model.unary_of (model.inside left) self.old.rest.now) result
             self.new.rest.now }
     {
@@ -320,7 +320,7 @@ impl Parser<'_> {
 
     #[cycle(expression)]
     #[tactic(auto, unfolding(c_grammar::specs::ModelExpressions::cast_in))]
-    fn converted(&mut self, left: u8) -> Result<Expr, Stopped>
+    fn converted(&mut self, left: u8) -> Result<Boxed<Expr>, Stopped>
         ensures { Reads (model.cast_in (model.inside left) self.old.rest.now) result
             self.new.rest.now }
     {
@@ -334,7 +334,7 @@ impl Parser<'_> {
 
     #[cycle(expression)]
     #[tactic(auto, unfolding(c_grammar::specs::ModelExpressions::cast_of))]
-    pub fn cast(&mut self, left: u8) -> Result<Expr, Stopped>
+    pub fn cast(&mut self, left: u8) -> Result<Boxed<Expr>, Stopped>
         ensures { Reads (model.cast_of (model.inside left) self.old.rest.now) result
             self.new.rest.now }
     {

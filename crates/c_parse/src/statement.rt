@@ -7,7 +7,7 @@ ghost use Rattle.c_grammar.specs.ModelExpressions.{inside};
 ghost use Rattle.c_grammar.specs.ModelStatements as model;
 ghost use Rattle.c_tree.specs.declared.token.Key.TheVariants as keys;
 ghost use Rattle.c_tree.specs.declared.tree.StmtNode.TheVariants as nodes;
-ghost use Rattle.c_parse.specs.Reads.{Reads};
+ghost use Rattle.c_parse.specs.Reads.{Reads, Puts};
 
 use crate::build;
 use crate::fault::Stopped;
@@ -58,29 +58,29 @@ impl Parser<'_> {
         Ok(Boxed::new(self.alloc, statement)?)
     }
 
+    /// A statement, behind those that were found.
     #[cycle(statement)]
     #[tactic(auto, unfolding(c_grammar::specs::ModelStatements::one_of))]
-    fn one(&mut self, left: u8) -> Result<Items<Stmt>, Stopped>
-        ensures { Reads (model.one_of (inside left) (model.below_at left) self.old.rest.now) result
-            self.new.rest.now }
+    fn one(&mut self, left: u8, found: &mut Items<Stmt>) -> Result<(), Stopped>
+        ensures { Puts (model.one_of (inside left) (model.below_at left) self.old.rest.now)
+            found.old found.new result self.new.rest.now }
     {
         let statement = self.inner(left)?;
-        let mut found = Items::new(self.alloc);
         found.push(statement)?;
-        Ok(found)
+        Ok(())
     }
 
-    /// A statement, or the declarators of a declaration.
+    /// A statement, or the declarators of a declaration, behind those that were found.
     #[cycle(statement)]
     #[tactic(auto, unfolding(c_grammar::specs::ModelStatements::entry_of))]
-    fn entry(&mut self, left: u8) -> Result<Items<Stmt>, Stopped>
-        ensures { Reads (model.entry_of (inside left) (model.below_at left) self.old.rest.now)
-            result self.new.rest.now }
+    fn entry(&mut self, left: u8, found: &mut Items<Stmt>) -> Result<(), Stopped>
+        ensures { Puts (model.entry_of (inside left) (model.below_at left) self.old.rest.now)
+            found.old found.new result self.new.rest.now }
     {
         if self.begins_type() {
-            return self.locals_inside(left);
+            return self.locals_inside(left, found);
         }
-        self.one(left)
+        self.one(left, found)
     }
 
     /// Entries up to the closing brace.
@@ -96,8 +96,7 @@ impl Parser<'_> {
                 self.advance();
                 return Ok(found);
             }
-            let more = self.entry(left)?;
-            found.append(more)?;
+            self.entry(left, &mut found)?;
         }
         Err(Stopped::Syntax)
     }
@@ -121,7 +120,8 @@ impl Parser<'_> {
         ensures { Reads (model.init_local_of (inside left) (model.below_at left) self.old.rest.now)
             result self.new.rest.now }
     {
-        let locals = self.locals_inside(left)?;
+        let mut locals = Items::new(self.alloc);
+        self.locals_inside(left, &mut locals)?;
         Ok(ForInit::Locals(locals))
     }
 
@@ -151,7 +151,7 @@ impl Parser<'_> {
         &mut self,
         left: u8,
         line: u32,
-        test: Expr,
+        test: Boxed<Expr>,
         yes: Boxed<Stmt>,
     ) -> Result<Stmt, Stopped>
         ensures { Reads (model.else_of (inside left) (model.below_at left) line test yes
@@ -168,7 +168,7 @@ impl Parser<'_> {
         &mut self,
         left: u8,
         line: u32,
-        test: Expr,
+        test: Boxed<Expr>,
         yes: Boxed<Stmt>,
     ) -> Result<Stmt, Stopped>
         ensures { Reads (model.no_of (inside left) (model.below_at left) line test yes
@@ -294,7 +294,7 @@ impl Parser<'_> {
     {
         let e = self.expression(left)?;
         self.expect(Mark::Semicolon)?;
-        let line = e.line;
+        let line = e.get().line;
         Ok(Stmt {
             line,
             node: StmtNode::Plain(Some(e)),

@@ -69,7 +69,7 @@ pub enum ExprNode {
     },
     Call {
         function: Word,
-        args: Items<Expr>,
+        args: Items<Boxed<Expr>>,
     },
     Group(Boxed<Expr>),
     Unary {
@@ -111,8 +111,11 @@ pub enum ExprNode {
 pub enum ArraySize {
     Scalar,
     Open,
-    Sized(Expr),
-    Rows { rows: Option<Expr>, size: Expr },
+    Sized(Boxed<Expr>),
+    Rows {
+        rows: Option<Boxed<Expr>>,
+        size: Boxed<Expr>,
+    },
 }
 
 /// A label of a section, at the line of its keyword: a case with its constant, or `default`, which has
@@ -120,7 +123,7 @@ pub enum ArraySize {
 #[derive(Drop)]
 pub struct Label {
     pub line: u32,
-    pub value: Option<Expr>,
+    pub value: Option<Boxed<Expr>>,
 }
 
 /// A section of a switch: its labels, one at least, and the statements behind them, one at least.
@@ -149,36 +152,36 @@ pub enum StmtNode {
         kind: Kind,
         name: Word,
         size: ArraySize,
-        init: Option<Expr>,
+        init: Option<Boxed<Expr>>,
     },
-    Plain(Option<Expr>),
+    Plain(Option<Boxed<Expr>>),
     Compound(Items<Stmt>),
     If {
-        test: Expr,
+        test: Boxed<Expr>,
         yes: Boxed<Stmt>,
         no: Option<Boxed<Stmt>>,
     },
     While {
-        test: Expr,
+        test: Boxed<Expr>,
         body: Boxed<Stmt>,
     },
     Do {
         body: Boxed<Stmt>,
-        test: Expr,
+        test: Boxed<Expr>,
     },
     For {
         init: ForInit,
-        test: Option<Expr>,
-        post: Option<Expr>,
+        test: Option<Boxed<Expr>>,
+        post: Option<Boxed<Expr>>,
         body: Boxed<Stmt>,
     },
     Switch {
-        test: Expr,
+        test: Boxed<Expr>,
         sections: Items<Section>,
     },
     Break,
     Continue,
-    Return(Option<Expr>),
+    Return(Option<Boxed<Expr>>),
 }
 
 /// The first part of a `for`: nothing, an expression, or the declarators of a declaration.
@@ -186,7 +189,7 @@ pub enum StmtNode {
 #[cycle(stmt)]
 pub enum ForInit {
     Nothing,
-    First(Expr),
+    First(Boxed<Expr>),
     Locals(Items<Stmt>),
 }
 
@@ -218,7 +221,7 @@ pub enum TopNode {
         kind: Kind,
         name: Word,
         size: ArraySize,
-        init: Items<Items<Expr>>,
+        init: Items<Items<Boxed<Expr>>>,
     },
     Func {
         result: Option<Kind>,

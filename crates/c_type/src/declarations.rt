@@ -14,6 +14,7 @@ ghost use Rattle.c_type.specs.Runs.{Runs, Moves, Adds};
 use crate::counts::{counted, short};
 use crate::parts::value_to;
 use crate::state::{Around, State};
+use base::Boxed;
 use c_constant::bytes;
 use c_scope::{Meaning, Scopes};
 use c_tree::{
@@ -58,14 +59,14 @@ fn sizes(names: &Scopes, size: &ArraySize, line: u32) -> Result<(u64, u64), Type
         ArraySize::Scalar => Err(TypeFault::Mismatch(line)),
         ArraySize::Open => Err(TypeFault::Mismatch(line)),
         ArraySize::Sized(size) => {
-            let length = size_length(names, size)?;
+            let length = size_length(names, size.get())?;
             Ok((1, length))
         }
         ArraySize::Rows { rows, size } => match rows {
             None => Err(TypeFault::Mismatch(line)),
             Some(rows) => {
-                let rows = size_length(names, rows)?;
-                let length = size_length(names, size)?;
+                let rows = size_length(names, rows.get())?;
+                let length = size_length(names, size.get())?;
                 Ok((rows, length))
             }
         },
@@ -179,7 +180,7 @@ fn add_array(
     Ok(())
 }
 
-fn no_init(init: &Option<Expr>, line: u32) -> Result<(), TypeFault>
+fn no_init(init: &Option<Boxed<Expr>>, line: u32) -> Result<(), TypeFault>
     ensures { Says (declarations.no_init init.now line) tt result }
 {
     match init {
@@ -194,7 +195,7 @@ fn bare_array(
     size: &ArraySize,
     kind: Kind,
     name: &Word,
-    init: &Option<Expr>,
+    init: &Option<Boxed<Expr>>,
     line: u32,
 ) -> Result<TypedArray, TypeFault>
     ensures { Says (declarations.sized_fault size.now kind name.now init.now line names.now)
@@ -229,7 +230,7 @@ fn declare_array(
     kind: Kind,
     name: Word,
     size: &ArraySize,
-    init: &Option<Expr>,
+    init: &Option<Boxed<Expr>>,
 ) -> Result<TypedStmt, TypeFault>
     ensures { Moves (declarations.sized_fault size.now kind name init.now line state.old.names)
         (TypedStmt.Declare (Place.Array (length state.old.arrays)) None)
@@ -247,7 +248,7 @@ fn declare_scalar(
     line: u32,
     kind: Kind,
     name: Word,
-    init: Option<Expr>,
+    init: Option<Boxed<Expr>>,
 ) -> Result<TypedStmt, TypeFault>
     ensures { Moves (declarations.scalar_init_fault kind name init line state.old)
         (TypedStmt.Declare (Place.Scalar (length state.old.scalars))
@@ -272,7 +273,7 @@ pub fn declare(
     kind: Kind,
     name: Word,
     size: ArraySize,
-    init: Option<Expr>,
+    init: Option<Boxed<Expr>>,
 ) -> Result<TypedStmt, TypeFault>
     ensures { Runs (part (states.at line (node.Declare kind name size init))) around state.old
         state.new result }

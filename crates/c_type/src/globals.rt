@@ -12,7 +12,7 @@ use crate::counts::{counted, short};
 use crate::declarations::{row_in, twice};
 use crate::file_scope::FileScope;
 use crate::initialisers::{rows_fit, value_count, values, whole_rows};
-use base::Items;
+use base::{Boxed, Items};
 use c_constant::bytes;
 use c_scope::{Meaning, Scopes};
 use c_tree::{ArraySize, Expr, Kind, MOST_OBJECT_BYTES, Place, TypedGlobal, Word};
@@ -64,7 +64,7 @@ fn some_values(count: u64, line: u32) -> Result<(), TypeFault>
 fn sizes_in(
     names: &Scopes,
     size: &ArraySize,
-    init: &[Items<Expr>],
+    init: &[Items<Boxed<Expr>>],
     line: u32,
 ) -> Result<(u64, u64), TypeFault>
     ensures { Says (units.count_fault size.now init.now line names.now)
@@ -78,18 +78,18 @@ fn sizes_in(
             Ok((1, count))
         }
         ArraySize::Sized(size) => {
-            let length = size_length(names, size)?;
+            let length = size_length(names, size.get())?;
             Ok((1, length))
         }
         ArraySize::Rows { rows, size } => match rows {
             None => {
-                let length = size_length(names, size)?;
+                let length = size_length(names, size.get())?;
                 some_values(init.len() as u64, line)?;
                 Ok((init.len() as u64, length))
             }
             Some(rows) => {
-                let rows = size_length(names, rows)?;
-                let length = size_length(names, size)?;
+                let rows = size_length(names, rows.get())?;
+                let length = size_length(names, size.get())?;
                 Ok((rows, length))
             }
         },
@@ -121,7 +121,7 @@ fn length_in(size: &ArraySize, count: u64) -> Option<u32>
 }
 
 /// Whether there are no more values than a global holds, nor more rows than it has.
-fn fits(size: &ArraySize, rows: u64, length: u64, given: u64, init: &[Items<Expr>]) -> bool
+fn fits(size: &ArraySize, rows: u64, length: u64, given: u64, init: &[Items<Boxed<Expr>>]) -> bool
     requires rows { rows ≡ units.global_rows size.now init.now }
     requires length { length ≡ units.row_length size.now init.now }
     requires given { given ≡ Rattle.std.specs.Prelude.length (units.all_values init.now) }
@@ -152,7 +152,7 @@ fn admit(
     kind: Kind,
     name: &Word,
     size: &ArraySize,
-    init: &[Items<Expr>],
+    init: &[Items<Boxed<Expr>>],
 ) -> Result<Admitted, TypeFault>
     ensures value { Says (units.admitted_fault size.now kind name.now init.now line file.now) (record {
       number = length file.now.globals;
@@ -183,7 +183,7 @@ fn given(
     kind: Kind,
     size: &ArraySize,
     known: Admitted,
-    init: &[Items<Expr>],
+    init: &[Items<Boxed<Expr>>],
 ) -> Result<Items<u64>, TypeFault>
     requires rows { known.rows ≡ units.global_rows size.now init.now }
     requires length { known.length ≡ units.row_length size.now init.now }
@@ -210,7 +210,7 @@ pub fn global(
     kind: Kind,
     name: Word,
     size: &ArraySize,
-    init: &[Items<Expr>],
+    init: &[Items<Boxed<Expr>>],
 ) -> Result<(), TypeFault>
     ensures { Moves (units.global_fault size.now kind name init.now line file.old) tt
         (units.with_global size.now kind name init.now file.old) file.new result }

@@ -5,14 +5,14 @@ ghost use Rattle.c_type_expr.specs.Constants as constants;
 ghost use Rattle.c_type_expr.specs.Says.{Says};
 ghost use Rattle.c_type.specs.Units as units;
 
-use base::Items;
+use base::{Boxed, Items};
 use c_scope::Scopes;
 use c_tree::{Expr, Kind};
 use c_type_expr::{TypeFault, full_constant};
 use std::alloc::Global;
 
 /// How many values the lists have in all. A count of more than 64 bits is want of memory.
-pub fn value_count(init: &[Items<Expr>]) -> Result<u64, TypeFault>
+pub fn value_count(init: &[Items<Boxed<Expr>>]) -> Result<u64, TypeFault>
     ensures { Says None (length (units.all_values init.now)) result }
 {
     let mut count: u64 = 0;
@@ -29,14 +29,14 @@ pub fn value_count(init: &[Items<Expr>]) -> Result<u64, TypeFault>
 fn add_values(
     names: &Scopes,
     kind: Kind,
-    list: &[Expr],
+    list: &[Boxed<Expr>],
     found: &mut Items<u64>,
 ) -> Result<(), TypeFault>
     ensures fault { Says (units.values_fault list.now names.now) tt result }
     ensures ok { OnOk result (found.new ≡ found.old ++ map (constants.constant_at kind) list.now) }
 {
     for e in list {
-        let word = full_constant(names, kind, e)?;
+        let word = full_constant(names, kind, e.get())?;
         found.push(word)?;
     }
     Ok(())
@@ -48,7 +48,7 @@ pub fn values(
     alloc: Global,
     names: &Scopes,
     kind: Kind,
-    init: &[Items<Expr>],
+    init: &[Items<Boxed<Expr>>],
 ) -> Result<Items<u64>, TypeFault>
     ensures { Says (units.values_fault (units.all_values init.now) names.now)
         (map (constants.constant_at kind) (units.all_values init.now)) result }
@@ -85,7 +85,7 @@ fn add_row(alloc: Global, found: &mut Items<u64>, row: &[u64], zeros: u64) -> Re
 pub fn whole_rows(
     alloc: Global,
     words: &[u64],
-    init: &[Items<Expr>],
+    init: &[Items<Boxed<Expr>>],
     length: u64,
 ) -> Result<Items<u64>, TypeFault>
     requires { Rattle.std.specs.Prelude.length words.now
@@ -104,7 +104,7 @@ pub fn whole_rows(
 }
 
 /// Whether no row has more values than its length.
-pub fn rows_fit(length: u64, init: &[Items<Expr>]) -> bool
+pub fn rows_fit(length: u64, init: &[Items<Boxed<Expr>>]) -> bool
     ensures { result ≡ units.rows_fit length init.now }
 {
     for list in init {

@@ -9,6 +9,7 @@ ghost use Rattle.c_type.specs.Runs.{Runs};
 
 use crate::parts::{full_if, value_to};
 use crate::state::{Around, State};
+use base::Boxed;
 use c_tree::{Expr, TypedStmt};
 use c_type_expr::{Role, TypeFault};
 use std::alloc::Global;
@@ -17,7 +18,7 @@ fn return_stmt(
     alloc: Global,
     state: &State,
     line: u32,
-    e: Option<Expr>,
+    e: Option<Boxed<Expr>>,
 ) -> Result<TypedStmt, TypeFault>
     ensures { Says (first (states.full_if e Role.Value state.now.names)
         (return_fault state.now.result e line))
@@ -51,7 +52,7 @@ pub fn give(
     state: &State,
     around: Around,
     line: u32,
-    e: Option<Expr>,
+    e: Option<Boxed<Expr>>,
 ) -> Result<TypedStmt, TypeFault>
     ensures { Runs (part (states.at line (node.Return e))) around state.now state.now result }
 {

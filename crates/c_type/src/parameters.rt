@@ -26,7 +26,7 @@ pub fn param_row(size: &ArraySize) -> Result<Option<u32>, TypeFault>
 {
     match size {
         ArraySize::Rows { size, .. } => {
-            let length = short(length_or_zero(size))?;
+            let length = short(length_or_zero(size.get()))?;
             Ok(Some(length))
         }
         _ => Ok(None),
@@ -183,7 +183,7 @@ fn row_at(
     ensures same { OnOk result (names.new ≡ names.old) }
 {
     match size {
-        ArraySize::Rows { size, .. } => size_behind(alloc, names, seen, size),
+        ArraySize::Rows { size, .. } => size_behind(alloc, names, seen, size.get()),
         _ => Ok(()),
     }
 }
@@ -201,7 +201,7 @@ fn row_bytes(size: &ArraySize, kind: Kind, line: u32) -> Result<(), TypeFault>
 {
     match size {
         ArraySize::Rows { size, .. } => {
-            if fits(length_or_zero(size), kind) {
+            if fits(length_or_zero(size.get()), kind) {
                 Ok(())
             } else {
                 Err(TypeFault::TooLarge(line))

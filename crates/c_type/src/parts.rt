@@ -18,7 +18,7 @@ pub fn full_if(
     alloc: Global,
     names: &Scopes,
     role: Role,
-    e: Option<Expr>,
+    e: Option<Boxed<Expr>>,
 ) -> Result<Option<TypedExpr>, TypeFault>
     ensures { Says (states.full_if e role names.now) (states.tree_if e names.now) result }
 {
@@ -26,7 +26,7 @@ pub fn full_if(
         None => Ok(None),
         Some(e) => {
             let e = full(alloc, names, role, e)?;
-            Ok(Some(e))
+            Ok(Some(e.into_inner()))
         }
     }
 }
@@ -36,7 +36,7 @@ pub fn value_to(
     alloc: Global,
     names: &Scopes,
     kind: Kind,
-    e: Option<Expr>,
+    e: Option<Boxed<Expr>>,
 ) -> Result<Option<TypedExpr>, TypeFault>
     ensures { Says (states.full_if e Role.Value names.now) (states.value_of e kind names.now)
         result }
@@ -45,7 +45,6 @@ pub fn value_to(
         None => Ok(None),
         Some(e) => {
             let e = full(alloc, names, Role::Value, e)?;
-            let e = Boxed::new(alloc, e)?;
             let e = with_convert(alloc, kind, e)?;
             Ok(Some(e.into_inner()))
         }
@@ -59,7 +58,7 @@ pub fn plain(
     state: &State,
     around: Around,
     line: u32,
-    e: Option<Expr>,
+    e: Option<Boxed<Expr>>,
 ) -> Result<TypedStmt, TypeFault>
     ensures { Runs (part (states.at line (node.Plain e))) around state.now state.now result }
 {

@@ -116,7 +116,7 @@ fn either(
     state: &mut State,
     around: Around,
     line: u32,
-    test: Expr,
+    test: Boxed<Expr>,
     yes: Boxed<Stmt>,
     no: Option<Boxed<Stmt>>,
 ) -> Result<TypedStmt, TypeFault>
@@ -124,7 +124,11 @@ fn either(
 {
     let test = full(alloc, &state.names, Role::Value, test)?;
     let (yes, no) = legs(alloc, state, around, yes, no)?;
-    Ok(TypedStmt::If { test, yes, no })
+    Ok(TypedStmt::If {
+        test: test.into_inner(),
+        yes,
+        no,
+    })
 }
 
 #[cycle(stmt)]
@@ -134,14 +138,17 @@ fn while_stmt(
     state: &mut State,
     around: Around,
     line: u32,
-    test: Expr,
+    test: Boxed<Expr>,
     body: Boxed<Stmt>,
 ) -> Result<TypedStmt, TypeFault>
     ensures { Runs (part (at line (node.While test body))) around state.old state.new result }
 {
     let test = full(alloc, &state.names, Role::Value, test)?;
     let body = boxed(alloc, state, IN_LOOP, body)?;
-    Ok(TypedStmt::While { test, body })
+    Ok(TypedStmt::While {
+        test: test.into_inner(),
+        body,
+    })
 }
 
 #[cycle(stmt)]
@@ -152,13 +159,16 @@ fn do_stmt(
     around: Around,
     line: u32,
     body: Boxed<Stmt>,
-    test: Expr,
+    test: Boxed<Expr>,
 ) -> Result<TypedStmt, TypeFault>
     ensures { Runs (part (at line (node.Do body test))) around state.old state.new result }
 {
     let body = boxed(alloc, state, IN_LOOP, body)?;
     let test = full(alloc, &state.names, Role::Value, test)?;
-    Ok(TypedStmt::Do { body, test })
+    Ok(TypedStmt::Do {
+        body,
+        test: test.into_inner(),
+    })
 }
 
 #[cycle(stmt)]
@@ -175,7 +185,7 @@ fn beginning(
         ForInit::Nothing => Ok(TypedForInit::Nothing),
         ForInit::First(e) => {
             let e = full(alloc, &state.names, Role::Free, e)?;
-            Ok(TypedForInit::First(e))
+            Ok(TypedForInit::First(e.into_inner()))
         }
         ForInit::Locals(locals) => {
             let locals = all(alloc, state, around, locals)?;
@@ -187,14 +197,14 @@ fn beginning(
 /// The third part of a `for`, and its body.
 #[derive(Drop)]
 struct Tail {
-    post: Option<Expr>,
+    post: Option<Boxed<Expr>>,
     body: Boxed<Stmt>,
 }
 
 /// What follows the first part of a `for`.
 #[derive(Drop)]
 struct Rest {
-    test: Option<Expr>,
+    test: Option<Boxed<Expr>>,
     tail: Tail,
 }
 
@@ -305,7 +315,7 @@ fn switch(
     state: &mut State,
     around: Around,
     line: u32,
-    test: Expr,
+    test: Boxed<Expr>,
     sections: Items<Section>,
 ) -> Result<TypedStmt, TypeFault>
     ensures { Runs (part (at line (node.Switch test sections))) around state.old state.new result }

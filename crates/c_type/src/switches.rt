@@ -28,7 +28,7 @@ fn label_word(names: &Scopes, kind: Kind, label: &Label) -> Result<Option<u64>, 
     match &label.value {
         None => Ok(None),
         Some(e) => {
-            let word = full_constant(names, kind, e)?;
+            let word = full_constant(names, kind, e.get())?;
             Ok(Some(word))
         }
     }
@@ -59,7 +59,7 @@ pub fn section_labels(
 pub fn switch_test(
     alloc: Global,
     names: &Scopes,
-    test: Expr,
+    test: Boxed<Expr>,
 ) -> Result<(TypedExpr, Kind), TypeFault>
     ensures { Says (constants.full test Role.Value names.now) (
       with_convert (switch_kind test names.now) (tree test names.now),
@@ -67,8 +67,7 @@ pub fn switch_test(
     ) result }
 {
     let test = full(alloc, names, Role::Value, test)?;
-    let kind = promoted(kind_of(&test));
-    let test = Boxed::new(alloc, test)?;
+    let kind = promoted(kind_of(test.get()));
     let test = with_convert(alloc, kind, test)?;
     Ok((test.into_inner(), kind))
 }

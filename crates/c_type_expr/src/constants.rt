@@ -44,12 +44,12 @@ fn mismatch(line: u32) -> Option<TypeFault>
 }
 
 #[cycle(fixed)]
-fn none_fixed(scope: &Scopes, args: &[Expr]) -> Option<TypeFault>
+fn none_fixed(scope: &Scopes, args: &[Boxed<Expr>]) -> Option<TypeFault>
     ensures { result ≡ constants.all_fixed (map constants.not_fixed args.now) scope.now }
 {
     let mut found = None;
     for arg in args {
-        found = first(found, not_fixed(scope, arg));
+        found = first(found, not_fixed(scope, arg.get()));
     }
     found
 }
@@ -68,7 +68,12 @@ fn calls_known(found: Option<&Meaning>) -> bool
 // The first part of a call that is no constant, or the call itself.
 #[cycle(fixed)]
 #[inline(never)]
-fn call_fixed(scope: &Scopes, function: &Word, args: &Items<Expr>, line: u32) -> Option<TypeFault>
+fn call_fixed(
+    scope: &Scopes,
+    function: &Word,
+    args: &Items<Boxed<Expr>>,
+    line: u32,
+) -> Option<TypeFault>
     ensures { result ≡ roles.first (constants.all_fixed (map constants.not_fixed args.now)
         scope.now)
         (constants.no_constant (constants.calls_known (look_up scope.now function.now)) line) }
@@ -182,11 +187,16 @@ fn refuse(fault: Option<TypeFault>) -> Result<(), TypeFault>
 }
 
 /// The typed tree of a full expression: its need is judged after its nodes.
-pub fn full(alloc: Global, scope: &Scopes, role: Role, e: Expr) -> Result<TypedExpr, TypeFault>
+pub fn full(
+    alloc: Global,
+    scope: &Scopes,
+    role: Role,
+    e: Boxed<Expr>,
+) -> Result<Boxed<TypedExpr>, TypeFault>
     ensures { Says (constants.full e role scope.now) (tree e scope.now) result }
 {
-    let line = e.line;
-    let fits = need_fits(&e);
+    let line = e.get().line;
+    let fits = need_fits(e.get());
     let typed = type_expr(alloc, scope, role, e)?;
     if fits {
         Ok(typed)

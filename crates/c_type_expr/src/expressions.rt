@@ -146,7 +146,7 @@ fn call(
     role: Role,
     line: u32,
     function: Word,
-    args: Items<Expr>,
+    args: Items<Boxed<Expr>>,
 ) -> Result<Boxed<TypedExpr>, TypeFault>
     ensures { Types (at line (node.Call function args)) role scope.now result }
 {
@@ -163,12 +163,11 @@ fn argument(
     alloc: Global,
     scope: &Scopes,
     slots: &[Slot],
-    arg: Expr,
+    arg: Boxed<Expr>,
 ) -> Result<Boxed<TypedExpr>, TypeFault>
     ensures { Says (fault arg scope.now (role_at slots.now))
         (trees.argument slots.now (tree arg scope.now)) result }
 {
-    let arg = Boxed::new(alloc, arg)?;
     let arg = operand(alloc, scope, role_for(slots), arg)?;
     converted_for(alloc, slots, arg)
 }
@@ -178,7 +177,7 @@ fn arguments(
     alloc: Global,
     scope: &Scopes,
     slots: &[Slot],
-    args: Items<Expr>,
+    args: Items<Boxed<Expr>>,
 ) -> Result<Items<TypedExpr>, TypeFault>
     ensures { Says (faults.args_fault slots.now args scope.now)
         (trees.args_tree slots.now args scope.now) result }
@@ -427,9 +426,13 @@ fn operand(
 }
 
 /// The typed tree of an expression, or its first fault.
-pub fn type_expr(alloc: Global, scope: &Scopes, role: Role, e: Expr) -> Result<TypedExpr, TypeFault>
+pub fn type_expr(
+    alloc: Global,
+    scope: &Scopes,
+    role: Role,
+    e: Boxed<Expr>,
+) -> Result<Boxed<TypedExpr>, TypeFault>
     ensures { Types e role scope.now result }
 {
-    let e = Boxed::new(alloc, e)?;
-    Ok(operand(alloc, scope, role, e)?.into_inner())
+    operand(alloc, scope, role, e)
 }

@@ -1,4 +1,4 @@
-use Rattle.std.proofs.Common.{ℕ, ◌+◌, ◌-◌, length, arith, rules, sym, ap, ◌∙◌, subst, refl, List, false, Option}
+use Rattle.std.proofs.Common.{ℕ, ◌+◌, ◌-◌, length, arith, rules, sym, ap, ◌∙◌, subst, refl, List, false, Option, Some}
 use Rattle.std.proofs.lemmas.Grind.{common_steps}
 use Rattle.c_tree.specs.declared.tree.Expr.{Expr}
 use Rattle.c_grammar.specs.Operators.{binary_level}
@@ -6,8 +6,8 @@ use Rattle.c_tree.specs.declared.token.Mark.TheVariants as marks
 use Rattle.c_grammar.specs.Parsing.{Out, and_then, listed}
 use Rattle.c_tree.specs.declared.tree.BinaryOp.{BinaryOp}
 use Rattle.c_grammar.specs.Tokens.{Tokens}
-use Rattle.c_parse.specs.Reads.{Reads, Fails, Outside, Inside, joins_by, behind}
-use Rattle.c_grammar.specs.ModelExpressions.{seen, inside, loop, binary_of, assignment_of}
+use Rattle.c_parse.specs.Reads.{Reads, Fails, IsAssigner, Outside, Inside, joins_by, behind}
+use Rattle.c_grammar.specs.ModelExpressions.{seen, inside, assigner_for, loop, binary_of, assignment_of}
 use Rattle.c_parse.proofs.Turns.{listed_keeps, arg_list_init, assign_with, commas_of, comma_on, comma_shorter}
 use Rattle.c_parse.proofs.Climbs.{climb, climbs, climb_end, climb_turn, climb_fails, climb_shorter}
 use Rattle.c_parse.proofs.parser.Parser.+expression.Goals as goal
@@ -27,7 +27,9 @@ arg_list-loop-turn-preserved t c =
 pub assign-returns-in-Some : goal.assign-returns-in-Some
 assign-returns-in-Some t c =
     assign_with c.args.left c.args.to c.args.self.now.rest.now c.assigned.new.self.rest.now c.assigned.result
-    (c.in-Some.mark, c.in-Some.op) _ refl c.in-Some.ensures (λ s e f. c.assigned.ensures s e f)
+    (c.in-Some.mark, c.in-Some.op) _ refl
+    (subst (λ (e : Expr). IsAssigner (Some (c.in-Some.mark, c.in-Some.op)) (seen (assigner_for e)
+    c.args.self.now.rest.now)) c.get.ensures.value c.in-Some.ensures) (λ s e f. c.assigned.ensures s e f)
 
 pub binary-returns-in_err-whole : goal.binary-returns-in_err-whole
 binary-returns-in_err-whole t c =

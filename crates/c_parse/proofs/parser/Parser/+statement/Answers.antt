@@ -6,7 +6,7 @@ use Rattle.c_grammar.specs.Parsing.{Out, many, repeated}
 use Rattle.c_grammar.specs.ModelExpressions.{inside}
 use Rattle.c_grammar.specs.ModelStatements.{begins_statement, entry_of, section_of, below_at}
 use Rattle.c_parse.specs.Reads.{Reads, behind}
-use Rattle.c_parse.proofs.Nested.{inner_none, inner_some, entries_init, many_keeps, repeated_keeps, body_init}
+use Rattle.c_parse.proofs.Nested.{inner_none, inner_some, entries_init, many_keeps, many_puts, repeated_keeps, body_init}
 use Rattle.c_parse.proofs.Nested.{sections_init}
 use Rattle.c_parse.proofs.parser.Parser.+statement.Goals as goal
 
@@ -19,10 +19,9 @@ entries-loop-turn-init t c =
 
 pub entries-loop-turn-preserved : goal.entries-loop-turn-preserved
 entries-loop-turn-preserved t c =
-    many_keeps marks.RightBrace (entry_of (inside c.args.left) (below_at c.args.left))
+    many_puts marks.RightBrace (entry_of (inside c.args.left) (below_at c.args.left))
     (length c.args.self.now.rest.now + 1) c.loop-turn._turn c.loop-turn.found _ c.loop-turn.self.rest.now
-    c.entry.new.self.rest.now c.in_ok-more.more _
-    c.loop-turn-test.true c.loop-turn.invariant (cc) c.in_ok-more.ensures c.in_ok-append.ensures.ok
+    c.entry.new.self.rest.now _ c.loop-turn-test.true c.loop-turn.invariant (cc) c.in_ok-entry.ensures
 
 pub inner-returns-then-left-eq0 : goal.inner-returns-then-left-eq0
 inner-returns-then-left-eq0 t c =

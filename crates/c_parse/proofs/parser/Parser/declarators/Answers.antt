@@ -1,19 +1,15 @@
-use Rattle.std.proofs.Common.{◌+◌, ◌-◌, length, ap, ◌∙◌, refl, List, false}
-use Rattle.c_tree.specs.declared.tree.Stmt.{Stmt}
+use Rattle.std.proofs.Common.{◌+◌, length, refl}
 use Rattle.c_tree.specs.declared.token.Mark.TheVariants as marks
-use Rattle.c_grammar.specs.Parsing.{listed}
 use Rattle.c_grammar.specs.ModelExpressions.{inside}
 use Rattle.c_grammar.specs.ModelStatements.{decl_of}
-use Rattle.c_parse.specs.Reads.{behind}
 use Rattle.c_parse.proofs.Turns.{listed_keeps}
 use Rattle.c_parse.proofs.Nested.{decls_init}
 use Rattle.c_parse.proofs.parser.Parser.declarators.Goals as goal
 
 pub loop-turn-init : goal.loop-turn-init
 loop-turn-init c =
-    ap (λ (found : List Stmt). behind found (listed marks.Semicolon false (decl_of (inside c.args.left) c.args.kind)
-    (length c.args.self.now.rest.now + 1 - 0) c.args.self.now.rest.now)) c.new-found.ensures.value
-    ∙ decls_init c.args.left (length c.args.self.now.rest.now + 1) c.args.kind c.args.self.now.rest.now refl
+    decls_init c.args.left (length c.args.self.now.rest.now + 1) c.args.kind c.args.found.now
+    c.args.self.now.rest.now refl
 
 pub loop-turn-preserved : goal.loop-turn-preserved
 loop-turn-preserved c =

@@ -9,4 +9,4 @@ use Rattle.c_parse.proofs.parser.Parser.declarators.Given as goal
 abbrev pub invariant-loop-turn : goal.invariant-loop-turn
 invariant-loop-turn l =
     behind l.found (listed marks.Semicolon false (decl_of (inside l.left) l.kind) (l.turns - l._turn)
-    l.self.rest.now) ≡ decls_of (inside l.left) l.kind l.fn.self.rest.now
+    l.self.rest.now) ≡ behind l.fn.found (decls_of (inside l.left) l.kind l.fn.self.rest.now)

@@ -1,4 +1,4 @@
-use Rattle.std.proofs.Common.{◌≡◌, ◌-◌, false, [], ◌∷◌}
+use Rattle.std.proofs.Common.{◌≡◌, ◌-◌, false}
 use Rattle.c_grammar.specs.Parsing.{listed}
 use Rattle.c_grammar.specs.ModelExpressions.{inside}
 use Rattle.c_grammar.specs.ModelUnits.{global_of}
@@ -10,4 +10,4 @@ use Rattle.c_parse.proofs.parser.Parser.global_list.Given as goal
 abbrev pub invariant-loop-turn : goal.invariant-loop-turn
 invariant-loop-turn l =
     behind l.found (listed marks.Semicolon false (global_of (inside l.left) l.kind) (l.turns - l._turn)
-    l.self.rest.now) ≡ behind (l.fn.first ∷ []) (global_list_of (inside l.left) l.kind l.fn.self.rest.now)
+    l.self.rest.now) ≡ behind l.fn.found (global_list_of (inside l.left) l.kind l.fn.self.rest.now)

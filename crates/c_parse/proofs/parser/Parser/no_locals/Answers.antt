@@ -1,18 +1,19 @@
-use Rattle.std.proofs.Common.{sym, ◌∙◌}
+use Rattle.std.proofs.Common.{sym, ap, ◌∙◌}
 use Rattle.c_grammar.specs.Parsing.{too_deep, syntax}
 use Rattle.c_grammar.specs.ModelTypes.{begins_type}
 use Rattle.c_grammar.proofs.Agree.{if_true, if_false}
+use Rattle.c_parse.specs.Reads.{behind}
 use Rattle.c_parse.proofs.Nested.{locals_zero}
 use Rattle.c_parse.proofs.parser.Parser.no_locals.Goals as goal
 
 pub returns-then-begins_type : goal.returns-then-begins_type
 returns-then-begins_type c =
-    locals_zero c.args.self.now.rest.now ∙ if_true (begins_type c.args.self.now.rest.now)
+    ap (behind c.args.found.now) (locals_zero c.args.self.now.rest.now ∙ if_true (begins_type c.args.self.now.rest.now)
     (too_deep c.args.self.now.rest.now) (syntax c.args.self.now.rest.now)
-    (sym c.begins_type.ensures ∙ c.if-begins_type.true)
+    (sym c.begins_type.ensures ∙ c.if-begins_type.true))
 
-pub returns-else-begins_type : goal.returns-else-begins_type
-returns-else-begins_type c =
-    locals_zero c.args.self.now.rest.now ∙ if_false (begins_type c.args.self.now.rest.now)
+pub returns : goal.returns
+returns c =
+    ap (behind c.args.found.now) (locals_zero c.args.self.now.rest.now ∙ if_false (begins_type c.args.self.now.rest.now)
     (too_deep c.args.self.now.rest.now) (syntax c.args.self.now.rest.now)
-    (sym c.begins_type.ensures ∙ c.if-begins_type.false)
+    (sym c.begins_type.ensures ∙ c.if-begins_type.false))

@@ -6,7 +6,7 @@ use Rattle.c_grammar.specs.ModelExpressions.{inside}
 use Rattle.c_grammar.specs.ModelStatements.{compound_of, below_at}
 use Rattle.c_grammar.specs.ModelUnits.{item_of}
 use Rattle.c_parse.specs.Reads.{behind}
-use Rattle.c_parse.proofs.Lists.{unit_init, end_keeps}
+use Rattle.c_parse.proofs.Lists.{unit_init, end_puts}
 use Rattle.c_parse.proofs.parser.Parser.unit.Goals as goal
 
 pub loop-turn-init : goal.loop-turn-init
@@ -18,7 +18,7 @@ loop-turn-init c =
 
 pub loop-turn-preserved : goal.loop-turn-preserved
 loop-turn-preserved c =
-    end_keeps (item_of (inside MOST_NESTING) (compound_of (inside (MOST_NESTING - 1)) (below_at (MOST_NESTING - 1))))
+    end_puts (item_of (inside MOST_NESTING) (compound_of (inside (MOST_NESTING - 1)) (below_at (MOST_NESTING - 1))))
     (length c.args.self.now.rest.now + 1)
-    c.loop-turn._turn c.loop-turn.found _ c.loop-turn.self.rest.now c.item.new.self.rest.now c.in_ok-more.more _
-    c.loop-turn-test.true c.loop-turn.invariant c.in_ok-more.ensures (cc) c.in_ok-append.ensures.ok
+    c.loop-turn._turn c.loop-turn.found _ c.loop-turn.self.rest.now c.item.new.self.rest.now _
+    c.loop-turn-test.true c.loop-turn.invariant c.in_ok-item.ensures (cc)
