@@ -1,10 +1,9 @@
 pub mod Rows
 pub mod Lays
 pub mod Lists
-pub mod Spends
+pub mod Filled
 pub mod Turns
 pub mod Results
-pub mod Followed
 pub mod Places
 pub mod Parts
 pub mod Unwinds

@@ -1,5 +1,5 @@
 -- What a task means, by what its parts mean.
-use Rattle.std.proofs.Common.{◌≡◌, ℕ, Bool, true, List, length, Option, sym, ap, subst, ◌∙◌}
+use Rattle.std.proofs.Common.{◌≡◌, ℕ, Bool, true, List, length, Option, refl, sym, ap, subst, ◌∙◌}
 use Rattle.c_tree.specs.declared.Place.TheVariants.{Scalar}
 use Rattle.c_tree.specs.declared.TypedFunc.{TypedFunc}
 use Rattle.c_tree.specs.declared.TypedNode.{out-TypedNode, out-roll-TypedNode}
@@ -9,8 +9,7 @@ use Rattle.c_meaning_spec.specs.declared.Object.TheVariants.{InScalar}
 use Rattle.c_meaning_spec.specs.Call.{entered, entered_if, left}
 use Rattle.c_meaning_spec.specs.declared.Signal.{Signal}
 use Rattle.c_meaning.specs.View.{view}
-use Rattle.c_meaning.specs.Direct.{IsCaller, IsEnd, Runs, Values, signal_of}
-use Rattle.c_meaning.specs.declared.calls.Caller.{Caller}
+use Rattle.c_meaning.specs.Direct.{IsEnd, Runs, Values, signal_of}
 use Rattle.c_meaning.specs.declared.direct.Ran.{Ran}
 use Rattle.c_meaning.specs.declared.direct.Ran.TheVariants as ran
 use Rattle.c_meaning.specs.declared.store.Store.{Store}
@@ -23,16 +22,9 @@ use Rattle.c_meaning_spec.specs.Task.{Of, Run, Turn}
 use Rattle.c_meaning_spec.specs.Expression.{expression}
 use Rattle.c_meaning_spec.specs.Statement.{statement, turn}
 use Rattle.c_meaning_spec.specs.Eval.{meaning}
-use Rattle.c_tree.specs.declared.TypedSection.{TypedSection}
-use Rattle.c_meaning_spec.specs.declared.Signal.TheVariants.{Nothing, Value}
-use Rattle.c_meaning_spec.specs.declared.Ending.TheVariants.{More}
-use Rattle.c_meaning_spec.specs.State.{Go, Over}
-use Rattle.c_meaning_spec.specs.Statement.{after_switch, run_from}
+use Rattle.c_meaning_spec.specs.declared.Signal.TheVariants.{Value}
+use Rattle.c_meaning_spec.specs.State.{Go}
 use Rattle.c_meaning_spec.proofs.Equations.{meaning-is}
-use Rattle.c_meaning_steps.specs.Ahead.{settle_of}
-use Rattle.c_meaning_steps.specs.Follow.{Ends, Gives, FSwitch, FSections}
-use Rattle.c_meaning_steps.specs.StatementSteps.{after_switch_step, sections_step}
-use Rattle.c_meaning_steps.proofs.Moves.{s-resume}
 
 pub of_is : (P : TypedProgram) (e : TypedExpr) (s : State)
     → meaning P (Of e) s ≡ expression (meaning P) P (node_of e) s
@@ -46,40 +38,27 @@ pub turn_is : (P : TypedProgram) (test post : Option TypedExpr) (body : TypedStm
     → meaning P (Turn test post body) s ≡ turn (meaning P) test post body s
 turn_is P test post body s = meaning-is P (Turn test post body) s
 
--- the labels of a switch lead to the statements of these sections
-pub label_is : (P : TypedProgram) (xs : List TypedSection) (here : List TypedStmt) (w : ℕ) (s s' : State)
-    → sections_step here s' ≡ after_switch_step xs w s
-    → run_from (meaning P) here s' ≡ after_switch (meaning P) xs (Value w) s
-label_is P xs here w s s' e =
-    sym (s-resume P (FSections here) Nothing s')
-    ∙ (ap (settle_of P) e ∙ s-resume P (FSwitch xs) (Value w) s)
-
--- or no step is left for one of them
-pub ends : (P : TypedProgram) (xs : List TypedSection) (w : ℕ) (s s' : State)
-    → Ends More s' ≡ after_switch_step xs w s → Over More s' ≡ after_switch (meaning P) xs (Value w) s
-ends P xs w s s' e = ap (settle_of P) e ∙ s-resume P (FSwitch xs) (Value w) s
-
--- or none is there
-pub no_label : (P : TypedProgram) (xs : List TypedSection) (w : ℕ) (s s' : State)
-    → Gives Nothing s' ≡ after_switch_step xs w s → Go Nothing s' ≡ after_switch (meaning P) xs (Value w) s
-no_label P xs w s s' e = ap (settle_of P) e ∙ s-resume P (FSwitch xs) (Value w) s
-
 -- a call that was entered, with what its caller goes on with behind its body
-pub begun_call : (P : TypedProgram) (is_main : Bool) (f : TypedFunc) (done : List ℕ) (s mid : State) (c : Caller)
-    (m : Store) (word : Option ℕ) → mid ≡ entered f done s → IsCaller s c
-    → Values P (then (meaning P (Run f.body) mid) (left is_main c.scalars.items c.count c.base c.room)) m word
+pub begun_call : (P : TypedProgram) (is_main : Bool) (f : TypedFunc) (done : List ℕ) (s mid : State)
+    (scalars : List (Option ℕ)) (count : ℕ) (m : Store) (word : Option ℕ) → mid ≡ entered f done s
+    → scalars ≡ s.scalars → count ≡ length s.arrays
+    → Values P (then (meaning P (Run f.body) mid) (left is_main scalars count s.base s.room)) m word
     → Values P (entered_if (meaning P) is_main true f done s) m word
-begun_call P is_main f done s mid c m word e d h =
+begun_call P is_main f done s mid scalars count m word e d n h =
     subst (λ (y : State). Values P (then (meaning P (Run f.body) y)
     (left is_main s.scalars (length s.arrays) s.base s.room)) m word) e
     (subst (λ (x : ℕ). Values P (then (meaning P (Run f.body) mid)
-    (left is_main s.scalars (length s.arrays) s.base x)) m word) d.room
-    (subst (λ (x : ℕ). Values P (then (meaning P (Run f.body) mid)
-    (left is_main s.scalars (length s.arrays) x c.room)) m word) d.base
-    (subst (λ (x : ℕ). Values P (then (meaning P (Run f.body) mid)
-    (left is_main s.scalars x c.base c.room)) m word) d.count
+    (left is_main s.scalars x s.base s.room)) m word) n
     (subst (λ (x : List (Option ℕ)). Values P (then (meaning P (Run f.body) mid)
-    (left is_main x c.count c.base c.room)) m word) d.scalars h))))
+    (left is_main x count s.base s.room)) m word) d h))
+
+-- what is no stop is an end
+pub is_end : (x : Ran) → (x ≡ ran.Stops → ⊥) → IsEnd x
+is_end ran.Nothing n = tt
+is_end ran.Breaks n = tt
+is_end ran.Continues n = tt
+is_end ran.Returns n = tt
+is_end ran.Stops n = n refl
 
 -- what follows a statement that was run to its end, by its signal
 pub after_end : (P : TypedProgram) (r : Result) (x y : Ran) (m m' : Store) (word : Option ℕ)

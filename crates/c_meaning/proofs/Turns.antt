@@ -9,11 +9,9 @@ use Rattle.c_meaning_spec.specs.declared.Signal.{Signal}
 use Rattle.c_meaning_spec.specs.State.{State, Result, Go, Over, then}
 use Rattle.c_meaning_spec.specs.Task.{Task}
 use Rattle.c_meaning_spec.specs.Eval.{meaning}
-use Rattle.c_meaning_steps.specs.Follow.{Follow}
-use Rattle.c_meaning_steps.specs.ResumeSteps.{resume_step}
-use Rattle.c_meaning_steps.specs.Ahead.{Next, ToDo, Given, Ended, ahead_next, is_over, is_empty}
-use Rattle.c_meaning_steps.specs.Ahead.{unwind_of, IsReached, IsStep}
-use Rattle.c_meaning_steps.proofs.Moves.{resume-keeps}
+use Rattle.c_meaning.specs.Follow.{Follow}
+use Rattle.c_meaning.specs.Ahead.{Next, ToDo, Given, Ended, ahead_next, is_over, is_empty}
+use Rattle.c_meaning.specs.Ahead.{back_of, unwind_of, IsReached}
 use Rattle.c_meaning.specs.View.{follow, frames}
 use Rattle.c_meaning.specs.declared.frame.Frame.{Frame}
 use Rattle.c_meaning.proofs.Lists.{stack_push}
@@ -28,14 +26,20 @@ pub frames-top : (old rest : List Frame) (f : Frame) → old ≡ rest ++ f ∷ [
 unfolding frames
 frames-top old rest f e = ap (λ (fs : List Frame). reverse (map follow fs)) e ∙ stack_push rest f
 
+unwound-top : (P : TypedProgram) (f : Follow) (fs : List Follow) (v : Signal) (s : State)
+    → unwind_of P (f ∷ fs) v s ≡ then (back_of P f v s) (unwind_of P fs)
+unfolding unwind_of
+unwound-top P f fs v s = refl
+
+-- the topmost frame is taken off, and makes of what comes to it what it does
 pub give-kept : (P : TypedProgram) (f : Frame) (v : Signal) (s s' : State) (n n0 : Next)
     (old rest new : List Frame) → n0 ≡ Given v → old ≡ rest ++ f ∷ []
-    → IsStep (resume_step P (follow f) v s) n s' (frames rest) (frames new)
+    → ahead_next P n (frames new) s' ≡ then (back_of P (follow f) v s) (unwind_of P (frames rest))
     → ahead_next P n (frames new) s' ≡ ahead_next P n0 (frames old) s
 give-kept P f v s s' n n0 old rest new e o h =
-    resume-keeps P (follow f) v s n s' (frames rest) (frames new) h ∙
-    (ap (λ (fs : List Follow). ahead_next P (Given v) fs s) (sym (frames-top old rest f o))
-    ∙ ap (λ (m : Next). ahead_next P m (frames old) s) (sym e))
+    h ∙ (sym (unwound-top P (follow f) (frames rest) v s)
+    ∙ (ap (λ (fs : List Follow). ahead_next P (Given v) fs s) (sym (frames-top old rest f o))
+    ∙ ap (λ (m : Next). ahead_next P m (frames old) s) (sym e)))
 
 suc-not-zero : (n : ℕ) → false ≡ nat_eq (suc n) 0
 suc-not-zero n = grind (arith, nat_tests)

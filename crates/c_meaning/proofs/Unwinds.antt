@@ -10,8 +10,8 @@ use Rattle.c_meaning_spec.specs.Statement.{dropped, going_on, sequence}
 use Rattle.c_meaning_spec.specs.State.{State, Result, Go, Over, then}
 use Rattle.c_meaning_spec.specs.Task.{Task, Of, Run}
 use Rattle.c_meaning_spec.specs.Eval.{meaning}
-use Rattle.c_meaning_steps.specs.Ahead.{unwind_of, back_of}
-use Rattle.c_meaning_steps.specs.Follow.{Follow}
+use Rattle.c_meaning.specs.Ahead.{unwind_of, back_of}
+use Rattle.c_meaning.specs.Follow.{Follow}
 use Rattle.c_meaning.specs.View.{view, follow}
 use Rattle.c_meaning.specs.Direct.{rest_told, stop_told}
 use Rattle.c_meaning.specs.declared.frame.Frame.{Frame}

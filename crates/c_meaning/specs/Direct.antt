@@ -1,16 +1,17 @@
 -- What a part comes to that is evaluated at once, by recursion on its tree.
-use Rattle.std.specs.Prelude.{◌≡◌, ℕ, length, map, Option, Some, None}
+use Rattle.std.specs.Prelude.{◌≡◌, ℕ, map, Option, Some, None}
 use Rattle.c_tree.specs.declared.TypedProgram.{TypedProgram}
 use Rattle.c_meaning_spec.specs.declared.Signal.TheVariants.{Nothing, Value, Breaks, Continues, Returns}
 use Rattle.c_meaning_spec.specs.declared.Signal.{Signal}
-use Rattle.c_meaning_spec.specs.State.{State, Result, Go, Over, then}
+use Rattle.c_meaning_spec.specs.State.{Result, Go, Over, then}
 use Rattle.c_meaning_spec.specs.Task.{Task, Of, Run, Turn}
 use Rattle.c_meaning_spec.specs.Eval.{meaning}
-use Rattle.c_meaning_steps.specs.Ahead.{unwind_of}
-use Rattle.c_meaning.specs.View.{behind, view, follow}
+use Rattle.c_meaning.specs.Ahead.{ahead_next, unwind_of}
+use Rattle.c_meaning.specs.View.{behind, view, follow, frames, next}
 use Rattle.c_meaning.specs.declared.store.Store.{Store}
-use Rattle.c_meaning.specs.declared.calls.Caller.{Caller}
 use Rattle.c_meaning.specs.declared.frame.Loop.{Loop}
+use Rattle.c_meaning.specs.declared.frame.Move.{Move}
+use Rattle.c_meaning.specs.declared.machine.Machine.{Machine}
 use Rattle.c_meaning.specs.declared.direct.Stop.{Stop}
 use Rattle.c_meaning.specs.declared.direct.Stop.TheVariants as stop
 use Rattle.c_meaning.specs.declared.direct.Ran.{Ran}
@@ -54,13 +55,6 @@ abbrev pub IsEnd : Ran → Type 0
 IsEnd ran.Stops = ⊥
 IsEnd _ = Unit {0}
 
--- what a call gives back is what its caller had
-pub record IsCaller (s : State) (c : Caller) : Type 0 where
-  pub scalars : c.scalars.items ≡ s.scalars
-  pub count : c.count ≡ length s.arrays
-  pub base : c.base ≡ s.base
-  pub room : c.room ≡ s.room
-
 -- what a turn of a loop means: where it continues, the next turn is due
 abbrev pub turned_told : TypedProgram → Loop → Ran → Store → Result → Result
 turned_told P l ran.Continues m r = meaning P (Turn (behind l.test) (behind l.post) l.body.now) (view m)
@@ -81,3 +75,8 @@ Runs P r m x = ran_told P x m r ≡ r
 -- a turn of a loop came to what it means
 abbrev pub Turned : TypedProgram → Loop → Result → Store → Ran → Type 0
 Turned P l r m x = turned_told P l x m r ≡ r
+
+-- what is to be done next, before the frames that stand there then, is this before those that stood there
+abbrev pub Leads : TypedProgram → Result → Machine → Machine → Move → Type 0
+Leads P r old new m =
+    ahead_next P (next m) (frames new.stack.items) (view new.store) ≡ then r (unwind_of P (frames old.stack.items))

@@ -1,31 +1,21 @@
 -- What the evaluator's values stand for.
-use Rattle.std.specs.Prelude.{ℕ, List, ◌++◌, map, reverse, Option, Some, None}
+use Rattle.std.specs.Prelude.{List, ◌++◌, map, reverse, Option, Some, None}
 use Rattle.std.specs.Borrow.{Bor}
 use Rattle.c_tree.specs.declared.TypedExpr.{TypedExpr}
 use Rattle.c_tree.specs.declared.TypedStmt.{TypedStmt}
 use Rattle.c_meaning_spec.specs.State.{State}
-use Rattle.c_meaning_spec.specs.declared.Ending.TheVariants.{More}
-use Rattle.c_meaning_spec.specs.declared.Signal.TheVariants.{Nothing}
 use Rattle.c_meaning_spec.specs.Task.{Of, Run, Turn}
 use Rattle.c_meaning_spec.specs.Task as meant
-use Rattle.c_meaning_spec.specs.Statement.{Target, bodies}
-use Rattle.c_meaning_steps.specs.StatementSteps.{sections_step, compared_step}
-use Rattle.c_meaning_steps.specs.Follow.{Follow, FConverting, FUnary, FElement, FArgument, FLeft, FRight}
-use Rattle.c_meaning_steps.specs.Follow.{FAnd, FOr, FTruth, FValued, FChoice, FComma, FAssignElement}
-use Rattle.c_meaning_steps.specs.Follow.{FAssigned, FCompounded, FBumpElement, FCaller, FDropped}
-use Rattle.c_meaning_steps.specs.Follow.{FInitialised, FSequence, FIf, FThenTurn, FLocals, FTest, FBody}
-use Rattle.c_meaning_steps.specs.Follow.{FAfterRow, FRowElement, FAssignAfterRow, FAssignRow}
-use Rattle.c_meaning_steps.specs.Follow.{FBumpAfterRow, FBumpRow, FSwitch, FSections}
-use Rattle.c_meaning_steps.specs.Follow.{FReturning, Step, Does, Gives, Ends}
-use Rattle.c_meaning_steps.specs.Ahead.{Next, ToDo, Given, Ended, IsStep}
-use Rattle.c_meaning_steps.specs.Operands.{Fetched, Failed}
-use Rattle.c_meaning_steps.specs.Operands as operands
-use Rattle.c_meaning.specs.declared.fetch.Fetch.{Fetch}
-use Rattle.c_meaning.specs.declared.fetch.Fetch.TheVariants as fetch
-use Rattle.c_meaning.specs.declared.compare.Compared.{Compared}
-use Rattle.c_meaning.specs.declared.compare.Compared.TheVariants as compared
+use Rattle.c_meaning_spec.specs.Statement.{bodies}
+use Rattle.c_meaning.specs.Follow.{Follow, FConverting, FUnary, FElement, FArgument, FLeft, FRight}
+use Rattle.c_meaning.specs.Follow.{FAnd, FOr, FTruth, FValued, FChoice, FComma, FAssignElement}
+use Rattle.c_meaning.specs.Follow.{FAssigned, FCompounded, FBumpElement, FCaller, FDropped}
+use Rattle.c_meaning.specs.Follow.{FInitialised, FSequence, FIf, FThenTurn, FLocals, FTest, FBody}
+use Rattle.c_meaning.specs.Follow.{FAfterRow, FRowElement, FAssignAfterRow, FAssignRow}
+use Rattle.c_meaning.specs.Follow.{FBumpAfterRow, FBumpRow, FSwitch, FSections}
+use Rattle.c_meaning.specs.Follow.{FReturning}
+use Rattle.c_meaning.specs.Ahead.{Next, ToDo, Given, Ended}
 use Rattle.c_meaning.specs.declared.store.Store.{Store}
-use Rattle.c_meaning.specs.declared.machine.Machine.{Machine}
 use Rattle.c_meaning.specs.declared.frame.Task.{Task}
 use Rattle.c_meaning.specs.declared.frame.Task.TheVariants as task
 use Rattle.c_meaning.specs.declared.frame.Operand.{Operand}
@@ -86,7 +76,7 @@ follow (frame.Converting to) = FConverting to
 follow (frame.Unary op k) = FUnary op k
 follow (frame.Element p) = FElement p
 follow (frame.RowElement p i) = FRowElement p i
-follow (frame.Argument f rest done) = FArgument f rest.now done.items
+follow (frame.Argument f rest done) = FArgument f rest.now done
 follow (frame.Operand o right) = follow_operand o right.now
 follow (frame.Operated op k a) = FRight op k a
 follow frame.Truth = FTruth
@@ -98,8 +88,8 @@ follow (frame.BumpElement op k p) = FBumpElement op k p
 follow (frame.BumpRow op k p i) = FBumpRow op k p i
 follow (frame.StoredAfterRow op to at p index right) =
     FAssignAfterRow op to at p index.now right.now
-follow (frame.Caller is_main scalars count base room) =
-    FCaller is_main scalars.items count base room
+follow (frame.Caller is_main scalars c) =
+    FCaller is_main scalars.items c.count c.base c.room
 follow frame.Dropped = FDropped
 follow (frame.Initialised i) = FInitialised i
 follow (frame.Sequence rest) = FSequence rest.now
@@ -114,38 +104,8 @@ follow frame.Returning = FReturning
 unfoldable pub frames : List Frame → List Follow
 frames fs = reverse (map follow fs)
 
--- a fetch, with the state that it leaves
-abbrev pub fetched : Fetch → State → operands.Fetch
-fetched (fetch.Word w) s = Fetched w s
-fetched (fetch.Fails why) s = Failed why s
-fetched fetch.Deferred s = operands.Deferred s
-
--- what is done after some labels, where others are behind them: the statements here are run, no step was
--- left, or the other labels are compared
-abbrev pub goes_on : Compared → ℕ → List Target → List TypedStmt → State → Step
-goes_on compared.Found w ts here s = sections_step here s
-goes_on compared.Spent w ts here s = Ends More s
-goes_on (compared.Passed other) w ts here s = compared_step w ts (bodies other.now) s
-
--- what is done after all labels of a switch: the statements of these sections are run, or no step was left
-abbrev pub found : Compared → State → Step
-found compared.Found s = Gives Nothing s
-found compared.Spent s = Ends More s
-found (compared.Passed here) s = sections_step (bodies here.now) s
-
 -- a move, as what is to be done next
 abbrev pub next : Move → Next
 next (move.Do t) = ToDo (task_of t)
 next (move.Give v) = Given v
 next (move.End why) = Ended why
-
--- a move as a step
-abbrev pub step_of : Move → State → Step
-step_of (move.Do t) s = Does (task_of t) s
-step_of (move.Give v) s = Gives v s
-step_of (move.End why) s = Ends why s
-
--- a move that makes the step which is due
-abbrev pub Makes : (State → Step) → Machine → Machine → Move → Type 0
-Makes step old new m = IsStep (step (view old.store)) (next m) (view new.store)
-    (frames old.stack.items) (frames new.stack.items)

@@ -18,9 +18,9 @@ use c_meaning_spec::{Ending, Object};
 use c_tree::{BumpOp, Kind, Place, TypedExpr, TypedNode, TypedProgram};
 
 impl<'a> Store<'a> {
-    // `++` and `--` on an object, if there is the object.
+    /// `++` and `--` on an object, if there is the object.
     #[inline(never)]
-    fn bumped(
+    pub fn bumped(
         &mut self,
         program: &'a TypedProgram,
         op: BumpOp,
@@ -197,21 +197,7 @@ impl<'a> Store<'a> {
             (meant_expression.bump_after_row (meaning program.now) op kind place index.now)) self.new result }
     {
         match self.value_of(program, row, depth) {
-            Some(i) => match self.value_of(program, index, depth) {
-                Some(j) => {
-                    let object = self.row_element_of(place, i, j);
-                    self.bumped(program, op, kind, object)
-                }
-                None => {
-                    let frame = Frame::BumpRow {
-                        op,
-                        kind,
-                        place,
-                        row: i,
-                    };
-                    self.held(program, frame)
-                }
-            },
+            Some(i) => self.bump_after_row(program, op, kind, place, i, index, depth),
             None => {
                 let operand = Operand::BumpAfterRow { op, kind, place };
                 let frame = Frame::Operand {
@@ -220,6 +206,40 @@ impl<'a> Store<'a> {
                 };
                 self.held(program, frame)
             }
+        }
+    }
+
+    /// `++` and `--` on an element by the word of its first index.
+    #[cycle(parts)]
+    #[inline(always)]
+    pub fn bump_after_row(
+        &mut self,
+        program: &'a TypedProgram,
+        op: BumpOp,
+        kind: Option<Kind>,
+        place: Place,
+        row: u64,
+        index: &'a TypedExpr,
+        depth: u32,
+    ) -> Option<u64>
+        ensures { Values program.now
+            (then (meaning program.now (Of index.now) (view self.old))
+            (meant_expression.bump_row op kind place row)) self.new result }
+    {
+        match self.value_of(program, index, depth) {
+            Some(j) => {
+                let object = self.row_element_of(place, row, j);
+                self.bumped(program, op, kind, object)
+            }
+            None => self.held(
+                program,
+                Frame::BumpRow {
+                    op,
+                    kind,
+                    place,
+                    row,
+                },
+            ),
         }
     }
 }

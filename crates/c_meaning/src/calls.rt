@@ -1,30 +1,21 @@
-//! Calls: a function of the program is entered and its body left, `getchar` and `putchar` are done at once.
+//! Calls: a function of the program is entered and its body left.
 
-ghost use Rattle.std.specs.Prelude.{◌≡◌, ◌+◌, ◌≤◌, [], true, IfOk, OnOk, take};
+ghost use Rattle.std.specs.Prelude.{◌≡◌, ◌+◌, ◌≤◌, [], true, List, ℕ, map, Some, OnOk, length, take};
 ghost use Rattle.c_meaning_spec.specs.State.{Result as Meant, then};
-ghost use Rattle.c_meaning_spec.specs.Call.{frame as frame_of, called, enter, entered, entered_if, read_from};
+ghost use Rattle.c_meaning_spec.specs.Call.{frame as frame_of, called, enter, entered, entered_if};
 ghost use Rattle.c_meaning_spec.specs.Call.{arguments, left, returned};
-ghost use Rattle.c_meaning_spec.specs.Call.{get_char as get_char_of, put_char as put_char_of};
 ghost use Rattle.c_meaning_spec.specs.Eval.{meaning};
 ghost use Rattle.c_meaning.specs.View.{behind, view};
-ghost use Rattle.c_meaning.specs.Direct.{IsCaller, Runs, Stopped, Values, signal_of};
+ghost use Rattle.c_meaning.specs.Direct.{Runs, Stopped, Values, signal_of};
 
-use crate::call::{add_arrays, add_rows, put_scalars, room_with, spare};
+use crate::arguments::Arguments;
+use crate::call::{add_arrays, add_rows, pad, room_with};
 use crate::direct::{Ran, Stop};
-use crate::frame::Frame;
+use crate::frame::{Caller, Frame};
 use crate::store::Store;
-use c_meaning_spec::Ending;
+use c_meaning_spec::{Ending, Signal};
 use c_tree::{Callee, MOST_FRAME_BYTES, TypedExpr, TypedFunc, TypedProgram};
 use std::alloc::AllocError;
-
-/// What a call gives back to its caller: its scalars, the count of arrays, its base and its room.
-#[derive(Drop)]
-pub struct Caller {
-    scalars: Vec<Option<u64>>,
-    count: usize,
-    base: u32,
-    room: u32,
-}
 
 impl<'a> Store<'a> {
     /// A call, from its first argument on.
@@ -41,23 +32,23 @@ impl<'a> Store<'a> {
             (arguments (meaning program.now) program.now callee args.now [] (view self.old))
             self.new result }
     {
-        let done = spare(self.alloc, &mut self.spare_words);
+        let done = Arguments::none(self.alloc, &mut self.spare_scalars);
         self.call_value(program, callee, args, done, depth)
     }
 
-    // The arguments from the left, and then the call.
+    /// The arguments from the left, and then the call.
     #[cycle(parts)]
     #[inline(always)]
-    fn call_value(
+    pub fn call_value(
         &mut self,
         program: &'a TypedProgram,
         callee: Callee,
         rest: &'a [TypedExpr],
-        done: Vec<u64>,
+        done: Arguments,
         depth: u32,
     ) -> Option<u64>
         ensures { Values program.now
-            (arguments (meaning program.now) program.now callee rest.now done.items (view self.old))
+            (arguments (meaning program.now) program.now callee rest.now done (view self.old))
             self.new result }
     {
         let mut rest = rest;
@@ -76,8 +67,12 @@ impl<'a> Store<'a> {
                 None => return self.held_argument(program, callee, more, done),
             }
         }
-        let word = self.begin_call(program, callee, done.as_slice(), depth);
-        match self.spare_words.push(done) {
+        let mut list = done.into_scalars();
+        let word = self.begin_call(program, callee, &mut list, depth);
+        if list.capacity() == 0 {
+            return word;
+        }
+        match self.spare_scalars.push(list) {
             Ok(()) => word,
             Err(_) => {
                 self.stop = Stop::Memory;
@@ -86,18 +81,19 @@ impl<'a> Store<'a> {
         }
     }
 
-    /// A call's further step, and what the call does.
+    /// A call's further step, and what the call does: its arguments stand in a list, in which the scalars of the
+    /// caller stand while the body runs.
     #[cycle(parts)]
     #[inline(always)]
     pub fn begin_call(
         &mut self,
         program: &'a TypedProgram,
         callee: Callee,
-        done: &[u64],
+        list: &mut Vec<Option<u64>>,
         depth: u32,
     ) -> Option<u64>
-        ensures { Values program.now
-            (called (meaning program.now) program.now callee done.now (view self.old)) self.new result }
+        ensures { (done : List ℕ) → list.old.items ≡ map Some done → Values program.now
+            (called (meaning program.now) program.now callee done (view self.old)) self.new result }
     {
         if self.stock == 0 {
             self.stop = Stop::Fails(Ending::More);
@@ -108,59 +104,10 @@ impl<'a> Store<'a> {
             Callee::Func(f) => {
                 let is_main = f == program.main;
                 let function = program.functions.as_slice().get(f as usize);
-                self.begin_function(program, is_main, function, done, depth)
+                self.begin_function(program, is_main, function, list, depth)
             }
-            Callee::GetChar => self.next_char(program, done),
-            Callee::PutChar => self.put_char(program, done),
-        }
-    }
-
-    // `getchar` takes no argument.
-    #[inline(never)]
-    fn next_char(&mut self, program: &'a TypedProgram, done: &[u64]) -> Option<u64>
-        ensures { Values program.now (get_char_of done.now (view self.old)) self.new result }
-    {
-        match done {
-            [] => self.next_byte(program),
-            _ => {
-                self.stop = Stop::Fails(Ending::Undefined);
-                None
-            },
-        }
-    }
-
-    // The next byte of the input, and -1 at its end.
-    fn next_byte(&mut self, program: &'a TypedProgram) -> Option<u64>
-        ensures { Values program.now (read_from (view self.old).input (view self.old)) self.new result }
-    {
-        match self.input.split_first() {
-            None => Some(0xffff_ffff_ffff_ffff),
-            Some((b, rest)) => {
-                self.input = rest;
-                Some(*b as u64)
-            }
-        }
-    }
-
-    // `putchar` puts out the low byte of its argument.
-    #[inline(never)]
-    fn put_char(&mut self, program: &'a TypedProgram, done: &[u64]) -> Option<u64>
-        ensures { Values program.now (put_char_of done.now (view self.old)) self.new result }
-    {
-        match done {
-            [w] => {
-                match self.output.push((*w % 256) as u8) {
-                    Ok(()) => Some(*w % 256),
-                    Err(_) => {
-                        self.stop = Stop::Memory;
-                        None
-                    }
-                }
-            }
-            _ => {
-                self.stop = Stop::Fails(Ending::Undefined);
-                None
-            },
+            Callee::GetChar => self.next_char(program, list.as_slice()),
+            Callee::PutChar => self.put_char(program, list.as_slice()),
         }
     }
 
@@ -172,11 +119,11 @@ impl<'a> Store<'a> {
         program: &'a TypedProgram,
         is_main: bool,
         f: Option<&'a TypedFunc>,
-        done: &[u64],
+        list: &mut Vec<Option<u64>>,
         depth: u32,
     ) -> Option<u64>
-        ensures { Values program.now
-            (enter (meaning program.now) is_main (behind f.entry) done.now (view self.old)) self.new result }
+        ensures { (done : List ℕ) → list.old.items ≡ map Some done → Values program.now
+            (enter (meaning program.now) is_main (behind f.entry) done (view self.old)) self.new result }
     {
         match f {
             None => {
@@ -184,7 +131,7 @@ impl<'a> Store<'a> {
                 None
             },
             Some(f) => {
-                if done.len() != f.params as usize {
+                if list.len() != f.params as usize {
                     self.stop = Stop::Fails(Ending::Undefined);
                     return None;
                 }
@@ -193,59 +140,53 @@ impl<'a> Store<'a> {
                         self.stop = Stop::Fails(Ending::Deep);
                         None
                     },
-                    Some(room) => { self.begin_with(program, is_main, f, done, room, depth) }
+                    Some(room) => { self.begin_with(program, is_main, f, list, room, depth) }
                 }
             }
         }
     }
 
-    // The scalars and arrays of a call whose frame has room, and the frame of its caller.
+    // The scalars and arrays of a call whose frame has room. The list has its arguments, and then the caller's scalars.
     #[inline(always)]
-    fn enter(&mut self, f: &'a TypedFunc, done: &[u64], room: u32) -> Result<Caller, AllocError>
+    fn enter(
+        &mut self,
+        f: &'a TypedFunc,
+        list: &mut Vec<Option<u64>>,
+        count: u32,
+        room: u32,
+    ) -> Result<(), AllocError>
+        requires count { count ≡ length (view self.old).arrays }
         requires room { room ≡ self.old.room + frame_of f.now }
-        requires small { room ≤ MOST_FRAME_BYTES }
-        ensures after { OnOk result (view self.new ≡ entered f.now done.now (view self.old)) }
-        ensures caller { IfOk result (IsCaller (view self.old)) }
+        ensures after { OnOk result ((done : List ℕ) → list.old.items ≡ map Some done
+            → view self.new ≡ entered f.now done (view self.old)) }
+        ensures caller { OnOk result (list.new.items ≡ (view self.old).scalars) }
     {
-        let count = self.arrays.len();
-        if count > 0xffff_ffff {
-            return Err(AllocError);
-        }
-        let mut scalars = spare(self.alloc, &mut self.spare_scalars);
-        put_scalars(&mut scalars, f, done)?;
+        pad(list, f.scalars.len().saturating_sub(list.len()))?;
         add_arrays(&mut self.arrays, f)?;
         add_rows(&mut self.rows, f)?;
-        let scalars = std::mem::replace(&mut self.scalars, scalars);
-        let caller = Caller {
-            scalars,
-            count,
-            base: self.base,
-            room: self.room,
-        };
-        self.base = count as u32;
+        std::mem::swap(&mut self.scalars, list);
+        self.base = count;
         self.room = room;
-        Ok(caller)
+        Ok(())
     }
 
     // The caller's scalars, arrays, base and room again.
     #[inline(always)]
-    fn leave(&mut self, caller: Caller) -> Result<(), AllocError>
+    fn leave(&mut self, list: &mut Vec<Option<u64>>, caller: Caller)
         ensures returned { self.new.returned ≡ self.old.returned }
-        ensures after { OnOk result (view self.new ≡ record (view self.old) {
-          scalars = caller.scalars.items;
+        ensures after { view self.new ≡ record (view self.old) {
+          scalars = list.old.items;
           arrays = take caller.count (view self.old).arrays;
           rows = take caller.count (view self.old).rows;
           base = caller.base;
           room = caller.room;
-        }) }
+        } }
     {
-        let used = std::mem::replace(&mut self.scalars, caller.scalars);
-        self.arrays.keep_first(caller.count);
-        self.rows.truncate(caller.count);
+        std::mem::swap(&mut self.scalars, list);
+        self.arrays.keep_first(caller.count as usize);
+        self.rows.truncate(caller.count as usize);
         self.base = caller.base;
         self.room = caller.room;
-        self.spare_scalars.push(used)?;
-        Ok(())
     }
 
     // What a call gives whose body was run to its end.
@@ -274,25 +215,21 @@ impl<'a> Store<'a> {
     }
 
     // The caller goes on with what a call gives whose body was run to its end.
-    #[inline(never)]
+    #[inline(always)]
     fn leave_with(
         &mut self,
         program: &'a TypedProgram,
         is_main: bool,
+        list: &mut Vec<Option<u64>>,
         caller: Caller,
         x: Ran,
     ) -> Option<u64>
         ensures { Values program.now
-            (left is_main caller.scalars.items caller.count caller.base caller.room
+            (left is_main list.old.items caller.count caller.base caller.room
             (signal_of x self.old.returned) (view self.old)) self.new result }
     {
-        match self.leave(caller) {
-            Err(_) => {
-                self.stop = Stop::Memory;
-                None
-            }
-            Ok(()) => self.given_back(program, is_main, x),
-        }
+        self.leave(list, caller);
+        self.given_back(program, is_main, x)
     }
 
     // The caller goes on behind the body of a call.
@@ -301,20 +238,22 @@ impl<'a> Store<'a> {
         &mut self,
         program: &'a TypedProgram,
         is_main: bool,
+        list: &mut Vec<Option<u64>>,
         caller: Caller,
     ) -> Option<u64>
         ensures { (r : Meant) → Stopped program.now r self.old
-            → Values program.now (then r (left is_main caller.scalars.items caller.count caller.base caller.room))
+            → Values program.now (then r (left is_main list.old.items caller.count caller.base caller.room))
             self.new result }
     {
-        let frame = Frame::Caller {
-            is_main,
-            scalars: caller.scalars,
-            count: caller.count,
-            base: caller.base,
-            room: caller.room,
-        };
-        self.held(program, frame)
+        let scalars = std::mem::replace(list, Vec::new(self.alloc));
+        self.held(
+            program,
+            Frame::Caller {
+                is_main,
+                scalars,
+                caller,
+            },
+        )
     }
 
     // What follows the body of a call: the caller goes on, or its frame is left behind a body that stopped.
@@ -323,47 +262,100 @@ impl<'a> Store<'a> {
         &mut self,
         program: &'a TypedProgram,
         is_main: bool,
+        list: &mut Vec<Option<u64>>,
         caller: Caller,
         x: Ran,
     ) -> Option<u64>
         ensures { (r : Meant) → Runs program.now r self.old x
-            → Values program.now (then r (left is_main caller.scalars.items caller.count caller.base caller.room))
+            → Values program.now (then r (left is_main list.old.items caller.count caller.base caller.room))
             self.new result }
     {
         match x {
-            Ran::Nothing => self.leave_with(program, is_main, caller, x),
-            Ran::Breaks => self.leave_with(program, is_main, caller, x),
-            Ran::Continues => self.leave_with(program, is_main, caller, x),
-            Ran::Returns => self.leave_with(program, is_main, caller, x),
-            Ran::Stops => self.held_caller(program, is_main, caller),
+            Ran::Stops => self.held_caller(program, is_main, list, caller),
+            x => self.leave_with(program, is_main, list, caller, x),
         }
     }
 
     // A call whose frame has room.
     #[cycle(parts)]
-    #[inline(never)]
+    #[inline(always)]
     fn begin_with(
         &mut self,
         program: &'a TypedProgram,
         is_main: bool,
         f: &'a TypedFunc,
-        done: &[u64],
+        list: &mut Vec<Option<u64>>,
         room: u32,
         depth: u32,
     ) -> Option<u64>
         requires room { room ≡ self.old.room + frame_of f.now }
         requires small { room ≤ MOST_FRAME_BYTES }
-        ensures { Values program.now
-            (entered_if (meaning program.now) is_main true f.now done.now (view self.old)) self.new result }
+        ensures { (done : List ℕ) → list.old.items ≡ map Some done → Values program.now
+            (entered_if (meaning program.now) is_main true f.now done (view self.old)) self.new result }
     {
-        match self.enter(f, done, room) {
+        let count = self.arrays.len();
+        if count > 0xffff_ffff {
+            self.stop = Stop::Memory;
+            return None;
+        }
+        let caller = Caller {
+            count: count as u32,
+            base: self.base,
+            room: self.room,
+        };
+        match self.enter(f, list, caller.count, room) {
             Err(_) => {
                 self.stop = Stop::Memory;
                 None
             }
-            Ok(caller) => {
+            Ok(()) => {
                 let x = self.run(program, &f.body, depth);
-                self.end_call(program, is_main, caller, x)
+                self.end_call(program, is_main, list, caller, x)
+            }
+        }
+    }
+
+    /// The caller goes on with what the signal of a call's body gives.
+    pub fn left(
+        &mut self,
+        program: &'a TypedProgram,
+        is_main: bool,
+        scalars: Vec<Option<u64>>,
+        caller: Caller,
+        signal: Signal,
+    ) -> Option<u64>
+        ensures { Values program.now
+            (left is_main scalars.items caller.count caller.base caller.room signal (view self.old))
+            self.new result }
+    {
+        let mut list = scalars;
+        self.leave(&mut list, caller);
+        match self.spare_scalars.push(list) {
+            Err(_) => {
+                self.stop = Stop::Memory;
+                None
+            }
+            Ok(()) => self.gives(program, is_main, signal),
+        }
+    }
+
+    // What a call gives by the signal of its body.
+    fn gives(&mut self, program: &'a TypedProgram, is_main: bool, signal: Signal) -> Option<u64>
+        ensures { Values program.now (returned is_main signal (view self.old)) self.new result }
+    {
+        match signal {
+            Signal::Returns(Some(w)) => Some(w),
+            Signal::Returns(None) => self.give_nothing(program),
+            Signal::Nothing => {
+                if is_main {
+                    Some(0)
+                } else {
+                    self.give_nothing(program)
+                }
+            }
+            _ => {
+                self.stop = Stop::Fails(Ending::Undefined);
+                None
             }
         }
     }

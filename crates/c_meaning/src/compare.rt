@@ -1,13 +1,15 @@
 //! The labels of a switch, compared with its value.
 
 ghost use Rattle.std.specs.Prelude.{◌≡◌, ◌++◌, List};
-ghost use Rattle.c_meaning_spec.specs.Statement.{Target, bodies, leading};
-ghost use Rattle.c_meaning_steps.specs.StatementSteps.{sections_step, compared_by_step, compared_step};
-ghost use Rattle.c_meaning_steps.specs.StatementSteps.{after_switch_step};
-ghost use Rattle.c_meaning.specs.View.{view, goes_on, found};
+ghost use Rattle.c_meaning_spec.specs.Eval.{meaning};
+ghost use Rattle.c_meaning_spec.specs.Statement as meant;
+ghost use Rattle.c_meaning_spec.specs.Statement.{Target, after_switch, bodies, leading, run_from};
+ghost use Rattle.c_meaning.specs.Labels.{goes_on, found};
+ghost use Rattle.c_meaning.specs.View.{view};
 
 use crate::store::Store;
-use c_tree::TypedSection;
+use c_meaning_spec::Signal;
+use c_tree::{TypedProgram, TypedSection};
 
 /// What comparing labels comes to: one of them is the one, no step was left, or none is, and these sections
 /// are run where none behind them is.
@@ -22,15 +24,17 @@ impl<'a> Store<'a> {
     // A label of the first of the sections here: one of a case costs a step.
     fn compare_label<'s>(
         &mut self,
+        program: &TypedProgram,
         w: u64,
         label: Option<u64>,
         here: &'s [TypedSection],
         other: &'s [TypedSection],
     ) -> Compared<'s>
-        ensures { (ts : List Target) → goes_on result w ts (bodies here.now) (view self.new)
-            ≡ compared_by_step w label (sections_step (bodies here.now))
-            (compared_step w ts (bodies other.now)) (compared_step w ts (bodies here.now))
-            (view self.old) }
+        ensures { (ts : List Target)
+            → goes_on program.now result w ts (bodies here.now) (view self.new)
+            ≡ meant.compared_by w label (run_from (meaning program.now) (bodies here.now))
+            (meant.compared (meaning program.now) w ts (bodies other.now))
+            (meant.compared (meaning program.now) w ts (bodies here.now)) (view self.old) }
     {
         match label {
             None => Compared::Passed(here),
@@ -49,22 +53,24 @@ impl<'a> Store<'a> {
         }
     }
 
-    /// The labels of the first of the sections here, up to one that is equal to the word.
-    pub fn compare<'s>(
+    // The labels of the first of the sections here, up to one that is equal to the word.
+    fn compare<'s>(
         &mut self,
+        program: &TypedProgram,
         w: u64,
         labels: &[Option<u64>],
         here: &'s [TypedSection],
         other: &'s [TypedSection],
     ) -> Compared<'s>
-        ensures { (ts : List Target) → goes_on result w ts (bodies here.now) (view self.new)
-            ≡ compared_step w (leading labels.now (bodies here.now) ++ ts) (bodies other.now)
-            (view self.old) }
+        ensures { (ts : List Target)
+            → goes_on program.now result w ts (bodies here.now) (view self.new)
+            ≡ meant.compared (meaning program.now) w (leading labels.now (bodies here.now) ++ ts)
+            (bodies other.now) (view self.old) }
     {
         let mut rest = labels;
         let mut other = other;
         while let Some((label, more)) = rest.split_first() {
-            match self.compare_label(w, *label, here, other) {
+            match self.compare_label(program, w, *label, here, other) {
                 Compared::Passed(next) => {
                     other = next;
                     rest = more;
@@ -78,13 +84,19 @@ impl<'a> Store<'a> {
 
     /// The sections whose statements are run where the word is that of a switch: those from the label on that
     /// is equal to it, those from `default` on, or none.
-    pub fn find_label<'s>(&mut self, sections: &'s [TypedSection], w: u64) -> Compared<'s>
-        ensures { found result (view self.new) ≡ after_switch_step sections.now w (view self.old) }
+    pub fn find_label<'s>(
+        &mut self,
+        program: &TypedProgram,
+        sections: &'s [TypedSection],
+        w: u64,
+    ) -> Compared<'s>
+        ensures { found program.now result (view self.new)
+            ≡ after_switch (meaning program.now) sections.now (Signal.Value w) (view self.old) }
     {
         let mut here = sections;
         let mut other: &'s [TypedSection] = &[];
         while let Some((section, behind)) = here.split_first() {
-            match self.compare(w, section.labels.as_slice(), here, other) {
+            match self.compare(program, w, section.labels.as_slice(), here, other) {
                 Compared::Passed(next) => {
                     other = next;
                     here = behind;

@@ -7,7 +7,7 @@ ghost use Rattle.c_meaning_spec.specs.declared.Signal.TheVariants.{Nothing};
 ghost use Rattle.c_meaning_spec.specs.Statement.{dropped};
 ghost use Rattle.c_meaning_spec.specs.Task.{Of, Run};
 ghost use Rattle.c_meaning_spec.specs.Eval.{meaning};
-ghost use Rattle.c_meaning_steps.specs.Ahead.{back_of};
+ghost use Rattle.c_meaning.specs.Ahead.{back_of};
 ghost use Rattle.c_meaning.specs.View.{view, follow};
 ghost use Rattle.c_meaning.specs.Direct.{Stopped, Values, Runs, Turned};
 
@@ -64,6 +64,7 @@ impl<'a> Store<'a> {
 
     // The frame of what follows, where something is left to be evaluated before it.
     #[tactic(auto, using(crate::proofs::Unwinds::one_more))]
+    #[inline(always)]
     fn before(&mut self, program: &'a TypedProgram, frame: Frame<'a>) -> Result<(), AllocError>
         ensures { OnOk result ((r : Meant) → Stopped program.now r self.old
             → Stopped program.now (then r (back_of program.now (follow frame.entry))) self.new) }

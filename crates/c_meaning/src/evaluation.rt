@@ -6,13 +6,13 @@ ghost use Rattle.c_meaning_spec.specs.Eval.{first_cells, length_of as length_in,
 ghost use Rattle.c_meaning_spec.specs.Eval.{eval, meaning};
 ghost use Rattle.c_tree.specs.declared.Kind.TheVariants.{Int};
 ghost use Rattle.c_constant.specs.Kinds.{number, converted};
-ghost use Rattle.c_meaning_steps.specs.Ahead.{ahead_next, unwind_of, is_over as is_over_of, IsReached};
+ghost use Rattle.c_meaning.specs.Ahead.{ahead_next, is_over as is_over_of, IsReached};
 ghost use Rattle.c_meaning.specs.View.{follow, frames, next, task_of, view};
-ghost use Rattle.c_meaning.specs.Direct.{Stopped, Values, Runs};
+ghost use Rattle.c_meaning.specs.Direct.{Leads};
 ghost use Rattle.c_meaning.specs.Answer.{answer};
 
 use crate::arrays::Arrays;
-use crate::direct::{Ran, Stop};
+use crate::direct::Stop;
 use crate::frame::{Move, Task};
 use crate::machine::Machine;
 use crate::outcome::Outcome;
@@ -81,7 +81,6 @@ fn first_store<'a>(
         returned: None,
         pending: Vec::new(alloc),
         spare_scalars: Vec::new(alloc),
-        spare_words: Vec::new(alloc),
     })
 }
 
@@ -104,87 +103,10 @@ impl<'a> Machine<'a> {
         }
     }
 
-    // The frames of what is to follow a part that was not evaluated to its end come before those that stand there.
-    #[tactic(auto, using(crate::proofs::Turns::turned_over))]
-    fn stack_pending(&mut self) -> Result<(), AllocError>
-        ensures kept { OnOk result (frames self.new.stack.items
-            ≡ map follow self.old.store.pending.items ++ frames self.old.stack.items) }
-        ensures same { OnOk result (view self.new.store ≡ view self.old.store) }
-    {
-        self.store.pending.reverse();
-        self.stack.append(&mut self.store.pending)?;
-        Ok(())
-    }
-
-    // What is to be done first where a part was not evaluated to its end.
-    #[tactic(auto, using(crate::proofs::Turns::both_follow, crate::proofs::Turns::both_given))]
-    fn stopped(&mut self, program: &'a TypedProgram) -> Result<Move<'a>, AllocError>
-        ensures { IfOk result (λ m. (r : Reached) → Stopped program.now r self.old.store
-            → ahead_next program.now (next m) (frames self.new.stack.items) (view self.new.store)
-            ≡ then r (unwind_of program.now (frames self.old.stack.items))) }
-    {
-        let stop = self.store.stop;
-        match stop {
-            Stop::Fails(why) => Ok(Move::End(why)),
-            Stop::AtExpr(e) => {
-                self.stack_pending()?;
-                Ok(Move::Do(Task::Of(e)))
-            }
-            Stop::AtStmt(st) => {
-                self.stack_pending()?;
-                Ok(Move::Do(Task::Run(st)))
-            }
-            Stop::Gave => {
-                self.stack_pending()?;
-                Ok(Move::Give(Signal::Nothing))
-            }
-            Stop::Memory => Err(AllocError),
-        }
-    }
-
-    // What an expression came to, as what is to be done next.
-    fn valued(
-        &mut self,
-        program: &'a TypedProgram,
-        word: Option<u64>,
-    ) -> Result<Move<'a>, AllocError>
-        ensures { IfOk result (λ m. (r : Reached) → Values program.now r self.old.store word
-            → ahead_next program.now (next m) (frames self.new.stack.items) (view self.new.store)
-            ≡ then r (unwind_of program.now (frames self.old.stack.items))) }
-    {
-        match word {
-            Some(w) => Ok(Move::Give(Signal::Value(w))),
-            None => {
-                let moved = self.stopped(program)?;
-                Ok(moved)
-            }
-        }
-    }
-
-    // What a statement came to, as what is to be done next.
-    fn ran(&mut self, program: &'a TypedProgram, x: Ran) -> Result<Move<'a>, AllocError>
-        ensures { IfOk result (λ m. (r : Reached) → Runs program.now r self.old.store x
-            → ahead_next program.now (next m) (frames self.new.stack.items) (view self.new.store)
-            ≡ then r (unwind_of program.now (frames self.old.stack.items))) }
-    {
-        match x {
-            Ran::Nothing => Ok(Move::Give(Signal::Nothing)),
-            Ran::Breaks => Ok(Move::Give(Signal::Breaks)),
-            Ran::Continues => Ok(Move::Give(Signal::Continues)),
-            Ran::Returns => Ok(Move::Give(Signal::Returns(self.store.returned))),
-            Ran::Stops => {
-                let moved = self.stopped(program)?;
-                Ok(moved)
-            }
-        }
-    }
-
     // A task is done, up to a call in it or to where it is too deep.
     fn perform(&mut self, program: &'a TypedProgram, task: Task<'a>) -> Result<Move<'a>, AllocError>
-        ensures { IfOk result (λ m.
-            ahead_next program.now (next m) (frames self.new.stack.items) (view self.new.store)
-            ≡ then (meaning program.now (task_of task.entry) (view self.old.store))
-            (unwind_of program.now (frames self.old.stack.items))) }
+        ensures { IfOk result (Leads program.now (meaning program.now (task_of task.entry) (view self.old.store))
+            self.old self.new) }
     {
         match task {
             Task::Of(e) => {
@@ -254,9 +176,10 @@ impl<'a> Machine<'a> {
             (called_by (meaning program.now) program.now (Callee.Func program.now.main) []
             (view self.old.store))) }
     {
+        let mut list = Vec::new(self.store.alloc);
         let word = self
             .store
-            .begin_call(program, Callee::Func(program.main), &[], MOST_DEPTH);
+            .begin_call(program, Callee::Func(program.main), &mut list, MOST_DEPTH);
         let first = self.valued(program, word)?;
         let last = self.go(program, first)?;
         Ok(last)

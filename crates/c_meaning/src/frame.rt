@@ -1,3 +1,4 @@
+use crate::arguments::Arguments;
 use c_meaning_spec::{Ending, Object, Signal};
 use c_tree::{BinaryOp, BumpOp, Callee, Kind, Place, TypedExpr, TypedSection, TypedStmt, UnaryOp};
 
@@ -58,6 +59,14 @@ pub enum Stage {
     Ran,
 }
 
+/// What a call gives back to its caller beside its scalars: the count of arrays, its base and its room.
+#[derive(Clone, Copy)]
+pub struct Caller {
+    pub count: u32,
+    pub base: u32,
+    pub room: u32,
+}
+
 /// What follows a part.
 #[derive(Drop)]
 pub enum Frame<'a> {
@@ -74,7 +83,7 @@ pub enum Frame<'a> {
     Argument {
         callee: Callee,
         rest: &'a [TypedExpr],
-        done: Vec<u64>,
+        done: Arguments,
     },
     Operand {
         operand: Operand,
@@ -121,9 +130,7 @@ pub enum Frame<'a> {
     Caller {
         is_main: bool,
         scalars: Vec<Option<u64>>,
-        count: usize,
-        base: u32,
-        room: u32,
+        caller: Caller,
     },
     Dropped,
     Initialised(u32),

@@ -12,6 +12,7 @@ ghost use Rattle.c_meaning_spec.specs.Eval.{meaning};
 ghost use Rattle.c_meaning.specs.Direct.{Stopped, Values};
 ghost use Rattle.c_meaning_spec.specs.declared.Object.TheVariants.{InArray, InScalar};
 
+use crate::arguments::Arguments;
 use crate::frame::{Frame, Operand};
 use crate::store::Store;
 use c_meaning_spec::Object;
@@ -229,11 +230,11 @@ impl<'a> Store<'a> {
         program: &'a TypedProgram,
         callee: Callee,
         rest: &'a [TypedExpr],
-        done: Vec<u64>,
+        done: Arguments,
     ) -> Option<u64>
         ensures { (r : Meant) → Stopped program.now r self.old
             → Values program.now (then r (λ v s. want v s
-            (λ w. arguments (meaning program.now) program.now callee rest.now (done.items ++ w ∷ []) s)))
+            (λ w. arguments (meaning program.now) program.now callee rest.now (done ++ w ∷ []) s)))
             self.new result }
     {
         self.held(program, Frame::Argument { callee, rest, done })

@@ -2,16 +2,15 @@
 //! `c_meaning_spec` has it.
 #![tactic(auto)]
 
+mod after;
+mod arguments;
 mod arrays;
-mod assignment;
 mod bumps;
 mod call;
 mod calls;
 mod compare;
 mod direct;
 mod evaluation;
-mod expression;
-mod fetch;
 mod frame;
 mod held;
 mod kept;
@@ -21,10 +20,9 @@ mod operations;
 mod outcome;
 mod resume;
 mod runs;
-mod statement;
 mod store;
 mod stores;
-mod switch;
+mod streams;
 mod two_indexes;
 mod values;
 mod words;

@@ -14,10 +14,10 @@ use crate::store::Store;
 use c_tree::{TypedExpr, TypedForInit, TypedProgram, TypedStmt};
 
 impl<'a> Store<'a> {
-    // The last part of a loop, after which it turns again.
+    /// The last part of a loop, after which it turns again.
     #[cycle(parts)]
     #[inline(always)]
-    fn run_post(&mut self, program: &'a TypedProgram, turn: Loop<'a>, depth: u32) -> Ran
+    pub fn run_post(&mut self, program: &'a TypedProgram, turn: Loop<'a>, depth: u32) -> Ran
         ensures { Turned program.now turn.entry
             (meant.then_turn (meaning program.now) (behind turn.entry.post) (behind turn.entry.test)
             (behind turn.entry.post) turn.entry.body.now (view self.old)) self.new result }
@@ -31,10 +31,10 @@ impl<'a> Store<'a> {
         }
     }
 
-    // The body of a loop, and its last part.
+    /// The body of a loop, and its last part.
     #[cycle(parts)]
     #[inline(always)]
-    fn run_body(&mut self, program: &'a TypedProgram, turn: Loop<'a>, depth: u32) -> Ran
+    pub fn run_body(&mut self, program: &'a TypedProgram, turn: Loop<'a>, depth: u32) -> Ran
         ensures { Turned program.now turn.entry
             (then (meaning program.now (Run turn.entry.body.now) (view self.old))
             (meant.after_body (meaning program.now) (behind turn.entry.test) (behind turn.entry.post)
@@ -154,10 +154,10 @@ impl<'a> Store<'a> {
         }
     }
 
-    // The declarations of a `for`, and then its turns.
+    /// The declarations of a `for`, and then its turns.
     #[cycle(parts)]
     #[inline(never)]
-    fn run_locals(
+    pub fn run_locals(
         &mut self,
         program: &'a TypedProgram,
         all: &'a [TypedStmt],

@@ -1,11 +1,15 @@
-ghost use Rattle.std.specs.Prelude.{◌≡◌, IfOk};
-ghost use Rattle.c_tree.specs.TypedTrees.{node_of};
-ghost use Rattle.c_meaning_steps.specs.Follow.{Pushes, given_step, store_step};
-ghost use Rattle.c_meaning.specs.View.{view, task_of, follow, Makes};
+//! What follows a part that stopped, taken over by the machine.
 
+ghost use Rattle.std.specs.Prelude.{◌≡◌, ◌++◌, map, IfOk, OnOk};
+ghost use Rattle.c_meaning_spec.specs.State.{Result as Reached};
+ghost use Rattle.c_meaning.specs.Direct.{Leads, Runs, Stopped, Values};
+ghost use Rattle.c_meaning.specs.View.{follow, frames, view};
+
+use crate::direct::{Ran, Stop};
 use crate::frame::{Frame, Move, Task};
 use crate::store::Store;
-use c_meaning_spec::{Ending, Object, Signal};
+use c_meaning_spec::Signal;
+use c_tree::TypedProgram;
 use std::alloc::AllocError;
 
 /// An evaluation under way: what it goes over, and what follows.
@@ -16,34 +20,78 @@ pub struct Machine<'a> {
 }
 
 impl<'a> Machine<'a> {
-    /// A task, and the frame of what follows it.
-    pub fn push(&mut self, task: Task<'a>, frame: Frame<'a>) -> Result<Move<'a>, AllocError>
-        ensures { IfOk result (Makes
-            (Pushes (task_of task.entry) (follow frame.entry))
-            self.old self.new) }
+    // The frames of what is to follow a part that was not evaluated to its end come before those that stand there.
+    #[tactic(auto, using(crate::proofs::Turns::turned_over))]
+    fn stack_pending(&mut self) -> Result<(), AllocError>
+        ensures kept { OnOk result (frames self.new.stack.items
+            ≡ map follow self.old.store.pending.items ++ frames self.old.stack.items) }
+        ensures same { OnOk result (view self.new.store ≡ view self.old.store) }
     {
-        self.stack.push(frame)?;
-        Ok(Move::Do(task))
+        self.store.pending.reverse();
+        self.stack.append(&mut self.store.pending)?;
+        Ok(())
     }
 
-    /// A value, if there is one.
-    pub fn given(&self, value: Option<u64>) -> Move<'a>
-        ensures { Makes (given_step value) self.now self.now result }
+    // What is to be done first where a part was not evaluated to its end.
+    #[inline(never)]
+    #[tactic(auto, using(crate::proofs::Turns::both_follow, crate::proofs::Turns::both_given))]
+    fn stopped(&mut self, program: &'a TypedProgram) -> Result<Move<'a>, AllocError>
+        ensures { IfOk result (λ m. (r : Reached) → Stopped program.now r self.old.store
+            → Leads program.now r self.old self.new m) }
     {
-        match value {
-            Some(w) => Move::Give(Signal::Value(w)),
-            None => Move::End(Ending::Undefined),
+        let stop = self.store.stop;
+        match stop {
+            Stop::Fails(why) => Ok(Move::End(why)),
+            Stop::AtExpr(e) => {
+                self.stack_pending()?;
+                Ok(Move::Do(Task::Of(e)))
+            }
+            Stop::AtStmt(st) => {
+                self.stack_pending()?;
+                Ok(Move::Do(Task::Run(st)))
+            }
+            Stop::Gave => {
+                self.stack_pending()?;
+                Ok(Move::Give(Signal::Nothing))
+            }
+            Stop::Memory => Err(AllocError),
         }
     }
 
-    /// A word into an object, and then a signal.
-    pub fn stored(&mut self, object: Object, w: u64, signal: Signal) -> Move<'a>
-        ensures { Makes (λ s. store_step s object w signal) self.old self.new result }
+    /// What an expression came to, as what is to be done next.
+    #[inline(always)]
+    pub fn valued(
+        &mut self,
+        program: &'a TypedProgram,
+        word: Option<u64>,
+    ) -> Result<Move<'a>, AllocError>
+        ensures { IfOk result (λ m. (r : Reached) → Values program.now r self.old.store word
+            → Leads program.now r self.old self.new m) }
     {
-        if self.store.set(object, w) {
-            Move::Give(signal)
-        } else {
-            Move::End(Ending::Undefined)
+        match word {
+            Some(w) => Ok(Move::Give(Signal::Value(w))),
+            None => {
+                let moved = self.stopped(program)?;
+                Ok(moved)
+            }
+        }
+    }
+
+    /// What a statement came to, as what is to be done next.
+    #[inline(always)]
+    pub fn ran(&mut self, program: &'a TypedProgram, x: Ran) -> Result<Move<'a>, AllocError>
+        ensures { IfOk result (λ m. (r : Reached) → Runs program.now r self.old.store x
+            → Leads program.now r self.old self.new m) }
+    {
+        match x {
+            Ran::Nothing => Ok(Move::Give(Signal::Nothing)),
+            Ran::Breaks => Ok(Move::Give(Signal::Breaks)),
+            Ran::Continues => Ok(Move::Give(Signal::Continues)),
+            Ran::Returns => Ok(Move::Give(Signal::Returns(self.store.returned))),
+            Ran::Stops => {
+                let moved = self.stopped(program)?;
+                Ok(moved)
+            }
         }
     }
 }

@@ -2,7 +2,7 @@
 
 ghost use Rattle.c_meaning_spec.specs.State.{then};
 ghost use Rattle.c_meaning_spec.specs.Task.{Of};
-ghost use Rattle.c_meaning_spec.specs.Expression.{binary, valued};
+ghost use Rattle.c_meaning_spec.specs.Expression.{binary, operated, valued};
 ghost use Rattle.c_meaning_spec.specs.Expression.{after_left, after_and, after_or, after_choice, after_comma};
 ghost use Rattle.c_meaning_spec.specs.Expression as meant_expression;
 ghost use Rattle.c_meaning_spec.specs.Eval.{meaning};
@@ -12,7 +12,7 @@ ghost use Rattle.c_meaning.specs.Direct.{Values};
 use crate::frame::{Frame, Operand};
 use crate::store::Store;
 use crate::words::binary_of;
-use c_tree::{BinaryOp, TypedExpr, TypedProgram};
+use c_tree::{BinaryOp, Kind, TypedExpr, TypedProgram};
 
 impl<'a> Store<'a> {
     /// An operation on two operands, of which `&&` and `||` may do without the second.
@@ -52,17 +52,35 @@ impl<'a> Store<'a> {
             (after_left (meaning program.now) op left.now.kind right.now)) self.new result }
     {
         match self.value_of(program, left, depth) {
-            Some(a) => match self.value_of(program, right, depth) {
-                Some(b) => self.value(program, binary_of(op, left.kind, a, b)),
-                None => self.held_right(program, op, left.kind, a),
-            },
+            Some(a) => self.right_value(program, op, left.kind, a, right, depth),
             None => self.held_left(program, op, left.kind, right),
         }
     }
 
-    // The second side of `&&` and `||`, as 0 or 1.
+    /// The right operand of an operation, and then the operation.
     #[cycle(parts)]
-    fn truth_value(
+    #[inline(always)]
+    pub fn right_value(
+        &mut self,
+        program: &'a TypedProgram,
+        op: BinaryOp,
+        kind: Option<Kind>,
+        a: u64,
+        right: &'a TypedExpr,
+        depth: u32,
+    ) -> Option<u64>
+        ensures { Values program.now
+            (then (meaning program.now (Of right.now) (view self.old)) (operated op kind a)) self.new result }
+    {
+        match self.value_of(program, right, depth) {
+            Some(b) => self.value(program, binary_of(op, kind, a, b)),
+            None => self.held_right(program, op, kind, a),
+        }
+    }
+
+    /// The second side of `&&` and `||`, as 0 or 1.
+    #[cycle(parts)]
+    pub fn truth_value(
         &mut self,
         program: &'a TypedProgram,
         e: &'a TypedExpr,
@@ -129,9 +147,14 @@ impl<'a> Store<'a> {
         }
     }
 
-    // An expression whose value is that of the whole.
+    /// An expression whose value is that of the whole.
     #[cycle(parts)]
-    fn same_value(&mut self, program: &'a TypedProgram, e: &'a TypedExpr, depth: u32) -> Option<u64>
+    pub fn same_value(
+        &mut self,
+        program: &'a TypedProgram,
+        e: &'a TypedExpr,
+        depth: u32,
+    ) -> Option<u64>
         ensures { Values program.now
             (then (meaning program.now (Of e.now) (view self.old)) valued) self.new result }
     {

@@ -1,6 +1,6 @@
 //! Statements that are evaluated at once, by recursion on their trees to a depth that is bounded.
 
-ghost use Rattle.std.specs.Prelude.{◌++◌, slice_get};
+ghost use Rattle.std.specs.Prelude.{◌≡◌, ◌++◌, slice_get};
 ghost use Rattle.c_tree.specs.declared.TypedStmt.{out-TypedStmt};
 ghost use Rattle.c_meaning_spec.specs.State.{then, store};
 ghost use Rattle.c_meaning_spec.specs.Task.{Of, Run};
@@ -13,17 +13,27 @@ ghost use Rattle.c_meaning.specs.Direct.{Runs};
 use crate::compare::Compared;
 use crate::direct::{Ran, Stop};
 use crate::frame::{Frame, Loop};
-use crate::statement::unboxed;
 use crate::store::Store;
+use base::Boxed;
 use c_meaning_spec::{Ending, Object, Signal};
 use c_tree::{Place, TypedExpr, TypedProgram, TypedSection, TypedStmt};
 
 /// How deep expressions and statements are evaluated at once, those of the functions that are called among them.
 pub const MOST_DEPTH: u32 = 3072;
 
+// The statement in the box, if there is one.
+fn unboxed<'a>(st: &'a Option<Boxed<TypedStmt>>) -> Option<&'a TypedStmt>
+    ensures { behind result ≡ st.now }
+{
+    match st {
+        None => None,
+        Some(st) => Some(st.get()),
+    }
+}
+
 impl<'a> Store<'a> {
-    // A word into a scalar, as its initial value.
-    fn initial(&mut self, program: &'a TypedProgram, i: u32, w: u64) -> Ran
+    /// A word into a scalar, as its initial value.
+    pub fn initial(&mut self, program: &'a TypedProgram, i: u32, w: u64) -> Ran
         ensures { Runs program.now
             (then (store (view self.old) (Object.InScalar i) w) meant.dropped) self.new result }
     {
@@ -225,10 +235,10 @@ impl<'a> Store<'a> {
         }
     }
 
-    // Statements one after another.
+    /// Statements one after another.
     #[cycle(parts)]
     #[inline(never)]
-    fn run_all(&mut self, program: &'a TypedProgram, all: &'a [TypedStmt], depth: u32) -> Ran
+    pub fn run_all(&mut self, program: &'a TypedProgram, all: &'a [TypedStmt], depth: u32) -> Ran
         ensures { Runs program.now
             (meant.sequence (meaning program.now) all.now (view self.old)) self.new result }
     {
@@ -297,10 +307,9 @@ impl<'a> Store<'a> {
         }
     }
 
-    // The statements of a switch from the label on that is equal to the word, from `default` on, or none.
+    /// The statements of a switch from the label on that is equal to the word, from `default` on, or none.
     #[cycle(parts)]
-    #[tactic(auto, using(crate::proofs::Parts::label_is, crate::proofs::Parts::ends, crate::proofs::Parts::no_label))]
-    fn run_labels(
+    pub fn run_labels(
         &mut self,
         program: &'a TypedProgram,
         sections: &'a [TypedSection],
@@ -310,7 +319,7 @@ impl<'a> Store<'a> {
         ensures { Runs program.now
             (meant.after_switch (meaning program.now) sections.now (Signal.Value w) (view self.old)) self.new result }
     {
-        match self.find_label(sections, w) {
+        match self.find_label(program, sections, w) {
             Compared::Passed(here) => self.run_sections(program, &[], here, depth),
             Compared::Found => Ran::Nothing,
             Compared::Spent => {
@@ -320,10 +329,10 @@ impl<'a> Store<'a> {
         }
     }
 
-    // Statements of a section, and then those of the sections behind it.
+    /// Statements of a section, and then those of the sections behind it.
     #[cycle(parts)]
     #[inline(never)]
-    fn run_sections(
+    pub fn run_sections(
         &mut self,
         program: &'a TypedProgram,
         first: &'a [TypedStmt],

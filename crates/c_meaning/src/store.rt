@@ -1,7 +1,7 @@
 ghost use Rattle.std.specs.Prelude.{◌≡◌, map, Some, replicate, ◌++◌, ◌-◌, length, ◌↔◌, IsTrue};
 ghost use Rattle.std.specs.Prelude.{IsFalse, IsSome, IfOk, OnOk, slice_get, slice_set, None};
 ghost use Rattle.std.specs.Prelude.{◌+◌, ◌*◌, ◌<◌, SomeIff};
-ghost use Rattle.c_meaning_spec.specs.State.{held, cell, written};
+ghost use Rattle.c_meaning_spec.specs.State.{held, cell, row_in, written};
 ghost use Rattle.c_meaning_spec.specs.Task.{array_of as array_number, element_of as element_object};
 ghost use Rattle.c_meaning_spec.specs.Task.{scalar_of as scalar_object, row_size, place_in as place};
 ghost use Rattle.c_meaning_spec.specs.Task.{row_element_of as row_element_object};
@@ -32,7 +32,6 @@ pub struct Store<'a> {
     pub returned: Option<u64>,
     pub pending: Vec<Frame<'a>>,
     pub spare_scalars: Vec<Vec<Option<u64>>>,
-    pub spare_words: Vec<Vec<u64>>,
 }
 
 // The value of a scalar, if it is set.
@@ -170,17 +169,24 @@ impl<'a> Store<'a> {
         }
     }
 
+    /// The place of an element among the cells of its array, by the words of its two indexes.
+    #[inline(always)]
+    pub fn place_of(&self, array: u64, row: u64, index: u64) -> u64
+        ensures { result ≡ place (row_size (slice_get (view self.now).rows array))
+            (length (row_in (slice_get (view self.now).arrays array))) row index }
+    {
+        let size = row_size_at(self.rows.as_slice(), array);
+        place_in(size, self.arrays.count_in(array) as u64, row, index)
+    }
+
     /// An element by the words of its two indexes.
+    #[inline(always)]
     pub fn row_element_of(&self, place: Place, row: u64, index: u64) -> Option<Object>
         ensures { result ≡ row_element_object place row index (view self.now) }
     {
         match self.array_of(place) {
             None => None,
-            Some(array) => {
-                let size = row_size_at(self.rows.as_slice(), array);
-                let count = self.arrays.count_in(array);
-                Some(Object::InArray(array, place_in(size, count as u64, row, index)))
-            }
+            Some(array) => Some(Object::InArray(array, self.place_of(array, row, index))),
         }
     }
 }

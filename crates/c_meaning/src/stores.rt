@@ -27,8 +27,8 @@ impl<'a> Store<'a> {
         self.put(program, Object::InScalar(i as u64), w)
     }
 
-    // A word into an object, if there is the word.
-    fn put_some(
+    /// A word into an object, if there is the word.
+    pub fn put_some(
         &mut self,
         program: &'a TypedProgram,
         object: Object,
@@ -105,10 +105,10 @@ impl<'a> Store<'a> {
         }
     }
 
-    // An assignment to an element by the word of its index.
+    /// An assignment to an element by the word of its index.
     #[cycle(parts)]
     #[inline(always)]
-    fn assign_indexed(
+    pub fn assign_indexed(
         &mut self,
         program: &'a TypedProgram,
         op: Option<BinaryOp>,
@@ -157,10 +157,10 @@ impl<'a> Store<'a> {
         self.put_value(program, Some(op), to, at, right, object, depth)
     }
 
-    // An assignment to an element that is known.
+    /// An assignment to an element that is known.
     #[cycle(parts)]
     #[inline(always)]
-    fn assign_in_array(
+    pub fn assign_in_array(
         &mut self,
         program: &'a TypedProgram,
         array: u64,
@@ -244,42 +244,29 @@ impl<'a> Store<'a> {
         }
     }
 
-    // An assignment to an element by two indexes.
+    // An assignment to an object that is known.
     #[cycle(parts)]
-    #[inline(never)]
-    fn assign_row_value(
+    #[inline(always)]
+    fn assign_object(
         &mut self,
         program: &'a TypedProgram,
-        op: Option<BinaryOp>,
-        to: Option<Kind>,
-        at: Kind,
-        place: Place,
-        row: &'a TypedExpr,
-        index: &'a TypedExpr,
+        object: Object,
         right: &'a TypedExpr,
         depth: u32,
     ) -> Option<u64>
         ensures { Values program.now
-            (then (meaning program.now (Of row.now) (view self.old))
-            (meant_expression.assign_after_row (meaning program.now) op to at place index.now right.now))
-            self.new result }
+            (then (meaning program.now (Of right.now) (view self.old)) (assigned object)) self.new result }
     {
-        match self.value_of(program, row, depth) {
-            Some(i) => match self.value_of(program, index, depth) {
-                Some(j) => {
-                    let object = self.row_element_of(place, i, j);
-                    self.put_value(program, op, to, at, right, object, depth)
-                }
-                None => self.held_row_store(program, op, to, at, place, i, right),
-            },
-            None => self.held_store_in_row(program, op, to, at, place, index, right),
+        match self.value_of(program, right, depth) {
+            Some(w) => self.put(program, object, w),
+            None => self.held_object(program, object),
         }
     }
 
-    // The right side of an assignment to an object, if there is the object.
+    /// The right side of an assignment to an object, if there is the object.
     #[cycle(parts)]
     #[inline(never)]
-    fn put_value(
+    pub fn put_value(
         &mut self,
         program: &'a TypedProgram,
         op: Option<BinaryOp>,
@@ -299,10 +286,7 @@ impl<'a> Store<'a> {
                 None
             },
             Some(object) => match op {
-                None => match self.value_of(program, right, depth) {
-                    Some(w) => self.put(program, object, w),
-                    None => self.held_object(program, object),
-                },
+                None => self.assign_object(program, object, right, depth),
                 Some(op) => match self.load(object) {
                     None => {
                         self.stop = Stop::Fails(Ending::Undefined);

@@ -1,79 +1,26 @@
-//! Elements by two indexes: the first is evaluated, then the second.
+//! Assignments to elements by two indexes that are evaluated at once.
 
-ghost use Rattle.std.specs.Prelude.{IfOk};
-ghost use Rattle.c_meaning_spec.specs.Task.{Of};
-ghost use Rattle.c_meaning_steps.specs.Follow.{FAfterRow, FRowElement, FAssignAfterRow, FAssignRow};
-ghost use Rattle.c_meaning_steps.specs.Follow.{FBumpAfterRow, FBumpRow, Pushes};
-ghost use Rattle.c_meaning_steps.specs.Operands.{operand_step};
-ghost use Rattle.c_meaning_steps.specs.ExpressionSteps.{row_element_step, after_row_step};
-ghost use Rattle.c_meaning_steps.specs.ExpressionSteps.{assign_row_step, assign_after_row_step};
-ghost use Rattle.c_meaning_steps.specs.ExpressionSteps.{bump_row_step};
-ghost use Rattle.c_meaning.specs.View.{Makes};
+ghost use Rattle.std.specs.Prelude.{Some};
+ghost use Rattle.c_meaning_spec.specs.State.{then, with_some};
+ghost use Rattle.c_meaning_spec.specs.Task.{Of, row_element_of as row_element_in_place};
+ghost use Rattle.c_meaning_spec.specs.Expression.{assign_to};
+ghost use Rattle.c_meaning_spec.specs.Expression as meant_expression;
+ghost use Rattle.c_meaning_spec.specs.Eval.{meaning};
+ghost use Rattle.c_meaning.specs.View.{view};
+ghost use Rattle.c_meaning.specs.Direct.{Values};
 
-use crate::fetch::Fetch;
-use crate::frame::{Frame, Move, Operand, Task};
-use crate::machine::Machine;
+use crate::direct::Stop;
+use crate::store::Store;
 use c_meaning_spec::Ending;
-use c_tree::{BinaryOp, BumpOp, Kind, Place, TypedExpr};
-use std::alloc::AllocError;
+use c_tree::{BinaryOp, Kind, Place, TypedExpr, TypedProgram};
 
-impl<'a> Machine<'a> {
-    /// The value of an element.
-    pub fn element_by_row(
+impl<'a> Store<'a> {
+    /// An assignment to an element by two indexes.
+    #[cycle(parts)]
+    #[inline(never)]
+    pub fn assign_row_value(
         &mut self,
-        place: Place,
-        row: &'a TypedExpr,
-        index: &'a TypedExpr,
-    ) -> Result<Move<'a>, AllocError>
-        ensures { IfOk result (Makes
-            (λ s. operand_step row.now (FAfterRow place index.now) s (after_row_step place index.now))
-            self.old self.new) }
-    {
-        match self.store.fetch(row) {
-            Fetch::Word(w) => self.element_after_row(place, index, w),
-            Fetch::Fails(why) => Ok(Move::End(why)),
-            Fetch::Deferred => {
-                let operand = Operand::AfterRow(place);
-                self.push(
-                    Task::Of(row),
-                    Frame::Operand {
-                        operand,
-                        right: index,
-                    },
-                )
-            }
-        }
-    }
-
-    /// The second index after the first one.
-    pub fn element_after_row(
-        &mut self,
-        place: Place,
-        index: &'a TypedExpr,
-        row: u64,
-    ) -> Result<Move<'a>, AllocError>
-        ensures { IfOk result (Makes (after_row_step place index.now row) self.old self.new) }
-    {
-        match self.store.fetch(index) {
-            Fetch::Word(w) => Ok(self.row_element(place, row, w)),
-            Fetch::Fails(why) => Ok(Move::End(why)),
-            Fetch::Deferred => self.push(Task::Of(index), Frame::RowElement { place, row }),
-        }
-    }
-
-    /// The value of an element by the values of its indexes.
-    pub fn row_element(&self, place: Place, row: u64, index: u64) -> Move<'a>
-        ensures { Makes (row_element_step place row index) self.now self.now result }
-    {
-        match self.store.row_element_of(place, row, index) {
-            None => Move::End(Ending::Undefined),
-            Some(object) => self.given(self.store.load(object)),
-        }
-    }
-
-    /// An assignment to an element.
-    pub fn assign_by_row(
-        &mut self,
+        program: &'a TypedProgram,
         op: Option<BinaryOp>,
         to: Option<Kind>,
         at: Kind,
@@ -81,138 +28,99 @@ impl<'a> Machine<'a> {
         row: &'a TypedExpr,
         index: &'a TypedExpr,
         right: &'a TypedExpr,
-    ) -> Result<Move<'a>, AllocError>
-        ensures { IfOk result (Makes
-            (λ s. operand_step row.now (FAssignAfterRow op to at place index.now right.now) s
-            (assign_after_row_step op to at place index.now right.now))
-            self.old self.new) }
+        depth: u32,
+    ) -> Option<u64>
+        ensures { Values program.now
+            (then (meaning program.now (Of row.now) (view self.old))
+            (meant_expression.assign_after_row (meaning program.now) op to at place index.now right.now))
+            self.new result }
     {
-        match self.store.fetch(row) {
-            Fetch::Word(w) => self.assign_after_row(op, to, at, place, index, right, w),
-            Fetch::Fails(why) => Ok(Move::End(why)),
-            Fetch::Deferred => self.push(
-                Task::Of(row),
-                Frame::StoredAfterRow {
-                    op,
-                    to,
-                    at,
-                    place,
-                    index,
-                    right,
-                },
-            ),
+        match self.value_of(program, row, depth) {
+            Some(i) => self.assign_after_row(program, op, to, at, place, i, index, right, depth),
+            None => self.held_store_in_row(program, op, to, at, place, index, right),
         }
     }
 
-    /// The second index after the first one.
+    /// An assignment to an element by the word of its first index.
+    #[cycle(parts)]
+    #[inline(always)]
     pub fn assign_after_row(
         &mut self,
+        program: &'a TypedProgram,
         op: Option<BinaryOp>,
         to: Option<Kind>,
         at: Kind,
         place: Place,
+        row: u64,
         index: &'a TypedExpr,
         right: &'a TypedExpr,
-        row: u64,
-    ) -> Result<Move<'a>, AllocError>
-        ensures { IfOk result (Makes
-            (assign_after_row_step op to at place index.now right.now row)
-            self.old self.new) }
+        depth: u32,
+    ) -> Option<u64>
+        ensures { Values program.now
+            (then (meaning program.now (Of index.now) (view self.old))
+            (meant_expression.assign_row (meaning program.now) op to at place row right.now))
+            self.new result }
     {
-        match self.store.fetch(index) {
-            Fetch::Word(w) => self.assign_row(op, to, at, place, row, right, w),
-            Fetch::Fails(why) => Ok(Move::End(why)),
-            Fetch::Deferred => {
-                let operand = Operand::StoredRow {
-                    op,
-                    to,
-                    at,
-                    place,
-                    row,
-                };
-                self.push(Task::Of(index), Frame::Operand { operand, right })
-            }
+        match self.value_of(program, index, depth) {
+            Some(j) => self.assign_in_row(program, op, to, at, place, row, j, right, depth),
+            None => self.held_row_store(program, op, to, at, place, row, right),
         }
     }
 
-    /// An assignment to an element by the values of its indexes.
-    pub fn assign_row(
+    /// An assignment to an element by the words of its two indexes.
+    #[cycle(parts)]
+    #[inline(always)]
+    pub fn assign_in_row(
         &mut self,
+        program: &'a TypedProgram,
         op: Option<BinaryOp>,
         to: Option<Kind>,
         at: Kind,
         place: Place,
         row: u64,
+        j: u64,
         right: &'a TypedExpr,
-        index: u64,
-    ) -> Result<Move<'a>, AllocError>
-        ensures { IfOk result (Makes
-            (assign_row_step op to at place row right.now index)
-            self.old self.new) }
+        depth: u32,
+    ) -> Option<u64>
+        ensures { Values program.now
+            (with_some (row_element_in_place place row j (view self.old)) (view self.old)
+            (assign_to (meaning program.now) op to at right.now (view self.old))) self.new result }
     {
-        let object = self.store.row_element_of(place, row, index);
-        self.assign_to(op, to, at, right, object)
-    }
-
-    /// `++` and `--` on an element, of which the first index comes first.
-    pub fn bump_by_row(
-        &mut self,
-        op: BumpOp,
-        kind: Option<Kind>,
-        place: Place,
-        row: &'a TypedExpr,
-        index: &'a TypedExpr,
-    ) -> Result<Move<'a>, AllocError>
-        ensures { IfOk result (Makes
-            (Pushes (Of row.now) (FBumpAfterRow op kind place index.now))
-            self.old self.new) }
-    {
-        let operand = Operand::BumpAfterRow { op, kind, place };
-        self.push(
-            Task::Of(row),
-            Frame::Operand {
-                operand,
-                right: index,
+        match op {
+            None => match self.array_of(place) {
+                None => {
+                    self.stop = Stop::Fails(Ending::Undefined);
+                    None
+                }
+                Some(array) => {
+                    let at = self.place_of(array, row, j);
+                    self.assign_in_array(program, array, at, right, depth)
+                }
             },
-        )
+            Some(op) => self.compound_in_row(program, op, to, at, place, row, j, right, depth),
+        }
     }
 
-    /// The second index after the first one.
-    pub fn bump_after_row(
+    // A compound assignment to an element by the words of its two indexes.
+    #[cycle(parts)]
+    #[inline(never)]
+    fn compound_in_row(
         &mut self,
-        op: BumpOp,
-        kind: Option<Kind>,
-        place: Place,
-        index: &'a TypedExpr,
-        row: u64,
-    ) -> Result<Move<'a>, AllocError>
-        ensures { IfOk result (Makes
-            (Pushes (Of index.now) (FBumpRow op kind place row))
-            self.old self.new) }
-    {
-        self.push(
-            Task::Of(index),
-            Frame::BumpRow {
-                op,
-                kind,
-                place,
-                row,
-            },
-        )
-    }
-
-    /// `++` and `--` on an element by the values of its indexes.
-    pub fn bump_row(
-        &mut self,
-        op: BumpOp,
-        kind: Option<Kind>,
+        program: &'a TypedProgram,
+        op: BinaryOp,
+        to: Option<Kind>,
+        at: Kind,
         place: Place,
         row: u64,
-        index: u64,
-    ) -> Move<'a>
-        ensures { Makes (bump_row_step op kind place row index) self.old self.new result }
+        j: u64,
+        right: &'a TypedExpr,
+        depth: u32,
+    ) -> Option<u64>
+        ensures { Values program.now
+            (with_some (row_element_in_place place row j (view self.old)) (view self.old)
+            (assign_to (meaning program.now) (Some op) to at right.now (view self.old))) self.new result }
     {
-        let object = self.store.row_element_of(place, row, index);
-        self.bump_object(op, kind, object)
+        let object = self.row_element_of(place, row, j);
+        self.put_value(program, Some(op), to, at, right, object, depth)
     }
 }

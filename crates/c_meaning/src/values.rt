@@ -1,21 +1,32 @@
 //! Expressions that are evaluated at once, by recursion on their trees to a depth that is bounded.
 
+ghost use Rattle.std.specs.Prelude.{◌≡◌, slice_get};
 ghost use Rattle.c_tree.specs.TypedTrees.{node_of};
 ghost use Rattle.c_meaning_spec.specs.State.{Go, then, spend, load};
-ghost use Rattle.c_meaning_spec.specs.Task.{Of, name as name_of, element as element_in, after_row};
+ghost use Rattle.c_meaning_spec.specs.Task.{Of, name as name_of, element as element_in, after_row, row_element};
+ghost use Rattle.c_meaning_spec.specs.Task.{is_array as is_array_in, has_length};
 ghost use Rattle.c_meaning_spec.specs.Expression.{expression, node, opened, converting, unary};
 ghost use Rattle.c_meaning_spec.specs.Eval.{meaning};
 ghost use Rattle.c_meaning.specs.View.{view};
 ghost use Rattle.c_meaning.specs.Direct.{Values};
 
 use crate::direct::Stop;
-use crate::expression::is_array;
 use crate::frame::Frame;
 use crate::store::Store;
 use crate::words::unary_of;
 use c_constant::convert;
 use c_meaning_spec::{Ending, Object, Signal};
 use c_tree::{Kind, Place, TypedExpr, TypedNode, TypedProgram, UnaryOp};
+
+// Whether a global is an array.
+fn is_array(program: &TypedProgram, g: u32) -> bool
+    ensures { result ≡ is_array_in (slice_get program.now.globals g) }
+{
+    match program.globals.as_slice().get(g as usize) {
+        None => false,
+        Some(global) => global.length.is_some(),
+    }
+}
 
 impl<'a> Store<'a> {
     // The value of a name.
@@ -245,14 +256,31 @@ impl<'a> Store<'a> {
             (after_row (meaning program.now) array index.now)) self.new result }
     {
         match self.value_of(program, row, depth) {
-            Some(i) => match self.value_of(program, index, depth) {
-                Some(j) => {
-                    let object = self.row_element_of(array, i, j);
-                    self.loaded(program, object)
-                }
-                None => self.held_row_element(program, array, i),
-            },
+            Some(i) => self.second_index(program, array, i, index, depth),
             None => self.held_row(program, array, index),
+        }
+    }
+
+    /// An element by the word of its first index.
+    #[cycle(parts)]
+    #[inline(always)]
+    pub fn second_index(
+        &mut self,
+        program: &'a TypedProgram,
+        array: Place,
+        row: u64,
+        index: &'a TypedExpr,
+        depth: u32,
+    ) -> Option<u64>
+        ensures { Values program.now
+            (then (meaning program.now (Of index.now) (view self.old)) (row_element array row)) self.new result }
+    {
+        match self.value_of(program, index, depth) {
+            Some(j) => {
+                let object = self.row_element_of(array, row, j);
+                self.loaded(program, object)
+            }
+            None => self.held_row_element(program, array, row),
         }
     }
 

@@ -3,7 +3,7 @@ use Rattle.c_tree.specs.declared.Callee.TheVariants.{Func}
 use Rattle.c_meaning_spec.specs.State.{Result}
 use Rattle.c_meaning_spec.specs.Call.{called}
 use Rattle.c_meaning_spec.specs.Eval.{meaning}
-use Rattle.c_meaning_steps.specs.Ahead.{IsReached}
+use Rattle.c_meaning.specs.Ahead.{IsReached}
 use Rattle.c_meaning.specs.View.{next, view}
 use Rattle.c_meaning.proofs.Turns.{no_more}
 use Rattle.c_meaning.proofs.machine.Machine.run_main.Goals as goal
@@ -13,6 +13,6 @@ returns c =
     let r = called (meaning c.args.program.now) c.args.program.now (Func c.args.program.now.main) []
     (view c.args.self.now.store) in
     subst (λ (r : Result). IsReached (next c.in_ok-last.last) (view c.go.new.self.store) r)
-    (c.in_ok-first.ensures r c.begin_call-word.ensures
+    (c.in_ok-first.ensures r (c.begin_call-word.ensures [] c.new-list.ensures.items)
     ∙ no_more c.args.program.now r c.args.self.now.stack.items c.requires)
     c.in_ok-last.ensures

@@ -13,22 +13,22 @@ abbrev pub decreases-deeper_value : goal.decreases-deeper_value
 decreases-deeper_value l = 32 * l.depth
 
 abbrev pub decreases-whole_value : goal.decreases-whole_value
-decreases-whole_value l = 32 * l.depth + 10
+decreases-whole_value l = 32 * l.depth + 12
 
 abbrev pub decreases-spent : goal.decreases-spent
-decreases-spent l = 32 * l.depth + 8
+decreases-spent l = 32 * l.depth + 10
 
 abbrev pub decreases-converted : goal.decreases-converted
-decreases-converted l = 32 * l.depth + 9
+decreases-converted l = 32 * l.depth + 11
 
 abbrev pub decreases-opened : goal.decreases-opened
-decreases-opened l = 32 * l.depth + 7
+decreases-opened l = 32 * l.depth + 9
 
 abbrev pub decreases-indexed_value : goal.decreases-indexed_value
 decreases-indexed_value l = 32 * l.depth + 2
 
 abbrev pub decreases-row_value : goal.decreases-row_value
-decreases-row_value l = 32 * l.depth + 2
+decreases-row_value l = 32 * l.depth + 3
 
 abbrev pub decreases-unary_value : goal.decreases-unary_value
 decreases-unary_value l = 32 * l.depth + 2
@@ -40,7 +40,28 @@ abbrev pub decreases-binary_value : goal.decreases-binary_value
 decreases-binary_value l = 32 * l.depth + 4
 
 abbrev pub decreases-operation_value : goal.decreases-operation_value
-decreases-operation_value l = 32 * l.depth + 2
+decreases-operation_value l = 32 * l.depth + 3
+
+abbrev pub decreases-right_value : goal.decreases-right_value
+decreases-right_value l = 32 * l.depth + 2
+
+abbrev pub decreases-second_index : goal.decreases-second_index
+decreases-second_index l = 32 * l.depth + 2
+
+abbrev pub decreases-assign_after_row : goal.decreases-assign_after_row
+decreases-assign_after_row l = 32 * l.depth + 6
+
+abbrev pub decreases-assign_in_row : goal.decreases-assign_in_row
+decreases-assign_in_row l = 32 * l.depth + 5
+
+abbrev pub decreases-compound_in_row : goal.decreases-compound_in_row
+decreases-compound_in_row l = 32 * l.depth + 4
+
+abbrev pub decreases-assign_object : goal.decreases-assign_object
+decreases-assign_object l = 32 * l.depth + 2
+
+abbrev pub decreases-bump_after_row : goal.decreases-bump_after_row
+decreases-bump_after_row l = 32 * l.depth + 2
 
 abbrev pub decreases-truth_value : goal.decreases-truth_value
 decreases-truth_value l = 32 * l.depth + 2
@@ -61,7 +82,7 @@ abbrev pub decreases-comma_value : goal.decreases-comma_value
 decreases-comma_value l = 32 * l.depth + 3
 
 abbrev pub decreases-assign_value : goal.decreases-assign_value
-decreases-assign_value l = 32 * l.depth + 6
+decreases-assign_value l = 32 * l.depth + 8
 
 abbrev pub decreases-assign_name : goal.decreases-assign_name
 decreases-assign_name l = 32 * l.depth + 5
@@ -70,34 +91,34 @@ abbrev pub decreases-assign_scalar : goal.decreases-assign_scalar
 decreases-assign_scalar l = 32 * l.depth + 2
 
 abbrev pub decreases-assign_row_value : goal.decreases-assign_row_value
-decreases-assign_row_value l = 32 * l.depth + 4
+decreases-assign_row_value l = 32 * l.depth + 7
 
 abbrev pub decreases-put_value : goal.decreases-put_value
-decreases-put_value l = 32 * l.depth + 2
+decreases-put_value l = 32 * l.depth + 3
 
 abbrev pub decreases-bump_value : goal.decreases-bump_value
-decreases-bump_value l = 32 * l.depth + 3
+decreases-bump_value l = 32 * l.depth + 4
 
 abbrev pub decreases-assign_element : goal.decreases-assign_element
-decreases-assign_element l = 32 * l.depth + 5
+decreases-assign_element l = 32 * l.depth + 6
 
 abbrev pub decreases-assign_indexed : goal.decreases-assign_indexed
-decreases-assign_indexed l = 32 * l.depth + 4
+decreases-assign_indexed l = 32 * l.depth + 5
 
 abbrev pub decreases-compound_element : goal.decreases-compound_element
-decreases-compound_element l = 32 * l.depth + 3
+decreases-compound_element l = 32 * l.depth + 4
 
 abbrev pub decreases-assign_in_array : goal.decreases-assign_in_array
 decreases-assign_in_array l = 32 * l.depth + 2
 
 abbrev pub decreases-assign_other : goal.decreases-assign_other
-decreases-assign_other l = 32 * l.depth + 3
+decreases-assign_other l = 32 * l.depth + 4
 
 abbrev pub decreases-bump_element : goal.decreases-bump_element
 decreases-bump_element l = 32 * l.depth + 2
 
 abbrev pub decreases-bump_row_value : goal.decreases-bump_row_value
-decreases-bump_row_value l = 32 * l.depth + 2
+decreases-bump_row_value l = 32 * l.depth + 3
 
 abbrev pub decreases-first_argument : goal.decreases-first_argument
 decreases-first_argument l = 32 * l.depth + 6
@@ -174,8 +195,8 @@ decreases-run_if l = 32 * l.depth + 21
 -- what is left of the call is what it was to do
 abbrev pub invariant-call_value-loop-e : goal.invariant-call_value-loop-e
 invariant-call_value-loop-e l =
-    arguments (meaning l.program) l.program l.callee l.rest l.done.items (view l.self)
-    ≡ arguments (meaning l.program) l.program l.callee l.fn.rest l.fn.done.items (view l.fn.self)
+    arguments (meaning l.program) l.program l.callee l.rest l.done (view l.self)
+    ≡ arguments (meaning l.program) l.program l.callee l.fn.rest l.fn.done (view l.fn.self)
 
 abbrev pub decreases-call_value-loop-e : goal.decreases-call_value-loop-e
 decreases-call_value-loop-e l = length l.rest

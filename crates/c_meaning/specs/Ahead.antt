@@ -1,13 +1,11 @@
--- What is ahead of the machine: what a list of frames makes of what comes to it.
-use Rattle.std.specs.Prelude.{◌≡◌, ℕ, ◌*◌, ◌+◌, Bool, true, false, cond, List, [], ◌∷◌, ◌++◌}
-use Rattle.c_tree.specs.declared.TypedNode.TheOpen.{Convert}
+-- What is ahead of the evaluator: what a list of frames makes of what comes to it.
+use Rattle.std.specs.Prelude.{◌≡◌, Bool, true, false, List, [], ◌∷◌, ◌++◌}
 use Rattle.c_tree.specs.declared.TypedProgram.{TypedProgram}
 use Rattle.c_meaning_spec.specs.declared.Signal.{Signal}
 use Rattle.c_meaning_spec.specs.declared.Ending.{Ending}
 use Rattle.c_meaning_spec.specs.State.{State, Result, Go, Over, then, want}
-use Rattle.c_meaning_spec.specs.Task.{Task, Of, Run, Turn, element, row_element, after_row}
+use Rattle.c_meaning_spec.specs.Task.{Task, Turn, element, row_element, after_row}
 use Rattle.c_meaning_spec.specs.Call.{left, arguments}
-use Rattle.c_tree.specs.TypedTrees.{Node, node_of}
 use Rattle.c_meaning_spec.specs.Expression.{converting, unary, operated, after_left, truth}
 use Rattle.c_meaning_spec.specs.Expression.{after_and, after_or, valued, after_choice, after_comma}
 use Rattle.c_meaning_spec.specs.Expression.{assigned, compounded, assign_element, bump_element}
@@ -16,13 +14,12 @@ use Rattle.c_meaning_spec.specs.Statement.{going_on, sequence, dropped, initiali
 use Rattle.c_meaning_spec.specs.Statement.{after_body, after_test, returning, after_switch}
 use Rattle.c_meaning_spec.specs.Statement.{after_sections}
 use Rattle.c_meaning_spec.specs.Eval.{meaning}
-use Rattle.c_meaning_steps.specs.Follow.{Follow, FConverting, FUnary, FElement, FArgument, FLeft, FRight}
-use Rattle.c_meaning_steps.specs.Follow.{FAnd, FOr, FTruth, FValued, FChoice, FComma, FAssignElement}
-use Rattle.c_meaning_steps.specs.Follow.{FAssigned, FCompounded, FBumpElement, FCaller, FDropped}
-use Rattle.c_meaning_steps.specs.Follow.{FInitialised, FSequence, FIf, FThenTurn, FLocals, FTest, FBody}
-use Rattle.c_meaning_steps.specs.Follow.{FAfterRow, FRowElement, FAssignAfterRow, FAssignRow}
-use Rattle.c_meaning_steps.specs.Follow.{FBumpAfterRow, FBumpRow, FSwitch, FSections}
-use Rattle.c_meaning_steps.specs.Follow.{FReturning, Step, Pushes, Does, Gives, Ends, Behind}
+use Rattle.c_meaning.specs.Follow.{Follow, FConverting, FUnary, FElement, FArgument, FLeft, FRight}
+use Rattle.c_meaning.specs.Follow.{FAnd, FOr, FTruth, FValued, FChoice, FComma, FAssignElement}
+use Rattle.c_meaning.specs.Follow.{FAssigned, FCompounded, FBumpElement, FCaller, FDropped}
+use Rattle.c_meaning.specs.Follow.{FInitialised, FSequence, FIf, FThenTurn, FLocals, FTest, FBody}
+use Rattle.c_meaning.specs.Follow.{FAfterRow, FRowElement, FAssignAfterRow, FAssignRow}
+use Rattle.c_meaning.specs.Follow.{FBumpAfterRow, FBumpRow, FSwitch, FSections, FReturning}
 
 -- what is to be done next
 pub data Next : Type 0 where
@@ -76,48 +73,11 @@ unfoldable pub unwind_of : TypedProgram → List Follow → Signal → State →
 unwind_of P [] v s = Go v s
 unwind_of P (f ∷ fs) v s = then (back_of P f v s) (unwind_of P fs)
 
--- what a move means by itself, and before a list of frames
-abbrev pub settle_of : TypedProgram → Step → Result
-settle_of P (Pushes t f s) = then (meaning P t s) (back_of P f)
-settle_of P (Does t s) = meaning P t s
-settle_of P (Gives v s) = Go v s
-settle_of P (Ends why s) = Over why s
-settle_of P (Behind f step) = then (settle_of P step) (back_of P f)
-
--- what a move means before a list of frames
-abbrev pub ahead_of : TypedProgram → Step → List Follow → Result
-ahead_of P (Pushes t f s) fs = then (meaning P t s) (unwind_of P (f ∷ fs))
-ahead_of P (Does t s) fs = then (meaning P t s) (unwind_of P fs)
-ahead_of P (Gives v s) fs = unwind_of P fs v s
-ahead_of P (Ends why s) fs = Over why s
-ahead_of P (Behind f step) fs = ahead_of P step (f ∷ fs)
-
 -- what is ahead of what is to be done next, before a list of frames
 abbrev pub ahead_next : TypedProgram → Next → List Follow → State → Result
 ahead_next P (ToDo t) fs s = then (meaning P t s) (unwind_of P fs)
 ahead_next P (Given v) fs s = unwind_of P fs v s
 ahead_next P (Ended why) fs s = Over why s
-
--- whether a node is a conversion
-abbrev pub is_conversion : Node → Bool
-is_conversion (Convert to e) = true
-is_conversion _ = false
-
--- how much is still to be done: each move makes it less
-abbrev pub task_rank : Task → ℕ
-task_rank (Of e) = cond (is_conversion (node_of e)) 3 1
-task_rank (Run st) = 1
-task_rank (Turn test post body) = 5
-
--- how much is to be done next
-abbrev pub next_rank : Next → ℕ
-next_rank (ToDo t) = task_rank t
-next_rank (Given v) = 6
-next_rank (Ended why) = 0
-
--- how much is still to be done, with the steps of the stock and the frames
-abbrev pub rank : Next → ℕ → ℕ → ℕ
-rank n stock count = 8 * stock + (count + next_rank n)
 
 -- whether a list has nothing
 abbrev pub is_empty : {A : Type 0} → List A → Bool
@@ -135,16 +95,3 @@ abbrev pub IsReached : Next → State → Result → Type 0
 IsReached (ToDo t) s r = ⊥
 IsReached (Given v) s r = r ≡ Go v s
 IsReached (Ended why) s r = r ≡ Over why s
-
--- nothing is given
-abbrev pub NotGiven : Next → Type 0
-NotGiven (Given v) = ⊥
-NotGiven _ = Unit {0}
-
--- what is done next, the state and the frames after a step
-abbrev pub IsStep : Step → Next → State → List Follow → List Follow → Type 0
-IsStep (Pushes t f s) n s' before after = (n ≡ ToDo t) × (s' ≡ s) × (after ≡ f ∷ before)
-IsStep (Does t s) n s' before after = (n ≡ ToDo t) × (s' ≡ s) × (after ≡ before)
-IsStep (Gives v s) n s' before after = (n ≡ Given v) × (s' ≡ s) × (after ≡ before)
-IsStep (Ends why s) n s' before after = (n ≡ Ended why) × (s' ≡ s) × (after ≡ before)
-IsStep (Behind f step) n s' before after = IsStep step n s' (f ∷ before) after × NotGiven n

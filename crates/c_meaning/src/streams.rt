@@ -1,0 +1,64 @@
+//! `getchar` and `putchar`, which are done at once.
+
+ghost use Rattle.std.specs.Prelude.{◌≡◌, List, ℕ, map, Some};
+ghost use Rattle.c_meaning_spec.specs.Call.{get_char as get_char_of, put_char as put_char_of, read_from};
+ghost use Rattle.c_meaning.specs.View.{view};
+ghost use Rattle.c_meaning.specs.Direct.{Values};
+
+use crate::direct::Stop;
+use crate::store::Store;
+use c_meaning_spec::Ending;
+use c_tree::TypedProgram;
+
+impl<'a> Store<'a> {
+    /// `getchar` takes no argument.
+    #[inline(never)]
+    pub fn next_char(&mut self, program: &'a TypedProgram, done: &[Option<u64>]) -> Option<u64>
+        ensures { (ws : List ℕ) → done.now ≡ map Some ws
+            → Values program.now (get_char_of ws (view self.old)) self.new result }
+    {
+        match done {
+            [] => self.next_byte(program),
+            _ => {
+                self.stop = Stop::Fails(Ending::Undefined);
+                None
+            },
+        }
+    }
+
+    // The next byte of the input, and -1 at its end.
+    fn next_byte(&mut self, program: &'a TypedProgram) -> Option<u64>
+        ensures { Values program.now (read_from (view self.old).input (view self.old)) self.new result }
+    {
+        match self.input.split_first() {
+            None => Some(0xffff_ffff_ffff_ffff),
+            Some((b, rest)) => {
+                self.input = rest;
+                Some(*b as u64)
+            }
+        }
+    }
+
+    /// `putchar` puts out the low byte of its argument.
+    #[inline(never)]
+    pub fn put_char(&mut self, program: &'a TypedProgram, done: &[Option<u64>]) -> Option<u64>
+        ensures { (ws : List ℕ) → done.now ≡ map Some ws
+            → Values program.now (put_char_of ws (view self.old)) self.new result }
+    {
+        match done {
+            [Some(w)] => {
+                match self.output.push((*w % 256) as u8) {
+                    Ok(()) => Some(*w % 256),
+                    Err(_) => {
+                        self.stop = Stop::Memory;
+                        None
+                    }
+                }
+            }
+            _ => {
+                self.stop = Stop::Fails(Ending::Undefined);
+                None
+            },
+        }
+    }
+}

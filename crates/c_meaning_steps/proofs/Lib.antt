@@ -1,6 +1,0 @@
-pub mod Operands
-pub mod ExpressionMoves
-pub mod Moves
-pub mod Stocks
-pub mod ExpressionRanks
-pub mod Ranks
