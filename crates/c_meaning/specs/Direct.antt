@@ -50,11 +50,6 @@ signal_of ran.Continues w = Continues
 signal_of ran.Returns w = Returns w
 signal_of _ w = Breaks
 
--- a statement was run to its end
-abbrev pub IsEnd : Ran → Type 0
-IsEnd ran.Stops = ⊥
-IsEnd _ = Unit {0}
-
 -- what a turn of a loop means: where it continues, the next turn is due
 abbrev pub turned_told : TypedProgram → Loop → Ran → Store → Result → Result
 turned_told P l ran.Continues m r = meaning P (Turn (behind l.test) (behind l.post) l.body.now) (view m)
