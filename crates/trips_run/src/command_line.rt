@@ -1,90 +1,18 @@
-//! The request of the words, what it reads its file as, and how its work is done.
+//! The request of the words, and what is answered to it.
 
-ghost use Rattle.std.specs.Prelude.{◌≡◌, ◌<◌, IfOk, IfSome, option_map};
-ghost use Rattle.trips_run.specs.Request.{form_named, form_of, placing_of, settings_of, request_of, request_seen};
+ghost use Rattle.std.specs.Prelude.{◌≡◌, ◌<◌, ◌≤◌, IfOk, IfSome, option_map};
+ghost use Rattle.trips_outside.specs.Outside.{Rose};
+ghost use Rattle.trips_answers.specs.Request.{request_of, request_seen};
+ghost use Rattle.trips_answers.specs.Answer.{IsAnswer};
 
-use grid_place::Placing;
 use std::alloc::{AllocError, Global};
-use trips_report::Show;
-use trips_words::{Asked, Command, request};
+use trips_answers::{Answer, answer_to};
+use trips_outside::Files;
+use trips_requests::Asked;
+use trips_words::request;
 
-/// What a file is read as.
-#[derive(Clone, Copy, Debug, PartialEq, Eq)]
-pub enum FileForm {
-    Source,
-    Target,
-    Image,
-}
-
-/// How the work of a request is done.
-#[derive(Clone, Copy, Debug)]
-pub struct Settings {
-    /// how the blocks of a compiled program are placed
-    pub placing: Placing,
-    /// the seed of the grid's predictor and of its network's delays
-    pub seed: u64,
-    /// how many blocks or steps it may take
-    pub most: u32,
-    /// what the report of a run shows behind its ending
-    pub show: Show,
-}
-
-// What `run` reads a file as, by the ending of its name.
-fn form_named(file: &str) -> FileForm
-    ensures { result ≡ form_named file.now }
-{
-    let bytes = file.as_bytes();
-    if bytes.ends_with(b".img") {
-        FileForm::Image
-    } else if bytes.ends_with(b".tasl") {
-        FileForm::Target
-    } else {
-        FileForm::Source
-    }
-}
-
-/// What a command reads a file as.
-pub fn form_of(command: Command, file: &str) -> FileForm
-    ensures { result ≡ form_of command file.now }
-{
-    match command {
-        Command::Run => form_named(file),
-        Command::Evaluate => FileForm::Source,
-        Command::Compile => FileForm::Source,
-        Command::Assemble => FileForm::Target,
-        Command::Disassemble => FileForm::Image,
-        Command::Check => FileForm::Image,
-    }
-}
-
-// How compiled blocks are placed, by the number that is said.
-fn placing_of(place: Option<u64>) -> Placing
-    ensures { result ≡ placing_of place }
-{
-    match place {
-        None => Placing::Greedy,
-        Some(number) => Placing::Seeded(number),
-    }
-}
-
-/// How the work of a request is done.
-pub fn settings_for(asked: Asked<'_>) -> Settings
-    ensures { result ≡ settings_of (request_seen asked.entry) }
-{
-    Settings {
-        placing: placing_of(asked.place),
-        seed: asked.seed,
-        most: asked.most,
-        show: Show {
-            regs: asked.regs,
-            trace: asked.trace,
-            cycles: asked.cycles,
-        },
-    }
-}
-
-/// The request of the words, and none where they make none. Want of memory is the only error.
-pub fn asked_by(alloc: Global, words: &[String]) -> Result<Option<Asked<'_>>, AllocError>
+// The request of the words, and none where they make none. Want of memory is the only error.
+fn asked_by(alloc: Global, words: &[String]) -> Result<Option<Asked<'_>>, AllocError>
     ensures asked { IfOk result (λ asked. option_map request_seen asked ≡ request_of words.now) }
     ensures some { IfOk result (λ asked. IfSome asked (λ request. 0 < request.most)) }
 {
@@ -92,4 +20,19 @@ pub fn asked_by(alloc: Global, words: &[String]) -> Result<Option<Asked<'_>>, Al
         Ok(asked) => Ok(asked),
         Err(_) => Err(AllocError),
     }
+}
+
+/// What is answered to the words. Nothing is written yet.
+pub fn answer_for<F: Files>(
+    alloc: Global,
+    words: &[String],
+    files: &mut F,
+) -> Result<Answer, AllocError>
+    ensures answer { IfOk result (λ answer. IsAnswer (request_of words.now) (F.held files.old)
+        (Rose (F.faults files.old) (F.faults files.new)) answer.status answer.report.items) }
+    ensures kept { F.held files.new ≡ F.held files.old }
+    ensures later { F.faults files.old ≤ F.faults files.new }
+{
+    let asked = asked_by(alloc, words)?;
+    answer_to(alloc, files, asked)
 }

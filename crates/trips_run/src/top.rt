@@ -13,24 +13,24 @@ ghost use Rattle.trips_outside.specs.Outside.{Rose, Appended};
 ghost use Rattle.target_asm_spec.specs.Text.{TargetText};
 ghost use Rattle.trips_report.specs.declared.show.Show.{Show};
 ghost use Rattle.trips_tools.specs.Tools.{IsOneImage, IsGoodImage};
-ghost use Rattle.trips_words.specs.declared.commands.Command.{Command as Work};
-ghost use Rattle.trips_words.specs.declared.commands.Command.TheVariants.{Run, Evaluate, Compile};
-ghost use Rattle.trips_words.specs.declared.commands.Command.TheVariants.{Assemble, Disassemble, Check};
-ghost use Rattle.trips_run.specs.declared.command_line.FileForm.{FileForm};
-ghost use Rattle.trips_run.specs.declared.command_line.FileForm.TheVariants as form;
-ghost use Rattle.trips_run.specs.Request.{Request, request_of, settings_with};
+ghost use Rattle.trips_requests.specs.declared.commands.Command.{Command as Work};
+ghost use Rattle.trips_requests.specs.declared.commands.Command.TheVariants.{Run, Evaluate, Compile};
+ghost use Rattle.trips_requests.specs.declared.commands.Command.TheVariants.{Assemble, Disassemble, Check};
+ghost use Rattle.trips_answers.specs.declared.forms.FileForm.{FileForm};
+ghost use Rattle.trips_answers.specs.declared.forms.FileForm.TheVariants as form;
+ghost use Rattle.trips_answers.specs.Request.{Request, request_of, settings_with};
 ghost use Rattle.trips_report.specs.Evaluations.{eval_report};
 ghost use Rattle.trips_report.specs.Refusals.{too_large_text};
-ghost use Rattle.trips_run.specs.Refused.{IsRefusedAs, MayBeRefused, IsRefused};
-ghost use Rattle.trips_run.specs.Worked.{status_of, eval_status, outcome_of};
-ghost use Rattle.trips_run.specs.Report.{ending_of, run_report};
-ghost use Rattle.trips_run.specs.Table.{IsAnswered, IsCutOff, IsOneOf, ended_report, full_report, Asks, AsksFor};
-ghost use Rattle.trips_run.specs.Table.{HasLargeFile, HasLargeInput, EndsAs, EvalEnds, IsReported};
-ghost use Rattle.trips_run.specs.Evaluated.{RunEndsAs};
+ghost use Rattle.trips_answers.specs.Refused.{IsRefusedAs, MayBeRefused, IsRefused};
+ghost use Rattle.trips_answers.specs.Worked.{status_of, eval_status, outcome_of};
+ghost use Rattle.trips_answers.specs.Report.{ending_of, run_report};
+ghost use Rattle.trips_answers.specs.Table.{IsAnswered, IsCutOff, IsOneOf, ended_report, full_report, Asks, AsksFor};
+ghost use Rattle.trips_answers.specs.Table.{HasLargeFile, HasLargeInput, EndsAs, EvalEnds, IsReported};
+ghost use Rattle.trips_answers.specs.Evaluated.{RunEndsAs};
 
-use crate::asked_answer::answer_for;
-use crate::status::Status;
+use crate::command_line::answer_for;
 use std::alloc::Global;
+use trips_answers::Status;
 use trips_outside::{Files, Sink, write_all};
 
 /// Does what the words ask, and answers the exit status. `words` are the command line without the

@@ -9,12 +9,12 @@ use Rattle.clap.specs.declared.parser.matches.ArgMatches.{ArgMatches}
 use Rattle.clap.specs.Simple.{App, app_of, app_of_fields, on_top}
 use Rattle.clap.specs.declared.builder.command.Command.{Command as ClapCommand}
 use Rattle.clap.specs.declared.builder.command.Command.TheViews.{out-Command}
-use Rattle.trips_words.specs.declared.commands.Verb.{Verb}
-use Rattle.trips_words.specs.declared.commands.Verb.TheVariants as verb
-use Rattle.trips_words.specs.Words.{Text, Named, Said, file_name, value_said}
-use Rattle.trips_words.specs.Options.{run_options, bench_options, eval_options, compile_options, options_of}
-use Rattle.trips_words.specs.Options.{counted, is_on, Options}
-use Rattle.trips_words.specs.Requests.{Request, verb_named, request_of, request_by, asked}
+use Rattle.trips_requests.specs.declared.commands.Verb.{Verb}
+use Rattle.trips_requests.specs.declared.commands.Verb.TheVariants as verb
+use Rattle.trips_requests.specs.Words.{Text, Named, Said, file_name, value_said}
+use Rattle.trips_requests.specs.Options.{run_options, bench_options, eval_options, compile_options, options_of}
+use Rattle.trips_requests.specs.Options.{counted, is_on, Options}
+use Rattle.trips_requests.specs.Requests.{Request, verb_named, request_of, request_by, asked}
 use Rattle.trips_words.specs.Read.{IsRead, is_flag, or_off, FindsSaid, Tells}
 
 pub run_read : IsRead (codes "run") run_options
@@ -51,16 +51,6 @@ no_options verb.Compile r b e c = absurd (c refl)
 no_options verb.Assemble r b e c = refl
 no_options verb.Disassemble r b e c = refl
 no_options verb.Check r b e c = refl
-
--- and their number counts steps
-pub counts_steps : (k : Verb) → (k ≡ verb.Run → ⊥) → (k ≡ verb.Bench → ⊥) → codes "steps" ≡ counted k
-counts_steps verb.Run r b = absurd (r refl)
-counts_steps verb.Bench r b = absurd (b refl)
-counts_steps verb.Evaluate r b = refl
-counts_steps verb.Compile r b = refl
-counts_steps verb.Assemble r b = refl
-counts_steps verb.Disassemble r b = refl
-counts_steps verb.Check r b = refl
 
 -- requests ----------------------------------------------------------------------------------------
 

@@ -1,6 +1,6 @@
 -- Words with dashes, as the parse takes them.
 use Rattle.std.proofs.Common.{◌≡◌, ◌∙◌, refl, sym, ap, ap₂, Bool, cond, true, false, true≢false, ℕ}
-use Rattle.std.proofs.Common.{List, [], ◌∷◌, length, drop, Some, None, codes, arith, eqb-true}
+use Rattle.std.proofs.Common.{List, [], ◌∷◌, length, Some, None, codes, arith, eqb-true}
 use Rattle.std.specs.Prelude.{◌==◌, ◌&&◌, option_and_then, slice_get}
 use Rattle.std.specs.Str.{all_scalars, bytes_eq, chars, encode_utf8_all, IsUtf8}
 use Rattle.std.proofs.lemmas.Slice.Eq.{bytes_eq-Decides}
@@ -8,7 +8,7 @@ use Rattle.std.proofs.lemmas.Option.{none-some, cond_some}
 use Rattle.std.proofs.lemmas.Str.{IsUtf8-drop, IsCharBoundary-after_ascii, chars-encodes}
 use Rattle.clap.specs.Lexer.{long_of, long_of_rest, short_of, short_of_rest, strip_byte}
 use Rattle.clap.proofs.WalkLemmas.{both}
-use Rattle.trips_words.specs.Words.{Text, is_dashed, behind_dashes, name_in, value_in}
+use Rattle.trips_requests.specs.Words.{Text, is_dashed, behind_dashes, name_in, value_in}
 
 -- two dashes alone
 abbrev pub dashes : Text

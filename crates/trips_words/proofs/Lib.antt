@@ -1,4 +1,3 @@
-pub mod Digits
 pub mod Rules
 pub mod Rows
 pub mod Faults
@@ -9,5 +8,3 @@ pub mod Walks
 pub mod Defaults
 pub mod Matches
 pub mod CommandLemmas
-pub mod Counts
-pub mod StandardFacts

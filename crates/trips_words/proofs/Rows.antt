@@ -8,7 +8,7 @@ use Rattle.clap.specs.Walk.{Row, at_row, has_row, more_values, with_values, with
 use Rattle.clap.specs.declared.builder.value_parser.Reading.TheVariants.{AsWritten}
 use Rattle.clap.specs.declared.parser.matches.ValueSource.TheVariants.{CommandLine}
 use Rattle.clap.proofs.WalkLemmas.{list_any-map}
-use Rattle.trips_words.specs.Words.{Text, Said, file_name, is_said}
+use Rattle.trips_requests.specs.Words.{Text, Said, file_name, is_said}
 
 abbrev pub row_for : Text × Text → Row
 row_for s = record {

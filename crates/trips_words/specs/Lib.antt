@@ -1,5 +1,1 @@
-pub mod Words
-pub mod Options
-pub mod Requests
-pub mod Numbers
 pub mod Read

@@ -9,7 +9,7 @@ use Rattle.clap.specs.Matches.{found_of, first_value}
 use Rattle.clap.specs.declared.builder.action.ArgAction.TheVariants.{Set, SetTrue}
 use Rattle.clap.specs.declared.builder.value_parser.ValueParser.TheVariants as parser
 use Rattle.clap.specs.declared.parser.matches.ArgMatches.{ArgMatches}
-use Rattle.trips_words.specs.Words.{Text, Named, valued, flag, named, Said, file_name, value_said}
+use Rattle.trips_requests.specs.Words.{Text, Named, valued, flag, named, Said, file_name, value_said}
 
 -- the argument that reads an option
 abbrev pub raw_rule : Named → Rule

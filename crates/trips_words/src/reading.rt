@@ -3,15 +3,15 @@
 ghost use Rattle.std.specs.Prelude.{◌≡◌, ◌≢◌, List, [], IfOk, None, false, codes, drop, map, string_bytes};
 ghost use Rattle.clap.specs.Words.{rule_of, app_of, kind_of};
 ghost use Rattle.clap.specs.declared.error.kind.ErrorKind.TheVariants.{OutOfMemory};
-ghost use Rattle.trips_words.specs.Words.{Text, Named, words_read, valued, flag};
-ghost use Rattle.trips_words.specs.Options.{options_of, run_options, bench_options, eval_options, compile_options};
+ghost use Rattle.trips_requests.specs.Words.{Text, Named, words_read, valued, flag};
+ghost use Rattle.trips_requests.specs.Options.{options_of, run_options, bench_options, eval_options, compile_options};
 ghost use Rattle.trips_words.specs.Read.{raw_rule, raw_app, IsRead, Tells};
 
-use crate::commands::Verb;
 use base::Memory;
 use clap::error::ErrorKind;
 use clap::{Arg, ArgAction, ArgMatches, Error};
 use std::alloc::{AllocError, Global};
+use trips_requests::Verb;
 
 // The name under which the file stands.
 const FILE: &str = "FILE";

@@ -4,7 +4,7 @@ use crate::requests::{PLAIN, assert_asked};
 use std::alloc::{AllocError, Global};
 use std::process::Abort;
 use std::test::Fail;
-use trips_words::{Asked, Command};
+use trips_requests::{Asked, Command};
 
 /// Words, and the request that they make.
 type Row = (&'static [&'static str], Asked<'static>);

@@ -2,7 +2,8 @@
 
 use std::alloc::{AllocError, Global};
 use std::process::Abort;
-use trips_words::{Asked, Command, request};
+use trips_requests::{Asked, Command};
+use trips_words::request;
 
 /// A run of a.c with nothing asked besides.
 pub const PLAIN: Asked<'static> = Asked {

@@ -1,6 +1,6 @@
-use Rattle.trips_run.proofs.Causes as causes
-use Rattle.trips_run.proofs.Reported as reported
-use Rattle.trips_run.proofs.ShownRuns as shown
+use Rattle.trips_answers.proofs.Causes as causes
+use Rattle.trips_answers.proofs.Reported as reported
+use Rattle.trips_answers.proofs.ShownRuns as shown
 use Rattle.trips_run.proofs.top.trips_run.Goals as goal
 
 pub returns-in-Ok-write_all-clause-answered : goal.returns-in-Ok-write_all-clause-answered

@@ -1,6 +1,6 @@
 use Rattle.std.proofs.Common.{◌∙◌, ap, codes}
 use Rattle.clap.specs.Matches.{found_of, first_value}
-use Rattle.trips_words.specs.Options.{options_of, counted, is_on}
+use Rattle.trips_requests.specs.Options.{options_of, counted, is_on}
 use Rattle.trips_words.proofs.CommandLemmas.{no_flag_input, no_flag_count, no_flag_place, found_said, found_on}
 use Rattle.trips_words.proofs.CommandLemmas.{no_flag_seed, same_options}
 use Rattle.trips_words.proofs.asking.options_found.Goals as goal

@@ -1,7 +1,7 @@
 use Rattle.std.proofs.Common.{◌∙◌, sym}
 use Rattle.std.proofs.lemmas.Result.{IfOk-weaker}
 use Rattle.trips_words.proofs.CommandLemmas.{asked_first, asked_none}
-use Rattle.trips_words.proofs.Counts.{some_blocks}
+use Rattle.trips_requests.proofs.Counts.{some_blocks}
 use Rattle.trips_words.proofs.asking.request.Goals as goal
 
 pub returns-in-None-clause-ok : goal.returns-in-None-clause-ok

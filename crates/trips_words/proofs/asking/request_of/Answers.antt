@@ -1,7 +1,7 @@
 use Rattle.std.proofs.Common.{◌∙◌, ap₂}
-use Rattle.trips_words.specs.Words.{file_name}
-use Rattle.trips_words.specs.Requests.{request_with}
-use Rattle.trips_words.specs.Options.{options_of}
+use Rattle.trips_requests.specs.Words.{file_name}
+use Rattle.trips_requests.specs.Requests.{request_with}
+use Rattle.trips_requests.specs.Options.{options_of}
 use Rattle.trips_words.proofs.CommandLemmas.{no_flag_file, found_said}
 use Rattle.trips_words.proofs.asking.request_of.Goals as goal
 

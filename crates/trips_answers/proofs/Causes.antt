@@ -1,0 +1,192 @@
+-- The causes of the answers, from the table.
+use Rattle.std.proofs.Common.{◌≡◌, ◌≢◌, ℕ, List, [], ◌∷◌, Option, None, Some, ◌⊎◌, inl, inr}
+use Rattle.std.proofs.Common.{refl, ap, sym, subst, true, false}
+use Rattle.trips_outside.specs.Outside.{Appended}
+use Rattle.trips_requests.specs.declared.commands.Command.{Command as Work}
+use Rattle.trips_requests.specs.declared.commands.Command.TheVariants.{Run, Evaluate}
+use Rattle.trips_answers.specs.declared.forms.FileForm.{FileForm}
+use Rattle.trips_answers.specs.declared.forms.FileForm.TheVariants as form
+use Rattle.trips_answers.specs.declared.status.Status.{Status}
+use Rattle.trips_answers.specs.declared.status.Status.TheVariants as status
+use Rattle.trips_answers.specs.Request.{Request, settings_of}
+use Rattle.trips_answers.specs.Refused.{MayBeRefused, IsRefused}
+use Rattle.trips_answers.specs.Worked.{IsWorked}
+use Rattle.trips_answers.specs.Answer.{IsAnswer}
+use Rattle.trips_answers.specs.Table.{IsAnswered, IsCutOff, IsOneOf}
+use Rattle.trips_answers.specs.Table.{EndsAs, EvalEnds}
+use Rattle.trips_answers.specs.Evaluated.{RunEndsAs}
+use Rattle.trips_answers.proofs.Rows.{kind, usage_row, read_fault_row, refused_row, no_row}
+use Rattle.trips_answers.proofs.Rows.{usage_comes_row}
+use Rattle.trips_answers.proofs.Rows.{refused_comes_row, is_told}
+use Rattle.trips_answers.proofs.Compiled.{run_ends_as}
+use Rattle.trips_answers.proofs.Ends.{ends_row, undefined_row}
+
+module _ (held : List ℕ → Option (List ℕ)) (rose : Type 0) (old new : Option (List ℕ))
+    (cut : Type 0) (q : Option Request) where
+  -- the whole report was written
+  IsWhole : Status → Type 0
+  IsWhole s = (report : List ℕ) × IsAnswer q held rose s report × Appended old new report
+
+  -- nothing was written, a part, or the whole
+  split : (s : Status) → IsAnswered q held rose old new cut s → (s ≡ status.Memory)
+      ⊎ (((s ≡ status.WriteFault) × cut) ⊎ IsWhole s)
+  unfolding IsWhole
+  split status.Memory a = inl refl
+  split status.WriteFault a = inr (inl (refl, a.0))
+  split status.Ended a = inr (inr a)
+  split status.Usage a = inr (inr a)
+  split status.ReadFault a = inr (inr a)
+  split status.Refused a = inr (inr a)
+  split status.Budget a = inr (inr a)
+  split status.StackFull a = inr (inr a)
+  split status.Trap a = inr (inr a)
+  split status.Undefined a = inr (inr a)
+
+  -- a whole report makes the row of its status
+  pub whole : (s : Status) (report : List ℕ) → IsAnswer q held rose s report
+      → Appended old new report → IsAnswered q held rose old new cut s
+  whole status.Memory report a w =
+      absurd (no_row q held rose status.Memory (kind q held rose status.Memory report a) (inl refl))
+  whole status.WriteFault report a w =
+      absurd (no_row q held rose status.WriteFault (kind q held rose status.WriteFault report a)
+      (inr refl))
+  whole status.Ended report a w = (report, a, w)
+  whole status.Usage report a w = (report, a, w)
+  whole status.ReadFault report a w = (report, a, w)
+  whole status.Refused report a w = (report, a, w)
+  whole status.Budget report a w = (report, a, w)
+  whole status.StackFull report a w = (report, a, w)
+  whole status.Trap report a w = (report, a, w)
+  whole status.Undefined report a w = (report, a, w)
+
+  pub usage_only : (s : Status) → IsAnswered q held rose old new cut s → s ≡ status.Usage → q ≡ None
+  usage_only s a e =
+      let row = subst (IsAnswered q held rose old new cut) e a in
+      usage_row q held rose status.Usage (kind q held rose status.Usage row.0 row.1) refl
+
+  pub read_fault : (s : Status) → IsAnswered q held rose old new cut s → s ≡ status.ReadFault → rose
+  read_fault s a e =
+      let row = subst (IsAnswered q held rose old new cut) e a in
+      read_fault_row q held rose status.ReadFault
+      (kind q held rose status.ReadFault row.0 row.1) refl
+
+  pub refused_only : (s : Status) → IsAnswered q held rose old new cut s → s ≡ status.Refused
+      → MayBeRefused q held
+  refused_only s a e =
+      let row = subst (IsAnswered q held rose old new cut) e a in
+      refused_row q held rose status.Refused (kind q held rose status.Refused row.0 row.1) refl
+
+  pub write_fault : (s : Status) → IsAnswered q held rose old new cut s → s ≡ status.WriteFault
+      → cut
+  write_fault s a e = (subst (IsAnswered q held rose old new cut) e a).0
+
+  pub cut_off : (s : Status) → IsAnswered q held rose old new cut s → s ≡ status.WriteFault
+      → IsCutOff q held rose old new
+  cut_off s a e = (subst (IsAnswered q held rose old new cut) e a).1
+
+  pub memory : (s : Status) → IsAnswered q held rose old new cut s → s ≡ status.Memory
+      → Appended old new []
+  memory s a e = subst (IsAnswered q held rose old new cut) e a
+
+  pub usage_comes : (s : Status) → IsAnswered q held rose old new cut s → q ≡ None
+      → IsOneOf s (status.Usage ∷ status.Memory ∷ status.WriteFault ∷ [])
+  unfolding IsWhole
+  usage_comes s a e = elim (split s a) [
+    | inl m ↦ inr (inl m)
+    | inr (inl w) ↦ inr (inr (inl w.0))
+    | inr (inr row) ↦ inl (usage_comes_row q held rose s row.0 row.1 e)
+  ]
+
+  pub refused_comes : (s : Status) → IsAnswered q held rose old new cut s → IsRefused q held
+      → IsOneOf s (status.Refused ∷ status.ReadFault ∷ status.Memory ∷ status.WriteFault ∷ [])
+  unfolding IsWhole
+  refused_comes s a out = elim (split s a) [
+    | inl m ↦ inr (inr (inl m))
+    | inr (inl w) ↦ inr (inr (inr (inl w.0)))
+    | inr (inr row) ↦ elim (refused_comes_row q held rose s (kind q held rose s row.0 row.1) out)
+        [ inl r ↦ inl r | inr f ↦ inr (inl f) ]
+  ]
+
+  -- the whole report was written, where no write failed and memory was not refused
+  pub whole_of : (s : Status) → IsAnswered q held rose old new cut s → (cut → ⊥) → s ≢ status.Memory
+      → (report : List ℕ) × IsAnswer q held rose s report × Appended old new report
+  unfolding IsWhole
+  whole_of s a c m = elim (split s a) [
+    | inl none ↦ absurd (m none)
+    | inr (inl w) ↦ absurd (c w.1)
+    | inr (inr row) ↦ row
+  ]
+
+  pub undefined_only : (s : Status) → IsAnswered q held rose old new cut s → s ≡ status.Undefined
+      → EvalEnds q held s
+  undefined_only s a e =
+      let row = subst (IsAnswered q held rose old new cut) e a in
+      subst (EvalEnds q held) (sym e)
+      (undefined_row q held rose status.Undefined row.0 row.1 refl)
+
+  not_memory : (s : Status) → is_told s ≡ true → s ≡ status.Memory → ⊥
+  unfolding is_told
+  not_memory s t e = let none : is_told s ≡ false = ap is_told e in absurd (cc)
+
+  not_cut : (s : Status) → is_told s ≡ true → s ≡ status.WriteFault → ⊥
+  unfolding is_told
+  not_cut s t e = let none : is_told s ≡ false = ap is_told e in absurd (cc)
+
+  -- work whose end is told
+  ends : (s : Status) → IsAnswered q held rose old new cut s → (x : Request) → q ≡ Some x
+      → is_told s ≡ true → EndsAs held x s
+  unfolding IsWhole
+  ends s a x e told = elim (split s a) [
+    | inl none ↦ absurd (not_memory s told none)
+    | inr (inl w) ↦ absurd (not_cut s told w.0)
+    | inr (inr row) ↦ ends_row q held rose s row.0 x row.1 e told
+  ]
+
+  eval_told : (s : Status)
+      → IsOneOf s (status.Ended ∷ status.Budget ∷ status.StackFull ∷ status.Undefined ∷ [])
+      → is_told s ≡ true
+  unfolding is_told
+  eval_told s (inl e) = ap is_told e
+  eval_told s (inr (inl e)) = ap is_told e
+  eval_told s (inr (inr (inl e))) = ap is_told e
+  eval_told s (inr (inr (inr (inl e)))) = ap is_told e
+  eval_told s (inr (inr (inr (inr none)))) = absurd none
+
+  pub eval_ends : (s : Status) → IsAnswered q held rose old new cut s → (x : Request)
+      → q ≡ Some x → x.work ≡ Evaluate
+      → IsOneOf s (status.Ended ∷ status.Budget ∷ status.StackFull ∷ status.Undefined ∷ [])
+      → EndsAs held x s
+  eval_ends s a x e w one = ends s a x e (eval_told s one)
+
+  -- what is made of a file
+  pub made_ends : (s : Status) → IsAnswered q held rose old new cut s → (x : Request)
+      → q ≡ Some x → s ≡ status.Ended → EndsAs held x s
+  unfolding is_told
+  made_ends s a x e is = ends s a x e (ap is_told is)
+
+  run_told : (s : Status)
+      → IsOneOf s (status.Ended ∷ status.Budget ∷ status.StackFull ∷ status.Trap ∷ [])
+      → is_told s ≡ true
+  unfolding is_told
+  run_told s (inl e) = ap is_told e
+  run_told s (inr (inl e)) = ap is_told e
+  run_told s (inr (inr (inl e))) = ap is_told e
+  run_told s (inr (inr (inr (inl e)))) = ap is_told e
+  run_told s (inr (inr (inr (inr none)))) = absurd none
+
+  pub run_ends : (s : Status) → IsAnswered q held rose old new cut s → (x : Request)
+      → q ≡ Some x → x.work ≡ Run
+      → IsOneOf s (status.Ended ∷ status.Budget ∷ status.StackFull ∷ status.Trap ∷ [])
+      → EndsAs held x s
+  run_ends s a x e w one = ends s a x e (run_told s one)
+
+  -- a text's run whose end is told
+  pub text_ends : (s : Status) → IsAnswered q held rose old new cut s → (x : Request)
+      → q ≡ Some x → x.work ≡ Run → x.form ≡ form.Source
+      → IsOneOf s (status.Ended ∷ status.Budget ∷ status.StackFull ∷ status.Trap ∷ [])
+      → RunEndsAs held x s
+  text_ends s a x e w f one =
+      let e = ends s a x e (run_told s one) in
+      run_ends_as held x e.bytes e.input s e.report e.holds e.holds_input
+      (subst (λ (k : FileForm). IsWorked Run k (settings_of x) e.bytes e.input s e.report) f
+      (subst (λ (k : Work). IsWorked k x.form (settings_of x) e.bytes e.input s e.report) w e.worked))

@@ -1,0 +1,216 @@
+-- What the run of a compiled program is told to come to.
+use Rattle.std.proofs.Common.{◌≡◌, ℕ, ℤ, ◌+◌, ◌-◌, ◌*◌, ◌<◌, ◌≤◌, List, ◌++◌, slice_index, refl, sym, ap, ◌∙◌, subst}
+use Rattle.std.proofs.Common.{length, Option, arith}
+use Rattle.std.specs.Prelude.{codes}
+use Rattle.std.specs.Fmt.{signed_decimal}
+use Rattle.trips_outside.specs.Outside.{Holds}
+use Rattle.trips_isa.specs.declared.block.Image.{Image}
+use Rattle.trips_isa.specs.declared.run.Counts.{Counts}
+use Rattle.trips_isa.specs.declared.run.Ending.{Ending}
+use Rattle.trips_isa.specs.declared.run.Ending.TheVariants as ending
+use Rattle.trips_isa.specs.declared.run.Stepped.{Stepped}
+use Rattle.trips_isa.specs.declared.run.Stepped.TheVariants as stepped
+use Rattle.trips_isa.specs.Machine.{State}
+use Rattle.c_tree.specs.declared.typed.TypedProgram.{TypedProgram}
+use Rattle.c_meaning_spec.specs.declared.signal.Ending.TheVariants.{More, Undefined, Deep}
+use Rattle.c_meaning_spec.specs.Eval.{Outcome, Stopped, Done, eval}
+use Rattle.c_front.specs.Fronts.{IsAccepted}
+use Rattle.c_front.proofs.Once.{accepted_once}
+use Rattle.c_compile_laws.specs.Runs.{run_of, HasEnded, IsFull, Settles, AnswersAs}
+use Rattle.c_compile.specs.Images.{IsImageOf, MeansText}
+use Rattle.c_compile.proofs.Images.{images_mean}
+use Rattle.trips_answers.specs.declared.forms.Settings.{Settings}
+use Rattle.trips_answers.specs.declared.status.Status.{Status}
+use Rattle.trips_answers.specs.declared.status.Status.TheVariants as status
+use Rattle.trips_answers.specs.Request.{Request, origin_held, settings_of}
+use Rattle.grid_place.specs.declared.placed.Placing.{Placing}
+use Rattle.trips_answers.specs.Read.{HoldsInput}
+use Rattle.grid_cycle_spec.specs.Costs.{cost_of}
+use Rattle.trips_report.specs.declared.show.Show.{Show}
+use Rattle.trips_report.specs.Runs.{output_and}
+use Rattle.trips_report.proofs.Parts.{shows_nothing}
+use Rattle.trips_answers.specs.Report.{ending_of, run_report, shown_report, shown_behind, nothing_shown}
+use Rattle.trips_answers.specs.Worked.{status_of, IsRunOfText}
+use Rattle.trips_answers.specs.Table.{ended_report, full_report}
+use Rattle.trips_answers.specs.Evaluated.{SaysOf, HasNotEnded, RunEndsAs}
+use Rattle.trips_answers.proofs.Results.{signed_number}
+
+-- an image of a text has a block
+pub has_blocks : (text : List ℕ) (p : Placing) (i : Image) → IsImageOf text p i → 0 < length i.blocks
+has_blocks text p i is = let good = (images_mean text p i is).bounds.good in omega (arith, good.fits.some)
+
+-- a run that has settled stands so at each later number of blocks
+settled : (run : ℕ → State × Stepped) (few most : ℕ) (holds : State × Stepped → Type 0)
+    → Settles run few holds → few ≤ most → holds (run most)
+settled run few most holds s le =
+    let is : s.blocks + (most - s.blocks) ≡ most = omega (arith, le, s.few) in
+    subst (λ (k : ℕ). holds (run k)) is (s.from (most - s.blocks))
+
+-- REPORTS
+
+-- where nothing is shown, the report stands alone
+nothing_behind : (report : List ℕ) (s : State) (counts : Counts) (cost : ℕ) (show : Show) → show ≡ nothing_shown
+    → shown_behind report s counts cost show ≡ report
+nothing_behind report s counts cost show none =
+    ap (λ (v : Show). shown_behind report s counts cost v) none ∙ shows_nothing report s counts cost
+
+-- and a run's report is the plain one
+pub plain_told : (r : State × Stepped) (counts : Counts) (cost : ℕ) (show : Show) (report : List ℕ)
+    → show ≡ nothing_shown → report ≡ shown_report (ending_of r.1 r.0.next) r.0 counts cost show
+    → report ≡ run_report (ending_of r.1 r.0.next) r.0
+plain_told r counts cost show report none told =
+    told ∙ nothing_behind (run_report (ending_of r.1 r.0.next) r.0) r.0 counts cost show none
+
+ended : (r : State × Stepped) (output : List ℕ) (value : ℤ) → HasEnded output value r
+    → run_report (ending_of r.1 r.0.next) r.0 ≡ ended_report output value
+ended r output value h =
+    let e : ending_of r.1 r.0.next ≡ ending.Ended = ap (λ (a : Stepped). ending_of a r.0.next) h.answer in
+    let digits = signed_number (slice_index r.0.registers 3) h.word.below ∙ ap signed_decimal h.is in
+    ap (λ (x : Ending). run_report x r.0) e
+    ∙ ap (λ (t : List ℕ). output_and r.0.output (codes "result " ++ t)) digits
+    ∙ ap (λ (o : List ℕ). output_and o (codes "result " ++ signed_decimal value)) h.output
+
+full : (r : State × Stepped) (output : List ℕ) → IsFull output r
+    → run_report (ending_of r.1 r.0.next) r.0 ≡ full_report output
+full r output h =
+    let e : ending_of r.1 r.0.next ≡ ending.StackFull = ap (λ (a : Stepped). ending_of a r.0.next) h.answer in
+    ap (λ (x : Ending). run_report x r.0) e
+    ∙ ap (λ (o : List ℕ). output_and o (codes "stack full")) h.output
+
+module _ (settings : Settings) (n : ℕ) (text input : List ℕ) (program : TypedProgram) (s : Status)
+    (report : List ℕ) (run : IsRunOfText settings text input s report)
+    (accepted : IsAccepted text program) (enough : 16 * n + 16 ≤ settings.most) where
+  means : MeansText text settings.placing run.0
+  means = images_mean text settings.placing run.0 run.1
+
+  same : means.program ≡ program
+  same = accepted_once text means.program program means.accepted accepted
+
+  -- where the evaluation is done within n steps
+  finished_run : (output : List ℕ) (value : ℤ) (steps : ℕ)
+      → eval program input n ≡ Done output value steps → HasEnded output value (run_of run.0 input settings.most)
+  finished_run output value steps done =
+      let did = means.finished input run.2 n output value steps
+      (ap (λ (p : TypedProgram). eval p input n) same ∙ done) in
+      settled (run_of run.0 input) (16 * n + 6) settings.most (HasEnded output value) did
+      (omega (arith, enough))
+
+  finished_status : (output : List ℕ) (value : ℤ) (steps : ℕ)
+      → eval program input n ≡ Done output value steps → s ≡ status.Ended
+  finished_status output value steps done =
+      run.3.2.0 ∙ ap (λ (a : Stepped). status_of (ending_of a (run_of run.0 input settings.most).0.next))
+      (finished_run output value steps done).answer
+
+  pub finished_shown : (output : List ℕ) (value : ℤ) (steps : ℕ)
+      → eval program input n ≡ Done output value steps
+      → (s ≡ status.Ended) × ((run_of run.0 input settings.most).1 ≡ stepped.Ended)
+      × (report ≡ shown_behind (ended_report output value) (run_of run.0 input settings.most).0 run.3.0
+      (cost_of run.0.blocks (run_of run.0 input settings.most).0.trace) settings.show)
+  finished_shown output value steps done = (
+    finished_status output value steps done,
+    (finished_run output value steps done).answer,
+    run.3.2.1 ∙ ap (λ (t : List ℕ). shown_behind t (run_of run.0 input settings.most).0 run.3.0
+        (cost_of run.0.blocks (run_of run.0 input settings.most).0.trace) settings.show)
+        (ended (run_of run.0 input settings.most) output value (finished_run output value steps done)),
+  )
+
+  pub finished_told : (output : List ℕ) (value : ℤ) (steps : ℕ) → settings.show ≡ nothing_shown
+      → eval program input n ≡ Done output value steps
+      → (s ≡ status.Ended) × (report ≡ ended_report output value)
+  finished_told output value steps none done =
+      let told = finished_shown output value steps done in (
+        told.0,
+        told.2 ∙ nothing_behind (ended_report output value) (run_of run.0 input settings.most).0 run.3.0
+            (cost_of run.0.blocks (run_of run.0 input settings.most).0.trace) settings.show none,
+      )
+
+  -- where its frames are too large within n steps
+  deep_run : (output : List ℕ) → eval program input n ≡ Stopped Deep output
+      → IsFull output (run_of run.0 input settings.most)
+  deep_run output deep =
+      let did = means.deep input run.2 n output
+      (ap (λ (p : TypedProgram). eval p input n) same ∙ deep) in
+      settled (run_of run.0 input) (16 * n + 6) settings.most (IsFull output) did (omega (arith, enough))
+
+  deep_status : (output : List ℕ) → eval program input n ≡ Stopped Deep output
+      → s ≡ status.StackFull
+  deep_status output deep =
+      run.3.2.0 ∙ ap (λ (a : Stepped). status_of (ending_of a (run_of run.0 input settings.most).0.next))
+      (deep_run output deep).answer
+
+  pub deep_shown : (output : List ℕ) → eval program input n ≡ Stopped Deep output
+      → (s ≡ status.StackFull) × ((run_of run.0 input settings.most).1 ≡ stepped.StackFull)
+      × (report ≡ shown_behind (full_report output) (run_of run.0 input settings.most).0 run.3.0
+      (cost_of run.0.blocks (run_of run.0 input settings.most).0.trace) settings.show)
+  deep_shown output deep = (
+    deep_status output deep,
+    (deep_run output deep).answer,
+    run.3.2.1 ∙ ap (λ (t : List ℕ). shown_behind t (run_of run.0 input settings.most).0 run.3.0
+        (cost_of run.0.blocks (run_of run.0 input settings.most).0.trace) settings.show)
+        (full (run_of run.0 input settings.most) output (deep_run output deep)),
+  )
+
+  pub deep_told : (output : List ℕ) → settings.show ≡ nothing_shown
+      → eval program input n ≡ Stopped Deep output
+      → (s ≡ status.StackFull) × (report ≡ full_report output)
+  deep_told output none deep =
+      let told = deep_shown output deep in (
+        told.0,
+        told.2 ∙ nothing_behind (full_report output) (run_of run.0 input settings.most).0 run.3.0
+            (cost_of run.0.blocks (run_of run.0 input settings.most).0.trace) settings.show none,
+      )
+
+  -- where the budget was spent
+  pub spent_told : s ≡ status.Budget → HasNotEnded (eval program input n)
+  spent_told spent = go (eval program input n) refl
+    where
+      go : (o : Outcome) → eval program input n ≡ o → HasNotEnded o
+      go (Stopped More output) e = tt
+      go (Stopped Undefined output) e = tt
+      go (Stopped Deep output) e =
+          let told : status.Budget ≡ status.StackFull = sym spent ∙ deep_status output e in absurd (cc)
+      go (Done output value steps) e =
+          let told : status.Budget ≡ status.Ended = sym spent ∙ finished_status output value steps e in
+          absurd (cc)
+
+-- CAUSES
+
+says : (a : Stepped) (next : ℕ) (o : Outcome) → AnswersAs a o → SaysOf (status_of (ending_of a next)) o
+says stepped.Went next (Stopped More output) h = tt
+says stepped.Went next (Stopped Undefined output) h = tt
+says stepped.Went next (Stopped Deep output) h = tt
+says stepped.Went next (Done output value steps) h = tt
+says stepped.Ended next (Stopped More output) h = absurd h
+says stepped.Ended next (Stopped Undefined output) h = tt
+says stepped.Ended next (Stopped Deep output) h = absurd h
+says stepped.Ended next (Done output value steps) h = tt
+says stepped.StackFull next (Stopped More output) h = absurd h
+says stepped.StackFull next (Stopped Undefined output) h = tt
+says stepped.StackFull next (Stopped Deep output) h = tt
+says stepped.StackFull next (Done output value steps) h = absurd h
+says (stepped.Trap cause) next (Stopped More output) h = absurd h
+says (stepped.Trap cause) next (Stopped Undefined output) h = tt
+says (stepped.Trap cause) next (Stopped Deep output) h = absurd h
+says (stepped.Trap cause) next (Done output value steps) h = absurd h
+
+-- the end of a text's run, of names that hold the text and the input
+pub run_ends_as : (held : List ℕ → Option (List ℕ)) (q : Request) (text input : List ℕ) (s : Status)
+    (report : List ℕ) → Holds (origin_held held q.origin) text → HoldsInput q.input held input
+    → IsRunOfText (settings_of q) text input s report → RunEndsAs held q s
+run_ends_as held q text input s report holds holds_input run =
+    let m : MeansText text q.placing run.0 = images_mean text q.placing run.0 run.1 in
+    let r : State × Stepped = run_of run.0 input q.most in
+    record {
+      text = text;
+      input = input;
+      holds = holds;
+      holds_input = holds_input;
+      program = m.program;
+      accepted = m.accepted;
+      tokens = m.tokens;
+      lexed = m.lexed;
+      says = λ n lt. subst (λ (x : Status). SaysOf x (eval m.program input n)) (sym run.3.2.0)
+          (says r.1 r.0.next (eval m.program input n) (m.ends input run.2 q.most n lt));
+      spent = λ spent n enough.
+          spent_told (settings_of q) n text input m.program s report run m.accepted enough spent;
+    }

@@ -1,0 +1,126 @@
+-- How work that was asked for ended, from the row of its request.
+use Rattle.std.proofs.Common.{◌≡◌, ℕ, true, false, List, Option, None, Some}
+use Rattle.std.proofs.Common.{inl, inr, refl, sym, ◌∙◌, ap, subst}
+use Rattle.trips_outside.specs.Outside.{Holds}
+use Rattle.trips_isa.specs.declared.block.Block.{Block}
+use Rattle.trips_isa.specs.declared.run.Ending.{Ending}
+use Rattle.trips_isa.specs.declared.run.Ending.TheVariants as ending
+use Rattle.trips_isa.specs.Machine.{runs, start}
+use Rattle.trips_requests.specs.declared.commands.Command.{Command as Work}
+use Rattle.trips_requests.specs.declared.commands.Command.TheVariants.{Run, Evaluate, Compile}
+use Rattle.trips_requests.specs.declared.commands.Command.TheVariants.{Assemble, Disassemble, Check}
+use Rattle.trips_answers.specs.declared.forms.FileForm.{FileForm}
+use Rattle.trips_answers.specs.declared.forms.FileForm.TheVariants as form
+use Rattle.trips_answers.specs.declared.forms.Settings.{Settings}
+use Rattle.trips_answers.specs.declared.loading.Loaded.{Loaded}
+use Rattle.trips_answers.specs.declared.loading.Loaded.TheVariants.{Fault, TooLarge, Bytes}
+use Rattle.trips_answers.specs.declared.status.Status.{Status}
+use Rattle.trips_answers.specs.declared.status.Status.TheVariants as status
+use Rattle.trips_answers.specs.Request.{Request, origin_held, settings_of}
+use Rattle.trips_answers.specs.Read.{IsRead, IsInputRead, HoldsInput, limit_of}
+use Rattle.trips_answers.specs.Report.{ending_of}
+use Rattle.trips_answers.specs.Worked.{status_of, IsRunBy, IsWorked, IsDone}
+use Rattle.trips_answers.specs.Answer.{AfterReading}
+use Rattle.trips_answers.specs.Answer.{IsAnswerBehind, IsAnswer}
+use Rattle.trips_answers.specs.Table.{EndsAs, EvalEnds}
+use Rattle.trips_answers.proofs.Rows.{is_told}
+
+-- a status that tells no end is none that does
+not_told : (s other : Status) → s ≡ other → is_told other ≡ false → is_told s ≡ true → ⊥
+not_told s other e none told =
+    let both : true ≡ false = sym told ∙ ap is_told e ∙ none in absurd (cc)
+
+-- an input that was read is the one that is held
+input_held : (input : Option (List ℕ)) (held : List ℕ → Option (List ℕ)) (rose : Type 0)
+    (bytes : List ℕ) → IsInputRead input held rose (Bytes bytes) → HoldsInput input held bytes
+input_held None held rose bytes h = cc
+input_held (Some name) held rose bytes h = h.0
+
+module _ (q : Request) (held : List ℕ → Option (List ℕ)) (rose : Type 0) (s : Status)
+    (report : List ℕ) (told : is_told s ≡ true) where
+  done_ends : (bytes input : List ℕ) → Holds (origin_held held q.origin) bytes
+      → HoldsInput q.input held input → IsDone q.work q.form (settings_of q) bytes input s report
+      → EndsAs held q s
+  unfolding is_told
+  done_ends bytes input h i (inl out) = absurd (not_told s status.Refused out.2.0 refl told)
+  done_ends bytes input h i (inr run) = record {
+    bytes = bytes;
+    input = input;
+    report = report;
+    holds = h;
+    holds_input = i;
+    worked = run;
+  }
+
+  input_ends : (bytes : List ℕ) (loaded : Loaded) → Holds (origin_held held q.origin) bytes
+      → IsInputRead q.input held rose loaded
+      → AfterReading loaded (λ input. IsDone q.work q.form (settings_of q) bytes input s report) s report
+      → EndsAs held q s
+  unfolding is_told
+  input_ends bytes Fault h i a = absurd (not_told s status.ReadFault a.0 refl told)
+  input_ends bytes TooLarge h i a = absurd (not_told s status.Refused a.0 refl told)
+  input_ends bytes (Bytes input) h i a =
+      done_ends bytes input h (input_held q.input held rose input i) a
+
+  asked_ends : (loaded : Loaded) → IsRead (origin_held held q.origin) rose (limit_of q.form) loaded
+      → AfterReading loaded (λ bytes. IsAnswerBehind q held rose bytes s report) s report
+      → EndsAs held q s
+  unfolding is_told
+  asked_ends Fault h a = absurd (not_told s status.ReadFault a.0 refl told)
+  asked_ends TooLarge h a = absurd (not_told s status.Refused a.0 refl told)
+  asked_ends (Bytes bytes) h a = input_ends bytes a.0 h.0 a.1 a.2
+
+-- work whose end is told has ended as the definitions have it
+pub ends_row : (request : Option Request) (held : List ℕ → Option (List ℕ)) (rose : Type 0)
+    (s : Status) (report : List ℕ) (q : Request) → IsAnswer request held rose s report
+    → request ≡ Some q → is_told s ≡ true → EndsAs held q s
+ends_row request held rose s report q a e told =
+    let row = subst (λ (x : Option Request). IsAnswer x held rose s report) e a in
+    asked_ends q held rose s report told row.0 row.1 row.2
+
+-- no run is undefined
+run_is_defined : (blocks : List Block) (bytes input : List ℕ) (settings : Settings) (s : Status)
+    (report : List ℕ) → IsRunBy blocks bytes input settings s report → s ≡ status.Undefined → ⊥
+run_is_defined blocks bytes input settings s report run e =
+    defined (ending_of (runs blocks (start bytes input) settings.most).1
+    (runs blocks (start bytes input) settings.most).0.next) (sym run.2.0 ∙ e)
+  where
+    defined : (x : Ending) → status_of x ≡ status.Undefined → ⊥
+    defined ending.Ended e = cc
+    defined ending.StackFull e = cc
+    defined ending.Budget e = cc
+    defined (ending.Trap block cause) e = cc
+
+-- nor is what is made of a file
+not_made : (s : Status) → s ≡ status.Ended → s ≡ status.Undefined → ⊥
+not_made s made e = let both : status.Ended ≡ status.Undefined = sym made ∙ e in absurd (cc)
+
+-- only an evaluation is undefined
+is_evaluation : (work : Work) (how : FileForm) (settings : Settings) (bytes input : List ℕ)
+    (s : Status) (report : List ℕ) → IsWorked work how settings bytes input s report
+    → s ≡ status.Undefined → work ≡ Evaluate
+is_evaluation Evaluate how settings bytes input s report run e = refl
+is_evaluation Run form.Source settings bytes input s report run e =
+    absurd (run_is_defined run.0.blocks run.0.bytes input settings s report run.3 e)
+is_evaluation Run form.Target settings bytes input s report run e =
+    absurd (run_is_defined run.0.blocks run.0.bytes input settings s report run.3 e)
+is_evaluation Run form.Image settings bytes input s report run e =
+    absurd (run_is_defined run.0.blocks run.0.bytes input settings s report run.3 e)
+is_evaluation Compile how settings bytes input s report run e = absurd (not_made s run.3 e)
+is_evaluation Assemble how settings bytes input s report run e = absurd (not_made s run.1 e)
+is_evaluation Disassemble how settings bytes input s report run e = absurd (not_made s run.1 e)
+is_evaluation Check how settings bytes input s report run e = absurd (not_made s run.1 e)
+
+pub undefined_row : (request : Option Request) (held : List ℕ → Option (List ℕ)) (rose : Type 0)
+    (s : Status) (report : List ℕ) → IsAnswer request held rose s report → s ≡ status.Undefined
+    → EvalEnds request held s
+unfolding is_told
+undefined_row None held rose s report a e =
+    let is : s ≡ status.Usage = a.0 in absurd (cc)
+undefined_row (Some q) held rose s report a e =
+    let ends = ends_row (Some q) held rose s report q a refl (ap is_told e) in record {
+      q = q;
+      asked = refl;
+      is_work = is_evaluation q.work q.form (settings_of q) ends.bytes ends.input s ends.report ends.worked e;
+      ends = ends;
+    }

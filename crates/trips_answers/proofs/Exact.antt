@@ -1,0 +1,353 @@
+-- What a request gets whose file and input are told, where nothing fails.
+use Rattle.std.proofs.Common.{◌≡◌, ℕ, ◌<◌, ◌≤◌, List, Option, None, Some, IfSome}
+use Rattle.std.proofs.Common.{IsSomeAnd, All, length, inl, inr, refl, sym, ◌∙◌, ap, subst, arith}
+use Rattle.std.proofs.Common.{get_or, ◌⊎◌}
+use Rattle.std.proofs.lemmas.Option.{slice_get_within, get_or_from_slice_get}
+use Rattle.trips_outside.specs.Outside.{Holds}
+use Rattle.trips_isa.specs.declared.block.Image.{Image}
+use Rattle.c_tree.specs.declared.typed.TypedProgram.{TypedProgram}
+use Rattle.c_front.specs.Fronts.{IsAccepted}
+use Rattle.c_front.proofs.Once.{not_both, accepted_once, refused_once}
+use Rattle.block_image.specs.Spelling.{ImageBytes}
+use Rattle.block_image.proofs.Decoded as decoded
+use Rattle.block_image.proofs.Prefix.{one_image}
+use Rattle.block_check.specs.declared.fault.CheckFault.{CheckFault}
+use Rattle.block_check.specs.Faults.{IsGood}
+use Rattle.block_check.specs.Images.{IsFirstBad}
+use Rattle.trips_report.specs.declared.show.Show.{Show}
+use Rattle.trips_requests.specs.declared.commands.Command.{Command as Work}
+use Rattle.trips_requests.specs.declared.commands.Command.TheVariants.{Run, Evaluate, Compile}
+use Rattle.trips_requests.specs.declared.commands.Command.TheVariants.{Assemble, Disassemble, Check}
+use Rattle.block_image.specs.Spelling.{spelling}
+use Rattle.target_asm_spec.specs.Text.{TargetText}
+use Rattle.target_asm_spec.specs.Text as asm
+use Rattle.trips_tools.specs.Tools.{IsOneImage, IsGoodImage, good_report}
+use Rattle.target_asm_spec.proofs.Images as texts
+use Rattle.target_asm_faults.proofs.Exact as faults
+use Rattle.trips_answers.specs.declared.forms.FileForm.{FileForm}
+use Rattle.trips_answers.specs.declared.forms.FileForm.TheVariants as form
+use Rattle.trips_answers.specs.declared.forms.Settings.{Settings}
+use Rattle.trips_answers.specs.declared.loading.Loaded.{Loaded}
+use Rattle.trips_answers.specs.declared.loading.Loaded.TheVariants.{Fault, TooLarge, Bytes}
+use Rattle.trips_answers.specs.declared.status.Status.{Status}
+use Rattle.trips_answers.specs.declared.status.Status.TheVariants as status
+use Rattle.trips_answers.specs.Request.{Request, origin_held, settings_with, settings_of}
+use Rattle.trips_answers.specs.Read.{IsRead, IsInputRead, IsInput, limit_of, most_input_bytes}
+use Rattle.trips_report.specs.Refusals.{image_text, asm_text, check_text, too_large_text}
+use Rattle.trips_answers.specs.Refusal.{front_refusal}
+use Rattle.trips_answers.specs.Refused.{IsRefusedByFront, IsNoImage, IsBadImage, IsNoText, IsBadText}
+use Rattle.trips_answers.specs.Refused.{IsRefusedAs, IsLarge}
+use Rattle.trips_answers.specs.Worked.{IsFixed, IsRunBy, IsEvaluation, IsRunOfText, IsCompiled, IsWorked, IsDone}
+use Rattle.trips_answers.specs.Answer.{AfterReading, IsAnswerBehind, IsAnswer}
+use Rattle.trips_answers.specs.Table.{AsksFor, HasLargeFile, HasLargeInput}
+use Rattle.trips_answers.proofs.OneFault.{first_bad_once}
+
+-- images ----------------------------------------------------------------------------------------
+
+good_is_not_bad : (image : Image) (number : ℕ) (fault : CheckFault) → All IsGood image.blocks
+    → IsFirstBad image number fault → ⊥
+good_is_not_bad image number fault good bad =
+    let within : number < length image.blocks = slice_get_within image.blocks number bad.block
+    bad.is_block in
+    let is : get_or image.blocks number bad.block ≡ bad.block =
+    get_or_from_slice_get image.blocks number bad.block bad.block bad.is_block in
+    subst IsGood is (good number bad.block within) fault bad.has.holds
+
+image_not_refused : (bytes out : List ℕ) (image : Image) → ImageBytes image bytes
+    → All IsGood image.blocks → IsRefusedAs Run form.Image bytes out → ⊥
+image_not_refused bytes out image spelled good (inl bad) =
+    decoded.not_both image bytes bad.0 spelled bad.1
+image_not_refused bytes out image spelled good (inr bad) =
+    let same : bad.0 ≡ image = one_image bad.0 image bytes bad.3 spelled in
+    good_is_not_bad image bad.1 bad.2 good
+    (subst (λ (i : Image). IsFirstBad i bad.1 bad.2) same bad.4)
+
+target_not_refused : (text out : List ℕ) (image : Image) → TargetText image text
+    → All IsGood image.blocks → IsRefusedAs Run form.Target text out → ⊥
+target_not_refused text out image spelled good (inl bad) =
+    faults.not_both image text bad.0 spelled bad.1
+target_not_refused text out image spelled good (inr bad) =
+    let same : bad.0 ≡ image = texts.one_image bad.0 image text bad.3 spelled in
+    good_is_not_bad image bad.1 bad.2 good
+    (subst (λ (i : Image). IsFirstBad i bad.1 bad.2) same bad.4)
+
+-- the work --------------------------------------------------------------------------------------
+
+-- bytes that are refused are not worked with
+pub not_worked : (work : Work) (how : FileForm) (settings : Settings) (bytes input : List ℕ)
+    (s : Status) (report out : List ℕ) → IsRefusedAs work how bytes out
+    → IsWorked work how settings bytes input s report → ⊥
+not_worked Evaluate how settings bytes input s report out bad run =
+    not_both bytes run.0 bad.0 run.1 bad.1
+not_worked Run form.Source settings bytes input s report out bad run =
+    not_both bytes run.1.lowered.program bad.0 run.1.lowered.accepted bad.1
+not_worked Run form.Target settings bytes input s report out bad run =
+    target_not_refused bytes out run.0 run.1 run.2 bad
+not_worked Run form.Image settings bytes input s report out bad run =
+    image_not_refused bytes out run.0 run.1 run.2 bad
+not_worked Compile how settings bytes input s report out bad run =
+    not_both bytes run.1.lowered.program bad.0 run.1.lowered.accepted bad.1
+not_worked Assemble how settings bytes input s report out bad run =
+    faults.not_both run.0.0 bytes bad.0 run.0.1 bad.1
+not_worked Disassemble how settings bytes input s report out bad run =
+    decoded.not_both run.0.0 bytes bad.0 run.0.2 bad.1
+not_worked Check how settings bytes input s report out bad run =
+    image_not_refused bytes out run.0.0 run.0.1 run.0.2 bad
+
+front_once : (text a b : List ℕ) → IsRefusedByFront text a → IsRefusedByFront text b → a ≡ b
+front_once text a b x y =
+    x.2 ∙ ap front_refusal (refused_once text x.0 y.0 x.1 y.1) ∙ sym y.2
+
+bad_once : (bytes a b : List ℕ) → IsBadImage bytes a → IsBadImage bytes b → a ≡ b
+bad_once bytes a b x y =
+    let same : y.0 ≡ x.0 = one_image y.0 x.0 bytes y.3 x.3 in
+    let again = subst (λ (i : Image). IsFirstBad i y.1 y.2) same y.4 in
+    let one = first_bad_once x.0 x.1 y.1 x.2 y.2 x.3.fits x.4 again in
+    x.5 ∙ ap (λ (n : ℕ). check_text n x.2) one.0 ∙ ap (check_text y.1) one.1 ∙ sym y.5
+
+-- bytes that are no image are refused with one report, and so are those of an image
+no_image_once : (bytes a b : List ℕ) → IsNoImage bytes a → IsNoImage bytes b → a ≡ b
+no_image_once bytes a b x y =
+    x.2 ∙ ap image_text (decoded.one_fault bytes x.0 y.0 x.1 y.1) ∙ sym y.2
+
+image_once : (bytes a b : List ℕ) → IsNoImage bytes a ⊎ IsBadImage bytes a
+    → IsNoImage bytes b ⊎ IsBadImage bytes b → a ≡ b
+image_once bytes a b (inl x) (inl y) = no_image_once bytes a b x y
+image_once bytes a b (inl x) (inr y) = absurd (decoded.not_both y.0 bytes x.0 y.3 x.1)
+image_once bytes a b (inr x) (inl y) = absurd (decoded.not_both x.0 bytes y.0 x.3 y.1)
+image_once bytes a b (inr x) (inr y) = bad_once bytes a b x y
+
+-- the same of target texts
+no_text_once : (text a b : List ℕ) → IsNoText text a → IsNoText text b → a ≡ b
+no_text_once text a b x y = x.2 ∙ ap asm_text (faults.one text x.0 y.0 x.1 y.1) ∙ sym y.2
+
+bad_text_once : (text a b : List ℕ) → IsBadText text a → IsBadText text b → a ≡ b
+bad_text_once text a b x y =
+    let same : y.0 ≡ x.0 = texts.one_image y.0 x.0 text y.3 x.3 in
+    let again = subst (λ (i : Image). IsFirstBad i y.1 y.2) same y.4 in
+    let one = first_bad_once x.0 x.1 y.1 x.2 y.2 x.3.fits x.4 again in
+    x.5 ∙ ap (λ (n : ℕ). check_text n x.2) one.0 ∙ ap (check_text y.1) one.1 ∙ sym y.5
+
+target_once : (text a b : List ℕ) → IsNoText text a ⊎ IsBadText text a
+    → IsNoText text b ⊎ IsBadText text b → a ≡ b
+target_once text a b (inl x) (inl y) = no_text_once text a b x y
+target_once text a b (inl x) (inr y) = absurd (faults.not_both y.0 text x.0 y.3 x.1)
+target_once text a b (inr x) (inl y) = absurd (faults.not_both x.0 text y.0 x.3 y.1)
+target_once text a b (inr x) (inr y) = bad_text_once text a b x y
+
+-- bytes are refused with one report
+pub refusal_once : (work : Work) (how : FileForm) (bytes a b : List ℕ)
+    → IsRefusedAs work how bytes a → IsRefusedAs work how bytes b → a ≡ b
+refusal_once Evaluate how bytes a b x y = front_once bytes a b x y
+refusal_once Run form.Source bytes a b x y = front_once bytes a b x y
+refusal_once Run form.Target bytes a b x y = target_once bytes a b x y
+refusal_once Run form.Image bytes a b x y = image_once bytes a b x y
+refusal_once Compile how bytes a b x y = front_once bytes a b x y
+refusal_once Assemble how bytes a b x y = no_text_once bytes a b x y
+refusal_once Disassemble how bytes a b x y = no_image_once bytes a b x y
+refusal_once Check how bytes a b x y = image_once bytes a b x y
+
+-- what is done with bytes that are refused
+pub refused_exact : (work : Work) (how : FileForm) (settings : Settings) (bytes input : List ℕ)
+    (s : Status) (report out : List ℕ) → IsDone work how settings bytes input s report
+    → IsRefusedAs work how bytes out → (s ≡ status.Refused) × (report ≡ out)
+refused_exact work how settings bytes input s report out (inl x) bad =
+    (x.2.0, x.2.1 ∙ refusal_once work how bytes x.0 out x.1 bad)
+refused_exact work how settings bytes input s report out (inr run) bad =
+    absurd (not_worked work how settings bytes input s report out bad run)
+
+-- with an accepted text under `eval`
+pub eval_exact : (how : FileForm) (settings : Settings) (text input : List ℕ) (s : Status)
+    (report : List ℕ) (program : TypedProgram) → IsDone Evaluate how settings text input s report
+    → IsAccepted text program → IsEvaluation program input settings.most s report
+eval_exact how settings text input s report program (inl x) is =
+    absurd (not_both text program x.1.0 is x.1.1)
+eval_exact how settings text input s report program (inr run) is =
+    subst (λ (p : TypedProgram). IsEvaluation p input settings.most s report)
+    (accepted_once text run.0 program run.1 is) run.2
+
+-- with an image of good blocks under `run`
+pub image_exact : (settings : Settings) (bytes input : List ℕ) (s : Status) (report : List ℕ)
+    (image : Image) → IsDone Run form.Image settings bytes input s report → ImageBytes image bytes
+    → All IsGood image.blocks → IsRunBy image.blocks image.bytes input settings s report
+image_exact settings bytes input s report image (inl x) spelled good =
+    absurd (image_not_refused bytes x.0 image spelled good x.1)
+image_exact settings bytes input s report image (inr run) spelled good =
+    subst (λ (i : Image). IsRunBy i.blocks i.bytes input settings s report)
+    (one_image run.0 image bytes run.1 spelled) run.3
+
+-- with an accepted text under `run`
+pub text_exact : (settings : Settings) (text input : List ℕ) (s : Status) (report : List ℕ)
+    (program : TypedProgram) → IsDone Run form.Source settings text input s report
+    → IsAccepted text program → IsRunOfText settings text input s report
+text_exact settings text input s report program (inl x) is =
+    absurd (not_both text program x.1.0 is x.1.1)
+text_exact settings text input s report program (inr run) is = run
+
+-- with the text of an image of good blocks under `run`
+pub target_exact : (settings : Settings) (text input : List ℕ) (s : Status) (report : List ℕ)
+    (image : Image) → IsDone Run form.Target settings text input s report → TargetText image text
+    → All IsGood image.blocks → IsRunBy image.blocks image.bytes input settings s report
+target_exact settings text input s report image (inl x) spelled good =
+    absurd (target_not_refused text x.0 image spelled good x.1)
+target_exact settings text input s report image (inr run) spelled good =
+    subst (λ (i : Image). IsRunBy i.blocks i.bytes input settings s report)
+    (texts.one_image run.0 image text run.1 spelled) run.3
+
+-- with an accepted text under `compile`
+pub compiled_exact : (how : FileForm) (settings : Settings) (text input : List ℕ) (s : Status)
+    (report : List ℕ) (program : TypedProgram) → IsDone Compile how settings text input s report
+    → IsAccepted text program → IsCompiled settings.placing text s report
+compiled_exact how settings text input s report program (inl x) is =
+    absurd (not_both text program x.1.0 is x.1.1)
+compiled_exact how settings text input s report program (inr run) is = run
+
+-- a text is that of one spelling, and bytes are those of one text
+one_spelling : (text a b : List ℕ) → IsOneImage text a → IsOneImage text b → a ≡ b
+one_spelling text a b x y =
+    x.2.spelled ∙ ap spelling (texts.one_image x.0 y.0 text x.1 y.1) ∙ sym y.2.spelled
+
+one_text : (bytes a b : List ℕ) → IsOneImage a bytes → IsOneImage b bytes → a ≡ b
+one_text bytes a b x y =
+    x.1.spelled ∙ ap asm.image_text (one_image x.0 y.0 bytes x.2 y.2) ∙ sym y.1.spelled
+
+-- with the text of an image under `asm`
+pub assembled_exact : (how : FileForm) (settings : Settings) (text input : List ℕ) (s : Status)
+    (report bytes : List ℕ) → IsDone Assemble how settings text input s report
+    → IsOneImage text bytes → (s ≡ status.Ended) × (report ≡ bytes)
+assembled_exact how settings text input s report bytes (inl x) one =
+    absurd (faults.not_both one.0 text x.1.0 one.1 x.1.1)
+assembled_exact how settings text input s report bytes (inr run) one =
+    (run.1, one_spelling text report bytes run.0 one)
+
+-- with an image under `dis`
+pub disassembled_exact : (how : FileForm) (settings : Settings) (bytes input : List ℕ) (s : Status)
+    (report text : List ℕ) → IsDone Disassemble how settings bytes input s report
+    → IsOneImage text bytes → (s ≡ status.Ended) × (report ≡ text)
+disassembled_exact how settings bytes input s report text (inl x) one =
+    absurd (decoded.not_both one.0 bytes x.1.0 one.2 x.1.1)
+disassembled_exact how settings bytes input s report text (inr run) one =
+    (run.1, one_text bytes report text run.0 one)
+
+-- with an image of good blocks under `check`
+pub checked_exact : (how : FileForm) (settings : Settings) (bytes input : List ℕ) (s : Status)
+    (report good : List ℕ) → IsDone Check how settings bytes input s report
+    → IsGoodImage bytes good → (s ≡ status.Ended) × (report ≡ good)
+checked_exact how settings bytes input s report good (inl x) is =
+    absurd (image_not_refused bytes x.0 is.0 is.1 is.2 x.1)
+checked_exact how settings bytes input s report good (inr run) is = (
+  run.1,
+  run.0.3 ∙ ap (λ (i : Image). good_report (length i.blocks)) (one_image run.0.0 is.0 bytes run.0.1 is.1)
+      ∙ sym is.3,
+)
+
+-- reading ---------------------------------------------------------------------------------------
+
+-- bytes that were read are those that are told
+told_text : (told : Option (List ℕ)) (text read : List ℕ) → told ≡ Some text → Holds told read
+    → read ≡ text
+told_text None text read e h = absurd (cc)
+told_text (Some bytes) text read e h = let same : bytes ≡ text = cc in h ∙ same
+
+-- bytes within the limit are not told to be too many
+told_few : (told : Option (List ℕ)) (text : List ℕ) (limit : ℕ) → told ≡ Some text
+    → length text ≤ limit → IfSome told (λ bytes. limit < length bytes) → ⊥
+told_few None text limit e few large = absurd (cc)
+told_few (Some bytes) text limit e few large =
+    let same : text ≡ bytes = cc in
+    let m : length text ≡ length bytes = ap length same in absurd (omega (arith, large, m))
+
+-- a file that is told is read, where nothing fails
+file_read : (told : Option (List ℕ)) (rose : Type 0) (limit : ℕ) (loaded : Loaded)
+    (bytes : List ℕ) → IsRead told rose limit loaded → told ≡ Some bytes → length bytes ≤ limit
+    → (rose → ⊥) → loaded ≡ Bytes bytes
+file_read told rose limit Fault bytes h t few r = absurd (r h)
+file_read told rose limit TooLarge bytes h t few r = absurd (told_few told bytes limit t few h)
+file_read told rose limit (Bytes read) bytes h t few r =
+    ap (λ (x : List ℕ). Bytes x) (told_text told bytes read t h.0)
+
+-- and so is an input
+input_read : (input : Option (List ℕ)) (held : List ℕ → Option (List ℕ)) (rose : Type 0)
+    (loaded : Loaded) (bytes : List ℕ) → IsInputRead input held rose loaded
+    → IsInput input held bytes → length bytes ≤ most_input_bytes → (rose → ⊥)
+    → loaded ≡ Bytes bytes
+input_read None held rose loaded bytes h i few r = h ∙ ap (λ (x : List ℕ). Bytes x) (sym i)
+input_read (Some name) held rose loaded bytes h i few r =
+    file_read (held name) rose most_input_bytes loaded bytes h i few r
+
+-- a file that is told to be too large is not read
+file_large : (told : Option (List ℕ)) (rose : Type 0) (limit : ℕ) (loaded : Loaded)
+    → IsRead told rose limit loaded → IsSomeAnd told (λ bytes. limit < length bytes)
+    → (rose → ⊥) → loaded ≡ TooLarge
+file_large told rose limit Fault h large r = absurd (r h)
+file_large told rose limit TooLarge h large r = refl
+file_large None rose limit (Bytes read) h large r = absurd large
+file_large (Some bytes) rose limit (Bytes read) h large r =
+    let m : length read ≡ length bytes = ap length h.0 in
+    absurd (omega (arith, large, m, h.1))
+
+input_large : (input : Option (List ℕ)) (held : List ℕ → Option (List ℕ)) (rose : Type 0)
+    (loaded : Loaded) → IsInputRead input held rose loaded → IsLarge input held → (rose → ⊥)
+    → loaded ≡ TooLarge
+input_large None held rose loaded h large r = absurd large
+input_large (Some name) held rose loaded h large r =
+    file_large (held name) rose most_input_bytes loaded h large r
+
+-- answers ---------------------------------------------------------------------------------------
+
+module _ (request : Option Request) (held : List ℕ → Option (List ℕ)) (rose : Type 0)
+    (s : Status) (report : List ℕ) (a : IsAnswer request held rose s report) (r : rose → ⊥) where
+  -- the row of the request
+  row_of : (q : Request) → request ≡ Some q → IsAnswer (Some q) held rose s report
+  row_of q e = subst (λ (x : Option Request). IsAnswer x held rose s report) e a
+
+  -- the rest of the row behind a file that was read
+  behind : (q : Request) (bytes : List ℕ) → request ≡ Some q → origin_held held q.origin ≡ Some bytes
+      → length bytes ≤ limit_of q.form → IsAnswerBehind q held rose bytes s report
+  behind q bytes e t few =
+      let row = row_of q e in
+      let is = file_read (origin_held held q.origin) rose (limit_of q.form) row.0 bytes row.1 t few r in
+      subst (λ (x : Loaded). AfterReading x (λ bs. IsAnswerBehind q held rose bs s report) s report)
+      is row.2
+
+  -- what is done where the file and the input are told
+  pub complete : (work : Work) (how : FileForm) (most : ℕ) (show : Show) (bytes input : List ℕ)
+      → (asks : AsksFor request held work how most show bytes input)
+      → IsDone work how (settings_with asks.q most show) bytes input s report
+  complete work how most show bytes input asks =
+      let rest = behind asks.q bytes asks.asked asks.told.told asks.told.few in
+      let is = input_read asks.q.input held rose rest.0 input rest.1 asks.told.told_input
+      asks.told.few_input r in
+      let done = subst (λ (x : Loaded). AfterReading x
+      (λ i. IsDone asks.q.work asks.q.form (settings_of asks.q) bytes i s report) s report) is rest.2 in
+      subst (λ (v : Show). IsDone work how (settings_with asks.q most v) bytes input s report)
+      asks.is_show
+      (subst (λ (m : ℕ). IsDone work how (settings_with asks.q m asks.q.show) bytes input s report)
+      asks.is_most
+      (subst (λ (f : FileForm). IsDone work f (settings_of asks.q) bytes input s report) asks.is_form
+      (subst (λ (w : Work). IsDone w asks.q.form (settings_of asks.q) bytes input s report)
+      asks.is_work done)))
+
+  -- a file that is too large
+  pub large_file : (q : Request) → request ≡ Some q → HasLargeFile q held
+      → IsFixed status.Refused too_large_text s report
+  large_file q e large =
+      let row = row_of q e in
+      let is = file_large (origin_held held q.origin) rose (limit_of q.form) row.0 row.1 large r in
+      subst (λ (x : Loaded). AfterReading x (λ bs. IsAnswerBehind q held rose bs s report) s report)
+      is row.2
+
+  -- an input that is too large
+  pub large_input : (q : Request) → request ≡ Some q → HasLargeInput q held
+      → IsFixed status.Refused too_large_text s report
+  large_input q e large =
+      let text = some_of (origin_held held q.origin) (λ bytes. length bytes ≤ limit_of q.form) large.0 in
+      let rest = behind q text.0 e text.1 text.2 in
+      let is = input_large q.input held rose rest.0 rest.1 large.1 r in
+      subst (λ (x : Loaded). AfterReading x
+      (λ i. IsDone q.work q.form (settings_of q) text.0 i s report) s report) is rest.2
+    where
+      some_of : (told : Option (List ℕ)) (P : List ℕ → Type 0) → IsSomeAnd told P
+          → (bytes : List ℕ) × (told ≡ Some bytes) × P bytes
+      some_of None P h = absurd h
+      some_of (Some bytes) P h = (bytes, refl, h)

@@ -1,0 +1,12 @@
+pub mod GridRuns
+pub mod Told
+pub mod Rows
+pub mod Ends
+pub mod Causes
+pub mod Reported
+pub mod ShownRuns
+pub mod OneFault
+pub mod Results
+pub mod Compiled
+pub mod Exact
+pub mod PlainTold

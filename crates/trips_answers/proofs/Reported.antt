@@ -1,0 +1,200 @@
+-- What is written where the request's file and input are told and nothing fails.
+use Rattle.std.proofs.Common.{◌≡◌, ◌≢◌, ℕ, ℤ, ◌+◌, ◌*◌, ◌≤◌, List, Option, Some}
+use Rattle.std.proofs.Common.{All, refl, subst}
+use Rattle.trips_outside.specs.Outside.{Appended}
+use Rattle.trips_isa.specs.declared.block.Image.{Image}
+use Rattle.trips_isa.specs.Machine.{runs, start}
+use Rattle.c_tree.specs.declared.typed.TypedProgram.{TypedProgram}
+use Rattle.c_meaning_spec.specs.declared.signal.Ending.TheVariants.{Deep}
+use Rattle.c_meaning_spec.specs.Eval.{Stopped, Done, eval}
+use Rattle.c_front.specs.Fronts.{IsAccepted}
+use Rattle.c_compile.specs.Images.{IsImageOf}
+use Rattle.block_image.specs.Spelling.{ImageBytes}
+use Rattle.block_check.specs.Faults.{IsGood}
+use Rattle.grid_cycle_spec.specs.Costs.{cost_of}
+use Rattle.trips_report.specs.declared.show.Show.{Show}
+use Rattle.trips_tools.specs.Tools.{IsOneImage, IsGoodImage}
+use Rattle.trips_requests.specs.declared.commands.Command.{Command as Work}
+use Rattle.trips_requests.specs.declared.commands.Command.TheVariants.{Run, Evaluate, Compile}
+use Rattle.trips_requests.specs.declared.commands.Command.TheVariants.{Assemble, Disassemble, Check}
+use Rattle.trips_answers.specs.declared.forms.FileForm.{FileForm}
+use Rattle.trips_answers.specs.declared.forms.FileForm.TheVariants as form
+use Rattle.trips_answers.specs.declared.status.Status.{Status}
+use Rattle.trips_answers.specs.declared.status.Status.TheVariants as status
+use Rattle.trips_answers.specs.Request.{Request, settings_with}
+use Rattle.trips_report.specs.Evaluations.{eval_report}
+use Rattle.trips_report.specs.Refusals.{too_large_text}
+use Rattle.trips_answers.specs.Report.{ending_of, run_report, nothing_shown}
+use Rattle.trips_answers.specs.Refused.{IsRefusedAs}
+use Rattle.trips_answers.specs.Worked.{status_of, eval_status, outcome_of, IsRunOfText}
+use Rattle.trips_answers.specs.Answer.{IsAnswer}
+use Rattle.trips_answers.specs.Table.{IsAnswered, ended_report, full_report, Asks, AsksFor}
+use Rattle.trips_answers.specs.Table.{HasLargeFile, HasLargeInput}
+use Rattle.trips_answers.proofs.Exact.{complete, large_file, large_input, refused_exact, eval_exact}
+use Rattle.trips_answers.proofs.Exact.{image_exact, text_exact}
+use Rattle.trips_answers.proofs.Exact.{compiled_exact, assembled_exact, disassembled_exact, checked_exact}
+use Rattle.trips_answers.proofs.Compiled.{finished_told, deep_told, plain_told}
+use Rattle.trips_answers.proofs.Causes.{whole_of}
+
+module _ (held : List ℕ → Option (List ℕ)) (rose : Type 0) (old new : Option (List ℕ))
+    (cut : Type 0) (q : Option Request) where
+  -- the whole report was written
+  row_of : (s : Status) → IsAnswered q held rose old new cut s → (cut → ⊥) → s ≢ status.Memory
+      → (report : List ℕ) × IsAnswer q held rose s report × Appended old new report
+  row_of s a c m = whole_of held rose old new cut q s a c m
+
+  -- the run of an accepted text that the row of its request tells
+  text_done : (s : Status) (a : IsAnswered q held rose old new cut s) (c : cut → ⊥)
+      (m : s ≢ status.Memory) (most : ℕ) (show : Show) (text input : List ℕ) (program : TypedProgram)
+      → (asks : AsksFor q held Run form.Source most show text input) → IsAccepted text program
+      → (rose → ⊥)
+      → IsRunOfText (settings_with asks.q most show) text input s (row_of s a c m).0
+  text_done s a c m most show text input program asks is r =
+      let row = row_of s a c m in
+      text_exact (settings_with asks.q most show) text input s row.0 program
+      (complete q held rose s row.0 row.1 r Run form.Source most show text input asks) is
+
+  pub headline : (s : Status) → IsAnswered q held rose old new cut s → (most n : ℕ)
+      (text input output : List ℕ) (value : ℤ) (steps : ℕ) (program : TypedProgram)
+      → Asks q held Run form.Source most text input → IsAccepted text program
+      → eval program input n ≡ Done output value steps → 16 * n + 16 ≤ most → (rose → ⊥) → (cut → ⊥)
+      → s ≢ status.Memory → (s ≡ status.Ended) × Appended old new (ended_report output value)
+  headline s a most n text input output value steps program asks is done enough r c m =
+      let row = row_of s a c m in
+      let run = text_done s a c m most nothing_shown text input program asks is r in
+      let told = finished_told (settings_with asks.q most nothing_shown) n text input program s row.0
+      run is enough output value steps refl done in
+      (told.0, subst (Appended old new) told.1 row.2)
+
+  pub deep : (s : Status) → IsAnswered q held rose old new cut s → (most n : ℕ)
+      (text input output : List ℕ) (program : TypedProgram)
+      → Asks q held Run form.Source most text input → IsAccepted text program
+      → eval program input n ≡ Stopped Deep output → 16 * n + 16 ≤ most → (rose → ⊥) → (cut → ⊥)
+      → s ≢ status.Memory → (s ≡ status.StackFull) × Appended old new (full_report output)
+  deep s a most n text input output program asks is full enough r c m =
+      let row = row_of s a c m in
+      let run = text_done s a c m most nothing_shown text input program asks is r in
+      let told = deep_told (settings_with asks.q most nothing_shown) n text input program s row.0
+      run is enough output refl full in
+      (told.0, subst (Appended old new) told.1 row.2)
+
+  pub text_run : (s : Status) → IsAnswered q held rose old new cut s → (most : ℕ)
+      (text input : List ℕ) (program : TypedProgram)
+      → (asks : Asks q held Run form.Source most text input) → IsAccepted text program
+      → (rose → ⊥) → (cut → ⊥) → s ≢ status.Memory
+      → (image : Image) × IsImageOf text asks.q.placing image
+      × let run = runs image.blocks (start image.bytes input) most in
+      (s ≡ status_of (ending_of run.1 run.0.next))
+      × Appended old new (run_report (ending_of run.1 run.0.next) run.0)
+  text_run s a most text input program asks is r c m =
+      let row = row_of s a c m in
+      let run = text_done s a c m most nothing_shown text input program asks is r in
+      let at_end = runs run.0.blocks (start run.0.bytes input) most in
+      let plain = plain_told at_end run.3.0 (cost_of run.0.blocks at_end.0.trace) nothing_shown row.0 refl
+      run.3.2.1 in
+      (run.0, run.1, (run.3.2.0, subst (Appended old new) plain row.2))
+
+  pub evaluation : (s : Status) → IsAnswered q held rose old new cut s → (how : FileForm)
+      (steps : ℕ) (text input : List ℕ) (program : TypedProgram)
+      → Asks q held Evaluate how steps text input → IsAccepted text program → (rose → ⊥)
+      → (cut → ⊥) → s ≢ status.Memory → (s ≡ eval_status (outcome_of program input steps))
+      × Appended old new (eval_report (outcome_of program input steps))
+  evaluation s a how steps text input program asks is r c m =
+      let row = row_of s a c m in
+      let done = complete q held rose s row.0 row.1 r Evaluate how steps nothing_shown text input asks in
+      let told = eval_exact how (settings_with asks.q steps nothing_shown) text input s row.0 program
+      done is in
+      (told.0, subst (Appended old new) told.1 row.2)
+
+  pub image_run : (s : Status) → IsAnswered q held rose old new cut s → (blocks : ℕ)
+      (bytes input : List ℕ) (image : Image) → Asks q held Run form.Image blocks bytes input
+      → ImageBytes image bytes → All IsGood image.blocks → (rose → ⊥) → (cut → ⊥)
+      → s ≢ status.Memory → let run = runs image.blocks (start image.bytes input) blocks in
+      (s ≡ status_of (ending_of run.1 run.0.next))
+      × Appended old new (run_report (ending_of run.1 run.0.next) run.0)
+  image_run s a blocks bytes input image asks spelled good r c m =
+      let row = row_of s a c m in
+      let done = complete q held rose s row.0 row.1 r Run form.Image blocks nothing_shown bytes input asks in
+      let told = image_exact (settings_with asks.q blocks nothing_shown) bytes input s row.0 image done
+      spelled good in
+      let at_end = runs image.blocks (start image.bytes input) blocks in
+      let plain = plain_told at_end told.0 (cost_of image.blocks at_end.0.trace) nothing_shown row.0 refl
+      told.2.1 in
+      (told.2.0, subst (Appended old new) plain row.2)
+
+  pub compiled : (s : Status) → IsAnswered q held rose old new cut s → (how : FileForm) (most : ℕ)
+      (show : Show) (text input : List ℕ) (program : TypedProgram)
+      → (asks : AsksFor q held Compile how most show text input) → IsAccepted text program
+      → (rose → ⊥) → (cut → ⊥) → s ≢ status.Memory
+      → (image : Image) × IsImageOf text asks.q.placing image × (bytes : List ℕ)
+      × ImageBytes image bytes
+      × (s ≡ status.Ended) × Appended old new bytes
+  compiled s a how most show text input program asks is r c m =
+      let row = row_of s a c m in
+      let done = complete q held rose s row.0 row.1 r Compile how most show text input asks in
+      let run = compiled_exact how (settings_with asks.q most show) text input s row.0 program
+      done is in
+      (run.0, run.1, row.0, run.2, run.3, row.2)
+
+  pub assembled : (s : Status) → IsAnswered q held rose old new cut s → (how : FileForm) (most : ℕ)
+      (show : Show) (text input bytes : List ℕ)
+      → AsksFor q held Assemble how most show text input → IsOneImage text bytes
+      → (rose → ⊥) → (cut → ⊥) → s ≢ status.Memory
+      → (s ≡ status.Ended) × Appended old new bytes
+  assembled s a how most show text input bytes asks one r c m =
+      let row = row_of s a c m in
+      let done = complete q held rose s row.0 row.1 r Assemble how most show text input asks in
+      let told = assembled_exact how (settings_with asks.q most show) text input s row.0 bytes
+      done one in
+      (told.0, subst (Appended old new) told.1 row.2)
+
+  pub disassembled : (s : Status) → IsAnswered q held rose old new cut s → (how : FileForm) (most : ℕ)
+      (show : Show) (bytes input text : List ℕ)
+      → AsksFor q held Disassemble how most show bytes input → IsOneImage text bytes
+      → (rose → ⊥) → (cut → ⊥) → s ≢ status.Memory
+      → (s ≡ status.Ended) × Appended old new text
+  disassembled s a how most show bytes input text asks one r c m =
+      let row = row_of s a c m in
+      let done = complete q held rose s row.0 row.1 r Disassemble how most show bytes input asks in
+      let told = disassembled_exact how (settings_with asks.q most show) bytes input s row.0 text
+      done one in
+      (told.0, subst (Appended old new) told.1 row.2)
+
+  pub checked : (s : Status) → IsAnswered q held rose old new cut s → (how : FileForm) (most : ℕ)
+      (show : Show) (bytes input report : List ℕ)
+      → AsksFor q held Check how most show bytes input → IsGoodImage bytes report
+      → (rose → ⊥) → (cut → ⊥) → s ≢ status.Memory
+      → (s ≡ status.Ended) × Appended old new report
+  checked s a how most show bytes input report asks good r c m =
+      let row = row_of s a c m in
+      let done = complete q held rose s row.0 row.1 r Check how most show bytes input asks in
+      let told = checked_exact how (settings_with asks.q most show) bytes input s row.0 report
+      done good in
+      (told.0, subst (Appended old new) told.1 row.2)
+
+  pub refusal : (s : Status) → IsAnswered q held rose old new cut s → (work : Work)
+      (how : FileForm) (most : ℕ) (show : Show) (bytes input report : List ℕ)
+      → AsksFor q held work how most show bytes input → IsRefusedAs work how bytes report → (rose → ⊥)
+      → (cut → ⊥) → s ≢ status.Memory → (s ≡ status.Refused) × Appended old new report
+  refusal s a work how most show bytes input report asks bad r c m =
+      let row = row_of s a c m in
+      let done = complete q held rose s row.0 row.1 r work how most show bytes input asks in
+      let told = refused_exact work how (settings_with asks.q most show) bytes input s row.0 report
+      done bad in
+      (told.0, subst (Appended old new) told.1 row.2)
+
+  pub too_large_file : (s : Status) → IsAnswered q held rose old new cut s → (x : Request)
+      → q ≡ Some x → HasLargeFile x held → (rose → ⊥) → (cut → ⊥) → s ≢ status.Memory
+      → (s ≡ status.Refused) × Appended old new too_large_text
+  too_large_file s a x e large r c m =
+      let row = row_of s a c m in
+      let told = large_file q held rose s row.0 row.1 r x e large in
+      (told.0, subst (Appended old new) told.1 row.2)
+
+  pub too_large_input : (s : Status) → IsAnswered q held rose old new cut s → (x : Request)
+      → q ≡ Some x → HasLargeInput x held → (rose → ⊥) → (cut → ⊥) → s ≢ status.Memory
+      → (s ≡ status.Refused) × Appended old new too_large_text
+  too_large_input s a x e large r c m =
+      let row = row_of s a c m in
+      let told = large_input q held rose s row.0 row.1 r x e large in
+      (told.0, subst (Appended old new) told.1 row.2)

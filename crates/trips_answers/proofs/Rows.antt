@@ -1,0 +1,234 @@
+-- What the row of a request says of each answer.
+use Rattle.std.proofs.Common.{◌≡◌, ℕ, ◌<◌, ◌≤◌, Bool, true, false, List, Option, None}
+use Rattle.std.proofs.Common.{Some}
+use Rattle.std.proofs.Common.{IfSome, IsSomeAnd, length, ◌⊎◌, inl, inr, refl, sym}
+use Rattle.std.proofs.Common.{◌∙◌, ap, subst, arith}
+use Rattle.trips_outside.specs.Outside.{Holds}
+use Rattle.trips_isa.specs.declared.block.Block.{Block}
+use Rattle.trips_isa.specs.declared.run.Ending.{Ending}
+use Rattle.trips_isa.specs.declared.run.Ending.TheVariants as ending
+use Rattle.trips_isa.specs.Machine.{runs, start}
+use Rattle.c_meaning.specs.declared.outcome.Outcome.{Outcome}
+use Rattle.c_meaning.specs.declared.outcome.Outcome.TheVariants as outcome
+use Rattle.trips_requests.specs.declared.commands.Command.{Command as Work}
+use Rattle.trips_requests.specs.declared.commands.Command.TheVariants.{Run, Evaluate, Compile}
+use Rattle.trips_requests.specs.declared.commands.Command.TheVariants.{Assemble, Disassemble, Check}
+use Rattle.trips_answers.specs.declared.forms.FileForm.{FileForm}
+use Rattle.trips_answers.specs.declared.forms.FileForm.TheVariants as form
+use Rattle.trips_answers.specs.declared.forms.Settings.{Settings}
+use Rattle.trips_answers.specs.declared.loading.Loaded.{Loaded}
+use Rattle.trips_answers.specs.declared.loading.Loaded.TheVariants.{Fault, TooLarge, Bytes}
+use Rattle.trips_answers.specs.declared.status.Status.{Status}
+use Rattle.trips_answers.specs.declared.status.Status.TheVariants as status
+use Rattle.trips_answers.specs.Request.{Request, origin_held, settings_of}
+use Rattle.trips_answers.specs.Read.{IsRead, IsInputRead, limit_of, most_input_bytes}
+use Rattle.trips_answers.specs.Report.{ending_of}
+use Rattle.trips_answers.specs.Worked.{status_of, IsRunBy, eval_status, outcome_of, IsWorked, IsDone}
+use Rattle.trips_answers.specs.Answer.{AfterReading, IsAnswerBehind, IsAnswer}
+use Rattle.trips_answers.specs.Refused.{IsBad, MayBeLarge, IsLarge, MayBeRefused, IsRefused}
+use Rattle.trips_answers.proofs.Exact.{not_worked}
+
+-- the statuses that tell how a run or an evaluation ended
+unfoldable pub is_told : Status → Bool
+is_told status.Ended = true
+is_told status.StackFull = true
+is_told status.Budget = true
+is_told status.Trap = true
+is_told status.Undefined = true
+is_told other = false
+
+tells : (e : Ending) → is_told (status_of e) ≡ true
+unfolding is_told
+tells ending.Ended = refl
+tells ending.StackFull = refl
+tells ending.Budget = refl
+tells (ending.Trap block cause) = refl
+
+run_tells : (blocks : List Block) (bytes input : List ℕ) (settings : Settings) (s : Status)
+    (report : List ℕ) → IsRunBy blocks bytes input settings s report → is_told s ≡ true
+run_tells blocks bytes input settings s report run =
+    ap is_told run.2.0 ∙ tells (ending_of (runs blocks (start bytes input) settings.most).1
+    (runs blocks (start bytes input) settings.most).0.next)
+
+eval_tells : (o : Outcome) → is_told (eval_status o) ≡ true
+unfolding is_told
+eval_tells outcome.More = refl
+eval_tells outcome.Undefined = refl
+eval_tells outcome.Deep = refl
+eval_tells (outcome.Done output result steps) = refl
+
+-- work that is done tells how it ended
+work_tells : (work : Work) (how : FileForm) (settings : Settings) (bytes input : List ℕ)
+    (s : Status) (report : List ℕ) → IsWorked work how settings bytes input s report
+    → is_told s ≡ true
+unfolding is_told
+work_tells Evaluate how settings bytes input s report run =
+    ap is_told run.2.0 ∙ eval_tells (outcome_of run.0 input settings.most)
+work_tells Run form.Source settings bytes input s report run =
+    run_tells run.0.blocks run.0.bytes input settings s report run.3
+work_tells Run form.Target settings bytes input s report run =
+    run_tells run.0.blocks run.0.bytes input settings s report run.3
+work_tells Run form.Image settings bytes input s report run =
+    run_tells run.0.blocks run.0.bytes input settings s report run.3
+work_tells Compile how settings bytes input s report run = ap is_told run.3
+work_tells Assemble how settings bytes input s report run = ap is_told run.1
+work_tells Disassemble how settings bytes input s report run = ap is_told run.1
+work_tells Check how settings bytes input s report run = ap is_told run.1
+
+-- The kinds of an answer: usage, a fault of reading, a refusal, and the end of the work.
+pub data Kind (q : Option Request) (held : List ℕ
+    → Option (List ℕ)) (rose : Type 0) (s : Status) : Type 0 where
+  usage : s ≡ status.Usage → q ≡ None → Kind q held rose s
+  unread : s ≡ status.ReadFault → rose → Kind q held rose s
+  refused : s ≡ status.Refused → MayBeRefused q held → Kind q held rose s
+  ran : is_told s ≡ true → (IsRefused q held → ⊥) → Kind q held rose s
+
+-- files -----------------------------------------------------------------------------------------
+
+-- what is said of the bytes that were read is said of those that are told
+of_told : (P : List ℕ → Type 0) (told : Option (List ℕ)) (bytes : List ℕ) → Holds told bytes
+    → P bytes → IfSome told P
+of_told P None bytes h p = tt
+of_told P (Some held) bytes h p = subst P h p
+
+-- and the other way round
+of_read : (P : List ℕ → Type 0) (told : Option (List ℕ)) (bytes : List ℕ) → Holds told bytes
+    → IsSomeAnd told P → P bytes
+of_read P None bytes h p = absurd p
+of_read P (Some held) bytes h p = subst P (sym h) p
+
+-- a file that is too large is told to be so
+if_large : (P : List ℕ → Type 0) (limit : ℕ) (told : Option (List ℕ))
+    → ((bytes : List ℕ) → limit < length bytes → P bytes)
+    → IfSome told (λ bytes. limit < length bytes) → IfSome told P
+if_large P limit None large h = tt
+if_large P limit (Some bytes) large h = large bytes h
+
+-- the same of an input
+input_fault : (input : Option (List ℕ)) (held : List ℕ → Option (List ℕ)) (rose : Type 0)
+    → IsInputRead input held rose Fault → rose
+input_fault None held rose h = absurd (cc)
+input_fault (Some name) held rose h = h
+
+input_too_large : (input : Option (List ℕ)) (held : List ℕ → Option (List ℕ)) (rose : Type 0)
+    → IsInputRead input held rose TooLarge → MayBeLarge input held
+input_too_large None held rose h = absurd (cc)
+input_too_large (Some name) held rose h = h
+
+not_large_input : (input : Option (List ℕ)) (held : List ℕ → Option (List ℕ)) (rose : Type 0)
+    (bytes : List ℕ) → IsInputRead input held rose (Bytes bytes) → IsLarge input held → ⊥
+not_large_input None held rose bytes h large = large
+not_large_input (Some name) held rose bytes h large =
+    let lt = of_read (λ (bs : List ℕ). most_input_bytes < length bs) (held name) bytes h.0 large in
+    absurd (omega (arith, h.1, lt))
+
+-- answers ---------------------------------------------------------------------------------------
+
+module _ (q : Request) (held : List ℕ → Option (List ℕ)) (rose : Type 0) (s : Status)
+    (report : List ℕ) where
+  -- bytes that were worked with are not bad
+  not_bad : (bytes input : List ℕ) → length bytes ≤ limit_of q.form
+      → IsWorked q.work q.form (settings_of q) bytes input s report → IsBad q bytes → ⊥
+  not_bad bytes input few run (inl large) = absurd (omega (arith, few, large))
+  not_bad bytes input few run (inr bad) =
+      not_worked q.work q.form (settings_of q) bytes input s report bad.0 bad.1 run
+
+  done_kind : (bytes input : List ℕ) → Holds (origin_held held q.origin) bytes
+      → length bytes ≤ limit_of q.form → (IsLarge q.input held → ⊥)
+      → IsDone q.work q.form (settings_of q) bytes input s report → Kind (Some q) held rose s
+  done_kind bytes input h few small (inl out) =
+      refused out.2.0 (inl (of_told (IsBad q) (origin_held held q.origin) bytes h (inr (out.0, out.1))))
+  done_kind bytes input h few small (inr run) =
+      ran (work_tells q.work q.form (settings_of q) bytes input s report run) not_refused
+    where
+      not_refused : IsRefused (Some q) held → ⊥
+      not_refused (inl bad) =
+          not_bad bytes input few run (of_read (IsBad q) (origin_held held q.origin) bytes h bad)
+      not_refused (inr large) = small large
+
+  input_kind : (bytes : List ℕ) (loaded : Loaded) → Holds (origin_held held q.origin) bytes
+      → length bytes ≤ limit_of q.form → IsInputRead q.input held rose loaded
+      → AfterReading loaded (λ input. IsDone q.work q.form (settings_of q) bytes input s report) s report
+      → Kind (Some q) held rose s
+  input_kind bytes Fault h few i a = unread a.0 (input_fault q.input held rose i)
+  input_kind bytes TooLarge h few i a =
+      refused a.0 (inr (input_too_large q.input held rose i))
+  input_kind bytes (Bytes input) h few i a =
+      done_kind bytes input h few (not_large_input q.input held rose input i) a
+
+  asked_kind : (loaded : Loaded) → IsRead (origin_held held q.origin) rose (limit_of q.form) loaded
+      → AfterReading loaded (λ bytes. IsAnswerBehind q held rose bytes s report) s report
+      → Kind (Some q) held rose s
+  asked_kind Fault h a = unread a.0 h
+  asked_kind TooLarge h a =
+      refused a.0
+      (inl (if_large (IsBad q) (limit_of q.form) (origin_held held q.origin) (λ bytes lt. inl lt) h))
+  asked_kind (Bytes bytes) h a = input_kind bytes a.0 h.0 h.1 a.1 a.2
+
+-- every answer is of one of the kinds
+pub kind : (q : Option Request) (held : List ℕ
+    → Option (List ℕ)) (rose : Type 0) (s : Status) (report : List ℕ)
+    → IsAnswer q held rose s report → Kind q held rose s
+kind None held rose s report a = usage a.0 refl
+kind (Some q) held rose s report a = asked_kind q held rose s report a.0 a.1 a.2
+
+-- the causes ----------------------------------------------------------------------------------
+
+pub usage_row : (q : Option Request) (held : List ℕ → Option (List ℕ)) (rose : Type 0) (s : Status)
+    → Kind q held rose s → s ≡ status.Usage → q ≡ None
+unfolding is_told
+usage_row q held rose s (usage is none) e = none
+usage_row q held rose s (unread is up) e = absurd (cc)
+usage_row q held rose s (refused is may) e = absurd (cc)
+usage_row q held rose s (ran is out) e = let t : is_told s ≡ false = ap is_told e in absurd (cc)
+
+pub read_fault_row : (q : Option Request) (held : List ℕ → Option (List ℕ)) (rose : Type 0)
+    (s : Status)
+    → Kind q held rose s → s ≡ status.ReadFault → rose
+unfolding is_told
+read_fault_row q held rose s (usage is none) e = absurd (cc)
+read_fault_row q held rose s (unread is up) e = up
+read_fault_row q held rose s (refused is may) e = absurd (cc)
+read_fault_row q held rose s (ran is out) e = let t : is_told s ≡ false = ap is_told e in absurd
+    (cc)
+
+pub refused_row : (q : Option Request) (held : List ℕ → Option (List ℕ)) (rose : Type 0)
+    (s : Status)
+    → Kind q held rose s → s ≡ status.Refused → MayBeRefused q held
+unfolding is_told
+refused_row q held rose s (usage is none) e = absurd (cc)
+refused_row q held rose s (unread is up) e = absurd (cc)
+refused_row q held rose s (refused is may) e = may
+refused_row q held rose s (ran is out) e = let t : is_told s ≡ false = ap is_told e in absurd (cc)
+
+-- no answer is want of memory or a failed write
+pub no_row : (q : Option Request) (held : List ℕ → Option (List ℕ)) (rose : Type 0) (s : Status)
+    → Kind q held rose s → (s ≡ status.Memory) ⊎ (s ≡ status.WriteFault) → ⊥
+unfolding is_told
+no_row q held rose s (usage is none) (inl e) = absurd (cc)
+no_row q held rose s (usage is none) (inr e) = absurd (cc)
+no_row q held rose s (unread is up) (inl e) = absurd (cc)
+no_row q held rose s (unread is up) (inr e) = absurd (cc)
+no_row q held rose s (refused is may) (inl e) = absurd (cc)
+no_row q held rose s (refused is may) (inr e) = absurd (cc)
+no_row q held rose s (ran is out) (inl e) = let t : is_told s ≡ false = ap is_told e in absurd (cc)
+no_row q held rose s (ran is out) (inr e) = let t : is_told s ≡ false = ap is_told e in absurd (cc)
+
+not_refused_without : (q : Option Request) (held : List ℕ → Option (List ℕ)) → q ≡ None
+    → IsRefused q held → ⊥
+not_refused_without None held e out = out
+not_refused_without (Some r) held e out = absurd (cc)
+
+pub refused_comes_row : (q : Option Request) (held : List ℕ → Option (List ℕ)) (rose : Type 0)
+    (s : Status)
+    → Kind q held rose s → IsRefused q held → (s ≡ status.Refused) ⊎ (s ≡ status.ReadFault)
+refused_comes_row q held rose s (usage is none) bad = absurd (not_refused_without q held none bad)
+refused_comes_row q held rose s (unread is up) bad = inr is
+refused_comes_row q held rose s (refused is may) bad = inl is
+refused_comes_row q held rose s (ran is out) bad = absurd (out bad)
+
+pub usage_comes_row : (q : Option Request) (held : List ℕ
+    → Option (List ℕ)) (rose : Type 0) (s : Status) (report : List ℕ)
+    → IsAnswer q held rose s report → q ≡ None → s ≡ status.Usage
+usage_comes_row None held rose s report a e = a.0
+usage_comes_row (Some r) held rose s report a e = absurd (cc)

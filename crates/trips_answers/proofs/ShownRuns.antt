@@ -1,0 +1,115 @@
+-- What is written of a run, and what is shown behind it.
+use Rattle.std.proofs.Common.{◌≡◌, ◌≢◌, ℕ, ℤ, ◌+◌, ◌*◌, ◌≤◌, List, Option, All, subst}
+use Rattle.trips_outside.specs.Outside.{Appended}
+use Rattle.trips_isa.specs.declared.block.Image.{Image}
+use Rattle.trips_isa.specs.declared.run.Stepped.TheVariants as stepped
+use Rattle.trips_isa.specs.Machine.{runs, start}
+use Rattle.c_tree.specs.declared.typed.TypedProgram.{TypedProgram}
+use Rattle.c_meaning_spec.specs.declared.signal.Ending.TheVariants.{Deep}
+use Rattle.c_meaning_spec.specs.Eval.{Stopped, Done, eval}
+use Rattle.c_front.specs.Fronts.{IsAccepted}
+use Rattle.c_compile.specs.Images.{IsImageOf}
+use Rattle.block_image.specs.Spelling.{ImageBytes}
+use Rattle.block_check.specs.Faults.{IsGood}
+use Rattle.target_asm_spec.specs.Text.{TargetText}
+use Rattle.trips_report.specs.declared.show.Show.{Show}
+use Rattle.trips_requests.specs.declared.commands.Command.TheVariants.{Run}
+use Rattle.trips_answers.specs.declared.forms.FileForm.TheVariants as form
+use Rattle.trips_answers.specs.declared.forms.Settings.{Settings}
+use Rattle.trips_answers.specs.declared.status.Status.{Status}
+use Rattle.trips_answers.specs.declared.status.Status.TheVariants as status
+use Rattle.trips_answers.specs.Request.{Request, settings_with}
+use Rattle.trips_answers.specs.Report.{ending_of, run_report}
+use Rattle.trips_answers.specs.Worked.{status_of, IsRunBy, IsRunOfText}
+use Rattle.trips_answers.specs.Table.{IsAnswered, IsReported, AsksFor, ended_report, full_report}
+use Rattle.trips_answers.proofs.Compiled.{finished_shown, deep_shown}
+use Rattle.trips_answers.proofs.Exact.{complete, image_exact, text_exact, target_exact}
+use Rattle.trips_answers.proofs.Causes.{whole_of}
+
+-- a run that was made, and what was written of it
+ran : (image : Image) (input : List ℕ) (settings : Settings) (s : Status) (report : List ℕ)
+    (old new : Option (List ℕ)) → IsRunBy image.blocks image.bytes input settings s report
+    → Appended old new report → let run = runs image.blocks (start image.bytes input) settings.most in
+    IsReported image input settings (status_of (ending_of run.1 run.0.next))
+    (run_report (ending_of run.1 run.0.next) run.0) s old new
+ran image input settings s report old new run w =
+    (run.0, run.1, run.2.0, subst (Appended old new) run.2.1 w)
+
+module _ (held : List ℕ → Option (List ℕ)) (rose : Type 0) (old new : Option (List ℕ))
+    (cut : Type 0) (q : Option Request) (s : Status) (a : IsAnswered q held rose old new cut s)
+    (most : ℕ) (show : Show) (bytes input : List ℕ) where
+  -- the run of an accepted text that the row of its request tells
+  text_done : (c : cut → ⊥) (m : s ≢ status.Memory) (program : TypedProgram)
+      → (asks : AsksFor q held Run form.Source most show bytes input) → IsAccepted bytes program
+      → (rose → ⊥) → IsRunOfText (settings_with asks.q most show) bytes input s
+      (whole_of held rose old new cut q s a c m).0
+  text_done c m program asks is r =
+      let row = whole_of held rose old new cut q s a c m in
+      text_exact (settings_with asks.q most show) bytes input s row.0 program
+      (complete q held rose s row.0 row.1 r Run form.Source most show bytes input asks) is
+
+  pub text_run : (program : TypedProgram)
+      → (asks : AsksFor q held Run form.Source most show bytes input)
+      → IsAccepted bytes program → (rose → ⊥) → (cut → ⊥) → s ≢ status.Memory
+      → (image : Image) × IsImageOf bytes asks.q.placing image
+      × let run = runs image.blocks (start image.bytes input) most in
+      IsReported image input (settings_with asks.q most show) (status_of (ending_of run.1 run.0.next))
+      (run_report (ending_of run.1 run.0.next) run.0) s old new
+  text_run program asks is r c m =
+      let row = whole_of held rose old new cut q s a c m in
+      let run = text_done c m program asks is r in
+      (run.0, run.1, ran run.0 input (settings_with asks.q most show) s row.0 old new run.3 row.2)
+
+  pub image_run : (image : Image)
+      → (asks : AsksFor q held Run form.Image most show bytes input)
+      → ImageBytes image bytes → All IsGood image.blocks → (rose → ⊥) → (cut → ⊥) → s ≢ status.Memory
+      → let run = runs image.blocks (start image.bytes input) most in
+      IsReported image input (settings_with asks.q most show) (status_of (ending_of run.1 run.0.next))
+      (run_report (ending_of run.1 run.0.next) run.0) s old new
+  image_run image asks spelled good r c m =
+      let row = whole_of held rose old new cut q s a c m in
+      let done = complete q held rose s row.0 row.1 r Run form.Image most show bytes input asks in
+      ran image input (settings_with asks.q most show) s row.0 old new
+      (image_exact (settings_with asks.q most show) bytes input s row.0 image done spelled good) row.2
+
+  pub target_run : (image : Image)
+      → (asks : AsksFor q held Run form.Target most show bytes input)
+      → TargetText image bytes → All IsGood image.blocks → (rose → ⊥) → (cut → ⊥) → s ≢ status.Memory
+      → let run = runs image.blocks (start image.bytes input) most in
+      IsReported image input (settings_with asks.q most show) (status_of (ending_of run.1 run.0.next))
+      (run_report (ending_of run.1 run.0.next) run.0) s old new
+  target_run image asks spelled good r c m =
+      let row = whole_of held rose old new cut q s a c m in
+      let done = complete q held rose s row.0 row.1 r Run form.Target most show bytes input asks in
+      ran image input (settings_with asks.q most show) s row.0 old new
+      (target_exact (settings_with asks.q most show) bytes input s row.0 image done spelled good) row.2
+
+  pub headline : (n : ℕ) (output : List ℕ) (value : ℤ) (steps : ℕ) (program : TypedProgram)
+      → (asks : AsksFor q held Run form.Source most show bytes input)
+      → IsAccepted bytes program → eval program input n ≡ Done output value steps → 16 * n + 16 ≤ most
+      → (rose → ⊥) → (cut → ⊥) → s ≢ status.Memory
+      → (image : Image) × IsImageOf bytes asks.q.placing image
+      × ((runs image.blocks (start image.bytes input) most).1 ≡ stepped.Ended)
+      × IsReported image input (settings_with asks.q most show) status.Ended (ended_report output value) s old
+      new
+  headline n output value steps program asks is done enough r c m =
+      let row = whole_of held rose old new cut q s a c m in
+      let run = text_done c m program asks is r in
+      let told = finished_shown (settings_with asks.q most show) n bytes input program s row.0 run is
+      enough output value steps done in
+      (run.0, run.1, told.1, (run.3.0, run.3.1, told.0, subst (Appended old new) told.2 row.2))
+
+  pub deep : (n : ℕ) (output : List ℕ) (program : TypedProgram)
+      → (asks : AsksFor q held Run form.Source most show bytes input)
+      → IsAccepted bytes program → eval program input n ≡ Stopped Deep output → 16 * n + 16 ≤ most
+      → (rose → ⊥) → (cut → ⊥) → s ≢ status.Memory
+      → (image : Image) × IsImageOf bytes asks.q.placing image
+      × ((runs image.blocks (start image.bytes input) most).1 ≡ stepped.StackFull)
+      × IsReported image input (settings_with asks.q most show) status.StackFull (full_report output) s old
+      new
+  deep n output program asks is full enough r c m =
+      let row = whole_of held rose old new cut q s a c m in
+      let run = text_done c m program asks is r in
+      let told = deep_shown (settings_with asks.q most show) n bytes input program s row.0 run is
+      enough output full in
+      (run.0, run.1, told.1, (run.3.0, run.3.1, told.0, subst (Appended old new) told.2 row.2))

@@ -1,0 +1,331 @@
+-- What the parts of an answer say together.
+use Rattle.std.proofs.Common.{◌≡◌, ◌≢◌, ℕ, ◌<◌, ◌≤◌, List, Option}
+use Rattle.std.proofs.Common.{None, Some, Result, Ok, Err, IfOk, All}
+use Rattle.std.proofs.Common.{◌⊎◌, inl, inr, refl, sym, ap, subst, arith}
+use Rattle.trips_isa.specs.declared.block.Image.{Image}
+use Rattle.block_image.specs.Spelling.{ImageBytes}
+use Rattle.block_check.specs.Faults.{IsGood}
+use Rattle.block_check.specs.Images.{IsCheckedImage}
+use Rattle.c_tree.specs.declared.typed.TypedProgram.{TypedProgram}
+use Rattle.c_front.specs.declared.refusal.Refusal.{Refusal}
+use Rattle.c_front.specs.declared.refusal.Refusal.TheVariants as stage
+use Rattle.c_front.specs.Fronts.{IsAccepted, IsRefused, MayBeRefused}
+use Rattle.c_compile.specs.Images.{IsImageOf}
+use Rattle.flat_lower.specs.Keeps.{IsInput}
+use Rattle.grid_place.specs.declared.placed.Placing.{Placing}
+use Rattle.trips_outside.specs.Outside.{Rose}
+use Rattle.trips_answers.specs.declared.status.Status.{Status}
+use Rattle.trips_answers.specs.declared.status.Status.TheVariants as status
+use Rattle.trips_answers.specs.declared.answer.Answer.{Answer}
+use Rattle.trips_requests.specs.declared.commands.Command.{Command as Work}
+use Rattle.trips_requests.specs.declared.commands.Command.TheVariants.{Run, Evaluate, Compile}
+use Rattle.trips_requests.specs.declared.commands.Command.TheVariants.{Assemble, Disassemble, Check}
+use Rattle.trips_answers.specs.declared.forms.FileForm.{FileForm}
+use Rattle.trips_answers.specs.declared.forms.FileForm.TheVariants as form
+use Rattle.trips_answers.specs.declared.forms.Settings.{Settings}
+use Rattle.trips_answers.specs.declared.loading.Loaded.{Loaded}
+use Rattle.trips_answers.specs.declared.loading.Loaded.TheVariants.{Fault, TooLarge, Bytes}
+use Rattle.std.proofs.Common.{option_map}
+use Rattle.trips_requests.specs.declared.commands.Asked.{Asked}
+use Rattle.trips_requests.specs.Requests as line
+use Rattle.trips_answers.specs.Request.{Request, origin_held, planned, request_seen}
+use Rattle.trips_answers.specs.Read.{IsRead, IsInputRead, limit_of}
+use Rattle.trips_answers.specs.Read.{most_input_bytes, most_source_bytes, most_target_bytes, most_image_bytes}
+use Rattle.target_asm_spec.specs.Text.{TargetText}
+use Rattle.trips_report.specs.declared.said.Said.{Said}
+use Rattle.trips_report.specs.Refusals.{refusal_report}
+use Rattle.trips_tools.specs.declared.made.Made.{Made}
+use Rattle.trips_tools.specs.declared.made.Made.TheVariants as tool
+use Rattle.trips_tools.specs.Tools as tools
+use Rattle.trips_tools.specs.Tools.{IsOneImage, IsGoodImage, Makes}
+use Rattle.trips_answers.specs.Made.{IsMade}
+use Rattle.trips_answers.specs.Refusal.{front_refusal}
+use Rattle.trips_answers.specs.Refused.{IsRefusedByFront, IsNoImage, IsBadImage}
+use Rattle.trips_answers.specs.Worked.{IsRefusalBy, IsRunBy, IsEvaluation, IsDone}
+use Rattle.trips_answers.specs.Answer.{AfterReading, IsAnswerBehind, IsAnswer}
+use Rattle.trips_answers.specs.Checked.{IsRunOfChecked}
+
+-- every block of a checked image is good
+pub checked_good : (image : Image) → IsCheckedImage image → All IsGood image.blocks
+checked_good image checked = λ k d lt. (checked.each k d lt).good
+
+-- refusals of texts ---------------------------------------------------------------------------
+
+-- a refusal that is no want of memory is that of the text
+refusal_is : (text : List ℕ) (r : Refusal) → MayBeRefused text r → r ≢ stage.Memory
+    → IsRefused text r
+refusal_is text (stage.Lex e) may some = may
+refusal_is text (stage.Parse e) may some = may
+refusal_is text (stage.Typing e) may some = may
+refusal_is text stage.Memory may some = absurd (some refl)
+
+-- the refusal of a text, with its report
+front_told : (text : List ℕ) (refusal : Refusal) → MayBeRefused text refusal
+    → refusal ≢ stage.Memory → IsRefusedByFront text (front_refusal refusal)
+front_told text refusal may some = (refusal, refusal_is text refusal may some, refl)
+
+-- the refusal of a text under `run`
+pub run_refused_told : {E : Type 0} (text input : List ℕ) (settings : Settings) (refusal : Refusal)
+    (r : Result Answer E) → MayBeRefused text refusal
+    → IfOk r (λ a. IsRefusalBy refusal a.status a.report.items)
+    → IfOk r (λ a. IsDone Run form.Source settings text input a.status a.report.items)
+run_refused_told text input settings refusal (Err e) may told = tt
+run_refused_told text input settings refusal (Ok a) may told =
+    inl (front_refusal refusal, front_told text refusal may told.0, told.1)
+
+-- the run of the image that is compiled from a text
+pub compiled_told : {E : Type 0} (text input : List ℕ) (settings : Settings) (image : Image)
+    (r : Result Answer E) → IsImageOf text settings.placing image → IsInput input
+    → IfOk r (λ a. IsRunBy image.blocks image.bytes input settings a.status a.report.items)
+    → IfOk r (λ a. IsDone Run form.Source settings text input a.status a.report.items)
+compiled_told text input settings image (Err e) is bytes told = tt
+compiled_told text input settings image (Ok a) is bytes told = inr (image, is, bytes, told)
+
+-- the refusal of a text under `eval`
+pub eval_refused_told : {E : Type 0} (steps : ℕ) (text input : List ℕ) (refusal : Refusal)
+    (r : Result Answer E) → MayBeRefused text refusal
+    → IfOk r (λ a. IsRefusalBy refusal a.status a.report.items)
+    → IfOk r (λ a. (how : FileForm) (settings : Settings) → settings.most ≡ steps
+    → IsDone Evaluate how settings text input a.status a.report.items)
+eval_refused_told steps text input refusal (Err e) may told = tt
+eval_refused_told steps text input refusal (Ok a) may told =
+    λ how settings same. inl (front_refusal refusal, front_told text refusal may told.0, told.1)
+
+-- the evaluation of an accepted text
+pub evaluated_told : {E : Type 0} (steps : ℕ) (text input : List ℕ) (program : TypedProgram)
+    (r : Result Answer E) → IsAccepted text program
+    → IfOk r (λ a. IsEvaluation program input steps a.status a.report.items)
+    → IfOk r (λ a. (how : FileForm) (settings : Settings) → settings.most ≡ steps
+    → IsDone Evaluate how settings text input a.status a.report.items)
+evaluated_told steps text input program (Err e) is told = tt
+evaluated_told steps text input program (Ok a) is told = λ how settings same. inr (
+  program,
+  is,
+  subst (λ (m : ℕ). IsEvaluation program input m a.status a.report.items) (sym same) told,
+)
+
+-- the refusal of a text under `compile`
+pub compile_refused_told : {E : Type 0} (text : List ℕ) (placing : Placing) (refusal : Refusal)
+    (r : Result Answer E)
+    → MayBeRefused text refusal → IfOk r (λ a. IsRefusalBy refusal a.status a.report.items)
+    → IfOk r (λ a. (how : FileForm) (settings : Settings) (input : List ℕ) → settings.placing ≡ placing
+    → IsDone Compile how settings text input a.status a.report.items)
+compile_refused_told text placing refusal (Err e) may told = tt
+compile_refused_told text placing refusal (Ok a) may told =
+    λ how settings input same. inl (front_refusal refusal, front_told text refusal may told.0, told.1)
+
+-- the image that is compiled from a text is written
+pub written_told : {E : Type 0} (text : List ℕ) (placing : Placing) (image : Image)
+    (r : Result Answer E) → IsImageOf text placing image
+    → IfOk r (λ a. ImageBytes image a.report.items × (a.status ≡ status.Ended))
+    → IfOk r (λ a. (how : FileForm) (settings : Settings) (input : List ℕ) → settings.placing ≡ placing
+    → IsDone Compile how settings text input a.status a.report.items)
+written_told text placing image (Err e) is told = tt
+written_told text placing image (Ok a) is told = λ how settings input same.
+    inr (image, subst (λ (p : Placing). IsImageOf text p image) (sym same) is, told.0, told.1)
+
+-- images --------------------------------------------------------------------------------------
+
+checked_done : (bytes input : List ℕ) (settings : Settings) (image : Image) (s : Status) (report : List ℕ)
+    → ImageBytes image bytes → IsRunOfChecked image settings input s report
+    → IsDone Run form.Image settings bytes input s report
+checked_done bytes input settings image s report spelled (inl run) =
+    inr (image, spelled, run.0, run.1)
+checked_done bytes input settings image s report spelled (inr bad) =
+    inl (_, inr (image, bad.0, bad.1, spelled, bad.2, refl), bad.3)
+
+-- the answer to the image that the bytes spell
+pub image_told : {E : Type 0} (bytes input : List ℕ) (settings : Settings) (image : Image)
+    (r : Result Answer E) → ImageBytes image bytes
+    → IfOk r (λ a. IsRunOfChecked image settings input a.status a.report.items)
+    → IfOk r (λ a. IsDone Run form.Image settings bytes input a.status a.report.items)
+image_told bytes input settings image (Err e) spelled told = tt
+image_told bytes input settings image (Ok a) spelled told =
+    checked_done bytes input settings image a.status a.report.items spelled told
+
+checked_target : (text input : List ℕ) (settings : Settings) (image : Image) (s : Status)
+    (report : List ℕ) → TargetText image text → IsRunOfChecked image settings input s report
+    → IsDone Run form.Target settings text input s report
+checked_target text input settings image s report spelled (inl run) =
+    inr (image, spelled, run.0, run.1)
+checked_target text input settings image s report spelled (inr bad) =
+    inl (_, inr (image, bad.0, bad.1, spelled, bad.2, refl), bad.3)
+
+-- the answer to the image of a target text
+pub target_told : {E : Type 0} (text input : List ℕ) (settings : Settings) (image : Image)
+    (r : Result Answer E) → TargetText image text
+    → IfOk r (λ a. IsRunOfChecked image settings input a.status a.report.items)
+    → IfOk r (λ a. IsDone Run form.Target settings text input a.status a.report.items)
+target_told text input settings image (Err e) spelled told = tt
+target_told text input settings image (Ok a) spelled told =
+    checked_target text input settings image a.status a.report.items spelled told
+
+-- what tools make ----------------------------------------------------------------------------
+
+-- the image of a target text, or its refusal
+pub assembled_told : {E : Type 0} (text : List ℕ) (made : Made) (r : Result Answer E)
+    → Makes (IsOneImage text) (tools.IsNoText text) made
+    → IfOk r (λ a. IsMade made a.status a.report.items)
+    → IfOk r (λ a. (how : FileForm) (settings : Settings) (input : List ℕ)
+    → IsDone Assemble how settings text input a.status a.report.items)
+assembled_told text made (Err e) h told = tt
+assembled_told text (tool.Bytes bytes) (Ok a) h told =
+    λ how settings input. inr (subst (IsOneImage text) (sym told.1) h, told.0)
+assembled_told text (tool.Refused said) (Ok a) h told =
+    λ how settings input. inl (refusal_report said, (h.0, h.1, ap refusal_report h.2), told)
+
+-- the target text of an image, or its refusal
+pub disassembled_told : {E : Type 0} (bytes : List ℕ) (made : Made) (r : Result Answer E)
+    → Makes (λ text. IsOneImage text bytes) (tools.IsNoImage bytes) made
+    → IfOk r (λ a. IsMade made a.status a.report.items)
+    → IfOk r (λ a. (how : FileForm) (settings : Settings) (input : List ℕ)
+    → IsDone Disassemble how settings bytes input a.status a.report.items)
+disassembled_told bytes made (Err e) h told = tt
+disassembled_told bytes (tool.Bytes text) (Ok a) h told =
+    λ how settings input.
+    inr (subst (λ (t : List ℕ). IsOneImage t bytes) (sym told.1) h, told.0)
+disassembled_told bytes (tool.Refused said) (Ok a) h told =
+    λ how settings input. inl (refusal_report said, (h.0, h.1, ap refusal_report h.2), told)
+
+-- the report on an image, or its refusal
+not_good : (bytes : List ℕ) (said : Said) → tools.IsNoImage bytes said ⊎ tools.IsBadImage bytes said
+    → IsNoImage bytes (refusal_report said) ⊎ IsBadImage bytes (refusal_report said)
+not_good bytes said (inl x) = inl (x.0, x.1, ap refusal_report x.2)
+not_good bytes said (inr x) = inr (x.0, x.1, x.2, x.3, x.4, ap refusal_report x.5)
+
+pub checked_told : {E : Type 0} (bytes : List ℕ) (made : Made) (r : Result Answer E)
+    → Makes (IsGoodImage bytes)
+    (λ said. tools.IsNoImage bytes said ⊎ tools.IsBadImage bytes said) made
+    → IfOk r (λ a. IsMade made a.status a.report.items)
+    → IfOk r (λ a. (how : FileForm) (settings : Settings) (input : List ℕ)
+    → IsDone Check how settings bytes input a.status a.report.items)
+checked_told bytes made (Err e) h told = tt
+checked_told bytes (tool.Bytes good) (Ok a) h told =
+    λ how settings input. inr (subst (IsGoodImage bytes) (sym told.1) h, told.0)
+checked_told bytes (tool.Refused said) (Ok a) h told =
+    λ how settings input. inl (refusal_report said, not_good bytes said h, told)
+
+-- the work -----------------------------------------------------------------------------------
+
+-- any file has fewer bytes than 2^32 - 1
+pub few_bytes : (how : FileForm) → limit_of how < 4294967295
+unfolding most_source_bytes most_target_bytes most_image_bytes
+few_bytes form.Source = omega arith
+few_bytes form.Target = omega arith
+few_bytes form.Image = omega arith
+
+-- what `eval` does, whatever its file is read as
+pub evaluate_told : {E : Type 0} (work : Work) (how : FileForm) (steps : ℕ) (settings : Settings)
+    (bytes seen input : List ℕ) (r : Result Answer E) → work ≡ Evaluate → settings.most ≡ steps
+    → seen ≡ input
+    → IfOk r (λ a. (f : FileForm) (t : Settings) → t.most ≡ steps
+    → IsDone Evaluate f t bytes seen a.status a.report.items)
+    → IfOk r (λ a. IsDone work how settings bytes input a.status a.report.items)
+evaluate_told work how steps settings bytes seen input (Err e) is most same told = tt
+evaluate_told work how steps settings bytes seen input (Ok a) is most same told =
+    subst (λ (w : Work). IsDone w how settings bytes input a.status a.report.items) (sym is)
+    (subst (λ (i : List ℕ). IsDone Evaluate how settings bytes i a.status a.report.items) same
+    (told how settings most))
+
+-- what `run` does with a file of this form
+pub run_form_told : {E : Type 0} (work : Work) (how read : FileForm) (settings seen : Settings)
+    (bytes input : List ℕ) (r : Result Answer E) → work ≡ Run → read ≡ how → seen ≡ settings
+    → IfOk r (λ a. IsDone Run read seen bytes input a.status a.report.items)
+    → IfOk r (λ a. IsDone work how settings bytes input a.status a.report.items)
+run_form_told work how read settings seen bytes input (Err e) is same set told = tt
+run_form_told work how read settings seen bytes input (Ok a) is same set told =
+    subst (λ (w : Work). IsDone w how settings bytes input a.status a.report.items) (sym is)
+    (subst (λ (f : FileForm). IsDone Run f settings bytes input a.status a.report.items) same
+    (subst (λ (t : Settings). IsDone Run read t bytes input a.status a.report.items) set told))
+
+-- what `compile` does, whatever its file is read as
+pub compile_told : {E : Type 0} (work : Work) (how : FileForm) (placing : Placing)
+    (settings : Settings) (bytes input : List ℕ) (r : Result Answer E) → work ≡ Compile
+    → settings.placing ≡ placing
+    → IfOk r (λ a. (f : FileForm) (t : Settings) (i : List ℕ) → t.placing ≡ placing
+    → IsDone Compile f t bytes i a.status a.report.items)
+    → IfOk r (λ a. IsDone work how settings bytes input a.status a.report.items)
+compile_told work how placing settings bytes input (Err e) is same told = tt
+compile_told work how placing settings bytes input (Ok a) is same told =
+    subst (λ (w : Work). IsDone w how settings bytes input a.status a.report.items) (sym is)
+    (told how settings input same)
+
+-- what a tool does, whatever is asked for besides its file
+pub tool_told : {E : Type 0} (work which : Work) (how : FileForm) (settings : Settings)
+    (bytes input : List ℕ) (r : Result Answer E) → work ≡ which
+    → IfOk r (λ a. (f : FileForm) (t : Settings) (i : List ℕ)
+    → IsDone which f t bytes i a.status a.report.items)
+    → IfOk r (λ a. IsDone work how settings bytes input a.status a.report.items)
+tool_told work which how settings bytes input (Err e) is told = tt
+tool_told work which how settings bytes input (Ok a) is told =
+    subst (λ (w : Work). IsDone w how settings bytes input a.status a.report.items) (sym is)
+    (told how settings input)
+
+-- the whole answer ----------------------------------------------------------------------------
+
+-- a count that rose in a part of a time rose in the whole
+pub rose_first : (old now new : ℕ) → now ≤ new → Rose old now → Rose old new
+rose_first old now new le up = omega arith
+
+pub rose_last : (old now new : ℕ) → old ≤ now → Rose now new → Rose old new
+rose_last old now new le up = omega arith
+
+read_first : (told : Option (List ℕ)) (old now new limit : ℕ) (loaded : Loaded) → now ≤ new
+    → IsRead told (Rose old now) limit loaded → IsRead told (Rose old new) limit loaded
+read_first told old now new limit Fault le h = rose_first old now new le h
+read_first told old now new limit TooLarge le h = h
+read_first told old now new limit (Bytes bytes) le h = h
+
+read_last : (told : Option (List ℕ)) (old now new limit : ℕ) (loaded : Loaded) → old ≤ now
+    → IsRead told (Rose now new) limit loaded → IsRead told (Rose old new) limit loaded
+read_last told old now new limit Fault le h = rose_last old now new le h
+read_last told old now new limit TooLarge le h = h
+read_last told old now new limit (Bytes bytes) le h = h
+
+input_last : (input : Option (List ℕ)) (held : List ℕ → Option (List ℕ)) (old now new : ℕ)
+    (loaded : Loaded) → old ≤ now → IsInputRead input held (Rose now new) loaded
+    → IsInputRead input held (Rose old new) loaded
+input_last None held old now new loaded le h = h
+input_last (Some name) held old now new loaded le h =
+    read_last (held name) old now new most_input_bytes loaded le h
+
+-- the answer for what reading the file came to
+pub loaded_told : {E : Type 0} (q : Request) (held : List ℕ → Option (List ℕ)) (rose : Type 0)
+    (limit : ℕ) (loaded : Loaded) (r : Result Answer E) → limit ≡ limit_of q.form
+    → IsRead (origin_held held q.origin) rose limit loaded
+    → IfOk r (λ a. AfterReading loaded (λ bytes. IsAnswerBehind q held rose bytes a.status
+    a.report.items) a.status a.report.items)
+    → IfOk r (λ a. IsAnswer (Some q) held rose a.status a.report.items)
+loaded_told q held rose limit loaded (Err e) is h told = tt
+loaded_told q held rose limit loaded (Ok a) is h told =
+    (loaded, subst (λ (n : ℕ). IsRead (origin_held held q.origin) rose n loaded) is h, told)
+
+-- the answer behind a file that was read
+pub behind_told : {E : Type 0} (q : Request) (held kept : List ℕ → Option (List ℕ))
+    (old now new : ℕ) (bytes : List ℕ) (r : Result Answer E) → kept ≡ held → old ≤ now
+    → now ≤ new → IsRead (origin_held held q.origin) (Rose old now) (limit_of q.form) (Bytes bytes)
+    → IfOk r (λ a. IsAnswerBehind q kept (Rose now new) bytes a.status a.report.items)
+    → IfOk r (λ a. IsAnswer (Some q) held (Rose old new) a.status a.report.items)
+behind_told q held kept old now new bytes (Err e) same le next h told = tt
+behind_told q held kept old now new bytes (Ok a) same le next h told =
+    let here = subst (λ (k : List ℕ → Option (List ℕ)). IsAnswerBehind q k (Rose now new) bytes
+    a.status a.report.items) same told in (
+      Bytes bytes,
+      read_first (origin_held held q.origin) old now new (limit_of q.form) (Bytes bytes) next h,
+      (here.0, input_last q.input held old now new here.0 le here.1, here.2),
+    )
+
+-- the request of the code is that of the words
+pub seen_told : (r : Option Asked) (o : Option line.Request) → option_map line.request_seen r ≡ o
+    → option_map request_seen r ≡ option_map planned o
+seen_told None o e = ap (option_map planned) e
+seen_told (Some asked) o e = ap (option_map planned) e
+
+-- the answer to the request of the words
+pub asked_told : {E : Type 0} (seen request : Option Request) (held : List ℕ → Option (List ℕ))
+    (rose : Type 0) (r : Result Answer E) → seen ≡ request
+    → IfOk r (λ a. IsAnswer seen held rose a.status a.report.items)
+    → IfOk r (λ a. IsAnswer request held rose a.status a.report.items)
+asked_told seen request held rose (Err e) is told = tt
+asked_told seen request held rose (Ok a) is told =
+    subst (λ q. IsAnswer q held rose a.status a.report.items) is told

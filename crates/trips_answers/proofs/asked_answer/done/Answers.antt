@@ -1,0 +1,48 @@
+use Rattle.std.proofs.Common.{◌≤◌, ◌<◌, length, sym, ap, subst, arith}
+use Rattle.trips_answers.specs.declared.forms.FileForm.{FileForm}
+use Rattle.trips_answers.specs.Read.{limit_of}
+use Rattle.trips_answers.specs.Request.{form_of}
+use Rattle.trips_answers.specs.declared.forms.Settings.{Settings}
+use Rattle.trips_answers.proofs.Told.{evaluate_told, few_bytes, run_form_told, compile_told, tool_told}
+use Rattle.trips_answers.proofs.asked_answer.done.Goals as goal
+
+pub text_evaluated-requires : goal.text_evaluated-requires
+text_evaluated-requires c =
+    let few = few_bytes (form_of c.args.asked.command c.args.asked.file.now) in
+    omega (arith, few, c.requires.few)
+
+pub text_compiled-requires : goal.text_compiled-requires
+text_compiled-requires c =
+    let few = few_bytes (form_of c.args.asked.command c.args.asked.file.now) in
+    omega (arith, few, c.requires.few)
+
+pub run_done-requires-clause-few : goal.run_done-requires-clause-few
+run_done-requires-clause-few c =
+    subst (λ (f : FileForm). length c.args.bytes.now ≤ limit_of f) (sym c.form_of-form.ensures) c.requires.few
+
+pub run_done-requires-clause-some : goal.run_done-requires-clause-some
+run_done-requires-clause-some c = subst (λ (t : Settings). 0 < t.most) (sym c.settings_for-settings.ensures)
+    c.requires.some
+
+pub returns-in-Run : goal.returns-in-Run
+returns-in-Run c = run_form_told _ _ _ _ _ _ _ _ c.in-Run.is c.form_of-form.ensures
+    c.settings_for-settings.ensures c.run_done.ensures
+
+pub returns-in-Evaluate : goal.returns-in-Evaluate
+returns-in-Evaluate c =
+    evaluate_told _ _ _ _ _ _ _ _ c.in-Evaluate.is
+    (sym (ap (λ (t : Settings). t.most) c.settings_for-settings.ensures)) c.as_slice.ensures.value
+    c.text_evaluated.ensures
+
+pub returns-in-Compile : goal.returns-in-Compile
+returns-in-Compile c = compile_told _ _ _ _ _ _ _ c.in-Compile.is
+    (sym (ap (λ (t : Settings). t.placing) c.settings_for-settings.ensures)) c.text_compiled.ensures
+
+pub returns-in-Assemble : goal.returns-in-Assemble
+returns-in-Assemble c = tool_told _ _ _ _ _ _ _ c.in-Assemble.is c.text_assembled.ensures
+
+pub returns-in-Disassemble : goal.returns-in-Disassemble
+returns-in-Disassemble c = tool_told _ _ _ _ _ _ _ c.in-Disassemble.is c.bytes_disassembled.ensures
+
+pub returns-in-Check : goal.returns-in-Check
+returns-in-Check c = tool_told _ _ _ _ _ _ _ c.in-Check.is c.bytes_checked.ensures

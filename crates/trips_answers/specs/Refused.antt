@@ -1,0 +1,89 @@
+-- Which requests are refused, and with which reports.
+use Rattle.std.specs.Prelude.{◌≡◌, ℕ, ◌<◌, List, Option, None, Some, IfSome, IsSomeAnd, length}
+use Rattle.std.specs.Prelude.{◌⊎◌}
+use Rattle.trips_isa.specs.declared.block.Image.{Image}
+use Rattle.c_front.specs.declared.refusal.Refusal.{Refusal}
+use Rattle.c_front.specs.Fronts as fronts
+use Rattle.block_image.specs.declared.fault.ImageFault.{ImageFault}
+use Rattle.block_image.specs.Spelling.{ImageBytes}
+use Rattle.block_image.specs.FirstFault.{FirstFault}
+use Rattle.block_check.specs.declared.fault.CheckFault.{CheckFault}
+use Rattle.block_check.specs.Images.{IsFirstBad}
+use Rattle.target_asm_spec.specs.declared.fault.AsmFault.{AsmFault}
+use Rattle.target_asm_spec.specs.FirstAsmFault.{FirstAsmFault}
+use Rattle.target_asm_spec.specs.Text.{TargetText}
+use Rattle.trips_requests.specs.declared.commands.Command.{Command as Work}
+use Rattle.trips_requests.specs.declared.commands.Command.TheVariants.{Run, Evaluate, Compile}
+use Rattle.trips_requests.specs.declared.commands.Command.TheVariants.{Assemble, Disassemble, Check}
+use Rattle.trips_answers.specs.declared.forms.FileForm.{FileForm}
+use Rattle.trips_answers.specs.declared.forms.FileForm.TheVariants as form
+use Rattle.trips_answers.specs.Request.{Request, origin_held}
+use Rattle.trips_answers.specs.Read.{most_input_bytes, limit_of}
+use Rattle.trips_report.specs.Refusals.{image_text, asm_text, check_text}
+use Rattle.trips_answers.specs.Refusal.{front_refusal}
+
+-- a stage of the front end refuses the text, and this is its report
+abbrev pub IsRefusedByFront : List ℕ → List ℕ → Type 0
+IsRefusedByFront text report =
+    (r : Refusal) × fronts.IsRefused text r × (report ≡ front_refusal r)
+
+-- the bytes are no image, and go wrong first where the report says
+abbrev pub IsNoImage : List ℕ → List ℕ → Type 0
+IsNoImage bytes report =
+    (fault : ImageFault) × FirstFault bytes fault × (report ≡ image_text fault)
+
+-- the bytes are an image, and the report names its first block that is not good
+abbrev pub IsBadImage : List ℕ → List ℕ → Type 0
+IsBadImage bytes report = (image : Image) × (number : ℕ) × (fault : CheckFault)
+    × ImageBytes image bytes × IsFirstBad image number fault
+    × (report ≡ check_text number fault)
+
+-- the text is no target text, and goes wrong first where the report says
+abbrev pub IsNoText : List ℕ → List ℕ → Type 0
+IsNoText text report =
+    (fault : AsmFault) × FirstAsmFault text fault × (report ≡ asm_text fault)
+
+-- the text is that of an image, and the report names its first block that is not good
+abbrev pub IsBadText : List ℕ → List ℕ → Type 0
+IsBadText text report = (image : Image) × (number : ℕ) × (fault : CheckFault)
+    × TargetText image text × IsFirstBad image number fault
+    × (report ≡ check_text number fault)
+
+-- The bytes of a file are refused by what is done with it, with this report: a row for each command
+-- and each form of its file.
+abbrev pub IsRefusedAs : Work → FileForm → List ℕ → List ℕ → Type 0
+IsRefusedAs Evaluate how text report = IsRefusedByFront text report
+IsRefusedAs Run form.Source text report = IsRefusedByFront text report
+IsRefusedAs Run form.Target text report = IsNoText text report ⊎ IsBadText text report
+IsRefusedAs Run form.Image bytes report = IsNoImage bytes report ⊎ IsBadImage bytes report
+IsRefusedAs Compile how text report = IsRefusedByFront text report
+IsRefusedAs Assemble how text report = IsNoText text report
+IsRefusedAs Disassemble how bytes report = IsNoImage bytes report
+IsRefusedAs Check how bytes report = IsNoImage bytes report ⊎ IsBadImage bytes report
+
+-- the file has too many bytes, or they are refused
+abbrev pub IsBad : Request → List ℕ → Type 0
+IsBad q bytes = (limit_of q.form < length bytes)
+    ⊎ ((report : List ℕ) × IsRefusedAs q.work q.form bytes report)
+
+-- an input that is named has too many bytes, as far as it is told
+abbrev pub MayBeLarge : Option (List ℕ) → (List ℕ → Option (List ℕ)) → Type 0
+MayBeLarge None held = ⊥
+MayBeLarge (Some name) held = IfSome (held name) (λ bytes. most_input_bytes < length bytes)
+
+-- and it is told to have too many
+abbrev pub IsLarge : Option (List ℕ) → (List ℕ → Option (List ℕ)) → Type 0
+IsLarge None held = ⊥
+IsLarge (Some name) held = IsSomeAnd (held name) (λ bytes. most_input_bytes < length bytes)
+
+-- the request is refused only where this holds
+abbrev pub MayBeRefused : Option Request → (List ℕ → Option (List ℕ)) → Type 0
+MayBeRefused None held = ⊥
+MayBeRefused (Some q) held =
+    IfSome (origin_held held q.origin) (IsBad q) ⊎ MayBeLarge q.input held
+
+-- and it is refused where this holds
+abbrev pub IsRefused : Option Request → (List ℕ → Option (List ℕ)) → Type 0
+IsRefused None held = ⊥
+IsRefused (Some q) held =
+    IsSomeAnd (origin_held held q.origin) (IsBad q) ⊎ IsLarge q.input held

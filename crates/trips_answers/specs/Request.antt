@@ -1,0 +1,92 @@
+-- Which request the words of a command line make: that of `trips_requests`, and what its file is read as.
+use Rattle.std.specs.Prelude.{ℕ, if◌then◌else◌, List, map, String, Option, None, Some, option_map}
+use Rattle.std.specs.Prelude.{codes, nat_eq, string_bytes}
+use Rattle.std.specs.List.{ends_with}
+use Rattle.bench_text.specs.Text.{bench_text}
+use Rattle.grid_place.specs.declared.placed.Placing.{Placing}
+use Rattle.grid_place.specs.declared.placed.Placing.TheVariants.{Greedy, Seeded}
+use Rattle.trips_report.specs.declared.show.Show.{Show}
+use Rattle.trips_requests.specs.declared.commands.Asked.{Asked}
+use Rattle.trips_requests.specs.declared.commands.Command.{Command as Work}
+use Rattle.trips_requests.specs.declared.commands.Command.TheVariants as command
+use Rattle.trips_requests.specs.Requests as line
+use Rattle.trips_answers.specs.declared.forms.FileForm.{FileForm}
+use Rattle.trips_answers.specs.declared.forms.FileForm.TheVariants as form
+use Rattle.trips_answers.specs.declared.forms.Settings.{Settings}
+
+-- Where the bytes stand that a request works with: in the file of a name, or in the text of the benchmark
+-- with so many functions.
+pub data Origin : Type 0 where
+  File : (name : List ℕ) → Origin
+  Bench : (functions : ℕ) → Origin
+
+-- the bytes that stand there, as far as the names tell
+abbrev pub origin_held : (List ℕ → Option (List ℕ)) → Origin → Option (List ℕ)
+origin_held held (File name) = held name
+origin_held held (Bench functions) = Some (bench_text functions)
+
+-- the file, where no number of functions is said
+abbrev pub origin_of : List ℕ → Option ℕ → Origin
+origin_of file None = File file
+origin_of file (Some functions) = Bench functions
+
+-- how compiled blocks are placed, by the number that is said
+abbrev pub placing_of : Option ℕ → Placing
+placing_of None = Greedy
+placing_of (Some number) = Seeded number
+
+-- A request: what is done, with the bytes of what, read as what, with the input of which name, if it has
+-- one, how compiled blocks are placed, the seed of the grid, how many blocks or steps it may take, and what
+-- the report of a run shows behind its ending.
+pub record Request : Type 0 where
+  pub work : Work
+  pub origin : Origin
+  pub form : FileForm
+  pub input : Option (List ℕ)
+  pub placing : Placing
+  pub seed : ℕ
+  pub most : ℕ
+  pub show : Show
+
+-- how a request's work is done within so many blocks or steps, where this is shown
+abbrev pub settings_with : Request → ℕ → Show → Settings
+settings_with q most show = record { placing = q.placing; seed = q.seed; most = most; show = show }
+
+-- how the work of a request is done
+abbrev pub settings_of : Request → Settings
+settings_of q = settings_with q q.most q.show
+
+-- what `run` reads a file as, by the ending of its name
+abbrev pub form_named : List ℕ → FileForm
+form_named file = if ends_with nat_eq file (codes ".img") then form.Image
+    else if ends_with nat_eq file (codes ".tasl") then form.Target else form.Source
+
+-- what a command reads a file as
+abbrev pub form_of : Work → List ℕ → FileForm
+form_of command.Run file = form_named file
+form_of command.Evaluate file = form.Source
+form_of command.Compile file = form.Source
+form_of command.Assemble file = form.Target
+form_of command.Disassemble file = form.Image
+form_of command.Check file = form.Image
+
+-- the request that words ask for
+abbrev pub planned : line.Request → Request
+planned r = record {
+  work = r.command;
+  origin = origin_of r.file r.functions;
+  form = form_of r.command r.file;
+  input = r.input;
+  placing = placing_of r.place;
+  seed = r.seed;
+  most = r.most;
+  show = record { regs = r.regs; trace = r.trace; cycles = r.cycles };
+}
+
+-- the request of the words of a command line, without the program's name
+abbrev pub request_of : {A : Type 0} → List (String A) → Option Request
+request_of words = option_map planned (line.asked (map (λ word. string_bytes word) words))
+
+-- a request of the code
+abbrev pub request_seen : Asked → Request
+request_seen request = planned (line.request_seen request)

@@ -1,0 +1,110 @@
+-- What a call of the program answered and wrote, status by status.
+use Rattle.std.specs.Prelude.{◌≡◌, ℕ, ◌<◌, ◌≤◌, List, [], ◌∷◌, ◌++◌, length, Option, Some, codes}
+use Rattle.std.specs.Prelude.{IsSomeAnd, ◌⊎◌, ℤ}
+use Rattle.std.specs.Fmt.{signed_decimal}
+use Rattle.trips_outside.specs.Outside.{Appended, AppendedPart, Holds}
+use Rattle.trips_isa.specs.declared.block.Image.{Image}
+use Rattle.trips_isa.specs.declared.run.Counts.{Counts}
+use Rattle.trips_isa.specs.Machine.{runs, start}
+use Rattle.grid_cycle_spec.specs.Costs.{cost_of}
+use Rattle.trips_report.specs.declared.show.Show.{Show}
+use Rattle.trips_requests.specs.declared.commands.Command.{Command as Work}
+use Rattle.trips_requests.specs.declared.commands.Command.TheVariants.{Evaluate}
+use Rattle.trips_answers.specs.declared.forms.FileForm.{FileForm}
+use Rattle.trips_answers.specs.declared.forms.Settings.{Settings}
+use Rattle.trips_answers.specs.declared.status.Status.{Status}
+use Rattle.trips_answers.specs.declared.status.Status.TheVariants as status
+use Rattle.trips_answers.specs.Request.{Request, origin_held, settings_of}
+use Rattle.trips_answers.specs.Read.{HoldsInput, IsTold, limit_of}
+use Rattle.trips_answers.specs.Refused.{IsLarge}
+use Rattle.trips_report.specs.Runs.{output_and}
+use Rattle.trips_answers.specs.Report.{ending_of, shown_behind, nothing_shown}
+use Rattle.trips_answers.specs.Counted.{IsCountedRun}
+use Rattle.trips_answers.specs.Worked.{IsWorked}
+use Rattle.trips_answers.specs.Answer.{IsAnswer}
+
+-- Some answer that holds was cut off: the first part of its report was written.
+abbrev pub IsCutOff : Option Request → (List ℕ → Option (List ℕ)) → Type 0
+    → Option (List ℕ) → Option (List ℕ) → Type 0
+IsCutOff request held rose old new = (other : Status) × (report : List ℕ)
+    × IsAnswer request held rose other report × AppendedPart old new report
+
+-- The table: nothing was appended, the first part of a report where the sink's count of faults rose
+-- (`cut`), or all of the report of this very answer.
+abbrev pub IsAnswered : Option Request → (List ℕ → Option (List ℕ)) → Type 0
+    → Option (List ℕ) → Option (List ℕ) → Type 0 → Status → Type 0
+IsAnswered request held rose old new cut status.Memory = Appended old new []
+IsAnswered request held rose old new cut status.WriteFault =
+    cut × IsCutOff request held rose old new
+IsAnswered request held rose old new cut s = (report : List ℕ)
+    × IsAnswer request held rose s report × Appended old new report
+
+-- the report of a run that ended with an output and a result
+abbrev pub ended_report : List ℕ → ℤ → List ℕ
+ended_report output result = output_and output (codes "result " ++ signed_decimal result)
+
+-- the report of a run whose stack was full, with the output so far
+abbrev pub full_report : List ℕ → List ℕ
+full_report output = output_and output (codes "stack full")
+
+-- one of these statuses
+abbrev pub IsOneOf : Status → List Status → Type 0
+IsOneOf s [] = ⊥
+IsOneOf s (one ∷ others) = (s ≡ one) ⊎ IsOneOf s others
+
+-- The request asks for this work on a file that is read so, within so many blocks or steps: the
+-- file and the input are told, are these, and are within their limits. This is what a run shows.
+pub record AsksFor (request : Option Request) (held : List ℕ → Option (List ℕ)) (work : Work)
+    (how : FileForm) (most : ℕ) (show : Show) (bytes input : List ℕ) : Type 0 where
+  pub q : Request
+  pub asked : request ≡ Some q
+  pub is_work : q.work ≡ work
+  pub is_form : q.form ≡ how
+  pub is_most : q.most ≡ most
+  pub is_show : q.show ≡ show
+  pub told : IsTold q held bytes input
+
+-- the same where nothing is shown behind the ending
+abbrev pub Asks : Option Request → (List ℕ → Option (List ℕ)) → Work → FileForm → ℕ → List ℕ
+    → List ℕ → Type 0
+Asks request held work how most bytes input =
+    AsksFor request held work how most nothing_shown bytes input
+
+-- The run of an image was reported: with this status, and with this text, behind which stands what is shown of the end
+-- of the machine's run and of the counts of the grid's run.
+abbrev pub IsReported : Image → List ℕ → Settings → Status → List ℕ → Status → Option (List ℕ)
+    → Option (List ℕ) → Type 0
+IsReported image input settings wanted text s old new =
+    let run = runs image.blocks (start image.bytes input) settings.most in
+    (counts : Counts) × IsCountedRun image.blocks image.bytes input settings.seed settings.most
+    (ending_of run.1 run.0.next) counts × (s ≡ wanted)
+    × Appended old new (shown_behind text run.0 counts (cost_of image.blocks run.0.trace) settings.show)
+
+-- the request's file is told, and is longer than its limit
+abbrev pub HasLargeFile : Request → (List ℕ → Option (List ℕ)) → Type 0
+HasLargeFile q held =
+    IsSomeAnd (origin_held held q.origin) (λ bytes. limit_of q.form < length bytes)
+
+-- the file is told and within its limit, and the input is told and longer than its own
+abbrev pub HasLargeInput : Request → (List ℕ → Option (List ℕ)) → Type 0
+HasLargeInput q held =
+    IsSomeAnd (origin_held held q.origin) (λ bytes. length bytes ≤ limit_of q.form)
+    × IsLarge q.input held
+
+-- A request's work ended with this status: the file and the input are those that the names hold, as
+-- far as they are told, and the status and some report are those of the work with them.
+pub record EndsAs (held : List ℕ → Option (List ℕ)) (q : Request) (s : Status) : Type 0 where
+  pub bytes : List ℕ
+  pub input : List ℕ
+  pub report : List ℕ
+  pub holds : Holds (origin_held held q.origin) bytes
+  pub holds_input : HoldsInput q.input held input
+  pub worked : IsWorked q.work q.form (settings_of q) bytes input s report
+
+-- the request is an evaluation that ended so
+pub record EvalEnds (request : Option Request) (held : List ℕ → Option (List ℕ)) (s : Status)
+    : Type 0 where
+  pub q : Request
+  pub asked : request ≡ Some q
+  pub is_work : q.work ≡ Evaluate
+  pub ends : EndsAs held q s

@@ -1,0 +1,130 @@
+-- What is done with the bytes of a file: the status and the report.
+use Rattle.std.specs.Prelude.{◌≡◌, ◌≢◌, ℕ, List}
+use Rattle.std.specs.Prelude.{◌⊎◌, All}
+use Rattle.trips_isa.specs.declared.block.Block.{Block}
+use Rattle.trips_isa.specs.declared.block.Image.{Image}
+use Rattle.trips_isa.specs.declared.run.Counts.{Counts}
+use Rattle.trips_isa.specs.declared.run.Ending.{Ending}
+use Rattle.trips_isa.specs.declared.run.Ending.TheVariants as ending
+use Rattle.trips_isa.specs.Machine.{runs, start}
+use Rattle.c_tree.specs.declared.typed.TypedProgram.{TypedProgram}
+use Rattle.c_front.specs.declared.refusal.Refusal.{Refusal}
+use Rattle.c_front.specs.declared.refusal.Refusal.TheVariants.{Memory}
+use Rattle.c_front.specs.Fronts.{IsAccepted}
+use Rattle.c_compile.specs.Images.{IsImageOf}
+use Rattle.flat_lower.specs.Keeps as bytes
+use Rattle.grid_place.specs.declared.placed.Placing.{Placing}
+use Rattle.grid_cycle_spec.specs.Costs.{cost_of}
+use Rattle.c_meaning_spec.specs.Eval.{eval}
+use Rattle.c_meaning.specs.declared.outcome.Outcome.{Outcome}
+use Rattle.c_meaning.specs.declared.outcome.Outcome.TheVariants as outcome
+use Rattle.c_meaning.specs.Answer.{answer}
+use Rattle.block_image.specs.Spelling.{ImageBytes}
+use Rattle.block_check.specs.Faults.{IsGood}
+use Rattle.target_asm_spec.specs.Text.{TargetText}
+use Rattle.trips_tools.specs.Tools.{IsOneImage, IsGoodImage}
+use Rattle.trips_requests.specs.declared.commands.Command.{Command as Work}
+use Rattle.trips_requests.specs.declared.commands.Command.TheVariants.{Run, Evaluate, Compile}
+use Rattle.trips_requests.specs.declared.commands.Command.TheVariants.{Assemble, Disassemble, Check}
+use Rattle.trips_answers.specs.declared.forms.FileForm.{FileForm}
+use Rattle.trips_answers.specs.declared.forms.FileForm.TheVariants as form
+use Rattle.trips_answers.specs.declared.forms.Settings.{Settings}
+use Rattle.trips_answers.specs.declared.status.Status.{Status}
+use Rattle.trips_answers.specs.declared.status.Status.TheVariants as status
+use Rattle.trips_answers.specs.Report.{ending_of, shown_report}
+use Rattle.trips_answers.specs.Refusal.{front_refusal}
+use Rattle.trips_report.specs.Evaluations.{eval_report}
+use Rattle.trips_answers.specs.Refused.{IsRefusedAs}
+use Rattle.trips_answers.specs.Counted.{IsCountedRun}
+
+-- this status, with this text
+abbrev pub IsFixed : Status → List ℕ → Status → List ℕ → Type 0
+IsFixed given text s report = (s ≡ given) × (report ≡ text)
+
+-- a refusal that is no want of memory, with its report
+abbrev pub IsRefusalBy : Refusal → Status → List ℕ → Type 0
+IsRefusalBy r s report = (r ≢ Memory) × IsFixed status.Refused (front_refusal r) s report
+
+-- Runs and evaluations ------------------------------------------------------------------------
+
+-- the status that tells an ending
+abbrev pub status_of : Ending → Status
+status_of ending.Ended = status.Ended
+status_of ending.StackFull = status.StackFull
+status_of ending.Budget = status.Budget
+status_of (ending.Trap block cause) = status.Trap
+
+-- These tell the sequential machine's run of an image on an input, within a budget of blocks, and what the grid
+-- counted of it.
+abbrev pub IsRunBy : List Block → List ℕ → List ℕ → Settings → Status → List ℕ → Type 0
+IsRunBy blocks bytes input settings s report =
+    let run = runs blocks (start bytes input) settings.most in
+    let ended = ending_of run.1 run.0.next in
+    (counts : Counts) × IsCountedRun blocks bytes input settings.seed settings.most ended counts
+    × IsFixed (status_of ended)
+    (shown_report ended run.0 counts (cost_of blocks run.0.trace) settings.show) s report
+
+-- the status that tells an outcome
+abbrev pub eval_status : Outcome → Status
+eval_status outcome.More = status.Budget
+eval_status outcome.Undefined = status.Undefined
+eval_status outcome.Deep = status.StackFull
+eval_status (outcome.Done output result steps) = status.Ended
+
+-- what the definition says of a program, an input and a number of steps
+abbrev pub outcome_of : TypedProgram → List ℕ → ℕ → Outcome
+outcome_of program input steps = answer (eval program input steps)
+
+-- These tell the evaluation of a program on an input, within some steps.
+abbrev pub IsEvaluation : TypedProgram → List ℕ → ℕ → Status → List ℕ → Type 0
+IsEvaluation program input steps s report = let o = outcome_of program input steps in
+    IsFixed (eval_status o) (eval_report o) s report
+
+-- What is done with the bytes of a file -------------------------------------------------------
+
+-- the text's program is evaluated
+abbrev pub IsEvaluationOf : ℕ → List ℕ → List ℕ → Status → List ℕ → Type 0
+IsEvaluationOf most text input s report = (program : TypedProgram) × IsAccepted text program
+    × IsEvaluation program input most s report
+
+-- the image that is compiled from the text is run, on an input of bytes
+abbrev pub IsRunOfText : Settings → List ℕ → List ℕ → Status → List ℕ → Type 0
+IsRunOfText settings text input s report = (image : Image) × IsImageOf text settings.placing image
+    × bytes.IsInput input × IsRunBy image.blocks image.bytes input settings s report
+
+-- the image is run, all of whose blocks are good
+abbrev pub IsRunOfImage : Settings → List ℕ → List ℕ → Status → List ℕ → Type 0
+IsRunOfImage settings bytes input s report = (image : Image) × ImageBytes image bytes
+    × All IsGood image.blocks × IsRunBy image.blocks image.bytes input settings s report
+
+-- the image of the target text is run, all of whose blocks are good
+abbrev pub IsRunOfTarget : Settings → List ℕ → List ℕ → Status → List ℕ → Type 0
+IsRunOfTarget settings text input s report = (image : Image) × TargetText image text
+    × All IsGood image.blocks × IsRunBy image.blocks image.bytes input settings s report
+
+-- the image that is compiled from the text is written
+abbrev pub IsCompiled : Placing → List ℕ → Status → List ℕ → Type 0
+IsCompiled placing text s report = (image : Image) × IsImageOf text placing image
+    × ImageBytes image report × (s ≡ status.Ended)
+
+-- The work is done with the bytes of the file and of the input, by these settings: a row for each
+-- command and each form of its file.
+abbrev pub IsWorked : Work → FileForm → Settings → List ℕ → List ℕ → Status → List ℕ → Type 0
+IsWorked Evaluate how settings text input s report = IsEvaluationOf settings.most text input s report
+IsWorked Run form.Source settings text input s report = IsRunOfText settings text input s report
+IsWorked Run form.Target settings text input s report = IsRunOfTarget settings text input s report
+IsWorked Run form.Image settings bytes input s report = IsRunOfImage settings bytes input s report
+IsWorked Compile how settings text input s report = IsCompiled settings.placing text s report
+IsWorked Assemble how settings text input s report = IsOneImage text report × (s ≡ status.Ended)
+IsWorked Disassemble how settings bytes input s report = IsOneImage report bytes × (s ≡ status.Ended)
+IsWorked Check how settings bytes input s report = IsGoodImage bytes report × (s ≡ status.Ended)
+
+-- the bytes of the file are refused with the report that says why
+abbrev pub IsRefusal : Work → FileForm → List ℕ → Status → List ℕ → Type 0
+IsRefusal work how bytes s report =
+    (text : List ℕ) × IsRefusedAs work how bytes text × IsFixed status.Refused text s report
+
+-- they are refused, or the work is done
+abbrev pub IsDone : Work → FileForm → Settings → List ℕ → List ℕ → Status → List ℕ → Type 0
+IsDone work how settings bytes input s report =
+    IsRefusal work how bytes s report ⊎ IsWorked work how settings bytes input s report

@@ -1,0 +1,167 @@
+//! The answer to a request: its file is read first, then its input, and then the work is done.
+
+ghost use Rattle.std.specs.Prelude.{◌≡◌, ◌<◌, ◌≤◌, length, Some, IfOk, IfSome, option_map};
+ghost use Rattle.trips_outside.specs.Outside.{Rose};
+ghost use Rattle.trips_answers.specs.Request.{form_of, settings_of, request_seen};
+ghost use Rattle.trips_answers.specs.Read.{limit_of};
+ghost use Rattle.trips_answers.specs.Worked.{IsDone};
+ghost use Rattle.trips_answers.specs.Answer.{AfterReading, IsAnswerBehind, IsAnswer};
+
+use crate::answer::{Answer, no_request, too_large, unread};
+use crate::eval_answer::text_evaluated;
+use crate::forms::{FileForm, Settings, form_of, settings_for};
+use crate::image_answer::{bytes_answer, target_answer};
+use crate::loading::{Loaded, read_input, read_origin};
+use crate::text_answer::{text_answer, text_compiled};
+use crate::tool_answer::{bytes_checked, bytes_disassembled, text_assembled};
+use base::Items;
+use c_tree::MOST_SOURCE_BYTES;
+use std::alloc::{AllocError, Global};
+use trips_outside::Files;
+use trips_requests::{Asked, Command};
+
+/// How many bytes a target text may have.
+pub const MOST_TARGET_BYTES: u64 = 67_108_864;
+
+/// How many bytes an image may have.
+pub const MOST_IMAGE_BYTES: u64 = 71_303_188;
+
+// How many bytes a file may have, by what it is read as.
+#[tactic(auto, unfolding(crate::specs::Read::most_source_bytes, crate::specs::Read::most_target_bytes, crate::specs::Read::most_image_bytes))]
+fn limit_for(form: FileForm) -> u64
+    ensures { result ≡ limit_of form }
+{
+    match form {
+        FileForm::Source => MOST_SOURCE_BYTES,
+        FileForm::Target => MOST_TARGET_BYTES,
+        FileForm::Image => MOST_IMAGE_BYTES,
+    }
+}
+
+// Runs what the bytes of a file are.
+fn run_done(
+    alloc: Global,
+    form: FileForm,
+    bytes: &[u8],
+    input: Items<u8>,
+    settings: Settings,
+) -> Result<Answer, AllocError>
+    requires few { length bytes.now ≤ limit_of form }
+    requires some { 0 < settings.most }
+    ensures { IfOk result (λ answer. IsDone Command.Run form settings bytes.now input
+        answer.status answer.report.items) }
+{
+    match form {
+        FileForm::Source => text_answer(alloc, bytes, input, settings),
+        FileForm::Target => target_answer(alloc, bytes, input, settings),
+        FileForm::Image => bytes_answer(alloc, bytes, input, settings),
+    }
+}
+
+// Does the work with the bytes of the file and of the input.
+fn done(
+    alloc: Global,
+    asked: Asked<'_>,
+    bytes: &[u8],
+    input: Items<u8>,
+) -> Result<Answer, AllocError>
+    requires few { length bytes.now ≤ limit_of (form_of asked.command asked.file.now) }
+    requires some { 0 < asked.most }
+    ensures { IfOk result (λ answer. IsDone asked.entry.command
+        (form_of asked.entry.command asked.entry.file.now) (settings_of (request_seen asked.entry))
+        bytes.now input answer.status answer.report.items) }
+{
+    let settings = settings_for(asked);
+    match asked.command {
+        Command::Run => {
+            let form = form_of(asked.command, asked.file);
+            run_done(alloc, form, bytes, input, settings)
+        }
+        Command::Evaluate => text_evaluated(alloc, bytes, input.as_slice(), settings.most),
+        Command::Compile => text_compiled(alloc, bytes, settings.placing),
+        Command::Assemble => text_assembled(alloc, bytes),
+        Command::Disassemble => bytes_disassembled(alloc, bytes),
+        Command::Check => bytes_checked(alloc, bytes),
+    }
+}
+
+// What is answered once the input was read.
+fn input_answer(
+    alloc: Global,
+    asked: Asked<'_>,
+    bytes: &[u8],
+    loaded: Loaded,
+) -> Result<Answer, AllocError>
+    requires few { length bytes.now ≤ limit_of (form_of asked.command asked.file.now) }
+    requires some { 0 < asked.most }
+    ensures { IfOk result (λ answer. AfterReading loaded
+        (λ input. IsDone asked.entry.command
+        (form_of asked.entry.command asked.entry.file.now) (settings_of (request_seen asked.entry))
+        bytes.now input answer.status answer.report.items)
+        answer.status answer.report.items) }
+{
+    match loaded {
+        Loaded::Fault => unread(alloc),
+        Loaded::TooLarge => too_large(alloc),
+        Loaded::Bytes(input) => done(alloc, asked, bytes, input),
+    }
+}
+
+// What is answered once the file was read.
+fn file_answer<F: Files>(
+    alloc: Global,
+    files: &mut F,
+    asked: Asked<'_>,
+    bytes: &[u8],
+) -> Result<Answer, AllocError>
+    requires few { length bytes.now ≤ limit_of (form_of asked.command asked.file.now) }
+    requires some { 0 < asked.most }
+    ensures answer { IfOk result (λ answer. IsAnswerBehind (request_seen asked.entry)
+        (F.held files.old) (Rose (F.faults files.old) (F.faults files.new)) bytes.now
+        answer.status answer.report.items) }
+    ensures kept { F.held files.new ≡ F.held files.old }
+    ensures later { F.faults files.old ≤ F.faults files.new }
+{
+    let loaded = read_input(alloc, files, asked.input)?;
+    input_answer(alloc, asked, bytes, loaded)
+}
+
+// What is answered to a request.
+fn asked_answer<F: Files>(
+    alloc: Global,
+    files: &mut F,
+    asked: Asked<'_>,
+) -> Result<Answer, AllocError>
+    requires some { 0 < asked.most }
+    ensures answer { IfOk result (λ answer. IsAnswer (Some (request_seen asked.entry))
+        (F.held files.old) (Rose (F.faults files.old) (F.faults files.new))
+        answer.status answer.report.items) }
+    ensures kept { F.held files.new ≡ F.held files.old }
+    ensures later { F.faults files.old ≤ F.faults files.new }
+{
+    let limit = limit_for(form_of(asked.command, asked.file));
+    match read_origin(alloc, files, asked.file, asked.functions, limit)? {
+        Loaded::Fault => unread(alloc),
+        Loaded::TooLarge => too_large(alloc),
+        Loaded::Bytes(bytes) => file_answer(alloc, files, asked, bytes.as_slice()),
+    }
+}
+
+/// What is answered to a request, or where there is none. Nothing is written yet.
+pub fn answer_to<F: Files>(
+    alloc: Global,
+    files: &mut F,
+    asked: Option<Asked<'_>>,
+) -> Result<Answer, AllocError>
+    requires some { IfSome asked (λ request. 0 < request.most) }
+    ensures answer { IfOk result (λ answer. IsAnswer (option_map request_seen asked.entry)
+        (F.held files.old) (Rose (F.faults files.old) (F.faults files.new))
+        answer.status answer.report.items) }
+    ensures kept { F.held files.new ≡ F.held files.old }
+    ensures later { F.faults files.old ≤ F.faults files.new }
+{
+    match asked {
+        None => no_request(alloc),
+        Some(asked) => asked_answer(alloc, files, asked),
+    }
+}

@@ -1,0 +1,83 @@
+//! What a request reads its file as, and how its work is done.
+
+ghost use Rattle.std.specs.Prelude.{◌≡◌};
+ghost use Rattle.trips_answers.specs.Request.{form_named, form_of, placing_of, settings_of, request_seen};
+
+use grid_place::Placing;
+use trips_report::Show;
+use trips_requests::{Asked, Command};
+
+/// What a file is read as.
+#[derive(Clone, Copy, Debug, PartialEq, Eq)]
+pub enum FileForm {
+    Source,
+    Target,
+    Image,
+}
+
+/// How the work of a request is done.
+#[derive(Clone, Copy, Debug)]
+pub struct Settings {
+    /// how the blocks of a compiled program are placed
+    pub placing: Placing,
+    /// the seed of the grid's predictor and of its network's delays
+    pub seed: u64,
+    /// how many blocks or steps it may take
+    pub most: u32,
+    /// what the report of a run shows behind its ending
+    pub show: Show,
+}
+
+// What `run` reads a file as, by the ending of its name.
+fn form_named(file: &str) -> FileForm
+    ensures { result ≡ form_named file.now }
+{
+    let bytes = file.as_bytes();
+    if bytes.ends_with(b".img") {
+        FileForm::Image
+    } else if bytes.ends_with(b".tasl") {
+        FileForm::Target
+    } else {
+        FileForm::Source
+    }
+}
+
+/// What a command reads a file as.
+pub fn form_of(command: Command, file: &str) -> FileForm
+    ensures { result ≡ form_of command file.now }
+{
+    match command {
+        Command::Run => form_named(file),
+        Command::Evaluate => FileForm::Source,
+        Command::Compile => FileForm::Source,
+        Command::Assemble => FileForm::Target,
+        Command::Disassemble => FileForm::Image,
+        Command::Check => FileForm::Image,
+    }
+}
+
+// How compiled blocks are placed, by the number that is said.
+fn placing_of(place: Option<u64>) -> Placing
+    ensures { result ≡ placing_of place }
+{
+    match place {
+        None => Placing::Greedy,
+        Some(number) => Placing::Seeded(number),
+    }
+}
+
+/// How the work of a request is done.
+pub fn settings_for(asked: Asked<'_>) -> Settings
+    ensures { result ≡ settings_of (request_seen asked.entry) }
+{
+    Settings {
+        placing: placing_of(asked.place),
+        seed: asked.seed,
+        most: asked.most,
+        show: Show {
+            regs: asked.regs,
+            trace: asked.trace,
+            cycles: asked.cycles,
+        },
+    }
+}

@@ -1,0 +1,25 @@
+//! The answers to requests: a status, and the report that is written.
+//!
+//! [`answer_to`] answers any request. [`run_plain`] and [`eval_plain`] answer two plain words, and
+//! each of them reaches the work of its one command alone. Which answers hold is one relation that
+//! has a row for each command (`specs/Answer.antt`), and what is written is a table by status over
+//! it (`specs/Table.antt`).
+#![tactic(auto)]
+
+mod answer;
+mod asked_answer;
+mod eval_answer;
+mod forms;
+mod gridded;
+mod image_answer;
+mod loading;
+mod plain;
+mod report;
+mod status;
+mod text_answer;
+mod tool_answer;
+
+pub use answer::Answer;
+pub use asked_answer::answer_to;
+pub use plain::{eval_plain, run_plain};
+pub use status::Status;

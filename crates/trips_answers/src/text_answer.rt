@@ -1,0 +1,82 @@
+//! `run` and `compile` on a text of C.
+
+ghost use Rattle.std.specs.Prelude.{◌≡◌, ◌<◌, ℕ, List, length, IfOk};
+ghost use Rattle.block_image.specs.Spelling.{ImageBytes};
+ghost use Rattle.trips_requests.specs.declared.commands.Command.TheVariants.{Run, Compile};
+ghost use Rattle.trips_answers.specs.declared.forms.FileForm.{FileForm};
+ghost use Rattle.trips_answers.specs.declared.forms.FileForm.TheVariants as form;
+ghost use Rattle.trips_answers.specs.declared.forms.Settings.{Settings};
+ghost use Rattle.flat_lower.specs.Keeps.{IsInput};
+ghost use Rattle.trips_answers.specs.Worked.{IsDone};
+
+use crate::answer::{Answer, stage_refused};
+use crate::forms::Settings;
+use crate::gridded::run_image;
+use crate::status::Status;
+use base::{Items, Memory};
+use block_check::CheckedImage;
+use block_image::encode;
+use c_compile::compile;
+use grid_place::Placing;
+use std::alloc::{AllocError, Global};
+
+// Bytes are an input of a program.
+fn is_input(input: &[u8])
+    ensures { IsInput input.now }
+{}
+
+/// What `run` answers for a text of C and an input: its program is compiled, and its image runs.
+pub fn text_answer(
+    alloc: Global,
+    text: &[u8],
+    input: Items<u8>,
+    settings: Settings,
+) -> Result<Answer, AllocError>
+    requires few { length text.now < 4_294_967_295 }
+    requires some { 0 < settings.most }
+    ensures { IfOk result (λ answer. IsDone Run form.Source settings text.now input answer.status
+        answer.report.items) }
+{
+    match compile(alloc, text, settings.placing) {
+        Ok(image) => {
+            is_input(input.as_slice());
+            run_image(alloc, image, input, settings)
+        }
+        Err(refusal) => stage_refused(alloc, refusal),
+    }
+}
+
+// The bytes of an image that was compiled.
+fn image_bytes(alloc: Global, image: &CheckedImage) -> Result<Vec<u8>, Memory>
+    ensures { IfOk result (λ bytes. ImageBytes image.now bytes.items) }
+{
+    let copy = image.copy_out(alloc)?;
+    encode(alloc, &copy)
+}
+
+// They are written.
+fn image_written(alloc: Global, image: &CheckedImage) -> Result<Answer, AllocError>
+    ensures { IfOk result (λ answer. ImageBytes image.now answer.report.items
+        × (answer.status ≡ Status.Ended)) }
+{
+    match image_bytes(alloc, image) {
+        Ok(report) => Ok(Answer {
+            status: Status::Ended,
+            report,
+        }),
+        Err(_) => Err(AllocError),
+    }
+}
+
+/// What `compile` answers for a text of C: the bytes of its image.
+pub fn text_compiled(alloc: Global, source: &[u8], placing: Placing) -> Result<Answer, AllocError>
+    requires { length source.now < 4_294_967_295 }
+    ensures { IfOk result (λ answer. (form : FileForm) (settings : Settings) (input : List ℕ)
+        → settings.placing ≡ placing
+        → IsDone Compile form settings source.now input answer.status answer.report.items) }
+{
+    match compile(alloc, source, placing) {
+        Ok(image) => image_written(alloc, &image),
+        Err(refusal) => stage_refused(alloc, refusal),
+    }
+}

@@ -1,0 +1,85 @@
+-- Each request has some blocks or steps.
+use Rattle.std.proofs.Common.{◌≡◌, ℕ, ◌<◌, Bool, true, false, cond, nat_le, List, [], ◌∷◌, Option, None, Some}
+use Rattle.std.proofs.Common.{IfSome, Result, Ok, Err, IfOk, refl, sym, subst, arith, option_map, option_and_then}
+use Rattle.std.specs.Prelude.{◌&&◌}
+use Rattle.std.proofs.lemmas.Bool.Decides.{nat_tests}
+use Rattle.trips_requests.specs.declared.commands.Verb.{Verb}
+use Rattle.trips_requests.specs.declared.commands.Asked.{Asked}
+use Rattle.trips_requests.specs.declared.commands.TheConstants.{MOST_COUNT}
+use Rattle.trips_requests.specs.Numbers.{is_number, value_from, number_to}
+use Rattle.trips_requests.specs.Words.{Text, file_name, value_said, words_read}
+use Rattle.trips_requests.specs.Options.{Options, options_of, options_said}
+use Rattle.trips_requests.specs.Requests.{Request, verb_named, request_seen, asked}
+use Rattle.trips_requests.specs.Requests.{functions_said, most_said, place_said, seed_said, request_counted}
+use Rattle.trips_requests.specs.Requests.{request_of_file, request_with, request_of, request_by}
+
+-- the request has some
+abbrev HasSome : Request → Type 0
+HasSome r = 0 < r.most
+
+-- what holds of each value that may be given next holds of what is given
+bind : {A : Type 0} (f : A → Option Request) (o : Option A) → ((a : A) → IfSome (f a) HasSome)
+    → IfSome (option_and_then f o) HasSome
+bind f None h = tt
+bind f (Some a) h = h a
+
+bind_with : (f : ℕ → Option Request) (o : Option ℕ) → IfSome o (λ n. 0 < n)
+    → ((n : ℕ) → 0 < n → IfSome (f n) HasSome) → IfSome (option_and_then f o) HasSome
+bind_with f None some h = tt
+bind_with f (Some n) some h = h n some
+
+last : {A : Type 0} (f : A → Request) (o : Option A) → ((a : A) → HasSome (f a))
+    → IfSome (option_map f o) HasSome
+last f None h = tt
+last f (Some a) h = h a
+
+positive : (n : ℕ) → nat_le 1 n ≡ true → 0 < n
+positive n e = grind (arith, nat_tests)
+
+some_number : (most : ℕ) (word : Text) → IfSome (number_to most word) (λ n. 0 < n)
+some_number most word =
+    go (is_number word) (nat_le 1 (value_from 0 word)) (nat_le (value_from 0 word) most) refl
+  where
+    go : (a b c : Bool) → nat_le 1 (value_from 0 word) ≡ b
+        → IfSome (cond (a && (b && c)) (Some (value_from 0 word)) None) (λ n. 0 < n)
+    go true true true e = positive (value_from 0 word) e
+    go true true false e = tt
+    go true false true e = tt
+    go true false false e = tt
+    go false true true e = tt
+    go false true false e = tt
+    go false false true e = tt
+    go false false false e = tt
+
+some_most : (word : Option Text) → IfSome (most_said word) (λ n. 0 < n)
+some_most None = omega arith
+some_most (Some word) = some_number MOST_COUNT word
+
+some_file : (k : Verb) (name : Text) (options : Options) → IfSome (request_of_file k name options) HasSome
+some_file k name options =
+    bind _ (functions_said k name) (λ functions.
+    bind_with _ (most_said options.number) (some_most options.number) (λ most some.
+    bind _ (place_said name options.place) (λ place.
+    last (request_counted k name options functions most place) (seed_said options.seed) (λ seed. some))))
+
+some_with : (k : Verb) (file : Option Text) (options : Options) → IfSome (request_with k file options) HasSome
+some_with k file options = bind _ file (λ name. some_file k name options)
+
+some_by : (words : List Text) (k : Verb) → IfSome (request_by words k) HasSome
+some_by words k = bind (request_of k) (words_read (options_of k) None [] words)
+    (λ said. some_with k (value_said file_name said) (options_said k said))
+
+some_asked : (words : List Text) → IfSome (asked words) HasSome
+some_asked [] = tt
+some_asked (name ∷ words) = bind (request_by words) (verb_named name) (some_by words)
+
+seen_some : (o : Option Asked) (r : Option Request) → option_map request_seen o ≡ r → IfSome r HasSome
+    → IfSome o (λ a. 0 < a.most)
+seen_some None r e h = tt
+seen_some (Some a) r e h = subst (λ (x : Option Request). IfSome x HasSome) (sym e) h
+
+-- a request of the code that words make
+pub some_blocks : {E : Type 0} (words : List Text) (r : Result (Option Asked) E)
+    → IfOk r (λ o. option_map request_seen o ≡ asked words) → IfOk r (λ o. IfSome o (λ a. 0 < a.most))
+some_blocks words (Err e) h = tt
+some_blocks words (Ok o) h = seen_some o (asked words) h (some_asked words)

@@ -1,0 +1,129 @@
+-- Words and their requests, worked by hand from the README of this crate.
+use Rattle.std.proofs.Common.{◌≡◌, refl, [], ◌∷◌, Some, None, codes, true, false}
+use Rattle.trips_requests.specs.declared.commands.Command.TheVariants as command
+use Rattle.trips_requests.specs.Requests.{Request, verb_named, asked}
+
+-- a run of a.c with nothing asked besides
+abbrev plain : Request
+plain = record {
+  command = command.Run;
+  file = codes "a.c";
+  functions = None;
+  input = None;
+  most = 1000000;
+  place = None;
+  seed = 0;
+  regs = false;
+  trace = false;
+  cycles = false;
+}
+
+pub run_is : asked (codes "run" ∷ codes "a.c" ∷ []) ≡ Some plain
+unfolding verb_named
+run_is = refl
+
+-- options stand before and behind the file, in both spellings
+pub both_spellings_are : asked (codes "run" ∷ codes "--blocks=100" ∷ codes "--trace" ∷ codes "a.c"
+    ∷ codes "--input" ∷ codes "-" ∷ [])
+    ≡ Some (record plain { input = Some (codes "-"); most = 100; trace = true })
+unfolding verb_named
+both_spellings_are = refl
+
+-- the benchmark's word is a number, which stands before or behind its option
+pub bench_is : asked (codes "bench" ∷ codes "--blocks" ∷ codes "9" ∷ codes "64" ∷ [])
+    ≡ Some (record plain { file = codes "64"; functions = Some 64; most = 9 })
+unfolding verb_named
+bench_is = refl
+
+pub bench_is_refused : asked (codes "bench" ∷ codes "65" ∷ []) ≡ None
+unfolding verb_named
+bench_is_refused = refl
+
+-- C is placed by a number, which may be any word of the machine, and else nothing is
+pub placed_is : asked (codes "compile" ∷ codes "a.c" ∷ codes "--place=18446744073709551615" ∷ [])
+    ≡ Some (record plain { command = command.Compile; place = Some 18446744073709551615 })
+unfolding verb_named
+placed_is = refl
+
+pub placed_by_zero : asked (codes "run" ∷ codes "--place" ∷ codes "0" ∷ codes "a.c" ∷ [])
+    ≡ Some (record plain { place = Some 0 })
+unfolding verb_named
+placed_by_zero = refl
+
+pub place_is_large : asked (codes "run" ∷ codes "a.c" ∷ codes "--place=18446744073709551616" ∷ []) ≡ None
+unfolding verb_named
+place_is_large = refl
+
+pub no_image_is_placed : asked (codes "run" ∷ codes "b.img" ∷ codes "--place" ∷ codes "1" ∷ []) ≡ None
+unfolding verb_named
+no_image_is_placed = refl
+
+-- the seed may be any word of the machine, and 0 where none is said
+pub seeded_is : asked (codes "bench" ∷ codes "3" ∷ codes "--cycles" ∷ codes "--seed"
+    ∷ codes "18446744073709551615" ∷ [])
+    ≡ Some (record plain { file = codes "3"; functions = Some 3; seed = 18446744073709551615; cycles = true })
+unfolding verb_named
+seeded_is = refl
+
+-- a value may hold a further `=`
+pub equals_is : asked (codes "eval" ∷ codes "a.c" ∷ codes "--input=b=c" ∷ [])
+    ≡ Some (record plain { command = command.Evaluate; input = Some (codes "b=c") })
+unfolding verb_named
+equals_is = refl
+
+-- behind two dashes all words are files
+pub behind_is : asked (codes "run" ∷ codes "--regs" ∷ codes "--" ∷ codes "--trace" ∷ [])
+    ≡ Some (record plain { file = codes "--trace"; regs = true })
+unfolding verb_named
+behind_is = refl
+
+pub dash_is : asked (codes "dis" ∷ codes "-" ∷ [])
+    ≡ Some (record plain { command = command.Disassemble; file = codes "-" })
+unfolding verb_named
+dash_is = refl
+
+-- no request
+pub no_words : asked [] ≡ None
+no_words = refl
+
+pub no_file : asked (codes "run" ∷ codes "--regs" ∷ []) ≡ None
+unfolding verb_named
+no_file = refl
+
+pub two_files : asked (codes "run" ∷ codes "a.c" ∷ codes "b.c" ∷ []) ≡ None
+unfolding verb_named
+two_files = refl
+
+pub no_blocks : asked (codes "run" ∷ codes "a.c" ∷ codes "--blocks" ∷ codes "0" ∷ []) ≡ None
+unfolding verb_named
+no_blocks = refl
+
+pub too_many_blocks : asked (codes "run" ∷ codes "a.c" ∷ codes "--blocks=4000001" ∷ []) ≡ None
+unfolding verb_named
+too_many_blocks = refl
+
+pub twice : asked (codes "run" ∷ codes "a.c" ∷ codes "--blocks" ∷ codes "1" ∷ codes "--blocks"
+    ∷ codes "2" ∷ []) ≡ None
+unfolding verb_named
+twice = refl
+
+-- a word with a dash is no value, and no flag has one
+pub no_value : asked (codes "run" ∷ codes "a.c" ∷ codes "--input" ∷ codes "--" ∷ codes "t" ∷ []) ≡ None
+unfolding verb_named
+no_value = refl
+
+pub flag_with_value : asked (codes "run" ∷ codes "a.c" ∷ codes "--regs=yes" ∷ []) ≡ None
+unfolding verb_named
+flag_with_value = refl
+
+pub short : asked (codes "run" ∷ codes "a.c" ∷ codes "-h" ∷ []) ≡ None
+unfolding verb_named
+short = refl
+
+pub other_option : asked (codes "eval" ∷ codes "a.c" ∷ codes "--blocks" ∷ codes "1" ∷ []) ≡ None
+unfolding verb_named
+other_option = refl
+
+pub no_options : asked (codes "check" ∷ codes "a.img" ∷ codes "--regs" ∷ []) ≡ None
+unfolding verb_named
+no_options = refl

@@ -1,0 +1,5 @@
+pub mod Words
+pub mod Options
+pub mod Requests
+pub mod Numbers
+pub mod Plain

@@ -1,0 +1,49 @@
+-- Two plain words: the name of a command, and a file, with nothing said besides.
+use Rattle.std.specs.Prelude.{Bool, false, not, ◌&&◌, ◌==◌, if◌then◌else◌, List, [], ◌∷◌, codes}
+use Rattle.std.specs.Prelude.{Option, None, Some, option_and_then}
+use Rattle.std.specs.Str.{bytes_eq}
+use Rattle.trips_requests.specs.declared.commands.Command.{Command}
+use Rattle.trips_requests.specs.declared.commands.TheConstants.{DEFAULT_COUNT}
+use Rattle.trips_requests.specs.Requests.{Request, is_c_name}
+use Rattle.trips_requests.specs.Words.{Text}
+
+-- the word begins with a dash
+abbrev pub begins_with_dash : Text → Bool
+begins_with_dash [] = false
+begins_with_dash (x ∷ rest) = x == 45
+
+-- a file that begins with no dash, behind a first word that is this name
+abbrev pub file_behind : Text → Text → Text → Option Text
+file_behind name first file = if bytes_eq first name && not (begins_with_dash file) then Some file else None
+
+-- the file of two words, of which the first is this name
+abbrev pub plain_file : Text → List Text → Option Text
+plain_file name (first ∷ file ∷ []) = file_behind name first file
+plain_file name words = None
+
+-- the file, where it is C by the ending of its name
+abbrev pub c_file : Text → Option Text
+c_file file = if is_c_name file then Some file else None
+
+-- the file of two plain words that ask for a run of a text of C
+abbrev pub plain_run : List Text → Option Text
+plain_run words = option_and_then c_file (plain_file (codes "run") words)
+
+-- the file of two plain words that ask for the evaluation of a text of C, which it is whatever its name ends in
+abbrev pub plain_eval : List Text → Option Text
+plain_eval words = plain_file (codes "eval") words
+
+-- the request to do this with a file, where nothing is said besides
+abbrev pub default_request : Command → Text → Request
+default_request command file = record {
+  command = command;
+  file = file;
+  functions = None;
+  input = None;
+  most = DEFAULT_COUNT;
+  place = None;
+  seed = 0;
+  regs = false;
+  trace = false;
+  cycles = false;
+}

@@ -1,0 +1,139 @@
+-- Which request the words of a command line make (README.md of this crate).
+use Rattle.std.specs.Prelude.{ℕ, Bool, not, ◌&&◌, if◌then◌else◌, nat_eq, List, [], ◌∷◌, codes}
+use Rattle.std.specs.Prelude.{Option, None, Some, option_map, option_and_then, option_copied}
+use Rattle.std.specs.List.{ends_with}
+use Rattle.std.specs.Str.{bytes_eq}
+use Rattle.trips_requests.specs.declared.commands.Command.{Command}
+use Rattle.trips_requests.specs.declared.commands.Command.TheVariants as command
+use Rattle.trips_requests.specs.declared.commands.Asked.{Asked}
+use Rattle.trips_requests.specs.declared.commands.Verb.{Verb}
+use Rattle.trips_requests.specs.declared.commands.Verb.TheVariants as verb
+use Rattle.trips_requests.specs.declared.commands.TheConstants.{DEFAULT_COUNT, MOST_COUNT, MOST_FUNCTIONS, MOST_SEED}
+use Rattle.trips_requests.specs.Numbers.{number_to, number_within}
+use Rattle.trips_requests.specs.Options.{Options, options_of, options_said}
+use Rattle.trips_requests.specs.Words.{Text, Said, file_name, value_said, words_read}
+
+-- what a name stands for
+unfoldable pub verb_named : Text → Option Verb
+verb_named name =
+    if bytes_eq name (codes "run") then Some verb.Run
+    else if bytes_eq name (codes "bench") then Some verb.Bench
+    else if bytes_eq name (codes "eval") then Some verb.Evaluate
+    else if bytes_eq name (codes "compile") then Some verb.Compile
+    else if bytes_eq name (codes "asm") then Some verb.Assemble
+    else if bytes_eq name (codes "dis") then Some verb.Disassemble
+    else if bytes_eq name (codes "check") then Some verb.Check else None
+
+-- what is done: the benchmark is run
+abbrev pub command_of : Verb → Command
+command_of verb.Run = command.Run
+command_of verb.Bench = command.Run
+command_of verb.Evaluate = command.Evaluate
+command_of verb.Compile = command.Compile
+command_of verb.Assemble = command.Assemble
+command_of verb.Disassemble = command.Disassemble
+command_of verb.Check = command.Check
+
+-- What is asked for: a command and its file, or how many functions the benchmark's text has that is run
+-- in its place, the name of the input if there is one, how many blocks or steps it may take, the number by
+-- which compiled blocks are placed if one is said, the seed of the grid, and whether registers, committed
+-- blocks and the counts of the grid are shown.
+pub record Request : Type 0 where
+  pub command : Command
+  pub file : Text
+  -- how many functions the benchmark's text has; none where a file is read
+  pub functions : Option ℕ
+  pub input : Option Text
+  -- how many blocks a run may make, or how many steps an evaluation
+  pub most : ℕ
+  -- without a number instructions are placed greedily
+  pub place : Option ℕ
+  pub seed : ℕ
+  -- what is shown behind the ending of a run: registers, committed blocks with their exits, and the
+  -- grid's counts
+  pub regs : Bool
+  pub trace : Bool
+  pub cycles : Bool
+
+-- how many blocks or steps the number says, and how many are taken without one
+abbrev pub most_said : Option Text → Option ℕ
+most_said None = Some DEFAULT_COUNT
+most_said (Some word) = number_to MOST_COUNT word
+
+-- the file is C, by the ending of its name
+abbrev pub is_c_name : Text → Bool
+is_c_name file =
+    not (ends_with nat_eq file (codes ".img")) && not (ends_with nat_eq file (codes ".tasl"))
+
+-- The number by which compiled blocks are placed, if one is said. It is said of C alone, and may be any word
+-- of the machine.
+abbrev pub place_said : Text → Option Text → Option (Option ℕ)
+place_said file None = Some None
+place_said file (Some word) =
+    if is_c_name file then option_map (λ n. Some n) (number_within MOST_SEED word) else None
+
+-- the seed, which may be any word of the machine, and is 0 where none is said
+abbrev pub seed_said : Option Text → Option ℕ
+seed_said None = Some 0
+seed_said (Some word) = number_within MOST_SEED word
+
+-- how many functions the benchmark has, by its word; none of another command
+abbrev pub functions_said : Verb → Text → Option (Option ℕ)
+functions_said verb.Bench word = option_map (λ n. Some n) (number_to MOST_FUNCTIONS word)
+functions_said other word = Some None
+
+-- the request of a command, of its file or its number of functions, of its numbers and of its options
+abbrev pub request_counted : Verb → Text → Options → Option ℕ → ℕ → Option ℕ → ℕ → Request
+request_counted k name options functions most place seed = record {
+  command = command_of k;
+  file = name;
+  functions = functions;
+  input = options.input;
+  most = most;
+  place = place;
+  seed = seed;
+  regs = options.regs;
+  trace = options.trace;
+  cycles = options.cycles;
+}
+
+-- the request of a command, of its file or its number of functions, and of its options: the numbers are in
+-- their ranges
+abbrev pub request_of_file : Verb → Text → Options → Option Request
+request_of_file k name options =
+    option_and_then (λ functions. option_and_then (λ most. option_and_then (λ place.
+    option_map (request_counted k name options functions most place) (seed_said options.seed))
+    (place_said name options.place)) (most_said options.number)) (functions_said k name)
+
+-- the request of a command, of its file, which it has, and of its options
+abbrev pub request_with : Verb → Option Text → Options → Option Request
+request_with k file options = option_and_then (λ name. request_of_file k name options) file
+
+-- the request of a command and what its words say
+abbrev pub request_of : Verb → Said → Option Request
+request_of k said = request_with k (value_said file_name said) (options_said k said)
+
+-- the request of a command and its words
+abbrev pub request_by : List Text → Verb → Option Request
+request_by words k =
+    option_and_then (request_of k) (words_read (options_of k) None [] words)
+
+-- the request of the words of a command line, without the program's name
+abbrev pub asked : List Text → Option Request
+asked [] = None
+asked (name ∷ words) = option_and_then (request_by words) (verb_named name)
+
+-- a request of the code
+abbrev pub request_seen : Asked → Request
+request_seen asked = record {
+  command = asked.command;
+  file = asked.file.now;
+  functions = asked.functions;
+  input = option_copied asked.input;
+  most = asked.most;
+  place = asked.place;
+  seed = asked.seed;
+  regs = asked.regs;
+  trace = asked.trace;
+  cycles = asked.cycles;
+}

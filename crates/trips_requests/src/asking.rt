@@ -1,0 +1,174 @@
+//! The request of a command, of its file and of what was found of its options.
+
+ghost use Rattle.std.specs.Prelude.{◌≡◌, option_map, option_copied};
+ghost use Rattle.trips_requests.specs.Options.{counted, is_on, options_seen};
+ghost use Rattle.trips_requests.specs.Requests.{verb_named, command_of, most_said};
+ghost use Rattle.trips_requests.specs.Requests.{functions_said, is_c_name, place_said, seed_said};
+ghost use Rattle.trips_requests.specs.Requests.{request_of_file, request_with, request_seen};
+
+use crate::commands::{Asked, Command, DEFAULT_COUNT, MOST_COUNT, MOST_FUNCTIONS, MOST_SEED, Verb};
+use crate::number::{number, number_within};
+
+/// What was found of a command's options: each value if it is said, and whether a flag is.
+#[derive(Clone, Copy)]
+pub struct FoundOptions<'a> {
+    pub input: Option<&'a str>,
+    /// how many blocks or steps
+    pub number: Option<&'a str>,
+    pub place: Option<&'a str>,
+    pub seed: Option<&'a str>,
+    pub regs: bool,
+    pub trace: bool,
+    pub cycles: bool,
+}
+
+/// What a name stands for.
+#[tactic(auto, unfolding(crate::specs::Requests::verb_named))]
+pub fn verb_named(name: &str) -> Option<Verb>
+    ensures { result ≡ verb_named name.now }
+{
+    if name == "run" {
+        Some(Verb::Run)
+    } else if name == "bench" {
+        Some(Verb::Bench)
+    } else if name == "eval" {
+        Some(Verb::Evaluate)
+    } else if name == "compile" {
+        Some(Verb::Compile)
+    } else if name == "asm" {
+        Some(Verb::Assemble)
+    } else if name == "dis" {
+        Some(Verb::Disassemble)
+    } else if name == "check" {
+        Some(Verb::Check)
+    } else {
+        None
+    }
+}
+
+// What is done.
+fn command_of(verb: Verb) -> Command
+    ensures { result ≡ command_of verb }
+{
+    match verb {
+        Verb::Run => Command::Run,
+        Verb::Bench => Command::Run,
+        Verb::Evaluate => Command::Evaluate,
+        Verb::Compile => Command::Compile,
+        Verb::Assemble => Command::Assemble,
+        Verb::Disassemble => Command::Disassemble,
+        Verb::Check => Command::Check,
+    }
+}
+
+/// The option of a command that takes a number.
+pub fn counted(command: Verb) -> &'static str
+    ensures { result.now ≡ counted command }
+{
+    match command {
+        Verb::Run => "blocks",
+        Verb::Bench => "blocks",
+        _ => "steps",
+    }
+}
+
+// How many functions the benchmark has, by its word; none of another command.
+fn functions_said(command: Verb, word: &str) -> Option<Option<u32>>
+    ensures { result ≡ functions_said command word.now }
+{
+    if command == Verb::Bench {
+        let functions = number(word.as_bytes(), MOST_FUNCTIONS)?;
+        Some(Some(functions))
+    } else {
+        Some(None)
+    }
+}
+
+// How many blocks or steps a number says, and how many are taken without one.
+fn most_said(word: Option<&str>) -> Option<u32>
+    ensures { result ≡ most_said (option_copied word.entry) }
+{
+    match word {
+        None => Some(DEFAULT_COUNT),
+        Some(word) => number(word.as_bytes(), MOST_COUNT),
+    }
+}
+
+/// Whether a flag is said, by its value.
+pub fn is_on(value: Option<&str>) -> bool
+    ensures { result ≡ is_on (option_copied value.entry) }
+{
+    match value {
+        Some(text) => text == "true",
+        None => false,
+    }
+}
+
+/// Whether the file is C, by the ending of its name.
+pub fn is_c_name(file: &str) -> bool
+    ensures { result ≡ is_c_name file.now }
+{
+    let bytes = file.as_bytes();
+    !bytes.ends_with(b".img") && !bytes.ends_with(b".tasl")
+}
+
+// The number by which compiled blocks are placed, if one is said: of C alone.
+fn place_said(file: &str, word: Option<&str>) -> Option<Option<u64>>
+    ensures { result ≡ place_said file.now (option_copied word.entry) }
+{
+    match word {
+        None => Some(None),
+        Some(word) => {
+            if !is_c_name(file) {
+                return None;
+            }
+            let place = number_within(word.as_bytes(), MOST_SEED)?;
+            Some(Some(place))
+        }
+    }
+}
+
+// The seed that a word says, and 0 where there is none.
+fn seed_said(word: Option<&str>) -> Option<u64>
+    ensures { result ≡ seed_said (option_copied word.entry) }
+{
+    match word {
+        None => Some(0),
+        Some(word) => number_within(word.as_bytes(), MOST_SEED),
+    }
+}
+
+// The request of a command, of its file or its number of functions, and of its options.
+fn request_of_file<'a>(command: Verb, file: &'a str, options: FoundOptions<'a>) -> Option<Asked<'a>>
+    ensures { option_map request_seen result
+        ≡ request_of_file command file.now (options_seen options.entry) }
+{
+    let functions = functions_said(command, file)?;
+    let most = most_said(options.number)?;
+    let place = place_said(file, options.place)?;
+    let seed = seed_said(options.seed)?;
+    Some(Asked {
+        command: command_of(command),
+        file,
+        functions,
+        input: options.input,
+        most,
+        place,
+        seed,
+        regs: options.regs,
+        trace: options.trace,
+        cycles: options.cycles,
+    })
+}
+
+/// The request of a command, of its file and of its options.
+pub fn request_with<'a>(
+    command: Verb,
+    file: Option<&'a str>,
+    options: FoundOptions<'a>,
+) -> Option<Asked<'a>>
+    ensures { option_map request_seen result
+        ≡ request_with command (option_copied file.entry) (options_seen options.entry) }
+{
+    request_of_file(command, file?, options)
+}

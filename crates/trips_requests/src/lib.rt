@@ -1,0 +1,15 @@
+//! The requests that the words of a command line make, and the code that needs no parser for them.
+//!
+//! What words say is defined in `specs/Words`, and the request in `specs/Requests`. [`request_with`]
+//! makes it of what was found of a command's options. [`plain_run`] and [`plain_eval`] know two words
+//! with nothing said besides.
+#![tactic(auto)]
+
+mod asking;
+mod commands;
+mod number;
+mod plain;
+
+pub use asking::{FoundOptions, counted, is_c_name, is_on, request_with, verb_named};
+pub use commands::{Asked, Command, DEFAULT_COUNT, MOST_COUNT, MOST_FUNCTIONS, MOST_SEED, Verb};
+pub use plain::{plain_eval, plain_run};

@@ -1,6 +1,0 @@
-use Rattle.std.proofs.Common.{arith}
-use Rattle.trips_run.proofs.Told.{few_bytes}
-use Rattle.trips_run.proofs.asked_answer.run_done.Goals as goal
-
-pub text_answer-requires-clause-few : goal.text_answer-requires-clause-few
-text_answer-requires-clause-few c = let few = few_bytes c.args.form in omega (arith, few, c.requires.few)

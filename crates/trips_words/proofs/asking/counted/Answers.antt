@@ -1,5 +1,0 @@
-use Rattle.trips_words.proofs.CommandLemmas.{counts_steps}
-use Rattle.trips_words.proofs.asking.counted.Goals as goal
-
-pub returns-in_default : goal.returns-in_default
-returns-in_default c = counts_steps c.args.command c.in_default.not-Run c.in_default.not-Bench

@@ -1,7 +1,0 @@
-use Rattle.std.proofs.Common.{◌≡◌, drop}
-use Rattle.std.specs.List.{list_all}
-use Rattle.trips_words.specs.Numbers.{is_digit}
-use Rattle.trips_words.proofs.number.is_number_word.Given as goal
-
-abbrev pub invariant-loop-byte : goal.invariant-loop-byte
-invariant-loop-byte l = list_all is_digit l.word ≡ list_all is_digit (drop l.byte-index l.word)
