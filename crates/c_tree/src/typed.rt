@@ -63,7 +63,7 @@ pub enum TypedNode {
     },
     Call {
         function: Callee,
-        args: Items<TypedExpr>,
+        args: Items<Boxed<TypedExpr>>,
     },
     Unary {
         op: UnaryOp,
