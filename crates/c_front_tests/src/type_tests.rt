@@ -249,7 +249,7 @@ fn first_value(globals: &[TypedGlobal]) -> Option<u64> {
 /// Whether a body is `return e;` with an `e` that is converted to int.
 fn gives_converted(body: &[TypedStmt]) -> bool {
     match body {
-        [TypedStmt::Return(Some(e))] => is_converted(e),
+        [TypedStmt::Return(Some(e))] => is_converted(e.get()),
         _ => false,
     }
 }

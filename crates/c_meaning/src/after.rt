@@ -15,6 +15,7 @@ use crate::frame::{Frame, Loop, Operand};
 use crate::runs::MOST_DEPTH;
 use crate::store::Store;
 use crate::words::{binary_of, compound_of, unary_of};
+use base::Boxed;
 use c_constant::convert;
 use c_meaning_spec::Signal;
 use c_tree::{Callee, TypedExpr, TypedProgram, TypedStmt};
@@ -75,7 +76,7 @@ impl<'a> Store<'a> {
         &mut self,
         program: &'a TypedProgram,
         callee: Callee,
-        rest: &'a [TypedExpr],
+        rest: &'a [Boxed<TypedExpr>],
         done: Arguments,
         w: u64,
     ) -> Option<u64>

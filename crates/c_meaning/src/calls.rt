@@ -13,6 +13,7 @@ use crate::call::{add_arrays, add_rows, pad, room_with};
 use crate::direct::{Ran, Stop};
 use crate::frame::{Caller, Frame};
 use crate::store::Store;
+use base::Boxed;
 use c_meaning_spec::{Ending, Signal};
 use c_tree::{Callee, MOST_FRAME_BYTES, TypedExpr, TypedFunc, TypedProgram};
 use std::alloc::AllocError;
@@ -25,7 +26,7 @@ impl<'a> Store<'a> {
         &mut self,
         program: &'a TypedProgram,
         callee: Callee,
-        args: &'a [TypedExpr],
+        args: &'a [Boxed<TypedExpr>],
         depth: u32,
     ) -> Option<u64>
         ensures { Values program.now
@@ -43,7 +44,7 @@ impl<'a> Store<'a> {
         &mut self,
         program: &'a TypedProgram,
         callee: Callee,
-        rest: &'a [TypedExpr],
+        rest: &'a [Boxed<TypedExpr>],
         done: Arguments,
         depth: u32,
     ) -> Option<u64>
@@ -54,7 +55,7 @@ impl<'a> Store<'a> {
         let mut rest = rest;
         let mut done = done;
         while let Some((e, more)) = rest.split_first() {
-            match self.value_of(program, e, depth) {
+            match self.value_of(program, e.get(), depth) {
                 Some(w) => match done.push(w) {
                     Ok(()) => {
                         rest = more;

@@ -1,4 +1,5 @@
 use crate::arguments::Arguments;
+use base::Boxed;
 use c_meaning_spec::{Ending, Object, Signal};
 use c_tree::{BinaryOp, BumpOp, Callee, Kind, Place, TypedExpr, TypedSection, TypedStmt, UnaryOp};
 
@@ -82,7 +83,7 @@ pub enum Frame<'a> {
     },
     Argument {
         callee: Callee,
-        rest: &'a [TypedExpr],
+        rest: &'a [Boxed<TypedExpr>],
         done: Arguments,
     },
     Operand {

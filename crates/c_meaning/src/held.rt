@@ -15,6 +15,7 @@ ghost use Rattle.c_meaning_spec.specs.declared.Object.TheVariants.{InArray, InSc
 use crate::arguments::Arguments;
 use crate::frame::{Frame, Operand};
 use crate::store::Store;
+use base::Boxed;
 use c_meaning_spec::Object;
 use c_tree::{BinaryOp, Callee, Kind, Place, TypedExpr, TypedProgram};
 
@@ -229,7 +230,7 @@ impl<'a> Store<'a> {
         &mut self,
         program: &'a TypedProgram,
         callee: Callee,
-        rest: &'a [TypedExpr],
+        rest: &'a [Boxed<TypedExpr>],
         done: Arguments,
     ) -> Option<u64>
         ensures { (r : Meant) → Stopped program.now r self.old

@@ -146,7 +146,7 @@ impl<'a> Store<'a> {
     {
         match init {
             TypedForInit::Nothing => self.run_loop(program, turn, depth),
-            TypedForInit::First(e) => match self.value_of(program, e, depth) {
+            TypedForInit::First(e) => match self.value_of(program, e.get(), depth) {
                 Some(_) => self.run_loop(program, turn, depth),
                 None => self.kept_first(program, turn),
             },

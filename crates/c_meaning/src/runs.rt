@@ -31,6 +31,16 @@ fn unboxed<'a>(st: &'a Option<Boxed<TypedStmt>>) -> Option<&'a TypedStmt>
     }
 }
 
+// The expression in the box, if there is one.
+fn unboxed_expr<'a>(e: &'a Option<Boxed<TypedExpr>>) -> Option<&'a TypedExpr>
+    ensures { behind result ≡ e.now }
+{
+    match e {
+        None => None,
+        Some(e) => Some(e.get()),
+    }
+}
+
 impl<'a> Store<'a> {
     /// A word into a scalar, as its initial value.
     pub fn initial(&mut self, program: &'a TypedProgram, i: u32, w: u64) -> Ran
@@ -182,18 +192,18 @@ impl<'a> Store<'a> {
             TypedStmt::Declare { place, init } => self.run_declare(
                 program,
                 *place,
-                init.as_ref(),
+                unboxed_expr(init),
                 depth,
             ),
             TypedStmt::Plain(None) => Ran::Nothing,
-            TypedStmt::Plain(Some(e)) => self.run_plain(program, e, depth),
+            TypedStmt::Plain(Some(e)) => self.run_plain(program, e.get(), depth),
             TypedStmt::Compound(all) => self.run_all(program, all.as_slice(), depth),
             TypedStmt::If { test, yes, no } => {
-                self.run_if(program, test, yes.get(), unboxed(no), depth)
+                self.run_if(program, test.get(), yes.get(), unboxed(no), depth)
             }
             TypedStmt::While { test, body } => {
                 let turn = Loop {
-                    test: Some(test),
+                    test: Some(test.get()),
                     post: None,
                     body: body.get(),
                 };
@@ -201,7 +211,7 @@ impl<'a> Store<'a> {
             }
             TypedStmt::Do { body, test } => {
                 let turn = Loop {
-                    test: Some(test),
+                    test: Some(test.get()),
                     post: None,
                     body: body.get(),
                 };
@@ -214,8 +224,8 @@ impl<'a> Store<'a> {
                 body,
             } => {
                 let turn = Loop {
-                    test: test.as_ref(),
-                    post: post.as_ref(),
+                    test: unboxed_expr(test),
+                    post: unboxed_expr(post),
                     body: body.get(),
                 };
                 self.run_for(program, init, turn, depth)
@@ -224,14 +234,14 @@ impl<'a> Store<'a> {
                 scalar: _,
                 test,
                 sections,
-            } => self.run_switch(program, test, sections.as_slice(), depth),
+            } => self.run_switch(program, test.get(), sections.as_slice(), depth),
             TypedStmt::Break => Ran::Breaks,
             TypedStmt::Continue => Ran::Continues,
             TypedStmt::Return(None) => {
                 self.returned = None;
                 Ran::Returns
             },
-            TypedStmt::Return(Some(e)) => self.run_return(program, e, depth),
+            TypedStmt::Return(Some(e)) => self.run_return(program, e.get(), depth),
         }
     }
 

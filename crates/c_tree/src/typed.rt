@@ -63,7 +63,7 @@ pub enum TypedNode {
     },
     Call {
         function: Callee,
-        args: Items<TypedExpr>,
+        args: Items<Boxed<TypedExpr>>,
     },
     Unary {
         op: UnaryOp,
@@ -119,37 +119,37 @@ pub struct TypedSection {
 pub enum TypedStmt {
     Declare {
         place: Place,
-        init: Option<TypedExpr>,
+        init: Option<Boxed<TypedExpr>>,
     },
-    Plain(Option<TypedExpr>),
+    Plain(Option<Boxed<TypedExpr>>),
     Compound(Items<TypedStmt>),
     If {
-        test: TypedExpr,
+        test: Boxed<TypedExpr>,
         yes: Boxed<TypedStmt>,
         no: Option<Boxed<TypedStmt>>,
     },
     While {
-        test: TypedExpr,
+        test: Boxed<TypedExpr>,
         body: Boxed<TypedStmt>,
     },
     Do {
         body: Boxed<TypedStmt>,
-        test: TypedExpr,
+        test: Boxed<TypedExpr>,
     },
     For {
         init: TypedForInit,
-        test: Option<TypedExpr>,
-        post: Option<TypedExpr>,
+        test: Option<Boxed<TypedExpr>>,
+        post: Option<Boxed<TypedExpr>>,
         body: Boxed<TypedStmt>,
     },
     Switch {
         scalar: u32,
-        test: TypedExpr,
+        test: Boxed<TypedExpr>,
         sections: Items<TypedSection>,
     },
     Break,
     Continue,
-    Return(Option<TypedExpr>),
+    Return(Option<Boxed<TypedExpr>>),
 }
 
 /// The first part of a typed `for`.
@@ -157,7 +157,7 @@ pub enum TypedStmt {
 #[cycle(typed_stmt)]
 pub enum TypedForInit {
     Nothing,
-    First(TypedExpr),
+    First(Boxed<TypedExpr>),
     Locals(Items<TypedStmt>),
 }
 

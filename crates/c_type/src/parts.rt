@@ -19,14 +19,14 @@ pub fn full_if(
     names: &Scopes,
     role: Role,
     e: Option<Boxed<Expr>>,
-) -> Result<Option<TypedExpr>, TypeFault>
+) -> Result<Option<Boxed<TypedExpr>>, TypeFault>
     ensures { Says (states.full_if e role names.now) (states.tree_if e names.now) result }
 {
     match e {
         None => Ok(None),
         Some(e) => {
             let e = full(alloc, names, role, e)?;
-            Ok(Some(e.into_inner()))
+            Ok(Some(e))
         }
     }
 }
@@ -37,7 +37,7 @@ pub fn value_to(
     names: &Scopes,
     kind: Kind,
     e: Option<Boxed<Expr>>,
-) -> Result<Option<TypedExpr>, TypeFault>
+) -> Result<Option<Boxed<TypedExpr>>, TypeFault>
     ensures { Says (states.full_if e Role.Value names.now) (states.value_of e kind names.now)
         result }
 {
@@ -46,7 +46,7 @@ pub fn value_to(
         Some(e) => {
             let e = full(alloc, names, Role::Value, e)?;
             let e = with_convert(alloc, kind, e)?;
-            Ok(Some(e.into_inner()))
+            Ok(Some(e))
         }
     }
 }

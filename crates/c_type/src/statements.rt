@@ -124,11 +124,7 @@ fn either(
 {
     let test = full(alloc, &state.names, Role::Value, test)?;
     let (yes, no) = legs(alloc, state, around, yes, no)?;
-    Ok(TypedStmt::If {
-        test: test.into_inner(),
-        yes,
-        no,
-    })
+    Ok(TypedStmt::If { test, yes, no })
 }
 
 #[cycle(stmt)]
@@ -145,10 +141,7 @@ fn while_stmt(
 {
     let test = full(alloc, &state.names, Role::Value, test)?;
     let body = boxed(alloc, state, IN_LOOP, body)?;
-    Ok(TypedStmt::While {
-        test: test.into_inner(),
-        body,
-    })
+    Ok(TypedStmt::While { test, body })
 }
 
 #[cycle(stmt)]
@@ -165,10 +158,7 @@ fn do_stmt(
 {
     let body = boxed(alloc, state, IN_LOOP, body)?;
     let test = full(alloc, &state.names, Role::Value, test)?;
-    Ok(TypedStmt::Do {
-        body,
-        test: test.into_inner(),
-    })
+    Ok(TypedStmt::Do { body, test })
 }
 
 #[cycle(stmt)]
@@ -185,7 +175,7 @@ fn beginning(
         ForInit::Nothing => Ok(TypedForInit::Nothing),
         ForInit::First(e) => {
             let e = full(alloc, &state.names, Role::Free, e)?;
-            Ok(TypedForInit::First(e.into_inner()))
+            Ok(TypedForInit::First(e))
         }
         ForInit::Locals(locals) => {
             let locals = all(alloc, state, around, locals)?;
@@ -213,7 +203,7 @@ fn tail_of(
     alloc: Global,
     state: &mut State,
     tail: Tail,
-) -> Result<(Option<TypedExpr>, Boxed<TypedStmt>), TypeFault>
+) -> Result<(Option<Boxed<TypedExpr>>, Boxed<TypedStmt>), TypeFault>
     ensures { Moves (tail_fault tail.post (part tail.body) state.old)
         (tree_if tail.post state.old.names, (part tail.body).tree state.old)
         ((part tail.body).after state.old) state.new result }
@@ -229,7 +219,13 @@ fn rest_of(
     alloc: Global,
     state: &mut State,
     rest: Rest,
-) -> Result<(Option<TypedExpr>, (Option<TypedExpr>, Boxed<TypedStmt>)), TypeFault>
+) -> Result<
+    (
+        Option<Boxed<TypedExpr>>,
+        (Option<Boxed<TypedExpr>>, Boxed<TypedStmt>),
+    ),
+    TypeFault,
+>
     ensures { Moves (rest_fault rest.test rest.tail.post (part rest.tail.body) state.old) (
       tree_if rest.test state.old.names,
       (

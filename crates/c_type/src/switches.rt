@@ -60,7 +60,7 @@ pub fn switch_test(
     alloc: Global,
     names: &Scopes,
     test: Boxed<Expr>,
-) -> Result<(TypedExpr, Kind), TypeFault>
+) -> Result<(Boxed<TypedExpr>, Kind), TypeFault>
     ensures { Says (constants.full test Role.Value names.now) (
       with_convert (switch_kind test names.now) (tree test names.now),
       switch_kind test names.now,
@@ -69,7 +69,7 @@ pub fn switch_test(
     let test = full(alloc, names, Role::Value, test)?;
     let kind = promoted(kind_of(test.get()));
     let test = with_convert(alloc, kind, test)?;
-    Ok((test.into_inner(), kind))
+    Ok((test, kind))
 }
 
 /// The number of the scalar that a switch counts.

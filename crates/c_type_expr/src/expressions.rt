@@ -178,7 +178,7 @@ fn arguments(
     scope: &Scopes,
     slots: &[Slot],
     args: Items<Boxed<Expr>>,
-) -> Result<Items<TypedExpr>, TypeFault>
+) -> Result<Items<Boxed<TypedExpr>>, TypeFault>
     ensures { Says (faults.args_fault slots.now args scope.now)
         (trees.args_tree slots.now args scope.now) result }
 {
@@ -187,7 +187,7 @@ fn arguments(
     let mut found = Items::new(alloc);
     while let Some(arg) = rest.pop() {
         let arg = argument(alloc, scope, slots, arg)?;
-        found.push(arg.into_inner())?;
+        found.push(arg)?;
         slots = after_first(slots);
     }
     Ok(found)

@@ -23,7 +23,7 @@ use crate::operations::{put_converted_here, put_word};
 use crate::places::Places;
 use crate::results::{put_binary_at, put_tested, put_unary_at, truth};
 use crate::sides::{kind_of, side_of};
-use base::{Items, Memory};
+use base::{Boxed, Items, Memory};
 use c_tree::{BinaryOp, BumpOp, Callee, Kind, Place, TypedExpr, TypedNode, UnaryOp};
 use ir_forms::{Arg, FlatStmt};
 use std::alloc::Global;
@@ -137,7 +137,7 @@ fn put_args(
     alloc: Global,
     places: &Places,
     d: u8,
-    args: &[TypedExpr],
+    args: &[Boxed<TypedExpr>],
 ) -> Result<Items<Arg>, Memory>
     ensures code { OnOk result (Adds code.old code.new
         (args_code places.now d (args_of args.now))) }
@@ -146,7 +146,7 @@ fn put_args(
     let mut at = d;
     let mut vars = Items::new(alloc);
     for arg in args {
-        put_value(code, alloc, places, at, arg)?;
+        put_value(code, alloc, places, at, arg.get())?;
         vars.push(Arg::Var(temp(at)))?;
         at = deeper(at)?;
     }
@@ -163,7 +163,7 @@ fn put_called(
     d: u8,
     kind: Option<Kind>,
     function: Callee,
-    args: &[TypedExpr],
+    args: &[Boxed<TypedExpr>],
 ) -> Result<(), Memory>
     ensures { OnOk result (Adds code.old code.new
         (expr_code places.now d (tree.Call kind function (args_of args.now)))) }

@@ -14,7 +14,7 @@ use crate::expressions::put_value;
 use crate::operations::put_word;
 use crate::places::Places;
 use crate::statements::put_value_if;
-use base::{Items, Memory};
+use base::{Boxed, Items, Memory};
 use c_tree::TypedExpr;
 use ir_forms::{Arg, FlatStmt};
 use std::alloc::Global;
@@ -57,7 +57,7 @@ fn tested_turn(
 fn turn(
     alloc: Global,
     places: &Places,
-    test: &Option<TypedExpr>,
+    test: &Option<Boxed<TypedExpr>>,
     body: Items<FlatStmt>,
 ) -> Result<Items<FlatStmt>, Memory>
     ensures { IfOk result (λ code.
@@ -65,7 +65,7 @@ fn turn(
 {
     match test {
         None => Ok(body),
-        Some(test) => tested_turn(alloc, places, test, body),
+        Some(test) => tested_turn(alloc, places, test.get(), body),
     }
 }
 
@@ -73,7 +73,7 @@ fn turn(
 fn behind(
     alloc: Global,
     places: &Places,
-    post: &Option<TypedExpr>,
+    post: &Option<Boxed<TypedExpr>>,
 ) -> Result<Items<FlatStmt>, Memory>
     ensures { IfOk result (λ code. code_of code ≡ expr_if_code places.now (expr_if post.now)) }
 {
@@ -103,8 +103,8 @@ pub fn put_for(
     code: &mut Items<FlatStmt>,
     alloc: Global,
     places: &Places,
-    test: &Option<TypedExpr>,
-    post: &Option<TypedExpr>,
+    test: &Option<Boxed<TypedExpr>>,
+    post: &Option<Boxed<TypedExpr>>,
     body: Items<FlatStmt>,
 ) -> Result<(), Memory>
     ensures { OnOk result (Adds code.old code.new

@@ -11,7 +11,7 @@ ghost use Rattle.flat_lower.specs.Emitted.{Adds};
 use crate::emit::{put_let, scalar};
 use crate::expressions::put_value;
 use crate::places::Places;
-use base::{Items, Memory};
+use base::{Boxed, Items, Memory};
 use c_tree::{BinaryOp, Place, TypedExpr, TypedNode};
 use ir_forms::{Arg, FlatStmt};
 use std::alloc::Global;
@@ -136,12 +136,12 @@ pub fn put_plain(
     code: &mut Items<FlatStmt>,
     alloc: Global,
     places: &Places,
-    e: &Option<TypedExpr>,
+    e: &Option<Boxed<TypedExpr>>,
 ) -> Result<(), Memory>
     ensures { OnOk result (Adds code.old code.new (plain_if_code places.now (expr_if e.now))) }
 {
     match e {
         None => Ok(()),
-        Some(e) => put_plain_value(code, alloc, places, e),
+        Some(e) => put_plain_value(code, alloc, places, e.get()),
     }
 }

@@ -34,13 +34,13 @@ pub fn put_value_if(
     code: &mut Items<FlatStmt>,
     alloc: Global,
     places: &Places,
-    e: &Option<TypedExpr>,
+    e: &Option<Boxed<TypedExpr>>,
 ) -> Result<(), Memory>
     ensures { OnOk result (Adds code.old code.new (expr_if_code places.now (expr_if e.now))) }
 {
     match e {
         None => Ok(()),
-        Some(e) => put_value(code, alloc, places, 0, e),
+        Some(e) => put_value(code, alloc, places, 0, e.get()),
     }
 }
 
@@ -67,14 +67,14 @@ fn put_scalar_declared(
     alloc: Global,
     places: &Places,
     i: u32,
-    init: &Option<TypedExpr>,
+    init: &Option<Boxed<TypedExpr>>,
 ) -> Result<(), Memory>
     ensures { OnOk result (Adds code.old code.new
         (declare_code places.now (Scalar i) (expr_if init.now))) }
 {
     match init {
         None => Ok(()),
-        Some(e) => put_initialised(code, alloc, places, i, e),
+        Some(e) => put_initialised(code, alloc, places, i, e.get()),
     }
 }
 
@@ -85,7 +85,7 @@ fn put_declared(
     alloc: Global,
     places: &Places,
     place: Place,
-    init: &Option<TypedExpr>,
+    init: &Option<Boxed<TypedExpr>>,
 ) -> Result<(), Memory>
     ensures { OnOk result (Adds code.old code.new
         (declare_code places.now place (expr_if init.now))) }
@@ -117,13 +117,13 @@ fn put_returned(
     code: &mut Items<FlatStmt>,
     alloc: Global,
     places: &Places,
-    e: &Option<TypedExpr>,
+    e: &Option<Boxed<TypedExpr>>,
 ) -> Result<(), Memory>
     ensures { OnOk result (Adds code.old code.new (return_code places.now (expr_if e.now))) }
 {
     match e {
         None => put_return(code, None),
-        Some(e) => put_value_returned(code, alloc, places, e),
+        Some(e) => put_value_returned(code, alloc, places, e.get()),
     }
 }
 
@@ -245,7 +245,7 @@ fn put_first(
 {
     match first {
         TypedForInit::Nothing => Ok(()),
-        TypedForInit::First(e) => put_value(code, alloc, places, 0, e),
+        TypedForInit::First(e) => put_value(code, alloc, places, 0, e.get()),
         TypedForInit::Locals(all) => put_stmts(code, alloc, places, around, all.as_slice()),
     }
 }
@@ -258,8 +258,8 @@ fn put_for_loop(
     places: &Places,
     around: Around,
     first: &TypedForInit,
-    test: &Option<TypedExpr>,
-    post: &Option<TypedExpr>,
+    test: &Option<Boxed<TypedExpr>>,
+    post: &Option<Boxed<TypedExpr>>,
     body: &TypedStmt,
 ) -> Result<(), Memory>
     ensures { OnOk result (Adds code.old code.new (stmt_code places.now around (tree.For
@@ -347,12 +347,14 @@ pub fn put_stmt(
             alloc,
             places,
             around,
-            test,
+            test.get(),
             yes.get(),
             no,
         ),
-        TypedStmt::While { test, body } => { put_while_loop(code, alloc, places, test, body.get()) }
-        TypedStmt::Do { body, test } => put_do_loop(code, alloc, places, body.get(), test),
+        TypedStmt::While { test, body } => {
+            put_while_loop(code, alloc, places, test.get(), body.get())
+        }
+        TypedStmt::Do { body, test } => put_do_loop(code, alloc, places, body.get(), test.get()),
         TypedStmt::For {
             init,
             test,
@@ -363,7 +365,7 @@ pub fn put_stmt(
             scalar: _,
             test,
             sections,
-        } => put_switch(code, alloc, places, around, test, sections.as_slice()),
+        } => put_switch(code, alloc, places, around, test.get(), sections.as_slice()),
         TypedStmt::Break => put_broken(code, around),
         TypedStmt::Continue => put_continued(code, around),
         TypedStmt::Return(e) => put_returned(code, alloc, places, e),

@@ -1,6 +1,6 @@
 //! Small programs, and how many statements and bytes their flat programs have.
 
-use base::{Items, Memory};
+use base::{Boxed, Items, Memory};
 use c_tree::{Kind, TypedExpr, TypedFunc, TypedGlobal, TypedNode, TypedProgram, TypedStmt};
 use flat_lower::lower;
 use std::alloc::Global;
@@ -25,10 +25,11 @@ fn program(alloc: Global, w: u64) -> Result<TypedProgram, Memory> {
         row: None,
         init,
     })?;
-    let value = TypedExpr {
+    let number = TypedExpr {
         kind: Some(Kind::Int),
         node: TypedNode::Number(w),
     };
+    let value = Boxed::new(alloc, number)?;
     let mut functions = Items::new(alloc);
     functions.push(function(alloc, TypedStmt::Return(Some(value)))?)?;
     Ok(TypedProgram {

@@ -1,5 +1,6 @@
 use Rattle.std.proofs.Common.{◌≡◌, ◌+◌, suc, ◌∷◌, drop, sym, ap, ◌∙◌, subst, arith}
 use Rattle.std.proofs.Math.Seq.{drop-cons}
+use Rattle.flat_lower.specs.Emitted.{Adds}
 use Rattle.flat_lower.specs.TreeViews.{expr_of}
 use Rattle.flat_lower.specs.Expressions.{expr_code, index_code}
 use Rattle.flat_lower.proofs.Emits.{two, turned, nothing}
@@ -109,9 +110,11 @@ put_args-loop-arg-preserved t c =
     let old = c.args.code.now in
     let s = subst (λ r. SoFar c.args.places.now c.args.d c.loop-arg.at all r old c.loop-arg.code
     c.loop-arg.vars) dc c.loop-arg.invariant in
+    let v = subst (λ x. Adds c.loop-arg.code c.put_value.new.code (expr_code c.args.places.now c.loop-arg.at
+    (expr_of x))) c.get.ensures.value c.in_ok-put_value.ensures in
     goes_on c.args.places.now c.args.d c.loop-arg.at c.in_ok-at.at all
     (drop (i + 1) all) a old c.loop-arg.code c.put_value.new.code
-    c.loop-arg.vars c.push.new.self s c.in_ok-put_value.ensures c.in_ok-at.ensures
+    c.loop-arg.vars c.push.new.self s v c.in_ok-at.ensures
     (grind (arith, c.in_ok-push.ensures.ok, c.temp.ensures))
 
 pub put_args-returns-clause-code : goal.put_args-returns-clause-code
