@@ -95,13 +95,18 @@ fn call(args: &Items<Boxed<Expr>>) -> u64
     }
 }
 
-// The need of an operand, in a frame of its own, so that the node above holds one number of it.
+// The need of an operand, in a frame of its own, so that the node above holds one number of it. Most are a name or a
+// number, which asks for no more than this frame.
 #[cycle(need)]
 #[inline(never)]
 fn operand(e: &Expr) -> u64
     ensures { result ≡ capped (needs.needs e.now).need }
 {
-    counted_need(e).need
+    match &e.node {
+        ExprNode::Number { .. } => 1,
+        ExprNode::Name(_) => 1,
+        _ => counted_need(e).need,
+    }
 }
 
 // The need of the first of two indexes, where there is one.

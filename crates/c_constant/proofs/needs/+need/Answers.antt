@@ -55,3 +55,10 @@ counted_need-returns-in-Assign t c =
 pub counted_need-returns-in-Comma : goal.counted_need-returns-in-Comma
 counted_need-returns-in-Comma t c =
     let h = needs-Comma c.args.e.now c.in-Comma.left c.in-Comma.right c.in-Comma.is in grind (arith, h)
+
+pub operand-returns-in-Number : goal.operand-returns-in-Number
+operand-returns-in-Number t c =
+    let h = needs-Number c.args.e.now c.in-Number.value c.in-Number.kind c.in-Number.is in grind (arith, h)
+
+pub operand-returns-in-Name : goal.operand-returns-in-Name
+operand-returns-in-Name t c = let h = needs-Name c.args.e.now c.in-Name.field-0 c.in-Name.is in grind (arith, h)
