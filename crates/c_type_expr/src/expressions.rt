@@ -52,13 +52,13 @@ fn left_role(is_place: bool) -> Role
 fn name(
     alloc: Global,
     scope: &Scopes,
-    role: Role,
+    role: &Role,
     line: u32,
     word: Word,
 ) -> Result<Boxed<TypedExpr>, TypeFault>
-    ensures { Types (at line (node.Name word)) role scope.now result }
+    ensures { Types (at line (node.Name word)) role.now scope.now result }
 {
-    let e = name_at(scope.look_up(&word), role, line)?;
+    let e = name_at(scope.look_up(&word), *role, line)?;
     Ok(Boxed::new(alloc, e)?)
 }
 
@@ -67,14 +67,14 @@ fn name(
 fn number(
     alloc: Global,
     scope: &Scopes,
-    role: Role,
+    role: &Role,
     line: u32,
     value: u64,
     kind: Kind,
 ) -> Result<Boxed<TypedExpr>, TypeFault>
-    ensures { Types (at line (node.Number value kind)) role scope.now result }
+    ensures { Types (at line (node.Number value kind)) role.now scope.now result }
 {
-    value_at(role, line)?;
+    value_at(*role, line)?;
     Ok(build::boxed(alloc, Some(kind), TypedNode::Number(value))?)
 }
 
@@ -84,15 +84,15 @@ fn number(
 fn element(
     alloc: Global,
     scope: &Scopes,
-    role: Role,
+    role: &Role,
     line: u32,
     array: Word,
     index: Boxed<Expr>,
 ) -> Result<Boxed<TypedExpr>, TypeFault>
-    ensures { Types (at line (node.Element array None index)) role scope.now result }
+    ensures { Types (at line (node.Element array None index)) role.now scope.now result }
 {
-    let index = operand(alloc, scope, Role::Value, index)?;
-    let (kind, place) = element_at(scope.look_up(&array), false, role, line)?;
+    let index = operand(alloc, scope, &Role::Value, index)?;
+    let (kind, place) = element_at(scope.look_up(&array), false, *role, line)?;
     Ok(build::element(alloc, kind, place, index)?)
 }
 
@@ -103,17 +103,17 @@ fn element(
 fn row_element(
     alloc: Global,
     scope: &Scopes,
-    role: Role,
+    role: &Role,
     line: u32,
     array: Word,
     row: Boxed<Expr>,
     index: Boxed<Expr>,
 ) -> Result<Boxed<TypedExpr>, TypeFault>
-    ensures { Types (at line (node.Element array (Some row) index)) role scope.now result }
+    ensures { Types (at line (node.Element array (Some row) index)) role.now scope.now result }
 {
-    let row = operand(alloc, scope, Role::Value, row)?;
-    let index = operand(alloc, scope, Role::Value, index)?;
-    let (kind, place) = element_at(scope.look_up(&array), true, role, line)?;
+    let row = operand(alloc, scope, &Role::Value, row)?;
+    let index = operand(alloc, scope, &Role::Value, index)?;
+    let (kind, place) = element_at(scope.look_up(&array), true, *role, line)?;
     Ok(build::row_element(alloc, kind, place, row, index)?)
 }
 
@@ -123,13 +123,13 @@ fn row_element(
 fn element_of(
     alloc: Global,
     scope: &Scopes,
-    role: Role,
+    role: &Role,
     line: u32,
     array: Word,
     row: Option<Boxed<Expr>>,
     index: Boxed<Expr>,
 ) -> Result<Boxed<TypedExpr>, TypeFault>
-    ensures { Types (at line (node.Element array row index)) role scope.now result }
+    ensures { Types (at line (node.Element array row index)) role.now scope.now result }
 {
     match row {
         None => element(alloc, scope, role, line, array, index),
@@ -143,17 +143,17 @@ fn element_of(
 fn call(
     alloc: Global,
     scope: &Scopes,
-    role: Role,
+    role: &Role,
     line: u32,
     function: Word,
     args: Items<Boxed<Expr>>,
 ) -> Result<Boxed<TypedExpr>, TypeFault>
-    ensures { Types (at line (node.Call function args)) role scope.now result }
+    ensures { Types (at line (node.Call function args)) role.now scope.now result }
 {
     let found = scope.look_up(&function);
     let count = args.len();
     let args = arguments(alloc, scope, slots_in(found), args)?;
-    let (kind, function) = call_at(found, count, role, line)?;
+    let (kind, function) = call_at(found, count, *role, line)?;
     Ok(build::boxed(alloc, kind, TypedNode::Call { function, args })?)
 }
 
@@ -168,7 +168,7 @@ fn argument(
     ensures { Says (fault arg scope.now (role_at slots.now))
         (trees.argument slots.now (tree arg scope.now)) result }
 {
-    let arg = operand(alloc, scope, role_for(slots), arg)?;
+    let arg = operand(alloc, scope, &role_for(slots), arg)?;
     converted_for(alloc, slots, arg)
 }
 
@@ -199,15 +199,15 @@ fn arguments(
 fn unary(
     alloc: Global,
     scope: &Scopes,
-    role: Role,
+    role: &Role,
     line: u32,
     op: UnaryOp,
     e: Boxed<Expr>,
 ) -> Result<Boxed<TypedExpr>, TypeFault>
-    ensures { Types (at line (node.Unary op e)) role scope.now result }
+    ensures { Types (at line (node.Unary op e)) role.now scope.now result }
 {
-    let e = operand(alloc, scope, Role::Value, e)?;
-    value_at(role, line)?;
+    let e = operand(alloc, scope, &Role::Value, e)?;
+    value_at(*role, line)?;
     Ok(build::unary(alloc, op, e)?)
 }
 
@@ -217,15 +217,15 @@ fn unary(
 fn cast(
     alloc: Global,
     scope: &Scopes,
-    role: Role,
+    role: &Role,
     line: u32,
     to: Kind,
     e: Boxed<Expr>,
 ) -> Result<Boxed<TypedExpr>, TypeFault>
-    ensures { Types (at line (node.Cast to e)) role scope.now result }
+    ensures { Types (at line (node.Cast to e)) role.now scope.now result }
 {
-    let e = operand(alloc, scope, Role::Value, e)?;
-    value_at(role, line)?;
+    let e = operand(alloc, scope, &Role::Value, e)?;
+    value_at(*role, line)?;
     Ok(build::cast(alloc, to, e)?)
 }
 
@@ -235,11 +235,11 @@ fn cast(
 fn no_node(
     alloc: Global,
     scope: &Scopes,
-    role: Role,
+    role: &Role,
     line: u32,
     e: Boxed<Expr>,
 ) -> Result<Boxed<TypedExpr>, TypeFault>
-    ensures { (t : TypedExpr) → Says (first (fault e scope.now role)
+    ensures { (t : TypedExpr) → Says (first (fault e scope.now role.now)
         (Some (TypeFault.Mismatch line))) t result }
 {
     operand(alloc, scope, role, e)?;
@@ -254,7 +254,7 @@ fn no_leaf(alloc: Global, scope: &Scopes, line: u32, e: Expr) -> Result<Boxed<Ty
         (Some (TypeFault.Mismatch line))) t result }
 {
     let e = Boxed::new(alloc, e)?;
-    operand(alloc, scope, Role::Value, e)?;
+    operand(alloc, scope, &Role::Value, e)?;
     Err(TypeFault::Mismatch(line))
 }
 
@@ -274,7 +274,7 @@ fn no_bump(
     match node {
         ExprNode::Bump { op: _, e: inner } => {
             if is_place(inner.get()) {
-                return no_node(alloc, scope, Role::Written, line, inner);
+                return no_node(alloc, scope, &Role::Written, line, inner);
             }
             no_bump(alloc, scope, at, inner)
         }
@@ -296,18 +296,18 @@ fn no_bump(
 fn bump(
     alloc: Global,
     scope: &Scopes,
-    role: Role,
+    role: &Role,
     line: u32,
     op: BumpOp,
     e: Boxed<Expr>,
 ) -> Result<Boxed<TypedExpr>, TypeFault>
-    ensures { Types (at line (node.Bump op e)) role scope.now result }
+    ensures { Types (at line (node.Bump op e)) role.now scope.now result }
 {
     if !is_place(e.get()) {
         return no_bump(alloc, scope, line, e);
     }
-    let e = operand(alloc, scope, Role::Written, e)?;
-    value_at(role, line)?;
+    let e = operand(alloc, scope, &Role::Written, e)?;
+    value_at(*role, line)?;
     Ok(build::bump(alloc, op, e)?)
 }
 
@@ -317,17 +317,17 @@ fn bump(
 fn binary(
     alloc: Global,
     scope: &Scopes,
-    role: Role,
+    role: &Role,
     line: u32,
     op: BinaryOp,
     left: Boxed<Expr>,
     right: Boxed<Expr>,
 ) -> Result<Boxed<TypedExpr>, TypeFault>
-    ensures { Types (at line (node.Binary op left right)) role scope.now result }
+    ensures { Types (at line (node.Binary op left right)) role.now scope.now result }
 {
-    let left = operand(alloc, scope, Role::Value, left)?;
-    let right = operand(alloc, scope, Role::Value, right)?;
-    value_at(role, line)?;
+    let left = operand(alloc, scope, &Role::Value, left)?;
+    let right = operand(alloc, scope, &Role::Value, right)?;
+    value_at(*role, line)?;
     Ok(build::binary(alloc, op, left, right)?)
 }
 
@@ -337,18 +337,18 @@ fn binary(
 fn choice(
     alloc: Global,
     scope: &Scopes,
-    role: Role,
+    role: &Role,
     line: u32,
     test: Boxed<Expr>,
     yes: Boxed<Expr>,
     no: Boxed<Expr>,
 ) -> Result<Boxed<TypedExpr>, TypeFault>
-    ensures { Types (at line (node.Choice test yes no)) role scope.now result }
+    ensures { Types (at line (node.Choice test yes no)) role.now scope.now result }
 {
-    let test = operand(alloc, scope, Role::Value, test)?;
-    let yes = operand(alloc, scope, Role::Value, yes)?;
-    let no = operand(alloc, scope, Role::Value, no)?;
-    value_at(role, line)?;
+    let test = operand(alloc, scope, &Role::Value, test)?;
+    let yes = operand(alloc, scope, &Role::Value, yes)?;
+    let no = operand(alloc, scope, &Role::Value, no)?;
+    value_at(*role, line)?;
     Ok(build::choice(alloc, test, yes, no)?)
 }
 
@@ -358,19 +358,19 @@ fn choice(
 fn assign(
     alloc: Global,
     scope: &Scopes,
-    role: Role,
+    role: &Role,
     line: u32,
     op: Option<BinaryOp>,
     left: Boxed<Expr>,
     right: Boxed<Expr>,
 ) -> Result<Boxed<TypedExpr>, TypeFault>
-    ensures { Types (at line (node.Assign op left right)) role scope.now result }
+    ensures { Types (at line (node.Assign op left right)) role.now scope.now result }
 {
     let is_place = is_place(left.get());
-    let left = operand(alloc, scope, left_role(is_place), left)?;
-    let right = operand(alloc, scope, Role::Value, right)?;
+    let left = operand(alloc, scope, &left_role(is_place), left)?;
+    let right = operand(alloc, scope, &Role::Value, right)?;
     place_at(is_place, line)?;
-    value_at(role, line)?;
+    value_at(*role, line)?;
     Ok(build::assign(alloc, op, left, right)?)
 }
 
@@ -380,16 +380,16 @@ fn assign(
 fn comma(
     alloc: Global,
     scope: &Scopes,
-    role: Role,
+    role: &Role,
     line: u32,
     left: Boxed<Expr>,
     right: Boxed<Expr>,
 ) -> Result<Boxed<TypedExpr>, TypeFault>
-    ensures { Types (at line (node.Comma left right)) role scope.now result }
+    ensures { Types (at line (node.Comma left right)) role.now scope.now result }
 {
-    let left = operand(alloc, scope, Role::Free, left)?;
-    let right = operand(alloc, scope, Role::Value, right)?;
-    value_at(role, line)?;
+    let left = operand(alloc, scope, &Role::Free, left)?;
+    let right = operand(alloc, scope, &Role::Value, right)?;
+    value_at(*role, line)?;
     Ok(build::comma(alloc, left, right)?)
 }
 
@@ -401,10 +401,10 @@ fn comma(
 fn operand(
     alloc: Global,
     scope: &Scopes,
-    role: Role,
+    role: &Role,
     e: Boxed<Expr>,
 ) -> Result<Boxed<TypedExpr>, TypeFault>
-    ensures { Types e role scope.now result }
+    ensures { Types e role.now scope.now result }
 {
     let Expr { line, node } = e.into_inner();
     match node {
@@ -434,5 +434,5 @@ pub fn type_expr(
 ) -> Result<Boxed<TypedExpr>, TypeFault>
     ensures { Types e role scope.now result }
 {
-    operand(alloc, scope, role, e)
+    operand(alloc, scope, &role, e)
 }

@@ -4,7 +4,7 @@ use Rattle.c_type_expr.proofs.expressions.+expr.Goals as goal
 
 pub bump-returns-then-not-is_place : goal.bump-returns-then-not-is_place
 bump-returns-then-not-is_place t c =
-    untyped c.args.scope.now c.args.role c.args.line c.args.op c.args.e c.no_bump.result
+    untyped c.args.scope.now c.args.role.now c.args.line c.args.op c.args.e c.no_bump.result
     (grind (arith, c.is_place.ensures, c.if-not-is_place.true)) c.no_bump.ensures
 
 pub no_bump-returns-then-is_place : goal.no_bump-returns-then-is_place
