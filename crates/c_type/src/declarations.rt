@@ -33,11 +33,15 @@ pub fn is_end(found: Option<&Meaning>) -> bool
     }
 }
 
-/// Whether the innermost block may not declare a name.
+/// Whether the innermost block may not declare a name. Most are new: they are searched for once.
 pub fn is_taken(names: &Scopes, name: &Word) -> bool
     ensures { result ≡ declarations.is_taken names.now name.now }
 {
-    names.is_here(name) || is_end(names.look_up(name))
+    match names.look_up(name) {
+        None => false,
+        Some(Meaning::EndOfFile) => true,
+        Some(_) => names.is_here(name),
+    }
 }
 
 pub fn twice(names: &Scopes, name: &Word, line: u32) -> Result<(), TypeFault>

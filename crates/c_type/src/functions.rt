@@ -47,8 +47,9 @@ fn head(
 {
     params_at(alloc, names, is_def, params)?;
     let slots = slots_of(alloc, params)?;
-    undefined(names.look_up(name), is_def, line)?;
-    agrees(names.look_up(name), given, slots.as_slice(), line)?;
+    let found = names.look_up(name);
+    undefined(found, is_def, line)?;
+    agrees(found, given, slots.as_slice(), line)?;
     Ok(slots)
 }
 
