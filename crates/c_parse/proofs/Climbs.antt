@@ -1,14 +1,15 @@
 -- Phrases of several levels of binary operators, read by one loop.
-use Rattle.std.proofs.Common.{◌≡◌, ℕ, zero, suc, ◌+◌, ◌-◌, ◌<◌, ◌≤◌, Bool, true, false, cond, eqb, List, [], ◌∷◌, length}
-use Rattle.std.proofs.Common.{Option, Some, None, Result, Ok, Err, refl, sym, ap, ◌∙◌, subst, arith}
-use Rattle.std.proofs.lemmas.Bool.{eqb-true, ne_eqb, eq-eqb}
+use Rattle.std.proofs.Common.{◌≡◌, ℕ, zero, suc, ◌+◌, ◌-◌, ◌<◌, ◌≤◌, Bool, cond, length}
+use Rattle.std.proofs.Common.{Option, Some, None, Ok, Err, refl, sym, ap, ◌∙◌, arith}
+use Rattle.std.proofs.lemmas.Bool.{ne_eqb, eq-eqb}
 use Rattle.c_tree.specs.declared.tree.Expr.{Expr}
 use Rattle.c_tree.specs.declared.tree.BinaryOp.{BinaryOp}
 use Rattle.c_grammar.specs.Tokens.{Tokens}
 use Rattle.c_grammar.specs.Operators.{binary_level, op, joined}
 use Rattle.c_grammar.specs.Parsing.{Stop, Out, and_then, tail}
 use Rattle.c_grammar.specs.ModelExpressions.{seen, loop, inside, binary_of, cast_of}
-use Rattle.c_parse.specs.Reads.{operator_at, joins_by, Outside, Inside, Fails, Reads}
+use Rattle.c_parse.specs.Reads.{operator_at, joins_by, Outside, Inside, Fails}
+use Rattle.c_parse.specs.Operands.{climb, joined_of}
 use Rattle.c_parse.specs.declared.fault.Stopped.{Stopped}
 use Rattle.c_parse.specs.declared.fault.Stopped.TheVariants as stopped
 use Rattle.c_parse.proofs.Turns.{of_level, operator_is, turn_on, turn_off, turns_end, turn_shorter, binary_next, binary_zero}
@@ -16,13 +17,7 @@ use Rattle.c_parse.proofs.Turns.{of_level, operator_is, turn_on, turn_off, turns
 abbrev here : Expr → Tokens → Out Expr
 here a ts = Ok (a, ts)
 
--- so many levels of operators, from a level on, behind a phrase that is tighter
-abbrev pub climb : ℕ → ℕ → ℕ → Expr → Tokens → Out Expr
-climb left zero b a ts = Ok (a, ts)
-climb left (suc m) b a ts =
-    and_then (loop (binary_of (inside left) b) (binary_level b) (length ts) a ts) (climb left m (suc b))
-
-then_then : {A B C : Type 0} (o : Out A) (f : A → Tokens → Out B) (g : B → Tokens → Out C)
+pub then_then : {A B C : Type 0} (o : Out A) (f : A → Tokens → Out B) (g : B → Tokens → Out C)
     → and_then (and_then o f) g ≡ and_then o (λ a ts. and_then (f a ts) g)
 then_then (Ok p) f g = refl
 then_then (Err s) f g = refl
@@ -135,3 +130,29 @@ module _ (left level b : ℕ) (most : level ≤ 10) (a : Expr) (ts : Tokens) (p 
       → length rest < length ts
   climb_shorter r rest h =
       turn_shorter left (p.0) (omega (arith, most, found.2)) ts rest r (p.1) is_at h
+
+-- the loop begins with no level
+pub joined_start : (left level : ℕ) (a : Expr) (ts : Tokens)
+    → climb left (level - 0) 0 a ts ≡ joined_of left level a ts
+unfolding joined_of
+joined_start left level a ts =
+    let e : level - 0 ≡ level = omega arith in ap (λ (m : ℕ). climb left m 0 a ts) e
+
+then_along : (o : Out Expr) (f g : Expr → Tokens → Out Expr) → ((a : Expr) (ts : Tokens) → f a ts ≡ g a ts)
+    → and_then o f ≡ and_then o g
+then_along (Ok p) f g h = h p.0 p.1
+then_along (Err s) f g h = refl
+
+-- a phrase is a cast and what its levels join to it
+pub joins : (left level : ℕ) (ts : Tokens)
+    → binary_of (inside left) level ts ≡ and_then (cast_of (inside left) ts) (λ a ts. joined_of left level a ts)
+joins left level ts =
+    climbs left level ts
+    ∙ then_along (cast_of (inside left) ts) (climb left (level - 0) 0) (λ a ts. joined_of left level a ts)
+    (joined_start left level)
+
+-- where no operator of the levels comes, nothing is joined
+pub joined_none : (left level : ℕ) → level ≤ 10 → (a : Expr) (ts : Tokens) → Outside 0 level (seen joins_by ts)
+    → joined_of left level a ts ≡ Ok (a, ts)
+joined_none left level most a ts h =
+    sym (joined_start left level a ts) ∙ climb_end left level 0 most (omega arith) a ts h

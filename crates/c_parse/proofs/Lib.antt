@@ -1,6 +1,7 @@
 pub mod Enters
 pub mod Turns
 pub mod Climbs
+pub mod Operands
 pub mod Nested
 pub mod Lists
 pub mod Answered

@@ -2,15 +2,18 @@
 use Rattle.std.proofs.Common.{◌≡◌, ℕ, suc, ◌+◌, ◌-◌, ◌<◌, Bool, true, false, cond, List, [], ◌∷◌, ◌++◌, length, Ok, Err, refl}
 use Rattle.std.proofs.Common.{sym, ap, ◌∙◌, arith, append_assoc}
 use Rattle.c_tree.specs.declared.token.Kind.{Kind}
+use Rattle.std.proofs.lemmas.Bool.{false≢true}
+use Rattle.c_tree.specs.declared.token.Lexeme.{Lexeme}
 use Rattle.c_tree.specs.declared.token.Form.{Form}
+use Rattle.c_tree.specs.declared.token.Form.TheVariants as form
 use Rattle.c_tree.specs.declared.token.Mark.{Mark}
 use Rattle.c_tree.specs.declared.token.Mark.TheVariants as mark
 use Rattle.c_grammar.specs.Tokens.{Tokens}
 use Rattle.c_grammar.specs.Parsing.{Stop, Out, and_then, syntax, too_deep, tail, first, is_next, listed, many, repeated}
 use Rattle.c_grammar.specs.ModelTypes.{begins_type}
-use Rattle.c_grammar.specs.ModelExpressions.{inside}
+use Rattle.c_grammar.specs.ModelExpressions.{inside, is_name}
 use Rattle.c_grammar.specs.ModelStatements.{begins_statement, decl_of, decls_of, locals_of, entry_of, entries_of}
-use Rattle.c_grammar.specs.ModelStatements.{stmt_of, below_at, begins_label, label_of, labels_of, body_of, section_of}
+use Rattle.c_grammar.specs.ModelStatements.{stmt_of, simple_of, plain_of, below_at, begins_label, label_of, labels_of, body_of, section_of}
 use Rattle.c_grammar.specs.ModelStatements.{sections_of}
 use Rattle.c_parse.specs.Reads.{behind, Fails}
 use Rattle.c_parse.specs.declared.fault.Stopped.{Stopped}
@@ -45,6 +48,22 @@ pub inner_some : (left : ℕ) (ts : Tokens) → (left ≡ 0 → ⊥)
 inner_some left ts h =
     let e : left ≡ suc (left - 1) = omega (arith, h) in ap (λ (n : ℕ). (below_at n).inner ts) e
     ∙ inner_next (left - 1) ts
+
+-- a statement that begins with a name is an expression
+plain_next : (n : ℕ) (t : Lexeme) (ts : Tokens) (w : List ℕ) → t.form ≡ form.Name w
+    → stmt_of (inside n) (below_at n) (t ∷ ts) ≡ plain_of (inside n) (below_at n) (t ∷ ts)
+unfolding stmt_of simple_of
+plain_next n t ts w e = rw e refl
+
+pub inner_plain : (left : ℕ) (ts : Tokens) → (left ≡ 0 → ⊥) → first is_name ts ≡ true
+    → (below_at left).inner ts ≡ plain_of (inside (left - 1)) (below_at (left - 1)) ts
+inner_plain left [] h e = absurd (false≢true e)
+inner_plain left (t ∷ ts) h e = by t.form refl e
+  where
+    by : (f : Form) → t.form ≡ f → is_name f ≡ true
+        → (below_at left).inner (t ∷ ts) ≡ plain_of (inside (left - 1)) (below_at (left - 1)) (t ∷ ts)
+    by (form.Name w) i q = inner_some left (t ∷ ts) h ∙ plain_next (left - 1) t ts w i
+    by _ i q = absurd (false≢true q)
 
 pub locals_none : (left : ℕ) (ts : Tokens) → left ≡ 0 → (below_at left).locals ts ≡ (below_at 0).locals ts
 locals_none left ts e = ap (λ (n : ℕ). (below_at n).locals ts) e

@@ -3,6 +3,7 @@
 ghost use Rattle.std.specs.Prelude.{◌≡◌, ◌≤◌, ◌<◌, length, [], ◌∷◌, MatchOption};
 ghost use Rattle.c_grammar.specs.ModelExpressions as model;
 ghost use Rattle.c_grammar.specs.Operators.{Assigner, assigner_mark, assigner_op};
+ghost use Rattle.c_parse.specs.Operands as operands;
 ghost use Rattle.c_parse.specs.Reads as reads;
 ghost use Rattle.c_parse.specs.Reads.{Reads, joins_by, IsAssigner};
 
@@ -27,6 +28,7 @@ fn is_unary(e: &Expr) -> bool
 }
 
 /// A binary operator, and how many levels above a cast its right side is.
+#[inline(always)]
 fn joins(form: &Form) -> Option<(u8, BinaryOp)>
     ensures { result ≡ joins_by form.now }
 {
@@ -72,6 +74,7 @@ fn within(below: u8, level: u8, found: Option<(u8, BinaryOp)>) -> Option<(u8, Bi
 
 impl Parser<'_> {
     /// The operator that comes next, and how many levels above a cast its right side is.
+    #[inline(always)]
     fn operator(&self) -> Option<(u8, BinaryOp)>
         ensures { result ≡ model.seen joins_by self.now.rest.now }
     {
@@ -81,17 +84,17 @@ impl Parser<'_> {
         }
     }
 
-    /// A phrase of so many levels of binary operators above a cast.
+    /// What so many levels of binary operators above a cast join to a cast that was read.
     ///
     /// An operator joins all that was read so far: what binds tighter than it stands there already. So one
     /// operand is read once, and not once a level.
     #[cycle(expression)]
-    fn binary(&mut self, left: u8, level: u8) -> Result<Boxed<Expr>, Stopped>
+    fn joined(&mut self, left: u8, level: u8, first: Boxed<Expr>) -> Result<Boxed<Expr>, Stopped>
         requires { level ≤ 10 }
-        ensures { Reads (model.binary_of (model.inside left) level self.old.rest.now) result
+        ensures { Reads (operands.joined_of left level first self.old.rest.now) result
             self.new.rest.now }
     {
-        let mut whole = self.cast(left)?;
+        let mut whole = first;
         let mut below = 0u8;
         while let Some((of, op)) = within(below, level, self.operator()) {
             self.advance();
@@ -100,6 +103,37 @@ impl Parser<'_> {
             below = of;
         }
         Ok(whole)
+    }
+
+    /// The same, with no call where nothing is joined.
+    #[cycle(expression)]
+    #[inline(always)]
+    fn behind_cast(
+        &mut self,
+        left: u8,
+        level: u8,
+        first: Boxed<Expr>,
+    ) -> Result<Boxed<Expr>, Stopped>
+        requires { level ≤ 10 }
+        ensures { Reads (operands.joined_of left level first self.old.rest.now) result
+            self.new.rest.now }
+    {
+        match within(0, level, self.operator()) {
+            Some(_) => self.joined(left, level, first),
+            None => Ok(first),
+        }
+    }
+
+    /// A phrase of so many levels of binary operators above a cast.
+    #[cycle(expression)]
+    #[inline(always)]
+    fn binary(&mut self, left: u8, level: u8) -> Result<Boxed<Expr>, Stopped>
+        requires { level ≤ 10 }
+        ensures { Reads (model.binary_of (model.inside left) level self.old.rest.now) result
+            self.new.rest.now }
+    {
+        let first = self.operand(left)?;
+        self.behind_cast(left, level, first)
     }
 
     #[cycle(expression)]
@@ -180,14 +214,44 @@ impl Parser<'_> {
         }
     }
 
+    /// Does a mark come next that neither an operator nor an assignment is?
+    #[inline(always)]
+    fn is_closed(&self) -> bool
+        ensures { result ≡ operands.is_closed self.now.rest.now }
+    {
+        match self.rest {
+            [] => false,
+            [lexeme, ..] => closes(&lexeme.form),
+        }
+    }
+
+    /// An assignment expression that begins with a cast that was read.
     #[cycle(expression)]
-    #[tactic(auto, unfolding(c_grammar::specs::ModelExpressions::assignment_of))]
+    #[inline(never)]
+    #[tactic(auto, unfolding(crate::specs::Operands::assignment_from))]
+    fn assignment_from(&mut self, left: u8, first: Boxed<Expr>) -> Result<Boxed<Expr>, Stopped>
+        ensures { Reads (operands.assignment_from left first self.old.rest.now) result
+            self.new.rest.now }
+    {
+        let joined = self.behind_cast(left, 10, first)?;
+        if self.is_closed() {
+            return Ok(joined);
+        }
+        let whole = self.choice(left, joined)?;
+        self.assign(left, whole)
+    }
+
+    #[cycle(expression)]
+    #[inline(always)]
     pub fn assignment(&mut self, left: u8) -> Result<Boxed<Expr>, Stopped>
         ensures { Reads (model.assignment_of (model.inside left) self.old.rest.now) result
             self.new.rest.now }
     {
-        let to = self.conditional(left)?;
-        self.assign(left, to)
+        let first = self.operand(left)?;
+        if self.is_closed() {
+            return Ok(first);
+        }
+        self.assignment_from(left, first)
     }
 
     #[cycle(expression)]
@@ -227,5 +291,24 @@ fn assigner_of(form: &Form) -> Option<(Mark, Option<BinaryOp>)>
         Form::Mark(Mark::XorAssign) => Some((Mark::XorAssign, Some(BinaryOp::BitXor))),
         Form::Mark(Mark::OrAssign) => Some((Mark::OrAssign, Some(BinaryOp::BitOr))),
         _ => None,
+    }
+}
+
+/// Is it a mark behind which an assignment expression has ended?
+#[inline(always)]
+fn closes(form: &Form) -> bool
+    ensures { result ≡ operands.closes form.now }
+{
+    match form {
+        Form::Mark(mark) => matches!(
+            mark,
+            Mark::RightParen
+                | Mark::RightBracket
+                | Mark::RightBrace
+                | Mark::Semicolon
+                | Mark::Comma
+                | Mark::Colon
+        ),
+        _ => false,
     }
 }

@@ -12,6 +12,7 @@ use base::{Boxed, Items};
 use c_tree::{ArraySize, Expr, Kind, Mark, Stmt, StmtNode};
 
 impl Parser<'_> {
+    #[inline(always)]
     #[tactic(auto, unfolding(c_grammar::specs::ModelStatements::absent_of, c_grammar::specs::ModelStatements::given_of, c_grammar::specs::ModelStatements::until_of))]
     pub fn until_semicolon(&mut self, left: u8) -> Result<Option<Boxed<Expr>>, Stopped>
         ensures { Reads (model.until_of (inside left) grammar.semicolon self.old.rest.now) result
@@ -26,6 +27,7 @@ impl Parser<'_> {
         Ok(Some(e))
     }
 
+    #[inline(always)]
     #[tactic(auto, unfolding(c_grammar::specs::ModelStatements::absent_of, c_grammar::specs::ModelStatements::given_of, c_grammar::specs::ModelStatements::until_of))]
     pub fn until_paren(&mut self, left: u8) -> Result<Option<Boxed<Expr>>, Stopped>
         ensures { Reads (model.until_of (inside left) grammar.paren self.old.rest.now) result
@@ -41,6 +43,7 @@ impl Parser<'_> {
     }
 
     /// A condition in its parentheses.
+    #[inline(always)]
     #[tactic(auto, unfolding(c_grammar::specs::ModelStatements::test_of))]
     pub fn test(&mut self, left: u8) -> Result<Boxed<Expr>, Stopped>
         ensures { Reads (model.test_of (inside left) self.old.rest.now) result self.new.rest.now }

@@ -9,6 +9,7 @@ use c_tree::{BinaryOp, BumpOp, Expr, ExprNode, Kind, UnaryOp, Word};
 use std::alloc::{AllocError, Global};
 
 /// A node at a line, on the heap.
+#[inline(always)]
 pub fn built(alloc: Global, line: u32, node: ExprNode) -> Result<Boxed<Expr>, AllocError>
     ensures { IfOk result (λ e. e ≡ grammar.at line node) }
 {

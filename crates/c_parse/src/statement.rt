@@ -49,22 +49,32 @@ impl Parser<'_> {
         }
     }
 
-    /// A statement inside another one, on the heap.
+    /// A statement inside another one, on the heap. One that begins with a name is an expression.
     #[cycle(statement)]
+    #[tactic(auto, using(crate::proofs::Nested::inner_plain))]
     fn branch(&mut self, left: u8) -> Result<Boxed<Stmt>, Stopped>
         ensures { Reads ((model.below_at left).inner self.old.rest.now) result self.new.rest.now }
     {
+        if left != 0 && self.is_name() {
+            let statement = self.plain_statement(left - 1)?;
+            return Ok(Boxed::new(self.alloc, statement)?);
+        }
         let statement = self.inner(left)?;
         Ok(Boxed::new(self.alloc, statement)?)
     }
 
-    /// A statement, behind those that were found.
+    /// A statement, behind those that were found. One that begins with a name is an expression.
     #[cycle(statement)]
-    #[tactic(auto, unfolding(c_grammar::specs::ModelStatements::one_of))]
+    #[tactic(auto, using(crate::proofs::Nested::inner_plain), unfolding(c_grammar::specs::ModelStatements::one_of))]
     fn one(&mut self, left: u8, found: &mut Items<Stmt>) -> Result<(), Stopped>
         ensures { Puts (model.one_of (inside left) (model.below_at left) self.old.rest.now)
             found.old found.new result self.new.rest.now }
     {
+        if left != 0 && self.is_name() {
+            let statement = self.plain_statement(left - 1)?;
+            found.push(statement)?;
+            return Ok(());
+        }
         let statement = self.inner(left)?;
         found.push(statement)?;
         Ok(())
@@ -287,6 +297,7 @@ impl Parser<'_> {
         })
     }
 
+    #[inline(always)]
     #[tactic(auto, unfolding(c_grammar::specs::ModelStatements::plain_of))]
     fn plain_statement(&mut self, left: u8) -> Result<Stmt, Stopped>
         ensures { Reads (model.plain_of (inside left) (model.below_at left) self.old.rest.now)

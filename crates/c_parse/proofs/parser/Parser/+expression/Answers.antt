@@ -1,15 +1,16 @@
 use Rattle.std.proofs.Common.{ℕ, ◌+◌, ◌-◌, length, arith, rules, sym, ap, ◌∙◌, subst, refl, List, false, Option, Some}
 use Rattle.std.proofs.lemmas.Grind.{common_steps}
 use Rattle.c_tree.specs.declared.tree.Expr.{Expr}
-use Rattle.c_grammar.specs.Operators.{binary_level}
 use Rattle.c_tree.specs.declared.token.Mark.TheVariants as marks
 use Rattle.c_grammar.specs.Parsing.{Out, and_then, listed}
 use Rattle.c_tree.specs.declared.tree.BinaryOp.{BinaryOp}
 use Rattle.c_grammar.specs.Tokens.{Tokens}
-use Rattle.c_parse.specs.Reads.{Reads, Fails, IsAssigner, Outside, Inside, joins_by, behind}
+use Rattle.c_parse.specs.Reads.{Fails, IsAssigner, Outside, Inside, joins_by, behind}
 use Rattle.c_grammar.specs.ModelExpressions.{seen, inside, assigner_for, loop, binary_of, assignment_of}
 use Rattle.c_parse.proofs.Turns.{listed_keeps, arg_list_init, assign_with, commas_of, comma_on, comma_shorter}
-use Rattle.c_parse.proofs.Climbs.{climb, climbs, climb_end, climb_turn, climb_fails, climb_shorter}
+use Rattle.c_parse.specs.Operands.{climb, assignment_from}
+use Rattle.c_parse.proofs.Operands.{assignment_is, closed_operand, closed_whole}
+use Rattle.c_parse.proofs.Climbs.{joined_start, joined_none, joins, climb_end, climb_turn, climb_fails, climb_shorter}
 use Rattle.c_parse.proofs.parser.Parser.+expression.Goals as goal
 
 pub arg_list-loop-turn-init : goal.arg_list-loop-turn-init
@@ -31,12 +32,8 @@ assign-returns-in-Some t c =
     (subst (λ (e : Expr). IsAssigner (Some (c.in-Some.mark, c.in-Some.op)) (seen (assigner_for e)
     c.args.self.now.rest.now)) c.get.ensures.value c.in-Some.ensures) (λ s e f. c.assigned.ensures s e f)
 
-pub binary-returns-in_err-whole : goal.binary-returns-in_err-whole
-binary-returns-in_err-whole t c =
-    rw (climbs c.args.left c.args.level c.args.self.now.rest.now) (first_of (search rules, grind (arith, common_steps)))
-
-pub binary-returns : goal.binary-returns
-binary-returns t c =
+pub joined-returns : goal.joined-returns
+joined-returns t c =
     sym c.loop-of.invariant.0 ∙ climb_end c.args.left c.args.level c.loop-of.below (omega arith)
     c.loop-of.invariant.1 c.loop-of.whole c.loop-of.self.rest.now
     (subst (λ (o : Option (ℕ × BinaryOp)). Outside c.loop-of.below c.args.level o) c.operator.ensures
@@ -65,30 +62,29 @@ expression-loop-self-preserved t c =
     (ap (assignment_of (inside c.args.left)) (sym c.advance.ensures) ∙ c.in_ok-right.ensures))
     ∙ c.loop-self.invariant
 
-pub binary-loop-of-init : goal.binary-loop-of-init
-binary-loop-of-init t c = (
-  sym (climbs c.args.left c.args.level c.args.self.now.rest.now
-      ∙ ap (λ (o : Out Expr). and_then o (climb c.args.left (c.args.level - 0) 0)) c.in_ok-whole.ensures),
+pub joined-loop-of-init : goal.joined-loop-of-init
+joined-loop-of-init t c = (
+  joined_start c.args.left c.args.level c.args.first c.args.self.now.rest.now,
   omega arith,
 )
 
-pub binary-loop-of-smaller : goal.binary-loop-of-smaller
-binary-loop-of-smaller t c =
+pub joined-loop-of-smaller : goal.joined-loop-of-smaller
+joined-loop-of-smaller t c =
     climb_shorter c.args.left c.args.level c.loop-of.below (omega arith) c.loop-of.whole c.loop-of.self.rest.now
     (c.in-Some.of, c.in-Some.op)
     (subst (λ (o : Option (ℕ × BinaryOp)). Inside c.loop-of.below c.args.level o (c.in-Some.of, c.in-Some.op))
     c.operator.ensures c.in-Some.ensures) c.in_ok-right.right c.binary.new.self.rest.now
     (ap (binary_of (inside c.args.left) c.in-Some.of) (sym c.advance.ensures) ∙ c.in_ok-right.ensures)
 
-pub binary-loop-of-preserved : goal.binary-loop-of-preserved
-binary-loop-of-preserved t c =
+pub joined-loop-of-preserved : goal.joined-loop-of-preserved
+joined-loop-of-preserved t c =
     let found : Inside c.loop-of.below c.args.level (seen joins_by c.loop-of.self.rest.now)
     (c.in-Some.of, c.in-Some.op) =
     subst (λ (o : Option (ℕ × BinaryOp)). Inside c.loop-of.below c.args.level o (c.in-Some.of, c.in-Some.op))
     c.operator.ensures c.in-Some.ensures
     in (
       ap (λ (w : Expr). climb c.args.left (c.args.level - c.in-Some.of) c.in-Some.of w c.binary.new.self.rest.now)
-          c.in_ok-whole-2.ensures
+          c.in_ok-whole.ensures
           ∙ sym (climb_turn c.args.left c.args.level c.loop-of.below (omega arith) c.loop-of.whole
           c.loop-of.self.rest.now (c.in-Some.of, c.in-Some.op) found c.in_ok-right.right c.binary.new.self.rest.now
           (ap (binary_of (inside c.args.left) c.in-Some.of) (sym c.advance.ensures) ∙ c.in_ok-right.ensures))
@@ -96,8 +92,8 @@ binary-loop-of-preserved t c =
       omega (arith, found.2),
     )
 
-pub binary-returns-in_err-right : goal.binary-returns-in_err-right
-binary-returns-in_err-right t c =
+pub joined-returns-in_err-right : goal.joined-returns-in_err-right
+joined-returns-in_err-right t c =
     let found : Inside c.loop-of.below c.args.level (seen joins_by c.loop-of.self.rest.now)
     (c.in-Some.of, c.in-Some.op) =
     subst (λ (o : Option (ℕ × BinaryOp)). Inside c.loop-of.below c.args.level o (c.in-Some.of, c.in-Some.op))
@@ -113,3 +109,35 @@ binary-returns-in_err-right t c =
     subst (λ (o : Out Expr). Fails o c.in_err-right.field-0.0 c.binary.new.self.rest.now) c.loop-of.invariant.0 stops
     in
     first_of (search rules, grind (arith, common_steps))
+
+pub behind_cast-returns-in-None : goal.behind_cast-returns-in-None
+behind_cast-returns-in-None t c =
+    joined_none c.args.left c.args.level (omega arith) c.args.first c.args.self.now.rest.now
+    (subst (λ (o : Option (ℕ × BinaryOp)). Outside 0 c.args.level o) c.operator.ensures c.in-None.ensures)
+
+pub binary-returns-in_err-first : goal.binary-returns-in_err-first
+binary-returns-in_err-first t c =
+    rw (joins c.args.left c.args.level c.args.self.now.rest.now) (first_of (search rules, grind (arith, common_steps)))
+
+pub binary-returns : goal.binary-returns
+binary-returns t c =
+    rw (joins c.args.left c.args.level c.args.self.now.rest.now) (rw c.in_ok-first.ensures c.behind_cast.ensures)
+
+pub assignment-returns-in_err-first : goal.assignment-returns-in_err-first
+assignment-returns-in_err-first t c =
+    rw (assignment_is c.args.left c.args.self.now.rest.now) (first_of (search rules, grind (arith, common_steps)))
+
+pub assignment-returns-then-is_closed : goal.assignment-returns-then-is_closed
+assignment-returns-then-is_closed t c =
+    assignment_is c.args.left c.args.self.now.rest.now
+    ∙ ap (λ (o : Out Expr). and_then o (λ a ts. assignment_from c.args.left a ts)) c.in_ok-first.ensures
+    ∙ closed_operand c.args.left c.in_ok-first.first c.operand.new.self.rest.now (cc)
+
+pub assignment-returns : goal.assignment-returns
+assignment-returns t c =
+    rw (assignment_is c.args.left c.args.self.now.rest.now) (rw c.in_ok-first.ensures c.assignment_from.ensures)
+
+pub assignment_from-returns-then-is_closed : goal.assignment_from-returns-then-is_closed
+assignment_from-returns-then-is_closed t c =
+    closed_whole c.args.left c.args.first c.in_ok-joined.joined c.args.self.now.rest.now
+    c.behind_cast.new.self.rest.now c.in_ok-joined.ensures (cc)

@@ -1,90 +1,101 @@
 use Rattle.std.proofs.Common.{◌≡◌, ◌≤◌, ◌+◌, ◌-◌, ◌*◌, length, false}
-use Rattle.c_grammar.specs.Operators.{binary_level}
 use Rattle.c_grammar.specs.Parsing.{listed}
-use Rattle.c_grammar.specs.ModelExpressions.{arg_list_of, inside, loop, suffixes, binary_of, assignment_of}
+use Rattle.c_grammar.specs.ModelExpressions.{arg_list_of, inside, loop, suffixes, assignment_of}
 use Rattle.c_grammar.specs.ModelExpressions.{expression_of, postfix_of}
 use Rattle.c_tree.specs.declared.token.Mark.TheVariants as marks
 use Rattle.c_parse.specs.Reads.{opened, behind}
-use Rattle.c_parse.proofs.Climbs.{climb}
+use Rattle.c_parse.specs.Operands.{climb, joined_of}
 use Rattle.c_parse.proofs.parser.Parser.+expression.Given as goal
 
 abbrev pub decreases-index : goal.decreases-index
-decreases-index l = 32 * l.left
+decreases-index l = 64 * l.left
 
 abbrev pub decreases-second_index : goal.decreases-second_index
-decreases-second_index l = 32 * l.left + 1
+decreases-second_index l = 64 * l.left + 1
 
 abbrev pub decreases-after_index : goal.decreases-after_index
-decreases-after_index l = 32 * l.left + 2
+decreases-after_index l = 64 * l.left + 2
 
 abbrev pub decreases-element : goal.decreases-element
-decreases-element l = 32 * l.left + 3
+decreases-element l = 64 * l.left + 3
 
 abbrev pub decreases-call : goal.decreases-call
-decreases-call l = 32 * l.left
+decreases-call l = 64 * l.left
 
 abbrev pub decreases-group : goal.decreases-group
-decreases-group l = 32 * l.left
+decreases-group l = 64 * l.left
 
 abbrev pub decreases-signed_by : goal.decreases-signed_by
-decreases-signed_by l = 32 * l.left
+decreases-signed_by l = 64 * l.left
 
 abbrev pub decreases-increased : goal.decreases-increased
-decreases-increased l = 32 * l.left
+decreases-increased l = 64 * l.left
 
 abbrev pub decreases-decreased : goal.decreases-decreased
-decreases-decreased l = 32 * l.left
+decreases-decreased l = 64 * l.left
 
 abbrev pub decreases-converted : goal.decreases-converted
-decreases-converted l = 32 * l.left
+decreases-converted l = 64 * l.left
 
 abbrev pub decreases-chosen : goal.decreases-chosen
-decreases-chosen l = 32 * l.left
+decreases-chosen l = 64 * l.left
 
 abbrev pub decreases-assigned : goal.decreases-assigned
-decreases-assigned l = 32 * l.left
+decreases-assigned l = 64 * l.left
 
 abbrev pub decreases-after_name : goal.decreases-after_name
-decreases-after_name l = 32 * l.left + 4
+decreases-after_name l = 64 * l.left + 4
 
 abbrev pub decreases-named : goal.decreases-named
-decreases-named l = 32 * l.left + 5
+decreases-named l = 64 * l.left + 5
 
 abbrev pub decreases-primary : goal.decreases-primary
-decreases-primary l = 32 * l.left + 6
+decreases-primary l = 64 * l.left + 6
 
 abbrev pub decreases-postfix : goal.decreases-postfix
-decreases-postfix l = 32 * l.left + 7
+decreases-postfix l = 64 * l.left + 7
 
 abbrev pub decreases-unary : goal.decreases-unary
-decreases-unary l = 32 * l.left + 8
+decreases-unary l = 64 * l.left + 8
 
 abbrev pub decreases-cast : goal.decreases-cast
-decreases-cast l = 32 * l.left + 9
+decreases-cast l = 64 * l.left + 9
+
+abbrev pub decreases-operand : goal.decreases-operand
+decreases-operand l = 64 * l.left + 10
+
+abbrev pub decreases-joined : goal.decreases-joined
+decreases-joined l = 64 * l.left + 12 + 3 * l.level
+
+abbrev pub decreases-behind_cast : goal.decreases-behind_cast
+decreases-behind_cast l = 64 * l.left + 13 + 3 * l.level
 
 abbrev pub decreases-binary : goal.decreases-binary
-decreases-binary l = 32 * l.left + 10 + l.level
+decreases-binary l = 64 * l.left + 14 + 3 * l.level
 
 abbrev pub decreases-choice : goal.decreases-choice
-decreases-choice l = 32 * l.left + 1
+decreases-choice l = 64 * l.left + 1
 
 abbrev pub decreases-conditional : goal.decreases-conditional
-decreases-conditional l = 32 * l.left + 21
+decreases-conditional l = 64 * l.left + 45
 
 abbrev pub decreases-assign : goal.decreases-assign
-decreases-assign l = 32 * l.left + 1
+decreases-assign l = 64 * l.left + 1
+
+abbrev pub decreases-assignment_from : goal.decreases-assignment_from
+decreases-assignment_from l = 64 * l.left + 45
 
 abbrev pub decreases-assignment : goal.decreases-assignment
-decreases-assignment l = 32 * l.left + 22
+decreases-assignment l = 64 * l.left + 46
 
 abbrev pub decreases-expression : goal.decreases-expression
-decreases-expression l = 32 * l.left + 23
+decreases-expression l = 64 * l.left + 47
 
 abbrev pub decreases-arg_list : goal.decreases-arg_list
-decreases-arg_list l = 32 * l.left + 23
+decreases-arg_list l = 64 * l.left + 47
 
 abbrev pub decreases-args : goal.decreases-args
-decreases-args l = 32 * l.left + 24
+decreases-args l = 64 * l.left + 48
 
 abbrev pub invariant-arg_list-loop-turn : goal.invariant-arg_list-loop-turn
 invariant-arg_list-loop-turn l =
@@ -98,13 +109,13 @@ invariant-postfix-loop-op l =
 abbrev pub decreases-postfix-loop-op : goal.decreases-postfix-loop-op
 decreases-postfix-loop-op l = length l.self.rest.now
 
-abbrev pub invariant-binary-loop-of : goal.invariant-binary-loop-of
-invariant-binary-loop-of l =
-    (climb l.left (l.level - l.below) l.below l.whole l.self.rest.now ≡ binary_of (inside l.left) l.level
-    l.fn.self.rest.now) × (l.below ≤ l.level)
+abbrev pub invariant-joined-loop-of : goal.invariant-joined-loop-of
+invariant-joined-loop-of l =
+    (climb l.left (l.level - l.below) l.below l.whole l.self.rest.now ≡ joined_of l.left l.level
+    l.fn.first l.fn.self.rest.now) × (l.below ≤ l.level)
 
-abbrev pub decreases-binary-loop-of : goal.decreases-binary-loop-of
-decreases-binary-loop-of l = length l.self.rest.now
+abbrev pub decreases-joined-loop-of : goal.decreases-joined-loop-of
+decreases-joined-loop-of l = length l.self.rest.now
 
 abbrev pub invariant-expression-loop-self : goal.invariant-expression-loop-self
 invariant-expression-loop-self l =
