@@ -6,15 +6,17 @@ use Rattle.std.proofs.lemmas.Bool.{false≢true}
 use Rattle.c_tree.specs.declared.token.Lexeme.{Lexeme}
 use Rattle.c_tree.specs.declared.token.Form.{Form}
 use Rattle.c_tree.specs.declared.token.Form.TheVariants as form
+use Rattle.c_tree.specs.declared.token.Key.TheVariants as key
 use Rattle.c_tree.specs.declared.token.Mark.{Mark}
 use Rattle.c_tree.specs.declared.token.Mark.TheVariants as mark
 use Rattle.c_grammar.specs.Tokens.{Tokens}
-use Rattle.c_grammar.specs.Parsing.{Stop, Out, and_then, syntax, too_deep, tail, first, is_next, listed, many, repeated}
+use Rattle.c_grammar.specs.Parsing.{Stop, Out, and_then, syntax, too_deep, tail, first, is_next, is_word, listed, many, repeated}
 use Rattle.c_grammar.specs.ModelTypes.{begins_type}
 use Rattle.c_grammar.specs.ModelExpressions.{inside, is_name}
 use Rattle.c_grammar.specs.ModelStatements.{begins_statement, decl_of, decls_of, locals_of, entry_of, entries_of}
-use Rattle.c_grammar.specs.ModelStatements.{stmt_of, simple_of, plain_of, below_at, begins_label, label_of, labels_of, body_of, section_of}
+use Rattle.c_grammar.specs.ModelStatements.{stmt_of, simple_of, plain_of, return_of, below_at, begins_label, label_of, labels_of, body_of, section_of}
 use Rattle.c_grammar.specs.ModelStatements.{sections_of}
+use Rattle.c_grammar.proofs.Numbers.{key_is}
 use Rattle.c_parse.specs.Reads.{behind, Fails}
 use Rattle.c_parse.specs.declared.fault.Stopped.{Stopped}
 use Rattle.c_parse.specs.declared.fault.Stopped.TheVariants as stopped
@@ -64,6 +66,18 @@ inner_plain left (t ∷ ts) h e = by t.form refl e
         → (below_at left).inner (t ∷ ts) ≡ plain_of (inside (left - 1)) (below_at (left - 1)) (t ∷ ts)
     by (form.Name w) i q = inner_some left (t ∷ ts) h ∙ plain_next (left - 1) t ts w i
     by _ i q = absurd (false≢true q)
+
+-- a statement that begins with `return` is one
+return_next : (n : ℕ) (t : Lexeme) (ts : Tokens) → t.form ≡ form.Key key.Return
+    → stmt_of (inside n) (below_at n) (t ∷ ts) ≡ return_of (inside n) (below_at n) (t ∷ ts)
+unfolding stmt_of simple_of
+return_next n t ts e = rw e refl
+
+pub inner_return : (left : ℕ) (ts : Tokens) → (left ≡ 0 → ⊥) → is_word key.Return ts ≡ true
+    → (below_at left).inner ts ≡ return_of (inside (left - 1)) (below_at (left - 1)) ts
+inner_return left [] h e = absurd (false≢true e)
+inner_return left (t ∷ ts) h e =
+    inner_some left (t ∷ ts) h ∙ return_next (left - 1) t ts (key_is key.Return t.form e)
 
 pub locals_none : (left : ℕ) (ts : Tokens) → left ≡ 0 → (below_at left).locals ts ≡ (below_at 0).locals ts
 locals_none left ts e = ap (λ (n : ℕ). (below_at n).locals ts) e

@@ -76,6 +76,7 @@ impl Parser<'_> {
     }
 
     /// Takes a mark, and gives its line.
+    #[inline(always)]
     pub fn expect(&mut self, mark: Mark) -> Result<u32, Stopped>
         ensures { Reads (model.expect mark self.old.rest.now) result self.new.rest.now }
     {

@@ -29,6 +29,7 @@ impl Parser<'_> {
 
     /// A statement inside another one.
     #[cycle(statement)]
+    #[inline(always)]
     pub fn inner(&mut self, left: u8) -> Result<Stmt, Stopped>
         ensures { Reads ((model.below_at left).inner self.old.rest.now) result self.new.rest.now }
     {
@@ -63,15 +64,20 @@ impl Parser<'_> {
         Ok(Boxed::new(self.alloc, statement)?)
     }
 
-    /// A statement, behind those that were found. One that begins with a name is an expression.
+    /// A statement, behind those that were found. Most begin with a name, and are expressions, or with `return`.
     #[cycle(statement)]
-    #[tactic(auto, using(crate::proofs::Nested::inner_plain), unfolding(c_grammar::specs::ModelStatements::one_of))]
+    #[tactic(auto, using(crate::proofs::Nested::inner_plain, crate::proofs::Nested::inner_return), unfolding(c_grammar::specs::ModelStatements::one_of))]
     fn one(&mut self, left: u8, found: &mut Items<Stmt>) -> Result<(), Stopped>
         ensures { Puts (model.one_of (inside left) (model.below_at left) self.old.rest.now)
             found.old found.new result self.new.rest.now }
     {
         if left != 0 && self.is_name() {
             let statement = self.plain_statement(left - 1)?;
+            found.push(statement)?;
+            return Ok(());
+        }
+        if left != 0 && self.is_word(Key::Return) {
+            let statement = self.return_statement(left - 1)?;
             found.push(statement)?;
             return Ok(());
         }
@@ -271,6 +277,7 @@ impl Parser<'_> {
         })
     }
 
+    #[inline(always)]
     #[tactic(auto, unfolding(c_grammar::specs::ModelStatements::return_of))]
     fn return_statement(&mut self, left: u8) -> Result<Stmt, Stopped>
         ensures { Reads (model.return_of (inside left) (model.below_at left) self.old.rest.now)
