@@ -138,6 +138,7 @@ unfolding joined_of
 joined_start left level a ts =
     let e : level - 0 ≡ level = omega arith in ap (λ (m : ℕ). climb left m 0 a ts) e
 
+-- a part and then one of two functions that are equal
 then_along : (o : Out Expr) (f g : Expr → Tokens → Out Expr) → ((a : Expr) (ts : Tokens) → f a ts ≡ g a ts)
     → and_then o f ≡ and_then o g
 then_along (Ok p) f g h = h p.0 p.1

@@ -10,11 +10,13 @@ use Rattle.c_tree.specs.declared.token.Key.TheVariants as key
 use Rattle.c_tree.specs.declared.token.Mark.{Mark}
 use Rattle.c_tree.specs.declared.token.Mark.TheVariants as mark
 use Rattle.c_grammar.specs.Tokens.{Tokens}
-use Rattle.c_grammar.specs.Parsing.{Stop, Out, and_then, syntax, too_deep, tail, first, is_next, is_word, listed, many, repeated}
+use Rattle.c_grammar.specs.Parsing.{Stop, Out, and_then, syntax, too_deep, tail, first, is_next, is_word}
+use Rattle.c_grammar.specs.Parsing.{listed, many, repeated}
 use Rattle.c_grammar.specs.ModelTypes.{begins_type}
 use Rattle.c_grammar.specs.ModelExpressions.{inside, is_name}
 use Rattle.c_grammar.specs.ModelStatements.{begins_statement, decl_of, decls_of, locals_of, entry_of, entries_of}
-use Rattle.c_grammar.specs.ModelStatements.{stmt_of, simple_of, plain_of, return_of, below_at, begins_label, label_of, labels_of, body_of, section_of}
+use Rattle.c_grammar.specs.ModelStatements.{stmt_of, simple_of, plain_of, return_of, below_at}
+use Rattle.c_grammar.specs.ModelStatements.{begins_label, label_of, labels_of, body_of, section_of}
 use Rattle.c_grammar.specs.ModelStatements.{sections_of}
 use Rattle.c_grammar.proofs.Numbers.{key_is}
 use Rattle.c_parse.specs.Reads.{behind, Fails}
@@ -57,6 +59,7 @@ plain_next : (n : ℕ) (t : Lexeme) (ts : Tokens) (w : List ℕ) → t.form ≡ 
 unfolding stmt_of simple_of
 plain_next n t ts w e = rw e refl
 
+-- the same of a statement one deeper
 pub inner_plain : (left : ℕ) (ts : Tokens) → (left ≡ 0 → ⊥) → first is_name ts ≡ true
     → (below_at left).inner ts ≡ plain_of (inside (left - 1)) (below_at (left - 1)) ts
 inner_plain left [] h e = absurd (false≢true e)
@@ -73,6 +76,7 @@ return_next : (n : ℕ) (t : Lexeme) (ts : Tokens) → t.form ≡ form.Key key.R
 unfolding stmt_of simple_of
 return_next n t ts e = rw e refl
 
+-- the same of a statement one deeper
 pub inner_return : (left : ℕ) (ts : Tokens) → (left ≡ 0 → ⊥) → is_word key.Return ts ≡ true
     → (below_at left).inner ts ≡ return_of (inside (left - 1)) (below_at (left - 1)) ts
 inner_return left [] h e = absurd (false≢true e)

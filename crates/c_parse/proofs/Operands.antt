@@ -25,6 +25,7 @@ token l f = record { line = l; form = f }
 
 -- ---- operands of one token
 
+-- no suffix follows
 no_suffix : (a : Expr) (k : ℕ) (g : Form) (ts : Tokens) → ends_atom g ≡ true
     → suffixes (length (token k g ∷ ts)) a (token k g ∷ ts) ≡ Ok (a, token k g ∷ ts)
 no_suffix a k (form.Mark mark.PlusPlus) ts e = absurd (false≢true e)
@@ -32,6 +33,7 @@ no_suffix a k (form.Mark mark.MinusMinus) ts e = absurd (false≢true e)
 no_suffix a k (form.Mark _) ts e = refl
 no_suffix a k _ ts e = refl
 
+-- the name is no element and no call
 name_alone : (nested : Nested) (l : ℕ) (w : List ℕ) (k : ℕ) (g : Form) (ts : Tokens) → ends_atom g ≡ true
     → after_name nested l w (token k g ∷ ts) ≡ Ok (at l (node.Name w), token k g ∷ ts)
 unfolding after_name
@@ -40,6 +42,7 @@ name_alone nested l w k (form.Mark mark.LeftBracket) ts e = absurd (false≢true
 name_alone nested l w k (form.Mark _) ts e = refl
 name_alone nested l w k _ ts e = refl
 
+-- the same of a name or a number, with the parts of both tokens
 leaf_alone : (nested : Nested) (l : ℕ) (f : Form) (k : ℕ) (g : Form) (ts : Tokens)
     → cond (is_atom f) (ends_atom g) false ≡ true
     → cast_of nested (token l f ∷ token k g ∷ ts) ≡ leaf_by l f (token l f ∷ token k g ∷ ts)
@@ -58,6 +61,7 @@ leaf_is left (t ∷ u ∷ ts) e = leaf_alone (inside left) t.line t.form u.line 
 
 -- ---- the end of an assignment expression
 
+-- no binary operator comes next
 no_joiner : (f : Form) → closes f ≡ true → joins_by f ≡ None
 no_joiner (form.Mark mark.RightParen) e = refl
 no_joiner (form.Mark mark.RightBrace) e = refl
@@ -68,11 +72,13 @@ no_joiner (form.Mark mark.Colon) e = refl
 no_joiner (form.Mark _) e = absurd (false≢true e)
 no_joiner _ e = absurd (false≢true e)
 
+-- nothing is joined to an operand
 pub closed_joins : (left : ℕ) (a : Expr) (ts : Tokens) → is_closed ts ≡ true → joined_of left 10 a ts ≡ Ok (a, ts)
 closed_joins left a [] e = absurd (false≢true e)
 closed_joins left a (t ∷ ts) e =
     joined_none left 10 (omega arith) a (t ∷ ts) (λ p i. absurd (cc (no_joiner t.form e, i)))
 
+-- no `?` comes next
 no_question : (nested : Nested) (a : Expr) (l : ℕ) (f : Form) (ts : Tokens) → closes f ≡ true
     → choice_from nested a (token l f ∷ ts) ≡ Ok (a, token l f ∷ ts)
 unfolding choice_from
@@ -85,18 +91,22 @@ no_question nested a l (form.Mark mark.Colon) ts e = refl
 no_question nested a l (form.Mark _) ts e = absurd (false≢true e)
 no_question nested a l _ ts e = absurd (false≢true e)
 
+-- no choice is begun
 pub closed_choice : (left : ℕ) (a : Expr) (ts : Tokens) → is_closed ts ≡ true
     → choice_from (inside left) a ts ≡ Ok (a, ts)
 closed_choice left a [] e = absurd (false≢true e)
 closed_choice left a (t ∷ ts) e = no_question (inside left) a t.line t.form ts e
 
+-- no assignment operator
 abbrev none : Option Assigner
 none = None
 
+-- no assignment operator, whether the left side may be assigned to or not
 either_none : (b : Bool) → cond b none none ≡ None
 either_none true = refl
 either_none false = refl
 
+-- no assignment operator comes next
 no_assigner : (a : Expr) (f : Form) → closes f ≡ true → assigner_for a f ≡ None
 no_assigner a (form.Mark mark.RightParen) e = either_none (is_unary a)
 no_assigner a (form.Mark mark.RightBrace) e = either_none (is_unary a)
@@ -107,6 +117,7 @@ no_assigner a (form.Mark mark.Colon) e = either_none (is_unary a)
 no_assigner a (form.Mark _) e = absurd (false≢true e)
 no_assigner a _ e = absurd (false≢true e)
 
+-- no assignment is begun
 pub closed_assign : (left : ℕ) (a : Expr) (ts : Tokens) → is_closed ts ≡ true
     → assign_from (inside left) a ts ≡ Ok (a, ts)
 unfolding assign_from

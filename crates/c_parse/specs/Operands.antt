@@ -69,7 +69,8 @@ is_closed ts = first closes ts
 abbrev pub climb : ℕ → ℕ → ℕ → Expr → Tokens → Out Expr
 climb left zero b a ts = Ok (a, ts)
 climb left (suc m) b a ts =
-    and_then (loop (binary_of (inside left) b) (binary_level b) (length ts) a ts) (climb left m (suc b))
+    and_then (loop (binary_of (inside left) b) (binary_level b) (length ts) a ts)
+    (climb left m (suc b))
 
 -- what so many levels of operators join to a cast
 unfoldable pub joined_of : ℕ → ℕ → Expr → Tokens → Out Expr

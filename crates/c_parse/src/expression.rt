@@ -105,7 +105,7 @@ impl Parser<'_> {
         Ok(whole)
     }
 
-    /// The same, with no call where nothing is joined.
+    /// What so many levels of binary operators join to a cast, with no call where nothing is joined.
     #[cycle(expression)]
     #[inline(always)]
     fn behind_cast(
@@ -214,7 +214,7 @@ impl Parser<'_> {
         }
     }
 
-    /// Does a mark come next that neither an operator nor an assignment is?
+    /// Does a mark come next at which an assignment expression ends?
     #[inline(always)]
     fn is_closed(&self) -> bool
         ensures { result ≡ operands.is_closed self.now.rest.now }
@@ -294,7 +294,7 @@ fn assigner_of(form: &Form) -> Option<(Mark, Option<BinaryOp>)>
     }
 }
 
-/// Is it a mark behind which an assignment expression has ended?
+/// Is it a mark at which an assignment expression ends?
 #[inline(always)]
 fn closes(form: &Form) -> bool
     ensures { result ≡ operands.closes form.now }

@@ -406,7 +406,8 @@ fn is_atom(form: &Form) -> bool
     matches!(form, Form::Name(_) | Form::Number { .. })
 }
 
-/// May a name or a number end before it, rather than become an element, a call or a change of a place?
+/// May an operand that is a name or a number end before it, rather than become an element, a call
+/// or a change of a place?
 #[inline(always)]
 fn ends_atom(form: &Form) -> bool
     ensures { result ≡ operands.ends_atom form.now }

@@ -64,7 +64,8 @@ impl Parser<'_> {
         Ok(Boxed::new(self.alloc, statement)?)
     }
 
-    /// A statement, behind those that were found. Most begin with a name, and are expressions, or with `return`.
+    /// A statement, behind those that were found. Most begin with a name, and are expressions, or
+    /// with `return`.
     #[cycle(statement)]
     #[tactic(auto, using(crate::proofs::Nested::inner_plain, crate::proofs::Nested::inner_return), unfolding(c_grammar::specs::ModelStatements::one_of))]
     fn one(&mut self, left: u8, found: &mut Items<Stmt>) -> Result<(), Stopped>
