@@ -8,7 +8,6 @@ use Rattle.c_tree.specs.declared.Form.{Form}
 use Rattle.c_tree.specs.declared.Form.TheVariants as form
 use Rattle.c_tree.specs.declared.Kind.{Kind}
 use Rattle.c_tree.specs.declared.Mark.{Mark}
-use Rattle.c_lex.specs.declared.piece.Found.{Found}
 use Rattle.c_lex.specs.declared.piece.Reading.{Reading}
 use Rattle.c_lex.specs.declared.piece.Reading.TheVariants as reads
 use Rattle.c_lex.specs.Bytes.{Bytes, by_class, is_space, is_letter, is_word, is_digit, in_number, not_feed}
@@ -17,13 +16,13 @@ use Rattle.c_lex.specs.Runs.{run_len}
 use Rattle.c_lex.specs.Tables.{lookup, keywords}
 use Rattle.c_lex.specs.Scans.{constant_of, character_of, close_from, mark_of, is_include}
 use Rattle.c_lex.specs.Pieces.{Longest, word_form, begins_with}
-use Rattle.c_lex.specs.Finds.{IsFront, Finds, Marks, begins_comment}
+use Rattle.c_lex.specs.Finds.{Found, found, IsFront, Finds, Marks, begins_comment}
 use Rattle.c_lex.specs.Lexes.{Tokens, lexeme, Cut, here, Fault, BadByte, TooManyTokens, fault_of}
 use Rattle.c_lex.specs.Lexes.{no_piece, is_broken, one_more, FaultAt}
 use Rattle.c_lex.specs.Turns.{Grows}
 use Rattle.c_lex.specs.Answers.{Lexed, Answered}
 use Rattle.c_lex.proofs.Basics.{eq_is}
-use Rattle.c_lex.proofs.Found.{found, space_found, word_found, number_found, bad_number_found, character_found}
+use Rattle.c_lex.proofs.Found.{space_found, word_found, number_found, bad_number_found, character_found}
 use Rattle.c_lex.proofs.Found.{quote_found, comment_found, opening_found, line_found, include_found}
 use Rattle.c_lex.proofs.Found.{directive_found, marks_find, hash_nothing}
 use Rattle.c_lex.proofs.Whole.{grown, whole, bytes_nil, piece_some}
@@ -89,8 +88,8 @@ module _ (starts : Bool) where
 -- a line that begins with `#`
 line_at : (bs : Bytes) (t : Bool) → is_include (take (run_len (by_class not_feed) 0 bs) bs) ≡ t
     → Finding true (35 ∷ bs)
-line_at bs true e = (Some _, include_found (35 ∷ bs) bs _ refl refl e)
-line_at bs false e = (Some _, directive_found (35 ∷ bs) bs _ refl refl e)
+line_at bs true e = (Some _, include_found true (35 ∷ bs) bs _ refl refl refl e)
+line_at bs false e = (Some _, directive_found true (35 ∷ bs) bs _ refl refl refl e)
 
 hash_at : (starts : Bool) (bs : Bytes) → Finding starts (35 ∷ bs)
 hash_at true bs = line_at bs (is_include (take (run_len (by_class not_feed) 0 bs) bs)) refl

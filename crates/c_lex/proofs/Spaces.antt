@@ -1,5 +1,5 @@
 -- A run of spaces is passed by.
-use Rattle.std.proofs.Common.{◌≡◌, ℕ, suc, ◌+◌, Bool, true, false, [], ◌∷◌, take}
+use Rattle.std.proofs.Common.{◌≡◌, ◌≤◌, length, arith, ℕ, suc, ◌+◌, Bool, true, false, [], ◌∷◌, take}
 use Rattle.std.proofs.Common.{drop, refl, sym, ap, subst, cond}
 use Rattle.c_lex.specs.declared.piece.Reading.TheVariants as reads
 use Rattle.c_lex.specs.Bytes.{Bytes, by_class, is_space, feeds, still_empty}
@@ -49,3 +49,10 @@ passed most old new begins line starts rest tokens =
       starts_is = starts;
       grows = tokens;
     }
+
+-- no more bytes stand behind them than with them
+pub behind_few : (bs : Bytes) → length (after_spaces bs) ≤ length bs
+behind_few [] = omega arith
+behind_few (b ∷ bs) = let h : length (after_spaces bs) ≤ length bs = behind_few bs in
+    elim (is_space b) as (λ v. length (cond v (after_spaces bs) (b ∷ bs)) ≤ suc (length bs))
+    [ true ↦ omega arith | false ↦ (let l : length (b ∷ bs) ≡ suc (length bs) = refl in omega arith) ]
