@@ -1,17 +1,18 @@
 -- The table of first bytes is right, and what follows of its rows.
 use Rattle.std.proofs.Common.{◌≡◌, ◌<◌, ℕ, zero, suc, ◌+◌, Bool, true, false, inl, inr, cond, List, []}
-use Rattle.std.proofs.Common.{◌∷◌, Option, Some, None, refl, sym, ap, ◌∙◌, subst, arith, nat_eq, get_or, zero-add}
+use Rattle.std.proofs.Common.{◌∷◌, Option, Some, None, refl, sym, ap, ◌∙◌, subst, arith, nat_eq, get_or, zero-add, not, length}
 use Rattle.c_tree.specs.declared.Mark.{Mark}
 use Rattle.c_lex.specs.declared.first.First.{First}
 use Rattle.c_lex.specs.declared.first.First.TheVariants as first
 use Rattle.c_lex.specs.declared.first.TheConstants.{FIRSTS}
-use Rattle.c_lex.specs.Bytes.{is_space, is_letter, is_digit, is_word}
-use Rattle.c_lex.specs.Tables.{lookup, marks}
+use Rattle.c_lex.specs.Bytes.{Bytes, is_space, is_letter, is_digit, is_word}
+use Rattle.c_lex.specs.Tables.{lookup, marks, keywords}
 use Rattle.c_tree.specs.declared.Kind.{Kind}
 use Rattle.c_lex.specs.Scans.{short_constant, constant_of}
 use Rattle.c_tree.specs.declared.Mark.TheVariants.{Slash as slash}
 use Rattle.c_lex.proofs.Basics.{true_or_false, eq_is}
-use Rattle.c_lex.proofs.Groups.{group, Others}
+use Rattle.c_lex.proofs.Groups.{group, Others, all_rows, row_is}
+use Rattle.c_tree.specs.declared.Key.{Key}
 use Rattle.c_lex.specs.Firsts.{first_of, of_mark, none_longer, goes_on_word}
 
 -- the values of a function at so many numbers from this one on
@@ -170,3 +171,20 @@ others b o = rw (o.no_space, o.no_letter, o.no_digit, o.no_quote, no_slash, o.no
           ∙ ap (λ (x : ℕ). lookup (x ∷ []) marks) (eq_is b 47 y) ∙ slash_is in
           cc)
     ]
+
+-- has it more than one byte?
+abbrev is_long : Bytes → Bool
+is_long w = not (nat_eq (length w) 1)
+
+keys_long : all_rows is_long keywords ≡ true
+unfolding keywords
+keys_long = refl
+
+-- no keyword has one byte
+pub no_short_key : (b : ℕ) → lookup (b ∷ []) keywords ≡ None
+no_short_key b = by (lookup (b ∷ []) keywords) refl
+  where
+    by : (o : Option Key) → lookup (b ∷ []) keywords ≡ o → lookup (b ∷ []) keywords ≡ None
+    by None h = h
+    by (Some k) h =
+        absurd (let y : false ≡ true = row_is is_long (b ∷ []) keywords k keys_long h in cc)

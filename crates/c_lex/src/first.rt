@@ -9,8 +9,8 @@ use c_tree::Mark;
 
 /// What a piece may be that begins with a byte.
 ///
-/// `Only` is a punctuator with which no longer one begins, and `Begins` one with which a longer one may begin,
-/// or a comment. With `Other` no piece begins.
+/// `Only` is a punctuator with which no longer one begins, and `Begins` one with which a longer one
+/// may begin, or a comment. With `Other` no piece begins.
 #[derive(Clone, Copy, Debug, PartialEq, Eq)]
 pub enum First {
     Space,
