@@ -1,19 +1,21 @@
 -- The table of first bytes is right, and what follows of its rows.
-use Rattle.std.proofs.Common.{◌≡◌, ◌<◌, ℕ, zero, suc, ◌+◌, Bool, true, false, inl, inr, cond, List, []}
-use Rattle.std.proofs.Common.{◌∷◌, Option, Some, None, refl, sym, ap, ◌∙◌, subst, arith, nat_eq, get_or, zero-add, not, length}
+use Rattle.std.proofs.Common.{◌≡◌, ◌<◌, ℕ, zero, suc, ◌+◌, Bool, true, false, not, inl, inr, cond, List, []}
+use Rattle.std.proofs.Common.{◌∷◌, length, get_or, Option, Some, None, refl, sym, ap, ◌∙◌, subst, arith}
+use Rattle.std.proofs.Common.{nat_eq, zero-add}
+use Rattle.c_tree.specs.declared.Key.{Key}
+use Rattle.c_tree.specs.declared.Kind.{Kind}
 use Rattle.c_tree.specs.declared.Mark.{Mark}
+use Rattle.c_tree.specs.declared.Mark.TheVariants.{Slash as slash}
 use Rattle.c_lex.specs.declared.first.First.{First}
 use Rattle.c_lex.specs.declared.first.First.TheVariants as first
 use Rattle.c_lex.specs.declared.first.TheConstants.{FIRSTS}
 use Rattle.c_lex.specs.Bytes.{Bytes, is_space, is_letter, is_digit, is_word}
-use Rattle.c_lex.specs.Tables.{lookup, marks, keywords}
-use Rattle.c_tree.specs.declared.Kind.{Kind}
+use Rattle.c_lex.specs.Tables.{lookup, keywords, marks}
 use Rattle.c_lex.specs.Scans.{short_constant, constant_of}
-use Rattle.c_tree.specs.declared.Mark.TheVariants.{Slash as slash}
+use Rattle.c_lex.specs.Firsts.{first_of, of_mark, none_longer, goes_on_word}
 use Rattle.c_lex.proofs.Basics.{true_or_false, eq_is}
 use Rattle.c_lex.proofs.Groups.{group, Others, all_rows, row_is}
-use Rattle.c_tree.specs.declared.Key.{Key}
-use Rattle.c_lex.specs.Firsts.{first_of, of_mark, none_longer, goes_on_word}
+use Rattle.c_lex.proofs.Marks.{slash_is}
 
 -- the values of a function at so many numbers from this one on
 abbrev pub tabled : {A : Type 0} → (ℕ → A) → ℕ → ℕ → List A
@@ -28,6 +30,7 @@ tabled_at f from (suc n) zero d h = ap f (omega arith)
 tabled_at f from (suc n) (suc k) d h =
     tabled_at f (suc from) n k d (let l : suc k < suc n = h in omega arith) ∙ ap f (omega arith)
 
+-- the table has what each byte begins
 firsts_right : tabled first_of 0 256 ≡ FIRSTS
 unfolding marks
 firsts_right = refl
@@ -63,6 +66,7 @@ Is b (first.Only m) = IsOnly b m
 Is b (first.Begins m) = lookup (b ∷ []) marks ≡ Some m
 Is b first.Other = IsOther b
 
+-- a byte of no other class is a mark, or begins no piece
 marks_are : (b : ℕ) (o : Option Mark) → lookup (b ∷ []) marks ≡ o → is_space b ≡ false
     → is_letter b ≡ false → is_digit b ≡ false → nat_eq b 39 ≡ false → nat_eq b 35 ≡ false
     → Is b (of_mark b o)
@@ -117,6 +121,7 @@ first_is b = by_space (is_space b) refl
 pub class_is : (b : ℕ) (f : First) → f ≡ first_of b → Is b f
 class_is b f e = subst (λ (x : First). Is b x) (sym e) (first_is b)
 
+-- of each byte the class says whether a word may go on with it
 words_right : tabled (λ b. goes_on_word (first_of b)) 0 256 ≡ tabled is_word 0 256
 unfolding marks
 words_right = refl
@@ -129,6 +134,7 @@ word_byte b h =
     ∙ ap (λ (rows : List Bool). get_or rows b true) words_right ∙ tabled_at is_word 0 256 b true h
     ∙ ap is_word (zero-add b)
 
+-- of each byte the two ways to read it agree
 short_right : tabled short_constant 0 256 ≡ tabled (λ b. constant_of (b ∷ [])) 0 256
 short_right = refl
 
@@ -140,13 +146,10 @@ one_byte b h =
     ∙ ap at short_right ∙ tabled_at (λ b. constant_of (b ∷ [])) 0 256 b None h
     ∙ ap (λ (x : ℕ). constant_of (x ∷ [])) (zero-add b)
 
+-- `/=` begins with `/`
 slash_begins : none_longer 47 marks ≡ false
 unfolding marks
 slash_begins = refl
-
-slash_is : lookup (47 ∷ []) marks ≡ Some slash
-unfolding marks
-slash_is = refl
 
 -- a comment may begin with `/`, so that it is no such mark
 pub only_no_slash : (b : ℕ) (m : Mark) → IsOnly b m → nat_eq b 47 ≡ false
@@ -176,6 +179,7 @@ others b o = rw (o.no_space, o.no_letter, o.no_digit, o.no_quote, no_slash, o.no
 abbrev is_long : Bytes → Bool
 is_long w = not (nat_eq (length w) 1)
 
+-- each keyword has
 keys_long : all_rows is_long keywords ≡ true
 unfolding keywords
 keys_long = refl

@@ -14,7 +14,7 @@ use Rattle.c_lex.specs.Pieces as piece
 use Rattle.c_lex.specs.Pieces.{Piece, Front}
 use Rattle.c_lex.specs.Turns.{Grows, Place, Moved}
 use Rattle.c_lex.proofs.Basics.{and_left, and_right, not_true, eq_is, true_or_false}
-use Rattle.c_lex.proofs.Runs.{each_any}
+use Rattle.c_lex.proofs.Runs.{each_any, quiet_feeds, still_full}
 use Rattle.c_lex.proofs.Groups.{all_rows, row_is}
 use Rattle.c_lex.proofs.Lines.{each_append, include_line}
 
@@ -130,16 +130,6 @@ token_quiet {p = p} (piece.mark {m = m} e) t =
 token_quiet {p = p} (piece.include {line = line} s e i) t =
     along p (35 ∷ line) e (refl, (refl, each_any not_feed 0 35 line (include_line line i)))
 token_quiet (piece.other_line s e i n) t = absurd t
-
-quiet_feeds : (last : ℕ) (bs : Bytes) → Goes (by_class not_feed) last bs → feeds bs ≡ 0
-quiet_feeds last [] g = refl
-quiet_feeds last (b ∷ bs) g =
-    rw (not_true (is_feed b) g.0) (let h : feeds bs ≡ 0 = quiet_feeds b bs g.1 in omega arith)
-
-still_full : (last : ℕ) (bs : Bytes) → Goes (by_class not_feed) last bs
-    → still_empty false bs ≡ false
-still_full last [] g = refl
-still_full last (b ∷ bs) g = rw (not_true (is_feed b) g.0) (still_full b bs g.1)
 
 no_feeds : (p : Bytes) → Quiet p → feeds p ≡ 0
 no_feeds [] q = absurd q

@@ -283,6 +283,7 @@ pub const FIRSTS: [First; 256] = [
     First::Other,
 ];
 
+/// The row at this place. A table that is lent is not copied.
 fn entry(rows: &[First], at: usize) -> First
     requires { at < length rows.now }
     ensures { result ≡ get_or rows.now at First.Other }
