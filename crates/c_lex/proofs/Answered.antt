@@ -1,5 +1,6 @@
 -- Every text has tokens or a fault.
-use Rattle.std.proofs.Common.{◌≡◌, ◌≤◌, ◌<◌, ℕ, zero, suc, ◌+◌, Bool, true, false, ◌&&◌, ◌||◌, inl, inr, [], ◌∷◌}
+use Rattle.std.proofs.Common.{◌≡◌, ◌≤◌, ◌<◌, ℕ, zero, suc, ◌+◌, Bool, true, false, ◌&&◌, ◌||◌, inl}
+use Rattle.std.proofs.Common.{inr, [], ◌∷◌}
 use Rattle.std.proofs.Common.{◌++◌, length, take, drop, Option, Some, None, refl, sym, ap, ◌∙◌}
 use Rattle.std.proofs.Common.{subst, arith, nat_eq, nat_lt}
 use Rattle.std.proofs.Common.{length-append}
@@ -10,7 +11,8 @@ use Rattle.c_tree.specs.declared.Kind.{Kind}
 use Rattle.c_tree.specs.declared.Mark.{Mark}
 use Rattle.c_lex.specs.declared.piece.Reading.{Reading}
 use Rattle.c_lex.specs.declared.piece.Reading.TheVariants as reads
-use Rattle.c_lex.specs.Bytes.{Bytes, by_class, is_space, is_letter, is_word, is_digit, in_number, not_feed}
+use Rattle.c_lex.specs.Bytes.{Bytes, by_class, is_space, is_letter, is_word, is_digit, in_number}
+use Rattle.c_lex.specs.Bytes.{not_feed}
 use Rattle.c_lex.specs.Bytes.{at_line_start, line_after}
 use Rattle.c_lex.specs.Runs.{run_len}
 use Rattle.c_lex.specs.Tables.{lookup, keywords}
@@ -22,7 +24,8 @@ use Rattle.c_lex.specs.Lexes.{no_piece, is_broken, one_more, FaultAt}
 use Rattle.c_lex.specs.Turns.{Grows}
 use Rattle.c_lex.specs.Answers.{Lexed, Answered}
 use Rattle.c_lex.proofs.Basics.{eq_is}
-use Rattle.c_lex.proofs.Found.{space_found, word_found, number_found, bad_number_found, character_found}
+use Rattle.c_lex.proofs.Found.{space_found, word_found, number_found, bad_number_found}
+use Rattle.c_lex.proofs.Found.{character_found}
 use Rattle.c_lex.proofs.Found.{quote_found, comment_found, opening_found, line_found, include_found}
 use Rattle.c_lex.proofs.Found.{directive_found, marks_find, hash_nothing}
 use Rattle.c_lex.proofs.Whole.{grown, whole, bytes_nil, piece_some}

@@ -1,6 +1,8 @@
 -- The table of first bytes is right, and what follows of its rows.
-use Rattle.std.proofs.Common.{◌≡◌, ◌<◌, ℕ, zero, suc, ◌+◌, Bool, true, false, not, inl, inr, cond, List, []}
-use Rattle.std.proofs.Common.{◌∷◌, length, get_or, Option, Some, None, refl, sym, ap, ◌∙◌, subst, arith}
+use Rattle.std.proofs.Common.{◌≡◌, ◌<◌, ℕ, zero, suc, ◌+◌, Bool, true, false, not, inl, inr, cond}
+use Rattle.std.proofs.Common.{List, []}
+use Rattle.std.proofs.Common.{◌∷◌, length, get_or, Option, Some, None, refl, sym, ap, ◌∙◌, subst}
+use Rattle.std.proofs.Common.{arith}
 use Rattle.std.proofs.Common.{nat_eq, zero-add}
 use Rattle.c_tree.specs.declared.Key.{Key}
 use Rattle.c_tree.specs.declared.Kind.{Kind}
@@ -41,7 +43,7 @@ first_at b h =
     ap (λ (rows : List First). get_or rows b first.Other) (sym firsts_right)
     ∙ tabled_at first_of 0 256 b _ h ∙ ap first_of (zero-add b)
 
--- a mark that no longer one begins with, or with which one may begin
+-- a mark with which no longer one begins
 pub record IsOnly (b : ℕ) (m : Mark) : Type 0 where
   pub is : lookup (b ∷ []) marks ≡ Some m
   pub only : none_longer b marks ≡ true
@@ -86,6 +88,19 @@ marks_are b (Some m) e s l d q h =
       | false ↦ (λ n. e)
     ] refl
 
+-- the class of a byte, after each test that it failed
+abbrev pub after_quote : ℕ → First
+after_quote b = cond (nat_eq b 35) first.Hash (of_mark b (lookup (b ∷ []) marks))
+
+abbrev pub after_digit : ℕ → First
+after_digit b = cond (nat_eq b 39) first.Quote (after_quote b)
+
+abbrev pub after_letter : ℕ → First
+after_letter b = cond (is_digit b) first.Digit (after_digit b)
+
+abbrev pub after_space : ℕ → First
+after_space b = cond (is_letter b) first.Letter (after_letter b)
+
 -- the class of a byte says so of it
 pub first_is : (b : ℕ) → Is b (first_of b)
 first_is b = by_space (is_space b) refl
@@ -97,23 +112,21 @@ first_is b = by_space (is_space b) refl
     by_hash false h s l d q = marks_are b (lookup (b ∷ []) marks) refl s l d q h
 
     by_quote : (v : Bool) → nat_eq b 39 ≡ v → is_space b ≡ false → is_letter b ≡ false
-        → is_digit b ≡ false
-        → Is b (cond v first.Quote (cond (nat_eq b 35) first.Hash (of_mark b (lookup (b ∷ []) marks))))
+        → is_digit b ≡ false → Is b (cond v first.Quote (after_quote b))
     by_quote true q s l d = q
     by_quote false q s l d = by_hash (nat_eq b 35) refl s l d q
 
     by_digit : (v : Bool) → is_digit b ≡ v → is_space b ≡ false → is_letter b ≡ false
-        → Is b (cond v first.Digit (cond (nat_eq b 39) first.Quote (cond (nat_eq b 35) first.Hash (of_mark b (lookup (b ∷ []) marks)))))
+        → Is b (cond v first.Digit (after_digit b))
     by_digit true d s l = d
     by_digit false d s l = by_quote (nat_eq b 39) refl s l d
 
     by_letter : (v : Bool) → is_letter b ≡ v → is_space b ≡ false
-        → Is b (cond v first.Letter (cond (is_digit b) first.Digit (cond (nat_eq b 39) first.Quote (cond (nat_eq b 35) first.Hash (of_mark b (lookup (b ∷ []) marks))))))
+        → Is b (cond v first.Letter (after_letter b))
     by_letter true l s = l
     by_letter false l s = by_digit (is_digit b) refl s l
 
-    by_space : (v : Bool) → is_space b ≡ v
-        → Is b (cond v first.Space (cond (is_letter b) first.Letter (cond (is_digit b) first.Digit (cond (nat_eq b 39) first.Quote (cond (nat_eq b 35) first.Hash (of_mark b (lookup (b ∷ []) marks)))))))
+    by_space : (v : Bool) → is_space b ≡ v → Is b (cond v first.Space (after_space b))
     by_space true s = s
     by_space false s = by_letter (is_letter b) refl s
 

@@ -1,5 +1,6 @@
 -- A run of spaces is passed by.
-use Rattle.std.proofs.Common.{◌≡◌, ◌≤◌, length, arith, ℕ, suc, ◌+◌, Bool, true, false, [], ◌∷◌, take}
+use Rattle.std.proofs.Common.{◌≡◌, ◌≤◌, length, arith, ℕ, suc, ◌+◌, Bool, true, false, [], ◌∷◌}
+use Rattle.std.proofs.Common.{take}
 use Rattle.std.proofs.Common.{drop, refl, sym, ap, subst, cond}
 use Rattle.c_lex.specs.declared.piece.Reading.TheVariants as reads
 use Rattle.c_lex.specs.Bytes.{Bytes, by_class, is_space, feeds, still_empty}
