@@ -1,4 +1,5 @@
 pub mod Rows
+pub mod InPlace
 pub mod Lays
 pub mod Lists
 pub mod Filled

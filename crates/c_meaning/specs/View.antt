@@ -33,7 +33,7 @@ view s = record {
   stock = s.stock;
   input = s.input.now;
   output = s.output.items;
-  scalars = s.scalars.items;
+  scalars = s.scalars;
   arrays = s.arrays;
   rows = s.rows.items;
   base = s.base;
@@ -89,7 +89,7 @@ follow (frame.BumpRow op k p i) = FBumpRow op k p i
 follow (frame.StoredAfterRow op to at p index right) =
     FAssignAfterRow op to at p index.now right.now
 follow (frame.Caller is_main scalars c) =
-    FCaller is_main scalars.items c.count c.base c.room
+    FCaller is_main scalars c.count c.base c.room
 follow frame.Dropped = FDropped
 follow (frame.Initialised i) = FInitialised i
 follow (frame.Sequence rest) = FSequence rest.now

@@ -9,7 +9,7 @@ ghost use Rattle.c_meaning.specs.Ahead.{back_of};
 ghost use Rattle.c_meaning.specs.Direct.{Runs, Values};
 ghost use Rattle.c_meaning.specs.View.{behind, follow, follow_operand, view};
 
-use crate::arguments::Arguments;
+use crate::arguments::{Arguments, push_argument};
 use crate::direct::{Ran, Stop};
 use crate::frame::{Frame, Loop, Operand};
 use crate::runs::MOST_DEPTH;
@@ -84,9 +84,9 @@ impl<'a> Store<'a> {
             (arguments (meaning program.now) program.now callee rest.now (done ++ w ∷ []) (view self.old))
             self.new result }
     {
-        let mut done = done;
-        match done.push(w) {
-            Ok(()) => self.call_value(program, callee, rest, done, MOST_DEPTH),
+        let mut list = done.into_scalars();
+        match push_argument(&mut list, &mut self.spare_lists, w) {
+            Ok(()) => self.call_value(program, callee, rest, &mut list, MOST_DEPTH),
             Err(_) => {
                 self.stop = Stop::Memory;
                 None

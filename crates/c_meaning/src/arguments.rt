@@ -1,14 +1,16 @@
 //! The arguments of a call, as the first scalars of the function that is called.
 
 ghost use Rattle.std.specs.Prelude.{◌≡◌, ◌++◌, ◌∷◌, [], map, Some, OnOk};
+ghost use Rattle.c_meaning.specs.Given.{words};
 
-use std::alloc::{AllocError, Global};
+use crate::scalars::Scalars;
+use std::alloc::AllocError;
 use std::marker::Model;
 
 /// The arguments of a call that have been evaluated.
 #[derive(Drop)]
 pub struct Arguments {
-    scalars: Vec<Option<u64>>,
+    scalars: Scalars,
 }
 
 impl Model for Arguments {
@@ -17,41 +19,42 @@ impl Model for Arguments {
 
     ghost Value = { List ℕ };
 
-    ghost view = { λ a. words a.scalars.items };
+    ghost view = { λ a. words a.scalars };
 
-    ghost invariant = { λ a. map Some (words a.scalars.items) ≡ a.scalars.items };
+    ghost invariant = { λ a. map Some (words a.scalars) ≡ a.scalars };
+}
+
+/// One more argument, behind others that are all set.
+#[tactic(auto, using(crate::proofs::Filled::filled_push, crate::proofs::Filled::words_push))]
+#[inline(always)]
+pub fn push_argument(
+    list: &mut Scalars,
+    lists: &mut Vec<Vec<Option<u64>>>,
+    w: u64,
+) -> Result<(), AllocError>
+    requires given { map Some (words list.old) ≡ list.old }
+    ensures words { OnOk result (words list.new ≡ words list.old ++ w ∷ []) }
+    ensures given { OnOk result (map Some (words list.new) ≡ list.new) }
+{
+    list.push(lists, Some(w))?;
+    Ok(())
 }
 
 impl Arguments {
-    /// No arguments, in a list that may have been used before.
+    /// The words of scalars that are all set.
     #[inline(always)]
-    pub fn none(alloc: Global, pool: &mut Vec<Vec<Option<u64>>>) -> Arguments
-        ensures { result ≡ [] }
+    pub fn of(scalars: Scalars) -> Arguments
+        requires { map Some (words scalars) ≡ scalars }
+        ensures { result ≡ words scalars }
     {
-        match pool.pop() {
-            None => Arguments {
-                scalars: Vec::new(alloc),
-            },
-            Some(mut scalars) => {
-                scalars.clear();
-                Arguments { scalars }
-            }
-        }
-    }
-
-    /// One more argument.
-    #[inline(always)]
-    pub fn push(&mut self, w: u64) -> Result<(), AllocError>
-        ensures { OnOk result (self.new ≡ self.old ++ w ∷ []) }
-    {
-        self.scalars.push(Some(w))?;
-        Ok(())
+        Arguments { scalars }
     }
 
     /// The first scalars of the function that is called.
     #[inline(always)]
-    pub fn into_scalars(self) -> Vec<Option<u64>>
-        ensures { result.items ≡ map Some self }
+    pub fn into_scalars(self) -> Scalars
+        ensures words { words result ≡ self }
+        ensures given { map Some (words result) ≡ result }
     {
         self.scalars
     }

@@ -103,22 +103,18 @@ impl<'a> Store<'a> {
         ensures { Values program.now
             (meant_expression.bump_object op kind (view self.old) (InScalar i)) self.new result }
     {
-        match self.load(Object::InScalar(i as u64)) {
-            None => {
-                self.stop = Stop::Fails(Ending::Undefined);
-                None
-            }
+        match self.scalars.first(i) {
+            None => self.bump_other(program, op, kind, Place::Scalar(i)),
             Some(old) => match bump_of(op, kind, old) {
                 None => {
                     self.stop = Stop::Fails(Ending::Undefined);
                     None
                 }
                 Some(new) => {
-                    if self.set(Object::InScalar(i as u64), new) {
+                    if self.scalars.set_first(i, new) {
                         Some(bump_value(op, old, new))
                     } else {
-                        self.stop = Stop::Fails(Ending::Undefined);
-                        None
+                        self.bump_other(program, op, kind, Place::Scalar(i))
                     }
                 }
             },

@@ -3,6 +3,7 @@ ghost use Rattle.std.specs.Prelude.{replicate, None, OnOk, SomeIff};
 ghost use Rattle.c_meaning_spec.specs.Call.{array_bytes, array_row, frame as frame_of, unset_array};
 
 use crate::arrays::Arrays;
+use crate::scalars::Scalars;
 use c_constant::bytes;
 use c_tree::{MOST_FRAME_BYTES, TypedArray, TypedFunc};
 use std::alloc::AllocError;
@@ -39,11 +40,15 @@ pub fn room_with(room: u32, f: &TypedFunc) -> Option<u32>
 
 /// Adds scalars that are not set.
 #[inline(always)]
-pub fn pad(scalars: &mut Vec<Option<u64>>, count: usize) -> Result<(), AllocError>
-    ensures { OnOk result (scalars.new.items ≡ scalars.old.items ++ replicate count None) }
+pub fn pad(
+    scalars: &mut Scalars,
+    lists: &mut Vec<Vec<Option<u64>>>,
+    count: usize,
+) -> Result<(), AllocError>
+    ensures { OnOk result (scalars.new ≡ scalars.old ++ replicate count None) }
 {
     for _i in 0..count {
-        scalars.push(None)?;
+        scalars.push(lists, None)?;
     }
     Ok(())
 }

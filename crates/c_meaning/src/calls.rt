@@ -7,11 +7,13 @@ ghost use Rattle.c_meaning_spec.specs.Call.{arguments, left, returned};
 ghost use Rattle.c_meaning_spec.specs.Eval.{meaning};
 ghost use Rattle.c_meaning.specs.View.{behind, view};
 ghost use Rattle.c_meaning.specs.Direct.{Runs, Stopped, Values, signal_of};
+ghost use Rattle.c_meaning.specs.Given.{words};
 
-use crate::arguments::Arguments;
+use crate::arguments::push_argument;
 use crate::call::{add_arrays, add_rows, pad, room_with};
 use crate::direct::{Ran, Stop};
 use crate::frame::{Caller, Frame};
+use crate::scalars::Scalars;
 use crate::store::Store;
 use base::Boxed;
 use c_meaning_spec::{Ending, Signal};
@@ -33,11 +35,48 @@ impl<'a> Store<'a> {
             (arguments (meaning program.now) program.now callee args.now [] (view self.old))
             self.new result }
     {
-        let done = Arguments::none(self.alloc, &mut self.spare_scalars);
-        self.call_value(program, callee, args, done, depth)
+        let mut list = Scalars::none(self.alloc);
+        self.call_value(program, callee, args, &mut list, depth)
     }
 
-    /// The arguments from the left, and then the call.
+    // The list that a call took is kept for later calls.
+    #[inline(never)]
+    fn keep_list(
+        &mut self,
+        program: &'a TypedProgram,
+        list: &mut Scalars,
+        word: Option<u64>,
+    ) -> Option<u64>
+        ensures { (r : Meant) → Values program.now r self.old word → Values program.now r self.new result }
+    {
+        let scalars = std::mem::replace(list, Scalars::none(self.alloc));
+        match self.spare_lists.push(scalars.into_list()) {
+            Ok(()) => word,
+            Err(_) => {
+                self.stop = Stop::Memory;
+                None
+            }
+        }
+    }
+
+    // A list that a call took is kept for later calls.
+    #[inline(always)]
+    fn keep(
+        &mut self,
+        program: &'a TypedProgram,
+        list: &mut Scalars,
+        word: Option<u64>,
+    ) -> Option<u64>
+        ensures { (r : Meant) → Values program.now r self.old word → Values program.now r self.new result }
+    {
+        if list.has_list() {
+            self.keep_list(program, list, word)
+        } else {
+            word
+        }
+    }
+
+    /// The arguments from the left, and then the call. The list has the arguments before them.
     #[cycle(parts)]
     #[inline(always)]
     pub fn call_value(
@@ -45,18 +84,18 @@ impl<'a> Store<'a> {
         program: &'a TypedProgram,
         callee: Callee,
         rest: &'a [Boxed<TypedExpr>],
-        done: Arguments,
+        list: &mut Scalars,
         depth: u32,
     ) -> Option<u64>
+        requires given { map Some (words list.old) ≡ list.old }
         ensures { Values program.now
-            (arguments (meaning program.now) program.now callee rest.now done (view self.old))
+            (arguments (meaning program.now) program.now callee rest.now (words list.old) (view self.old))
             self.new result }
     {
         let mut rest = rest;
-        let mut done = done;
         while let Some((e, more)) = rest.split_first() {
             match self.value_of(program, e.get(), depth) {
-                Some(w) => match done.push(w) {
+                Some(w) => match push_argument(list, &mut self.spare_lists, w) {
                     Ok(()) => {
                         rest = more;
                     }
@@ -65,21 +104,11 @@ impl<'a> Store<'a> {
                         return None;
                     }
                 },
-                None => return self.held_argument(program, callee, more, done),
+                None => return self.held_argument(program, callee, more, list),
             }
         }
-        let mut list = done.into_scalars();
-        let word = self.begin_call(program, callee, &mut list, depth);
-        if list.capacity() == 0 {
-            return word;
-        }
-        match self.spare_scalars.push(list) {
-            Ok(()) => word,
-            Err(_) => {
-                self.stop = Stop::Memory;
-                None
-            }
-        }
+        let word = self.begin_call(program, callee, list, depth);
+        self.keep(program, list, word)
     }
 
     /// A call's further step, and what the call does: its arguments stand in a list, in which the scalars of the
@@ -90,10 +119,10 @@ impl<'a> Store<'a> {
         &mut self,
         program: &'a TypedProgram,
         callee: Callee,
-        list: &mut Vec<Option<u64>>,
+        list: &mut Scalars,
         depth: u32,
     ) -> Option<u64>
-        ensures { (done : List ℕ) → list.old.items ≡ map Some done → Values program.now
+        ensures { (done : List ℕ) → list.old ≡ map Some done → Values program.now
             (called (meaning program.now) program.now callee done (view self.old)) self.new result }
     {
         if self.stock == 0 {
@@ -107,8 +136,8 @@ impl<'a> Store<'a> {
                 let function = program.functions.as_slice().get(f as usize);
                 self.begin_function(program, is_main, function, list, depth)
             }
-            Callee::GetChar => self.next_char(program, list.as_slice()),
-            Callee::PutChar => self.put_char(program, list.as_slice()),
+            Callee::GetChar => self.next_char(program, list),
+            Callee::PutChar => self.put_char(program, list),
         }
     }
 
@@ -120,10 +149,10 @@ impl<'a> Store<'a> {
         program: &'a TypedProgram,
         is_main: bool,
         f: Option<&'a TypedFunc>,
-        list: &mut Vec<Option<u64>>,
+        list: &mut Scalars,
         depth: u32,
     ) -> Option<u64>
-        ensures { (done : List ℕ) → list.old.items ≡ map Some done → Values program.now
+        ensures { (done : List ℕ) → list.old ≡ map Some done → Values program.now
             (enter (meaning program.now) is_main (behind f.entry) done (view self.old)) self.new result }
     {
         match f {
@@ -152,17 +181,21 @@ impl<'a> Store<'a> {
     fn enter(
         &mut self,
         f: &'a TypedFunc,
-        list: &mut Vec<Option<u64>>,
+        list: &mut Scalars,
         count: u32,
         room: u32,
     ) -> Result<(), AllocError>
         requires count { count ≡ length (view self.old).arrays }
         requires room { room ≡ self.old.room + frame_of f.now }
-        ensures after { OnOk result ((done : List ℕ) → list.old.items ≡ map Some done
+        ensures after { OnOk result ((done : List ℕ) → list.old ≡ map Some done
             → view self.new ≡ entered f.now done (view self.old)) }
-        ensures caller { OnOk result (list.new.items ≡ (view self.old).scalars) }
+        ensures caller { OnOk result (list.new ≡ (view self.old).scalars) }
     {
-        pad(list, f.scalars.len().saturating_sub(list.len()))?;
+        pad(
+            list,
+            &mut self.spare_lists,
+            f.scalars.len().saturating_sub(list.len()),
+        )?;
         add_arrays(&mut self.arrays, f)?;
         add_rows(&mut self.rows, f)?;
         std::mem::swap(&mut self.scalars, list);
@@ -173,10 +206,10 @@ impl<'a> Store<'a> {
 
     // The caller's scalars, arrays, base and room again.
     #[inline(always)]
-    fn leave(&mut self, list: &mut Vec<Option<u64>>, caller: Caller)
+    fn leave(&mut self, list: &mut Scalars, caller: Caller)
         ensures returned { self.new.returned ≡ self.old.returned }
         ensures after { view self.new ≡ record (view self.old) {
-          scalars = list.old.items;
+          scalars = list.old;
           arrays = take caller.count (view self.old).arrays;
           rows = take caller.count (view self.old).rows;
           base = caller.base;
@@ -221,12 +254,12 @@ impl<'a> Store<'a> {
         &mut self,
         program: &'a TypedProgram,
         is_main: bool,
-        list: &mut Vec<Option<u64>>,
+        list: &mut Scalars,
         caller: Caller,
         x: Ran,
     ) -> Option<u64>
         ensures { Values program.now
-            (left is_main list.old.items caller.count caller.base caller.room
+            (left is_main list.old caller.count caller.base caller.room
             (signal_of x self.old.returned) (view self.old)) self.new result }
     {
         self.leave(list, caller);
@@ -239,14 +272,14 @@ impl<'a> Store<'a> {
         &mut self,
         program: &'a TypedProgram,
         is_main: bool,
-        list: &mut Vec<Option<u64>>,
+        list: &mut Scalars,
         caller: Caller,
     ) -> Option<u64>
         ensures { (r : Meant) → Stopped program.now r self.old
-            → Values program.now (then r (left is_main list.old.items caller.count caller.base caller.room))
+            → Values program.now (then r (left is_main list.old caller.count caller.base caller.room))
             self.new result }
     {
-        let scalars = std::mem::replace(list, Vec::new(self.alloc));
+        let scalars = std::mem::replace(list, Scalars::none(self.alloc));
         self.held(
             program,
             Frame::Caller {
@@ -263,12 +296,12 @@ impl<'a> Store<'a> {
         &mut self,
         program: &'a TypedProgram,
         is_main: bool,
-        list: &mut Vec<Option<u64>>,
+        list: &mut Scalars,
         caller: Caller,
         x: Ran,
     ) -> Option<u64>
         ensures { (r : Meant) → Runs program.now r self.old x
-            → Values program.now (then r (left is_main list.old.items caller.count caller.base caller.room))
+            → Values program.now (then r (left is_main list.old caller.count caller.base caller.room))
             self.new result }
     {
         match x {
@@ -285,13 +318,13 @@ impl<'a> Store<'a> {
         program: &'a TypedProgram,
         is_main: bool,
         f: &'a TypedFunc,
-        list: &mut Vec<Option<u64>>,
+        list: &mut Scalars,
         room: u32,
         depth: u32,
     ) -> Option<u64>
         requires room { room ≡ self.old.room + frame_of f.now }
         requires small { room ≤ MOST_FRAME_BYTES }
-        ensures { (done : List ℕ) → list.old.items ≡ map Some done → Values program.now
+        ensures { (done : List ℕ) → list.old ≡ map Some done → Values program.now
             (entered_if (meaning program.now) is_main true f.now done (view self.old)) self.new result }
     {
         let count = self.arrays.len();
@@ -321,23 +354,18 @@ impl<'a> Store<'a> {
         &mut self,
         program: &'a TypedProgram,
         is_main: bool,
-        scalars: Vec<Option<u64>>,
+        scalars: Scalars,
         caller: Caller,
         signal: Signal,
     ) -> Option<u64>
         ensures { Values program.now
-            (left is_main scalars.items caller.count caller.base caller.room signal (view self.old))
+            (left is_main scalars caller.count caller.base caller.room signal (view self.old))
             self.new result }
     {
         let mut list = scalars;
         self.leave(&mut list, caller);
-        match self.spare_scalars.push(list) {
-            Err(_) => {
-                self.stop = Stop::Memory;
-                None
-            }
-            Ok(()) => self.gives(program, is_main, signal),
-        }
+        let word = self.gives(program, is_main, signal);
+        self.keep(program, &mut list, word)
     }
 
     // What a call gives by the signal of its body.

@@ -17,6 +17,7 @@ use crate::frame::{Move, Task};
 use crate::machine::Machine;
 use crate::outcome::Outcome;
 use crate::runs::MOST_DEPTH;
+use crate::scalars::Scalars;
 use crate::store::Store;
 use base::{Items, Memory};
 use c_meaning_spec::{Ending, Signal};
@@ -72,7 +73,7 @@ fn first_store<'a>(
         stock: n,
         input,
         output: Vec::new(alloc),
-        scalars: Vec::new(alloc),
+        scalars: Scalars::none(alloc),
         arrays,
         rows,
         base: 0,
@@ -80,7 +81,7 @@ fn first_store<'a>(
         stop: Stop::Memory,
         returned: None,
         pending: Vec::new(alloc),
-        spare_scalars: Vec::new(alloc),
+        spare_lists: Vec::new(alloc),
     })
 }
 
@@ -176,7 +177,7 @@ impl<'a> Machine<'a> {
             (called_by (meaning program.now) program.now (Callee.Func program.now.main) []
             (view self.old.store))) }
     {
-        let mut list = Vec::new(self.store.alloc);
+        let mut list = Scalars::none(self.store.alloc);
         let word = self
             .store
             .begin_call(program, Callee::Func(program.main), &mut list, MOST_DEPTH);

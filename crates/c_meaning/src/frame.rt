@@ -1,4 +1,5 @@
 use crate::arguments::Arguments;
+use crate::scalars::Scalars;
 use base::Boxed;
 use c_meaning_spec::{Ending, Object, Signal};
 use c_tree::{BinaryOp, BumpOp, Callee, Kind, Place, TypedExpr, TypedSection, TypedStmt, UnaryOp};
@@ -130,7 +131,7 @@ pub enum Frame<'a> {
     },
     Caller {
         is_main: bool,
-        scalars: Vec<Option<u64>>,
+        scalars: Scalars,
         caller: Caller,
     },
     Dropped,

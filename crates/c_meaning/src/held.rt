@@ -1,7 +1,7 @@
 //! What follows an expression that was not evaluated to its end, in functions of their own, so that those that
 //! evaluate have no room for frames.
 
-ghost use Rattle.std.specs.Prelude.{◌++◌, ◌∷◌, []};
+ghost use Rattle.std.specs.Prelude.{◌≡◌, ◌++◌, ◌∷◌, [], map, Some};
 ghost use Rattle.c_meaning_spec.specs.State.{Result as Meant, then, want};
 ghost use Rattle.c_meaning_spec.specs.Expression.{after_left, operated, assign_element, assigned};
 ghost use Rattle.c_meaning_spec.specs.Expression.{after_and, after_or, converting, compounded};
@@ -10,10 +10,12 @@ ghost use Rattle.c_meaning_spec.specs.Call.{arguments};
 ghost use Rattle.c_meaning_spec.specs.Task.{element as element_in, row_element, after_row};
 ghost use Rattle.c_meaning_spec.specs.Eval.{meaning};
 ghost use Rattle.c_meaning.specs.Direct.{Stopped, Values};
+ghost use Rattle.c_meaning.specs.Given.{words};
 ghost use Rattle.c_meaning_spec.specs.declared.Object.TheVariants.{InArray, InScalar};
 
 use crate::arguments::Arguments;
 use crate::frame::{Frame, Operand};
+use crate::scalars::Scalars;
 use crate::store::Store;
 use base::Boxed;
 use c_meaning_spec::Object;
@@ -231,13 +233,16 @@ impl<'a> Store<'a> {
         program: &'a TypedProgram,
         callee: Callee,
         rest: &'a [Boxed<TypedExpr>],
-        done: Arguments,
+        list: &mut Scalars,
     ) -> Option<u64>
+        requires given { map Some (words list.old) ≡ list.old }
         ensures { (r : Meant) → Stopped program.now r self.old
             → Values program.now (then r (λ v s. want v s
-            (λ w. arguments (meaning program.now) program.now callee rest.now (done ++ w ∷ []) s)))
+            (λ w. arguments (meaning program.now) program.now callee rest.now (words list.old ++ w ∷ []) s)))
             self.new result }
     {
+        let scalars = std::mem::replace(list, Scalars::none(self.alloc));
+        let done = Arguments::of(scalars);
         self.held(program, Frame::Argument { callee, rest, done })
     }
 

@@ -10,6 +10,7 @@ ghost use Rattle.c_meaning.specs.View.{view};
 use crate::arrays::Arrays;
 use crate::direct::Stop;
 use crate::frame::Frame;
+use crate::scalars::Scalars;
 use c_meaning_spec::Object;
 use c_tree::Place;
 use std::alloc::{AllocError, Global};
@@ -23,7 +24,7 @@ pub struct Store<'a> {
     pub stock: u64,
     pub input: &'a [u8],
     pub output: Vec<u8>,
-    pub scalars: Vec<Option<u64>>,
+    pub scalars: Scalars,
     pub arrays: Arrays,
     pub rows: Vec<Option<u32>>,
     pub base: u32,
@@ -31,33 +32,7 @@ pub struct Store<'a> {
     pub stop: Stop<'a>,
     pub returned: Option<u64>,
     pub pending: Vec<Frame<'a>>,
-    pub spare_scalars: Vec<Vec<Option<u64>>>,
-}
-
-// The value of a scalar, if it is set.
-#[inline(always)]
-fn scalar_at(scalars: &[Option<u64>], at: u64) -> Option<u64>
-    ensures { result ≡ held (slice_get scalars.now at) }
-{
-    match scalars.get(at as usize) {
-        None => None,
-        Some(value) => *value,
-    }
-}
-
-/// Writes a scalar, if it is there.
-#[inline(always)]
-fn write_scalar(scalars: &mut Vec<Option<u64>>, at: u64, value: Option<u64>) -> bool
-    ensures there { IsTrue result ↔ IsSome (slice_get scalars.old.items at) }
-    ensures after { scalars.new.items ≡ slice_set scalars.old.items at value }
-    ensures same { IsFalse result → scalars.new.items ≡ scalars.old.items }
-{
-    if (at as usize) < scalars.len() {
-        scalars[at as usize] = value;
-        true
-    } else {
-        false
-    }
+    pub spare_lists: Vec<Vec<Option<u64>>>,
 }
 
 // The second size of an array, if it is there and has two.
@@ -118,7 +93,7 @@ impl<'a> Store<'a> {
         ensures { result ≡ held (cell (view self.now) object) }
     {
         match object {
-            Object::InScalar(i) => scalar_at(self.scalars.as_slice(), i),
+            Object::InScalar(i) => self.scalars.get(i),
             Object::InArray(a, i) => self.arrays.get(a, i),
         }
     }
@@ -131,7 +106,7 @@ impl<'a> Store<'a> {
         ensures same { IsFalse result → view self.new ≡ view self.old }
     {
         match object {
-            Object::InScalar(i) => write_scalar(&mut self.scalars, i, Some(word)),
+            Object::InScalar(i) => self.scalars.set(i, Some(word)),
             Object::InArray(a, i) => self.arrays.set(a, i, word),
         }
     }
@@ -143,7 +118,7 @@ impl<'a> Store<'a> {
             ≡ written (view self.old) (Object.InScalar i) None }
         ensures same { IsFalse result → view self.new ≡ view self.old }
     {
-        write_scalar(&mut self.scalars, i, None)
+        self.scalars.set(i, None)
     }
 
     /// The number of the array that a place stands for.
@@ -153,7 +128,7 @@ impl<'a> Store<'a> {
     {
         match place {
             Place::Global(g) => Some(g as u64),
-            Place::Scalar(i) => scalar_at(self.scalars.as_slice(), i as u64),
+            Place::Scalar(i) => self.scalars.get(i as u64),
             Place::Array(a) => Some(self.base as u64 + a as u64),
         }
     }

@@ -24,6 +24,18 @@ impl<'a> Store<'a> {
     pub fn put_scalar(&mut self, program: &'a TypedProgram, i: u32, w: u64) -> Option<u64>
         ensures { Values program.now (store (view self.old) (InScalar i) w) self.new result }
     {
+        if self.scalars.set_first(i, w) {
+            Some(w)
+        } else {
+            self.put_later(program, i, w)
+        }
+    }
+
+    // A word into a scalar that stands in none of the places.
+    #[inline(never)]
+    fn put_later(&mut self, program: &'a TypedProgram, i: u32, w: u64) -> Option<u64>
+        ensures { Values program.now (store (view self.old) (InScalar i) w) self.new result }
+    {
         self.put(program, Object::InScalar(i as u64), w)
     }
 

@@ -1,11 +1,12 @@
 //! `getchar` and `putchar`, which are done at once.
 
-ghost use Rattle.std.specs.Prelude.{◌≡◌, List, ℕ, map, Some};
+ghost use Rattle.std.specs.Prelude.{◌≡◌, ◌∷◌, [], List, ℕ, map, Some};
 ghost use Rattle.c_meaning_spec.specs.Call.{get_char as get_char_of, put_char as put_char_of, read_from};
 ghost use Rattle.c_meaning.specs.View.{view};
 ghost use Rattle.c_meaning.specs.Direct.{Values};
 
 use crate::direct::Stop;
+use crate::scalars::Scalars;
 use crate::store::Store;
 use c_meaning_spec::Ending;
 use c_tree::TypedProgram;
@@ -13,16 +14,16 @@ use c_tree::TypedProgram;
 impl<'a> Store<'a> {
     /// `getchar` takes no argument.
     #[inline(never)]
-    pub fn next_char(&mut self, program: &'a TypedProgram, done: &[Option<u64>]) -> Option<u64>
+    #[tactic(auto, using(crate::proofs::InPlace::get_none, crate::proofs::InPlace::get_other))]
+    pub fn next_char(&mut self, program: &'a TypedProgram, done: &Scalars) -> Option<u64>
         ensures { (ws : List ℕ) → done.now ≡ map Some ws
             → Values program.now (get_char_of ws (view self.old)) self.new result }
     {
-        match done {
-            [] => self.next_byte(program),
-            _ => {
-                self.stop = Stop::Fails(Ending::Undefined);
-                None
-            },
+        if done.len() == 0 {
+            self.next_byte(program)
+        } else {
+            self.stop = Stop::Fails(Ending::Undefined);
+            None
         }
     }
 
@@ -39,23 +40,30 @@ impl<'a> Store<'a> {
         }
     }
 
+    // The low byte of a word is put out.
+    #[inline(always)]
+    fn put_byte(&mut self, program: &'a TypedProgram, w: u64) -> Option<u64>
+        ensures { Values program.now (put_char_of (w ∷ []) (view self.old)) self.new result }
+    {
+        match self.output.push((w % 256) as u8) {
+            Ok(()) => Some(w % 256),
+            Err(_) => {
+                self.stop = Stop::Memory;
+                None
+            }
+        }
+    }
+
     /// `putchar` puts out the low byte of its argument.
     #[inline(never)]
-    pub fn put_char(&mut self, program: &'a TypedProgram, done: &[Option<u64>]) -> Option<u64>
+    #[tactic(auto, using(crate::proofs::InPlace::put_alone, crate::proofs::InPlace::put_other))]
+    pub fn put_char(&mut self, program: &'a TypedProgram, done: &Scalars) -> Option<u64>
         ensures { (ws : List ℕ) → done.now ≡ map Some ws
             → Values program.now (put_char_of ws (view self.old)) self.new result }
     {
-        match done {
-            [Some(w)] => {
-                match self.output.push((*w % 256) as u8) {
-                    Ok(()) => Some(*w % 256),
-                    Err(_) => {
-                        self.stop = Stop::Memory;
-                        None
-                    }
-                }
-            }
-            _ => {
+        match done.only() {
+            Some(w) => self.put_byte(program, w),
+            None => {
                 self.stop = Stop::Fails(Ending::Undefined);
                 None
             },

@@ -75,9 +75,20 @@ impl<'a> Store<'a> {
             None
         } else {
             self.stock -= 1;
-            let word = self.load(Object::InScalar(i as u64));
-            self.value(program, word)
+            match self.scalars.first(i) {
+                Some(w) => Some(w),
+                None => self.later_scalar(program, i),
+            }
         }
+    }
+
+    // A scalar of the function that stands in none of the places, or is not set.
+    #[inline(never)]
+    fn later_scalar(&mut self, program: &'a TypedProgram, i: u32) -> Option<u64>
+        ensures { Values program.now (load (Object.InScalar i) (view self.old)) self.new result }
+    {
+        let word = self.load(Object::InScalar(i as u64));
+        self.value(program, word)
     }
 
     /// An expression, which is left where it is too deep.

@@ -13,6 +13,6 @@ returns c =
     let r = called (meaning c.args.program.now) c.args.program.now (Func c.args.program.now.main) []
     (view c.args.self.now.store) in
     subst (λ (r : Result). IsReached (next c.in_ok-last.last) (view c.go.new.self.store) r)
-    (c.in_ok-first.ensures r (c.begin_call-word.ensures [] c.new-list.ensures.items)
+    (c.in_ok-first.ensures r (c.begin_call-word.ensures [] c.none-list.ensures)
     ∙ no_more c.args.program.now r c.args.self.now.stack.items c.requires)
     c.in_ok-last.ensures

@@ -1,9 +1,10 @@
-use Rattle.std.proofs.Common.{◌≡◌, ◌+◌, ◌*◌, ◌++◌, length}
+use Rattle.std.proofs.Common.{◌≡◌, ◌+◌, ◌*◌, ◌++◌, length, map, Some}
 use Rattle.c_meaning_spec.specs.Task.{Turn}
 use Rattle.c_meaning_spec.specs.Call.{arguments}
 use Rattle.c_meaning_spec.specs.Statement.{sequence, locals, run_from, bodies}
 use Rattle.c_meaning_spec.specs.Eval.{meaning}
 use Rattle.c_meaning.specs.View.{behind, view}
+use Rattle.c_meaning.specs.Given.{words}
 use Rattle.c_meaning.proofs.store.Store.+parts.Given as goal
 
 abbrev pub decreases-value_of : goal.decreases-value_of
@@ -195,8 +196,9 @@ decreases-run_if l = 32 * l.depth + 21
 -- what is left of the call is what it was to do
 abbrev pub invariant-call_value-loop-e : goal.invariant-call_value-loop-e
 invariant-call_value-loop-e l =
-    arguments (meaning l.program) l.program l.callee l.rest l.done (view l.self)
-    ≡ arguments (meaning l.program) l.program l.callee l.fn.rest l.fn.done (view l.fn.self)
+    (map Some (words l.list) ≡ l.list)
+    × (arguments (meaning l.program) l.program l.callee l.rest (words l.list) (view l.self)
+    ≡ arguments (meaning l.program) l.program l.callee l.fn.rest (words l.fn.list) (view l.fn.self))
 
 abbrev pub decreases-call_value-loop-e : goal.decreases-call_value-loop-e
 decreases-call_value-loop-e l = length l.rest
