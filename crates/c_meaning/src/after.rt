@@ -12,7 +12,7 @@ ghost use Rattle.c_meaning.specs.View.{behind, follow, follow_operand, view};
 use crate::arguments::{Arguments, push_argument};
 use crate::direct::{Ran, Stop};
 use crate::frame::{Frame, Loop, Operand};
-use crate::runs::MOST_DEPTH;
+use crate::host::MOST_DEPTH;
 use crate::store::Store;
 use crate::words::{binary_of, compound_of, unary_of};
 use base::Boxed;

@@ -12,6 +12,7 @@ ghost use Rattle.c_meaning.specs.Direct.{Values};
 
 use crate::direct::Stop;
 use crate::frame::{Frame, Operand};
+use crate::host::BUMP;
 use crate::store::{Store, scalar_of};
 use crate::words::{bump_of, bump_value};
 use c_meaning_spec::{Ending, Object};
@@ -166,6 +167,7 @@ impl<'a> Store<'a> {
             (then (meaning program.now (Of index.now) (view self.old))
             (meant_expression.bump_element op kind place)) self.new result }
     {
+        let depth = depth.saturating_sub(BUMP);
         match self.value_of(program, index, depth) {
             Some(w) => {
                 let object = self.element_of(place, w);
@@ -192,6 +194,7 @@ impl<'a> Store<'a> {
             (then (meaning program.now (Of row.now) (view self.old))
             (meant_expression.bump_after_row (meaning program.now) op kind place index.now)) self.new result }
     {
+        let depth = depth.saturating_sub(BUMP);
         match self.value_of(program, row, depth) {
             Some(i) => self.bump_after_row(program, op, kind, place, i, index, depth),
             None => {

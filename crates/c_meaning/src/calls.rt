@@ -13,6 +13,7 @@ use crate::arguments::push_argument;
 use crate::call::{add_arrays, add_rows, pad, room_with};
 use crate::direct::{Ran, Stop};
 use crate::frame::{Caller, Frame};
+use crate::host::CALL;
 use crate::scalars::Scalars;
 use crate::store::Store;
 use base::Boxed;
@@ -35,6 +36,7 @@ impl<'a> Store<'a> {
             (arguments (meaning program.now) program.now callee args.now [] (view self.old))
             self.new result }
     {
+        let depth = depth.saturating_sub(CALL);
         let mut list = Scalars::none(self.alloc);
         self.call_value(program, callee, args, &mut list, depth)
     }

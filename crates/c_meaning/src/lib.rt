@@ -14,6 +14,7 @@ mod evaluation;
 mod few;
 mod frame;
 mod held;
+mod host;
 mod kept;
 mod loops;
 mod machine;

@@ -10,6 +10,7 @@ ghost use Rattle.c_meaning.specs.Direct.{Runs, Turned};
 
 use crate::direct::{Ran, Stop};
 use crate::frame::Loop;
+use crate::host::LOOP;
 use crate::store::Store;
 use c_tree::{TypedExpr, TypedForInit, TypedProgram, TypedStmt};
 
@@ -99,6 +100,7 @@ impl<'a> Store<'a> {
             (meaning program.now (Turn (behind turn.entry.test) (behind turn.entry.post)
             turn.entry.body.now) (view self.old)) self.new result }
     {
+        let depth = depth.saturating_sub(LOOP);
         for _round in 0..u64::MAX {
             match self.run_turn(program, turn, depth) {
                 Ran::Continues => {}
@@ -121,6 +123,7 @@ impl<'a> Store<'a> {
             (meant.after_body (meaning program.now) (behind turn.entry.test) (behind turn.entry.post)
             turn.entry.body.now)) self.new result }
     {
+        let depth = depth.saturating_sub(LOOP);
         match self.run_body(program, turn, depth) {
             Ran::Continues => self.run_loop(program, turn, depth),
             Ran::Nothing => Ran::Nothing,
@@ -144,6 +147,7 @@ impl<'a> Store<'a> {
             (meant.begin (meaning program.now) (out-TypedForInit init.now) (behind turn.entry.test)
             (behind turn.entry.post) turn.entry.body.now (view self.old)) self.new result }
     {
+        let depth = depth.saturating_sub(LOOP);
         match init {
             TypedForInit::Nothing => self.run_loop(program, turn, depth),
             TypedForInit::First(e) => match self.value_of(program, e.get(), depth) {
@@ -168,6 +172,7 @@ impl<'a> Store<'a> {
             (meant.locals (meaning program.now) all.now (behind turn.entry.test)
             (behind turn.entry.post) turn.entry.body.now (view self.old)) self.new result }
     {
+        let depth = depth.saturating_sub(LOOP);
         let mut rest = all;
         while let Some((st, more)) = rest.split_first() {
             match self.run(program, st, depth) {

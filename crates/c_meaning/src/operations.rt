@@ -10,6 +10,7 @@ ghost use Rattle.c_meaning.specs.View.{view};
 ghost use Rattle.c_meaning.specs.Direct.{Values};
 
 use crate::frame::{Frame, Operand};
+use crate::host::OPERATION;
 use crate::store::Store;
 use crate::words::binary_of;
 use c_tree::{BinaryOp, Kind, TypedExpr, TypedProgram};
@@ -89,6 +90,7 @@ impl<'a> Store<'a> {
         ensures { Values program.now
             (then (meaning program.now (Of e.now) (view self.old)) meant_expression.truth) self.new result }
     {
+        let depth = depth.saturating_sub(OPERATION);
         match self.value_of(program, e, depth) {
             Some(w) => if w == 0 { Some(0) } else { Some(1) },
             None => self.held(program, Frame::Truth),
@@ -109,6 +111,7 @@ impl<'a> Store<'a> {
             (then (meaning program.now (Of left.now) (view self.old))
             (after_and (meaning program.now) right.now)) self.new result }
     {
+        let depth = depth.saturating_sub(OPERATION);
         match self.value_of(program, left, depth) {
             Some(w) => {
                 if w == 0 {
@@ -135,6 +138,7 @@ impl<'a> Store<'a> {
             (then (meaning program.now (Of left.now) (view self.old))
             (after_or (meaning program.now) right.now)) self.new result }
     {
+        let depth = depth.saturating_sub(OPERATION);
         match self.value_of(program, left, depth) {
             Some(w) => {
                 if w == 0 {
@@ -158,6 +162,7 @@ impl<'a> Store<'a> {
         ensures { Values program.now
             (then (meaning program.now (Of e.now) (view self.old)) valued) self.new result }
     {
+        let depth = depth.saturating_sub(OPERATION);
         match self.value_of(program, e, depth) {
             Some(w) => Some(w),
             None => self.held(program, Frame::Valued),
@@ -179,6 +184,7 @@ impl<'a> Store<'a> {
             (then (meaning program.now (Of test.now) (view self.old))
             (after_choice (meaning program.now) first.now other.now)) self.new result }
     {
+        let depth = depth.saturating_sub(OPERATION);
         match self.value_of(program, test, depth) {
             Some(w) => {
                 if w == 0 {
@@ -205,6 +211,7 @@ impl<'a> Store<'a> {
             (then (meaning program.now (Of left.now) (view self.old))
             (after_comma (meaning program.now) right.now)) self.new result }
     {
+        let depth = depth.saturating_sub(OPERATION);
         match self.value_of(program, left, depth) {
             Some(_) => self.same_value(program, right, depth),
             None => {

@@ -10,8 +10,8 @@ ghost use Rattle.c_meaning.specs.Direct.{Leads};
 ghost use Rattle.c_meaning.specs.View.{behind, follow, view};
 
 use crate::frame::{Frame, Loop, Move, Operand, Stage, Task};
+use crate::host::MOST_DEPTH;
 use crate::machine::Machine;
-use crate::runs::MOST_DEPTH;
 use c_meaning_spec::{Ending, Signal};
 use c_tree::{TypedExpr, TypedProgram, TypedSection, TypedStmt};
 use std::alloc::AllocError;

@@ -13,13 +13,11 @@ ghost use Rattle.c_meaning.specs.Direct.{Runs};
 use crate::compare::Compared;
 use crate::direct::{Ran, Stop};
 use crate::frame::{Frame, Loop};
+use crate::host::{PLAIN, STATEMENT, SWITCH};
 use crate::store::Store;
 use base::Boxed;
 use c_meaning_spec::{Ending, Object, Signal};
 use c_tree::{Place, TypedExpr, TypedProgram, TypedSection, TypedStmt};
-
-/// How deep expressions and statements are evaluated at once, those of the functions that are called among them.
-pub const MOST_DEPTH: u32 = 3072;
 
 // The statement in the box, if there is one.
 fn unboxed<'a>(st: &'a Option<Boxed<TypedStmt>>) -> Option<&'a TypedStmt>
@@ -134,6 +132,7 @@ impl<'a> Store<'a> {
         ensures { Runs program.now
             (meant.declare (meaning program.now) place (behind init.entry) (view self.old)) self.new result }
     {
+        let depth = depth.saturating_sub(PLAIN);
         match place {
             Place::Scalar(i) => {
                 if self.unset_scalar(i as u64) {
@@ -167,7 +166,7 @@ impl<'a> Store<'a> {
         ensures { Runs program.now
             (meaning program.now (Run st.now) (view self.old)) self.new result }
     {
-        if depth == 0 {
+        if depth < STATEMENT {
             self.leave_stmt(program, st);
             Ran::Stops
         } else if self.stock == 0 {
@@ -177,7 +176,7 @@ impl<'a> Store<'a> {
             }
         } else {
             self.stock -= 1;
-            self.begun(program, st, depth - 1)
+            self.begun(program, st, depth - STATEMENT)
         }
     }
 
@@ -252,6 +251,7 @@ impl<'a> Store<'a> {
         ensures { Runs program.now
             (meant.sequence (meaning program.now) all.now (view self.old)) self.new result }
     {
+        let depth = depth.saturating_sub(PLAIN);
         let mut rest = all;
         while let Some((st, more)) = rest.split_first() {
             match self.run(program, st, depth) {
@@ -282,6 +282,7 @@ impl<'a> Store<'a> {
             (then (meaning program.now (Of test.now) (view self.old))
             (meant.after_if (meaning program.now) first.now (behind other.entry))) self.new result }
     {
+        let depth = depth.saturating_sub(PLAIN);
         match self.value_of(program, test, depth) {
             Some(w) => {
                 if w == 0 {
@@ -311,6 +312,7 @@ impl<'a> Store<'a> {
             (then (meaning program.now (Of test.now) (view self.old))
             (meant.after_switch (meaning program.now) sections.now)) self.new result }
     {
+        let depth = depth.saturating_sub(SWITCH);
         match self.value_of(program, test, depth) {
             Some(w) => self.run_labels(program, sections, w, depth),
             None => self.kept(program, Frame::Switch(sections)),
@@ -353,6 +355,7 @@ impl<'a> Store<'a> {
             (meant.run_from (meaning program.now) (first.now ++ bodies behind.now) (view self.old))
             self.new result }
     {
+        let depth = depth.saturating_sub(SWITCH);
         let mut rest = first;
         let mut later = behind;
         'statements: loop {

@@ -13,6 +13,7 @@ ghost use Rattle.c_meaning.specs.View.{view};
 ghost use Rattle.c_meaning.specs.Direct.{Values};
 
 use crate::direct::Stop;
+use crate::host::OPERATION;
 use crate::store::{Store, scalar_of};
 use crate::words::compound_of;
 use c_meaning_spec::{Ending, Object};
@@ -165,6 +166,7 @@ impl<'a> Store<'a> {
             (with_some (element_in_place place w (view self.old)) (view self.old)
             (assign_to (meaning program.now) (Some op) to at right.now (view self.old))) self.new result }
     {
+        let depth = depth.saturating_sub(OPERATION);
         let object = self.element_of(place, w);
         self.put_value(program, Some(op), to, at, right, object, depth)
     }
@@ -207,6 +209,7 @@ impl<'a> Store<'a> {
             (with_some (scalar_in place) (view self.old)
             (assign_to (meaning program.now) op to at right.now (view self.old))) self.new result }
     {
+        let depth = depth.saturating_sub(OPERATION);
         self.put_value(program, op, to, at, right, scalar_of(place), depth)
     }
 
@@ -292,6 +295,7 @@ impl<'a> Store<'a> {
             (with_some object (view self.old)
             (assign_to (meaning program.now) op to at right.now (view self.old))) self.new result }
     {
+        let depth = depth.saturating_sub(OPERATION);
         match object {
             None => {
                 self.stop = Stop::Fails(Ending::Undefined);

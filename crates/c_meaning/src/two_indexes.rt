@@ -10,6 +10,7 @@ ghost use Rattle.c_meaning.specs.View.{view};
 ghost use Rattle.c_meaning.specs.Direct.{Values};
 
 use crate::direct::Stop;
+use crate::host::OPERATION;
 use crate::store::Store;
 use c_meaning_spec::Ending;
 use c_tree::{BinaryOp, Kind, Place, TypedExpr, TypedProgram};
@@ -35,6 +36,7 @@ impl<'a> Store<'a> {
             (meant_expression.assign_after_row (meaning program.now) op to at place index.now right.now))
             self.new result }
     {
+        let depth = depth.saturating_sub(OPERATION);
         match self.value_of(program, row, depth) {
             Some(i) => self.assign_after_row(program, op, to, at, place, i, index, right, depth),
             None => self.held_store_in_row(program, op, to, at, place, index, right),
@@ -120,6 +122,7 @@ impl<'a> Store<'a> {
             (with_some (row_element_in_place place row j (view self.old)) (view self.old)
             (assign_to (meaning program.now) (Some op) to at right.now (view self.old))) self.new result }
     {
+        let depth = depth.saturating_sub(OPERATION);
         let object = self.row_element_of(place, row, j);
         self.put_value(program, Some(op), to, at, right, object, depth)
     }

@@ -12,6 +12,7 @@ ghost use Rattle.c_meaning.specs.Direct.{Values};
 
 use crate::direct::Stop;
 use crate::frame::Frame;
+use crate::host::{EXPRESSION, OPERATION};
 use crate::store::Store;
 use crate::words::unary_of;
 use c_constant::convert;
@@ -124,10 +125,10 @@ impl<'a> Store<'a> {
         ensures { Values program.now
             (meaning program.now (Of e.now) (view self.old)) self.new result }
     {
-        if depth == 0 {
+        if depth < EXPRESSION {
             self.leave_expr(program, e)
         } else {
-            self.whole_value(program, e, depth - 1)
+            self.whole_value(program, e, depth - EXPRESSION)
         }
     }
 
@@ -266,6 +267,7 @@ impl<'a> Store<'a> {
             (then (meaning program.now (Of row.now) (view self.old))
             (after_row (meaning program.now) array index.now)) self.new result }
     {
+        let depth = depth.saturating_sub(OPERATION);
         match self.value_of(program, row, depth) {
             Some(i) => self.second_index(program, array, i, index, depth),
             None => self.held_row(program, array, index),
@@ -308,6 +310,7 @@ impl<'a> Store<'a> {
         ensures { Values program.now
             (then (meaning program.now (Of e.now) (view self.old)) (unary op e.now.kind)) self.new result }
     {
+        let depth = depth.saturating_sub(OPERATION);
         match self.value_of(program, e, depth) {
             Some(w) => self.value(program, unary_of(op, e.kind, w)),
             None => self.held(program, Frame::Unary { op, kind: e.kind }),
