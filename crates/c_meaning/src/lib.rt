@@ -15,6 +15,7 @@ mod few;
 mod frame;
 mod held;
 mod host;
+mod ints;
 mod kept;
 mod loops;
 mod machine;

@@ -1,6 +1,7 @@
 ghost use Rattle.std.specs.Prelude.{◌≡◌};
 ghost use Rattle.c_meaning_spec.specs.Word as words;
 
+use crate::ints::int_operation;
 use c_constant::{convert, operation, promoted, unary};
 use c_tree::{BinaryOp, BumpOp, Kind, UnaryOp};
 
@@ -11,6 +12,7 @@ pub fn binary_of(op: BinaryOp, kind: Option<Kind>, a: u64, b: u64) -> Option<u64
 {
     match kind {
         None => None,
+        Some(Kind::Int) => int_operation(op, a, b),
         Some(kind) => operation(op, kind, a, b),
     }
 }
