@@ -3,11 +3,10 @@ use Rattle.std.proofs.Common.{◌≡◌, ℕ, zero, suc, ◌+◌, ◌-◌, ◌<�
 use Rattle.std.proofs.Common.{map, Option, Some, None, length, take, set, get_or, refl, ap, sym, ◌∙◌, arith, rules}
 use Rattle.std.specs.Prelude.{slice_get, IsSome, IsTrue}
 use Rattle.std.proofs.lemmas.Grind.{common_steps}
-use Rattle.c_tree.specs.declared.TypedProgram.{TypedProgram}
-use Rattle.c_meaning_spec.specs.State.{State, Result, Over, held}
+use Rattle.c_meaning_spec.specs.State.{State, Over, held}
 use Rattle.c_meaning_spec.specs.declared.Ending.TheVariants.{Undefined}
 use Rattle.c_meaning_spec.specs.Call.{get_char, put_char, read_from}
-use Rattle.c_meaning.specs.Given.{alone, values, word_of, words}
+use Rattle.c_meaning.specs.Given.{alone, values, words}
 
 -- places are as many as their words
 pub length-values : (bs : List Bool) (ws : List ℕ) → length bs ≡ length ws → length (values bs ws) ≡ length ws
