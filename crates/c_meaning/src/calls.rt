@@ -41,7 +41,7 @@ impl<'a> Store<'a> {
         self.call_value(program, callee, args, &mut list, depth)
     }
 
-    // The list that a call took is kept for later calls.
+    // Keeps the list of a call whose scalars had no place.
     #[inline(never)]
     fn keep_list(
         &mut self,
@@ -61,7 +61,7 @@ impl<'a> Store<'a> {
         }
     }
 
-    // A list that a call took is kept for later calls.
+    // Keeps the list that a call took, if any, for later calls.
     #[inline(always)]
     fn keep(
         &mut self,

@@ -1,7 +1,8 @@
-//! How many bytes of the host's stack an evaluation takes: each function of the recursion takes its frame off the depth that is
-//! left, by the larger of its sizes in the builds that docs/SPEED.md names ("The host's stack").
+//! How many bytes of the host's stack an evaluation takes: each function of the recursion takes its frame off the
+//! depth that is left, by the larger of its sizes in the builds that docs/SPEED.md names ("The host's stack").
 
 /// How deep expressions and statements are evaluated at once, those of the functions that are called among them.
+/// No proof goes by these numbers but that each is at least 1.
 pub const MOST_DEPTH: u32 = 6_200_000;
 
 /// An expression that is no leaf.

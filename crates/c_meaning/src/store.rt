@@ -17,7 +17,7 @@ use std::alloc::{AllocError, Global};
 
 /// What an evaluation goes over, and the frames of what is to follow where a part was not evaluated to its end.
 ///
-/// The lists that a call needs are used again by later calls.
+/// The lists of scalars that have no place are used again by later calls.
 #[derive(Drop)]
 pub struct Store<'a> {
     pub alloc: Global,
